@@ -5,8 +5,28 @@ use Rattle.m88_isa.specs.declared.instr.BitOp.{BitOp}
 use Rattle.m88_isa.specs.declared.instr.BitOp.TheVariants.{Rot}
 use Rattle.m88_isa.specs.declared.instr.Instr.{Instr}
 use Rattle.m88_isa.specs.declared.instr.Instr.TheVariants.{
-    Imm, Regs, MemImm, MemReg, Lda, BitLit, BitReg, Find, Branch, BranchBit, BranchCond, Jump, TrapBit, TrapCond,
-    BoundImm, BoundReg, Rte, Ldcr, Stcr, Xcr, Sfu}
+  Imm,
+  Regs,
+  MemImm,
+  MemReg,
+  Lda,
+  BitLit,
+  BitReg,
+  Find,
+  Branch,
+  BranchBit,
+  BranchCond,
+  Jump,
+  TrapBit,
+  TrapCond,
+  BoundImm,
+  BoundReg,
+  Rte,
+  Ldcr,
+  Stcr,
+  Xcr,
+  Sfu,
+}
 
 -- a literal width has five bits, and that of a rotation is 0
 abbrev pub IsWidth : BitOp → ℕ → Type 0
