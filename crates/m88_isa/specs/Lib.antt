@@ -1,2 +1,11 @@
+pub mod Compute
+pub mod Effect
+pub mod Fields
+pub mod Flow
 pub mod Instr
+pub mod Lanes
+pub mod Memory
+pub mod Operands
+pub mod Vector
 pub mod Word
+pub mod Mnemonic
