@@ -61,15 +61,15 @@ product s t = s * t % 2 ^ 32
 abbrev pub comparison : ℕ → ℕ → ℕ
 comparison s t =
     weight_if (s == t) (2 ^ 2)
-      + weight_if (not (s == t)) (2 ^ 3)
-      + weight_if (int_lt (signed t) (signed s)) (2 ^ 4)
-      + weight_if (int_le (signed s) (signed t)) (2 ^ 5)
-      + weight_if (int_lt (signed s) (signed t)) (2 ^ 6)
-      + weight_if (int_le (signed t) (signed s)) (2 ^ 7)
-      + weight_if (nat_lt t s) (2 ^ 8)
-      + weight_if (nat_le s t) (2 ^ 9)
-      + weight_if (nat_lt s t) (2 ^ 10)
-      + weight_if (nat_le t s) (2 ^ 11)
+    + weight_if (not (s == t)) (2 ^ 3)
+    + weight_if (int_lt (signed t) (signed s)) (2 ^ 4)
+    + weight_if (int_le (signed s) (signed t)) (2 ^ 5)
+    + weight_if (int_lt (signed s) (signed t)) (2 ^ 6)
+    + weight_if (int_le (signed t) (signed s)) (2 ^ 7)
+    + weight_if (nat_lt t s) (2 ^ 8)
+    + weight_if (nat_le s t) (2 ^ 9)
+    + weight_if (nat_lt s t) (2 ^ 10)
+    + weight_if (nat_le t s) (2 ^ 11)
 
 -- the immediate mnemonics, of the carry, the word s of S1 and the immediate t: `and` keeps the half of s that it
 -- doesn't act on and `mask` clears it, `or` and `xor` keep it

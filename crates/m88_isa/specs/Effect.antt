@@ -1,7 +1,7 @@
 -- What every instruction does, a line for each form ("Instruction Set"; "Exception Processing" for the vectors). That a
 -- change of flow in a taken delay slot is unimplemented, that the units' words and the float forms of the control
 -- instructions raise the units' vectors, and that a trap which isn't taken raises nothing, is this project's profile.
-use Rattle.std.specs.Prelude.{ℕ, ℤ, Bool, true, false, not, List, [], ◌∷◌, Option, Some, None, ◌≡◌, ◌+◌, ◌*◌, ◌%◌, ◌^◌, ◌==◌, ◌&&◌, ◌||◌, nat_lt, slice_index, if◌then◌else◌}
+use Rattle.std.specs.Prelude.{ℕ, Bool, false, not, List, [], Option, Some, None, ◌≡◌, ◌%◌, ◌==◌, ◌&&◌, nat_lt, slice_index, if◌then◌else◌}
 use Rattle.std.specs.Int.{bit_at}
 use Rattle.m88_base.specs.declared.reg.Reg.{Reg}
 use Rattle.m88_base.specs.Reg.{number_of}

@@ -1,7 +1,7 @@
 -- What the bit-field, find and load-address instructions compute ("Instruction Set": bit-field instructions, load
 -- address). A field has a width of 1 to 32 bits and an offset of 0 to 31, the number of its lowest bit; bits above
 -- bit 31 don't exist.
-use Rattle.std.specs.Prelude.{ℕ, Bool, true, false, ◌+◌, ◌-◌, ◌*◌, ◌/◌, ◌%◌, ◌^◌, ◌==◌, nat_le, bit_and, bit_or, if◌then◌else◌}
+use Rattle.std.specs.Prelude.{ℕ, Bool, ◌+◌, ◌-◌, ◌*◌, ◌/◌, ◌%◌, ◌^◌, ◌==◌, nat_le, bit_and, bit_or, if◌then◌else◌}
 use Rattle.std.specs.Int.{cast_unsigned, int_shr, leading_zeros, rotate_right, w32}
 use Rattle.m88_isa.specs.Compute.{complement, signed}
 use Rattle.m88_isa.specs.declared.instr.BitOp.{BitOp}

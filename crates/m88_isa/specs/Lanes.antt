@@ -51,9 +51,9 @@ stored_byte en value word offset =
 abbrev pub merged : ℕ → ℕ → ℕ → ℕ
 merged en value word =
     stored_byte en value word 0 * 2 ^ 24
-      + stored_byte en value word 1 * 2 ^ 16
-      + stored_byte en value word 2 * 2 ^ 8
-      + stored_byte en value word 3
+    + stored_byte en value word 1 * 2 ^ 16
+    + stored_byte en value word 2 * 2 ^ 8
+    + stored_byte en value word 3
 
 -- memory as bytes: every address has a number below 2^8
 abbrev pub AreBytes : (ℕ → ℕ) → Type 0
@@ -97,4 +97,4 @@ StoresBytes en value word after =
     → enable_of place size ≡ en
     → number_at memory (word_address place) 4 ≡ word
     → (after ≡ number_at (stored_at memory place size value) (word_address place) 4)
-      × ((a : ℕ) → word_address a ≢ word_address place → stored_at memory place size value a ≡ memory a)
+    × ((a : ℕ) → word_address a ≢ word_address place → stored_at memory place size value a ≡ memory a)

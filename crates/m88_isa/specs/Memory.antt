@@ -1,6 +1,6 @@
 -- The accesses of the load, store and exchange instructions ("Instruction Set": load, store and exchange instructions;
 -- "Data Unit": transaction registers).
-use Rattle.std.specs.Prelude.{ℕ, Bool, true, false, List, [], ◌∷◌, ◌+◌, ◌*◌, ◌/◌, ◌%◌, ◌^◌, if◌then◌else◌}
+use Rattle.std.specs.Prelude.{ℕ, Bool, true, false, List, [], ◌∷◌, ◌+◌, ◌%◌, ◌^◌}
 use Rattle.m88_base.specs.declared.reg.Reg.{Reg}
 use Rattle.m88_isa.specs.Lanes.{enable_of, word_address}
 use Rattle.m88_isa.specs.Operands.{no_register, register_after}

@@ -4,31 +4,9 @@ use Rattle.std.specs.Prelude.{ℕ, Bool, true, false, ◌+◌, ◌^◌, ◌==◌
 use Rattle.m88_base.specs.declared.reg.Reg.{Reg}
 use Rattle.m88_base.specs.Reg.{number_of, reg_of}
 use Rattle.m88_isa.specs.declared.instr.MemOp.{MemOp}
-use Rattle.m88_isa.specs.declared.instr.MemOp.TheVariants.{XmemBu, Xmem, LdHu, LdBu, LdD, Ld, LdH, LdB, StD, St, StH, StB}
+use Rattle.m88_isa.specs.declared.instr.MemOp.TheVariants.{XmemBu, Xmem, LdD, StD, St, StH, StB}
 use Rattle.m88_isa.specs.declared.instr.Instr.{Instr}
-use Rattle.m88_isa.specs.declared.instr.Instr.TheVariants.{
-  Imm,
-  Regs,
-  MemImm,
-  MemReg,
-  Lda,
-  BitLit,
-  BitReg,
-  Find,
-  Branch,
-  BranchBit,
-  BranchCond,
-  Jump,
-  TrapBit,
-  TrapCond,
-  BoundImm,
-  BoundReg,
-  Rte,
-  Ldcr,
-  Stcr,
-  Xcr,
-  Sfu,
-}
+use Rattle.m88_isa.specs.declared.instr.Instr.TheVariants.{Imm, Regs, MemImm, MemReg, Lda, BitLit, BitReg, Find, Branch, BranchBit, BranchCond, Jump, TrapBit, TrapCond, BoundImm, BoundReg, Rte, Ldcr, Stcr, Xcr}
 
 -- r0, which no instruction counts as read or written
 abbrev pub no_register : Reg

@@ -2,7 +2,16 @@
 
 ghost use Rattle.std.specs.Prelude.{◌≡◌, ◌≤◌};
 ghost use Rattle.m88_isa.specs.Compute.{
-    comparison, exact_signed_sum, fits_signed, immediate, registers, signed_quotient, signed_sum, unsigned_quotient, unsigned_sum, weight_if
+  comparison,
+  exact_signed_sum,
+  fits_signed,
+  immediate,
+  registers,
+  signed_quotient,
+  signed_sum,
+  unsigned_quotient,
+  unsigned_sum,
+  weight_if,
 };
 
 use crate::effect::Computed;
@@ -15,22 +24,52 @@ pub(crate) fn immediate(op: ImmOp, carry: bool, s: u32, imm: u16) -> Computed
 {
     let t = imm as u32;
     match op {
-        ImmOp::And => Computed::Gives { value: s & (0xFFFF_0000 + t), carry },
-        ImmOp::AndU => Computed::Gives { value: s & ((t << 16) + 0xFFFF), carry },
-        ImmOp::Mask => Computed::Gives { value: s & t, carry },
-        ImmOp::MaskU => Computed::Gives { value: s & (t << 16), carry },
-        ImmOp::Xor => Computed::Gives { value: s ^ t, carry },
-        ImmOp::XorU => Computed::Gives { value: s ^ (t << 16), carry },
-        ImmOp::Or => Computed::Gives { value: s | t, carry },
-        ImmOp::OrU => Computed::Gives { value: s | (t << 16), carry },
+        ImmOp::And => Computed::Gives {
+            value: s & (0xFFFF_0000 + t),
+            carry,
+        },
+        ImmOp::AndU => Computed::Gives {
+            value: s & ((t << 16) + 0xFFFF),
+            carry,
+        },
+        ImmOp::Mask => Computed::Gives {
+            value: s & t,
+            carry,
+        },
+        ImmOp::MaskU => Computed::Gives {
+            value: s & (t << 16),
+            carry,
+        },
+        ImmOp::Xor => Computed::Gives {
+            value: s ^ t,
+            carry,
+        },
+        ImmOp::XorU => Computed::Gives {
+            value: s ^ (t << 16),
+            carry,
+        },
+        ImmOp::Or => Computed::Gives {
+            value: s | t,
+            carry,
+        },
+        ImmOp::OrU => Computed::Gives {
+            value: s | (t << 16),
+            carry,
+        },
         ImmOp::Addu => unsigned_sum(false, false, carry, s, t),
         ImmOp::Subu => unsigned_sum(false, true, carry, s, !t),
         ImmOp::Divu => unsigned_quotient(carry, s, t),
-        ImmOp::Mul => Computed::Gives { value: s.wrapping_mul(t), carry },
+        ImmOp::Mul => Computed::Gives {
+            value: s.wrapping_mul(t),
+            carry,
+        },
         ImmOp::Add => signed_sum(false, false, carry, s, t),
         ImmOp::Sub => signed_sum(false, true, carry, s, !t),
         ImmOp::Div => signed_quotient(carry, s, t),
-        ImmOp::Cmp => Computed::Gives { value: comparison(s, t), carry },
+        ImmOp::Cmp => Computed::Gives {
+            value: comparison(s, t),
+            carry,
+        },
     }
 }
 
@@ -39,20 +78,44 @@ pub(crate) fn registers(op: RegOp, carry: bool, s: u32, t: u32) -> Computed
     ensures { result ≡ registers op carry s t }
 {
     match op {
-        RegOp::And => Computed::Gives { value: s & t, carry },
-        RegOp::AndC => Computed::Gives { value: s & !t, carry },
-        RegOp::Xor => Computed::Gives { value: s ^ t, carry },
-        RegOp::XorC => Computed::Gives { value: s ^ !t, carry },
-        RegOp::Or => Computed::Gives { value: s | t, carry },
-        RegOp::OrC => Computed::Gives { value: s | !t, carry },
+        RegOp::And => Computed::Gives {
+            value: s & t,
+            carry,
+        },
+        RegOp::AndC => Computed::Gives {
+            value: s & !t,
+            carry,
+        },
+        RegOp::Xor => Computed::Gives {
+            value: s ^ t,
+            carry,
+        },
+        RegOp::XorC => Computed::Gives {
+            value: s ^ !t,
+            carry,
+        },
+        RegOp::Or => Computed::Gives {
+            value: s | t,
+            carry,
+        },
+        RegOp::OrC => Computed::Gives {
+            value: s | !t,
+            carry,
+        },
         RegOp::Addu => unsigned_sum(false, false, carry, s, t),
         RegOp::Subu => unsigned_sum(false, true, carry, s, !t),
         RegOp::Divu => unsigned_quotient(carry, s, t),
-        RegOp::Mul => Computed::Gives { value: s.wrapping_mul(t), carry },
+        RegOp::Mul => Computed::Gives {
+            value: s.wrapping_mul(t),
+            carry,
+        },
         RegOp::Add => signed_sum(false, false, carry, s, t),
         RegOp::Sub => signed_sum(false, true, carry, s, !t),
         RegOp::Div => signed_quotient(carry, s, t),
-        RegOp::Cmp => Computed::Gives { value: comparison(s, t), carry },
+        RegOp::Cmp => Computed::Gives {
+            value: comparison(s, t),
+            carry,
+        },
         RegOp::AdduCo => unsigned_sum(true, false, carry, s, t),
         RegOp::AdduCi => unsigned_sum(false, carry, carry, s, t),
         RegOp::AdduCio => unsigned_sum(true, carry, carry, s, t),
@@ -74,7 +137,10 @@ fn unsigned_sum(carry_out: bool, carry_in: bool, carry: bool, s: u32, t: u32) ->
 {
     let sum = s as u64 + t as u64 + weight_if(carry_in, 1) as u64;
     let carry = if carry_out { sum >= 1 << 32 } else { carry };
-    Computed::Gives { value: (sum % (1 << 32)) as u32, carry }
+    Computed::Gives {
+        value: (sum % (1 << 32)) as u32,
+        carry,
+    }
 }
 
 /// The same sum, where the exact signed one fits a word.
@@ -109,7 +175,10 @@ fn unsigned_quotient(carry: bool, s: u32, t: u32) -> Computed
     if t == 0 {
         Computed::Raises(BAD_DIVISION)
     } else {
-        Computed::Gives { value: s / t, carry }
+        Computed::Gives {
+            value: s / t,
+            carry,
+        }
     }
 }
 
@@ -120,7 +189,10 @@ fn signed_quotient(carry: bool, s: u32, t: u32) -> Computed
     if t == 0 || s >= 1 << 31 || t >= 1 << 31 {
         Computed::Raises(BAD_DIVISION)
     } else {
-        Computed::Gives { value: s / t, carry }
+        Computed::Gives {
+            value: s / t,
+            carry,
+        }
     }
 }
 
@@ -130,8 +202,14 @@ fn comparison(s: u32, t: u32) -> u32
 {
     let (a, b) = (s.cast_signed(), t.cast_signed());
     let equality = weight_if(s == t, 1 << 2) + weight_if(s != t, 1 << 3);
-    let signed = weight_if(a > b, 1 << 4) + weight_if(a <= b, 1 << 5) + weight_if(a < b, 1 << 6) + weight_if(a >= b, 1 << 7);
-    let unsigned = weight_if(s > t, 1 << 8) + weight_if(s <= t, 1 << 9) + weight_if(s < t, 1 << 10) + weight_if(s >= t, 1 << 11);
+    let signed = weight_if(a > b, 1 << 4)
+        + weight_if(a <= b, 1 << 5)
+        + weight_if(a < b, 1 << 6)
+        + weight_if(a >= b, 1 << 7);
+    let unsigned = weight_if(s > t, 1 << 8)
+        + weight_if(s <= t, 1 << 9)
+        + weight_if(s < t, 1 << 10)
+        + weight_if(s >= t, 1 << 11);
     equality + signed + unsigned
 }
 

@@ -2,7 +2,19 @@
 
 ghost use Rattle.std.specs.Prelude.{◌≡◌, ◌≤◌, ◌<◌, ◌%◌, ◌^◌, ◌*◌};
 ghost use Rattle.m88_isa.specs.Fields.{
-    address, bit_field, extract, extract_signed, find_bit, highest_one, make, offset_in, ones, scale_of, sign_extend, width_in, width_of
+  address,
+  bit_field,
+  extract,
+  extract_signed,
+  find_bit,
+  highest_one,
+  make,
+  offset_in,
+  ones,
+  scale_of,
+  sign_extend,
+  width_in,
+  width_of,
 };
 
 use crate::instr::{BitOp, LdaSize};
@@ -117,7 +129,11 @@ fn sign_extend(field: u32, width: u32) -> u32
 pub(crate) fn find_bit(ones: bool, n: u32) -> u32
     ensures { result ≡ find_bit ones n }
 {
-    if ones { highest_one(n) } else { highest_one(!n) }
+    if ones {
+        highest_one(n)
+    } else {
+        highest_one(!n)
+    }
 }
 
 /// The number of the highest bit that is set, or 32.

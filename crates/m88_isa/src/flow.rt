@@ -15,7 +15,13 @@ use crate::vector::{FIRST_USER_VECTOR, OUT_OF_BOUNDS, PRIVILEGE};
 pub(crate) fn goes_on(x: Inputs) -> Effect
     ensures { result ≡ recorded_change (goes_on x) }
 {
-    Effect { reg: None, carry: x.carry, accesses: no_accesses(), after: (x.next, x.next.wrapping_add(4)), bubble: false }
+    Effect {
+        reg: None,
+        carry: x.carry,
+        accesses: no_accesses(),
+        after: (x.next, x.next.wrapping_add(4)),
+        bubble: false,
+    }
 }
 
 /// What a taken branch or a jump to a byte address does.
@@ -23,16 +29,33 @@ pub(crate) fn flows(link: bool, delayed: bool, target: u32, x: Inputs) -> Plan
     ensures { result ≡ plan_for (flows link delayed target x) }
 {
     let behind = if delayed { 8 } else { 4 };
-    let reg = if link { Some((link_register(), x.pc.wrapping_add(behind))) } else { None };
-    let after = if delayed { (x.pc.wrapping_add(4), target) } else { (target, target.wrapping_add(4)) };
-    Plan::Go(Effect { reg, after, bubble: !delayed, ..goes_on(x) })
+    let reg = if link {
+        Some((link_register(), x.pc.wrapping_add(behind)))
+    } else {
+        None
+    };
+    let after = if delayed {
+        (x.pc.wrapping_add(4), target)
+    } else {
+        (target, target.wrapping_add(4))
+    };
+    Plan::Go(Effect {
+        reg,
+        after,
+        bubble: !delayed,
+        ..goes_on(x)
+    })
 }
 
 /// What a branch on a condition does.
 pub(crate) fn branches(taken: bool, delayed: bool, target: u32, x: Inputs) -> Plan
     ensures { result ≡ plan_for (branches taken delayed target x) }
 {
-    if taken { flows(false, delayed, target, x) } else { Plan::Go(goes_on(x)) }
+    if taken {
+        flows(false, delayed, target, x)
+    } else {
+        Plan::Go(goes_on(x))
+    }
 }
 
 /// What a trap on a condition does.
@@ -52,7 +75,11 @@ pub(crate) fn traps_if(taken: bool, vector: u16, x: Inputs) -> Plan
 pub(crate) fn checks(s: u32, t: u32, x: Inputs) -> Plan
     ensures { result ≡ plan_for (checks s t x) }
 {
-    if s > t { Plan::Raise(OUT_OF_BOUNDS) } else { Plan::Go(goes_on(x)) }
+    if s > t {
+        Plan::Raise(OUT_OF_BOUNDS)
+    } else {
+        Plan::Go(goes_on(x))
+    }
 }
 
 /// What a control instruction does.
@@ -67,7 +94,11 @@ pub(crate) fn unit_vector(unit: u8) -> u16
     requires { (1 ≤ unit) × (unit < 8) }
     ensures { result ≡ unit_vector unit }
 {
-    if unit == 1 { 114 } else { 116 + 2 * (unit as u16 - 2) }
+    if unit == 1 {
+        114
+    } else {
+        116 + 2 * (unit as u16 - 2)
+    }
 }
 
 /// The byte address a signed count of words away.

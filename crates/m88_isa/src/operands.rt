@@ -5,13 +5,30 @@ ghost use Rattle.std.specs.Prelude.{◌≡◌, ◌<◌};
 ghost use Rattle.m88_base.specs.Reg.{number_of};
 ghost use Rattle.m88_isa.specs.Instr.{IsValid};
 ghost use Rattle.m88_isa.specs.Operands.{
-    access_count_of, accesses_of, after_d_of, bit_of, d_of, is_flow, link_register, no_register, pair_of, reads_d, register_after,
-    register_if, s1_of, s2_of, second_written_by, uses_of, waits_for_empty, writes_d, writes_of, written_by
+  access_count_of,
+  accesses_of,
+  after_d_of,
+  bit_of,
+  d_of,
+  is_flow,
+  link_register,
+  no_register,
+  pair_of,
+  reads_d,
+  register_after,
+  register_if,
+  s1_of,
+  s2_of,
+  second_written_by,
+  uses_of,
+  waits_for_empty,
+  writes_d,
+  writes_of,
+  written_by,
 };
 
-use m88_base::Reg;
-
 use crate::instr::{Instr, MemOp};
+use m88_base::Reg;
 
 /// The registers that an instruction uses, bit n for register n; bit 0 is never set.
 #[tactic(auto, unfolding(crate::specs::Operands::uses_of))]
@@ -49,7 +66,10 @@ pub fn is_flow(instr: &Instr) -> bool
     ensures { result ≡ is_flow instr.now }
 {
     match *instr {
-        Instr::Branch { .. } | Instr::BranchBit { .. } | Instr::BranchCond { .. } | Instr::Jump { .. } => true,
+        Instr::Branch { .. }
+        | Instr::BranchBit { .. }
+        | Instr::BranchCond { .. }
+        | Instr::Jump { .. } => true,
         Instr::TrapBit { .. } | Instr::TrapCond { .. } | Instr::Rte => true,
         _ => false,
     }
@@ -106,7 +126,10 @@ pub(crate) fn after_d_of(instr: &Instr) -> Reg
     ensures { result ≡ after_d_of instr.now }
 {
     match *instr {
-        Instr::MemImm { op, d, .. } | Instr::MemReg { op, d, .. } => register_if(op == MemOp::StD, register_after(d)),
+        Instr::MemImm { op, d, .. } | Instr::MemReg { op, d, .. } => register_if(
+            op == MemOp::StD,
+            register_after(d),
+        ),
         _ => Reg::ZERO,
     }
 }
@@ -130,7 +153,10 @@ fn second_written_by(instr: &Instr) -> Reg
     ensures { result ≡ second_written_by instr.now }
 {
     match *instr {
-        Instr::MemImm { op, d, .. } | Instr::MemReg { op, d, .. } => register_if(op == MemOp::LdD, register_after(d)),
+        Instr::MemImm { op, d, .. } | Instr::MemReg { op, d, .. } => register_if(
+            op == MemOp::LdD,
+            register_after(d),
+        ),
         _ => Reg::ZERO,
     }
 }
@@ -139,7 +165,10 @@ fn second_written_by(instr: &Instr) -> Reg
 fn reads_d(op: MemOp) -> bool
     ensures { result ≡ reads_d op }
 {
-    matches!(op, MemOp::XmemBu | MemOp::Xmem | MemOp::StD | MemOp::St | MemOp::StH | MemOp::StB)
+    matches!(
+        op,
+        MemOp::XmemBu | MemOp::Xmem | MemOp::StD | MemOp::St | MemOp::StH | MemOp::StB
+    )
 }
 
 /// Whether a memory mnemonic writes D: a load or an exchange.
