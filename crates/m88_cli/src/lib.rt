@@ -3,6 +3,8 @@
 #![tactic(auto)]
 
 mod digits;
+mod letter;
+mod machine;
 mod numbers;
 mod outcome;
 mod report;

@@ -1,6 +1,6 @@
 -- The sequential machine: a program's instructions one after the other, each finished before the next begins, with all
 -- of memory there ("Register Model"; "Exception Processing" for how a program ends). It knows no pipeline and no page.
-use Rattle.std.specs.Prelude.{ℕ, zero, suc, Bool, false, List, [], ◌∷◌, ◌++◌, Option, Some, None, ◌+◌, ◌%◌, ◌^◌, ◌==◌, ◌&&◌, is_some, unwrap_or, replicate, slice_index, slice_set, if◌then◌else◌}
+use Rattle.std.specs.Prelude.{ℕ, zero, suc, Bool, false, List, [], ◌∷◌, ◌++◌, Option, Some, None, ◌+◌, ◌%◌, ◌^◌, ◌==◌, ◌&&◌, unwrap_or, replicate, slice_index, slice_set, if◌then◌else◌}
 use Rattle.m88_base.specs.declared.reg.Reg.{Reg}
 use Rattle.m88_base.specs.Reg.{number_of}
 use Rattle.m88_isa.specs.Effect.{Change, Meaning, goes, meaning_of, raises, traps}
@@ -37,9 +37,13 @@ opening p = record {
   out = [];
 }
 
--- all four bytes of the word at an address are the program's
-abbrev pub is_there : Program → ℕ → Bool
-is_there p a = is_some (p.byte a) && is_some (p.byte (a + 1)) && is_some (p.byte (a + 2)) && is_some (p.byte (a + 3))
+-- the four bytes of the word at an address, where all of them are there
+abbrev pub word_bytes : Option ℕ → Option ℕ → Option ℕ → Option ℕ → Option (List ℕ)
+word_bytes (Some b0) (Some b1) (Some b2) (Some b3) = Some (b0 ∷ b1 ∷ b2 ∷ b3 ∷ [])
+word_bytes _ _ _ _ = None
+
+abbrev pub four_bytes : (ℕ → Option ℕ) → ℕ → Option (List ℕ)
+four_bytes byte a = word_bytes (byte a) (byte (a + 1)) (byte (a + 2)) (byte (a + 3))
 
 -- the registers after one is written; r0 stays 0
 abbrev pub with_register : Reg → ℕ → List ℕ → List ℕ
@@ -100,8 +104,12 @@ executed None s = ends (faults unimplemented s.pc)
 executed (Some i) s = carried_out (meaning_of i s.regs s.carry s.pc s.next) s
 
 -- the step from a state: the word is fetched, and then its instruction is carried out
+abbrev pub fetched : Option (List ℕ) → Option Instr → State → Step
+fetched None i s = ends (faults instruction_access s.pc)
+fetched (Some word) i s = executed i s
+
 abbrev pub step : Program → State → Step
-step p s = if is_there p s.pc then executed (p.instruction s.pc) s else ends (faults instruction_access s.pc)
+step p s = fetched (four_bytes p.byte s.pc) (p.instruction s.pc) s
 
 -- the history: the state after some steps, which stays at the end
 abbrev pub state_after : Step → State → State

@@ -1,0 +1,104 @@
+-- The timeline of a run: its events, one for each letter, and the moments between them. The letter `r` answers what is
+-- pending in the data unit, and the letter `i` tries one issue. No instruction that a source may have reads or writes
+-- memory, so nothing is ever pending.
+use Rattle.std.specs.Prelude.{ℕ, zero, suc, Bool, true, false, ◌≡◌, ◌<◌, ◌+◌, ◌%◌, ◌==◌, ◌||◌, if◌then◌else◌}
+use Rattle.m88_isa.specs.Machine.{Program, State, Step, Stop, ends, exits, faults, on, state, step}
+use Rattle.m88_cli.specs.Report.{Summary}
+use Rattle.m88_cli.specs.declared.letter.Letter.{Letter}
+use Rattle.m88_cli.specs.declared.letter.Letter.TheVariants.{Issue, Answer}
+use Rattle.m88_cli.specs.declared.outcome.End.{End}
+use Rattle.m88_cli.specs.declared.outcome.End.TheVariants.{Limit, Exit, Vector}
+
+-- a moment: the instructions retired, the mark that the next fetched instruction is passed over, the mark that the
+-- program has ended, and the counts of events, of transactions answered with data and of data faults
+pub record Moment : Type 0 where
+  pub retired : ℕ
+  pub bubble : Bool
+  pub ended : Bool
+  pub events : ℕ
+  pub answers : ℕ
+  pub faults : ℕ
+
+abbrev pub opening_moment : Moment
+opening_moment = record { retired = 0; bubble = false; ended = false; events = 0; answers = 0; faults = 0 }
+
+-- the program has ended, or the limit is reached
+abbrev pub is_over : ℕ → Moment → Bool
+is_over limit m = m.ended || m.retired == limit
+
+-- what an event does: nothing; it passes a bubble; it ends the program; it retires an instruction, which may leave a
+-- bubble
+pub data Choice : Type 0 where
+  idles : Choice
+  passes : Choice
+  finishes : Choice
+  retires : Bool → Choice
+
+abbrev pub choice_of_step : Step → Choice
+choice_of_step (on bubble s) = retires bubble
+choice_of_step (ends stop) = finishes
+
+-- what the letter `i` does: the first that applies
+abbrev pub issue_choice : Program → ℕ → Moment → Choice
+issue_choice p limit m =
+    if is_over limit m then idles else (if m.bubble then passes else choice_of_step (step p (state p m.retired)))
+
+abbrev pub choice_at : Program → ℕ → Letter → Moment → Choice
+choice_at p limit Issue m = issue_choice p limit m
+choice_at p limit Answer m = idles
+
+abbrev pub made : Choice → Moment → Moment
+made idles m = m
+made passes m = record m { bubble = false }
+made finishes m = record m { ended = true }
+made (retires bubble) m = record m { retired = m.retired + 1; bubble = bubble }
+
+-- the moment after an event
+abbrev pub counted_event : Moment → Moment
+counted_event m = record m { events = m.events + 1 }
+
+abbrev pub after_event : Program → ℕ → Letter → Moment → Moment
+after_event p limit letter m = counted_event (made (choice_at p limit letter m) m)
+
+-- the letters of a run without a schedule: `r` and `i` in turn, beginning with `r`
+abbrev pub letter_at : ℕ → Letter
+letter_at n = if n % 2 == 0 then Answer else Issue
+
+-- the moment after as many events
+unfoldable pub moment : Program → ℕ → ℕ → Moment
+moment p limit zero = opening_moment
+moment p limit (suc n) = after_event p limit (letter_at n) (moment p limit n)
+
+-- the run has this many events: it is over then, and not before
+pub record IsRun (p : Program) (limit n : ℕ) : Type 0 where
+  pub over : is_over limit (moment p limit n) ≡ true
+  pub first : (k : ℕ) → k < n → is_over limit (moment p limit k) ≡ false
+
+-- how a history that ended did so
+abbrev pub end_of_stop : Stop → End
+end_of_stop (exits at) = Exit at
+end_of_stop (faults vector at) = Vector vector at
+
+abbrev pub end_of_step : Step → End
+end_of_step (on bubble s) = Limit
+end_of_step (ends stop) = end_of_stop stop
+
+-- what a run comes to that is over at a moment: the end of the history where the program ended, and else the limit; the
+-- registers, the carry and the output of the history after as many instructions; the counts of the moment
+abbrev pub summary_at : Program → Moment → Summary
+summary_at p m = record {
+  end = if m.ended then end_of_step (step p (state p m.retired)) else Limit;
+  retired = m.retired;
+  regs = (state p m.retired).regs;
+  carry = (state p m.retired).carry;
+  out = (state p m.retired).out;
+  events = m.events;
+  answers = m.answers;
+  faults = m.faults;
+}
+
+-- a summary is that of the run of a program with a limit
+pub record IsRunSummary (p : Program) (limit : ℕ) (s : Summary) : Type 0 where
+  pub events : ℕ
+  pub run : IsRun p limit events
+  pub summary : s ≡ summary_at p (moment p limit events)

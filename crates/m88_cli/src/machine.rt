@@ -1,0 +1,152 @@
+ghost use Rattle.std.specs.Prelude.{◌≡◌, ◌+◌, ◌<◌, ◌≤◌, ◌%◌, ◌^◌, ◌||◌, ◌==◌, ℕ, Ok, Some, None, IfOk, OnOk, is_some, option_map};
+ghost use Rattle.std.specs.Int.{to_be_bytes, w32};
+ghost use Rattle.m88_base.specs.Image.{byte_at};
+ghost use Rattle.m88_isa.specs.Effect.{meaning_of};
+ghost use Rattle.m88_isa.specs.Machine.{carried_out, four_bytes, trapped, with_register, with_written};
+ghost use Rattle.m88_cli.specs.Machine.{Makes, state_in};
+ghost use Rattle.m88_cli.specs.Program.{IsPlain};
+
+use m88_base::{Image, Reg};
+use m88_codec::{decode, word_at};
+use m88_isa::{Effect, Instr, Plan, plan};
+use std::alloc::{AllocError, Global};
+
+use crate::outcome::End;
+
+/// The vector of an instruction that can't be fetched.
+const INSTRUCTION_ACCESS: u16 = 2;
+
+/// The vector of a word that is no instruction.
+const UNIMPLEMENTED: u16 = 5;
+
+/// The trap that asks the monitor for a service.
+const MONITOR_TRAP: u16 = 496;
+
+/// The service that appends a byte to the output.
+const PUT_BYTE: u32 = 0x20;
+
+/// The service that ends the program.
+const EXIT: u32 = 0x63;
+
+/// What carries a program out: its registers and flow, its output, and what became of it so far.
+#[derive(Drop)]
+pub struct Machine {
+    regs: [u32; 32],
+    carry: bool,
+    pc: u32,
+    next: u32,
+    out: Vec<u8>,
+    retired: u32,
+    bubble: bool,
+    ended: Option<End>,
+}
+
+impl Machine {
+    /// A machine that has carried out nothing of a program that begins at an address.
+    pub fn new(alloc: Global, start: u32) -> Machine {
+        let pc = start / 4 * 4;
+        Machine {
+            regs: [0; 32],
+            carry: false,
+            pc,
+            next: pc.wrapping_add(4),
+            out: Vec::new(alloc),
+            retired: 0,
+            bubble: false,
+            ended: None,
+        }
+    }
+
+    /// Whether the program has ended or the limit is reached.
+    pub fn is_over(&self, limit: u32) -> bool
+        ensures { result ≡ (is_some self.now.ended || self.now.retired == limit) }
+    {
+        self.ended.is_some() || self.retired == limit
+    }
+
+    /// Carries an instruction out.
+    fn execute(&mut self, instr: &Instr) -> Result<(), AllocError>
+        requires plain { IsPlain instr.now }
+        requires room { self.old.retired < 1000000 }
+        ensures { OnOk result ((memory : ℕ → ℕ) → Makes (carried_out (meaning_of instr.now self.old.regs self.old.carry self.old.pc self.old.next) (state_in self.old memory)) memory self.old self.new) }
+    {
+        match plan(instr, &self.regs, self.carry, self.pc, self.next) {
+            Plan::Raise(vector) => {
+                self.stop(vector);
+                Ok(())
+            }
+            Plan::Trap(vector) => self.trap(vector),
+            Plan::Go(effect) => {
+                self.go(&effect);
+                Ok(())
+            }
+        }
+    }
+
+    /// Ends the program by a vector at the present instruction.
+    fn stop(&mut self, vector: u16)
+        ensures { self.new ≡ record self.old { ended = Some (Vector vector self.old.pc) } }
+    {
+        self.ended = Some(End::Vector {
+            vector,
+            at: self.pc,
+        });
+    }
+
+    /// Serves the monitor's trap, or ends the program by the trap's vector.
+    fn trap(&mut self, vector: u16) -> Result<(), AllocError>
+        requires room { self.old.retired < 1000000 }
+        ensures { OnOk result ((memory : ℕ → ℕ) → Makes (trapped vector (state_in self.old memory)) memory self.old self.new) }
+    {
+        if vector == MONITOR_TRAP && self.regs[9] == PUT_BYTE {
+            self.out.push((self.regs[2] % 256) as u8)?;
+            self.pc = self.next;
+            self.next = self.next.wrapping_add(4);
+            self.bubble = false;
+            self.retired += 1;
+        } else if vector == MONITOR_TRAP && self.regs[9] == EXIT {
+            self.ended = Some(End::Exit { at: self.pc });
+        } else {
+            self.stop(vector);
+        }
+        Ok(())
+    }
+
+    /// Makes the changes of an instruction without accesses.
+    fn go(&mut self, effect: &Effect)
+        requires room { self.old.retired < 1000000 }
+        ensures { self.new ≡ record self.old { regs = with_written effect.now.reg self.old.regs; carry = effect.now.carry; pc = effect.now.after.0; next = effect.now.after.1; bubble = effect.now.bubble; retired = self.old.retired + 1 } }
+    {
+        if let Some((r, value)) = effect.reg {
+            self.write(r, value);
+        }
+        self.carry = effect.carry;
+        self.pc = effect.after.0;
+        self.next = effect.after.1;
+        self.bubble = effect.bubble;
+        self.retired += 1;
+    }
+
+    /// Writes a register; r0 stays 0.
+    fn write(&mut self, r: Reg, value: u32)
+        ensures { self.new ≡ record self.old { regs = with_register r value self.old.regs } }
+    {
+        if r != Reg::ZERO {
+            self.regs[r.index()] = value;
+        }
+    }
+}
+
+/// The word at an address, where all its four bytes are there.
+fn fetch(image: &Image, pc: u32) -> Option<u32>
+    requires { pc % 4 ≡ 0 }
+    ensures { option_map (λ word. to_be_bytes w32 word) result ≡ four_bytes (byte_at image.now) pc }
+{
+    let bytes = [
+        image.byte(pc)?,
+        image.byte(pc + 1)?,
+        image.byte(pc + 2)?,
+        image.byte(pc + 3)?,
+    ];
+    Some(word_at(&bytes))
+}
