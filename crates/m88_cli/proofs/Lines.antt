@@ -5,7 +5,7 @@ use Rattle.std.proofs.Math.ListN.{drop_of_length-le}
 use Rattle.std.specs.Prelude.{if◌then◌else◌}
 use Rattle.std.specs.List.{position_or_len}
 use Rattle.m88_isa.specs.declared.instr.Instr.{Instr}
-use Rattle.std.specs.Prelude.{Option, Some, ◌||◌, is_some, filter_map}
+use Rattle.std.specs.Prelude.{Some, ◌||◌, is_some, filter_map}
 use Rattle.std.specs.List.{list_all, prefix_len}
 use Rattle.m88_cli.specs.Source.{begin_line, first_other, instruction_of, instructions_of, is_accepted, is_line, lines_of}
 

@@ -6,3 +6,7 @@ pub mod Source
 pub mod Program
 pub mod Timeline
 pub mod Machine
+pub mod Command
+pub mod Words
+pub mod Status
+pub mod Loaded

@@ -1,7 +1,7 @@
 -- The machine that carries a program out, seen as a state of the sequential machine and the marks of a moment.
-use Rattle.std.specs.Prelude.{ℕ, ◌≡◌, ◌+◌, ◌-◌, ◌*◌, Bool, true, false, Option, Some, None, is_some, if◌then◌else◌, MatchOption}
+use Rattle.std.specs.Prelude.{◌%◌, ℕ, ◌≡◌, ◌+◌, Some, is_some, MatchOption}
 use Rattle.m88_isa.specs.Machine.{Program, State, Step, ends, on, opening, state, step}
-use Rattle.m88_cli.specs.Timeline.{Moment, end_of_step, end_of_stop, moment}
+use Rattle.m88_cli.specs.Timeline.{Moment, end_of_step, end_of_stop}
 use Rattle.m88_cli.specs.declared.machine.Machine.{Machine}
 
 -- the state that a machine is in, over a memory that it doesn't keep
@@ -17,8 +17,12 @@ Makes (ends stop) memory old new =
 
 -- a machine stands at a moment of a program
 pub record IsAt (p : Program) (m : Moment) (machine : Machine) : Type 0 where
-  pub state : state p m.retired ≡ state_in machine (opening p).memory
+  pub here : state p m.retired ≡ state_in machine (opening p).memory
   pub retired : machine.retired ≡ m.retired
   pub bubble : machine.bubble ≡ m.bubble
   pub ended : is_some machine.ended ≡ m.ended
   pub stop : MatchOption machine.ended (Unit {0}) (λ e. e ≡ end_of_step (step p (state p m.retired)))
+
+-- the addresses of the two instructions that follow are those of words
+abbrev pub IsAligned : Machine → Type 0
+IsAligned m = (m.pc % 4 ≡ 0) × (m.next % 4 ≡ 0)

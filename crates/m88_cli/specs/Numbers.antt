@@ -1,23 +1,5 @@
 -- Numbers as the words of a command and the lines of a source write them.
-use Rattle.std.specs.Prelude.{
-  ℕ,
-  List,
-  Bool,
-  Option,
-  Some,
-  None,
-  ◌==◌,
-  ◌&&◌,
-  ◌||◌,
-  not,
-  length,
-  drop,
-  take,
-  slice_index,
-  nat_le,
-  codes,
-  if◌then◌else◌,
-}
+use Rattle.std.specs.Prelude.{ℕ, List, Bool, Option, Some, None, ◌==◌, ◌&&◌, ◌||◌, not, length, drop, slice_index, nat_le, if◌then◌else◌}
 use Rattle.std.specs.Char.{is_digit}
 use Rattle.std.specs.List.{list_all}
 use Rattle.std.specs.Str.Parse.{digits_value}

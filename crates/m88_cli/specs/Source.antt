@@ -2,32 +2,7 @@
 --     or rD,rS1,N      N is 0 to 65535
 --     tb0 B,rS1,V      B is 0 to 31, V is 0 to 511
 -- Exactly one blank stands behind the mnemonic and none elsewhere. Every other line is refused.
-use Rattle.std.specs.Prelude.{
-  ℕ,
-  ◌+◌,
-  List,
-  [],
-  ◌∷◌,
-  Bool,
-  true,
-  false,
-  ◌≡◌,
-  nat_eq,
-  option_map,
-  Option,
-  Some,
-  None,
-  ◌==◌,
-  ◌||◌,
-  is_some,
-  length,
-  drop,
-  filter_map,
-  slice_index,
-  codes,
-  option_and_then,
-  if◌then◌else◌,
-}
+use Rattle.std.specs.Prelude.{◌*◌, ◌≤◌, ℕ, ◌+◌, List, [], ◌∷◌, Bool, true, false, ◌≡◌, nat_eq, option_map, Option, None, ◌==◌, ◌||◌, is_some, length, drop, filter_map, slice_index, codes, option_and_then, if◌then◌else◌}
 use Rattle.std.specs.List.{list_all, prefix_len, before_first, after_first, starts_with}
 use Rattle.m88_base.specs.Reg.{reg_of}
 use Rattle.m88_isa.specs.declared.instr.Instr.{Instr}
@@ -106,3 +81,8 @@ first_other source = prefix_len is_line (lines_of source) + 1
 abbrev pub Reads : List ℕ → Reading → Type 0
 Reads source (Accepted v) = (is_accepted source ≡ true) × (v.items ≡ instructions_of source)
 Reads source (Refused line) = (is_accepted source ≡ false) × (line ≡ first_other source)
+
+-- each instruction of a source takes at least four of its bytes
+abbrev pub FitsSource : List ℕ → Reading → Type 0
+FitsSource source (Accepted v) = 4 * length v.items ≤ length source
+FitsSource source (Refused line) = Unit {0}

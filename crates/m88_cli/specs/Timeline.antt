@@ -2,7 +2,7 @@
 -- pending in the data unit, and the letter `i` tries one issue. No instruction that a source may have reads or writes
 -- memory, so nothing is ever pending.
 use Rattle.std.specs.Prelude.{ℕ, zero, suc, Bool, true, false, ◌≡◌, ◌<◌, ◌+◌, ◌%◌, ◌==◌, ◌||◌, if◌then◌else◌}
-use Rattle.m88_isa.specs.Machine.{Program, State, Step, Stop, ends, exits, faults, on, state, step}
+use Rattle.m88_isa.specs.Machine.{Program, Step, Stop, ends, exits, faults, on, state, step}
 use Rattle.m88_cli.specs.Report.{Summary}
 use Rattle.m88_cli.specs.declared.letter.Letter.{Letter}
 use Rattle.m88_cli.specs.declared.letter.Letter.TheVariants.{Issue, Answer}

@@ -2,10 +2,16 @@
 //! the top call that does all of it between a source of bytes and a sink.
 #![tactic(auto)]
 
+mod choice;
 mod digits;
+mod fetch;
 mod letter;
 mod machine;
 mod numbers;
 mod outcome;
 mod report;
 mod source;
+mod status;
+mod words;
+
+pub use status::Status;

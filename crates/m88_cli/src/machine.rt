@@ -1,23 +1,15 @@
 ghost use Rattle.std.specs.Prelude.{◌≡◌, ◌+◌, ◌<◌, ◌≤◌, ◌%◌, ◌^◌, ◌||◌, ◌==◌, ℕ, Ok, Some, None, IfOk, OnOk, is_some, option_map};
-ghost use Rattle.std.specs.Int.{to_be_bytes, w32};
-ghost use Rattle.m88_base.specs.Image.{byte_at};
 ghost use Rattle.m88_isa.specs.Effect.{meaning_of};
-ghost use Rattle.m88_isa.specs.Machine.{carried_out, four_bytes, trapped, with_register, with_written};
-ghost use Rattle.m88_cli.specs.Machine.{Makes, state_in};
+ghost use Rattle.m88_isa.specs.Machine.{Program, carried_out, trapped, with_register, with_written};
+ghost use Rattle.m88_cli.specs.Machine.{IsAligned, IsAt, Makes, state_in};
+ghost use Rattle.m88_cli.specs.Timeline.{opening_moment};
 ghost use Rattle.m88_cli.specs.Program.{IsPlain};
 
-use m88_base::{Image, Reg};
-use m88_codec::{decode, word_at};
+use m88_base::Reg;
 use m88_isa::{Effect, Instr, Plan, plan};
 use std::alloc::{AllocError, Global};
 
 use crate::outcome::End;
-
-/// The vector of an instruction that can't be fetched.
-const INSTRUCTION_ACCESS: u16 = 2;
-
-/// The vector of a word that is no instruction.
-const UNIMPLEMENTED: u16 = 5;
 
 /// The trap that asks the monitor for a service.
 const MONITOR_TRAP: u16 = 496;
@@ -43,7 +35,12 @@ pub struct Machine {
 
 impl Machine {
     /// A machine that has carried out nothing of a program that begins at an address.
-    pub fn new(alloc: Global, start: u32) -> Machine {
+    #[tactic(auto, unfolding(m88_isa::specs::Machine::opening, m88_isa::specs::Machine::state))]
+    pub fn new(alloc: Global, start: u32) -> Machine
+        ensures here { (p : Program) → p.start ≡ start → IsAt p opening_moment result }
+        ensures aligned { IsAligned result }
+        ensures fresh { result.retired ≡ 0 }
+    {
         let pc = start / 4 * 4;
         Machine {
             regs: [0; 32],
@@ -68,7 +65,9 @@ impl Machine {
     fn execute(&mut self, instr: &Instr) -> Result<(), AllocError>
         requires plain { IsPlain instr.now }
         requires room { self.old.retired < 1000000 }
-        ensures { OnOk result ((memory : ℕ → ℕ) → Makes (carried_out (meaning_of instr.now self.old.regs self.old.carry self.old.pc self.old.next) (state_in self.old memory)) memory self.old self.new) }
+        requires aligned { IsAligned self.old }
+        ensures aligned { OnOk result (IsAligned self.new) }
+        ensures makes { OnOk result ((memory : ℕ → ℕ) → Makes (carried_out (meaning_of instr.now self.old.regs self.old.carry self.old.pc self.old.next) (state_in self.old memory)) memory self.old self.new) }
     {
         match plan(instr, &self.regs, self.carry, self.pc, self.next) {
             Plan::Raise(vector) => {
@@ -85,7 +84,7 @@ impl Machine {
 
     /// Ends the program by a vector at the present instruction.
     fn stop(&mut self, vector: u16)
-        ensures { self.new ≡ record self.old { ended = Some (Vector vector self.old.pc) } }
+        ensures { self.new ≡ record self.old { ended = Some (End.Vector vector self.old.pc) } }
     {
         self.ended = Some(End::Vector {
             vector,
@@ -96,7 +95,9 @@ impl Machine {
     /// Serves the monitor's trap, or ends the program by the trap's vector.
     fn trap(&mut self, vector: u16) -> Result<(), AllocError>
         requires room { self.old.retired < 1000000 }
-        ensures { OnOk result ((memory : ℕ → ℕ) → Makes (trapped vector (state_in self.old memory)) memory self.old self.new) }
+        requires aligned { IsAligned self.old }
+        ensures aligned { OnOk result (IsAligned self.new) }
+        ensures makes { OnOk result ((memory : ℕ → ℕ) → Makes (trapped vector (state_in self.old memory)) memory self.old self.new) }
     {
         if vector == MONITOR_TRAP && self.regs[9] == PUT_BYTE {
             self.out.push((self.regs[2] % 256) as u8)?;
@@ -135,18 +136,4 @@ impl Machine {
             self.regs[r.index()] = value;
         }
     }
-}
-
-/// The word at an address, where all its four bytes are there.
-fn fetch(image: &Image, pc: u32) -> Option<u32>
-    requires { pc % 4 ≡ 0 }
-    ensures { option_map (λ word. to_be_bytes w32 word) result ≡ four_bytes (byte_at image.now) pc }
-{
-    let bytes = [
-        image.byte(pc)?,
-        image.byte(pc + 1)?,
-        image.byte(pc + 2)?,
-        image.byte(pc + 3)?,
-    ];
-    Some(word_at(&bytes))
 }

@@ -1,4 +1,4 @@
-ghost use Rattle.std.specs.Prelude.{◌≡◌, ◌≤◌, IfSome, length};
+ghost use Rattle.std.specs.Prelude.{◌≡◌, ◌≤◌, ◌<◌, IfSome, IsSome, length};
 ghost use Rattle.m88_cli.specs.Numbers.{decimal_number, is_hexadecimal, is_needed, number_in, plain_number};
 
 /// The number that digits of a base write, where it is at most `most`.
@@ -27,6 +27,7 @@ pub fn decimal_number(most: u32, text: &[u8]) -> Option<u32>
     requires { most ≤ 1000000 }
     ensures value { result ≡ decimal_number most text.now }
     ensures bound { IfSome result (λ n. n ≤ most) }
+    ensures long { IsSome result → 0 < length text.now }
 {
     if is_needed(text) {
         number_in(10, most, text)

@@ -1,6 +1,6 @@
-ghost use Rattle.std.specs.Prelude.{◌≡◌, ◌∷◌, ◌<◌, ◌^◌, ◌≤◌, ◌==◌, IfOk, length};
+ghost use Rattle.std.specs.Prelude.{◌≡◌, ◌∷◌, ◌<◌, ◌^◌, ◌≤◌, ◌+◌, ◌==◌, IfOk, IsSome, length};
 ghost use Rattle.std.specs.List.{after_first, before_first, position_or_len};
-ghost use Rattle.m88_cli.specs.Source.{Reads, first_operand, instruction_of, is_comma, lines_of, or_of, register_named, second_operand, tb0_of, third_operand};
+ghost use Rattle.m88_cli.specs.Source.{FitsSource, Reads, first_operand, instruction_of, is_comma, lines_of, or_of, register_named, second_operand, tb0_of, third_operand};
 
 use m88_base::Reg;
 use m88_isa::{ImmOp, Instr};
@@ -18,7 +18,8 @@ pub enum Reading {
 /// Reads a source.
 pub fn read_source(alloc: Global, source: &[u8]) -> Result<Reading, AllocError>
     requires { length source.now < 2 ^ 31 }
-    ensures { IfOk result (Reads source.now) }
+    ensures reads { IfOk result (Reads source.now) }
+    ensures short { IfOk result (FitsSource source.now) }
 {
     let mut instructions = Vec::new(alloc);
     let mut number: u32 = 1;
@@ -42,6 +43,7 @@ fn first_line(bytes: &[u8]) -> (&[u8], &[u8])
     requires { 0 < length bytes.now }
     ensures lines { lines_of bytes.now ≡ result.0.now ∷ lines_of result.1.now }
     ensures shorter { length result.1.now < length bytes.now }
+    ensures within { length result.0.now + length result.1.now ≤ length bytes.now }
 {
     let at = length_before(b'\n', bytes);
     if at < bytes.len() {
@@ -53,7 +55,8 @@ fn first_line(bytes: &[u8]) -> (&[u8], &[u8])
 
 /// The instruction of a line.
 fn read_line(line: &[u8]) -> Option<Instr>
-    ensures { result ≡ instruction_of line.now }
+    ensures value { result ≡ instruction_of line.now }
+    ensures long { IsSome result → 4 ≤ length line.now }
 {
     if line.starts_with(b"or ") {
         read_or(&line[3..])
@@ -66,7 +69,8 @@ fn read_line(line: &[u8]) -> Option<Instr>
 
 /// `or` of the operands `rD,rS1,N`.
 fn read_or(text: &[u8]) -> Option<Instr>
-    ensures { result ≡ or_of text.now }
+    ensures value { result ≡ or_of text.now }
+    ensures long { IsSome result → 0 < length text.now }
 {
     let (first, second, third) = operands(text);
     let d = register(first)?;
@@ -82,7 +86,8 @@ fn read_or(text: &[u8]) -> Option<Instr>
 
 /// `tb0` of the operands `B,rS1,V`.
 fn read_tb0(text: &[u8]) -> Option<Instr>
-    ensures { result ≡ tb0_of text.now }
+    ensures value { result ≡ tb0_of text.now }
+    ensures long { IsSome result → 0 < length text.now }
 {
     let (first, second, third) = operands(text);
     let bit = decimal_number(31, first)?;
@@ -101,6 +106,7 @@ fn operands(text: &[u8]) -> (&[u8], &[u8], &[u8])
     ensures first { result.0.now ≡ first_operand text.now }
     ensures second { result.1.now ≡ second_operand text.now }
     ensures third { result.2.now ≡ third_operand text.now }
+    ensures within { length result.0.now ≤ length text.now }
 {
     let (first, others) = cut_at_comma(text);
     let (second, third) = cut_at_comma(others);
@@ -111,6 +117,7 @@ fn operands(text: &[u8]) -> (&[u8], &[u8], &[u8])
 fn cut_at_comma(text: &[u8]) -> (&[u8], &[u8])
     ensures before { result.0.now ≡ before_first is_comma text.now }
     ensures after { result.1.now ≡ after_first is_comma text.now }
+    ensures within { length result.0.now ≤ length text.now }
 {
     let at = length_before(b',', text);
     if at < text.len() {
@@ -130,7 +137,8 @@ fn length_before(stop: u8, text: &[u8]) -> usize
 
 /// The register that a text names.
 fn register(text: &[u8]) -> Option<Reg>
-    ensures { result ≡ register_named text.now }
+    ensures value { result ≡ register_named text.now }
+    ensures long { IsSome result → 0 < length text.now }
 {
     match text {
         [b'r', digits @ ..] => decimal_number(31, digits).map(|n| Reg::from_low_bits(n)),

@@ -1,11 +1,10 @@
 -- One more digit makes the value its digits write; a value that is too great stays so.
-use Rattle.std.proofs.Common.{◌≡◌, ◌≤◌, ◌<◌, ◌+◌, ◌*◌, ◌∙◌, ap, ℕ, true, get_or, take, arith, sym}
+use Rattle.std.proofs.Common.{◌≡◌, ◌<◌, ◌+◌, ◌*◌, ◌∙◌, ap, get_or, take, arith}
 use Rattle.std.specs.Char.{digit_value, is_digit}
 use Rattle.std.specs.Str.Parse.{digits_value}
 use Rattle.std.proofs.lemmas.Bool.Decides.{nat_tests}
 use Rattle.std.proofs.lemmas.Int.Digits.{digits_value_more}
 use Rattle.std.proofs.lemmas.List.Folds.{list_all_more}
-use Rattle.m88_cli.specs.Numbers.{are_digits}
 use Rattle.m88_cli.proofs.Values.{front_too_great}
 use Rattle.m88_cli.proofs.numbers.number_in.Goals as goal
 

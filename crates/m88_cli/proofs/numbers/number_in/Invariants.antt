@@ -1,5 +1,5 @@
 -- The bytes so far are digits, and write the value, which is small.
-use Rattle.std.proofs.Common.{◌≡◌, ◌≤◌, ℕ, true, take}
+use Rattle.std.proofs.Common.{◌≡◌, ◌≤◌, true, take}
 use Rattle.std.specs.Str.Parse.{digits_value}
 use Rattle.m88_cli.specs.Numbers.{are_digits}
 use Rattle.m88_cli.proofs.numbers.number_in.Given as goal

@@ -1,8 +1,7 @@
 -- The cut is the one of the first line.
-use Rattle.std.proofs.Common.{◌≡◌, ◌+◌, ◌-◌, ℕ, List, ◌∷◌, [], length, take, drop, refl, sym, ◌∙◌, ap, arith}
+use Rattle.std.proofs.Common.{◌≡◌, ◌+◌, ◌-◌, ℕ, List, length, take, drop, arith}
 use Rattle.std.proofs.lemmas.List.{take_all, length-drop}
 use Rattle.std.proofs.Math.Seq.{drop-length}
-use Rattle.m88_cli.specs.Source.{lines_of}
 use Rattle.m88_cli.proofs.Lines.{cut_nowhere, cut_there}
 use Rattle.m88_cli.proofs.source.first_line.Goals as goal
 

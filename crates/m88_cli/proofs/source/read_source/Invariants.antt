@@ -1,11 +1,12 @@
--- The lines so far were read, and their number is no greater than that of the bytes.
-use Rattle.std.proofs.Common.{◌≤◌, ◌+◌, length}
+-- The lines so far were read, their number is no greater than that of the bytes, and each instruction takes four bytes.
+use Rattle.std.proofs.Common.{◌≤◌, ◌+◌, ◌*◌, length}
 use Rattle.m88_cli.proofs.Lines.{ReadSoFar}
 use Rattle.m88_cli.proofs.source.read_source.Given as goal
 
 abbrev pub invariant-loop-rest : goal.invariant-loop-rest
 invariant-loop-rest l = record {
   so_far : ReadSoFar l.source l.rest l.instructions.items l.number;
+  short : 4 * length l.instructions.items + length l.rest ≤ length l.source;
   small : l.number + length l.rest ≤ length l.source + 1;
 }
 

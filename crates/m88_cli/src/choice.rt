@@ -1,0 +1,7 @@
+/// What the words of the program ask for.
+#[derive(Clone, Copy, PartialEq, Eq)]
+pub enum Command {
+    /// A run of a source that retires at most `limit` instructions, with every page present and no
+    /// schedule.
+    Run { limit: u32 },
+}
