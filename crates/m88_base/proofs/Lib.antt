@@ -1,3 +1,8 @@
+pub mod Apart
 pub mod Copied
+pub mod Cuts
+pub mod Edits
 pub mod Known
+pub mod Lookup
+pub mod Placing
 pub mod Same

@@ -3,17 +3,21 @@
 #![tactic(auto)]
 
 mod failing;
+mod image;
 mod mem_sink;
 mod mem_source;
 mod pieces;
 mod reading;
 mod reg;
+mod run;
+mod runs;
 mod sink;
 mod source;
 mod std_edge;
 mod writing;
 
 pub use failing::{Failed, NoMemory};
+pub use image::{Image, ImageFault, MOST_BYTES};
 pub use mem_sink::MemSink;
 pub use mem_source::MemSource;
 pub use reading::{ReadEnd, read_all};
