@@ -1,14 +1,14 @@
 -- What every instruction does, a line for each form ("Instruction Set"; "Exception Processing" for the vectors). That a
 -- change of flow in a taken delay slot is unimplemented, that the units' words and the float forms of the control
 -- instructions raise the units' vectors, and that a trap which isn't taken raises nothing, is this project's profile.
-use Rattle.std.specs.Prelude.{ℕ, Bool, false, not, List, [], Option, Some, None, ◌≡◌, ◌%◌, ◌==◌, ◌&&◌, nat_lt, slice_index, if◌then◌else◌}
+use Rattle.std.specs.Prelude.{ℕ, Bool, false, not, List, [], Option, Some, None, IfSome, ◌≡◌, ◌≤◌, ◌%◌, ◌==◌, ◌&&◌, nat_lt, slice_index, if◌then◌else◌}
 use Rattle.std.specs.Int.{bit_at}
 use Rattle.m88_base.specs.declared.reg.Reg.{Reg}
 use Rattle.m88_base.specs.Reg.{number_of}
 use Rattle.m88_isa.specs.Compute.{immediate, registers}
 use Rattle.m88_isa.specs.Fields.{address, bit_field, find_bit, offset_in, scale_of, width_in, width_of}
 use Rattle.m88_isa.specs.Flow.{after_bytes, bit_is, class_in, word_aligned, words_away}
-use Rattle.m88_isa.specs.Memory.{Touch, recorded, size_of, touches_of}
+use Rattle.m88_isa.specs.Memory.{AreWordAccesses, Touch, recorded, size_of, touches_of}
 use Rattle.m88_isa.specs.Operands.{after_d_of, d_of, is_flow, link_register, s1_of, s2_of, uses_of}
 use Rattle.m88_isa.specs.Vector.{first_user_vector, misaligned, out_of_bounds, privilege, unimplemented, unit_vector}
 use Rattle.m88_isa.specs.declared.effect.Computed.{Computed}
@@ -185,6 +185,27 @@ plan_for (goes c) = Go (recorded_change c)
 
 abbrev pub plan_of : Instr → List ℕ → Bool → ℕ → ℕ → Plan
 plan_of i regs carry pc next = plan_for (meaning_of i regs carry pc next)
+
+-- a fact about the changes of a plan that goes on, and about the vector of a taken trap
+abbrev pub IfGo : Plan → (Effect → Type 0) → Type 0
+IfGo (Go changes) Fact = Fact changes
+IfGo _ Fact = Unit {0}
+
+abbrev pub IfTrap : Plan → (ℕ → Type 0) → Type 0
+IfTrap (Trap vector) Fact = Fact vector
+IfTrap _ Fact = Unit {0}
+
+-- a plan makes that many accesses, each of which the data unit can make
+abbrev pub MakesAccesses : ℕ → Plan → Type 0
+MakesAccesses count plan = IfGo plan (λ changes. AreWordAccesses count changes.accesses)
+
+-- a plan writes at once no register outside a set, a bit for each
+abbrev pub WritesWithin : ℕ → Plan → Type 0
+WritesWithin set plan = IfGo plan (λ changes. IfSome changes.reg (λ write. bit_at set (number_of write.0) ≡ 1))
+
+-- a plan that is a taken trap has a vector of the user's
+abbrev pub TrapsForUser : Plan → Type 0
+TrapsForUser plan = IfTrap plan (λ vector. first_user_vector ≤ vector)
 
 -- two lists of registers have the same value at each register of a set, a bit for each
 abbrev pub AgreesOn : ℕ → List ℕ → List ℕ → Type 0

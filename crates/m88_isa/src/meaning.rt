@@ -1,8 +1,9 @@
 //! The effect of every instruction, form by form ("Instruction Set").
 
 ghost use Rattle.std.specs.Prelude.{◌≡◌, ◌<◌};
-ghost use Rattle.m88_isa.specs.Effect.{IgnoresUnused, computes, effect, gives, indexed, inputs_of, plan_for, plan_of, register, written};
+ghost use Rattle.m88_isa.specs.Effect.{IgnoresUnused, MakesAccesses, TrapsForUser, WritesWithin, computes, effect, gives, indexed, inputs_of, plan_for, plan_of, register, written};
 ghost use Rattle.m88_isa.specs.Instr.{IsValid};
+ghost use Rattle.m88_isa.specs.Operands.{access_count_of, writes_of};
 
 use crate::compute::{immediate, registers};
 use crate::effect::{Computed, Effect, Inputs, Plan};
@@ -23,6 +24,9 @@ use m88_base::Reg;
 pub fn plan(instr: &Instr, regs: &[u32; 32], carry: bool, pc: u32, next: u32) -> Plan
     requires { IsValid instr.now }
     ensures value { result ≡ plan_of instr.now regs.now carry pc next }
+    ensures accesses { MakesAccesses (access_count_of instr.now) result }
+    ensures register { WritesWithin (writes_of instr.now) result }
+    ensures trap { TrapsForUser result }
     ensures alone { IgnoresUnused instr.now regs.now carry pc next }
 {
     if is_flow(instr) && next != pc.wrapping_add(4) {
