@@ -1,5 +1,5 @@
 -- What the plans of all instructions have in common: their accesses, the register that they write, their traps.
-use Rattle.std.specs.Prelude.{ℕ, Bool, true, false, IfSome, [], ◌≡◌, ◌+◌, ◌%◌, ◌-◌, ◌^◌, ◌==◌, nat_lt, if◌then◌else◌}
+use Rattle.std.specs.Prelude.{ℕ, ℤ, Bool, true, false, IfSome, [], ◌≡◌, ◌+◌, ◌%◌, ◌-◌, ◌^◌, ◌==◌, nat_lt, if◌then◌else◌}
 use Rattle.std.specs.Int.{bit_at}
 use Rattle.std.proofs.Common.{arith, refl, sym, subst, inl, inr}
 use Rattle.m88_base.specs.declared.reg.Reg.{Reg}
@@ -79,9 +79,9 @@ computes_make : (d : Reg) (computed : Computed) (x : Inputs) → MakesAccesses 0
 computes_make d (Gives value carry) x = no_accesses
 computes_make d (Raises vector) x = tt
 
-branches_make : (taken delayed : Bool) (target : ℕ) (x : Inputs) → MakesAccesses 0 (plan_for (branches taken delayed target x))
-branches_make true delayed target x = no_accesses
-branches_make false delayed target x = no_accesses
+branches_make : (taken delayed : Bool) (words : ℤ) (x : Inputs) → MakesAccesses 0 (plan_for (branches taken delayed words x))
+branches_make true delayed words x = no_accesses
+branches_make false delayed words x = no_accesses
 
 traps_make : (taken : Bool) (vector : ℕ) (x : Inputs) → MakesAccesses 0 (plan_for (traps_if taken vector x))
 traps_make true vector x = by_test (nat_lt vector first_user_vector) (λ t. rw t tt) (λ f. rw f tt)
@@ -105,8 +105,8 @@ makes_accesses (BitLit op d s1 width offset) x = no_accesses
 makes_accesses (BitReg op d s1 s2) x = no_accesses
 makes_accesses (Find ones d s2) x = no_accesses
 makes_accesses (Branch link delayed words) x = no_accesses
-makes_accesses (BranchBit set delayed bit s1 words) x = branches_make (bit_is set bit x.s1) delayed (words_away x.pc words) x
-makes_accesses (BranchCond delayed mask s1 words) x = branches_make (class_in mask x.s1) delayed (words_away x.pc words) x
+makes_accesses (BranchBit set delayed bit s1 words) x = branches_make (bit_is set bit x.s1) delayed words x
+makes_accesses (BranchCond delayed mask s1 words) x = branches_make (class_in mask x.s1) delayed words x
 makes_accesses (Jump link delayed s2) x = no_accesses
 makes_accesses (TrapBit set bit s1 vector) x = traps_make (bit_is set bit x.s1) vector x
 makes_accesses (TrapCond mask s1 vector) x = traps_make (class_in mask x.s1) vector x
@@ -140,9 +140,9 @@ flows_within : (link delayed : Bool) (target : ℕ) (x : Inputs) →
 flows_within true delayed target x = refl
 flows_within false delayed target x = tt
 
-branches_within : (set : ℕ) (taken delayed : Bool) (target : ℕ) (x : Inputs) → WritesWithin set (plan_for (branches taken delayed target x))
-branches_within set true delayed target x = tt
-branches_within set false delayed target x = tt
+branches_within : (set : ℕ) (taken delayed : Bool) (words : ℤ) (x : Inputs) → WritesWithin set (plan_for (branches taken delayed words x))
+branches_within set true delayed words x = tt
+branches_within set false delayed words x = tt
 
 traps_within : (set : ℕ) (taken : Bool) (vector : ℕ) (x : Inputs) → WritesWithin set (plan_for (traps_if taken vector x))
 traps_within set true vector x = by_test (nat_lt vector first_user_vector) (λ t. rw t tt) (λ f. rw f tt)
@@ -167,8 +167,8 @@ writes_within (BitLit op d s1 width offset) x = written_within d no_register (bi
 writes_within (BitReg op d s1 s2) x = written_within d no_register (bit_field op x.s1 (width_in x.s2) (offset_in x.s2))
 writes_within (Find ones d s2) x = written_within d no_register (find_bit ones x.s2)
 writes_within (Branch link delayed words) x = flows_within link delayed (words_away x.pc words) x
-writes_within (BranchBit set delayed bit s1 words) x = branches_within (writes_of (BranchBit set delayed bit s1 words)) (bit_is set bit x.s1) delayed (words_away x.pc words) x
-writes_within (BranchCond delayed mask s1 words) x = branches_within (writes_of (BranchCond delayed mask s1 words)) (class_in mask x.s1) delayed (words_away x.pc words) x
+writes_within (BranchBit set delayed bit s1 words) x = branches_within (writes_of (BranchBit set delayed bit s1 words)) (bit_is set bit x.s1) delayed words x
+writes_within (BranchCond delayed mask s1 words) x = branches_within (writes_of (BranchCond delayed mask s1 words)) (class_in mask x.s1) delayed words x
 writes_within (Jump link delayed s2) x = flows_within link delayed (word_aligned x.s2) x
 writes_within (TrapBit set bit s1 vector) x = traps_within (writes_of (TrapBit set bit s1 vector)) (bit_is set bit x.s1) vector x
 writes_within (TrapCond mask s1 vector) x = traps_within (writes_of (TrapCond mask s1 vector)) (class_in mask x.s1) vector x

@@ -1,7 +1,7 @@
 -- What every instruction does, a line for each form ("Instruction Set"; "Exception Processing" for the vectors). That a
 -- change of flow in a taken delay slot is unimplemented, that the units' words and the float forms of the control
 -- instructions raise the units' vectors, and that a trap which isn't taken raises nothing, is this project's profile.
-use Rattle.std.specs.Prelude.{ℕ, Bool, false, not, List, [], Option, Some, None, IfSome, ◌≡◌, ◌≤◌, ◌%◌, ◌==◌, ◌&&◌, nat_lt, slice_index, if◌then◌else◌}
+use Rattle.std.specs.Prelude.{ℕ, ℤ, Bool, false, not, List, [], Option, Some, None, IfSome, ◌≡◌, ◌≤◌, ◌%◌, ◌==◌, ◌&&◌, nat_lt, slice_index, if◌then◌else◌}
 use Rattle.std.specs.Int.{bit_at}
 use Rattle.m88_base.specs.declared.reg.Reg.{Reg}
 use Rattle.m88_base.specs.Reg.{number_of}
@@ -105,9 +105,9 @@ flows link delayed target x =
       bubble = not delayed;
     })
 
--- a branch on a condition
-abbrev pub branches : Bool → Bool → ℕ → Inputs → Meaning
-branches taken delayed target x = if taken then flows false delayed target x else goes (goes_on x)
+-- a branch on a condition, by a signed count of words
+abbrev pub branches : Bool → Bool → ℤ → Inputs → Meaning
+branches taken delayed words x = if taken then flows false delayed (words_away x.pc words) x else goes (goes_on x)
 
 -- a trap on a condition; the vectors below the user's are for the supervisor alone
 abbrev pub traps_if : Bool → ℕ → Inputs → Meaning
@@ -133,8 +133,8 @@ effect (BitLit op d s1 width offset) x = gives d (bit_field op x.s1 (width_of wi
 effect (BitReg op d s1 s2) x = gives d (bit_field op x.s1 (width_in x.s2) (offset_in x.s2)) x
 effect (Find ones d s2) x = gives d (find_bit ones x.s2) x
 effect (Branch link delayed words) x = flows link delayed (words_away x.pc words) x
-effect (BranchBit set delayed bit s1 words) x = branches (bit_is set bit x.s1) delayed (words_away x.pc words) x
-effect (BranchCond delayed mask s1 words) x = branches (class_in mask x.s1) delayed (words_away x.pc words) x
+effect (BranchBit set delayed bit s1 words) x = branches (bit_is set bit x.s1) delayed words x
+effect (BranchCond delayed mask s1 words) x = branches (class_in mask x.s1) delayed words x
 effect (Jump link delayed s2) x = flows link delayed (word_aligned x.s2) x
 effect (TrapBit set bit s1 vector) x = traps_if (bit_is set bit x.s1) vector x
 effect (TrapCond mask s1 vector) x = traps_if (class_in mask x.s1) vector x

@@ -78,9 +78,9 @@ fn effect(instr: &Instr, x: Inputs) -> Plan
         Instr::BitLit {
             op,
             d,
-            s1: _,
             width,
             offset,
+            ..
         } => gives(
             d,
             bit_field(op, x.s1, width_of(width as u32), offset as u32),
@@ -101,38 +101,24 @@ fn effect(instr: &Instr, x: Inputs) -> Plan
             set,
             delayed,
             bit,
-            s1: _,
             words,
-        } => branches(
-            bit_is(set, bit, x.s1),
-            delayed,
-            words_away(x.pc, words as i32),
-            x,
-        ),
+            ..
+        } => branches(bit_is(set, bit, x.s1), delayed, words as i32, x),
         Instr::BranchCond {
             delayed,
             mask,
-            s1: _,
             words,
-        } => branches(
-            class_in(mask, x.s1),
-            delayed,
-            words_away(x.pc, words as i32),
-            x,
-        ),
+            ..
+        } => branches(class_in(mask, x.s1), delayed, words as i32, x),
         Instr::Jump { link, delayed, .. } => flows(link, delayed, word_aligned(x.s2), x),
         Instr::TrapBit {
             set,
             bit,
-            s1: _,
             vector,
+            ..
         } => traps_if(bit_is(set, bit, x.s1), vector, x),
-        Instr::TrapCond {
-            mask,
-            s1: _,
-            vector,
-        } => traps_if(class_in(mask, x.s1), vector, x),
-        Instr::BoundImm { s1: _, imm } => checks(x.s1, imm as u32, x),
+        Instr::TrapCond { mask, vector, .. } => traps_if(class_in(mask, x.s1), vector, x),
+        Instr::BoundImm { imm, .. } => checks(x.s1, imm as u32, x),
         Instr::BoundReg { .. } => checks(x.s1, x.s2, x),
         Instr::Rte => Plan::Raise(PRIVILEGE),
         Instr::Ldcr { float, .. } | Instr::Stcr { float, .. } | Instr::Xcr { float, .. } =>
