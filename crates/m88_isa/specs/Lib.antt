@@ -4,7 +4,9 @@ pub mod Fields
 pub mod Flow
 pub mod Instr
 pub mod Lanes
+pub mod Machine
 pub mod Memory
 pub mod Operands
 pub mod Vector
 pub mod Word
+pub mod Mnemonic

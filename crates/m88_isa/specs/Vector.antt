@@ -1,6 +1,10 @@
 -- The vectors that instructions raise ("Exception Processing": exception vectors).
 use Rattle.std.specs.Prelude.{ℕ, ◌+◌, ◌*◌, ◌-◌, ◌==◌, if◌then◌else◌}
 
+-- an instruction that can't be fetched
+abbrev pub instruction_access : ℕ
+instruction_access = 2
+
 -- an access to memory that isn't aligned to its size
 abbrev pub misaligned : ℕ
 misaligned = 4

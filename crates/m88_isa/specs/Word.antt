@@ -196,3 +196,7 @@ word_of (Sfu unit rest) = 0x80000000 + unit * 2 ^ 26 + rest
 -- the instruction is valid and has this word
 abbrev pub IsWord : Instr → ℕ → Type 0
 IsWord i word = IsValid i × (word_of i ≡ word)
+
+-- no word has a second reading
+abbrev pub HasOneReading : ℕ → Type 0
+HasOneReading word = (i j : Instr) → IsWord i word → IsWord j word → i ≡ j

@@ -11,6 +11,7 @@ mod instr;
 mod lanes;
 mod meaning;
 mod memory;
+mod mnemonic;
 mod operands;
 mod vector;
 
@@ -18,4 +19,5 @@ pub use effect::{Access, Accesses, Effect, Plan};
 pub use instr::{BitOp, ImmOp, Instr, LdaSize, MemOp, RegOp, is_valid};
 pub use lanes::{datum, merge};
 pub use meaning::plan;
+pub use mnemonic::{MNEMONICS, Mnemonic};
 pub use operands::{access_count, is_flow, uses, waits_for_empty, writes};
