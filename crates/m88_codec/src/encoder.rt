@@ -1,9 +1,13 @@
-ghost use Rattle.std.specs.Prelude.{◌≡◌, ◌<◌, ◌≤◌, ◌+◌};
+ghost use Rattle.std.specs.Prelude.{◌≡◌, ◌<◌, ◌≤◌, ◌+◌, ◌*◌};
+ghost use Rattle.m88_base.specs.Reg.{number_of};
 ghost use Rattle.m88_isa.specs.Instr.{IsValid};
-ghost use Rattle.m88_isa.specs.Word.{IsWord, at_d, at_s1, mark};
+ghost use Rattle.m88_isa.specs.Word.{IsWord, at_cr, at_d, at_s1, first_byte, low16, mark, mem_byte};
 
 use super::codes::{byte_of_imm, byte_of_mem, code_of_bit, code_of_lda, code_of_reg};
-use m88_isa::Instr;
+use m88_base::Reg;
+use m88_isa::{Instr, MemOp};
+
+const R0: Reg = Reg::ZERO;
 
 /// The word of an instruction, as the word table adds up its fields.
 pub fn encode(instr: &Instr) -> u32
@@ -11,26 +15,9 @@ pub fn encode(instr: &Instr) -> u32
     ensures { IsWord instr.now result }
 {
     match *instr {
-        Instr::MemImm { op, d, s1, imm } => fields(
-            byte_of_mem(op) << 24,
-            d.number(),
-            s1.number(),
-            imm as u32,
-        ),
-        Instr::Imm { op, d, s1, imm } => fields(
-            byte_of_imm(op) << 24,
-            d.number(),
-            s1.number(),
-            imm as u32,
-        ),
-        Instr::Regs { op, d, s1, s2 } => {
-            fields(
-                0xF400_0000,
-                d.number(),
-                s1.number(),
-                code_of_reg(op) + s2.number(),
-            )
-        }
+        Instr::MemImm { op, d, s1, imm } => immediate(byte_of_mem(op), d, s1, imm),
+        Instr::Imm { op, d, s1, imm } => immediate(byte_of_imm(op), d, s1, imm),
+        Instr::Regs { op, d, s1, s2 } => registers(code_of_reg(op), d, s1, s2),
         Instr::MemReg {
             op,
             d,
@@ -38,35 +25,16 @@ pub fn encode(instr: &Instr) -> u32
             s2,
             scaled,
             usr,
-        } => {
-            let code = (byte_of_mem(op) << 8) + mark(scaled, 0x200) + mark(usr, 0x100);
-            fields(0xF400_0000, d.number(), s1.number(), code + s2.number())
-        }
-        Instr::Lda { size, d, s1, s2 } => {
-            fields(
-                0xF400_0000,
-                d.number(),
-                s1.number(),
-                code_of_lda(size) + s2.number(),
-            )
-        }
-        Instr::BitReg { op, d, s1, s2 } => {
-            fields(
-                0xF400_0000,
-                d.number(),
-                s1.number(),
-                code_of_bit(op) + s2.number(),
-            )
-        }
-        Instr::Find { ones, d, s2 } => {
-            let code = if ones { 0xE800 } else { 0xEC00 };
-            fields(0xF400_0000, d.number(), 0, code + s2.number())
-        }
+        } => registers(code_of_mem(op, scaled, usr), d, s1, s2),
+        Instr::Lda { size, d, s1, s2 } => registers(code_of_lda(size), d, s1, s2),
+        Instr::BitReg { op, d, s1, s2 } => registers(code_of_bit(op), d, s1, s2),
+        Instr::Find { ones, d, s2 } => registers(if ones { 0xE800 } else { 0xEC00 }, d, R0, s2),
         Instr::Jump { link, delayed, s2 } => {
-            0xF400_C000 + mark(link, 0x800) + mark(delayed, 0x400) + s2.number()
+            let code = 0xC000 + marked(link, 0x800) + marked(delayed, 0x400);
+            registers(code, R0, R0, s2)
         }
-        Instr::BoundReg { s1, s2 } => fields(0xF400_0000, 0, s1.number(), 0xF800 + s2.number()),
-        Instr::Rte => 0xF400_FC00,
+        Instr::BoundReg { s1, s2 } => registers(0xF800, R0, s1, s2),
+        Instr::Rte => registers(0xFC00, R0, R0, R0),
         Instr::BitLit {
             op,
             d,
@@ -75,67 +43,85 @@ pub fn encode(instr: &Instr) -> u32
             offset,
         } => {
             let code = code_of_bit(op) + ((width as u32) << 5) + offset as u32;
-            fields(0xF000_0000, d.number(), s1.number(), code)
+            literal(code, d.number(), s1)
         }
         Instr::Branch {
             link,
             delayed,
             words,
-        } => {
-            let head = 0xC000_0000 + mark(link, 0x0800_0000) + mark(delayed, 0x0400_0000);
-            head + words.cast_unsigned() % (1 << 26)
-        }
+        } => branch_head(0xC000_0000, link, delayed) + words.cast_unsigned() % (1 << 26),
         Instr::BranchBit {
             set,
             delayed,
             bit,
             s1,
             words,
-        } => {
-            let head = 0xD000_0000 + mark(set, 0x0800_0000) + mark(delayed, 0x0400_0000);
-            fields(head, bit as u32, s1.number(), words.cast_unsigned() as u32)
-        }
+        } => displaced(branch_head(0xD000_0000, set, delayed), bit, s1, words),
         Instr::BranchCond {
             delayed,
             mask,
             s1,
             words,
-        } => {
-            let head = 0xE800_0000 + mark(delayed, 0x0400_0000);
-            fields(head, mask as u32, s1.number(), words.cast_unsigned() as u32)
-        }
+        } => displaced(branch_head(0xE800_0000, false, delayed), mask, s1, words),
         Instr::TrapBit {
             set,
             bit,
             s1,
             vector,
-        } => {
-            let code = 0xD000 + mark(set, 0x800);
-            fields(0xF000_0000, bit as u32, s1.number(), code + vector as u32)
-        }
-        Instr::TrapCond { mask, s1, vector } => {
-            fields(
-                0xF000_0000,
-                mask as u32,
-                s1.number(),
-                0xE800 + vector as u32,
-            )
-        }
-        Instr::BoundImm { s1, imm } => fields(0xF800_0000, 0, s1.number(), imm as u32),
-        Instr::Ldcr { d, cr, float } => {
-            let code = 0x4000 + mark(float, 0x800) + ((cr as u32) << 5);
-            fields(0x8000_0000, d.number(), 0, code)
-        }
-        Instr::Stcr { s1, cr, float } => {
-            let code = 0x8000 + mark(float, 0x800) + ((cr as u32) << 5);
-            fields(0x8000_0000, 0, s1.number(), code + s1.number())
-        }
-        Instr::Xcr { d, s1, cr, float } => {
-            let code = 0xC000 + mark(float, 0x800) + ((cr as u32) << 5);
-            fields(0x8000_0000, d.number(), s1.number(), code + s1.number())
-        }
+        } => literal(0xD000 + marked(set, 0x800) + vector as u32, bit as u32, s1),
+        Instr::TrapCond { mask, s1, vector } => literal(0xE800 + vector as u32, mask as u32, s1),
+        Instr::BoundImm { s1, imm } => immediate(0xF8, R0, s1, imm),
+        Instr::Ldcr { d, cr, float } => control(0x4000, float, cr, d, R0),
+        Instr::Stcr { s1, cr, float } => control(0x8000, float, cr, R0, s1),
+        Instr::Xcr { d, s1, cr, float } => control(0xC000, float, cr, d, s1),
         Instr::Sfu { unit, rest } => 0x8000_0000 + ((unit as u32) << 26) + rest,
     }
+}
+
+/// An immediate form: the first byte, D, S1 and the immediate.
+fn immediate(byte: u32, d: Reg, s1: Reg, imm: u16) -> u32
+    requires { byte ≤ 0xFC }
+    ensures { result ≡ first_byte byte + at_d (number_of d) + at_s1 (number_of s1) + imm }
+{
+    fields(byte << 24, d.number(), s1.number(), imm as u32)
+}
+
+/// A register form: D, S1, the code and S2.
+fn registers(code: u32, d: Reg, s1: Reg, s2: Reg) -> u32
+    requires { code ≤ 0xFFE0 }
+    ensures { result ≡
+        0xF4000000 + at_d (number_of d) + at_s1 (number_of s1) + code + number_of s2 }
+{
+    fields(0xF400_0000, d.number(), s1.number(), code + s2.number())
+}
+
+/// A form with a literal or a vector: the low 16 bits, the number in the place of D, and S1.
+fn literal(low: u32, d: u32, s1: Reg) -> u32
+    requires low_fits { low < 0x10000 }
+    requires d_fits { d < 32 }
+    ensures { result ≡ 0xF0000000 + at_d d + at_s1 (number_of s1) + low }
+{
+    fields(0xF000_0000, d, s1.number(), low)
+}
+
+/// A conditional branch: its opening bits, the number in the place of D, S1 and the count of words.
+fn displaced(head: u32, d: u8, s1: Reg, words: i16) -> u32
+    requires head_fits { head ≤ 0xFC000000 }
+    requires d_fits { d < 32 }
+    ensures { result ≡ head + at_d d + at_s1 (number_of s1) + low16 words }
+{
+    fields(head, d as u32, s1.number(), words.cast_unsigned() as u32)
+}
+
+/// A control form: its code, the control register, D, and the register that stands in S1 and S2.
+fn control(code: u32, float: bool, cr: u8, d: Reg, s1: Reg) -> u32
+    requires code_fits { code ≤ 0xC000 }
+    requires cr_fits { cr < 64 }
+    ensures { result ≡
+        0x80000000 + code + mark float 0x800 + at_d (number_of d) + at_s1 (number_of s1) + at_cr cr + number_of s1 }
+{
+    let low = code + marked(float, 0x800) + ((cr as u32) << 5) + s1.number();
+    fields(0x8000_0000, d.number(), s1.number(), low)
 }
 
 /// The sum of a word's opening bits, D, S1 and its low 16 bits.
@@ -149,8 +135,25 @@ fn fields(head: u32, d: u32, s1: u32, low: u32) -> u32
     head + (d << 21) + (s1 << 16) + low
 }
 
+/// The opening bits of a branch with its two marks, `link` or `set` and `.n`.
+fn branch_head(base: u32, first: bool, delayed: bool) -> u32
+    requires { base ≤ 0xE8000000 }
+    ensures value { result ≡ base + mark first 0x08000000 + mark delayed 0x04000000 }
+    ensures bound { result ≤ base + 0x0C000000 }
+{
+    base + marked(first, 0x0800_0000) + marked(delayed, 0x0400_0000)
+}
+
+/// The code of a memory mnemonic with its marks in a register form.
+fn code_of_mem(op: MemOp, scaled: bool, usr: bool) -> u32
+    ensures value { result ≡ mem_byte op * 0x100 + mark scaled 0x200 + mark usr 0x100 }
+    ensures bound { result ≤ 0x2F00 }
+{
+    (byte_of_mem(op) << 8) + marked(scaled, 0x200) + marked(usr, 0x100)
+}
+
 /// What a mark of the mnemonic, as `.n` or `.usr`, adds to the word.
-fn mark(there: bool, bits: u32) -> u32
+fn marked(there: bool, bits: u32) -> u32
     ensures value { result ≡ mark there bits }
     ensures bound { result ≤ bits }
 {

@@ -1,3 +1,4 @@
 pub mod Spelling
 pub mod Alone
+pub mod Plans
 pub mod TouchedBytes

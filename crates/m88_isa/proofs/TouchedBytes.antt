@@ -6,7 +6,7 @@ use Rattle.m88_isa.proofs.Alone.{by_test}
 use Rattle.m88_isa.specs.Lanes.{AreBytes, IsAligned, LoadsBytes, StoresBytes, byte_of, datum_of, enable_of, merged, number_at, stored_at, widened, word_address}
 
 -- an offset in a word is one of four
-one_of_four : (n : ℕ) → n < 4 → (n ≡ 0) ⊎ (n ≡ 1) ⊎ (n ≡ 2) ⊎ (n ≡ 3)
+pub one_of_four : (n : ℕ) → n < 4 → (n ≡ 0) ⊎ (n ≡ 1) ⊎ (n ≡ 2) ⊎ (n ≡ 3)
 one_of_four zero h = inl refl
 one_of_four (suc zero) h = inr (inl refl)
 one_of_four (suc (suc zero)) h = inr (inr (inl refl))

@@ -1,14 +1,14 @@
 -- What every instruction does, a line for each form ("Instruction Set"; "Exception Processing" for the vectors). That a
 -- change of flow in a taken delay slot is unimplemented, that the units' words and the float forms of the control
 -- instructions raise the units' vectors, and that a trap which isn't taken raises nothing, is this project's profile.
-use Rattle.std.specs.Prelude.{ℕ, Bool, false, not, List, [], Option, Some, None, ◌≡◌, ◌%◌, ◌==◌, ◌&&◌, nat_lt, slice_index, if◌then◌else◌}
+use Rattle.std.specs.Prelude.{ℕ, ℤ, Bool, false, not, List, [], Option, Some, None, IfSome, ◌≡◌, ◌≤◌, ◌%◌, ◌==◌, ◌&&◌, nat_lt, slice_index, if◌then◌else◌}
 use Rattle.std.specs.Int.{bit_at}
 use Rattle.m88_base.specs.declared.reg.Reg.{Reg}
 use Rattle.m88_base.specs.Reg.{number_of}
 use Rattle.m88_isa.specs.Compute.{immediate, registers}
 use Rattle.m88_isa.specs.Fields.{address, bit_field, find_bit, offset_in, scale_of, width_in, width_of}
 use Rattle.m88_isa.specs.Flow.{after_bytes, bit_is, class_in, word_aligned, words_away}
-use Rattle.m88_isa.specs.Memory.{Touch, recorded, size_of, touches_of}
+use Rattle.m88_isa.specs.Memory.{AreWordAccesses, Touch, recorded, size_of, touches_of}
 use Rattle.m88_isa.specs.Operands.{after_d_of, d_of, is_flow, link_register, s1_of, s2_of, uses_of}
 use Rattle.m88_isa.specs.Vector.{first_user_vector, misaligned, out_of_bounds, privilege, unimplemented, unit_vector}
 use Rattle.m88_isa.specs.declared.effect.Computed.{Computed}
@@ -105,9 +105,9 @@ flows link delayed target x =
       bubble = not delayed;
     })
 
--- a branch on a condition
-abbrev pub branches : Bool → Bool → ℕ → Inputs → Meaning
-branches taken delayed target x = if taken then flows false delayed target x else goes (goes_on x)
+-- a branch on a condition, by a signed count of words
+abbrev pub branches : Bool → Bool → ℤ → Inputs → Meaning
+branches taken delayed words x = if taken then flows false delayed (words_away x.pc words) x else goes (goes_on x)
 
 -- a trap on a condition; the vectors below the user's are for the supervisor alone
 abbrev pub traps_if : Bool → ℕ → Inputs → Meaning
@@ -133,8 +133,8 @@ effect (BitLit op d s1 width offset) x = gives d (bit_field op x.s1 (width_of wi
 effect (BitReg op d s1 s2) x = gives d (bit_field op x.s1 (width_in x.s2) (offset_in x.s2)) x
 effect (Find ones d s2) x = gives d (find_bit ones x.s2) x
 effect (Branch link delayed words) x = flows link delayed (words_away x.pc words) x
-effect (BranchBit set delayed bit s1 words) x = branches (bit_is set bit x.s1) delayed (words_away x.pc words) x
-effect (BranchCond delayed mask s1 words) x = branches (class_in mask x.s1) delayed (words_away x.pc words) x
+effect (BranchBit set delayed bit s1 words) x = branches (bit_is set bit x.s1) delayed words x
+effect (BranchCond delayed mask s1 words) x = branches (class_in mask x.s1) delayed words x
 effect (Jump link delayed s2) x = flows link delayed (word_aligned x.s2) x
 effect (TrapBit set bit s1 vector) x = traps_if (bit_is set bit x.s1) vector x
 effect (TrapCond mask s1 vector) x = traps_if (class_in mask x.s1) vector x
@@ -185,6 +185,27 @@ plan_for (goes c) = Go (recorded_change c)
 
 abbrev pub plan_of : Instr → List ℕ → Bool → ℕ → ℕ → Plan
 plan_of i regs carry pc next = plan_for (meaning_of i regs carry pc next)
+
+-- a fact about the changes of a plan that goes on, and about the vector of a taken trap
+abbrev pub IfGo : Plan → (Effect → Type 0) → Type 0
+IfGo (Go changes) Fact = Fact changes
+IfGo _ Fact = Unit {0}
+
+abbrev pub IfTrap : Plan → (ℕ → Type 0) → Type 0
+IfTrap (Trap vector) Fact = Fact vector
+IfTrap _ Fact = Unit {0}
+
+-- a plan makes that many accesses, each of which the data unit can make
+abbrev pub MakesAccesses : ℕ → Plan → Type 0
+MakesAccesses count plan = IfGo plan (λ changes. AreWordAccesses count changes.accesses)
+
+-- a plan writes at once no register outside a set, a bit for each
+abbrev pub WritesWithin : ℕ → Plan → Type 0
+WritesWithin set plan = IfGo plan (λ changes. IfSome changes.reg (λ write. bit_at set (number_of write.0) ≡ 1))
+
+-- a plan that is a taken trap has a vector of the user's
+abbrev pub TrapsForUser : Plan → Type 0
+TrapsForUser plan = IfTrap plan (λ vector. first_user_vector ≤ vector)
 
 -- two lists of registers have the same value at each register of a set, a bit for each
 abbrev pub AgreesOn : ℕ → List ℕ → List ℕ → Type 0

@@ -1,8 +1,8 @@
 -- The accesses of the load, store and exchange instructions ("Instruction Set": load, store and exchange instructions;
 -- "Data Unit": transaction registers).
-use Rattle.std.specs.Prelude.{ℕ, Bool, true, false, List, [], ◌∷◌, ◌+◌, ◌%◌, ◌^◌}
+use Rattle.std.specs.Prelude.{ℕ, Bool, true, false, List, [], ◌∷◌, ◌+◌, ◌%◌, ◌^◌, ◌≡◌, ◌<◌}
 use Rattle.m88_base.specs.declared.reg.Reg.{Reg}
-use Rattle.m88_isa.specs.Lanes.{enable_of, word_address}
+use Rattle.m88_isa.specs.Lanes.{IsEnable, enable_of, word_address}
 use Rattle.m88_isa.specs.Operands.{no_register, register_after}
 use Rattle.m88_isa.specs.declared.effect.Access.{Access}
 use Rattle.m88_isa.specs.declared.effect.Accesses.{Accesses}
@@ -118,3 +118,14 @@ abbrev pub recorded : List Touch → Accesses
 recorded [] = record { count = 0; first = no_access; second = no_access }
 recorded (t ∷ []) = record { count = 1; first = access_of t; second = no_access }
 recorded (t ∷ u ∷ _) = record { count = 2; first = access_of t; second = access_of u }
+
+-- an access that the data unit can make: the address of a word and one of its enables
+abbrev pub IsWordAccess : Access → Type 0
+IsWordAccess a = (a.addr % 4 ≡ 0) × IsEnable a.en
+
+-- that many accesses, each of which the data unit can make
+abbrev pub AreWordAccesses : ℕ → Accesses → Type 0
+AreWordAccesses count accesses =
+    (accesses.count ≡ count)
+    × (0 < count → IsWordAccess accesses.first)
+    × (1 < count → IsWordAccess accesses.second)

@@ -47,12 +47,12 @@ pub(crate) fn flows(link: bool, delayed: bool, target: u32, x: Inputs) -> Plan
     })
 }
 
-/// What a branch on a condition does.
-pub(crate) fn branches(taken: bool, delayed: bool, target: u32, x: Inputs) -> Plan
-    ensures { result ≡ plan_for (branches taken delayed target x) }
+/// What a branch on a condition, by a signed count of words, does.
+pub(crate) fn branches(taken: bool, delayed: bool, words: i32, x: Inputs) -> Plan
+    ensures { result ≡ plan_for (branches taken delayed words x) }
 {
     if taken {
-        flows(false, delayed, target, x)
+        flows(false, delayed, words_away(x.pc, words), x)
     } else {
         Plan::Go(goes_on(x))
     }

@@ -242,105 +242,32 @@ pub fn is_valid(instr: &Instr) -> bool
     ensures { IsTrue result ↔ IsValid instr.now }
 {
     match *instr {
-        Instr::Imm {
-            op: _,
-            d: _,
-            s1: _,
-            imm: _imm,
-        } => true,
-        Instr::Regs {
-            op: _,
-            d: _,
-            s1: _,
-            s2: _,
-        } => true,
-        Instr::MemImm {
-            op: _,
-            d: _,
-            s1: _,
-            imm: _imm,
-        } => true,
-        Instr::MemReg {
-            op: _,
-            d: _,
-            s1: _,
-            s2: _,
-            scaled: _,
-            usr: _,
-        } => true,
-        Instr::Lda {
-            size: _,
-            d: _,
-            s1: _,
-            s2: _,
-        } => true,
+        Instr::Imm { imm: _imm, .. }
+        | Instr::MemImm { imm: _imm, .. }
+        | Instr::BoundImm { imm: _imm, .. } => true,
+        Instr::Regs { .. } | Instr::MemReg { .. } | Instr::Lda { .. } | Instr::BitReg { .. } =>
+            true,
+        Instr::Find { .. } | Instr::Jump { .. } | Instr::BoundReg { .. } | Instr::Rte => true,
         Instr::BitLit {
             op,
-            d: _,
-            s1: _,
             width,
             offset,
+            ..
         } => is_width(op, width) && offset < 32,
-        Instr::BitReg {
-            op: _,
-            d: _,
-            s1: _,
-            s2: _,
-        } => true,
-        Instr::Find {
-            ones: _,
-            d: _,
-            s2: _,
-        } => true,
-        Instr::Branch {
-            link: _,
-            delayed: _,
-            words,
-        } => words >= -(1 << 25) && words < 1 << 25,
+        Instr::Branch { words, .. } => words >= -(1 << 25) && words < 1 << 25,
         Instr::BranchBit {
-            set: _,
-            delayed: _,
             bit,
-            s1: _,
             words: _words,
+            ..
         } => bit < 32,
         Instr::BranchCond {
-            delayed: _,
             mask,
-            s1: _,
             words: _words,
+            ..
         } => mask < 16,
-        Instr::Jump {
-            link: _,
-            delayed: _,
-            s2: _,
-        } => true,
-        Instr::TrapBit {
-            set: _,
-            bit,
-            s1: _,
-            vector,
-        } => bit < 32 && vector < 512,
-        Instr::TrapCond {
-            mask,
-            s1: _,
-            vector,
-        } => mask < 16 && vector < 512,
-        Instr::BoundImm { s1: _, imm: _imm } => true,
-        Instr::BoundReg { s1: _, s2: _ } => true,
-        Instr::Rte => true,
-        Instr::Ldcr { d: _, cr, float: _ } => cr < 64,
-        Instr::Stcr {
-            s1: _,
-            cr,
-            float: _,
-        } => cr < 64,
-        Instr::Xcr {
-            d: _,
-            s1: _,
-            cr,
-            float: _,
-        } => cr < 64,
+        Instr::TrapBit { bit, vector, .. } => bit < 32 && vector < 512,
+        Instr::TrapCond { mask, vector, .. } => mask < 16 && vector < 512,
+        Instr::Ldcr { cr, .. } | Instr::Stcr { cr, .. } | Instr::Xcr { cr, .. } => cr < 64,
         Instr::Sfu { unit, rest } => unit >= 1 && unit < 8 && rest < 1 << 26,
     }
 }

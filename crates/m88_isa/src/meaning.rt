@@ -1,8 +1,9 @@
 //! The effect of every instruction, form by form ("Instruction Set").
 
 ghost use Rattle.std.specs.Prelude.{◌≡◌, ◌<◌};
-ghost use Rattle.m88_isa.specs.Effect.{IgnoresUnused, computes, effect, gives, indexed, inputs_of, plan_for, plan_of, register, written};
+ghost use Rattle.m88_isa.specs.Effect.{IgnoresUnused, MakesAccesses, TrapsForUser, WritesWithin, computes, effect, gives, indexed, inputs_of, plan_for, plan_of, register, written};
 ghost use Rattle.m88_isa.specs.Instr.{IsValid};
+ghost use Rattle.m88_isa.specs.Operands.{access_count_of, writes_of};
 
 use crate::compute::{immediate, registers};
 use crate::effect::{Computed, Effect, Inputs, Plan};
@@ -23,6 +24,9 @@ use m88_base::Reg;
 pub fn plan(instr: &Instr, regs: &[u32; 32], carry: bool, pc: u32, next: u32) -> Plan
     requires { IsValid instr.now }
     ensures value { result ≡ plan_of instr.now regs.now carry pc next }
+    ensures accesses { MakesAccesses (access_count_of instr.now) result }
+    ensures register { WritesWithin (writes_of instr.now) result }
+    ensures trap { TrapsForUser result }
     ensures alone { IgnoresUnused instr.now regs.now carry pc next }
 {
     if is_flow(instr) && next != pc.wrapping_add(4) {
@@ -74,9 +78,9 @@ fn effect(instr: &Instr, x: Inputs) -> Plan
         Instr::BitLit {
             op,
             d,
-            s1: _,
             width,
             offset,
+            ..
         } => gives(
             d,
             bit_field(op, x.s1, width_of(width as u32), offset as u32),
@@ -97,38 +101,24 @@ fn effect(instr: &Instr, x: Inputs) -> Plan
             set,
             delayed,
             bit,
-            s1: _,
             words,
-        } => branches(
-            bit_is(set, bit, x.s1),
-            delayed,
-            words_away(x.pc, words as i32),
-            x,
-        ),
+            ..
+        } => branches(bit_is(set, bit, x.s1), delayed, words as i32, x),
         Instr::BranchCond {
             delayed,
             mask,
-            s1: _,
             words,
-        } => branches(
-            class_in(mask, x.s1),
-            delayed,
-            words_away(x.pc, words as i32),
-            x,
-        ),
+            ..
+        } => branches(class_in(mask, x.s1), delayed, words as i32, x),
         Instr::Jump { link, delayed, .. } => flows(link, delayed, word_aligned(x.s2), x),
         Instr::TrapBit {
             set,
             bit,
-            s1: _,
             vector,
+            ..
         } => traps_if(bit_is(set, bit, x.s1), vector, x),
-        Instr::TrapCond {
-            mask,
-            s1: _,
-            vector,
-        } => traps_if(class_in(mask, x.s1), vector, x),
-        Instr::BoundImm { s1: _, imm } => checks(x.s1, imm as u32, x),
+        Instr::TrapCond { mask, vector, .. } => traps_if(class_in(mask, x.s1), vector, x),
+        Instr::BoundImm { imm, .. } => checks(x.s1, imm as u32, x),
         Instr::BoundReg { .. } => checks(x.s1, x.s2, x),
         Instr::Rte => Plan::Raise(PRIVILEGE),
         Instr::Ldcr { float, .. } | Instr::Stcr { float, .. } | Instr::Xcr { float, .. } =>

@@ -1,0 +1,181 @@
+-- What the plans of all instructions have in common: their accesses, the register that they write, their traps.
+use Rattle.std.specs.Prelude.{ℕ, ℤ, Bool, true, false, IfSome, [], ◌≡◌, ◌+◌, ◌%◌, ◌-◌, ◌^◌, ◌==◌, nat_lt, if◌then◌else◌}
+use Rattle.std.specs.Int.{bit_at}
+use Rattle.std.proofs.Common.{arith, refl, sym, subst, inl, inr}
+use Rattle.m88_base.specs.declared.reg.Reg.{Reg}
+use Rattle.m88_base.specs.Reg.{number_of}
+use Rattle.m88_isa.proofs.Alone.{by_test, in_left, in_own}
+use Rattle.m88_isa.proofs.TouchedBytes.{one_of_four}
+use Rattle.m88_isa.specs.Compute.{immediate, registers}
+use Rattle.m88_isa.specs.Effect.{MakesAccesses, WritesWithin, accesses, branches, checks, computes, controls, effect, flows, indexed, plan_for, traps_if, written}
+use Rattle.m88_isa.specs.Fields.{address, bit_field, find_bit, offset_in, scale_of, width_in, width_of}
+use Rattle.m88_isa.specs.Flow.{bit_is, class_in, word_aligned, words_away}
+use Rattle.m88_isa.specs.Lanes.{IsEnable, enable_of, word_address}
+use Rattle.m88_isa.specs.Memory.{AreWordAccesses, recorded, size_of, touches_of}
+use Rattle.m88_isa.specs.Operands.{access_count_of, accesses_of, bit_of, link_register, no_register, pair_of, register_if, writes_of}
+use Rattle.m88_isa.specs.Vector.{first_user_vector}
+use Rattle.m88_isa.specs.declared.effect.Computed.{Computed}
+use Rattle.m88_isa.specs.declared.effect.Computed.TheVariants.{Gives, Raises}
+use Rattle.m88_isa.specs.declared.effect.Inputs.{Inputs}
+use Rattle.m88_isa.specs.declared.instr.MemOp.{MemOp}
+use Rattle.m88_isa.specs.declared.instr.MemOp.TheVariants.{XmemBu, Xmem, LdHu, LdBu, LdD, Ld, LdH, LdB, StD, St, StH, StB}
+use Rattle.m88_isa.specs.declared.instr.Instr.{Instr}
+use Rattle.m88_isa.specs.declared.instr.Instr.TheVariants.{Imm, Regs, MemImm, MemReg, Lda, BitLit, BitReg, Find, Branch, BranchBit, BranchCond, Jump, TrapBit, TrapCond, BoundImm, BoundReg, Rte, Ldcr, Stcr, Xcr, Sfu}
+
+-- the enable of one byte, of a half and of a word is one of the seven
+one_byte : (place : ℕ) → (word_address place % 4 ≡ 0) × IsEnable (enable_of place 1)
+one_byte place = (
+  omega arith,
+  elim (one_of_four (place % 4) (omega arith)) [
+    | inl o ↦ subst (λ k. IsEnable (2 ^ (3 - k))) (sym o) (inr (inr (inr (inl refl))))
+    | inr (inl o) ↦ subst (λ k. IsEnable (2 ^ (3 - k))) (sym o) (inr (inr (inr (inr (inl refl)))))
+    | inr (inr (inl o)) ↦ subst (λ k. IsEnable (2 ^ (3 - k))) (sym o) (inr (inr (inr (inr (inr (inl refl))))))
+    | inr (inr (inr o)) ↦ subst (λ k. IsEnable (2 ^ (3 - k))) (sym o) (inr (inr (inr (inr (inr (inr refl))))))
+  ],
+)
+
+one_half : (place : ℕ) → (word_address place % 4 ≡ 0) × IsEnable (enable_of place 2)
+one_half place = (
+  omega arith,
+  by_test (place % 4 == 0)
+      (λ first. rw first (inr (inl refl)))
+      (λ second. rw second (inr (inr (inl refl)))),
+)
+
+one_word : (place : ℕ) → (word_address place % 4 ≡ 0) × IsEnable (enable_of place 4)
+one_word place = (omega arith, inl refl)
+
+-- every memory mnemonic makes its count of accesses to words
+are_word_accesses : (op : MemOp) (d : Reg) (value second place : ℕ) →
+    AreWordAccesses (accesses_of op) (recorded (touches_of op d value second place))
+are_word_accesses XmemBu d value second place = (refl, λ h. one_byte place, λ h. one_byte place)
+are_word_accesses Xmem d value second place = (refl, λ h. one_word place, λ h. one_word place)
+are_word_accesses LdHu d value second place = (refl, λ h. one_half place, λ h. absurd (omega (arith, h)))
+are_word_accesses LdBu d value second place = (refl, λ h. one_byte place, λ h. absurd (omega (arith, h)))
+are_word_accesses LdD d value second place = (refl, λ h. one_word place, λ h. one_word ((place + 4) % 2 ^ 32))
+are_word_accesses Ld d value second place = (refl, λ h. one_word place, λ h. absurd (omega (arith, h)))
+are_word_accesses LdH d value second place = (refl, λ h. one_half place, λ h. absurd (omega (arith, h)))
+are_word_accesses LdB d value second place = (refl, λ h. one_byte place, λ h. absurd (omega (arith, h)))
+are_word_accesses StD d value second place = (refl, λ h. one_word place, λ h. one_word ((place + 4) % 2 ^ 32))
+are_word_accesses St d value second place = (refl, λ h. one_word place, λ h. absurd (omega (arith, h)))
+are_word_accesses StH d value second place = (refl, λ h. one_half place, λ h. absurd (omega (arith, h)))
+are_word_accesses StB d value second place = (refl, λ h. one_byte place, λ h. absurd (omega (arith, h)))
+
+no_accesses : AreWordAccesses 0 (recorded [])
+no_accesses = (refl, λ h. absurd (omega (arith, h)), λ h. absurd (omega (arith, h)))
+
+-- the accesses of each kind of meaning
+accesses_make : (op : MemOp) (d : Reg) (place : ℕ) (x : Inputs) → MakesAccesses (accesses_of op) (plan_for (accesses op d place x))
+accesses_make op d place x = by_test (place % size_of op == 0)
+    (λ t. rw t (are_word_accesses op d x.d x.after_d place))
+    (λ f. rw f tt)
+
+indexed_make : (op : MemOp) (d : Reg) (scaled usr : Bool) (x : Inputs) →
+    MakesAccesses (if usr then 0 else accesses_of op) (plan_for (indexed op d scaled usr x))
+indexed_make op d scaled true x = tt
+indexed_make op d scaled false x = accesses_make op d (address x.s1 x.s2 (if scaled then size_of op else 1)) x
+
+computes_make : (d : Reg) (computed : Computed) (x : Inputs) → MakesAccesses 0 (plan_for (computes d computed x))
+computes_make d (Gives value carry) x = no_accesses
+computes_make d (Raises vector) x = tt
+
+branches_make : (taken delayed : Bool) (words : ℤ) (x : Inputs) → MakesAccesses 0 (plan_for (branches taken delayed words x))
+branches_make true delayed words x = no_accesses
+branches_make false delayed words x = no_accesses
+
+traps_make : (taken : Bool) (vector : ℕ) (x : Inputs) → MakesAccesses 0 (plan_for (traps_if taken vector x))
+traps_make true vector x = by_test (nat_lt vector first_user_vector) (λ t. rw t tt) (λ f. rw f tt)
+traps_make false vector x = no_accesses
+
+checks_make : (s t : ℕ) (x : Inputs) → MakesAccesses 0 (plan_for (checks s t x))
+checks_make s t x = by_test (nat_lt t s) (λ e. rw e tt) (λ e. rw e no_accesses)
+
+controls_make : (float : Bool) → MakesAccesses 0 (plan_for (controls float))
+controls_make true = tt
+controls_make false = tt
+
+-- a line for each form
+pub makes_accesses : (i : Instr) (x : Inputs) → MakesAccesses (access_count_of i) (plan_for (effect i x))
+makes_accesses (Imm op d s1 imm) x = computes_make d (immediate op x.carry x.s1 imm) x
+makes_accesses (Regs op d s1 s2) x = computes_make d (registers op x.carry x.s1 x.s2) x
+makes_accesses (MemImm op d s1 imm) x = accesses_make op d (address x.s1 imm 1) x
+makes_accesses (MemReg op d s1 s2 scaled usr) x = indexed_make op d scaled usr x
+makes_accesses (Lda size d s1 s2) x = no_accesses
+makes_accesses (BitLit op d s1 width offset) x = no_accesses
+makes_accesses (BitReg op d s1 s2) x = no_accesses
+makes_accesses (Find ones d s2) x = no_accesses
+makes_accesses (Branch link delayed words) x = no_accesses
+makes_accesses (BranchBit set delayed bit s1 words) x = branches_make (bit_is set bit x.s1) delayed words x
+makes_accesses (BranchCond delayed mask s1 words) x = branches_make (class_in mask x.s1) delayed words x
+makes_accesses (Jump link delayed s2) x = no_accesses
+makes_accesses (TrapBit set bit s1 vector) x = traps_make (bit_is set bit x.s1) vector x
+makes_accesses (TrapCond mask s1 vector) x = traps_make (class_in mask x.s1) vector x
+makes_accesses (BoundImm s1 imm) x = checks_make x.s1 imm x
+makes_accesses (BoundReg s1 s2) x = checks_make x.s1 x.s2 x
+makes_accesses Rte x = tt
+makes_accesses (Ldcr d cr float) x = controls_make float
+makes_accesses (Stcr s1 cr float) x = controls_make float
+makes_accesses (Xcr d s1 cr float) x = controls_make float
+makes_accesses (Sfu unit rest) x = tt
+
+-- the register of each kind of meaning is in the set
+written_within : (d after : Reg) (value : ℕ) → IfSome (written d value) (λ write. bit_at (pair_of d after) (number_of write.0) ≡ 1)
+written_within d after value = by_test (number_of d == 0)
+    (λ zero. rw zero tt)
+    (λ not_zero. let own = in_left (bit_of d) (bit_of after) (number_of d) (in_own (number_of d) not_zero) in rw not_zero (rw not_zero at own))
+
+computes_within : (d : Reg) (computed : Computed) (x : Inputs) → WritesWithin (pair_of d no_register) (plan_for (computes d computed x))
+computes_within d (Gives value carry) x = written_within d no_register value
+computes_within d (Raises vector) x = tt
+
+accesses_within : (set : ℕ) (op : MemOp) (d : Reg) (place : ℕ) (x : Inputs) → WritesWithin set (plan_for (accesses op d place x))
+accesses_within set op d place x = by_test (place % size_of op == 0) (λ t. rw t tt) (λ f. rw f tt)
+
+indexed_within : (set : ℕ) (op : MemOp) (d : Reg) (scaled usr : Bool) (x : Inputs) → WritesWithin set (plan_for (indexed op d scaled usr x))
+indexed_within set op d scaled true x = tt
+indexed_within set op d scaled false x = accesses_within set op d (address x.s1 x.s2 (if scaled then size_of op else 1)) x
+
+flows_within : (link delayed : Bool) (target : ℕ) (x : Inputs) →
+    WritesWithin (pair_of (register_if link link_register) no_register) (plan_for (flows link delayed target x))
+flows_within true delayed target x = refl
+flows_within false delayed target x = tt
+
+branches_within : (set : ℕ) (taken delayed : Bool) (words : ℤ) (x : Inputs) → WritesWithin set (plan_for (branches taken delayed words x))
+branches_within set true delayed words x = tt
+branches_within set false delayed words x = tt
+
+traps_within : (set : ℕ) (taken : Bool) (vector : ℕ) (x : Inputs) → WritesWithin set (plan_for (traps_if taken vector x))
+traps_within set true vector x = by_test (nat_lt vector first_user_vector) (λ t. rw t tt) (λ f. rw f tt)
+traps_within set false vector x = tt
+
+checks_within : (set s t : ℕ) (x : Inputs) → WritesWithin set (plan_for (checks s t x))
+checks_within set s t x = by_test (nat_lt t s) (λ e. rw e tt) (λ e. rw e tt)
+
+controls_within : (set : ℕ) (float : Bool) → WritesWithin set (plan_for (controls float))
+controls_within set true = tt
+controls_within set false = tt
+
+-- a line for each form
+pub writes_within : (i : Instr) (x : Inputs) → WritesWithin (writes_of i) (plan_for (effect i x))
+unfolding writes_of
+writes_within (Imm op d s1 imm) x = computes_within d (immediate op x.carry x.s1 imm) x
+writes_within (Regs op d s1 s2) x = computes_within d (registers op x.carry x.s1 x.s2) x
+writes_within (MemImm op d s1 imm) x = accesses_within (writes_of (MemImm op d s1 imm)) op d (address x.s1 imm 1) x
+writes_within (MemReg op d s1 s2 scaled usr) x = indexed_within (writes_of (MemReg op d s1 s2 scaled usr)) op d scaled usr x
+writes_within (Lda size d s1 s2) x = written_within d no_register (address x.s1 x.s2 (scale_of size))
+writes_within (BitLit op d s1 width offset) x = written_within d no_register (bit_field op x.s1 (width_of width) offset)
+writes_within (BitReg op d s1 s2) x = written_within d no_register (bit_field op x.s1 (width_in x.s2) (offset_in x.s2))
+writes_within (Find ones d s2) x = written_within d no_register (find_bit ones x.s2)
+writes_within (Branch link delayed words) x = flows_within link delayed (words_away x.pc words) x
+writes_within (BranchBit set delayed bit s1 words) x = branches_within (writes_of (BranchBit set delayed bit s1 words)) (bit_is set bit x.s1) delayed words x
+writes_within (BranchCond delayed mask s1 words) x = branches_within (writes_of (BranchCond delayed mask s1 words)) (class_in mask x.s1) delayed words x
+writes_within (Jump link delayed s2) x = flows_within link delayed (word_aligned x.s2) x
+writes_within (TrapBit set bit s1 vector) x = traps_within (writes_of (TrapBit set bit s1 vector)) (bit_is set bit x.s1) vector x
+writes_within (TrapCond mask s1 vector) x = traps_within (writes_of (TrapCond mask s1 vector)) (class_in mask x.s1) vector x
+writes_within (BoundImm s1 imm) x = checks_within (writes_of (BoundImm s1 imm)) x.s1 imm x
+writes_within (BoundReg s1 s2) x = checks_within (writes_of (BoundReg s1 s2)) x.s1 x.s2 x
+writes_within Rte x = tt
+writes_within (Ldcr d cr float) x = controls_within (writes_of (Ldcr d cr float)) float
+writes_within (Stcr s1 cr float) x = controls_within (writes_of (Stcr s1 cr float)) float
+writes_within (Xcr d s1 cr float) x = controls_within (writes_of (Xcr d s1 cr float)) float
+writes_within (Sfu unit rest) x = tt
