@@ -1,2 +1,5 @@
 pub mod Lines
 pub mod Values
+pub mod Fetching
+pub mod Moving
+pub mod Running

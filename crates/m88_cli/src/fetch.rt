@@ -7,7 +7,7 @@ use m88_base::Image;
 use m88_codec::word_at;
 
 /// The word at an address, where all its four bytes are there.
-fn fetch(image: &Image, pc: u32) -> Option<u32>
+pub fn fetch(image: &Image, pc: u32) -> Option<u32>
     requires { pc % 4 ≡ 0 }
     ensures { option_map (λ word. to_be_bytes w32 word) result ≡ four_bytes (byte_at image.now) pc }
 {

@@ -10,6 +10,7 @@ mod machine;
 mod numbers;
 mod outcome;
 mod report;
+mod run;
 mod source;
 mod status;
 mod words;

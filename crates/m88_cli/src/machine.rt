@@ -1,15 +1,26 @@
-ghost use Rattle.std.specs.Prelude.{◌≡◌, ◌+◌, ◌<◌, ◌≤◌, ◌%◌, ◌^◌, ◌||◌, ◌==◌, ℕ, Ok, Some, None, IfOk, OnOk, is_some, option_map};
+ghost use Rattle.std.specs.Prelude.{false, ◌≡◌, ◌+◌, ◌<◌, ◌≤◌, ◌%◌, ◌^◌, ◌||◌, ◌==◌, ℕ, Ok, Some, None, IfOk, OnOk, is_some, option_map};
 ghost use Rattle.m88_isa.specs.Effect.{meaning_of};
-ghost use Rattle.m88_isa.specs.Machine.{Program, carried_out, trapped, with_register, with_written};
-ghost use Rattle.m88_cli.specs.Machine.{IsAligned, IsAt, Makes, state_in};
-ghost use Rattle.m88_cli.specs.Timeline.{opening_moment};
+ghost use Rattle.m88_isa.specs.Machine.{Program, carried_out, step, trapped, with_register, with_written};
+ghost use Rattle.m88_cli.specs.Machine.{GoesOn, IsAligned, IsAt, IsNearer, Makes, is_over_at, left_to_do, state_in, summary_in};
+ghost use Rattle.m88_cli.specs.Loaded.{HasPlainWords, IsImageOf};
+ghost use Rattle.m88_cli.specs.Timeline.{Moment, choice_at, issue_choice, made, opening_moment};
+ghost use Rattle.m88_cli.specs.Outcome.{summary_of};
 ghost use Rattle.m88_cli.specs.Program.{IsPlain};
 
-use m88_base::Reg;
+use m88_base::{Image, Reg};
+use m88_codec::{BadWord, decode};
 use m88_isa::{Effect, Instr, Plan, plan};
 use std::alloc::{AllocError, Global};
 
-use crate::outcome::End;
+use crate::fetch::fetch;
+use crate::letter::Letter;
+use crate::outcome::{End, Outcome};
+
+/// The vector of an instruction that can't be fetched.
+const INSTRUCTION_ACCESS: u16 = 2;
+
+/// The vector of a word that is no instruction.
+const UNIMPLEMENTED: u16 = 5;
 
 /// The trap that asks the monitor for a service.
 const MONITOR_TRAP: u16 = 496;
@@ -61,12 +72,90 @@ impl Machine {
         self.ended.is_some() || self.retired == limit
     }
 
+    /// Makes the event of a letter. Nothing is ever pending, so `r` changes nothing.
+    pub fn event(&mut self, letter: Letter, image: &Image, limit: u32) -> Result<(), AllocError>
+        requires plain { HasPlainWords image.now }
+        requires aligned { IsAligned self.old }
+        requires small { limit ≤ 1000000 }
+        requires within { self.old.retired ≤ limit }
+        ensures aligned { OnOk result (IsAligned self.new) }
+        ensures within { OnOk result (self.new.retired ≤ limit) }
+        ensures moves { OnOk result ((p : Program) (m : Moment) → IsImageOf p image.now → IsAt p m self.old → IsAt p (made (choice_at p limit letter m) m) self.new) }
+        ensures nearer { OnOk result (is_over_at limit self.old ≡ false → IsNearer limit letter self.old self.new) }
+    {
+        match letter {
+            Letter::Answer => Ok(()),
+            Letter::Issue => self.issue(image, limit),
+        }
+    }
+
+    /// What a run came to that made as many events.
+    pub fn into_outcome(self, events: u64) -> Outcome
+        ensures { summary_of result ≡ summary_in self events }
+    {
+        let regs = self.regs;
+        Outcome {
+            end: self.ended.unwrap_or(End::Limit),
+            retired: self.retired,
+            regs,
+            carry: self.carry,
+            out: self.out,
+            events,
+            answers: 0,
+            faults: 0,
+        }
+    }
+
+    /// Tries to issue the next instruction of an image.
+    fn issue(&mut self, image: &Image, limit: u32) -> Result<(), AllocError>
+        requires plain { HasPlainWords image.now }
+        requires aligned { IsAligned self.old }
+        requires small { limit ≤ 1000000 }
+        requires within { self.old.retired ≤ limit }
+        ensures aligned { OnOk result (IsAligned self.new) }
+        ensures within { OnOk result (self.new.retired ≤ limit) }
+        ensures moves { OnOk result ((p : Program) (m : Moment) → IsImageOf p image.now → IsAt p m self.old → IsAt p (made (issue_choice p limit m) m) self.new) }
+        ensures nearer { OnOk result (is_over_at limit self.old ≡ false → left_to_do limit self.new < left_to_do limit self.old) }
+    {
+        if self.is_over(limit) {
+            return Ok(());
+        }
+        if self.bubble {
+            self.bubble = false;
+            return Ok(());
+        }
+        self.step(image)
+    }
+
+    /// Fetches the next instruction of an image and carries it out.
+    fn step(&mut self, image: &Image) -> Result<(), AllocError>
+        requires plain { HasPlainWords image.now }
+        requires aligned { IsAligned self.old }
+        requires room { self.old.retired < 1000000 }
+        ensures aligned { OnOk result (IsAligned self.new) }
+        ensures makes { OnOk result ((p : Program) (memory : ℕ → ℕ) → IsImageOf p image.now → Makes (step p (state_in self.old memory)) memory self.old self.new) }
+        ensures goes { OnOk result (GoesOn self.old self.new) }
+    {
+        let Some(word) = fetch(image, self.pc) else {
+            self.stop(INSTRUCTION_ACCESS);
+            return Ok(());
+        };
+        match decode(word) {
+            Ok(instr) => self.execute(&instr),
+            Err(BadWord) => {
+                self.stop(UNIMPLEMENTED);
+                Ok(())
+            }
+        }
+    }
+
     /// Carries an instruction out.
     fn execute(&mut self, instr: &Instr) -> Result<(), AllocError>
         requires plain { IsPlain instr.now }
         requires room { self.old.retired < 1000000 }
         requires aligned { IsAligned self.old }
         ensures aligned { OnOk result (IsAligned self.new) }
+        ensures goes { OnOk result (GoesOn self.old self.new) }
         ensures makes { OnOk result ((memory : ℕ → ℕ) → Makes (carried_out (meaning_of instr.now self.old.regs self.old.carry self.old.pc self.old.next) (state_in self.old memory)) memory self.old self.new) }
     {
         match plan(instr, &self.regs, self.carry, self.pc, self.next) {
@@ -97,6 +186,7 @@ impl Machine {
         requires room { self.old.retired < 1000000 }
         requires aligned { IsAligned self.old }
         ensures aligned { OnOk result (IsAligned self.new) }
+        ensures goes { OnOk result (GoesOn self.old self.new) }
         ensures makes { OnOk result ((memory : ℕ → ℕ) → Makes (trapped vector (state_in self.old memory)) memory self.old self.new) }
     {
         if vector == MONITOR_TRAP && self.regs[9] == PUT_BYTE {

@@ -1,5 +1,5 @@
 -- One more line is read: it is empty, or its instruction is kept.
-use Rattle.std.proofs.Common.{◌+◌, ◌≡◌, ◌∙◌, ap, [], ◌∷◌, length, length-append, ◌≤◌, ◌*◌, arith, sym}
+use Rattle.std.proofs.Common.{refl, ◌+◌, ◌≡◌, ◌∙◌, ap, [], ◌∷◌, length, length-append, ◌≤◌, arith, sym}
 use Rattle.std.proofs.lemmas.List.{append-nil}
 use Rattle.std.proofs.lemmas.Bool.Decides.{nat_tests}
 use Rattle.m88_cli.specs.Source.{lines_of}
@@ -12,9 +12,9 @@ loop-rest-preserved c = elim c.if-not-is_empty.branch [
   | then-not-is_empty+in-Some+in_ok-push-in-Some w ↦
     let on = reads_on c.args.source.now c.loop-rest.rest.now c.first_line.result.0.now c.first_line.result.1.now c.loop-rest.instructions.items
         (w.in-Some.instruction ∷ []) c.loop-rest.number c.first_line.ensures.lines
-        (code_line c.first_line.result.0.now (lines_of c.first_line.result.1.now) w.in-Some.instruction (sym w.read_line.ensures ∙ w.in-Some.is)) c.loop-rest.invariant.so_far in
+        (code_line c.first_line.result.0.now (lines_of c.first_line.result.1.now) w.in-Some.instruction (sym w.read_line.ensures.value ∙ w.in-Some.is)) c.loop-rest.invariant.so_far in
     let items = ap (λ v. v.items) w.instructions-is ∙ w.in_ok-push-in-Some.ensures.items in
-    let long : 4 ≤ length c.first_line.result.0.now = w.read_line.ensures.long (rw w.in-Some.is tt) in
+    let long : 4 ≤ length c.first_line.result.0.now = w.read_line.ensures.long (rw w.in-Some.is refl) in
     let more : length c.if-not-is_empty.instructions.items ≡ length c.loop-rest.instructions.items + 1 =
         ap length items ∙ length-append c.loop-rest.instructions.items (w.in-Some.instruction ∷ []) in
     record { so_far = rw items on; short = omega (arith, c.first_line.ensures.within); small = omega (arith, c.first_line.ensures.shorter) }

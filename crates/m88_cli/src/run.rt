@@ -1,0 +1,38 @@
+ghost use Rattle.std.specs.Prelude.{◌≡◌, ◌≤◌, IfOk};
+ghost use Rattle.m88_isa.specs.Machine.{Program};
+ghost use Rattle.m88_cli.specs.Loaded.{HasPlainWords, IsImageOf};
+ghost use Rattle.m88_cli.specs.Outcome.{summary_of};
+ghost use Rattle.m88_cli.specs.Timeline.{IsRunSummary, letter_at};
+
+use m88_base::Image;
+use std::alloc::{AllocError, Global};
+
+use crate::letter::Letter;
+use crate::machine::Machine;
+use crate::outcome::Outcome;
+
+/// Carries a program out, event by event, until it ends or `limit` instructions are retired.
+pub fn run(alloc: Global, image: &Image, limit: u32) -> Result<Outcome, AllocError>
+    requires plain { HasPlainWords image.now }
+    requires small { limit ≤ 1000000 }
+    ensures { IfOk result (λ o. (p : Program) → IsImageOf p image.now → IsRunSummary p limit (summary_of o)) }
+{
+    let mut machine = Machine::new(alloc, image.start());
+    let mut events: u64 = 0;
+    while !machine.is_over(limit) {
+        machine.event(letter_at(events), image, limit)?;
+        events += 1;
+    }
+    Ok(machine.into_outcome(events))
+}
+
+/// The letter of an event, counted from 0: there is no schedule, so `r` and `i` come in turn.
+fn letter_at(event: u64) -> Letter
+    ensures { result ≡ letter_at event }
+{
+    if event % 2 == 0 {
+        Letter::Answer
+    } else {
+        Letter::Issue
+    }
+}
