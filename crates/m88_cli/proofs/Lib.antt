@@ -3,3 +3,4 @@ pub mod Values
 pub mod Fetching
 pub mod Moving
 pub mod Running
+pub mod Loading

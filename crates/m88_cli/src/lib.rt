@@ -6,6 +6,7 @@ mod choice;
 mod digits;
 mod fetch;
 mod letter;
+mod load;
 mod machine;
 mod numbers;
 mod outcome;

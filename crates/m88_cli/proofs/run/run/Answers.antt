@@ -1,8 +1,6 @@
 -- The machine goes from moment to moment.
-use Rattle.std.proofs.Common.{◌≡◌, ◌≤◌, ◌<◌, ◌+◌, ◌*◌, ◌%◌, ℕ, false, arith, below_more, subst, sym, ◌∙◌}
-use Rattle.m88_isa.specs.Machine.{Program}
-use Rattle.m88_cli.specs.Loaded.{IsImageOf}
-use Rattle.m88_cli.specs.Machine.{IsAt, is_over_at, left_to_do}
+use Rattle.std.proofs.Common.{◌≡◌, false, arith, below_more, subst, sym, ◌∙◌}
+use Rattle.m88_cli.specs.Machine.{IsAt, is_over_at}
 use Rattle.m88_cli.specs.Timeline.{choice_at, is_over, made, moment}
 use Rattle.m88_cli.proofs.Running.{at_next, at_start, left_most, nearer_by_one, over_at, ran}
 use Rattle.m88_cli.proofs.run.run.Goals as goal
