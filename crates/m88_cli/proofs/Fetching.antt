@@ -1,10 +1,10 @@
 -- What a machine fetches from an image against the step of the program that the image holds.
-use Rattle.std.proofs.Common.{◌≡◌, ℕ, ◌+◌, ◌%◌, ◌^◌, ◌<◌, List, Option, Some, None, refl, ap, sym, ◌∙◌, subst}
+use Rattle.std.proofs.Common.{◌≡◌, ℕ, ◌+◌, ◌%◌, ◌^◌, ◌<◌, Option, Some, None, refl, ap}
 use Rattle.std.specs.Prelude.{MatchOption}
 use Rattle.std.specs.Int.{to_be_bytes, w32}
 use Rattle.m88_base.specs.Image.{ProgramImage, byte_at}
 use Rattle.m88_isa.specs.Effect.{meaning_of}
-use Rattle.m88_isa.specs.Machine.{Program, State, carried_out, four_bytes, step, word_bytes}
+use Rattle.m88_isa.specs.Machine.{Program, State, carried_out, four_bytes, step}
 use Rattle.m88_isa.specs.Word.{IsWord}
 use Rattle.m88_isa.specs.declared.instr.Instr.{Instr}
 use Rattle.m88_cli.specs.Loaded.{IsImageOf}

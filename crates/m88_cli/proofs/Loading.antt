@@ -1,16 +1,16 @@
 -- The bytes of the words of instructions one behind the other, and the program that they are.
-use Rattle.std.proofs.Common.{◌≡◌, ℕ, zero, suc, ◌+◌, ◌-◌, ◌*◌, ◌/◌, ◌%◌, ◌^◌, ◌<◌, ◌≤◌, List, [], ◌∷◌, ◌++◌, Option, Some, None, length, refl, ap, sym, ◌∙◌, arith, subst, inl, inr, ◌⊎◌}
-use Rattle.std.specs.Prelude.{MatchOption, option_map, slice_get, All, true, false, nat_le, ◌==◌, if◌then◌else◌}
+use Rattle.std.proofs.Common.{◌≡◌, ℕ, zero, suc, ◌+◌, ◌-◌, ◌*◌, ◌/◌, ◌%◌, ◌^◌, ◌<◌, ◌≤◌, List, [], ◌∷◌, Option, Some, None, length, refl, ap, sym, ◌∙◌, arith, subst, inl, inr, ◌⊎◌}
+use Rattle.std.specs.Prelude.{MatchOption, option_map, slice_get, All, true, false, nat_le, ◌==◌}
 use Rattle.m88_base.specs.Found.{IsLeastTaken, PutsBytes}
 use Rattle.m88_base.specs.Image.{ProgramImage, byte_at}
-use Rattle.m88_isa.specs.Machine.{Program, four_bytes, word_bytes}
+use Rattle.m88_isa.specs.Machine.{four_bytes, word_bytes}
 use Rattle.m88_isa.specs.Word.{IsWord}
 use Rattle.m88_cli.specs.Loaded.{HasPlainWords, IsImageOf}
 use Rattle.m88_cli.specs.Program.{instruction_over, program_of, text_base}
 use Rattle.std.proofs.Common.{inl, inr}
 use Rattle.std.proofs.lemmas.Bool.{cases_lt}
 use Rattle.std.proofs.lemmas.Bool.Decides.{nat_tests}
-use Rattle.std.proofs.lemmas.Option.{slice_get_past, slice_get_within}
+use Rattle.std.proofs.lemmas.Option.{slice_get_past}
 use Rattle.std.specs.List.{flat_map}
 use Rattle.std.specs.Option.{option_and_then}
 use Rattle.std.specs.Int.{from_be_bytes, to_be_bytes, w32}

@@ -1,9 +1,9 @@
 -- A machine that stands at a moment, and makes a step, stands at the next.
-use Rattle.std.proofs.Common.{◌≡◌, ℕ, suc, ◌+◌, ◌==◌, ◌||◌, Bool, true, false, Option, Some, None, add-one, refl, ap, sym, ◌∙◌, subst}
+use Rattle.std.proofs.Common.{◌≡◌, ℕ, ◌+◌, ◌==◌, ◌||◌, Bool, true, false, Option, Some, None, add-one, refl, ap, sym, ◌∙◌, subst}
 use Rattle.std.specs.Prelude.{MatchOption, is_some, if◌then◌else◌}
 use Rattle.m88_isa.specs.Machine.{Program, State, Step, ends, on, opening, state, step}
 use Rattle.m88_cli.specs.Machine.{IsAt, Makes, is_over_at, state_in}
-use Rattle.m88_cli.specs.Timeline.{Choice, Moment, idles, passes, choice_of_step, end_of_step, is_over, issue_choice, made}
+use Rattle.m88_cli.specs.Timeline.{Choice, Moment, idles, passes, choice_of_step, is_over, issue_choice, made}
 use Rattle.m88_cli.specs.declared.machine.Machine.{Machine}
 use Rattle.m88_cli.specs.declared.outcome.End.{End}
 

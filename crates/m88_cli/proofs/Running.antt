@@ -1,11 +1,10 @@
 -- The moments of a run, one after the other, and the machine that stands at each of them.
-use Rattle.std.proofs.Common.{◌≡◌, ℕ, zero, suc, ◌+◌, ◌*◌, ◌-◌, ◌%◌, ◌≤◌, ◌<◌, ◌==◌, ◌||◌, ◌≢◌, Bool, true, false, Option, Some, None, add-one, refl, ap, sym, ◌∙◌, arith, below_more}
+use Rattle.std.proofs.Common.{◌≡◌, ℕ, zero, suc, ◌+◌, ◌*◌, ◌%◌, ◌≤◌, ◌<◌, ◌==◌, ◌≢◌, Bool, true, false, Option, Some, None, add-one, refl, ap, sym, ◌∙◌, arith}
 use Rattle.std.specs.Prelude.{MatchOption, if◌then◌else◌, is_some, unwrap_or}
 use Rattle.std.proofs.lemmas.Bool.Decides.{nat_tests}
-use Rattle.m88_isa.specs.Machine.{Program, State, opening, state, step}
-use Rattle.m88_cli.specs.Machine.{IsAt, IsNearer, is_over_at, left_to_do, state_in, summary_in}
-use Rattle.m88_cli.specs.Report.{Summary}
-use Rattle.m88_cli.specs.Timeline.{Choice, IsRun, IsRunSummary, Moment, choice_at, counted_event, end_of_step, finishes, idles, is_over, letter_at, made, moment, opening_moment, passes, retires, summary_at}
+use Rattle.m88_isa.specs.Machine.{Program, State, state, step}
+use Rattle.m88_cli.specs.Machine.{IsAt, IsNearer, is_over_at, left_to_do, summary_in}
+use Rattle.m88_cli.specs.Timeline.{Choice, IsRunSummary, Moment, choice_at, counted_event, end_of_step, finishes, idles, is_over, letter_at, made, moment, opening_moment, passes, retires, summary_at}
 use Rattle.m88_cli.specs.declared.letter.Letter.TheVariants.{Issue, Answer}
 use Rattle.m88_cli.specs.declared.machine.Machine.{Machine}
 use Rattle.m88_cli.specs.declared.outcome.End.{End}

@@ -10,3 +10,5 @@ pub mod Command
 pub mod Words
 pub mod Status
 pub mod Loaded
+pub mod Answer
+pub mod Calls

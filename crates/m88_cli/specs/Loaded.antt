@@ -1,5 +1,5 @@
 -- Images and the programs that they hold.
-use Rattle.std.specs.Prelude.{ℕ, ◌≡◌, ◌%◌, ◌^◌, ◌<◌, Option, Some, None, MatchOption}
+use Rattle.std.specs.Prelude.{ℕ, ◌≡◌, ◌%◌, ◌^◌, ◌<◌, Some, MatchOption}
 use Rattle.std.specs.Int.{to_be_bytes, w32}
 use Rattle.m88_base.specs.Image.{ProgramImage, byte_at}
 use Rattle.m88_isa.specs.Machine.{Program, four_bytes}

@@ -1,6 +1,6 @@
 -- The program that a source places in memory: its instructions one behind the other from 0x00001000 on, four bytes
 -- each, the highest byte first. It starts there.
-use Rattle.std.specs.Prelude.{ℕ, ◌-◌, ◌*◌, ◌/◌, ◌%◌, ◌^◌, ◌<◌, ◌==◌, List, Option, None, nat_le, slice_get, if◌then◌else◌}
+use Rattle.std.specs.Prelude.{ℕ, ◌-◌, ◌/◌, ◌%◌, ◌^◌, ◌<◌, ◌==◌, List, Option, None, nat_le, slice_get, if◌then◌else◌}
 use Rattle.std.specs.Option.{option_and_then}
 use Rattle.std.specs.Int.{to_be_bytes, w32}
 use Rattle.m88_isa.specs.Machine.{Program}

@@ -2,7 +2,7 @@
 --     or rD,rS1,N      N is 0 to 65535
 --     tb0 B,rS1,V      B is 0 to 31, V is 0 to 511
 -- Exactly one blank stands behind the mnemonic and none elsewhere. Every other line is refused.
-use Rattle.std.specs.Prelude.{◌*◌, ◌≤◌, ℕ, ◌+◌, List, [], ◌∷◌, Bool, true, false, ◌≡◌, nat_eq, option_map, Option, None, ◌==◌, ◌||◌, is_some, length, drop, filter_map, slice_index, codes, option_and_then, if◌then◌else◌}
+use Rattle.std.specs.Prelude.{All, ◌*◌, ◌≤◌, ℕ, ◌+◌, List, [], ◌∷◌, Bool, true, false, ◌≡◌, nat_eq, option_map, Option, None, ◌==◌, ◌||◌, is_some, length, drop, filter_map, slice_index, codes, option_and_then, if◌then◌else◌}
 use Rattle.std.specs.List.{list_all, prefix_len, before_first, after_first, starts_with}
 use Rattle.m88_base.specs.Reg.{reg_of}
 use Rattle.m88_isa.specs.declared.instr.Instr.{Instr}
@@ -11,6 +11,7 @@ use Rattle.m88_isa.specs.declared.instr.ImmOp.TheVariants.{Or}
 use Rattle.m88_base.specs.declared.reg.Reg.{Reg}
 use Rattle.m88_cli.specs.declared.source.Reading.{Reading}
 use Rattle.m88_cli.specs.declared.source.Reading.TheVariants.{Accepted, Refused}
+use Rattle.m88_cli.specs.Program.{IsPlain}
 use Rattle.m88_cli.specs.Numbers.{decimal_number, plain_number}
 
 -- a byte at the front of the first line
@@ -86,3 +87,8 @@ Reads source (Refused line) = (is_accepted source ≡ false) × (line ≡ first_
 abbrev pub FitsSource : List ℕ → Reading → Type 0
 FitsSource source (Accepted v) = 4 * length v.items ≤ length source
 FitsSource source (Refused line) = Unit {0}
+
+-- each instruction of a source is one that a source may have
+abbrev pub HasPlain : Reading → Type 0
+HasPlain (Accepted v) = All IsPlain v.items
+HasPlain (Refused line) = Unit {0}

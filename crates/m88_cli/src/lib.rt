@@ -5,15 +5,19 @@
 mod choice;
 mod digits;
 mod fetch;
+mod job;
 mod letter;
 mod load;
 mod machine;
 mod numbers;
 mod outcome;
+mod program;
+mod refusal;
 mod report;
 mod run;
 mod source;
 mod status;
 mod words;
 
+pub use program::{MOST_INPUT, m88};
 pub use status::Status;

@@ -1,6 +1,7 @@
-ghost use Rattle.std.specs.Prelude.{◌≡◌, ◌∷◌, ◌<◌, ◌^◌, ◌≤◌, ◌+◌, ◌==◌, IfOk, IsSome, length};
+ghost use Rattle.std.specs.Prelude.{◌≡◌, ◌∷◌, ◌<◌, ◌^◌, ◌≤◌, ◌+◌, ◌==◌, IfOk, IfSome, IsSome, length};
 ghost use Rattle.std.specs.List.{after_first, before_first, position_or_len};
-ghost use Rattle.m88_cli.specs.Source.{FitsSource, Reads, first_operand, instruction_of, is_comma, lines_of, or_of, register_named, second_operand, tb0_of, third_operand};
+ghost use Rattle.m88_cli.specs.Source.{FitsSource, HasPlain, Reads, first_operand, instruction_of, is_comma, lines_of, or_of, register_named, second_operand, tb0_of, third_operand};
+ghost use Rattle.m88_cli.specs.Program.{IsPlain};
 
 use m88_base::Reg;
 use m88_isa::{ImmOp, Instr};
@@ -20,6 +21,7 @@ pub fn read_source(alloc: Global, source: &[u8]) -> Result<Reading, AllocError>
     requires { length source.now < 2 ^ 31 }
     ensures reads { IfOk result (Reads source.now) }
     ensures short { IfOk result (FitsSource source.now) }
+    ensures plain { IfOk result HasPlain }
 {
     let mut instructions = Vec::new(alloc);
     let mut number: u32 = 1;
@@ -56,6 +58,7 @@ fn first_line(bytes: &[u8]) -> (&[u8], &[u8])
 /// The instruction of a line.
 fn read_line(line: &[u8]) -> Option<Instr>
     ensures value { result ≡ instruction_of line.now }
+    ensures plain { IfSome result IsPlain }
     ensures long { IsSome result → 4 ≤ length line.now }
 {
     if line.starts_with(b"or ") {
@@ -70,6 +73,7 @@ fn read_line(line: &[u8]) -> Option<Instr>
 /// `or` of the operands `rD,rS1,N`.
 fn read_or(text: &[u8]) -> Option<Instr>
     ensures value { result ≡ or_of text.now }
+    ensures plain { IfSome result IsPlain }
     ensures long { IsSome result → 0 < length text.now }
 {
     let (first, second, third) = operands(text);
@@ -87,6 +91,7 @@ fn read_or(text: &[u8]) -> Option<Instr>
 /// `tb0` of the operands `B,rS1,V`.
 fn read_tb0(text: &[u8]) -> Option<Instr>
     ensures value { result ≡ tb0_of text.now }
+    ensures plain { IfSome result IsPlain }
     ensures long { IsSome result → 0 < length text.now }
 {
     let (first, second, third) = operands(text);

@@ -1,5 +1,5 @@
 ghost use Rattle.std.specs.Prelude.{◌≡◌, ◌≤◌, IfSome};
-ghost use Rattle.m88_cli.specs.Command.{command_of, limit_of, most_limit};
+ghost use Rattle.m88_cli.specs.Command.{IsWithinLimit, command_of, limit_of, most_limit};
 ghost use Rattle.m88_cli.specs.Words.{texts};
 
 use crate::choice::Command;
@@ -7,7 +7,8 @@ use crate::numbers::number_in;
 
 /// The command that the words spell, or None where they are outside the grammar.
 pub fn command(words: &[String]) -> Option<Command>
-    ensures { result ≡ command_of (texts words.now) }
+    ensures value { result ≡ command_of (texts words.now) }
+    ensures limit { IfSome result IsWithinLimit }
 {
     match words {
         [name, limit, absent, schedule]

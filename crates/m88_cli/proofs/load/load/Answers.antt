@@ -1,6 +1,6 @@
 -- The image has the words of the instructions and nothing else, and they are few enough for it.
-use Rattle.std.proofs.Common.{◌≡◌, ◌∙◌, ap, Err}
-use Rattle.m88_cli.proofs.Loading.{few_enough, image_of, none_taken, plain_words}
+use Rattle.std.proofs.Common.{◌∙◌, ap, Err}
+use Rattle.m88_cli.proofs.Loading.{few_enough, image_of, plain_words}
 use Rattle.m88_cli.proofs.load.load.Goals as goal
 
 pub returns-in-Ok-add-clause-program : goal.returns-in-Ok-add-clause-program

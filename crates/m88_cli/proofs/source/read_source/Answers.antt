@@ -2,6 +2,8 @@
 use Rattle.std.proofs.Common.{refl, ◌+◌, ◌≡◌, ◌∙◌, ap, [], ◌∷◌, length, length-append, ◌≤◌, arith, sym}
 use Rattle.std.proofs.lemmas.List.{append-nil}
 use Rattle.std.proofs.lemmas.Bool.Decides.{nat_tests}
+use Rattle.std.proofs.lemmas.List.Elements.{All-push}
+use Rattle.m88_cli.specs.Program.{IsPlain}
 use Rattle.m88_cli.specs.Source.{lines_of}
 use Rattle.m88_cli.proofs.Lines.{blank_line, code_line, reads_on}
 use Rattle.m88_cli.proofs.source.read_source.Goals as goal
@@ -17,7 +19,7 @@ loop-rest-preserved c = elim c.if-not-is_empty.branch [
     let long : 4 ≤ length c.first_line.result.0.now = w.read_line.ensures.long (rw w.in-Some.is refl) in
     let more : length c.if-not-is_empty.instructions.items ≡ length c.loop-rest.instructions.items + 1 =
         ap length items ∙ length-append c.loop-rest.instructions.items (w.in-Some.instruction ∷ []) in
-    record { so_far = rw items on; short = omega (arith, c.first_line.ensures.within); small = omega (arith, c.first_line.ensures.shorter) }
+    record { so_far = rw items on; plain = rw items (All-push IsPlain c.loop-rest.instructions.items w.in-Some.instruction c.loop-rest.invariant.plain w.in-Some.ensures.plain); short = omega (arith, c.first_line.ensures.within); small = omega (arith, c.first_line.ensures.shorter) }
   | else-not-is_empty w ↦
     let empty : length c.first_line.result.0.now ≡ 0 = grind (arith, nat_tests) in
     let on = reads_on c.args.source.now c.loop-rest.rest.now c.first_line.result.0.now c.first_line.result.1.now c.loop-rest.instructions.items
@@ -25,5 +27,5 @@ loop-rest-preserved c = elim c.if-not-is_empty.branch [
         (blank_line c.first_line.result.0.now (lines_of c.first_line.result.1.now) empty) c.loop-rest.invariant.so_far in
     let items = ap (λ v. v.items) w.instructions-is ∙ sym (append-nil c.loop-rest.instructions.items) in
     let same : length c.if-not-is_empty.instructions.items ≡ length c.loop-rest.instructions.items = ap (λ v. length v.items) w.instructions-is in
-    record { so_far = rw items on; short = omega (arith, c.first_line.ensures.within); small = omega (arith, c.first_line.ensures.shorter) }
+    record { so_far = rw items on; plain = rw (ap (λ v. v.items) w.instructions-is) c.loop-rest.invariant.plain; short = omega (arith, c.first_line.ensures.within); small = omega (arith, c.first_line.ensures.shorter) }
 ]

@@ -1,0 +1,16 @@
+ghost use Rattle.std.specs.Prelude.{◌≡◌, ◌++◌, IfOk, codes, decimal};
+ghost use Rattle.m88_cli.specs.Report.{line_end};
+
+use std::alloc::{AllocError, Global};
+
+use crate::report::push_decimal;
+
+/// The line that refuses a source because of a line of another form.
+pub fn refusal(alloc: Global, line: u32) -> Result<Vec<u8>, AllocError>
+    ensures { IfOk result (λ text. text.items ≡ codes "refused " ++ decimal line ++ codes ":1 form" ++ line_end) }
+{
+    let mut text = Vec::from_slice(alloc, b"refused ")?;
+    push_decimal(&mut text, u64::from(line))?;
+    text.extend_from_slice(b":1 form\n")?;
+    Ok(text)
+}
