@@ -4,3 +4,4 @@ pub mod Fetching
 pub mod Moving
 pub mod Running
 pub mod Loading
+pub mod Whole
