@@ -195,10 +195,10 @@ fn registers_and_carry(rt: HostRuntime) {
 #[test]
 fn single_accesses(rt: HostRuntime) {
     let loads = [
-        (0x0B0FDE21, 0x0000FFFF, 0, 0x0001DE20, 2), // ld.hu r24,r15,56865
+        (0x0B0FDE21, 0xFFFF, 0, 0x0001DE20, 2), // ld.hu r24,r15,56865
         (0xF7E20803, 0x43A9B9A0, 0x80000000, 0xC3A9B9A0, 2), // ld.hu r31,r2,r3
         (0x0FF00041, 0, 0, 0x00000041, 1), // ld.bu r31,r16,65
-        (0xF51A0C07, 0x00000020, 0x7FFFFFF8, 0x80000018, 1), // ld.bu r8,r26,r7
+        (0xF51A0C07, 0x20, 0x7FFFFFF8, 0x80000018, 1), // ld.bu r8,r26,r7
         (0x142B7A90, 0x80000000, 0, 0x80007A90, 4), // ld r1,r11,31376
         (0xF7C01411, 0, 0x80000000, 0x80000000, 4), // ld r30,r0,r17
     ];
@@ -211,10 +211,10 @@ fn single_accesses(rt: HostRuntime) {
         );
     }
     let signed_loads = [
-        (0xF7A21801, 0x00000008, 0x00005002, 0x0000500A, 2), // ld.h r29,r2,r1
-        (0xF6161A13, 0x80000000, 0x00000001, 0x80000002, 2), // ld.h r16,r22[r19]
+        (0xF7A21801, 0x8, 0x5002, 0x0000500A, 2), // ld.h r29,r2,r1
+        (0xF6161A13, 0x80000000, 0x1, 0x80000002, 2), // ld.h r16,r22[r19]
         (0x1D9E1F9F, 0x771BD683, 0, 0x771BF622, 1), // ld.b r12,r30,8095
-        (0xF4141C02, 0x00000008, 0xE96E3A58, 0xE96E3A60, 1), // ld.b r0,r20,r2
+        (0xF4141C02, 0x8, 0xE96E3A58, 0xE96E3A60, 1), // ld.b r0,r20,r2
     ];
     for (word, s1, s2, place, size) in signed_loads {
         let regs = registers(word, s1, s2, 0, 0);
@@ -230,12 +230,10 @@ fn single_accesses(rt: HostRuntime) {
     let stores = [
         (0x245FF8A4, 0x80000000, 0, 0xFFFFFFFF, 0x8000F8A4, 4), // st r2,r31,63652
         (0xF7CC2407, 0x8E5A5158, 0, 0xFFFFFFF8, 0x8E5A5158, 4), // st r30,r12,r7
-        (0x2910BF10, 0x00000008, 0, 0xED36717F, 0xBF18, 2), // st.h r8,r16,48912
-        (
-            0xF5B52810, 0xB09357E4, 0x000003E0, 0x12345678, 0xB0935BC4, 2,
-        ), // st.h r13,r21,r16
-        (0x2F957FFF, 0, 0, 0x09E5BC38, 0x7FFF, 1), // st.b r28,r21,32767
-        (0xF6C92C08, 0x00005001, 0x00000002, 0x6E030A73, 0x5003, 1), // st.b r22,r9,r8
+        (0x2910BF10, 0x8, 0, 0xED36717F, 0xBF18, 2), // st.h r8,r16,48912
+        (0xF5B52810, 0xB09357E4, 0x3E0, 0x12345678, 0xB0935BC4, 2), // st.h r13,r21,r16
+        (0x2F957FFF, 0, 0, 0x9E5BC38, 0x7FFF, 1), // st.b r28,r21,32767
+        (0xF6C92C08, 0x5001, 0x2, 0x6E030A73, 0x5003, 1), // st.b r22,r9,r8
     ];
     for (word, s1, s2, d, place, size) in stores {
         let regs = registers(word, s1, s2, d, 0);
@@ -250,7 +248,7 @@ fn single_accesses(rt: HostRuntime) {
 #[test]
 fn double_words_and_exchanges(rt: HostRuntime) {
     let loads = [
-        (0xF4251019, 0x00000008, 0x00005000, 0x00005008, 0x0000500C), // ld.d r1,r5,r25
+        (0xF4251019, 0x8, 0x5000, 0x00005008, 0x0000500C), // ld.d r1,r5,r25
         (0xF7F4120C, 0, 0, 0, 0x00000004), // ld.d r31,r20[r12]
     ];
     for (word, s1, s2, place, second_place) in loads {
@@ -267,9 +265,9 @@ fn double_words_and_exchanges(rt: HostRuntime) {
     }
     let stores = [
         (
-            0xF6592002, 0x00005000, 0x80000000, 0xEBF0E3F0, 0x94913A40, 0x80005000,
+            0xF6592002, 0x5000, 0x80000000, 0xEBF0E3F0, 0x94913A40, 0x80005000,
         ), // st.d r18,r25,r2
-        (0xF6FF2200, 0x00000008, 0, 0x00000020, 0x000003E0, 0x8), // st.d r23,r31[r0]
+        (0xF6FF2200, 0x8, 0, 0x20, 0x3E0, 0x8), // st.d r23,r31[r0]
     ];
     for (word, s1, s2, d, after_d, place) in stores {
         let regs = registers(word, s1, s2, d, after_d);
@@ -284,14 +282,10 @@ fn double_words_and_exchanges(rt: HostRuntime) {
         );
     }
     let exchanges = [
-        (0x0053DE1F, 0x00005002, 0, 0x0000001F, 0x12E21, 1), // xmem.bu r2,r19,56863
-        (
-            0xF4210014, 0x00010000, 0xC9A85577, 0x00010000, 0xC9A95577, 1,
-        ), // xmem.bu r1,r1,r20
+        (0x0053DE1F, 0x5002, 0, 0x1F, 0x12E21, 1), // xmem.bu r2,r19,56863
+        (0xF4210014, 0x10000, 0xC9A85577, 0x10000, 0xC9A95577, 1), // xmem.bu r1,r1,r20
         (0x059E5CC9, 0x7FFFFFFF, 0, 0xFFFFFFFE, 0x80005CC8, 4), // xmem r12,r30,23753
-        (
-            0xF7E3040B, 0x80000000, 0x00000018, 0x00000018, 0x80000018, 4,
-        ), // xmem r31,r3,r11
+        (0xF7E3040B, 0x80000000, 0x18, 0x18, 0x80000018, 4), // xmem r31,r3,r11
     ];
     for (word, s1, s2, d, place, size) in exchanges {
         let regs = registers(word, s1, s2, d, 0);
