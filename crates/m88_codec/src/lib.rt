@@ -7,6 +7,8 @@ mod bytes;
 mod candidate;
 mod codes;
 mod decoder;
+#[cfg(test)]
+mod effect_tests;
 mod encoder;
 #[cfg(test)]
 mod tests;

@@ -1,18 +1,19 @@
 -- What the plans of all instructions have in common: their accesses, the register that they write, their traps.
-use Rattle.std.specs.Prelude.{ℕ, ℤ, Bool, true, false, IfSome, [], ◌≡◌, ◌+◌, ◌%◌, ◌-◌, ◌^◌, ◌==◌, nat_lt, if◌then◌else◌}
+use Rattle.std.specs.Prelude.{ℕ, ℤ, Bool, true, false, IfSome, [], ◌≡◌, ◌+◌, ◌%◌, ◌-◌, ◌^◌, ◌==◌, nat_lt, if◌then◌else◌, List, not, ◌&&◌}
 use Rattle.std.specs.Int.{bit_at}
 use Rattle.std.proofs.Common.{arith, refl, sym, subst, inl, inr}
+use Rattle.std.proofs.lemmas.Bool.{eqb-true}
 use Rattle.m88_base.specs.declared.reg.Reg.{Reg}
 use Rattle.m88_base.specs.Reg.{number_of}
 use Rattle.m88_isa.proofs.Alone.{by_test, in_left, in_own}
 use Rattle.m88_isa.proofs.TouchedBytes.{one_of_four}
 use Rattle.m88_isa.specs.Compute.{immediate, registers}
-use Rattle.m88_isa.specs.Effect.{MakesAccesses, WritesWithin, accesses, branches, checks, computes, controls, effect, flows, indexed, plan_for, traps_if, written}
+use Rattle.m88_isa.specs.Effect.{AreAligned, MakesAccesses, TouchesAligned, WritesWithin, accesses, branches, checks, computes, controls, effect, flows, indexed, inputs_of, meaning_of, plan_for, traps_if, written}
 use Rattle.m88_isa.specs.Fields.{address, bit_field, find_bit, offset_in, scale_of, width_in, width_of}
-use Rattle.m88_isa.specs.Flow.{bit_is, class_in, word_aligned, words_away}
+use Rattle.m88_isa.specs.Flow.{bit_is, class_in, word_aligned, words_away, after_bytes}
 use Rattle.m88_isa.specs.Lanes.{IsEnable, enable_of, word_address}
 use Rattle.m88_isa.specs.Memory.{AreWordAccesses, recorded, size_of, touches_of}
-use Rattle.m88_isa.specs.Operands.{access_count_of, accesses_of, bit_of, link_register, no_register, pair_of, register_if, writes_of}
+use Rattle.m88_isa.specs.Operands.{access_count_of, accesses_of, bit_of, link_register, no_register, pair_of, register_if, writes_of, is_flow}
 use Rattle.m88_isa.specs.Vector.{first_user_vector}
 use Rattle.m88_isa.specs.declared.effect.Computed.{Computed}
 use Rattle.m88_isa.specs.declared.effect.Computed.TheVariants.{Gives, Raises}
@@ -179,3 +180,77 @@ writes_within (Ldcr d cr float) x = controls_within (writes_of (Ldcr d cr float)
 writes_within (Stcr s1 cr float) x = controls_within (writes_of (Stcr s1 cr float)) float
 writes_within (Xcr d s1 cr float) x = controls_within (writes_of (Xcr d s1 cr float)) float
 writes_within (Sfu unit rest) x = tt
+
+-- the accesses of a memory mnemonic at a multiple of its size are aligned
+aligned_touches : (op : MemOp) (d : Reg) (value second place : ℕ) →
+    place % size_of op ≡ 0 →
+    AreAligned (touches_of op d value second place)
+aligned_touches XmemBu d value second place h = (inl refl, (inl refl, tt))
+aligned_touches Xmem d value second place h = (inr (inr (refl, h)), (inr (inr (refl, h)), tt))
+aligned_touches LdHu d value second place h = (inr (inl (refl, h)), tt)
+aligned_touches LdBu d value second place h = (inl refl, tt)
+aligned_touches LdD d value second place h = (inr (inr (refl, omega (arith, h))), (inr (inr (refl, omega (arith, h))), tt))
+aligned_touches Ld d value second place h = (inr (inr (refl, h)), tt)
+aligned_touches LdH d value second place h = (inr (inl (refl, h)), tt)
+aligned_touches LdB d value second place h = (inl refl, tt)
+aligned_touches StD d value second place h = (inr (inr (refl, omega (arith, h))), (inr (inr (refl, omega (arith, h))), tt))
+aligned_touches St d value second place h = (inr (inr (refl, h)), tt)
+aligned_touches StH d value second place h = (inr (inl (refl, h)), tt)
+aligned_touches StB d value second place h = (inl refl, tt)
+
+computes_aligned : (d : Reg) (computed : Computed) (x : Inputs) → TouchesAligned (computes d computed x)
+computes_aligned d (Gives value carry) x = tt
+computes_aligned d (Raises vector) x = tt
+
+accesses_aligned : (op : MemOp) (d : Reg) (place : ℕ) (x : Inputs) → TouchesAligned (accesses op d place x)
+accesses_aligned op d place x = by_test (place % size_of op == 0)
+    (λ t. rw t (aligned_touches op d x.d x.after_d place (eqb-true (place % size_of op) 0 t)))
+    (λ f. rw f tt)
+
+indexed_aligned : (op : MemOp) (d : Reg) (scaled usr : Bool) (x : Inputs) → TouchesAligned (indexed op d scaled usr x)
+indexed_aligned op d scaled true x = tt
+indexed_aligned op d scaled false x = accesses_aligned op d (address x.s1 x.s2 (if scaled then size_of op else 1)) x
+
+branches_aligned : (taken delayed : Bool) (words : ℤ) (x : Inputs) → TouchesAligned (branches taken delayed words x)
+branches_aligned true delayed words x = tt
+branches_aligned false delayed words x = tt
+
+traps_aligned : (taken : Bool) (vector : ℕ) (x : Inputs) → TouchesAligned (traps_if taken vector x)
+traps_aligned true vector x = by_test (nat_lt vector first_user_vector) (λ t. rw t tt) (λ f. rw f tt)
+traps_aligned false vector x = tt
+
+checks_aligned : (s t : ℕ) (x : Inputs) → TouchesAligned (checks s t x)
+checks_aligned s t x = by_test (nat_lt t s) (λ e. rw e tt) (λ e. rw e tt)
+
+controls_aligned : (float : Bool) → TouchesAligned (controls float)
+controls_aligned true = tt
+controls_aligned false = tt
+
+-- a line for each form
+effect_aligned : (i : Instr) (x : Inputs) → TouchesAligned (effect i x)
+effect_aligned (Imm op d s1 imm) x = computes_aligned d (immediate op x.carry x.s1 imm) x
+effect_aligned (Regs op d s1 s2) x = computes_aligned d (registers op x.carry x.s1 x.s2) x
+effect_aligned (MemImm op d s1 imm) x = accesses_aligned op d (address x.s1 imm 1) x
+effect_aligned (MemReg op d s1 s2 scaled usr) x = indexed_aligned op d scaled usr x
+effect_aligned (Lda size d s1 s2) x = tt
+effect_aligned (BitLit op d s1 width offset) x = tt
+effect_aligned (BitReg op d s1 s2) x = tt
+effect_aligned (Find ones d s2) x = tt
+effect_aligned (Branch link delayed words) x = tt
+effect_aligned (BranchBit set delayed bit s1 words) x = branches_aligned (bit_is set bit x.s1) delayed words x
+effect_aligned (BranchCond delayed mask s1 words) x = branches_aligned (class_in mask x.s1) delayed words x
+effect_aligned (Jump link delayed s2) x = tt
+effect_aligned (TrapBit set bit s1 vector) x = traps_aligned (bit_is set bit x.s1) vector x
+effect_aligned (TrapCond mask s1 vector) x = traps_aligned (class_in mask x.s1) vector x
+effect_aligned (BoundImm s1 imm) x = checks_aligned x.s1 imm x
+effect_aligned (BoundReg s1 s2) x = checks_aligned x.s1 x.s2 x
+effect_aligned Rte x = tt
+effect_aligned (Ldcr d cr float) x = controls_aligned float
+effect_aligned (Stcr s1 cr float) x = controls_aligned float
+effect_aligned (Xcr d s1 cr float) x = controls_aligned float
+effect_aligned (Sfu unit rest) x = tt
+
+pub touches_aligned : (i : Instr) (regs : List ℕ) (carry : Bool) (pc next : ℕ) → TouchesAligned (meaning_of i regs carry pc next)
+touches_aligned i regs carry pc next = by_test (is_flow i && not (next == after_bytes pc 4))
+    (λ t. rw t tt)
+    (λ f. rw f (effect_aligned i (inputs_of i regs carry pc next)))

@@ -1,13 +1,14 @@
 -- What every instruction does, a line for each form ("Instruction Set"; "Exception Processing" for the vectors). That a
 -- change of flow in a taken delay slot is unimplemented, that the units' words and the float forms of the control
 -- instructions raise the units' vectors, and that a trap which isn't taken raises nothing, is this project's profile.
-use Rattle.std.specs.Prelude.{ℕ, ℤ, Bool, false, not, List, [], Option, Some, None, IfSome, ◌≡◌, ◌≤◌, ◌%◌, ◌==◌, ◌&&◌, nat_lt, slice_index, if◌then◌else◌}
+use Rattle.std.specs.Prelude.{ℕ, ℤ, Bool, false, not, List, [], ◌∷◌, Option, Some, None, IfSome, ◌≡◌, ◌≤◌, ◌%◌, ◌==◌, ◌&&◌, nat_lt, slice_index, if◌then◌else◌}
 use Rattle.std.specs.Int.{bit_at}
 use Rattle.m88_base.specs.declared.reg.Reg.{Reg}
 use Rattle.m88_base.specs.Reg.{number_of}
 use Rattle.m88_isa.specs.Compute.{immediate, registers}
 use Rattle.m88_isa.specs.Fields.{address, bit_field, find_bit, offset_in, scale_of, width_in, width_of}
 use Rattle.m88_isa.specs.Flow.{after_bytes, bit_is, class_in, word_aligned, words_away}
+use Rattle.m88_isa.specs.Lanes.{IsAligned}
 use Rattle.m88_isa.specs.Memory.{AreWordAccesses, Touch, recorded, size_of, touches_of}
 use Rattle.m88_isa.specs.Operands.{after_d_of, d_of, is_flow, link_register, s1_of, s2_of, uses_of}
 use Rattle.m88_isa.specs.Vector.{first_user_vector, misaligned, out_of_bounds, privilege, unimplemented, unit_vector}
@@ -206,6 +207,16 @@ WritesWithin set plan = IfGo plan (λ changes. IfSome changes.reg (λ write. bit
 -- a plan that is a taken trap has a vector of the user's
 abbrev pub TrapsForUser : Plan → Type 0
 TrapsForUser plan = IfTrap plan (λ vector. first_user_vector ≤ vector)
+
+-- every access of what an instruction does is aligned to its size
+abbrev pub AreAligned : List Touch → Type 0
+AreAligned [] = Unit {0}
+AreAligned (t ∷ touches) = IsAligned t.place t.size × AreAligned touches
+
+abbrev pub TouchesAligned : Meaning → Type 0
+TouchesAligned (raises vector) = Unit {0}
+TouchesAligned (traps vector) = Unit {0}
+TouchesAligned (goes change) = AreAligned change.touches
 
 -- two lists of registers have the same value at each register of a set, a bit for each
 abbrev pub AgreesOn : ℕ → List ℕ → List ℕ → Type 0

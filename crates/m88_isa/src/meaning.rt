@@ -1,7 +1,23 @@
 //! The effect of every instruction, form by form ("Instruction Set").
 
 ghost use Rattle.std.specs.Prelude.{◌≡◌, ◌<◌};
-ghost use Rattle.m88_isa.specs.Effect.{IgnoresUnused, MakesAccesses, TrapsForUser, WritesWithin, computes, effect, gives, indexed, inputs_of, plan_for, plan_of, register, written};
+ghost use Rattle.m88_isa.specs.Effect.{
+  IgnoresUnused,
+  MakesAccesses,
+  TouchesAligned,
+  TrapsForUser,
+  WritesWithin,
+  computes,
+  effect,
+  gives,
+  indexed,
+  inputs_of,
+  meaning_of,
+  plan_for,
+  plan_of,
+  register,
+  written,
+};
 ghost use Rattle.m88_isa.specs.Instr.{IsValid};
 ghost use Rattle.m88_isa.specs.Operands.{access_count_of, writes_of};
 
@@ -20,13 +36,14 @@ use m88_base::Reg;
 
 /// What an instruction does at the byte address `pc`, where `next` is the address of the one that follows. A change
 /// of flow in a taken delay slot, where that isn't `pc` + 4, raises before anything else.
-#[tactic(auto, using(crate::proofs::Alone::plan_alone))]
+#[tactic(auto, using(crate::proofs::Alone::plan_alone, crate::proofs::Plans::touches_aligned))]
 pub fn plan(instr: &Instr, regs: &[u32; 32], carry: bool, pc: u32, next: u32) -> Plan
     requires { IsValid instr.now }
     ensures value { result ≡ plan_of instr.now regs.now carry pc next }
     ensures accesses { MakesAccesses (access_count_of instr.now) result }
     ensures register { WritesWithin (writes_of instr.now) result }
     ensures trap { TrapsForUser result }
+    ensures aligned { TouchesAligned (meaning_of instr.now regs.now carry pc next) }
     ensures alone { IgnoresUnused instr.now regs.now carry pc next }
 {
     if is_flow(instr) && next != pc.wrapping_add(4) {
