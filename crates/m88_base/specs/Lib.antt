@@ -1,1 +1,4 @@
+pub mod Causes
+pub mod Memory
+pub mod Outside
 pub mod Reg

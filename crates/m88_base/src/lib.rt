@@ -2,6 +2,23 @@
 //! and the image that a program is linked into.
 #![tactic(auto)]
 
+mod failing;
+mod mem_sink;
+mod mem_source;
+mod pieces;
+mod reading;
 mod reg;
+mod sink;
+mod source;
+mod std_edge;
+mod writing;
 
+pub use failing::{Failed, NoMemory};
+pub use mem_sink::MemSink;
+pub use mem_source::MemSource;
+pub use reading::{ReadEnd, read_all};
 pub use reg::Reg;
+pub use sink::Sink;
+pub use source::Source;
+pub use std_edge::{StdSink, StdSource};
+pub use writing::{SinkFault, write_all};
