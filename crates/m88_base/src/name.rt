@@ -5,7 +5,7 @@ ghost use Rattle.m88_base.specs.Name.{IsName, begins_name, continues_name};
 use std::marker::Model;
 
 /// A name of an assembly source, 1 to 64 bytes.
-#[derive(Clone, Copy, PartialEq, Eq, Debug)]
+#[derive(Clone, Copy, Hash, Debug)]
 pub struct Name {
     bytes: [u8; 64],
     len: usize,
@@ -28,6 +28,27 @@ impl Model for Name {
     ghost use Rattle.m88_base.specs.declared.name.Name.TheInside.{Inside};
 
     ghost inverse_ok = { λ a h. padded {A = Inside} (λ bytes len. record { bytes = bytes; len = len }) a.bytes a.len 64 h.1 h.2 h.3 };
+}
+
+impl PartialEq for Name {
+    ghost use Rattle.std.specs.Prelude.{bytes_eq};
+    ghost use Rattle.std.proofs.Common.{rules};
+    ghost use Rattle.std.specs.Cmp.Rules.{comparing};
+
+    ghost eq = { bytes_eq };
+
+    ghost laws = { Prim.search (comparing, rules) };
+
+    fn eq(&self, other: &Name) -> bool {
+        self.bytes() == other.bytes()
+    }
+}
+
+impl Eq for Name {
+    ghost use Rattle.std.proofs.Common.{rules};
+    ghost use Rattle.std.specs.Cmp.Rules.{comparing};
+
+    ghost laws = { Prim.search (comparing, rules) };
 }
 
 impl Name {
