@@ -18,6 +18,8 @@ mod runs;
 mod sink;
 mod source;
 mod std_edge;
+#[cfg(test)]
+mod tests;
 mod writing;
 
 pub use absent::Absent;
