@@ -4,10 +4,10 @@ use Rattle.std.specs.Prelude.{None, Some, IsSome, slice_get, All}
 use Rattle.std.proofs.Math.Seq.{drop-cons, take-suc, take-length}
 use Rattle.std.proofs.lemmas.Option.{slice_get-get_or}
 use Rattle.std.proofs.lemmas.List.{take-append-drop, get_or-take, length-take}
-use Rattle.m88_base.specs.Found.{IsFree, IsLeastTaken}
+use Rattle.m88_base.specs.Found.{IsFree, IsLeastTaken, IsPart}
 use Rattle.m88_base.specs.Placed.{Placed, byte_in, byte_among, AreApart, next_start, BeginsAt}
 use Rattle.m88_base.proofs.Lookup.{option_or-none, byte_in_at, byte_among-append}
-use Rattle.m88_base.proofs.Apart.{next_start-append, apart_front, apart_back, none_below, none_above}
+use Rattle.m88_base.proofs.Apart.{apart_lower, next_start-append, apart_front, apart_back, none_below, none_above}
 
 pub cut_at : (xs : List Placed) (i : ℕ) (d : Placed) → i < length xs → xs ≡ take i xs ++ get_or xs i d ∷ drop (suc i) xs
 cut_at xs i d h = sym (take-append-drop i xs) ∙ ap (λ ys. take i xs ++ ys) (drop-cons xs i d h)
@@ -110,3 +110,23 @@ pub free_between : (xs : List Placed) (i at n : ℕ) → AreApart 0 xs → next_
 free_between xs i at n h above below = λ a w.
     ap (λ ys. byte_among ys a) (sym (take-append-drop i xs)) ∙ (byte_among-append (take i xs) (drop i xs) a
     ∙ rw (none_above 0 (take i xs) a (apart_take xs i h) (omega (arith, w.0))) (none_below (at + n) (drop i xs) a below w.1))
+
+-- each run is a part of what is found in them
+pub run_is_part : (xs : List Placed) (i : ℕ) (run : Placed) → AreApart 0 xs → i < length xs → run ≡ get_or xs i run → IsPart (byte_among xs) run.at run.bytes
+run_is_part xs i run h l is =
+    let more : List Placed = drop (suc i) xs in
+    let cut : xs ≡ take i xs ++ run ∷ more = rw (← is) at (cut_at xs i run l) in
+    let apart : AreApart (next_start 0 (take i xs)) (run ∷ more) = apart_back 0 (take i xs) (run ∷ more) (rw cut at h) in
+    let here : drop i xs ≡ run ∷ more = rw (← is) at (drop-cons xs i run l) in
+    let e : suc i - 1 ≡ i = omega arith in
+    let was : get_or xs (suc i - 1) run ≡ run = rw e (sym is) in
+    let end : next_start 0 (take (suc i) xs) ≡ run.at + length run.bytes + 1 = rw was at (next_start-take xs (suc i) run (omega arith) l) in
+    record {
+      some = apart.1;
+      there = λ k p.
+          let z : run.at + k - run.at ≡ k = omega arith in
+          let found = found_in_last xs (suc i) (run.at + k) run h (omega arith) l (rw was (omega arith)) (apart_lower _ _ more (omega arith) apart.2) in
+          rw (was, z) at found;
+      below = λ a p. free_between xs i a 1 h (omega (arith, apart.0)) (rw here (omega arith, apart.1, apart.2)) a (omega arith, omega arith);
+      above = free_between xs (suc i) (run.at + length run.bytes) 1 h (omega (arith, end)) apart.2 _ (omega arith, omega arith);
+    }

@@ -19,6 +19,10 @@ byte_at image = byte_among image.runs
 unfoldable pub byte_count : ProgramImage → ℕ
 byte_count image = count_among image.runs
 
+-- the parts of an image, its runs in ascending order
+abbrev pub parts : ProgramImage → List Placed
+parts image = image.runs
+
 -- n bytes from `at` on would reach past the last address, or be more than an image may have
 abbrev pub IsTooLarge : ProgramImage → ℕ → ℕ → Type 0
 IsTooLarge image at n = (2 ^ 32 < at + n) ⊎ (MOST_BYTES < byte_count image + n)

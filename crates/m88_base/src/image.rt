@@ -1,7 +1,8 @@
 //! The bytes of a program at their addresses.
-ghost use Rattle.std.specs.Prelude.{◌≡◌, ◌+◌, ◌^◌, ◌<◌, ◌≤◌, ◌↔◌, ◌⊎◌, ℕ, None, Err, length, IfErr, IsTrue, OnOk, OnErr};
-ghost use Rattle.m88_base.specs.Found.{IsFree, IsLeastTaken, PutsBytes};
-ghost use Rattle.m88_base.specs.Image.{IsTooLarge, WhereOverlap, byte_at, byte_count};
+ghost use Rattle.std.specs.Prelude.{◌≡◌, ◌+◌, ◌^◌, ◌<◌, ◌≤◌, ◌↔◌, ℕ, None, Some, Err, length, slice_get, IfErr, IsTrue, OnOk, OnErr};
+ghost use Rattle.m88_base.specs.Found.{IsFree, IsLeastTaken, IsPart, PutsBytes};
+ghost use Rattle.m88_base.specs.Placed.{AreApart, byte_among};
+ghost use Rattle.m88_base.specs.Image.{IsTooLarge, WhereOverlap, byte_at, byte_count, parts};
 
 use crate::run::Run;
 use crate::runs::{find, first_taken, locate, place};
@@ -125,5 +126,26 @@ impl Image {
         ensures { result ≡ byte_at self.now at }
     {
         find(&self.runs, at)
+    }
+
+    /// The number of parts, the runs of consecutive addresses that are as long as they can be.
+    #[tactic(auto, unfolding(crate::specs::Image::byte_at))]
+    pub fn part_count(&self) -> usize
+        ensures value { result ≡ length (parts self.now) }
+        ensures ascending { AreApart 0 (parts self.now) }
+        ensures all { (a : ℕ) → byte_at self.now a ≡ byte_among (parts self.now) a }
+    {
+        self.runs.len()
+    }
+
+    /// The first address and the bytes of a part, the parts in ascending order.
+    pub fn part(&self, index: usize) -> (u32, &[u8])
+        requires { index < length (parts self.now) }
+        ensures value { slice_get (parts self.now) index ≡ Some (record { at = result.0; bytes = result.1.now }) }
+        ensures part { IsPart (byte_at self.now) result.0 result.1.now }
+        ensures fits { result.0 + length result.1.now ≤ 2 ^ 32 }
+    {
+        let run = &self.runs[index];
+        (run.at(), run.bytes())
     }
 }

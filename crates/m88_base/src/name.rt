@@ -1,0 +1,116 @@
+//! Names of labels, symbols and modules.
+ghost use Rattle.std.specs.Prelude.{◌≡◌, ◌↔◌, ◌-◌, ◌≤◌, ◌++◌, length, replicate, IsTrue, IsSome, IfSome};
+ghost use Rattle.m88_base.specs.Name.{IsName, begins_name, continues_name};
+
+use std::marker::Model;
+
+/// A name of an assembly source, 1 to 64 bytes.
+#[derive(Clone, Copy, Hash, Debug)]
+pub struct Name {
+    bytes: [u8; 64],
+    len: usize,
+}
+
+impl Model for Name {
+    ghost use Rattle.std.specs.Prelude.{ℕ, List, ◌≡◌, ◌-◌, ◌≤◌, ◌++◌, length, take, drop, replicate};
+    ghost use Rattle.m88_base.specs.Name.{IsName};
+    ghost use Rattle.m88_base.specs.Padded.{padded};
+
+    ghost Value = { List ℕ };
+
+    ghost view = { λ name. take name.len name.bytes };
+
+    ghost invariant = { λ name. IsName (take name.len name.bytes)
+        × (name.len ≤ 64) × (length name.bytes ≡ 64) × (drop name.len name.bytes ≡ replicate (64 - name.len) 0) };
+
+    ghost inverse = { λ bytes. record { bytes = bytes ++ replicate (64 - length bytes) 0; len = length bytes } };
+
+    ghost use Rattle.m88_base.specs.declared.name.Name.TheInside.{Inside};
+
+    ghost inverse_ok = { λ a h. padded {A = Inside} (λ bytes len. record { bytes = bytes; len = len }) a.bytes a.len 64 h.1 h.2 h.3 };
+}
+
+impl PartialEq for Name {
+    ghost use Rattle.std.specs.Prelude.{bytes_eq};
+    ghost use Rattle.std.proofs.Common.{rules};
+    ghost use Rattle.std.specs.Cmp.Rules.{comparing};
+
+    ghost eq = { bytes_eq };
+
+    ghost laws = { Prim.search (comparing, rules) };
+
+    fn eq(&self, other: &Name) -> bool {
+        self.bytes() == other.bytes()
+    }
+}
+
+impl Eq for Name {
+    ghost use Rattle.std.proofs.Common.{rules};
+    ghost use Rattle.std.specs.Cmp.Rules.{comparing};
+
+    ghost laws = { Prim.search (comparing, rules) };
+}
+
+impl Name {
+    /// The name that the bytes are, or None where they are none.
+    pub fn new(bytes: &[u8]) -> Option<Name>
+        ensures valid { IsSome result ↔ IsName bytes.now }
+        ensures value { IfSome result (λ name. name ≡ bytes.now) }
+    {
+        if !is_name(bytes) {
+            return None;
+        }
+        Some(Name {
+            bytes: padded(bytes),
+            len: bytes.len(),
+        })
+    }
+
+    /// The bytes of the name.
+    pub fn bytes(&self) -> &[u8]
+        ensures value { result.now ≡ self.now }
+        ensures name { IsName self.now }
+    {
+        &self.bytes[..self.len]
+    }
+}
+
+/// Whether bytes are one name.
+fn is_name(bytes: &[u8]) -> bool
+    ensures { IsTrue result ↔ IsName bytes.now }
+{
+    let Some((first, rest)) = bytes.split_first() else {
+        return false;
+    };
+    if !begins_name(*first) {
+        return false;
+    }
+    if rest.len() >= 64 {
+        return false;
+    }
+    rest.iter().all(|byte| continues_name(*byte))
+}
+
+/// The bytes with zeros behind them.
+fn padded(bytes: &[u8]) -> [u8; 64]
+    requires { length bytes.now ≤ 64 }
+    ensures { result ≡ bytes.now ++ replicate (64 - length bytes.now) 0 }
+{
+    let mut kept = [0; 64];
+    kept[..bytes.len()].copy_from_slice(bytes);
+    kept
+}
+
+/// Whether a byte is a letter, `_`, `.` or `$`.
+fn begins_name(byte: u8) -> bool
+    ensures { result ≡ begins_name byte }
+{
+    byte.is_ascii_alphabetic() || byte == b'_' || byte == b'.' || byte == b'$'
+}
+
+/// Whether a byte is a letter, a digit, `_`, `.` or `$`.
+fn continues_name(byte: u8) -> bool
+    ensures { result ≡ continues_name byte }
+{
+    begins_name(byte) || byte.is_ascii_digit()
+}
