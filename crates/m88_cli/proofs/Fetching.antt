@@ -20,7 +20,7 @@ pub step_is : (p : Program) (image : ProgramImage) (s : State) (word : ℕ) (i :
     → ((j : Instr) → IsWord j word → j ≡ i) → step p s ≡ carried_out (meaning_of i s.regs s.carry s.pc s.next) s
 step_is p image s word i holds aligned small bytes is only =
     let instruction : p.instruction s.pc ≡ Some i =
-        there (p.instruction s.pc) i word (holds.instructions s.pc word aligned small bytes) is only in
+    there (p.instruction s.pc) i word (holds.instructions s.pc word aligned small bytes) is only in
     let b0 = holds.bytes s.pc in
     let b1 = holds.bytes (s.pc + 1) in
     let b2 = holds.bytes (s.pc + 2) in

@@ -25,7 +25,7 @@ later b n bytes e =
 at_first : (ends : Bool) (b n : ℕ) (bytes : List ℕ)
     → begin_line b (lines_of bytes) ≡ take (1 + n) (b ∷ bytes) ∷ lines_of (drop (1 + n + 1) (b ∷ bytes))
     → (if ends then [] ∷ lines_of bytes else begin_line b (lines_of bytes))
-      ≡ take (cond (not ends) (1 + n) 0) (b ∷ bytes) ∷ lines_of (drop (cond (not ends) (1 + n) 0 + 1) (b ∷ bytes))
+    ≡ take (cond (not ends) (1 + n) 0) (b ∷ bytes) ∷ lines_of (drop (cond (not ends) (1 + n) 0 + 1) (b ∷ bytes))
 at_first true b n bytes e = refl
 at_first false b n bytes e = e
 
@@ -85,10 +85,10 @@ pub reads_on : (source rest line others : List ℕ) (kept added : List Instr) (n
     → ReadSoFar source others (kept ++ added) (number + 1)
 reads_on source rest line others kept added number e adds so_far =
     let instructions : filter_map instruction_of (lines_of rest) ≡ added ++ filter_map instruction_of (lines_of others) =
-        ap (λ lines. filter_map instruction_of lines) e ∙ adds.kept in
+    ap (λ lines. filter_map instruction_of lines) e ∙ adds.kept in
     let all : list_all is_line (lines_of rest) ≡ list_all is_line (lines_of others) = ap (λ lines. list_all is_line lines) e ∙ adds.all in
     let before : prefix_len is_line (lines_of rest) ≡ 1 + prefix_len is_line (lines_of others) =
-        ap (λ lines. prefix_len is_line lines) e ∙ adds.before in
+    ap (λ lines. prefix_len is_line lines) e ∙ adds.before in
     record {
       all_kept = append_assoc kept added (filter_map instruction_of (lines_of others)) ∙ ap (λ xs. kept ++ xs) (sym instructions) ∙ so_far.all_kept;
       lines = sym all ∙ so_far.lines;

@@ -67,10 +67,10 @@ over_before instructions a before =
 over_word : (instructions : List Instr) (a j : ℕ) → a % 4 ≡ 0 → j < 4 → instruction_over instructions (a + j) ≡ instruction_over instructions a
 over_word instructions a j aligned within = elim (cases_lt a text_base) [
   | inl before ↦
-    over_before instructions (a + j) (omega arith) ∙ sym (over_before instructions a before)
+      over_before instructions (a + j) (omega arith) ∙ sym (over_before instructions a before)
   | inr from ↦
-    let index : (a + j - text_base) / 4 ≡ (a - text_base) / 4 = omega arith in
-    over_from instructions (a + j) (omega arith) ∙ rw index (sym (over_from instructions a from))
+      let index : (a + j - text_base) / 4 ≡ (a - text_base) / 4 = omega arith in
+      over_from instructions (a + j) (omega arith) ∙ rw index (sym (over_from instructions a from))
 ]
 
 -- what holds of each holds of the one at a place
@@ -107,7 +107,7 @@ word_there instructions a aligned =
 is_word_of : (i : Instr) (word : ℕ) → IsPlain i → word < 2 ^ 32 → word_bytes_of i ≡ to_be_bytes w32 word → IsWord i word
 is_word_of i word plain small e =
     let same : word_of i ≡ word =
-        sym (from_be_bytes-to_be_bytes_4 (word_of i) (small_of_plain i plain)) ∙ ap (from_be_bytes w32) e ∙ from_be_bytes-to_be_bytes_4 word small in
+    sym (from_be_bytes-to_be_bytes_4 (word_of i) (small_of_plain i plain)) ∙ ap (from_be_bytes w32) e ∙ from_be_bytes-to_be_bytes_4 word small in
     (valid_of_plain i plain, same)
 
 -- what a word says of the instruction over it
@@ -122,39 +122,39 @@ module _ (instructions : List Instr) (old new : ProgramImage) (code : List ℕ)
     (puts : PutsBytes (byte_at old) (byte_at new) text_base code) (plain : All IsPlain instructions) where
   behind : (a k : ℕ) → a ≡ text_base + k → (program_of instructions).byte a ≡ slice_get code k
   behind a k e =
-    let place : a % 4 ≡ k % 4 = omega arith in
-    let index : (a - text_base) / 4 ≡ k / 4 = omega arith in
-    rw (over_from instructions a (omega arith), index, place, words, byte_over instructions k) refl
+      let place : a % 4 ≡ k % 4 = omega arith in
+      let index : (a - text_base) / 4 ≡ k / 4 = omega arith in
+      rw (over_from instructions a (omega arith), index, place, words, byte_over instructions k) refl
 
   pub bytes_there : (a : ℕ) → (program_of instructions).byte a ≡ byte_at new a
   bytes_there a = elim (cases_lt a text_base) [
     | inl before ↦ rw (over_before instructions a before) (sym (puts.below a before ∙ empty a))
     | inr from ↦ elim (cases_lt (a - text_base) (length code)) [
       | inl within ↦
-        let e : a ≡ text_base + (a - text_base) = omega arith in
-        behind a (a - text_base) e ∙ sym (puts.there (a - text_base) within) ∙ ap (byte_at new) (sym e)
+          let e : a ≡ text_base + (a - text_base) = omega arith in
+          behind a (a - text_base) e ∙ sym (puts.there (a - text_base) within) ∙ ap (byte_at new) (sym e)
       | inr past ↦
-        let e : a ≡ text_base + (a - text_base) = omega arith in
-        behind a (a - text_base) e ∙ slice_get_past code (a - text_base) past ∙ sym (puts.above a (omega arith) ∙ empty a)
+          let e : a ≡ text_base + (a - text_base) = omega arith in
+          behind a (a - text_base) e ∙ slice_get_past code (a - text_base) past ∙ sym (puts.above a (omega arith) ∙ empty a)
     ]
   ]
 
   pub found_at : (a word : ℕ) → a % 4 ≡ 0 → word < 2 ^ 32 → four_bytes (byte_at new) a ≡ Some (to_be_bytes w32 word)
       → (i : Instr) × (instruction_over instructions a ≡ Some i) × IsPlain i × IsWord i word
   found_at a word aligned small e =
-    let b0 = bytes_there a in
-    let b1 = bytes_there (a + 1) in
-    let b2 = bytes_there (a + 2) in
-    let b3 = bytes_there (a + 3) in
-    let own : four_bytes (program_of instructions).byte a ≡ Some (to_be_bytes w32 word) = rw (b0, b1, b2, b3) e in
-    found (instruction_over instructions a) word (λ i there. plain_over instructions a i plain there) small (sym (word_there instructions a aligned) ∙ own)
+      let b0 = bytes_there a in
+      let b1 = bytes_there (a + 1) in
+      let b2 = bytes_there (a + 2) in
+      let b3 = bytes_there (a + 3) in
+      let own : four_bytes (program_of instructions).byte a ≡ Some (to_be_bytes w32 word) = rw (b0, b1, b2, b3) e in
+      found (instruction_over instructions a) word (λ i there. plain_over instructions a i plain there) small (sym (word_there instructions a aligned) ∙ own)
 
   pub instruction_there : (a word : ℕ) → a % 4 ≡ 0 → word < 2 ^ 32 → four_bytes (byte_at new) a ≡ Some (to_be_bytes w32 word)
       → MatchOption ((program_of instructions).instruction a) ((i : Instr) → ¬ IsWord i word) (λ i. IsWord i word)
   instruction_there a word aligned small e =
-    let it = found_at a word aligned small e in
-    let test : (a % 4 == 0) ≡ true = grind (arith, nat_tests) in
-    rw (test, it.1) it.3
+      let it = found_at a word aligned small e in
+      let test : (a % 4 == 0) ≡ true = grind (arith, nat_tests) in
+      rw (test, it.1) it.3
 
   pub image_of : new.start ≡ text_base → IsImageOf (program_of instructions) new
   image_of start = record { start = sym start; bytes = bytes_there; instructions = instruction_there }

@@ -55,5 +55,5 @@ issued p limit m old new goes none makes at =
     let over : is_over limit m ≡ false = rw (← at.ended, ← at.retired) goes in
     let plain : m.bubble ≡ false = sym at.bubble ∙ none in
     subst (λ c. IsAt p (made c m) new)
-      (sym (only_choice (is_over limit m) m.bubble (choice_of_step (step p (state p m.retired))) over plain))
-      (by_step p m old new (step p (state p m.retired)) refl (neither m.ended (m.retired == limit) over) (rw at.here makes) at)
+    (sym (only_choice (is_over limit m) m.bubble (choice_of_step (step p (state p m.retired))) over plain))
+    (by_step p m old new (step p (state p m.retired)) refl (neither m.ended (m.retired == limit) over) (rw at.here makes) at)

@@ -101,7 +101,7 @@ came_to : (p : Program) (limit n : ℕ) (machine : Machine) → IsAt p (moment p
 came_to p limit n machine at =
     let there = counts p limit n in
     let end : unwrap_or machine.ended Limit ≡ (if (moment p limit n).ended then end_of_step (step p (state p (moment p limit n).retired)) else Limit) =
-        end_at machine.ended (moment p limit n).ended _ at.ended at.stop in
+    end_at machine.ended (moment p limit n).ended _ at.ended at.stop in
     let regs : machine.regs ≡ (state p (moment p limit n).retired).regs = ap (λ (s : State). s.regs) (sym at.here) in
     let carry : machine.carry ≡ (state p (moment p limit n).retired).carry = ap (λ (s : State). s.carry) (sym at.here) in
     let out : machine.out.items ≡ (state p (moment p limit n).retired).out = ap (λ (s : State). s.out) (sym at.here) in

@@ -38,7 +38,7 @@ not_part (Some old) (Some new) text part whole =
 pub same_input : (old new : Option (List ℕ)) (input given : List ℕ) → old ≡ Some input → new ≡ Some [] → Consumes old new given → given ≡ input
 same_input old new input given had left consumes =
     let all : Consumes (Some input) (Some []) given =
-        subst (λ o. Consumes o (Some []) given) had (subst (λ o. Consumes old o given) left consumes) in
+    subst (λ o. Consumes o (Some []) given) had (subst (λ o. Consumes old o given) left consumes) in
     sym (append-nil given) ∙ sym all
 
 -- the answer to an input that is not accepted is its refusal

@@ -13,7 +13,7 @@ pub record IsImageOf (p : Program) (image : ProgramImage) : Type 0 where
   pub start : p.start ≡ image.start
   pub bytes : (a : ℕ) → p.byte a ≡ byte_at image a
   pub instructions : (a word : ℕ) → a % 4 ≡ 0 → word < 2 ^ 32 → four_bytes (byte_at image) a ≡ Some (to_be_bytes w32 word)
-    → MatchOption (p.instruction a) ((i : Instr) → ¬ IsWord i word) (λ i. IsWord i word)
+      → MatchOption (p.instruction a) ((i : Instr) → ¬ IsWord i word) (λ i. IsWord i word)
 
 -- every word of an image is that of such an instruction
 abbrev pub HasPlainWords : ProgramImage → Type 0

@@ -46,14 +46,14 @@ register_named text =
 abbrev pub or_of : List ℕ → Option Instr
 or_of text =
     option_and_then (λ d. option_and_then (λ s1. option_map (λ imm. Imm Or d s1 imm) (plain_number 65535 (third_operand text)))
-      (register_named (second_operand text)))
+    (register_named (second_operand text)))
     (register_named (first_operand text))
 
 -- `tb0` with its operands
 abbrev pub tb0_of : List ℕ → Option Instr
 tb0_of text =
     option_and_then (λ bit. option_and_then (λ s1. option_map (λ vector. TrapBit false bit s1 vector) (plain_number 511 (third_operand text)))
-      (register_named (second_operand text)))
+    (register_named (second_operand text)))
     (decimal_number 31 (first_operand text))
 
 -- the instruction of a line that has one

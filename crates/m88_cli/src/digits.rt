@@ -6,7 +6,11 @@ fn digit(d: u32) -> u8
     requires { d < 16 }
     ensures { result ≡ hex_digit d }
 {
-    if d < 10 { b'0' + d as u8 } else { b'A' + (d - 10) as u8 }
+    if d < 10 {
+        b'0' + d as u8
+    } else {
+        b'A' + (d - 10) as u8
+    }
 }
 
 /// A word in eight digits.

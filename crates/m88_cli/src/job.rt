@@ -3,16 +3,15 @@ ghost use Rattle.m88_cli.specs.Answer.{IsAnswer, IsReport, accepts};
 ghost use Rattle.m88_cli.specs.Program.{IsPlain, program_of};
 ghost use Rattle.m88_cli.specs.Command.{IsWithinLimit};
 
-use m88_base::NoMemory;
-use m88_isa::Instr;
-use std::alloc::Global;
-
 use crate::choice::Command;
 use crate::load::load;
 use crate::refusal::refusal;
 use crate::report::report;
 use crate::run::run;
 use crate::source::{Reading, read_source};
+use m88_base::NoMemory;
+use m88_isa::Instr;
+use std::alloc::Global;
 
 /// What a command writes, and whether it accepts its input.
 #[derive(Drop)]
@@ -32,10 +31,16 @@ pub fn reply_to(alloc: Global, command: Command, input: &[u8]) -> Result<Reply, 
     match read_source(alloc, input) {
         Ok(Reading::Accepted(instructions)) => {
             let text = run_report(alloc, instructions.as_slice(), limit)?;
-            Ok(Reply { accepted: true, text })
+            Ok(Reply {
+                accepted: true,
+                text,
+            })
         }
         Ok(Reading::Refused { line }) => match refusal(alloc, line) {
-            Ok(text) => Ok(Reply { accepted: false, text }),
+            Ok(text) => Ok(Reply {
+                accepted: false,
+                text,
+            }),
             Err(_) => Err(NoMemory),
         },
         Err(_) => Err(NoMemory),

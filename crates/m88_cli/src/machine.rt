@@ -7,14 +7,13 @@ ghost use Rattle.m88_cli.specs.Timeline.{Moment, choice_at, issue_choice, made, 
 ghost use Rattle.m88_cli.specs.Outcome.{summary_of};
 ghost use Rattle.m88_cli.specs.Program.{IsPlain};
 
+use crate::fetch::fetch;
+use crate::letter::Letter;
+use crate::outcome::{End, Outcome};
 use m88_base::{Image, Reg};
 use m88_codec::{BadWord, decode};
 use m88_isa::{Effect, Instr, Plan, plan};
 use std::alloc::{AllocError, Global};
-
-use crate::fetch::fetch;
-use crate::letter::Letter;
-use crate::outcome::{End, Outcome};
 
 /// The vector of an instruction that can't be fetched.
 const INSTRUCTION_ACCESS: u16 = 2;

@@ -9,19 +9,23 @@ ghost use Rattle.m88_cli.specs.Status.{Answers, WritesNothing};
 ghost use Rattle.m88_cli.specs.Words.{texts};
 ghost use Rattle.m88_cli.specs.declared.choice.Command.{Command as Choice};
 
-use m88_base::{ReadEnd, Sink, Source, read_all, write_all};
-use std::alloc::Global;
-
 use crate::job::reply_to;
 use crate::status::Status;
 use crate::words::command;
+use m88_base::{ReadEnd, Sink, Source, read_all, write_all};
+use std::alloc::Global;
 
 /// The most bytes that an input may have.
 pub const MOST_INPUT: usize = 1_048_576;
 
 /// Does all that the program does: reads the source to its end, carries out the command that the
 /// words spell, and writes its text to the sink.
-pub fn m88<S: Source, K: Sink>(alloc: Global, words: &[String], source: &mut S, sink: &mut K) -> Status
+pub fn m88<S: Source, K: Sink>(
+    alloc: Global,
+    words: &[String],
+    source: &mut S,
+    sink: &mut K,
+) -> Status
     // Words outside the grammar, exactly; then nothing is read.
     ensures usage { (result ≡ Status.Usage) ↔ (command_of (texts words.now) ≡ None) }
     ensures unread { command_of (texts words.now) ≡ None → source.new ≡ source.old }

@@ -1,9 +1,8 @@
 ghost use Rattle.std.specs.Prelude.{◌≡◌, ◌++◌, IfOk, codes, decimal};
 ghost use Rattle.m88_cli.specs.Report.{line_end};
 
-use std::alloc::{AllocError, Global};
-
 use crate::report::push_decimal;
+use std::alloc::{AllocError, Global};
 
 /// The line that refuses a source because of a line of another form.
 pub fn refusal(alloc: Global, line: u32) -> Result<Vec<u8>, AllocError>

@@ -2,11 +2,10 @@ ghost use Rattle.std.specs.Prelude.{◌≡◌, ◌++◌, OnOk, IfOk, codes, deci
 ghost use Rattle.m88_cli.specs.Report.{count_line, end_text, out_text, register_line, register_lines, report_of};
 ghost use Rattle.m88_cli.specs.Outcome.{summary_of};
 
-use itoa::Buffer;
-use std::alloc::{AllocError, Global};
-
 use crate::digits::{byte_digits, word_digits};
 use crate::outcome::{End, Outcome};
+use itoa::Buffer;
+use std::alloc::{AllocError, Global};
 
 /// The report of a run.
 pub fn report(alloc: Global, outcome: &Outcome) -> Result<Vec<u8>, AllocError>
@@ -18,7 +17,11 @@ pub fn report(alloc: Global, outcome: &Outcome) -> Result<Vec<u8>, AllocError>
     text.push(b'\n')?;
     push_count(&mut text, b"retired ", u64::from(outcome.retired))?;
     push_all_registers(&mut text, &outcome.regs)?;
-    text.extend_from_slice(if outcome.carry { b"carry 1" } else { b"carry 0" })?;
+    text.extend_from_slice(if outcome.carry {
+        b"carry 1"
+    } else {
+        b"carry 0"
+    })?;
     text.push(b'\n')?;
     text.extend_from_slice(b"out ")?;
     push_output(&mut text, outcome.out.as_slice())?;

@@ -4,12 +4,11 @@ ghost use Rattle.m88_cli.specs.Loaded.{HasPlainWords, IsImageOf};
 ghost use Rattle.m88_cli.specs.Outcome.{summary_of};
 ghost use Rattle.m88_cli.specs.Timeline.{IsRunSummary, letter_at};
 
-use m88_base::Image;
-use std::alloc::{AllocError, Global};
-
 use crate::letter::Letter;
 use crate::machine::Machine;
 use crate::outcome::Outcome;
+use m88_base::Image;
+use std::alloc::{AllocError, Global};
 
 /// Carries a program out, event by event, until it ends or `limit` instructions are retired.
 pub fn run(alloc: Global, image: &Image, limit: u32) -> Result<Outcome, AllocError>

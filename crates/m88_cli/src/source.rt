@@ -3,11 +3,10 @@ ghost use Rattle.std.specs.List.{after_first, before_first, position_or_len};
 ghost use Rattle.m88_cli.specs.Source.{FitsSource, HasPlain, Reads, first_operand, instruction_of, is_comma, lines_of, or_of, register_named, second_operand, tb0_of, third_operand};
 ghost use Rattle.m88_cli.specs.Program.{IsPlain};
 
+use crate::numbers::{decimal_number, plain_number};
 use m88_base::Reg;
 use m88_isa::{ImmOp, Instr};
 use std::alloc::{AllocError, Global};
-
-use crate::numbers::{decimal_number, plain_number};
 
 /// What a source is: the instructions of its lines, or the number of its first line of another form.
 #[derive(Drop)]

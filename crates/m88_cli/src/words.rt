@@ -12,8 +12,7 @@ pub fn command(words: &[String]) -> Option<Command>
 {
     match words {
         [name, limit, absent, schedule]
-            if name.as_str() == "run" && absent.as_str() == "none" && schedule.as_str() == "-" =>
-        {
+            if name.as_str() == "run" && absent.as_str() == "none" && schedule.as_str() == "-" => {
             limit_of(limit.as_bytes()).map(|limit| Command::Run { limit })
         }
         _ => None,

@@ -4,12 +4,11 @@
 
 mod advice;
 
+use crate::advice::{NO_WORDS, advice_on};
 use m88_base::{StdSink, StdSource};
 use m88_cli::m88;
 use std::env;
 use std::process::ExitCode;
-
-use crate::advice::{NO_WORDS, advice_on};
 
 /// The exit status where the words of the command can't be had, which the top call never answers.
 const NO_WORDS_STATUS: u8 = 7;

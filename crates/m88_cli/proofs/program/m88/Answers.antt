@@ -26,18 +26,25 @@ returns-then-is_err-clause-refusal g c = λ command input spelled had left unacc
     let same : c.in-Some.command ≡ command = let told = c.in-Some.ensures.value in cc in
     let given : c.as_slice.result.now ≡ input = c.as_slice.ensures.value ∙ same_input _ _ input c.in-Ok.input.items had left c.in-Ok.ensures.ok.0 in
     let answer : IsAnswer command input c.in-Ok-reply_to.reply.text.items =
-        subst (λ i. IsAnswer command i c.in-Ok-reply_to.reply.text.items) given
-          (subst (λ d. IsAnswer d c.as_slice.result.now c.in-Ok-reply_to.reply.text.items) same c.in-Ok-reply_to.ensures.text) in
+    subst (λ i. IsAnswer command i c.in-Ok-reply_to.reply.text.items) given
+    (subst (λ d. IsAnswer d c.as_slice.result.now c.in-Ok-reply_to.reply.text.items) same c.in-Ok-reply_to.ensures.text) in
     let text : c.as_slice-2.result.now ≡ refusal_of input = c.as_slice-2.ensures.value ∙ refused_text command input _ unaccepted answer in
     let part = of_err c.write_all.result (sym c.is_err.ensures.value ∙ c.if-is_err.true) c.write_all.ensures.part in
     absurd (not_part _ _ (refusal_of input)
-      (subst (λ t. AppendsPart (g.K.Sink.held c.args.sink.now) (g.K.Sink.held c.write_all.new.sink) t) text part) whole)
+    (subst (λ t. AppendsPart (g.K.Sink.held c.args.sink.now) (g.K.Sink.held c.write_all.new.sink) t) text part) whole)
 
 pub returns-then-is_err-clause-part : goal.returns-then-is_err-clause-part
 returns-then-is_err-clause-part g c = λ e.
-    let part = of_err c.write_all.result (sym c.is_err.ensures.value ∙ c.if-is_err.true) c.write_all.ensures.part in
-    (c.in-Some.command, sym c.in-Some.ensures.value,
-      (c.in-Ok.input.items, (c.in-Ok.ensures.ok.0, c.in-Ok.ensures.ok.1),
-        (c.in-Ok-reply_to.reply.text.items,
+    let part = of_err c.write_all.result (sym c.is_err.ensures.value ∙ c.if-is_err.true) c.write_all.ensures.part in (
+      c.in-Some.command,
+      sym c.in-Some.ensures.value,
+      (
+        c.in-Ok.input.items,
+        (c.in-Ok.ensures.ok.0, c.in-Ok.ensures.ok.1),
+        (
+          c.in-Ok-reply_to.reply.text.items,
           subst (λ i. IsAnswer c.in-Some.command i c.in-Ok-reply_to.reply.text.items) c.as_slice.ensures.value c.in-Ok-reply_to.ensures.text,
-          subst (λ t. AppendsPart (g.K.Sink.held c.args.sink.now) (g.K.Sink.held c.write_all.new.sink) t) c.as_slice-2.ensures.value part)))
+          subst (λ t. AppendsPart (g.K.Sink.held c.args.sink.now) (g.K.Sink.held c.write_all.new.sink) t) c.as_slice-2.ensures.value part,
+        ),
+      ),
+    )

@@ -24,14 +24,14 @@ loop-machine-preserved c =
       aligned = c.in_ok-event.ensures.aligned;
       within = c.in_ok-event.ensures.within;
       at = λ p holds. at_next p c.args.limit c.loop-machine.events c.event.new.self
-        (subst (λ letter. IsAt p (made (choice_at p c.args.limit letter (moment p c.args.limit c.loop-machine.events)) (moment p c.args.limit c.loop-machine.events)) c.event.new.self)
+          (subst (λ letter. IsAt p (made (choice_at p c.args.limit letter (moment p c.args.limit c.loop-machine.events)) (moment p c.args.limit c.loop-machine.events)) c.event.new.self)
           c.letter_at.ensures (c.in_ok-event.ensures.moves p (moment p c.args.limit c.loop-machine.events) holds (before.at p holds)));
       first = λ p holds. below_more (λ k. is_over c.args.limit (moment p c.args.limit k) ≡ false) c.loop-machine.events (before.first p holds)
-        (over_at p c.args.limit (moment p c.args.limit c.loop-machine.events) c.loop-machine.machine false (before.at p holds) goes);
+          (over_at p c.args.limit (moment p c.args.limit c.loop-machine.events) c.loop-machine.machine false (before.at p holds) goes);
       bound = omega (arith, one, before.bound);
     }
 
 pub returns : goal.returns
 returns c = λ p holds. rw c.into_outcome.ensures
     (ran p c.args.limit c.loop-machine.events c.loop-machine.machine (c.loop-machine.invariant.at p holds)
-      (sym c.is_over.ensures ∙ c.loop-machine-test.false) (c.loop-machine.invariant.first p holds))
+    (sym c.is_over.ensures ∙ c.loop-machine-test.false) (c.loop-machine.invariant.first p holds))

@@ -12,9 +12,9 @@ rest_is n bytes = take_all (length bytes - n) (drop n bytes) (rw length-drop (om
 pub returns-then-at-bytes-clause-lines : goal.returns-then-at-bytes-clause-lines
 returns-then-at-bytes-clause-lines c =
     rw (rest_is (c.length_before-at.result + 1) c.args.bytes.now)
-      (cut_there c.args.bytes.now c.length_before-at.result c.requires c.length_before-at.ensures.value)
+    (cut_there c.args.bytes.now c.length_before-at.result c.requires c.length_before-at.ensures.value)
 
 pub returns-else-at-bytes-clause-lines : goal.returns-else-at-bytes-clause-lines
 returns-else-at-bytes-clause-lines c =
     rw (rest_is (length c.args.bytes.now) c.args.bytes.now, drop-length c.args.bytes.now)
-      (cut_nowhere c.args.bytes.now c.length_before-at.result c.requires c.length_before-at.ensures.value c.if-at-bytes.false)
+    (cut_nowhere c.args.bytes.now c.length_before-at.result c.requires c.length_before-at.ensures.value c.if-at-bytes.false)

@@ -12,20 +12,20 @@ use Rattle.m88_cli.proofs.source.read_source.Goals.{then-not-is_empty+in-Some+in
 pub loop-rest-preserved : goal.loop-rest-preserved
 loop-rest-preserved c = elim c.if-not-is_empty.branch [
   | then-not-is_empty+in-Some+in_ok-push-in-Some w ↦
-    let on = reads_on c.args.source.now c.loop-rest.rest.now c.first_line.result.0.now c.first_line.result.1.now c.loop-rest.instructions.items
-        (w.in-Some.instruction ∷ []) c.loop-rest.number c.first_line.ensures.lines
-        (code_line c.first_line.result.0.now (lines_of c.first_line.result.1.now) w.in-Some.instruction (sym w.read_line.ensures.value ∙ w.in-Some.is)) c.loop-rest.invariant.so_far in
-    let items = ap (λ v. v.items) w.instructions-is ∙ w.in_ok-push-in-Some.ensures.items in
-    let long : 4 ≤ length c.first_line.result.0.now = w.read_line.ensures.long (rw w.in-Some.is refl) in
-    let more : length c.if-not-is_empty.instructions.items ≡ length c.loop-rest.instructions.items + 1 =
-        ap length items ∙ length-append c.loop-rest.instructions.items (w.in-Some.instruction ∷ []) in
-    record { so_far = rw items on; plain = rw items (All-push IsPlain c.loop-rest.instructions.items w.in-Some.instruction c.loop-rest.invariant.plain w.in-Some.ensures.plain); short = omega (arith, c.first_line.ensures.within); small = omega (arith, c.first_line.ensures.shorter) }
+      let on = reads_on c.args.source.now c.loop-rest.rest.now c.first_line.result.0.now c.first_line.result.1.now c.loop-rest.instructions.items
+      (w.in-Some.instruction ∷ []) c.loop-rest.number c.first_line.ensures.lines
+      (code_line c.first_line.result.0.now (lines_of c.first_line.result.1.now) w.in-Some.instruction (sym w.read_line.ensures.value ∙ w.in-Some.is)) c.loop-rest.invariant.so_far in
+      let items = ap (λ v. v.items) w.instructions-is ∙ w.in_ok-push-in-Some.ensures.items in
+      let long : 4 ≤ length c.first_line.result.0.now = w.read_line.ensures.long (rw w.in-Some.is refl) in
+      let more : length c.if-not-is_empty.instructions.items ≡ length c.loop-rest.instructions.items + 1 =
+      ap length items ∙ length-append c.loop-rest.instructions.items (w.in-Some.instruction ∷ []) in
+      record { so_far = rw items on; plain = rw items (All-push IsPlain c.loop-rest.instructions.items w.in-Some.instruction c.loop-rest.invariant.plain w.in-Some.ensures.plain); short = omega (arith, c.first_line.ensures.within); small = omega (arith, c.first_line.ensures.shorter) }
   | else-not-is_empty w ↦
-    let empty : length c.first_line.result.0.now ≡ 0 = grind (arith, nat_tests) in
-    let on = reads_on c.args.source.now c.loop-rest.rest.now c.first_line.result.0.now c.first_line.result.1.now c.loop-rest.instructions.items
-        [] c.loop-rest.number c.first_line.ensures.lines
-        (blank_line c.first_line.result.0.now (lines_of c.first_line.result.1.now) empty) c.loop-rest.invariant.so_far in
-    let items = ap (λ v. v.items) w.instructions-is ∙ sym (append-nil c.loop-rest.instructions.items) in
-    let same : length c.if-not-is_empty.instructions.items ≡ length c.loop-rest.instructions.items = ap (λ v. length v.items) w.instructions-is in
-    record { so_far = rw items on; plain = rw (ap (λ v. v.items) w.instructions-is) c.loop-rest.invariant.plain; short = omega (arith, c.first_line.ensures.within); small = omega (arith, c.first_line.ensures.shorter) }
+      let empty : length c.first_line.result.0.now ≡ 0 = grind (arith, nat_tests) in
+      let on = reads_on c.args.source.now c.loop-rest.rest.now c.first_line.result.0.now c.first_line.result.1.now c.loop-rest.instructions.items
+      [] c.loop-rest.number c.first_line.ensures.lines
+      (blank_line c.first_line.result.0.now (lines_of c.first_line.result.1.now) empty) c.loop-rest.invariant.so_far in
+      let items = ap (λ v. v.items) w.instructions-is ∙ sym (append-nil c.loop-rest.instructions.items) in
+      let same : length c.if-not-is_empty.instructions.items ≡ length c.loop-rest.instructions.items = ap (λ v. length v.items) w.instructions-is in
+      record { so_far = rw items on; plain = rw (ap (λ v. v.items) w.instructions-is) c.loop-rest.invariant.plain; short = omega (arith, c.first_line.ensures.within); small = omega (arith, c.first_line.ensures.shorter) }
 ]

@@ -8,6 +8,6 @@ use Rattle.m88_cli.proofs.machine.Machine.issue.Goals as goal
 pub returns-clause-moves : goal.returns-clause-moves
 returns-clause-moves c =
     on_ok_weaker c.step.result
-      (λ makes p m holds at. issued p c.args.limit m c.args.self.now c.step.new.self (sym c.is_over.ensures ∙ c.if-is_over.false) c.if-self.false
-        (makes p (opening p).memory holds) at)
-      c.step.ensures.makes
+    (λ makes p m holds at. issued p c.args.limit m c.args.self.now c.step.new.self (sym c.is_over.ensures ∙ c.if-is_over.false) c.if-self.false
+    (makes p (opening p).memory holds) at)
+    c.step.ensures.makes

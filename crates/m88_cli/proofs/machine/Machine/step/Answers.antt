@@ -8,7 +8,7 @@ use Rattle.m88_cli.proofs.machine.Machine.step.Goals as goal
 pub returns-in-Ok-clause-makes : goal.returns-in-Ok-clause-makes
 returns-in-Ok-clause-makes c =
     on_ok_weaker c.execute.result
-      (λ makes p memory holds. rw (step_is p c.args.image.now (state_in c.args.self.now memory) c.in-Some.word c.in-Ok.instr holds
-        c.requires.aligned.0 (omega arith) (sym c.in-Some.ensures) c.in-Ok.ensures.found
-        (λ j is. let read = c.decode.ensures.only j is in let said = c.in-Ok.is in cc)) (makes memory))
-      c.execute.ensures.makes
+    (λ makes p memory holds. rw (step_is p c.args.image.now (state_in c.args.self.now memory) c.in-Some.word c.in-Ok.instr holds
+    c.requires.aligned.0 (omega arith) (sym c.in-Some.ensures) c.in-Ok.ensures.found
+    (λ j is. let read = c.decode.ensures.only j is in let said = c.in-Ok.is in cc)) (makes memory))
+    c.execute.ensures.makes
