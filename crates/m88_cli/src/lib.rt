@@ -17,6 +17,8 @@ mod report;
 mod run;
 mod source;
 mod status;
+#[cfg(test)]
+mod tests;
 mod words;
 
 pub use program::{MOST_INPUT, m88};
