@@ -7,7 +7,6 @@ use Rattle.m88_isa.specs.Machine.{four_bytes, word_bytes}
 use Rattle.m88_isa.specs.Word.{IsWord}
 use Rattle.m88_cli.specs.Loaded.{HasPlainWords, IsImageOf}
 use Rattle.m88_cli.specs.Program.{instruction_over, program_of, text_base}
-use Rattle.std.proofs.Common.{inl, inr}
 use Rattle.std.proofs.lemmas.Bool.{cases_lt}
 use Rattle.std.proofs.lemmas.Bool.Decides.{nat_tests}
 use Rattle.std.proofs.lemmas.Option.{slice_get_past}

@@ -1,4 +1,4 @@
-ghost use Rattle.std.specs.Prelude.{◌≡◌, ◌<◌, ◌^◌};
+ghost use Rattle.std.specs.Prelude.{◌≡◌, ◌<◌};
 ghost use Rattle.m88_cli.specs.Text.{hex_digit, hex2, hex8};
 
 /// The hexadecimal digit of a number below 16, in upper case.

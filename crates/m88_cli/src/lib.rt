@@ -18,6 +18,8 @@ mod report;
 mod run;
 mod source;
 mod status;
+#[cfg(test)]
+mod tests;
 mod words;
 
 pub use laws::one_report;

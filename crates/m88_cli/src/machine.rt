@@ -1,4 +1,4 @@
-ghost use Rattle.std.specs.Prelude.{false, ◌≡◌, ◌+◌, ◌<◌, ◌≤◌, ◌%◌, ◌^◌, ◌||◌, ◌==◌, ℕ, Ok, Some, None, IfOk, OnOk, is_some, option_map};
+ghost use Rattle.std.specs.Prelude.{false, ◌≡◌, ◌+◌, ◌<◌, ◌≤◌, ◌||◌, ◌==◌, ℕ, Some, OnOk, is_some};
 ghost use Rattle.m88_isa.specs.Effect.{meaning_of};
 ghost use Rattle.m88_isa.specs.Machine.{Program, carried_out, step, trapped, with_register, with_written};
 ghost use Rattle.m88_cli.specs.Machine.{GoesOn, IsAligned, IsAt, IsNearer, Makes, is_over_at, left_to_do, state_in, summary_in};
@@ -79,7 +79,8 @@ impl Machine {
         requires within { self.old.retired ≤ limit }
         ensures aligned { OnOk result (IsAligned self.new) }
         ensures within { OnOk result (self.new.retired ≤ limit) }
-        ensures moves { OnOk result ((p : Program) (m : Moment) → IsImageOf p image.now → IsAt p m self.old → IsAt p (made (choice_at p limit letter m) m) self.new) }
+        ensures moves { OnOk result ((p : Program) (m : Moment) → IsImageOf p image.now → IsAt p m self.old
+            → IsAt p (made (choice_at p limit letter m) m) self.new) }
         ensures nearer { OnOk result (is_over_at limit self.old ≡ false → IsNearer limit letter self.old self.new) }
     {
         match letter {
@@ -113,8 +114,10 @@ impl Machine {
         requires within { self.old.retired ≤ limit }
         ensures aligned { OnOk result (IsAligned self.new) }
         ensures within { OnOk result (self.new.retired ≤ limit) }
-        ensures moves { OnOk result ((p : Program) (m : Moment) → IsImageOf p image.now → IsAt p m self.old → IsAt p (made (issue_choice p limit m) m) self.new) }
-        ensures nearer { OnOk result (is_over_at limit self.old ≡ false → left_to_do limit self.new < left_to_do limit self.old) }
+        ensures moves { OnOk result ((p : Program) (m : Moment) → IsImageOf p image.now → IsAt p m self.old
+            → IsAt p (made (issue_choice p limit m) m) self.new) }
+        ensures nearer { OnOk result (is_over_at limit self.old ≡ false
+            → left_to_do limit self.new < left_to_do limit self.old) }
     {
         if self.is_over(limit) {
             return Ok(());
@@ -132,7 +135,8 @@ impl Machine {
         requires aligned { IsAligned self.old }
         requires room { self.old.retired < 1000000 }
         ensures aligned { OnOk result (IsAligned self.new) }
-        ensures makes { OnOk result ((p : Program) (memory : ℕ → ℕ) → IsImageOf p image.now → Makes (step p (state_in self.old memory)) memory self.old self.new) }
+        ensures makes { OnOk result ((p : Program) (memory : ℕ → ℕ) → IsImageOf p image.now
+            → Makes (step p (state_in self.old memory)) memory self.old self.new) }
         ensures goes { OnOk result (GoesOn self.old self.new) }
     {
         let Some(word) = fetch(image, self.pc) else {
@@ -155,7 +159,9 @@ impl Machine {
         requires aligned { IsAligned self.old }
         ensures aligned { OnOk result (IsAligned self.new) }
         ensures goes { OnOk result (GoesOn self.old self.new) }
-        ensures makes { OnOk result ((memory : ℕ → ℕ) → Makes (carried_out (meaning_of instr.now self.old.regs self.old.carry self.old.pc self.old.next) (state_in self.old memory)) memory self.old self.new) }
+        ensures makes { OnOk result ((memory : ℕ → ℕ) → Makes
+            (carried_out (meaning_of instr.now self.old.regs self.old.carry self.old.pc self.old.next) (state_in self.old memory))
+            memory self.old self.new) }
     {
         match plan(instr, &self.regs, self.carry, self.pc, self.next) {
             Plan::Raise(vector) => {
@@ -186,7 +192,8 @@ impl Machine {
         requires aligned { IsAligned self.old }
         ensures aligned { OnOk result (IsAligned self.new) }
         ensures goes { OnOk result (GoesOn self.old self.new) }
-        ensures makes { OnOk result ((memory : ℕ → ℕ) → Makes (trapped vector (state_in self.old memory)) memory self.old self.new) }
+        ensures makes { OnOk result ((memory : ℕ → ℕ)
+            → Makes (trapped vector (state_in self.old memory)) memory self.old self.new) }
     {
         if vector == MONITOR_TRAP && self.regs[9] == PUT_BYTE {
             self.out.push((self.regs[2] % 256) as u8)?;
@@ -205,7 +212,14 @@ impl Machine {
     /// Makes the changes of an instruction without accesses.
     fn go(&mut self, effect: &Effect)
         requires room { self.old.retired < 1000000 }
-        ensures { self.new ≡ record self.old { regs = with_written effect.now.reg self.old.regs; carry = effect.now.carry; pc = effect.now.after.0; next = effect.now.after.1; bubble = effect.now.bubble; retired = self.old.retired + 1 } }
+        ensures { self.new ≡ record self.old {
+          regs = with_written effect.now.reg self.old.regs;
+          carry = effect.now.carry;
+          pc = effect.now.after.0;
+          next = effect.now.after.1;
+          bubble = effect.now.bubble;
+          retired = self.old.retired + 1;
+        } }
     {
         if let Some((r, value)) = effect.reg {
             self.write(r, value);

@@ -1,4 +1,4 @@
-ghost use Rattle.std.specs.Prelude.{◌≡◌, ◌++◌, OnOk, IfOk, codes, decimal, flat_map, ◌∷◌};
+ghost use Rattle.std.specs.Prelude.{◌≡◌, ◌++◌, IfOk, OnOk, decimal};
 ghost use Rattle.m88_cli.specs.Report.{count_line, end_text, out_text, register_line, register_lines, report_of};
 ghost use Rattle.m88_cli.specs.Outcome.{summary_of};
 

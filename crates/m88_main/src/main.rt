@@ -6,27 +6,26 @@ mod advice;
 
 use crate::advice::{NO_WORDS, advice_on};
 use m88_base::{StdSink, StdSource};
-use m88_cli::m88;
+use m88_cli::{Status, m88};
 use std::env;
 use std::process::ExitCode;
 
 /// The exit status where the words of the command can't be had, which the top call never answers.
 const NO_WORDS_STATUS: u8 = 7;
 
-/// The exit status where there is no memory for the words.
-const NO_MEMORY_STATUS: u8 = 5;
-
 fn main(rt: HostRuntime) -> ExitCode {
     let Ok(arguments) = env::args(&rt) else {
         let _ = eprintln!(rt; "{NO_WORDS}");
         return ExitCode::from(NO_WORDS_STATUS);
     };
-    let Ok(words) = arguments.skip(1).collect::<Vec<String>>(rt.alloc()) else {
-        return ExitCode::from(NO_MEMORY_STATUS);
+    let status = match arguments.skip(1).collect::<Vec<String>>(rt.alloc()) {
+        Ok(words) => {
+            let mut source = StdSource::new(rt.reader());
+            let mut sink = StdSink::new(rt.stdout());
+            m88(rt.alloc(), words.as_slice(), &mut source, &mut sink)
+        }
+        Err(_) => Status::Memory,
     };
-    let mut source = StdSource::new(rt.reader());
-    let mut sink = StdSink::new(rt.stdout());
-    let status = m88(rt.alloc(), words.as_slice(), &mut source, &mut sink);
     if let Some(advice) = advice_on(status) {
         let _ = eprintln!(rt; "{advice}");
     }
