@@ -15,7 +15,7 @@ pub const MOST_BYTES: usize = 1_048_576;
 /// Why bytes were not added to an image.
 #[derive(Clone, Copy, PartialEq, Eq, Debug)]
 pub enum ImageFault {
-    /// A byte would lie past 0xFFFFFFFF, or the image would have more than 1,048,576 bytes.
+    /// The bytes don't fit below 2^32, or the image would have more than 1,048,576 of them.
     TooLarge,
     /// The least of the new addresses that has a byte already.
     Overlap(u32),

@@ -20,6 +20,7 @@ mod source;
 mod std_edge;
 #[cfg(test)]
 mod tests;
+mod triple;
 mod writing;
 
 pub use absent::Absent;
@@ -35,4 +36,5 @@ pub use reg::Reg;
 pub use sink::Sink;
 pub use source::Source;
 pub use std_edge::{StdSink, StdSource};
+pub use triple::Triple;
 pub use writing::{SinkFault, write_all};

@@ -3,7 +3,7 @@ ghost use Rattle.std.specs.Prelude.{◌≡◌};
 
 use std::marker::Model;
 
-/// A vector that is seen as the list of its items.
+/// A vector that a clause compares by its items alone.
 #[derive(Drop, Debug)]
 pub struct Listed<T> {
     items: Vec<T>,

@@ -40,8 +40,8 @@ impl Model for MemSource {
 }
 
 impl MemSource {
-    /// A source of `bytes` that gives at most `piece` bytes a call and fails in the calls whose
-    /// numbers, from 0, are in `failing`.
+    /// A source of `bytes` that gives at most `piece` bytes a call. Its calls are counted from 0, and it
+    /// fails in those that `failing` lists.
     pub fn new(
         alloc: Global,
         bytes: &[u8],

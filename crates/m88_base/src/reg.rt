@@ -10,7 +10,7 @@ pub struct Reg {
 impl Reg {
     ghost use Rattle.m88_base.specs.Reg.{number_of, reg_of};
 
-    /// r0, which reads as 0 and ignores writes.
+    /// r0, whose value is always 0.
     pub const ZERO: Reg = Reg { n: 0 };
 
     /// The register of a number, or None where the number is above 31.

@@ -1,10 +1,10 @@
--- A run is over for the first time after one number of events, so it has one report.
-use Rattle.std.proofs.Common.{◌≡◌, ℕ, ◌<◌, ap, sym, ◌∙◌, arith, inl, inr}
+-- A run is over for the first time after one number of events, so it comes to one thing.
+use Rattle.std.proofs.Common.{◌≡◌, ℕ, ◌<◌, List, ap, sym, ◌∙◌, arith, inl, inr}
 use Rattle.std.proofs.lemmas.Bool.{cases_lt}
 use Rattle.m88_isa.specs.Machine.{Program}
-use Rattle.m88_cli.specs.Answer.{HasOneReport}
-use Rattle.m88_cli.specs.Report.{report_of}
-use Rattle.m88_cli.specs.Timeline.{IsRun, moment, summary_at}
+use Rattle.m88_cli.specs.Answer.{IsReport}
+use Rattle.m88_cli.specs.Report.{Summary, report_of}
+use Rattle.m88_cli.specs.Timeline.{IsRun, IsRunSummary, moment, summary_at}
 
 -- a run that is over isn't over before
 not_before : (p : Program) (limit n m : ℕ) → IsRun p limit n → IsRun p limit m → n < m → ⊥
@@ -19,7 +19,17 @@ same_events p limit n m run other = elim (cases_lt n m) [
   ]
 ]
 
-pub one_report_lem : HasOneReport
-one_report_lem p limit text other is is_too =
-    let same = same_events p limit is.run.events is_too.run.events is.run.run is_too.run.run in
-    is.report ∙ ap report_of (is.run.summary ∙ ap (λ n. summary_at p (moment p limit n)) same ∙ sym is_too.run.summary) ∙ sym is_too.report
+-- a run comes to one thing
+pub same_summary : (p : Program) (limit : ℕ) (summary other : Summary) → IsRunSummary p limit summary → IsRunSummary p limit other → other ≡ summary
+same_summary p limit summary other is is_too =
+    let same = same_events p limit is_too.events is.events is_too.run is.run in
+    is_too.summary ∙ ap (λ n. summary_at p (moment p limit n)) same ∙ sym is.summary
+
+-- the text of what a run comes to is its report
+pub report_is : (p : Program) (limit : ℕ) (summary : Summary) (text : List ℕ) → IsRunSummary p limit summary → text ≡ report_of summary → IsReport p limit text
+report_is p limit summary text run report = record {
+  summary = summary;
+  run = run;
+  only = λ other is. same_summary p limit summary other run is;
+  report = report;
+}

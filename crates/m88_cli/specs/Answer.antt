@@ -12,10 +12,11 @@ use Rattle.m88_cli.specs.declared.choice.Command.TheVariants.{Run}
 abbrev pub accepts : Command → List ℕ → Bool
 accepts (Run limit) source = is_accepted source
 
--- the text is the report of the sequential machine over a program with a limit
+-- the text is the report of the sequential machine over a program with a limit, and the run comes to nothing else
 pub record IsReport (p : Program) (limit : ℕ) (text : List ℕ) : Type 0 where
   pub summary : Summary
   pub run : IsRunSummary p limit summary
+  pub only : (other : Summary) → IsRunSummary p limit other → other ≡ summary
   pub report : text ≡ report_of summary
 
 -- the text is what a command writes for an input that it accepts
@@ -29,7 +30,3 @@ refusal_of source = codes "refused " ++ decimal (first_other source) ++ codes ":
 -- the text is what a command writes for an input
 abbrev pub IsAnswer : Command → List ℕ → List ℕ → Type 0
 IsAnswer command input text = MatchBool (accepts command input) (IsText command input text) (text ≡ refusal_of input)
-
--- a program has one report for a limit
-abbrev pub HasOneReport : Type 0
-HasOneReport = (p : Program) (limit : ℕ) (text other : List ℕ) → IsReport p limit text → IsReport p limit other → text ≡ other

@@ -3,6 +3,7 @@ pub mod Report
 pub mod Outcome
 pub mod Numbers
 pub mod Source
+pub mod Reading
 pub mod Program
 pub mod Timeline
 pub mod Machine

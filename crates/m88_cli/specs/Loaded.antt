@@ -1,4 +1,5 @@
--- Images and the programs that they hold.
+-- Words for the contracts of private functions; no promise of the program names them. Images and the programs
+-- that they hold.
 use Rattle.std.specs.Prelude.{ℕ, ◌≡◌, ◌%◌, ◌^◌, ◌<◌, Some, MatchOption}
 use Rattle.std.specs.Int.{to_be_bytes, w32}
 use Rattle.m88_base.specs.Image.{ProgramImage, byte_at}
@@ -15,7 +16,7 @@ pub record IsImageOf (p : Program) (image : ProgramImage) : Type 0 where
   pub instructions : (a word : ℕ) → a % 4 ≡ 0 → word < 2 ^ 32 → four_bytes (byte_at image) a ≡ Some (to_be_bytes w32 word)
       → MatchOption (p.instruction a) ((i : Instr) → ¬ IsWord i word) (λ i. IsWord i word)
 
--- every word of an image is that of such an instruction
+-- every word of an image is that of an instruction that a source may have
 abbrev pub HasPlainWords : ProgramImage → Type 0
 HasPlainWords image = (a word : ℕ) → a % 4 ≡ 0 → word < 2 ^ 32 → four_bytes (byte_at image) a ≡ Some (to_be_bytes w32 word)
     → (i : Instr) × IsPlain i × IsWord i word

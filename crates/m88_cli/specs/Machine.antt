@@ -1,4 +1,5 @@
--- The machine that carries a program out, seen as a state of the sequential machine and the marks of a moment.
+-- Words for the contracts of private functions; no promise of the program names them. The machine that
+-- carries a program out, seen as a state of the sequential machine and the marks of a moment.
 use Rattle.std.specs.Prelude.{◌<◌, unwrap_or, Bool, true, ◌*◌, ◌-◌, if◌then◌else◌, ◌⊎◌, ◌||◌, ◌==◌, ◌%◌, ℕ, ◌≡◌, ◌+◌, Some, is_some, MatchOption}
 use Rattle.m88_isa.specs.Machine.{Program, State, Step, ends, on, opening, state, step}
 use Rattle.m88_cli.specs.Report.{Summary}

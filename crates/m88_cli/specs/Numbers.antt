@@ -26,6 +26,6 @@ abbrev pub is_hexadecimal : List ℕ → Bool
 is_hexadecimal text =
     nat_le 3 (length text) && nat_le (length text) 6 && slice_index text 0 == 48 && slice_index text 1 == 120
 
--- a number, decimal without needless zeros or `0x` and one to four hexadecimal digits, up to a most
+-- a number in either notation, up to a most
 abbrev pub plain_number : ℕ → List ℕ → Option ℕ
 plain_number most text = if is_hexadecimal text then number_in 16 most (drop 2 text) else decimal_number most text

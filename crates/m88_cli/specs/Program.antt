@@ -21,6 +21,7 @@ instruction_over instructions a = if nat_le text_base a then slice_get instructi
 abbrev pub word_bytes_of : Instr → List ℕ
 word_bytes_of i = to_be_bytes w32 (word_of i)
 
+-- the program of instructions
 abbrev pub program_of : List Instr → Program
 program_of instructions = record {
   start = text_base;
@@ -28,7 +29,7 @@ program_of instructions = record {
   instruction = λ a. if a % 4 == 0 then instruction_over instructions a else None;
 }
 
--- the instructions that a source may have, with the ranges of their numbers
+-- the two forms of instruction that a source may have, with the ranges of their numbers; private contracts alone name it
 abbrev pub IsPlain : Instr → Type 0
 IsPlain (Imm Or d s1 imm) = imm < 2 ^ 16
 IsPlain (TrapBit set bit s1 vector) = (bit < 32) × (vector < 512)

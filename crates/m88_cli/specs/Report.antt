@@ -1,4 +1,4 @@
--- The report of a run: what it came to, line by line.
+-- The report of a run, line by line (the format of reports, docs/FORMATS.md).
 use Rattle.std.specs.Prelude.{ℕ, List, [], ◌∷◌, ◌++◌, Bool, take, drop, flat_map, codes, decimal, length, ◌==◌, if◌then◌else◌}
 use Rattle.m88_cli.specs.declared.outcome.End.{End}
 use Rattle.m88_cli.specs.declared.outcome.End.TheVariants.{Limit, Exit, Vector}
@@ -48,7 +48,8 @@ register_lines regs =
 abbrev pub out_text : List ℕ → List ℕ
 out_text out = if length out == 0 then codes "-" else flat_map hex2 out
 
--- the whole report
+-- the whole report; no instruction of a source stores or has a transaction pending, so no line tells of a changed word or
+-- of a data fault
 abbrev pub report_of : Summary → List ℕ
 report_of s =
     codes "end " ++ end_text s.end ++ line_end

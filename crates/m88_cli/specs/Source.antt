@@ -2,16 +2,13 @@
 --     or rD,rS1,N      N is 0 to 65535
 --     tb0 B,rS1,V      B is 0 to 31, V is 0 to 511
 -- Exactly one blank stands behind the mnemonic and none elsewhere. Every other line is refused.
-use Rattle.std.specs.Prelude.{All, ◌*◌, ◌≤◌, ℕ, ◌+◌, List, [], ◌∷◌, Bool, true, false, ◌≡◌, nat_eq, option_map, Option, None, ◌==◌, ◌||◌, is_some, length, drop, filter_map, slice_index, codes, option_and_then, if◌then◌else◌}
+use Rattle.std.specs.Prelude.{ℕ, ◌+◌, List, [], ◌∷◌, Bool, false, nat_eq, option_map, Option, None, ◌==◌, ◌||◌, is_some, length, drop, filter_map, slice_index, codes, option_and_then, if◌then◌else◌}
 use Rattle.std.specs.List.{list_all, prefix_len, before_first, after_first, starts_with}
 use Rattle.m88_base.specs.Reg.{reg_of}
 use Rattle.m88_isa.specs.declared.instr.Instr.{Instr}
 use Rattle.m88_isa.specs.declared.instr.Instr.TheVariants.{Imm, TrapBit}
 use Rattle.m88_isa.specs.declared.instr.ImmOp.TheVariants.{Or}
 use Rattle.m88_base.specs.declared.reg.Reg.{Reg}
-use Rattle.m88_cli.specs.declared.source.Reading.{Reading}
-use Rattle.m88_cli.specs.declared.source.Reading.TheVariants.{Accepted, Refused}
-use Rattle.m88_cli.specs.Program.{IsPlain}
 use Rattle.m88_cli.specs.Numbers.{decimal_number, plain_number}
 
 -- a byte at the front of the first line
@@ -24,16 +21,19 @@ abbrev pub lines_of : List ℕ → List (List ℕ)
 lines_of [] = []
 lines_of (b ∷ source) = if b == 10 then [] ∷ lines_of source else begin_line b (lines_of source)
 
--- the three operands of a line, parted by commas; the third may hold anything
+-- operands are parted by commas
 abbrev pub is_comma : ℕ → Bool
 is_comma b = b == 44
 
+-- the first operand: what stands before the first comma
 abbrev pub first_operand : List ℕ → List ℕ
 first_operand text = before_first is_comma text
 
+-- the second operand: what stands between the first two commas
 abbrev pub second_operand : List ℕ → List ℕ
 second_operand text = before_first is_comma (after_first is_comma text)
 
+-- the third operand: what stands behind the second comma
 abbrev pub third_operand : List ℕ → List ℕ
 third_operand text = after_first is_comma (after_first is_comma text)
 
@@ -77,18 +77,3 @@ instructions_of source = filter_map instruction_of (lines_of source)
 -- the number, from 1, of the first line of another form
 abbrev pub first_other : List ℕ → ℕ
 first_other source = prefix_len is_line (lines_of source) + 1
-
--- what a reading says of a source
-abbrev pub Reads : List ℕ → Reading → Type 0
-Reads source (Accepted v) = (is_accepted source ≡ true) × (v.items ≡ instructions_of source)
-Reads source (Refused line) = (is_accepted source ≡ false) × (line ≡ first_other source)
-
--- each instruction of a source takes at least four of its bytes
-abbrev pub FitsSource : List ℕ → Reading → Type 0
-FitsSource source (Accepted v) = 4 * length v.items ≤ length source
-FitsSource source (Refused line) = Unit {0}
-
--- each instruction of a source is one that a source may have
-abbrev pub HasPlain : Reading → Type 0
-HasPlain (Accepted v) = All IsPlain v.items
-HasPlain (Refused line) = Unit {0}

@@ -1,5 +1,5 @@
--- The timeline of a run: its events, one for each letter, and the moments between them. The letter `r` answers what is
--- pending in the data unit, and the letter `i` tries one issue. No instruction that a source may have reads or writes
+-- The timeline of a run: its events, one for each letter, and the moments between them. The letter `r` is for
+-- the data unit, which answers its oldest transaction, and the letter `i` for an attempt to issue. No instruction that a source may have reads or writes
 -- memory, so nothing is ever pending.
 use Rattle.std.specs.Prelude.{ℕ, zero, suc, Bool, true, false, ◌≡◌, ◌<◌, ◌+◌, ◌%◌, ◌==◌, ◌||◌, if◌then◌else◌}
 use Rattle.m88_isa.specs.Machine.{Program, Step, Stop, ends, exits, faults, on, state, step}
@@ -19,6 +19,7 @@ pub record Moment : Type 0 where
   pub answers : ℕ
   pub faults : ℕ
 
+-- before the first event
 abbrev pub opening_moment : Moment
 opening_moment = record { retired = 0; bubble = false; ended = false; events = 0; answers = 0; faults = 0 }
 
@@ -34,6 +35,7 @@ pub data Choice : Type 0 where
   finishes : Choice
   retires : Bool → Choice
 
+-- what a step of the history makes an issue do
 abbrev pub choice_of_step : Step → Choice
 choice_of_step (on bubble s) = retires bubble
 choice_of_step (ends stop) = finishes
@@ -43,20 +45,23 @@ abbrev pub issue_choice : Program → ℕ → Moment → Choice
 issue_choice p limit m =
     if is_over limit m then idles else (if m.bubble then passes else choice_of_step (step p (state p m.retired)))
 
+-- what a letter does at a moment
 abbrev pub choice_at : Program → ℕ → Letter → Moment → Choice
 choice_at p limit Issue m = issue_choice p limit m
 choice_at p limit Answer m = idles
 
+-- the moment that is made of one, but for the count of events
 abbrev pub made : Choice → Moment → Moment
 made idles m = m
 made passes m = record m { bubble = false }
 made finishes m = record m { ended = true }
 made (retires bubble) m = record m { retired = m.retired + 1; bubble = bubble }
 
--- the moment after an event
+-- one more event is counted
 abbrev pub counted_event : Moment → Moment
 counted_event m = record m { events = m.events + 1 }
 
+-- the moment after an event
 abbrev pub after_event : Program → ℕ → Letter → Moment → Moment
 after_event p limit letter m = counted_event (made (choice_at p limit letter m) m)
 
@@ -79,6 +84,7 @@ abbrev pub end_of_stop : Stop → End
 end_of_stop (exits at) = Exit at
 end_of_stop (faults vector at) = Vector vector at
 
+-- how a step ends a history; one that goes on doesn't
 abbrev pub end_of_step : Step → End
 end_of_step (on bubble s) = Limit
 end_of_step (ends stop) = end_of_stop stop

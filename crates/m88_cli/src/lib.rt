@@ -6,7 +6,6 @@ mod choice;
 mod digits;
 mod fetch;
 mod job;
-mod laws;
 mod letter;
 mod load;
 mod machine;
@@ -22,6 +21,5 @@ mod status;
 mod tests;
 mod words;
 
-pub use laws::one_report;
 pub use program::{MOST_INPUT, m88};
 pub use status::Status;

@@ -36,7 +36,7 @@ pub fn decimal_number(most: u32, text: &[u8]) -> Option<u32>
     }
 }
 
-/// A decimal number without needless zeros, or `0x` and one to four hexadecimal digits, at most `most`.
+/// A number in either notation of a source, at most `most`.
 pub fn plain_number(most: u32, text: &[u8]) -> Option<u32>
     requires { most ≤ 1000000 }
     ensures value { result ≡ plain_number most text.now }

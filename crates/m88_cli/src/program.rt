@@ -18,8 +18,8 @@ use std::alloc::Global;
 /// The most bytes that an input may have.
 pub const MOST_INPUT: usize = 1_048_576;
 
-/// Does all that the program does: reads the source to its end, carries out the command that the
-/// words spell, and writes its text to the sink.
+/// The whole program between its words, a source and a sink: the source is read to its end, the
+/// command that the words spell is carried out, and its text is written to the sink.
 pub fn m88<S: Source, K: Sink>(
     alloc: Global,
     words: &[String],

@@ -1,6 +1,7 @@
 ghost use Rattle.std.specs.Prelude.{◌≡◌, ◌∷◌, ◌<◌, ◌^◌, ◌≤◌, ◌+◌, ◌==◌, IfOk, IfSome, IsSome, length};
 ghost use Rattle.std.specs.List.{after_first, before_first, position_or_len};
-ghost use Rattle.m88_cli.specs.Source.{FitsSource, HasPlain, Reads, first_operand, instruction_of, is_comma, lines_of, or_of, register_named, second_operand, tb0_of, third_operand};
+ghost use Rattle.m88_cli.specs.Reading.{FitsSource, HasPlain, Reads};
+ghost use Rattle.m88_cli.specs.Source.{first_operand, instruction_of, is_comma, lines_of, or_of, register_named, second_operand, tb0_of, third_operand};
 ghost use Rattle.m88_cli.specs.Program.{IsPlain};
 
 use crate::numbers::{decimal_number, plain_number};
