@@ -1,0 +1,26 @@
+ghost use Rattle.std.specs.Prelude.{◌≡◌, IfOk};
+ghost use Rattle.m88_isa.specs.Word.{IsWord, HasOneReading};
+ghost use Rattle.m88_isa.specs.declared.instr.Instr.{Instr as Instruction};
+
+use super::candidate::candidate;
+use super::encoder::encode;
+use m88_isa::{Instr, is_valid};
+
+/// The word is outside the word table.
+#[derive(Clone, Copy, PartialEq, Eq, Debug)]
+pub struct BadWord;
+
+/// The instruction of a word. A word with a bit set in a field that its form leaves unused is no
+/// instruction in this project's profile.
+pub fn decode(word: u32) -> Result<Instr, BadWord>
+    ensures found { IfOk result (λ i. IsWord i word) }
+    ensures only { (i : Instruction) → IsWord i word → result ≡ Ok i }
+    ensures one_reading { HasOneReading word }
+{
+    let instr = candidate(word);
+    if is_valid(&instr) && encode(&instr) == word {
+        Ok(instr)
+    } else {
+        Err(BadWord)
+    }
+}

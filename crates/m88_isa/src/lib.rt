@@ -1,0 +1,8 @@
+//! The instructions of the MC88100: their forms and fields, the word of each one, and what each one
+//! does to registers, carry, memory and the flow of the program.
+//! The definitions in `specs/` are the ones that every other crate of the workspace cites.
+#![tactic(auto)]
+
+mod instr;
+
+pub use instr::{BitOp, ImmOp, Instr, LdaSize, MemOp, RegOp, is_valid};
