@@ -2,6 +2,12 @@
 //! and the image that a program is linked into.
 #![tactic(auto)]
 
+mod fixup;
+mod listed;
+mod name;
 mod reg;
 
+pub use fixup::{Fixup, Kind};
+pub use listed::Listed;
+pub use name::Name;
 pub use reg::Reg;
