@@ -4,9 +4,14 @@
 
 mod fault;
 mod lexemes;
+mod names;
+mod operand;
 mod scan;
 mod token;
+mod unit;
 
 pub use fault::{ParseFault, ParseKind};
 pub use lexemes::tokens;
+pub use m88_base::{Fixup, Kind, Name};
 pub use token::{Token, TokenKind};
+pub use unit::{Body, Module, Statement, Unit, Value};

@@ -116,7 +116,7 @@ fn is_hexadecimal(run: &[u8]) -> bool
     }
 }
 
-fn is_decimal(run: &[u8]) -> bool
+pub(crate) fn is_decimal(run: &[u8]) -> bool
     ensures { result ≡ is_decimal run.now }
 {
     match run {
@@ -126,7 +126,7 @@ fn is_decimal(run: &[u8]) -> bool
 }
 
 /// The value of digits in a base, where it is below 2^32.
-fn value_of(base: u64, digits: &[u8]) -> Result<u32, ParseKind>
+pub(crate) fn value_of(base: u64, digits: &[u8]) -> Result<u32, ParseKind>
     requires least { 0 < base }
     requires most { base ≤ 16 }
     ensures { result ≡ bounded (digits_value base digits.now) }
