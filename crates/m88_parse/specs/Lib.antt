@@ -1,3 +1,6 @@
 pub mod Fault
 pub mod Tokens
 pub mod Names
+pub mod State
+pub mod Slots
+pub mod WellFormed

@@ -6,7 +6,9 @@ mod fault;
 mod lexemes;
 mod names;
 mod operand;
+mod parser;
 mod scan;
+mod slots;
 mod token;
 mod unit;
 
