@@ -3,4 +3,5 @@ pub mod Tokens
 pub mod Names
 pub mod State
 pub mod Slots
+pub mod Operands
 pub mod WellFormed

@@ -1,6 +1,6 @@
 -- Units that the assembler can lay out: every instruction is valid, each fixup has the kind of its operand and waits
 -- for a field that is 0, and alignments are 1, 2, 4 or 8.
-use Rattle.std.specs.Prelude.{◌≡◌, ◌⊎◌, ◌<◌, ◌+◌, ◌^◌, ℕ, ℤ, pos, List, [], ◌∷◌, length, Option, Some, None}
+use Rattle.std.specs.Prelude.{◌≡◌, ◌⊎◌, ◌<◌, ◌≤◌, ◌+◌, ◌^◌, ℕ, ℤ, pos, negsuc, List, [], ◌∷◌, length, Option, Some, None}
 use Rattle.std.specs.List.{All, sum_by}
 use Rattle.m88_base.specs.declared.fixup.Kind.{Kind}
 use Rattle.m88_base.specs.declared.fixup.Kind.TheVariants.{Hi16, Lo16, Pc26, Pc16, Abs32}
@@ -8,6 +8,14 @@ use Rattle.m88_base.specs.declared.fixup.Fixup.{Fixup}
 use Rattle.m88_isa.specs.Instr.{IsValid}
 use Rattle.m88_isa.specs.declared.instr.Instr.{Instr}
 use Rattle.m88_isa.specs.declared.instr.Instr.TheVariants.{Imm, MemImm, Branch, BranchBit, BranchCond}
+use Rattle.m88_parse.specs.declared.operand.Immediate.{Immediate}
+use Rattle.m88_parse.specs.declared.operand.Operand.{Operand}
+use Rattle.m88_parse.specs.declared.operand.Operand.TheVariants as operand
+use Rattle.m88_parse.specs.declared.operand.Index.{Index}
+use Rattle.m88_parse.specs.declared.operand.Index.TheVariants as index
+use Rattle.m88_parse.specs.declared.operand.Field.{Field}
+use Rattle.m88_parse.specs.declared.operand.Field.TheVariants as field
+use Rattle.m88_parse.specs.declared.operand.Goal.{Goal}
 use Rattle.m88_parse.specs.declared.unit.Value.{Value}
 use Rattle.m88_parse.specs.declared.unit.Value.TheVariants.{Number, Symbol}
 use Rattle.m88_parse.specs.declared.unit.Body.{Body}
@@ -23,6 +31,37 @@ IsOfKind kind (Symbol f) = f.kind ≡ kind
 
 abbrev pub IsAlignment : ℕ → Type 0
 IsAlignment n = (n ≡ 1) ⊎ ((n ≡ 2) ⊎ ((n ≡ 4) ⊎ (n ≡ 8)))
+
+-- hi16 or lo16
+abbrev pub IsHalf : Kind → Type 0
+IsHalf kind = (kind ≡ Hi16) ⊎ (kind ≡ Lo16)
+
+abbrev pub WaitsFor : (Kind → Type 0) → Type 0 → Option Fixup → Type 0
+WaitsFor P zero_field None = Unit {0}
+WaitsFor P zero_field (Some f) = P f.kind × zero_field
+
+-- what the operands of an instruction keep
+abbrev pub IsImmediate : Immediate → Type 0
+IsImmediate x = (x.imm < 2 ^ 16) × WaitsFor IsHalf (x.imm ≡ 0) x.fixup
+
+abbrev pub IsOperand : Operand → Type 0
+IsOperand (operand.Register r) = Unit {0}
+IsOperand (operand.Immediate x) = IsImmediate x
+
+abbrev pub IsIndex : Index → Type 0
+IsIndex (index.Scaled r) = Unit {0}
+IsIndex (index.Offset x) = IsOperand x
+
+abbrev pub IsField : ℕ → Field → Type 0
+IsField most (field.Register r) = Unit {0}
+IsField most (field.Literal width offset) = (width ≤ most) × (offset < 32)
+
+abbrev pub AreWords : ℕ → ℤ → Type 0
+AreWords limit (pos n) = n < limit
+AreWords limit (negsuc n) = n < limit
+
+abbrev pub IsGoal : Kind → ℕ → Goal → Type 0
+IsGoal kind limit x = AreWords limit x.words × WaitsFor (λ k. k ≡ kind) (x.words ≡ pos 0) x.fixup
 
 -- the field that waits for a symbol is 0, and the fixup has its kind
 abbrev pub Waits : Instr → Kind → Type 0

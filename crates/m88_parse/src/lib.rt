@@ -6,6 +6,7 @@ mod fault;
 mod lexemes;
 mod names;
 mod operand;
+mod operands;
 mod parser;
 mod scan;
 mod slots;
