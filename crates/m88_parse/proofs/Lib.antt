@@ -1,2 +1,4 @@
 pub mod Runs
 pub mod Pieces
+pub mod Collecting
+pub mod Texts
