@@ -1,8 +1,9 @@
-ghost use Rattle.std.specs.Prelude.{◌≡◌, ◌<◌, ◌≤◌, ◌+◌, ◌^◌, ◌⊎◌, length, map, IfOk, IfSome, MatchResult};
+ghost use Rattle.std.specs.Prelude.{◌≡◌, ◌<◌, ◌≤◌, ◌+◌, ◌^◌, ◌⊎◌, length, map, IfOk, IfErr, IfSome, MatchResult};
 ghost use Rattle.std.specs.List.{All};
 ghost use Rattle.m88_parse.specs.Fault.{Gives, out_of_memory};
 ghost use Rattle.m88_parse.specs.Places.{IsNear};
 ghost use Rattle.m88_parse.specs.Source.{end_of, row_of, unit_of};
+ghost use Rattle.m88_parse.specs.SourceFault.{IsSourceFault};
 ghost use Rattle.m88_parse.specs.Tokens.{piece_of};
 ghost use Rattle.m88_parse.specs.WellFormed.{IsRow, IsWellFormed};
 ghost use Rattle.m88_parse.specs.Drafts.{count_in, AreFormed, LeadsOn, EndsWith};
@@ -58,9 +59,8 @@ fn with_line(alloc: Global, draft: Draft, line: &[u8], number: u32) -> Result<Dr
     }
 }
 
-/// The unit of a source, or its first fault: the lines in order, each cut into tokens before its
-/// statement is read. The source is shorter than 2^31 bytes.
-pub fn parse(alloc: Global, source: &[u8]) -> Result<Unit, ParseFault>
+/// The modules, line by line.
+fn read_unit(alloc: Global, source: &[u8]) -> Result<Unit, ParseFault>
     requires { length source.now < 2 ^ 31 }
     ensures value { Gives (λ u. u) result (unit_of source.now) }
     ensures formed { IfOk result IsWellFormed }
@@ -81,4 +81,15 @@ pub fn parse(alloc: Global, source: &[u8]) -> Result<Unit, ParseFault>
     Ok(Unit {
         modules: Listed::new(modules),
     })
+}
+
+/// The unit of a source, or its first fault: the lines in order, each cut into tokens before its
+/// statement is read. The source is shorter than 2^31 bytes.
+pub fn parse(alloc: Global, source: &[u8]) -> Result<Unit, ParseFault>
+    requires { length source.now < 2 ^ 31 }
+    ensures value { Gives (λ u. u) result (unit_of source.now) }
+    ensures formed { IfOk result IsWellFormed }
+    ensures kind { IfErr result IsSourceFault }
+{
+    read_unit(alloc, source)
 }
