@@ -1,0 +1,19 @@
+use Rattle.std.proofs.Common.{◌≡◌, ◌+◌, ◌-◌, ◌≤◌, drop, length, map}
+use Rattle.std.specs.List.{All}
+use Rattle.m88_parse.specs.Places.{IsNear, IsLexemeOf}
+use Rattle.m88_parse.specs.Tokens.{piece_of, pieces, pieces_of}
+use Rattle.m88_parse.proofs.Pieces.{with_front}
+use Rattle.m88_parse.proofs.lexemes.lexemes.Given as goal
+
+abbrev pub invariant-loop-rest : goal.invariant-loop-rest
+invariant-loop-rest l = record {
+  cuts : with_front (map piece_of l.out.items) (pieces l.number 0 l.col l.rest) ≡ pieces_of l.number l.line;
+  place : l.col + length l.rest ≡ 1 + length l.line;
+  near : All IsNear l.out.items;
+  slices : All (IsLexemeOf l.line) l.out.items;
+  from_one : 1 ≤ l.col;
+  here : l.rest ≡ drop (l.col - 1) l.line;
+}
+
+abbrev pub decreases-loop-rest : goal.decreases-loop-rest
+decreases-loop-rest l = length l.rest

@@ -1,0 +1,16 @@
+use Rattle.std.proofs.Common.{ℕ, ◌∙◌, ap, sym, min, ◌*◌, ◌+◌, take, get_or}
+use Rattle.std.specs.Char.{digit_value}
+use Rattle.std.specs.Str.Parse.{digits_value}
+use Rattle.std.proofs.lemmas.Int.Digits.{digits_value_more}
+use Rattle.m88_parse.proofs.Runs.{capped}
+use Rattle.m88_parse.proofs.scan.value_of.Goals as goal
+
+pub loop-d-preserved : goal.loop-d-preserved
+loop-d-preserved c =
+    let v = digits_value c.args.base (take c.loop-d.d-index c.args.digits.now) in
+    let d = digit_value (get_or c.args.digits.now c.loop-d.d-index 0) in
+    c.min-value.ensures
+    ∙ ap (λ (n : ℕ). min (n * c.args.base + c.digit_of.result) 4294967296) c.loop-d.invariant
+    ∙ ap (λ (n : ℕ). min (min v 4294967296 * c.args.base + n) 4294967296) c.digit_of.ensures.value
+    ∙ capped v c.args.base d 4294967296 c.requires.least
+    ∙ ap (λ (n : ℕ). min n 4294967296) (sym (digits_value_more c.args.base c.args.digits.now c.loop-d.d-index c.loop-d-test.true))

@@ -1,0 +1,15 @@
+pub mod Fault
+pub mod Tokens
+pub mod Places
+pub mod Names
+pub mod State
+pub mod Slots
+pub mod Operands
+pub mod WellFormed
+pub mod Shape
+pub mod Directive
+pub mod Grammar
+pub mod Source
+pub mod LineEnd
+pub mod Drafts
+pub mod SourceFault

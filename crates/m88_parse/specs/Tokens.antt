@@ -1,0 +1,233 @@
+-- A line as tokens (tokens of the assembly language). Bytes are numbers, and columns count from 1.
+use Rattle.std.specs.Prelude.{ℕ, zero, suc, ◌+◌, ◌-◌, ◌&&◌, ◌||◌, not, Bool, true, false, ◌==◌, nat_lt, nat_le, if◌then◌else◌, List, [], ◌∷◌, length, take, drop, map, Option, Some, None, Result, Ok, Err}
+use lib.Chars.{codes}
+use Rattle.std.specs.List.{list_any, list_all, prefix_len}
+use Rattle.std.specs.Char.{digit_value, is_ascii_digit, is_ascii_alphanumeric}
+use Rattle.std.specs.Str.Parse.{digits_value}
+use Rattle.m88_parse.specs.declared.fault.ParseKind.{ParseKind}
+use Rattle.m88_parse.specs.declared.fault.ParseKind.TheVariants.{NotAscii, Syntax, OutOfRange}
+use Rattle.m88_parse.specs.declared.fault.ParseFault.{ParseFault}
+use Rattle.m88_parse.specs.declared.token.TokenKind.{TokenKind}
+use Rattle.m88_parse.specs.declared.token.TokenKind.TheVariants as kinds
+use Rattle.m88_parse.specs.declared.token.Token.{Token}
+use Rattle.m88_parse.specs.declared.token.What.{What}
+use Rattle.m88_parse.specs.declared.token.What.TheVariants as whats
+use Rattle.m88_parse.specs.declared.token.Lexeme.{Lexeme}
+use Rattle.m88_parse.specs.declared.scan.Cut.{Cut as CutOfCode}
+use Rattle.m88_parse.specs.declared.scan.Flaw.{Flaw}
+
+-- blanks separate tokens: space and tab
+abbrev pub is_blank : ℕ → Bool
+is_blank b = b == 32 || b == 9
+
+-- a comment begins at ; or #
+abbrev pub is_comment : ℕ → Bool
+is_comment b = b == 59 || b == 35
+
+-- what may stand outside comments: 32 to 126 and the tab
+abbrev pub is_plain : ℕ → Bool
+is_plain b = nat_le 32 b && nat_le b 126 || b == 9
+
+-- what names and numbers are made of: letters, digits, _ . $
+abbrev pub is_word : ℕ → Bool
+is_word b = is_ascii_alphanumeric b || list_any (λ m. b == m) (codes "_.$")
+
+abbrev pub is_mark : ℕ → Bool
+is_mark b = list_any (λ m. b == m) (codes ",:[]<>()+-")
+
+-- the byte behind the backslash of an escape
+abbrev pub is_escape : ℕ → Bool
+is_escape b = list_any (λ m. b == m) (110 ∷ 116 ∷ 48 ∷ 92 ∷ 34 ∷ 39 ∷ [])
+
+-- the byte that an escape stands for: line feed, tab, 0, or the byte itself
+abbrev pub escape_value : ℕ → ℕ
+escape_value b = if b == 110 then 10 else (if b == 116 then 9 else (if b == 48 then 0 else b))
+
+-- what a token says: a name, a number, the bytes of a text, or a mark
+pub data Meaning : Type 0 where
+  a_name : List ℕ → Meaning
+  a_number : ℕ → Meaning
+  a_text : List ℕ → Meaning
+  a_mark : ℕ → Meaning
+
+-- Numbers: decimal digits without a needless 0 in front, or 0x and hexadecimal digits; below 2 ^ 32.
+
+abbrev pub are_digits : ℕ → List ℕ → Bool
+are_digits base ds = list_all (λ d. nat_lt (digit_value d) base) ds
+
+abbrev pub is_hexadecimal : List ℕ → Bool
+is_hexadecimal (a ∷ b ∷ d ∷ ds) = a == 48 && b == 120 && are_digits 16 (d ∷ ds)
+is_hexadecimal _ = false
+
+abbrev pub is_decimal : List ℕ → Bool
+is_decimal (d ∷ e ∷ ds) = not (d == 48) && are_digits 10 (d ∷ e ∷ ds)
+is_decimal ds = are_digits 10 ds
+
+abbrev pub bounded : ℕ → Result ℕ ParseKind
+bounded n = if nat_lt n 4294967296 then Ok n else Err OutOfRange
+
+abbrev pub numeral : List ℕ → Result ℕ ParseKind
+numeral run =
+    if is_hexadecimal run then bounded (digits_value 16 (drop 2 run))
+    else (if is_decimal run then bounded (digits_value 10 run) else Err Syntax)
+
+-- Characters and texts: a backslash takes the next byte with it, and a quote of the same kind closes.
+
+abbrev pub begins_escape : Bool → ℕ → Bool
+begins_escape escaped b = not escaped && b == 92
+
+abbrev pub closes : ℕ → Bool → ℕ → Bool
+closes quote escaped b = not escaped && b == quote
+
+-- how many bytes stand before the closing quote, or before the end of the line where there is none
+abbrev pub inside_len : ℕ → Bool → List ℕ → ℕ
+inside_len quote escaped [] = 0
+inside_len quote escaped (b ∷ bs) = if closes quote escaped b then 0 else 1 + inside_len quote (begins_escape escaped b) bs
+
+-- each backslash begins an escape
+abbrev pub holds_escapes : Bool → List ℕ → Bool
+holds_escapes escaped [] = not escaped
+holds_escapes escaped (b ∷ bs) = not (escaped && not (is_escape b)) && holds_escapes (begins_escape escaped b) bs
+
+-- the bytes that a text stands for
+abbrev pub text_bytes : Bool → List ℕ → List ℕ
+text_bytes escaped [] = []
+text_bytes escaped (b ∷ bs) =
+    if begins_escape escaped b then text_bytes true bs
+    else (if escaped then escape_value b else b) ∷ text_bytes false bs
+
+-- exactly one byte or escape
+abbrev pub character : List ℕ → Option ℕ
+character (b ∷ []) = Some b
+character (b ∷ e ∷ []) = if b == 92 && is_escape e then Some (escape_value e) else None
+character _ = None
+
+-- The front of the rest of a line: how many bytes it takes, and what they say where they are a token.
+pub record Cut : Type 0 where
+  pub len : ℕ
+  pub says : Option Meaning
+
+abbrev pub gap : ℕ → Result Cut Flaw
+gap len = Ok (record { len = len; says = None })
+
+abbrev pub cut : ℕ → Meaning → Result Cut Flaw
+cut len meaning = Ok (record { len = len; says = Some meaning })
+
+abbrev pub flaw : ParseKind → ℕ → Result Cut Flaw
+flaw kind at = Err (record { at = at; kind = kind })
+
+abbrev pub token_or_flaw : ℕ → Option Meaning → Result Cut Flaw
+token_or_flaw len (Some meaning) = cut len meaning
+token_or_flaw len None = flaw Syntax 0
+
+abbrev pub name_front : List ℕ → Result Cut Flaw
+name_front run = if nat_lt 64 (length run) then flaw OutOfRange 0 else cut (length run) (a_name run)
+
+abbrev pub number_front : ℕ → Result ℕ ParseKind → Result Cut Flaw
+number_front len (Ok n) = cut len (a_number n)
+number_front len (Err kind) = flaw kind 0
+
+abbrev pub number_of : Option ℕ → Option Meaning
+number_of None = None
+number_of (Some n) = Some (a_number n)
+
+-- what closed quotes hold: a character in single quotes, a text in double quotes
+abbrev pub quoted_meaning : ℕ → List ℕ → Option Meaning
+quoted_meaning quote inside =
+    if quote == 39 then number_of (character inside)
+    else (if holds_escapes false inside then Some (a_text (text_bytes false inside)) else None)
+
+-- a quote, by what stands behind it: a byte that isn't plain counts first, then a missing quote
+unfoldable pub quoted : ℕ → List ℕ → Result Cut Flaw
+quoted quote bs =
+    let len = inside_len quote false bs
+    in if nat_lt (prefix_len is_plain (take len bs)) len then flaw NotAscii (prefix_len is_plain (take len bs) + 1)
+    else token_or_flaw (len + 2) (if len == length bs then None else quoted_meaning quote (take len bs))
+
+-- the longest run at the front, by its first byte
+abbrev pub word_front : ℕ → List ℕ → Result Cut Flaw
+word_front b run = if is_ascii_digit b then number_front (length run) (numeral run) else name_front run
+
+-- the front of bytes that aren't empty: a comment and a blank are gaps
+unfoldable pub front : List ℕ → Result Cut Flaw
+front [] = gap 0
+front (b ∷ bs) =
+    if is_comment b then gap (length (b ∷ bs))
+    else (if is_blank b then gap 1
+    else (if not (is_plain b) then flaw NotAscii 0
+    else (if is_word b then word_front b (take (prefix_len is_word (b ∷ bs)) (b ∷ bs))
+    else (if is_mark b then cut 1 (a_mark b)
+    else (if b == 34 || b == 39 then quoted b bs else flaw Syntax 0)))))
+
+-- A token of a line without where it lies in memory: its bytes, its column and what it says.
+pub record Piece : Type 0 where
+  pub text : List ℕ
+  pub col : ℕ
+  pub says : Meaning
+
+abbrev pub prepend : Option Meaning → ℕ → List ℕ → Result (List Piece) ParseFault → Result (List Piece) ParseFault
+prepend None col text rest = rest
+prepend (Some meaning) col text (Ok pieces) = Ok (record { text = text; col = col; says = meaning } ∷ pieces)
+prepend (Some meaning) col text (Err fault) = Err fault
+
+abbrev pub fault_at : ℕ → ℕ → Flaw → ParseFault
+fault_at line col flaw = record { line = line; col = col + flaw.at; kind = flaw.kind }
+
+-- The tokens from a column on, cut from the left; skip counts the bytes of a front that was cut off already.
+unfoldable pub pieces : ℕ → ℕ → ℕ → List ℕ → Result (List Piece) ParseFault
+pieces line skip col [] = Ok []
+pieces line (suc skip) col (b ∷ bs) = pieces line skip (col + 1) bs
+pieces line zero col (b ∷ bs) = elim (front (b ∷ bs)) [
+  | Ok c ↦ prepend c.says col (take c.len (b ∷ bs)) (pieces line (c.len - 1) (col + 1) bs)
+  | Err f ↦ Err (fault_at line col f)
+]
+
+-- the tokens of a whole line
+abbrev pub pieces_of : ℕ → List ℕ → Result (List Piece) ParseFault
+pieces_of line bytes = pieces line 0 1 bytes
+
+-- What the code holds, seen as these values.
+
+abbrev pub meaning_of : What → Meaning
+meaning_of (whats.Name text) = a_name text.now
+meaning_of (whats.Number n) = a_number n
+meaning_of (whats.Text inside) = a_text (text_bytes false inside.now)
+meaning_of (whats.Mark m) = a_mark m
+
+abbrev pub meaning_in : Option What → Option Meaning
+meaning_in None = None
+meaning_in (Some what) = Some (meaning_of what)
+
+abbrev pub cut_of : CutOfCode → Cut
+cut_of c = record { len = c.len; says = meaning_in c.what }
+
+abbrev pub piece_of : Lexeme → Piece
+piece_of x = record { text = x.text.now; col = x.col; says = meaning_of x.what }
+
+-- the kind of a token by what it says
+abbrev pub kind_of : Meaning → TokenKind
+kind_of (a_name _) = kinds.Name
+kind_of (a_number _) = kinds.Number
+kind_of (a_text _) = kinds.Text
+kind_of (a_mark _) = kinds.Mark
+
+-- A token of the public call without where its bytes lie in memory.
+pub record PlainToken : Type 0 where
+  pub text : List ℕ
+  pub line : ℕ
+  pub col : ℕ
+  pub kind : TokenKind
+
+abbrev pub plain_token : Token → PlainToken
+plain_token t = record { text = t.text.now; line = t.line; col = t.col; kind = t.kind }
+
+abbrev pub token_of : ℕ → Piece → PlainToken
+token_of line p = record { text = p.text; line = line; col = p.col; kind = kind_of p.says }
+
+abbrev pub tokens_from : ℕ → Result (List Piece) ParseFault → Result (List PlainToken) ParseFault
+tokens_from line (Ok ps) = Ok (map (token_of line) ps)
+tokens_from line (Err fault) = Err fault
+
+-- the tokens of a line, or the first place that can't be cut
+abbrev pub tokens_of : ℕ → List ℕ → Result (List PlainToken) ParseFault
+tokens_of line bytes = tokens_from line (pieces_of line bytes)

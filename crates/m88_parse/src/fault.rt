@@ -1,0 +1,50 @@
+ghost use Rattle.std.specs.Prelude.{◌≡◌};
+ghost use Rattle.m88_parse.specs.Fault.{out_of_memory};
+
+use std::alloc::{AllocError, AllocFailed};
+
+/// Why a source has no unit.
+#[derive(Clone, Copy, PartialEq, Eq, Debug)]
+pub enum ParseKind {
+    /// A byte outside comments that is neither 32 to 126 nor a tab.
+    NotAscii,
+    /// What stands here can't stand here.
+    Syntax,
+    /// A name that is no mnemonic, directive, register, bit or condition where one is wanted.
+    NoSuchName,
+    /// A number outside its range, or a name above 64 bytes.
+    OutOfRange,
+    /// Memory ran out.
+    Memory,
+}
+
+/// The first fault of a source: its line and column, both from 1, and its kind. Want of memory has
+/// line 0 and column 0.
+#[derive(Clone, Copy, PartialEq, Eq, Debug)]
+pub struct ParseFault {
+    pub line: u32,
+    pub col: u32,
+    pub kind: ParseKind,
+}
+
+const OUT_OF_MEMORY: ParseFault = ParseFault {
+    line: 0,
+    col: 0,
+    kind: ParseKind::Memory,
+};
+
+impl From<AllocError> for ParseFault {
+    ghost from_gives = { λ _ e. e ≡ out_of_memory };
+
+    fn from(_e: AllocError) -> ParseFault {
+        OUT_OF_MEMORY
+    }
+}
+
+impl<T: Drop> From<AllocFailed<T>> for ParseFault {
+    ghost from_gives = { λ _ e. e ≡ out_of_memory };
+
+    fn from(_e: AllocFailed<T>) -> ParseFault {
+        OUT_OF_MEMORY
+    }
+}

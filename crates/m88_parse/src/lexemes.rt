@@ -1,0 +1,79 @@
+ghost use Rattle.std.specs.Prelude.{◌≡◌, ◌<◌, ◌^◌, length, map, IfOk, IfErr};
+ghost use Rattle.std.specs.List.{All};
+ghost use Rattle.m88_parse.specs.Fault.{Gives, IsTokenFault};
+ghost use Rattle.m88_parse.specs.Places.{IsNear, IsLexemeOf, IsTokenOf};
+ghost use Rattle.m88_parse.specs.Tokens.{piece_of, plain_token, token_of, pieces_of, tokens_of};
+
+use crate::fault::ParseFault;
+use crate::scan::front;
+use crate::token::{Lexeme, Token, TokenKind, What};
+use std::alloc::Global;
+
+/// The tokens of a line with what they say, from left to right.
+pub(crate) fn lexemes<'a>(
+    alloc: Global,
+    line: &'a [u8],
+    number: u32,
+) -> Result<Vec<Lexeme<'a>>, ParseFault>
+    requires { length line.now < 2 ^ 31 }
+    ensures cuts { Gives (λ v. map piece_of v.items) result (pieces_of number line.now) }
+    ensures near { IfOk result (λ v. All IsNear v.items) }
+    ensures slices { IfOk result (λ v. All (IsLexemeOf line.now) v.items) }
+    ensures kind { IfErr result IsTokenFault }
+{
+    let mut out = Vec::new(alloc);
+    let mut rest = line;
+    let mut col: u32 = 1;
+    while !rest.is_empty() {
+        let cut = match front(rest) {
+            Ok(cut) => cut,
+            Err(flaw) => {
+                return Err(ParseFault {
+                    line: number,
+                    col: col + flaw.at as u32,
+                    kind: flaw.kind,
+                });
+            }
+        };
+        let (text, after) = rest.split_at(cut.len);
+        if let Some(what) = cut.what {
+            out.push(Lexeme { text, col, what })?;
+        }
+        rest = after;
+        col += cut.len as u32;
+    }
+    Ok(out)
+}
+
+fn token_of<'a>(lexeme: &Lexeme<'a>, line: u32) -> Token<'a>
+    ensures { plain_token result ≡ token_of line (piece_of lexeme.now) }
+{
+    Token {
+        text: lexeme.text,
+        line,
+        col: lexeme.col,
+        kind: match lexeme.what {
+            What::Name(_) => TokenKind::Name,
+            What::Number(_) => TokenKind::Number,
+            What::Text(_) => TokenKind::Text,
+            What::Mark(_) => TokenKind::Mark,
+        },
+    }
+}
+
+/// The tokens of a line, which has no line end, from left to right; `number` is the line's number. Else
+/// the first place that can't be cut into a token: NotAscii, Syntax or OutOfRange.
+#[tactic(auto, using(crate::proofs::Pieces::token_placed))]
+pub fn tokens<'a>(alloc: Global, line: &'a [u8], number: u32) -> Result<Vec<Token<'a>>, ParseFault>
+    requires short { length line.now < 2 ^ 31 }
+    ensures cuts { Gives (λ v. map plain_token v.items) result (tokens_of number line.now) }
+    ensures slices { IfOk result (λ v. All (IsTokenOf line.now) v.items) }
+    ensures kind { IfErr result IsTokenFault }
+{
+    let lexemes = lexemes(alloc, line, number)?;
+    let mut out = Vec::new(alloc);
+    for lexeme in &lexemes {
+        out.push(token_of(lexeme, number))?;
+    }
+    Ok(out)
+}

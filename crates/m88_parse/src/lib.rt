@@ -1,0 +1,33 @@
+//! The assembly language: a line as tokens, a source as its unit of modules and statements, and the
+//! one first fault of a source that has no unit.
+#![tactic(auto)]
+
+mod directive;
+mod draft;
+mod fault;
+mod forms;
+mod lexemes;
+mod line;
+mod lists;
+mod names;
+mod operand;
+mod operands;
+mod parser;
+mod row;
+mod scan;
+mod shape;
+mod slots;
+mod source;
+mod statement;
+mod token;
+mod unit;
+
+pub use fault::{ParseFault, ParseKind};
+pub use lexemes::tokens;
+pub use m88_base::{Fixup, Kind, Name};
+pub use source::parse;
+pub use token::{Token, TokenKind};
+pub use unit::{Body, Module, Statement, Unit, Value};
+
+#[cfg(test)]
+mod tests;

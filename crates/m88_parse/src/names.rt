@@ -1,0 +1,153 @@
+ghost use Rattle.std.specs.Prelude.{◌≡◌, ◌≤◌, ◌<◌, IfSome, SomeIff, true};
+ghost use Rattle.m88_parse.specs.Names.{number_up_to, register_of, control_of, float_control_of, control_in, bit_of, condition_of, half_of, is_here, is_module, is_name, is_symbol};
+ghost use Rattle.m88_parse.specs.WellFormed.{IsHalf};
+
+use crate::scan::{is_decimal, value_of};
+use m88_base::{Kind, Name};
+
+/// The number of decimal digits, where there is one, and it is at most `most`.
+fn number_up_to(most: u32, digits: &[u8]) -> Option<u32>
+    ensures value { result ≡ number_up_to most digits.now }
+    ensures bound { IfSome result (λ n. n ≤ most) }
+{
+    if digits.is_empty() || !is_decimal(digits) {
+        return None;
+    }
+    match value_of(10, digits) {
+        Ok(n) if n <= most => Some(n),
+        _ => None,
+    }
+}
+
+/// The number of a general register.
+#[tactic(auto, unfolding(crate::specs::Names::register_of))]
+pub(crate) fn register_of(name: &[u8]) -> Option<u32>
+    ensures value { result ≡ register_of name.now }
+    ensures bound { IfSome result (λ n. n < 32) }
+{
+    match name {
+        [b'r', digits @ ..] => number_up_to(31, digits),
+        _ => None,
+    }
+}
+
+#[tactic(auto, unfolding(crate::specs::Names::control_of))]
+fn control_of(name: &[u8]) -> Option<u32>
+    ensures value { result ≡ control_of name.now }
+    ensures bound { IfSome result (λ n. n < 64) }
+{
+    match name {
+        [b'c', b'r', digits @ ..] => number_up_to(63, digits),
+        _ => None,
+    }
+}
+
+#[tactic(auto, unfolding(crate::specs::Names::float_control_of))]
+fn float_control_of(name: &[u8]) -> Option<u32>
+    ensures value { result ≡ float_control_of name.now }
+    ensures bound { IfSome result (λ n. n < 64) }
+{
+    match name {
+        [b'f', rest @ ..] => control_of(rest),
+        _ => None,
+    }
+}
+
+/// The number of a control register, of the floating-point unit where `float`.
+pub(crate) fn control_in(float: bool, name: &[u8]) -> Option<u32>
+    ensures value { result ≡ control_in float name.now }
+    ensures bound { IfSome result (λ n. n < 64) }
+{
+    if float {
+        float_control_of(name)
+    } else {
+        control_of(name)
+    }
+}
+
+/// The bit of a comparison, by its name.
+#[tactic(auto, unfolding(crate::specs::Names::bit_of))]
+pub(crate) fn bit_of(name: &[u8]) -> Option<u32>
+    ensures value { result ≡ bit_of name.now }
+    ensures bound { IfSome result (λ n. n < 32) }
+{
+    match name {
+        b"eq" => Some(2),
+        b"ne" => Some(3),
+        b"gt" => Some(4),
+        b"le" => Some(5),
+        b"lt" => Some(6),
+        b"ge" => Some(7),
+        b"hi" => Some(8),
+        b"ls" => Some(9),
+        b"lo" => Some(10),
+        b"hs" => Some(11),
+        _ => None,
+    }
+}
+
+/// The mask of a condition, by its name.
+#[tactic(auto, unfolding(crate::specs::Names::condition_of))]
+pub(crate) fn condition_of(name: &[u8]) -> Option<u32>
+    ensures value { result ≡ condition_of name.now }
+    ensures bound { IfSome result (λ n. n < 16) }
+{
+    match name {
+        b"eq0" => Some(2),
+        b"ne0" => Some(13),
+        b"gt0" => Some(1),
+        b"lt0" => Some(12),
+        b"ge0" => Some(3),
+        b"le0" => Some(14),
+        _ => None,
+    }
+}
+
+/// Which half of a value `hi16` and `lo16` name.
+#[tactic(auto, unfolding(crate::specs::Names::half_of))]
+pub(crate) fn half_of(name: &[u8]) -> Option<Kind>
+    ensures value { result ≡ half_of name.now }
+    ensures kind { IfSome result IsHalf }
+{
+    match name {
+        b"hi16" => Some(Kind::Hi16),
+        b"lo16" => Some(Kind::Lo16),
+        _ => None,
+    }
+}
+
+/// Whether a name is `.`, the place of the statement.
+pub(crate) fn is_here(name: &[u8]) -> bool
+    ensures { result ≡ is_here name.now }
+{
+    name == b".".as_slice()
+}
+
+pub(crate) fn is_module(name: &[u8]) -> bool
+    ensures { result ≡ is_module name.now }
+{
+    name == b".module".as_slice()
+}
+
+/// The name that the bytes are, if they are one.
+pub(crate) fn name_of(text: &[u8]) -> Option<Name>
+    ensures { SomeIff result (is_name text.now ≡ true) text.now }
+{
+    Name::new(text)
+}
+
+/// The label or symbol of a name, or None where it has another meaning.
+#[tactic(auto, unfolding(crate::specs::Names::is_symbol))]
+pub(crate) fn symbol_of(name: &[u8]) -> Option<Name>
+    ensures { SomeIff result (is_symbol name.now ≡ true) name.now }
+{
+    if is_here(name)
+        || register_of(name).is_some()
+        || control_of(name).is_some()
+        || float_control_of(name).is_some()
+    {
+        None
+    } else {
+        name_of(name)
+    }
+}

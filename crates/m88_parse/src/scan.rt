@@ -1,0 +1,312 @@
+ghost use Rattle.std.specs.Prelude.{◌≡◌, ◌+◌, ◌<◌, ◌≤◌, false, length, IfOk, IfErr, MatchResult};
+ghost use Rattle.std.specs.List.{prefix_len};
+ghost use Rattle.std.specs.Char.{digit_value};
+ghost use Rattle.std.specs.Str.Parse.{digits_value};
+ghost use Rattle.m88_parse.specs.Fault.{IsCutKind};
+ghost use Rattle.m88_parse.specs.Tokens.{is_blank, is_comment, is_plain, is_word, is_mark, is_escape, escape_value, are_digits, is_hexadecimal, is_decimal, bounded, numeral, begins_escape, closes, inside_len, holds_escapes, character, cut_of, quoted, word_front, front};
+
+use crate::fault::ParseKind;
+use crate::token::What;
+
+/// The most bytes that a name may have.
+const MAX_NAME: usize = 64;
+
+/// The front of the rest of a line: how many bytes it takes, and what they say where they are a token.
+#[derive(Clone, Copy)]
+pub(crate) struct Cut<'a> {
+    pub len: usize,
+    pub what: Option<What<'a>>,
+}
+
+/// Why nothing can be cut off: the place in the rest of the line, from 0, and the kind.
+#[derive(Clone, Copy)]
+pub(crate) struct Flaw {
+    pub at: usize,
+    pub kind: ParseKind,
+}
+
+fn is_blank(b: u8) -> bool
+    ensures { result ≡ is_blank b }
+{
+    matches!(b, b' ' | b'\t')
+}
+
+fn is_comment(b: u8) -> bool
+    ensures { result ≡ is_comment b }
+{
+    matches!(b, b';' | b'#')
+}
+
+fn is_plain(b: u8) -> bool
+    ensures { result ≡ is_plain b }
+{
+    matches!(b, b' '..=b'~' | b'\t')
+}
+
+fn is_word(b: u8) -> bool
+    ensures { result ≡ is_word b }
+{
+    b.is_ascii_alphanumeric() || matches!(b, b'_' | b'.' | b'$')
+}
+
+fn is_mark(b: u8) -> bool
+    ensures { result ≡ is_mark b }
+{
+    matches!(
+        b,
+        b',' | b':' | b'[' | b']' | b'<' | b'>' | b'(' | b')' | b'+' | b'-'
+    )
+}
+
+fn is_escape(b: u8) -> bool
+    ensures { result ≡ is_escape b }
+{
+    matches!(b, b'n' | b't' | b'0' | b'\\' | b'"' | b'\'')
+}
+
+/// The byte that an escape stands for, from the byte behind its backslash.
+pub(crate) fn escape_value(b: u8) -> u8
+    ensures { result ≡ escape_value b }
+{
+    match b {
+        b'n' => b'\n',
+        b't' => b'\t',
+        b'0' => 0,
+        _ => b,
+    }
+}
+
+/// Whether a byte is a backslash that takes the next one with it.
+pub(crate) fn begins_escape(escaped: bool, b: u8) -> bool
+    ensures { result ≡ begins_escape escaped b }
+{
+    !escaped && b == b'\\'
+}
+
+fn closes(quote: u8, escaped: bool, b: u8) -> bool
+    ensures { result ≡ closes quote escaped b }
+{
+    !escaped && b == quote
+}
+
+/// The value of a digit in a base up to 36, or 36 where it is no digit.
+fn digit_of(b: u8) -> u64
+    ensures value { result ≡ digit_value b }
+    ensures bound { result ≤ 36 }
+{
+    match b {
+        b'0'..=b'9' => (b - b'0') as u64,
+        b'A'..=b'Z' => (b - b'A') as u64 + 10,
+        b'a'..=b'z' => (b - b'a') as u64 + 10,
+        _ => 36,
+    }
+}
+
+fn are_digits(base: u64, digits: &[u8]) -> bool
+    ensures { result ≡ are_digits base digits.now }
+{
+    digits.iter().all(|d| digit_of(*d) < base)
+}
+
+fn is_hexadecimal(run: &[u8]) -> bool
+    ensures { result ≡ is_hexadecimal run.now }
+{
+    match run {
+        [b'0', b'x', digits @ ..] => !digits.is_empty() && are_digits(16, digits),
+        _ => false,
+    }
+}
+
+pub(crate) fn is_decimal(run: &[u8]) -> bool
+    ensures { result ≡ is_decimal run.now }
+{
+    match run {
+        [b'0', _, ..] => false,
+        _ => are_digits(10, run),
+    }
+}
+
+/// The value of digits in a base, where it is below 2^32.
+pub(crate) fn value_of(base: u64, digits: &[u8]) -> Result<u32, ParseKind>
+    requires least { 0 < base }
+    requires most { base ≤ 16 }
+    ensures value { result ≡ bounded (digits_value base digits.now) }
+    ensures kind { IfErr result IsCutKind }
+{
+    const LIMIT: u64 = 1 << 32;
+    let mut value: u64 = 0;
+    for d in digits {
+        value = (value * base + digit_of(*d)).min(LIMIT);
+    }
+    if value < LIMIT {
+        Ok(value as u32)
+    } else {
+        Err(ParseKind::OutOfRange)
+    }
+}
+
+fn numeral(run: &[u8]) -> Result<u32, ParseKind>
+    ensures value { result ≡ numeral run.now }
+    ensures kind { IfErr result IsCutKind }
+{
+    if is_hexadecimal(run) {
+        value_of(16, &run[2..])
+    } else if is_decimal(run) {
+        value_of(10, run)
+    } else {
+        Err(ParseKind::Syntax)
+    }
+}
+
+/// How many bytes stand before the closing quote, or before the end where there is none.
+fn inside_len(quote: u8, bytes: &[u8]) -> usize
+    ensures value { result ≡ inside_len quote false bytes.now }
+    ensures bound { result ≤ length bytes.now }
+{
+    let mut escaped = false;
+    for (i, b) in bytes.iter().enumerate() {
+        if closes(quote, escaped, *b) {
+            return i;
+        }
+        escaped = begins_escape(escaped, *b);
+    }
+    bytes.len()
+}
+
+fn holds_escapes(inside: &[u8]) -> bool
+    ensures { result ≡ holds_escapes false inside.now }
+{
+    let mut escaped = false;
+    for b in inside {
+        if escaped && !is_escape(*b) {
+            return false;
+        }
+        escaped = begins_escape(escaped, *b);
+    }
+    !escaped
+}
+
+fn character(inside: &[u8]) -> Option<u8>
+    ensures { result ≡ character inside.now }
+{
+    match inside {
+        [b] => Some(*b),
+        [b'\\', e] if is_escape(*e) => Some(escape_value(*e)),
+        _ => None,
+    }
+}
+
+fn plain_len(bytes: &[u8]) -> usize
+    ensures { result ≡ prefix_len is_plain bytes.now }
+{
+    bytes.iter().take_while(|b| is_plain(**b)).count()
+}
+
+fn word_len(bytes: &[u8]) -> usize
+    ensures { result ≡ prefix_len is_word bytes.now }
+{
+    bytes.iter().take_while(|b| is_word(**b)).count()
+}
+
+/// The character or text behind an opening quote.
+#[tactic(auto, unfolding(crate::specs::Tokens::quoted))]
+fn quoted(quote: u8, bytes: &[u8]) -> Result<Cut<'_>, Flaw>
+    ensures value { MatchResult result (λ c. quoted quote bytes.now ≡ Ok (cut_of c)) (λ f. quoted quote bytes.now ≡ Err f) }
+    ensures bound { IfOk result (λ c. (0 < c.len) × (c.len ≤ length bytes.now + 1)) }
+    ensures place { IfErr result (λ f. f.at ≤ length bytes.now) }
+    ensures kind { IfErr result (λ f. IsCutKind f.kind) }
+{
+    let len = inside_len(quote, bytes);
+    let inside = &bytes[..len];
+    let plain = plain_len(inside);
+    if plain < len {
+        return Err(Flaw {
+            at: plain + 1,
+            kind: ParseKind::NotAscii,
+        });
+    }
+    let what = if len == bytes.len() {
+        None
+    } else if quote == b'\'' {
+        character(inside).map(|b| What::Number(b as u32))
+    } else if holds_escapes(inside) {
+        Some(What::Text(inside))
+    } else {
+        None
+    };
+    match what {
+        Some(_) => Ok(Cut { len: len + 2, what }),
+        None => Err(Flaw {
+            at: 0,
+            kind: ParseKind::Syntax,
+        }),
+    }
+}
+
+/// The name or number at the front, where the first byte is one of a word.
+fn word(first: u8, run: &[u8]) -> Result<Cut<'_>, Flaw>
+    ensures value { MatchResult result (λ c. word_front first run.now ≡ Ok (cut_of c)) (λ f. word_front first run.now ≡ Err f) }
+    ensures length { IfOk result (λ c. c.len ≡ length run.now) }
+    ensures place { IfErr result (λ f. f.at ≡ 0) }
+    ensures kind { IfErr result (λ f. IsCutKind f.kind) }
+{
+    let len = run.len();
+    if first.is_ascii_digit() {
+        match numeral(run) {
+            Ok(n) => Ok(Cut {
+                len,
+                what: Some(What::Number(n)),
+            }),
+            Err(kind) => Err(Flaw { at: 0, kind }),
+        }
+    } else if len > MAX_NAME {
+        Err(Flaw {
+            at: 0,
+            kind: ParseKind::OutOfRange,
+        })
+    } else {
+        Ok(Cut {
+            len,
+            what: Some(What::Name(run)),
+        })
+    }
+}
+
+/// The front of the rest of a line: a token, a blank, or a comment to the end.
+#[tactic(auto, unfolding(crate::specs::Tokens::front))]
+pub(crate) fn front(bytes: &[u8]) -> Result<Cut<'_>, Flaw>
+    requires { 0 < length bytes.now }
+    ensures value { MatchResult result (λ c. front bytes.now ≡ Ok (cut_of c)) (λ f. front bytes.now ≡ Err f) }
+    ensures bound { IfOk result (λ c. (0 < c.len) × (c.len ≤ length bytes.now)) }
+    ensures place { IfErr result (λ f. f.at < length bytes.now) }
+    ensures kind { IfErr result (λ f. IsCutKind f.kind) }
+{
+    let first = bytes[0];
+    if is_comment(first) {
+        Ok(Cut {
+            len: bytes.len(),
+            what: None,
+        })
+    } else if is_blank(first) {
+        Ok(Cut { len: 1, what: None })
+    } else if !is_plain(first) {
+        Err(Flaw {
+            at: 0,
+            kind: ParseKind::NotAscii,
+        })
+    } else if is_word(first) {
+        word(first, &bytes[..word_len(bytes)])
+    } else if is_mark(first) {
+        Ok(Cut {
+            len: 1,
+            what: Some(What::Mark(first)),
+        })
+    } else if matches!(first, b'"' | b'\'') {
+        quoted(first, &bytes[1..])
+    } else {
+        Err(Flaw {
+            at: 0,
+            kind: ParseKind::Syntax,
+        })
+    }
+}
