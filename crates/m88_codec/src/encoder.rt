@@ -12,7 +12,7 @@ const R0: Reg = Reg::ZERO;
 /// The word of an instruction, as the word table adds up its fields.
 pub fn encode(instr: &Instr) -> u32
     requires { IsValid instr.now }
-    ensures { IsWord instr.now result }
+    ensures word { IsWord instr.now result }
 {
     match *instr {
         Instr::MemImm { op, d, s1, imm } => immediate(byte_of_mem(op), d, s1, imm),

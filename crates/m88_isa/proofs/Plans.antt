@@ -1,5 +1,5 @@
 -- What the plans of all instructions have in common: their accesses, the register that they write, their traps.
-use Rattle.std.specs.Prelude.{ℕ, ℤ, Bool, true, false, IfSome, [], ◌≡◌, ◌+◌, ◌%◌, ◌-◌, ◌^◌, ◌==◌, nat_lt, if◌then◌else◌, List, not, ◌&&◌}
+use Rattle.std.specs.Prelude.{ℕ, ℤ, Bool, true, false, IfSome, [], ◌≡◌, ◌%◌, ◌-◌, ◌^◌, ◌==◌, nat_lt, if◌then◌else◌, List, ◌∷◌, not, ◌&&◌}
 use Rattle.std.specs.Int.{bit_at}
 use Rattle.std.proofs.Common.{arith, refl, sym, subst, inl, inr}
 use Rattle.std.proofs.lemmas.Bool.{eqb-true}
@@ -11,9 +11,9 @@ use Rattle.m88_isa.specs.Compute.{immediate, registers}
 use Rattle.m88_isa.specs.Effect.{AreAligned, MakesAccesses, TouchesAligned, WritesWithin, accesses, branches, checks, computes, controls, effect, flows, indexed, inputs_of, meaning_of, plan_for, traps_if, written}
 use Rattle.m88_isa.specs.Fields.{address, bit_field, find_bit, offset_in, scale_of, width_in, width_of}
 use Rattle.m88_isa.specs.Flow.{bit_is, class_in, word_aligned, words_away, after_bytes}
-use Rattle.m88_isa.specs.Lanes.{IsEnable, enable_of, word_address}
-use Rattle.m88_isa.specs.Memory.{AreWordAccesses, recorded, size_of, touches_of}
-use Rattle.m88_isa.specs.Operands.{access_count_of, accesses_of, bit_of, link_register, no_register, pair_of, register_if, writes_of, is_flow}
+use Rattle.m88_isa.specs.Lanes.{IsEnable, enable_of}
+use Rattle.m88_isa.specs.Memory.{AreWordAccesses, IsWordAccess, Touch, access_of, first_half, load, locked, recorded, second_place, size_of, store, touches_of}
+use Rattle.m88_isa.specs.Operands.{access_count_of, accesses_of, bit_of, link_register, no_register, pair_of, register_after, register_if, writes_of, is_flow}
 use Rattle.m88_isa.specs.Vector.{first_user_vector}
 use Rattle.m88_isa.specs.declared.effect.Computed.{Computed}
 use Rattle.m88_isa.specs.declared.effect.Computed.TheVariants.{Gives, Raises}
@@ -24,46 +24,68 @@ use Rattle.m88_isa.specs.declared.instr.Instr.{Instr}
 use Rattle.m88_isa.specs.declared.instr.Instr.TheVariants.{Imm, Regs, MemImm, MemReg, Lda, BitLit, BitReg, Find, Branch, BranchBit, BranchCond, Jump, TrapBit, TrapCond, BoundImm, BoundReg, Rte, Ldcr, Stcr, Xcr, Sfu}
 
 -- the enable of one byte, of a half and of a word is one of the seven
-one_byte : (place : ℕ) → (word_address place % 4 ≡ 0) × IsEnable (enable_of place 1)
-one_byte place = (
-  omega arith,
-  elim (one_of_four (place % 4) (omega arith)) [
-    | inl o ↦ subst (λ k. IsEnable (2 ^ (3 - k))) (sym o) (inr (inr (inr (inl refl))))
-    | inr (inl o) ↦ subst (λ k. IsEnable (2 ^ (3 - k))) (sym o) (inr (inr (inr (inr (inl refl)))))
-    | inr (inr (inl o)) ↦ subst (λ k. IsEnable (2 ^ (3 - k))) (sym o) (inr (inr (inr (inr (inr (inl refl))))))
-    | inr (inr (inr o)) ↦ subst (λ k. IsEnable (2 ^ (3 - k))) (sym o) (inr (inr (inr (inr (inr (inr refl))))))
-  ],
-)
+one_byte : (place : ℕ) → IsEnable (enable_of place 1)
+one_byte place = elim (one_of_four (place % 4) (omega arith)) [
+  | inl o ↦ subst (λ k. IsEnable (2 ^ (3 - k))) (sym o) (inr (inr (inr (inl refl))))
+  | inr (inl o) ↦ subst (λ k. IsEnable (2 ^ (3 - k))) (sym o) (inr (inr (inr (inr (inl refl)))))
+  | inr (inr (inl o)) ↦ subst (λ k. IsEnable (2 ^ (3 - k))) (sym o) (inr (inr (inr (inr (inr (inl refl))))))
+  | inr (inr (inr o)) ↦ subst (λ k. IsEnable (2 ^ (3 - k))) (sym o) (inr (inr (inr (inr (inr (inr refl))))))
+]
 
-one_half : (place : ℕ) → (word_address place % 4 ≡ 0) × IsEnable (enable_of place 2)
-one_half place = (
-  omega arith,
-  by_test (place % 4 == 0)
-      (λ first. rw first (inr (inl refl)))
-      (λ second. rw second (inr (inr (inl refl)))),
-)
+one_half : (place : ℕ) → IsEnable (enable_of place 2)
+one_half place = by_test (place % 4 == 0)
+    (λ first. rw first (inr (inl refl)))
+    (λ second. rw second (inr (inr (inl refl))))
 
-one_word : (place : ℕ) → (word_address place % 4 ≡ 0) × IsEnable (enable_of place 4)
-one_word place = (omega arith, inl refl)
+one_word : (place : ℕ) → IsEnable (enable_of place 4)
+one_word place = inl refl
+
+never : false ≡ true → ⊥
+never h = cc
+
+-- a load and a store at an enable are accesses that the data unit can make, whatever their marks
+is_load : (size : ℕ) (signed : Bool) (d : Reg) (place : ℕ) →
+    IsEnable (enable_of place size) →
+    IsWordAccess (access_of (load size signed d place))
+is_load size signed d place enabled = (omega arith, enabled, λ h. absurd (never h), λ h. refl)
+
+is_store : (size value place : ℕ) → IsEnable (enable_of place size) → IsWordAccess (access_of (store size value place))
+is_store size value place enabled = (omega arith, enabled, λ h. (refl, refl), λ h. absurd (never (sym h)))
+
+-- accesses in order, and nothing behind them
+no_accesses : AreWordAccesses 0 (recorded [])
+no_accesses = (refl, λ h. absurd (omega (arith, h)), λ h. absurd (omega (arith, h)), λ h. refl, λ h. refl)
+
+one_access : (t : Touch) → IsWordAccess (access_of t) → AreWordAccesses 1 (recorded (t ∷ []))
+one_access t is = (refl, λ h. is, λ h. absurd (omega (arith, h)), λ h. absurd (omega (arith, h)), λ h. refl)
+
+two_accesses : (t u : Touch) → IsWordAccess (access_of t) → IsWordAccess (access_of u) → AreWordAccesses 2 (recorded (t ∷ u ∷ []))
+two_accesses t u first second =
+    (refl, λ h. first, λ h. second, λ h. absurd (omega (arith, h)), λ h. absurd (omega (arith, h)))
 
 -- every memory mnemonic makes its count of accesses to words
 are_word_accesses : (op : MemOp) (d : Reg) (value second place : ℕ) →
     AreWordAccesses (accesses_of op) (recorded (touches_of op d value second place))
-are_word_accesses XmemBu d value second place = (refl, λ h. one_byte place, λ h. one_byte place)
-are_word_accesses Xmem d value second place = (refl, λ h. one_word place, λ h. one_word place)
-are_word_accesses LdHu d value second place = (refl, λ h. one_half place, λ h. absurd (omega (arith, h)))
-are_word_accesses LdBu d value second place = (refl, λ h. one_byte place, λ h. absurd (omega (arith, h)))
-are_word_accesses LdD d value second place = (refl, λ h. one_word place, λ h. one_word ((place + 4) % 2 ^ 32))
-are_word_accesses Ld d value second place = (refl, λ h. one_word place, λ h. absurd (omega (arith, h)))
-are_word_accesses LdH d value second place = (refl, λ h. one_half place, λ h. absurd (omega (arith, h)))
-are_word_accesses LdB d value second place = (refl, λ h. one_byte place, λ h. absurd (omega (arith, h)))
-are_word_accesses StD d value second place = (refl, λ h. one_word place, λ h. one_word ((place + 4) % 2 ^ 32))
-are_word_accesses St d value second place = (refl, λ h. one_word place, λ h. absurd (omega (arith, h)))
-are_word_accesses StH d value second place = (refl, λ h. one_half place, λ h. absurd (omega (arith, h)))
-are_word_accesses StB d value second place = (refl, λ h. one_byte place, λ h. absurd (omega (arith, h)))
-
-no_accesses : AreWordAccesses 0 (recorded [])
-no_accesses = (refl, λ h. absurd (omega (arith, h)), λ h. absurd (omega (arith, h)))
+are_word_accesses XmemBu d value second place =
+    two_accesses (locked (load 1 false d place)) (locked (store 1 value place)) (is_load 1 false d place (one_byte place)) (is_store 1 value place (one_byte place))
+are_word_accesses Xmem d value second place =
+    two_accesses (locked (load 4 false d place)) (locked (store 4 value place)) (is_load 4 false d place (one_word place)) (is_store 4 value place (one_word place))
+are_word_accesses LdHu d value second place = one_access (load 2 false d place) (is_load 2 false d place (one_half place))
+are_word_accesses LdBu d value second place = one_access (load 1 false d place) (is_load 1 false d place (one_byte place))
+are_word_accesses LdD d value second place =
+    two_accesses (first_half (load 4 false d place)) (load 4 false (register_after d) (second_place place))
+    (is_load 4 false d place (one_word place))
+    (is_load 4 false (register_after d) (second_place place) (one_word (second_place place)))
+are_word_accesses Ld d value second place = one_access (load 4 false d place) (is_load 4 false d place (one_word place))
+are_word_accesses LdH d value second place = one_access (load 2 true d place) (is_load 2 true d place (one_half place))
+are_word_accesses LdB d value second place = one_access (load 1 true d place) (is_load 1 true d place (one_byte place))
+are_word_accesses StD d value second place =
+    two_accesses (first_half (store 4 value place)) (store 4 second (second_place place))
+    (is_store 4 value place (one_word place))
+    (is_store 4 second (second_place place) (one_word (second_place place)))
+are_word_accesses St d value second place = one_access (store 4 value place) (is_store 4 value place (one_word place))
+are_word_accesses StH d value second place = one_access (store 2 value place) (is_store 2 value place (one_half place))
+are_word_accesses StB d value second place = one_access (store 1 value place) (is_store 1 value place (one_byte place))
 
 -- the accesses of each kind of meaning
 accesses_make : (op : MemOp) (d : Reg) (place : ℕ) (x : Inputs) → MakesAccesses (accesses_of op) (plan_for (accesses op d place x))

@@ -1,7 +1,7 @@
 -- What every instruction does, a line for each form ("Instruction Set"; "Exception Processing" for the vectors). That a
--- change of flow in a taken delay slot is unimplemented, that the units' words and the float forms of the control
--- instructions raise the units' vectors, and that a trap which isn't taken raises nothing, is this project's profile.
-use Rattle.std.specs.Prelude.{ℕ, ℤ, Bool, false, not, List, [], ◌∷◌, Option, Some, None, IfSome, ◌≡◌, ◌≤◌, ◌%◌, ◌==◌, ◌&&◌, nat_lt, slice_index, if◌then◌else◌}
+-- change of flow in a taken delay slot is unimplemented, that the float forms of the control instructions raise the first
+-- unit's vector, and that an untaken trap has no effect even where its vector is the supervisor's, is this project's profile.
+use Rattle.std.specs.Prelude.{ℕ, ℤ, Bool, false, not, List, [], ◌∷◌, Option, Some, None, IfSome, ◌≡◌, ◌<◌, ◌≤◌, ◌%◌, ◌==◌, ◌&&◌, nat_lt, slice_index, if◌then◌else◌}
 use Rattle.std.specs.Int.{bit_at}
 use Rattle.m88_base.specs.declared.reg.Reg.{Reg}
 use Rattle.m88_base.specs.Reg.{number_of}
@@ -11,7 +11,7 @@ use Rattle.m88_isa.specs.Flow.{after_bytes, bit_is, class_in, word_aligned, word
 use Rattle.m88_isa.specs.Lanes.{IsAligned}
 use Rattle.m88_isa.specs.Memory.{AreWordAccesses, Touch, recorded, size_of, touches_of}
 use Rattle.m88_isa.specs.Operands.{after_d_of, d_of, is_flow, link_register, s1_of, s2_of, uses_of}
-use Rattle.m88_isa.specs.Vector.{first_user_vector, misaligned, out_of_bounds, privilege, unimplemented, unit_vector}
+use Rattle.m88_isa.specs.Vector.{IsRaised, first_user_vector, misaligned, out_of_bounds, privilege, unimplemented, unit_vector}
 use Rattle.m88_isa.specs.declared.effect.Computed.{Computed}
 use Rattle.m88_isa.specs.declared.effect.Computed.TheVariants.{Gives, Raises}
 use Rattle.m88_isa.specs.declared.effect.Effect.{Effect}
@@ -95,7 +95,7 @@ indexed op d scaled usr x =
     if usr then raises privilege else accesses op d (address x.s1 x.s2 (if scaled then size_of op else 1)) x
 
 -- a change of flow to a target. With a delay slot the next instruction comes first; without it that one is passed
--- over. A link puts the address of the instruction behind it into r1.
+-- over. A link puts the address behind the branch, or behind its delay slot, into r1.
 abbrev pub flows : Bool → Bool → ℕ → Inputs → Meaning
 flows link delayed target x =
     goes (record {
@@ -123,7 +123,7 @@ checks s t x = if nat_lt t s then raises out_of_bounds else goes (goes_on x)
 abbrev pub controls : Bool → Meaning
 controls float = if float then raises (unit_vector 1) else raises privilege
 
--- what an instruction does of its inputs where it stands in no taken delay slot
+-- what an instruction does of its inputs, a change of flow in a taken delay slot aside
 abbrev pub effect : Instr → Inputs → Meaning
 effect (Imm op d s1 imm) x = computes d (immediate op x.carry x.s1 imm) x
 effect (Regs op d s1 s2) x = computes d (registers op x.carry x.s1 x.s2) x
@@ -179,15 +179,17 @@ recorded_change c = record {
   bubble = c.bubble;
 }
 
+-- what an instruction means, as the call `plan` answers it
 abbrev pub plan_for : Meaning → Plan
 plan_for (raises vector) = Raise vector
 plan_for (traps vector) = Trap vector
 plan_for (goes c) = Go (recorded_change c)
 
+-- the plan of an instruction: of the registers and the carry, at an address, with the address that follows
 abbrev pub plan_of : Instr → List ℕ → Bool → ℕ → ℕ → Plan
 plan_of i regs carry pc next = plan_for (meaning_of i regs carry pc next)
 
--- a fact about the changes of a plan that goes on, and about the vector of a taken trap
+-- a fact about the changes of a plan that goes on, about the vector of a taken trap, and about one that is raised
 abbrev pub IfGo : Plan → (Effect → Type 0) → Type 0
 IfGo (Go changes) Fact = Fact changes
 IfGo _ Fact = Unit {0}
@@ -195,6 +197,10 @@ IfGo _ Fact = Unit {0}
 abbrev pub IfTrap : Plan → (ℕ → Type 0) → Type 0
 IfTrap (Trap vector) Fact = Fact vector
 IfTrap _ Fact = Unit {0}
+
+abbrev pub IfRaise : Plan → (ℕ → Type 0) → Type 0
+IfRaise (Raise vector) Fact = Fact vector
+IfRaise _ Fact = Unit {0}
 
 -- a plan makes that many accesses, each of which the data unit can make
 abbrev pub MakesAccesses : ℕ → Plan → Type 0
@@ -204,9 +210,13 @@ MakesAccesses count plan = IfGo plan (λ changes. AreWordAccesses count changes.
 abbrev pub WritesWithin : ℕ → Plan → Type 0
 WritesWithin set plan = IfGo plan (λ changes. IfSome changes.reg (λ write. bit_at set (number_of write.0) ≡ 1))
 
--- a plan that is a taken trap has a vector of the user's
+-- a plan that is a taken trap has one of the user's 384 vectors
 abbrev pub TrapsForUser : Plan → Type 0
-TrapsForUser plan = IfTrap plan (λ vector. first_user_vector ≤ vector)
+TrapsForUser plan = IfTrap plan (λ vector. (first_user_vector ≤ vector) × (vector < 512))
+
+-- a plan that raises has one of the instructions' vectors, all of which are the supervisor's
+abbrev pub RaisesListed : Plan → Type 0
+RaisesListed plan = IfRaise plan (λ vector. (vector < first_user_vector) × IsRaised vector)
 
 -- every access of what an instruction does is aligned to its size
 abbrev pub AreAligned : List Touch → Type 0

@@ -20,7 +20,7 @@ width_in t = width_of (t / 2 ^ 5 % 2 ^ 5)
 abbrev pub offset_in : ℕ → ℕ
 offset_in t = t % 2 ^ 5
 
--- the word whose ones are the bits of the field, as far as they exist
+-- the word whose ones are the bits of the field, those above bit 31 left out
 abbrev pub ones : ℕ → ℕ → ℕ
 ones width offset = (2 ^ width - 1) * 2 ^ offset % 2 ^ 32
 

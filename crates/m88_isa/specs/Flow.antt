@@ -1,5 +1,5 @@
 -- Where the program goes on: branches, jumps, traps and their conditions ("Instruction Set": flow-control
--- instructions; "Instruction Unit": delayed branching).
+-- instructions).
 use Rattle.std.specs.Prelude.{ℕ, ℤ, Bool, ◌+◌, ◌*◌, ◌/◌, ◌%◌, ◌^◌, ◌==◌, nat_lt, if◌then◌else◌}
 use Rattle.std.specs.Int.{bit_at, cast_unsigned, w32}
 use Rattle.m88_isa.specs.Compute.{weight_if}

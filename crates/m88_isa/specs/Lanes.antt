@@ -1,5 +1,5 @@
--- The bytes of a word of memory and the enables that name some of them ("Data Unit": data memory access, byte enables;
--- "Memory": big-endian order). Offset 0 is the highest byte of a word, and its enable is bit 3.
+-- The bytes of a word of memory and the enables that name some of them ("Control Registers": the enables of a data
+-- transaction). Memory is big-endian: offset 0 is the highest byte of a word, and its enable is bit 3.
 use Rattle.std.specs.Prelude.{ℕ, zero, suc, Bool, ◌≡◌, ◌≢◌, ◌⊎◌, ◌<◌, ◌+◌, ◌-◌, ◌*◌, ◌/◌, ◌%◌, ◌^◌, ◌==◌, ◌&&◌, nat_lt, nat_le, if◌then◌else◌}
 use Rattle.std.specs.Int.{bit_at}
 use Rattle.m88_isa.specs.Compute.{weight_if}
@@ -37,7 +37,7 @@ joined_below en word (suc offset) =
 abbrev pub widened : Bool → ℕ → ℕ → ℕ
 widened signed size n = if signed && nat_le (2 ^ (8 * size) / 2) n then n + (2 ^ 32 - 2 ^ (8 * size)) else n
 
--- the datum of a load: the number of the touched bytes of the word
+-- the datum of a load: what the bytes that an enable names come to
 abbrev pub datum_of : ℕ → Bool → ℕ → ℕ
 datum_of en signed word = widened signed (touched_below en 4) (joined_below en word 4)
 

@@ -1,5 +1,5 @@
 -- The sequential machine: a program's instructions one after the other, each finished before the next begins, with all
--- of memory there ("Register Model"; "Exception Processing" for how a program ends). It knows no pipeline and no page.
+-- of memory there ("Exception Processing" for how a program ends). It knows no pipeline and no page.
 use Rattle.std.specs.Prelude.{ℕ, zero, suc, Bool, false, List, [], ◌∷◌, ◌++◌, Option, Some, None, ◌+◌, ◌%◌, ◌^◌, ◌==◌, ◌&&◌, unwrap_or, replicate, slice_index, slice_set, if◌then◌else◌}
 use Rattle.m88_base.specs.declared.reg.Reg.{Reg}
 use Rattle.m88_base.specs.Reg.{number_of}
@@ -10,14 +10,15 @@ use Rattle.m88_isa.specs.Memory.{Touch}
 use Rattle.m88_isa.specs.Vector.{instruction_access, unimplemented}
 use Rattle.m88_isa.specs.declared.instr.Instr.{Instr}
 
--- what is run: a finite map from addresses to bytes with a start address, and the instruction that stands at an address
+-- what is run: a start address, the byte that stands at an address, if one does, and the instruction of the word at an
+-- address, if its word is one. Who makes a program says from which bytes and which words.
 pub record Program : Type 0 where
   pub start : ℕ
   pub byte : ℕ → Option ℕ
   pub instruction : ℕ → Option Instr
 
--- the 32 registers, the carry, the address of the next instruction and of the one behind it, the data memory byte by
--- byte, and the output so far
+-- the 32 registers, the carry, the address of the instruction that is carried out next and of the one that follows it,
+-- the data memory byte by byte, and the output so far
 pub record State : Type 0 where
   pub regs : List ℕ
   pub carry : Bool
@@ -42,6 +43,7 @@ abbrev pub word_bytes : Option ℕ → Option ℕ → Option ℕ → Option ℕ 
 word_bytes (Some b0) (Some b1) (Some b2) (Some b3) = Some (b0 ∷ b1 ∷ b2 ∷ b3 ∷ [])
 word_bytes _ _ _ _ = None
 
+-- those of the word at an address of a program's bytes
 abbrev pub four_bytes : (ℕ → Option ℕ) → ℕ → Option (List ℕ)
 four_bytes byte a = word_bytes (byte a) (byte (a + 1)) (byte (a + 2)) (byte (a + 3))
 
@@ -49,6 +51,7 @@ four_bytes byte a = word_bytes (byte a) (byte (a + 1)) (byte (a + 2)) (byte (a +
 abbrev pub with_register : Reg → ℕ → List ℕ → List ℕ
 with_register r value regs = if number_of r == 0 then regs else slice_set regs (number_of r) value
 
+-- the registers after the one that an instruction writes at once, if any
 abbrev pub with_written : Option (Reg × ℕ) → List ℕ → List ℕ
 with_written None regs = regs
 with_written (Some written) regs = with_register written.0 written.1 regs
@@ -61,6 +64,7 @@ after_touch t s = record s {
   memory = if t.write then stored_at s.memory t.place t.size t.value else s.memory;
 }
 
+-- some accesses, each from the state that the one before it left
 abbrev pub after_touches : List Touch → State → State
 after_touches [] s = s
 after_touches (t ∷ ts) s = after_touches ts (after_touch t s)
@@ -70,8 +74,8 @@ abbrev pub after_change : Change → State → State
 after_change c s =
     after_touches c.touches (record s { regs = with_written c.register s.regs; carry = c.carry; pc = c.after.0; next = c.after.1 })
 
--- how a history ends: the program asks for its end at an address, or the instruction there raises a vector that is not
--- served
+-- how a history ends. `exits address`: the program asks for its end there. `faults vector address`: the instruction
+-- there raises the vector, or is a taken trap of it that isn't served.
 pub data Stop : Type 0 where
   exits : ℕ → Stop
   faults : ℕ → ℕ → Stop
@@ -85,20 +89,23 @@ pub data Step : Type 0 where
 abbrev pub monitor_trap : ℕ
 monitor_trap = 496
 
+-- the state after an output: the program goes on as behind any instruction that doesn't change the flow
 abbrev pub after_output : State → State
 after_output s = record s { out = s.out ++ (slice_index s.regs 2 % 2 ^ 8 ∷ []); pc = s.next; next = after_bytes s.next 4 }
 
+-- what a taken trap does: the monitor serves those two, any other ends the program
 abbrev pub trapped : ℕ → State → Step
 trapped vector s =
     if vector == monitor_trap && slice_index s.regs 9 == 0x20 then on false (after_output s)
     else (if vector == monitor_trap && slice_index s.regs 9 == 0x63 then ends (exits s.pc) else ends (faults vector s.pc))
 
--- what an instruction does to a state
+-- what becomes of a state by what its instruction means
 abbrev pub carried_out : Meaning → State → Step
 carried_out (raises vector) s = ends (faults vector s.pc)
 carried_out (traps vector) s = trapped vector s
 carried_out (goes change) s = on change.bubble (after_change change s)
 
+-- the same by the instruction at the state's address; a word that is none is unimplemented
 abbrev pub executed : Option Instr → State → Step
 executed None s = ends (faults unimplemented s.pc)
 executed (Some i) s = carried_out (meaning_of i s.regs s.carry s.pc s.next) s
@@ -111,11 +118,12 @@ fetched (Some word) i s = executed i s
 abbrev pub step : Program → State → Step
 step p s = fetched (four_bytes p.byte s.pc) (p.instruction s.pc) s
 
--- the history: the state after some steps, which stays at the end
+-- the state after a step; after the end it stays as it is
 abbrev pub state_after : Step → State → State
 state_after (on bubble next) s = next
 state_after (ends stop) s = s
 
+-- the history: the state after some steps. From the end on it is the state at which the program ended.
 unfoldable pub state : Program → ℕ → State
 state p zero = opening p
 state p (suc n) = state_after (step p (state p n)) (state p n)

@@ -1,5 +1,5 @@
 -- The accesses of the load, store and exchange instructions ("Instruction Set": load, store and exchange instructions;
--- "Data Unit": transaction registers).
+-- "Control Registers": the registers of a data transaction).
 use Rattle.std.specs.Prelude.{ℕ, Bool, true, false, List, [], ◌∷◌, ◌+◌, ◌%◌, ◌^◌, ◌≡◌, ◌<◌}
 use Rattle.m88_base.specs.declared.reg.Reg.{Reg}
 use Rattle.m88_isa.specs.Lanes.{IsEnable, enable_of, word_address}
@@ -119,13 +119,20 @@ recorded [] = record { count = 0; first = no_access; second = no_access }
 recorded (t ∷ []) = record { count = 1; first = access_of t; second = no_access }
 recorded (t ∷ u ∷ _) = record { count = 2; first = access_of t; second = access_of u }
 
--- an access that the data unit can make: the address of a word and one of its enables
+-- an access that the data unit can make: the address of a word and one of its enables; a write has no register to load
+-- and no sign to extend, a read has no value to store
 abbrev pub IsWordAccess : Access → Type 0
-IsWordAccess a = (a.addr % 4 ≡ 0) × IsEnable a.en
+IsWordAccess a =
+    (a.addr % 4 ≡ 0)
+    × IsEnable a.en
+    × (a.write ≡ true → (a.reg ≡ no_register) × (a.signed ≡ false))
+    × (a.write ≡ false → a.value ≡ 0)
 
--- that many accesses, each of which the data unit can make
+-- that many accesses, each of which the data unit can make, and nothing in the places behind them
 abbrev pub AreWordAccesses : ℕ → Accesses → Type 0
 AreWordAccesses count accesses =
     (accesses.count ≡ count)
     × (0 < count → IsWordAccess accesses.first)
     × (1 < count → IsWordAccess accesses.second)
+    × (count < 1 → accesses.first ≡ no_access)
+    × (count < 2 → accesses.second ≡ no_access)

@@ -1,5 +1,5 @@
 -- Which registers an instruction reads and writes, and how the instruction unit treats it ("Instruction Set": the
--- operands of each mnemonic; "Instruction Unit": scoreboard). r0 stands for no register.
+-- operands of each mnemonic). r0 stands for no register.
 use Rattle.std.specs.Prelude.{ℕ, Bool, true, false, ◌+◌, ◌^◌, ◌==◌, bit_or, if◌then◌else◌}
 use Rattle.m88_base.specs.declared.reg.Reg.{Reg}
 use Rattle.m88_base.specs.Reg.{number_of, reg_of}

@@ -1,5 +1,5 @@
 -- The vectors that instructions raise ("Exception Processing": exception vectors).
-use Rattle.std.specs.Prelude.{ℕ, ◌+◌, ◌*◌, ◌-◌, ◌==◌, if◌then◌else◌}
+use Rattle.std.specs.Prelude.{ℕ, ◌≡◌, ◌≤◌, ◌⊎◌, ◌+◌, ◌*◌, ◌-◌, ◌%◌, ◌==◌, if◌then◌else◌}
 
 -- an instruction that can't be fetched
 abbrev pub instruction_access : ℕ
@@ -21,7 +21,7 @@ privilege = 6
 abbrev pub out_of_bounds : ℕ
 out_of_bounds = 7
 
--- a division by 0, or a signed one of a negative number
+-- a division by 0, or a signed one where either number is negative
 abbrev pub bad_division : ℕ
 bad_division = 8
 
@@ -36,3 +36,8 @@ first_user_vector = 128
 -- a word of special function unit 1 to 7: 114 for the first, then the even numbers from 116
 abbrev pub unit_vector : ℕ → ℕ
 unit_vector unit = if unit == 1 then 114 else 116 + 2 * (unit - 2)
+
+-- the vectors that an instruction itself raises: 4 to 9, and those of the units, 114 and the even ones of 116 to 126
+abbrev pub IsRaised : ℕ → Type 0
+IsRaised vector =
+    (misaligned ≤ vector) × (vector ≤ overflow) ⊎ (vector ≡ unit_vector 1) ⊎ (unit_vector 2 ≤ vector) × (vector ≤ unit_vector 7) × (vector % 2 ≡ 0)

@@ -1,6 +1,6 @@
 -- The word table: the word of each instruction as the sum of its fields ("Instruction Set": the instruction
--- formats and the opcode of each mnemonic). A field that a line doesn't name is 0, and a word that no line gives
--- is no instruction: that is this project's profile. Bit 31 is the highest.
+-- formats and the opcode of each mnemonic). Fields that a form lacks hold 0, and a word that no line gives
+-- is no instruction: that is this project's profile. Bits are counted from 0 at the low end.
 use Rattle.std.specs.Prelude.{ℕ, ℤ, Bool, ◌≡◌, ◌+◌, ◌*◌, ◌^◌, ◌%◌, if◌then◌else◌}
 use Rattle.std.specs.Int.{cast_unsigned, w16, w32}
 use Rattle.m88_base.specs.Reg.{number_of}
@@ -77,15 +77,15 @@ at_width width = width * 2 ^ 5
 abbrev pub mark : Bool → ℕ → ℕ
 mark there n = if there then n else 0
 
--- a signed count of words in bits 15 to 0
+-- the two's complement of a count of words, cut to 16 bits
 abbrev pub low16 : ℤ → ℕ
 low16 words = cast_unsigned w16 words
 
--- a signed count of words in bits 25 to 0
+-- the two's complement of a count of words, cut to 26 bits
 abbrev pub low26 : ℤ → ℕ
 low26 words = cast_unsigned w32 words % 2 ^ 26
 
--- the first byte of a memory mnemonic; its two low bits belong to D
+-- the first byte of a memory mnemonic; D reaches into its two low bits
 abbrev pub mem_byte : MemOp → ℕ
 mem_byte XmemBu = 0x00
 mem_byte Xmem = 0x04
@@ -100,7 +100,7 @@ mem_byte St = 0x24
 mem_byte StH = 0x28
 mem_byte StB = 0x2C
 
--- the first byte of an immediate mnemonic; its two low bits belong to D
+-- the first byte of an immediate mnemonic; D reaches into its two low bits
 abbrev pub imm_byte : ImmOp → ℕ
 imm_byte immop.And = 0x40
 imm_byte immop.AndU = 0x44
@@ -197,6 +197,6 @@ word_of (Sfu unit rest) = 0x80000000 + unit * 2 ^ 26 + rest
 abbrev pub IsWord : Instr → ℕ → Type 0
 IsWord i word = IsValid i × (word_of i ≡ word)
 
--- no word has a second reading
+-- two instructions with one word are the same
 abbrev pub HasOneReading : ℕ → Type 0
 HasOneReading word = (i j : Instr) → IsWord i word → IsWord j word → i ≡ j

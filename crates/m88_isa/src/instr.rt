@@ -239,7 +239,7 @@ pub enum Instr {
 
 /// Whether every field is in the range of its place in the word.
 pub fn is_valid(instr: &Instr) -> bool
-    ensures { IsTrue result ↔ IsValid instr.now }
+    ensures valid { IsTrue result ↔ IsValid instr.now }
 {
     match *instr {
         Instr::Imm { imm: _imm, .. }

@@ -1,4 +1,4 @@
-//! The bytes of a word of memory that an access touches ("Data Unit": data memory access, byte enables).
+//! The bytes of a word of memory that an access touches ("Control Registers": the enables of a data transaction).
 
 ghost use Rattle.std.specs.Prelude.{◌≡◌, ◌<◌, ◌^◌, ◌⊎◌, ◌*◌};
 ghost use Rattle.m88_isa.specs.Lanes.{IsEnable, LoadsBytes, StoresBytes, datum_of, enable_of, joined_below, merged, touched_below, widened};

@@ -4,6 +4,7 @@ ghost use Rattle.std.specs.Prelude.{◌≡◌, ◌<◌};
 ghost use Rattle.m88_isa.specs.Effect.{
   IgnoresUnused,
   MakesAccesses,
+  RaisesListed,
   TouchesAligned,
   TrapsForUser,
   WritesWithin,
@@ -43,6 +44,7 @@ pub fn plan(instr: &Instr, regs: &[u32; 32], carry: bool, pc: u32, next: u32) ->
     ensures accesses { MakesAccesses (access_count_of instr.now) result }
     ensures register { WritesWithin (writes_of instr.now) result }
     ensures trap { TrapsForUser result }
+    ensures raise { RaisesListed result }
     ensures aligned { TouchesAligned (meaning_of instr.now regs.now carry pc next) }
     ensures alone { IgnoresUnused instr.now regs.now carry pc next }
 {
@@ -75,7 +77,7 @@ fn register(regs: &[u32; 32], r: Reg) -> u32
     if r == Reg::ZERO { 0 } else { regs[r.index()] }
 }
 
-/// What an instruction does of what it reads, in no taken delay slot.
+/// What an instruction does of what it reads, a change of flow in a taken delay slot aside.
 fn effect(instr: &Instr, x: Inputs) -> Plan
     requires { IsValid instr.now }
     ensures { result ≡ plan_for (effect instr.now x) }

@@ -1,7 +1,8 @@
 //! Which registers an instruction reads and writes, and how the instruction unit treats it
-//! ("Instruction Set": the operands of each mnemonic; "Instruction Unit": scoreboard).
+//! ("Instruction Set": the operands of each mnemonic).
 
-ghost use Rattle.std.specs.Prelude.{◌≡◌, ◌<◌};
+ghost use Rattle.std.specs.Prelude.{◌≡◌, ◌<◌, ◌≤◌};
+ghost use Rattle.std.specs.Int.{bit_at};
 ghost use Rattle.m88_base.specs.Reg.{number_of};
 ghost use Rattle.m88_isa.specs.Instr.{IsValid};
 ghost use Rattle.m88_isa.specs.Operands.{
@@ -31,19 +32,21 @@ use crate::instr::{Instr, MemOp};
 use m88_base::Reg;
 
 /// The registers that an instruction uses, bit n for register n; bit 0 is never set.
-#[tactic(auto, unfolding(crate::specs::Operands::uses_of))]
+#[tactic(auto, unfolding(crate::specs::Operands::uses_of), using(crate::proofs::Sets::uses_lack_r0))]
 pub fn uses(instr: &Instr) -> u32
     requires { IsValid instr.now }
-    ensures { result ≡ uses_of instr.now }
+    ensures value { result ≡ uses_of instr.now }
+    ensures zero { bit_at result 0 ≡ 0 }
 {
     pair_of(s1_of(instr), s2_of(instr)) | pair_of(d_of(instr), after_d_of(instr))
 }
 
 /// The registers that an instruction writes, at once or by a load, bit n for register n; bit 0 is never set.
-#[tactic(auto, unfolding(crate::specs::Operands::writes_of))]
+#[tactic(auto, unfolding(crate::specs::Operands::writes_of), using(crate::proofs::Sets::writes_lack_r0))]
 pub fn writes(instr: &Instr) -> u32
     requires { IsValid instr.now }
-    ensures { result ≡ writes_of instr.now }
+    ensures value { result ≡ writes_of instr.now }
+    ensures zero { bit_at result 0 ≡ 0 }
 {
     pair_of(written_by(instr), second_written_by(instr))
 }
@@ -51,7 +54,8 @@ pub fn writes(instr: &Instr) -> u32
 /// The accesses to data memory that an instruction makes unless it raises: 0, 1 or 2.
 pub fn access_count(instr: &Instr) -> u32
     requires { IsValid instr.now }
-    ensures { result ≡ access_count_of instr.now }
+    ensures value { result ≡ access_count_of instr.now }
+    ensures most { result ≤ 2 }
 {
     match *instr {
         Instr::MemImm { op, .. } => accesses_of(op),
@@ -63,7 +67,7 @@ pub fn access_count(instr: &Instr) -> u32
 /// Whether it is a branch, a jump, a conditional trap or `rte`, which may not stand in a taken delay slot.
 pub fn is_flow(instr: &Instr) -> bool
     requires { IsValid instr.now }
-    ensures { result ≡ is_flow instr.now }
+    ensures value { result ≡ is_flow instr.now }
 {
     match *instr {
         Instr::Branch { .. }
@@ -78,7 +82,7 @@ pub fn is_flow(instr: &Instr) -> bool
 /// Whether it is `tb0`, `tb1` or `tcnd`, which waits until no access is pending.
 pub fn waits_for_empty(instr: &Instr) -> bool
     requires { IsValid instr.now }
-    ensures { result ≡ waits_for_empty instr.now }
+    ensures value { result ≡ waits_for_empty instr.now }
 {
     matches!(*instr, Instr::TrapBit { .. } | Instr::TrapCond { .. })
 }

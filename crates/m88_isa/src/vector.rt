@@ -8,7 +8,7 @@ pub const UNIMPLEMENTED: u16 = 5;
 pub const PRIVILEGE: u16 = 6;
 /// A bounds check that fails.
 pub const OUT_OF_BOUNDS: u16 = 7;
-/// A division by 0, or a signed one of a negative number.
+/// A division by 0, or a signed one where either number is negative.
 pub const BAD_DIVISION: u16 = 8;
 /// A signed sum or difference that doesn't fit a word.
 pub const OVERFLOW: u16 = 9;

@@ -23,9 +23,9 @@ returns-else-is_valid-clause-only c = λ i h.
     c.candidate-instr.ensures ∙ ap candidate_of (sym h.1) ∙ candidate_law i h.0 in
     elim c.else-is_valid.branch [
       | else-is_valid-via-then-is_valid+else-encode-word w ↦
-          absurd (w.if-encode-word.false (sym w.encode.ensures.1 ∙ ap word_of same ∙ h.1))
+          absurd (w.if-encode-word.false (sym w.encode.ensures.word.1 ∙ ap word_of same ∙ h.1))
       | else-is_valid-via-else-is_valid w ↦
-          let valid = c.is_valid.ensures.1 (subst IsValid (sym same) h.0) in
+          let valid = c.is_valid.ensures.valid.1 (subst IsValid (sym same) h.0) in
           absurd (grind (arith, valid))
     ]
 
