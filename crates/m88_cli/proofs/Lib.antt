@@ -5,3 +5,4 @@ pub mod Moving
 pub mod Running
 pub mod Loading
 pub mod Whole
+pub mod OneReport

@@ -29,3 +29,7 @@ refusal_of source = codes "refused " ++ decimal (first_other source) ++ codes ":
 -- the text is what a command writes for an input
 abbrev pub IsAnswer : Command → List ℕ → List ℕ → Type 0
 IsAnswer command input text = MatchBool (accepts command input) (IsText command input text) (text ≡ refusal_of input)
+
+-- a program has one report for a limit
+abbrev pub HasOneReport : Type 0
+HasOneReport = (p : Program) (limit : ℕ) (text other : List ℕ) → IsReport p limit text → IsReport p limit other → text ≡ other

@@ -6,6 +6,7 @@ mod choice;
 mod digits;
 mod fetch;
 mod job;
+mod laws;
 mod letter;
 mod load;
 mod machine;
@@ -19,5 +20,6 @@ mod source;
 mod status;
 mod words;
 
+pub use laws::one_report;
 pub use program::{MOST_INPUT, m88};
 pub use status::Status;
