@@ -1,3 +1,4 @@
 pub mod Fault
 pub mod Tokens
 pub mod Names
+pub mod Spelling
