@@ -8,6 +8,8 @@ mod candidate;
 mod codes;
 mod decoder;
 mod encoder;
+#[cfg(test)]
+mod tests;
 
 pub use bytes::word_at;
 pub use decoder::{BadWord, decode};

@@ -1,2 +1,3 @@
 pub mod Instr
 pub mod Word
+pub mod Mnemonic

@@ -4,5 +4,7 @@
 #![tactic(auto)]
 
 mod instr;
+mod mnemonic;
 
 pub use instr::{BitOp, ImmOp, Instr, LdaSize, MemOp, RegOp, is_valid};
+pub use mnemonic::{MNEMONICS, Mnemonic};

@@ -6,7 +6,10 @@ mod fault;
 mod lexemes;
 mod names;
 mod operand;
+mod operands;
+mod parser;
 mod scan;
+mod slots;
 mod token;
 mod unit;
 

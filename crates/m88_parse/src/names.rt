@@ -1,5 +1,6 @@
 ghost use Rattle.std.specs.Prelude.{◌≡◌, ◌≤◌, ◌<◌, IfSome, SomeIff, true};
 ghost use Rattle.m88_parse.specs.Names.{number_up_to, register_of, control_of, float_control_of, control_in, bit_of, condition_of, half_of, is_here, is_module, is_symbol};
+ghost use Rattle.m88_parse.specs.WellFormed.{IsHalf};
 
 use crate::scan::{is_decimal, value_of};
 use m88_base::{Kind, Name};
@@ -105,7 +106,8 @@ pub(crate) fn condition_of(name: &[u8]) -> Option<u32>
 /// Which half of a value `hi16` and `lo16` name.
 #[tactic(auto, unfolding(crate::specs::Names::half_of))]
 pub(crate) fn half_of(name: &[u8]) -> Option<Kind>
-    ensures { result ≡ half_of name.now }
+    ensures value { result ≡ half_of name.now }
+    ensures kind { IfSome result IsHalf }
 {
     match name {
         b"hi16" => Some(Kind::Hi16),

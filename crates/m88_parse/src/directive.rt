@@ -1,0 +1,62 @@
+ghost use Rattle.std.specs.Prelude.{◌≡◌};
+ghost use Rattle.m88_parse.specs.Directive.{all_directives, directive_text, directive_of};
+
+/// A directive beside `.module`.
+#[derive(Clone, Copy, PartialEq, Eq)]
+pub(crate) enum Directive {
+    Text,
+    Data,
+    At,
+    Word,
+    Half,
+    Byte,
+    Ascii,
+    Zero,
+    Align,
+    Global,
+    Set,
+}
+
+const DIRECTIVES: [Directive; 11] = [
+    Directive::Text,
+    Directive::Data,
+    Directive::At,
+    Directive::Word,
+    Directive::Half,
+    Directive::Byte,
+    Directive::Ascii,
+    Directive::Zero,
+    Directive::Align,
+    Directive::Global,
+    Directive::Set,
+];
+
+#[tactic(auto, unfolding(crate::specs::Directive::directive_text))]
+fn text_of(directive: Directive) -> &'static str
+    ensures { result.now ≡ directive_text directive }
+{
+    match directive {
+        Directive::Text => ".text",
+        Directive::Data => ".data",
+        Directive::At => ".at",
+        Directive::Word => ".word",
+        Directive::Half => ".half",
+        Directive::Byte => ".byte",
+        Directive::Ascii => ".ascii",
+        Directive::Zero => ".zero",
+        Directive::Align => ".align",
+        Directive::Global => ".global",
+        Directive::Set => ".set",
+    }
+}
+
+/// The directive of a name, if there is one.
+#[tactic(auto, unfolding(crate::specs::Directive::all_directives))]
+pub(crate) fn directive_of(name: &[u8]) -> Option<Directive>
+    ensures { result ≡ directive_of name.now }
+{
+    DIRECTIVES
+        .iter()
+        .copied()
+        .find(|d| text_of(*d).as_bytes() == name)
+}

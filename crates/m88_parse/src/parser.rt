@@ -1,0 +1,124 @@
+ghost use Rattle.std.specs.Prelude.{◌≡◌, map, length, ◌-◌};
+ghost use Rattle.m88_parse.specs.Fault.{Gives};
+ghost use Rattle.m88_parse.specs.State.{State, first, second, place, past, fault, is_next};
+ghost use Rattle.m88_parse.specs.Slots.{mark_at, end_at};
+ghost use Rattle.m88_parse.specs.Tokens.{piece_of, meaning_in};
+
+use crate::fault::{ParseFault, ParseKind};
+use crate::token::{Lexeme, What};
+use std::marker::Model;
+
+/// Reads a statement from the tokens of its line: those that are left, the line's number, and the
+/// column just after the last token.
+#[derive(Drop)]
+pub(crate) struct Parser<'a> {
+    rest: &'a [Lexeme<'a>],
+    line: u32,
+    end_col: u32,
+}
+
+impl<'a> Model for Parser<'a> {
+    ghost Value = { State };
+
+    ghost view = { λ p. record { line = p.line; end_col = p.end_col; rest = map piece_of p.rest.now } };
+}
+
+impl<'a> Parser<'a> {
+    pub fn new(lexemes: &'a [Lexeme<'a>], line: u32, end_col: u32) -> Parser<'a>
+        ensures { result ≡ record { line = line; end_col = end_col; rest = map piece_of lexemes.now } }
+    {
+        Parser {
+            rest: lexemes,
+            line,
+            end_col,
+        }
+    }
+
+    /// What the next token says.
+    pub fn first(&self) -> Option<What<'a>>
+        ensures { meaning_in result ≡ first self.now }
+    {
+        match self.rest {
+            [lexeme, ..] => Some(lexeme.what),
+            [] => None,
+        }
+    }
+
+    /// What the token behind the next one says.
+    pub fn second(&self) -> Option<What<'a>>
+        ensures { meaning_in result ≡ second self.now }
+    {
+        match self.rest {
+            [_, lexeme, ..] => Some(lexeme.what),
+            _ => None,
+        }
+    }
+
+    /// Passes over the next token, if there is one.
+    pub fn skip(&mut self)
+        ensures after { self.new ≡ past self.old }
+    {
+        if let [_, rest @ ..] = self.rest {
+            self.rest = rest;
+        }
+    }
+
+    /// The number of the line.
+    pub fn line(&self) -> u32
+        ensures { result ≡ self.now.line }
+    {
+        self.line
+    }
+
+    /// The column of the next token; the end of the line is a token just after the last one.
+    pub fn place(&self) -> u32
+        ensures { result ≡ place self.now }
+    {
+        match self.rest {
+            [lexeme, ..] => lexeme.col,
+            [] => self.end_col,
+        }
+    }
+
+    /// A fault at the next token.
+    pub fn fault(&self, kind: ParseKind) -> ParseFault
+        ensures { result ≡ fault kind self.now }
+    {
+        ParseFault {
+            line: self.line,
+            col: self.place(),
+            kind,
+        }
+    }
+
+    /// Whether the next token is this mark.
+    pub fn is_next(&self, mark: u8) -> bool
+        ensures { result ≡ is_next mark self.now }
+    {
+        match self.first() {
+            Some(What::Mark(m)) => m == mark,
+            _ => false,
+        }
+    }
+
+    pub fn mark(&mut self, mark: u8) -> Result<(), ParseFault>
+        ensures { Gives (λ _. self.new) result (mark_at mark self.old) }
+    {
+        if self.is_next(mark) {
+            self.skip();
+            Ok(())
+        } else {
+            Err(self.fault(ParseKind::Syntax))
+        }
+    }
+
+    /// The end of the line.
+    pub fn end(&self) -> Result<(), ParseFault>
+        ensures { Gives (λ _. self.now) result (end_at self.now) }
+    {
+        match self.first() {
+            None => Ok(()),
+            Some(_) => Err(self.fault(ParseKind::Syntax)),
+        }
+    }
+}
