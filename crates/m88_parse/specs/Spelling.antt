@@ -1,1 +1,5 @@
 pub mod Tokens
+pub mod Names
+pub mod Operands
+pub mod Statements
+pub mod Units
