@@ -1,2 +1,9 @@
+pub mod Causes
+pub mod Found
+pub mod Image
+pub mod Memory
 pub mod Name
+pub mod Outside
+pub mod Padded
+pub mod Placed
 pub mod Reg

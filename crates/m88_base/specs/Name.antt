@@ -1,12 +1,16 @@
--- Names of the assembly language: 1 to 64 letters, digits, _ . $, where the first is no digit.
-use Rattle.std.specs.Prelude.{ℕ, Bool, List, [], ◌∷◌, ◌==◌, ◌||◌, ◌&&◌, not, false, length, nat_le, codes}
-use Rattle.std.specs.List.{list_any, list_all}
-use Rattle.std.specs.Char.{is_ascii_alphanumeric, is_ascii_digit}
+-- Names (assembly language: tokens).
+use Rattle.std.specs.Prelude.{ℕ, ◌<◌, ◌==◌, ◌||◌, Bool, List, [], ◌∷◌, length, All, IsTrue}
+use Rattle.std.specs.Char.{is_ascii_alphabetic, is_ascii_digit}
 
--- what names are made of
-abbrev pub is_name_byte : ℕ → Bool
-is_name_byte b = is_ascii_alphanumeric b || list_any (λ m. b == m) (codes "_.$")
+-- the byte may begin a name: it is a letter, `_`, `.` or `$`
+abbrev pub begins_name : ℕ → Bool
+begins_name b = is_ascii_alphabetic b || b == 95 || b == 46 || b == 36
 
-abbrev pub is_name : List ℕ → Bool
-is_name [] = false
-is_name (b ∷ bs) = not (is_ascii_digit b) && nat_le (length (b ∷ bs)) 64 && list_all is_name_byte (b ∷ bs)
+-- the byte may stand further on in a name: it may begin one, or is a digit
+abbrev pub continues_name : ℕ → Bool
+continues_name b = begins_name b || is_ascii_digit b
+
+-- the bytes are one name, 1 to 64 bytes
+abbrev pub IsName : List ℕ → Type 0
+IsName [] = ⊥
+IsName (first ∷ rest) = IsTrue (begins_name first) × All (λ b. IsTrue (continues_name b)) rest × (length rest < 64)

@@ -1,73 +1,95 @@
-ghost use Rattle.std.specs.Prelude.{◌≡◌, ℕ, ◌≤◌, List, length, take, true, SomeIff};
-ghost use Rattle.std.specs.List.{list_all};
-ghost use Rattle.m88_base.specs.Name.{is_name, is_name_byte};
+//! Names of labels, symbols and modules.
+ghost use Rattle.std.specs.Prelude.{◌≡◌, ◌↔◌, ◌-◌, ◌≤◌, ◌++◌, length, replicate, IsTrue, IsSome, IfSome};
+ghost use Rattle.m88_base.specs.Name.{IsName, begins_name, continues_name};
 
 use std::marker::Model;
 
-/// The most bytes that a name may have.
-const MAX_NAME: usize = 64;
-
-/// A name of the assembly language: 1 to 64 letters, digits, `_`, `.` and `$`, and no digit first.
-#[derive(Drop)]
+/// A name of an assembly source, 1 to 64 bytes.
+#[derive(Clone, Copy, PartialEq, Eq, Debug)]
 pub struct Name {
-    held: [u8; 64],
+    bytes: [u8; 64],
     len: usize,
 }
 
 impl Model for Name {
+    ghost use Rattle.std.specs.Prelude.{ℕ, List, ◌≡◌, ◌-◌, ◌≤◌, ◌++◌, length, take, drop, replicate};
+    ghost use Rattle.m88_base.specs.Name.{IsName};
+    ghost use Rattle.m88_base.specs.Padded.{padded};
+
     ghost Value = { List ℕ };
 
-    ghost view = { λ n. take n.len n.held };
+    ghost view = { λ name. take name.len name.bytes };
 
-    ghost invariant = { λ n. (n.len ≤ 64) × (is_name (take n.len n.held) ≡ true) };
-}
+    ghost invariant = { λ name. IsName (take name.len name.bytes)
+        × (name.len ≤ 64) × (length name.bytes ≡ 64) × (drop name.len name.bytes ≡ replicate (64 - name.len) 0) };
 
-fn is_name_byte(b: u8) -> bool
-    ensures { result ≡ is_name_byte b }
-{
-    b.is_ascii_alphanumeric() || matches!(b, b'_' | b'.' | b'$')
-}
+    ghost inverse = { λ bytes. record { bytes = bytes ++ replicate (64 - length bytes) 0; len = length bytes } };
 
-fn are_name_bytes(bytes: &[u8]) -> bool
-    ensures { result ≡ list_all is_name_byte bytes.now }
-{
-    bytes.iter().all(|b| is_name_byte(*b))
-}
+    ghost use Rattle.m88_base.specs.declared.name.Name.TheInside.{Inside};
 
-fn is_name(bytes: &[u8]) -> bool
-    ensures { result ≡ is_name bytes.now }
-{
-    match bytes {
-        [] => false,
-        [first, ..] => {
-            if first.is_ascii_digit() || bytes.len() > MAX_NAME {
-                false
-            } else {
-                are_name_bytes(bytes)
-            }
-        }
-    }
+    ghost inverse_ok = { λ a h. padded {A = Inside} (λ bytes len. record { bytes = bytes; len = len }) a.bytes a.len 64 h.1 h.2 h.3 };
 }
 
 impl Name {
     /// The name that the bytes are, or None where they are none.
     pub fn new(bytes: &[u8]) -> Option<Name>
-        ensures { SomeIff result (is_name bytes.now ≡ true) bytes.now }
+        ensures valid { IsSome result ↔ IsName bytes.now }
+        ensures value { IfSome result (λ name. name ≡ bytes.now) }
     {
         if !is_name(bytes) {
             return None;
         }
-        let len = bytes.len();
-        let mut held = [0; 64];
-        held[..len].copy_from_slice(bytes);
-        Some(Name { held, len })
+        Some(Name {
+            bytes: padded(bytes),
+            len: bytes.len(),
+        })
     }
 
     /// The bytes of the name.
     pub fn bytes(&self) -> &[u8]
         ensures value { result.now ≡ self.now }
-        ensures name { is_name self.now ≡ true }
+        ensures name { IsName self.now }
     {
-        &self.held[..self.len]
+        &self.bytes[..self.len]
     }
+}
+
+/// Whether bytes are one name.
+fn is_name(bytes: &[u8]) -> bool
+    ensures { IsTrue result ↔ IsName bytes.now }
+{
+    let Some((first, rest)) = bytes.split_first() else {
+        return false;
+    };
+    if !begins_name(*first) {
+        return false;
+    }
+    if rest.len() >= 64 {
+        return false;
+    }
+    rest.iter().all(|byte| continues_name(*byte))
+}
+
+/// The bytes with zeros behind them.
+fn padded(bytes: &[u8]) -> [u8; 64]
+    requires { length bytes.now ≤ 64 }
+    ensures { result ≡ bytes.now ++ replicate (64 - length bytes.now) 0 }
+{
+    let mut kept = [0; 64];
+    kept[..bytes.len()].copy_from_slice(bytes);
+    kept
+}
+
+/// Whether a byte is a letter, `_`, `.` or `$`.
+fn begins_name(byte: u8) -> bool
+    ensures { result ≡ begins_name byte }
+{
+    byte.is_ascii_alphabetic() || byte == b'_' || byte == b'.' || byte == b'$'
+}
+
+/// Whether a byte is a letter, a digit, `_`, `.` or `$`.
+fn continues_name(byte: u8) -> bool
+    ensures { result ≡ continues_name byte }
+{
+    begins_name(byte) || byte.is_ascii_digit()
 }

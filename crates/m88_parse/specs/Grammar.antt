@@ -36,15 +36,15 @@ use Rattle.m88_parse.specs.State.{State, trouble, past, is_next, ◌>>=◌}
 use Rattle.m88_parse.specs.Slots.{Read, mark_at, end_at, number_at, whole_at, register_at, control_at, bit_at, mask_at, symbol_at, value_at, text_at, alignment_at}
 use Rattle.m88_parse.specs.Operands.{immediate_at, operand_at, bound_at, scaled_at, index_at, user_index_at, field_at, goal_at}
 
--- one or more items with commas between them, among so many tokens
+-- one or more items with commas between them, at most so many
 unfoldable pub many : {A : Type 0} → (State → Read A) → ℕ → State → Read (List A)
 many item zero s = trouble Syntax s
-many item (suc tokens) s = do
+many item (suc more) s = do
   x ← item s
-  if is_next 44 x.1 then (many item tokens (past x.1) >>= λ xs. Ok (x.0 ∷ xs.0, xs.1)) else Ok (x.0 ∷ [], x.1)
+  if is_next 44 x.1 then (many item more (past x.1) >>= λ xs. Ok (x.0 ∷ xs.0, xs.1)) else Ok (x.0 ∷ [], x.1)
 
 abbrev pub list_at : {A : Type 0} → (State → Read A) → State → Read (List A)
-list_at item s = many item (length s.rest) s
+list_at item s = many item (suc (length s.rest)) s
 
 -- the items of .word, .half and .byte
 abbrev pub word_at : State → Read Value

@@ -6,3 +6,7 @@ pub mod State
 pub mod Slots
 pub mod Operands
 pub mod WellFormed
+pub mod Shape
+pub mod Directive
+pub mod Grammar
+pub mod Source

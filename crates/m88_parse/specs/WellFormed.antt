@@ -23,6 +23,8 @@ use Rattle.m88_parse.specs.declared.unit.Body.TheVariants.{Empty, Word, Align, C
 use Rattle.m88_parse.specs.declared.unit.Statement.{Statement}
 use Rattle.m88_parse.specs.declared.unit.Module.{Module}
 use Rattle.m88_parse.specs.declared.unit.Unit.{Unit as Source}
+use Rattle.m88_parse.specs.declared.row.Row.{Row}
+use Rattle.m88_parse.specs.declared.row.Row.TheVariants as row
 
 -- a number, or a symbol of this kind
 abbrev pub IsOfKind : Kind → Value → Type 0
@@ -81,3 +83,19 @@ IsBody (Word values) = All (IsOfKind Abs32) values
 IsBody (Align n) = IsAlignment n
 IsBody (Code instr fixup) = IsValid instr × IsFixed instr fixup
 IsBody _ = Unit {0}
+
+abbrev pub IsStatement : Statement → Type 0
+IsStatement x = IsBody x.body
+
+abbrev pub IsRow : Row → Type 0
+IsRow (row.Statement x) = IsStatement x
+IsRow (row.Head name line) = Unit {0}
+
+abbrev pub IsModule : Module → Type 0
+IsModule m = All IsStatement m.statements
+
+-- a module at least, and fewer than 2 ^ 31 statements in all
+pub record IsWellFormed (u : Source) : Type 0 where
+  pub some : 0 < length u.modules
+  pub few : sum_by (λ m. length m.statements) u.modules < 2 ^ 31
+  pub each : All IsModule u.modules

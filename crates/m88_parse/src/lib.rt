@@ -2,14 +2,20 @@
 //! one first fault of a source that has no unit.
 #![tactic(auto)]
 
+mod directive;
 mod fault;
+mod forms;
 mod lexemes;
+mod lists;
 mod names;
 mod operand;
 mod operands;
 mod parser;
+mod row;
 mod scan;
+mod shape;
 mod slots;
+mod statement;
 mod token;
 mod unit;
 

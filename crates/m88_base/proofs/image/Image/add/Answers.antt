@@ -1,0 +1,45 @@
+use Rattle.std.proofs.Common.{◌≡◌, ◌<◌, ◌+◌, refl, sym, inr, length, arith}
+use Rattle.m88_base.specs.Image.{byte_at, byte_count}
+use Rattle.m88_base.proofs.Cuts.{free_between}
+use Rattle.m88_base.proofs.image.Image.add.Goals.{In-Ok}
+use Rattle.m88_base.proofs.image.Image.add.Goals as goal
+
+pub returns-then-is_too_large-clause-too_large : goal.returns-then-is_too_large-clause-too_large
+returns-then-is_too_large-clause-too_large c = (λ _. c.if-is_too_large.ensures.0 refl, λ _. refl)
+
+pub returns-then-is_empty-clause-too_large : goal.returns-then-is_empty-clause-too_large
+returns-then-is_empty-clause-too_large c = (λ e. absurd (cc), λ x. absurd (let f = c.if-is_too_large.ensures.1 x in cc))
+
+pub returns-in-Some-clause-too_large : goal.returns-in-Some-clause-too_large
+returns-in-Some-clause-too_large c = (λ e. absurd (cc), λ x. absurd (let f = c.if-is_too_large.ensures.1 x in cc))
+
+pub returns-in-Some-clause-overlap : goal.returns-in-Some-clause-overlap
+unfolding byte_at
+returns-in-Some-clause-overlap c = rw (← c.self.view_is, ← c.deref-2.ensures.value) c.in-Some.ensures.taken
+
+-- the number that the image keeps is the number of its bytes
+counted_bytes : (c : In-Ok) → byte_count c.args.self.now ≡ c.self.inside.len
+unfolding byte_count
+counted_bytes c = rw (← c.self.view_is) (sym c.self.invariant.1)
+
+pub invariant_of-self-2 : goal.invariant_of-self-2
+invariant_of-self-2 c =
+    let many : 1048576 < byte_count c.args.self.now + length c.args.bytes.now → ⊥ =
+    λ p. absurd (let f = c.if-is_too_large.ensures.1 (inr p) in cc) in
+    let placed = c.in-Ok.ensures.ok in
+    (placed.apart, omega (arith, placed.count, c.self.invariant.1), omega (arith, many, counted_bytes ((goal.at.invariant_of-self-2 c).In-Ok)))
+
+pub returns-clause-ok : goal.returns-clause-ok
+unfolding byte_at
+returns-clause-ok c = rw (← c.self.view_is) c.in-Ok.ensures.ok.puts
+
+pub returns-clause-len : goal.returns-clause-len
+unfolding byte_count
+returns-clause-len c = rw (← c.self.view_is) c.in-Ok.ensures.ok.count
+
+pub returns-clause-free : goal.returns-clause-free
+unfolding byte_at
+returns-clause-free c =
+    rw (← c.self.view_is)
+    (free_between c.self.inside.runs.items c.locate-index.result c.args.at (length c.args.bytes.now) c.self.invariant.0
+    (rw c.deref-2.ensures.value at c.in_default.ensures.free_above) (rw c.deref-2.ensures.value at c.in_default.ensures.free_below))

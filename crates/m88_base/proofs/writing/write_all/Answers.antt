@@ -1,0 +1,11 @@
+use Rattle.std.proofs.Common.{arith}
+use Rattle.m88_base.proofs.Known.{appends_next}
+use Rattle.m88_base.proofs.writing.write_all.Goals as goal
+
+pub loop-written-preserved : goal.loop-written-preserved
+loop-written-preserved g c = record {
+  short = omega (arith, c.in-Ok.ensures.bound);
+  grows = omega (arith, c.in-Ok.ensures.cause);
+  given = appends_next _ _ _ c.args.bytes.now c.loop-written.written c.in-Ok.count _ c.loop-written.invariant.given c.in-Ok.ensures.bytes
+      c.in-Ok.ensures.bound.1;
+}

@@ -1,0 +1,27 @@
+-- What is found at addresses, where a look-up tells the byte at each address that has one.
+use Rattle.std.specs.Prelude.{◌≡◌, ℕ, ◌+◌, ◌<◌, ◌≤◌, List, length, slice_get, Option, None, IsSome}
+
+-- the address is one of the n from `at` on
+abbrev pub IsWithin : ℕ → ℕ → ℕ → Type 0
+IsWithin at n a = (at ≤ a) × (a < at + n)
+
+-- the least of the n addresses from `at` on that have a byte
+abbrev pub IsLeastTaken : (ℕ → Option ℕ) → ℕ → ℕ → ℕ → Type 0
+IsLeastTaken found at n a = IsWithin at n a × IsSome (found a) × ((b : ℕ) → at ≤ b → b < a → found b ≡ None)
+
+-- none of the n addresses from `at` on has a byte
+abbrev pub IsFree : (ℕ → Option ℕ) → ℕ → ℕ → Type 0
+IsFree found at n = (a : ℕ) → IsWithin at n a → found a ≡ None
+
+-- what is found is what was found before, but for the bytes put from `at` on
+pub record PutsBytes (old new : ℕ → Option ℕ) (at : ℕ) (bytes : List ℕ) : Type 0 where
+  pub there : (k : ℕ) → k < length bytes → new (at + k) ≡ slice_get bytes k
+  pub below : (a : ℕ) → a < at → new a ≡ old a
+  pub above : (a : ℕ) → at + length bytes ≤ a → new a ≡ old a
+
+-- the bytes are all that stand at consecutive addresses round `at`: each is found in its place, and nothing just below and just above them
+pub record IsPart (found : ℕ → Option ℕ) (at : ℕ) (bytes : List ℕ) : Type 0 where
+  pub some : 0 < length bytes
+  pub there : (k : ℕ) → k < length bytes → found (at + k) ≡ slice_get bytes k
+  pub below : (a : ℕ) → a + 1 ≡ at → found a ≡ None
+  pub above : found (at + length bytes) ≡ None

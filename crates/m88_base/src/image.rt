@@ -1,0 +1,151 @@
+//! The bytes of a program at their addresses.
+ghost use Rattle.std.specs.Prelude.{◌≡◌, ◌+◌, ◌^◌, ◌<◌, ◌≤◌, ◌↔◌, ℕ, None, Some, Err, length, slice_get, IfErr, IsTrue, OnOk, OnErr};
+ghost use Rattle.m88_base.specs.Found.{IsFree, IsLeastTaken, IsPart, PutsBytes};
+ghost use Rattle.m88_base.specs.Placed.{AreApart, byte_among};
+ghost use Rattle.m88_base.specs.Image.{IsTooLarge, WhereOverlap, byte_at, byte_count, parts};
+
+use crate::run::Run;
+use crate::runs::{find, first_taken, locate, place};
+use std::alloc::Global;
+use std::marker::Model;
+
+/// The most bytes that an image has.
+pub const MOST_BYTES: usize = 1_048_576;
+
+/// Why bytes were not added to an image.
+#[derive(Clone, Copy, PartialEq, Eq, Debug)]
+pub enum ImageFault {
+    /// A byte would lie past 0xFFFFFFFF, or the image would have more than 1,048,576 bytes.
+    TooLarge,
+    /// The least of the new addresses that has a byte already.
+    Overlap(u32),
+    /// There was no memory for the bytes.
+    Memory,
+}
+
+/// A byte at each of at most 1,048,576 addresses, and the address at which the program starts.
+#[derive(Drop)]
+pub struct Image {
+    alloc: Global,
+    runs: Vec<Run>,
+    len: usize,
+    start: u32,
+}
+
+impl Model for Image {
+    ghost use Rattle.std.specs.Prelude.{◌≡◌, ◌≤◌};
+    ghost use Rattle.m88_base.specs.Placed.{AreApart, count_among};
+    ghost use Rattle.m88_base.specs.Image.{ProgramImage};
+
+    ghost Value = { ProgramImage };
+
+    ghost view = { λ image. record { runs = image.runs.items; start = image.start } };
+
+    ghost invariant = { λ image. AreApart 0 image.runs.items × (image.len ≡ count_among image.runs.items) × (image.len ≤ 1048576) };
+}
+
+impl Image {
+    /// An image without bytes that starts at 0x00001000.
+    #[tactic(auto, unfolding(crate::specs::Image::byte_at, crate::specs::Image::byte_count))]
+    pub fn new(alloc: Global) -> Image
+        ensures empty { (a : ℕ) → byte_at result a ≡ None }
+        ensures len { byte_count result ≡ 0 }
+        ensures start { result.start ≡ 0x1000 }
+    {
+        Image {
+            alloc,
+            runs: Vec::new(alloc),
+            len: 0,
+            start: 0x1000,
+        }
+    }
+
+    /// Puts copies of the bytes at the addresses from `at` on.
+    pub fn add(&mut self, at: u32, bytes: &[u8]) -> Result<(), ImageFault>
+        ensures ok { OnOk result (PutsBytes (byte_at self.old) (byte_at self.new) at bytes.now) }
+        ensures len { OnOk result (byte_count self.new ≡ byte_count self.old + length bytes.now) }
+        ensures start { self.new.start ≡ self.old.start }
+
+        // A refusal says which of its reasons came first, and changes nothing.
+        ensures too_large { (result ≡ Err ImageFault.TooLarge) ↔ IsTooLarge self.old at (length bytes.now) }
+        ensures overlap { IfErr result (WhereOverlap (IsLeastTaken (byte_at self.old) at (length bytes.now))) }
+        ensures free { OnOk result (IsFree (byte_at self.old) at (length bytes.now)) }
+        ensures err { OnErr result (self.new ≡ self.old) }
+    {
+        if self.is_too_large(at, bytes.len()) {
+            return Err(ImageFault::TooLarge);
+        }
+        if bytes.is_empty() {
+            return Ok(());
+        }
+        let index = locate(&self.runs, at);
+        if let Some(taken) = first_taken(&self.runs, index, at, bytes.len()) {
+            return Err(ImageFault::Overlap(taken));
+        }
+        let Ok(()) = place(self.alloc, &mut self.runs, index, at, bytes) else {
+            return Err(ImageFault::Memory);
+        };
+        self.len += bytes.len();
+        Ok(())
+    }
+
+    fn is_too_large(&self, at: u32, count: usize) -> bool
+        ensures { IsTrue result ↔ IsTooLarge self.now at count }
+    {
+        (1 << 32) - (at as usize) < count || MOST_BYTES - self.len() < count
+    }
+
+    /// Sets the address at which the program starts.
+    #[tactic(auto, unfolding(crate::specs::Image::byte_at, crate::specs::Image::byte_count))]
+    pub fn set_start(&mut self, at: u32)
+        ensures start { self.new.start ≡ at }
+        ensures bytes { (a : ℕ) → byte_at self.new a ≡ byte_at self.old a }
+        ensures len { byte_count self.new ≡ byte_count self.old }
+    {
+        self.start = at;
+    }
+
+    /// The address at which the program starts.
+    pub fn start(&self) -> u32
+        ensures { result ≡ self.now.start }
+    {
+        self.start
+    }
+
+    /// The number of addresses that have a byte.
+    #[tactic(auto, unfolding(crate::specs::Image::byte_at, crate::specs::Image::byte_count))]
+    pub fn len(&self) -> usize
+        ensures value { result ≡ byte_count self.now }
+        ensures bound { result ≤ MOST_BYTES }
+    {
+        self.len
+    }
+
+    /// The byte at an address, where there is one.
+    pub fn byte(&self, at: u32) -> Option<u8>
+        ensures { result ≡ byte_at self.now at }
+    {
+        find(&self.runs, at)
+    }
+
+    /// The number of parts, the runs of consecutive addresses that are as long as they can be.
+    #[tactic(auto, unfolding(crate::specs::Image::byte_at))]
+    pub fn part_count(&self) -> usize
+        ensures value { result ≡ length (parts self.now) }
+        ensures ascending { AreApart 0 (parts self.now) }
+        ensures all { (a : ℕ) → byte_at self.now a ≡ byte_among (parts self.now) a }
+    {
+        self.runs.len()
+    }
+
+    /// The first address and the bytes of a part, the parts in ascending order.
+    pub fn part(&self, index: usize) -> (u32, &[u8])
+        requires { index < length (parts self.now) }
+        ensures value { slice_get (parts self.now) index ≡ Some (record { at = result.0; bytes = result.1.now }) }
+        ensures part { IsPart (byte_at self.now) result.0 result.1.now }
+        ensures fits { result.0 + length result.1.now ≤ 2 ^ 32 }
+    {
+        let run = &self.runs[index];
+        (run.at(), run.bytes())
+    }
+}

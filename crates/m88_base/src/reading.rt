@@ -1,0 +1,51 @@
+//! A whole source in memory.
+ghost use Rattle.std.specs.Prelude.{◌≡◌, ◌≢◌, ℕ, ◌+◌, ◌^◌, ◌<◌, ◌≤◌, Err, IfOk, vec_len};
+ghost use Rattle.std.specs.Io.KnownBytes.{Consumes, IsAtEnd};
+ghost use Rattle.m88_base.specs.Causes.{Rose};
+ghost use Rattle.m88_base.specs.Outside.{TakesExactly, TakesAtMost};
+
+use crate::failing::Failed;
+use crate::source::Source;
+use std::alloc::Global;
+
+/// Why a source was not read to its end.
+#[derive(Clone, Copy, PartialEq, Eq, Debug)]
+pub enum ReadEnd {
+    /// The source failed.
+    SourceFault,
+    /// The source has more bytes than were allowed.
+    TooLong,
+    /// There was no memory for the bytes.
+    Memory,
+}
+
+/// All bytes of a source up to its end, `max` at most; one more is taken to find out that there
+/// are too many.
+pub fn read_all<S: Source>(alloc: Global, source: &mut S, max: usize) -> Result<Vec<u8>, ReadEnd>
+    requires { max < 2 ^ 31 }
+    ensures ok { IfOk result (λ bytes. Consumes (S.left source.old) (S.left source.new) bytes.items
+        × IsAtEnd (S.left source.new) × (vec_len bytes ≤ max)) }
+    ensures too_long { result ≡ Err ReadEnd.TooLong → TakesExactly (S.left source.old) (S.left source.new) (max + 1) }
+    ensures short { result ≢ Err ReadEnd.TooLong → TakesAtMost (S.left source.old) (S.left source.new) max }
+    ensures grows { S.faults source.old ≤ S.faults source.new }
+    ensures fault { result ≡ Err ReadEnd.SourceFault → Rose (S.faults source.old) (S.faults source.new) }
+{
+    let mut bytes = Vec::new(alloc);
+    let mut buf = [0u8; 4096];
+    for _ in 0..max + 2 {
+        let most = (max + 1 - bytes.len()).min(4096);
+        match source.read(&mut buf[..most]) {
+            Ok(0) => return Ok(bytes),
+            Ok(count) => {
+                if count > max - bytes.len() {
+                    return Err(ReadEnd::TooLong);
+                }
+                if bytes.extend_from_slice(&buf[..count]).is_err() {
+                    return Err(ReadEnd::Memory);
+                }
+            }
+            Err(Failed) => return Err(ReadEnd::SourceFault),
+        }
+    }
+    unreachable!()
+}

@@ -1,0 +1,409 @@
+ghost use Rattle.std.specs.Prelude.{◌≡◌, ◌≤◌, IfOk};
+ghost use Rattle.m88_parse.specs.Fault.{Gives};
+ghost use Rattle.m88_parse.specs.Grammar.{read, widest, either, immediate, registers, memory, user_memory, address, bits, find_bit, branch, branch_bit, branch_cond, jump, trap_bit, trap_cond, bounds, load, store, exchange, plain, form_of};
+ghost use Rattle.m88_isa.specs.declared.instr.Instr.TheVariants.{Rte};
+ghost use Rattle.m88_parse.specs.WellFormed.{IsBody};
+
+use crate::fault::ParseFault;
+use crate::operand::{Bound, Field, Index, Operand};
+use crate::parser::Parser;
+use crate::shape::Shape;
+use crate::unit::Body;
+use m88_base::{Kind, Reg};
+use m88_isa::{BitOp, ImmOp, Instr, LdaSize, MemOp, RegOp};
+
+/// The limits of a goal, in words: the bits of its field without the sign.
+const FAR: u32 = 1 << 25;
+const NEAR: u32 = 1 << 15;
+
+/// The most that a vector can be.
+const VECTORS: u32 = 511;
+
+/// The widest literal field, in bits: a rotation has no width.
+fn widest(op: BitOp) -> u32
+    ensures value { result ≡ widest op }
+    ensures bound { result ≤ 31 }
+{
+    match op {
+        BitOp::Rot => 0,
+        _ => 31,
+    }
+}
+
+impl<'a> Parser<'a> {
+    #[tactic(auto, unfolding(crate::specs::Grammar::read))]
+    fn either(&mut self, imm: ImmOp, reg: RegOp) -> Result<Body, ParseFault>
+        ensures value { Gives (λ b. b) result (read (either imm reg) self.old) }
+        ensures body { IfOk result IsBody }
+    {
+        let d = self.register()?;
+        self.mark(b',')?;
+        let s1 = self.register()?;
+        self.mark(b',')?;
+        let body = match self.operand()? {
+            Operand::Register(s2) => Body::Code(Instr::Regs { op: reg, d, s1, s2 }, None),
+            Operand::Immediate(x) => Body::Code(
+                Instr::Imm {
+                    op: imm,
+                    d,
+                    s1,
+                    imm: x.imm,
+                },
+                x.fixup,
+            ),
+        };
+        self.end()?;
+        Ok(body)
+    }
+
+    #[tactic(auto, unfolding(crate::specs::Grammar::read))]
+    fn immediate_form(&mut self, op: ImmOp) -> Result<Body, ParseFault>
+        ensures value { Gives (λ b. b) result (read (immediate op) self.old) }
+        ensures body { IfOk result IsBody }
+    {
+        let d = self.register()?;
+        self.mark(b',')?;
+        let s1 = self.register()?;
+        self.mark(b',')?;
+        let x = self.immediate()?;
+        self.end()?;
+        Ok(Body::Code(
+            Instr::Imm {
+                op,
+                d,
+                s1,
+                imm: x.imm,
+            },
+            x.fixup,
+        ))
+    }
+
+    #[tactic(auto, unfolding(crate::specs::Grammar::read))]
+    fn registers(&mut self, op: RegOp) -> Result<Body, ParseFault>
+        ensures value { Gives (λ b. b) result (read (registers op) self.old) }
+        ensures body { IfOk result IsBody }
+    {
+        let d = self.register()?;
+        self.mark(b',')?;
+        let s1 = self.register()?;
+        self.mark(b',')?;
+        let s2 = self.register()?;
+        self.end()?;
+        Ok(Body::Code(Instr::Regs { op, d, s1, s2 }, None))
+    }
+
+    #[tactic(auto, unfolding(crate::specs::Grammar::read))]
+    fn memory(&mut self, op: MemOp) -> Result<Body, ParseFault>
+        ensures value { Gives (λ b. b) result (read (memory op) self.old) }
+        ensures body { IfOk result IsBody }
+    {
+        let d = self.register()?;
+        self.mark(b',')?;
+        let s1 = self.register()?;
+        let body = match self.index()? {
+            Index::Scaled(s2) => Body::Code(
+                Instr::MemReg {
+                    op,
+                    d,
+                    s1,
+                    s2,
+                    scaled: true,
+                    usr: false,
+                },
+                None,
+            ),
+            Index::Offset(Operand::Register(s2)) => Body::Code(
+                Instr::MemReg {
+                    op,
+                    d,
+                    s1,
+                    s2,
+                    scaled: false,
+                    usr: false,
+                },
+                None,
+            ),
+            Index::Offset(Operand::Immediate(x)) => Body::Code(
+                Instr::MemImm {
+                    op,
+                    d,
+                    s1,
+                    imm: x.imm,
+                },
+                x.fixup,
+            ),
+        };
+        self.end()?;
+        Ok(body)
+    }
+
+    #[tactic(auto, unfolding(crate::specs::Grammar::read))]
+    fn user_memory(&mut self, op: MemOp) -> Result<Body, ParseFault>
+        ensures value { Gives (λ b. b) result (read (user_memory op) self.old) }
+        ensures body { IfOk result IsBody }
+    {
+        let d = self.register()?;
+        self.mark(b',')?;
+        let s1 = self.register()?;
+        let (s2, scaled) = self.user_index()?;
+        self.end()?;
+        Ok(Body::Code(
+            Instr::MemReg {
+                op,
+                d,
+                s1,
+                s2,
+                scaled,
+                usr: true,
+            },
+            None,
+        ))
+    }
+
+    #[tactic(auto, unfolding(crate::specs::Grammar::read))]
+    fn address(&mut self, size: LdaSize) -> Result<Body, ParseFault>
+        ensures value { Gives (λ b. b) result (read (address size) self.old) }
+        ensures body { IfOk result IsBody }
+    {
+        let d = self.register()?;
+        self.mark(b',')?;
+        let s1 = self.register()?;
+        let s2 = self.scaled()?;
+        self.end()?;
+        Ok(Body::Code(Instr::Lda { size, d, s1, s2 }, None))
+    }
+
+    #[tactic(auto, unfolding(crate::specs::Grammar::read))]
+    fn bits(&mut self, op: BitOp) -> Result<Body, ParseFault>
+        ensures value { Gives (λ b. b) result (read (bits op) self.old) }
+        ensures body { IfOk result IsBody }
+    {
+        let d = self.register()?;
+        self.mark(b',')?;
+        let s1 = self.register()?;
+        self.mark(b',')?;
+        let instr = match self.field(widest(op))? {
+            Field::Register(s2) => Instr::BitReg { op, d, s1, s2 },
+            Field::Literal { width, offset } => Instr::BitLit {
+                op,
+                d,
+                s1,
+                width,
+                offset,
+            },
+        };
+        self.end()?;
+        Ok(Body::Code(instr, None))
+    }
+
+    #[tactic(auto, unfolding(crate::specs::Grammar::read))]
+    fn find_bit(&mut self, ones: bool) -> Result<Body, ParseFault>
+        ensures value { Gives (λ b. b) result (read (find_bit ones) self.old) }
+        ensures body { IfOk result IsBody }
+    {
+        let d = self.register()?;
+        self.mark(b',')?;
+        let s2 = self.register()?;
+        self.end()?;
+        Ok(Body::Code(Instr::Find { ones, d, s2 }, None))
+    }
+
+    #[tactic(auto, unfolding(crate::specs::Grammar::read))]
+    fn branch(&mut self, link: bool, delayed: bool) -> Result<Body, ParseFault>
+        ensures value { Gives (λ b. b) result (read (branch link delayed) self.old) }
+        ensures body { IfOk result IsBody }
+    {
+        let goal = self.goal(Kind::Pc26, FAR)?;
+        self.end()?;
+        Ok(Body::Code(
+            Instr::Branch {
+                link,
+                delayed,
+                words: goal.words,
+            },
+            goal.fixup,
+        ))
+    }
+
+    #[tactic(auto, unfolding(crate::specs::Grammar::read))]
+    fn branch_bit(&mut self, set: bool, delayed: bool) -> Result<Body, ParseFault>
+        ensures value { Gives (λ b. b) result (read (branch_bit set delayed) self.old) }
+        ensures body { IfOk result IsBody }
+    {
+        let bit = self.bit()?;
+        self.mark(b',')?;
+        let s1 = self.register()?;
+        self.mark(b',')?;
+        let goal = self.goal(Kind::Pc16, NEAR)?;
+        self.end()?;
+        Ok(Body::Code(
+            Instr::BranchBit {
+                set,
+                delayed,
+                bit,
+                s1,
+                words: goal.words as i16,
+            },
+            goal.fixup,
+        ))
+    }
+
+    #[tactic(auto, unfolding(crate::specs::Grammar::read))]
+    fn branch_cond(&mut self, delayed: bool) -> Result<Body, ParseFault>
+        ensures value { Gives (λ b. b) result (read (branch_cond delayed) self.old) }
+        ensures body { IfOk result IsBody }
+    {
+        let mask = self.mask()?;
+        self.mark(b',')?;
+        let s1 = self.register()?;
+        self.mark(b',')?;
+        let goal = self.goal(Kind::Pc16, NEAR)?;
+        self.end()?;
+        Ok(Body::Code(
+            Instr::BranchCond {
+                delayed,
+                mask,
+                s1,
+                words: goal.words as i16,
+            },
+            goal.fixup,
+        ))
+    }
+
+    #[tactic(auto, unfolding(crate::specs::Grammar::read))]
+    fn jump(&mut self, link: bool, delayed: bool) -> Result<Body, ParseFault>
+        ensures value { Gives (λ b. b) result (read (jump link delayed) self.old) }
+        ensures body { IfOk result IsBody }
+    {
+        let s2 = self.register()?;
+        self.end()?;
+        Ok(Body::Code(Instr::Jump { link, delayed, s2 }, None))
+    }
+
+    #[tactic(auto, unfolding(crate::specs::Grammar::read))]
+    fn trap_bit(&mut self, set: bool) -> Result<Body, ParseFault>
+        ensures value { Gives (λ b. b) result (read (trap_bit set) self.old) }
+        ensures body { IfOk result IsBody }
+    {
+        let bit = self.bit()?;
+        self.mark(b',')?;
+        let s1 = self.register()?;
+        self.mark(b',')?;
+        let vector = self.number(VECTORS)? as u16;
+        self.end()?;
+        Ok(Body::Code(
+            Instr::TrapBit {
+                set,
+                bit,
+                s1,
+                vector,
+            },
+            None,
+        ))
+    }
+
+    #[tactic(auto, unfolding(crate::specs::Grammar::read))]
+    fn trap_cond(&mut self) -> Result<Body, ParseFault>
+        ensures value { Gives (λ b. b) result (read (trap_cond) self.old) }
+        ensures body { IfOk result IsBody }
+    {
+        let mask = self.mask()?;
+        self.mark(b',')?;
+        let s1 = self.register()?;
+        self.mark(b',')?;
+        let vector = self.number(VECTORS)? as u16;
+        self.end()?;
+        Ok(Body::Code(Instr::TrapCond { mask, s1, vector }, None))
+    }
+
+    #[tactic(auto, unfolding(crate::specs::Grammar::read))]
+    fn bounds(&mut self) -> Result<Body, ParseFault>
+        ensures value { Gives (λ b. b) result (read (bounds) self.old) }
+        ensures body { IfOk result IsBody }
+    {
+        let s1 = self.register()?;
+        self.mark(b',')?;
+        let instr = match self.bound()? {
+            Bound::Register(s2) => Instr::BoundReg { s1, s2 },
+            Bound::Number(imm) => Instr::BoundImm { s1, imm },
+        };
+        self.end()?;
+        Ok(Body::Code(instr, None))
+    }
+
+    #[tactic(auto, unfolding(crate::specs::Grammar::read))]
+    fn load(&mut self, float: bool) -> Result<Body, ParseFault>
+        ensures value { Gives (λ b. b) result (read (load float) self.old) }
+        ensures body { IfOk result IsBody }
+    {
+        let d = self.register()?;
+        self.mark(b',')?;
+        let cr = self.control(float)?;
+        self.end()?;
+        Ok(Body::Code(Instr::Ldcr { d, cr, float }, None))
+    }
+
+    #[tactic(auto, unfolding(crate::specs::Grammar::read))]
+    fn store(&mut self, float: bool) -> Result<Body, ParseFault>
+        ensures value { Gives (λ b. b) result (read (store float) self.old) }
+        ensures body { IfOk result IsBody }
+    {
+        let s1 = self.register()?;
+        self.mark(b',')?;
+        let cr = self.control(float)?;
+        self.end()?;
+        Ok(Body::Code(Instr::Stcr { s1, cr, float }, None))
+    }
+
+    #[tactic(auto, unfolding(crate::specs::Grammar::read))]
+    fn exchange(&mut self, float: bool) -> Result<Body, ParseFault>
+        ensures value { Gives (λ b. b) result (read (exchange float) self.old) }
+        ensures body { IfOk result IsBody }
+    {
+        let d = self.register()?;
+        self.mark(b',')?;
+        let s1 = self.register()?;
+        self.mark(b',')?;
+        let cr = self.control(float)?;
+        self.end()?;
+        Ok(Body::Code(Instr::Xcr { d, s1, cr, float }, None))
+    }
+
+    #[tactic(auto, unfolding(crate::specs::Grammar::read))]
+    fn nothing(&mut self) -> Result<Body, ParseFault>
+        ensures value { Gives (λ b. b) result (read (plain Rte) self.old) }
+        ensures body { IfOk result IsBody }
+    {
+        self.end()?;
+        Ok(Body::Code(Instr::Rte, None))
+    }
+
+    /// The operands of an instruction, to the end of the line.
+    #[tactic(auto, unfolding(crate::specs::Grammar::form_of))]
+    pub fn instruction(&mut self, shape: Shape) -> Result<Body, ParseFault>
+        ensures value { Gives (λ b. b) result (read (form_of shape) self.old) }
+        ensures body { IfOk result IsBody }
+    {
+        match shape {
+            Shape::Either(imm, reg) => self.either(imm, reg),
+            Shape::Immediate(op) => self.immediate_form(op),
+            Shape::Registers(op) => self.registers(op),
+            Shape::Memory(op) => self.memory(op),
+            Shape::UserMemory(op) => self.user_memory(op),
+            Shape::Address(size) => self.address(size),
+            Shape::Bits(op) => self.bits(op),
+            Shape::Find { ones } => self.find_bit(ones),
+            Shape::Branch { link, delayed } => self.branch(link, delayed),
+            Shape::BranchBit { set, delayed } => self.branch_bit(set, delayed),
+            Shape::BranchCond { delayed } => self.branch_cond(delayed),
+            Shape::Jump { link, delayed } => self.jump(link, delayed),
+            Shape::TrapBit { set } => self.trap_bit(set),
+            Shape::TrapCond => self.trap_cond(),
+            Shape::Bounds => self.bounds(),
+            Shape::Return => self.nothing(),
+            Shape::Load { float } => self.load(float),
+            Shape::Store { float } => self.store(float),
+            Shape::Exchange { float } => self.exchange(float),
+        }
+    }
+}

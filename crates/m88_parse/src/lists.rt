@@ -1,0 +1,119 @@
+ghost use Rattle.std.specs.Prelude.{◌≡◌, ◌<◌, false, length, IfOk, OnOk, MatchResult, if◌then◌else◌};
+ghost use Rattle.std.specs.List.{All};
+ghost use Rattle.m88_base.specs.declared.fixup.Kind.TheVariants.{Abs32};
+ghost use Rattle.m88_parse.specs.Fault.{Gives, out_of_memory};
+ghost use Rattle.m88_parse.specs.Grammar.{list_at, word_at, half_word_at, byte_at};
+ghost use Rattle.m88_parse.specs.Slots.{text_at};
+ghost use Rattle.m88_parse.specs.State.{is_next, past};
+ghost use Rattle.m88_parse.specs.Tokens.{text_bytes};
+ghost use Rattle.m88_parse.specs.WellFormed.{IsOfKind};
+
+use crate::fault::{ParseFault, ParseKind};
+use crate::parser::Parser;
+use crate::scan::{begins_escape, escape_value};
+use crate::token::What;
+use crate::unit::Value;
+use m88_base::Kind;
+use std::alloc::Global;
+
+/// The bytes that stand for the inside of a text.
+fn text_bytes(alloc: Global, inside: &[u8]) -> Result<Vec<u8>, ParseFault>
+    ensures { MatchResult result (λ v. v.items ≡ text_bytes false inside.now) (λ e. e ≡ out_of_memory) }
+{
+    let mut out = Vec::new(alloc);
+    let mut escaped = false;
+    for b in inside {
+        let begins = begins_escape(escaped, *b);
+        if !begins {
+            out.push(if escaped { escape_value(*b) } else { *b })?;
+        }
+        escaped = begins;
+    }
+    Ok(out)
+}
+
+impl<'a> Parser<'a> {
+    /// The bytes of a text.
+    #[tactic(auto, unfolding(crate::specs::Slots::text_at))]
+    pub fn text(&mut self, alloc: Global) -> Result<Vec<u8>, ParseFault>
+        ensures { Gives (λ v. (v.items, self.new)) result (text_at self.old) }
+    {
+        let Some(What::Text(inside)) = self.first() else {
+            return Err(self.fault(ParseKind::Syntax));
+        };
+        let bytes = text_bytes(alloc, inside)?;
+        self.skip();
+        Ok(bytes)
+    }
+
+    /// An item of `.half`.
+    fn half_word(&mut self) -> Result<u16, ParseFault>
+        ensures value { Gives (λ n. (n, self.new)) result (half_word_at self.old) }
+        ensures shorter { OnOk result (length self.new.rest < length self.old.rest) }
+    {
+        Ok((self.whole(0x8000, 0xFFFF)? % 0x10000) as u16)
+    }
+
+    /// An item of `.byte`.
+    fn byte(&mut self) -> Result<u8, ParseFault>
+        ensures value { Gives (λ n. (n, self.new)) result (byte_at self.old) }
+        ensures shorter { OnOk result (length self.new.rest < length self.old.rest) }
+    {
+        Ok((self.whole(0x80, 0xFF)? % 0x100) as u8)
+    }
+
+    /// The items of `.word`.
+    pub fn words_list(&mut self, alloc: Global) -> Result<Vec<Value>, ParseFault>
+        ensures value { Gives (λ v. (v.items, self.new)) result (list_at word_at self.old) }
+        ensures kind { IfOk result (λ v. All (IsOfKind Abs32) v.items) }
+    {
+        let mut out = Vec::new(alloc);
+        let mut more = true;
+        while more {
+            let value = self.value(Kind::Abs32)?;
+            out.push(value)?;
+            more = self.comma();
+        }
+        Ok(out)
+    }
+
+    /// The items of `.half`.
+    pub fn half_words(&mut self, alloc: Global) -> Result<Vec<u16>, ParseFault>
+        ensures { Gives (λ v. (v.items, self.new)) result (list_at half_word_at self.old) }
+    {
+        let mut out = Vec::new(alloc);
+        let mut more = true;
+        while more {
+            let value = self.half_word()?;
+            out.push(value)?;
+            more = self.comma();
+        }
+        Ok(out)
+    }
+
+    /// The items of `.byte`.
+    pub fn bytes(&mut self, alloc: Global) -> Result<Vec<u8>, ParseFault>
+        ensures { Gives (λ v. (v.items, self.new)) result (list_at byte_at self.old) }
+    {
+        let mut out = Vec::new(alloc);
+        let mut more = true;
+        while more {
+            let value = self.byte()?;
+            out.push(value)?;
+            more = self.comma();
+        }
+        Ok(out)
+    }
+
+    /// Passes over a comma, and says whether there was one.
+    fn comma(&mut self) -> bool
+        ensures value { result ≡ is_next 44 self.old }
+        ensures after { self.new ≡ (if is_next 44 self.old then past self.old else self.old) }
+    {
+        let comma = self.is_next(b',');
+        if comma {
+            self.skip();
+        }
+        comma
+    }
+}

@@ -1,0 +1,200 @@
+ghost use Rattle.std.specs.Prelude.{◌≡◌, IfOk};
+ghost use Rattle.m88_parse.specs.declared.directive.Directive.TheVariants.{Set};
+ghost use Rattle.m88_parse.specs.Fault.{Gives};
+ghost use Rattle.m88_parse.specs.Grammar.{read, ends, directive_form};
+ghost use Rattle.m88_parse.specs.Source.{operation_at, labelled_at, head_at, is_label_on, is_head_on, row_at};
+ghost use Rattle.m88_parse.specs.State.{first, second};
+ghost use Rattle.m88_parse.specs.WellFormed.{IsBody, IsRow};
+
+use crate::directive::{Directive, directive_of};
+use crate::fault::{ParseFault, ParseKind};
+use crate::names::is_module;
+use crate::parser::Parser;
+use crate::row::Row;
+use crate::shape::shape_of;
+use crate::token::What;
+use crate::unit::{Body, Statement};
+use m88_base::Listed;
+use m88_isa::Mnemonic;
+use std::alloc::Global;
+
+/// The most that a number can be.
+const ANY: u32 = u32::MAX;
+
+impl<'a> Parser<'a> {
+    /// What was read, where the line ends here.
+    #[tactic(auto, unfolding(crate::specs::Grammar::read))]
+    fn close(&mut self, body: Body) -> Result<Body, ParseFault>
+        requires { IsBody body }
+        ensures value { Gives (λ b. b) result (read (ends body) self.old) }
+        ensures body { IfOk result IsBody }
+    {
+        self.end()?;
+        Ok(body)
+    }
+
+    /// .set: a symbol and its number.
+    #[tactic(auto, unfolding(crate::specs::Grammar::read, crate::specs::Grammar::directive_form))]
+    fn set(&mut self) -> Result<Body, ParseFault>
+        ensures value { Gives (λ b. b) result (read (directive_form Set) self.old) }
+        ensures body { IfOk result IsBody }
+    {
+        let (name, col) = self.symbol()?;
+        self.mark(b',')?;
+        let value = self.whole(1 << 31, ANY)?;
+        self.end()?;
+        Ok(Body::Set { name, col, value })
+    }
+
+    /// The operands of a directive, to the end of the line.
+    #[tactic(auto, unfolding(crate::specs::Grammar::read, crate::specs::Grammar::directive_form))]
+    fn directive(&mut self, alloc: Global, directive: Directive) -> Result<Body, ParseFault>
+        ensures value { Gives (λ b. b) result (read (directive_form directive) self.old) }
+        ensures body { IfOk result IsBody }
+    {
+        match directive {
+            Directive::Text => self.close(Body::Text),
+            Directive::Data => self.close(Body::DataSection),
+            Directive::At => {
+                let at = self.number(ANY)?;
+                self.close(Body::At(at))
+            }
+            Directive::Word => {
+                let values = self.words_list(alloc)?;
+                self.close(Body::Word(Listed::new(values)))
+            }
+            Directive::Half => {
+                let halves = self.half_words(alloc)?;
+                self.close(Body::Half(Listed::new(halves)))
+            }
+            Directive::Byte => {
+                let bytes = self.bytes(alloc)?;
+                self.close(Body::Byte(Listed::new(bytes)))
+            }
+            Directive::Ascii => {
+                let text = self.text(alloc)?;
+                self.close(Body::Ascii(Listed::new(text)))
+            }
+            Directive::Zero => {
+                let count = self.number(ANY)?;
+                self.close(Body::Zero(count))
+            }
+            Directive::Align => {
+                let alignment = self.alignment()?;
+                self.close(Body::Align(alignment))
+            }
+            Directive::Global => {
+                let (name, _) = self.symbol()?;
+                self.close(Body::Global(name))
+            }
+            Directive::Set => self.set(),
+        }
+    }
+
+    /// An operation and its operands, to the end of the line.
+    #[tactic(auto, unfolding(crate::specs::Source::operation_at))]
+    fn operation(&mut self, alloc: Global) -> Result<Body, ParseFault>
+        ensures value { Gives (λ b. b) result (operation_at self.old) }
+        ensures body { IfOk result IsBody }
+    {
+        let Some(What::Name(name)) = self.first() else {
+            return Err(self.fault(ParseKind::Syntax));
+        };
+        if is_module(name) {
+            return Err(self.fault(ParseKind::Syntax));
+        }
+        if let Some(mnemonic) = Mnemonic::from_text(name) {
+            self.skip();
+            return self.instruction(shape_of(mnemonic));
+        }
+        match directive_of(name) {
+            Some(directive) => {
+                self.skip();
+                self.directive(alloc, directive)
+            }
+            None => Err(self.fault(ParseKind::NoSuchName)),
+        }
+    }
+
+    /// A label, and the operation behind it if there is one.
+    #[tactic(auto, unfolding(crate::specs::Source::labelled_at))]
+    fn labelled(&mut self, alloc: Global) -> Result<Row, ParseFault>
+        ensures value { Gives (λ r. r) result (labelled_at self.old) }
+        ensures row { IfOk result IsRow }
+    {
+        let label = self.symbol()?;
+        self.skip();
+        let line = self.line();
+        if self.first().is_none() {
+            let col = label.1;
+            return Ok(Row::Statement(Statement {
+                line,
+                label: Some(label),
+                col,
+                body: Body::Empty,
+            }));
+        }
+        let col = self.place();
+        let body = self.operation(alloc)?;
+        Ok(Row::Statement(Statement {
+            line,
+            label: Some(label),
+            col,
+            body,
+        }))
+    }
+
+    /// The head of a module, from its `.module` on.
+    #[tactic(auto, unfolding(crate::specs::Source::head_at))]
+    fn head(&mut self) -> Result<Row, ParseFault>
+        ensures value { Gives (λ r. r) result (head_at self.old) }
+        ensures row { IfOk result IsRow }
+    {
+        let line = self.line();
+        self.skip();
+        let name = self.any_name()?;
+        self.end()?;
+        Ok(Row::Head(name, line))
+    }
+
+    fn is_label(&self) -> bool
+        ensures { result ≡ is_label_on (first self.now) (second self.now) }
+    {
+        match (self.first(), self.second()) {
+            (Some(What::Name(_)), Some(What::Mark(b':'))) => true,
+            _ => false,
+        }
+    }
+
+    fn is_head(&self) -> bool
+        ensures { result ≡ is_head_on (first self.now) }
+    {
+        match self.first() {
+            Some(What::Name(name)) => is_module(name),
+            _ => false,
+        }
+    }
+
+    /// What a line with a token says.
+    #[tactic(auto, unfolding(crate::specs::Source::row_at))]
+    pub fn row(&mut self, alloc: Global) -> Result<Row, ParseFault>
+        ensures value { Gives (λ r. r) result (row_at self.old) }
+        ensures row { IfOk result IsRow }
+    {
+        if self.is_label() {
+            return self.labelled(alloc);
+        }
+        if self.is_head() {
+            return self.head();
+        }
+        let line = self.line();
+        let col = self.place();
+        let body = self.operation(alloc)?;
+        Ok(Row::Statement(Statement {
+            line,
+            label: None,
+            col,
+            body,
+        }))
+    }
+}
