@@ -1,6 +1,6 @@
 -- Statements as whole lists of tokens: a label, an operation, both or neither (statements and directives of the
 -- assembly language).
-use Rattle.std.specs.Prelude.{ℕ, ◌≡◌, ◌⊎◌, ◌<◌, List, [], ◌∷◌, ◌++◌, Option, Some, None, codes}
+use Rattle.std.specs.Prelude.{ℕ, ◌≡◌, ◌≢◌, ◌⊎◌, ◌<◌, List, [], ◌∷◌, ◌++◌, Option, Some, None, codes}
 use Rattle.m88_base.specs.declared.fixup.Kind.{Kind}
 use Rattle.m88_base.specs.declared.fixup.Kind.TheVariants.{Abs32}
 use Rattle.m88_base.specs.declared.fixup.Fixup.{Fixup}
@@ -12,7 +12,7 @@ use Rattle.m88_parse.specs.declared.unit.Body.{Body}
 use Rattle.m88_parse.specs.declared.unit.Body.TheVariants as body
 use Rattle.m88_parse.specs.declared.unit.Statement.{Statement}
 use Rattle.m88_parse.specs.Shape.{shape_of}
-use Rattle.m88_parse.specs.Tokens.{a_text, Piece}
+use Rattle.m88_parse.specs.Tokens.{a_text, a_mark, Piece}
 use Rattle.m88_parse.specs.Spelling.Names.{IsMark, IsComma, IsNumber, IsNamed, IsSymbol}
 use Rattle.m88_parse.specs.Spelling.Operands.{IsSigned, IsValue, AreOperands}
 
@@ -41,9 +41,14 @@ pub record IsLabel (l c : Piece) (name : List ℕ) : Type 0 where
   pub symbol : IsSymbol name l
   pub colon : IsMark 58 c
 
+-- no colon comes first: a name with a colon behind it would be a label
+abbrev pub HasNoColon : List Piece → Type 0
+HasNoColon [] = Unit {0}
+HasNoColon (p ∷ ps) = p.says ≢ a_mark 58
+
 -- the statement of a line's tokens, with the line's number
 pub data IsStatement (line : ℕ) : List Piece → Statement → Type 0 where
-  plain : {p : Piece} {ps : List Piece} {said : Body} → IsBody (p ∷ ps) said → IsStatement line (p ∷ ps) (record { line = line; label = None; col = p.col; body = said })
+  plain : {p : Piece} {ps : List Piece} {said : Body} → IsBody (p ∷ ps) said → HasNoColon ps → IsStatement line (p ∷ ps) (record { line = line; label = None; col = p.col; body = said })
   labelled : {l c p : Piece} {ps : List Piece} {name : List ℕ} {said : Body} → IsLabel l c name → IsBody (p ∷ ps) said
     → IsStatement line (l ∷ c ∷ p ∷ ps) (record { line = line; label = Some (name, l.col); col = p.col; body = said })
   label_alone : {l c : Piece} {name : List ℕ} → IsLabel l c name → IsStatement line (l ∷ c ∷ []) (record { line = line; label = Some (name, l.col); col = l.col; body = body.Empty })
