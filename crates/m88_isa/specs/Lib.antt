@@ -1,3 +1,12 @@
+pub mod Compute
+pub mod Effect
+pub mod Fields
+pub mod Flow
 pub mod Instr
+pub mod Lanes
+pub mod Machine
+pub mod Memory
+pub mod Operands
+pub mod Vector
 pub mod Word
 pub mod Mnemonic

@@ -3,3 +3,7 @@ pub mod Pieces
 pub mod Law
 pub mod Collecting
 pub mod Texts
+pub mod Naming
+pub mod Lines
+pub mod Drafts
+pub mod Ending

@@ -1,7 +1,7 @@
 -- Statements as forms: what stands behind the name of an operation, and what it means. A form is a list of slots, each
 -- with the form of what follows it ("Instruction Set": the assembler syntax of each instruction; directives of the
 -- assembly language).
-use Rattle.std.specs.Prelude.{ℕ, zero, suc, ◌%◌, ℤ, Bool, true, false, List, [], ◌∷◌, length, ◌^◌, if◌then◌else◌, Option, Some, None, Result, Ok}
+use Rattle.std.specs.Prelude.{ℕ, zero, suc, ◌%◌, Bool, true, false, List, [], ◌∷◌, length, if◌then◌else◌, None, Result, Ok}
 use Rattle.m88_base.specs.declared.reg.Reg.{Reg}
 use Rattle.m88_base.specs.declared.fixup.Kind.{Kind}
 use Rattle.m88_base.specs.declared.fixup.Kind.TheVariants.{Pc26, Pc16, Abs32}

@@ -1,5 +1,6 @@
 pub mod Fault
 pub mod Tokens
+pub mod Places
 pub mod Names
 pub mod Spelling
 pub mod State
@@ -10,3 +11,5 @@ pub mod Shape
 pub mod Directive
 pub mod Grammar
 pub mod Source
+pub mod LineEnd
+pub mod Drafts

@@ -1,9 +1,10 @@
 -- Names with a meaning of their own (operand syntax of the assembly language): registers, control registers, bits of
 -- a comparison, conditions and halves. All are in lower case, and their numbers have no needless 0 in front.
-use Rattle.std.specs.Prelude.{ℕ, Bool, true, false, List, [], ◌∷◌, ◌==◌, ◌&&◌, ◌||◌, not, nat_le, if◌then◌else◌, Option, Some, None, Result, Ok, Err, is_some, codes}
+use Rattle.std.specs.Prelude.{ℕ, Bool, true, false, List, [], ◌∷◌, ◌==◌, ◌&&◌, ◌||◌, not, nat_le, nat_lt, length, if◌then◌else◌, Option, Some, None, Result, Ok, Err, is_some, codes}
+use Rattle.std.specs.List.{list_all}
 use Rattle.std.specs.Str.{bytes_eq}
 use Rattle.std.specs.Str.Parse.{digits_value}
-use Rattle.m88_base.specs.Name.{is_name}
+use Rattle.m88_base.specs.Name.{begins_name, continues_name}
 use Rattle.m88_base.specs.declared.fixup.Kind.{Kind}
 use Rattle.m88_base.specs.declared.fixup.Kind.TheVariants.{Hi16, Lo16}
 use Rattle.m88_parse.specs.declared.fault.ParseKind.{ParseKind}
@@ -41,18 +42,18 @@ control_in true name = float_control_of name
 -- bits of the word that `cmp` gives
 unfoldable pub bit_of : List ℕ → Option ℕ
 bit_of name =
-  if bytes_eq name (codes "eq") then Some 2 else (if bytes_eq name (codes "ne") then Some 3
-  else (if bytes_eq name (codes "gt") then Some 4 else (if bytes_eq name (codes "le") then Some 5
-  else (if bytes_eq name (codes "lt") then Some 6 else (if bytes_eq name (codes "ge") then Some 7
-  else (if bytes_eq name (codes "hi") then Some 8 else (if bytes_eq name (codes "ls") then Some 9
-  else (if bytes_eq name (codes "lo") then Some 10 else (if bytes_eq name (codes "hs") then Some 11 else None)))))))))
+    if bytes_eq name (codes "eq") then Some 2 else (if bytes_eq name (codes "ne") then Some 3
+    else (if bytes_eq name (codes "gt") then Some 4 else (if bytes_eq name (codes "le") then Some 5
+    else (if bytes_eq name (codes "lt") then Some 6 else (if bytes_eq name (codes "ge") then Some 7
+    else (if bytes_eq name (codes "hi") then Some 8 else (if bytes_eq name (codes "ls") then Some 9
+    else (if bytes_eq name (codes "lo") then Some 10 else (if bytes_eq name (codes "hs") then Some 11 else None)))))))))
 
 -- conditions on a register's value
 unfoldable pub condition_of : List ℕ → Option ℕ
 condition_of name =
-  if bytes_eq name (codes "eq0") then Some 2 else (if bytes_eq name (codes "ne0") then Some 13
-  else (if bytes_eq name (codes "gt0") then Some 1 else (if bytes_eq name (codes "lt0") then Some 12
-  else (if bytes_eq name (codes "ge0") then Some 3 else (if bytes_eq name (codes "le0") then Some 14 else None)))))
+    if bytes_eq name (codes "eq0") then Some 2 else (if bytes_eq name (codes "ne0") then Some 13
+    else (if bytes_eq name (codes "gt0") then Some 1 else (if bytes_eq name (codes "lt0") then Some 12
+    else (if bytes_eq name (codes "ge0") then Some 3 else (if bytes_eq name (codes "le0") then Some 14 else None)))))
 
 -- the upper or the lower half of a value
 unfoldable pub half_of : List ℕ → Option Kind
@@ -64,6 +65,11 @@ is_here name = bytes_eq name (codes ".")
 
 abbrev pub is_module : List ℕ → Bool
 is_module name = bytes_eq name (codes ".module")
+
+-- a name: 1 to 64 letters, digits, _ . $, and no digit first
+unfoldable pub is_name : List ℕ → Bool
+is_name [] = false
+is_name (b ∷ bs) = begins_name b && nat_lt (length bs) 64 && list_all continues_name bs
 
 -- what a label or a symbol may be called: any name but . and the registers
 unfoldable pub is_symbol : List ℕ → Bool

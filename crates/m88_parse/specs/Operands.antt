@@ -90,14 +90,14 @@ scaled_at s = do
 -- behind the base register of a memory operand: a scaled register, or a comma and an operand
 unfoldable pub index_at : State → Read Index
 index_at s =
-  if is_next 91 s then (scaled_at s >>= λ r. Ok (index.Scaled r.0, r.1))
-  else (mark_at 44 s >>= λ t. operand_at t >>= λ x. Ok (index.Offset x.0, x.1))
+    if is_next 91 s then (scaled_at s >>= λ r. Ok (index.Scaled r.0, r.1))
+    else (mark_at 44 s >>= λ t. operand_at t >>= λ x. Ok (index.Offset x.0, x.1))
 
 -- the same of a register alone, and whether it is scaled
 unfoldable pub user_index_at : State → Read (Reg × Bool)
 user_index_at s =
-  if is_next 91 s then (scaled_at s >>= λ r. Ok ((r.0, true), r.1))
-  else (mark_at 44 s >>= λ t. register_at t >>= λ r. Ok ((r.0, false), r.1))
+    if is_next 91 s then (scaled_at s >>= λ r. Ok ((r.0, true), r.1))
+    else (mark_at 44 s >>= λ t. register_at t >>= λ r. Ok ((r.0, false), r.1))
 
 -- a width, 0 to `most`, and an offset, as in 5<3>; no width is 0
 unfoldable pub width_at : ℕ → State → Read ℕ
@@ -130,8 +130,8 @@ distance_at most s = distance_on most s (first s)
 -- behind the . of a goal: words forward or back, which fit a sign and the bits below `limit`
 unfoldable pub words_at : ℕ → State → Read ℤ
 words_at limit s =
-  if is_next 43 s then (distance_at (limit - 1) (past s) >>= λ n. Ok (pos n.0, n.1))
-  else (if is_next 45 s then (distance_at limit (past s) >>= λ n. Ok (neg_ℤ (pos n.0), n.1)) else Ok (pos 0, s))
+    if is_next 43 s then (distance_at (limit - 1) (past s) >>= λ n. Ok (pos n.0, n.1))
+    else (if is_next 45 s then (distance_at limit (past s) >>= λ n. Ok (neg_ℤ (pos n.0), n.1)) else Ok (pos 0, s))
 
 abbrev pub is_here_on : Option Meaning → Bool
 is_here_on (Some (a_name text)) = is_here text
@@ -140,5 +140,5 @@ is_here_on _ = false
 -- where a branch goes: a symbol with what is added to it, or . with a distance
 unfoldable pub goal_at : Kind → ℕ → State → Read Goal
 goal_at kind limit s =
-  if is_here_on (first s) then (words_at limit (past s) >>= λ n. Ok (record { words = n.0; fixup = None }, n.1))
-  else (fixup_at kind s >>= λ x. Ok (record { words = pos 0; fixup = Some x.0 }, x.1))
+    if is_here_on (first s) then (words_at limit (past s) >>= λ n. Ok (record { words = n.0; fixup = None }, n.1))
+    else (fixup_at kind s >>= λ x. Ok (record { words = pos 0; fixup = Some x.0 }, x.1))

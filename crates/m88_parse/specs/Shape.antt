@@ -1,5 +1,5 @@
 -- The operand form of each mnemonic ("Instruction Set": the assembler syntax of each instruction).
-use Rattle.std.specs.Prelude.{Bool, true, false}
+use Rattle.std.specs.Prelude.{true, false}
 use Rattle.m88_isa.specs.declared.mnemonic.Mnemonic.{Mnemonic}
 use Rattle.m88_isa.specs.declared.mnemonic.Mnemonic.TheVariants as m
 use Rattle.m88_isa.specs.declared.instr.ImmOp.TheVariants as imm

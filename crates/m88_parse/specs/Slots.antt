@@ -1,29 +1,17 @@
 -- Operands, by what stands where one is wanted (operand syntax of the assembly language). A slot gives its value and
 -- what is left behind it, or the fault of the first token that can't stand there.
-use Rattle.std.specs.Prelude.{ℕ, ◌-◌, ◌/◌, ◌%◌, ℤ, pos, neg_ℤ, Bool, true, false, List, ◌==◌, ◌&&◌, ◌||◌, nat_le, if◌then◌else◌, Option, Some, None, Result, Ok, Err}
-use Rattle.m88_base.specs.Name.{is_name}
+use Rattle.std.specs.Prelude.{ℕ, ◌-◌, ◌%◌, Bool, List, ◌==◌, ◌||◌, nat_le, if◌then◌else◌, Option, Some, None, Result, Ok}
 use Rattle.m88_base.specs.Reg.{reg_of}
 use Rattle.m88_base.specs.declared.reg.Reg.{Reg}
 use Rattle.m88_base.specs.declared.fixup.Kind.{Kind}
-use Rattle.m88_base.specs.declared.fixup.Kind.TheVariants.{Hi16}
 use Rattle.m88_base.specs.declared.fixup.Fixup.{Fixup}
 use Rattle.m88_parse.specs.declared.fault.ParseFault.{ParseFault}
 use Rattle.m88_parse.specs.declared.fault.ParseKind.TheVariants.{Syntax, NoSuchName, OutOfRange}
 use Rattle.m88_parse.specs.declared.unit.Value.{Value}
 use Rattle.m88_parse.specs.declared.unit.Value.TheVariants as value
-use Rattle.m88_parse.specs.declared.operand.Immediate.{Immediate}
-use Rattle.m88_parse.specs.declared.operand.Operand.{Operand}
-use Rattle.m88_parse.specs.declared.operand.Operand.TheVariants as operand
-use Rattle.m88_parse.specs.declared.operand.Bound.{Bound}
-use Rattle.m88_parse.specs.declared.operand.Bound.TheVariants as bound
-use Rattle.m88_parse.specs.declared.operand.Index.{Index}
-use Rattle.m88_parse.specs.declared.operand.Index.TheVariants as index
-use Rattle.m88_parse.specs.declared.operand.Field.{Field}
-use Rattle.m88_parse.specs.declared.operand.Field.TheVariants as field
-use Rattle.m88_parse.specs.declared.operand.Goal.{Goal}
-use Rattle.m88_parse.specs.Names.{register_of, control_in, bit_of, condition_of, half_of, is_here, is_symbol}
-use Rattle.m88_parse.specs.Tokens.{Meaning, a_name, a_number, a_text, a_mark}
-use Rattle.m88_parse.specs.State.{State, first, second, place, past, trouble, is_mark_of, is_next, ◌>>=◌}
+use Rattle.m88_parse.specs.Names.{register_of, control_in, bit_of, condition_of, is_name, is_symbol}
+use Rattle.m88_parse.specs.Tokens.{Meaning, a_name, a_number, a_text}
+use Rattle.m88_parse.specs.State.{State, first, place, past, trouble, is_next, ◌>>=◌}
 
 -- a value and what is left behind it, or a fault
 abbrev pub Read : Type 0 → Type 0
@@ -117,8 +105,8 @@ symbol_at s = symbol_on s (first s)
 -- what is added to a symbol, modulo 2 ^ 32: nothing, or a number below 2 ^ 31 behind + or -
 unfoldable pub addend_at : State → Read ℕ
 addend_at s =
-  if is_next 43 s then number_at 2147483647 (past s)
-  else (if is_next 45 s then (number_at 2147483647 (past s) >>= λ n. Ok (negated n.0, n.1)) else Ok (0, s))
+    if is_next 43 s then number_at 2147483647 (past s)
+    else (if is_next 45 s then (number_at 2147483647 (past s) >>= λ n. Ok (negated n.0, n.1)) else Ok (0, s))
 
 -- a symbol with what is added to it
 unfoldable pub fixup_at : Kind → State → Read Fixup

@@ -1,5 +1,5 @@
 -- A source as its unit (lines, statements and modules of the assembly language).
-use Rattle.std.specs.Prelude.{ℕ, zero, suc, ◌+◌, Bool, true, false, not, List, [], ◌∷◌, length, ◌==◌, ◌&&◌, if◌then◌else◌, Option, Some, None, Result, Ok, Err}
+use Rattle.std.specs.Prelude.{ℕ, ◌+◌, Bool, false, List, [], ◌∷◌, length, ◌==◌, ◌&&◌, if◌then◌else◌, Option, Some, None, Result, Ok}
 use lib.Chars.{codes}
 use Rattle.m88_isa.specs.Mnemonic.{mnemonic_of}
 use Rattle.m88_isa.specs.declared.mnemonic.Mnemonic.{Mnemonic}
@@ -34,8 +34,8 @@ on_first_line b (line ∷ lines) = (b ∷ line) ∷ lines
 unfoldable pub lines_of : List ℕ → List (List ℕ)
 lines_of [] = []
 lines_of (b ∷ bs) =
-  if b == 10 then [] ∷ lines_of bs
-  else (if b == 13 && begins_with_lf bs then lines_of bs else on_first_line b (lines_of bs))
+    if b == 10 then [] ∷ lines_of bs
+    else (if b == 13 && begins_with_lf bs then lines_of bs else on_first_line b (lines_of bs))
 
 -- What an operation says, by its name: a mnemonic or a directive. A module has no label, so .module is no operation.
 
@@ -95,8 +95,8 @@ is_head_on _ = false
 -- what a line with a token says
 unfoldable pub row_at : State → Result Row ParseFault
 row_at s =
-  if is_label_on (first s) (second s) then labelled_at s
-  else (if is_head_on (first s) then head_at s else unlabelled_at s)
+    if is_label_on (first s) (second s) then labelled_at s
+    else (if is_head_on (first s) then head_at s else unlabelled_at s)
 
 -- the column just after the last token
 abbrev pub end_of : List Piece → ℕ

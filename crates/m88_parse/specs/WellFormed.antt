@@ -1,6 +1,6 @@
 -- Units that the assembler can lay out: every instruction is valid, each fixup has the kind of its operand and waits
 -- for a field that is 0, and alignments are 1, 2, 4 or 8.
-use Rattle.std.specs.Prelude.{◌≡◌, ◌⊎◌, ◌<◌, ◌≤◌, ◌+◌, ◌^◌, ℕ, ℤ, pos, negsuc, List, [], ◌∷◌, length, Option, Some, None}
+use Rattle.std.specs.Prelude.{◌≡◌, ◌⊎◌, ◌<◌, ◌≤◌, ◌^◌, ℕ, ℤ, pos, negsuc, length, Option, Some, None}
 use Rattle.std.specs.List.{All, sum_by}
 use Rattle.m88_base.specs.declared.fixup.Kind.{Kind}
 use Rattle.m88_base.specs.declared.fixup.Kind.TheVariants.{Hi16, Lo16, Pc26, Pc16, Abs32}
@@ -19,7 +19,7 @@ use Rattle.m88_parse.specs.declared.operand.Goal.{Goal}
 use Rattle.m88_parse.specs.declared.unit.Value.{Value}
 use Rattle.m88_parse.specs.declared.unit.Value.TheVariants.{Number, Symbol}
 use Rattle.m88_parse.specs.declared.unit.Body.{Body}
-use Rattle.m88_parse.specs.declared.unit.Body.TheVariants.{Empty, Word, Align, Code}
+use Rattle.m88_parse.specs.declared.unit.Body.TheVariants.{Word, Align, Code}
 use Rattle.m88_parse.specs.declared.unit.Statement.{Statement}
 use Rattle.m88_parse.specs.declared.unit.Module.{Module}
 use Rattle.m88_parse.specs.declared.unit.Unit.{Unit as Source}

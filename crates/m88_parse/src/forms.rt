@@ -14,6 +14,7 @@ use m88_isa::{BitOp, ImmOp, Instr, LdaSize, MemOp, RegOp};
 
 /// The limits of a goal, in words: the bits of its field without the sign.
 const FAR: u32 = 1 << 25;
+
 const NEAR: u32 = 1 << 15;
 
 /// The most that a vector can be.

@@ -1,5 +1,7 @@
-ghost use Rattle.std.specs.Prelude.{◌≡◌, ◌<◌, ◌^◌, length, map};
+ghost use Rattle.std.specs.Prelude.{◌≡◌, ◌<◌, ◌^◌, length, map, IfOk};
+ghost use Rattle.std.specs.List.{All};
 ghost use Rattle.m88_parse.specs.Fault.{Gives};
+ghost use Rattle.m88_parse.specs.Places.{IsNear};
 ghost use Rattle.m88_parse.specs.Tokens.{piece_of, plain_token, token_of, pieces_of, tokens_of};
 
 use crate::fault::ParseFault;
@@ -14,7 +16,8 @@ pub(crate) fn lexemes<'a>(
     number: u32,
 ) -> Result<Vec<Lexeme<'a>>, ParseFault>
     requires { length line.now < 2 ^ 31 }
-    ensures { Gives (λ v. map piece_of v.items) result (pieces_of number line.now) }
+    ensures cuts { Gives (λ v. map piece_of v.items) result (pieces_of number line.now) }
+    ensures near { IfOk result (λ v. All IsNear v.items) }
 {
     let mut out = Vec::new(alloc);
     let mut rest = line;

@@ -3,9 +3,11 @@
 #![tactic(auto)]
 
 mod directive;
+mod draft;
 mod fault;
 mod forms;
 mod lexemes;
+mod line;
 mod lists;
 mod names;
 mod operand;
@@ -15,6 +17,7 @@ mod row;
 mod scan;
 mod shape;
 mod slots;
+mod source;
 mod statement;
 mod token;
 mod unit;
@@ -22,5 +25,6 @@ mod unit;
 pub use fault::{ParseFault, ParseKind};
 pub use lexemes::tokens;
 pub use m88_base::{Fixup, Kind, Name};
+pub use source::parse;
 pub use token::{Token, TokenKind};
 pub use unit::{Body, Module, Statement, Unit, Value};

@@ -1,5 +1,5 @@
 ghost use Rattle.std.specs.Prelude.{◌≡◌, ◌≤◌, ◌<◌, IfSome, SomeIff, true};
-ghost use Rattle.m88_parse.specs.Names.{number_up_to, register_of, control_of, float_control_of, control_in, bit_of, condition_of, half_of, is_here, is_module, is_symbol};
+ghost use Rattle.m88_parse.specs.Names.{number_up_to, register_of, control_of, float_control_of, control_in, bit_of, condition_of, half_of, is_here, is_module, is_name, is_symbol};
 ghost use Rattle.m88_parse.specs.WellFormed.{IsHalf};
 
 use crate::scan::{is_decimal, value_of};
@@ -129,6 +129,13 @@ pub(crate) fn is_module(name: &[u8]) -> bool
     name == b".module".as_slice()
 }
 
+/// The name that the bytes are, if they are one.
+pub(crate) fn name_of(text: &[u8]) -> Option<Name>
+    ensures { SomeIff result (is_name text.now ≡ true) text.now }
+{
+    Name::new(text)
+}
+
 /// The label or symbol of a name, or None where it has another meaning.
 #[tactic(auto, unfolding(crate::specs::Names::is_symbol))]
 pub(crate) fn symbol_of(name: &[u8]) -> Option<Name>
@@ -141,6 +148,6 @@ pub(crate) fn symbol_of(name: &[u8]) -> Option<Name>
     {
         None
     } else {
-        Name::new(name)
+        name_of(name)
     }
 }

@@ -118,20 +118,56 @@ pub(crate) fn shape_of(mnemonic: Mnemonic) -> Shape
         Mnemonic::Rot => Shape::Bits(BitOp::Rot),
         Mnemonic::Ff1 => Shape::Find { ones: true },
         Mnemonic::Ff0 => Shape::Find { ones: false },
-        Mnemonic::Br => Shape::Branch { link: false, delayed: false },
-        Mnemonic::BrN => Shape::Branch { link: false, delayed: true },
-        Mnemonic::Bsr => Shape::Branch { link: true, delayed: false },
-        Mnemonic::BsrN => Shape::Branch { link: true, delayed: true },
-        Mnemonic::Bb0 => Shape::BranchBit { set: false, delayed: false },
-        Mnemonic::Bb0N => Shape::BranchBit { set: false, delayed: true },
-        Mnemonic::Bb1 => Shape::BranchBit { set: true, delayed: false },
-        Mnemonic::Bb1N => Shape::BranchBit { set: true, delayed: true },
+        Mnemonic::Br => Shape::Branch {
+            link: false,
+            delayed: false,
+        },
+        Mnemonic::BrN => Shape::Branch {
+            link: false,
+            delayed: true,
+        },
+        Mnemonic::Bsr => Shape::Branch {
+            link: true,
+            delayed: false,
+        },
+        Mnemonic::BsrN => Shape::Branch {
+            link: true,
+            delayed: true,
+        },
+        Mnemonic::Bb0 => Shape::BranchBit {
+            set: false,
+            delayed: false,
+        },
+        Mnemonic::Bb0N => Shape::BranchBit {
+            set: false,
+            delayed: true,
+        },
+        Mnemonic::Bb1 => Shape::BranchBit {
+            set: true,
+            delayed: false,
+        },
+        Mnemonic::Bb1N => Shape::BranchBit {
+            set: true,
+            delayed: true,
+        },
         Mnemonic::Bcnd => Shape::BranchCond { delayed: false },
         Mnemonic::BcndN => Shape::BranchCond { delayed: true },
-        Mnemonic::Jmp => Shape::Jump { link: false, delayed: false },
-        Mnemonic::JmpN => Shape::Jump { link: false, delayed: true },
-        Mnemonic::Jsr => Shape::Jump { link: true, delayed: false },
-        Mnemonic::JsrN => Shape::Jump { link: true, delayed: true },
+        Mnemonic::Jmp => Shape::Jump {
+            link: false,
+            delayed: false,
+        },
+        Mnemonic::JmpN => Shape::Jump {
+            link: false,
+            delayed: true,
+        },
+        Mnemonic::Jsr => Shape::Jump {
+            link: true,
+            delayed: false,
+        },
+        Mnemonic::JsrN => Shape::Jump {
+            link: true,
+            delayed: true,
+        },
         Mnemonic::Tb0 => Shape::TrapBit { set: false },
         Mnemonic::Tb1 => Shape::TrapBit { set: true },
         Mnemonic::Tcnd => Shape::TrapCond,

@@ -4,7 +4,7 @@ ghost use Rattle.m88_parse.specs.Slots.{number_at, negated, whole_at, register_a
 ghost use Rattle.m88_parse.specs.WellFormed.{IsOfKind, IsAlignment};
 
 use crate::fault::{ParseFault, ParseKind};
-use crate::names::{bit_of, condition_of, control_in, register_of, symbol_of};
+use crate::names::{bit_of, condition_of, control_in, name_of, register_of, symbol_of};
 use crate::parser::Parser;
 use crate::token::What;
 use crate::unit::Value;
@@ -160,7 +160,7 @@ impl<'a> Parser<'a> {
         let Some(What::Name(text)) = self.first() else {
             return Err(self.fault(ParseKind::Syntax));
         };
-        match Name::new(text) {
+        match name_of(text) {
             Some(name) => {
                 self.skip();
                 Ok(name)

@@ -1,4 +1,6 @@
 use Rattle.std.proofs.Common.{◌≡◌, ◌+◌, length, map}
+use Rattle.std.specs.List.{All}
+use Rattle.m88_parse.specs.Places.{IsNear}
 use Rattle.m88_parse.specs.Tokens.{piece_of, pieces, pieces_of}
 use Rattle.m88_parse.proofs.Pieces.{with_front}
 use Rattle.m88_parse.proofs.lexemes.lexemes.Given as goal
@@ -7,6 +9,7 @@ abbrev pub invariant-loop-rest : goal.invariant-loop-rest
 invariant-loop-rest l = record {
   cuts : with_front (map piece_of l.out.items) (pieces l.number 0 l.col l.rest) ≡ pieces_of l.number l.line;
   place : l.col + length l.rest ≡ 1 + length l.line;
+  near : All IsNear l.out.items;
 }
 
 abbrev pub decreases-loop-rest : goal.decreases-loop-rest

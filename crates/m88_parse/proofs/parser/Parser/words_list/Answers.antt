@@ -14,5 +14,5 @@ returns-in_err-value-clause-value c =
 pub loop-more-preserved : goal.loop-more-preserved
 loop-more-preserved c = record {
   collects = rw (c.in_ok-push.ensures.items, c.comma-more.ensures.value, c.comma-more.ensures.after) (collects_more word_at c.loop-more.out.items c.in_ok-value.value c.loop-more.self c.value.new.self (list_at word_at c.args.self.now) (rw c.loop-more-test.true at c.loop-more.invariant.collects) c.in_ok-value.ensures.value c.in_ok-value.ensures.shorter);
-  kind = rw c.in_ok-push.ensures.items (All-push (IsOfKind Abs32) c.loop-more.out.items c.in_ok-value.value c.loop-more.invariant.kind c.in_ok-value.ensures.kind)
+  kind = rw c.in_ok-push.ensures.items (All-push (IsOfKind Abs32) c.loop-more.out.items c.in_ok-value.value c.loop-more.invariant.kind c.in_ok-value.ensures.kind);
 }

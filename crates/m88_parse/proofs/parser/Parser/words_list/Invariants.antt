@@ -9,7 +9,7 @@ use Rattle.m88_parse.proofs.parser.Parser.words_list.Given as goal
 abbrev pub invariant-loop-more : goal.invariant-loop-more
 invariant-loop-more l = record {
   collects : Collects word_at l.more l.out.items l.self (list_at word_at l.fn.self);
-  kind : All (IsOfKind Abs32) l.out.items
+  kind : All (IsOfKind Abs32) l.out.items;
 }
 
 abbrev pub decreases-loop-more : goal.decreases-loop-more

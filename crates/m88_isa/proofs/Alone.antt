@@ -1,0 +1,42 @@
+-- The plan of an instruction looks at no register outside those that the instruction uses.
+use Rattle.std.specs.Prelude.{ℕ, Bool, true, false, List, ◌≡◌, ◌<◌, ◌==◌, ◌^◌, bit_or, slice_index, if◌then◌else◌}
+use Rattle.std.specs.Int.{bit_at}
+use Rattle.std.proofs.Common.{arith, refl, sym}
+use Rattle.std.proofs.lemmas.Nat.Bits.{bit_at-lt, bit_at-pow_same, bit_at_or}
+use Rattle.m88_base.specs.Reg.{number_of}
+use Rattle.m88_isa.specs.Effect.{AgreesOn, IgnoresUnused}
+use Rattle.m88_isa.specs.Operands.{after_d_of, d_of, s1_of, s2_of, uses_of}
+use Rattle.m88_isa.specs.declared.instr.Instr.{Instr}
+
+-- a fact by the two values of a test
+pub by_test : {A : Type 0} (test : Bool) → (test ≡ true → A) → (test ≡ false → A) → A
+by_test true f g = f refl
+by_test false f g = g refl
+
+-- a member of one set is a member of its union with another
+in_left : (a b k : ℕ) → bit_at a k ≡ 1 → bit_at (bit_or a b) k ≡ 1
+in_left a b k h = rw (bit_at_or a b k) (let below : bit_at b k < 2 = bit_at-lt b k in rw h (omega (arith, below)))
+
+in_right : (a b k : ℕ) → bit_at b k ≡ 1 → bit_at (bit_or a b) k ≡ 1
+in_right a b k h = rw (bit_at_or a b k) (let below : bit_at a k < 2 = bit_at-lt a k in rw h (omega (arith, below)))
+
+-- the set of a register other than r0 has it
+in_own : (n : ℕ) → (n == 0) ≡ false → bit_at (if n == 0 then 0 else 2 ^ n) n ≡ 1
+in_own n other_than_0 = rw other_than_0 (bit_at-pow_same n)
+
+-- two lists that agree on a set give the same value of a register that is r0 or in the set
+same_value : (regs other : List ℕ) (set n : ℕ) →
+    AgreesOn set regs other →
+    ((n == 0) ≡ false → bit_at set n ≡ 1) →
+    (if n == 0 then 0 else slice_index other n) ≡ (if n == 0 then 0 else slice_index regs n)
+same_value regs other set n agree inside =
+    by_test (n == 0) (λ zero. rw zero refl) (λ not_zero. rw not_zero (sym (agree n (inside not_zero))))
+
+pub plan_alone : (i : Instr) (regs : List ℕ) (carry : Bool) (pc next : ℕ) → IgnoresUnused i regs carry pc next
+unfolding uses_of
+plan_alone i regs carry pc next other agree =
+    let s1 = same_value regs other (uses_of i) (number_of (s1_of i)) agree (λ h. in_left _ _ _ (in_left _ _ _ (in_own _ h))) in
+    let s2 = same_value regs other (uses_of i) (number_of (s2_of i)) agree (λ h. in_left _ _ _ (in_right _ _ _ (in_own _ h))) in
+    let d = same_value regs other (uses_of i) (number_of (d_of i)) agree (λ h. in_right _ _ _ (in_left _ _ _ (in_own _ h))) in
+    let after_d = same_value regs other (uses_of i) (number_of (after_d_of i)) agree (λ h. in_right _ _ _ (in_right _ _ _ (in_own _ h))) in
+    rw (s1, s2, d, after_d) refl

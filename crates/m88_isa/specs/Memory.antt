@@ -1,0 +1,120 @@
+-- The accesses of the load, store and exchange instructions ("Instruction Set": load, store and exchange instructions;
+-- "Data Unit": transaction registers).
+use Rattle.std.specs.Prelude.{ℕ, Bool, true, false, List, [], ◌∷◌, ◌+◌, ◌%◌, ◌^◌}
+use Rattle.m88_base.specs.declared.reg.Reg.{Reg}
+use Rattle.m88_isa.specs.Lanes.{enable_of, word_address}
+use Rattle.m88_isa.specs.Operands.{no_register, register_after}
+use Rattle.m88_isa.specs.declared.effect.Access.{Access}
+use Rattle.m88_isa.specs.declared.effect.Accesses.{Accesses}
+use Rattle.m88_isa.specs.declared.instr.MemOp.{MemOp}
+use Rattle.m88_isa.specs.declared.instr.MemOp.TheVariants.{XmemBu, Xmem, LdHu, LdBu, LdD, Ld, LdH, LdB, StD, St, StH, StB}
+
+-- one access to 1, 2 or 4 bytes of memory at a place; of a store the value is the whole register
+pub record Touch : Type 0 where
+  pub place : ℕ
+  pub size : ℕ
+  pub write : Bool
+  pub register : Reg
+  pub signed : Bool
+  pub value : ℕ
+  pub first_half : Bool
+  pub lock : Bool
+
+-- a load of some bytes into a register, and a store of the low bytes of a value
+abbrev pub load : ℕ → Bool → Reg → ℕ → Touch
+load size signed d place = record {
+  place = place;
+  size = size;
+  write = false;
+  register = d;
+  signed = signed;
+  value = 0;
+  first_half = false;
+  lock = false;
+}
+
+abbrev pub store : ℕ → ℕ → ℕ → Touch
+store size value place = record {
+  place = place;
+  size = size;
+  write = true;
+  register = no_register;
+  signed = false;
+  value = value;
+  first_half = false;
+  lock = false;
+}
+
+-- the first word of a double word, and one half of an exchange
+abbrev pub first_half : Touch → Touch
+first_half t = record t { first_half = true }
+
+abbrev pub locked : Touch → Touch
+locked t = record t { lock = true }
+
+-- the bytes of the datum: the place is a multiple of them, and a scaled index counts them
+abbrev pub size_of : MemOp → ℕ
+size_of XmemBu = 1
+size_of Xmem = 4
+size_of LdHu = 2
+size_of LdBu = 1
+size_of LdD = 8
+size_of Ld = 4
+size_of LdH = 2
+size_of LdB = 1
+size_of StD = 8
+size_of St = 4
+size_of StH = 2
+size_of StB = 1
+
+-- the place of the second word of a double word
+abbrev pub second_place : ℕ → ℕ
+second_place place = (place + 4) % 2 ^ 32
+
+-- the accesses of a memory mnemonic at a place, in order; `value` is D's and `second` that of the register after D
+abbrev pub touches_of : MemOp → Reg → ℕ → ℕ → ℕ → List Touch
+touches_of XmemBu d value second place = locked (load 1 false d place) ∷ locked (store 1 value place) ∷ []
+touches_of Xmem d value second place = locked (load 4 false d place) ∷ locked (store 4 value place) ∷ []
+touches_of LdHu d value second place = load 2 false d place ∷ []
+touches_of LdBu d value second place = load 1 false d place ∷ []
+touches_of LdD d value second place =
+    first_half (load 4 false d place) ∷ load 4 false (register_after d) (second_place place) ∷ []
+touches_of Ld d value second place = load 4 false d place ∷ []
+touches_of LdH d value second place = load 2 true d place ∷ []
+touches_of LdB d value second place = load 1 true d place ∷ []
+touches_of StD d value second place = first_half (store 4 value place) ∷ store 4 second (second_place place) ∷ []
+touches_of St d value second place = store 4 value place ∷ []
+touches_of StH d value second place = store 2 value place ∷ []
+touches_of StB d value second place = store 1 value place ∷ []
+
+-- an access as the data unit records it: the word's address and the enable of the touched bytes
+abbrev pub access_of : Touch → Access
+access_of t = record {
+  write = t.write;
+  addr = word_address t.place;
+  en = enable_of t.place t.size;
+  reg = t.register;
+  signed = t.signed;
+  doub1 = t.first_half;
+  lock = t.lock;
+  value = t.value;
+}
+
+-- an access that isn't there
+abbrev pub no_access : Access
+no_access = record {
+  write = false;
+  addr = 0;
+  en = 0;
+  reg = no_register;
+  signed = false;
+  doub1 = false;
+  lock = false;
+  value = 0;
+}
+
+-- up to two accesses as the data unit records them
+abbrev pub recorded : List Touch → Accesses
+recorded [] = record { count = 0; first = no_access; second = no_access }
+recorded (t ∷ []) = record { count = 1; first = access_of t; second = no_access }
+recorded (t ∷ u ∷ _) = record { count = 2; first = access_of t; second = access_of u }

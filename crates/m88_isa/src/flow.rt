@@ -1,0 +1,147 @@
+//! Where the program goes on: branches, jumps, traps and their conditions ("Instruction Set": flow-control instructions).
+
+ghost use Rattle.std.specs.Prelude.{◌≡◌, ◌<◌, ◌≤◌};
+ghost use Rattle.m88_isa.specs.Effect.{branches, checks, controls, flows, goes_on, plan_for, recorded_change, traps_if};
+ghost use Rattle.m88_isa.specs.Flow.{bit_is, class_in, class_of, word_aligned, words_away};
+ghost use Rattle.m88_isa.specs.Vector.{unit_vector};
+
+use crate::compute::weight_if;
+use crate::effect::{Effect, Inputs, Plan};
+use crate::memory::no_accesses;
+use crate::operands::link_register;
+use crate::vector::{FIRST_USER_VECTOR, OUT_OF_BOUNDS, PRIVILEGE};
+
+/// No change but that the program goes on.
+pub(crate) fn goes_on(x: Inputs) -> Effect
+    ensures { result ≡ recorded_change (goes_on x) }
+{
+    Effect {
+        reg: None,
+        carry: x.carry,
+        accesses: no_accesses(),
+        after: (x.next, x.next.wrapping_add(4)),
+        bubble: false,
+    }
+}
+
+/// What a taken branch or a jump to a byte address does.
+pub(crate) fn flows(link: bool, delayed: bool, target: u32, x: Inputs) -> Plan
+    ensures { result ≡ plan_for (flows link delayed target x) }
+{
+    let behind = if delayed { 8 } else { 4 };
+    let reg = if link {
+        Some((link_register(), x.pc.wrapping_add(behind)))
+    } else {
+        None
+    };
+    let after = if delayed {
+        (x.pc.wrapping_add(4), target)
+    } else {
+        (target, target.wrapping_add(4))
+    };
+    Plan::Go(Effect {
+        reg,
+        after,
+        bubble: !delayed,
+        ..goes_on(x)
+    })
+}
+
+/// What a branch on a condition does.
+pub(crate) fn branches(taken: bool, delayed: bool, target: u32, x: Inputs) -> Plan
+    ensures { result ≡ plan_for (branches taken delayed target x) }
+{
+    if taken {
+        flows(false, delayed, target, x)
+    } else {
+        Plan::Go(goes_on(x))
+    }
+}
+
+/// What a trap on a condition does.
+pub(crate) fn traps_if(taken: bool, vector: u16, x: Inputs) -> Plan
+    ensures { result ≡ plan_for (traps_if taken vector x) }
+{
+    if !taken {
+        Plan::Go(goes_on(x))
+    } else if vector < FIRST_USER_VECTOR {
+        Plan::Raise(PRIVILEGE)
+    } else {
+        Plan::Trap(vector)
+    }
+}
+
+/// What a bounds check of s against t does.
+pub(crate) fn checks(s: u32, t: u32, x: Inputs) -> Plan
+    ensures { result ≡ plan_for (checks s t x) }
+{
+    if s > t {
+        Plan::Raise(OUT_OF_BOUNDS)
+    } else {
+        Plan::Go(goes_on(x))
+    }
+}
+
+/// What a control instruction does.
+pub(crate) fn controls(float: bool) -> Plan
+    ensures { result ≡ plan_for (controls float) }
+{
+    Plan::Raise(if float { unit_vector(1) } else { PRIVILEGE })
+}
+
+/// The vector of a word of special function unit 1 to 7.
+pub(crate) fn unit_vector(unit: u8) -> u16
+    requires { (1 ≤ unit) × (unit < 8) }
+    ensures { result ≡ unit_vector unit }
+{
+    if unit == 1 {
+        114
+    } else {
+        116 + 2 * (unit as u16 - 2)
+    }
+}
+
+/// The byte address a signed count of words away.
+pub(crate) fn words_away(pc: u32, words: i32) -> u32
+    ensures { result ≡ words_away pc words }
+{
+    pc.wrapping_add(words.cast_unsigned().wrapping_mul(4))
+}
+
+/// An address with its two low bits cleared.
+pub(crate) fn word_aligned(address: u32) -> u32
+    ensures { result ≡ word_aligned address }
+{
+    address / 4 * 4
+}
+
+/// Whether a bit of a word, 0 to 31, is as wanted.
+pub(crate) fn bit_is(set: bool, bit: u8, s: u32) -> bool
+    requires { bit < 32 }
+    ensures { result ≡ bit_is set bit s }
+{
+    s >> bit & 1 == weight_if(set, 1)
+}
+
+/// The class of a word, a bit of a condition mask.
+fn class_of(s: u32) -> u8
+    ensures value { result ≡ class_of s }
+    ensures bound { result < 4 }
+{
+    if s == 0 {
+        1
+    } else if s == 1 << 31 {
+        3
+    } else if s > 1 << 31 {
+        2
+    } else {
+        0
+    }
+}
+
+/// Whether a condition mask of four bits has the class of a word.
+pub(crate) fn class_in(mask: u8, s: u32) -> bool
+    ensures { result ≡ class_in mask s }
+{
+    mask >> class_of(s) & 1 == 1
+}

@@ -1,0 +1,167 @@
+//! The accesses of loads, stores and exchanges ("Instruction Set": load, store and exchange instructions).
+
+ghost use Rattle.std.specs.Prelude.{◌≡◌, ◌≤◌, [], true};
+ghost use Rattle.m88_isa.specs.Effect.{accesses, plan_for};
+ghost use Rattle.m88_isa.specs.Memory.{access_of, load, no_access, recorded, size_of, store, touches_of};
+
+use crate::effect::{Access, Accesses, Effect, Inputs, Plan};
+use crate::flow::goes_on;
+use crate::instr::MemOp;
+use crate::lanes::enable_of;
+use crate::operands::{no_register, register_after};
+use crate::vector::MISALIGNED;
+use m88_base::Reg;
+
+/// What a memory instruction does at a byte address.
+pub(crate) fn accesses(op: MemOp, d: Reg, place: u32, x: Inputs) -> Plan
+    ensures { result ≡ plan_for (accesses op d place x) }
+{
+    if place % size_of(op) == 0 {
+        Plan::Go(Effect {
+            accesses: touches_of(op, d, x.d, x.after_d, place),
+            ..goes_on(x)
+        })
+    } else {
+        Plan::Raise(MISALIGNED)
+    }
+}
+
+/// The bytes of a datum, of which its address is a multiple.
+pub(crate) fn size_of(op: MemOp) -> u32
+    ensures value { result ≡ size_of op }
+    ensures least { 1 ≤ result }
+{
+    match op {
+        MemOp::XmemBu | MemOp::LdBu | MemOp::LdB | MemOp::StB => 1,
+        MemOp::LdHu | MemOp::LdH | MemOp::StH => 2,
+        MemOp::Xmem | MemOp::Ld | MemOp::St => 4,
+        MemOp::LdD | MemOp::StD => 8,
+    }
+}
+
+/// The accesses of a memory mnemonic at an aligned byte address, in order; `second` is the register after D.
+fn touches_of(op: MemOp, d: Reg, value: u32, second: u32, place: u32) -> Accesses
+    ensures { result ≡ recorded (touches_of op d value second place) }
+{
+    match op {
+        MemOp::XmemBu => two(
+            locked(load(1, false, d, place)),
+            locked(store(1, value, place)),
+        ),
+        MemOp::Xmem => two(
+            locked(load(4, false, d, place)),
+            locked(store(4, value, place)),
+        ),
+        MemOp::LdHu => one(load(2, false, d, place)),
+        MemOp::LdBu => one(load(1, false, d, place)),
+        MemOp::LdD => two(
+            first_half(load(4, false, d, place)),
+            load(4, false, register_after(d), place.wrapping_add(4)),
+        ),
+        MemOp::Ld => one(load(4, false, d, place)),
+        MemOp::LdH => one(load(2, true, d, place)),
+        MemOp::LdB => one(load(1, true, d, place)),
+        MemOp::StD => two(
+            first_half(store(4, value, place)),
+            store(4, second, place.wrapping_add(4)),
+        ),
+        MemOp::St => one(store(4, value, place)),
+        MemOp::StH => one(store(2, value, place)),
+        MemOp::StB => one(store(1, value, place)),
+    }
+}
+
+/// A load of 1, 2 or 4 bytes into a register.
+fn load(size: u32, signed: bool, d: Reg, place: u32) -> Access
+    ensures { result ≡ access_of (load size signed d place) }
+{
+    Access {
+        addr: place / 4 * 4,
+        en: enable_of(place, size),
+        reg: d,
+        signed,
+        ..no_access()
+    }
+}
+
+/// A store of the low 1, 2 or 4 bytes of a register.
+fn store(size: u32, value: u32, place: u32) -> Access
+    ensures { result ≡ access_of (store size value place) }
+{
+    Access {
+        write: true,
+        addr: place / 4 * 4,
+        en: enable_of(place, size),
+        value,
+        ..no_access()
+    }
+}
+
+/// The first half of a double word.
+fn first_half(access: Access) -> Access
+    ensures { result ≡ record access { doub1 = true } }
+{
+    Access {
+        doub1: true,
+        ..access
+    }
+}
+
+/// One half of an exchange.
+fn locked(access: Access) -> Access
+    ensures { result ≡ record access { lock = true } }
+{
+    Access {
+        lock: true,
+        ..access
+    }
+}
+
+/// One access.
+fn one(first: Access) -> Accesses
+    ensures { result ≡ record { count = 1; first = first; second = no_access } }
+{
+    Accesses {
+        count: 1,
+        first,
+        second: no_access(),
+    }
+}
+
+/// Two accesses, in order.
+fn two(first: Access, second: Access) -> Accesses
+    ensures { result ≡ record { count = 2; first = first; second = second } }
+{
+    Accesses {
+        count: 2,
+        first,
+        second,
+    }
+}
+
+/// No access.
+pub(crate) fn no_accesses() -> Accesses
+    ensures { result ≡ recorded [] }
+{
+    Accesses {
+        count: 0,
+        first: no_access(),
+        second: no_access(),
+    }
+}
+
+/// An access that isn't there.
+fn no_access() -> Access
+    ensures { result ≡ no_access }
+{
+    Access {
+        write: false,
+        addr: 0,
+        en: 0,
+        reg: no_register(),
+        signed: false,
+        doub1: false,
+        lock: false,
+        value: 0,
+    }
+}

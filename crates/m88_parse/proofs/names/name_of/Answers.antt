@@ -1,0 +1,5 @@
+use Rattle.m88_parse.proofs.Naming.{some_iff}
+use Rattle.m88_parse.proofs.names.name_of.Goals as goal
+
+pub returns : goal.returns
+returns c = some_iff c.new.result c.args.text.now c.new.ensures.valid c.new.ensures.value

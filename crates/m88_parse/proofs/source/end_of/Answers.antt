@@ -1,0 +1,8 @@
+use Rattle.std.proofs.Common.{◌≡◌, ◌+◌, ◌-◌, length, arith}
+use Rattle.m88_parse.proofs.Ending.{by_last}
+use Rattle.m88_parse.proofs.source.end_of.Goals as goal
+
+pub returns : goal.returns
+returns c =
+    let e : length c.args.lexemes.now - 1 + 1 ≡ length c.args.lexemes.now = omega arith in
+    by_last c.args.lexemes.now (length c.args.lexemes.now - 1) _ e

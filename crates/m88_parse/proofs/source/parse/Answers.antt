@@ -1,0 +1,17 @@
+use Rattle.std.proofs.Common.{List, Result, Ok, ap, sym, ◌∙◌, arith, rules, ◌≡◌, length}
+use Rattle.std.proofs.lemmas.Grind.{common_steps}
+use Rattle.m88_parse.specs.declared.fault.ParseFault.{ParseFault}
+use Rattle.m88_parse.specs.declared.unit.Module.{Module}
+use Rattle.m88_parse.specs.declared.unit.Unit.{Unit as Source}
+use Rattle.m88_parse.specs.Source.{unit_of}
+use Rattle.m88_parse.proofs.Drafts.{starts, ends_all}
+use Rattle.m88_parse.proofs.source.parse.Goals as goal
+
+pub loop-rest-init : goal.loop-rest-init
+loop-rest-init c = rw c.new.ensures.items (record { leads = starts c.args.source.now; place = omega arith; count = omega arith; formed = search rules })
+
+pub returns-clause-value : goal.returns-clause-value
+returns-clause-value c =
+    let none : length c.loop-rest.rest.now ≡ 0 = grind (arith, common_steps) in
+    ends_all c.loop-rest.number c.loop-rest.rest.now c.loop-rest.draft.closed.items c.loop-rest.draft.current (unit_of c.args.source.now) none c.loop-rest.invariant.leads
+    ∙ ap (λ (ms : List Module). let u : Result Source ParseFault = Ok (record { modules = ms }) in u) (sym (c.new-2.ensures ∙ c.in_ok-modules.ensures.value))

@@ -1,0 +1,15 @@
+use Rattle.std.proofs.Common.{◌≡◌, ◌+◌, ◌≤◌, length}
+use Rattle.m88_parse.specs.Source.{lines_of, rows_of, unit_of}
+use Rattle.m88_parse.specs.Drafts.{leads, count_in, AreFormed}
+use Rattle.m88_parse.proofs.source.parse.Given as goal
+
+abbrev pub invariant-loop-rest : goal.invariant-loop-rest
+invariant-loop-rest l = record {
+  leads : leads l.draft.closed.items l.draft.current (rows_of l.number (lines_of l.rest)) ≡ unit_of l.source;
+  place : l.number + length l.rest ≤ 1 + length l.source;
+  count : count_in l.draft.closed.items l.draft.current + 1 ≤ l.number;
+  formed : AreFormed l.draft.closed.items l.draft.current;
+}
+
+abbrev pub decreases-loop-rest : goal.decreases-loop-rest
+decreases-loop-rest l = length l.rest

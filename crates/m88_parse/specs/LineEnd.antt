@@ -1,0 +1,8 @@
+-- The CR of a line end, cut off; only the contracts of inner calls cite it.
+use Rattle.std.specs.Prelude.{ℕ, List, [], ◌∷◌, ◌==◌, cond}
+
+-- the line without a CR that is its last byte
+abbrev pub without_cr : List ℕ → List ℕ
+without_cr [] = []
+without_cr (b ∷ []) = cond (b == 13) [] (b ∷ [])
+without_cr (b ∷ c ∷ bs) = b ∷ without_cr (c ∷ bs)

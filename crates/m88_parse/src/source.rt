@@ -1,0 +1,84 @@
+ghost use Rattle.std.specs.Prelude.{◌≡◌, ◌<◌, ◌≤◌, ◌+◌, ◌^◌, ◌⊎◌, length, map, IfOk, IfSome, MatchResult};
+ghost use Rattle.std.specs.List.{All};
+ghost use Rattle.m88_parse.specs.Fault.{Gives, out_of_memory};
+ghost use Rattle.m88_parse.specs.Places.{IsNear};
+ghost use Rattle.m88_parse.specs.Source.{end_of, row_of, unit_of};
+ghost use Rattle.m88_parse.specs.Tokens.{piece_of};
+ghost use Rattle.m88_parse.specs.WellFormed.{IsRow, IsWellFormed};
+ghost use Rattle.m88_parse.specs.Drafts.{count_in, AreFormed, LeadsOn, EndsWith};
+
+use crate::draft::Draft;
+use crate::fault::ParseFault;
+use crate::lexemes::lexemes;
+use crate::line::first_line;
+use crate::parser::Parser;
+use crate::row::Row;
+use crate::token::Lexeme;
+use crate::unit::Unit;
+use m88_base::Listed;
+use std::alloc::Global;
+
+/// The column just after the last token.
+fn end_of(lexemes: &[Lexeme<'_>]) -> u32
+    requires some { 0 < length lexemes.now }
+    requires near { All IsNear lexemes.now }
+    ensures { result ≡ end_of (map piece_of lexemes.now) }
+{
+    let last = &lexemes[lexemes.len() - 1];
+    last.col + last.text.len() as u32
+}
+
+/// What a line says, if it has a token.
+#[tactic(auto, unfolding(crate::specs::Source::row_of))]
+fn row_of(alloc: Global, line: &[u8], number: u32) -> Result<Option<Row>, ParseFault>
+    requires { length line.now < 2 ^ 31 }
+    ensures value { Gives (λ r. r) result (row_of number line.now) }
+    ensures row { IfOk result (λ r. IfSome r IsRow) }
+{
+    let lexemes = lexemes(alloc, line, number)?;
+    if lexemes.is_empty() {
+        return Ok(None);
+    }
+    let end_col = end_of(&lexemes);
+    let row = Parser::new(&lexemes, number, end_col).row(alloc)?;
+    Ok(Some(row))
+}
+
+/// The draft behind one line more.
+fn with_line(alloc: Global, draft: Draft, line: &[u8], number: u32) -> Result<Draft, ParseFault>
+    requires { length line.now < 2 ^ 31 }
+    ensures value { MatchResult result (λ d. LeadsOn number line.now d.closed.items d.current draft.closed.items draft.current)
+        (λ e. (e ≡ out_of_memory) ⊎ EndsWith number line.now draft.closed.items draft.current e) }
+    ensures count { IfOk result (λ d. count_in d.closed.items d.current ≤ count_in draft.closed.items draft.current + 1) }
+    ensures formed { AreFormed draft.closed.items draft.current → IfOk result (λ d. AreFormed d.closed.items d.current) }
+{
+    match row_of(alloc, line, number)? {
+        None => Ok(draft),
+        Some(row) => draft.add(alloc, row),
+    }
+}
+
+/// The unit of a source, or its first fault: the lines in order, each cut into tokens before its
+/// statement is read. The source is shorter than 2^31 bytes.
+pub fn parse(alloc: Global, source: &[u8]) -> Result<Unit, ParseFault>
+    requires { length source.now < 2 ^ 31 }
+    ensures value { Gives (λ u. u) result (unit_of source.now) }
+    ensures formed { IfOk result IsWellFormed }
+{
+    let mut draft = Draft {
+        closed: Vec::new(alloc),
+        current: None,
+    };
+    let mut rest = source;
+    let mut number: u32 = 1;
+    while !rest.is_empty() {
+        let (line, after) = first_line(rest);
+        draft = with_line(alloc, draft, line, number)?;
+        rest = after;
+        number += 1;
+    }
+    let modules = draft.finish(alloc)?;
+    Ok(Unit {
+        modules: Listed::new(modules),
+    })
+}
