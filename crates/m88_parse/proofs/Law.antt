@@ -3,3 +3,10 @@ pub mod Numbers
 pub mod Quotes
 pub mod Fronts
 pub mod Tokens
+pub mod Names
+pub mod Slots
+pub mod Values
+pub mod Operands
+pub mod Indices
+pub mod Goals
+pub mod Forms

@@ -1,12 +1,12 @@
 -- The law of the front of a line's rest: what is cut off is a gap, a comment or a token, and the other way round.
 use Rattle.std.proofs.Common.{◌≡◌, ◌≢◌, ℕ, zero, suc, ◌+◌, ◌-◌, ◌<◌, ◌≤◌, Bool, true, false, cond, not, ◌&&◌, ◌||◌, ◌==◌, nat_lt, nat_le, ◌⊎◌, inl, inr, List, [], ◌∷◌, ◌++◌, length, take, drop, Option, Some, None, Ok, Err, refl, sym, ap, ap₂, ◌∙◌, arith, subst, subst₂, take_at, drop_at, eqb-true, eq-eqb, ne_eqb, ltb-true, ltb-false, lt-ltb, le-ltb, leb-true, le-leb, Result, if◌then◌else◌, length-take, length-append, one-add, take-append-drop, append_assoc, true≢false}
-use Rattle.std.specs.List.{list_all, prefix_len}
+use Rattle.std.specs.List.{All, list_all, prefix_len}
 use Rattle.std.specs.Char.{is_ascii_digit, digit_value}
 use Rattle.std.proofs.Math.Seq.{take-append_seam, drop-append_seam}
-use Rattle.std.proofs.lemmas.List.Sums.{prefix_len-le-length}
+use Rattle.std.proofs.lemmas.List.Sums.{prefix_len-le-length, list_all-from_AllPass, AllPass-from_list_all}
 use Rattle.std.proofs.lemmas.Bool.{eqb-false}
 use Rattle.std.proofs.lemmas.Bool.Decides.{nat_tests}
-use Rattle.m88_base.specs.Name.{is_name}
+use Rattle.m88_base.specs.Name.{IsName, begins_name, continues_name}
 use Rattle.m88_parse.specs.declared.fault.ParseKind.{ParseKind}
 use Rattle.m88_parse.specs.declared.fault.ParseKind.TheVariants.{NotAscii, Syntax, OutOfRange}
 use Rattle.m88_parse.specs.declared.scan.Flaw.{Flaw}
@@ -122,14 +122,35 @@ front_run b t rest h k =
     stops [] x = tt
     stops (y ∷ ys) x = x
 
-name_again : (name rest : List ℕ) → is_name name ≡ true → (IsRun name → EndsRun rest) → front (name ++ rest) ≡ cut (length name) (a_name name)
-name_again [] rest h k = absurd cc
+begin_word : (b : ℕ) → begins_name b ≡ true → is_word b ≡ true
+begin_word b h = grind (arith, nat_tests)
+
+begin_no_digit : (b : ℕ) → begins_name b ≡ true → is_ascii_digit b ≡ false
+begin_no_digit b h = grind (arith, nat_tests)
+
+continue_word : (b : ℕ) → continues_name b ≡ true → is_word b ≡ true
+continue_word b h = grind (arith, nat_tests)
+
+word_begin : (b : ℕ) → is_word b ≡ true → is_ascii_digit b ≡ false → begins_name b ≡ true
+word_begin b h d = grind (arith, nat_tests)
+
+word_continue : (b : ℕ) → is_word b ≡ true → continues_name b ≡ true
+word_continue b h = grind (arith, nat_tests)
+
+all_here : (p : ℕ → Bool) (xs : List ℕ) → All (λ b. p b ≡ true) xs → list_all p xs ≡ true
+all_here p xs h = list_all-from_AllPass p xs h
+
+all_there : (p : ℕ → Bool) (xs : List ℕ) → list_all p xs ≡ true → All (λ b. p b ≡ true) xs
+all_there p xs h = AllPass-from_list_all p xs h
+
+name_again : (name rest : List ℕ) → IsName name → (IsRun name → EndsRun rest) → front (name ++ rest) ≡ cut (length name) (a_name name)
+name_again [] rest h k = absurd h
 name_again (b ∷ t) rest h k =
-    let i = both (not (is_ascii_digit b) && nat_le (length (b ∷ t)) 64) (list_all is_word (b ∷ t)) h in
-    let j = both (not (is_ascii_digit b)) (nat_le (length (b ∷ t)) 64) i.0 in
-    front_run b t rest i.1 (k i.1)
-      ∙ take_else (is_ascii_digit b) _ _ (not_true (is_ascii_digit b) j.0)
-      ∙ take_else (nat_lt 64 (length (b ∷ t))) _ _ (le-ltb 64 (length (b ∷ t)) (leb-true (length (b ∷ t)) 64 j.1))
+    let r : IsRun (b ∷ t) = ap (λ (u : Bool). u && list_all is_word t) (begin_word b h.0) ∙ all_as continues_name is_word continue_word t (all_here continues_name t h.1) in
+    let l = h.2 in
+    front_run b t rest r (k r)
+      ∙ take_else (is_ascii_digit b) _ _ (begin_no_digit b h.0)
+      ∙ take_else (nat_lt 64 (length (b ∷ t))) _ _ (le-ltb 64 (length (b ∷ t)) (omega (arith, l)))
 
 number_run : (text rest : List ℕ) (n : ℕ) → 0 < length text → IsRun text → EndsRun rest → list_all is_ascii_digit (take 1 text) ≡ true → numeral text ≡ Ok n → front (text ++ rest) ≡ cut (length text) (a_number n)
 number_run [] rest n s h k d e = absurd (omega arith)
@@ -234,10 +255,8 @@ word_stands b t rest c r k h =
 
     name_stands : record { len = length (b ∷ t); says = Some (a_name (b ∷ t)) } ≡ c → is_ascii_digit b ≡ false → length (b ∷ t) ≤ 64 → TokenAt (b ∷ (t ++ rest)) c
     name_stands e d l =
-        let x : is_name (b ∷ t) ≡ true =
-          ap (λ (u : Bool). (not u && nat_le (length (b ∷ t)) 64) && list_all is_word (b ∷ t)) d
-            ∙ ap (λ (u : Bool). u && list_all is_word (b ∷ t)) (le-leb (length (b ∷ t)) 64 l)
-            ∙ r in
+        let k = both (is_word b) (list_all is_word t) r in
+        let x : IsName (b ∷ t) = (word_begin b k.0 d, all_there continues_name t (all_as is_word continues_name word_continue t k.1), omega (arith, l)) in
         made (a_name (b ∷ t)) (refl, x) e
 
 -- what two quotes of a kind hold is a token of that kind

@@ -9,7 +9,7 @@ use Rattle.m88_parse.specs.Spelling.Tokens.{HasNoNeedlessZero, IsDecimal, IsHexa
 use Rattle.m88_parse.proofs.Law.Steps.{both, chosen, not_true, take_then, take_else}
 use Rattle.std.proofs.lemmas.Bool.{eqb-false}
 
-hexadecimal_is : (run : List ℕ) → is_hexadecimal run ≡ true → IsHexadecimal run (digits_value 16 (drop 2 run))
+pub hexadecimal_is : (run : List ℕ) → is_hexadecimal run ≡ true → IsHexadecimal run (digits_value 16 (drop 2 run))
 hexadecimal_is [] h = absurd cc
 hexadecimal_is (a ∷ []) h = absurd cc
 hexadecimal_is (a ∷ b ∷ []) h = absurd cc
@@ -24,14 +24,14 @@ is_hexadecimal_again : (run digits : List ℕ) → run ≡ 48 ∷ 120 ∷ digits
 is_hexadecimal_again run [] e s h = absurd (omega arith)
 is_hexadecimal_again run (d ∷ ds) e s h = ap is_hexadecimal e ∙ h
 
-decimal_is : (run : List ℕ) → 0 < length run → is_decimal run ≡ true → IsDecimal run (digits_value 10 run)
+pub decimal_is : (run : List ℕ) → 0 < length run → is_decimal run ≡ true → IsDecimal run (digits_value 10 run)
 decimal_is [] s h = absurd (omega arith)
 decimal_is (d ∷ []) s h = record { some = s; digits = h; short = tt; value = refl }
 decimal_is (d ∷ e ∷ ds) s h =
     let j = both (not (d == 48)) (are_digits 10 (d ∷ e ∷ ds)) h in
     record { some = s; digits = j.1; short = eqb-false d 48 (not_true (d == 48) j.0); value = refl }
 
-is_decimal_again : (run : List ℕ) (n : ℕ) → IsDecimal run n → is_decimal run ≡ true
+pub is_decimal_again : (run : List ℕ) (n : ℕ) → IsDecimal run n → is_decimal run ≡ true
 is_decimal_again [] n h = refl
 is_decimal_again (d ∷ []) n h = h.digits
 is_decimal_again (d ∷ e ∷ ds) n h = ap (λ (b : Bool). not b && are_digits 10 (d ∷ e ∷ ds)) (ne_eqb d 48 h.short) ∙ h.digits
@@ -42,14 +42,14 @@ not_both (a ∷ []) n h = refl
 not_both (a ∷ b ∷ []) n h = refl
 not_both (a ∷ b ∷ d ∷ ds) n h = ap (λ (t : Bool). (t && b == 120) && are_digits 16 (d ∷ ds)) (ne_eqb a 48 h.short)
 
-bounded_is : (v n : ℕ) → bounded v ≡ Ok n → (n ≡ v) × (n < 4294967296)
+pub bounded_is : (v n : ℕ) → bounded v ≡ Ok n → (n ≡ v) × (n < 4294967296)
 bounded_is v n h =
     elim (chosen (nat_lt v 4294967296) (Ok v) (Err OutOfRange) (Ok n) h) [
       | inl k ↦ let e : n ≡ v = cc in (e, rw e (ltb-true v 4294967296 k.0))
       | inr k ↦ absurd cc
     ]
 
-bounded_again : (v : ℕ) → v < 4294967296 → bounded v ≡ Ok v
+pub bounded_again : (v : ℕ) → v < 4294967296 → bounded v ≡ Ok v
 bounded_again v h = take_then (nat_lt v 4294967296) (Ok v) (Err OutOfRange) (lt-ltb v 4294967296 h)
 
 pub bounded_above : (v : ℕ) → 4294967296 ≤ v → bounded v ≡ Err OutOfRange

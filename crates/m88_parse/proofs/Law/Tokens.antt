@@ -5,7 +5,7 @@ use Rattle.std.proofs.Math.Seq.{take-append_seam, drop-append_seam, drop-length}
 use Rattle.m88_parse.specs.declared.fault.ParseFault.{ParseFault}
 use Rattle.m88_parse.specs.declared.scan.Flaw.{Flaw}
 use Rattle.m88_parse.specs.Tokens.{is_blank, is_comment, is_word, Meaning, a_name, a_number, a_text, a_mark, Cut, gap, cut, front, Piece, prepend, fault_at, pieces, pieces_of}
-use Rattle.m88_base.specs.Name.{is_name}
+use Rattle.m88_base.specs.Name.{IsName}
 use Rattle.m88_parse.specs.Spelling.Tokens.{IsNumeral, IsGap, IsTail, IsRun, EndsRun, IsToken, Begins, IsEmpty, AreTokens, LineTokens}
 use Rattle.m88_parse.proofs.Pieces.{cut_off, fault_front}
 use Rattle.m88_parse.proofs.Law.Steps.{both}
@@ -38,7 +38,7 @@ no_numeral n (inl h) = let s = h.some in omega arith
 no_numeral n (inr h) = let e = h.bytes in cc
 
 some_bytes : (text : List ℕ) (m : Meaning) → IsToken text m → 0 < length text
-some_bytes [] (a_name name) h = let e : is_name [] ≡ true = ap is_name h.0 ∙ h.1 in absurd cc
+some_bytes [] (a_name name) h = let e : IsName [] = subst IsName (sym h.0) h.1 in absurd e
 some_bytes [] (a_number n) (inl h) = absurd (no_numeral n h.0)
 some_bytes [] (a_number n) (inr h) = let e = h.text_is in absurd cc
 some_bytes [] (a_text bytes) h = let e = h.text_is in absurd cc

@@ -3,7 +3,7 @@
 use Rattle.std.specs.Prelude.{ℕ, Bool, true, false, ◌≡◌, ◌≢◌, ◌⊎◌, ◌<◌, ◌≤◌, List, [], ◌∷◌, ◌++◌, Some, codes}
 use Rattle.m88_base.specs.declared.reg.Reg.{Reg}
 use Rattle.m88_base.specs.Reg.{reg_of}
-use Rattle.m88_base.specs.Name.{is_name}
+use Rattle.m88_base.specs.Name.{IsName}
 use Rattle.m88_parse.specs.Tokens.{a_name, a_number, a_mark, Piece}
 use Rattle.m88_parse.specs.Names.{bit_of, condition_of}
 use Rattle.m88_parse.specs.Spelling.Tokens.{IsDecimal}
@@ -26,7 +26,7 @@ IsControlName true name n = IsNumbered (codes "fcr") 63 name n
 
 -- a name that is neither . nor a register of any kind
 pub record IsSymbolName (name : List ℕ) : Type 0 where
-  pub valid : is_name name ≡ true
+  pub valid : IsName name
   pub no_place : name ≢ codes "."
   pub no_register : (n : ℕ) → IsRegisterName name n → ⊥
   pub no_control : (float : Bool) (n : ℕ) → IsControlName float name n → ⊥

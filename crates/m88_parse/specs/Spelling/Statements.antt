@@ -1,6 +1,7 @@
 -- Statements as whole lists of tokens: a label, an operation, both or neither (statements and directives of the
 -- assembly language).
 use Rattle.std.specs.Prelude.{ℕ, ◌≡◌, ◌≢◌, ◌⊎◌, ◌<◌, List, [], ◌∷◌, ◌++◌, Option, Some, None, codes}
+use Rattle.m88_base.specs.Name.{IsName}
 use Rattle.m88_base.specs.declared.fixup.Kind.{Kind}
 use Rattle.m88_base.specs.declared.fixup.Kind.TheVariants.{Abs32}
 use Rattle.m88_base.specs.declared.fixup.Fixup.{Fixup}
@@ -53,6 +54,6 @@ pub data IsStatement (line : ℕ) : List Piece → Statement → Type 0 where
     → IsStatement line (l ∷ c ∷ p ∷ ps) (record { line = line; label = Some (name, l.col); col = p.col; body = said })
   label_alone : {l c : Piece} {name : List ℕ} → IsLabel l c name → IsStatement line (l ∷ c ∷ []) (record { line = line; label = Some (name, l.col); col = l.col; body = body.Empty })
 
--- the line that begins a module
+-- the line that begins a module; its name is any name
 pub data IsHead : List Piece → List ℕ → Type 0 where
-  head : {p q : Piece} {name : List ℕ} → IsNamed (codes ".module") p → IsNamed name q → IsHead (p ∷ q ∷ []) name
+  head : {p q : Piece} {name : List ℕ} → IsNamed (codes ".module") p → IsNamed name q → IsName name → IsHead (p ∷ q ∷ []) name

@@ -4,7 +4,7 @@ use Rattle.std.specs.Prelude.{ℕ, Bool, true, false, ◌≡◌, ◌≢◌, ◌�
 use Rattle.std.specs.List.{list_all}
 use Rattle.std.specs.Char.{is_ascii_digit}
 use Rattle.std.specs.Str.Parse.{digits_value}
-use Rattle.m88_base.specs.Name.{is_name}
+use Rattle.m88_base.specs.Name.{IsName}
 use Rattle.m88_parse.specs.declared.fault.ParseKind.{ParseKind}
 use Rattle.m88_parse.specs.declared.fault.ParseKind.TheVariants.{NotAscii, Syntax, OutOfRange}
 use Rattle.m88_parse.specs.declared.fault.ParseFault.{ParseFault}
@@ -67,7 +67,7 @@ pub record IsQuoted (quote : ℕ) (text bytes : List ℕ) : Type 0 where
 -- The text of a token and what it says: a name is its bytes, of which there are at most 64; a number is below
 -- 2^32; exactly one byte or escape in single quotes is a number; a text stands in double quotes.
 abbrev pub IsToken : List ℕ → Meaning → Type 0
-IsToken text (a_name name) = (text ≡ name) × (is_name name ≡ true)
+IsToken text (a_name name) = (text ≡ name) × IsName name
 IsToken text (a_number n) = (IsNumeral text n × (n < 4294967296)) ⊎ IsQuoted 39 text (n ∷ [])
 IsToken text (a_text bytes) = IsQuoted 34 text bytes
 IsToken text (a_mark m) = (text ≡ m ∷ []) × (is_mark m ≡ true)
