@@ -10,3 +10,9 @@ pub mod Operands
 pub mod Indices
 pub mod Goals
 pub mod Forms
+pub mod Codes
+pub mod Lists
+pub mod Bodies
+pub mod Rows
+pub mod Ends
+pub mod Units

@@ -26,12 +26,12 @@ pub data AreParted {A : Type 0} (Is : List Piece → A → Type 0) : List Piece 
 pub data IsBody : List Piece → Body → Type 0 where
   text : {p : Piece} → IsNamed (codes ".text") p → IsBody (p ∷ []) body.Text
   data_section : {p : Piece} → IsNamed (codes ".data") p → IsBody (p ∷ []) body.DataSection
-  at : {p q : Piece} {n : ℕ} → IsNamed (codes ".at") p → IsNumber n q → IsBody (p ∷ q ∷ []) (body.At n)
+  at : {p q : Piece} {n : ℕ} → IsNamed (codes ".at") p → IsNumber n q → n < 4294967296 → IsBody (p ∷ q ∷ []) (body.At n)
   word : {p : Piece} {ps : List Piece} {vs : List Value} → IsNamed (codes ".word") p → AreParted (IsValue Abs32) ps vs → IsBody (p ∷ ps) (body.Word vs)
   half : {p : Piece} {ps : List Piece} {ns : List ℕ} → IsNamed (codes ".half") p → AreParted (IsSigned 65536) ps ns → IsBody (p ∷ ps) (body.Half ns)
   byte : {p : Piece} {ps : List Piece} {ns : List ℕ} → IsNamed (codes ".byte") p → AreParted (IsSigned 256) ps ns → IsBody (p ∷ ps) (body.Byte ns)
   ascii : {p q : Piece} {bytes : List ℕ} → IsNamed (codes ".ascii") p → q.says ≡ a_text bytes → IsBody (p ∷ q ∷ []) (body.Ascii bytes)
-  zeros : {p q : Piece} {n : ℕ} → IsNamed (codes ".zero") p → IsNumber n q → IsBody (p ∷ q ∷ []) (body.Zero n)
+  zeros : {p q : Piece} {n : ℕ} → IsNamed (codes ".zero") p → IsNumber n q → n < 4294967296 → IsBody (p ∷ q ∷ []) (body.Zero n)
   align : {p q : Piece} {n : ℕ} → IsNamed (codes ".align") p → IsNumber n q → (n ≡ 1) ⊎ ((n ≡ 2) ⊎ ((n ≡ 4) ⊎ (n ≡ 8))) → IsBody (p ∷ q ∷ []) (body.Align n)
   global : {p q : Piece} {name : List ℕ} → IsNamed (codes ".global") p → IsSymbol name q → IsBody (p ∷ q ∷ []) (body.Global name)
   set : {p q c : Piece} {ps : List Piece} {name : List ℕ} {n : ℕ} → IsNamed (codes ".set") p → IsSymbol name q → IsComma c → IsSigned 4294967296 ps n → IsBody (p ∷ q ∷ c ∷ ps) (body.Set name q.col n)
