@@ -1,9 +1,12 @@
 -- Tokens cut off one after the other, as a loop does.
-use Rattle.std.proofs.Common.{◌≡◌, ℕ, zero, suc, ◌-◌, ◌+◌, ◌<◌, List, [], ◌∷◌, ◌++◌, length, take, drop, Some, None, Result, Ok, Err, refl, sym, ap, ◌∙◌, append_assoc, arith}
-use Rattle.std.proofs.lemmas.List.{append-nil}
+use Rattle.std.proofs.Common.{◌≡◌, ℕ, zero, suc, ◌-◌, ◌+◌, ◌≤◌, ◌<◌, List, [], ◌∷◌, ◌++◌, length, take, drop, Some, None, Result, Ok, Err, refl, sym, ap, subst, ◌∙◌, append_assoc, arith}
+use Rattle.std.proofs.lemmas.List.{append-nil, drop-drop}
+use Rattle.m88_parse.specs.declared.token.Lexeme.{Lexeme}
+use Rattle.m88_parse.specs.declared.token.Token.{Token}
+use Rattle.m88_parse.specs.Places.{IsSlice, IsLexemeOf, IsTokenOf}
 use Rattle.m88_parse.specs.declared.fault.ParseFault.{ParseFault}
 use Rattle.m88_parse.specs.declared.scan.Flaw.{Flaw}
-use Rattle.m88_parse.specs.Tokens.{Meaning, Cut, Piece, front, pieces, prepend, fault_at}
+use Rattle.m88_parse.specs.Tokens.{PlainToken, plain_token, token_of, piece_of, Meaning, Cut, Piece, front, pieces, prepend, fault_at}
 
 -- what was cut off before, and what is still cut
 abbrev pub with_front : List Piece → Result (List Piece) ParseFault → Result (List Piece) ParseFault
@@ -67,3 +70,17 @@ pub is_done : (line col : ℕ) (bs : List ℕ) (done : List Piece) (total : Resu
 unfolding pieces
 is_done line col [] done total h so_far = sym so_far ∙ ap (λ (xs : List Piece). let r : Result (List Piece) ParseFault = Ok xs in r) (append-nil done)
 is_done line col (b ∷ bs) done total h so_far = absurd (omega arith)
+
+pub slice_goes_on : (line text rest : List ℕ) (col len : ℕ) → 1 ≤ col → rest ≡ drop (col - 1) line → text ≡ take len rest → length text ≡ len → text ≡ take (length text) (drop (col - 1) line)
+slice_goes_on line text rest col len from_one here front same = front ∙ ap (take len) here ∙ ap (λ (n : ℕ). take n (drop (col - 1) line)) (sym same)
+
+pub rest_goes_on : (line rest after : List ℕ) (col len : ℕ) → 1 ≤ col → rest ≡ drop (col - 1) line → after ≡ drop len rest → after ≡ drop (col + len - 1) line
+rest_goes_on line rest after col len from_one here back =
+    let e : col - 1 + len ≡ col + len - 1 = omega arith in
+    back ∙ ap (drop len) here ∙ drop-drop len (col - 1) line ∙ ap (λ (n : ℕ). drop n line) e
+
+pub token_placed : (line : List ℕ) (x : Lexeme) (t : Token) (n : ℕ) → plain_token t ≡ token_of n (piece_of x) → IsLexemeOf line x → IsTokenOf line t
+token_placed line x t n h k =
+    let e : t.text.now ≡ x.text.now = ap (λ (p : PlainToken). p.text) h in
+    let f : t.col ≡ x.col = ap (λ (p : PlainToken). p.col) h in
+    subst (λ (xs : List ℕ). IsSlice line xs t.col) (sym e) (subst (λ (m : ℕ). IsSlice line x.text.now m) (sym f) k)

@@ -1,7 +1,7 @@
-ghost use Rattle.std.specs.Prelude.{◌≡◌, ◌<◌, ◌^◌, length, map, IfOk};
+ghost use Rattle.std.specs.Prelude.{◌≡◌, ◌<◌, ◌^◌, length, map, IfOk, IfErr};
 ghost use Rattle.std.specs.List.{All};
-ghost use Rattle.m88_parse.specs.Fault.{Gives};
-ghost use Rattle.m88_parse.specs.Places.{IsNear};
+ghost use Rattle.m88_parse.specs.Fault.{Gives, IsTokenFault};
+ghost use Rattle.m88_parse.specs.Places.{IsNear, IsLexemeOf, IsTokenOf};
 ghost use Rattle.m88_parse.specs.Tokens.{piece_of, plain_token, token_of, pieces_of, tokens_of};
 
 use crate::fault::ParseFault;
@@ -18,6 +18,8 @@ pub(crate) fn lexemes<'a>(
     requires { length line.now < 2 ^ 31 }
     ensures cuts { Gives (λ v. map piece_of v.items) result (pieces_of number line.now) }
     ensures near { IfOk result (λ v. All IsNear v.items) }
+    ensures slices { IfOk result (λ v. All (IsLexemeOf line.now) v.items) }
+    ensures kind { IfErr result IsTokenFault }
 {
     let mut out = Vec::new(alloc);
     let mut rest = line;
@@ -61,9 +63,12 @@ fn token_of<'a>(lexeme: &Lexeme<'a>, line: u32) -> Token<'a>
 
 /// The tokens of a line, which has no line end, from left to right; `number` is the line's number. Else
 /// the first place that can't be cut into a token: NotAscii, Syntax or OutOfRange.
+#[tactic(auto, using(crate::proofs::Pieces::token_placed))]
 pub fn tokens<'a>(alloc: Global, line: &'a [u8], number: u32) -> Result<Vec<Token<'a>>, ParseFault>
     requires short { length line.now < 2 ^ 31 }
     ensures cuts { Gives (λ v. map plain_token v.items) result (tokens_of number line.now) }
+    ensures slices { IfOk result (λ v. All (IsTokenOf line.now) v.items) }
+    ensures kind { IfErr result IsTokenFault }
 {
     let lexemes = lexemes(alloc, line, number)?;
     let mut out = Vec::new(alloc);

@@ -28,3 +28,6 @@ pub use m88_base::{Fixup, Kind, Name};
 pub use source::parse;
 pub use token::{Token, TokenKind};
 pub use unit::{Body, Module, Statement, Unit, Value};
+
+#[cfg(test)]
+mod tests;

@@ -2,6 +2,7 @@ ghost use Rattle.std.specs.Prelude.{◌≡◌, ◌+◌, ◌<◌, ◌≤◌, fals
 ghost use Rattle.std.specs.List.{prefix_len};
 ghost use Rattle.std.specs.Char.{digit_value};
 ghost use Rattle.std.specs.Str.Parse.{digits_value};
+ghost use Rattle.m88_parse.specs.Fault.{IsCutKind};
 ghost use Rattle.m88_parse.specs.Tokens.{is_blank, is_comment, is_plain, is_word, is_mark, is_escape, escape_value, are_digits, is_hexadecimal, is_decimal, bounded, numeral, begins_escape, closes, inside_len, holds_escapes, character, cut_of, quoted, word_front, front};
 
 use crate::fault::ParseKind;
@@ -129,7 +130,8 @@ pub(crate) fn is_decimal(run: &[u8]) -> bool
 pub(crate) fn value_of(base: u64, digits: &[u8]) -> Result<u32, ParseKind>
     requires least { 0 < base }
     requires most { base ≤ 16 }
-    ensures { result ≡ bounded (digits_value base digits.now) }
+    ensures value { result ≡ bounded (digits_value base digits.now) }
+    ensures kind { IfErr result IsCutKind }
 {
     const LIMIT: u64 = 1 << 32;
     let mut value: u64 = 0;
@@ -144,7 +146,8 @@ pub(crate) fn value_of(base: u64, digits: &[u8]) -> Result<u32, ParseKind>
 }
 
 fn numeral(run: &[u8]) -> Result<u32, ParseKind>
-    ensures { result ≡ numeral run.now }
+    ensures value { result ≡ numeral run.now }
+    ensures kind { IfErr result IsCutKind }
 {
     if is_hexadecimal(run) {
         value_of(16, &run[2..])
@@ -211,6 +214,7 @@ fn quoted(quote: u8, bytes: &[u8]) -> Result<Cut<'_>, Flaw>
     ensures value { MatchResult result (λ c. quoted quote bytes.now ≡ Ok (cut_of c)) (λ f. quoted quote bytes.now ≡ Err f) }
     ensures bound { IfOk result (λ c. (0 < c.len) × (c.len ≤ length bytes.now + 1)) }
     ensures place { IfErr result (λ f. f.at ≤ length bytes.now) }
+    ensures kind { IfErr result (λ f. IsCutKind f.kind) }
 {
     let len = inside_len(quote, bytes);
     let inside = &bytes[..len];
@@ -244,6 +248,7 @@ fn word(first: u8, run: &[u8]) -> Result<Cut<'_>, Flaw>
     ensures value { MatchResult result (λ c. word_front first run.now ≡ Ok (cut_of c)) (λ f. word_front first run.now ≡ Err f) }
     ensures length { IfOk result (λ c. c.len ≡ length run.now) }
     ensures place { IfErr result (λ f. f.at ≡ 0) }
+    ensures kind { IfErr result (λ f. IsCutKind f.kind) }
 {
     let len = run.len();
     if first.is_ascii_digit() {
@@ -274,6 +279,7 @@ pub(crate) fn front(bytes: &[u8]) -> Result<Cut<'_>, Flaw>
     ensures value { MatchResult result (λ c. front bytes.now ≡ Ok (cut_of c)) (λ f. front bytes.now ≡ Err f) }
     ensures bound { IfOk result (λ c. (0 < c.len) × (c.len ≤ length bytes.now)) }
     ensures place { IfErr result (λ f. f.at < length bytes.now) }
+    ensures kind { IfErr result (λ f. IsCutKind f.kind) }
 {
     let first = bytes[0];
     if is_comment(first) {

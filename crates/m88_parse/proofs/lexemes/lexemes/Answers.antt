@@ -1,11 +1,11 @@
-use Rattle.std.proofs.Common.{◌+◌, take, Result, Ok, ◌≡◌, ◌<◌, length, map, inr, ◌++◌, ◌∷◌, [], Some, None, ap, ◌∙◌, arith}
+use Rattle.std.proofs.Common.{◌+◌, take, Result, Ok, ◌≡◌, ◌<◌, ◌≤◌, length, map, inr, ◌++◌, ◌∷◌, [], Some, None, ap, ◌∙◌, arith}
 use Rattle.std.proofs.lemmas.Grind.{common_steps}
 use Rattle.std.proofs.lemmas.List.{map_push}
 use Rattle.std.proofs.lemmas.List.Elements.{All-push}
-use Rattle.m88_parse.specs.Places.{IsNear}
+use Rattle.m88_parse.specs.Places.{IsNear, IsLexemeOf}
 use Rattle.m88_parse.specs.Tokens.{Cut, front, meaning_in, piece_of, meaning_of, pieces_of}
 use Rattle.m88_parse.specs.declared.scan.Flaw.{Flaw}
-use Rattle.m88_parse.proofs.Pieces.{gap_goes_on, token_goes_on, ends, is_done}
+use Rattle.m88_parse.proofs.Pieces.{slice_goes_on, rest_goes_on, gap_goes_on, token_goes_on, ends, is_done}
 use Rattle.m88_parse.proofs.lexemes.lexemes.Goals as goal
 use Rattle.m88_parse.proofs.lexemes.lexemes.Goals.{in-Some+in_ok-push, in_default}
 
@@ -19,6 +19,9 @@ loop-rest-preserved c =
     let some : 0 < length c.loop-rest.rest.now = grind (arith, common_steps) in
     let place : c.loop-rest.col + c.in-Ok.cut.len + length c.split_at.result.1.now ≡ 1 + length c.args.line.now = omega arith in
     let near : c.loop-rest.col + length c.split_at.result.0.now < 4294967296 = omega arith in
+    let from_one : 1 ≤ c.loop-rest.col + c.in-Ok.cut.len = omega arith in
+    let slice = slice_goes_on c.args.line.now c.split_at.result.0.now c.loop-rest.rest.now c.loop-rest.col c.in-Ok.cut.len c.loop-rest.invariant.from_one c.loop-rest.invariant.here c.split_at.ensures.front c.split_at.ensures.front_len in
+    let here = rest_goes_on c.args.line.now c.loop-rest.rest.now c.split_at.result.1.now c.loop-rest.col c.in-Ok.cut.len c.loop-rest.invariant.from_one c.loop-rest.invariant.here c.split_at.ensures.back in
     let total = pieces_of c.args.number c.args.line.now in
     let done = map piece_of c.loop-rest.out.items in
     let col = c.loop-rest.col in
@@ -29,10 +32,10 @@ loop-rest-preserved c =
           let m = meaning_of w.in-Some.what in
           let f : front rest ≡ Ok (record { len = len; says = Some m }) = c.in-Ok.ensures.value ∙ ap (λ o. let r : Result Cut Flaw = Ok (record { len = len; says = meaning_in o }) in r) w.in-Some.is in
           let out : map piece_of c.match-cut.out.items ≡ done ++ record { text = take len rest; col = col; says = m } ∷ [] = rw (w.out-is, w.in_ok-push.ensures.items, ← c.split_at.ensures.front) (map_push _ _ _) in
-          record { cuts = rw (out, c.split_at.ensures.back) (token_goes_on c.args.number col len m rest done total some f c.in-Ok.ensures.bound.0 c.loop-rest.invariant.cuts); place = place; near = rw (w.out-is, w.in_ok-push.ensures.items) (All-push IsNear c.loop-rest.out.items _ c.loop-rest.invariant.near near) }
+          record { cuts = rw (out, c.split_at.ensures.back) (token_goes_on c.args.number col len m rest done total some f c.in-Ok.ensures.bound.0 c.loop-rest.invariant.cuts); place = place; near = rw (w.out-is, w.in_ok-push.ensures.items) (All-push IsNear c.loop-rest.out.items _ c.loop-rest.invariant.near near); slices = rw (w.out-is, w.in_ok-push.ensures.items) (All-push (IsLexemeOf c.args.line.now) c.loop-rest.out.items _ c.loop-rest.invariant.slices slice); from_one = from_one; here = here }
       | in_default w ↦
           let f : front rest ≡ Ok (record { len = len; says = None }) = c.in-Ok.ensures.value ∙ ap (λ o. let r : Result Cut Flaw = Ok (record { len = len; says = meaning_in o }) in r) w.in_default.is in
-          record { cuts = rw (w.out-is, c.split_at.ensures.back) (gap_goes_on c.args.number col len rest done total some f c.in-Ok.ensures.bound.0 c.loop-rest.invariant.cuts); place = place; near = rw w.out-is c.loop-rest.invariant.near }
+          record { cuts = rw (w.out-is, c.split_at.ensures.back) (gap_goes_on c.args.number col len rest done total some f c.in-Ok.ensures.bound.0 c.loop-rest.invariant.cuts); place = place; near = rw w.out-is c.loop-rest.invariant.near; slices = rw w.out-is c.loop-rest.invariant.slices; from_one = from_one; here = here }
     ]
 
 pub returns-clause-cuts : goal.returns-clause-cuts

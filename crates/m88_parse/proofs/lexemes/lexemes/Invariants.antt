@@ -1,6 +1,6 @@
-use Rattle.std.proofs.Common.{◌≡◌, ◌+◌, length, map}
+use Rattle.std.proofs.Common.{◌≡◌, ◌+◌, ◌-◌, ◌≤◌, drop, length, map}
 use Rattle.std.specs.List.{All}
-use Rattle.m88_parse.specs.Places.{IsNear}
+use Rattle.m88_parse.specs.Places.{IsNear, IsLexemeOf}
 use Rattle.m88_parse.specs.Tokens.{piece_of, pieces, pieces_of}
 use Rattle.m88_parse.proofs.Pieces.{with_front}
 use Rattle.m88_parse.proofs.lexemes.lexemes.Given as goal
@@ -10,6 +10,9 @@ invariant-loop-rest l = record {
   cuts : with_front (map piece_of l.out.items) (pieces l.number 0 l.col l.rest) ≡ pieces_of l.number l.line;
   place : l.col + length l.rest ≡ 1 + length l.line;
   near : All IsNear l.out.items;
+  slices : All (IsLexemeOf l.line) l.out.items;
+  from_one : 1 ≤ l.col;
+  here : l.rest ≡ drop (l.col - 1) l.line;
 }
 
 abbrev pub decreases-loop-rest : goal.decreases-loop-rest
