@@ -6,6 +6,7 @@ mod directive;
 mod draft;
 mod fault;
 mod forms;
+mod grammar;
 mod lexemes;
 mod line;
 mod lists;
@@ -23,9 +24,9 @@ mod token;
 mod unit;
 
 pub use fault::{ParseFault, ParseKind};
+pub use grammar::{one_cutting, one_unit, parse};
 pub use lexemes::tokens;
 pub use m88_base::{Fixup, Kind, Name};
-pub use source::parse;
 pub use token::{Token, TokenKind};
 pub use unit::{Body, Module, Statement, Unit, Value};
 

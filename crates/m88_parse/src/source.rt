@@ -58,9 +58,8 @@ fn with_line(alloc: Global, draft: Draft, line: &[u8], number: u32) -> Result<Dr
     }
 }
 
-/// The unit of a source, or its first fault: the lines in order, each cut into tokens before its
-/// statement is read. The source is shorter than 2^31 bytes.
-pub fn parse(alloc: Global, source: &[u8]) -> Result<Unit, ParseFault>
+/// The unit of a source, or its first fault, a line at a time.
+pub(crate) fn read_source(alloc: Global, source: &[u8]) -> Result<Unit, ParseFault>
     requires { length source.now < 2 ^ 31 }
     ensures value { Gives (λ u. u) result (unit_of source.now) }
     ensures formed { IfOk result IsWellFormed }

@@ -149,3 +149,6 @@ line_is_cut line bytes ps h = tokens_related (length bytes) line 1 bytes ps (ome
 
 pub line_is_read : (line : ℕ) (bytes : List ℕ) (ps : List Piece) → LineTokens bytes ps → pieces_of line bytes ≡ Ok ps
 line_is_read line bytes ps h = tokens_read line 1 bytes ps h
+
+pub one_cut : (line : List ℕ) (ps qs : List Piece) → LineTokens line ps → LineTokens line qs → ps ≡ qs
+one_cut line ps qs h k = same_pieces (sym (line_is_read 1 line ps h) ∙ line_is_read 1 line qs k)

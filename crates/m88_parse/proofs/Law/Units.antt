@@ -1,5 +1,5 @@
 -- The law of units: the unit that is read is the one that a source is related to, and there is no other.
-use Rattle.std.proofs.Common.{◌≡◌, ◌≢◌, ℕ, zero, suc, ◌+◌, Bool, true, false, List, [], ◌∷◌, ◌++◌, Option, Some, None, Ok, Err, Result, refl, sym, ap, ap₂, ◌∙◌, arith, subst, subst₂, codes, inl, inr, ◌⊎◌}
+use Rattle.std.proofs.Common.{◌≡◌, ◌≢◌, ℕ, zero, suc, ◌+◌, Bool, true, false, List, [], ◌∷◌, ◌++◌, Option, Some, None, Ok, Err, Result, refl, sym, ap, ap₂, ◌∙◌, arith, subst, subst₂, codes, inl, inr, ◌⊎◌, IfOk}
 use Rattle.m88_parse.specs.declared.fault.ParseFault.{ParseFault}
 use Rattle.m88_parse.specs.declared.unit.Statement.{Statement}
 use Rattle.m88_parse.specs.declared.unit.Module.{Module}
@@ -7,6 +7,7 @@ use Rattle.m88_parse.specs.declared.unit.Unit.{Unit as Source}
 use Rattle.m88_parse.specs.declared.row.Row.{Row}
 use Rattle.m88_parse.specs.declared.row.Row.TheVariants as row
 use Rattle.m88_parse.specs.Tokens.{Piece, pieces_of}
+use Rattle.m88_parse.specs.Fault.{Gives}
 use Rattle.m88_parse.specs.State.{State, ◌>>=◌}
 use Rattle.m88_parse.specs.Source.{lines_of, row_of_pieces, row_of, with_row, rows_of, grouped, main_with, modules_in, unit_of_rows, unit_of}
 use Rattle.m88_parse.specs.Spelling.Tokens.{LineTokens}
@@ -131,8 +132,17 @@ related_is_read source unit h =
     bind_to (rows_of 1 (lines_of source)) (λ (rows : List Row). let y : Result Source ParseFault = Ok (unit_of_rows rows) in y) k.rows (Ok unit) r
       (ap (λ (u : Source). let y : Result Source ParseFault = Ok u in y) (same_unit (modules_in (grouped k.rows).0 (grouped k.rows).1) unit.modules m))
 
-pub one_unit : (source : List ℕ) (a b : Source) → IsUnit source a → IsUnit source b → a ≡ b
-one_unit source a b h k = ok_same (sym (related_is_read source a h) ∙ related_is_read source b k)
+pub single_unit : (source : List ℕ) (a b : Source) → IsUnit source a → IsUnit source b → a ≡ b
+single_unit source a b h k = ok_same (sym (related_is_read source a h) ∙ related_is_read source b k)
 
 pub fault_or_unit : (source : List ℕ) (fault : ParseFault) → unit_of source ≡ Err fault → (unit : Source) → IsUnit source unit → ⊥
 fault_or_unit source fault h unit k = let e : ◌≡◌ {A = Result Source ParseFault} (Err fault) (Ok unit) = sym h ∙ related_is_read source unit k in cc
+
+-- what a call gives
+
+pub found_unit : (source : List ℕ) (r : Result Source ParseFault) → Gives (λ (u : Source). u) r (unit_of source) → IfOk r (λ (u : Source). IsUnit source u)
+found_unit source (Ok u) h = read_is_related source u h
+found_unit source (Err e) h = tt
+
+pub only_unit : (source : List ℕ) (r : Result Source ParseFault) → Gives (λ (u : Source). u) r (unit_of source) → (u : Source) → IsUnit source u → Gives (λ (v : Source). v) r (Ok u)
+only_unit source r h u k = subst (λ (x : Result Source ParseFault). Gives (λ (v : Source). v) r x) (related_is_read source u k) h
