@@ -16,3 +16,6 @@ pub mod Bodies
 pub mod Rows
 pub mod Ends
 pub mod Units
+pub mod Flaws
+pub mod Breaks
+pub mod Faults

@@ -3,3 +3,4 @@ pub mod Names
 pub mod Operands
 pub mod Statements
 pub mod Units
+pub mod Faults

@@ -24,7 +24,7 @@ mod token;
 mod unit;
 
 pub use fault::{ParseFault, ParseKind};
-pub use grammar::{one_cutting, one_unit, parse};
+pub use grammar::{one_cutting, one_fault, one_unit, parse, unit_or_fault};
 pub use lexemes::tokens;
 pub use m88_base::{Fixup, Kind, Name};
 pub use token::{Token, TokenKind};

@@ -47,7 +47,7 @@ digit_word b h = grind (arith, nat_tests)
 after_gaps : List ℕ → ℕ → List ℕ → Result Cut Flaw
 after_gaps run b bs = if is_word b then word_front b run else (if is_mark b then cut 1 (a_mark b) else (if b == 34 || b == 39 then quoted b bs else flaw Syntax 0))
 
-run_at : (b : ℕ) (bs : List ℕ) → is_word b ≡ true → take (prefix_len is_word (b ∷ bs)) (b ∷ bs) ≡ b ∷ take (prefix_len is_word bs) bs
+pub run_at : (b : ℕ) (bs : List ℕ) → is_word b ≡ true → take (prefix_len is_word (b ∷ bs)) (b ∷ bs) ≡ b ∷ take (prefix_len is_word bs) bs
 run_at b bs h =
     let e : prefix_len is_word (b ∷ bs) ≡ suc (prefix_len is_word bs) = take_then (is_word b) (1 + prefix_len is_word bs) 0 h ∙ one-add (prefix_len is_word bs) in
     ap (λ (n : ℕ). take n (b ∷ bs)) e
@@ -70,11 +70,11 @@ front_mark b bs h =
       ∙ take_else (is_word b) _ _ (mark_no_word b h)
       ∙ take_then (is_mark b) _ _ h
 
-front_double : (bs : List ℕ) → front (34 ∷ bs) ≡ quoted 34 bs
+pub front_double : (bs : List ℕ) → front (34 ∷ bs) ≡ quoted 34 bs
 unfolding front
 front_double bs = refl
 
-front_single : (bs : List ℕ) → front (39 ∷ bs) ≡ quoted 39 bs
+pub front_single : (bs : List ℕ) → front (39 ∷ bs) ≡ quoted 39 bs
 unfolding front
 front_single bs = refl
 
@@ -111,7 +111,7 @@ value_digit d h = grind (arith, nat_tests)
 value_word : (d : ℕ) → nat_lt (digit_value d) 16 ≡ true → is_word d ≡ true
 value_word d h = grind (arith, nat_tests)
 
-front_run : (b : ℕ) (t rest : List ℕ) → IsRun (b ∷ t) → EndsRun rest → front (b ∷ (t ++ rest)) ≡ word_front b (b ∷ t)
+pub front_run : (b : ℕ) (t rest : List ℕ) → IsRun (b ∷ t) → EndsRun rest → front (b ∷ (t ++ rest)) ≡ word_front b (b ∷ t)
 front_run b t rest h k =
     let j = both (is_word b) (list_all is_word t) h in
     let e : prefix_len is_word (t ++ rest) ≡ length t = prefix_all is_word t rest j.1 (stops rest k) in
@@ -160,14 +160,14 @@ number_run (b ∷ t) rest n s h k d e =
       ∙ ap (number_front (length (b ∷ t))) e
 
 -- decimal digits, and 0x with hexadecimal digits, are runs that begin with a digit
-decimal_run : (text : List ℕ) (n : ℕ) → IsDecimal text n → IsRun text
+pub decimal_run : (text : List ℕ) (n : ℕ) → IsDecimal text n → IsRun text
 decimal_run text n h = all_as (λ d. nat_lt (digit_value d) 10) is_word (λ d e. digit_word d (value_digit d e)) text h.digits
 
-decimal_first : (text : List ℕ) → are_digits 10 text ≡ true → list_all is_ascii_digit (take 1 text) ≡ true
+pub decimal_first : (text : List ℕ) → are_digits 10 text ≡ true → list_all is_ascii_digit (take 1 text) ≡ true
 decimal_first [] h = refl
 decimal_first (d ∷ ds) h = ap (λ (t : Bool). t && true) (value_digit d (both (nat_lt (digit_value d) 10) (are_digits 10 ds) h).0)
 
-hexadecimal_run : (digits : List ℕ) → are_digits 16 digits ≡ true → IsRun (48 ∷ 120 ∷ digits)
+pub hexadecimal_run : (digits : List ℕ) → are_digits 16 digits ≡ true → IsRun (48 ∷ 120 ∷ digits)
 hexadecimal_run digits h = all_as (λ d. nat_lt (digit_value d) 16) is_word value_word digits h
 
 numeral_again : (text rest : List ℕ) (n : ℕ) → IsNumeral text n → n < 4294967296 → (IsRun text → EndsRun rest) → front (text ++ rest) ≡ cut (length text) (a_number n)
@@ -180,7 +180,7 @@ numeral_again text rest n (inr h) b k =
     let d : list_all is_ascii_digit (take 1 text) ≡ true = rw h.bytes refl in
     number_run text rest n s r (k r) d (number_again text n (inr h) b)
 
-between : (q : ℕ) (inside rest : List ℕ) → (q ∷ inside ++ q ∷ []) ++ rest ≡ q ∷ (inside ++ q ∷ rest)
+pub between : (q : ℕ) (inside rest : List ℕ) → (q ∷ inside ++ q ∷ []) ++ rest ≡ q ∷ (inside ++ q ∷ rest)
 between q inside rest = ap (λ (bs : List ℕ). q ∷ bs) (append_assoc inside (q ∷ []) rest)
 
 double_again : (inside bytes rest : List ℕ) → Holds 34 inside bytes → front ((34 ∷ inside ++ 34 ∷ []) ++ rest) ≡ cut (length (34 ∷ inside ++ 34 ∷ [])) (a_text bytes)
@@ -260,7 +260,7 @@ word_stands b t rest c r k h =
         made (a_name (b ∷ t)) (refl, x) e
 
 -- what two quotes of a kind hold is a token of that kind
-abbrev Makes : ℕ → Type 0
+abbrev pub Makes : ℕ → Type 0
 Makes q = (inside : List ℕ) → inside_len q false inside ≡ length inside → list_all is_plain inside ≡ true → inside ≢ 92 ∷ [] → (m : Meaning) → quoted_meaning q inside ≡ Some m → IsToken (q ∷ inside ++ q ∷ []) m
 
 quoted_made : (q : ℕ) (bs inside rest : List ℕ) (m : Meaning) (c : Cut) → is_word q ≡ false → bs ≡ inside ++ q ∷ rest → IsToken (q ∷ inside ++ q ∷ []) m → inside_len q false bs ≡ length inside → cut (inside_len q false bs + 2) m ≡ Ok c → TokenAt (q ∷ bs) c
@@ -303,7 +303,7 @@ quoted_stands q bs c tokens w h =
           quoted_closed q bs c tokens w size fits plain j.1
     ]
 
-makes_text : Makes 34
+pub makes_text : Makes 34
 makes_text inside l p w m h =
     elim (chosen (holds_escapes false inside) (Some (a_text (text_bytes false inside))) None (Some m) h) [
       | inl j ↦
@@ -316,12 +316,12 @@ number_made : (o : Option ℕ) (m : Meaning) → number_of o ≡ Some m → (n :
 number_made None m h = absurd cc
 number_made (Some n) m h = (n, refl, cc)
 
-makes_character : Makes 39
+pub makes_character : Makes 39
 makes_character inside l p w m h =
     let n = number_made (character inside) m h in
     subst (IsToken (39 ∷ inside ++ 39 ∷ [])) n.2 (inr (record { inside = inside; text_is = refl; holds = character_is 39 n.0 inside l p w n.1 }))
 
-is_quote : (b : ℕ) → (b == 34 || b == 39) ≡ true → (b ≡ 34) ⊎ (b ≡ 39)
+pub is_quote : (b : ℕ) → (b == 34 || b == 39) ≡ true → (b ≡ 34) ⊎ (b ≡ 39)
 is_quote b h = elim (either (b == 34) (b == 39) h) [ inl e ↦ inl (eqb-true b 34 e) | inr e ↦ inr (eqb-true b 39 e) ]
 
 quote_stands : (b : ℕ) (bs : List ℕ) (c : Cut) → (b ≡ 34) ⊎ (b ≡ 39) → quoted b bs ≡ Ok c → TokenAt (b ∷ bs) c

@@ -20,7 +20,7 @@ hexadecimal_is (a ∷ b ∷ d ∷ ds) h =
     let f = eqb-true b 120 k.1 in
     record { digits = d ∷ ds; bytes = cc; some = omega arith; hexadecimal = j.1; value = refl }
 
-is_hexadecimal_again : (run digits : List ℕ) → run ≡ 48 ∷ 120 ∷ digits → 0 < length digits → are_digits 16 digits ≡ true → is_hexadecimal run ≡ true
+pub is_hexadecimal_again : (run digits : List ℕ) → run ≡ 48 ∷ 120 ∷ digits → 0 < length digits → are_digits 16 digits ≡ true → is_hexadecimal run ≡ true
 is_hexadecimal_again run [] e s h = absurd (omega arith)
 is_hexadecimal_again run (d ∷ ds) e s h = ap is_hexadecimal e ∙ h
 
@@ -55,7 +55,7 @@ bounded_again v h = take_then (nat_lt v 4294967296) (Ok v) (Err OutOfRange) (lt-
 pub bounded_above : (v : ℕ) → 4294967296 ≤ v → bounded v ≡ Err OutOfRange
 bounded_above v h = take_else (nat_lt v 4294967296) (Ok v) (Err OutOfRange) (le-ltb v 4294967296 h)
 
-abbrev read_decimal : List ℕ → Result ℕ ParseKind
+abbrev pub read_decimal : List ℕ → Result ℕ ParseKind
 read_decimal run = if is_decimal run then bounded (digits_value 10 run) else Err Syntax
 
 -- what a numeral's value is bounded to

@@ -13,7 +13,7 @@ use Rattle.m88_parse.proofs.Law.Fronts.{front_again, front_blank, front_comment,
 
 -- what is related is read
 
-gap_passed : (line col : ℕ) (bs rest : List ℕ) → IsGap bs → pieces line 0 col (bs ++ rest) ≡ pieces line 0 (col + length bs) rest
+pub gap_passed : (line col : ℕ) (bs rest : List ℕ) → IsGap bs → pieces line 0 col (bs ++ rest) ≡ pieces line 0 (col + length bs) rest
 gap_passed line col [] rest h = let e : col ≡ col + 0 = omega arith in ap (λ (n : ℕ). pieces line 0 n rest) e
 gap_passed line col (b ∷ bs) rest h =
     let k = both (is_blank b) (list_all is_blank bs) h in
@@ -22,7 +22,7 @@ gap_passed line col (b ∷ bs) rest h =
       ∙ gap_passed line (col + 1) bs rest k.1
       ∙ ap (λ (n : ℕ). pieces line 0 n rest) e
 
-nothing_left : (line col : ℕ) → pieces line 0 col [] ≡ Ok []
+pub nothing_left : (line col : ℕ) → pieces line 0 col [] ≡ Ok []
 unfolding pieces
 nothing_left line col = refl
 
@@ -45,7 +45,7 @@ some_bytes [] (a_text bytes) h = let e = h.text_is in absurd cc
 some_bytes [] (a_mark m) h = let e = h.0 in absurd cc
 some_bytes (b ∷ bs) m h = omega arith
 
-token_passed : (line col : ℕ) (text rest : List ℕ) (m : Meaning) → IsToken text m → (IsRun text → EndsRun rest)
+pub token_passed : (line col : ℕ) (text rest : List ℕ) (m : Meaning) → IsToken text m → (IsRun text → EndsRun rest)
     → pieces line 0 col (text ++ rest) ≡ prepend (Some m) col text (pieces line 0 (col + length text) rest)
 token_passed line col text rest m h k =
     let s = some_bytes text m h in
@@ -116,7 +116,7 @@ token_first fuel line col bytes c ps ih s t h =
         longest = t.longest
       }, subst (λ (n : ℕ). AreTokens (col + n) (drop c.len bytes) q.0) (sym l) after)
 
-same_pieces : {a b : List Piece} → ◌≡◌ {A = Result (List Piece) ParseFault} (Ok a) (Ok b) → a ≡ b
+pub same_pieces : {a b : List Piece} → ◌≡◌ {A = Result (List Piece) ParseFault} (Ok a) (Ok b) → a ≡ b
 same_pieces h = cc
 
 by_front : (fuel line col : ℕ) (bytes : List ℕ) (c : Cut) (ps : List Piece) → Related fuel line → length bytes ≤ suc fuel → Stands bytes c
@@ -126,7 +126,7 @@ by_front fuel line col bytes c ps ih s (comment_stands {b = b} {bs = bs} k) h =
 by_front fuel line col bytes c ps ih s (blank_stands {b = b} {bs = bs} k) h = blank_before col b bs ps k (ih (col + 1) bs ps (omega arith) h)
 by_front fuel line col bytes c ps ih s (token_stands t) h = token_first fuel line col bytes c ps ih s t h
 
-stands_some : (bytes : List ℕ) (c : Cut) → Stands bytes c → 0 < c.len
+pub stands_some : (bytes : List ℕ) (c : Cut) → Stands bytes c → 0 < c.len
 stands_some bytes c (comment_stands k) = omega arith
 stands_some bytes c (blank_stands k) = omega arith
 stands_some bytes c (token_stands t) = t.some

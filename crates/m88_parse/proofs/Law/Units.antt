@@ -26,14 +26,14 @@ pub record LineRow (number : ℕ) (line : List ℕ) (o : Option Row) : Type 0 wh
   pub line_says : LineSays number pieces said
   pub row_is : row_for number said ≡ o
 
-line_row : (number : ℕ) (line : List ℕ) (o : Option Row) → row_of number line ≡ Ok o → LineRow number line o
+pub line_row : (number : ℕ) (line : List ℕ) (o : Option Row) → row_of number line ≡ Ok o → LineRow number line o
 unfolding row_of
 line_row number line o h =
     let b = bind_ok (pieces_of number line) (λ (ps : List Piece). row_of_pieces number ps) o h in
     let k = line_read number b.0 o b.2 in
     record { pieces = b.0; said = k.0; tokens = line_is_cut number line b.0 b.1; line_says = k.1; row_is = k.2 }
 
-row_again : (number : ℕ) (line : List ℕ) (ps : List Piece) (said : Said) → LineTokens line ps → LineSays number ps said → row_of number line ≡ Ok (row_for number said)
+pub row_again : (number : ℕ) (line : List ℕ) (ps : List Piece) (said : Said) → LineTokens line ps → LineSays number ps said → row_of number line ≡ Ok (row_for number said)
 unfolding row_of
 row_again number line ps said t h = bind_to (pieces_of number line) (λ (qs : List Piece). row_of_pieces number qs) ps (Ok (row_for number said)) (line_is_read number line ps t) (line_again number ps said h)
 
