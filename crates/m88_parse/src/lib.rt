@@ -31,4 +31,6 @@ pub use token::{Token, TokenKind};
 pub use unit::{Body, Module, Statement, Unit, Value};
 
 #[cfg(test)]
+mod rulings_tests;
+#[cfg(test)]
 mod tests;

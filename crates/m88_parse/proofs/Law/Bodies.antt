@@ -1,15 +1,12 @@
 -- The law of operations: a directive or an instruction is read as the body that it is related to.
-use Rattle.std.proofs.Common.{◌≡◌, ◌≢◌, ℕ, zero, suc, ◌+◌, ◌<◌, ◌≤◌, Bool, true, false, cond, not, ◌&&◌, ◌⊎◌, inl, inr, List, [], ◌∷◌, ◌++◌, length, Option, Some, None, Ok, Err, Result, refl, sym, ap, ap₂, ◌∙◌, arith, subst, if◌then◌else◌, codes, bytes_eq, find, append-nil, true≢false}
+use Rattle.std.proofs.Common.{◌≡◌, ℕ, ◌≤◌, Bool, true, false, inl, inr, List, [], ◌∷◌, Option, Some, None, Ok, Result, refl, sym, ap, ap₂, ◌∙◌, arith, subst, bytes_eq, find, append-nil}
 use Rattle.std.proofs.lemmas.Slice.Eq.{bytes_eq-Decides}
 use Rattle.m88_base.specs.declared.fixup.Kind.TheVariants.{Abs32}
-use Rattle.m88_base.specs.declared.fixup.Fixup.{Fixup}
 use Rattle.m88_isa.specs.declared.mnemonic.Mnemonic.{Mnemonic}
 use Rattle.m88_isa.specs.declared.mnemonic.Mnemonic.TheVariants as mnemonic
-use Rattle.m88_isa.specs.declared.instr.Instr.{Instr}
 use Rattle.m88_isa.specs.Mnemonic.{text_of, all_mnemonics, mnemonic_of}
 use Rattle.m88_isa.proofs.Spelling.{spelled_once}
 use Rattle.m88_parse.specs.declared.fault.ParseFault.{ParseFault}
-use Rattle.m88_parse.specs.declared.fault.ParseKind.TheVariants.{Syntax, NoSuchName}
 use Rattle.m88_parse.specs.declared.unit.Body.{Body}
 use Rattle.m88_parse.specs.declared.unit.Body.TheVariants as body
 use Rattle.m88_parse.specs.declared.unit.Value.{Value}
@@ -17,20 +14,20 @@ use Rattle.m88_parse.specs.declared.directive.Directive.{Directive}
 use Rattle.m88_parse.specs.declared.directive.Directive.TheVariants as directive
 use Rattle.m88_parse.specs.Names.{is_module}
 use Rattle.m88_parse.specs.Tokens.{Meaning, a_name, a_number, a_text, a_mark, Piece}
-use Rattle.m88_parse.specs.State.{State, first, past, trouble, ◌>>=◌}
-use Rattle.m88_parse.specs.Slots.{Read, mark_at, number_at, whole_at, symbol_at, text_at, alignment_at}
+use Rattle.m88_parse.specs.State.{State, ◌>>=◌}
+use Rattle.m88_parse.specs.Slots.{mark_at, number_at, whole_at, symbol_at, text_at, alignment_at}
 use Rattle.m88_parse.specs.Shape.{shape_of}
 use Rattle.m88_parse.specs.Directive.{directive_text, all_directives, directive_of}
-use Rattle.m88_parse.specs.Grammar.{Form, ends, mark_then, number_then, whole_then, alignment_then, symbol_then, words_then, halves_then, bytes_then, text_then, read, comma, list_at, word_at, half_word_at, byte_at, form_of, directive_form}
-use Rattle.m88_parse.specs.Source.{instruction_form, form_in, form_named, by_form, operation_on, operation_at}
-use Rattle.m88_parse.specs.Spelling.Names.{IsMark, IsComma, IsNumber, IsNamed, IsSymbol}
-use Rattle.m88_parse.specs.Spelling.Operands.{IsSigned, IsValue, AreOperands}
+use Rattle.m88_parse.specs.Grammar.{ends, number_then, read, list_at, word_at, half_word_at, byte_at, form_of, directive_form}
+use Rattle.m88_parse.specs.Source.{instruction_form, form_in, by_form, operation_on, operation_at}
+use Rattle.m88_parse.specs.Spelling.Names.{IsComma, IsNumber, IsNamed, IsSymbol}
+use Rattle.m88_parse.specs.Spelling.Operands.{IsSigned, IsValue}
 use Rattle.m88_parse.specs.Spelling.Statements.{AreParted, IsBody, text, data_section, at, word, half, byte, ascii, zeros, align, global, set, code}
-use Rattle.m88_parse.proofs.Law.Steps.{both, chosen, tested, take_then, take_else}
-use Rattle.m88_parse.proofs.Law.Names.{some_same, equal_bytes, other_bytes}
-use Rattle.m88_parse.proofs.Law.Slots.{st, ok_same, bind_ok, bind_to, One, OneMark, mark_read, mark_again, IsUpTo, number_read, number_slot_again, IsSymbolAt, symbol_read, symbol_again, IsText, text_read, text_again, IsPower, alignment_read, alignment_again}
-use Rattle.m88_parse.proofs.Law.Values.{Several, IsWhole, whole_read, whole_again, word_signed, signed_word}
-use Rattle.m88_parse.proofs.Law.Forms.{ends_read, ends_again, several_last, one_last, Coded, operands_read}
+use Rattle.m88_parse.proofs.Law.Steps.{chosen, take_else}
+use Rattle.m88_parse.proofs.Law.Names.{some_same}
+use Rattle.m88_parse.proofs.Law.Slots.{st, bind_ok, bind_to, mark_read, mark_again, IsUpTo, number_read, number_slot_again, IsSymbolAt, symbol_read, symbol_again, IsText, text_read, text_again, IsPower, alignment_read, alignment_again}
+use Rattle.m88_parse.proofs.Law.Values.{IsWhole, whole_read, whole_again, word_signed, signed_word}
+use Rattle.m88_parse.proofs.Law.Forms.{ends_read, ends_again, several_last, one_last, operands_read}
 use Rattle.m88_parse.proofs.Law.Codes.{operands_again}
 use Rattle.m88_parse.proofs.Law.Lists.{list_read, list_again, word_reads, word_reads_all, half_reads, half_reads_all, byte_reads, byte_reads_all}
 
@@ -157,7 +154,7 @@ set_last line e ps c h =
       named = s.is.0;
       parted = m.is;
       number = word_signed m.rest v.0.0 l.0;
-      body_is = ap (λ (col : ℕ). body.Set b.0.0.0 col v.0.0) (sym s.is.1) ∙ l.1
+      body_is = ap (λ (col : ℕ). body.Set b.0.0.0 col v.0.0) (sym s.is.1) ∙ l.1;
     }
 
 moved : (p : Piece) (ps qs : List Piece) (b c : Body) → ps ≡ qs → b ≡ c → IsBody (p ∷ qs) b → IsBody (p ∷ ps) c
@@ -240,27 +237,27 @@ unfolding read directive_form
 set_again line e n name q c ps h k v =
     let z : Result Body ParseFault = Ok (body.Set name q.col n) in
     bind_to (symbol_at (st line e (q ∷ c ∷ ps))) (λ (x : (List ℕ × ℕ) × State). mark_at 44 x.1 >>= λ t. whole_at 2147483648 4294967295 t >>= set_value x.0.0 x.0.1) ((name, q.col), st line e (c ∷ ps)) z (symbol_again line e name q (c ∷ ps) h)
-      (bind_to (mark_at 44 (st line e (c ∷ ps))) (λ (t : State). whole_at 2147483648 4294967295 t >>= set_value name q.col) (st line e ps) z (mark_again 44 line e c ps k)
-        (bind_to (whole_at 2147483648 4294967295 (st line e ps)) (set_value name q.col) (n, st line e []) z
-          (ap (λ (qs : List Piece). whole_at 2147483648 4294967295 (st line e qs)) (sym (append-nil ps)) ∙ whole_again 2147483648 4294967295 line e ps [] n (signed_word ps n v)) (ends_again line e (body.Set name q.col n))))
+    (bind_to (mark_at 44 (st line e (c ∷ ps))) (λ (t : State). whole_at 2147483648 4294967295 t >>= set_value name q.col) (st line e ps) z (mark_again 44 line e c ps k)
+    (bind_to (whole_at 2147483648 4294967295 (st line e ps)) (set_value name q.col) (n, st line e []) z
+    (ap (λ (qs : List Piece). whole_at 2147483648 4294967295 (st line e qs)) (sym (append-nil ps)) ∙ whole_again 2147483648 4294967295 line e ps [] n (signed_word ps n v)) (ends_again line e (body.Set name q.col n))))
 
 by_directive : (d : Directive) (line e : ℕ) (p : Piece) (ps : List Piece) (c : Body) → IsNamed (directive_text d) p → read (directive_form d) (st line e ps) ≡ Ok c → operation_at (st line e (p ∷ ps)) ≡ Ok c
 unfolding operation_at
 by_directive d line e p ps c n h =
     let s = st line e (p ∷ ps) in
     ap (λ (m : Meaning). operation_on s (Some m)) n
-      ∙ take_else (is_module (directive_text d)) _ _ (no_module d)
-      ∙ ap₂ (λ (m : Option Mnemonic) (k : Option Directive). by_form s (form_in m k)) (no_mnemonic d) (directive_once d)
-      ∙ h
+    ∙ take_else (is_module (directive_text d)) _ _ (no_module d)
+    ∙ ap₂ (λ (m : Option Mnemonic) (k : Option Directive). by_form s (form_in m k)) (no_mnemonic d) (directive_once d)
+    ∙ h
 
 by_mnemonic : (m : Mnemonic) (line e : ℕ) (p : Piece) (ps : List Piece) (c : Body) → IsNamed (text_of m) p → read (form_of (shape_of m)) (st line e ps) ≡ Ok c → operation_at (st line e (p ∷ ps)) ≡ Ok c
 unfolding operation_at
 by_mnemonic m line e p ps c n h =
     let s = st line e (p ∷ ps) in
     ap (λ (o : Meaning). operation_on s (Some o)) n
-      ∙ take_else (is_module (text_of m)) _ _ (no_module_mnemonic m)
-      ∙ ap (λ (o : Option Mnemonic). by_form s (form_in o (directive_of (text_of m)))) (spelled_once m)
-      ∙ h
+    ∙ take_else (is_module (text_of m)) _ _ (no_module_mnemonic m)
+    ∙ ap (λ (o : Option Mnemonic). by_form s (form_in o (directive_of (text_of m)))) (spelled_once m)
+    ∙ h
 
 pub body_again : (line e : ℕ) (ps : List Piece) (c : Body) → IsBody ps c → operation_at (st line e ps) ≡ Ok c
 unfolding directive_text directive_form

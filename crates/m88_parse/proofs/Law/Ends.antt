@@ -1,10 +1,10 @@
 -- The law of lines: the lines of a source are exactly those that it is related to.
-use Rattle.std.proofs.Common.{◌≡◌, ◌≢◌, ℕ, zero, suc, ◌+◌, Bool, true, false, cond, not, ◌&&◌, ◌==◌, ◌⊎◌, inl, inr, List, [], ◌∷◌, ◌++◌, refl, sym, ap, ap₂, ◌∙◌, arith, append-nil, subst, if◌then◌else◌, eqb-true, ne_eqb, true≢false}
+use Rattle.std.proofs.Common.{◌≡◌, ◌≢◌, ℕ, Bool, true, false, not, ◌&&◌, ◌==◌, inl, inr, List, [], ◌∷◌, ◌++◌, refl, sym, ap, ◌∙◌, append-nil, subst, eqb-true, ne_eqb, true≢false}
 use Rattle.std.proofs.lemmas.Bool.{eqb-false}
 use Rattle.std.specs.List.{list_all}
 use Rattle.m88_parse.specs.Source.{begins_with_lf, on_first_line, lines_of}
 use Rattle.m88_parse.specs.Spelling.Units.{IsOneLine, EndsInReturn, AreLines, no_line, last_line, feed, return_feed}
-use Rattle.m88_parse.proofs.Law.Steps.{both, chosen, tested, not_true, not_false, take_then, take_else}
+use Rattle.m88_parse.proofs.Law.Steps.{both, tested, not_true, take_then, take_else}
 
 -- the computed lines, a byte at a time
 
@@ -67,7 +67,7 @@ feed_computed (b ∷ c ∷ line) rest h k =
     let j = both (not (b == 10)) (list_all (λ x. not (x == 10)) (c ∷ line)) h in
     let i = both (not (c == 10)) (list_all (λ x. not (x == 10)) line) j.1 in
     at_byte b (c ∷ (line ++ 10 ∷ rest)) (not_true (b == 10) j.0) (and_false (b == 13) (c == 10) (not_true (c == 10) i.0))
-      ∙ ap (on_first_line b) (feed_computed (c ∷ line) rest j.1 (tail_no_return b c line k))
+    ∙ ap (on_first_line b) (feed_computed (c ∷ line) rest j.1 (tail_no_return b c line k))
 
 return_computed : (line rest : List ℕ) → IsOneLine line → lines_of (line ++ 13 ∷ 10 ∷ rest) ≡ line ∷ lines_of rest
 return_computed [] rest h = at_return rest
@@ -78,7 +78,7 @@ return_computed (b ∷ c ∷ line) rest h =
     let j = both (not (b == 10)) (list_all (λ x. not (x == 10)) (c ∷ line)) h in
     let i = both (not (c == 10)) (list_all (λ x. not (x == 10)) line) j.1 in
     at_byte b (c ∷ (line ++ 13 ∷ 10 ∷ rest)) (not_true (b == 10) j.0) (and_false (b == 13) (c == 10) (not_true (c == 10) i.0))
-      ∙ ap (on_first_line b) (return_computed (c ∷ line) rest j.1)
+    ∙ ap (on_first_line b) (return_computed (c ∷ line) rest j.1)
 
 last_whole : (line : List ℕ) → line ≢ [] → IsOneLine line → lines_of line ≡ line ∷ []
 last_whole [] n h = absurd (n refl)
@@ -153,15 +153,15 @@ lines_related (b ∷ bs) =
     elim (tested (b == 10)) [
       | inl j ↦
           subst (AreLines (b ∷ bs)) (sym (take_then (b == 10) _ _ j))
-            (feed {line = []} {rest = bs} refl no_empty_return (ap (λ (x : ℕ). x ∷ bs) (eqb-true b 10 j)) ih)
+          (feed {line = []} {rest = bs} refl no_empty_return (ap (λ (x : ℕ). x ∷ bs) (eqb-true b 10 j)) ih)
       | inr j ↦
           elim (tested (b == 13 && begins_with_lf bs)) [
             | inl k ↦
                 let i = both (b == 13) (begins_with_lf bs) k in
                 subst (AreLines (b ∷ bs)) (sym (take_else (b == 10) _ _ j ∙ take_then (b == 13 && begins_with_lf bs) _ _ k))
-                  (subst (λ (x : ℕ). AreLines (x ∷ bs) (lines_of bs)) (sym (eqb-true b 13 i.0)) (returned ih i.1))
+                (subst (λ (x : ℕ). AreLines (x ∷ bs) (lines_of bs)) (sym (eqb-true b 13 i.0)) (returned ih i.1))
             | inr k ↦
                 subst (AreLines (b ∷ bs)) (sym (take_else (b == 10) _ _ j ∙ take_else (b == 13 && begins_with_lf bs) _ _ k))
-                  (grown b ih (eqb-false b 10 j) k)
+                (grown b ih (eqb-false b 10 j) k)
           ]
     ]

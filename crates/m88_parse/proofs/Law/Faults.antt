@@ -1,21 +1,19 @@
 -- The law of faults: the fault that is read is the source's first one, and there is no other.
-use Rattle.std.proofs.Common.{◌≡◌, ◌≢◌, ℕ, zero, suc, ◌+◌, Bool, true, false, List, [], ◌∷◌, ◌++◌, Option, Some, None, Ok, Err, Result, refl, sym, ap, ap₂, ◌∙◌, arith, subst, subst₂, inl, inr, ◌⊎◌, IfErr}
+use Rattle.std.proofs.Common.{◌≡◌, ℕ, ◌+◌, List, [], ◌∷◌, Option, Ok, Err, Result, refl, sym, ap, ◌∙◌, subst, inl, inr, ◌⊎◌, IfErr}
 use Rattle.m88_parse.specs.declared.fault.ParseFault.{ParseFault}
-use Rattle.m88_parse.specs.declared.fault.ParseKind.{ParseKind}
 use Rattle.m88_parse.specs.declared.unit.Unit.{Unit as Source}
 use Rattle.m88_parse.specs.declared.row.Row.{Row}
 use Rattle.m88_parse.specs.Fault.{Gives, out_of_memory}
 use Rattle.m88_parse.specs.Tokens.{Piece, pieces_of}
-use Rattle.m88_parse.specs.State.{State, ◌>>=◌}
+use Rattle.m88_parse.specs.State.{◌>>=◌}
 use Rattle.m88_parse.specs.Source.{lines_of, row_of_pieces, row_of, with_row, rows_of, unit_of_rows, unit_of}
-use Rattle.m88_parse.specs.Spelling.Tokens.{LineTokens}
-use Rattle.m88_parse.specs.Spelling.Units.{Said, LineSays, AreLines, IsUnit}
-use Rattle.m88_parse.specs.Spelling.Faults.{Breaks, FirstOf, uncut_line, unsaid_line, later_line, IsFirstFault}
-use Rattle.m88_parse.proofs.Law.Slots.{ok_same, bind_ok, bind_to}
+use Rattle.m88_parse.specs.Spelling.Units.{IsUnit}
+use Rattle.m88_parse.specs.Spelling.Faults.{FirstOf, uncut_line, unsaid_line, later_line, IsFirstFault}
+use Rattle.m88_parse.proofs.Law.Slots.{bind_to}
 use Rattle.m88_parse.proofs.Law.Tokens.{line_is_cut, line_is_read}
 use Rattle.m88_parse.proofs.Law.Ends.{lines_computed, lines_related}
 use Rattle.m88_parse.proofs.Law.Breaks.{breaks_read, Broken, line_breaks}
-use Rattle.m88_parse.proofs.Law.Units.{LineRow, line_row, row_again, read_is_related, related_is_read}
+use Rattle.m88_parse.proofs.Law.Units.{line_row, row_again, read_is_related, related_is_read}
 use Rattle.m88_parse.proofs.Law.Rows.{row_for}
 
 pub err_same : {A : Type 0} {a b : ParseFault} → ◌≡◌ {A = Result A ParseFault} (Err a) (Err b) → a ≡ b
@@ -72,7 +70,7 @@ first_read (unsaid_line {number = number} {line = line} {lines = lines} ps {faul
     bind_err (row_of number line) (Rest number lines) fault (bind_to (pieces_of number line) (λ (qs : List Piece). row_of_pieces number qs) ps (Err fault) (line_is_read number line ps t) h)
 first_read (later_line {number = number} {line = line} {lines = lines} ps said {fault = fault} t h g) =
     bind_to (row_of number line) (Rest number lines) (row_for number said) (Err fault) (row_again number line ps said t h)
-      (bind_err (rows_of (number + 1) lines) (λ (rs : List Row). let y : Result (List Row) ParseFault = Ok (with_row (row_for number said) rs) in y) fault (first_read g))
+    (bind_err (rows_of (number + 1) lines) (λ (rs : List Row). let y : Result (List Row) ParseFault = Ok (with_row (row_for number said) rs) in y) fault (first_read g))
 
 -- sources
 

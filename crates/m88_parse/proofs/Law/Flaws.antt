@@ -1,22 +1,21 @@
 -- The law of flaws: nothing can be cut off exactly where and for the reason that is related to the bytes.
-use Rattle.std.proofs.Common.{◌≡◌, ◌≢◌, ℕ, zero, suc, ◌+◌, ◌-◌, ◌<◌, ◌≤◌, Bool, true, false, cond, not, ◌&&◌, ◌||◌, ◌==◌, nat_lt, nat_le, ◌⊎◌, inl, inr, List, [], ◌∷◌, ◌++◌, length, take, drop, Option, Some, None, Ok, Err, refl, sym, ap, ap₂, ◌∙◌, arith, subst, subst₂, eqb-true, eq-eqb, ne_eqb, ltb-true, ltb-false, lt-ltb, le-ltb, Result, if◌then◌else◌, length-take, length-drop, length-append, one-add, take-append-drop, take_at, drop_at, append_assoc, true≢false, zero-le}
+use Rattle.std.proofs.Common.{◌≡◌, ◌≢◌, ℕ, ◌+◌, ◌<◌, ◌≤◌, Bool, true, false, not, ◌&&◌, ◌||◌, ◌==◌, nat_lt, ◌⊎◌, inl, inr, List, [], ◌∷◌, ◌++◌, length, take, drop, Option, Some, None, Ok, Err, refl, sym, ap, ap₂, ◌∙◌, arith, subst, eqb-true, eq-eqb, ne_eqb, ltb-true, ltb-false, lt-ltb, le-ltb, Result, if◌then◌else◌, length-take, length-drop, length-append, one-add, take-append-drop, true≢false}
 use Rattle.std.specs.List.{list_all, prefix_len}
 use Rattle.std.specs.Char.{is_ascii_digit}
 use Rattle.std.specs.Str.Parse.{digits_value}
-use Rattle.std.proofs.Math.Seq.{take-append_seam, drop-append_seam}
 use Rattle.std.proofs.lemmas.List.Sums.{prefix_len-le-length}
 use Rattle.std.proofs.lemmas.Bool.{eqb-false}
 use Rattle.std.proofs.lemmas.Bool.Decides.{nat_tests}
 use Rattle.m88_parse.specs.declared.fault.ParseKind.{ParseKind}
 use Rattle.m88_parse.specs.declared.fault.ParseKind.TheVariants.{NotAscii, Syntax, OutOfRange}
 use Rattle.m88_parse.specs.declared.scan.Flaw.{Flaw}
-use Rattle.m88_parse.specs.Tokens.{is_blank, is_comment, is_plain, is_word, is_mark, is_hexadecimal, is_decimal, bounded, closes, begins_escape, inside_len, Cut, gap, cut, flaw, token_or_flaw, name_front, number_front, quoted_meaning, quoted, word_front, front, numeral, Meaning, a_name, a_number, a_text, a_mark, are_digits}
-use Rattle.m88_parse.specs.Spelling.Tokens.{IsRun, EndsRun, IsDecimal, IsHexadecimal, IsNumeral, IsToken}
+use Rattle.m88_parse.specs.Tokens.{is_blank, is_comment, is_plain, is_word, is_mark, is_hexadecimal, is_decimal, bounded, inside_len, Cut, cut, flaw, token_or_flaw, name_front, number_front, quoted_meaning, quoted, word_front, front, numeral, Meaning, a_name}
+use Rattle.m88_parse.specs.Spelling.Tokens.{IsRun, EndsRun, IsNumeral, IsToken}
 use Rattle.m88_parse.specs.Spelling.Faults.{Takes, line_ends, quote_closes, byte_taken, pair_taken, last_taken, IsQuote, BeginsWithDigit, IsStray, IsFlaw, foreign_byte, foreign_in_quotes, no_quoted_token, long_name, no_number, large_number, stray_byte}
-use Rattle.m88_parse.proofs.Law.Steps.{both, either, neither, chosen, tested, not_true, not_false, take_then, take_else, Stops, prefix_all, all_of_prefix, stops_prefix, prefix_whole, whole_prefix}
-use Rattle.m88_parse.proofs.Law.Numbers.{read_decimal, hexadecimal_is, decimal_is, is_decimal_again, is_hexadecimal_again, number_is, number_again, bounded_above, at_decimal, at_hexadecimal}
+use Rattle.m88_parse.proofs.Law.Steps.{both, chosen, tested, not_true, not_false, take_then, take_else, Stops, prefix_all, all_of_prefix, stops_prefix, prefix_whole, whole_prefix}
+use Rattle.m88_parse.proofs.Law.Numbers.{read_decimal, hexadecimal_is, decimal_is, is_decimal_again, is_hexadecimal_again, number_is, bounded_above, at_decimal, at_hexadecimal}
 use Rattle.m88_parse.proofs.Law.Quotes.{inside_fits, inside_again, closed_by, not_lone}
-use Rattle.m88_parse.proofs.Law.Fronts.{front_again, front_run, Makes, makes_text, makes_character, decimal_run, hexadecimal_run, decimal_first, run_at, front_double, front_single, between, is_quote}
+use Rattle.m88_parse.proofs.Law.Fronts.{front_again, front_run, Makes, makes_text, makes_character, decimal_first, run_at, front_double, front_single, between, is_quote}
 
 flaw_same : {a b : Flaw} → ◌≡◌ {A = Result Cut Flaw} (Err a) (Err b) → a ≡ b
 flaw_same h = cc
@@ -109,16 +108,16 @@ takes_flag q false (b ∷ bs) =
     elim (tested (b == q)) [
       | inl e ↦
           subst (λ (n : ℕ). Takes q (b ∷ bs) (take n (b ∷ bs))) (sym (take_then (b == q) 0 (1 + inside_len q (b == 92) bs) e))
-            (subst (λ (x : ℕ). Takes q (x ∷ bs) []) (sym (eqb-true b q e)) quote_closes)
+          (subst (λ (x : ℕ). Takes q (x ∷ bs) []) (sym (eqb-true b q e)) quote_closes)
       | inr e ↦
           subst (λ (n : ℕ). Takes q (b ∷ bs) (take n (b ∷ bs))) (sym (take_else (b == q) 0 (1 + inside_len q (b == 92) bs) e ∙ one-add (inside_len q (b == 92) bs)))
-            (elim (tested (b == 92)) [
-              | inl k ↦
-                  subst (λ (t : Bool). Takes q (b ∷ bs) (b ∷ take (inside_len q t bs) bs)) (sym k)
-                    (subst (λ (x : ℕ). Takes q (x ∷ bs) (x ∷ take (inside_len q true bs) bs)) (sym (eqb-true b 92 k)) (takes_flag q true bs))
-              | inr k ↦
-                  subst (λ (t : Bool). Takes q (b ∷ bs) (b ∷ take (inside_len q t bs) bs)) (sym k) (byte_taken (eqb-false b q e) (eqb-false b 92 k) (takes_flag q false bs))
-            ])
+          (elim (tested (b == 92)) [
+            | inl k ↦
+                subst (λ (t : Bool). Takes q (b ∷ bs) (b ∷ take (inside_len q t bs) bs)) (sym k)
+                (subst (λ (x : ℕ). Takes q (x ∷ bs) (x ∷ take (inside_len q true bs) bs)) (sym (eqb-true b 92 k)) (takes_flag q true bs))
+            | inr k ↦
+                subst (λ (t : Bool). Takes q (b ∷ bs) (b ∷ take (inside_len q t bs) bs)) (sym k) (byte_taken (eqb-false b q e) (eqb-false b 92 k) (takes_flag q false bs))
+          ])
     ]
 
 -- related: nothing is cut off
@@ -160,11 +159,11 @@ front_stray b bs h =
     let d = h.no_quote in
     let q : (b == 34 || b == 39) ≡ false = no_quote_byte b d in
     take_else (is_comment b) _ _ h.no_comment
-      ∙ take_else (is_blank b) _ _ h.no_blank
-      ∙ take_else (not (is_plain b)) _ _ (ap not h.valid)
-      ∙ take_else (is_word b) _ _ h.no_word
-      ∙ take_else (is_mark b) _ _ h.no_mark
-      ∙ take_else (b == 34 || b == 39) _ _ q
+    ∙ take_else (is_blank b) _ _ h.no_blank
+    ∙ take_else (not (is_plain b)) _ _ (ap not h.valid)
+    ∙ take_else (is_word b) _ _ h.no_word
+    ∙ take_else (is_mark b) _ _ h.no_mark
+    ∙ take_else (b == 34 || b == 39) _ _ q
   where
     no_quote_byte : (b : ℕ) → (IsQuote b → ⊥) → (b == 34 || b == 39) ≡ false
     no_quote_byte b d = elim (tested (b == 34 || b == 39)) [ inl e ↦ absurd (d (is_quote b e)) | inr e ↦ e ]
@@ -197,9 +196,9 @@ foreign_again q bs before b after i t h k =
     let p = foreign_len before b after h k in
     let l : prefix_len is_plain inside < length inside = omega (arith, p, length-append before (b ∷ after)) in
     front_quote q bs i
-      ∙ quoted_at q bs inside (opens q i) t
-      ∙ take_then (nat_lt (prefix_len is_plain inside) (length inside)) _ _ (lt-ltb (prefix_len is_plain inside) (length inside) l)
-      ∙ ap (λ (n : ℕ). flaw NotAscii (n + 1)) p
+    ∙ quoted_at q bs inside (opens q i) t
+    ∙ take_then (nat_lt (prefix_len is_plain inside) (length inside)) _ _ (lt-ltb (prefix_len is_plain inside) (length inside) l)
+    ∙ ap (λ (n : ℕ). flaw NotAscii (n + 1)) p
 
 no_token_made : (q : ℕ) (bs inside : List ℕ) → IsQuote q → Takes q bs inside → list_all is_plain inside ≡ true
     → ((m : Meaning) (rest : List ℕ) → bs ≡ inside ++ q ∷ rest → IsToken (q ∷ inside ++ q ∷ []) m → ⊥)
@@ -228,9 +227,9 @@ unquoted_again : (q : ℕ) (bs inside : List ℕ) → IsQuote q → Takes q bs i
 unquoted_again q bs inside i t p h =
     let w = prefix_whole is_plain inside p in
     front_quote q bs i
-      ∙ quoted_at q bs inside (opens q i) t
-      ∙ take_else (nat_lt (prefix_len is_plain inside) (length inside)) _ _ (le-ltb (prefix_len is_plain inside) (length inside) (omega (arith, w)))
-      ∙ ap (token_or_flaw (length inside + 2)) (no_token_made q bs inside i t p h)
+    ∙ quoted_at q bs inside (opens q i) t
+    ∙ take_else (nat_lt (prefix_len is_plain inside) (length inside)) _ _ (le-ltb (prefix_len is_plain inside) (length inside) (omega (arith, w)))
+    ∙ ap (token_or_flaw (length inside + 2)) (no_token_made q bs inside i t p h)
 
 pub flaw_again : (bytes : List ℕ) (at : ℕ) (kind : ParseKind) → IsFlaw bytes at kind → front bytes ≡ flaw kind at
 flaw_again bytes at kind (foreign_byte {b = b} {bs = bs} h) = front_plain b bs (foreign_no_comment b h) (foreign_no_blank b h) h
@@ -314,7 +313,7 @@ quoted_flawed q bs f i h =
           let before = take (prefix_len is_plain inside) inside in
           let l : length before ≡ prefix_len is_plain inside = omega (arith, length-take (prefix_len is_plain inside) inside, prefix_len-le-length is_plain inside) in
           subst (Flawed (q ∷ bs)) (ap (λ (n : ℕ). let x : Flaw = record { at = n + 1; kind = NotAscii } in x) l ∙ flaw_same j.1)
-            (foreign_in_quotes before s.0 s.1 i (subst (Takes q bs) s.2 t) (all_of_prefix is_plain inside) s.3)
+          (foreign_in_quotes before s.0 s.1 i (subst (Takes q bs) s.2 t) (all_of_prefix is_plain inside) s.3)
       | inr j ↦
           let plain : list_all is_plain inside ≡ true = whole_prefix is_plain inside (omega (arith, prefix_len-le-length is_plain inside, ltb-false (prefix_len is_plain inside) (length inside) j.0)) in
           let e = no_meaning (length inside + 2) (if length inside == length bs then None else quoted_meaning q inside) f j.1 in
@@ -325,7 +324,7 @@ quoted_flawed q bs f i h =
     cuts inside rest m b x =
         let no_run : IsRun (q ∷ inside ++ q ∷ []) → EndsRun rest = λ (r : IsRun (q ∷ inside ++ q ∷ [])). absurd (true≢false (sym (both (is_word q) (list_all is_word (inside ++ q ∷ [])) r).0 ∙ quote_no_word q i)) in
         let c : front (q ∷ bs) ≡ cut (length (q ∷ inside ++ q ∷ [])) m =
-          ap front (ap (λ (xs : List ℕ). q ∷ xs) b ∙ sym (between q inside rest)) ∙ front_again (q ∷ inside ++ q ∷ []) rest m x no_run in
+        ap front (ap (λ (xs : List ℕ). q ∷ xs) b ∙ sym (between q inside rest)) ∙ front_again (q ∷ inside ++ q ∷ []) rest m x no_run in
         let e : ◌≡◌ {A = Result Cut Flaw} (Err f) (cut (length (q ∷ inside ++ q ∷ [])) m) = sym h ∙ sym (front_quote q bs i) ∙ c in
         cc
 

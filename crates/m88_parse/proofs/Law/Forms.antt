@@ -1,5 +1,5 @@
 -- The law of instructions: the operands of each form are read as the instruction that they are related to.
-use Rattle.std.proofs.Common.{◌≡◌, ℕ, suc, ◌+◌, ◌<◌, ◌≤◌, ◌^◌, ℤ, pos, Bool, true, false, List, [], ◌∷◌, ◌++◌, Option, Some, None, Ok, Err, Result, refl, sym, ap, ap₂, ◌∙◌, arith, subst, append-nil}
+use Rattle.std.proofs.Common.{◌≡◌, ℕ, ◌<◌, ◌^◌, Bool, true, false, List, [], ◌∷◌, ◌++◌, Option, None, Ok, Result, refl, sym, ap, ◌∙◌, arith, subst, append-nil}
 use Rattle.m88_base.specs.declared.reg.Reg.{Reg}
 use Rattle.m88_base.specs.declared.fixup.Kind.{Kind}
 use Rattle.m88_base.specs.declared.fixup.Kind.TheVariants.{Pc26, Pc16}
@@ -28,16 +28,16 @@ use Rattle.m88_parse.specs.declared.shape.Shape.{Shape}
 use Rattle.m88_parse.specs.declared.shape.Shape.TheVariants as shape
 use Rattle.m88_parse.specs.Tokens.{Piece}
 use Rattle.m88_parse.specs.State.{State, ◌>>=◌}
-use Rattle.m88_parse.specs.Slots.{Read, mark_at, end_at, number_at, register_at, control_at, bit_at, mask_at}
+use Rattle.m88_parse.specs.Slots.{mark_at, end_at, number_at, register_at, control_at, bit_at, mask_at}
 use Rattle.m88_parse.specs.Operands.{immediate_at, operand_at, bound_at, scaled_at, index_at, user_index_at, field_at, goal_at}
-use Rattle.m88_parse.specs.Grammar.{Form, ends, mark_then, register_then, control_then, bit_then, mask_then, number_then, immediate_then, operand_then, bound_then, scaled_then, index_then, user_index_then, field_then, goal_then, read, comma, plain, two_registers, either_body, memory_body, bits_body, bounds_body, widest, form_of}
-use Rattle.m88_parse.specs.Spelling.Names.{IsMark, IsComma, IsNumber, IsRegister, IsControl, IsBit, IsCondition}
-use Rattle.m88_parse.specs.Spelling.Operands.{Behind, IsImmediate, IsScaled, IsLast, most_width, IsLiteral, IsGoal, AreOperands, either_immediate, either_register, immediate, registers, offset, index as plain_index, scaled, user_index, user_scaled, address, literal, field as register_field, find, branch, branch_bit, branch_condition, jump, trap_bit, trap_condition, bound_number, bound_register, return, load, store, exchange}
-use Rattle.m88_parse.proofs.Law.Slots.{st, ok_same, bind_ok, bind_to, One, OneMark, mark_read, mark_again, end_read, IsUpTo, number_read, number_slot_again, register_read, register_again, control_read, control_slot_again, bit_read, bit_again, mask_read, mask_again}
+use Rattle.m88_parse.specs.Grammar.{Form, ends, register_then, control_then, bit_then, mask_then, number_then, immediate_then, operand_then, bound_then, scaled_then, index_then, user_index_then, field_then, goal_then, read, comma, plain, either_body, memory_body, bits_body, bounds_body, widest, form_of}
+use Rattle.m88_parse.specs.Spelling.Names.{IsComma, IsNumber, IsRegister, IsControl, IsBit, IsCondition}
+use Rattle.m88_parse.specs.Spelling.Operands.{Behind, IsScaled, IsLast, most_width, IsLiteral, IsGoal, AreOperands, either_immediate, either_register, immediate, registers, offset, index as plain_index, scaled, user_index, user_scaled, address, literal, field as register_field, find, branch, branch_bit, branch_condition, jump, trap_bit, trap_condition, bound_number, bound_register, return, load, store, exchange}
+use Rattle.m88_parse.proofs.Law.Slots.{st, ok_same, bind_ok, bind_to, One, mark_read, mark_again, end_read, IsUpTo, number_read, register_read, register_again, control_read, bit_read, mask_read}
 use Rattle.m88_parse.proofs.Law.Values.{Several}
-use Rattle.m88_parse.proofs.Law.Operands.{IsImmediateOf, immediate_read, immediate_again, IsOperandOf, operand_read, operand_register_again, operand_immediate_again, IsBoundOf, bound_read, bound_register_again, bound_number_again}
-use Rattle.m88_parse.proofs.Law.Indices.{scaled_read, scaled_again, IsIndexOf, index_read, index_scaled_again, index_offset_again, UserIndex, IsUserIndexOf, user_index_read, user_scaled_again, user_plain_again, IsFieldOf, field_read, field_register_again, field_literal_again}
-use Rattle.m88_parse.proofs.Law.Goals.{IsGoalOf, goal_read, goal_again}
+use Rattle.m88_parse.proofs.Law.Operands.{IsImmediateOf, immediate_read, IsOperandOf, operand_read, IsBoundOf, bound_read}
+use Rattle.m88_parse.proofs.Law.Indices.{scaled_read, IsIndexOf, index_read, UserIndex, IsUserIndexOf, user_index_read, IsFieldOf, field_read}
+use Rattle.m88_parse.proofs.Law.Goals.{IsGoalOf, goal_read}
 
 -- the end of a form
 
@@ -76,16 +76,19 @@ behind_read form line e ps c h =
     let b = bind_ok (register_at (st line e ps)) (λ (x : Reg × State). read (comma (form x.0)) x.1) c h in
     let r = register_read line e ps b.0 b.1 in
     let d = bind_ok (mark_at 44 b.0.1) (λ (t : State). read (form b.0.0) t) c b.2 in
-    let m = mark_read 44 line e r.rest d.0 (ap (mark_at 44) (sym r.after) ∙ d.1) in
-    (b.0.0, m.rest, record { operand = r.piece; comma = m.piece; tokens = r.tokens ∙ ap (λ (qs : List Piece). r.piece ∷ qs) m.tokens; register = r.is; parted = m.is },
-      ap (read (form b.0.0)) (sym m.after) ∙ d.2)
+    let m = mark_read 44 line e r.rest d.0 (ap (mark_at 44) (sym r.after) ∙ d.1) in (
+      b.0.0,
+      m.rest,
+      record { operand = r.piece; comma = m.piece; tokens = r.tokens ∙ ap (λ (qs : List Piece). r.piece ∷ qs) m.tokens; register = r.is; parted = m.is },
+      ap (read (form b.0.0)) (sym m.after) ∙ d.2,
+    )
 
 pub behind_again : (form : Reg → Form) (line e : ℕ) (ps rest : List Piece) (d : Reg) (z : Result Body ParseFault) → Behind d ps rest → read (form d) (st line e rest) ≡ z → read (register_then (λ d. comma (form d))) (st line e ps) ≡ z
 unfolding read
 behind_again form line e ps rest d z w h =
     ap (λ (qs : List Piece). register_at (st line e qs) >>= λ (x : Reg × State). read (comma (form x.0)) x.1) w.tokens
-      ∙ bind_to (register_at (st line e (w.operand ∷ w.comma ∷ rest))) (λ (x : Reg × State). read (comma (form x.0)) x.1) (d, st line e (w.comma ∷ rest)) z (register_again line e d w.operand (w.comma ∷ rest) w.register)
-          (bind_to (mark_at 44 (st line e (w.comma ∷ rest))) (λ (t : State). read (form d) t) (st line e rest) z (mark_again 44 line e w.comma rest w.parted) h)
+    ∙ bind_to (register_at (st line e (w.operand ∷ w.comma ∷ rest))) (λ (x : Reg × State). read (comma (form x.0)) x.1) (d, st line e (w.comma ∷ rest)) z (register_again line e d w.operand (w.comma ∷ rest) w.register)
+    (bind_to (mark_at 44 (st line e (w.comma ∷ rest))) (λ (t : State). read (form d) t) (st line e rest) z (mark_again 44 line e w.comma rest w.parted) h)
 
 -- one register
 
@@ -151,10 +154,10 @@ memory_coded : (op : MemOp) (d s1 : Reg) (ps qs : List Piece) (p : Piece) (rest 
 memory_coded op d s1 ps qs p rest (index.Scaled s2) b u t r h k = coded (shape.Memory op) ps b (instr.MemReg op d s1 s2 true false) None (scaled (subst (Behind d ps) t u) r h) k
 memory_coded op d s1 ps qs p rest (index.Offset (operand.Register s2)) b u t r h k =
     coded (shape.Memory op) ps b (instr.MemReg op d s1 s2 false false) None
-      (plain_index u (record { operand = p; comma = h.0; tokens = t ∙ ap (λ (xs : List Piece). p ∷ xs) h.2; register = r; parted = h.3 }) h.4) k
+    (plain_index u (record { operand = p; comma = h.0; tokens = t ∙ ap (λ (xs : List Piece). p ∷ xs) h.2; register = r; parted = h.3 }) h.4) k
 memory_coded op d s1 ps qs p rest (index.Offset (operand.Immediate x)) b u t r h k =
     coded (shape.Memory op) ps b (instr.MemImm op d s1 x.imm) x.fixup
-      (offset u (record { operand = p; comma = h.0; tokens = t ∙ ap (λ (xs : List Piece). p ∷ xs) h.2; register = r; parted = h.3 }) h.4) k
+    (offset u (record { operand = p; comma = h.0; tokens = t ∙ ap (λ (xs : List Piece). p ∷ xs) h.2; register = r; parted = h.3 }) h.4) k
 
 memory_read : (op : MemOp) (line e : ℕ) (ps : List Piece) (b : Body) → read (form_of (shape.Memory op)) (st line e ps) ≡ Ok b → Coded (shape.Memory op) ps b
 unfolding form_of read
@@ -170,7 +173,7 @@ user_coded : (op : MemOp) (d s1 s2 : Reg) (t : Bool) (ps qs : List Piece) (p : P
 user_coded op d s1 s2 true ps qs p rest b u t r h k = coded (shape.UserMemory op) ps b (instr.MemReg op d s1 s2 true true) None (user_scaled (subst (Behind d ps) t u) r h) k
 user_coded op d s1 s2 false ps qs p rest b u t r h k =
     coded (shape.UserMemory op) ps b (instr.MemReg op d s1 s2 false true) None
-      (user_index u (record { operand = p; comma = h.0; tokens = t ∙ ap (λ (xs : List Piece). p ∷ xs) h.2; register = r; parted = h.3 }) h.4) k
+    (user_index u (record { operand = p; comma = h.0; tokens = t ∙ ap (λ (xs : List Piece). p ∷ xs) h.2; register = r; parted = h.3 }) h.4) k
 
 user_read : (op : MemOp) (line e : ℕ) (ps : List Piece) (b : Body) → read (form_of (shape.UserMemory op)) (st line e ps) ≡ Ok b → Coded (shape.UserMemory op) ps b
 unfolding form_of read
@@ -261,7 +264,7 @@ first_read A Is line e ps next c x o h =
       tokens = o.tokens ∙ ap (λ (qs : List Piece). o.piece ∷ qs) m.tokens;
       is = o.is;
       parted = m.is;
-      goes_on = ap (read (next x.0)) (sym m.after) ∙ d.2
+      goes_on = ap (read (next x.0)) (sym m.after) ∙ d.2;
     }
 
 bit_first : (line e : ℕ) (ps : List Piece) (next : ℕ → Form) (c : Body) → read (bit_then (λ b. comma (next b))) (st line e ps) ≡ Ok c → First ℕ IsBit line e ps next c
@@ -286,7 +289,7 @@ branch_bit_read on delayed line e ps b h =
     let v = behind_read (λ s1. goal_then Pc16 32768 (λ g. ends (body.Code (instr.BranchBit on delayed f.value s1 g.words) g.fixup))) line e f.rest b f.goes_on in
     let g = goal_last Pc16 15 32768 line e v.1 (λ g. body.Code (instr.BranchBit on delayed f.value v.0 g.words) g.fixup) b refl (omega arith) v.3 in
     at_tokens (shape.BranchBit on delayed) ps (f.piece ∷ f.comma ∷ f.rest) b f.tokens
-      (coded (shape.BranchBit on delayed) (f.piece ∷ f.comma ∷ f.rest) b (instr.BranchBit on delayed f.value v.0 g.0.words) g.0.fixup (branch_bit f.is f.parted v.2 g.1) g.2)
+    (coded (shape.BranchBit on delayed) (f.piece ∷ f.comma ∷ f.rest) b (instr.BranchBit on delayed f.value v.0 g.0.words) g.0.fixup (branch_bit f.is f.parted v.2 g.1) g.2)
 
 branch_cond_read : (delayed : Bool) (line e : ℕ) (ps : List Piece) (b : Body) → read (form_of (shape.BranchCond delayed)) (st line e ps) ≡ Ok b → Coded (shape.BranchCond delayed) ps b
 unfolding form_of
@@ -295,7 +298,7 @@ branch_cond_read delayed line e ps b h =
     let v = behind_read (λ s1. goal_then Pc16 32768 (λ g. ends (body.Code (instr.BranchCond delayed f.value s1 g.words) g.fixup))) line e f.rest b f.goes_on in
     let g = goal_last Pc16 15 32768 line e v.1 (λ g. body.Code (instr.BranchCond delayed f.value v.0 g.words) g.fixup) b refl (omega arith) v.3 in
     at_tokens (shape.BranchCond delayed) ps (f.piece ∷ f.comma ∷ f.rest) b f.tokens
-      (coded (shape.BranchCond delayed) (f.piece ∷ f.comma ∷ f.rest) b (instr.BranchCond delayed f.value v.0 g.0.words) g.0.fixup (branch_condition f.is f.parted v.2 g.1) g.2)
+    (coded (shape.BranchCond delayed) (f.piece ∷ f.comma ∷ f.rest) b (instr.BranchCond delayed f.value v.0 g.0.words) g.0.fixup (branch_condition f.is f.parted v.2 g.1) g.2)
 
 jump_read : (link delayed : Bool) (line e : ℕ) (ps : List Piece) (b : Body) → read (form_of (shape.Jump link delayed)) (st line e ps) ≡ Ok b → Coded (shape.Jump link delayed) ps b
 unfolding form_of
@@ -322,7 +325,7 @@ trap_bit_read on line e ps b h =
     let v = behind_read (λ s1. number_then 511 (λ v. plain (instr.TrapBit on f.value s1 v))) line e f.rest b f.goes_on in
     let n = vector_last line e v.1 (λ n. instr.TrapBit on f.value v.0 n) b v.3 in
     at_tokens (shape.TrapBit on) ps (f.piece ∷ f.comma ∷ f.rest) b f.tokens
-      (coded (shape.TrapBit on) (f.piece ∷ f.comma ∷ f.rest) b (instr.TrapBit on f.value v.0 n.0) None (trap_bit f.is f.parted (subst (Behind v.0 f.rest) n.2 v.2) n.3 n.4) n.5)
+    (coded (shape.TrapBit on) (f.piece ∷ f.comma ∷ f.rest) b (instr.TrapBit on f.value v.0 n.0) None (trap_bit f.is f.parted (subst (Behind v.0 f.rest) n.2 v.2) n.3 n.4) n.5)
 
 trap_cond_read : (line e : ℕ) (ps : List Piece) (b : Body) → read (form_of shape.TrapCond) (st line e ps) ≡ Ok b → Coded shape.TrapCond ps b
 unfolding form_of
@@ -331,7 +334,7 @@ trap_cond_read line e ps b h =
     let v = behind_read (λ s1. number_then 511 (λ v. plain (instr.TrapCond f.value s1 v))) line e f.rest b f.goes_on in
     let n = vector_last line e v.1 (λ n. instr.TrapCond f.value v.0 n) b v.3 in
     at_tokens shape.TrapCond ps (f.piece ∷ f.comma ∷ f.rest) b f.tokens
-      (coded shape.TrapCond (f.piece ∷ f.comma ∷ f.rest) b (instr.TrapCond f.value v.0 n.0) None (trap_condition f.is f.parted (subst (Behind v.0 f.rest) n.2 v.2) n.3 n.4) n.5)
+    (coded shape.TrapCond (f.piece ∷ f.comma ∷ f.rest) b (instr.TrapCond f.value v.0 n.0) None (trap_condition f.is f.parted (subst (Behind v.0 f.rest) n.2 v.2) n.3 n.4) n.5)
 
 bounds_coded : (s1 : Reg) (ps rest : List Piece) (p : Piece) (x : Bound) (b : Body) → Behind s1 ps rest → rest ≡ p ∷ [] → IsBoundOf x p → bounds_body s1 x ≡ b → Coded shape.Bounds ps b
 bounds_coded s1 ps rest p (bound.Register s2) b u t h k = coded shape.Bounds ps b (instr.BoundReg s1 s2) None (bound_register (subst (Behind s1 ps) t u) h) k

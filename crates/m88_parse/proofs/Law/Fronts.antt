@@ -1,8 +1,8 @@
 -- The law of the front of a line's rest: what is cut off is a gap, a comment or a token, and the other way round.
-use Rattle.std.proofs.Common.{◌≡◌, ◌≢◌, ℕ, zero, suc, ◌+◌, ◌-◌, ◌<◌, ◌≤◌, Bool, true, false, cond, not, ◌&&◌, ◌||◌, ◌==◌, nat_lt, nat_le, ◌⊎◌, inl, inr, List, [], ◌∷◌, ◌++◌, length, take, drop, Option, Some, None, Ok, Err, refl, sym, ap, ap₂, ◌∙◌, arith, subst, subst₂, take_at, drop_at, eqb-true, eq-eqb, ne_eqb, ltb-true, ltb-false, lt-ltb, le-ltb, leb-true, le-leb, Result, if◌then◌else◌, length-take, length-append, one-add, take-append-drop, append_assoc, true≢false}
+use Rattle.std.proofs.Common.{◌≡◌, ◌≢◌, ℕ, suc, ◌+◌, ◌<◌, ◌≤◌, Bool, true, false, not, ◌&&◌, ◌||◌, ◌==◌, nat_lt, ◌⊎◌, inl, inr, List, [], ◌∷◌, ◌++◌, length, take, drop, Option, Some, None, Ok, Err, refl, sym, ap, ap₂, ◌∙◌, arith, subst, subst₂, take_at, drop_at, eqb-true, ne_eqb, ltb-false, le-ltb, Result, if◌then◌else◌, length-take, length-append, one-add, take-append-drop, append_assoc, true≢false}
 use Rattle.std.specs.List.{All, list_all, prefix_len}
 use Rattle.std.specs.Char.{is_ascii_digit, digit_value}
-use Rattle.std.proofs.Math.Seq.{take-append_seam, drop-append_seam}
+use Rattle.std.proofs.Math.Seq.{take-append_seam}
 use Rattle.std.proofs.lemmas.List.Sums.{prefix_len-le-length, list_all-from_AllPass, AllPass-from_list_all}
 use Rattle.std.proofs.lemmas.Bool.{eqb-false}
 use Rattle.std.proofs.lemmas.Bool.Decides.{nat_tests}
@@ -10,9 +10,9 @@ use Rattle.m88_base.specs.Name.{IsName, begins_name, continues_name}
 use Rattle.m88_parse.specs.declared.fault.ParseKind.{ParseKind}
 use Rattle.m88_parse.specs.declared.fault.ParseKind.TheVariants.{NotAscii, Syntax, OutOfRange}
 use Rattle.m88_parse.specs.declared.scan.Flaw.{Flaw}
-use Rattle.m88_parse.specs.Tokens.{is_blank, is_comment, is_plain, is_word, is_mark, inside_len, holds_escapes, text_bytes, character, Cut, gap, cut, flaw, token_or_flaw, name_front, number_front, number_of, quoted_meaning, quoted, word_front, front, numeral, Meaning, a_name, a_number, a_text, a_mark, begins_escape, are_digits}
-use Rattle.m88_parse.specs.Spelling.Tokens.{IsRun, EndsRun, IsDecimal, IsHexadecimal, IsNumeral, Holds, IsQuoted, IsToken}
-use Rattle.m88_parse.proofs.Law.Steps.{both, either, chosen, tested, not_true, not_false, take_then, take_else, Stops, prefix_all, all_of_prefix, stops_prefix, prefix_whole, whole_prefix}
+use Rattle.m88_parse.specs.Tokens.{is_blank, is_comment, is_plain, is_word, is_mark, inside_len, holds_escapes, text_bytes, character, Cut, gap, cut, flaw, token_or_flaw, name_front, number_front, number_of, quoted_meaning, quoted, word_front, front, numeral, Meaning, a_name, a_number, a_text, a_mark, are_digits}
+use Rattle.m88_parse.specs.Spelling.Tokens.{IsRun, EndsRun, IsDecimal, IsNumeral, Holds, IsToken}
+use Rattle.m88_parse.proofs.Law.Steps.{both, either, chosen, take_then, take_else, Stops, prefix_all, all_of_prefix, stops_prefix, prefix_whole, whole_prefix}
 use Rattle.m88_parse.proofs.Law.Numbers.{number_is, number_again}
 use Rattle.m88_parse.proofs.Law.Quotes.{holds_len, inside_fits, inside_again, closed_by, not_lone, holds_plain, holds_again, bytes_again, character_again, text_is, character_is}
 
@@ -56,19 +56,19 @@ front_word : (b : ℕ) (bs : List ℕ) → is_word b ≡ true → front (b ∷ b
 unfolding front
 front_word b bs h =
     take_else (is_comment b) _ _ (word_no_comment b h)
-      ∙ take_else (is_blank b) _ _ (word_no_blank b h)
-      ∙ take_else (not (is_plain b)) _ _ (ap not (word_plain b h))
-      ∙ take_then (is_word b) _ _ h
-      ∙ ap (word_front b) (run_at b bs h)
+    ∙ take_else (is_blank b) _ _ (word_no_blank b h)
+    ∙ take_else (not (is_plain b)) _ _ (ap not (word_plain b h))
+    ∙ take_then (is_word b) _ _ h
+    ∙ ap (word_front b) (run_at b bs h)
 
 front_mark : (b : ℕ) (bs : List ℕ) → is_mark b ≡ true → front (b ∷ bs) ≡ cut 1 (a_mark b)
 unfolding front
 front_mark b bs h =
     take_else (is_comment b) _ _ (mark_no_comment b h)
-      ∙ take_else (is_blank b) _ _ (mark_no_blank b h)
-      ∙ take_else (not (is_plain b)) _ _ (ap not (mark_plain b h))
-      ∙ take_else (is_word b) _ _ (mark_no_word b h)
-      ∙ take_then (is_mark b) _ _ h
+    ∙ take_else (is_blank b) _ _ (mark_no_blank b h)
+    ∙ take_else (not (is_plain b)) _ _ (ap not (mark_plain b h))
+    ∙ take_else (is_word b) _ _ (mark_no_word b h)
+    ∙ take_then (is_mark b) _ _ h
 
 pub front_double : (bs : List ℕ) → front (34 ∷ bs) ≡ quoted 34 bs
 unfolding front
@@ -98,8 +98,8 @@ quoted_again q m inside bytes rest k h e =
     let p : prefix_len is_plain inside ≡ length inside = prefix_whole is_plain inside (holds_plain q h) in
     let d : length inside ≢ length bs = λ (x : length inside ≡ length bs). omega (arith, length-append inside (q ∷ rest)) in
     ap₂ (λ (n : ℕ) (xs : List ℕ). quoted_by q (length bs) n xs) l t
-      ∙ take_else (nat_lt (prefix_len is_plain inside) (length inside)) _ _ (le-ltb (prefix_len is_plain inside) (length inside) (omega (arith, p)))
-      ∙ ap (token_or_flaw (length inside + 2)) (take_else (length inside == length bs) _ _ (ne_eqb (length inside) (length bs) d) ∙ e)
+    ∙ take_else (nat_lt (prefix_len is_plain inside) (length inside)) _ _ (le-ltb (prefix_len is_plain inside) (length inside) (omega (arith, p)))
+    ∙ ap (token_or_flaw (length inside + 2)) (take_else (length inside == length bs) _ _ (ne_eqb (length inside) (length bs) d) ∙ e)
 
 all_as : (p q : ℕ → Bool) → ((b : ℕ) → p b ≡ true → q b ≡ true) → (xs : List ℕ) → list_all p xs ≡ true → list_all q xs ≡ true
 all_as p q f [] h = refl
@@ -149,15 +149,15 @@ name_again (b ∷ t) rest h k =
     let r : IsRun (b ∷ t) = ap (λ (u : Bool). u && list_all is_word t) (begin_word b h.0) ∙ all_as continues_name is_word continue_word t (all_here continues_name t h.1) in
     let l = h.2 in
     front_run b t rest r (k r)
-      ∙ take_else (is_ascii_digit b) _ _ (begin_no_digit b h.0)
-      ∙ take_else (nat_lt 64 (length (b ∷ t))) _ _ (le-ltb 64 (length (b ∷ t)) (omega (arith, l)))
+    ∙ take_else (is_ascii_digit b) _ _ (begin_no_digit b h.0)
+    ∙ take_else (nat_lt 64 (length (b ∷ t))) _ _ (le-ltb 64 (length (b ∷ t)) (omega (arith, l)))
 
 number_run : (text rest : List ℕ) (n : ℕ) → 0 < length text → IsRun text → EndsRun rest → list_all is_ascii_digit (take 1 text) ≡ true → numeral text ≡ Ok n → front (text ++ rest) ≡ cut (length text) (a_number n)
 number_run [] rest n s h k d e = absurd (omega arith)
 number_run (b ∷ t) rest n s h k d e =
     front_run b t rest h k
-      ∙ take_then (is_ascii_digit b) _ _ (both (is_ascii_digit b) true d).0
-      ∙ ap (number_front (length (b ∷ t))) e
+    ∙ take_then (is_ascii_digit b) _ _ (both (is_ascii_digit b) true d).0
+    ∙ ap (number_front (length (b ∷ t))) e
 
 -- decimal digits, and 0x with hexadecimal digits, are runs that begin with a digit
 pub decimal_run : (text : List ℕ) (n : ℕ) → IsDecimal text n → IsRun text
@@ -232,7 +232,7 @@ token_is bytes text rest m len e l s t k =
       token = subst (λ (bs : List ℕ). IsToken bs m) (sym f) t;
       longest = subst₂ (λ (x y : List ℕ). IsRun x → EndsRun y) (sym f) (sym g) k;
       some = s;
-      fits = omega (arith, l, ap length e, length-append text rest)
+      fits = omega (arith, l, ap length e, length-append text rest);
     }
 
 word_stands : (b : ℕ) (t rest : List ℕ) (c : Cut) → IsRun (b ∷ t) → EndsRun rest → word_front b (b ∷ t) ≡ Ok c → TokenAt (b ∷ (t ++ rest)) c
@@ -299,7 +299,7 @@ quoted_stands q bs c tokens w h =
       | inl j ↦ absurd cc
       | inr j ↦
           let plain : list_all is_plain inside ≡ true =
-            whole_prefix is_plain inside (omega (arith, size, prefix_len-le-length is_plain inside, ltb-false (prefix_len is_plain inside) len j.0)) in
+          whole_prefix is_plain inside (omega (arith, size, prefix_len-le-length is_plain inside, ltb-false (prefix_len is_plain inside) len j.0)) in
           quoted_closed q bs c tokens w size fits plain j.1
     ]
 
@@ -358,7 +358,7 @@ front_stands (b ∷ bs) c s h =
                             elim (chosen (is_mark b) _ _ _ l.1) [
                               | inl m ↦
                                   let t = token_is (b ∷ bs) (b ∷ []) bs (a_mark b) 1 refl refl (omega arith) (refl, m.0)
-                                    (λ (r : IsRun (b ∷ [])). absurd (true≢false (sym (both (is_word b) true r).0 ∙ l.0))) in
+                                  (λ (r : IsRun (b ∷ [])). absurd (true≢false (sym (both (is_word b) true r).0 ∙ l.0))) in
                                   token_stands (subst (TokenAt (b ∷ bs)) (ok_cut m.1) t)
                               | inr m ↦
                                   elim (chosen (b == 34 || b == 39) _ _ _ m.1) [

@@ -1,38 +1,20 @@
 -- The law of where branches go.
-use Rattle.std.proofs.Common.{◌≡◌, ◌≢◌, ℕ, zero, suc, ◌+◌, ◌-◌, ◌*◌, ◌/◌, ◌%◌, ◌^◌, ◌<◌, ◌≤◌, ℤ, pos, Bool, true, false, cond, not, ◌&&◌, ◌||◌, ◌==◌, nat_le, ◌⊎◌, inl, inr, List, [], ◌∷◌, ◌++◌, length, Option, Some, None, is_some, Ok, Err, Result, refl, sym, ap, ap₂, ◌∙◌, arith, subst, subst₂, eqb-true, eq-eqb, leb-true, le-leb, if◌then◌else◌, true≢false, append_assoc, append-nil, codes, bytes_eq}
-use Rattle.std.specs.Option.{option_map}
+use Rattle.std.proofs.Common.{◌≡◌, ℕ, ◌-◌, ◌*◌, ◌/◌, ◌%◌, ◌^◌, ◌<◌, ◌≤◌, ℤ, pos, true, false, ◌&&◌, ◌==◌, nat_le, ◌⊎◌, inl, inr, List, [], ◌∷◌, Option, Some, None, Ok, refl, sym, ap, ap₂, ◌∙◌, arith, subst, eqb-true, leb-true, le-leb, append-nil, codes}
 use Rattle.std.specs.Prelude.{neg_ℤ}
 use Rattle.std.proofs.lemmas.Slice.Eq.{bytes_eq-Decides}
-use Rattle.m88_base.specs.Reg.{reg_of}
-use Rattle.m88_base.specs.declared.reg.Reg.{Reg}
 use Rattle.m88_base.specs.declared.fixup.Kind.{Kind}
-use Rattle.m88_base.specs.declared.fixup.Kind.TheVariants.{Hi16, Lo16}
 use Rattle.m88_base.specs.declared.fixup.Fixup.{Fixup}
-use Rattle.m88_parse.specs.declared.fault.ParseFault.{ParseFault}
-use Rattle.m88_parse.specs.declared.fault.ParseKind.TheVariants.{Syntax, NoSuchName, OutOfRange}
-use Rattle.m88_parse.specs.declared.unit.Value.{Value}
-use Rattle.m88_parse.specs.declared.unit.Value.TheVariants.{Number, Symbol}
-use Rattle.m88_parse.specs.declared.operand.Immediate.{Immediate}
-use Rattle.m88_parse.specs.declared.operand.Operand.{Operand}
-use Rattle.m88_parse.specs.declared.operand.Operand.TheVariants as operand
-use Rattle.m88_parse.specs.declared.operand.Bound.{Bound}
-use Rattle.m88_parse.specs.declared.operand.Bound.TheVariants as bound
-use Rattle.m88_parse.specs.declared.operand.Index.{Index}
-use Rattle.m88_parse.specs.declared.operand.Index.TheVariants as index
-use Rattle.m88_parse.specs.declared.operand.Field.{Field}
-use Rattle.m88_parse.specs.declared.operand.Field.TheVariants as field
 use Rattle.m88_parse.specs.declared.operand.Goal.{Goal}
-use Rattle.m88_parse.specs.Names.{register_of, half_of, is_here}
 use Rattle.m88_parse.specs.Tokens.{Meaning, a_name, a_number, a_text, a_mark, Piece}
-use Rattle.m88_parse.specs.State.{State, says_first, first, second, place, past, trouble, is_mark_of, is_next, ◌>>=◌}
-use Rattle.m88_parse.specs.Slots.{Read, mark_at, number_at, register_at, fixup_at, value_at}
-use Rattle.m88_parse.specs.Operands.{half_immediate, half_at, half_on, short_on, immediate_of, immediate_at, register_in, operand_of, operand_at, bound_on, bound_at, scaled_at, index_at, user_index_at, width_at, literal_at, field_on, field_at, distance_on, distance_at, words_at, is_here_on, goal_at}
-use Rattle.m88_parse.specs.Spelling.Names.{IsMark, IsComma, IsNumber, IsNamed, IsRegister}
-use Rattle.m88_parse.specs.Spelling.Operands.{IsFixup, IsValue, IsHalfOf, IsImmediate, short, half, IsScaled, IsLast, IsLiteral, IsDistance, IsPlace, IsGoal, place as a_place, symbol as a_symbol}
-use Rattle.m88_parse.proofs.Law.Steps.{both, either, chosen, tested, take_then, take_else}
-use Rattle.m88_parse.proofs.Law.Names.{some_same, register_is, register_name_again, equal_bytes, other_bytes}
-use Rattle.m88_parse.proofs.Law.Slots.{st, ok_same, bind_ok, bind_to, One, OneMark, mark_says, next_is, next_again, mark_read, mark_again, IsUpTo, number_read, number_slot_again, register_read, register_again}
-use Rattle.m88_parse.proofs.Law.Values.{Several, several, IsUnsigned, fixup_read, fixup_again, value_read, value_again}
+use Rattle.m88_parse.specs.State.{State, first, past, is_mark_of, is_next, ◌>>=◌}
+use Rattle.m88_parse.specs.Slots.{Read, fixup_at}
+use Rattle.m88_parse.specs.Operands.{distance_on, distance_at, words_at, is_here_on, goal_at}
+use Rattle.m88_parse.specs.Spelling.Names.{IsMark, IsNumber, IsNamed}
+use Rattle.m88_parse.specs.Spelling.Operands.{IsFixup, IsDistance, IsPlace, IsGoal, place as a_place, symbol as a_symbol}
+use Rattle.m88_parse.proofs.Law.Steps.{both, chosen, take_then, take_else}
+use Rattle.m88_parse.proofs.Law.Names.{other_bytes}
+use Rattle.m88_parse.proofs.Law.Slots.{st, ok_same, bind_ok, bind_to, One, next_is, next_again}
+use Rattle.m88_parse.proofs.Law.Values.{Several, several, fixup_read, fixup_again}
 
 -- a distance in words
 
@@ -49,7 +31,7 @@ distance_by most line e p ps (a_number n) x k h =
           let z = eqb-true (n % 4) 0 b.0 in
           let f : n ≡ 4 * (n / 4) = omega (arith, z) in
           subst (One ℕ (IsFourfold most) line e (p ∷ ps)) (ok_same j.1)
-            (record { piece = p; rest = ps; tokens = refl; is = (k ∙ ap a_number f, leb-true (n / 4) most b.1); after = refl })
+          (record { piece = p; rest = ps; tokens = refl; is = (k ∙ ap a_number f, leb-true (n / 4) most b.1); after = refl })
       | inr j ↦ absurd cc
     ]
 distance_by most line e p ps (a_text bytes) x k h = absurd cc
@@ -67,8 +49,8 @@ distance_again most line e n p ps h l =
     let d : (4 * n) / 4 ≡ n = omega arith in
     let t : ((4 * n) % 4 == 0 && nat_le ((4 * n) / 4) most) ≡ true = ap₂ (λ (a b : ℕ). a == 0 && nat_le b most) m d ∙ le-leb n most l in
     ap (λ (o : Meaning). distance_on most (st line e (p ∷ ps)) (Some o)) h
-      ∙ take_then ((4 * n) % 4 == 0 && nat_le ((4 * n) / 4) most) _ _ t
-      ∙ ap (λ (k : ℕ). let y : Read ℕ = Ok (k, st line e ps) in y) d
+    ∙ take_then ((4 * n) % 4 == 0 && nat_le ((4 * n) / 4) most) _ _ t
+    ∙ ap (λ (k : ℕ). let y : Read ℕ = Ok (k, st line e ps) in y) d
 
 abbrev forward_words : ℕ × State → Read ℤ
 forward_words n = Ok (pos n.0, n.1)
@@ -92,7 +74,7 @@ words_read bits limit line e ps x w some h =
           let same = ok_same b.2 in
           let below : b.0.0 < 2 ^ bits = rw (← w) (let l = n.is.1 in omega arith) in
           some_words m.piece n.piece n.rest (m.tokens ∙ ap (λ (qs : List Piece). m.piece ∷ qs) n.tokens) (b.0.0, n.is.0, inl (m.is, below, sym (ap (λ (y : ℤ × State). y.0) same)))
-            (sym (ap (λ (y : ℤ × State). y.1) same) ∙ n.after)
+          (sym (ap (λ (y : ℤ × State). y.1) same) ∙ n.after)
       | inr j ↦
           elim (chosen (is_next 45 (st line e ps)) _ _ _ j.1) [
             | inl k ↦
@@ -102,7 +84,7 @@ words_read bits limit line e ps x w some h =
                 let same = ok_same b.2 in
                 let most : b.0.0 ≤ 2 ^ bits = rw (← w) n.is.1 in
                 some_words m.piece n.piece n.rest (m.tokens ∙ ap (λ (qs : List Piece). m.piece ∷ qs) n.tokens) (b.0.0, n.is.0, inr (m.is, most, sym (ap (λ (y : ℤ × State). y.0) same)))
-                  (sym (ap (λ (y : ℤ × State). y.1) same) ∙ n.after)
+                (sym (ap (λ (y : ℤ × State). y.1) same) ∙ n.after)
             | inr k ↦
                 let same = ok_same k.1 in
                 no_words (sym (ap (λ (y : ℤ × State). y.0) same)) (sym (ap (λ (y : ℤ × State). y.1) same))
@@ -120,14 +102,14 @@ words_again bits limit line e m p words w h = by_mark h.2
     by_mark (inl k) =
         let l : h.0 < limit = rw w k.1 in
         take_then (is_next 43 (st line e (m ∷ p ∷ []))) _ _ (next_again 43 line e m (p ∷ []) k.0)
-          ∙ bind_to (distance_at (limit - 1) (st line e (p ∷ []))) forward_words (h.0, st line e []) (Ok (words, st line e [])) (distance_again (limit - 1) line e h.0 p [] h.1 (omega arith))
-              (ap (λ (z : ℤ). let y : Read ℤ = Ok (z, st line e []) in y) (sym k.2))
+        ∙ bind_to (distance_at (limit - 1) (st line e (p ∷ []))) forward_words (h.0, st line e []) (Ok (words, st line e [])) (distance_again (limit - 1) line e h.0 p [] h.1 (omega arith))
+        (ap (λ (z : ℤ). let y : Read ℤ = Ok (z, st line e []) in y) (sym k.2))
     by_mark (inr k) =
         let l : h.0 ≤ limit = rw w k.1 in
         take_else (is_next 43 (st line e (m ∷ p ∷ []))) _ _ (minus_no_plus m.says k.0)
-          ∙ take_then (is_next 45 (st line e (m ∷ p ∷ []))) _ _ (next_again 45 line e m (p ∷ []) k.0)
-          ∙ bind_to (distance_at limit (st line e (p ∷ []))) back_words (h.0, st line e []) (Ok (words, st line e [])) (distance_again limit line e h.0 p [] h.1 l)
-              (ap (λ (z : ℤ). let y : Read ℤ = Ok (z, st line e []) in y) (sym k.2))
+        ∙ take_then (is_next 45 (st line e (m ∷ p ∷ []))) _ _ (next_again 45 line e m (p ∷ []) k.0)
+        ∙ bind_to (distance_at limit (st line e (p ∷ []))) back_words (h.0, st line e []) (Ok (words, st line e [])) (distance_again limit line e h.0 p [] h.1 l)
+        (ap (λ (z : ℤ). let y : Read ℤ = Ok (z, st line e []) in y) (sym k.2))
 
 -- where a branch goes
 
@@ -149,17 +131,17 @@ here_says (a_mark m) h = absurd cc
 place_read : (kind : Kind) (bits line e : ℕ) (h : Piece) (ps : List Piece) (n : ℤ × State) (x : Goal × State) → IsNamed (codes ".") h → Words bits line e ps n → place_goal n ≡ Ok x → Several Goal (IsGoalOf kind bits) line e (h ∷ ps) x
 place_read kind bits line e h ps n x k (no_words z a) g =
     several Goal (IsGoalOf kind bits) line e (h ∷ ps) (h ∷ []) ps (record { words = n.0; fixup = None }) x refl (a_place (k, z))
-      (ap (λ (u : State). let y : Goal × State = (record { words = n.0; fixup = None }, u) in y) (sym a) ∙ ok_same g)
+    (ap (λ (u : State). let y : Goal × State = (record { words = n.0; fixup = None }, u) in y) (sym a) ∙ ok_same g)
 place_read kind bits line e h ps n x k (some_words m p rest t d a) g =
     several Goal (IsGoalOf kind bits) line e (h ∷ ps) (h ∷ m ∷ p ∷ []) rest (record { words = n.0; fixup = None }) x (ap (λ (qs : List Piece). h ∷ qs) t) (a_place (k, d))
-      (ap (λ (u : State). let y : Goal × State = (record { words = n.0; fixup = None }, u) in y) (sym a) ∙ ok_same g)
+    (ap (λ (u : State). let y : Goal × State = (record { words = n.0; fixup = None }, u) in y) (sym a) ∙ ok_same g)
 
 goal_symbol : (kind : Kind) (bits line e : ℕ) (ps : List Piece) (x : Goal × State) → (fixup_at kind (st line e ps) >>= symbol_goal) ≡ Ok x → Several Goal (IsGoalOf kind bits) line e ps x
 goal_symbol kind bits line e ps x h =
     let b = bind_ok (fixup_at kind (st line e ps)) symbol_goal x h in
     let w = fixup_read kind line e ps b.0 b.1 in
     several Goal (IsGoalOf kind bits) line e ps w.front w.rest (record { words = pos 0; fixup = Some b.0.0 }) x w.tokens (a_symbol w.is)
-      (ap (λ (u : State). let y : Goal × State = (record { words = pos 0; fixup = Some b.0.0 }, u) in y) (sym w.after) ∙ ok_same b.2)
+    (ap (λ (u : State). let y : Goal × State = (record { words = pos 0; fixup = Some b.0.0 }, u) in y) (sym w.after) ∙ ok_same b.2)
 
 pub goal_read : (kind : Kind) (bits limit line e : ℕ) (ps : List Piece) (x : Goal × State) → limit ≡ 2 ^ bits → 0 < limit → goal_at kind limit (st line e ps) ≡ Ok x → Several Goal (IsGoalOf kind bits) line e ps x
 unfolding goal_at
@@ -184,11 +166,11 @@ unfolding goal_at
 place_again kind bits limit line e [] words w h = absurd h
 place_again kind bits limit line e (p ∷ []) words w h =
     take_then (is_here_on (Some p.says)) _ _ (ap (λ (m : Meaning). is_here_on (Some m)) h.0)
-      ∙ bind_to (words_at limit (st line e [])) place_goal (pos 0, st line e []) (Ok (record { words = words; fixup = None }, st line e [])) (no_words_again limit line e) (made_goal line e (pos 0) words (sym h.1))
+    ∙ bind_to (words_at limit (st line e [])) place_goal (pos 0, st line e []) (Ok (record { words = words; fixup = None }, st line e [])) (no_words_again limit line e) (made_goal line e (pos 0) words (sym h.1))
 place_again kind bits limit line e (p ∷ m ∷ []) words w h = absurd h
 place_again kind bits limit line e (p ∷ m ∷ q ∷ []) words w h =
     take_then (is_here_on (Some p.says)) _ _ (ap (λ (m : Meaning). is_here_on (Some m)) h.0)
-      ∙ bind_to (words_at limit (st line e (m ∷ q ∷ []))) place_goal (words, st line e []) (Ok (record { words = words; fixup = None }, st line e [])) (words_again bits limit line e m q words w h.1) refl
+    ∙ bind_to (words_at limit (st line e (m ∷ q ∷ []))) place_goal (words, st line e []) (Ok (record { words = words; fixup = None }, st line e [])) (words_again bits limit line e m q words w h.1) refl
 place_again kind bits limit line e (p ∷ m ∷ q ∷ r ∷ ps) words w h = absurd h
 
 not_here : (line e : ℕ) (kind : Kind) (ps : List Piece) (f : Fixup) → IsFixup kind ps f → is_here_on (first (st line e ps)) ≡ false
@@ -203,5 +185,5 @@ unfolding goal_at
 goal_again kind bits limit line e ps words fixup w (a_place h) = place_again kind bits limit line e ps words w h
 goal_again kind bits limit line e ps words fixup w (a_symbol {f = f} h) =
     take_else (is_here_on (first (st line e ps))) _ _ (not_here line e kind ps f h)
-      ∙ bind_to (fixup_at kind (st line e ps)) symbol_goal (f, st line e []) (Ok (record { words = pos 0; fixup = Some f }, st line e []))
-          (ap (λ (qs : List Piece). fixup_at kind (st line e qs)) (sym (append-nil ps)) ∙ fixup_again kind line e ps [] f h tt) refl
+    ∙ bind_to (fixup_at kind (st line e ps)) symbol_goal (f, st line e []) (Ok (record { words = pos 0; fixup = Some f }, st line e []))
+    (ap (λ (qs : List Piece). fixup_at kind (st line e qs)) (sym (append-nil ps)) ∙ fixup_again kind line e ps [] f h tt) refl

@@ -1,17 +1,16 @@
 -- The law of operands that commas part: the items of .word, .half and .byte.
-use Rattle.std.proofs.Common.{◌≡◌, ℕ, zero, suc, ◌+◌, ◌-◌, ◌%◌, ◌/◌, ◌<◌, ◌≤◌, Bool, true, false, cond, List, [], ◌∷◌, ◌++◌, length, Option, Some, None, Ok, Err, Result, refl, sym, ap, ap₂, ◌∙◌, arith, subst, if◌then◌else◌, append_assoc, append-nil, inl, inr, length-append}
+use Rattle.std.proofs.Common.{◌≡◌, ℕ, zero, suc, ◌%◌, ◌<◌, List, [], ◌∷◌, ◌++◌, length, Some, Ok, refl, sym, ap, ◌∙◌, arith, if◌then◌else◌, append_assoc, append-nil, inl, inr, length-append}
 use Rattle.m88_base.specs.declared.fixup.Kind.TheVariants.{Abs32}
-use Rattle.m88_parse.specs.declared.fault.ParseFault.{ParseFault}
 use Rattle.m88_parse.specs.declared.unit.Value.{Value}
-use Rattle.m88_parse.specs.Tokens.{Meaning, a_number, a_mark, Piece}
+use Rattle.m88_parse.specs.Tokens.{Meaning, a_number, Piece}
 use Rattle.m88_parse.specs.State.{State, past, is_mark_of, is_next, ◌>>=◌}
 use Rattle.m88_parse.specs.Slots.{Read, negated, whole_at}
 use Rattle.m88_parse.specs.Grammar.{many, list_at, word_at, half_word_at, byte_at}
-use Rattle.m88_parse.specs.Spelling.Names.{IsMark, IsComma, IsNumber}
-use Rattle.m88_parse.specs.Spelling.Operands.{minus, IsSigned, IsValue}
+use Rattle.m88_parse.specs.Spelling.Names.{IsComma}
+use Rattle.m88_parse.specs.Spelling.Operands.{IsSigned, IsValue}
 use Rattle.m88_parse.specs.Spelling.Statements.{AreParted, one as one_item, more as more_items}
-use Rattle.m88_parse.proofs.Law.Steps.{chosen, take_then, take_else}
-use Rattle.m88_parse.proofs.Law.Slots.{st, ok_same, bind_ok, bind_to, OneMark, next_is, next_again}
+use Rattle.m88_parse.proofs.Law.Steps.{chosen, take_then}
+use Rattle.m88_parse.proofs.Law.Slots.{st, ok_same, bind_ok, bind_to, next_is, next_again}
 use Rattle.m88_parse.proofs.Law.Values.{Several, several, IsUnsigned, IsWhole, whole_read, whole_again, value_read, value_again}
 
 -- an item that is read is spelled so, and the other way round where no + or - follows
@@ -40,9 +39,9 @@ many_read A Is item reads (suc n) line e ps x h =
           let c = bind_ok (many item n (past (st line e w.rest))) (joined A b.0.0) x j.1 in
           let v = many_read A Is item reads n line e m.rest c.0 (ap (many item n) (sym m.after) ∙ c.1) in
           let t : ps ≡ (w.front ++ m.piece ∷ v.front) ++ v.rest =
-            w.tokens ∙ ap (λ (qs : List Piece). w.front ++ qs) (m.tokens ∙ ap (λ (qs : List Piece). m.piece ∷ qs) v.tokens) ∙ sym (append_assoc w.front (m.piece ∷ v.front) v.rest) in
+          w.tokens ∙ ap (λ (qs : List Piece). w.front ++ qs) (m.tokens ∙ ap (λ (qs : List Piece). m.piece ∷ qs) v.tokens) ∙ sym (append_assoc w.front (m.piece ∷ v.front) v.rest) in
           several (List A) (AreParted Is) line e ps (w.front ++ m.piece ∷ v.front) v.rest (b.0.0 ∷ c.0.0) x t (more_items m.piece refl w.is m.is v.is)
-            (ap (λ (u : State). let y : List A × State = (b.0.0 ∷ c.0.0, u) in y) (sym v.after) ∙ ok_same c.2)
+          (ap (λ (u : State). let y : List A × State = (b.0.0 ∷ c.0.0, u) in y) (sym v.after) ∙ ok_same c.2)
       | inr j ↦ several (List A) (AreParted Is) line e ps w.front w.rest (b.0.0 ∷ []) x w.tokens (one_item w.is) (ok_same j.1)
     ]
 
@@ -54,14 +53,14 @@ unfolding many
 many_again A Is item reads zero line e ps xs l h = absurd (omega arith)
 many_again A Is item reads (suc n) line e ps xs l (one_item {x = x} h) =
     bind_to (item (st line e ps)) (λ (y : A × State). after_item A item n y.0 y.1) (x, st line e []) (Ok (x ∷ [], st line e []))
-      (ap (λ (qs : List Piece). item (st line e qs)) (sym (append-nil ps)) ∙ reads line e ps [] x h tt) refl
+    (ap (λ (qs : List Piece). item (st line e qs)) (sym (append-nil ps)) ∙ reads line e ps [] x h tt) refl
 many_again A Is item reads (suc n) line e ps xs l (more_items {front = front} {rest = rest} c {x = x} {xs = ys} t h k hs) =
     let size : length rest < n = omega (arith, ap length t, length-append front (c ∷ rest)) in
     let z : Read (List A) = Ok (x ∷ ys, st line e []) in
     bind_to (item (st line e ps)) (λ (y : A × State). after_item A item n y.0 y.1) (x, st line e (c ∷ rest)) z
-      (ap (λ (qs : List Piece). item (st line e qs)) t ∙ reads line e front (c ∷ rest) x h (comma_unsigned c rest k))
-      (take_then (is_next 44 (st line e (c ∷ rest))) _ _ (next_again 44 line e c rest k)
-        ∙ bind_to (many item n (st line e rest)) (joined A x) (ys, st line e []) z (many_again A Is item reads n line e rest ys size hs) refl)
+    (ap (λ (qs : List Piece). item (st line e qs)) t ∙ reads line e front (c ∷ rest) x h (comma_unsigned c rest k))
+    (take_then (is_next 44 (st line e (c ∷ rest))) _ _ (next_again 44 line e c rest k)
+    ∙ bind_to (many item n (st line e rest)) (joined A x) (ys, st line e []) z (many_again A Is item reads n line e rest ys size hs) refl)
 
 pub list_read : (A : Type 0) (Is : List Piece → A → Type 0) (item : State → Read A) → ReadsOnly A Is item → (line e : ℕ) (ps : List Piece) (x : List A × State) → list_at item (st line e ps) ≡ Ok x → Several (List A) (AreParted Is) line e ps x
 list_read A Is item reads line e ps x h = many_read A Is item reads (suc (length ps)) line e ps x h
@@ -110,13 +109,13 @@ half_reads line e ps x h =
     let b = bind_ok (whole_at 32768 65535 (st line e ps)) to_half x h in
     let w = whole_read 32768 65535 line e ps b.0 b.1 in
     several ℕ (IsSigned 65536) line e ps w.front w.rest (b.0.0 % 65536) x w.tokens (half_signed w.front b.0.0 w.is)
-      (ap (λ (u : State). let y : ℕ × State = (b.0.0 % 65536, u) in y) (sym w.after) ∙ ok_same b.2)
+    (ap (λ (u : State). let y : ℕ × State = (b.0.0 % 65536, u) in y) (sym w.after) ∙ ok_same b.2)
 
 pub half_reads_all : ReadsAll ℕ (IsSigned 65536) half_word_at
 half_reads_all line e front rest v h u =
     let n = signed_half front v h in
     bind_to (whole_at 32768 65535 (st line e (front ++ rest))) to_half (n.0, st line e rest) (Ok (v, st line e rest)) (whole_again 32768 65535 line e front rest n.0 n.1)
-      (ap (λ (k : ℕ). let y : Read ℕ = Ok (k, st line e rest) in y) n.2)
+    (ap (λ (k : ℕ). let y : Read ℕ = Ok (k, st line e rest) in y) n.2)
 
 byte_signed : (ps : List Piece) (v : ℕ) → IsWhole 128 255 ps v → IsSigned 256 ps (v % 256)
 byte_signed [] v h = h
@@ -149,10 +148,10 @@ byte_reads line e ps x h =
     let b = bind_ok (whole_at 128 255 (st line e ps)) to_byte x h in
     let w = whole_read 128 255 line e ps b.0 b.1 in
     several ℕ (IsSigned 256) line e ps w.front w.rest (b.0.0 % 256) x w.tokens (byte_signed w.front b.0.0 w.is)
-      (ap (λ (u : State). let y : ℕ × State = (b.0.0 % 256, u) in y) (sym w.after) ∙ ok_same b.2)
+    (ap (λ (u : State). let y : ℕ × State = (b.0.0 % 256, u) in y) (sym w.after) ∙ ok_same b.2)
 
 pub byte_reads_all : ReadsAll ℕ (IsSigned 256) byte_at
 byte_reads_all line e front rest v h u =
     let n = signed_byte front v h in
     bind_to (whole_at 128 255 (st line e (front ++ rest))) to_byte (n.0, st line e rest) (Ok (v, st line e rest)) (whole_again 128 255 line e front rest n.0 n.1)
-      (ap (λ (k : ℕ). let y : Read ℕ = Ok (k, st line e rest) in y) n.2)
+    (ap (λ (k : ℕ). let y : Read ℕ = Ok (k, st line e rest) in y) n.2)

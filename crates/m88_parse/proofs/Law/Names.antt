@@ -1,7 +1,7 @@
 -- The law of names: which names are registers, control registers and symbols.
-use Rattle.std.proofs.Common.{◌≡◌, ◌≢◌, ℕ, zero, suc, ◌+◌, ◌<◌, ◌≤◌, Bool, true, false, cond, not, ◌&&◌, ◌||◌, ◌==◌, nat_le, nat_lt, ◌⊎◌, inl, inr, List, [], ◌∷◌, ◌++◌, length, Option, Some, None, is_some, Ok, Err, Result, refl, sym, ap, ◌∙◌, arith, subst, ap₂, eqb-true, eq-eqb, ltb-true, lt-ltb, leb-true, le-leb, if◌then◌else◌, codes, bytes_eq, true≢false}
+use Rattle.std.proofs.Common.{◌≡◌, ◌≢◌, ℕ, ◌<◌, ◌≤◌, Bool, true, false, not, ◌&&◌, ◌||◌, ◌==◌, nat_le, nat_lt, inl, inr, List, [], ◌∷◌, length, Option, Some, None, is_some, Ok, Err, Result, refl, sym, ap, ◌∙◌, arith, subst, ap₂, eqb-true, ltb-true, lt-ltb, leb-true, le-leb, codes, bytes_eq, true≢false}
 use Rattle.std.specs.Str.Parse.{digits_value}
-use Rattle.std.specs.List.{All, list_all}
+use Rattle.std.specs.List.{list_all}
 use Rattle.std.proofs.lemmas.List.Sums.{list_all-from_AllPass, AllPass-from_list_all}
 use Rattle.std.proofs.lemmas.Slice.Eq.{bytes_eq-Decides}
 use Rattle.m88_base.specs.Name.{IsName, begins_name, continues_name}
@@ -9,8 +9,8 @@ use Rattle.m88_parse.specs.declared.fault.ParseKind.{ParseKind}
 use Rattle.m88_parse.specs.Tokens.{is_decimal, bounded}
 use Rattle.m88_parse.specs.Names.{up_to, number_up_to, register_of, control_of, float_control_of, control_in, is_here, is_name, is_symbol}
 use Rattle.m88_parse.specs.Spelling.Tokens.{IsDecimal}
-use Rattle.m88_parse.specs.Spelling.Names.{IsNumbered, IsRegisterName, IsControlName, IsSymbolName}
-use Rattle.m88_parse.proofs.Law.Steps.{both, neither, chosen, not_true, take_then, take_else, tested}
+use Rattle.m88_parse.specs.Spelling.Names.{IsRegisterName, IsControlName, IsSymbolName}
+use Rattle.m88_parse.proofs.Law.Steps.{both, neither, chosen, not_true, take_then, tested}
 use Rattle.m88_parse.proofs.Law.Numbers.{decimal_is, is_decimal_again, bounded_is, bounded_again}
 
 pub some_same : {A : Type 0} {a b : A} → Some a ≡ Some b → a ≡ b
@@ -40,8 +40,8 @@ numbered_again most n [] m h l = let s = h.some in absurd (omega arith)
 numbered_again most n (d ∷ ds) m h l =
     let b : bounded (digits_value 10 (d ∷ ds)) ≡ Ok n = ap bounded (sym h.value) ∙ bounded_again n (omega arith) in
     take_then (is_decimal (d ∷ ds)) (up_to most (bounded (digits_value 10 (d ∷ ds)))) None (is_decimal_again (d ∷ ds) n h)
-      ∙ ap (up_to most) b
-      ∙ take_then (nat_le n most) (Some n) None (le-leb n most l)
+    ∙ ap (up_to most) b
+    ∙ take_then (nat_le n most) (Some n) None (le-leb n most l)
 
 pub register_is : (name : List ℕ) (n : ℕ) → register_of name ≡ Some n → IsRegisterName name n
 unfolding register_of
@@ -111,8 +111,8 @@ unfolding is_name
 name_spelled_again [] h = absurd h
 name_spelled_again (b ∷ bs) h =
     ap (λ (t : Bool). t && nat_lt (length bs) 64 && list_all continues_name bs) h.0
-      ∙ ap (λ (t : Bool). t && list_all continues_name bs) (lt-ltb (length bs) 64 h.2)
-      ∙ list_all-from_AllPass continues_name bs h.1
+    ∙ ap (λ (t : Bool). t && list_all continues_name bs) (lt-ltb (length bs) 64 h.2)
+    ∙ list_all-from_AllPass continues_name bs h.1
 
 never : (o : Option ℕ) → is_some o ≡ false → (n : ℕ) → o ≡ Some n → ⊥
 never None h n e = cc
@@ -146,12 +146,12 @@ symbol_is name h =
       valid = name_is name i.0;
       no_place = λ (e : name ≡ codes "."). true≢false (sym (equal_bytes name (codes ".") e) ∙ l.0);
       no_register = λ (n : ℕ) (r : IsRegisterName name n). never (register_of name) l.1 n (register_name_again name n r);
-      no_control = no_control_name name k.1 j.1
+      no_control = no_control_name name k.1 j.1;
     }
 
 pub symbol_name_again : (name : List ℕ) → IsSymbolName name → is_symbol name ≡ true
 unfolding is_symbol
 symbol_name_again name h =
     ap₂ (λ (a b : Bool). a && not (b || is_some (register_of name) || is_some (control_of name) || is_some (float_control_of name))) (name_spelled_again name h.valid) (other_bytes name (codes ".") h.no_place)
-      ∙ ap (λ (b : Bool). not (b || is_some (control_of name) || is_some (float_control_of name))) (not_some (register_of name) (λ (n : ℕ) (e : register_of name ≡ Some n). h.no_register n (register_is name n e)))
-      ∙ ap₂ (λ (a b : Bool). not (a || b)) (not_some (control_of name) (λ (n : ℕ) (e : control_of name ≡ Some n). h.no_control false n (control_is name n e))) (not_some (float_control_of name) (λ (n : ℕ) (e : float_control_of name ≡ Some n). h.no_control true n (float_is name n e)))
+    ∙ ap (λ (b : Bool). not (b || is_some (control_of name) || is_some (float_control_of name))) (not_some (register_of name) (λ (n : ℕ) (e : register_of name ≡ Some n). h.no_register n (register_is name n e)))
+    ∙ ap₂ (λ (a b : Bool). not (a || b)) (not_some (control_of name) (λ (n : ℕ) (e : control_of name ≡ Some n). h.no_control false n (control_is name n e))) (not_some (float_control_of name) (λ (n : ℕ) (e : float_control_of name ≡ Some n). h.no_control true n (float_is name n e)))

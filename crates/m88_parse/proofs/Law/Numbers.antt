@@ -1,11 +1,10 @@
 -- The law of numbers: a run is read as a number exactly where it is the number's digits.
-use Rattle.std.proofs.Common.{◌≡◌, ◌≢◌, ℕ, zero, suc, ◌+◌, ◌<◌, ◌≤◌, Bool, true, false, cond, not, ◌&&◌, ◌||◌, ◌==◌, nat_lt, ◌⊎◌, inl, inr, List, [], ◌∷◌, ◌++◌, length, drop, Ok, Err, refl, sym, ap, ◌∙◌, arith, eqb-true, eq-eqb, ne_eqb, ltb-true, lt-ltb, le-ltb, Result, if◌then◌else◌}
+use Rattle.std.proofs.Common.{◌≡◌, ℕ, ◌<◌, ◌≤◌, Bool, true, false, not, ◌&&◌, ◌==◌, nat_lt, inl, inr, List, [], ◌∷◌, length, drop, Ok, Err, refl, sym, ap, ◌∙◌, arith, eqb-true, ne_eqb, ltb-true, lt-ltb, le-ltb, Result, if◌then◌else◌}
 use Rattle.std.specs.Str.Parse.{digits_value}
-use Rattle.std.specs.Char.{digit_value}
 use Rattle.m88_parse.specs.declared.fault.ParseKind.{ParseKind}
 use Rattle.m88_parse.specs.declared.fault.ParseKind.TheVariants.{Syntax, OutOfRange}
 use Rattle.m88_parse.specs.Tokens.{are_digits, is_hexadecimal, is_decimal, bounded, numeral}
-use Rattle.m88_parse.specs.Spelling.Tokens.{HasNoNeedlessZero, IsDecimal, IsHexadecimal, IsNumeral}
+use Rattle.m88_parse.specs.Spelling.Tokens.{IsDecimal, IsHexadecimal, IsNumeral}
 use Rattle.m88_parse.proofs.Law.Steps.{both, chosen, not_true, take_then, take_else}
 use Rattle.std.proofs.lemmas.Bool.{eqb-false}
 
@@ -62,14 +61,14 @@ read_decimal run = if is_decimal run then bounded (digits_value 10 run) else Err
 pub at_decimal : (run : List ℕ) (n : ℕ) → IsDecimal run n → numeral run ≡ bounded n
 at_decimal run n h =
     take_else (is_hexadecimal run) (bounded (digits_value 16 (drop 2 run))) (read_decimal run) (not_both run n h)
-      ∙ take_then (is_decimal run) (bounded (digits_value 10 run)) (Err Syntax) (is_decimal_again run n h)
-      ∙ ap bounded (sym h.value)
+    ∙ take_then (is_decimal run) (bounded (digits_value 10 run)) (Err Syntax) (is_decimal_again run n h)
+    ∙ ap bounded (sym h.value)
 
 pub at_hexadecimal : (run : List ℕ) (n : ℕ) → IsHexadecimal run n → numeral run ≡ bounded n
 at_hexadecimal run n h =
     let e : digits_value 16 (drop 2 run) ≡ n = ap (λ (bs : List ℕ). digits_value 16 (drop 2 bs)) h.bytes ∙ sym h.value in
     take_then (is_hexadecimal run) (bounded (digits_value 16 (drop 2 run))) (read_decimal run) (is_hexadecimal_again run h.digits h.bytes h.some h.hexadecimal)
-      ∙ ap bounded e
+    ∙ ap bounded e
 
 pub number_is : (run : List ℕ) (n : ℕ) → 0 < length run → numeral run ≡ Ok n → IsNumeral run n × (n < 4294967296)
 number_is run n s h =

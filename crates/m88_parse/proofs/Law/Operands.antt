@@ -1,15 +1,12 @@
 -- The law of the operands that stand last: immediates, registers, indices, bit fields and goals.
-use Rattle.std.proofs.Common.{◌≡◌, ◌≢◌, ℕ, zero, suc, ◌+◌, ◌-◌, ◌*◌, ◌/◌, ◌%◌, ◌^◌, ◌<◌, ◌≤◌, ℤ, pos, Bool, true, false, cond, not, ◌&&◌, ◌||◌, ◌==◌, nat_le, ◌⊎◌, inl, inr, List, [], ◌∷◌, ◌++◌, length, Option, Some, None, is_some, Ok, Err, Result, refl, sym, ap, ap₂, ◌∙◌, arith, subst, subst₂, eqb-true, eq-eqb, leb-true, le-leb, if◌then◌else◌, true≢false, append_assoc, append-nil, codes, bytes_eq}
+use Rattle.std.proofs.Common.{◌≡◌, ℕ, ◌/◌, ◌%◌, ◌<◌, Bool, true, false, nat_le, ◌⊎◌, inl, inr, List, [], ◌∷◌, ◌++◌, Option, Some, None, Ok, refl, sym, ap, ap₂, ◌∙◌, arith, subst, leb-true, le-leb, if◌then◌else◌, append_assoc, codes, bytes_eq}
 use Rattle.std.specs.Option.{option_map}
-use Rattle.std.specs.Prelude.{neg_ℤ}
 use Rattle.std.proofs.lemmas.Slice.Eq.{bytes_eq-Decides}
 use Rattle.m88_base.specs.Reg.{reg_of}
 use Rattle.m88_base.specs.declared.reg.Reg.{Reg}
 use Rattle.m88_base.specs.declared.fixup.Kind.{Kind}
 use Rattle.m88_base.specs.declared.fixup.Kind.TheVariants.{Hi16, Lo16}
 use Rattle.m88_base.specs.declared.fixup.Fixup.{Fixup}
-use Rattle.m88_parse.specs.declared.fault.ParseFault.{ParseFault}
-use Rattle.m88_parse.specs.declared.fault.ParseKind.TheVariants.{Syntax, NoSuchName, OutOfRange}
 use Rattle.m88_parse.specs.declared.unit.Value.{Value}
 use Rattle.m88_parse.specs.declared.unit.Value.TheVariants.{Number, Symbol}
 use Rattle.m88_parse.specs.declared.operand.Immediate.{Immediate}
@@ -17,22 +14,17 @@ use Rattle.m88_parse.specs.declared.operand.Operand.{Operand}
 use Rattle.m88_parse.specs.declared.operand.Operand.TheVariants as operand
 use Rattle.m88_parse.specs.declared.operand.Bound.{Bound}
 use Rattle.m88_parse.specs.declared.operand.Bound.TheVariants as bound
-use Rattle.m88_parse.specs.declared.operand.Index.{Index}
-use Rattle.m88_parse.specs.declared.operand.Index.TheVariants as index
-use Rattle.m88_parse.specs.declared.operand.Field.{Field}
-use Rattle.m88_parse.specs.declared.operand.Field.TheVariants as field
-use Rattle.m88_parse.specs.declared.operand.Goal.{Goal}
-use Rattle.m88_parse.specs.Names.{register_of, half_of, is_here}
+use Rattle.m88_parse.specs.Names.{register_of, half_of}
 use Rattle.m88_parse.specs.Tokens.{Meaning, a_name, a_number, a_text, a_mark, Piece}
-use Rattle.m88_parse.specs.State.{State, says_first, first, second, place, past, trouble, is_mark_of, is_next, ◌>>=◌}
-use Rattle.m88_parse.specs.Slots.{Read, mark_at, number_at, register_at, fixup_at, value_at}
-use Rattle.m88_parse.specs.Operands.{half_immediate, half_at, half_on, short_on, immediate_of, immediate_at, register_in, operand_of, operand_at, bound_on, bound_at, scaled_at, index_at, user_index_at, width_at, literal_at, field_on, field_at, distance_on, distance_at, words_at, is_here_on, goal_at}
-use Rattle.m88_parse.specs.Spelling.Names.{IsMark, IsComma, IsNumber, IsNamed, IsRegister}
-use Rattle.m88_parse.specs.Spelling.Operands.{IsFixup, IsValue, IsHalfOf, IsImmediate, short, half, IsScaled, IsLast, IsLiteral, IsDistance, IsPlace, IsGoal, place as a_place, symbol as a_symbol}
-use Rattle.m88_parse.proofs.Law.Steps.{both, either, chosen, tested, take_then, take_else}
-use Rattle.m88_parse.proofs.Law.Names.{some_same, register_is, register_name_again, equal_bytes}
-use Rattle.m88_parse.proofs.Law.Slots.{st, ok_same, bind_ok, bind_to, One, OneMark, mark_says, next_is, next_again, mark_read, mark_again, IsUpTo, number_read, number_slot_again, register_read, register_again}
-use Rattle.m88_parse.proofs.Law.Values.{Several, several, IsUnsigned, fixup_read, fixup_again, value_read, value_again}
+use Rattle.m88_parse.specs.State.{State, says_first, first, is_mark_of, ◌>>=◌}
+use Rattle.m88_parse.specs.Slots.{Read, mark_at, register_at, value_at}
+use Rattle.m88_parse.specs.Operands.{half_immediate, half_at, half_on, short_on, immediate_of, immediate_at, register_in, operand_of, operand_at, bound_on, bound_at}
+use Rattle.m88_parse.specs.Spelling.Names.{IsMark, IsNumber, IsNamed, IsRegister}
+use Rattle.m88_parse.specs.Spelling.Operands.{IsValue, IsHalfOf, IsImmediate, short, half, IsLast}
+use Rattle.m88_parse.proofs.Law.Steps.{chosen, take_then}
+use Rattle.m88_parse.proofs.Law.Names.{some_same, register_is, register_name_again}
+use Rattle.m88_parse.proofs.Law.Slots.{st, ok_same, bind_ok, bind_to, One, mark_read, mark_again, register_read, register_again}
+use Rattle.m88_parse.proofs.Law.Values.{Several, several, IsUnsigned, value_read, value_again}
 
 -- hi16 and lo16
 
@@ -89,10 +81,10 @@ half_read line e p ps name kind x n k h =
     let m = mark_read 41 line e v.rest d.0 (ap (mark_at 41) (sym v.after) ∙ d.1) in
     let inside = v.front ++ m.piece ∷ [] in
     let t : p ∷ ps ≡ (p ∷ o.piece ∷ inside) ++ m.rest =
-      ap (λ (qs : List Piece). p ∷ qs) (o.tokens ∙ ap (λ (qs : List Piece). o.piece ∷ qs) (v.tokens ∙ ap (λ (qs : List Piece). v.front ++ qs) m.tokens ∙ sym (append_assoc v.front (m.piece ∷ []) m.rest))) in
+    ap (λ (qs : List Piece). p ∷ qs) (o.tokens ∙ ap (λ (qs : List Piece). o.piece ∷ qs) (v.tokens ∙ ap (λ (qs : List Piece). v.front ++ qs) m.tokens ∙ sym (append_assoc v.front (m.piece ∷ []) m.rest))) in
     several Immediate IsImmediateOf line e (p ∷ ps) (p ∷ o.piece ∷ inside) m.rest (half_immediate kind c.0.0) x t
-      (half v.front m.piece name kind c.0.0 n k o.is refl v.is m.is (half_is_of kind c.0.0 (kinds_only name kind k)))
-      (ap (λ (u : State). let y : Immediate × State = (half_immediate kind c.0.0, u) in y) (sym m.after) ∙ ok_same d.2)
+    (half v.front m.piece name kind c.0.0 n k o.is refl v.is m.is (half_is_of kind c.0.0 (kinds_only name kind k)))
+    (ap (λ (u : State). let y : Immediate × State = (half_immediate kind c.0.0, u) in y) (sym m.after) ∙ ok_same d.2)
 
 named_half : (line e : ℕ) (p : Piece) (ps : List Piece) (text : List ℕ) (t : Bool) (x : Immediate × State) → p.says ≡ a_name text
     → immediate_of (st line e (p ∷ ps)) (if t then half_of text else None) ≡ Ok x → Several Immediate IsImmediateOf line e (p ∷ ps) x
@@ -136,23 +128,23 @@ half_again line e p o c inside kind v imm fixup a b d h k =
     let z : Read Immediate = Ok (record { imm = imm; fixup = fixup }, st line e []) in
     let u : IsUnsigned (c ∷ []) = (ap (λ (m : Meaning). is_mark_of 43 (Some m)) d, ap (λ (m : Meaning). is_mark_of 45 (Some m)) d) in
     bind_to (mark_at 40 (st line e (o ∷ (inside ++ c ∷ [])))) (λ (opened : State). value_at kind opened >>= close_half kind) (st line e (inside ++ c ∷ [])) z (mark_again 40 line e o (inside ++ c ∷ []) a)
-      (bind_to (value_at kind (st line e (inside ++ c ∷ []))) (close_half kind) (v, st line e (c ∷ [])) z (value_again kind line e inside (c ∷ []) v b u)
-        (bind_to (mark_at 41 (st line e (c ∷ []))) (λ (closed : State). Ok (half_immediate kind v, closed)) (st line e []) z (mark_again 41 line e c [] d)
-          (ap (λ (x : Immediate). let y : Read Immediate = Ok (x, st line e []) in y) (half_of_is kind v imm fixup k h))))
+    (bind_to (value_at kind (st line e (inside ++ c ∷ []))) (close_half kind) (v, st line e (c ∷ [])) z (value_again kind line e inside (c ∷ []) v b u)
+    (bind_to (mark_at 41 (st line e (c ∷ []))) (λ (closed : State). Ok (half_immediate kind v, closed)) (st line e []) z (mark_again 41 line e c [] d)
+    (ap (λ (x : Immediate). let y : Read Immediate = Ok (x, st line e []) in y) (half_of_is kind v imm fixup k h))))
 
 pub immediate_again : (line e : ℕ) (ps : List Piece) (imm : ℕ) (fixup : Option Fixup) → IsImmediate ps imm fixup → immediate_at (st line e ps) ≡ Ok (record { imm = imm; fixup = fixup }, st line e [])
 unfolding immediate_at
 immediate_again line e ps imm fixup (short {p = p} h l) =
     let s = st line e (p ∷ []) in
     ap (λ (m : Meaning). immediate_of s (half_on (Some m) None)) h
-      ∙ ap (λ (m : Meaning). short_on s (Some m)) h
-      ∙ take_then (nat_le imm 65535) _ _ (le-leb imm 65535 (omega arith))
+    ∙ ap (λ (m : Meaning). short_on s (Some m)) h
+    ∙ take_then (nat_le imm 65535) _ _ (le-leb imm 65535 (omega arith))
 immediate_again line e ps imm fixup (half {h = p} {o = o} {ps = qs} inside c name kind v n k a t b d h) =
     let s = st line e (p ∷ o ∷ qs) in
     ap₂ (λ (m q : Meaning). immediate_of s (half_on (Some m) (Some q))) n a
-      ∙ ap (immediate_of s) k
-      ∙ ap (λ (xs : List Piece). half_at kind (st line e (p ∷ o ∷ xs))) t
-      ∙ half_again line e p o c inside kind v imm fixup a b d h (kinds_only name kind k)
+    ∙ ap (immediate_of s) k
+    ∙ ap (λ (xs : List Piece). half_at kind (st line e (p ∷ o ∷ xs))) t
+    ∙ half_again line e p o c inside kind v imm fixup a b d h (kinds_only name kind k)
 
 -- a register or an immediate
 
@@ -168,7 +160,7 @@ operand_immediate line e ps x h =
     let b = bind_ok (immediate_at (st line e ps)) immediate_operand x h in
     let w = immediate_read line e ps b.0 b.1 in
     several Operand IsOperandOf line e ps w.front w.rest (operand.Immediate b.0.0) x w.tokens w.is
-      (ap (λ (u : State). let y : Operand × State = (operand.Immediate b.0.0, u) in y) (sym w.after) ∙ ok_same b.2)
+    (ap (λ (u : State). let y : Operand × State = (operand.Immediate b.0.0, u) in y) (sym w.after) ∙ ok_same b.2)
 
 operand_by : (line e : ℕ) (p : Piece) (ps : List Piece) (m : Meaning) (x : Operand × State) → p.says ≡ m → operand_of (st line e (p ∷ ps)) (register_in (Some m)) ≡ Ok x → Several Operand IsOperandOf line e (p ∷ ps) x
 operand_by line e p ps (a_name text) x k h = by_register (register_of text) refl h
@@ -191,8 +183,8 @@ operand_register_again line e r [] h = absurd h
 operand_register_again line e r (p ∷ []) h =
     let s = st line e (p ∷ []) in
     ap (λ (m : Meaning). operand_of s (register_in (Some m))) h.2
-      ∙ ap (λ (o : Option ℕ). operand_of s (option_map reg_of o)) (register_name_again h.0 h.1 h.3)
-      ∙ ap (λ (v : Reg). let y : Read Operand = Ok (operand.Register v, st line e []) in y) (sym h.4)
+    ∙ ap (λ (o : Option ℕ). operand_of s (option_map reg_of o)) (register_name_again h.0 h.1 h.3)
+    ∙ ap (λ (v : Reg). let y : Read Operand = Ok (operand.Register v, st line e []) in y) (sym h.4)
 operand_register_again line e r (p ∷ q ∷ ps) h = absurd h
 
 half_no_register : (name : List ℕ) (kind : Kind) → half_of name ≡ Some kind → register_of name ≡ None
@@ -208,7 +200,7 @@ unfolding operand_at
 operand_immediate_again line e ps imm fixup h =
     let s = st line e ps in
     ap (operand_of s) (no_register line e ps imm fixup h)
-      ∙ bind_to (immediate_at s) immediate_operand (record { imm = imm; fixup = fixup }, st line e []) (Ok (operand.Immediate (record { imm = imm; fixup = fixup }), st line e [])) (immediate_again line e ps imm fixup h) refl
+    ∙ bind_to (immediate_at s) immediate_operand (record { imm = imm; fixup = fixup }, st line e []) (Ok (operand.Immediate (record { imm = imm; fixup = fixup }), st line e [])) (immediate_again line e ps imm fixup h) refl
 
 -- the bound of tbnd
 
@@ -246,7 +238,7 @@ bound_register_again line e r [] h = absurd h
 bound_register_again line e r (p ∷ []) h =
     let s = st line e (p ∷ []) in
     ap (λ (m : Meaning). bound_on s (Some m)) h.2
-      ∙ bind_to (register_at s) register_bound (r, st line e []) (Ok (bound.Register r, st line e [])) (register_again line e r p [] h) refl
+    ∙ bind_to (register_at s) register_bound (r, st line e []) (Ok (bound.Register r, st line e [])) (register_again line e r p [] h) refl
 bound_register_again line e r (p ∷ q ∷ ps) h = absurd h
 
 pub bound_number_again : (line e n : ℕ) (p : Piece) → IsNumber n p → n < 65536 → bound_at (st line e (p ∷ [])) ≡ Ok (bound.Number n, st line e [])

@@ -1,11 +1,11 @@
 -- The law of quotes: what is read behind an opening quote is what stands between two quotes.
-use Rattle.std.proofs.Common.{◌≡◌, ◌≢◌, ℕ, zero, suc, ◌+◌, ◌<◌, ◌≤◌, Bool, true, false, cond, not, ◌&&◌, ◌||◌, ◌==◌, ◌⊎◌, inl, inr, List, [], ◌∷◌, ◌++◌, length, take, drop, Option, Some, None, Ok, Err, refl, sym, ap, ◌∙◌, arith, subst, eqb-true, eq-eqb, ne_eqb, Result, if◌then◌else◌, length-take, one-add, zero-le}
+use Rattle.std.proofs.Common.{◌≡◌, ◌≢◌, ℕ, suc, ◌+◌, ◌<◌, ◌≤◌, Bool, true, false, cond, not, ◌&&◌, ◌==◌, inl, inr, List, [], ◌∷◌, ◌++◌, length, take, Some, None, refl, sym, ap, ◌∙◌, arith, subst, eqb-true, eq-eqb, ne_eqb, one-add, zero-le}
 use Rattle.std.specs.List.{list_all}
 use Rattle.std.proofs.lemmas.Bool.{eqb-false}
 use Rattle.std.proofs.lemmas.Bool.Decides.{nat_tests}
 use Rattle.m88_parse.specs.Tokens.{is_plain, is_escape, escape_value, begins_escape, closes, inside_len, holds_escapes, text_bytes, character}
 use Rattle.m88_parse.specs.Spelling.Tokens.{Holds, nothing, itself, escape}
-use Rattle.m88_parse.proofs.Law.Steps.{both, either, chosen, tested, not_true, take_then, take_else}
+use Rattle.m88_parse.proofs.Law.Steps.{both, chosen, tested, take_then, take_else}
 
 pub escape_plain : (e : ℕ) → is_escape e ≡ true → is_plain e ≡ true
 escape_plain e h = grind (arith, nat_tests)
@@ -65,7 +65,7 @@ goes_on false n m h = (refl, omega (arith, h))
 with_backslash : (q b : ℕ) (inside : List ℕ) → (b == 92) ≡ true → Holds q (92 ∷ inside) (text_bytes true inside) → Holds q (b ∷ inside) (text_bytes false (b ∷ inside))
 with_backslash q b inside e h =
     subst (λ (bs : List ℕ). Holds q (b ∷ inside) bs) (sym (take_then (b == 92) (text_bytes true inside) (b ∷ text_bytes false inside) e))
-      (subst (λ (x : ℕ). Holds q (x ∷ inside) (text_bytes true inside)) (sym (eqb-true b 92 e)) h)
+    (subst (λ (x : ℕ). Holds q (x ∷ inside) (text_bytes true inside)) (sym (eqb-true b 92 e)) h)
 
 with_itself : (q b : ℕ) (inside : List ℕ) → (b == 92) ≡ false → Holds q (b ∷ inside) (b ∷ text_bytes false inside) → Holds q (b ∷ inside) (text_bytes false (b ∷ inside))
 with_itself q b inside e h =
@@ -139,9 +139,9 @@ inside_again q f (b ∷ bs) =
       | inr e ↦
           let l = len_open q f b bs e in
           ap (λ (n : ℕ). inside_len q f (take n (b ∷ bs))) l
-            ∙ len_open q f b (take (inside_len q (begins_escape f b) bs) bs) e
-            ∙ ap suc ih
-            ∙ sym l
+          ∙ len_open q f b (take (inside_len q (begins_escape f b) bs) bs) e
+          ∙ ap suc ih
+          ∙ sym l
     ]
 
 -- behind what stands inside comes the quote

@@ -1,23 +1,21 @@
 -- The law of lines of tokens: a statement or the head of a module is read as what it is related to.
-use Rattle.std.proofs.Common.{◌≡◌, ◌≢◌, ℕ, zero, suc, ◌+◌, Bool, true, false, cond, not, ◌||◌, List, [], ◌∷◌, ◌++◌, length, Option, Some, None, Ok, Err, Result, refl, sym, ap, ap₂, ◌∙◌, arith, subst, if◌then◌else◌, codes, bytes_eq, true≢false, inl, inr}
+use Rattle.std.proofs.Common.{◌≡◌, ℕ, true, false, List, [], ◌∷◌, Option, Some, None, Ok, Result, refl, sym, ap, ap₂, ◌∙◌, subst, codes, true≢false, inl, inr}
 use Rattle.std.proofs.lemmas.Slice.Eq.{bytes_eq-Decides}
 use Rattle.m88_parse.specs.declared.fault.ParseFault.{ParseFault}
 use Rattle.m88_parse.specs.declared.unit.Body.{Body}
-use Rattle.m88_parse.specs.declared.unit.Body.TheVariants.{Empty}
 use Rattle.m88_parse.specs.declared.unit.Statement.{Statement}
 use Rattle.m88_parse.specs.declared.row.Row.{Row}
 use Rattle.m88_parse.specs.declared.row.Row.TheVariants as row
 use Rattle.m88_parse.specs.Names.{is_module}
 use Rattle.m88_parse.specs.Tokens.{Meaning, a_name, a_number, a_text, a_mark, Piece}
-use Rattle.m88_parse.specs.State.{State, says_first, first, second, place, past, is_mark_of, ◌>>=◌}
+use Rattle.m88_parse.specs.State.{State, says_first, first, past, is_mark_of, ◌>>=◌}
 use Rattle.m88_parse.specs.Slots.{symbol_at, any_name_at, end_at}
 use Rattle.m88_parse.specs.Source.{operation_on, operation_at, statement, labelled_on, labelled_at, unlabelled_at, head_at, is_label_on, is_head_on, row_at, end_of, row_of_pieces}
-use Rattle.m88_parse.specs.Spelling.Names.{IsMark, IsNamed, IsSymbol}
+use Rattle.m88_parse.specs.Spelling.Names.{IsNamed, IsSymbol}
 use Rattle.m88_parse.specs.Spelling.Statements.{IsBody, text, data_section, at, word, half, byte, ascii, zeros, align, global, set, code, IsLabel, HasNoColon, IsStatement, plain, labelled, label_alone, IsHead, head}
 use Rattle.m88_parse.specs.Spelling.Units.{Said, says_nothing, says, begins, LineSays, empty_line, statement_line, module_line}
 use Rattle.m88_parse.proofs.Law.Steps.{chosen, tested, take_then, take_else}
-use Rattle.m88_parse.proofs.Law.Names.{other_bytes}
-use Rattle.m88_parse.proofs.Law.Slots.{st, ok_same, bind_ok, bind_to, One, mark_says, end_read, IsSymbolAt, symbol_read, symbol_again, IsAnyName, any_name_read, any_name_again}
+use Rattle.m88_parse.proofs.Law.Slots.{st, ok_same, bind_ok, bind_to, mark_says, end_read, symbol_read, symbol_again, any_name_read, any_name_again}
 use Rattle.m88_parse.proofs.Law.Bodies.{operation_read, body_again}
 
 -- the row that says it
@@ -60,7 +58,7 @@ label_read line e p (c ∷ ps) r m h =
     let col : b.0.0.1 ≡ p.col = o.is.1 ∙ ap (λ (q : Piece). q.col) (sym same_piece) in
     let named : IsSymbol b.0.0.0 p = subst (IsSymbol b.0.0.0) (sym same_piece) o.is.0 in
     let k : labelled_on (st line e ps) (b.0.0.0, p.col) (first (st line e ps)) ≡ Ok r =
-      ap₂ (λ (n : ℕ) (t : State). labelled_on (past t) (b.0.0.0, n) (first (past t))) (sym col) (sym after) ∙ b.2 in
+    ap₂ (λ (n : ℕ) (t : State). labelled_on (past t) (b.0.0.0, n) (first (past t))) (sym col) (sym after) ∙ b.2 in
     labelled_rest line e p c ps b.0.0.0 r (record { symbol = named; colon = mark_says 58 c.says m }) k
 
 -- heads of modules
@@ -83,7 +81,7 @@ head_read line e p ps r n h =
     let z = end_read line e o.rest d.0 (ap end_at (sym o.after) ∙ d.1) in
     let t : ps ≡ o.piece ∷ [] = o.tokens ∙ ap (λ (qs : List Piece). o.piece ∷ qs) z in
     subst (λ (qs : List Piece). Stated line (p ∷ qs) r) (sym t)
-      (record { said = begins b.0.0; line_says = module_line (head n o.is.0 o.is.1); row_is = ap (λ (x : Row). let y : Option Row = Some x in y) (ok_same d.2) })
+    (record { said = begins b.0.0; line_says = module_line (head n o.is.0 o.is.1); row_is = ap (λ (x : Row). let y : Option Row = Some x in y) (ok_same d.2) })
 
 -- a statement with no label
 
@@ -134,7 +132,7 @@ unfolding row_at labelled_at
 label_again line e p c ps name z k h =
     let s = st line e (p ∷ c ∷ ps) in
     take_then (is_label_on (Some p.says) (Some c.says)) _ _ (ap₂ (λ (a b : Meaning). is_label_on (Some a) (Some b)) k.symbol.0 k.colon)
-      ∙ bind_to (symbol_at s) (λ (label : (List ℕ × ℕ) × State). labelled_on (past label.1) label.0 (first (past label.1))) ((name, p.col), st line e (c ∷ ps)) z (symbol_again line e name p (c ∷ ps) k.symbol) h
+    ∙ bind_to (symbol_at s) (λ (label : (List ℕ × ℕ) × State). labelled_on (past label.1) label.0 (first (past label.1))) ((name, p.col), st line e (c ∷ ps)) z (symbol_again line e name p (c ∷ ps) k.symbol) h
 
 colon_free : (m : Meaning) (ps : List Piece) → HasNoColon ps → is_label_on (Some m) (says_first ps) ≡ false
 colon_free (a_name name) [] h = refl
@@ -150,8 +148,8 @@ head_again : (line e : ℕ) (ps : List Piece) (name : List ℕ) → IsHead ps na
 unfolding row_at head_at
 head_again line e ps name (head {p = p} {q = q} n k v) =
     take_else (is_label_on (Some p.says) (Some q.says)) _ _ (head_no_label line e p q name n k)
-      ∙ take_then (is_head_on (Some p.says)) _ _ (ap (λ (m : Meaning). is_head_on (Some m)) n)
-      ∙ bind_to (any_name_at (st line e (q ∷ []))) (λ (x : List ℕ × State). end_at x.1 >>= made_head line x) (name, st line e []) (Ok (row.Head name line)) (any_name_again line e name q [] (k, v)) refl
+    ∙ take_then (is_head_on (Some p.says)) _ _ (ap (λ (m : Meaning). is_head_on (Some m)) n)
+    ∙ bind_to (any_name_at (st line e (q ∷ []))) (λ (x : List ℕ × State). end_at x.1 >>= made_head line x) (name, st line e []) (Ok (row.Head name line)) (any_name_again line e name q [] (k, v)) refl
 
 -- an operation isn't the head of a module
 not_head : (line e : ℕ) (ps : List Piece) (c : Body) → operation_at (st line e ps) ≡ Ok c → is_head_on (first (st line e ps)) ≡ false
@@ -176,14 +174,14 @@ plain_again line e p ps c h k =
     let s = st line e (p ∷ ps) in
     let o = body_again line e (p ∷ ps) c h in
     take_else (is_label_on (Some p.says) (says_first ps)) _ _ (colon_free p.says ps k)
-      ∙ take_else (is_head_on (Some p.says)) _ _ (not_head line e (p ∷ ps) c o)
-      ∙ bind_to (operation_at s) (λ (x : Body). Ok (statement s None p.col x)) c (Ok (statement s None p.col c)) o refl
+    ∙ take_else (is_head_on (Some p.says)) _ _ (not_head line e (p ∷ ps) c o)
+    ∙ bind_to (operation_at s) (λ (x : Body). Ok (statement s None p.col x)) c (Ok (statement s None p.col c)) o refl
 
 statement_again : (line e : ℕ) (ps : List Piece) (s : Statement) → IsStatement line ps s → row_at (st line e ps) ≡ Ok (row.Statement s)
 statement_again line e ps s (plain {p = p} {ps = qs} {said = c} h k) = plain_again line e p qs c h k
 statement_again line e ps s (labelled {l = l} {c = c} {p = p} {ps = qs} {name = name} {said = said} k h) =
     label_again line e l c (p ∷ qs) name (Ok (row.Statement s)) k
-      (bind_to (operation_at (st line e (p ∷ qs))) (λ (x : Body). Ok (statement (st line e (p ∷ qs)) (Some (name, l.col)) p.col x)) said (Ok (row.Statement s)) (body_again line e (p ∷ qs) said h) refl)
+    (bind_to (operation_at (st line e (p ∷ qs))) (λ (x : Body). Ok (statement (st line e (p ∷ qs)) (Some (name, l.col)) p.col x)) said (Ok (row.Statement s)) (body_again line e (p ∷ qs) said h) refl)
 statement_again line e ps s (label_alone {l = l} {c = c} {name = name} k) = label_again line e l c [] name (Ok (row.Statement s)) k refl
 
 -- a line's tokens

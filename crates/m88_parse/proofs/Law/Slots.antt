@@ -1,18 +1,16 @@
 -- The law of operands of one token: what is read there is what the token says, and the other way round.
-use Rattle.std.proofs.Common.{◌≡◌, ◌≢◌, ℕ, zero, suc, ◌+◌, ◌<◌, ◌≤◌, Bool, true, false, cond, not, ◌&&◌, ◌||◌, ◌==◌, nat_le, nat_lt, ◌⊎◌, inl, inr, List, [], ◌∷◌, ◌++◌, length, Option, Some, None, is_some, Ok, Err, Result, refl, sym, ap, ap₂, ◌∙◌, arith, subst, eqb-true, eq-eqb, ltb-true, lt-ltb, leb-true, le-leb, if◌then◌else◌, true≢false}
+use Rattle.std.proofs.Common.{◌≡◌, ℕ, ◌≤◌, Bool, true, ◌||◌, ◌==◌, nat_le, ◌⊎◌, inl, inr, List, [], ◌∷◌, Option, Some, None, Ok, Err, Result, refl, sym, ap, ◌∙◌, arith, subst, eqb-true, eq-eqb, leb-true, le-leb}
 use Rattle.m88_base.specs.Reg.{reg_of}
 use Rattle.m88_base.specs.Name.{IsName}
 use Rattle.m88_base.specs.declared.reg.Reg.{Reg}
 use Rattle.m88_parse.specs.declared.fault.ParseFault.{ParseFault}
-use Rattle.m88_parse.specs.declared.fault.ParseKind.{ParseKind}
-use Rattle.m88_parse.specs.declared.fault.ParseKind.TheVariants.{Syntax, NoSuchName, OutOfRange}
 use Rattle.m88_parse.specs.Tokens.{Meaning, a_name, a_number, a_text, a_mark, Piece}
 use Rattle.m88_parse.specs.Names.{register_of, control_in, bit_of, condition_of, is_name, is_symbol}
-use Rattle.m88_parse.specs.State.{State, first, place, past, trouble, is_mark_of, is_next, ◌>>=◌}
+use Rattle.m88_parse.specs.State.{State, past, is_mark_of, is_next, ◌>>=◌}
 use Rattle.m88_parse.specs.Slots.{Read, named, ranged, mark_at, end_at, number_on, number_at, as_register, register_on, register_at, control_on, control_at, bit_on, bit_at, mask_on, mask_at, symbol_on, symbol_at, text_on, text_at, any_name_on, any_name_at, alignment_on, alignment_at}
 use Rattle.m88_parse.specs.Spelling.Names.{IsMark, IsNumber, IsNamed, IsRegister, IsControl, IsBit, IsCondition, IsSymbol}
-use Rattle.m88_parse.proofs.Law.Steps.{both, either, chosen, tested, take_then, take_else}
-use Rattle.m88_parse.proofs.Law.Names.{some_same, register_is, register_name_again, control_name_is, control_name_again, symbol_is, symbol_name_again, name_is, name_spelled_again}
+use Rattle.m88_parse.proofs.Law.Steps.{either, chosen, take_then}
+use Rattle.m88_parse.proofs.Law.Names.{register_is, register_name_again, control_name_is, control_name_again, symbol_is, symbol_name_again, name_is, name_spelled_again}
 
 -- where a reading stands
 abbrev pub st : ℕ → ℕ → List Piece → State
@@ -136,8 +134,8 @@ pub register_again : (line e : ℕ) (r : Reg) (p : Piece) (ps : List Piece) → 
 unfolding register_at
 register_again line e r p ps h =
     ap (λ (m : Meaning). register_on (st line e (p ∷ ps)) (Some m)) h.2
-      ∙ ap (as_register (st line e (p ∷ ps))) (register_name_again h.0 h.1 h.3)
-      ∙ ap (λ (v : Reg). let y : Read Reg = Ok (v, st line e ps) in y) (sym h.4)
+    ∙ ap (as_register (st line e (p ∷ ps))) (register_name_again h.0 h.1 h.3)
+    ∙ ap (λ (v : Reg). let y : Read Reg = Ok (v, st line e ps) in y) (sym h.4)
 
 -- a control register
 

@@ -1,12 +1,12 @@
 -- The law of tokens: a line is cut into exactly the tokens that it is related to.
-use Rattle.std.proofs.Common.{◌≡◌, ◌≢◌, ℕ, zero, suc, ◌+◌, ◌-◌, ◌<◌, ◌≤◌, Bool, true, false, ◌&&◌, ◌⊎◌, inl, inr, List, [], ◌∷◌, ◌++◌, length, take, drop, Option, Some, None, Ok, Err, refl, sym, ap, ◌∙◌, arith, subst, subst₂, ap₂, Result, length-take, length-drop, length-append, append_assoc, take_at, drop_at, take-append-drop, take_all, add_assoc, add-zero}
+use Rattle.std.proofs.Common.{◌≡◌, ℕ, zero, suc, ◌+◌, ◌<◌, ◌≤◌, Bool, true, ◌&&◌, inl, inr, List, [], ◌∷◌, ◌++◌, length, take, drop, Option, Some, None, Ok, Err, refl, sym, ap, ◌∙◌, arith, subst, ap₂, Result, length-take, length-drop, length-append, take-append-drop}
 use Rattle.std.specs.List.{list_all}
 use Rattle.std.proofs.Math.Seq.{take-append_seam, drop-append_seam, drop-length}
 use Rattle.m88_parse.specs.declared.fault.ParseFault.{ParseFault}
 use Rattle.m88_parse.specs.declared.scan.Flaw.{Flaw}
-use Rattle.m88_parse.specs.Tokens.{is_blank, is_comment, is_word, Meaning, a_name, a_number, a_text, a_mark, Cut, gap, cut, front, Piece, prepend, fault_at, pieces, pieces_of}
+use Rattle.m88_parse.specs.Tokens.{is_blank, is_comment, Meaning, a_name, a_number, a_text, a_mark, Cut, front, Piece, prepend, fault_at, pieces, pieces_of}
 use Rattle.m88_base.specs.Name.{IsName}
-use Rattle.m88_parse.specs.Spelling.Tokens.{IsNumeral, IsGap, IsTail, IsRun, EndsRun, IsToken, Begins, IsEmpty, AreTokens, LineTokens}
+use Rattle.m88_parse.specs.Spelling.Tokens.{IsNumeral, IsGap, IsTail, IsRun, EndsRun, IsToken, AreTokens, LineTokens}
 use Rattle.m88_parse.proofs.Pieces.{cut_off, fault_front}
 use Rattle.m88_parse.proofs.Law.Steps.{both}
 use Rattle.m88_parse.proofs.Law.Fronts.{front_again, front_blank, front_comment, TokenAt, Stands, comment_stands, blank_stands, token_stands, front_stands}
@@ -19,8 +19,8 @@ gap_passed line col (b ∷ bs) rest h =
     let k = both (is_blank b) (list_all is_blank bs) h in
     let e : col + 1 + length bs ≡ col + suc (length bs) = omega arith in
     cut_off line col (b ∷ (bs ++ rest)) (record { len = 1; says = None }) (omega arith) (front_blank b (bs ++ rest) k.0) (omega arith)
-      ∙ gap_passed line (col + 1) bs rest k.1
-      ∙ ap (λ (n : ℕ). pieces line 0 n rest) e
+    ∙ gap_passed line (col + 1) bs rest k.1
+    ∙ ap (λ (n : ℕ). pieces line 0 n rest) e
 
 pub nothing_left : (line col : ℕ) → pieces line 0 col [] ≡ Ok []
 unfolding pieces
@@ -30,8 +30,8 @@ tail_passed : (line col : ℕ) (bs : List ℕ) → IsTail bs → pieces line 0 c
 tail_passed line col [] h = nothing_left line col
 tail_passed line col (b ∷ bs) h =
     cut_off line col (b ∷ bs) (record { len = suc (length bs); says = None }) (omega arith) (front_comment b bs h) (omega arith)
-      ∙ ap (pieces line 0 (col + suc (length bs))) (drop-length (b ∷ bs))
-      ∙ nothing_left line (col + suc (length bs))
+    ∙ ap (pieces line 0 (col + suc (length bs))) (drop-length (b ∷ bs))
+    ∙ nothing_left line (col + suc (length bs))
 
 no_numeral : (n : ℕ) → IsNumeral [] n → ⊥
 no_numeral n (inl h) = let s = h.some in omega arith
@@ -50,7 +50,7 @@ pub token_passed : (line col : ℕ) (text rest : List ℕ) (m : Meaning) → IsT
 token_passed line col text rest m h k =
     let s = some_bytes text m h in
     cut_off line col (text ++ rest) (record { len = length text; says = Some m }) (omega (arith, s, length-append text rest)) (front_again text rest m h k) s
-      ∙ ap₂ (λ (t r : List ℕ). prepend (Some m) col t (pieces line 0 (col + length text) r)) (take-append_seam text rest) (drop-append_seam text rest)
+    ∙ ap₂ (λ (t r : List ℕ). prepend (Some m) col t (pieces line 0 (col + length text) r)) (take-append_seam text rest) (drop-append_seam text rest)
 
 pub tokens_read : (line col : ℕ) (bytes : List ℕ) (ps : List Piece) → AreTokens col bytes ps → pieces line 0 col bytes ≡ Ok ps
 tokens_read line col bytes [] h =
@@ -59,10 +59,10 @@ tokens_read line col bytes (p ∷ ps) h =
     let b = h.1 in
     let ih = tokens_read line (p.col + length p.text) h.0 ps h.2 in
     ap (pieces line 0 col) b.bytes_are
-      ∙ gap_passed line col b.gap (p.text ++ h.0) b.blank
-      ∙ ap (λ (n : ℕ). pieces line 0 n (p.text ++ h.0)) (sym b.place)
-      ∙ token_passed line p.col p.text h.0 p.says b.token b.longest
-      ∙ ap (prepend (Some p.says) p.col p.text) ih
+    ∙ gap_passed line col b.gap (p.text ++ h.0) b.blank
+    ∙ ap (λ (n : ℕ). pieces line 0 n (p.text ++ h.0)) (sym b.place)
+    ∙ token_passed line p.col p.text h.0 p.says b.token b.longest
+    ∙ ap (prepend (Some p.says) p.col p.text) ih
 
 -- what is read is related
 
@@ -73,22 +73,25 @@ prepended m col text (Err f) ps h = absurd cc
 
 blank_before : (col b : ℕ) (bs : List ℕ) (ps : List Piece) → is_blank b ≡ true → AreTokens (col + 1) bs ps → AreTokens col (b ∷ bs) ps
 blank_before col b bs [] w h = record {
-    gap = b ∷ h.gap;
-    tail = h.tail;
-    bytes_are = ap (λ (xs : List ℕ). b ∷ xs) h.bytes_are;
-    blank = ap (λ (t : Bool). t && list_all is_blank h.gap) w ∙ h.blank;
-    comment = h.comment
-  }
+  gap = b ∷ h.gap;
+  tail = h.tail;
+  bytes_are = ap (λ (xs : List ℕ). b ∷ xs) h.bytes_are;
+  blank = ap (λ (t : Bool). t && list_all is_blank h.gap) w ∙ h.blank;
+  comment = h.comment;
+}
 blank_before col b bs (p ∷ ps) w h =
-    let x = h.1 in
-    (h.0, record {
+    let x = h.1 in (
+      h.0,
+      record {
         gap = b ∷ x.gap;
         bytes_are = ap (λ (xs : List ℕ). b ∷ xs) x.bytes_are;
         blank = ap (λ (t : Bool). t && list_all is_blank x.gap) w ∙ x.blank;
         place = omega (arith, x.place);
         token = x.token;
-        longest = x.longest
-      }, h.2)
+        longest = x.longest;
+      },
+      h.2,
+    )
 
 -- one step of a line that isn't empty
 abbrev Related : ℕ → ℕ → Type 0
@@ -107,14 +110,18 @@ token_first fuel line col bytes c ps ih s t h =
     let shorter : length (drop c.len bytes) ≤ fuel = omega (arith, length-drop c.len bytes) in
     let l : length (take c.len bytes) ≡ c.len = omega (arith, length-take c.len bytes) in
     let after = ih (col + c.len) (drop c.len bytes) q.0 shorter q.1 in
-    subst (AreTokens col bytes) q.2 (drop c.len bytes, record {
+    subst (AreTokens col bytes) q.2 (
+      drop c.len bytes,
+      record {
         gap = [];
         bytes_are = sym (take-append-drop c.len bytes);
         blank = refl;
         place = omega arith;
         token = t.token;
-        longest = t.longest
-      }, subst (λ (n : ℕ). AreTokens (col + n) (drop c.len bytes) q.0) (sym l) after)
+        longest = t.longest;
+      },
+      subst (λ (n : ℕ). AreTokens (col + n) (drop c.len bytes) q.0) (sym l) after,
+    )
 
 pub same_pieces : {a b : List Piece} → ◌≡◌ {A = Result (List Piece) ParseFault} (Ok a) (Ok b) → a ≡ b
 same_pieces h = cc

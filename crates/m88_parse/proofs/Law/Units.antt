@@ -1,5 +1,5 @@
 -- The law of units: the unit that is read is the one that a source is related to, and there is no other.
-use Rattle.std.proofs.Common.{◌≡◌, ◌≢◌, ℕ, zero, suc, ◌+◌, Bool, true, false, List, [], ◌∷◌, ◌++◌, Option, Some, None, Ok, Err, Result, refl, sym, ap, ap₂, ◌∙◌, arith, subst, subst₂, codes, inl, inr, ◌⊎◌, IfOk}
+use Rattle.std.proofs.Common.{◌≡◌, ℕ, ◌+◌, List, [], ◌∷◌, Option, Some, None, Ok, Err, Result, refl, sym, ap, ap₂, ◌∙◌, subst, IfOk}
 use Rattle.m88_parse.specs.declared.fault.ParseFault.{ParseFault}
 use Rattle.m88_parse.specs.declared.unit.Statement.{Statement}
 use Rattle.m88_parse.specs.declared.unit.Module.{Module}
@@ -8,10 +8,10 @@ use Rattle.m88_parse.specs.declared.row.Row.{Row}
 use Rattle.m88_parse.specs.declared.row.Row.TheVariants as row
 use Rattle.m88_parse.specs.Tokens.{Piece, pieces_of}
 use Rattle.m88_parse.specs.Fault.{Gives}
-use Rattle.m88_parse.specs.State.{State, ◌>>=◌}
+use Rattle.m88_parse.specs.State.{◌>>=◌}
 use Rattle.m88_parse.specs.Source.{lines_of, row_of_pieces, row_of, with_row, rows_of, grouped, main_with, modules_in, unit_of_rows, unit_of}
 use Rattle.m88_parse.specs.Spelling.Tokens.{LineTokens}
-use Rattle.m88_parse.specs.Spelling.Units.{Said, says_nothing, says, begins, LineSays, AreLines, AreRows, no_row, row_of_nothing, row_of_statement, row_of_module, AreModules, only_main, first_main, no_main, IsUnit}
+use Rattle.m88_parse.specs.Spelling.Units.{Said, says_nothing, says, begins, LineSays, AreRows, no_row, row_of_nothing, row_of_statement, row_of_module, AreModules, only_main, first_main, no_main, IsUnit}
 use Rattle.m88_parse.proofs.Law.Slots.{ok_same, bind_ok, bind_to}
 use Rattle.m88_parse.proofs.Law.Tokens.{line_is_cut, line_is_read}
 use Rattle.m88_parse.proofs.Law.Rows.{row_for, line_read, line_again}
@@ -68,7 +68,7 @@ one_more : (number : ℕ) (line : List ℕ) (lines : List (List ℕ)) (o : Optio
 unfolding rows_of
 one_more number line lines o rows h k =
     bind_to (row_of number line) (λ (r : Option Row). rows_of (number + 1) lines >>= λ (rs : List Row). Ok (with_row r rs)) o (Ok (with_row o rows)) h
-      (bind_to (rows_of (number + 1) lines) (λ (rs : List Row). Ok (with_row o rs)) rows (Ok (with_row o rows)) k refl)
+    (bind_to (rows_of (number + 1) lines) (λ (rs : List Row). Ok (with_row o rs)) rows (Ok (with_row o rows)) k refl)
 
 rows_again : {number : ℕ} {lines : List (List ℕ)} {ss : List Statement} {ms : List Module} → AreRows number lines ss ms → RowsRead number lines ss ms
 unfolding rows_of grouped
@@ -82,7 +82,7 @@ rows_again (row_of_statement {number = number} {line = line} {lines = lines} {ps
       rows = row.Statement s ∷ k.rows;
       read = one_more number line lines (Some (row.Statement s)) k.rows (row_again number line ps (says s) t h) k.read;
       statements = ap (λ (xs : List Statement). s ∷ xs) k.statements;
-      modules = k.modules
+      modules = k.modules;
     }
 rows_again (row_of_module {number = number} {line = line} {lines = lines} {ps = ps} {name = name} t h g) =
     let k = rows_again g in
@@ -90,7 +90,7 @@ rows_again (row_of_module {number = number} {line = line} {lines = lines} {ps = 
       rows = row.Head name number ∷ k.rows;
       read = one_more number line lines (Some (row.Head name number)) k.rows (row_again number line ps (begins name) t h) k.read;
       statements = refl;
-      modules = ap₂ (λ (xs : List Statement) (ys : List Module). record { name = name; line = number; statements = xs } ∷ ys) k.statements k.modules
+      modules = ap₂ (λ (xs : List Statement) (ys : List Module). record { name = name; line = number; statements = xs } ∷ ys) k.statements k.modules;
     }
 
 -- modules
@@ -121,7 +121,7 @@ read_is_related source unit h =
     let b = bind_ok (rows_of 1 (lines_of source)) (λ (rows : List Row). let y : Result Source ParseFault = Ok (unit_of_rows rows) in y) unit h in
     let g = grouped b.0 in
     subst (IsUnit source) (ok_same b.2)
-      (record { lines = lines_of source; statements = g.0; modules = g.1; are_lines = lines_related source; are_rows = rows_related 1 (lines_of source) b.0 b.1; are_modules = modules_related g.0 g.1 })
+    (record { lines = lines_of source; statements = g.0; modules = g.1; are_lines = lines_related source; are_rows = rows_related 1 (lines_of source) b.0 b.1; are_modules = modules_related g.0 g.1 })
 
 pub related_is_read : (source : List ℕ) (unit : Source) → IsUnit source unit → unit_of source ≡ Ok unit
 unfolding unit_of
@@ -130,7 +130,7 @@ related_is_read source unit h =
     let r : rows_of 1 (lines_of source) ≡ Ok k.rows = ap (rows_of 1) (lines_computed h.are_lines) ∙ k.read in
     let m : modules_in (grouped k.rows).0 (grouped k.rows).1 ≡ unit.modules = ap₂ modules_in k.statements k.modules ∙ modules_computed h.are_modules in
     bind_to (rows_of 1 (lines_of source)) (λ (rows : List Row). let y : Result Source ParseFault = Ok (unit_of_rows rows) in y) k.rows (Ok unit) r
-      (ap (λ (u : Source). let y : Result Source ParseFault = Ok u in y) (same_unit (modules_in (grouped k.rows).0 (grouped k.rows).1) unit.modules m))
+    (ap (λ (u : Source). let y : Result Source ParseFault = Ok u in y) (same_unit (modules_in (grouped k.rows).0 (grouped k.rows).1) unit.modules m))
 
 pub single_unit : (source : List ℕ) (a b : Source) → IsUnit source a → IsUnit source b → a ≡ b
 single_unit source a b h k = ok_same (sym (related_is_read source a h) ∙ related_is_read source b k)

@@ -1,19 +1,16 @@
 -- The law of operands of several tokens: numbers with a sign, symbols with what is added to them, and halves of values.
-use Rattle.std.proofs.Common.{◌≡◌, ◌≢◌, ℕ, zero, suc, ◌+◌, ◌-◌, ◌/◌, ◌%◌, ◌<◌, ◌≤◌, Bool, true, false, cond, not, ◌&&◌, ◌||◌, ◌==◌, nat_le, nat_lt, ◌⊎◌, inl, inr, List, [], ◌∷◌, ◌++◌, length, Option, Some, None, is_some, Ok, Err, Result, refl, sym, ap, ap₂, ◌∙◌, arith, subst, subst₂, eqb-true, eq-eqb, leb-true, le-leb, if◌then◌else◌, true≢false, append_assoc, append-nil, codes, bytes_eq}
+use Rattle.std.proofs.Common.{◌≡◌, ℕ, ◌≤◌, true, false, ◌==◌, nat_le, ◌⊎◌, inl, inr, List, [], ◌∷◌, ◌++◌, Option, Some, None, Ok, refl, sym, ap, ◌∙◌, arith, subst, eqb-true, leb-true, le-leb, if◌then◌else◌}
 use Rattle.m88_base.specs.declared.fixup.Kind.{Kind}
-use Rattle.m88_base.specs.declared.fixup.Kind.TheVariants.{Hi16, Lo16}
 use Rattle.m88_base.specs.declared.fixup.Fixup.{Fixup}
-use Rattle.m88_parse.specs.declared.fault.ParseFault.{ParseFault}
-use Rattle.m88_parse.specs.declared.fault.ParseKind.TheVariants.{Syntax, NoSuchName, OutOfRange}
 use Rattle.m88_parse.specs.declared.unit.Value.{Value}
 use Rattle.m88_parse.specs.declared.unit.Value.TheVariants.{Number, Symbol}
 use Rattle.m88_parse.specs.Tokens.{Meaning, a_name, a_number, a_text, a_mark, Piece}
-use Rattle.m88_parse.specs.State.{State, first, place, past, trouble, is_mark_of, is_next, ◌>>=◌}
-use Rattle.m88_parse.specs.Slots.{Read, mark_at, negated, negative_on, number_on, number_at, whole_at, symbol_at, addend_at, fixup_at, value_on, value_at}
-use Rattle.m88_parse.specs.Spelling.Names.{IsMark, IsNumber, IsNamed, IsSymbol}
+use Rattle.m88_parse.specs.State.{State, first, past, is_mark_of, is_next, ◌>>=◌}
+use Rattle.m88_parse.specs.Slots.{Read, negated, negative_on, number_on, number_at, whole_at, symbol_at, addend_at, fixup_at, value_on, value_at}
+use Rattle.m88_parse.specs.Spelling.Names.{IsMark, IsNumber}
 use Rattle.m88_parse.specs.Spelling.Operands.{minus, IsSigned, IsSymbolOf, IsAddend, IsFixup, IsValue}
-use Rattle.m88_parse.proofs.Law.Steps.{both, either, chosen, tested, take_then, take_else}
-use Rattle.m88_parse.proofs.Law.Slots.{st, ok_same, bind_ok, bind_to, One, OneMark, mark_says, next_is, next_again, IsUpTo, number_by, number_read, number_slot_again, ranged_again, IsSymbolAt, symbol_read, symbol_again}
+use Rattle.m88_parse.proofs.Law.Steps.{chosen, take_then, take_else}
+use Rattle.m88_parse.proofs.Law.Slots.{st, ok_same, bind_ok, bind_to, One, mark_says, next_is, next_again, IsUpTo, number_by, number_read, number_slot_again, ranged_again, IsSymbolAt, symbol_read, symbol_again}
 
 -- several tokens, what they give, and what is left
 pub record Several (A : Type 0) (Is : List Piece → A → Type 0) (line e : ℕ) (ps : List Piece) (x : A × State) : Type 0 where
@@ -74,9 +71,9 @@ whole_again low most line e (m ∷ p ∷ []) rest v h =
     let s = st line e (m ∷ p ∷ rest) in
     let n = h.1 in
     take_then (is_next 45 s) _ _ (next_again 45 line e m (p ∷ rest) h.0)
-      ∙ ap (λ (o : Meaning). negative_on low s (past s) (Some o)) n.1
-      ∙ take_then (nat_le n.0 low) _ _ (le-leb n.0 low n.2)
-      ∙ ap (λ (k : ℕ). let y : Read ℕ = Ok (k, st line e rest) in y) (sym n.3)
+    ∙ ap (λ (o : Meaning). negative_on low s (past s) (Some o)) n.1
+    ∙ take_then (nat_le n.0 low) _ _ (le-leb n.0 low n.2)
+    ∙ ap (λ (k : ℕ). let y : Read ℕ = Ok (k, st line e rest) in y) (sym n.3)
 whole_again low most line e (p ∷ q ∷ r ∷ ps) rest v h = absurd h
 
 -- a number with a sign, modulo 2^32, 2^16 and 2^8
@@ -112,7 +109,7 @@ minus_added line e ps x k h =
     let n = number_read 2147483647 line e m.rest b.0 (ap (number_at 2147483647) (sym m.after) ∙ b.1) in
     let same = ok_same b.2 in
     number_added m.piece n.piece n.rest (m.tokens ∙ ap (λ (qs : List Piece). m.piece ∷ qs) n.tokens) (b.0.0, n.is.0, omega (arith, n.is.1), inr (m.is, sym (ap (λ (y : ℕ × State). y.0) same)))
-      (sym (ap (λ (y : ℕ × State). y.1) same) ∙ n.after)
+    (sym (ap (λ (y : ℕ × State). y.1) same) ∙ n.after)
 
 pub addend_read : (line e : ℕ) (ps : List Piece) (x : ℕ × State) → addend_at (st line e ps) ≡ Ok x → Added line e ps x
 unfolding addend_at
@@ -151,13 +148,13 @@ addend_again line e addend m p rest h = by_mark h.3
     by_mark : (IsMark 43 m × (addend ≡ h.0)) ⊎ (IsMark 45 m × (addend ≡ minus 4294967296 h.0)) → addend_at (st line e (m ∷ p ∷ rest)) ≡ Ok (addend, st line e rest)
     by_mark (inl k) =
         take_then (is_next 43 (st line e (m ∷ p ∷ rest))) _ _ (next_again 43 line e m (p ∷ rest) k.0)
-          ∙ number_slot_again 2147483647 line e h.0 p rest h.1 (omega (arith, h.2))
-          ∙ ap (λ (n : ℕ). let y : Read ℕ = Ok (n, st line e rest) in y) (sym k.1)
+        ∙ number_slot_again 2147483647 line e h.0 p rest h.1 (omega (arith, h.2))
+        ∙ ap (λ (n : ℕ). let y : Read ℕ = Ok (n, st line e rest) in y) (sym k.1)
     by_mark (inr k) =
         take_else (is_next 43 (st line e (m ∷ p ∷ rest))) _ _ (plus_no_minus m.says (next_again 45 line e m (p ∷ rest) k.0))
-          ∙ take_then (is_next 45 (st line e (m ∷ p ∷ rest))) _ _ (next_again 45 line e m (p ∷ rest) k.0)
-          ∙ bind_to (number_at 2147483647 (st line e (p ∷ rest))) (λ (n : ℕ × State). Ok (negated n.0, n.1)) (h.0, st line e rest) (Ok (addend, st line e rest)) (number_slot_again 2147483647 line e h.0 p rest h.1 (omega (arith, h.2)))
-              (ap (λ (n : ℕ). let y : Read ℕ = Ok (n, st line e rest) in y) (sym k.1))
+        ∙ take_then (is_next 45 (st line e (m ∷ p ∷ rest))) _ _ (next_again 45 line e m (p ∷ rest) k.0)
+        ∙ bind_to (number_at 2147483647 (st line e (p ∷ rest))) (λ (n : ℕ × State). Ok (negated n.0, n.1)) (h.0, st line e rest) (Ok (addend, st line e rest)) (number_slot_again 2147483647 line e h.0 p rest h.1 (omega (arith, h.2)))
+        (ap (λ (n : ℕ). let y : Read ℕ = Ok (n, st line e rest) in y) (sym k.1))
 
 -- a symbol with what is added to it
 
@@ -173,7 +170,7 @@ fixup_added kind line e ps s rest name more x t i (nothing_added z a) k =
     several Fixup (IsFixup kind) line e ps (s ∷ []) rest (made_fixup kind name.0 more.0 name.1) x t ((refl, i.0, i.1), z) (ap (λ (u : State). let y : Fixup × State = (made_fixup kind name.0 more.0 name.1, u) in y) (sym a) ∙ k)
 fixup_added kind line e ps s rest name more x t i (number_added m p after u d a) k =
     several Fixup (IsFixup kind) line e ps (s ∷ m ∷ p ∷ []) after (made_fixup kind name.0 more.0 name.1) x (t ∙ ap (λ (qs : List Piece). s ∷ qs) u) ((refl, i.0, i.1), d)
-      (ap (λ (u : State). let y : Fixup × State = (made_fixup kind name.0 more.0 name.1, u) in y) (sym a) ∙ k)
+    (ap (λ (u : State). let y : Fixup × State = (made_fixup kind name.0 more.0 name.1, u) in y) (sym a) ∙ k)
 
 pub fixup_read : (kind : Kind) (line e : ℕ) (ps : List Piece) (x : Fixup × State) → fixup_at kind (st line e ps) ≡ Ok x → Several Fixup (IsFixup kind) line e ps x
 unfolding fixup_at
@@ -191,8 +188,8 @@ fixup_from : (kind : Kind) (line e : ℕ) (s : Piece) (ps rest : List Piece) (f 
 unfolding fixup_at
 fixup_from kind line e s ps rest f i a =
     bind_to (symbol_at (st line e (s ∷ ps))) (λ (name : (List ℕ × ℕ) × State). addend_at name.1 >>= with_addend kind name) ((f.symbol, s.col), st line e ps) (Ok (f, st line e rest)) (symbol_again line e f.symbol s ps i.1)
-      (bind_to (addend_at (st line e ps)) (with_addend kind ((f.symbol, s.col), st line e ps)) (f.addend, st line e rest) (Ok (f, st line e rest)) a
-        (ap (λ (g : Fixup). let y : Read Fixup = Ok (g, st line e rest) in y) (same_fixup kind f f.addend s.col i.0 refl i.2)))
+    (bind_to (addend_at (st line e ps)) (with_addend kind ((f.symbol, s.col), st line e ps)) (f.addend, st line e rest) (Ok (f, st line e rest)) a
+    (ap (λ (g : Fixup). let y : Read Fixup = Ok (g, st line e rest) in y) (same_fixup kind f f.addend s.col i.0 refl i.2)))
 
 pub fixup_again : (kind : Kind) (line e : ℕ) (front rest : List Piece) (f : Fixup) → IsFixup kind front f → IsUnsigned rest → fixup_at kind (st line e (front ++ rest)) ≡ Ok (f, st line e rest)
 fixup_again kind line e [] rest f h u = absurd h
@@ -214,14 +211,14 @@ number_here kind line e ps x h =
     let b = bind_ok (whole_at 2147483648 4294967295 (st line e ps)) number_value x h in
     let w = whole_read 2147483648 4294967295 line e ps b.0 b.1 in
     several Value (IsValue kind) line e ps w.front w.rest (Number b.0.0) x w.tokens (word_signed w.front b.0.0 w.is)
-      (ap (λ (u : State). let y : Value × State = (Number b.0.0, u) in y) (sym w.after) ∙ ok_same b.2)
+    (ap (λ (u : State). let y : Value × State = (Number b.0.0, u) in y) (sym w.after) ∙ ok_same b.2)
 
 symbol_here : (kind : Kind) (line e : ℕ) (ps : List Piece) (x : Value × State) → (fixup_at kind (st line e ps) >>= symbol_value) ≡ Ok x → Several Value (IsValue kind) line e ps x
 symbol_here kind line e ps x h =
     let b = bind_ok (fixup_at kind (st line e ps)) symbol_value x h in
     let w = fixup_read kind line e ps b.0 b.1 in
     several Value (IsValue kind) line e ps w.front w.rest (Symbol b.0.0) x w.tokens w.is
-      (ap (λ (u : State). let y : Value × State = (Symbol b.0.0, u) in y) (sym w.after) ∙ ok_same b.2)
+    (ap (λ (u : State). let y : Value × State = (Symbol b.0.0, u) in y) (sym w.after) ∙ ok_same b.2)
 
 value_by : (kind : Kind) (line e : ℕ) (ps : List Piece) (o : Option Meaning) (x : Value × State) → value_on kind (st line e ps) o ≡ Ok x → Several Value (IsValue kind) line e ps x
 value_by kind line e ps None x h = number_here kind line e ps x h

@@ -43,7 +43,7 @@ pub data IsFlaw : List ℕ → ℕ → ParseKind → Type 0 where
   foreign_byte : {b : ℕ} {bs : List ℕ} → is_plain b ≡ false → IsFlaw (b ∷ bs) 0 NotAscii
   foreign_in_quotes : {q : ℕ} {bs : List ℕ} (before : List ℕ) (b : ℕ) (after : List ℕ) → IsQuote q → Takes q bs (before ++ b ∷ after) → list_all is_plain before ≡ true → is_plain b ≡ false → IsFlaw (q ∷ bs) (length before + 1) NotAscii
   no_quoted_token : {q : ℕ} {bs : List ℕ} (inside : List ℕ) → IsQuote q → Takes q bs inside → list_all is_plain inside ≡ true
-    → ((m : Meaning) (rest : List ℕ) → bs ≡ inside ++ q ∷ rest → IsToken (q ∷ inside ++ q ∷ []) m → ⊥) → IsFlaw (q ∷ bs) 0 Syntax
+      → ((m : Meaning) (rest : List ℕ) → bs ≡ inside ++ q ∷ rest → IsToken (q ∷ inside ++ q ∷ []) m → ⊥) → IsFlaw (q ∷ bs) 0 Syntax
   long_name : (run rest : List ℕ) {bytes : List ℕ} → bytes ≡ run ++ rest → IsRun run → EndsRun rest → BeginsWithDigit run false → 64 < length run → IsFlaw bytes 0 OutOfRange
   no_number : (run rest : List ℕ) {bytes : List ℕ} → bytes ≡ run ++ rest → IsRun run → EndsRun rest → BeginsWithDigit run true → ((n : ℕ) → IsNumeral run n → ⊥) → IsFlaw bytes 0 Syntax
   large_number : (run rest : List ℕ) (n : ℕ) {bytes : List ℕ} → bytes ≡ run ++ rest → IsRun run → EndsRun rest → IsNumeral run n → 4294967296 ≤ n → IsFlaw bytes 0 OutOfRange

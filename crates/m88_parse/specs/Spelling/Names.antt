@@ -1,6 +1,6 @@
 -- What single tokens say where an operand wants a register, a control register, a bit, a condition or a symbol
 -- (operand syntax of the assembly language).
-use Rattle.std.specs.Prelude.{ℕ, Bool, true, false, ◌≡◌, ◌≢◌, ◌⊎◌, ◌<◌, ◌≤◌, List, [], ◌∷◌, ◌++◌, Some, codes}
+use Rattle.std.specs.Prelude.{ℕ, Bool, true, false, ◌≡◌, ◌≢◌, ◌⊎◌, ◌<◌, ◌≤◌, List, ◌++◌, Some, codes}
 use Rattle.m88_base.specs.declared.reg.Reg.{Reg}
 use Rattle.m88_base.specs.Reg.{reg_of}
 use Rattle.m88_base.specs.Name.{IsName}

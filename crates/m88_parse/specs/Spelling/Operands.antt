@@ -1,5 +1,5 @@
 -- The operands of instructions as whole lists of tokens (operand syntax of the assembly language).
-use Rattle.std.specs.Prelude.{ℕ, ℤ, pos, neg_ℤ, Bool, true, false, ◌≡◌, ◌≢◌, ◌⊎◌, ◌<◌, ◌≤◌, ◌+◌, ◌-◌, ◌*◌, ◌/◌, ◌%◌, ◌^◌, List, [], ◌∷◌, ◌++◌, Option, Some, None, codes}
+use Rattle.std.specs.Prelude.{ℕ, ℤ, pos, neg_ℤ, Bool, true, false, ◌≡◌, ◌⊎◌, ◌<◌, ◌≤◌, ◌-◌, ◌*◌, ◌/◌, ◌%◌, ◌^◌, List, [], ◌∷◌, ◌++◌, Option, Some, None, codes}
 use Rattle.m88_base.specs.declared.reg.Reg.{Reg}
 use Rattle.m88_base.specs.declared.fixup.Kind.{Kind}
 use Rattle.m88_base.specs.declared.fixup.Kind.TheVariants.{Hi16, Lo16, Pc26, Pc16}
@@ -56,8 +56,8 @@ IsHalfOf kind (Symbol f) imm fixup = (imm ≡ 0) × (fixup ≡ Some f)
 pub data IsImmediate : List Piece → ℕ → Option Fixup → Type 0 where
   short : {p : Piece} {imm : ℕ} → IsNumber imm p → imm < 65536 → IsImmediate (p ∷ []) imm None
   half : {h o : Piece} {ps : List Piece} (inside : List Piece) (c : Piece) (name : List ℕ) (kind : Kind) (v : Value) {imm : ℕ} {fixup : Option Fixup}
-    → IsNamed name h → half_of name ≡ Some kind → IsMark 40 o → ps ≡ inside ++ c ∷ [] → IsValue kind inside v → IsMark 41 c → IsHalfOf kind v imm fixup
-    → IsImmediate (h ∷ o ∷ ps) imm fixup
+      → IsNamed name h → half_of name ≡ Some kind → IsMark 40 o → ps ≡ inside ++ c ∷ [] → IsValue kind inside v → IsMark 41 c → IsHalfOf kind v imm fixup
+      → IsImmediate (h ∷ o ∷ ps) imm fixup
 
 -- a register, and what stands behind the comma after it
 pub record Behind (r : Reg) (ps rest : List Piece) : Type 0 where
@@ -106,55 +106,55 @@ pub data IsGoal (kind : Kind) (bits : ℕ) : List Piece → ℤ → Option Fixup
 -- The operands of each form, the instruction that they make, and the fixup of its one field that waits for a symbol.
 pub data AreOperands : Shape → List Piece → Instr → Option Fixup → Type 0 where
   either_immediate : {iop : _} {rop : _} {d s1 : Reg} {ps qs rest : List Piece} {imm : ℕ} {fixup : Option Fixup}
-    → Behind d ps qs → Behind s1 qs rest → IsImmediate rest imm fixup → AreOperands (shape.Either iop rop) ps (instr.Imm iop d s1 imm) fixup
+      → Behind d ps qs → Behind s1 qs rest → IsImmediate rest imm fixup → AreOperands (shape.Either iop rop) ps (instr.Imm iop d s1 imm) fixup
   either_register : {iop : _} {rop : _} {d s1 s2 : Reg} {ps qs rest : List Piece}
-    → Behind d ps qs → Behind s1 qs rest → IsLast s2 rest → AreOperands (shape.Either iop rop) ps (instr.Regs rop d s1 s2) None
+      → Behind d ps qs → Behind s1 qs rest → IsLast s2 rest → AreOperands (shape.Either iop rop) ps (instr.Regs rop d s1 s2) None
   immediate : {op : _} {d s1 : Reg} {ps qs rest : List Piece} {imm : ℕ} {fixup : Option Fixup}
-    → Behind d ps qs → Behind s1 qs rest → IsImmediate rest imm fixup → AreOperands (shape.Immediate op) ps (instr.Imm op d s1 imm) fixup
+      → Behind d ps qs → Behind s1 qs rest → IsImmediate rest imm fixup → AreOperands (shape.Immediate op) ps (instr.Imm op d s1 imm) fixup
   registers : {op : _} {d s1 s2 : Reg} {ps qs rest : List Piece}
-    → Behind d ps qs → Behind s1 qs rest → IsLast s2 rest → AreOperands (shape.Registers op) ps (instr.Regs op d s1 s2) None
+      → Behind d ps qs → Behind s1 qs rest → IsLast s2 rest → AreOperands (shape.Registers op) ps (instr.Regs op d s1 s2) None
   offset : {op : _} {d s1 : Reg} {ps qs rest : List Piece} {imm : ℕ} {fixup : Option Fixup}
-    → Behind d ps qs → Behind s1 qs rest → IsImmediate rest imm fixup → AreOperands (shape.Memory op) ps (instr.MemImm op d s1 imm) fixup
+      → Behind d ps qs → Behind s1 qs rest → IsImmediate rest imm fixup → AreOperands (shape.Memory op) ps (instr.MemImm op d s1 imm) fixup
   index : {op : _} {d s1 s2 : Reg} {ps qs rest : List Piece}
-    → Behind d ps qs → Behind s1 qs rest → IsLast s2 rest → AreOperands (shape.Memory op) ps (instr.MemReg op d s1 s2 false false) None
+      → Behind d ps qs → Behind s1 qs rest → IsLast s2 rest → AreOperands (shape.Memory op) ps (instr.MemReg op d s1 s2 false false) None
   scaled : {op : _} {d s1 s2 : Reg} {ps rest : List Piece} {p : Piece}
-    → Behind d ps (p ∷ rest) → IsRegister s1 p → IsScaled s2 rest → AreOperands (shape.Memory op) ps (instr.MemReg op d s1 s2 true false) None
+      → Behind d ps (p ∷ rest) → IsRegister s1 p → IsScaled s2 rest → AreOperands (shape.Memory op) ps (instr.MemReg op d s1 s2 true false) None
   user_index : {op : _} {d s1 s2 : Reg} {ps qs rest : List Piece}
-    → Behind d ps qs → Behind s1 qs rest → IsLast s2 rest → AreOperands (shape.UserMemory op) ps (instr.MemReg op d s1 s2 false true) None
+      → Behind d ps qs → Behind s1 qs rest → IsLast s2 rest → AreOperands (shape.UserMemory op) ps (instr.MemReg op d s1 s2 false true) None
   user_scaled : {op : _} {d s1 s2 : Reg} {ps rest : List Piece} {p : Piece}
-    → Behind d ps (p ∷ rest) → IsRegister s1 p → IsScaled s2 rest → AreOperands (shape.UserMemory op) ps (instr.MemReg op d s1 s2 true true) None
+      → Behind d ps (p ∷ rest) → IsRegister s1 p → IsScaled s2 rest → AreOperands (shape.UserMemory op) ps (instr.MemReg op d s1 s2 true true) None
   address : {size : _} {d s1 s2 : Reg} {ps rest : List Piece} {p : Piece}
-    → Behind d ps (p ∷ rest) → IsRegister s1 p → IsScaled s2 rest → AreOperands (shape.Address size) ps (instr.Lda size d s1 s2) None
+      → Behind d ps (p ∷ rest) → IsRegister s1 p → IsScaled s2 rest → AreOperands (shape.Address size) ps (instr.Lda size d s1 s2) None
   literal : {op : BitOp} {d s1 : Reg} {ps qs rest : List Piece} {width offset : ℕ}
-    → Behind d ps qs → Behind s1 qs rest → IsLiteral (most_width op) rest width offset → AreOperands (shape.Bits op) ps (instr.BitLit op d s1 width offset) None
+      → Behind d ps qs → Behind s1 qs rest → IsLiteral (most_width op) rest width offset → AreOperands (shape.Bits op) ps (instr.BitLit op d s1 width offset) None
   field : {op : BitOp} {d s1 s2 : Reg} {ps qs rest : List Piece}
-    → Behind d ps qs → Behind s1 qs rest → IsLast s2 rest → AreOperands (shape.Bits op) ps (instr.BitReg op d s1 s2) None
+      → Behind d ps qs → Behind s1 qs rest → IsLast s2 rest → AreOperands (shape.Bits op) ps (instr.BitReg op d s1 s2) None
   find : {ones : Bool} {d s2 : Reg} {ps rest : List Piece}
-    → Behind d ps rest → IsLast s2 rest → AreOperands (shape.Find ones) ps (instr.Find ones d s2) None
+      → Behind d ps rest → IsLast s2 rest → AreOperands (shape.Find ones) ps (instr.Find ones d s2) None
   branch : {link delayed : Bool} {ps : List Piece} {words : ℤ} {fixup : Option Fixup}
-    → IsGoal Pc26 25 ps words fixup → AreOperands (shape.Branch link delayed) ps (instr.Branch link delayed words) fixup
+      → IsGoal Pc26 25 ps words fixup → AreOperands (shape.Branch link delayed) ps (instr.Branch link delayed words) fixup
   branch_bit : {set delayed : Bool} {bit : ℕ} {s1 : Reg} {b c : Piece} {ps rest : List Piece} {words : ℤ} {fixup : Option Fixup}
-    → IsBit bit b → IsComma c → Behind s1 ps rest → IsGoal Pc16 15 rest words fixup
-    → AreOperands (shape.BranchBit set delayed) (b ∷ c ∷ ps) (instr.BranchBit set delayed bit s1 words) fixup
+      → IsBit bit b → IsComma c → Behind s1 ps rest → IsGoal Pc16 15 rest words fixup
+      → AreOperands (shape.BranchBit set delayed) (b ∷ c ∷ ps) (instr.BranchBit set delayed bit s1 words) fixup
   branch_condition : {delayed : Bool} {mask : ℕ} {s1 : Reg} {m c : Piece} {ps rest : List Piece} {words : ℤ} {fixup : Option Fixup}
-    → IsCondition mask m → IsComma c → Behind s1 ps rest → IsGoal Pc16 15 rest words fixup
-    → AreOperands (shape.BranchCond delayed) (m ∷ c ∷ ps) (instr.BranchCond delayed mask s1 words) fixup
+      → IsCondition mask m → IsComma c → Behind s1 ps rest → IsGoal Pc16 15 rest words fixup
+      → AreOperands (shape.BranchCond delayed) (m ∷ c ∷ ps) (instr.BranchCond delayed mask s1 words) fixup
   jump : {link delayed : Bool} {s2 : Reg} {ps : List Piece}
-    → IsLast s2 ps → AreOperands (shape.Jump link delayed) ps (instr.Jump link delayed s2) None
+      → IsLast s2 ps → AreOperands (shape.Jump link delayed) ps (instr.Jump link delayed s2) None
   trap_bit : {set : Bool} {bit vector : ℕ} {s1 : Reg} {b c v : Piece} {ps : List Piece}
-    → IsBit bit b → IsComma c → Behind s1 ps (v ∷ []) → IsNumber vector v → vector < 512
-    → AreOperands (shape.TrapBit set) (b ∷ c ∷ ps) (instr.TrapBit set bit s1 vector) None
+      → IsBit bit b → IsComma c → Behind s1 ps (v ∷ []) → IsNumber vector v → vector < 512
+      → AreOperands (shape.TrapBit set) (b ∷ c ∷ ps) (instr.TrapBit set bit s1 vector) None
   trap_condition : {mask vector : ℕ} {s1 : Reg} {m c v : Piece} {ps : List Piece}
-    → IsCondition mask m → IsComma c → Behind s1 ps (v ∷ []) → IsNumber vector v → vector < 512
-    → AreOperands shape.TrapCond (m ∷ c ∷ ps) (instr.TrapCond mask s1 vector) None
+      → IsCondition mask m → IsComma c → Behind s1 ps (v ∷ []) → IsNumber vector v → vector < 512
+      → AreOperands shape.TrapCond (m ∷ c ∷ ps) (instr.TrapCond mask s1 vector) None
   bound_number : {s1 : Reg} {imm : ℕ} {ps : List Piece} {p : Piece}
-    → Behind s1 ps (p ∷ []) → IsNumber imm p → imm < 65536 → AreOperands shape.Bounds ps (instr.BoundImm s1 imm) None
+      → Behind s1 ps (p ∷ []) → IsNumber imm p → imm < 65536 → AreOperands shape.Bounds ps (instr.BoundImm s1 imm) None
   bound_register : {s1 s2 : Reg} {ps rest : List Piece}
-    → Behind s1 ps rest → IsLast s2 rest → AreOperands shape.Bounds ps (instr.BoundReg s1 s2) None
+      → Behind s1 ps rest → IsLast s2 rest → AreOperands shape.Bounds ps (instr.BoundReg s1 s2) None
   return : AreOperands shape.Return [] instr.Rte None
   load : {float : Bool} {d : Reg} {cr : ℕ} {ps : List Piece} {c : Piece}
-    → Behind d ps (c ∷ []) → IsControl float cr c → AreOperands (shape.Load float) ps (instr.Ldcr d cr float) None
+      → Behind d ps (c ∷ []) → IsControl float cr c → AreOperands (shape.Load float) ps (instr.Ldcr d cr float) None
   store : {float : Bool} {s1 : Reg} {cr : ℕ} {ps : List Piece} {c : Piece}
-    → Behind s1 ps (c ∷ []) → IsControl float cr c → AreOperands (shape.Store float) ps (instr.Stcr s1 cr float) None
+      → Behind s1 ps (c ∷ []) → IsControl float cr c → AreOperands (shape.Store float) ps (instr.Stcr s1 cr float) None
   exchange : {float : Bool} {d s1 : Reg} {cr : ℕ} {ps qs : List Piece} {c : Piece}
-    → Behind d ps qs → Behind s1 qs (c ∷ []) → IsControl float cr c → AreOperands (shape.Exchange float) ps (instr.Xcr d s1 cr float) None
+      → Behind d ps qs → Behind s1 qs (c ∷ []) → IsControl float cr c → AreOperands (shape.Exchange float) ps (instr.Xcr d s1 cr float) None

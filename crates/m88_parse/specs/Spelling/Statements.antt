@@ -2,7 +2,6 @@
 -- assembly language).
 use Rattle.std.specs.Prelude.{ℕ, ◌≡◌, ◌≢◌, ◌⊎◌, ◌<◌, List, [], ◌∷◌, ◌++◌, Option, Some, None, codes}
 use Rattle.m88_base.specs.Name.{IsName}
-use Rattle.m88_base.specs.declared.fixup.Kind.{Kind}
 use Rattle.m88_base.specs.declared.fixup.Kind.TheVariants.{Abs32}
 use Rattle.m88_base.specs.declared.fixup.Fixup.{Fixup}
 use Rattle.m88_isa.specs.declared.mnemonic.Mnemonic.{Mnemonic}
@@ -51,7 +50,7 @@ HasNoColon (p ∷ ps) = p.says ≢ a_mark 58
 pub data IsStatement (line : ℕ) : List Piece → Statement → Type 0 where
   plain : {p : Piece} {ps : List Piece} {said : Body} → IsBody (p ∷ ps) said → HasNoColon ps → IsStatement line (p ∷ ps) (record { line = line; label = None; col = p.col; body = said })
   labelled : {l c p : Piece} {ps : List Piece} {name : List ℕ} {said : Body} → IsLabel l c name → IsBody (p ∷ ps) said
-    → IsStatement line (l ∷ c ∷ p ∷ ps) (record { line = line; label = Some (name, l.col); col = p.col; body = said })
+      → IsStatement line (l ∷ c ∷ p ∷ ps) (record { line = line; label = Some (name, l.col); col = p.col; body = said })
   label_alone : {l c : Piece} {name : List ℕ} → IsLabel l c name → IsStatement line (l ∷ c ∷ []) (record { line = line; label = Some (name, l.col); col = l.col; body = body.Empty })
 
 -- the line that begins a module; its name is any name

@@ -1,13 +1,9 @@
 -- The tokens of a line as a relation: a line is gaps and the texts of its tokens in turn, up to a comment or
 -- its end (tokens of the assembly language). Nothing here goes along the line byte by byte.
-use Rattle.std.specs.Prelude.{ℕ, Bool, true, false, ◌≡◌, ◌≢◌, ◌⊎◌, ◌+◌, ◌<◌, ◌≤◌, ◌==◌, List, [], ◌∷◌, ◌++◌, length}
+use Rattle.std.specs.Prelude.{ℕ, true, false, ◌≡◌, ◌≢◌, ◌⊎◌, ◌+◌, ◌<◌, List, [], ◌∷◌, ◌++◌, length}
 use Rattle.std.specs.List.{list_all}
-use Rattle.std.specs.Char.{is_ascii_digit}
 use Rattle.std.specs.Str.Parse.{digits_value}
 use Rattle.m88_base.specs.Name.{IsName}
-use Rattle.m88_parse.specs.declared.fault.ParseKind.{ParseKind}
-use Rattle.m88_parse.specs.declared.fault.ParseKind.TheVariants.{NotAscii, Syntax, OutOfRange}
-use Rattle.m88_parse.specs.declared.fault.ParseFault.{ParseFault}
 use Rattle.m88_parse.specs.Tokens.{is_blank, is_comment, is_plain, is_word, is_mark, is_escape, escape_value, are_digits, Meaning, a_name, a_number, a_text, a_mark, Piece}
 
 -- blanks alone, or nothing

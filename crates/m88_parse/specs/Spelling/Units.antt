@@ -1,6 +1,6 @@
 -- A source and its unit as a relation: the lines, the tokens of each, and the modules of what they say (sources and
 -- modules of the assembly language).
-use Rattle.std.specs.Prelude.{ℕ, ◌≡◌, ◌≢◌, ◌+◌, Bool, true, not, ◌==◌, List, [], ◌∷◌, ◌++◌, codes}
+use Rattle.std.specs.Prelude.{ℕ, ◌≡◌, ◌≢◌, ◌+◌, true, not, ◌==◌, List, [], ◌∷◌, ◌++◌, codes}
 use Rattle.std.specs.List.{list_all}
 use Rattle.m88_parse.specs.declared.unit.Statement.{Statement}
 use Rattle.m88_parse.specs.declared.unit.Module.{Module}
@@ -41,18 +41,18 @@ pub data LineSays (number : ℕ) : List Piece → Said → Type 0 where
 pub data AreRows : ℕ → List (List ℕ) → List Statement → List Module → Type 0 where
   no_row : {number : ℕ} → AreRows number [] [] []
   row_of_nothing : {number : ℕ} {line : List ℕ} {lines : List (List ℕ)} {ps : List Piece} {ss : List Statement} {ms : List Module}
-    → LineTokens line ps → LineSays number ps says_nothing → AreRows (number + 1) lines ss ms → AreRows number (line ∷ lines) ss ms
+      → LineTokens line ps → LineSays number ps says_nothing → AreRows (number + 1) lines ss ms → AreRows number (line ∷ lines) ss ms
   row_of_statement : {number : ℕ} {line : List ℕ} {lines : List (List ℕ)} {ps : List Piece} {s : Statement} {ss : List Statement} {ms : List Module}
-    → LineTokens line ps → LineSays number ps (says s) → AreRows (number + 1) lines ss ms → AreRows number (line ∷ lines) (s ∷ ss) ms
+      → LineTokens line ps → LineSays number ps (says s) → AreRows (number + 1) lines ss ms → AreRows number (line ∷ lines) (s ∷ ss) ms
   row_of_module : {number : ℕ} {line : List ℕ} {lines : List (List ℕ)} {ps : List Piece} {name : List ℕ} {ss : List Statement} {ms : List Module}
-    → LineTokens line ps → LineSays number ps (begins name) → AreRows (number + 1) lines ss ms
-    → AreRows number (line ∷ lines) [] (record { name = name; line = number; statements = ss } ∷ ms)
+      → LineTokens line ps → LineSays number ps (begins name) → AreRows (number + 1) lines ss ms
+      → AreRows number (line ∷ lines) [] (record { name = name; line = number; statements = ss } ∷ ms)
 
 -- Where statements stand before the first .module, or there is none, they are a module main that begins in line 1.
 pub data AreModules : List Statement → List Module → List Module → Type 0 where
   only_main : {ss : List Statement} → AreModules ss [] (record { name = codes "main"; line = 1; statements = ss } ∷ [])
   first_main : {s : Statement} {ss : List Statement} {m : Module} {ms : List Module}
-    → AreModules (s ∷ ss) (m ∷ ms) (record { name = codes "main"; line = 1; statements = s ∷ ss } ∷ m ∷ ms)
+      → AreModules (s ∷ ss) (m ∷ ms) (record { name = codes "main"; line = 1; statements = s ∷ ss } ∷ m ∷ ms)
   no_main : {m : Module} {ms : List Module} → AreModules [] (m ∷ ms) (m ∷ ms)
 
 -- the unit of a source
