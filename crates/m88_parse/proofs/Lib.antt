@@ -7,3 +7,4 @@ pub mod Naming
 pub mod Lines
 pub mod Drafts
 pub mod Ending
+pub mod Faults

@@ -13,3 +13,4 @@ pub mod Grammar
 pub mod Source
 pub mod LineEnd
 pub mod Drafts
+pub mod SourceFault

@@ -1,5 +1,5 @@
 use Rattle.m88_parse.proofs.Law.Faults.{single_fault, not_both}
-use Rattle.m88_parse.proofs.grammar.one_fault.Goals as goal
+use Rattle.m88_parse.proofs.laws.one_fault.Goals as goal
 
 pub returns-clause-alone : goal.returns-clause-alone
 returns-clause-alone c = not_both

@@ -5,7 +5,7 @@ use Rattle.m88_parse.specs.declared.unit.Module.{Module}
 use Rattle.m88_parse.specs.declared.unit.Unit.{Unit as Source}
 use Rattle.m88_parse.specs.Source.{unit_of}
 use Rattle.m88_parse.proofs.Drafts.{starts, ends_all}
-use Rattle.m88_parse.proofs.source.read_source.Goals as goal
+use Rattle.m88_parse.proofs.source.read_unit.Goals as goal
 
 pub loop-rest-init : goal.loop-rest-init
 loop-rest-init c = rw c.new.ensures.items (record { leads = starts c.args.source.now; place = omega arith; count = omega arith; formed = search rules })
