@@ -20,6 +20,7 @@ pub data Takes (quote : ℕ) : List ℕ → List ℕ → Type 0 where
   pair_taken : {e : ℕ} {bs inside : List ℕ} → Takes quote bs inside → Takes quote (92 ∷ e ∷ bs) (92 ∷ e ∷ inside)
   last_taken : Takes quote (92 ∷ []) (92 ∷ [])
 
+-- a single or a double quote
 abbrev pub IsQuote : ℕ → Type 0
 IsQuote b = (b ≡ 34) ⊎ (b ≡ 39)
 

@@ -31,15 +31,18 @@ pub record IsSymbolName (name : List ℕ) : Type 0 where
   pub no_register : (n : ℕ) → IsRegisterName name n → ⊥
   pub no_control : (float : Bool) (n : ℕ) → IsControlName float name n → ⊥
 
+-- a mark by its byte: 40 ( 41 ) 43 + 44 , 45 - 58 : 60 < 62 > 91 [ 93 ]
 abbrev pub IsMark : ℕ → Piece → Type 0
 IsMark m p = p.says ≡ a_mark m
 
 abbrev pub IsComma : Piece → Type 0
 IsComma p = IsMark 44 p
 
+-- a number, also a character in single quotes
 abbrev pub IsNumber : ℕ → Piece → Type 0
 IsNumber n p = p.says ≡ a_number n
 
+-- this name
 abbrev pub IsNamed : List ℕ → Piece → Type 0
 IsNamed name p = p.says ≡ a_name name
 

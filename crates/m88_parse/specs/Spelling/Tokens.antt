@@ -44,6 +44,7 @@ pub record IsHexadecimal (text : List ℕ) (n : ℕ) : Type 0 where
   pub hexadecimal : are_digits 16 digits ≡ true
   pub value : n ≡ digits_value 16 digits
 
+-- the digits of a number, decimal or hexadecimal
 abbrev pub IsNumeral : List ℕ → ℕ → Type 0
 IsNumeral text n = IsDecimal text n ⊎ IsHexadecimal text n
 

@@ -31,6 +31,7 @@ pub data Said : Type 0 where
   says : Statement → Said
   begins : List ℕ → Said
 
+-- what the tokens of a line say, with the line's number
 pub data LineSays (number : ℕ) : List Piece → Said → Type 0 where
   empty_line : LineSays number [] says_nothing
   statement_line : {ps : List Piece} {s : Statement} → IsStatement number ps s → LineSays number ps (says s)
