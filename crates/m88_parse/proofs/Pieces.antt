@@ -35,14 +35,14 @@ at_front line col b bs r = elim r [
   | Err f ↦ Err (fault_at line col f)
 ]
 
-cut_off : (line col : ℕ) (bs : List ℕ) (c : Cut) → 0 < length bs → front bs ≡ Ok c → 0 < c.len
+pub cut_off : (line col : ℕ) (bs : List ℕ) (c : Cut) → 0 < length bs → front bs ≡ Ok c → 0 < c.len
     → pieces line 0 col bs ≡ prepend c.says col (take c.len bs) (pieces line 0 (col + c.len) (drop c.len bs))
 unfolding pieces
 cut_off line col [] c h e k = absurd (omega arith)
 cut_off line col (b ∷ bs) c h e k =
     ap (at_front line col b bs) e ∙ ap (prepend c.says col (take c.len (b ∷ bs))) (one_step line col b c.len bs k)
 
-fault_front : (line col : ℕ) (bs : List ℕ) (f : Flaw) → 0 < length bs → front bs ≡ Err f → pieces line 0 col bs ≡ Err (fault_at line col f)
+pub fault_front : (line col : ℕ) (bs : List ℕ) (f : Flaw) → 0 < length bs → front bs ≡ Err f → pieces line 0 col bs ≡ Err (fault_at line col f)
 unfolding pieces
 fault_front line col [] f h e = absurd (omega arith)
 fault_front line col (b ∷ bs) f h e = ap (at_front line col b bs) e

@@ -2,6 +2,7 @@ pub mod Fault
 pub mod Tokens
 pub mod Places
 pub mod Names
+pub mod Spelling
 pub mod State
 pub mod Slots
 pub mod Operands

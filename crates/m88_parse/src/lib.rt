@@ -6,6 +6,7 @@ mod directive;
 mod draft;
 mod fault;
 mod forms;
+mod laws;
 mod lexemes;
 mod line;
 mod lists;
@@ -23,11 +24,14 @@ mod token;
 mod unit;
 
 pub use fault::{ParseFault, ParseKind};
+pub use laws::{one_cutting, one_fault, one_unit, unit_or_fault};
 pub use lexemes::tokens;
 pub use m88_base::{Fixup, Kind, Name};
 pub use source::parse;
 pub use token::{Token, TokenKind};
 pub use unit::{Body, Module, Statement, Unit, Value};
 
+#[cfg(test)]
+mod rulings_tests;
 #[cfg(test)]
 mod tests;

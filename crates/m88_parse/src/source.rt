@@ -1,5 +1,8 @@
-ghost use Rattle.std.specs.Prelude.{◌≡◌, ◌<◌, ◌≤◌, ◌+◌, ◌^◌, ◌⊎◌, length, map, IfOk, IfErr, IfSome, MatchResult};
+ghost use Rattle.std.specs.Prelude.{◌≡◌, ◌<◌, ◌≤◌, ◌+◌, ◌^◌, ◌⊎◌, Ok, length, map, IfOk, IfErr, IfSome, MatchResult};
 ghost use Rattle.std.specs.List.{All};
+ghost use Rattle.m88_parse.specs.declared.unit.Unit.{Unit as SourceUnit};
+ghost use Rattle.m88_parse.specs.Spelling.Faults.{IsFirstFault};
+ghost use Rattle.m88_parse.specs.Spelling.Units.{IsUnit};
 ghost use Rattle.m88_parse.specs.Fault.{Gives, out_of_memory};
 ghost use Rattle.m88_parse.specs.Places.{IsNear};
 ghost use Rattle.m88_parse.specs.Source.{end_of, row_of, unit_of};
@@ -87,6 +90,13 @@ fn read_unit(alloc: Global, source: &[u8]) -> Result<Unit, ParseFault>
 /// statement is read. The source is shorter than 2^31 bytes.
 pub fn parse(alloc: Global, source: &[u8]) -> Result<Unit, ParseFault>
     requires { length source.now < 2 ^ 31 }
+    // What is read is the unit of the source.
+    ensures unit { IfOk result (λ u. IsUnit source.now u) }
+    // The unit of a source is read, unless memory runs out.
+    ensures only { (u : SourceUnit) → IsUnit source.now u → Gives (λ v. v) result (Ok u) }
+    // A fault is the first one of a source that has no unit, or memory ran out.
+    ensures fault { IfErr result (λ e. (e ≡ out_of_memory) ⊎ IsFirstFault source.now e) }
+    // Which unit or fault it is, as it is computed.
     ensures value { Gives (λ u. u) result (unit_of source.now) }
     ensures formed { IfOk result IsWellFormed }
     ensures kind { IfErr result IsSourceFault }

@@ -1,5 +1,16 @@
 use Rattle.m88_parse.proofs.Faults.{faults_placed}
+use Rattle.m88_parse.proofs.Law.Faults.{found_fault}
+use Rattle.m88_parse.proofs.Law.Units.{found_unit, only_unit}
 use Rattle.m88_parse.proofs.source.parse.Goals as goal
+
+pub returns-clause-unit : goal.returns-clause-unit
+returns-clause-unit c = found_unit c.args.source.now c.read_unit.result c.read_unit.ensures.value
+
+pub returns-clause-only : goal.returns-clause-only
+returns-clause-only c = only_unit c.args.source.now c.read_unit.result c.read_unit.ensures.value
+
+pub returns-clause-fault : goal.returns-clause-fault
+returns-clause-fault c = found_fault c.args.source.now c.read_unit.result c.read_unit.ensures.value
 
 pub returns-clause-kind : goal.returns-clause-kind
 returns-clause-kind c = faults_placed c.read_unit.result (λ u. u) c.args.source.now c.read_unit.ensures.value

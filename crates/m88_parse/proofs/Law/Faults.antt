@@ -1,0 +1,111 @@
+-- The law of faults: the fault that is read is the source's first one, and there is no other.
+use Rattle.std.proofs.Common.{◌≡◌, ℕ, ◌+◌, List, [], ◌∷◌, Option, Ok, Err, Result, refl, sym, ap, ◌∙◌, subst, inl, inr, ◌⊎◌, IfErr}
+use Rattle.m88_parse.specs.declared.fault.ParseFault.{ParseFault}
+use Rattle.m88_parse.specs.declared.unit.Unit.{Unit as Source}
+use Rattle.m88_parse.specs.declared.row.Row.{Row}
+use Rattle.m88_parse.specs.Fault.{Gives, out_of_memory}
+use Rattle.m88_parse.specs.Tokens.{Piece, pieces_of}
+use Rattle.m88_parse.specs.State.{◌>>=◌}
+use Rattle.m88_parse.specs.Source.{lines_of, row_of_pieces, row_of, with_row, rows_of, unit_of_rows, unit_of}
+use Rattle.m88_parse.specs.Spelling.Units.{IsUnit}
+use Rattle.m88_parse.specs.Spelling.Faults.{FirstOf, uncut_line, unsaid_line, later_line, IsFirstFault}
+use Rattle.m88_parse.proofs.Law.Slots.{bind_to}
+use Rattle.m88_parse.proofs.Law.Tokens.{line_is_cut, line_is_read}
+use Rattle.m88_parse.proofs.Law.Ends.{lines_computed, lines_related}
+use Rattle.m88_parse.proofs.Law.Breaks.{breaks_read, Broken, line_breaks}
+use Rattle.m88_parse.proofs.Law.Units.{line_row, row_again, read_is_related, related_is_read}
+use Rattle.m88_parse.proofs.Law.Rows.{row_for}
+
+pub err_same : {A : Type 0} {a b : ParseFault} → ◌≡◌ {A = Result A ParseFault} (Err a) (Err b) → a ≡ b
+err_same h = cc
+
+bind_err : {A B : Type 0} (r : Result A ParseFault) (f : A → Result B ParseFault) (e : ParseFault) → r ≡ Err e → (r >>= f) ≡ Err e
+bind_err r f e h = ap (λ (x : Result _ ParseFault). x >>= f) h
+
+-- where a chain fails: in its first part, or behind it
+bind_failed : {A B : Type 0} (r : Result A ParseFault) (f : A → Result B ParseFault) (e : ParseFault) → (r >>= f) ≡ Err e → (r ≡ Err e) ⊎ ((x : A) × (r ≡ Ok x) × (f x ≡ Err e))
+bind_failed (Ok x) f e h = inr (x, refl, h)
+bind_failed (Err g) f e h = inl (ap (λ (k : ParseFault). let r : Result _ ParseFault = Err k in r) (err_same h))
+
+abbrev Rest : ℕ → List (List ℕ) → Option Row → Result (List Row) ParseFault
+Rest number lines r = rows_of (number + 1) lines >>= λ (rs : List Row). Ok (with_row r rs)
+
+-- what is read is related
+
+first_related : (number : ℕ) (lines : List (List ℕ)) (f : ParseFault) → rows_of number lines ≡ Err f → FirstOf number lines f
+unfolding rows_of row_of
+first_related number [] f h = absurd cc
+first_related number (line ∷ lines) f h =
+    elim (bind_failed (row_of number line) (Rest number lines) f h) [
+      | inl j ↦
+          elim (bind_failed (pieces_of number line) (λ (ps : List Piece). row_of_pieces number ps) f j) [
+            | inl k ↦
+                let b = line_breaks number line f k in
+                uncut b
+            | inr k ↦ unsaid_line k.0 (line_is_cut number line k.0 k.1) k.2
+          ]
+      | inr j ↦
+          elim (bind_failed (rows_of (number + 1) lines) (λ (rs : List Row). let y : Result (List Row) ParseFault = Ok (with_row j.0 rs) in y) f j.2) [
+            | inl k ↦
+                let r = line_row number line j.0 j.1 in
+                later_line r.pieces r.said r.tokens r.line_says (first_related (number + 1) lines f k)
+            | inr k ↦ absurd (no_err k.2)
+          ]
+    ]
+  where
+    uncut : Broken number 1 line f → FirstOf number (line ∷ lines) f
+    uncut b = subst (λ (n : ℕ). FirstOf number (line ∷ lines) (record { line = n; col = f.col; kind = f.kind })) b.same_line (uncut_line b.tokens b.breaks)
+
+    no_err : {rows : List Row} → ◌≡◌ {A = Result (List Row) ParseFault} (Ok rows) (Err f) → ⊥
+    no_err e = cc
+
+-- what is related is read
+
+first_read : {number : ℕ} {lines : List (List ℕ)} {f : ParseFault} → FirstOf number lines f → rows_of number lines ≡ Err f
+unfolding rows_of row_of
+first_read (uncut_line {number = number} {line = line} {lines = lines} ps {at = at} {kind = kind} h) =
+    let e : ParseFault = record { line = number; col = at; kind = kind } in
+    bind_err (row_of number line) (Rest number lines) e (bind_err (pieces_of number line) (λ (qs : List Piece). row_of_pieces number qs) e (breaks_read number 1 line ps at kind h))
+first_read (unsaid_line {number = number} {line = line} {lines = lines} ps {fault = fault} t h) =
+    bind_err (row_of number line) (Rest number lines) fault (bind_to (pieces_of number line) (λ (qs : List Piece). row_of_pieces number qs) ps (Err fault) (line_is_read number line ps t) h)
+first_read (later_line {number = number} {line = line} {lines = lines} ps said {fault = fault} t h g) =
+    bind_to (row_of number line) (Rest number lines) (row_for number said) (Err fault) (row_again number line ps said t h)
+    (bind_err (rows_of (number + 1) lines) (λ (rs : List Row). let y : Result (List Row) ParseFault = Ok (with_row (row_for number said) rs) in y) fault (first_read g))
+
+-- sources
+
+pub fault_is_related : (source : List ℕ) (f : ParseFault) → unit_of source ≡ Err f → IsFirstFault source f
+unfolding unit_of
+fault_is_related source f h =
+    elim (bind_failed (rows_of 1 (lines_of source)) (λ (rows : List Row). let y : Result Source ParseFault = Ok (unit_of_rows rows) in y) f h) [
+      | inl k ↦ record { lines = lines_of source; are_lines = lines_related source; first = first_related 1 (lines_of source) f k }
+      | inr k ↦ absurd (no_err k.2)
+    ]
+  where
+    no_err : {u : Source} → ◌≡◌ {A = Result Source ParseFault} (Ok u) (Err f) → ⊥
+    no_err e = cc
+
+pub related_fault_is_read : (source : List ℕ) (f : ParseFault) → IsFirstFault source f → unit_of source ≡ Err f
+unfolding unit_of
+related_fault_is_read source f h =
+    bind_err (rows_of 1 (lines_of source)) (λ (rows : List Row). let y : Result Source ParseFault = Ok (unit_of_rows rows) in y) f (ap (rows_of 1) (lines_computed h.are_lines) ∙ first_read h.first)
+
+pub single_fault : (source : List ℕ) (a b : ParseFault) → IsFirstFault source a → IsFirstFault source b → a ≡ b
+single_fault source a b h k = err_same (sym (related_fault_is_read source a h) ∙ related_fault_is_read source b k)
+
+pub not_both : (source : List ℕ) (unit : Source) (f : ParseFault) → IsUnit source unit → IsFirstFault source f → ⊥
+not_both source unit f h k = let e : ◌≡◌ {A = Result Source ParseFault} (Ok unit) (Err f) = sym (related_is_read source unit h) ∙ related_fault_is_read source f k in cc
+
+pub unit_or_fault : (source : List ℕ) → ((unit : Source) × IsUnit source unit) ⊎ ((f : ParseFault) × IsFirstFault source f)
+unit_or_fault source = by_result (unit_of source) refl
+  where
+    by_result : (r : Result Source ParseFault) → unit_of source ≡ r → ((unit : Source) × IsUnit source unit) ⊎ ((f : ParseFault) × IsFirstFault source f)
+    by_result (Ok u) e = inl (u, read_is_related source u e)
+    by_result (Err f) e = inr (f, fault_is_related source f e)
+
+-- what a call gives
+
+pub found_fault : (source : List ℕ) (r : Result Source ParseFault) → Gives (λ (u : Source). u) r (unit_of source) → IfErr r (λ (e : ParseFault). (e ≡ out_of_memory) ⊎ IsFirstFault source e)
+found_fault source (Ok u) h = tt
+found_fault source (Err e) (inl h) = inl h
+found_fault source (Err e) (inr h) = inr (fault_is_related source e h)

@@ -1,0 +1,247 @@
+-- The law of the operands that stand last: immediates, registers, indices, bit fields and goals.
+use Rattle.std.proofs.Common.{◌≡◌, ℕ, ◌/◌, ◌%◌, ◌<◌, Bool, true, false, nat_le, ◌⊎◌, inl, inr, List, [], ◌∷◌, ◌++◌, Option, Some, None, Ok, refl, sym, ap, ap₂, ◌∙◌, arith, subst, leb-true, le-leb, if◌then◌else◌, append_assoc, codes, bytes_eq}
+use Rattle.std.specs.Option.{option_map}
+use Rattle.std.proofs.lemmas.Slice.Eq.{bytes_eq-Decides}
+use Rattle.m88_base.specs.Reg.{reg_of}
+use Rattle.m88_base.specs.declared.reg.Reg.{Reg}
+use Rattle.m88_base.specs.declared.fixup.Kind.{Kind}
+use Rattle.m88_base.specs.declared.fixup.Kind.TheVariants.{Hi16, Lo16}
+use Rattle.m88_base.specs.declared.fixup.Fixup.{Fixup}
+use Rattle.m88_parse.specs.declared.unit.Value.{Value}
+use Rattle.m88_parse.specs.declared.unit.Value.TheVariants.{Number, Symbol}
+use Rattle.m88_parse.specs.declared.operand.Immediate.{Immediate}
+use Rattle.m88_parse.specs.declared.operand.Operand.{Operand}
+use Rattle.m88_parse.specs.declared.operand.Operand.TheVariants as operand
+use Rattle.m88_parse.specs.declared.operand.Bound.{Bound}
+use Rattle.m88_parse.specs.declared.operand.Bound.TheVariants as bound
+use Rattle.m88_parse.specs.Names.{register_of, half_of}
+use Rattle.m88_parse.specs.Tokens.{Meaning, a_name, a_number, a_text, a_mark, Piece}
+use Rattle.m88_parse.specs.State.{State, says_first, first, is_mark_of, ◌>>=◌}
+use Rattle.m88_parse.specs.Slots.{Read, mark_at, register_at, value_at}
+use Rattle.m88_parse.specs.Operands.{half_immediate, half_at, half_on, short_on, immediate_of, immediate_at, register_in, operand_of, operand_at, bound_on, bound_at}
+use Rattle.m88_parse.specs.Spelling.Names.{IsMark, IsNumber, IsNamed, IsRegister}
+use Rattle.m88_parse.specs.Spelling.Operands.{IsValue, IsHalfOf, IsImmediate, short, half, IsLast}
+use Rattle.m88_parse.proofs.Law.Steps.{chosen, take_then}
+use Rattle.m88_parse.proofs.Law.Names.{some_same, register_is, register_name_again}
+use Rattle.m88_parse.proofs.Law.Slots.{st, ok_same, bind_ok, bind_to, One, mark_read, mark_again, register_read, register_again}
+use Rattle.m88_parse.proofs.Law.Values.{Several, several, IsUnsigned, value_read, value_again}
+
+-- hi16 and lo16
+
+pub half_names : (name : List ℕ) (kind : Kind) → half_of name ≡ Some kind → ((name ≡ codes "hi16") × (kind ≡ Hi16)) ⊎ ((name ≡ codes "lo16") × (kind ≡ Lo16))
+unfolding half_of
+half_names name kind h =
+    elim (chosen (bytes_eq name (codes "hi16")) _ _ _ h) [
+      | inl j ↦ inl ((bytes_eq-Decides name (codes "hi16")).0 j.0, sym (some_same j.1))
+      | inr j ↦
+          elim (chosen (bytes_eq name (codes "lo16")) _ _ _ j.1) [
+            | inl k ↦ inr ((bytes_eq-Decides name (codes "lo16")).0 k.0, sym (some_same k.1))
+            | inr k ↦ absurd cc
+          ]
+    ]
+
+half_is_of : (kind : Kind) (v : Value) → (kind ≡ Hi16) ⊎ (kind ≡ Lo16) → IsHalfOf kind v (half_immediate kind v).imm (half_immediate kind v).fixup
+half_is_of kind (Number n) (inl e) = subst (λ (k : Kind). IsHalfOf k (Number n) (half_immediate k (Number n)).imm (half_immediate k (Number n)).fixup) (sym e) (refl, refl)
+half_is_of kind (Number n) (inr e) = subst (λ (k : Kind). IsHalfOf k (Number n) (half_immediate k (Number n)).imm (half_immediate k (Number n)).fixup) (sym e) (refl, refl)
+half_is_of kind (Symbol f) (inl e) = subst (λ (k : Kind). IsHalfOf k (Symbol f) (half_immediate k (Symbol f)).imm (half_immediate k (Symbol f)).fixup) (sym e) (refl, refl)
+half_is_of kind (Symbol f) (inr e) = subst (λ (k : Kind). IsHalfOf k (Symbol f) (half_immediate k (Symbol f)).imm (half_immediate k (Symbol f)).fixup) (sym e) (refl, refl)
+
+same_immediate : (a b : ℕ) (f g : Option Fixup) → a ≡ b → f ≡ g → ◌≡◌ {A = Immediate} (record { imm = a; fixup = f }) (record { imm = b; fixup = g })
+same_immediate a b f g h k = λ i. record { imm = h i; fixup = k i }
+
+half_of_is : (kind : Kind) (v : Value) (imm : ℕ) (fixup : Option Fixup) → (kind ≡ Hi16) ⊎ (kind ≡ Lo16) → IsHalfOf kind v imm fixup → half_immediate kind v ≡ record { imm = imm; fixup = fixup }
+half_of_is kind (Number n) imm fixup (inl e) h = ap (λ (k : Kind). half_immediate k (Number n)) e ∙ hi n imm fixup (subst (λ (k : Kind). IsHalfOf k (Number n) imm fixup) e h)
+  where
+    hi : (n imm : ℕ) (fixup : Option Fixup) → IsHalfOf Hi16 (Number n) imm fixup → half_immediate Hi16 (Number n) ≡ record { imm = imm; fixup = fixup }
+    hi n imm fixup h = same_immediate (n / 65536) imm None fixup (sym h.0) (sym h.1)
+half_of_is kind (Number n) imm fixup (inr e) h = ap (λ (k : Kind). half_immediate k (Number n)) e ∙ lo n imm fixup (subst (λ (k : Kind). IsHalfOf k (Number n) imm fixup) e h)
+  where
+    lo : (n imm : ℕ) (fixup : Option Fixup) → IsHalfOf Lo16 (Number n) imm fixup → half_immediate Lo16 (Number n) ≡ record { imm = imm; fixup = fixup }
+    lo n imm fixup h = same_immediate (n % 65536) imm None fixup (sym h.0) (sym h.1)
+half_of_is kind (Symbol f) imm fixup (inl e) h = let k : IsHalfOf Hi16 (Symbol f) imm fixup = subst (λ (k : Kind). IsHalfOf k (Symbol f) imm fixup) e h in same_immediate 0 imm (Some f) fixup (sym k.0) (sym k.1)
+half_of_is kind (Symbol f) imm fixup (inr e) h = let k : IsHalfOf Lo16 (Symbol f) imm fixup = subst (λ (k : Kind). IsHalfOf k (Symbol f) imm fixup) e h in same_immediate 0 imm (Some f) fixup (sym k.0) (sym k.1)
+
+kinds_only : (name : List ℕ) (kind : Kind) → half_of name ≡ Some kind → (kind ≡ Hi16) ⊎ (kind ≡ Lo16)
+kinds_only name kind h = elim (half_names name kind h) [ inl j ↦ inl j.1 | inr j ↦ inr j.1 ]
+
+abbrev pub IsImmediateOf : List Piece → Immediate → Type 0
+IsImmediateOf ps x = IsImmediate ps x.imm x.fixup
+
+abbrev close_half : Kind → Value × State → Read Immediate
+close_half kind v = mark_at 41 v.1 >>= λ closed. Ok (half_immediate kind v.0, closed)
+
+half_read : (line e : ℕ) (p : Piece) (ps : List Piece) (name : List ℕ) (kind : Kind) (x : Immediate × State) → IsNamed name p → half_of name ≡ Some kind → half_at kind (st line e (p ∷ ps)) ≡ Ok x → Several Immediate IsImmediateOf line e (p ∷ ps) x
+unfolding half_at
+half_read line e p ps name kind x n k h =
+    let b = bind_ok (mark_at 40 (st line e ps)) (λ (opened : State). value_at kind opened >>= close_half kind) x h in
+    let o = mark_read 40 line e ps b.0 b.1 in
+    let c = bind_ok (value_at kind b.0) (close_half kind) x b.2 in
+    let v = value_read kind line e o.rest c.0 (ap (value_at kind) (sym o.after) ∙ c.1) in
+    let d = bind_ok (mark_at 41 c.0.1) (λ (closed : State). Ok (half_immediate kind c.0.0, closed)) x c.2 in
+    let m = mark_read 41 line e v.rest d.0 (ap (mark_at 41) (sym v.after) ∙ d.1) in
+    let inside = v.front ++ m.piece ∷ [] in
+    let t : p ∷ ps ≡ (p ∷ o.piece ∷ inside) ++ m.rest =
+    ap (λ (qs : List Piece). p ∷ qs) (o.tokens ∙ ap (λ (qs : List Piece). o.piece ∷ qs) (v.tokens ∙ ap (λ (qs : List Piece). v.front ++ qs) m.tokens ∙ sym (append_assoc v.front (m.piece ∷ []) m.rest))) in
+    several Immediate IsImmediateOf line e (p ∷ ps) (p ∷ o.piece ∷ inside) m.rest (half_immediate kind c.0.0) x t
+    (half v.front m.piece name kind c.0.0 n k o.is refl v.is m.is (half_is_of kind c.0.0 (kinds_only name kind k)))
+    (ap (λ (u : State). let y : Immediate × State = (half_immediate kind c.0.0, u) in y) (sym m.after) ∙ ok_same d.2)
+
+named_half : (line e : ℕ) (p : Piece) (ps : List Piece) (text : List ℕ) (t : Bool) (x : Immediate × State) → p.says ≡ a_name text
+    → immediate_of (st line e (p ∷ ps)) (if t then half_of text else None) ≡ Ok x → Several Immediate IsImmediateOf line e (p ∷ ps) x
+named_half line e p ps text true x k h = by_kind (half_of text) refl h
+  where
+    by_kind : (o : Option Kind) → half_of text ≡ o → immediate_of (st line e (p ∷ ps)) o ≡ Ok x → Several Immediate IsImmediateOf line e (p ∷ ps) x
+    by_kind (Some kind) f g = half_read line e p ps text kind x k f g
+    by_kind None f g =
+        let r : short_on (st line e (p ∷ ps)) (Some (a_name text)) ≡ Ok x = ap (λ (m : Meaning). short_on (st line e (p ∷ ps)) (Some m)) (sym k) ∙ g in
+        absurd cc
+named_half line e p ps text false x k h =
+    let r : short_on (st line e (p ∷ ps)) (Some (a_name text)) ≡ Ok x = ap (λ (m : Meaning). short_on (st line e (p ∷ ps)) (Some m)) (sym k) ∙ h in
+    absurd cc
+
+short_by : (line e : ℕ) (p : Piece) (ps : List Piece) (m : Meaning) (x : Immediate × State) → p.says ≡ m → short_on (st line e (p ∷ ps)) (Some m) ≡ Ok x → Several Immediate IsImmediateOf line e (p ∷ ps) x
+short_by line e p ps (a_name text) x k h = absurd cc
+short_by line e p ps (a_number n) x k h =
+    elim (chosen (nat_le n 65535) _ _ _ h) [
+      | inl j ↦ several Immediate IsImmediateOf line e (p ∷ ps) (p ∷ []) ps (record { imm = n; fixup = None }) x refl (short k (let l = leb-true n 65535 j.0 in omega arith)) (ok_same j.1)
+      | inr j ↦ absurd cc
+    ]
+short_by line e p ps (a_text bytes) x k h = absurd cc
+short_by line e p ps (a_mark m) x k h = absurd cc
+
+immediate_by : (line e : ℕ) (p : Piece) (ps : List Piece) (m : Meaning) (x : Immediate × State) → p.says ≡ m → immediate_of (st line e (p ∷ ps)) (half_on (Some m) (says_first ps)) ≡ Ok x → Several Immediate IsImmediateOf line e (p ∷ ps) x
+immediate_by line e p ps (a_name text) x k h = named_half line e p ps text (is_mark_of 40 (says_first ps)) x k h
+immediate_by line e p ps (a_number n) x k h = short_by line e p ps p.says x refl h
+immediate_by line e p ps (a_text bytes) x k h = short_by line e p ps p.says x refl h
+immediate_by line e p ps (a_mark m) x k h = short_by line e p ps p.says x refl h
+
+pub immediate_read : (line e : ℕ) (ps : List Piece) (x : Immediate × State) → immediate_at (st line e ps) ≡ Ok x → Several Immediate IsImmediateOf line e ps x
+unfolding immediate_at
+immediate_read line e [] x h = absurd cc
+immediate_read line e (p ∷ ps) x h = immediate_by line e p ps p.says x refl h
+
+half_again : (line e : ℕ) (p o c : Piece) (inside : List Piece) (kind : Kind) (v : Value) (imm : ℕ) (fixup : Option Fixup)
+    → IsMark 40 o → IsValue kind inside v → IsMark 41 c → IsHalfOf kind v imm fixup → (kind ≡ Hi16) ⊎ (kind ≡ Lo16)
+    → half_at kind (st line e (p ∷ o ∷ (inside ++ c ∷ []))) ≡ Ok (record { imm = imm; fixup = fixup }, st line e [])
+unfolding half_at
+half_again line e p o c inside kind v imm fixup a b d h k =
+    let z : Read Immediate = Ok (record { imm = imm; fixup = fixup }, st line e []) in
+    let u : IsUnsigned (c ∷ []) = (ap (λ (m : Meaning). is_mark_of 43 (Some m)) d, ap (λ (m : Meaning). is_mark_of 45 (Some m)) d) in
+    bind_to (mark_at 40 (st line e (o ∷ (inside ++ c ∷ [])))) (λ (opened : State). value_at kind opened >>= close_half kind) (st line e (inside ++ c ∷ [])) z (mark_again 40 line e o (inside ++ c ∷ []) a)
+    (bind_to (value_at kind (st line e (inside ++ c ∷ []))) (close_half kind) (v, st line e (c ∷ [])) z (value_again kind line e inside (c ∷ []) v b u)
+    (bind_to (mark_at 41 (st line e (c ∷ []))) (λ (closed : State). Ok (half_immediate kind v, closed)) (st line e []) z (mark_again 41 line e c [] d)
+    (ap (λ (x : Immediate). let y : Read Immediate = Ok (x, st line e []) in y) (half_of_is kind v imm fixup k h))))
+
+pub immediate_again : (line e : ℕ) (ps : List Piece) (imm : ℕ) (fixup : Option Fixup) → IsImmediate ps imm fixup → immediate_at (st line e ps) ≡ Ok (record { imm = imm; fixup = fixup }, st line e [])
+unfolding immediate_at
+immediate_again line e ps imm fixup (short {p = p} h l) =
+    let s = st line e (p ∷ []) in
+    ap (λ (m : Meaning). immediate_of s (half_on (Some m) None)) h
+    ∙ ap (λ (m : Meaning). short_on s (Some m)) h
+    ∙ take_then (nat_le imm 65535) _ _ (le-leb imm 65535 (omega arith))
+immediate_again line e ps imm fixup (half {h = p} {o = o} {ps = qs} inside c name kind v n k a t b d h) =
+    let s = st line e (p ∷ o ∷ qs) in
+    ap₂ (λ (m q : Meaning). immediate_of s (half_on (Some m) (Some q))) n a
+    ∙ ap (immediate_of s) k
+    ∙ ap (λ (xs : List Piece). half_at kind (st line e (p ∷ o ∷ xs))) t
+    ∙ half_again line e p o c inside kind v imm fixup a b d h (kinds_only name kind k)
+
+-- a register or an immediate
+
+abbrev pub IsOperandOf : List Piece → Operand → Type 0
+IsOperandOf ps (operand.Register r) = IsLast r ps
+IsOperandOf ps (operand.Immediate x) = IsImmediate ps x.imm x.fixup
+
+abbrev immediate_operand : Immediate × State → Read Operand
+immediate_operand x = Ok (operand.Immediate x.0, x.1)
+
+operand_immediate : (line e : ℕ) (ps : List Piece) (x : Operand × State) → (immediate_at (st line e ps) >>= immediate_operand) ≡ Ok x → Several Operand IsOperandOf line e ps x
+operand_immediate line e ps x h =
+    let b = bind_ok (immediate_at (st line e ps)) immediate_operand x h in
+    let w = immediate_read line e ps b.0 b.1 in
+    several Operand IsOperandOf line e ps w.front w.rest (operand.Immediate b.0.0) x w.tokens w.is
+    (ap (λ (u : State). let y : Operand × State = (operand.Immediate b.0.0, u) in y) (sym w.after) ∙ ok_same b.2)
+
+operand_by : (line e : ℕ) (p : Piece) (ps : List Piece) (m : Meaning) (x : Operand × State) → p.says ≡ m → operand_of (st line e (p ∷ ps)) (register_in (Some m)) ≡ Ok x → Several Operand IsOperandOf line e (p ∷ ps) x
+operand_by line e p ps (a_name text) x k h = by_register (register_of text) refl h
+  where
+    by_register : (o : Option ℕ) → register_of text ≡ o → operand_of (st line e (p ∷ ps)) (option_map reg_of o) ≡ Ok x → Several Operand IsOperandOf line e (p ∷ ps) x
+    by_register (Some n) f g = several Operand IsOperandOf line e (p ∷ ps) (p ∷ []) ps (operand.Register (reg_of n)) x refl (text, n, k, register_is text n f, refl) (ok_same g)
+    by_register None f g = operand_immediate line e (p ∷ ps) x g
+operand_by line e p ps (a_number n) x k h = operand_immediate line e (p ∷ ps) x h
+operand_by line e p ps (a_text bytes) x k h = operand_immediate line e (p ∷ ps) x h
+operand_by line e p ps (a_mark m) x k h = operand_immediate line e (p ∷ ps) x h
+
+pub operand_read : (line e : ℕ) (ps : List Piece) (x : Operand × State) → operand_at (st line e ps) ≡ Ok x → Several Operand IsOperandOf line e ps x
+unfolding operand_at
+operand_read line e [] x h = operand_immediate line e [] x h
+operand_read line e (p ∷ ps) x h = operand_by line e p ps p.says x refl h
+
+pub operand_register_again : (line e : ℕ) (r : Reg) (ps : List Piece) → IsLast r ps → operand_at (st line e ps) ≡ Ok (operand.Register r, st line e [])
+unfolding operand_at
+operand_register_again line e r [] h = absurd h
+operand_register_again line e r (p ∷ []) h =
+    let s = st line e (p ∷ []) in
+    ap (λ (m : Meaning). operand_of s (register_in (Some m))) h.2
+    ∙ ap (λ (o : Option ℕ). operand_of s (option_map reg_of o)) (register_name_again h.0 h.1 h.3)
+    ∙ ap (λ (v : Reg). let y : Read Operand = Ok (operand.Register v, st line e []) in y) (sym h.4)
+operand_register_again line e r (p ∷ q ∷ ps) h = absurd h
+
+half_no_register : (name : List ℕ) (kind : Kind) → half_of name ≡ Some kind → register_of name ≡ None
+unfolding register_of
+half_no_register name kind h = elim (half_names name kind h) [ inl j ↦ ap register_of j.0 | inr j ↦ ap register_of j.0 ]
+
+no_register : (line e : ℕ) (ps : List Piece) (imm : ℕ) (fixup : Option Fixup) → IsImmediate ps imm fixup → register_in (first (st line e ps)) ≡ None
+no_register line e ps imm fixup (short {p = p} h l) = ap (λ (m : Meaning). register_in (Some m)) h
+no_register line e ps imm fixup (half inside c name kind v n k a t b d h) = ap (λ (m : Meaning). register_in (Some m)) n ∙ ap (option_map reg_of) (half_no_register name kind k)
+
+pub operand_immediate_again : (line e : ℕ) (ps : List Piece) (imm : ℕ) (fixup : Option Fixup) → IsImmediate ps imm fixup → operand_at (st line e ps) ≡ Ok (operand.Immediate (record { imm = imm; fixup = fixup }), st line e [])
+unfolding operand_at
+operand_immediate_again line e ps imm fixup h =
+    let s = st line e ps in
+    ap (operand_of s) (no_register line e ps imm fixup h)
+    ∙ bind_to (immediate_at s) immediate_operand (record { imm = imm; fixup = fixup }, st line e []) (Ok (operand.Immediate (record { imm = imm; fixup = fixup }), st line e [])) (immediate_again line e ps imm fixup h) refl
+
+-- the bound of tbnd
+
+abbrev pub IsBoundOf : Bound → Piece → Type 0
+IsBoundOf (bound.Register r) p = IsRegister r p
+IsBoundOf (bound.Number n) p = IsNumber n p × (n < 65536)
+
+abbrev register_bound : Reg × State → Read Bound
+register_bound r = Ok (bound.Register r.0, r.1)
+
+bound_by : (line e : ℕ) (p : Piece) (ps : List Piece) (m : Meaning) (x : Bound × State) → p.says ≡ m → bound_on (st line e (p ∷ ps)) (Some m) ≡ Ok x → One Bound IsBoundOf line e (p ∷ ps) x
+bound_by line e p ps (a_name text) x k h =
+    let b = bind_ok (register_at (st line e (p ∷ ps))) register_bound x h in
+    let r = register_read line e (p ∷ ps) b.0 b.1 in
+    let same = ap (λ (u : State). let y : Bound × State = (bound.Register b.0.0, u) in y) (sym r.after) ∙ ok_same b.2 in
+    subst (One Bound IsBoundOf line e (p ∷ ps)) same (record { piece = r.piece; rest = r.rest; tokens = r.tokens; is = r.is; after = refl })
+bound_by line e p ps (a_number n) x k h =
+    elim (chosen (nat_le n 65535) _ _ _ h) [
+      | inl j ↦
+          let l = leb-true n 65535 j.0 in
+          subst (One Bound IsBoundOf line e (p ∷ ps)) (ok_same j.1) (record { piece = p; rest = ps; tokens = refl; is = (k, omega arith); after = refl })
+      | inr j ↦ absurd cc
+    ]
+bound_by line e p ps (a_text bytes) x k h = absurd cc
+bound_by line e p ps (a_mark m) x k h = absurd cc
+
+pub bound_read : (line e : ℕ) (ps : List Piece) (x : Bound × State) → bound_at (st line e ps) ≡ Ok x → One Bound IsBoundOf line e ps x
+unfolding bound_at
+bound_read line e [] x h = absurd cc
+bound_read line e (p ∷ ps) x h = bound_by line e p ps p.says x refl h
+
+pub bound_register_again : (line e : ℕ) (r : Reg) (ps : List Piece) → IsLast r ps → bound_at (st line e ps) ≡ Ok (bound.Register r, st line e [])
+unfolding bound_at
+bound_register_again line e r [] h = absurd h
+bound_register_again line e r (p ∷ []) h =
+    let s = st line e (p ∷ []) in
+    ap (λ (m : Meaning). bound_on s (Some m)) h.2
+    ∙ bind_to (register_at s) register_bound (r, st line e []) (Ok (bound.Register r, st line e [])) (register_again line e r p [] h) refl
+bound_register_again line e r (p ∷ q ∷ ps) h = absurd h
+
+pub bound_number_again : (line e n : ℕ) (p : Piece) → IsNumber n p → n < 65536 → bound_at (st line e (p ∷ [])) ≡ Ok (bound.Number n, st line e [])
+unfolding bound_at
+bound_number_again line e n p h l =
+    ap (λ (m : Meaning). bound_on (st line e (p ∷ [])) (Some m)) h ∙ take_then (nat_le n 65535) _ _ (le-leb n 65535 (omega arith))

@@ -1,0 +1,216 @@
+-- The law of lines of tokens: a statement or the head of a module is read as what it is related to.
+use Rattle.std.proofs.Common.{◌≡◌, ℕ, true, false, List, [], ◌∷◌, Option, Some, None, Ok, Result, refl, sym, ap, ap₂, ◌∙◌, subst, codes, true≢false, inl, inr}
+use Rattle.std.proofs.lemmas.Slice.Eq.{bytes_eq-Decides}
+use Rattle.m88_parse.specs.declared.fault.ParseFault.{ParseFault}
+use Rattle.m88_parse.specs.declared.unit.Body.{Body}
+use Rattle.m88_parse.specs.declared.unit.Statement.{Statement}
+use Rattle.m88_parse.specs.declared.row.Row.{Row}
+use Rattle.m88_parse.specs.declared.row.Row.TheVariants as row
+use Rattle.m88_parse.specs.Names.{is_module}
+use Rattle.m88_parse.specs.Tokens.{Meaning, a_name, a_number, a_text, a_mark, Piece}
+use Rattle.m88_parse.specs.State.{State, says_first, first, past, is_mark_of, ◌>>=◌}
+use Rattle.m88_parse.specs.Slots.{symbol_at, any_name_at, end_at}
+use Rattle.m88_parse.specs.Source.{operation_on, operation_at, statement, labelled_on, labelled_at, unlabelled_at, head_at, is_label_on, is_head_on, row_at, end_of, row_of_pieces}
+use Rattle.m88_parse.specs.Spelling.Names.{IsNamed, IsSymbol}
+use Rattle.m88_parse.specs.Spelling.Statements.{IsBody, text, data_section, at, word, half, byte, ascii, zeros, align, global, set, code, IsLabel, HasNoColon, IsStatement, plain, labelled, label_alone, IsHead, head}
+use Rattle.m88_parse.specs.Spelling.Units.{Said, says_nothing, says, begins, LineSays, empty_line, statement_line, module_line}
+use Rattle.m88_parse.proofs.Law.Steps.{chosen, tested, take_then, take_else}
+use Rattle.m88_parse.proofs.Law.Slots.{st, ok_same, bind_ok, bind_to, mark_says, end_read, symbol_read, symbol_again, any_name_read, any_name_again}
+use Rattle.m88_parse.proofs.Law.Bodies.{operation_read, body_again}
+
+-- the row that says it
+abbrev pub row_for : ℕ → Said → Option Row
+row_for number says_nothing = None
+row_for number (says s) = Some (row.Statement s)
+row_for number (begins name) = Some (row.Head name number)
+
+-- what a line with a token says
+pub record Stated (number : ℕ) (ps : List Piece) (r : Row) : Type 0 where
+  pub said : Said
+  pub line_says : LineSays number ps said
+  pub row_is : row_for number said ≡ Some r
+
+-- labels
+
+label_marks : (m : Meaning) (o : Option Meaning) → is_label_on (Some m) o ≡ true → is_mark_of 58 o ≡ true
+label_marks (a_name name) o h = h
+label_marks (a_number n) o h = absurd cc
+label_marks (a_text bytes) o h = absurd cc
+label_marks (a_mark b) o h = absurd cc
+
+labelled_rest : (line e : ℕ) (p c : Piece) (ps : List Piece) (name : List ℕ) (r : Row) → IsLabel p c name → labelled_on (st line e ps) (name, p.col) (first (st line e ps)) ≡ Ok r → Stated line (p ∷ c ∷ ps) r
+labelled_rest line e p c [] name r k h =
+    record { said = _; line_says = statement_line (label_alone k); row_is = ap (λ (x : Row). let y : Option Row = Some x in y) (ok_same h) }
+labelled_rest line e p c (q ∷ qs) name r k h =
+    let b = bind_ok (operation_at (st line e (q ∷ qs))) (λ (x : Body). Ok (statement (st line e (q ∷ qs)) (Some (name, p.col)) q.col x)) r h in
+    record { said = _; line_says = statement_line (labelled k (operation_read line e q qs b.0 b.1)); row_is = ap (λ (x : Row). let y : Option Row = Some x in y) (ok_same b.2) }
+
+label_read : (line e : ℕ) (p : Piece) (ps : List Piece) (r : Row) → is_mark_of 58 (says_first ps) ≡ true → labelled_at (st line e (p ∷ ps)) ≡ Ok r → Stated line (p ∷ ps) r
+unfolding labelled_at
+label_read line e p [] r m h = absurd cc
+label_read line e p (c ∷ ps) r m h =
+    let s = st line e (p ∷ c ∷ ps) in
+    let b = bind_ok (symbol_at s) (λ (label : (List ℕ × ℕ) × State). labelled_on (past label.1) label.0 (first (past label.1))) r h in
+    let o = symbol_read line e (p ∷ c ∷ ps) b.0 b.1 in
+    let same_piece : p ≡ o.piece = cc (o.tokens) in
+    let same_rest : c ∷ ps ≡ o.rest = cc (o.tokens) in
+    let after : b.0.1 ≡ st line e (c ∷ ps) = o.after ∙ ap (st line e) (sym same_rest) in
+    let col : b.0.0.1 ≡ p.col = o.is.1 ∙ ap (λ (q : Piece). q.col) (sym same_piece) in
+    let named : IsSymbol b.0.0.0 p = subst (IsSymbol b.0.0.0) (sym same_piece) o.is.0 in
+    let k : labelled_on (st line e ps) (b.0.0.0, p.col) (first (st line e ps)) ≡ Ok r =
+    ap₂ (λ (n : ℕ) (t : State). labelled_on (past t) (b.0.0.0, n) (first (past t))) (sym col) (sym after) ∙ b.2 in
+    labelled_rest line e p c ps b.0.0.0 r (record { symbol = named; colon = mark_says 58 c.says m }) k
+
+-- heads of modules
+
+head_named : (m : Meaning) → is_head_on (Some m) ≡ true → m ≡ a_name (codes ".module")
+head_named (a_name name) h = ap a_name ((bytes_eq-Decides name (codes ".module")).0 h)
+head_named (a_number n) h = absurd cc
+head_named (a_text bytes) h = absurd cc
+head_named (a_mark b) h = absurd cc
+
+abbrev made_head : ℕ → List ℕ × State → State → Result Row ParseFault
+made_head line name t = Ok (row.Head name.0 line)
+
+head_read : (line e : ℕ) (p : Piece) (ps : List Piece) (r : Row) → IsNamed (codes ".module") p → head_at (st line e (p ∷ ps)) ≡ Ok r → Stated line (p ∷ ps) r
+unfolding head_at
+head_read line e p ps r n h =
+    let b = bind_ok (any_name_at (st line e ps)) (λ (name : List ℕ × State). end_at name.1 >>= made_head line name) r h in
+    let o = any_name_read line e ps b.0 b.1 in
+    let d = bind_ok (end_at b.0.1) (made_head line b.0) r b.2 in
+    let z = end_read line e o.rest d.0 (ap end_at (sym o.after) ∙ d.1) in
+    let t : ps ≡ o.piece ∷ [] = o.tokens ∙ ap (λ (qs : List Piece). o.piece ∷ qs) z in
+    subst (λ (qs : List Piece). Stated line (p ∷ qs) r) (sym t)
+    (record { said = begins b.0.0; line_says = module_line (head n o.is.0 o.is.1); row_is = ap (λ (x : Row). let y : Option Row = Some x in y) (ok_same d.2) })
+
+-- a statement with no label
+
+no_colon : (m : Meaning) (ps : List Piece) → (name : List ℕ) → m ≡ a_name name → is_label_on (Some m) (says_first ps) ≡ false → HasNoColon ps
+no_colon m [] name n h = tt
+no_colon m (p ∷ ps) name n h =
+    λ (x : p.says ≡ a_mark 58). true≢false (sym (ap₂ (λ (a b : Meaning). is_label_on (Some a) (Some b)) n x) ∙ h)
+
+body_named : (ps : List Piece) (c : Body) → IsBody ps c → (p : Piece) × (qs : List Piece) × (name : List ℕ) × (ps ≡ p ∷ qs) × IsNamed name p
+body_named ps c (text {p = p} n) = (p, [], codes ".text", refl, n)
+body_named ps c (data_section {p = p} n) = (p, [], codes ".data", refl, n)
+body_named ps c (at {p = p} {q = q} n h l) = (p, q ∷ [], codes ".at", refl, n)
+body_named ps c (word {p = p} {ps = qs} n h) = (p, qs, codes ".word", refl, n)
+body_named ps c (half {p = p} {ps = qs} n h) = (p, qs, codes ".half", refl, n)
+body_named ps c (byte {p = p} {ps = qs} n h) = (p, qs, codes ".byte", refl, n)
+body_named ps c (ascii {p = p} {q = q} n h) = (p, q ∷ [], codes ".ascii", refl, n)
+body_named ps c (zeros {p = p} {q = q} n h l) = (p, q ∷ [], codes ".zero", refl, n)
+body_named ps c (align {p = p} {q = q} n h k) = (p, q ∷ [], codes ".align", refl, n)
+body_named ps c (global {p = p} {q = q} n h) = (p, q ∷ [], codes ".global", refl, n)
+body_named ps c (set {p = p} {q = q} {c = k} {ps = qs} n h t w) = (p, q ∷ k ∷ qs, codes ".set", refl, n)
+body_named ps c (code {p = p} {ps = qs} m n h) = (p, qs, _, refl, n)
+
+plain_read : (line e : ℕ) (p : Piece) (ps : List Piece) (r : Row) → is_label_on (Some p.says) (says_first ps) ≡ false → unlabelled_at (st line e (p ∷ ps)) ≡ Ok r → Stated line (p ∷ ps) r
+plain_read line e p ps r l h =
+    let b = bind_ok (operation_at (st line e (p ∷ ps))) (λ (x : Body). Ok (statement (st line e (p ∷ ps)) None p.col x)) r h in
+    let k = operation_read line e p ps b.0 b.1 in
+    let n = body_named (p ∷ ps) b.0 k in
+    let same : p ≡ n.0 = cc (n.3) in
+    let named : p.says ≡ a_name n.2 = ap (λ (q : Piece). q.says) same ∙ n.4 in
+    record { said = _; line_says = statement_line (plain k (no_colon p.says ps n.2 named l)); row_is = ap (λ (x : Row). let y : Option Row = Some x in y) (ok_same b.2) }
+
+pub row_read : (line e : ℕ) (p : Piece) (ps : List Piece) (r : Row) → row_at (st line e (p ∷ ps)) ≡ Ok r → Stated line (p ∷ ps) r
+unfolding row_at
+row_read line e p ps r h =
+    elim (chosen (is_label_on (Some p.says) (says_first ps)) _ _ _ h) [
+      | inl j ↦ label_read line e p ps r (label_marks p.says (says_first ps) j.0) j.1
+      | inr j ↦
+          elim (chosen (is_head_on (Some p.says)) _ _ _ j.1) [
+            | inl k ↦ head_read line e p ps r (head_named p.says k.0) k.1
+            | inr k ↦ plain_read line e p ps r j.0 k.1
+          ]
+    ]
+
+-- what is related is read
+
+label_again : (line e : ℕ) (p c : Piece) (ps : List Piece) (name : List ℕ) (z : Result Row ParseFault) → IsLabel p c name → labelled_on (st line e ps) (name, p.col) (first (st line e ps)) ≡ z → row_at (st line e (p ∷ c ∷ ps)) ≡ z
+unfolding row_at labelled_at
+label_again line e p c ps name z k h =
+    let s = st line e (p ∷ c ∷ ps) in
+    take_then (is_label_on (Some p.says) (Some c.says)) _ _ (ap₂ (λ (a b : Meaning). is_label_on (Some a) (Some b)) k.symbol.0 k.colon)
+    ∙ bind_to (symbol_at s) (λ (label : (List ℕ × ℕ) × State). labelled_on (past label.1) label.0 (first (past label.1))) ((name, p.col), st line e (c ∷ ps)) z (symbol_again line e name p (c ∷ ps) k.symbol) h
+
+colon_free : (m : Meaning) (ps : List Piece) → HasNoColon ps → is_label_on (Some m) (says_first ps) ≡ false
+colon_free (a_name name) [] h = refl
+colon_free (a_name name) (p ∷ ps) h = elim (tested (is_mark_of 58 (Some p.says))) [ inl e ↦ absurd (h (mark_says 58 p.says e)) | inr e ↦ e ]
+colon_free (a_number n) ps h = refl
+colon_free (a_text bytes) ps h = refl
+colon_free (a_mark b) ps h = refl
+
+head_no_label : (line e : ℕ) (p q : Piece) (name : List ℕ) → IsNamed (codes ".module") p → IsNamed name q → is_label_on (Some p.says) (Some q.says) ≡ false
+head_no_label line e p q name n k = ap₂ (λ (a b : Meaning). is_label_on (Some a) (Some b)) n k
+
+head_again : (line e : ℕ) (ps : List Piece) (name : List ℕ) → IsHead ps name → row_at (st line e ps) ≡ Ok (row.Head name line)
+unfolding row_at head_at
+head_again line e ps name (head {p = p} {q = q} n k v) =
+    take_else (is_label_on (Some p.says) (Some q.says)) _ _ (head_no_label line e p q name n k)
+    ∙ take_then (is_head_on (Some p.says)) _ _ (ap (λ (m : Meaning). is_head_on (Some m)) n)
+    ∙ bind_to (any_name_at (st line e (q ∷ []))) (λ (x : List ℕ × State). end_at x.1 >>= made_head line x) (name, st line e []) (Ok (row.Head name line)) (any_name_again line e name q [] (k, v)) refl
+
+-- an operation isn't the head of a module
+not_head : (line e : ℕ) (ps : List Piece) (c : Body) → operation_at (st line e ps) ≡ Ok c → is_head_on (first (st line e ps)) ≡ false
+unfolding operation_at
+not_head line e [] c h = refl
+not_head line e (p ∷ ps) c h = by_says p.says refl
+  where
+    by_says : (m : Meaning) → p.says ≡ m → is_head_on (Some p.says) ≡ false
+    by_says (a_name name) n =
+        let k : operation_on (st line e (p ∷ ps)) (Some (a_name name)) ≡ Ok c = ap (λ (m : Meaning). operation_on (st line e (p ∷ ps)) (Some m)) (sym n) ∙ h in
+        elim (chosen (is_module name) _ _ _ k) [
+          | inl j ↦ absurd cc
+          | inr j ↦ ap (λ (m : Meaning). is_head_on (Some m)) n ∙ j.0
+        ]
+    by_says (a_number k) n = ap (λ (o : Meaning). is_head_on (Some o)) n
+    by_says (a_text bytes) n = ap (λ (o : Meaning). is_head_on (Some o)) n
+    by_says (a_mark b) n = ap (λ (o : Meaning). is_head_on (Some o)) n
+
+plain_again : (line e : ℕ) (p : Piece) (ps : List Piece) (c : Body) → IsBody (p ∷ ps) c → HasNoColon ps → row_at (st line e (p ∷ ps)) ≡ Ok (statement (st line e (p ∷ ps)) None p.col c)
+unfolding row_at
+plain_again line e p ps c h k =
+    let s = st line e (p ∷ ps) in
+    let o = body_again line e (p ∷ ps) c h in
+    take_else (is_label_on (Some p.says) (says_first ps)) _ _ (colon_free p.says ps k)
+    ∙ take_else (is_head_on (Some p.says)) _ _ (not_head line e (p ∷ ps) c o)
+    ∙ bind_to (operation_at s) (λ (x : Body). Ok (statement s None p.col x)) c (Ok (statement s None p.col c)) o refl
+
+statement_again : (line e : ℕ) (ps : List Piece) (s : Statement) → IsStatement line ps s → row_at (st line e ps) ≡ Ok (row.Statement s)
+statement_again line e ps s (plain {p = p} {ps = qs} {said = c} h k) = plain_again line e p qs c h k
+statement_again line e ps s (labelled {l = l} {c = c} {p = p} {ps = qs} {name = name} {said = said} k h) =
+    label_again line e l c (p ∷ qs) name (Ok (row.Statement s)) k
+    (bind_to (operation_at (st line e (p ∷ qs))) (λ (x : Body). Ok (statement (st line e (p ∷ qs)) (Some (name, l.col)) p.col x)) said (Ok (row.Statement s)) (body_again line e (p ∷ qs) said h) refl)
+statement_again line e ps s (label_alone {l = l} {c = c} {name = name} k) = label_again line e l c [] name (Ok (row.Statement s)) k refl
+
+-- a line's tokens
+
+pub line_read : (number : ℕ) (ps : List Piece) (o : Option Row) → row_of_pieces number ps ≡ Ok o → (said : Said) × LineSays number ps said × (row_for number said ≡ o)
+line_read number [] o h = (says_nothing, empty_line, ok_same h)
+line_read number (p ∷ ps) o h =
+    let b = bind_ok (row_at (st number (end_of (p ∷ ps)) (p ∷ ps))) (λ (r : Row). let y : Result (Option Row) ParseFault = Ok (Some r) in y) o h in
+    let k = row_read number (end_of (p ∷ ps)) p ps b.0 b.1 in
+    (k.said, k.line_says, k.row_is ∙ ok_same b.2)
+
+abbrev some_row : Row → Result (Option Row) ParseFault
+some_row r = Ok (Some r)
+
+statement_some : (number : ℕ) (ps : List Piece) (s : Statement) → IsStatement number ps s → row_of_pieces number ps ≡ Ok (Some (row.Statement s))
+statement_some number [] s h = absurd (none h)
+  where
+    none : IsStatement number [] s → ⊥
+    none x = elim x [ ]
+statement_some number (p ∷ ps) s h = bind_to (row_at (st number (end_of (p ∷ ps)) (p ∷ ps))) some_row (row.Statement s) (Ok (Some (row.Statement s))) (statement_again number (end_of (p ∷ ps)) (p ∷ ps) s h) refl
+
+head_some : (number : ℕ) (ps : List Piece) (name : List ℕ) → IsHead ps name → row_of_pieces number ps ≡ Ok (Some (row.Head name number))
+head_some number [] name h = absurd (none h)
+  where
+    none : IsHead [] name → ⊥
+    none x = elim x [ ]
+head_some number (p ∷ ps) name h = bind_to (row_at (st number (end_of (p ∷ ps)) (p ∷ ps))) some_row (row.Head name number) (Ok (Some (row.Head name number))) (head_again number (end_of (p ∷ ps)) (p ∷ ps) name h) refl
+
+pub line_again : (number : ℕ) (ps : List Piece) (said : Said) → LineSays number ps said → row_of_pieces number ps ≡ Ok (row_for number said)
+line_again number ps said empty_line = refl
+line_again number ps said (statement_line {s = s} h) = statement_some number ps s h
+line_again number ps said (module_line {name = name} h) = head_some number ps name h

@@ -1,0 +1,6 @@
+pub mod Tokens
+pub mod Names
+pub mod Operands
+pub mod Statements
+pub mod Units
+pub mod Faults
