@@ -19,3 +19,4 @@ pub mod Units
 pub mod Flaws
 pub mod Breaks
 pub mod Faults
+pub mod Cuts

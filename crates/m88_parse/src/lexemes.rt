@@ -1,8 +1,10 @@
-ghost use Rattle.std.specs.Prelude.{◌≡◌, ◌<◌, ◌^◌, length, map, IfOk, IfErr};
+ghost use Rattle.std.specs.Prelude.{◌≡◌, ◌<◌, ◌^◌, ◌⊎◌, List, Ok, length, map, IfOk, IfErr};
 ghost use Rattle.std.specs.List.{All};
-ghost use Rattle.m88_parse.specs.Fault.{Gives, IsTokenFault};
+ghost use Rattle.m88_parse.specs.Fault.{Gives, out_of_memory, IsTokenFault};
 ghost use Rattle.m88_parse.specs.Places.{IsNear, IsLexemeOf, IsTokenOf};
-ghost use Rattle.m88_parse.specs.Tokens.{piece_of, plain_token, token_of, pieces_of, tokens_of};
+ghost use Rattle.m88_parse.specs.Spelling.Faults.{IsUncut};
+ghost use Rattle.m88_parse.specs.Spelling.Tokens.{AreTokensOf};
+ghost use Rattle.m88_parse.specs.Tokens.{PlainToken, piece_of, plain_token, token_of, pieces_of, tokens_of};
 
 use crate::fault::ParseFault;
 use crate::scan::front;
@@ -61,10 +63,9 @@ fn token_of<'a>(lexeme: &Lexeme<'a>, line: u32) -> Token<'a>
     }
 }
 
-/// The tokens of a line, which has no line end, from left to right; `number` is the line's number. Else
-/// the first place that can't be cut into a token: NotAscii, Syntax or OutOfRange.
+/// The tokens of a line without what they say.
 #[tactic(auto, using(crate::proofs::Pieces::token_placed))]
-pub fn tokens<'a>(alloc: Global, line: &'a [u8], number: u32) -> Result<Vec<Token<'a>>, ParseFault>
+fn cut_tokens<'a>(alloc: Global, line: &'a [u8], number: u32) -> Result<Vec<Token<'a>>, ParseFault>
     requires short { length line.now < 2 ^ 31 }
     ensures cuts { Gives (λ v. map plain_token v.items) result (tokens_of number line.now) }
     ensures slices { IfOk result (λ v. All (IsTokenOf line.now) v.items) }
@@ -76,4 +77,22 @@ pub fn tokens<'a>(alloc: Global, line: &'a [u8], number: u32) -> Result<Vec<Toke
         out.push(token_of(lexeme, number))?;
     }
     Ok(out)
+}
+
+/// The tokens of a line, which has no line end, from left to right; `number` is the line's number. Else
+/// the first place that can't be cut into a token: NotAscii, Syntax or OutOfRange.
+pub fn tokens<'a>(alloc: Global, line: &'a [u8], number: u32) -> Result<Vec<Token<'a>>, ParseFault>
+    requires short { length line.now < 2 ^ 31 }
+    // What is cut are the tokens of the line.
+    ensures found { IfOk result (λ v. AreTokensOf number line.now (map plain_token v.items)) }
+    // The tokens of a line are cut, unless memory runs out.
+    ensures only { (ts : List PlainToken) → AreTokensOf number line.now ts → Gives (λ v. map plain_token v.items) result (Ok ts) }
+    // A fault is the first place that can't be cut, or memory ran out.
+    ensures fault { IfErr result (λ e. (e ≡ out_of_memory) ⊎ IsUncut number line.now e) }
+    // Which tokens or fault it is, as computed.
+    ensures cuts { Gives (λ v. map plain_token v.items) result (tokens_of number line.now) }
+    ensures slices { IfOk result (λ v. All (IsTokenOf line.now) v.items) }
+    ensures kind { IfErr result IsTokenFault }
+{
+    cut_tokens(alloc, line, number)
 }

@@ -65,6 +65,10 @@ abbrev pub Breaks : ℕ → List ℕ → List Piece → ℕ → ParseKind → Ty
 Breaks col bytes [] at kind = BreaksAt col bytes at kind
 Breaks col bytes (p ∷ ps) at kind = (rest : List ℕ) × Begins col bytes p rest × Breaks (p.col + length p.text) rest ps at kind
 
+-- the first place of a whole line that can't be cut
+abbrev pub IsUncut : ℕ → List ℕ → ParseFault → Type 0
+IsUncut number line fault = (ps : List Piece) × Breaks 1 line ps fault.col fault.kind × (number ≡ fault.line)
+
 -- the fault of the first of these lines that has one; the lines' numbers go on from one
 pub data FirstOf : ℕ → List (List ℕ) → ParseFault → Type 0 where
   uncut_line : {number : ℕ} {line : List ℕ} {lines : List (List ℕ)} (ps : List Piece) {at : ℕ} {kind : ParseKind} → Breaks 1 line ps at kind → FirstOf number (line ∷ lines) (record { line = number; col = at; kind = kind })

@@ -1,10 +1,10 @@
 -- The tokens of a line as a relation: a line is gaps and the texts of its tokens in turn, up to a comment or
 -- its end (tokens of the assembly language). Nothing here goes along the line byte by byte.
-use Rattle.std.specs.Prelude.{ℕ, true, false, ◌≡◌, ◌≢◌, ◌⊎◌, ◌+◌, ◌<◌, List, [], ◌∷◌, ◌++◌, length}
+use Rattle.std.specs.Prelude.{ℕ, true, false, ◌≡◌, ◌≢◌, ◌⊎◌, ◌+◌, ◌<◌, List, [], ◌∷◌, ◌++◌, length, map}
 use Rattle.std.specs.List.{list_all}
 use Rattle.std.specs.Str.Parse.{digits_value}
 use Rattle.m88_base.specs.Name.{IsName}
-use Rattle.m88_parse.specs.Tokens.{is_blank, is_comment, is_plain, is_word, is_mark, is_escape, escape_value, are_digits, Meaning, a_name, a_number, a_text, a_mark, Piece}
+use Rattle.m88_parse.specs.Tokens.{is_blank, is_comment, is_plain, is_word, is_mark, is_escape, escape_value, are_digits, Meaning, a_name, a_number, a_text, a_mark, Piece, PlainToken, token_of}
 
 -- blanks alone, or nothing
 abbrev pub IsGap : List ℕ → Type 0
@@ -95,3 +95,7 @@ AreTokens col bytes (p ∷ ps) = (rest : List ℕ) × Begins col bytes p rest ×
 -- the tokens of a whole line, whose first column is 1
 abbrev pub LineTokens : List ℕ → List Piece → Type 0
 LineTokens line ps = AreTokens 1 line ps
+
+-- the tokens of a whole line as the public call gives them: with the line's number, and each with its kind alone
+abbrev pub AreTokensOf : ℕ → List ℕ → List PlainToken → Type 0
+AreTokensOf number line ts = (ps : List Piece) × LineTokens line ps × (ts ≡ map (token_of number) ps)
