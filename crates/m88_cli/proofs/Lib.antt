@@ -1,3 +1,5 @@
+pub mod Numerals
+pub mod Texts
 pub mod Lines
 pub mod Values
 pub mod Fetching
@@ -5,4 +7,5 @@ pub mod Moving
 pub mod Running
 pub mod Loading
 pub mod Whole
+pub mod OneSource
 pub mod OneReport

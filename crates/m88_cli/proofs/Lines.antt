@@ -1,13 +1,13 @@
 -- The first line of a source, and the lines behind it.
-use Rattle.std.proofs.Common.{◌≡◌, ℕ, ◌+◌, ◌<◌, List, [], ◌∷◌, Bool, true, false, cond, not, ◌==◌, ◌++◌, length, take, drop, refl, sym, ◌∙◌, ap, append_assoc, arith, suc, ◌≤◌}
+use Rattle.std.proofs.Common.{◌≡◌, ℕ, ◌+◌, ◌<◌, List, [], ◌∷◌, Bool, true, false, cond, not, ◌==◌, ◌++◌, length, take, drop, refl, sym, ◌∙◌, ap, append_assoc, append-nil, length-append, subst, inl, inr, arith, suc, ◌≤◌}
 use Rattle.std.proofs.lemmas.List.{take_all}
+use Rattle.std.proofs.lemmas.List.Elements.{All-cons, All-nil}
 use Rattle.std.proofs.Math.ListN.{drop_of_length-le}
 use Rattle.std.specs.Prelude.{if◌then◌else◌}
 use Rattle.std.specs.List.{position_or_len}
+use Rattle.std.specs.Prelude.{All}
 use Rattle.m88_isa.specs.declared.instr.Instr.{Instr}
-use Rattle.std.specs.Prelude.{Some, ◌||◌, is_some, filter_map}
-use Rattle.std.specs.List.{list_all, prefix_len}
-use Rattle.m88_cli.specs.Source.{begin_line, first_other, instruction_of, instructions_of, is_accepted, is_line, lines_of}
+use Rattle.m88_cli.specs.Source.{AreLinesOf, IsFirstOther, IsLine, IsLineOf, IsSourceOf, begin_line, code_line, empty_line, lines_of, no_line}
 
 -- how many bytes stand before the first line end
 abbrev pub line_len : List ℕ → ℕ
@@ -47,50 +47,69 @@ cut_nowhere bytes at some e all =
     let none : drop (at + 1) bytes ≡ [] = drop_of_length-le bytes (omega arith) in
     rw (cut_there bytes at some e, take_all at bytes all, none) refl
 
--- what one more line in front adds to the instructions, to whether all are lines, and to how many are before another
-pub record Adds (line : List ℕ) (lines : List (List ℕ)) (instructions : List Instr) : Type 0 where
-  pub kept : filter_map instruction_of (line ∷ lines) ≡ instructions ++ filter_map instruction_of lines
-  pub all : list_all is_line (line ∷ lines) ≡ list_all is_line lines
-  pub before : prefix_len is_line (line ∷ lines) ≡ 1 + prefix_len is_line lines
+-- lines that write instructions are lines that a source may have
+pub are_lines : {instructions : List Instr} {lines : List (List ℕ)} → AreLinesOf instructions lines → All IsLine lines
+are_lines no_line = All-nil IsLine
+are_lines (empty_line {lines = lines} more) = All-cons IsLine [] lines (inl refl) (are_lines more)
+are_lines (code_line {i = i} {line = line} {lines = lines} is more) = All-cons IsLine line lines (inr (i, is)) (are_lines more)
 
--- an empty line
-pub blank_line : (line : List ℕ) (lines : List (List ℕ)) → length line ≡ 0 → Adds line lines []
-blank_line [] lines e = record { kept = refl; all = refl; before = refl }
-blank_line (b ∷ bytes) lines e = absurd (omega arith)
+-- behind lines that write instructions, one more line that is empty or writes one
+pub then_empty : {instructions : List Instr} {lines : List (List ℕ)} → AreLinesOf instructions lines → AreLinesOf instructions (lines ++ [] ∷ [])
+then_empty no_line = empty_line no_line
+then_empty (empty_line more) = empty_line (then_empty more)
+then_empty (code_line is more) = code_line is (then_empty more)
 
--- whatever else holds, a test that is true makes the choice of two true
-or_true : (a b : Bool) → b ≡ true → (a || b) ≡ true
-or_true true b e = refl
-or_true false b e = e
+pub then_code : {instructions : List Instr} {lines : List (List ℕ)} (i : Instr) (line : List ℕ) → IsLineOf i line → AreLinesOf instructions lines
+    → AreLinesOf (instructions ++ i ∷ []) (lines ++ line ∷ [])
+then_code i line last no_line = code_line last no_line
+then_code i line last (empty_line more) = empty_line (then_code i line last more)
+then_code i line last (code_line is more) = code_line is (then_code i line last more)
 
--- a line with an instruction
-pub code_line : (line : List ℕ) (lines : List (List ℕ)) (i : Instr) → instruction_of line ≡ Some i → Adds line lines (i ∷ [])
-code_line line lines i e =
-    let found : is_some (instruction_of line) ≡ true = rw e refl in
-    let there : is_line line ≡ true = or_true (length line == 0) (is_some (instruction_of line)) found in
-    record { kept = rw e refl; all = rw there refl; before = rw there refl }
-
--- a source of which some lines were read: the instructions kept and those of the rest are all of them, all lines are
--- lines of the language where those of the rest are, and the number is that of the next line
+-- a source of which some lines were read: they write the instructions kept, and the number is that of the next line
 pub record ReadSoFar (source rest : List ℕ) (kept : List Instr) (number : ℕ) : Type 0 where
-  pub all_kept : kept ++ filter_map instruction_of (lines_of rest) ≡ instructions_of source
-  pub lines : list_all is_line (lines_of rest) ≡ is_accepted source
-  pub next : prefix_len is_line (lines_of rest) + number ≡ first_other source
+  pub before : List (List ℕ)
+  pub lines : lines_of source ≡ before ++ lines_of rest
+  pub written : AreLinesOf kept before
+  pub next : number ≡ length before + 1
+
+-- before the first line
+pub nothing_read : (source : List ℕ) → ReadSoFar source source [] 1
+nothing_read source = record { before = []; lines = refl; written = no_line; next = omega arith }
 
 -- one more line
-pub reads_on : (source rest line others : List ℕ) (kept added : List Instr) (number : ℕ)
-    → lines_of rest ≡ line ∷ lines_of others
-    → Adds line (lines_of others) added
-    → ReadSoFar source rest kept number
-    → ReadSoFar source others (kept ++ added) (number + 1)
-reads_on source rest line others kept added number e adds so_far =
-    let instructions : filter_map instruction_of (lines_of rest) ≡ added ++ filter_map instruction_of (lines_of others) =
-    ap (λ lines. filter_map instruction_of lines) e ∙ adds.kept in
-    let all : list_all is_line (lines_of rest) ≡ list_all is_line (lines_of others) = ap (λ lines. list_all is_line lines) e ∙ adds.all in
-    let before : prefix_len is_line (lines_of rest) ≡ 1 + prefix_len is_line (lines_of others) =
-    ap (λ lines. prefix_len is_line lines) e ∙ adds.before in
-    record {
-      all_kept = append_assoc kept added (filter_map instruction_of (lines_of others)) ∙ ap (λ xs. kept ++ xs) (sym instructions) ∙ so_far.all_kept;
-      lines = sym all ∙ so_far.lines;
-      next = omega (arith, so_far.next);
-    }
+one_more : (source rest line others : List ℕ) (kept more : List Instr) (number : ℕ) (so_far : ReadSoFar source rest kept number)
+    → lines_of rest ≡ line ∷ lines_of others → AreLinesOf more (so_far.before ++ line ∷ []) → ReadSoFar source others more (number + 1)
+one_more source rest line others kept more number so_far e written = record {
+  before = so_far.before ++ line ∷ [];
+  lines = so_far.lines ∙ ap (λ lines. so_far.before ++ lines) e ∙ sym (append_assoc so_far.before (line ∷ []) (lines_of others));
+  written = written;
+  next = omega (arith, so_far.next, length-append so_far.before (line ∷ []));
+}
+
+pub reads_empty : (source rest line others : List ℕ) (kept : List Instr) (number : ℕ) → lines_of rest ≡ line ∷ lines_of others
+    → length line ≡ 0 → ReadSoFar source rest kept number → ReadSoFar source others kept (number + 1)
+reads_empty source rest [] others kept number e none so_far = one_more source rest [] others kept kept number so_far e (then_empty so_far.written)
+reads_empty source rest (b ∷ line) others kept number e none so_far = absurd (omega arith)
+
+pub reads_code : (source rest line others : List ℕ) (kept : List Instr) (i : Instr) (number : ℕ) → lines_of rest ≡ line ∷ lines_of others
+    → IsLineOf i line → ReadSoFar source rest kept number → ReadSoFar source others (kept ++ i ∷ []) (number + 1)
+reads_code source rest line others kept i number e is so_far =
+    one_more source rest line others kept (kept ++ i ∷ []) number so_far e (then_code i line is so_far.written)
+
+-- where no line is left, the instructions kept are those of the source
+pub read_all_lines : (source rest : List ℕ) (kept : List Instr) (number : ℕ) → length rest ≡ 0 → ReadSoFar source rest kept number → IsSourceOf kept source
+read_all_lines source [] kept number none so_far = subst (AreLinesOf kept) (sym (so_far.lines ∙ append-nil so_far.before)) so_far.written
+read_all_lines source (b ∷ rest) kept number none so_far = absurd (omega arith)
+
+-- a line that neither is empty nor writes an instruction is the first of another form
+pub reads_other : (source rest line others : List ℕ) (kept : List Instr) (number : ℕ) → lines_of rest ≡ line ∷ lines_of others
+    → ¬ IsLine line → ReadSoFar source rest kept number → IsFirstOther source number
+reads_other source rest line others kept number e another so_far = record {
+  before = so_far.before;
+  other = line;
+  behind = lines_of others;
+  lines = so_far.lines ∙ ap (λ lines. so_far.before ++ lines) e;
+  first = are_lines so_far.written;
+  another = another;
+  number = so_far.next;
+}

@@ -5,6 +5,7 @@ use Rattle.m88_base.specs.Found.{IsLeastTaken, PutsBytes}
 use Rattle.m88_base.specs.Image.{ProgramImage, byte_at}
 use Rattle.m88_isa.specs.Machine.{four_bytes, word_bytes}
 use Rattle.m88_isa.specs.Word.{IsWord}
+use Rattle.m88_codec.proofs.Law.{one_reading}
 use Rattle.m88_cli.specs.Loaded.{HasPlainWords, IsImageOf}
 use Rattle.m88_cli.specs.Program.{instruction_over, program_of, text_base}
 use Rattle.std.proofs.lemmas.Bool.{cases_lt}
@@ -19,7 +20,8 @@ use Rattle.m88_isa.specs.Word.{word_of}
 use Rattle.m88_isa.specs.declared.instr.Instr.{Instr}
 use Rattle.m88_isa.specs.declared.instr.Instr.TheVariants.{Imm, TrapBit}
 use Rattle.m88_isa.specs.declared.instr.ImmOp.TheVariants.{Or}
-use Rattle.m88_cli.specs.Program.{IsPlain, word_bytes_of}
+use Rattle.m88_cli.specs.Plain.{IsPlain}
+use Rattle.m88_cli.specs.Program.{word_bytes_of}
 
 -- an instruction that a source may have is valid, and its word fits 32 bits
 pub valid_of_plain : (i : Instr) → IsPlain i → IsValid i
@@ -159,7 +161,7 @@ module _ (instructions : List Instr) (old new : ProgramImage) (code : List ℕ)
   image_of start = record { start = sym start; bytes = bytes_there; instructions = instruction_there }
 
   pub plain_words : HasPlainWords new
-  plain_words a word aligned small e = let it = found_at a word aligned small e in (it.0, it.2, it.3)
+  plain_words a word aligned small e i is = let it = found_at a word aligned small e in subst IsPlain (one_reading word it.0 i it.3 is) it.2
 
 -- they are not too many for an image
 pub few_enough : (instructions : List Instr) (code : List ℕ) (old : ℕ) → old ≡ 0 → code ≡ flat_map word_bytes_of instructions → 4 * length instructions ≤ 1048576

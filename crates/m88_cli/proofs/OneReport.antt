@@ -2,8 +2,12 @@
 use Rattle.std.proofs.Common.{◌≡◌, ℕ, ◌<◌, List, ap, sym, ◌∙◌, arith, inl, inr}
 use Rattle.std.proofs.lemmas.Bool.{cases_lt}
 use Rattle.m88_isa.specs.Machine.{Program}
-use Rattle.m88_cli.specs.Answer.{IsReport}
+use Rattle.m88_isa.specs.declared.instr.Instr.{Instr}
+use Rattle.m88_cli.specs.Answer.{IsReport, IsReportOn}
+use Rattle.m88_cli.specs.Program.{program_of}
+use Rattle.m88_cli.specs.Source.{IsSourceOf}
 use Rattle.m88_cli.specs.Report.{Summary, report_of}
+use Rattle.m88_cli.proofs.OneSource.{one_list}
 use Rattle.m88_cli.specs.Timeline.{IsRun, IsRunSummary, moment, summary_at}
 
 -- a run that is over isn't over before
@@ -31,5 +35,15 @@ report_is p limit summary text run report = record {
   summary = summary;
   run = run;
   only = λ other is. same_summary p limit summary other run is;
+  report = report;
+}
+
+-- the report over the instructions that a source writes is that on the source
+pub report_on : (source : List ℕ) (limit : ℕ) (instructions : List Instr) (text : List ℕ) → IsSourceOf instructions source
+    → IsReport (program_of instructions) limit text → IsReportOn source limit text
+report_on source limit instructions text written report = record {
+  instructions = instructions;
+  written = written;
+  only = λ others is. one_list written is;
   report = report;
 }

@@ -4,7 +4,9 @@ pub mod Outcome
 pub mod Numbers
 pub mod Source
 pub mod Reading
+pub mod Reply
 pub mod Program
+pub mod Plain
 pub mod Timeline
 pub mod Machine
 pub mod Command

@@ -6,7 +6,7 @@ use Rattle.m88_base.specs.Image.{ProgramImage, byte_at}
 use Rattle.m88_isa.specs.Machine.{Program, four_bytes}
 use Rattle.m88_isa.specs.Word.{IsWord}
 use Rattle.m88_isa.specs.declared.instr.Instr.{Instr}
-use Rattle.m88_cli.specs.Program.{IsPlain}
+use Rattle.m88_cli.specs.Plain.{IsPlain}
 
 -- an image is that of a program: it has the program's bytes and start, and where it has the four bytes of a word at a
 -- multiple of 4, the program has there the one instruction of that word, or none where the word is no instruction
@@ -16,7 +16,7 @@ pub record IsImageOf (p : Program) (image : ProgramImage) : Type 0 where
   pub instructions : (a word : ℕ) → a % 4 ≡ 0 → word < 2 ^ 32 → four_bytes (byte_at image) a ≡ Some (to_be_bytes w32 word)
       → MatchOption (p.instruction a) ((i : Instr) → ¬ IsWord i word) (λ i. IsWord i word)
 
--- every word of an image is that of an instruction that a source may have
+-- every instruction that a word of an image is, is one that a source may have; a word may also be none
 abbrev pub HasPlainWords : ProgramImage → Type 0
 HasPlainWords image = (a word : ℕ) → a % 4 ≡ 0 → word < 2 ^ 32 → four_bytes (byte_at image) a ≡ Some (to_be_bytes w32 word)
-    → (i : Instr) × IsPlain i × IsWord i word
+    → (i : Instr) → IsWord i word → IsPlain i

@@ -1,13 +1,11 @@
 -- The program that a source places in memory: its instructions one behind the other from 0x00001000 on, four bytes
 -- each, the highest byte first. It starts there.
-use Rattle.std.specs.Prelude.{ℕ, ◌-◌, ◌/◌, ◌%◌, ◌^◌, ◌<◌, ◌==◌, List, Option, None, nat_le, slice_get, if◌then◌else◌}
+use Rattle.std.specs.Prelude.{ℕ, ◌-◌, ◌/◌, ◌%◌, ◌==◌, List, Option, None, nat_le, slice_get, if◌then◌else◌}
 use Rattle.std.specs.Option.{option_and_then}
 use Rattle.std.specs.Int.{to_be_bytes, w32}
 use Rattle.m88_isa.specs.Machine.{Program}
 use Rattle.m88_isa.specs.Word.{word_of}
 use Rattle.m88_isa.specs.declared.instr.Instr.{Instr}
-use Rattle.m88_isa.specs.declared.instr.Instr.TheVariants.{Imm, TrapBit}
-use Rattle.m88_isa.specs.declared.instr.ImmOp.TheVariants.{Or}
 
 -- the address of the first instruction
 abbrev pub text_base : ℕ
@@ -28,9 +26,3 @@ program_of instructions = record {
   byte = λ a. option_and_then (λ i. slice_get (word_bytes_of i) (a % 4)) (instruction_over instructions a);
   instruction = λ a. if a % 4 == 0 then instruction_over instructions a else None;
 }
-
--- the two forms of instruction that a source may have, with the ranges of their numbers; private contracts alone name it
-abbrev pub IsPlain : Instr → Type 0
-IsPlain (Imm Or d s1 imm) = imm < 2 ^ 16
-IsPlain (TrapBit set bit s1 vector) = (bit < 32) × (vector < 512)
-IsPlain _ = ⊥

@@ -1,14 +1,28 @@
 -- Words for the contracts of private functions; no promise of the program names them. What the reader of a source found.
-use Rattle.std.specs.Prelude.{All, ◌*◌, ◌≤◌, ◌≡◌, ℕ, List, true, false, length}
-use Rattle.m88_cli.specs.Program.{IsPlain}
-use Rattle.m88_cli.specs.Source.{first_other, instructions_of, is_accepted}
+use Rattle.std.specs.Prelude.{All, ◌*◌, ◌≤◌, ◌≡◌, ◌==◌, ◌&&◌, ◌||◌, ℕ, Bool, List, true, length, nat_le, not, slice_index}
+use Rattle.std.specs.List.{list_all}
+use Rattle.m88_cli.specs.Plain.{IsPlain}
+use Rattle.m88_cli.specs.Source.{comma, IsFirstOther, IsSourceOf}
 use Rattle.m88_cli.specs.declared.source.Reading.{Reading}
 use Rattle.m88_cli.specs.declared.source.Reading.TheVariants.{Accepted, Refused}
 
+-- a text has no comma
+abbrev pub HasNoComma : List ℕ → Type 0
+HasNoComma text = list_all (λ b. not (b == comma)) text ≡ true
+
+-- the text is not empty, and begins with a 0 only where that is all of it
+abbrev pub is_needed : List ℕ → Bool
+is_needed text = length text == 1 || nat_le 2 (length text) && not (slice_index text 0 == 48)
+
+-- the text is `0x` and one to four further bytes
+abbrev pub is_hexadecimal : List ℕ → Bool
+is_hexadecimal text =
+    nat_le 3 (length text) && nat_le (length text) 6 && slice_index text 0 == 48 && slice_index text 1 == 120
+
 -- what a reading says of a source
 abbrev pub Reads : List ℕ → Reading → Type 0
-Reads source (Accepted v) = (is_accepted source ≡ true) × (v.items ≡ instructions_of source)
-Reads source (Refused line) = (is_accepted source ≡ false) × (line ≡ first_other source)
+Reads source (Accepted v) = IsSourceOf v.items source
+Reads source (Refused line) = IsFirstOther source line
 
 -- each instruction of a source takes at least four of its bytes
 abbrev pub FitsSource : List ℕ → Reading → Type 0

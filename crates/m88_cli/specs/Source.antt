@@ -1,15 +1,15 @@
--- The sources that a run takes: lines, each empty or one of two instructions of the assembly language.
+-- The sources that a run takes: lines, each empty or the line of one of two instructions of the assembly language.
 --     or rD,rS1,N      N is 0 to 65535
 --     tb0 B,rS1,V      B is 0 to 31, V is 0 to 511
--- Exactly one blank stands behind the mnemonic and none elsewhere. Every other line is refused.
-use Rattle.std.specs.Prelude.{ℕ, ◌+◌, List, [], ◌∷◌, Bool, false, nat_eq, option_map, Option, None, ◌==◌, ◌||◌, is_some, length, drop, filter_map, slice_index, codes, option_and_then, if◌then◌else◌}
-use Rattle.std.specs.List.{list_all, prefix_len, before_first, after_first, starts_with}
-use Rattle.m88_base.specs.Reg.{reg_of}
+-- Exactly one blank stands behind the mnemonic and none elsewhere. Every other line is refused. It is said which texts
+-- write an instruction, not how a line is read.
+use Rattle.std.specs.Prelude.{ℕ, ◌≡◌, ◌≤◌, ◌⊎◌, ◌+◌, ◌++◌, ◌==◌, List, [], ◌∷◌, All, false, codes, decimal, length, if◌then◌else◌}
+use Rattle.m88_base.specs.Reg.{number_of}
+use Rattle.m88_base.specs.declared.reg.Reg.{Reg}
 use Rattle.m88_isa.specs.declared.instr.Instr.{Instr}
 use Rattle.m88_isa.specs.declared.instr.Instr.TheVariants.{Imm, TrapBit}
 use Rattle.m88_isa.specs.declared.instr.ImmOp.TheVariants.{Or}
-use Rattle.m88_base.specs.declared.reg.Reg.{Reg}
-use Rattle.m88_cli.specs.Numbers.{decimal_number, plain_number}
+use Rattle.m88_cli.specs.Numbers.{IsNumber}
 
 -- a byte at the front of the first line
 abbrev pub begin_line : ℕ → List (List ℕ) → List (List ℕ)
@@ -21,59 +21,46 @@ abbrev pub lines_of : List ℕ → List (List ℕ)
 lines_of [] = []
 lines_of (b ∷ source) = if b == 10 then [] ∷ lines_of source else begin_line b (lines_of source)
 
--- operands are parted by commas
-abbrev pub is_comma : ℕ → Bool
-is_comma b = b == 44
+-- the byte between two operands
+abbrev pub comma : ℕ
+comma = 44
 
--- the first operand: what stands before the first comma
-abbrev pub first_operand : List ℕ → List ℕ
-first_operand text = before_first is_comma text
+-- the name of a register: `r` and its number
+abbrev pub register_name : Reg → List ℕ
+register_name r = codes "r" ++ decimal (number_of r)
 
--- the second operand: what stands between the first two commas
-abbrev pub second_operand : List ℕ → List ℕ
-second_operand text = before_first is_comma (after_first is_comma text)
+-- the texts of three operands, with a comma between one and the next
+abbrev pub parted : List ℕ → List ℕ → List ℕ → List ℕ
+parted first second third = first ++ comma ∷ (second ++ comma ∷ third)
 
--- the third operand: what stands behind the second comma
-abbrev pub third_operand : List ℕ → List ℕ
-third_operand text = after_first is_comma (after_first is_comma text)
+-- the line writes the instruction
+pub data IsLineOf : Instr → List ℕ → Type 0 where
+  or_line : {d s1 : Reg} {imm : ℕ} {line : List ℕ} (n : List ℕ) → imm ≤ 65535 → IsNumber n imm
+      → line ≡ codes "or " ++ parted (register_name d) (register_name s1) n → IsLineOf (Imm Or d s1 imm) line
+  trap_line : {s1 : Reg} {bit vector : ℕ} {line : List ℕ} (v : List ℕ) → bit ≤ 31 → vector ≤ 511 → IsNumber v vector
+      → line ≡ codes "tb0 " ++ parted (decimal bit) (register_name s1) v → IsLineOf (TrapBit false bit s1 vector) line
 
--- the register that a text names: `r` and its number
-abbrev pub register_named : List ℕ → Option Reg
-register_named text =
-    if slice_index text 0 == 114 then option_map (λ n. reg_of n) (decimal_number 31 (drop 1 text)) else None
+-- the lines write the instructions in order, and an empty line writes none
+pub data AreLinesOf : List Instr → List (List ℕ) → Type 0 where
+  no_line : AreLinesOf [] []
+  empty_line : {instructions : List Instr} {lines : List (List ℕ)} → AreLinesOf instructions lines → AreLinesOf instructions ([] ∷ lines)
+  code_line : {i : Instr} {line : List ℕ} {instructions : List Instr} {lines : List (List ℕ)}
+      → IsLineOf i line → AreLinesOf instructions lines → AreLinesOf (i ∷ instructions) (line ∷ lines)
 
--- `or` with its operands
-abbrev pub or_of : List ℕ → Option Instr
-or_of text =
-    option_and_then (λ d. option_and_then (λ s1. option_map (λ imm. Imm Or d s1 imm) (plain_number 65535 (third_operand text)))
-    (register_named (second_operand text)))
-    (register_named (first_operand text))
+-- the source writes the instructions
+abbrev pub IsSourceOf : List Instr → List ℕ → Type 0
+IsSourceOf instructions source = AreLinesOf instructions (lines_of source)
 
--- `tb0` with its operands
-abbrev pub tb0_of : List ℕ → Option Instr
-tb0_of text =
-    option_and_then (λ bit. option_and_then (λ s1. option_map (λ vector. TrapBit false bit s1 vector) (plain_number 511 (third_operand text)))
-    (register_named (second_operand text)))
-    (decimal_number 31 (first_operand text))
+-- a line that a source may have
+abbrev pub IsLine : List ℕ → Type 0
+IsLine line = (line ≡ []) ⊎ ((i : Instr) × IsLineOf i line)
 
--- the instruction of a line that has one
-abbrev pub instruction_of : List ℕ → Option Instr
-instruction_of line =
-    if starts_with nat_eq line (codes "or ") then or_of (drop 3 line)
-    else (if starts_with nat_eq line (codes "tb0 ") then tb0_of (drop 4 line) else None)
-
--- a line of the language: it is empty or has an instruction
-abbrev pub is_line : List ℕ → Bool
-is_line line = length line == 0 || is_some (instruction_of line)
-
--- a source is accepted where all its lines are lines of the language
-abbrev pub is_accepted : List ℕ → Bool
-is_accepted source = list_all is_line (lines_of source)
-
--- the instructions of an accepted source, in order
-abbrev pub instructions_of : List ℕ → List Instr
-instructions_of source = filter_map instruction_of (lines_of source)
-
--- the number, from 1, of the first line of another form
-abbrev pub first_other : List ℕ → ℕ
-first_other source = prefix_len is_line (lines_of source) + 1
+-- the first line of another form has this number, from 1: every line before it is one that a source may have
+pub record IsFirstOther (source : List ℕ) (n : ℕ) : Type 0 where
+  pub before : List (List ℕ)
+  pub other : List ℕ
+  pub behind : List (List ℕ)
+  pub lines : lines_of source ≡ before ++ other ∷ behind
+  pub first : All IsLine before
+  pub another : ¬ IsLine other
+  pub number : n ≡ length before + 1

@@ -1,5 +1,5 @@
 -- The numbers of the program's answers, and what an answer says of itself.
-use Rattle.std.specs.Prelude.{ℕ, Bool, ◌≡◌, ◌⊎◌, MatchBool}
+use Rattle.std.specs.Prelude.{ℕ, ◌≡◌, ◌⊎◌}
 use Rattle.m88_cli.specs.declared.status.Status.{Status}
 use Rattle.m88_cli.specs.declared.status.Status.TheVariants.{Done, Usage, SourceFault, SinkFault, Refused, Memory, TooLong}
 
@@ -23,6 +23,6 @@ WritesNothing Refused = ⊥
 WritesNothing Memory = Unit {0}
 WritesNothing TooLong = Unit {0}
 
--- the answer where nothing failed: Done where the input is accepted and Refused where not, or want of memory
-abbrev pub Answers : Bool → Status → Type 0
-Answers accepted status = (status ≡ Memory) ⊎ MatchBool accepted (status ≡ Done) (status ≡ Refused)
+-- the answer where nothing failed: want of memory, or Done where the input is accepted and Refused where it isn't
+abbrev pub Answers : Type 0 → Status → Type 0
+Answers Accepted status = (status ≡ Memory) ⊎ ((Accepted × (status ≡ Done)) ⊎ (¬ Accepted × (status ≡ Refused)))

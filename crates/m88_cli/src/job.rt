@@ -1,17 +1,19 @@
-ghost use Rattle.std.specs.Prelude.{◌≡◌, ◌*◌, ◌≤◌, All, IfOk, length};
-ghost use Rattle.m88_cli.specs.Answer.{IsAnswer, IsReport, accepts};
-ghost use Rattle.m88_cli.specs.Program.{IsPlain, program_of};
-ghost use Rattle.m88_cli.specs.Command.{IsWithinLimit};
+ghost use Rattle.std.specs.Prelude.{◌*◌, ◌≤◌, All, IfOk, length};
+ghost use Rattle.m88_cli.specs.Answer.{IsReport};
+ghost use Rattle.m88_cli.specs.Reply.{Replies};
+ghost use Rattle.m88_cli.specs.Plain.{IsPlain};
+ghost use Rattle.m88_cli.specs.Program.{program_of};
+ghost use Rattle.m88_cli.specs.Command.{IsWithinLimit, most_limit};
 
 use crate::choice::Command;
 use crate::load::load;
+use crate::program::MOST_INPUT;
 use crate::refusal::refusal;
 use crate::report::report;
 use crate::run::run;
 use crate::source::{Reading, read_source};
-use m88_base::NoMemory;
 use m88_isa::Instr;
-use std::alloc::Global;
+use std::alloc::{AllocError, Global};
 
 /// What a command writes, and whether it accepts its input.
 #[derive(Drop)]
@@ -21,45 +23,48 @@ pub struct Reply {
 }
 
 /// The reply of a command to its whole input.
-pub fn reply_to(alloc: Global, command: Command, input: &[u8]) -> Result<Reply, NoMemory>
+pub fn reply_to(alloc: Global, command: Command, input: &[u8]) -> Result<Reply, AllocError>
     requires limit { IsWithinLimit command }
-    requires size { length input.now ≤ 1048576 }
-    ensures accepted { IfOk result (λ r. r.accepted ≡ accepts command input.now) }
-    ensures text { IfOk result (λ r. IsAnswer command input.now r.text.items) }
+    requires size { length input.now ≤ MOST_INPUT }
+    ensures { IfOk result (Replies command input.now) }
 {
-    let Command::Run { limit } = command;
-    match read_source(alloc, input) {
-        Ok(Reading::Accepted(instructions)) => {
+    match command {
+        Command::Run { limit } => run_source(alloc, limit, input),
+    }
+}
+
+/// The reply of a run to a source.
+fn run_source(alloc: Global, limit: u32, source: &[u8]) -> Result<Reply, AllocError>
+    requires limit { limit ≤ most_limit }
+    requires size { length source.now ≤ MOST_INPUT }
+    ensures { IfOk result (Replies (Command.Run limit) source.now) }
+{
+    match read_source(alloc, source)? {
+        Reading::Accepted(instructions) => {
             let text = run_report(alloc, instructions.as_slice(), limit)?;
             Ok(Reply {
                 accepted: true,
                 text,
             })
         }
-        Ok(Reading::Refused { line }) => match refusal(alloc, line) {
-            Ok(text) => Ok(Reply {
+        Reading::Refused { line } => {
+            let text = refusal(alloc, line)?;
+            Ok(Reply {
                 accepted: false,
                 text,
-            }),
-            Err(_) => Err(NoMemory),
-        },
-        Err(_) => Err(NoMemory),
+            })
+        }
     }
 }
 
 /// The report of a run of instructions.
-fn run_report(alloc: Global, instructions: &[Instr], limit: u32) -> Result<Vec<u8>, NoMemory>
+fn run_report(alloc: Global, instructions: &[Instr], limit: u32) -> Result<Vec<u8>, AllocError>
     requires plain { All IsPlain instructions.now }
-    requires short { 4 * length instructions.now ≤ 1048576 }
-    requires limit { limit ≤ 1000000 }
+    requires short { 4 * length instructions.now ≤ MOST_INPUT }
+    requires limit { limit ≤ most_limit }
     ensures { IfOk result (λ text. IsReport (program_of instructions.now) limit text.items) }
 {
     let image = load(alloc, instructions)?;
-    let Ok(outcome) = run(alloc, &image, limit) else {
-        return Err(NoMemory);
-    };
-    match report(alloc, &outcome) {
-        Ok(text) => Ok(text),
-        Err(_) => Err(NoMemory),
-    }
+    let outcome = run(alloc, &image, limit)?;
+    report(alloc, &outcome)
 }

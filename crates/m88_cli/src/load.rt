@@ -1,8 +1,10 @@
 ghost use Rattle.std.specs.Prelude.{◌≡◌, ◌*◌, ◌≤◌, All, IfOk, flat_map, length};
 ghost use Rattle.m88_cli.specs.Loaded.{HasPlainWords, IsImageOf};
-ghost use Rattle.m88_cli.specs.Program.{IsPlain, program_of, word_bytes_of};
+ghost use Rattle.m88_cli.specs.Plain.{IsPlain};
+ghost use Rattle.m88_cli.specs.Program.{program_of, word_bytes_of};
 
-use m88_base::{Image, ImageFault, NoMemory};
+use crate::program::MOST_INPUT;
+use m88_base::{Image, ImageFault};
 use m88_codec::encode;
 use m88_isa::Instr;
 use std::alloc::{AllocError, Global};
@@ -11,19 +13,17 @@ use std::alloc::{AllocError, Global};
 const TEXT_BASE: u32 = 0x1000;
 
 /// The image of instructions one behind the other.
-pub fn load(alloc: Global, instructions: &[Instr]) -> Result<Image, NoMemory>
+pub fn load(alloc: Global, instructions: &[Instr]) -> Result<Image, AllocError>
     requires plain { All IsPlain instructions.now }
-    requires short { 4 * length instructions.now ≤ 1048576 }
+    requires short { 4 * length instructions.now ≤ MOST_INPUT }
     ensures program { IfOk result (IsImageOf (program_of instructions.now)) }
     ensures plain { IfOk result HasPlainWords }
 {
-    let Ok(code) = words_of(alloc, instructions) else {
-        return Err(NoMemory);
-    };
+    let code = words_of(alloc, instructions)?;
     let mut image = Image::new(alloc);
     match image.add(TEXT_BASE, code.as_slice()) {
         Ok(()) => Ok(image),
-        Err(ImageFault::Memory) => Err(NoMemory),
+        Err(ImageFault::Memory) => Err(AllocError),
         Err(ImageFault::TooLarge) => unreachable!(),
         Err(ImageFault::Overlap(_)) => unreachable!(),
     }

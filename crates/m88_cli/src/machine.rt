@@ -1,11 +1,12 @@
 ghost use Rattle.std.specs.Prelude.{false, ◌≡◌, ◌+◌, ◌<◌, ◌≤◌, ◌||◌, ◌==◌, ℕ, Some, OnOk, is_some};
 ghost use Rattle.m88_isa.specs.Effect.{meaning_of};
 ghost use Rattle.m88_isa.specs.Machine.{Program, carried_out, step, trapped, with_register, with_written};
+ghost use Rattle.m88_cli.specs.Command.{most_limit};
 ghost use Rattle.m88_cli.specs.Machine.{GoesOn, IsAligned, IsAt, IsNearer, Makes, is_over_at, left_to_do, state_in, summary_in};
 ghost use Rattle.m88_cli.specs.Loaded.{HasPlainWords, IsImageOf};
 ghost use Rattle.m88_cli.specs.Timeline.{Moment, choice_at, issue_choice, made, opening_moment};
 ghost use Rattle.m88_cli.specs.Outcome.{summary_of};
-ghost use Rattle.m88_cli.specs.Program.{IsPlain};
+ghost use Rattle.m88_cli.specs.Plain.{IsPlain};
 
 use crate::fetch::fetch;
 use crate::letter::Letter;
@@ -75,7 +76,7 @@ impl Machine {
     pub fn event(&mut self, letter: Letter, image: &Image, limit: u32) -> Result<(), AllocError>
         requires plain { HasPlainWords image.now }
         requires aligned { IsAligned self.old }
-        requires small { limit ≤ 1000000 }
+        requires small { limit ≤ most_limit }
         requires within { self.old.retired ≤ limit }
         ensures aligned { OnOk result (IsAligned self.new) }
         ensures within { OnOk result (self.new.retired ≤ limit) }
@@ -110,7 +111,7 @@ impl Machine {
     fn issue(&mut self, image: &Image, limit: u32) -> Result<(), AllocError>
         requires plain { HasPlainWords image.now }
         requires aligned { IsAligned self.old }
-        requires small { limit ≤ 1000000 }
+        requires small { limit ≤ most_limit }
         requires within { self.old.retired ≤ limit }
         ensures aligned { OnOk result (IsAligned self.new) }
         ensures within { OnOk result (self.new.retired ≤ limit) }
@@ -133,7 +134,7 @@ impl Machine {
     fn step(&mut self, image: &Image) -> Result<(), AllocError>
         requires plain { HasPlainWords image.now }
         requires aligned { IsAligned self.old }
-        requires room { self.old.retired < 1000000 }
+        requires room { self.old.retired < most_limit }
         ensures aligned { OnOk result (IsAligned self.new) }
         ensures makes { OnOk result ((p : Program) (memory : ℕ → ℕ) → IsImageOf p image.now
             → Makes (step p (state_in self.old memory)) memory self.old self.new) }
@@ -155,7 +156,7 @@ impl Machine {
     /// Carries an instruction out.
     fn execute(&mut self, instr: &Instr) -> Result<(), AllocError>
         requires plain { IsPlain instr.now }
-        requires room { self.old.retired < 1000000 }
+        requires room { self.old.retired < most_limit }
         requires aligned { IsAligned self.old }
         ensures aligned { OnOk result (IsAligned self.new) }
         ensures goes { OnOk result (GoesOn self.old self.new) }
@@ -188,7 +189,7 @@ impl Machine {
 
     /// Serves the monitor's trap, or ends the program by the trap's vector.
     fn trap(&mut self, vector: u16) -> Result<(), AllocError>
-        requires room { self.old.retired < 1000000 }
+        requires room { self.old.retired < most_limit }
         requires aligned { IsAligned self.old }
         ensures aligned { OnOk result (IsAligned self.new) }
         ensures goes { OnOk result (GoesOn self.old self.new) }
@@ -211,7 +212,7 @@ impl Machine {
 
     /// Makes the changes of an instruction without accesses.
     fn go(&mut self, effect: &Effect)
-        requires room { self.old.retired < 1000000 }
+        requires room { self.old.retired < most_limit }
         ensures { self.new ≡ record self.old {
           regs = with_written effect.now.reg self.old.regs;
           carry = effect.now.carry;

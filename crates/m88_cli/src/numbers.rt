@@ -1,5 +1,6 @@
-ghost use Rattle.std.specs.Prelude.{◌≡◌, ◌≤◌, ◌<◌, IfSome, IsSome, length};
-ghost use Rattle.m88_cli.specs.Numbers.{decimal_number, is_hexadecimal, is_needed, number_in, plain_number};
+ghost use Rattle.std.specs.Prelude.{◌≡◌, ◌≤◌, ℕ, IfSome, Some, decimal};
+ghost use Rattle.m88_cli.specs.Numbers.{IsNumber, number_in};
+ghost use Rattle.m88_cli.specs.Reading.{is_hexadecimal, is_needed};
 
 /// The number that digits of a base write, where it is at most `most`.
 pub fn number_in(base: u32, most: u32, digits: &[u8]) -> Option<u32>
@@ -25,9 +26,9 @@ pub fn number_in(base: u32, most: u32, digits: &[u8]) -> Option<u32>
 /// A decimal number without needless zeros, at most `most`.
 pub fn decimal_number(most: u32, text: &[u8]) -> Option<u32>
     requires { most ≤ 1000000 }
-    ensures value { result ≡ decimal_number most text.now }
+    ensures found { IfSome result (λ n. text.now ≡ decimal n) }
     ensures bound { IfSome result (λ n. n ≤ most) }
-    ensures long { IsSome result → 0 < length text.now }
+    ensures only { (n : ℕ) → n ≤ most → text.now ≡ decimal n → result ≡ Some n }
 {
     if is_needed(text) {
         number_in(10, most, text)
@@ -39,8 +40,9 @@ pub fn decimal_number(most: u32, text: &[u8]) -> Option<u32>
 /// A number in either notation of a source, at most `most`.
 pub fn plain_number(most: u32, text: &[u8]) -> Option<u32>
     requires { most ≤ 1000000 }
-    ensures value { result ≡ plain_number most text.now }
+    ensures found { IfSome result (λ n. IsNumber text.now n) }
     ensures bound { IfSome result (λ n. n ≤ most) }
+    ensures only { (n : ℕ) → n ≤ most → IsNumber text.now n → result ≡ Some n }
 {
     if is_hexadecimal(text) {
         number_in(16, most, &text[2..])

@@ -1,8 +1,8 @@
-ghost use Rattle.std.specs.Prelude.{[], ◌≡◌, ◌≢◌, ◌↔◌, ◌+◌, ◌≤◌, ℕ, List, IsTrue, None, Some, false, length};
+ghost use Rattle.std.specs.Prelude.{[], ◌≡◌, ◌≢◌, ◌↔◌, ◌+◌, ◌≤◌, ℕ, List, None, Some, length};
 ghost use Rattle.std.specs.Io.KnownBytes.{Appends};
 ghost use Rattle.m88_base.specs.Causes.{Rose};
 ghost use Rattle.m88_base.specs.Outside.{AppendsPart, TakesAtMost, TakesExactly};
-ghost use Rattle.m88_cli.specs.Answer.{IsAnswer, IsText, accepts, refusal_of};
+ghost use Rattle.m88_cli.specs.Answer.{Accepts, IsAnswer, IsRefusal, IsText};
 ghost use Rattle.m88_cli.specs.Calls.{IsWhole, Runs};
 ghost use Rattle.m88_cli.specs.Command.{command_of};
 ghost use Rattle.m88_cli.specs.Status.{Answers, WritesNothing};
@@ -38,14 +38,14 @@ pub fn m88<S: Source, K: Sink>(
     // The whole input was read and is accepted, and the sink was given exactly the command's text:
     // for a run the report of the sequential machine.
     ensures done { result ≡ Status.Done → Runs (texts words.now) (S.left source.old) (S.left source.new) (λ command input.
-        IsTrue (accepts command input) × ((text : List ℕ) × IsText command input text × Appends (K.held sink.old) (K.held sink.new) text)) }
+        Accepts command input × ((text : List ℕ) × IsText command input text × Appends (K.held sink.old) (K.held sink.new) text)) }
 
     // The whole input was read and is not accepted, and the sink was given exactly the line that says so.
     ensures refused { result ≡ Status.Refused → Runs (texts words.now) (S.left source.old) (S.left source.new) (λ command input.
-        (accepts command input ≡ false) × Appends (K.held sink.old) (K.held sink.new) (refusal_of input)) }
-    ensures refusal { (command : Choice) (input : List ℕ) → command_of (texts words.now) ≡ Some command
-        → S.left source.old ≡ Some input → S.left source.new ≡ Some [] → accepts command input ≡ false
-        → IsWhole (K.held sink.old) (K.held sink.new) (refusal_of input) → result ≡ Status.Refused }
+        ¬ Accepts command input × ((text : List ℕ) × IsRefusal command input text × Appends (K.held sink.old) (K.held sink.new) text)) }
+    ensures refusal { (command : Choice) (input text : List ℕ) → command_of (texts words.now) ≡ Some command
+        → S.left source.old ≡ Some input → S.left source.new ≡ Some [] → ¬ Accepts command input
+        → IsRefusal command input text → IsWhole (K.held sink.old) (K.held sink.new) text → result ≡ Status.Refused }
 
     // The sink failed, and was given a front of the text that lacks at least one byte.
     ensures sink_fault { result ≡ Status.SinkFault → Rose (K.faults sink.old) (K.faults sink.new) }
@@ -56,7 +56,7 @@ pub fn m88<S: Source, K: Sink>(
     ensures complete { (command : Choice) (input : List ℕ) → command_of (texts words.now) ≡ Some command
         → S.left source.old ≡ Some input → length input ≤ MOST_INPUT
         → ¬ Rose (S.faults source.old) (S.faults source.new) → ¬ Rose (K.faults sink.old) (K.faults sink.new)
-        → Answers (accepts command input) result }
+        → Answers (Accepts command input) result }
     ensures unwritten { WritesNothing result → sink.new ≡ sink.old }
 {
     let Some(command) = command(words) else {

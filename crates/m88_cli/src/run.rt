@@ -1,5 +1,6 @@
 ghost use Rattle.std.specs.Prelude.{◌≡◌, ◌≤◌, IfOk};
 ghost use Rattle.m88_isa.specs.Machine.{Program};
+ghost use Rattle.m88_cli.specs.Command.{most_limit};
 ghost use Rattle.m88_cli.specs.Loaded.{HasPlainWords, IsImageOf};
 ghost use Rattle.m88_cli.specs.Outcome.{summary_of};
 ghost use Rattle.m88_cli.specs.Timeline.{IsRunSummary, letter_at};
@@ -13,7 +14,7 @@ use std::alloc::{AllocError, Global};
 /// Carries a program out, event by event, until it ends or `limit` instructions are retired.
 pub fn run(alloc: Global, image: &Image, limit: u32) -> Result<Outcome, AllocError>
     requires plain { HasPlainWords image.now }
-    requires small { limit ≤ 1000000 }
+    requires small { limit ≤ most_limit }
     ensures { IfOk result (λ o. (p : Program) → IsImageOf p image.now → IsRunSummary p limit (summary_of o)) }
 {
     let mut machine = Machine::new(alloc, image.start());

@@ -1,8 +1,10 @@
-ghost use Rattle.std.specs.Prelude.{◌≡◌, ◌∷◌, ◌<◌, ◌^◌, ◌≤◌, ◌+◌, ◌==◌, IfOk, IfSome, IsSome, length};
-ghost use Rattle.std.specs.List.{after_first, before_first, position_or_len};
-ghost use Rattle.m88_cli.specs.Reading.{FitsSource, HasPlain, Reads};
-ghost use Rattle.m88_cli.specs.Source.{first_operand, instruction_of, is_comma, lines_of, or_of, register_named, second_operand, tb0_of, third_operand};
-ghost use Rattle.m88_cli.specs.Program.{IsPlain};
+ghost use Rattle.std.specs.Prelude.{◌≡◌, ◌∷◌, ◌++◌, ◌<◌, ◌^◌, ◌≤◌, ◌+◌, ◌==◌, ℕ, List, IfOk, IfSome, IsSome, MatchOption, Some, codes, length};
+ghost use Rattle.std.specs.List.{position_or_len};
+ghost use Rattle.m88_base.specs.declared.reg.Reg.{Reg as Register};
+ghost use Rattle.m88_isa.specs.declared.instr.Instr.{Instr as Instruction};
+ghost use Rattle.m88_cli.specs.Reading.{FitsSource, HasNoComma, HasPlain, Reads};
+ghost use Rattle.m88_cli.specs.Source.{IsLineOf, comma, lines_of, parted, register_name};
+ghost use Rattle.m88_cli.specs.Plain.{IsPlain};
 
 use crate::numbers::{decimal_number, plain_number};
 use m88_base::Reg;
@@ -55,9 +57,10 @@ fn first_line(bytes: &[u8]) -> (&[u8], &[u8])
     }
 }
 
-/// The instruction of a line.
+/// The instruction that a line writes.
 fn read_line(line: &[u8]) -> Option<Instr>
-    ensures value { result ≡ instruction_of line.now }
+    ensures found { IfSome result (λ i. IsLineOf i line.now) }
+    ensures only { (i : Instruction) → IsLineOf i line.now → result ≡ Some i }
     ensures plain { IfSome result IsPlain }
     ensures long { IsSome result → 4 ≤ length line.now }
 {
@@ -72,11 +75,12 @@ fn read_line(line: &[u8]) -> Option<Instr>
 
 /// `or` of the operands `rD,rS1,N`.
 fn read_or(text: &[u8]) -> Option<Instr>
-    ensures value { result ≡ or_of text.now }
+    ensures found { IfSome result (λ i. IsLineOf i (codes "or " ++ text.now)) }
+    ensures only { (i : Instruction) → IsLineOf i (codes "or " ++ text.now) → result ≡ Some i }
     ensures plain { IfSome result IsPlain }
     ensures long { IsSome result → 0 < length text.now }
 {
-    let (first, second, third) = operands(text);
+    let (first, second, third) = operands(text)?;
     let d = register(first)?;
     let s1 = register(second)?;
     let imm = plain_number(65535, third)?;
@@ -90,11 +94,12 @@ fn read_or(text: &[u8]) -> Option<Instr>
 
 /// `tb0` of the operands `B,rS1,V`.
 fn read_tb0(text: &[u8]) -> Option<Instr>
-    ensures value { result ≡ tb0_of text.now }
+    ensures found { IfSome result (λ i. IsLineOf i (codes "tb0 " ++ text.now)) }
+    ensures only { (i : Instruction) → IsLineOf i (codes "tb0 " ++ text.now) → result ≡ Some i }
     ensures plain { IfSome result IsPlain }
     ensures long { IsSome result → 0 < length text.now }
 {
-    let (first, second, third) = operands(text);
+    let (first, second, third) = operands(text)?;
     let bit = decimal_number(31, first)?;
     let s1 = register(second)?;
     let vector = plain_number(511, third)?;
@@ -107,28 +112,27 @@ fn read_tb0(text: &[u8]) -> Option<Instr>
 }
 
 /// The texts before the first comma, before the second one and after that.
-fn operands(text: &[u8]) -> (&[u8], &[u8], &[u8])
-    ensures first { result.0.now ≡ first_operand text.now }
-    ensures second { result.1.now ≡ second_operand text.now }
-    ensures third { result.2.now ≡ third_operand text.now }
-    ensures within { length result.0.now ≤ length text.now }
+fn operands(text: &[u8]) -> Option<(&[u8], &[u8], &[u8])>
+    ensures found { IfSome result (λ o. text.now ≡ parted o.0.now o.1.now o.2.now) }
+    ensures only { (a b c : List ℕ) → HasNoComma a → HasNoComma b → text.now ≡ parted a b c
+        → MatchOption result ⊥ (λ o. (o.0.now ≡ a) × (o.1.now ≡ b) × (o.2.now ≡ c)) }
 {
-    let (first, others) = cut_at_comma(text);
-    let (second, third) = cut_at_comma(others);
-    (first, second, third)
+    let (first, others) = cut_at_comma(text)?;
+    let (second, third) = cut_at_comma(others)?;
+    Some((first, second, third))
 }
 
-/// What stands before the first comma and after it; all and nothing where there is none.
-fn cut_at_comma(text: &[u8]) -> (&[u8], &[u8])
-    ensures before { result.0.now ≡ before_first is_comma text.now }
-    ensures after { result.1.now ≡ after_first is_comma text.now }
-    ensures within { length result.0.now ≤ length text.now }
+/// What stands before the first comma and after it.
+fn cut_at_comma(text: &[u8]) -> Option<(&[u8], &[u8])>
+    ensures found { IfSome result (λ o. text.now ≡ o.0.now ++ comma ∷ o.1.now) }
+    ensures only { (a b : List ℕ) → HasNoComma a → text.now ≡ a ++ comma ∷ b
+        → MatchOption result ⊥ (λ o. (o.0.now ≡ a) × (o.1.now ≡ b)) }
 {
     let at = length_before(b',', text);
     if at < text.len() {
-        (&text[..at], &text[at + 1..])
+        Some((&text[..at], &text[at + 1..]))
     } else {
-        (text, &text[text.len()..])
+        None
     }
 }
 
@@ -142,11 +146,12 @@ fn length_before(stop: u8, text: &[u8]) -> usize
 
 /// The register that a text names.
 fn register(text: &[u8]) -> Option<Reg>
-    ensures value { result ≡ register_named text.now }
-    ensures long { IsSome result → 0 < length text.now }
+    ensures found { IfSome result (λ r. text.now ≡ register_name r) }
+    ensures only { (r : Register) → text.now ≡ register_name r → result ≡ Some r }
 {
-    match text {
-        [b'r', digits @ ..] => decimal_number(31, digits).map(|n| Reg::from_low_bits(n)),
-        _ => None,
-    }
+    let [b'r', digits @ ..] = text else {
+        return None;
+    };
+    let n = decimal_number(31, digits)?;
+    Some(Reg::from_low_bits(n))
 }

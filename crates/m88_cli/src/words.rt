@@ -5,6 +5,9 @@ ghost use Rattle.m88_cli.specs.Words.{texts};
 use crate::choice::Command;
 use crate::numbers::number_in;
 
+/// The most instructions that a run may be allowed.
+const MOST_LIMIT: u32 = 1_000_000;
+
 /// The command that the words spell, or None where they are outside the grammar.
 pub fn command(words: &[String]) -> Option<Command>
     ensures value { result ≡ command_of (texts words.now) }
@@ -25,7 +28,7 @@ fn limit_of(text: &[u8]) -> Option<u32>
     ensures bound { IfSome result (λ n. n ≤ most_limit) }
 {
     if text.len() >= 1 && text.len() <= 7 {
-        number_in(10, 1_000_000, text)
+        number_in(10, MOST_LIMIT, text)
     } else {
         None
     }

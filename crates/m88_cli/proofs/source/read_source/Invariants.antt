@@ -1,7 +1,7 @@
 -- The lines so far were read, their number is no greater than that of the bytes, and each instruction takes four bytes.
 use Rattle.std.proofs.Common.{◌≤◌, ◌+◌, ◌*◌, length}
 use Rattle.std.specs.Prelude.{All}
-use Rattle.m88_cli.specs.Program.{IsPlain}
+use Rattle.m88_cli.specs.Plain.{IsPlain}
 use Rattle.m88_cli.proofs.Lines.{ReadSoFar}
 use Rattle.m88_cli.proofs.source.read_source.Given as goal
 

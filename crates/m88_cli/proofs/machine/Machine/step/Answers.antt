@@ -1,8 +1,9 @@
--- The instruction that is carried out is the one that the program has there.
-use Rattle.std.proofs.Common.{arith, sym}
+-- The instruction that is carried out is the one that the program has there; a word that is none ends the program.
+use Rattle.std.proofs.Common.{◌≡◌, refl, arith, sym}
 use Rattle.std.proofs.lemmas.Result.{on_ok_weaker}
+use Rattle.m88_isa.specs.Machine.{ends, faults, step}
 use Rattle.m88_cli.specs.Machine.{state_in}
-use Rattle.m88_cli.proofs.Fetching.{step_is}
+use Rattle.m88_cli.proofs.Fetching.{step_is, step_is_unimplemented}
 use Rattle.m88_cli.proofs.machine.Machine.step.Goals as goal
 
 pub returns-in-Ok-clause-makes : goal.returns-in-Ok-clause-makes
@@ -12,3 +13,11 @@ returns-in-Ok-clause-makes c =
     c.requires.aligned.0 (omega arith) (sym c.in-Some.ensures) c.in-Ok.ensures.found
     (λ j is. let read = c.decode.ensures.only j is in let said = c.in-Ok.is in cc)) (makes memory))
     c.execute.ensures.makes
+
+pub returns-in-Err-clause-makes : goal.returns-in-Err-clause-makes
+returns-in-Err-clause-makes c = λ p memory holds.
+    let ended : step p (state_in c.args.self.now memory) ≡ ends (faults 5 c.args.self.now.pc) =
+    step_is_unimplemented p c.args.image.now (state_in c.args.self.now memory) c.in-Some.word holds
+    c.requires.aligned.0 (omega arith) (sym c.in-Some.ensures)
+    (λ j is. let read = c.in-Err.ensures.only j is in cc) in
+    rw (ended, c.stop-in-Err.ensures) (refl, refl, refl, refl)
