@@ -19,7 +19,8 @@ pub record PutsBytes (old new : ℕ → Option ℕ) (at : ℕ) (bytes : List ℕ
   pub below : (a : ℕ) → a < at → new a ≡ old a
   pub above : (a : ℕ) → at + length bytes ≤ a → new a ≡ old a
 
--- the bytes are all that stand at consecutive addresses round `at`: each is found in its place, and nothing just below and just above them
+-- the bytes are all that stand at consecutive addresses round `at`: each is found in its place, and nothing just below
+-- and just above them
 pub record IsPart (found : ℕ → Option ℕ) (at : ℕ) (bytes : List ℕ) : Type 0 where
   pub some : 0 < length bytes
   pub there : (k : ℕ) → k < length bytes → found (at + k) ≡ slice_get bytes k

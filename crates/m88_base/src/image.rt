@@ -41,7 +41,8 @@ impl Model for Image {
 
     ghost view = { λ image. record { runs = image.runs.items; start = image.start } };
 
-    ghost invariant = { λ image. AreApart 0 image.runs.items × (image.len ≡ count_among image.runs.items) × (image.len ≤ 1048576) };
+    ghost invariant = { λ image. AreApart 0 image.runs.items × (image.len ≡ count_among image.runs.items)
+        × (image.len ≤ 1048576) };
 }
 
 impl Image {

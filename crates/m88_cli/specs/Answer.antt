@@ -41,4 +41,5 @@ IsRefusal (Run limit) source text = (n : ℕ) × IsFirstOther source n × (text 
 
 -- the text is what a command writes for an input
 abbrev pub IsAnswer : Command → List ℕ → List ℕ → Type 0
-IsAnswer command input text = (Accepts command input × IsText command input text) ⊎ (¬ Accepts command input × IsRefusal command input text)
+IsAnswer command input text = (Accepts command input × IsText command input text)
+    ⊎ (¬ Accepts command input × IsRefusal command input text)

@@ -18,7 +18,8 @@ abbrev pub Makes : Step → (ℕ → ℕ) → Machine → Machine → Type 0
 Makes (on bubble s) memory old new =
     (s ≡ state_in new memory) × (new.bubble ≡ bubble) × (new.retired ≡ old.retired + 1) × (new.ended ≡ old.ended)
 Makes (ends stop) memory old new =
-    (state_in new memory ≡ state_in old memory) × (new.bubble ≡ old.bubble) × (new.retired ≡ old.retired) × (new.ended ≡ Some (end_of_stop stop))
+    (state_in new memory ≡ state_in old memory) × (new.bubble ≡ old.bubble) × (new.retired ≡ old.retired)
+    × (new.ended ≡ Some (end_of_stop stop))
 
 -- a machine stands at a moment of a program
 pub record IsAt (p : Program) (m : Moment) (machine : Machine) : Type 0 where
@@ -42,7 +43,8 @@ left_to_do limit m = 2 * (limit - m.retired) + (if m.bubble then 1 else 0) + (if
 
 -- one more instruction was retired, or the program has ended
 abbrev pub GoesOn : Machine → Machine → Type 0
-GoesOn old new = (new.retired ≡ old.retired + 1) × (new.ended ≡ old.ended) ⊎ (new.retired ≡ old.retired) × (new.bubble ≡ old.bubble) × (is_some new.ended ≡ true)
+GoesOn old new = (new.retired ≡ old.retired + 1) × (new.ended ≡ old.ended)
+    ⊎ (new.retired ≡ old.retired) × (new.bubble ≡ old.bubble) × (is_some new.ended ≡ true)
 
 -- an issue leaves less to do, and an answer nothing more
 abbrev pub IsNearer : ℕ → Letter → Machine → Machine → Type 0

@@ -7,4 +7,5 @@ use Rattle.m88_cli.specs.declared.job.Reply.{Reply}
 -- a reply to an input is the text of a command's job where the command accepts it, and else the line that refuses it
 abbrev pub Replies : Command → List ℕ → Reply → Type 0
 Replies command input r =
-    MatchBool r.accepted (Accepts command input × IsText command input r.text.items) (¬ Accepts command input × IsRefusal command input r.text.items)
+    MatchBool r.accepted (Accepts command input × IsText command input r.text.items)
+    (¬ Accepts command input × IsRefusal command input r.text.items)

@@ -43,7 +43,8 @@ pub data IsLineOf : Instr → List ℕ → Type 0 where
 -- the lines write the instructions in order, and an empty line writes none
 pub data AreLinesOf : List Instr → List (List ℕ) → Type 0 where
   no_line : AreLinesOf [] []
-  empty_line : {instructions : List Instr} {lines : List (List ℕ)} → AreLinesOf instructions lines → AreLinesOf instructions ([] ∷ lines)
+  empty_line : {instructions : List Instr} {lines : List (List ℕ)} → AreLinesOf instructions lines
+      → AreLinesOf instructions ([] ∷ lines)
   code_line : {i : Instr} {line : List ℕ} {instructions : List Instr} {lines : List (List ℕ)}
       → IsLineOf i line → AreLinesOf instructions lines → AreLinesOf (i ∷ instructions) (line ∷ lines)
 

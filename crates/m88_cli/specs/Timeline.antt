@@ -1,6 +1,6 @@
--- The timeline of a run: its events, one for each letter, and the moments between them. The letter `r` is for
--- the data unit, which answers its oldest transaction, and the letter `i` for an attempt to issue. No instruction that a source may have reads or writes
--- memory, so nothing is ever pending.
+-- The timeline of a run: its events, one for each letter, and the moments between them. The letter `r` is for the data
+-- unit, which answers its oldest transaction, and the letter `i` for an attempt to issue. No instruction that a source may
+-- have reads or writes memory, so nothing is ever pending.
 use Rattle.std.specs.Prelude.{ℕ, zero, suc, Bool, true, false, ◌≡◌, ◌<◌, ◌+◌, ◌%◌, ◌==◌, ◌||◌, if◌then◌else◌}
 use Rattle.m88_isa.specs.Machine.{Program, Step, Stop, ends, exits, faults, on, state, step}
 use Rattle.m88_cli.specs.Report.{Summary}

@@ -38,11 +38,13 @@ pub fn m88<S: Source, K: Sink>(
     // The whole input was read and is accepted, and the sink was given exactly the command's text:
     // for a run the report of the sequential machine.
     ensures done { result ≡ Status.Done → Runs (texts words.now) (S.left source.old) (S.left source.new) (λ command input.
-        Accepts command input × ((text : List ℕ) × IsText command input text × Appends (K.held sink.old) (K.held sink.new) text)) }
+        Accepts command input × ((text : List ℕ) × IsText command input text
+        × Appends (K.held sink.old) (K.held sink.new) text)) }
 
     // The whole input was read and is not accepted, and the sink was given exactly the line that says so.
     ensures refused { result ≡ Status.Refused → Runs (texts words.now) (S.left source.old) (S.left source.new) (λ command input.
-        ¬ Accepts command input × ((text : List ℕ) × IsRefusal command input text × Appends (K.held sink.old) (K.held sink.new) text)) }
+        ¬ Accepts command input × ((text : List ℕ) × IsRefusal command input text
+        × Appends (K.held sink.old) (K.held sink.new) text)) }
     ensures refusal { (command : Choice) (input text : List ℕ) → command_of (texts words.now) ≡ Some command
         → S.left source.old ≡ Some input → S.left source.new ≡ Some [] → ¬ Accepts command input
         → IsRefusal command input text → IsWhole (K.held sink.old) (K.held sink.new) text → result ≡ Status.Refused }

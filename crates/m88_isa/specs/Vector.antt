@@ -40,4 +40,5 @@ unit_vector unit = if unit == 1 then 114 else 116 + 2 * (unit - 2)
 -- the vectors that an instruction itself raises: 4 to 9, and those of the units, 114 and the even ones of 116 to 126
 abbrev pub IsRaised : ℕ → Type 0
 IsRaised vector =
-    (misaligned ≤ vector) × (vector ≤ overflow) ⊎ (vector ≡ unit_vector 1) ⊎ (unit_vector 2 ≤ vector) × (vector ≤ unit_vector 7) × (vector % 2 ≡ 0)
+    (misaligned ≤ vector) × (vector ≤ overflow) ⊎ (vector ≡ unit_vector 1)
+    ⊎ (unit_vector 2 ≤ vector) × (vector ≤ unit_vector 7) × (vector % 2 ≡ 0)

@@ -170,7 +170,8 @@ word_of (MemImm op d s1 imm) = first_byte (mem_byte op) + at_d (number_of d) + a
 word_of (Imm op d s1 imm) = first_byte (imm_byte op) + at_d (number_of d) + at_s1 (number_of s1) + imm
 word_of (Regs op d s1 s2) = 0xF4000000 + at_d (number_of d) + at_s1 (number_of s1) + reg_code op + number_of s2
 word_of (MemReg op d s1 s2 scaled usr) =
-    0xF4000000 + at_d (number_of d) + at_s1 (number_of s1) + mem_byte op * 0x100 + mark scaled 0x200 + mark usr 0x100 + number_of s2
+    0xF4000000 + at_d (number_of d) + at_s1 (number_of s1) + mem_byte op * 0x100 + mark scaled 0x200 + mark usr 0x100
+    + number_of s2
 word_of (Lda size d s1 s2) = 0xF4000000 + at_d (number_of d) + at_s1 (number_of s1) + lda_code size + number_of s2
 word_of (BitReg op d s1 s2) = 0xF4000000 + at_d (number_of d) + at_s1 (number_of s1) + bit_code op + number_of s2
 word_of (Find ones d s2) = 0xF4000000 + at_d (number_of d) + (if ones then 0xE800 else 0xEC00) + number_of s2
