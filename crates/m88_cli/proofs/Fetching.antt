@@ -4,7 +4,7 @@ use Rattle.std.specs.Prelude.{MatchOption}
 use Rattle.std.specs.Int.{to_be_bytes, w32}
 use Rattle.m88_base.specs.Image.{ProgramImage, byte_at}
 use Rattle.m88_isa.specs.Effect.{meaning_of}
-use Rattle.m88_isa.specs.Machine.{Program, State, carried_out, ends, faults, four_bytes, step}
+use Rattle.m88_isa.specs.Machine.{Program, State, by_vector, carried_out, ends, four_bytes, step}
 use Rattle.m88_isa.specs.Word.{IsWord}
 use Rattle.m88_isa.specs.declared.instr.Instr.{Instr}
 use Rattle.m88_cli.specs.Loaded.{IsImageOf}
@@ -36,7 +36,7 @@ none_there (Some j) word found none = absurd (none j found)
 
 pub step_is_unimplemented : (p : Program) (image : ProgramImage) (s : State) (word : ℕ) → IsImageOf p image
     → s.pc % 4 ≡ 0 → word < 2 ^ 32 → four_bytes (byte_at image) s.pc ≡ Some (to_be_bytes w32 word) → ((j : Instr) → ¬ IsWord j word)
-    → step p s ≡ ends (faults 5 s.pc)
+    → step p s ≡ ends (by_vector 5 s.pc)
 step_is_unimplemented p image s word holds aligned small bytes none =
     let instruction : p.instruction s.pc ≡ None =
     none_there (p.instruction s.pc) word (holds.instructions s.pc word aligned small bytes) none in

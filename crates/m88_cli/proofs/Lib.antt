@@ -1,4 +1,5 @@
 pub mod Numerals
+pub mod Spelling
 pub mod Texts
 pub mod Lines
 pub mod Values

@@ -3,7 +3,7 @@ use Rattle.std.proofs.Common.{◌≡◌, ℕ, ◌+◌, ◌==◌, ◌||◌, Bool,
 use Rattle.std.specs.Prelude.{MatchOption, is_some, if◌then◌else◌}
 use Rattle.m88_isa.specs.Machine.{Program, State, Step, ends, on, opening, state, step}
 use Rattle.m88_cli.specs.Machine.{IsAt, Makes, is_over_at, state_in}
-use Rattle.m88_cli.specs.Timeline.{Choice, Moment, idles, passes, choice_of_step, is_over, issue_choice, made}
+use Rattle.m88_cli.specs.Timeline.{Deed, Moment, idles, passes, deed_of_step, is_over, issue_deed, made}
 use Rattle.m88_cli.specs.declared.machine.Machine.{Machine}
 use Rattle.m88_cli.specs.declared.outcome.End.{End}
 
@@ -19,7 +19,7 @@ state_behind p n bubble s e = rw (add-one, e) refl
 
 -- a step, by what it is
 by_step : (p : Program) (m : Moment) (old new : Machine) (st : Step) → step p (state p m.retired) ≡ st → m.ended ≡ false
-    → Makes st (opening p).memory old new → IsAt p m old → IsAt p (made (choice_of_step st) m) new
+    → Makes st (opening p).memory old new → IsAt p m old → IsAt p (made (deed_of_step st) m) new
 by_step p m old new (on bubble s) e lives makes at = record {
   here = state_behind p m.retired bubble s e ∙ makes.0;
   retired = makes.2 ∙ ap (λ n. n + 1) at.retired;
@@ -40,20 +40,20 @@ neither : (a b : Bool) → (a || b) ≡ false → a ≡ false
 neither true b e = e
 neither false b e = refl
 
--- the choice of a moment that isn't over and has no bubble
-only_choice : (over bubble : Bool) (c : Choice) → over ≡ false → bubble ≡ false
+-- the deed of a moment that isn't over and has no bubble
+only_deed : (over bubble : Bool) (c : Deed) → over ≡ false → bubble ≡ false
     → (if over then idles else (if bubble then passes else c)) ≡ c
-only_choice true bubble c e f = absurd cc
-only_choice false true c e f = absurd cc
-only_choice false false c e f = refl
+only_deed true bubble c e f = absurd cc
+only_deed false true c e f = absurd cc
+only_deed false false c e f = refl
 
 -- a machine that isn't over, and has no bubble, issues
 pub issued : (p : Program) (limit : ℕ) (m : Moment) (old new : Machine) → is_over_at limit old ≡ false → old.bubble ≡ false
     → Makes (step p (state_in old (opening p).memory)) (opening p).memory old new → IsAt p m old
-    → IsAt p (made (issue_choice p limit m) m) new
+    → IsAt p (made (issue_deed p limit m) m) new
 issued p limit m old new goes none makes at =
     let over : is_over limit m ≡ false = rw (← at.ended, ← at.retired) goes in
     let plain : m.bubble ≡ false = sym at.bubble ∙ none in
     subst (λ c. IsAt p (made c m) new)
-    (sym (only_choice (is_over limit m) m.bubble (choice_of_step (step p (state p m.retired))) over plain))
+    (sym (only_deed (is_over limit m) m.bubble (deed_of_step (step p (state p m.retired))) over plain))
     (by_step p m old new (step p (state p m.retired)) refl (neither m.ended (m.retired == limit) over) (rw at.here makes) at)

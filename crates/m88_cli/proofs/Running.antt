@@ -4,7 +4,7 @@ use Rattle.std.specs.Prelude.{MatchOption, if◌then◌else◌, is_some, unwrap_
 use Rattle.std.proofs.lemmas.Bool.Decides.{nat_tests}
 use Rattle.m88_isa.specs.Machine.{Program, State, state, step}
 use Rattle.m88_cli.specs.Machine.{IsAt, IsNearer, is_over_at, left_to_do, summary_in}
-use Rattle.m88_cli.specs.Timeline.{Choice, IsRunSummary, Moment, choice_at, counted_event, end_of_step, finishes, idles, is_over, letter_at, made, moment, opening_moment, passes, retires, summary_at}
+use Rattle.m88_cli.specs.Timeline.{Deed, IsRunSummary, Moment, deed_at, counted_event, end_of_step, finishes, idles, is_over, letter_at, made, moment, opening_moment, passes, retires, summary_at}
 use Rattle.m88_cli.specs.declared.letter.Letter.TheVariants.{Issue, Answer}
 use Rattle.m88_cli.specs.declared.machine.Machine.{Machine}
 use Rattle.m88_cli.specs.declared.outcome.End.{End}
@@ -21,7 +21,7 @@ counted p m machine at = record { here = at.here; retired = at.retired; bubble =
 
 -- behind one more event
 pub at_next : (p : Program) (limit n : ℕ) (machine : Machine)
-    → IsAt p (made (choice_at p limit (letter_at n) (moment p limit n)) (moment p limit n)) machine → IsAt p (moment p limit (n + 1)) machine
+    → IsAt p (made (deed_at p limit (letter_at n) (moment p limit n)) (moment p limit n)) machine → IsAt p (moment p limit (n + 1)) machine
 unfolding moment
 at_next p limit n machine at = rw add-one (counted p _ machine at)
 
@@ -64,7 +64,7 @@ pub record SameCounts (m n : Moment) : Type 0 where
   pub answers : n.answers ≡ m.answers
   pub faults : n.faults ≡ m.faults
 
-made_counts : (c : Choice) (m : Moment) → SameCounts m (made c m)
+made_counts : (c : Deed) (m : Moment) → SameCounts m (made c m)
 made_counts idles m = record { events = refl; answers = refl; faults = refl }
 made_counts passes m = record { events = refl; answers = refl; faults = refl }
 made_counts finishes m = record { events = refl; answers = refl; faults = refl }
@@ -81,7 +81,7 @@ unfolding moment
 counts p limit zero = record { events = refl; answers = refl; faults = refl }
 counts p limit (suc n) =
     let before = counts p limit n in
-    let same = made_counts (choice_at p limit (letter_at n) (moment p limit n)) (moment p limit n) in
+    let same = made_counts (deed_at p limit (letter_at n) (moment p limit n)) (moment p limit n) in
     record {
       events = ap (λ k. k + 1) (same.events ∙ before.events) ∙ add-one n;
       answers = same.answers ∙ before.answers;

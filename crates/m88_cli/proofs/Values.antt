@@ -4,7 +4,7 @@ use Rattle.std.specs.Prelude.{if◌then◌else◌, nat_le}
 use Rattle.std.specs.Str.Parse.{digits_value}
 use Rattle.std.proofs.lemmas.Bool.Decides.{nat_tests}
 use Rattle.std.proofs.lemmas.Str.Parse.{digits_value-take-le}
-use Rattle.m88_cli.specs.Numbers.{are_digits, number_in}
+use Rattle.m88_cli.specs.Reading.{are_digits, number_in}
 
 -- where the second of two tests fails, nothing is answered
 guarded : (a b : Bool) (n : ℕ) → b ≡ false → None ≡ (if a && b then Some n else None)

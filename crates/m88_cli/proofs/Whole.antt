@@ -68,6 +68,11 @@ pub refusal_of_reply : (command : Command) (input : List ℕ) (r : Reply) → ¬
     → IsRefusal command input r.text.items
 refusal_of_reply command input r unaccepted h = only_refused command input r.text.items unaccepted (answer_of command input r h)
 
+-- a reply that accepts an input is to one that is accepted
+pub accepted_reply : (command : Command) (input : List ℕ) (r : Reply) → r.accepted ≡ true → Replies command input r → Accepts command input
+accepted_reply command input r e h =
+    (subst (λ t. MatchBool t (Accepts command input × IsText command input r.text.items) (¬ Accepts command input × IsRefusal command input r.text.items)) e h).0
+
 -- a reply that refuses an input is to one that isn't accepted
 pub unaccepted_reply : (command : Command) (input : List ℕ) (r : Reply) → r.accepted ≡ false → Replies command input r → ¬ Accepts command input
 unaccepted_reply command input r e h =

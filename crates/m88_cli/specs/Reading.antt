@@ -1,10 +1,22 @@
--- Words for the contracts of private functions; no promise of the program names them. What the reader of a source found.
-use Rattle.std.specs.Prelude.{All, ◌*◌, ◌≤◌, ◌≡◌, ◌==◌, ◌&&◌, ◌||◌, ℕ, Bool, List, true, length, nat_le, not, slice_index}
+-- Words for the contracts of private functions; no promise of the program names them. How words and lines
+-- are read, and what the reader of a source found.
+use Rattle.std.specs.Prelude.{All, ◌*◌, ◌≤◌, ◌≡◌, ◌==◌, ◌&&◌, ◌||◌, ℕ, Bool, List, Option, Some, None, true, length, nat_le, not, slice_index, if◌then◌else◌}
+use Rattle.std.specs.Char.{is_digit}
 use Rattle.std.specs.List.{list_all}
+use Rattle.std.specs.Str.Parse.{digits_value}
 use Rattle.m88_cli.specs.Plain.{IsPlain}
 use Rattle.m88_cli.specs.Source.{comma, IsFirstOther, IsSourceOf}
 use Rattle.m88_cli.specs.declared.source.Reading.{Reading}
 use Rattle.m88_cli.specs.declared.source.Reading.TheVariants.{Accepted, Refused}
+
+-- whether every byte is a digit of the base
+abbrev pub are_digits : ℕ → List ℕ → Bool
+are_digits base text = list_all (λ b. is_digit b base) text
+
+-- the number that digits of a base write, up to a most
+abbrev pub number_in : ℕ → ℕ → List ℕ → Option ℕ
+number_in base most text =
+    if are_digits base text && nat_le (digits_value base text) most then Some (digits_value base text) else None
 
 -- a text has no comma
 abbrev pub HasNoComma : List ℕ → Type 0

@@ -1,8 +1,8 @@
 -- The sources that a run takes: lines, each empty or the line of one of two instructions of the assembly language.
---     or rD,rS1,N      N is 0 to 65535
---     tb0 B,rS1,V      B is 0 to 31, V is 0 to 511
--- Exactly one blank stands behind the mnemonic and none elsewhere. Every other line is refused. It is said which texts
--- write an instruction, not how a line is read.
+--     or rD,rS1,N      D and S1 are 0 to 31, N is 0 to 65535
+--     tb0 B,rS1,V      B and S1 are 0 to 31, V is 0 to 511
+-- Numbers are decimal; N and V may also be `0x` and one to four digits. Exactly one blank stands behind the mnemonic and
+-- none elsewhere. Every other line is refused. It is said which texts write an instruction, not how a line is read.
 use Rattle.std.specs.Prelude.{ℕ, ◌≡◌, ◌≤◌, ◌⊎◌, ◌+◌, ◌++◌, ◌==◌, List, [], ◌∷◌, All, false, codes, decimal, length, if◌then◌else◌}
 use Rattle.m88_base.specs.Reg.{number_of}
 use Rattle.m88_base.specs.declared.reg.Reg.{Reg}
@@ -10,6 +10,10 @@ use Rattle.m88_isa.specs.declared.instr.Instr.{Instr}
 use Rattle.m88_isa.specs.declared.instr.Instr.TheVariants.{Imm, TrapBit}
 use Rattle.m88_isa.specs.declared.instr.ImmOp.TheVariants.{Or}
 use Rattle.m88_cli.specs.Numbers.{IsNumber}
+
+-- the byte that ends a line
+abbrev pub line_feed : ℕ
+line_feed = 10
 
 -- a byte at the front of the first line
 abbrev pub begin_line : ℕ → List (List ℕ) → List (List ℕ)
@@ -19,7 +23,7 @@ begin_line b (line ∷ lines) = (b ∷ line) ∷ lines
 -- the lines of a source: LF or the end of the input ends a line, and a line end that is last opens no further line
 abbrev pub lines_of : List ℕ → List (List ℕ)
 lines_of [] = []
-lines_of (b ∷ source) = if b == 10 then [] ∷ lines_of source else begin_line b (lines_of source)
+lines_of (b ∷ source) = if b == line_feed then [] ∷ lines_of source else begin_line b (lines_of source)
 
 -- the byte between two operands
 abbrev pub comma : ℕ
@@ -35,10 +39,10 @@ parted first second third = first ++ comma ∷ (second ++ comma ∷ third)
 
 -- the line writes the instruction
 pub data IsLineOf : Instr → List ℕ → Type 0 where
-  or_line : {d s1 : Reg} {imm : ℕ} {line : List ℕ} (n : List ℕ) → imm ≤ 65535 → IsNumber n imm
-      → line ≡ codes "or " ++ parted (register_name d) (register_name s1) n → IsLineOf (Imm Or d s1 imm) line
-  trap_line : {s1 : Reg} {bit vector : ℕ} {line : List ℕ} (v : List ℕ) → bit ≤ 31 → vector ≤ 511 → IsNumber v vector
-      → line ≡ codes "tb0 " ++ parted (decimal bit) (register_name s1) v → IsLineOf (TrapBit false bit s1 vector) line
+  or_line : {d s1 : Reg} {imm : ℕ} {line : List ℕ} (text : List ℕ) → imm ≤ 65535 → IsNumber text imm
+      → line ≡ codes "or " ++ parted (register_name d) (register_name s1) text → IsLineOf (Imm Or d s1 imm) line
+  trap_line : {s1 : Reg} {bit vector : ℕ} {line : List ℕ} (text : List ℕ) → bit ≤ 31 → vector ≤ 511 → IsNumber text vector
+      → line ≡ codes "tb0 " ++ parted (decimal bit) (register_name s1) text → IsLineOf (TrapBit false bit s1 vector) line
 
 -- the lines write the instructions in order, and an empty line writes none
 pub data AreLinesOf : List Instr → List (List ℕ) → Type 0 where

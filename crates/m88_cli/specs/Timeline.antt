@@ -2,7 +2,7 @@
 -- unit, which answers its oldest transaction, and the letter `i` for an attempt to issue. No instruction that a source may
 -- have reads or writes memory, so nothing is ever pending.
 use Rattle.std.specs.Prelude.{ℕ, zero, suc, Bool, true, false, ◌≡◌, ◌<◌, ◌+◌, ◌%◌, ◌==◌, ◌||◌, if◌then◌else◌}
-use Rattle.m88_isa.specs.Machine.{Program, Step, Stop, ends, exits, faults, on, state, step}
+use Rattle.m88_isa.specs.Machine.{Program, Step, Stop, by_vector, ends, exits, on, state, step}
 use Rattle.m88_cli.specs.Report.{Summary}
 use Rattle.m88_cli.specs.declared.letter.Letter.{Letter}
 use Rattle.m88_cli.specs.declared.letter.Letter.TheVariants.{Issue, Answer}
@@ -29,29 +29,29 @@ is_over limit m = m.ended || m.retired == limit
 
 -- what an event does: nothing; it passes a bubble; it ends the program; it retires an instruction, which may leave a
 -- bubble
-pub data Choice : Type 0 where
-  idles : Choice
-  passes : Choice
-  finishes : Choice
-  retires : Bool → Choice
+pub data Deed : Type 0 where
+  idles : Deed
+  passes : Deed
+  finishes : Deed
+  retires : Bool → Deed
 
 -- what a step of the history makes an issue do
-abbrev pub choice_of_step : Step → Choice
-choice_of_step (on bubble s) = retires bubble
-choice_of_step (ends stop) = finishes
+abbrev pub deed_of_step : Step → Deed
+deed_of_step (on bubble s) = retires bubble
+deed_of_step (ends stop) = finishes
 
 -- what the letter `i` does: the first that applies
-abbrev pub issue_choice : Program → ℕ → Moment → Choice
-issue_choice p limit m =
-    if is_over limit m then idles else (if m.bubble then passes else choice_of_step (step p (state p m.retired)))
+abbrev pub issue_deed : Program → ℕ → Moment → Deed
+issue_deed p limit m =
+    if is_over limit m then idles else (if m.bubble then passes else deed_of_step (step p (state p m.retired)))
 
 -- what a letter does at a moment
-abbrev pub choice_at : Program → ℕ → Letter → Moment → Choice
-choice_at p limit Issue m = issue_choice p limit m
-choice_at p limit Answer m = idles
+abbrev pub deed_at : Program → ℕ → Letter → Moment → Deed
+deed_at p limit Issue m = issue_deed p limit m
+deed_at p limit Answer m = idles
 
 -- the moment that is made of one, but for the count of events
-abbrev pub made : Choice → Moment → Moment
+abbrev pub made : Deed → Moment → Moment
 made idles m = m
 made passes m = record m { bubble = false }
 made finishes m = record m { ended = true }
@@ -63,7 +63,7 @@ counted_event m = record m { events = m.events + 1 }
 
 -- the moment after an event
 abbrev pub after_event : Program → ℕ → Letter → Moment → Moment
-after_event p limit letter m = counted_event (made (choice_at p limit letter m) m)
+after_event p limit letter m = counted_event (made (deed_at p limit letter m) m)
 
 -- the letters of a run without a schedule: `r` and `i` in turn, beginning with `r`
 abbrev pub letter_at : ℕ → Letter
@@ -82,9 +82,9 @@ pub record IsRun (p : Program) (limit n : ℕ) : Type 0 where
 -- how a history that ended did so
 abbrev pub end_of_stop : Stop → End
 end_of_stop (exits at) = Exit at
-end_of_stop (faults vector at) = Vector vector at
+end_of_stop (by_vector vector at) = Vector vector at
 
--- how a step ends a history; one that goes on doesn't
+-- how a step ends a history; for a step that goes on it is the limit, which no moment with the ended mark asks for
 abbrev pub end_of_step : Step → End
 end_of_step (on bubble s) = Limit
 end_of_step (ends stop) = end_of_stop stop

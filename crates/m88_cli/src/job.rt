@@ -1,9 +1,9 @@
 ghost use Rattle.std.specs.Prelude.{◌*◌, ◌≤◌, All, IfOk, length};
 ghost use Rattle.m88_cli.specs.Answer.{IsReport};
-ghost use Rattle.m88_cli.specs.Reply.{Replies};
+ghost use Rattle.m88_cli.specs.Reply.{IsWithinLimit, Replies};
 ghost use Rattle.m88_cli.specs.Plain.{IsPlain};
 ghost use Rattle.m88_cli.specs.Program.{program_of};
-ghost use Rattle.m88_cli.specs.Command.{IsWithinLimit, most_limit};
+ghost use Rattle.m88_cli.specs.Command.{most_limit};
 
 use crate::choice::Command;
 use crate::load::load;

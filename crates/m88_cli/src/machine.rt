@@ -4,7 +4,7 @@ ghost use Rattle.m88_isa.specs.Machine.{Program, carried_out, step, trapped, wit
 ghost use Rattle.m88_cli.specs.Command.{most_limit};
 ghost use Rattle.m88_cli.specs.Machine.{GoesOn, IsAligned, IsAt, IsNearer, Makes, is_over_at, left_to_do, state_in, summary_in};
 ghost use Rattle.m88_cli.specs.Loaded.{HasPlainWords, IsImageOf};
-ghost use Rattle.m88_cli.specs.Timeline.{Moment, choice_at, issue_choice, made, opening_moment};
+ghost use Rattle.m88_cli.specs.Timeline.{Moment, deed_at, issue_deed, made, opening_moment};
 ghost use Rattle.m88_cli.specs.Outcome.{summary_of};
 ghost use Rattle.m88_cli.specs.Plain.{IsPlain};
 
@@ -81,7 +81,7 @@ impl Machine {
         ensures aligned { OnOk result (IsAligned self.new) }
         ensures within { OnOk result (self.new.retired ≤ limit) }
         ensures moves { OnOk result ((p : Program) (m : Moment) → IsImageOf p image.now → IsAt p m self.old
-            → IsAt p (made (choice_at p limit letter m) m) self.new) }
+            → IsAt p (made (deed_at p limit letter m) m) self.new) }
         ensures nearer { OnOk result (is_over_at limit self.old ≡ false → IsNearer limit letter self.old self.new) }
     {
         match letter {
@@ -116,7 +116,7 @@ impl Machine {
         ensures aligned { OnOk result (IsAligned self.new) }
         ensures within { OnOk result (self.new.retired ≤ limit) }
         ensures moves { OnOk result ((p : Program) (m : Moment) → IsImageOf p image.now → IsAt p m self.old
-            → IsAt p (made (issue_choice p limit m) m) self.new) }
+            → IsAt p (made (issue_deed p limit m) m) self.new) }
         ensures nearer { OnOk result (is_over_at limit self.old ≡ false
             → left_to_do limit self.new < left_to_do limit self.old) }
     {

@@ -1,12 +1,12 @@
-ghost use Rattle.std.specs.Prelude.{◌≡◌, ◌≤◌, ℕ, IfSome, Some, decimal};
-ghost use Rattle.m88_cli.specs.Numbers.{IsNumber, number_in};
-ghost use Rattle.m88_cli.specs.Reading.{is_hexadecimal, is_needed};
+ghost use Rattle.std.specs.Prelude.{◌≡◌, ◌≤◌, ◌<◌, ◌^◌, ℕ, IfSome, Some, decimal};
+ghost use Rattle.m88_cli.specs.Numbers.{IsNumber};
+ghost use Rattle.m88_cli.specs.Reading.{is_hexadecimal, is_needed, number_in};
 
 /// The number that digits of a base write, where it is at most `most`.
 pub fn number_in(base: u32, most: u32, digits: &[u8]) -> Option<u32>
     requires low { 2 ≤ base }
     requires high { base ≤ 16 }
-    requires small { most ≤ 1000000 }
+    requires small { most < 2 ^ 24 }
     ensures value { result ≡ number_in base most digits.now }
     ensures bound { IfSome result (λ n. n ≤ most) }
 {
@@ -25,7 +25,7 @@ pub fn number_in(base: u32, most: u32, digits: &[u8]) -> Option<u32>
 
 /// A decimal number without needless zeros, at most `most`.
 pub fn decimal_number(most: u32, text: &[u8]) -> Option<u32>
-    requires { most ≤ 1000000 }
+    requires { most < 2 ^ 24 }
     ensures found { IfSome result (λ n. text.now ≡ decimal n) }
     ensures bound { IfSome result (λ n. n ≤ most) }
     ensures only { (n : ℕ) → n ≤ most → text.now ≡ decimal n → result ≡ Some n }
@@ -39,7 +39,7 @@ pub fn decimal_number(most: u32, text: &[u8]) -> Option<u32>
 
 /// A number in either notation of a source, at most `most`.
 pub fn plain_number(most: u32, text: &[u8]) -> Option<u32>
-    requires { most ≤ 1000000 }
+    requires { most < 2 ^ 24 }
     ensures found { IfSome result (λ n. IsNumber text.now n) }
     ensures bound { IfSome result (λ n. n ≤ most) }
     ensures only { (n : ℕ) → n ≤ most → IsNumber text.now n → result ≡ Some n }

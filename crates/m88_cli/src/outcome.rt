@@ -5,7 +5,8 @@ pub enum End {
     Limit,
     /// The program asked for its end by the monitor's trap at this address.
     Exit { at: u32 },
-    /// The instruction at this address raised an exception of this vector.
+    /// What stands at this address can't be fetched or is no instruction, or the instruction there raised
+    /// this vector or is a trap of it that the monitor doesn't serve.
     Vector { vector: u16, at: u32 },
 }
 

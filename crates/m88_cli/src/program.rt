@@ -4,7 +4,7 @@ ghost use Rattle.m88_base.specs.Causes.{Rose};
 ghost use Rattle.m88_base.specs.Outside.{AppendsPart, TakesAtMost, TakesExactly};
 ghost use Rattle.m88_cli.specs.Answer.{Accepts, IsAnswer, IsRefusal, IsText};
 ghost use Rattle.m88_cli.specs.Calls.{IsWhole, Runs};
-ghost use Rattle.m88_cli.specs.Command.{command_of};
+ghost use Rattle.m88_cli.specs.Command.{SpellNothing, Spells};
 ghost use Rattle.m88_cli.specs.Status.{Answers, WritesNothing};
 ghost use Rattle.m88_cli.specs.Words.{texts};
 ghost use Rattle.m88_cli.specs.declared.choice.Command.{Command as Choice};
@@ -27,8 +27,8 @@ pub fn m88<S: Source, K: Sink>(
     sink: &mut K,
 ) -> Status
     // Words outside the grammar, exactly; then nothing is read.
-    ensures usage { (result ≡ Status.Usage) ↔ (command_of (texts words.now) ≡ None) }
-    ensures unread { command_of (texts words.now) ≡ None → source.new ≡ source.old }
+    ensures usage { (result ≡ Status.Usage) ↔ SpellNothing (texts words.now) }
+    ensures unread { SpellNothing (texts words.now) → source.new ≡ source.old }
 
     // The source failed, or it has a byte too many.
     ensures source_fault { result ≡ Status.SourceFault → Rose (S.faults source.old) (S.faults source.new) }
@@ -45,20 +45,23 @@ pub fn m88<S: Source, K: Sink>(
     ensures refused { result ≡ Status.Refused → Runs (texts words.now) (S.left source.old) (S.left source.new) (λ command input.
         ¬ Accepts command input × ((text : List ℕ) × IsRefusal command input text
         × Appends (K.held sink.old) (K.held sink.new) text)) }
-    ensures refusal { (command : Choice) (input text : List ℕ) → command_of (texts words.now) ≡ Some command
-        → S.left source.old ≡ Some input → S.left source.new ≡ Some [] → ¬ Accepts command input
-        → IsRefusal command input text → IsWhole (K.held sink.old) (K.held sink.new) text → result ≡ Status.Refused }
+    ensures refusal { (command : Choice) (input text : List ℕ) → Spells (texts words.now) command
+        → S.left source.old ≡ Some input → S.left source.new ≡ Some [] → IsRefusal command input text
+        → IsWhole (K.held sink.old) (K.held sink.new) text → result ≡ Status.Refused }
 
     // The sink failed, and was given a front of the text that lacks at least one byte.
     ensures sink_fault { result ≡ Status.SinkFault → Rose (K.faults sink.old) (K.faults sink.new) }
     ensures part { result ≡ Status.SinkFault → Runs (texts words.now) (S.left source.old) (S.left source.new) (λ command input.
         (text : List ℕ) × IsAnswer command input text × AppendsPart (K.held sink.old) (K.held sink.new) text) }
 
-    // An input that is not too long is answered where nothing failed.
-    ensures complete { (command : Choice) (input : List ℕ) → command_of (texts words.now) ≡ Some command
+    // Where nothing failed, an input that is not too long is answered: Done if it is accepted, Refused if
+    // it is not, or Memory.
+    ensures complete { (command : Choice) (input : List ℕ) → Spells (texts words.now) command
         → S.left source.old ≡ Some input → length input ≤ MOST_INPUT
         → ¬ Rose (S.faults source.old) (S.faults source.new) → ¬ Rose (K.faults sink.old) (K.faults sink.new)
         → Answers (Accepts command input) result }
+
+    // With every other answer nothing is written.
     ensures unwritten { WritesNothing result → sink.new ≡ sink.old }
 {
     let Some(command) = command(words) else {

@@ -1,6 +1,8 @@
-ghost use Rattle.std.specs.Prelude.{◌≡◌, ◌≤◌, IfSome};
-ghost use Rattle.m88_cli.specs.Command.{IsWithinLimit, command_of, limit_of, most_limit};
+ghost use Rattle.std.specs.Prelude.{◌≡◌, ℕ, IfSome, Some};
+ghost use Rattle.m88_cli.specs.Command.{IsLimit, Spells};
+ghost use Rattle.m88_cli.specs.Reply.{IsWithinLimit};
 ghost use Rattle.m88_cli.specs.Words.{texts};
+ghost use Rattle.m88_cli.specs.declared.choice.Command.{Command as Choice};
 
 use crate::choice::Command;
 use crate::numbers::number_in;
@@ -10,22 +12,25 @@ const MOST_LIMIT: u32 = 1_000_000;
 
 /// The command that the words spell, or None where they are outside the grammar.
 pub fn command(words: &[String]) -> Option<Command>
-    ensures value { result ≡ command_of (texts words.now) }
+    ensures found { IfSome result (Spells (texts words.now)) }
+    ensures only { (c : Choice) → Spells (texts words.now) c → result ≡ Some c }
     ensures limit { IfSome result IsWithinLimit }
 {
-    match words {
-        [name, limit, absent, schedule]
-            if name.as_str() == "run" && absent.as_str() == "none" && schedule.as_str() == "-" => {
-            limit_of(limit.as_bytes()).map(|limit| Command::Run { limit })
-        }
-        _ => None,
+    let [name, limit, absent, schedule] = words else {
+        return None;
+    };
+    if name.as_str() == "run" && absent.as_str() == "none" && schedule.as_str() == "-" {
+        let limit = limit_of(limit.as_bytes())?;
+        Some(Command::Run { limit })
+    } else {
+        None
     }
 }
 
 /// A limit: one to seven decimal digits, at most a million.
 fn limit_of(text: &[u8]) -> Option<u32>
-    ensures value { result ≡ limit_of text.now }
-    ensures bound { IfSome result (λ n. n ≤ most_limit) }
+    ensures found { IfSome result (IsLimit text.now) }
+    ensures only { (n : ℕ) → IsLimit text.now n → result ≡ Some n }
 {
     if text.len() >= 1 && text.len() <= 7 {
         number_in(10, MOST_LIMIT, text)

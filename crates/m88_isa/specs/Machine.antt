@@ -11,7 +11,7 @@ use Rattle.m88_isa.specs.Vector.{instruction_access, unimplemented}
 use Rattle.m88_isa.specs.declared.instr.Instr.{Instr}
 
 -- what is run: a start address, the byte that stands at an address, if one does, and the instruction of the word at an
--- address, if its word is one. Who makes a program says from which bytes and which words.
+-- address, if its word is one. A source or an image says which these are.
 pub record Program : Type 0 where
   pub start : ℕ
   pub byte : ℕ → Option ℕ
@@ -74,11 +74,11 @@ abbrev pub after_change : Change → State → State
 after_change c s =
     after_touches c.touches (record s { regs = with_written c.register s.regs; carry = c.carry; pc = c.after.0; next = c.after.1 })
 
--- how a history ends. `exits address`: the program asks for its end there. `faults vector address`: the instruction
--- there raises the vector, or is a taken trap of it that isn't served.
+-- how a history ends. `exits address`: the program asks for its end there. `by_vector vector address`: the word there can't
+-- be fetched or is no instruction, or its instruction raises the vector or is a taken trap of it that isn't served.
 pub data Stop : Type 0 where
   exits : ℕ → Stop
-  faults : ℕ → ℕ → Stop
+  by_vector : ℕ → ℕ → Stop
 
 -- one step: on to the next state, with the mark that a fetched instruction is passed over, or the end
 pub data Step : Type 0 where
@@ -97,22 +97,22 @@ after_output s = record s { out = s.out ++ (slice_index s.regs 2 % 2 ^ 8 ∷ [])
 abbrev pub trapped : ℕ → State → Step
 trapped vector s =
     if vector == monitor_trap && slice_index s.regs 9 == 0x20 then on false (after_output s)
-    else (if vector == monitor_trap && slice_index s.regs 9 == 0x63 then ends (exits s.pc) else ends (faults vector s.pc))
+    else (if vector == monitor_trap && slice_index s.regs 9 == 0x63 then ends (exits s.pc) else ends (by_vector vector s.pc))
 
 -- what becomes of a state by what its instruction means
 abbrev pub carried_out : Meaning → State → Step
-carried_out (raises vector) s = ends (faults vector s.pc)
+carried_out (raises vector) s = ends (by_vector vector s.pc)
 carried_out (traps vector) s = trapped vector s
 carried_out (goes change) s = on change.bubble (after_change change s)
 
 -- the same by the instruction at the state's address; a word that is none is unimplemented
 abbrev pub executed : Option Instr → State → Step
-executed None s = ends (faults unimplemented s.pc)
+executed None s = ends (by_vector unimplemented s.pc)
 executed (Some i) s = carried_out (meaning_of i s.regs s.carry s.pc s.next) s
 
 -- the step from a state: the word is fetched, and then its instruction is carried out
 abbrev pub fetched : Option (List ℕ) → Option Instr → State → Step
-fetched None i s = ends (faults instruction_access s.pc)
+fetched None i s = ends (by_vector instruction_access s.pc)
 fetched (Some word) i s = executed i s
 
 abbrev pub step : Program → State → Step

@@ -1,7 +1,6 @@
 -- The text is that of its number's decimal digits.
 use Rattle.std.proofs.Common.{◌≡◌, ◌∙◌, ap, sym, arith, true, false}
-use Rattle.m88_cli.specs.Reading.{is_needed}
-use Rattle.m88_cli.specs.Numbers.{number_in}
+use Rattle.m88_cli.specs.Reading.{is_needed, number_in}
 use Rattle.m88_cli.proofs.Numerals.{decimal_found, decimal_needed, decimal_told}
 use Rattle.m88_cli.proofs.numbers.decimal_number.Goals as goal
 

@@ -1,7 +1,7 @@
 -- The bytes so far are digits, and write the value, which is small.
 use Rattle.std.proofs.Common.{◌≡◌, ◌≤◌, true, take}
 use Rattle.std.specs.Str.Parse.{digits_value}
-use Rattle.m88_cli.specs.Numbers.{are_digits}
+use Rattle.m88_cli.specs.Reading.{are_digits}
 use Rattle.m88_cli.proofs.numbers.number_in.Given as goal
 
 abbrev pub invariant-loop-byte : goal.invariant-loop-byte

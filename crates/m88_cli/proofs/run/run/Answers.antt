@@ -1,7 +1,7 @@
 -- The machine goes from moment to moment.
 use Rattle.std.proofs.Common.{◌≡◌, false, arith, below_more, subst, sym, ◌∙◌}
 use Rattle.m88_cli.specs.Machine.{IsAt, is_over_at}
-use Rattle.m88_cli.specs.Timeline.{choice_at, is_over, made, moment}
+use Rattle.m88_cli.specs.Timeline.{deed_at, is_over, made, moment}
 use Rattle.m88_cli.proofs.Running.{at_next, at_start, left_most, nearer_by_one, over_at, ran}
 use Rattle.m88_cli.proofs.run.run.Goals as goal
 
@@ -24,7 +24,7 @@ loop-machine-preserved c =
       aligned = c.in_ok-event.ensures.aligned;
       within = c.in_ok-event.ensures.within;
       at = λ p holds. at_next p c.args.limit c.loop-machine.events c.event.new.self
-          (subst (λ letter. IsAt p (made (choice_at p c.args.limit letter (moment p c.args.limit c.loop-machine.events)) (moment p c.args.limit c.loop-machine.events)) c.event.new.self)
+          (subst (λ letter. IsAt p (made (deed_at p c.args.limit letter (moment p c.args.limit c.loop-machine.events)) (moment p c.args.limit c.loop-machine.events)) c.event.new.self)
           c.letter_at.ensures (c.in_ok-event.ensures.moves p (moment p c.args.limit c.loop-machine.events) holds (before.at p holds)));
       first = λ p holds. below_more (λ k. is_over c.args.limit (moment p c.args.limit k) ≡ false) c.loop-machine.events (before.first p holds)
           (over_at p c.args.limit (moment p c.args.limit c.loop-machine.events) c.loop-machine.machine false (before.at p holds) goes);
