@@ -1,13 +1,13 @@
 -- What a count of faults shows of the call that it was read around.
-use Rattle.std.specs.Prelude.{◌≡◌, ℕ, ◌+◌, ◌-◌, ◌^◌, ◌≤◌, min, Result, MatchResult}
+use Rattle.std.specs.Prelude.{◌≡◌, ℕ, ◌+◌, ◌-◌, ◌^◌, ◌<◌, ◌≤◌, ◌⊎◌, min, Result, MatchResult}
 
 -- one more, at most the greatest number of 64 bits
 abbrev pub counted : ℕ → ℕ
 counted n = min (n + 1) (2 ^ 64 - 1)
 
--- a count is greater now than before, or stands at its greatest number
+-- the count is greater now than before, or stands at the greatest number of 64 bits
 abbrev pub Rose : ℕ → ℕ → Type 0
-Rose before now = counted before ≤ now
+Rose before now = (before < now) ⊎ (now ≡ 2 ^ 64 - 1)
 
 -- a call that failed raised the count, and one that did not left it
 abbrev pub FailsByFault : {T E : Type 0} → ℕ → ℕ → Result T E → Type 0
