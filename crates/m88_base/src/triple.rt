@@ -5,7 +5,7 @@
 pub struct Triple {
     /// What kind of access it is, with the register and the bytes that it touches.
     pub dmt: u32,
-    /// The register that a store writes from; 0 for a load.
+    /// The whole word of the register that a store writes; 0 for a load.
     pub dmd: u32,
     /// The byte address of the word.
     pub dma: u32,
