@@ -37,26 +37,34 @@ fn a_source_is_read_to_the_most_that_is_allowed(rt: HostRuntime) -> Result<(), F
 
 #[test]
 fn a_sink_in_memory_holds_what_was_written_before_it_failed(rt: HostRuntime) -> Result<(), Fail> {
-    for (piece, call, room, held) in [
-        (1, 0, 7, b"".as_slice()),
-        (1, 6, 7, b"abcdef"),
-        (1, 7, 7, b"abcdefg"),
-        (2, 1, 7, b"ab"),
-        (2, 3, 7, b"abcdef"),
-        (2, 4, 7, b"abcdefg"),
-        (7, 0, 7, b""),
-        (7, 1, 9, b"abcdefg"),
-        (7, 9, 0, b""),
-        (2, 9, 5, b"abcde"),
-    ] {
-        let mut sink = MemSink::new(rt.alloc(), room, piece.max(1), &[call]).map_err(|_| "memory")?;
+    for (piece, writes) in [(1, 7), (2, 4), (7, 1)] {
+        for call in 0..=writes {
+            let mut sink = MemSink::new(rt.alloc(), 7, piece, &[call]).map_err(|_| "memory")?;
+            let held = &TEXT[..(call as usize * piece).min(7)];
+            let fine = match write_all(&mut sink, TEXT) {
+                Ok(()) => call == writes,
+                Err(fault) => call < writes && fault.written == held.len(),
+            };
+            assert!(rt;
+                fine && sink.bytes() == held,
+                "pieces of {piece}, call {call}"
+            );
+        }
+    }
+    Ok(())
+}
+
+#[test]
+fn a_sink_in_memory_takes_what_it_has_room_for(rt: HostRuntime) -> Result<(), Fail> {
+    for (piece, room, held) in [(7, 0, b"".as_slice()), (2, 5, b"abcde"), (7, 9, b"abcdefg")] {
+        let mut sink = MemSink::new(rt.alloc(), room, piece, &[]).map_err(|_| "memory")?;
         let fine = match write_all(&mut sink, TEXT) {
-            Ok(()) => held == TEXT,
-            Err(fault) => held != TEXT && fault.written == held.len(),
+            Ok(()) => room >= 7,
+            Err(fault) => room < 7 && fault.written == held.len(),
         };
         assert!(rt;
             fine && sink.bytes() == held,
-            "pieces of {piece}, call {call}, room {room}"
+            "pieces of {piece}, room {room}"
         );
     }
     Ok(())
