@@ -1,7 +1,8 @@
 -- Runs in ascending order with gaps between them: cut in two, joined again, and what is found below and above them.
 use Rattle.std.proofs.Common.{◌≡◌, ℕ, ◌+◌, ◌<◌, ◌≤◌, List, [], ◌∷◌, ◌++◌, length, refl, arith}
 use Rattle.std.specs.Prelude.{None}
-use Rattle.m88_base.specs.Placed.{Placed, byte_among, AreApart, next_start}
+use Rattle.m88_base.specs.Placed.{Placed, byte_among, AreApart}
+use Rattle.m88_base.specs.Placing.{next_start}
 use Rattle.m88_base.proofs.Lookup.{byte_in_below, byte_in_above}
 
 pub next_start-append : (from : ℕ) (xs ys : List Placed) → next_start from (xs ++ ys) ≡ next_start (next_start from xs) ys

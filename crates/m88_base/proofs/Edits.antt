@@ -3,7 +3,8 @@ use Rattle.std.proofs.Common.{◌≡◌, ℕ, zero, suc, ◌+◌, ◌-◌, ◌<�
 use Rattle.std.specs.Prelude.{insert, remove}
 use Rattle.std.proofs.Math.Seq.{drop-cons, drop-nil, set-append_seam, take-append_seam, take-suc}
 use Rattle.std.proofs.lemmas.List.{take-append-drop, set_split, get_or-take, get_or-drop, length-take, length-drop}
-use Rattle.m88_base.specs.Placed.{Placed, AreApart, BeginsAt, next_start, Places}
+use Rattle.m88_base.specs.Placed.{Placed, AreApart}
+use Rattle.m88_base.specs.Placing.{BeginsAt, next_start, Places}
 use Rattle.m88_base.proofs.Cuts.{cut_at, apart_take, next_start-take}
 use Rattle.m88_base.proofs.Placing.{places_alone, places_behind, places_ahead, places_across}
 

@@ -6,4 +6,5 @@ pub mod Name
 pub mod Outside
 pub mod Padded
 pub mod Placed
+pub mod Placing
 pub mod Reg

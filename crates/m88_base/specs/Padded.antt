@@ -1,3 +1,4 @@
+-- A law that the view of a name needs; no promise names it.
 -- A list kept at the front of a longer one, with zeros behind it.
 use Rattle.std.specs.Prelude.{◌≡◌, ℕ, ◌-◌, ◌≤◌, List, ◌++◌, length, take, drop, replicate}
 use Rattle.std.proofs.Common.{arith, length-take}

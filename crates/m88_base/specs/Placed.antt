@@ -1,7 +1,6 @@
 -- Runs: bytes at consecutive addresses.
-use Rattle.std.specs.Prelude.{◌≡◌, ℕ, ◌+◌, ◌-◌, ◌<◌, ◌≤◌, leb, cond, List, [], ◌∷◌, length, slice_get, sum_by, Option, None}
+use Rattle.std.specs.Prelude.{ℕ, ◌+◌, ◌-◌, ◌<◌, ◌≤◌, leb, cond, List, [], ◌∷◌, length, slice_get, sum_by, Option, None}
 use Rattle.std.specs.Option.{option_or}
-use Rattle.m88_base.specs.Found.{PutsBytes}
 
 -- a run
 pub record Placed : Type 0 where
@@ -27,19 +26,3 @@ count_among runs = sum_by (λ run. length run.bytes) runs
 abbrev pub AreApart : ℕ → List Placed → Type 0
 AreApart from [] = Unit {0}
 AreApart from (run ∷ runs) = (from ≤ run.at) × (0 < length run.bytes) × AreApart (run.at + length run.bytes + 1) runs
-
--- the first address at which one more run may begin, `from` where there are no runs
-abbrev pub next_start : ℕ → List Placed → ℕ
-next_start from [] = from
-next_start from (run ∷ runs) = next_start (run.at + length run.bytes + 1) runs
-
--- the first run begins at the address
-abbrev pub BeginsAt : List Placed → ℕ → Type 0
-BeginsAt [] a = ⊥
-BeginsAt (run ∷ runs) a = run.at ≡ a
-
--- runs that are others with the bytes put at the addresses from `at` on
-pub record Places (old new : List Placed) (at : ℕ) (bytes : List ℕ) : Type 0 where
-  pub puts : PutsBytes (byte_among old) (byte_among new) at bytes
-  pub apart : AreApart 0 new
-  pub count : count_among new ≡ count_among old + length bytes

@@ -1,7 +1,8 @@
 //! Runs in ascending order, with an address without a byte between each two.
 ghost use Rattle.std.specs.Prelude.{◌≡◌, ℕ, ◌+◌, ◌-◌, ◌^◌, ◌<◌, ◌≤◌, ◌↔◌, take, drop, length, OnOk, OnErr, IfNone, IfSome, IsTrue, All, vec_len};
 ghost use Rattle.m88_base.specs.Found.{IsLeastTaken};
-ghost use Rattle.m88_base.specs.Placed.{AreApart, BeginsAt, Places, byte_among, next_start};
+ghost use Rattle.m88_base.specs.Placed.{AreApart, byte_among};
+ghost use Rattle.m88_base.specs.Placing.{BeginsAt, Places, next_start};
 
 use crate::run::Run;
 use std::alloc::{AllocError, Global};

@@ -1,6 +1,7 @@
 use Rattle.std.proofs.Common.{◌≡◌, ◌+◌, ◌<◌, ◌≤◌, take, length, get_or, [], add-zero, arith}
 use Rattle.std.proofs.lemmas.List.{get_or-drop, length-drop}
-use Rattle.m88_base.specs.Placed.{Placed, next_start}
+use Rattle.m88_base.specs.Placed.{Placed}
+use Rattle.m88_base.specs.Placing.{next_start}
 use Rattle.m88_base.proofs.Cuts.{taken_in_last, taken_in_next}
 use Rattle.m88_base.proofs.runs.first_taken.Goals as goal
 

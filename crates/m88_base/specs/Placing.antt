@@ -1,0 +1,21 @@
+-- Words for the contracts of private functions; no promise of the program names them. Where one more run fits among
+-- others, and what runs become once bytes are placed among them.
+use Rattle.std.specs.Prelude.{◌≡◌, ℕ, ◌+◌, List, [], ◌∷◌, length}
+use Rattle.m88_base.specs.Found.{PutsBytes}
+use Rattle.m88_base.specs.Placed.{Placed, byte_among, count_among, AreApart}
+
+-- the first address at which one more run may begin, `from` where there are no runs
+abbrev pub next_start : ℕ → List Placed → ℕ
+next_start from [] = from
+next_start from (run ∷ runs) = next_start (run.at + length run.bytes + 1) runs
+
+-- the first run begins at the address
+abbrev pub BeginsAt : List Placed → ℕ → Type 0
+BeginsAt [] a = ⊥
+BeginsAt (run ∷ runs) a = run.at ≡ a
+
+-- runs that are others with the bytes put at the addresses from `at` on
+pub record Places (old new : List Placed) (at : ℕ) (bytes : List ℕ) : Type 0 where
+  pub puts : PutsBytes (byte_among old) (byte_among new) at bytes
+  pub apart : AreApart 0 new
+  pub count : count_among new ≡ count_among old + length bytes
