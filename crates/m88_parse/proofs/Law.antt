@@ -18,5 +18,6 @@ pub mod Ends
 pub mod Units
 pub mod Flaws
 pub mod Breaks
+pub mod Unsaid
 pub mod Faults
 pub mod Cuts

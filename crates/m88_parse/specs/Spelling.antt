@@ -3,4 +3,5 @@ pub mod Names
 pub mod Operands
 pub mod Statements
 pub mod Units
+pub mod Unsaid
 pub mod Faults

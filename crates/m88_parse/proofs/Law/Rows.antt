@@ -32,7 +32,7 @@ pub record Stated (number : ℕ) (ps : List Piece) (r : Row) : Type 0 where
 
 -- labels
 
-label_marks : (m : Meaning) (o : Option Meaning) → is_label_on (Some m) o ≡ true → is_mark_of 58 o ≡ true
+pub label_marks : (m : Meaning) (o : Option Meaning) → is_label_on (Some m) o ≡ true → is_mark_of 58 o ≡ true
 label_marks (a_name name) o h = h
 label_marks (a_number n) o h = absurd cc
 label_marks (a_text bytes) o h = absurd cc
@@ -63,13 +63,13 @@ label_read line e p (c ∷ ps) r m h =
 
 -- heads of modules
 
-head_named : (m : Meaning) → is_head_on (Some m) ≡ true → m ≡ a_name (codes ".module")
+pub head_named : (m : Meaning) → is_head_on (Some m) ≡ true → m ≡ a_name (codes ".module")
 head_named (a_name name) h = ap a_name ((bytes_eq-Decides name (codes ".module")).0 h)
 head_named (a_number n) h = absurd cc
 head_named (a_text bytes) h = absurd cc
 head_named (a_mark b) h = absurd cc
 
-abbrev made_head : ℕ → List ℕ × State → State → Result Row ParseFault
+abbrev pub made_head : ℕ → List ℕ × State → State → Result Row ParseFault
 made_head line name t = Ok (row.Head name.0 line)
 
 head_read : (line e : ℕ) (p : Piece) (ps : List Piece) (r : Row) → IsNamed (codes ".module") p → head_at (st line e (p ∷ ps)) ≡ Ok r → Stated line (p ∷ ps) r
@@ -85,7 +85,7 @@ head_read line e p ps r n h =
 
 -- a statement with no label
 
-no_colon : (m : Meaning) (ps : List Piece) → (name : List ℕ) → m ≡ a_name name → is_label_on (Some m) (says_first ps) ≡ false → HasNoColon ps
+pub no_colon : (m : Meaning) (ps : List Piece) → (name : List ℕ) → m ≡ a_name name → is_label_on (Some m) (says_first ps) ≡ false → HasNoColon ps
 no_colon m [] name n h = tt
 no_colon m (p ∷ ps) name n h =
     λ (x : p.says ≡ a_mark 58). true≢false (sym (ap₂ (λ (a b : Meaning). is_label_on (Some a) (Some b)) n x) ∙ h)
@@ -152,7 +152,7 @@ head_again line e ps name (head {p = p} {q = q} n k v) =
     ∙ bind_to (any_name_at (st line e (q ∷ []))) (λ (x : List ℕ × State). end_at x.1 >>= made_head line x) (name, st line e []) (Ok (row.Head name line)) (any_name_again line e name q [] (k, v)) refl
 
 -- an operation isn't the head of a module
-not_head : (line e : ℕ) (ps : List Piece) (c : Body) → operation_at (st line e ps) ≡ Ok c → is_head_on (first (st line e ps)) ≡ false
+pub not_head : (line e : ℕ) (ps : List Piece) (c : Body) → operation_at (st line e ps) ≡ Ok c → is_head_on (first (st line e ps)) ≡ false
 unfolding operation_at
 not_head line e [] c h = refl
 not_head line e (p ∷ ps) c h = by_says p.says refl

@@ -1,15 +1,15 @@
 -- The first fault of a source: in the first line that says nothing that can be said, the first place that can't be cut
--- into tokens, or else the place in its statement (lines and tokens of the assembly language).
-use Rattle.std.specs.Prelude.{ℕ, Bool, true, false, ◌≡◌, ◌≢◌, ◌⊎◌, ◌+◌, ◌<◌, ◌≤◌, List, [], ◌∷◌, ◌++◌, length, Err}
+-- into tokens, or else the fault of its tokens (lines and tokens of the assembly language).
+use Rattle.std.specs.Prelude.{ℕ, Bool, true, false, ◌≡◌, ◌≢◌, ◌⊎◌, ◌+◌, ◌<◌, ◌≤◌, List, [], ◌∷◌, ◌++◌, length}
 use Rattle.std.specs.List.{list_all}
 use Rattle.std.specs.Char.{is_ascii_digit}
 use Rattle.m88_parse.specs.declared.fault.ParseKind.{ParseKind}
 use Rattle.m88_parse.specs.declared.fault.ParseKind.TheVariants.{NotAscii, Syntax, OutOfRange}
 use Rattle.m88_parse.specs.declared.fault.ParseFault.{ParseFault}
 use Rattle.m88_parse.specs.Tokens.{is_blank, is_comment, is_plain, is_word, is_mark, Meaning, Piece}
-use Rattle.m88_parse.specs.Source.{row_of_pieces}
 use Rattle.m88_parse.specs.Spelling.Tokens.{IsGap, IsRun, EndsRun, IsNumeral, IsToken, Begins, LineTokens}
 use Rattle.m88_parse.specs.Spelling.Units.{Said, LineSays, AreLines}
+use Rattle.m88_parse.specs.Spelling.Unsaid.{IsUnsaid}
 
 -- What an opening quote takes of the bytes behind it: up to a closing quote, or to the end of the line. A backslash takes the
 -- next byte with it, whatever it is.
@@ -72,7 +72,7 @@ IsUncut number line fault = (ps : List Piece) × Breaks 1 line ps fault.col faul
 -- the fault of the first of these lines that has one; the lines' numbers go on from one
 pub data FirstOf : ℕ → List (List ℕ) → ParseFault → Type 0 where
   uncut_line : {number : ℕ} {line : List ℕ} {lines : List (List ℕ)} (ps : List Piece) {at : ℕ} {kind : ParseKind} → Breaks 1 line ps at kind → FirstOf number (line ∷ lines) (record { line = number; col = at; kind = kind })
-  unsaid_line : {number : ℕ} {line : List ℕ} {lines : List (List ℕ)} (ps : List Piece) {fault : ParseFault} → LineTokens line ps → row_of_pieces number ps ≡ Err fault → FirstOf number (line ∷ lines) fault
+  unsaid_line : {number : ℕ} {line : List ℕ} {lines : List (List ℕ)} (ps : List Piece) {at : ℕ} {kind : ParseKind} → LineTokens line ps → IsUnsaid ps at kind → FirstOf number (line ∷ lines) (record { line = number; col = at; kind = kind })
   later_line : {number : ℕ} {line : List ℕ} {lines : List (List ℕ)} (ps : List Piece) (said : Said) {fault : ParseFault} → LineTokens line ps → LineSays number ps said → FirstOf (number + 1) lines fault → FirstOf number (line ∷ lines) fault
 
 -- the first fault of a source

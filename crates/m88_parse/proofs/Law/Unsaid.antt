@@ -1,0 +1,11 @@
+pub mod Readers
+pub mod Nodes
+pub mod One
+pub mod Slots
+pub mod Values
+pub mod Operands
+pub mod Indices
+pub mod Goals
+pub mod Lists
+pub mod Forms
+pub mod Lines
