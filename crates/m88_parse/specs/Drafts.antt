@@ -42,12 +42,14 @@ leads closed open_one (Err e) = Err e
 
 -- rows stand behind others
 abbrev pub Follows : List Module → Option Module → List Module → Option Module → Option Row → Type 0
-Follows new_closed new_open closed open_one r = (rows : List Row) → modules_after new_closed new_open rows ≡ modules_after closed open_one (with_row r rows)
+Follows new_closed new_open closed open_one r = (rows : List Row)
+    → modules_after new_closed new_open rows ≡ modules_after closed open_one (with_row r rows)
 
 -- a line goes on with the lines behind it, or ends with its fault
 abbrev pub LeadsOn : ℕ → List ℕ → List Module → Option Module → List Module → Option Module → Type 0
 LeadsOn number line new_closed new_open closed open_one =
-    (lines : List (List ℕ)) → leads new_closed new_open (rows_of (number + 1) lines) ≡ leads closed open_one (rows_of number (line ∷ lines))
+    (lines : List (List ℕ)) → leads new_closed new_open (rows_of (number + 1) lines)
+    ≡ leads closed open_one (rows_of number (line ∷ lines))
 
 abbrev pub EndsWith : ℕ → List ℕ → List Module → Option Module → ParseFault → Type 0
 EndsWith number line closed open_one e = (lines : List (List ℕ)) → leads closed open_one (rows_of number (line ∷ lines)) ≡ Err e

@@ -73,4 +73,5 @@ is_name (b ∷ bs) = begins_name b && nat_lt (length bs) 64 && list_all continue
 
 -- what a label or a symbol may be called: any name but . and the registers
 unfoldable pub is_symbol : List ℕ → Bool
-is_symbol name = is_name name && not (is_here name || is_some (register_of name) || is_some (control_of name) || is_some (float_control_of name))
+is_symbol name = is_name name
+    && not (is_here name || is_some (register_of name) || is_some (control_of name) || is_some (float_control_of name))

@@ -2,8 +2,9 @@
 use Rattle.std.specs.Prelude.{ℕ, zero, suc, ◌+◌, ◌-◌, ◌&&◌, ◌||◌, not, Bool, true, false, ◌==◌, nat_lt, nat_le, if◌then◌else◌, List, [], ◌∷◌, length, take, drop, map, Option, Some, None, Result, Ok, Err}
 use lib.Chars.{codes}
 use Rattle.std.specs.List.{list_any, list_all, prefix_len}
-use Rattle.std.specs.Char.{digit_value, is_ascii_digit, is_ascii_alphanumeric}
+use Rattle.std.specs.Char.{digit_value, is_ascii_digit}
 use Rattle.std.specs.Str.Parse.{digits_value}
+use Rattle.m88_base.specs.Name.{continues_name}
 use Rattle.m88_parse.specs.declared.fault.ParseKind.{ParseKind}
 use Rattle.m88_parse.specs.declared.fault.ParseKind.TheVariants.{NotAscii, Syntax, OutOfRange}
 use Rattle.m88_parse.specs.declared.fault.ParseFault.{ParseFault}
@@ -28,9 +29,9 @@ is_comment b = b == 59 || b == 35
 abbrev pub is_plain : ℕ → Bool
 is_plain b = nat_le 32 b && nat_le b 126 || b == 9
 
--- what names and numbers are made of: letters, digits, _ . $
+-- what names and numbers are made of: the bytes that may stand in a name, which are letters, digits, _ . $
 abbrev pub is_word : ℕ → Bool
-is_word b = is_ascii_alphanumeric b || list_any (λ m. b == m) (codes "_.$")
+is_word b = continues_name b
 
 abbrev pub is_mark : ℕ → Bool
 is_mark b = list_any (λ m. b == m) (codes ",:[]<>()+-")

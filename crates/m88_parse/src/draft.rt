@@ -98,7 +98,8 @@ impl Draft {
         ensures after { IfOk result (λ d. Follows d.closed.items d.current self.closed.items self.current (Some row)) }
         ensures memory { IfErr result (λ e. e ≡ out_of_memory) }
         ensures count { IfOk result (λ d. count_in d.closed.items d.current ≤ count_in self.closed.items self.current + 1) }
-        ensures formed { IsRow row → AreFormed self.closed.items self.current → IfOk result (λ d. AreFormed d.closed.items d.current) }
+        ensures formed { IsRow row → AreFormed self.closed.items self.current
+            → IfOk result (λ d. AreFormed d.closed.items d.current) }
     {
         let Draft {
             mut closed,

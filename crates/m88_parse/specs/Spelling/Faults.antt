@@ -42,12 +42,18 @@ pub record IsStray (b : ℕ) : Type 0 where
 -- is, and its kind. In quotes a byte that isn't plain counts before all else.
 pub data IsFlaw : List ℕ → ℕ → ParseKind → Type 0 where
   foreign_byte : {b : ℕ} {bs : List ℕ} → is_plain b ≡ false → IsFlaw (b ∷ bs) 0 NotAscii
-  foreign_in_quotes : {q : ℕ} {bs : List ℕ} (before : List ℕ) (b : ℕ) (after : List ℕ) → IsQuote q → Takes q bs (before ++ b ∷ after) → list_all is_plain before ≡ true → is_plain b ≡ false → IsFlaw (q ∷ bs) (length before + 1) NotAscii
+  foreign_in_quotes : {q : ℕ} {bs : List ℕ} (before : List ℕ) (b : ℕ) (after : List ℕ) → IsQuote q
+      → Takes q bs (before ++ b ∷ after) → list_all is_plain before ≡ true → is_plain b ≡ false
+      → IsFlaw (q ∷ bs) (length before + 1) NotAscii
   no_quoted_token : {q : ℕ} {bs : List ℕ} (inside : List ℕ) → IsQuote q → Takes q bs inside → list_all is_plain inside ≡ true
-      → ((m : Meaning) (rest : List ℕ) → bs ≡ inside ++ q ∷ rest → IsToken (q ∷ inside ++ q ∷ []) m → ⊥) → IsFlaw (q ∷ bs) 0 Syntax
-  long_name : (run rest : List ℕ) {bytes : List ℕ} → bytes ≡ run ++ rest → IsRun run → EndsRun rest → BeginsWithDigit run false → 64 < length run → IsFlaw bytes 0 OutOfRange
-  no_number : (run rest : List ℕ) {bytes : List ℕ} → bytes ≡ run ++ rest → IsRun run → EndsRun rest → BeginsWithDigit run true → ((n : ℕ) → IsNumeral run n → ⊥) → IsFlaw bytes 0 Syntax
-  large_number : (run rest : List ℕ) (n : ℕ) {bytes : List ℕ} → bytes ≡ run ++ rest → IsRun run → EndsRun rest → IsNumeral run n → 4294967296 ≤ n → IsFlaw bytes 0 OutOfRange
+      → ((m : Meaning) (rest : List ℕ) → bs ≡ inside ++ q ∷ rest → IsToken (q ∷ inside ++ q ∷ []) m → ⊥)
+      → IsFlaw (q ∷ bs) 0 Syntax
+  long_name : (run rest : List ℕ) {bytes : List ℕ} → bytes ≡ run ++ rest → IsRun run → EndsRun rest
+      → BeginsWithDigit run false → 64 < length run → IsFlaw bytes 0 OutOfRange
+  no_number : (run rest : List ℕ) {bytes : List ℕ} → bytes ≡ run ++ rest → IsRun run → EndsRun rest
+      → BeginsWithDigit run true → ((n : ℕ) → IsNumeral run n → ⊥) → IsFlaw bytes 0 Syntax
+  large_number : (run rest : List ℕ) (n : ℕ) {bytes : List ℕ} → bytes ≡ run ++ rest → IsRun run → EndsRun rest
+      → IsNumeral run n → 4294967296 ≤ n → IsFlaw bytes 0 OutOfRange
   stray_byte : {b : ℕ} {bs : List ℕ} → IsStray b → IsFlaw (b ∷ bs) 0 Syntax
 
 -- a gap and then a flaw
@@ -71,8 +77,11 @@ IsUncut number line fault = (ps : List Piece) × Breaks 1 line ps fault.col faul
 
 -- the fault of the first of these lines that has one; the lines' numbers go on from one
 pub data FirstOf : ℕ → List (List ℕ) → ParseFault → Type 0 where
-  uncut_line : {number : ℕ} {line : List ℕ} {lines : List (List ℕ)} (ps : List Piece) {at : ℕ} {kind : ParseKind} → Breaks 1 line ps at kind → FirstOf number (line ∷ lines) (record { line = number; col = at; kind = kind })
-  unsaid_line : {number : ℕ} {line : List ℕ} {lines : List (List ℕ)} (ps : List Piece) {at : ℕ} {kind : ParseKind} → LineTokens line ps → IsUnsaid ps at kind → FirstOf number (line ∷ lines) (record { line = number; col = at; kind = kind })
+  uncut_line : {number : ℕ} {line : List ℕ} {lines : List (List ℕ)} (ps : List Piece) {at : ℕ} {kind : ParseKind}
+      → Breaks 1 line ps at kind → FirstOf number (line ∷ lines) (record { line = number; col = at; kind = kind })
+  unsaid_line : {number : ℕ} {line : List ℕ} {lines : List (List ℕ)} (ps : List Piece) {at : ℕ} {kind : ParseKind}
+      → LineTokens line ps → IsUnsaid ps at kind
+      → FirstOf number (line ∷ lines) (record { line = number; col = at; kind = kind })
   later_line : {number : ℕ} {line : List ℕ} {lines : List (List ℕ)} (ps : List Piece) (said : Said) {fault : ParseFault} → LineTokens line ps → LineSays number ps said → FirstOf (number + 1) lines fault → FirstOf number (line ∷ lines) fault
 
 -- the first fault of a source

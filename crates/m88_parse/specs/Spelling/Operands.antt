@@ -32,7 +32,8 @@ IsSymbolOf kind f p = (f.kind ≡ kind) × IsSymbol f.symbol p × (f.col ≡ p.c
 
 -- what is added to a symbol: a number below 2^31 behind + or -
 abbrev pub IsAddend : ℕ → Piece → Piece → Type 0
-IsAddend addend m p = (n : ℕ) × IsNumber n p × (n < 2147483648) × ((IsMark 43 m × (addend ≡ n)) ⊎ (IsMark 45 m × (addend ≡ minus 4294967296 n)))
+IsAddend addend m p = (n : ℕ) × IsNumber n p × (n < 2147483648)
+    × ((IsMark 43 m × (addend ≡ n)) ⊎ (IsMark 45 m × (addend ≡ minus 4294967296 n)))
 
 -- a symbol, or a symbol plus or minus a number
 abbrev pub IsFixup : Kind → List Piece → Fixup → Type 0
@@ -56,7 +57,8 @@ IsHalfOf kind (Symbol f) imm fixup = (imm ≡ 0) × (fixup ≡ Some f)
 pub data IsImmediate : List Piece → ℕ → Option Fixup → Type 0 where
   short : {p : Piece} {imm : ℕ} → IsNumber imm p → imm < 65536 → IsImmediate (p ∷ []) imm None
   half : {h o : Piece} {ps : List Piece} (inside : List Piece) (c : Piece) (name : List ℕ) (kind : Kind) (v : Value) {imm : ℕ} {fixup : Option Fixup}
-      → IsNamed name h → half_of name ≡ Some kind → IsMark 40 o → ps ≡ inside ++ c ∷ [] → IsValue kind inside v → IsMark 41 c → IsHalfOf kind v imm fixup
+      → IsNamed name h → half_of name ≡ Some kind → IsMark 40 o → ps ≡ inside ++ c ∷ [] → IsValue kind inside v
+      → IsMark 41 c → IsHalfOf kind v imm fixup
       → IsImmediate (h ∷ o ∷ ps) imm fixup
 
 -- a register, and what stands behind the comma after it
@@ -84,13 +86,15 @@ most_width op = 31
 
 -- W<O>, or <O>, whose width is 0
 abbrev pub IsLiteral : ℕ → List Piece → ℕ → ℕ → Type 0
-IsLiteral most (w ∷ o ∷ p ∷ c ∷ []) width offset = IsNumber width w × (width ≤ most) × IsMark 60 o × IsNumber offset p × (offset < 32) × IsMark 62 c
+IsLiteral most (w ∷ o ∷ p ∷ c ∷ []) width offset = IsNumber width w × (width ≤ most) × IsMark 60 o × IsNumber offset p
+    × (offset < 32) × IsMark 62 c
 IsLiteral most (o ∷ p ∷ c ∷ []) width offset = (width ≡ 0) × IsMark 60 o × IsNumber offset p × (offset < 32) × IsMark 62 c
 IsLiteral most ps width offset = ⊥
 
 -- words forward or back, in bytes behind the place of the statement: a multiple of 4 that fits the signed field of words
 abbrev pub IsDistance : ℕ → ℤ → Piece → Piece → Type 0
-IsDistance bits words m p = (n : ℕ) × IsNumber (4 * n) p × ((IsMark 43 m × (n < 2 ^ bits) × (words ≡ pos n)) ⊎ (IsMark 45 m × (n ≤ 2 ^ bits) × (words ≡ neg_ℤ (pos n))))
+IsDistance bits words m p = (n : ℕ) × IsNumber (4 * n) p
+    × ((IsMark 43 m × (n < 2 ^ bits) × (words ≡ pos n)) ⊎ (IsMark 45 m × (n ≤ 2 ^ bits) × (words ≡ neg_ℤ (pos n))))
 
 -- T with a place: ., .+N or .-N
 abbrev pub IsPlace : ℕ → List Piece → ℤ → Type 0
@@ -107,37 +111,46 @@ pub data IsGoal (kind : Kind) (bits : ℕ) : List Piece → ℤ → Option Fixup
 pub data AreOperands : Shape → List Piece → Instr → Option Fixup → Type 0 where
   -- rD,rS1,X where X is an immediate
   either_immediate : {iop : _} {rop : _} {d s1 : Reg} {ps qs rest : List Piece} {imm : ℕ} {fixup : Option Fixup}
-      → Behind d ps qs → Behind s1 qs rest → IsImmediate rest imm fixup → AreOperands (shape.Either iop rop) ps (instr.Imm iop d s1 imm) fixup
+      → Behind d ps qs → Behind s1 qs rest → IsImmediate rest imm fixup
+      → AreOperands (shape.Either iop rop) ps (instr.Imm iop d s1 imm) fixup
   -- rD,rS1,X where X is a register
   either_register : {iop : _} {rop : _} {d s1 s2 : Reg} {ps qs rest : List Piece}
       → Behind d ps qs → Behind s1 qs rest → IsLast s2 rest → AreOperands (shape.Either iop rop) ps (instr.Regs rop d s1 s2) None
   -- rD,rS1,X of a mnemonic that takes no register
   immediate : {op : _} {d s1 : Reg} {ps qs rest : List Piece} {imm : ℕ} {fixup : Option Fixup}
-      → Behind d ps qs → Behind s1 qs rest → IsImmediate rest imm fixup → AreOperands (shape.Immediate op) ps (instr.Imm op d s1 imm) fixup
+      → Behind d ps qs → Behind s1 qs rest → IsImmediate rest imm fixup
+      → AreOperands (shape.Immediate op) ps (instr.Imm op d s1 imm) fixup
   -- rD,rS1,rS2
   registers : {op : _} {d s1 s2 : Reg} {ps qs rest : List Piece}
       → Behind d ps qs → Behind s1 qs rest → IsLast s2 rest → AreOperands (shape.Registers op) ps (instr.Regs op d s1 s2) None
   -- rD,rS1,X of memory
   offset : {op : _} {d s1 : Reg} {ps qs rest : List Piece} {imm : ℕ} {fixup : Option Fixup}
-      → Behind d ps qs → Behind s1 qs rest → IsImmediate rest imm fixup → AreOperands (shape.Memory op) ps (instr.MemImm op d s1 imm) fixup
+      → Behind d ps qs → Behind s1 qs rest → IsImmediate rest imm fixup
+      → AreOperands (shape.Memory op) ps (instr.MemImm op d s1 imm) fixup
   -- rD,rS1,rS2 of memory
   index : {op : _} {d s1 s2 : Reg} {ps qs rest : List Piece}
-      → Behind d ps qs → Behind s1 qs rest → IsLast s2 rest → AreOperands (shape.Memory op) ps (instr.MemReg op d s1 s2 false false) None
+      → Behind d ps qs → Behind s1 qs rest → IsLast s2 rest
+      → AreOperands (shape.Memory op) ps (instr.MemReg op d s1 s2 false false) None
   -- rD,rS1[rS2] of memory
   scaled : {op : _} {d s1 s2 : Reg} {ps rest : List Piece} {p : Piece}
-      → Behind d ps (p ∷ rest) → IsRegister s1 p → IsScaled s2 rest → AreOperands (shape.Memory op) ps (instr.MemReg op d s1 s2 true false) None
+      → Behind d ps (p ∷ rest) → IsRegister s1 p → IsScaled s2 rest
+      → AreOperands (shape.Memory op) ps (instr.MemReg op d s1 s2 true false) None
   -- rD,rS1,rS2 in the user's address space
   user_index : {op : _} {d s1 s2 : Reg} {ps qs rest : List Piece}
-      → Behind d ps qs → Behind s1 qs rest → IsLast s2 rest → AreOperands (shape.UserMemory op) ps (instr.MemReg op d s1 s2 false true) None
+      → Behind d ps qs → Behind s1 qs rest → IsLast s2 rest
+      → AreOperands (shape.UserMemory op) ps (instr.MemReg op d s1 s2 false true) None
   -- rD,rS1[rS2] in the user's address space
   user_scaled : {op : _} {d s1 s2 : Reg} {ps rest : List Piece} {p : Piece}
-      → Behind d ps (p ∷ rest) → IsRegister s1 p → IsScaled s2 rest → AreOperands (shape.UserMemory op) ps (instr.MemReg op d s1 s2 true true) None
+      → Behind d ps (p ∷ rest) → IsRegister s1 p → IsScaled s2 rest
+      → AreOperands (shape.UserMemory op) ps (instr.MemReg op d s1 s2 true true) None
   -- rD,rS1[rS2] of a load of an address
   address : {size : _} {d s1 s2 : Reg} {ps rest : List Piece} {p : Piece}
-      → Behind d ps (p ∷ rest) → IsRegister s1 p → IsScaled s2 rest → AreOperands (shape.Address size) ps (instr.Lda size d s1 s2) None
+      → Behind d ps (p ∷ rest) → IsRegister s1 p → IsScaled s2 rest
+      → AreOperands (shape.Address size) ps (instr.Lda size d s1 s2) None
   -- rD,rS1,W<O> or rD,rS1,<O>
   literal : {op : BitOp} {d s1 : Reg} {ps qs rest : List Piece} {width offset : ℕ}
-      → Behind d ps qs → Behind s1 qs rest → IsLiteral (most_width op) rest width offset → AreOperands (shape.Bits op) ps (instr.BitLit op d s1 width offset) None
+      → Behind d ps qs → Behind s1 qs rest → IsLiteral (most_width op) rest width offset
+      → AreOperands (shape.Bits op) ps (instr.BitLit op d s1 width offset) None
   -- rD,rS1,rS2 of a bit field
   field : {op : BitOp} {d s1 s2 : Reg} {ps qs rest : List Piece}
       → Behind d ps qs → Behind s1 qs rest → IsLast s2 rest → AreOperands (shape.Bits op) ps (instr.BitReg op d s1 s2) None
@@ -182,4 +195,5 @@ pub data AreOperands : Shape → List Piece → Instr → Option Fixup → Type 
       → Behind s1 ps (c ∷ []) → IsControl float cr c → AreOperands (shape.Store float) ps (instr.Stcr s1 cr float) None
   -- rD,rS1 and a control register
   exchange : {float : Bool} {d s1 : Reg} {cr : ℕ} {ps qs : List Piece} {c : Piece}
-      → Behind d ps qs → Behind s1 qs (c ∷ []) → IsControl float cr c → AreOperands (shape.Exchange float) ps (instr.Xcr d s1 cr float) None
+      → Behind d ps qs → Behind s1 qs (c ∷ []) → IsControl float cr c
+      → AreOperands (shape.Exchange float) ps (instr.Xcr d s1 cr float) None

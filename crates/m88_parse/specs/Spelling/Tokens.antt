@@ -52,8 +52,10 @@ IsNumeral text n = IsDecimal text n ⊎ IsHexadecimal text n
 -- backslash, which stands with the byte behind it for the byte of that escape.
 pub data Holds (quote : ℕ) : List ℕ → List ℕ → Type 0 where
   nothing : Holds quote [] []
-  itself : {b : ℕ} {inside bytes : List ℕ} → is_plain b ≡ true → b ≢ 92 → b ≢ quote → Holds quote inside bytes → Holds quote (b ∷ inside) (b ∷ bytes)
-  escape : {e : ℕ} {inside bytes : List ℕ} → is_escape e ≡ true → Holds quote inside bytes → Holds quote (92 ∷ e ∷ inside) (escape_value e ∷ bytes)
+  itself : {b : ℕ} {inside bytes : List ℕ} → is_plain b ≡ true → b ≢ 92 → b ≢ quote → Holds quote inside bytes
+      → Holds quote (b ∷ inside) (b ∷ bytes)
+  escape : {e : ℕ} {inside bytes : List ℕ} → is_escape e ≡ true → Holds quote inside bytes
+      → Holds quote (92 ∷ e ∷ inside) (escape_value e ∷ bytes)
 
 -- two quotes of a kind, and bytes between them
 pub record IsQuoted (quote : ℕ) (text bytes : List ℕ) : Type 0 where

@@ -22,8 +22,10 @@ EndsInReturn line = (front : List ℕ) × (line ≡ front ++ 13 ∷ [])
 pub data AreLines : List ℕ → List (List ℕ) → Type 0 where
   no_line : AreLines [] []
   last_line : {line : List ℕ} → line ≢ [] → IsOneLine line → AreLines line (line ∷ [])
-  feed : {line rest source : List ℕ} {lines : List (List ℕ)} → IsOneLine line → (EndsInReturn line → ⊥) → source ≡ line ++ 10 ∷ rest → AreLines rest lines → AreLines source (line ∷ lines)
-  return_feed : {line rest source : List ℕ} {lines : List (List ℕ)} → IsOneLine line → source ≡ line ++ 13 ∷ 10 ∷ rest → AreLines rest lines → AreLines source (line ∷ lines)
+  feed : {line rest source : List ℕ} {lines : List (List ℕ)} → IsOneLine line → (EndsInReturn line → ⊥)
+      → source ≡ line ++ 10 ∷ rest → AreLines rest lines → AreLines source (line ∷ lines)
+  return_feed : {line rest source : List ℕ} {lines : List (List ℕ)} → IsOneLine line → source ≡ line ++ 13 ∷ 10 ∷ rest
+      → AreLines rest lines → AreLines source (line ∷ lines)
 
 -- what a line says: nothing, a statement, or that a module of this name begins
 pub data Said : Type 0 where
@@ -42,9 +44,11 @@ pub data LineSays (number : ℕ) : List Piece → Said → Type 0 where
 pub data AreRows : ℕ → List (List ℕ) → List Statement → List Module → Type 0 where
   no_row : {number : ℕ} → AreRows number [] [] []
   row_of_nothing : {number : ℕ} {line : List ℕ} {lines : List (List ℕ)} {ps : List Piece} {ss : List Statement} {ms : List Module}
-      → LineTokens line ps → LineSays number ps says_nothing → AreRows (number + 1) lines ss ms → AreRows number (line ∷ lines) ss ms
+      → LineTokens line ps → LineSays number ps says_nothing → AreRows (number + 1) lines ss ms
+      → AreRows number (line ∷ lines) ss ms
   row_of_statement : {number : ℕ} {line : List ℕ} {lines : List (List ℕ)} {ps : List Piece} {s : Statement} {ss : List Statement} {ms : List Module}
-      → LineTokens line ps → LineSays number ps (says s) → AreRows (number + 1) lines ss ms → AreRows number (line ∷ lines) (s ∷ ss) ms
+      → LineTokens line ps → LineSays number ps (says s) → AreRows (number + 1) lines ss ms
+      → AreRows number (line ∷ lines) (s ∷ ss) ms
   row_of_module : {number : ℕ} {line : List ℕ} {lines : List (List ℕ)} {ps : List Piece} {name : List ℕ} {ss : List Statement} {ms : List Module}
       → LineTokens line ps → LineSays number ps (begins name) → AreRows (number + 1) lines ss ms
       → AreRows number (line ∷ lines) [] (record { name = name; line = number; statements = ss } ∷ ms)

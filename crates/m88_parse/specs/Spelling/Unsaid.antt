@@ -40,7 +40,8 @@ IsNumberInPlace labelled front p = (n : ℕ) × IsNumber n p × NumberMayFollow 
 -- A name where some name may stand, but not every symbol: the place of an operation, a register, a control register, a bit,
 -- a mask or half of a value.
 abbrev pub IsNameInPlace : Bool → List Piece → Piece → Type 0
-IsNameInPlace labelled front p = (name : List ℕ) × IsNamed name p × NameMayFollow labelled front × (AnySymbolMayFollow labelled front → ⊥)
+IsNameInPlace labelled front p = (name : List ℕ) × IsNamed name p × NameMayFollow labelled front
+    × (AnySymbolMayFollow labelled front → ⊥)
 
 -- the last of these tokens is a number's own sign: a number may stand in its place
 pub record EndsInSign (labelled : Bool) (front : List Piece) (m : Piece) : Type 0 where
@@ -68,17 +69,22 @@ EndsInNoHalf labelled front = (h : Piece) → EndsInHalf labelled front h → �
 -- The column and the kind of the fault where this token stands behind those and can't: a number is out of range at its own
 -- sign, if it has one.
 pub data IsMisplaced (labelled : Bool) (front : List Piece) (p : Piece) : ℕ → ParseKind → Type 0 where
-  number_out_of_range : IsNumberInPlace labelled front p → EndsInNoSign labelled front → IsMisplaced labelled front p p.col OutOfRange
-  signed_out_of_range : {m : Piece} → IsNumberInPlace labelled front p → EndsInSign labelled front m → IsMisplaced labelled front p m.col OutOfRange
+  number_out_of_range : IsNumberInPlace labelled front p → EndsInNoSign labelled front
+      → IsMisplaced labelled front p p.col OutOfRange
+  signed_out_of_range : {m : Piece} → IsNumberInPlace labelled front p → EndsInSign labelled front m
+      → IsMisplaced labelled front p m.col OutOfRange
   no_such_name : IsNameInPlace labelled front p → IsMisplaced labelled front p p.col NoSuchName
-  other_token : (IsNumberInPlace labelled front p → ⊥) → (IsNameInPlace labelled front p → ⊥) → IsMisplaced labelled front p p.col Syntax
+  other_token : (IsNumberInPlace labelled front p → ⊥) → (IsNameInPlace labelled front p → ⊥)
+      → IsMisplaced labelled front p p.col Syntax
 
 -- The fault where these tokens can't go on with what is left of the line: at the last of them, where it is hi16 or lo16, which
 -- are ordinary names where no ( follows, and else at the next token, or just after the line's last one.
 pub data IsFaultBehind (labelled : Bool) (front : List Piece) : List Piece → ℕ → ParseKind → Type 0 where
   half_alone : {rest : List Piece} {h : Piece} → EndsInHalf labelled front h → IsFaultBehind labelled front rest h.col NoSuchName
-  misplaced : {p : Piece} {rest : List Piece} {at : ℕ} {kind : ParseKind} → EndsInNoHalf labelled front → IsMisplaced labelled front p at kind → IsFaultBehind labelled front (p ∷ rest) at kind
-  line_ends : (before : List Piece) (p : Piece) → EndsInNoHalf labelled front → front ≡ before ++ p ∷ [] → IsFaultBehind labelled front [] (p.col + length p.text) Syntax
+  misplaced : {p : Piece} {rest : List Piece} {at : ℕ} {kind : ParseKind} → EndsInNoHalf labelled front
+      → IsMisplaced labelled front p at kind → IsFaultBehind labelled front (p ∷ rest) at kind
+  line_ends : (before : List Piece) (p : Piece) → EndsInNoHalf labelled front → front ≡ before ++ p ∷ []
+      → IsFaultBehind labelled front [] (p.col + length p.text) Syntax
 
 -- no operation goes on with what is left of the line
 abbrev pub Stops : Bool → List Piece → List Piece → Type 0
@@ -97,8 +103,11 @@ pub record IsBroken (labelled : Bool) (ps : List Piece) (at : ℕ) (kind : Parse
 -- The column and the kind of the fault of a line's tokens. What stands before a colon has to be a symbol, and the head of a
 -- module has no label.
 pub data IsUnsaid : List Piece → ℕ → ParseKind → Type 0 where
-  no_label : {l c : Piece} {ps : List Piece} → IsMark 58 c → ((name : List ℕ) → IsSymbol name l → ⊥) → IsUnsaid (l ∷ c ∷ ps) l.col Syntax
-  labelled_head : {l c p : Piece} {ps : List Piece} {name : List ℕ} → IsLabel l c name → IsNamed (codes ".module") p → IsUnsaid (l ∷ c ∷ p ∷ ps) p.col Syntax
+  no_label : {l c : Piece} {ps : List Piece} → IsMark 58 c → ((name : List ℕ) → IsSymbol name l → ⊥)
+      → IsUnsaid (l ∷ c ∷ ps) l.col Syntax
+  labelled_head : {l c p : Piece} {ps : List Piece} {name : List ℕ} → IsLabel l c name → IsNamed (codes ".module") p
+      → IsUnsaid (l ∷ c ∷ p ∷ ps) p.col Syntax
   behind_label : {l c p : Piece} {ps : List Piece} {name : List ℕ} {at : ℕ} {kind : ParseKind}
       → IsLabel l c name → (IsNamed (codes ".module") p → ⊥) → IsBroken true (p ∷ ps) at kind → IsUnsaid (l ∷ c ∷ p ∷ ps) at kind
-  without_label : {p : Piece} {ps : List Piece} {at : ℕ} {kind : ParseKind} → HasNoColon ps → IsBroken false (p ∷ ps) at kind → IsUnsaid (p ∷ ps) at kind
+  without_label : {p : Piece} {ps : List Piece} {at : ℕ} {kind : ParseKind} → HasNoColon ps
+      → IsBroken false (p ∷ ps) at kind → IsUnsaid (p ∷ ps) at kind

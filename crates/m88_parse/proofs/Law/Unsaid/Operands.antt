@@ -15,7 +15,7 @@ use Rattle.m88_parse.specs.Spelling.Names.{IsMark, IsNamed}
 use Rattle.m88_parse.specs.Spelling.Unsaid.{IsOperation, half_alone, EndsInHalf}
 use Rattle.m88_parse.proofs.Law.Steps.{take_then, take_else}
 use Rattle.m88_parse.proofs.Law.Slots.{st, mark_says}
-use Rattle.m88_parse.proofs.Law.Unsaid.Readers.{fault_in, here, Reader, heard, Goes, Reads, EndsAt, Told, Traced, Good, no_name, own_names, symbols, kind_for}
+use Rattle.m88_parse.proofs.Law.Unsaid.Readers.{fault_in, here, Reader, heard, Goes, Reads, EndsAt, Told, Traced, Good, own_names, symbols, kind_for}
 use Rattle.m88_parse.proofs.Law.Unsaid.Nodes.{is_heard, Leads, Faults, Node, leads, good, reads_on, continues, follows, follows_not, told, moved, fresh_behind}
 use Rattle.m88_parse.proofs.Law.Unsaid.Slots.{saying, reader_of, never, mark_node, any, any_is_symbol}
 use Rattle.m88_parse.proofs.Law.Unsaid.Values.{value_node, NoName, number_is, text_is, mark_is}
