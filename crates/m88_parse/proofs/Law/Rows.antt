@@ -12,7 +12,7 @@ use Rattle.m88_parse.specs.State.{State, says_first, first, past, is_mark_of, �
 use Rattle.m88_parse.specs.Slots.{symbol_at, any_name_at, end_at}
 use Rattle.m88_parse.specs.Source.{operation_on, operation_at, statement, labelled_on, labelled_at, unlabelled_at, head_at, is_label_on, is_head_on, row_at, end_of, row_of_pieces}
 use Rattle.m88_parse.specs.Spelling.Names.{IsNamed, IsSymbol}
-use Rattle.m88_parse.specs.Spelling.Statements.{IsBody, text, data_section, at, word, half, byte, ascii, zeros, align, global, set, code, IsLabel, HasNoColon, IsStatement, plain, labelled, label_alone, IsHead, head}
+use Rattle.m88_parse.specs.Spelling.Statements.{IsBody, text, data_section, at, word, half, byte, ascii, zeros, align, global, set, code, IsLabel, BeginsWithNoColon, IsStatement, plain, labelled, label_alone, IsHead, head}
 use Rattle.m88_parse.specs.Spelling.Units.{Said, says_nothing, says, begins, LineSays, empty_line, statement_line, module_line}
 use Rattle.m88_parse.proofs.Law.Steps.{chosen, tested, take_then, take_else}
 use Rattle.m88_parse.proofs.Law.Slots.{st, ok_same, bind_ok, bind_to, mark_says, end_read, symbol_read, symbol_again, any_name_read, any_name_again}
@@ -85,7 +85,7 @@ head_read line e p ps r n h =
 
 -- a statement with no label
 
-pub no_colon : (m : Meaning) (ps : List Piece) → (name : List ℕ) → m ≡ a_name name → is_label_on (Some m) (says_first ps) ≡ false → HasNoColon ps
+pub no_colon : (m : Meaning) (ps : List Piece) → (name : List ℕ) → m ≡ a_name name → is_label_on (Some m) (says_first ps) ≡ false → BeginsWithNoColon ps
 no_colon m [] name n h = tt
 no_colon m (p ∷ ps) name n h =
     λ (x : p.says ≡ a_mark 58). true≢false (sym (ap₂ (λ (a b : Meaning). is_label_on (Some a) (Some b)) n x) ∙ h)
@@ -134,7 +134,7 @@ label_again line e p c ps name z k h =
     take_then (is_label_on (Some p.says) (Some c.says)) _ _ (ap₂ (λ (a b : Meaning). is_label_on (Some a) (Some b)) k.symbol.0 k.colon)
     ∙ bind_to (symbol_at s) (λ (label : (List ℕ × ℕ) × State). labelled_on (past label.1) label.0 (first (past label.1))) ((name, p.col), st line e (c ∷ ps)) z (symbol_again line e name p (c ∷ ps) k.symbol) h
 
-colon_free : (m : Meaning) (ps : List Piece) → HasNoColon ps → is_label_on (Some m) (says_first ps) ≡ false
+colon_free : (m : Meaning) (ps : List Piece) → BeginsWithNoColon ps → is_label_on (Some m) (says_first ps) ≡ false
 colon_free (a_name name) [] h = refl
 colon_free (a_name name) (p ∷ ps) h = elim (tested (is_mark_of 58 (Some p.says))) [ inl e ↦ absurd (h (mark_says 58 p.says e)) | inr e ↦ e ]
 colon_free (a_number n) ps h = refl
@@ -168,7 +168,7 @@ not_head line e (p ∷ ps) c h = by_says p.says refl
     by_says (a_text bytes) n = ap (λ (o : Meaning). is_head_on (Some o)) n
     by_says (a_mark b) n = ap (λ (o : Meaning). is_head_on (Some o)) n
 
-plain_again : (line e : ℕ) (p : Piece) (ps : List Piece) (c : Body) → IsBody (p ∷ ps) c → HasNoColon ps → row_at (st line e (p ∷ ps)) ≡ Ok (statement (st line e (p ∷ ps)) None p.col c)
+plain_again : (line e : ℕ) (p : Piece) (ps : List Piece) (c : Body) → IsBody (p ∷ ps) c → BeginsWithNoColon ps → row_at (st line e (p ∷ ps)) ≡ Ok (statement (st line e (p ∷ ps)) None p.col c)
 unfolding row_at
 plain_again line e p ps c h k =
     let s = st line e (p ∷ ps) in

@@ -24,7 +24,7 @@ pub data Takes (quote : ℕ) : List ℕ → List ℕ → Type 0 where
 abbrev pub IsQuote : ℕ → Type 0
 IsQuote b = (b ≡ 34) ⊎ (b ≡ 39)
 
--- a run that begins with a digit
+-- whether a run begins with a digit
 abbrev pub BeginsWithDigit : List ℕ → Bool → Type 0
 BeginsWithDigit [] digit = ⊥
 BeginsWithDigit (b ∷ bs) digit = is_ascii_digit b ≡ digit

@@ -51,13 +51,13 @@ pub record IsLabel (l c : Piece) (name : List ℕ) : Type 0 where
   pub colon : IsMark 58 c
 
 -- no colon comes first: a name with a colon behind it would be a label
-abbrev pub HasNoColon : List Piece → Type 0
-HasNoColon [] = Unit {0}
-HasNoColon (p ∷ ps) = p.says ≢ a_mark 58
+abbrev pub BeginsWithNoColon : List Piece → Type 0
+BeginsWithNoColon [] = Unit {0}
+BeginsWithNoColon (p ∷ ps) = p.says ≢ a_mark 58
 
 -- the statement of a line's tokens, with the line's number
 pub data IsStatement (line : ℕ) : List Piece → Statement → Type 0 where
-  plain : {p : Piece} {ps : List Piece} {said : Body} → IsBody (p ∷ ps) said → HasNoColon ps
+  plain : {p : Piece} {ps : List Piece} {said : Body} → IsBody (p ∷ ps) said → BeginsWithNoColon ps
       → IsStatement line (p ∷ ps) (record { line = line; label = None; col = p.col; body = said })
   labelled : {l c p : Piece} {ps : List Piece} {name : List ℕ} {said : Body} → IsLabel l c name → IsBody (p ∷ ps) said
       → IsStatement line (l ∷ c ∷ p ∷ ps) (record { line = line; label = Some (name, l.col); col = p.col; body = said })

@@ -23,15 +23,15 @@ use Rattle.m88_parse.proofs.Law.Unsaid.Values.{mapped, NoName, number_is, text_i
 
 -- behind the . of a goal
 
-words_node : (few : ℕ) (B : Type 0) (labelled : Bool) (line e limit : ℕ) (k : ℤ → State → Result B ParseFault) → ((n : ℤ) → Good few labelled line e (λ ps. fault_in (k n (st line e ps))))
-    → Node few false no_name labelled line e (λ ps. fault_in (k (pos 0) (st line e ps))) → Node few false no_name labelled line e (reader_of line e (words_at limit) k)
+words_node : (few : ℕ) (B : Type 0) (line e limit : ℕ) (k : ℤ → State → Result B ParseFault) → ((n : ℤ) → Good few line e (λ ps. fault_in (k n (st line e ps))))
+    → Node few false no_name line e (λ ps. fault_in (k (pos 0) (st line e ps))) → Node few false no_name line e (reader_of line e (words_at limit) k)
 unfolding words_at
-words_node few B labelled line e limit k g n =
-    or_mark few false no_name labelled line e 43 (reader_of line e (words_at limit) k) no_plus (reader_of line e (distance_at (limit - 1)) (λ d. k (pos d))) refl (inr refl) plus otherwise refl
-    (good few true no_name labelled line e (reader_of line e (distance_at (limit - 1)) (λ d. k (pos d))) (one_token few ℕ B true no_name labelled line e (distance_at (limit - 1)) (one_distance (limit - 1) line e) (λ d. k (pos d)) (λ d. g (pos d))))
-    (or_mark few false no_name labelled line e 45 no_plus (λ ps. fault_in (k (pos 0) (st line e ps))) (reader_of line e (distance_at limit) (λ d. k (neg_ℤ (pos d)))) refl (inr refl) minus neither refl
-    (good few true no_name labelled line e (reader_of line e (distance_at limit) (λ d. k (neg_ℤ (pos d))))
-    (one_token few ℕ B true no_name labelled line e (distance_at limit) (one_distance limit line e) (λ d. k (neg_ℤ (pos d))) (λ d. g (neg_ℤ (pos d)))))
+words_node few B line e limit k g n =
+    or_mark few false no_name line e 43 (reader_of line e (words_at limit) k) no_plus (reader_of line e (distance_at (limit - 1)) (λ d. k (pos d))) refl (inr refl) plus otherwise refl
+    (good few true no_name line e (reader_of line e (distance_at (limit - 1)) (λ d. k (pos d))) (one_token few ℕ B true no_name line e (distance_at (limit - 1)) (one_distance (limit - 1) line e) (λ d. k (pos d)) (λ d. g (pos d))))
+    (or_mark few false no_name line e 45 no_plus (λ ps. fault_in (k (pos 0) (st line e ps))) (reader_of line e (distance_at limit) (λ d. k (neg_ℤ (pos d)))) refl (inr refl) minus neither refl
+    (good few true no_name line e (reader_of line e (distance_at limit) (λ d. k (neg_ℤ (pos d))))
+    (one_token few ℕ B true no_name line e (distance_at limit) (one_distance limit line e) (λ d. k (neg_ℤ (pos d))) (λ d. g (neg_ℤ (pos d)))))
     n)
   where
     no_plus : Reader
@@ -59,10 +59,10 @@ place_goal n = record { words = n; fixup = None }
 abbrev symbol_goal : Fixup → Goal
 symbol_goal f = record { words = pos 0; fixup = Some f }
 
-pub goal_node : (few : ℕ) (B : Type 0) (labelled : Bool) (kind : Kind) (line e limit : ℕ) (k : Goal → State → Result B ParseFault) → ((x : Goal) → Node few false no_name labelled line e (λ ps. fault_in (k x (st line e ps))))
-    → Node few false symbols labelled line e (reader_of line e (goal_at kind limit) k)
+pub goal_node : (few : ℕ) (B : Type 0) (kind : Kind) (line e limit : ℕ) (k : Goal → State → Result B ParseFault) → ((x : Goal) → Node few false no_name line e (λ ps. fault_in (k x (st line e ps))))
+    → Node few false symbols line e (reader_of line e (goal_at kind limit) k)
 unfolding goal_at
-goal_node few B labelled kind line e limit k n = record {
+goal_node few B kind line e limit k n = record {
   wants = record {
     numbers = λ p v h. never false symbols line (reader_of line e (goal_at kind limit) k) p (no_goal p (a_number v) h number_is);
     names = λ p name h. symbol_goes p name h;
@@ -83,12 +83,12 @@ goal_node few B labelled kind line e limit k n = record {
         ap (λ (r : Read Goal). fault_in (r >>= λ (x : Goal × State). k x.0 x.1)) (take_else (is_here_on (Some p.says)) _ _ t)
         ∙ ap (λ (r : Result B ParseFault). fault_in r) (mapped Fixup B Goal (fixup_at kind (st line e (p ∷ ps))) symbol_goal k)
 
-    place_good : Good few labelled line e (reader_of line e (words_at limit) (λ z. k (place_goal z)))
-    place_good = good few false no_name labelled line e (reader_of line e (words_at limit) (λ z. k (place_goal z)))
-        (words_node few B labelled line e limit (λ z. k (place_goal z)) (λ z. good few false no_name labelled line e (λ ps. fault_in (k (place_goal z) (st line e ps))) (n (place_goal z))) (n (place_goal (pos 0))))
+    place_good : Good few line e (reader_of line e (words_at limit) (λ z. k (place_goal z)))
+    place_good = good few false no_name line e (reader_of line e (words_at limit) (λ z. k (place_goal z)))
+        (words_node few B line e limit (λ z. k (place_goal z)) (λ z. good few false no_name line e (λ ps. fault_in (k (place_goal z) (st line e ps))) (n (place_goal z))) (n (place_goal (pos 0))))
 
-    symbol_good : (name : List ℕ) (col : ℕ) → Good few labelled line e (behind_symbol kind line e name col (λ f. k (symbol_goal f)))
-    symbol_good name col = behind_symbol_good few B labelled kind line e name col (λ f. k (symbol_goal f)) (λ f. n (symbol_goal f))
+    symbol_good : (name : List ℕ) (col : ℕ) → Good few line e (behind_symbol kind line e name col (λ f. k (symbol_goal f)))
+    symbol_good name col = behind_symbol_good few B kind line e name col (λ f. k (symbol_goal f)) (λ f. n (symbol_goal f))
 
     not_here : (p : Piece) (text : List ℕ) → IsSymbol text p → is_here_on (Some p.says) ≡ false
     not_here p text h = elim (tested (is_here text)) [ inl t ↦ absurd (h.1.no_place ((bytes_eq-Decides text (codes ".")).0 t)) | inr t ↦ ap (λ (m : Meaning). is_here_on (Some m)) h.0 ∙ t ]
@@ -102,16 +102,16 @@ goal_node few B labelled kind line e limit k n = record {
     no_minus p text h m = let x = sym h ∙ m in cc
 
     symbol_by : (p : Piece) (text : List ℕ) → p.says ≡ a_name text → is_here text ≡ false → (t : Bool) → is_symbol text ≡ t
-        → Leads few false labelled line e (reader_of line e (goal_at kind limit) k) p ⊎ Faults false symbols line (reader_of line e (goal_at kind limit) k) p
+        → Leads few false line e (reader_of line e (goal_at kind limit) k) p ⊎ Faults false symbols line (reader_of line e (goal_at kind limit) k) p
     symbol_by p text h i true t =
-        inl (leads few false labelled line e (reader_of line e (goal_at kind limit) k) (behind_symbol kind line e text p.col (λ f. k (symbol_goal f))) p (symbol_good text p.col)
+        inl (leads few false line e (reader_of line e (goal_at kind limit) k) (behind_symbol kind line e text p.col (λ f. k (symbol_goal f))) p (symbol_good text p.col)
         (λ ps. by_fixup p ps (ap (λ (m : Meaning). is_here_on (Some m)) h ∙ i) ∙ fixup_taken B kind line e p ps text (λ f. k (symbol_goal f)) h t) (inl (no_minus p text h)))
     symbol_by p text h i false t =
         inr (λ ps. by_fixup p ps (ap (λ (m : Meaning). is_here_on (Some m)) h ∙ i) ∙ fixup_refused B kind line e p ps text (λ f. k (symbol_goal f)) h t ∙ ap (λ (m : Meaning). here line p.col (kind_for false symbols m)) (sym h))
 
-    name_by : (p : Piece) (text : List ℕ) → p.says ≡ a_name text → (t : Bool) → is_here text ≡ t → Leads few false labelled line e (reader_of line e (goal_at kind limit) k) p ⊎ Faults false symbols line (reader_of line e (goal_at kind limit) k) p
+    name_by : (p : Piece) (text : List ℕ) → p.says ≡ a_name text → (t : Bool) → is_here text ≡ t → Leads few false line e (reader_of line e (goal_at kind limit) k) p ⊎ Faults false symbols line (reader_of line e (goal_at kind limit) k) p
     name_by p text h true t =
-        inl (leads few false labelled line e (reader_of line e (goal_at kind limit) k) (reader_of line e (words_at limit) (λ z. k (place_goal z))) p place_good (λ ps. by_place p ps text h t) (inl (no_minus p text h)))
+        inl (leads few false line e (reader_of line e (goal_at kind limit) k) (reader_of line e (words_at limit) (λ z. k (place_goal z))) p place_good (λ ps. by_place p ps text h t) (inl (no_minus p text h)))
     name_by p text h false t = symbol_by p text h t (is_symbol text) refl
 
     other_here : (m : Meaning) → NoName m → is_here_on (Some m) ≡ false
@@ -128,7 +128,7 @@ goal_node few B labelled kind line e limit k n = record {
     no_goal p m h z ps =
         by_fixup p ps (ap (λ (o : Meaning). is_here_on (Some o)) h ∙ other_here m z) ∙ fixup_no_name B kind line e p ps m (λ f. k (symbol_goal f)) h z ∙ plain_symbol p m h z
 
-    by_says : (p : Piece) (m : Meaning) → p.says ≡ m → Leads few false labelled line e (reader_of line e (goal_at kind limit) k) p ⊎ Faults false symbols line (reader_of line e (goal_at kind limit) k) p
+    by_says : (p : Piece) (m : Meaning) → p.says ≡ m → Leads few false line e (reader_of line e (goal_at kind limit) k) p ⊎ Faults false symbols line (reader_of line e (goal_at kind limit) k) p
     by_says p (a_name text) h = name_by p text h (is_here text) refl
     by_says p (a_number v) h = inr (no_goal p (a_number v) h number_is)
     by_says p (a_text bytes) h = inr (no_goal p (a_text bytes) h text_is)

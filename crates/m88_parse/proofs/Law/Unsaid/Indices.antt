@@ -29,10 +29,10 @@ no_minus p text h m = let x = sym h ∙ m in cc
 
 -- a register or an immediate
 
-pub operand_node : (few : ℕ) (B : Type 0) (labelled : Bool) (line e : ℕ) (k : Operand → State → Result B ParseFault) → ((x : Operand) → Good few labelled line e (λ ps. fault_in (k x (st line e ps))))
-    → Node few true own_names labelled line e (reader_of line e operand_at k)
+pub operand_node : (few : ℕ) (B : Type 0) (line e : ℕ) (k : Operand → State → Result B ParseFault) → ((x : Operand) → Good few line e (λ ps. fault_in (k x (st line e ps))))
+    → Node few true own_names line e (reader_of line e operand_at k)
 unfolding operand_at immediate_at register_of
-operand_node few B labelled line e k g = record {
+operand_node few B line e k g = record {
   wants = record {
     numbers = let w = imm.wants.numbers in (w.0, w.1, w.2, (w.3.0, as_immediate w.0 w.3.0 (ap (λ (m : Meaning). register_in (Some m)) w.2) ∙ w.3.1));
     names = ((saying (a_name (codes "r0")), codes "r0", refl, register_goes), (any, codes "x", any_is_symbol, never true own_names line (reader_of line e operand_at k) any no_operand));
@@ -43,8 +43,8 @@ operand_node few B labelled line e k g = record {
   each = λ p. by_register p (register_in (Some p.says)) refl;
 }
   where
-    imm : Node few true own_names labelled line e (reader_of line e immediate_at (λ x. k (operand.Immediate x)))
-    imm = immediate_node few B labelled line e (λ x. k (operand.Immediate x)) (λ x. g (operand.Immediate x))
+    imm : Node few true own_names line e (reader_of line e immediate_at (λ x. k (operand.Immediate x)))
+    imm = immediate_node few B line e (λ x. k (operand.Immediate x)) (λ x. g (operand.Immediate x))
 
     as_immediate : (p : Piece) (ps : List Piece) → register_in (Some p.says) ≡ None → reader_of line e operand_at k (p ∷ ps) ≡ reader_of line e immediate_at (λ x. k (operand.Immediate x)) (p ∷ ps)
     as_immediate p ps h =
@@ -63,11 +63,11 @@ operand_node few B labelled line e k g = record {
     register_no_minus : (p : Piece) (r : Reg) → register_in (Some p.says) ≡ Some r → IsMark 45 p → ⊥
     register_no_minus p r h m = let x : ◌≡◌ {A = Option Reg} (Some r) None = sym h ∙ ap (λ (o : Meaning). register_in (Some o)) m in cc
 
-    by_register : (p : Piece) (o : Option Reg) → register_in (Some p.says) ≡ o → Leads few true labelled line e (reader_of line e operand_at k) p ⊎ Faults true own_names line (reader_of line e operand_at k) p
+    by_register : (p : Piece) (o : Option Reg) → register_in (Some p.says) ≡ o → Leads few true line e (reader_of line e operand_at k) p ⊎ Faults true own_names line (reader_of line e operand_at k) p
     by_register p (Some r) h =
-        inl (leads few true labelled line e (reader_of line e operand_at k) (λ ps. fault_in (k (operand.Register r) (st line e ps))) p (g (operand.Register r)) (λ ps. as_register_here p ps r h) (inl (register_no_minus p r h)))
+        inl (leads few true line e (reader_of line e operand_at k) (λ ps. fault_in (k (operand.Register r) (st line e ps))) p (g (operand.Register r)) (λ ps. as_register_here p ps r h) (inl (register_no_minus p r h)))
     by_register p None h = elim (imm.each p) [
-      | inl l ↦ inl (leads_as few true labelled line e (reader_of line e operand_at k) (reader_of line e immediate_at (λ x. k (operand.Immediate x))) p (λ ps. as_immediate p ps h) l)
+      | inl l ↦ inl (leads_as few true line e (reader_of line e operand_at k) (reader_of line e immediate_at (λ x. k (operand.Immediate x))) p (λ ps. as_immediate p ps h) l)
       | inr f ↦ inr (λ ps. as_immediate p ps h ∙ f ps)
     ]
 
@@ -76,12 +76,12 @@ operand_node few B labelled line e k g = record {
 pub behind_bracket : {B : Type 0} → ℕ → ℕ → (Reg → State → Result B ParseFault) → Reader
 behind_bracket line e k ps = reader_of line e register_at (λ r s. mark_at 93 s >>= λ (closed : State). k r closed) ps
 
-pub behind_bracket_good : (few : ℕ) (B : Type 0) (labelled : Bool) (line e : ℕ) (k : Reg → State → Result B ParseFault) → ((r : Reg) → Good few labelled line e (λ ps. fault_in (k r (st line e ps)))) → Good few labelled line e (behind_bracket line e k)
+pub behind_bracket_good : (few : ℕ) (B : Type 0) (line e : ℕ) (k : Reg → State → Result B ParseFault) → ((r : Reg) → Good few line e (λ ps. fault_in (k r (st line e ps)))) → Good few line e (behind_bracket line e k)
 unfolding behind_bracket
-behind_bracket_good few B labelled line e k g =
-    good few false own_names labelled line e (reader_of line e register_at (λ r s. mark_at 93 s >>= λ (closed : State). k r closed))
-    (one_token few Reg B false own_names labelled line e register_at (one_register line e) (λ r s. mark_at 93 s >>= λ (closed : State). k r closed)
-    (λ r. good few false no_name labelled line e (λ ps. fault_in (mark_at 93 (st line e ps) >>= λ (closed : State). k r closed)) (mark_node few B labelled 93 line e (λ closed. k r closed) refl refl (g r))))
+behind_bracket_good few B line e k g =
+    good few false own_names line e (reader_of line e register_at (λ r s. mark_at 93 s >>= λ (closed : State). k r closed))
+    (one_token few Reg B false own_names line e register_at (one_register line e) (λ r s. mark_at 93 s >>= λ (closed : State). k r closed)
+    (λ r. good few false no_name line e (λ ps. fault_in (mark_at 93 (st line e ps) >>= λ (closed : State). k r closed)) (mark_node few B 93 line e (λ closed. k r closed) refl refl (g r))))
 
 bracket_split : (B C : Type 0) (r : Result State ParseFault) (x : C) (k : C → State → Result B ParseFault) → ((r >>= λ (closed : State). let y : Read C = Ok (x, closed) in y) >>= λ (z : C × State). k z.0 z.1) ≡ (r >>= λ (closed : State). k x closed)
 bracket_split B C (Ok s) x k = refl
@@ -108,12 +108,12 @@ scaled_taken B line e p ps k t =
     ap (λ (r : Result B ParseFault). fault_in r) (scaled_steps B (st line e (p ∷ ps)) k)
     ∙ ap (λ (r : Result State ParseFault). fault_in (r >>= λ (opened : State). register_at opened >>= λ (v : Reg × State). mark_at 93 v.1 >>= λ (closed : State). k v.0 closed)) (take_then (is_mark_of 91 (Some p.says)) _ _ t)
 
-pub scaled_node : (few : ℕ) (B : Type 0) (labelled : Bool) (line e : ℕ) (k : Reg → State → Result B ParseFault) → ((r : Reg) → Good few labelled line e (λ ps. fault_in (k r (st line e ps)))) → Node few false no_name labelled line e (reader_of line e scaled_at k)
+pub scaled_node : (few : ℕ) (B : Type 0) (line e : ℕ) (k : Reg → State → Result B ParseFault) → ((r : Reg) → Good few line e (λ ps. fault_in (k r (st line e ps)))) → Node few false no_name line e (reader_of line e scaled_at k)
 unfolding behind_bracket
-scaled_node few B labelled line e k g =
-    node_as few false no_name labelled line e (reader_of line e scaled_at k) (λ ps. fault_in (mark_at 91 (st line e ps) >>= λ (opened : State). register_at opened >>= λ (v : Reg × State). mark_at 93 v.1 >>= λ (closed : State). k v.0 closed))
+scaled_node few B line e k g =
+    node_as few false no_name line e (reader_of line e scaled_at k) (λ ps. fault_in (mark_at 91 (st line e ps) >>= λ (opened : State). register_at opened >>= λ (v : Reg × State). mark_at 93 v.1 >>= λ (closed : State). k v.0 closed))
     (λ ps. ap (λ (r : Result B ParseFault). fault_in r) (scaled_steps B (st line e ps) k))
-    (mark_node few B labelled 91 line e (λ opened. register_at opened >>= λ (v : Reg × State). mark_at 93 v.1 >>= λ (closed : State). k v.0 closed) refl refl (behind_bracket_good few B labelled line e k g))
+    (mark_node few B 91 line e (λ opened. register_at opened >>= λ (v : Reg × State). mark_at 93 v.1 >>= λ (closed : State). k v.0 closed) refl refl (behind_bracket_good few B line e k g))
 
 -- behind the base register
 
@@ -122,15 +122,15 @@ comma_split : (A B C : Type 0) (r : Result State ParseFault) (slot : State → R
 comma_split A B C (Ok t) slot f k = mapped A B C (slot t) f k
 comma_split A B C (Err g) slot f k = refl
 
-pub index_node : (few : ℕ) (B : Type 0) (labelled : Bool) (line e : ℕ) (k : Index → State → Result B ParseFault) → ((x : Index) → Good few labelled line e (λ ps. fault_in (k x (st line e ps)))) → Node few false no_name labelled line e (reader_of line e index_at k)
+pub index_node : (few : ℕ) (B : Type 0) (line e : ℕ) (k : Index → State → Result B ParseFault) → ((x : Index) → Good few line e (λ ps. fault_in (k x (st line e ps)))) → Node few false no_name line e (reader_of line e index_at k)
 unfolding index_at
-index_node few B labelled line e k g =
-    or_mark few false no_name labelled line e 91 (reader_of line e index_at k) offset (behind_bracket line e (λ r. k (index.Scaled r))) refl (inr refl) bracket otherwise refl
-    (behind_bracket_good few B labelled line e (λ r. k (index.Scaled r)) (λ r. g (index.Scaled r)))
-    (node_as few false no_name labelled line e offset (λ ps. fault_in (mark_at 44 (st line e ps) >>= λ (t : State). operand_at t >>= λ (x : Operand × State). k (index.Offset x.0) x.1))
+index_node few B line e k g =
+    or_mark few false no_name line e 91 (reader_of line e index_at k) offset (behind_bracket line e (λ r. k (index.Scaled r))) refl (inr refl) bracket otherwise refl
+    (behind_bracket_good few B line e (λ r. k (index.Scaled r)) (λ r. g (index.Scaled r)))
+    (node_as few false no_name line e offset (λ ps. fault_in (mark_at 44 (st line e ps) >>= λ (t : State). operand_at t >>= λ (x : Operand × State). k (index.Offset x.0) x.1))
     (λ ps. ap (λ (r : Result B ParseFault). fault_in r) (comma_split Operand B Index (mark_at 44 (st line e ps)) operand_at (λ x. index.Offset x) k))
-    (mark_node few B labelled 44 line e (λ t. operand_at t >>= λ (x : Operand × State). k (index.Offset x.0) x.1) refl refl
-    (good few true own_names labelled line e (reader_of line e operand_at (λ x. k (index.Offset x))) (operand_node few B labelled line e (λ x. k (index.Offset x)) (λ x. g (index.Offset x))))))
+    (mark_node few B 44 line e (λ t. operand_at t >>= λ (x : Operand × State). k (index.Offset x.0) x.1) refl refl
+    (good few true own_names line e (reader_of line e operand_at (λ x. k (index.Offset x))) (operand_node few B line e (λ x. k (index.Offset x)) (λ x. g (index.Offset x))))))
   where
     offset : Reader
     offset ps = fault_in ((mark_at 44 (st line e ps) >>= λ (t : State). operand_at t >>= λ (x : Operand × State). let y : Read Index = Ok (index.Offset x.0, x.1) in y) >>= λ (z : Index × State). k z.0 z.1)
@@ -144,15 +144,15 @@ index_node few B labelled line e k g =
     otherwise : (p : Piece) (ps : List Piece) → is_mark_of 91 (Some p.says) ≡ false → reader_of line e index_at k (p ∷ ps) ≡ offset (p ∷ ps)
     otherwise p ps t = ap (λ (r : Read Index). fault_in (r >>= λ (z : Index × State). k z.0 z.1)) (take_else (is_mark_of 91 (Some p.says)) _ _ t)
 
-pub user_index_node : (few : ℕ) (B : Type 0) (labelled : Bool) (line e : ℕ) (k : Reg × Bool → State → Result B ParseFault) → ((x : Reg × Bool) → Good few labelled line e (λ ps. fault_in (k x (st line e ps)))) → Node few false no_name labelled line e (reader_of line e user_index_at k)
+pub user_index_node : (few : ℕ) (B : Type 0) (line e : ℕ) (k : Reg × Bool → State → Result B ParseFault) → ((x : Reg × Bool) → Good few line e (λ ps. fault_in (k x (st line e ps)))) → Node few false no_name line e (reader_of line e user_index_at k)
 unfolding user_index_at
-user_index_node few B labelled line e k g =
-    or_mark few false no_name labelled line e 91 (reader_of line e user_index_at k) offset (behind_bracket line e (λ r. k (r, true))) refl (inr refl) bracket otherwise refl
-    (behind_bracket_good few B labelled line e (λ r. k (r, true)) (λ r. g (r, true)))
-    (node_as few false no_name labelled line e offset (λ ps. fault_in (mark_at 44 (st line e ps) >>= λ (t : State). register_at t >>= λ (x : Reg × State). k (x.0, false) x.1))
+user_index_node few B line e k g =
+    or_mark few false no_name line e 91 (reader_of line e user_index_at k) offset (behind_bracket line e (λ r. k (r, true))) refl (inr refl) bracket otherwise refl
+    (behind_bracket_good few B line e (λ r. k (r, true)) (λ r. g (r, true)))
+    (node_as few false no_name line e offset (λ ps. fault_in (mark_at 44 (st line e ps) >>= λ (t : State). register_at t >>= λ (x : Reg × State). k (x.0, false) x.1))
     (λ ps. ap (λ (r : Result B ParseFault). fault_in r) (comma_split Reg B (Reg × Bool) (mark_at 44 (st line e ps)) register_at (λ x. (x, false)) k))
-    (mark_node few B labelled 44 line e (λ t. register_at t >>= λ (x : Reg × State). k (x.0, false) x.1) refl refl
-    (good few false own_names labelled line e (reader_of line e register_at (λ x. k (x, false))) (one_token few Reg B false own_names labelled line e register_at (one_register line e) (λ x. k (x, false)) (λ x. g (x, false))))))
+    (mark_node few B 44 line e (λ t. register_at t >>= λ (x : Reg × State). k (x.0, false) x.1) refl refl
+    (good few false own_names line e (reader_of line e register_at (λ x. k (x, false))) (one_token few Reg B false own_names line e register_at (one_register line e) (λ x. k (x, false)) (λ x. g (x, false))))))
   where
     offset : Reader
     offset ps = fault_in ((mark_at 44 (st line e ps) >>= λ (t : State). register_at t >>= λ (x : Reg × State). let y : Read (Reg × Bool) = Ok ((x.0, false), x.1) in y) >>= λ (z : (Reg × Bool) × State). k z.0 z.1)
@@ -172,16 +172,16 @@ user_index_node few B labelled line e k g =
 abbrev after_width : {B : Type 0} → (Field → State → Result B ParseFault) → ℕ → State → Result B ParseFault
 after_width k width s = mark_at 60 s >>= λ (opened : State). number_at 31 opened >>= λ (offset : ℕ × State). mark_at 62 offset.1 >>= λ (closed : State). k (field.Literal width offset.0) closed
 
-offset_good : (few : ℕ) (B : Type 0) (labelled : Bool) (line e width : ℕ) (k : Field → State → Result B ParseFault) → ((x : Field) → Good few labelled line e (λ ps. fault_in (k x (st line e ps))))
-    → Good few labelled line e (reader_of line e (number_at 31) (λ offset s. mark_at 62 s >>= λ (closed : State). k (field.Literal width offset) closed))
-offset_good few B labelled line e width k g =
-    good few true no_name labelled line e (reader_of line e (number_at 31) (λ offset s. mark_at 62 s >>= λ (closed : State). k (field.Literal width offset) closed))
-    (one_token few ℕ B true no_name labelled line e (number_at 31) (one_number 31 line e) (λ offset s. mark_at 62 s >>= λ (closed : State). k (field.Literal width offset) closed)
-    (λ offset. good few false no_name labelled line e (λ ps. fault_in (mark_at 62 (st line e ps) >>= λ (closed : State). k (field.Literal width offset) closed)) (mark_node few B labelled 62 line e (λ closed. k (field.Literal width offset) closed) refl refl (g (field.Literal width offset)))))
+offset_good : (few : ℕ) (B : Type 0) (line e width : ℕ) (k : Field → State → Result B ParseFault) → ((x : Field) → Good few line e (λ ps. fault_in (k x (st line e ps))))
+    → Good few line e (reader_of line e (number_at 31) (λ offset s. mark_at 62 s >>= λ (closed : State). k (field.Literal width offset) closed))
+offset_good few B line e width k g =
+    good few true no_name line e (reader_of line e (number_at 31) (λ offset s. mark_at 62 s >>= λ (closed : State). k (field.Literal width offset) closed))
+    (one_token few ℕ B true no_name line e (number_at 31) (one_number 31 line e) (λ offset s. mark_at 62 s >>= λ (closed : State). k (field.Literal width offset) closed)
+    (λ offset. good few false no_name line e (λ ps. fault_in (mark_at 62 (st line e ps) >>= λ (closed : State). k (field.Literal width offset) closed)) (mark_node few B 62 line e (λ closed. k (field.Literal width offset) closed) refl refl (g (field.Literal width offset)))))
 
-after_width_node : (few : ℕ) (B : Type 0) (labelled : Bool) (line e width : ℕ) (k : Field → State → Result B ParseFault) → ((x : Field) → Good few labelled line e (λ ps. fault_in (k x (st line e ps)))) → Node few false no_name labelled line e (λ ps. fault_in (after_width k width (st line e ps)))
-after_width_node few B labelled line e width k g =
-    mark_node few B labelled 60 line e (λ opened. number_at 31 opened >>= λ (offset : ℕ × State). mark_at 62 offset.1 >>= λ (closed : State). k (field.Literal width offset.0) closed) refl refl (offset_good few B labelled line e width k g)
+after_width_node : (few : ℕ) (B : Type 0) (line e width : ℕ) (k : Field → State → Result B ParseFault) → ((x : Field) → Good few line e (λ ps. fault_in (k x (st line e ps)))) → Node few false no_name line e (λ ps. fault_in (after_width k width (st line e ps)))
+after_width_node few B line e width k g =
+    mark_node few B 60 line e (λ opened. number_at 31 opened >>= λ (offset : ℕ × State). mark_at 62 offset.1 >>= λ (closed : State). k (field.Literal width offset.0) closed) refl refl (offset_good few B line e width k g)
 
 offset_split : (B : Type 0) (width : ℕ) (r : Read ℕ) (k : Field → State → Result B ParseFault)
     → ((r >>= λ (offset : ℕ × State). mark_at 62 offset.1 >>= λ (closed : State). let y : Read Field = Ok (field.Literal width offset.0, closed) in y) >>= λ (z : Field × State). k z.0 z.1)
@@ -205,12 +205,12 @@ literal_steps : (B : Type 0) (most : ℕ) (s : State) (k : Field → State → R
 unfolding literal_at width_at
 literal_steps B most s k = literal_split B (if is_next 60 s then Ok (0, s) else number_at most s) k
 
-literal_node : (few : ℕ) (B : Type 0) (labelled : Bool) (line e most : ℕ) (k : Field → State → Result B ParseFault) → ((x : Field) → Good few labelled line e (λ ps. fault_in (k x (st line e ps)))) → Node few true no_name labelled line e (reader_of line e (literal_at most) k)
-literal_node few B labelled line e most k g =
-    or_mark few true no_name labelled line e 60 (reader_of line e (literal_at most) k) (reader_of line e (number_at most) (λ width s. after_width k width s))
+literal_node : (few : ℕ) (B : Type 0) (line e most : ℕ) (k : Field → State → Result B ParseFault) → ((x : Field) → Good few line e (λ ps. fault_in (k x (st line e ps)))) → Node few true no_name line e (reader_of line e (literal_at most) k)
+literal_node few B line e most k g =
+    or_mark few true no_name line e 60 (reader_of line e (literal_at most) k) (reader_of line e (number_at most) (λ width s. after_width k width s))
     (reader_of line e (number_at 31) (λ offset s. mark_at 62 s >>= λ (closed : State). k (field.Literal 0 offset) closed)) refl (inl refl) opened numbered (ap (λ (r : Result B ParseFault). fault_in r) (literal_steps B most (st line e []) k))
-    (offset_good few B labelled line e 0 k g)
-    (one_token few ℕ B true no_name labelled line e (number_at most) (one_number most line e) (λ width s. after_width k width s) (λ width. good few false no_name labelled line e (λ ps. fault_in (after_width k width (st line e ps))) (after_width_node few B labelled line e width k g)))
+    (offset_good few B line e 0 k g)
+    (one_token few ℕ B true no_name line e (number_at most) (one_number most line e) (λ width s. after_width k width s) (λ width. good few false no_name line e (λ ps. fault_in (after_width k width (st line e ps))) (after_width_node few B line e width k g)))
   where
     opened : (p : Piece) (ps : List Piece) → is_mark_of 60 (Some p.says) ≡ true → reader_of line e (literal_at most) k (p ∷ ps) ≡ reader_of line e (number_at 31) (λ offset s. mark_at 62 s >>= λ (closed : State). k (field.Literal 0 offset) closed) ps
     opened p ps t =
@@ -228,9 +228,9 @@ plain_or_named m number_is = refl
 plain_or_named m text_is = refl
 plain_or_named m mark_is = refl
 
-pub field_node : (few : ℕ) (B : Type 0) (labelled : Bool) (line e most : ℕ) (k : Field → State → Result B ParseFault) → ((x : Field) → Good few labelled line e (λ ps. fault_in (k x (st line e ps)))) → Node few true own_names labelled line e (reader_of line e (field_at most) k)
+pub field_node : (few : ℕ) (B : Type 0) (line e most : ℕ) (k : Field → State → Result B ParseFault) → ((x : Field) → Good few line e (λ ps. fault_in (k x (st line e ps)))) → Node few true own_names line e (reader_of line e (field_at most) k)
 unfolding field_at register_at register_of
-field_node few B labelled line e most k g = record {
+field_node few B line e most k g = record {
   wants = record {
     numbers = let w = lit.wants.numbers in (w.0, w.1, w.2, (w.3.0, as_literal w.0 w.3.0 (a_number w.1) w.2 number_is ∙ w.3.1));
     names = ((saying (a_name (codes "r0")), codes "r0", refl, register_goes), (any, codes "x", any_is_symbol, never true own_names line (reader_of line e (field_at most) k) any (no_register any (codes "x") any_is_symbol.0 refl)));
@@ -241,8 +241,8 @@ field_node few B labelled line e most k g = record {
   each = λ p. by_says p p.says refl;
 }
   where
-    lit : Node few true no_name labelled line e (reader_of line e (literal_at most) k)
-    lit = literal_node few B labelled line e most k g
+    lit : Node few true no_name line e (reader_of line e (literal_at most) k)
+    lit = literal_node few B line e most k g
 
     as_literal : (p : Piece) (ps : List Piece) (m : Meaning) → p.says ≡ m → NoName m → reader_of line e (field_at most) k (p ∷ ps) ≡ reader_of line e (literal_at most) k (p ∷ ps)
     as_literal p ps m h number_is = ap (λ (o : Meaning). fault_in (field_on most (st line e (p ∷ ps)) (Some o) >>= λ (z : Field × State). k z.0 z.1)) h
@@ -264,20 +264,20 @@ field_node few B labelled line e most k g = record {
         ∙ ap (λ (o : Option ℕ). fault_in (as_register (st line e (p ∷ ps)) o >>= λ (r : Reg × State). k (field.Register r.0) r.1)) n
         ∙ ap (λ (m : Meaning). here line p.col (kind_for true own_names m)) (sym h)
 
-    name_by : (p : Piece) (text : List ℕ) → p.says ≡ a_name text → (o : Option ℕ) → register_of text ≡ o → Leads few true labelled line e (reader_of line e (field_at most) k) p ⊎ Faults true own_names line (reader_of line e (field_at most) k) p
+    name_by : (p : Piece) (text : List ℕ) → p.says ≡ a_name text → (o : Option ℕ) → register_of text ≡ o → Leads few true line e (reader_of line e (field_at most) k) p ⊎ Faults true own_names line (reader_of line e (field_at most) k) p
     name_by p text h (Some n) i =
-        inl (leads few true labelled line e (reader_of line e (field_at most) k) (λ ps. fault_in (k (field.Register (reg_of n)) (st line e ps))) p (g (field.Register (reg_of n)))
+        inl (leads few true line e (reader_of line e (field_at most) k) (λ ps. fault_in (k (field.Register (reg_of n)) (st line e ps))) p (g (field.Register (reg_of n)))
         (λ ps. as_register_at p ps text h ∙ ap (λ (o : Option ℕ). fault_in (as_register (st line e (p ∷ ps)) o >>= λ (r : Reg × State). k (field.Register r.0) r.1)) i) (inl (no_minus p text h)))
     name_by p text h None i = inr (no_register p text h i)
 
-    literal_by : (p : Piece) (m : Meaning) → p.says ≡ m → NoName m → Leads few true labelled line e (reader_of line e (field_at most) k) p ⊎ Faults true own_names line (reader_of line e (field_at most) k) p
+    literal_by : (p : Piece) (m : Meaning) → p.says ≡ m → NoName m → Leads few true line e (reader_of line e (field_at most) k) p ⊎ Faults true own_names line (reader_of line e (field_at most) k) p
     literal_by p m h z = elim (lit.each p) [
-      | inl l ↦ inl (leads_as few true labelled line e (reader_of line e (field_at most) k) (reader_of line e (literal_at most) k) p (λ ps. as_literal p ps m h z) l)
+      | inl l ↦ inl (leads_as few true line e (reader_of line e (field_at most) k) (reader_of line e (literal_at most) k) p (λ ps. as_literal p ps m h z) l)
       | inr f ↦
           inr (λ ps. as_literal p ps m h z ∙ f ps ∙ ap (λ (o : Meaning). here line p.col (kind_for true no_name o)) h ∙ ap (here line p.col) (plain_or_named m z) ∙ ap (λ (o : Meaning). here line p.col (kind_for true own_names o)) (sym h))
     ]
 
-    by_says : (p : Piece) (m : Meaning) → p.says ≡ m → Leads few true labelled line e (reader_of line e (field_at most) k) p ⊎ Faults true own_names line (reader_of line e (field_at most) k) p
+    by_says : (p : Piece) (m : Meaning) → p.says ≡ m → Leads few true line e (reader_of line e (field_at most) k) p ⊎ Faults true own_names line (reader_of line e (field_at most) k) p
     by_says p (a_name text) h = name_by p text h (register_of text) refl
     by_says p (a_number n) h = literal_by p (a_number n) h number_is
     by_says p (a_text bytes) h = literal_by p (a_text bytes) h text_is

@@ -39,21 +39,24 @@ stated_fault : (r : Result Body ParseFault) (g : Body → Row) → fault_in (r >
 stated_fault (Ok b) g = refl
 stated_fault (Err f) g = refl
 
-heard_plain : (labelled : Bool) (line e : ℕ) (p : Piece) (ps : List Piece) (m : Meaning) → p.says ≡ m → is_head_on (Some m) ≡ false → heard labelled line e (p ∷ ps) ≡ fault_in (operation_on (st line e (p ∷ ps)) (Some m))
-unfolding operation_at
-heard_plain true line e p ps m h n = ap (λ (o : Meaning). fault_in (operation_on (st line e (p ∷ ps)) (Some o))) h
-heard_plain false line e p ps m h n =
-    ap (λ (r : Result Row ParseFault). fault_in r) (take_else (is_head_on (Some p.says)) _ _ (ap (λ (o : Meaning). is_head_on (Some o)) h ∙ n))
+heard_body : (line e : ℕ) (p : Piece) (ps : List Piece) → is_head_on (Some p.says) ≡ false → heard line e (p ∷ ps) ≡ fault_in (operation_at (st line e (p ∷ ps)))
+heard_body line e p ps n =
+    ap (λ (r : Result Row ParseFault). fault_in r) (take_else (is_head_on (Some p.says)) _ _ n)
     ∙ stated_fault (operation_at (st line e (p ∷ ps))) (λ b. statement (st line e (p ∷ ps)) None (place (st line e (p ∷ ps))) b)
+
+heard_plain : (line e : ℕ) (p : Piece) (ps : List Piece) (m : Meaning) → p.says ≡ m → is_head_on (Some m) ≡ false → heard line e (p ∷ ps) ≡ fault_in (operation_on (st line e (p ∷ ps)) (Some m))
+unfolding operation_at
+heard_plain line e p ps m h n =
+    heard_body line e p ps (ap (λ (o : Meaning). is_head_on (Some o)) h ∙ n)
     ∙ ap (λ (o : Meaning). fault_in (operation_on (st line e (p ∷ ps)) (Some o))) h
 
-heard_named : (labelled : Bool) (line e : ℕ) (p : Piece) (ps : List Piece) (name : List ℕ) → p.says ≡ a_name name → is_module name ≡ false → heard labelled line e (p ∷ ps) ≡ fault_in (by_form (st line e (p ∷ ps)) (form_named name))
-heard_named labelled line e p ps name h n = heard_plain labelled line e p ps (a_name name) h n ∙ ap (λ (r : Result Body ParseFault). fault_in r) (take_else (is_module name) _ _ n)
+heard_named : (line e : ℕ) (p : Piece) (ps : List Piece) (name : List ℕ) → p.says ≡ a_name name → is_module name ≡ false → heard line e (p ∷ ps) ≡ fault_in (by_form (st line e (p ∷ ps)) (form_named name))
+heard_named line e p ps name h n = heard_plain line e p ps (a_name name) h n ∙ ap (λ (r : Result Body ParseFault). fault_in r) (take_else (is_module name) _ _ n)
 
-heard_other : (labelled : Bool) (line e : ℕ) (p : Piece) (ps : List Piece) (m : Meaning) → p.says ≡ m → NoName m → heard labelled line e (p ∷ ps) ≡ here line p.col Syntax
-heard_other labelled line e p ps m h number_is = heard_plain labelled line e p ps m h refl
-heard_other labelled line e p ps m h text_is = heard_plain labelled line e p ps m h refl
-heard_other labelled line e p ps m h mark_is = heard_plain labelled line e p ps m h refl
+heard_other : (line e : ℕ) (p : Piece) (ps : List Piece) (m : Meaning) → p.says ≡ m → NoName m → heard line e (p ∷ ps) ≡ here line p.col Syntax
+heard_other line e p ps m h number_is = heard_plain line e p ps m h refl
+heard_other line e p ps m h text_is = heard_plain line e p ps m h refl
+heard_other line e p ps m h mark_is = heard_plain line e p ps m h refl
 
 -- what may stand first
 
@@ -64,42 +67,42 @@ text_says : IsNamed (codes ".text") text_piece
 unfolding text_piece
 text_says = refl
 
-begins : (labelled : Bool) → Continues labelled []
-begins labelled = (text_piece ∷ [], operation (text_body text_says))
+begins : Continues []
+begins = (text_piece ∷ [], operation (text_body text_says))
 
 unnamed : form_named (codes "x") ≡ None
 unfolding text_of all_mnemonics directive_text all_directives
 unnamed = refl
 
-not_first : (labelled : Bool) (p : Piece) → ((ps : List Piece) → heard labelled 0 0 (p ∷ ps) ≡ None → ⊥) → MayFollow labelled [] p → ⊥
-not_first labelled p n x = n x.0 (is_heard labelled 0 0 (p ∷ x.0) x.1)
+not_first : (p : Piece) → ((ps : List Piece) → heard 0 0 (p ∷ ps) ≡ None → ⊥) → MayFollow [] p → ⊥
+not_first p n x = n x.0 (is_heard 0 0 (p ∷ x.0) x.1)
 
-no_any : (labelled : Bool) (ps : List Piece) → heard labelled 0 0 (any ∷ ps) ≡ None → ⊥
-no_any labelled ps h =
-    let x : heard labelled 0 0 (any ∷ ps) ≡ here 0 any.col NoSuchName = heard_named labelled 0 0 any ps (codes "x") any_is_symbol.0 refl ∙ ap (λ (o : Option Form). fault_in (by_form (st 0 0 (any ∷ ps)) o)) unnamed in
+no_any : (ps : List Piece) → heard 0 0 (any ∷ ps) ≡ None → ⊥
+no_any ps h =
+    let x : heard 0 0 (any ∷ ps) ≡ here 0 any.col NoSuchName = heard_named 0 0 any ps (codes "x") any_is_symbol.0 refl ∙ ap (λ (o : Option Form). fault_in (by_form (st 0 0 (any ∷ ps)) o)) unnamed in
     let y : ◌≡◌ {A = Option ParseFault} (here 0 any.col NoSuchName) None = sym x ∙ h in
     absurd cc
 
-no_other : (labelled : Bool) (p : Piece) (m : Meaning) → p.says ≡ m → NoName m → (ps : List Piece) → heard labelled 0 0 (p ∷ ps) ≡ None → ⊥
-no_other labelled p m h z ps n = let y : ◌≡◌ {A = Option ParseFault} (here 0 p.col Syntax) None = sym (heard_other labelled 0 0 p ps m h z) ∙ n in absurd cc
+no_other : (p : Piece) (m : Meaning) → p.says ≡ m → NoName m → (ps : List Piece) → heard 0 0 (p ∷ ps) ≡ None → ⊥
+no_other p m h z ps n = let y : ◌≡◌ {A = Option ParseFault} (here 0 p.col Syntax) None = sym (heard_other 0 0 p ps m h z) ∙ n in absurd cc
 
-first_wanted : (labelled : Bool) → Wanted false own_names labelled []
-first_wanted labelled = record {
-  numbers = λ x. not_first labelled x.0 (no_other labelled x.0 (a_number x.1) x.2 number_is) x.3;
-  names = ((text_piece, codes ".text", text_says, ([], operation (text_body text_says))), λ all. not_first labelled any (no_any labelled) (all any (codes "x") any_is_symbol));
-  opening = λ o h. not_first labelled o (no_other labelled o (a_mark 40) h mark_is);
+first_wanted : Wanted false own_names []
+first_wanted = record {
+  numbers = λ x. not_first x.0 (no_other x.0 (a_number x.1) x.2 number_is) x.3;
+  names = ((text_piece, codes ".text", text_says, ([], operation (text_body text_says))), λ all. not_first any (no_any) (all any (codes "x") any_is_symbol));
+  opening = λ o h. not_first o (no_other o (a_mark 40) h mark_is);
 }
 
 no_last : (before : List Piece) (p : Piece) → ◌≡◌ {A = List Piece} [] (before ++ p ∷ []) → ⊥
 no_last [] p h = absurd cc
 no_last (q ∷ before) p h = absurd cc
 
-first_told : (labelled : Bool) (line e : ℕ) (p : Piece) (ps : List Piece) (f : ParseFault) → ((l c : ℕ) (qs : List Piece) → heard labelled l c (p ∷ qs) ≡ here l p.col (kind_for false own_names p.says)) → heard labelled line e (p ∷ ps) ≡ Some f
-    → Told labelled line (p ∷ ps) f
-first_told labelled line e p ps f x h =
-    told labelled line [] (p ∷ ps) p.col (kind_for false own_names p.says) f (begins labelled)
-    (not_first labelled p (λ qs n. let y : ◌≡◌ {A = Option ParseFault} (here 0 p.col (kind_for false own_names p.says)) None = sym (x 0 0 qs) ∙ n in absurd cc))
-    (misplaced (λ g y. no_last y.before g y.tokens) (misplaced_by false own_names labelled [] p p.says refl (λ m y. no_last y.before m y.tokens) (first_wanted labelled)))
+first_told : (line e : ℕ) (p : Piece) (ps : List Piece) (f : ParseFault) → ((l c : ℕ) (qs : List Piece) → heard l c (p ∷ qs) ≡ here l p.col (kind_for false own_names p.says)) → heard line e (p ∷ ps) ≡ Some f
+    → Told line (p ∷ ps) f
+first_told line e p ps f x h =
+    told line [] (p ∷ ps) p.col (kind_for false own_names p.says) f (begins)
+    (not_first p (λ qs n. let y : ◌≡◌ {A = Option ParseFault} (here 0 p.col (kind_for false own_names p.says)) None = sym (x 0 0 qs) ∙ n in absurd cc))
+    (misplaced (λ g y. no_last y.before g y.tokens) (misplaced_by false own_names [] p p.says refl (λ m y. no_last y.before m y.tokens) (first_wanted)))
     (sym h ∙ x line e ps)
 
 -- an operation by its name
@@ -107,65 +110,63 @@ first_told labelled line e p ps f x h =
 no_minus : (p : Piece) (name : List ℕ) → p.says ≡ a_name name → IsMark 45 p → ⊥
 no_minus p name h m = let x = sym h ∙ m in cc
 
-by_good : (labelled : Bool) (line e : ℕ) (p : Piece) (ps : List Piece) (f : ParseFault) (name : List ℕ) (k : Reader) → p.says ≡ a_name name → ((qs : List Piece) → heard labelled line e (p ∷ qs) ≡ k qs)
-    → Good (suc (length ps)) labelled line e k → EndsAt (p ∷ ps) e → heard labelled line e (p ∷ ps) ≡ Some f → Told labelled line (p ∷ ps) f
-by_good labelled line e p ps f name k h x g a i = g.1 (p ∷ []) (fresh_behind labelled [] p (no_minus p name h)) x ps f (omega arith) a i
+by_good : (line e : ℕ) (p : Piece) (ps : List Piece) (f : ParseFault) (name : List ℕ) (k : Reader) → p.says ≡ a_name name → ((qs : List Piece) → heard line e (p ∷ qs) ≡ k qs)
+    → Good (suc (length ps)) line e k → EndsAt (p ∷ ps) e → heard line e (p ∷ ps) ≡ Some f → Told line (p ∷ ps) f
+by_good line e p ps f name k h x g a i = g.1 (p ∷ []) (fresh_behind [] p (no_minus p name h)) x ps f (omega arith) a i
 
-form_told : (labelled : Bool) (line e : ℕ) (p : Piece) (ps : List Piece) (f : ParseFault) (name : List ℕ) (form : Form) → p.says ≡ a_name name → is_module name ≡ false → form_named name ≡ Some form
-    → FormGood (suc (length ps)) labelled line e form → EndsAt (p ∷ ps) e → heard labelled line e (p ∷ ps) ≡ Some f → Told labelled line (p ∷ ps) f
-form_told labelled line e p ps f name form h n i g =
-    by_good labelled line e p ps f name (λ qs. fault_in (read form (st line e qs))) h (λ qs. heard_named labelled line e p qs name h n ∙ ap (λ (o : Option Form). fault_in (by_form (st line e (p ∷ qs)) o)) i) g
+form_told : (line e : ℕ) (p : Piece) (ps : List Piece) (f : ParseFault) (name : List ℕ) (form : Form) → p.says ≡ a_name name → is_module name ≡ false → form_named name ≡ Some form
+    → FormGood (suc (length ps)) line e form → EndsAt (p ∷ ps) e → heard line e (p ∷ ps) ≡ Some f → Told line (p ∷ ps) f
+form_told line e p ps f name form h n i g =
+    by_good line e p ps f name (λ qs. fault_in (read form (st line e qs))) h (λ qs. heard_named line e p qs name h n ∙ ap (λ (o : Option Form). fault_in (by_form (st line e (p ∷ qs)) o)) i) g
 
-named_told : (labelled : Bool) (line e : ℕ) (p : Piece) (ps : List Piece) (f : ParseFault) (name : List ℕ) (m : Option Mnemonic) (d : Option Directive) → p.says ≡ a_name name → is_module name ≡ false → mnemonic_of name ≡ m → directive_of name ≡ d
-    → EndsAt (p ∷ ps) e → heard labelled line e (p ∷ ps) ≡ Some f → Told labelled line (p ∷ ps) f
-named_told labelled line e p ps f name (Some m) d h n i j =
-    form_told labelled line e p ps f name (form_of (shape_of m)) h n (ap (λ (o : Option Mnemonic). form_in o (directive_of name)) i) (instruction_good (suc (length ps)) labelled line e (shape_of m))
-named_told labelled line e p ps f name None (Some d) h n i j =
-    form_told labelled line e p ps f name (directive_form d) h n (ap₂ (λ (a : Option Mnemonic) (b : Option Directive). form_in a b) i j) (directive_good (suc (length ps)) labelled line e d)
-named_told labelled line e p ps f name None None h n i j =
-    λ a. first_told labelled line e p ps f
-    (λ l c qs. heard_named labelled l c p qs name h n ∙ ap₂ (λ (a : Option Mnemonic) (b : Option Directive). fault_in (by_form (st l c (p ∷ qs)) (form_in a b))) i j ∙ ap (λ (o : Meaning). here l p.col (kind_for false own_names o)) (sym h))
+named_told : (line e : ℕ) (p : Piece) (ps : List Piece) (f : ParseFault) (name : List ℕ) (m : Option Mnemonic) (d : Option Directive) → p.says ≡ a_name name → is_module name ≡ false → mnemonic_of name ≡ m → directive_of name ≡ d
+    → EndsAt (p ∷ ps) e → heard line e (p ∷ ps) ≡ Some f → Told line (p ∷ ps) f
+named_told line e p ps f name (Some m) d h n i j =
+    form_told line e p ps f name (form_of (shape_of m)) h n (ap (λ (o : Option Mnemonic). form_in o (directive_of name)) i) (instruction_good (suc (length ps)) line e (shape_of m))
+named_told line e p ps f name None (Some d) h n i j =
+    form_told line e p ps f name (directive_form d) h n (ap₂ (λ (a : Option Mnemonic) (b : Option Directive). form_in a b) i j) (directive_good (suc (length ps)) line e d)
+named_told line e p ps f name None None h n i j =
+    λ a. first_told line e p ps f
+    (λ l c qs. heard_named l c p qs name h n ∙ ap₂ (λ (a : Option Mnemonic) (b : Option Directive). fault_in (by_form (st l c (p ∷ qs)) (form_in a b))) i j ∙ ap (λ (o : Meaning). here l p.col (kind_for false own_names o)) (sym h))
 
 -- the head of a module
 
-head_reader : (line e : ℕ) (p : Piece) (ps : List Piece) (name : List ℕ) → p.says ≡ a_name name → is_module name ≡ true → heard false line e (p ∷ ps) ≡ reader_of line e any_name_at (λ x s. end_at s >>= λ (t : State). let y : Result Row ParseFault = Ok (row.Head x line) in y) ps
+head_reader : (line e : ℕ) (p : Piece) (ps : List Piece) (name : List ℕ) → p.says ≡ a_name name → is_module name ≡ true → heard line e (p ∷ ps) ≡ reader_of line e any_name_at (λ x s. end_at s >>= λ (t : State). let y : Result Row ParseFault = Ok (row.Head x line) in y) ps
 unfolding head_at
 head_reader line e p ps name h t = ap (λ (r : Result Row ParseFault). fault_in r) (take_then (is_head_on (Some p.says)) _ _ (ap (λ (o : Meaning). is_head_on (Some o)) h ∙ t))
 
-head_good : (few line e : ℕ) → Good few false line e (reader_of line e any_name_at (λ x s. end_at s >>= λ (t : State). let y : Result Row ParseFault = Ok (row.Head x line) in y))
+head_good : (few line e : ℕ) → Good few line e (reader_of line e any_name_at (λ x s. end_at s >>= λ (t : State). let y : Result Row ParseFault = Ok (row.Head x line) in y))
 head_good few line e =
-    good few false symbols false line e (reader_of line e any_name_at (λ x s. end_at s >>= λ (t : State). let y : Result Row ParseFault = Ok (row.Head x line) in y))
-    (one_token few (List ℕ) Row false symbols false line e any_name_at (one_any_name line e) (λ x s. end_at s >>= λ (t : State). let y : Result Row ParseFault = Ok (row.Head x line) in y)
-    (λ x. good few false no_name false line e (λ ps. fault_in (end_at (st line e ps) >>= λ (t : State). let y : Result Row ParseFault = Ok (row.Head x line) in y))
-    (node_as few false no_name false line e (λ ps. fault_in (end_at (st line e ps) >>= λ (t : State). let y : Result Row ParseFault = Ok (row.Head x line) in y)) (λ ps. fault_in (end_at (st line e ps)))
-    (λ ps. sym (end_plain Row (row.Head x line) (end_at (st line e ps)))) (end_node few false line e))))
+    good few false symbols line e (reader_of line e any_name_at (λ x s. end_at s >>= λ (t : State). let y : Result Row ParseFault = Ok (row.Head x line) in y))
+    (one_token few (List ℕ) Row false symbols line e any_name_at (one_any_name line e) (λ x s. end_at s >>= λ (t : State). let y : Result Row ParseFault = Ok (row.Head x line) in y)
+    (λ x. good few false no_name line e (λ ps. fault_in (end_at (st line e ps) >>= λ (t : State). let y : Result Row ParseFault = Ok (row.Head x line) in y))
+    (node_as few false no_name line e (λ ps. fault_in (end_at (st line e ps) >>= λ (t : State). let y : Result Row ParseFault = Ok (row.Head x line) in y)) (λ ps. fault_in (end_at (st line e ps)))
+    (λ ps. sym (end_plain Row (row.Head x line) (end_at (st line e ps)))) (end_node few line e))))
 
-module_told : (labelled : Bool) (line e : ℕ) (p : Piece) (ps : List Piece) (f : ParseFault) (name : List ℕ) → p.says ≡ a_name name → is_module name ≡ true → (labelled ≡ true → IsNamed (codes ".module") p → ⊥)
-    → EndsAt (p ∷ ps) e → heard labelled line e (p ∷ ps) ≡ Some f → Told labelled line (p ∷ ps) f
-module_told true line e p ps f name h t n a i = absurd (n refl (head_named p.says (ap (λ (o : Meaning). is_head_on (Some o)) h ∙ t)))
-module_told false line e p ps f name h t n a i =
-    by_good false line e p ps f name (reader_of line e any_name_at (λ x s. end_at s >>= λ (u : State). let y : Result Row ParseFault = Ok (row.Head x line) in y)) h (λ qs. head_reader line e p qs name h t) (head_good (suc (length ps)) line e) a i
+module_told : (line e : ℕ) (p : Piece) (ps : List Piece) (f : ParseFault) (name : List ℕ) → p.says ≡ a_name name → is_module name ≡ true → EndsAt (p ∷ ps) e → heard line e (p ∷ ps) ≡ Some f → Told line (p ∷ ps) f
+module_told line e p ps f name h t a i =
+    by_good line e p ps f name (reader_of line e any_name_at (λ x s. end_at s >>= λ (u : State). let y : Result Row ParseFault = Ok (row.Head x line) in y)) h (λ qs. head_reader line e p qs name h t) (head_good (suc (length ps)) line e) a i
 
-other_told : (labelled : Bool) (line e : ℕ) (p : Piece) (ps : List Piece) (f : ParseFault) (m : Meaning) → p.says ≡ m → NoName m → heard labelled line e (p ∷ ps) ≡ Some f → Told labelled line (p ∷ ps) f
-other_told labelled line e p ps f m h z = first_told labelled line e p ps f (λ l c qs. heard_other labelled l c p qs m h z ∙ same l m h z)
+other_told : (line e : ℕ) (p : Piece) (ps : List Piece) (f : ParseFault) (m : Meaning) → p.says ≡ m → NoName m → heard line e (p ∷ ps) ≡ Some f → Told line (p ∷ ps) f
+other_told line e p ps f m h z = first_told line e p ps f (λ l c qs. heard_other l c p qs m h z ∙ same l m h z)
   where
     same : (l : ℕ) (o : Meaning) → p.says ≡ o → NoName o → here l p.col Syntax ≡ here l p.col (kind_for false own_names p.says)
     same l o i number_is = ap (λ (v : Meaning). here l p.col (kind_for false own_names v)) (sym i)
     same l o i text_is = ap (λ (v : Meaning). here l p.col (kind_for false own_names v)) (sym i)
     same l o i mark_is = ap (λ (v : Meaning). here l p.col (kind_for false own_names v)) (sym i)
 
-pub operation_told : (labelled : Bool) (line e : ℕ) (p : Piece) (ps : List Piece) (f : ParseFault) → (labelled ≡ true → IsNamed (codes ".module") p → ⊥) → EndsAt (p ∷ ps) e → heard labelled line e (p ∷ ps) ≡ Some f → Told labelled line (p ∷ ps) f
-operation_told labelled line e p ps f n a h = by_says p.says refl
+pub operation_told : (line e : ℕ) (p : Piece) (ps : List Piece) (f : ParseFault) → EndsAt (p ∷ ps) e → heard line e (p ∷ ps) ≡ Some f → Told line (p ∷ ps) f
+operation_told line e p ps f a h = by_says p.says refl
   where
-    by_module : (name : List ℕ) → p.says ≡ a_name name → (t : Bool) → is_module name ≡ t → Told labelled line (p ∷ ps) f
-    by_module name i true t = module_told labelled line e p ps f name i t n a h
-    by_module name i false t = named_told labelled line e p ps f name (mnemonic_of name) (directive_of name) i t refl refl a h
+    by_module : (name : List ℕ) → p.says ≡ a_name name → (t : Bool) → is_module name ≡ t → Told line (p ∷ ps) f
+    by_module name i true t = module_told line e p ps f name i t a h
+    by_module name i false t = named_told line e p ps f name (mnemonic_of name) (directive_of name) i t refl refl a h
 
-    by_says : (m : Meaning) → p.says ≡ m → Told labelled line (p ∷ ps) f
+    by_says : (m : Meaning) → p.says ≡ m → Told line (p ∷ ps) f
     by_says (a_name name) i = by_module name i (is_module name) refl
-    by_says (a_number v) i = other_told labelled line e p ps f (a_number v) i number_is h
-    by_says (a_text bytes) i = other_told labelled line e p ps f (a_text bytes) i text_is h
-    by_says (a_mark b) i = other_told labelled line e p ps f (a_mark b) i mark_is h
+    by_says (a_number v) i = other_told line e p ps f (a_number v) i number_is h
+    by_says (a_text bytes) i = other_told line e p ps f (a_text bytes) i text_is h
+    by_says (a_mark b) i = other_told line e p ps f (a_mark b) i mark_is h
 
 -- lines
 
@@ -207,7 +208,7 @@ behind_told line p c (q ∷ rs) name f l h =
           unsaid_is line (p ∷ c ∷ q ∷ rs) q.col Syntax f (labelled_head l n) (module_fault line (end_of (q ∷ rs)) q rs f n o)
       | inr t ↦
           let no : IsNamed (codes ".module") q → ⊥ = λ n. true≢false (sym (ap (λ (m : Meaning). is_head_on (Some m)) n) ∙ t) in
-          let b = operation_told true line (end_of (q ∷ rs)) q rs f (λ x. no) (end_of_is q rs) (ap (λ (r : Result Body ParseFault). fault_in r) o) in
+          let b = operation_told line (end_of (q ∷ rs)) q rs f (end_of_is q rs) (heard_body line (end_of (q ∷ rs)) q rs t ∙ ap (λ (r : Result Body ParseFault). fault_in r) o) in
           (behind_label l no b.0, b.1)
     ]
 
@@ -240,19 +241,19 @@ colon_told line p ps f t h = by_says p.says refl ps t h
 plain_told : (line : ℕ) (p : Piece) (ps : List Piece) (f : ParseFault) → is_label_on (Some p.says) (says_first ps) ≡ false → row_or_head (st line (end_of (p ∷ ps)) (p ∷ ps)) ≡ Err f → UnsaidBy line (p ∷ ps) f
 plain_told line p ps f t h = by_says p.says refl
   where
-    is_told : Told false line (p ∷ ps) f
-    is_told = operation_told false line (end_of (p ∷ ps)) p ps f (λ x. absurd cc) (end_of_is p ps) (ap (λ (r : Result Row ParseFault). fault_in r) h)
+    is_told : Told line (p ∷ ps) f
+    is_told = operation_told line (end_of (p ∷ ps)) p ps f (end_of_is p ps) (ap (λ (r : Result Row ParseFault). fault_in r) h)
 
     no_name_colon : (c : Piece) (qs : List Piece) (m : Meaning) → p.says ≡ m → NoName m → (name : List ℕ) → IsSymbol name p → ⊥
     no_name_colon c qs m i number_is name s = let x = sym i ∙ s.0 in cc
     no_name_colon c qs m i text_is name s = let x = sym i ∙ s.0 in cc
     no_name_colon c qs m i mark_is name s = let x = sym i ∙ s.0 in cc
 
-    by_colon : (qs : List Piece) (m : Meaning) → p.says ≡ m → NoName m → heard false line (end_of (p ∷ qs)) (p ∷ qs) ≡ Some f → Told false line (p ∷ qs) f → UnsaidBy line (p ∷ qs) f
+    by_colon : (qs : List Piece) (m : Meaning) → p.says ≡ m → NoName m → heard line (end_of (p ∷ qs)) (p ∷ qs) ≡ Some f → Told line (p ∷ qs) f → UnsaidBy line (p ∷ qs) f
     by_colon [] m i z k b = (without_label tt b.0, b.1)
     by_colon (c ∷ qs) m i z k b = elim (tested (is_mark_of 58 (Some c.says))) [
       | inl u ↦
-          let x : ◌≡◌ {A = Option ParseFault} (here line p.col Syntax) (Some f) = sym (heard_other false line (end_of (p ∷ c ∷ qs)) p (c ∷ qs) m i z) ∙ k in
+          let x : ◌≡◌ {A = Option ParseFault} (here line p.col Syntax) (Some f) = sym (heard_other line (end_of (p ∷ c ∷ qs)) p (c ∷ qs) m i z) ∙ k in
           unsaid_is line (p ∷ c ∷ qs) p.col Syntax f (no_label (mark_says 58 c.says u) (no_name_colon c qs m i z)) cc
       | inr u ↦ (without_label (λ x. true≢false (sym (ap (λ (o : Meaning). is_mark_of 58 (Some o)) x) ∙ u)) b.0, b.1)
     ]
@@ -275,12 +276,12 @@ unsaid_told number (p ∷ ps) f h =
 
 -- a line that says something has no fault
 
-broken_not : (labelled : Bool) (ps : List Piece) (col : ℕ) (kind : ParseKind) → IsBroken labelled ps col kind → IsOperation labelled ps → ⊥
-broken_not labelled ps col kind b o = by_rest b.rest b.tokens b.stops
+broken_not : (ps : List Piece) (col : ℕ) (kind : ParseKind) → IsBroken ps col kind → IsOperation ps → ⊥
+broken_not ps col kind b o = by_rest b.rest b.tokens b.stops
   where
-    by_rest : (rest : List Piece) → ps ≡ b.front ++ rest → Stops labelled b.front rest → ⊥
-    by_rest [] t s = s (subst (IsOperation labelled) (t ∙ append-nil b.front) o)
-    by_rest (p ∷ rest) t s = s (rest, subst (IsOperation labelled) (t ∙ sym (append_assoc b.front (p ∷ []) rest)) o)
+    by_rest : (rest : List Piece) → ps ≡ b.front ++ rest → Stops b.front rest → ⊥
+    by_rest [] t s = s (subst (IsOperation) (t ∙ append-nil b.front) o)
+    by_rest (p ∷ rest) t s = s (rest, subst (IsOperation) (t ∙ sym (append_assoc b.front (p ∷ []) rest)) o)
 
 module_no_body : (p : Piece) (ps : List Piece) (c : Body) → IsBody (p ∷ ps) c → IsNamed (codes ".module") p → ⊥
 unfolding operation_at
@@ -296,10 +297,10 @@ said_not_unsaid number ps said col kind (statement_line s) u = statement_not num
     statement_not number ps s col kind (plain h k) (no_label c n) = k c
     statement_not number ps s col kind (plain h k) (labelled_head l n) = k l.colon
     statement_not number ps s col kind (plain h k) (behind_label l n b) = k l.colon
-    statement_not number ps s col kind (plain h k) (without_label n b) = broken_not false _ col kind b (operation h)
+    statement_not number ps s col kind (plain h k) (without_label n b) = broken_not _ col kind b (operation h)
     statement_not number ps s col kind (labelled_body {name = name} l h) (no_label c n) = n name l.symbol
     statement_not number ps s col kind (labelled_body l h) (labelled_head k n) = module_no_body _ _ _ h n
-    statement_not number ps s col kind (labelled_body l h) (behind_label k n b) = broken_not true _ col kind b (operation h)
+    statement_not number ps s col kind (labelled_body l h) (behind_label k n b) = broken_not _ col kind b (operation h)
     statement_not number ps s col kind (labelled_body l h) (without_label n b) = n l.colon
     statement_not number ps s col kind (label_alone {name = name} l) (no_label c n) = n name l.symbol
     statement_not number ps s col kind (label_alone l) (without_label n b) = n l.colon
@@ -307,4 +308,4 @@ said_not_unsaid number ps said col kind (module_line h) u = head_not ps _ col ki
   where
     head_not : (ps : List Piece) (name : List ℕ) (col : ℕ) (kind : ParseKind) → IsHead ps name → IsUnsaid ps col kind → ⊥
     head_not ps name col kind (head n k v) (no_label c m) = let x = sym k ∙ c in cc
-    head_not ps name col kind (head n k v) (without_label m b) = broken_not false _ col kind b (head_of_module (head n k v))
+    head_not ps name col kind (head n k v) (without_label m b) = broken_not _ col kind b (head_of_module (head n k v))

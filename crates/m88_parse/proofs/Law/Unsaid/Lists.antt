@@ -122,47 +122,47 @@ pub end_plain : (B : Type 0) (b : B) (r : Result State ParseFault) → fault_in 
 end_plain B b (Ok t) = refl
 end_plain B b (Err f) = refl
 
-pub end_node : (few : ℕ) (labelled : Bool) (line e : ℕ) → Node few false no_name labelled line e (λ ps. fault_in (end_at (st line e ps)))
+pub end_node : (few : ℕ) (line e : ℕ) → Node few false no_name line e (λ ps. fault_in (end_at (st line e ps)))
 unfolding read
-end_node few labelled line e = node_as few false no_name labelled line e (λ ps. fault_in (end_at (st line e ps))) (λ ps. fault_in (read (ends body.Text) (st line e ps))) (λ ps. end_plain Body body.Text (end_at (st line e ps))) (ends_node few labelled line e body.Text)
+end_node few line e = node_as few false no_name line e (λ ps. fault_in (end_at (st line e ps))) (λ ps. fault_in (read (ends body.Text) (st line e ps))) (λ ps. end_plain Body body.Text (end_at (st line e ps))) (ends_node few line e body.Text)
 
 -- lists of items that lead on
 
 abbrev ItemLeads : (A : Type 0) → (State → Read A) → Type 0
-ItemLeads A item = (few : ℕ) (labelled : Bool) (line e : ℕ) (k : A → State → Result State ParseFault) → ((x : A) → Node few false no_name labelled line e (λ ps. fault_in (k x (st line e ps)))) → Good (suc few) labelled line e (reader_of line e item k)
+ItemLeads A item = (few : ℕ) (line e : ℕ) (k : A → State → Result State ParseFault) → ((x : A) → Node few false no_name line e (λ ps. fault_in (k x (st line e ps)))) → Good (suc few) line e (reader_of line e item k)
 
 list_good : (A : Type 0) (Is : List Piece → A → Type 0) (item : State → Read A) → ReadsOnly A Is item → ItemLeads A item → ((line e : ℕ) → Goes (λ ps. list_ended A item (st line e ps)))
-    → (few : ℕ) (labelled : Bool) (line e : ℕ) → Good few labelled line e (λ ps. list_ended A item (st line e ps))
-list_good A Is item reads leads some zero labelled line e = (some line e, λ front u r ps f l. absurd (omega (arith, l)))
-list_good A Is item reads leads some (suc few) labelled line e =
-    good_as (suc few) labelled line e (λ ps. list_ended A item (st line e ps)) (reader_of line e item (list_after A item)) (λ ps. list_step A Is item reads line e ps)
-    (leads few labelled line e (list_after A item) (λ x. after_node x (list_good A Is item reads leads some few labelled line e)))
+    → (few : ℕ) (line e : ℕ) → Good few line e (λ ps. list_ended A item (st line e ps))
+list_good A Is item reads leads some zero line e = (some line e, λ front u r ps f l. absurd (omega (arith, l)))
+list_good A Is item reads leads some (suc few) line e =
+    good_as (suc few) line e (λ ps. list_ended A item (st line e ps)) (reader_of line e item (list_after A item)) (λ ps. list_step A Is item reads line e ps)
+    (leads few line e (list_after A item) (λ x. after_node x (list_good A Is item reads leads some few line e)))
   where
-    after_node : (x : A) → Good few labelled line e (λ ps. list_ended A item (st line e ps)) → Node few false no_name labelled line e (λ ps. fault_in (list_after A item x (st line e ps)))
+    after_node : (x : A) → Good few line e (λ ps. list_ended A item (st line e ps)) → Node few false no_name line e (λ ps. fault_in (list_after A item x (st line e ps)))
     after_node x g =
-        or_mark few false no_name labelled line e 44 (λ ps. fault_in (list_after A item x (st line e ps))) (λ ps. fault_in (end_at (st line e ps))) (λ ps. list_ended A item (st line e ps)) refl (inr refl)
+        or_mark few false no_name line e 44 (λ ps. fault_in (list_after A item x (st line e ps))) (λ ps. fault_in (end_at (st line e ps))) (λ ps. list_ended A item (st line e ps)) refl (inr refl)
         (λ p ps t. ap (λ (r : Result State ParseFault). fault_in r) (take_then (is_mark_of 44 (Some p.says)) _ _ t))
         (λ p ps t. ap (λ (r : Result State ParseFault). fault_in r) (take_else (is_mark_of 44 (Some p.says)) _ _ t))
-        refl g (end_node few labelled line e)
+        refl g (end_node few line e)
 
 -- the three kinds of item
 
 word_leads : ItemLeads Value word_at
-word_leads few labelled line e k n = good_node few true symbols labelled line e (reader_of line e (value_at Abs32) k) (value_node few State labelled Abs32 line e k n)
+word_leads few line e k n = good_node few true symbols line e (reader_of line e (value_at Abs32) k) (value_node few State Abs32 line e k n)
 
 half_leads : ItemLeads ℕ half_word_at
-half_leads few labelled line e k n =
-    good_node few true no_name labelled line e (reader_of line e half_word_at k)
-    (node_as few true no_name labelled line e (reader_of line e half_word_at k) (reader_of line e (whole_at 32768 65535) (λ v. k (v % 65536)))
+half_leads few line e k n =
+    good_node few true no_name line e (reader_of line e half_word_at k)
+    (node_as few true no_name line e (reader_of line e half_word_at k) (reader_of line e (whole_at 32768 65535) (λ v. k (v % 65536)))
     (λ ps. ap (λ (r : Result State ParseFault). fault_in r) (mapped ℕ State ℕ (whole_at 32768 65535 (st line e ps)) (λ v. v % 65536) k))
-    (whole_node few State labelled line e 32768 65535 (λ v. k (v % 65536)) (λ v. good few false no_name labelled line e (λ ps. fault_in (k (v % 65536) (st line e ps))) (n (v % 65536)))))
+    (whole_node few State line e 32768 65535 (λ v. k (v % 65536)) (λ v. good few false no_name line e (λ ps. fault_in (k (v % 65536) (st line e ps))) (n (v % 65536)))))
 
 byte_leads : ItemLeads ℕ byte_at
-byte_leads few labelled line e k n =
-    good_node few true no_name labelled line e (reader_of line e byte_at k)
-    (node_as few true no_name labelled line e (reader_of line e byte_at k) (reader_of line e (whole_at 128 255) (λ v. k (v % 256)))
+byte_leads few line e k n =
+    good_node few true no_name line e (reader_of line e byte_at k)
+    (node_as few true no_name line e (reader_of line e byte_at k) (reader_of line e (whole_at 128 255) (λ v. k (v % 256)))
     (λ ps. ap (λ (r : Result State ParseFault). fault_in r) (mapped ℕ State ℕ (whole_at 128 255 (st line e ps)) (λ v. v % 256) k))
-    (whole_node few State labelled line e 128 255 (λ v. k (v % 256)) (λ v. good few false no_name labelled line e (λ ps. fault_in (k (v % 256) (st line e ps))) (n (v % 256)))))
+    (whole_node few State line e 128 255 (λ v. k (v % 256)) (λ v. good few false no_name line e (λ ps. fault_in (k (v % 256) (st line e ps))) (n (v % 256)))))
 
 some_words : (line e : ℕ) → Goes (λ ps. list_ended Value word_at (st line e ps))
 unfolding many value_at whole_at
@@ -186,17 +186,17 @@ list_body A item made s = by_list (list_at item s)
     by_list (Ok x) = sym (end_plain Body (made x.0) (end_at x.1))
     by_list (Err f) = refl
 
-pub words_good : (few : ℕ) (labelled : Bool) (line e : ℕ) (made : List Value → Body) → Good few labelled line e (λ ps. fault_in (list_at word_at (st line e ps) >>= λ (x : List Value × State). read (ends (made x.0)) x.1))
-words_good few labelled line e made =
-    good_as few labelled line e (λ ps. fault_in (list_at word_at (st line e ps) >>= λ (x : List Value × State). read (ends (made x.0)) x.1)) (λ ps. list_ended Value word_at (st line e ps)) (λ ps. list_body Value word_at made (st line e ps))
-    (list_good Value (IsValue Abs32) word_at word_reads word_leads some_words few labelled line e)
+pub words_good : (few : ℕ) (line e : ℕ) (made : List Value → Body) → Good few line e (λ ps. fault_in (list_at word_at (st line e ps) >>= λ (x : List Value × State). read (ends (made x.0)) x.1))
+words_good few line e made =
+    good_as few line e (λ ps. fault_in (list_at word_at (st line e ps) >>= λ (x : List Value × State). read (ends (made x.0)) x.1)) (λ ps. list_ended Value word_at (st line e ps)) (λ ps. list_body Value word_at made (st line e ps))
+    (list_good Value (IsValue Abs32) word_at word_reads word_leads some_words few line e)
 
-pub halves_good : (few : ℕ) (labelled : Bool) (line e : ℕ) (made : List ℕ → Body) → Good few labelled line e (λ ps. fault_in (list_at half_word_at (st line e ps) >>= λ (x : List ℕ × State). read (ends (made x.0)) x.1))
-halves_good few labelled line e made =
-    good_as few labelled line e (λ ps. fault_in (list_at half_word_at (st line e ps) >>= λ (x : List ℕ × State). read (ends (made x.0)) x.1)) (λ ps. list_ended ℕ half_word_at (st line e ps)) (λ ps. list_body ℕ half_word_at made (st line e ps))
-    (list_good ℕ (IsSigned 65536) half_word_at half_reads half_leads some_halves few labelled line e)
+pub halves_good : (few : ℕ) (line e : ℕ) (made : List ℕ → Body) → Good few line e (λ ps. fault_in (list_at half_word_at (st line e ps) >>= λ (x : List ℕ × State). read (ends (made x.0)) x.1))
+halves_good few line e made =
+    good_as few line e (λ ps. fault_in (list_at half_word_at (st line e ps) >>= λ (x : List ℕ × State). read (ends (made x.0)) x.1)) (λ ps. list_ended ℕ half_word_at (st line e ps)) (λ ps. list_body ℕ half_word_at made (st line e ps))
+    (list_good ℕ (IsSigned 65536) half_word_at half_reads half_leads some_halves few line e)
 
-pub bytes_good : (few : ℕ) (labelled : Bool) (line e : ℕ) (made : List ℕ → Body) → Good few labelled line e (λ ps. fault_in (list_at byte_at (st line e ps) >>= λ (x : List ℕ × State). read (ends (made x.0)) x.1))
-bytes_good few labelled line e made =
-    good_as few labelled line e (λ ps. fault_in (list_at byte_at (st line e ps) >>= λ (x : List ℕ × State). read (ends (made x.0)) x.1)) (λ ps. list_ended ℕ byte_at (st line e ps)) (λ ps. list_body ℕ byte_at made (st line e ps))
-    (list_good ℕ (IsSigned 256) byte_at byte_reads byte_leads some_bytes few labelled line e)
+pub bytes_good : (few : ℕ) (line e : ℕ) (made : List ℕ → Body) → Good few line e (λ ps. fault_in (list_at byte_at (st line e ps) >>= λ (x : List ℕ × State). read (ends (made x.0)) x.1))
+bytes_good few line e made =
+    good_as few line e (λ ps. fault_in (list_at byte_at (st line e ps) >>= λ (x : List ℕ × State). read (ends (made x.0)) x.1)) (λ ps. list_ended ℕ byte_at (st line e ps)) (λ ps. list_body ℕ byte_at made (st line e ps))
+    (list_good ℕ (IsSigned 256) byte_at byte_reads byte_leads some_bytes few line e)

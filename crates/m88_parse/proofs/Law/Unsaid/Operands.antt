@@ -25,20 +25,20 @@ use Rattle.m88_parse.proofs.Law.Unsaid.Values.{value_node, NoName, number_is, te
 opening_piece : Piece
 opening_piece = saying (a_mark 40)
 
-pub half_leads : (few : ℕ) (num labelled : Bool) (line e : ℕ) (all r : Reader) (h : Piece) (text : List ℕ) (kind : Kind) → IsNamed text h → half_of text ≡ Some kind → all (h ∷ []) ≡ here line h.col NoSuchName
+pub half_leads : (few : ℕ) (num : Bool) (line e : ℕ) (all r : Reader) (h : Piece) (text : List ℕ) (kind : Kind) → IsNamed text h → half_of text ≡ Some kind → all (h ∷ []) ≡ here line h.col NoSuchName
     → ((q : Piece) (ps : List Piece) → is_mark_of 40 (Some q.says) ≡ true → all (h ∷ q ∷ ps) ≡ r ps)
     → ((q : Piece) (ps : List Piece) → is_mark_of 40 (Some q.says) ≡ false → all (h ∷ q ∷ ps) ≡ here line h.col NoSuchName)
-    → Good few labelled line e r → Leads few num labelled line e all h
+    → Good few line e r → Leads few num line e all h
 unfolding opening_piece
-half_leads few num labelled line e all r h text kind named is_half at_end taken other g front w reads_all = by_rest
+half_leads few num line e all r h text kind named is_half at_end taken other g front w reads_all = by_rest
   where
-    reads : Reads labelled line e (front ++ h ∷ []) (λ ps. all (h ∷ ps))
-    reads = reads_on labelled line e front all h reads_all
+    reads : Reads line e (front ++ h ∷ []) (λ ps. all (h ∷ ps))
+    reads = reads_on line e front all h reads_all
 
     goes : Goes (λ ps. all (h ∷ ps))
     goes = (opening_piece ∷ g.0.0, taken opening_piece g.0.0 refl ∙ g.0.1)
 
-    half_here : EndsInHalf labelled (front ++ h ∷ []) h
+    half_here : EndsInHalf (front ++ h ∷ []) h
     half_here = record {
       before = front;
       tokens = refl;
@@ -46,33 +46,33 @@ half_leads few num labelled line e all r h text kind named is_half at_end taken 
       kind = kind;
       named = named;
       half = is_half;
-      opens = (opening_piece, refl, follows labelled line e (front ++ h ∷ []) (λ ps. all (h ∷ ps)) opening_piece reads (g.0.0, taken opening_piece g.0.0 refl ∙ g.0.1));
+      opens = (opening_piece, refl, follows line e (front ++ h ∷ []) (λ ps. all (h ∷ ps)) opening_piece reads (g.0.0, taken opening_piece g.0.0 refl ∙ g.0.1));
     }
 
-    not_said : IsOperation labelled (front ++ h ∷ []) → ⊥
+    not_said : IsOperation (front ++ h ∷ []) → ⊥
     not_said o =
-        let y : ◌≡◌ {A = Option ParseFault} (here line h.col NoSuchName) None = sym at_end ∙ sym (reads []) ∙ is_heard labelled line e ((front ++ h ∷ []) ++ []) (subst (IsOperation labelled) (sym (append-nil (front ++ h ∷ []))) o) in
+        let y : ◌≡◌ {A = Option ParseFault} (here line h.col NoSuchName) None = sym at_end ∙ sym (reads []) ∙ is_heard line e ((front ++ h ∷ []) ++ []) (subst (IsOperation) (sym (append-nil (front ++ h ∷ []))) o) in
         absurd cc
 
     no_minus : (q : Piece) → is_mark_of 40 (Some q.says) ≡ true → IsMark 45 q → ⊥
     no_minus q t m = let y = sym (mark_says 40 q.says t) ∙ m in cc
 
-    by_test : (q : Piece) (ps : List Piece) (f : ParseFault) (t : Bool) → is_mark_of 40 (Some q.says) ≡ t → length (q ∷ ps) < few → EndsAt ((front ++ h ∷ []) ++ q ∷ ps) e → heard labelled line e ((front ++ h ∷ []) ++ q ∷ ps) ≡ Some f
-        → Told labelled line ((front ++ h ∷ []) ++ q ∷ ps) f
+    by_test : (q : Piece) (ps : List Piece) (f : ParseFault) (t : Bool) → is_mark_of 40 (Some q.says) ≡ t → length (q ∷ ps) < few → EndsAt ((front ++ h ∷ []) ++ q ∷ ps) e → heard line e ((front ++ h ∷ []) ++ q ∷ ps) ≡ Some f
+        → Told line ((front ++ h ∷ []) ++ q ∷ ps) f
     by_test q ps f true t l a x =
-        moved few labelled line e (front ++ h ∷ []) q ps f
-        (g.1 ((front ++ h ∷ []) ++ q ∷ []) (fresh_behind labelled (front ++ h ∷ []) q (no_minus q t))
-        (λ qs. reads_on labelled line e (front ++ h ∷ []) (λ us. all (h ∷ us)) q (λ us. reads (q ∷ us)) qs ∙ taken q qs t))
+        moved few line e (front ++ h ∷ []) q ps f
+        (g.1 ((front ++ h ∷ []) ++ q ∷ []) (fresh_behind (front ++ h ∷ []) q (no_minus q t))
+        (λ qs. reads_on line e (front ++ h ∷ []) (λ us. all (h ∷ us)) q (λ us. reads (q ∷ us)) qs ∙ taken q qs t))
         (omega (arith, l)) a x
     by_test q ps f false t l a x =
-        told labelled line (front ++ h ∷ []) (q ∷ ps) h.col NoSuchName f (continues labelled line e (front ++ h ∷ []) (λ us. all (h ∷ us)) reads goes)
-        (follows_not labelled line e (front ++ h ∷ []) (λ us. all (h ∷ us)) q reads (λ us y. let z : ◌≡◌ {A = Option ParseFault} (here line h.col NoSuchName) None = sym (other q us t) ∙ y in absurd cc))
+        told line (front ++ h ∷ []) (q ∷ ps) h.col NoSuchName f (continues line e (front ++ h ∷ []) (λ us. all (h ∷ us)) reads goes)
+        (follows_not line e (front ++ h ∷ []) (λ us. all (h ∷ us)) q reads (λ us y. let z : ◌≡◌ {A = Option ParseFault} (here line h.col NoSuchName) None = sym (other q us t) ∙ y in absurd cc))
         (half_alone half_here)
         (sym x ∙ reads (q ∷ ps) ∙ other q ps t)
 
-    by_rest : Traced few labelled line e (front ++ h ∷ [])
+    by_rest : Traced few line e (front ++ h ∷ [])
     by_rest [] f l a x =
-        told labelled line (front ++ h ∷ []) [] h.col NoSuchName f (continues labelled line e (front ++ h ∷ []) (λ us. all (h ∷ us)) reads goes) not_said (half_alone half_here) (sym x ∙ reads [] ∙ at_end)
+        told line (front ++ h ∷ []) [] h.col NoSuchName f (continues line e (front ++ h ∷ []) (λ us. all (h ∷ us)) reads goes) not_said (half_alone half_here) (sym x ∙ reads [] ∙ at_end)
     by_rest (q ∷ ps) f l a x = by_test q ps f (is_mark_of 40 (Some q.says)) refl l a x
 
 -- immediates
@@ -80,12 +80,12 @@ half_leads few num labelled line e all r h text kind named is_half at_end taken 
 behind_opening : {B : Type 0} → ℕ → ℕ → Kind → (Immediate → State → Result B ParseFault) → Reader
 behind_opening line e kind k ps = reader_of line e (value_at kind) (λ v s. mark_at 41 s >>= λ (closed : State). k (half_immediate kind v) closed) ps
 
-behind_opening_good : (few : ℕ) (B : Type 0) (labelled : Bool) (line e : ℕ) (kind : Kind) (k : Immediate → State → Result B ParseFault) → ((x : Immediate) → Good few labelled line e (λ ps. fault_in (k x (st line e ps))))
-    → Good few labelled line e (behind_opening line e kind k)
+behind_opening_good : (few : ℕ) (B : Type 0) (line e : ℕ) (kind : Kind) (k : Immediate → State → Result B ParseFault) → ((x : Immediate) → Good few line e (λ ps. fault_in (k x (st line e ps))))
+    → Good few line e (behind_opening line e kind k)
 unfolding behind_opening
-behind_opening_good few B labelled line e kind k g =
-    good few true symbols labelled line e (reader_of line e (value_at kind) (λ v s. mark_at 41 s >>= λ (closed : State). k (half_immediate kind v) closed))
-    (value_node few B labelled kind line e (λ v s. mark_at 41 s >>= λ (closed : State). k (half_immediate kind v) closed) (λ v. mark_node few B labelled 41 line e (λ closed. k (half_immediate kind v) closed) refl refl (g (half_immediate kind v))))
+behind_opening_good few B line e kind k g =
+    good few true symbols line e (reader_of line e (value_at kind) (λ v s. mark_at 41 s >>= λ (closed : State). k (half_immediate kind v) closed))
+    (value_node few B kind line e (λ v s. mark_at 41 s >>= λ (closed : State). k (half_immediate kind v) closed) (λ v. mark_node few B 41 line e (λ closed. k (half_immediate kind v) closed) refl refl (g (half_immediate kind v))))
 
 close_split : (B : Type 0) (r : Result State ParseFault) (x : Immediate) (k : Immediate → State → Result B ParseFault) → ((r >>= λ (closed : State). let y : Read Immediate = Ok (x, closed) in y) >>= λ (z : Immediate × State). k z.0 z.1) ≡ (r >>= λ (closed : State). k x closed)
 close_split B (Ok s) x k = refl
@@ -123,10 +123,10 @@ pub no_immediate : (B : Type 0) (line e : ℕ) (k : Immediate → State → Resu
 unfolding half_of
 no_immediate B line e k = unknown_name B line e k any (codes "x") any_is_symbol.0 refl
 
-pub immediate_node : (few : ℕ) (B : Type 0) (labelled : Bool) (line e : ℕ) (k : Immediate → State → Result B ParseFault) → ((x : Immediate) → Good few labelled line e (λ ps. fault_in (k x (st line e ps))))
-    → Node few true own_names labelled line e (reader_of line e immediate_at k)
+pub immediate_node : (few : ℕ) (B : Type 0) (line e : ℕ) (k : Immediate → State → Result B ParseFault) → ((x : Immediate) → Good few line e (λ ps. fault_in (k x (st line e ps))))
+    → Node few true own_names line e (reader_of line e immediate_at k)
 unfolding immediate_at half_of
-immediate_node few B labelled line e k g = record {
+immediate_node few B line e k g = record {
   wants = record {
     numbers = (saying (a_number 0), 0, refl, ((g (short 0)).0.0, (g (short 0)).0.1));
     names = ((saying (a_name (codes "hi16")), codes "hi16", refl, hi16_goes), (any, codes "x", any_is_symbol, never true own_names line (reader_of line e immediate_at k) any (no_immediate B line e k)));
@@ -141,23 +141,23 @@ immediate_node few B labelled line e k g = record {
     short n = record { imm = n; fixup = None }
 
     hi16_goes : Goes (λ ps. reader_of line e immediate_at k (saying (a_name (codes "hi16")) ∷ ps))
-    hi16_goes = let y = (behind_opening_good few B labelled line e Hi16 k g).0 in (saying (a_mark 40) ∷ y.0, half_step B line e Hi16 (saying (a_name (codes "hi16"))) (saying (a_mark 40)) y.0 k refl ∙ y.1)
+    hi16_goes = let y = (behind_opening_good few B line e Hi16 k g).0 in (saying (a_mark 40) ∷ y.0, half_step B line e Hi16 (saying (a_name (codes "hi16"))) (saying (a_mark 40)) y.0 k refl ∙ y.1)
 
     other : (p : Piece) (m : Meaning) → p.says ≡ m → NoName m → ((n : ℕ) → m ≡ a_number n → ⊥) → Faults true own_names line (reader_of line e immediate_at k) p
     other p m h number_is n ps = absurd (n _ refl)
     other p m h text_is n ps = short_step B line e k p ps m h refl ∙ ap (λ (o : Meaning). here line p.col (kind_for true own_names o)) (sym h)
     other p m h mark_is n ps = short_step B line e k p ps m h refl ∙ ap (λ (o : Meaning). here line p.col (kind_for true own_names o)) (sym h)
 
-    half_named : (p : Piece) (text : List ℕ) (kind : Kind) → p.says ≡ a_name text → half_of text ≡ Some kind → Leads few true labelled line e (reader_of line e immediate_at k) p
+    half_named : (p : Piece) (text : List ℕ) (kind : Kind) → p.says ≡ a_name text → half_of text ≡ Some kind → Leads few true line e (reader_of line e immediate_at k) p
     half_named p text kind h n =
-        half_leads few true labelled line e (reader_of line e immediate_at k) (behind_opening line e kind k) p text kind h n (short_step B line e k p [] (a_name text) h refl)
+        half_leads few true line e (reader_of line e immediate_at k) (behind_opening line e kind k) p text kind h n (short_step B line e k p [] (a_name text) h refl)
         (λ q ps t. ap (λ (o : Meaning). fault_in (immediate_of (st line e (p ∷ q ∷ ps)) (half_on (Some o) (Some q.says)) >>= λ (x : Immediate × State). k x.0 x.1)) h
         ∙ ap (λ (o : Option Kind). fault_in (immediate_of (st line e (p ∷ q ∷ ps)) o >>= λ (x : Immediate × State). k x.0 x.1)) (take_then (is_mark_of 40 (Some q.says)) _ _ t ∙ n)
         ∙ half_step B line e kind p q ps k t)
         (λ q ps t. short_step B line e k p (q ∷ ps) (a_name text) h (take_else (is_mark_of 40 (Some q.says)) _ _ t))
-        (behind_opening_good few B labelled line e kind k g)
+        (behind_opening_good few B line e kind k g)
 
-    name_by : (p : Piece) (text : List ℕ) → p.says ≡ a_name text → (o : Option Kind) → half_of text ≡ o → Leads few true labelled line e (reader_of line e immediate_at k) p ⊎ Faults true own_names line (reader_of line e immediate_at k) p
+    name_by : (p : Piece) (text : List ℕ) → p.says ≡ a_name text → (o : Option Kind) → half_of text ≡ o → Leads few true line e (reader_of line e immediate_at k) p ⊎ Faults true own_names line (reader_of line e immediate_at k) p
     name_by p text h (Some kind) n = inl (half_named p text kind h n)
     name_by p text h None n = inr (unknown_name B line e k p text h n)
 
@@ -165,14 +165,14 @@ immediate_node few B labelled line e k g = record {
         → reader_of line e immediate_at k (p ∷ ps) ≡ fault_in ((if nat_le n 65535 then Ok (record { imm = n; fixup = None }, st line e ps) else Err (record { line = line; col = p.col; kind = OutOfRange })) >>= λ (x : Immediate × State). k x.0 x.1)
     number_step p ps n h = short_step B line e k p ps (a_number n) h refl
 
-    number_by : (p : Piece) (n : ℕ) → p.says ≡ a_number n → (t : Bool) → nat_le n 65535 ≡ t → Leads few true labelled line e (reader_of line e immediate_at k) p ⊎ Faults true own_names line (reader_of line e immediate_at k) p
+    number_by : (p : Piece) (n : ℕ) → p.says ≡ a_number n → (t : Bool) → nat_le n 65535 ≡ t → Leads few true line e (reader_of line e immediate_at k) p ⊎ Faults true own_names line (reader_of line e immediate_at k) p
     number_by p n h true t =
-        inl (leads few true labelled line e (reader_of line e immediate_at k) (λ ps. fault_in (k (record { imm = n; fixup = None }) (st line e ps))) p (g (record { imm = n; fixup = None }))
+        inl (leads few true line e (reader_of line e immediate_at k) (λ ps. fault_in (k (record { imm = n; fixup = None }) (st line e ps))) p (g (record { imm = n; fixup = None }))
         (λ ps. number_step p ps n h ∙ ap (λ (r : Read Immediate). fault_in (r >>= λ (x : Immediate × State). k x.0 x.1)) (take_then (nat_le n 65535) _ _ t)) (inl (λ m. let x = sym h ∙ m in cc)))
     number_by p n h false t =
         inr (λ ps. number_step p ps n h ∙ ap (λ (r : Read Immediate). fault_in (r >>= λ (x : Immediate × State). k x.0 x.1)) (take_else (nat_le n 65535) _ _ t) ∙ ap (λ (o : Meaning). here line p.col (kind_for true own_names o)) (sym h))
 
-    by_says : (p : Piece) (m : Meaning) → p.says ≡ m → Leads few true labelled line e (reader_of line e immediate_at k) p ⊎ Faults true own_names line (reader_of line e immediate_at k) p
+    by_says : (p : Piece) (m : Meaning) → p.says ≡ m → Leads few true line e (reader_of line e immediate_at k) p ⊎ Faults true own_names line (reader_of line e immediate_at k) p
     by_says p (a_name text) h = name_by p text h (half_of text) refl
     by_says p (a_number n) h = number_by p n h (nat_le n 65535) refl
     by_says p (a_text bytes) h = inr (other p (a_text bytes) h text_is (λ n i. absurd cc))

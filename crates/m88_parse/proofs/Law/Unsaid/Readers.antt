@@ -6,9 +6,9 @@ use Rattle.m88_parse.specs.declared.fault.ParseFault.{ParseFault}
 use Rattle.m88_parse.specs.declared.row.Row.{Row}
 use Rattle.m88_parse.specs.Tokens.{Meaning, a_name, a_number, a_text, a_mark, Piece}
 use Rattle.m88_parse.specs.State.{State, first}
-use Rattle.m88_parse.specs.Source.{operation_at, unlabelled_at, head_at, is_head_on}
+use Rattle.m88_parse.specs.Source.{unlabelled_at, head_at, is_head_on}
 use Rattle.m88_parse.specs.Spelling.Names.{IsMark, IsNumber, IsNamed, IsSymbol}
-use Rattle.m88_parse.specs.Spelling.Unsaid.{MayFollow, NumberMayFollow, NameMayFollow, AnySymbolMayFollow, EndsInSign, IsBroken}
+use Rattle.m88_parse.specs.Spelling.Unsaid.{MayFollow, NumberMayFollow, NameMayFollow, EverySymbolMayFollow, EndsInSign, IsBroken}
 use Rattle.m88_parse.proofs.Law.Slots.{st}
 
 -- what is read has this fault, or none
@@ -31,9 +31,8 @@ some_same h = cc
 abbrev pub row_or_head : State → Result Row ParseFault
 row_or_head s = if is_head_on (first s) then head_at s else unlabelled_at s
 
-abbrev pub heard : Bool → ℕ → ℕ → Reader
-heard true line e ps = fault_in (operation_at (st line e ps))
-heard false line e ps = fault_in (row_or_head (st line e ps))
+abbrev pub heard : ℕ → ℕ → Reader
+heard line e ps = fault_in (row_or_head (st line e ps))
 
 -- some tokens have no fault
 abbrev pub Goes : Reader → Type 0
@@ -44,28 +43,28 @@ abbrev pub Refuses : Reader → Piece → Type 0
 Refuses k p = (ps : List Piece) → k (p ∷ ps) ≡ None → ⊥
 
 -- what is heard behind a front
-abbrev pub Reads : Bool → ℕ → ℕ → List Piece → Reader → Type 0
-Reads labelled line e front k = (ps : List Piece) → heard labelled line e (front ++ ps) ≡ k ps
+abbrev pub Reads : ℕ → ℕ → List Piece → Reader → Type 0
+Reads line e front k = (ps : List Piece) → heard line e (front ++ ps) ≡ k ps
 
 -- the line ends just before this column
 abbrev pub EndsAt : List Piece → ℕ → Type 0
 EndsAt ps e = (before : List Piece) × (p : Piece) × (ps ≡ before ++ p ∷ []) × (p.col + length p.text ≡ e)
 
 -- the fault is the one of the language
-abbrev pub Told : Bool → ℕ → List Piece → ParseFault → Type 0
-Told labelled line ps f = IsBroken labelled ps f.col f.kind × (line ≡ f.line)
+abbrev pub Told : ℕ → List Piece → ParseFault → Type 0
+Told line ps f = IsBroken ps f.col f.kind × (line ≡ f.line)
 
 -- each fault behind this front is the one of the language, where fewer tokens than so many are left
-abbrev pub Traced : ℕ → Bool → ℕ → ℕ → List Piece → Type 0
-Traced few labelled line e front = (ps : List Piece) (f : ParseFault) → length ps < few → EndsAt (front ++ ps) e → heard labelled line e (front ++ ps) ≡ Some f → Told labelled line (front ++ ps) f
+abbrev pub Traced : ℕ → ℕ → ℕ → List Piece → Type 0
+Traced few line e front = (ps : List Piece) (f : ParseFault) → length ps < few → EndsAt (front ++ ps) e → heard line e (front ++ ps) ≡ Some f → Told line (front ++ ps) f
 
 -- the front doesn't end in a number's own sign
-abbrev pub Fresh : Bool → List Piece → Type 0
-Fresh labelled front = (m : Piece) → EndsInSign labelled front m → ⊥
+abbrev pub Fresh : List Piece → Type 0
+Fresh front = (m : Piece) → EndsInSign front m → ⊥
 
 -- a reader that some tokens satisfy, and whose faults are those of the language wherever it reads on
-abbrev pub Good : ℕ → Bool → ℕ → ℕ → Reader → Type 0
-Good few labelled line e k = Goes k × ((front : List Piece) → Fresh labelled front → Reads labelled line e front k → Traced few labelled line e front)
+abbrev pub Good : ℕ → ℕ → ℕ → Reader → Type 0
+Good few line e k = Goes k × ((front : List Piece) → Fresh front → Reads line e front k → Traced few line e front)
 
 -- which names are wanted: none, those with a meaning of their own, or symbols
 pub data Naming : Type 0 where
@@ -107,16 +106,16 @@ pub record Wants (num : Bool) (nam : Naming) (k : Reader) : Type 0 where
 
 -- what is wanted behind a front
 
-abbrev pub NumbersWanted : Bool → Bool → List Piece → Type 0
-NumbersWanted true labelled front = NumberMayFollow labelled front
-NumbersWanted false labelled front = NumberMayFollow labelled front → ⊥
+abbrev pub NumbersWanted : Bool → List Piece → Type 0
+NumbersWanted true front = NumberMayFollow front
+NumbersWanted false front = NumberMayFollow front → ⊥
 
-abbrev pub NamesWanted : Naming → Bool → List Piece → Type 0
-NamesWanted no_name labelled front = NameMayFollow labelled front → ⊥
-NamesWanted own_names labelled front = NameMayFollow labelled front × (AnySymbolMayFollow labelled front → ⊥)
-NamesWanted symbols labelled front = AnySymbolMayFollow labelled front
+abbrev pub NamesWanted : Naming → List Piece → Type 0
+NamesWanted no_name front = NameMayFollow front → ⊥
+NamesWanted own_names front = NameMayFollow front × (EverySymbolMayFollow front → ⊥)
+NamesWanted symbols front = EverySymbolMayFollow front
 
-pub record Wanted (num : Bool) (nam : Naming) (labelled : Bool) (front : List Piece) : Type 0 where
-  pub numbers : NumbersWanted num labelled front
-  pub names : NamesWanted nam labelled front
-  pub opening : (o : Piece) → IsMark 40 o → MayFollow labelled front o → ⊥
+pub record Wanted (num : Bool) (nam : Naming) (front : List Piece) : Type 0 where
+  pub numbers : NumbersWanted num front
+  pub names : NamesWanted nam front
+  pub opening : (o : Piece) → IsMark 40 o → MayFollow front o → ⊥

@@ -65,9 +65,9 @@ refused A B num nam line e slot o k p h ps =
 pub never : (num : Bool) (nam : Naming) (line : ℕ) (k : Reader) (p : Piece) → Faults num nam line k p → Refuses k p
 never num nam line k p f ps h = let x : ◌≡◌ {A = Option ParseFault} (here line p.col (kind_for num nam p.says)) None = sym (f ps) ∙ h in cc
 
-pub one_token : (few : ℕ) (A B : Type 0) (num : Bool) (nam : Naming) (labelled : Bool) (line e : ℕ) (slot : State → Read A) → OneToken A num nam line e slot → (k : A → State → Result B ParseFault)
-    → ((x : A) → Good few labelled line e (λ ps. fault_in (k x (st line e ps)))) → Node few num nam labelled line e (reader_of line e slot k)
-one_token few A B num nam labelled line e slot o k g = record { wants = record { numbers = numbers num o.numbers; names = names nam o.names; opening = λ p h. refuses p (o.opening p h) }; goes = begun; stop = inr (ap (λ (r : Read A). fault_in (r >>= λ (y : A × State). k y.0 y.1)) o.empty); each = λ p. by_given p (o.given p) refl }
+pub one_token : (few : ℕ) (A B : Type 0) (num : Bool) (nam : Naming) (line e : ℕ) (slot : State → Read A) → OneToken A num nam line e slot → (k : A → State → Result B ParseFault)
+    → ((x : A) → Good few line e (λ ps. fault_in (k x (st line e ps)))) → Node few num nam line e (reader_of line e slot k)
+one_token few A B num nam line e slot o k g = record { wants = record { numbers = numbers num o.numbers; names = names nam o.names; opening = λ p h. refuses p (o.opening p h) }; goes = begun; stop = inr (ap (λ (r : Read A). fault_in (r >>= λ (y : A × State). k y.0 y.1)) o.empty); each = λ p. by_given p (o.given p) refl }
   where
     goes_on : (p : Piece) (x : A) → o.given p ≡ Some x → Goes (λ ps. reader_of line e slot k (p ∷ ps))
     goes_on p x h = let y = (g x).0 in (y.0, taken A B num nam line e slot o k p x h y.0 ∙ y.1)
@@ -87,9 +87,9 @@ one_token few A B num nam labelled line e slot o k g = record { wants = record {
     begun : Goes (reader_of line e slot k)
     begun = let s = o.some in let y = goes_on s.0 s.1 s.2 in (s.0 ∷ y.0, y.1)
 
-    by_given : (p : Piece) (x : Option A) → o.given p ≡ x → Leads few num labelled line e (reader_of line e slot k) p ⊎ Faults num nam line (reader_of line e slot k) p
+    by_given : (p : Piece) (x : Option A) → o.given p ≡ x → Leads few num line e (reader_of line e slot k) p ⊎ Faults num nam line (reader_of line e slot k) p
     by_given p (Some x) h =
-        inl (leads few num labelled line e (reader_of line e slot k) (λ ps. fault_in (k x (st line e ps))) p (g x) (taken A B num nam line e slot o k p x h)
+        inl (leads few num line e (reader_of line e slot k) (λ ps. fault_in (k x (st line e ps))) p (g x) (taken A B num nam line e slot o k p x h)
         (inl (λ m. let y : ◌≡◌ {A = Option A} (Some x) None = sym h ∙ o.minus p m in absurd cc)))
     by_given p None h = inr (refused A B num nam line e slot o k p h)
 
@@ -160,11 +160,11 @@ one_mark m line e h k = record {
   some = (saying (a_mark m), tt, take_then (m == m) _ _ (eq-eqb m m refl));
 }
 
-pub mark_node : (few : ℕ) (B : Type 0) (labelled : Bool) (m line e : ℕ) (k : State → Result B ParseFault) → (40 == m) ≡ false → (45 == m) ≡ false
-    → Good few labelled line e (λ ps. fault_in (k (st line e ps))) → Node few false no_name labelled line e (λ ps. fault_in (mark_at m (st line e ps) >>= k))
-mark_node few B labelled m line e k h i g =
-    node_as few false no_name labelled line e (λ ps. fault_in (mark_at m (st line e ps) >>= k)) (reader_of line e (mark_slot m) (λ u t. k t)) (λ ps. same (mark_at m (st line e ps)))
-    (one_token few (Unit {0}) B false no_name labelled line e (mark_slot m) (one_mark m line e h i) (λ u t. k t) (λ u. g))
+pub mark_node : (few : ℕ) (B : Type 0) (m line e : ℕ) (k : State → Result B ParseFault) → (40 == m) ≡ false → (45 == m) ≡ false
+    → Good few line e (λ ps. fault_in (k (st line e ps))) → Node few false no_name line e (λ ps. fault_in (mark_at m (st line e ps) >>= k))
+mark_node few B m line e k h i g =
+    node_as few false no_name line e (λ ps. fault_in (mark_at m (st line e ps) >>= k)) (reader_of line e (mark_slot m) (λ u t. k t)) (λ ps. same (mark_at m (st line e ps)))
+    (one_token few (Unit {0}) B false no_name line e (mark_slot m) (one_mark m line e h i) (λ u t. k t) (λ u. g))
   where
     same : (r : Result State ParseFault) → fault_in (r >>= k) ≡ fault_in ((r >>= λ (t : State). let y : Read (Unit {0}) = Ok (tt, t) in y) >>= λ (x : Unit {0} × State). k x.1)
     same (Ok t) = refl

@@ -29,9 +29,9 @@ plain_kind (a_number n) = refl
 plain_kind (a_text bytes) = refl
 plain_kind (a_mark m) = refl
 
-pub ends_node : (few : ℕ) (labelled : Bool) (line e : ℕ) (b : Body) → Node few false no_name labelled line e (λ ps. fault_in (read (ends b) (st line e ps)))
+pub ends_node : (few : ℕ) (line e : ℕ) (b : Body) → Node few false no_name line e (λ ps. fault_in (read (ends b) (st line e ps)))
 unfolding read
-ends_node few labelled line e b = record {
+ends_node few line e b = record {
   wants = record { numbers = λ p n i ps h. absurd cc; names = λ p name i ps h. absurd cc; opening = λ o i ps h. absurd cc };
   goes = ([], refl);
   stop = inl refl;
@@ -60,75 +60,75 @@ mark_no_number p m n h k = let x = sym h ∙ k in cc
 mark_no_name : (p : Piece) (m : ℕ) (name : List ℕ) → IsMark m p → IsNamed name p → ⊥
 mark_no_name p m name h k = let x = sym h ∙ k in cc
 
-pub sign_leads : (few : ℕ) (labelled : Bool) (line e low : ℕ) (all : Reader) (r : ℕ → Reader) (m : Piece) → IsMark 45 m
+pub sign_leads : (few : ℕ) (line e low : ℕ) (all : Reader) (r : ℕ → Reader) (m : Piece) → IsMark 45 m
     → (all (m ∷ []) ≡ here line e Syntax)
     → ((n : ℕ) (q : Piece) (ps : List Piece) → IsNumber n q → nat_le n low ≡ true → all (m ∷ q ∷ ps) ≡ r n ps)
     → ((n : ℕ) (q : Piece) (ps : List Piece) → IsNumber n q → nat_le n low ≡ false → all (m ∷ q ∷ ps) ≡ here line m.col OutOfRange)
     → ((q : Piece) (ps : List Piece) → ((n : ℕ) → IsNumber n q → ⊥) → all (m ∷ q ∷ ps) ≡ here line q.col Syntax)
-    → ((n : ℕ) → Good few labelled line e (r n)) → Leads few true labelled line e all m
+    → ((n : ℕ) → Good few line e (r n)) → Leads few true line e all m
 unfolding zero_piece
-sign_leads few labelled line e low all r m is_minus at_end taken large other g front w h = by_rest
+sign_leads few line e low all r m is_minus at_end taken large other g front w h = by_rest
   where
-    reads : Reads labelled line e (front ++ m ∷ []) (λ ps. all (m ∷ ps))
-    reads = reads_on labelled line e front all m h
+    reads : Reads line e (front ++ m ∷ []) (λ ps. all (m ∷ ps))
+    reads = reads_on line e front all m h
 
     goes : Goes (λ ps. all (m ∷ ps))
     goes = (zero_piece ∷ (g 0).0.0, taken 0 zero_piece (g 0).0.0 refl (le-leb 0 low (omega arith)) ∙ (g 0).0.1)
 
-    number : NumberMayFollow labelled (front ++ m ∷ [])
-    number = (zero_piece, 0, refl, follows labelled line e (front ++ m ∷ []) (λ ps. all (m ∷ ps)) zero_piece reads ((g 0).0.0, taken 0 zero_piece (g 0).0.0 refl (le-leb 0 low (omega arith)) ∙ (g 0).0.1))
+    number : NumberMayFollow (front ++ m ∷ [])
+    number = (zero_piece, 0, refl, follows line e (front ++ m ∷ []) (λ ps. all (m ∷ ps)) zero_piece reads ((g 0).0.0, taken 0 zero_piece (g 0).0.0 refl (le-leb 0 low (omega arith)) ∙ (g 0).0.1))
 
-    no_half : (x : Piece) → EndsInHalf labelled (front ++ m ∷ []) x → ⊥
+    no_half : (x : Piece) → EndsInHalf (front ++ m ∷ []) x → ⊥
     no_half x y = mark_no_name m 45 y.name is_minus (subst (IsNamed y.name) (sym (same_last front y.before m x y.tokens)) y.named)
 
-    sign : EndsInSign labelled (front ++ m ∷ []) m
+    sign : EndsInSign (front ++ m ∷ []) m
     sign = record { before = front; tokens = refl; minus = is_minus; number = w }
 
-    refuses_other : (q : Piece) → ((n : ℕ) → IsNumber n q → ⊥) → MayFollow labelled (front ++ m ∷ []) q → ⊥
-    refuses_other q k = follows_not labelled line e (front ++ m ∷ []) (λ ps. all (m ∷ ps)) q reads (λ ps x. let y : ◌≡◌ {A = Option ParseFault} (here line q.col Syntax) None = sym (other q ps k) ∙ x in absurd cc)
+    refuses_other : (q : Piece) → ((n : ℕ) → IsNumber n q → ⊥) → MayFollow (front ++ m ∷ []) q → ⊥
+    refuses_other q k = follows_not line e (front ++ m ∷ []) (λ ps. all (m ∷ ps)) q reads (λ ps x. let y : ◌≡◌ {A = Option ParseFault} (here line q.col Syntax) None = sym (other q ps k) ∙ x in absurd cc)
 
-    no_name_follows : NameMayFollow labelled (front ++ m ∷ []) → ⊥
+    no_name_follows : NameMayFollow (front ++ m ∷ []) → ⊥
     no_name_follows x = refuses_other x.0 (λ n i. let y = sym x.2 ∙ i in cc) x.3
 
-    by_number : (n : ℕ) (q : Piece) (ps : List Piece) (f : ParseFault) → IsNumber n q → (t : Bool) → nat_le n low ≡ t → length (q ∷ ps) < few → EndsAt ((front ++ m ∷ []) ++ q ∷ ps) e → heard labelled line e ((front ++ m ∷ []) ++ q ∷ ps) ≡ Some f
-        → Told labelled line ((front ++ m ∷ []) ++ q ∷ ps) f
+    by_number : (n : ℕ) (q : Piece) (ps : List Piece) (f : ParseFault) → IsNumber n q → (t : Bool) → nat_le n low ≡ t → length (q ∷ ps) < few → EndsAt ((front ++ m ∷ []) ++ q ∷ ps) e → heard line e ((front ++ m ∷ []) ++ q ∷ ps) ≡ Some f
+        → Told line ((front ++ m ∷ []) ++ q ∷ ps) f
     by_number n q ps f i true t l a x =
-        moved few labelled line e (front ++ m ∷ []) q ps f
-        ((g n).1 ((front ++ m ∷ []) ++ q ∷ []) (fresh_behind labelled (front ++ m ∷ []) q (λ y. mark_no_number q 45 n y i))
-        (λ qs. reads_on labelled line e (front ++ m ∷ []) (λ us. all (m ∷ us)) q (λ us. reads (q ∷ us)) qs ∙ taken n q qs i t))
+        moved few line e (front ++ m ∷ []) q ps f
+        ((g n).1 ((front ++ m ∷ []) ++ q ∷ []) (fresh_behind (front ++ m ∷ []) q (λ y. mark_no_number q 45 n y i))
+        (λ qs. reads_on line e (front ++ m ∷ []) (λ us. all (m ∷ us)) q (λ us. reads (q ∷ us)) qs ∙ taken n q qs i t))
         (omega (arith, l)) a x
     by_number n q ps f i false t l a x =
-        told labelled line (front ++ m ∷ []) (q ∷ ps) m.col OutOfRange f (continues labelled line e (front ++ m ∷ []) (λ us. all (m ∷ us)) reads goes)
-        (follows_not labelled line e (front ++ m ∷ []) (λ us. all (m ∷ us)) q reads (λ us y. let z : ◌≡◌ {A = Option ParseFault} (here line m.col OutOfRange) None = sym (large n q us i t) ∙ y in absurd cc))
+        told line (front ++ m ∷ []) (q ∷ ps) m.col OutOfRange f (continues line e (front ++ m ∷ []) (λ us. all (m ∷ us)) reads goes)
+        (follows_not line e (front ++ m ∷ []) (λ us. all (m ∷ us)) q reads (λ us y. let z : ◌≡◌ {A = Option ParseFault} (here line m.col OutOfRange) None = sym (large n q us i t) ∙ y in absurd cc))
         (misplaced no_half (signed_out_of_range (n, i, number) sign))
         (sym x ∙ reads (q ∷ ps) ∙ large n q ps i t)
 
-    by_other : (q : Piece) (ps : List Piece) (f : ParseFault) → ((n : ℕ) → IsNumber n q → ⊥) → heard labelled line e ((front ++ m ∷ []) ++ q ∷ ps) ≡ Some f → Told labelled line ((front ++ m ∷ []) ++ q ∷ ps) f
+    by_other : (q : Piece) (ps : List Piece) (f : ParseFault) → ((n : ℕ) → IsNumber n q → ⊥) → heard line e ((front ++ m ∷ []) ++ q ∷ ps) ≡ Some f → Told line ((front ++ m ∷ []) ++ q ∷ ps) f
     by_other q ps f k x =
-        told labelled line (front ++ m ∷ []) (q ∷ ps) q.col Syntax f (continues labelled line e (front ++ m ∷ []) (λ us. all (m ∷ us)) reads goes)
+        told line (front ++ m ∷ []) (q ∷ ps) q.col Syntax f (continues line e (front ++ m ∷ []) (λ us. all (m ∷ us)) reads goes)
         (refuses_other q k)
         (misplaced no_half (other_token (λ y. k y.0 y.1) (λ y. no_name_follows y.2)))
         (sym x ∙ reads (q ∷ ps) ∙ other q ps k)
 
-    by_says : (q : Piece) (ps : List Piece) (f : ParseFault) (o : Meaning) → q.says ≡ o → length (q ∷ ps) < few → EndsAt ((front ++ m ∷ []) ++ q ∷ ps) e → heard labelled line e ((front ++ m ∷ []) ++ q ∷ ps) ≡ Some f
-        → Told labelled line ((front ++ m ∷ []) ++ q ∷ ps) f
+    by_says : (q : Piece) (ps : List Piece) (f : ParseFault) (o : Meaning) → q.says ≡ o → length (q ∷ ps) < few → EndsAt ((front ++ m ∷ []) ++ q ∷ ps) e → heard line e ((front ++ m ∷ []) ++ q ∷ ps) ≡ Some f
+        → Told line ((front ++ m ∷ []) ++ q ∷ ps) f
     by_says q ps f (a_name name) i l a x = by_other q ps f (λ n y. let z = sym i ∙ y in cc) x
     by_says q ps f (a_number n) i l a x = by_number n q ps f i (nat_le n low) refl l a x
     by_says q ps f (a_text bytes) i l a x = by_other q ps f (λ n y. let z = sym i ∙ y in cc) x
     by_says q ps f (a_mark b) i l a x = by_other q ps f (λ n y. let z = sym i ∙ y in cc) x
 
-    by_rest : Traced few labelled line e (front ++ m ∷ [])
-    by_rest [] f l a x = ended labelled line e (front ++ m ∷ []) (λ us. all (m ∷ us)) f reads goes no_half a (inr at_end) x
+    by_rest : Traced few line e (front ++ m ∷ [])
+    by_rest [] f l a x = ended line e (front ++ m ∷ []) (λ us. all (m ∷ us)) f reads goes no_half a (inr at_end) x
     by_rest (q ∷ ps) f l a x = by_says q ps f q.says refl l a x
 
 -- numbers with a sign of their own
 
-pub whole_node : (few : ℕ) (B : Type 0) (labelled : Bool) (line e low most : ℕ) (k : ℕ → State → Result B ParseFault) → ((n : ℕ) → Good few labelled line e (λ ps. fault_in (k n (st line e ps))))
-    → Node few true no_name labelled line e (reader_of line e (whole_at low most) k)
+pub whole_node : (few : ℕ) (B : Type 0) (line e low most : ℕ) (k : ℕ → State → Result B ParseFault) → ((n : ℕ) → Good few line e (λ ps. fault_in (k n (st line e ps))))
+    → Node few true no_name line e (reader_of line e (whole_at low most) k)
 unfolding whole_at number_at
-whole_node few B labelled line e low most k g =
-    or_lead few true no_name labelled line e 45 all (reader_of line e (number_at most) k) refl begun by_sign others refl
-    (one_token few ℕ B true no_name labelled line e (number_at most) (one_number most line e) k g)
+whole_node few B line e low most k g =
+    or_lead few true no_name line e 45 all (reader_of line e (number_at most) k) refl begun by_sign others refl
+    (one_token few ℕ B true no_name line e (number_at most) (one_number most line e) k g)
   where
     all : Reader
     all = reader_of line e (whole_at low most) k
@@ -152,9 +152,9 @@ whole_node few B labelled line e low most k g =
     by_says m q ps (a_text bytes) i n = refl
     by_says m q ps (a_mark b) i n = refl
 
-    by_sign : (m : Piece) → is_mark_of 45 (Some m.says) ≡ true → Leads few true labelled line e (reader_of line e (whole_at low most) k) m
+    by_sign : (m : Piece) → is_mark_of 45 (Some m.says) ≡ true → Leads few true line e (reader_of line e (whole_at low most) k) m
     by_sign m t =
-        sign_leads few labelled line e low (reader_of line e (whole_at low most) k) (λ n ps. fault_in (k (negated n) (st line e ps))) m (mark_says 45 m.says t) (signed m [] t)
+        sign_leads few line e low (reader_of line e (whole_at low most) k) (λ n ps. fault_in (k (negated n) (st line e ps))) m (mark_says 45 m.says t) (signed m [] t)
         (λ n q ps i l. small m q ps n t i l) (λ n q ps i l. large m q ps n t i l) (λ q ps i. signed m (q ∷ ps) t ∙ by_says m q ps q.says refl i) (λ n. g (negated n))
 
     begun : Goes (reader_of line e (whole_at low most) k)
@@ -165,15 +165,15 @@ whole_node few B labelled line e low most k g =
 
 -- what is added to a symbol
 
-pub addend_node : (few : ℕ) (B : Type 0) (labelled : Bool) (line e : ℕ) (k : ℕ → State → Result B ParseFault) → ((n : ℕ) → Good few labelled line e (λ ps. fault_in (k n (st line e ps))))
-    → Node few false no_name labelled line e (λ ps. fault_in (k 0 (st line e ps))) → Node few false no_name labelled line e (reader_of line e addend_at k)
+pub addend_node : (few : ℕ) (B : Type 0) (line e : ℕ) (k : ℕ → State → Result B ParseFault) → ((n : ℕ) → Good few line e (λ ps. fault_in (k n (st line e ps))))
+    → Node few false no_name line e (λ ps. fault_in (k 0 (st line e ps))) → Node few false no_name line e (reader_of line e addend_at k)
 unfolding addend_at
-addend_node few B labelled line e k g n =
-    or_mark few false no_name labelled line e 43 (reader_of line e addend_at k) no_plus (reader_of line e (number_at 2147483647) k) refl (inr refl) plus otherwise refl
-    (good few true no_name labelled line e (reader_of line e (number_at 2147483647) k) (one_token few ℕ B true no_name labelled line e (number_at 2147483647) (one_number 2147483647 line e) k g))
-    (or_mark few false no_name labelled line e 45 no_plus (λ ps. fault_in (k 0 (st line e ps))) (reader_of line e (number_at 2147483647) (λ n. k (negated n))) refl (inr refl) minus neither refl
-    (good few true no_name labelled line e (reader_of line e (number_at 2147483647) (λ n. k (negated n)))
-    (one_token few ℕ B true no_name labelled line e (number_at 2147483647) (one_number 2147483647 line e) (λ n. k (negated n)) (λ n. g (negated n))))
+addend_node few B line e k g n =
+    or_mark few false no_name line e 43 (reader_of line e addend_at k) no_plus (reader_of line e (number_at 2147483647) k) refl (inr refl) plus otherwise refl
+    (good few true no_name line e (reader_of line e (number_at 2147483647) k) (one_token few ℕ B true no_name line e (number_at 2147483647) (one_number 2147483647 line e) k g))
+    (or_mark few false no_name line e 45 no_plus (λ ps. fault_in (k 0 (st line e ps))) (reader_of line e (number_at 2147483647) (λ n. k (negated n))) refl (inr refl) minus neither refl
+    (good few true no_name line e (reader_of line e (number_at 2147483647) (λ n. k (negated n)))
+    (one_token few ℕ B true no_name line e (number_at 2147483647) (one_number 2147483647 line e) (λ n. k (negated n)) (λ n. g (negated n))))
     n)
   where
     no_plus : Reader
@@ -242,11 +242,11 @@ fixup_no_name B kind line e p ps m k h z =
     by_other o text_is = refl
     by_other o mark_is = refl
 
-pub behind_symbol_good : (few : ℕ) (B : Type 0) (labelled : Bool) (kind : Kind) (line e : ℕ) (name : List ℕ) (col : ℕ) (k : Fixup → State → Result B ParseFault) → ((f : Fixup) → Node few false no_name labelled line e (λ ps. fault_in (k f (st line e ps))))
-    → Good few labelled line e (behind_symbol kind line e name col k)
-behind_symbol_good few B labelled kind line e name col k n =
-    good few false no_name labelled line e (behind_symbol kind line e name col k)
-    (addend_node few B labelled line e (λ m. k (made_fixup kind name col m)) (λ m. good few false no_name labelled line e (λ ps. fault_in (k (made_fixup kind name col m) (st line e ps))) (n (made_fixup kind name col m))) (n (made_fixup kind name col 0)))
+pub behind_symbol_good : (few : ℕ) (B : Type 0) (kind : Kind) (line e : ℕ) (name : List ℕ) (col : ℕ) (k : Fixup → State → Result B ParseFault) → ((f : Fixup) → Node few false no_name line e (λ ps. fault_in (k f (st line e ps))))
+    → Good few line e (behind_symbol kind line e name col k)
+behind_symbol_good few B kind line e name col k n =
+    good few false no_name line e (behind_symbol kind line e name col k)
+    (addend_node few B line e (λ m. k (made_fixup kind name col m)) (λ m. good few false no_name line e (λ ps. fault_in (k (made_fixup kind name col m) (st line e ps))) (n (made_fixup kind name col m))) (n (made_fixup kind name col 0)))
 
 -- a value: a number with a sign, or a symbol with what is added to it
 
@@ -256,10 +256,10 @@ same_kind (a_number n) = refl
 same_kind (a_text bytes) = refl
 same_kind (a_mark b) = refl
 
-pub value_node : (few : ℕ) (B : Type 0) (labelled : Bool) (kind : Kind) (line e : ℕ) (k : Value → State → Result B ParseFault) → ((v : Value) → Node few false no_name labelled line e (λ ps. fault_in (k v (st line e ps))))
-    → Node few true symbols labelled line e (reader_of line e (value_at kind) k)
+pub value_node : (few : ℕ) (B : Type 0) (kind : Kind) (line e : ℕ) (k : Value → State → Result B ParseFault) → ((v : Value) → Node few false no_name line e (λ ps. fault_in (k v (st line e ps))))
+    → Node few true symbols line e (reader_of line e (value_at kind) k)
 unfolding value_at whole_at
-value_node few B labelled kind line e k n = record {
+value_node few B kind line e k n = record {
   wants = record {
     numbers = let w = whole.wants.numbers in (w.0, w.1, w.2, (w.3.0, by_whole w.0 w.3.0 (a_number w.1) w.2 number_is ∙ w.3.1));
     names = λ p name h. symbol_goes p name h.0 (symbol_name_again name h.1);
@@ -270,8 +270,8 @@ value_node few B labelled kind line e k n = record {
   each = λ p. by_says p p.says refl;
 }
   where
-    whole : Node few true no_name labelled line e (reader_of line e (whole_at 2147483648 4294967295) (λ n. k (value.Number n)))
-    whole = whole_node few B labelled line e 2147483648 4294967295 (λ n. k (value.Number n)) (λ v. good few false no_name labelled line e (λ ps. fault_in (k (value.Number v) (st line e ps))) (n (value.Number v)))
+    whole : Node few true no_name line e (reader_of line e (whole_at 2147483648 4294967295) (λ n. k (value.Number n)))
+    whole = whole_node few B line e 2147483648 4294967295 (λ n. k (value.Number n)) (λ v. good few false no_name line e (λ ps. fault_in (k (value.Number v) (st line e ps))) (n (value.Number v)))
 
     mapped_whole : (p : Piece) (ps : List Piece) → fault_in ((whole_at 2147483648 4294967295 (st line e (p ∷ ps)) >>= λ (v : ℕ × State). let y : Read Value = Ok (value.Number v.0, v.1) in y) >>= λ (x : Value × State). k x.0 x.1)
         ≡ reader_of line e (whole_at 2147483648 4294967295) (λ n. k (value.Number n)) (p ∷ ps)
@@ -287,8 +287,8 @@ value_node few B labelled kind line e k n = record {
         ap (λ (o : Meaning). fault_in (value_on kind (st line e (p ∷ ps)) (Some o) >>= λ (x : Value × State). k x.0 x.1)) h
         ∙ ap (λ (r : Result B ParseFault). fault_in r) (mapped Fixup B Value (fixup_at kind (st line e (p ∷ ps))) (λ f. value.Symbol f) k)
 
-    symbol_good : (name : List ℕ) (col : ℕ) → Good few labelled line e (behind_symbol kind line e name col (λ f. k (value.Symbol f)))
-    symbol_good name col = behind_symbol_good few B labelled kind line e name col (λ f. k (value.Symbol f)) (λ f. n (value.Symbol f))
+    symbol_good : (name : List ℕ) (col : ℕ) → Good few line e (behind_symbol kind line e name col (λ f. k (value.Symbol f)))
+    symbol_good name col = behind_symbol_good few B kind line e name col (λ f. k (value.Symbol f)) (λ f. n (value.Symbol f))
 
     symbol_goes : (p : Piece) (text : List ℕ) → p.says ≡ a_name text → is_symbol text ≡ true → Goes (λ ps. reader_of line e (value_at kind) k (p ∷ ps))
     symbol_goes p text h t = let y = (symbol_good text p.col).0 in (y.0, by_fixup p y.0 text h ∙ fixup_taken B kind line e p y.0 text (λ f. k (value.Symbol f)) h t ∙ y.1)
@@ -296,20 +296,20 @@ value_node few B labelled kind line e k n = record {
     no_minus : (p : Piece) (text : List ℕ) → p.says ≡ a_name text → IsMark 45 p → ⊥
     no_minus p text h m = let x = sym h ∙ m in cc
 
-    name_by : (p : Piece) (text : List ℕ) → p.says ≡ a_name text → (t : Bool) → is_symbol text ≡ t → Leads few true labelled line e (reader_of line e (value_at kind) k) p ⊎ Faults true symbols line (reader_of line e (value_at kind) k) p
+    name_by : (p : Piece) (text : List ℕ) → p.says ≡ a_name text → (t : Bool) → is_symbol text ≡ t → Leads few true line e (reader_of line e (value_at kind) k) p ⊎ Faults true symbols line (reader_of line e (value_at kind) k) p
     name_by p text h true t =
-        inl (leads few true labelled line e (reader_of line e (value_at kind) k) (behind_symbol kind line e text p.col (λ f. k (value.Symbol f))) p (symbol_good text p.col)
+        inl (leads few true line e (reader_of line e (value_at kind) k) (behind_symbol kind line e text p.col (λ f. k (value.Symbol f))) p (symbol_good text p.col)
         (λ ps. by_fixup p ps text h ∙ fixup_taken B kind line e p ps text (λ f. k (value.Symbol f)) h t) (inl (no_minus p text h)))
     name_by p text h false t =
         inr (λ ps. by_fixup p ps text h ∙ fixup_refused B kind line e p ps text (λ f. k (value.Symbol f)) h t ∙ ap (λ (m : Meaning). here line p.col (kind_for true symbols m)) (sym h))
 
-    whole_by : (p : Piece) (m : Meaning) → p.says ≡ m → NoName m → Leads few true labelled line e (reader_of line e (value_at kind) k) p ⊎ Faults true symbols line (reader_of line e (value_at kind) k) p
+    whole_by : (p : Piece) (m : Meaning) → p.says ≡ m → NoName m → Leads few true line e (reader_of line e (value_at kind) k) p ⊎ Faults true symbols line (reader_of line e (value_at kind) k) p
     whole_by p m h z = elim (whole.each p) [
-      | inl l ↦ inl (leads_as few true labelled line e (reader_of line e (value_at kind) k) (reader_of line e (whole_at 2147483648 4294967295) (λ n. k (value.Number n))) p (λ ps. by_whole p ps m h z) l)
+      | inl l ↦ inl (leads_as few true line e (reader_of line e (value_at kind) k) (reader_of line e (whole_at 2147483648 4294967295) (λ n. k (value.Number n))) p (λ ps. by_whole p ps m h z) l)
       | inr f ↦ inr (λ ps. by_whole p ps m h z ∙ f ps ∙ ap (here line p.col) (same_kind p.says))
     ]
 
-    by_says : (p : Piece) (m : Meaning) → p.says ≡ m → Leads few true labelled line e (reader_of line e (value_at kind) k) p ⊎ Faults true symbols line (reader_of line e (value_at kind) k) p
+    by_says : (p : Piece) (m : Meaning) → p.says ≡ m → Leads few true line e (reader_of line e (value_at kind) k) p ⊎ Faults true symbols line (reader_of line e (value_at kind) k) p
     by_says p (a_name text) h = name_by p text h (is_symbol text) refl
     by_says p (a_number v) h = whole_by p (a_number v) h number_is
     by_says p (a_text bytes) h = whole_by p (a_text bytes) h text_is
