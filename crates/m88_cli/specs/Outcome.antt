@@ -1,4 +1,4 @@
--- What an outcome says.
+-- Words for the contracts of private functions; no promise of the program names them. What an outcome says.
 use Rattle.m88_cli.specs.declared.outcome.Outcome.{Outcome}
 use Rattle.m88_cli.specs.Report.{Summary}
 

@@ -15,6 +15,9 @@ use Rattle.m88_parse.specs.Fault.{Gives, out_of_memory}
 use Rattle.m88_parse.specs.SourceFault.{IsSourceKind, HasPlace, IsSourceFault}
 use Rattle.m88_parse.specs.Names
 use Rattle.m88_parse.specs.Tokens
+use Rattle.m88_parse.specs.Spelling.Bytes
+use Rattle.m88_parse.specs.Spelling.Pieces
+use Rattle.m88_parse.specs.Spelling.Words
 use Rattle.m88_parse.specs.State.{State, first, second, past, is_next, trouble, ◌>>=◌}
 use Rattle.m88_parse.specs.Slots
 use Rattle.m88_parse.specs.Operands
@@ -38,7 +41,7 @@ by_test false r q h k = k
 mark_at : (m : ℕ) (s : State) → Fine (Slots.mark_at m s)
 mark_at m s = by_test (is_next m s) (Ok (past s)) (trouble Syntax s) tt tt
 
-end_on : (s : State) (m : Option Tokens.Meaning) → Fine (Slots.end_on s m)
+end_on : (s : State) (m : Option Pieces.Meaning) → Fine (Slots.end_on s m)
 end_on s None = tt
 end_on s (Some m) = tt
 
@@ -49,23 +52,23 @@ named : (s : State) (o : Option ℕ) → Fine (Slots.named s o)
 named s (Some n) = tt
 named s None = tt
 
-number_on : (most : ℕ) (s : State) (m : Option Tokens.Meaning) → Fine (Slots.number_on most s m)
+number_on : (most : ℕ) (s : State) (m : Option Pieces.Meaning) → Fine (Slots.number_on most s m)
 number_on most s None = tt
-number_on most s (Some (Tokens.a_name text)) = tt
-number_on most s (Some (Tokens.a_number n)) = ranged most n s
-number_on most s (Some (Tokens.a_text text)) = tt
-number_on most s (Some (Tokens.a_mark b)) = tt
+number_on most s (Some (Pieces.a_name text)) = tt
+number_on most s (Some (Pieces.a_number n)) = ranged most n s
+number_on most s (Some (Pieces.a_text text)) = tt
+number_on most s (Some (Pieces.a_mark b)) = tt
 
 number_at : (most : ℕ) (s : State) → Fine (Slots.number_at most s)
 unfolding Slots.number_at
 number_at most s = number_on most s (first s)
 
-negative_on : (low : ℕ) (s t : State) (m : Option Tokens.Meaning) → Fine (Slots.negative_on low s t m)
+negative_on : (low : ℕ) (s t : State) (m : Option Pieces.Meaning) → Fine (Slots.negative_on low s t m)
 negative_on low s t None = tt
-negative_on low s t (Some (Tokens.a_name text)) = tt
-negative_on low s t (Some (Tokens.a_number n)) = by_test (nat_le n low) (Ok (Slots.negated n, past t)) (trouble OutOfRange s) tt tt
-negative_on low s t (Some (Tokens.a_text text)) = tt
-negative_on low s t (Some (Tokens.a_mark b)) = tt
+negative_on low s t (Some (Pieces.a_name text)) = tt
+negative_on low s t (Some (Pieces.a_number n)) = by_test (nat_le n low) (Ok (Slots.negated n, past t)) (trouble OutOfRange s) tt tt
+negative_on low s t (Some (Pieces.a_text text)) = tt
+negative_on low s t (Some (Pieces.a_mark b)) = tt
 
 whole_at : (low most : ℕ) (s : State) → Fine (Slots.whole_at low most s)
 unfolding Slots.whole_at
@@ -75,56 +78,56 @@ as_register : (s : State) (o : Option ℕ) → Fine (Slots.as_register s o)
 as_register s (Some n) = tt
 as_register s None = tt
 
-register_on : (s : State) (m : Option Tokens.Meaning) → Fine (Slots.register_on s m)
+register_on : (s : State) (m : Option Pieces.Meaning) → Fine (Slots.register_on s m)
 register_on s None = tt
-register_on s (Some (Tokens.a_name text)) = as_register s (Names.register_of text)
-register_on s (Some (Tokens.a_number n)) = tt
-register_on s (Some (Tokens.a_text text)) = tt
-register_on s (Some (Tokens.a_mark b)) = tt
+register_on s (Some (Pieces.a_name text)) = as_register s (Names.register_of text)
+register_on s (Some (Pieces.a_number n)) = tt
+register_on s (Some (Pieces.a_text text)) = tt
+register_on s (Some (Pieces.a_mark b)) = tt
 
 register_at : (s : State) → Fine (Slots.register_at s)
 unfolding Slots.register_at
 register_at s = register_on s (first s)
 
-control_on : (float : Bool) (s : State) (m : Option Tokens.Meaning) → Fine (Slots.control_on float s m)
+control_on : (float : Bool) (s : State) (m : Option Pieces.Meaning) → Fine (Slots.control_on float s m)
 control_on float s None = tt
-control_on float s (Some (Tokens.a_name text)) = named s (Names.control_in float text)
-control_on float s (Some (Tokens.a_number n)) = tt
-control_on float s (Some (Tokens.a_text text)) = tt
-control_on float s (Some (Tokens.a_mark b)) = tt
+control_on float s (Some (Pieces.a_name text)) = named s (Names.control_in float text)
+control_on float s (Some (Pieces.a_number n)) = tt
+control_on float s (Some (Pieces.a_text text)) = tt
+control_on float s (Some (Pieces.a_mark b)) = tt
 
 control_at : (float : Bool) (s : State) → Fine (Slots.control_at float s)
 unfolding Slots.control_at
 control_at float s = control_on float s (first s)
 
-bit_on : (s : State) (m : Option Tokens.Meaning) → Fine (Slots.bit_on s m)
+bit_on : (s : State) (m : Option Pieces.Meaning) → Fine (Slots.bit_on s m)
 bit_on s None = tt
-bit_on s (Some (Tokens.a_name text)) = named s (Names.bit_of text)
-bit_on s (Some (Tokens.a_number n)) = ranged 31 n s
-bit_on s (Some (Tokens.a_text text)) = tt
-bit_on s (Some (Tokens.a_mark b)) = tt
+bit_on s (Some (Pieces.a_name text)) = named s (Words.bit_of text)
+bit_on s (Some (Pieces.a_number n)) = ranged 31 n s
+bit_on s (Some (Pieces.a_text text)) = tt
+bit_on s (Some (Pieces.a_mark b)) = tt
 
 bit_at : (s : State) → Fine (Slots.bit_at s)
 unfolding Slots.bit_at
 bit_at s = bit_on s (first s)
 
-mask_on : (s : State) (m : Option Tokens.Meaning) → Fine (Slots.mask_on s m)
+mask_on : (s : State) (m : Option Pieces.Meaning) → Fine (Slots.mask_on s m)
 mask_on s None = tt
-mask_on s (Some (Tokens.a_name text)) = named s (Names.condition_of text)
-mask_on s (Some (Tokens.a_number n)) = ranged 15 n s
-mask_on s (Some (Tokens.a_text text)) = tt
-mask_on s (Some (Tokens.a_mark b)) = tt
+mask_on s (Some (Pieces.a_name text)) = named s (Words.condition_of text)
+mask_on s (Some (Pieces.a_number n)) = ranged 15 n s
+mask_on s (Some (Pieces.a_text text)) = tt
+mask_on s (Some (Pieces.a_mark b)) = tt
 
 mask_at : (s : State) → Fine (Slots.mask_at s)
 unfolding Slots.mask_at
 mask_at s = mask_on s (first s)
 
-symbol_on : (s : State) (m : Option Tokens.Meaning) → Fine (Slots.symbol_on s m)
+symbol_on : (s : State) (m : Option Pieces.Meaning) → Fine (Slots.symbol_on s m)
 symbol_on s None = tt
-symbol_on s (Some (Tokens.a_name text)) = by_test (Names.is_symbol text) _ (trouble Syntax s) tt tt
-symbol_on s (Some (Tokens.a_number n)) = tt
-symbol_on s (Some (Tokens.a_text text)) = tt
-symbol_on s (Some (Tokens.a_mark b)) = tt
+symbol_on s (Some (Pieces.a_name text)) = by_test (Names.is_symbol text) _ (trouble Syntax s) tt tt
+symbol_on s (Some (Pieces.a_number n)) = tt
+symbol_on s (Some (Pieces.a_text text)) = tt
+symbol_on s (Some (Pieces.a_mark b)) = tt
 
 symbol_at : (s : State) → Fine (Slots.symbol_at s)
 unfolding Slots.symbol_at
@@ -143,45 +146,45 @@ fixup_at kind s = by_bind (Slots.symbol_at s) _ (symbol_at s) (λ name. by_bind 
 whole_value : (kind : Kind) (s : State) → Fine (Slots.whole_at 2147483648 4294967295 s)
 whole_value kind s = whole_at 2147483648 4294967295 s
 
-value_on : (kind : Kind) (s : State) (m : Option Tokens.Meaning) → Fine (Slots.value_on kind s m)
+value_on : (kind : Kind) (s : State) (m : Option Pieces.Meaning) → Fine (Slots.value_on kind s m)
 value_on kind s None = by_bind (Slots.whole_at 2147483648 4294967295 s) _ (whole_value kind s) (λ n. tt)
-value_on kind s (Some (Tokens.a_name text)) = by_bind (Slots.fixup_at kind s) _ (fixup_at kind s) (λ x. tt)
-value_on kind s (Some (Tokens.a_number n)) = by_bind (Slots.whole_at 2147483648 4294967295 s) _ (whole_value kind s) (λ n. tt)
-value_on kind s (Some (Tokens.a_text text)) = by_bind (Slots.whole_at 2147483648 4294967295 s) _ (whole_value kind s) (λ n. tt)
-value_on kind s (Some (Tokens.a_mark b)) = by_bind (Slots.whole_at 2147483648 4294967295 s) _ (whole_value kind s) (λ n. tt)
+value_on kind s (Some (Pieces.a_name text)) = by_bind (Slots.fixup_at kind s) _ (fixup_at kind s) (λ x. tt)
+value_on kind s (Some (Pieces.a_number n)) = by_bind (Slots.whole_at 2147483648 4294967295 s) _ (whole_value kind s) (λ n. tt)
+value_on kind s (Some (Pieces.a_text text)) = by_bind (Slots.whole_at 2147483648 4294967295 s) _ (whole_value kind s) (λ n. tt)
+value_on kind s (Some (Pieces.a_mark b)) = by_bind (Slots.whole_at 2147483648 4294967295 s) _ (whole_value kind s) (λ n. tt)
 
 value_at : (kind : Kind) (s : State) → Fine (Slots.value_at kind s)
 unfolding Slots.value_at
 value_at kind s = value_on kind s (first s)
 
-text_on : (s : State) (m : Option Tokens.Meaning) → Fine (Slots.text_on s m)
+text_on : (s : State) (m : Option Pieces.Meaning) → Fine (Slots.text_on s m)
 text_on s None = tt
-text_on s (Some (Tokens.a_name text)) = tt
-text_on s (Some (Tokens.a_number n)) = tt
-text_on s (Some (Tokens.a_text text)) = tt
-text_on s (Some (Tokens.a_mark b)) = tt
+text_on s (Some (Pieces.a_name text)) = tt
+text_on s (Some (Pieces.a_number n)) = tt
+text_on s (Some (Pieces.a_text text)) = tt
+text_on s (Some (Pieces.a_mark b)) = tt
 
 text_at : (s : State) → Fine (Slots.text_at s)
 unfolding Slots.text_at
 text_at s = text_on s (first s)
 
-any_name_on : (s : State) (m : Option Tokens.Meaning) → Fine (Slots.any_name_on s m)
+any_name_on : (s : State) (m : Option Pieces.Meaning) → Fine (Slots.any_name_on s m)
 any_name_on s None = tt
-any_name_on s (Some (Tokens.a_name text)) = by_test (Names.is_name text) _ (trouble Syntax s) tt tt
-any_name_on s (Some (Tokens.a_number n)) = tt
-any_name_on s (Some (Tokens.a_text text)) = tt
-any_name_on s (Some (Tokens.a_mark b)) = tt
+any_name_on s (Some (Pieces.a_name text)) = by_test (Names.is_name text) _ (trouble Syntax s) tt tt
+any_name_on s (Some (Pieces.a_number n)) = tt
+any_name_on s (Some (Pieces.a_text text)) = tt
+any_name_on s (Some (Pieces.a_mark b)) = tt
 
 any_name_at : (s : State) → Fine (Slots.any_name_at s)
 unfolding Slots.any_name_at
 any_name_at s = any_name_on s (first s)
 
-alignment_on : (s : State) (m : Option Tokens.Meaning) → Fine (Slots.alignment_on s m)
+alignment_on : (s : State) (m : Option Pieces.Meaning) → Fine (Slots.alignment_on s m)
 alignment_on s None = tt
-alignment_on s (Some (Tokens.a_name text)) = tt
-alignment_on s (Some (Tokens.a_number n)) = by_test _ (Ok (n, past s)) (trouble OutOfRange s) tt tt
-alignment_on s (Some (Tokens.a_text text)) = tt
-alignment_on s (Some (Tokens.a_mark b)) = tt
+alignment_on s (Some (Pieces.a_name text)) = tt
+alignment_on s (Some (Pieces.a_number n)) = by_test _ (Ok (n, past s)) (trouble OutOfRange s) tt tt
+alignment_on s (Some (Pieces.a_text text)) = tt
+alignment_on s (Some (Pieces.a_mark b)) = tt
 
 alignment_at : (s : State) → Fine (Slots.alignment_at s)
 unfolding Slots.alignment_at
@@ -193,12 +196,12 @@ unfolding Operands.half_at
 half_at kind s =
     by_bind (Slots.mark_at 40 (past s)) _ (mark_at 40 (past s)) (λ a. by_bind (Slots.value_at kind a) _ (value_at kind a) (λ v. by_bind (Slots.mark_at 41 v.1) _ (mark_at 41 v.1) (λ b. tt)))
 
-short_on : (s : State) (m : Option Tokens.Meaning) → Fine (Operands.short_on s m)
+short_on : (s : State) (m : Option Pieces.Meaning) → Fine (Operands.short_on s m)
 short_on s None = tt
-short_on s (Some (Tokens.a_name text)) = tt
-short_on s (Some (Tokens.a_number n)) = by_test (nat_le n 65535) _ (trouble OutOfRange s) tt tt
-short_on s (Some (Tokens.a_text text)) = tt
-short_on s (Some (Tokens.a_mark b)) = tt
+short_on s (Some (Pieces.a_name text)) = tt
+short_on s (Some (Pieces.a_number n)) = by_test (nat_le n 65535) _ (trouble OutOfRange s) tt tt
+short_on s (Some (Pieces.a_text text)) = tt
+short_on s (Some (Pieces.a_mark b)) = tt
 
 immediate_of : (s : State) (o : Option Kind) → Fine (Operands.immediate_of s o)
 immediate_of s (Some kind) = half_at kind s
@@ -216,12 +219,12 @@ operand_at : (s : State) → Fine (Operands.operand_at s)
 unfolding Operands.operand_at
 operand_at s = operand_of s (Operands.register_in (first s))
 
-bound_on : (s : State) (m : Option Tokens.Meaning) → Fine (Operands.bound_on s m)
+bound_on : (s : State) (m : Option Pieces.Meaning) → Fine (Operands.bound_on s m)
 bound_on s None = tt
-bound_on s (Some (Tokens.a_name text)) = by_bind (Slots.register_at s) _ (register_at s) (λ r. tt)
-bound_on s (Some (Tokens.a_number n)) = by_test (nat_le n 65535) _ (trouble OutOfRange s) tt tt
-bound_on s (Some (Tokens.a_text text)) = tt
-bound_on s (Some (Tokens.a_mark b)) = tt
+bound_on s (Some (Pieces.a_name text)) = by_bind (Slots.register_at s) _ (register_at s) (λ r. tt)
+bound_on s (Some (Pieces.a_number n)) = by_test (nat_le n 65535) _ (trouble OutOfRange s) tt tt
+bound_on s (Some (Pieces.a_text text)) = tt
+bound_on s (Some (Pieces.a_mark b)) = tt
 
 bound_at : (s : State) → Fine (Operands.bound_at s)
 unfolding Operands.bound_at
@@ -253,23 +256,23 @@ literal_at most s =
     by_bind (Operands.width_at most s) _ (width_at most s) (λ w. by_bind (Slots.mark_at 60 w.1) _ (mark_at 60 w.1)
     (λ a. by_bind (Slots.number_at 31 a) _ (number_at 31 a) (λ o. by_bind (Slots.mark_at 62 o.1) _ (mark_at 62 o.1) (λ b. tt))))
 
-field_on : (most : ℕ) (s : State) (m : Option Tokens.Meaning) → Fine (Operands.field_on most s m)
+field_on : (most : ℕ) (s : State) (m : Option Pieces.Meaning) → Fine (Operands.field_on most s m)
 field_on most s None = literal_at most s
-field_on most s (Some (Tokens.a_name text)) = by_bind (Slots.register_at s) _ (register_at s) (λ r. tt)
-field_on most s (Some (Tokens.a_number n)) = literal_at most s
-field_on most s (Some (Tokens.a_text text)) = literal_at most s
-field_on most s (Some (Tokens.a_mark b)) = literal_at most s
+field_on most s (Some (Pieces.a_name text)) = by_bind (Slots.register_at s) _ (register_at s) (λ r. tt)
+field_on most s (Some (Pieces.a_number n)) = literal_at most s
+field_on most s (Some (Pieces.a_text text)) = literal_at most s
+field_on most s (Some (Pieces.a_mark b)) = literal_at most s
 
 field_at : (most : ℕ) (s : State) → Fine (Operands.field_at most s)
 unfolding Operands.field_at
 field_at most s = field_on most s (first s)
 
-distance_on : (most : ℕ) (s : State) (m : Option Tokens.Meaning) → Fine (Operands.distance_on most s m)
+distance_on : (most : ℕ) (s : State) (m : Option Pieces.Meaning) → Fine (Operands.distance_on most s m)
 distance_on most s None = tt
-distance_on most s (Some (Tokens.a_name text)) = tt
-distance_on most s (Some (Tokens.a_number n)) = by_test (n % 4 == 0 && nat_le (n / 4) most) (Ok (n / 4, past s)) (trouble OutOfRange s) tt tt
-distance_on most s (Some (Tokens.a_text text)) = tt
-distance_on most s (Some (Tokens.a_mark b)) = tt
+distance_on most s (Some (Pieces.a_name text)) = tt
+distance_on most s (Some (Pieces.a_number n)) = by_test (n % 4 == 0 && nat_le (n / 4) most) (Ok (n / 4, past s)) (trouble OutOfRange s) tt tt
+distance_on most s (Some (Pieces.a_text text)) = tt
+distance_on most s (Some (Pieces.a_mark b)) = tt
 
 distance_at : (most : ℕ) (s : State) → Fine (Operands.distance_at most s)
 unfolding Operands.distance_at
@@ -330,18 +333,18 @@ by_form : (s : State) (o : Option Grammar.Form) → Fine (Source.by_form s o)
 by_form s (Some form) = read form (past s)
 by_form s None = tt
 
-operation_on : (s : State) (m : Option Tokens.Meaning) → Fine (Source.operation_on s m)
+operation_on : (s : State) (m : Option Pieces.Meaning) → Fine (Source.operation_on s m)
 operation_on s None = tt
-operation_on s (Some (Tokens.a_name name)) = by_test (Names.is_module name) (trouble Syntax s) _ tt (by_form s (Source.form_named name))
-operation_on s (Some (Tokens.a_number n)) = tt
-operation_on s (Some (Tokens.a_text text)) = tt
-operation_on s (Some (Tokens.a_mark b)) = tt
+operation_on s (Some (Pieces.a_name name)) = by_test (Names.is_module name) (trouble Syntax s) _ tt (by_form s (Source.form_named name))
+operation_on s (Some (Pieces.a_number n)) = tt
+operation_on s (Some (Pieces.a_text text)) = tt
+operation_on s (Some (Pieces.a_mark b)) = tt
 
 operation_at : (s : State) → Fine (Source.operation_at s)
 unfolding Source.operation_at
 operation_at s = operation_on s (first s)
 
-labelled_on : (s : State) (label : List ℕ × ℕ) (m : Option Tokens.Meaning) → Fine (Source.labelled_on s label m)
+labelled_on : (s : State) (label : List ℕ × ℕ) (m : Option Pieces.Meaning) → Fine (Source.labelled_on s label m)
 labelled_on s label None = tt
 labelled_on s label (Some m) = by_bind (Source.operation_at s) _ (operation_at s) (λ b. tt)
 
@@ -368,7 +371,7 @@ flaw_test : (b : Bool) (r q : Result Tokens.Cut Flaw) → FineFlaw r → FineFla
 flaw_test true r q h k = h
 flaw_test false r q h k = k
 
-token_or_flaw : (len : ℕ) (o : Option Tokens.Meaning) → FineFlaw (Tokens.token_or_flaw len o)
+token_or_flaw : (len : ℕ) (o : Option Pieces.Meaning) → FineFlaw (Tokens.token_or_flaw len o)
 token_or_flaw len (Some m) = tt
 token_or_flaw len None = tt
 
@@ -376,7 +379,7 @@ quoted : (quote : ℕ) (bs : List ℕ) → FineFlaw (Tokens.quoted quote bs)
 unfolding Tokens.quoted
 quoted quote bs =
     let len = Tokens.inside_len quote false bs in
-    flaw_test (nat_lt (prefix_len Tokens.is_plain (take len bs)) len) _ _ tt (token_or_flaw (len + 2) (cond (len == length bs) None (Tokens.quoted_meaning quote (take len bs))))
+    flaw_test (nat_lt (prefix_len Bytes.is_plain (take len bs)) len) _ _ tt (token_or_flaw (len + 2) (cond (len == length bs) None (Tokens.quoted_meaning quote (take len bs))))
 
 abbrev FineNumber : Result ℕ ParseKind → Type 0
 FineNumber (Ok n) = Unit {0}
@@ -403,16 +406,16 @@ front : (bs : List ℕ) → FineFlaw (Tokens.front bs)
 unfolding Tokens.front
 front [] = tt
 front (b ∷ bs) =
-    flaw_test (Tokens.is_comment b) _ _ tt (flaw_test (Tokens.is_blank b) _ _ tt (flaw_test (not (Tokens.is_plain b)) _ _ tt
-    (flaw_test (Tokens.is_word b) _ _ (word_front b (take (prefix_len Tokens.is_word (b ∷ bs)) (b ∷ bs)))
-    (flaw_test (Tokens.is_mark b) _ _ tt (flaw_test (b == 34 || b == 39) _ _ (quoted b bs) tt)))))
+    flaw_test (Bytes.is_comment b) _ _ tt (flaw_test (Bytes.is_blank b) _ _ tt (flaw_test (not (Bytes.is_plain b)) _ _ tt
+    (flaw_test (Bytes.is_word b) _ _ (word_front b (take (prefix_len Bytes.is_word (b ∷ bs)) (b ∷ bs)))
+    (flaw_test (Bytes.is_mark b) _ _ tt (flaw_test (b == 34 || b == 39) _ _ (quoted b bs) tt)))))
 
-prepend : (m : Option Tokens.Meaning) (col : ℕ) (text : List ℕ) (r : Result (List Tokens.Piece) ParseFault) → Fine r → Fine (Tokens.prepend m col text r)
+prepend : (m : Option Pieces.Meaning) (col : ℕ) (text : List ℕ) (r : Result (List Pieces.Piece) ParseFault) → Fine r → Fine (Tokens.prepend m col text r)
 prepend None col text r h = h
 prepend (Some m) col text (Ok ps) h = tt
 prepend (Some m) col text (Err e) h = h
 
-abbrev at_front : ℕ → ℕ → ℕ → List ℕ → Result Tokens.Cut Flaw → Result (List Tokens.Piece) ParseFault
+abbrev at_front : ℕ → ℕ → ℕ → List ℕ → Result Tokens.Cut Flaw → Result (List Pieces.Piece) ParseFault
 at_front line col b bs r = elim r [
   | Ok c ↦ Tokens.prepend c.says col (take c.len (b ∷ bs)) (Tokens.pieces line (c.len - 1) (col + 1) bs)
   | Err f ↦ Err (Tokens.fault_at line col f)
@@ -429,7 +432,7 @@ pieces line (suc skip) col (b ∷ bs) = pieces line skip (col + 1) bs
 pieces line zero col (b ∷ bs) = by_front line col b bs (Tokens.front (b ∷ bs)) (front (b ∷ bs)) (λ skip. pieces line skip (col + 1) bs)
 
 -- sources
-row_of_pieces : (line : ℕ) (ps : List Tokens.Piece) → Fine (Source.row_of_pieces line ps)
+row_of_pieces : (line : ℕ) (ps : List Pieces.Piece) → Fine (Source.row_of_pieces line ps)
 row_of_pieces line [] = tt
 row_of_pieces line (p ∷ ps) = by_bind (Source.row_at _) _ (row_at _) (λ r. tt)
 

@@ -6,7 +6,8 @@ use Rattle.m88_parse.specs.declared.token.Token.{Token}
 use Rattle.m88_parse.specs.Places.{IsSlice, IsLexemeOf, IsTokenOf}
 use Rattle.m88_parse.specs.declared.fault.ParseFault.{ParseFault}
 use Rattle.m88_parse.specs.declared.scan.Flaw.{Flaw}
-use Rattle.m88_parse.specs.Tokens.{PlainToken, plain_token, token_of, piece_of, Meaning, Cut, Piece, front, pieces, prepend, fault_at}
+use Rattle.m88_parse.specs.Tokens.{piece_of, Cut, front, pieces, prepend, fault_at}
+use Rattle.m88_parse.specs.Spelling.Pieces.{PlainToken, plain_token, token_of, Meaning, Piece}
 
 -- what was cut off before, and what is still cut
 abbrev pub with_front : List Piece → Result (List Piece) ParseFault → Result (List Piece) ParseFault

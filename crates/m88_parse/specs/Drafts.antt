@@ -1,5 +1,5 @@
--- The modules of a source as they grow row by row: what a part of the source has come to, and how the rest goes on from
--- there. Only the contracts of inner calls cite these.
+-- Words for the contracts of private functions; no promise of the program names them. The modules of a source as they grow
+-- row by row: what a part of the source has come to, and how the rest goes on from there.
 use Rattle.std.specs.Prelude.{◌≡◌, ℕ, ◌+◌, List, [], ◌∷◌, ◌++◌, length, Option, Some, None, Result, Ok, Err, IfSome}
 use Rattle.std.specs.List.{All, sum_by}
 use Rattle.std.specs.Option.{unwrap_or}

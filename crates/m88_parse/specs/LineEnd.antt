@@ -1,4 +1,4 @@
--- The CR of a line end, cut off; only the contracts of inner calls cite it.
+-- Words for the contracts of private functions; no promise of the program names them. The CR of a line end, cut off.
 use Rattle.std.specs.Prelude.{ℕ, List, [], ◌∷◌, ◌==◌, cond}
 
 -- the line without a CR that is its last byte

@@ -1,12 +1,10 @@
--- Names with a meaning of their own (operand syntax of the assembly language): registers, control registers, bits of
--- a comparison, conditions and halves. All are in lower case, and their numbers have no needless 0 in front.
+-- Names with a meaning of their own as they are read (operand syntax of the assembly language): registers and control
+-- registers, in lower case and with no needless 0 in their numbers, and symbols.
 use Rattle.std.specs.Prelude.{ℕ, Bool, true, false, List, [], ◌∷◌, ◌==◌, ◌&&◌, ◌||◌, not, nat_le, nat_lt, length, if◌then◌else◌, Option, Some, None, Result, Ok, Err, is_some, codes}
 use Rattle.std.specs.List.{list_all}
 use Rattle.std.specs.Str.{bytes_eq}
 use Rattle.std.specs.Str.Parse.{digits_value}
 use Rattle.m88_base.specs.Name.{begins_name, continues_name}
-use Rattle.m88_base.specs.declared.fixup.Kind.{Kind}
-use Rattle.m88_base.specs.declared.fixup.Kind.TheVariants.{Hi16, Lo16}
 use Rattle.m88_parse.specs.declared.fault.ParseKind.{ParseKind}
 use Rattle.m88_parse.specs.Tokens.{is_decimal, bounded}
 
@@ -38,26 +36,6 @@ float_control_of [] = None
 abbrev pub control_in : Bool → List ℕ → Option ℕ
 control_in false name = control_of name
 control_in true name = float_control_of name
-
--- bits of the word that `cmp` gives
-unfoldable pub bit_of : List ℕ → Option ℕ
-bit_of name =
-    if bytes_eq name (codes "eq") then Some 2 else (if bytes_eq name (codes "ne") then Some 3
-    else (if bytes_eq name (codes "gt") then Some 4 else (if bytes_eq name (codes "le") then Some 5
-    else (if bytes_eq name (codes "lt") then Some 6 else (if bytes_eq name (codes "ge") then Some 7
-    else (if bytes_eq name (codes "hi") then Some 8 else (if bytes_eq name (codes "ls") then Some 9
-    else (if bytes_eq name (codes "lo") then Some 10 else (if bytes_eq name (codes "hs") then Some 11 else None)))))))))
-
--- conditions on a register's value
-unfoldable pub condition_of : List ℕ → Option ℕ
-condition_of name =
-    if bytes_eq name (codes "eq0") then Some 2 else (if bytes_eq name (codes "ne0") then Some 13
-    else (if bytes_eq name (codes "gt0") then Some 1 else (if bytes_eq name (codes "lt0") then Some 12
-    else (if bytes_eq name (codes "ge0") then Some 3 else (if bytes_eq name (codes "le0") then Some 14 else None)))))
-
--- the upper or the lower half of a value
-unfoldable pub half_of : List ℕ → Option Kind
-half_of name = if bytes_eq name (codes "hi16") then Some Hi16 else (if bytes_eq name (codes "lo16") then Some Lo16 else None)
 
 -- the place of a statement
 abbrev pub is_here : List ℕ → Bool

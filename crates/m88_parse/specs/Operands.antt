@@ -18,8 +18,9 @@ use Rattle.m88_parse.specs.declared.operand.Index.TheVariants as index
 use Rattle.m88_parse.specs.declared.operand.Field.{Field}
 use Rattle.m88_parse.specs.declared.operand.Field.TheVariants as field
 use Rattle.m88_parse.specs.declared.operand.Goal.{Goal}
-use Rattle.m88_parse.specs.Names.{register_of, half_of, is_here}
-use Rattle.m88_parse.specs.Tokens.{Meaning, a_name, a_number}
+use Rattle.m88_parse.specs.Names.{register_of, is_here}
+use Rattle.m88_parse.specs.Spelling.Words.{half_of}
+use Rattle.m88_parse.specs.Spelling.Pieces.{Meaning, a_name, a_number}
 use Rattle.m88_parse.specs.State.{State, first, second, past, trouble, is_mark_of, is_next, ◌>>=◌}
 use Rattle.m88_parse.specs.Slots.{Read, mark_at, number_at, register_at, fixup_at, value_at}
 

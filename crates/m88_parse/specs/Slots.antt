@@ -9,8 +9,9 @@ use Rattle.m88_parse.specs.declared.fault.ParseFault.{ParseFault}
 use Rattle.m88_parse.specs.declared.fault.ParseKind.TheVariants.{Syntax, NoSuchName, OutOfRange}
 use Rattle.m88_parse.specs.declared.unit.Value.{Value}
 use Rattle.m88_parse.specs.declared.unit.Value.TheVariants as value
-use Rattle.m88_parse.specs.Names.{register_of, control_in, bit_of, condition_of, is_name, is_symbol}
-use Rattle.m88_parse.specs.Tokens.{Meaning, a_name, a_number, a_text}
+use Rattle.m88_parse.specs.Names.{register_of, control_in, is_name, is_symbol}
+use Rattle.m88_parse.specs.Spelling.Words.{bit_of, condition_of}
+use Rattle.m88_parse.specs.Spelling.Pieces.{Meaning, a_name, a_number, a_text}
 use Rattle.m88_parse.specs.State.{State, first, place, past, trouble, is_next, ◌>>=◌}
 
 -- a value and what is left behind it, or a fault

@@ -14,7 +14,8 @@ use Rattle.m88_parse.specs.declared.unit.Unit.{Unit as Source}
 use Rattle.m88_parse.specs.declared.row.Row.{Row}
 use Rattle.m88_parse.specs.declared.row.Row.TheVariants as row
 use Rattle.m88_parse.specs.Names.{is_module}
-use Rattle.m88_parse.specs.Tokens.{Meaning, a_name, Piece, pieces_of}
+use Rattle.m88_parse.specs.Tokens.{pieces_of}
+use Rattle.m88_parse.specs.Spelling.Pieces.{Meaning, a_name, Piece}
 use Rattle.m88_parse.specs.State.{State, first, second, place, past, trouble, is_mark_of, ◌>>=◌}
 use Rattle.m88_parse.specs.Slots.{symbol_at, any_name_at, end_at}
 use Rattle.m88_parse.specs.Shape.{shape_of}

@@ -1,3 +1,6 @@
+pub mod Bytes
+pub mod Pieces
+pub mod Words
 pub mod Tokens
 pub mod Names
 pub mod Operands

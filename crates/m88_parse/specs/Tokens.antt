@@ -1,60 +1,21 @@
--- A line as tokens (tokens of the assembly language). Bytes are numbers, and columns count from 1.
-use Rattle.std.specs.Prelude.{ℕ, zero, suc, ◌+◌, ◌-◌, ◌&&◌, ◌||◌, not, Bool, true, false, ◌==◌, nat_lt, nat_le, if◌then◌else◌, List, [], ◌∷◌, length, take, drop, map, Option, Some, None, Result, Ok, Err}
-use lib.Chars.{codes}
-use Rattle.std.specs.List.{list_any, list_all, prefix_len}
-use Rattle.std.specs.Char.{digit_value, is_ascii_digit}
+-- A line as it is cut into tokens, from the left (tokens of the assembly language). The relation beside it, in Spelling,
+-- says what a line's tokens are; laws tie the two.
+use Rattle.std.specs.Prelude.{ℕ, zero, suc, ◌+◌, ◌-◌, ◌&&◌, ◌||◌, not, Bool, true, false, ◌==◌, nat_lt, if◌then◌else◌, List, [], ◌∷◌, length, take, drop, map, Option, Some, None, Result, Ok, Err}
+use Rattle.std.specs.List.{prefix_len}
+use Rattle.std.specs.Char.{is_ascii_digit}
 use Rattle.std.specs.Str.Parse.{digits_value}
-use Rattle.m88_base.specs.Name.{continues_name}
 use Rattle.m88_parse.specs.declared.fault.ParseKind.{ParseKind}
 use Rattle.m88_parse.specs.declared.fault.ParseKind.TheVariants.{NotAscii, Syntax, OutOfRange}
 use Rattle.m88_parse.specs.declared.fault.ParseFault.{ParseFault}
-use Rattle.m88_parse.specs.declared.token.TokenKind.{TokenKind}
-use Rattle.m88_parse.specs.declared.token.TokenKind.TheVariants as kinds
-use Rattle.m88_parse.specs.declared.token.Token.{Token}
 use Rattle.m88_parse.specs.declared.token.What.{What}
 use Rattle.m88_parse.specs.declared.token.What.TheVariants as whats
 use Rattle.m88_parse.specs.declared.token.Lexeme.{Lexeme}
 use Rattle.m88_parse.specs.declared.scan.Cut.{Cut as CutOfCode}
 use Rattle.m88_parse.specs.declared.scan.Flaw.{Flaw}
-
--- blanks separate tokens: space and tab
-abbrev pub is_blank : ℕ → Bool
-is_blank b = b == 32 || b == 9
-
--- a comment begins at ; or #
-abbrev pub is_comment : ℕ → Bool
-is_comment b = b == 59 || b == 35
-
--- what may stand outside comments: 32 to 126 and the tab
-abbrev pub is_plain : ℕ → Bool
-is_plain b = nat_le 32 b && nat_le b 126 || b == 9
-
--- what names and numbers are made of: the bytes that may stand in a name, which are letters, digits, _ . $
-abbrev pub is_word : ℕ → Bool
-is_word b = continues_name b
-
-abbrev pub is_mark : ℕ → Bool
-is_mark b = list_any (λ m. b == m) (codes ",:[]<>()+-")
-
--- the byte behind the backslash of an escape
-abbrev pub is_escape : ℕ → Bool
-is_escape b = list_any (λ m. b == m) (110 ∷ 116 ∷ 48 ∷ 92 ∷ 34 ∷ 39 ∷ [])
-
--- the byte that an escape stands for: line feed, tab, 0, or the byte itself
-abbrev pub escape_value : ℕ → ℕ
-escape_value b = if b == 110 then 10 else (if b == 116 then 9 else (if b == 48 then 0 else b))
-
--- what a token says: a name, a number, the bytes of a text, or a mark
-pub data Meaning : Type 0 where
-  a_name : List ℕ → Meaning
-  a_number : ℕ → Meaning
-  a_text : List ℕ → Meaning
-  a_mark : ℕ → Meaning
+use Rattle.m88_parse.specs.Spelling.Bytes.{is_blank, is_comment, is_plain, is_word, is_mark, is_escape, escape_value, are_digits}
+use Rattle.m88_parse.specs.Spelling.Pieces.{Meaning, a_name, a_number, a_text, a_mark, Piece, PlainToken, token_of}
 
 -- Numbers: decimal digits without a needless 0 in front, or 0x and hexadecimal digits; below 2 ^ 32.
-
-abbrev pub are_digits : ℕ → List ℕ → Bool
-are_digits base ds = list_all (λ d. nat_lt (digit_value d) base) ds
 
 abbrev pub is_hexadecimal : List ℕ → Bool
 is_hexadecimal (a ∷ b ∷ d ∷ ds) = a == 48 && b == 120 && are_digits 16 (d ∷ ds)
@@ -160,12 +121,6 @@ front (b ∷ bs) =
     else (if is_mark b then cut 1 (a_mark b)
     else (if b == 34 || b == 39 then quoted b bs else flaw Syntax 0)))))
 
--- A token of a line without where it lies in memory: its bytes, its column and what it says.
-pub record Piece : Type 0 where
-  pub text : List ℕ
-  pub col : ℕ
-  pub says : Meaning
-
 abbrev pub prepend : Option Meaning → ℕ → List ℕ → Result (List Piece) ParseFault → Result (List Piece) ParseFault
 prepend None col text rest = rest
 prepend (Some meaning) col text (Ok pieces) = Ok (record { text = text; col = col; says = meaning } ∷ pieces)
@@ -204,26 +159,6 @@ cut_of c = record { len = c.len; says = meaning_in c.what }
 
 abbrev pub piece_of : Lexeme → Piece
 piece_of x = record { text = x.text.now; col = x.col; says = meaning_of x.what }
-
--- the kind of a token by what it says
-abbrev pub kind_of : Meaning → TokenKind
-kind_of (a_name _) = kinds.Name
-kind_of (a_number _) = kinds.Number
-kind_of (a_text _) = kinds.Text
-kind_of (a_mark _) = kinds.Mark
-
--- A token of the public call without where its bytes lie in memory.
-pub record PlainToken : Type 0 where
-  pub text : List ℕ
-  pub line : ℕ
-  pub col : ℕ
-  pub kind : TokenKind
-
-abbrev pub plain_token : Token → PlainToken
-plain_token t = record { text = t.text.now; line = t.line; col = t.col; kind = t.kind }
-
-abbrev pub token_of : ℕ → Piece → PlainToken
-token_of line p = record { text = p.text; line = line; col = p.col; kind = kind_of p.says }
 
 abbrev pub tokens_from : ℕ → Result (List Piece) ParseFault → Result (List PlainToken) ParseFault
 tokens_from line (Ok ps) = Ok (map (token_of line) ps)

@@ -4,7 +4,7 @@ ghost use Rattle.m88_parse.specs.declared.unit.Unit.{Unit as Source};
 ghost use Rattle.m88_parse.specs.Spelling.Faults.{IsFirstFault};
 ghost use Rattle.m88_parse.specs.Spelling.Tokens.{LineTokens};
 ghost use Rattle.m88_parse.specs.Spelling.Units.{IsUnit};
-ghost use Rattle.m88_parse.specs.Tokens.{Piece};
+ghost use Rattle.m88_parse.specs.Spelling.Pieces.{Piece};
 
 /// A line has at most one list of tokens.
 pub fn one_cutting()

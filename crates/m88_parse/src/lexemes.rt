@@ -4,7 +4,8 @@ ghost use Rattle.m88_parse.specs.Fault.{Gives, out_of_memory, IsTokenFault};
 ghost use Rattle.m88_parse.specs.Places.{IsNear, IsLexemeOf, IsTokenOf};
 ghost use Rattle.m88_parse.specs.Spelling.Faults.{IsUncut};
 ghost use Rattle.m88_parse.specs.Spelling.Tokens.{AreTokensOf};
-ghost use Rattle.m88_parse.specs.Tokens.{PlainToken, piece_of, plain_token, token_of, pieces_of, tokens_of};
+ghost use Rattle.m88_parse.specs.Tokens.{piece_of, pieces_of, tokens_of};
+ghost use Rattle.m88_parse.specs.Spelling.Pieces.{PlainToken, plain_token, token_of};
 
 use crate::fault::ParseFault;
 use crate::scan::front;

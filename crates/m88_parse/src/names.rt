@@ -1,5 +1,6 @@
 ghost use Rattle.std.specs.Prelude.{◌≡◌, ◌≤◌, ◌<◌, IfSome, SomeIff, true};
-ghost use Rattle.m88_parse.specs.Names.{number_up_to, register_of, control_of, float_control_of, control_in, bit_of, condition_of, half_of, is_here, is_module, is_name, is_symbol};
+ghost use Rattle.m88_parse.specs.Names.{number_up_to, register_of, control_of, float_control_of, control_in, is_here, is_module, is_name, is_symbol};
+ghost use Rattle.m88_parse.specs.Spelling.Words.{bit_of, condition_of, half_of};
 ghost use Rattle.m88_parse.specs.WellFormed.{IsHalf};
 
 use crate::scan::{is_decimal, value_of};
@@ -66,7 +67,7 @@ pub(crate) fn control_in(float: bool, name: &[u8]) -> Option<u32>
 }
 
 /// The bit of a comparison, by its name.
-#[tactic(auto, unfolding(crate::specs::Names::bit_of))]
+#[tactic(auto, unfolding(crate::specs::Spelling::Words::bit_of))]
 pub(crate) fn bit_of(name: &[u8]) -> Option<u32>
     ensures value { result ≡ bit_of name.now }
     ensures bound { IfSome result (λ n. n < 32) }
@@ -87,7 +88,7 @@ pub(crate) fn bit_of(name: &[u8]) -> Option<u32>
 }
 
 /// The mask of a condition, by its name.
-#[tactic(auto, unfolding(crate::specs::Names::condition_of))]
+#[tactic(auto, unfolding(crate::specs::Spelling::Words::condition_of))]
 pub(crate) fn condition_of(name: &[u8]) -> Option<u32>
     ensures value { result ≡ condition_of name.now }
     ensures bound { IfSome result (λ n. n < 16) }
@@ -104,7 +105,7 @@ pub(crate) fn condition_of(name: &[u8]) -> Option<u32>
 }
 
 /// Which half of a value `hi16` and `lo16` name.
-#[tactic(auto, unfolding(crate::specs::Names::half_of))]
+#[tactic(auto, unfolding(crate::specs::Spelling::Words::half_of))]
 pub(crate) fn half_of(name: &[u8]) -> Option<Kind>
     ensures value { result ≡ half_of name.now }
     ensures kind { IfSome result IsHalf }

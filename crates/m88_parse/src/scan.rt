@@ -3,7 +3,8 @@ ghost use Rattle.std.specs.List.{prefix_len};
 ghost use Rattle.std.specs.Char.{digit_value};
 ghost use Rattle.std.specs.Str.Parse.{digits_value};
 ghost use Rattle.m88_parse.specs.Fault.{IsCutKind};
-ghost use Rattle.m88_parse.specs.Tokens.{is_blank, is_comment, is_plain, is_word, is_mark, is_escape, escape_value, are_digits, is_hexadecimal, is_decimal, bounded, numeral, begins_escape, closes, inside_len, holds_escapes, character, cut_of, quoted, word_front, front};
+ghost use Rattle.m88_parse.specs.Tokens.{is_hexadecimal, is_decimal, bounded, numeral, begins_escape, closes, inside_len, holds_escapes, character, cut_of, quoted, word_front, front};
+ghost use Rattle.m88_parse.specs.Spelling.Bytes.{is_blank, is_comment, is_plain, is_word, is_mark, is_escape, escape_value, are_digits};
 
 use crate::fault::ParseKind;
 use crate::token::What;

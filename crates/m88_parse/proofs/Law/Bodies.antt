@@ -13,7 +13,7 @@ use Rattle.m88_parse.specs.declared.unit.Value.{Value}
 use Rattle.m88_parse.specs.declared.directive.Directive.{Directive}
 use Rattle.m88_parse.specs.declared.directive.Directive.TheVariants as directive
 use Rattle.m88_parse.specs.Names.{is_module}
-use Rattle.m88_parse.specs.Tokens.{Meaning, a_name, a_number, a_text, a_mark, Piece}
+use Rattle.m88_parse.specs.Spelling.Pieces.{Meaning, a_name, a_number, a_text, a_mark, Piece}
 use Rattle.m88_parse.specs.State.{State, ◌>>=◌}
 use Rattle.m88_parse.specs.Slots.{mark_at, number_at, whole_at, symbol_at, text_at, alignment_at}
 use Rattle.m88_parse.specs.Shape.{shape_of}

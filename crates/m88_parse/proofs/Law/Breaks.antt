@@ -5,7 +5,9 @@ use Rattle.std.proofs.Math.Seq.{drop-length}
 use Rattle.m88_parse.specs.declared.fault.ParseFault.{ParseFault}
 use Rattle.m88_parse.specs.declared.fault.ParseKind.{ParseKind}
 use Rattle.m88_parse.specs.declared.scan.Flaw.{Flaw}
-use Rattle.m88_parse.specs.Tokens.{is_blank, Meaning, Cut, front, Piece, prepend, fault_at, pieces, pieces_of}
+use Rattle.m88_parse.specs.Tokens.{Cut, front, prepend, fault_at, pieces, pieces_of}
+use Rattle.m88_parse.specs.Spelling.Bytes.{is_blank}
+use Rattle.m88_parse.specs.Spelling.Pieces.{Meaning, Piece}
 use Rattle.m88_parse.specs.Spelling.Faults.{IsFlaw, Breaks}
 use Rattle.m88_parse.proofs.Pieces.{cut_off, fault_front}
 use Rattle.m88_parse.proofs.Law.Fronts.{TokenAt, Stands, comment_stands, blank_stands, token_stands, front_stands}

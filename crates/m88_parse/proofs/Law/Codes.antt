@@ -20,7 +20,7 @@ use Rattle.m88_parse.specs.declared.operand.Field.{Field}
 use Rattle.m88_parse.specs.declared.operand.Field.TheVariants as field
 use Rattle.m88_parse.specs.declared.operand.Goal.{Goal}
 use Rattle.m88_parse.specs.declared.shape.Shape.{Shape}
-use Rattle.m88_parse.specs.Tokens.{Piece}
+use Rattle.m88_parse.specs.Spelling.Pieces.{Piece}
 use Rattle.m88_parse.specs.State.{State}
 use Rattle.m88_parse.specs.Slots.{mark_at, number_at, control_at, bit_at, mask_at}
 use Rattle.m88_parse.specs.Operands.{immediate_at, operand_at, bound_at, scaled_at, index_at, user_index_at, field_at, goal_at}

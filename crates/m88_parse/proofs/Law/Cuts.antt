@@ -2,7 +2,8 @@
 use Rattle.std.proofs.Common.{◌≡◌, ℕ, List, Ok, Err, Result, refl, sym, ap, ◌∙◌, subst, inl, inr, ◌⊎◌, IfOk, IfErr}
 use Rattle.m88_parse.specs.declared.fault.ParseFault.{ParseFault}
 use Rattle.m88_parse.specs.Fault.{Gives, out_of_memory}
-use Rattle.m88_parse.specs.Tokens.{Piece, PlainToken, pieces_of, tokens_from, tokens_of}
+use Rattle.m88_parse.specs.Tokens.{pieces_of, tokens_from, tokens_of}
+use Rattle.m88_parse.specs.Spelling.Pieces.{Piece, PlainToken}
 use Rattle.m88_parse.specs.Spelling.Tokens.{AreTokensOf}
 use Rattle.m88_parse.specs.Spelling.Faults.{IsUncut}
 use Rattle.m88_parse.proofs.Law.Tokens.{line_is_cut, line_is_read}

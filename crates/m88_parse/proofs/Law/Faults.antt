@@ -5,7 +5,8 @@ use Rattle.m88_parse.specs.declared.fault.ParseFault.{ParseFault}
 use Rattle.m88_parse.specs.declared.unit.Unit.{Unit as Source}
 use Rattle.m88_parse.specs.declared.row.Row.{Row}
 use Rattle.m88_parse.specs.Fault.{Gives, out_of_memory}
-use Rattle.m88_parse.specs.Tokens.{Piece, pieces_of}
+use Rattle.m88_parse.specs.Tokens.{pieces_of}
+use Rattle.m88_parse.specs.Spelling.Pieces.{Piece}
 use Rattle.m88_parse.specs.State.{◌>>=◌}
 use Rattle.m88_parse.specs.Source.{lines_of, row_of_pieces, row_of, with_row, rows_of, unit_of_rows, unit_of}
 use Rattle.m88_parse.specs.Spelling.Tokens.{LineTokens}

@@ -9,7 +9,9 @@ use Rattle.std.proofs.lemmas.Bool.Decides.{nat_tests}
 use Rattle.m88_parse.specs.declared.fault.ParseKind.{ParseKind}
 use Rattle.m88_parse.specs.declared.fault.ParseKind.TheVariants.{NotAscii, Syntax, OutOfRange}
 use Rattle.m88_parse.specs.declared.scan.Flaw.{Flaw}
-use Rattle.m88_parse.specs.Tokens.{is_blank, is_comment, is_plain, is_word, is_mark, is_hexadecimal, is_decimal, bounded, inside_len, Cut, cut, flaw, token_or_flaw, name_front, number_front, quoted_meaning, quoted, word_front, front, numeral, Meaning, a_name}
+use Rattle.m88_parse.specs.Tokens.{is_hexadecimal, is_decimal, bounded, inside_len, Cut, cut, flaw, token_or_flaw, name_front, number_front, quoted_meaning, quoted, word_front, front, numeral}
+use Rattle.m88_parse.specs.Spelling.Bytes.{is_blank, is_comment, is_plain, is_word, is_mark}
+use Rattle.m88_parse.specs.Spelling.Pieces.{Meaning, a_name}
 use Rattle.m88_parse.specs.Spelling.Tokens.{IsRun, EndsRun, IsNumeral, IsToken}
 use Rattle.m88_parse.specs.Spelling.Faults.{Takes, line_ends, quote_closes, byte_taken, pair_taken, last_taken, IsQuote, BeginsWithDigit, IsStray, IsFlaw, foreign_byte, foreign_in_quotes, no_quoted_token, long_name, no_number, large_number, stray_byte}
 use Rattle.m88_parse.proofs.Law.Steps.{both, chosen, tested, not_true, not_false, take_then, take_else, Stops, prefix_all, all_of_prefix, stops_prefix, prefix_whole, whole_prefix}

@@ -10,7 +10,9 @@ use Rattle.m88_base.specs.Name.{IsName, begins_name, continues_name}
 use Rattle.m88_parse.specs.declared.fault.ParseKind.{ParseKind}
 use Rattle.m88_parse.specs.declared.fault.ParseKind.TheVariants.{NotAscii, Syntax, OutOfRange}
 use Rattle.m88_parse.specs.declared.scan.Flaw.{Flaw}
-use Rattle.m88_parse.specs.Tokens.{is_blank, is_comment, is_plain, is_word, is_mark, inside_len, holds_escapes, text_bytes, character, Cut, gap, cut, flaw, token_or_flaw, name_front, number_front, number_of, quoted_meaning, quoted, word_front, front, numeral, Meaning, a_name, a_number, a_text, a_mark, are_digits}
+use Rattle.m88_parse.specs.Tokens.{inside_len, holds_escapes, text_bytes, character, Cut, gap, cut, flaw, token_or_flaw, name_front, number_front, number_of, quoted_meaning, quoted, word_front, front, numeral}
+use Rattle.m88_parse.specs.Spelling.Bytes.{is_blank, is_comment, is_plain, is_word, is_mark, are_digits}
+use Rattle.m88_parse.specs.Spelling.Pieces.{Meaning, a_name, a_number, a_text, a_mark}
 use Rattle.m88_parse.specs.Spelling.Tokens.{IsRun, EndsRun, IsDecimal, IsNumeral, Holds, IsToken}
 use Rattle.m88_parse.proofs.Law.Steps.{both, either, chosen, take_then, take_else, Stops, prefix_all, all_of_prefix, stops_prefix, prefix_whole, whole_prefix}
 use Rattle.m88_parse.proofs.Law.Numbers.{number_is, number_again}

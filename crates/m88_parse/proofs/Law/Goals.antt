@@ -5,7 +5,7 @@ use Rattle.std.proofs.lemmas.Slice.Eq.{bytes_eq-Decides}
 use Rattle.m88_base.specs.declared.fixup.Kind.{Kind}
 use Rattle.m88_base.specs.declared.fixup.Fixup.{Fixup}
 use Rattle.m88_parse.specs.declared.operand.Goal.{Goal}
-use Rattle.m88_parse.specs.Tokens.{Meaning, a_name, a_number, a_text, a_mark, Piece}
+use Rattle.m88_parse.specs.Spelling.Pieces.{Meaning, a_name, a_number, a_text, a_mark, Piece}
 use Rattle.m88_parse.specs.State.{State, first, past, is_mark_of, is_next, ◌>>=◌}
 use Rattle.m88_parse.specs.Slots.{Read, fixup_at}
 use Rattle.m88_parse.specs.Operands.{distance_on, distance_at, words_at, is_here_on, goal_at}

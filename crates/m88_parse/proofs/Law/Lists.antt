@@ -2,7 +2,7 @@
 use Rattle.std.proofs.Common.{◌≡◌, ℕ, zero, suc, ◌%◌, ◌<◌, List, [], ◌∷◌, ◌++◌, length, Some, Ok, refl, sym, ap, ◌∙◌, arith, if◌then◌else◌, append_assoc, append-nil, inl, inr, length-append}
 use Rattle.m88_base.specs.declared.fixup.Kind.TheVariants.{Abs32}
 use Rattle.m88_parse.specs.declared.unit.Value.{Value}
-use Rattle.m88_parse.specs.Tokens.{Meaning, a_number, Piece}
+use Rattle.m88_parse.specs.Spelling.Pieces.{Meaning, a_number, Piece}
 use Rattle.m88_parse.specs.State.{State, past, is_mark_of, is_next, ◌>>=◌}
 use Rattle.m88_parse.specs.Slots.{Read, negated, whole_at}
 use Rattle.m88_parse.specs.Grammar.{many, list_at, word_at, half_word_at, byte_at}

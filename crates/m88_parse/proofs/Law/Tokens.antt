@@ -4,7 +4,9 @@ use Rattle.std.specs.List.{list_all}
 use Rattle.std.proofs.Math.Seq.{take-append_seam, drop-append_seam, drop-length}
 use Rattle.m88_parse.specs.declared.fault.ParseFault.{ParseFault}
 use Rattle.m88_parse.specs.declared.scan.Flaw.{Flaw}
-use Rattle.m88_parse.specs.Tokens.{is_blank, is_comment, Meaning, a_name, a_number, a_text, a_mark, Cut, front, Piece, prepend, fault_at, pieces, pieces_of}
+use Rattle.m88_parse.specs.Tokens.{Cut, front, prepend, fault_at, pieces, pieces_of}
+use Rattle.m88_parse.specs.Spelling.Bytes.{is_blank, is_comment}
+use Rattle.m88_parse.specs.Spelling.Pieces.{Meaning, a_name, a_number, a_text, a_mark, Piece}
 use Rattle.m88_base.specs.Name.{IsName}
 use Rattle.m88_parse.specs.Spelling.Tokens.{IsNumeral, IsGap, IsTail, IsRun, EndsRun, IsToken, AreTokens, LineTokens}
 use Rattle.m88_parse.proofs.Pieces.{cut_off, fault_front}

@@ -6,7 +6,8 @@ use Rattle.std.specs.Char.{is_ascii_digit}
 use Rattle.m88_parse.specs.declared.fault.ParseKind.{ParseKind}
 use Rattle.m88_parse.specs.declared.fault.ParseKind.TheVariants.{NotAscii, Syntax, OutOfRange}
 use Rattle.m88_parse.specs.declared.fault.ParseFault.{ParseFault}
-use Rattle.m88_parse.specs.Tokens.{is_blank, is_comment, is_plain, is_word, is_mark, Meaning, Piece}
+use Rattle.m88_parse.specs.Spelling.Bytes.{is_blank, is_comment, is_plain, is_word, is_mark}
+use Rattle.m88_parse.specs.Spelling.Pieces.{Meaning, Piece}
 use Rattle.m88_parse.specs.Spelling.Tokens.{IsGap, IsRun, EndsRun, IsNumeral, IsToken, Begins, LineTokens}
 use Rattle.m88_parse.specs.Spelling.Units.{Said, LineSays, AreLines}
 use Rattle.m88_parse.specs.Spelling.Unsaid.{IsUnsaid}

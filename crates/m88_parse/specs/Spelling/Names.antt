@@ -4,8 +4,8 @@ use Rattle.std.specs.Prelude.{ℕ, Bool, true, false, ◌≡◌, ◌≢◌, ◌�
 use Rattle.m88_base.specs.declared.reg.Reg.{Reg}
 use Rattle.m88_base.specs.Reg.{reg_of}
 use Rattle.m88_base.specs.Name.{IsName}
-use Rattle.m88_parse.specs.Tokens.{a_name, a_number, a_mark, Piece}
-use Rattle.m88_parse.specs.Names.{bit_of, condition_of}
+use Rattle.m88_parse.specs.Spelling.Pieces.{a_name, a_number, a_mark, Piece}
+use Rattle.m88_parse.specs.Spelling.Words.{bit_of, condition_of}
 use Rattle.m88_parse.specs.Spelling.Tokens.{IsDecimal}
 
 -- letters and then a number with no needless 0, at most a last one

@@ -12,8 +12,8 @@ use Rattle.m88_parse.specs.declared.unit.Value.{Value}
 use Rattle.m88_parse.specs.declared.unit.Value.TheVariants.{Number, Symbol}
 use Rattle.m88_parse.specs.declared.shape.Shape.{Shape}
 use Rattle.m88_parse.specs.declared.shape.Shape.TheVariants as shape
-use Rattle.m88_parse.specs.Names.{half_of}
-use Rattle.m88_parse.specs.Tokens.{Piece}
+use Rattle.m88_parse.specs.Spelling.Words.{half_of}
+use Rattle.m88_parse.specs.Spelling.Pieces.{Piece}
 use Rattle.m88_parse.specs.Spelling.Names.{IsMark, IsComma, IsNumber, IsNamed, IsRegister, IsControl, IsBit, IsCondition, IsSymbol}
 
 -- the negative of a number modulo another

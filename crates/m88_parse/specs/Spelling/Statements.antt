@@ -12,7 +12,7 @@ use Rattle.m88_parse.specs.declared.unit.Body.{Body}
 use Rattle.m88_parse.specs.declared.unit.Body.TheVariants as body
 use Rattle.m88_parse.specs.declared.unit.Statement.{Statement}
 use Rattle.m88_parse.specs.Shape.{shape_of}
-use Rattle.m88_parse.specs.Tokens.{a_text, a_mark, Piece}
+use Rattle.m88_parse.specs.Spelling.Pieces.{a_text, a_mark, Piece}
 use Rattle.m88_parse.specs.Spelling.Names.{IsMark, IsComma, IsNumber, IsNamed, IsSymbol}
 use Rattle.m88_parse.specs.Spelling.Operands.{IsSigned, IsValue, AreOperands}
 

@@ -4,7 +4,8 @@ use Rattle.std.specs.Prelude.{ℕ, true, false, ◌≡◌, ◌≢◌, ◌⊎◌,
 use Rattle.std.specs.List.{list_all}
 use Rattle.std.specs.Str.Parse.{digits_value}
 use Rattle.m88_base.specs.Name.{IsName}
-use Rattle.m88_parse.specs.Tokens.{is_blank, is_comment, is_plain, is_word, is_mark, is_escape, escape_value, are_digits, Meaning, a_name, a_number, a_text, a_mark, Piece, PlainToken, token_of}
+use Rattle.m88_parse.specs.Spelling.Bytes.{is_blank, is_comment, is_plain, is_word, is_mark, is_escape, escape_value, are_digits}
+use Rattle.m88_parse.specs.Spelling.Pieces.{Meaning, a_name, a_number, a_text, a_mark, Piece, PlainToken, token_of}
 
 -- blanks alone, or nothing
 abbrev pub IsGap : List ℕ → Type 0

@@ -5,7 +5,7 @@ use Rattle.std.specs.List.{list_all}
 use Rattle.m88_parse.specs.declared.unit.Statement.{Statement}
 use Rattle.m88_parse.specs.declared.unit.Module.{Module}
 use Rattle.m88_parse.specs.declared.unit.Unit.{Unit as Source}
-use Rattle.m88_parse.specs.Tokens.{Piece}
+use Rattle.m88_parse.specs.Spelling.Pieces.{Piece}
 use Rattle.m88_parse.specs.Spelling.Tokens.{LineTokens}
 use Rattle.m88_parse.specs.Spelling.Statements.{IsStatement, IsHead}
 

@@ -7,8 +7,8 @@ use Rattle.m88_base.specs.declared.fixup.Kind.{Kind}
 use Rattle.m88_parse.specs.declared.fault.ParseKind.{ParseKind}
 use Rattle.m88_parse.specs.declared.fault.ParseKind.TheVariants.{Syntax, NoSuchName, OutOfRange}
 use Rattle.m88_parse.specs.declared.unit.Body.{Body}
-use Rattle.m88_parse.specs.Names.{half_of}
-use Rattle.m88_parse.specs.Tokens.{Piece}
+use Rattle.m88_parse.specs.Spelling.Words.{half_of}
+use Rattle.m88_parse.specs.Spelling.Pieces.{Piece}
 use Rattle.m88_parse.specs.Spelling.Names.{IsMark, IsNumber, IsNamed, IsSymbol}
 use Rattle.m88_parse.specs.Spelling.Statements.{IsBody, IsHead, IsLabel, BeginsWithNoColon}
 

@@ -8,7 +8,7 @@ use Rattle.m88_parse.specs.declared.fault.ParseKind.TheVariants.{Syntax}
 use Rattle.m88_parse.specs.declared.fault.ParseFault.{ParseFault}
 use Rattle.m88_parse.specs.declared.operand.Goal.{Goal}
 use Rattle.m88_parse.specs.Names.{is_here, is_symbol}
-use Rattle.m88_parse.specs.Tokens.{Meaning, a_name, a_number, a_text, a_mark, Piece}
+use Rattle.m88_parse.specs.Spelling.Pieces.{Meaning, a_name, a_number, a_text, a_mark, Piece}
 use Rattle.m88_parse.specs.State.{State, past, is_mark_of, is_next, ◌>>=◌}
 use Rattle.m88_parse.specs.Slots.{Read, fixup_at}
 use Rattle.m88_parse.specs.Operands.{distance_at, words_at, is_here_on, goal_at}

@@ -10,7 +10,7 @@ use Rattle.m88_parse.specs.declared.unit.Body.{Body}
 use Rattle.m88_parse.specs.declared.row.Row.{Row}
 use Rattle.m88_parse.specs.declared.row.Row.TheVariants as row
 use Rattle.m88_parse.specs.Names.{is_module, is_symbol}
-use Rattle.m88_parse.specs.Tokens.{Meaning, a_name, a_number, a_text, a_mark, Piece}
+use Rattle.m88_parse.specs.Spelling.Pieces.{Meaning, a_name, a_number, a_text, a_mark, Piece}
 use Rattle.m88_parse.specs.State.{State, says_first, first, place, past, is_mark_of, ◌>>=◌}
 use Rattle.m88_parse.specs.Slots.{symbol_at, any_name_at, end_at}
 use Rattle.m88_parse.specs.Shape.{shape_of}

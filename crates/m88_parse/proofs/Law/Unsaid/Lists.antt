@@ -5,7 +5,7 @@ use Rattle.m88_parse.specs.declared.fault.ParseFault.{ParseFault}
 use Rattle.m88_parse.specs.declared.unit.Body.{Body}
 use Rattle.m88_parse.specs.declared.unit.Body.TheVariants as body
 use Rattle.m88_parse.specs.declared.unit.Value.{Value}
-use Rattle.m88_parse.specs.Tokens.{a_number, Piece}
+use Rattle.m88_parse.specs.Spelling.Pieces.{a_number, Piece}
 use Rattle.m88_parse.specs.State.{State, past, is_mark_of, is_next, ◌>>=◌}
 use Rattle.m88_parse.specs.Slots.{Read, end_at, whole_at, value_at}
 use Rattle.m88_parse.specs.Grammar.{many, list_at, word_at, half_word_at, byte_at, ends, read}

@@ -4,7 +4,7 @@ use Rattle.std.proofs.Common.{◌≡◌, ℕ, suc, ◌+◌, ◌<◌, arith, Bool
 use Rattle.m88_parse.specs.declared.fault.ParseKind.{ParseKind}
 use Rattle.m88_parse.specs.declared.fault.ParseKind.TheVariants.{Syntax}
 use Rattle.m88_parse.specs.declared.fault.ParseFault.{ParseFault}
-use Rattle.m88_parse.specs.Tokens.{Meaning, a_name, a_number, a_text, a_mark, Piece}
+use Rattle.m88_parse.specs.Spelling.Pieces.{Meaning, a_name, a_number, a_text, a_mark, Piece}
 use Rattle.m88_parse.specs.Spelling.Names.{IsMark, IsNamed}
 use Rattle.m88_parse.specs.Spelling.Unsaid.{IsOperation, operation, head_of_module, Continues, MayFollow, NumberMayFollow, EndsInHalf, IsMisplaced, number_out_of_range, no_such_name, other_token, IsFaultBehind, misplaced, line_ends, Stops}
 use Rattle.m88_parse.specs.declared.unit.Body.{Body}

@@ -1,7 +1,7 @@
 -- A line's tokens have at most one fault.
 use Rattle.std.proofs.Common.{◌≡◌, ℕ, ◌+◌, List, [], ◌∷◌, ◌++◌, length, refl, sym, ap, ◌∙◌, subst, append_assoc}
 use Rattle.m88_parse.specs.declared.fault.ParseKind.{ParseKind}
-use Rattle.m88_parse.specs.Tokens.{Piece}
+use Rattle.m88_parse.specs.Spelling.Pieces.{Piece}
 use Rattle.m88_parse.specs.Spelling.Unsaid.{IsOperation, Continues, MayFollow, EndsInSign, EndsInHalf, IsNumberInPlace, IsNameInPlace, IsMisplaced, number_out_of_range, signed_out_of_range, no_such_name, other_token, IsFaultBehind, half_alone, misplaced, line_ends, Stops, IsBroken, IsUnsaid, no_label, labelled_head, behind_label, without_label}
 use Rattle.m88_parse.proofs.Law.Unsaid.Nodes.{same_last}
 

@@ -6,8 +6,8 @@ use Rattle.m88_parse.specs.declared.fault.ParseKind.TheVariants.{NoSuchName, Out
 use Rattle.m88_parse.specs.declared.fault.ParseFault.{ParseFault}
 use Rattle.m88_parse.specs.declared.unit.Value.{Value}
 use Rattle.m88_parse.specs.declared.operand.Immediate.{Immediate}
-use Rattle.m88_parse.specs.Names.{half_of}
-use Rattle.m88_parse.specs.Tokens.{Meaning, a_name, a_number, a_text, a_mark, Piece}
+use Rattle.m88_parse.specs.Spelling.Words.{half_of}
+use Rattle.m88_parse.specs.Spelling.Pieces.{Meaning, a_name, a_number, a_text, a_mark, Piece}
 use Rattle.m88_parse.specs.State.{State, says_first, is_mark_of, ◌>>=◌}
 use Rattle.m88_parse.specs.Slots.{Read, mark_at, value_at}
 use Rattle.m88_parse.specs.Operands.{half_immediate, half_at, half_on, short_on, immediate_of, immediate_at}

@@ -4,7 +4,7 @@ use Rattle.m88_parse.specs.declared.fault.ParseKind.{ParseKind}
 use Rattle.m88_parse.specs.declared.fault.ParseKind.TheVariants.{Syntax, NoSuchName, OutOfRange}
 use Rattle.m88_parse.specs.declared.fault.ParseFault.{ParseFault}
 use Rattle.m88_parse.specs.declared.row.Row.{Row}
-use Rattle.m88_parse.specs.Tokens.{Meaning, a_name, a_number, a_text, a_mark, Piece}
+use Rattle.m88_parse.specs.Spelling.Pieces.{Meaning, a_name, a_number, a_text, a_mark, Piece}
 use Rattle.m88_parse.specs.State.{State, first}
 use Rattle.m88_parse.specs.Source.{unlabelled_at, head_at, is_head_on}
 use Rattle.m88_parse.specs.Spelling.Names.{IsMark, IsNumber, IsNamed, IsSymbol}

@@ -8,8 +8,9 @@ use Rattle.m88_parse.specs.declared.fault.ParseKind.TheVariants.{Syntax, NoSuchN
 use Rattle.m88_parse.specs.declared.fault.ParseFault.{ParseFault}
 use Rattle.m88_parse.specs.declared.operand.Bound.{Bound}
 use Rattle.m88_parse.specs.declared.operand.Bound.TheVariants as bound
-use Rattle.m88_parse.specs.Names.{register_of, control_of, float_control_of, control_in, bit_of, condition_of, is_name, is_symbol}
-use Rattle.m88_parse.specs.Tokens.{Meaning, a_name, a_number, a_text, a_mark, Piece}
+use Rattle.m88_parse.specs.Names.{register_of, control_of, float_control_of, control_in, is_name, is_symbol}
+use Rattle.m88_parse.specs.Spelling.Words.{bit_of, condition_of}
+use Rattle.m88_parse.specs.Spelling.Pieces.{Meaning, a_name, a_number, a_text, a_mark, Piece}
 use Rattle.m88_parse.specs.State.{State, is_mark_of, ◌>>=◌}
 use Rattle.m88_parse.specs.Slots.{Read, named, ranged, mark_at, number_on, number_at, as_register, register_on, register_at, control_on, control_at, bit_on, bit_at, mask_on, mask_at, symbol_on, symbol_at, text_on, text_at, any_name_on, any_name_at, alignment_on, alignment_at}
 use Rattle.m88_parse.specs.Operands.{register_in, bound_on, bound_at, distance_on, distance_at}

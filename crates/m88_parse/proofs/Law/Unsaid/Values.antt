@@ -8,7 +8,7 @@ use Rattle.m88_parse.specs.declared.unit.Body.{Body}
 use Rattle.m88_parse.specs.declared.unit.Value.{Value}
 use Rattle.m88_parse.specs.declared.unit.Value.TheVariants as value
 use Rattle.m88_parse.specs.Names.{is_symbol}
-use Rattle.m88_parse.specs.Tokens.{Meaning, a_name, a_number, a_text, a_mark, Piece}
+use Rattle.m88_parse.specs.Spelling.Pieces.{Meaning, a_name, a_number, a_text, a_mark, Piece}
 use Rattle.m88_parse.specs.State.{State, first, past, is_mark_of, is_next, ◌>>=◌}
 use Rattle.m88_parse.specs.Slots.{Read, negated, negative_on, number_at, whole_at, symbol_on, symbol_at, addend_at, fixup_at, value_on, value_at}
 use Rattle.m88_parse.specs.Grammar.{ends, read}

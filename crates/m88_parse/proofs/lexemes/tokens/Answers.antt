@@ -1,5 +1,5 @@
 use Rattle.std.proofs.Common.{map}
-use Rattle.m88_parse.specs.Tokens.{plain_token}
+use Rattle.m88_parse.specs.Spelling.Pieces.{plain_token}
 use Rattle.m88_parse.proofs.Law.Cuts.{found_tokens, only_tokens, found_flaw}
 use Rattle.m88_parse.proofs.lexemes.tokens.Goals as goal
 
