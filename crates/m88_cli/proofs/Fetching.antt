@@ -34,10 +34,10 @@ none_there : (o : Option Instr) (word : ℕ) → MatchOption o ((j : Instr) → 
 none_there None word found none = refl
 none_there (Some j) word found none = absurd (none j found)
 
-pub step_is_unimplemented : (p : Program) (image : ProgramImage) (s : State) (word : ℕ) → IsImageOf p image
+pub step_of_no_instruction : (p : Program) (image : ProgramImage) (s : State) (word : ℕ) → IsImageOf p image
     → s.pc % 4 ≡ 0 → word < 2 ^ 32 → four_bytes (byte_at image) s.pc ≡ Some (to_be_bytes w32 word) → ((j : Instr) → ¬ IsWord j word)
     → step p s ≡ ends (by_vector 5 s.pc)
-step_is_unimplemented p image s word holds aligned small bytes none =
+step_of_no_instruction p image s word holds aligned small bytes none =
     let instruction : p.instruction s.pc ≡ None =
     none_there (p.instruction s.pc) word (holds.instructions s.pc word aligned small bytes) none in
     let b0 = holds.bytes s.pc in

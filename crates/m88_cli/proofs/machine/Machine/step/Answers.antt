@@ -3,7 +3,7 @@ use Rattle.std.proofs.Common.{◌≡◌, refl, arith, sym}
 use Rattle.std.proofs.lemmas.Result.{on_ok_weaker}
 use Rattle.m88_isa.specs.Machine.{by_vector, ends, step}
 use Rattle.m88_cli.specs.Machine.{state_in}
-use Rattle.m88_cli.proofs.Fetching.{step_is, step_is_unimplemented}
+use Rattle.m88_cli.proofs.Fetching.{step_is, step_of_no_instruction}
 use Rattle.m88_cli.proofs.machine.Machine.step.Goals as goal
 
 pub returns-in-Ok-clause-makes : goal.returns-in-Ok-clause-makes
@@ -17,7 +17,7 @@ returns-in-Ok-clause-makes c =
 pub returns-in-Err-clause-makes : goal.returns-in-Err-clause-makes
 returns-in-Err-clause-makes c = λ p memory holds.
     let ended : step p (state_in c.args.self.now memory) ≡ ends (by_vector 5 c.args.self.now.pc) =
-    step_is_unimplemented p c.args.image.now (state_in c.args.self.now memory) c.in-Some.word holds
+    step_of_no_instruction p c.args.image.now (state_in c.args.self.now memory) c.in-Some.word holds
     c.requires.aligned.0 (omega arith) (sym c.in-Some.ensures)
     (λ j is. let read = c.in-Err.ensures.only j is in cc) in
     rw (ended, c.stop-in-Err.ensures) (refl, refl, refl, refl)
