@@ -6,7 +6,7 @@ use Rattle.std.proofs.lemmas.Option.{slice_get-get_or}
 use Rattle.std.proofs.lemmas.List.{take-append-drop, get_or-take, length-take}
 use Rattle.m88_base.specs.Found.{IsFree, IsLeastTaken, IsPart}
 use Rattle.m88_base.specs.Placed.{Placed, byte_in, byte_among, AreApart}
-use Rattle.m88_base.specs.Placing.{next_start, BeginsAt}
+use Rattle.m88_base.specs.Placing.{next_start}
 use Rattle.m88_base.proofs.Lookup.{option_or-none, byte_in_at, byte_among-append}
 use Rattle.m88_base.proofs.Apart.{apart_lower, next_start-append, apart_front, apart_back, none_below, none_above}
 
@@ -48,10 +48,6 @@ starts_rise from (x ∷ xs) (suc i) (suc j) d h e l = starts_rise (x.at + length
 pub apart_from_first : (low from : ℕ) (xs : List Placed) → AreApart low xs → ((d : Placed) → 0 < length xs → from ≤ (get_or xs 0 d).at) → AreApart from xs
 apart_from_first low from [] h f = tt
 apart_from_first low from (x ∷ xs) h f = (f x (omega arith), h.1, h.2)
-
-pub apart_not_begun : (from : ℕ) (xs : List Placed) → AreApart from xs → (BeginsAt xs from → ⊥) → AreApart (from + 1) xs
-apart_not_begun from [] h n = tt
-apart_not_begun from (x ∷ xs) h n = (omega (arith, h.0, n), h.1, h.2)
 
 -- the last run that begins at or below an address is the one that may have a byte there
 pub found_in_last : (xs : List Placed) (i a : ℕ) (d : Placed) → AreApart 0 xs → 0 < i → i ≤ length xs → (get_or xs (i - 1) d).at ≤ a → AreApart (a + 1) (drop i xs)

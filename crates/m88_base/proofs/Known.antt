@@ -1,24 +1,16 @@
 -- What was taken from a source, or given to a sink, by two calls in a row, where they tell their bytes.
-use Rattle.std.proofs.Common.{◌≡◌, ℕ, ◌+◌, ◌≤◌, List, [], ◌++◌, length, take, drop, sym, refl, append-nil, arith, append_assoc, length-append, length-take, Some, None}
+use Rattle.std.proofs.Common.{◌≡◌, ℕ, ◌+◌, ◌≤◌, List, ◌++◌, length, take, drop, sym, arith, append_assoc, length-append, length-take, Some, None}
 use Rattle.std.specs.declared.option.Option.{Option}
 use Rattle.std.proofs.Math.Seq.{take-add}
 use Rattle.std.proofs.lemmas.List.{take-take}
 use Rattle.std.specs.Io.KnownBytes.{Appends, Consumes}
 use Rattle.m88_base.specs.Outside.{TakesExactly, TakesAtMost}
 
-pub consumes_none : (old : Option (List ℕ)) → Consumes old old []
-consumes_none None = tt
-consumes_none (Some xs) = refl
-
 pub consumes_more : (old middle new : Option (List ℕ)) (xs ys : List ℕ) → Consumes old middle xs → Consumes middle new ys → Consumes old new (xs ++ ys)
 consumes_more None middle new xs ys p q = tt
 consumes_more (Some a) None new xs ys p q = absurd p
 consumes_more (Some a) (Some b) None xs ys p q = absurd q
 consumes_more (Some a) (Some b) (Some d) xs ys p q = rw (p, q) (sym (append_assoc xs ys d))
-
-pub appends_none : (old : Option (List ℕ)) → Appends old old []
-appends_none None = tt
-appends_none (Some xs) = sym (append-nil xs)
 
 pub appends_more : (old middle new : Option (List ℕ)) (xs ys : List ℕ) → Appends old middle xs → Appends middle new ys → Appends old new (xs ++ ys)
 appends_more None middle new xs ys p q = tt

@@ -1,4 +1,3 @@
-pub mod Added
 pub mod Apart
 pub mod Copied
 pub mod Cuts

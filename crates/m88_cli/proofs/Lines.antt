@@ -1,5 +1,5 @@
 -- The first line of a source, and the lines behind it.
-use Rattle.std.proofs.Common.{◌≡◌, ℕ, ◌+◌, ◌<◌, List, [], ◌∷◌, Bool, true, false, cond, not, ◌==◌, ◌++◌, length, take, drop, refl, sym, ◌∙◌, ap, append_assoc, append-nil, length-append, subst, inl, inr, arith, suc, ◌≤◌}
+use Rattle.std.proofs.Common.{◌≡◌, ℕ, ◌+◌, ◌<◌, List, [], ◌∷◌, Bool, true, false, cond, not, ◌==◌, ◌++◌, length, take, drop, refl, sym, ◌∙◌, ap, append_assoc, length-append, inl, inr, arith, suc, ◌≤◌}
 use Rattle.std.proofs.lemmas.List.{take_all}
 use Rattle.std.proofs.lemmas.List.Elements.{All-cons, All-nil}
 use Rattle.std.proofs.Math.ListN.{drop_of_length-le}
@@ -7,7 +7,7 @@ use Rattle.std.specs.Prelude.{if◌then◌else◌}
 use Rattle.std.specs.List.{position_or_len}
 use Rattle.std.specs.Prelude.{All}
 use Rattle.m88_isa.specs.declared.instr.Instr.{Instr}
-use Rattle.m88_cli.specs.Source.{AreLinesOf, IsFirstOther, IsLine, IsLineOf, IsSourceOf, begin_line, code_line, empty_line, lines_of, no_line}
+use Rattle.m88_cli.specs.Source.{AreLinesOf, IsFirstOther, IsLine, IsLineOf, begin_line, code_line, empty_line, lines_of, no_line}
 
 -- how many bytes stand before the first line end
 abbrev pub line_len : List ℕ → ℕ
@@ -95,11 +95,6 @@ pub reads_code : (source rest line others : List ℕ) (kept : List Instr) (i : I
     → IsLineOf i line → ReadSoFar source rest kept number → ReadSoFar source others (kept ++ i ∷ []) (number + 1)
 reads_code source rest line others kept i number e is so_far =
     one_more source rest line others kept (kept ++ i ∷ []) number so_far e (then_code i line is so_far.written)
-
--- where no line is left, the instructions kept are those of the source
-pub read_all_lines : (source rest : List ℕ) (kept : List Instr) (number : ℕ) → length rest ≡ 0 → ReadSoFar source rest kept number → IsSourceOf kept source
-read_all_lines source [] kept number none so_far = subst (AreLinesOf kept) (sym (so_far.lines ∙ append-nil so_far.before)) so_far.written
-read_all_lines source (b ∷ rest) kept number none so_far = absurd (omega arith)
 
 -- a line that neither is empty nor writes an instruction is the first of another form
 pub reads_other : (source rest line others : List ℕ) (kept : List Instr) (number : ℕ) → lines_of rest ≡ line ∷ lines_of others

@@ -1,7 +1,7 @@
 -- The bytes of the words of instructions one behind the other, and the program that they are.
 use Rattle.std.proofs.Common.{◌≡◌, ℕ, zero, suc, ◌+◌, ◌-◌, ◌*◌, ◌/◌, ◌%◌, ◌^◌, ◌<◌, ◌≤◌, List, [], ◌∷◌, Option, Some, None, length, refl, ap, sym, ◌∙◌, arith, subst, inl, inr, ◌⊎◌}
 use Rattle.std.specs.Prelude.{MatchOption, option_map, slice_get, All, true, false, nat_le, ◌==◌}
-use Rattle.m88_base.specs.Found.{IsLeastTaken, PutsBytes}
+use Rattle.m88_base.specs.Found.{PutsBytes}
 use Rattle.m88_base.specs.Image.{ProgramImage, byte_at}
 use Rattle.m88_isa.specs.Machine.{four_bytes, word_bytes}
 use Rattle.m88_isa.specs.Word.{IsWord}
@@ -169,7 +169,3 @@ pub few_enough : (instructions : List Instr) (code : List ℕ) (old : ℕ) → o
 few_enough instructions code old none words short many =
     let bytes : length code ≡ 4 * length instructions = ap length words ∙ length_of_words instructions in
     elim many [ inl past ↦ absurd (omega arith) | inr more ↦ absurd (omega arith) ]
-
--- nothing is taken in an image without bytes
-pub none_taken : (old : ProgramImage) (at n a : ℕ) → ((a : ℕ) → byte_at old a ≡ None) → IsLeastTaken (byte_at old) at n a → ⊥
-none_taken old at n a empty taken = let none = empty a in let some = rw none at taken.1 in absurd cc

@@ -4,7 +4,7 @@ use Rattle.m88_parse.specs.declared.fault.ParseFault.{ParseFault}
 use Rattle.m88_parse.specs.Fault.{out_of_memory}
 use Rattle.m88_parse.specs.State.{State, is_next, past, ◌>>=◌}
 use Rattle.m88_parse.specs.Slots.{Read}
-use Rattle.m88_parse.specs.Grammar.{many, list_at}
+use Rattle.m88_parse.specs.Grammar.{many}
 
 -- what was collected before, and what is still read
 abbrev pub with_items : {A : Type 0} → List A → Read (List A) → Read (List A)
@@ -19,9 +19,6 @@ Collects item false done s total = total ≡ Ok (done, s)
 with_none : {A : Type 0} (r : Read (List A)) → with_items [] r ≡ r
 with_none (Ok x) = refl
 with_none (Err e) = refl
-
-pub collects_first : {A : Type 0} (item : State → Read A) (s : State) → Collects item true [] s (list_at item s)
-collects_first item s = (suc (length s.rest), omega arith, with_none (list_at item s))
 
 -- what follows an item
 abbrev after : {A : Type 0} → (State → Read A) → ℕ → Read A → Read (List A)

@@ -11,9 +11,6 @@ use Rattle.m88_parse.proofs.Law.Steps.{both, chosen, tested, take_then, take_els
 pub escape_plain : (e : ℕ) → is_escape e ≡ true → is_plain e ≡ true
 escape_plain e h = grind (arith, nat_tests)
 
-pub backslash_plain : is_plain 92 ≡ true
-backslash_plain = refl
-
 -- related: what is read of it
 
 pub holds_len : (q : ℕ) → (92 == q) ≡ false → {inside bytes : List ℕ} → Holds q inside bytes → (rest : List ℕ) → inside_len q false (inside ++ q ∷ rest) ≡ length inside

@@ -136,9 +136,6 @@ related_is_read source unit h =
 pub single_unit : (source : List ℕ) (a b : Source) → IsUnit source a → IsUnit source b → a ≡ b
 single_unit source a b h k = ok_same (sym (related_is_read source a h) ∙ related_is_read source b k)
 
-pub fault_or_unit : (source : List ℕ) (fault : ParseFault) → unit_of source ≡ Err fault → (unit : Source) → IsUnit source unit → ⊥
-fault_or_unit source fault h unit k = let e : ◌≡◌ {A = Result Source ParseFault} (Err fault) (Ok unit) = sym h ∙ related_is_read source unit k in cc
-
 -- what a call gives
 
 pub found_unit : (source : List ℕ) (r : Result Source ParseFault) → Gives (λ (u : Source). u) r (unit_of source) → IfOk r (λ (u : Source). IsUnit source u)
