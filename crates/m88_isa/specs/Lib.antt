@@ -7,6 +7,7 @@ pub mod Lanes
 pub mod Machine
 pub mod Memory
 pub mod Operands
+pub mod Triples
 pub mod Vector
 pub mod Word
 pub mod Mnemonic
