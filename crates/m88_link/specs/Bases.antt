@@ -1,0 +1,55 @@
+-- Where the text and the data of each object stand: each part at the next multiple of 8, the data in the pages behind
+-- the text of all objects.
+use Rattle.std.specs.Prelude.{ℕ, ◌+◌, ◌-◌, ◌*◌, ◌/◌, List, [], ◌∷◌, length, slice_get}
+use Rattle.std.specs.Option.{option_map_or}
+use Rattle.m88_link.specs.declared.object.Object.{Object}
+use Rattle.m88_link.specs.declared.object.Place.{Place}
+use Rattle.m88_link.specs.declared.object.Place.TheVariants.{Text, DataSection, At}
+
+-- an object, with the addresses of its text and its data
+pub record Standing : Type 0 where
+  pub object : Object
+  pub text : ℕ
+  pub datas : ℕ
+
+-- the least multiple of n that isn't below a number
+abbrev pub up_to_multiple : ℕ → ℕ → ℕ
+up_to_multiple n a = (a + (n - 1)) / n * n
+
+-- the number of bytes of a section, 0 where there is none
+abbrev pub section_size : ℕ → Object → ℕ
+section_size k object = option_map_or (λ s. length s.bytes) (slice_get object.sections k) 0
+
+-- the objects in order, the first text at the multiple of 8 from `text` on, the first data at the one from `datas` on
+abbrev pub stood_from : ℕ → ℕ → List Object → List Standing
+stood_from text datas [] = []
+stood_from text datas (o ∷ os) =
+    record { object = o; text = up_to_multiple 8 text; datas = up_to_multiple 8 datas }
+    ∷ stood_from (up_to_multiple 8 text + section_size 0 o) (up_to_multiple 8 datas + section_size 1 o) os
+
+-- the end of all text, of which the first stands at the multiple of 8 from `text` on
+abbrev pub text_end : ℕ → List Object → ℕ
+text_end text [] = text
+text_end text (o ∷ os) = text_end (up_to_multiple 8 text + section_size 0 o) os
+
+-- the address of the first text
+abbrev pub first_text : ℕ
+first_text = 0x1000
+
+-- the address of the first data, the first page that has no text
+abbrev pub first_data : List Object → ℕ
+first_data objects = up_to_multiple 4096 (text_end first_text objects)
+
+-- the objects where they are linked
+abbrev pub stood : List Object → List Standing
+stood objects = stood_from first_text (first_data objects) objects
+
+-- the address of a section's first byte, by its place
+abbrev pub base_at : Standing → Place → ℕ
+base_at s Text = s.text
+base_at s DataSection = s.datas
+base_at s (At a) = a
+
+-- the address of the first byte of an object's section
+abbrev pub base_of : Standing → ℕ → ℕ
+base_of s k = option_map_or (λ x. base_at s x.place) (slice_get s.object.sections k) 0

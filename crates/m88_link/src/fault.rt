@@ -1,0 +1,32 @@
+//! Why a list of objects has no image.
+
+use m88_base::Name;
+
+/// Why objects can't be linked, in the order in which the reasons are tried.
+#[derive(Clone, Copy, PartialEq, Eq, Debug)]
+pub enum LinkKind {
+    /// There are more than 1,048,576 bytes, or text or data reaches past 0xFFFFFFFF.
+    TooLarge,
+    /// The least address that has two bytes.
+    Overlap(u32),
+    /// A name that has a global definition already, and the line of that first one.
+    Duplicate { name: Name, first: u32 },
+    /// A name that neither its own object nor a global symbol defines.
+    Undefined(Name),
+    /// The displacement in bytes of a branch that is no multiple of 4 or doesn't fit its field.
+    TooFar(i32),
+    /// Memory ran out.
+    Memory,
+}
+
+/// The first reason why objects can't be linked, with the line and column that it is told at. Out of
+/// memory has line 0 and column 0.
+#[derive(Clone, Copy, PartialEq, Eq, Debug)]
+pub struct LinkFault {
+    /// The line, from 1.
+    pub line: u32,
+    /// The column, from 1.
+    pub col: u32,
+    /// The reason.
+    pub kind: LinkKind,
+}
