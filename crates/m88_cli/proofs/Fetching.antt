@@ -4,7 +4,7 @@ use Rattle.std.specs.Prelude.{MatchOption}
 use Rattle.std.specs.Int.{to_be_bytes, w32}
 use Rattle.m88_base.specs.Image.{ProgramImage, byte_at}
 use Rattle.m88_isa.specs.Effect.{meaning_of}
-use Rattle.m88_isa.specs.Machine.{Program, State, by_vector, carried_out, ends, four_bytes, step}
+use Rattle.m88_isa.specs.Machine.{Program, State, by_vector, carried_out, ends, four_bytes, step, stepped}
 use Rattle.m88_isa.specs.Word.{IsWord}
 use Rattle.m88_isa.specs.declared.instr.Instr.{Instr}
 use Rattle.m88_cli.specs.Loaded.{IsImageOf}
@@ -17,7 +17,7 @@ there (Some j) i word found is only = ap Some (only j found)
 
 pub step_is : (p : Program) (image : ProgramImage) (s : State) (word : ℕ) (i : Instr) → IsImageOf p image
     → s.pc % 4 ≡ 0 → word < 2 ^ 32 → four_bytes (byte_at image) s.pc ≡ Some (to_be_bytes w32 word) → IsWord i word
-    → ((j : Instr) → IsWord j word → j ≡ i) → step p s ≡ carried_out (meaning_of i s.regs s.carry s.pc s.next) s
+    → ((j : Instr) → IsWord j word → j ≡ i) → step p s ≡ stepped (carried_out (meaning_of i s.regs s.carry s.pc s.next) s.regs s.pc) s
 step_is p image s word i holds aligned small bytes is only =
     let instruction : p.instruction s.pc ≡ Some i =
     there (p.instruction s.pc) i word (holds.instructions s.pc word aligned small bytes) is only in

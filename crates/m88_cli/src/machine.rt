@@ -1,6 +1,6 @@
 ghost use Rattle.std.specs.Prelude.{false, ◌≡◌, ◌+◌, ◌<◌, ◌≤◌, ◌||◌, ◌==◌, ℕ, Some, OnOk, is_some};
 ghost use Rattle.m88_isa.specs.Effect.{meaning_of};
-ghost use Rattle.m88_isa.specs.Machine.{Program, carried_out, step, trapped, with_register, with_written};
+ghost use Rattle.m88_isa.specs.Machine.{Program, carried_out, step, stepped, trapped, with_register, with_written};
 ghost use Rattle.m88_cli.specs.Command.{most_limit};
 ghost use Rattle.m88_cli.specs.Machine.{GoesOn, IsAligned, IsAt, IsNearer, Makes, is_over_at, left_to_do, state_in, summary_in};
 ghost use Rattle.m88_cli.specs.Loaded.{HasPlainWords, IsImageOf};
@@ -161,7 +161,10 @@ impl Machine {
         ensures aligned { OnOk result (IsAligned self.new) }
         ensures goes { OnOk result (GoesOn self.old self.new) }
         ensures makes { OnOk result ((memory : ℕ → ℕ) → Makes
-            (carried_out (meaning_of instr.now self.old.regs self.old.carry self.old.pc self.old.next) (state_in self.old memory))
+            (stepped
+            (carried_out (meaning_of instr.now self.old.regs self.old.carry self.old.pc self.old.next)
+            self.old.regs self.old.pc)
+            (state_in self.old memory))
             memory self.old self.new) }
     {
         match plan(instr, &self.regs, self.carry, self.pc, self.next) {
@@ -194,7 +197,8 @@ impl Machine {
         ensures aligned { OnOk result (IsAligned self.new) }
         ensures goes { OnOk result (GoesOn self.old self.new) }
         ensures makes { OnOk result ((memory : ℕ → ℕ)
-            → Makes (trapped vector (state_in self.old memory)) memory self.old self.new) }
+            → Makes (stepped (trapped vector self.old.regs self.old.pc) (state_in self.old memory))
+            memory self.old self.new) }
     {
         if vector == MONITOR_TRAP && self.regs[9] == PUT_BYTE {
             self.out.push((self.regs[2] % 256) as u8)?;

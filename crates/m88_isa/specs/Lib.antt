@@ -5,6 +5,9 @@ pub mod Flow
 pub mod Instr
 pub mod Lanes
 pub mod Machine
+pub mod Bus
+pub mod History
+pub mod Held
 pub mod Memory
 pub mod Operands
 pub mod Triples

@@ -80,43 +80,64 @@ pub data Stop : Type 0 where
   exits : ℕ → Stop
   by_vector : ℕ → ℕ → Stop
 
--- one step: on to the next state, with the mark that a fetched instruction is passed over, or the end
-pub data Step : Type 0 where
-  on : Bool → State → Step
-  ends : Stop → Step
+-- what an instruction does in its turn: it makes its changes, the monitor puts a byte out for it, or the program ends
+pub data Turn : Type 0 where
+  changes : Change → Turn
+  outputs : ℕ → Turn
+  stops : Stop → Turn
 
 -- the monitor's trap. With 0x20 in r9 it appends the low byte of r2 to the output, with 0x63 it ends the program.
 abbrev pub monitor_trap : ℕ
 monitor_trap = 496
 
--- the state after an output: the program goes on as behind any instruction that doesn't change the flow
-abbrev pub after_output : State → State
-after_output s = record s { out = s.out ++ (slice_index s.regs 2 % 2 ^ 8 ∷ []); pc = s.next; next = after_bytes s.next 4 }
-
 -- what a taken trap does: the monitor serves those two, any other ends the program
-abbrev pub trapped : ℕ → State → Step
-trapped vector s =
-    if vector == monitor_trap && slice_index s.regs 9 == 0x20 then on false (after_output s)
-    else (if vector == monitor_trap && slice_index s.regs 9 == 0x63 then ends (exits s.pc) else ends (by_vector vector s.pc))
+abbrev pub trapped : ℕ → List ℕ → ℕ → Turn
+trapped vector regs pc =
+    if vector == monitor_trap && slice_index regs 9 == 0x20 then outputs (slice_index regs 2 % 2 ^ 8)
+    else (if vector == monitor_trap && slice_index regs 9 == 0x63 then stops (exits pc) else stops (by_vector vector pc))
 
--- what becomes of a state by what its instruction means
-abbrev pub carried_out : Meaning → State → Step
-carried_out (raises vector) s = ends (by_vector vector s.pc)
-carried_out (traps vector) s = trapped vector s
-carried_out (goes change) s = on change.bubble (after_change change s)
+-- what comes of what an instruction means
+abbrev pub carried_out : Meaning → List ℕ → ℕ → Turn
+carried_out (raises vector) regs pc = stops (by_vector vector pc)
+carried_out (traps vector) regs pc = trapped vector regs pc
+carried_out (goes change) regs pc = changes change
 
--- the same by the instruction at the state's address; a word that is none is unimplemented
-abbrev pub executed : Option Instr → State → Step
-executed None s = ends (by_vector unimplemented s.pc)
-executed (Some i) s = carried_out (meaning_of i s.regs s.carry s.pc s.next) s
+-- the same by the instruction; a word that is none is unimplemented
+abbrev pub executed : Option Instr → List ℕ → Bool → ℕ → ℕ → Turn
+executed None regs carry pc next = stops (by_vector unimplemented pc)
+executed (Some i) regs carry pc next = carried_out (meaning_of i regs carry pc next) regs pc
+
+-- the same by the word that was fetched, if it could be
+abbrev pub fetched : Option (List ℕ) → Option Instr → List ℕ → Bool → ℕ → ℕ → Turn
+fetched None i regs carry pc next = stops (by_vector instruction_access pc)
+fetched (Some word) i regs carry pc next = executed i regs carry pc next
+
+-- the turn of a program at an address, of the registers and the carry, with the address that follows
+abbrev pub turn : Program → List ℕ → Bool → ℕ → ℕ → Turn
+turn p regs carry pc next = fetched (four_bytes p.byte pc) (p.instruction pc) regs carry pc next
+
+-- the turn at a state
+abbrev pub turn_at : Program → State → Turn
+turn_at p s = turn p s.regs s.carry s.pc s.next
+
+-- one step: on to the next state, with the mark that a fetched instruction is passed over, or the end
+pub data Step : Type 0 where
+  on : Bool → State → Step
+  ends : Stop → Step
+
+-- the state after an output: the program goes on as behind any instruction that doesn't change the flow
+abbrev pub after_output : ℕ → State → State
+after_output byte s = record s { out = s.out ++ (byte ∷ []); pc = s.next; next = after_bytes s.next 4 }
+
+-- the step that a turn makes from a state
+abbrev pub stepped : Turn → State → Step
+stepped (changes change) s = on change.bubble (after_change change s)
+stepped (outputs byte) s = on false (after_output byte s)
+stepped (stops stop) s = ends stop
 
 -- the step from a state: the word is fetched, and then its instruction is carried out
-abbrev pub fetched : Option (List ℕ) → Option Instr → State → Step
-fetched None i s = ends (by_vector instruction_access s.pc)
-fetched (Some word) i s = executed i s
-
 abbrev pub step : Program → State → Step
-step p s = fetched (four_bytes p.byte s.pc) (p.instruction s.pc) s
+step p s = stepped (turn_at p s) s
 
 -- the state after a step; after the end it stays as it is
 abbrev pub state_after : Step → State → State
