@@ -13,23 +13,11 @@ use crate::letter::Letter;
 use crate::outcome::{End, Outcome};
 use m88_base::{Image, Reg};
 use m88_codec::{BadWord, decode};
-use m88_isa::{Effect, Instr, Plan, plan};
+use m88_isa::{
+    EXIT_SERVICE, Effect, INSTRUCTION_ACCESS, Instr, MONITOR_TRAP, OUTPUT_REGISTER, PUT_SERVICE, Plan,
+    SERVICE_REGISTER, UNIMPLEMENTED, plan,
+};
 use std::alloc::{AllocError, Global};
-
-/// The vector of an instruction that can't be fetched.
-const INSTRUCTION_ACCESS: u16 = 2;
-
-/// The vector of a word that is no instruction.
-const UNIMPLEMENTED: u16 = 5;
-
-/// The trap that asks the monitor for a service.
-const MONITOR_TRAP: u16 = 496;
-
-/// The service that appends a byte to the output.
-const PUT_BYTE: u32 = 0x20;
-
-/// The service that ends the program.
-const EXIT: u32 = 0x63;
 
 /// What carries a program out: its registers and flow, its output, and what became of it so far.
 #[derive(Drop)]
@@ -200,13 +188,13 @@ impl Machine {
             → Makes (stepped (trapped vector self.old.regs self.old.pc) (state_in self.old memory))
             memory self.old self.new) }
     {
-        if vector == MONITOR_TRAP && self.regs[9] == PUT_BYTE {
-            self.out.push((self.regs[2] % 256) as u8)?;
+        if vector == MONITOR_TRAP && self.regs[SERVICE_REGISTER] == PUT_SERVICE {
+            self.out.push((self.regs[OUTPUT_REGISTER] % 256) as u8)?;
             self.pc = self.next;
             self.next = self.next.wrapping_add(4);
             self.bubble = false;
             self.retired += 1;
-        } else if vector == MONITOR_TRAP && self.regs[9] == EXIT {
+        } else if vector == MONITOR_TRAP && self.regs[SERVICE_REGISTER] == EXIT_SERVICE {
             self.ended = Some(End::Exit { at: self.pc });
         } else {
             self.stop(vector);

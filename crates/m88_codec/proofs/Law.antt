@@ -9,7 +9,7 @@ use Rattle.m88_isa.specs.Word.{word_of, HasOneReading, mem_byte, imm_byte, reg_c
 use Rattle.m88_isa.specs.declared.instr.ImmOp.{ImmOp}
 use Rattle.m88_isa.specs.declared.instr.ImmOp.TheVariants as immop
 use Rattle.m88_isa.specs.declared.instr.MemOp.{MemOp}
-use Rattle.m88_isa.specs.declared.instr.MemOp.TheVariants.{XmemBu}
+use Rattle.m88_isa.specs.declared.instr.MemOp.TheVariants as memop
 use Rattle.m88_isa.specs.declared.instr.RegOp.{RegOp}
 use Rattle.m88_isa.specs.declared.instr.RegOp.TheVariants as regop
 use Rattle.m88_isa.specs.declared.instr.LdaSize.{LdaSize}
@@ -17,29 +17,7 @@ use Rattle.m88_isa.specs.declared.instr.LdaSize.TheVariants.{Double}
 use Rattle.m88_isa.specs.declared.instr.BitOp.{BitOp}
 use Rattle.m88_isa.specs.declared.instr.BitOp.TheVariants.{Clr, Rot}
 use Rattle.m88_isa.specs.declared.instr.Instr.{Instr}
-use Rattle.m88_isa.specs.declared.instr.Instr.TheVariants.{
-  Imm,
-  Regs,
-  MemImm,
-  MemReg,
-  Lda,
-  BitLit,
-  BitReg,
-  Find,
-  Branch,
-  BranchBit,
-  BranchCond,
-  Jump,
-  TrapBit,
-  TrapCond,
-  BoundImm,
-  BoundReg,
-  Rte,
-  Ldcr,
-  Stcr,
-  Xcr,
-  Sfu,
-}
+use Rattle.m88_isa.specs.declared.instr.Instr.TheVariants as instr
 use Rattle.m88_codec.specs.Candidate.{
   candidate_of,
   candidate_at,
@@ -78,40 +56,40 @@ by_registers d s c s2 w hc e =
     let ec : (c * 256 + number_of s2) / 256 ≡ c = omega arith in
     split 61 d s (c * 256 + number_of s2) w (omega arith) (omega arith) (omega arith) ∙ cc
 
-mem_at : (op : MemOp) (d s : Reg) (imm rest : ℕ) → candidate_at (mem_byte op / 4) d s imm rest ≡ MemImm op d s imm
+mem_at : (op : MemOp) (d s : Reg) (imm rest : ℕ) → candidate_at (mem_byte op / 4) d s imm rest ≡ instr.MemImm op d s imm
 unfolding candidate_at mem_op_at
-mem_at XmemBu d s imm rest = refl
+mem_at memop.XmemBu d s imm rest = refl
 mem_at _ d s imm rest = refl
 
-imm_at : (op : ImmOp) (d s : Reg) (imm rest : ℕ) → candidate_at (imm_byte op / 4) d s imm rest ≡ Imm op d s imm
+imm_at : (op : ImmOp) (d s : Reg) (imm rest : ℕ) → candidate_at (imm_byte op / 4) d s imm rest ≡ instr.Imm op d s imm
 unfolding candidate_at imm_op_at
 imm_at immop.And d s imm rest = refl
 imm_at _ d s imm rest = refl
 
-reg_at : (op : RegOp) (d s s2 : Reg) → register_form d s (reg_code op / 256) s2 ≡ Regs op d s s2
+reg_at : (op : RegOp) (d s s2 : Reg) → register_form d s (reg_code op / 256) s2 ≡ instr.Regs op d s s2
 unfolding register_form reg_op_at
 reg_at regop.And d s s2 = refl
 reg_at _ d s s2 = refl
 
 -- the code of a memory mnemonic with its marks
 mem_reg_at : (scaled usr : Bool) (op : MemOp) (d s s2 : Reg)
-    → register_form d s (mem_byte op + (if scaled then 2 else 0) + (if usr then 1 else 0)) s2 ≡ MemReg op d s s2 scaled usr
+    → register_form d s (mem_byte op + (if scaled then 2 else 0) + (if usr then 1 else 0)) s2 ≡ instr.MemReg op d s s2 scaled usr
 unfolding register_form mem_op_at
-mem_reg_at true true XmemBu d s s2 = refl
+mem_reg_at true true memop.XmemBu d s s2 = refl
 mem_reg_at true true _ d s s2 = refl
-mem_reg_at true false XmemBu d s s2 = refl
+mem_reg_at true false memop.XmemBu d s s2 = refl
 mem_reg_at true false _ d s s2 = refl
-mem_reg_at false true XmemBu d s s2 = refl
+mem_reg_at false true memop.XmemBu d s s2 = refl
 mem_reg_at false true _ d s s2 = refl
-mem_reg_at false false XmemBu d s s2 = refl
+mem_reg_at false false memop.XmemBu d s s2 = refl
 mem_reg_at false false _ d s s2 = refl
 
-lda_at : (size : LdaSize) (d s s2 : Reg) → register_form d s (lda_code size / 256) s2 ≡ Lda size d s s2
+lda_at : (size : LdaSize) (d s s2 : Reg) → register_form d s (lda_code size / 256) s2 ≡ instr.Lda size d s s2
 unfolding register_form lda_size_at
 lda_at Double d s s2 = refl
 lda_at _ d s s2 = refl
 
-bit_reg_at : (op : BitOp) (d s s2 : Reg) → register_form d s (bit_code op / 256) s2 ≡ BitReg op d s s2
+bit_reg_at : (op : BitOp) (d s s2 : Reg) → register_form d s (bit_code op / 256) s2 ≡ instr.BitReg op d s s2
 unfolding register_form bit_op_at
 bit_reg_at Clr d s s2 = refl
 bit_reg_at _ d s s2 = refl
@@ -152,60 +130,60 @@ bit_even op = grind arith
 bit_bound : (op : BitOp) → bit_code op ≤ 0xA800
 bit_bound op = grind arith
 
-law_mem_imm : (op : MemOp) (d s : Reg) (imm : ℕ) → imm < 2 ^ 16 → candidate_of (word_of (MemImm op d s imm)) ≡ MemImm op d s imm
+law_mem_imm : (op : MemOp) (d s : Reg) (imm : ℕ) → imm < 2 ^ 16 → candidate_of (word_of (instr.MemImm op d s imm)) ≡ instr.MemImm op d s imm
 law_mem_imm op d s imm v =
     let even = mem_even op in
     let bound = mem_bound op in
     split (mem_byte op / 4) d s imm _ (omega arith) v (omega arith) ∙ mem_at op d s imm _
 
-law_imm : (op : ImmOp) (d s : Reg) (imm : ℕ) → imm < 2 ^ 16 → candidate_of (word_of (Imm op d s imm)) ≡ Imm op d s imm
+law_imm : (op : ImmOp) (d s : Reg) (imm : ℕ) → imm < 2 ^ 16 → candidate_of (word_of (instr.Imm op d s imm)) ≡ instr.Imm op d s imm
 law_imm op d s imm v =
     let even = imm_even op in
     let bound = imm_bound op in
     split (imm_byte op / 4) d s imm _ (omega arith) v (omega arith) ∙ imm_at op d s imm _
 
-law_regs : (op : RegOp) (d s s2 : Reg) → candidate_of (word_of (Regs op d s s2)) ≡ Regs op d s s2
+law_regs : (op : RegOp) (d s s2 : Reg) → candidate_of (word_of (instr.Regs op d s s2)) ≡ instr.Regs op d s s2
 law_regs op d s s2 =
     let even = reg_even op in
     let bound = reg_bound op in
     by_registers d s (reg_code op / 256) s2 _ (omega arith) (omega arith) ∙ reg_at op d s s2
 
 law_mem_reg : (op : MemOp) (d s s2 : Reg) (scaled usr : Bool)
-    → candidate_of (word_of (MemReg op d s s2 scaled usr)) ≡ MemReg op d s s2 scaled usr
+    → candidate_of (word_of (instr.MemReg op d s s2 scaled usr)) ≡ instr.MemReg op d s s2 scaled usr
 law_mem_reg op d s s2 scaled usr =
     let bound = mem_bound op in
     let code : ℕ = mem_byte op + (if scaled then 2 else 0) + (if usr then 1 else 0) in
     by_registers d s code s2 _ (grind arith) (grind arith) ∙ mem_reg_at scaled usr op d s s2
 
-law_lda : (size : LdaSize) (d s s2 : Reg) → candidate_of (word_of (Lda size d s s2)) ≡ Lda size d s s2
+law_lda : (size : LdaSize) (d s s2 : Reg) → candidate_of (word_of (instr.Lda size d s s2)) ≡ instr.Lda size d s s2
 law_lda size d s s2 =
     let even = lda_even size in
     let bound = lda_bound size in
     by_registers d s (lda_code size / 256) s2 _ (omega arith) (omega arith) ∙ lda_at size d s s2
 
-law_bit_reg : (op : BitOp) (d s s2 : Reg) → candidate_of (word_of (BitReg op d s s2)) ≡ BitReg op d s s2
+law_bit_reg : (op : BitOp) (d s s2 : Reg) → candidate_of (word_of (instr.BitReg op d s s2)) ≡ instr.BitReg op d s s2
 law_bit_reg op d s s2 =
     let even = bit_even op in
     let bound = bit_bound op in
     by_registers d s (bit_code op / 256) s2 _ (omega arith) (omega arith) ∙ bit_reg_at op d s s2
 
-law_find : (ones : Bool) (d s2 : Reg) → candidate_of (word_of (Find ones d s2)) ≡ Find ones d s2
+law_find : (ones : Bool) (d s2 : Reg) → candidate_of (word_of (instr.Find ones d s2)) ≡ instr.Find ones d s2
 unfolding register_form
 law_find true d s2 = by_registers d (reg_of 0) 0xE8 s2 _ (omega arith) (omega arith)
 law_find false d s2 = by_registers d (reg_of 0) 0xEC s2 _ (omega arith) (omega arith)
 
-law_jump : (link delayed : Bool) (s2 : Reg) → candidate_of (word_of (Jump link delayed s2)) ≡ Jump link delayed s2
+law_jump : (link delayed : Bool) (s2 : Reg) → candidate_of (word_of (instr.Jump link delayed s2)) ≡ instr.Jump link delayed s2
 unfolding register_form
 law_jump true true s2 = by_registers (reg_of 0) (reg_of 0) 0xCC s2 _ (omega arith) (omega arith)
 law_jump true false s2 = by_registers (reg_of 0) (reg_of 0) 0xC8 s2 _ (omega arith) (omega arith)
 law_jump false true s2 = by_registers (reg_of 0) (reg_of 0) 0xC4 s2 _ (omega arith) (omega arith)
 law_jump false false s2 = by_registers (reg_of 0) (reg_of 0) 0xC0 s2 _ (omega arith) (omega arith)
 
-law_bound_reg : (s s2 : Reg) → candidate_of (word_of (BoundReg s s2)) ≡ BoundReg s s2
+law_bound_reg : (s s2 : Reg) → candidate_of (word_of (instr.BoundReg s s2)) ≡ instr.BoundReg s s2
 unfolding register_form
 law_bound_reg s s2 = by_registers (reg_of 0) s 0xF8 s2 _ (omega arith) (omega arith)
 
-law_rte : candidate_of (word_of Rte) ≡ Rte
+law_rte : candidate_of (word_of instr.Rte) ≡ instr.Rte
 unfolding register_form
 law_rte = by_registers (reg_of 0) (reg_of 0) 0xFC (reg_of 0) _ (omega arith) (omega arith)
 
@@ -220,7 +198,7 @@ width_bound Rot width h = omega arith
 width_bound _ width h = h
 
 law_bit_lit : (op : BitOp) (d s : Reg) (width offset : ℕ) → IsWidth op width → offset < 32
-    → candidate_of (word_of (BitLit op d s width offset)) ≡ BitLit op d s width offset
+    → candidate_of (word_of (instr.BitLit op d s width offset)) ≡ instr.BitLit op d s width offset
 unfolding literal_form
 law_bit_lit op d s width offset v u =
     let even = bit_even op in
@@ -234,7 +212,7 @@ law_bit_lit op d s width offset v u =
     by_literal d s l _ (omega arith) (omega arith) ∙ grind (arith, nat_tests)
 
 law_trap_bit : (set : Bool) (bit : ℕ) (s : Reg) (vector : ℕ) → bit < 32 → vector < 512
-    → candidate_of (word_of (TrapBit set bit s vector)) ≡ TrapBit set bit s vector
+    → candidate_of (word_of (instr.TrapBit set bit s vector)) ≡ instr.TrapBit set bit s vector
 unfolding literal_form
 law_trap_bit true bit s vector v u =
     by_literal (reg_of bit) s (0xD800 + vector) _ (omega arith) (omega arith) ∙ grind (arith, nat_tests)
@@ -242,7 +220,7 @@ law_trap_bit false bit s vector v u =
     by_literal (reg_of bit) s (0xD000 + vector) _ (omega arith) (omega arith) ∙ grind (arith, nat_tests)
 
 law_trap_cond : (mask : ℕ) (s : Reg) (vector : ℕ) → mask < 16 → vector < 512
-    → candidate_of (word_of (TrapCond mask s vector)) ≡ TrapCond mask s vector
+    → candidate_of (word_of (instr.TrapCond mask s vector)) ≡ instr.TrapCond mask s vector
 unfolding literal_form
 law_trap_cond mask s vector v u =
     by_literal (reg_of mask) s (0xE800 + vector) _ (omega arith) (omega arith) ∙ grind (arith, nat_tests)
@@ -268,27 +246,27 @@ low16_bound : (z : ℤ) → FitsWords 15 z → low16 z < 2 ^ 16
 low16_bound (pos n) v = omega arith
 low16_bound (negsuc n) v = omega arith
 
-law_branch : (link delayed : Bool) (z : ℤ) → FitsWords 25 z → candidate_of (word_of (Branch link delayed z)) ≡ Branch link delayed z
+law_branch : (link delayed : Bool) (z : ℤ) → FitsWords 25 z → candidate_of (word_of (instr.Branch link delayed z)) ≡ instr.Branch link delayed z
 unfolding candidate_at
 law_branch true true z v =
-    by_rest 51 (low26 z) _ (omega arith) (omega arith) (omega arith) ∙ ap (Branch true true) (words26_low26 z v)
+    by_rest 51 (low26 z) _ (omega arith) (omega arith) (omega arith) ∙ ap (instr.Branch true true) (words26_low26 z v)
 law_branch true false z v =
-    by_rest 50 (low26 z) _ (omega arith) (omega arith) (omega arith) ∙ ap (Branch true false) (words26_low26 z v)
+    by_rest 50 (low26 z) _ (omega arith) (omega arith) (omega arith) ∙ ap (instr.Branch true false) (words26_low26 z v)
 law_branch false true z v =
-    by_rest 49 (low26 z) _ (omega arith) (omega arith) (omega arith) ∙ ap (Branch false true) (words26_low26 z v)
+    by_rest 49 (low26 z) _ (omega arith) (omega arith) (omega arith) ∙ ap (instr.Branch false true) (words26_low26 z v)
 law_branch false false z v =
-    by_rest 48 (low26 z) _ (omega arith) (omega arith) (omega arith) ∙ ap (Branch false false) (words26_low26 z v)
+    by_rest 48 (low26 z) _ (omega arith) (omega arith) (omega arith) ∙ ap (instr.Branch false false) (words26_low26 z v)
 
 -- the same number in the place of D, and the same count of words
 branch_bit_is : (set delayed : Bool) (bit : ℕ) (s : Reg) (z : ℤ) → bit < 32 → FitsWords 15 z
-    → BranchBit set delayed (bit % 32) s (words16 (low16 z)) ≡ BranchBit set delayed bit s z
+    → instr.BranchBit set delayed (bit % 32) s (words16 (low16 z)) ≡ instr.BranchBit set delayed bit s z
 branch_bit_is set delayed bit s z v u =
     let eb : bit % 32 ≡ bit = omega arith in
     let ez = words16_low16 z u in
     cc
 
 law_branch_bit : (set delayed : Bool) (bit : ℕ) (s : Reg) (z : ℤ) → bit < 32 → FitsWords 15 z
-    → candidate_of (word_of (BranchBit set delayed bit s z)) ≡ BranchBit set delayed bit s z
+    → candidate_of (word_of (instr.BranchBit set delayed bit s z)) ≡ instr.BranchBit set delayed bit s z
 unfolding candidate_at
 law_branch_bit true true bit s z v u =
     let bound = low16_bound z u in
@@ -304,14 +282,14 @@ law_branch_bit false false bit s z v u =
     split 52 (reg_of bit) s (low16 z) _ (omega arith) (omega arith) (omega arith) ∙ branch_bit_is false false bit s z v u
 
 branch_cond_is : (delayed : Bool) (mask : ℕ) (s : Reg) (z : ℤ) → mask < 16 → FitsWords 15 z
-    → BranchCond delayed (mask % 32) s (words16 (low16 z)) ≡ BranchCond delayed mask s z
+    → instr.BranchCond delayed (mask % 32) s (words16 (low16 z)) ≡ instr.BranchCond delayed mask s z
 branch_cond_is delayed mask s z v u =
     let em : mask % 32 ≡ mask = omega arith in
     let ez = words16_low16 z u in
     cc
 
 law_branch_cond : (delayed : Bool) (mask : ℕ) (s : Reg) (z : ℤ) → mask < 16 → FitsWords 15 z
-    → candidate_of (word_of (BranchCond delayed mask s z)) ≡ BranchCond delayed mask s z
+    → candidate_of (word_of (instr.BranchCond delayed mask s z)) ≡ instr.BranchCond delayed mask s z
 unfolding candidate_at
 law_branch_cond true mask s z v u =
     let bound = low16_bound z u in
@@ -320,7 +298,7 @@ law_branch_cond false mask s z v u =
     let bound = low16_bound z u in
     split 58 (reg_of mask) s (low16 z) _ (omega arith) (omega arith) (omega arith) ∙ branch_cond_is false mask s z v u
 
-law_bound_imm : (s : Reg) (imm : ℕ) → imm < 2 ^ 16 → candidate_of (word_of (BoundImm s imm)) ≡ BoundImm s imm
+law_bound_imm : (s : Reg) (imm : ℕ) → imm < 2 ^ 16 → candidate_of (word_of (instr.BoundImm s imm)) ≡ instr.BoundImm s imm
 unfolding candidate_at
 law_bound_imm s imm v = split 62 (reg_of 0) s imm _ (omega arith) v (omega arith)
 
@@ -330,53 +308,53 @@ by_control : (d s : Reg) (l w : ℕ) → l < 2 ^ 16 → w ≡ 0x80000000 + numbe
 unfolding candidate_at
 by_control d s l w hl e = split 32 d s l w (omega arith) hl (omega arith)
 
-law_ldcr : (d : Reg) (cr : ℕ) (float : Bool) → cr < 64 → candidate_of (word_of (Ldcr d cr float)) ≡ Ldcr d cr float
+law_ldcr : (d : Reg) (cr : ℕ) (float : Bool) → cr < 64 → candidate_of (word_of (instr.Ldcr d cr float)) ≡ instr.Ldcr d cr float
 unfolding control_form
 law_ldcr d cr true v = by_control d (reg_of 0) (0x4800 + cr * 2 ^ 5) _ (omega arith) (omega arith) ∙ grind (arith, nat_tests)
 law_ldcr d cr false v = by_control d (reg_of 0) (0x4000 + cr * 2 ^ 5) _ (omega arith) (omega arith) ∙ grind (arith, nat_tests)
 
-law_stcr : (s : Reg) (cr : ℕ) (float : Bool) → cr < 64 → candidate_of (word_of (Stcr s cr float)) ≡ Stcr s cr float
+law_stcr : (s : Reg) (cr : ℕ) (float : Bool) → cr < 64 → candidate_of (word_of (instr.Stcr s cr float)) ≡ instr.Stcr s cr float
 unfolding control_form
 law_stcr s cr true v =
     by_control (reg_of 0) s (0x8800 + cr * 2 ^ 5 + number_of s) _ (omega arith) (omega arith) ∙ grind (arith, nat_tests)
 law_stcr s cr false v =
     by_control (reg_of 0) s (0x8000 + cr * 2 ^ 5 + number_of s) _ (omega arith) (omega arith) ∙ grind (arith, nat_tests)
 
-law_xcr : (d s : Reg) (cr : ℕ) (float : Bool) → cr < 64 → candidate_of (word_of (Xcr d s cr float)) ≡ Xcr d s cr float
+law_xcr : (d s : Reg) (cr : ℕ) (float : Bool) → cr < 64 → candidate_of (word_of (instr.Xcr d s cr float)) ≡ instr.Xcr d s cr float
 unfolding control_form
 law_xcr d s cr true v =
     by_control d s (0xC800 + cr * 2 ^ 5 + number_of s) _ (omega arith) (omega arith) ∙ grind (arith, nat_tests)
 law_xcr d s cr false v =
     by_control d s (0xC000 + cr * 2 ^ 5 + number_of s) _ (omega arith) (omega arith) ∙ grind (arith, nat_tests)
 
-law_sfu : (unit rest : ℕ) → 1 ≤ unit → unit < 8 → rest < 2 ^ 26 → candidate_of (word_of (Sfu unit rest)) ≡ Sfu unit rest
+law_sfu : (unit rest : ℕ) → 1 ≤ unit → unit < 8 → rest < 2 ^ 26 → candidate_of (word_of (instr.Sfu unit rest)) ≡ instr.Sfu unit rest
 unfolding candidate_at
 law_sfu unit rest low high v =
     by_rest (32 + unit) rest _ (omega arith) v (omega arith) ∙ grind (arith, nat_tests)
 
 -- the candidate of a valid instruction's word is that instruction
 pub candidate_law : (i : Instr) → IsValid i → candidate_of (word_of i) ≡ i
-candidate_law (MemImm op d s1 imm) v = law_mem_imm op d s1 imm v
-candidate_law (Imm op d s1 imm) v = law_imm op d s1 imm v
-candidate_law (Regs op d s1 s2) v = law_regs op d s1 s2
-candidate_law (MemReg op d s1 s2 scaled usr) v = law_mem_reg op d s1 s2 scaled usr
-candidate_law (Lda size d s1 s2) v = law_lda size d s1 s2
-candidate_law (BitReg op d s1 s2) v = law_bit_reg op d s1 s2
-candidate_law (Find ones d s2) v = law_find ones d s2
-candidate_law (Jump link delayed s2) v = law_jump link delayed s2
-candidate_law (BoundReg s1 s2) v = law_bound_reg s1 s2
-candidate_law Rte v = law_rte
-candidate_law (BitLit op d s1 width offset) v = law_bit_lit op d s1 width offset v.0 v.1
-candidate_law (Branch link delayed words) v = law_branch link delayed words v
-candidate_law (BranchBit set delayed bit s1 words) v = law_branch_bit set delayed bit s1 words v.0 v.1
-candidate_law (BranchCond delayed mask s1 words) v = law_branch_cond delayed mask s1 words v.0 v.1
-candidate_law (TrapBit set bit s1 vector) v = law_trap_bit set bit s1 vector v.0 v.1
-candidate_law (TrapCond mask s1 vector) v = law_trap_cond mask s1 vector v.0 v.1
-candidate_law (BoundImm s1 imm) v = law_bound_imm s1 imm v
-candidate_law (Ldcr d cr float) v = law_ldcr d cr float v
-candidate_law (Stcr s1 cr float) v = law_stcr s1 cr float v
-candidate_law (Xcr d s1 cr float) v = law_xcr d s1 cr float v
-candidate_law (Sfu unit rest) v = law_sfu unit rest v.0 v.1 v.2
+candidate_law (instr.MemImm op d s1 imm) v = law_mem_imm op d s1 imm v
+candidate_law (instr.Imm op d s1 imm) v = law_imm op d s1 imm v
+candidate_law (instr.Regs op d s1 s2) v = law_regs op d s1 s2
+candidate_law (instr.MemReg op d s1 s2 scaled usr) v = law_mem_reg op d s1 s2 scaled usr
+candidate_law (instr.Lda size d s1 s2) v = law_lda size d s1 s2
+candidate_law (instr.BitReg op d s1 s2) v = law_bit_reg op d s1 s2
+candidate_law (instr.Find ones d s2) v = law_find ones d s2
+candidate_law (instr.Jump link delayed s2) v = law_jump link delayed s2
+candidate_law (instr.BoundReg s1 s2) v = law_bound_reg s1 s2
+candidate_law instr.Rte v = law_rte
+candidate_law (instr.BitLit op d s1 width offset) v = law_bit_lit op d s1 width offset v.0 v.1
+candidate_law (instr.Branch link delayed words) v = law_branch link delayed words v
+candidate_law (instr.BranchBit set delayed bit s1 words) v = law_branch_bit set delayed bit s1 words v.0 v.1
+candidate_law (instr.BranchCond delayed mask s1 words) v = law_branch_cond delayed mask s1 words v.0 v.1
+candidate_law (instr.TrapBit set bit s1 vector) v = law_trap_bit set bit s1 vector v.0 v.1
+candidate_law (instr.TrapCond mask s1 vector) v = law_trap_cond mask s1 vector v.0 v.1
+candidate_law (instr.BoundImm s1 imm) v = law_bound_imm s1 imm v
+candidate_law (instr.Ldcr d cr float) v = law_ldcr d cr float v
+candidate_law (instr.Stcr s1 cr float) v = law_stcr s1 cr float v
+candidate_law (instr.Xcr d s1 cr float) v = law_xcr d s1 cr float v
+candidate_law (instr.Sfu unit rest) v = law_sfu unit rest v.0 v.1 v.2
 
 -- two instructions of one word are the same
 pub one_reading : (word : ℕ) → HasOneReading word

@@ -8,61 +8,26 @@ use Rattle.m88_base.specs.declared.reg.Reg.{Reg}
 use Rattle.m88_base.specs.Reg.{number_of, reg_of}
 use Rattle.m88_isa.specs.declared.instr.ImmOp.{ImmOp}
 use Rattle.m88_isa.specs.declared.instr.MemOp.{MemOp}
-use Rattle.m88_isa.specs.declared.instr.MemOp.TheVariants.{
-  XmemBu,
-  Xmem,
-  LdHu,
-  LdBu,
-  LdD,
-  Ld,
-  LdH,
-  LdB,
-  StD,
-  St,
-  StH,
-  StB,
-}
+use Rattle.m88_isa.specs.declared.instr.MemOp.TheVariants as memop
 use Rattle.m88_isa.specs.declared.instr.RegOp.{RegOp}
 use Rattle.m88_isa.specs.declared.instr.LdaSize.{LdaSize}
 use Rattle.m88_isa.specs.declared.instr.LdaSize.TheVariants.{Double, Word, Half}
 use Rattle.m88_isa.specs.declared.instr.BitOp.{BitOp}
 use Rattle.m88_isa.specs.declared.instr.BitOp.TheVariants.{Clr, Set, Ext, Extu, Mak, Rot}
 use Rattle.m88_isa.specs.declared.instr.Instr.{Instr}
-use Rattle.m88_isa.specs.declared.instr.Instr.TheVariants.{
-  Imm,
-  Regs,
-  MemImm,
-  MemReg,
-  Lda,
-  BitLit,
-  BitReg,
-  Find,
-  Branch,
-  BranchBit,
-  BranchCond,
-  Jump,
-  TrapBit,
-  TrapCond,
-  BoundImm,
-  BoundReg,
-  Rte,
-  Ldcr,
-  Stcr,
-  Xcr,
-  Sfu,
-}
+use Rattle.m88_isa.specs.declared.instr.Instr.TheVariants as instr
 use Rattle.m88_isa.specs.declared.instr.ImmOp.TheVariants as immop
 use Rattle.m88_isa.specs.declared.instr.RegOp.TheVariants as regop
 
 -- the memory mnemonic of six opening bits
 unfoldable pub mem_op_at : ℕ → MemOp
 mem_op_at code =
-    if code == 0 then XmemBu else if code == 1 then Xmem
-    else if code == 2 then LdHu else if code == 3 then LdBu
-    else if code == 4 then LdD else if code == 5 then Ld
-    else if code == 6 then LdH else if code == 7 then LdB
-    else if code == 8 then StD else if code == 9 then St
-    else if code == 10 then StH else StB
+    if code == 0 then memop.XmemBu else if code == 1 then memop.Xmem
+    else if code == 2 then memop.LdHu else if code == 3 then memop.LdBu
+    else if code == 4 then memop.LdD else if code == 5 then memop.Ld
+    else if code == 6 then memop.LdH else if code == 7 then memop.LdB
+    else if code == 8 then memop.StD else if code == 9 then memop.St
+    else if code == 10 then memop.StH else memop.StB
 
 -- the immediate mnemonic of six opening bits
 unfoldable pub imm_op_at : ℕ → ImmOp
@@ -119,42 +84,42 @@ words26 rest = if nat_lt rest (2 ^ 25) then pos rest else negsuc (2 ^ 26 - (rest
 -- a register form by bits 15 to 8
 unfoldable pub register_form : Reg → Reg → ℕ → Reg → Instr
 register_form d s1 code s2 =
-    if nat_lt code 0x30 then MemReg (mem_op_at (code / 4)) d s1 s2 (is_odd (code / 2)) (is_odd code)
-    else if nat_lt code 0x40 then Lda (lda_size_at code) d s1 s2
-    else if nat_lt code 0x80 then Regs (reg_op_at code) d s1 s2
-    else if nat_lt code 0xC0 then BitReg (bit_op_at (code / 8)) d s1 s2
-    else if nat_lt code 0xE8 then Jump (nat_le 0xC8 code) (is_odd (code / 4)) s2
-    else if nat_lt code 0xF8 then Find (code == 0xE8) d s2
-    else if nat_lt code 0xFC then BoundReg s1 s2
-    else Rte
+    if nat_lt code 0x30 then instr.MemReg (mem_op_at (code / 4)) d s1 s2 (is_odd (code / 2)) (is_odd code)
+    else if nat_lt code 0x40 then instr.Lda (lda_size_at code) d s1 s2
+    else if nat_lt code 0x80 then instr.Regs (reg_op_at code) d s1 s2
+    else if nat_lt code 0xC0 then instr.BitReg (bit_op_at (code / 8)) d s1 s2
+    else if nat_lt code 0xE8 then instr.Jump (nat_le 0xC8 code) (is_odd (code / 4)) s2
+    else if nat_lt code 0xF8 then instr.Find (code == 0xE8) d s2
+    else if nat_lt code 0xFC then instr.BoundReg s1 s2
+    else instr.Rte
 
 -- a bit field with a literal, or a trap, by the low 16 bits; a bit number or a mask stands in the place of D
 unfoldable pub literal_form : Reg → Reg → ℕ → Instr
 literal_form d s1 low =
-    if nat_lt low 0xC000 then BitLit (bit_op_at (low / 2 ^ 11)) d s1 (low / 2 ^ 5 % 32) (low % 32)
-    else if nat_lt low 0xE000 then TrapBit (nat_le 0xD800 low) (number_of d) s1 (low % 512)
-    else TrapCond (number_of d) s1 (low % 512)
+    if nat_lt low 0xC000 then instr.BitLit (bit_op_at (low / 2 ^ 11)) d s1 (low / 2 ^ 5 % 32) (low % 32)
+    else if nat_lt low 0xE000 then instr.TrapBit (nat_le 0xD800 low) (number_of d) s1 (low % 512)
+    else instr.TrapCond (number_of d) s1 (low % 512)
 
 -- a control form by the low 16 bits
 unfoldable pub control_form : Reg → Reg → ℕ → Instr
 control_form d s1 low =
-    if nat_lt low 0x8000 then Ldcr d (low / 2 ^ 5 % 64) (is_odd (low / 2 ^ 11))
-    else if nat_lt low 0xC000 then Stcr s1 (low / 2 ^ 5 % 64) (is_odd (low / 2 ^ 11))
-    else Xcr d s1 (low / 2 ^ 5 % 64) (is_odd (low / 2 ^ 11))
+    if nat_lt low 0x8000 then instr.Ldcr d (low / 2 ^ 5 % 64) (is_odd (low / 2 ^ 11))
+    else if nat_lt low 0xC000 then instr.Stcr s1 (low / 2 ^ 5 % 64) (is_odd (low / 2 ^ 11))
+    else instr.Xcr d s1 (low / 2 ^ 5 % 64) (is_odd (low / 2 ^ 11))
 
 -- an instruction by the six opening bits, D, S1, the low 16 bits and the low 26 bits
 unfoldable pub candidate_at : ℕ → Reg → Reg → ℕ → ℕ → Instr
 candidate_at head d s1 low rest =
-    if nat_lt head 12 then MemImm (mem_op_at head) d s1 low
-    else if nat_lt head 32 then Imm (imm_op_at head) d s1 low
+    if nat_lt head 12 then instr.MemImm (mem_op_at head) d s1 low
+    else if nat_lt head 32 then instr.Imm (imm_op_at head) d s1 low
     else if head == 32 then control_form d s1 low
-    else if nat_lt head 48 then Sfu (head - 32) rest
-    else if nat_lt head 52 then Branch (nat_le 50 head) (is_odd head) (words26 rest)
-    else if nat_lt head 56 then BranchBit (nat_le 54 head) (is_odd head) (number_of d) s1 (words16 low)
-    else if nat_lt head 60 then BranchCond (is_odd head) (number_of d) s1 (words16 low)
+    else if nat_lt head 48 then instr.Sfu (head - 32) rest
+    else if nat_lt head 52 then instr.Branch (nat_le 50 head) (is_odd head) (words26 rest)
+    else if nat_lt head 56 then instr.BranchBit (nat_le 54 head) (is_odd head) (number_of d) s1 (words16 low)
+    else if nat_lt head 60 then instr.BranchCond (is_odd head) (number_of d) s1 (words16 low)
     else if head == 60 then literal_form d s1 low
     else if head == 61 then register_form d s1 (low / 256) (reg_of low)
-    else BoundImm s1 low
+    else instr.BoundImm s1 low
 
 -- the instruction that a word can have
 unfoldable pub candidate_of : ℕ → Instr

@@ -1,3 +1,5 @@
+//! The word that four bytes of memory are.
+
 ghost use Rattle.std.specs.Prelude.{ℕ, ◌≡◌, ◌≤◌, ◌<◌, ◌^◌, length, take};
 ghost use Rattle.std.specs.Int.{from_be_bytes, to_be_bytes, w32};
 

@@ -1,3 +1,5 @@
+//! The instruction of a word.
+
 ghost use Rattle.std.specs.Prelude.{◌≡◌, IfOk};
 ghost use Rattle.m88_isa.specs.Word.{IsWord, HasOneReading};
 ghost use Rattle.m88_isa.specs.declared.instr.Instr.{Instr as Instruction};

@@ -1,7 +1,10 @@
-ghost use Rattle.std.specs.Prelude.{◌≡◌, ◌<◌, ◌≤◌, ◌+◌, ◌*◌};
+//! The word of an instruction, form by form ("Instruction Set": the instruction formats).
+
+ghost use Rattle.std.specs.Prelude.{◌≡◌, ◌<◌, ◌≤◌, ◌+◌, ◌*◌, ◌^◌};
 ghost use Rattle.m88_base.specs.Reg.{number_of};
 ghost use Rattle.m88_isa.specs.Instr.{IsValid};
-ghost use Rattle.m88_isa.specs.Word.{IsWord, at_cr, at_d, at_s1, first_byte, low16, mark, mem_byte};
+ghost use Rattle.m88_isa.specs.Compute.{weight_if};
+ghost use Rattle.m88_isa.specs.Word.{IsWord, at_cr, at_d, at_s1, first_byte, low16, mem_byte};
 
 use super::codes::{byte_of_imm, byte_of_mem, code_of_bit, code_of_lda, code_of_reg};
 use m88_base::Reg;
@@ -30,7 +33,7 @@ pub fn encode(instr: &Instr) -> u32
         Instr::BitReg { op, d, s1, s2 } => registers(code_of_bit(op), d, s1, s2),
         Instr::Find { ones, d, s2 } => registers(if ones { 0xE800 } else { 0xEC00 }, d, R0, s2),
         Instr::Jump { link, delayed, s2 } => {
-            let code = 0xC000 + marked(link, 0x800) + marked(delayed, 0x400);
+            let code = 0xC000 + weight_if(link, 0x800) + weight_if(delayed, 0x400);
             registers(code, R0, R0, s2)
         }
         Instr::BoundReg { s1, s2 } => registers(0xF800, R0, s1, s2),
@@ -68,7 +71,7 @@ pub fn encode(instr: &Instr) -> u32
             bit,
             s1,
             vector,
-        } => literal(0xD000 + marked(set, 0x800) + vector as u32, bit as u32, s1),
+        } => literal(0xD000 + weight_if(set, 0x800) + vector as u32, bit as u32, s1),
         Instr::TrapCond { mask, s1, vector } => literal(0xE800 + vector as u32, mask as u32, s1),
         Instr::BoundImm { s1, imm } => immediate(0xF8, R0, s1, imm),
         Instr::Ldcr { d, cr, float } => control(0x4000, float, cr, d, R0),
@@ -90,7 +93,7 @@ fn immediate(byte: u32, d: Reg, s1: Reg, imm: u16) -> u32
 fn registers(code: u32, d: Reg, s1: Reg, s2: Reg) -> u32
     requires { code ≤ 0xFFE0 }
     ensures { result ≡
-        0xF4000000 + at_d (number_of d) + at_s1 (number_of s1) + code + number_of s2 }
+        first_byte 0xF4 + at_d (number_of d) + at_s1 (number_of s1) + code + number_of s2 }
 {
     fields(0xF400_0000, d.number(), s1.number(), code + s2.number())
 }
@@ -99,7 +102,7 @@ fn registers(code: u32, d: Reg, s1: Reg, s2: Reg) -> u32
 fn literal(low: u32, d: u32, s1: Reg) -> u32
     requires low_fits { low < 0x10000 }
     requires d_fits { d < 32 }
-    ensures { result ≡ 0xF0000000 + at_d d + at_s1 (number_of s1) + low }
+    ensures { result ≡ first_byte 0xF0 + at_d d + at_s1 (number_of s1) + low }
 {
     fields(0xF000_0000, d, s1.number(), low)
 }
@@ -118,9 +121,9 @@ fn control(code: u32, float: bool, cr: u8, d: Reg, s1: Reg) -> u32
     requires code_fits { code ≤ 0xC000 }
     requires cr_fits { cr < 64 }
     ensures { result ≡
-        0x80000000 + code + mark float 0x800 + at_d (number_of d) + at_s1 (number_of s1) + at_cr cr + number_of s1 }
+        first_byte 0x80 + code + weight_if float 0x800 + at_d (number_of d) + at_s1 (number_of s1) + at_cr cr + number_of s1 }
 {
-    let low = code + marked(float, 0x800) + ((cr as u32) << 5) + s1.number();
+    let low = code + weight_if(float, 0x800) + ((cr as u32) << 5) + s1.number();
     fields(0x8000_0000, d.number(), s1.number(), low)
 }
 
@@ -138,23 +141,23 @@ fn fields(head: u32, d: u32, s1: u32, low: u32) -> u32
 /// The opening bits of a branch with its two marks, `link` or `set` and `.n`.
 fn branch_head(base: u32, first: bool, delayed: bool) -> u32
     requires { base ≤ 0xE8000000 }
-    ensures value { result ≡ base + mark first 0x08000000 + mark delayed 0x04000000 }
+    ensures value { result ≡ base + weight_if first (2 ^ 27) + weight_if delayed (2 ^ 26) }
     ensures bound { result ≤ base + 0x0C000000 }
 {
-    base + marked(first, 0x0800_0000) + marked(delayed, 0x0400_0000)
+    base + weight_if(first, 1 << 27) + weight_if(delayed, 1 << 26)
 }
 
 /// The code of a memory mnemonic with its marks in a register form.
 fn code_of_mem(op: MemOp, scaled: bool, usr: bool) -> u32
-    ensures value { result ≡ mem_byte op * 0x100 + mark scaled 0x200 + mark usr 0x100 }
+    ensures value { result ≡ mem_byte op * 0x100 + weight_if scaled 0x200 + weight_if usr 0x100 }
     ensures bound { result ≤ 0x2F00 }
 {
-    (byte_of_mem(op) << 8) + marked(scaled, 0x200) + marked(usr, 0x100)
+    (byte_of_mem(op) << 8) + weight_if(scaled, 0x200) + weight_if(usr, 0x100)
 }
 
 /// What a mark of the mnemonic, as `.n` or `.usr`, adds to the word.
-fn marked(there: bool, bits: u32) -> u32
-    ensures value { result ≡ mark there bits }
+fn weight_if(there: bool, bits: u32) -> u32
+    ensures value { result ≡ weight_if there bits }
     ensures bound { result ≤ bits }
 {
     if there { bits } else { 0 }

@@ -3,13 +3,19 @@
 //! The word table itself is a definition of `m88_isa`.
 #![tactic(auto)]
 
-mod bytes;
-mod candidate;
+// the word of an instruction
 mod codes;
+mod encoder;
+
+// the instruction of a word
+mod candidate;
 mod decoder;
+
+// the word of four bytes
+mod bytes;
+
 #[cfg(test)]
 mod effect_tests;
-mod encoder;
 #[cfg(test)]
 mod tests;
 

@@ -1,6 +1,7 @@
-pub mod Spelling
 pub mod Alone
+pub mod Constants
 pub mod Plans
-pub mod TouchedBytes
 pub mod Sets
+pub mod Spelling
+pub mod TouchedBytes
 pub mod Vectors

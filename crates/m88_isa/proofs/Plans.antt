@@ -9,19 +9,20 @@ use Rattle.m88_isa.proofs.Alone.{by_test, in_left, in_own}
 use Rattle.m88_isa.proofs.TouchedBytes.{one_of_four}
 use Rattle.m88_isa.specs.Compute.{immediate, registers}
 use Rattle.m88_isa.specs.Effect.{AreAligned, MakesAccesses, TouchesAligned, WritesWithin, accesses, branches, checks, computes, controls, effect, flows, indexed, inputs_of, meaning_of, plan_for, traps_if, written}
-use Rattle.m88_isa.specs.Fields.{address, bit_field, find_bit, offset_in, scale_of, width_in, width_of}
-use Rattle.m88_isa.specs.Flow.{bit_is, class_in, word_aligned, words_away, after_bytes}
+use Rattle.m88_isa.specs.Address.{address, after_bytes, scale_of, word_address}
+use Rattle.m88_isa.specs.Fields.{bit_field, find_bit, offset_in, width_in, width_of}
+use Rattle.m88_isa.specs.Flow.{bit_is, class_in, words_away}
 use Rattle.m88_isa.specs.Lanes.{IsEnable, enable_of}
-use Rattle.m88_isa.specs.Memory.{AreWordAccesses, IsWordAccess, Touch, access_of, first_half, load, locked, recorded, second_place, size_of, store, touches_of}
+use Rattle.m88_isa.specs.Memory.{AreWordAccesses, IsWordAccess, Touch, access_of, first_half, load, locked, recorded, size_of, store, touches_of}
 use Rattle.m88_isa.specs.Operands.{access_count_of, accesses_of, bit_of, link_register, no_register, pair_of, register_after, register_if, writes_of, is_flow}
 use Rattle.m88_isa.specs.Vector.{first_user_vector}
-use Rattle.m88_isa.specs.declared.effect.Computed.{Computed}
-use Rattle.m88_isa.specs.declared.effect.Computed.TheVariants.{Gives, Raises}
-use Rattle.m88_isa.specs.declared.effect.Inputs.{Inputs}
+use Rattle.m88_isa.specs.declared.planned.Computed.{Computed}
+use Rattle.m88_isa.specs.declared.planned.Computed.TheVariants.{Gives, Raises}
+use Rattle.m88_isa.specs.declared.planned.Inputs.{Inputs}
 use Rattle.m88_isa.specs.declared.instr.MemOp.{MemOp}
-use Rattle.m88_isa.specs.declared.instr.MemOp.TheVariants.{XmemBu, Xmem, LdHu, LdBu, LdD, Ld, LdH, LdB, StD, St, StH, StB}
+use Rattle.m88_isa.specs.declared.instr.MemOp.TheVariants as memop
 use Rattle.m88_isa.specs.declared.instr.Instr.{Instr}
-use Rattle.m88_isa.specs.declared.instr.Instr.TheVariants.{Imm, Regs, MemImm, MemReg, Lda, BitLit, BitReg, Find, Branch, BranchBit, BranchCond, Jump, TrapBit, TrapCond, BoundImm, BoundReg, Rte, Ldcr, Stcr, Xcr, Sfu}
+use Rattle.m88_isa.specs.declared.instr.Instr.TheVariants as instr
 
 -- the enable of one byte, of a half and of a word is one of the seven
 one_byte : (place : ℕ) → IsEnable (enable_of place 1)
@@ -66,26 +67,26 @@ two_accesses t u first second =
 -- every memory mnemonic makes its count of accesses to words
 are_word_accesses : (op : MemOp) (d : Reg) (value second place : ℕ) →
     AreWordAccesses (accesses_of op) (recorded (touches_of op d value second place))
-are_word_accesses XmemBu d value second place =
+are_word_accesses memop.XmemBu d value second place =
     two_accesses (locked (load 1 false d place)) (locked (store 1 value place)) (is_load 1 false d place (one_byte place)) (is_store 1 value place (one_byte place))
-are_word_accesses Xmem d value second place =
+are_word_accesses memop.Xmem d value second place =
     two_accesses (locked (load 4 false d place)) (locked (store 4 value place)) (is_load 4 false d place (one_word place)) (is_store 4 value place (one_word place))
-are_word_accesses LdHu d value second place = one_access (load 2 false d place) (is_load 2 false d place (one_half place))
-are_word_accesses LdBu d value second place = one_access (load 1 false d place) (is_load 1 false d place (one_byte place))
-are_word_accesses LdD d value second place =
-    two_accesses (first_half (load 4 false d place)) (load 4 false (register_after d) (second_place place))
+are_word_accesses memop.LdHu d value second place = one_access (load 2 false d place) (is_load 2 false d place (one_half place))
+are_word_accesses memop.LdBu d value second place = one_access (load 1 false d place) (is_load 1 false d place (one_byte place))
+are_word_accesses memop.LdD d value second place =
+    two_accesses (first_half (load 4 false d place)) (load 4 false (register_after d) (after_bytes place 4))
     (is_load 4 false d place (one_word place))
-    (is_load 4 false (register_after d) (second_place place) (one_word (second_place place)))
-are_word_accesses Ld d value second place = one_access (load 4 false d place) (is_load 4 false d place (one_word place))
-are_word_accesses LdH d value second place = one_access (load 2 true d place) (is_load 2 true d place (one_half place))
-are_word_accesses LdB d value second place = one_access (load 1 true d place) (is_load 1 true d place (one_byte place))
-are_word_accesses StD d value second place =
-    two_accesses (first_half (store 4 value place)) (store 4 second (second_place place))
+    (is_load 4 false (register_after d) (after_bytes place 4) (one_word (after_bytes place 4)))
+are_word_accesses memop.Ld d value second place = one_access (load 4 false d place) (is_load 4 false d place (one_word place))
+are_word_accesses memop.LdH d value second place = one_access (load 2 true d place) (is_load 2 true d place (one_half place))
+are_word_accesses memop.LdB d value second place = one_access (load 1 true d place) (is_load 1 true d place (one_byte place))
+are_word_accesses memop.StD d value second place =
+    two_accesses (first_half (store 4 value place)) (store 4 second (after_bytes place 4))
     (is_store 4 value place (one_word place))
-    (is_store 4 second (second_place place) (one_word (second_place place)))
-are_word_accesses St d value second place = one_access (store 4 value place) (is_store 4 value place (one_word place))
-are_word_accesses StH d value second place = one_access (store 2 value place) (is_store 2 value place (one_half place))
-are_word_accesses StB d value second place = one_access (store 1 value place) (is_store 1 value place (one_byte place))
+    (is_store 4 second (after_bytes place 4) (one_word (after_bytes place 4)))
+are_word_accesses memop.St d value second place = one_access (store 4 value place) (is_store 4 value place (one_word place))
+are_word_accesses memop.StH d value second place = one_access (store 2 value place) (is_store 2 value place (one_half place))
+are_word_accesses memop.StB d value second place = one_access (store 1 value place) (is_store 1 value place (one_byte place))
 
 -- the accesses of each kind of meaning
 accesses_make : (op : MemOp) (d : Reg) (place : ℕ) (x : Inputs) → MakesAccesses (accesses_of op) (plan_for (accesses op d place x))
@@ -119,27 +120,27 @@ controls_make false = tt
 
 -- a line for each form
 pub makes_accesses : (i : Instr) (x : Inputs) → MakesAccesses (access_count_of i) (plan_for (effect i x))
-makes_accesses (Imm op d s1 imm) x = computes_make d (immediate op x.carry x.s1 imm) x
-makes_accesses (Regs op d s1 s2) x = computes_make d (registers op x.carry x.s1 x.s2) x
-makes_accesses (MemImm op d s1 imm) x = accesses_make op d (address x.s1 imm 1) x
-makes_accesses (MemReg op d s1 s2 scaled usr) x = indexed_make op d scaled usr x
-makes_accesses (Lda size d s1 s2) x = no_accesses
-makes_accesses (BitLit op d s1 width offset) x = no_accesses
-makes_accesses (BitReg op d s1 s2) x = no_accesses
-makes_accesses (Find ones d s2) x = no_accesses
-makes_accesses (Branch link delayed words) x = no_accesses
-makes_accesses (BranchBit set delayed bit s1 words) x = branches_make (bit_is set bit x.s1) delayed words x
-makes_accesses (BranchCond delayed mask s1 words) x = branches_make (class_in mask x.s1) delayed words x
-makes_accesses (Jump link delayed s2) x = no_accesses
-makes_accesses (TrapBit set bit s1 vector) x = traps_make (bit_is set bit x.s1) vector x
-makes_accesses (TrapCond mask s1 vector) x = traps_make (class_in mask x.s1) vector x
-makes_accesses (BoundImm s1 imm) x = checks_make x.s1 imm x
-makes_accesses (BoundReg s1 s2) x = checks_make x.s1 x.s2 x
-makes_accesses Rte x = tt
-makes_accesses (Ldcr d cr float) x = controls_make float
-makes_accesses (Stcr s1 cr float) x = controls_make float
-makes_accesses (Xcr d s1 cr float) x = controls_make float
-makes_accesses (Sfu unit rest) x = tt
+makes_accesses (instr.Imm op d s1 imm) x = computes_make d (immediate op x.carry x.s1 imm) x
+makes_accesses (instr.Regs op d s1 s2) x = computes_make d (registers op x.carry x.s1 x.s2) x
+makes_accesses (instr.MemImm op d s1 imm) x = accesses_make op d (address x.s1 imm 1) x
+makes_accesses (instr.MemReg op d s1 s2 scaled usr) x = indexed_make op d scaled usr x
+makes_accesses (instr.Lda size d s1 s2) x = no_accesses
+makes_accesses (instr.BitLit op d s1 width offset) x = no_accesses
+makes_accesses (instr.BitReg op d s1 s2) x = no_accesses
+makes_accesses (instr.Find ones d s2) x = no_accesses
+makes_accesses (instr.Branch link delayed words) x = no_accesses
+makes_accesses (instr.BranchBit set delayed bit s1 words) x = branches_make (bit_is set bit x.s1) delayed words x
+makes_accesses (instr.BranchCond delayed mask s1 words) x = branches_make (class_in mask x.s1) delayed words x
+makes_accesses (instr.Jump link delayed s2) x = no_accesses
+makes_accesses (instr.TrapBit set bit s1 vector) x = traps_make (bit_is set bit x.s1) vector x
+makes_accesses (instr.TrapCond mask s1 vector) x = traps_make (class_in mask x.s1) vector x
+makes_accesses (instr.BoundImm s1 imm) x = checks_make x.s1 imm x
+makes_accesses (instr.BoundReg s1 s2) x = checks_make x.s1 x.s2 x
+makes_accesses instr.Rte x = tt
+makes_accesses (instr.Ldcr d cr float) x = controls_make float
+makes_accesses (instr.Stcr s1 cr float) x = controls_make float
+makes_accesses (instr.Xcr d s1 cr float) x = controls_make float
+makes_accesses (instr.Sfu unit rest) x = tt
 
 -- the register of each kind of meaning is in the set
 written_within : (d after : Reg) (value : ℕ) → IfSome (written d value) (λ write. bit_at (pair_of d after) (number_of write.0) ≡ 1)
@@ -181,44 +182,44 @@ controls_within set false = tt
 -- a line for each form
 pub writes_within : (i : Instr) (x : Inputs) → WritesWithin (writes_of i) (plan_for (effect i x))
 unfolding writes_of
-writes_within (Imm op d s1 imm) x = computes_within d (immediate op x.carry x.s1 imm) x
-writes_within (Regs op d s1 s2) x = computes_within d (registers op x.carry x.s1 x.s2) x
-writes_within (MemImm op d s1 imm) x = accesses_within (writes_of (MemImm op d s1 imm)) op d (address x.s1 imm 1) x
-writes_within (MemReg op d s1 s2 scaled usr) x = indexed_within (writes_of (MemReg op d s1 s2 scaled usr)) op d scaled usr x
-writes_within (Lda size d s1 s2) x = written_within d no_register (address x.s1 x.s2 (scale_of size))
-writes_within (BitLit op d s1 width offset) x = written_within d no_register (bit_field op x.s1 (width_of width) offset)
-writes_within (BitReg op d s1 s2) x = written_within d no_register (bit_field op x.s1 (width_in x.s2) (offset_in x.s2))
-writes_within (Find ones d s2) x = written_within d no_register (find_bit ones x.s2)
-writes_within (Branch link delayed words) x = flows_within link delayed (words_away x.pc words) x
-writes_within (BranchBit set delayed bit s1 words) x = branches_within (writes_of (BranchBit set delayed bit s1 words)) (bit_is set bit x.s1) delayed words x
-writes_within (BranchCond delayed mask s1 words) x = branches_within (writes_of (BranchCond delayed mask s1 words)) (class_in mask x.s1) delayed words x
-writes_within (Jump link delayed s2) x = flows_within link delayed (word_aligned x.s2) x
-writes_within (TrapBit set bit s1 vector) x = traps_within (writes_of (TrapBit set bit s1 vector)) (bit_is set bit x.s1) vector x
-writes_within (TrapCond mask s1 vector) x = traps_within (writes_of (TrapCond mask s1 vector)) (class_in mask x.s1) vector x
-writes_within (BoundImm s1 imm) x = checks_within (writes_of (BoundImm s1 imm)) x.s1 imm x
-writes_within (BoundReg s1 s2) x = checks_within (writes_of (BoundReg s1 s2)) x.s1 x.s2 x
-writes_within Rte x = tt
-writes_within (Ldcr d cr float) x = controls_within (writes_of (Ldcr d cr float)) float
-writes_within (Stcr s1 cr float) x = controls_within (writes_of (Stcr s1 cr float)) float
-writes_within (Xcr d s1 cr float) x = controls_within (writes_of (Xcr d s1 cr float)) float
-writes_within (Sfu unit rest) x = tt
+writes_within (instr.Imm op d s1 imm) x = computes_within d (immediate op x.carry x.s1 imm) x
+writes_within (instr.Regs op d s1 s2) x = computes_within d (registers op x.carry x.s1 x.s2) x
+writes_within (instr.MemImm op d s1 imm) x = accesses_within (writes_of (instr.MemImm op d s1 imm)) op d (address x.s1 imm 1) x
+writes_within (instr.MemReg op d s1 s2 scaled usr) x = indexed_within (writes_of (instr.MemReg op d s1 s2 scaled usr)) op d scaled usr x
+writes_within (instr.Lda size d s1 s2) x = written_within d no_register (address x.s1 x.s2 (scale_of size))
+writes_within (instr.BitLit op d s1 width offset) x = written_within d no_register (bit_field op x.s1 (width_of width) offset)
+writes_within (instr.BitReg op d s1 s2) x = written_within d no_register (bit_field op x.s1 (width_in x.s2) (offset_in x.s2))
+writes_within (instr.Find ones d s2) x = written_within d no_register (find_bit ones x.s2)
+writes_within (instr.Branch link delayed words) x = flows_within link delayed (words_away x.pc words) x
+writes_within (instr.BranchBit set delayed bit s1 words) x = branches_within (writes_of (instr.BranchBit set delayed bit s1 words)) (bit_is set bit x.s1) delayed words x
+writes_within (instr.BranchCond delayed mask s1 words) x = branches_within (writes_of (instr.BranchCond delayed mask s1 words)) (class_in mask x.s1) delayed words x
+writes_within (instr.Jump link delayed s2) x = flows_within link delayed (word_address x.s2) x
+writes_within (instr.TrapBit set bit s1 vector) x = traps_within (writes_of (instr.TrapBit set bit s1 vector)) (bit_is set bit x.s1) vector x
+writes_within (instr.TrapCond mask s1 vector) x = traps_within (writes_of (instr.TrapCond mask s1 vector)) (class_in mask x.s1) vector x
+writes_within (instr.BoundImm s1 imm) x = checks_within (writes_of (instr.BoundImm s1 imm)) x.s1 imm x
+writes_within (instr.BoundReg s1 s2) x = checks_within (writes_of (instr.BoundReg s1 s2)) x.s1 x.s2 x
+writes_within instr.Rte x = tt
+writes_within (instr.Ldcr d cr float) x = controls_within (writes_of (instr.Ldcr d cr float)) float
+writes_within (instr.Stcr s1 cr float) x = controls_within (writes_of (instr.Stcr s1 cr float)) float
+writes_within (instr.Xcr d s1 cr float) x = controls_within (writes_of (instr.Xcr d s1 cr float)) float
+writes_within (instr.Sfu unit rest) x = tt
 
 -- the accesses of a memory mnemonic at a multiple of its size are aligned
 aligned_touches : (op : MemOp) (d : Reg) (value second place : ℕ) →
     place % size_of op ≡ 0 →
     AreAligned (touches_of op d value second place)
-aligned_touches XmemBu d value second place h = (inl refl, (inl refl, tt))
-aligned_touches Xmem d value second place h = (inr (inr (refl, h)), (inr (inr (refl, h)), tt))
-aligned_touches LdHu d value second place h = (inr (inl (refl, h)), tt)
-aligned_touches LdBu d value second place h = (inl refl, tt)
-aligned_touches LdD d value second place h = (inr (inr (refl, omega (arith, h))), (inr (inr (refl, omega (arith, h))), tt))
-aligned_touches Ld d value second place h = (inr (inr (refl, h)), tt)
-aligned_touches LdH d value second place h = (inr (inl (refl, h)), tt)
-aligned_touches LdB d value second place h = (inl refl, tt)
-aligned_touches StD d value second place h = (inr (inr (refl, omega (arith, h))), (inr (inr (refl, omega (arith, h))), tt))
-aligned_touches St d value second place h = (inr (inr (refl, h)), tt)
-aligned_touches StH d value second place h = (inr (inl (refl, h)), tt)
-aligned_touches StB d value second place h = (inl refl, tt)
+aligned_touches memop.XmemBu d value second place h = (inl refl, (inl refl, tt))
+aligned_touches memop.Xmem d value second place h = (inr (inr (refl, h)), (inr (inr (refl, h)), tt))
+aligned_touches memop.LdHu d value second place h = (inr (inl (refl, h)), tt)
+aligned_touches memop.LdBu d value second place h = (inl refl, tt)
+aligned_touches memop.LdD d value second place h = (inr (inr (refl, omega (arith, h))), (inr (inr (refl, omega (arith, h))), tt))
+aligned_touches memop.Ld d value second place h = (inr (inr (refl, h)), tt)
+aligned_touches memop.LdH d value second place h = (inr (inl (refl, h)), tt)
+aligned_touches memop.LdB d value second place h = (inl refl, tt)
+aligned_touches memop.StD d value second place h = (inr (inr (refl, omega (arith, h))), (inr (inr (refl, omega (arith, h))), tt))
+aligned_touches memop.St d value second place h = (inr (inr (refl, h)), tt)
+aligned_touches memop.StH d value second place h = (inr (inl (refl, h)), tt)
+aligned_touches memop.StB d value second place h = (inl refl, tt)
 
 computes_aligned : (d : Reg) (computed : Computed) (x : Inputs) → TouchesAligned (computes d computed x)
 computes_aligned d (Gives value carry) x = tt
@@ -250,27 +251,27 @@ controls_aligned false = tt
 
 -- a line for each form
 effect_aligned : (i : Instr) (x : Inputs) → TouchesAligned (effect i x)
-effect_aligned (Imm op d s1 imm) x = computes_aligned d (immediate op x.carry x.s1 imm) x
-effect_aligned (Regs op d s1 s2) x = computes_aligned d (registers op x.carry x.s1 x.s2) x
-effect_aligned (MemImm op d s1 imm) x = accesses_aligned op d (address x.s1 imm 1) x
-effect_aligned (MemReg op d s1 s2 scaled usr) x = indexed_aligned op d scaled usr x
-effect_aligned (Lda size d s1 s2) x = tt
-effect_aligned (BitLit op d s1 width offset) x = tt
-effect_aligned (BitReg op d s1 s2) x = tt
-effect_aligned (Find ones d s2) x = tt
-effect_aligned (Branch link delayed words) x = tt
-effect_aligned (BranchBit set delayed bit s1 words) x = branches_aligned (bit_is set bit x.s1) delayed words x
-effect_aligned (BranchCond delayed mask s1 words) x = branches_aligned (class_in mask x.s1) delayed words x
-effect_aligned (Jump link delayed s2) x = tt
-effect_aligned (TrapBit set bit s1 vector) x = traps_aligned (bit_is set bit x.s1) vector x
-effect_aligned (TrapCond mask s1 vector) x = traps_aligned (class_in mask x.s1) vector x
-effect_aligned (BoundImm s1 imm) x = checks_aligned x.s1 imm x
-effect_aligned (BoundReg s1 s2) x = checks_aligned x.s1 x.s2 x
-effect_aligned Rte x = tt
-effect_aligned (Ldcr d cr float) x = controls_aligned float
-effect_aligned (Stcr s1 cr float) x = controls_aligned float
-effect_aligned (Xcr d s1 cr float) x = controls_aligned float
-effect_aligned (Sfu unit rest) x = tt
+effect_aligned (instr.Imm op d s1 imm) x = computes_aligned d (immediate op x.carry x.s1 imm) x
+effect_aligned (instr.Regs op d s1 s2) x = computes_aligned d (registers op x.carry x.s1 x.s2) x
+effect_aligned (instr.MemImm op d s1 imm) x = accesses_aligned op d (address x.s1 imm 1) x
+effect_aligned (instr.MemReg op d s1 s2 scaled usr) x = indexed_aligned op d scaled usr x
+effect_aligned (instr.Lda size d s1 s2) x = tt
+effect_aligned (instr.BitLit op d s1 width offset) x = tt
+effect_aligned (instr.BitReg op d s1 s2) x = tt
+effect_aligned (instr.Find ones d s2) x = tt
+effect_aligned (instr.Branch link delayed words) x = tt
+effect_aligned (instr.BranchBit set delayed bit s1 words) x = branches_aligned (bit_is set bit x.s1) delayed words x
+effect_aligned (instr.BranchCond delayed mask s1 words) x = branches_aligned (class_in mask x.s1) delayed words x
+effect_aligned (instr.Jump link delayed s2) x = tt
+effect_aligned (instr.TrapBit set bit s1 vector) x = traps_aligned (bit_is set bit x.s1) vector x
+effect_aligned (instr.TrapCond mask s1 vector) x = traps_aligned (class_in mask x.s1) vector x
+effect_aligned (instr.BoundImm s1 imm) x = checks_aligned x.s1 imm x
+effect_aligned (instr.BoundReg s1 s2) x = checks_aligned x.s1 x.s2 x
+effect_aligned instr.Rte x = tt
+effect_aligned (instr.Ldcr d cr float) x = controls_aligned float
+effect_aligned (instr.Stcr s1 cr float) x = controls_aligned float
+effect_aligned (instr.Xcr d s1 cr float) x = controls_aligned float
+effect_aligned (instr.Sfu unit rest) x = tt
 
 pub touches_aligned : (i : Instr) (regs : List ℕ) (carry : Bool) (pc next : ℕ) → TouchesAligned (meaning_of i regs carry pc next)
 touches_aligned i regs carry pc next = by_test (is_flow i && not (next == after_bytes pc 4))

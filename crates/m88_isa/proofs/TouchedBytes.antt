@@ -3,7 +3,8 @@ use Rattle.std.specs.Prelude.{ℕ, zero, suc, Bool, ◌≡◌, ◌≢◌, ◌⊎
 use Rattle.std.proofs.Common.{arith, refl, sym, ap, ap₂, ◌∙◌, subst, inl, inr}
 use Rattle.std.proofs.lemmas.Bool.{le-leb, lt-ltb, leb-true, ltb-true}
 use Rattle.m88_isa.proofs.Alone.{by_test}
-use Rattle.m88_isa.specs.Lanes.{AreBytes, IsAligned, LoadsBytes, StoresBytes, byte_of, datum_of, enable_of, merged, number_at, stored_at, widened, word_address}
+use Rattle.m88_isa.specs.Address.{word_address}
+use Rattle.m88_isa.specs.Lanes.{AreBytes, IsAligned, LoadsBytes, StoresBytes, byte_of, datum_of, enable_of, merged, number_at, stored_at, widened}
 
 -- an offset in a word is one of four
 pub one_of_four : (n : ℕ) → n < 4 → (n ≡ 0) ⊎ (n ≡ 1) ⊎ (n ≡ 2) ⊎ (n ≡ 3)

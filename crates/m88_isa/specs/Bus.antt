@@ -1,10 +1,11 @@
 -- Data memory as the data unit sees it: words, and the accesses that load and store their bytes ("Data Unit").
 use Rattle.std.specs.Prelude.{ℕ, zero, suc, Bool, false, not, List, [], ◌∷◌, ◌++◌, ◌*◌, ◌^◌, ◌==◌, ◌&&◌, ◌||◌, if◌then◌else◌}
 use Rattle.m88_base.specs.Reg.{number_of}
-use Rattle.m88_isa.specs.Lanes.{datum_of, merged, number_at, word_address}
+use Rattle.m88_isa.specs.Address.{word_address}
+use Rattle.m88_isa.specs.Lanes.{datum_of, merged, number_at}
 use Rattle.m88_isa.specs.Machine.{with_register}
-use Rattle.m88_isa.specs.declared.effect.Access.{Access}
-use Rattle.m88_isa.specs.declared.effect.Accesses.{Accesses}
+use Rattle.m88_isa.specs.declared.planned.Access.{Access}
+use Rattle.m88_isa.specs.declared.planned.Accesses.{Accesses}
 
 -- memory by words: at each address the big-endian word that the address lies in
 unfoldable pub in_words : (ℕ → ℕ) → ℕ → ℕ

@@ -1,22 +1,18 @@
 -- What the logic and arithmetic instructions compute of two words s and t ("Instruction Set": logical and integer
 -- arithmetic instructions). A word is a number below 2^32, and its signed reading is its two's complement.
 use Rattle.std.specs.Prelude.{ℕ, ℤ, pos, negsuc, Bool, true, false, not, ◌+◌, ◌-◌, ◌*◌, ◌/◌, ◌%◌, ◌^◌, ◌+ℤ◌, ◌==◌, ◌&&◌, ◌||◌, nat_lt, nat_le, int_lt, int_le, bit_and, bit_or, bit_xor, if◌then◌else◌}
-use Rattle.std.specs.Int.{cast_signed, w32}
+use Rattle.std.specs.Int.{bit_not, cast_signed, w32}
 use Rattle.m88_isa.specs.Vector.{bad_division, overflow}
-use Rattle.m88_isa.specs.declared.effect.Computed.{Computed}
-use Rattle.m88_isa.specs.declared.effect.Computed.TheVariants.{Gives, Raises}
+use Rattle.m88_isa.specs.declared.planned.Computed.{Computed}
+use Rattle.m88_isa.specs.declared.planned.Computed.TheVariants.{Gives, Raises}
 use Rattle.m88_isa.specs.declared.instr.ImmOp.{ImmOp}
 use Rattle.m88_isa.specs.declared.instr.RegOp.{RegOp}
 use Rattle.m88_isa.specs.declared.instr.ImmOp.TheVariants as immop
 use Rattle.m88_isa.specs.declared.instr.RegOp.TheVariants as regop
 
--- the number that a flag adds: its weight where it is set
+-- the number that a flag or a mark of the mnemonic adds: its weight where it is set
 abbrev pub weight_if : Bool → ℕ → ℕ
 weight_if there weight = if there then weight else 0
-
--- every bit of a word turned over
-abbrev pub complement : ℕ → ℕ
-complement n = 2 ^ 32 - 1 - n
 
 -- a word read as a signed number
 abbrev pub signed : ℕ → ℤ
@@ -26,10 +22,11 @@ signed n = cast_signed w32 n
 abbrev pub fits_signed : ℤ → Bool
 fits_signed z = int_le (negsuc (2 ^ 31 - 1)) z && int_lt z (pos (2 ^ 31))
 
--- the exact unsigned and signed sums of two words and a carry in
+-- the exact sum of two words and a carry in
 abbrev pub exact_sum : Bool → ℕ → ℕ → ℕ
 exact_sum carry_in s t = s + t + weight_if carry_in 1
 
+-- the exact sum of two words, both read as signed, and a carry in
 abbrev pub exact_signed_sum : Bool → ℕ → ℕ → ℤ
 exact_signed_sum carry_in s t = signed s +ℤ signed t +ℤ pos (weight_if carry_in 1)
 
@@ -74,8 +71,8 @@ comparison s t =
 -- the immediate mnemonics, of the carry, the word s of S1 and the immediate t: `and` keeps the half of s that it
 -- doesn't act on and `mask` clears it, `or` and `xor` keep it
 abbrev pub immediate : ImmOp → Bool → ℕ → ℕ → Computed
-immediate immop.And carry s t = Gives (bit_and s (0xFFFF0000 + t)) carry
-immediate immop.AndU carry s t = Gives (bit_and s (t * 2 ^ 16 + 0xFFFF)) carry
+immediate immop.And carry s t = Gives (bit_and s (2 ^ 32 - 2 ^ 16 + t)) carry
+immediate immop.AndU carry s t = Gives (bit_and s (t * 2 ^ 16 + (2 ^ 16 - 1))) carry
 immediate immop.Mask carry s t = Gives (bit_and s t) carry
 immediate immop.MaskU carry s t = Gives (bit_and s (t * 2 ^ 16)) carry
 immediate immop.Xor carry s t = Gives (bit_xor s t) carry
@@ -83,40 +80,40 @@ immediate immop.XorU carry s t = Gives (bit_xor s (t * 2 ^ 16)) carry
 immediate immop.Or carry s t = Gives (bit_or s t) carry
 immediate immop.OrU carry s t = Gives (bit_or s (t * 2 ^ 16)) carry
 immediate immop.Addu carry s t = unsigned_sum false false carry s t
-immediate immop.Subu carry s t = unsigned_sum false true carry s (complement t)
+immediate immop.Subu carry s t = unsigned_sum false true carry s (bit_not w32 t)
 immediate immop.Divu carry s t = unsigned_quotient carry s t
 immediate immop.Mul carry s t = Gives (product s t) carry
 immediate immop.Add carry s t = signed_sum false false carry s t
-immediate immop.Sub carry s t = signed_sum false true carry s (complement t)
+immediate immop.Sub carry s t = signed_sum false true carry s (bit_not w32 t)
 immediate immop.Div carry s t = signed_quotient carry s t
 immediate immop.Cmp carry s t = Gives (comparison s t) carry
 
--- the mnemonics on three registers, of the carry and the words of S1 and S2: a subtraction adds the complement and
+-- the mnemonics on three registers, of the carry and the words of S1 and S2: a subtraction adds the bits of t turned over and
 -- 1, or the carry where it has a carry in
 abbrev pub registers : RegOp → Bool → ℕ → ℕ → Computed
 registers regop.And carry s t = Gives (bit_and s t) carry
-registers regop.AndC carry s t = Gives (bit_and s (complement t)) carry
+registers regop.AndC carry s t = Gives (bit_and s (bit_not w32 t)) carry
 registers regop.Xor carry s t = Gives (bit_xor s t) carry
-registers regop.XorC carry s t = Gives (bit_xor s (complement t)) carry
+registers regop.XorC carry s t = Gives (bit_xor s (bit_not w32 t)) carry
 registers regop.Or carry s t = Gives (bit_or s t) carry
-registers regop.OrC carry s t = Gives (bit_or s (complement t)) carry
+registers regop.OrC carry s t = Gives (bit_or s (bit_not w32 t)) carry
 registers regop.Addu carry s t = unsigned_sum false false carry s t
-registers regop.Subu carry s t = unsigned_sum false true carry s (complement t)
+registers regop.Subu carry s t = unsigned_sum false true carry s (bit_not w32 t)
 registers regop.Divu carry s t = unsigned_quotient carry s t
 registers regop.Mul carry s t = Gives (product s t) carry
 registers regop.Add carry s t = signed_sum false false carry s t
-registers regop.Sub carry s t = signed_sum false true carry s (complement t)
+registers regop.Sub carry s t = signed_sum false true carry s (bit_not w32 t)
 registers regop.Div carry s t = signed_quotient carry s t
 registers regop.Cmp carry s t = Gives (comparison s t) carry
 registers regop.AdduCo carry s t = unsigned_sum true false carry s t
 registers regop.AdduCi carry s t = unsigned_sum false carry carry s t
 registers regop.AdduCio carry s t = unsigned_sum true carry carry s t
-registers regop.SubuCo carry s t = unsigned_sum true true carry s (complement t)
-registers regop.SubuCi carry s t = unsigned_sum false carry carry s (complement t)
-registers regop.SubuCio carry s t = unsigned_sum true carry carry s (complement t)
+registers regop.SubuCo carry s t = unsigned_sum true true carry s (bit_not w32 t)
+registers regop.SubuCi carry s t = unsigned_sum false carry carry s (bit_not w32 t)
+registers regop.SubuCio carry s t = unsigned_sum true carry carry s (bit_not w32 t)
 registers regop.AddCo carry s t = signed_sum true false carry s t
 registers regop.AddCi carry s t = signed_sum false carry carry s t
 registers regop.AddCio carry s t = signed_sum true carry carry s t
-registers regop.SubCo carry s t = signed_sum true true carry s (complement t)
-registers regop.SubCi carry s t = signed_sum false carry carry s (complement t)
-registers regop.SubCio carry s t = signed_sum true carry carry s (complement t)
+registers regop.SubCo carry s t = signed_sum true true carry s (bit_not w32 t)
+registers regop.SubCi carry s t = signed_sum false carry carry s (bit_not w32 t)
+registers regop.SubCio carry s t = signed_sum true carry carry s (bit_not w32 t)

@@ -1,48 +1,28 @@
--- What every instruction does, a line for each form ("Instruction Set"; "Exception Processing" for the vectors). That a
--- change of flow in a taken delay slot is unimplemented, that the float forms of the control instructions raise the first
--- unit's vector, and that an untaken trap has no effect even where its vector is the supervisor's, is this project's profile.
+-- What every instruction does, a line for each form ("Instruction Set"; "Exception Processing" for the vectors). That
+-- a change of flow in a taken delay slot is unimplemented, that the float forms of the control instructions raise the
+-- first unit's vector, and that an untaken trap has no effect even where its vector is the supervisor's, is this
+-- project's profile.
 use Rattle.std.specs.Prelude.{ℕ, ℤ, Bool, false, not, List, [], ◌∷◌, Option, Some, None, IfSome, ◌≡◌, ◌<◌, ◌≤◌, ◌%◌, ◌==◌, ◌&&◌, nat_lt, slice_index, if◌then◌else◌}
 use Rattle.std.specs.Int.{bit_at}
 use Rattle.m88_base.specs.declared.reg.Reg.{Reg}
 use Rattle.m88_base.specs.Reg.{number_of}
+use Rattle.m88_isa.specs.Address.{address, after_bytes, scale_of, word_address}
 use Rattle.m88_isa.specs.Compute.{immediate, registers}
-use Rattle.m88_isa.specs.Fields.{address, bit_field, find_bit, offset_in, scale_of, width_in, width_of}
-use Rattle.m88_isa.specs.Flow.{after_bytes, bit_is, class_in, word_aligned, words_away}
+use Rattle.m88_isa.specs.Fields.{bit_field, find_bit, offset_in, width_in, width_of}
+use Rattle.m88_isa.specs.Flow.{bit_is, class_in, words_away}
 use Rattle.m88_isa.specs.Lanes.{IsAligned}
 use Rattle.m88_isa.specs.Memory.{AreWordAccesses, Touch, recorded, size_of, touches_of}
 use Rattle.m88_isa.specs.Operands.{after_d_of, d_of, is_flow, link_register, s1_of, s2_of, uses_of}
 use Rattle.m88_isa.specs.Vector.{IsRaised, first_user_vector, misaligned, out_of_bounds, privilege, unimplemented, unit_vector}
-use Rattle.m88_isa.specs.declared.effect.Computed.{Computed}
-use Rattle.m88_isa.specs.declared.effect.Computed.TheVariants.{Gives, Raises}
-use Rattle.m88_isa.specs.declared.effect.Effect.{Effect}
-use Rattle.m88_isa.specs.declared.effect.Inputs.{Inputs}
-use Rattle.m88_isa.specs.declared.effect.Plan.{Plan}
-use Rattle.m88_isa.specs.declared.effect.Plan.TheVariants.{Go, Raise, Trap}
+use Rattle.m88_isa.specs.declared.planned.Computed.{Computed}
+use Rattle.m88_isa.specs.declared.planned.Computed.TheVariants.{Gives, Raises}
+use Rattle.m88_isa.specs.declared.planned.Effect.{Effect}
+use Rattle.m88_isa.specs.declared.planned.Inputs.{Inputs}
+use Rattle.m88_isa.specs.declared.planned.Plan.{Plan}
+use Rattle.m88_isa.specs.declared.planned.Plan.TheVariants.{Go, Raise, Trap}
 use Rattle.m88_isa.specs.declared.instr.MemOp.{MemOp}
 use Rattle.m88_isa.specs.declared.instr.Instr.{Instr}
-use Rattle.m88_isa.specs.declared.instr.Instr.TheVariants.{
-  Imm,
-  Regs,
-  MemImm,
-  MemReg,
-  Lda,
-  BitLit,
-  BitReg,
-  Find,
-  Branch,
-  BranchBit,
-  BranchCond,
-  Jump,
-  TrapBit,
-  TrapCond,
-  BoundImm,
-  BoundReg,
-  Rte,
-  Ldcr,
-  Stcr,
-  Xcr,
-  Sfu,
-}
+use Rattle.m88_isa.specs.declared.instr.Instr.TheVariants as instr
 
 -- the changes of an instruction: at most one register that is written at once, the carry, at most two accesses in
 -- order, the addresses of the two instructions that follow, and whether a fetched one is passed over
@@ -125,33 +105,33 @@ controls float = if float then raises (unit_vector 1) else raises privilege
 
 -- what an instruction does of its inputs, a change of flow in a taken delay slot aside
 abbrev pub effect : Instr → Inputs → Meaning
-effect (Imm op d s1 imm) x = computes d (immediate op x.carry x.s1 imm) x
-effect (Regs op d s1 s2) x = computes d (registers op x.carry x.s1 x.s2) x
-effect (MemImm op d s1 imm) x = accesses op d (address x.s1 imm 1) x
-effect (MemReg op d s1 s2 scaled usr) x = indexed op d scaled usr x
-effect (Lda size d s1 s2) x = gives d (address x.s1 x.s2 (scale_of size)) x
-effect (BitLit op d s1 width offset) x = gives d (bit_field op x.s1 (width_of width) offset) x
-effect (BitReg op d s1 s2) x = gives d (bit_field op x.s1 (width_in x.s2) (offset_in x.s2)) x
-effect (Find ones d s2) x = gives d (find_bit ones x.s2) x
-effect (Branch link delayed words) x = flows link delayed (words_away x.pc words) x
-effect (BranchBit set delayed bit s1 words) x = branches (bit_is set bit x.s1) delayed words x
-effect (BranchCond delayed mask s1 words) x = branches (class_in mask x.s1) delayed words x
-effect (Jump link delayed s2) x = flows link delayed (word_aligned x.s2) x
-effect (TrapBit set bit s1 vector) x = traps_if (bit_is set bit x.s1) vector x
-effect (TrapCond mask s1 vector) x = traps_if (class_in mask x.s1) vector x
-effect (BoundImm s1 imm) x = checks x.s1 imm x
-effect (BoundReg s1 s2) x = checks x.s1 x.s2 x
-effect Rte x = raises privilege
-effect (Ldcr d cr float) x = controls float
-effect (Stcr s1 cr float) x = controls float
-effect (Xcr d s1 cr float) x = controls float
-effect (Sfu unit rest) x = raises (unit_vector unit)
+effect (instr.Imm op d s1 imm) x = computes d (immediate op x.carry x.s1 imm) x
+effect (instr.Regs op d s1 s2) x = computes d (registers op x.carry x.s1 x.s2) x
+effect (instr.MemImm op d s1 imm) x = accesses op d (address x.s1 imm 1) x
+effect (instr.MemReg op d s1 s2 scaled usr) x = indexed op d scaled usr x
+effect (instr.Lda size d s1 s2) x = gives d (address x.s1 x.s2 (scale_of size)) x
+effect (instr.BitLit op d s1 width offset) x = gives d (bit_field op x.s1 (width_of width) offset) x
+effect (instr.BitReg op d s1 s2) x = gives d (bit_field op x.s1 (width_in x.s2) (offset_in x.s2)) x
+effect (instr.Find ones d s2) x = gives d (find_bit ones x.s2) x
+effect (instr.Branch link delayed words) x = flows link delayed (words_away x.pc words) x
+effect (instr.BranchBit set delayed bit s1 words) x = branches (bit_is set bit x.s1) delayed words x
+effect (instr.BranchCond delayed mask s1 words) x = branches (class_in mask x.s1) delayed words x
+effect (instr.Jump link delayed s2) x = flows link delayed (word_address x.s2) x
+effect (instr.TrapBit set bit s1 vector) x = traps_if (bit_is set bit x.s1) vector x
+effect (instr.TrapCond mask s1 vector) x = traps_if (class_in mask x.s1) vector x
+effect (instr.BoundImm s1 imm) x = checks x.s1 imm x
+effect (instr.BoundReg s1 s2) x = checks x.s1 x.s2 x
+effect instr.Rte x = raises privilege
+effect (instr.Ldcr d cr float) x = controls float
+effect (instr.Stcr s1 cr float) x = controls float
+effect (instr.Xcr d s1 cr float) x = controls float
+effect (instr.Sfu unit rest) x = raises (unit_vector unit)
 
 -- the value of a register; r0 reads as 0
 abbrev pub register : List ℕ → Reg → ℕ
 register regs r = if number_of r == 0 then 0 else slice_index regs (number_of r)
 
--- what an instruction reads
+-- what an instruction has to go by: the registers that it reads, the carry, its address and the following one
 abbrev pub inputs_of : Instr → List ℕ → Bool → ℕ → ℕ → Inputs
 inputs_of i regs carry pc next = record {
   s1 = register regs (s1_of i);
@@ -167,7 +147,8 @@ inputs_of i regs carry pc next = record {
 -- unimplemented before it raises anything else
 abbrev pub meaning_of : Instr → List ℕ → Bool → ℕ → ℕ → Meaning
 meaning_of i regs carry pc next =
-    if is_flow i && not (next == after_bytes pc 4) then raises unimplemented else effect i (inputs_of i regs carry pc next)
+    if is_flow i && not (next == after_bytes pc 4) then raises unimplemented
+    else effect i (inputs_of i regs carry pc next)
 
 -- the meaning with its accesses as the data unit records them
 abbrev pub recorded_change : Change → Effect
@@ -189,15 +170,17 @@ plan_for (goes c) = Go (recorded_change c)
 abbrev pub plan_of : Instr → List ℕ → Bool → ℕ → ℕ → Plan
 plan_of i regs carry pc next = plan_for (meaning_of i regs carry pc next)
 
--- a fact about the changes of a plan that goes on, about the vector of a taken trap, and about one that is raised
+-- a fact about the changes of a plan that goes on
 abbrev pub IfGo : Plan → (Effect → Type 0) → Type 0
 IfGo (Go changes) Fact = Fact changes
 IfGo _ Fact = Unit {0}
 
+-- a fact about the vector of a plan that is a taken trap
 abbrev pub IfTrap : Plan → (ℕ → Type 0) → Type 0
 IfTrap (Trap vector) Fact = Fact vector
 IfTrap _ Fact = Unit {0}
 
+-- a fact about the vector of a plan that raises one
 abbrev pub IfRaise : Plan → (ℕ → Type 0) → Type 0
 IfRaise (Raise vector) Fact = Fact vector
 IfRaise _ Fact = Unit {0}
@@ -218,11 +201,12 @@ TrapsForUser plan = IfTrap plan (λ vector. (first_user_vector ≤ vector) × (v
 abbrev pub RaisesListed : Plan → Type 0
 RaisesListed plan = IfRaise plan (λ vector. (vector < first_user_vector) × IsRaised vector)
 
--- every access of what an instruction does is aligned to its size
+-- every access of a list is aligned to its size
 abbrev pub AreAligned : List Touch → Type 0
 AreAligned [] = Unit {0}
 AreAligned (t ∷ touches) = IsAligned t.place t.size × AreAligned touches
 
+-- every access of what an instruction does is aligned to its size
 abbrev pub TouchesAligned : Meaning → Type 0
 TouchesAligned (raises vector) = Unit {0}
 TouchesAligned (traps vector) = Unit {0}

@@ -1,22 +1,20 @@
--- What the bit-field, find and load-address instructions compute ("Instruction Set": bit-field instructions, load
--- address). A field has a width of 1 to 32 bits and an offset of 0 to 31, the number of its lowest bit; bits above
--- bit 31 don't exist.
+-- What the bit-field and find instructions compute ("Instruction Set": bit-field instructions). A field has a width of
+-- 1 to 32 bits and an offset of 0 to 31, the number of its lowest bit; bits above bit 31 don't exist.
 use Rattle.std.specs.Prelude.{ℕ, Bool, ◌+◌, ◌-◌, ◌*◌, ◌/◌, ◌%◌, ◌^◌, ◌==◌, nat_le, bit_and, bit_or, if◌then◌else◌}
-use Rattle.std.specs.Int.{cast_unsigned, int_shr, leading_zeros, rotate_right, w32}
-use Rattle.m88_isa.specs.Compute.{complement, signed}
+use Rattle.std.specs.Int.{bit_not, cast_unsigned, int_shr, leading_zeros, rotate_right, w32}
+use Rattle.m88_isa.specs.Compute.{signed}
 use Rattle.m88_isa.specs.declared.instr.BitOp.{BitOp}
 use Rattle.m88_isa.specs.declared.instr.BitOp.TheVariants.{Clr, Set, Ext, Extu, Mak, Rot}
-use Rattle.m88_isa.specs.declared.instr.LdaSize.{LdaSize}
-use Rattle.m88_isa.specs.declared.instr.LdaSize.TheVariants.{Double, Word, Half}
 
 -- the width that a five-bit field gives: 0 means 32
 abbrev pub width_of : ℕ → ℕ
 width_of n = if n == 0 then 32 else n
 
--- the width and the offset that a register gives: bits 9 to 5 and bits 4 to 0
+-- the width that a register gives: bits 9 to 5
 abbrev pub width_in : ℕ → ℕ
 width_in t = width_of (t / 2 ^ 5 % 2 ^ 5)
 
+-- the offset that a register gives: bits 4 to 0
 abbrev pub offset_in : ℕ → ℕ
 offset_in t = t % 2 ^ 5
 
@@ -44,7 +42,7 @@ make s width offset = s % 2 ^ width * 2 ^ offset % 2 ^ 32
 
 -- the bit-field mnemonics, of the word s, a width and an offset
 abbrev pub bit_field : BitOp → ℕ → ℕ → ℕ → ℕ
-bit_field Clr s width offset = bit_and s (complement (ones width offset))
+bit_field Clr s width offset = bit_and s (bit_not w32 (ones width offset))
 bit_field Set s width offset = bit_or s (ones width offset)
 bit_field Ext s width offset = extract_signed s width offset
 bit_field Extu s width offset = extract s width offset
@@ -57,14 +55,4 @@ highest_one n = if n == 0 then 32 else 31 - leading_zeros w32 n
 
 -- the number of the highest bit that is set, or that is clear, or 32
 abbrev pub find_bit : Bool → ℕ → ℕ
-find_bit ones n = if ones then highest_one n else highest_one (complement n)
-
--- the bytes of the item by which a load of an address scales its index
-abbrev pub scale_of : LdaSize → ℕ
-scale_of Double = 8
-scale_of Word = 4
-scale_of Half = 2
-
--- an address: the base and the scaled index, modulo 2^32
-abbrev pub address : ℕ → ℕ → ℕ → ℕ
-address base index scale = (base + index * scale) % 2 ^ 32
+find_bit ones n = if ones then highest_one n else highest_one (bit_not w32 n)

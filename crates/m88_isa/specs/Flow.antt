@@ -1,20 +1,11 @@
--- Where the program goes on: branches, jumps, traps and their conditions ("Instruction Set": flow-control
--- instructions).
-use Rattle.std.specs.Prelude.{ℕ, ℤ, Bool, ◌+◌, ◌*◌, ◌/◌, ◌%◌, ◌^◌, ◌==◌, nat_lt, if◌then◌else◌}
+-- The target of a branch, and the conditions of branches and traps ("Instruction Set": flow-control instructions).
+use Rattle.std.specs.Prelude.{ℕ, ℤ, Bool, ◌+◌, ◌*◌, ◌%◌, ◌^◌, ◌==◌, nat_lt, if◌then◌else◌}
 use Rattle.std.specs.Int.{bit_at, cast_unsigned, w32}
 use Rattle.m88_isa.specs.Compute.{weight_if}
-
--- the address some bytes on, modulo 2^32
-abbrev pub after_bytes : ℕ → ℕ → ℕ
-after_bytes address bytes = (address + bytes) % 2 ^ 32
 
 -- the address a signed count of words away
 abbrev pub words_away : ℕ → ℤ → ℕ
 words_away pc words = (pc + 4 * cast_unsigned w32 words) % 2 ^ 32
-
--- an address with its two low bits cleared
-abbrev pub word_aligned : ℕ → ℕ
-word_aligned address = address / 4 * 4
 
 -- the condition of `bb1`, `tb1` (set) and of `bb0`, `tb0`
 abbrev pub bit_is : Bool → ℕ → ℕ → Bool

@@ -4,7 +4,7 @@ use Rattle.std.specs.Int.{bit_at}
 use Rattle.m88_isa.specs.Bus.{waits_for}
 use Rattle.m88_isa.specs.Machine.{Program, Turn, changes, four_bytes, outputs, stops}
 use Rattle.m88_isa.specs.Operands.{uses_of, waits_for_empty, writes_of}
-use Rattle.m88_isa.specs.declared.effect.Access.{Access}
+use Rattle.m88_isa.specs.declared.planned.Access.{Access}
 use Rattle.m88_isa.specs.declared.instr.Instr.{Instr}
 
 -- it uses or writes a register that waits for a load, the data unit has no room for its accesses, or it waits until the

@@ -1,12 +1,12 @@
 -- The accesses of a history as the data unit makes them, one transaction after the other, and the state of the sequential
 -- machine over memory by words ("Data Unit").
 use Rattle.std.specs.Prelude.{ℕ, zero, suc, Bool, List, [], ◌∷◌, ◌++◌, map, take, drop, length}
+use Rattle.m88_isa.specs.Address.{after_bytes}
 use Rattle.m88_isa.specs.Bus.{Cells, after_accesses, bus_after_all, in_words}
 use Rattle.m88_isa.specs.Effect.{Change}
-use Rattle.m88_isa.specs.Flow.{after_bytes}
 use Rattle.m88_isa.specs.Machine.{Program, State, Turn, changes, opening, outputs, state, stops, turn, turn_at, with_written}
 use Rattle.m88_isa.specs.Memory.{access_of}
-use Rattle.m88_isa.specs.declared.effect.Access.{Access}
+use Rattle.m88_isa.specs.declared.planned.Access.{Access}
 
 -- the accesses of a change, and those of a turn, in order
 abbrev pub change_accesses : Change → List Access

@@ -4,29 +4,7 @@ use Rattle.std.specs.Prelude.{ℕ, ℤ, pos, negsuc, ◌≡◌, ◌<◌, ◌≤�
 use Rattle.m88_isa.specs.declared.instr.BitOp.{BitOp}
 use Rattle.m88_isa.specs.declared.instr.BitOp.TheVariants.{Rot}
 use Rattle.m88_isa.specs.declared.instr.Instr.{Instr}
-use Rattle.m88_isa.specs.declared.instr.Instr.TheVariants.{
-  Imm,
-  Regs,
-  MemImm,
-  MemReg,
-  Lda,
-  BitLit,
-  BitReg,
-  Find,
-  Branch,
-  BranchBit,
-  BranchCond,
-  Jump,
-  TrapBit,
-  TrapCond,
-  BoundImm,
-  BoundReg,
-  Rte,
-  Ldcr,
-  Stcr,
-  Xcr,
-  Sfu,
-}
+use Rattle.m88_isa.specs.declared.instr.Instr.TheVariants as instr
 
 -- a literal width has five bits, and that of a rotation is 0
 abbrev pub IsWidth : BitOp → ℕ → Type 0
@@ -40,24 +18,24 @@ FitsWords bits (negsuc n) = n < 2 ^ bits
 
 -- every number of the instruction is in the range of its field
 abbrev pub IsValid : Instr → Type 0
-IsValid (Imm op d s1 imm) = imm < 2 ^ 16
-IsValid (Regs op d s1 s2) = Unit {0}
-IsValid (MemImm op d s1 imm) = imm < 2 ^ 16
-IsValid (MemReg op d s1 s2 scaled usr) = Unit {0}
-IsValid (Lda size d s1 s2) = Unit {0}
-IsValid (BitLit op d s1 width offset) = IsWidth op width × (offset < 32)
-IsValid (BitReg op d s1 s2) = Unit {0}
-IsValid (Find ones d s2) = Unit {0}
-IsValid (Branch link delayed words) = FitsWords 25 words
-IsValid (BranchBit set delayed bit s1 words) = (bit < 32) × FitsWords 15 words
-IsValid (BranchCond delayed mask s1 words) = (mask < 16) × FitsWords 15 words
-IsValid (Jump link delayed s2) = Unit {0}
-IsValid (TrapBit set bit s1 vector) = (bit < 32) × (vector < 512)
-IsValid (TrapCond mask s1 vector) = (mask < 16) × (vector < 512)
-IsValid (BoundImm s1 imm) = imm < 2 ^ 16
-IsValid (BoundReg s1 s2) = Unit {0}
-IsValid Rte = Unit {0}
-IsValid (Ldcr d cr float) = cr < 64
-IsValid (Stcr s1 cr float) = cr < 64
-IsValid (Xcr d s1 cr float) = cr < 64
-IsValid (Sfu unit rest) = (1 ≤ unit) × (unit < 8) × (rest < 2 ^ 26)
+IsValid (instr.Imm op d s1 imm) = imm < 2 ^ 16
+IsValid (instr.Regs op d s1 s2) = Unit {0}
+IsValid (instr.MemImm op d s1 imm) = imm < 2 ^ 16
+IsValid (instr.MemReg op d s1 s2 scaled usr) = Unit {0}
+IsValid (instr.Lda size d s1 s2) = Unit {0}
+IsValid (instr.BitLit op d s1 width offset) = IsWidth op width × (offset < 32)
+IsValid (instr.BitReg op d s1 s2) = Unit {0}
+IsValid (instr.Find ones d s2) = Unit {0}
+IsValid (instr.Branch link delayed words) = FitsWords 25 words
+IsValid (instr.BranchBit set delayed bit s1 words) = (bit < 32) × FitsWords 15 words
+IsValid (instr.BranchCond delayed mask s1 words) = (mask < 16) × FitsWords 15 words
+IsValid (instr.Jump link delayed s2) = Unit {0}
+IsValid (instr.TrapBit set bit s1 vector) = (bit < 32) × (vector < 512)
+IsValid (instr.TrapCond mask s1 vector) = (mask < 16) × (vector < 512)
+IsValid (instr.BoundImm s1 imm) = imm < 2 ^ 16
+IsValid (instr.BoundReg s1 s2) = Unit {0}
+IsValid instr.Rte = Unit {0}
+IsValid (instr.Ldcr d cr float) = cr < 64
+IsValid (instr.Stcr s1 cr float) = cr < 64
+IsValid (instr.Xcr d s1 cr float) = cr < 64
+IsValid (instr.Sfu unit rest) = (1 ≤ unit) × (unit < 8) × (rest < 2 ^ 26)

@@ -2,6 +2,7 @@
 -- transaction). Memory is big-endian: offset 0 is the highest byte of a word, and its enable is bit 3.
 use Rattle.std.specs.Prelude.{ℕ, zero, suc, Bool, ◌≡◌, ◌≢◌, ◌⊎◌, ◌<◌, ◌+◌, ◌-◌, ◌*◌, ◌/◌, ◌%◌, ◌^◌, ◌==◌, ◌&&◌, nat_lt, nat_le, if◌then◌else◌}
 use Rattle.std.specs.Int.{bit_at}
+use Rattle.m88_isa.specs.Address.{word_address}
 use Rattle.m88_isa.specs.Compute.{weight_if}
 
 -- the enables that an access has: the word, its two halves, its four bytes
@@ -72,10 +73,6 @@ stored_at memory place size value a =
 -- 1, 2 or 4 bytes at a place that is aligned to them
 abbrev pub IsAligned : ℕ → ℕ → Type 0
 IsAligned place size = (size ≡ 1) ⊎ (size ≡ 2) × (place % 2 ≡ 0) ⊎ (size ≡ 4) × (place % 4 ≡ 0)
-
--- the address of the word that a place lies in
-abbrev pub word_address : ℕ → ℕ
-word_address place = place / 4 * 4
 
 -- a load by an enable gives what a load of the bytes at any place with that enable gives
 abbrev pub LoadsBytes : ℕ → Bool → ℕ → ℕ → Type 0

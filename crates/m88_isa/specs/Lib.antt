@@ -1,16 +1,22 @@
-pub mod Compute
-pub mod Effect
-pub mod Fields
-pub mod Flow
+-- instructions and their words
 pub mod Instr
+pub mod Mnemonic
+pub mod Word
+-- how the instruction unit treats them
+pub mod Operands
+-- what they do
+pub mod Vector
+pub mod Compute
+pub mod Fields
+pub mod Address
+pub mod Flow
 pub mod Lanes
+pub mod Memory
+pub mod Triples
+pub mod Effect
+-- a program of them
+pub mod Monitor
 pub mod Machine
 pub mod Bus
 pub mod History
 pub mod Held
-pub mod Memory
-pub mod Operands
-pub mod Triples
-pub mod Vector
-pub mod Word
-pub mod Mnemonic

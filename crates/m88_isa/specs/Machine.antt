@@ -3,10 +3,11 @@
 use Rattle.std.specs.Prelude.{ℕ, zero, suc, Bool, false, List, [], ◌∷◌, ◌++◌, Option, Some, None, ◌+◌, ◌%◌, ◌^◌, ◌==◌, ◌&&◌, unwrap_or, replicate, slice_index, slice_set, if◌then◌else◌}
 use Rattle.m88_base.specs.declared.reg.Reg.{Reg}
 use Rattle.m88_base.specs.Reg.{number_of}
+use Rattle.m88_isa.specs.Address.{after_bytes, word_address}
 use Rattle.m88_isa.specs.Effect.{Change, Meaning, goes, meaning_of, raises, traps}
-use Rattle.m88_isa.specs.Flow.{after_bytes, word_aligned}
 use Rattle.m88_isa.specs.Lanes.{number_at, stored_at, widened}
 use Rattle.m88_isa.specs.Memory.{Touch}
+use Rattle.m88_isa.specs.Monitor.{exit_service, monitor_trap, output_register, put_service, service_register}
 use Rattle.m88_isa.specs.Vector.{instruction_access, unimplemented}
 use Rattle.m88_isa.specs.declared.instr.Instr.{Instr}
 
@@ -32,8 +33,8 @@ unfoldable pub opening : Program → State
 opening p = record {
   regs = replicate 32 0;
   carry = false;
-  pc = word_aligned p.start;
-  next = after_bytes (word_aligned p.start) 4;
+  pc = word_address p.start;
+  next = after_bytes (word_address p.start) 4;
   memory = λ a. unwrap_or (p.byte a) 0;
   out = [];
 }
@@ -86,15 +87,13 @@ pub data Turn : Type 0 where
   outputs : ℕ → Turn
   stops : Stop → Turn
 
--- the monitor's trap. With 0x20 in r9 it appends the low byte of r2 to the output, with 0x63 it ends the program.
-abbrev pub monitor_trap : ℕ
-monitor_trap = 496
-
--- what a taken trap does: the monitor serves those two, any other ends the program
+-- what a taken trap does: the monitor serves its two services, any other trap ends the program
 abbrev pub trapped : ℕ → List ℕ → ℕ → Turn
 trapped vector regs pc =
-    if vector == monitor_trap && slice_index regs 9 == 0x20 then outputs (slice_index regs 2 % 2 ^ 8)
-    else (if vector == monitor_trap && slice_index regs 9 == 0x63 then stops (exits pc) else stops (by_vector vector pc))
+    if vector == monitor_trap && slice_index regs service_register == put_service
+    then outputs (slice_index regs output_register % 2 ^ 8)
+    else if vector == monitor_trap && slice_index regs service_register == exit_service then stops (exits pc)
+    else stops (by_vector vector pc)
 
 -- what comes of what an instruction means
 abbrev pub carried_out : Meaning → List ℕ → ℕ → Turn

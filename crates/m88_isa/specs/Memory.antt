@@ -2,12 +2,13 @@
 -- "Control Registers": the registers of a data transaction).
 use Rattle.std.specs.Prelude.{ℕ, Bool, true, false, List, [], ◌∷◌, ◌+◌, ◌%◌, ◌^◌, ◌≡◌, ◌<◌}
 use Rattle.m88_base.specs.declared.reg.Reg.{Reg}
-use Rattle.m88_isa.specs.Lanes.{IsEnable, enable_of, word_address}
+use Rattle.m88_isa.specs.Address.{after_bytes, word_address}
+use Rattle.m88_isa.specs.Lanes.{IsEnable, enable_of}
 use Rattle.m88_isa.specs.Operands.{no_register, register_after}
-use Rattle.m88_isa.specs.declared.effect.Access.{Access}
-use Rattle.m88_isa.specs.declared.effect.Accesses.{Accesses}
+use Rattle.m88_isa.specs.declared.planned.Access.{Access}
+use Rattle.m88_isa.specs.declared.planned.Accesses.{Accesses}
 use Rattle.m88_isa.specs.declared.instr.MemOp.{MemOp}
-use Rattle.m88_isa.specs.declared.instr.MemOp.TheVariants.{XmemBu, Xmem, LdHu, LdBu, LdD, Ld, LdH, LdB, StD, St, StH, StB}
+use Rattle.m88_isa.specs.declared.instr.MemOp.TheVariants as memop
 
 -- one access to 1, 2 or 4 bytes of memory at a place; of a store the value is the whole register
 pub record Touch : Type 0 where
@@ -20,7 +21,7 @@ pub record Touch : Type 0 where
   pub first_half : Bool
   pub lock : Bool
 
--- a load of some bytes into a register, and a store of the low bytes of a value
+-- a load of some bytes into a register
 abbrev pub load : ℕ → Bool → Reg → ℕ → Touch
 load size signed d place = record {
   place = place;
@@ -33,6 +34,7 @@ load size signed d place = record {
   lock = false;
 }
 
+-- a store of the low bytes of a value
 abbrev pub store : ℕ → ℕ → ℕ → Touch
 store size value place = record {
   place = place;
@@ -45,47 +47,45 @@ store size value place = record {
   lock = false;
 }
 
--- the first word of a double word, and one half of an exchange
+-- the first word of a double word
 abbrev pub first_half : Touch → Touch
 first_half t = record t { first_half = true }
 
+-- one half of an exchange
 abbrev pub locked : Touch → Touch
 locked t = record t { lock = true }
 
 -- the bytes of the datum: the place is a multiple of them, and a scaled index counts them
 abbrev pub size_of : MemOp → ℕ
-size_of XmemBu = 1
-size_of Xmem = 4
-size_of LdHu = 2
-size_of LdBu = 1
-size_of LdD = 8
-size_of Ld = 4
-size_of LdH = 2
-size_of LdB = 1
-size_of StD = 8
-size_of St = 4
-size_of StH = 2
-size_of StB = 1
+size_of memop.XmemBu = 1
+size_of memop.Xmem = 4
+size_of memop.LdHu = 2
+size_of memop.LdBu = 1
+size_of memop.LdD = 8
+size_of memop.Ld = 4
+size_of memop.LdH = 2
+size_of memop.LdB = 1
+size_of memop.StD = 8
+size_of memop.St = 4
+size_of memop.StH = 2
+size_of memop.StB = 1
 
--- the place of the second word of a double word
-abbrev pub second_place : ℕ → ℕ
-second_place place = (place + 4) % 2 ^ 32
-
--- the accesses of a memory mnemonic at a place, in order; `value` is D's and `second` that of the register after D
+-- the accesses of a memory mnemonic at a place, in order; `value` is what D holds and `second` what the register after
+-- D holds
 abbrev pub touches_of : MemOp → Reg → ℕ → ℕ → ℕ → List Touch
-touches_of XmemBu d value second place = locked (load 1 false d place) ∷ locked (store 1 value place) ∷ []
-touches_of Xmem d value second place = locked (load 4 false d place) ∷ locked (store 4 value place) ∷ []
-touches_of LdHu d value second place = load 2 false d place ∷ []
-touches_of LdBu d value second place = load 1 false d place ∷ []
-touches_of LdD d value second place =
-    first_half (load 4 false d place) ∷ load 4 false (register_after d) (second_place place) ∷ []
-touches_of Ld d value second place = load 4 false d place ∷ []
-touches_of LdH d value second place = load 2 true d place ∷ []
-touches_of LdB d value second place = load 1 true d place ∷ []
-touches_of StD d value second place = first_half (store 4 value place) ∷ store 4 second (second_place place) ∷ []
-touches_of St d value second place = store 4 value place ∷ []
-touches_of StH d value second place = store 2 value place ∷ []
-touches_of StB d value second place = store 1 value place ∷ []
+touches_of memop.XmemBu d value second place = locked (load 1 false d place) ∷ locked (store 1 value place) ∷ []
+touches_of memop.Xmem d value second place = locked (load 4 false d place) ∷ locked (store 4 value place) ∷ []
+touches_of memop.LdHu d value second place = load 2 false d place ∷ []
+touches_of memop.LdBu d value second place = load 1 false d place ∷ []
+touches_of memop.LdD d value second place =
+    first_half (load 4 false d place) ∷ load 4 false (register_after d) (after_bytes place 4) ∷ []
+touches_of memop.Ld d value second place = load 4 false d place ∷ []
+touches_of memop.LdH d value second place = load 2 true d place ∷ []
+touches_of memop.LdB d value second place = load 1 true d place ∷ []
+touches_of memop.StD d value second place = first_half (store 4 value place) ∷ store 4 second (after_bytes place 4) ∷ []
+touches_of memop.St d value second place = store 4 value place ∷ []
+touches_of memop.StH d value second place = store 2 value place ∷ []
+touches_of memop.StB d value second place = store 1 value place ∷ []
 
 -- an access as the data unit records it: the word's address and the enable of the touched bytes
 abbrev pub access_of : Touch → Access

@@ -7,7 +7,7 @@ use Rattle.m88_base.specs.declared.reg.Reg.{Reg}
 use Rattle.m88_base.specs.declared.triple.Triple.{Triple}
 use Rattle.m88_base.specs.Reg.{number_of, reg_of}
 use Rattle.m88_isa.specs.Compute.{weight_if}
-use Rattle.m88_isa.specs.declared.effect.Access.{Access}
+use Rattle.m88_isa.specs.declared.planned.Access.{Access}
 
 -- DMT: bit 13 DOUB1 marks the first half of a double word, 12 LOCKBAR both halves of an exchange, 11 to 7 DREG are the
 -- register that a load writes, 6 SIGNED asks for its sign, 5 to 2 EN are the enables, bit 5 that of the byte at offset 0,

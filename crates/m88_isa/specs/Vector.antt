@@ -5,6 +5,10 @@ use Rattle.std.specs.Prelude.{ℕ, ◌≡◌, ◌≤◌, ◌⊎◌, ◌+◌, ◌
 abbrev pub instruction_access : ℕ
 instruction_access = 2
 
+-- an access to data memory that can't be made
+abbrev pub data_access : ℕ
+data_access = 3
+
 -- an access to memory that isn't aligned to its size
 abbrev pub misaligned : ℕ
 misaligned = 4

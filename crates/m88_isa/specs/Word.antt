@@ -4,52 +4,18 @@
 use Rattle.std.specs.Prelude.{ℕ, ℤ, Bool, ◌≡◌, ◌+◌, ◌*◌, ◌^◌, ◌%◌, if◌then◌else◌}
 use Rattle.std.specs.Int.{cast_unsigned, w16, w32}
 use Rattle.m88_base.specs.Reg.{number_of}
+use Rattle.m88_isa.specs.Compute.{weight_if}
 use Rattle.m88_isa.specs.Instr.{IsValid}
 use Rattle.m88_isa.specs.declared.instr.ImmOp.{ImmOp}
 use Rattle.m88_isa.specs.declared.instr.MemOp.{MemOp}
-use Rattle.m88_isa.specs.declared.instr.MemOp.TheVariants.{
-  XmemBu,
-  Xmem,
-  LdHu,
-  LdBu,
-  LdD,
-  Ld,
-  LdH,
-  LdB,
-  StD,
-  St,
-  StH,
-  StB,
-}
+use Rattle.m88_isa.specs.declared.instr.MemOp.TheVariants as memop
 use Rattle.m88_isa.specs.declared.instr.RegOp.{RegOp}
 use Rattle.m88_isa.specs.declared.instr.LdaSize.{LdaSize}
 use Rattle.m88_isa.specs.declared.instr.LdaSize.TheVariants.{Double, Word, Half}
 use Rattle.m88_isa.specs.declared.instr.BitOp.{BitOp}
 use Rattle.m88_isa.specs.declared.instr.BitOp.TheVariants.{Clr, Set, Ext, Extu, Mak, Rot}
 use Rattle.m88_isa.specs.declared.instr.Instr.{Instr}
-use Rattle.m88_isa.specs.declared.instr.Instr.TheVariants.{
-  Imm,
-  Regs,
-  MemImm,
-  MemReg,
-  Lda,
-  BitLit,
-  BitReg,
-  Find,
-  Branch,
-  BranchBit,
-  BranchCond,
-  Jump,
-  TrapBit,
-  TrapCond,
-  BoundImm,
-  BoundReg,
-  Rte,
-  Ldcr,
-  Stcr,
-  Xcr,
-  Sfu,
-}
+use Rattle.m88_isa.specs.declared.instr.Instr.TheVariants as instr
 use Rattle.m88_isa.specs.declared.instr.ImmOp.TheVariants as immop
 use Rattle.m88_isa.specs.declared.instr.RegOp.TheVariants as regop
 
@@ -73,32 +39,28 @@ at_cr cr = cr * 2 ^ 5
 abbrev pub at_width : ℕ → ℕ
 at_width width = width * 2 ^ 5
 
--- what a mark of the mnemonic, as `.n` or `.usr`, adds to the word
-abbrev pub mark : Bool → ℕ → ℕ
-mark there n = if there then n else 0
-
--- the two's complement of a count of words, cut to 16 bits
+-- a count of words in 16 bits, in two's complement
 abbrev pub low16 : ℤ → ℕ
 low16 words = cast_unsigned w16 words
 
--- the two's complement of a count of words, cut to 26 bits
+-- a count of words in 26 bits, in two's complement
 abbrev pub low26 : ℤ → ℕ
 low26 words = cast_unsigned w32 words % 2 ^ 26
 
 -- the first byte of a memory mnemonic; D reaches into its two low bits
 abbrev pub mem_byte : MemOp → ℕ
-mem_byte XmemBu = 0x00
-mem_byte Xmem = 0x04
-mem_byte LdHu = 0x08
-mem_byte LdBu = 0x0C
-mem_byte LdD = 0x10
-mem_byte Ld = 0x14
-mem_byte LdH = 0x18
-mem_byte LdB = 0x1C
-mem_byte StD = 0x20
-mem_byte St = 0x24
-mem_byte StH = 0x28
-mem_byte StB = 0x2C
+mem_byte memop.XmemBu = 0x00
+mem_byte memop.Xmem = 0x04
+mem_byte memop.LdHu = 0x08
+mem_byte memop.LdBu = 0x0C
+mem_byte memop.LdD = 0x10
+mem_byte memop.Ld = 0x14
+mem_byte memop.LdH = 0x18
+mem_byte memop.LdB = 0x1C
+mem_byte memop.StD = 0x20
+mem_byte memop.St = 0x24
+mem_byte memop.StH = 0x28
+mem_byte memop.StB = 0x2C
 
 -- the first byte of an immediate mnemonic; D reaches into its two low bits
 abbrev pub imm_byte : ImmOp → ℕ
@@ -119,7 +81,7 @@ imm_byte immop.Sub = 0x74
 imm_byte immop.Div = 0x78
 imm_byte immop.Cmp = 0x7C
 
--- the code of a mnemonic on three registers, in bits 15 to 5
+-- the code of a mnemonic on three registers, in bits 15 to 8
 abbrev pub reg_code : RegOp → ℕ
 reg_code regop.And = 0x4000
 reg_code regop.AndC = 0x4400
@@ -148,13 +110,13 @@ reg_code regop.SubCo = 0x7500
 reg_code regop.SubCi = 0x7600
 reg_code regop.SubCio = 0x7700
 
--- the code of a load of an address
+-- the code of a load of an address, in bits 15 to 8
 abbrev pub lda_code : LdaSize → ℕ
 lda_code Double = 0x3200
 lda_code Word = 0x3600
 lda_code Half = 0x3A00
 
--- the code of a bit-field mnemonic
+-- the code of a bit-field mnemonic, in bits 15 to 11
 abbrev pub bit_code : BitOp → ℕ
 bit_code Clr = 0x8000
 bit_code Set = 0x8800
@@ -166,33 +128,41 @@ bit_code Rot = 0xA800
 -- the word of an instruction, a line for each form: immediates, three registers, bit-field literals, flow,
 -- traps, control registers, special function units
 abbrev pub word_of : Instr → ℕ
-word_of (MemImm op d s1 imm) = first_byte (mem_byte op) + at_d (number_of d) + at_s1 (number_of s1) + imm
-word_of (Imm op d s1 imm) = first_byte (imm_byte op) + at_d (number_of d) + at_s1 (number_of s1) + imm
-word_of (Regs op d s1 s2) = 0xF4000000 + at_d (number_of d) + at_s1 (number_of s1) + reg_code op + number_of s2
-word_of (MemReg op d s1 s2 scaled usr) =
-    0xF4000000 + at_d (number_of d) + at_s1 (number_of s1) + mem_byte op * 0x100 + mark scaled 0x200 + mark usr 0x100
-    + number_of s2
-word_of (Lda size d s1 s2) = 0xF4000000 + at_d (number_of d) + at_s1 (number_of s1) + lda_code size + number_of s2
-word_of (BitReg op d s1 s2) = 0xF4000000 + at_d (number_of d) + at_s1 (number_of s1) + bit_code op + number_of s2
-word_of (Find ones d s2) = 0xF4000000 + at_d (number_of d) + (if ones then 0xE800 else 0xEC00) + number_of s2
-word_of (Jump link delayed s2) = 0xF400C000 + mark link 0x800 + mark delayed 0x400 + number_of s2
-word_of (BoundReg s1 s2) = 0xF400F800 + at_s1 (number_of s1) + number_of s2
-word_of Rte = 0xF400FC00
-word_of (BitLit op d s1 width offset) =
-    0xF0000000 + at_d (number_of d) + at_s1 (number_of s1) + bit_code op + at_width width + offset
-word_of (Branch link delayed words) = 0xC0000000 + mark link 0x08000000 + mark delayed 0x04000000 + low26 words
-word_of (BranchBit set delayed bit s1 words) =
-    0xD0000000 + mark set 0x08000000 + mark delayed 0x04000000 + at_d bit + at_s1 (number_of s1) + low16 words
-word_of (BranchCond delayed mask s1 words) =
-    0xE8000000 + mark delayed 0x04000000 + at_d mask + at_s1 (number_of s1) + low16 words
-word_of (TrapBit set bit s1 vector) = 0xF000D000 + mark set 0x800 + at_d bit + at_s1 (number_of s1) + vector
-word_of (TrapCond mask s1 vector) = 0xF000E800 + at_d mask + at_s1 (number_of s1) + vector
-word_of (BoundImm s1 imm) = 0xF8000000 + at_s1 (number_of s1) + imm
-word_of (Ldcr d cr float) = 0x80004000 + mark float 0x800 + at_d (number_of d) + at_cr cr
-word_of (Stcr s1 cr float) = 0x80008000 + mark float 0x800 + at_s1 (number_of s1) + at_cr cr + number_of s1
-word_of (Xcr d s1 cr float) =
-    0x8000C000 + mark float 0x800 + at_d (number_of d) + at_s1 (number_of s1) + at_cr cr + number_of s1
-word_of (Sfu unit rest) = 0x80000000 + unit * 2 ^ 26 + rest
+word_of (instr.MemImm op d s1 imm) = first_byte (mem_byte op) + at_d (number_of d) + at_s1 (number_of s1) + imm
+word_of (instr.Imm op d s1 imm) = first_byte (imm_byte op) + at_d (number_of d) + at_s1 (number_of s1) + imm
+word_of (instr.Regs op d s1 s2) =
+    first_byte 0xF4 + at_d (number_of d) + at_s1 (number_of s1) + reg_code op + number_of s2
+word_of (instr.MemReg op d s1 s2 scaled usr) =
+    first_byte 0xF4 + at_d (number_of d) + at_s1 (number_of s1) + mem_byte op * 0x100 + weight_if scaled 0x200
+    + weight_if usr 0x100 + number_of s2
+word_of (instr.Lda size d s1 s2) =
+    first_byte 0xF4 + at_d (number_of d) + at_s1 (number_of s1) + lda_code size + number_of s2
+word_of (instr.BitReg op d s1 s2) =
+    first_byte 0xF4 + at_d (number_of d) + at_s1 (number_of s1) + bit_code op + number_of s2
+word_of (instr.Find ones d s2) =
+    first_byte 0xF4 + at_d (number_of d) + (if ones then 0xE800 else 0xEC00) + number_of s2
+word_of (instr.Jump link delayed s2) =
+    first_byte 0xF4 + 0xC000 + weight_if link 0x800 + weight_if delayed 0x400 + number_of s2
+word_of (instr.BoundReg s1 s2) = first_byte 0xF4 + 0xF800 + at_s1 (number_of s1) + number_of s2
+word_of instr.Rte = first_byte 0xF4 + 0xFC00
+word_of (instr.BitLit op d s1 width offset) =
+    first_byte 0xF0 + at_d (number_of d) + at_s1 (number_of s1) + bit_code op + at_width width + offset
+word_of (instr.Branch link delayed words) =
+    first_byte 0xC0 + weight_if link (2 ^ 27) + weight_if delayed (2 ^ 26) + low26 words
+word_of (instr.BranchBit set delayed bit s1 words) =
+    first_byte 0xD0 + weight_if set (2 ^ 27) + weight_if delayed (2 ^ 26) + at_d bit + at_s1 (number_of s1) + low16 words
+word_of (instr.BranchCond delayed mask s1 words) =
+    first_byte 0xE8 + weight_if delayed (2 ^ 26) + at_d mask + at_s1 (number_of s1) + low16 words
+word_of (instr.TrapBit set bit s1 vector) =
+    first_byte 0xF0 + 0xD000 + weight_if set 0x800 + at_d bit + at_s1 (number_of s1) + vector
+word_of (instr.TrapCond mask s1 vector) = first_byte 0xF0 + 0xE800 + at_d mask + at_s1 (number_of s1) + vector
+word_of (instr.BoundImm s1 imm) = first_byte 0xF8 + at_s1 (number_of s1) + imm
+word_of (instr.Ldcr d cr float) = first_byte 0x80 + 0x4000 + weight_if float 0x800 + at_d (number_of d) + at_cr cr
+word_of (instr.Stcr s1 cr float) =
+    first_byte 0x80 + 0x8000 + weight_if float 0x800 + at_s1 (number_of s1) + at_cr cr + number_of s1
+word_of (instr.Xcr d s1 cr float) =
+    first_byte 0x80 + 0xC000 + weight_if float 0x800 + at_d (number_of d) + at_s1 (number_of s1) + at_cr cr + number_of s1
+word_of (instr.Sfu unit rest) = first_byte 0x80 + unit * 2 ^ 26 + rest
 
 -- the instruction is valid and has this word
 abbrev pub IsWord : Instr → ℕ → Type 0

@@ -14,8 +14,8 @@ ghost use Rattle.m88_isa.specs.Compute.{
   weight_if,
 };
 
-use crate::effect::Computed;
 use crate::instr::{ImmOp, RegOp};
+use crate::planned::Computed;
 use crate::vector::{BAD_DIVISION, OVERFLOW};
 
 /// What an instruction with an immediate computes of the word in S1.

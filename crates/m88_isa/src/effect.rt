@@ -1,77 +1,200 @@
+//! What every instruction does, form by form ("Instruction Set").
+
+ghost use Rattle.std.specs.Prelude.{◌≡◌, ◌<◌};
+ghost use Rattle.m88_isa.specs.Effect.{
+  IgnoresUnused,
+  MakesAccesses,
+  RaisesListed,
+  TouchesAligned,
+  TrapsForUser,
+  WritesWithin,
+  computes,
+  controls,
+  effect,
+  gives,
+  indexed,
+  inputs_of,
+  meaning_of,
+  plan_for,
+  plan_of,
+  register,
+  written,
+};
+ghost use Rattle.m88_isa.specs.Instr.{IsValid};
+ghost use Rattle.m88_isa.specs.Operands.{access_count_of, writes_of};
+
+use crate::address::{address, scale_of, word_address};
+use crate::compute::{immediate, registers};
+use crate::fields::{bit_field, find_bit, offset_in, width_in, width_of};
+use crate::flow::{bit_is, branches, checks, class_in, flows, goes_on, traps_if, words_away};
+use crate::instr::{Instr, MemOp};
+use crate::memory::{accesses, size_of};
+use crate::operands::{after_d_of, d_of, is_flow, s1_of, s2_of};
+use crate::planned::{Computed, Effect, Inputs, Plan};
+use crate::vector::{PRIVILEGE, UNIMPLEMENTED, unit_vector};
 use m88_base::Reg;
 
-/// What one instruction does.
-#[derive(Clone, Copy, PartialEq, Eq)]
-pub enum Plan {
-    /// It changes registers, carry, memory or the flow of the program as the effect says.
-    Go(Effect),
-    /// It raises an exception of this vector and changes nothing.
-    Raise(u16),
-    /// It is a taken trap with this vector, from 128 up.
-    Trap(u16),
+/// What an instruction does at the byte address `pc`, where `next` is the address of the one that follows. A change
+/// of flow in a taken delay slot, where that isn't `pc` + 4, raises before anything else.
+#[tactic(auto, using(crate::proofs::Alone::plan_alone, crate::proofs::Plans::touches_aligned))]
+pub fn plan(instr: &Instr, regs: &[u32; 32], carry: bool, pc: u32, next: u32) -> Plan
+    requires { IsValid instr.now }
+    ensures value { result ≡ plan_of instr.now regs.now carry pc next }
+    ensures accesses { MakesAccesses (access_count_of instr.now) result }
+    ensures register { WritesWithin (writes_of instr.now) result }
+    ensures trap { TrapsForUser result }
+    ensures raise { RaisesListed result }
+    ensures aligned { TouchesAligned (meaning_of instr.now regs.now carry pc next) }
+    ensures alone { IgnoresUnused instr.now regs.now carry pc next }
+{
+    if is_flow(instr) && next != pc.wrapping_add(4) {
+        Plan::Raise(UNIMPLEMENTED)
+    } else {
+        effect(instr, inputs_of(instr, regs, carry, pc, next))
+    }
 }
 
-/// The changes that an instruction makes.
-#[derive(Clone, Copy, PartialEq, Eq)]
-pub struct Effect {
-    /// The register that is written, never r0, and its new value. A load writes its register later,
-    /// when its access is answered.
-    pub reg: Option<(Reg, u32)>,
-    /// The carry afterwards.
-    pub carry: bool,
-    /// The accesses to data memory, in order.
-    pub accesses: Accesses,
-    /// The byte addresses of the two instructions that follow.
-    pub after: (u32, u32),
-    /// Whether an instruction that was fetched already is passed over: a taken branch without delay slot.
-    pub bubble: bool,
+/// What an instruction reads.
+fn inputs_of(instr: &Instr, regs: &[u32; 32], carry: bool, pc: u32, next: u32) -> Inputs
+    ensures { result ≡ inputs_of instr.now regs.now carry pc next }
+{
+    Inputs {
+        s1: register(regs, s1_of(instr)),
+        s2: register(regs, s2_of(instr)),
+        d: register(regs, d_of(instr)),
+        after_d: register(regs, after_d_of(instr)),
+        carry,
+        pc,
+        next,
+    }
 }
 
-/// Up to two accesses, in order; those past `count` are all zero.
-#[derive(Clone, Copy, PartialEq, Eq)]
-pub struct Accesses {
-    pub count: u8,
-    pub first: Access,
-    pub second: Access,
+/// The value of a register; r0 reads as 0.
+fn register(regs: &[u32; 32], r: Reg) -> u32
+    ensures { result ≡ register regs.now r }
+{
+    if r == Reg::ZERO { 0 } else { regs[r.index()] }
 }
 
-/// One access to a word of data memory, as the data unit's registers describe it.
-#[derive(Clone, Copy, PartialEq, Eq)]
-pub struct Access {
-    /// Whether it is a store.
-    pub write: bool,
-    /// The byte address of the word, a multiple of 4.
-    pub addr: u32,
-    /// The bytes of the word that are touched: bit 3 is the byte at offset 0, which is the highest.
-    pub en: u8,
-    /// The register that a load writes, and r0 for a store.
-    pub reg: Reg,
-    /// Whether the datum of a load is extended with its sign.
-    pub signed: bool,
-    /// Whether it is the first half of a double word.
-    pub doub1: bool,
-    /// Whether it is one half of an exchange, between which the bus is locked.
-    pub lock: bool,
-    /// The whole register whose low bytes a store writes, and 0 for a load.
-    pub value: u32,
+/// What an instruction does of what it reads, a change of flow in a taken delay slot aside.
+fn effect(instr: &Instr, x: Inputs) -> Plan
+    requires { IsValid instr.now }
+    ensures { result ≡ plan_for (effect instr.now x) }
+{
+    match *instr {
+        Instr::Imm { op, d, s1: _, imm } => computes(d, immediate(op, x.carry, x.s1, imm), x),
+        Instr::Regs { op, d, .. } => computes(d, registers(op, x.carry, x.s1, x.s2), x),
+        Instr::MemImm { op, d, s1: _, imm } => accesses(op, d, address(x.s1, imm as u32, 1), x),
+        Instr::MemReg {
+            op,
+            d,
+            scaled,
+            usr,
+            ..
+        } => indexed(op, d, scaled, usr, x),
+        Instr::Lda { size, d, .. } => gives(d, address(x.s1, x.s2, scale_of(size)), x),
+        Instr::BitLit {
+            op,
+            d,
+            width,
+            offset,
+            ..
+        } => gives(
+            d,
+            bit_field(op, x.s1, width_of(width as u32), offset as u32),
+            x,
+        ),
+        Instr::BitReg { op, d, .. } => gives(
+            d,
+            bit_field(op, x.s1, width_in(x.s2), offset_in(x.s2)),
+            x,
+        ),
+        Instr::Find { ones, d, .. } => gives(d, find_bit(ones, x.s2), x),
+        Instr::Branch {
+            link,
+            delayed,
+            words,
+        } => flows(link, delayed, words_away(x.pc, words), x),
+        Instr::BranchBit {
+            set,
+            delayed,
+            bit,
+            words,
+            ..
+        } => branches(bit_is(set, bit, x.s1), delayed, words as i32, x),
+        Instr::BranchCond {
+            delayed,
+            mask,
+            words,
+            ..
+        } => branches(class_in(mask, x.s1), delayed, words as i32, x),
+        Instr::Jump { link, delayed, .. } => flows(link, delayed, word_address(x.s2), x),
+        Instr::TrapBit {
+            set,
+            bit,
+            vector,
+            ..
+        } => traps_if(bit_is(set, bit, x.s1), vector, x),
+        Instr::TrapCond { mask, vector, .. } => traps_if(class_in(mask, x.s1), vector, x),
+        Instr::BoundImm { imm, .. } => checks(x.s1, imm as u32, x),
+        Instr::BoundReg { .. } => checks(x.s1, x.s2, x),
+        Instr::Rte => Plan::Raise(PRIVILEGE),
+        Instr::Ldcr { float, .. } | Instr::Stcr { float, .. } | Instr::Xcr { float, .. } =>
+            controls(float),
+        Instr::Sfu { unit, rest: _rest } => Plan::Raise(unit_vector(unit)),
+    }
 }
 
-/// What an arithmetic instruction computes: a word and the carry afterwards, or the vector that it raises.
-#[derive(Clone, Copy)]
-pub enum Computed {
-    Gives { value: u32, carry: bool },
-    Raises(u16),
+/// What a memory form with an index does.
+fn indexed(op: MemOp, d: Reg, scaled: bool, usr: bool, x: Inputs) -> Plan
+    ensures { result ≡ plan_for (indexed op d scaled usr x) }
+{
+    if usr {
+        Plan::Raise(PRIVILEGE)
+    } else {
+        let scale = if scaled { size_of(op) } else { 1 };
+        accesses(op, d, address(x.s1, x.s2, scale), x)
+    }
 }
 
-/// What an instruction reads: registers in the places of S1, S2 and D and after D, the carry, and the byte addresses of
-/// the instruction and of the one that follows. A register that it doesn't read counts as 0.
-#[derive(Clone, Copy)]
-pub struct Inputs {
-    pub s1: u32,
-    pub s2: u32,
-    pub d: u32,
-    pub after_d: u32,
-    pub carry: bool,
-    pub pc: u32,
-    pub next: u32,
+/// What a control instruction does.
+fn controls(float: bool) -> Plan
+    ensures { result ≡ plan_for (controls float) }
+{
+    Plan::Raise(if float { unit_vector(1) } else { PRIVILEGE })
+}
+
+/// D and the carry take what was computed, or the vector is raised.
+fn computes(d: Reg, computed: Computed, x: Inputs) -> Plan
+    ensures { result ≡ plan_for (computes d computed x) }
+{
+    match computed {
+        Computed::Gives { value, carry } => Plan::Go(Effect {
+            reg: written(d, value),
+            carry,
+            ..goes_on(x)
+        }),
+        Computed::Raises(vector) => Plan::Raise(vector),
+    }
+}
+
+/// D takes a value.
+fn gives(d: Reg, value: u32, x: Inputs) -> Plan
+    ensures { result ≡ plan_for (gives d value x) }
+{
+    Plan::Go(Effect {
+        reg: written(d, value),
+        ..goes_on(x)
+    })
+}
+
+/// A register and its new value; a write to r0 is lost.
+fn written(d: Reg, value: u32) -> Option<(Reg, u32)>
+    ensures { result ≡ written d value }
+{
+    if d == Reg::ZERO {
+        None
+    } else {
+        Some((d, value))
+    }
 }

@@ -1,8 +1,7 @@
-//! Bit fields, the highest bit and addresses ("Instruction Set": bit-field instructions, load address).
+//! Bit fields and the highest bit ("Instruction Set": bit-field instructions).
 
 ghost use Rattle.std.specs.Prelude.{◌≡◌, ◌≤◌, ◌<◌, ◌%◌, ◌^◌, ◌*◌};
 ghost use Rattle.m88_isa.specs.Fields.{
-  address,
   bit_field,
   extract,
   extract_signed,
@@ -11,13 +10,12 @@ ghost use Rattle.m88_isa.specs.Fields.{
   make,
   offset_in,
   ones,
-  scale_of,
   sign_extend,
   width_in,
   width_of,
 };
 
-use crate::instr::{BitOp, LdaSize};
+use crate::instr::BitOp;
 
 /// What an instruction on a field of `width` bits, 1 to 32, at `offset` computes of the word in S1.
 pub(crate) fn bit_field(op: BitOp, s: u32, width: u32, offset: u32) -> u32
@@ -141,22 +139,4 @@ fn highest_one(n: u32) -> u32
     ensures { result ≡ highest_one n }
 {
     if n == 0 { 32 } else { 31 - n.leading_zeros() }
-}
-
-/// The bytes by which a load of an address scales its index.
-pub(crate) fn scale_of(size: LdaSize) -> u32
-    ensures { result ≡ scale_of size }
-{
-    match size {
-        LdaSize::Double => 8,
-        LdaSize::Word => 4,
-        LdaSize::Half => 2,
-    }
-}
-
-/// A base and a scaled index, modulo 2^32.
-pub(crate) fn address(base: u32, index: u32, scale: u32) -> u32
-    ensures { result ≡ address base index scale }
-{
-    base.wrapping_add(index.wrapping_mul(scale))
 }

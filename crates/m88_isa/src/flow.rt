@@ -1,14 +1,14 @@
-//! Where the program goes on: branches, jumps, traps and their conditions ("Instruction Set": flow-control instructions).
+//! Where the program goes on: branches, jumps, traps and their conditions ("Instruction Set": flow-control
+//! instructions).
 
-ghost use Rattle.std.specs.Prelude.{◌≡◌, ◌<◌, ◌≤◌};
-ghost use Rattle.m88_isa.specs.Effect.{branches, checks, controls, flows, goes_on, plan_for, recorded_change, traps_if};
-ghost use Rattle.m88_isa.specs.Flow.{bit_is, class_in, class_of, word_aligned, words_away};
-ghost use Rattle.m88_isa.specs.Vector.{unit_vector};
+ghost use Rattle.std.specs.Prelude.{◌≡◌, ◌<◌};
+ghost use Rattle.m88_isa.specs.Effect.{branches, checks, flows, goes_on, plan_for, recorded_change, traps_if};
+ghost use Rattle.m88_isa.specs.Flow.{bit_is, class_in, class_of, words_away};
 
 use crate::compute::weight_if;
-use crate::effect::{Effect, Inputs, Plan};
 use crate::memory::no_accesses;
 use crate::operands::link_register;
+use crate::planned::{Effect, Inputs, Plan};
 use crate::vector::{FIRST_USER_VECTOR, OUT_OF_BOUNDS, PRIVILEGE};
 
 /// No change but that the program goes on.
@@ -82,37 +82,11 @@ pub(crate) fn checks(s: u32, t: u32, x: Inputs) -> Plan
     }
 }
 
-/// What a control instruction does.
-pub(crate) fn controls(float: bool) -> Plan
-    ensures { result ≡ plan_for (controls float) }
-{
-    Plan::Raise(if float { unit_vector(1) } else { PRIVILEGE })
-}
-
-/// The vector of a word of special function unit 1 to 7.
-pub(crate) fn unit_vector(unit: u8) -> u16
-    requires { (1 ≤ unit) × (unit < 8) }
-    ensures { result ≡ unit_vector unit }
-{
-    if unit == 1 {
-        114
-    } else {
-        116 + 2 * (unit as u16 - 2)
-    }
-}
-
 /// The byte address a signed count of words away.
 pub(crate) fn words_away(pc: u32, words: i32) -> u32
     ensures { result ≡ words_away pc words }
 {
     pc.wrapping_add(words.cast_unsigned().wrapping_mul(4))
-}
-
-/// An address with its two low bits cleared.
-pub(crate) fn word_aligned(address: u32) -> u32
-    ensures { result ≡ word_aligned address }
-{
-    address / 4 * 4
 }
 
 /// Whether a bit of a word, 0 to 31, is as wanted.

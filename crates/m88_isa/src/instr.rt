@@ -1,3 +1,5 @@
+//! The instructions: a variant for each form of a word, and the ranges of their fields ("Instruction Set").
+
 ghost use Rattle.std.specs.Prelude.{◌↔◌, IsTrue};
 ghost use Rattle.m88_isa.specs.Instr.{IsValid, IsWidth};
 

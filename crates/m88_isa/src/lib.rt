@@ -3,21 +3,35 @@
 //! The definitions in `specs/` are the ones that every other crate of the workspace cites.
 #![tactic(auto)]
 
+// what instructions there are
+mod instr;
+mod mnemonic;
+
+// how the instruction unit treats them
+mod operands;
+
+// what they do
+mod address;
 mod compute;
 mod effect;
 mod fields;
 mod flow;
-mod instr;
 mod lanes;
-mod meaning;
 mod memory;
-mod mnemonic;
-mod operands;
+mod planned;
 mod vector;
 
-pub use effect::{Access, Accesses, Effect, Plan};
+// what a program asks of the monitor
+mod monitor;
+
+pub use effect::plan;
 pub use instr::{BitOp, ImmOp, Instr, LdaSize, MemOp, RegOp, is_valid};
 pub use lanes::{datum, merge};
-pub use meaning::plan;
 pub use mnemonic::{MNEMONICS, Mnemonic};
+pub use monitor::{EXIT_SERVICE, MONITOR_TRAP, OUTPUT_REGISTER, PUT_SERVICE, SERVICE_REGISTER};
 pub use operands::{access_count, is_flow, uses, waits_for_empty, writes};
+pub use planned::{Access, Accesses, Effect, Plan};
+pub use vector::{
+    BAD_DIVISION, DATA_ACCESS, FIRST_USER_VECTOR, INSTRUCTION_ACCESS, MISALIGNED, OUT_OF_BOUNDS,
+    OVERFLOW, PRIVILEGE, UNIMPLEMENTED,
+};

@@ -4,11 +4,12 @@ ghost use Rattle.std.specs.Prelude.{◌≡◌, ◌≤◌, [], true};
 ghost use Rattle.m88_isa.specs.Effect.{accesses, plan_for};
 ghost use Rattle.m88_isa.specs.Memory.{access_of, load, no_access, recorded, size_of, store, touches_of};
 
-use crate::effect::{Access, Accesses, Effect, Inputs, Plan};
+use crate::address::word_address;
 use crate::flow::goes_on;
 use crate::instr::MemOp;
 use crate::lanes::enable_of;
 use crate::operands::{no_register, register_after};
+use crate::planned::{Access, Accesses, Effect, Inputs, Plan};
 use crate::vector::MISALIGNED;
 use m88_base::Reg;
 
@@ -39,7 +40,8 @@ pub(crate) fn size_of(op: MemOp) -> u32
     }
 }
 
-/// The accesses of a memory mnemonic at an aligned byte address, in order; `second` is the register after D.
+/// The accesses of a memory mnemonic at an aligned byte address, in order; `value` is what D holds and `second` what
+/// the register after D holds.
 fn touches_of(op: MemOp, d: Reg, value: u32, second: u32, place: u32) -> Accesses
     ensures { result ≡ recorded (touches_of op d value second place) }
 {
@@ -76,7 +78,7 @@ fn load(size: u32, signed: bool, d: Reg, place: u32) -> Access
     ensures { result ≡ access_of (load size signed d place) }
 {
     Access {
-        addr: place / 4 * 4,
+        addr: word_address(place),
         en: enable_of(place, size),
         reg: d,
         signed,
@@ -90,7 +92,7 @@ fn store(size: u32, value: u32, place: u32) -> Access
 {
     Access {
         write: true,
-        addr: place / 4 * 4,
+        addr: word_address(place),
         en: enable_of(place, size),
         value,
         ..no_access()

@@ -1,3 +1,5 @@
+//! The names of operations and their spellings ("Instruction Set": the assembler syntax of each instruction).
+
 ghost use Rattle.std.specs.Prelude.{◌≡◌, IfSome};
 ghost use Rattle.m88_isa.specs.Mnemonic.{mnemonic_of, text_of};
 ghost use Rattle.m88_isa.specs.declared.mnemonic.Mnemonic.{Mnemonic as AnyMnemonic};

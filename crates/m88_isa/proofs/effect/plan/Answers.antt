@@ -4,7 +4,7 @@ use Rattle.m88_isa.specs.Effect.{MakesAccesses, RaisesListed, TrapsForUser, Writ
 use Rattle.m88_isa.specs.Operands.{access_count_of, writes_of}
 use Rattle.m88_isa.proofs.Plans.{makes_accesses, writes_within}
 use Rattle.m88_isa.proofs.Vectors.{raises_listed, traps_below}
-use Rattle.m88_isa.proofs.meaning.plan.Goals as goal
+use Rattle.m88_isa.proofs.effect.plan.Goals as goal
 
 pub returns-else-is_flow-clause-accesses : goal.returns-else-is_flow-clause-accesses
 returns-else-is_flow-clause-accesses c =
