@@ -12,10 +12,10 @@ use Rattle.m88_parse.specs.declared.unit.Unit.{Unit as Source}
 use Rattle.m88_parse.specs.declared.row.Row.{Row}
 use Rattle.m88_parse.specs.declared.row.Row.TheVariants as row
 use Rattle.m88_parse.specs.Fault.{out_of_memory}
-use Rattle.m88_parse.specs.State.{◌>>=◌}
-use Rattle.m88_parse.specs.Source.{grouped, row_of, rows_of, with_row, lines_of, unit_of_rows, unit_of}
-use Rattle.m88_parse.specs.Drafts.{with_more, modules_after, begun, leads, Follows, LeadsOn, EndsWith}
-use Rattle.m88_parse.specs.WellFormed.{IsStatement, IsModule}
+use Rattle.m88_parse.specs.Reader.State.{◌>>=◌}
+use Rattle.m88_parse.specs.Reader.Source.{grouped, row_of, rows_of, with_row, lines_of, unit_of_rows, unit_of}
+use Rattle.m88_parse.specs.Reader.Drafts.{with_more, modules_after, begun, leads, Follows, LeadsOn, EndsWith}
+use Rattle.m88_parse.specs.WellFormed.{IsFormedStatement, IsFormedModule}
 
 more_first : (closed : List Module) (m : Module) (x : Statement) (g : List Statement) (ms : List Module)
     → closed ++ with_more (with_more m (x ∷ [])) g ∷ ms ≡ closed ++ with_more m (x ∷ g) ∷ ms
@@ -92,12 +92,12 @@ faults number line rest after closed open_one f total h (inr e) so_far =
     inr (sym so_far ∙ ap (λ (ls : List (List ℕ)). leads closed open_one (rows_of number ls)) h ∙ e (lines_of after))
 
 -- what is kept of each statement
-no_statements : All IsStatement []
+no_statements : All IsFormedStatement []
 no_statements k d h = absurd (omega arith)
 
-pub statement_formed : (open_one : Option Module) (x : Statement) → IfSome open_one IsModule → IsStatement x → IsModule (with_more (begun open_one) (x ∷ []))
-statement_formed None x h s = All-push IsStatement [] x no_statements s
-statement_formed (Some m) x h s = All-push IsStatement m.statements x h s
+pub statement_formed : (open_one : Option Module) (x : Statement) → IfSome open_one IsFormedModule → IsFormedStatement x → IsFormedModule (with_more (begun open_one) (x ∷ []))
+statement_formed None x h s = All-push IsFormedStatement [] x no_statements s
+statement_formed (Some m) x h s = All-push IsFormedStatement m.statements x h s
 
 -- a line by its row
 pub line_fault : (number : ℕ) (line : List ℕ) (closed : List Module) (open_one : Option Module) (f : ParseFault)

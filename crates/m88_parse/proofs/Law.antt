@@ -18,6 +18,7 @@ pub mod Ends
 pub mod Units
 pub mod Flaws
 pub mod Breaks
-pub mod Unsaid
+pub mod LineFaults
 pub mod Faults
 pub mod Cuts
+pub mod Kinds

@@ -7,4 +7,3 @@ pub mod Naming
 pub mod Lines
 pub mod Drafts
 pub mod Ending
-pub mod Faults

@@ -1,8 +1,8 @@
 -- The first line of a source, found by its LF.
 use Rattle.std.proofs.Common.{◌≡◌, ℕ, suc, ◌+◌, ◌<◌, ◌≤◌, Bool, true, false, cond, not, ◌&&◌, ◌==◌, List, [], ◌∷◌, ◌++◌, length, take, drop, refl, sym, ap, ◌∙◌, arith}
 use Rattle.std.specs.List.{prefix_len}
-use Rattle.m88_parse.specs.Source.{lines_of, begins_with_lf, on_first_line}
-use Rattle.m88_parse.specs.LineEnd.{without_cr}
+use Rattle.m88_parse.specs.Reader.Source.{lines_of, begins_with_lf, on_first_line}
+use Rattle.m88_parse.specs.Reader.LineEnd.{without_cr}
 
 abbrev pub is_inner : ℕ → Bool
 is_inner b = not (b == 10)

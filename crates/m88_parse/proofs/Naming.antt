@@ -5,7 +5,7 @@ use Rattle.std.specs.List.{list_all}
 use Rattle.std.proofs.lemmas.List.Sums.{AllPass-from_list_all, list_all-from_AllPass}
 use Rattle.std.proofs.lemmas.Bool.{ltb-true, lt-ltb}
 use Rattle.m88_base.specs.Name.{IsName, begins_name, continues_name}
-use Rattle.m88_parse.specs.Names.{is_name}
+use Rattle.m88_parse.specs.Reader.Names.{is_name}
 
 both : (x y : Bool) → x ≡ true → y ≡ true → (x && y) ≡ true
 both true y e f = f

@@ -3,11 +3,11 @@ use Rattle.std.proofs.Common.{◌≡◌, ℕ, zero, suc, ◌-◌, ◌+◌, ◌�
 use Rattle.std.proofs.lemmas.List.{append-nil, drop-drop}
 use Rattle.m88_parse.specs.declared.token.Lexeme.{Lexeme}
 use Rattle.m88_parse.specs.declared.token.Token.{Token}
-use Rattle.m88_parse.specs.Places.{IsSlice, IsLexemeOf, IsTokenOf}
+use Rattle.m88_parse.specs.Reader.Places.{IsLexemeOf}
+use Rattle.m88_parse.specs.Language.Pieces.{IsSlice, IsTokenOf, PlainToken, plain_token, token_of, TokenValue, Piece}
 use Rattle.m88_parse.specs.declared.fault.ParseFault.{ParseFault}
 use Rattle.m88_parse.specs.declared.scan.Flaw.{Flaw}
-use Rattle.m88_parse.specs.Tokens.{piece_of, Cut, front, pieces, prepend, fault_at}
-use Rattle.m88_parse.specs.Spelling.Pieces.{PlainToken, plain_token, token_of, Meaning, Piece}
+use Rattle.m88_parse.specs.Reader.Tokens.{piece_of, Cut, front, pieces, prepend, fault_at}
 
 -- what was cut off before, and what is still cut
 abbrev pub with_front : List Piece → Result (List Piece) ParseFault → Result (List Piece) ParseFault
@@ -56,7 +56,7 @@ pub gap_goes_on : (line col len : ℕ) (bs : List ℕ) (done : List Piece) (tota
     → with_front done (pieces line 0 col bs) ≡ total → with_front done (pieces line 0 (col + len) (drop len bs)) ≡ total
 gap_goes_on line col len bs done total h e k so_far = ap (with_front done) (sym (cut_off line col bs (record { len = len; says = None }) h e k)) ∙ so_far
 
-pub token_goes_on : (line col len : ℕ) (m : Meaning) (bs : List ℕ) (done : List Piece) (total : Result (List Piece) ParseFault) → 0 < length bs → front bs ≡ Ok (record { len = len; says = Some m }) → 0 < len
+pub token_goes_on : (line col len : ℕ) (m : TokenValue) (bs : List ℕ) (done : List Piece) (total : Result (List Piece) ParseFault) → 0 < length bs → front bs ≡ Ok (record { len = len; says = Some m }) → 0 < len
     → with_front done (pieces line 0 col bs) ≡ total → with_front (done ++ record { text = take len bs; col = col; says = m } ∷ []) (pieces line 0 (col + len) (drop len bs)) ≡ total
 token_goes_on line col len m bs done total h e k so_far =
     let rest = pieces line 0 (col + len) (drop len bs) in

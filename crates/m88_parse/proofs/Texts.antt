@@ -1,8 +1,8 @@
 -- The bytes of a text one after the other, as a loop appends them.
 use Rattle.std.proofs.Common.{◌≡◌, ℕ, ◌+◌, ◌<◌, Bool, true, false, cond, List, [], ◌∷◌, ◌++◌, length, drop, get_or, sym, ap, ◌∙◌, append_assoc}
 use Rattle.std.proofs.lemmas.List.{drop_more}
-use Rattle.m88_parse.specs.Tokens.{text_bytes, begins_escape}
-use Rattle.m88_parse.specs.Spelling.Bytes.{escape_value}
+use Rattle.m88_parse.specs.Reader.Tokens.{text_bytes, begins_escape}
+use Rattle.m88_parse.specs.Language.Bytes.{escape_value}
 
 step : (escaped : Bool) (b : ℕ) (bs : List ℕ) (v : Bool) → begins_escape escaped b ≡ v
     → text_bytes escaped (b ∷ bs) ≡ cond v (text_bytes true bs) (cond escaped (escape_value b) b ∷ text_bytes false bs)

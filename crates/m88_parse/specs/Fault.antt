@@ -1,10 +1,10 @@
--- Faults of a source, and what a call that takes memory gives.
-use Rattle.std.specs.Prelude.{◌≡◌, ℕ, ◌⊎◌, Result, Ok, Err}
+-- What a call that takes memory answers, and why a source has no unit.
+use Rattle.std.specs.Prelude.{◌≡◌, ◌⊎◌, Result, Ok, Err}
 use Rattle.m88_parse.specs.declared.fault.ParseFault.{ParseFault}
 use Rattle.m88_parse.specs.declared.fault.ParseKind.{ParseKind}
 use Rattle.m88_parse.specs.declared.fault.ParseKind.TheVariants.{NotAscii, Syntax, NoSuchName, OutOfRange, Memory}
 
--- want of memory, which has no place
+-- memory ran out, which has no place in a source
 abbrev pub out_of_memory : ParseFault
 out_of_memory = record { line = 0; col = 0; kind = Memory }
 
@@ -13,7 +13,7 @@ abbrev pub Gives : {X Y : Type 0} → (X → Y) → Result X ParseFault → Resu
 Gives view (Ok x) read = read ≡ Ok (view x)
 Gives view (Err e) read = (e ≡ out_of_memory) ⊎ (read ≡ Err e)
 
--- why something is no token
+-- why a line can't be cut into tokens
 abbrev pub IsCutKind : ParseKind → Type 0
 IsCutKind NotAscii = Unit {0}
 IsCutKind Syntax = Unit {0}
@@ -21,11 +21,7 @@ IsCutKind OutOfRange = Unit {0}
 IsCutKind NoSuchName = ⊥
 IsCutKind Memory = ⊥
 
-abbrev pub FitsKind : ParseKind → ℕ → ℕ → Type 0
-FitsKind NoSuchName line col = ⊥
-FitsKind Memory line col = (line ≡ 0) × (col ≡ 0)
-FitsKind _ line col = Unit {0}
-
--- a fault of a line that can't be cut, or want of memory, which has line 0 and column 0; never a name's
-abbrev pub IsTokenFault : ParseFault → Type 0
-IsTokenFault e = FitsKind e.kind e.line e.col
+-- why a source has no unit
+abbrev pub IsSourceKind : ParseKind → Type 0
+IsSourceKind Memory = ⊥
+IsSourceKind _ = Unit {0}

@@ -1,16 +1,5 @@
+-- What contracts cite: the language, what a call answers, what the assembler may rely on; Reader is for private contracts.
+pub mod Language
 pub mod Fault
-pub mod Tokens
-pub mod Places
-pub mod Names
-pub mod Spelling
-pub mod State
-pub mod Slots
-pub mod Operands
 pub mod WellFormed
-pub mod Shape
-pub mod Directive
-pub mod Grammar
-pub mod Source
-pub mod LineEnd
-pub mod Drafts
-pub mod SourceFault
+pub mod Reader

@@ -1,5 +1,5 @@
 ghost use Rattle.std.specs.Prelude.{◌≡◌};
-ghost use Rattle.m88_parse.specs.Directive.{all_directives, directive_text, directive_of};
+ghost use Rattle.m88_parse.specs.Reader.Directives.{all_directives, directive_text, directive_of};
 
 /// A directive beside `.module`.
 #[derive(Clone, Copy, PartialEq, Eq)]
@@ -31,7 +31,7 @@ const DIRECTIVES: [Directive; 11] = [
     Directive::Set,
 ];
 
-#[tactic(auto, unfolding(crate::specs::Directive::directive_text))]
+#[tactic(auto, unfolding(crate::specs::Reader::Directives::directive_text))]
 fn text_of(directive: Directive) -> &'static str
     ensures { result.now ≡ directive_text directive }
 {
@@ -51,7 +51,7 @@ fn text_of(directive: Directive) -> &'static str
 }
 
 /// The directive of a name, if there is one.
-#[tactic(auto, unfolding(crate::specs::Directive::all_directives))]
+#[tactic(auto, unfolding(crate::specs::Reader::Directives::all_directives))]
 pub(crate) fn directive_of(name: &[u8]) -> Option<Directive>
     ensures { result ≡ directive_of name.now }
 {

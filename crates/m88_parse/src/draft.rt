@@ -2,8 +2,9 @@ ghost use Rattle.std.specs.Prelude.{◌≡◌, ◌<◌, ◌≤◌, ◌+◌, ◌�
 ghost use Rattle.std.specs.List.{All, sum_by};
 ghost use lib.Chars.{codes};
 ghost use Rattle.m88_parse.specs.Fault.{out_of_memory};
-ghost use Rattle.m88_parse.specs.WellFormed.{IsModule, IsRow};
-ghost use Rattle.m88_parse.specs.Drafts.{with_more, begun, modules_after, count_in, AreFormed, Follows};
+ghost use Rattle.m88_parse.specs.WellFormed.{IsFormedModule};
+ghost use Rattle.m88_parse.specs.Reader.Kept.{IsFormedRow};
+ghost use Rattle.m88_parse.specs.Reader.Drafts.{with_more, begun, modules_after, count_in, AreFormed, Follows};
 
 use crate::fault::ParseFault;
 use crate::names::name_of;
@@ -37,7 +38,7 @@ pub(crate) struct Draft {
 }
 
 /// The name of the module of statements that stand before the first `.module`.
-#[tactic(auto, unfolding(crate::specs::Names::is_name))]
+#[tactic(auto, unfolding(crate::specs::Reader::Names::is_name))]
 fn main_name() -> Name
     ensures { result ≡ codes "main" }
 {
@@ -98,7 +99,7 @@ impl Draft {
         ensures after { IfOk result (λ d. Follows d.closed.items d.current self.closed.items self.current (Some row)) }
         ensures memory { IfErr result (λ e. e ≡ out_of_memory) }
         ensures count { IfOk result (λ d. count_in d.closed.items d.current ≤ count_in self.closed.items self.current + 1) }
-        ensures formed { IsRow row → AreFormed self.closed.items self.current
+        ensures formed { IsFormedRow row → AreFormed self.closed.items self.current
             → IfOk result (λ d. AreFormed d.closed.items d.current) }
     {
         let Draft {
@@ -141,7 +142,7 @@ impl Draft {
         ensures value { MatchResult result (λ v. v.items ≡ modules_after self.closed.items self.current []) (λ e. e ≡ out_of_memory) }
         ensures some { IfOk result (λ v. 0 < length v.items) }
         ensures count { IfOk result (λ v. sum_by (λ m. length m.statements) v.items ≡ count_in self.closed.items self.current) }
-        ensures formed { AreFormed self.closed.items self.current → IfOk result (λ v. All IsModule v.items) }
+        ensures formed { AreFormed self.closed.items self.current → IfOk result (λ v. All IsFormedModule v.items) }
     {
         let Draft {
             mut closed,

@@ -1,8 +1,9 @@
 ghost use Rattle.std.specs.Prelude.{◌≡◌, ◌≤◌, IfOk};
 ghost use Rattle.m88_parse.specs.Fault.{Gives};
-ghost use Rattle.m88_parse.specs.Grammar.{read, widest, either, immediate, registers, memory, user_memory, address, bits, find_bit, branch, branch_bit, branch_cond, jump, trap_bit, trap_cond, bounds, load, store, exchange, plain, form_of};
+ghost use Rattle.m88_parse.specs.Reader.Grammar.{read, either_form, immediate_form, registers_form, memory_form, user_memory_form, address_form, bits_form, find_bit_form, branch_form, branch_bit_form, branch_cond_form, jump_form, trap_bit_form, trap_cond_form, bounds_form, ldcr_form, stcr_form, xcr_form, code_only, form_of};
+ghost use Rattle.m88_parse.specs.Language.Operands.{most_width};
 ghost use Rattle.m88_isa.specs.declared.instr.Instr.TheVariants.{Rte};
-ghost use Rattle.m88_parse.specs.WellFormed.{IsBody};
+ghost use Rattle.m88_parse.specs.WellFormed.{IsFormedBody};
 
 use crate::fault::ParseFault;
 use crate::operand::{Bound, Field, Index, Operand};
@@ -21,8 +22,8 @@ const NEAR: u32 = 1 << 15;
 const VECTORS: u32 = 511;
 
 /// The widest literal field, in bits: a rotation has no width.
-fn widest(op: BitOp) -> u32
-    ensures value { result ≡ widest op }
+fn most_width(op: BitOp) -> u32
+    ensures value { result ≡ most_width op }
     ensures bound { result ≤ 31 }
 {
     match op {
@@ -32,10 +33,10 @@ fn widest(op: BitOp) -> u32
 }
 
 impl<'a> Parser<'a> {
-    #[tactic(auto, unfolding(crate::specs::Grammar::read))]
+    #[tactic(auto, unfolding(crate::specs::Reader::Grammar::read))]
     fn either(&mut self, imm: ImmOp, reg: RegOp) -> Result<Body, ParseFault>
-        ensures value { Gives (λ b. b) result (read (either imm reg) self.old) }
-        ensures body { IfOk result IsBody }
+        ensures value { Gives (λ b. b) result (read (either_form imm reg) self.old) }
+        ensures body { IfOk result IsFormedBody }
     {
         let d = self.register()?;
         self.mark(b',')?;
@@ -57,10 +58,10 @@ impl<'a> Parser<'a> {
         Ok(body)
     }
 
-    #[tactic(auto, unfolding(crate::specs::Grammar::read))]
+    #[tactic(auto, unfolding(crate::specs::Reader::Grammar::read))]
     fn immediate_form(&mut self, op: ImmOp) -> Result<Body, ParseFault>
-        ensures value { Gives (λ b. b) result (read (immediate op) self.old) }
-        ensures body { IfOk result IsBody }
+        ensures value { Gives (λ b. b) result (read (immediate_form op) self.old) }
+        ensures body { IfOk result IsFormedBody }
     {
         let d = self.register()?;
         self.mark(b',')?;
@@ -79,10 +80,10 @@ impl<'a> Parser<'a> {
         ))
     }
 
-    #[tactic(auto, unfolding(crate::specs::Grammar::read))]
+    #[tactic(auto, unfolding(crate::specs::Reader::Grammar::read))]
     fn registers(&mut self, op: RegOp) -> Result<Body, ParseFault>
-        ensures value { Gives (λ b. b) result (read (registers op) self.old) }
-        ensures body { IfOk result IsBody }
+        ensures value { Gives (λ b. b) result (read (registers_form op) self.old) }
+        ensures body { IfOk result IsFormedBody }
     {
         let d = self.register()?;
         self.mark(b',')?;
@@ -93,10 +94,10 @@ impl<'a> Parser<'a> {
         Ok(Body::Code(Instr::Regs { op, d, s1, s2 }, None))
     }
 
-    #[tactic(auto, unfolding(crate::specs::Grammar::read))]
+    #[tactic(auto, unfolding(crate::specs::Reader::Grammar::read))]
     fn memory(&mut self, op: MemOp) -> Result<Body, ParseFault>
-        ensures value { Gives (λ b. b) result (read (memory op) self.old) }
-        ensures body { IfOk result IsBody }
+        ensures value { Gives (λ b. b) result (read (memory_form op) self.old) }
+        ensures body { IfOk result IsFormedBody }
     {
         let d = self.register()?;
         self.mark(b',')?;
@@ -138,10 +139,10 @@ impl<'a> Parser<'a> {
         Ok(body)
     }
 
-    #[tactic(auto, unfolding(crate::specs::Grammar::read))]
+    #[tactic(auto, unfolding(crate::specs::Reader::Grammar::read))]
     fn user_memory(&mut self, op: MemOp) -> Result<Body, ParseFault>
-        ensures value { Gives (λ b. b) result (read (user_memory op) self.old) }
-        ensures body { IfOk result IsBody }
+        ensures value { Gives (λ b. b) result (read (user_memory_form op) self.old) }
+        ensures body { IfOk result IsFormedBody }
     {
         let d = self.register()?;
         self.mark(b',')?;
@@ -161,10 +162,10 @@ impl<'a> Parser<'a> {
         ))
     }
 
-    #[tactic(auto, unfolding(crate::specs::Grammar::read))]
+    #[tactic(auto, unfolding(crate::specs::Reader::Grammar::read))]
     fn address(&mut self, size: LdaSize) -> Result<Body, ParseFault>
-        ensures value { Gives (λ b. b) result (read (address size) self.old) }
-        ensures body { IfOk result IsBody }
+        ensures value { Gives (λ b. b) result (read (address_form size) self.old) }
+        ensures body { IfOk result IsFormedBody }
     {
         let d = self.register()?;
         self.mark(b',')?;
@@ -174,16 +175,16 @@ impl<'a> Parser<'a> {
         Ok(Body::Code(Instr::Lda { size, d, s1, s2 }, None))
     }
 
-    #[tactic(auto, unfolding(crate::specs::Grammar::read))]
+    #[tactic(auto, unfolding(crate::specs::Reader::Grammar::read))]
     fn bits(&mut self, op: BitOp) -> Result<Body, ParseFault>
-        ensures value { Gives (λ b. b) result (read (bits op) self.old) }
-        ensures body { IfOk result IsBody }
+        ensures value { Gives (λ b. b) result (read (bits_form op) self.old) }
+        ensures body { IfOk result IsFormedBody }
     {
         let d = self.register()?;
         self.mark(b',')?;
         let s1 = self.register()?;
         self.mark(b',')?;
-        let instr = match self.field(widest(op))? {
+        let instr = match self.field(most_width(op))? {
             Field::Register(s2) => Instr::BitReg { op, d, s1, s2 },
             Field::Literal { width, offset } => Instr::BitLit {
                 op,
@@ -197,10 +198,10 @@ impl<'a> Parser<'a> {
         Ok(Body::Code(instr, None))
     }
 
-    #[tactic(auto, unfolding(crate::specs::Grammar::read))]
+    #[tactic(auto, unfolding(crate::specs::Reader::Grammar::read))]
     fn find_bit(&mut self, ones: bool) -> Result<Body, ParseFault>
-        ensures value { Gives (λ b. b) result (read (find_bit ones) self.old) }
-        ensures body { IfOk result IsBody }
+        ensures value { Gives (λ b. b) result (read (find_bit_form ones) self.old) }
+        ensures body { IfOk result IsFormedBody }
     {
         let d = self.register()?;
         self.mark(b',')?;
@@ -209,10 +210,10 @@ impl<'a> Parser<'a> {
         Ok(Body::Code(Instr::Find { ones, d, s2 }, None))
     }
 
-    #[tactic(auto, unfolding(crate::specs::Grammar::read))]
+    #[tactic(auto, unfolding(crate::specs::Reader::Grammar::read))]
     fn branch(&mut self, link: bool, delayed: bool) -> Result<Body, ParseFault>
-        ensures value { Gives (λ b. b) result (read (branch link delayed) self.old) }
-        ensures body { IfOk result IsBody }
+        ensures value { Gives (λ b. b) result (read (branch_form link delayed) self.old) }
+        ensures body { IfOk result IsFormedBody }
     {
         let goal = self.goal(Kind::Pc26, FAR)?;
         self.end()?;
@@ -226,10 +227,10 @@ impl<'a> Parser<'a> {
         ))
     }
 
-    #[tactic(auto, unfolding(crate::specs::Grammar::read))]
+    #[tactic(auto, unfolding(crate::specs::Reader::Grammar::read))]
     fn branch_bit(&mut self, set: bool, delayed: bool) -> Result<Body, ParseFault>
-        ensures value { Gives (λ b. b) result (read (branch_bit set delayed) self.old) }
-        ensures body { IfOk result IsBody }
+        ensures value { Gives (λ b. b) result (read (branch_bit_form set delayed) self.old) }
+        ensures body { IfOk result IsFormedBody }
     {
         let bit = self.bit()?;
         self.mark(b',')?;
@@ -249,10 +250,10 @@ impl<'a> Parser<'a> {
         ))
     }
 
-    #[tactic(auto, unfolding(crate::specs::Grammar::read))]
+    #[tactic(auto, unfolding(crate::specs::Reader::Grammar::read))]
     fn branch_cond(&mut self, delayed: bool) -> Result<Body, ParseFault>
-        ensures value { Gives (λ b. b) result (read (branch_cond delayed) self.old) }
-        ensures body { IfOk result IsBody }
+        ensures value { Gives (λ b. b) result (read (branch_cond_form delayed) self.old) }
+        ensures body { IfOk result IsFormedBody }
     {
         let mask = self.mask()?;
         self.mark(b',')?;
@@ -271,20 +272,20 @@ impl<'a> Parser<'a> {
         ))
     }
 
-    #[tactic(auto, unfolding(crate::specs::Grammar::read))]
+    #[tactic(auto, unfolding(crate::specs::Reader::Grammar::read))]
     fn jump(&mut self, link: bool, delayed: bool) -> Result<Body, ParseFault>
-        ensures value { Gives (λ b. b) result (read (jump link delayed) self.old) }
-        ensures body { IfOk result IsBody }
+        ensures value { Gives (λ b. b) result (read (jump_form link delayed) self.old) }
+        ensures body { IfOk result IsFormedBody }
     {
         let s2 = self.register()?;
         self.end()?;
         Ok(Body::Code(Instr::Jump { link, delayed, s2 }, None))
     }
 
-    #[tactic(auto, unfolding(crate::specs::Grammar::read))]
+    #[tactic(auto, unfolding(crate::specs::Reader::Grammar::read))]
     fn trap_bit(&mut self, set: bool) -> Result<Body, ParseFault>
-        ensures value { Gives (λ b. b) result (read (trap_bit set) self.old) }
-        ensures body { IfOk result IsBody }
+        ensures value { Gives (λ b. b) result (read (trap_bit_form set) self.old) }
+        ensures body { IfOk result IsFormedBody }
     {
         let bit = self.bit()?;
         self.mark(b',')?;
@@ -303,10 +304,10 @@ impl<'a> Parser<'a> {
         ))
     }
 
-    #[tactic(auto, unfolding(crate::specs::Grammar::read))]
+    #[tactic(auto, unfolding(crate::specs::Reader::Grammar::read))]
     fn trap_cond(&mut self) -> Result<Body, ParseFault>
-        ensures value { Gives (λ b. b) result (read (trap_cond) self.old) }
-        ensures body { IfOk result IsBody }
+        ensures value { Gives (λ b. b) result (read (trap_cond_form) self.old) }
+        ensures body { IfOk result IsFormedBody }
     {
         let mask = self.mask()?;
         self.mark(b',')?;
@@ -317,10 +318,10 @@ impl<'a> Parser<'a> {
         Ok(Body::Code(Instr::TrapCond { mask, s1, vector }, None))
     }
 
-    #[tactic(auto, unfolding(crate::specs::Grammar::read))]
+    #[tactic(auto, unfolding(crate::specs::Reader::Grammar::read))]
     fn bounds(&mut self) -> Result<Body, ParseFault>
-        ensures value { Gives (λ b. b) result (read (bounds) self.old) }
-        ensures body { IfOk result IsBody }
+        ensures value { Gives (λ b. b) result (read (bounds_form) self.old) }
+        ensures body { IfOk result IsFormedBody }
     {
         let s1 = self.register()?;
         self.mark(b',')?;
@@ -332,10 +333,10 @@ impl<'a> Parser<'a> {
         Ok(Body::Code(instr, None))
     }
 
-    #[tactic(auto, unfolding(crate::specs::Grammar::read))]
-    fn load(&mut self, float: bool) -> Result<Body, ParseFault>
-        ensures value { Gives (λ b. b) result (read (load float) self.old) }
-        ensures body { IfOk result IsBody }
+    #[tactic(auto, unfolding(crate::specs::Reader::Grammar::read))]
+    fn ldcr(&mut self, float: bool) -> Result<Body, ParseFault>
+        ensures value { Gives (λ b. b) result (read (ldcr_form float) self.old) }
+        ensures body { IfOk result IsFormedBody }
     {
         let d = self.register()?;
         self.mark(b',')?;
@@ -344,10 +345,10 @@ impl<'a> Parser<'a> {
         Ok(Body::Code(Instr::Ldcr { d, cr, float }, None))
     }
 
-    #[tactic(auto, unfolding(crate::specs::Grammar::read))]
-    fn store(&mut self, float: bool) -> Result<Body, ParseFault>
-        ensures value { Gives (λ b. b) result (read (store float) self.old) }
-        ensures body { IfOk result IsBody }
+    #[tactic(auto, unfolding(crate::specs::Reader::Grammar::read))]
+    fn stcr(&mut self, float: bool) -> Result<Body, ParseFault>
+        ensures value { Gives (λ b. b) result (read (stcr_form float) self.old) }
+        ensures body { IfOk result IsFormedBody }
     {
         let s1 = self.register()?;
         self.mark(b',')?;
@@ -356,10 +357,10 @@ impl<'a> Parser<'a> {
         Ok(Body::Code(Instr::Stcr { s1, cr, float }, None))
     }
 
-    #[tactic(auto, unfolding(crate::specs::Grammar::read))]
-    fn exchange(&mut self, float: bool) -> Result<Body, ParseFault>
-        ensures value { Gives (λ b. b) result (read (exchange float) self.old) }
-        ensures body { IfOk result IsBody }
+    #[tactic(auto, unfolding(crate::specs::Reader::Grammar::read))]
+    fn xcr(&mut self, float: bool) -> Result<Body, ParseFault>
+        ensures value { Gives (λ b. b) result (read (xcr_form float) self.old) }
+        ensures body { IfOk result IsFormedBody }
     {
         let d = self.register()?;
         self.mark(b',')?;
@@ -370,20 +371,20 @@ impl<'a> Parser<'a> {
         Ok(Body::Code(Instr::Xcr { d, s1, cr, float }, None))
     }
 
-    #[tactic(auto, unfolding(crate::specs::Grammar::read))]
+    #[tactic(auto, unfolding(crate::specs::Reader::Grammar::read))]
     fn nothing(&mut self) -> Result<Body, ParseFault>
-        ensures value { Gives (λ b. b) result (read (plain Rte) self.old) }
-        ensures body { IfOk result IsBody }
+        ensures value { Gives (λ b. b) result (read (code_only Rte) self.old) }
+        ensures body { IfOk result IsFormedBody }
     {
         self.end()?;
         Ok(Body::Code(Instr::Rte, None))
     }
 
     /// The operands of an instruction, to the end of the line.
-    #[tactic(auto, unfolding(crate::specs::Grammar::form_of))]
+    #[tactic(auto, unfolding(crate::specs::Reader::Grammar::form_of))]
     pub fn instruction(&mut self, shape: Shape) -> Result<Body, ParseFault>
         ensures value { Gives (λ b. b) result (read (form_of shape) self.old) }
-        ensures body { IfOk result IsBody }
+        ensures body { IfOk result IsFormedBody }
     {
         match shape {
             Shape::Either(imm, reg) => self.either(imm, reg),
@@ -402,9 +403,9 @@ impl<'a> Parser<'a> {
             Shape::TrapCond => self.trap_cond(),
             Shape::Bounds => self.bounds(),
             Shape::Return => self.nothing(),
-            Shape::Load { float } => self.load(float),
-            Shape::Store { float } => self.store(float),
-            Shape::Exchange { float } => self.exchange(float),
+            Shape::Ldcr { float } => self.ldcr(float),
+            Shape::Stcr { float } => self.stcr(float),
+            Shape::Xcr { float } => self.xcr(float),
         }
     }
 }

@@ -1,11 +1,12 @@
-ghost use Rattle.std.specs.Prelude.{◌≡◌, ◌<◌, ◌^◌, ◌⊎◌, List, Ok, length, map, IfOk, IfErr};
+ghost use Rattle.std.specs.Prelude.{◌≡◌, ◌<◌, ◌^◌, ◌⊎◌, List, Ok, Err, length, map, IfOk, IfErr};
 ghost use Rattle.std.specs.List.{All};
-ghost use Rattle.m88_parse.specs.Fault.{Gives, out_of_memory, IsTokenFault};
-ghost use Rattle.m88_parse.specs.Places.{IsNear, IsLexemeOf, IsTokenOf};
-ghost use Rattle.m88_parse.specs.Spelling.Faults.{IsUncut};
-ghost use Rattle.m88_parse.specs.Spelling.Tokens.{AreTokensOf};
-ghost use Rattle.m88_parse.specs.Tokens.{piece_of, pieces_of, tokens_of};
-ghost use Rattle.m88_parse.specs.Spelling.Pieces.{PlainToken, plain_token, token_of};
+ghost use Rattle.m88_parse.specs.declared.fault.ParseFault.{ParseFault as FaultValue};
+ghost use Rattle.m88_parse.specs.Fault.{Gives, out_of_memory, IsCutKind};
+ghost use Rattle.m88_parse.specs.Reader.Places.{IsNear, IsLexemeOf};
+ghost use Rattle.m88_parse.specs.Language.Pieces.{IsTokenOf, Piece, PlainToken, plain_token, token_of};
+ghost use Rattle.m88_parse.specs.Language.FirstFaults.{IsTokenFault};
+ghost use Rattle.m88_parse.specs.Language.Tokens.{LineTokens, AreTokensOf};
+ghost use Rattle.m88_parse.specs.Reader.Tokens.{piece_of, pieces_of, tokens_of};
 
 use crate::fault::ParseFault;
 use crate::scan::front;
@@ -22,7 +23,6 @@ pub(crate) fn lexemes<'a>(
     ensures cuts { Gives (λ v. map piece_of v.items) result (pieces_of number line.now) }
     ensures near { IfOk result (λ v. All IsNear v.items) }
     ensures slices { IfOk result (λ v. All (IsLexemeOf line.now) v.items) }
-    ensures kind { IfErr result IsTokenFault }
 {
     let mut out = Vec::new(alloc);
     let mut rest = line;
@@ -70,7 +70,6 @@ fn cut_tokens<'a>(alloc: Global, line: &'a [u8], number: u32) -> Result<Vec<Toke
     requires short { length line.now < 2 ^ 31 }
     ensures cuts { Gives (λ v. map plain_token v.items) result (tokens_of number line.now) }
     ensures slices { IfOk result (λ v. All (IsTokenOf line.now) v.items) }
-    ensures kind { IfErr result IsTokenFault }
 {
     let lexemes = lexemes(alloc, line, number)?;
     let mut out = Vec::new(alloc);
@@ -87,13 +86,17 @@ pub fn tokens<'a>(alloc: Global, line: &'a [u8], number: u32) -> Result<Vec<Toke
     // What is cut are the tokens of the line.
     ensures found { IfOk result (λ v. AreTokensOf number line.now (map plain_token v.items)) }
     // The tokens of a line are cut, unless memory runs out.
-    ensures only { (ts : List PlainToken) → AreTokensOf number line.now ts → Gives (λ v. map plain_token v.items) result (Ok ts) }
+    ensures only { (ts : List PlainToken) → AreTokensOf number line.now ts
+        → Gives (λ v. map plain_token v.items) result (Ok ts) }
     // A fault is the first place that can't be cut, or memory ran out.
-    ensures fault { IfErr result (λ e. (e ≡ out_of_memory) ⊎ IsUncut number line.now e) }
-    // Which tokens or fault it is, as computed.
-    ensures cuts { Gives (λ v. map plain_token v.items) result (tokens_of number line.now) }
+    ensures fault { IfErr result (λ e. (e ≡ out_of_memory) ⊎ IsTokenFault number line.now e) }
+    // A line with such a place gets its fault, unless memory runs out.
+    ensures refused { (e : FaultValue) → IsTokenFault number line.now e
+        → Gives (λ v. map plain_token v.items) result (Err e) }
+    // A line has at most one list of tokens.
+    ensures one_cutting { (ps qs : List Piece) → LineTokens line.now ps → LineTokens line.now qs → ps ≡ qs }
     ensures slices { IfOk result (λ v. All (IsTokenOf line.now) v.items) }
-    ensures kind { IfErr result IsTokenFault }
+    ensures kind { IfErr result (λ e. (e ≡ out_of_memory) ⊎ IsCutKind e.kind) }
 {
     cut_tokens(alloc, line, number)
 }

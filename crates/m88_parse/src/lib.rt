@@ -6,7 +6,6 @@ mod directive;
 mod draft;
 mod fault;
 mod forms;
-mod laws;
 mod lexemes;
 mod line;
 mod lists;
@@ -24,9 +23,9 @@ mod token;
 mod unit;
 
 pub use fault::{ParseFault, ParseKind};
-pub use laws::{one_cutting, one_fault, one_unit, unit_or_fault};
 pub use lexemes::tokens;
 pub use m88_base::{Fixup, Kind, Name};
+pub use shape::{Shape, shape_of};
 pub use source::parse;
 pub use token::{Token, TokenKind};
 pub use unit::{Body, Module, Statement, Unit, Value};

@@ -1,7 +1,7 @@
 ghost use Rattle.std.specs.Prelude.{◌≡◌, ◌+◌, ◌<◌, ◌≤◌, ◌∷◌, not, ◌==◌, length};
 ghost use Rattle.std.specs.List.{prefix_len};
-ghost use Rattle.m88_parse.specs.Source.{lines_of};
-ghost use Rattle.m88_parse.specs.LineEnd.{without_cr};
+ghost use Rattle.m88_parse.specs.Reader.Source.{lines_of};
+ghost use Rattle.m88_parse.specs.Reader.LineEnd.{without_cr};
 
 /// A line without the CR that belongs to its line end.
 #[tactic(auto, using(crate::proofs::Lines::last_cr))]

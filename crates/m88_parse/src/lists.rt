@@ -2,10 +2,10 @@ ghost use Rattle.std.specs.Prelude.{◌≡◌, ◌<◌, false, length, IfOk, OnO
 ghost use Rattle.std.specs.List.{All};
 ghost use Rattle.m88_base.specs.declared.fixup.Kind.TheVariants.{Abs32};
 ghost use Rattle.m88_parse.specs.Fault.{Gives, out_of_memory};
-ghost use Rattle.m88_parse.specs.Grammar.{list_at, word_at, half_word_at, byte_at};
-ghost use Rattle.m88_parse.specs.Slots.{text_at};
-ghost use Rattle.m88_parse.specs.State.{is_next, past};
-ghost use Rattle.m88_parse.specs.Tokens.{text_bytes};
+ghost use Rattle.m88_parse.specs.Reader.Grammar.{list_at, word_item_at, half_item_at, byte_item_at};
+ghost use Rattle.m88_parse.specs.Reader.Slots.{text_at};
+ghost use Rattle.m88_parse.specs.Reader.State.{is_next, past};
+ghost use Rattle.m88_parse.specs.Reader.Tokens.{text_bytes};
 ghost use Rattle.m88_parse.specs.WellFormed.{IsOfKind};
 
 use crate::fault::{ParseFault, ParseKind};
@@ -34,7 +34,7 @@ fn text_bytes(alloc: Global, inside: &[u8]) -> Result<Vec<u8>, ParseFault>
 
 impl<'a> Parser<'a> {
     /// The bytes of a text.
-    #[tactic(auto, unfolding(crate::specs::Slots::text_at))]
+    #[tactic(auto, unfolding(crate::specs::Reader::Slots::text_at))]
     pub fn text(&mut self, alloc: Global) -> Result<Vec<u8>, ParseFault>
         ensures { Gives (λ v. (v.items, self.new)) result (text_at self.old) }
     {
@@ -48,7 +48,7 @@ impl<'a> Parser<'a> {
 
     /// An item of `.half`.
     fn half_word(&mut self) -> Result<u16, ParseFault>
-        ensures value { Gives (λ n. (n, self.new)) result (half_word_at self.old) }
+        ensures value { Gives (λ n. (n, self.new)) result (half_item_at self.old) }
         ensures shorter { OnOk result (length self.new.rest < length self.old.rest) }
     {
         Ok((self.whole(0x8000, 0xFFFF)? % 0x10000) as u16)
@@ -56,7 +56,7 @@ impl<'a> Parser<'a> {
 
     /// An item of `.byte`.
     fn byte(&mut self) -> Result<u8, ParseFault>
-        ensures value { Gives (λ n. (n, self.new)) result (byte_at self.old) }
+        ensures value { Gives (λ n. (n, self.new)) result (byte_item_at self.old) }
         ensures shorter { OnOk result (length self.new.rest < length self.old.rest) }
     {
         Ok((self.whole(0x80, 0xFF)? % 0x100) as u8)
@@ -64,7 +64,7 @@ impl<'a> Parser<'a> {
 
     /// The items of `.word`.
     pub fn words_list(&mut self, alloc: Global) -> Result<Vec<Value>, ParseFault>
-        ensures value { Gives (λ v. (v.items, self.new)) result (list_at word_at self.old) }
+        ensures value { Gives (λ v. (v.items, self.new)) result (list_at word_item_at self.old) }
         ensures kind { IfOk result (λ v. All (IsOfKind Abs32) v.items) }
     {
         let mut out = Vec::new(alloc);
@@ -79,7 +79,7 @@ impl<'a> Parser<'a> {
 
     /// The items of `.half`.
     pub fn half_words(&mut self, alloc: Global) -> Result<Vec<u16>, ParseFault>
-        ensures { Gives (λ v. (v.items, self.new)) result (list_at half_word_at self.old) }
+        ensures { Gives (λ v. (v.items, self.new)) result (list_at half_item_at self.old) }
     {
         let mut out = Vec::new(alloc);
         let mut more = true;
@@ -93,7 +93,7 @@ impl<'a> Parser<'a> {
 
     /// The items of `.byte`.
     pub fn bytes(&mut self, alloc: Global) -> Result<Vec<u8>, ParseFault>
-        ensures { Gives (λ v. (v.items, self.new)) result (list_at byte_at self.old) }
+        ensures { Gives (λ v. (v.items, self.new)) result (list_at byte_item_at self.old) }
     {
         let mut out = Vec::new(alloc);
         let mut more = true;

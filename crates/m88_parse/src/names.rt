@@ -1,6 +1,6 @@
 ghost use Rattle.std.specs.Prelude.{◌≡◌, ◌≤◌, ◌<◌, IfSome, SomeIff, true};
-ghost use Rattle.m88_parse.specs.Names.{number_up_to, register_of, control_of, float_control_of, control_in, is_here, is_module, is_name, is_symbol};
-ghost use Rattle.m88_parse.specs.Spelling.Words.{bit_of, condition_of, half_of};
+ghost use Rattle.m88_parse.specs.Reader.Names.{number_up_to, register_of, control_of, float_control_of, control_in, is_here, is_module, is_name, is_symbol};
+ghost use Rattle.m88_parse.specs.Language.Words.{bit_named, condition_named, half_named};
 ghost use Rattle.m88_parse.specs.WellFormed.{IsHalf};
 
 use crate::scan::{is_decimal, value_of};
@@ -21,7 +21,7 @@ fn number_up_to(most: u32, digits: &[u8]) -> Option<u32>
 }
 
 /// The number of a general register.
-#[tactic(auto, unfolding(crate::specs::Names::register_of))]
+#[tactic(auto, unfolding(crate::specs::Reader::Names::register_of))]
 pub(crate) fn register_of(name: &[u8]) -> Option<u32>
     ensures value { result ≡ register_of name.now }
     ensures bound { IfSome result (λ n. n < 32) }
@@ -32,7 +32,7 @@ pub(crate) fn register_of(name: &[u8]) -> Option<u32>
     }
 }
 
-#[tactic(auto, unfolding(crate::specs::Names::control_of))]
+#[tactic(auto, unfolding(crate::specs::Reader::Names::control_of))]
 fn control_of(name: &[u8]) -> Option<u32>
     ensures value { result ≡ control_of name.now }
     ensures bound { IfSome result (λ n. n < 64) }
@@ -43,7 +43,7 @@ fn control_of(name: &[u8]) -> Option<u32>
     }
 }
 
-#[tactic(auto, unfolding(crate::specs::Names::float_control_of))]
+#[tactic(auto, unfolding(crate::specs::Reader::Names::float_control_of))]
 fn float_control_of(name: &[u8]) -> Option<u32>
     ensures value { result ≡ float_control_of name.now }
     ensures bound { IfSome result (λ n. n < 64) }
@@ -67,9 +67,9 @@ pub(crate) fn control_in(float: bool, name: &[u8]) -> Option<u32>
 }
 
 /// The bit of a comparison, by its name.
-#[tactic(auto, unfolding(crate::specs::Spelling::Words::bit_of))]
-pub(crate) fn bit_of(name: &[u8]) -> Option<u32>
-    ensures value { result ≡ bit_of name.now }
+#[tactic(auto, unfolding(crate::specs::Language::Words::bit_named))]
+pub(crate) fn bit_named(name: &[u8]) -> Option<u32>
+    ensures value { result ≡ bit_named name.now }
     ensures bound { IfSome result (λ n. n < 32) }
 {
     match name {
@@ -88,9 +88,9 @@ pub(crate) fn bit_of(name: &[u8]) -> Option<u32>
 }
 
 /// The mask of a condition, by its name.
-#[tactic(auto, unfolding(crate::specs::Spelling::Words::condition_of))]
-pub(crate) fn condition_of(name: &[u8]) -> Option<u32>
-    ensures value { result ≡ condition_of name.now }
+#[tactic(auto, unfolding(crate::specs::Language::Words::condition_named))]
+pub(crate) fn condition_named(name: &[u8]) -> Option<u32>
+    ensures value { result ≡ condition_named name.now }
     ensures bound { IfSome result (λ n. n < 16) }
 {
     match name {
@@ -105,9 +105,9 @@ pub(crate) fn condition_of(name: &[u8]) -> Option<u32>
 }
 
 /// Which half of a value `hi16` and `lo16` name.
-#[tactic(auto, unfolding(crate::specs::Spelling::Words::half_of))]
-pub(crate) fn half_of(name: &[u8]) -> Option<Kind>
-    ensures value { result ≡ half_of name.now }
+#[tactic(auto, unfolding(crate::specs::Language::Words::half_named))]
+pub(crate) fn half_named(name: &[u8]) -> Option<Kind>
+    ensures value { result ≡ half_named name.now }
     ensures kind { IfSome result IsHalf }
 {
     match name {
@@ -138,7 +138,7 @@ pub(crate) fn name_of(text: &[u8]) -> Option<Name>
 }
 
 /// The label or symbol of a name, or None where it has another meaning.
-#[tactic(auto, unfolding(crate::specs::Names::is_symbol))]
+#[tactic(auto, unfolding(crate::specs::Reader::Names::is_symbol))]
 pub(crate) fn symbol_of(name: &[u8]) -> Option<Name>
     ensures { SomeIff result (is_symbol name.now ≡ true) name.now }
 {

@@ -1,11 +1,12 @@
 ghost use Rattle.std.specs.Prelude.{◌≡◌, ◌≤◌, ◌<◌, ◌^◌, ℕ, pos, length, IfOk, IfSome, OnOk};
 ghost use Rattle.m88_parse.specs.Fault.{Gives};
-ghost use Rattle.m88_parse.specs.Operands.{half, half_immediate, half_on, half_at, immediate_at, register_in, operand_at, bound_at, scaled_at, index_at, user_index_at, width_at, literal_at, field_at, distance_at, words_at, is_here_on, goal_at};
-ghost use Rattle.m88_parse.specs.State.{first, second};
-ghost use Rattle.m88_parse.specs.WellFormed.{IsHalf, IsImmediate, IsOperand, IsIndex, IsField, AreWords, IsGoal};
+ghost use Rattle.m88_parse.specs.Reader.Operands.{half, half_immediate, half_on, half_at, immediate_at, register_in, operand_at, bound_at, scaled_at, index_at, user_index_at, width_at, literal_at, field_at, distance_at, words_at, is_here_on, goal_at};
+ghost use Rattle.m88_parse.specs.Reader.State.{first, second};
+ghost use Rattle.m88_parse.specs.WellFormed.{IsHalf};
+ghost use Rattle.m88_parse.specs.Reader.Kept.{IsFormedImmediate, IsFormedOperand, IsFormedIndex, IsFormedField, AreWords, IsFormedGoal};
 
 use crate::fault::{ParseFault, ParseKind};
-use crate::names::{half_of, is_here, register_of};
+use crate::names::{half_named, is_here, register_of};
 use crate::operand::{Bound, Field, Goal, Immediate, Index, Operand};
 use crate::parser::Parser;
 use crate::token::What;
@@ -48,16 +49,16 @@ impl<'a> Parser<'a> {
         ensures kind { IfSome result IsHalf }
     {
         match (self.first(), self.second()) {
-            (Some(What::Name(text)), Some(What::Mark(b'('))) => half_of(text),
+            (Some(What::Name(text)), Some(What::Mark(b'('))) => half_named(text),
             _ => None,
         }
     }
 
     /// hi16 or lo16 of a value in parentheses; the next token is the name.
-    #[tactic(auto, unfolding(crate::specs::Operands::half_at))]
+    #[tactic(auto, unfolding(crate::specs::Reader::Operands::half_at))]
     fn half(&mut self, kind: Kind) -> Result<Immediate, ParseFault>
         ensures value { Gives (λ x. (x, self.new)) result (half_at kind self.old) }
-        ensures fixed { IsHalf kind → IfOk result IsImmediate }
+        ensures fixed { IsHalf kind → IfOk result IsFormedImmediate }
     {
         self.skip();
         self.mark(b'(')?;
@@ -67,10 +68,10 @@ impl<'a> Parser<'a> {
     }
 
     /// A number of 16 bits, or half of a value.
-    #[tactic(auto, unfolding(crate::specs::Operands::immediate_at))]
+    #[tactic(auto, unfolding(crate::specs::Reader::Operands::immediate_at))]
     pub fn immediate(&mut self) -> Result<Immediate, ParseFault>
         ensures value { Gives (λ x. (x, self.new)) result (immediate_at self.old) }
-        ensures fixed { IfOk result IsImmediate }
+        ensures fixed { IfOk result IsFormedImmediate }
     {
         if let Some(kind) = self.half_next() {
             return self.half(kind);
@@ -100,10 +101,10 @@ impl<'a> Parser<'a> {
     }
 
     /// A register, a number of 16 bits, or half of a value.
-    #[tactic(auto, unfolding(crate::specs::Operands::operand_at))]
+    #[tactic(auto, unfolding(crate::specs::Reader::Operands::operand_at))]
     pub fn operand(&mut self) -> Result<Operand, ParseFault>
         ensures value { Gives (λ x. (x, self.new)) result (operand_at self.old) }
-        ensures fixed { IfOk result IsOperand }
+        ensures fixed { IfOk result IsFormedOperand }
     {
         if let Some(r) = self.register_next() {
             self.skip();
@@ -113,7 +114,7 @@ impl<'a> Parser<'a> {
     }
 
     /// A register, or a number of 16 bits.
-    #[tactic(auto, unfolding(crate::specs::Operands::bound_at))]
+    #[tactic(auto, unfolding(crate::specs::Reader::Operands::bound_at))]
     pub fn bound(&mut self) -> Result<Bound, ParseFault>
         ensures { Gives (λ x. (x, self.new)) result (bound_at self.old) }
     {
@@ -129,7 +130,7 @@ impl<'a> Parser<'a> {
     }
 
     /// A scaled register, in brackets.
-    #[tactic(auto, unfolding(crate::specs::Operands::scaled_at))]
+    #[tactic(auto, unfolding(crate::specs::Reader::Operands::scaled_at))]
     pub fn scaled(&mut self) -> Result<Reg, ParseFault>
         ensures { Gives (λ r. (r, self.new)) result (scaled_at self.old) }
     {
@@ -140,10 +141,10 @@ impl<'a> Parser<'a> {
     }
 
     /// What stands behind the base register of a memory operand.
-    #[tactic(auto, unfolding(crate::specs::Operands::index_at))]
+    #[tactic(auto, unfolding(crate::specs::Reader::Operands::index_at))]
     pub fn index(&mut self) -> Result<Index, ParseFault>
         ensures value { Gives (λ x. (x, self.new)) result (index_at self.old) }
-        ensures fixed { IfOk result IsIndex }
+        ensures fixed { IfOk result IsFormedIndex }
     {
         if self.is_next(b'[') {
             return Ok(Index::Scaled(self.scaled()?));
@@ -153,7 +154,7 @@ impl<'a> Parser<'a> {
     }
 
     /// The same of a register alone, and whether it is scaled.
-    #[tactic(auto, unfolding(crate::specs::Operands::user_index_at))]
+    #[tactic(auto, unfolding(crate::specs::Reader::Operands::user_index_at))]
     pub fn user_index(&mut self) -> Result<(Reg, bool), ParseFault>
         ensures { Gives (λ x. (x, self.new)) result (user_index_at self.old) }
     {
@@ -165,7 +166,7 @@ impl<'a> Parser<'a> {
     }
 
     /// A width, 0 to `most`; none is 0.
-    #[tactic(auto, unfolding(crate::specs::Operands::width_at))]
+    #[tactic(auto, unfolding(crate::specs::Reader::Operands::width_at))]
     fn width(&mut self, most: u32) -> Result<u32, ParseFault>
         ensures value { Gives (λ n. (n, self.new)) result (width_at most self.old) }
         ensures bound { IfOk result (λ n. n ≤ most) }
@@ -178,11 +179,11 @@ impl<'a> Parser<'a> {
     }
 
     /// A width, 0 to `most`, and an offset.
-    #[tactic(auto, unfolding(crate::specs::Operands::literal_at))]
+    #[tactic(auto, unfolding(crate::specs::Reader::Operands::literal_at))]
     fn literal(&mut self, most: u32) -> Result<Field, ParseFault>
         requires { most ≤ 31 }
         ensures value { Gives (λ x. (x, self.new)) result (literal_at most self.old) }
-        ensures fits { IfOk result (IsField most) }
+        ensures fits { IfOk result (IsFormedField most) }
     {
         let width = self.width(most)? as u8;
         self.mark(b'<')?;
@@ -192,11 +193,11 @@ impl<'a> Parser<'a> {
     }
 
     /// A bit field with a width of 0 to `most`.
-    #[tactic(auto, unfolding(crate::specs::Operands::field_at))]
+    #[tactic(auto, unfolding(crate::specs::Reader::Operands::field_at))]
     pub fn field(&mut self, most: u32) -> Result<Field, ParseFault>
         requires { most ≤ 31 }
         ensures value { Gives (λ x. (x, self.new)) result (field_at most self.old) }
-        ensures fits { IfOk result (IsField most) }
+        ensures fits { IfOk result (IsFormedField most) }
     {
         if let Some(What::Name(_)) = self.first() {
             Ok(Field::Register(self.register()?))
@@ -206,7 +207,7 @@ impl<'a> Parser<'a> {
     }
 
     /// A distance in bytes, as words, `most` at the most.
-    #[tactic(auto, unfolding(crate::specs::Operands::distance_at))]
+    #[tactic(auto, unfolding(crate::specs::Reader::Operands::distance_at))]
     fn distance(&mut self, most: u32) -> Result<u32, ParseFault>
         ensures value { Gives (λ n. (n, self.new)) result (distance_at most self.old) }
         ensures bound { IfOk result (λ n. n ≤ most) }
@@ -222,7 +223,7 @@ impl<'a> Parser<'a> {
     }
 
     /// Words forward or back behind the `.` of a goal, in a sign and the bits below `limit`.
-    #[tactic(auto, unfolding(crate::specs::Operands::words_at))]
+    #[tactic(auto, unfolding(crate::specs::Reader::Operands::words_at))]
     fn words(&mut self, limit: u32) -> Result<i32, ParseFault>
         requires least { 0 < limit }
         requires most { limit ≤ 2 ^ 25 }
@@ -250,12 +251,12 @@ impl<'a> Parser<'a> {
     }
 
     /// Where a branch goes; a distance fits a sign and the bits below `limit`.
-    #[tactic(auto, unfolding(crate::specs::Operands::goal_at))]
+    #[tactic(auto, unfolding(crate::specs::Reader::Operands::goal_at))]
     pub fn goal(&mut self, kind: Kind, limit: u32) -> Result<Goal, ParseFault>
         requires least { 0 < limit }
         requires most { limit ≤ 2 ^ 25 }
         ensures value { Gives (λ x. (x, self.new)) result (goal_at kind limit self.old) }
-        ensures fits { IfOk result (IsGoal kind limit) }
+        ensures fits { IfOk result (IsFormedGoal kind limit) }
     {
         if self.is_here() {
             self.skip();

@@ -1,8 +1,8 @@
 ghost use Rattle.std.specs.Prelude.{◌≡◌, map, length, ◌-◌};
 ghost use Rattle.m88_parse.specs.Fault.{Gives};
-ghost use Rattle.m88_parse.specs.State.{State, first, second, place, past, fault, is_next};
-ghost use Rattle.m88_parse.specs.Slots.{mark_at, end_at};
-ghost use Rattle.m88_parse.specs.Tokens.{piece_of, meaning_in};
+ghost use Rattle.m88_parse.specs.Reader.State.{ReaderState, first, second, place, past, fault, is_next};
+ghost use Rattle.m88_parse.specs.Reader.Slots.{mark_at, end_at};
+ghost use Rattle.m88_parse.specs.Reader.Tokens.{piece_of, token_value_in};
 
 use crate::fault::{ParseFault, ParseKind};
 use crate::token::{Lexeme, What};
@@ -18,7 +18,7 @@ pub(crate) struct Parser<'a> {
 }
 
 impl<'a> Model for Parser<'a> {
-    ghost Value = { State };
+    ghost Value = { ReaderState };
 
     ghost view = { λ p. record { line = p.line; end_col = p.end_col; rest = map piece_of p.rest.now } };
 }
@@ -36,7 +36,7 @@ impl<'a> Parser<'a> {
 
     /// What the next token says.
     pub fn first(&self) -> Option<What<'a>>
-        ensures { meaning_in result ≡ first self.now }
+        ensures { token_value_in result ≡ first self.now }
     {
         match self.rest {
             [lexeme, ..] => Some(lexeme.what),
@@ -46,7 +46,7 @@ impl<'a> Parser<'a> {
 
     /// What the token behind the next one says.
     pub fn second(&self) -> Option<What<'a>>
-        ensures { meaning_in result ≡ second self.now }
+        ensures { token_value_in result ≡ second self.now }
     {
         match self.rest {
             [_, lexeme, ..] => Some(lexeme.what),

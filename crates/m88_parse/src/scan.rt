@@ -2,9 +2,9 @@ ghost use Rattle.std.specs.Prelude.{◌≡◌, ◌+◌, ◌<◌, ◌≤◌, fals
 ghost use Rattle.std.specs.List.{prefix_len};
 ghost use Rattle.std.specs.Char.{digit_value};
 ghost use Rattle.std.specs.Str.Parse.{digits_value};
-ghost use Rattle.m88_parse.specs.Fault.{IsCutKind};
-ghost use Rattle.m88_parse.specs.Tokens.{is_hexadecimal, is_decimal, bounded, numeral, begins_escape, closes, inside_len, holds_escapes, character, cut_of, quoted, word_front, front};
-ghost use Rattle.m88_parse.specs.Spelling.Bytes.{is_blank, is_comment, is_plain, is_word, is_mark, is_escape, escape_value, are_digits};
+ghost use Rattle.m88_parse.specs.Reader.Tokens.{is_hexadecimal, is_decimal, bounded, numeral, begins_escape, closes, inside_len, holds_escapes, character, cut_of, quoted, word_front, front};
+ghost use Rattle.m88_parse.specs.Language.Bytes.{is_blank, is_comment, is_plain, is_mark, is_escape, escape_value, are_digits};
+ghost use Rattle.m88_base.specs.Name.{continues_name};
 
 use crate::fault::ParseKind;
 use crate::token::What;
@@ -44,8 +44,8 @@ fn is_plain(b: u8) -> bool
     matches!(b, b' '..=b'~' | b'\t')
 }
 
-fn is_word(b: u8) -> bool
-    ensures { result ≡ is_word b }
+fn continues_name(b: u8) -> bool
+    ensures { result ≡ continues_name b }
 {
     b.is_ascii_alphanumeric() || matches!(b, b'_' | b'.' | b'$')
 }
@@ -132,7 +132,6 @@ pub(crate) fn value_of(base: u64, digits: &[u8]) -> Result<u32, ParseKind>
     requires least { 0 < base }
     requires most { base ≤ 16 }
     ensures value { result ≡ bounded (digits_value base digits.now) }
-    ensures kind { IfErr result IsCutKind }
 {
     const LIMIT: u64 = 1 << 32;
     let mut value: u64 = 0;
@@ -148,7 +147,6 @@ pub(crate) fn value_of(base: u64, digits: &[u8]) -> Result<u32, ParseKind>
 
 fn numeral(run: &[u8]) -> Result<u32, ParseKind>
     ensures value { result ≡ numeral run.now }
-    ensures kind { IfErr result IsCutKind }
 {
     if is_hexadecimal(run) {
         value_of(16, &run[2..])
@@ -204,18 +202,17 @@ fn plain_len(bytes: &[u8]) -> usize
 }
 
 fn word_len(bytes: &[u8]) -> usize
-    ensures { result ≡ prefix_len is_word bytes.now }
+    ensures { result ≡ prefix_len continues_name bytes.now }
 {
-    bytes.iter().take_while(|b| is_word(**b)).count()
+    bytes.iter().take_while(|b| continues_name(**b)).count()
 }
 
 /// The character or text behind an opening quote.
-#[tactic(auto, unfolding(crate::specs::Tokens::quoted))]
+#[tactic(auto, unfolding(crate::specs::Reader::Tokens::quoted))]
 fn quoted(quote: u8, bytes: &[u8]) -> Result<Cut<'_>, Flaw>
     ensures value { MatchResult result (λ c. quoted quote bytes.now ≡ Ok (cut_of c)) (λ f. quoted quote bytes.now ≡ Err f) }
     ensures bound { IfOk result (λ c. (0 < c.len) × (c.len ≤ length bytes.now + 1)) }
     ensures place { IfErr result (λ f. f.at ≤ length bytes.now) }
-    ensures kind { IfErr result (λ f. IsCutKind f.kind) }
 {
     let len = inside_len(quote, bytes);
     let inside = &bytes[..len];
@@ -249,7 +246,6 @@ fn word(first: u8, run: &[u8]) -> Result<Cut<'_>, Flaw>
     ensures value { MatchResult result (λ c. word_front first run.now ≡ Ok (cut_of c)) (λ f. word_front first run.now ≡ Err f) }
     ensures length { IfOk result (λ c. c.len ≡ length run.now) }
     ensures place { IfErr result (λ f. f.at ≡ 0) }
-    ensures kind { IfErr result (λ f. IsCutKind f.kind) }
 {
     let len = run.len();
     if first.is_ascii_digit() {
@@ -274,13 +270,12 @@ fn word(first: u8, run: &[u8]) -> Result<Cut<'_>, Flaw>
 }
 
 /// The front of the rest of a line: a token, a blank, or a comment to the end.
-#[tactic(auto, unfolding(crate::specs::Tokens::front))]
+#[tactic(auto, unfolding(crate::specs::Reader::Tokens::front))]
 pub(crate) fn front(bytes: &[u8]) -> Result<Cut<'_>, Flaw>
     requires { 0 < length bytes.now }
     ensures value { MatchResult result (λ c. front bytes.now ≡ Ok (cut_of c)) (λ f. front bytes.now ≡ Err f) }
     ensures bound { IfOk result (λ c. (0 < c.len) × (c.len ≤ length bytes.now)) }
     ensures place { IfErr result (λ f. f.at < length bytes.now) }
-    ensures kind { IfErr result (λ f. IsCutKind f.kind) }
 {
     let first = bytes[0];
     if is_comment(first) {
@@ -295,7 +290,7 @@ pub(crate) fn front(bytes: &[u8]) -> Result<Cut<'_>, Flaw>
             at: 0,
             kind: ParseKind::NotAscii,
         })
-    } else if is_word(first) {
+    } else if continues_name(first) {
         word(first, &bytes[..word_len(bytes)])
     } else if is_mark(first) {
         Ok(Cut {

@@ -1,12 +1,12 @@
 ghost use Rattle.std.specs.Prelude.{◌≡◌};
-ghost use Rattle.m88_parse.specs.Shape.{shape_of};
+ghost use Rattle.m88_parse.specs.Language.Shapes.{shape_of};
 
 use m88_isa::{BitOp, ImmOp, LdaSize, MemOp, Mnemonic, RegOp};
 
 /// The operand form of a mnemonic, with what it says of the instruction ("Instruction Set": the
 /// assembler syntax of each instruction).
 #[derive(Clone, Copy)]
-pub(crate) enum Shape {
+pub enum Shape {
     /// rD,rS1 and an immediate or a register.
     Either(ImmOp, RegOp),
     /// rD,rS1 and an immediate.
@@ -40,15 +40,16 @@ pub(crate) enum Shape {
     /// Nothing.
     Return,
     /// rD and a control register.
-    Load { float: bool },
+    Ldcr { float: bool },
     /// rS1 and a control register.
-    Store { float: bool },
+    Stcr { float: bool },
     /// rD,rS1 and a control register.
-    Exchange { float: bool },
+    Xcr { float: bool },
 }
 
-#[tactic(auto, unfolding(crate::specs::Shape::shape_of))]
-pub(crate) fn shape_of(mnemonic: Mnemonic) -> Shape
+/// The operand form of a mnemonic, in the order of the word table.
+#[tactic(auto, unfolding(crate::specs::Language::Shapes::shape_of))]
+pub fn shape_of(mnemonic: Mnemonic) -> Shape
     ensures { result ≡ shape_of mnemonic }
 {
     match mnemonic {
@@ -173,11 +174,11 @@ pub(crate) fn shape_of(mnemonic: Mnemonic) -> Shape
         Mnemonic::Tcnd => Shape::TrapCond,
         Mnemonic::Tbnd => Shape::Bounds,
         Mnemonic::Rte => Shape::Return,
-        Mnemonic::Ldcr => Shape::Load { float: false },
-        Mnemonic::Stcr => Shape::Store { float: false },
-        Mnemonic::Xcr => Shape::Exchange { float: false },
-        Mnemonic::Fldcr => Shape::Load { float: true },
-        Mnemonic::Fstcr => Shape::Store { float: true },
-        Mnemonic::Fxcr => Shape::Exchange { float: true },
+        Mnemonic::Ldcr => Shape::Ldcr { float: false },
+        Mnemonic::Stcr => Shape::Stcr { float: false },
+        Mnemonic::Xcr => Shape::Xcr { float: false },
+        Mnemonic::Fldcr => Shape::Ldcr { float: true },
+        Mnemonic::Fstcr => Shape::Stcr { float: true },
+        Mnemonic::Fxcr => Shape::Xcr { float: true },
     }
 }

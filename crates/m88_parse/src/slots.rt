@@ -1,10 +1,10 @@
 ghost use Rattle.std.specs.Prelude.{◌≡◌, ◌≤◌, ◌<◌, ◌==◌, ◌||◌, length, IfOk, OnOk};
 ghost use Rattle.m88_parse.specs.Fault.{Gives};
-ghost use Rattle.m88_parse.specs.Slots.{number_at, negated, whole_at, register_at, control_at, bit_at, mask_at, symbol_at, addend_at, fixup_at, value_at, any_name_at, alignment_at};
+ghost use Rattle.m88_parse.specs.Reader.Slots.{unsigned_at, negated, signed_at, register_at, control_at, bit_at, mask_at, symbol_at, addend_at, fixup_at, value_at, any_name_at, alignment_at};
 ghost use Rattle.m88_parse.specs.WellFormed.{IsOfKind, IsAlignment};
 
 use crate::fault::{ParseFault, ParseKind};
-use crate::names::{bit_of, condition_of, control_in, name_of, register_of, symbol_of};
+use crate::names::{bit_named, condition_named, control_in, name_of, register_of, symbol_of};
 use crate::parser::Parser;
 use crate::token::What;
 use crate::unit::Value;
@@ -25,9 +25,9 @@ fn is_alignment(n: u32) -> bool
 
 impl<'a> Parser<'a> {
     /// A number, 0 to `most`.
-    #[tactic(auto, unfolding(crate::specs::Slots::number_at))]
+    #[tactic(auto, unfolding(crate::specs::Reader::Slots::unsigned_at))]
     pub fn number(&mut self, most: u32) -> Result<u32, ParseFault>
-        ensures value { Gives (λ n. (n, self.new)) result (number_at most self.old) }
+        ensures value { Gives (λ n. (n, self.new)) result (unsigned_at most self.old) }
         ensures bound { IfOk result (λ n. n ≤ most) }
         ensures shorter { OnOk result (length self.new.rest < length self.old.rest) }
     {
@@ -42,9 +42,9 @@ impl<'a> Parser<'a> {
     }
 
     /// A number from -`low` to `most`, modulo 2^32.
-    #[tactic(auto, unfolding(crate::specs::Slots::whole_at, crate::specs::Slots::number_at))]
+    #[tactic(auto, unfolding(crate::specs::Reader::Slots::signed_at, crate::specs::Reader::Slots::unsigned_at))]
     pub fn whole(&mut self, low: u32, most: u32) -> Result<u32, ParseFault>
-        ensures value { Gives (λ n. (n, self.new)) result (whole_at low most self.old) }
+        ensures value { Gives (λ n. (n, self.new)) result (signed_at low most self.old) }
         ensures shorter { OnOk result (length self.new.rest < length self.old.rest) }
     {
         if !self.is_next(b'-') {
@@ -63,7 +63,7 @@ impl<'a> Parser<'a> {
     }
 
     /// The number of a general register.
-    #[tactic(auto, unfolding(crate::specs::Slots::register_at))]
+    #[tactic(auto, unfolding(crate::specs::Reader::Slots::register_at))]
     pub fn register(&mut self) -> Result<Reg, ParseFault>
         ensures { Gives (λ r. (r, self.new)) result (register_at self.old) }
     {
@@ -80,7 +80,7 @@ impl<'a> Parser<'a> {
     }
 
     /// The number of a control register, of the floating-point unit where `float`.
-    #[tactic(auto, unfolding(crate::specs::Slots::control_at))]
+    #[tactic(auto, unfolding(crate::specs::Reader::Slots::control_at))]
     pub fn control(&mut self, float: bool) -> Result<u8, ParseFault>
         ensures value { Gives (λ n. (n, self.new)) result (control_at float self.old) }
         ensures bound { IfOk result (λ n. n < 64) }
@@ -98,7 +98,7 @@ impl<'a> Parser<'a> {
     }
 
     /// The number of a bit.
-    #[tactic(auto, unfolding(crate::specs::Slots::bit_at, crate::specs::Slots::number_at))]
+    #[tactic(auto, unfolding(crate::specs::Reader::Slots::bit_at, crate::specs::Reader::Slots::unsigned_at))]
     pub fn bit(&mut self) -> Result<u8, ParseFault>
         ensures value { Gives (λ n. (n, self.new)) result (bit_at self.old) }
         ensures bound { IfOk result (λ n. n < 32) }
@@ -106,7 +106,7 @@ impl<'a> Parser<'a> {
         let Some(What::Name(name)) = self.first() else {
             return Ok(self.number(31)? as u8);
         };
-        match bit_of(name) {
+        match bit_named(name) {
             Some(n) => {
                 self.skip();
                 Ok(n as u8)
@@ -116,7 +116,7 @@ impl<'a> Parser<'a> {
     }
 
     /// The mask of a condition.
-    #[tactic(auto, unfolding(crate::specs::Slots::mask_at, crate::specs::Slots::number_at))]
+    #[tactic(auto, unfolding(crate::specs::Reader::Slots::mask_at, crate::specs::Reader::Slots::unsigned_at))]
     pub fn mask(&mut self) -> Result<u8, ParseFault>
         ensures value { Gives (λ n. (n, self.new)) result (mask_at self.old) }
         ensures bound { IfOk result (λ n. n < 16) }
@@ -124,7 +124,7 @@ impl<'a> Parser<'a> {
         let Some(What::Name(name)) = self.first() else {
             return Ok(self.number(15)? as u8);
         };
-        match condition_of(name) {
+        match condition_named(name) {
             Some(n) => {
                 self.skip();
                 Ok(n as u8)
@@ -134,7 +134,7 @@ impl<'a> Parser<'a> {
     }
 
     /// The name of a symbol with its column.
-    #[tactic(auto, unfolding(crate::specs::Slots::symbol_at))]
+    #[tactic(auto, unfolding(crate::specs::Reader::Slots::symbol_at))]
     pub fn symbol(&mut self) -> Result<(Name, u32), ParseFault>
         ensures value { Gives (λ x. (x, self.new)) result (symbol_at self.old) }
         ensures shorter { OnOk result (length self.new.rest < length self.old.rest) }
@@ -153,7 +153,7 @@ impl<'a> Parser<'a> {
     }
 
     /// Any name.
-    #[tactic(auto, unfolding(crate::specs::Slots::any_name_at))]
+    #[tactic(auto, unfolding(crate::specs::Reader::Slots::any_name_at))]
     pub fn any_name(&mut self) -> Result<Name, ParseFault>
         ensures { Gives (λ x. (x, self.new)) result (any_name_at self.old) }
     {
@@ -170,7 +170,7 @@ impl<'a> Parser<'a> {
     }
 
     /// What is added to a symbol, modulo 2^32.
-    #[tactic(auto, unfolding(crate::specs::Slots::addend_at))]
+    #[tactic(auto, unfolding(crate::specs::Reader::Slots::addend_at))]
     fn addend(&mut self) -> Result<u32, ParseFault>
         ensures value { Gives (λ n. (n, self.new)) result (addend_at self.old) }
         ensures not_longer { OnOk result (length self.new.rest ≤ length self.old.rest) }
@@ -188,7 +188,7 @@ impl<'a> Parser<'a> {
     }
 
     /// A symbol with what is added to it.
-    #[tactic(auto, unfolding(crate::specs::Slots::fixup_at))]
+    #[tactic(auto, unfolding(crate::specs::Reader::Slots::fixup_at))]
     pub fn fixup(&mut self, kind: Kind) -> Result<Fixup, ParseFault>
         ensures value { Gives (λ x. (x, self.new)) result (fixup_at kind self.old) }
         ensures kind { IfOk result (λ x. x.kind ≡ kind) }
@@ -205,7 +205,7 @@ impl<'a> Parser<'a> {
     }
 
     /// A number of 32 bits, or a symbol with what is added to it.
-    #[tactic(auto, unfolding(crate::specs::Slots::value_at))]
+    #[tactic(auto, unfolding(crate::specs::Reader::Slots::value_at))]
     pub fn value(&mut self, kind: Kind) -> Result<Value, ParseFault>
         ensures value { Gives (λ x. (x, self.new)) result (value_at kind self.old) }
         ensures kind { IfOk result (IsOfKind kind) }
@@ -219,7 +219,7 @@ impl<'a> Parser<'a> {
     }
 
     /// An alignment: 1, 2, 4 or 8.
-    #[tactic(auto, unfolding(crate::specs::Slots::alignment_at))]
+    #[tactic(auto, unfolding(crate::specs::Reader::Slots::alignment_at))]
     pub fn alignment(&mut self) -> Result<u32, ParseFault>
         ensures value { Gives (λ n. (n, self.new)) result (alignment_at self.old) }
         ensures aligns { IfOk result IsAlignment }

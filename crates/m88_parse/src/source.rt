@@ -1,15 +1,16 @@
-ghost use Rattle.std.specs.Prelude.{◌≡◌, ◌<◌, ◌≤◌, ◌+◌, ◌^◌, ◌⊎◌, Ok, length, map, IfOk, IfErr, IfSome, MatchResult};
+ghost use Rattle.std.specs.Prelude.{◌≡◌, ◌<◌, ◌≤◌, ◌+◌, ◌^◌, ◌⊎◌, Ok, Err, length, map, IfOk, IfErr, IfSome, MatchResult};
 ghost use Rattle.std.specs.List.{All};
 ghost use Rattle.m88_parse.specs.declared.unit.Unit.{Unit as SourceUnit};
-ghost use Rattle.m88_parse.specs.Spelling.Faults.{IsFirstFault};
-ghost use Rattle.m88_parse.specs.Spelling.Units.{IsUnit};
-ghost use Rattle.m88_parse.specs.Fault.{Gives, out_of_memory};
-ghost use Rattle.m88_parse.specs.Places.{IsNear};
-ghost use Rattle.m88_parse.specs.Source.{end_of, row_of, unit_of};
-ghost use Rattle.m88_parse.specs.SourceFault.{IsSourceFault};
-ghost use Rattle.m88_parse.specs.Tokens.{piece_of};
-ghost use Rattle.m88_parse.specs.WellFormed.{IsRow, IsWellFormed};
-ghost use Rattle.m88_parse.specs.Drafts.{count_in, AreFormed, LeadsOn, EndsWith};
+ghost use Rattle.m88_parse.specs.Language.FirstFaults.{IsFirstFault, HasOneAnswer};
+ghost use Rattle.m88_parse.specs.Language.Units.{IsUnit};
+ghost use Rattle.m88_parse.specs.declared.fault.ParseFault.{ParseFault as FaultValue};
+ghost use Rattle.m88_parse.specs.Fault.{Gives, out_of_memory, IsSourceKind};
+ghost use Rattle.m88_parse.specs.Reader.Places.{IsNear};
+ghost use Rattle.m88_parse.specs.Reader.Source.{end_of, row_of, unit_of};
+ghost use Rattle.m88_parse.specs.Reader.Tokens.{piece_of};
+ghost use Rattle.m88_parse.specs.WellFormed.{IsWellFormed};
+ghost use Rattle.m88_parse.specs.Reader.Kept.{IsFormedRow};
+ghost use Rattle.m88_parse.specs.Reader.Drafts.{count_in, AreFormed, LeadsOn, EndsWith};
 
 use crate::draft::Draft;
 use crate::fault::ParseFault;
@@ -33,11 +34,11 @@ fn end_of(lexemes: &[Lexeme<'_>]) -> u32
 }
 
 /// What a line says, if it has a token.
-#[tactic(auto, unfolding(crate::specs::Source::row_of))]
+#[tactic(auto, unfolding(crate::specs::Reader::Source::row_of))]
 fn row_of(alloc: Global, line: &[u8], number: u32) -> Result<Option<Row>, ParseFault>
     requires { length line.now < 2 ^ 31 }
     ensures value { Gives (λ r. r) result (row_of number line.now) }
-    ensures row { IfOk result (λ r. IfSome r IsRow) }
+    ensures row { IfOk result (λ r. IfSome r IsFormedRow) }
 {
     let lexemes = lexemes(alloc, line, number)?;
     if lexemes.is_empty() {
@@ -94,12 +95,15 @@ pub fn parse(alloc: Global, source: &[u8]) -> Result<Unit, ParseFault>
     ensures unit { IfOk result (λ u. IsUnit source.now u) }
     // The unit of a source is read, unless memory runs out.
     ensures only { (u : SourceUnit) → IsUnit source.now u → Gives (λ v. v) result (Ok u) }
-    // A fault is the first one of a source that has no unit, or memory ran out.
+    // A fault is the first one of the source, or memory ran out.
     ensures fault { IfErr result (λ e. (e ≡ out_of_memory) ⊎ IsFirstFault source.now e) }
-    // Which unit or fault it is, as it is computed.
-    ensures value { Gives (λ u. u) result (unit_of source.now) }
+    // The first fault of a source is answered, unless memory runs out.
+    ensures refused { (e : FaultValue) → IsFirstFault source.now e → Gives (λ v. v) result (Err e) }
+    // The source has a unit or a first fault, never both, and one at most.
+    ensures one_answer { HasOneAnswer source.now }
+    // What is read can be laid out.
     ensures formed { IfOk result IsWellFormed }
-    ensures kind { IfErr result IsSourceFault }
+    ensures kind { IfErr result (λ e. (e ≡ out_of_memory) ⊎ IsSourceKind e.kind) }
 {
     read_unit(alloc, source)
 }

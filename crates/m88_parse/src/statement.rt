@@ -1,10 +1,11 @@
 ghost use Rattle.std.specs.Prelude.{◌≡◌, IfOk};
 ghost use Rattle.m88_parse.specs.declared.directive.Directive.TheVariants.{Set};
 ghost use Rattle.m88_parse.specs.Fault.{Gives};
-ghost use Rattle.m88_parse.specs.Grammar.{read, ends, directive_form};
-ghost use Rattle.m88_parse.specs.Source.{operation_at, labelled_at, head_at, is_label_on, is_head_on, row_at};
-ghost use Rattle.m88_parse.specs.State.{first, second};
-ghost use Rattle.m88_parse.specs.WellFormed.{IsBody, IsRow};
+ghost use Rattle.m88_parse.specs.Reader.Grammar.{read, ends, directive_form};
+ghost use Rattle.m88_parse.specs.Reader.Source.{operation_at, labelled_at, head_at, is_label_on, is_head_on, row_at};
+ghost use Rattle.m88_parse.specs.Reader.State.{first, second};
+ghost use Rattle.m88_parse.specs.WellFormed.{IsFormedBody};
+ghost use Rattle.m88_parse.specs.Reader.Kept.{IsFormedRow};
 
 use crate::directive::{Directive, directive_of};
 use crate::fault::{ParseFault, ParseKind};
@@ -23,21 +24,21 @@ const ANY: u32 = u32::MAX;
 
 impl<'a> Parser<'a> {
     /// What was read, where the line ends here.
-    #[tactic(auto, unfolding(crate::specs::Grammar::read))]
+    #[tactic(auto, unfolding(crate::specs::Reader::Grammar::read))]
     fn close(&mut self, body: Body) -> Result<Body, ParseFault>
-        requires { IsBody body }
+        requires { IsFormedBody body }
         ensures value { Gives (λ b. b) result (read (ends body) self.old) }
-        ensures body { IfOk result IsBody }
+        ensures body { IfOk result IsFormedBody }
     {
         self.end()?;
         Ok(body)
     }
 
     /// .set: a symbol and its number.
-    #[tactic(auto, unfolding(crate::specs::Grammar::read, crate::specs::Grammar::directive_form))]
+    #[tactic(auto, unfolding(crate::specs::Reader::Grammar::read, crate::specs::Reader::Grammar::directive_form))]
     fn set(&mut self) -> Result<Body, ParseFault>
         ensures value { Gives (λ b. b) result (read (directive_form Set) self.old) }
-        ensures body { IfOk result IsBody }
+        ensures body { IfOk result IsFormedBody }
     {
         let (name, col) = self.symbol()?;
         self.mark(b',')?;
@@ -47,10 +48,10 @@ impl<'a> Parser<'a> {
     }
 
     /// The operands of a directive, to the end of the line.
-    #[tactic(auto, unfolding(crate::specs::Grammar::read, crate::specs::Grammar::directive_form))]
+    #[tactic(auto, unfolding(crate::specs::Reader::Grammar::read, crate::specs::Reader::Grammar::directive_form))]
     fn directive(&mut self, alloc: Global, directive: Directive) -> Result<Body, ParseFault>
         ensures value { Gives (λ b. b) result (read (directive_form directive) self.old) }
-        ensures body { IfOk result IsBody }
+        ensures body { IfOk result IsFormedBody }
     {
         match directive {
             Directive::Text => self.close(Body::Text),
@@ -92,10 +93,10 @@ impl<'a> Parser<'a> {
     }
 
     /// An operation and its operands, to the end of the line.
-    #[tactic(auto, unfolding(crate::specs::Source::operation_at))]
+    #[tactic(auto, unfolding(crate::specs::Reader::Source::operation_at))]
     fn operation(&mut self, alloc: Global) -> Result<Body, ParseFault>
         ensures value { Gives (λ b. b) result (operation_at self.old) }
-        ensures body { IfOk result IsBody }
+        ensures body { IfOk result IsFormedBody }
     {
         let Some(What::Name(name)) = self.first() else {
             return Err(self.fault(ParseKind::Syntax));
@@ -117,10 +118,10 @@ impl<'a> Parser<'a> {
     }
 
     /// A label, and the operation behind it if there is one.
-    #[tactic(auto, unfolding(crate::specs::Source::labelled_at))]
+    #[tactic(auto, unfolding(crate::specs::Reader::Source::labelled_at))]
     fn labelled(&mut self, alloc: Global) -> Result<Row, ParseFault>
         ensures value { Gives (λ r. r) result (labelled_at self.old) }
-        ensures row { IfOk result IsRow }
+        ensures row { IfOk result IsFormedRow }
     {
         let label = self.symbol()?;
         self.skip();
@@ -145,10 +146,10 @@ impl<'a> Parser<'a> {
     }
 
     /// The head of a module, from its `.module` on.
-    #[tactic(auto, unfolding(crate::specs::Source::head_at))]
+    #[tactic(auto, unfolding(crate::specs::Reader::Source::head_at))]
     fn head(&mut self) -> Result<Row, ParseFault>
         ensures value { Gives (λ r. r) result (head_at self.old) }
-        ensures row { IfOk result IsRow }
+        ensures row { IfOk result IsFormedRow }
     {
         let line = self.line();
         self.skip();
@@ -176,10 +177,10 @@ impl<'a> Parser<'a> {
     }
 
     /// What a line with a token says.
-    #[tactic(auto, unfolding(crate::specs::Source::row_at))]
+    #[tactic(auto, unfolding(crate::specs::Reader::Source::row_at))]
     pub fn row(&mut self, alloc: Global) -> Result<Row, ParseFault>
         ensures value { Gives (λ r. r) result (row_at self.old) }
-        ensures row { IfOk result IsRow }
+        ensures row { IfOk result IsFormedRow }
     {
         if self.is_label() {
             return self.labelled(alloc);

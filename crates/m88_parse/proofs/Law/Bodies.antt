@@ -12,17 +12,17 @@ use Rattle.m88_parse.specs.declared.unit.Body.TheVariants as body
 use Rattle.m88_parse.specs.declared.unit.Value.{Value}
 use Rattle.m88_parse.specs.declared.directive.Directive.{Directive}
 use Rattle.m88_parse.specs.declared.directive.Directive.TheVariants as directive
-use Rattle.m88_parse.specs.Names.{is_module}
-use Rattle.m88_parse.specs.Spelling.Pieces.{Meaning, a_name, a_number, a_text, a_mark, Piece}
-use Rattle.m88_parse.specs.State.{State, ◌>>=◌}
-use Rattle.m88_parse.specs.Slots.{mark_at, number_at, whole_at, symbol_at, text_at, alignment_at}
-use Rattle.m88_parse.specs.Shape.{shape_of}
-use Rattle.m88_parse.specs.Directive.{directive_text, all_directives, directive_of}
-use Rattle.m88_parse.specs.Grammar.{ends, number_then, read, list_at, word_at, half_word_at, byte_at, form_of, directive_form}
-use Rattle.m88_parse.specs.Source.{instruction_form, form_in, by_form, operation_on, operation_at}
-use Rattle.m88_parse.specs.Spelling.Names.{IsComma, IsNumber, IsNamed, IsSymbol}
-use Rattle.m88_parse.specs.Spelling.Operands.{IsSigned, IsValue}
-use Rattle.m88_parse.specs.Spelling.Statements.{AreParted, IsBody, text, data_section, at, word, half, byte, ascii, zeros, align, global, set, code}
+use Rattle.m88_parse.specs.Reader.Names.{is_module}
+use Rattle.m88_parse.specs.Language.Pieces.{TokenValue, a_name, a_number, a_text, a_mark, Piece}
+use Rattle.m88_parse.specs.Reader.State.{ReaderState, ◌>>=◌}
+use Rattle.m88_parse.specs.Reader.Slots.{mark_at, unsigned_at, signed_at, symbol_at, text_at, alignment_at}
+use Rattle.m88_parse.specs.Language.Shapes.{shape_of}
+use Rattle.m88_parse.specs.Reader.Directives.{directive_text, all_directives, directive_of}
+use Rattle.m88_parse.specs.Reader.Grammar.{ends, unsigned_then, read, list_at, word_item_at, half_item_at, byte_item_at, form_of, directive_form}
+use Rattle.m88_parse.specs.Reader.Source.{instruction_form, form_in, by_form, operation_on, operation_at}
+use Rattle.m88_parse.specs.Language.Names.{IsComma, IsNumber, IsNamed, IsSymbol}
+use Rattle.m88_parse.specs.Language.Operands.{IsSigned, IsValue}
+use Rattle.m88_parse.specs.Language.Statements.{AreParted, IsBody, text, data_section, at, word, half, byte, ascii, zeros, align, global, set, code}
 use Rattle.m88_parse.proofs.Law.Steps.{chosen, take_else}
 use Rattle.m88_parse.proofs.Law.Names.{some_same}
 use Rattle.m88_parse.proofs.Law.Slots.{st, bind_ok, bind_to, mark_read, mark_again, IsUpTo, number_read, number_slot_again, IsSymbolAt, symbol_read, symbol_again, IsText, text_read, text_again, IsPower, alignment_read, alignment_again}
@@ -69,52 +69,52 @@ no_module_mnemonic _ = refl
 
 -- directives: what is read is related
 
-number_last : (most line e : ℕ) (ps : List Piece) (made : ℕ → Body) (c : Body) → read (number_then most (λ n. ends (made n))) (st line e ps) ≡ Ok c → (n : ℕ) × (q : Piece) × (ps ≡ q ∷ []) × IsNumber n q × (made n ≡ c) × (n ≤ most)
+number_last : (most line e : ℕ) (ps : List Piece) (made : ℕ → Body) (c : Body) → read (unsigned_then most (λ n. ends (made n))) (st line e ps) ≡ Ok c → (n : ℕ) × (q : Piece) × (ps ≡ q ∷ []) × IsNumber n q × (made n ≡ c) × (n ≤ most)
 unfolding read
 number_last most line e ps made c h =
-    let b = bind_ok (number_at most (st line e ps)) (λ (x : ℕ × State). read (ends (made x.0)) x.1) c h in
+    let b = bind_ok (unsigned_at most (st line e ps)) (λ (x : ℕ × ReaderState). read (ends (made x.0)) x.1) c h in
     let l = one_last ℕ (IsUpTo most) line e ps b.0 (made b.0.0) c (number_read most line e ps b.0 b.1) b.2 in
     (b.0.0, l.0, l.1, l.2.0, l.3, l.2.1)
 
 words_last : (line e : ℕ) (ps : List Piece) (c : Body) → read (directive_form directive.Word) (st line e ps) ≡ Ok c → (vs : List Value) × AreParted (IsValue Abs32) ps vs × (body.Word vs ≡ c)
 unfolding read directive_form
 words_last line e ps c h =
-    let b = bind_ok (list_at word_at (st line e ps)) (λ (x : List Value × State). read (ends (body.Word x.0)) x.1) c h in
-    let l = several_last (List Value) (AreParted (IsValue Abs32)) line e ps b.0 (body.Word b.0.0) c (list_read Value (IsValue Abs32) word_at word_reads line e ps b.0 b.1) b.2 in
+    let b = bind_ok (list_at word_item_at (st line e ps)) (λ (x : List Value × ReaderState). read (ends (body.Word x.0)) x.1) c h in
+    let l = several_last (List Value) (AreParted (IsValue Abs32)) line e ps b.0 (body.Word b.0.0) c (list_read Value (IsValue Abs32) word_item_at word_reads line e ps b.0 b.1) b.2 in
     (b.0.0, l.0, l.1)
 
 halves_last : (line e : ℕ) (ps : List Piece) (c : Body) → read (directive_form directive.Half) (st line e ps) ≡ Ok c → (ns : List ℕ) × AreParted (IsSigned 65536) ps ns × (body.Half ns ≡ c)
 unfolding read directive_form
 halves_last line e ps c h =
-    let b = bind_ok (list_at half_word_at (st line e ps)) (λ (x : List ℕ × State). read (ends (body.Half x.0)) x.1) c h in
-    let l = several_last (List ℕ) (AreParted (IsSigned 65536)) line e ps b.0 (body.Half b.0.0) c (list_read ℕ (IsSigned 65536) half_word_at half_reads line e ps b.0 b.1) b.2 in
+    let b = bind_ok (list_at half_item_at (st line e ps)) (λ (x : List ℕ × ReaderState). read (ends (body.Half x.0)) x.1) c h in
+    let l = several_last (List ℕ) (AreParted (IsSigned 65536)) line e ps b.0 (body.Half b.0.0) c (list_read ℕ (IsSigned 65536) half_item_at half_reads line e ps b.0 b.1) b.2 in
     (b.0.0, l.0, l.1)
 
 bytes_last : (line e : ℕ) (ps : List Piece) (c : Body) → read (directive_form directive.Byte) (st line e ps) ≡ Ok c → (ns : List ℕ) × AreParted (IsSigned 256) ps ns × (body.Byte ns ≡ c)
 unfolding read directive_form
 bytes_last line e ps c h =
-    let b = bind_ok (list_at byte_at (st line e ps)) (λ (x : List ℕ × State). read (ends (body.Byte x.0)) x.1) c h in
-    let l = several_last (List ℕ) (AreParted (IsSigned 256)) line e ps b.0 (body.Byte b.0.0) c (list_read ℕ (IsSigned 256) byte_at byte_reads line e ps b.0 b.1) b.2 in
+    let b = bind_ok (list_at byte_item_at (st line e ps)) (λ (x : List ℕ × ReaderState). read (ends (body.Byte x.0)) x.1) c h in
+    let l = several_last (List ℕ) (AreParted (IsSigned 256)) line e ps b.0 (body.Byte b.0.0) c (list_read ℕ (IsSigned 256) byte_item_at byte_reads line e ps b.0 b.1) b.2 in
     (b.0.0, l.0, l.1)
 
 text_last : (line e : ℕ) (ps : List Piece) (c : Body) → read (directive_form directive.Ascii) (st line e ps) ≡ Ok c → (bs : List ℕ) × (q : Piece) × (ps ≡ q ∷ []) × IsText bs q × (body.Ascii bs ≡ c)
 unfolding read directive_form
 text_last line e ps c h =
-    let b = bind_ok (text_at (st line e ps)) (λ (x : List ℕ × State). read (ends (body.Ascii x.0)) x.1) c h in
+    let b = bind_ok (text_at (st line e ps)) (λ (x : List ℕ × ReaderState). read (ends (body.Ascii x.0)) x.1) c h in
     let l = one_last (List ℕ) IsText line e ps b.0 (body.Ascii b.0.0) c (text_read line e ps b.0 b.1) b.2 in
     (b.0.0, l.0, l.1, l.2, l.3)
 
 align_last : (line e : ℕ) (ps : List Piece) (c : Body) → read (directive_form directive.Align) (st line e ps) ≡ Ok c → (n : ℕ) × (q : Piece) × (ps ≡ q ∷ []) × IsPower n q × (body.Align n ≡ c)
 unfolding read directive_form
 align_last line e ps c h =
-    let b = bind_ok (alignment_at (st line e ps)) (λ (x : ℕ × State). read (ends (body.Align x.0)) x.1) c h in
+    let b = bind_ok (alignment_at (st line e ps)) (λ (x : ℕ × ReaderState). read (ends (body.Align x.0)) x.1) c h in
     let l = one_last ℕ IsPower line e ps b.0 (body.Align b.0.0) c (alignment_read line e ps b.0 b.1) b.2 in
     (b.0.0, l.0, l.1, l.2, l.3)
 
 global_last : (line e : ℕ) (ps : List Piece) (c : Body) → read (directive_form directive.Global) (st line e ps) ≡ Ok c → (name : List ℕ) × (q : Piece) × (ps ≡ q ∷ []) × IsSymbol name q × (body.Global name ≡ c)
 unfolding read directive_form
 global_last line e ps c h =
-    let b = bind_ok (symbol_at (st line e ps)) (λ (x : (List ℕ × ℕ) × State). read (ends (body.Global x.0.0)) x.1) c h in
+    let b = bind_ok (symbol_at (st line e ps)) (λ (x : (List ℕ × ℕ) × ReaderState). read (ends (body.Global x.0.0)) x.1) c h in
     let l = one_last (List ℕ × ℕ) IsSymbolAt line e ps b.0 (body.Global b.0.0.0) c (symbol_read line e ps b.0 b.1) b.2 in
     (b.0.0.0, l.0, l.1, l.2.0, l.3)
 
@@ -131,18 +131,18 @@ pub record IsSetting (ps : List Piece) (c : Body) : Type 0 where
   pub number : IsSigned 4294967296 rest value
   pub body_is : body.Set name symbol.col value ≡ c
 
-abbrev set_value : List ℕ → ℕ → ℕ × State → Result Body ParseFault
+abbrev set_value : List ℕ → ℕ → ℕ × ReaderState → Result Body ParseFault
 set_value name col n = read (ends (body.Set name col n.0)) n.1
 
 set_last : (line e : ℕ) (ps : List Piece) (c : Body) → read (directive_form directive.Set) (st line e ps) ≡ Ok c → IsSetting ps c
 unfolding read directive_form
 set_last line e ps c h =
-    let b = bind_ok (symbol_at (st line e ps)) (λ (x : (List ℕ × ℕ) × State). mark_at 44 x.1 >>= λ t. whole_at 2147483648 4294967295 t >>= set_value x.0.0 x.0.1) c h in
+    let b = bind_ok (symbol_at (st line e ps)) (λ (x : (List ℕ × ℕ) × ReaderState). mark_at 44 x.1 >>= λ t. signed_at 2147483648 4294967295 t >>= set_value x.0.0 x.0.1) c h in
     let s = symbol_read line e ps b.0 b.1 in
-    let d = bind_ok (mark_at 44 b.0.1) (λ (t : State). whole_at 2147483648 4294967295 t >>= set_value b.0.0.0 b.0.0.1) c b.2 in
+    let d = bind_ok (mark_at 44 b.0.1) (λ (t : ReaderState). signed_at 2147483648 4294967295 t >>= set_value b.0.0.0 b.0.0.1) c b.2 in
     let m = mark_read 44 line e s.rest d.0 (ap (mark_at 44) (sym s.after) ∙ d.1) in
-    let v = bind_ok (whole_at 2147483648 4294967295 d.0) (set_value b.0.0.0 b.0.0.1) c d.2 in
-    let w = whole_read 2147483648 4294967295 line e m.rest v.0 (ap (whole_at 2147483648 4294967295) (sym m.after) ∙ v.1) in
+    let v = bind_ok (signed_at 2147483648 4294967295 d.0) (set_value b.0.0.0 b.0.0.1) c d.2 in
+    let w = whole_read 2147483648 4294967295 line e m.rest v.0 (ap (signed_at 2147483648 4294967295) (sym m.after) ∙ v.1) in
     let l = several_last ℕ (IsWhole 2147483648 4294967295) line e m.rest v.0 (body.Set b.0.0.0 b.0.0.1 v.0.0) c w v.2 in
     record {
       name = b.0.0.0;
@@ -183,7 +183,7 @@ form_read line e p ps name (Some m) d c n f g h = instruction_read m line e p ps
 form_read line e p ps name None (Some d) c n f g h = directive_read d line e p ps c (n ∙ ap a_name (directive_is name d g)) h
 form_read line e p ps name None None c n f g h = absurd cc
 
-operation_by : (line e : ℕ) (p : Piece) (ps : List Piece) (m : Meaning) (c : Body) → p.says ≡ m → operation_on (st line e (p ∷ ps)) (Some m) ≡ Ok c → IsBody (p ∷ ps) c
+operation_by : (line e : ℕ) (p : Piece) (ps : List Piece) (m : TokenValue) (c : Body) → p.says ≡ m → operation_on (st line e (p ∷ ps)) (Some m) ≡ Ok c → IsBody (p ∷ ps) c
 operation_by line e p ps (a_name name) c n h =
     elim (chosen (is_module name) _ _ _ h) [
       | inl j ↦ absurd cc
@@ -199,53 +199,53 @@ operation_read line e p ps c h = operation_by line e p ps p.says c refl h
 
 -- what is related is read
 
-number_form_again : (most line e n : ℕ) (q : Piece) (made : ℕ → Body) → IsNumber n q → n ≤ most → read (number_then most (λ n. ends (made n))) (st line e (q ∷ [])) ≡ Ok (made n)
+number_form_again : (most line e n : ℕ) (q : Piece) (made : ℕ → Body) → IsNumber n q → n ≤ most → read (unsigned_then most (λ n. ends (made n))) (st line e (q ∷ [])) ≡ Ok (made n)
 unfolding read
 number_form_again most line e n q made h l =
-    bind_to (number_at most (st line e (q ∷ []))) (λ (x : ℕ × State). read (ends (made x.0)) x.1) (n, st line e []) (Ok (made n)) (number_slot_again most line e n q [] h l) (ends_again line e (made n))
+    bind_to (unsigned_at most (st line e (q ∷ []))) (λ (x : ℕ × ReaderState). read (ends (made x.0)) x.1) (n, st line e []) (Ok (made n)) (number_slot_again most line e n q [] h l) (ends_again line e (made n))
 
 words_again : (line e : ℕ) (ps : List Piece) (vs : List Value) → AreParted (IsValue Abs32) ps vs → read (directive_form directive.Word) (st line e ps) ≡ Ok (body.Word vs)
 unfolding read directive_form
 words_again line e ps vs h =
-    bind_to (list_at word_at (st line e ps)) (λ (x : List Value × State). read (ends (body.Word x.0)) x.1) (vs, st line e []) (Ok (body.Word vs)) (list_again Value (IsValue Abs32) word_at word_reads_all line e ps vs h) (ends_again line e (body.Word vs))
+    bind_to (list_at word_item_at (st line e ps)) (λ (x : List Value × ReaderState). read (ends (body.Word x.0)) x.1) (vs, st line e []) (Ok (body.Word vs)) (list_again Value (IsValue Abs32) word_item_at word_reads_all line e ps vs h) (ends_again line e (body.Word vs))
 
 halves_again : (line e : ℕ) (ps : List Piece) (ns : List ℕ) → AreParted (IsSigned 65536) ps ns → read (directive_form directive.Half) (st line e ps) ≡ Ok (body.Half ns)
 unfolding read directive_form
 halves_again line e ps ns h =
-    bind_to (list_at half_word_at (st line e ps)) (λ (x : List ℕ × State). read (ends (body.Half x.0)) x.1) (ns, st line e []) (Ok (body.Half ns)) (list_again ℕ (IsSigned 65536) half_word_at half_reads_all line e ps ns h) (ends_again line e (body.Half ns))
+    bind_to (list_at half_item_at (st line e ps)) (λ (x : List ℕ × ReaderState). read (ends (body.Half x.0)) x.1) (ns, st line e []) (Ok (body.Half ns)) (list_again ℕ (IsSigned 65536) half_item_at half_reads_all line e ps ns h) (ends_again line e (body.Half ns))
 
 bytes_again : (line e : ℕ) (ps : List Piece) (ns : List ℕ) → AreParted (IsSigned 256) ps ns → read (directive_form directive.Byte) (st line e ps) ≡ Ok (body.Byte ns)
 unfolding read directive_form
 bytes_again line e ps ns h =
-    bind_to (list_at byte_at (st line e ps)) (λ (x : List ℕ × State). read (ends (body.Byte x.0)) x.1) (ns, st line e []) (Ok (body.Byte ns)) (list_again ℕ (IsSigned 256) byte_at byte_reads_all line e ps ns h) (ends_again line e (body.Byte ns))
+    bind_to (list_at byte_item_at (st line e ps)) (λ (x : List ℕ × ReaderState). read (ends (body.Byte x.0)) x.1) (ns, st line e []) (Ok (body.Byte ns)) (list_again ℕ (IsSigned 256) byte_item_at byte_reads_all line e ps ns h) (ends_again line e (body.Byte ns))
 
 ascii_again : (line e : ℕ) (bs : List ℕ) (q : Piece) → IsText bs q → read (directive_form directive.Ascii) (st line e (q ∷ [])) ≡ Ok (body.Ascii bs)
 unfolding read directive_form
-ascii_again line e bs q h = bind_to (text_at (st line e (q ∷ []))) (λ (x : List ℕ × State). read (ends (body.Ascii x.0)) x.1) (bs, st line e []) (Ok (body.Ascii bs)) (text_again line e bs q [] h) (ends_again line e (body.Ascii bs))
+ascii_again line e bs q h = bind_to (text_at (st line e (q ∷ []))) (λ (x : List ℕ × ReaderState). read (ends (body.Ascii x.0)) x.1) (bs, st line e []) (Ok (body.Ascii bs)) (text_again line e bs q [] h) (ends_again line e (body.Ascii bs))
 
 align_again : (line e n : ℕ) (q : Piece) → IsPower n q → read (directive_form directive.Align) (st line e (q ∷ [])) ≡ Ok (body.Align n)
 unfolding read directive_form
-align_again line e n q h = bind_to (alignment_at (st line e (q ∷ []))) (λ (x : ℕ × State). read (ends (body.Align x.0)) x.1) (n, st line e []) (Ok (body.Align n)) (alignment_again line e n q [] h) (ends_again line e (body.Align n))
+align_again line e n q h = bind_to (alignment_at (st line e (q ∷ []))) (λ (x : ℕ × ReaderState). read (ends (body.Align x.0)) x.1) (n, st line e []) (Ok (body.Align n)) (alignment_again line e n q [] h) (ends_again line e (body.Align n))
 
 global_again : (line e : ℕ) (name : List ℕ) (q : Piece) → IsSymbol name q → read (directive_form directive.Global) (st line e (q ∷ [])) ≡ Ok (body.Global name)
 unfolding read directive_form
 global_again line e name q h =
-    bind_to (symbol_at (st line e (q ∷ []))) (λ (x : (List ℕ × ℕ) × State). read (ends (body.Global x.0.0)) x.1) ((name, q.col), st line e []) (Ok (body.Global name)) (symbol_again line e name q [] h) (ends_again line e (body.Global name))
+    bind_to (symbol_at (st line e (q ∷ []))) (λ (x : (List ℕ × ℕ) × ReaderState). read (ends (body.Global x.0.0)) x.1) ((name, q.col), st line e []) (Ok (body.Global name)) (symbol_again line e name q [] h) (ends_again line e (body.Global name))
 
 set_again : (line e n : ℕ) (name : List ℕ) (q c : Piece) (ps : List Piece) → IsSymbol name q → IsComma c → IsSigned 4294967296 ps n → read (directive_form directive.Set) (st line e (q ∷ c ∷ ps)) ≡ Ok (body.Set name q.col n)
 unfolding read directive_form
 set_again line e n name q c ps h k v =
     let z : Result Body ParseFault = Ok (body.Set name q.col n) in
-    bind_to (symbol_at (st line e (q ∷ c ∷ ps))) (λ (x : (List ℕ × ℕ) × State). mark_at 44 x.1 >>= λ t. whole_at 2147483648 4294967295 t >>= set_value x.0.0 x.0.1) ((name, q.col), st line e (c ∷ ps)) z (symbol_again line e name q (c ∷ ps) h)
-    (bind_to (mark_at 44 (st line e (c ∷ ps))) (λ (t : State). whole_at 2147483648 4294967295 t >>= set_value name q.col) (st line e ps) z (mark_again 44 line e c ps k)
-    (bind_to (whole_at 2147483648 4294967295 (st line e ps)) (set_value name q.col) (n, st line e []) z
-    (ap (λ (qs : List Piece). whole_at 2147483648 4294967295 (st line e qs)) (sym (append-nil ps)) ∙ whole_again 2147483648 4294967295 line e ps [] n (signed_word ps n v)) (ends_again line e (body.Set name q.col n))))
+    bind_to (symbol_at (st line e (q ∷ c ∷ ps))) (λ (x : (List ℕ × ℕ) × ReaderState). mark_at 44 x.1 >>= λ t. signed_at 2147483648 4294967295 t >>= set_value x.0.0 x.0.1) ((name, q.col), st line e (c ∷ ps)) z (symbol_again line e name q (c ∷ ps) h)
+    (bind_to (mark_at 44 (st line e (c ∷ ps))) (λ (t : ReaderState). signed_at 2147483648 4294967295 t >>= set_value name q.col) (st line e ps) z (mark_again 44 line e c ps k)
+    (bind_to (signed_at 2147483648 4294967295 (st line e ps)) (set_value name q.col) (n, st line e []) z
+    (ap (λ (qs : List Piece). signed_at 2147483648 4294967295 (st line e qs)) (sym (append-nil ps)) ∙ whole_again 2147483648 4294967295 line e ps [] n (signed_word ps n v)) (ends_again line e (body.Set name q.col n))))
 
 by_directive : (d : Directive) (line e : ℕ) (p : Piece) (ps : List Piece) (c : Body) → IsNamed (directive_text d) p → read (directive_form d) (st line e ps) ≡ Ok c → operation_at (st line e (p ∷ ps)) ≡ Ok c
 unfolding operation_at
 by_directive d line e p ps c n h =
     let s = st line e (p ∷ ps) in
-    ap (λ (m : Meaning). operation_on s (Some m)) n
+    ap (λ (m : TokenValue). operation_on s (Some m)) n
     ∙ take_else (is_module (directive_text d)) _ _ (no_module d)
     ∙ ap₂ (λ (m : Option Mnemonic) (k : Option Directive). by_form s (form_in m k)) (no_mnemonic d) (directive_once d)
     ∙ h
@@ -254,7 +254,7 @@ by_mnemonic : (m : Mnemonic) (line e : ℕ) (p : Piece) (ps : List Piece) (c : B
 unfolding operation_at
 by_mnemonic m line e p ps c n h =
     let s = st line e (p ∷ ps) in
-    ap (λ (o : Meaning). operation_on s (Some o)) n
+    ap (λ (o : TokenValue). operation_on s (Some o)) n
     ∙ take_else (is_module (text_of m)) _ _ (no_module_mnemonic m)
     ∙ ap (λ (o : Option Mnemonic). by_form s (form_in o (directive_of (text_of m)))) (spelled_once m)
     ∙ h

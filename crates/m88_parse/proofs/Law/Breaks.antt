@@ -5,10 +5,10 @@ use Rattle.std.proofs.Math.Seq.{drop-length}
 use Rattle.m88_parse.specs.declared.fault.ParseFault.{ParseFault}
 use Rattle.m88_parse.specs.declared.fault.ParseKind.{ParseKind}
 use Rattle.m88_parse.specs.declared.scan.Flaw.{Flaw}
-use Rattle.m88_parse.specs.Tokens.{Cut, front, prepend, fault_at, pieces, pieces_of}
-use Rattle.m88_parse.specs.Spelling.Bytes.{is_blank}
-use Rattle.m88_parse.specs.Spelling.Pieces.{Meaning, Piece}
-use Rattle.m88_parse.specs.Spelling.Faults.{IsFlaw, Breaks}
+use Rattle.m88_parse.specs.Reader.Tokens.{Cut, front, prepend, fault_at, pieces, pieces_of}
+use Rattle.m88_parse.specs.Language.Bytes.{is_blank}
+use Rattle.m88_parse.specs.Language.Pieces.{TokenValue, Piece}
+use Rattle.m88_parse.specs.Language.FirstFaults.{IsFlaw, Breaks}
 use Rattle.m88_parse.proofs.Pieces.{cut_off, fault_front}
 use Rattle.m88_parse.proofs.Law.Fronts.{TokenAt, Stands, comment_stands, blank_stands, token_stands, front_stands}
 use Rattle.m88_parse.proofs.Law.Tokens.{gap_passed, token_passed, nothing_left, stands_some}
@@ -40,7 +40,7 @@ pub record Broken (line col : ℕ) (bytes : List ℕ) (f : ParseFault) : Type 0 
   pub breaks : Breaks col bytes tokens f.col f.kind
   pub same_line : line ≡ f.line
 
-prepended_fault : (o : Option Meaning) (col : ℕ) (text : List ℕ) (r : Result (List Piece) ParseFault) (f : ParseFault) → prepend o col text r ≡ Err f → r ≡ Err f
+prepended_fault : (o : Option TokenValue) (col : ℕ) (text : List ℕ) (r : Result (List Piece) ParseFault) (f : ParseFault) → prepend o col text r ≡ Err f → r ≡ Err f
 prepended_fault None col text r f h = h
 prepended_fault (Some m) col text (Ok qs) f h = absurd cc
 prepended_fault (Some m) col text (Err g) f h = h

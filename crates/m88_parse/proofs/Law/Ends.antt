@@ -2,8 +2,8 @@
 use Rattle.std.proofs.Common.{◌≡◌, ◌≢◌, ℕ, Bool, true, false, not, ◌&&◌, ◌==◌, inl, inr, List, [], ◌∷◌, ◌++◌, refl, sym, ap, ◌∙◌, append-nil, subst, eqb-true, ne_eqb, true≢false}
 use Rattle.std.proofs.lemmas.Bool.{eqb-false}
 use Rattle.std.specs.List.{list_all}
-use Rattle.m88_parse.specs.Source.{begins_with_lf, on_first_line, lines_of}
-use Rattle.m88_parse.specs.Spelling.Units.{IsOneLine, EndsInReturn, AreLines, no_line, last_line, feed, return_feed}
+use Rattle.m88_parse.specs.Reader.Source.{begins_with_lf, on_first_line, lines_of}
+use Rattle.m88_parse.specs.Language.Units.{IsOneLine, EndsInReturn, AreLines, no_line, last_line, feed, return_feed}
 use Rattle.m88_parse.proofs.Law.Steps.{both, tested, not_true, take_then, take_else}
 
 -- the computed lines, a byte at a time

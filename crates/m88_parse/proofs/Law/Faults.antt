@@ -5,21 +5,21 @@ use Rattle.m88_parse.specs.declared.fault.ParseFault.{ParseFault}
 use Rattle.m88_parse.specs.declared.unit.Unit.{Unit as Source}
 use Rattle.m88_parse.specs.declared.row.Row.{Row}
 use Rattle.m88_parse.specs.Fault.{Gives, out_of_memory}
-use Rattle.m88_parse.specs.Tokens.{pieces_of}
-use Rattle.m88_parse.specs.Spelling.Pieces.{Piece}
-use Rattle.m88_parse.specs.State.{◌>>=◌}
-use Rattle.m88_parse.specs.Source.{lines_of, row_of_pieces, row_of, with_row, rows_of, unit_of_rows, unit_of}
-use Rattle.m88_parse.specs.Spelling.Tokens.{LineTokens}
-use Rattle.m88_parse.specs.Spelling.Units.{IsUnit}
-use Rattle.m88_parse.specs.Spelling.Unsaid.{IsUnsaid}
-use Rattle.m88_parse.specs.Spelling.Faults.{FirstOf, uncut_line, unsaid_line, later_line, IsFirstFault}
+use Rattle.m88_parse.specs.Reader.Tokens.{pieces_of}
+use Rattle.m88_parse.specs.Language.Pieces.{Piece}
+use Rattle.m88_parse.specs.Reader.State.{◌>>=◌}
+use Rattle.m88_parse.specs.Reader.Source.{lines_of, row_of_pieces, row_of, with_row, rows_of, unit_of_rows, unit_of}
+use Rattle.m88_parse.specs.Language.Tokens.{LineTokens}
+use Rattle.m88_parse.specs.Language.Units.{IsUnit}
+use Rattle.m88_parse.specs.Language.LineFaults.{IsLineFault}
+use Rattle.m88_parse.specs.Language.FirstFaults.{FirstOf, uncut_line, faulty_line, later_line, IsFirstFault, HasOneAnswer}
 use Rattle.m88_parse.proofs.Law.Slots.{bind_to}
 use Rattle.m88_parse.proofs.Law.Tokens.{line_is_cut, line_is_read}
 use Rattle.m88_parse.proofs.Law.Ends.{lines_computed, lines_related}
 use Rattle.m88_parse.proofs.Law.Breaks.{breaks_read, Broken, line_breaks}
-use Rattle.m88_parse.proofs.Law.Unsaid.One.{one_unsaid}
-use Rattle.m88_parse.proofs.Law.Unsaid.Lines.{UnsaidBy, unsaid_told, said_not_unsaid}
-use Rattle.m88_parse.proofs.Law.Units.{line_row, row_again, read_is_related, related_is_read}
+use Rattle.m88_parse.proofs.Law.LineFaults.One.{one_line_fault}
+use Rattle.m88_parse.proofs.Law.LineFaults.Lines.{LineFaultBy, line_fault_told, said_not_faulty}
+use Rattle.m88_parse.proofs.Law.Units.{line_row, row_again, read_is_related, related_is_read, single_unit}
 use Rattle.m88_parse.proofs.Law.Rows.{row_for, line_read}
 
 pub err_same : {A : Type 0} {a b : ParseFault} → ◌≡◌ {A = Result A ParseFault} (Err a) (Err b) → a ≡ b
@@ -48,7 +48,7 @@ first_related number (line ∷ lines) f h =
             | inl k ↦
                 let b = line_breaks number line f k in
                 uncut b
-            | inr k ↦ unsaid k.0 (line_is_cut number line k.0 k.1) (unsaid_told number k.0 f k.2)
+            | inr k ↦ at_tokens k.0 (line_is_cut number line k.0 k.1) (line_fault_told number k.0 f k.2)
           ]
       | inr j ↦
           elim (bind_failed (rows_of (number + 1) lines) (λ (rs : List Row). let y : Result (List Row) ParseFault = Ok (with_row j.0 rs) in y) f j.2) [
@@ -62,8 +62,8 @@ first_related number (line ∷ lines) f h =
     uncut : Broken number 1 line f → FirstOf number (line ∷ lines) f
     uncut b = subst (λ (n : ℕ). FirstOf number (line ∷ lines) (record { line = n; col = f.col; kind = f.kind })) b.same_line (uncut_line b.tokens b.breaks)
 
-    unsaid : (ps : List Piece) → LineTokens line ps → UnsaidBy number ps f → FirstOf number (line ∷ lines) f
-    unsaid ps t u = subst (λ (n : ℕ). FirstOf number (line ∷ lines) (record { line = n; col = f.col; kind = f.kind })) u.1 (unsaid_line ps t u.0)
+    at_tokens : (ps : List Piece) → LineTokens line ps → LineFaultBy number ps f → FirstOf number (line ∷ lines) f
+    at_tokens ps t u = subst (λ (n : ℕ). FirstOf number (line ∷ lines) (record { line = n; col = f.col; kind = f.kind })) u.1 (faulty_line ps t u.0)
 
     no_err : {rows : List Row} → ◌≡◌ {A = Result (List Row) ParseFault} (Ok rows) (Err f) → ⊥
     no_err e = cc
@@ -73,14 +73,14 @@ first_related number (line ∷ lines) f h =
 same_fault : (l m a b : ℕ) (j k : ParseKind) → l ≡ m → a ≡ b → j ≡ k → ◌≡◌ {A = ParseFault} (record { line = l; col = a; kind = j }) (record { line = m; col = b; kind = k })
 same_fault l m a b j k x y z = λ i. record { line = x i; col = y i; kind = z i }
 
-unsaid_read : (number : ℕ) (ps : List Piece) (at : ℕ) (kind : ParseKind) → IsUnsaid ps at kind → row_of_pieces number ps ≡ Err (record { line = number; col = at; kind = kind })
-unsaid_read number ps at kind u = by_result (row_of_pieces number ps) refl
+line_fault_read : (number : ℕ) (ps : List Piece) (at : ℕ) (kind : ParseKind) → IsLineFault ps at kind → row_of_pieces number ps ≡ Err (record { line = number; col = at; kind = kind })
+line_fault_read number ps at kind u = by_result (row_of_pieces number ps) refl
   where
     by_result : (r : Result (Option Row) ParseFault) → row_of_pieces number ps ≡ r → row_of_pieces number ps ≡ Err (record { line = number; col = at; kind = kind })
-    by_result (Ok o) e = let w = line_read number ps o e in absurd (said_not_unsaid number ps w.0 at kind w.1 u)
+    by_result (Ok o) e = let w = line_read number ps o e in absurd (said_not_faulty number ps w.0 at kind w.1 u)
     by_result (Err f) e =
-        let w = unsaid_told number ps f e in
-        let same = one_unsaid ps f.col at f.kind kind w.0 u in
+        let w = line_fault_told number ps f e in
+        let same = one_line_fault ps f.col at f.kind kind w.0 u in
         e ∙ ap (λ (g : ParseFault). let r : Result (Option Row) ParseFault = Err g in r) (same_fault f.line number f.col at f.kind kind (sym w.1) same.0 same.1)
 
 first_read : {number : ℕ} {lines : List (List ℕ)} {f : ParseFault} → FirstOf number lines f → rows_of number lines ≡ Err f
@@ -88,9 +88,9 @@ unfolding rows_of row_of
 first_read (uncut_line {number = number} {line = line} {lines = lines} ps {at = at} {kind = kind} h) =
     let e : ParseFault = record { line = number; col = at; kind = kind } in
     bind_err (row_of number line) (Rest number lines) e (bind_err (pieces_of number line) (λ (qs : List Piece). row_of_pieces number qs) e (breaks_read number 1 line ps at kind h))
-first_read (unsaid_line {number = number} {line = line} {lines = lines} ps {at = at} {kind = kind} t u) =
+first_read (faulty_line {number = number} {line = line} {lines = lines} ps {at = at} {kind = kind} t u) =
     let e : ParseFault = record { line = number; col = at; kind = kind } in
-    bind_err (row_of number line) (Rest number lines) e (bind_to (pieces_of number line) (λ (qs : List Piece). row_of_pieces number qs) ps (Err e) (line_is_read number line ps t) (unsaid_read number ps at kind u))
+    bind_err (row_of number line) (Rest number lines) e (bind_to (pieces_of number line) (λ (qs : List Piece). row_of_pieces number qs) ps (Err e) (line_is_read number line ps t) (line_fault_read number ps at kind u))
 first_read (later_line {number = number} {line = line} {lines = lines} ps said {fault = fault} t h g) =
     bind_to (row_of number line) (Rest number lines) (row_for number said) (Err fault) (row_again number line ps said t h)
     (bind_err (rows_of (number + 1) lines) (λ (rs : List Row). let y : Result (List Row) ParseFault = Ok (with_row (row_for number said) rs) in y) fault (first_read g))
@@ -132,3 +132,9 @@ pub found_fault : (source : List ℕ) (r : Result Source ParseFault) → Gives (
 found_fault source (Ok u) h = tt
 found_fault source (Err e) (inl h) = inl h
 found_fault source (Err e) (inr h) = inr (fault_is_related source e h)
+
+pub only_fault : (source : List ℕ) (r : Result Source ParseFault) → Gives (λ (u : Source). u) r (unit_of source) → (e : ParseFault) → IsFirstFault source e → Gives (λ (v : Source). v) r (Err e)
+only_fault source r h e k = subst (λ (x : Result Source ParseFault). Gives (λ (v : Source). v) r x) (related_fault_is_read source e k) h
+
+pub one_answer : (source : List ℕ) → HasOneAnswer source
+one_answer source = record { some = unit_or_fault source; not_both = not_both source; one_unit = single_unit source; one_fault = single_fault source }

@@ -9,11 +9,12 @@ use Rattle.std.proofs.lemmas.Bool.Decides.{nat_tests}
 use Rattle.m88_parse.specs.declared.fault.ParseKind.{ParseKind}
 use Rattle.m88_parse.specs.declared.fault.ParseKind.TheVariants.{NotAscii, Syntax, OutOfRange}
 use Rattle.m88_parse.specs.declared.scan.Flaw.{Flaw}
-use Rattle.m88_parse.specs.Tokens.{is_hexadecimal, is_decimal, bounded, inside_len, Cut, cut, flaw, token_or_flaw, name_front, number_front, quoted_meaning, quoted, word_front, front, numeral}
-use Rattle.m88_parse.specs.Spelling.Bytes.{is_blank, is_comment, is_plain, is_word, is_mark}
-use Rattle.m88_parse.specs.Spelling.Pieces.{Meaning, a_name}
-use Rattle.m88_parse.specs.Spelling.Tokens.{IsRun, EndsRun, IsNumeral, IsToken}
-use Rattle.m88_parse.specs.Spelling.Faults.{Takes, line_ends, quote_closes, byte_taken, pair_taken, last_taken, IsQuote, BeginsWithDigit, IsStray, IsFlaw, foreign_byte, foreign_in_quotes, no_quoted_token, long_name, no_number, large_number, stray_byte}
+use Rattle.m88_parse.specs.Reader.Tokens.{is_hexadecimal, is_decimal, bounded, inside_len, Cut, cut, flaw, token_or_flaw, name_front, number_front, quoted_value, quoted, word_front, front, numeral}
+use Rattle.m88_parse.specs.Language.Bytes.{is_blank, is_comment, is_plain, is_mark}
+use Rattle.m88_base.specs.Name.{continues_name}
+use Rattle.m88_parse.specs.Language.Pieces.{TokenValue, a_name}
+use Rattle.m88_parse.specs.Language.Tokens.{AreNameBytes, BeginsWithNoNameByte, IsNumeral, IsToken}
+use Rattle.m88_parse.specs.Language.FirstFaults.{Takes, line_ends, quote_closes, byte_taken, pair_taken, last_taken, IsQuote, BeginsWithDigit, IsStray, IsFlaw, foreign_byte, foreign_in_quotes, no_quoted_token, long_name, no_number, large_number, stray_byte}
 use Rattle.m88_parse.proofs.Law.Steps.{both, chosen, tested, not_true, not_false, take_then, take_else, Stops, prefix_all, all_of_prefix, stops_prefix, prefix_whole, whole_prefix}
 use Rattle.m88_parse.proofs.Law.Numbers.{read_decimal, hexadecimal_is, decimal_is, is_decimal_again, is_hexadecimal_again, number_is, bounded_above, at_decimal, at_hexadecimal}
 use Rattle.m88_parse.proofs.Law.Quotes.{inside_fits, inside_again, closed_by, not_lone}
@@ -124,14 +125,14 @@ takes_flag q false (b ∷ bs) =
 
 -- related: nothing is cut off
 
-word_flaw : (b : ℕ) (t rest : List ℕ) (kind : ParseKind) → IsRun (b ∷ t) → EndsRun rest → word_front b (b ∷ t) ≡ flaw kind 0 → front (b ∷ (t ++ rest)) ≡ flaw kind 0
+word_flaw : (b : ℕ) (t rest : List ℕ) (kind : ParseKind) → AreNameBytes (b ∷ t) → BeginsWithNoNameByte rest → word_front b (b ∷ t) ≡ flaw kind 0 → front (b ∷ (t ++ rest)) ≡ flaw kind 0
 word_flaw b t rest kind r k h = front_run b t rest r k ∙ h
 
-long_again : (run rest : List ℕ) → IsRun run → EndsRun rest → BeginsWithDigit run false → 64 < length run → front (run ++ rest) ≡ flaw OutOfRange 0
+long_again : (run rest : List ℕ) → AreNameBytes run → BeginsWithNoNameByte rest → BeginsWithDigit run false → 64 < length run → front (run ++ rest) ≡ flaw OutOfRange 0
 long_again [] rest r k d l = absurd d
 long_again (b ∷ t) rest r k d l = word_flaw b t rest OutOfRange r k (take_else (is_ascii_digit b) _ _ d ∙ take_then (nat_lt 64 (length (b ∷ t))) _ _ (lt-ltb 64 (length (b ∷ t)) l))
 
-number_flaw : (run rest : List ℕ) (kind : ParseKind) → IsRun run → EndsRun rest → BeginsWithDigit run true → numeral run ≡ Err kind → front (run ++ rest) ≡ flaw kind 0
+number_flaw : (run rest : List ℕ) (kind : ParseKind) → AreNameBytes run → BeginsWithNoNameByte rest → BeginsWithDigit run true → numeral run ≡ Err kind → front (run ++ rest) ≡ flaw kind 0
 number_flaw [] rest kind r k d h = absurd d
 number_flaw (b ∷ t) rest kind r k d h = word_flaw b t rest kind r k (take_then (is_ascii_digit b) _ _ d ∙ ap (number_front (length (b ∷ t))) h)
 
@@ -163,7 +164,7 @@ front_stray b bs h =
     take_else (is_comment b) _ _ h.no_comment
     ∙ take_else (is_blank b) _ _ h.no_blank
     ∙ take_else (not (is_plain b)) _ _ (ap not h.valid)
-    ∙ take_else (is_word b) _ _ h.no_word
+    ∙ take_else (continues_name b) _ _ h.no_word
     ∙ take_else (is_mark b) _ _ h.no_mark
     ∙ take_else (b == 34 || b == 39) _ _ q
   where
@@ -181,7 +182,7 @@ makes q (inr e) = subst Makes (sym e) makes_character
 abbrev pub quoted_from : ℕ → ℕ → ℕ → List ℕ → Result Cut Flaw
 quoted_from q total len inside =
     if nat_lt (prefix_len is_plain inside) len then flaw NotAscii (prefix_len is_plain inside + 1)
-    else token_or_flaw (len + 2) (if len == total then None else quoted_meaning q inside)
+    else token_or_flaw (len + 2) (if len == total then None else quoted_value q inside)
 
 quoted_at : (q : ℕ) (bs inside : List ℕ) → (92 == q) ≡ false → Takes q bs inside → quoted q bs ≡ quoted_from q (length bs) (length inside) inside
 unfolding quoted
@@ -203,11 +204,11 @@ foreign_again q bs before b after i t h k =
     ∙ ap (λ (n : ℕ). flaw NotAscii (n + 1)) p
 
 no_token_made : (q : ℕ) (bs inside : List ℕ) → IsQuote q → Takes q bs inside → list_all is_plain inside ≡ true
-    → ((m : Meaning) (rest : List ℕ) → bs ≡ inside ++ q ∷ rest → IsToken (q ∷ inside ++ q ∷ []) m → ⊥)
-    → (if length inside == length bs then None else quoted_meaning q inside) ≡ None
+    → ((m : TokenValue) (rest : List ℕ) → bs ≡ inside ++ q ∷ rest → IsToken (q ∷ inside ++ q ∷ []) m → ⊥)
+    → (if length inside == length bs then None else quoted_value q inside) ≡ None
 no_token_made q bs inside i t p h = by_length (tested (length inside == length bs))
   where
-    by_meaning : (length inside == length bs) ≡ false → (o : Option Meaning) → quoted_meaning q inside ≡ o → o ≡ None
+    by_meaning : (length inside == length bs) ≡ false → (o : Option TokenValue) → quoted_value q inside ≡ o → o ≡ None
     by_meaning e None f = refl
     by_meaning e (Some m) f =
         let l = takes_len q (opens q i) t in
@@ -220,12 +221,12 @@ no_token_made q bs inside i t p h = by_length (tested (length inside == length b
         let lone : inside ≢ 92 ∷ [] = λ (x : inside ≡ 92 ∷ []). not_lone q bs below (s ∙ x) in
         absurd (h m r.0 (r.1 ∙ ap (λ (xs : List ℕ). xs ++ q ∷ r.0) s) (makes q i inside again p lone m f))
 
-    by_length : ((length inside == length bs) ≡ true) ⊎ ((length inside == length bs) ≡ false) → (if length inside == length bs then None else quoted_meaning q inside) ≡ None
-    by_length (inl e) = take_then (length inside == length bs) None (quoted_meaning q inside) e
-    by_length (inr e) = take_else (length inside == length bs) None (quoted_meaning q inside) e ∙ by_meaning e (quoted_meaning q inside) refl
+    by_length : ((length inside == length bs) ≡ true) ⊎ ((length inside == length bs) ≡ false) → (if length inside == length bs then None else quoted_value q inside) ≡ None
+    by_length (inl e) = take_then (length inside == length bs) None (quoted_value q inside) e
+    by_length (inr e) = take_else (length inside == length bs) None (quoted_value q inside) e ∙ by_meaning e (quoted_value q inside) refl
 
 unquoted_again : (q : ℕ) (bs inside : List ℕ) → IsQuote q → Takes q bs inside → list_all is_plain inside ≡ true
-    → ((m : Meaning) (rest : List ℕ) → bs ≡ inside ++ q ∷ rest → IsToken (q ∷ inside ++ q ∷ []) m → ⊥) → front (q ∷ bs) ≡ flaw Syntax 0
+    → ((m : TokenValue) (rest : List ℕ) → bs ≡ inside ++ q ∷ rest → IsToken (q ∷ inside ++ q ∷ []) m → ⊥) → front (q ∷ bs) ≡ flaw Syntax 0
 unquoted_again q bs inside i t p h =
     let w = prefix_whole is_plain inside p in
     front_quote q bs i
@@ -256,11 +257,11 @@ flaw_some bytes at kind (stray_byte h) = omega arith
 abbrev Flawed : List ℕ → Flaw → Type 0
 Flawed bytes f = IsFlaw bytes f.at f.kind
 
-no_number_is : (b : ℕ) (t rest bytes : List ℕ) (kind : ParseKind) → bytes ≡ (b ∷ t) ++ rest → IsRun (b ∷ t) → EndsRun rest → is_ascii_digit b ≡ true → NoNumber (b ∷ t) kind → IsFlaw bytes 0 kind
+no_number_is : (b : ℕ) (t rest bytes : List ℕ) (kind : ParseKind) → bytes ≡ (b ∷ t) ++ rest → AreNameBytes (b ∷ t) → BeginsWithNoNameByte rest → is_ascii_digit b ≡ true → NoNumber (b ∷ t) kind → IsFlaw bytes 0 kind
 no_number_is b t rest bytes kind e r k d (spelled_wrong h) = no_number (b ∷ t) rest e r k d h
 no_number_is b t rest bytes kind e r k d (too_large n h l) = large_number (b ∷ t) rest n e r k h l
 
-word_flawed : (b : ℕ) (t rest bytes : List ℕ) (f : Flaw) → bytes ≡ (b ∷ t) ++ rest → IsRun (b ∷ t) → EndsRun rest → word_front b (b ∷ t) ≡ Err f → Flawed bytes f
+word_flawed : (b : ℕ) (t rest bytes : List ℕ) (f : Flaw) → bytes ≡ (b ∷ t) ++ rest → AreNameBytes (b ∷ t) → BeginsWithNoNameByte rest → word_front b (b ∷ t) ≡ Err f → Flawed bytes f
 word_flawed b t rest bytes f e r k h =
     elim (chosen (is_ascii_digit b) (number_front (length (b ∷ t)) (numeral (b ∷ t))) (name_front (b ∷ t)) (Err f) h) [
       | inl j ↦ by_numeral (numeral (b ∷ t)) refl j.0 j.1
@@ -275,13 +276,13 @@ word_flawed b t rest bytes f e r k h =
     by_numeral (Ok n) x d g = absurd cc
     by_numeral (Err kind) x d g = subst (Flawed bytes) (flaw_same g) (no_number_is b t rest bytes kind e r k d (numeral_err (b ∷ t) kind (omega arith) x))
 
-run_flawed : (b : ℕ) (bs : List ℕ) (f : Flaw) → is_word b ≡ true → word_front b (b ∷ take (prefix_len is_word bs) bs) ≡ Err f → Flawed (b ∷ bs) f
+run_flawed : (b : ℕ) (bs : List ℕ) (f : Flaw) → continues_name b ≡ true → word_front b (b ∷ take (prefix_len continues_name bs) bs) ≡ Err f → Flawed (b ∷ bs) f
 run_flawed b bs f w h =
-    let n = prefix_len is_word bs in
-    let r : IsRun (b ∷ take n bs) = ap (λ (t : Bool). t && list_all is_word (take n bs)) w ∙ all_of_prefix is_word bs in
-    word_flawed b (take n bs) (drop n bs) (b ∷ bs) f (ap (λ (xs : List ℕ). b ∷ xs) (sym (take-append-drop n bs))) r (ends (drop n bs) (stops_prefix is_word bs)) h
+    let n = prefix_len continues_name bs in
+    let r : AreNameBytes (b ∷ take n bs) = ap (λ (t : Bool). t && list_all continues_name (take n bs)) w ∙ all_of_prefix continues_name bs in
+    word_flawed b (take n bs) (drop n bs) (b ∷ bs) f (ap (λ (xs : List ℕ). b ∷ xs) (sym (take-append-drop n bs))) r (ends (drop n bs) (stops_prefix continues_name bs)) h
   where
-    ends : (xs : List ℕ) → Stops is_word xs → EndsRun xs
+    ends : (xs : List ℕ) → Stops continues_name xs → BeginsWithNoNameByte xs
     ends [] x = tt
     ends (y ∷ ys) x = x
 
@@ -293,13 +294,13 @@ split_at p xs h = by_rest (drop (prefix_len p xs) xs) refl (stops_prefix p xs)
     by_rest [] e s = absurd (omega (arith, h, ap length e, length-drop (prefix_len p xs) xs))
     by_rest (y ∷ ys) e s = (y, ys, sym (take-append-drop (prefix_len p xs) xs) ∙ ap (λ (zs : List ℕ). take (prefix_len p xs) xs ++ zs) e, subst (Stops p) e s)
 
-no_meaning : (len : ℕ) (o : Option Meaning) (f : Flaw) → token_or_flaw len o ≡ Err f → record { at = 0; kind = Syntax } ≡ f
+no_meaning : (len : ℕ) (o : Option TokenValue) (f : Flaw) → token_or_flaw len o ≡ Err f → record { at = 0; kind = Syntax } ≡ f
 no_meaning len (Some m) f h = absurd cc
 no_meaning len None f h = flaw_same h
 
-quote_no_word : (q : ℕ) → IsQuote q → is_word q ≡ false
-quote_no_word q (inl e) = ap is_word e
-quote_no_word q (inr e) = ap is_word e
+quote_no_word : (q : ℕ) → IsQuote q → continues_name q ≡ false
+quote_no_word q (inl e) = ap continues_name e
+quote_no_word q (inr e) = ap continues_name e
 
 quoted_flawed : (q : ℕ) (bs : List ℕ) (f : Flaw) → IsQuote q → quoted q bs ≡ Err f → Flawed (q ∷ bs) f
 quoted_flawed q bs f i h =
@@ -309,7 +310,7 @@ quoted_flawed q bs f i h =
     let size : length inside ≡ len = omega (arith, length-take len bs, fits) in
     let t = takes_flag q false bs in
     let k : quoted_from q (length bs) (length inside) inside ≡ Err f = sym (quoted_at q bs inside (opens q i) t) ∙ h in
-    elim (chosen (nat_lt (prefix_len is_plain inside) (length inside)) (flaw NotAscii (prefix_len is_plain inside + 1)) (token_or_flaw (length inside + 2) (if length inside == length bs then None else quoted_meaning q inside)) (Err f) k) [
+    elim (chosen (nat_lt (prefix_len is_plain inside) (length inside)) (flaw NotAscii (prefix_len is_plain inside + 1)) (token_or_flaw (length inside + 2) (if length inside == length bs then None else quoted_value q inside)) (Err f) k) [
       | inl j ↦
           let s = split_at is_plain inside (ltb-true (prefix_len is_plain inside) (length inside) j.0) in
           let before = take (prefix_len is_plain inside) inside in
@@ -318,19 +319,19 @@ quoted_flawed q bs f i h =
           (foreign_in_quotes before s.0 s.1 i (subst (Takes q bs) s.2 t) (all_of_prefix is_plain inside) s.3)
       | inr j ↦
           let plain : list_all is_plain inside ≡ true = whole_prefix is_plain inside (omega (arith, prefix_len-le-length is_plain inside, ltb-false (prefix_len is_plain inside) (length inside) j.0)) in
-          let e = no_meaning (length inside + 2) (if length inside == length bs then None else quoted_meaning q inside) f j.1 in
-          subst (Flawed (q ∷ bs)) e (no_quoted_token inside i t plain (λ (m : Meaning) (rest : List ℕ) (b : bs ≡ inside ++ q ∷ rest) (x : IsToken (q ∷ inside ++ q ∷ []) m). cuts inside rest m b x))
+          let e = no_meaning (length inside + 2) (if length inside == length bs then None else quoted_value q inside) f j.1 in
+          subst (Flawed (q ∷ bs)) e (no_quoted_token inside i t plain (λ (m : TokenValue) (rest : List ℕ) (b : bs ≡ inside ++ q ∷ rest) (x : IsToken (q ∷ inside ++ q ∷ []) m). cuts inside rest m b x))
     ]
   where
-    cuts : (inside rest : List ℕ) (m : Meaning) → bs ≡ inside ++ q ∷ rest → IsToken (q ∷ inside ++ q ∷ []) m → ⊥
+    cuts : (inside rest : List ℕ) (m : TokenValue) → bs ≡ inside ++ q ∷ rest → IsToken (q ∷ inside ++ q ∷ []) m → ⊥
     cuts inside rest m b x =
-        let no_run : IsRun (q ∷ inside ++ q ∷ []) → EndsRun rest = λ (r : IsRun (q ∷ inside ++ q ∷ [])). absurd (true≢false (sym (both (is_word q) (list_all is_word (inside ++ q ∷ [])) r).0 ∙ quote_no_word q i)) in
+        let no_run : AreNameBytes (q ∷ inside ++ q ∷ []) → BeginsWithNoNameByte rest = λ (r : AreNameBytes (q ∷ inside ++ q ∷ [])). absurd (true≢false (sym (both (continues_name q) (list_all continues_name (inside ++ q ∷ [])) r).0 ∙ quote_no_word q i)) in
         let c : front (q ∷ bs) ≡ cut (length (q ∷ inside ++ q ∷ [])) m =
         ap front (ap (λ (xs : List ℕ). q ∷ xs) b ∙ sym (between q inside rest)) ∙ front_again (q ∷ inside ++ q ∷ []) rest m x no_run in
         let e : ◌≡◌ {A = Result Cut Flaw} (Err f) (cut (length (q ∷ inside ++ q ∷ [])) m) = sym h ∙ sym (front_quote q bs i) ∙ c in
         cc
 
-stray_is : (b : ℕ) → is_plain b ≡ true → is_comment b ≡ false → is_blank b ≡ false → is_word b ≡ false → is_mark b ≡ false → (b == 34 || b == 39) ≡ false → IsStray b
+stray_is : (b : ℕ) → is_plain b ≡ true → is_comment b ≡ false → is_blank b ≡ false → continues_name b ≡ false → is_mark b ≡ false → (b == 34 || b == 39) ≡ false → IsStray b
 stray_is b p c k w m q = record { valid = p; no_comment = c; no_blank = k; no_word = w; no_mark = m; no_quote = none }
   where
     none : IsQuote b → ⊥
@@ -349,7 +350,7 @@ front_flawed b bs f h =
                 elim (chosen (not (is_plain b)) _ _ _ j.1) [
                   | inl k ↦ subst (Flawed (b ∷ bs)) (flaw_same k.1) (foreign_byte (not_true (is_plain b) k.0))
                   | inr k ↦
-                      elim (chosen (is_word b) _ _ _ k.1) [
+                      elim (chosen (continues_name b) _ _ _ k.1) [
                         | inl l ↦ run_flawed b bs f l.0 (ap (word_front b) (sym (run_at b bs l.0)) ∙ l.1)
                         | inr l ↦
                             elim (chosen (is_mark b) _ _ _ l.1) [

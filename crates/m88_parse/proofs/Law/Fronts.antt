@@ -10,23 +10,23 @@ use Rattle.m88_base.specs.Name.{IsName, begins_name, continues_name}
 use Rattle.m88_parse.specs.declared.fault.ParseKind.{ParseKind}
 use Rattle.m88_parse.specs.declared.fault.ParseKind.TheVariants.{NotAscii, Syntax, OutOfRange}
 use Rattle.m88_parse.specs.declared.scan.Flaw.{Flaw}
-use Rattle.m88_parse.specs.Tokens.{inside_len, holds_escapes, text_bytes, character, Cut, gap, cut, flaw, token_or_flaw, name_front, number_front, number_of, quoted_meaning, quoted, word_front, front, numeral}
-use Rattle.m88_parse.specs.Spelling.Bytes.{is_blank, is_comment, is_plain, is_word, is_mark, are_digits}
-use Rattle.m88_parse.specs.Spelling.Pieces.{Meaning, a_name, a_number, a_text, a_mark}
-use Rattle.m88_parse.specs.Spelling.Tokens.{IsRun, EndsRun, IsDecimal, IsNumeral, Holds, IsToken}
+use Rattle.m88_parse.specs.Reader.Tokens.{inside_len, holds_escapes, text_bytes, character, Cut, gap, cut, flaw, token_or_flaw, name_front, number_front, as_number, quoted_value, quoted, word_front, front, numeral}
+use Rattle.m88_parse.specs.Language.Bytes.{is_blank, is_comment, is_plain, is_mark, are_digits}
+use Rattle.m88_parse.specs.Language.Pieces.{TokenValue, a_name, a_number, a_text, a_mark}
+use Rattle.m88_parse.specs.Language.Tokens.{AreNameBytes, BeginsWithNoNameByte, IsDecimal, IsNumeral, Holds, IsToken}
 use Rattle.m88_parse.proofs.Law.Steps.{both, either, chosen, take_then, take_else, Stops, prefix_all, all_of_prefix, stops_prefix, prefix_whole, whole_prefix}
 use Rattle.m88_parse.proofs.Law.Numbers.{number_is, number_again}
 use Rattle.m88_parse.proofs.Law.Quotes.{holds_len, inside_fits, inside_again, closed_by, not_lone, holds_plain, holds_again, bytes_again, character_again, text_is, character_is}
 
 -- classes of bytes
 
-word_no_comment : (b : ℕ) → is_word b ≡ true → is_comment b ≡ false
+word_no_comment : (b : ℕ) → continues_name b ≡ true → is_comment b ≡ false
 word_no_comment b h = grind (arith, nat_tests)
 
-word_no_blank : (b : ℕ) → is_word b ≡ true → is_blank b ≡ false
+word_no_blank : (b : ℕ) → continues_name b ≡ true → is_blank b ≡ false
 word_no_blank b h = grind (arith, nat_tests)
 
-word_plain : (b : ℕ) → is_word b ≡ true → is_plain b ≡ true
+word_plain : (b : ℕ) → continues_name b ≡ true → is_plain b ≡ true
 word_plain b h = grind (arith, nat_tests)
 
 mark_no_comment : (b : ℕ) → is_mark b ≡ true → is_comment b ≡ false
@@ -38,29 +38,29 @@ mark_no_blank b h = grind (arith, nat_tests)
 mark_plain : (b : ℕ) → is_mark b ≡ true → is_plain b ≡ true
 mark_plain b h = grind (arith, nat_tests)
 
-mark_no_word : (b : ℕ) → is_mark b ≡ true → is_word b ≡ false
+mark_no_word : (b : ℕ) → is_mark b ≡ true → continues_name b ≡ false
 mark_no_word b h = grind (arith, nat_tests)
 
-pub digit_word : (b : ℕ) → is_ascii_digit b ≡ true → is_word b ≡ true
+pub digit_word : (b : ℕ) → is_ascii_digit b ≡ true → continues_name b ≡ true
 digit_word b h = grind (arith, nat_tests)
 
 -- the front by its first byte
 
 after_gaps : List ℕ → ℕ → List ℕ → Result Cut Flaw
-after_gaps run b bs = if is_word b then word_front b run else (if is_mark b then cut 1 (a_mark b) else (if b == 34 || b == 39 then quoted b bs else flaw Syntax 0))
+after_gaps run b bs = if continues_name b then word_front b run else (if is_mark b then cut 1 (a_mark b) else (if b == 34 || b == 39 then quoted b bs else flaw Syntax 0))
 
-pub run_at : (b : ℕ) (bs : List ℕ) → is_word b ≡ true → take (prefix_len is_word (b ∷ bs)) (b ∷ bs) ≡ b ∷ take (prefix_len is_word bs) bs
+pub run_at : (b : ℕ) (bs : List ℕ) → continues_name b ≡ true → take (prefix_len continues_name (b ∷ bs)) (b ∷ bs) ≡ b ∷ take (prefix_len continues_name bs) bs
 run_at b bs h =
-    let e : prefix_len is_word (b ∷ bs) ≡ suc (prefix_len is_word bs) = take_then (is_word b) (1 + prefix_len is_word bs) 0 h ∙ one-add (prefix_len is_word bs) in
+    let e : prefix_len continues_name (b ∷ bs) ≡ suc (prefix_len continues_name bs) = take_then (continues_name b) (1 + prefix_len continues_name bs) 0 h ∙ one-add (prefix_len continues_name bs) in
     ap (λ (n : ℕ). take n (b ∷ bs)) e
 
-front_word : (b : ℕ) (bs : List ℕ) → is_word b ≡ true → front (b ∷ bs) ≡ word_front b (b ∷ take (prefix_len is_word bs) bs)
+front_word : (b : ℕ) (bs : List ℕ) → continues_name b ≡ true → front (b ∷ bs) ≡ word_front b (b ∷ take (prefix_len continues_name bs) bs)
 unfolding front
 front_word b bs h =
     take_else (is_comment b) _ _ (word_no_comment b h)
     ∙ take_else (is_blank b) _ _ (word_no_blank b h)
     ∙ take_else (not (is_plain b)) _ _ (ap not (word_plain b h))
-    ∙ take_then (is_word b) _ _ h
+    ∙ take_then (continues_name b) _ _ h
     ∙ ap (word_front b) (run_at b bs h)
 
 front_mark : (b : ℕ) (bs : List ℕ) → is_mark b ≡ true → front (b ∷ bs) ≡ cut 1 (a_mark b)
@@ -69,7 +69,7 @@ front_mark b bs h =
     take_else (is_comment b) _ _ (mark_no_comment b h)
     ∙ take_else (is_blank b) _ _ (mark_no_blank b h)
     ∙ take_else (not (is_plain b)) _ _ (ap not (mark_plain b h))
-    ∙ take_else (is_word b) _ _ (mark_no_word b h)
+    ∙ take_else (continues_name b) _ _ (mark_no_word b h)
     ∙ take_then (is_mark b) _ _ h
 
 pub front_double : (bs : List ℕ) → front (34 ∷ bs) ≡ quoted 34 bs
@@ -88,9 +88,9 @@ length_text q inside = omega (arith, length-append inside (q ∷ []))
 abbrev quoted_by : ℕ → ℕ → ℕ → List ℕ → Result Cut Flaw
 quoted_by q total len inside =
     if nat_lt (prefix_len is_plain inside) len then flaw NotAscii (prefix_len is_plain inside + 1)
-    else token_or_flaw (len + 2) (if len == total then None else quoted_meaning q inside)
+    else token_or_flaw (len + 2) (if len == total then None else quoted_value q inside)
 
-quoted_again : (q : ℕ) (m : Meaning) (inside bytes rest : List ℕ) → (92 == q) ≡ false → Holds q inside bytes → quoted_meaning q inside ≡ Some m
+quoted_again : (q : ℕ) (m : TokenValue) (inside bytes rest : List ℕ) → (92 == q) ≡ false → Holds q inside bytes → quoted_value q inside ≡ Some m
     → quoted q (inside ++ q ∷ rest) ≡ cut (length inside + 2) m
 unfolding quoted
 quoted_again q m inside bytes rest k h e =
@@ -110,33 +110,33 @@ all_as p q f (x ∷ xs) h = let k = both (p x) (list_all p xs) h in ap (λ (t : 
 value_digit : (d : ℕ) → nat_lt (digit_value d) 10 ≡ true → is_ascii_digit d ≡ true
 value_digit d h = grind (arith, nat_tests)
 
-value_word : (d : ℕ) → nat_lt (digit_value d) 16 ≡ true → is_word d ≡ true
+value_word : (d : ℕ) → nat_lt (digit_value d) 16 ≡ true → continues_name d ≡ true
 value_word d h = grind (arith, nat_tests)
 
-pub front_run : (b : ℕ) (t rest : List ℕ) → IsRun (b ∷ t) → EndsRun rest → front (b ∷ (t ++ rest)) ≡ word_front b (b ∷ t)
+pub front_run : (b : ℕ) (t rest : List ℕ) → AreNameBytes (b ∷ t) → BeginsWithNoNameByte rest → front (b ∷ (t ++ rest)) ≡ word_front b (b ∷ t)
 front_run b t rest h k =
-    let j = both (is_word b) (list_all is_word t) h in
-    let e : prefix_len is_word (t ++ rest) ≡ length t = prefix_all is_word t rest j.1 (stops rest k) in
-    let f : take (prefix_len is_word (t ++ rest)) (t ++ rest) ≡ t = ap (λ (n : ℕ). take n (t ++ rest)) e ∙ take-append_seam t rest in
+    let j = both (continues_name b) (list_all continues_name t) h in
+    let e : prefix_len continues_name (t ++ rest) ≡ length t = prefix_all continues_name t rest j.1 (stops rest k) in
+    let f : take (prefix_len continues_name (t ++ rest)) (t ++ rest) ≡ t = ap (λ (n : ℕ). take n (t ++ rest)) e ∙ take-append_seam t rest in
     front_word b (t ++ rest) j.0 ∙ ap (λ (bs : List ℕ). word_front b (b ∷ bs)) f
   where
-    stops : (xs : List ℕ) → EndsRun xs → Stops is_word xs
+    stops : (xs : List ℕ) → BeginsWithNoNameByte xs → Stops continues_name xs
     stops [] x = tt
     stops (y ∷ ys) x = x
 
-begin_word : (b : ℕ) → begins_name b ≡ true → is_word b ≡ true
+begin_word : (b : ℕ) → begins_name b ≡ true → continues_name b ≡ true
 begin_word b h = grind (arith, nat_tests)
 
 begin_no_digit : (b : ℕ) → begins_name b ≡ true → is_ascii_digit b ≡ false
 begin_no_digit b h = grind (arith, nat_tests)
 
-continue_word : (b : ℕ) → continues_name b ≡ true → is_word b ≡ true
+continue_word : (b : ℕ) → continues_name b ≡ true → continues_name b ≡ true
 continue_word b h = grind (arith, nat_tests)
 
-word_begin : (b : ℕ) → is_word b ≡ true → is_ascii_digit b ≡ false → begins_name b ≡ true
+word_begin : (b : ℕ) → continues_name b ≡ true → is_ascii_digit b ≡ false → begins_name b ≡ true
 word_begin b h d = grind (arith, nat_tests)
 
-word_continue : (b : ℕ) → is_word b ≡ true → continues_name b ≡ true
+word_continue : (b : ℕ) → continues_name b ≡ true → continues_name b ≡ true
 word_continue b h = grind (arith, nat_tests)
 
 all_here : (p : ℕ → Bool) (xs : List ℕ) → All (λ b. p b ≡ true) xs → list_all p xs ≡ true
@@ -145,16 +145,16 @@ all_here p xs h = list_all-from_AllPass p xs h
 all_there : (p : ℕ → Bool) (xs : List ℕ) → list_all p xs ≡ true → All (λ b. p b ≡ true) xs
 all_there p xs h = AllPass-from_list_all p xs h
 
-name_again : (name rest : List ℕ) → IsName name → (IsRun name → EndsRun rest) → front (name ++ rest) ≡ cut (length name) (a_name name)
+name_again : (name rest : List ℕ) → IsName name → (AreNameBytes name → BeginsWithNoNameByte rest) → front (name ++ rest) ≡ cut (length name) (a_name name)
 name_again [] rest h k = absurd h
 name_again (b ∷ t) rest h k =
-    let r : IsRun (b ∷ t) = ap (λ (u : Bool). u && list_all is_word t) (begin_word b h.0) ∙ all_as continues_name is_word continue_word t (all_here continues_name t h.1) in
+    let r : AreNameBytes (b ∷ t) = ap (λ (u : Bool). u && list_all continues_name t) (begin_word b h.0) ∙ all_as continues_name continues_name continue_word t (all_here continues_name t h.1) in
     let l = h.2 in
     front_run b t rest r (k r)
     ∙ take_else (is_ascii_digit b) _ _ (begin_no_digit b h.0)
     ∙ take_else (nat_lt 64 (length (b ∷ t))) _ _ (le-ltb 64 (length (b ∷ t)) (omega (arith, l)))
 
-number_run : (text rest : List ℕ) (n : ℕ) → 0 < length text → IsRun text → EndsRun rest → list_all is_ascii_digit (take 1 text) ≡ true → numeral text ≡ Ok n → front (text ++ rest) ≡ cut (length text) (a_number n)
+number_run : (text rest : List ℕ) (n : ℕ) → 0 < length text → AreNameBytes text → BeginsWithNoNameByte rest → list_all is_ascii_digit (take 1 text) ≡ true → numeral text ≡ Ok n → front (text ++ rest) ≡ cut (length text) (a_number n)
 number_run [] rest n s h k d e = absurd (omega arith)
 number_run (b ∷ t) rest n s h k d e =
     front_run b t rest h k
@@ -162,22 +162,22 @@ number_run (b ∷ t) rest n s h k d e =
     ∙ ap (number_front (length (b ∷ t))) e
 
 -- decimal digits, and 0x with hexadecimal digits, are runs that begin with a digit
-pub decimal_run : (text : List ℕ) (n : ℕ) → IsDecimal text n → IsRun text
-decimal_run text n h = all_as (λ d. nat_lt (digit_value d) 10) is_word (λ d e. digit_word d (value_digit d e)) text h.digits
+pub decimal_run : (text : List ℕ) (n : ℕ) → IsDecimal text n → AreNameBytes text
+decimal_run text n h = all_as (λ d. nat_lt (digit_value d) 10) continues_name (λ d e. digit_word d (value_digit d e)) text h.digits
 
 pub decimal_first : (text : List ℕ) → are_digits 10 text ≡ true → list_all is_ascii_digit (take 1 text) ≡ true
 decimal_first [] h = refl
 decimal_first (d ∷ ds) h = ap (λ (t : Bool). t && true) (value_digit d (both (nat_lt (digit_value d) 10) (are_digits 10 ds) h).0)
 
-pub hexadecimal_run : (digits : List ℕ) → are_digits 16 digits ≡ true → IsRun (48 ∷ 120 ∷ digits)
-hexadecimal_run digits h = all_as (λ d. nat_lt (digit_value d) 16) is_word value_word digits h
+pub hexadecimal_run : (digits : List ℕ) → are_digits 16 digits ≡ true → AreNameBytes (48 ∷ 120 ∷ digits)
+hexadecimal_run digits h = all_as (λ d. nat_lt (digit_value d) 16) continues_name value_word digits h
 
-numeral_again : (text rest : List ℕ) (n : ℕ) → IsNumeral text n → n < 4294967296 → (IsRun text → EndsRun rest) → front (text ++ rest) ≡ cut (length text) (a_number n)
+numeral_again : (text rest : List ℕ) (n : ℕ) → IsNumeral text n → n < 4294967296 → (AreNameBytes text → BeginsWithNoNameByte rest) → front (text ++ rest) ≡ cut (length text) (a_number n)
 numeral_again text rest n (inl h) b k =
     let r = decimal_run text n h in
     number_run text rest n h.some r (k r) (decimal_first text h.digits) (number_again text n (inl h) b)
 numeral_again text rest n (inr h) b k =
-    let r : IsRun text = rw h.bytes (hexadecimal_run h.digits h.hexadecimal) in
+    let r : AreNameBytes text = rw h.bytes (hexadecimal_run h.digits h.hexadecimal) in
     let s : 0 < length text = rw h.bytes (omega arith) in
     let d : list_all is_ascii_digit (take 1 text) ≡ true = rw h.bytes refl in
     number_run text rest n s r (k r) d (number_again text n (inr h) b)
@@ -187,18 +187,18 @@ between q inside rest = ap (λ (bs : List ℕ). q ∷ bs) (append_assoc inside (
 
 double_again : (inside bytes rest : List ℕ) → Holds 34 inside bytes → front ((34 ∷ inside ++ 34 ∷ []) ++ rest) ≡ cut (length (34 ∷ inside ++ 34 ∷ [])) (a_text bytes)
 double_again inside bytes rest h =
-    let v : quoted_meaning 34 inside ≡ Some (a_text bytes) = take_then (holds_escapes false inside) _ _ (holds_again 34 h) ∙ ap (λ (bs : List ℕ). let o : Option Meaning = Some (a_text bs) in o) (bytes_again 34 h) in
+    let v : quoted_value 34 inside ≡ Some (a_text bytes) = take_then (holds_escapes false inside) _ _ (holds_again 34 h) ∙ ap (λ (bs : List ℕ). let o : Option TokenValue = Some (a_text bs) in o) (bytes_again 34 h) in
     ap front (between 34 inside rest) ∙ front_double (inside ++ 34 ∷ rest) ∙ quoted_again 34 (a_text bytes) inside bytes rest refl h v ∙ ap (λ (n : ℕ). cut n (a_text bytes)) (length_text 34 inside)
 
 single_again : (inside rest : List ℕ) (n : ℕ) → Holds 39 inside (n ∷ []) → front ((39 ∷ inside ++ 39 ∷ []) ++ rest) ≡ cut (length (39 ∷ inside ++ 39 ∷ [])) (a_number n)
 single_again inside rest n h =
-    let v : quoted_meaning 39 inside ≡ Some (a_number n) = ap number_of (character_again 39 n h) in
+    let v : quoted_value 39 inside ≡ Some (a_number n) = ap as_number (character_again 39 n h) in
     ap front (between 39 inside rest) ∙ front_single (inside ++ 39 ∷ rest) ∙ quoted_again 39 (a_number n) inside (n ∷ []) rest refl h v ∙ ap (λ (k : ℕ). cut k (a_number n)) (length_text 39 inside)
 
-pub front_again : (text rest : List ℕ) (m : Meaning) → IsToken text m → (IsRun text → EndsRun rest) → front (text ++ rest) ≡ cut (length text) m
+pub front_again : (text rest : List ℕ) (m : TokenValue) → IsToken text m → (AreNameBytes text → BeginsWithNoNameByte rest) → front (text ++ rest) ≡ cut (length text) m
 front_again text rest (a_name name) h k =
     let e : text ≡ name = h.0 in
-    rw e (name_again name rest h.1 (subst (λ (bs : List ℕ). IsRun bs → EndsRun rest) e k))
+    rw e (name_again name rest h.1 (subst (λ (bs : List ℕ). AreNameBytes bs → BeginsWithNoNameByte rest) e k))
 front_again text rest (a_number n) (inl h) k = numeral_again text rest n h.0 h.1 k
 front_again text rest (a_number n) (inr h) k = rw h.text_is (single_again h.inside rest n h.holds)
 front_again text rest (a_text bytes) h k = rw h.text_is (double_again h.inside bytes rest h.holds)
@@ -208,10 +208,10 @@ front_again text rest (a_mark m) h k = rw h.0 (front_mark m rest h.1)
 
 -- a token at the front of bytes, of the length and meaning that a cut says
 pub record TokenAt (bytes : List ℕ) (c : Cut) : Type 0 where
-  pub meaning : Meaning
+  pub meaning : TokenValue
   pub says : c.says ≡ Some meaning
   pub token : IsToken (take c.len bytes) meaning
-  pub longest : IsRun (take c.len bytes) → EndsRun (drop c.len bytes)
+  pub longest : AreNameBytes (take c.len bytes) → BeginsWithNoNameByte (drop c.len bytes)
   pub some : 0 < c.len
   pub fits : c.len ≤ length bytes
 
@@ -224,7 +224,7 @@ pub data Stands : List ℕ → Cut → Type 0 where
 ok_cut : {a b : Cut} → ◌≡◌ {A = Result Cut Flaw} (Ok a) (Ok b) → a ≡ b
 ok_cut h = cc
 
-token_is : (bytes text rest : List ℕ) (m : Meaning) (len : ℕ) → bytes ≡ text ++ rest → length text ≡ len → 0 < len → IsToken text m → (IsRun text → EndsRun rest) → TokenAt bytes (record { len = len; says = Some m })
+token_is : (bytes text rest : List ℕ) (m : TokenValue) (len : ℕ) → bytes ≡ text ++ rest → length text ≡ len → 0 < len → IsToken text m → (AreNameBytes text → BeginsWithNoNameByte rest) → TokenAt bytes (record { len = len; says = Some m })
 token_is bytes text rest m len e l s t k =
     let f : take len bytes ≡ text = ap (take len) e ∙ take_at text rest len l in
     let g : drop len bytes ≡ rest = ap (drop len) e ∙ drop_at text rest len l in
@@ -232,12 +232,12 @@ token_is bytes text rest m len e l s t k =
       meaning = m;
       says = refl;
       token = subst (λ (bs : List ℕ). IsToken bs m) (sym f) t;
-      longest = subst₂ (λ (x y : List ℕ). IsRun x → EndsRun y) (sym f) (sym g) k;
+      longest = subst₂ (λ (x y : List ℕ). AreNameBytes x → BeginsWithNoNameByte y) (sym f) (sym g) k;
       some = s;
       fits = omega (arith, l, ap length e, length-append text rest);
     }
 
-word_stands : (b : ℕ) (t rest : List ℕ) (c : Cut) → IsRun (b ∷ t) → EndsRun rest → word_front b (b ∷ t) ≡ Ok c → TokenAt (b ∷ (t ++ rest)) c
+word_stands : (b : ℕ) (t rest : List ℕ) (c : Cut) → AreNameBytes (b ∷ t) → BeginsWithNoNameByte rest → word_front b (b ∷ t) ≡ Ok c → TokenAt (b ∷ (t ++ rest)) c
 word_stands b t rest c r k h =
     elim (chosen (is_ascii_digit b) (number_front (length (b ∷ t)) (numeral (b ∷ t))) (name_front (b ∷ t)) (Ok c) h) [
       | inl j ↦ number_stands (numeral (b ∷ t)) refl j.1
@@ -248,7 +248,7 @@ word_stands b t rest c r k h =
           ]
     ]
   where
-    made : (m : Meaning) → IsToken (b ∷ t) m → record { len = length (b ∷ t); says = Some m } ≡ c → TokenAt (b ∷ (t ++ rest)) c
+    made : (m : TokenValue) → IsToken (b ∷ t) m → record { len = length (b ∷ t); says = Some m } ≡ c → TokenAt (b ∷ (t ++ rest)) c
     made m x e = subst (TokenAt (b ∷ (t ++ rest))) e (token_is (b ∷ (t ++ rest)) (b ∷ t) rest m (length (b ∷ t)) refl refl (omega arith) x (λ _. k))
 
     number_stands : (v : Result ℕ ParseKind) → numeral (b ∷ t) ≡ v → number_front (length (b ∷ t)) v ≡ Ok c → TokenAt (b ∷ (t ++ rest)) c
@@ -257,31 +257,31 @@ word_stands b t rest c r k h =
 
     name_stands : record { len = length (b ∷ t); says = Some (a_name (b ∷ t)) } ≡ c → is_ascii_digit b ≡ false → length (b ∷ t) ≤ 64 → TokenAt (b ∷ (t ++ rest)) c
     name_stands e d l =
-        let k = both (is_word b) (list_all is_word t) r in
-        let x : IsName (b ∷ t) = (word_begin b k.0 d, all_there continues_name t (all_as is_word continues_name word_continue t k.1), omega (arith, l)) in
+        let k = both (continues_name b) (list_all continues_name t) r in
+        let x : IsName (b ∷ t) = (word_begin b k.0 d, all_there continues_name t (all_as continues_name continues_name word_continue t k.1), omega (arith, l)) in
         made (a_name (b ∷ t)) (refl, x) e
 
 -- what two quotes of a kind hold is a token of that kind
 abbrev pub Makes : ℕ → Type 0
-Makes q = (inside : List ℕ) → inside_len q false inside ≡ length inside → list_all is_plain inside ≡ true → inside ≢ 92 ∷ [] → (m : Meaning) → quoted_meaning q inside ≡ Some m → IsToken (q ∷ inside ++ q ∷ []) m
+Makes q = (inside : List ℕ) → inside_len q false inside ≡ length inside → list_all is_plain inside ≡ true → inside ≢ 92 ∷ [] → (m : TokenValue) → quoted_value q inside ≡ Some m → IsToken (q ∷ inside ++ q ∷ []) m
 
-quoted_made : (q : ℕ) (bs inside rest : List ℕ) (m : Meaning) (c : Cut) → is_word q ≡ false → bs ≡ inside ++ q ∷ rest → IsToken (q ∷ inside ++ q ∷ []) m → inside_len q false bs ≡ length inside → cut (inside_len q false bs + 2) m ≡ Ok c → TokenAt (q ∷ bs) c
+quoted_made : (q : ℕ) (bs inside rest : List ℕ) (m : TokenValue) (c : Cut) → continues_name q ≡ false → bs ≡ inside ++ q ∷ rest → IsToken (q ∷ inside ++ q ∷ []) m → inside_len q false bs ≡ length inside → cut (inside_len q false bs + 2) m ≡ Ok c → TokenAt (q ∷ bs) c
 quoted_made q bs inside rest m c w b t l f =
     let x : q ∷ bs ≡ (q ∷ inside ++ q ∷ []) ++ rest = ap (λ (xs : List ℕ). q ∷ xs) b ∙ sym (between q inside rest) in
     let y : length (q ∷ inside ++ q ∷ []) ≡ inside_len q false bs + 2 = omega (arith, l, length_text q inside) in
-    let no_run : IsRun (q ∷ inside ++ q ∷ []) → EndsRun rest = λ (r : IsRun (q ∷ inside ++ q ∷ [])). absurd (true≢false (sym (both (is_word q) (list_all is_word (inside ++ q ∷ [])) r).0 ∙ w)) in
+    let no_run : AreNameBytes (q ∷ inside ++ q ∷ []) → BeginsWithNoNameByte rest = λ (r : AreNameBytes (q ∷ inside ++ q ∷ [])). absurd (true≢false (sym (both (continues_name q) (list_all continues_name (inside ++ q ∷ [])) r).0 ∙ w)) in
     subst (TokenAt (q ∷ bs)) (ok_cut f) (token_is (q ∷ bs) (q ∷ inside ++ q ∷ []) rest m (inside_len q false bs + 2) x y (omega arith) t no_run)
 
-token_made : (len : ℕ) (o : Option Meaning) (c : Cut) → token_or_flaw len o ≡ Ok c → (m : Meaning) × (o ≡ Some m) × (cut len m ≡ Ok c)
+token_made : (len : ℕ) (o : Option TokenValue) (c : Cut) → token_or_flaw len o ≡ Ok c → (m : TokenValue) × (o ≡ Some m) × (cut len m ≡ Ok c)
 token_made len (Some m) c h = (m, refl, h)
 token_made len None c h = absurd cc
 
-quoted_closed : (q : ℕ) (bs : List ℕ) (c : Cut) → Makes q → is_word q ≡ false → length (take (inside_len q false bs) bs) ≡ inside_len q false bs → inside_len q false bs ≤ length bs → list_all is_plain (take (inside_len q false bs) bs) ≡ true
-    → token_or_flaw (inside_len q false bs + 2) (if inside_len q false bs == length bs then None else quoted_meaning q (take (inside_len q false bs) bs)) ≡ Ok c → TokenAt (q ∷ bs) c
+quoted_closed : (q : ℕ) (bs : List ℕ) (c : Cut) → Makes q → continues_name q ≡ false → length (take (inside_len q false bs) bs) ≡ inside_len q false bs → inside_len q false bs ≤ length bs → list_all is_plain (take (inside_len q false bs) bs) ≡ true
+    → token_or_flaw (inside_len q false bs + 2) (if inside_len q false bs == length bs then None else quoted_value q (take (inside_len q false bs) bs)) ≡ Ok c → TokenAt (q ∷ bs) c
 quoted_closed q bs c tokens w size fits plain g =
     let inside = take (inside_len q false bs) bs in
-    let t = token_made (inside_len q false bs + 2) (if inside_len q false bs == length bs then None else quoted_meaning q inside) c g in
-    elim (chosen (inside_len q false bs == length bs) None (quoted_meaning q inside) (Some t.0) t.1) [
+    let t = token_made (inside_len q false bs + 2) (if inside_len q false bs == length bs then None else quoted_value q inside) c g in
+    elim (chosen (inside_len q false bs == length bs) None (quoted_value q inside) (Some t.0) t.1) [
       | inl j ↦ absurd cc
       | inr j ↦
           let d = eqb-false (inside_len q false bs) (length bs) j.0 in
@@ -290,14 +290,14 @@ quoted_closed q bs c tokens w size fits plain g =
           quoted_made q bs inside r.0 t.0 c w r.1 (tokens inside (inside_again q false bs ∙ sym size) plain (not_lone q bs below) t.0 j.1) (sym size) t.2
     ]
 
-quoted_stands : (q : ℕ) (bs : List ℕ) (c : Cut) → Makes q → is_word q ≡ false → quoted q bs ≡ Ok c → TokenAt (q ∷ bs) c
+quoted_stands : (q : ℕ) (bs : List ℕ) (c : Cut) → Makes q → continues_name q ≡ false → quoted q bs ≡ Ok c → TokenAt (q ∷ bs) c
 unfolding quoted
 quoted_stands q bs c tokens w h =
     let len = inside_len q false bs in
     let inside = take len bs in
     let fits = inside_fits q false bs in
     let size : length inside ≡ len = omega (arith, length-take len bs, fits) in
-    elim (chosen (nat_lt (prefix_len is_plain inside) len) (flaw NotAscii (prefix_len is_plain inside + 1)) (token_or_flaw (len + 2) (if len == length bs then None else quoted_meaning q inside)) (Ok c) h) [
+    elim (chosen (nat_lt (prefix_len is_plain inside) len) (flaw NotAscii (prefix_len is_plain inside + 1)) (token_or_flaw (len + 2) (if len == length bs then None else quoted_value q inside)) (Ok c) h) [
       | inl j ↦ absurd cc
       | inr j ↦
           let plain : list_all is_plain inside ≡ true =
@@ -314,7 +314,7 @@ makes_text inside l p w m h =
       | inr j ↦ absurd cc
     ]
 
-number_made : (o : Option ℕ) (m : Meaning) → number_of o ≡ Some m → (n : ℕ) × (o ≡ Some n) × (a_number n ≡ m)
+number_made : (o : Option ℕ) (m : TokenValue) → as_number o ≡ Some m → (n : ℕ) × (o ≡ Some n) × (a_number n ≡ m)
 number_made None m h = absurd cc
 number_made (Some n) m h = (n, refl, cc)
 
@@ -330,14 +330,14 @@ quote_stands : (b : ℕ) (bs : List ℕ) (c : Cut) → (b ≡ 34) ⊎ (b ≡ 39)
 quote_stands b bs c (inl e) h = subst (λ (q : ℕ). TokenAt (q ∷ bs) c) (sym e) (quoted_stands 34 bs c makes_text refl (ap (λ (q : ℕ). quoted q bs) (sym e) ∙ h))
 quote_stands b bs c (inr e) h = subst (λ (q : ℕ). TokenAt (q ∷ bs) c) (sym e) (quoted_stands 39 bs c makes_character refl (ap (λ (q : ℕ). quoted q bs) (sym e) ∙ h))
 
-run_stands : (b : ℕ) (bs : List ℕ) (c : Cut) → is_word b ≡ true → word_front b (b ∷ take (prefix_len is_word bs) bs) ≡ Ok c → TokenAt (b ∷ bs) c
+run_stands : (b : ℕ) (bs : List ℕ) (c : Cut) → continues_name b ≡ true → word_front b (b ∷ take (prefix_len continues_name bs) bs) ≡ Ok c → TokenAt (b ∷ bs) c
 run_stands b bs c w h =
-    let n = prefix_len is_word bs in
-    let r : IsRun (b ∷ take n bs) = ap (λ (t : Bool). t && list_all is_word (take n bs)) w ∙ all_of_prefix is_word bs in
+    let n = prefix_len continues_name bs in
+    let r : AreNameBytes (b ∷ take n bs) = ap (λ (t : Bool). t && list_all continues_name (take n bs)) w ∙ all_of_prefix continues_name bs in
     let e : b ∷ (take n bs ++ drop n bs) ≡ b ∷ bs = ap (λ (xs : List ℕ). b ∷ xs) (take-append-drop n bs) in
-    subst (λ (xs : List ℕ). TokenAt xs c) e (word_stands b (take n bs) (drop n bs) c r (ends (drop n bs) (stops_prefix is_word bs)) h)
+    subst (λ (xs : List ℕ). TokenAt xs c) e (word_stands b (take n bs) (drop n bs) c r (ends (drop n bs) (stops_prefix continues_name bs)) h)
   where
-    ends : (xs : List ℕ) → Stops is_word xs → EndsRun xs
+    ends : (xs : List ℕ) → Stops continues_name xs → BeginsWithNoNameByte xs
     ends [] x = tt
     ends (y ∷ ys) x = x
 
@@ -354,13 +354,13 @@ front_stands (b ∷ bs) c s h =
                 elim (chosen (not (is_plain b)) _ _ _ j.1) [
                   | inl k ↦ absurd cc
                   | inr k ↦
-                      elim (chosen (is_word b) _ _ _ k.1) [
+                      elim (chosen (continues_name b) _ _ _ k.1) [
                         | inl l ↦ token_stands (run_stands b bs c l.0 (ap (word_front b) (sym (run_at b bs l.0)) ∙ l.1))
                         | inr l ↦
                             elim (chosen (is_mark b) _ _ _ l.1) [
                               | inl m ↦
                                   let t = token_is (b ∷ bs) (b ∷ []) bs (a_mark b) 1 refl refl (omega arith) (refl, m.0)
-                                  (λ (r : IsRun (b ∷ [])). absurd (true≢false (sym (both (is_word b) true r).0 ∙ l.0))) in
+                                  (λ (r : AreNameBytes (b ∷ [])). absurd (true≢false (sym (both (continues_name b) true r).0 ∙ l.0))) in
                                   token_stands (subst (TokenAt (b ∷ bs)) (ok_cut m.1) t)
                               | inr m ↦
                                   elim (chosen (b == 34 || b == 39) _ _ _ m.1) [

@@ -5,12 +5,12 @@ use Rattle.std.proofs.lemmas.Slice.Eq.{bytes_eq-Decides}
 use Rattle.m88_base.specs.declared.fixup.Kind.{Kind}
 use Rattle.m88_base.specs.declared.fixup.Fixup.{Fixup}
 use Rattle.m88_parse.specs.declared.operand.Goal.{Goal}
-use Rattle.m88_parse.specs.Spelling.Pieces.{Meaning, a_name, a_number, a_text, a_mark, Piece}
-use Rattle.m88_parse.specs.State.{State, first, past, is_mark_of, is_next, ◌>>=◌}
-use Rattle.m88_parse.specs.Slots.{Read, fixup_at}
-use Rattle.m88_parse.specs.Operands.{distance_on, distance_at, words_at, is_here_on, goal_at}
-use Rattle.m88_parse.specs.Spelling.Names.{IsMark, IsNumber, IsNamed}
-use Rattle.m88_parse.specs.Spelling.Operands.{IsFixup, IsDistance, IsPlace, IsGoal, place as a_place, symbol as a_symbol}
+use Rattle.m88_parse.specs.Language.Pieces.{TokenValue, a_name, a_number, a_text, a_mark, Piece}
+use Rattle.m88_parse.specs.Reader.State.{ReaderState, first, past, is_mark_of, is_next, ◌>>=◌}
+use Rattle.m88_parse.specs.Reader.Slots.{Read, fixup_at}
+use Rattle.m88_parse.specs.Reader.Operands.{distance_on, distance_at, words_at, is_here_on, goal_at}
+use Rattle.m88_parse.specs.Language.Names.{IsMark, IsNumber, IsNamed}
+use Rattle.m88_parse.specs.Language.Operands.{IsFixup, IsDistance, IsPlace, IsGoal, place as a_place, symbol as a_symbol}
 use Rattle.m88_parse.proofs.Law.Steps.{both, chosen, take_then, take_else}
 use Rattle.m88_parse.proofs.Law.Names.{other_bytes}
 use Rattle.m88_parse.proofs.Law.Slots.{st, ok_same, bind_ok, bind_to, One, next_is, next_again}
@@ -22,7 +22,7 @@ use Rattle.m88_parse.proofs.Law.Values.{Several, several, fixup_read, fixup_agai
 abbrev pub IsFourfold : ℕ → ℕ → Piece → Type 0
 IsFourfold most n p = IsNumber (4 * n) p × (n ≤ most)
 
-distance_by : (most line e : ℕ) (p : Piece) (ps : List Piece) (m : Meaning) (x : ℕ × State) → p.says ≡ m → distance_on most (st line e (p ∷ ps)) (Some m) ≡ Ok x → One ℕ (IsFourfold most) line e (p ∷ ps) x
+distance_by : (most line e : ℕ) (p : Piece) (ps : List Piece) (m : TokenValue) (x : ℕ × ReaderState) → p.says ≡ m → distance_on most (st line e (p ∷ ps)) (Some m) ≡ Ok x → One ℕ (IsFourfold most) line e (p ∷ ps) x
 distance_by most line e p ps (a_name text) x k h = absurd cc
 distance_by most line e p ps (a_number n) x k h =
     elim (chosen (n % 4 == 0 && nat_le (n / 4) most) _ _ _ h) [
@@ -37,7 +37,7 @@ distance_by most line e p ps (a_number n) x k h =
 distance_by most line e p ps (a_text bytes) x k h = absurd cc
 distance_by most line e p ps (a_mark m) x k h = absurd cc
 
-distance_read : (most line e : ℕ) (ps : List Piece) (x : ℕ × State) → distance_at most (st line e ps) ≡ Ok x → One ℕ (IsFourfold most) line e ps x
+distance_read : (most line e : ℕ) (ps : List Piece) (x : ℕ × ReaderState) → distance_at most (st line e ps) ≡ Ok x → One ℕ (IsFourfold most) line e ps x
 unfolding distance_at
 distance_read most line e [] x h = absurd cc
 distance_read most line e (p ∷ ps) x h = distance_by most line e p ps p.says x refl h
@@ -48,22 +48,22 @@ distance_again most line e n p ps h l =
     let m : (4 * n) % 4 ≡ 0 = omega arith in
     let d : (4 * n) / 4 ≡ n = omega arith in
     let t : ((4 * n) % 4 == 0 && nat_le ((4 * n) / 4) most) ≡ true = ap₂ (λ (a b : ℕ). a == 0 && nat_le b most) m d ∙ le-leb n most l in
-    ap (λ (o : Meaning). distance_on most (st line e (p ∷ ps)) (Some o)) h
+    ap (λ (o : TokenValue). distance_on most (st line e (p ∷ ps)) (Some o)) h
     ∙ take_then ((4 * n) % 4 == 0 && nat_le ((4 * n) / 4) most) _ _ t
     ∙ ap (λ (k : ℕ). let y : Read ℕ = Ok (k, st line e ps) in y) d
 
-abbrev forward_words : ℕ × State → Read ℤ
+abbrev forward_words : ℕ × ReaderState → Read ℤ
 forward_words n = Ok (pos n.0, n.1)
 
-abbrev back_words : ℕ × State → Read ℤ
+abbrev back_words : ℕ × ReaderState → Read ℤ
 back_words n = Ok (neg_ℤ (pos n.0), n.1)
 
 -- what stands behind the . of a goal
-pub data Words (bits line e : ℕ) (ps : List Piece) (x : ℤ × State) : Type 0 where
+pub data Words (bits line e : ℕ) (ps : List Piece) (x : ℤ × ReaderState) : Type 0 where
   no_words : x.0 ≡ pos 0 → x.1 ≡ st line e ps → Words bits line e ps x
   some_words : (m p : Piece) (rest : List Piece) → ps ≡ m ∷ p ∷ rest → IsDistance bits x.0 m p → x.1 ≡ st line e rest → Words bits line e ps x
 
-words_read : (bits limit line e : ℕ) (ps : List Piece) (x : ℤ × State) → limit ≡ 2 ^ bits → 0 < limit → words_at limit (st line e ps) ≡ Ok x → Words bits line e ps x
+words_read : (bits limit line e : ℕ) (ps : List Piece) (x : ℤ × ReaderState) → limit ≡ 2 ^ bits → 0 < limit → words_at limit (st line e ps) ≡ Ok x → Words bits line e ps x
 unfolding words_at
 words_read bits limit line e ps x w some h =
     elim (chosen (is_next 43 (st line e ps)) _ _ _ h) [
@@ -73,8 +73,8 @@ words_read bits limit line e ps x w some h =
           let n = distance_read (limit - 1) line e m.rest b.0 (ap (distance_at (limit - 1)) (sym m.after) ∙ b.1) in
           let same = ok_same b.2 in
           let below : b.0.0 < 2 ^ bits = rw (← w) (let l = n.is.1 in omega arith) in
-          some_words m.piece n.piece n.rest (m.tokens ∙ ap (λ (qs : List Piece). m.piece ∷ qs) n.tokens) (b.0.0, n.is.0, inl (m.is, below, sym (ap (λ (y : ℤ × State). y.0) same)))
-          (sym (ap (λ (y : ℤ × State). y.1) same) ∙ n.after)
+          some_words m.piece n.piece n.rest (m.tokens ∙ ap (λ (qs : List Piece). m.piece ∷ qs) n.tokens) (b.0.0, n.is.0, inl (m.is, below, sym (ap (λ (y : ℤ × ReaderState). y.0) same)))
+          (sym (ap (λ (y : ℤ × ReaderState). y.1) same) ∙ n.after)
       | inr j ↦
           elim (chosen (is_next 45 (st line e ps)) _ _ _ j.1) [
             | inl k ↦
@@ -83,16 +83,16 @@ words_read bits limit line e ps x w some h =
                 let n = distance_read limit line e m.rest b.0 (ap (distance_at limit) (sym m.after) ∙ b.1) in
                 let same = ok_same b.2 in
                 let most : b.0.0 ≤ 2 ^ bits = rw (← w) n.is.1 in
-                some_words m.piece n.piece n.rest (m.tokens ∙ ap (λ (qs : List Piece). m.piece ∷ qs) n.tokens) (b.0.0, n.is.0, inr (m.is, most, sym (ap (λ (y : ℤ × State). y.0) same)))
-                (sym (ap (λ (y : ℤ × State). y.1) same) ∙ n.after)
+                some_words m.piece n.piece n.rest (m.tokens ∙ ap (λ (qs : List Piece). m.piece ∷ qs) n.tokens) (b.0.0, n.is.0, inr (m.is, most, sym (ap (λ (y : ℤ × ReaderState). y.0) same)))
+                (sym (ap (λ (y : ℤ × ReaderState). y.1) same) ∙ n.after)
             | inr k ↦
                 let same = ok_same k.1 in
-                no_words (sym (ap (λ (y : ℤ × State). y.0) same)) (sym (ap (λ (y : ℤ × State). y.1) same))
+                no_words (sym (ap (λ (y : ℤ × ReaderState). y.0) same)) (sym (ap (λ (y : ℤ × ReaderState). y.1) same))
           ]
     ]
 
-minus_no_plus : (o : Meaning) → o ≡ a_mark 45 → is_mark_of 43 (Some o) ≡ false
-minus_no_plus o h = ap (λ (m : Meaning). is_mark_of 43 (Some m)) h
+minus_no_plus : (o : TokenValue) → o ≡ a_mark 45 → is_mark_of 43 (Some o) ≡ false
+minus_no_plus o h = ap (λ (m : TokenValue). is_mark_of 43 (Some m)) h
 
 words_again : (bits limit line e : ℕ) (m p : Piece) (words : ℤ) → limit ≡ 2 ^ bits → IsDistance bits words m p → words_at limit (st line e (m ∷ p ∷ [])) ≡ Ok (words, st line e [])
 unfolding words_at
@@ -116,34 +116,34 @@ words_again bits limit line e m p words w h = by_mark h.2
 abbrev pub IsGoalOf : Kind → ℕ → List Piece → Goal → Type 0
 IsGoalOf kind bits ps x = IsGoal kind bits ps x.words x.fixup
 
-abbrev place_goal : ℤ × State → Read Goal
+abbrev place_goal : ℤ × ReaderState → Read Goal
 place_goal n = Ok (record { words = n.0; fixup = None }, n.1)
 
-abbrev symbol_goal : Fixup × State → Read Goal
+abbrev symbol_goal : Fixup × ReaderState → Read Goal
 symbol_goal f = Ok (record { words = pos 0; fixup = Some f.0 }, f.1)
 
-here_says : (o : Meaning) → is_here_on (Some o) ≡ true → o ≡ a_name (codes ".")
+here_says : (o : TokenValue) → is_here_on (Some o) ≡ true → o ≡ a_name (codes ".")
 here_says (a_name text) h = ap a_name ((bytes_eq-Decides text (codes ".")).0 h)
 here_says (a_number n) h = absurd cc
 here_says (a_text bytes) h = absurd cc
 here_says (a_mark m) h = absurd cc
 
-place_read : (kind : Kind) (bits line e : ℕ) (h : Piece) (ps : List Piece) (n : ℤ × State) (x : Goal × State) → IsNamed (codes ".") h → Words bits line e ps n → place_goal n ≡ Ok x → Several Goal (IsGoalOf kind bits) line e (h ∷ ps) x
+place_read : (kind : Kind) (bits line e : ℕ) (h : Piece) (ps : List Piece) (n : ℤ × ReaderState) (x : Goal × ReaderState) → IsNamed (codes ".") h → Words bits line e ps n → place_goal n ≡ Ok x → Several Goal (IsGoalOf kind bits) line e (h ∷ ps) x
 place_read kind bits line e h ps n x k (no_words z a) g =
     several Goal (IsGoalOf kind bits) line e (h ∷ ps) (h ∷ []) ps (record { words = n.0; fixup = None }) x refl (a_place (k, z))
-    (ap (λ (u : State). let y : Goal × State = (record { words = n.0; fixup = None }, u) in y) (sym a) ∙ ok_same g)
+    (ap (λ (u : ReaderState). let y : Goal × ReaderState = (record { words = n.0; fixup = None }, u) in y) (sym a) ∙ ok_same g)
 place_read kind bits line e h ps n x k (some_words m p rest t d a) g =
     several Goal (IsGoalOf kind bits) line e (h ∷ ps) (h ∷ m ∷ p ∷ []) rest (record { words = n.0; fixup = None }) x (ap (λ (qs : List Piece). h ∷ qs) t) (a_place (k, d))
-    (ap (λ (u : State). let y : Goal × State = (record { words = n.0; fixup = None }, u) in y) (sym a) ∙ ok_same g)
+    (ap (λ (u : ReaderState). let y : Goal × ReaderState = (record { words = n.0; fixup = None }, u) in y) (sym a) ∙ ok_same g)
 
-goal_symbol : (kind : Kind) (bits line e : ℕ) (ps : List Piece) (x : Goal × State) → (fixup_at kind (st line e ps) >>= symbol_goal) ≡ Ok x → Several Goal (IsGoalOf kind bits) line e ps x
+goal_symbol : (kind : Kind) (bits line e : ℕ) (ps : List Piece) (x : Goal × ReaderState) → (fixup_at kind (st line e ps) >>= symbol_goal) ≡ Ok x → Several Goal (IsGoalOf kind bits) line e ps x
 goal_symbol kind bits line e ps x h =
     let b = bind_ok (fixup_at kind (st line e ps)) symbol_goal x h in
     let w = fixup_read kind line e ps b.0 b.1 in
     several Goal (IsGoalOf kind bits) line e ps w.front w.rest (record { words = pos 0; fixup = Some b.0.0 }) x w.tokens (a_symbol w.is)
-    (ap (λ (u : State). let y : Goal × State = (record { words = pos 0; fixup = Some b.0.0 }, u) in y) (sym w.after) ∙ ok_same b.2)
+    (ap (λ (u : ReaderState). let y : Goal × ReaderState = (record { words = pos 0; fixup = Some b.0.0 }, u) in y) (sym w.after) ∙ ok_same b.2)
 
-pub goal_read : (kind : Kind) (bits limit line e : ℕ) (ps : List Piece) (x : Goal × State) → limit ≡ 2 ^ bits → 0 < limit → goal_at kind limit (st line e ps) ≡ Ok x → Several Goal (IsGoalOf kind bits) line e ps x
+pub goal_read : (kind : Kind) (bits limit line e : ℕ) (ps : List Piece) (x : Goal × ReaderState) → limit ≡ 2 ^ bits → 0 < limit → goal_at kind limit (st line e ps) ≡ Ok x → Several Goal (IsGoalOf kind bits) line e ps x
 unfolding goal_at
 goal_read kind bits limit line e [] x w some h = goal_symbol kind bits line e [] x h
 goal_read kind bits limit line e (p ∷ ps) x w some h =
@@ -165,19 +165,19 @@ place_again : (kind : Kind) (bits limit line e : ℕ) (ps : List Piece) (words :
 unfolding goal_at
 place_again kind bits limit line e [] words w h = absurd h
 place_again kind bits limit line e (p ∷ []) words w h =
-    take_then (is_here_on (Some p.says)) _ _ (ap (λ (m : Meaning). is_here_on (Some m)) h.0)
+    take_then (is_here_on (Some p.says)) _ _ (ap (λ (m : TokenValue). is_here_on (Some m)) h.0)
     ∙ bind_to (words_at limit (st line e [])) place_goal (pos 0, st line e []) (Ok (record { words = words; fixup = None }, st line e [])) (no_words_again limit line e) (made_goal line e (pos 0) words (sym h.1))
 place_again kind bits limit line e (p ∷ m ∷ []) words w h = absurd h
 place_again kind bits limit line e (p ∷ m ∷ q ∷ []) words w h =
-    take_then (is_here_on (Some p.says)) _ _ (ap (λ (m : Meaning). is_here_on (Some m)) h.0)
+    take_then (is_here_on (Some p.says)) _ _ (ap (λ (m : TokenValue). is_here_on (Some m)) h.0)
     ∙ bind_to (words_at limit (st line e (m ∷ q ∷ []))) place_goal (words, st line e []) (Ok (record { words = words; fixup = None }, st line e [])) (words_again bits limit line e m q words w h.1) refl
 place_again kind bits limit line e (p ∷ m ∷ q ∷ r ∷ ps) words w h = absurd h
 
 not_here : (line e : ℕ) (kind : Kind) (ps : List Piece) (f : Fixup) → IsFixup kind ps f → is_here_on (first (st line e ps)) ≡ false
 not_here line e kind [] f h = absurd h
-not_here line e kind (s ∷ []) f h = ap (λ (m : Meaning). is_here_on (Some m)) h.0.1.0 ∙ other_bytes f.symbol (codes ".") h.0.1.1.no_place
+not_here line e kind (s ∷ []) f h = ap (λ (m : TokenValue). is_here_on (Some m)) h.0.1.0 ∙ other_bytes f.symbol (codes ".") h.0.1.1.no_place
 not_here line e kind (s ∷ m ∷ []) f h = absurd h
-not_here line e kind (s ∷ m ∷ p ∷ []) f h = ap (λ (m : Meaning). is_here_on (Some m)) h.0.1.0 ∙ other_bytes f.symbol (codes ".") h.0.1.1.no_place
+not_here line e kind (s ∷ m ∷ p ∷ []) f h = ap (λ (m : TokenValue). is_here_on (Some m)) h.0.1.0 ∙ other_bytes f.symbol (codes ".") h.0.1.1.no_place
 not_here line e kind (s ∷ m ∷ p ∷ q ∷ ps) f h = absurd h
 
 pub goal_again : (kind : Kind) (bits limit line e : ℕ) (ps : List Piece) (words : ℤ) (fixup : Option Fixup) → limit ≡ 2 ^ bits → IsGoal kind bits ps words fixup → goal_at kind limit (st line e ps) ≡ Ok (record { words = words; fixup = fixup }, st line e [])

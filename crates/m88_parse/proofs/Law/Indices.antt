@@ -6,12 +6,12 @@ use Rattle.m88_parse.specs.declared.operand.Index.{Index}
 use Rattle.m88_parse.specs.declared.operand.Index.TheVariants as index
 use Rattle.m88_parse.specs.declared.operand.Field.{Field}
 use Rattle.m88_parse.specs.declared.operand.Field.TheVariants as field
-use Rattle.m88_parse.specs.Spelling.Pieces.{Meaning, a_name, a_number, a_text, a_mark, Piece}
-use Rattle.m88_parse.specs.State.{State, first, is_mark_of, is_next, ◌>>=◌}
-use Rattle.m88_parse.specs.Slots.{Read, mark_at, number_at, register_at}
-use Rattle.m88_parse.specs.Operands.{operand_at, scaled_at, index_at, user_index_at, width_at, literal_at, field_on, field_at}
-use Rattle.m88_parse.specs.Spelling.Names.{IsMark, IsComma, IsNumber, IsRegister}
-use Rattle.m88_parse.specs.Spelling.Operands.{IsScaled, IsLast, IsLiteral}
+use Rattle.m88_parse.specs.Language.Pieces.{TokenValue, a_name, a_number, a_text, a_mark, Piece}
+use Rattle.m88_parse.specs.Reader.State.{ReaderState, first, is_mark_of, is_next, ◌>>=◌}
+use Rattle.m88_parse.specs.Reader.Slots.{Read, mark_at, unsigned_at, register_at}
+use Rattle.m88_parse.specs.Reader.Operands.{operand_at, scaled_at, index_at, user_index_at, width_at, literal_at, field_on, field_at}
+use Rattle.m88_parse.specs.Language.Names.{IsMark, IsComma, IsNumber, IsRegister}
+use Rattle.m88_parse.specs.Language.Operands.{IsScaled, IsLast, IsLiteral}
 use Rattle.m88_parse.proofs.Law.Steps.{chosen, take_then, take_else}
 use Rattle.m88_parse.proofs.Law.Slots.{st, ok_same, bind_ok, bind_to, next_again, mark_read, mark_again, number_read, number_slot_again, register_read, register_again}
 use Rattle.m88_parse.proofs.Law.Operands.{IsOperandOf, operand_read}
@@ -19,21 +19,21 @@ use Rattle.m88_parse.proofs.Law.Values.{Several, several}
 
 -- [rS2]
 
-close_scaled : Reg × State → Read Reg
+close_scaled : Reg × ReaderState → Read Reg
 close_scaled r = mark_at 93 r.1 >>= λ closed. Ok (r.0, closed)
 
-pub scaled_read : (line e : ℕ) (ps : List Piece) (x : Reg × State) → scaled_at (st line e ps) ≡ Ok x → Several Reg (λ qs r. IsScaled r qs) line e ps x
+pub scaled_read : (line e : ℕ) (ps : List Piece) (x : Reg × ReaderState) → scaled_at (st line e ps) ≡ Ok x → Several Reg (λ qs r. IsScaled r qs) line e ps x
 unfolding scaled_at close_scaled
 scaled_read line e ps x h =
-    let b = bind_ok (mark_at 91 (st line e ps)) (λ (opened : State). register_at opened >>= close_scaled) x h in
+    let b = bind_ok (mark_at 91 (st line e ps)) (λ (opened : ReaderState). register_at opened >>= close_scaled) x h in
     let o = mark_read 91 line e ps b.0 b.1 in
     let c = bind_ok (register_at b.0) close_scaled x b.2 in
     let r = register_read line e o.rest c.0 (ap register_at (sym o.after) ∙ c.1) in
-    let d = bind_ok (mark_at 93 c.0.1) (λ (closed : State). Ok (c.0.0, closed)) x c.2 in
+    let d = bind_ok (mark_at 93 c.0.1) (λ (closed : ReaderState). Ok (c.0.0, closed)) x c.2 in
     let m = mark_read 93 line e r.rest d.0 (ap (mark_at 93) (sym r.after) ∙ d.1) in
     let t : ps ≡ (o.piece ∷ r.piece ∷ m.piece ∷ []) ++ m.rest = o.tokens ∙ ap (λ (qs : List Piece). o.piece ∷ qs) (r.tokens ∙ ap (λ (qs : List Piece). r.piece ∷ qs) m.tokens) in
     several Reg (λ qs r. IsScaled r qs) line e ps (o.piece ∷ r.piece ∷ m.piece ∷ []) m.rest c.0.0 x t (o.is, r.is, m.is)
-    (ap (λ (u : State). let y : Reg × State = (c.0.0, u) in y) (sym m.after) ∙ ok_same d.2)
+    (ap (λ (u : ReaderState). let y : Reg × ReaderState = (c.0.0, u) in y) (sym m.after) ∙ ok_same d.2)
 
 pub scaled_again : (line e : ℕ) (r : Reg) (ps : List Piece) → IsScaled r ps → scaled_at (st line e ps) ≡ Ok (r, st line e [])
 unfolding scaled_at close_scaled
@@ -42,9 +42,9 @@ scaled_again line e r (o ∷ []) h = absurd h
 scaled_again line e r (o ∷ p ∷ []) h = absurd h
 scaled_again line e r (o ∷ p ∷ c ∷ []) h =
     let z : Read Reg = Ok (r, st line e []) in
-    bind_to (mark_at 91 (st line e (o ∷ p ∷ c ∷ []))) (λ (opened : State). register_at opened >>= close_scaled) (st line e (p ∷ c ∷ [])) z (mark_again 91 line e o (p ∷ c ∷ []) h.0)
+    bind_to (mark_at 91 (st line e (o ∷ p ∷ c ∷ []))) (λ (opened : ReaderState). register_at opened >>= close_scaled) (st line e (p ∷ c ∷ [])) z (mark_again 91 line e o (p ∷ c ∷ []) h.0)
     (bind_to (register_at (st line e (p ∷ c ∷ []))) close_scaled (r, st line e (c ∷ [])) z (register_again line e r p (c ∷ []) h.1)
-    (bind_to (mark_at 93 (st line e (c ∷ []))) (λ (closed : State). Ok (r, closed)) (st line e []) z (mark_again 93 line e c [] h.2) refl))
+    (bind_to (mark_at 93 (st line e (c ∷ []))) (λ (closed : ReaderState). Ok (r, closed)) (st line e []) z (mark_again 93 line e c [] h.2) refl))
 scaled_again line e r (o ∷ p ∷ c ∷ q ∷ ps) h = absurd h
 
 scaled_opens : (line e : ℕ) (r : Reg) (ps : List Piece) → IsScaled r ps → is_next 91 (st line e ps) ≡ true
@@ -60,13 +60,13 @@ abbrev pub IsIndexOf : List Piece → Index → Type 0
 IsIndexOf ps (index.Scaled r) = IsScaled r ps
 IsIndexOf ps (index.Offset x) = (c : Piece) × (rest : List Piece) × (ps ≡ c ∷ rest) × IsComma c × IsOperandOf rest x
 
-abbrev scaled_index : Reg × State → Read Index
+abbrev scaled_index : Reg × ReaderState → Read Index
 scaled_index r = Ok (index.Scaled r.0, r.1)
 
-abbrev offset_index : Operand × State → Read Index
+abbrev offset_index : Operand × ReaderState → Read Index
 offset_index x = Ok (index.Offset x.0, x.1)
 
-pub index_read : (line e : ℕ) (ps : List Piece) (x : Index × State) → index_at (st line e ps) ≡ Ok x → Several Index IsIndexOf line e ps x
+pub index_read : (line e : ℕ) (ps : List Piece) (x : Index × ReaderState) → index_at (st line e ps) ≡ Ok x → Several Index IsIndexOf line e ps x
 unfolding index_at
 index_read line e ps x h =
     elim (chosen (is_next 91 (st line e ps)) _ _ _ h) [
@@ -74,14 +74,14 @@ index_read line e ps x h =
           let b = bind_ok (scaled_at (st line e ps)) scaled_index x j.1 in
           let w = scaled_read line e ps b.0 b.1 in
           several Index IsIndexOf line e ps w.front w.rest (index.Scaled b.0.0) x w.tokens w.is
-          (ap (λ (u : State). let y : Index × State = (index.Scaled b.0.0, u) in y) (sym w.after) ∙ ok_same b.2)
+          (ap (λ (u : ReaderState). let y : Index × ReaderState = (index.Scaled b.0.0, u) in y) (sym w.after) ∙ ok_same b.2)
       | inr j ↦
-          let b = bind_ok (mark_at 44 (st line e ps)) (λ (t : State). operand_at t >>= offset_index) x j.1 in
+          let b = bind_ok (mark_at 44 (st line e ps)) (λ (t : ReaderState). operand_at t >>= offset_index) x j.1 in
           let m = mark_read 44 line e ps b.0 b.1 in
           let c = bind_ok (operand_at b.0) offset_index x b.2 in
           let w = operand_read line e m.rest c.0 (ap operand_at (sym m.after) ∙ c.1) in
           several Index IsIndexOf line e ps (m.piece ∷ w.front) w.rest (index.Offset c.0.0) x (m.tokens ∙ ap (λ (qs : List Piece). m.piece ∷ qs) w.tokens) (m.piece, w.front, refl, m.is, w.is)
-          (ap (λ (u : State). let y : Index × State = (index.Offset c.0.0, u) in y) (sym w.after) ∙ ok_same c.2)
+          (ap (λ (u : ReaderState). let y : Index × ReaderState = (index.Offset c.0.0, u) in y) (sym w.after) ∙ ok_same c.2)
     ]
 
 pub index_scaled_again : (line e : ℕ) (r : Reg) (ps : List Piece) → IsScaled r ps → index_at (st line e ps) ≡ Ok (index.Scaled r, st line e [])
@@ -91,14 +91,14 @@ index_scaled_again line e r ps h =
     ∙ bind_to (scaled_at (st line e ps)) scaled_index (r, st line e []) (Ok (index.Scaled r, st line e [])) (scaled_again line e r ps h) refl
 
 comma_opens_none : (line e : ℕ) (c : Piece) (ps : List Piece) → IsComma c → is_next 91 (st line e (c ∷ ps)) ≡ false
-comma_opens_none line e c ps h = ap (λ (m : Meaning). is_mark_of 91 (Some m)) h
+comma_opens_none line e c ps h = ap (λ (m : TokenValue). is_mark_of 91 (Some m)) h
 
 pub index_offset_again : (line e : ℕ) (c : Piece) (ps : List Piece) (x : Operand) → IsComma c → operand_at (st line e ps) ≡ Ok (x, st line e []) → index_at (st line e (c ∷ ps)) ≡ Ok (index.Offset x, st line e [])
 unfolding index_at
 index_offset_again line e c ps x k h =
     let z : Read Index = Ok (index.Offset x, st line e []) in
     take_else (is_next 91 (st line e (c ∷ ps))) _ _ (comma_opens_none line e c ps k)
-    ∙ bind_to (mark_at 44 (st line e (c ∷ ps))) (λ (t : State). operand_at t >>= offset_index) (st line e ps) z (mark_again 44 line e c ps k)
+    ∙ bind_to (mark_at 44 (st line e (c ∷ ps))) (λ (t : ReaderState). operand_at t >>= offset_index) (st line e ps) z (mark_again 44 line e c ps k)
     (bind_to (operand_at (st line e ps)) offset_index (x, st line e []) z h refl)
 
 abbrev pub UserIndex : List Piece → Reg → Bool → Type 0
@@ -108,13 +108,13 @@ UserIndex ps r false = (c : Piece) × (p : Piece) × (ps ≡ c ∷ p ∷ []) × 
 abbrev pub IsUserIndexOf : List Piece → Reg × Bool → Type 0
 IsUserIndexOf ps x = UserIndex ps x.0 x.1
 
-abbrev user_scaled_index : Reg × State → Read (Reg × Bool)
+abbrev user_scaled_index : Reg × ReaderState → Read (Reg × Bool)
 user_scaled_index r = Ok ((r.0, true), r.1)
 
-abbrev user_plain_index : Reg × State → Read (Reg × Bool)
+abbrev user_plain_index : Reg × ReaderState → Read (Reg × Bool)
 user_plain_index r = Ok ((r.0, false), r.1)
 
-pub user_index_read : (line e : ℕ) (ps : List Piece) (x : (Reg × Bool) × State) → user_index_at (st line e ps) ≡ Ok x → Several (Reg × Bool) IsUserIndexOf line e ps x
+pub user_index_read : (line e : ℕ) (ps : List Piece) (x : (Reg × Bool) × ReaderState) → user_index_at (st line e ps) ≡ Ok x → Several (Reg × Bool) IsUserIndexOf line e ps x
 unfolding user_index_at
 user_index_read line e ps x h =
     elim (chosen (is_next 91 (st line e ps)) _ _ _ h) [
@@ -122,14 +122,14 @@ user_index_read line e ps x h =
           let b = bind_ok (scaled_at (st line e ps)) user_scaled_index x j.1 in
           let w = scaled_read line e ps b.0 b.1 in
           several (Reg × Bool) IsUserIndexOf line e ps w.front w.rest (b.0.0, true) x w.tokens w.is
-          (ap (λ (u : State). let y : (Reg × Bool) × State = ((b.0.0, true), u) in y) (sym w.after) ∙ ok_same b.2)
+          (ap (λ (u : ReaderState). let y : (Reg × Bool) × ReaderState = ((b.0.0, true), u) in y) (sym w.after) ∙ ok_same b.2)
       | inr j ↦
-          let b = bind_ok (mark_at 44 (st line e ps)) (λ (t : State). register_at t >>= user_plain_index) x j.1 in
+          let b = bind_ok (mark_at 44 (st line e ps)) (λ (t : ReaderState). register_at t >>= user_plain_index) x j.1 in
           let m = mark_read 44 line e ps b.0 b.1 in
           let c = bind_ok (register_at b.0) user_plain_index x b.2 in
           let w = register_read line e m.rest c.0 (ap register_at (sym m.after) ∙ c.1) in
           several (Reg × Bool) IsUserIndexOf line e ps (m.piece ∷ w.piece ∷ []) w.rest (c.0.0, false) x (m.tokens ∙ ap (λ (qs : List Piece). m.piece ∷ qs) w.tokens) (m.piece, w.piece, refl, m.is, w.is)
-          (ap (λ (u : State). let y : (Reg × Bool) × State = ((c.0.0, false), u) in y) (sym w.after) ∙ ok_same c.2)
+          (ap (λ (u : ReaderState). let y : (Reg × Bool) × ReaderState = ((c.0.0, false), u) in y) (sym w.after) ∙ ok_same c.2)
     ]
 
 pub user_scaled_again : (line e : ℕ) (r : Reg) (ps : List Piece) → IsScaled r ps → user_index_at (st line e ps) ≡ Ok ((r, true), st line e [])
@@ -144,7 +144,7 @@ user_plain_again line e r c [] k h = absurd h
 user_plain_again line e r c (p ∷ []) k h =
     let z : Read (Reg × Bool) = Ok ((r, false), st line e []) in
     take_else (is_next 91 (st line e (c ∷ p ∷ []))) _ _ (comma_opens_none line e c (p ∷ []) k)
-    ∙ bind_to (mark_at 44 (st line e (c ∷ p ∷ []))) (λ (t : State). register_at t >>= user_plain_index) (st line e (p ∷ [])) z (mark_again 44 line e c (p ∷ []) k)
+    ∙ bind_to (mark_at 44 (st line e (c ∷ p ∷ []))) (λ (t : ReaderState). register_at t >>= user_plain_index) (st line e (p ∷ [])) z (mark_again 44 line e c (p ∷ []) k)
     (bind_to (register_at (st line e (p ∷ []))) user_plain_index (r, st line e []) z (register_again line e r p [] h) refl)
 user_plain_again line e r c (p ∷ q ∷ ps) k h = absurd h
 
@@ -154,14 +154,14 @@ abbrev pub IsFieldOf : ℕ → List Piece → Field → Type 0
 IsFieldOf most ps (field.Register r) = IsLast r ps
 IsFieldOf most ps (field.Literal width offset) = IsLiteral most ps width offset
 
-abbrev close_literal : ℕ → ℕ × State → Read Field
+abbrev close_literal : ℕ → ℕ × ReaderState → Read Field
 close_literal width offset = mark_at 62 offset.1 >>= λ closed. Ok (field.Literal width offset.0, closed)
 
-abbrev after_width : ℕ × State → Read Field
-after_width width = mark_at 60 width.1 >>= λ opened. number_at 31 opened >>= close_literal width.0
+abbrev after_width : ℕ × ReaderState → Read Field
+after_width width = mark_at 60 width.1 >>= λ opened. unsigned_at 31 opened >>= close_literal width.0
 
 -- <O>
-pub record IsOffset (line e : ℕ) (ps : List Piece) (width : ℕ) (x : Field × State) : Type 0 where
+pub record IsOffset (line e : ℕ) (ps : List Piece) (width : ℕ) (x : Field × ReaderState) : Type 0 where
   pub o : Piece
   pub p : Piece
   pub c : Piece
@@ -174,13 +174,13 @@ pub record IsOffset (line e : ℕ) (ps : List Piece) (width : ℕ) (x : Field ×
   pub closed : IsMark 62 c
   pub value : (field.Literal width offset, st line e rest) ≡ x
 
-offset_read : (line e width : ℕ) (ps : List Piece) (x : Field × State) → after_width (width, st line e ps) ≡ Ok x → IsOffset line e ps width x
+offset_read : (line e width : ℕ) (ps : List Piece) (x : Field × ReaderState) → after_width (width, st line e ps) ≡ Ok x → IsOffset line e ps width x
 offset_read line e width ps x h =
-    let b = bind_ok (mark_at 60 (st line e ps)) (λ (opened : State). number_at 31 opened >>= close_literal width) x h in
+    let b = bind_ok (mark_at 60 (st line e ps)) (λ (opened : ReaderState). unsigned_at 31 opened >>= close_literal width) x h in
     let o = mark_read 60 line e ps b.0 b.1 in
-    let c = bind_ok (number_at 31 b.0) (close_literal width) x b.2 in
-    let n = number_read 31 line e o.rest c.0 (ap (number_at 31) (sym o.after) ∙ c.1) in
-    let d = bind_ok (mark_at 62 c.0.1) (λ (closed : State). Ok (field.Literal width c.0.0, closed)) x c.2 in
+    let c = bind_ok (unsigned_at 31 b.0) (close_literal width) x b.2 in
+    let n = number_read 31 line e o.rest c.0 (ap (unsigned_at 31) (sym o.after) ∙ c.1) in
+    let d = bind_ok (mark_at 62 c.0.1) (λ (closed : ReaderState). Ok (field.Literal width c.0.0, closed)) x c.2 in
     let m = mark_read 62 line e n.rest d.0 (ap (mark_at 62) (sym n.after) ∙ d.1) in
     record {
       o = o.piece;
@@ -193,17 +193,17 @@ offset_read line e width ps x h =
       number = n.is.0;
       most = omega (arith, n.is.1);
       closed = m.is;
-      value = ap (λ (u : State). let y : Field × State = (field.Literal width c.0.0, u) in y) (sym m.after) ∙ ok_same d.2;
+      value = ap (λ (u : ReaderState). let y : Field × ReaderState = (field.Literal width c.0.0, u) in y) (sym m.after) ∙ ok_same d.2;
     }
 
 offset_again : (line e width offset : ℕ) (o p c : Piece) → IsMark 60 o → IsNumber offset p → offset < 32 → IsMark 62 c → after_width (width, st line e (o ∷ p ∷ c ∷ [])) ≡ Ok (field.Literal width offset, st line e [])
 offset_again line e width offset o p c a b l d =
     let z : Read Field = Ok (field.Literal width offset, st line e []) in
-    bind_to (mark_at 60 (st line e (o ∷ p ∷ c ∷ []))) (λ (opened : State). number_at 31 opened >>= close_literal width) (st line e (p ∷ c ∷ [])) z (mark_again 60 line e o (p ∷ c ∷ []) a)
-    (bind_to (number_at 31 (st line e (p ∷ c ∷ []))) (close_literal width) (offset, st line e (c ∷ [])) z (number_slot_again 31 line e offset p (c ∷ []) b (omega arith))
-    (bind_to (mark_at 62 (st line e (c ∷ []))) (λ (closed : State). Ok (field.Literal width offset, closed)) (st line e []) z (mark_again 62 line e c [] d) refl))
+    bind_to (mark_at 60 (st line e (o ∷ p ∷ c ∷ []))) (λ (opened : ReaderState). unsigned_at 31 opened >>= close_literal width) (st line e (p ∷ c ∷ [])) z (mark_again 60 line e o (p ∷ c ∷ []) a)
+    (bind_to (unsigned_at 31 (st line e (p ∷ c ∷ []))) (close_literal width) (offset, st line e (c ∷ [])) z (number_slot_again 31 line e offset p (c ∷ []) b (omega arith))
+    (bind_to (mark_at 62 (st line e (c ∷ []))) (λ (closed : ReaderState). Ok (field.Literal width offset, closed)) (st line e []) z (mark_again 62 line e c [] d) refl))
 
-literal_read : (most line e : ℕ) (ps : List Piece) (x : Field × State) → literal_at most (st line e ps) ≡ Ok x → Several Field (IsFieldOf most) line e ps x
+literal_read : (most line e : ℕ) (ps : List Piece) (x : Field × ReaderState) → literal_at most (st line e ps) ≡ Ok x → Several Field (IsFieldOf most) line e ps x
 unfolding literal_at width_at
 literal_read most line e ps x h =
     let b = bind_ok (width_at most (st line e ps)) after_width x h in
@@ -213,7 +213,7 @@ literal_read most line e ps x h =
           several Field (IsFieldOf most) line e ps (w.o ∷ w.p ∷ w.c ∷ []) w.rest (field.Literal 0 w.offset) x w.tokens (refl, w.opened, w.number, w.most, w.closed) w.value
       | inr j ↦
           let n = number_read most line e ps b.0 j.1 in
-          let w = offset_read line e b.0.0 n.rest x (ap (λ (u : State). after_width (b.0.0, u)) (sym n.after) ∙ b.2) in
+          let w = offset_read line e b.0.0 n.rest x (ap (λ (u : ReaderState). after_width (b.0.0, u)) (sym n.after) ∙ b.2) in
           several Field (IsFieldOf most) line e ps (n.piece ∷ w.o ∷ w.p ∷ w.c ∷ []) w.rest (field.Literal b.0.0 w.offset) x
           (n.tokens ∙ ap (λ (qs : List Piece). n.piece ∷ qs) w.tokens) (n.is.0, n.is.1, w.opened, w.number, w.most, w.closed) w.value
     ]
@@ -232,25 +232,25 @@ literal_again most line e width offset (w ∷ o ∷ p ∷ c ∷ []) h =
     let s = st line e (w ∷ o ∷ p ∷ c ∷ []) in
     let z : Read Field = Ok (field.Literal width offset, st line e []) in
     bind_to (width_at most s) after_width (width, st line e (o ∷ p ∷ c ∷ [])) z
-    (take_else (is_next 60 s) _ _ (ap (λ (m : Meaning). is_mark_of 60 (Some m)) h.0) ∙ number_slot_again most line e width w (o ∷ p ∷ c ∷ []) h.0 h.1)
+    (take_else (is_next 60 s) _ _ (ap (λ (m : TokenValue). is_mark_of 60 (Some m)) h.0) ∙ number_slot_again most line e width w (o ∷ p ∷ c ∷ []) h.0 h.1)
     (offset_again line e width offset o p c h.2 h.3 h.4 h.5)
 literal_again most line e width offset (w ∷ o ∷ p ∷ c ∷ q ∷ ps) h = absurd h
 
-abbrev register_field : Reg × State → Read Field
+abbrev register_field : Reg × ReaderState → Read Field
 register_field r = Ok (field.Register r.0, r.1)
 
-field_by : (most line e : ℕ) (ps : List Piece) (o : Option Meaning) (x : Field × State) → field_on most (st line e ps) o ≡ Ok x → Several Field (IsFieldOf most) line e ps x
+field_by : (most line e : ℕ) (ps : List Piece) (o : Option TokenValue) (x : Field × ReaderState) → field_on most (st line e ps) o ≡ Ok x → Several Field (IsFieldOf most) line e ps x
 field_by most line e ps None x h = literal_read most line e ps x h
 field_by most line e ps (Some (a_name text)) x h =
     let b = bind_ok (register_at (st line e ps)) register_field x h in
     let r = register_read line e ps b.0 b.1 in
     several Field (IsFieldOf most) line e ps (r.piece ∷ []) r.rest (field.Register b.0.0) x r.tokens r.is
-    (ap (λ (u : State). let y : Field × State = (field.Register b.0.0, u) in y) (sym r.after) ∙ ok_same b.2)
+    (ap (λ (u : ReaderState). let y : Field × ReaderState = (field.Register b.0.0, u) in y) (sym r.after) ∙ ok_same b.2)
 field_by most line e ps (Some (a_number n)) x h = literal_read most line e ps x h
 field_by most line e ps (Some (a_text bytes)) x h = literal_read most line e ps x h
 field_by most line e ps (Some (a_mark m)) x h = literal_read most line e ps x h
 
-pub field_read : (most line e : ℕ) (ps : List Piece) (x : Field × State) → field_at most (st line e ps) ≡ Ok x → Several Field (IsFieldOf most) line e ps x
+pub field_read : (most line e : ℕ) (ps : List Piece) (x : Field × ReaderState) → field_at most (st line e ps) ≡ Ok x → Several Field (IsFieldOf most) line e ps x
 unfolding field_at
 field_read most line e ps x h = field_by most line e ps (first (st line e ps)) x h
 
@@ -259,7 +259,7 @@ unfolding field_at
 field_register_again most line e r [] h = absurd h
 field_register_again most line e r (p ∷ []) h =
     let s = st line e (p ∷ []) in
-    ap (λ (m : Meaning). field_on most s (Some m)) h.2
+    ap (λ (m : TokenValue). field_on most s (Some m)) h.2
     ∙ bind_to (register_at s) register_field (r, st line e []) (Ok (field.Register r, st line e [])) (register_again line e r p [] h) refl
 field_register_again most line e r (p ∷ q ∷ ps) h = absurd h
 
@@ -269,7 +269,7 @@ field_literal_again most line e width offset [] h = absurd h
 field_literal_again most line e width offset (o ∷ []) h = absurd h
 field_literal_again most line e width offset (o ∷ p ∷ []) h = absurd h
 field_literal_again most line e width offset (o ∷ p ∷ c ∷ []) h =
-    ap (λ (m : Meaning). field_on most (st line e (o ∷ p ∷ c ∷ [])) (Some m)) h.1 ∙ literal_again most line e width offset (o ∷ p ∷ c ∷ []) h
+    ap (λ (m : TokenValue). field_on most (st line e (o ∷ p ∷ c ∷ [])) (Some m)) h.1 ∙ literal_again most line e width offset (o ∷ p ∷ c ∷ []) h
 field_literal_again most line e width offset (w ∷ o ∷ p ∷ c ∷ []) h =
-    ap (λ (m : Meaning). field_on most (st line e (w ∷ o ∷ p ∷ c ∷ [])) (Some m)) h.0 ∙ literal_again most line e width offset (w ∷ o ∷ p ∷ c ∷ []) h
+    ap (λ (m : TokenValue). field_on most (st line e (w ∷ o ∷ p ∷ c ∷ [])) (Some m)) h.0 ∙ literal_again most line e width offset (w ∷ o ∷ p ∷ c ∷ []) h
 field_literal_again most line e width offset (w ∷ o ∷ p ∷ c ∷ q ∷ ps) h = absurd h

@@ -6,10 +6,10 @@ use Rattle.std.proofs.lemmas.List.Sums.{list_all-from_AllPass, AllPass-from_list
 use Rattle.std.proofs.lemmas.Slice.Eq.{bytes_eq-Decides}
 use Rattle.m88_base.specs.Name.{IsName, begins_name, continues_name}
 use Rattle.m88_parse.specs.declared.fault.ParseKind.{ParseKind}
-use Rattle.m88_parse.specs.Tokens.{is_decimal, bounded}
-use Rattle.m88_parse.specs.Names.{up_to, number_up_to, register_of, control_of, float_control_of, control_in, is_here, is_name, is_symbol}
-use Rattle.m88_parse.specs.Spelling.Tokens.{IsDecimal}
-use Rattle.m88_parse.specs.Spelling.Names.{IsRegisterName, IsControlName, IsSymbolName}
+use Rattle.m88_parse.specs.Reader.Tokens.{is_decimal, bounded}
+use Rattle.m88_parse.specs.Reader.Names.{up_to, number_up_to, register_of, control_of, float_control_of, control_in, is_here, is_name, is_symbol}
+use Rattle.m88_parse.specs.Language.Tokens.{IsDecimal}
+use Rattle.m88_parse.specs.Language.Names.{IsRegisterName, IsControlName, IsSymbolName}
 use Rattle.m88_parse.proofs.Law.Steps.{both, neither, chosen, not_true, take_then, tested}
 use Rattle.m88_parse.proofs.Law.Numbers.{decimal_is, is_decimal_again, bounded_is, bounded_again}
 

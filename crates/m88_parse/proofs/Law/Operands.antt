@@ -14,14 +14,14 @@ use Rattle.m88_parse.specs.declared.operand.Operand.{Operand}
 use Rattle.m88_parse.specs.declared.operand.Operand.TheVariants as operand
 use Rattle.m88_parse.specs.declared.operand.Bound.{Bound}
 use Rattle.m88_parse.specs.declared.operand.Bound.TheVariants as bound
-use Rattle.m88_parse.specs.Names.{register_of}
-use Rattle.m88_parse.specs.Spelling.Words.{half_of}
-use Rattle.m88_parse.specs.Spelling.Pieces.{Meaning, a_name, a_number, a_text, a_mark, Piece}
-use Rattle.m88_parse.specs.State.{State, says_first, first, is_mark_of, ◌>>=◌}
-use Rattle.m88_parse.specs.Slots.{Read, mark_at, register_at, value_at}
-use Rattle.m88_parse.specs.Operands.{half_immediate, half_at, half_on, short_on, immediate_of, immediate_at, register_in, operand_of, operand_at, bound_on, bound_at}
-use Rattle.m88_parse.specs.Spelling.Names.{IsMark, IsNumber, IsNamed, IsRegister}
-use Rattle.m88_parse.specs.Spelling.Operands.{IsValue, IsHalfOf, IsImmediate, short, half, IsLast}
+use Rattle.m88_parse.specs.Reader.Names.{register_of}
+use Rattle.m88_parse.specs.Language.Words.{half_named}
+use Rattle.m88_parse.specs.Language.Pieces.{TokenValue, a_name, a_number, a_text, a_mark, Piece}
+use Rattle.m88_parse.specs.Reader.State.{ReaderState, says_first, first, is_mark_of, ◌>>=◌}
+use Rattle.m88_parse.specs.Reader.Slots.{Read, mark_at, register_at, value_at}
+use Rattle.m88_parse.specs.Reader.Operands.{half_immediate, half_at, half_on, short_on, immediate_of, immediate_at, register_in, operand_of, operand_at, bound_on, bound_at}
+use Rattle.m88_parse.specs.Language.Names.{IsMark, IsNumber, IsNamed, IsRegister}
+use Rattle.m88_parse.specs.Language.Operands.{IsValue, IsHalfOf, IsImmediate, short, half, IsLast}
 use Rattle.m88_parse.proofs.Law.Steps.{chosen, take_then}
 use Rattle.m88_parse.proofs.Law.Names.{some_same, register_is, register_name_again}
 use Rattle.m88_parse.proofs.Law.Slots.{st, ok_same, bind_ok, bind_to, One, mark_read, mark_again, register_read, register_again}
@@ -29,8 +29,8 @@ use Rattle.m88_parse.proofs.Law.Values.{Several, several, IsUnsigned, value_read
 
 -- hi16 and lo16
 
-pub half_names : (name : List ℕ) (kind : Kind) → half_of name ≡ Some kind → ((name ≡ codes "hi16") × (kind ≡ Hi16)) ⊎ ((name ≡ codes "lo16") × (kind ≡ Lo16))
-unfolding half_of
+pub half_names : (name : List ℕ) (kind : Kind) → half_named name ≡ Some kind → ((name ≡ codes "hi16") × (kind ≡ Hi16)) ⊎ ((name ≡ codes "lo16") × (kind ≡ Lo16))
+unfolding half_named
 half_names name kind h =
     elim (chosen (bytes_eq name (codes "hi16")) _ _ _ h) [
       | inl j ↦ inl ((bytes_eq-Decides name (codes "hi16")).0 j.0, sym (some_same j.1))
@@ -62,45 +62,45 @@ half_of_is kind (Number n) imm fixup (inr e) h = ap (λ (k : Kind). half_immedia
 half_of_is kind (Symbol f) imm fixup (inl e) h = let k : IsHalfOf Hi16 (Symbol f) imm fixup = subst (λ (k : Kind). IsHalfOf k (Symbol f) imm fixup) e h in same_immediate 0 imm (Some f) fixup (sym k.0) (sym k.1)
 half_of_is kind (Symbol f) imm fixup (inr e) h = let k : IsHalfOf Lo16 (Symbol f) imm fixup = subst (λ (k : Kind). IsHalfOf k (Symbol f) imm fixup) e h in same_immediate 0 imm (Some f) fixup (sym k.0) (sym k.1)
 
-kinds_only : (name : List ℕ) (kind : Kind) → half_of name ≡ Some kind → (kind ≡ Hi16) ⊎ (kind ≡ Lo16)
+kinds_only : (name : List ℕ) (kind : Kind) → half_named name ≡ Some kind → (kind ≡ Hi16) ⊎ (kind ≡ Lo16)
 kinds_only name kind h = elim (half_names name kind h) [ inl j ↦ inl j.1 | inr j ↦ inr j.1 ]
 
 abbrev pub IsImmediateOf : List Piece → Immediate → Type 0
 IsImmediateOf ps x = IsImmediate ps x.imm x.fixup
 
-abbrev close_half : Kind → Value × State → Read Immediate
+abbrev close_half : Kind → Value × ReaderState → Read Immediate
 close_half kind v = mark_at 41 v.1 >>= λ closed. Ok (half_immediate kind v.0, closed)
 
-half_read : (line e : ℕ) (p : Piece) (ps : List Piece) (name : List ℕ) (kind : Kind) (x : Immediate × State) → IsNamed name p → half_of name ≡ Some kind → half_at kind (st line e (p ∷ ps)) ≡ Ok x → Several Immediate IsImmediateOf line e (p ∷ ps) x
+half_read : (line e : ℕ) (p : Piece) (ps : List Piece) (name : List ℕ) (kind : Kind) (x : Immediate × ReaderState) → IsNamed name p → half_named name ≡ Some kind → half_at kind (st line e (p ∷ ps)) ≡ Ok x → Several Immediate IsImmediateOf line e (p ∷ ps) x
 unfolding half_at
 half_read line e p ps name kind x n k h =
-    let b = bind_ok (mark_at 40 (st line e ps)) (λ (opened : State). value_at kind opened >>= close_half kind) x h in
+    let b = bind_ok (mark_at 40 (st line e ps)) (λ (opened : ReaderState). value_at kind opened >>= close_half kind) x h in
     let o = mark_read 40 line e ps b.0 b.1 in
     let c = bind_ok (value_at kind b.0) (close_half kind) x b.2 in
     let v = value_read kind line e o.rest c.0 (ap (value_at kind) (sym o.after) ∙ c.1) in
-    let d = bind_ok (mark_at 41 c.0.1) (λ (closed : State). Ok (half_immediate kind c.0.0, closed)) x c.2 in
+    let d = bind_ok (mark_at 41 c.0.1) (λ (closed : ReaderState). Ok (half_immediate kind c.0.0, closed)) x c.2 in
     let m = mark_read 41 line e v.rest d.0 (ap (mark_at 41) (sym v.after) ∙ d.1) in
     let inside = v.front ++ m.piece ∷ [] in
     let t : p ∷ ps ≡ (p ∷ o.piece ∷ inside) ++ m.rest =
     ap (λ (qs : List Piece). p ∷ qs) (o.tokens ∙ ap (λ (qs : List Piece). o.piece ∷ qs) (v.tokens ∙ ap (λ (qs : List Piece). v.front ++ qs) m.tokens ∙ sym (append_assoc v.front (m.piece ∷ []) m.rest))) in
     several Immediate IsImmediateOf line e (p ∷ ps) (p ∷ o.piece ∷ inside) m.rest (half_immediate kind c.0.0) x t
     (half v.front m.piece name kind c.0.0 n k o.is refl v.is m.is (half_is_of kind c.0.0 (kinds_only name kind k)))
-    (ap (λ (u : State). let y : Immediate × State = (half_immediate kind c.0.0, u) in y) (sym m.after) ∙ ok_same d.2)
+    (ap (λ (u : ReaderState). let y : Immediate × ReaderState = (half_immediate kind c.0.0, u) in y) (sym m.after) ∙ ok_same d.2)
 
-named_half : (line e : ℕ) (p : Piece) (ps : List Piece) (text : List ℕ) (t : Bool) (x : Immediate × State) → p.says ≡ a_name text
-    → immediate_of (st line e (p ∷ ps)) (if t then half_of text else None) ≡ Ok x → Several Immediate IsImmediateOf line e (p ∷ ps) x
-named_half line e p ps text true x k h = by_kind (half_of text) refl h
+named_half : (line e : ℕ) (p : Piece) (ps : List Piece) (text : List ℕ) (t : Bool) (x : Immediate × ReaderState) → p.says ≡ a_name text
+    → immediate_of (st line e (p ∷ ps)) (if t then half_named text else None) ≡ Ok x → Several Immediate IsImmediateOf line e (p ∷ ps) x
+named_half line e p ps text true x k h = by_kind (half_named text) refl h
   where
-    by_kind : (o : Option Kind) → half_of text ≡ o → immediate_of (st line e (p ∷ ps)) o ≡ Ok x → Several Immediate IsImmediateOf line e (p ∷ ps) x
+    by_kind : (o : Option Kind) → half_named text ≡ o → immediate_of (st line e (p ∷ ps)) o ≡ Ok x → Several Immediate IsImmediateOf line e (p ∷ ps) x
     by_kind (Some kind) f g = half_read line e p ps text kind x k f g
     by_kind None f g =
-        let r : short_on (st line e (p ∷ ps)) (Some (a_name text)) ≡ Ok x = ap (λ (m : Meaning). short_on (st line e (p ∷ ps)) (Some m)) (sym k) ∙ g in
+        let r : short_on (st line e (p ∷ ps)) (Some (a_name text)) ≡ Ok x = ap (λ (m : TokenValue). short_on (st line e (p ∷ ps)) (Some m)) (sym k) ∙ g in
         absurd cc
 named_half line e p ps text false x k h =
-    let r : short_on (st line e (p ∷ ps)) (Some (a_name text)) ≡ Ok x = ap (λ (m : Meaning). short_on (st line e (p ∷ ps)) (Some m)) (sym k) ∙ h in
+    let r : short_on (st line e (p ∷ ps)) (Some (a_name text)) ≡ Ok x = ap (λ (m : TokenValue). short_on (st line e (p ∷ ps)) (Some m)) (sym k) ∙ h in
     absurd cc
 
-short_by : (line e : ℕ) (p : Piece) (ps : List Piece) (m : Meaning) (x : Immediate × State) → p.says ≡ m → short_on (st line e (p ∷ ps)) (Some m) ≡ Ok x → Several Immediate IsImmediateOf line e (p ∷ ps) x
+short_by : (line e : ℕ) (p : Piece) (ps : List Piece) (m : TokenValue) (x : Immediate × ReaderState) → p.says ≡ m → short_on (st line e (p ∷ ps)) (Some m) ≡ Ok x → Several Immediate IsImmediateOf line e (p ∷ ps) x
 short_by line e p ps (a_name text) x k h = absurd cc
 short_by line e p ps (a_number n) x k h =
     elim (chosen (nat_le n 65535) _ _ _ h) [
@@ -110,13 +110,13 @@ short_by line e p ps (a_number n) x k h =
 short_by line e p ps (a_text bytes) x k h = absurd cc
 short_by line e p ps (a_mark m) x k h = absurd cc
 
-immediate_by : (line e : ℕ) (p : Piece) (ps : List Piece) (m : Meaning) (x : Immediate × State) → p.says ≡ m → immediate_of (st line e (p ∷ ps)) (half_on (Some m) (says_first ps)) ≡ Ok x → Several Immediate IsImmediateOf line e (p ∷ ps) x
+immediate_by : (line e : ℕ) (p : Piece) (ps : List Piece) (m : TokenValue) (x : Immediate × ReaderState) → p.says ≡ m → immediate_of (st line e (p ∷ ps)) (half_on (Some m) (says_first ps)) ≡ Ok x → Several Immediate IsImmediateOf line e (p ∷ ps) x
 immediate_by line e p ps (a_name text) x k h = named_half line e p ps text (is_mark_of 40 (says_first ps)) x k h
 immediate_by line e p ps (a_number n) x k h = short_by line e p ps p.says x refl h
 immediate_by line e p ps (a_text bytes) x k h = short_by line e p ps p.says x refl h
 immediate_by line e p ps (a_mark m) x k h = short_by line e p ps p.says x refl h
 
-pub immediate_read : (line e : ℕ) (ps : List Piece) (x : Immediate × State) → immediate_at (st line e ps) ≡ Ok x → Several Immediate IsImmediateOf line e ps x
+pub immediate_read : (line e : ℕ) (ps : List Piece) (x : Immediate × ReaderState) → immediate_at (st line e ps) ≡ Ok x → Several Immediate IsImmediateOf line e ps x
 unfolding immediate_at
 immediate_read line e [] x h = absurd cc
 immediate_read line e (p ∷ ps) x h = immediate_by line e p ps p.says x refl h
@@ -127,22 +127,22 @@ half_again : (line e : ℕ) (p o c : Piece) (inside : List Piece) (kind : Kind) 
 unfolding half_at
 half_again line e p o c inside kind v imm fixup a b d h k =
     let z : Read Immediate = Ok (record { imm = imm; fixup = fixup }, st line e []) in
-    let u : IsUnsigned (c ∷ []) = (ap (λ (m : Meaning). is_mark_of 43 (Some m)) d, ap (λ (m : Meaning). is_mark_of 45 (Some m)) d) in
-    bind_to (mark_at 40 (st line e (o ∷ (inside ++ c ∷ [])))) (λ (opened : State). value_at kind opened >>= close_half kind) (st line e (inside ++ c ∷ [])) z (mark_again 40 line e o (inside ++ c ∷ []) a)
+    let u : IsUnsigned (c ∷ []) = (ap (λ (m : TokenValue). is_mark_of 43 (Some m)) d, ap (λ (m : TokenValue). is_mark_of 45 (Some m)) d) in
+    bind_to (mark_at 40 (st line e (o ∷ (inside ++ c ∷ [])))) (λ (opened : ReaderState). value_at kind opened >>= close_half kind) (st line e (inside ++ c ∷ [])) z (mark_again 40 line e o (inside ++ c ∷ []) a)
     (bind_to (value_at kind (st line e (inside ++ c ∷ []))) (close_half kind) (v, st line e (c ∷ [])) z (value_again kind line e inside (c ∷ []) v b u)
-    (bind_to (mark_at 41 (st line e (c ∷ []))) (λ (closed : State). Ok (half_immediate kind v, closed)) (st line e []) z (mark_again 41 line e c [] d)
+    (bind_to (mark_at 41 (st line e (c ∷ []))) (λ (closed : ReaderState). Ok (half_immediate kind v, closed)) (st line e []) z (mark_again 41 line e c [] d)
     (ap (λ (x : Immediate). let y : Read Immediate = Ok (x, st line e []) in y) (half_of_is kind v imm fixup k h))))
 
 pub immediate_again : (line e : ℕ) (ps : List Piece) (imm : ℕ) (fixup : Option Fixup) → IsImmediate ps imm fixup → immediate_at (st line e ps) ≡ Ok (record { imm = imm; fixup = fixup }, st line e [])
 unfolding immediate_at
 immediate_again line e ps imm fixup (short {p = p} h l) =
     let s = st line e (p ∷ []) in
-    ap (λ (m : Meaning). immediate_of s (half_on (Some m) None)) h
-    ∙ ap (λ (m : Meaning). short_on s (Some m)) h
+    ap (λ (m : TokenValue). immediate_of s (half_on (Some m) None)) h
+    ∙ ap (λ (m : TokenValue). short_on s (Some m)) h
     ∙ take_then (nat_le imm 65535) _ _ (le-leb imm 65535 (omega arith))
 immediate_again line e ps imm fixup (half {h = p} {o = o} {ps = qs} inside c name kind v n k a t b d h) =
     let s = st line e (p ∷ o ∷ qs) in
-    ap₂ (λ (m q : Meaning). immediate_of s (half_on (Some m) (Some q))) n a
+    ap₂ (λ (m q : TokenValue). immediate_of s (half_on (Some m) (Some q))) n a
     ∙ ap (immediate_of s) k
     ∙ ap (λ (xs : List Piece). half_at kind (st line e (p ∷ o ∷ xs))) t
     ∙ half_again line e p o c inside kind v imm fixup a b d h (kinds_only name kind k)
@@ -153,17 +153,17 @@ abbrev pub IsOperandOf : List Piece → Operand → Type 0
 IsOperandOf ps (operand.Register r) = IsLast r ps
 IsOperandOf ps (operand.Immediate x) = IsImmediate ps x.imm x.fixup
 
-abbrev immediate_operand : Immediate × State → Read Operand
+abbrev immediate_operand : Immediate × ReaderState → Read Operand
 immediate_operand x = Ok (operand.Immediate x.0, x.1)
 
-operand_immediate : (line e : ℕ) (ps : List Piece) (x : Operand × State) → (immediate_at (st line e ps) >>= immediate_operand) ≡ Ok x → Several Operand IsOperandOf line e ps x
+operand_immediate : (line e : ℕ) (ps : List Piece) (x : Operand × ReaderState) → (immediate_at (st line e ps) >>= immediate_operand) ≡ Ok x → Several Operand IsOperandOf line e ps x
 operand_immediate line e ps x h =
     let b = bind_ok (immediate_at (st line e ps)) immediate_operand x h in
     let w = immediate_read line e ps b.0 b.1 in
     several Operand IsOperandOf line e ps w.front w.rest (operand.Immediate b.0.0) x w.tokens w.is
-    (ap (λ (u : State). let y : Operand × State = (operand.Immediate b.0.0, u) in y) (sym w.after) ∙ ok_same b.2)
+    (ap (λ (u : ReaderState). let y : Operand × ReaderState = (operand.Immediate b.0.0, u) in y) (sym w.after) ∙ ok_same b.2)
 
-operand_by : (line e : ℕ) (p : Piece) (ps : List Piece) (m : Meaning) (x : Operand × State) → p.says ≡ m → operand_of (st line e (p ∷ ps)) (register_in (Some m)) ≡ Ok x → Several Operand IsOperandOf line e (p ∷ ps) x
+operand_by : (line e : ℕ) (p : Piece) (ps : List Piece) (m : TokenValue) (x : Operand × ReaderState) → p.says ≡ m → operand_of (st line e (p ∷ ps)) (register_in (Some m)) ≡ Ok x → Several Operand IsOperandOf line e (p ∷ ps) x
 operand_by line e p ps (a_name text) x k h = by_register (register_of text) refl h
   where
     by_register : (o : Option ℕ) → register_of text ≡ o → operand_of (st line e (p ∷ ps)) (option_map reg_of o) ≡ Ok x → Several Operand IsOperandOf line e (p ∷ ps) x
@@ -173,7 +173,7 @@ operand_by line e p ps (a_number n) x k h = operand_immediate line e (p ∷ ps) 
 operand_by line e p ps (a_text bytes) x k h = operand_immediate line e (p ∷ ps) x h
 operand_by line e p ps (a_mark m) x k h = operand_immediate line e (p ∷ ps) x h
 
-pub operand_read : (line e : ℕ) (ps : List Piece) (x : Operand × State) → operand_at (st line e ps) ≡ Ok x → Several Operand IsOperandOf line e ps x
+pub operand_read : (line e : ℕ) (ps : List Piece) (x : Operand × ReaderState) → operand_at (st line e ps) ≡ Ok x → Several Operand IsOperandOf line e ps x
 unfolding operand_at
 operand_read line e [] x h = operand_immediate line e [] x h
 operand_read line e (p ∷ ps) x h = operand_by line e p ps p.says x refl h
@@ -183,18 +183,18 @@ unfolding operand_at
 operand_register_again line e r [] h = absurd h
 operand_register_again line e r (p ∷ []) h =
     let s = st line e (p ∷ []) in
-    ap (λ (m : Meaning). operand_of s (register_in (Some m))) h.2
+    ap (λ (m : TokenValue). operand_of s (register_in (Some m))) h.2
     ∙ ap (λ (o : Option ℕ). operand_of s (option_map reg_of o)) (register_name_again h.0 h.1 h.3)
     ∙ ap (λ (v : Reg). let y : Read Operand = Ok (operand.Register v, st line e []) in y) (sym h.4)
 operand_register_again line e r (p ∷ q ∷ ps) h = absurd h
 
-half_no_register : (name : List ℕ) (kind : Kind) → half_of name ≡ Some kind → register_of name ≡ None
+half_no_register : (name : List ℕ) (kind : Kind) → half_named name ≡ Some kind → register_of name ≡ None
 unfolding register_of
 half_no_register name kind h = elim (half_names name kind h) [ inl j ↦ ap register_of j.0 | inr j ↦ ap register_of j.0 ]
 
 no_register : (line e : ℕ) (ps : List Piece) (imm : ℕ) (fixup : Option Fixup) → IsImmediate ps imm fixup → register_in (first (st line e ps)) ≡ None
-no_register line e ps imm fixup (short {p = p} h l) = ap (λ (m : Meaning). register_in (Some m)) h
-no_register line e ps imm fixup (half inside c name kind v n k a t b d h) = ap (λ (m : Meaning). register_in (Some m)) n ∙ ap (option_map reg_of) (half_no_register name kind k)
+no_register line e ps imm fixup (short {p = p} h l) = ap (λ (m : TokenValue). register_in (Some m)) h
+no_register line e ps imm fixup (half inside c name kind v n k a t b d h) = ap (λ (m : TokenValue). register_in (Some m)) n ∙ ap (option_map reg_of) (half_no_register name kind k)
 
 pub operand_immediate_again : (line e : ℕ) (ps : List Piece) (imm : ℕ) (fixup : Option Fixup) → IsImmediate ps imm fixup → operand_at (st line e ps) ≡ Ok (operand.Immediate (record { imm = imm; fixup = fixup }), st line e [])
 unfolding operand_at
@@ -209,14 +209,14 @@ abbrev pub IsBoundOf : Bound → Piece → Type 0
 IsBoundOf (bound.Register r) p = IsRegister r p
 IsBoundOf (bound.Number n) p = IsNumber n p × (n < 65536)
 
-abbrev register_bound : Reg × State → Read Bound
+abbrev register_bound : Reg × ReaderState → Read Bound
 register_bound r = Ok (bound.Register r.0, r.1)
 
-bound_by : (line e : ℕ) (p : Piece) (ps : List Piece) (m : Meaning) (x : Bound × State) → p.says ≡ m → bound_on (st line e (p ∷ ps)) (Some m) ≡ Ok x → One Bound IsBoundOf line e (p ∷ ps) x
+bound_by : (line e : ℕ) (p : Piece) (ps : List Piece) (m : TokenValue) (x : Bound × ReaderState) → p.says ≡ m → bound_on (st line e (p ∷ ps)) (Some m) ≡ Ok x → One Bound IsBoundOf line e (p ∷ ps) x
 bound_by line e p ps (a_name text) x k h =
     let b = bind_ok (register_at (st line e (p ∷ ps))) register_bound x h in
     let r = register_read line e (p ∷ ps) b.0 b.1 in
-    let same = ap (λ (u : State). let y : Bound × State = (bound.Register b.0.0, u) in y) (sym r.after) ∙ ok_same b.2 in
+    let same = ap (λ (u : ReaderState). let y : Bound × ReaderState = (bound.Register b.0.0, u) in y) (sym r.after) ∙ ok_same b.2 in
     subst (One Bound IsBoundOf line e (p ∷ ps)) same (record { piece = r.piece; rest = r.rest; tokens = r.tokens; is = r.is; after = refl })
 bound_by line e p ps (a_number n) x k h =
     elim (chosen (nat_le n 65535) _ _ _ h) [
@@ -228,7 +228,7 @@ bound_by line e p ps (a_number n) x k h =
 bound_by line e p ps (a_text bytes) x k h = absurd cc
 bound_by line e p ps (a_mark m) x k h = absurd cc
 
-pub bound_read : (line e : ℕ) (ps : List Piece) (x : Bound × State) → bound_at (st line e ps) ≡ Ok x → One Bound IsBoundOf line e ps x
+pub bound_read : (line e : ℕ) (ps : List Piece) (x : Bound × ReaderState) → bound_at (st line e ps) ≡ Ok x → One Bound IsBoundOf line e ps x
 unfolding bound_at
 bound_read line e [] x h = absurd cc
 bound_read line e (p ∷ ps) x h = bound_by line e p ps p.says x refl h
@@ -238,11 +238,11 @@ unfolding bound_at
 bound_register_again line e r [] h = absurd h
 bound_register_again line e r (p ∷ []) h =
     let s = st line e (p ∷ []) in
-    ap (λ (m : Meaning). bound_on s (Some m)) h.2
+    ap (λ (m : TokenValue). bound_on s (Some m)) h.2
     ∙ bind_to (register_at s) register_bound (r, st line e []) (Ok (bound.Register r, st line e [])) (register_again line e r p [] h) refl
 bound_register_again line e r (p ∷ q ∷ ps) h = absurd h
 
 pub bound_number_again : (line e n : ℕ) (p : Piece) → IsNumber n p → n < 65536 → bound_at (st line e (p ∷ [])) ≡ Ok (bound.Number n, st line e [])
 unfolding bound_at
 bound_number_again line e n p h l =
-    ap (λ (m : Meaning). bound_on (st line e (p ∷ [])) (Some m)) h ∙ take_then (nat_le n 65535) _ _ (le-leb n 65535 (omega arith))
+    ap (λ (m : TokenValue). bound_on (st line e (p ∷ [])) (Some m)) h ∙ take_then (nat_le n 65535) _ _ (le-leb n 65535 (omega arith))

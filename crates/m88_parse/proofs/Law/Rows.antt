@@ -6,14 +6,14 @@ use Rattle.m88_parse.specs.declared.unit.Body.{Body}
 use Rattle.m88_parse.specs.declared.unit.Statement.{Statement}
 use Rattle.m88_parse.specs.declared.row.Row.{Row}
 use Rattle.m88_parse.specs.declared.row.Row.TheVariants as row
-use Rattle.m88_parse.specs.Names.{is_module}
-use Rattle.m88_parse.specs.Spelling.Pieces.{Meaning, a_name, a_number, a_text, a_mark, Piece}
-use Rattle.m88_parse.specs.State.{State, says_first, first, past, is_mark_of, ◌>>=◌}
-use Rattle.m88_parse.specs.Slots.{symbol_at, any_name_at, end_at}
-use Rattle.m88_parse.specs.Source.{operation_on, operation_at, statement, labelled_on, labelled_at, unlabelled_at, head_at, is_label_on, is_head_on, row_at, end_of, row_of_pieces}
-use Rattle.m88_parse.specs.Spelling.Names.{IsNamed, IsSymbol}
-use Rattle.m88_parse.specs.Spelling.Statements.{IsBody, text, data_section, at, word, half, byte, ascii, zeros, align, global, set, code, IsLabel, BeginsWithNoColon, IsStatement, plain, labelled, label_alone, IsHead, head}
-use Rattle.m88_parse.specs.Spelling.Units.{Said, says_nothing, says, begins, LineSays, empty_line, statement_line, module_line}
+use Rattle.m88_parse.specs.Reader.Names.{is_module}
+use Rattle.m88_parse.specs.Language.Pieces.{TokenValue, a_name, a_number, a_text, a_mark, Piece}
+use Rattle.m88_parse.specs.Reader.State.{ReaderState, says_first, first, past, is_mark_of, ◌>>=◌}
+use Rattle.m88_parse.specs.Reader.Slots.{symbol_at, any_name_at, end_at}
+use Rattle.m88_parse.specs.Reader.Source.{operation_on, operation_at, statement, labelled_on, labelled_at, unlabelled_at, head_at, is_label_on, is_head_on, row_at, end_of, row_of_pieces}
+use Rattle.m88_parse.specs.Language.Names.{IsNamed, IsSymbol}
+use Rattle.m88_parse.specs.Language.Statements.{IsBody, text, data_section, at, word, half, byte, ascii, zeros, align, global, set, code, IsLabel, BeginsWithNoColon, IsStatement, unlabelled, labelled, label_alone, IsHead, head}
+use Rattle.m88_parse.specs.Language.Units.{Said, says_nothing, says, begins, LineSays, empty_line, statement_line, module_line}
 use Rattle.m88_parse.proofs.Law.Steps.{chosen, tested, take_then, take_else}
 use Rattle.m88_parse.proofs.Law.Slots.{st, ok_same, bind_ok, bind_to, mark_says, end_read, symbol_read, symbol_again, any_name_read, any_name_again}
 use Rattle.m88_parse.proofs.Law.Bodies.{operation_read, body_again}
@@ -32,7 +32,7 @@ pub record Stated (number : ℕ) (ps : List Piece) (r : Row) : Type 0 where
 
 -- labels
 
-pub label_marks : (m : Meaning) (o : Option Meaning) → is_label_on (Some m) o ≡ true → is_mark_of 58 o ≡ true
+pub label_marks : (m : TokenValue) (o : Option TokenValue) → is_label_on (Some m) o ≡ true → is_mark_of 58 o ≡ true
 label_marks (a_name name) o h = h
 label_marks (a_number n) o h = absurd cc
 label_marks (a_text bytes) o h = absurd cc
@@ -50,7 +50,7 @@ unfolding labelled_at
 label_read line e p [] r m h = absurd cc
 label_read line e p (c ∷ ps) r m h =
     let s = st line e (p ∷ c ∷ ps) in
-    let b = bind_ok (symbol_at s) (λ (label : (List ℕ × ℕ) × State). labelled_on (past label.1) label.0 (first (past label.1))) r h in
+    let b = bind_ok (symbol_at s) (λ (label : (List ℕ × ℕ) × ReaderState). labelled_on (past label.1) label.0 (first (past label.1))) r h in
     let o = symbol_read line e (p ∷ c ∷ ps) b.0 b.1 in
     let same_piece : p ≡ o.piece = cc (o.tokens) in
     let same_rest : c ∷ ps ≡ o.rest = cc (o.tokens) in
@@ -58,24 +58,24 @@ label_read line e p (c ∷ ps) r m h =
     let col : b.0.0.1 ≡ p.col = o.is.1 ∙ ap (λ (q : Piece). q.col) (sym same_piece) in
     let named : IsSymbol b.0.0.0 p = subst (IsSymbol b.0.0.0) (sym same_piece) o.is.0 in
     let k : labelled_on (st line e ps) (b.0.0.0, p.col) (first (st line e ps)) ≡ Ok r =
-    ap₂ (λ (n : ℕ) (t : State). labelled_on (past t) (b.0.0.0, n) (first (past t))) (sym col) (sym after) ∙ b.2 in
+    ap₂ (λ (n : ℕ) (t : ReaderState). labelled_on (past t) (b.0.0.0, n) (first (past t))) (sym col) (sym after) ∙ b.2 in
     labelled_rest line e p c ps b.0.0.0 r (record { symbol = named; colon = mark_says 58 c.says m }) k
 
 -- heads of modules
 
-pub head_named : (m : Meaning) → is_head_on (Some m) ≡ true → m ≡ a_name (codes ".module")
+pub head_named : (m : TokenValue) → is_head_on (Some m) ≡ true → m ≡ a_name (codes ".module")
 head_named (a_name name) h = ap a_name ((bytes_eq-Decides name (codes ".module")).0 h)
 head_named (a_number n) h = absurd cc
 head_named (a_text bytes) h = absurd cc
 head_named (a_mark b) h = absurd cc
 
-abbrev pub made_head : ℕ → List ℕ × State → State → Result Row ParseFault
+abbrev pub made_head : ℕ → List ℕ × ReaderState → ReaderState → Result Row ParseFault
 made_head line name t = Ok (row.Head name.0 line)
 
 head_read : (line e : ℕ) (p : Piece) (ps : List Piece) (r : Row) → IsNamed (codes ".module") p → head_at (st line e (p ∷ ps)) ≡ Ok r → Stated line (p ∷ ps) r
 unfolding head_at
 head_read line e p ps r n h =
-    let b = bind_ok (any_name_at (st line e ps)) (λ (name : List ℕ × State). end_at name.1 >>= made_head line name) r h in
+    let b = bind_ok (any_name_at (st line e ps)) (λ (name : List ℕ × ReaderState). end_at name.1 >>= made_head line name) r h in
     let o = any_name_read line e ps b.0 b.1 in
     let d = bind_ok (end_at b.0.1) (made_head line b.0) r b.2 in
     let z = end_read line e o.rest d.0 (ap end_at (sym o.after) ∙ d.1) in
@@ -85,10 +85,10 @@ head_read line e p ps r n h =
 
 -- a statement with no label
 
-pub no_colon : (m : Meaning) (ps : List Piece) → (name : List ℕ) → m ≡ a_name name → is_label_on (Some m) (says_first ps) ≡ false → BeginsWithNoColon ps
+pub no_colon : (m : TokenValue) (ps : List Piece) → (name : List ℕ) → m ≡ a_name name → is_label_on (Some m) (says_first ps) ≡ false → BeginsWithNoColon ps
 no_colon m [] name n h = tt
 no_colon m (p ∷ ps) name n h =
-    λ (x : p.says ≡ a_mark 58). true≢false (sym (ap₂ (λ (a b : Meaning). is_label_on (Some a) (Some b)) n x) ∙ h)
+    λ (x : p.says ≡ a_mark 58). true≢false (sym (ap₂ (λ (a b : TokenValue). is_label_on (Some a) (Some b)) n x) ∙ h)
 
 body_named : (ps : List Piece) (c : Body) → IsBody ps c → (p : Piece) × (qs : List Piece) × (name : List ℕ) × (ps ≡ p ∷ qs) × IsNamed name p
 body_named ps c (text {p = p} n) = (p, [], codes ".text", refl, n)
@@ -111,7 +111,7 @@ plain_read line e p ps r l h =
     let n = body_named (p ∷ ps) b.0 k in
     let same : p ≡ n.0 = cc (n.3) in
     let named : p.says ≡ a_name n.2 = ap (λ (q : Piece). q.says) same ∙ n.4 in
-    record { said = _; line_says = statement_line (plain k (no_colon p.says ps n.2 named l)); row_is = ap (λ (x : Row). let y : Option Row = Some x in y) (ok_same b.2) }
+    record { said = _; line_says = statement_line (unlabelled k (no_colon p.says ps n.2 named l)); row_is = ap (λ (x : Row). let y : Option Row = Some x in y) (ok_same b.2) }
 
 pub row_read : (line e : ℕ) (p : Piece) (ps : List Piece) (r : Row) → row_at (st line e (p ∷ ps)) ≡ Ok r → Stated line (p ∷ ps) r
 unfolding row_at
@@ -131,10 +131,10 @@ label_again : (line e : ℕ) (p c : Piece) (ps : List Piece) (name : List ℕ) (
 unfolding row_at labelled_at
 label_again line e p c ps name z k h =
     let s = st line e (p ∷ c ∷ ps) in
-    take_then (is_label_on (Some p.says) (Some c.says)) _ _ (ap₂ (λ (a b : Meaning). is_label_on (Some a) (Some b)) k.symbol.0 k.colon)
-    ∙ bind_to (symbol_at s) (λ (label : (List ℕ × ℕ) × State). labelled_on (past label.1) label.0 (first (past label.1))) ((name, p.col), st line e (c ∷ ps)) z (symbol_again line e name p (c ∷ ps) k.symbol) h
+    take_then (is_label_on (Some p.says) (Some c.says)) _ _ (ap₂ (λ (a b : TokenValue). is_label_on (Some a) (Some b)) k.symbol.0 k.colon)
+    ∙ bind_to (symbol_at s) (λ (label : (List ℕ × ℕ) × ReaderState). labelled_on (past label.1) label.0 (first (past label.1))) ((name, p.col), st line e (c ∷ ps)) z (symbol_again line e name p (c ∷ ps) k.symbol) h
 
-colon_free : (m : Meaning) (ps : List Piece) → BeginsWithNoColon ps → is_label_on (Some m) (says_first ps) ≡ false
+colon_free : (m : TokenValue) (ps : List Piece) → BeginsWithNoColon ps → is_label_on (Some m) (says_first ps) ≡ false
 colon_free (a_name name) [] h = refl
 colon_free (a_name name) (p ∷ ps) h = elim (tested (is_mark_of 58 (Some p.says))) [ inl e ↦ absurd (h (mark_says 58 p.says e)) | inr e ↦ e ]
 colon_free (a_number n) ps h = refl
@@ -142,14 +142,14 @@ colon_free (a_text bytes) ps h = refl
 colon_free (a_mark b) ps h = refl
 
 head_no_label : (line e : ℕ) (p q : Piece) (name : List ℕ) → IsNamed (codes ".module") p → IsNamed name q → is_label_on (Some p.says) (Some q.says) ≡ false
-head_no_label line e p q name n k = ap₂ (λ (a b : Meaning). is_label_on (Some a) (Some b)) n k
+head_no_label line e p q name n k = ap₂ (λ (a b : TokenValue). is_label_on (Some a) (Some b)) n k
 
 head_again : (line e : ℕ) (ps : List Piece) (name : List ℕ) → IsHead ps name → row_at (st line e ps) ≡ Ok (row.Head name line)
 unfolding row_at head_at
 head_again line e ps name (head {p = p} {q = q} n k v) =
     take_else (is_label_on (Some p.says) (Some q.says)) _ _ (head_no_label line e p q name n k)
-    ∙ take_then (is_head_on (Some p.says)) _ _ (ap (λ (m : Meaning). is_head_on (Some m)) n)
-    ∙ bind_to (any_name_at (st line e (q ∷ []))) (λ (x : List ℕ × State). end_at x.1 >>= made_head line x) (name, st line e []) (Ok (row.Head name line)) (any_name_again line e name q [] (k, v)) refl
+    ∙ take_then (is_head_on (Some p.says)) _ _ (ap (λ (m : TokenValue). is_head_on (Some m)) n)
+    ∙ bind_to (any_name_at (st line e (q ∷ []))) (λ (x : List ℕ × ReaderState). end_at x.1 >>= made_head line x) (name, st line e []) (Ok (row.Head name line)) (any_name_again line e name q [] (k, v)) refl
 
 -- an operation isn't the head of a module
 pub not_head : (line e : ℕ) (ps : List Piece) (c : Body) → operation_at (st line e ps) ≡ Ok c → is_head_on (first (st line e ps)) ≡ false
@@ -157,16 +157,16 @@ unfolding operation_at
 not_head line e [] c h = refl
 not_head line e (p ∷ ps) c h = by_says p.says refl
   where
-    by_says : (m : Meaning) → p.says ≡ m → is_head_on (Some p.says) ≡ false
+    by_says : (m : TokenValue) → p.says ≡ m → is_head_on (Some p.says) ≡ false
     by_says (a_name name) n =
-        let k : operation_on (st line e (p ∷ ps)) (Some (a_name name)) ≡ Ok c = ap (λ (m : Meaning). operation_on (st line e (p ∷ ps)) (Some m)) (sym n) ∙ h in
+        let k : operation_on (st line e (p ∷ ps)) (Some (a_name name)) ≡ Ok c = ap (λ (m : TokenValue). operation_on (st line e (p ∷ ps)) (Some m)) (sym n) ∙ h in
         elim (chosen (is_module name) _ _ _ k) [
           | inl j ↦ absurd cc
-          | inr j ↦ ap (λ (m : Meaning). is_head_on (Some m)) n ∙ j.0
+          | inr j ↦ ap (λ (m : TokenValue). is_head_on (Some m)) n ∙ j.0
         ]
-    by_says (a_number k) n = ap (λ (o : Meaning). is_head_on (Some o)) n
-    by_says (a_text bytes) n = ap (λ (o : Meaning). is_head_on (Some o)) n
-    by_says (a_mark b) n = ap (λ (o : Meaning). is_head_on (Some o)) n
+    by_says (a_number k) n = ap (λ (o : TokenValue). is_head_on (Some o)) n
+    by_says (a_text bytes) n = ap (λ (o : TokenValue). is_head_on (Some o)) n
+    by_says (a_mark b) n = ap (λ (o : TokenValue). is_head_on (Some o)) n
 
 plain_again : (line e : ℕ) (p : Piece) (ps : List Piece) (c : Body) → IsBody (p ∷ ps) c → BeginsWithNoColon ps → row_at (st line e (p ∷ ps)) ≡ Ok (statement (st line e (p ∷ ps)) None p.col c)
 unfolding row_at
@@ -178,7 +178,7 @@ plain_again line e p ps c h k =
     ∙ bind_to (operation_at s) (λ (x : Body). Ok (statement s None p.col x)) c (Ok (statement s None p.col c)) o refl
 
 statement_again : (line e : ℕ) (ps : List Piece) (s : Statement) → IsStatement line ps s → row_at (st line e ps) ≡ Ok (row.Statement s)
-statement_again line e ps s (plain {p = p} {ps = qs} {said = c} h k) = plain_again line e p qs c h k
+statement_again line e ps s (unlabelled {p = p} {ps = qs} {said = c} h k) = plain_again line e p qs c h k
 statement_again line e ps s (labelled {l = l} {c = c} {p = p} {ps = qs} {name = name} {said = said} k h) =
     label_again line e l c (p ∷ qs) name (Ok (row.Statement s)) k
     (bind_to (operation_at (st line e (p ∷ qs))) (λ (x : Body). Ok (statement (st line e (p ∷ qs)) (Some (name, l.col)) p.col x)) said (Ok (row.Statement s)) (body_again line e (p ∷ qs) said h) refl)

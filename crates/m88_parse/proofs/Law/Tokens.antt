@@ -4,11 +4,11 @@ use Rattle.std.specs.List.{list_all}
 use Rattle.std.proofs.Math.Seq.{take-append_seam, drop-append_seam, drop-length}
 use Rattle.m88_parse.specs.declared.fault.ParseFault.{ParseFault}
 use Rattle.m88_parse.specs.declared.scan.Flaw.{Flaw}
-use Rattle.m88_parse.specs.Tokens.{Cut, front, prepend, fault_at, pieces, pieces_of}
-use Rattle.m88_parse.specs.Spelling.Bytes.{is_blank, is_comment}
-use Rattle.m88_parse.specs.Spelling.Pieces.{Meaning, a_name, a_number, a_text, a_mark, Piece}
+use Rattle.m88_parse.specs.Reader.Tokens.{Cut, front, prepend, fault_at, pieces, pieces_of}
+use Rattle.m88_parse.specs.Language.Bytes.{is_blank, is_comment}
+use Rattle.m88_parse.specs.Language.Pieces.{TokenValue, a_name, a_number, a_text, a_mark, Piece}
 use Rattle.m88_base.specs.Name.{IsName}
-use Rattle.m88_parse.specs.Spelling.Tokens.{IsNumeral, IsGap, IsTail, IsRun, EndsRun, IsToken, AreTokens, LineTokens}
+use Rattle.m88_parse.specs.Language.Tokens.{IsNumeral, IsGap, IsTail, AreNameBytes, BeginsWithNoNameByte, IsToken, AreTokens, LineTokens}
 use Rattle.m88_parse.proofs.Pieces.{cut_off, fault_front}
 use Rattle.m88_parse.proofs.Law.Steps.{both}
 use Rattle.m88_parse.proofs.Law.Fronts.{front_again, front_blank, front_comment, TokenAt, Stands, comment_stands, blank_stands, token_stands, front_stands}
@@ -39,7 +39,7 @@ no_numeral : (n : ℕ) → IsNumeral [] n → ⊥
 no_numeral n (inl h) = let s = h.some in omega arith
 no_numeral n (inr h) = let e = h.bytes in cc
 
-some_bytes : (text : List ℕ) (m : Meaning) → IsToken text m → 0 < length text
+some_bytes : (text : List ℕ) (m : TokenValue) → IsToken text m → 0 < length text
 some_bytes [] (a_name name) h = let e : IsName [] = subst IsName (sym h.0) h.1 in absurd e
 some_bytes [] (a_number n) (inl h) = absurd (no_numeral n h.0)
 some_bytes [] (a_number n) (inr h) = let e = h.text_is in absurd cc
@@ -47,7 +47,7 @@ some_bytes [] (a_text bytes) h = let e = h.text_is in absurd cc
 some_bytes [] (a_mark m) h = let e = h.0 in absurd cc
 some_bytes (b ∷ bs) m h = omega arith
 
-pub token_passed : (line col : ℕ) (text rest : List ℕ) (m : Meaning) → IsToken text m → (IsRun text → EndsRun rest)
+pub token_passed : (line col : ℕ) (text rest : List ℕ) (m : TokenValue) → IsToken text m → (AreNameBytes text → BeginsWithNoNameByte rest)
     → pieces line 0 col (text ++ rest) ≡ prepend (Some m) col text (pieces line 0 (col + length text) rest)
 token_passed line col text rest m h k =
     let s = some_bytes text m h in
@@ -68,7 +68,7 @@ tokens_read line col bytes (p ∷ ps) h =
 
 -- what is read is related
 
-prepended : (m : Meaning) (col : ℕ) (text : List ℕ) (r : Result (List Piece) ParseFault) (ps : List Piece) → prepend (Some m) col text r ≡ Ok ps
+prepended : (m : TokenValue) (col : ℕ) (text : List ℕ) (r : Result (List Piece) ParseFault) (ps : List Piece) → prepend (Some m) col text r ≡ Ok ps
     → (qs : List Piece) × (r ≡ Ok qs) × (record { text = text; col = col; says = m } ∷ qs ≡ ps)
 prepended m col text (Ok qs) ps h = (qs, refl, cc)
 prepended m col text (Err f) ps h = absurd cc
@@ -106,7 +106,7 @@ token_first : (fuel line col : ℕ) (bytes : List ℕ) (c : Cut) (ps : List Piec
     → prepend c.says col (take c.len bytes) (pieces line 0 (col + c.len) (drop c.len bytes)) ≡ Ok ps → AreTokens col bytes ps
 token_first fuel line col bytes c ps ih s t h =
     let rest = pieces line 0 (col + c.len) (drop c.len bytes) in
-    let q = prepended t.meaning col (take c.len bytes) rest ps (ap (λ (o : Option Meaning). prepend o col (take c.len bytes) rest) (sym t.says) ∙ h) in
+    let q = prepended t.meaning col (take c.len bytes) rest ps (ap (λ (o : Option TokenValue). prepend o col (take c.len bytes) rest) (sym t.says) ∙ h) in
     let some = t.some in
     let fits = t.fits in
     let shorter : length (drop c.len bytes) ≤ fuel = omega (arith, length-drop c.len bytes) in

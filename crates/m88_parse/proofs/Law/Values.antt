@@ -4,23 +4,23 @@ use Rattle.m88_base.specs.declared.fixup.Kind.{Kind}
 use Rattle.m88_base.specs.declared.fixup.Fixup.{Fixup}
 use Rattle.m88_parse.specs.declared.unit.Value.{Value}
 use Rattle.m88_parse.specs.declared.unit.Value.TheVariants.{Number, Symbol}
-use Rattle.m88_parse.specs.Spelling.Pieces.{Meaning, a_name, a_number, a_text, a_mark, Piece}
-use Rattle.m88_parse.specs.State.{State, first, past, is_mark_of, is_next, ◌>>=◌}
-use Rattle.m88_parse.specs.Slots.{Read, negated, negative_on, number_on, number_at, whole_at, symbol_at, addend_at, fixup_at, value_on, value_at}
-use Rattle.m88_parse.specs.Spelling.Names.{IsMark, IsNumber}
-use Rattle.m88_parse.specs.Spelling.Operands.{minus, IsSigned, IsSymbolOf, IsAddend, IsFixup, IsValue}
+use Rattle.m88_parse.specs.Language.Pieces.{TokenValue, a_name, a_number, a_text, a_mark, Piece}
+use Rattle.m88_parse.specs.Reader.State.{ReaderState, first, past, is_mark_of, is_next, ◌>>=◌}
+use Rattle.m88_parse.specs.Reader.Slots.{Read, negated, negative_on, unsigned_on, unsigned_at, signed_at, symbol_at, addend_at, fixup_at, value_on, value_at}
+use Rattle.m88_parse.specs.Language.Names.{IsMark, IsNumber}
+use Rattle.m88_parse.specs.Language.Operands.{minus, IsSigned, IsSymbolOf, IsAddend, IsFixup, IsValue}
 use Rattle.m88_parse.proofs.Law.Steps.{chosen, take_then, take_else}
 use Rattle.m88_parse.proofs.Law.Slots.{st, ok_same, bind_ok, bind_to, One, mark_says, next_is, next_again, IsUpTo, number_by, number_read, number_slot_again, ranged_again, IsSymbolAt, symbol_read, symbol_again}
 
 -- several tokens, what they give, and what is left
-pub record Several (A : Type 0) (Is : List Piece → A → Type 0) (line e : ℕ) (ps : List Piece) (x : A × State) : Type 0 where
+pub record Several (A : Type 0) (Is : List Piece → A → Type 0) (line e : ℕ) (ps : List Piece) (x : A × ReaderState) : Type 0 where
   pub front : List Piece
   pub rest : List Piece
   pub tokens : ps ≡ front ++ rest
   pub is : Is front x.0
   pub after : x.1 ≡ st line e rest
 
-pub several : (A : Type 0) (Is : List Piece → A → Type 0) (line e : ℕ) (ps front rest : List Piece) (v : A) (x : A × State) → ps ≡ front ++ rest → Is front v → (v, st line e rest) ≡ x → Several A Is line e ps x
+pub several : (A : Type 0) (Is : List Piece → A → Type 0) (line e : ℕ) (ps front rest : List Piece) (v : A) (x : A × ReaderState) → ps ≡ front ++ rest → Is front v → (v, st line e rest) ≡ x → Several A Is line e ps x
 several A Is line e ps front rest v x t h k = subst (Several A Is line e ps) k (record { front = front; rest = rest; tokens = t; is = h; after = refl })
 
 -- a number with a sign of its own
@@ -30,7 +30,7 @@ IsWhole low most (p ∷ []) v = IsNumber v p × (v ≤ most)
 IsWhole low most (m ∷ p ∷ []) v = IsMark 45 m × ((n : ℕ) × IsNumber n p × (n ≤ low) × (v ≡ negated n))
 IsWhole low most ps v = ⊥
 
-negative_by : (low most line e : ℕ) (m p : Piece) (ps : List Piece) (o : Meaning) (x : ℕ × State) → IsMark 45 m → p.says ≡ o
+negative_by : (low most line e : ℕ) (m p : Piece) (ps : List Piece) (o : TokenValue) (x : ℕ × ReaderState) → IsMark 45 m → p.says ≡ o
     → negative_on low (st line e (m ∷ p ∷ ps)) (st line e (p ∷ ps)) (Some o) ≡ Ok x → Several ℕ (IsWhole low most) line e (m ∷ p ∷ ps) x
 negative_by low most line e m p ps (a_name text) x k l h = absurd cc
 negative_by low most line e m p ps (a_number n) x k l h =
@@ -41,16 +41,16 @@ negative_by low most line e m p ps (a_number n) x k l h =
 negative_by low most line e m p ps (a_text bytes) x k l h = absurd cc
 negative_by low most line e m p ps (a_mark b) x k l h = absurd cc
 
-negative_read : (low most line e : ℕ) (m : Piece) (ps : List Piece) (x : ℕ × State) → IsMark 45 m
+negative_read : (low most line e : ℕ) (m : Piece) (ps : List Piece) (x : ℕ × ReaderState) → IsMark 45 m
     → negative_on low (st line e (m ∷ ps)) (st line e ps) (first (st line e ps)) ≡ Ok x → Several ℕ (IsWhole low most) line e (m ∷ ps) x
 negative_read low most line e m [] x k h = absurd cc
 negative_read low most line e m (p ∷ ps) x k h = negative_by low most line e m p ps p.says x k refl h
 
-whole_of_one : (low most line e : ℕ) (ps : List Piece) (x : ℕ × State) → One ℕ (IsUpTo most) line e ps x → Several ℕ (IsWhole low most) line e ps x
+whole_of_one : (low most line e : ℕ) (ps : List Piece) (x : ℕ × ReaderState) → One ℕ (IsUpTo most) line e ps x → Several ℕ (IsWhole low most) line e ps x
 whole_of_one low most line e ps x o = record { front = o.piece ∷ []; rest = o.rest; tokens = o.tokens; is = o.is; after = o.after }
 
-pub whole_read : (low most line e : ℕ) (ps : List Piece) (x : ℕ × State) → whole_at low most (st line e ps) ≡ Ok x → Several ℕ (IsWhole low most) line e ps x
-unfolding whole_at
+pub whole_read : (low most line e : ℕ) (ps : List Piece) (x : ℕ × ReaderState) → signed_at low most (st line e ps) ≡ Ok x → Several ℕ (IsWhole low most) line e ps x
+unfolding signed_at
 whole_read low most line e [] x h = absurd cc
 whole_read low most line e (p ∷ ps) x h =
     elim (chosen (is_next 45 (st line e (p ∷ ps))) _ _ _ h) [
@@ -61,17 +61,17 @@ whole_read low most line e (p ∷ ps) x h =
     mark_of_next : (line e : ℕ) (p : Piece) (ps : List Piece) → is_next 45 (st line e (p ∷ ps)) ≡ true → IsMark 45 p
     mark_of_next line e p ps k = mark_says 45 p.says k
 
-pub whole_again : (low most line e : ℕ) (front rest : List Piece) (v : ℕ) → IsWhole low most front v → whole_at low most (st line e (front ++ rest)) ≡ Ok (v, st line e rest)
-unfolding whole_at
+pub whole_again : (low most line e : ℕ) (front rest : List Piece) (v : ℕ) → IsWhole low most front v → signed_at low most (st line e (front ++ rest)) ≡ Ok (v, st line e rest)
+unfolding signed_at
 whole_again low most line e [] rest v h = absurd h
 whole_again low most line e (p ∷ []) rest v h =
     let s = st line e (p ∷ rest) in
-    ap (λ (m : Meaning). if is_mark_of 45 (Some m) then negative_on low s (past s) (first (past s)) else number_on most s (Some m)) h.0 ∙ ranged_again most v s h.1
+    ap (λ (m : TokenValue). if is_mark_of 45 (Some m) then negative_on low s (past s) (first (past s)) else unsigned_on most s (Some m)) h.0 ∙ ranged_again most v s h.1
 whole_again low most line e (m ∷ p ∷ []) rest v h =
     let s = st line e (m ∷ p ∷ rest) in
     let n = h.1 in
     take_then (is_next 45 s) _ _ (next_again 45 line e m (p ∷ rest) h.0)
-    ∙ ap (λ (o : Meaning). negative_on low s (past s) (Some o)) n.1
+    ∙ ap (λ (o : TokenValue). negative_on low s (past s) (Some o)) n.1
     ∙ take_then (nat_le n.0 low) _ _ (le-leb n.0 low n.2)
     ∙ ap (λ (k : ℕ). let y : Read ℕ = Ok (k, st line e rest) in y) (sym n.3)
 whole_again low most line e (p ∷ q ∷ r ∷ ps) rest v h = absurd h
@@ -92,26 +92,26 @@ signed_word (p ∷ q ∷ r ∷ ps) v h = h
 
 -- what is added to a symbol
 
-pub data Added (line e : ℕ) (ps : List Piece) (x : ℕ × State) : Type 0 where
+pub data Added (line e : ℕ) (ps : List Piece) (x : ℕ × ReaderState) : Type 0 where
   nothing_added : x.0 ≡ 0 → x.1 ≡ st line e ps → Added line e ps x
   number_added : (m p : Piece) (rest : List Piece) → ps ≡ m ∷ p ∷ rest → IsAddend x.0 m p → x.1 ≡ st line e rest → Added line e ps x
 
-plus_added : (line e : ℕ) (ps : List Piece) (x : ℕ × State) → is_next 43 (st line e ps) ≡ true → number_at 2147483647 (past (st line e ps)) ≡ Ok x → Added line e ps x
+plus_added : (line e : ℕ) (ps : List Piece) (x : ℕ × ReaderState) → is_next 43 (st line e ps) ≡ true → unsigned_at 2147483647 (past (st line e ps)) ≡ Ok x → Added line e ps x
 plus_added line e ps x k h =
     let m = next_is 43 line e ps k in
-    let n = number_read 2147483647 line e m.rest x (ap (number_at 2147483647) (sym m.after) ∙ h) in
+    let n = number_read 2147483647 line e m.rest x (ap (unsigned_at 2147483647) (sym m.after) ∙ h) in
     number_added m.piece n.piece n.rest (m.tokens ∙ ap (λ (qs : List Piece). m.piece ∷ qs) n.tokens) (x.0, n.is.0, omega (arith, n.is.1), inl (m.is, refl)) n.after
 
-minus_added : (line e : ℕ) (ps : List Piece) (x : ℕ × State) → is_next 45 (st line e ps) ≡ true → (number_at 2147483647 (past (st line e ps)) >>= λ n. Ok (negated n.0, n.1)) ≡ Ok x → Added line e ps x
+minus_added : (line e : ℕ) (ps : List Piece) (x : ℕ × ReaderState) → is_next 45 (st line e ps) ≡ true → (unsigned_at 2147483647 (past (st line e ps)) >>= λ n. Ok (negated n.0, n.1)) ≡ Ok x → Added line e ps x
 minus_added line e ps x k h =
     let m = next_is 45 line e ps k in
-    let b = bind_ok (number_at 2147483647 (past (st line e ps))) (λ (n : ℕ × State). Ok (negated n.0, n.1)) x h in
-    let n = number_read 2147483647 line e m.rest b.0 (ap (number_at 2147483647) (sym m.after) ∙ b.1) in
+    let b = bind_ok (unsigned_at 2147483647 (past (st line e ps))) (λ (n : ℕ × ReaderState). Ok (negated n.0, n.1)) x h in
+    let n = number_read 2147483647 line e m.rest b.0 (ap (unsigned_at 2147483647) (sym m.after) ∙ b.1) in
     let same = ok_same b.2 in
-    number_added m.piece n.piece n.rest (m.tokens ∙ ap (λ (qs : List Piece). m.piece ∷ qs) n.tokens) (b.0.0, n.is.0, omega (arith, n.is.1), inr (m.is, sym (ap (λ (y : ℕ × State). y.0) same)))
-    (sym (ap (λ (y : ℕ × State). y.1) same) ∙ n.after)
+    number_added m.piece n.piece n.rest (m.tokens ∙ ap (λ (qs : List Piece). m.piece ∷ qs) n.tokens) (b.0.0, n.is.0, omega (arith, n.is.1), inr (m.is, sym (ap (λ (y : ℕ × ReaderState). y.0) same)))
+    (sym (ap (λ (y : ℕ × ReaderState). y.1) same) ∙ n.after)
 
-pub addend_read : (line e : ℕ) (ps : List Piece) (x : ℕ × State) → addend_at (st line e ps) ≡ Ok x → Added line e ps x
+pub addend_read : (line e : ℕ) (ps : List Piece) (x : ℕ × ReaderState) → addend_at (st line e ps) ≡ Ok x → Added line e ps x
 unfolding addend_at
 addend_read line e ps x h =
     elim (chosen (is_next 43 (st line e ps)) _ _ _ h) [
@@ -121,7 +121,7 @@ addend_read line e ps x h =
             | inl k ↦ minus_added line e ps x k.0 k.1
             | inr k ↦
                 let same = ok_same k.1 in
-                nothing_added (sym (ap (λ (y : ℕ × State). y.0) same)) (sym (ap (λ (y : ℕ × State). y.1) same))
+                nothing_added (sym (ap (λ (y : ℕ × ReaderState). y.0) same)) (sym (ap (λ (y : ℕ × ReaderState). y.1) same))
           ]
     ]
 
@@ -135,7 +135,7 @@ unfolding addend_at
 no_addend line e [] h = refl
 no_addend line e (p ∷ ps) h = take_else (is_next 43 (st line e (p ∷ ps))) _ _ h.0 ∙ take_else (is_next 45 (st line e (p ∷ ps))) _ _ h.1
 
-plus_no_minus : (o : Meaning) → is_mark_of 45 (Some o) ≡ true → is_mark_of 43 (Some o) ≡ false
+plus_no_minus : (o : TokenValue) → is_mark_of 45 (Some o) ≡ true → is_mark_of 43 (Some o) ≡ false
 plus_no_minus (a_name text) h = refl
 plus_no_minus (a_number n) h = refl
 plus_no_minus (a_text bytes) h = refl
@@ -153,7 +153,7 @@ addend_again line e addend m p rest h = by_mark h.3
     by_mark (inr k) =
         take_else (is_next 43 (st line e (m ∷ p ∷ rest))) _ _ (plus_no_minus m.says (next_again 45 line e m (p ∷ rest) k.0))
         ∙ take_then (is_next 45 (st line e (m ∷ p ∷ rest))) _ _ (next_again 45 line e m (p ∷ rest) k.0)
-        ∙ bind_to (number_at 2147483647 (st line e (p ∷ rest))) (λ (n : ℕ × State). Ok (negated n.0, n.1)) (h.0, st line e rest) (Ok (addend, st line e rest)) (number_slot_again 2147483647 line e h.0 p rest h.1 (omega (arith, h.2)))
+        ∙ bind_to (unsigned_at 2147483647 (st line e (p ∷ rest))) (λ (n : ℕ × ReaderState). Ok (negated n.0, n.1)) (h.0, st line e rest) (Ok (addend, st line e rest)) (number_slot_again 2147483647 line e h.0 p rest h.1 (omega (arith, h.2)))
         (ap (λ (n : ℕ). let y : Read ℕ = Ok (n, st line e rest) in y) (sym k.1))
 
 -- a symbol with what is added to it
@@ -161,21 +161,21 @@ addend_again line e addend m p rest h = by_mark h.3
 abbrev made_fixup : Kind → List ℕ → ℕ → ℕ → Fixup
 made_fixup kind name addend col = record { kind = kind; symbol = name; addend = addend; col = col }
 
-abbrev with_addend : Kind → (List ℕ × ℕ) × State → ℕ × State → Read Fixup
+abbrev with_addend : Kind → (List ℕ × ℕ) × ReaderState → ℕ × ReaderState → Read Fixup
 with_addend kind name more = Ok (made_fixup kind name.0.0 more.0 name.0.1, more.1)
 
-fixup_added : (kind : Kind) (line e : ℕ) (ps : List Piece) (s : Piece) (rest : List Piece) (name : List ℕ × ℕ) (more : ℕ × State) (x : Fixup × State)
+fixup_added : (kind : Kind) (line e : ℕ) (ps : List Piece) (s : Piece) (rest : List Piece) (name : List ℕ × ℕ) (more : ℕ × ReaderState) (x : Fixup × ReaderState)
     → ps ≡ s ∷ rest → IsSymbolAt name s → Added line e rest more → (made_fixup kind name.0 more.0 name.1, more.1) ≡ x → Several Fixup (IsFixup kind) line e ps x
 fixup_added kind line e ps s rest name more x t i (nothing_added z a) k =
-    several Fixup (IsFixup kind) line e ps (s ∷ []) rest (made_fixup kind name.0 more.0 name.1) x t ((refl, i.0, i.1), z) (ap (λ (u : State). let y : Fixup × State = (made_fixup kind name.0 more.0 name.1, u) in y) (sym a) ∙ k)
+    several Fixup (IsFixup kind) line e ps (s ∷ []) rest (made_fixup kind name.0 more.0 name.1) x t ((refl, i.0, i.1), z) (ap (λ (u : ReaderState). let y : Fixup × ReaderState = (made_fixup kind name.0 more.0 name.1, u) in y) (sym a) ∙ k)
 fixup_added kind line e ps s rest name more x t i (number_added m p after u d a) k =
     several Fixup (IsFixup kind) line e ps (s ∷ m ∷ p ∷ []) after (made_fixup kind name.0 more.0 name.1) x (t ∙ ap (λ (qs : List Piece). s ∷ qs) u) ((refl, i.0, i.1), d)
-    (ap (λ (u : State). let y : Fixup × State = (made_fixup kind name.0 more.0 name.1, u) in y) (sym a) ∙ k)
+    (ap (λ (u : ReaderState). let y : Fixup × ReaderState = (made_fixup kind name.0 more.0 name.1, u) in y) (sym a) ∙ k)
 
-pub fixup_read : (kind : Kind) (line e : ℕ) (ps : List Piece) (x : Fixup × State) → fixup_at kind (st line e ps) ≡ Ok x → Several Fixup (IsFixup kind) line e ps x
+pub fixup_read : (kind : Kind) (line e : ℕ) (ps : List Piece) (x : Fixup × ReaderState) → fixup_at kind (st line e ps) ≡ Ok x → Several Fixup (IsFixup kind) line e ps x
 unfolding fixup_at
 fixup_read kind line e ps x h =
-    let b = bind_ok (symbol_at (st line e ps)) (λ (name : (List ℕ × ℕ) × State). addend_at name.1 >>= with_addend kind name) x h in
+    let b = bind_ok (symbol_at (st line e ps)) (λ (name : (List ℕ × ℕ) × ReaderState). addend_at name.1 >>= with_addend kind name) x h in
     let s = symbol_read line e ps b.0 b.1 in
     let c = bind_ok (addend_at b.0.1) (with_addend kind b.0) x b.2 in
     let a = addend_read line e s.rest c.0 (ap addend_at (sym s.after) ∙ c.1) in
@@ -187,7 +187,7 @@ same_fixup kind f addend col a b c = λ i. record { kind = sym a i; symbol = f.s
 fixup_from : (kind : Kind) (line e : ℕ) (s : Piece) (ps rest : List Piece) (f : Fixup) → IsSymbolOf kind f s → addend_at (st line e ps) ≡ Ok (f.addend, st line e rest) → fixup_at kind (st line e (s ∷ ps)) ≡ Ok (f, st line e rest)
 unfolding fixup_at
 fixup_from kind line e s ps rest f i a =
-    bind_to (symbol_at (st line e (s ∷ ps))) (λ (name : (List ℕ × ℕ) × State). addend_at name.1 >>= with_addend kind name) ((f.symbol, s.col), st line e ps) (Ok (f, st line e rest)) (symbol_again line e f.symbol s ps i.1)
+    bind_to (symbol_at (st line e (s ∷ ps))) (λ (name : (List ℕ × ℕ) × ReaderState). addend_at name.1 >>= with_addend kind name) ((f.symbol, s.col), st line e ps) (Ok (f, st line e rest)) (symbol_again line e f.symbol s ps i.1)
     (bind_to (addend_at (st line e ps)) (with_addend kind ((f.symbol, s.col), st line e ps)) (f.addend, st line e rest) (Ok (f, st line e rest)) a
     (ap (λ (g : Fixup). let y : Read Fixup = Ok (g, st line e rest) in y) (same_fixup kind f f.addend s.col i.0 refl i.2)))
 
@@ -200,40 +200,40 @@ fixup_again kind line e (s ∷ m ∷ p ∷ q ∷ ps) rest f h u = absurd h
 
 -- E
 
-abbrev pub number_value : ℕ × State → Read Value
+abbrev pub number_value : ℕ × ReaderState → Read Value
 number_value n = Ok (Number n.0, n.1)
 
-abbrev pub symbol_value : Fixup × State → Read Value
+abbrev pub symbol_value : Fixup × ReaderState → Read Value
 symbol_value f = Ok (Symbol f.0, f.1)
 
-number_here : (kind : Kind) (line e : ℕ) (ps : List Piece) (x : Value × State) → (whole_at 2147483648 4294967295 (st line e ps) >>= number_value) ≡ Ok x → Several Value (IsValue kind) line e ps x
+number_here : (kind : Kind) (line e : ℕ) (ps : List Piece) (x : Value × ReaderState) → (signed_at 2147483648 4294967295 (st line e ps) >>= number_value) ≡ Ok x → Several Value (IsValue kind) line e ps x
 number_here kind line e ps x h =
-    let b = bind_ok (whole_at 2147483648 4294967295 (st line e ps)) number_value x h in
+    let b = bind_ok (signed_at 2147483648 4294967295 (st line e ps)) number_value x h in
     let w = whole_read 2147483648 4294967295 line e ps b.0 b.1 in
     several Value (IsValue kind) line e ps w.front w.rest (Number b.0.0) x w.tokens (word_signed w.front b.0.0 w.is)
-    (ap (λ (u : State). let y : Value × State = (Number b.0.0, u) in y) (sym w.after) ∙ ok_same b.2)
+    (ap (λ (u : ReaderState). let y : Value × ReaderState = (Number b.0.0, u) in y) (sym w.after) ∙ ok_same b.2)
 
-symbol_here : (kind : Kind) (line e : ℕ) (ps : List Piece) (x : Value × State) → (fixup_at kind (st line e ps) >>= symbol_value) ≡ Ok x → Several Value (IsValue kind) line e ps x
+symbol_here : (kind : Kind) (line e : ℕ) (ps : List Piece) (x : Value × ReaderState) → (fixup_at kind (st line e ps) >>= symbol_value) ≡ Ok x → Several Value (IsValue kind) line e ps x
 symbol_here kind line e ps x h =
     let b = bind_ok (fixup_at kind (st line e ps)) symbol_value x h in
     let w = fixup_read kind line e ps b.0 b.1 in
     several Value (IsValue kind) line e ps w.front w.rest (Symbol b.0.0) x w.tokens w.is
-    (ap (λ (u : State). let y : Value × State = (Symbol b.0.0, u) in y) (sym w.after) ∙ ok_same b.2)
+    (ap (λ (u : ReaderState). let y : Value × ReaderState = (Symbol b.0.0, u) in y) (sym w.after) ∙ ok_same b.2)
 
-value_by : (kind : Kind) (line e : ℕ) (ps : List Piece) (o : Option Meaning) (x : Value × State) → value_on kind (st line e ps) o ≡ Ok x → Several Value (IsValue kind) line e ps x
+value_by : (kind : Kind) (line e : ℕ) (ps : List Piece) (o : Option TokenValue) (x : Value × ReaderState) → value_on kind (st line e ps) o ≡ Ok x → Several Value (IsValue kind) line e ps x
 value_by kind line e ps None x h = number_here kind line e ps x h
 value_by kind line e ps (Some (a_name text)) x h = symbol_here kind line e ps x h
 value_by kind line e ps (Some (a_number n)) x h = number_here kind line e ps x h
 value_by kind line e ps (Some (a_text bytes)) x h = number_here kind line e ps x h
 value_by kind line e ps (Some (a_mark m)) x h = number_here kind line e ps x h
 
-pub value_read : (kind : Kind) (line e : ℕ) (ps : List Piece) (x : Value × State) → value_at kind (st line e ps) ≡ Ok x → Several Value (IsValue kind) line e ps x
+pub value_read : (kind : Kind) (line e : ℕ) (ps : List Piece) (x : Value × ReaderState) → value_at kind (st line e ps) ≡ Ok x → Several Value (IsValue kind) line e ps x
 unfolding value_at
 value_read kind line e ps x h = value_by kind line e ps (first (st line e ps)) x h
 
-number_value_again : (kind : Kind) (line e n : ℕ) (front rest : List Piece) → IsSigned 4294967296 front n → (whole_at 2147483648 4294967295 (st line e (front ++ rest)) >>= number_value) ≡ Ok (Number n, st line e rest)
+number_value_again : (kind : Kind) (line e n : ℕ) (front rest : List Piece) → IsSigned 4294967296 front n → (signed_at 2147483648 4294967295 (st line e (front ++ rest)) >>= number_value) ≡ Ok (Number n, st line e rest)
 number_value_again kind line e n front rest h =
-    bind_to (whole_at 2147483648 4294967295 (st line e (front ++ rest))) number_value (n, st line e rest) (Ok (Number n, st line e rest)) (whole_again 2147483648 4294967295 line e front rest n (signed_word front n h)) refl
+    bind_to (signed_at 2147483648 4294967295 (st line e (front ++ rest))) number_value (n, st line e rest) (Ok (Number n, st line e rest)) (whole_again 2147483648 4294967295 line e front rest n (signed_word front n h)) refl
 
 symbol_value_again : (kind : Kind) (line e : ℕ) (f : Fixup) (front rest : List Piece) → IsFixup kind front f → IsUnsigned rest → (fixup_at kind (st line e (front ++ rest)) >>= symbol_value) ≡ Ok (Symbol f, st line e rest)
 symbol_value_again kind line e f front rest h u =
@@ -243,14 +243,14 @@ pub value_again : (kind : Kind) (line e : ℕ) (front rest : List Piece) (v : Va
 unfolding value_at
 value_again kind line e [] rest (Number n) h u = absurd h
 value_again kind line e (p ∷ []) rest (Number n) h u =
-    ap (λ (m : Meaning). value_on kind (st line e (p ∷ rest)) (Some m)) h.0 ∙ number_value_again kind line e n (p ∷ []) rest h
+    ap (λ (m : TokenValue). value_on kind (st line e (p ∷ rest)) (Some m)) h.0 ∙ number_value_again kind line e n (p ∷ []) rest h
 value_again kind line e (m ∷ p ∷ []) rest (Number n) h u =
-    ap (λ (o : Meaning). value_on kind (st line e (m ∷ p ∷ rest)) (Some o)) h.0 ∙ number_value_again kind line e n (m ∷ p ∷ []) rest h
+    ap (λ (o : TokenValue). value_on kind (st line e (m ∷ p ∷ rest)) (Some o)) h.0 ∙ number_value_again kind line e n (m ∷ p ∷ []) rest h
 value_again kind line e (p ∷ q ∷ r ∷ ps) rest (Number n) h u = absurd h
 value_again kind line e [] rest (Symbol f) h u = absurd h
 value_again kind line e (s ∷ []) rest (Symbol f) h u =
-    ap (λ (m : Meaning). value_on kind (st line e (s ∷ rest)) (Some m)) h.0.1.0 ∙ symbol_value_again kind line e f (s ∷ []) rest h u
+    ap (λ (m : TokenValue). value_on kind (st line e (s ∷ rest)) (Some m)) h.0.1.0 ∙ symbol_value_again kind line e f (s ∷ []) rest h u
 value_again kind line e (s ∷ m ∷ []) rest (Symbol f) h u = absurd h
 value_again kind line e (s ∷ m ∷ p ∷ []) rest (Symbol f) h u =
-    ap (λ (o : Meaning). value_on kind (st line e (s ∷ m ∷ p ∷ rest)) (Some o)) h.0.1.0 ∙ symbol_value_again kind line e f (s ∷ m ∷ p ∷ []) rest h u
+    ap (λ (o : TokenValue). value_on kind (st line e (s ∷ m ∷ p ∷ rest)) (Some o)) h.0.1.0 ∙ symbol_value_again kind line e f (s ∷ m ∷ p ∷ []) rest h u
 value_again kind line e (s ∷ m ∷ p ∷ q ∷ ps) rest (Symbol f) h u = absurd h

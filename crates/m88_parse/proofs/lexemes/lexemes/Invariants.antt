@@ -1,7 +1,7 @@
 use Rattle.std.proofs.Common.{◌≡◌, ◌+◌, ◌-◌, ◌≤◌, drop, length, map}
 use Rattle.std.specs.List.{All}
-use Rattle.m88_parse.specs.Places.{IsNear, IsLexemeOf}
-use Rattle.m88_parse.specs.Tokens.{piece_of, pieces, pieces_of}
+use Rattle.m88_parse.specs.Reader.Places.{IsNear, IsLexemeOf}
+use Rattle.m88_parse.specs.Reader.Tokens.{piece_of, pieces, pieces_of}
 use Rattle.m88_parse.proofs.Pieces.{with_front}
 use Rattle.m88_parse.proofs.lexemes.lexemes.Given as goal
 

@@ -1,5 +1,5 @@
 use Rattle.std.proofs.Common.{◌≡◌, ◌++◌, drop, false}
-use Rattle.m88_parse.specs.Tokens.{text_bytes}
+use Rattle.m88_parse.specs.Reader.Tokens.{text_bytes}
 use Rattle.m88_parse.proofs.lists.text_bytes.Given as goal
 
 abbrev pub invariant-loop-b : goal.invariant-loop-b

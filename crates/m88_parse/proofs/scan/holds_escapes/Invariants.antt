@@ -1,5 +1,5 @@
 use Rattle.std.proofs.Common.{◌≡◌, drop, false}
-use Rattle.m88_parse.specs.Tokens.{holds_escapes}
+use Rattle.m88_parse.specs.Reader.Tokens.{holds_escapes}
 use Rattle.m88_parse.proofs.scan.holds_escapes.Given as goal
 
 abbrev pub invariant-loop-b : goal.invariant-loop-b

@@ -1,5 +1,5 @@
 use Rattle.std.proofs.Common.{◌≡◌, ◌+◌, drop, false}
-use Rattle.m88_parse.specs.Tokens.{inside_len}
+use Rattle.m88_parse.specs.Reader.Tokens.{inside_len}
 use Rattle.m88_parse.proofs.scan.inside_len.Given as goal
 
 abbrev pub invariant-loop-i : goal.invariant-loop-i

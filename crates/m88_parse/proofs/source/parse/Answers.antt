@@ -1,5 +1,5 @@
-use Rattle.m88_parse.proofs.Faults.{faults_placed}
-use Rattle.m88_parse.proofs.Law.Faults.{found_fault}
+use Rattle.m88_parse.proofs.Law.Faults.{found_fault, only_fault, one_answer}
+use Rattle.m88_parse.proofs.Law.Kinds.{source_kinds}
 use Rattle.m88_parse.proofs.Law.Units.{found_unit, only_unit}
 use Rattle.m88_parse.proofs.source.parse.Goals as goal
 
@@ -12,5 +12,13 @@ returns-clause-only c = only_unit c.args.source.now c.read_unit.result c.read_un
 pub returns-clause-fault : goal.returns-clause-fault
 returns-clause-fault c = found_fault c.args.source.now c.read_unit.result c.read_unit.ensures.value
 
+pub returns-clause-refused : goal.returns-clause-refused
+returns-clause-refused c = only_fault c.args.source.now c.read_unit.result c.read_unit.ensures.value
+
+pub returns-clause-one_answer : goal.returns-clause-one_answer
+returns-clause-one_answer c = one_answer c.args.source.now
+
 pub returns-clause-kind : goal.returns-clause-kind
-returns-clause-kind c = faults_placed c.read_unit.result (λ u. u) c.args.source.now c.read_unit.ensures.value
+returns-clause-kind c =
+    source_kinds c.args.source.now c.read_unit.result
+    (found_fault c.args.source.now c.read_unit.result c.read_unit.ensures.value)

@@ -1,6 +1,6 @@
 use Rattle.std.proofs.Common.{◌≡◌, ◌+◌, ◌≤◌, length}
-use Rattle.m88_parse.specs.Source.{lines_of, rows_of, unit_of}
-use Rattle.m88_parse.specs.Drafts.{leads, count_in, AreFormed}
+use Rattle.m88_parse.specs.Reader.Source.{lines_of, rows_of, unit_of}
+use Rattle.m88_parse.specs.Reader.Drafts.{leads, count_in, AreFormed}
 use Rattle.m88_parse.proofs.source.read_unit.Given as goal
 
 abbrev pub invariant-loop-rest : goal.invariant-loop-rest

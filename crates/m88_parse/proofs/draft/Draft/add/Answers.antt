@@ -2,8 +2,9 @@ use Rattle.std.proofs.Common.{◌≡◌, List, [], ◌∷◌, ◌++◌, Some, Op
 use Rattle.m88_parse.specs.declared.unit.Module.{Module}
 use Rattle.m88_parse.specs.declared.row.Row.{Row}
 use Rattle.m88_parse.specs.declared.row.Row.TheVariants as row
-use Rattle.m88_parse.specs.Drafts.{with_more, modules_after}
-use Rattle.m88_parse.specs.WellFormed.{IsRow, IsModule}
+use Rattle.m88_parse.specs.Reader.Drafts.{with_more, modules_after}
+use Rattle.m88_parse.specs.WellFormed.{IsFormedModule}
+use Rattle.m88_parse.specs.Reader.Kept.{IsFormedRow}
 use Rattle.m88_parse.proofs.Drafts.{after_statement, after_head, after_first_head, statement_formed}
 use Rattle.m88_parse.proofs.draft.Draft.add.Goals as goal
 
@@ -17,7 +18,7 @@ returns-in_ok-open-in-Statement-clause-after c = λ rows.
 pub returns-in_ok-open-in-Statement-clause-formed : goal.returns-in_ok-open-in-Statement-clause-formed
 returns-in_ok-open-in-Statement-clause-formed c = λ r h.
     let e : c.in_ok-open-in-Statement.open ≡ with_more _ (c.in-Statement.statement ∷ []) = c.in_ok-open-in-Statement.ensures.value ∙ ap (λ (m : Module). with_more m (c.in-Statement.statement ∷ [])) c.begun.ensures in
-    (h.0, subst (λ (m : Module). IsModule m) (sym e) (statement_formed c.args.self.current c.in-Statement.statement h.1 (subst (λ (x : Row). IsRow x) c.in-Statement.is r)))
+    (h.0, subst (λ (m : Module). IsFormedModule m) (sym e) (statement_formed c.args.self.current c.in-Statement.statement h.1 (subst (λ (x : Row). IsFormedRow x) c.in-Statement.is r)))
 
 pub returns-in-None-clause-after : goal.returns-in-None-clause-after
 returns-in-None-clause-after c = λ rows.

@@ -2,13 +2,13 @@ use Rattle.std.proofs.Common.{◌+◌, cond, length}
 use Rattle.std.specs.List.{All}
 use Rattle.m88_base.specs.declared.fixup.Kind.TheVariants.{Abs32}
 use Rattle.m88_parse.specs.WellFormed.{IsOfKind}
-use Rattle.m88_parse.specs.Grammar.{list_at, word_at}
+use Rattle.m88_parse.specs.Reader.Grammar.{list_at, word_item_at}
 use Rattle.m88_parse.proofs.Collecting.{Collects}
 use Rattle.m88_parse.proofs.parser.Parser.words_list.Given as goal
 
 abbrev pub invariant-loop-more : goal.invariant-loop-more
 invariant-loop-more l = record {
-  collects : Collects word_at l.more l.out.items l.self (list_at word_at l.fn.self);
+  collects : Collects word_item_at l.more l.out.items l.self (list_at word_item_at l.fn.self);
   kind : All (IsOfKind Abs32) l.out.items;
 }
 

@@ -1,0 +1,342 @@
+-- What stands behind a front, one token at a time: where each token either leads on or is a fault whatever follows it, each
+-- fault is the one of the language.
+use Rattle.std.proofs.Common.{◌≡◌, ℕ, suc, ◌+◌, ◌<◌, arith, Bool, true, false, ◌⊎◌, inl, inr, List, [], ◌∷◌, ◌++◌, length, Option, Some, None, Result, Ok, Err, refl, sym, ap, ◌∙◌, subst, append_assoc, append-nil, codes, ◌==◌, eq-eqb, true≢false}
+use Rattle.m88_parse.specs.declared.fault.ParseKind.{ParseKind}
+use Rattle.m88_parse.specs.declared.fault.ParseKind.TheVariants.{Syntax}
+use Rattle.m88_parse.specs.declared.fault.ParseFault.{ParseFault}
+use Rattle.m88_parse.specs.Language.Pieces.{TokenValue, a_name, a_number, a_text, a_mark, Piece}
+use Rattle.m88_parse.specs.Language.Names.{IsMark, IsNamed}
+use Rattle.m88_parse.specs.Language.LineFaults.{IsOperation, operation, head_of_module, Continues, MayFollow, NumberMayFollow, EndsInHalf, IsMisplaced, number_out_of_range, no_such_name, other_token, IsFaultBehind, misplaced, line_ends, Stops}
+use Rattle.m88_parse.specs.declared.unit.Body.{Body}
+use Rattle.m88_parse.specs.declared.row.Row.{Row}
+use Rattle.m88_parse.specs.declared.row.Row.TheVariants as row
+use Rattle.m88_parse.specs.Reader.State.{ReaderState, first, place, is_mark_of, ◌>>=◌}
+use Rattle.m88_parse.specs.Reader.Slots.{any_name_at, end_at}
+use Rattle.m88_parse.specs.Reader.Source.{operation_at, head_at, is_head_on, statement}
+use Rattle.m88_parse.specs.Language.Statements.{IsHead, head}
+use Rattle.m88_parse.proofs.Law.Steps.{chosen, tested, take_then, take_else}
+use Rattle.m88_parse.proofs.Law.Slots.{st, bind_ok, bind_to, end_read, any_name_read, any_name_again}
+use Rattle.m88_parse.proofs.Law.Bodies.{operation_read, body_again}
+use Rattle.m88_parse.proofs.Law.Rows.{head_named, made_head, not_head}
+use Rattle.m88_parse.proofs.Law.LineFaults.Readers.{fault_in, row_or_head, here, some_same, Reader, heard, Goes, Refuses, Reads, EndsAt, Told, Traced, Fresh, Good, Naming, no_name, own_names, symbols, kind_for, WantsNumbers, WantsNames, Wants, NumbersWanted, NamesWanted, Wanted}
+
+-- what is heard is what is related
+
+head_is : (line e : ℕ) (p : Piece) (ps : List Piece) (r : Row) → IsNamed (codes ".module") p → head_at (st line e (p ∷ ps)) ≡ Ok r → IsOperation (p ∷ ps)
+unfolding head_at
+head_is line e p ps r n h =
+    let b = bind_ok (any_name_at (st line e ps)) (λ (name : List ℕ × ReaderState). end_at name.1 >>= made_head line name) r h in
+    let o = any_name_read line e ps b.0 b.1 in
+    let d = bind_ok (end_at b.0.1) (made_head line b.0) r b.2 in
+    let z = end_read line e o.rest d.0 (ap end_at (sym o.after) ∙ d.1) in
+    let t : ps ≡ o.piece ∷ [] = o.tokens ∙ ap (λ (qs : List Piece). o.piece ∷ qs) z in
+    subst (λ (qs : List Piece). IsOperation (p ∷ qs)) (sym t) (head_of_module (head n o.is.0 o.is.1))
+
+operation_is : (line e : ℕ) (ps : List Piece) (c : Body) → operation_at (st line e ps) ≡ Ok c → IsOperation ps
+unfolding operation_at
+operation_is line e [] c h = absurd cc
+operation_is line e (p ∷ ps) c h = operation (operation_read line e p ps c h)
+
+row_is : (line e : ℕ) (ps : List Piece) (r : Row) → row_or_head (st line e ps) ≡ Ok r → IsOperation ps
+unfolding operation_at
+row_is line e [] r h = absurd cc
+row_is line e (p ∷ ps) r h =
+    let s = st line e (p ∷ ps) in
+    elim (chosen (is_head_on (Some p.says)) _ _ _ h) [
+      | inl k ↦ head_is line e p ps r (head_named p.says k.0) k.1
+      | inr k ↦ let b = bind_ok (operation_at s) (λ (x : Body). Ok (statement s None p.col x)) r k.1 in operation_is line e (p ∷ ps) b.0 b.1
+    ]
+
+fault_free : {A : Type 0} (r : Result A ParseFault) → fault_in r ≡ None → (x : A) × (r ≡ Ok x)
+fault_free (Ok x) h = (x, refl)
+fault_free (Err f) h = absurd cc
+
+pub heard_is : (line e : ℕ) (ps : List Piece) → heard line e ps ≡ None → IsOperation ps
+heard_is line e ps h = let b = fault_free (row_or_head (st line e ps)) h in row_is line e ps b.0 b.1
+
+operation_heard : (line e : ℕ) (ps : List Piece) (c : Body) → operation_at (st line e ps) ≡ Ok c → heard line e ps ≡ None
+operation_heard line e ps c h =
+    let s = st line e ps in
+    ap (λ (r : Result Row ParseFault). fault_in r)
+    (take_else (is_head_on (first s)) _ _ (not_head line e ps c h)
+    ∙ bind_to (operation_at s) (λ (x : Body). Ok (statement s None (place s) x)) c (Ok (statement s None (place s) c)) h refl)
+
+head_heard : (line e : ℕ) (ps : List Piece) (name : List ℕ) → IsHead ps name → heard line e ps ≡ None
+unfolding head_at
+head_heard line e ps name (head {p = p} {q = q} n k v) =
+    ap (λ (r : Result Row ParseFault). fault_in r)
+    (take_then (is_head_on (Some p.says)) _ _ (ap (λ (m : TokenValue). is_head_on (Some m)) n)
+    ∙ bind_to (any_name_at (st line e (q ∷ []))) (λ (x : List ℕ × ReaderState). end_at x.1 >>= made_head line x) (name, st line e []) (Ok (row.Head name line)) (any_name_again line e name q [] (k, v)) refl)
+
+pub is_heard : (line e : ℕ) (ps : List Piece) → IsOperation ps → heard line e ps ≡ None
+is_heard line e ps (operation {said = said} h) = operation_heard line e ps said (body_again line e ps said h)
+is_heard line e ps (head_of_module {name = name} h) = head_heard line e ps name h
+
+-- from readers to the language
+
+pub reads_on : (line e : ℕ) (front : List Piece) (k : Reader) (p : Piece) → ((ps : List Piece) → heard line e (front ++ p ∷ ps) ≡ k (p ∷ ps)) → Reads line e (front ++ p ∷ []) (λ ps. k (p ∷ ps))
+reads_on line e front k p r ps = ap (heard line e) (append_assoc front (p ∷ []) ps) ∙ r ps
+
+pub continues : (line e : ℕ) (front : List Piece) (k : Reader) → Reads line e front k → Goes k → Continues front
+continues line e front k r g = (g.0, heard_is line e (front ++ g.0) (r g.0 ∙ g.1))
+
+pub follows : (line e : ℕ) (front : List Piece) (k : Reader) (p : Piece) → Reads line e front k → Goes (λ ps. k (p ∷ ps)) → MayFollow front p
+follows line e front k p r g = continues line e (front ++ p ∷ []) (λ ps. k (p ∷ ps)) (reads_on line e front k p (λ ps. r (p ∷ ps))) g
+
+pub follows_not : (line e : ℕ) (front : List Piece) (k : Reader) (p : Piece) → Reads line e front k → Refuses k p → MayFollow front p → ⊥
+follows_not line e front k p r n f =
+    n f.0 (sym (r (p ∷ f.0)) ∙ ap (heard line e) (sym (append_assoc front (p ∷ []) f.0)) ∙ is_heard line e ((front ++ p ∷ []) ++ f.0) f.1)
+
+numbers_wanted : (num : Bool) (line e : ℕ) (front : List Piece) (k : Reader) → Reads line e front k → WantsNumbers num k → NumbersWanted num front
+numbers_wanted true line e front k r w = (w.0, w.1, w.2, follows line e front k w.0 r w.3)
+numbers_wanted false line e front k r w = λ f. follows_not line e front k f.0 r (w f.0 f.1 f.2) f.3
+
+names_wanted : (nam : Naming) (line e : ℕ) (front : List Piece) (k : Reader) → Reads line e front k → WantsNames nam k → NamesWanted nam front
+names_wanted no_name line e front k r w = λ f. follows_not line e front k f.0 r (w f.0 f.1 f.2) f.3
+names_wanted own_names line e front k r w =
+    let a = w.0 in
+    let b = w.1 in
+    ((a.0, a.1, a.2, follows line e front k a.0 r a.3), λ all. follows_not line e front k b.0 r b.3 (all b.0 b.1 b.2))
+names_wanted symbols line e front k r w = λ p name h. follows line e front k p r (w p name h)
+
+pub wanted : (num : Bool) (nam : Naming) (line e : ℕ) (front : List Piece) (k : Reader) → Reads line e front k → Wants num nam k → Wanted num nam front
+wanted num nam line e front k r w = record {
+  numbers = numbers_wanted num line e front k r w.numbers;
+  names = names_wanted nam line e front k r w.names;
+  opening = λ o m. follows_not line e front k o r (w.opening o m);
+}
+
+-- the kind of a token's fault
+
+number_misplaced : (num : Bool) (front : List Piece) (p : Piece) (n : ℕ) → Fresh front → p.says ≡ a_number n → NumbersWanted num front → IsMisplaced front p p.col (kind_for num no_name (a_number n))
+number_misplaced true front p n f h w = number_out_of_range (n, h, w) f
+number_misplaced false front p n f h w = other_token (λ x. w x.2) (λ x. let a = sym h ∙ x.1 in absurd cc)
+
+name_misplaced : (nam : Naming) (front : List Piece) (p : Piece) (name : List ℕ) → p.says ≡ a_name name → NamesWanted nam front → IsMisplaced front p p.col (kind_for false nam (a_name name))
+name_misplaced no_name front p name h w = other_token (λ x. let a = sym h ∙ x.1 in absurd cc) (λ x. w x.2)
+name_misplaced own_names front p name h w = no_such_name (name, h, w.0, w.1)
+name_misplaced symbols front p name h w = other_token (λ x. let a = sym h ∙ x.1 in absurd cc) (λ x. x.3 w)
+
+pub misplaced_by : (num : Bool) (nam : Naming) (front : List Piece) (p : Piece) (m : TokenValue) → p.says ≡ m → Fresh front → Wanted num nam front → IsMisplaced front p p.col (kind_for num nam m)
+misplaced_by num nam front p (a_name name) h f w = name_misplaced nam front p name h w.names
+misplaced_by num nam front p (a_number n) h f w = number_misplaced num front p n f h w.numbers
+misplaced_by num nam front p (a_text bytes) h f w = other_token (λ x. let a = sym h ∙ x.1 in absurd cc) (λ x. let a = sym h ∙ x.1 in absurd cc)
+misplaced_by num nam front p (a_mark m) h f w = other_token (λ x. let a = sym h ∙ x.1 in absurd cc) (λ x. let a = sym h ∙ x.1 in absurd cc)
+
+-- a token that leads on, and one that is a fault whatever follows
+
+abbrev pub Leads : ℕ → Bool → ℕ → ℕ → Reader → Piece → Type 0
+Leads few num line e k p =
+    (front : List Piece) → NumbersWanted num front → ((ps : List Piece) → heard line e (front ++ p ∷ ps) ≡ k (p ∷ ps)) → Traced few line e (front ++ p ∷ [])
+
+abbrev pub Faults : Bool → Naming → ℕ → Reader → Piece → Type 0
+Faults num nam line k p = (ps : List Piece) → k (p ∷ ps) ≡ here line p.col (kind_for num nam p.says)
+
+pub record Node (few : ℕ) (num : Bool) (nam : Naming) (line e : ℕ) (k : Reader) : Type 0 where
+  pub wants : Wants num nam k
+  pub goes : Goes k
+  pub stop : (k [] ≡ None) ⊎ (k [] ≡ here line e Syntax)
+  pub each : (p : Piece) → Leads few num line e k p ⊎ Faults num nam line k p
+
+pub no_half : (front : List Piece) → ((o : Piece) → IsMark 40 o → MayFollow front o → ⊥) → (h : Piece) → EndsInHalf front h → ⊥
+no_half front w h x = let o = x.opens in w o.0 o.1 o.2
+
+pub told : (line : ℕ) (front rest : List Piece) (at : ℕ) (kind : ParseKind) (f : ParseFault) → Continues front → Stops front rest → IsFaultBehind front rest at kind
+    → ◌≡◌ {A = Option ParseFault} (Some f) (here line at kind) → Told line (front ++ rest) f
+told line front rest at kind f c s b h =
+    let same : record { line = line; col = at; kind = kind } ≡ f = sym (some_same h) in
+    subst (Told line (front ++ rest)) same (record { front = front; rest = rest; tokens = refl; continues = c; stops = s; fault = b }, refl)
+
+pub ended : (line e : ℕ) (front : List Piece) (k : Reader) (f : ParseFault) → Reads line e front k → Goes k → ((h : Piece) → EndsInHalf front h → ⊥) → EndsAt (front ++ []) e
+    → (k [] ≡ None) ⊎ (k [] ≡ here line e Syntax) → heard line e (front ++ []) ≡ Some f → Told line (front ++ []) f
+ended line e front k f r g n a (inl s) h = let x : ◌≡◌ {A = Option ParseFault} None (Some f) = sym s ∙ sym (r []) ∙ h in absurd cc
+ended line e front k f r g n a (inr s) h =
+    let same : ◌≡◌ {A = Option ParseFault} (Some f) (here line e Syntax) = sym h ∙ r [] ∙ s in
+    let not_said : IsOperation front → ⊥ = λ o. let x : ◌≡◌ {A = Option ParseFault} (Some f) None = sym h ∙ is_heard line e (front ++ []) (subst (IsOperation) (sym (append-nil front)) o) in absurd cc in
+    told line front [] (a.1.col + length a.1.text) Syntax f (continues line e front k r g) not_said (line_ends a.0 a.1 n (sym (append-nil front) ∙ a.2))
+    (same ∙ ap (λ (c : ℕ). here line c Syntax) (sym a.3))
+
+pub moved : (few : ℕ) (line e : ℕ) (front : List Piece) (p : Piece) (ps : List Piece) (f : ParseFault) → Traced few line e (front ++ p ∷ []) → length (p ∷ ps) < suc few → EndsAt (front ++ p ∷ ps) e
+    → heard line e (front ++ p ∷ ps) ≡ Some f → Told line (front ++ p ∷ ps) f
+moved few line e front p ps f t l a h =
+    let w : (front ++ p ∷ []) ++ ps ≡ front ++ p ∷ ps = append_assoc front (p ∷ []) ps in
+    subst (λ (qs : List Piece). Told line qs f) w (t ps f (omega (arith, l)) (subst (λ (qs : List Piece). EndsAt qs e) (sym w) a) (ap (heard line e) w ∙ h))
+
+faulted : (num : Bool) (nam : Naming) (line e : ℕ) (front : List Piece) (k : Reader) (p : Piece) (ps : List Piece) (f : ParseFault) → Reads line e front k → Goes k → Fresh front → Wanted num nam front
+    → Faults num nam line k p → heard line e (front ++ p ∷ ps) ≡ Some f → Told line (front ++ p ∷ ps) f
+faulted num nam line e front k p ps f r g u w x h =
+    told line front (p ∷ ps) p.col (kind_for num nam p.says) f (continues line e front k r g)
+    (follows_not line e front k p r (λ qs n. let y : ◌≡◌ {A = Option ParseFault} (here line p.col (kind_for num nam p.says)) None = sym (x qs) ∙ n in absurd cc))
+    (misplaced (no_half front w.opening) (misplaced_by num nam front p p.says refl u w))
+    (sym h ∙ r (p ∷ ps) ∙ x ps)
+
+pub good_node : (few : ℕ) (num : Bool) (nam : Naming) (line e : ℕ) (k : Reader) → Node few num nam line e k → Good (suc few) line e k
+good_node few num nam line e k n = (n.goes, traced)
+  where
+    traced : (front : List Piece) → Fresh front → Reads line e front k → Traced (suc few) line e front
+    traced front u r [] f l a h = ended line e front k f r n.goes (no_half front (wanted num nam line e front k r n.wants).opening) a n.stop h
+    traced front u r (p ∷ ps) f l a h =
+        let w = wanted num nam line e front k r n.wants in
+        elim (n.each p) [
+          | inl t ↦ moved few line e front p ps f (t front w.numbers (λ qs. r (p ∷ qs))) l a h
+          | inr x ↦ faulted num nam line e front k p ps f r n.goes u w x h
+        ]
+
+-- what holds of some tokens holds of fewer
+
+pub fewer : (few : ℕ) (line e : ℕ) (k : Reader) → Good (suc few) line e k → Good few line e k
+fewer few line e k g = (g.0, λ front u r ps f l. g.1 front u r ps f (omega (arith, l)))
+
+pub good : (few : ℕ) (num : Bool) (nam : Naming) (line e : ℕ) (k : Reader) → Node few num nam line e k → Good few line e k
+good few num nam line e k n = fewer few line e k (good_node few num nam line e k n)
+
+-- the last of tokens
+
+last_of : List Piece → Option Piece
+last_of [] = None
+last_of (p ∷ []) = Some p
+last_of (p ∷ q ∷ ps) = last_of (q ∷ ps)
+
+last_is : (front : List Piece) (p : Piece) → last_of (front ++ p ∷ []) ≡ Some p
+unfolding last_of
+last_is [] p = refl
+last_is (q ∷ []) p = refl
+last_is (q ∷ r ∷ front) p = last_is (r ∷ front) p
+
+piece_same : {a b : Piece} → ◌≡◌ {A = Option Piece} (Some a) (Some b) → a ≡ b
+piece_same h = cc
+
+pub same_last : (front before : List Piece) (p q : Piece) → front ++ p ∷ [] ≡ before ++ q ∷ [] → p ≡ q
+same_last front before p q h = piece_same (sym (last_is front p) ∙ ap last_of h ∙ last_is before q)
+
+-- a token that is no - leaves the front fresh, and so does any token where no number is wanted
+
+pub fresh_behind : (front : List Piece) (p : Piece) → (IsMark 45 p → ⊥) → Fresh (front ++ p ∷ [])
+fresh_behind front p n m x = n (subst (IsMark 45) (sym (same_last front x.before p m x.tokens)) x.minus)
+
+same_front : (front before : List Piece) (p q : Piece) → front ++ p ∷ [] ≡ before ++ q ∷ [] → front ≡ before
+same_front [] [] p q h = refl
+same_front [] (b ∷ []) p q h = absurd cc
+same_front [] (b ∷ c ∷ before) p q h = absurd cc
+same_front (a ∷ []) [] p q h = absurd cc
+same_front (a ∷ c ∷ front) [] p q h = absurd cc
+same_front (a ∷ front) (b ∷ before) p q h =
+    let t : front ++ p ∷ [] ≡ before ++ q ∷ [] = cc in
+    let i : a ≡ b = cc in
+    ap (λ (x : Piece). x ∷ front) i ∙ ap (λ (xs : List Piece). b ∷ xs) (same_front front before p q t)
+
+pub fresh_without : (front : List Piece) (p : Piece) → (NumberMayFollow front → ⊥) → Fresh (front ++ p ∷ [])
+fresh_without front p n m x = n (subst (NumberMayFollow) (sym (same_front front x.before p m x.tokens)) x.number)
+
+-- a token behind which a good reader reads on
+
+pub leads : (few : ℕ) (num : Bool) (line e : ℕ) (k r : Reader) (p : Piece) → Good few line e r → ((ps : List Piece) → k (p ∷ ps) ≡ r ps)
+    → (IsMark 45 p → ⊥) ⊎ (num ≡ false) → Leads few num line e k p
+leads few num line e k r p g x s front w h = g.1 (front ++ p ∷ []) (fresh s) (λ ps. reads_on line e front k p h ps ∙ x ps)
+  where
+    none : (b : Bool) → b ≡ false → NumbersWanted b front → NumberMayFollow front → ⊥
+    none true y z = absurd cc
+    none false y z = z
+
+    fresh : (IsMark 45 p → ⊥) ⊎ (num ≡ false) → Fresh (front ++ p ∷ [])
+    fresh (inl n) = fresh_behind front p n
+    fresh (inr n) = fresh_without front p (none num n w)
+
+-- readers that say the same
+pub good_as : (few : ℕ) (line e : ℕ) (k r : Reader) → ((ps : List Piece) → k ps ≡ r ps) → Good few line e r → Good few line e k
+good_as few line e k r x g = ((g.0.0, x g.0.0 ∙ g.0.1), λ front u h. g.1 front u (λ ps. h ps ∙ x ps))
+
+wants_as : (num : Bool) (nam : Naming) (k r : Reader) → ((ps : List Piece) → k ps ≡ r ps) → Wants num nam r → Wants num nam k
+wants_as num nam k r x w = record { numbers = numbers num w.numbers; names = names nam w.names; opening = λ o h. refuses o (w.opening o h) }
+  where
+    goes : (p : Piece) → Goes (λ ps. r (p ∷ ps)) → Goes (λ ps. k (p ∷ ps))
+    goes p g = (g.0, x (p ∷ g.0) ∙ g.1)
+
+    refuses : (p : Piece) → Refuses r p → Refuses k p
+    refuses p f ps h = f ps (sym (x (p ∷ ps)) ∙ h)
+
+    numbers : (b : Bool) → WantsNumbers b r → WantsNumbers b k
+    numbers true h = (h.0, h.1, h.2, goes h.0 h.3)
+    numbers false h = λ p n i. refuses p (h p n i)
+
+    names : (b : Naming) → WantsNames b r → WantsNames b k
+    names no_name h = λ p name i. refuses p (h p name i)
+    names own_names h = let a = h.0 in let b = h.1 in ((a.0, a.1, a.2, goes a.0 a.3), (b.0, b.1, b.2, refuses b.0 b.3))
+    names symbols h = λ p name i. goes p (h p name i)
+
+pub leads_as : (few : ℕ) (num : Bool) (line e : ℕ) (k r : Reader) (p : Piece) → ((ps : List Piece) → k (p ∷ ps) ≡ r (p ∷ ps)) → Leads few num line e r p → Leads few num line e k p
+leads_as few num line e k r p x l front w h = l front w (λ ps. h ps ∙ x ps)
+
+pub node_as : (few : ℕ) (num : Bool) (nam : Naming) (line e : ℕ) (k r : Reader) → ((ps : List Piece) → k ps ≡ r ps) → Node few num nam line e r → Node few num nam line e k
+node_as few num nam line e k r x n = record {
+  wants = wants_as num nam k r x n.wants;
+  goes = (n.goes.0, x n.goes.0 ∙ n.goes.1);
+  stop = elim (n.stop) [ inl s ↦ inl (x [] ∙ s) | inr s ↦ inr (x [] ∙ s) ];
+  each = λ p. elim (n.each p) [ inl l ↦ inl (leads_as few num line e k r p (λ ps. x (p ∷ ps)) l) | inr f ↦ inr (λ ps. x (p ∷ ps) ∙ f ps) ];
+}
+
+-- where a mark leads on by itself, and anything else as before
+
+pub data Unmarked (m : ℕ) : TokenValue → Type 0 where
+  name_unmarked : {name : List ℕ} → Unmarked m (a_name name)
+  number_unmarked : {n : ℕ} → Unmarked m (a_number n)
+  opening_unmarked : Unmarked m (a_mark 40)
+
+unmarked_test : (m : ℕ) (o : TokenValue) → (40 == m) ≡ false → Unmarked m o → is_mark_of m (Some o) ≡ false
+unmarked_test m o h name_unmarked = refl
+unmarked_test m o h number_unmarked = refl
+unmarked_test m o h opening_unmarked = h
+
+pub or_lead : (few : ℕ) (num : Bool) (nam : Naming) (line e m : ℕ) (all k : Reader) → (40 == m) ≡ false → Goes all
+    → ((p : Piece) → is_mark_of m (Some p.says) ≡ true → Leads few num line e all p)
+    → ((p : Piece) (ps : List Piece) → is_mark_of m (Some p.says) ≡ false → all (p ∷ ps) ≡ k (p ∷ ps))
+    → all [] ≡ k [] → Node few num nam line e k → Node few num nam line e all
+or_lead few num nam line e m all k o g x y z n = record {
+  wants = record { numbers = numbers num n.wants.numbers; names = names nam n.wants.names; opening = λ p h. refuses p (other p (a_mark 40) h opening_unmarked) (n.wants.opening p h) };
+  goes = g;
+  stop = elim (n.stop) [ inl t ↦ inl (z ∙ t) | inr t ↦ inr (z ∙ t) ];
+  each = λ p. elim (tested (is_mark_of m (Some p.says))) [
+    | inl t ↦ inl (x p t)
+    | inr t ↦ by_node p t (n.each p)
+  ];
+}
+  where
+    other : (p : Piece) (o : TokenValue) → p.says ≡ o → Unmarked m o → is_mark_of m (Some p.says) ≡ false
+    other p w h u = ap (λ (v : TokenValue). is_mark_of m (Some v)) h ∙ unmarked_test m w o u
+
+    goes_on : (p : Piece) → is_mark_of m (Some p.says) ≡ false → Goes (λ ps. k (p ∷ ps)) → Goes (λ ps. all (p ∷ ps))
+    goes_on p t w = (w.0, y p w.0 t ∙ w.1)
+
+    refuses : (p : Piece) → is_mark_of m (Some p.says) ≡ false → Refuses k p → Refuses all p
+    refuses p t f ps h = f ps (sym (y p ps t) ∙ h)
+
+    numbers : (b : Bool) → WantsNumbers b k → WantsNumbers b all
+    numbers true h = (h.0, h.1, h.2, goes_on h.0 (other h.0 (a_number h.1) h.2 number_unmarked) h.3)
+    numbers false h = λ p i j. refuses p (other p (a_number i) j number_unmarked) (h p i j)
+
+    names : (b : Naming) → WantsNames b k → WantsNames b all
+    names no_name h = λ p i j. refuses p (other p (a_name i) j name_unmarked) (h p i j)
+    names own_names h =
+        let a = h.0 in
+        let b = h.1 in
+        ((a.0, a.1, a.2, goes_on a.0 (other a.0 (a_name a.1) a.2 name_unmarked) a.3), (b.0, b.1, b.2, refuses b.0 (other b.0 (a_name b.1) b.2.0 name_unmarked) b.3))
+    names symbols h = λ p i j. goes_on p (other p (a_name i) j.0 name_unmarked) (h p i j)
+
+    by_node : (p : Piece) → is_mark_of m (Some p.says) ≡ false → Leads few num line e k p ⊎ Faults num nam line k p → Leads few num line e all p ⊎ Faults num nam line all p
+    by_node p t (inl l) = inl (leads_as few num line e all k p (λ ps. y p ps t) l)
+    by_node p t (inr f) = inr (λ ps. y p ps t ∙ f ps)
+
+pub or_mark : (few : ℕ) (num : Bool) (nam : Naming) (line e m : ℕ) (all k r : Reader) → (40 == m) ≡ false → ((45 == m) ≡ false) ⊎ (num ≡ false)
+    → ((p : Piece) (ps : List Piece) → is_mark_of m (Some p.says) ≡ true → all (p ∷ ps) ≡ r ps)
+    → ((p : Piece) (ps : List Piece) → is_mark_of m (Some p.says) ≡ false → all (p ∷ ps) ≡ k (p ∷ ps))
+    → all [] ≡ k [] → Good few line e r → Node few num nam line e k → Node few num nam line e all
+or_mark few num nam line e m all k r o s x y z g n = or_lead few num nam line e m all k o begun (λ p t. leads few num line e all r p g (λ ps. x p ps t) (fresh p t)) y z n
+  where
+    begun : Goes all
+    begun = (record { text = []; col = 0; says = a_mark m } ∷ g.0.0, x (record { text = []; col = 0; says = a_mark m }) g.0.0 (eq-eqb m m refl) ∙ g.0.1)
+
+    no_minus : (p : Piece) → is_mark_of m (Some p.says) ≡ true → (45 == m) ≡ false → IsMark 45 p → ⊥
+    no_minus p t d h = let w : is_mark_of m (Some p.says) ≡ (45 == m) = ap (λ (v : TokenValue). is_mark_of m (Some v)) h in true≢false (sym t ∙ w ∙ d)
+
+    fresh : (p : Piece) → is_mark_of m (Some p.says) ≡ true → (IsMark 45 p → ⊥) ⊎ (num ≡ false)
+    fresh p t = elim s [ inl d ↦ inl (no_minus p t d) | inr d ↦ inr d ]

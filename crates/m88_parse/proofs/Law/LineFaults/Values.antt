@@ -1,0 +1,316 @@
+-- Operands of several tokens that hold a number with a sign of its own, or a symbol with what is added to it.
+use Rattle.std.proofs.Common.{◌≡◌, ℕ, ◌<◌, Bool, true, false, nat_le, if◌then◌else◌, ◌⊎◌, inl, inr, List, [], ◌∷◌, ◌++◌, length, Option, Some, None, Result, Ok, Err, refl, sym, ap, ◌∙◌, subst, arith, le-leb, codes}
+use Rattle.m88_base.specs.declared.fixup.Kind.{Kind}
+use Rattle.m88_base.specs.declared.fixup.Fixup.{Fixup}
+use Rattle.m88_parse.specs.declared.fault.ParseKind.TheVariants.{Syntax, OutOfRange}
+use Rattle.m88_parse.specs.declared.fault.ParseFault.{ParseFault}
+use Rattle.m88_parse.specs.declared.unit.Body.{Body}
+use Rattle.m88_parse.specs.declared.unit.Value.{Value}
+use Rattle.m88_parse.specs.declared.unit.Value.TheVariants as value
+use Rattle.m88_parse.specs.Reader.Names.{is_symbol}
+use Rattle.m88_parse.specs.Language.Pieces.{TokenValue, a_name, a_number, a_text, a_mark, Piece}
+use Rattle.m88_parse.specs.Reader.State.{ReaderState, first, past, is_mark_of, is_next, ◌>>=◌}
+use Rattle.m88_parse.specs.Reader.Slots.{Read, negated, negative_on, unsigned_at, signed_at, symbol_on, symbol_at, addend_at, fixup_at, value_on, value_at}
+use Rattle.m88_parse.specs.Reader.Grammar.{ends, read}
+use Rattle.m88_parse.specs.Language.Names.{IsMark, IsNumber, IsNamed}
+use Rattle.m88_parse.specs.Language.LineFaults.{MayFollow, NumberMayFollow, NameMayFollow, signed_out_of_range, other_token, misplaced, EndsInSign, EndsInHalf}
+use Rattle.m88_parse.proofs.Law.Steps.{take_then, take_else}
+use Rattle.m88_parse.proofs.Law.Slots.{st, mark_says}
+use Rattle.m88_parse.proofs.Law.Names.{symbol_name_again}
+use Rattle.m88_parse.proofs.Law.LineFaults.Readers.{fault_in, here, Reader, heard, Goes, Reads, EndsAt, Told, Traced, Good, no_name, symbols, kind_for}
+use Rattle.m88_parse.proofs.Law.LineFaults.Nodes.{Leads, Faults, Node, leads, leads_as, or_lead, or_mark, good, reads_on, continues, follows, follows_not, told, ended, moved, same_last, fresh_behind}
+use Rattle.m88_parse.proofs.Law.LineFaults.Slots.{saying, reader_of, one_token, one_number, any, any_is_symbol}
+
+-- the end of a statement
+
+plain_kind : (m : TokenValue) → Syntax ≡ kind_for false no_name m
+plain_kind (a_name name) = refl
+plain_kind (a_number n) = refl
+plain_kind (a_text bytes) = refl
+plain_kind (a_mark m) = refl
+
+pub ends_node : (few : ℕ) (line e : ℕ) (b : Body) → Node few false no_name line e (λ ps. fault_in (read (ends b) (st line e ps)))
+unfolding read
+ends_node few line e b = record {
+  wants = record { numbers = λ p n i ps h. absurd cc; names = λ p name i ps h. absurd cc; opening = λ o i ps h. absurd cc };
+  goes = ([], refl);
+  stop = inl refl;
+  each = λ p. inr (λ ps. ap (here line p.col) (plain_kind p.says));
+}
+
+-- what is read by a slot and then changed
+pub mapped : (A B C : Type 0) (r : Read A) (f : A → C) (k : C → ReaderState → Result B ParseFault) → ((r >>= λ (x : A × ReaderState). let y : Read C = Ok (f x.0, x.1) in y) >>= λ (y : C × ReaderState). k y.0 y.1) ≡ (r >>= λ (x : A × ReaderState). k (f x.0) x.1)
+mapped A B C (Ok x) f k = refl
+mapped A B C (Err g) f k = refl
+
+-- tokens that are no names
+pub data NoName : TokenValue → Type 0 where
+  number_is : {n : ℕ} → NoName (a_number n)
+  text_is : {bytes : List ℕ} → NoName (a_text bytes)
+  mark_is : {b : ℕ} → NoName (a_mark b)
+
+-- a number's own sign
+
+zero_piece : Piece
+zero_piece = saying (a_number 0)
+
+mark_no_number : (p : Piece) (m n : ℕ) → IsMark m p → IsNumber n p → ⊥
+mark_no_number p m n h k = let x = sym h ∙ k in cc
+
+mark_no_name : (p : Piece) (m : ℕ) (name : List ℕ) → IsMark m p → IsNamed name p → ⊥
+mark_no_name p m name h k = let x = sym h ∙ k in cc
+
+pub sign_leads : (few : ℕ) (line e low : ℕ) (all : Reader) (r : ℕ → Reader) (m : Piece) → IsMark 45 m
+    → (all (m ∷ []) ≡ here line e Syntax)
+    → ((n : ℕ) (q : Piece) (ps : List Piece) → IsNumber n q → nat_le n low ≡ true → all (m ∷ q ∷ ps) ≡ r n ps)
+    → ((n : ℕ) (q : Piece) (ps : List Piece) → IsNumber n q → nat_le n low ≡ false → all (m ∷ q ∷ ps) ≡ here line m.col OutOfRange)
+    → ((q : Piece) (ps : List Piece) → ((n : ℕ) → IsNumber n q → ⊥) → all (m ∷ q ∷ ps) ≡ here line q.col Syntax)
+    → ((n : ℕ) → Good few line e (r n)) → Leads few true line e all m
+unfolding zero_piece
+sign_leads few line e low all r m is_minus at_end taken large other g front w h = by_rest
+  where
+    reads : Reads line e (front ++ m ∷ []) (λ ps. all (m ∷ ps))
+    reads = reads_on line e front all m h
+
+    goes : Goes (λ ps. all (m ∷ ps))
+    goes = (zero_piece ∷ (g 0).0.0, taken 0 zero_piece (g 0).0.0 refl (le-leb 0 low (omega arith)) ∙ (g 0).0.1)
+
+    number : NumberMayFollow (front ++ m ∷ [])
+    number = (zero_piece, 0, refl, follows line e (front ++ m ∷ []) (λ ps. all (m ∷ ps)) zero_piece reads ((g 0).0.0, taken 0 zero_piece (g 0).0.0 refl (le-leb 0 low (omega arith)) ∙ (g 0).0.1))
+
+    no_half : (x : Piece) → EndsInHalf (front ++ m ∷ []) x → ⊥
+    no_half x y = mark_no_name m 45 y.name is_minus (subst (IsNamed y.name) (sym (same_last front y.before m x y.tokens)) y.named)
+
+    sign : EndsInSign (front ++ m ∷ []) m
+    sign = record { before = front; tokens = refl; minus = is_minus; number = w }
+
+    refuses_other : (q : Piece) → ((n : ℕ) → IsNumber n q → ⊥) → MayFollow (front ++ m ∷ []) q → ⊥
+    refuses_other q k = follows_not line e (front ++ m ∷ []) (λ ps. all (m ∷ ps)) q reads (λ ps x. let y : ◌≡◌ {A = Option ParseFault} (here line q.col Syntax) None = sym (other q ps k) ∙ x in absurd cc)
+
+    no_name_follows : NameMayFollow (front ++ m ∷ []) → ⊥
+    no_name_follows x = refuses_other x.0 (λ n i. let y = sym x.2 ∙ i in cc) x.3
+
+    by_number : (n : ℕ) (q : Piece) (ps : List Piece) (f : ParseFault) → IsNumber n q → (t : Bool) → nat_le n low ≡ t → length (q ∷ ps) < few → EndsAt ((front ++ m ∷ []) ++ q ∷ ps) e → heard line e ((front ++ m ∷ []) ++ q ∷ ps) ≡ Some f
+        → Told line ((front ++ m ∷ []) ++ q ∷ ps) f
+    by_number n q ps f i true t l a x =
+        moved few line e (front ++ m ∷ []) q ps f
+        ((g n).1 ((front ++ m ∷ []) ++ q ∷ []) (fresh_behind (front ++ m ∷ []) q (λ y. mark_no_number q 45 n y i))
+        (λ qs. reads_on line e (front ++ m ∷ []) (λ us. all (m ∷ us)) q (λ us. reads (q ∷ us)) qs ∙ taken n q qs i t))
+        (omega (arith, l)) a x
+    by_number n q ps f i false t l a x =
+        told line (front ++ m ∷ []) (q ∷ ps) m.col OutOfRange f (continues line e (front ++ m ∷ []) (λ us. all (m ∷ us)) reads goes)
+        (follows_not line e (front ++ m ∷ []) (λ us. all (m ∷ us)) q reads (λ us y. let z : ◌≡◌ {A = Option ParseFault} (here line m.col OutOfRange) None = sym (large n q us i t) ∙ y in absurd cc))
+        (misplaced no_half (signed_out_of_range (n, i, number) sign))
+        (sym x ∙ reads (q ∷ ps) ∙ large n q ps i t)
+
+    by_other : (q : Piece) (ps : List Piece) (f : ParseFault) → ((n : ℕ) → IsNumber n q → ⊥) → heard line e ((front ++ m ∷ []) ++ q ∷ ps) ≡ Some f → Told line ((front ++ m ∷ []) ++ q ∷ ps) f
+    by_other q ps f k x =
+        told line (front ++ m ∷ []) (q ∷ ps) q.col Syntax f (continues line e (front ++ m ∷ []) (λ us. all (m ∷ us)) reads goes)
+        (refuses_other q k)
+        (misplaced no_half (other_token (λ y. k y.0 y.1) (λ y. no_name_follows y.2)))
+        (sym x ∙ reads (q ∷ ps) ∙ other q ps k)
+
+    by_says : (q : Piece) (ps : List Piece) (f : ParseFault) (o : TokenValue) → q.says ≡ o → length (q ∷ ps) < few → EndsAt ((front ++ m ∷ []) ++ q ∷ ps) e → heard line e ((front ++ m ∷ []) ++ q ∷ ps) ≡ Some f
+        → Told line ((front ++ m ∷ []) ++ q ∷ ps) f
+    by_says q ps f (a_name name) i l a x = by_other q ps f (λ n y. let z = sym i ∙ y in cc) x
+    by_says q ps f (a_number n) i l a x = by_number n q ps f i (nat_le n low) refl l a x
+    by_says q ps f (a_text bytes) i l a x = by_other q ps f (λ n y. let z = sym i ∙ y in cc) x
+    by_says q ps f (a_mark b) i l a x = by_other q ps f (λ n y. let z = sym i ∙ y in cc) x
+
+    by_rest : Traced few line e (front ++ m ∷ [])
+    by_rest [] f l a x = ended line e (front ++ m ∷ []) (λ us. all (m ∷ us)) f reads goes no_half a (inr at_end) x
+    by_rest (q ∷ ps) f l a x = by_says q ps f q.says refl l a x
+
+-- numbers with a sign of their own
+
+pub whole_node : (few : ℕ) (B : Type 0) (line e low most : ℕ) (k : ℕ → ReaderState → Result B ParseFault) → ((n : ℕ) → Good few line e (λ ps. fault_in (k n (st line e ps))))
+    → Node few true no_name line e (reader_of line e (signed_at low most) k)
+unfolding signed_at unsigned_at
+whole_node few B line e low most k g =
+    or_lead few true no_name line e 45 all (reader_of line e (unsigned_at most) k) refl begun by_sign others refl
+    (one_token few ℕ B true no_name line e (unsigned_at most) (one_number most line e) k g)
+  where
+    all : Reader
+    all = reader_of line e (signed_at low most) k
+
+    signed : (m : Piece) (ps : List Piece) → is_mark_of 45 (Some m.says) ≡ true → reader_of line e (signed_at low most) k (m ∷ ps) ≡ fault_in (negative_on low (st line e (m ∷ ps)) (st line e ps) (first (st line e ps)) >>= λ (x : ℕ × ReaderState). k x.0 x.1)
+    signed m ps t = ap (λ (r : Read ℕ). fault_in (r >>= λ (x : ℕ × ReaderState). k x.0 x.1)) (take_then (is_mark_of 45 (Some m.says)) _ _ t)
+
+    numbered : (m q : Piece) (ps : List Piece) (n : ℕ) → is_mark_of 45 (Some m.says) ≡ true → IsNumber n q
+        → reader_of line e (signed_at low most) k (m ∷ q ∷ ps) ≡ fault_in ((if nat_le n low then Ok (negated n, st line e ps) else Err (record { line = line; col = m.col; kind = OutOfRange })) >>= λ (x : ℕ × ReaderState). k x.0 x.1)
+    numbered m q ps n t i = signed m (q ∷ ps) t ∙ ap (λ (o : TokenValue). fault_in (negative_on low (st line e (m ∷ q ∷ ps)) (st line e (q ∷ ps)) (Some o) >>= λ (x : ℕ × ReaderState). k x.0 x.1)) i
+
+    small : (m q : Piece) (ps : List Piece) (n : ℕ) → is_mark_of 45 (Some m.says) ≡ true → IsNumber n q → nat_le n low ≡ true → reader_of line e (signed_at low most) k (m ∷ q ∷ ps) ≡ fault_in (k (negated n) (st line e ps))
+    small m q ps n t i l = numbered m q ps n t i ∙ ap (λ (r : Read ℕ). fault_in (r >>= λ (x : ℕ × ReaderState). k x.0 x.1)) (take_then (nat_le n low) _ _ l)
+
+    large : (m q : Piece) (ps : List Piece) (n : ℕ) → is_mark_of 45 (Some m.says) ≡ true → IsNumber n q → nat_le n low ≡ false → reader_of line e (signed_at low most) k (m ∷ q ∷ ps) ≡ here line m.col OutOfRange
+    large m q ps n t i l = numbered m q ps n t i ∙ ap (λ (r : Read ℕ). fault_in (r >>= λ (x : ℕ × ReaderState). k x.0 x.1)) (take_else (nat_le n low) _ _ l)
+
+    by_says : (m q : Piece) (ps : List Piece) (o : TokenValue) → q.says ≡ o → ((n : ℕ) → IsNumber n q → ⊥) → fault_in (negative_on low (st line e (m ∷ q ∷ ps)) (st line e (q ∷ ps)) (Some o) >>= λ (x : ℕ × ReaderState). k x.0 x.1) ≡ here line q.col Syntax
+    by_says m q ps (a_name name) i n = refl
+    by_says m q ps (a_number v) i n = absurd (n v i)
+    by_says m q ps (a_text bytes) i n = refl
+    by_says m q ps (a_mark b) i n = refl
+
+    by_sign : (m : Piece) → is_mark_of 45 (Some m.says) ≡ true → Leads few true line e (reader_of line e (signed_at low most) k) m
+    by_sign m t =
+        sign_leads few line e low (reader_of line e (signed_at low most) k) (λ n ps. fault_in (k (negated n) (st line e ps))) m (mark_says 45 m.says t) (signed m [] t)
+        (λ n q ps i l. small m q ps n t i l) (λ n q ps i l. large m q ps n t i l) (λ q ps i. signed m (q ∷ ps) t ∙ by_says m q ps q.says refl i) (λ n. g (negated n))
+
+    begun : Goes (reader_of line e (signed_at low most) k)
+    begun = let y = (g (negated 0)).0 in (saying (a_mark 45) ∷ saying (a_number 0) ∷ y.0, small (saying (a_mark 45)) (saying (a_number 0)) y.0 0 refl refl (le-leb 0 low (omega arith)) ∙ y.1)
+
+    others : (p : Piece) (ps : List Piece) → is_mark_of 45 (Some p.says) ≡ false → reader_of line e (signed_at low most) k (p ∷ ps) ≡ reader_of line e (unsigned_at most) k (p ∷ ps)
+    others p ps t = ap (λ (r : Read ℕ). fault_in (r >>= λ (x : ℕ × ReaderState). k x.0 x.1)) (take_else (is_mark_of 45 (Some p.says)) _ _ t)
+
+-- what is added to a symbol
+
+pub addend_node : (few : ℕ) (B : Type 0) (line e : ℕ) (k : ℕ → ReaderState → Result B ParseFault) → ((n : ℕ) → Good few line e (λ ps. fault_in (k n (st line e ps))))
+    → Node few false no_name line e (λ ps. fault_in (k 0 (st line e ps))) → Node few false no_name line e (reader_of line e addend_at k)
+unfolding addend_at
+addend_node few B line e k g n =
+    or_mark few false no_name line e 43 (reader_of line e addend_at k) no_plus (reader_of line e (unsigned_at 2147483647) k) refl (inr refl) plus otherwise refl
+    (good few true no_name line e (reader_of line e (unsigned_at 2147483647) k) (one_token few ℕ B true no_name line e (unsigned_at 2147483647) (one_number 2147483647 line e) k g))
+    (or_mark few false no_name line e 45 no_plus (λ ps. fault_in (k 0 (st line e ps))) (reader_of line e (unsigned_at 2147483647) (λ n. k (negated n))) refl (inr refl) minus neither refl
+    (good few true no_name line e (reader_of line e (unsigned_at 2147483647) (λ n. k (negated n)))
+    (one_token few ℕ B true no_name line e (unsigned_at 2147483647) (one_number 2147483647 line e) (λ n. k (negated n)) (λ n. g (negated n))))
+    n)
+  where
+    no_plus : Reader
+    no_plus ps = fault_in ((if is_next 45 (st line e ps) then (unsigned_at 2147483647 (past (st line e ps)) >>= λ (n : ℕ × ReaderState). let y : Read ℕ = Ok (negated n.0, n.1) in y) else Ok (0, st line e ps)) >>= λ (x : ℕ × ReaderState). k x.0 x.1)
+
+    plus : (p : Piece) (ps : List Piece) → is_mark_of 43 (Some p.says) ≡ true → reader_of line e addend_at k (p ∷ ps) ≡ reader_of line e (unsigned_at 2147483647) k ps
+    plus p ps t = ap (λ (r : Read ℕ). fault_in (r >>= λ (x : ℕ × ReaderState). k x.0 x.1)) (take_then (is_mark_of 43 (Some p.says)) _ _ t)
+
+    otherwise : (p : Piece) (ps : List Piece) → is_mark_of 43 (Some p.says) ≡ false → reader_of line e addend_at k (p ∷ ps) ≡ no_plus (p ∷ ps)
+    otherwise p ps t = ap (λ (r : Read ℕ). fault_in (r >>= λ (x : ℕ × ReaderState). k x.0 x.1)) (take_else (is_mark_of 43 (Some p.says)) _ _ t)
+
+    minus : (p : Piece) (ps : List Piece) → is_mark_of 45 (Some p.says) ≡ true → no_plus (p ∷ ps) ≡ reader_of line e (unsigned_at 2147483647) (λ n. k (negated n)) ps
+    minus p ps t = ap (λ (r : Read ℕ). fault_in (r >>= λ (x : ℕ × ReaderState). k x.0 x.1)) (take_then (is_mark_of 45 (Some p.says)) _ _ t) ∙ ap (λ (r : Result B ParseFault). fault_in r) (mapped ℕ B ℕ (unsigned_at 2147483647 (st line e ps)) negated k)
+
+    neither : (p : Piece) (ps : List Piece) → is_mark_of 45 (Some p.says) ≡ false → no_plus (p ∷ ps) ≡ fault_in (k 0 (st line e (p ∷ ps)))
+    neither p ps t = ap (λ (r : Read ℕ). fault_in (r >>= λ (x : ℕ × ReaderState). k x.0 x.1)) (take_else (is_mark_of 45 (Some p.says)) _ _ t)
+
+-- a symbol with what is added to it
+
+abbrev pub made_fixup : Kind → List ℕ → ℕ → ℕ → Fixup
+made_fixup kind name col n = record { kind = kind; symbol = name; addend = n; col = col }
+
+abbrev pub behind_symbol : {B : Type 0} → Kind → ℕ → ℕ → List ℕ → ℕ → (Fixup → ReaderState → Result B ParseFault) → Reader
+behind_symbol kind line e name col k ps = reader_of line e addend_at (λ n. k (made_fixup kind name col n)) ps
+
+fixup_split : (B : Type 0) (kind : Kind) (r : Read (List ℕ × ℕ)) (k : Fixup → ReaderState → Result B ParseFault)
+    → ((r >>= λ (name : (List ℕ × ℕ) × ReaderState). addend_at name.1 >>= λ (more : ℕ × ReaderState). let y : Read Fixup = Ok (made_fixup kind name.0.0 name.0.1 more.0, more.1) in y) >>= λ (x : Fixup × ReaderState). k x.0 x.1)
+    ≡ (r >>= λ (name : (List ℕ × ℕ) × ReaderState). addend_at name.1 >>= λ (more : ℕ × ReaderState). k (made_fixup kind name.0.0 name.0.1 more.0) more.1)
+fixup_split B kind (Ok x) k = mapped ℕ B Fixup (addend_at x.1) (λ n. made_fixup kind x.0.0 x.0.1 n) k
+fixup_split B kind (Err f) k = refl
+
+fixup_steps : (B : Type 0) (kind : Kind) (s : ReaderState) (k : Fixup → ReaderState → Result B ParseFault)
+    → (fixup_at kind s >>= λ (x : Fixup × ReaderState). k x.0 x.1) ≡ (symbol_at s >>= λ (name : (List ℕ × ℕ) × ReaderState). addend_at name.1 >>= λ (more : ℕ × ReaderState). k (made_fixup kind name.0.0 name.0.1 more.0) more.1)
+unfolding fixup_at
+fixup_steps B kind s k = fixup_split B kind (symbol_at s) k
+
+pub symbol_step : (line e : ℕ) (p : Piece) (ps : List Piece) (text : List ℕ) → p.says ≡ a_name text → symbol_at (st line e (p ∷ ps)) ≡ (if is_symbol text then Ok ((text, p.col), st line e ps) else Err (record { line = line; col = p.col; kind = Syntax }))
+unfolding symbol_at
+symbol_step line e p ps text h = ap (λ (m : TokenValue). symbol_on (st line e (p ∷ ps)) (Some m)) h
+
+pub fixup_taken : (B : Type 0) (kind : Kind) (line e : ℕ) (p : Piece) (ps : List Piece) (text : List ℕ) (k : Fixup → ReaderState → Result B ParseFault) → p.says ≡ a_name text → is_symbol text ≡ true
+    → fault_in (fixup_at kind (st line e (p ∷ ps)) >>= λ (x : Fixup × ReaderState). k x.0 x.1) ≡ behind_symbol kind line e text p.col k ps
+fixup_taken B kind line e p ps text k h t =
+    ap (λ (r : Result B ParseFault). fault_in r) (fixup_steps B kind (st line e (p ∷ ps)) k)
+    ∙ ap (λ (r : Read (List ℕ × ℕ)). fault_in (r >>= λ (name : (List ℕ × ℕ) × ReaderState). addend_at name.1 >>= λ (more : ℕ × ReaderState). k (made_fixup kind name.0.0 name.0.1 more.0) more.1)) (symbol_step line e p ps text h ∙ take_then (is_symbol text) _ _ t)
+
+pub fixup_refused : (B : Type 0) (kind : Kind) (line e : ℕ) (p : Piece) (ps : List Piece) (text : List ℕ) (k : Fixup → ReaderState → Result B ParseFault) → p.says ≡ a_name text → is_symbol text ≡ false
+    → fault_in (fixup_at kind (st line e (p ∷ ps)) >>= λ (x : Fixup × ReaderState). k x.0 x.1) ≡ here line p.col Syntax
+fixup_refused B kind line e p ps text k h t =
+    ap (λ (r : Result B ParseFault). fault_in r) (fixup_steps B kind (st line e (p ∷ ps)) k)
+    ∙ ap (λ (r : Read (List ℕ × ℕ)). fault_in (r >>= λ (name : (List ℕ × ℕ) × ReaderState). addend_at name.1 >>= λ (more : ℕ × ReaderState). k (made_fixup kind name.0.0 name.0.1 more.0) more.1)) (symbol_step line e p ps text h ∙ take_else (is_symbol text) _ _ t)
+
+pub fixup_at_end : (B : Type 0) (kind : Kind) (line e : ℕ) (k : Fixup → ReaderState → Result B ParseFault) → fault_in (fixup_at kind (st line e []) >>= λ (x : Fixup × ReaderState). k x.0 x.1) ≡ here line e Syntax
+unfolding fixup_at symbol_at
+fixup_at_end B kind line e k = refl
+
+pub fixup_no_name : (B : Type 0) (kind : Kind) (line e : ℕ) (p : Piece) (ps : List Piece) (m : TokenValue) (k : Fixup → ReaderState → Result B ParseFault) → p.says ≡ m → NoName m
+    → fault_in (fixup_at kind (st line e (p ∷ ps)) >>= λ (x : Fixup × ReaderState). k x.0 x.1) ≡ here line p.col Syntax
+unfolding symbol_at
+fixup_no_name B kind line e p ps m k h z =
+    ap (λ (r : Result B ParseFault). fault_in r) (fixup_steps B kind (st line e (p ∷ ps)) k)
+    ∙ ap (λ (r : Read (List ℕ × ℕ)). fault_in (r >>= λ (name : (List ℕ × ℕ) × ReaderState). addend_at name.1 >>= λ (more : ℕ × ReaderState). k (made_fixup kind name.0.0 name.0.1 more.0) more.1)) (ap (λ (o : TokenValue). symbol_on (st line e (p ∷ ps)) (Some o)) h ∙ by_other m z)
+  where
+    by_other : (o : TokenValue) → NoName o → symbol_on (st line e (p ∷ ps)) (Some o) ≡ Err (record { line = line; col = p.col; kind = Syntax })
+    by_other o number_is = refl
+    by_other o text_is = refl
+    by_other o mark_is = refl
+
+pub behind_symbol_good : (few : ℕ) (B : Type 0) (kind : Kind) (line e : ℕ) (name : List ℕ) (col : ℕ) (k : Fixup → ReaderState → Result B ParseFault) → ((f : Fixup) → Node few false no_name line e (λ ps. fault_in (k f (st line e ps))))
+    → Good few line e (behind_symbol kind line e name col k)
+behind_symbol_good few B kind line e name col k n =
+    good few false no_name line e (behind_symbol kind line e name col k)
+    (addend_node few B line e (λ m. k (made_fixup kind name col m)) (λ m. good few false no_name line e (λ ps. fault_in (k (made_fixup kind name col m) (st line e ps))) (n (made_fixup kind name col m))) (n (made_fixup kind name col 0)))
+
+-- a value: a number with a sign, or a symbol with what is added to it
+
+same_kind : (m : TokenValue) → kind_for true no_name m ≡ kind_for true symbols m
+same_kind (a_name name) = refl
+same_kind (a_number n) = refl
+same_kind (a_text bytes) = refl
+same_kind (a_mark b) = refl
+
+pub value_node : (few : ℕ) (B : Type 0) (kind : Kind) (line e : ℕ) (k : Value → ReaderState → Result B ParseFault) → ((v : Value) → Node few false no_name line e (λ ps. fault_in (k v (st line e ps))))
+    → Node few true symbols line e (reader_of line e (value_at kind) k)
+unfolding value_at signed_at
+value_node few B kind line e k n = record {
+  wants = record {
+    numbers = let w = whole.wants.numbers in (w.0, w.1, w.2, (w.3.0, by_whole w.0 w.3.0 (a_number w.1) w.2 number_is ∙ w.3.1));
+    names = λ p name h. symbol_goes p name h.0 (symbol_name_again name h.1);
+    opening = λ o h ps x. whole.wants.opening o h ps (sym (by_whole o ps (a_mark 40) h mark_is) ∙ x);
+  };
+  goes = let y = symbol_goes any (codes "x") any_is_symbol.0 (symbol_name_again (codes "x") any_is_symbol.1) in (any ∷ y.0, y.1);
+  stop = inr refl;
+  each = λ p. by_says p p.says refl;
+}
+  where
+    whole : Node few true no_name line e (reader_of line e (signed_at 2147483648 4294967295) (λ n. k (value.Number n)))
+    whole = whole_node few B line e 2147483648 4294967295 (λ n. k (value.Number n)) (λ v. good few false no_name line e (λ ps. fault_in (k (value.Number v) (st line e ps))) (n (value.Number v)))
+
+    mapped_whole : (p : Piece) (ps : List Piece) → fault_in ((signed_at 2147483648 4294967295 (st line e (p ∷ ps)) >>= λ (v : ℕ × ReaderState). let y : Read Value = Ok (value.Number v.0, v.1) in y) >>= λ (x : Value × ReaderState). k x.0 x.1)
+        ≡ reader_of line e (signed_at 2147483648 4294967295) (λ n. k (value.Number n)) (p ∷ ps)
+    mapped_whole p ps = ap (λ (r : Result B ParseFault). fault_in r) (mapped ℕ B Value (signed_at 2147483648 4294967295 (st line e (p ∷ ps))) (λ v. value.Number v) k)
+
+    by_whole : (p : Piece) (ps : List Piece) (m : TokenValue) → p.says ≡ m → NoName m → reader_of line e (value_at kind) k (p ∷ ps) ≡ reader_of line e (signed_at 2147483648 4294967295) (λ n. k (value.Number n)) (p ∷ ps)
+    by_whole p ps m h number_is = ap (λ (o : TokenValue). fault_in (value_on kind (st line e (p ∷ ps)) (Some o) >>= λ (x : Value × ReaderState). k x.0 x.1)) h ∙ mapped_whole p ps
+    by_whole p ps m h text_is = ap (λ (o : TokenValue). fault_in (value_on kind (st line e (p ∷ ps)) (Some o) >>= λ (x : Value × ReaderState). k x.0 x.1)) h ∙ mapped_whole p ps
+    by_whole p ps m h mark_is = ap (λ (o : TokenValue). fault_in (value_on kind (st line e (p ∷ ps)) (Some o) >>= λ (x : Value × ReaderState). k x.0 x.1)) h ∙ mapped_whole p ps
+
+    by_fixup : (p : Piece) (ps : List Piece) (text : List ℕ) → p.says ≡ a_name text → reader_of line e (value_at kind) k (p ∷ ps) ≡ fault_in (fixup_at kind (st line e (p ∷ ps)) >>= λ (x : Fixup × ReaderState). k (value.Symbol x.0) x.1)
+    by_fixup p ps text h =
+        ap (λ (o : TokenValue). fault_in (value_on kind (st line e (p ∷ ps)) (Some o) >>= λ (x : Value × ReaderState). k x.0 x.1)) h
+        ∙ ap (λ (r : Result B ParseFault). fault_in r) (mapped Fixup B Value (fixup_at kind (st line e (p ∷ ps))) (λ f. value.Symbol f) k)
+
+    symbol_good : (name : List ℕ) (col : ℕ) → Good few line e (behind_symbol kind line e name col (λ f. k (value.Symbol f)))
+    symbol_good name col = behind_symbol_good few B kind line e name col (λ f. k (value.Symbol f)) (λ f. n (value.Symbol f))
+
+    symbol_goes : (p : Piece) (text : List ℕ) → p.says ≡ a_name text → is_symbol text ≡ true → Goes (λ ps. reader_of line e (value_at kind) k (p ∷ ps))
+    symbol_goes p text h t = let y = (symbol_good text p.col).0 in (y.0, by_fixup p y.0 text h ∙ fixup_taken B kind line e p y.0 text (λ f. k (value.Symbol f)) h t ∙ y.1)
+
+    no_minus : (p : Piece) (text : List ℕ) → p.says ≡ a_name text → IsMark 45 p → ⊥
+    no_minus p text h m = let x = sym h ∙ m in cc
+
+    name_by : (p : Piece) (text : List ℕ) → p.says ≡ a_name text → (t : Bool) → is_symbol text ≡ t → Leads few true line e (reader_of line e (value_at kind) k) p ⊎ Faults true symbols line (reader_of line e (value_at kind) k) p
+    name_by p text h true t =
+        inl (leads few true line e (reader_of line e (value_at kind) k) (behind_symbol kind line e text p.col (λ f. k (value.Symbol f))) p (symbol_good text p.col)
+        (λ ps. by_fixup p ps text h ∙ fixup_taken B kind line e p ps text (λ f. k (value.Symbol f)) h t) (inl (no_minus p text h)))
+    name_by p text h false t =
+        inr (λ ps. by_fixup p ps text h ∙ fixup_refused B kind line e p ps text (λ f. k (value.Symbol f)) h t ∙ ap (λ (m : TokenValue). here line p.col (kind_for true symbols m)) (sym h))
+
+    whole_by : (p : Piece) (m : TokenValue) → p.says ≡ m → NoName m → Leads few true line e (reader_of line e (value_at kind) k) p ⊎ Faults true symbols line (reader_of line e (value_at kind) k) p
+    whole_by p m h z = elim (whole.each p) [
+      | inl l ↦ inl (leads_as few true line e (reader_of line e (value_at kind) k) (reader_of line e (signed_at 2147483648 4294967295) (λ n. k (value.Number n))) p (λ ps. by_whole p ps m h z) l)
+      | inr f ↦ inr (λ ps. by_whole p ps m h z ∙ f ps ∙ ap (here line p.col) (same_kind p.says))
+    ]
+
+    by_says : (p : Piece) (m : TokenValue) → p.says ≡ m → Leads few true line e (reader_of line e (value_at kind) k) p ⊎ Faults true symbols line (reader_of line e (value_at kind) k) p
+    by_says p (a_name text) h = name_by p text h (is_symbol text) refl
+    by_says p (a_number v) h = whole_by p (a_number v) h number_is
+    by_says p (a_text bytes) h = whole_by p (a_text bytes) h text_is
+    by_says p (a_mark b) h = whole_by p (a_mark b) h mark_is

@@ -1,0 +1,14 @@
+-- Words for the contracts of private functions; no promise of the crate names them. A line and a source as they are read,
+-- step by step: what the relation of the language says is here computed, and the proofs tie the two.
+pub mod LineEnd
+pub mod Tokens
+pub mod Places
+pub mod Names
+pub mod State
+pub mod Slots
+pub mod Operands
+pub mod Kept
+pub mod Directives
+pub mod Grammar
+pub mod Source
+pub mod Drafts
