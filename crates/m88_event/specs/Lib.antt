@@ -1,0 +1,7 @@
+pub mod Letters
+pub mod Shadow
+pub mod Situation
+pub mod Choice
+pub mod Timeline
+pub mod Local
+pub mod Run

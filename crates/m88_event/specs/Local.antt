@@ -1,0 +1,117 @@
+-- What a board looks like from outside, with no word of the program's beginning: the state that its pending transactions
+-- lead to, memory as it is now, these transactions, marks, absent pages, counts and records; and what a letter makes of it.
+use Rattle.std.specs.Prelude.{ℕ, Bool, true, false, not, List, [], ◌∷◌, ◌++◌, Option, Some, None, ◌+◌, ◌==◌, ◌&&◌, ◌||◌, drop, length, slice_index, take, if◌then◌else◌}
+use Rattle.m88_isa.specs.Bus.{bus_after_all, waits_for}
+use Rattle.m88_isa.specs.History.{Completed, after_turn, bus_at, change_accesses, completed_state, pending_at}
+use Rattle.m88_isa.specs.Held.{is_pending}
+use Rattle.m88_isa.specs.Machine.{Program, changes, outputs, state}
+use Rattle.m88_isa.specs.declared.planned.Access.{Access}
+use Rattle.m88_event.specs.Choice.{Choice, choice_of, faults, finishes, holds, idles, issues, passes, replies, said, serves, touches_page}
+use Rattle.m88_event.specs.Shadow.{Pointer, retired_pointer}
+use Rattle.m88_event.specs.Situation.{Situation, record_of}
+use Rattle.m88_event.specs.Timeline.{Moment, absent_at, xip_at}
+use Rattle.m88_event.specs.declared.happened.Happened.{Happened}
+use Rattle.m88_event.specs.declared.letter.Letter.{Letter}
+use Rattle.m88_event.specs.declared.record.Record.{Record}
+
+-- the state once the pending transactions are done in order, memory by words as it is now, the pending transactions, XIP,
+-- the marks of a bubble and of the end, the absent pages, the counts of instructions retired, transactions done, events and
+-- transactions answered with data, and the records of the data faults
+pub record Local : Type 0 where
+  pub completed : Completed
+  pub bus : ℕ → ℕ
+  pub pending : List Access
+  pub xip : Pointer
+  pub bubble : Bool
+  pub ended : Bool
+  pub absent : ℕ → Bool
+  pub retired : ℕ
+  pub done : ℕ
+  pub events : ℕ
+  pub answers : ℕ
+  pub records : List Record
+
+-- what the next event depends on
+unfoldable pub situation_of : ℕ → Local → Situation
+situation_of limit l = record {
+  regs = l.completed.regs;
+  carry = l.completed.carry;
+  pc = l.completed.pc;
+  next = l.completed.next;
+  xip = l.xip;
+  bubble = l.bubble;
+  idle = l.ended || l.retired == limit;
+  pending = l.pending;
+  absent = l.absent;
+  event = l.events + 1;
+}
+
+-- what a choice makes of it, but for the count of events
+abbrev pub move_by : Choice → Record → Local → Local
+move_by idles fault l = l
+move_by passes fault l = record l { bubble = false }
+move_by (holds why) fault l = l
+move_by (issues change) fault l = record l {
+  completed = after_turn (changes change) l.completed;
+  pending = l.pending ++ change_accesses change;
+  xip = retired_pointer l.completed.pc;
+  bubble = change.bubble;
+  retired = l.retired + 1;
+}
+move_by (serves byte) fault l = record l {
+  completed = after_turn (outputs byte) l.completed;
+  xip = retired_pointer l.completed.pc;
+  bubble = false;
+  retired = l.retired + 1;
+}
+move_by (finishes stop) fault l = record l { ended = true }
+move_by replies fault l = record l {
+  bus = bus_after_all (take 1 l.pending) l.bus;
+  pending = drop 1 l.pending;
+  done = l.done + 1;
+  answers = l.answers + 1;
+}
+move_by faults fault l = record l {
+  bus = bus_after_all l.pending l.bus;
+  pending = [];
+  absent = λ page. l.absent page && not (touches_page l.pending page);
+  done = l.done + length l.pending;
+  records = l.records ++ (fault ∷ []);
+}
+
+-- one more event is counted
+abbrev pub counted_move : Local → Local
+counted_move l = record l { events = l.events + 1 }
+
+-- what a letter makes of it, and what its event says
+unfoldable pub move : Program → ℕ → Letter → Local → Local
+move p limit letter l =
+    counted_move (move_by (choice_of p letter (situation_of limit l)) (record_of p (situation_of limit l)) l)
+
+unfoldable pub said_by : Program → ℕ → Letter → Local → Happened
+said_by p limit letter l = said (choice_of p letter (situation_of limit l)) (record_of p (situation_of limit l))
+
+-- nothing is pending, and no more may be issued
+abbrev pub is_over_by : ℕ → Local → Bool
+is_over_by limit l = not (is_pending l.pending) && (l.ended || l.retired == limit)
+
+-- a register that waits has no value yet; every other has that of the state
+abbrev pub register_seen : Local → ℕ → Option ℕ
+register_seen l register = if waits_for l.pending register then None else Some (slice_index l.completed.regs register)
+
+-- what a moment looks like
+unfoldable pub local_at : Program → (ℕ → Bool) → Moment → Local
+local_at p named m = record {
+  completed = completed_state (state p m.retired);
+  bus = bus_at p m.retired m.done;
+  pending = pending_at p m.retired m.done;
+  xip = xip_at p m.retired;
+  bubble = m.bubble;
+  ended = m.ended;
+  absent = absent_at named m;
+  retired = m.retired;
+  done = m.done;
+  events = m.events;
+  answers = m.answers;
+  records = m.records;
+}

@@ -1,0 +1,98 @@
+-- The timeline of a run: its moments, each a count of the instructions that are retired and one of the transactions that are
+-- done along the history of the sequential machine, and what a letter makes of one.
+use Rattle.std.specs.Prelude.{ℕ, zero, suc, Bool, true, false, not, List, [], ◌∷◌, ◌++◌, ◌+◌, ◌==◌, ◌&&◌, ◌||◌}
+use Rattle.m88_isa.specs.History.{pending_at, transaction_count}
+use Rattle.m88_isa.specs.Machine.{Program, state}
+use Rattle.m88_event.specs.Choice.{Choice, choice_of, faults, finishes, holds, idles, issues, passes, replies, said, serves, touches_page}
+use Rattle.m88_event.specs.Shadow.{Pointer, no_pointer, retired_pointer}
+use Rattle.m88_event.specs.Situation.{Situation, record_of}
+use Rattle.m88_event.specs.declared.happened.Happened.{Happened}
+use Rattle.m88_event.specs.declared.letter.Letter.{Letter}
+use Rattle.m88_event.specs.declared.record.Record.{Record}
+
+-- the instructions retired, the transactions answered or finished, the mark that the next fetched instruction is passed
+-- over, the mark that the program has ended, the pages supplied, the events, the transactions answered with data, and the
+-- records of the data faults
+pub record Moment : Type 0 where
+  pub retired : ℕ
+  pub done : ℕ
+  pub bubble : Bool
+  pub ended : Bool
+  pub supplied : ℕ → Bool
+  pub events : ℕ
+  pub answers : ℕ
+  pub records : List Record
+
+-- before the first event
+abbrev pub opening_moment : Moment
+opening_moment = record {
+  retired = 0;
+  done = 0;
+  bubble = false;
+  ended = false;
+  supplied = λ page. false;
+  events = 0;
+  answers = 0;
+  records = [];
+}
+
+-- the instruction retired last
+unfoldable pub xip_at : Program → ℕ → Pointer
+xip_at p zero = no_pointer
+xip_at p (suc n) = retired_pointer (state p n).pc
+
+-- the pages that are absent: those that are named and weren't supplied
+abbrev pub absent_at : (ℕ → Bool) → Moment → ℕ → Bool
+absent_at named m page = named page && not (m.supplied page)
+
+-- no more may be issued: the program has ended, or as many instructions are retired as the limit
+abbrev pub is_idle : ℕ → Moment → Bool
+is_idle limit m = m.ended || m.retired == limit
+
+-- what the next event depends on
+unfoldable pub situation_at : Program → (ℕ → Bool) → ℕ → Moment → Situation
+situation_at p named limit m = record {
+  regs = (state p m.retired).regs;
+  carry = (state p m.retired).carry;
+  pc = (state p m.retired).pc;
+  next = (state p m.retired).next;
+  xip = xip_at p m.retired;
+  bubble = m.bubble;
+  idle = is_idle limit m;
+  pending = pending_at p m.retired m.done;
+  absent = absent_at named m;
+  event = m.events + 1;
+}
+
+-- what a choice makes of a moment, but for the count of events; a data fault leaves its record, supplies the pages of all
+-- pending transactions and finishes these
+abbrev pub on_choice : Program → Choice → Record → Moment → Moment
+on_choice p idles fault m = m
+on_choice p passes fault m = record m { bubble = false }
+on_choice p (holds why) fault m = m
+on_choice p (issues change) fault m = record m { retired = m.retired + 1; bubble = change.bubble }
+on_choice p (serves byte) fault m = record m { retired = m.retired + 1; bubble = false }
+on_choice p (finishes stop) fault m = record m { ended = true }
+on_choice p replies fault m = record m { done = m.done + 1; answers = m.answers + 1 }
+on_choice p faults fault m = record m {
+  records = m.records ++ (fault ∷ []);
+  supplied = λ page. m.supplied page || touches_page (pending_at p m.retired m.done) page;
+  done = transaction_count p m.retired;
+}
+
+-- one more event is counted
+abbrev pub counted : Moment → Moment
+counted m = record m { events = m.events + 1 }
+
+-- the moment after a letter, and what its event says
+unfoldable pub on : Program → (ℕ → Bool) → ℕ → Letter → Moment → Moment
+on p named limit letter m =
+    counted (on_choice p (choice_of p letter (situation_at p named limit m)) (record_of p (situation_at p named limit m)) m)
+
+unfoldable pub said_at : Program → (ℕ → Bool) → ℕ → Letter → Moment → Happened
+said_at p named limit letter m =
+    said (choice_of p letter (situation_at p named limit m)) (record_of p (situation_at p named limit m))
+
+-- the run is over: nothing is pending, and no more may be issued
+abbrev pub is_over : Program → ℕ → Moment → Bool
+is_over p limit m = m.done == transaction_count p m.retired && is_idle limit m

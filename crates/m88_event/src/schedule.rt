@@ -1,0 +1,89 @@
+//! Schedules: the letters that a run begins with.
+
+ghost use Rattle.std.specs.Prelude.{[], ◌∷◌, ◌≡◌, ◌<◌, ◌≤◌, ◌↔◌, List, IfSome, IsTrue, Some, length, slice_get};
+ghost use Rattle.m88_event.specs.Letters.{AreLetters, IsSchedule, letter_of, most_letters};
+ghost use Rattle.m88_event.specs.declared.letter.Letter.{Letter as LetterValue};
+
+use crate::letter::Letter;
+use std::marker::Model;
+
+/// The most letters of a schedule.
+const MOST_LETTERS: usize = 65_536;
+
+/// The letters that a run begins with, at most 65,536. It is lent the text that it was read from.
+#[derive(Drop, Debug)]
+pub struct Schedule<'a> {
+    letters: &'a [u8],
+}
+
+impl<'a> Model for Schedule<'a> {
+    ghost use Rattle.std.specs.Prelude.{List, ◌≤◌, length, map};
+    ghost use Rattle.m88_event.specs.Letters.{AreLetters, letter_of, most_letters};
+    ghost use Rattle.m88_event.specs.declared.letter.Letter.{Letter as LetterValue};
+
+    ghost Value = { List LetterValue };
+
+    ghost view = { λ s. map letter_of s.letters.now };
+
+    ghost invariant = { λ s. AreLetters s.letters.now × (length s.letters.now ≤ most_letters) };
+}
+
+impl<'a> Schedule<'a> {
+    /// The schedule of a text: no letter for `-`, else 1 to 65,536 letters `i` and `r`. None for any other text.
+    pub fn read(text: &'a str) -> Option<Schedule<'a>>
+        ensures found { IfSome result (IsSchedule text.now) }
+        ensures only { (letters : List LetterValue) → IsSchedule text.now letters → result ≡ Some letters }
+    {
+        let bytes = text.as_bytes();
+        if is_dash(bytes) {
+            Some(Schedule { letters: &[] })
+        } else if are_letters(bytes) {
+            Some(Schedule { letters: bytes })
+        } else {
+            None
+        }
+    }
+
+    /// How many letters there are.
+    pub fn len(&self) -> usize
+        ensures value { result ≡ length self.now }
+        ensures bound { result ≤ most_letters }
+    {
+        self.letters.len()
+    }
+
+    /// The letter at a place, from 0.
+    pub fn letter(&self, index: usize) -> Letter
+        requires { index < length self.now }
+        ensures { slice_get self.now index ≡ Some result }
+    {
+        letter_of(self.letters[index])
+    }
+}
+
+/// Whether it is `-` alone.
+fn is_dash(bytes: &[u8]) -> bool
+    ensures { IsTrue result ↔ (bytes.now ≡ 0x2D ∷ []) }
+{
+    if let [b'-'] = bytes { true } else { false }
+}
+
+/// Whether it is 1 to 65,536 bytes `i` and `r`.
+fn are_letters(bytes: &[u8]) -> bool
+    ensures { IsTrue result ↔ ((1 ≤ length bytes.now) × (length bytes.now ≤ most_letters) × AreLetters bytes.now) }
+{
+    1 <= bytes.len()
+        && bytes.len() <= MOST_LETTERS
+        && bytes.iter().all(|byte| *byte == b'i' || *byte == b'r')
+}
+
+/// The letter of a byte, `r` for any but `i`.
+fn letter_of(byte: u8) -> Letter
+    ensures { result ≡ letter_of byte }
+{
+    if byte == b'i' {
+        Letter::Issue
+    } else {
+        Letter::Answer
+    }
+}
