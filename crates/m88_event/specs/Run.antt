@@ -4,7 +4,7 @@ use Rattle.m88_isa.specs.Bus.{changed_words, in_words}
 use Rattle.m88_isa.specs.Machine.{Program, Turn, changes, opening, outputs, state, stops, turn_at}
 use Rattle.m88_event.specs.Choice.{end_of}
 use Rattle.m88_event.specs.Letters.{letter_at}
-use Rattle.m88_event.specs.Timeline.{Moment, is_over, on, opening_moment}
+use Rattle.m88_event.specs.Timeline.{Moment, is_over, after_letter, opening_moment}
 use Rattle.m88_event.specs.declared.happened.End.{End}
 use Rattle.m88_event.specs.declared.happened.End.TheVariants.{Limit}
 use Rattle.m88_event.specs.declared.letter.Letter.{Letter}
@@ -14,7 +14,7 @@ use Rattle.m88_event.specs.declared.outcome.Outcome.{Outcome}
 unfoldable pub moment_after : Program → (ℕ → Bool) → ℕ → List Letter → ℕ → Moment
 moment_after p named limit schedule zero = opening_moment
 moment_after p named limit schedule (suc k) =
-    on p named limit (letter_at schedule k) (moment_after p named limit schedule k)
+    after_letter p named limit (letter_at schedule k) (moment_after p named limit schedule k)
 
 -- the run has this many events: it is over then, and not before
 pub record IsRun (p : Program) (named : ℕ → Bool) (limit : ℕ) (schedule : List Letter) (events : ℕ) : Type 0 where

@@ -66,15 +66,15 @@ situation_at p named limit m = record {
 
 -- what a choice makes of a moment, but for the count of events; a data fault leaves its record, supplies the pages of all
 -- pending transactions and finishes these
-abbrev pub on_choice : Program → Choice → Record → Moment → Moment
-on_choice p idles fault m = m
-on_choice p passes fault m = record m { bubble = false }
-on_choice p (holds why) fault m = m
-on_choice p (issues change) fault m = record m { retired = m.retired + 1; bubble = change.bubble }
-on_choice p (serves byte) fault m = record m { retired = m.retired + 1; bubble = false }
-on_choice p (finishes stop) fault m = record m { ended = true }
-on_choice p replies fault m = record m { done = m.done + 1; answers = m.answers + 1 }
-on_choice p faults fault m = record m {
+abbrev pub after_choice : Program → Choice → Record → Moment → Moment
+after_choice p idles fault m = m
+after_choice p passes fault m = record m { bubble = false }
+after_choice p (holds why) fault m = m
+after_choice p (issues change) fault m = record m { retired = m.retired + 1; bubble = change.bubble }
+after_choice p (serves byte) fault m = record m { retired = m.retired + 1; bubble = false }
+after_choice p (finishes stop) fault m = record m { ended = true }
+after_choice p replies fault m = record m { done = m.done + 1; answers = m.answers + 1 }
+after_choice p faults fault m = record m {
   records = m.records ++ (fault ∷ []);
   supplied = λ page. m.supplied page || touches_page (pending_at p m.retired m.done) page;
   done = transaction_count p m.retired;
@@ -85,9 +85,9 @@ abbrev pub counted : Moment → Moment
 counted m = record m { events = m.events + 1 }
 
 -- the moment after a letter, and what its event says
-unfoldable pub on : Program → (ℕ → Bool) → ℕ → Letter → Moment → Moment
-on p named limit letter m =
-    counted (on_choice p (choice_of p letter (situation_at p named limit m)) (record_of p (situation_at p named limit m)) m)
+unfoldable pub after_letter : Program → (ℕ → Bool) → ℕ → Letter → Moment → Moment
+after_letter p named limit letter m =
+    counted (after_choice p (choice_of p letter (situation_at p named limit m)) (record_of p (situation_at p named limit m)) m)
 
 unfoldable pub said_at : Program → (ℕ → Bool) → ℕ → Letter → Moment → Happened
 said_at p named limit letter m =
