@@ -2,7 +2,10 @@ pub mod Apart
 pub mod Copied
 pub mod Cuts
 pub mod Edits
+pub mod Digits
+pub mod Hexadecimal
 pub mod Known
+pub mod Lines
 pub mod Lookup
 pub mod Placing
 pub mod Same

@@ -1,9 +1,10 @@
 -- What a command writes: the text of its job for an input that is accepted, and else the line that refuses the input.
-use Rattle.std.specs.Prelude.{ℕ, ◌≡◌, ◌⊎◌, ◌++◌, List, codes, decimal}
+use Rattle.std.specs.Prelude.{ℕ, ◌≡◌, ◌⊎◌, List, codes}
 use Rattle.m88_isa.specs.Machine.{Program}
 use Rattle.m88_isa.specs.declared.instr.Instr.{Instr}
 use Rattle.m88_cli.specs.Program.{program_of}
-use Rattle.m88_cli.specs.Report.{Summary, line_end, report_of}
+use Rattle.m88_base.specs.Refused.{refused_line}
+use Rattle.m88_cli.specs.Report.{Summary, report_of}
 use Rattle.m88_cli.specs.Source.{IsFirstOther, IsSourceOf}
 use Rattle.m88_cli.specs.Timeline.{IsRunSummary}
 use Rattle.m88_cli.specs.declared.choice.Command.{Command}
@@ -33,7 +34,7 @@ IsText (Run limit) source text = IsReportOn source limit text
 
 -- the line that refuses a source because of the line with this number
 abbrev pub refusal_of : ℕ → List ℕ
-refusal_of n = codes "refused " ++ decimal n ++ codes ":1 form" ++ line_end
+refusal_of n = refused_line n 1 (codes "form")
 
 -- the text is the line that refuses an input: it names the first line of another form
 abbrev pub IsRefusal : Command → List ℕ → List ℕ → Type 0

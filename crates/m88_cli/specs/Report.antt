@@ -2,7 +2,8 @@
 use Rattle.std.specs.Prelude.{ℕ, List, [], ◌∷◌, ◌++◌, Bool, take, drop, flat_map, codes, decimal, length, ◌==◌, if◌then◌else◌}
 use Rattle.m88_cli.specs.declared.outcome.End.{End}
 use Rattle.m88_cli.specs.declared.outcome.End.TheVariants.{Limit, Exit, Vector}
-use Rattle.m88_cli.specs.Text.{hex2, hex8}
+use Rattle.m88_base.specs.Hex.{hex2, hex8}
+use Rattle.m88_base.specs.Lines.{line_end}
 
 -- what a run came to: its end, the instructions retired, the 32 registers, the carry and the output at its end,
 -- and the counts of events, of transactions answered with data and of data faults
@@ -15,10 +16,6 @@ pub record Summary : Type 0 where
   pub events : ℕ
   pub answers : ℕ
   pub faults : ℕ
-
--- the line end
-abbrev pub line_end : List ℕ
-line_end = 10 ∷ []
 
 -- how the run ended, as the first line says it
 abbrev pub end_text : End → List ℕ

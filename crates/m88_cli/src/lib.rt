@@ -3,7 +3,6 @@
 #![tactic(auto)]
 
 mod choice;
-mod digits;
 mod fetch;
 mod job;
 mod letter;

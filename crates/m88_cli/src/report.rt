@@ -1,10 +1,9 @@
-ghost use Rattle.std.specs.Prelude.{◌≡◌, ◌++◌, IfOk, OnOk, decimal};
+ghost use Rattle.std.specs.Prelude.{◌≡◌, ◌++◌, IfOk, OnOk};
 ghost use Rattle.m88_cli.specs.Report.{count_line, end_text, out_text, register_line, register_lines, report_of};
 ghost use Rattle.m88_cli.specs.Outcome.{summary_of};
 
-use crate::digits::{byte_digits, word_digits};
 use crate::outcome::{End, Outcome};
-use itoa::Buffer;
+use m88_base::{push_decimal, push_hex2, push_hex8};
 use std::alloc::{AllocError, Global};
 
 /// The report of a run.
@@ -40,24 +39,16 @@ fn push_end(text: &mut Vec<u8>, end: End) -> Result<(), AllocError>
         End::Limit => text.extend_from_slice(b"limit")?,
         End::Exit { at } => {
             text.extend_from_slice(b"exit at ")?;
-            text.extend_from_slice(&word_digits(at))?;
+            push_hex8(text, at)?;
         }
         End::Vector { vector, at } => {
             text.extend_from_slice(b"vector ")?;
             push_decimal(text, u64::from(vector))?;
             text.extend_from_slice(b" at ")?;
-            text.extend_from_slice(&word_digits(at))?;
+            push_hex8(text, at)?;
         }
     }
     Ok(())
-}
-
-/// Appends a number in decimal.
-pub fn push_decimal(text: &mut Vec<u8>, n: u64) -> Result<(), AllocError>
-    ensures { OnOk result (text.new.items ≡ text.old.items ++ decimal n) }
-{
-    let mut buffer = Buffer::new();
-    text.extend_from_slice(buffer.format(n).as_bytes())
 }
 
 /// Appends a line with a name and a count.
@@ -87,7 +78,7 @@ fn push_registers(text: &mut Vec<u8>, name: &[u8], values: &[u32]) -> Result<(),
     text.extend_from_slice(name)?;
     for value in values {
         text.push(b' ')?;
-        text.extend_from_slice(&word_digits(*value))?;
+        push_hex8(text, *value)?;
     }
     text.push(b'\n')?;
     Ok(())
@@ -101,7 +92,7 @@ fn push_output(text: &mut Vec<u8>, out: &[u8]) -> Result<(), AllocError>
         return text.extend_from_slice(b"-");
     }
     for byte in out {
-        text.extend_from_slice(&byte_digits(*byte))?;
+        push_hex2(text, *byte)?;
     }
     Ok(())
 }

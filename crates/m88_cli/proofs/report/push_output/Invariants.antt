@@ -1,6 +1,6 @@
 -- The bytes so far are written.
 use Rattle.std.proofs.Common.{◌≡◌, ◌++◌, flat_map, take}
-use Rattle.m88_cli.specs.Text.{hex2}
+use Rattle.m88_base.specs.Hex.{hex2}
 use Rattle.m88_cli.proofs.report.push_output.Given as goal
 
 abbrev pub invariant-loop-byte : goal.invariant-loop-byte

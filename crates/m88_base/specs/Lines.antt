@@ -1,0 +1,31 @@
+-- The lines of an input. A line ends by LF, by CR LF or with the input; a line end that is the last thing in the input
+-- opens no further line, and an empty input has no line.
+use Rattle.std.specs.Prelude.{ℕ, Bool, false, List, [], ◌∷◌, ◌==◌, ◌&&◌, if◌then◌else◌}
+
+-- the bytes of line ends
+abbrev pub line_feed : ℕ
+line_feed = 10
+
+abbrev pub carriage_return : ℕ
+carriage_return = 13
+
+-- the line end that every format writes
+abbrev pub line_end : List ℕ
+line_end = line_feed ∷ []
+
+-- the bytes begin with an LF
+abbrev pub begins_with_lf : List ℕ → Bool
+begins_with_lf [] = false
+begins_with_lf (b ∷ bs) = b == line_feed
+
+-- the lines with one more byte in front of the first of them
+abbrev pub on_first_line : ℕ → List (List ℕ) → List (List ℕ)
+on_first_line b [] = (b ∷ []) ∷ []
+on_first_line b (line ∷ lines) = (b ∷ line) ∷ lines
+
+-- the lines of an input in order, each without its line end
+unfoldable pub lines_of : List ℕ → List (List ℕ)
+lines_of [] = []
+lines_of (b ∷ bs) =
+    if b == line_feed then [] ∷ lines_of bs
+    else (if b == carriage_return && begins_with_lf bs then lines_of bs else on_first_line b (lines_of bs))

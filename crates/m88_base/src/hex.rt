@@ -1,0 +1,93 @@
+//! Words and bytes in upper-case hexadecimal digits, written and read.
+ghost use Rattle.std.specs.Prelude.{◌≡◌, ◌<◌, ◌^◌, ◌++◌, ℕ, IfSome, Some, OnOk};
+ghost use Rattle.std.specs.List.{list_all};
+ghost use Rattle.m88_base.specs.Hex.{hex_digit, hex2, hex8, hex8_of, is_hex8, is_hex_digit};
+
+use crate::numerals::number_in;
+use std::alloc::AllocError;
+
+/// The digit of a number below 16.
+fn digit(d: u32) -> u8
+    requires { d < 16 }
+    ensures { result ≡ hex_digit d }
+{
+    if d < 10 {
+        b'0' + d as u8
+    } else {
+        b'A' + (d - 10) as u8
+    }
+}
+
+/// A word in eight digits.
+fn word_digits(n: u32) -> [u8; 8]
+    ensures { result ≡ hex8 n }
+{
+    [
+        digit(n >> 28),
+        digit(n >> 24 & 15),
+        digit(n >> 20 & 15),
+        digit(n >> 16 & 15),
+        digit(n >> 12 & 15),
+        digit(n >> 8 & 15),
+        digit(n >> 4 & 15),
+        digit(n & 15),
+    ]
+}
+
+/// A byte in two digits.
+fn byte_digits(n: u8) -> [u8; 2]
+    ensures { result ≡ hex2 n }
+{
+    let n = u32::from(n);
+    [digit(n >> 4), digit(n & 15)]
+}
+
+/// Appends a word in eight digits.
+pub fn push_hex8(text: &mut Vec<u8>, n: u32) -> Result<(), AllocError>
+    ensures { OnOk result (text.new.items ≡ text.old.items ++ hex8 n) }
+{
+    text.extend_from_slice(&word_digits(n))
+}
+
+/// Appends a byte in two digits.
+pub fn push_hex2(text: &mut Vec<u8>, n: u8) -> Result<(), AllocError>
+    ensures { OnOk result (text.new.items ≡ text.old.items ++ hex2 n) }
+{
+    text.extend_from_slice(&byte_digits(n))
+}
+
+/// Whether a byte is a digit as they are written, no letter of lower case.
+fn is_hex_digit(b: u8) -> bool
+    ensures { result ≡ is_hex_digit b }
+{
+    matches!(b, b'0'..=b'9' | b'A'..=b'F')
+}
+
+/// Whether each byte is a digit as they are written.
+fn are_hex_digits(text: &[u8]) -> bool
+    ensures { result ≡ list_all is_hex_digit text.now }
+{
+    text.iter().all(|b| is_hex_digit(*b))
+}
+
+/// Whether a text is eight digits.
+fn is_hex8(text: &[u8]) -> bool
+    ensures { result ≡ is_hex8 text.now }
+{
+    text.len() == 8 && are_hex_digits(text)
+}
+
+/// The word that eight digits write, or None where the text is anything else.
+pub fn hex8_of(text: &[u8]) -> Option<u32>
+    ensures value { result ≡ hex8_of text.now }
+
+    // The law that reading and writing are each other's inverse.
+    ensures found { IfSome result (λ n. text.now ≡ hex8 n) }
+    ensures only { (n : ℕ) → n < 2 ^ 32 → text.now ≡ hex8 n → result ≡ Some n }
+{
+    if is_hex8(text) {
+        number_in(16, text, u32::MAX)
+    } else {
+        None
+    }
+}

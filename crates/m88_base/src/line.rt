@@ -1,0 +1,38 @@
+//! The lines of an input, one by one.
+ghost use Rattle.std.specs.Prelude.{◌≡◌, ◌+◌, ◌<◌, ◌≤◌, ◌∷◌, not, ◌==◌, length};
+ghost use Rattle.std.specs.List.{prefix_len};
+ghost use Rattle.m88_base.specs.Lines.{lines_of};
+ghost use Rattle.m88_base.specs.LineEnd.{without_cr};
+
+/// A line without the CR that belongs to its line end.
+#[tactic(auto, using(crate::proofs::Lines::last_cr))]
+fn without_cr(line: &[u8]) -> &[u8]
+    ensures value { result.now ≡ without_cr line.now }
+    ensures within { length result.now ≤ length line.now }
+{
+    match line.split_last() {
+        Some((b'\r', front)) => front,
+        _ => line,
+    }
+}
+
+/// How many bytes stand before the first LF.
+fn len_to_lf(bytes: &[u8]) -> usize
+    ensures { result ≡ prefix_len (λ b. not (b == 10)) bytes.now }
+{
+    bytes.iter().take_while(|b| **b != b'\n').count()
+}
+
+/// The first line of what is left of an input, without its line end, and what is left behind that.
+pub fn first_line(rest: &[u8]) -> (&[u8], &[u8])
+    requires { 0 < length rest.now }
+    ensures lines { lines_of rest.now ≡ result.0.now ∷ lines_of result.1.now }
+    ensures within { length result.0.now ≤ length rest.now }
+    ensures shorter { length result.1.now < length rest.now }
+{
+    let (line, after) = rest.split_at(len_to_lf(rest));
+    match after {
+        [] => (line, after),
+        [_, after @ ..] => (without_cr(line), after),
+    }
+}
