@@ -6,3 +6,4 @@ pub mod Relocated
 pub mod Layout
 pub mod Refusal
 pub mod Linked
+pub mod Tables

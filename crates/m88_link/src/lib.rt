@@ -2,8 +2,16 @@
 //! sound, their text, and the image that a list of them is linked into.
 #![tactic(auto)]
 
+// What objects are, and what is told of them.
 mod fault;
 mod object;
 
+// Parts of linking.
+mod patch;
+mod sound;
+mod table;
+
 pub use fault::{LinkFault, LinkKind};
 pub use object::{Object, Place, Reloc, Section, Symbol};
+pub use sound::is_sound;
+pub use table::SymbolTable;

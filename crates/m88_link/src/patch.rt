@@ -1,0 +1,58 @@
+//! The fields of words that take the value of a symbol.
+ghost use Rattle.std.specs.Prelude.{◌≡◌, ◌+◌, ◌-◌, ◌^◌, ◌%◌, ◌≤◌, ◌==◌, ◌&&◌, ◌||◌, nat_lt, nat_le, length};
+ghost use Rattle.m88_link.specs.Field.{distance, field_value, is_in_reach, patched_word};
+ghost use Rattle.m88_link.specs.Relocated.{patched};
+
+use byteorder::{BigEndian, ByteOrder};
+use m88_base::Kind;
+
+/// The displacement from an address to a target, modulo 2^32.
+pub fn distance(target: u32, at: u32) -> u32
+    ensures { result ≡ distance target at }
+{
+    target.wrapping_sub(at)
+}
+
+/// Whether a displacement is a multiple of 4 and less than `reach` bytes away, or `reach` bytes back.
+fn is_near(d: u32, reach: u32) -> bool
+    requires { reach ≤ 2 ^ 31 }
+    ensures { result ≡ (d % 4 == 0 && (nat_lt d reach || nat_le (2 ^ 32 - reach) d)) }
+{
+    d % 4 == 0 && (d < reach || u32::MAX - reach < d)
+}
+
+/// Whether the field of the word at an address can take the displacement to a target.
+pub fn is_in_reach(kind: Kind, target: u32, at: u32) -> bool
+    ensures { result ≡ is_in_reach kind target at }
+{
+    match kind {
+        Kind::Pc26 => is_near(distance(target, at), 1 << 27),
+        Kind::Pc16 => is_near(distance(target, at), 1 << 17),
+        Kind::Hi16 | Kind::Lo16 | Kind::Abs32 => true,
+    }
+}
+
+/// A word with its field filled for a target.
+fn patched_word(kind: Kind, word: u32, target: u32, at: u32) -> u32
+    ensures { result ≡ patched_word kind word target at }
+{
+    match kind {
+        Kind::Hi16 => (word >> 16 << 16) + (target >> 16),
+        Kind::Lo16 => (word >> 16 << 16) + target % (1 << 16),
+        Kind::Pc26 => (word >> 26 << 26) + (distance(target, at) >> 2) % (1 << 26),
+        Kind::Pc16 => (word >> 16 << 16) + (distance(target, at) >> 2) % (1 << 16),
+        Kind::Abs32 => target,
+    }
+}
+
+/// Patches the word at an offset, which stands at the address `at`, for a target.
+pub fn patch(bytes: &mut [u8], offset: usize, kind: Kind, target: u32, at: u32)
+    requires { offset + 4 ≤ length bytes.old }
+    ensures { bytes.new ≡ patched kind bytes.old offset target at }
+{
+    let word = BigEndian::read_u32(&bytes[offset..]);
+    BigEndian::write_u32(
+        &mut bytes[offset..],
+        patched_word(kind, word, target, at),
+    );
+}
