@@ -7,3 +7,5 @@ pub mod Layout
 pub mod Refusal
 pub mod Linked
 pub mod Tables
+pub mod Sizes
+pub mod Standings

@@ -1,4 +1,4 @@
--- Words for a private contract: a table of symbols as the map that keeps it.
+-- Words for private contracts: a table of symbols as the map that keeps it.
 use Rattle.std.specs.Prelude.{ℕ, List}
 use Rattle.m88_link.specs.declared.object.Symbol.{Symbol}
 

@@ -7,6 +7,7 @@ mod fault;
 mod object;
 
 // Parts of linking.
+mod bases;
 mod patch;
 mod sound;
 mod table;

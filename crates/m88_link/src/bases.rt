@@ -1,0 +1,137 @@
+//! Where the text and the data of each object stand.
+ghost use Rattle.std.specs.Prelude.{◌≡◌, ◌+◌, ◌*◌, ◌<◌, ◌≤◌, ◌↔◌, IfOk, IsTrue, MatchOption};
+ghost use Rattle.m88_link.specs.Bases.{base_at, base_of, first_data, first_text, section_size, stood, text_end};
+ghost use Rattle.m88_link.specs.Sizes.{object_size, sections_size, total_size};
+ghost use Rattle.m88_link.specs.Sound.{most_bytes};
+ghost use Rattle.m88_link.specs.Standings.{all_seen, seen};
+ghost use Rattle.m88_link.specs.Symbols.{value_in};
+
+use crate::object::{Object, Place, Section, Symbol};
+use m88_base::MOST_BYTES;
+use std::alloc::{AllocError, Global};
+
+/// The address of the first text.
+const FIRST_TEXT: u32 = 0x1000;
+
+/// The size of the pages between text and data, in bytes.
+const PAGE: u32 = 4096;
+
+/// The alignment of each object's text and data, in bytes.
+const PART: u32 = 8;
+
+/// An object with the addresses of its text and its data.
+#[derive(Drop)]
+pub struct Placement<'a> {
+    pub object: &'a Object,
+    pub text: u32,
+    pub datas: u32,
+}
+
+impl Placement<'_> {
+    /// The address of a section's first byte, by its place.
+    pub fn base_at(&self, place: Place) -> u32
+        ensures { result ≡ base_at (seen self.now) place }
+    {
+        match place {
+            Place::Text => self.text,
+            Place::DataSection => self.datas,
+            Place::At(at) => at,
+        }
+    }
+
+    /// The address of the first byte of a section, 0 where there is no such section.
+    pub fn base(&self, index: u32) -> u32
+        ensures { result ≡ base_of (seen self.now) index }
+    {
+        match self.object.sections.as_slice().get(index as usize) {
+            Some(section) => self.base_at(section.place),
+            None => 0,
+        }
+    }
+
+    /// The value of a symbol of the object.
+    pub fn value(&self, symbol: &Symbol) -> u32
+        ensures { result ≡ value_in (base_of (seen self.now)) symbol.now }
+    {
+        match symbol.section {
+            Some(index) => self.base(index).wrapping_add(symbol.value),
+            None => symbol.value,
+        }
+    }
+}
+
+/// Whether the objects have at most 1,048,576 bytes.
+pub fn fit(objects: &[Object]) -> bool
+    ensures { IsTrue result ↔ (total_size objects.now ≤ most_bytes) }
+{
+    let mut room = MOST_BYTES;
+    for object in objects {
+        match room_beside(object.sections.as_slice(), room) {
+            Some(left) => room = left,
+            None => return false,
+        }
+    }
+    true
+}
+
+/// What the bytes of sections leave of a room for bytes; None where they don't fit it.
+fn room_beside(sections: &[Section], room: usize) -> Option<usize>
+    ensures { MatchOption result (room < sections_size sections.now) (λ left. left + sections_size sections.now ≡ room) }
+{
+    let mut left = room;
+    for section in sections {
+        left = left.checked_sub(section.bytes.as_slice().len())?;
+    }
+    Some(left)
+}
+
+/// The number of bytes of a section, 0 where there is no such section.
+fn section_size(object: &Object, index: usize) -> usize
+    ensures value { result ≡ section_size index object.now }
+    ensures part { result ≤ object_size object.now }
+{
+    match object.sections.as_slice().get(index) {
+        Some(section) => section.bytes.as_slice().len(),
+        None => 0,
+    }
+}
+
+/// The end of the text of all objects.
+#[tactic(auto, using(crate::proofs::Stood::text_end_more, crate::proofs::Stood::sizes_fit))]
+fn text_end(objects: &[Object]) -> u32
+    requires { total_size objects.now ≤ most_bytes }
+    ensures value { result ≡ text_end first_text objects.now }
+    ensures bound { result ≤ first_text + 8 * most_bytes }
+{
+    let mut end = FIRST_TEXT;
+    for object in objects {
+        end = end.next_multiple_of(PART) + section_size(object, 0) as u32;
+    }
+    end
+}
+
+/// The objects where they are linked.
+#[tactic(auto, using(crate::proofs::Stood::stood_more, crate::proofs::Stood::sizes_fit))]
+pub fn stand<'a>(
+    alloc: Global,
+    objects: &'a [Object],
+) -> Result<Vec<Placement<'a>>, AllocError>
+    requires { total_size objects.now ≤ most_bytes }
+    ensures { IfOk result (λ standings. all_seen standings.items ≡ stood objects.now) }
+{
+    let mut standings = Vec::new(alloc);
+    let mut text = FIRST_TEXT;
+    let mut datas = text_end(objects).next_multiple_of(PAGE);
+    for object in objects {
+        text = text.next_multiple_of(PART);
+        datas = datas.next_multiple_of(PART);
+        standings.push(Placement {
+            object,
+            text,
+            datas,
+        })?;
+        text += section_size(object, 0) as u32;
+        datas += section_size(object, 1) as u32;
+    }
+    Ok(standings)
+}
