@@ -8,4 +8,3 @@ pub mod Refusal
 pub mod Linked
 pub mod Tables
 pub mod Sizes
-pub mod Standings

@@ -1,14 +1,14 @@
 //! Where the text and the data of each object stand.
-ghost use Rattle.std.specs.Prelude.{◌≡◌, ◌+◌, ◌*◌, ◌<◌, ◌≤◌, ◌↔◌, IfOk, IsTrue, MatchOption};
+ghost use Rattle.std.specs.Prelude.{◌≡◌, ◌+◌, ◌*◌, ◌<◌, ◌≤◌, ◌↔◌, All, IfOk, IsTrue, MatchOption};
 ghost use Rattle.m88_link.specs.Bases.{base_at, base_of, first_data, first_text, section_size, stood, text_end};
 ghost use Rattle.m88_link.specs.Sizes.{object_size, sections_size, total_size};
-ghost use Rattle.m88_link.specs.Sound.{most_bytes};
-ghost use Rattle.m88_link.specs.Standings.{all_seen, seen};
+ghost use Rattle.m88_link.specs.Sound.{IsSound, most_bytes};
 ghost use Rattle.m88_link.specs.Symbols.{value_in};
 
 use crate::object::{Object, Place, Section, Symbol};
 use m88_base::MOST_BYTES;
 use std::alloc::{AllocError, Global};
+use std::marker::Model;
 
 /// The address of the first text.
 const FIRST_TEXT: u32 = 0x1000;
@@ -22,15 +22,28 @@ const PART: u32 = 8;
 /// An object with the addresses of its text and its data.
 #[derive(Drop)]
 pub struct Placement<'a> {
-    pub object: &'a Object,
-    pub text: u32,
-    pub datas: u32,
+    object: &'a Object,
+    text: u32,
+    datas: u32,
+}
+
+impl<'a> Model for Placement<'a> {
+    ghost use Rattle.std.specs.Prelude.{◌+◌, ◌^◌, ◌≤◌};
+    ghost use Rattle.m88_link.specs.Bases.{Standing, section_size};
+    ghost use Rattle.m88_link.specs.Sound.{IsSound};
+
+    ghost Value = { Standing };
+
+    ghost view = { λ p. record { object = p.object.now; text = p.text; datas = p.datas } };
+
+    ghost invariant = { λ p. IsSound p.object.now × (p.text + section_size 0 p.object.now ≤ 2 ^ 32)
+        × (p.datas + section_size 1 p.object.now ≤ 2 ^ 32) };
 }
 
 impl Placement<'_> {
     /// The address of a section's first byte, by its place.
     pub fn base_at(&self, place: Place) -> u32
-        ensures { result ≡ base_at (seen self.now) place }
+        ensures { result ≡ base_at self.now place }
     {
         match place {
             Place::Text => self.text,
@@ -41,7 +54,7 @@ impl Placement<'_> {
 
     /// The address of the first byte of a section, 0 where there is no such section.
     pub fn base(&self, index: u32) -> u32
-        ensures { result ≡ base_of (seen self.now) index }
+        ensures { result ≡ base_of self.now index }
     {
         match self.object.sections.as_slice().get(index as usize) {
             Some(section) => self.base_at(section.place),
@@ -51,7 +64,7 @@ impl Placement<'_> {
 
     /// The value of a symbol of the object.
     pub fn value(&self, symbol: &Symbol) -> u32
-        ensures { result ≡ value_in (base_of (seen self.now)) symbol.now }
+        ensures { result ≡ value_in (base_of self.now) symbol.now }
     {
         match symbol.section {
             Some(index) => self.base(index).wrapping_add(symbol.value),
@@ -116,8 +129,9 @@ pub fn stand<'a>(
     alloc: Global,
     objects: &'a [Object],
 ) -> Result<Vec<Placement<'a>>, AllocError>
-    requires { total_size objects.now ≤ most_bytes }
-    ensures { IfOk result (λ standings. all_seen standings.items ≡ stood objects.now) }
+    requires sound { All IsSound objects.now }
+    requires size { total_size objects.now ≤ most_bytes }
+    ensures { IfOk result (λ standings. standings.items ≡ stood objects.now) }
 {
     let mut standings = Vec::new(alloc);
     let mut text = FIRST_TEXT;
