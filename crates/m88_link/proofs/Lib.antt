@@ -1,3 +1,4 @@
 pub mod Tabled
 pub mod Repeated
 pub mod Stood
+pub mod Swept

@@ -2,13 +2,17 @@
 use Rattle.std.proofs.Common.{◌≡◌, ℕ, zero, suc, ◌+◌, ◌<◌, ◌≤◌, List, [], ◌∷◌, length, drop, get_or, sym, ap, ◌∙◌, sum_by, arith}
 use Rattle.std.proofs.lemmas.List.{drop_more}
 use Rattle.std.proofs.lemmas.List.Sums.{sum_by-cons, sum_by-le-sum_by}
-use Rattle.std.specs.Prelude.{slice_get}
+use Rattle.std.specs.Prelude.{slice_get, All, ◌^◌}
+use Rattle.std.specs.List.{AllByRecursion}
+use Rattle.std.proofs.lemmas.List.Elements.{All-from_recursion, recursion_from_All}
 use Rattle.std.specs.Option.{option_map_or}
 use Rattle.m88_link.specs.declared.object.Object.{Object}
+use Rattle.m88_link.specs.declared.object.Place.{Place}
+use Rattle.m88_link.specs.declared.object.Place.TheVariants.{Text, DataSection, At}
 use Rattle.m88_link.specs.declared.object.Section.{Section}
-use Rattle.m88_link.specs.Bases.{section_size, stood_from, text_end, up_to_multiple}
+use Rattle.m88_link.specs.Bases.{Standing, base_at, section_size, stood_from, text_end, up_to_multiple}
 use Rattle.m88_link.specs.Sizes.{object_size, sections_size, total_size}
-use Rattle.m88_link.specs.Sound.{most_bytes}
+use Rattle.m88_link.specs.Sound.{AreSections, HasRoom, IsOwnAddress, IsSound, most_bytes, origin}
 
 size_at : (k : ℕ) (ss : List Section) → option_map_or (λ s. length s.bytes) (slice_get ss k) 0 ≤ sections_size ss
 size_at k [] = omega arith
@@ -32,3 +36,32 @@ pub stood_more : (text datas : ℕ) (objects : List Object) (i : ℕ) (o : Objec
     ∷ stood_from (up_to_multiple 8 text + section_size 0 o) (up_to_multiple 8 datas + section_size 1 o) (drop (i + 1) objects)
 stood_more text datas objects i o h e =
     ap (λ l. stood_from text datas l) (drop_more objects i o h ∙ ap (λ y. y ∷ drop (i + 1) objects) (sym e))
+
+-- each section of a sound object ends at or below 2 ^ 32, where its text and its data do
+pub sections_fit : (s : Standing) → IsSound s.object → s.text + section_size 0 s.object ≤ 2 ^ 32 → s.datas + section_size 1 s.object ≤ 2 ^ 32
+    → All (λ x. base_at s x.place + length x.bytes ≤ 2 ^ 32) s.object.sections
+sections_fit s sound text datas = by s.object.sections sound.sections sound.room text datas
+  where
+    own : (x : Section) → IsOwnAddress x.place → HasRoom x → base_at s x.place + length x.bytes ≤ 2 ^ 32
+    own x here room = at x.place here room.1
+      where
+        at : (p : Place) → IsOwnAddress p → origin p + length x.bytes ≤ 2 ^ 32 → base_at s p + length x.bytes ≤ 2 ^ 32
+        at Text h r = absurd h
+        at DataSection h r = absurd h
+        at (At a) h r = r
+
+    others : (xs : List Section) → AllByRecursion (λ x. IsOwnAddress x.place) xs → AllByRecursion HasRoom xs
+        → AllByRecursion (λ x. base_at s x.place + length x.bytes ≤ 2 ^ 32) xs
+    others [] here room = tt
+    others (x ∷ xs) here room = (own x here.0 room.0, others xs here.1 room.1)
+
+    by : (xs : List Section) → AreSections xs → All HasRoom xs
+        → s.text + option_map_or (λ x. length x.bytes) (slice_get xs 0) 0 ≤ 2 ^ 32
+        → s.datas + option_map_or (λ x. length x.bytes) (slice_get xs 1) 0 ≤ 2 ^ 32
+        → All (λ x. base_at s x.place + length x.bytes ≤ 2 ^ 32) xs
+    by [] h r t d = absurd h
+    by (x ∷ []) h r t d = absurd h
+    by (x ∷ y ∷ ys) h r t d =
+        let rest = recursion_from_All HasRoom (x ∷ y ∷ ys) r in
+        All-from_recursion (λ z. base_at s z.place + length z.bytes ≤ 2 ^ 32) (x ∷ y ∷ ys)
+        (rw h.0 t, (rw h.1 d, others ys (recursion_from_All (λ z. IsOwnAddress z.place) ys h.2) rest.1.1))

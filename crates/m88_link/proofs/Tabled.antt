@@ -54,7 +54,8 @@ pub grown : (es new : List (List ℕ × Symbol)) (ss : List Symbol) (s : Symbol)
 grown es new ss s under once inserted absent =
     let is : new ≡ map under_name (ss ++ s ∷ []) = inserted ∙ ap (λ l. insert_entry bytes_eq l s.name s) under ∙ insert-new s ss absent in
     let all : map (λ (e : List ℕ × Symbol). e.1) new ≡ ss ++ s ∷ [] = ap (λ l. map (λ (e : List ℕ × Symbol). e.1) l) is ∙ symbols_back (ss ++ s ∷ []) in
-    let alone : repetition ss s ≡ None = ap (λ o. option_map (λ f. record { symbol = s; first = f.line }) o) absent in
-    (is ∙ ap (λ l. map under_name l) (sym all),
-    ap (λ l. first_repeated l) all ∙ repeated_after-push [] ss s ∙ ap (λ o. option_or o (repetition ss s)) once ∙ alone,
-    all)
+    let alone : repetition ss s ≡ None = ap (λ o. option_map (λ f. record { symbol = s; first = f.line }) o) absent in (
+      is ∙ ap (λ l. map under_name l) (sym all),
+      ap (λ l. first_repeated l) all ∙ repeated_after-push [] ss s ∙ ap (λ o. option_or o (repetition ss s)) once ∙ alone,
+      all,
+    )

@@ -8,3 +8,5 @@ pub mod Refusal
 pub mod Linked
 pub mod Tables
 pub mod Sizes
+pub mod Spans
+pub mod Faults

@@ -1,5 +1,5 @@
 //! Where the text and the data of each object stand.
-ghost use Rattle.std.specs.Prelude.{◌≡◌, ◌+◌, ◌*◌, ◌<◌, ◌≤◌, ◌↔◌, All, IfOk, IsTrue, MatchOption};
+ghost use Rattle.std.specs.Prelude.{◌≡◌, ◌+◌, ◌*◌, ◌^◌, length, ◌<◌, ◌≤◌, ◌↔◌, All, IfOk, IsTrue, MatchOption};
 ghost use Rattle.m88_link.specs.Bases.{base_at, base_of, first_data, first_text, section_size, stood, text_end};
 ghost use Rattle.m88_link.specs.Sizes.{object_size, sections_size, total_size};
 ghost use Rattle.m88_link.specs.Sound.{IsSound, most_bytes};
@@ -41,6 +41,16 @@ impl<'a> Model for Placement<'a> {
 }
 
 impl Placement<'_> {
+    #[tactic(auto, using(crate::proofs::Stood::sections_fit))]
+    /// The sections of the object.
+    pub fn sections(&self) -> &[Section]
+        ensures value { result.now ≡ self.now.object.sections }
+        ensures sound { IsSound self.now.object }
+        ensures fit { All (λ x. base_at self.now x.place + length x.bytes ≤ 2 ^ 32) result.now }
+    {
+        self.object.sections.as_slice()
+    }
+
     /// The address of a section's first byte, by its place.
     pub fn base_at(&self, place: Place) -> u32
         ensures { result ≡ base_at self.now place }
@@ -125,10 +135,7 @@ fn text_end(objects: &[Object]) -> u32
 
 /// The objects where they are linked.
 #[tactic(auto, using(crate::proofs::Stood::stood_more, crate::proofs::Stood::sizes_fit))]
-pub fn stand<'a>(
-    alloc: Global,
-    objects: &'a [Object],
-) -> Result<Vec<Placement<'a>>, AllocError>
+pub fn stand<'a>(alloc: Global, objects: &'a [Object]) -> Result<Vec<Placement<'a>>, AllocError>
     requires sound { All IsSound objects.now }
     requires size { total_size objects.now ≤ most_bytes }
     ensures { IfOk result (λ standings. standings.items ≡ stood objects.now) }

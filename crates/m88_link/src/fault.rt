@@ -1,6 +1,10 @@
 //! Why a list of objects has no image.
 
+ghost use Rattle.std.specs.Prelude.{◌≡◌};
+ghost use Rattle.m88_link.specs.Faults.{out_of_memory};
+
 use m88_base::Name;
+use std::alloc::{AllocError, AllocFailed};
 
 /// Why objects can't be linked, in the order in which the reasons are tried.
 #[derive(Clone, Copy, PartialEq, Eq, Debug)]
@@ -29,4 +33,27 @@ pub struct LinkFault {
     pub col: u32,
     /// The reason.
     pub kind: LinkKind,
+}
+
+/// Memory ran out.
+const OUT_OF_MEMORY: LinkFault = LinkFault {
+    line: 0,
+    col: 0,
+    kind: LinkKind::Memory,
+};
+
+impl From<AllocError> for LinkFault {
+    ghost from_gives = { λ _ e. e ≡ out_of_memory };
+
+    fn from(_e: AllocError) -> LinkFault {
+        OUT_OF_MEMORY
+    }
+}
+
+impl<T: Drop> From<AllocFailed<T>> for LinkFault {
+    ghost from_gives = { λ _ e. e ≡ out_of_memory };
+
+    fn from(_e: AllocFailed<T>) -> LinkFault {
+        OUT_OF_MEMORY
+    }
 }

@@ -10,6 +10,7 @@ mod object;
 mod bases;
 mod patch;
 mod sound;
+mod spans;
 mod table;
 
 pub use fault::{LinkFault, LinkKind};

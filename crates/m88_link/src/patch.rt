@@ -51,8 +51,5 @@ pub fn patch(bytes: &mut [u8], offset: usize, kind: Kind, target: u32, at: u32)
     ensures { bytes.new ≡ patched kind bytes.old offset target at }
 {
     let word = BigEndian::read_u32(&bytes[offset..]);
-    BigEndian::write_u32(
-        &mut bytes[offset..],
-        patched_word(kind, word, target, at),
-    );
+    BigEndian::write_u32(&mut bytes[offset..], patched_word(kind, word, target, at));
 }

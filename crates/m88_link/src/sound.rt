@@ -82,7 +82,8 @@ fn is_patch_in(sections: &[Section], reloc: &Reloc) -> bool
         return false;
     };
     let offset = reloc.offset as usize;
-    offset + 4 <= section.bytes.as_slice().len() && (origin(section.place) as usize + offset) % 4 == 0
+    offset + 4 <= section.bytes.as_slice().len()
+        && (origin(section.place) as usize + offset) % 4 == 0
 }
 
 #[tactic(auto, using(crate::proofs::Repeated::repeated_at))]

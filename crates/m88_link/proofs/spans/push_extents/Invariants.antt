@@ -1,0 +1,6 @@
+use Rattle.std.proofs.Common.{◌≡◌, ◌++◌, take, map}
+use Rattle.m88_link.specs.Layout.{extent}
+use Rattle.m88_link.proofs.spans.push_extents.Given as goal
+
+abbrev pub invariant-loop-section : goal.invariant-loop-section
+invariant-loop-section l = l.spans.items ≡ l.initial.spans.items ++ map (extent l.standing) (take l.section-index l.sections)
