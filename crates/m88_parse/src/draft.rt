@@ -1,10 +1,13 @@
-ghost use Rattle.std.specs.Prelude.{◌≡◌, ◌<◌, ◌≤◌, ◌+◌, ◌∷◌, [], length, IfOk, IfErr, MatchResult};
+//! The modules of a source as they grow, row by row.
+ghost use Rattle.std.specs.Prelude.{◌≡◌, ◌<◌, ◌≤◌, ◌+◌, ◌∷◌, Some, [], length, IfOk, IfErr, OnErr, MatchResult};
 ghost use Rattle.std.specs.List.{All, sum_by};
 ghost use lib.Chars.{codes};
 ghost use Rattle.m88_parse.specs.Fault.{out_of_memory};
-ghost use Rattle.m88_parse.specs.WellFormed.{IsFormedModule};
+ghost use Rattle.m88_parse.specs.WellFormed.{IsFormedStatement, IsFormedModule};
+ghost use Rattle.m88_parse.specs.declared.row.Row.TheVariants as row;
 ghost use Rattle.m88_parse.specs.Reader.Kept.{IsFormedRow};
-ghost use Rattle.m88_parse.specs.Reader.Drafts.{with_more, begun, modules_after, count_in, AreFormed, Follows};
+ghost use Rattle.m88_parse.specs.Reader.Source.{main_with};
+ghost use Rattle.m88_parse.specs.Reader.Drafts.{nothing_yet, with_more, begun, modules_after, count_in, Follows};
 
 use crate::fault::ParseFault;
 use crate::names::name_of;
@@ -16,7 +19,7 @@ use std::marker::Model;
 
 /// A module whose end hasn't come.
 #[derive(Drop)]
-pub(crate) struct Open {
+struct Open {
     name: Name,
     line: u32,
     statements: Vec<Statement>,
@@ -30,11 +33,22 @@ impl Model for Open {
     ghost view = { λ o. record { name = o.name; line = o.line; statements = o.statements.items } };
 }
 
-/// The modules of the lines so far: those that are closed, and the one that is open, if one has begun.
+/// The modules of the lines so far: those that are closed, and the one that is open, if one has
+/// begun. Each of their statements can be laid out.
 #[derive(Drop)]
 pub(crate) struct Draft {
-    pub closed: Vec<Module>,
-    pub current: Option<Open>,
+    closed: Vec<Module>,
+    current: Option<Open>,
+}
+
+impl Model for Draft {
+    ghost use Rattle.m88_parse.specs.Reader.Drafts.{Drafted, AreFormed};
+
+    ghost Value = { Drafted };
+
+    ghost view = { λ d. record { closed = d.closed.items; current = d.current } };
+
+    ghost invariant = { λ d. AreFormed d.closed.items d.current };
 }
 
 /// The name of the module of statements that stand before the first `.module`.
@@ -45,38 +59,39 @@ fn main_name() -> Name
     name_of(b"main").unwrap()
 }
 
-/// The open module, or the module main where none has begun.
-fn begun(alloc: Global, current: Option<Open>) -> Open
-    ensures { result ≡ begun current }
-{
-    match current {
-        Some(open) => open,
-        None => Open {
+impl Open {
+    /// The module main, which begins in line 1.
+    fn main(alloc: Global) -> Open
+        ensures { result ≡ main_with [] }
+    {
+        Open {
             name: main_name(),
             line: 1,
             statements: Vec::new(alloc),
-        },
+        }
     }
-}
 
-impl Open {
-    /// The open module with one statement more.
-    fn with(self, statement: Statement) -> Result<Open, ParseFault>
-        ensures value { MatchResult result (λ o. o ≡ with_more self (statement ∷ [])) (λ e. e ≡ out_of_memory) }
+    /// The open module, or the module main where none has begun.
+    fn begun(alloc: Global, current: Option<Open>) -> Open
+        ensures { result ≡ begun current }
     {
-        let Open {
-            name,
-            line,
-            mut statements,
-        } = self;
-        statements.push(statement)?;
-        Ok(Open {
-            name,
-            line,
-            statements,
-        })
+        match current {
+            Some(open) => open,
+            None => Open::main(alloc),
+        }
     }
 
+    /// One statement more.
+    fn push(&mut self, statement: Statement) -> Result<(), ParseFault>
+        ensures value { IfOk result (λ _. self.new ≡ with_more self.old (statement ∷ [])) }
+        ensures memory { IfErr result (λ e. e ≡ out_of_memory) }
+        ensures kept { OnErr result (self.new ≡ self.old) }
+    {
+        self.statements.push(statement)?;
+        Ok(())
+    }
+
+    /// The module as it stands at its end.
     fn close(self) -> Module
         ensures { result ≡ self }
     {
@@ -94,61 +109,79 @@ impl Open {
 }
 
 impl Draft {
-    /// The draft behind one row more.
-    pub fn add(self, alloc: Global, row: Row) -> Result<Draft, ParseFault>
-        ensures after { IfOk result (λ d. Follows d.closed.items d.current self.closed.items self.current (Some row)) }
-        ensures memory { IfErr result (λ e. e ≡ out_of_memory) }
-        ensures count { IfOk result (λ d. count_in d.closed.items d.current ≤ count_in self.closed.items self.current + 1) }
-        ensures formed { IsFormedRow row → AreFormed self.closed.items self.current
-            → IfOk result (λ d. AreFormed d.closed.items d.current) }
+    /// Nothing, before the first line.
+    pub fn new(alloc: Global) -> Draft
+        ensures { result ≡ nothing_yet }
     {
-        let Draft {
-            mut closed,
-            current,
-        } = self;
+        Draft {
+            closed: Vec::new(alloc),
+            current: None,
+        }
+    }
+
+    /// One row more.
+    pub fn add(&mut self, alloc: Global, row: Row) -> Result<(), ParseFault>
+        requires { IsFormedRow row }
+        ensures after { IfOk result (λ _. Follows self.new self.old (Some row)) }
+        ensures memory { IfErr result (λ e. e ≡ out_of_memory) }
+        ensures count { IfOk result (λ _. count_in self.new ≤ count_in self.old + 1) }
+    {
         match row {
-            Row::Statement(statement) => {
-                let open = begun(alloc, current).with(statement)?;
-                Ok(Draft {
-                    closed,
-                    current: Some(open),
-                })
+            Row::Statement(statement) => self.push(alloc, statement),
+            Row::Head(name, line) => self.begin(alloc, name, line),
+        }
+    }
+
+    /// A statement more in the open module, or in the module main where none has begun.
+    fn push(&mut self, alloc: Global, statement: Statement) -> Result<(), ParseFault>
+        requires { IsFormedStatement statement }
+        ensures after { IfOk result (λ _. Follows self.new self.old (Some (row.Statement statement))) }
+        ensures memory { IfErr result (λ e. e ≡ out_of_memory) }
+        ensures count { IfOk result (λ _. count_in self.new ≤ count_in self.old + 1) }
+    {
+        match &mut self.current {
+            Some(open) => open.push(statement),
+            None => {
+                let mut open = Open::main(alloc);
+                open.push(statement)?;
+                self.current = Some(open);
+                Ok(())
             }
-            Row::Head(name, line) => {
-                let next = Open {
-                    name,
-                    line,
-                    statements: Vec::new(alloc),
-                };
-                match current {
-                    None => Ok(Draft {
-                        closed,
-                        current: Some(next),
-                    }),
-                    Some(open) => {
-                        closed.push(open.close())?;
-                        Ok(Draft {
-                            closed,
-                            current: Some(next),
-                        })
-                    }
-                }
+        }
+    }
+
+    /// The end of the open module, if there is one, and the head of the next.
+    fn begin(&mut self, alloc: Global, name: Name, line: u32) -> Result<(), ParseFault>
+        ensures after { IfOk result (λ _. Follows self.new self.old (Some (row.Head name line))) }
+        ensures memory { IfErr result (λ e. e ≡ out_of_memory) }
+        ensures count { IfOk result (λ _. count_in self.new ≤ count_in self.old + 1) }
+    {
+        let next = Open {
+            name,
+            line,
+            statements: Vec::new(alloc),
+        };
+        match self.current.replace(next) {
+            Some(open) => {
+                self.closed.push(open.close())?;
+                Ok(())
             }
+            None => Ok(()),
         }
     }
 
     /// The modules at the end of the source.
     pub fn finish(self, alloc: Global) -> Result<Vec<Module>, ParseFault>
-        ensures value { MatchResult result (λ v. v.items ≡ modules_after self.closed.items self.current []) (λ e. e ≡ out_of_memory) }
+        ensures value { MatchResult result (λ v. v.items ≡ modules_after self []) (λ e. e ≡ out_of_memory) }
         ensures some { IfOk result (λ v. 0 < length v.items) }
-        ensures count { IfOk result (λ v. sum_by (λ m. length m.statements) v.items ≡ count_in self.closed.items self.current) }
-        ensures formed { AreFormed self.closed.items self.current → IfOk result (λ v. All IsFormedModule v.items) }
+        ensures count { IfOk result (λ v. sum_by (λ m. length m.statements) v.items ≡ count_in self) }
+        ensures formed { IfOk result (λ v. All IsFormedModule v.items) }
     {
         let Draft {
             mut closed,
             current,
         } = self;
-        closed.push(begun(alloc, current).close())?;
+        closed.push(Open::begun(alloc, current).close())?;
         Ok(closed)
     }
 }

@@ -1,3 +1,4 @@
+//! A source as its unit, line by line.
 ghost use Rattle.std.specs.Prelude.{◌≡◌, ◌<◌, ◌≤◌, ◌+◌, ◌^◌, ◌⊎◌, Ok, Err, length, map, IfOk, IfErr, IfSome, MatchResult};
 ghost use Rattle.std.specs.List.{All};
 ghost use Rattle.m88_parse.specs.declared.unit.Unit.{Unit as SourceUnit};
@@ -10,7 +11,7 @@ ghost use Rattle.m88_parse.specs.Reader.Source.{end_of, row_of, unit_of};
 ghost use Rattle.m88_parse.specs.Reader.Tokens.{piece_of};
 ghost use Rattle.m88_parse.specs.WellFormed.{IsWellFormed};
 ghost use Rattle.m88_parse.specs.Reader.Kept.{IsFormedRow};
-ghost use Rattle.m88_parse.specs.Reader.Drafts.{count_in, AreFormed, LeadsOn, EndsWith};
+ghost use Rattle.m88_parse.specs.Reader.Drafts.{count_in, LeadsOn, EndsWith};
 
 use crate::draft::Draft;
 use crate::fault::ParseFault;
@@ -49,16 +50,15 @@ fn row_of(alloc: Global, line: &[u8], number: u32) -> Result<Option<Row>, ParseF
     Ok(Some(row))
 }
 
-/// The draft behind one line more.
-fn with_line(alloc: Global, draft: Draft, line: &[u8], number: u32) -> Result<Draft, ParseFault>
+/// One line more in the draft.
+fn read_line(draft: &mut Draft, alloc: Global, line: &[u8], number: u32) -> Result<(), ParseFault>
     requires { length line.now < 2 ^ 31 }
-    ensures value { MatchResult result (λ d. LeadsOn number line.now d.closed.items d.current draft.closed.items draft.current)
-        (λ e. (e ≡ out_of_memory) ⊎ EndsWith number line.now draft.closed.items draft.current e) }
-    ensures count { IfOk result (λ d. count_in d.closed.items d.current ≤ count_in draft.closed.items draft.current + 1) }
-    ensures formed { AreFormed draft.closed.items draft.current → IfOk result (λ d. AreFormed d.closed.items d.current) }
+    ensures value { MatchResult result (λ _. LeadsOn number line.now draft.new draft.old)
+        (λ e. (e ≡ out_of_memory) ⊎ EndsWith number line.now draft.old e) }
+    ensures count { IfOk result (λ _. count_in draft.new ≤ count_in draft.old + 1) }
 {
     match row_of(alloc, line, number)? {
-        None => Ok(draft),
+        None => Ok(()),
         Some(row) => draft.add(alloc, row),
     }
 }
@@ -69,15 +69,12 @@ fn read_unit(alloc: Global, source: &[u8]) -> Result<Unit, ParseFault>
     ensures value { Gives (λ u. u) result (unit_of source.now) }
     ensures formed { IfOk result IsWellFormed }
 {
-    let mut draft = Draft {
-        closed: Vec::new(alloc),
-        current: None,
-    };
+    let mut draft = Draft::new(alloc);
     let mut rest = source;
     let mut number: u32 = 1;
     while !rest.is_empty() {
         let (line, after) = first_line(rest);
-        draft = with_line(alloc, draft, line, number)?;
+        read_line(&mut draft, alloc, line, number)?;
         rest = after;
         number += 1;
     }

@@ -11,45 +11,59 @@ use Rattle.m88_parse.specs.declared.row.Row.{Row}
 use Rattle.m88_parse.specs.Reader.Source.{grouped, main_with, modules_in, rows_of, with_row}
 use Rattle.m88_parse.specs.WellFormed.{IsFormedModule}
 
+-- the modules that are closed, and the one that is open, if one has begun
+pub record Drafted : Type 0 where
+  pub closed : List Module
+  pub current : Option Module
+
+-- before the first line
+abbrev pub nothing_yet : Drafted
+nothing_yet = record { closed = []; current = None }
+
 -- a module with more statements behind its own
 abbrev pub with_more : Module → List Statement → Module
 with_more m xs = record { name = m.name; line = m.line; statements = m.statements ++ xs }
 
 -- the modules of a source whose rest is these rows, by what is closed and what is open before them
-abbrev pub modules_after : List Module → Option Module → List Row → List Module
-modules_after closed None rows = closed ++ modules_in (grouped rows).0 (grouped rows).1
-modules_after closed (Some m) rows = closed ++ with_more m (grouped rows).0 ∷ (grouped rows).1
+abbrev pub modules_with : List Module → Option Module → List Row → List Module
+modules_with closed None rows = closed ++ modules_in (grouped rows).0 (grouped rows).1
+modules_with closed (Some m) rows = closed ++ with_more m (grouped rows).0 ∷ (grouped rows).1
+
+-- the same by a draft
+abbrev pub modules_after : Drafted → List Row → List Module
+modules_after d rows = modules_with d.closed d.current rows
 
 -- what is open where a statement comes
 abbrev pub begun : Option Module → Module
-begun open_one = unwrap_or open_one (main_with [])
+begun current = unwrap_or current (main_with [])
 
+-- the statements of the open module
 abbrev pub open_count : Option Module → ℕ
 open_count None = 0
 open_count (Some m) = length m.statements
 
 -- the statements so far
-abbrev pub count_in : List Module → Option Module → ℕ
-count_in closed open_one = sum_by (λ m. length m.statements) closed + open_count open_one
+abbrev pub count_in : Drafted → ℕ
+count_in d = sum_by (λ m. length m.statements) d.closed + open_count d.current
 
+-- what is read so far can be laid out
 abbrev pub AreFormed : List Module → Option Module → Type 0
-AreFormed closed open_one = All IsFormedModule closed × IfSome open_one IsFormedModule
+AreFormed closed current = All IsFormedModule closed × IfSome current IsFormedModule
 
 -- the unit of a source whose rest was read so
-abbrev pub leads : List Module → Option Module → Result (List Row) ParseFault → Result Source ParseFault
-leads closed open_one (Ok rows) = Ok (record { modules = modules_after closed open_one rows })
-leads closed open_one (Err e) = Err e
+abbrev pub leads : Drafted → Result (List Row) ParseFault → Result Source ParseFault
+leads d (Ok rows) = Ok (record { modules = modules_after d rows })
+leads d (Err e) = Err e
 
 -- rows stand behind others
-abbrev pub Follows : List Module → Option Module → List Module → Option Module → Option Row → Type 0
-Follows new_closed new_open closed open_one r = (rows : List Row)
-    → modules_after new_closed new_open rows ≡ modules_after closed open_one (with_row r rows)
+abbrev pub Follows : Drafted → Drafted → Option Row → Type 0
+Follows after before r = (rows : List Row) → modules_after after rows ≡ modules_after before (with_row r rows)
 
--- a line goes on with the lines behind it, or ends with its fault
-abbrev pub LeadsOn : ℕ → List ℕ → List Module → Option Module → List Module → Option Module → Type 0
-LeadsOn number line new_closed new_open closed open_one =
-    (lines : List (List ℕ)) → leads new_closed new_open (rows_of (number + 1) lines)
-    ≡ leads closed open_one (rows_of number (line ∷ lines))
+-- a line goes on with the lines behind it
+abbrev pub LeadsOn : ℕ → List ℕ → Drafted → Drafted → Type 0
+LeadsOn number line after before =
+    (lines : List (List ℕ)) → leads after (rows_of (number + 1) lines) ≡ leads before (rows_of number (line ∷ lines))
 
-abbrev pub EndsWith : ℕ → List ℕ → List Module → Option Module → ParseFault → Type 0
-EndsWith number line closed open_one e = (lines : List (List ℕ)) → leads closed open_one (rows_of number (line ∷ lines)) ≡ Err e
+-- a line ends the source with its fault
+abbrev pub EndsWith : ℕ → List ℕ → Drafted → ParseFault → Type 0
+EndsWith number line before e = (lines : List (List ℕ)) → leads before (rows_of number (line ∷ lines)) ≡ Err e

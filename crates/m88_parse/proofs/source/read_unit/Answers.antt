@@ -1,4 +1,4 @@
-use Rattle.std.proofs.Common.{List, Result, Ok, ap, sym, ◌∙◌, arith, rules, ◌≡◌, length}
+use Rattle.std.proofs.Common.{List, Result, Ok, ap, sym, ◌∙◌, arith, ◌≡◌, length}
 use Rattle.std.proofs.lemmas.Grind.{common_steps}
 use Rattle.m88_parse.specs.declared.fault.ParseFault.{ParseFault}
 use Rattle.m88_parse.specs.declared.unit.Module.{Module}
@@ -8,10 +8,10 @@ use Rattle.m88_parse.proofs.Drafts.{starts, ends_all}
 use Rattle.m88_parse.proofs.source.read_unit.Goals as goal
 
 pub loop-rest-init : goal.loop-rest-init
-loop-rest-init c = rw c.new.ensures.items (record { leads = starts c.args.source.now; place = omega arith; count = omega arith; formed = search rules })
+loop-rest-init c = rw c.new-draft.ensures (record { leads = starts c.args.source.now; place = omega arith; count = omega arith })
 
 pub returns-clause-value : goal.returns-clause-value
 returns-clause-value c =
     let none : length c.loop-rest.rest.now ≡ 0 = grind (arith, common_steps) in
-    ends_all c.loop-rest.number c.loop-rest.rest.now c.loop-rest.draft.closed.items c.loop-rest.draft.current (unit_of c.args.source.now) none c.loop-rest.invariant.leads
-    ∙ ap (λ (ms : List Module). let u : Result Source ParseFault = Ok (record { modules = ms }) in u) (sym (c.new-2.ensures ∙ c.in_ok-modules.ensures.value))
+    ends_all c.loop-rest.number c.loop-rest.rest.now c.loop-rest.draft (unit_of c.args.source.now) none c.loop-rest.invariant.leads
+    ∙ ap (λ (ms : List Module). let u : Result Source ParseFault = Ok (record { modules = ms }) in u) (sym (c.new.ensures ∙ c.in_ok-modules.ensures.value))

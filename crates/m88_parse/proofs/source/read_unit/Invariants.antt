@@ -1,14 +1,13 @@
 use Rattle.std.proofs.Common.{◌≡◌, ◌+◌, ◌≤◌, length}
 use Rattle.m88_parse.specs.Reader.Source.{lines_of, rows_of, unit_of}
-use Rattle.m88_parse.specs.Reader.Drafts.{leads, count_in, AreFormed}
+use Rattle.m88_parse.specs.Reader.Drafts.{leads, count_in}
 use Rattle.m88_parse.proofs.source.read_unit.Given as goal
 
 abbrev pub invariant-loop-rest : goal.invariant-loop-rest
 invariant-loop-rest l = record {
-  leads : leads l.draft.closed.items l.draft.current (rows_of l.number (lines_of l.rest)) ≡ unit_of l.source;
+  leads : leads l.draft (rows_of l.number (lines_of l.rest)) ≡ unit_of l.source;
   place : l.number + length l.rest ≤ 1 + length l.source;
-  count : count_in l.draft.closed.items l.draft.current + 1 ≤ l.number;
-  formed : AreFormed l.draft.closed.items l.draft.current;
+  count : count_in l.draft + 1 ≤ l.number;
 }
 
 abbrev pub decreases-loop-rest : goal.decreases-loop-rest
