@@ -13,7 +13,8 @@ use Rattle.m88_parse.specs.declared.row.Row.{Row}
 use Rattle.m88_parse.specs.declared.row.Row.TheVariants as row
 use Rattle.m88_parse.specs.Fault.{out_of_memory}
 use Rattle.m88_parse.specs.Reader.State.{◌>>=◌}
-use Rattle.m88_parse.specs.Reader.Source.{grouped, row_of, rows_of, with_row, lines_of, unit_of_rows, unit_of}
+use Rattle.m88_base.specs.Lines.{lines_of}
+use Rattle.m88_parse.specs.Reader.Source.{grouped, row_of, rows_of, with_row, unit_of_rows, unit_of}
 use Rattle.m88_parse.specs.Reader.Drafts.{Drafted, nothing_yet, with_more, modules_with, modules_after, begun, leads, Follows, LeadsOn, EndsWith}
 use Rattle.m88_parse.specs.WellFormed.{IsFormedStatement, IsFormedModule}
 

@@ -14,7 +14,6 @@ pub mod Codes
 pub mod Lists
 pub mod Bodies
 pub mod Rows
-pub mod Ends
 pub mod Units
 pub mod Flaws
 pub mod Breaks

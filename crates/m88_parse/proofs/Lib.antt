@@ -4,6 +4,5 @@ pub mod Law
 pub mod Collecting
 pub mod Texts
 pub mod Naming
-pub mod Lines
 pub mod Drafts
 pub mod Ending

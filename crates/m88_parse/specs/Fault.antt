@@ -1,5 +1,5 @@
 -- What a call that takes memory answers, and why a source has no unit.
-use Rattle.std.specs.Prelude.{◌≡◌, ◌⊎◌, Result, Ok, Err}
+use Rattle.std.specs.Prelude.{◌≡◌, ◌⊎◌, ℕ, List, Result, Ok, Err, codes}
 use Rattle.m88_parse.specs.declared.fault.ParseFault.{ParseFault}
 use Rattle.m88_parse.specs.declared.fault.ParseKind.{ParseKind}
 use Rattle.m88_parse.specs.declared.fault.ParseKind.TheVariants.{NotAscii, Syntax, NoSuchName, OutOfRange, Memory}
@@ -25,3 +25,11 @@ IsCutKind Memory = ⊥
 abbrev pub IsSourceKind : ParseKind → Type 0
 IsSourceKind Memory = ⊥
 IsSourceKind _ = Unit {0}
+
+-- the reason of a fault in the words of a refused line
+unfoldable pub reason : ParseKind → List ℕ
+reason NotAscii = codes "not ascii"
+reason Syntax = codes "syntax"
+reason NoSuchName = codes "no such name"
+reason OutOfRange = codes "out of range"
+reason Memory = codes "out of memory"

@@ -1,3 +1,4 @@
+//! The directives beside `.module`, by name.
 ghost use Rattle.std.specs.Prelude.{◌≡◌};
 ghost use Rattle.m88_parse.specs.Reader.Directives.{all_directives, directive_text, directive_of};
 

@@ -1,7 +1,10 @@
+//! Why a source has no unit, and where.
 ghost use Rattle.std.specs.Prelude.{◌≡◌};
-ghost use Rattle.m88_parse.specs.Fault.{out_of_memory};
+ghost use Rattle.m88_parse.specs.Fault.{out_of_memory, reason};
 
 use std::alloc::{AllocError, AllocFailed};
+use std::error::Error;
+use std::fmt;
 
 /// Why a source has no unit.
 #[derive(Clone, Copy, PartialEq, Eq, Debug)]
@@ -18,6 +21,30 @@ pub enum ParseKind {
     Memory,
 }
 
+impl ParseKind {
+    /// The reason in the words of a refused line.
+    #[tactic(auto, unfolding(crate::specs::Fault::reason))]
+    pub fn reason(self) -> &'static str
+        ensures { result.now ≡ reason self }
+    {
+        match self {
+            ParseKind::NotAscii => "not ascii",
+            ParseKind::Syntax => "syntax",
+            ParseKind::NoSuchName => "no such name",
+            ParseKind::OutOfRange => "out of range",
+            ParseKind::Memory => "out of memory",
+        }
+    }
+}
+
+impl fmt::Display for ParseKind {
+    fn fmt<W: fmt::Write>(&self, f: &mut fmt::Formatter<W>) -> fmt::Result {
+        f.write_str(self.reason())
+    }
+}
+
+impl Error for ParseKind {}
+
 /// The first fault of a source: its line and column, both from 1, and its kind. Want of memory has
 /// line 0 and column 0.
 #[derive(Clone, Copy, PartialEq, Eq, Debug)]
@@ -26,6 +53,14 @@ pub struct ParseFault {
     pub col: u32,
     pub kind: ParseKind,
 }
+
+impl fmt::Display for ParseFault {
+    fn fmt<W: fmt::Write>(&self, f: &mut fmt::Formatter<W>) -> fmt::Result {
+        write!(f, "{}:{} {}", self.line, self.col, self.kind)
+    }
+}
+
+impl Error for ParseFault {}
 
 const OUT_OF_MEMORY: ParseFault = ParseFault {
     line: 0,

@@ -1,3 +1,4 @@
+//! The operands of an instruction, by the form of its mnemonic.
 ghost use Rattle.std.specs.Prelude.{◌≡◌, ◌≤◌, IfOk};
 ghost use Rattle.m88_parse.specs.Fault.{Gives};
 ghost use Rattle.m88_parse.specs.Reader.Grammar.{read, either_form, immediate_form, registers_form, memory_form, user_memory_form, address_form, bits_form, find_bit_form, branch_form, branch_bit_form, branch_cond_form, jump_form, trap_bit_form, trap_cond_form, bounds_form, ldcr_form, stcr_form, xcr_form, code_only, form_of};

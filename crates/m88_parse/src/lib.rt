@@ -7,7 +7,6 @@ mod draft;
 mod fault;
 mod forms;
 mod lexemes;
-mod line;
 mod lists;
 mod names;
 mod operand;

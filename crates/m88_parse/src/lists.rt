@@ -1,3 +1,4 @@
+//! Texts, and lists of operands with commas between them.
 ghost use Rattle.std.specs.Prelude.{◌≡◌, ◌<◌, false, length, IfOk, OnOk, MatchResult, if◌then◌else◌};
 ghost use Rattle.std.specs.List.{All};
 ghost use Rattle.m88_base.specs.declared.fixup.Kind.TheVariants.{Abs32};

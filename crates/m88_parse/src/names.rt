@@ -1,3 +1,4 @@
+//! Names with a meaning of their own: registers, bits, conditions, halves, symbols.
 ghost use Rattle.std.specs.Prelude.{◌≡◌, ◌≤◌, ◌<◌, IfSome, SomeIff, true};
 ghost use Rattle.m88_parse.specs.Reader.Names.{number_up_to, register_of, control_of, float_control_of, control_in, is_here, is_module, is_name, is_symbol};
 ghost use Rattle.m88_parse.specs.Language.Words.{bit_named, condition_named, half_named};

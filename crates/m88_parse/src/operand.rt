@@ -1,3 +1,4 @@
+//! Operands of instructions, as they are read.
 use m88_base::{Fixup, Reg};
 
 /// A 16-bit immediate, or 0 and the fixup that puts half of a symbol's value there.

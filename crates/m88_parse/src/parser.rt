@@ -1,3 +1,4 @@
+//! The tokens of a line that are left, as a statement is read from them.
 ghost use Rattle.std.specs.Prelude.{◌≡◌, map, length, ◌-◌};
 ghost use Rattle.m88_parse.specs.Fault.{Gives};
 ghost use Rattle.m88_parse.specs.Reader.State.{ReaderState, first, second, place, past, fault, is_next};

@@ -1,3 +1,4 @@
+//! What a line says.
 use crate::unit::Statement;
 use m88_base::Name;
 

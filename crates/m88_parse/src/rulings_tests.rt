@@ -1,3 +1,4 @@
+//! Refusals at doubtful places, from outside.
 use super::*;
 
 #[test]

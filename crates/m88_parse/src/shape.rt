@@ -1,3 +1,4 @@
+//! The operand form of each mnemonic.
 ghost use Rattle.std.specs.Prelude.{◌≡◌};
 ghost use Rattle.m88_parse.specs.Language.Shapes.{shape_of};
 

@@ -1,3 +1,4 @@
+//! Operands of one or a few tokens, each from the place where it is wanted.
 ghost use Rattle.std.specs.Prelude.{◌≡◌, ◌≤◌, ◌<◌, ◌==◌, ◌||◌, length, IfOk, OnOk};
 ghost use Rattle.m88_parse.specs.Fault.{Gives};
 ghost use Rattle.m88_parse.specs.Reader.Slots.{unsigned_at, negated, signed_at, register_at, control_at, bit_at, mask_at, symbol_at, addend_at, fixup_at, value_at, any_name_at, alignment_at};

@@ -16,12 +16,11 @@ ghost use Rattle.m88_parse.specs.Reader.Drafts.{count_in, LeadsOn, EndsWith};
 use crate::draft::Draft;
 use crate::fault::ParseFault;
 use crate::lexemes::lexemes;
-use crate::line::first_line;
 use crate::parser::Parser;
 use crate::row::Row;
 use crate::token::Lexeme;
 use crate::unit::Unit;
-use m88_base::Listed;
+use m88_base::{Listed, first_line};
 use std::alloc::Global;
 
 /// The column just after the last token.

@@ -1,3 +1,4 @@
+//! Directives, operations, labels and heads of modules.
 ghost use Rattle.std.specs.Prelude.{◌≡◌, IfOk};
 ghost use Rattle.m88_parse.specs.declared.directive.Directive.TheVariants.{Set};
 ghost use Rattle.m88_parse.specs.Fault.{Gives};

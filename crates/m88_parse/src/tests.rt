@@ -1,3 +1,4 @@
+//! Tokens and refusals of sources, from outside.
 use super::*;
 use std::test::Fail;
 

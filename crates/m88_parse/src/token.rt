@@ -1,3 +1,5 @@
+//! Tokens, by themselves and with what they say.
+
 /// What a token is: a name, a number (a character in single quotes is one), a text in double quotes, or
 /// one of the marks.
 #[derive(Clone, Copy, PartialEq, Eq, Debug)]
@@ -10,7 +12,7 @@ pub enum TokenKind {
 
 /// A token of a line: its bytes as they stand there, quotes included, and its place, line and column
 /// from 1.
-#[derive(Clone, Copy)]
+#[derive(Clone, Copy, Debug)]
 pub struct Token<'a> {
     pub text: &'a [u8],
     pub line: u32,

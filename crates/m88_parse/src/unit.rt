@@ -1,3 +1,4 @@
+//! A source as modules of statements.
 use m88_base::{Fixup, Listed, Name};
 use m88_isa::Instr;
 

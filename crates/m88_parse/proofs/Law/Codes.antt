@@ -1,5 +1,5 @@
 -- The law of instructions, the other way round: what is related to the operands of a form is read of them.
-use Rattle.std.proofs.Common.{◌≡◌, ℕ, ◌<◌, ◌^◌, ℤ, Bool, true, false, List, [], ◌∷◌, Option, None, Ok, Result, refl, sym, ap, ◌∙◌, arith, subst}
+use Rattle.std.proofs.Common.{◌≡◌, ℕ, ◌<◌, ◌^◌, ℤ, Bool, true, false, List, [], ◌∷◌, Option, None, Ok, Result, refl, ap, ◌∙◌, arith}
 use Rattle.m88_base.specs.declared.reg.Reg.{Reg}
 use Rattle.m88_base.specs.declared.fixup.Kind.{Kind}
 use Rattle.m88_base.specs.declared.fixup.Kind.TheVariants.{Pc26, Pc16}
@@ -25,7 +25,7 @@ use Rattle.m88_parse.specs.Reader.State.{ReaderState}
 use Rattle.m88_parse.specs.Reader.Slots.{mark_at, unsigned_at, control_at, bit_at, mask_at}
 use Rattle.m88_parse.specs.Reader.Operands.{immediate_at, operand_at, bound_at, scaled_at, index_at, user_index_at, field_at, goal_at}
 use Rattle.m88_parse.specs.Reader.Grammar.{Form, ends, register_then, control_then, bit_then, mask_then, unsigned_then, immediate_then, operand_then, bound_then, scaled_then, index_then, user_index_then, field_then, goal_then, read, comma_then, code_only, either_body, memory_body, bits_body, bounds_body, form_of}
-use Rattle.m88_parse.specs.Language.Operands.{most_width, IsImmediate, IsScaled, IsLiteral, IsGoal, AreOperands, either_immediate, either_register, immediate, registers, offset, index as plain_index, scaled, user_index, user_scaled, address, literal, field as register_field, find, branch, branch_bit, branch_condition, jump, trap_bit, trap_condition, bound_number, bound_register, return, control_load, control_store, control_exchange}
+use Rattle.m88_parse.specs.Language.Operands.{most_width, IsImmediate, IsScaled, IsGoal, AreOperands, either_immediate, either_register, immediate, registers, offset, index as plain_index, scaled, user_index, user_scaled, address, literal, field as register_field, find, branch, branch_bit, branch_condition, jump, trap_bit, trap_condition, bound_number, bound_register, return, control_load, control_store, control_exchange}
 use Rattle.m88_parse.specs.Language.Names.{IsComma, IsNumber, IsControl, IsBit, IsCondition}
 use Rattle.m88_parse.proofs.Law.Slots.{st, bind_to, mark_again, number_slot_again, control_slot_again, bit_again, mask_again}
 use Rattle.m88_parse.proofs.Law.Operands.{immediate_again, operand_register_again, operand_immediate_again, bound_register_again, bound_number_again}

@@ -8,14 +8,14 @@ use Rattle.m88_parse.specs.Fault.{Gives, out_of_memory}
 use Rattle.m88_parse.specs.Reader.Tokens.{pieces_of}
 use Rattle.m88_parse.specs.Language.Pieces.{Piece}
 use Rattle.m88_parse.specs.Reader.State.{◌>>=◌}
-use Rattle.m88_parse.specs.Reader.Source.{lines_of, row_of_pieces, row_of, with_row, rows_of, unit_of_rows, unit_of}
+use Rattle.m88_base.specs.Lines.{lines_of}
+use Rattle.m88_parse.specs.Reader.Source.{row_of_pieces, row_of, with_row, rows_of, unit_of_rows, unit_of}
 use Rattle.m88_parse.specs.Language.Tokens.{LineTokens}
 use Rattle.m88_parse.specs.Language.Units.{IsUnit}
 use Rattle.m88_parse.specs.Language.LineFaults.{IsLineFault}
 use Rattle.m88_parse.specs.Language.FirstFaults.{FirstOf, uncut_line, faulty_line, later_line, IsFirstFault, HasOneAnswer}
 use Rattle.m88_parse.proofs.Law.Slots.{bind_to}
 use Rattle.m88_parse.proofs.Law.Tokens.{line_is_cut, line_is_read}
-use Rattle.m88_parse.proofs.Law.Ends.{lines_computed, lines_related}
 use Rattle.m88_parse.proofs.Law.Breaks.{breaks_read, Broken, line_breaks}
 use Rattle.m88_parse.proofs.Law.LineFaults.One.{one_line_fault}
 use Rattle.m88_parse.proofs.Law.LineFaults.Lines.{LineFaultBy, line_fault_told, said_not_faulty}
@@ -101,7 +101,7 @@ pub fault_is_related : (source : List ℕ) (f : ParseFault) → unit_of source �
 unfolding unit_of
 fault_is_related source f h =
     elim (bind_failed (rows_of 1 (lines_of source)) (λ (rows : List Row). let y : Result Source ParseFault = Ok (unit_of_rows rows) in y) f h) [
-      | inl k ↦ record { lines = lines_of source; are_lines = lines_related source; first = first_related 1 (lines_of source) f k }
+      | inl k ↦ first_related 1 (lines_of source) f k
       | inr k ↦ absurd (no_err k.2)
     ]
   where
@@ -111,7 +111,7 @@ fault_is_related source f h =
 pub related_fault_is_read : (source : List ℕ) (f : ParseFault) → IsFirstFault source f → unit_of source ≡ Err f
 unfolding unit_of
 related_fault_is_read source f h =
-    bind_err (rows_of 1 (lines_of source)) (λ (rows : List Row). let y : Result Source ParseFault = Ok (unit_of_rows rows) in y) f (ap (rows_of 1) (lines_computed h.are_lines) ∙ first_read h.first)
+    bind_err (rows_of 1 (lines_of source)) (λ (rows : List Row). let y : Result Source ParseFault = Ok (unit_of_rows rows) in y) f (first_read h)
 
 pub single_fault : (source : List ℕ) (a b : ParseFault) → IsFirstFault source a → IsFirstFault source b → a ≡ b
 single_fault source a b h k = err_same (sym (related_fault_is_read source a h) ∙ related_fault_is_read source b k)

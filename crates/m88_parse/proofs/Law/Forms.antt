@@ -30,7 +30,7 @@ use Rattle.m88_parse.specs.Reader.State.{ReaderState, ◌>>=◌}
 use Rattle.m88_parse.specs.Reader.Slots.{mark_at, end_at, unsigned_at, register_at, control_at, bit_at, mask_at}
 use Rattle.m88_parse.specs.Reader.Operands.{immediate_at, operand_at, bound_at, scaled_at, index_at, user_index_at, field_at, goal_at}
 use Rattle.m88_parse.specs.Reader.Grammar.{Form, ends, register_then, control_then, bit_then, mask_then, unsigned_then, immediate_then, operand_then, bound_then, scaled_then, index_then, user_index_then, field_then, goal_then, read, comma_then, code_only, either_body, memory_body, bits_body, bounds_body, form_of}
-use Rattle.m88_parse.specs.Language.Operands.{most_width, Behind, IsScaled, IsLast, IsLiteral, IsGoal, AreOperands, either_immediate, either_register, immediate, registers, offset, index as plain_index, scaled, user_index, user_scaled, address, literal, field as register_field, find, branch, branch_bit, branch_condition, jump, trap_bit, trap_condition, bound_number, bound_register, return, control_load, control_store, control_exchange}
+use Rattle.m88_parse.specs.Language.Operands.{most_width, Behind, IsScaled, IsLast, IsGoal, AreOperands, either_immediate, either_register, immediate, registers, offset, index as plain_index, scaled, user_index, user_scaled, address, literal, field as register_field, find, branch, branch_bit, branch_condition, jump, trap_bit, trap_condition, bound_number, bound_register, return, control_load, control_store, control_exchange}
 use Rattle.m88_parse.specs.Language.Names.{IsComma, IsNumber, IsRegister, IsControl, IsBit, IsCondition}
 use Rattle.m88_parse.proofs.Law.Slots.{st, ok_same, bind_ok, bind_to, One, mark_read, mark_again, end_read, IsUpTo, number_read, register_read, register_again, control_read, bit_read, mask_read}
 use Rattle.m88_parse.proofs.Law.Values.{Several}

@@ -60,4 +60,4 @@ cut_kinds number line (Err e) (inr h) = inr (breaks_kind h.0 1 line e.col e.kind
 pub source_kinds : {V : Type 0} (source : List ℕ) (r : Result V ParseFault) → IfErr r (λ (e : ParseFault). (e ≡ out_of_memory) ⊎ IsFirstFault source e) → IfErr r (λ (e : ParseFault). (e ≡ out_of_memory) ⊎ IsSourceKind e.kind)
 source_kinds source (Ok v) h = tt
 source_kinds source (Err e) (inl h) = inl h
-source_kinds source (Err e) (inr h) = inr (first_kind h.first)
+source_kinds source (Err e) (inr h) = inr (first_kind h)

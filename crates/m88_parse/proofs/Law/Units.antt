@@ -10,13 +10,13 @@ use Rattle.m88_parse.specs.Reader.Tokens.{pieces_of}
 use Rattle.m88_parse.specs.Language.Pieces.{Piece}
 use Rattle.m88_parse.specs.Fault.{Gives}
 use Rattle.m88_parse.specs.Reader.State.{◌>>=◌}
-use Rattle.m88_parse.specs.Reader.Source.{lines_of, row_of_pieces, row_of, with_row, rows_of, grouped, main_with, modules_in, unit_of_rows, unit_of}
+use Rattle.m88_base.specs.Lines.{lines_of}
+use Rattle.m88_parse.specs.Reader.Source.{row_of_pieces, row_of, with_row, rows_of, grouped, main_with, modules_in, unit_of_rows, unit_of}
 use Rattle.m88_parse.specs.Language.Tokens.{LineTokens}
 use Rattle.m88_parse.specs.Language.Units.{Said, says_nothing, says, begins, LineSays, AreRows, no_row, row_of_nothing, row_of_statement, row_of_module, AreModules, only_main, first_main, no_main, IsUnit}
 use Rattle.m88_parse.proofs.Law.Slots.{ok_same, bind_ok, bind_to}
 use Rattle.m88_parse.proofs.Law.Tokens.{line_is_cut, line_is_read}
 use Rattle.m88_parse.proofs.Law.Rows.{row_for, line_read, line_again}
-use Rattle.m88_parse.proofs.Law.Ends.{lines_computed, lines_related}
 
 -- one line
 
@@ -122,13 +122,13 @@ read_is_related source unit h =
     let b = bind_ok (rows_of 1 (lines_of source)) (λ (rows : List Row). let y : Result Source ParseFault = Ok (unit_of_rows rows) in y) unit h in
     let g = grouped b.0 in
     subst (IsUnit source) (ok_same b.2)
-    (record { lines = lines_of source; statements = g.0; modules = g.1; are_lines = lines_related source; are_rows = rows_related 1 (lines_of source) b.0 b.1; are_modules = modules_related g.0 g.1 })
+    (record { statements = g.0; modules = g.1; are_rows = rows_related 1 (lines_of source) b.0 b.1; are_modules = modules_related g.0 g.1 })
 
 pub related_is_read : (source : List ℕ) (unit : Source) → IsUnit source unit → unit_of source ≡ Ok unit
 unfolding unit_of
 related_is_read source unit h =
     let k = rows_again h.are_rows in
-    let r : rows_of 1 (lines_of source) ≡ Ok k.rows = ap (rows_of 1) (lines_computed h.are_lines) ∙ k.read in
+    let r : rows_of 1 (lines_of source) ≡ Ok k.rows = k.read in
     let m : modules_in (grouped k.rows).0 (grouped k.rows).1 ≡ unit.modules = ap₂ modules_in k.statements k.modules ∙ modules_computed h.are_modules in
     bind_to (rows_of 1 (lines_of source)) (λ (rows : List Row). let y : Result Source ParseFault = Ok (unit_of_rows rows) in y) k.rows (Ok unit) r
     (ap (λ (u : Source). let y : Result Source ParseFault = Ok u in y) (same_unit (modules_in (grouped k.rows).0 (grouped k.rows).1) unit.modules m))

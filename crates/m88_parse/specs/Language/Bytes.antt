@@ -2,14 +2,7 @@
 use Rattle.std.specs.Prelude.{ℕ, ◌&&◌, ◌||◌, Bool, ◌==◌, nat_lt, nat_le, if◌then◌else◌, List, codes}
 use Rattle.std.specs.List.{list_any, list_all}
 use Rattle.std.specs.Char.{digit_value}
-
--- what ends a line: LF, or CR and LF
-abbrev pub line_feed : ℕ
-line_feed = 10
-
--- the CR of a line end
-abbrev pub carriage_return : ℕ
-carriage_return = 13
+use Rattle.m88_base.specs.Lines.{line_feed}
 
 -- one of the two blanks
 abbrev pub tab : ℕ

@@ -6,12 +6,13 @@ use Rattle.std.specs.Char.{is_ascii_digit}
 use Rattle.m88_parse.specs.declared.fault.ParseKind.{ParseKind}
 use Rattle.m88_parse.specs.declared.fault.ParseKind.TheVariants.{NotAscii, Syntax, OutOfRange}
 use Rattle.m88_parse.specs.declared.fault.ParseFault.{ParseFault}
+use Rattle.m88_base.specs.Lines.{lines_of}
 use Rattle.m88_base.specs.Name.{continues_name}
 use Rattle.m88_parse.specs.Language.Bytes.{single_quote, double_quote, backslash, is_blank, is_comment, is_plain, is_mark}
 use Rattle.m88_parse.specs.Language.Pieces.{TokenValue, Piece}
 use Rattle.m88_parse.specs.Language.Tokens.{IsGap, AreNameBytes, BeginsWithNoNameByte, IsNumeral, IsToken, Begins, LineTokens}
 use Rattle.m88_parse.specs.declared.unit.Unit.{Unit as Source}
-use Rattle.m88_parse.specs.Language.Units.{Said, LineSays, AreLines, IsUnit}
+use Rattle.m88_parse.specs.Language.Units.{Said, LineSays, IsUnit}
 use Rattle.m88_parse.specs.Language.LineFaults.{IsLineFault}
 
 -- what an opening quote takes of the bytes behind it: up to a closing quote, or to the end of the line; a backslash takes
@@ -93,10 +94,8 @@ pub data FirstOf : ℕ → List (List ℕ) → ParseFault → Type 0 where
       → FirstOf number (line ∷ lines) fault
 
 -- the first fault of a source
-pub record IsFirstFault (source : List ℕ) (fault : ParseFault) : Type 0 where
-  pub lines : List (List ℕ)
-  pub are_lines : AreLines source lines
-  pub first : FirstOf 1 lines fault
+abbrev pub IsFirstFault : List ℕ → ParseFault → Type 0
+IsFirstFault source fault = FirstOf 1 (lines_of source) fault
 
 -- a source has a unit or a first fault, never both, and one at most
 pub record HasOneAnswer (source : List ℕ) : Type 0 where

@@ -1,32 +1,13 @@
 -- A source and its unit: the lines, the tokens of each, and the modules of what they say (sources and
 -- modules of the assembly language).
-use Rattle.std.specs.Prelude.{ℕ, ◌≡◌, ◌≢◌, ◌+◌, true, not, ◌==◌, List, [], ◌∷◌, ◌++◌, codes}
-use Rattle.std.specs.List.{list_all}
-use Rattle.m88_parse.specs.Language.Bytes.{line_feed, carriage_return}
+use Rattle.std.specs.Prelude.{ℕ, ◌+◌, List, [], ◌∷◌, codes}
+use Rattle.m88_base.specs.Lines.{lines_of}
 use Rattle.m88_parse.specs.declared.unit.Statement.{Statement}
 use Rattle.m88_parse.specs.declared.unit.Module.{Module}
 use Rattle.m88_parse.specs.declared.unit.Unit.{Unit as Source}
 use Rattle.m88_parse.specs.Language.Pieces.{Piece}
 use Rattle.m88_parse.specs.Language.Tokens.{LineTokens}
 use Rattle.m88_parse.specs.Language.Statements.{IsStatement, IsHead}
-
--- bytes with no line feed
-abbrev pub IsOneLine : List ℕ → Type 0
-IsOneLine bytes = list_all (λ b. not (b == line_feed)) bytes ≡ true
-
--- the last byte is a carriage return
-abbrev pub EndsInReturn : List ℕ → Type 0
-EndsInReturn line = (front : List ℕ) × (line ≡ front ++ carriage_return ∷ [])
-
--- the lines of a source: each ends with LF or CR LF, and the last one may end with the source; a line end that is the last
--- thing opens no further line
-pub data AreLines : List ℕ → List (List ℕ) → Type 0 where
-  no_line : AreLines [] []
-  last_line : {line : List ℕ} → line ≢ [] → IsOneLine line → AreLines line (line ∷ [])
-  feed : {line rest source : List ℕ} {lines : List (List ℕ)} → IsOneLine line → (EndsInReturn line → ⊥)
-      → source ≡ line ++ line_feed ∷ rest → AreLines rest lines → AreLines source (line ∷ lines)
-  return_feed : {line rest source : List ℕ} {lines : List (List ℕ)} → IsOneLine line
-      → source ≡ line ++ carriage_return ∷ line_feed ∷ rest → AreLines rest lines → AreLines source (line ∷ lines)
 
 -- what a line says: nothing, a statement, or that a module of this name begins
 pub data Said : Type 0 where
@@ -66,9 +47,7 @@ pub data AreModules : List Statement → List Module → List Module → Type 0 
 
 -- the unit of a source
 pub record IsUnit (source : List ℕ) (unit : Source) : Type 0 where
-  pub lines : List (List ℕ)
   pub statements : List Statement
   pub modules : List Module
-  pub are_lines : AreLines source lines
-  pub are_rows : AreRows 1 lines statements modules
+  pub are_rows : AreRows 1 (lines_of source) statements modules
   pub are_modules : AreModules statements modules unit.modules

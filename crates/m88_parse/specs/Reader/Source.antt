@@ -1,7 +1,8 @@
 -- Words for the contracts of private functions; no promise of the crate names them. A source as its unit:
 -- its lines, what each says, and the modules of what they say.
-use Rattle.std.specs.Prelude.{ℕ, ◌+◌, Bool, false, List, [], ◌∷◌, length, ◌==◌, ◌&&◌, if◌then◌else◌, Option, Some, None, Result, Ok}
+use Rattle.std.specs.Prelude.{ℕ, ◌+◌, Bool, false, List, [], ◌∷◌, length, if◌then◌else◌, Option, Some, None, Result, Ok}
 use lib.Chars.{codes}
+use Rattle.m88_base.specs.Lines.{lines_of}
 use Rattle.m88_isa.specs.Mnemonic.{mnemonic_of}
 use Rattle.m88_isa.specs.declared.mnemonic.Mnemonic.{Mnemonic}
 use Rattle.m88_parse.specs.declared.fault.ParseFault.{ParseFault}
@@ -16,30 +17,13 @@ use Rattle.m88_parse.specs.declared.row.Row.{Row}
 use Rattle.m88_parse.specs.declared.row.Row.TheVariants as row
 use Rattle.m88_parse.specs.Reader.Names.{is_module}
 use Rattle.m88_parse.specs.Reader.Tokens.{pieces_of}
-use Rattle.m88_parse.specs.Language.Bytes.{line_feed, carriage_return, colon_mark}
+use Rattle.m88_parse.specs.Language.Bytes.{colon_mark}
 use Rattle.m88_parse.specs.Language.Pieces.{TokenValue, a_name, Piece}
 use Rattle.m88_parse.specs.Reader.State.{ReaderState, first, second, place, past, trouble, is_mark_of, ◌>>=◌}
 use Rattle.m88_parse.specs.Reader.Slots.{symbol_at, any_name_at, end_at}
 use Rattle.m88_parse.specs.Language.Shapes.{shape_of}
 use Rattle.m88_parse.specs.Reader.Directives.{directive_of}
 use Rattle.m88_parse.specs.Reader.Grammar.{Form, read, form_of, directive_form}
-
--- whether an LF comes first
-abbrev pub begins_with_lf : List ℕ → Bool
-begins_with_lf [] = false
-begins_with_lf (b ∷ bs) = b == line_feed
-
--- a byte at the front of the first line
-abbrev pub on_first_line : ℕ → List (List ℕ) → List (List ℕ)
-on_first_line b [] = (b ∷ []) ∷ []
-on_first_line b (line ∷ lines) = (b ∷ line) ∷ lines
-
--- the lines of a source: each ends by LF, by CR LF, or with the source; a line end that is last opens no further line
-unfoldable pub lines_of : List ℕ → List (List ℕ)
-lines_of [] = []
-lines_of (b ∷ bs) =
-    if b == line_feed then [] ∷ lines_of bs
-    else (if b == carriage_return && begins_with_lf bs then lines_of bs else on_first_line b (lines_of bs))
 
 -- the form of a mnemonic
 abbrev pub instruction_form : Mnemonic → Form

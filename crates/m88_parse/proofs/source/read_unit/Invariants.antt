@@ -1,5 +1,6 @@
 use Rattle.std.proofs.Common.{◌≡◌, ◌+◌, ◌≤◌, length}
-use Rattle.m88_parse.specs.Reader.Source.{lines_of, rows_of, unit_of}
+use Rattle.m88_base.specs.Lines.{lines_of}
+use Rattle.m88_parse.specs.Reader.Source.{rows_of, unit_of}
 use Rattle.m88_parse.specs.Reader.Drafts.{leads, count_in}
 use Rattle.m88_parse.proofs.source.read_unit.Given as goal
 

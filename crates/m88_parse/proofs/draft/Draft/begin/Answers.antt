@@ -10,9 +10,9 @@ returns-in_ok-push-in-Some-clause-after c = λ rows.
     let next : Module = record { name = c.args.name; line = c.args.line; statements = c.new.result.items } in
     ap (λ (o : Option Module). modules_with c.push.new.self.items o rows) c.replace.ensures.after
     ∙ head_follows closed c.push.new.self.items c.in-Some.open next c.args.self.now c.new.ensures.items
-      (c.in_ok-push-in-Some.ensures.items ∙ ap (λ (m : Module). closed ++ m ∷ []) c.close.ensures)
-      (ap (λ (o : Option Module). let d : Drafted = record { closed = closed; current = o } in d) (sym c.in-Some.is ∙ c.replace.ensures.value) ∙ c.self.view_is)
-      rows
+    (c.in_ok-push-in-Some.ensures.items ∙ ap (λ (m : Module). closed ++ m ∷ []) c.close.ensures)
+    (ap (λ (o : Option Module). let d : Drafted = record { closed = closed; current = o } in d) (sym c.in-Some.is ∙ c.replace.ensures.value) ∙ c.self.view_is)
+    rows
 
 pub returns-in-None-clause-after : goal.returns-in-None-clause-after
 returns-in-None-clause-after c = λ rows.
@@ -20,5 +20,5 @@ returns-in-None-clause-after c = λ rows.
     let next : Module = record { name = c.args.name; line = c.args.line; statements = c.new.result.items } in
     ap (λ (o : Option Module). modules_with closed o rows) c.replace.ensures.after
     ∙ first_head_follows closed next c.args.self.now c.new.ensures.items
-      (ap (λ (o : Option Module). let d : Drafted = record { closed = closed; current = o } in d) (sym c.in-None.is ∙ c.replace.ensures.value) ∙ c.self.view_is)
-      rows
+    (ap (λ (o : Option Module). let d : Drafted = record { closed = closed; current = o } in d) (sym c.in-None.is ∙ c.replace.ensures.value) ∙ c.self.view_is)
+    rows
