@@ -4,6 +4,7 @@ use Rattle.std.proofs.lemmas.Bool.Decides.{nat_tests}
 use Rattle.m88_base.specs.declared.reg.Reg.{Reg}
 use Rattle.m88_base.specs.Reg.{number_of, reg_of}
 use Rattle.m88_base.proofs.Same.{same_reg}
+use Rattle.m88_isa.proofs.Words.{bit_most, imm_most, lda_most, low16_below, mem_most, reg_most, width_below}
 use Rattle.m88_isa.specs.Instr.{IsValid, IsWidth, FitsWords}
 use Rattle.m88_isa.specs.Word.{word_of, HasOneReading, mem_byte, imm_byte, reg_code, lda_code, bit_code, low16, low26}
 use Rattle.m88_isa.specs.declared.instr.ImmOp.{ImmOp}
@@ -48,7 +49,7 @@ split h d s l w hh hl e =
 
 -- a word of the register forms
 by_registers : (d s : Reg) (c : ℕ) (s2 : Reg) (w : ℕ) → c < 256
-    → w ≡ 0xF4000000 + number_of d * 2 ^ 21 + number_of s * 2 ^ 16 + (c * 256 + number_of s2)
+    → w ≡ 0xF4 * 2 ^ 24 + number_of d * 2 ^ 21 + number_of s * 2 ^ 16 + (c * 256 + number_of s2)
     → candidate_of w ≡ register_form d s c s2
 unfolding candidate_at
 by_registers d s c s2 w hc e =
@@ -99,72 +100,59 @@ unfolding bit_op_at
 bit_op_of_code Clr = refl
 bit_op_of_code _ = refl
 
--- what the codes have in common
+-- the codes are multiples of what stands below them
 mem_even : (op : MemOp) → mem_byte op ≡ 4 * (mem_byte op / 4)
 mem_even op = grind arith
-
-mem_bound : (op : MemOp) → mem_byte op ≤ 0x2C
-mem_bound op = grind arith
 
 imm_even : (op : ImmOp) → imm_byte op ≡ 4 * (imm_byte op / 4)
 imm_even op = grind arith
 
-imm_bound : (op : ImmOp) → imm_byte op ≤ 0x7C
-imm_bound op = grind arith
-
 reg_even : (op : RegOp) → reg_code op ≡ 256 * (reg_code op / 256)
 reg_even op = grind arith
-
-reg_bound : (op : RegOp) → reg_code op ≤ 0x7C00
-reg_bound op = grind arith
 
 lda_even : (size : LdaSize) → lda_code size ≡ 256 * (lda_code size / 256)
 lda_even size = grind arith
 
-lda_bound : (size : LdaSize) → lda_code size ≤ 0x3A00
-lda_bound size = grind arith
-
 bit_even : (op : BitOp) → bit_code op ≡ 2 ^ 11 * (bit_code op / 2 ^ 11)
 bit_even op = grind arith
 
-bit_bound : (op : BitOp) → bit_code op ≤ 0xA800
-bit_bound op = grind arith
-
-law_mem_imm : (op : MemOp) (d s : Reg) (imm : ℕ) → imm < 2 ^ 16 → candidate_of (word_of (instr.MemImm op d s imm)) ≡ instr.MemImm op d s imm
+law_mem_imm : (op : MemOp) (d s : Reg) (imm : ℕ) → imm < 2 ^ 16
+    → candidate_of (word_of (instr.MemImm op d s imm)) ≡ instr.MemImm op d s imm
 law_mem_imm op d s imm v =
     let even = mem_even op in
-    let bound = mem_bound op in
+    let bound = mem_most op in
     split (mem_byte op / 4) d s imm _ (omega arith) v (omega arith) ∙ mem_at op d s imm _
 
-law_imm : (op : ImmOp) (d s : Reg) (imm : ℕ) → imm < 2 ^ 16 → candidate_of (word_of (instr.Imm op d s imm)) ≡ instr.Imm op d s imm
+law_imm : (op : ImmOp) (d s : Reg) (imm : ℕ) → imm < 2 ^ 16
+    → candidate_of (word_of (instr.Imm op d s imm)) ≡ instr.Imm op d s imm
 law_imm op d s imm v =
     let even = imm_even op in
-    let bound = imm_bound op in
+    let bound = imm_most op in
     split (imm_byte op / 4) d s imm _ (omega arith) v (omega arith) ∙ imm_at op d s imm _
 
 law_regs : (op : RegOp) (d s s2 : Reg) → candidate_of (word_of (instr.Regs op d s s2)) ≡ instr.Regs op d s s2
 law_regs op d s s2 =
     let even = reg_even op in
-    let bound = reg_bound op in
+    let bound = reg_most op in
     by_registers d s (reg_code op / 256) s2 _ (omega arith) (omega arith) ∙ reg_at op d s s2
 
 law_mem_reg : (op : MemOp) (d s s2 : Reg) (scaled usr : Bool)
     → candidate_of (word_of (instr.MemReg op d s s2 scaled usr)) ≡ instr.MemReg op d s s2 scaled usr
 law_mem_reg op d s s2 scaled usr =
-    let bound = mem_bound op in
+    let bound = mem_most op in
     let code : ℕ = mem_byte op + (if scaled then 2 else 0) + (if usr then 1 else 0) in
     by_registers d s code s2 _ (grind arith) (grind arith) ∙ mem_reg_at scaled usr op d s s2
 
 law_lda : (size : LdaSize) (d s s2 : Reg) → candidate_of (word_of (instr.Lda size d s s2)) ≡ instr.Lda size d s s2
 law_lda size d s s2 =
     let even = lda_even size in
-    let bound = lda_bound size in
+    let bound = lda_most size in
     by_registers d s (lda_code size / 256) s2 _ (omega arith) (omega arith) ∙ lda_at size d s s2
 
 law_bit_reg : (op : BitOp) (d s s2 : Reg) → candidate_of (word_of (instr.BitReg op d s s2)) ≡ instr.BitReg op d s s2
 law_bit_reg op d s s2 =
     let even = bit_even op in
-    let bound = bit_bound op in
+    let bound = bit_most op in
     by_registers d s (bit_code op / 256) s2 _ (omega arith) (omega arith) ∙ bit_reg_at op d s s2
 
 law_find : (ones : Bool) (d s2 : Reg) → candidate_of (word_of (instr.Find ones d s2)) ≡ instr.Find ones d s2
@@ -172,7 +160,8 @@ unfolding register_form
 law_find true d s2 = by_registers d (reg_of 0) 0xE8 s2 _ (omega arith) (omega arith)
 law_find false d s2 = by_registers d (reg_of 0) 0xEC s2 _ (omega arith) (omega arith)
 
-law_jump : (link delayed : Bool) (s2 : Reg) → candidate_of (word_of (instr.Jump link delayed s2)) ≡ instr.Jump link delayed s2
+law_jump : (link delayed : Bool) (s2 : Reg)
+    → candidate_of (word_of (instr.Jump link delayed s2)) ≡ instr.Jump link delayed s2
 unfolding register_form
 law_jump true true s2 = by_registers (reg_of 0) (reg_of 0) 0xCC s2 _ (omega arith) (omega arith)
 law_jump true false s2 = by_registers (reg_of 0) (reg_of 0) 0xC8 s2 _ (omega arith) (omega arith)
@@ -188,22 +177,18 @@ unfolding register_form
 law_rte = by_registers (reg_of 0) (reg_of 0) 0xFC (reg_of 0) _ (omega arith) (omega arith)
 
 -- a word of the bit fields with a literal, or of a trap
-by_literal : (d s : Reg) (l w : ℕ) → l < 2 ^ 16 → w ≡ 0xF0000000 + number_of d * 2 ^ 21 + number_of s * 2 ^ 16 + l
+by_literal : (d s : Reg) (l w : ℕ) → l < 2 ^ 16 → w ≡ 0xF0 * 2 ^ 24 + number_of d * 2 ^ 21 + number_of s * 2 ^ 16 + l
     → candidate_of w ≡ literal_form d s l
 unfolding candidate_at
 by_literal d s l w hl e = split 60 d s l w (omega arith) hl (omega arith)
-
-width_bound : (op : BitOp) (width : ℕ) → IsWidth op width → width < 32
-width_bound Rot width h = omega arith
-width_bound _ width h = h
 
 law_bit_lit : (op : BitOp) (d s : Reg) (width offset : ℕ) → IsWidth op width → offset < 32
     → candidate_of (word_of (instr.BitLit op d s width offset)) ≡ instr.BitLit op d s width offset
 unfolding literal_form
 law_bit_lit op d s width offset v u =
     let even = bit_even op in
-    let bound = bit_bound op in
-    let below = width_bound op width v in
+    let bound = bit_most op in
+    let below = width_below op width v in
     let l : ℕ = bit_code op + width * 2 ^ 5 + offset in
     let code : l / 2 ^ 11 ≡ bit_code op / 2 ^ 11 = omega arith in
     let ew : l / 2 ^ 5 % 32 ≡ width = omega arith in
@@ -242,11 +227,8 @@ words16_low16 : (z : ℤ) → FitsWords 15 z → words16 (low16 z) ≡ z
 words16_low16 (pos n) v = grind (arith, nat_tests)
 words16_low16 (negsuc n) v = grind (arith, nat_tests)
 
-low16_bound : (z : ℤ) → FitsWords 15 z → low16 z < 2 ^ 16
-low16_bound (pos n) v = omega arith
-low16_bound (negsuc n) v = omega arith
-
-law_branch : (link delayed : Bool) (z : ℤ) → FitsWords 25 z → candidate_of (word_of (instr.Branch link delayed z)) ≡ instr.Branch link delayed z
+law_branch : (link delayed : Bool) (z : ℤ) → FitsWords 25 z
+    → candidate_of (word_of (instr.Branch link delayed z)) ≡ instr.Branch link delayed z
 unfolding candidate_at
 law_branch true true z v =
     by_rest 51 (low26 z) _ (omega arith) (omega arith) (omega arith) ∙ ap (instr.Branch true true) (words26_low26 z v)
@@ -269,16 +251,16 @@ law_branch_bit : (set delayed : Bool) (bit : ℕ) (s : Reg) (z : ℤ) → bit < 
     → candidate_of (word_of (instr.BranchBit set delayed bit s z)) ≡ instr.BranchBit set delayed bit s z
 unfolding candidate_at
 law_branch_bit true true bit s z v u =
-    let bound = low16_bound z u in
+    let bound = low16_below z u in
     split 55 (reg_of bit) s (low16 z) _ (omega arith) (omega arith) (omega arith) ∙ branch_bit_is true true bit s z v u
 law_branch_bit true false bit s z v u =
-    let bound = low16_bound z u in
+    let bound = low16_below z u in
     split 54 (reg_of bit) s (low16 z) _ (omega arith) (omega arith) (omega arith) ∙ branch_bit_is true false bit s z v u
 law_branch_bit false true bit s z v u =
-    let bound = low16_bound z u in
+    let bound = low16_below z u in
     split 53 (reg_of bit) s (low16 z) _ (omega arith) (omega arith) (omega arith) ∙ branch_bit_is false true bit s z v u
 law_branch_bit false false bit s z v u =
-    let bound = low16_bound z u in
+    let bound = low16_below z u in
     split 52 (reg_of bit) s (low16 z) _ (omega arith) (omega arith) (omega arith) ∙ branch_bit_is false false bit s z v u
 
 branch_cond_is : (delayed : Bool) (mask : ℕ) (s : Reg) (z : ℤ) → mask < 16 → FitsWords 15 z
@@ -292,42 +274,47 @@ law_branch_cond : (delayed : Bool) (mask : ℕ) (s : Reg) (z : ℤ) → mask < 1
     → candidate_of (word_of (instr.BranchCond delayed mask s z)) ≡ instr.BranchCond delayed mask s z
 unfolding candidate_at
 law_branch_cond true mask s z v u =
-    let bound = low16_bound z u in
+    let bound = low16_below z u in
     split 59 (reg_of mask) s (low16 z) _ (omega arith) (omega arith) (omega arith) ∙ branch_cond_is true mask s z v u
 law_branch_cond false mask s z v u =
-    let bound = low16_bound z u in
+    let bound = low16_below z u in
     split 58 (reg_of mask) s (low16 z) _ (omega arith) (omega arith) (omega arith) ∙ branch_cond_is false mask s z v u
 
-law_bound_imm : (s : Reg) (imm : ℕ) → imm < 2 ^ 16 → candidate_of (word_of (instr.BoundImm s imm)) ≡ instr.BoundImm s imm
+law_bound_imm : (s : Reg) (imm : ℕ) → imm < 2 ^ 16
+    → candidate_of (word_of (instr.BoundImm s imm)) ≡ instr.BoundImm s imm
 unfolding candidate_at
 law_bound_imm s imm v = split 62 (reg_of 0) s imm _ (omega arith) v (omega arith)
 
 -- a word of the control forms
-by_control : (d s : Reg) (l w : ℕ) → l < 2 ^ 16 → w ≡ 0x80000000 + number_of d * 2 ^ 21 + number_of s * 2 ^ 16 + l
+by_control : (d s : Reg) (l w : ℕ) → l < 2 ^ 16 → w ≡ 0x80 * 2 ^ 24 + number_of d * 2 ^ 21 + number_of s * 2 ^ 16 + l
     → candidate_of w ≡ control_form d s l
 unfolding candidate_at
 by_control d s l w hl e = split 32 d s l w (omega arith) hl (omega arith)
 
-law_ldcr : (d : Reg) (cr : ℕ) (float : Bool) → cr < 64 → candidate_of (word_of (instr.Ldcr d cr float)) ≡ instr.Ldcr d cr float
+law_ldcr : (d : Reg) (cr : ℕ) (float : Bool) → cr < 64
+    → candidate_of (word_of (instr.Ldcr d cr float)) ≡ instr.Ldcr d cr float
 unfolding control_form
 law_ldcr d cr true v = by_control d (reg_of 0) (0x4800 + cr * 2 ^ 5) _ (omega arith) (omega arith) ∙ grind (arith, nat_tests)
 law_ldcr d cr false v = by_control d (reg_of 0) (0x4000 + cr * 2 ^ 5) _ (omega arith) (omega arith) ∙ grind (arith, nat_tests)
 
-law_stcr : (s : Reg) (cr : ℕ) (float : Bool) → cr < 64 → candidate_of (word_of (instr.Stcr s cr float)) ≡ instr.Stcr s cr float
+law_stcr : (s : Reg) (cr : ℕ) (float : Bool) → cr < 64
+    → candidate_of (word_of (instr.Stcr s cr float)) ≡ instr.Stcr s cr float
 unfolding control_form
 law_stcr s cr true v =
     by_control (reg_of 0) s (0x8800 + cr * 2 ^ 5 + number_of s) _ (omega arith) (omega arith) ∙ grind (arith, nat_tests)
 law_stcr s cr false v =
     by_control (reg_of 0) s (0x8000 + cr * 2 ^ 5 + number_of s) _ (omega arith) (omega arith) ∙ grind (arith, nat_tests)
 
-law_xcr : (d s : Reg) (cr : ℕ) (float : Bool) → cr < 64 → candidate_of (word_of (instr.Xcr d s cr float)) ≡ instr.Xcr d s cr float
+law_xcr : (d s : Reg) (cr : ℕ) (float : Bool) → cr < 64
+    → candidate_of (word_of (instr.Xcr d s cr float)) ≡ instr.Xcr d s cr float
 unfolding control_form
 law_xcr d s cr true v =
     by_control d s (0xC800 + cr * 2 ^ 5 + number_of s) _ (omega arith) (omega arith) ∙ grind (arith, nat_tests)
 law_xcr d s cr false v =
     by_control d s (0xC000 + cr * 2 ^ 5 + number_of s) _ (omega arith) (omega arith) ∙ grind (arith, nat_tests)
 
-law_sfu : (unit rest : ℕ) → 1 ≤ unit → unit < 8 → rest < 2 ^ 26 → candidate_of (word_of (instr.Sfu unit rest)) ≡ instr.Sfu unit rest
+law_sfu : (unit rest : ℕ) → 1 ≤ unit → unit < 8 → rest < 2 ^ 26
+    → candidate_of (word_of (instr.Sfu unit rest)) ≡ instr.Sfu unit rest
 unfolding candidate_at
 law_sfu unit rest low high v =
     by_rest (32 + unit) rest _ (omega arith) v (omega arith) ∙ grind (arith, nat_tests)

@@ -7,9 +7,11 @@ ghost use Rattle.m88_isa.specs.declared.instr.Instr.{Instr as Instruction};
 use super::candidate::candidate;
 use super::encoder::encode;
 use m88_isa::{Instr, is_valid};
+use thiserror::Error;
 
 /// The word is outside the word table.
-#[derive(Clone, Copy, PartialEq, Eq, Debug)]
+#[derive(Clone, Copy, PartialEq, Eq, Debug, Error)]
+#[error("no instruction has this word")]
 pub struct BadWord;
 
 /// The instruction of a word. A word with a bit set in a field that its form leaves unused is no

@@ -19,7 +19,7 @@ fn after_d_of(word: u32) -> Reg {
 }
 
 /// The registers that a word reads; where it names one of them twice, both hold the same.
-fn registers(word: u32, s1: u32, s2: u32, d: u32, after_d: u32) -> [u32; 32] {
+pub(crate) fn registers(word: u32, s1: u32, s2: u32, d: u32, after_d: u32) -> [u32; 32] {
     let mut regs = [0xDEAD_BEEF; 32];
     regs[after_d_of(word).index()] = after_d;
     regs[d_of(word).index()] = d;
@@ -28,12 +28,12 @@ fn registers(word: u32, s1: u32, s2: u32, d: u32, after_d: u32) -> [u32; 32] {
     regs
 }
 
-fn planned(rt: &impl Abort, word: u32, regs: [u32; 32], carry: bool, next: u32) -> Plan {
+pub(crate) fn planned(rt: &impl Abort, word: u32, regs: [u32; 32], carry: bool, next: u32) -> Plan {
     let instr = decode(word).ok().expect(rt, "a word of the table");
     plan(&instr, &regs, carry, PC, next)
 }
 
-fn no_access() -> Access {
+pub(crate) fn no_access() -> Access {
     Access {
         write: false,
         addr: 0,
@@ -47,7 +47,7 @@ fn no_access() -> Access {
 }
 
 /// Changes that go on behind the instruction and access nothing.
-fn changes(reg: Option<(Reg, u32)>, carry: bool) -> Effect {
+pub(crate) fn changes(reg: Option<(Reg, u32)>, carry: bool) -> Effect {
     Effect {
         reg,
         carry,
@@ -74,7 +74,7 @@ fn enable(place: u32, size: u32) -> u8 {
     }
 }
 
-fn load(place: u32, size: u32, reg: Reg) -> Access {
+pub(crate) fn load(place: u32, size: u32, reg: Reg) -> Access {
     Access {
         addr: place - place % 4,
         en: enable(place, size),
@@ -83,7 +83,7 @@ fn load(place: u32, size: u32, reg: Reg) -> Access {
     }
 }
 
-fn store(place: u32, size: u32, value: u32) -> Access {
+pub(crate) fn store(place: u32, size: u32, value: u32) -> Access {
     Access {
         write: true,
         addr: place - place % 4,
@@ -94,7 +94,7 @@ fn store(place: u32, size: u32, value: u32) -> Access {
 }
 
 /// One access, with the carry set before and afterwards.
-fn one(first: Access) -> Plan {
+pub(crate) fn one(first: Access) -> Plan {
     let accesses = Accesses {
         count: 1,
         first,
@@ -107,7 +107,7 @@ fn one(first: Access) -> Plan {
 }
 
 /// Two accesses, with the carry set before and afterwards.
-fn two(first: Access, second: Access) -> Plan {
+pub(crate) fn two(first: Access, second: Access) -> Plan {
     let accesses = Accesses {
         count: 2,
         first,

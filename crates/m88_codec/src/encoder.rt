@@ -71,7 +71,11 @@ pub fn encode(instr: &Instr) -> u32
             bit,
             s1,
             vector,
-        } => literal(0xD000 + weight_if(set, 0x800) + vector as u32, bit as u32, s1),
+        } => literal(
+            0xD000 + weight_if(set, 0x800) + vector as u32,
+            bit as u32,
+            s1,
+        ),
         Instr::TrapCond { mask, s1, vector } => literal(0xE800 + vector as u32, mask as u32, s1),
         Instr::BoundImm { s1, imm } => immediate(0xF8, R0, s1, imm),
         Instr::Ldcr { d, cr, float } => control(0x4000, float, cr, d, R0),

@@ -13,7 +13,10 @@ mod decoder;
 
 // the word of four bytes
 mod bytes;
-
+#[cfg(test)]
+mod call_tests;
+#[cfg(test)]
+mod corner_tests;
 #[cfg(test)]
 mod effect_tests;
 #[cfg(test)]

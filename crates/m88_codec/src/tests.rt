@@ -489,29 +489,35 @@ fn words_of_no_instruction(rt: HostRuntime) {
         0x8000_0000,
     ];
     let unused_fields = [
-        // bits 7 to 5 of a register form, and D or S1 where it has none
+        // bits 7 to 5 of a register form
         0xF566_0097,
         0xF413_445F,
         0xF400_C424,
+        // D or S1 of a register form that has none
         0xF450_E80E,
         0xF420_C41E,
         0xF402_C406,
         0xF42F_F812,
+        // S2, or S1 and S2, of `rte`
         0xF400_FC08,
-        0xF401_FC04, // bit 10 of a literal, bits 10 and 9 of a trap, D of a bound
+        0xF401_FC04,
+        // bit 10 of a literal, bit 10 of a trap, D of a bound
         0xF027_A505,
         0xF260_D49D,
-        0xF820_0001, // bits of a control form
+        0xF820_0001,
+        // S1 of `ldcr`, bits 4 to 0 and bit 12 of `fldcr`, D of `stcr`
         0x8010_4640,
         0x8120_4BC4,
         0x8000_5A20,
         0x804D_840D,
     ];
     let out_of_range = [
-        // a rotation's width, a mask above 15, and S1 that differs from S2
+        // a rotation's width
         0xF3EF_A891,
+        // a mask above 15
         0xEB1E_D14E,
         0xF210_E81E,
+        // S1 that differs from S2
         0x8004_8DD4,
         0x8013_CEF7,
     ];

@@ -4,4 +4,4 @@ pub mod Plans
 pub mod Sets
 pub mod Spelling
 pub mod TouchedBytes
-pub mod Vectors
+pub mod Words

@@ -7,7 +7,7 @@ use m88_base::Reg;
 
 /// The mnemonics with a 16-bit immediate that work on registers alone ("Instruction Set": logical and
 /// integer arithmetic instructions). `U` is `.u`, the upper half of the register.
-#[derive(Clone, Copy, PartialEq, Eq)]
+#[derive(Clone, Copy, PartialEq, Eq, Debug)]
 pub enum ImmOp {
     And,
     AndU,
@@ -29,7 +29,7 @@ pub enum ImmOp {
 
 /// The mnemonics that read or write data memory ("Instruction Set": load, store and exchange
 /// instructions). `D` is a double word, `H` a half word, `B` a byte, a further `U` reads unsigned.
-#[derive(Clone, Copy, PartialEq, Eq)]
+#[derive(Clone, Copy, PartialEq, Eq, Debug)]
 pub enum MemOp {
     XmemBu,
     Xmem,
@@ -48,7 +48,7 @@ pub enum MemOp {
 /// The mnemonics on three registers ("Instruction Set": logical and integer arithmetic instructions).
 /// `C` of the logic group is `.c`, the complement of the second source; `Co`, `Ci` and `Cio` are the
 /// carry out, in and both.
-#[derive(Clone, Copy, PartialEq, Eq)]
+#[derive(Clone, Copy, PartialEq, Eq, Debug)]
 pub enum RegOp {
     And,
     AndC,
@@ -79,7 +79,7 @@ pub enum RegOp {
 }
 
 /// The scale of a load of an address: `lda.d`, `lda` and `lda.h` ("Instruction Set": load address).
-#[derive(Clone, Copy, PartialEq, Eq)]
+#[derive(Clone, Copy, PartialEq, Eq, Debug)]
 pub enum LdaSize {
     Double,
     Word,
@@ -87,7 +87,7 @@ pub enum LdaSize {
 }
 
 /// The mnemonics on a bit field ("Instruction Set": bit-field instructions).
-#[derive(Clone, Copy, PartialEq, Eq)]
+#[derive(Clone, Copy, PartialEq, Eq, Debug)]
 pub enum BitOp {
     Clr,
     Set,
@@ -100,7 +100,7 @@ pub enum BitOp {
 /// One instruction, a variant for each form of its word ("Instruction Set" of the user's manual).
 /// `d` is the destination (of a store the datum), `s1` and `s2` are the sources; `words` counts
 /// instruction words from the branch itself.
-#[derive(Clone, Copy, PartialEq, Eq)]
+#[derive(Clone, Copy, PartialEq, Eq, Debug)]
 pub enum Instr {
     /// Logic and arithmetic with an immediate.
     Imm {

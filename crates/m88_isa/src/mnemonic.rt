@@ -7,7 +7,7 @@ ghost use Rattle.m88_isa.specs.declared.mnemonic.Mnemonic.{Mnemonic as AnyMnemon
 /// The names of operations in the assembly language, one for each spelling ("Instruction Set": the
 /// assembler syntax of each instruction). One name can stand for several forms, as `or` does for the
 /// immediate and the register form; a word of a special function unit has none.
-#[derive(Clone, Copy, PartialEq, Eq)]
+#[derive(Clone, Copy, PartialEq, Eq, Debug)]
 pub enum Mnemonic {
     // load, store and exchange
     XmemBu,

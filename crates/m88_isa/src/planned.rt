@@ -3,7 +3,7 @@
 use m88_base::Reg;
 
 /// What one instruction does.
-#[derive(Clone, Copy, PartialEq, Eq)]
+#[derive(Clone, Copy, PartialEq, Eq, Debug)]
 pub enum Plan {
     /// It changes registers, carry, memory or the flow of the program as the effect says.
     Go(Effect),
@@ -14,7 +14,7 @@ pub enum Plan {
 }
 
 /// The changes that an instruction makes.
-#[derive(Clone, Copy, PartialEq, Eq)]
+#[derive(Clone, Copy, PartialEq, Eq, Debug)]
 pub struct Effect {
     /// The register that is written, never r0, and its new value. A load writes its register later,
     /// when its access is answered.
@@ -30,7 +30,7 @@ pub struct Effect {
 }
 
 /// Up to two accesses, in order; those past `count` are all zero.
-#[derive(Clone, Copy, PartialEq, Eq)]
+#[derive(Clone, Copy, PartialEq, Eq, Debug)]
 pub struct Accesses {
     pub count: u8,
     pub first: Access,
@@ -38,7 +38,7 @@ pub struct Accesses {
 }
 
 /// One access to a word of data memory, as the data unit's registers describe it.
-#[derive(Clone, Copy, PartialEq, Eq)]
+#[derive(Clone, Copy, PartialEq, Eq, Debug)]
 pub struct Access {
     /// Whether it is a store.
     pub write: bool,
