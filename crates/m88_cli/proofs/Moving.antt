@@ -1,11 +1,15 @@
--- A machine that stands at a moment, and makes a step, stands at the next.
-use Rattle.std.proofs.Common.{◌≡◌, ℕ, ◌+◌, ◌==◌, ◌||◌, Bool, true, false, Option, Some, None, add-one, refl, ap, sym, ◌∙◌, subst}
+-- A runner that stands at a moment, and carries its next turn out, stands at the moment behind it.
+use Rattle.std.proofs.Common.{◌≡◌, ◌≢◌, ℕ, ◌+◌, ◌-◌, ◌*◌, ◌<◌, ◌≤◌, ◌==◌, ◌||◌, Bool, true, false, Option, Some, None, add-one, refl, ap, sym, ◌∙◌, subst, [], ◌∷◌, ◌++◌, arith}
 use Rattle.std.specs.Prelude.{MatchOption, is_some, if◌then◌else◌}
-use Rattle.m88_isa.specs.Machine.{Program, State, Step, ends, on, opening, state, step}
-use Rattle.m88_cli.specs.Machine.{IsAt, Makes, is_over_at, state_in}
-use Rattle.m88_cli.specs.Timeline.{Deed, Moment, idles, passes, deed_of_step, is_over, issue_deed, made}
-use Rattle.m88_cli.specs.declared.machine.Machine.{Machine}
+use Rattle.std.proofs.lemmas.Bool.Decides.{nat_tests}
+use Rattle.m88_isa.specs.Address.{after_bytes}
+use Rattle.m88_isa.specs.Machine.{Program, State, Step, on, opening, state, step, stepped, turn, with_written}
+use Rattle.m88_cli.specs.Runner.{IsAt, Standing, after_turn, is_over_at, left_to_do, state_in, told}
+use Rattle.m88_cli.specs.Timeline.{EventStep, Moment, idles, passes, event_step_of, is_over, issue_step, made}
+use Rattle.m88_cli.specs.declared.next_turn.NextTurn.{NextTurn}
+use Rattle.m88_cli.specs.declared.next_turn.NextTurn.TheVariants as next
 use Rattle.m88_cli.specs.declared.outcome.End.{End}
+use Rattle.m88_cli.specs.declared.outcome.End.TheVariants.{Exit, Vector}
 
 -- what isn't there isn't anything
 not_there : (o : Option End) (P : End → Type 0) → is_some o ≡ false → MatchOption o (Unit {0}) P
@@ -17,43 +21,105 @@ state_behind : (p : Program) (n : ℕ) (bubble : Bool) (s : State) → step p (s
 unfolding state
 state_behind p n bubble s e = rw (add-one, e) refl
 
--- a step, by what it is
-by_step : (p : Program) (m : Moment) (old new : Machine) (st : Step) → step p (state p m.retired) ≡ st → m.ended ≡ false
-    → Makes st (opening p).memory old new → IsAt p m old → IsAt p (made (deed_of_step st) m) new
-by_step p m old new (on bubble s) e lives makes at = record {
-  here = state_behind p m.retired bubble s e ∙ makes.0;
-  retired = makes.2 ∙ ap (λ n. n + 1) at.retired;
-  bubble = makes.1;
-  ended = ap is_some makes.3 ∙ at.ended;
-  stop = not_there new.ended _ (ap is_some makes.3 ∙ at.ended ∙ lives);
+-- the step that a runner's turn makes of a state
+abbrev step_told : NextTurn → State → Step
+step_told n s = stepped (told n s.pc) s
+
+-- by what comes of the instruction
+by_step : (p : Program) (limit : ℕ) (m : Moment) (r : Standing) (n : NextTurn)
+    → step p (state p m.retired) ≡ step_told n (state p m.retired) → m.ended ≡ false → IsAt p limit m r
+    → IsAt p limit (made (event_step_of (step_told n (state p m.retired))) m) (after_turn n r)
+by_step p limit m r (next.Stop vector) e lives at = record {
+  image = at.image;
+  same_limit = at.same_limit;
+  here = at.here;
+  retired = at.retired;
+  bubble = at.bubble;
+  ended = refl;
+  stop = rw e (ap (λ (s : State). Vector vector s.pc) (sym at.here));
 }
-by_step p m old new (ends stop) e lives makes at = record {
-  here = at.here ∙ sym makes.0;
-  retired = makes.2 ∙ at.retired;
-  bubble = makes.1 ∙ at.bubble;
-  ended = ap is_some makes.3;
-  stop = rw (makes.3, e) refl;
+by_step p limit m r next.Exit e lives at = record {
+  image = at.image;
+  same_limit = at.same_limit;
+  here = at.here;
+  retired = at.retired;
+  bubble = at.bubble;
+  ended = refl;
+  stop = rw e (ap (λ (s : State). Exit s.pc) (sym at.here));
+}
+by_step p limit m r (next.PutOut byte) e lives at = record {
+  image = at.image;
+  same_limit = at.same_limit;
+  here = state_behind p m.retired false _ e
+      ∙ ap (λ (s : State). record s { out = s.out ++ byte ∷ []; pc = s.next; next = after_bytes s.next 4 }) at.here;
+  retired = ap (λ k. k + 1) at.retired;
+  bubble = refl;
+  ended = at.ended;
+  stop = not_there r.ended _ (at.ended ∙ lives);
+}
+by_step p limit m r (next.Go effect) e lives at = record {
+  image = at.image;
+  same_limit = at.same_limit;
+  here = state_behind p m.retired effect.bubble _ e
+      ∙ ap (λ (s : State). record s { regs = with_written effect.reg s.regs; carry = effect.carry; pc = effect.after.0; next = effect.after.1 }) at.here;
+  retired = ap (λ k. k + 1) at.retired;
+  bubble = refl;
+  ended = at.ended;
+  stop = not_there r.ended _ (at.ended ∙ lives);
 }
 
 -- neither of two tests holds where not one of them does
-neither : (a b : Bool) → (a || b) ≡ false → a ≡ false
-neither true b e = e
-neither false b e = refl
+neither : (a b : Bool) → (a || b) ≡ false → (a ≡ false) × (b ≡ false)
+neither true b e = absurd cc
+neither false b e = (refl, e)
 
--- the deed of a moment that isn't over and has no bubble
-only_deed : (over bubble : Bool) (c : Deed) → over ≡ false → bubble ≡ false
+-- the step of an issue at a moment that isn't over and has no bubble
+only_step : (over bubble : Bool) (c : EventStep) → over ≡ false → bubble ≡ false
     → (if over then idles else (if bubble then passes else c)) ≡ c
-only_deed true bubble c e f = absurd cc
-only_deed false true c e f = absurd cc
-only_deed false false c e f = refl
+only_step true bubble c e f = absurd cc
+only_step false true c e f = absurd cc
+only_step false false c e f = refl
 
--- a machine that isn't over, and has no bubble, issues
-pub issued : (p : Program) (limit : ℕ) (m : Moment) (old new : Machine) → is_over_at limit old ≡ false → old.bubble ≡ false
-    → Makes (step p (state_in old (opening p).memory)) (opening p).memory old new → IsAt p m old
-    → IsAt p (made (issue_deed p limit m) m) new
-issued p limit m old new goes none makes at =
-    let over : is_over limit m ≡ false = rw (← at.ended, ← at.retired) goes in
+-- a runner that isn't over, and has no bubble, issues
+pub issued : (p : Program) (limit : ℕ) (m : Moment) (r : Standing) (n : NextTurn) → is_over_at r ≡ false → r.bubble ≡ false
+    → turn p r.regs r.carry r.pc r.next ≡ told n r.pc → IsAt p limit m r
+    → IsAt p limit (made (issue_step p limit m) m) (after_turn n r)
+issued p limit m r n goes none says at =
+    let over : is_over limit m ≡ false = rw (← at.ended, ← at.retired, ← at.same_limit) goes in
     let plain : m.bubble ≡ false = sym at.bubble ∙ none in
-    subst (λ c. IsAt p (made c m) new)
-    (sym (only_deed (is_over limit m) m.bubble (deed_of_step (step p (state p m.retired))) over plain))
-    (by_step p m old new (step p (state p m.retired)) refl (neither m.ended (m.retired == limit) over) (rw at.here makes) at)
+    let here : step p (state_in r (opening p).memory) ≡ step_told n (state_in r (opening p).memory) =
+    ap (λ t. stepped t (state_in r (opening p).memory)) says in
+    let is : step p (state p m.retired) ≡ step_told n (state p m.retired) = rw at.here here in
+    subst (λ c. IsAt p limit (made c m) (after_turn n r))
+    (ap event_step_of (sym is) ∙ sym (only_step (is_over limit m) m.bubble (event_step_of (step p (state p m.retired))) over plain))
+    (by_step p limit m r n is (neither m.ended (m.retired == limit) over).0 at)
+
+-- and has less to do then
+no_bit : (t : Bool) → t ≡ false → 1 ≤ (if t then 0 else 1)
+no_bit true e = absurd cc
+no_bit false e = omega arith
+
+bit_most : (t : Bool) → (if t then 1 else 0) ≤ 1
+bit_most true = omega arith
+bit_most false = omega arith
+
+pub less_to_do : (r : Standing) (n : NextTurn) → r.retired ≤ r.limit → is_over_at r ≡ false → left_to_do (after_turn n r) < left_to_do r
+less_to_do r (next.Stop vector) within goes =
+    let k = neither (is_some r.ended) (r.retired == r.limit) goes in omega (arith, no_bit (is_some r.ended) k.0)
+less_to_do r next.Exit within goes =
+    let k = neither (is_some r.ended) (r.retired == r.limit) goes in omega (arith, no_bit (is_some r.ended) k.0)
+less_to_do r (next.PutOut byte) within goes =
+    let k = neither (is_some r.ended) (r.retired == r.limit) goes in
+    let room : r.retired ≢ r.limit = grind (arith, nat_tests) in
+    omega (arith, room)
+less_to_do r (next.Go effect) within goes =
+    let k = neither (is_some r.ended) (r.retired == r.limit) goes in
+    let room : r.retired ≢ r.limit = grind (arith, nat_tests) in
+    omega (arith, room, bit_most effect.bubble)
+
+-- a runner that isn't over may retire one more
+pub room_left : (r : Standing) → r.retired ≤ r.limit → is_over_at r ≡ false → r.retired < r.limit
+room_left r within goes =
+    let k = neither (is_some r.ended) (r.retired == r.limit) goes in
+    let room : r.retired ≢ r.limit = grind (arith, nat_tests) in
+    omega (arith, room)

@@ -7,7 +7,8 @@ use Rattle.std.proofs.lemmas.Bool.Decides.{nat_tests}
 use Rattle.std.proofs.lemmas.Bool.{eqb-true, le-leb, leb-true, lt-ltb, ltb-true}
 use Rattle.std.proofs.lemmas.Fmt.{decimal-digits_value, decimal_digit, decimal_is_IsNumeral, first_decimal}
 use Rattle.std.proofs.lemmas.Str.Parse.{IsNumeralModel, digit_at}
-use Rattle.m88_cli.specs.Command.{IsLimit, most_limit}
+use Rattle.m88_cli.specs.Command.{IsLimit}
+use Rattle.m88_cli.specs.Limits.{most_limit}
 use Rattle.m88_cli.specs.Numbers.{IsHexadecimal, IsNumber}
 use Rattle.m88_cli.specs.Reading.{are_digits, is_hexadecimal, is_needed, number_in}
 

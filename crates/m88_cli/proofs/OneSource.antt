@@ -2,10 +2,10 @@
 use Rattle.std.proofs.Common.{◌≡◌, ℕ, suc, List, [], ◌∷◌, ◌++◌, length, drop, refl, ap, sym, ◌∙◌, subst, arith, inl, inr, get_or}
 use Rattle.std.specs.Prelude.{All}
 use Rattle.m88_isa.specs.declared.instr.Instr.{Instr}
-use Rattle.m88_cli.specs.Answer.{Accepts, IsRefusal, refusal_of}
+use Rattle.m88_cli.specs.Answer.{Accepts, Refusal, Refuses}
 use Rattle.m88_cli.specs.Source.{AreLinesOf, IsFirstOther, IsLine, IsSourceOf, code_line, empty_line, no_line}
-use Rattle.m88_cli.specs.declared.choice.Command.{Command}
-use Rattle.m88_cli.specs.declared.choice.Command.TheVariants.{Run}
+use Rattle.m88_cli.specs.declared.commands.Command.{Command}
+use Rattle.m88_cli.specs.declared.commands.Command.TheVariants.{Run}
 use Rattle.m88_cli.proofs.Texts.{no_empty, one_instruction}
 
 -- lines write one list of instructions
@@ -43,8 +43,12 @@ same_first source m n g h =
     omega (arith, same, g.number, h.number)
 
 -- an input that is refused isn't accepted, and has one refusal
-pub refused_not_accepted : (command : Command) (input text : List ℕ) → IsRefusal command input text → ¬ Accepts command input
-refused_not_accepted (Run limit) input text refused = λ accepted. not_written input refused.0 accepted.0 refused.1 accepted.1
+pub refused_not_accepted : (command : Command) (input : List ℕ) (r : Refusal) → Refuses command input r → ¬ Accepts command input
+refused_not_accepted (Run limit) input r refused = λ accepted. not_written input r.line accepted.0 refused.0 accepted.1
 
-pub one_refusal : (command : Command) (input text other : List ℕ) → IsRefusal command input text → IsRefusal command input other → text ≡ other
-one_refusal (Run limit) input text other a b = a.2 ∙ ap refusal_of (same_first input a.0 b.0 a.1 b.1) ∙ sym b.2
+pub one_refusal : (command : Command) (input : List ℕ) (r s : Refusal) → Refuses command input r → Refuses command input s → r ≡ s
+one_refusal (Run limit) input r s a b = λ i. record {
+  line = same_first input r.line s.line a.0 b.0 i;
+  column = (a.1 ∙ sym b.1) i;
+  reason = (a.2 ∙ sym b.2) i;
+}

@@ -1,34 +1,41 @@
--- The moments of a run, one after the other, and the machine that stands at each of them.
+-- The moments of a run, one after the other, and the runner that stands at each of them.
 use Rattle.std.proofs.Common.{◌≡◌, ℕ, zero, suc, ◌+◌, ◌*◌, ◌%◌, ◌≤◌, ◌<◌, ◌==◌, ◌≢◌, Bool, true, false, Option, Some, None, add-one, refl, ap, sym, ◌∙◌, arith}
 use Rattle.std.specs.Prelude.{MatchOption, if◌then◌else◌, is_some, unwrap_or}
 use Rattle.std.proofs.lemmas.Bool.Decides.{nat_tests}
 use Rattle.m88_isa.specs.Machine.{Program, State, state, step}
-use Rattle.m88_cli.specs.Machine.{IsAt, IsNearer, is_over_at, left_to_do, summary_in}
-use Rattle.m88_cli.specs.Timeline.{Deed, IsRunSummary, Moment, deed_at, counted_event, end_of_step, finishes, idles, is_over, letter_at, made, moment, opening_moment, passes, retires, summary_at}
+use Rattle.m88_cli.specs.Runner.{IsAt, IsNearer, Standing, is_over_at, left_to_do, summary_in}
+use Rattle.m88_cli.specs.Timeline.{EventStep, IsRunSummary, Moment, event_step_at, counted_event, end_of_step, finishes, idles, is_over, letter_at, made, moment, opening_moment, passes, retires, summary_at}
 use Rattle.m88_cli.specs.declared.letter.Letter.TheVariants.{Issue, Answer}
-use Rattle.m88_cli.specs.declared.machine.Machine.{Machine}
 use Rattle.m88_cli.specs.declared.outcome.End.{End}
 use Rattle.m88_cli.specs.declared.outcome.End.TheVariants.{Limit}
 
 -- before the first event
-pub at_start : (p : Program) (limit : ℕ) (machine : Machine) → IsAt p opening_moment machine → IsAt p (moment p limit 0) machine
+pub at_start : (p : Program) (limit : ℕ) (r : Standing) → IsAt p limit opening_moment r → IsAt p limit (moment p limit 0) r
 unfolding moment
-at_start p limit machine at = at
+at_start p limit r at = at
 
--- to count an event moves no machine
-counted : (p : Program) (m : Moment) (machine : Machine) → IsAt p m machine → IsAt p (counted_event m) machine
-counted p m machine at = record { here = at.here; retired = at.retired; bubble = at.bubble; ended = at.ended; stop = at.stop }
+-- to count an event moves no runner
+counted : (p : Program) (limit : ℕ) (m : Moment) (r : Standing) → IsAt p limit m r → IsAt p limit (counted_event m) r
+counted p limit m r at = record {
+  image = at.image;
+  same_limit = at.same_limit;
+  here = at.here;
+  retired = at.retired;
+  bubble = at.bubble;
+  ended = at.ended;
+  stop = at.stop;
+}
 
 -- behind one more event
-pub at_next : (p : Program) (limit n : ℕ) (machine : Machine)
-    → IsAt p (made (deed_at p limit (letter_at n) (moment p limit n)) (moment p limit n)) machine → IsAt p (moment p limit (n + 1)) machine
+pub at_next : (p : Program) (limit n : ℕ) (r : Standing)
+    → IsAt p limit (made (event_step_at p limit (letter_at n) (moment p limit n)) (moment p limit n)) r → IsAt p limit (moment p limit (n + 1)) r
 unfolding moment
-at_next p limit n machine at = rw add-one (counted p _ machine at)
+at_next p limit n r at = rw add-one (counted p limit _ r at)
 
--- a machine at a moment is over where the moment is
-pub over_at : (p : Program) (limit : ℕ) (m : Moment) (machine : Machine) (t : Bool) → IsAt p m machine → is_over_at limit machine ≡ t
+-- a runner at a moment is over where the moment is
+pub over_at : (p : Program) (limit : ℕ) (m : Moment) (r : Standing) (t : Bool) → IsAt p limit m r → is_over_at r ≡ t
     → is_over limit m ≡ t
-over_at p limit m machine t at e = rw (← at.ended, ← at.retired) e
+over_at p limit m r t at e = rw (← at.ended, ← at.retired, ← at.same_limit) e
 
 -- what is left to do at most
 bit_most : (t : Bool) → (if t then 1 else 0) ≤ 1
@@ -39,24 +46,24 @@ no_bit_most : (t : Bool) → (if t then 0 else 1) ≤ 1
 no_bit_most true = omega arith
 no_bit_most false = omega arith
 
-pub left_most : (limit : ℕ) (m : Machine) → left_to_do limit m ≤ 2 * limit + 2
-left_most limit m = omega (arith, bit_most m.bubble, no_bit_most (is_some m.ended))
+pub left_most : (r : Standing) → left_to_do r ≤ 2 * r.limit + 2
+left_most r = omega (arith, bit_most r.bubble, no_bit_most (is_some r.ended))
 
 -- each event leaves less, an answer counting less than an issue
-by_turn : (t : Bool) (limit n : ℕ) (old new : Machine) → (n % 2 == 0) ≡ t → IsNearer limit (if t then Answer else Issue) old new
-    → 1 + 2 * left_to_do limit new + (n + 1 + 1) % 2 ≤ 2 * left_to_do limit old + (n + 1) % 2
-by_turn true limit n old new e nearer =
+by_turn : (t : Bool) (n : ℕ) (old new : Standing) → (n % 2 == 0) ≡ t → IsNearer (if t then Answer else Issue) old new
+    → 1 + 2 * left_to_do new + (n + 1 + 1) % 2 ≤ 2 * left_to_do old + (n + 1) % 2
+by_turn true n old new e nearer =
     let even : n % 2 ≡ 0 = grind (arith, nat_tests) in
-    let same : left_to_do limit new ≡ left_to_do limit old = nearer in
+    let same : left_to_do new ≡ left_to_do old = nearer in
     omega (arith, same, even)
-by_turn false limit n old new e nearer =
+by_turn false n old new e nearer =
     let odd : n % 2 ≢ 0 = grind (arith, nat_tests) in
-    let less : left_to_do limit new < left_to_do limit old = nearer in
+    let less : left_to_do new < left_to_do old = nearer in
     omega (arith, less, odd)
 
-pub nearer_by_one : (limit n : ℕ) (old new : Machine) → IsNearer limit (letter_at n) old new
-    → 1 + 2 * left_to_do limit new + (n + 1 + 1) % 2 ≤ 2 * left_to_do limit old + (n + 1) % 2
-nearer_by_one limit n old new nearer = by_turn (n % 2 == 0) limit n old new refl nearer
+pub nearer_by_one : (n : ℕ) (old new : Standing) → IsNearer (letter_at n) old new
+    → 1 + 2 * left_to_do new + (n + 1 + 1) % 2 ≤ 2 * left_to_do old + (n + 1) % 2
+nearer_by_one n old new nearer = by_turn (n % 2 == 0) n old new refl nearer
 
 -- what an event makes of a moment leaves its counts
 pub record SameCounts (m n : Moment) : Type 0 where
@@ -64,7 +71,7 @@ pub record SameCounts (m n : Moment) : Type 0 where
   pub answers : n.answers ≡ m.answers
   pub faults : n.faults ≡ m.faults
 
-made_counts : (c : Deed) (m : Moment) → SameCounts m (made c m)
+made_counts : (c : EventStep) (m : Moment) → SameCounts m (made c m)
 made_counts idles m = record { events = refl; answers = refl; faults = refl }
 made_counts passes m = record { events = refl; answers = refl; faults = refl }
 made_counts finishes m = record { events = refl; answers = refl; faults = refl }
@@ -81,30 +88,30 @@ unfolding moment
 counts p limit zero = record { events = refl; answers = refl; faults = refl }
 counts p limit (suc n) =
     let before = counts p limit n in
-    let same = made_counts (deed_at p limit (letter_at n) (moment p limit n)) (moment p limit n) in
+    let same = made_counts (event_step_at p limit (letter_at n) (moment p limit n)) (moment p limit n) in
     record {
       events = ap (λ k. k + 1) (same.events ∙ before.events) ∙ add-one n;
       answers = same.answers ∙ before.answers;
       faults = same.faults ∙ before.faults;
     }
 
--- how a machine ended that stands at a moment
+-- how a runner ended that stands at a moment
 end_at : (o : Option End) (t : Bool) (e : End) → is_some o ≡ t → MatchOption o (Unit {0}) (λ x. x ≡ e) → unwrap_or o Limit ≡ (if t then e else Limit)
 end_at None true e h stop = absurd cc
 end_at None false e h stop = refl
 end_at (Some x) true e h stop = stop
 end_at (Some x) false e h stop = absurd cc
 
--- a machine that stands at the moment behind some events came to what the run comes to there
-came_to : (p : Program) (limit n : ℕ) (machine : Machine) → IsAt p (moment p limit n) machine
-    → summary_in machine n ≡ summary_at p (moment p limit n)
-came_to p limit n machine at =
+-- a runner that stands at the moment behind some events came to what the run comes to there
+came_to : (p : Program) (limit n : ℕ) (r : Standing) → IsAt p limit (moment p limit n) r
+    → summary_in r n ≡ summary_at p (moment p limit n)
+came_to p limit n r at =
     let there = counts p limit n in
-    let end : unwrap_or machine.ended Limit ≡ (if (moment p limit n).ended then end_of_step (step p (state p (moment p limit n).retired)) else Limit) =
-    end_at machine.ended (moment p limit n).ended _ at.ended at.stop in
-    let regs : machine.regs ≡ (state p (moment p limit n).retired).regs = ap (λ (s : State). s.regs) (sym at.here) in
-    let carry : machine.carry ≡ (state p (moment p limit n).retired).carry = ap (λ (s : State). s.carry) (sym at.here) in
-    let out : machine.out.items ≡ (state p (moment p limit n).retired).out = ap (λ (s : State). s.out) (sym at.here) in
+    let end : unwrap_or r.ended Limit ≡ (if (moment p limit n).ended then end_of_step (step p (state p (moment p limit n).retired)) else Limit) =
+    end_at r.ended (moment p limit n).ended _ at.ended at.stop in
+    let regs : r.regs ≡ (state p (moment p limit n).retired).regs = ap (λ (s : State). s.regs) (sym at.here) in
+    let carry : r.carry ≡ (state p (moment p limit n).retired).carry = ap (λ (s : State). s.carry) (sym at.here) in
+    let out : r.out ≡ (state p (moment p limit n).retired).out = ap (λ (s : State). s.out) (sym at.here) in
     λ i. record {
       end = end i;
       retired = at.retired i;
@@ -116,11 +123,11 @@ came_to p limit n machine at =
       faults = sym there.faults i;
     }
 
--- the run is over at the first moment at which its machine is
-pub ran : (p : Program) (limit n : ℕ) (machine : Machine) → IsAt p (moment p limit n) machine → is_over_at limit machine ≡ true
-    → ((k : ℕ) → k < n → is_over limit (moment p limit k) ≡ false) → IsRunSummary p limit (summary_in machine n)
-ran p limit n machine at over first = record {
+-- the run is over at the first moment at which its runner is
+pub ran : (p : Program) (limit n : ℕ) (r : Standing) → IsAt p limit (moment p limit n) r → is_over_at r ≡ true
+    → ((k : ℕ) → k < n → is_over limit (moment p limit k) ≡ false) → IsRunSummary p limit (summary_in r n)
+ran p limit n r at over first = record {
   events = n;
-  run = record { over = over_at p limit (moment p limit n) machine true at over; first = first };
-  summary = came_to p limit n machine at;
+  run = record { over = over_at p limit (moment p limit n) r true at over; first = first };
+  summary = came_to p limit n r at;
 }

@@ -3,8 +3,8 @@ use Rattle.std.proofs.Common.{◌≡◌, ℕ, ◌≤◌, ◌<◌, List, [], ◌�
 use Rattle.std.specs.Prelude.{string_bytes}
 use Rattle.m88_cli.specs.Command.{IsLimit, Spells}
 use Rattle.m88_cli.specs.Words.{texts}
-use Rattle.m88_cli.specs.declared.choice.Command.{Command}
-use Rattle.m88_cli.specs.declared.choice.Command.TheVariants.{Run}
+use Rattle.m88_cli.specs.declared.commands.Command.{Command}
+use Rattle.m88_cli.specs.declared.commands.Command.TheVariants.{Run}
 
 -- four words and what stands at each place
 pub four_words : (words : List (String Global)) (a b c d : String Global) → 4 ≤ length words → length words < 5

@@ -1,15 +1,18 @@
 -- Where a text stands whole behind what a sink held, it was written whole.
-use Rattle.std.proofs.Common.{◌≡◌, ℕ, ◌<◌, ◌+◌, List, [], Option, Some, None, Bool, true, false, inl, inr, Result, Ok, Err, length, length-append, take, ap, sym, ◌∙◌, subst, arith}
+use Rattle.std.proofs.Common.{◌≡◌, ℕ, ◌<◌, ◌≤◌, ◌+◌, List, [], Option, Some, None, Bool, true, false, inl, inr, Result, Ok, Err, length, length-append, take, ap, sym, ◌∙◌, subst, arith}
 use Rattle.std.specs.Prelude.{MatchBool, OnErr, is_err}
 use Rattle.std.specs.Io.KnownBytes.{Consumes, IsAtEnd}
 use Rattle.std.proofs.lemmas.List.{append-nil, length-take-le}
 use Rattle.m88_base.specs.Outside.{AppendsPart}
-use Rattle.m88_cli.specs.Answer.{Accepts, IsAnswer, IsRefusal, IsText}
+use Rattle.m88_cli.specs.Answer.{IsAccepted, IsAnswered, IsRefused, Refusal, Refuses, refused_line}
 use Rattle.m88_cli.specs.Reply.{Replies}
-use Rattle.m88_cli.specs.declared.job.Reply.{Reply}
-use Rattle.m88_cli.specs.Calls.{IsWhole}
-use Rattle.m88_cli.specs.declared.choice.Command.{Command}
-use Rattle.m88_cli.specs.declared.choice.Command.TheVariants.{Run}
+use Rattle.m88_cli.specs.declared.reply.Reply.{Reply}
+use Rattle.m88_cli.specs.Calls.{Gives, Holds, IsWhole}
+use Rattle.m88_cli.specs.Command.{reads_input}
+use Rattle.m88_cli.specs.Limits.{most_input}
+use Rattle.m88_cli.specs.declared.commands.Command.{Command}
+use Rattle.m88_cli.specs.declared.commands.Command.TheVariants.{Run}
+use Rattle.m88_cli.proofs.OneSource.{one_refusal, refused_not_accepted}
 
 -- what holds of a call that failed
 pub of_err : {T E P : Type 0} (r : Result T E) → is_err r ≡ true → OnErr r P → P
@@ -17,8 +20,8 @@ of_err (Ok x) e h = absurd cc
 of_err (Err x) e h = h
 
 -- a line that refuses has bytes
-pub refusal_some : (command : Command) (input text : List ℕ) → IsRefusal command input text → 0 < length text
-refusal_some (Run limit) input text refused = let some = ap length refused.2 in omega arith
+pub refusal_some : (r : Refusal) → 0 < length (refused_line r)
+refusal_some r = omega arith
 
 -- where nothing was written, no text stands whole
 pub not_whole : (held : Option (List ℕ)) (text : List ℕ) → 0 < length text → IsWhole held held text → ⊥
@@ -49,31 +52,63 @@ pub whole_input : (old new : Option (List ℕ)) (input given : List ℕ) → old
 whole_input old None input given had end consumes = absurd (subst (λ o. Consumes o None given) had consumes)
 whole_input old (Some left) input given had end consumes = same_input old (Some left) input given had (ap Some end) consumes
 
+-- a command was given one input: what its source had
+by_reading : (reads : Bool) (before after : Option (List ℕ)) (input given : List ℕ)
+    → MatchBool reads ((before ≡ Some input) × (length input ≤ most_input)) (input ≡ [])
+    → MatchBool reads (Consumes before after given × IsAtEnd after) (given ≡ []) → given ≡ input
+by_reading true before after input given holds gives = whole_input before after input given holds.0 gives.1 gives.0
+by_reading false before after input given holds gives = gives ∙ sym holds
+
+pub given_once : (command : Command) (before after : Option (List ℕ)) (input given : List ℕ) → Holds command before input
+    → Gives command before after given → given ≡ input
+given_once command before after input given holds gives = by_reading (reads_input command) before after input given holds gives
+
+-- an input that a command refuses is what the source gave it
+pub given_whole : (command : Command) (before after : Option (List ℕ)) (input given : List ℕ) (r : Refusal) → Refuses command input r
+    → before ≡ Some input → after ≡ Some [] → Gives command before after given → given ≡ input
+given_whole (Run limit) before after input given r refused had left gives = same_input before after input given had left gives.0
+
+-- a reply to what a command was given, where command and input are known
+abbrev pub RepliesToGiven : Command → Option (List ℕ) → Option (List ℕ) → Reply → Type 0
+RepliesToGiven command before after reply = (given : List ℕ) × Gives command before after given × Replies command given reply
+
+pub reply_whole : (command other : Command) (before after : Option (List ℕ)) (input : List ℕ) (r : Refusal) (reply : Reply)
+    → other ≡ command → Refuses command input r → before ≡ Some input → after ≡ Some [] → RepliesToGiven other before after reply
+    → Replies command input reply
+reply_whole command other before after input r reply same refused had left ok =
+    let own = subst (λ d. RepliesToGiven d before after reply) same ok in
+    subst (λ i. Replies command i reply) (given_whole command before after input own.0 r refused had left own.1) own.2
+
+pub reply_given : (command other : Command) (before after : Option (List ℕ)) (input : List ℕ) (reply : Reply)
+    → other ≡ command → Holds command before input → RepliesToGiven other before after reply → Replies command input reply
+reply_given command other before after input reply same holds ok =
+    let own = subst (λ d. RepliesToGiven d before after reply) same ok in
+    subst (λ i. Replies command i reply) (given_once command before after input own.0 holds own.1) own.2
+
 -- a reply's text is the answer to the input
 by_accepted : (accepted : Bool) (command : Command) (input text : List ℕ)
-    → MatchBool accepted (Accepts command input × IsText command input text) (¬ Accepts command input × IsRefusal command input text)
-    → IsAnswer command input text
+    → MatchBool accepted (IsAccepted command input text) (IsRefused command input text) → IsAnswered command input text
 by_accepted true command input text h = inl h
 by_accepted false command input text h = inr h
 
-pub answer_of : (command : Command) (input : List ℕ) (r : Reply) → Replies command input r → IsAnswer command input r.text.items
+pub answer_of : (command : Command) (input : List ℕ) (r : Reply) → Replies command input r → IsAnswered command input r.text.items
 answer_of command input r h = by_accepted r.accepted command input r.text.items h
 
--- the reply to an input that isn't accepted is its refusal
-only_refused : (command : Command) (input text : List ℕ) → ¬ Accepts command input → IsAnswer command input text → IsRefusal command input text
-only_refused command input text unaccepted (inl h) = absurd (unaccepted h.0)
-only_refused command input text unaccepted (inr h) = h.1
+-- the reply to an input that is refused is the line of that refusal
+only_refused : (command : Command) (input text : List ℕ) (r : Refusal) → Refuses command input r → IsAnswered command input text
+    → text ≡ refused_line r
+only_refused command input text r refused (inl h) = absurd (refused_not_accepted command input r refused h.accepted)
+only_refused command input text r refused (inr h) = h.line ∙ ap refused_line (one_refusal command input h.refusal r h.refused refused)
 
-pub refusal_of_reply : (command : Command) (input : List ℕ) (r : Reply) → ¬ Accepts command input → Replies command input r
-    → IsRefusal command input r.text.items
-refusal_of_reply command input r unaccepted h = only_refused command input r.text.items unaccepted (answer_of command input r h)
+pub line_of_reply : (command : Command) (input : List ℕ) (r : Refusal) (reply : Reply) → Refuses command input r → Replies command input reply
+    → reply.text.items ≡ refused_line r
+line_of_reply command input r reply refused h = only_refused command input reply.text.items r refused (answer_of command input reply h)
 
--- a reply that accepts an input is to one that is accepted
-pub accepted_reply : (command : Command) (input : List ℕ) (r : Reply) → r.accepted ≡ true → Replies command input r → Accepts command input
-accepted_reply command input r e h =
-    (subst (λ t. MatchBool t (Accepts command input × IsText command input r.text.items) (¬ Accepts command input × IsRefusal command input r.text.items)) e h).0
+-- a reply that accepts an input is to one that is accepted, and a reply that refuses one is to one that isn't
+pub accepted_reply : (command : Command) (input : List ℕ) (r : Reply) → r.accepted ≡ true → Replies command input r
+    → IsAccepted command input r.text.items
+accepted_reply command input r e h = subst (λ t. MatchBool t (IsAccepted command input r.text.items) (IsRefused command input r.text.items)) e h
 
--- a reply that refuses an input is to one that isn't accepted
-pub unaccepted_reply : (command : Command) (input : List ℕ) (r : Reply) → r.accepted ≡ false → Replies command input r → ¬ Accepts command input
-unaccepted_reply command input r e h =
-    (subst (λ t. MatchBool t (Accepts command input × IsText command input r.text.items) (¬ Accepts command input × IsRefusal command input r.text.items)) e h).0
+pub refused_reply : (command : Command) (input : List ℕ) (r : Reply) → r.accepted ≡ false → Replies command input r
+    → IsRefused command input r.text.items
+refused_reply command input r e h = subst (λ t. MatchBool t (IsAccepted command input r.text.items) (IsRefused command input r.text.items)) e h

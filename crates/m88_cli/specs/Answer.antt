@@ -1,5 +1,6 @@
--- What a command writes: the text of its job for an input that is accepted, and else the line that refuses the input.
-use Rattle.std.specs.Prelude.{ℕ, ◌≡◌, ◌⊎◌, List, codes}
+-- What a command does with an input. A command has a case in each of three definitions: which inputs it accepts, what it
+-- writes for one that it accepts, and where and why it refuses any other.
+use Rattle.std.specs.Prelude.{ℕ, ◌≡◌, ◌⊎◌, ◌++◌, List, codes, decimal}
 use Rattle.m88_isa.specs.Machine.{Program}
 use Rattle.m88_isa.specs.declared.instr.Instr.{Instr}
 use Rattle.m88_cli.specs.Program.{program_of}
@@ -7,12 +8,8 @@ use Rattle.m88_base.specs.Refused.{refused_line}
 use Rattle.m88_cli.specs.Report.{Summary, report_of}
 use Rattle.m88_cli.specs.Source.{IsFirstOther, IsSourceOf}
 use Rattle.m88_cli.specs.Timeline.{IsRunSummary}
-use Rattle.m88_cli.specs.declared.choice.Command.{Command}
-use Rattle.m88_cli.specs.declared.choice.Command.TheVariants.{Run}
-
--- a command accepts an input: a run a source that writes instructions
-abbrev pub Accepts : Command → List ℕ → Type 0
-Accepts (Run limit) source = (instructions : List Instr) × IsSourceOf instructions source
+use Rattle.m88_cli.specs.declared.commands.Command.{Command}
+use Rattle.m88_cli.specs.declared.commands.Command.TheVariants.{Run}
 
 -- the text is the report of the sequential machine over a program with a limit, and the run comes to nothing else
 pub record IsReport (p : Program) (limit : ℕ) (text : List ℕ) : Type 0 where
@@ -28,19 +25,40 @@ pub record IsReportOn (source : List ℕ) (limit : ℕ) (text : List ℕ) : Type
   pub only : (others : List Instr) → IsSourceOf others source → others ≡ instructions
   pub report : IsReport (program_of instructions) limit text
 
--- the text is what a command writes for an input that it accepts
-abbrev pub IsText : Command → List ℕ → List ℕ → Type 0
-IsText (Run limit) source text = IsReportOn source limit text
+-- where and why an input is refused: the line and the column, both from 1, and the reason as it is written
+pub record Refusal : Type 0 where
+  pub line : ℕ
+  pub column : ℕ
+  pub reason : List ℕ
 
--- the line that refuses a source because of the line with this number
-abbrev pub refusal_of : ℕ → List ℕ
-refusal_of n = refused_line n 1 (codes "form")
+-- the line that says so
+abbrev pub refused_line : Refusal → List ℕ
+refused_line r = codes "refused " ++ decimal r.line ++ codes ":" ++ decimal r.column ++ codes " " ++ r.reason ++ line_end
 
--- the text is the line that refuses an input: it names the first line of another form
-abbrev pub IsRefusal : Command → List ℕ → List ℕ → Type 0
-IsRefusal (Run limit) source text = (n : ℕ) × IsFirstOther source n × (text ≡ refusal_of n)
+-- a command accepts an input: a run a source that writes instructions
+abbrev pub Accepts : Command → List ℕ → Type 0
+Accepts (Run limit) source = (instructions : List Instr) × IsSourceOf instructions source
 
--- the text is what a command writes for an input
-abbrev pub IsAnswer : Command → List ℕ → List ℕ → Type 0
-IsAnswer command input text = (Accepts command input × IsText command input text)
-    ⊎ (¬ Accepts command input × IsRefusal command input text)
+-- the text is what a command writes for an input that it accepts: a run its report
+abbrev pub IsOutput : Command → List ℕ → List ℕ → Type 0
+IsOutput (Run limit) source text = IsReportOn source limit text
+
+-- a command refuses an input so: a run at the first line of another form
+abbrev pub Refuses : Command → List ℕ → Refusal → Type 0
+Refuses (Run limit) source r = IsFirstOther source r.line × (r.column ≡ 1) × (r.reason ≡ codes "form")
+
+-- the text answers an input that the command accepts
+pub record IsAccepted (command : Command) (input text : List ℕ) : Type 0 where
+  pub accepted : Accepts command input
+  pub output : IsOutput command input text
+
+-- the text answers an input that the command doesn't accept: it is the line of the refusal
+pub record IsRefused (command : Command) (input text : List ℕ) : Type 0 where
+  pub unaccepted : ¬ Accepts command input
+  pub refusal : Refusal
+  pub refused : Refuses command input refusal
+  pub line : text ≡ refused_line refusal
+
+-- the text answers an input
+abbrev pub IsAnswered : Command → List ℕ → List ℕ → Type 0
+IsAnswered command input text = IsAccepted command input text ⊎ IsRefused command input text

@@ -1,20 +1,35 @@
--- What a call of the program did with its source and sink, where they tell their bytes.
-use Rattle.std.specs.Prelude.{ℕ, ◌≡◌, ◌++◌, List, Option, Some, None}
+-- What a call of the program did between its words, its source and its sink. Of a source or sink that doesn't tell its
+-- bytes nothing is said.
+use Rattle.std.specs.Prelude.{ℕ, ◌≡◌, ◌≤◌, ◌++◌, List, [], Option, Some, None, MatchBool, length}
 use Rattle.std.specs.Io.KnownBytes.{Consumes, IsAtEnd}
-use Rattle.m88_cli.specs.Command.{Spells}
-use Rattle.m88_cli.specs.declared.choice.Command.{Command}
+use Rattle.m88_cli.specs.Command.{Spells, reads_input}
+use Rattle.m88_cli.specs.Limits.{most_input}
+use Rattle.m88_cli.specs.declared.commands.Command.{Command}
 
--- the source gave this input and has nothing left
-abbrev pub GivesAll : Option (List ℕ) → Option (List ℕ) → List ℕ → Type 0
-GivesAll old new input = Consumes old new input × IsAtEnd new
+-- the source, with these bytes left before and those after, gave a command its input: all that it had, to its end; a
+-- command that reads none has the empty input
+abbrev pub Gives : Command → Option (List ℕ) → Option (List ℕ) → List ℕ → Type 0
+Gives command before after input = MatchBool (reads_input command) (Consumes before after input × IsAtEnd after) (input ≡ [])
 
--- the words spell a command, the source gave it an input to its end, and P holds of both
-abbrev pub Runs : List (List ℕ) → Option (List ℕ) → Option (List ℕ) → (Command → List ℕ → Type 0) → Type 0
-Runs words old new P =
-    (command : Command) × Spells words command × ((input : List ℕ) × GivesAll old new input × P command input)
+-- a call carried a command out: the words spell it, the source gave it its input, the text is as told for that input,
+-- and the sink was given the text as told
+pub record CarriedOut (words : List (List ℕ)) (before after : Option (List ℕ)) (IsText : Command → List ℕ → List ℕ → Type 0)
+    (SinkIsGiven : List ℕ → Type 0) : Type 0 where
+  pub command : Command
+  pub spelled : Spells words command
+  pub input : List ℕ
+  pub given : Gives command before after input
+  pub text : List ℕ
+  pub is_text : IsText command input text
+  pub written : SinkIsGiven text
+
+-- what a source has left is the input for a command, and not too long; a command that reads none has the empty input
+abbrev pub Holds : Command → Option (List ℕ) → List ℕ → Type 0
+Holds command left input =
+    MatchBool (reads_input command) ((left ≡ Some input) × (length input ≤ most_input)) (input ≡ [])
 
 -- the sink holds what it held and the whole text behind it
 abbrev pub IsWhole : Option (List ℕ) → Option (List ℕ) → List ℕ → Type 0
-IsWhole (Some old) (Some new) text = new ≡ old ++ text
-IsWhole None new text = ⊥
-IsWhole (Some old) None text = ⊥
+IsWhole (Some before) (Some after) text = after ≡ before ++ text
+IsWhole None after text = ⊥
+IsWhole (Some before) None text = ⊥

@@ -1,12 +1,9 @@
--- What the words of a command spell. There is one command yet: `run LIMIT none -`.
-use Rattle.std.specs.Prelude.{ℕ, ◌≡◌, ◌≤◌, List, [], ◌∷◌, codes, length}
+-- What the words of a command spell, and which commands read an input. There is one command yet: `run LIMIT none -`.
+use Rattle.std.specs.Prelude.{ℕ, Bool, true, false, ◌≡◌, ◌≤◌, List, [], ◌∷◌, codes, length}
 use Rattle.std.specs.Str.Parse.{IsNumeral, digits_value}
-use Rattle.m88_cli.specs.declared.choice.Command.{Command}
-use Rattle.m88_cli.specs.declared.choice.Command.TheVariants.{Run}
-
--- the most instructions that a run may be allowed
-abbrev pub most_limit : ℕ
-most_limit = 1000000
+use Rattle.m88_cli.specs.Limits.{most_limit}
+use Rattle.m88_cli.specs.declared.commands.Command.{Command}
+use Rattle.m88_cli.specs.declared.commands.Command.TheVariants.{Run}
 
 -- a text writes a limit in one to seven decimal digits, which may begin with zeros
 pub record IsLimit (text : List ℕ) (n : ℕ) : Type 0 where
@@ -23,3 +20,11 @@ Spells words (Run limit) =
 -- the words spell no command
 abbrev pub SpellNothing : List (List ℕ) → Type 0
 SpellNothing words = (command : Command) → ¬ Spells words command
+
+-- whether a command reads an input
+abbrev pub reads_input : Command → Bool
+reads_input (Run limit) = true
+
+-- the words spell no command that reads an input
+abbrev pub SpellNoReader : List (List ℕ) → Type 0
+SpellNoReader words = (command : Command) → Spells words command → reads_input command ≡ false

@@ -1,16 +1,20 @@
-pub mod Report
-pub mod Outcome
+-- What a reader of the promises must believe.
+pub mod Limits
+pub mod Words
+pub mod Command
+pub mod Calls
+pub mod Answer
+pub mod Status
 pub mod Numbers
 pub mod Source
-pub mod Reading
-pub mod Reply
 pub mod Program
-pub mod Plain
 pub mod Timeline
-pub mod Machine
-pub mod Command
-pub mod Words
-pub mod Status
+pub mod Report
+pub mod Text
+-- Words for the contracts of private functions.
+pub mod Plain
+pub mod Reading
 pub mod Loaded
-pub mod Answer
-pub mod Calls
+pub mod Runner
+pub mod Outcome
+pub mod Reply

@@ -1,5 +1,7 @@
 -- The numbers of the program's answers, and what an answer says of itself.
 use Rattle.std.specs.Prelude.{ℕ, ◌≡◌, ◌⊎◌}
+use Rattle.m88_base.specs.declared.reading.ReadEnd.{ReadEnd}
+use Rattle.m88_base.specs.declared.reading.ReadEnd.TheVariants as end
 use Rattle.m88_cli.specs.declared.status.Status.{Status}
 use Rattle.m88_cli.specs.declared.status.Status.TheVariants.{Done, Usage, SourceFault, SinkFault, Refused, Memory, TooLong}
 
@@ -23,6 +25,22 @@ WritesNothing Refused = ⊥
 WritesNothing Memory = Unit {0}
 WritesNothing TooLong = Unit {0}
 
--- the answer where nothing failed: want of memory, or Done where the input is accepted and Refused where it isn't
+-- the answer where nothing failed: memory ran out, or Done where the input is accepted and Refused where it isn't
 abbrev pub Answers : Type 0 → Status → Type 0
 Answers Accepted status = (status ≡ Memory) ⊎ ((Accepted × (status ≡ Done)) ⊎ (¬ Accepted × (status ≡ Refused)))
+
+-- the answer where an input was not read to its end
+abbrev pub status_of_end : ReadEnd → Status
+status_of_end end.SourceFault = SourceFault
+status_of_end end.TooLong = TooLong
+status_of_end end.Memory = Memory
+
+-- an answer that may come before a command has its text, from the source or for lack of memory
+abbrev pub IsOfReading : Status → Type 0
+IsOfReading Done = ⊥
+IsOfReading Usage = ⊥
+IsOfReading SourceFault = Unit {0}
+IsOfReading SinkFault = ⊥
+IsOfReading Refused = ⊥
+IsOfReading Memory = Unit {0}
+IsOfReading TooLong = Unit {0}

@@ -27,31 +27,31 @@ opening_moment = record { retired = 0; bubble = false; ended = false; events = 0
 abbrev pub is_over : ℕ → Moment → Bool
 is_over limit m = m.ended || m.retired == limit
 
--- what an event does: nothing; it passes a bubble; it ends the program; it retires an instruction, which may leave a
+-- what an event does, the event's step: nothing; it passes a bubble; it ends the program; it retires an instruction, which may leave a
 -- bubble
-pub data Deed : Type 0 where
-  idles : Deed
-  passes : Deed
-  finishes : Deed
-  retires : Bool → Deed
+pub data EventStep : Type 0 where
+  idles : EventStep
+  passes : EventStep
+  finishes : EventStep
+  retires : Bool → EventStep
 
 -- what a step of the history makes an issue do
-abbrev pub deed_of_step : Step → Deed
-deed_of_step (on bubble s) = retires bubble
-deed_of_step (ends stop) = finishes
+abbrev pub event_step_of : Step → EventStep
+event_step_of (on bubble s) = retires bubble
+event_step_of (ends stop) = finishes
 
 -- what the letter `i` does: the first that applies
-abbrev pub issue_deed : Program → ℕ → Moment → Deed
-issue_deed p limit m =
-    if is_over limit m then idles else (if m.bubble then passes else deed_of_step (step p (state p m.retired)))
+abbrev pub issue_step : Program → ℕ → Moment → EventStep
+issue_step p limit m =
+    if is_over limit m then idles else (if m.bubble then passes else event_step_of (step p (state p m.retired)))
 
 -- what a letter does at a moment
-abbrev pub deed_at : Program → ℕ → Letter → Moment → Deed
-deed_at p limit Issue m = issue_deed p limit m
-deed_at p limit Answer m = idles
+abbrev pub event_step_at : Program → ℕ → Letter → Moment → EventStep
+event_step_at p limit Issue m = issue_step p limit m
+event_step_at p limit Answer m = idles
 
 -- the moment that is made of one, but for the count of events
-abbrev pub made : Deed → Moment → Moment
+abbrev pub made : EventStep → Moment → Moment
 made idles m = m
 made passes m = record m { bubble = false }
 made finishes m = record m { ended = true }
@@ -63,7 +63,7 @@ counted_event m = record m { events = m.events + 1 }
 
 -- the moment after an event
 abbrev pub after_event : Program → ℕ → Letter → Moment → Moment
-after_event p limit letter m = counted_event (made (deed_at p limit letter m) m)
+after_event p limit letter m = counted_event (made (event_step_at p limit letter m) m)
 
 -- the letters of a run without a schedule: `r` and `i` in turn, beginning with `r`
 abbrev pub letter_at : ℕ → Letter

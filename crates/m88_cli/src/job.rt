@@ -1,31 +1,25 @@
+//! What a command makes of its whole input.
 ghost use Rattle.std.specs.Prelude.{◌*◌, ◌≤◌, All, IfOk, length};
 ghost use Rattle.m88_cli.specs.Answer.{IsReport};
-ghost use Rattle.m88_cli.specs.Reply.{IsWithinLimit, Replies};
+ghost use Rattle.m88_cli.specs.Limits.{most_input, most_limit};
 ghost use Rattle.m88_cli.specs.Plain.{IsPlain};
 ghost use Rattle.m88_cli.specs.Program.{program_of};
-ghost use Rattle.m88_cli.specs.Command.{most_limit};
+ghost use Rattle.m88_cli.specs.Reply.{IsWithinLimit, Replies};
 
-use crate::choice::Command;
+use crate::commands::Command;
 use crate::load::load;
-use crate::program::MOST_INPUT;
 use crate::refusal::refusal;
+use crate::reply::Reply;
 use crate::report::report;
 use crate::run::run;
 use crate::source::{Reading, read_source};
 use m88_isa::Instr;
 use std::alloc::{AllocError, Global};
 
-/// What a command writes, and whether it accepts its input.
-#[derive(Drop)]
-pub struct Reply {
-    pub accepted: bool,
-    pub text: Vec<u8>,
-}
-
 /// The reply of a command to its whole input.
 pub fn reply_to(alloc: Global, command: Command, input: &[u8]) -> Result<Reply, AllocError>
     requires limit { IsWithinLimit command }
-    requires size { length input.now ≤ MOST_INPUT }
+    requires size { length input.now ≤ most_input }
     ensures { IfOk result (Replies command input.now) }
 {
     match command {
@@ -36,7 +30,7 @@ pub fn reply_to(alloc: Global, command: Command, input: &[u8]) -> Result<Reply, 
 /// The reply of a run to a source.
 fn run_source(alloc: Global, limit: u32, source: &[u8]) -> Result<Reply, AllocError>
     requires limit { limit ≤ most_limit }
-    requires size { length source.now ≤ MOST_INPUT }
+    requires size { length source.now ≤ most_input }
     ensures { IfOk result (Replies (Command.Run limit) source.now) }
 {
     match read_source(alloc, source)? {
@@ -48,7 +42,7 @@ fn run_source(alloc: Global, limit: u32, source: &[u8]) -> Result<Reply, AllocEr
             })
         }
         Reading::Refused { line } => {
-            let text = refusal(alloc, line)?;
+            let text = refusal(alloc, line, 1, b"form")?;
             Ok(Reply {
                 accepted: false,
                 text,
@@ -60,7 +54,7 @@ fn run_source(alloc: Global, limit: u32, source: &[u8]) -> Result<Reply, AllocEr
 /// The report of a run of instructions.
 fn run_report(alloc: Global, instructions: &[Instr], limit: u32) -> Result<Vec<u8>, AllocError>
     requires plain { All IsPlain instructions.now }
-    requires short { 4 * length instructions.now ≤ MOST_INPUT }
+    requires short { 4 * length instructions.now ≤ most_input }
     requires limit { limit ≤ most_limit }
     ensures { IfOk result (λ text. IsReport (program_of instructions.now) limit text.items) }
 {

@@ -2,23 +2,36 @@
 //! the top call that does all of it between a source of bytes and a sink.
 #![tactic(auto)]
 
-mod choice;
-mod fetch;
+// The top call, from its words to its answer.
+mod commands;
+mod grammar;
+mod input;
 mod job;
-mod letter;
-mod load;
-mod machine;
-mod numbers;
-mod outcome;
+mod limits;
 mod program;
+mod reply;
+mod status;
+
+// A source for `run`, its program, and the image of that.
+mod load;
+mod numbers;
+mod source;
+
+// The run.
+mod fetch;
+mod letter;
+mod next_turn;
+mod outcome;
+mod run;
+mod runner;
+
+// What is written.
+mod digits;
 mod refusal;
 mod report;
-mod run;
-mod source;
-mod status;
 #[cfg(test)]
 mod tests;
-mod words;
 
-pub use program::{MOST_INPUT, m88};
+pub use limits::{MOST_INPUT, MOST_LIMIT};
+pub use program::m88;
 pub use status::Status;

@@ -1,9 +1,9 @@
 ghost use Rattle.std.specs.Prelude.{◌≡◌, ◌*◌, ◌≤◌, All, IfOk, flat_map, length};
 ghost use Rattle.m88_cli.specs.Loaded.{HasPlainWords, IsImageOf};
+ghost use Rattle.m88_cli.specs.Limits.{most_input};
 ghost use Rattle.m88_cli.specs.Plain.{IsPlain};
 ghost use Rattle.m88_cli.specs.Program.{program_of, word_bytes_of};
 
-use crate::program::MOST_INPUT;
 use m88_base::{Image, ImageFault};
 use m88_codec::encode;
 use m88_isa::Instr;
@@ -15,7 +15,7 @@ const TEXT_BASE: u32 = 0x1000;
 /// The image of instructions one behind the other.
 pub fn load(alloc: Global, instructions: &[Instr]) -> Result<Image, AllocError>
     requires plain { All IsPlain instructions.now }
-    requires short { 4 * length instructions.now ≤ MOST_INPUT }
+    requires short { 4 * length instructions.now ≤ most_input }
     ensures program { IfOk result (IsImageOf (program_of instructions.now)) }
     ensures plain { IfOk result HasPlainWords }
 {

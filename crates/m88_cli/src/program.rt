@@ -1,80 +1,77 @@
-ghost use Rattle.std.specs.Prelude.{[], ◌≡◌, ◌≢◌, ◌↔◌, ◌+◌, ◌≤◌, ℕ, List, None, Some, length};
+//! The top call.
+ghost use Rattle.std.specs.Prelude.{[], ◌≡◌, ◌≢◌, ◌↔◌, ◌+◌, ◌≤◌, ℕ, List, IfErr, IfOk, Err, Some, false, length};
 ghost use Rattle.std.specs.Io.KnownBytes.{Appends};
 ghost use Rattle.m88_base.specs.Causes.{Rose};
 ghost use Rattle.m88_base.specs.Outside.{AppendsPart, TakesAtMost, TakesExactly};
-ghost use Rattle.m88_cli.specs.Answer.{Accepts, IsAnswer, IsRefusal, IsText};
-ghost use Rattle.m88_cli.specs.Calls.{IsWhole, Runs};
-ghost use Rattle.m88_cli.specs.Command.{SpellNothing, Spells};
-ghost use Rattle.m88_cli.specs.Status.{Answers, WritesNothing};
+ghost use Rattle.m88_cli.specs.Answer.{Accepts, IsAccepted, IsAnswered, IsRefused, Refusal, Refuses, refused_line};
+ghost use Rattle.m88_cli.specs.Calls.{CarriedOut, Gives, Holds, IsWhole};
+ghost use Rattle.m88_cli.specs.Command.{SpellNoReader, SpellNothing, Spells, reads_input};
+ghost use Rattle.m88_cli.specs.Limits.{most_input};
+ghost use Rattle.m88_cli.specs.Reply.{IsWithinLimit, Replies};
+ghost use Rattle.m88_cli.specs.Status.{Answers, IsOfReading, WritesNothing};
 ghost use Rattle.m88_cli.specs.Words.{texts};
-ghost use Rattle.m88_cli.specs.declared.choice.Command.{Command as Choice};
+ghost use Rattle.m88_cli.specs.declared.commands.Command.{Command};
 
+use crate::commands::Command;
+use crate::grammar;
+use crate::input::input_of;
 use crate::job::reply_to;
+use crate::reply::Reply;
 use crate::status::Status;
-use crate::words::command;
-use m88_base::{ReadEnd, Sink, Source, read_all, write_all};
+use m88_base::{Sink, Source, write_all};
 use std::alloc::Global;
 
-/// The most bytes that an input may have.
-pub const MOST_INPUT: usize = 1_048_576;
-
-/// The whole program between its words, a source and a sink: the source is read to its end, the
-/// command that the words spell is carried out, and its text is written to the sink.
+/// The whole program between its words, a source and a sink: the command that the words spell reads
+/// the source to its end, and its text is written to the sink.
 pub fn m88<S: Source, K: Sink>(
     alloc: Global,
     words: &[String],
     source: &mut S,
     sink: &mut K,
 ) -> Status
-    // Words outside the grammar, exactly; then nothing is read.
+    // Words outside the grammar, exactly. Then nothing is read, nor for a command that has no input.
     ensures usage { (result ≡ Status.Usage) ↔ SpellNothing (texts words.now) }
-    ensures unread { SpellNothing (texts words.now) → source.new ≡ source.old }
+    ensures unread { SpellNoReader (texts words.now) → source.new ≡ source.old }
 
     // The source failed, or it has a byte too many.
     ensures source_fault { result ≡ Status.SourceFault → Rose (S.faults source.old) (S.faults source.new) }
-    ensures too_long { result ≡ Status.TooLong → TakesExactly (S.left source.old) (S.left source.new) (MOST_INPUT + 1) }
-    ensures not_too_long { result ≢ Status.TooLong → TakesAtMost (S.left source.old) (S.left source.new) MOST_INPUT }
+    ensures too_long { result ≡ Status.TooLong → TakesExactly (S.left source.old) (S.left source.new) (most_input + 1) }
+    ensures not_too_long { result ≢ Status.TooLong → TakesAtMost (S.left source.old) (S.left source.new) most_input }
 
-    // The whole input was read and is accepted, and the sink was given exactly the command's text:
-    // for a run the report of the sequential machine.
-    ensures done { result ≡ Status.Done → Runs (texts words.now) (S.left source.old) (S.left source.new) (λ command input.
-        Accepts command input × ((text : List ℕ) × IsText command input text
-        × Appends (K.held sink.old) (K.held sink.new) text)) }
+    // A command was carried out, its input is accepted, and the sink was given its text: for a run the
+    // report of the sequential machine.
+    ensures done { result ≡ Status.Done → CarriedOut (texts words.now) (S.left source.old) (S.left source.new)
+        IsAccepted (Appends (K.held sink.old) (K.held sink.new)) }
 
-    // The whole input was read and is not accepted, and the sink was given exactly the line that says so.
-    ensures refused { result ≡ Status.Refused → Runs (texts words.now) (S.left source.old) (S.left source.new) (λ command input.
-        ¬ Accepts command input × ((text : List ℕ) × IsRefusal command input text
-        × Appends (K.held sink.old) (K.held sink.new) text)) }
-    ensures refusal { (command : Choice) (input text : List ℕ) → Spells (texts words.now) command
-        → S.left source.old ≡ Some input → S.left source.new ≡ Some [] → IsRefusal command input text
-        → IsWhole (K.held sink.old) (K.held sink.new) text → result ≡ Status.Refused }
+    // The input is not accepted, and the sink was given the line that says so; an input whose line
+    // stands whole in the sink was refused.
+    ensures refused { result ≡ Status.Refused → CarriedOut (texts words.now) (S.left source.old) (S.left source.new)
+        IsRefused (Appends (K.held sink.old) (K.held sink.new)) }
+    ensures refusal { (command : Command) (input : List ℕ) (refusal : Refusal) → Spells (texts words.now) command
+        → S.left source.old ≡ Some input → S.left source.new ≡ Some [] → Refuses command input refusal
+        → IsWhole (K.held sink.old) (K.held sink.new) (refused_line refusal) → result ≡ Status.Refused }
 
     // The sink failed, and was given a front of the text that lacks at least one byte.
     ensures sink_fault { result ≡ Status.SinkFault → Rose (K.faults sink.old) (K.faults sink.new) }
-    ensures part { result ≡ Status.SinkFault → Runs (texts words.now) (S.left source.old) (S.left source.new) (λ command input.
-        (text : List ℕ) × IsAnswer command input text × AppendsPart (K.held sink.old) (K.held sink.new) text) }
+    ensures part { result ≡ Status.SinkFault → CarriedOut (texts words.now) (S.left source.old) (S.left source.new)
+        IsAnswered (AppendsPart (K.held sink.old) (K.held sink.new)) }
 
     // Where nothing failed, an input that is not too long is answered: Done if it is accepted, Refused if
     // it is not, or Memory.
-    ensures complete { (command : Choice) (input : List ℕ) → Spells (texts words.now) command
-        → S.left source.old ≡ Some input → length input ≤ MOST_INPUT
+    ensures complete { (command : Command) (input : List ℕ) → Spells (texts words.now) command
+        → Holds command (S.left source.old) input
         → ¬ Rose (S.faults source.old) (S.faults source.new) → ¬ Rose (K.faults sink.old) (K.faults sink.new)
         → Answers (Accepts command input) result }
 
     // With every other answer nothing is written.
     ensures unwritten { WritesNothing result → sink.new ≡ sink.old }
 {
-    let Some(command) = command(words) else {
+    let Some(command) = grammar::command(words) else {
         return Status::Usage;
     };
-    let input = match read_all(alloc, source, MOST_INPUT) {
-        Ok(input) => input,
-        Err(ReadEnd::SourceFault) => return Status::SourceFault,
-        Err(ReadEnd::TooLong) => return Status::TooLong,
-        Err(ReadEnd::Memory) => return Status::Memory,
-    };
-    let Ok(reply) = reply_to(alloc, command, input.as_slice()) else {
-        return Status::Memory;
+    let reply = match reply_from(alloc, command, source) {
+        Ok(reply) => reply,
+        Err(status) => return status,
     };
     if write_all(sink, reply.text.as_slice()).is_err() {
         return Status::SinkFault;
@@ -84,4 +81,20 @@ pub fn m88<S: Source, K: Sink>(
     } else {
         Status::Refused
     }
+}
+
+/// The reply of a command to what a source gives it, or why there is none.
+fn reply_from<S: Source>(alloc: Global, command: Command, source: &mut S) -> Result<Reply, Status>
+    requires { IsWithinLimit command }
+    ensures ok { IfOk result (λ reply. (input : List ℕ) × Gives command (S.left source.old) (S.left source.new) input
+        × Replies command input reply) }
+    ensures unread { reads_input command ≡ false → source.new ≡ source.old }
+    ensures status { IfErr result IsOfReading }
+    ensures fault { result ≡ Err Status.SourceFault → Rose (S.faults source.old) (S.faults source.new) }
+    ensures too_long { result ≡ Err Status.TooLong → TakesExactly (S.left source.old) (S.left source.new) (most_input + 1) }
+    ensures not_too_long { result ≢ Err Status.TooLong → TakesAtMost (S.left source.old) (S.left source.new) most_input }
+{
+    let input = input_of(alloc, command, source)?;
+    let reply = reply_to(alloc, command, input.as_slice())?;
+    Ok(reply)
 }

@@ -1,13 +1,14 @@
+//! The run of a program, from its first event to its last.
 ghost use Rattle.std.specs.Prelude.{◌≡◌, ◌≤◌, IfOk};
 ghost use Rattle.m88_isa.specs.Machine.{Program};
-ghost use Rattle.m88_cli.specs.Command.{most_limit};
+ghost use Rattle.m88_cli.specs.Limits.{most_limit};
 ghost use Rattle.m88_cli.specs.Loaded.{HasPlainWords, IsImageOf};
 ghost use Rattle.m88_cli.specs.Outcome.{summary_of};
 ghost use Rattle.m88_cli.specs.Timeline.{IsRunSummary, letter_at};
 
 use crate::letter::Letter;
-use crate::machine::Machine;
 use crate::outcome::Outcome;
+use crate::runner::Runner;
 use m88_base::Image;
 use std::alloc::{AllocError, Global};
 
@@ -17,13 +18,13 @@ pub fn run(alloc: Global, image: &Image, limit: u32) -> Result<Outcome, AllocErr
     requires small { limit ≤ most_limit }
     ensures { IfOk result (λ o. (p : Program) → IsImageOf p image.now → IsRunSummary p limit (summary_of o)) }
 {
-    let mut machine = Machine::new(alloc, image.start());
+    let mut runner = Runner::new(alloc, image, limit);
     let mut events: u64 = 0;
-    while !machine.is_over(limit) {
-        machine.event(letter_at(events), image, limit)?;
+    while !runner.is_over() {
+        runner.event(letter_at(events))?;
         events += 1;
     }
-    Ok(machine.into_outcome(events))
+    Ok(runner.into_outcome(events))
 }
 
 /// The letter of an event, counted from 0: there is no schedule, so `r` and `i` come in turn.

@@ -1,5 +1,9 @@
+//! How the program ended, as a value and as the exit status of its process.
 ghost use Rattle.std.specs.Prelude.{◌≡◌};
 ghost use Rattle.m88_cli.specs.Status.{number_of};
+
+use m88_base::ReadEnd;
+use std::alloc::AllocError;
 
 /// How the program ended.
 #[derive(Clone, Copy, PartialEq, Eq, Debug)]
@@ -14,9 +18,9 @@ pub enum Status {
     SinkFault,
     /// The input is not accepted, and the line that says so was written.
     Refused,
-    /// There was no memory; nothing was written.
+    /// Memory ran out; nothing was written.
     Memory,
-    /// The input has more than 1,048,576 bytes; nothing was written.
+    /// The input has more bytes than an input may have; nothing was written.
     TooLong,
 }
 
@@ -34,5 +38,31 @@ impl Status {
             Status::Memory => 5,
             Status::TooLong => 6,
         }
+    }
+}
+
+impl From<ReadEnd> for Status {
+    ghost use Rattle.std.specs.Prelude.{◌≡◌};
+    ghost use Rattle.m88_cli.specs.Status.{status_of_end};
+
+    ghost from_gives = { λ end status. status ≡ status_of_end end };
+
+    fn from(end: ReadEnd) -> Status {
+        match end {
+            ReadEnd::SourceFault => Status::SourceFault,
+            ReadEnd::TooLong => Status::TooLong,
+            ReadEnd::Memory => Status::Memory,
+        }
+    }
+}
+
+impl From<AllocError> for Status {
+    ghost use Rattle.std.specs.Prelude.{◌≡◌};
+    ghost use Rattle.m88_cli.specs.declared.status.Status.TheVariants.{Memory};
+
+    ghost from_gives = { λ _ status. status ≡ Memory };
+
+    fn from(_error: AllocError) -> Status {
+        Status::Memory
     }
 }

@@ -1,18 +1,44 @@
-use m88_cli::Status;
+//! What a person is told on standard error.
+
+use m88_cli::{MOST_INPUT, MOST_LIMIT, Status};
+use std::fmt;
 
 /// What a person is told where the words of the command can't be had.
 pub const NO_WORDS: &str = "m88: the words of the command can't be read";
 
-/// What a person is told of an answer, in one line; nothing of one that its output explains.
-pub fn advice_on(status: Status) -> Option<&'static str> {
+/// What a person is told of an answer, in one line.
+#[derive(Clone, Copy, PartialEq, Eq, Debug)]
+pub enum Advice {
+    Usage,
+    SourceFault,
+    SinkFault,
+    Memory,
+    TooLong,
+}
+
+/// The advice on an answer; none where the output says it all.
+pub fn advice_on(status: Status) -> Option<Advice> {
     match status {
         Status::Done | Status::Refused => None,
-        Status::Usage => Some(
-            "usage: m88 run LIMIT none -    (LIMIT is 0 to 1000000; the source is read from standard input)",
-        ),
-        Status::SourceFault => Some("m88: standard input can't be read"),
-        Status::SinkFault => Some("m88: standard output can't be written"),
-        Status::Memory => Some("m88: there is not enough memory"),
-        Status::TooLong => Some("m88: the input has more than 1048576 bytes"),
+        Status::Usage => Some(Advice::Usage),
+        Status::SourceFault => Some(Advice::SourceFault),
+        Status::SinkFault => Some(Advice::SinkFault),
+        Status::Memory => Some(Advice::Memory),
+        Status::TooLong => Some(Advice::TooLong),
+    }
+}
+
+impl fmt::Display for Advice {
+    fn fmt<W: fmt::Write>(&self, f: &mut fmt::Formatter<W>) -> fmt::Result {
+        match self {
+            Advice::Usage => write!(
+                f,
+                "usage: m88 run LIMIT none -    (LIMIT is 0 to {MOST_LIMIT}; the source is read from standard input)"
+            ),
+            Advice::SourceFault => write!(f, "m88: standard input can't be read"),
+            Advice::SinkFault => write!(f, "m88: standard output can't be written"),
+            Advice::Memory => write!(f, "m88: there is not enough memory"),
+            Advice::TooLong => write!(f, "m88: the input has more than {MOST_INPUT} bytes"),
+        }
     }
 }

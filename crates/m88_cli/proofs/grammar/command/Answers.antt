@@ -6,7 +6,7 @@ use Rattle.m88_cli.specs.Command.{IsLimit}
 use Rattle.m88_cli.specs.Words.{texts}
 use Rattle.m88_cli.proofs.Spelling.{four_words, limit_spelled}
 use Rattle.m88_cli.proofs.Texts.{none_some}
-use Rattle.m88_cli.proofs.words.command.Goals as goal
+use Rattle.m88_cli.proofs.grammar.command.Goals as goal
 
 -- words whose first, third and last are these
 same_words : (ws : List (List ℕ)) (a b c d : List ℕ) → ws ≡ a ∷ b ∷ c ∷ d ∷ [] → bytes_eq a (codes "run") ≡ true

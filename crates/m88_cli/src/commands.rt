@@ -1,5 +1,7 @@
+//! The commands of the program.
+
 /// What the words of the program ask for.
-#[derive(Clone, Copy, PartialEq, Eq)]
+#[derive(Clone, Copy, PartialEq, Eq, Debug)]
 pub enum Command {
     /// A run of a source that retires at most `limit` instructions, with every page present and no
     /// schedule.

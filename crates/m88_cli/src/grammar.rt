@@ -1,14 +1,13 @@
+//! The grammar of the words of a command.
 ghost use Rattle.std.specs.Prelude.{◌≡◌, ℕ, IfSome, Some};
 ghost use Rattle.m88_cli.specs.Command.{IsLimit, Spells};
 ghost use Rattle.m88_cli.specs.Reply.{IsWithinLimit};
 ghost use Rattle.m88_cli.specs.Words.{texts};
-ghost use Rattle.m88_cli.specs.declared.choice.Command.{Command as Choice};
+ghost use Rattle.m88_cli.specs.declared.commands.Command.{Command as Choice};
 
-use crate::choice::Command;
+use crate::commands::Command;
+use crate::limits::MOST_LIMIT;
 use crate::numbers::number_in;
-
-/// The most instructions that a run may be allowed.
-const MOST_LIMIT: u32 = 1_000_000;
 
 /// The command that the words spell, or None where they are outside the grammar.
 pub fn command(words: &[String]) -> Option<Command>

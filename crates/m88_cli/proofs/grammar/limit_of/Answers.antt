@@ -1,7 +1,7 @@
 -- The digits are those of a limit.
 use Rattle.std.proofs.Common.{◌∙◌}
 use Rattle.m88_cli.proofs.Numerals.{limit_found, limit_told}
-use Rattle.m88_cli.proofs.words.limit_of.Goals as goal
+use Rattle.m88_cli.proofs.grammar.limit_of.Goals as goal
 
 pub returns-then-text-le7-clause-found : goal.returns-then-text-le7-clause-found
 returns-then-text-le7-clause-found c =

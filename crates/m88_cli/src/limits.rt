@@ -1,0 +1,7 @@
+//! The limits of the program, each once.
+
+/// The most bytes that an input may have: one mebibyte.
+pub const MOST_INPUT: usize = 1_048_576;
+
+/// The most instructions that a run may be allowed.
+pub const MOST_LIMIT: u32 = 1_000_000;
