@@ -2,7 +2,6 @@ pub mod Numerals
 pub mod Spelling
 pub mod Texts
 pub mod Lines
-pub mod Values
 pub mod Fetching
 pub mod Moving
 pub mod Running

@@ -4,7 +4,7 @@ use Rattle.std.specs.Prelude.{MatchOption, is_some, if◌then◌else◌}
 use Rattle.std.proofs.lemmas.Bool.Decides.{nat_tests}
 use Rattle.m88_isa.specs.Address.{after_bytes}
 use Rattle.m88_isa.specs.Machine.{Program, State, Step, on, opening, state, step, stepped, turn, with_written}
-use Rattle.m88_cli.specs.Runner.{IsAt, Standing, after_turn, is_over_at, left_to_do, state_in, told}
+use Rattle.m88_cli.specs.Runner.{IsAt, RunnerState, after_turn, is_over_at, left_to_do, state_in, told}
 use Rattle.m88_cli.specs.Timeline.{EventStep, Moment, idles, passes, event_step_of, is_over, issue_step, made}
 use Rattle.m88_cli.specs.declared.next_turn.NextTurn.{NextTurn}
 use Rattle.m88_cli.specs.declared.next_turn.NextTurn.TheVariants as next
@@ -26,7 +26,7 @@ abbrev step_told : NextTurn → State → Step
 step_told n s = stepped (told n s.pc) s
 
 -- by what comes of the instruction
-by_step : (p : Program) (limit : ℕ) (m : Moment) (r : Standing) (n : NextTurn)
+by_step : (p : Program) (limit : ℕ) (m : Moment) (r : RunnerState) (n : NextTurn)
     → step p (state p m.retired) ≡ step_told n (state p m.retired) → m.ended ≡ false → IsAt p limit m r
     → IsAt p limit (made (event_step_of (step_told n (state p m.retired))) m) (after_turn n r)
 by_step p limit m r (next.Stop vector) e lives at = record {
@@ -81,7 +81,7 @@ only_step false true c e f = absurd cc
 only_step false false c e f = refl
 
 -- a runner that isn't over, and has no bubble, issues
-pub issued : (p : Program) (limit : ℕ) (m : Moment) (r : Standing) (n : NextTurn) → is_over_at r ≡ false → r.bubble ≡ false
+pub issued : (p : Program) (limit : ℕ) (m : Moment) (r : RunnerState) (n : NextTurn) → is_over_at r ≡ false → r.bubble ≡ false
     → turn p r.regs r.carry r.pc r.next ≡ told n r.pc → IsAt p limit m r
     → IsAt p limit (made (issue_step p limit m) m) (after_turn n r)
 issued p limit m r n goes none says at =
@@ -103,7 +103,7 @@ bit_most : (t : Bool) → (if t then 1 else 0) ≤ 1
 bit_most true = omega arith
 bit_most false = omega arith
 
-pub less_to_do : (r : Standing) (n : NextTurn) → r.retired ≤ r.limit → is_over_at r ≡ false → left_to_do (after_turn n r) < left_to_do r
+pub less_to_do : (r : RunnerState) (n : NextTurn) → r.retired ≤ r.limit → is_over_at r ≡ false → left_to_do (after_turn n r) < left_to_do r
 less_to_do r (next.Stop vector) within goes =
     let k = neither (is_some r.ended) (r.retired == r.limit) goes in omega (arith, no_bit (is_some r.ended) k.0)
 less_to_do r next.Exit within goes =
@@ -118,7 +118,7 @@ less_to_do r (next.Go effect) within goes =
     omega (arith, room, bit_most effect.bubble)
 
 -- a runner that isn't over may retire one more
-pub room_left : (r : Standing) → r.retired ≤ r.limit → is_over_at r ≡ false → r.retired < r.limit
+pub room_left : (r : RunnerState) → r.retired ≤ r.limit → is_over_at r ≡ false → r.retired < r.limit
 room_left r within goes =
     let k = neither (is_some r.ended) (r.retired == r.limit) goes in
     let room : r.retired ≢ r.limit = grind (arith, nat_tests) in

@@ -3,19 +3,19 @@ use Rattle.std.proofs.Common.{◌≡◌, ℕ, zero, suc, ◌+◌, ◌*◌, ◌%�
 use Rattle.std.specs.Prelude.{MatchOption, if◌then◌else◌, is_some, unwrap_or}
 use Rattle.std.proofs.lemmas.Bool.Decides.{nat_tests}
 use Rattle.m88_isa.specs.Machine.{Program, State, state, step}
-use Rattle.m88_cli.specs.Runner.{IsAt, IsNearer, Standing, is_over_at, left_to_do, summary_in}
+use Rattle.m88_cli.specs.Runner.{IsAt, IsNearer, RunnerState, is_over_at, left_to_do, summary_in}
 use Rattle.m88_cli.specs.Timeline.{EventStep, IsRunSummary, Moment, event_step_at, counted_event, end_of_step, finishes, idles, is_over, letter_at, made, moment, opening_moment, passes, retires, summary_at}
 use Rattle.m88_cli.specs.declared.letter.Letter.TheVariants.{Issue, Answer}
 use Rattle.m88_cli.specs.declared.outcome.End.{End}
 use Rattle.m88_cli.specs.declared.outcome.End.TheVariants.{Limit}
 
 -- before the first event
-pub at_start : (p : Program) (limit : ℕ) (r : Standing) → IsAt p limit opening_moment r → IsAt p limit (moment p limit 0) r
+pub at_start : (p : Program) (limit : ℕ) (r : RunnerState) → IsAt p limit opening_moment r → IsAt p limit (moment p limit 0) r
 unfolding moment
 at_start p limit r at = at
 
 -- to count an event moves no runner
-counted : (p : Program) (limit : ℕ) (m : Moment) (r : Standing) → IsAt p limit m r → IsAt p limit (counted_event m) r
+counted : (p : Program) (limit : ℕ) (m : Moment) (r : RunnerState) → IsAt p limit m r → IsAt p limit (counted_event m) r
 counted p limit m r at = record {
   image = at.image;
   same_limit = at.same_limit;
@@ -27,13 +27,13 @@ counted p limit m r at = record {
 }
 
 -- behind one more event
-pub at_next : (p : Program) (limit n : ℕ) (r : Standing)
+pub at_next : (p : Program) (limit n : ℕ) (r : RunnerState)
     → IsAt p limit (made (event_step_at p limit (letter_at n) (moment p limit n)) (moment p limit n)) r → IsAt p limit (moment p limit (n + 1)) r
 unfolding moment
 at_next p limit n r at = rw add-one (counted p limit _ r at)
 
 -- a runner at a moment is over where the moment is
-pub over_at : (p : Program) (limit : ℕ) (m : Moment) (r : Standing) (t : Bool) → IsAt p limit m r → is_over_at r ≡ t
+pub over_at : (p : Program) (limit : ℕ) (m : Moment) (r : RunnerState) (t : Bool) → IsAt p limit m r → is_over_at r ≡ t
     → is_over limit m ≡ t
 over_at p limit m r t at e = rw (← at.ended, ← at.retired, ← at.same_limit) e
 
@@ -46,11 +46,11 @@ no_bit_most : (t : Bool) → (if t then 0 else 1) ≤ 1
 no_bit_most true = omega arith
 no_bit_most false = omega arith
 
-pub left_most : (r : Standing) → left_to_do r ≤ 2 * r.limit + 2
+pub left_most : (r : RunnerState) → left_to_do r ≤ 2 * r.limit + 2
 left_most r = omega (arith, bit_most r.bubble, no_bit_most (is_some r.ended))
 
 -- each event leaves less, an answer counting less than an issue
-by_turn : (t : Bool) (n : ℕ) (old new : Standing) → (n % 2 == 0) ≡ t → IsNearer (if t then Answer else Issue) old new
+by_turn : (t : Bool) (n : ℕ) (old new : RunnerState) → (n % 2 == 0) ≡ t → IsNearer (if t then Answer else Issue) old new
     → 1 + 2 * left_to_do new + (n + 1 + 1) % 2 ≤ 2 * left_to_do old + (n + 1) % 2
 by_turn true n old new e nearer =
     let even : n % 2 ≡ 0 = grind (arith, nat_tests) in
@@ -61,7 +61,7 @@ by_turn false n old new e nearer =
     let less : left_to_do new < left_to_do old = nearer in
     omega (arith, less, odd)
 
-pub nearer_by_one : (n : ℕ) (old new : Standing) → IsNearer (letter_at n) old new
+pub nearer_by_one : (n : ℕ) (old new : RunnerState) → IsNearer (letter_at n) old new
     → 1 + 2 * left_to_do new + (n + 1 + 1) % 2 ≤ 2 * left_to_do old + (n + 1) % 2
 nearer_by_one n old new nearer = by_turn (n % 2 == 0) n old new refl nearer
 
@@ -103,7 +103,7 @@ end_at (Some x) true e h stop = stop
 end_at (Some x) false e h stop = absurd cc
 
 -- a runner that stands at the moment behind some events came to what the run comes to there
-came_to : (p : Program) (limit n : ℕ) (r : Standing) → IsAt p limit (moment p limit n) r
+came_to : (p : Program) (limit n : ℕ) (r : RunnerState) → IsAt p limit (moment p limit n) r
     → summary_in r n ≡ summary_at p (moment p limit n)
 came_to p limit n r at =
     let there = counts p limit n in
@@ -124,7 +124,7 @@ came_to p limit n r at =
     }
 
 -- the run is over at the first moment at which its runner is
-pub ran : (p : Program) (limit n : ℕ) (r : Standing) → IsAt p limit (moment p limit n) r → is_over_at r ≡ true
+pub ran : (p : Program) (limit n : ℕ) (r : RunnerState) → IsAt p limit (moment p limit n) r → is_over_at r ≡ true
     → ((k : ℕ) → k < n → is_over limit (moment p limit k) ≡ false) → IsRunSummary p limit (summary_in r n)
 ran p limit n r at over first = record {
   events = n;

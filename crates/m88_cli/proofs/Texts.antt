@@ -14,10 +14,11 @@ use Rattle.m88_base.proofs.Same.{same_reg}
 use Rattle.m88_isa.specs.declared.instr.Instr.{Instr}
 use Rattle.m88_isa.specs.declared.instr.Instr.TheVariants.{Imm, TrapBit}
 use Rattle.m88_isa.specs.declared.instr.ImmOp.TheVariants.{Or}
-use Rattle.m88_cli.specs.Numbers.{IsNumber}
-use Rattle.m88_cli.specs.Reading.{HasNoComma, is_hexadecimal}
+use Rattle.m88_cli.specs.Numbers.{IsOperandNumber}
+use Rattle.m88_cli.specs.Reading.{HasNoComma, is_operand_hexadecimal}
 use Rattle.m88_cli.specs.Source.{IsLineOf, comma, or_line, parted, register_name, trap_line}
-use Rattle.m88_cli.proofs.Numerals.{both, no_decimal, hexadecimal_seen}
+use Rattle.m88_base.proofs.Digits.{both}
+use Rattle.m88_cli.proofs.Numerals.{no_decimal, hexadecimal_seen}
 
 -- one thing is not another, and what is there is not nothing
 pub some_same : {A : Type 0} {a b : A} → Some a ≡ Some b → a ≡ b
@@ -102,10 +103,10 @@ same_name r s e =
     same_reg r s (decimal_injective (number_of r) (number_of s) (omega arith) (omega arith) (ap (drop 1) e))
 
 -- a text writes at most one number that is small
-pub same_number : (text : List ℕ) (m n : ℕ) → m ≤ 65535 → n ≤ 65535 → IsNumber text m → IsNumber text n → m ≡ n
+pub same_number : (text : List ℕ) (m n : ℕ) → m ≤ 65535 → n ≤ 65535 → IsOperandNumber text m → IsOperandNumber text n → m ≡ n
 same_number text m n small too (inl e) (inl f) = decimal_injective m n (omega arith) (omega arith) (sym e ∙ f)
-same_number text m n small too (inl e) (inr h) = absurd (no_decimal m (omega arith) (ap is_hexadecimal (sym e) ∙ hexadecimal_seen text n h))
-same_number text m n small too (inr g) (inl f) = absurd (no_decimal n (omega arith) (ap is_hexadecimal (sym f) ∙ hexadecimal_seen text m g))
+same_number text m n small too (inl e) (inr h) = absurd (no_decimal m (omega arith) (ap is_operand_hexadecimal (sym e) ∙ hexadecimal_seen text n h))
+same_number text m n small too (inr g) (inl f) = absurd (no_decimal n (omega arith) (ap is_operand_hexadecimal (sym f) ∙ hexadecimal_seen text m g))
 same_number text m n small too (inr g) (inr h) = g.value ∙ ap (digits_value 16) (append_cancel_left (codes "0x") g.digits h.digits (sym g.text_is ∙ h.text_is)) ∙ sym h.value
 
 -- what begins with an o does not begin with a t
@@ -122,7 +123,7 @@ pub record IsOr (text : List ℕ) (i : Instr) : Type 0 where
   pub imm : ℕ
   pub n : List ℕ
   pub small : imm ≤ 65535
-  pub number : IsNumber n imm
+  pub number : IsOperandNumber n imm
   pub text_is : text ≡ parted (register_name d) (register_name s1) n
   pub instruction : i ≡ Imm Or d s1 imm
 
@@ -147,7 +148,7 @@ pub record IsTrap (text : List ℕ) (i : Instr) : Type 0 where
   pub v : List ℕ
   pub low : bit ≤ 31
   pub small : vector ≤ 511
-  pub number : IsNumber v vector
+  pub number : IsOperandNumber v vector
   pub text_is : text ≡ parted (decimal bit) (register_name s1) v
   pub instruction : i ≡ TrapBit false bit s1 vector
 
@@ -166,7 +167,7 @@ trap_behind i text (trap_line {s1 = s1} {bit = bit} {vector = vector} v low smal
 }
 
 -- a line writes at most one instruction
-one_or : {d s1 e s2 : Reg} {m n : ℕ} (v w : List ℕ) → m ≤ 65535 → n ≤ 65535 → IsNumber v m → IsNumber w n
+one_or : {d s1 e s2 : Reg} {m n : ℕ} (v w : List ℕ) → m ≤ 65535 → n ≤ 65535 → IsOperandNumber v m → IsOperandNumber w n
     → codes "or " ++ parted (register_name d) (register_name s1) v
     ≡ codes "or " ++ parted (register_name e) (register_name s2) w
     → Imm Or d s1 m ≡ Imm Or e s2 n
@@ -175,7 +176,7 @@ one_or {d = d} {s1 = s1} {e = e} {s2 = s2} {m = m} {n = n} v w small too is othe
     let two = cut_once (register_name s1) v (register_name s2) w (register_no_comma s1) (register_no_comma s2) one.1 in
     rw (same_name d e one.0, same_name s1 s2 two.0, same_number w m n small too (rw two.1 at is) other) refl
 
-one_trap : {s1 s2 : Reg} {a b m n : ℕ} (v w : List ℕ) → a ≤ 31 → b ≤ 31 → m ≤ 511 → n ≤ 511 → IsNumber v m → IsNumber w n
+one_trap : {s1 s2 : Reg} {a b m n : ℕ} (v w : List ℕ) → a ≤ 31 → b ≤ 31 → m ≤ 511 → n ≤ 511 → IsOperandNumber v m → IsOperandNumber w n
     → codes "tb0 " ++ parted (decimal a) (register_name s1) v
     ≡ codes "tb0 " ++ parted (decimal b) (register_name s2) w
     → TrapBit false a s1 m ≡ TrapBit false b s2 n

@@ -4,10 +4,10 @@ use Rattle.std.specs.Prelude.{MatchBool, OnErr, is_err}
 use Rattle.std.specs.Io.KnownBytes.{Consumes, IsAtEnd}
 use Rattle.std.proofs.lemmas.List.{append-nil, length-take-le}
 use Rattle.m88_base.specs.Outside.{AppendsPart}
-use Rattle.m88_cli.specs.Answer.{IsAccepted, IsAnswered, IsRefused, Refusal, Refuses, refused_line}
+use Rattle.m88_cli.specs.Answer.{IsAccepted, IsAnswered, IsRefused, Refusal, Refuses, refusal_line}
 use Rattle.m88_cli.specs.Reply.{Replies}
 use Rattle.m88_cli.specs.declared.reply.Reply.{Reply}
-use Rattle.m88_cli.specs.Calls.{Gives, Holds, IsWhole}
+use Rattle.m88_cli.specs.Calls.{GivesInput, HasInput, IsWhole}
 use Rattle.m88_cli.specs.Command.{reads_input}
 use Rattle.m88_cli.specs.Limits.{most_input}
 use Rattle.m88_cli.specs.declared.commands.Command.{Command}
@@ -20,7 +20,7 @@ of_err (Ok x) e h = absurd cc
 of_err (Err x) e h = h
 
 -- a line that refuses has bytes
-pub refusal_some : (r : Refusal) → 0 < length (refused_line r)
+pub refusal_some : (r : Refusal) → 0 < length (refusal_line r)
 refusal_some r = omega arith
 
 -- where nothing was written, no text stands whole
@@ -59,18 +59,18 @@ by_reading : (reads : Bool) (before after : Option (List ℕ)) (input given : Li
 by_reading true before after input given holds gives = whole_input before after input given holds.0 gives.1 gives.0
 by_reading false before after input given holds gives = gives ∙ sym holds
 
-pub given_once : (command : Command) (before after : Option (List ℕ)) (input given : List ℕ) → Holds command before input
-    → Gives command before after given → given ≡ input
+pub given_once : (command : Command) (before after : Option (List ℕ)) (input given : List ℕ) → HasInput command before input
+    → GivesInput command before after given → given ≡ input
 given_once command before after input given holds gives = by_reading (reads_input command) before after input given holds gives
 
 -- an input that a command refuses is what the source gave it
 pub given_whole : (command : Command) (before after : Option (List ℕ)) (input given : List ℕ) (r : Refusal) → Refuses command input r
-    → before ≡ Some input → after ≡ Some [] → Gives command before after given → given ≡ input
+    → before ≡ Some input → after ≡ Some [] → GivesInput command before after given → given ≡ input
 given_whole (Run limit) before after input given r refused had left gives = same_input before after input given had left gives.0
 
 -- a reply to what a command was given, where command and input are known
 abbrev pub RepliesToGiven : Command → Option (List ℕ) → Option (List ℕ) → Reply → Type 0
-RepliesToGiven command before after reply = (given : List ℕ) × Gives command before after given × Replies command given reply
+RepliesToGiven command before after reply = (given : List ℕ) × GivesInput command before after given × Replies command given reply
 
 pub reply_whole : (command other : Command) (before after : Option (List ℕ)) (input : List ℕ) (r : Refusal) (reply : Reply)
     → other ≡ command → Refuses command input r → before ≡ Some input → after ≡ Some [] → RepliesToGiven other before after reply
@@ -80,7 +80,7 @@ reply_whole command other before after input r reply same refused had left ok =
     subst (λ i. Replies command i reply) (given_whole command before after input own.0 r refused had left own.1) own.2
 
 pub reply_given : (command other : Command) (before after : Option (List ℕ)) (input : List ℕ) (reply : Reply)
-    → other ≡ command → Holds command before input → RepliesToGiven other before after reply → Replies command input reply
+    → other ≡ command → HasInput command before input → RepliesToGiven other before after reply → Replies command input reply
 reply_given command other before after input reply same holds ok =
     let own = subst (λ d. RepliesToGiven d before after reply) same ok in
     subst (λ i. Replies command i reply) (given_once command before after input own.0 holds own.1) own.2
@@ -96,12 +96,12 @@ answer_of command input r h = by_accepted r.accepted command input r.text.items 
 
 -- the reply to an input that is refused is the line of that refusal
 only_refused : (command : Command) (input text : List ℕ) (r : Refusal) → Refuses command input r → IsAnswered command input text
-    → text ≡ refused_line r
+    → text ≡ refusal_line r
 only_refused command input text r refused (inl h) = absurd (refused_not_accepted command input r refused h.accepted)
-only_refused command input text r refused (inr h) = h.line ∙ ap refused_line (one_refusal command input h.refusal r h.refused refused)
+only_refused command input text r refused (inr h) = h.line ∙ ap refusal_line (one_refusal command input h.refusal r h.refused refused)
 
 pub line_of_reply : (command : Command) (input : List ℕ) (r : Refusal) (reply : Reply) → Refuses command input r → Replies command input reply
-    → reply.text.items ≡ refused_line r
+    → reply.text.items ≡ refusal_line r
 line_of_reply command input r reply refused h = only_refused command input reply.text.items r refused (answer_of command input reply h)
 
 -- a reply that accepts an input is to one that is accepted, and a reply that refuses one is to one that isn't

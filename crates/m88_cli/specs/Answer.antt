@@ -1,6 +1,6 @@
 -- What a command does with an input. A command has a case in each of three definitions: which inputs it accepts, what it
 -- writes for one that it accepts, and where and why it refuses any other.
-use Rattle.std.specs.Prelude.{ℕ, ◌≡◌, ◌⊎◌, ◌++◌, List, codes, decimal}
+use Rattle.std.specs.Prelude.{ℕ, ◌≡◌, ◌⊎◌, List, codes}
 use Rattle.m88_isa.specs.Machine.{Program}
 use Rattle.m88_isa.specs.declared.instr.Instr.{Instr}
 use Rattle.m88_cli.specs.Program.{program_of}
@@ -32,8 +32,8 @@ pub record Refusal : Type 0 where
   pub reason : List ℕ
 
 -- the line that says so
-abbrev pub refused_line : Refusal → List ℕ
-refused_line r = codes "refused " ++ decimal r.line ++ codes ":" ++ decimal r.column ++ codes " " ++ r.reason ++ line_end
+abbrev pub refusal_line : Refusal → List ℕ
+refusal_line r = refused_line r.line r.column r.reason
 
 -- a command accepts an input: a run a source that writes instructions
 abbrev pub Accepts : Command → List ℕ → Type 0
@@ -57,7 +57,7 @@ pub record IsRefused (command : Command) (input text : List ℕ) : Type 0 where
   pub unaccepted : ¬ Accepts command input
   pub refusal : Refusal
   pub refused : Refuses command input refusal
-  pub line : text ≡ refused_line refusal
+  pub line : text ≡ refusal_line refusal
 
 -- the text answers an input
 abbrev pub IsAnswered : Command → List ℕ → List ℕ → Type 0

@@ -8,8 +8,8 @@ use Rattle.m88_cli.specs.declared.commands.Command.{Command}
 
 -- the source, with these bytes left before and those after, gave a command its input: all that it had, to its end; a
 -- command that reads none has the empty input
-abbrev pub Gives : Command → Option (List ℕ) → Option (List ℕ) → List ℕ → Type 0
-Gives command before after input = MatchBool (reads_input command) (Consumes before after input × IsAtEnd after) (input ≡ [])
+abbrev pub GivesInput : Command → Option (List ℕ) → Option (List ℕ) → List ℕ → Type 0
+GivesInput command before after input = MatchBool (reads_input command) (Consumes before after input × IsAtEnd after) (input ≡ [])
 
 -- a call carried a command out: the words spell it, the source gave it its input, the text is as told for that input,
 -- and the sink was given the text as told
@@ -18,14 +18,14 @@ pub record CarriedOut (words : List (List ℕ)) (before after : Option (List ℕ
   pub command : Command
   pub spelled : Spells words command
   pub input : List ℕ
-  pub given : Gives command before after input
+  pub given : GivesInput command before after input
   pub text : List ℕ
   pub is_text : IsText command input text
   pub written : SinkIsGiven text
 
 -- what a source has left is the input for a command, and not too long; a command that reads none has the empty input
-abbrev pub Holds : Command → Option (List ℕ) → List ℕ → Type 0
-Holds command left input =
+abbrev pub HasInput : Command → Option (List ℕ) → List ℕ → Type 0
+HasInput command left input =
     MatchBool (reads_input command) ((left ≡ Some input) × (length input ≤ most_input)) (input ≡ [])
 
 -- the sink holds what it held and the whole text behind it

@@ -10,7 +10,6 @@ pub mod Source
 pub mod Program
 pub mod Timeline
 pub mod Report
-pub mod Text
 -- Words for the contracts of private functions.
 pub mod Plain
 pub mod Reading

@@ -3,7 +3,7 @@ use Rattle.std.specs.Prelude.{ℕ, List, ◌≡◌, ◌≤◌, ◌⊎◌, ◌++�
 use Rattle.std.specs.Str.Parse.{IsNumeral, digits_value}
 
 -- a text writes a number as `0x` and one to four hexadecimal digits; letters may be of either case
-pub record IsHexadecimal (text : List ℕ) (n : ℕ) : Type 0 where
+pub record IsOperandHexadecimal (text : List ℕ) (n : ℕ) : Type 0 where
   pub digits : List ℕ
   pub text_is : text ≡ codes "0x" ++ digits
   pub numeral : IsNumeral 16 digits
@@ -11,5 +11,5 @@ pub record IsHexadecimal (text : List ℕ) (n : ℕ) : Type 0 where
   pub value : n ≡ digits_value 16 digits
 
 -- a text writes a number below 2 ^ 64 in either notation; its decimal digits begin with a 0 only where the number is 0
-abbrev pub IsNumber : List ℕ → ℕ → Type 0
-IsNumber text n = (text ≡ decimal n) ⊎ IsHexadecimal text n
+abbrev pub IsOperandNumber : List ℕ → ℕ → Type 0
+IsOperandNumber text n = (text ≡ decimal n) ⊎ IsOperandHexadecimal text n

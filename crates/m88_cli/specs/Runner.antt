@@ -17,7 +17,7 @@ use Rattle.m88_cli.specs.declared.outcome.End.TheVariants.{Limit, Exit, Vector}
 
 -- what a runner is seen as: the image and the limit, the state of the machine but for the memory, and what became of the
 -- program so far
-pub record Standing : Type 0 where
+pub record RunnerState : Type 0 where
   pub image : ProgramImage
   pub limit : ℕ
   pub regs : List ℕ
@@ -31,7 +31,7 @@ pub record Standing : Type 0 where
 
 -- what holds of every runner: its addresses are those of words, it keeps to its limit, and its image has only
 -- instructions that a source may have
-pub record IsSound (image : ProgramImage) (limit pc next retired : ℕ) : Type 0 where
+pub record IsRunnerSound (image : ProgramImage) (limit pc next retired : ℕ) : Type 0 where
   pub here : pc % 4 ≡ 0
   pub behind : next % 4 ≡ 0
   pub within : retired ≤ limit
@@ -39,7 +39,7 @@ pub record IsSound (image : ProgramImage) (limit pc next retired : ℕ) : Type 0
   pub plain : HasPlainWords image
 
 -- the state that a runner is in, over a memory that it doesn't keep
-abbrev pub state_in : Standing → (ℕ → ℕ) → State
+abbrev pub state_in : RunnerState → (ℕ → ℕ) → State
 state_in r memory = record { regs = r.regs; carry = r.carry; pc = r.pc; next = r.next; memory = memory; out = r.out }
 
 -- what comes of the instruction at an address, as the machine has it; no instruction of a source has an access
@@ -58,7 +58,7 @@ IsFlowAligned (next.PutOut byte) = Unit {0}
 IsFlowAligned (next.Go effect) = (effect.after.0 % 4 ≡ 0) × (effect.after.1 % 4 ≡ 0)
 
 -- a runner after a turn
-abbrev pub after_turn : NextTurn → Standing → Standing
+abbrev pub after_turn : NextTurn → RunnerState → RunnerState
 after_turn (next.Stop vector) r = record r { ended = Some (Vector vector r.pc) }
 after_turn next.Exit r = record r { ended = Some (Exit r.pc) }
 after_turn (next.PutOut byte) r = record r {
@@ -78,7 +78,7 @@ after_turn (next.Go effect) r = record r {
 }
 
 -- a runner stands at a moment of a run: it is that of the program, with the limit
-pub record IsAt (p : Program) (limit : ℕ) (m : Moment) (r : Standing) : Type 0 where
+pub record IsAt (p : Program) (limit : ℕ) (m : Moment) (r : RunnerState) : Type 0 where
   pub image : IsImageOf p r.image
   pub same_limit : r.limit ≡ limit
   pub here : state p m.retired ≡ state_in r (opening p).memory
@@ -88,20 +88,20 @@ pub record IsAt (p : Program) (limit : ℕ) (m : Moment) (r : Standing) : Type 0
   pub stop : MatchOption r.ended (Unit {0}) (λ e. e ≡ end_of_step (step p (state p m.retired)))
 
 -- the program has ended, or the limit is reached
-abbrev pub is_over_at : Standing → Bool
+abbrev pub is_over_at : RunnerState → Bool
 is_over_at r = is_some r.ended || r.retired == r.limit
 
 -- how many instructions, bubbles and ends a runner that isn't over may still issue; an instruction may leave a bubble
-abbrev pub left_to_do : Standing → ℕ
+abbrev pub left_to_do : RunnerState → ℕ
 left_to_do r = 2 * (r.limit - r.retired) + (if r.bubble then 1 else 0) + (if is_some r.ended then 0 else 1)
 
 -- an issue leaves less to do, and an answer nothing more
-abbrev pub IsNearer : Letter → Standing → Standing → Type 0
+abbrev pub IsNearer : Letter → RunnerState → RunnerState → Type 0
 IsNearer Issue before after = left_to_do after < left_to_do before
 IsNearer Answer before after = left_to_do after ≡ left_to_do before
 
 -- what a runner came to that made as many events; no transaction was made
-abbrev pub summary_in : Standing → ℕ → Summary
+abbrev pub summary_in : RunnerState → ℕ → Summary
 summary_in r events = record {
   end = unwrap_or r.ended Limit;
   retired = r.retired;

@@ -7,7 +7,7 @@ ghost use Rattle.m88_cli.specs.declared.commands.Command.{Command as Choice};
 
 use crate::commands::Command;
 use crate::limits::MOST_LIMIT;
-use crate::numbers::number_in;
+use m88_base::number_in;
 
 /// The command that the words spell, or None where they are outside the grammar.
 pub fn command(words: &[String]) -> Option<Command>
@@ -31,8 +31,8 @@ fn limit_of(text: &[u8]) -> Option<u32>
     ensures found { IfSome result (IsLimit text.now) }
     ensures only { (n : ℕ) → IsLimit text.now n → result ≡ Some n }
 {
-    if text.len() >= 1 && text.len() <= 7 {
-        number_in(10, MOST_LIMIT, text)
+    if text.len() <= 7 {
+        number_in(10, text, MOST_LIMIT)
     } else {
         None
     }

@@ -2,7 +2,7 @@
 ghost use Rattle.std.specs.Prelude.{◌≡◌, ◌≢◌, ◌+◌, ◌≤◌, Err, IfOk, false, length};
 ghost use Rattle.m88_base.specs.Causes.{Rose};
 ghost use Rattle.m88_base.specs.Outside.{TakesAtMost, TakesExactly};
-ghost use Rattle.m88_cli.specs.Calls.{Gives};
+ghost use Rattle.m88_cli.specs.Calls.{GivesInput};
 ghost use Rattle.m88_cli.specs.Command.{reads_input};
 ghost use Rattle.m88_cli.specs.Limits.{most_input};
 
@@ -17,7 +17,7 @@ pub fn input_of<S: Source>(
     command: Command,
     source: &mut S,
 ) -> Result<Vec<u8>, ReadEnd>
-    ensures ok { IfOk result (λ input. Gives command (S.left source.old) (S.left source.new) input.items) }
+    ensures ok { IfOk result (λ input. GivesInput command (S.left source.old) (S.left source.new) input.items) }
     ensures short { IfOk result (λ input. length input.items ≤ most_input) }
     ensures unread { reads_input command ≡ false → source.new ≡ source.old }
     ensures fault { result ≡ Err ReadEnd.SourceFault → Rose (S.faults source.old) (S.faults source.new) }

@@ -8,8 +8,7 @@ ghost use Rattle.m88_cli.specs.Reply.{IsWithinLimit, Replies};
 
 use crate::commands::Command;
 use crate::load::load;
-use crate::refusal::refusal;
-use crate::reply::Reply;
+use crate::reply::{Reply, refusal};
 use crate::report::report;
 use crate::run::run;
 use crate::source::{Reading, read_source};

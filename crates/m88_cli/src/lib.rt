@@ -26,8 +26,6 @@ mod run;
 mod runner;
 
 // What is written.
-mod digits;
-mod refusal;
 mod report;
 #[cfg(test)]
 mod tests;

@@ -3,8 +3,8 @@ ghost use Rattle.std.specs.Prelude.{[], ◌≡◌, ◌≢◌, ◌↔◌, ◌+◌
 ghost use Rattle.std.specs.Io.KnownBytes.{Appends};
 ghost use Rattle.m88_base.specs.Causes.{Rose};
 ghost use Rattle.m88_base.specs.Outside.{AppendsPart, TakesAtMost, TakesExactly};
-ghost use Rattle.m88_cli.specs.Answer.{Accepts, IsAccepted, IsAnswered, IsRefused, Refusal, Refuses, refused_line};
-ghost use Rattle.m88_cli.specs.Calls.{CarriedOut, Gives, Holds, IsWhole};
+ghost use Rattle.m88_cli.specs.Answer.{Accepts, IsAccepted, IsAnswered, IsRefused, Refusal, Refuses, refusal_line};
+ghost use Rattle.m88_cli.specs.Calls.{CarriedOut, GivesInput, HasInput, IsWhole};
 ghost use Rattle.m88_cli.specs.Command.{SpellNoReader, SpellNothing, Spells, reads_input};
 ghost use Rattle.m88_cli.specs.Limits.{most_input};
 ghost use Rattle.m88_cli.specs.Reply.{IsWithinLimit, Replies};
@@ -49,7 +49,7 @@ pub fn m88<S: Source, K: Sink>(
         IsRefused (Appends (K.held sink.old) (K.held sink.new)) }
     ensures refusal { (command : Command) (input : List ℕ) (refusal : Refusal) → Spells (texts words.now) command
         → S.left source.old ≡ Some input → S.left source.new ≡ Some [] → Refuses command input refusal
-        → IsWhole (K.held sink.old) (K.held sink.new) (refused_line refusal) → result ≡ Status.Refused }
+        → IsWhole (K.held sink.old) (K.held sink.new) (refusal_line refusal) → result ≡ Status.Refused }
 
     // The sink failed, and was given a front of the text that lacks at least one byte.
     ensures sink_fault { result ≡ Status.SinkFault → Rose (K.faults sink.old) (K.faults sink.new) }
@@ -59,7 +59,7 @@ pub fn m88<S: Source, K: Sink>(
     // Where nothing failed, an input that is not too long is answered: Done if it is accepted, Refused if
     // it is not, or Memory.
     ensures complete { (command : Command) (input : List ℕ) → Spells (texts words.now) command
-        → Holds command (S.left source.old) input
+        → HasInput command (S.left source.old) input
         → ¬ Rose (S.faults source.old) (S.faults source.new) → ¬ Rose (K.faults sink.old) (K.faults sink.new)
         → Answers (Accepts command input) result }
 
@@ -86,7 +86,7 @@ pub fn m88<S: Source, K: Sink>(
 /// The reply of a command to what a source gives it, or why there is none.
 fn reply_from<S: Source>(alloc: Global, command: Command, source: &mut S) -> Result<Reply, Status>
     requires { IsWithinLimit command }
-    ensures ok { IfOk result (λ reply. (input : List ℕ) × Gives command (S.left source.old) (S.left source.new) input
+    ensures ok { IfOk result (λ reply. (input : List ℕ) × GivesInput command (S.left source.old) (S.left source.new) input
         × Replies command input reply) }
     ensures unread { reads_input command ≡ false → source.new ≡ source.old }
     ensures status { IfErr result IsOfReading }

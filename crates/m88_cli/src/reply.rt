@@ -1,8 +1,22 @@
 //! What a command answers to its input.
+ghost use Rattle.std.specs.Prelude.{◌≡◌, IfOk};
+ghost use Rattle.m88_base.specs.Refused.{refused_line};
+
+use m88_base::push_refused;
+use std::alloc::{AllocError, Global};
 
 /// What a command writes, and whether it accepts its input.
 #[derive(Drop, Debug)]
 pub struct Reply {
     pub accepted: bool,
     pub text: Vec<u8>,
+}
+
+/// The line that refuses an input at a line and a column, both from 1, for a reason.
+pub fn refusal(alloc: Global, line: u32, column: u32, reason: &[u8]) -> Result<Vec<u8>, AllocError>
+    ensures { IfOk result (λ text. text.items ≡ refused_line line column reason.now) }
+{
+    let mut text = Vec::new(alloc);
+    push_refused(&mut text, line, column, reason)?;
+    Ok(text)
 }

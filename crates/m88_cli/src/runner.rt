@@ -39,9 +39,9 @@ pub struct Runner<'a> {
 }
 
 impl<'a> Model for Runner<'a> {
-    ghost use Rattle.m88_cli.specs.Runner.{IsSound, Standing};
+    ghost use Rattle.m88_cli.specs.Runner.{IsRunnerSound, RunnerState};
 
-    ghost Value = { Standing };
+    ghost Value = { RunnerState };
 
     ghost view = { λ r. record {
       image = r.image.now;
@@ -56,7 +56,7 @@ impl<'a> Model for Runner<'a> {
       ended = r.ended;
     } };
 
-    ghost invariant = { λ r. IsSound r.image.now r.limit r.pc r.next r.retired };
+    ghost invariant = { λ r. IsRunnerSound r.image.now r.limit r.pc r.next r.retired };
 }
 
 impl<'a> Runner<'a> {

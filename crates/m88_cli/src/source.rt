@@ -1,13 +1,14 @@
+//! A source for `run`, read line by line.
 ghost use Rattle.std.specs.Prelude.{◌≡◌, ◌∷◌, ◌++◌, ◌<◌, ◌^◌, ◌≤◌, ◌+◌, ◌==◌, ℕ, List, IfOk, IfSome, IsSome, MatchOption, Some, codes, length};
 ghost use Rattle.std.specs.List.{position_or_len};
 ghost use Rattle.m88_base.specs.declared.reg.Reg.{Reg as Register};
 ghost use Rattle.m88_isa.specs.declared.instr.Instr.{Instr as Instruction};
 ghost use Rattle.m88_cli.specs.Reading.{FitsSource, HasNoComma, HasPlain, Reads};
-ghost use Rattle.m88_cli.specs.Source.{IsLineOf, comma, lines_of, parted, register_name};
+ghost use Rattle.m88_cli.specs.Source.{IsLineOf, comma, source_lines, parted, register_name};
 ghost use Rattle.m88_cli.specs.Plain.{IsPlain};
 
-use crate::numbers::{decimal_number, plain_number};
-use m88_base::Reg;
+use crate::numbers::operand_number;
+use m88_base::{Reg, decimal_in};
 use m88_isa::{ImmOp, Instr};
 use std::alloc::{AllocError, Global};
 
@@ -45,7 +46,7 @@ pub fn read_source(alloc: Global, source: &[u8]) -> Result<Reading, AllocError>
 /// The first line of bytes that are not empty, without its end, and what follows it.
 fn first_line(bytes: &[u8]) -> (&[u8], &[u8])
     requires { 0 < length bytes.now }
-    ensures lines { lines_of bytes.now ≡ result.0.now ∷ lines_of result.1.now }
+    ensures lines { source_lines bytes.now ≡ result.0.now ∷ source_lines result.1.now }
     ensures shorter { length result.1.now < length bytes.now }
     ensures within { length result.0.now + length result.1.now ≤ length bytes.now }
 {
@@ -83,7 +84,7 @@ fn read_or(text: &[u8]) -> Option<Instr>
     let (first, second, third) = operands(text)?;
     let d = register(first)?;
     let s1 = register(second)?;
-    let imm = plain_number(65535, third)?;
+    let imm = operand_number(third, 65535)?;
     Some(Instr::Imm {
         op: ImmOp::Or,
         d,
@@ -100,9 +101,9 @@ fn read_tb0(text: &[u8]) -> Option<Instr>
     ensures long { IsSome result → 0 < length text.now }
 {
     let (first, second, third) = operands(text)?;
-    let bit = decimal_number(31, first)?;
+    let bit = decimal_in(first, 31)?;
     let s1 = register(second)?;
-    let vector = plain_number(511, third)?;
+    let vector = operand_number(third, 511)?;
     Some(Instr::TrapBit {
         set: false,
         bit: bit as u8,
@@ -152,6 +153,6 @@ fn register(text: &[u8]) -> Option<Reg>
     let [b'r', digits @ ..] = text else {
         return None;
     };
-    let n = decimal_number(31, digits)?;
+    let n = decimal_in(digits, 31)?;
     Some(Reg::from_low_bits(n))
 }

@@ -1,7 +1,7 @@
 -- A refusal stands whole only where it was written whole; where the sink failed a part of the text was written.
 use Rattle.std.proofs.Common.{◌≡◌, ap, inr, refl, sym, ◌∙◌, subst}
 use Rattle.m88_base.specs.Outside.{AppendsPart}
-use Rattle.m88_cli.specs.Answer.{refused_line}
+use Rattle.m88_cli.specs.Answer.{refusal_line}
 use Rattle.m88_cli.proofs.OneSource.{refused_not_accepted}
 use Rattle.m88_cli.proofs.Texts.{some_same}
 use Rattle.m88_cli.proofs.Whole.{accepted_reply, answer_of, line_of_reply, not_part, not_whole, of_err, refusal_some, refused_reply, reply_given, reply_whole}
@@ -9,7 +9,7 @@ use Rattle.m88_cli.proofs.program.m88.Goals as goal
 
 pub returns-in-Err-clause-refusal : goal.returns-in-Err-clause-refusal
 returns-in-Err-clause-refusal g c = λ command input refusal spelled had left refused whole.
-    absurd (not_whole _ (refused_line refusal) (refusal_some refusal) whole)
+    absurd (not_whole _ (refusal_line refusal) (refusal_some refusal) whole)
 
 pub returns-then-reply-clause-refusal : goal.returns-then-reply-clause-refusal
 returns-then-reply-clause-refusal g c = λ command input refusal spelled had left refused whole.
@@ -21,10 +21,10 @@ pub returns-then-is_err-clause-refusal : goal.returns-then-is_err-clause-refusal
 returns-then-is_err-clause-refusal g c = λ command input refusal spelled had left refused whole.
     let same : c.in-Some.command ≡ command = some_same (c.in-Some.ensures.only command spelled) in
     let replies = reply_whole command c.in-Some.command _ _ input refusal c.in-Ok.reply same refused had left c.in-Ok.ensures.ok in
-    let written : c.as_slice.result.now ≡ refused_line refusal =
+    let written : c.as_slice.result.now ≡ refusal_line refusal =
     c.as_slice.ensures.value ∙ line_of_reply command input refusal c.in-Ok.reply refused replies in
     let part = of_err c.write_all.result (sym c.is_err.ensures.value ∙ c.if-is_err.true) c.write_all.ensures.part in
-    absurd (not_part _ _ (refused_line refusal)
+    absurd (not_part _ _ (refusal_line refusal)
     (subst (λ t. AppendsPart (g.K.Sink.held c.args.sink.now) (g.K.Sink.held c.write_all.new.sink) t) written part) whole)
 
 pub returns-then-is_err-clause-part : goal.returns-then-is_err-clause-part

@@ -1,6 +1,6 @@
 -- A line of `or` has its operands between its commas, and each is read.
 use Rattle.std.proofs.Common.{◌∙◌, Some, ap, sym, codes, subst, ◌++◌}
-use Rattle.m88_cli.specs.Numbers.{IsNumber}
+use Rattle.m88_cli.specs.Numbers.{IsOperandNumber}
 use Rattle.m88_cli.specs.Source.{or_line, parted, register_name}
 use Rattle.m88_cli.proofs.Texts.{none_some, one_instruction, or_behind, register_no_comma}
 use Rattle.m88_cli.proofs.source.read_or.Goals as goal
@@ -30,7 +30,7 @@ pub returns-in_err-imm-clause-only : goal.returns-in_err-imm-clause-only
 returns-in_err-imm-clause-only c = λ i is.
     let p = or_behind i c.args.text.now is in
     let cut = c.in_ok-first.ensures.only (register_name p.d) (register_name p.s1) p.n (register_no_comma p.d) (register_no_comma p.s1) p.text_is in
-    absurd (none_some (c.in_err-imm.ensures.only p.imm p.small (subst (λ text. IsNumber text p.imm) (sym cut.2) p.number)))
+    absurd (none_some (c.in_err-imm.ensures.only p.imm p.small (subst (λ text. IsOperandNumber text p.imm) (sym cut.2) p.number)))
 
 pub returns-clause-only : goal.returns-clause-only
 returns-clause-only c = λ i is. ap Some (one_instruction (codes "or " ++ c.args.text.now) _ i (returns-clause-found c) is)

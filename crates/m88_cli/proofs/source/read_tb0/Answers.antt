@@ -1,6 +1,6 @@
 -- A line of `tb0` has its operands between its commas, and each is read.
 use Rattle.std.proofs.Common.{◌∙◌, Some, ap, sym, arith, codes, decimal, subst, ◌++◌}
-use Rattle.m88_cli.specs.Numbers.{IsNumber}
+use Rattle.m88_cli.specs.Numbers.{IsOperandNumber}
 use Rattle.m88_cli.specs.Source.{trap_line, parted, register_name}
 use Rattle.m88_cli.proofs.Texts.{decimal_no_comma, none_some, one_instruction, trap_behind, register_no_comma}
 use Rattle.m88_cli.proofs.source.read_tb0.Goals as goal
@@ -30,7 +30,7 @@ pub returns-in_err-vector-clause-only : goal.returns-in_err-vector-clause-only
 returns-in_err-vector-clause-only c = λ i is.
     let p = trap_behind i c.args.text.now is in
     let cut = c.in_ok-first.ensures.only (decimal p.bit) (register_name p.s1) p.v (decimal_no_comma p.bit (omega (arith, p.low))) (register_no_comma p.s1) p.text_is in
-    absurd (none_some (c.in_err-vector.ensures.only p.vector p.small (subst (λ text. IsNumber text p.vector) (sym cut.2) p.number)))
+    absurd (none_some (c.in_err-vector.ensures.only p.vector p.small (subst (λ text. IsOperandNumber text p.vector) (sym cut.2) p.number)))
 
 pub returns-clause-only : goal.returns-clause-only
 returns-clause-only c = λ i is. ap Some (one_instruction (codes "tb0 " ++ c.args.text.now) _ i (returns-clause-found c) is)
