@@ -1,5 +1,5 @@
 -- A runner that stands at a moment, and carries its next turn out, stands at the moment behind it.
-use Rattle.std.proofs.Common.{◌≡◌, ◌≢◌, ℕ, ◌+◌, ◌-◌, ◌*◌, ◌<◌, ◌≤◌, ◌==◌, ◌||◌, Bool, true, false, Option, Some, None, add-one, refl, ap, sym, ◌∙◌, subst, [], ◌∷◌, ◌++◌, arith}
+use Rattle.std.proofs.Common.{◌≡◌, ◌≢◌, ℕ, ◌+◌, ◌<◌, ◌≤◌, ◌==◌, ◌||◌, Bool, true, false, Option, Some, None, add-one, refl, ap, sym, ◌∙◌, subst, [], ◌∷◌, ◌++◌, arith}
 use Rattle.std.specs.Prelude.{MatchOption, is_some, if◌then◌else◌}
 use Rattle.std.proofs.lemmas.Bool.Decides.{nat_tests}
 use Rattle.m88_isa.specs.Address.{after_bytes}

@@ -1,6 +1,6 @@
 -- Words for the contracts of private functions; no promise of the program names them. How lines are
 -- read, and what the reader of a source found.
-use Rattle.std.specs.Prelude.{All, ◌*◌, ◌≤◌, ◌≡◌, ◌==◌, ◌&&◌, ◌||◌, ℕ, Bool, List, Option, Some, None, true, length, nat_le, not, slice_index, if◌then◌else◌}
+use Rattle.std.specs.Prelude.{All, ◌*◌, ◌≤◌, ◌≡◌, ◌==◌, ◌&&◌, ℕ, Bool, List, true, length, nat_le, not, slice_index}
 use Rattle.std.specs.List.{list_all}
 use Rattle.m88_cli.specs.Plain.{IsPlain}
 use Rattle.m88_cli.specs.Source.{comma, IsFirstOther, IsSourceOf}

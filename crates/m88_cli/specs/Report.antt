@@ -1,5 +1,5 @@
 -- The report of a run, line by line (the format of reports, docs/FORMATS.md).
-use Rattle.std.specs.Prelude.{ℕ, List, [], ◌∷◌, ◌++◌, Bool, take, drop, flat_map, codes, decimal, length, ◌==◌, if◌then◌else◌}
+use Rattle.std.specs.Prelude.{ℕ, List, ◌∷◌, ◌++◌, Bool, take, drop, flat_map, codes, decimal, length, ◌==◌, if◌then◌else◌}
 use Rattle.m88_cli.specs.declared.outcome.End.{End}
 use Rattle.m88_cli.specs.declared.outcome.End.TheVariants.{Limit, Exit, Vector}
 use Rattle.m88_base.specs.Hex.{hex2, hex8}

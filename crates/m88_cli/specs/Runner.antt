@@ -1,13 +1,13 @@
 -- Words for the contracts of private functions; no promise of the program names them. What carries a program out, seen
 -- as a state of the sequential machine and the marks of a moment.
-use Rattle.std.specs.Prelude.{◌<◌, ◌≤◌, unwrap_or, Bool, true, false, ◌*◌, ◌-◌, if◌then◌else◌, ◌||◌, ◌==◌, ◌%◌, ℕ, ◌≡◌, ◌+◌, List, [], ◌∷◌, ◌++◌, Option, Some, is_some, MatchOption}
+use Rattle.std.specs.Prelude.{◌<◌, ◌≤◌, unwrap_or, Bool, false, ◌*◌, ◌-◌, if◌then◌else◌, ◌||◌, ◌==◌, ◌%◌, ℕ, ◌≡◌, ◌+◌, List, [], ◌∷◌, ◌++◌, Option, Some, is_some, MatchOption}
 use Rattle.m88_base.specs.Image.{ProgramImage}
 use Rattle.m88_isa.specs.Address.{after_bytes}
 use Rattle.m88_isa.specs.Machine.{Program, State, Turn, by_vector, changes, exits, opening, outputs, state, step, stops, with_written}
 use Rattle.m88_cli.specs.Limits.{most_limit}
 use Rattle.m88_cli.specs.Loaded.{HasPlainWords, IsImageOf}
 use Rattle.m88_cli.specs.Report.{Summary}
-use Rattle.m88_cli.specs.Timeline.{Moment, end_of_step, is_over}
+use Rattle.m88_cli.specs.Timeline.{Moment, end_of_step}
 use Rattle.m88_cli.specs.declared.letter.Letter.{Letter}
 use Rattle.m88_cli.specs.declared.letter.Letter.TheVariants.{Issue, Answer}
 use Rattle.m88_cli.specs.declared.next_turn.NextTurn.{NextTurn}

@@ -3,7 +3,7 @@ use Rattle.std.proofs.Common.{◌∙◌, ap, sym, inl, inr, arith}
 use Rattle.std.proofs.lemmas.List.{take_rest}
 use Rattle.m88_base.specs.Numerals.{number_in}
 use Rattle.m88_cli.specs.Reading.{is_operand_hexadecimal}
-use Rattle.m88_cli.proofs.Numerals.{hexadecimal_found, hexadecimal_seen, hexadecimal_told, no_decimal}
+use Rattle.m88_cli.proofs.Numerals.{hexadecimal_found, hexadecimal_told, no_decimal}
 use Rattle.m88_cli.proofs.numbers.operand_number.Goals as goal
 
 pub returns-then-is_operand_hexadecimal-clause-only : goal.returns-then-is_operand_hexadecimal-clause-only

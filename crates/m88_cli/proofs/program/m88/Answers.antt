@@ -1,5 +1,5 @@
 -- A refusal stands whole only where it was written whole; where the sink failed a part of the text was written.
-use Rattle.std.proofs.Common.{◌≡◌, ap, inr, refl, sym, ◌∙◌, subst}
+use Rattle.std.proofs.Common.{◌≡◌, inr, refl, sym, ◌∙◌, subst}
 use Rattle.m88_base.specs.Outside.{AppendsPart}
 use Rattle.m88_cli.specs.Answer.{refusal_line}
 use Rattle.m88_cli.proofs.OneSource.{refused_not_accepted}
