@@ -30,6 +30,10 @@ pub use token::{Token, TokenKind};
 pub use unit::{Body, Module, Statement, Unit, Value};
 
 #[cfg(test)]
-mod rulings_tests;
+mod code_tests;
 #[cfg(test)]
-mod tests;
+mod fault_tests;
+#[cfg(test)]
+mod token_tests;
+#[cfg(test)]
+mod unit_tests;

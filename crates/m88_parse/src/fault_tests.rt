@@ -1,8 +1,55 @@
-//! Refusals at doubtful places, from outside.
+//! Sources and their first faults, from outside, with the doubtful places beside those that are taken.
+
 use super::*;
 
 #[test]
-fn refused_at_this_place(rt: HostRuntime) {
+fn refused_at_the_first_fault(rt: HostRuntime) {
+    let rows: [(&[u8], u32, u32, ParseKind); 35] = [
+        (b"foo r2", 1, 1, ParseKind::NoSuchName),
+        (b"or r2,r0", 1, 9, ParseKind::Syntax),
+        (b"or r2,r0 ; and a comment", 1, 9, ParseKind::Syntax),
+        (b"or r2,r0,65536", 1, 10, ParseKind::OutOfRange),
+        (b"\xE9", 1, 1, ParseKind::NotAscii),
+        (b"\nfoo\nfoo @", 2, 1, ParseKind::NoSuchName),
+        (b"foo @", 1, 5, ParseKind::Syntax),
+        (b"or r02,r0,1", 1, 4, ParseKind::NoSuchName),
+        (b"or R2,r0,1", 1, 4, ParseKind::NoSuchName),
+        (b"or r32,r0,1", 1, 4, ParseKind::NoSuchName),
+        (b"or 2,r0,1", 1, 4, ParseKind::Syntax),
+        (b"or r2,r0,-1", 1, 10, ParseKind::Syntax),
+        (b"or.u r2,r0,r5", 1, 12, ParseKind::NoSuchName),
+        (b"or.c r2,r0,hi16(x)", 1, 12, ParseKind::NoSuchName),
+        (b"or.c r2,r0,5", 1, 12, ParseKind::Syntax),
+        (b"or r2,r0,hi16", 1, 10, ParseKind::NoSuchName),
+        (b"or r2,r0,hi16(-2147483649)", 1, 15, ParseKind::OutOfRange),
+        (b"or r2,r0,hi16(- x)", 1, 17, ParseKind::Syntax),
+        (b"tbnd r2,lo16(x)", 1, 9, ParseKind::NoSuchName),
+        (b"ld.usr r2,r0,4", 1, 14, ParseKind::Syntax),
+        (b"lda r2,r0,r3", 1, 10, ParseKind::Syntax),
+        (b"rot r2,r3,1<2>", 1, 11, ParseKind::OutOfRange),
+        (b"ext r2,r3,<32>", 1, 12, ParseKind::OutOfRange),
+        (b"bb1 up,r2,x", 1, 5, ParseKind::NoSuchName),
+        (b"bcnd 16,r2,x", 1, 6, ParseKind::OutOfRange),
+        (b"br .+2", 1, 6, ParseKind::OutOfRange),
+        (b"bb0 1,r2,.+131072", 1, 12, ParseKind::OutOfRange),
+        (b"br hi16(x)", 1, 8, ParseKind::Syntax),
+        (b"ldcr r2,cr64", 1, 9, ParseKind::NoSuchName),
+        (b".byte -129", 1, 7, ParseKind::OutOfRange),
+        (b".align 3", 1, 8, ParseKind::OutOfRange),
+        (b"r3: or r2,r0,1", 1, 1, ParseKind::Syntax),
+        (b"a: .module b", 1, 4, ParseKind::Syntax),
+        (b".set r2,1", 1, 6, ParseKind::Syntax),
+        (b"a: b: or r2,r0,1", 1, 4, ParseKind::NoSuchName),
+    ];
+    for (source, line, col, kind) in rows {
+        assert!(rt; source.len() < 100);
+        let wanted = ParseFault { line, col, kind };
+        assert_eq!(rt; parse(rt.alloc(), source).err(), Some(wanted));
+    }
+}
+
+#[test]
+fn refused_at_a_doubtful_place(rt: HostRuntime) {
     let rows: [(&[u8], u32, u32, ParseKind); 48] = [
         (b"rte\r", 1, 4, ParseKind::NotAscii),
         (b"rte\r\r\n", 1, 4, ParseKind::NotAscii),
@@ -61,7 +108,7 @@ fn refused_at_this_place(rt: HostRuntime) {
 }
 
 #[test]
-fn accepted_as_ruled(rt: HostRuntime) {
+fn accepted_at_a_doubtful_place(rt: HostRuntime) {
     let rows: [&[u8]; 18] = [
         b"rte ; \r\xFF is in a comment\r\n# \"",
         b"r01: rte\nr32: rte\nR2: rte\ncr64: rte\nfcr064: rte",
@@ -86,17 +133,4 @@ fn accepted_as_ruled(rt: HostRuntime) {
         assert!(rt; source.len() < 200);
         assert_eq!(rt; parse(rt.alloc(), source).err(), None);
     }
-}
-
-#[test]
-fn the_longest_name(rt: HostRuntime) {
-    let longest = [b'a'; 64];
-    let longer = [b'a'; 65];
-    let fault = ParseFault {
-        line: 1,
-        col: 1,
-        kind: ParseKind::OutOfRange,
-    };
-    assert_eq!(rt; tokens(rt.alloc(), &longest, 1).err(), None);
-    assert_eq!(rt; tokens(rt.alloc(), &longer, 1).err(), Some(fault));
 }
