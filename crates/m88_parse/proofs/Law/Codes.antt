@@ -24,7 +24,7 @@ use Rattle.m88_parse.specs.Language.Pieces.{Piece}
 use Rattle.m88_parse.specs.Reader.State.{ReaderState}
 use Rattle.m88_parse.specs.Reader.Slots.{mark_at, unsigned_at, control_at, bit_at, mask_at}
 use Rattle.m88_parse.specs.Reader.Operands.{immediate_at, operand_at, bound_at, scaled_at, index_at, user_index_at, field_at, goal_at}
-use Rattle.m88_parse.specs.Reader.Grammar.{Form, ends, register_then, control_then, bit_then, mask_then, unsigned_then, immediate_then, operand_then, bound_then, scaled_then, index_then, user_index_then, field_then, goal_then, read, comma_then, code_only, either_body, memory_body, bits_body, bounds_body, form_of}
+use Rattle.m88_parse.specs.Reader.Grammar.{Form, ends, register_then, control_then, bit_then, mask_then, unsigned_then, immediate_then, operand_then, bound_then, scaled_then, index_then, user_index_then, field_then, goal_ends, read, comma_then, code_only, either_body, memory_body, bits_body, bounds_body, form_of}
 use Rattle.m88_parse.specs.Language.Operands.{most_width, IsImmediate, IsScaled, IsGoal, AreOperands, either_immediate, either_register, immediate, registers, offset, index as plain_index, scaled, user_index, user_scaled, address, literal, field as register_field, find, branch, branch_bit, branch_condition, jump, trap_bit, trap_condition, bound_number, bound_register, return, control_load, control_store, control_exchange}
 use Rattle.m88_parse.specs.Language.Names.{IsComma, IsNumber, IsControl, IsBit, IsCondition}
 use Rattle.m88_parse.proofs.Law.Slots.{st, bind_to, mark_again, number_slot_again, control_slot_again, bit_again, mask_again}
@@ -64,7 +64,7 @@ unfolding read
 field_to most made line e ps x h = bind_to (field_at most (st line e ps)) (λ (y : Field × ReaderState). read (ends (made y.0)) y.1) (x, st line e []) (Ok (made x)) h (ends_again line e (made x))
 
 goal_to : (kind : Kind) (bits limit : ℕ) (made : Goal → Body) (line e : ℕ) (ps : List Piece) (words : ℤ) (fixup : Option Fixup) → limit ≡ 2 ^ bits → IsGoal kind bits ps words fixup
-    → read (goal_then kind limit (λ y. ends (made y))) (st line e ps) ≡ Ok (made (record { words = words; fixup = fixup }))
+    → read (goal_ends kind limit made) (st line e ps) ≡ Ok (made (record { words = words; fixup = fixup }))
 unfolding read
 goal_to kind bits limit made line e ps words fixup w h =
     let x : Goal = record { words = words; fixup = fixup } in
@@ -158,12 +158,12 @@ operands_again sh line e ps i f (find {ones = ones} {d = d} {s2 = s2} {rest = re
 operands_again sh line e ps i f (branch {link = link} {delayed = delayed} {words = words} {fixup = fixup} h) =
     goal_to Pc26 25 33554432 (λ g. body.Code (instr.Branch link delayed g.words) g.fixup) line e ps words fixup refl h
 operands_again sh line e ps i f (branch_bit {set = on} {delayed = delayed} {bit = bit} {s1 = s1} {b = b} {c = c} {ps = qs} {rest = rest} {words = words} {fixup = fixup} t k v h) =
-    bit_to (λ n. register_then (λ s1. comma_then (goal_then Pc16 32768 (λ g. ends (body.Code (instr.BranchBit on delayed n s1 g.words) g.fixup))))) line e bit b c qs (done i f) t k
-    (behind_again (λ s1. goal_then Pc16 32768 (λ g. ends (body.Code (instr.BranchBit on delayed bit s1 g.words) g.fixup))) line e qs rest s1 (done i f) v
+    bit_to (λ n. register_then (λ s1. comma_then (goal_ends Pc16 32768 (λ g. body.Code (instr.BranchBit on delayed n s1 g.words) g.fixup)))) line e bit b c qs (done i f) t k
+    (behind_again (λ s1. goal_ends Pc16 32768 (λ g. body.Code (instr.BranchBit on delayed bit s1 g.words) g.fixup)) line e qs rest s1 (done i f) v
     (goal_to Pc16 15 32768 (λ g. body.Code (instr.BranchBit on delayed bit s1 g.words) g.fixup) line e rest words fixup refl h))
 operands_again sh line e ps i f (branch_condition {delayed = delayed} {mask = mask} {s1 = s1} {m = m} {c = c} {ps = qs} {rest = rest} {words = words} {fixup = fixup} t k v h) =
-    mask_to (λ n. register_then (λ s1. comma_then (goal_then Pc16 32768 (λ g. ends (body.Code (instr.BranchCond delayed n s1 g.words) g.fixup))))) line e mask m c qs (done i f) t k
-    (behind_again (λ s1. goal_then Pc16 32768 (λ g. ends (body.Code (instr.BranchCond delayed mask s1 g.words) g.fixup))) line e qs rest s1 (done i f) v
+    mask_to (λ n. register_then (λ s1. comma_then (goal_ends Pc16 32768 (λ g. body.Code (instr.BranchCond delayed n s1 g.words) g.fixup)))) line e mask m c qs (done i f) t k
+    (behind_again (λ s1. goal_ends Pc16 32768 (λ g. body.Code (instr.BranchCond delayed mask s1 g.words) g.fixup)) line e qs rest s1 (done i f) v
     (goal_to Pc16 15 32768 (λ g. body.Code (instr.BranchCond delayed mask s1 g.words) g.fixup) line e rest words fixup refl h))
 operands_again sh line e ps i f (jump {link = link} {delayed = delayed} {s2 = s2} h) =
     last_to (λ s2. code_only (instr.Jump link delayed s2)) line e ps s2 (done i f) h (ends_again line e (body.Code i f))

@@ -29,7 +29,7 @@ use Rattle.m88_parse.specs.Language.Pieces.{Piece}
 use Rattle.m88_parse.specs.Reader.State.{ReaderState, ◌>>=◌}
 use Rattle.m88_parse.specs.Reader.Slots.{mark_at, end_at, unsigned_at, register_at, control_at, bit_at, mask_at}
 use Rattle.m88_parse.specs.Reader.Operands.{immediate_at, operand_at, bound_at, scaled_at, index_at, user_index_at, field_at, goal_at}
-use Rattle.m88_parse.specs.Reader.Grammar.{Form, ends, register_then, control_then, bit_then, mask_then, unsigned_then, immediate_then, operand_then, bound_then, scaled_then, index_then, user_index_then, field_then, goal_then, read, comma_then, code_only, either_body, memory_body, bits_body, bounds_body, form_of}
+use Rattle.m88_parse.specs.Reader.Grammar.{Form, ends, register_then, control_then, bit_then, mask_then, unsigned_then, immediate_then, operand_then, bound_then, scaled_then, index_then, user_index_then, field_then, goal_ends, read, comma_then, code_only, either_body, memory_body, bits_body, bounds_body, form_of}
 use Rattle.m88_parse.specs.Language.Operands.{most_width, Behind, IsScaled, IsLast, IsGoal, AreOperands, either_immediate, either_register, immediate, registers, offset, index as plain_index, scaled, user_index, user_scaled, address, literal, field as register_field, find, branch, branch_bit, branch_condition, jump, trap_bit, trap_condition, bound_number, bound_register, return, control_load, control_store, control_exchange}
 use Rattle.m88_parse.specs.Language.Names.{IsComma, IsNumber, IsRegister, IsControl, IsBit, IsCondition}
 use Rattle.m88_parse.proofs.Law.Slots.{st, ok_same, bind_ok, bind_to, One, mark_read, mark_again, end_read, IsUpTo, number_read, register_read, register_again, control_read, bit_read, mask_read}
@@ -220,7 +220,7 @@ find_read ones line e ps b h =
 
 -- branches
 
-goal_last : (kind : Kind) (bits limit line e : ℕ) (ps : List Piece) (made : Goal → Body) (c : Body) → limit ≡ 2 ^ bits → 0 < limit → read (goal_then kind limit (λ g. ends (made g))) (st line e ps) ≡ Ok c
+goal_last : (kind : Kind) (bits limit line e : ℕ) (ps : List Piece) (made : Goal → Body) (c : Body) → limit ≡ 2 ^ bits → 0 < limit → read (goal_ends kind limit made) (st line e ps) ≡ Ok c
     → (g : Goal) × IsGoal kind bits ps g.words g.fixup × (made g ≡ c)
 unfolding read
 goal_last kind bits limit line e ps made c w some h =
@@ -279,8 +279,8 @@ at_tokens sh ps qs b t h = subst (λ (xs : List Piece). Coded sh xs b) (sym t) h
 branch_bit_read : (on delayed : Bool) (line e : ℕ) (ps : List Piece) (b : Body) → read (form_of (shape.BranchBit on delayed)) (st line e ps) ≡ Ok b → Coded (shape.BranchBit on delayed) ps b
 unfolding form_of
 branch_bit_read on delayed line e ps b h =
-    let f = bit_first line e ps (λ n. register_then (λ s1. comma_then (goal_then Pc16 32768 (λ g. ends (body.Code (instr.BranchBit on delayed n s1 g.words) g.fixup))))) b h in
-    let v = behind_read (λ s1. goal_then Pc16 32768 (λ g. ends (body.Code (instr.BranchBit on delayed f.value s1 g.words) g.fixup))) line e f.rest b f.goes_on in
+    let f = bit_first line e ps (λ n. register_then (λ s1. comma_then (goal_ends Pc16 32768 (λ g. body.Code (instr.BranchBit on delayed n s1 g.words) g.fixup)))) b h in
+    let v = behind_read (λ s1. goal_ends Pc16 32768 (λ g. body.Code (instr.BranchBit on delayed f.value s1 g.words) g.fixup)) line e f.rest b f.goes_on in
     let g = goal_last Pc16 15 32768 line e v.1 (λ g. body.Code (instr.BranchBit on delayed f.value v.0 g.words) g.fixup) b refl (omega arith) v.3 in
     at_tokens (shape.BranchBit on delayed) ps (f.piece ∷ f.comma ∷ f.rest) b f.tokens
     (coded (shape.BranchBit on delayed) (f.piece ∷ f.comma ∷ f.rest) b (instr.BranchBit on delayed f.value v.0 g.0.words) g.0.fixup (branch_bit f.is f.parted v.2 g.1) g.2)
@@ -288,8 +288,8 @@ branch_bit_read on delayed line e ps b h =
 branch_cond_read : (delayed : Bool) (line e : ℕ) (ps : List Piece) (b : Body) → read (form_of (shape.BranchCond delayed)) (st line e ps) ≡ Ok b → Coded (shape.BranchCond delayed) ps b
 unfolding form_of
 branch_cond_read delayed line e ps b h =
-    let f = mask_first line e ps (λ n. register_then (λ s1. comma_then (goal_then Pc16 32768 (λ g. ends (body.Code (instr.BranchCond delayed n s1 g.words) g.fixup))))) b h in
-    let v = behind_read (λ s1. goal_then Pc16 32768 (λ g. ends (body.Code (instr.BranchCond delayed f.value s1 g.words) g.fixup))) line e f.rest b f.goes_on in
+    let f = mask_first line e ps (λ n. register_then (λ s1. comma_then (goal_ends Pc16 32768 (λ g. body.Code (instr.BranchCond delayed n s1 g.words) g.fixup)))) b h in
+    let v = behind_read (λ s1. goal_ends Pc16 32768 (λ g. body.Code (instr.BranchCond delayed f.value s1 g.words) g.fixup)) line e f.rest b f.goes_on in
     let g = goal_last Pc16 15 32768 line e v.1 (λ g. body.Code (instr.BranchCond delayed f.value v.0 g.words) g.fixup) b refl (omega arith) v.3 in
     at_tokens (shape.BranchCond delayed) ps (f.piece ∷ f.comma ∷ f.rest) b f.tokens
     (coded (shape.BranchCond delayed) (f.piece ∷ f.comma ∷ f.rest) b (instr.BranchCond delayed f.value v.0 g.0.words) g.0.fixup (branch_condition f.is f.parted v.2 g.1) g.2)

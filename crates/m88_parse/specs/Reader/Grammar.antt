@@ -63,7 +63,7 @@ byte_item_at s = signed_at (2 ^ 7) (2 ^ 8 - 1) s >>= λ n. Ok (n.0 % 2 ^ 8, n.1)
 -- a slot and the form behind it, by what the slot gives
 pub data Form : Type 0 where
   ends : Body → Form
-  mark_then : ℕ → Form → Form
+  comma_then : Form → Form
   register_then : (Reg → Form) → Form
   control_then : Bool → (ℕ → Form) → Form
   bit_then : (ℕ → Form) → Form
@@ -79,16 +79,20 @@ pub data Form : Type 0 where
   index_then : (Index → Form) → Form
   user_index_then : (Reg → Bool → Form) → Form
   field_then : ℕ → (Field → Form) → Form
-  goal_then : Kind → ℕ → (Goal → Form) → Form
-  words_then : (List Value → Form) → Form
-  halves_then : (List ℕ → Form) → Form
-  bytes_then : (List ℕ → Form) → Form
+  goal_ends : Kind → ℕ → (Goal → Body) → Form
+  words_end : (List Value → Body) → Form
+  halves_end : (List ℕ → Body) → Form
+  bytes_end : (List ℕ → Body) → Form
   text_then : (List ℕ → Form) → Form
+
+-- the end of the line, and what was read before it
+abbrev pub end_with : Body → ReaderState → Result Body ParseFault
+end_with b s = end_at s >>= λ t. Ok b
 
 -- what the tokens say by a form, or the fault of the first one that can't stand where it stands
 unfoldable pub read : Form → ReaderState → Result Body ParseFault
-read (ends b) s = end_at s >>= λ t. Ok b
-read (mark_then m form) s = mark_at m s >>= λ t. read form t
+read (ends b) s = end_with b s
+read (comma_then form) s = mark_at comma_mark s >>= λ t. read form t
 read (register_then form) s = register_at s >>= λ x. read (form x.0) x.1
 read (control_then float form) s = control_at float s >>= λ x. read (form x.0) x.1
 read (bit_then form) s = bit_at s >>= λ x. read (form x.0) x.1
@@ -104,15 +108,11 @@ read (scaled_then form) s = scaled_at s >>= λ x. read (form x.0) x.1
 read (index_then form) s = index_at s >>= λ x. read (form x.0) x.1
 read (user_index_then form) s = user_index_at s >>= λ x. read (form x.0.0 x.0.1) x.1
 read (field_then most form) s = field_at most s >>= λ x. read (form x.0) x.1
-read (goal_then kind limit form) s = goal_at kind limit s >>= λ x. read (form x.0) x.1
-read (words_then form) s = list_at word_item_at s >>= λ x. read (form x.0) x.1
-read (halves_then form) s = list_at half_item_at s >>= λ x. read (form x.0) x.1
-read (bytes_then form) s = list_at byte_item_at s >>= λ x. read (form x.0) x.1
+read (goal_ends kind limit made) s = goal_at kind limit s >>= λ x. end_with (made x.0) x.1
+read (words_end made) s = list_at word_item_at s >>= λ x. end_with (made x.0) x.1
+read (halves_end made) s = list_at half_item_at s >>= λ x. end_with (made x.0) x.1
+read (bytes_end made) s = list_at byte_item_at s >>= λ x. end_with (made x.0) x.1
 read (text_then form) s = text_at s >>= λ x. read (form x.0) x.1
-
--- a comma and what follows
-abbrev pub comma_then : Form → Form
-comma_then form = mark_then comma_mark form
 
 -- an instruction with no fixup
 abbrev pub code_only : Instr → Form
@@ -177,19 +177,19 @@ find_bit_form ones = two_registers (λ d s2. code_only (instr.Find ones d s2))
 
 -- a goal in a field of 26 bits
 abbrev pub branch_form : Bool → Bool → Form
-branch_form link delayed = goal_then Pc26 (2 ^ 25) (λ g. ends (body.Code (instr.Branch link delayed g.words) g.fixup))
+branch_form link delayed = goal_ends Pc26 (2 ^ 25) (λ g. body.Code (instr.Branch link delayed g.words) g.fixup)
 
 -- a bit, rS1 and a goal in a field of 16 bits
 abbrev pub branch_bit_form : Bool → Bool → Form
 branch_bit_form on delayed =
     bit_then (λ b. comma_then (register_then (λ s1. comma_then
-    (goal_then Pc16 (2 ^ 15) (λ g. ends (body.Code (instr.BranchBit on delayed b s1 g.words) g.fixup))))))
+    (goal_ends Pc16 (2 ^ 15) (λ g. body.Code (instr.BranchBit on delayed b s1 g.words) g.fixup)))))
 
 -- a condition, rS1 and a goal in a field of 16 bits
 abbrev pub branch_cond_form : Bool → Form
 branch_cond_form delayed =
     mask_then (λ m. comma_then (register_then (λ s1. comma_then
-    (goal_then Pc16 (2 ^ 15) (λ g. ends (body.Code (instr.BranchCond delayed m s1 g.words) g.fixup))))))
+    (goal_ends Pc16 (2 ^ 15) (λ g. body.Code (instr.BranchCond delayed m s1 g.words) g.fixup)))))
 
 -- rS2
 abbrev pub jump_form : Bool → Bool → Form
@@ -248,9 +248,9 @@ unfoldable pub directive_form : Directive → Form
 directive_form directive.Text = ends body.Text
 directive_form directive.Data = ends body.DataSection
 directive_form directive.At = unsigned_then (2 ^ 32 - 1) (λ n. ends (body.At n))
-directive_form directive.Word = words_then (λ vs. ends (body.Word vs))
-directive_form directive.Half = halves_then (λ ns. ends (body.Half ns))
-directive_form directive.Byte = bytes_then (λ ns. ends (body.Byte ns))
+directive_form directive.Word = words_end (λ vs. body.Word vs)
+directive_form directive.Half = halves_end (λ ns. body.Half ns)
+directive_form directive.Byte = bytes_end (λ ns. body.Byte ns)
 directive_form directive.Ascii = text_then (λ bs. ends (body.Ascii bs))
 directive_form directive.Zero = unsigned_then (2 ^ 32 - 1) (λ n. ends (body.Zero n))
 directive_form directive.Align = alignment_then (λ n. ends (body.Align n))

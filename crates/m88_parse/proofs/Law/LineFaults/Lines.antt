@@ -31,7 +31,7 @@ use Rattle.m88_parse.proofs.Law.LineFaults.Nodes.{is_heard, fresh_behind, mispla
 use Rattle.m88_parse.proofs.Law.LineFaults.Slots.{saying, reader_of, one_token, one_any_name, any, any_is_symbol}
 use Rattle.m88_parse.proofs.Law.LineFaults.Values.{NoName, number_is, text_is, mark_is, symbol_step}
 use Rattle.m88_parse.proofs.Law.LineFaults.Lists.{end_plain, end_node}
-use Rattle.m88_parse.proofs.Law.LineFaults.Forms.{FormGood, instruction_good, directive_good}
+use Rattle.m88_parse.proofs.Law.LineFaults.Forms.{FormGood, form_good}
 
 -- the first token of an operation
 
@@ -122,9 +122,9 @@ form_told line e p ps f name form h n i g =
 named_told : (line e : ℕ) (p : Piece) (ps : List Piece) (f : ParseFault) (name : List ℕ) (m : Option Mnemonic) (d : Option Directive) → p.says ≡ a_name name → is_module name ≡ false → mnemonic_of name ≡ m → directive_of name ≡ d
     → EndsAt (p ∷ ps) e → heard line e (p ∷ ps) ≡ Some f → Told line (p ∷ ps) f
 named_told line e p ps f name (Some m) d h n i j =
-    form_told line e p ps f name (form_of (shape_of m)) h n (ap (λ (o : Option Mnemonic). form_in o (directive_of name)) i) (instruction_good (suc (length ps)) line e (shape_of m))
+    form_told line e p ps f name (form_of (shape_of m)) h n (ap (λ (o : Option Mnemonic). form_in o (directive_of name)) i) (form_good (suc (length ps)) line e (form_of (shape_of m)))
 named_told line e p ps f name None (Some d) h n i j =
-    form_told line e p ps f name (directive_form d) h n (ap₂ (λ (a : Option Mnemonic) (b : Option Directive). form_in a b) i j) (directive_good (suc (length ps)) line e d)
+    form_told line e p ps f name (directive_form d) h n (ap₂ (λ (a : Option Mnemonic) (b : Option Directive). form_in a b) i j) (form_good (suc (length ps)) line e (directive_form d))
 named_told line e p ps f name None None h n i j =
     λ a. first_told line e p ps f
     (λ l c qs. heard_named l c p qs name h n ∙ ap₂ (λ (a : Option Mnemonic) (b : Option Directive). fault_in (by_form (st l c (p ∷ qs)) (form_in a b))) i j ∙ ap (λ (o : TokenValue). here l p.col (kind_for false own_names o)) (sym h))
