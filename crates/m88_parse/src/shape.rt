@@ -6,7 +6,7 @@ use m88_isa::{BitOp, ImmOp, LdaSize, MemOp, Mnemonic, RegOp};
 
 /// The operand form of a mnemonic, with what it says of the instruction ("Instruction Set": the
 /// assembler syntax of each instruction).
-#[derive(Clone, Copy)]
+#[derive(Clone, Copy, PartialEq, Eq, Debug)]
 pub enum Shape {
     /// rD,rS1 and an immediate or a register.
     Either(ImmOp, RegOp),

@@ -3,13 +3,13 @@ use m88_base::{Fixup, Listed, Name};
 use m88_isa::Instr;
 
 /// A whole source: its modules, one at least, in order.
-#[derive(Drop)]
+#[derive(Drop, Debug)]
 pub struct Unit {
     pub modules: Listed<Module>,
 }
 
 /// A module: its name, the line of its `.module` (1 where there is none), and its statements in order.
-#[derive(Drop)]
+#[derive(Drop, Debug)]
 pub struct Module {
     pub name: Name,
     pub line: u32,
@@ -18,7 +18,7 @@ pub struct Module {
 
 /// A statement: its line, its label with the label's column, the column of its operation (of its label
 /// where it has no operation), and what it says.
-#[derive(Drop)]
+#[derive(Drop, Debug)]
 pub struct Statement {
     pub line: u32,
     pub label: Option<(Name, u32)>,
@@ -28,7 +28,7 @@ pub struct Statement {
 
 /// What a statement says: nothing beside its label, a directive, or an instruction with the fixup of
 /// its one field that waits for a symbol.
-#[derive(Drop)]
+#[derive(Drop, Debug)]
 pub enum Body {
     Empty,
     Text,
@@ -47,7 +47,7 @@ pub enum Body {
 }
 
 /// A word of `.word`: a number modulo 2^32, or a symbol plus an addend.
-#[derive(Drop)]
+#[derive(Drop, Debug)]
 pub enum Value {
     Number(u32),
     Symbol(Fixup),
