@@ -1,4 +1,6 @@
 pub mod Reg
+pub mod RegisterSet
+pub mod Triple
 pub mod Name
 pub mod Padded
 pub mod Lines

@@ -1,0 +1,12 @@
+//! The control registers: what an exception saves, what a return from it hands back, and the processor's
+//! status with the carry.
+#![tactic(auto)]
+
+mod control;
+pub mod cr;
+mod frame;
+#[cfg(test)]
+mod tests;
+
+pub use control::Control;
+pub use frame::{Frame, Restart};

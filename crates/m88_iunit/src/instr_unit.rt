@@ -1,0 +1,171 @@
+//! The three instruction pointers and how they move.
+ghost use Rattle.std.specs.Prelude.{◌≡◌, ◌%◌, true, false};
+ghost use Rattle.m88_iunit.specs.Pointers.{AreWordSlots, IsWordSlot, advanced, at_entry, no_slot, resumed, slot_of, squashed_slot, valid_slot, word_behind, word_of};
+
+use crate::slot::Slot;
+use std::marker::Model;
+
+/// The instruction pointers XIP, NIP and FIP. Each has the address of a word.
+#[derive(Drop, Debug)]
+pub struct InstrUnit {
+    xip: Slot,
+    nip: Slot,
+    fip: Slot,
+}
+
+impl Model for InstrUnit {
+    ghost use Rattle.m88_iunit.specs.Pointers.{AreWordSlots, Pointers};
+
+    ghost Value = { Pointers };
+
+    ghost view = { λ unit. record { xip = unit.xip; nip = unit.nip; fip = unit.fip } };
+
+    ghost invariant = { λ unit. AreWordSlots (record { xip = unit.xip; nip = unit.nip; fip = unit.fip }) };
+}
+
+impl InstrUnit {
+    /// The pointers at the start of a program: nothing is in execution, the instruction at `entry` is next
+    /// and the one behind it is being fetched. `e0` and `e1` say that these can't be fetched.
+    pub fn new(entry: u32, e0: bool, e1: bool) -> InstrUnit
+        requires { entry % 4 ≡ 0 }
+        ensures { result ≡ at_entry entry e0 e1 }
+    {
+        InstrUnit {
+            xip: Slot {
+                addr: 0,
+                v: false,
+                e: false,
+            },
+            nip: fetched(entry, e0),
+            fip: fetched(entry.wrapping_add(4), e1),
+        }
+    }
+
+    /// The pointers as they are given.
+    pub fn at(xip: Slot, nip: Slot, fip: Slot) -> InstrUnit
+        requires xip { IsWordSlot xip }
+        requires nip { IsWordSlot nip }
+        requires fip { IsWordSlot fip }
+        ensures { result ≡ record { xip = xip; nip = nip; fip = fip } }
+    {
+        InstrUnit { xip, nip, fip }
+    }
+
+    /// The instruction in execution, XIP.
+    pub fn xip(&self) -> Slot
+        ensures value { result ≡ self.now.xip }
+        ensures word { IsWordSlot result }
+    {
+        self.xip
+    }
+
+    /// The next instruction, NIP, which is the candidate for execution.
+    pub fn candidate(&self) -> Slot
+        ensures value { result ≡ self.now.nip }
+        ensures word { IsWordSlot result }
+    {
+        self.nip
+    }
+
+    /// The instruction that is being fetched, FIP, which follows the next one.
+    pub fn following(&self) -> Slot
+        ensures value { result ≡ self.now.fip }
+        ensures word { IsWordSlot result }
+    {
+        self.fip
+    }
+
+    /// The next instruction goes into execution, and those at `next` and at `then` follow it. With a
+    /// bubble the one behind it was fetched already and is passed over before them.
+    pub fn advance(&mut self, next: u32, next_e: bool, then: u32, then_e: bool, bubble: bool)
+        requires valid { self.old.nip.v ≡ true }
+        requires next { next % 4 ≡ 0 }
+        requires further { «then» % 4 ≡ 0 }
+        ensures straight { bubble ≡ false →
+            self.new ≡ advanced self.old (valid_slot next next_e) (valid_slot «then» then_e) }
+        ensures bubble { bubble ≡ true →
+            self.new ≡ advanced self.old (squashed_slot (word_behind self.old.nip.addr)) (valid_slot next next_e) }
+    {
+        self.xip = self.nip;
+        if bubble {
+            self.nip = squashed(self.nip.addr.wrapping_add(4));
+            self.fip = fetched(next, next_e);
+        } else {
+            self.nip = fetched(next, next_e);
+            self.fip = fetched(then, then_e);
+        }
+    }
+
+    /// Passes the next instruction over, and the one that was being fetched is next. `then_e` says that the
+    /// one behind that can't be fetched.
+    pub fn pass_bubble(&mut self, then_e: bool)
+        requires { self.old.nip.v ≡ false }
+        ensures { self.new ≡ record {
+          xip = self.old.xip;
+          nip = self.old.fip;
+          fip = valid_slot (word_behind self.old.fip.addr) then_e;
+        } }
+    {
+        self.nip = self.fip;
+        self.fip = fetched(self.nip.addr.wrapping_add(4), then_e);
+    }
+
+    /// The words of XIP, NIP and FIP, which an exception saves. Resuming by the last two of them leaves the
+    /// pointers as they are.
+    pub fn shadow(&self) -> (u32, u32, u32)
+        ensures value { result ≡ (word_of self.now.xip, word_of self.now.nip, word_of self.now.fip) }
+        ensures kept { resumed self.now result.1 result.2 ≡ self.now }
+    {
+        (word_of(self.xip), word_of(self.nip), word_of(self.fip))
+    }
+
+    /// Goes on by the words of NIP and FIP that a return from an exception hands back.
+    pub fn resume(&mut self, snip: u32, sfip: u32)
+        ensures value { self.new ≡ resumed self.old snip sfip }
+        ensures nip { word_of self.new.nip ≡ snip }
+        ensures fip { word_of self.new.fip ≡ sfip }
+    {
+        self.nip = slot_of(snip);
+        self.fip = slot_of(sfip);
+    }
+}
+
+/// The pointer to an instruction that is to be carried out.
+fn fetched(addr: u32, e: bool) -> Slot
+    ensures { result ≡ valid_slot addr e }
+{
+    Slot { addr, v: true, e }
+}
+
+/// The pointer to an instruction that is passed over.
+fn squashed(addr: u32) -> Slot
+    ensures { result ≡ squashed_slot addr }
+{
+    Slot {
+        addr,
+        v: false,
+        e: false,
+    }
+}
+
+/// The word of a pointer.
+fn word_of(slot: Slot) -> u32
+    requires { IsWordSlot slot }
+    ensures value { result ≡ word_of slot }
+    ensures back { slot_of result ≡ slot }
+{
+    slot.addr + 2 * u32::from(slot.v) + u32::from(slot.e)
+}
+
+/// The pointer of a word.
+fn slot_of(word: u32) -> Slot
+    ensures value { result ≡ slot_of word }
+    ensures aligned { IsWordSlot result }
+    ensures back { word_of result ≡ word }
+{
+    Slot {
+        addr: word / 4 * 4,
+        v: word / 2 % 2 == 1,
+        e: word % 2 == 1,
+    }
+}

@@ -1,0 +1,11 @@
+//! The instruction unit's pointers: the instruction in execution (XIP), the next one (NIP) and the one
+//! that is being fetched (FIP), with the marks that exception processing saves and restores.
+#![tactic(auto)]
+
+mod instr_unit;
+mod slot;
+#[cfg(test)]
+mod tests;
+
+pub use instr_unit::InstrUnit;
+pub use slot::Slot;

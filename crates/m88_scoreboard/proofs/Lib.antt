@@ -1,0 +1,2 @@
+pub mod RegisterBits
+pub mod Waits

@@ -1,0 +1,8 @@
+use Rattle.std.proofs.Math.Path.{fun_ext}
+use Rattle.m88_scoreboard.specs.Registers.{waiting_of}
+use Rattle.m88_scoreboard.proofs.Waits.{none_set}
+use Rattle.m88_scoreboard.proofs.reg_file.RegFile.new.Goals as goal
+
+pub returns-clause-waiting : goal.returns-clause-waiting
+unfolding waiting_of
+returns-clause-waiting c = fun_ext (none_set 32)

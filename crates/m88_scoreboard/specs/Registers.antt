@@ -1,0 +1,33 @@
+-- The register file and its scoreboard ("Register Model": general registers; "Exception Processing": the scoreboard
+-- holds an instruction that touches a register with a load under way).
+use Rattle.std.specs.Prelude.{ℕ, Bool, false, ◌≡◌, ◌==◌, List, length, slice_index, slice_index_or, slice_set, if◌then◌else◌}
+use Rattle.m88_base.specs.declared.reg.Reg.{Reg}
+use Rattle.m88_base.specs.Reg.{number_of}
+
+-- the number in each of the 32 registers, and which of them wait for a load
+pub record Registers : Type 0 where
+  pub numbers : List ℕ
+  pub waits : List Bool
+
+-- whether a register waits
+unfoldable pub waiting_of : Registers → ℕ → Bool
+waiting_of file r = slice_index_or file.waits r false
+
+-- the value that a register shows: 0 while it waits
+abbrev pub shown_at : Registers → ℕ → ℕ
+shown_at file r = if waiting_of file r then 0 else slice_index file.numbers r
+
+-- the numbers after one register is written; r0 stays as it is
+abbrev pub with_number : Reg → ℕ → List ℕ → List ℕ
+with_number r value numbers = if number_of r == 0 then numbers else slice_set numbers (number_of r) value
+
+-- no register waits
+abbrev pub none_waits : ℕ → Bool
+none_waits r = false
+
+-- what holds of every register file: 32 registers, of which r0 is 0 and never waits
+pub record IsFile (file : Registers) : Type 0 where
+  pub numbers : length file.numbers ≡ 32
+  pub waits : length file.waits ≡ 32
+  pub zero_value : slice_index file.numbers 0 ≡ 0
+  pub zero_ready : slice_index_or file.waits 0 false ≡ false

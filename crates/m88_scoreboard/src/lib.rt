@@ -1,0 +1,10 @@
+//! The 32 general registers and the scoreboard, which knows of each whether a load into it is under way.
+#![tactic(auto)]
+
+mod busy;
+mod reg_file;
+#[cfg(test)]
+mod tests;
+
+pub use busy::Busy;
+pub use reg_file::RegFile;
