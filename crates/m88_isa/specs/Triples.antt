@@ -6,6 +6,7 @@ use Rattle.std.specs.Int.{bit_at}
 use Rattle.m88_base.specs.declared.reg.Reg.{Reg}
 use Rattle.m88_base.specs.declared.triple.Triple.{Triple}
 use Rattle.m88_base.specs.Reg.{number_of, reg_of}
+use Rattle.m88_base.specs.Triple.{no_triple}
 use Rattle.m88_isa.specs.Compute.{weight_if}
 use Rattle.m88_isa.specs.declared.planned.Access.{Access}
 
@@ -25,10 +26,6 @@ dmt_of a =
 -- the words of an access: DMD has the whole register that a store writes, 0 of a load; DMA is the address of the word
 abbrev pub triple_of : Access → Triple
 triple_of a = record { dmt = dmt_of a; dmd = a.value; dma = a.addr }
-
--- the words where there is no access
-abbrev pub no_triple : Triple
-no_triple = record { dmt = 0; dmd = 0; dma = 0 }
 
 -- the words of an access, if there is one
 abbrev pub triple_or_none : Option Access → Triple

@@ -1,4 +1,4 @@
-use Rattle.std.proofs.Common.{◌≡◌, ◌<◌, ℕ, subst, arith}
+use Rattle.std.proofs.Common.{◌≡◌, arith}
 use Rattle.m88_scoreboard.specs.Registers.{waiting_of}
 use Rattle.m88_scoreboard.proofs.Waits.{marks_of_word}
 use Rattle.m88_scoreboard.proofs.reg_file.RegFile.restore.Goals as goal

@@ -1,5 +1,4 @@
-use Rattle.std.proofs.Common.{◌≡◌, arith}
-use Rattle.m88_scoreboard.specs.Registers.{none_waits, waiting_of}
+use Rattle.m88_scoreboard.specs.Registers.{waiting_of}
 use Rattle.m88_scoreboard.proofs.Waits.{all_shown}
 use Rattle.m88_scoreboard.proofs.reg_file.RegFile.values.Goals as goal
 

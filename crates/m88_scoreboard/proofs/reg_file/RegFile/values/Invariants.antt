@@ -1,4 +1,4 @@
-use Rattle.std.proofs.Common.{◌≡◌, ◌<◌, ◌≤◌, ℕ, List, Bool, true, false, length, slice_index, slice_index_or}
+use Rattle.std.proofs.Common.{◌≡◌, ◌<◌, ℕ, List, Bool, true, false, length, slice_index, slice_index_or}
 use Rattle.m88_scoreboard.proofs.reg_file.RegFile.values.Given as goal
 
 -- below r the values are those that are shown, and from r on the numbers
