@@ -4,8 +4,8 @@ use Rattle.std.specs.Prelude.{MatchOption, is_some, if◌then◌else◌}
 use Rattle.std.proofs.lemmas.Bool.Decides.{nat_tests}
 use Rattle.m88_isa.specs.Address.{after_bytes}
 use Rattle.m88_isa.specs.Machine.{Program, State, Step, on, opening, state, step, stepped, turn, with_written}
-use Rattle.m88_cli.specs.Runner.{IsAt, RunnerState, after_turn, is_over_at, left_to_do, state_in, told}
-use Rattle.m88_cli.specs.Timeline.{EventStep, Moment, idles, passes, event_step_of, is_over, issue_step, made}
+use Rattle.m88_cli.specs.Runner.{IsAt, RunnerState, after_own_turn, is_over_at, left_to_do, state_in, told}
+use Rattle.m88_cli.specs.Timeline.{EventStep, RunMoment, idles, passes, event_step_of, run_is_over, issue_step, made}
 use Rattle.m88_cli.specs.declared.next_turn.NextTurn.{NextTurn}
 use Rattle.m88_cli.specs.declared.next_turn.NextTurn.TheVariants as next
 use Rattle.m88_cli.specs.declared.outcome.End.{End}
@@ -26,9 +26,9 @@ abbrev step_told : NextTurn → State → Step
 step_told n s = stepped (told n s.pc) s
 
 -- by what comes of the instruction
-by_step : (p : Program) (limit : ℕ) (m : Moment) (r : RunnerState) (n : NextTurn)
+by_step : (p : Program) (limit : ℕ) (m : RunMoment) (r : RunnerState) (n : NextTurn)
     → step p (state p m.retired) ≡ step_told n (state p m.retired) → m.ended ≡ false → IsAt p limit m r
-    → IsAt p limit (made (event_step_of (step_told n (state p m.retired))) m) (after_turn n r)
+    → IsAt p limit (made (event_step_of (step_told n (state p m.retired))) m) (after_own_turn n r)
 by_step p limit m r (next.Stop vector) e lives at = record {
   image = at.image;
   same_limit = at.same_limit;
@@ -81,17 +81,17 @@ only_step false true c e f = absurd cc
 only_step false false c e f = refl
 
 -- a runner that isn't over, and has no bubble, issues
-pub issued : (p : Program) (limit : ℕ) (m : Moment) (r : RunnerState) (n : NextTurn) → is_over_at r ≡ false → r.bubble ≡ false
+pub issued : (p : Program) (limit : ℕ) (m : RunMoment) (r : RunnerState) (n : NextTurn) → is_over_at r ≡ false → r.bubble ≡ false
     → turn p r.regs r.carry r.pc r.next ≡ told n r.pc → IsAt p limit m r
-    → IsAt p limit (made (issue_step p limit m) m) (after_turn n r)
+    → IsAt p limit (made (issue_step p limit m) m) (after_own_turn n r)
 issued p limit m r n goes none says at =
-    let over : is_over limit m ≡ false = rw (← at.ended, ← at.retired, ← at.same_limit) goes in
+    let over : run_is_over limit m ≡ false = rw (← at.ended, ← at.retired, ← at.same_limit) goes in
     let plain : m.bubble ≡ false = sym at.bubble ∙ none in
     let here : step p (state_in r (opening p).memory) ≡ step_told n (state_in r (opening p).memory) =
     ap (λ t. stepped t (state_in r (opening p).memory)) says in
     let is : step p (state p m.retired) ≡ step_told n (state p m.retired) = rw at.here here in
-    subst (λ c. IsAt p limit (made c m) (after_turn n r))
-    (ap event_step_of (sym is) ∙ sym (only_step (is_over limit m) m.bubble (event_step_of (step p (state p m.retired))) over plain))
+    subst (λ c. IsAt p limit (made c m) (after_own_turn n r))
+    (ap event_step_of (sym is) ∙ sym (only_step (run_is_over limit m) m.bubble (event_step_of (step p (state p m.retired))) over plain))
     (by_step p limit m r n is (neither m.ended (m.retired == limit) over).0 at)
 
 -- and has less to do then
@@ -103,7 +103,7 @@ bit_most : (t : Bool) → (if t then 1 else 0) ≤ 1
 bit_most true = omega arith
 bit_most false = omega arith
 
-pub less_to_do : (r : RunnerState) (n : NextTurn) → r.retired ≤ r.limit → is_over_at r ≡ false → left_to_do (after_turn n r) < left_to_do r
+pub less_to_do : (r : RunnerState) (n : NextTurn) → r.retired ≤ r.limit → is_over_at r ≡ false → left_to_do (after_own_turn n r) < left_to_do r
 less_to_do r (next.Stop vector) within goes =
     let k = neither (is_some r.ended) (r.retired == r.limit) goes in omega (arith, no_bit (is_some r.ended) k.0)
 less_to_do r next.Exit within goes =

@@ -8,13 +8,13 @@ use Rattle.m88_cli.specs.Program.{program_of}
 use Rattle.m88_cli.specs.Source.{IsSourceOf}
 use Rattle.m88_cli.specs.Report.{Summary, report_of}
 use Rattle.m88_cli.proofs.OneSource.{one_list}
-use Rattle.m88_cli.specs.Timeline.{IsRun, IsRunSummary, moment, summary_at}
+use Rattle.m88_cli.specs.Timeline.{IsWholeRun, IsRunSummary, moment, summary_at}
 
 -- a run that is over isn't over before
-not_before : (p : Program) (limit n m : ℕ) → IsRun p limit n → IsRun p limit m → n < m → ⊥
+not_before : (p : Program) (limit n m : ℕ) → IsWholeRun p limit n → IsWholeRun p limit m → n < m → ⊥
 not_before p limit n m run other before = let over = run.over in let open_still = other.first n before in absurd cc
 
-same_events : (p : Program) (limit n m : ℕ) → IsRun p limit n → IsRun p limit m → n ≡ m
+same_events : (p : Program) (limit n m : ℕ) → IsWholeRun p limit n → IsWholeRun p limit m → n ≡ m
 same_events p limit n m run other = elim (cases_lt n m) [
   | inl before ↦ absurd (not_before p limit n m run other before)
   | inr from ↦ elim (cases_lt m n) [

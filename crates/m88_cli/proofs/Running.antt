@@ -4,18 +4,18 @@ use Rattle.std.specs.Prelude.{MatchOption, if◌then◌else◌, is_some, unwrap_
 use Rattle.std.proofs.lemmas.Bool.Decides.{nat_tests}
 use Rattle.m88_isa.specs.Machine.{Program, State, state, step}
 use Rattle.m88_cli.specs.Runner.{IsAt, IsNearer, RunnerState, is_over_at, left_to_do, summary_in}
-use Rattle.m88_cli.specs.Timeline.{EventStep, IsRunSummary, Moment, event_step_at, counted_event, end_of_step, finishes, idles, is_over, letter_at, made, moment, opening_moment, passes, retires, summary_at}
+use Rattle.m88_cli.specs.Timeline.{EventStep, IsRunSummary, RunMoment, event_step_at, counted_event, end_of_step, finishes, idles, run_is_over, letter_by_turns, made, moment, run_opening, passes, retires, summary_at}
 use Rattle.m88_cli.specs.declared.letter.Letter.TheVariants.{Issue, Answer}
 use Rattle.m88_cli.specs.declared.outcome.End.{End}
 use Rattle.m88_cli.specs.declared.outcome.End.TheVariants.{Limit}
 
 -- before the first event
-pub at_start : (p : Program) (limit : ℕ) (r : RunnerState) → IsAt p limit opening_moment r → IsAt p limit (moment p limit 0) r
+pub at_start : (p : Program) (limit : ℕ) (r : RunnerState) → IsAt p limit run_opening r → IsAt p limit (moment p limit 0) r
 unfolding moment
 at_start p limit r at = at
 
 -- to count an event moves no runner
-counted : (p : Program) (limit : ℕ) (m : Moment) (r : RunnerState) → IsAt p limit m r → IsAt p limit (counted_event m) r
+counted : (p : Program) (limit : ℕ) (m : RunMoment) (r : RunnerState) → IsAt p limit m r → IsAt p limit (counted_event m) r
 counted p limit m r at = record {
   image = at.image;
   same_limit = at.same_limit;
@@ -28,13 +28,13 @@ counted p limit m r at = record {
 
 -- behind one more event
 pub at_next : (p : Program) (limit n : ℕ) (r : RunnerState)
-    → IsAt p limit (made (event_step_at p limit (letter_at n) (moment p limit n)) (moment p limit n)) r → IsAt p limit (moment p limit (n + 1)) r
+    → IsAt p limit (made (event_step_at p limit (letter_by_turns n) (moment p limit n)) (moment p limit n)) r → IsAt p limit (moment p limit (n + 1)) r
 unfolding moment
 at_next p limit n r at = rw add-one (counted p limit _ r at)
 
 -- a runner at a moment is over where the moment is
-pub over_at : (p : Program) (limit : ℕ) (m : Moment) (r : RunnerState) (t : Bool) → IsAt p limit m r → is_over_at r ≡ t
-    → is_over limit m ≡ t
+pub over_at : (p : Program) (limit : ℕ) (m : RunMoment) (r : RunnerState) (t : Bool) → IsAt p limit m r → is_over_at r ≡ t
+    → run_is_over limit m ≡ t
 over_at p limit m r t at e = rw (← at.ended, ← at.retired, ← at.same_limit) e
 
 -- what is left to do at most
@@ -61,24 +61,24 @@ by_turn false n old new e nearer =
     let less : left_to_do new < left_to_do old = nearer in
     omega (arith, less, odd)
 
-pub nearer_by_one : (n : ℕ) (old new : RunnerState) → IsNearer (letter_at n) old new
+pub nearer_by_one : (n : ℕ) (old new : RunnerState) → IsNearer (letter_by_turns n) old new
     → 1 + 2 * left_to_do new + (n + 1 + 1) % 2 ≤ 2 * left_to_do old + (n + 1) % 2
 nearer_by_one n old new nearer = by_turn (n % 2 == 0) n old new refl nearer
 
 -- what an event makes of a moment leaves its counts
-pub record SameCounts (m n : Moment) : Type 0 where
+pub record SameCounts (m n : RunMoment) : Type 0 where
   pub events : n.events ≡ m.events
   pub answers : n.answers ≡ m.answers
   pub faults : n.faults ≡ m.faults
 
-made_counts : (c : EventStep) (m : Moment) → SameCounts m (made c m)
+made_counts : (c : EventStep) (m : RunMoment) → SameCounts m (made c m)
 made_counts idles m = record { events = refl; answers = refl; faults = refl }
 made_counts passes m = record { events = refl; answers = refl; faults = refl }
 made_counts finishes m = record { events = refl; answers = refl; faults = refl }
 made_counts (retires bubble) m = record { events = refl; answers = refl; faults = refl }
 
 -- the counts after as many events
-pub record HasCounts (n : ℕ) (m : Moment) : Type 0 where
+pub record HasCounts (n : ℕ) (m : RunMoment) : Type 0 where
   pub events : m.events ≡ n
   pub answers : m.answers ≡ 0
   pub faults : m.faults ≡ 0
@@ -88,7 +88,7 @@ unfolding moment
 counts p limit zero = record { events = refl; answers = refl; faults = refl }
 counts p limit (suc n) =
     let before = counts p limit n in
-    let same = made_counts (event_step_at p limit (letter_at n) (moment p limit n)) (moment p limit n) in
+    let same = made_counts (event_step_at p limit (letter_by_turns n) (moment p limit n)) (moment p limit n) in
     record {
       events = ap (λ k. k + 1) (same.events ∙ before.events) ∙ add-one n;
       answers = same.answers ∙ before.answers;
@@ -125,7 +125,7 @@ came_to p limit n r at =
 
 -- the run is over at the first moment at which its runner is
 pub ran : (p : Program) (limit n : ℕ) (r : RunnerState) → IsAt p limit (moment p limit n) r → is_over_at r ≡ true
-    → ((k : ℕ) → k < n → is_over limit (moment p limit k) ≡ false) → IsRunSummary p limit (summary_in r n)
+    → ((k : ℕ) → k < n → run_is_over limit (moment p limit k) ≡ false) → IsRunSummary p limit (summary_in r n)
 ran p limit n r at over first = record {
   events = n;
   run = record { over = over_at p limit (moment p limit n) r true at over; first = first };

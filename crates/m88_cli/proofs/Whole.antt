@@ -4,7 +4,7 @@ use Rattle.std.specs.Prelude.{MatchBool, OnErr, is_err}
 use Rattle.std.specs.Io.KnownBytes.{Consumes, IsAtEnd}
 use Rattle.std.proofs.lemmas.List.{append-nil, length-take-le}
 use Rattle.m88_base.specs.Outside.{AppendsPart}
-use Rattle.m88_cli.specs.Answer.{IsAccepted, IsAnswered, IsRefused, Refusal, Refuses, refusal_line}
+use Rattle.m88_cli.specs.Answer.{IsAnswerToAccepted, IsAnswer, IsAnswerToRefused, Refusal, Refuses, refusal_line}
 use Rattle.m88_cli.specs.Reply.{Replies}
 use Rattle.m88_cli.specs.declared.reply.Reply.{Reply}
 use Rattle.m88_cli.specs.Calls.{GivesInput, HasInput, IsWhole}
@@ -87,15 +87,15 @@ reply_given command other before after input reply same holds ok =
 
 -- a reply's text is the answer to the input
 by_accepted : (accepted : Bool) (command : Command) (input text : List ℕ)
-    → MatchBool accepted (IsAccepted command input text) (IsRefused command input text) → IsAnswered command input text
+    → MatchBool accepted (IsAnswerToAccepted command input text) (IsAnswerToRefused command input text) → IsAnswer command input text
 by_accepted true command input text h = inl h
 by_accepted false command input text h = inr h
 
-pub answer_of : (command : Command) (input : List ℕ) (r : Reply) → Replies command input r → IsAnswered command input r.text.items
+pub answer_of : (command : Command) (input : List ℕ) (r : Reply) → Replies command input r → IsAnswer command input r.text.items
 answer_of command input r h = by_accepted r.accepted command input r.text.items h
 
 -- the reply to an input that is refused is the line of that refusal
-only_refused : (command : Command) (input text : List ℕ) (r : Refusal) → Refuses command input r → IsAnswered command input text
+only_refused : (command : Command) (input text : List ℕ) (r : Refusal) → Refuses command input r → IsAnswer command input text
     → text ≡ refusal_line r
 only_refused command input text r refused (inl h) = absurd (refused_not_accepted command input r refused h.accepted)
 only_refused command input text r refused (inr h) = h.line ∙ ap refusal_line (one_refusal command input h.refusal r h.refused refused)
@@ -106,9 +106,9 @@ line_of_reply command input r reply refused h = only_refused command input reply
 
 -- a reply that accepts an input is to one that is accepted, and a reply that refuses one is to one that isn't
 pub accepted_reply : (command : Command) (input : List ℕ) (r : Reply) → r.accepted ≡ true → Replies command input r
-    → IsAccepted command input r.text.items
-accepted_reply command input r e h = subst (λ t. MatchBool t (IsAccepted command input r.text.items) (IsRefused command input r.text.items)) e h
+    → IsAnswerToAccepted command input r.text.items
+accepted_reply command input r e h = subst (λ t. MatchBool t (IsAnswerToAccepted command input r.text.items) (IsAnswerToRefused command input r.text.items)) e h
 
 pub refused_reply : (command : Command) (input : List ℕ) (r : Reply) → r.accepted ≡ false → Replies command input r
-    → IsRefused command input r.text.items
-refused_reply command input r e h = subst (λ t. MatchBool t (IsAccepted command input r.text.items) (IsRefused command input r.text.items)) e h
+    → IsAnswerToRefused command input r.text.items
+refused_reply command input r e h = subst (λ t. MatchBool t (IsAnswerToAccepted command input r.text.items) (IsAnswerToRefused command input r.text.items)) e h

@@ -1,5 +1,5 @@
--- What a command does with an input. A command has a case in each of three definitions: which inputs it accepts, what it
--- writes for one that it accepts, and where and why it refuses any other.
+-- What a command does with an input. A command has a case in each of three definitions: which inputs it accepts
+-- (`Accepts`), what it writes for one that it accepts (`IsOutput`), and where and why it refuses any other (`Refuses`).
 use Rattle.std.specs.Prelude.{ℕ, ◌≡◌, ◌⊎◌, List, codes}
 use Rattle.m88_isa.specs.Machine.{Program}
 use Rattle.m88_isa.specs.declared.instr.Instr.{Instr}
@@ -48,17 +48,17 @@ abbrev pub Refuses : Command → List ℕ → Refusal → Type 0
 Refuses (Run limit) source r = IsFirstOther source r.line × (r.column ≡ 1) × (r.reason ≡ codes "form")
 
 -- the text answers an input that the command accepts
-pub record IsAccepted (command : Command) (input text : List ℕ) : Type 0 where
+pub record IsAnswerToAccepted (command : Command) (input text : List ℕ) : Type 0 where
   pub accepted : Accepts command input
   pub output : IsOutput command input text
 
 -- the text answers an input that the command doesn't accept: it is the line of the refusal
-pub record IsRefused (command : Command) (input text : List ℕ) : Type 0 where
+pub record IsAnswerToRefused (command : Command) (input text : List ℕ) : Type 0 where
   pub unaccepted : ¬ Accepts command input
   pub refusal : Refusal
   pub refused : Refuses command input refusal
   pub line : text ≡ refusal_line refusal
 
 -- the text answers an input
-abbrev pub IsAnswered : Command → List ℕ → List ℕ → Type 0
-IsAnswered command input text = IsAccepted command input text ⊎ IsRefused command input text
+abbrev pub IsAnswer : Command → List ℕ → List ℕ → Type 0
+IsAnswer command input text = IsAnswerToAccepted command input text ⊎ IsAnswerToRefused command input text

@@ -9,12 +9,13 @@ use Rattle.m88_cli.specs.declared.commands.Command.{Command}
 -- the source, with these bytes left before and those after, gave a command its input: all that it had, to its end; a
 -- command that reads none has the empty input
 abbrev pub GivesInput : Command → Option (List ℕ) → Option (List ℕ) → List ℕ → Type 0
-GivesInput command before after input = MatchBool (reads_input command) (Consumes before after input × IsAtEnd after) (input ≡ [])
+GivesInput command before after input =
+    MatchBool (reads_input command) (Consumes before after input × IsAtEnd after) (input ≡ [])
 
 -- a call carried a command out: the words spell it, the source gave it its input, the text is as told for that input,
 -- and the sink was given the text as told
-pub record CarriedOut (words : List (List ℕ)) (before after : Option (List ℕ)) (IsText : Command → List ℕ → List ℕ → Type 0)
-    (SinkIsGiven : List ℕ → Type 0) : Type 0 where
+pub record CarriedOut (words : List (List ℕ)) (before after : Option (List ℕ))
+    (IsText : Command → List ℕ → List ℕ → Type 0) (SinkIsGiven : List ℕ → Type 0) : Type 0 where
   pub command : Command
   pub spelled : Spells words command
   pub input : List ℕ

@@ -13,10 +13,12 @@ use Rattle.m88_cli.specs.Plain.{IsPlain}
 pub record IsImageOf (p : Program) (image : ProgramImage) : Type 0 where
   pub start : p.start ≡ image.start
   pub bytes : (a : ℕ) → p.byte a ≡ byte_at image a
-  pub instructions : (a word : ℕ) → a % 4 ≡ 0 → word < 2 ^ 32 → four_bytes (byte_at image) a ≡ Some (to_be_bytes w32 word)
+  pub instructions : (a word : ℕ) → a % 4 ≡ 0 → word < 2 ^ 32
+      → four_bytes (byte_at image) a ≡ Some (to_be_bytes w32 word)
       → MatchOption (p.instruction a) ((i : Instr) → ¬ IsWord i word) (λ i. IsWord i word)
 
 -- every instruction that a word of an image is, is one that a source may have; a word may also be none
 abbrev pub HasPlainWords : ProgramImage → Type 0
-HasPlainWords image = (a word : ℕ) → a % 4 ≡ 0 → word < 2 ^ 32 → four_bytes (byte_at image) a ≡ Some (to_be_bytes w32 word)
+HasPlainWords image = (a word : ℕ) → a % 4 ≡ 0 → word < 2 ^ 32
+    → four_bytes (byte_at image) a ≡ Some (to_be_bytes w32 word)
     → (i : Instr) → IsWord i word → IsPlain i

@@ -2,6 +2,7 @@
 use Rattle.m88_cli.specs.declared.outcome.Outcome.{Outcome}
 use Rattle.m88_cli.specs.Report.{Summary}
 
+-- the summary that an outcome is
 abbrev pub summary_of : Outcome → Summary
 summary_of o = record {
   end = o.end;

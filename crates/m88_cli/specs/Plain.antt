@@ -1,5 +1,5 @@
--- Words for the contracts of private functions; no promise of the program names them. The instructions that a source may
--- have.
+-- Words for the contracts of private functions; no promise of the program names them. The instructions that a source
+-- may have.
 use Rattle.std.specs.Prelude.{◌^◌, ◌<◌}
 use Rattle.m88_isa.specs.declared.instr.Instr.{Instr}
 use Rattle.m88_isa.specs.declared.instr.Instr.TheVariants.{Imm, TrapBit}

@@ -45,7 +45,8 @@ register_lines regs =
 abbrev pub out_text : List ℕ → List ℕ
 out_text out = if length out == 0 then codes "-" else flat_map hex2 out
 
--- the whole report; no instruction of a source makes a transaction, so no line tells of a changed word or of a data fault
+-- the whole report; no instruction of a source makes a transaction, so no line tells of a changed word or of a data
+-- fault
 abbrev pub report_of : Summary → List ℕ
 report_of s =
     codes "end " ++ end_text s.end ++ line_end

@@ -7,7 +7,7 @@ use Rattle.m88_isa.specs.Machine.{Program, State, Turn, by_vector, changes, exit
 use Rattle.m88_cli.specs.Limits.{most_limit}
 use Rattle.m88_cli.specs.Loaded.{HasPlainWords, IsImageOf}
 use Rattle.m88_cli.specs.Report.{Summary}
-use Rattle.m88_cli.specs.Timeline.{Moment, end_of_step}
+use Rattle.m88_cli.specs.Timeline.{RunMoment, end_of_step}
 use Rattle.m88_cli.specs.declared.letter.Letter.{Letter}
 use Rattle.m88_cli.specs.declared.letter.Letter.TheVariants.{Issue, Answer}
 use Rattle.m88_cli.specs.declared.next_turn.NextTurn.{NextTurn}
@@ -15,8 +15,8 @@ use Rattle.m88_cli.specs.declared.next_turn.NextTurn.TheVariants as next
 use Rattle.m88_cli.specs.declared.outcome.End.{End}
 use Rattle.m88_cli.specs.declared.outcome.End.TheVariants.{Limit, Exit, Vector}
 
--- what a runner is seen as: the image and the limit, the state of the machine but for the memory, and what became of the
--- program so far
+-- what a runner is seen as: the image and the limit, the state of the machine but for the memory, and what became of
+-- the program so far
 pub record RunnerState : Type 0 where
   pub image : ProgramImage
   pub limit : ℕ
@@ -48,7 +48,13 @@ told (next.Stop vector) pc = stops (by_vector vector pc)
 told next.Exit pc = stops (exits pc)
 told (next.PutOut byte) pc = outputs byte
 told (next.Go effect) pc =
-    changes (record { register = effect.reg; carry = effect.carry; touches = []; after = effect.after; bubble = effect.bubble })
+    changes (record {
+      register = effect.reg;
+      carry = effect.carry;
+      touches = [];
+      after = effect.after;
+      bubble = effect.bubble;
+    })
 
 -- the two instructions that follow an effect are those of words
 abbrev pub IsFlowAligned : NextTurn → Type 0
@@ -58,17 +64,17 @@ IsFlowAligned (next.PutOut byte) = Unit {0}
 IsFlowAligned (next.Go effect) = (effect.after.0 % 4 ≡ 0) × (effect.after.1 % 4 ≡ 0)
 
 -- a runner after a turn
-abbrev pub after_turn : NextTurn → RunnerState → RunnerState
-after_turn (next.Stop vector) r = record r { ended = Some (Vector vector r.pc) }
-after_turn next.Exit r = record r { ended = Some (Exit r.pc) }
-after_turn (next.PutOut byte) r = record r {
+abbrev pub after_own_turn : NextTurn → RunnerState → RunnerState
+after_own_turn (next.Stop vector) r = record r { ended = Some (Vector vector r.pc) }
+after_own_turn next.Exit r = record r { ended = Some (Exit r.pc) }
+after_own_turn (next.PutOut byte) r = record r {
   out = r.out ++ byte ∷ [];
   pc = r.next;
   next = after_bytes r.next 4;
   bubble = false;
   retired = r.retired + 1;
 }
-after_turn (next.Go effect) r = record r {
+after_own_turn (next.Go effect) r = record r {
   regs = with_written effect.reg r.regs;
   carry = effect.carry;
   pc = effect.after.0;
@@ -78,7 +84,7 @@ after_turn (next.Go effect) r = record r {
 }
 
 -- a runner stands at a moment of a run: it is that of the program, with the limit
-pub record IsAt (p : Program) (limit : ℕ) (m : Moment) (r : RunnerState) : Type 0 where
+pub record IsAt (p : Program) (limit : ℕ) (m : RunMoment) (r : RunnerState) : Type 0 where
   pub image : IsImageOf p r.image
   pub same_limit : r.limit ≡ limit
   pub here : state p m.retired ≡ state_in r (opening p).memory

@@ -1,8 +1,8 @@
 -- The sources that a run takes: lines, each empty or the line of one of two instructions of the assembly language.
 --     or rD,rS1,N      D and S1 are 0 to 31, N is 0 to 65535
 --     tb0 B,rS1,V      B and S1 are 0 to 31, V is 0 to 511
--- Numbers are decimal; N and V may also be `0x` and one to four digits. Exactly one blank stands behind the mnemonic and
--- none elsewhere. Every other line is refused. It is said which texts write an instruction, not how a line is read.
+-- Numbers are decimal; N and V may also be `0x` and one to four digits. Exactly one blank stands behind the mnemonic
+-- and none elsewhere. Every other line is refused. It is said which texts write an instruction, not how a line is read.
 use Rattle.std.specs.Prelude.{ℕ, ◌≡◌, ◌≤◌, ◌⊎◌, ◌+◌, ◌++◌, ◌==◌, List, [], ◌∷◌, All, false, codes, decimal, length, if◌then◌else◌}
 use Rattle.m88_base.specs.Lines.{line_feed}
 use Rattle.m88_base.specs.Reg.{number_of}
@@ -38,8 +38,10 @@ parted first second third = first ++ comma ∷ (second ++ comma ∷ third)
 pub data IsLineOf : Instr → List ℕ → Type 0 where
   or_line : {d s1 : Reg} {imm : ℕ} {line : List ℕ} (text : List ℕ) → imm ≤ 65535 → IsOperandNumber text imm
       → line ≡ codes "or " ++ parted (register_name d) (register_name s1) text → IsLineOf (Imm Or d s1 imm) line
-  trap_line : {s1 : Reg} {bit vector : ℕ} {line : List ℕ} (text : List ℕ) → bit ≤ 31 → vector ≤ 511 → IsOperandNumber text vector
-      → line ≡ codes "tb0 " ++ parted (decimal bit) (register_name s1) text → IsLineOf (TrapBit false bit s1 vector) line
+  trap_line : {s1 : Reg} {bit vector : ℕ} {line : List ℕ} (text : List ℕ) → bit ≤ 31 → vector ≤ 511
+      → IsOperandNumber text vector
+      → line ≡ codes "tb0 " ++ parted (decimal bit) (register_name s1) text
+      → IsLineOf (TrapBit false bit s1 vector) line
 
 -- the lines write the instructions in order, and an empty line writes none
 pub data AreLinesOf : List Instr → List (List ℕ) → Type 0 where

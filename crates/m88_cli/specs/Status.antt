@@ -6,14 +6,14 @@ use Rattle.m88_cli.specs.declared.status.Status.{Status}
 use Rattle.m88_cli.specs.declared.status.Status.TheVariants.{Done, Usage, SourceFault, SinkFault, Refused, Memory, TooLong}
 
 -- the exit status of each answer
-abbrev pub number_of : Status → ℕ
-number_of Done = 0
-number_of Usage = 1
-number_of SourceFault = 2
-number_of SinkFault = 3
-number_of Refused = 4
-number_of Memory = 5
-number_of TooLong = 6
+abbrev pub exit_number : Status → ℕ
+exit_number Done = 0
+exit_number Usage = 1
+exit_number SourceFault = 2
+exit_number SinkFault = 3
+exit_number Refused = 4
+exit_number Memory = 5
+exit_number TooLong = 6
 
 -- an answer with which nothing was written
 abbrev pub WritesNothing : Status → Type 0
@@ -27,7 +27,8 @@ WritesNothing TooLong = Unit {0}
 
 -- the answer where nothing failed: memory ran out, or Done where the input is accepted and Refused where it isn't
 abbrev pub Answers : Type 0 → Status → Type 0
-Answers Accepted status = (status ≡ Memory) ⊎ ((Accepted × (status ≡ Done)) ⊎ (¬ Accepted × (status ≡ Refused)))
+Answers Accepted status =
+    (status ≡ Memory) ⊎ ((Accepted × (status ≡ Done)) ⊎ (¬ Accepted × (status ≡ Refused)))
 
 -- the answer where an input was not read to its end
 abbrev pub status_of_end : ReadEnd → Status

@@ -1,3 +1,4 @@
+//! The words of a program, fetched from its image.
 ghost use Rattle.std.specs.Prelude.{◌≡◌, ◌%◌, option_map};
 ghost use Rattle.std.specs.Int.{to_be_bytes, w32};
 ghost use Rattle.m88_base.specs.Image.{byte_at};

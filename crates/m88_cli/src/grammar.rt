@@ -3,7 +3,7 @@ ghost use Rattle.std.specs.Prelude.{◌≡◌, ℕ, IfSome, Some};
 ghost use Rattle.m88_cli.specs.Command.{IsLimit, Spells};
 ghost use Rattle.m88_cli.specs.Reply.{IsWithinLimit};
 ghost use Rattle.m88_cli.specs.Words.{texts};
-ghost use Rattle.m88_cli.specs.declared.commands.Command.{Command as Choice};
+ghost use Rattle.m88_cli.specs.declared.commands.Command.{Command as AnyCommand};
 
 use crate::commands::Command;
 use crate::limits::MOST_LIMIT;
@@ -12,7 +12,7 @@ use m88_base::number_in;
 /// The command that the words spell, or None where they are outside the grammar.
 pub fn command(words: &[String]) -> Option<Command>
     ensures found { IfSome result (Spells (texts words.now)) }
-    ensures only { (c : Choice) → Spells (texts words.now) c → result ≡ Some c }
+    ensures only { (c : AnyCommand) → Spells (texts words.now) c → result ≡ Some c }
     ensures limit { IfSome result IsWithinLimit }
 {
     let [name, limit, absent, schedule] = words else {

@@ -17,12 +17,16 @@ pub fn input_of<S: Source>(
     command: Command,
     source: &mut S,
 ) -> Result<Vec<u8>, ReadEnd>
-    ensures ok { IfOk result (λ input. GivesInput command (S.left source.old) (S.left source.new) input.items) }
+    ensures ok { IfOk result (λ input.
+        GivesInput command (S.left source.old) (S.left source.new) input.items) }
     ensures short { IfOk result (λ input. length input.items ≤ most_input) }
     ensures unread { reads_input command ≡ false → source.new ≡ source.old }
-    ensures fault { result ≡ Err ReadEnd.SourceFault → Rose (S.faults source.old) (S.faults source.new) }
-    ensures too_long { result ≡ Err ReadEnd.TooLong → TakesExactly (S.left source.old) (S.left source.new) (most_input + 1) }
-    ensures not_too_long { result ≢ Err ReadEnd.TooLong → TakesAtMost (S.left source.old) (S.left source.new) most_input }
+    ensures fault { result ≡ Err ReadEnd.SourceFault
+        → Rose (S.faults source.old) (S.faults source.new) }
+    ensures too_long { result ≡ Err ReadEnd.TooLong
+        → TakesExactly (S.left source.old) (S.left source.new) (most_input + 1) }
+    ensures not_too_long { result ≢ Err ReadEnd.TooLong
+        → TakesAtMost (S.left source.old) (S.left source.new) most_input }
 {
     match command {
         Command::Run { .. } => read_all(alloc, source, MOST_INPUT),

@@ -1,5 +1,7 @@
+//! The letters of a run's events.
+
 /// One event of a run.
-#[derive(Clone, Copy, PartialEq, Eq)]
+#[derive(Clone, Copy, PartialEq, Eq, Debug)]
 pub enum Letter {
     /// `i`: tries to issue the next instruction.
     Issue,

@@ -1,3 +1,4 @@
+//! The image of a program.
 ghost use Rattle.std.specs.Prelude.{◌≡◌, ◌*◌, ◌≤◌, All, IfOk, flat_map, length};
 ghost use Rattle.m88_cli.specs.Loaded.{HasPlainWords, IsImageOf};
 ghost use Rattle.m88_cli.specs.Limits.{most_input};

@@ -3,7 +3,7 @@
 use m88_isa::Effect;
 
 /// What comes of the next instruction of a program.
-#[derive(Clone, Copy, PartialEq, Eq)]
+#[derive(Clone, Copy, PartialEq, Eq, Debug)]
 pub enum NextTurn {
     /// The program ends by this vector.
     Stop(u16),

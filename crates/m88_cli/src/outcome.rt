@@ -1,5 +1,7 @@
+//! What a run comes to, as a value.
+
 /// How a run ended.
-#[derive(Clone, Copy, PartialEq, Eq)]
+#[derive(Clone, Copy, PartialEq, Eq, Debug)]
 pub enum End {
     /// As many instructions were retired as the run may make.
     Limit,
@@ -11,7 +13,7 @@ pub enum End {
 }
 
 /// What a run came to. `out` is the output, a byte for each output trap.
-#[derive(Drop)]
+#[derive(Debug, Drop)]
 pub struct Outcome {
     pub end: End,
     pub retired: u32,

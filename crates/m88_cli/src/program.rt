@@ -3,7 +3,7 @@ ghost use Rattle.std.specs.Prelude.{[], ◌≡◌, ◌≢◌, ◌↔◌, ◌+◌
 ghost use Rattle.std.specs.Io.KnownBytes.{Appends};
 ghost use Rattle.m88_base.specs.Causes.{Rose};
 ghost use Rattle.m88_base.specs.Outside.{AppendsPart, TakesAtMost, TakesExactly};
-ghost use Rattle.m88_cli.specs.Answer.{Accepts, IsAccepted, IsAnswered, IsRefused, Refusal, Refuses, refusal_line};
+ghost use Rattle.m88_cli.specs.Answer.{Accepts, IsAnswerToAccepted, IsAnswer, IsAnswerToRefused, Refusal, Refuses, refusal_line};
 ghost use Rattle.m88_cli.specs.Calls.{CarriedOut, GivesInput, HasInput, IsWhole};
 ghost use Rattle.m88_cli.specs.Command.{SpellNoReader, SpellNothing, Spells, reads_input};
 ghost use Rattle.m88_cli.specs.Limits.{most_input};
@@ -34,27 +34,35 @@ pub fn m88<S: Source, K: Sink>(
     ensures unread { SpellNoReader (texts words.now) → source.new ≡ source.old }
 
     // The source failed, or it has a byte too many.
-    ensures source_fault { result ≡ Status.SourceFault → Rose (S.faults source.old) (S.faults source.new) }
-    ensures too_long { result ≡ Status.TooLong → TakesExactly (S.left source.old) (S.left source.new) (most_input + 1) }
-    ensures not_too_long { result ≢ Status.TooLong → TakesAtMost (S.left source.old) (S.left source.new) most_input }
+    ensures source_fault { result ≡ Status.SourceFault
+        → Rose (S.faults source.old) (S.faults source.new) }
+    ensures too_long { result ≡ Status.TooLong
+        → TakesExactly (S.left source.old) (S.left source.new) (most_input + 1) }
+    ensures not_too_long { result ≢ Status.TooLong
+        → TakesAtMost (S.left source.old) (S.left source.new) most_input }
 
     // A command was carried out, its input is accepted, and the sink was given its text: for a run the
     // report of the sequential machine.
-    ensures done { result ≡ Status.Done → CarriedOut (texts words.now) (S.left source.old) (S.left source.new)
-        IsAccepted (Appends (K.held sink.old) (K.held sink.new)) }
+    ensures done { result ≡ Status.Done
+        → CarriedOut (texts words.now) (S.left source.old) (S.left source.new)
+        IsAnswerToAccepted (Appends (K.held sink.old) (K.held sink.new)) }
 
     // The input is not accepted, and the sink was given the line that says so; an input whose line
     // stands whole in the sink was refused.
-    ensures refused { result ≡ Status.Refused → CarriedOut (texts words.now) (S.left source.old) (S.left source.new)
-        IsRefused (Appends (K.held sink.old) (K.held sink.new)) }
-    ensures refusal { (command : Command) (input : List ℕ) (refusal : Refusal) → Spells (texts words.now) command
-        → S.left source.old ≡ Some input → S.left source.new ≡ Some [] → Refuses command input refusal
+    ensures refused { result ≡ Status.Refused
+        → CarriedOut (texts words.now) (S.left source.old) (S.left source.new)
+        IsAnswerToRefused (Appends (K.held sink.old) (K.held sink.new)) }
+    ensures refusal { (command : Command) (input : List ℕ) (refusal : Refusal)
+        → Spells (texts words.now) command → Refuses command input refusal
+        → S.left source.old ≡ Some input → S.left source.new ≡ Some []
         → IsWhole (K.held sink.old) (K.held sink.new) (refusal_line refusal) → result ≡ Status.Refused }
 
     // The sink failed, and was given a front of the text that lacks at least one byte.
-    ensures sink_fault { result ≡ Status.SinkFault → Rose (K.faults sink.old) (K.faults sink.new) }
-    ensures part { result ≡ Status.SinkFault → CarriedOut (texts words.now) (S.left source.old) (S.left source.new)
-        IsAnswered (AppendsPart (K.held sink.old) (K.held sink.new)) }
+    ensures sink_fault { result ≡ Status.SinkFault
+        → Rose (K.faults sink.old) (K.faults sink.new) }
+    ensures part { result ≡ Status.SinkFault
+        → CarriedOut (texts words.now) (S.left source.old) (S.left source.new)
+        IsAnswer (AppendsPart (K.held sink.old) (K.held sink.new)) }
 
     // Where nothing failed, an input that is not too long is answered: Done if it is accepted, Refused if
     // it is not, or Memory.
@@ -86,13 +94,16 @@ pub fn m88<S: Source, K: Sink>(
 /// The reply of a command to what a source gives it, or why there is none.
 fn reply_from<S: Source>(alloc: Global, command: Command, source: &mut S) -> Result<Reply, Status>
     requires { IsWithinLimit command }
-    ensures ok { IfOk result (λ reply. (input : List ℕ) × GivesInput command (S.left source.old) (S.left source.new) input
-        × Replies command input reply) }
+    ensures ok { IfOk result (λ reply. (input : List ℕ)
+        × GivesInput command (S.left source.old) (S.left source.new) input × Replies command input reply) }
     ensures unread { reads_input command ≡ false → source.new ≡ source.old }
     ensures status { IfErr result IsOfReading }
-    ensures fault { result ≡ Err Status.SourceFault → Rose (S.faults source.old) (S.faults source.new) }
-    ensures too_long { result ≡ Err Status.TooLong → TakesExactly (S.left source.old) (S.left source.new) (most_input + 1) }
-    ensures not_too_long { result ≢ Err Status.TooLong → TakesAtMost (S.left source.old) (S.left source.new) most_input }
+    ensures fault { result ≡ Err Status.SourceFault
+        → Rose (S.faults source.old) (S.faults source.new) }
+    ensures too_long { result ≡ Err Status.TooLong
+        → TakesExactly (S.left source.old) (S.left source.new) (most_input + 1) }
+    ensures not_too_long { result ≢ Err Status.TooLong
+        → TakesAtMost (S.left source.old) (S.left source.new) most_input }
 {
     let input = input_of(alloc, command, source)?;
     let reply = reply_to(alloc, command, input.as_slice())?;

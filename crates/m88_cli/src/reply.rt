@@ -6,7 +6,7 @@ use m88_base::push_refused;
 use std::alloc::{AllocError, Global};
 
 /// What a command writes, and whether it accepts its input.
-#[derive(Drop, Debug)]
+#[derive(Debug, Drop)]
 pub struct Reply {
     pub accepted: bool,
     pub text: Vec<u8>,

@@ -1,3 +1,4 @@
+//! The report of a run, as its bytes.
 ghost use Rattle.std.specs.Prelude.{◌≡◌, ◌++◌, IfOk, OnOk};
 ghost use Rattle.m88_cli.specs.Report.{count_line, end_text, out_text, register_line, register_lines, report_of};
 ghost use Rattle.m88_cli.specs.Outcome.{summary_of};

@@ -4,7 +4,7 @@ ghost use Rattle.m88_isa.specs.Machine.{Program};
 ghost use Rattle.m88_cli.specs.Limits.{most_limit};
 ghost use Rattle.m88_cli.specs.Loaded.{HasPlainWords, IsImageOf};
 ghost use Rattle.m88_cli.specs.Outcome.{summary_of};
-ghost use Rattle.m88_cli.specs.Timeline.{IsRunSummary, letter_at};
+ghost use Rattle.m88_cli.specs.Timeline.{IsRunSummary, letter_by_turns};
 
 use crate::letter::Letter;
 use crate::outcome::Outcome;
@@ -16,20 +16,21 @@ use std::alloc::{AllocError, Global};
 pub fn run(alloc: Global, image: &Image, limit: u32) -> Result<Outcome, AllocError>
     requires plain { HasPlainWords image.now }
     requires small { limit ≤ most_limit }
-    ensures { IfOk result (λ o. (p : Program) → IsImageOf p image.now → IsRunSummary p limit (summary_of o)) }
+    ensures { IfOk result (λ o. (p : Program) → IsImageOf p image.now
+        → IsRunSummary p limit (summary_of o)) }
 {
     let mut runner = Runner::new(alloc, image, limit);
     let mut events: u64 = 0;
     while !runner.is_over() {
-        runner.event(letter_at(events))?;
+        runner.event(letter_by_turns(events))?;
         events += 1;
     }
     Ok(runner.into_outcome(events))
 }
 
 /// The letter of an event, counted from 0: there is no schedule, so `r` and `i` come in turn.
-fn letter_at(event: u64) -> Letter
-    ensures { result ≡ letter_at event }
+fn letter_by_turns(event: u64) -> Letter
+    ensures { result ≡ letter_by_turns event }
 {
     if event % 2 == 0 {
         Letter::Answer

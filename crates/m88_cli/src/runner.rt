@@ -6,8 +6,8 @@ ghost use Rattle.m88_cli.specs.Limits.{most_limit};
 ghost use Rattle.m88_cli.specs.Loaded.{HasPlainWords, IsImageOf};
 ghost use Rattle.m88_cli.specs.Outcome.{summary_of};
 ghost use Rattle.m88_cli.specs.Plain.{IsPlain};
-ghost use Rattle.m88_cli.specs.Runner.{IsAt, IsFlowAligned, IsNearer, after_turn, is_over_at, left_to_do, summary_in, told};
-ghost use Rattle.m88_cli.specs.Timeline.{Moment, event_step_at, issue_step, made, opening_moment};
+ghost use Rattle.m88_cli.specs.Runner.{IsAt, IsFlowAligned, IsNearer, after_own_turn, is_over_at, left_to_do, summary_in, told};
+ghost use Rattle.m88_cli.specs.Timeline.{RunMoment, event_step_at, issue_step, made, run_opening};
 
 use crate::fetch::fetch;
 use crate::letter::Letter;
@@ -65,7 +65,7 @@ impl<'a> Runner<'a> {
     pub fn new(alloc: Global, image: &'a Image, limit: u32) -> Runner<'a>
         requires plain { HasPlainWords image.now }
         requires small { limit ≤ most_limit }
-        ensures opening { (p : Program) → IsImageOf p image.now → IsAt p limit opening_moment result }
+        ensures opening { (p : Program) → IsImageOf p image.now → IsAt p limit run_opening result }
         ensures limit { result.limit ≡ limit }
     {
         let pc = image.start() / 4 * 4;
@@ -92,8 +92,8 @@ impl<'a> Runner<'a> {
 
     /// Makes the event of a letter. Nothing is ever pending, so `r` changes nothing.
     pub fn event(&mut self, letter: Letter) -> Result<(), AllocError>
-        ensures moves { OnOk result ((p : Program) (limit : ℕ) (m : Moment) → IsAt p limit m self.old
-            → IsAt p limit (made (event_step_at p limit letter m) m) self.new) }
+        ensures moves { OnOk result ((p : Program) (limit : ℕ) (m : RunMoment)
+            → IsAt p limit m self.old → IsAt p limit (made (event_step_at p limit letter m) m) self.new) }
         ensures nearer { OnOk result (is_over_at self.old ≡ false → IsNearer letter self.old self.new) }
     {
         match letter {
@@ -121,9 +121,10 @@ impl<'a> Runner<'a> {
 
     /// Tries to issue the next instruction.
     fn issue(&mut self) -> Result<(), AllocError>
-        ensures moves { OnOk result ((p : Program) (limit : ℕ) (m : Moment) → IsAt p limit m self.old
-            → IsAt p limit (made (issue_step p limit m) m) self.new) }
-        ensures nearer { OnOk result (is_over_at self.old ≡ false → left_to_do self.new < left_to_do self.old) }
+        ensures moves { OnOk result ((p : Program) (limit : ℕ) (m : RunMoment)
+            → IsAt p limit m self.old → IsAt p limit (made (issue_step p limit m) m) self.new) }
+        ensures nearer { OnOk result (is_over_at self.old ≡ false
+            → left_to_do self.new < left_to_do self.old) }
     {
         if self.is_over() {
             return Ok(());
@@ -184,7 +185,7 @@ impl<'a> Runner<'a> {
     fn make(&mut self, next: &NextTurn) -> Result<(), AllocError>
         requires going { is_over_at self.old ≡ false }
         requires aligned { IsFlowAligned next.now }
-        ensures { OnOk result (self.new ≡ after_turn next.now self.old) }
+        ensures { OnOk result (self.new ≡ after_own_turn next.now self.old) }
     {
         match next {
             NextTurn::Stop(vector) => {
@@ -209,7 +210,7 @@ impl<'a> Runner<'a> {
     /// Puts a byte out and goes on.
     fn put_out(&mut self, byte: u8) -> Result<(), AllocError>
         requires { is_over_at self.old ≡ false }
-        ensures { OnOk result (self.new ≡ after_turn (NextTurn.PutOut byte) self.old) }
+        ensures { OnOk result (self.new ≡ after_own_turn (NextTurn.PutOut byte) self.old) }
     {
         self.out.push(byte)?;
         self.pc = self.next;
@@ -223,7 +224,7 @@ impl<'a> Runner<'a> {
     fn go(&mut self, effect: &Effect)
         requires going { is_over_at self.old ≡ false }
         requires aligned { IsFlowAligned (NextTurn.Go effect.now) }
-        ensures { self.new ≡ after_turn (NextTurn.Go effect.now) self.old }
+        ensures { self.new ≡ after_own_turn (NextTurn.Go effect.now) self.old }
     {
         if let Some((r, value)) = effect.reg {
             write_register(&mut self.regs, r, value);

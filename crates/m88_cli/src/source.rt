@@ -13,7 +13,7 @@ use m88_isa::{ImmOp, Instr};
 use std::alloc::{AllocError, Global};
 
 /// What a source is: the instructions of its lines, or the number of its first line of another form.
-#[derive(Drop)]
+#[derive(Debug, Drop)]
 pub enum Reading {
     Accepted(Vec<Instr>),
     Refused { line: u32 },

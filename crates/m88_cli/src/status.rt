@@ -1,6 +1,6 @@
 //! How the program ended, as a value and as the exit status of its process.
 ghost use Rattle.std.specs.Prelude.{◌≡◌};
-ghost use Rattle.m88_cli.specs.Status.{number_of};
+ghost use Rattle.m88_cli.specs.Status.{exit_number};
 
 use m88_base::ReadEnd;
 use std::alloc::AllocError;
@@ -27,7 +27,7 @@ pub enum Status {
 impl Status {
     /// The exit status of the process, 0 to 6.
     pub fn number(self) -> u8
-        ensures { result ≡ number_of self }
+        ensures { result ≡ exit_number self }
     {
         match self {
             Status::Done => 0,

@@ -8,17 +8,17 @@ use Rattle.m88_cli.proofs.Whole.{accepted_reply, answer_of, line_of_reply, not_p
 use Rattle.m88_cli.proofs.program.m88.Goals as goal
 
 pub returns-in-Err-clause-refusal : goal.returns-in-Err-clause-refusal
-returns-in-Err-clause-refusal g c = λ command input refusal spelled had left refused whole.
+returns-in-Err-clause-refusal g c = λ command input refusal spelled refused had left whole.
     absurd (not_whole _ (refusal_line refusal) (refusal_some refusal) whole)
 
 pub returns-then-reply-clause-refusal : goal.returns-then-reply-clause-refusal
-returns-then-reply-clause-refusal g c = λ command input refusal spelled had left refused whole.
+returns-then-reply-clause-refusal g c = λ command input refusal spelled refused had left whole.
     let same : c.in-Some.command ≡ command = some_same (c.in-Some.ensures.only command spelled) in
     let replies = reply_whole command c.in-Some.command _ _ input refusal c.in-Ok.reply same refused had left c.in-Ok.ensures.ok in
     absurd (refused_not_accepted command input refusal refused (accepted_reply command input c.in-Ok.reply c.if-reply.true replies).accepted)
 
 pub returns-then-is_err-clause-refusal : goal.returns-then-is_err-clause-refusal
-returns-then-is_err-clause-refusal g c = λ command input refusal spelled had left refused whole.
+returns-then-is_err-clause-refusal g c = λ command input refusal spelled refused had left whole.
     let same : c.in-Some.command ≡ command = some_same (c.in-Some.ensures.only command spelled) in
     let replies = reply_whole command c.in-Some.command _ _ input refusal c.in-Ok.reply same refused had left c.in-Ok.ensures.ok in
     let written : c.as_slice.result.now ≡ refusal_line refusal =
