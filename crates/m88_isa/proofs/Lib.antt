@@ -1,5 +1,9 @@
 pub mod Alone
 pub mod Constants
+pub mod Few
+pub mod Held
+pub mod InWords
+pub mod Late
 pub mod Plans
 pub mod Sets
 pub mod Spelling

@@ -1,6 +1,6 @@
 -- The accesses of the load, store and exchange instructions ("Instruction Set": load, store and exchange instructions;
 -- "Control Registers": the registers of a data transaction).
-use Rattle.std.specs.Prelude.{ℕ, Bool, true, false, List, [], ◌∷◌, ◌+◌, ◌%◌, ◌^◌, ◌≡◌, ◌<◌}
+use Rattle.std.specs.Prelude.{ℕ, Bool, true, false, List, [], ◌∷◌, ◌%◌, ◌≡◌, ◌<◌}
 use Rattle.m88_base.specs.declared.reg.Reg.{Reg}
 use Rattle.m88_isa.specs.Address.{after_bytes, word_address}
 use Rattle.m88_isa.specs.Lanes.{IsEnable, enable_of}

@@ -3,7 +3,6 @@
 -- big-endian and programs run in user mode.
 use Rattle.std.specs.Prelude.{ℕ, Bool, List, [], ◌∷◌, Option, Some, None, ◌+◌, ◌*◌, ◌/◌, ◌%◌, ◌^◌, ◌==◌, slice_get}
 use Rattle.std.specs.Int.{bit_at}
-use Rattle.m88_base.specs.declared.reg.Reg.{Reg}
 use Rattle.m88_base.specs.declared.triple.Triple.{Triple}
 use Rattle.m88_base.specs.Reg.{number_of, reg_of}
 use Rattle.m88_base.specs.Triple.{no_triple}

@@ -1,7 +1,7 @@
 -- The word table: the word of each instruction as the sum of its fields ("Instruction Set": the instruction
 -- formats and the opcode of each mnemonic). Fields that a form lacks hold 0, and a word that no line gives
 -- is no instruction: that is this project's profile. Bits are counted from 0 at the low end.
-use Rattle.std.specs.Prelude.{ℕ, ℤ, Bool, ◌≡◌, ◌+◌, ◌*◌, ◌^◌, ◌%◌, if◌then◌else◌}
+use Rattle.std.specs.Prelude.{ℕ, ℤ, ◌≡◌, ◌+◌, ◌*◌, ◌^◌, ◌%◌, if◌then◌else◌}
 use Rattle.std.specs.Int.{cast_unsigned, w16, w32}
 use Rattle.m88_base.specs.Reg.{number_of}
 use Rattle.m88_isa.specs.Compute.{weight_if}
