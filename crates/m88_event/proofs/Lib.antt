@@ -1,1 +1,4 @@
 pub mod Letters
+pub mod Law
+pub mod Bound
+pub mod Over

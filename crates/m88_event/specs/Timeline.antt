@@ -1,6 +1,6 @@
 -- The timeline of a run: its moments, each a count of the instructions that are retired and one of the transactions that are
 -- done along the history of the sequential machine, and what a letter makes of one.
-use Rattle.std.specs.Prelude.{ℕ, zero, suc, Bool, true, false, not, List, [], ◌∷◌, ◌++◌, ◌+◌, ◌==◌, ◌&&◌, ◌||◌}
+use Rattle.std.specs.Prelude.{ℕ, zero, suc, Bool, true, false, not, List, [], ◌∷◌, ◌++◌, ◌+◌, ◌≤◌, ◌==◌, ◌&&◌, ◌||◌}
 use Rattle.m88_isa.specs.History.{pending_at, transaction_count}
 use Rattle.m88_isa.specs.Machine.{Program, state}
 use Rattle.m88_event.specs.Choice.{Choice, choice_of, faults, finishes, holds, idles, issues, passes, replies, said, serves, touches_page}
@@ -96,3 +96,7 @@ said_at p named limit letter m =
 -- the run is over: nothing is pending, and no more may be issued
 abbrev pub is_over : Program → ℕ → Moment → Bool
 is_over p limit m = m.done == transaction_count p m.retired && is_idle limit m
+
+-- no more transactions are done than were made, as at every moment that a run comes to
+abbrev pub IsWithin : Program → Moment → Type 0
+IsWithin p m = m.done ≤ transaction_count p m.retired

@@ -1,11 +1,14 @@
 -- What it says that nothing holds an instruction, and that something does.
-use Rattle.std.specs.Prelude.{ℕ, zero, suc, Bool, true, false, List, Option, Some, None, ◌≡◌, ◌≢◌, ◌<◌, ◌≤◌, ◌+◌, ◌==◌, ◌&&◌, nat_lt}
-use Rattle.std.proofs.Common.{arith, subst}
+use Rattle.std.specs.Prelude.{ℕ, zero, suc, Bool, true, false, List, [], Option, Some, None, ◌≡◌, ◌≢◌, ◌<◌, ◌≤◌, ◌+◌, ◌==◌, ◌&&◌, nat_lt}
+use Rattle.std.proofs.Common.{arith, refl, subst}
 use Rattle.std.proofs.lemmas.Bool.{eqb-true, eqb-false, ltb-true, ltb-false}
+use Rattle.std.proofs.lemmas.Bool.Decides.{nat_tests}
 use Rattle.m88_isa.proofs.Alone.{by_test}
+use Rattle.m88_isa.proofs.Few.{IsShortTurn}
 use Rattle.m88_isa.proofs.Late.{beyond_waits_not, r0_waits_not}
 use Rattle.m88_isa.specs.Bus.{waits_for}
-use Rattle.m88_isa.specs.Held.{busy_register, first_from, involves}
+use Rattle.m88_isa.specs.Held.{busy_register, exceeds, first_from, held, involves}
+use Rattle.m88_isa.specs.Machine.{Turn, changes, outputs, stops}
 use Rattle.m88_isa.specs.declared.instr.Instr.{Instr}
 use Rattle.m88_isa.specs.declared.planned.Access.{Access}
 
@@ -54,3 +57,26 @@ none_busy i pending r h involved = by_test (r == 0)
     not_both (involves i r) (waits_for pending r) involved
     (none_from 1 31 (λ register. involves i register && waits_for pending register) r h (omega arith) (omega arith)))
     (λ beyond. beyond_waits_not pending r (let high = ltb-false r 32 beyond in omega arith)))
+
+-- where none passes, the least that passes is none
+pub none_passes : (start count : ℕ) (test : ℕ → Bool) → ((k : ℕ) → test k ≡ false) → first_from start count test ≡ None
+unfolding first_from
+none_passes start zero test h = refl
+none_passes start (suc count) test h = rw (h start) (none_passes (start + 1) count test h)
+
+no_second : (a : Bool) → (a && false) ≡ false
+no_second true = refl
+no_second false = refl
+
+none_busy_alone : (i : Option Instr) → busy_register i [] ≡ None
+unfolding busy_register waits_for
+none_busy_alone i = none_passes 1 31 (λ register. involves i register && false) (λ k. no_second (involves i k))
+
+never_exceeds : (turn : Turn) → IsShortTurn turn → exceeds turn 0 ≡ false
+never_exceeds (changes change) short = grind (arith, nat_tests)
+never_exceeds (outputs byte) short = refl
+never_exceeds (stops stop) short = refl
+
+-- nothing holds an instruction while nothing is pending
+pub nothing_held : (i : Option Instr) (turn : Turn) → IsShortTurn turn → held i turn [] ≡ None
+nothing_held i turn short = rw (none_busy_alone i, never_exceeds turn short) refl
