@@ -1,22 +1,20 @@
 -- A run is over within the length of its schedule, eight events for each instruction that it may retire, and eight more.
-use Rattle.std.specs.Prelude.{ℕ, zero, suc, Bool, true, false, not, List, [], ◌∷◌, ◌++◌, Option, Some, None, ◌≡◌, ◌≢◌, ◌<◌, ◌≤◌, ◌+◌, ◌-◌, ◌*◌, ◌%◌, ◌==◌, ◌&&◌, ◌||◌, drop, length, map, nat_lt, if◌then◌else◌, slice_get, unwrap_or}
-use Rattle.std.proofs.Common.{arith, add-one, length-append, refl, sym, ap, ◌∙◌, subst}
+use Rattle.std.specs.Prelude.{ℕ, suc, Bool, true, false, not, List, [], ◌∷◌, Option, Some, None, ◌≡◌, ◌≢◌, ◌<◌, ◌≤◌, ◌+◌, ◌-◌, ◌*◌, ◌%◌, ◌==◌, ◌&&◌, ◌||◌, length, map, nat_lt, if◌then◌else◌}
+use Rattle.std.proofs.Common.{arith, length-append, refl, sym, ap, ◌∙◌, subst}
 use Rattle.std.proofs.lemmas.Bool.{eqb-false, eqb-true, le-ltb, lt-ltb, ltb-false, ltb-true}
-use Rattle.std.proofs.lemmas.Bool.Decides.{nat_tests}
 use Rattle.std.proofs.lemmas.List.{length-drop}
 use Rattle.std.proofs.lemmas.Option.{slice_get_past}
 use Rattle.m88_isa.proofs.Alone.{by_test}
-use Rattle.m88_isa.proofs.Few.{IsShortTurn, turn_short}
 use Rattle.m88_isa.proofs.Held.{nothing_held}
-use Rattle.m88_isa.specs.Effect.{Change}
+use Rattle.m88_isa.proofs.Turns.{TurnFits, turn_fits}
 use Rattle.m88_isa.specs.Held.{Hold, held, instruction_at, is_pending}
 use Rattle.m88_isa.specs.History.{change_accesses}
-use Rattle.m88_isa.specs.Machine.{Program, Turn, changes, outputs, stops}
+use Rattle.m88_isa.specs.Machine.{IsProgram, Program, Turn, changes, outputs, stops}
 use Rattle.m88_isa.specs.Memory.{Touch, access_of}
 use Rattle.m88_isa.specs.declared.planned.Access.{Access}
 use Rattle.m88_event.specs.Choice.{Choice, answer_choice, choice_of, faults, finishes, holds, idles, issue_choice, issues, next_choice, next_turn, page_of, passes, replies, serves, turn_choice}
-use Rattle.m88_event.specs.Letters.{in_turn, letter_at}
-use Rattle.m88_event.specs.Local.{Local, counted_move, is_over_by, move, move_by, situation_of}
+use Rattle.m88_event.specs.Letters.{letter_at}
+use Rattle.m88_event.specs.Local.{Local, is_over_by, move, move_by, situation_of}
 use Rattle.m88_event.specs.Situation.{record_of}
 use Rattle.m88_event.specs.declared.letter.Letter.{Letter}
 use Rattle.m88_event.specs.declared.letter.Letter.TheVariants.{Issue, Answer}
@@ -89,9 +87,9 @@ spent may_stay limit l replies fault h =
 spent may_stay limit l faults fault h = let most = one_at_most (not may_stay) in omega (arith, h, most)
 
 -- the letter `i`: what it does is the turn of the next instruction, unless something holds it
-turn_spends : (may_stay : Bool) (limit : ℕ) (l : Local) (turn : Turn) → l.retired < limit → l.ended ≡ false → IsShortTurn turn →
+turn_spends : (may_stay : Bool) (limit : ℕ) (l : Local) (turn : Turn) → l.retired < limit → l.ended ≡ false → TurnFits turn →
     Spends may_stay limit l (turn_choice turn)
-turn_spends may_stay limit l (changes change) room lives short = (room, short)
+turn_spends may_stay limit l (changes change) room lives fits = (room, fits.short)
 turn_spends may_stay limit l (outputs byte) room lives short = room
 turn_spends may_stay limit l (stops stop) room lives short = lives
 
@@ -101,7 +99,7 @@ MayBeHeld may_stay None = Unit {0}
 MayBeHeld may_stay (Some why) = may_stay ≡ true
 
 next_spends : (may_stay : Bool) (limit : ℕ) (l : Local) (why : Option Hold) (turn : Turn) → l.retired < limit → l.ended ≡ false →
-    IsShortTurn turn → MayBeHeld may_stay why →
+    TurnFits turn → MayBeHeld may_stay why →
     Spends may_stay limit l (next_choice why turn)
 next_spends may_stay limit l None turn room lives short may = turn_spends may_stay limit l turn room lives short
 next_spends may_stay limit l (Some why) turn room lives short may = may
@@ -121,7 +119,7 @@ room_of limit l within h =
     omega (arith, within, apart)
 
 issue_spends : (may_stay : Bool) (limit : ℕ) (l : Local) (idle bubble : Bool) (why : Option Hold) (turn : Turn) →
-    l.retired ≤ limit → (l.ended || l.retired == limit) ≡ idle → l.bubble ≡ bubble → IsShortTurn turn →
+    l.retired ≤ limit → (l.ended || l.retired == limit) ≡ idle → l.bubble ≡ bubble → TurnFits turn →
     (idle ≡ true → may_stay ≡ true) → MayBeHeld may_stay why →
     Spends may_stay limit l (issue_choice idle bubble why turn)
 issue_spends may_stay limit l true bubble why turn within e b short may held = may refl
@@ -154,13 +152,13 @@ empty [] h = refl
 empty (x ∷ xs) h = absurd cc
 
 -- no letter makes the fuel more
-letter_stays : (p : Program) (limit : ℕ) (letter : Letter) (l : Local) → l.retired ≤ limit →
+letter_stays : (p : Program) (limit : ℕ) (letter : Letter) (l : Local) → IsProgram p → l.retired ≤ limit →
     Spends true limit l (choice_of p letter (situation_of limit l))
 unfolding situation_of
-letter_stays p limit Issue l within =
-    issue_spends true limit l _ _ _ _ within refl refl (turn_short p l.completed.regs l.completed.carry l.completed.pc l.completed.next)
+letter_stays p limit Issue l is within =
+    issue_spends true limit l _ _ _ _ within refl refl (turn_fits p l.completed.regs l.completed.carry l.completed.pc l.completed.next is)
     (λ e. refl) (always_may _)
-letter_stays p limit Answer l within = answer_spends true limit l l.pending l.absent refl (λ e. refl)
+letter_stays p limit Answer l is within = answer_spends true limit l l.pending l.absent refl (λ e. refl)
 
 -- `r` makes it less where something is pending
 answer_less : (p : Program) (limit : ℕ) (l : Local) → is_pending l.pending ≡ true →
@@ -169,12 +167,12 @@ unfolding situation_of
 answer_less p limit l some = answer_spends false limit l l.pending l.absent refl (λ none. absurd cc)
 
 -- `i` makes it less where nothing is pending and instructions may be issued
-issue_less : (p : Program) (limit : ℕ) (l : Local) → l.retired ≤ limit → is_pending l.pending ≡ false →
+issue_less : (p : Program) (limit : ℕ) (l : Local) → IsProgram p → l.retired ≤ limit → is_pending l.pending ≡ false →
     (l.ended || l.retired == limit) ≡ false →
     Spends false limit l (choice_of p Issue (situation_of limit l))
 unfolding situation_of
-issue_less p limit l within none lives =
-    let short = turn_short p l.completed.regs l.completed.carry l.completed.pc l.completed.next in
+issue_less p limit l is within none lives =
+    let short = turn_fits p l.completed.regs l.completed.carry l.completed.pc l.completed.next is in
     let turn : Turn = next_turn p (situation_of limit l) in
     issue_spends false limit l _ _ _ _ within refl refl short
     (λ idle. absurd cc)
@@ -222,11 +220,11 @@ same_fuel : (p : Program) (limit : ℕ) (letter : Letter) (l : Local) → fuel l
 unfolding fuel move after
 same_fuel p limit letter l = refl
 
-fuel_stays : (p : Program) (limit : ℕ) (letter : Letter) (l : Local) → l.retired ≤ limit →
+fuel_stays : (p : Program) (limit : ℕ) (letter : Letter) (l : Local) → IsProgram p → l.retired ≤ limit →
     fuel limit (move p limit letter l) ≤ fuel limit l
 unfolding after
-fuel_stays p limit letter l within =
-    let less = spent true limit l (choice_of p letter (situation_of limit l)) (record_of p (situation_of limit l)) (letter_stays p limit letter l within) in
+fuel_stays p limit letter l is within =
+    let less = spent true limit l (choice_of p letter (situation_of limit l)) (record_of p (situation_of limit l)) (letter_stays p limit letter l is within) in
     let same = same_fuel p limit letter l in
     omega (arith, less, same)
 
@@ -238,12 +236,12 @@ fuel_answered p limit l some =
     let same = same_fuel p limit Answer l in
     omega (arith, less, same)
 
-fuel_issued : (p : Program) (limit : ℕ) (l : Local) → l.retired ≤ limit → is_pending l.pending ≡ false →
+fuel_issued : (p : Program) (limit : ℕ) (l : Local) → IsProgram p → l.retired ≤ limit → is_pending l.pending ≡ false →
     (l.ended || l.retired == limit) ≡ false →
     fuel limit (move p limit Issue l) + 1 ≤ fuel limit l
 unfolding after
-fuel_issued p limit l within none lives =
-    let less = spent false limit l (choice_of p Issue (situation_of limit l)) (record_of p (situation_of limit l)) (issue_less p limit l within none lives) in
+fuel_issued p limit l is within none lives =
+    let less = spent false limit l (choice_of p Issue (situation_of limit l)) (record_of p (situation_of limit l)) (issue_less p limit l is within none lives) in
     let same = same_fuel p limit Issue l in
     omega (arith, less, same)
 
@@ -270,63 +268,63 @@ only_idle true idle e h = absurd cc
 only_idle false idle e h = h
 
 -- each letter takes 1 off the weight: inside the schedule, and behind it
-inside_lessens : (p : Program) (limit : ℕ) (schedule : List Letter) (k : ℕ) (l : Local) (letter : Letter) → l.retired ≤ limit →
+inside_lessens : (p : Program) (limit : ℕ) (schedule : List Letter) (k : ℕ) (l : Local) (letter : Letter) → IsProgram p → l.retired ≤ limit →
     k < length schedule →
     weight schedule limit (k + 1) (move p limit letter l) < weight schedule limit k l
 unfolding weight
-inside_lessens p limit schedule k l letter within h =
-    let fuels = fuel_stays p limit letter l within in
+inside_lessens p limit schedule k l letter is within h =
+    let fuels = fuel_stays p limit letter l is within in
     let old = inside_phase schedule k l h in
     let new = next_phase schedule k (move p limit letter l) h in
     rw (old, new) (omega (arith, fuels, h))
 
-answer_lessens : (p : Program) (limit : ℕ) (schedule : List Letter) (k : ℕ) (l : Local) (pending next : Bool) → l.retired ≤ limit →
+answer_lessens : (p : Program) (limit : ℕ) (schedule : List Letter) (k : ℕ) (l : Local) (pending next : Bool) → IsProgram p → l.retired ≤ limit →
     length schedule ≤ k → ((k - length schedule) % 2 == 0) ≡ true → is_pending l.pending ≡ pending →
     is_pending (move p limit Answer l).pending ≡ next →
     weight schedule limit (k + 1) (move p limit Answer l) < weight schedule limit k l
 unfolding weight
-answer_lessens p limit schedule k l true next within h e some later =
+answer_lessens p limit schedule k l true next is within h e some later =
     let fuels = fuel_answered p limit l some in
     let old = outside_phase schedule k l true true h e some in
     let new = outside_phase schedule (k + 1) (move p limit Answer l) false next (omega (arith, h)) (other_turn k (length schedule) true h e) later in
     let most = at_most_two false false next in
     rw (old, new) (omega (arith, fuels, h, most))
-answer_lessens p limit schedule k l false next within h e none later =
-    let fuels = fuel_stays p limit Answer l within in
+answer_lessens p limit schedule k l false next is within h e none later =
+    let fuels = fuel_stays p limit Answer l is within in
     let old = outside_phase schedule k l true false h e none in
     let new = outside_phase schedule (k + 1) (move p limit Answer l) false false (omega (arith, h)) (other_turn k (length schedule) true h e)
     (still_none p limit l none) in
     rw (old, new) (omega (arith, fuels, h))
 
-issue_lessens : (p : Program) (limit : ℕ) (schedule : List Letter) (k : ℕ) (l : Local) (pending : Bool) → l.retired ≤ limit →
+issue_lessens : (p : Program) (limit : ℕ) (schedule : List Letter) (k : ℕ) (l : Local) (pending : Bool) → IsProgram p → l.retired ≤ limit →
     length schedule ≤ k → ((k - length schedule) % 2 == 0) ≡ false → is_pending l.pending ≡ pending →
     is_over_by limit l ≡ false →
     weight schedule limit (k + 1) (move p limit Issue l) < weight schedule limit k l
 unfolding weight
-issue_lessens p limit schedule k l true within h e some goes =
-    let fuels = fuel_stays p limit Issue l within in
+issue_lessens p limit schedule k l true is within h e some goes =
+    let fuels = fuel_stays p limit Issue l is within in
     let old = outside_phase schedule k l false true h e some in
     let new = outside_phase schedule (k + 1) (move p limit Issue l) true (is_pending (move p limit Issue l).pending) (omega (arith, h))
     (other_turn k (length schedule) false h e) refl in
     rw (old, new) (omega (arith, fuels, h))
-issue_lessens p limit schedule k l false within h e none goes =
-    let fuels = fuel_issued p limit l within none (only_idle (is_pending l.pending) (l.ended || l.retired == limit) none goes) in
+issue_lessens p limit schedule k l false is within h e none goes =
+    let fuels = fuel_issued p limit l is within none (only_idle (is_pending l.pending) (l.ended || l.retired == limit) none goes) in
     let old = outside_phase schedule k l false false h e none in
     let new = outside_phase schedule (k + 1) (move p limit Issue l) true (is_pending (move p limit Issue l).pending) (omega (arith, h))
     (other_turn k (length schedule) false h e) refl in
     rw (old, new) (omega (arith, fuels, h))
 
-pub lessens : (p : Program) (limit : ℕ) (schedule : List Letter) (k : ℕ) (l : Local) → l.retired ≤ limit →
+pub lessens : (p : Program) (limit : ℕ) (schedule : List Letter) (k : ℕ) (l : Local) → IsProgram p → l.retired ≤ limit →
     is_over_by limit l ≡ false →
     weight schedule limit (k + 1) (move p limit (letter_at schedule k) l) < weight schedule limit k l
-lessens p limit schedule k l within goes = by_test (nat_lt k (length schedule))
-    (λ inside. inside_lessens p limit schedule k l (letter_at schedule k) within (ltb-true k (length schedule) inside))
+lessens p limit schedule k l is within goes = by_test (nat_lt k (length schedule))
+    (λ inside. inside_lessens p limit schedule k l (letter_at schedule k) is within (ltb-true k (length schedule) inside))
     (λ outside. let h = ltb-false k (length schedule) outside in
     by_test ((k - length schedule) % 2 == 0)
     (λ answer. rw (behind schedule k true h answer)
-    (answer_lessens p limit schedule k l (is_pending l.pending) (is_pending (move p limit Answer l).pending) within h answer refl refl))
+    (answer_lessens p limit schedule k l (is_pending l.pending) (is_pending (move p limit Answer l).pending) is within h answer refl refl))
     (λ issue. rw (behind schedule k false h issue)
-    (issue_lessens p limit schedule k l (is_pending l.pending) within h issue refl goes)))
+    (issue_lessens p limit schedule k l (is_pending l.pending) is within h issue refl goes)))
 
 -- the weight at the start
 pub weight_at_start : (limit : ℕ) (schedule : List Letter) (l : Local) → l.pending ≡ [] →
@@ -351,9 +349,9 @@ retired_by limit l (finishes stop) fault within h = within
 retired_by limit l replies fault within h = within
 retired_by limit l faults fault within h = within
 
-pub stays_in_limit : (p : Program) (limit : ℕ) (letter : Letter) (l : Local) → l.retired ≤ limit →
+pub stays_in_limit : (p : Program) (limit : ℕ) (letter : Letter) (l : Local) → IsProgram p → l.retired ≤ limit →
     (move p limit letter l).retired ≤ limit
 unfolding move
-stays_in_limit p limit letter l within =
+stays_in_limit p limit letter l is within =
     retired_by limit l (choice_of p letter (situation_of limit l)) (record_of p (situation_of limit l)) within
-    (letter_stays p limit letter l within)
+    (letter_stays p limit letter l is within)

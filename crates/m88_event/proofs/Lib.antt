@@ -1,4 +1,4 @@
 pub mod Letters
-pub mod Law
+pub mod Follows
 pub mod Bound
 pub mod Over

@@ -3,13 +3,22 @@
 //! that are retired and one of the transactions that are done; the board is proved to go the same way.
 #![tactic(auto)]
 
-mod happened;
+// the letters of a run
 mod letter;
-mod outcome;
-mod record;
 mod schedule;
 
+// what its events do
+mod happened;
+mod record;
+
+// what it comes to
+mod outcome;
+
+// how a board goes along it
+mod law;
+
 pub use happened::{End, Happened, Why};
+pub use law::moves_follow_the_timeline;
 pub use letter::Letter;
 pub use outcome::Outcome;
 pub use record::Record;

@@ -4,7 +4,7 @@ use Rattle.std.proofs.Common.{arith, refl, subst}
 use Rattle.std.proofs.lemmas.Bool.{eqb-true, eqb-false, ltb-true, ltb-false}
 use Rattle.std.proofs.lemmas.Bool.Decides.{nat_tests}
 use Rattle.m88_isa.proofs.Alone.{by_test}
-use Rattle.m88_isa.proofs.Few.{IsShortTurn}
+use Rattle.m88_isa.proofs.Turns.{TurnFits}
 use Rattle.m88_isa.proofs.Late.{beyond_waits_not, r0_waits_not}
 use Rattle.m88_isa.specs.Bus.{waits_for}
 use Rattle.m88_isa.specs.Held.{busy_register, exceeds, first_from, held, involves}
@@ -72,11 +72,11 @@ none_busy_alone : (i : Option Instr) → busy_register i [] ≡ None
 unfolding busy_register waits_for
 none_busy_alone i = none_passes 1 31 (λ register. involves i register && false) (λ k. no_second (involves i k))
 
-never_exceeds : (turn : Turn) → IsShortTurn turn → exceeds turn 0 ≡ false
-never_exceeds (changes change) short = grind (arith, nat_tests)
+never_exceeds : (turn : Turn) → TurnFits turn → exceeds turn 0 ≡ false
+never_exceeds (changes change) fits = let short = fits.short in grind (arith, nat_tests)
 never_exceeds (outputs byte) short = refl
 never_exceeds (stops stop) short = refl
 
 -- nothing holds an instruction while nothing is pending
-pub nothing_held : (i : Option Instr) (turn : Turn) → IsShortTurn turn → held i turn [] ≡ None
+pub nothing_held : (i : Option Instr) (turn : Turn) → TurnFits turn → held i turn [] ≡ None
 nothing_held i turn short = rw (none_busy_alone i, never_exceeds turn short) refl

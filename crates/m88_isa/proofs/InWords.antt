@@ -1,21 +1,19 @@
 -- The history in bytes and the history in words are one: an access does to the words what it does to the bytes.
-use Rattle.std.specs.Prelude.{ℕ, zero, suc, Bool, List, [], ◌∷◌, Option, Some, None, ◌++◌, ◌≡◌, ◌≢◌, ◌+◌, ◌==◌, ◌&&◌, map, nat_le, nat_lt, slice_index}
+use Rattle.std.specs.Prelude.{ℕ, zero, suc, List, [], ◌∷◌, Option, Some, None, IfSome, unwrap_or, ◌++◌, ◌≡◌, ◌≢◌, ◌<◌, ◌+◌, ◌^◌, ◌==◌, ◌&&◌, map, nat_le, nat_lt}
 use Rattle.std.proofs.Common.{arith, refl, sym, ap, ◌∙◌}
 use Rattle.std.proofs.Math.Path.{fun_ext}
 use Rattle.std.proofs.lemmas.Bool.{eqb-true, eqb-false}
 use Rattle.m88_isa.proofs.Alone.{by_test}
-use Rattle.m88_isa.proofs.Plans.{touches_aligned}
 use Rattle.m88_isa.proofs.TouchedBytes.{loads_bytes, stores_bytes}
+use Rattle.m88_isa.proofs.Turns.{TurnFits, turn_fits}
 use Rattle.m88_isa.specs.Address.{word_address}
 use Rattle.m88_isa.specs.Bus.{Cells, after_access, after_accesses, bus_after, bus_after_all, in_words, loaded, stored, with_word}
-use Rattle.m88_isa.specs.Effect.{AreAligned, Change, Meaning, TouchesAligned, goes, meaning_of, raises, traps}
+use Rattle.m88_isa.specs.Effect.{AreAligned, Change}
 use Rattle.m88_isa.specs.History.{Completed, after_turn, change_accesses, completed_state, transactions, turn_accesses}
 use Rattle.m88_isa.specs.Lanes.{AreBytes, IsAligned, enable_of, number_at, stored_at, widened}
-use Rattle.m88_isa.specs.Machine.{Program, State, Turn, after_change, after_touch, after_touches, carried_out, changes, fetched, four_bytes, opening, outputs, state, state_after, stepped, stops, trapped, turn, turn_at, with_register, with_written}
-use Rattle.m88_isa.specs.Monitor.{exit_service, monitor_trap, put_service, service_register}
+use Rattle.m88_isa.specs.Machine.{IsProgram, Program, State, Turn, after_change, after_touch, after_touches, changes, opening, outputs, state, state_after, stepped, stops, turn_at, with_register, with_written}
 use Rattle.m88_isa.specs.Memory.{Touch, access_of}
 use Rattle.m88_isa.specs.declared.planned.Access.{Access}
-use Rattle.m88_isa.specs.declared.instr.Instr.{Instr}
 
 -- a word's address is its own
 same_word : (a : ℕ) → word_address (word_address a) ≡ word_address a
@@ -93,35 +91,6 @@ touches_rest : (ts : List Touch) (s : State) →
 touches_rest [] s = refl
 touches_rest (t ∷ ts) s = touches_rest ts (after_touch t s)
 
--- what a turn does is aligned
-abbrev pub TurnAligned : Turn → Type 0
-TurnAligned (changes change) = AreAligned change.touches
-TurnAligned (outputs byte) = Unit {0}
-TurnAligned (stops stop) = Unit {0}
-
-trapped_aligned : (vector : ℕ) (regs : List ℕ) (pc : ℕ) → TurnAligned (trapped vector regs pc)
-trapped_aligned vector regs pc =
-    by_test (vector == monitor_trap && slice_index regs service_register == put_service)
-    (λ put. rw put tt)
-    (λ other. rw other (by_test (vector == monitor_trap && slice_index regs service_register == exit_service)
-    (λ exit. rw exit tt)
-    (λ none. rw none tt)))
-
-meaning_aligned : (m : Meaning) (regs : List ℕ) (pc : ℕ) → TouchesAligned m → TurnAligned (carried_out m regs pc)
-meaning_aligned (raises vector) regs pc h = tt
-meaning_aligned (traps vector) regs pc h = trapped_aligned vector regs pc
-meaning_aligned (goes change) regs pc h = h
-
-fetched_aligned : (word : Option (List ℕ)) (i : Option Instr) (regs : List ℕ) (carry : Bool) (pc next : ℕ) →
-    TurnAligned (fetched word i regs carry pc next)
-fetched_aligned None i regs carry pc next = tt
-fetched_aligned (Some word) None regs carry pc next = tt
-fetched_aligned (Some word) (Some i) regs carry pc next =
-    meaning_aligned (meaning_of i regs carry pc next) regs pc (touches_aligned i regs carry pc next)
-
-pub turn_aligned : (p : Program) (regs : List ℕ) (carry : Bool) (pc next : ℕ) → TurnAligned (turn p regs carry pc next)
-turn_aligned p regs carry pc next = fetched_aligned (four_bytes p.byte pc) (p.instruction pc) regs carry pc next
-
 -- a step in bytes is the turn in words
 change_agrees : (change : Change) (s : State) → AreBytes s.memory → AreAligned change.touches →
     completed_state (after_change change s) ≡ after_turn (changes change) (completed_state s)
@@ -139,10 +108,10 @@ change_agrees change s bytes aligned =
       out = s.out;
     }) agree
 
-pub turn_agrees : (turn : Turn) (s : State) → AreBytes s.memory → TurnAligned turn →
+pub turn_agrees : (turn : Turn) (s : State) → AreBytes s.memory → TurnFits turn →
     completed_state (state_after (stepped turn s) s) ≡ after_turn turn (completed_state s)
 unfolding completed_state after_turn
-turn_agrees (changes change) s bytes aligned = change_agrees change s bytes aligned
+turn_agrees (changes change) s bytes fits = change_agrees change s bytes fits.aligned
 turn_agrees (outputs byte) s bytes aligned = refl
 turn_agrees (stops stop) s bytes aligned = refl
 
@@ -152,18 +121,26 @@ turn_bytes (changes change) s bytes = touches_bytes change.touches _ bytes
 turn_bytes (outputs byte) s bytes = bytes
 turn_bytes (stops stop) s bytes = bytes
 
-pub state_bytes : (p : Program) (n : ℕ) → AreBytes (opening p).memory → AreBytes (state p n).memory
+byte_there : (byte : Option ℕ) → IfSome byte (λ b. b < 2 ^ 8) → unwrap_or byte 0 < 2 ^ 8
+byte_there None h = omega arith
+byte_there (Some b) h = h
+
+opening_bytes : (p : Program) → IsProgram p → AreBytes (opening p).memory
+unfolding opening
+opening_bytes p is a = byte_there (p.byte a) (is.bytes a)
+
+pub state_bytes : (p : Program) (n : ℕ) → IsProgram p → AreBytes (state p n).memory
 unfolding state
-state_bytes p zero bytes = bytes
-state_bytes p (suc n) bytes = turn_bytes (turn_at p (state p n)) (state p n) (state_bytes p n bytes)
+state_bytes p zero is = opening_bytes p is
+state_bytes p (suc n) is = turn_bytes (turn_at p (state p n)) (state p n) (state_bytes p n is)
 
 -- the state after one more step, in words
-pub state_agrees : (p : Program) (n : ℕ) → AreBytes (opening p).memory →
+pub state_agrees : (p : Program) (n : ℕ) → IsProgram p →
     completed_state (state p (suc n)) ≡ after_turn (turn_at p (state p n)) (completed_state (state p n))
 unfolding state
-state_agrees p n bytes =
-    turn_agrees (turn_at p (state p n)) (state p n) (state_bytes p n bytes)
-    (turn_aligned p (state p n).regs (state p n).carry (state p n).pc (state p n).next)
+state_agrees p n is =
+    turn_agrees (turn_at p (state p n)) (state p n) (state_bytes p n is)
+    (turn_fits p (state p n).regs (state p n).carry (state p n).pc (state p n).next is)
 
 -- memory in words after the transactions of some steps
 pub bus_of_append : (xs ys : List Access) (bus : ℕ → ℕ) →
@@ -185,12 +162,12 @@ turn_bus (outputs byte) c = refl
 turn_bus (stops stop) c = refl
 
 -- memory of the history, in words, is what its transactions make of the words at first
-pub state_bus : (p : Program) (n : ℕ) → AreBytes (opening p).memory →
+pub state_bus : (p : Program) (n : ℕ) → IsProgram p →
     in_words (state p n).memory ≡ bus_after_all (transactions p n) (in_words (opening p).memory)
 unfolding state transactions bus_after_all completed_state
-state_bus p zero bytes = refl
-state_bus p (suc n) bytes =
-    ap (λ (c : Completed). c.bus) (state_agrees p n bytes)
+state_bus p zero is = refl
+state_bus p (suc n) is =
+    ap (λ (c : Completed). c.bus) (state_agrees p n is)
     ∙ turn_bus (turn_at p (state p n)) (completed_state (state p n))
-    ∙ ap (bus_after_all (turn_accesses (turn_at p (state p n)))) (state_bus p n bytes)
+    ∙ ap (bus_after_all (turn_accesses (turn_at p (state p n)))) (state_bus p n is)
     ∙ sym (bus_of_append (transactions p n) (turn_accesses (turn_at p (state p n))) (in_words (opening p).memory))

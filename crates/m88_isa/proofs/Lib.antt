@@ -1,6 +1,5 @@
 pub mod Alone
 pub mod Constants
-pub mod Few
 pub mod Held
 pub mod InWords
 pub mod Late
@@ -8,4 +7,5 @@ pub mod Plans
 pub mod Sets
 pub mod Spelling
 pub mod TouchedBytes
+pub mod Turns
 pub mod Words

@@ -1,10 +1,11 @@
 -- The sequential machine: a program's instructions one after the other, each finished before the next begins, with all
 -- of memory there ("Exception Processing" for how a program ends). It knows no pipeline and no page.
-use Rattle.std.specs.Prelude.{ℕ, zero, suc, Bool, false, List, [], ◌∷◌, ◌++◌, Option, Some, None, ◌+◌, ◌%◌, ◌^◌, ◌==◌, ◌&&◌, unwrap_or, replicate, slice_index, slice_set, if◌then◌else◌}
+use Rattle.std.specs.Prelude.{ℕ, zero, suc, Bool, false, List, [], ◌∷◌, ◌++◌, Option, Some, None, IfSome, ◌<◌, ◌+◌, ◌%◌, ◌^◌, ◌==◌, ◌&&◌, unwrap_or, replicate, slice_index, slice_set, if◌then◌else◌}
 use Rattle.m88_base.specs.declared.reg.Reg.{Reg}
 use Rattle.m88_base.specs.Reg.{number_of}
 use Rattle.m88_isa.specs.Address.{after_bytes, word_address}
 use Rattle.m88_isa.specs.Effect.{Change, Meaning, goes, meaning_of, raises, traps}
+use Rattle.m88_isa.specs.Instr.{IsValid}
 use Rattle.m88_isa.specs.Lanes.{number_at, stored_at, widened}
 use Rattle.m88_isa.specs.Memory.{Touch}
 use Rattle.m88_isa.specs.Monitor.{exit_service, monitor_trap, output_register, put_service, service_register}
@@ -17,6 +18,11 @@ pub record Program : Type 0 where
   pub start : ℕ
   pub byte : ℕ → Option ℕ
   pub instruction : ℕ → Option Instr
+
+-- its bytes are bytes, and its instructions are ones that there are, as of every image and every source
+pub record IsProgram (p : Program) : Type 0 where
+  pub bytes : (a : ℕ) → IfSome (p.byte a) (λ byte. byte < 2 ^ 8)
+  pub instructions : (a : ℕ) → IfSome (p.instruction a) IsValid
 
 -- the 32 registers, the carry, the address of the instruction that is carried out next and of the one that follows it,
 -- the data memory byte by byte, and the output so far

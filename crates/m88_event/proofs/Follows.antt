@@ -1,22 +1,20 @@
 -- A move takes what a moment looks like to what the next looks like.
-use Rattle.std.specs.Prelude.{ℕ, zero, suc, Bool, true, false, not, List, [], ◌∷◌, ◌++◌, Option, Some, None, ◌≡◌, ◌<◌, ◌≤◌, ◌+◌, ◌-◌, ◌==◌, ◌&&◌, ◌||◌, drop, length, take, if◌then◌else◌}
-use Rattle.std.proofs.Common.{arith, add-one, length-append, refl, sym, ap, ap₂, ◌∙◌, subst}
+use Rattle.std.specs.Prelude.{ℕ, zero, suc, Bool, true, false, not, List, [], ◌∷◌, ◌++◌, Option, Some, None, ◌≡◌, ◌<◌, ◌≤◌, ◌+◌, ◌&&◌, ◌||◌, drop, length, take, if◌then◌else◌}
+use Rattle.std.proofs.Common.{arith, add-one, length-append, refl, sym, ap, ◌∙◌}
 use Rattle.std.proofs.Math.Path.{fun_ext}
 use Rattle.std.proofs.lemmas.List.{append-nil, drop-append-le, drop_all, length-drop, take-append-drop, take-append-le, take_all}
 use Rattle.m88_isa.proofs.InWords.{bus_of_append, state_agrees}
 use Rattle.m88_isa.specs.Bus.{bus_after_all, in_words}
-use Rattle.m88_isa.specs.Effect.{Change}
-use Rattle.m88_isa.specs.Held.{Hold, held, instruction_at}
-use Rattle.m88_isa.specs.History.{Completed, after_turn, bus_at, change_accesses, completed_state, pending_at, transaction_count, transactions, turn_accesses}
-use Rattle.m88_isa.specs.Lanes.{AreBytes}
-use Rattle.m88_isa.specs.Machine.{Program, Stop, Turn, changes, opening, outputs, state, stops, turn_at}
+use Rattle.m88_isa.specs.Held.{Hold}
+use Rattle.m88_isa.specs.History.{after_turn, bus_at, change_accesses, completed_state, pending_at, transaction_count, transactions, turn_accesses}
+use Rattle.m88_isa.specs.Machine.{IsProgram, Program, Turn, changes, opening, outputs, state, stops, turn_at}
 use Rattle.m88_isa.specs.declared.planned.Access.{Access}
-use Rattle.m88_event.specs.Choice.{Choice, answer_choice, choice_of, faults, finishes, holds, idles, issue_choice, issues, next_choice, next_turn, page_of, passes, replies, said, serves, touches_page, turn_choice}
-use Rattle.m88_event.specs.Local.{Local, counted_move, local_at, move, move_by, said_by, situation_of}
-use Rattle.m88_event.specs.Shadow.{Pointer, retired_pointer}
+use Rattle.m88_event.specs.Choice.{Choice, answer_choice, choice_of, faults, finishes, holds, idles, issue_choice, issues, next_choice, page_of, passes, replies, said, serves, touches_page, turn_choice}
+use Rattle.m88_event.specs.Local.{counted_move, local_at, move, move_by, said_by, situation_of}
+use Rattle.m88_event.specs.Shadow.{retired_pointer}
 use Rattle.m88_event.specs.Letters.{letter_at}
 use Rattle.m88_event.specs.Run.{moment_after}
-use Rattle.m88_event.specs.Situation.{Situation, record_of}
+use Rattle.m88_event.specs.Situation.{record_of}
 use Rattle.m88_event.specs.Timeline.{IsWithin, Moment, opening_moment, absent_at, after_choice, after_letter, counted, said_at, situation_at, xip_at}
 use Rattle.m88_event.specs.declared.letter.Letter.{Letter}
 use Rattle.m88_event.specs.declared.letter.Letter.TheVariants.{Issue, Answer}
@@ -83,7 +81,7 @@ more_transactions : (p : Program) (n : ℕ) (turn : Turn) → turn_at p (state p
 unfolding transactions
 more_transactions p n turn e = rw (add-one, e) refl
 
-more_state : (p : Program) (n : ℕ) (turn : Turn) → AreBytes (opening p).memory → turn_at p (state p n) ≡ turn →
+more_state : (p : Program) (n : ℕ) (turn : Turn) → IsProgram p → turn_at p (state p n) ≡ turn →
     completed_state (state p (n + 1)) ≡ after_turn turn (completed_state (state p n))
 more_state p n turn bytes e = rw (add-one, ← e) (state_agrees p n bytes)
 
@@ -134,7 +132,7 @@ finished_absent false false touched = refl
 
 -- what a choice makes of what is seen of a moment is what is seen of what it makes of the moment
 by_choice : (p : Program) (named : ℕ → Bool) (m : Moment) (choice : Choice) (fault : Record) →
-    AreBytes (opening p).memory →
+    IsProgram p →
     m.done ≤ transaction_count p m.retired →
     Fits p m choice →
     move_by choice fault (local_at p named m) ≡ local_at p named (after_choice p choice fault m)
@@ -201,11 +199,11 @@ by_choice p named m replies fault bytes kept fit =
 by_choice p named m faults fault bytes kept fit =
     let bus = finished_bus p m.retired m.done in
     let pending = sym (drop_all (transaction_count p m.retired) (transactions p m.retired) (omega arith)) in
+    let left = length-drop m.done (transactions p m.retired) in
+    let done : m.done + length (pending_at p m.retired m.done) ≡ transaction_count p m.retired = omega (arith, left, kept) in
     let absent : (λ page. absent_at named m page && not (touches_page (pending_at p m.retired m.done) page))
     ≡ (λ page. named page && not (m.supplied page || touches_page (pending_at p m.retired m.done) page)) =
     fun_ext (λ page. finished_absent (named page) (m.supplied page) (touches_page (pending_at p m.retired m.done) page)) in
-    let left = length-drop m.done (transactions p m.retired) in
-    let done : m.done + length (pending_at p m.retired m.done) ≡ transaction_count p m.retired = omega (arith, left, kept) in
     λ i. record {
       completed = completed_state (state p m.retired);
       bus = bus i;
@@ -226,7 +224,7 @@ unfolding local_at
 same_count p named m = refl
 
 pub law : (p : Program) (named : ℕ → Bool) (limit : ℕ) (letter : Letter) (m : Moment) →
-    AreBytes (opening p).memory →
+    IsProgram p →
     IsWithin p m →
     move p limit letter (local_at p named m) ≡ local_at p named (after_letter p named limit letter m)
 unfolding move after_letter
