@@ -1,5 +1,5 @@
-//! What instructions do, from outside: a word, what its registers hold, and its effect at 0x1000. `s1`, `s2` and `d` are
-//! what the registers in the places of S1, S2 and D hold.
+//! What instructions do, from outside: a word, what its registers hold, and its effect at 0x1000. `s1`, `s2` and `d`
+//! are what the registers in the places of S1, S2 and D hold.
 
 use super::decode;
 use m88_base::Reg;

@@ -2,8 +2,8 @@
 
 ghost use Rattle.std.specs.Prelude.{◌≡◌, ◌<◌, ◌≤◌, ◌+◌, ◌*◌, ◌^◌};
 ghost use Rattle.m88_base.specs.Reg.{number_of};
-ghost use Rattle.m88_isa.specs.Instr.{IsValid};
 ghost use Rattle.m88_isa.specs.Compute.{weight_if};
+ghost use Rattle.m88_isa.specs.Instr.{IsValid};
 ghost use Rattle.m88_isa.specs.Word.{IsWord, at_cr, at_d, at_s1, first_byte, low16, mem_byte};
 
 use super::codes::{byte_of_imm, byte_of_mem, code_of_bit, code_of_lda, code_of_reg};
@@ -125,7 +125,8 @@ fn control(code: u32, float: bool, cr: u8, d: Reg, s1: Reg) -> u32
     requires code_fits { code ≤ 0xC000 }
     requires cr_fits { cr < 64 }
     ensures { result ≡
-        first_byte 0x80 + code + weight_if float 0x800 + at_d (number_of d) + at_s1 (number_of s1) + at_cr cr + number_of s1 }
+        first_byte 0x80 + code + weight_if float 0x800 + at_d (number_of d) + at_s1 (number_of s1)
+        + at_cr cr + number_of s1 }
 {
     let low = code + weight_if(float, 0x800) + ((cr as u32) << 5) + s1.number();
     fields(0x8000_0000, d.number(), s1.number(), low)

@@ -10,9 +10,9 @@ fn r(n: u32) -> Reg {
 }
 
 fn same(rt: &impl Abort, word: u32, instr: Instr) {
-    assert!(rt; is_valid(&instr), "at {word:08X}");
-    assert!(rt; encode(&instr) == word, "{word:08X} is written");
-    assert!(rt; decode(word) == Ok(instr), "{word:08X} is read");
+    assert!(rt; is_valid(&instr), "{word:08X}: {instr:?}");
+    assert!(rt; encode(&instr) == word, "{word:08X} is written: {instr:?}");
+    assert!(rt; decode(word) == Ok(instr), "{word:08X} is read: {instr:?}");
 }
 
 #[test]

@@ -187,8 +187,8 @@ written_within : (d after : Reg) (value : ℕ)
 written_within d after value = by_test (number_of d == 0)
     (λ zero. rw zero tt)
     (λ other.
-      let own = in_left (bit_of d) (bit_of after) (number_of d) (in_own (number_of d) other) in
-      rw other (rw other at own))
+    let own = in_left (bit_of d) (bit_of after) (number_of d) (in_own (number_of d) other) in
+    rw other (rw other at own))
 
 gives_lawful : (d : Reg) (value : ℕ) (x : Inputs) (carry : Bool)
     → IsLawful 0 (pair_of d no_register) (goes (record (goes_on x) { register = written d value; carry = carry }))

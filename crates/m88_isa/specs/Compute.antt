@@ -88,8 +88,8 @@ immediate immop.Sub carry s t = signed_sum false true carry s (bit_not w32 t)
 immediate immop.Div carry s t = signed_quotient carry s t
 immediate immop.Cmp carry s t = Gives (comparison s t) carry
 
--- the mnemonics on three registers, of the carry and the words of S1 and S2: a subtraction adds the bits of t turned over and
--- 1, or the carry where it has a carry in
+-- the mnemonics on three registers, of the carry and the words of S1 and S2: a subtraction adds the bits of t turned
+-- over and 1, or the carry where it has a carry in
 abbrev pub registers : RegOp → Bool → ℕ → ℕ → Computed
 registers regop.And carry s t = Gives (bit_and s t) carry
 registers regop.AndC carry s t = Gives (bit_and s (bit_not w32 t)) carry

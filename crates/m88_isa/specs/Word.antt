@@ -150,7 +150,8 @@ word_of (instr.BitLit op d s1 width offset) =
 word_of (instr.Branch link delayed words) =
     first_byte 0xC0 + weight_if link (2 ^ 27) + weight_if delayed (2 ^ 26) + low26 words
 word_of (instr.BranchBit set delayed bit s1 words) =
-    first_byte 0xD0 + weight_if set (2 ^ 27) + weight_if delayed (2 ^ 26) + at_d bit + at_s1 (number_of s1) + low16 words
+    first_byte 0xD0 + weight_if set (2 ^ 27) + weight_if delayed (2 ^ 26) + at_d bit + at_s1 (number_of s1)
+    + low16 words
 word_of (instr.BranchCond delayed mask s1 words) =
     first_byte 0xE8 + weight_if delayed (2 ^ 26) + at_d mask + at_s1 (number_of s1) + low16 words
 word_of (instr.TrapBit set bit s1 vector) =
@@ -161,7 +162,8 @@ word_of (instr.Ldcr d cr float) = first_byte 0x80 + 0x4000 + weight_if float 0x8
 word_of (instr.Stcr s1 cr float) =
     first_byte 0x80 + 0x8000 + weight_if float 0x800 + at_s1 (number_of s1) + at_cr cr + number_of s1
 word_of (instr.Xcr d s1 cr float) =
-    first_byte 0x80 + 0xC000 + weight_if float 0x800 + at_d (number_of d) + at_s1 (number_of s1) + at_cr cr + number_of s1
+    first_byte 0x80 + 0xC000 + weight_if float 0x800 + at_d (number_of d) + at_s1 (number_of s1) + at_cr cr
+    + number_of s1
 word_of (instr.Sfu unit rest) = first_byte 0x80 + unit * 2 ^ 26 + rest
 
 -- the instruction is valid and has this word
