@@ -3,7 +3,7 @@ ghost use Rattle.std.specs.Prelude.{◌≡◌, ◌<◌, false, length, IfOk, OnO
 ghost use Rattle.std.specs.List.{All};
 ghost use Rattle.m88_base.specs.declared.fixup.Kind.TheVariants.{Abs32};
 ghost use Rattle.m88_parse.specs.Fault.{Gives, out_of_memory};
-ghost use Rattle.m88_parse.specs.Reader.Grammar.{list_at, word_item_at, half_item_at, byte_item_at};
+ghost use Rattle.m88_parse.specs.Reader.Grammar.{list_at, word_item_at, a_half, a_byte, part_item_at};
 ghost use Rattle.m88_parse.specs.Reader.Slots.{text_at};
 ghost use Rattle.m88_parse.specs.Reader.State.{is_next, past};
 ghost use Rattle.m88_parse.specs.Reader.Tokens.{text_bytes};
@@ -49,7 +49,7 @@ impl<'a> Parser<'a> {
 
     /// An item of `.half`.
     fn half_word(&mut self) -> Result<u16, ParseFault>
-        ensures value { Gives (λ n. (n, self.new)) result (half_item_at self.old) }
+        ensures value { Gives (λ n. (n, self.new)) result (part_item_at a_half self.old) }
         ensures shorter { OnOk result (length self.new.rest < length self.old.rest) }
     {
         Ok((self.whole(0x8000, 0xFFFF)? % 0x10000) as u16)
@@ -57,7 +57,7 @@ impl<'a> Parser<'a> {
 
     /// An item of `.byte`.
     fn byte(&mut self) -> Result<u8, ParseFault>
-        ensures value { Gives (λ n. (n, self.new)) result (byte_item_at self.old) }
+        ensures value { Gives (λ n. (n, self.new)) result (part_item_at a_byte self.old) }
         ensures shorter { OnOk result (length self.new.rest < length self.old.rest) }
     {
         Ok((self.whole(0x80, 0xFF)? % 0x100) as u8)
@@ -80,7 +80,7 @@ impl<'a> Parser<'a> {
 
     /// The items of `.half`.
     pub fn half_words(&mut self, alloc: Global) -> Result<Vec<u16>, ParseFault>
-        ensures { Gives (λ v. (v.items, self.new)) result (list_at half_item_at self.old) }
+        ensures { Gives (λ v. (v.items, self.new)) result (list_at (part_item_at a_half) self.old) }
     {
         let mut out = Vec::new(alloc);
         let mut more = true;
@@ -94,7 +94,7 @@ impl<'a> Parser<'a> {
 
     /// The items of `.byte`.
     pub fn bytes(&mut self, alloc: Global) -> Result<Vec<u8>, ParseFault>
-        ensures { Gives (λ v. (v.items, self.new)) result (list_at byte_item_at self.old) }
+        ensures { Gives (λ v. (v.items, self.new)) result (list_at (part_item_at a_byte) self.old) }
     {
         let mut out = Vec::new(alloc);
         let mut more = true;

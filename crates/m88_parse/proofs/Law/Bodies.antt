@@ -18,7 +18,7 @@ use Rattle.m88_parse.specs.Reader.State.{ReaderState, ◌>>=◌}
 use Rattle.m88_parse.specs.Reader.Slots.{mark_at, unsigned_at, signed_at, symbol_at, text_at, alignment_at}
 use Rattle.m88_parse.specs.Language.Shapes.{shape_of}
 use Rattle.m88_parse.specs.Reader.Directives.{directive_text, all_directives, directive_of}
-use Rattle.m88_parse.specs.Reader.Grammar.{ends, unsigned_then, read, list_at, word_item_at, half_item_at, byte_item_at, form_of, directive_form}
+use Rattle.m88_parse.specs.Reader.Grammar.{ends, unsigned_then, read, list_at, word_item_at, Part, a_half, a_byte, modulus_of, part_item_at, parts_end, form_of, directive_form}
 use Rattle.m88_parse.specs.Reader.Source.{instruction_form, form_in, by_form, operation_on, operation_at}
 use Rattle.m88_parse.specs.Language.Names.{IsComma, IsNumber, IsNamed, IsSymbol}
 use Rattle.m88_parse.specs.Language.Operands.{IsSigned, IsValue}
@@ -29,7 +29,7 @@ use Rattle.m88_parse.proofs.Law.Slots.{st, bind_ok, bind_to, mark_read, mark_aga
 use Rattle.m88_parse.proofs.Law.Values.{IsWhole, whole_read, whole_again, word_signed, signed_word}
 use Rattle.m88_parse.proofs.Law.Forms.{ends_read, ends_again, several_last, one_last, operands_read}
 use Rattle.m88_parse.proofs.Law.Codes.{operands_again}
-use Rattle.m88_parse.proofs.Law.Lists.{list_read, list_again, word_reads, word_reads_all, half_reads, half_reads_all, byte_reads, byte_reads_all}
+use Rattle.m88_parse.proofs.Law.Lists.{list_read, list_again, word_reads, word_reads_all, part_reads, part_reads_all}
 
 -- the names of operations
 
@@ -83,18 +83,11 @@ words_last line e ps c h =
     let l = several_last (List Value) (AreParted (IsValue Abs32)) line e ps b.0 (body.Word b.0.0) c (list_read Value (IsValue Abs32) word_item_at word_reads line e ps b.0 b.1) b.2 in
     (b.0.0, l.0, l.1)
 
-halves_last : (line e : ℕ) (ps : List Piece) (c : Body) → read (directive_form directive.Half) (st line e ps) ≡ Ok c → (ns : List ℕ) × AreParted (IsSigned 65536) ps ns × (body.Half ns ≡ c)
-unfolding read directive_form
-halves_last line e ps c h =
-    let b = bind_ok (list_at half_item_at (st line e ps)) (λ (x : List ℕ × ReaderState). read (ends (body.Half x.0)) x.1) c h in
-    let l = several_last (List ℕ) (AreParted (IsSigned 65536)) line e ps b.0 (body.Half b.0.0) c (list_read ℕ (IsSigned 65536) half_item_at half_reads line e ps b.0 b.1) b.2 in
-    (b.0.0, l.0, l.1)
-
-bytes_last : (line e : ℕ) (ps : List Piece) (c : Body) → read (directive_form directive.Byte) (st line e ps) ≡ Ok c → (ns : List ℕ) × AreParted (IsSigned 256) ps ns × (body.Byte ns ≡ c)
-unfolding read directive_form
-bytes_last line e ps c h =
-    let b = bind_ok (list_at byte_item_at (st line e ps)) (λ (x : List ℕ × ReaderState). read (ends (body.Byte x.0)) x.1) c h in
-    let l = several_last (List ℕ) (AreParted (IsSigned 256)) line e ps b.0 (body.Byte b.0.0) c (list_read ℕ (IsSigned 256) byte_item_at byte_reads line e ps b.0 b.1) b.2 in
+parts_last : (part : Part) (made : List ℕ → Body) (line e : ℕ) (ps : List Piece) (c : Body) → read (parts_end part made) (st line e ps) ≡ Ok c → (ns : List ℕ) × AreParted (IsSigned (modulus_of part)) ps ns × (made ns ≡ c)
+unfolding read
+parts_last part made line e ps c h =
+    let b = bind_ok (list_at (part_item_at part) (st line e ps)) (λ (x : List ℕ × ReaderState). read (ends (made x.0)) x.1) c h in
+    let l = several_last (List ℕ) (AreParted (IsSigned (modulus_of part))) line e ps b.0 (made b.0.0) c (list_read ℕ (IsSigned (modulus_of part)) (part_item_at part) (part_reads part) line e ps b.0 b.1) b.2 in
     (b.0.0, l.0, l.1)
 
 text_last : (line e : ℕ) (ps : List Piece) (c : Body) → read (directive_form directive.Ascii) (st line e ps) ≡ Ok c → (bs : List ℕ) × (q : Piece) × (ps ≡ q ∷ []) × IsText bs q × (body.Ascii bs ≡ c)
@@ -166,8 +159,8 @@ directive_read directive.Text line e p ps c n h = let k = ends_read line e ps bo
 directive_read directive.Data line e p ps c n h = let k = ends_read line e ps body.DataSection c h in moved p ps [] body.DataSection c k.0 k.1 (data_section n)
 directive_read directive.At line e p ps c n h = let k = number_last 4294967295 line e ps (λ v. body.At v) c h in moved p ps (k.1 ∷ []) (body.At k.0) c k.2 k.4 (at n k.3 (let l = k.5 in omega arith))
 directive_read directive.Word line e p ps c n h = let k = words_last line e ps c h in moved p ps ps (body.Word k.0) c refl k.2 (word n k.1)
-directive_read directive.Half line e p ps c n h = let k = halves_last line e ps c h in moved p ps ps (body.Half k.0) c refl k.2 (half n k.1)
-directive_read directive.Byte line e p ps c n h = let k = bytes_last line e ps c h in moved p ps ps (body.Byte k.0) c refl k.2 (byte n k.1)
+directive_read directive.Half line e p ps c n h = let k = parts_last a_half (λ ns. body.Half ns) line e ps c h in moved p ps ps (body.Half k.0) c refl k.2 (half n k.1)
+directive_read directive.Byte line e p ps c n h = let k = parts_last a_byte (λ ns. body.Byte ns) line e ps c h in moved p ps ps (body.Byte k.0) c refl k.2 (byte n k.1)
 directive_read directive.Ascii line e p ps c n h = let k = text_last line e ps c h in moved p ps (k.1 ∷ []) (body.Ascii k.0) c k.2 k.4 (ascii n k.3)
 directive_read directive.Zero line e p ps c n h = let k = number_last 4294967295 line e ps (λ v. body.Zero v) c h in moved p ps (k.1 ∷ []) (body.Zero k.0) c k.2 k.4 (zeros n k.3 (let l = k.5 in omega arith))
 directive_read directive.Align line e p ps c n h = let k = align_last line e ps c h in moved p ps (k.1 ∷ []) (body.Align k.0) c k.2 k.4 (align n k.3.0 k.3.1)
@@ -209,15 +202,11 @@ unfolding read directive_form
 words_again line e ps vs h =
     bind_to (list_at word_item_at (st line e ps)) (λ (x : List Value × ReaderState). read (ends (body.Word x.0)) x.1) (vs, st line e []) (Ok (body.Word vs)) (list_again Value (IsValue Abs32) word_item_at word_reads_all line e ps vs h) (ends_again line e (body.Word vs))
 
-halves_again : (line e : ℕ) (ps : List Piece) (ns : List ℕ) → AreParted (IsSigned 65536) ps ns → read (directive_form directive.Half) (st line e ps) ≡ Ok (body.Half ns)
-unfolding read directive_form
-halves_again line e ps ns h =
-    bind_to (list_at half_item_at (st line e ps)) (λ (x : List ℕ × ReaderState). read (ends (body.Half x.0)) x.1) (ns, st line e []) (Ok (body.Half ns)) (list_again ℕ (IsSigned 65536) half_item_at half_reads_all line e ps ns h) (ends_again line e (body.Half ns))
-
-bytes_again : (line e : ℕ) (ps : List Piece) (ns : List ℕ) → AreParted (IsSigned 256) ps ns → read (directive_form directive.Byte) (st line e ps) ≡ Ok (body.Byte ns)
-unfolding read directive_form
-bytes_again line e ps ns h =
-    bind_to (list_at byte_item_at (st line e ps)) (λ (x : List ℕ × ReaderState). read (ends (body.Byte x.0)) x.1) (ns, st line e []) (Ok (body.Byte ns)) (list_again ℕ (IsSigned 256) byte_item_at byte_reads_all line e ps ns h) (ends_again line e (body.Byte ns))
+parts_again : (part : Part) (made : List ℕ → Body) (line e : ℕ) (ps : List Piece) (ns : List ℕ) → AreParted (IsSigned (modulus_of part)) ps ns → read (parts_end part made) (st line e ps) ≡ Ok (made ns)
+unfolding read
+parts_again part made line e ps ns h =
+    bind_to (list_at (part_item_at part) (st line e ps)) (λ (x : List ℕ × ReaderState). read (ends (made x.0)) x.1) (ns, st line e []) (Ok (made ns))
+    (list_again ℕ (IsSigned (modulus_of part)) (part_item_at part) (part_reads_all part) line e ps ns h) (ends_again line e (made ns))
 
 ascii_again : (line e : ℕ) (bs : List ℕ) (q : Piece) → IsText bs q → read (directive_form directive.Ascii) (st line e (q ∷ [])) ≡ Ok (body.Ascii bs)
 unfolding read directive_form
@@ -265,8 +254,8 @@ body_again line e ps c (text {p = p} n) = by_directive directive.Text line e p [
 body_again line e ps c (data_section {p = p} n) = by_directive directive.Data line e p [] c n (ends_again line e body.DataSection)
 body_again line e ps c (at {p = p} {q = q} {n = v} n h l) = by_directive directive.At line e p (q ∷ []) c n (number_form_again 4294967295 line e v q (λ v. body.At v) h (omega arith))
 body_again line e ps c (word {p = p} {ps = qs} {vs = vs} n h) = by_directive directive.Word line e p qs c n (words_again line e qs vs h)
-body_again line e ps c (half {p = p} {ps = qs} {ns = ns} n h) = by_directive directive.Half line e p qs c n (halves_again line e qs ns h)
-body_again line e ps c (byte {p = p} {ps = qs} {ns = ns} n h) = by_directive directive.Byte line e p qs c n (bytes_again line e qs ns h)
+body_again line e ps c (half {p = p} {ps = qs} {ns = ns} n h) = by_directive directive.Half line e p qs c n (parts_again a_half (λ ks. body.Half ks) line e qs ns h)
+body_again line e ps c (byte {p = p} {ps = qs} {ns = ns} n h) = by_directive directive.Byte line e p qs c n (parts_again a_byte (λ ks. body.Byte ks) line e qs ns h)
 body_again line e ps c (ascii {p = p} {q = q} {bytes = bs} n h) = by_directive directive.Ascii line e p (q ∷ []) c n (ascii_again line e bs q h)
 body_again line e ps c (zeros {p = p} {q = q} {n = v} n h l) = by_directive directive.Zero line e p (q ∷ []) c n (number_form_again 4294967295 line e v q (λ v. body.Zero v) h (omega arith))
 body_again line e ps c (align {p = p} {q = q} {n = v} n h k) = by_directive directive.Align line e p (q ∷ []) c n (align_again line e v q (h, k))

@@ -1,13 +1,13 @@
 -- The law of operands that commas part: the items of .word, .half and .byte.
-use Rattle.std.proofs.Common.{◌≡◌, ℕ, zero, suc, ◌%◌, ◌<◌, List, [], ◌∷◌, ◌++◌, length, Some, Ok, refl, sym, ap, ◌∙◌, arith, if◌then◌else◌, append_assoc, append-nil, inl, inr, length-append}
+use Rattle.std.proofs.Common.{◌≡◌, ℕ, zero, suc, ◌-◌, ◌/◌, ◌%◌, ◌≤◌, ◌<◌, List, [], ◌∷◌, ◌++◌, length, Some, Ok, refl, sym, ap, ◌∙◌, arith, if◌then◌else◌, subst, append_assoc, append-nil, inl, inr, length-append}
 use Rattle.m88_base.specs.declared.fixup.Kind.TheVariants.{Abs32}
 use Rattle.m88_parse.specs.declared.unit.Value.{Value}
 use Rattle.m88_parse.specs.Language.Pieces.{TokenValue, a_number, Piece}
 use Rattle.m88_parse.specs.Reader.State.{ReaderState, past, is_mark_of, is_next, ◌>>=◌}
 use Rattle.m88_parse.specs.Reader.Slots.{Read, negated, signed_at}
-use Rattle.m88_parse.specs.Reader.Grammar.{many, list_at, word_item_at, half_item_at, byte_item_at}
+use Rattle.m88_parse.specs.Reader.Grammar.{many, list_at, word_item_at, Part, a_half, a_byte, modulus_of, part_item_at}
 use Rattle.m88_parse.specs.Language.Names.{IsComma}
-use Rattle.m88_parse.specs.Language.Operands.{IsSigned, IsValue}
+use Rattle.m88_parse.specs.Language.Operands.{minus, IsSigned, IsValue}
 use Rattle.m88_parse.specs.Language.Statements.{AreParted, one as one_item, more as more_items}
 use Rattle.m88_parse.proofs.Law.Steps.{chosen, take_then}
 use Rattle.m88_parse.proofs.Law.Slots.{st, ok_same, bind_ok, bind_to, next_is, next_again}
@@ -78,80 +78,42 @@ word_reads_all line e front rest v h u = value_again Abs32 line e front rest v h
 
 -- .half and .byte
 
-half_signed : (ps : List Piece) (v : ℕ) → IsWhole 32768 65535 ps v → IsSigned 65536 ps (v % 65536)
-half_signed [] v h = h
-half_signed (p ∷ []) v h =
-    let l = h.1 in
-    let e : v % 65536 ≡ v = omega arith in
-    (h.0 ∙ ap a_number (sym e), omega (arith, e))
-half_signed (m ∷ p ∷ []) v h =
-    let n = h.1.0 in
-    let l = h.1.2 in
-    let k = h.1.3 in
-    (h.0, (n, h.1.1, l, rw k (omega arith)))
-half_signed (p ∷ q ∷ r ∷ ps) v h = h
+-- what is taken modulo is the number itself, or the modulus less it
+record Wraps (modulus : ℕ) : Type 0 where
+  below : (n : ℕ) → n < modulus → n ≤ modulus - 1
+  small : (n : ℕ) → n ≤ modulus - 1 → (n % modulus ≡ n) × (n < modulus)
+  turned : (n : ℕ) → n ≤ modulus / 2 → negated n % modulus ≡ minus modulus n
 
-signed_half : (ps : List Piece) (v : ℕ) → IsSigned 65536 ps v → (n : ℕ) × IsWhole 32768 65535 ps n × (n % 65536 ≡ v)
-signed_half [] v h = absurd h
-signed_half (p ∷ []) v h = let l = h.1 in (v, (h.0, omega arith), omega arith)
-signed_half (m ∷ p ∷ []) v h =
-    let n = h.1.0 in
-    let l = h.1.2 in
-    let k = h.1.3 in
-    (negated n, (h.0, (n, h.1.1, l, refl)), omega arith)
-signed_half (p ∷ q ∷ r ∷ ps) v h = absurd h
+wraps : (part : Part) → Wraps (modulus_of part)
+wraps a_half = record { below = λ n h. omega (arith, h); small = λ n h. (omega (arith, h), omega (arith, h)); turned = λ n h. omega (arith, h) }
+wraps a_byte = record { below = λ n h. omega (arith, h); small = λ n h. (omega (arith, h), omega (arith, h)); turned = λ n h. omega (arith, h) }
 
-abbrev to_half : ℕ × ReaderState → Read ℕ
-to_half n = Ok (n.0 % 65536, n.1)
+part_signed : (m : ℕ) → Wraps m → (ps : List Piece) (v : ℕ) → IsWhole (m / 2) (m - 1) ps v → IsSigned m ps (v % m)
+part_signed m w [] v h = h
+part_signed m w (p ∷ []) v h = let s = w.small v h.1 in (h.0 ∙ ap a_number (sym s.0), subst (λ (k : ℕ). k < m) (sym s.0) s.1)
+part_signed m w (o ∷ p ∷ []) v h = let k = h.1 in (h.0, (k.0, k.1, k.2, ap (λ (n : ℕ). n % m) k.3 ∙ w.turned k.0 k.2))
+part_signed m w (p ∷ q ∷ r ∷ ps) v h = h
 
-pub half_reads : ReadsOnly ℕ (IsSigned 65536) half_item_at
-half_reads line e ps x h =
-    let b = bind_ok (signed_at 32768 65535 (st line e ps)) to_half x h in
-    let w = whole_read 32768 65535 line e ps b.0 b.1 in
-    several ℕ (IsSigned 65536) line e ps w.front w.rest (b.0.0 % 65536) x w.tokens (half_signed w.front b.0.0 w.is)
-    (ap (λ (u : ReaderState). let y : ℕ × ReaderState = (b.0.0 % 65536, u) in y) (sym w.after) ∙ ok_same b.2)
+signed_part : (m : ℕ) → Wraps m → (ps : List Piece) (v : ℕ) → IsSigned m ps v → (n : ℕ) × IsWhole (m / 2) (m - 1) ps n × (n % m ≡ v)
+signed_part m w [] v h = absurd h
+signed_part m w (p ∷ []) v h = let l = w.below v h.1 in (v, (h.0, l), (w.small v l).0)
+signed_part m w (o ∷ p ∷ []) v h = let k = h.1 in (negated k.0, (h.0, (k.0, k.1, k.2, refl)), w.turned k.0 k.2 ∙ sym k.3)
+signed_part m w (p ∷ q ∷ r ∷ ps) v h = absurd h
 
-pub half_reads_all : ReadsAll ℕ (IsSigned 65536) half_item_at
-half_reads_all line e front rest v h u =
-    let n = signed_half front v h in
-    bind_to (signed_at 32768 65535 (st line e (front ++ rest))) to_half (n.0, st line e rest) (Ok (v, st line e rest)) (whole_again 32768 65535 line e front rest n.0 n.1)
-    (ap (λ (k : ℕ). let y : Read ℕ = Ok (k, st line e rest) in y) n.2)
+abbrev to_part : ℕ → ℕ × ReaderState → Read ℕ
+to_part m n = Ok (n.0 % m, n.1)
 
-byte_signed : (ps : List Piece) (v : ℕ) → IsWhole 128 255 ps v → IsSigned 256 ps (v % 256)
-byte_signed [] v h = h
-byte_signed (p ∷ []) v h =
-    let l = h.1 in
-    let e : v % 256 ≡ v = omega arith in
-    (h.0 ∙ ap a_number (sym e), omega (arith, e))
-byte_signed (m ∷ p ∷ []) v h =
-    let n = h.1.0 in
-    let l = h.1.2 in
-    let k = h.1.3 in
-    (h.0, (n, h.1.1, l, rw k (omega arith)))
-byte_signed (p ∷ q ∷ r ∷ ps) v h = h
+pub part_reads : (part : Part) → ReadsOnly ℕ (IsSigned (modulus_of part)) (part_item_at part)
+part_reads part line e ps x h =
+    let m = modulus_of part in
+    let b = bind_ok (signed_at (m / 2) (m - 1) (st line e ps)) (to_part m) x h in
+    let w = whole_read (m / 2) (m - 1) line e ps b.0 b.1 in
+    several ℕ (IsSigned m) line e ps w.front w.rest (b.0.0 % m) x w.tokens (part_signed m (wraps part) w.front b.0.0 w.is)
+    (ap (λ (u : ReaderState). let y : ℕ × ReaderState = (b.0.0 % m, u) in y) (sym w.after) ∙ ok_same b.2)
 
-signed_byte : (ps : List Piece) (v : ℕ) → IsSigned 256 ps v → (n : ℕ) × IsWhole 128 255 ps n × (n % 256 ≡ v)
-signed_byte [] v h = absurd h
-signed_byte (p ∷ []) v h = let l = h.1 in (v, (h.0, omega arith), omega arith)
-signed_byte (m ∷ p ∷ []) v h =
-    let n = h.1.0 in
-    let l = h.1.2 in
-    let k = h.1.3 in
-    (negated n, (h.0, (n, h.1.1, l, refl)), omega arith)
-signed_byte (p ∷ q ∷ r ∷ ps) v h = absurd h
-
-abbrev to_byte : ℕ × ReaderState → Read ℕ
-to_byte n = Ok (n.0 % 256, n.1)
-
-pub byte_reads : ReadsOnly ℕ (IsSigned 256) byte_item_at
-byte_reads line e ps x h =
-    let b = bind_ok (signed_at 128 255 (st line e ps)) to_byte x h in
-    let w = whole_read 128 255 line e ps b.0 b.1 in
-    several ℕ (IsSigned 256) line e ps w.front w.rest (b.0.0 % 256) x w.tokens (byte_signed w.front b.0.0 w.is)
-    (ap (λ (u : ReaderState). let y : ℕ × ReaderState = (b.0.0 % 256, u) in y) (sym w.after) ∙ ok_same b.2)
-
-pub byte_reads_all : ReadsAll ℕ (IsSigned 256) byte_item_at
-byte_reads_all line e front rest v h u =
-    let n = signed_byte front v h in
-    bind_to (signed_at 128 255 (st line e (front ++ rest))) to_byte (n.0, st line e rest) (Ok (v, st line e rest)) (whole_again 128 255 line e front rest n.0 n.1)
+pub part_reads_all : (part : Part) → ReadsAll ℕ (IsSigned (modulus_of part)) (part_item_at part)
+part_reads_all part line e front rest v h u =
+    let m = modulus_of part in
+    let n = signed_part m (wraps part) front v h in
+    bind_to (signed_at (m / 2) (m - 1) (st line e (front ++ rest))) (to_part m) (n.0, st line e rest) (Ok (v, st line e rest)) (whole_again (m / 2) (m - 1) line e front rest n.0 n.1)
     (ap (λ (k : ℕ). let y : Read ℕ = Ok (k, st line e rest) in y) n.2)

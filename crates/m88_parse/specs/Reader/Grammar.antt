@@ -1,7 +1,7 @@
 -- Words for the contracts of private functions; no promise of the crate names them. Statements as forms:
 -- what stands behind the name of an operation, and what it means. A form is a list of slots, each with the form of what
 -- follows it ("Instruction Set": the assembler syntax of each instruction; directives of the assembly language).
-use Rattle.std.specs.Prelude.{ℕ, zero, suc, ◌-◌, ◌%◌, ◌^◌, Bool, true, false, List, [], ◌∷◌, length, if◌then◌else◌, None, Result, Ok}
+use Rattle.std.specs.Prelude.{ℕ, zero, suc, ◌-◌, ◌/◌, ◌%◌, ◌^◌, Bool, true, false, List, [], ◌∷◌, length, if◌then◌else◌, None, Result, Ok}
 use Rattle.m88_base.specs.declared.reg.Reg.{Reg}
 use Rattle.m88_base.specs.declared.fixup.Kind.{Kind}
 use Rattle.m88_base.specs.declared.fixup.Kind.TheVariants.{Pc26, Pc16, Abs32}
@@ -52,13 +52,19 @@ list_at item s = many item (suc (length s.rest)) s
 abbrev pub word_item_at : ReaderState → Read Value
 word_item_at s = value_at Abs32 s
 
--- an item of .half
-abbrev pub half_item_at : ReaderState → Read ℕ
-half_item_at s = signed_at (2 ^ 15) (2 ^ 16 - 1) s >>= λ n. Ok (n.0 % 2 ^ 16, n.1)
+-- the items that are smaller than a word
+pub data Part : Type 0 where
+  a_half : Part
+  a_byte : Part
 
--- an item of .byte
-abbrev pub byte_item_at : ReaderState → Read ℕ
-byte_item_at s = signed_at (2 ^ 7) (2 ^ 8 - 1) s >>= λ n. Ok (n.0 % 2 ^ 8, n.1)
+-- what such an item is taken modulo
+abbrev pub modulus_of : Part → ℕ
+modulus_of a_half = 2 ^ 16
+modulus_of a_byte = 2 ^ 8
+
+-- an item of .half or .byte
+abbrev pub part_item_at : Part → ReaderState → Read ℕ
+part_item_at part s = signed_at (modulus_of part / 2) (modulus_of part - 1) s >>= λ n. Ok (n.0 % modulus_of part, n.1)
 
 -- a slot and the form behind it, by what the slot gives
 pub data Form : Type 0 where
@@ -81,8 +87,7 @@ pub data Form : Type 0 where
   field_then : ℕ → (Field → Form) → Form
   goal_ends : Kind → ℕ → (Goal → Body) → Form
   words_end : (List Value → Body) → Form
-  halves_end : (List ℕ → Body) → Form
-  bytes_end : (List ℕ → Body) → Form
+  parts_end : Part → (List ℕ → Body) → Form
   text_then : (List ℕ → Form) → Form
 
 -- the end of the line, and what was read before it
@@ -110,8 +115,7 @@ read (user_index_then form) s = user_index_at s >>= λ x. read (form x.0.0 x.0.1
 read (field_then most form) s = field_at most s >>= λ x. read (form x.0) x.1
 read (goal_ends kind limit made) s = goal_at kind limit s >>= λ x. end_with (made x.0) x.1
 read (words_end made) s = list_at word_item_at s >>= λ x. end_with (made x.0) x.1
-read (halves_end made) s = list_at half_item_at s >>= λ x. end_with (made x.0) x.1
-read (bytes_end made) s = list_at byte_item_at s >>= λ x. end_with (made x.0) x.1
+read (parts_end part made) s = list_at (part_item_at part) s >>= λ x. end_with (made x.0) x.1
 read (text_then form) s = text_at s >>= λ x. read (form x.0) x.1
 
 -- an instruction with no fixup
@@ -249,8 +253,8 @@ directive_form directive.Text = ends body.Text
 directive_form directive.Data = ends body.DataSection
 directive_form directive.At = unsigned_then (2 ^ 32 - 1) (λ n. ends (body.At n))
 directive_form directive.Word = words_end (λ vs. body.Word vs)
-directive_form directive.Half = halves_end (λ ns. body.Half ns)
-directive_form directive.Byte = bytes_end (λ ns. body.Byte ns)
+directive_form directive.Half = parts_end a_half (λ ns. body.Half ns)
+directive_form directive.Byte = parts_end a_byte (λ ns. body.Byte ns)
 directive_form directive.Ascii = text_then (λ bs. ends (body.Ascii bs))
 directive_form directive.Zero = unsigned_then (2 ^ 32 - 1) (λ n. ends (body.Zero n))
 directive_form directive.Align = alignment_then (λ n. ends (body.Align n))

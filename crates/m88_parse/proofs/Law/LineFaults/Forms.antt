@@ -6,7 +6,7 @@ use Rattle.m88_parse.specs.declared.operand.Bound.{Bound}
 use Rattle.m88_parse.specs.Reader.State.{ReaderState, ◌>>=◌}
 use Rattle.m88_parse.specs.Reader.Slots.{Read, unsigned_at, register_at, control_at, bit_at, mask_at, symbol_at, text_at, alignment_at}
 use Rattle.m88_parse.specs.Reader.Operands.{bound_at}
-use Rattle.m88_parse.specs.Reader.Grammar.{Form, ends, comma_then, register_then, control_then, bit_then, mask_then, unsigned_then, signed_then, alignment_then, symbol_then, immediate_then, operand_then, bound_then, scaled_then, index_then, user_index_then, field_then, goal_ends, words_end, halves_end, bytes_end, text_then, read}
+use Rattle.m88_parse.specs.Reader.Grammar.{Form, ends, comma_then, register_then, control_then, bit_then, mask_then, unsigned_then, signed_then, alignment_then, symbol_then, immediate_then, operand_then, bound_then, scaled_then, index_then, user_index_then, field_then, goal_ends, words_end, parts_end, text_then, read}
 use Rattle.m88_parse.proofs.Law.Slots.{st}
 use Rattle.m88_parse.proofs.Law.LineFaults.Readers.{fault_in, Reader, Good, Naming, no_name, own_names, symbols}
 use Rattle.m88_parse.proofs.Law.LineFaults.Nodes.{good}
@@ -15,7 +15,7 @@ use Rattle.m88_parse.proofs.Law.LineFaults.Values.{ends_node, whole_node}
 use Rattle.m88_parse.proofs.Law.LineFaults.Operands.{immediate_node}
 use Rattle.m88_parse.proofs.Law.LineFaults.Indices.{operand_node, scaled_node, index_node, user_index_node, field_node}
 use Rattle.m88_parse.proofs.Law.LineFaults.Goals.{goal_node}
-use Rattle.m88_parse.proofs.Law.LineFaults.Lists.{words_good, halves_good, bytes_good}
+use Rattle.m88_parse.proofs.Law.LineFaults.Lists.{words_good, parts_good}
 
 abbrev reader : ℕ → ℕ → Form → Reader
 reader line e form ps = fault_in (read form (st line e ps))
@@ -54,6 +54,5 @@ form_good few line e (field_then most form) = good few true own_names line e (re
 form_good few line e (goal_ends kind limit made) =
     good few false symbols line e (reader line e (goal_ends kind limit made)) (goal_node few Body kind line e limit (λ g s. read (ends (made g)) s) (λ g. ends_node few line e (made g)))
 form_good few line e (words_end made) = words_good few line e made
-form_good few line e (halves_end made) = halves_good few line e made
-form_good few line e (bytes_end made) = bytes_good few line e made
+form_good few line e (parts_end part made) = parts_good few line e part made
 form_good few line e (text_then form) = slot_good few (List ℕ) false no_name line e text_at (one_text line e) form (λ x. form_good few line e (form x))

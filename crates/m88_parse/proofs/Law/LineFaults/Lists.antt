@@ -1,5 +1,5 @@
 -- Operands that commas part: the items of .word, .half and .byte.
-use Rattle.std.proofs.Common.{◌≡◌, ℕ, zero, suc, ◌%◌, ◌<◌, Bool, true, false, if◌then◌else◌, inl, inr, List, [], ◌∷◌, length, Option, Some, Result, Ok, Err, refl, sym, ap, ◌∙◌, arith, length-append}
+use Rattle.std.proofs.Common.{◌≡◌, ℕ, zero, suc, ◌-◌, ◌/◌, ◌%◌, ◌<◌, Bool, true, false, if◌then◌else◌, inl, inr, List, [], ◌∷◌, length, Option, Some, Result, Ok, Err, refl, sym, ap, ◌∙◌, arith, length-append}
 use Rattle.m88_base.specs.declared.fixup.Kind.TheVariants.{Abs32}
 use Rattle.m88_parse.specs.declared.fault.ParseFault.{ParseFault}
 use Rattle.m88_parse.specs.declared.unit.Body.{Body}
@@ -8,12 +8,12 @@ use Rattle.m88_parse.specs.declared.unit.Value.{Value}
 use Rattle.m88_parse.specs.Language.Pieces.{a_number, Piece}
 use Rattle.m88_parse.specs.Reader.State.{ReaderState, past, is_mark_of, is_next, ◌>>=◌}
 use Rattle.m88_parse.specs.Reader.Slots.{Read, end_at, signed_at, value_at}
-use Rattle.m88_parse.specs.Reader.Grammar.{many, list_at, word_item_at, half_item_at, byte_item_at, ends, read}
+use Rattle.m88_parse.specs.Reader.Grammar.{many, list_at, word_item_at, Part, a_half, a_byte, modulus_of, part_item_at, ends, read}
 use Rattle.m88_parse.specs.Language.Operands.{IsSigned, IsValue}
 use Rattle.m88_parse.proofs.Law.Steps.{tested, take_then, take_else}
 use Rattle.m88_parse.proofs.Law.Slots.{st}
 use Rattle.m88_parse.proofs.Law.Values.{Several}
-use Rattle.m88_parse.proofs.Law.Lists.{ReadsOnly, word_reads, half_reads, byte_reads}
+use Rattle.m88_parse.proofs.Law.Lists.{ReadsOnly, word_reads, part_reads}
 use Rattle.m88_parse.proofs.Law.LineFaults.Readers.{fault_in, Goes, Good, no_name, symbols}
 use Rattle.m88_parse.proofs.Law.LineFaults.Nodes.{Node, node_as, or_mark, good, good_as, good_node}
 use Rattle.m88_parse.proofs.Law.LineFaults.Slots.{saying, reader_of}
@@ -150,31 +150,22 @@ list_good A Is item reads leads some (suc few) line e =
 word_leads : ItemLeads Value word_item_at
 word_leads few line e k n = good_node few true symbols line e (reader_of line e (value_at Abs32) k) (value_node few ReaderState Abs32 line e k n)
 
-half_leads : ItemLeads ℕ half_item_at
-half_leads few line e k n =
-    good_node few true no_name line e (reader_of line e half_item_at k)
-    (node_as few true no_name line e (reader_of line e half_item_at k) (reader_of line e (signed_at 32768 65535) (λ v. k (v % 65536)))
-    (λ ps. ap (λ (r : Result ReaderState ParseFault). fault_in r) (mapped ℕ ReaderState ℕ (signed_at 32768 65535 (st line e ps)) (λ v. v % 65536) k))
-    (whole_node few ReaderState line e 32768 65535 (λ v. k (v % 65536)) (λ v. good few false no_name line e (λ ps. fault_in (k (v % 65536) (st line e ps))) (n (v % 65536)))))
-
-byte_leads : ItemLeads ℕ byte_item_at
-byte_leads few line e k n =
-    good_node few true no_name line e (reader_of line e byte_item_at k)
-    (node_as few true no_name line e (reader_of line e byte_item_at k) (reader_of line e (signed_at 128 255) (λ v. k (v % 256)))
-    (λ ps. ap (λ (r : Result ReaderState ParseFault). fault_in r) (mapped ℕ ReaderState ℕ (signed_at 128 255 (st line e ps)) (λ v. v % 256) k))
-    (whole_node few ReaderState line e 128 255 (λ v. k (v % 256)) (λ v. good few false no_name line e (λ ps. fault_in (k (v % 256) (st line e ps))) (n (v % 256)))))
+part_leads : (part : Part) → ItemLeads ℕ (part_item_at part)
+part_leads part few line e k n =
+    let m = modulus_of part in
+    good_node few true no_name line e (reader_of line e (part_item_at part) k)
+    (node_as few true no_name line e (reader_of line e (part_item_at part) k) (reader_of line e (signed_at (m / 2) (m - 1)) (λ v. k (v % m)))
+    (λ ps. ap (λ (r : Result ReaderState ParseFault). fault_in r) (mapped ℕ ReaderState ℕ (signed_at (m / 2) (m - 1) (st line e ps)) (λ v. v % m) k))
+    (whole_node few ReaderState line e (m / 2) (m - 1) (λ v. k (v % m)) (λ v. good few false no_name line e (λ ps. fault_in (k (v % m) (st line e ps))) (n (v % m)))))
 
 some_words : (line e : ℕ) → Goes (λ ps. list_ended Value word_item_at (st line e ps))
 unfolding many value_at signed_at
 some_words line e = (saying (a_number 0) ∷ [], refl)
 
-some_halves : (line e : ℕ) → Goes (λ ps. list_ended ℕ half_item_at (st line e ps))
+some_parts : (part : Part) (line e : ℕ) → Goes (λ ps. list_ended ℕ (part_item_at part) (st line e ps))
 unfolding many signed_at
-some_halves line e = (saying (a_number 0) ∷ [], refl)
-
-some_bytes : (line e : ℕ) → Goes (λ ps. list_ended ℕ byte_item_at (st line e ps))
-unfolding many signed_at
-some_bytes line e = (saying (a_number 0) ∷ [], refl)
+some_parts a_half line e = (saying (a_number 0) ∷ [], refl)
+some_parts a_byte line e = (saying (a_number 0) ∷ [], refl)
 
 -- a list and the end of the statement
 
@@ -191,12 +182,7 @@ words_good few line e made =
     good_as few line e (λ ps. fault_in (list_at word_item_at (st line e ps) >>= λ (x : List Value × ReaderState). read (ends (made x.0)) x.1)) (λ ps. list_ended Value word_item_at (st line e ps)) (λ ps. list_body Value word_item_at made (st line e ps))
     (list_good Value (IsValue Abs32) word_item_at word_reads word_leads some_words few line e)
 
-pub halves_good : (few : ℕ) (line e : ℕ) (made : List ℕ → Body) → Good few line e (λ ps. fault_in (list_at half_item_at (st line e ps) >>= λ (x : List ℕ × ReaderState). read (ends (made x.0)) x.1))
-halves_good few line e made =
-    good_as few line e (λ ps. fault_in (list_at half_item_at (st line e ps) >>= λ (x : List ℕ × ReaderState). read (ends (made x.0)) x.1)) (λ ps. list_ended ℕ half_item_at (st line e ps)) (λ ps. list_body ℕ half_item_at made (st line e ps))
-    (list_good ℕ (IsSigned 65536) half_item_at half_reads half_leads some_halves few line e)
-
-pub bytes_good : (few : ℕ) (line e : ℕ) (made : List ℕ → Body) → Good few line e (λ ps. fault_in (list_at byte_item_at (st line e ps) >>= λ (x : List ℕ × ReaderState). read (ends (made x.0)) x.1))
-bytes_good few line e made =
-    good_as few line e (λ ps. fault_in (list_at byte_item_at (st line e ps) >>= λ (x : List ℕ × ReaderState). read (ends (made x.0)) x.1)) (λ ps. list_ended ℕ byte_item_at (st line e ps)) (λ ps. list_body ℕ byte_item_at made (st line e ps))
-    (list_good ℕ (IsSigned 256) byte_item_at byte_reads byte_leads some_bytes few line e)
+pub parts_good : (few : ℕ) (line e : ℕ) (part : Part) (made : List ℕ → Body) → Good few line e (λ ps. fault_in (list_at (part_item_at part) (st line e ps) >>= λ (x : List ℕ × ReaderState). read (ends (made x.0)) x.1))
+parts_good few line e part made =
+    good_as few line e (λ ps. fault_in (list_at (part_item_at part) (st line e ps) >>= λ (x : List ℕ × ReaderState). read (ends (made x.0)) x.1)) (λ ps. list_ended ℕ (part_item_at part) (st line e ps))
+    (λ ps. list_body ℕ (part_item_at part) made (st line e ps)) (list_good ℕ (IsSigned (modulus_of part)) (part_item_at part) (part_reads part) (part_leads part) (some_parts part) few line e)

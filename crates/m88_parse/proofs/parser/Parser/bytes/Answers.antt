@@ -1,12 +1,12 @@
 use Rattle.std.proofs.lemmas.Result.{err_from_is_err_and}
-use Rattle.m88_parse.specs.Reader.Grammar.{list_at, byte_item_at}
+use Rattle.m88_parse.specs.Reader.Grammar.{list_at, a_byte, part_item_at}
 use Rattle.m88_parse.proofs.Collecting.{collects_more, collects_fault}
 use Rattle.m88_parse.proofs.parser.Parser.bytes.Goals as goal
 
 pub returns-in_err-value : goal.returns-in_err-value
 returns-in_err-value c =
     let p = err_from_is_err_and c.from_residual.result c.from_residual.ensures.1 in
-    rw (p.1, p.2) (collects_fault byte_item_at c.loop-more.out.items c.loop-more.self c.in_err-value.field-0.0 (list_at byte_item_at c.args.self.now) (rw c.loop-more-test.true at c.loop-more.invariant) c.in_err-value.ensures.value)
+    rw (p.1, p.2) (collects_fault (part_item_at a_byte) c.loop-more.out.items c.loop-more.self c.in_err-value.field-0.0 (list_at (part_item_at a_byte) c.args.self.now) (rw c.loop-more-test.true at c.loop-more.invariant) c.in_err-value.ensures.value)
 
 pub loop-more-preserved : goal.loop-more-preserved
-loop-more-preserved c = rw (c.in_ok-push.ensures.items, c.comma-more.ensures.value, c.comma-more.ensures.after) (collects_more byte_item_at c.loop-more.out.items c.in_ok-value.value c.loop-more.self c.byte.new.self (list_at byte_item_at c.args.self.now) (rw c.loop-more-test.true at c.loop-more.invariant) c.in_ok-value.ensures.value c.in_ok-value.ensures.shorter)
+loop-more-preserved c = rw (c.in_ok-push.ensures.items, c.comma-more.ensures.value, c.comma-more.ensures.after) (collects_more (part_item_at a_byte) c.loop-more.out.items c.in_ok-value.value c.loop-more.self c.byte.new.self (list_at (part_item_at a_byte) c.args.self.now) (rw c.loop-more-test.true at c.loop-more.invariant) c.in_ok-value.ensures.value c.in_ok-value.ensures.shorter)

@@ -1,10 +1,10 @@
 use Rattle.std.proofs.Common.{◌+◌, cond, length}
-use Rattle.m88_parse.specs.Reader.Grammar.{list_at, byte_item_at}
+use Rattle.m88_parse.specs.Reader.Grammar.{list_at, a_byte, part_item_at}
 use Rattle.m88_parse.proofs.Collecting.{Collects}
 use Rattle.m88_parse.proofs.parser.Parser.bytes.Given as goal
 
 abbrev pub invariant-loop-more : goal.invariant-loop-more
-invariant-loop-more l = Collects byte_item_at l.more l.out.items l.self (list_at byte_item_at l.fn.self)
+invariant-loop-more l = Collects (part_item_at a_byte) l.more l.out.items l.self (list_at (part_item_at a_byte) l.fn.self)
 
 abbrev pub decreases-loop-more : goal.decreases-loop-more
 decreases-loop-more l = length l.self.rest + cond l.more 1 0
