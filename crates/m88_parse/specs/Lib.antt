@@ -1,4 +1,5 @@
--- What contracts cite: the language, what a call answers, what the assembler may rely on; Reader is for private contracts.
+-- What contracts cite: the language, what a call answers, what the assembler may rely on; Reader is for private
+-- contracts.
 pub mod Language
 pub mod Fault
 pub mod WellFormed

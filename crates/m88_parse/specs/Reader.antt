@@ -1,5 +1,5 @@
--- Words for the contracts of private functions; no promise of the crate names them. A line and a source as they are read,
--- step by step: what the relation of the language says is here computed, and the proofs tie the two.
+-- Words for the contracts of private functions; no promise of the crate names them. A line and a source as they are
+-- read, step by step: what the relation of the language says is here computed, and the proofs tie the two.
 pub mod Tokens
 pub mod Places
 pub mod Names

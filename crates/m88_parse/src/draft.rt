@@ -135,7 +135,8 @@ impl Draft {
     /// A statement more in the open module, or in the module main where none has begun.
     fn push(&mut self, alloc: Global, statement: Statement) -> Result<(), ParseFault>
         requires { IsFormedStatement statement }
-        ensures after { IfOk result (λ _. Follows self.new self.old (Some (row.Statement statement))) }
+        ensures after { IfOk result (λ _. Follows self.new self.old
+            (Some (row.Statement statement))) }
         ensures memory { IfErr result (λ e. e ≡ out_of_memory) }
         ensures count { IfOk result (λ _. count_in self.new ≤ count_in self.old + 1) }
     {
@@ -172,9 +173,11 @@ impl Draft {
 
     /// The modules at the end of the source.
     pub fn finish(self, alloc: Global) -> Result<Vec<Module>, ParseFault>
-        ensures value { MatchResult result (λ v. v.items ≡ modules_after self []) (λ e. e ≡ out_of_memory) }
+        ensures value { MatchResult result (λ v. v.items ≡ modules_after self [])
+            (λ e. e ≡ out_of_memory) }
         ensures some { IfOk result (λ v. 0 < length v.items) }
-        ensures count { IfOk result (λ v. sum_by (λ m. length m.statements) v.items ≡ count_in self) }
+        ensures count { IfOk result
+            (λ v. sum_by (λ m. length m.statements) v.items ≡ count_in self) }
         ensures formed { IfOk result (λ v. All IsFormedModule v.items) }
     {
         let Draft {

@@ -95,7 +95,8 @@ pub fn tokens<'a>(alloc: Global, line: &'a [u8], number: u32) -> Result<Vec<Toke
     ensures refused { (e : FaultValue) → IsTokenFault number line.now e
         → Gives (λ v. map plain_token v.items) result (Err e) }
     // A line has at most one list of tokens.
-    ensures one_cutting { (ps qs : List Piece) → LineTokens line.now ps → LineTokens line.now qs → ps ≡ qs }
+    ensures one_cutting { (ps qs : List Piece) → LineTokens line.now ps → LineTokens line.now qs
+        → ps ≡ qs }
     ensures slices { IfOk result (λ v. All (IsTokenOf line.now) v.items) }
     ensures kind { IfErr result (λ e. (e ≡ out_of_memory) ⊎ IsCutKind e.kind) }
 {

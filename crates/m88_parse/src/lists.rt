@@ -19,7 +19,8 @@ use std::alloc::Global;
 
 /// The bytes that stand for the inside of a text.
 fn text_bytes(alloc: Global, inside: &[u8]) -> Result<Vec<u8>, ParseFault>
-    ensures { MatchResult result (λ v. v.items ≡ text_bytes false inside.now) (λ e. e ≡ out_of_memory) }
+    ensures { MatchResult result (λ v. v.items ≡ text_bytes false inside.now)
+        (λ e. e ≡ out_of_memory) }
 {
     let mut out = Vec::new(alloc);
     let mut escaped = false;

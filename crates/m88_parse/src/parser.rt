@@ -26,7 +26,8 @@ impl<'a> Model for Parser<'a> {
 
 impl<'a> Parser<'a> {
     pub fn new(lexemes: &'a [Lexeme<'a>], line: u32, end_col: u32) -> Parser<'a>
-        ensures { result ≡ record { line = line; end_col = end_col; rest = map piece_of lexemes.now } }
+        ensures { result
+            ≡ record { line = line; end_col = end_col; rest = map piece_of lexemes.now } }
     {
         Parser {
             rest: lexemes,

@@ -211,7 +211,8 @@ fn word_len(bytes: &[u8]) -> usize
 /// The character or text behind an opening quote.
 #[tactic(auto, unfolding(crate::specs::Reader::Tokens::quoted))]
 fn quoted(quote: u8, bytes: &[u8]) -> Result<Cut<'_>, Flaw>
-    ensures value { MatchResult result (λ c. quoted quote bytes.now ≡ Ok (cut_of c)) (λ f. quoted quote bytes.now ≡ Err f) }
+    ensures value { MatchResult result (λ c. quoted quote bytes.now ≡ Ok (cut_of c))
+        (λ f. quoted quote bytes.now ≡ Err f) }
     ensures bound { IfOk result (λ c. (0 < c.len) × (c.len ≤ length bytes.now + 1)) }
     ensures place { IfErr result (λ f. f.at ≤ length bytes.now) }
 {
@@ -244,7 +245,8 @@ fn quoted(quote: u8, bytes: &[u8]) -> Result<Cut<'_>, Flaw>
 
 /// The name or number at the front, where the first byte is one of a word.
 fn word(first: u8, run: &[u8]) -> Result<Cut<'_>, Flaw>
-    ensures value { MatchResult result (λ c. word_front first run.now ≡ Ok (cut_of c)) (λ f. word_front first run.now ≡ Err f) }
+    ensures value { MatchResult result (λ c. word_front first run.now ≡ Ok (cut_of c))
+        (λ f. word_front first run.now ≡ Err f) }
     ensures length { IfOk result (λ c. c.len ≡ length run.now) }
     ensures place { IfErr result (λ f. f.at ≡ 0) }
 {
@@ -274,7 +276,8 @@ fn word(first: u8, run: &[u8]) -> Result<Cut<'_>, Flaw>
 #[tactic(auto, unfolding(crate::specs::Reader::Tokens::front))]
 pub(crate) fn front(bytes: &[u8]) -> Result<Cut<'_>, Flaw>
     requires { 0 < length bytes.now }
-    ensures value { MatchResult result (λ c. front bytes.now ≡ Ok (cut_of c)) (λ f. front bytes.now ≡ Err f) }
+    ensures value { MatchResult result (λ c. front bytes.now ≡ Ok (cut_of c))
+        (λ f. front bytes.now ≡ Err f) }
     ensures bound { IfOk result (λ c. (0 < c.len) × (c.len ≤ length bytes.now)) }
     ensures place { IfErr result (λ f. f.at < length bytes.now) }
 {

@@ -7,7 +7,7 @@ ghost use Rattle.m88_parse.specs.Language.Units.{IsUnit};
 ghost use Rattle.m88_parse.specs.declared.fault.ParseFault.{ParseFault as FaultValue};
 ghost use Rattle.m88_parse.specs.Fault.{Gives, out_of_memory, IsSourceKind};
 ghost use Rattle.m88_parse.specs.Reader.Places.{IsNear};
-ghost use Rattle.m88_parse.specs.Reader.Source.{end_of, row_of, unit_of};
+ghost use Rattle.m88_parse.specs.Reader.Source.{end_of_line, row_of, unit_of};
 ghost use Rattle.m88_parse.specs.Reader.Tokens.{piece_of};
 ghost use Rattle.m88_parse.specs.WellFormed.{IsWellFormed};
 ghost use Rattle.m88_parse.specs.Reader.Kept.{IsFormedRow};
@@ -24,10 +24,10 @@ use m88_base::{Listed, first_line};
 use std::alloc::Global;
 
 /// The column just after the last token.
-fn end_of(lexemes: &[Lexeme<'_>]) -> u32
+fn end_of_line(lexemes: &[Lexeme<'_>]) -> u32
     requires some { 0 < length lexemes.now }
     requires near { All IsNear lexemes.now }
-    ensures { result ≡ end_of (map piece_of lexemes.now) }
+    ensures { result ≡ end_of_line (map piece_of lexemes.now) }
 {
     let last = &lexemes[lexemes.len() - 1];
     last.col + last.text.len() as u32
@@ -44,7 +44,7 @@ fn row_of(alloc: Global, line: &[u8], number: u32) -> Result<Option<Row>, ParseF
     if lexemes.is_empty() {
         return Ok(None);
     }
-    let end_col = end_of(&lexemes);
+    let end_col = end_of_line(&lexemes);
     let row = Parser::new(&lexemes, number, end_col).row(alloc)?;
     Ok(Some(row))
 }

@@ -10,7 +10,7 @@ use Rattle.m88_parse.specs.Reader.Names.{is_module}
 use Rattle.m88_parse.specs.Language.Pieces.{TokenValue, a_name, a_number, a_text, a_mark, Piece}
 use Rattle.m88_parse.specs.Reader.State.{ReaderState, says_first, first, past, is_mark_of, ◌>>=◌}
 use Rattle.m88_parse.specs.Reader.Slots.{symbol_at, any_name_at, end_at}
-use Rattle.m88_parse.specs.Reader.Source.{operation_on, operation_at, statement, labelled_on, labelled_at, unlabelled_at, head_at, is_label_on, is_head_on, row_at, end_of, row_of_pieces}
+use Rattle.m88_parse.specs.Reader.Source.{operation_on, operation_at, statement, labelled_on, labelled_at, unlabelled_at, head_at, is_label_on, is_head_on, row_at, end_of_line, row_of_pieces}
 use Rattle.m88_parse.specs.Language.Names.{IsNamed, IsSymbol}
 use Rattle.m88_parse.specs.Language.Statements.{IsBody, text, data_section, at, word, half, byte, ascii, zeros, align, global, set, code, IsLabel, BeginsWithNoColon, IsStatement, unlabelled, labelled, label_alone, IsHead, head}
 use Rattle.m88_parse.specs.Language.Units.{Said, says_nothing, says, begins, LineSays, empty_line, statement_line, module_line}
@@ -189,8 +189,8 @@ statement_again line e ps s (label_alone {l = l} {c = c} {name = name} k) = labe
 pub line_read : (number : ℕ) (ps : List Piece) (o : Option Row) → row_of_pieces number ps ≡ Ok o → (said : Said) × LineSays number ps said × (row_for number said ≡ o)
 line_read number [] o h = (says_nothing, empty_line, ok_same h)
 line_read number (p ∷ ps) o h =
-    let b = bind_ok (row_at (st number (end_of (p ∷ ps)) (p ∷ ps))) (λ (r : Row). let y : Result (Option Row) ParseFault = Ok (Some r) in y) o h in
-    let k = row_read number (end_of (p ∷ ps)) p ps b.0 b.1 in
+    let b = bind_ok (row_at (st number (end_of_line (p ∷ ps)) (p ∷ ps))) (λ (r : Row). let y : Result (Option Row) ParseFault = Ok (Some r) in y) o h in
+    let k = row_read number (end_of_line (p ∷ ps)) p ps b.0 b.1 in
     (k.said, k.line_says, k.row_is ∙ ok_same b.2)
 
 abbrev some_row : Row → Result (Option Row) ParseFault
@@ -201,14 +201,14 @@ statement_some number [] s h = absurd (none h)
   where
     none : IsStatement number [] s → ⊥
     none x = elim x [ ]
-statement_some number (p ∷ ps) s h = bind_to (row_at (st number (end_of (p ∷ ps)) (p ∷ ps))) some_row (row.Statement s) (Ok (Some (row.Statement s))) (statement_again number (end_of (p ∷ ps)) (p ∷ ps) s h) refl
+statement_some number (p ∷ ps) s h = bind_to (row_at (st number (end_of_line (p ∷ ps)) (p ∷ ps))) some_row (row.Statement s) (Ok (Some (row.Statement s))) (statement_again number (end_of_line (p ∷ ps)) (p ∷ ps) s h) refl
 
 head_some : (number : ℕ) (ps : List Piece) (name : List ℕ) → IsHead ps name → row_of_pieces number ps ≡ Ok (Some (row.Head name number))
 head_some number [] name h = absurd (none h)
   where
     none : IsHead [] name → ⊥
     none x = elim x [ ]
-head_some number (p ∷ ps) name h = bind_to (row_at (st number (end_of (p ∷ ps)) (p ∷ ps))) some_row (row.Head name number) (Ok (Some (row.Head name number))) (head_again number (end_of (p ∷ ps)) (p ∷ ps) name h) refl
+head_some number (p ∷ ps) name h = bind_to (row_at (st number (end_of_line (p ∷ ps)) (p ∷ ps))) some_row (row.Head name number) (Ok (Some (row.Head name number))) (head_again number (end_of_line (p ∷ ps)) (p ∷ ps) name h) refl
 
 pub line_again : (number : ℕ) (ps : List Piece) (said : Said) → LineSays number ps said → row_of_pieces number ps ≡ Ok (row_for number said)
 line_again number ps said empty_line = refl

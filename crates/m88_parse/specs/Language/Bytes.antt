@@ -84,7 +84,8 @@ is_mark b = list_any (λ m. b == m) (codes ",:[]<>()+-")
 abbrev pub is_escape : ℕ → Bool
 is_escape b = list_any (λ m. b == m) (codes "nt0\\\"'")
 
--- the byte that an escape stands for: line feed for n, which is 110, tab for t, 116, and 0 for the digit 0, 48; else itself
+-- the byte that an escape stands for: line feed for n, which is 110, tab for t, 116, and 0 for the digit 0, 48; else
+-- itself
 abbrev pub escape_value : ℕ → ℕ
 escape_value b = if b == 110 then line_feed else (if b == 116 then tab else (if b == 48 then 0 else b))
 

@@ -15,8 +15,8 @@ use Rattle.m88_parse.specs.declared.unit.Unit.{Unit as Source}
 use Rattle.m88_parse.specs.Language.Units.{Said, LineSays, IsUnit}
 use Rattle.m88_parse.specs.Language.LineFaults.{IsLineFault}
 
--- what an opening quote takes of the bytes behind it: up to a closing quote, or to the end of the line; a backslash takes
--- the next byte with it, whatever it is
+-- what an opening quote takes of the bytes behind it: up to a closing quote, or to the end of the line; a backslash
+-- takes the next byte with it, whatever it is
 pub data Takes (quote : ℕ) : List ℕ → List ℕ → Type 0 where
   line_ends : Takes quote [] []
   quote_closes : {bs : List ℕ} → Takes quote (quote ∷ bs) []
@@ -44,8 +44,8 @@ pub record IsStray (b : ℕ) : Type 0 where
   pub no_mark : is_mark b ≡ false
   pub no_quote : IsQuote b → ⊥
 
--- what stands at the front of bytes where neither a blank, a comment nor a token does: how far behind the front the fault
--- is, and its kind; in quotes a byte that isn't plain counts before all else
+-- what stands at the front of bytes where neither a blank, a comment nor a token does: how far behind the front the
+-- fault is, and its kind; in quotes a byte that isn't plain counts before all else
 pub data IsFlaw : List ℕ → ℕ → ParseKind → Type 0 where
   foreign_byte : {b : ℕ} {bs : List ℕ} → is_plain b ≡ false → IsFlaw (b ∷ bs) 0 NotAscii
   foreign_in_quotes : {q : ℕ} {bs : List ℕ} (before : List ℕ) (b : ℕ) (after : List ℕ) → IsQuote q
@@ -59,8 +59,8 @@ pub data IsFlaw : List ℕ → ℕ → ParseKind → Type 0 where
       → BeginsWithDigit run false → 64 < length run → IsFlaw bytes 0 OutOfRange
   no_number : (run rest : List ℕ) {bytes : List ℕ} → bytes ≡ run ++ rest → AreNameBytes run → BeginsWithNoNameByte rest
       → BeginsWithDigit run true → ((n : ℕ) → IsNumeral run n → ⊥) → IsFlaw bytes 0 Syntax
-  large_number : (run rest : List ℕ) (n : ℕ) {bytes : List ℕ} → bytes ≡ run ++ rest → AreNameBytes run → BeginsWithNoNameByte rest
-      → IsNumeral run n → 2 ^ 32 ≤ n → IsFlaw bytes 0 OutOfRange
+  large_number : (run rest : List ℕ) (n : ℕ) {bytes : List ℕ} → bytes ≡ run ++ rest → AreNameBytes run
+      → BeginsWithNoNameByte rest → IsNumeral run n → 2 ^ 32 ≤ n → IsFlaw bytes 0 OutOfRange
   stray_byte : {b : ℕ} {bs : List ℕ} → IsStray b → IsFlaw (b ∷ bs) 0 Syntax
 
 -- a gap and then a flaw
@@ -76,7 +76,8 @@ pub record BreaksAt (col : ℕ) (bytes : List ℕ) (at : ℕ) (kind : ParseKind)
 -- the bytes from a column on are gaps and these tokens in turn, up to a column where they can't be cut
 abbrev pub Breaks : ℕ → List ℕ → List Piece → ℕ → ParseKind → Type 0
 Breaks col bytes [] at kind = BreaksAt col bytes at kind
-Breaks col bytes (p ∷ ps) at kind = (rest : List ℕ) × Begins col bytes p rest × Breaks (p.col + length p.text) rest ps at kind
+Breaks col bytes (p ∷ ps) at kind =
+    (rest : List ℕ) × Begins col bytes p rest × Breaks (p.col + length p.text) rest ps at kind
 
 -- the first place of a whole line that can't be cut into tokens, and why
 abbrev pub IsTokenFault : ℕ → List ℕ → ParseFault → Type 0

@@ -1,8 +1,8 @@
--- The fault of a line whose tokens are neither a statement nor the head of a module. Whether a line has a label is told
--- first: it has one where its second token is a colon. The operation is what is left, and its fault is at the first token
--- that no operation continues, where the end of the line is a token just after the last one. Two faults are a token
--- earlier: that of a number at its own sign, and that of hi16 or lo16 with no ( behind it (lines, statements and operands
--- of the assembly language).
+-- The fault of a line whose tokens are neither a statement nor the head of a module. Whether a line has a label is
+-- told first: it has one where its second token is a colon. The operation is what is left, and its fault is at the
+-- first token that no operation continues, where the end of the line is a token just after the last one. Two faults
+-- are a token earlier: that of a number at its own sign, and that of hi16 or lo16 with no ( behind it (lines,
+-- statements and operands of the assembly language).
 use Rattle.std.specs.Prelude.{ℕ, ◌≡◌, ◌+◌, List, [], ◌∷◌, ◌++◌, length, Some, codes}
 use Rattle.m88_base.specs.declared.fixup.Kind.{Kind}
 use Rattle.m88_parse.specs.declared.fault.ParseKind.{ParseKind}
@@ -73,16 +73,17 @@ pub record EndsInHalf (front : List Piece) (h : Piece) : Type 0 where
 abbrev pub EndsInNoHalf : List Piece → Type 0
 EndsInNoHalf front = (h : Piece) → EndsInHalf front h → ⊥
 
--- the column and the kind of the fault of a token that may not follow these: a number is out of range at its own sign, if
--- it has one
+-- the column and the kind of the fault of a token that may not follow these: a number is out of range at its own
+-- sign, if it has one
 pub data IsMisplaced (front : List Piece) (p : Piece) : ℕ → ParseKind → Type 0 where
   number_out_of_range : IsNumberInPlace front p → EndsInNoSign front → IsMisplaced front p p.col OutOfRange
-  signed_out_of_range : {m : Piece} → IsNumberInPlace front p → EndsInSign front m → IsMisplaced front p m.col OutOfRange
+  signed_out_of_range : {m : Piece} → IsNumberInPlace front p → EndsInSign front m
+      → IsMisplaced front p m.col OutOfRange
   no_such_name : IsNameInPlace front p → IsMisplaced front p p.col NoSuchName
   other_token : (IsNumberInPlace front p → ⊥) → (IsNameInPlace front p → ⊥) → IsMisplaced front p p.col Syntax
 
--- the fault where these tokens can't go on with what is left of the line: at the last of them, where it is hi16 or lo16,
--- which are ordinary names where no ( follows, and else at the next token, or just after the line's last one
+-- the fault where these tokens can't go on with what is left of the line: at the last of them, where it is hi16 or
+-- lo16, which are ordinary names where no ( follows, and else at the next token, or just after the line's last one
 pub data IsFaultBehind (front : List Piece) : List Piece → ℕ → ParseKind → Type 0 where
   half_alone : {rest : List Piece} {h : Piece} → EndsInHalf front h → IsFaultBehind front rest h.col NoSuchName
   misplaced : {p : Piece} {rest : List Piece} {at : ℕ} {kind : ParseKind} → EndsInNoHalf front

@@ -24,7 +24,8 @@ minus modulus n = (modulus - n) % modulus
 -- a number from minus half the modulus to the modulus less 1, with a sign of its own below 0
 abbrev pub IsSigned : ℕ → List Piece → ℕ → Type 0
 IsSigned modulus (p ∷ []) v = IsNumber v p × (v < modulus)
-IsSigned modulus (m ∷ p ∷ []) v = IsMark minus_mark m × ((n : ℕ) × IsNumber n p × (n ≤ modulus / 2) × (v ≡ minus modulus n))
+IsSigned modulus (m ∷ p ∷ []) v =
+    IsMark minus_mark m × ((n : ℕ) × IsNumber n p × (n ≤ modulus / 2) × (v ≡ minus modulus n))
 IsSigned modulus ps v = ⊥
 
 -- the symbol of a fixup, with its column
@@ -59,8 +60,8 @@ pub data IsImmediate : List Piece → ℕ → Option Fixup → Type 0 where
   short : {p : Piece} {imm : ℕ} → IsNumber imm p → imm < 2 ^ 16 → IsImmediate (p ∷ []) imm None
   half : {h o : Piece} {ps : List Piece} (inside : List Piece) (c : Piece) (name : List ℕ) (kind : Kind) (v : Value)
       {imm : ℕ} {fixup : Option Fixup}
-      → IsNamed name h → half_named name ≡ Some kind → IsMark opening_parenthesis o → ps ≡ inside ++ c ∷ [] → IsValue kind inside v
-      → IsMark closing_parenthesis c → IsHalfOf kind v imm fixup
+      → IsNamed name h → half_named name ≡ Some kind → IsMark opening_parenthesis o → ps ≡ inside ++ c ∷ []
+      → IsValue kind inside v → IsMark closing_parenthesis c → IsHalfOf kind v imm fixup
       → IsImmediate (h ∷ o ∷ ps) imm fixup
 
 -- a register, and what stands behind the comma after it
@@ -94,8 +95,8 @@ IsLiteral most (o ∷ p ∷ c ∷ []) width offset = (width ≡ 0) × IsMark ope
     × (offset < 32) × IsMark closing_angle c
 IsLiteral most ps width offset = ⊥
 
--- words forward or back, written in bytes behind the place of the statement: a multiple of 4 that fits a sign and so many
--- bits of words
+-- words forward or back, written in bytes behind the place of the statement: a multiple of 4 that fits a sign and so
+-- many bits of words
 abbrev pub IsDistance : ℕ → ℤ → Piece → Piece → Type 0
 IsDistance bits words m p = (n : ℕ) × IsNumber (4 * n) p
     × ((IsMark plus_mark m × (n < 2 ^ bits) × (words ≡ pos n))
@@ -167,7 +168,8 @@ pub data AreOperands : Shape → List Piece → Instr → Option Fixup → Type 
       → Behind d ps rest → IsLast s2 rest → AreOperands (shape.Find ones) ps (instr.Find ones d s2) None
   -- T, in a field of 26 bits
   branch : {link delayed : Bool} {ps : List Piece} {words : ℤ} {fixup : Option Fixup}
-      → IsGoal Pc26 25 ps words fixup → AreOperands (shape.Branch link delayed) ps (instr.Branch link delayed words) fixup
+      → IsGoal Pc26 25 ps words fixup
+      → AreOperands (shape.Branch link delayed) ps (instr.Branch link delayed words) fixup
   -- B,rS1,T, in a field of 16 bits
   branch_bit : {set delayed : Bool} {bit : ℕ} {s1 : Reg} {b c : Piece} {ps rest : List Piece} {words : ℤ}
       {fixup : Option Fixup}

@@ -1,4 +1,5 @@
--- A token as a piece of its line: its bytes, its column, counted from 1, and its value (tokens of the assembly language).
+-- A token as a piece of its line: its bytes, its column, counted from 1, and its value (tokens of the assembly
+-- language).
 use Rattle.std.specs.Prelude.{ℕ, ◌≡◌, ◌-◌, List, length, take, drop}
 use Rattle.m88_parse.specs.declared.token.TokenKind.{TokenKind}
 use Rattle.m88_parse.specs.declared.token.TokenKind.TheVariants as kinds

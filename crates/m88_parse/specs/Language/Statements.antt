@@ -66,7 +66,8 @@ pub data IsStatement (line : ℕ) : List Piece → Statement → Type 0 where
       → IsLabel l c name → IsBody (p ∷ ps) said
       → IsStatement line (l ∷ c ∷ p ∷ ps) (record { line = line; label = Some (name, l.col); col = p.col; body = said })
   label_alone : {l c : Piece} {name : List ℕ} → IsLabel l c name
-      → IsStatement line (l ∷ c ∷ []) (record { line = line; label = Some (name, l.col); col = l.col; body = body.Empty })
+      → IsStatement line (l ∷ c ∷ [])
+      (record { line = line; label = Some (name, l.col); col = l.col; body = body.Empty })
 
 -- the line that begins a module; its name is any name
 pub data IsHead : List Piece → List ℕ → Type 0 where

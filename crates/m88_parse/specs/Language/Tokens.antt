@@ -64,8 +64,8 @@ pub record IsQuoted (quote : ℕ) (text bytes : List ℕ) : Type 0 where
   pub text_is : text ≡ quote ∷ inside ++ quote ∷ []
   pub holds : Holds quote inside bytes
 
--- the text of a token and what it stands for: a name is its bytes, of which there are at most 64; a number is below 2^32;
--- exactly one byte or escape in single quotes is a number; a text stands in double quotes
+-- the text of a token and what it stands for: a name is its bytes, of which there are at most 64; a number is below
+-- 2^32; exactly one byte or escape in single quotes is a number; a text stands in double quotes
 abbrev pub IsToken : List ℕ → TokenValue → Type 0
 IsToken text (a_name name) = (text ≡ name) × IsName name
 IsToken text (a_number n) = (IsNumeral text n × (n < 2 ^ 32)) ⊎ IsQuoted single_quote text (n ∷ [])

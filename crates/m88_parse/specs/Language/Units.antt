@@ -21,8 +21,8 @@ pub data LineSays (number : ℕ) : List Piece → Said → Type 0 where
   statement_line : {ps : List Piece} {s : Statement} → IsStatement number ps s → LineSays number ps (says s)
   module_line : {ps : List Piece} {name : List ℕ} → IsHead ps name → LineSays number ps (begins name)
 
--- the statements of the lines before the first .module, and the modules that begin there; the lines' numbers go on from
--- one
+-- the statements of the lines before the first .module, and the modules that begin there; the lines' numbers go on
+-- from one
 pub data AreRows : ℕ → List (List ℕ) → List Statement → List Module → Type 0 where
   no_row : {number : ℕ} → AreRows number [] [] []
   row_of_nothing : {number : ℕ} {line : List ℕ} {lines : List (List ℕ)} {ps : List Piece}

@@ -1,6 +1,6 @@
--- Words for the contracts of private functions; no promise of the crate names them. Statements as forms:
--- what stands behind the name of an operation, and what it means. A form is a list of slots, each with the form of what
--- follows it ("Instruction Set": the assembler syntax of each instruction; directives of the assembly language).
+-- Words for the contracts of private functions; no promise of the crate names them. Statements as forms: what stands
+-- behind the name of an operation, and what it means. A form is a list of slots, each with the form of what follows
+-- it ("Instruction Set": the assembler syntax of each instruction; directives of the assembly language).
 use Rattle.std.specs.Prelude.{ℕ, zero, suc, ◌-◌, ◌/◌, ◌%◌, ◌^◌, Bool, true, false, List, [], ◌∷◌, length, if◌then◌else◌, None, Result, Ok}
 use Rattle.m88_base.specs.declared.reg.Reg.{Reg}
 use Rattle.m88_base.specs.declared.fixup.Kind.{Kind}
@@ -153,7 +153,8 @@ either_form i r = two_registers (λ d s1. comma_then (operand_then (λ x. ends (
 
 -- rD,rS1 and an immediate
 abbrev pub immediate_form : ImmOp → Form
-immediate_form i = two_registers (λ d s1. comma_then (immediate_then (λ x. ends (body.Code (instr.Imm i d s1 x.imm) x.fixup))))
+immediate_form i =
+    two_registers (λ d s1. comma_then (immediate_then (λ x. ends (body.Code (instr.Imm i d s1 x.imm) x.fixup))))
 
 -- rD,rS1,rS2
 abbrev pub registers_form : RegOp → Form
@@ -165,7 +166,8 @@ memory_form op = two_registers (λ d s1. index_then (λ x. ends (memory_body op 
 
 -- rD,rS1 and a register or a scaled register, in the user's address space
 abbrev pub user_memory_form : MemOp → Form
-user_memory_form op = two_registers (λ d s1. user_index_then (λ s2 scaled. code_only (instr.MemReg op d s1 s2 scaled true)))
+user_memory_form op =
+    two_registers (λ d s1. user_index_then (λ s2 scaled. code_only (instr.MemReg op d s1 s2 scaled true)))
 
 -- rD,rS1[rS2]
 abbrev pub address_form : LdaSize → Form
@@ -202,12 +204,14 @@ jump_form link delayed = register_then (λ s2. code_only (instr.Jump link delaye
 -- a bit, rS1 and a vector
 abbrev pub trap_bit_form : Bool → Form
 trap_bit_form on =
-    bit_then (λ b. comma_then (register_then (λ s1. comma_then (unsigned_then 511 (λ v. code_only (instr.TrapBit on b s1 v))))))
+    bit_then (λ b. comma_then (register_then (λ s1. comma_then
+    (unsigned_then 511 (λ v. code_only (instr.TrapBit on b s1 v))))))
 
 -- a condition, rS1 and a vector
 abbrev pub trap_cond_form : Form
 trap_cond_form =
-    mask_then (λ m. comma_then (register_then (λ s1. comma_then (unsigned_then 511 (λ v. code_only (instr.TrapCond m s1 v))))))
+    mask_then (λ m. comma_then (register_then (λ s1. comma_then
+    (unsigned_then 511 (λ v. code_only (instr.TrapCond m s1 v))))))
 
 -- rS1 and a number or a register
 abbrev pub bounds_form : Form

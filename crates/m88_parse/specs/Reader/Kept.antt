@@ -1,5 +1,5 @@
--- Words for the contracts of private functions; no promise of the crate names them. What operands and rows keep, so that the
--- unit that they come to is well formed.
+-- Words for the contracts of private functions; no promise of the crate names them. What operands and rows keep, so
+-- that the unit that they come to is well formed.
 use Rattle.std.specs.Prelude.{◌≡◌, ◌<◌, ◌≤◌, ◌^◌, ℕ, ℤ, pos, negsuc, Option, Some, None}
 use Rattle.m88_base.specs.declared.fixup.Kind.{Kind}
 use Rattle.m88_base.specs.declared.fixup.Fixup.{Fixup}

@@ -1,6 +1,6 @@
--- Words for the contracts of private functions; no promise of the crate names them. Names with a meaning
--- of their own as they are read: registers and control registers, in lower case and with no needless 0 in their numbers,
--- and symbols.
+-- Words for the contracts of private functions; no promise of the crate names them. Names with a meaning of their own
+-- as they are read: registers and control registers, in lower case and with no needless 0 in their numbers, and
+-- symbols.
 use Rattle.std.specs.Prelude.{ℕ, Bool, true, false, List, [], ◌∷◌, ◌==◌, ◌&&◌, ◌||◌, not, nat_le, nat_lt, length, if◌then◌else◌, Option, Some, None, Result, Ok, Err, is_some, codes}
 use Rattle.std.specs.List.{list_all}
 use Rattle.std.specs.Str.{bytes_eq}

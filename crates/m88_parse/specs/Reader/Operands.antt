@@ -145,7 +145,8 @@ distance_at most s = distance_on most s (first s)
 unfoldable pub words_at : ℕ → ReaderState → Read ℤ
 words_at limit s =
     if is_next plus_mark s then (distance_at (limit - 1) (past s) >>= λ n. Ok (pos n.0, n.1))
-    else (if is_next minus_mark s then (distance_at limit (past s) >>= λ n. Ok (neg_ℤ (pos n.0), n.1)) else Ok (pos 0, s))
+    else (if is_next minus_mark s then (distance_at limit (past s) >>= λ n. Ok (neg_ℤ (pos n.0), n.1))
+    else Ok (pos 0, s))
 
 -- whether what a token says is the place of the statement
 abbrev pub is_here_on : Option TokenValue → Bool

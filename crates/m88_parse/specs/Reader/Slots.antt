@@ -1,6 +1,6 @@
--- Words for the contracts of private functions; no promise of the crate names them. Operands of one or
--- a few tokens, by what stands where one is wanted. A slot gives its value and what is left behind it, or the fault of the
--- first token that can't stand there.
+-- Words for the contracts of private functions; no promise of the crate names them. Operands of one or a few tokens,
+-- by what stands where one is wanted. A slot gives its value and what is left behind it, or the fault of the first
+-- token that can't stand there.
 use Rattle.std.specs.Prelude.{ℕ, ◌-◌, ◌^◌, Bool, List, ◌==◌, ◌||◌, nat_le, if◌then◌else◌, Option, Some, None, Result, Ok}
 use Rattle.m88_base.specs.Reg.{reg_of}
 use Rattle.m88_base.specs.declared.reg.Reg.{Reg}
@@ -63,7 +63,8 @@ negative_on low s t _ = trouble Syntax t
 
 -- a number modulo 2 ^ 32, from -low to most: its own sign is one of its tokens
 unfoldable pub signed_at : ℕ → ℕ → ReaderState → Read ℕ
-signed_at low most s = if is_next minus_mark s then negative_on low s (past s) (first (past s)) else unsigned_on most s (first s)
+signed_at low most s =
+    if is_next minus_mark s then negative_on low s (past s) (first (past s)) else unsigned_on most s (first s)
 
 -- the general register of a number
 abbrev pub as_register : ReaderState → Option ℕ → Read Reg
@@ -121,7 +122,8 @@ symbol_at s = symbol_on s (first s)
 unfoldable pub addend_at : ReaderState → Read ℕ
 addend_at s =
     if is_next plus_mark s then unsigned_at (2 ^ 31 - 1) (past s)
-    else (if is_next minus_mark s then (unsigned_at (2 ^ 31 - 1) (past s) >>= λ n. Ok (negated n.0, n.1)) else Ok (0, s))
+    else (if is_next minus_mark s then (unsigned_at (2 ^ 31 - 1) (past s) >>= λ n. Ok (negated n.0, n.1))
+    else Ok (0, s))
 
 -- a symbol with what is added to it
 unfoldable pub fixup_at : Kind → ReaderState → Read Fixup

@@ -94,16 +94,16 @@ row_at s =
     else (if is_head_on (first s) then head_at s else unlabelled_at s)
 
 -- the column just after the last token
-abbrev pub end_of : List Piece → ℕ
-end_of [] = 1
-end_of (p ∷ []) = p.col + length p.text
-end_of (p ∷ q ∷ ps) = end_of (q ∷ ps)
+abbrev pub end_of_line : List Piece → ℕ
+end_of_line [] = 1
+end_of_line (p ∷ []) = p.col + length p.text
+end_of_line (p ∷ q ∷ ps) = end_of_line (q ∷ ps)
 
 -- what the tokens of a line say, if there is one
 abbrev pub row_of_pieces : ℕ → List Piece → Result (Option Row) ParseFault
 row_of_pieces line [] = Ok None
 row_of_pieces line (p ∷ ps) =
-    row_at (record { line = line; end_col = end_of (p ∷ ps); rest = p ∷ ps }) >>= λ r. Ok (Some r)
+    row_at (record { line = line; end_col = end_of_line (p ∷ ps); rest = p ∷ ps }) >>= λ r. Ok (Some r)
 
 -- what a line says, if it has a token: it is cut into tokens whole before its statement is read
 unfoldable pub row_of : ℕ → List ℕ → Result (Option Row) ParseFault

@@ -54,8 +54,8 @@ is_mark_of m _ = false
 abbrev pub is_next : ℕ → ReaderState → Bool
 is_next m s = is_mark_of m (first s)
 
--- the first fault of two readings in turn, or what the second gives
 infixl 10 ◌>>=◌
+-- the first fault of two readings in turn, or what the second gives
 abbrev pub ◌>>=◌ : {A B : Type 0} → Result A ParseFault → (A → Result B ParseFault) → Result B ParseFault
 (Ok x) >>= f = f x
 (Err e) >>= f = Err e

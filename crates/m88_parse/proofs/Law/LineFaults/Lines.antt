@@ -16,7 +16,7 @@ use Rattle.m88_parse.specs.Reader.Slots.{symbol_at, any_name_at, end_at}
 use Rattle.m88_parse.specs.Language.Shapes.{shape_of}
 use Rattle.m88_parse.specs.Reader.Directives.{directive_text, all_directives, directive_of}
 use Rattle.m88_parse.specs.Reader.Grammar.{Form, read, form_of, directive_form}
-use Rattle.m88_parse.specs.Reader.Source.{form_in, form_named, by_form, operation_on, operation_at, statement, labelled_on, labelled_at, head_at, is_label_on, is_head_on, row_at, end_of, row_of_pieces}
+use Rattle.m88_parse.specs.Reader.Source.{form_in, form_named, by_form, operation_on, operation_at, statement, labelled_on, labelled_at, head_at, is_label_on, is_head_on, row_at, end_of_line, row_of_pieces}
 use Rattle.m88_parse.specs.Language.Names.{IsMark, IsNamed, IsSymbol}
 use Rattle.m88_parse.specs.Language.Statements.{IsBody, text as text_body, IsLabel, IsStatement, unlabelled, labelled as labelled_body, label_alone, IsHead, head}
 use Rattle.m88_parse.specs.Language.Units.{Said, LineSays, empty_line, statement_line, module_line}
@@ -170,7 +170,7 @@ operation_told line e p ps f a h = by_says p.says refl
 
 -- lines
 
-pub end_of_is : (p : Piece) (ps : List Piece) → EndsAt (p ∷ ps) (end_of (p ∷ ps))
+pub end_of_is : (p : Piece) (ps : List Piece) → EndsAt (p ∷ ps) (end_of_line (p ∷ ps))
 end_of_is p [] = ([], p, refl, refl)
 end_of_is p (q ∷ ps) = let r = end_of_is q ps in (p ∷ r.0, r.1, ap (λ (qs : List Piece). p ∷ qs) r.2, r.3)
 
@@ -198,26 +198,26 @@ module_fault line e q rs f n h =
     let x : ◌≡◌ {A = Result Body ParseFault} (Err (record { line = line; col = q.col; kind = Syntax })) (Err f) = sym (ap (λ (o : TokenValue). operation_on (st line e (q ∷ rs)) (Some o)) n) ∙ h in
     err_is x
 
-behind_told : (line : ℕ) (p c : Piece) (qs : List Piece) (name : List ℕ) (f : ParseFault) → IsLabel p c name → labelled_on (st line (end_of (p ∷ c ∷ qs)) qs) (name, p.col) (first (st line (end_of (p ∷ c ∷ qs)) qs)) ≡ Err f → LineFaultBy line (p ∷ c ∷ qs) f
+behind_told : (line : ℕ) (p c : Piece) (qs : List Piece) (name : List ℕ) (f : ParseFault) → IsLabel p c name → labelled_on (st line (end_of_line (p ∷ c ∷ qs)) qs) (name, p.col) (first (st line (end_of_line (p ∷ c ∷ qs)) qs)) ≡ Err f → LineFaultBy line (p ∷ c ∷ qs) f
 behind_told line p c [] name f l h = absurd cc
 behind_told line p c (q ∷ rs) name f l h =
-    let o = then_ok (operation_at (st line (end_of (q ∷ rs)) (q ∷ rs))) (λ b. statement (st line (end_of (q ∷ rs)) (q ∷ rs)) (Some (name, p.col)) q.col b) f h in
+    let o = then_ok (operation_at (st line (end_of_line (q ∷ rs)) (q ∷ rs))) (λ b. statement (st line (end_of_line (q ∷ rs)) (q ∷ rs)) (Some (name, p.col)) q.col b) f h in
     elim (tested (is_head_on (Some q.says))) [
       | inl t ↦
           let n = head_named q.says t in
-          line_fault_is line (p ∷ c ∷ q ∷ rs) q.col Syntax f (labelled_head l n) (module_fault line (end_of (q ∷ rs)) q rs f n o)
+          line_fault_is line (p ∷ c ∷ q ∷ rs) q.col Syntax f (labelled_head l n) (module_fault line (end_of_line (q ∷ rs)) q rs f n o)
       | inr t ↦
           let no : IsNamed (codes ".module") q → ⊥ = λ n. true≢false (sym (ap (λ (m : TokenValue). is_head_on (Some m)) n) ∙ t) in
-          let b = operation_told line (end_of (q ∷ rs)) q rs f (end_of_is q rs) (heard_body line (end_of (q ∷ rs)) q rs t ∙ ap (λ (r : Result Body ParseFault). fault_in r) o) in
+          let b = operation_told line (end_of_line (q ∷ rs)) q rs f (end_of_is q rs) (heard_body line (end_of_line (q ∷ rs)) q rs t ∙ ap (λ (r : Result Body ParseFault). fault_in r) o) in
           (behind_label l no b.0, b.1)
     ]
 
-label_told : (line : ℕ) (p c : Piece) (qs : List Piece) (text : List ℕ) (f : ParseFault) → p.says ≡ a_name text → IsMark 58 c → labelled_at (st line (end_of (p ∷ c ∷ qs)) (p ∷ c ∷ qs)) ≡ Err f → LineFaultBy line (p ∷ c ∷ qs) f
+label_told : (line : ℕ) (p c : Piece) (qs : List Piece) (text : List ℕ) (f : ParseFault) → p.says ≡ a_name text → IsMark 58 c → labelled_at (st line (end_of_line (p ∷ c ∷ qs)) (p ∷ c ∷ qs)) ≡ Err f → LineFaultBy line (p ∷ c ∷ qs) f
 unfolding labelled_at
 label_told line p c qs text f h m i = by_symbol (is_symbol text) refl
   where
-    step : symbol_at (st line (end_of (p ∷ c ∷ qs)) (p ∷ c ∷ qs)) ≡ (if is_symbol text then Ok ((text, p.col), st line (end_of (p ∷ c ∷ qs)) (c ∷ qs)) else Err (record { line = line; col = p.col; kind = Syntax }))
-    step = symbol_step line (end_of (p ∷ c ∷ qs)) p (c ∷ qs) text h
+    step : symbol_at (st line (end_of_line (p ∷ c ∷ qs)) (p ∷ c ∷ qs)) ≡ (if is_symbol text then Ok ((text, p.col), st line (end_of_line (p ∷ c ∷ qs)) (c ∷ qs)) else Err (record { line = line; col = p.col; kind = Syntax }))
+    step = symbol_step line (end_of_line (p ∷ c ∷ qs)) p (c ∷ qs) text h
 
     by_symbol : (t : Bool) → is_symbol text ≡ t → LineFaultBy line (p ∷ c ∷ qs) f
     by_symbol true t =
@@ -228,32 +228,32 @@ label_told line p c qs text f h m i = by_symbol (is_symbol text) refl
         sym (ap (λ (r : Result ((List ℕ × ℕ) × ReaderState) ParseFault). r >>= λ (label : (List ℕ × ℕ) × ReaderState). labelled_on (past label.1) label.0 (first (past label.1))) (step ∙ take_else (is_symbol text) _ _ t)) ∙ i in
         line_fault_is line (p ∷ c ∷ qs) p.col Syntax f (no_label m (not_symbol p text h t)) (err_is x)
 
-colon_told : (line : ℕ) (p : Piece) (ps : List Piece) (f : ParseFault) → is_label_on (Some p.says) (says_first ps) ≡ true → labelled_at (st line (end_of (p ∷ ps)) (p ∷ ps)) ≡ Err f → LineFaultBy line (p ∷ ps) f
+colon_told : (line : ℕ) (p : Piece) (ps : List Piece) (f : ParseFault) → is_label_on (Some p.says) (says_first ps) ≡ true → labelled_at (st line (end_of_line (p ∷ ps)) (p ∷ ps)) ≡ Err f → LineFaultBy line (p ∷ ps) f
 colon_told line p ps f t h = by_says p.says refl ps t h
   where
-    by_says : (m : TokenValue) → p.says ≡ m → (qs : List Piece) → is_label_on (Some p.says) (says_first qs) ≡ true → labelled_at (st line (end_of (p ∷ qs)) (p ∷ qs)) ≡ Err f → LineFaultBy line (p ∷ qs) f
+    by_says : (m : TokenValue) → p.says ≡ m → (qs : List Piece) → is_label_on (Some p.says) (says_first qs) ≡ true → labelled_at (st line (end_of_line (p ∷ qs)) (p ∷ qs)) ≡ Err f → LineFaultBy line (p ∷ qs) f
     by_says m i [] k j = let x = label_marks p.says None k in absurd cc
     by_says (a_name text) i (c ∷ qs) k j = label_told line p c qs text f i (mark_says 58 c.says (label_marks p.says (Some c.says) k)) j
     by_says (a_number v) i (c ∷ qs) k j = let x = sym (ap (λ (o : TokenValue). is_label_on (Some o) (Some c.says)) i) ∙ k in absurd cc
     by_says (a_text bytes) i (c ∷ qs) k j = let x = sym (ap (λ (o : TokenValue). is_label_on (Some o) (Some c.says)) i) ∙ k in absurd cc
     by_says (a_mark b) i (c ∷ qs) k j = let x = sym (ap (λ (o : TokenValue). is_label_on (Some o) (Some c.says)) i) ∙ k in absurd cc
 
-plain_told : (line : ℕ) (p : Piece) (ps : List Piece) (f : ParseFault) → is_label_on (Some p.says) (says_first ps) ≡ false → row_or_head (st line (end_of (p ∷ ps)) (p ∷ ps)) ≡ Err f → LineFaultBy line (p ∷ ps) f
+plain_told : (line : ℕ) (p : Piece) (ps : List Piece) (f : ParseFault) → is_label_on (Some p.says) (says_first ps) ≡ false → row_or_head (st line (end_of_line (p ∷ ps)) (p ∷ ps)) ≡ Err f → LineFaultBy line (p ∷ ps) f
 plain_told line p ps f t h = by_says p.says refl
   where
     is_told : Told line (p ∷ ps) f
-    is_told = operation_told line (end_of (p ∷ ps)) p ps f (end_of_is p ps) (ap (λ (r : Result Row ParseFault). fault_in r) h)
+    is_told = operation_told line (end_of_line (p ∷ ps)) p ps f (end_of_is p ps) (ap (λ (r : Result Row ParseFault). fault_in r) h)
 
     no_name_colon : (c : Piece) (qs : List Piece) (m : TokenValue) → p.says ≡ m → NoName m → (name : List ℕ) → IsSymbol name p → ⊥
     no_name_colon c qs m i number_is name s = let x = sym i ∙ s.0 in cc
     no_name_colon c qs m i text_is name s = let x = sym i ∙ s.0 in cc
     no_name_colon c qs m i mark_is name s = let x = sym i ∙ s.0 in cc
 
-    by_colon : (qs : List Piece) (m : TokenValue) → p.says ≡ m → NoName m → heard line (end_of (p ∷ qs)) (p ∷ qs) ≡ Some f → Told line (p ∷ qs) f → LineFaultBy line (p ∷ qs) f
+    by_colon : (qs : List Piece) (m : TokenValue) → p.says ≡ m → NoName m → heard line (end_of_line (p ∷ qs)) (p ∷ qs) ≡ Some f → Told line (p ∷ qs) f → LineFaultBy line (p ∷ qs) f
     by_colon [] m i z k b = (without_label tt b.0, b.1)
     by_colon (c ∷ qs) m i z k b = elim (tested (is_mark_of 58 (Some c.says))) [
       | inl u ↦
-          let x : ◌≡◌ {A = Option ParseFault} (here line p.col Syntax) (Some f) = sym (heard_other line (end_of (p ∷ c ∷ qs)) p (c ∷ qs) m i z) ∙ k in
+          let x : ◌≡◌ {A = Option ParseFault} (here line p.col Syntax) (Some f) = sym (heard_other line (end_of_line (p ∷ c ∷ qs)) p (c ∷ qs) m i z) ∙ k in
           line_fault_is line (p ∷ c ∷ qs) p.col Syntax f (no_label (mark_says 58 c.says u) (no_name_colon c qs m i z)) cc
       | inr u ↦ (without_label (λ x. true≢false (sym (ap (λ (o : TokenValue). is_mark_of 58 (Some o)) x) ∙ u)) b.0, b.1)
     ]
@@ -268,7 +268,7 @@ pub line_fault_told : (number : ℕ) (ps : List Piece) (f : ParseFault) → row_
 unfolding row_at
 line_fault_told number [] f h = absurd cc
 line_fault_told number (p ∷ ps) f h =
-    let r = then_ok (row_at (st number (end_of (p ∷ ps)) (p ∷ ps))) (λ x. let y : Option Row = Some x in y) f h in
+    let r = then_ok (row_at (st number (end_of_line (p ∷ ps)) (p ∷ ps))) (λ x. let y : Option Row = Some x in y) f h in
     elim (chosen (is_label_on (Some p.says) (says_first ps)) _ _ _ r) [
       | inl j ↦ colon_told number p ps f j.0 j.1
       | inr j ↦ plain_told number p ps f j.0 j.1

@@ -1,6 +1,6 @@
 use Rattle.std.proofs.Common.{◌≡◌, ◌+◌, ◌-◌, length, arith}
 use Rattle.m88_parse.proofs.Ending.{by_last}
-use Rattle.m88_parse.proofs.source.end_of.Goals as goal
+use Rattle.m88_parse.proofs.source.end_of_line.Goals as goal
 
 pub returns : goal.returns
 returns c =
