@@ -10,12 +10,12 @@ use Rattle.m88_isa.specs.History.{after_turn, bus_at, change_accesses, completed
 use Rattle.m88_isa.specs.Machine.{IsProgram, Program, Turn, changes, opening, outputs, state, stops, turn_at}
 use Rattle.m88_isa.specs.declared.planned.Access.{Access}
 use Rattle.m88_event.specs.Choice.{Choice, answer_choice, choice_of, faults, finishes, holds, idles, issue_choice, issues, next_choice, page_of, passes, replies, said, serves, touches_page, turn_choice}
-use Rattle.m88_event.specs.Local.{counted_move, local_at, move, move_by, said_by, situation_of}
+use Rattle.m88_event.specs.Local.{with_move_counted, local_at, move, move_by, said_by, situation_of}
 use Rattle.m88_event.specs.Shadow.{retired_pointer}
 use Rattle.m88_event.specs.Letters.{letter_at}
 use Rattle.m88_event.specs.Run.{moment_after}
 use Rattle.m88_event.specs.Situation.{record_of}
-use Rattle.m88_event.specs.Timeline.{IsWithin, Moment, opening_moment, absent_at, after_choice, after_letter, counted, said_at, situation_at, xip_at}
+use Rattle.m88_event.specs.Timeline.{DoneWereMade, Moment, opening_moment, absent_at, after_choice, after_letter, with_event, said_at, situation_at, xip_at}
 use Rattle.m88_event.specs.declared.letter.Letter.{Letter}
 use Rattle.m88_event.specs.declared.letter.Letter.TheVariants.{Issue, Answer}
 use Rattle.m88_event.specs.declared.record.Record.{Record}
@@ -219,18 +219,18 @@ by_choice p named m faults fault bytes kept fit =
       records = m.records ++ (fault ∷ []);
     }
 
-same_count : (p : Program) (named : ℕ → Bool) (m : Moment) → counted_move (local_at p named m) ≡ local_at p named (counted m)
+same_count : (p : Program) (named : ℕ → Bool) (m : Moment) → with_move_counted (local_at p named m) ≡ local_at p named (with_event m)
 unfolding local_at
 same_count p named m = refl
 
 pub law : (p : Program) (named : ℕ → Bool) (limit : ℕ) (letter : Letter) (m : Moment) →
     IsProgram p →
-    IsWithin p m →
+    DoneWereMade p m →
     move p limit letter (local_at p named m) ≡ local_at p named (after_letter p named limit letter m)
 unfolding move after_letter
 law p named limit letter m bytes kept =
-    ap (λ s. counted_move (move_by (choice_of p letter s) (record_of p s) (local_at p named m))) (same_situation p named limit m)
-    ∙ ap counted_move (by_choice p named m (choice_of p letter (situation_at p named limit m)) (record_of p (situation_at p named limit m))
+    ap (λ s. with_move_counted (move_by (choice_of p letter s) (record_of p s) (local_at p named m))) (same_situation p named limit m)
+    ∙ ap with_move_counted (by_choice p named m (choice_of p letter (situation_at p named limit m)) (record_of p (situation_at p named limit m))
     bytes kept (fits p named limit letter m))
     ∙ same_count p named (after_choice p (choice_of p letter (situation_at p named limit m)) (record_of p (situation_at p named limit m)) m)
 
@@ -242,9 +242,9 @@ same_said p named limit letter m = ap (λ s. said (choice_of p letter s) (record
 
 -- no more transactions are done than were made, at first and after each letter
 kept_by_choice : (p : Program) (m : Moment) (choice : Choice) (fault : Record) →
-    IsWithin p m →
+    DoneWereMade p m →
     Fits p m choice →
-    IsWithin p (after_choice p choice fault m)
+    DoneWereMade p (after_choice p choice fault m)
 kept_by_choice p m idles fault kept fit = kept
 kept_by_choice p m passes fault kept fit = kept
 kept_by_choice p m (holds why) fault kept fit = kept
@@ -261,18 +261,18 @@ kept_by_choice p m replies fault kept fit = omega (arith, fit)
 kept_by_choice p m faults fault kept fit = omega arith
 
 pub stays_within : (p : Program) (named : ℕ → Bool) (limit : ℕ) (letter : Letter) (m : Moment) →
-    IsWithin p m →
-    IsWithin p (after_letter p named limit letter m)
+    DoneWereMade p m →
+    DoneWereMade p (after_letter p named limit letter m)
 unfolding after_letter
 stays_within p named limit letter m kept =
     kept_by_choice p m (choice_of p letter (situation_at p named limit m)) (record_of p (situation_at p named limit m)) kept
     (fits p named limit letter m)
 
-pub begins_within : (p : Program) → IsWithin p opening_moment
+pub begins_within : (p : Program) → DoneWereMade p opening_moment
 begins_within p = omega arith
 
 pub reached_within : (p : Program) (named : ℕ → Bool) (limit : ℕ) (schedule : List Letter) (k : ℕ) →
-    IsWithin p (moment_after p named limit schedule k)
+    DoneWereMade p (moment_after p named limit schedule k)
 unfolding moment_after
 reached_within p named limit schedule zero = begins_within p
 reached_within p named limit schedule (suc k) =

@@ -1,9 +1,9 @@
 -- The letters of a text and the text of letters are each other's inverses.
-use Rattle.std.specs.Prelude.{ℕ, suc, Bool, true, false, List, [], ◌∷◌, ◌≡◌, ◌≤◌, ◌==◌, ◌||◌, ◌⊎◌, map, length, if◌then◌else◌}
+use Rattle.std.specs.Prelude.{ℕ, suc, Bool, true, false, List, [], ◌∷◌, ◌≡◌, ◌==◌, ◌||◌, ◌⊎◌, map, length, if◌then◌else◌}
 use Rattle.std.proofs.Common.{refl, sym, ap, ap₂, subst, arith, inl, inr, ◌∙◌}
 use Rattle.std.proofs.lemmas.Bool.Decides.{nat_tests}
 use Rattle.std.proofs.lemmas.List.Elements.{All-cons, All-head, All-nil, All-tail}
-use Rattle.m88_event.specs.Letters.{AreLetters, IsSchedule, is_letter, letter_byte, letter_of, most_letters}
+use Rattle.m88_event.specs.Letters.{AreLetters, HasLetters, IsSchedule, is_letter, letter_byte, letter_of}
 use Rattle.m88_event.specs.declared.letter.Letter.{Letter}
 use Rattle.m88_event.specs.declared.letter.Letter.TheVariants.{Issue, Answer}
 
@@ -41,19 +41,13 @@ length_made (x ∷ bytes) = ap suc (length_made bytes)
 dash_is_none : AreLetters (0x2D ∷ []) → ⊥
 dash_is_none h = let no : false ≡ true = All-head (λ b. is_letter b ≡ true) 0x2D [] h in cc
 
--- bytes that a schedule with letters has
-pub record HasLetters (text : List ℕ) : Type 0 where
-  pub some : 1 ≤ length text
-  pub most : length text ≤ most_letters
-  pub each : AreLetters text
-
 -- what a text of letters spells
 pub spelled : (text : List ℕ) → HasLetters text → IsSchedule text (map letter_of text)
 spelled text h =
     let made = length_made text in
-    let some = h.some in
-    let most = h.most in
-    inr (there text h.each, omega (arith, made), omega (arith, made))
+    let some = h.0 in
+    let most = h.1 in
+    inr (there text h.2, omega (arith, made), omega (arith, made))
 
 -- a dash spells no letter, and letters spell no dash
 pub only_none : (text : List ℕ) (letters : List Letter) → text ≡ 0x2D ∷ [] → IsSchedule text letters → letters ≡ []
@@ -64,7 +58,7 @@ only_none text letters e (inr spells) =
 -- a text of letters spells those
 pub only_letters : (text : List ℕ) (letters : List Letter) → HasLetters text → IsSchedule text letters →
     map letter_of text ≡ letters
-only_letters text letters h (inl dash) = absurd (dash_is_none (subst AreLetters dash.0 h.each))
+only_letters text letters h (inl dash) = absurd (dash_is_none (subst AreLetters dash.0 h.2))
 only_letters text letters h (inr spells) = ap (map letter_of) spells.0 ∙ back letters
 
 -- what spells a schedule is a dash or has letters
@@ -74,8 +68,4 @@ spells_one text letters (inr spells) =
     let kept = length_kept letters in
     let some = spells.1 in
     let most = spells.2 in
-    inr (subst HasLetters (sym spells.0) (record {
-      some = omega (arith, kept);
-      most = omega (arith, kept);
-      each = all_letters letters;
-    }))
+    inr (subst HasLetters (sym spells.0) (omega (arith, kept), omega (arith, kept), all_letters letters))

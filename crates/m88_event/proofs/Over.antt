@@ -16,7 +16,7 @@ use Rattle.m88_event.proofs.Follows.{law, reached_within}
 use Rattle.m88_event.specs.Letters.{letter_at}
 use Rattle.m88_event.specs.Local.{Local, is_over_by, local_at, move}
 use Rattle.m88_event.specs.Run.{IsOutcome, IsRun, moment_after, outcome_at}
-use Rattle.m88_event.specs.Timeline.{IsWithin, Moment, is_idle, is_over}
+use Rattle.m88_event.specs.Timeline.{DoneWereMade, Moment, is_idle, is_over}
 use Rattle.m88_event.specs.declared.letter.Letter.{Letter}
 use Rattle.m88_event.specs.declared.outcome.Outcome.{Outcome}
 
@@ -28,7 +28,7 @@ none_left done xs within = by_left (drop done xs) (length-drop done xs)
     by_left [] e = let all : done ≡ length xs = omega (arith, e, within) in grind (arith, nat_tests)
     by_left (x ∷ left) e = let some : done ≢ length xs = omega (arith, e) in grind (arith, nat_tests)
 
-pub same_over : (p : Program) (named : ℕ → Bool) (limit : ℕ) (m : Moment) → IsWithin p m →
+pub same_over : (p : Program) (named : ℕ → Bool) (limit : ℕ) (m : Moment) → DoneWereMade p m →
     is_over_by limit (local_at p named m) ≡ is_over p limit m
 unfolding local_at
 same_over p named limit m within = ap (λ b. b && is_idle limit m) (none_left m.done (transactions p m.retired) within)

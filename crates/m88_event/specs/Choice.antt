@@ -16,8 +16,8 @@ use Rattle.m88_event.specs.declared.letter.Letter.{Letter}
 use Rattle.m88_event.specs.declared.letter.Letter.TheVariants.{Issue, Answer}
 use Rattle.m88_event.specs.declared.record.Record.{Record}
 
--- nothing; it passes a bubble; it holds the next instruction; it retires the next instruction, with its changes or with a
--- byte that is put out for it; it ends the program; it answers the oldest transaction, or that one faults
+-- nothing; it passes a bubble; it holds the next instruction; it retires the next instruction, with its changes or
+-- with a byte that is put out for it; it ends the program; it answers the oldest transaction, or that one faults
 pub data Choice : Type 0 where
   idles : Choice
   passes : Choice
@@ -58,7 +58,8 @@ next_turn p s = turn p s.regs s.carry s.pc s.next
 
 -- what a letter makes of a situation
 abbrev pub choice_of : Program → Letter → Situation → Choice
-choice_of p Issue s = issue_choice s.idle s.bubble (held (instruction_at p s.pc) (next_turn p s) s.pending) (next_turn p s)
+choice_of p Issue s =
+    issue_choice s.idle s.bubble (held (instruction_at p s.pc) (next_turn p s) s.pending) (next_turn p s)
 choice_of p Answer s = answer_choice s.pending s.absent
 
 -- a page is that of one of some accesses
@@ -67,9 +68,9 @@ touches_page [] page = false
 touches_page (a ∷ accesses) page = page_of a.addr == page || touches_page accesses page
 
 -- how a history that ended did so
-abbrev pub end_of : Stop → End
-end_of (exits at) = Exit at
-end_of (by_vector vector at) = Vector vector at
+abbrev pub end_by : Stop → End
+end_by (exits at) = Exit at
+end_by (by_vector vector at) = Vector vector at
 
 -- why an instruction is held
 abbrev pub why_of : Hold → Why
@@ -84,6 +85,6 @@ said passes fault = happened.Bubble
 said (holds hold) fault = happened.Stalled (why_of hold)
 said (issues change) fault = happened.Issued
 said (serves byte) fault = happened.Served byte
-said (finishes stop) fault = happened.Ended (end_of stop)
+said (finishes stop) fault = happened.Ended (end_by stop)
 said replies fault = happened.Answered
 said faults fault = happened.Faulted fault

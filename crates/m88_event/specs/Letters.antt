@@ -36,3 +36,7 @@ is_letter byte = byte == 0x69 || byte == 0x72
 
 abbrev pub AreLetters : List ℕ → Type 0
 AreLetters bytes = All (λ byte. is_letter byte ≡ true) bytes
+
+-- 1 to 65,536 of them
+abbrev pub HasLetters : List ℕ → Type 0
+HasLetters bytes = (1 ≤ length bytes) × (length bytes ≤ most_letters) × AreLetters bytes

@@ -1,5 +1,6 @@
--- What a board looks like from outside, with no word of the program's beginning: the state that its pending transactions
--- lead to, memory as it is now, these transactions, marks, absent pages, counts and records; and what a letter makes of it.
+-- What a board looks like from outside, with no word of the program's beginning: the state that its pending
+-- transactions lead to, memory as it is now, these transactions, marks, absent pages, counts and records; and what a
+-- letter makes of it.
 use Rattle.std.specs.Prelude.{ℕ, Bool, true, false, not, List, [], ◌∷◌, ◌++◌, Option, Some, None, ◌+◌, ◌==◌, ◌&&◌, ◌||◌, drop, length, slice_index, take, if◌then◌else◌}
 use Rattle.m88_isa.specs.Bus.{bus_after_all, waits_for}
 use Rattle.m88_isa.specs.History.{Completed, after_turn, bus_at, change_accesses, completed_state, pending_at}
@@ -14,9 +15,9 @@ use Rattle.m88_event.specs.declared.happened.Happened.{Happened}
 use Rattle.m88_event.specs.declared.letter.Letter.{Letter}
 use Rattle.m88_event.specs.declared.record.Record.{Record}
 
--- the state once the pending transactions are done in order, memory by words as it is now, the pending transactions, XIP,
--- the marks of a bubble and of the end, the absent pages, the counts of instructions retired, transactions done, events and
--- transactions answered with data, and the records of the data faults
+-- the state once the pending transactions are done in order, memory by words as it is now, the pending transactions,
+-- XIP, the marks of a bubble and of the end, the absent pages, the counts of instructions retired, transactions done,
+-- events and transactions answered with data, and the records of the data faults
 pub record Local : Type 0 where
   pub completed : Completed
   pub bus : ℕ → ℕ
@@ -80,16 +81,22 @@ move_by faults fault l = record l {
 }
 
 -- one more event is counted
-abbrev pub counted_move : Local → Local
-counted_move l = record l { events = l.events + 1 }
+abbrev pub with_move_counted : Local → Local
+with_move_counted l = record l { events = l.events + 1 }
+
+-- what a letter makes the board do, and the record that a data fault would leave
+abbrev pub choice_by : Program → ℕ → Letter → Local → Choice
+choice_by p limit letter l = choice_of p letter (situation_of limit l)
+
+abbrev pub record_by : Program → ℕ → Local → Record
+record_by p limit l = record_of p (situation_of limit l)
 
 -- what a letter makes of it, and what its event says
 unfoldable pub move : Program → ℕ → Letter → Local → Local
-move p limit letter l =
-    counted_move (move_by (choice_of p letter (situation_of limit l)) (record_of p (situation_of limit l)) l)
+move p limit letter l = with_move_counted (move_by (choice_by p limit letter l) (record_by p limit l) l)
 
 unfoldable pub said_by : Program → ℕ → Letter → Local → Happened
-said_by p limit letter l = said (choice_of p letter (situation_of limit l)) (record_of p (situation_of limit l))
+said_by p limit letter l = said (choice_by p limit letter l) (record_by p limit l)
 
 -- nothing is pending, and no more may be issued
 abbrev pub is_over_by : ℕ → Local → Bool

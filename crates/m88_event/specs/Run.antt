@@ -2,7 +2,7 @@
 use Rattle.std.specs.Prelude.{ℕ, zero, suc, Bool, true, false, List, ◌≡◌, ◌<◌, if◌then◌else◌}
 use Rattle.m88_isa.specs.Bus.{changed_words, in_words}
 use Rattle.m88_isa.specs.Machine.{Program, Turn, changes, opening, outputs, state, stops, turn_at}
-use Rattle.m88_event.specs.Choice.{end_of}
+use Rattle.m88_event.specs.Choice.{end_by}
 use Rattle.m88_event.specs.Letters.{letter_at}
 use Rattle.m88_event.specs.Timeline.{Moment, is_over, after_letter, opening_moment}
 use Rattle.m88_event.specs.declared.happened.End.{End}
@@ -25,10 +25,10 @@ pub record IsRun (p : Program) (named : ℕ → Bool) (limit : ℕ) (schedule : 
 abbrev pub end_of_turn : Turn → End
 end_of_turn (changes change) = Limit
 end_of_turn (outputs byte) = Limit
-end_of_turn (stops stop) = end_of stop
+end_of_turn (stops stop) = end_by stop
 
--- what a run comes to that is over at a moment: the end of the history where the program ended, and else the limit; registers,
--- carry, output and memory of the history after as many instructions; the counts and records of the moment
+-- what a run comes to that is over at a moment: the end of the history where the program ended, and else the limit;
+-- registers, carry, output and memory of the history after as many instructions; the counts and records of the moment
 unfoldable pub outcome_at : Program → Moment → Outcome
 outcome_at p m = record {
   end = if m.ended then end_of_turn (turn_at p (state p m.retired)) else Limit;
@@ -43,7 +43,7 @@ outcome_at p m = record {
 }
 
 -- what a run comes to
-pub record IsOutcome (p : Program) (named : ℕ → Bool) (limit : ℕ) (schedule : List Letter) (outcome : Outcome) : Type 0 where
+pub record IsOutcome (p : Program) (named : ℕ → Bool) (limit : ℕ) (schedule : List Letter) (o : Outcome) : Type 0 where
   pub events : ℕ
   pub run : IsRun p named limit schedule events
-  pub value : outcome ≡ outcome_at p (moment_after p named limit schedule events)
+  pub value : o ≡ outcome_at p (moment_after p named limit schedule events)

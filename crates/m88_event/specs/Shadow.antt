@@ -1,5 +1,5 @@
 -- The three instruction pointers and the processor status, as the control registers show them ("Control Registers").
-use Rattle.std.specs.Prelude.{ℕ, Bool, true, false, ◌+◌, ◌^◌, is_none, if◌then◌else◌}
+use Rattle.std.specs.Prelude.{ℕ, Bool, true, false, ◌+◌, ◌*◌, ◌^◌, is_none, if◌then◌else◌}
 use Rattle.m88_isa.specs.Compute.{weight_if}
 use Rattle.m88_isa.specs.Address.{after_bytes}
 use Rattle.m88_isa.specs.Machine.{Program, four_bytes}
@@ -12,7 +12,7 @@ pub record Pointer : Type 0 where
 
 -- its word: the address in bits 31 to 2, V in bit 1, E in bit 0
 abbrev pub pointer_word : Pointer → ℕ
-pointer_word x = x.address + weight_if x.valid 2 + weight_if x.failed 1
+pointer_word x = x.address + 2 * weight_if x.valid 1 + weight_if x.failed 1
 
 -- XIP before the first instruction
 abbrev pub no_pointer : Pointer

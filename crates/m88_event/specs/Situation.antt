@@ -1,15 +1,17 @@
 -- What the next event depends on, and the record that a data fault would leave ("Exception Processing": data access
 -- exception).
 use Rattle.std.specs.Prelude.{ℕ, Bool, List}
-use Rattle.m88_isa.specs.Bus.{waiting_set}
+use Rattle.m88_base.specs.RegisterSet.{register_bits}
+use Rattle.m88_isa.specs.Bus.{waits_for}
 use Rattle.m88_isa.specs.Machine.{Program}
 use Rattle.m88_isa.specs.Triples.{triples_of}
 use Rattle.m88_isa.specs.declared.planned.Access.{Access}
 use Rattle.m88_event.specs.Shadow.{Pointer, fip_of, nip_of, pointer_word, status_of}
 use Rattle.m88_event.specs.declared.record.Record.{Record}
 
--- registers, carry and the two addresses after the instructions that are retired, XIP, the mark that a fetched instruction
--- is passed over, the mark that no more may be issued, the pending transactions, the absent pages, and the event's number
+-- registers, carry and the two addresses after the instructions that are retired, XIP, the mark that a fetched
+-- instruction is passed over, the mark that no more may be issued, the pending transactions, the absent pages, and
+-- the event's number
 pub record Situation : Type 0 where
   pub regs : List ℕ
   pub carry : Bool
@@ -30,6 +32,6 @@ record_of p s = record {
   sxip = pointer_word s.xip;
   snip = pointer_word (nip_of p s.bubble s.xip s.pc);
   sfip = pointer_word (fip_of p s.bubble s.pc s.next);
-  ssbr = waiting_set s.pending;
+  ssbr = register_bits (waits_for s.pending);
   triples = triples_of s.pending;
 }

@@ -1,5 +1,5 @@
--- The timeline of a run: its moments, each a count of the instructions that are retired and one of the transactions that are
--- done along the history of the sequential machine, and what a letter makes of one.
+-- The timeline of a run: its moments, each a count of the instructions that are retired and one of the transactions
+-- that are done along the history of the sequential machine, and what a letter makes of one.
 use Rattle.std.specs.Prelude.{ℕ, zero, suc, Bool, true, false, not, List, [], ◌∷◌, ◌++◌, ◌+◌, ◌≤◌, ◌==◌, ◌&&◌, ◌||◌}
 use Rattle.m88_isa.specs.History.{pending_at, transaction_count}
 use Rattle.m88_isa.specs.Machine.{Program, state}
@@ -10,9 +10,9 @@ use Rattle.m88_event.specs.declared.happened.Happened.{Happened}
 use Rattle.m88_event.specs.declared.letter.Letter.{Letter}
 use Rattle.m88_event.specs.declared.record.Record.{Record}
 
--- the instructions retired, the transactions answered or finished, the mark that the next fetched instruction is passed
--- over, the mark that the program has ended, the pages supplied, the events, the transactions answered with data, and the
--- records of the data faults
+-- the instructions retired, the transactions answered or finished, the mark that the next fetched instruction is
+-- passed over, the mark that the program has ended, the pages supplied, the events, the transactions answered with
+-- data, and the records of the data faults
 pub record Moment : Type 0 where
   pub retired : ℕ
   pub done : ℕ
@@ -64,8 +64,8 @@ situation_at p named limit m = record {
   event = m.events + 1;
 }
 
--- what a choice makes of a moment, but for the count of events; a data fault leaves its record, supplies the pages of all
--- pending transactions and finishes these
+-- what a choice makes of a moment, but for the count of events; a data fault leaves its record, supplies the pages of
+-- all pending transactions and finishes these
 abbrev pub after_choice : Program → Choice → Record → Moment → Moment
 after_choice p idles fault m = m
 after_choice p passes fault m = record m { bubble = false }
@@ -81,22 +81,28 @@ after_choice p faults fault m = record m {
 }
 
 -- one more event is counted
-abbrev pub counted : Moment → Moment
-counted m = record m { events = m.events + 1 }
+abbrev pub with_event : Moment → Moment
+with_event m = record m { events = m.events + 1 }
+
+-- what a letter makes the board do at a moment, and the record that a data fault would leave there
+abbrev pub choice_at : Program → (ℕ → Bool) → ℕ → Letter → Moment → Choice
+choice_at p named limit letter m = choice_of p letter (situation_at p named limit m)
+
+abbrev pub record_at : Program → (ℕ → Bool) → ℕ → Moment → Record
+record_at p named limit m = record_of p (situation_at p named limit m)
 
 -- the moment after a letter, and what its event says
 unfoldable pub after_letter : Program → (ℕ → Bool) → ℕ → Letter → Moment → Moment
 after_letter p named limit letter m =
-    counted (after_choice p (choice_of p letter (situation_at p named limit m)) (record_of p (situation_at p named limit m)) m)
+    with_event (after_choice p (choice_at p named limit letter m) (record_at p named limit m) m)
 
 unfoldable pub said_at : Program → (ℕ → Bool) → ℕ → Letter → Moment → Happened
-said_at p named limit letter m =
-    said (choice_of p letter (situation_at p named limit m)) (record_of p (situation_at p named limit m))
+said_at p named limit letter m = said (choice_at p named limit letter m) (record_at p named limit m)
 
 -- the run is over: nothing is pending, and no more may be issued
 abbrev pub is_over : Program → ℕ → Moment → Bool
 is_over p limit m = m.done == transaction_count p m.retired && is_idle limit m
 
 -- no more transactions are done than were made, as at every moment that a run comes to
-abbrev pub IsWithin : Program → Moment → Type 0
-IsWithin p m = m.done ≤ transaction_count p m.retired
+abbrev pub DoneWereMade : Program → Moment → Type 0
+DoneWereMade p m = m.done ≤ transaction_count p m.retired

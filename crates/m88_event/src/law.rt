@@ -4,7 +4,7 @@ ghost use Rattle.std.specs.Prelude.{ℕ, Bool, List, ◌≡◌, ◌≤◌, ◌+�
 ghost use Rattle.m88_isa.specs.Machine.{IsProgram, Program};
 ghost use Rattle.m88_event.specs.Local.{local_at, move, said_by};
 ghost use Rattle.m88_event.specs.Run.{IsRun};
-ghost use Rattle.m88_event.specs.Timeline.{IsWithin, Moment, after_letter, said_at};
+ghost use Rattle.m88_event.specs.Timeline.{DoneWereMade, Moment, after_letter, said_at};
 ghost use Rattle.m88_event.specs.declared.letter.Letter.{Letter as LetterValue};
 
 /// What a letter makes of what a moment looks like is what the next moment looks like, and both say the same of the
@@ -13,12 +13,12 @@ ghost use Rattle.m88_event.specs.declared.letter.Letter.{Letter as LetterValue};
 /// instruction that it may retire, and eight more. It does nothing: the law is its contract.
 pub fn moves_follow_the_timeline()
     ensures moves { (p : Program) (named : ℕ → Bool) (limit : ℕ) (letter : LetterValue) (m : Moment)
-        → IsProgram p → IsWithin p m
+        → IsProgram p → DoneWereMade p m
         → move p limit letter (local_at p named m) ≡ local_at p named (after_letter p named limit letter m) }
     ensures says { (p : Program) (named : ℕ → Bool) (limit : ℕ) (letter : LetterValue) (m : Moment)
         → said_by p limit letter (local_at p named m) ≡ said_at p named limit letter m }
     ensures within { (p : Program) (named : ℕ → Bool) (limit : ℕ) (letter : LetterValue) (m : Moment)
-        → IsWithin p m → IsWithin p (after_letter p named limit letter m) }
+        → DoneWereMade p m → DoneWereMade p (after_letter p named limit letter m) }
     ensures ends { (p : Program) (named : ℕ → Bool) (limit : ℕ) (schedule : List LetterValue)
         → IsProgram p
         → (events : ℕ) × (events ≤ length schedule + 8 * limit + 8) × IsRun p named limit schedule events }

@@ -1,7 +1,7 @@
 //! Schedules: the letters that a run begins with.
 
 ghost use Rattle.std.specs.Prelude.{[], ◌∷◌, ◌≡◌, ◌<◌, ◌≤◌, ◌↔◌, List, IfSome, IsTrue, Some, length, slice_get};
-ghost use Rattle.m88_event.specs.Letters.{AreLetters, IsSchedule, letter_of, most_letters};
+ghost use Rattle.m88_event.specs.Letters.{HasLetters, IsSchedule, letter_of, most_letters};
 ghost use Rattle.m88_event.specs.declared.letter.Letter.{Letter as LetterValue};
 
 use crate::letter::Letter;
@@ -32,7 +32,8 @@ impl<'a> Schedule<'a> {
     /// The schedule of a text: no letter for `-`, else 1 to 65,536 letters `i` and `r`. None for any other text.
     pub fn read(text: &'a str) -> Option<Schedule<'a>>
         ensures found { IfSome result (IsSchedule text.now) }
-        ensures only { (letters : List LetterValue) → IsSchedule text.now letters → result ≡ Some letters }
+        ensures only { (letters : List LetterValue)
+            → IsSchedule text.now letters → result ≡ Some letters }
     {
         let bytes = text.as_bytes();
         if is_dash(bytes) {
@@ -70,7 +71,7 @@ fn is_dash(bytes: &[u8]) -> bool
 
 /// Whether it is 1 to 65,536 bytes `i` and `r`.
 fn are_letters(bytes: &[u8]) -> bool
-    ensures { IsTrue result ↔ ((1 ≤ length bytes.now) × (length bytes.now ≤ most_letters) × AreLetters bytes.now) }
+    ensures { IsTrue result ↔ HasLetters bytes.now }
 {
     1 <= bytes.len()
         && bytes.len() <= MOST_LETTERS

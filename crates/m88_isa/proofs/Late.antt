@@ -1,6 +1,6 @@
 -- A value that arrives late: an instruction that a pending load doesn't concern means the same before and after it, and
 -- what it changes can be changed first.
-use Rattle.std.specs.Prelude.{ℕ, Bool, true, false, List, [], ◌∷◌, ◌++◌, Option, Some, None, IfSome, ◌≡◌, ◌<◌, ◌≤◌, ◌==◌, ◌||◌, bit_or, slice_index, if◌then◌else◌}
+use Rattle.std.specs.Prelude.{ℕ, Bool, true, false, List, [], ◌∷◌, ◌++◌, Option, Some, None, IfSome, ◌≡◌, ◌<◌, ◌≤◌, ◌==◌, ◌||◌, slice_index}
 use Rattle.std.specs.Int.{bit_at}
 use Rattle.std.proofs.Common.{arith, refl, sym, ap, ap₂, ◌∙◌, subst, get_or-set_other}
 use Rattle.std.proofs.lemmas.Bool.{eqb-true, eqb-false}
@@ -160,10 +160,3 @@ beyond_waits_not (x ∷ xs) r h =
     (λ read. by_test (r == 0)
     (λ is_zero. rw (read, is_zero) (beyond_waits_not xs r h))
     (λ there. rw (read, there, other) (beyond_waits_not xs r h)))
-
--- the set of the waiting registers has those that wait
-both_bits : (a b : Bool) → bit_or (if a then 1 else 0) (if b then 1 else 0) ≡ (if a || b then 1 else 0)
-both_bits true true = refl
-both_bits true false = refl
-both_bits false true = refl
-both_bits false false = refl

@@ -1,10 +1,9 @@
 -- Data memory as the data unit sees it: words, and the accesses that load and store their bytes ("Data Unit").
-use Rattle.std.specs.Prelude.{ℕ, zero, suc, Bool, false, not, List, [], ◌∷◌, ◌++◌, ◌*◌, ◌^◌, ◌==◌, ◌&&◌, ◌||◌, bit_or, if◌then◌else◌}
+use Rattle.std.specs.Prelude.{ℕ, zero, suc, Bool, false, not, List, [], ◌∷◌, ◌++◌, ◌*◌, ◌^◌, ◌==◌, ◌&&◌, ◌||◌, if◌then◌else◌}
 use Rattle.m88_base.specs.Reg.{number_of}
 use Rattle.m88_isa.specs.Address.{word_address}
 use Rattle.m88_isa.specs.Lanes.{datum_of, merged, number_at}
 use Rattle.m88_isa.specs.Machine.{with_register}
-use Rattle.m88_isa.specs.Operands.{bit_of}
 use Rattle.m88_isa.specs.declared.planned.Access.{Access}
 use Rattle.m88_isa.specs.declared.planned.Accesses.{Accesses}
 
@@ -66,13 +65,8 @@ unfoldable pub waits_for : List Access → ℕ → Bool
 waits_for [] register = false
 waits_for (a ∷ accesses) register = loads a register || waits_for accesses register
 
--- the registers that wait, each as a bit of its number
-unfoldable pub waiting_set : List Access → ℕ
-waiting_set [] = 0
-waiting_set (a ∷ accesses) = bit_or (if a.write then 0 else bit_of a.reg) (waiting_set accesses)
-
--- the words that differ between two contents of memory, each with its address and its later value, in order of address:
--- among the first words, and among all
+-- the words that differ between two contents of memory, each with its address and its later value, in order of
+-- address: among the first words, and among all
 unfoldable pub changed_among : ℕ → (ℕ → ℕ) → (ℕ → ℕ) → List (ℕ × ℕ)
 changed_among zero old new = []
 changed_among (suc words) old new =

@@ -7,8 +7,8 @@ use Rattle.m88_isa.specs.Operands.{uses_of, waits_for_empty, writes_of}
 use Rattle.m88_isa.specs.declared.planned.Access.{Access}
 use Rattle.m88_isa.specs.declared.instr.Instr.{Instr}
 
--- it uses or writes a register that waits for a load, the data unit has no room for its accesses, or it waits until the
--- data unit is empty
+-- it uses or writes a register that waits for a load, the data unit has no room for its accesses, or it waits until
+-- the data unit is empty
 pub data Hold : Type 0 where
   busy : ℕ → Hold
   full : Hold
@@ -52,7 +52,8 @@ is_stop (changes change) = false
 is_stop (outputs byte) = false
 is_stop (stops stop) = true
 
--- it waits for an empty data unit: it can't be fetched, is no instruction, raises, or is a conditional trap, taken or not
+-- it waits for an empty data unit: it can't be fetched, is no instruction, raises, or is a conditional trap, taken or
+-- not
 abbrev pub needs_empty : Option Instr → Turn → Bool
 needs_empty None turn = true
 needs_empty (Some i) turn = waits_for_empty i || is_stop turn

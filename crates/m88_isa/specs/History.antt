@@ -1,5 +1,5 @@
--- The accesses of a history as the data unit makes them, one transaction after the other, and the state of the sequential
--- machine over memory by words ("Data Unit").
+-- The accesses of a history as the data unit makes them, one transaction after the other, and the state of the
+-- sequential machine over memory by words ("Data Unit").
 use Rattle.std.specs.Prelude.{ℕ, zero, suc, Bool, List, [], ◌∷◌, ◌++◌, map, take, drop, length}
 use Rattle.m88_isa.specs.Address.{after_bytes}
 use Rattle.m88_isa.specs.Bus.{Cells, after_accesses, bus_after_all, in_words}
@@ -34,8 +34,8 @@ pending_at p n done = drop done (transactions p n)
 abbrev pub bus_at : Program → ℕ → ℕ → ℕ → ℕ
 bus_at p n done = bus_after_all (take done (transactions p n)) (in_words (opening p).memory)
 
--- a state with memory by words: registers, carry, the address of the next instruction and of the one that follows it, the
--- words, the output
+-- a state with memory by words: registers, carry, the address of the next instruction and of the one that follows it,
+-- the words, the output
 pub record Completed : Type 0 where
   pub regs : List ℕ
   pub carry : Bool

@@ -67,7 +67,9 @@ with_written (Some written) regs = with_register written.0 written.1 regs
 -- its bytes
 abbrev pub after_touch : Touch → State → State
 after_touch t s = record s {
-  regs = if t.write then s.regs else with_register t.register (widened t.signed t.size (number_at s.memory t.place t.size)) s.regs;
+  regs =
+      if t.write then s.regs
+      else with_register t.register (widened t.signed t.size (number_at s.memory t.place t.size)) s.regs;
   memory = if t.write then stored_at s.memory t.place t.size t.value else s.memory;
 }
 
@@ -78,11 +80,16 @@ after_touches (t ∷ ts) s = after_touches ts (after_touch t s)
 
 -- the changes of an instruction, its accesses in order
 abbrev pub after_change : Change → State → State
-after_change c s =
-    after_touches c.touches (record s { regs = with_written c.register s.regs; carry = c.carry; pc = c.after.0; next = c.after.1 })
+after_change c s = after_touches c.touches (record s {
+  regs = with_written c.register s.regs;
+  carry = c.carry;
+  pc = c.after.0;
+  next = c.after.1;
+})
 
--- how a history ends. `exits address`: the program asks for its end there. `by_vector vector address`: the word there can't
--- be fetched or is no instruction, or its instruction raises the vector or is a taken trap of it that isn't served.
+-- how a history ends. `exits address`: the program asks for its end there. `by_vector vector address`: the word there
+-- can't be fetched or is no instruction, or its instruction raises the vector or is a taken trap of it that isn't
+-- served.
 pub data Stop : Type 0 where
   exits : ℕ → Stop
   by_vector : ℕ → ℕ → Stop

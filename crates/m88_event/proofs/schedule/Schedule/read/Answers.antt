@@ -1,14 +1,12 @@
 -- A text spells one schedule at most.
 use Rattle.std.specs.Prelude.{Some, map}
 use Rattle.std.proofs.Common.{ap, sym, subst, ◌∙◌, inl, inr}
-use Rattle.m88_event.specs.Letters.{IsSchedule, letter_of}
-use Rattle.m88_event.proofs.Letters.{HasLetters, only_letters, only_none, spelled, spells_one}
+use Rattle.m88_event.specs.Letters.{HasLetters, IsSchedule, letter_of}
+use Rattle.m88_event.proofs.Letters.{only_letters, only_none, spelled, spells_one}
 use Rattle.m88_event.proofs.schedule.Schedule.read.Goals as goal
 
 has_letters : (c : goal.Then-are_letters) → HasLetters c.as_bytes-bytes.result.now
-has_letters c =
-    let found = c.are_letters.ensures.0 c.if-are_letters.true in
-    record { some = found.0; most = found.1; each = found.2 }
+has_letters c = c.are_letters.ensures.0 c.if-are_letters.true
 
 pub returns-then-is_dash-clause-only : goal.returns-then-is_dash-clause-only
 returns-then-is_dash-clause-only c = λ letters spells.
@@ -30,6 +28,6 @@ returns-else-are_letters-clause-only c = λ letters spells.
     elim (spells_one c.as_bytes-bytes.result.now letters
     (subst (λ text. IsSchedule text letters) (sym c.as_bytes-bytes.ensures.value) spells)) [
       | inl dash ↦ let yes = c.is_dash.ensures.1 dash in let no = c.if-is_dash.false in absurd (cc (yes, no))
-      | inr found ↦ let yes = c.are_letters.ensures.1 (found.some, found.most, found.each) in let no = c.if-are_letters.false in
+      | inr found ↦ let yes = c.are_letters.ensures.1 found in let no = c.if-are_letters.false in
           absurd (cc (yes, no))
     ]
