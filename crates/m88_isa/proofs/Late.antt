@@ -111,7 +111,7 @@ same_after_accesses (x ∷ xs) c r there h =
     ∙ same_after_access x c r there (head_waits_not x xs r h)
 
 -- no instruction uses r0
-never_zero : (i : Instr) (r : ℕ) → (r == 0) ≡ true → bit_at (uses_of i) r ≡ 1 → ⊥
+pub never_zero : (i : Instr) (r : ℕ) → (r == 0) ≡ true → bit_at (uses_of i) r ≡ 1 → ⊥
 never_zero i r is_zero used =
     let here : bit_at (uses_of i) 0 ≡ 1 = subst (λ k. bit_at (uses_of i) k ≡ 1) (eqb-true r 0 is_zero) used in
     let lacks = uses_lack_r0 i in

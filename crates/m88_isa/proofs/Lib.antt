@@ -1,4 +1,5 @@
 pub mod Alone
+pub mod Apart
 pub mod Constants
 pub mod Held
 pub mod InWords

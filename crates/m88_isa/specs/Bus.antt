@@ -1,5 +1,5 @@
 -- Data memory as the data unit sees it: words, and the accesses that load and store their bytes ("Data Unit").
-use Rattle.std.specs.Prelude.{ℕ, zero, suc, Bool, false, not, List, [], ◌∷◌, ◌++◌, ◌*◌, ◌^◌, ◌==◌, ◌&&◌, ◌||◌, if◌then◌else◌}
+use Rattle.std.specs.Prelude.{ℕ, zero, suc, Bool, true, false, not, List, [], ◌∷◌, ◌++◌, ◌≡◌, ◌*◌, ◌^◌, ◌==◌, ◌&&◌, ◌||◌, if◌then◌else◌}
 use Rattle.m88_base.specs.Reg.{number_of}
 use Rattle.m88_isa.specs.Address.{word_address}
 use Rattle.m88_isa.specs.Lanes.{datum_of, merged, number_at}
@@ -75,3 +75,9 @@ changed_among (suc words) old new =
 
 unfoldable pub changed_words : (ℕ → ℕ) → (ℕ → ℕ) → List (ℕ × ℕ)
 changed_words old new = changed_among (2 ^ 30) old new
+
+-- no two accesses load one register, r0 aside
+abbrev pub AreApart : List Access → Type 0
+AreApart [] = Unit {0}
+AreApart (a ∷ accesses) =
+    (loads a (number_of a.reg) ≡ true → waits_for accesses (number_of a.reg) ≡ false) × AreApart accesses
