@@ -9,3 +9,4 @@ pub mod Lines
 pub mod Lookup
 pub mod Placing
 pub mod Same
+pub mod SameRuns

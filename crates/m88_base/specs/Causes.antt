@@ -1,9 +1,14 @@
 -- What a count of faults shows of the call that it was read around.
-use Rattle.std.specs.Prelude.{◌≡◌, ℕ, ◌+◌, ◌-◌, ◌^◌, ◌<◌, ◌≤◌, ◌⊎◌, min, Result, MatchResult}
+use Rattle.std.specs.Prelude.{◌≡◌, ℕ, ◌+◌, ◌-◌, ◌^◌, ◌<◌, ◌≤◌, ◌⊎◌, min, Result, Ok, Err, MatchResult}
 
 -- one more, at most the greatest number of 64 bits
 abbrev pub counted : ℕ → ℕ
 counted n = min (n + 1) (2 ^ 64 - 1)
+
+-- the count of faults after a call: one more where the call failed
+abbrev pub faults_after : {T E : Type 0} → ℕ → Result T E → ℕ
+faults_after before (Ok _) = before
+faults_after before (Err _) = counted before
 
 -- the count is greater now than before, or stands at the greatest number of 64 bits
 abbrev pub Rose : ℕ → ℕ → Type 0

@@ -1,5 +1,5 @@
 -- What is found at addresses, where a look-up tells the byte at each address that has one.
-use Rattle.std.specs.Prelude.{◌≡◌, ℕ, ◌+◌, ◌<◌, ◌≤◌, List, length, slice_get, Option, None, IsSome}
+use Rattle.std.specs.Prelude.{◌≡◌, ℕ, ◌+◌, ◌^◌, ◌<◌, ◌≤◌, List, length, slice_get, Option, None, IsSome, IfSome}
 
 -- the address is one of the n from `at` on
 abbrev pub IsWithin : ℕ → ℕ → ℕ → Type 0
@@ -8,6 +8,10 @@ IsWithin at n a = (at ≤ a) × (a < at + n)
 -- the least of the n addresses from `at` on that have a byte
 abbrev pub IsLeastTaken : (ℕ → Option ℕ) → ℕ → ℕ → ℕ → Type 0
 IsLeastTaken found at n a = IsWithin at n a × IsSome (found a) × ((b : ℕ) → at ≤ b → b < a → found b ≡ None)
+
+-- each address that has a byte is below 2 ^ 32, and its byte is below 256
+abbrev pub AreBytes : (ℕ → Option ℕ) → Type 0
+AreBytes found = (a : ℕ) → IfSome (found a) (λ b. (a < 2 ^ 32) × (b < 256))
 
 -- none of the n addresses from `at` on has a byte
 abbrev pub IsFree : (ℕ → Option ℕ) → ℕ → ℕ → Type 0

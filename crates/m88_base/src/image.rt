@@ -2,29 +2,44 @@
 ghost use Rattle.std.specs.Prelude.{◌≡◌, ◌+◌, ◌^◌, ◌<◌, ◌≤◌, ◌↔◌, ℕ, None, Some, Err, length, slice_get, IfErr, IsTrue, OnOk, OnErr};
 ghost use Rattle.m88_base.specs.Found.{IsFree, IsLeastTaken, IsPart, PutsBytes};
 ghost use Rattle.m88_base.specs.Placed.{AreApart, byte_among};
-ghost use Rattle.m88_base.specs.Image.{IsTooLarge, WhereOverlap, byte_at, byte_count, parts};
+ghost use Rattle.m88_base.specs.Image.{IsImage, IsTooLarge, ProgramImage, WhereOverlap, byte_at, byte_count, most_bytes, parts};
 
 use crate::run::Run;
 use crate::runs::{find, first_taken, locate, place};
-use std::alloc::Global;
+use std::alloc::{AllocError, Global};
 use std::marker::Model;
+use thiserror::Error;
 
 /// The most bytes that an image has.
 pub const MOST_BYTES: usize = 1_048_576;
 
 /// Why bytes were not added to an image.
-#[derive(Clone, Copy, PartialEq, Eq, Debug)]
+#[derive(Clone, Copy, PartialEq, Eq, Debug, Error)]
 pub enum ImageFault {
     /// The bytes don't fit below 2^32, or the image would have more than 1,048,576 of them.
+    #[error("too large")]
     TooLarge,
     /// The least of the new addresses that has a byte already.
+    #[error("overlap {0:08X}")]
     Overlap(u32),
     /// There was no memory for the bytes.
+    #[error("memory ran out")]
     Memory,
 }
 
+impl From<AllocError> for ImageFault {
+    ghost use Rattle.std.specs.Prelude.{◌≡◌};
+    ghost use Rattle.m88_base.specs.declared.image.ImageFault.TheVariants as image_fault;
+
+    ghost from_gives = { λ _ fault. fault ≡ image_fault.Memory };
+
+    fn from(_: AllocError) -> ImageFault {
+        ImageFault::Memory
+    }
+}
+
 /// A byte at each of at most 1,048,576 addresses, and the address at which the program starts.
-#[derive(Drop)]
+#[derive(Drop, Debug)]
 pub struct Image {
     alloc: Global,
     runs: Vec<Run>,
@@ -33,16 +48,18 @@ pub struct Image {
 }
 
 impl Model for Image {
-    ghost use Rattle.std.specs.Prelude.{◌≡◌, ◌≤◌};
-    ghost use Rattle.m88_base.specs.Placed.{AreApart, count_among};
-    ghost use Rattle.m88_base.specs.Image.{ProgramImage};
+    ghost use Rattle.std.specs.Prelude.{◌≡◌, ◌≤◌, ◌<◌, ◌^◌};
+    ghost use Rattle.m88_base.specs.Found.{AreBytes};
+    ghost use Rattle.m88_base.specs.Placed.{AreApart, byte_among, count_among};
+    ghost use Rattle.m88_base.specs.Image.{ProgramImage, most_bytes};
 
     ghost Value = { ProgramImage };
 
     ghost view = { λ image. record { runs = image.runs.items; start = image.start } };
 
     ghost invariant = { λ image. AreApart 0 image.runs.items × (image.len ≡ count_among image.runs.items)
-        × (image.len ≤ 1048576) };
+        × (image.len ≤ most_bytes) × AreBytes (byte_among image.runs.items)
+        × (image.start < 2 ^ 32) };
 }
 
 impl Image {
@@ -83,9 +100,7 @@ impl Image {
         if let Some(taken) = first_taken(&self.runs, index, at, bytes.len()) {
             return Err(ImageFault::Overlap(taken));
         }
-        let Ok(()) = place(self.alloc, &mut self.runs, index, at, bytes) else {
-            return Err(ImageFault::Memory);
-        };
+        place(self.alloc, &mut self.runs, index, at, bytes)?;
         self.len += bytes.len();
         Ok(())
     }
@@ -117,9 +132,16 @@ impl Image {
     #[tactic(auto, unfolding(crate::specs::Image::byte_at, crate::specs::Image::byte_count))]
     pub fn len(&self) -> usize
         ensures value { result ≡ byte_count self.now }
-        ensures bound { result ≤ MOST_BYTES }
+        ensures bound { result ≤ most_bytes }
     {
         self.len
+    }
+
+    /// Whether no address has a byte.
+    pub fn is_empty(&self) -> bool
+        ensures { IsTrue result ↔ (byte_count self.now ≡ 0) }
+    {
+        self.len() == 0
     }
 
     /// The byte at an address, where there is one.
@@ -133,8 +155,12 @@ impl Image {
     #[tactic(auto, unfolding(crate::specs::Image::byte_at))]
     pub fn part_count(&self) -> usize
         ensures value { result ≡ length (parts self.now) }
-        ensures ascending { AreApart 0 (parts self.now) }
         ensures all { (a : ℕ) → byte_at self.now a ≡ byte_among (parts self.now) a }
+        ensures image { IsImage self.now }
+
+        // An image is told by its bytes and its start.
+        ensures same { (other : ProgramImage) → IsImage other → other.start ≡ self.now.start
+            → ((a : ℕ) → byte_at other a ≡ byte_at self.now a) → other ≡ self.now }
     {
         self.runs.len()
     }

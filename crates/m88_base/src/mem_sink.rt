@@ -1,7 +1,7 @@
 //! A sink in memory that fails where it is told to.
 ghost use Rattle.std.specs.Prelude.{◌≡◌, ℕ, ◌-◌, ◌<◌, ◌≤◌, ◌↔◌, ◌⊎◌, Some, min, length, IfOk, IsErr, Contains, []};
 ghost use Rattle.std.specs.Io.KnownBytes.{WriteAppends};
-ghost use Rattle.m88_base.specs.Causes.{FailsByFault, counted};
+ghost use Rattle.m88_base.specs.Causes.{FailsByFault, counted, faults_after};
 ghost use Rattle.m88_base.specs.Memory.{MemoryOut};
 
 use crate::failing::{Failed, NoMemory};
@@ -12,7 +12,7 @@ use std::marker::Model;
 
 /// A sink in memory with room for so many bytes. It takes at most a piece a call, and fails in
 /// chosen calls and where its room is full.
-#[derive(Drop)]
+#[derive(Drop, Debug)]
 pub struct MemSink {
     bytes: Vec<u8>,
     room: usize,
@@ -59,12 +59,8 @@ impl MemSink {
           failing = failing.now;
         }) }
     {
-        let Ok(bytes) = Vec::with_capacity(alloc, room) else {
-            return Err(NoMemory);
-        };
-        let Ok(failing) = Vec::from_slice(alloc, failing) else {
-            return Err(NoMemory);
-        };
+        let bytes = Vec::with_capacity(alloc, room)?;
+        let failing = Vec::from_slice(alloc, failing)?;
         Ok(MemSink {
             bytes,
             room,
@@ -97,7 +93,7 @@ impl Sink for MemSink {
         ensures takes { IfOk result (λ count. count ≡ min (min (length buf.now) self.old.piece) (self.old.room - length self.old.held)) }
         ensures stays { self.new ≡ record self.old {
           held = self.new.held;
-          faults = self.new.faults;
+          faults = faults_after self.old.faults result;
           calls = counted self.old.calls;
         } }
     {

@@ -2,7 +2,7 @@
 ghost use Rattle.std.specs.Prelude.{◌≡◌, ℕ, ◌+◌, ◌-◌, ◌<◌, ◌↔◌, Some, min, length, take, drop, IfOk, IsErr, Contains};
 ghost use Rattle.std.specs.Io.{ReadsAtMost};
 ghost use Rattle.std.specs.Io.KnownBytes.{ReadConsumes};
-ghost use Rattle.m88_base.specs.Causes.{FailsByFault, counted};
+ghost use Rattle.m88_base.specs.Causes.{FailsByFault, counted, faults_after};
 ghost use Rattle.m88_base.specs.Memory.{MemoryIn};
 
 use crate::failing::{Failed, NoMemory};
@@ -12,7 +12,7 @@ use std::alloc::Global;
 use std::marker::Model;
 
 /// A source of bytes in memory. It gives at most a piece a call, and fails in chosen calls.
-#[derive(Drop)]
+#[derive(Drop, Debug)]
 pub struct MemSource {
     bytes: Vec<u8>,
     at: usize,
@@ -57,12 +57,8 @@ impl MemSource {
           failing = failing.now;
         }) }
     {
-        let Ok(bytes) = Vec::from_slice(alloc, bytes) else {
-            return Err(NoMemory);
-        };
-        let Ok(failing) = Vec::from_slice(alloc, failing) else {
-            return Err(NoMemory);
-        };
+        let bytes = Vec::from_slice(alloc, bytes)?;
+        let failing = Vec::from_slice(alloc, failing)?;
         Ok(MemSource {
             bytes,
             at: 0,
@@ -88,7 +84,7 @@ impl Source for MemSource {
         ensures gives { IfOk result (λ count. count ≡ min (min (length buf.old) self.old.piece) (length self.old.left)) }
         ensures stays { self.new ≡ record self.old {
           left = self.new.left;
-          faults = self.new.faults;
+          faults = faults_after self.old.faults result;
           calls = counted self.old.calls;
         } }
     {

@@ -6,17 +6,32 @@ ghost use Rattle.m88_base.specs.Outside.{TakesExactly, TakesAtMost};
 
 use crate::failing::Failed;
 use crate::source::Source;
-use std::alloc::Global;
+use std::alloc::{AllocError, Global};
+use thiserror::Error;
 
 /// Why a source was not read to its end.
-#[derive(Clone, Copy, PartialEq, Eq, Debug)]
+#[derive(Clone, Copy, PartialEq, Eq, Debug, Error)]
 pub enum ReadEnd {
     /// The source failed.
+    #[error("the source failed")]
     SourceFault,
     /// The source has more bytes than were allowed.
+    #[error("the source is too long")]
     TooLong,
     /// There was no memory for the bytes.
+    #[error("memory ran out")]
     Memory,
+}
+
+impl From<AllocError> for ReadEnd {
+    ghost use Rattle.std.specs.Prelude.{◌≡◌};
+    ghost use Rattle.m88_base.specs.declared.reading.ReadEnd.TheVariants as read_end;
+
+    ghost from_gives = { λ _ end. end ≡ read_end.Memory };
+
+    fn from(_: AllocError) -> ReadEnd {
+        ReadEnd::Memory
+    }
 }
 
 /// All bytes of a source up to its end, `max` at most; one more is taken to find out that there
@@ -40,9 +55,7 @@ pub fn read_all<S: Source>(alloc: Global, source: &mut S, max: usize) -> Result<
                 if count > max - bytes.len() {
                     return Err(ReadEnd::TooLong);
                 }
-                if bytes.extend_from_slice(&buf[..count]).is_err() {
-                    return Err(ReadEnd::Memory);
-                }
+                bytes.extend_from_slice(&buf[..count])?;
             }
             Err(Failed) => return Err(ReadEnd::SourceFault),
         }

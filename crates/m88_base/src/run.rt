@@ -5,7 +5,7 @@ use std::alloc::{AllocError, Global};
 use std::marker::Model;
 
 /// Bytes at consecutive addresses, none past 0xFFFFFFFF.
-#[derive(Drop)]
+#[derive(Drop, Debug)]
 pub struct Run {
     at: u32,
     bytes: Vec<u8>,

@@ -7,7 +7,7 @@ use crate::source::Source;
 use std::io::{Read, Write};
 
 /// A source over a reader. Each error of the reader is a failure, also an interrupted call.
-#[derive(Drop)]
+#[derive(Drop, Debug)]
 pub struct StdSource<R> {
     inner: R,
     faults: u64,
@@ -41,7 +41,7 @@ impl<R: Read> Source for StdSource<R> {
 
 /// A sink over a writer. Each error of the writer is a failure, also an interrupted call, and so
 /// is a write that takes nothing.
-#[derive(Drop)]
+#[derive(Drop, Debug)]
 pub struct StdSink<W> {
     inner: W,
     faults: u64,

@@ -6,9 +6,11 @@ ghost use Rattle.m88_base.specs.Outside.{AppendsPart};
 
 use crate::failing::Failed;
 use crate::sink::Sink;
+use thiserror::Error;
 
 /// A sink failed before it had taken all bytes.
-#[derive(Clone, Copy, PartialEq, Eq, Debug)]
+#[derive(Clone, Copy, PartialEq, Eq, Debug, Error)]
+#[error("the sink failed after {written} bytes")]
 pub struct SinkFault {
     /// The number of bytes from the front that were taken.
     pub written: usize,

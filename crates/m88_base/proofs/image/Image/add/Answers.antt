@@ -1,7 +1,8 @@
-use Rattle.std.proofs.Common.{◌≡◌, ◌<◌, ◌+◌, refl, sym, inr, length, arith}
+use Rattle.std.proofs.Common.{◌≡◌, ◌<◌, ◌+◌, refl, sym, inl, inr, ◌^◌, length, arith}
 use Rattle.m88_base.specs.Image.{byte_at, byte_count}
 use Rattle.m88_base.proofs.Cuts.{free_between}
-use Rattle.m88_base.proofs.image.Image.add.Goals.{In-Ok}
+use Rattle.m88_base.proofs.SameRuns.{puts_bytes}
+use Rattle.m88_base.proofs.image.Image.add.Goals.{In_ok-place}
 use Rattle.m88_base.proofs.image.Image.add.Goals as goal
 
 pub returns-then-is_too_large-clause-too_large : goal.returns-then-is_too_large-clause-too_large
@@ -18,7 +19,7 @@ unfolding byte_at
 returns-in-Some-clause-overlap c = rw (← c.self.view_is, ← c.deref-2.ensures.value) c.in-Some.ensures.taken
 
 -- the number that the image keeps is the number of its bytes
-counted_bytes : (c : In-Ok) → byte_count c.args.self.now ≡ c.self.inside.len
+counted_bytes : (c : In_ok-place) → byte_count c.args.self.now ≡ c.self.inside.len
 unfolding byte_count
 counted_bytes c = rw (← c.self.view_is) (sym c.self.invariant.1)
 
@@ -26,16 +27,19 @@ pub invariant_of-self-2 : goal.invariant_of-self-2
 invariant_of-self-2 c =
     let many : 1048576 < byte_count c.args.self.now + length c.args.bytes.now → ⊥ =
     λ p. absurd (let f = c.if-is_too_large.ensures.1 (inr p) in cc) in
-    let placed = c.in-Ok.ensures.ok in
-    (placed.apart, omega (arith, placed.count, c.self.invariant.1), omega (arith, many, counted_bytes ((goal.at.invariant_of-self-2 c).In-Ok)))
+    let placed = c.in_ok-place.ensures.ok in
+    let far : 2 ^ 32 < c.args.at + length c.args.bytes.now → ⊥ =
+    λ p. absurd (let f = c.if-is_too_large.ensures.1 (inl p) in cc) in
+    let bytes = puts_bytes _ _ c.args.at c.args.bytes.now c.self.invariant.3 (omega (arith, far)) (λ k p. (c.type_inv.bytes k).fits) placed.puts in
+    (placed.apart, omega (arith, placed.count, c.self.invariant.1), omega (arith, many, counted_bytes ((goal.at.invariant_of-self-2 c).In_ok-place)), bytes, c.self.invariant.4)
 
 pub returns-clause-ok : goal.returns-clause-ok
 unfolding byte_at
-returns-clause-ok c = rw (← c.self.view_is) c.in-Ok.ensures.ok.puts
+returns-clause-ok c = rw (← c.self.view_is) c.in_ok-place.ensures.ok.puts
 
 pub returns-clause-len : goal.returns-clause-len
 unfolding byte_count
-returns-clause-len c = rw (← c.self.view_is) c.in-Ok.ensures.ok.count
+returns-clause-len c = rw (← c.self.view_is) c.in_ok-place.ensures.ok.count
 
 pub returns-clause-free : goal.returns-clause-free
 unfolding byte_at

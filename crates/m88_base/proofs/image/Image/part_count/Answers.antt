@@ -1,0 +1,14 @@
+-- An image satisfies what each does, and is told by its bytes and its start.
+use Rattle.std.proofs.Common.{arith}
+use Rattle.m88_base.proofs.SameRuns.{image_of, same_images}
+use Rattle.m88_base.proofs.image.Image.part_count.Goals as goal
+
+pub returns-clause-image : goal.returns-clause-image
+returns-clause-image c =
+    let h = c.self.invariant in
+    rw (← c.self.view_is)
+    (image_of c.self.inside.runs.items c.self.inside.start h.0 h.3 (omega (arith, h.1, h.2)) h.4)
+
+pub returns-clause-same : goal.returns-clause-same
+returns-clause-same c = λ other is start bytes.
+    same_images other c.args.self.now is.apart (rw (← c.self.view_is) c.self.invariant.0) start bytes
