@@ -4,7 +4,7 @@ use Rattle.std.specs.Prelude.{Option, None, Some}
 use Rattle.std.proofs.lemmas.Bool.Decides.{leb_tells}
 use Rattle.std.proofs.lemmas.List.{ext_get_or}
 use Rattle.std.proofs.lemmas.Option.{slice_get-get_or}
-use Rattle.m88_base.specs.Found.{PutsBytes, AreBytes}
+use Rattle.m88_base.specs.Found.{PutsBytes, FindsBytes}
 use Rattle.m88_base.specs.Placed.{Placed, byte_among, count_among, AreApart}
 use Rattle.m88_base.specs.Image.{ProgramImage, IsImage, byte_at, byte_count, most_bytes}
 use Rattle.m88_base.proofs.Lookup.{byte_in_from, byte_in_above}
@@ -80,8 +80,8 @@ same_images i j h k start same =
     ap₂ (λ (rs : List Placed) (s : ℕ). let image : ProgramImage = record { runs = rs; start = s } in image) (same_runs 0 i.runs j.runs h k same) start
 
 -- bytes put among bytes
-pub puts_bytes : (old new : ℕ → Option ℕ) (at : ℕ) (bytes : List ℕ) → AreBytes old → at + length bytes ≤ 2 ^ 32
-    → ((k : ℕ) → k < length bytes → get_or bytes k 0 < 256) → PutsBytes old new at bytes → AreBytes new
+pub puts_bytes : (old new : ℕ → Option ℕ) (at : ℕ) (bytes : List ℕ) → FindsBytes old → at + length bytes ≤ 2 ^ 32
+    → ((k : ℕ) → k < length bytes → get_or bytes k 0 < 256) → PutsBytes old new at bytes → FindsBytes new
 puts_bytes old new at bytes h fits small puts a = elim (leb_tells at a) [
   | inr t ↦ rw (puts.below a t.1) (h a)
   | inl t ↦ elim (leb_tells (at + length bytes) a) [
@@ -94,7 +94,7 @@ puts_bytes old new at bytes h fits small puts a = elim (leb_tells at a) [
 ]
 
 -- what runs and a start have to satisfy to be an image
-pub image_of : (runs : List Placed) (start : ℕ) → AreApart 0 runs → AreBytes (byte_among runs) → count_among runs ≤ most_bytes → start < 2 ^ 32
+pub image_of : (runs : List Placed) (start : ℕ) → AreApart 0 runs → FindsBytes (byte_among runs) → count_among runs ≤ most_bytes → start < 2 ^ 32
     → IsImage (record { runs = runs; start = start })
 unfolding byte_at byte_count
 image_of runs start apart bytes few below = record { apart = apart; bytes = bytes; few = few; start = below }

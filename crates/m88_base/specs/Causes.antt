@@ -2,13 +2,13 @@
 use Rattle.std.specs.Prelude.{◌≡◌, ℕ, ◌+◌, ◌-◌, ◌^◌, ◌<◌, ◌≤◌, ◌⊎◌, min, Result, Ok, Err, MatchResult}
 
 -- one more, at most the greatest number of 64 bits
-abbrev pub counted : ℕ → ℕ
-counted n = min (n + 1) (2 ^ 64 - 1)
+abbrev pub one_more : ℕ → ℕ
+one_more n = min (n + 1) (2 ^ 64 - 1)
 
 -- the count of faults after a call: one more where the call failed
 abbrev pub faults_after : {T E : Type 0} → ℕ → Result T E → ℕ
 faults_after before (Ok _) = before
-faults_after before (Err _) = counted before
+faults_after before (Err _) = one_more before
 
 -- the count is greater now than before, or stands at the greatest number of 64 bits
 abbrev pub Rose : ℕ → ℕ → Type 0

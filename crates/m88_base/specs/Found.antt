@@ -10,8 +10,8 @@ abbrev pub IsLeastTaken : (ℕ → Option ℕ) → ℕ → ℕ → ℕ → Type 
 IsLeastTaken found at n a = IsWithin at n a × IsSome (found a) × ((b : ℕ) → at ≤ b → b < a → found b ≡ None)
 
 -- each address that has a byte is below 2 ^ 32, and its byte is below 256
-abbrev pub AreBytes : (ℕ → Option ℕ) → Type 0
-AreBytes found = (a : ℕ) → IfSome (found a) (λ b. (a < 2 ^ 32) × (b < 256))
+abbrev pub FindsBytes : (ℕ → Option ℕ) → Type 0
+FindsBytes found = (a : ℕ) → IfSome (found a) (λ b. (a < 2 ^ 32) × (b < 256))
 
 -- none of the n addresses from `at` on has a byte
 abbrev pub IsFree : (ℕ → Option ℕ) → ℕ → ℕ → Type 0

@@ -1,6 +1,6 @@
 -- The image of a program: addresses with a byte each, and the address at which the program starts.
 use Rattle.std.specs.Prelude.{ℕ, ◌+◌, ◌^◌, ◌<◌, ◌≤◌, ◌⊎◌, List, Option}
-use Rattle.m88_base.specs.Found.{AreBytes}
+use Rattle.m88_base.specs.Found.{FindsBytes}
 use Rattle.m88_base.specs.Placed.{Placed, AreApart, byte_among, count_among}
 use Rattle.m88_base.specs.declared.image.ImageFault.{ImageFault}
 use Rattle.m88_base.specs.declared.image.ImageFault.TheVariants.{TooLarge, Overlap, Memory}
@@ -31,7 +31,7 @@ parts image = image.runs
 pub record IsImage (image : ProgramImage) : Type 0 where
   -- its runs ascend, each with an address without a byte behind it
   pub apart : AreApart 0 image.runs
-  pub bytes : AreBytes (byte_at image)
+  pub bytes : FindsBytes (byte_at image)
   pub few : byte_count image ≤ most_bytes
   pub start : image.start < 2 ^ 32
 

@@ -2,10 +2,11 @@
 -- opens no further line, and an empty input has no line.
 use Rattle.std.specs.Prelude.{ℕ, Bool, false, List, [], ◌∷◌, ◌==◌, ◌&&◌, if◌then◌else◌}
 
--- the bytes of line ends
+-- the byte that ends a line
 abbrev pub line_feed : ℕ
 line_feed = 10
 
+-- the byte that may stand before it and belongs to the line end then
 abbrev pub carriage_return : ℕ
 carriage_return = 13
 

@@ -22,7 +22,8 @@ byte_among (run ∷ runs) a = option_or (byte_in run a) (byte_among runs a)
 abbrev pub count_among : List Placed → ℕ
 count_among runs = sum_by (λ run. length run.bytes) runs
 
--- the runs are in ascending order, each has a byte, and between each two lies an address without one; none begins below `from`
+-- the runs are in ascending order, each has a byte, and between each two lies an address without one; none begins below
+-- `from`
 abbrev pub AreApart : ℕ → List Placed → Type 0
 AreApart from [] = Unit {0}
 AreApart from (run ∷ runs) = (from ≤ run.at) × (0 < length run.bytes) × AreApart (run.at + length run.bytes + 1) runs

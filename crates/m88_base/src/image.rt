@@ -4,8 +4,8 @@ ghost use Rattle.m88_base.specs.Found.{IsFree, IsLeastTaken, IsPart, PutsBytes};
 ghost use Rattle.m88_base.specs.Placed.{AreApart, byte_among};
 ghost use Rattle.m88_base.specs.Image.{IsImage, IsTooLarge, ProgramImage, WhereOverlap, byte_at, byte_count, most_bytes, parts};
 
-use crate::run::Run;
-use crate::runs::{find, first_taken, locate, place};
+use crate::segment::Segment;
+use crate::segments::{find, first_taken, locate, place};
 use std::alloc::{AllocError, Global};
 use std::marker::Model;
 use thiserror::Error;
@@ -42,14 +42,14 @@ impl From<AllocError> for ImageFault {
 #[derive(Drop, Debug)]
 pub struct Image {
     alloc: Global,
-    runs: Vec<Run>,
+    runs: Vec<Segment>,
     len: usize,
     start: u32,
 }
 
 impl Model for Image {
     ghost use Rattle.std.specs.Prelude.{◌≡◌, ◌≤◌, ◌<◌, ◌^◌};
-    ghost use Rattle.m88_base.specs.Found.{AreBytes};
+    ghost use Rattle.m88_base.specs.Found.{FindsBytes};
     ghost use Rattle.m88_base.specs.Placed.{AreApart, byte_among, count_among};
     ghost use Rattle.m88_base.specs.Image.{ProgramImage, most_bytes};
 
@@ -58,7 +58,7 @@ impl Model for Image {
     ghost view = { λ image. record { runs = image.runs.items; start = image.start } };
 
     ghost invariant = { λ image. AreApart 0 image.runs.items × (image.len ≡ count_among image.runs.items)
-        × (image.len ≤ most_bytes) × AreBytes (byte_among image.runs.items)
+        × (image.len ≤ most_bytes) × FindsBytes (byte_among image.runs.items)
         × (image.start < 2 ^ 32) };
 }
 
@@ -85,8 +85,10 @@ impl Image {
         ensures start { self.new.start ≡ self.old.start }
 
         // A refusal says which of its reasons came first, and changes nothing.
-        ensures too_large { (result ≡ Err ImageFault.TooLarge) ↔ IsTooLarge self.old at (length bytes.now) }
-        ensures overlap { IfErr result (WhereOverlap (IsLeastTaken (byte_at self.old) at (length bytes.now))) }
+        ensures too_large { (result ≡ Err ImageFault.TooLarge)
+            ↔ IsTooLarge self.old at (length bytes.now) }
+        ensures overlap { IfErr result
+            (WhereOverlap (IsLeastTaken (byte_at self.old) at (length bytes.now))) }
         ensures free { OnOk result (IsFree (byte_at self.old) at (length bytes.now)) }
         ensures err { OnErr result (self.new ≡ self.old) }
     {
@@ -168,7 +170,8 @@ impl Image {
     /// The first address and the bytes of a part, the parts in ascending order.
     pub fn part(&self, index: usize) -> (u32, &[u8])
         requires { index < length (parts self.now) }
-        ensures value { slice_get (parts self.now) index ≡ Some (record { at = result.0; bytes = result.1.now }) }
+        ensures value { slice_get (parts self.now) index
+            ≡ Some (record { at = result.0; bytes = result.1.now }) }
         ensures part { IsPart (byte_at self.now) result.0 result.1.now }
         ensures fits { result.0 + length result.1.now ≤ 2 ^ 32 }
     {

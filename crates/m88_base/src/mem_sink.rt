@@ -1,7 +1,7 @@
 //! A sink in memory that fails where it is told to.
 ghost use Rattle.std.specs.Prelude.{◌≡◌, ℕ, ◌-◌, ◌<◌, ◌≤◌, ◌↔◌, ◌⊎◌, Some, min, length, IfOk, IsErr, Contains, []};
 ghost use Rattle.std.specs.Io.KnownBytes.{WriteAppends};
-ghost use Rattle.m88_base.specs.Causes.{FailsByFault, counted, faults_after};
+ghost use Rattle.m88_base.specs.Causes.{FailsByFault, one_more, faults_after};
 ghost use Rattle.m88_base.specs.Memory.{MemoryOut};
 
 use crate::failing::{Failed, NoMemory};
@@ -42,7 +42,7 @@ impl Model for MemSink {
 
 impl MemSink {
     /// An empty sink with room for `room` bytes, all taken here. It takes at most `piece` bytes a
-    /// call. Its calls are counted from 0, and it fails in those that `failing` lists.
+    /// call. Its calls are one_more from 0, and it fails in those that `failing` lists.
     pub fn new(
         alloc: Global,
         room: usize,
@@ -89,12 +89,14 @@ impl Sink for MemSink {
         ensures bound { IfOk result (λ count. (0 < count) × (count ≤ length buf.now)) }
         ensures bytes { WriteAppends (Some self.old.held) (Some self.new.held) result buf.now }
         ensures cause { FailsByFault self.old.faults self.new.faults result }
-        ensures fails { IsErr result ↔ (Contains self.old.failing self.old.calls ⊎ (length self.old.held ≡ self.old.room)) }
-        ensures takes { IfOk result (λ count. count ≡ min (min (length buf.now) self.old.piece) (self.old.room - length self.old.held)) }
+        ensures fails { IsErr result
+            ↔ (Contains self.old.failing self.old.calls ⊎ (length self.old.held ≡ self.old.room)) }
+        ensures takes { IfOk result (λ count. count
+            ≡ min (min (length buf.now) self.old.piece) (self.old.room - length self.old.held)) }
         ensures stays { self.new ≡ record self.old {
           held = self.new.held;
           faults = faults_after self.old.faults result;
-          calls = counted self.old.calls;
+          calls = one_more self.old.calls;
         } }
     {
         let fails = is_failing(&self.failing, self.calls);

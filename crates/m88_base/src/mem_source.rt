@@ -2,7 +2,7 @@
 ghost use Rattle.std.specs.Prelude.{◌≡◌, ℕ, ◌+◌, ◌-◌, ◌<◌, ◌↔◌, Some, min, length, take, drop, IfOk, IsErr, Contains};
 ghost use Rattle.std.specs.Io.{ReadsAtMost};
 ghost use Rattle.std.specs.Io.KnownBytes.{ReadConsumes};
-ghost use Rattle.m88_base.specs.Causes.{FailsByFault, counted, faults_after};
+ghost use Rattle.m88_base.specs.Causes.{FailsByFault, one_more, faults_after};
 ghost use Rattle.m88_base.specs.Memory.{MemoryIn};
 
 use crate::failing::{Failed, NoMemory};
@@ -40,7 +40,7 @@ impl Model for MemSource {
 }
 
 impl MemSource {
-    /// A source of `bytes` that gives at most `piece` bytes a call. Its calls are counted from 0, and it
+    /// A source of `bytes` that gives at most `piece` bytes a call. Its calls are one_more from 0, and it
     /// fails in those that `failing` lists.
     pub fn new(
         alloc: Global,
@@ -81,11 +81,12 @@ impl Source for MemSource {
         ensures bytes { ReadConsumes (Some self.old.left) (Some self.new.left) result buf.new }
         ensures cause { FailsByFault self.old.faults self.new.faults result }
         ensures fails { IsErr result ↔ Contains self.old.failing self.old.calls }
-        ensures gives { IfOk result (λ count. count ≡ min (min (length buf.old) self.old.piece) (length self.old.left)) }
+        ensures gives { IfOk result (λ count. count
+            ≡ min (min (length buf.old) self.old.piece) (length self.old.left)) }
         ensures stays { self.new ≡ record self.old {
           left = self.new.left;
           faults = faults_after self.old.faults result;
-          calls = counted self.old.calls;
+          calls = one_more self.old.calls;
         } }
     {
         let fails = is_failing(&self.failing, self.calls);

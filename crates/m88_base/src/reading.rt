@@ -40,10 +40,13 @@ pub fn read_all<S: Source>(alloc: Global, source: &mut S, max: usize) -> Result<
     requires { max < 2 ^ 31 }
     ensures ok { IfOk result (λ bytes. Consumes (S.left source.old) (S.left source.new) bytes.items
         × IsAtEnd (S.left source.new) × (vec_len bytes ≤ max)) }
-    ensures too_long { result ≡ Err ReadEnd.TooLong → TakesExactly (S.left source.old) (S.left source.new) (max + 1) }
-    ensures short { result ≢ Err ReadEnd.TooLong → TakesAtMost (S.left source.old) (S.left source.new) max }
+    ensures too_long { result ≡ Err ReadEnd.TooLong
+        → TakesExactly (S.left source.old) (S.left source.new) (max + 1) }
+    ensures short { result ≢ Err ReadEnd.TooLong
+        → TakesAtMost (S.left source.old) (S.left source.new) max }
     ensures grows { S.faults source.old ≤ S.faults source.new }
-    ensures fault { result ≡ Err ReadEnd.SourceFault → Rose (S.faults source.old) (S.faults source.new) }
+    ensures fault { result ≡ Err ReadEnd.SourceFault
+        → Rose (S.faults source.old) (S.faults source.new) }
 {
     let mut bytes = Vec::new(alloc);
     let mut buf = [0u8; 4096];

@@ -1,3 +1,4 @@
+//! The numbers of the general registers.
 ghost use Rattle.std.specs.Prelude.{◌≡◌, ◌<◌, ◌%◌, ◌↔◌, IsSome, IfSome};
 
 /// The number of a general register, 0 to 31.

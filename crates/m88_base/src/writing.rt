@@ -19,7 +19,8 @@ pub struct SinkFault {
 /// Hands all bytes to a sink, piece by piece.
 pub fn write_all<K: Sink>(sink: &mut K, bytes: &[u8]) -> Result<(), SinkFault>
     ensures ok { OnOk result (Appends (K.held sink.old) (K.held sink.new) bytes.now) }
-    ensures prefix { IfErr result (λ fault. Appends (K.held sink.old) (K.held sink.new) (take fault.written bytes.now)) }
+    ensures prefix { IfErr result (λ fault.
+        Appends (K.held sink.old) (K.held sink.new) (take fault.written bytes.now)) }
     ensures short { IfErr result (λ fault. fault.written < length bytes.now) }
 
     // The clauses prefix and short once more, for a caller that only asks whether the sink failed.

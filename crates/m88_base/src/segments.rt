@@ -4,11 +4,11 @@ ghost use Rattle.m88_base.specs.Found.{IsLeastTaken};
 ghost use Rattle.m88_base.specs.Placed.{AreApart, byte_among};
 ghost use Rattle.m88_base.specs.Placing.{BeginsAt, Places, next_start};
 
-use crate::run::Run;
+use crate::segment::Segment;
 use std::alloc::{AllocError, Global};
 
 /// The number of runs that begin at or below an address.
-pub fn locate(runs: &[Run], at: u32) -> usize
+pub fn locate(runs: &[Segment], at: u32) -> usize
     requires { AreApart 0 runs.now }
     ensures bound { result ≤ length runs.now }
     ensures below { All (λ run. run.at ≤ at) (take result runs.now) }
@@ -18,7 +18,7 @@ pub fn locate(runs: &[Run], at: u32) -> usize
 }
 
 /// The byte at an address, where a run has one.
-pub fn find(runs: &[Run], at: u32) -> Option<u8>
+pub fn find(runs: &[Segment], at: u32) -> Option<u8>
     requires { AreApart 0 runs.now }
     ensures { result ≡ byte_among runs.now at }
 {
@@ -30,7 +30,7 @@ pub fn find(runs: &[Run], at: u32) -> Option<u8>
 
 /// The least of `count` addresses from `at` on that have a byte, where `index` runs begin at or
 /// below `at`.
-pub fn first_taken(runs: &[Run], index: usize, at: u32, count: usize) -> Option<u32>
+pub fn first_taken(runs: &[Segment], index: usize, at: u32, count: usize) -> Option<u32>
     requires apart { AreApart 0 runs.now }
     requires index { index ≤ length runs.now }
     requires below { All (λ run. run.at ≤ at) (take index runs.now) }
@@ -52,7 +52,7 @@ pub fn first_taken(runs: &[Run], index: usize, at: u32, count: usize) -> Option<
 }
 
 /// The first address at which one more run may begin behind these.
-fn next_start(runs: &[Run]) -> u64
+fn next_start(runs: &[Segment]) -> u64
     ensures value { result ≡ next_start 0 runs.now }
     ensures bound { result ≤ 2 ^ 32 + 1 }
 {
@@ -63,7 +63,7 @@ fn next_start(runs: &[Run]) -> u64
 }
 
 /// Whether the first run begins at an address.
-fn begins_at(runs: &[Run], at: u64) -> bool
+fn begins_at(runs: &[Segment], at: u64) -> bool
     ensures { IsTrue result ↔ BeginsAt runs.now at }
 {
     match runs {
@@ -75,7 +75,7 @@ fn begins_at(runs: &[Run], at: u64) -> bool
 /// Places bytes between the runs below `index` and the others, at addresses that have none yet.
 pub fn place(
     alloc: Global,
-    runs: &mut Vec<Run>,
+    runs: &mut Vec<Segment>,
     index: usize,
     at: u32,
     bytes: &[u8],
@@ -107,7 +107,7 @@ pub fn place(
 /// Places bytes that touch no run.
 fn place_alone(
     alloc: Global,
-    runs: &mut Vec<Run>,
+    runs: &mut Vec<Segment>,
     index: usize,
     at: u32,
     bytes: &[u8],
@@ -121,13 +121,18 @@ fn place_alone(
     ensures ok { OnOk result (Places runs.old.items runs.new.items at bytes.now) }
     ensures err { OnErr result (runs.new.items ≡ runs.old.items) }
 {
-    let run = Run::new(alloc, at, bytes)?;
+    let run = Segment::new(alloc, at, bytes)?;
     runs.insert(index, run)?;
     Ok(())
 }
 
 /// Places bytes just behind the run below `index`.
-fn place_behind(runs: &mut Vec<Run>, index: usize, at: u32, bytes: &[u8]) -> Result<(), AllocError>
+fn place_behind(
+    runs: &mut Vec<Segment>,
+    index: usize,
+    at: u32,
+    bytes: &[u8],
+) -> Result<(), AllocError>
     requires apart { AreApart 0 runs.old.items }
     requires index { index ≤ vec_len runs.old }
     requires above { next_start 0 (take index runs.old.items) ≡ at + 1 }
@@ -144,7 +149,7 @@ fn place_behind(runs: &mut Vec<Run>, index: usize, at: u32, bytes: &[u8]) -> Res
 /// Places bytes just ahead of the run at `index`.
 fn place_ahead(
     alloc: Global,
-    runs: &mut Vec<Run>,
+    runs: &mut Vec<Segment>,
     index: usize,
     at: u32,
     bytes: &[u8],
@@ -158,14 +163,14 @@ fn place_ahead(
     ensures err { OnErr result (runs.new.items ≡ runs.old.items) }
 {
     let next = &runs[index];
-    let mut run = Run::new(alloc, at, bytes)?;
+    let mut run = Segment::new(alloc, at, bytes)?;
     run.append(next.bytes(), &[])?;
     runs[index] = run;
     Ok(())
 }
 
 /// Places bytes that fill the gap between the run below `index` and the one at it.
-fn bridge(runs: &mut Vec<Run>, index: usize, at: u32, bytes: &[u8]) -> Result<(), AllocError>
+fn bridge(runs: &mut Vec<Segment>, index: usize, at: u32, bytes: &[u8]) -> Result<(), AllocError>
     requires apart { AreApart 0 runs.old.items }
     requires above { next_start 0 (take index runs.old.items) ≡ at + 1 }
     requires below { BeginsAt (drop index runs.old.items) (at + length bytes.now) }

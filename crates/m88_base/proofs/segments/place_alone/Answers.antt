@@ -1,5 +1,5 @@
 use Rattle.m88_base.proofs.Edits.{inserted}
-use Rattle.m88_base.proofs.runs.place_alone.Goals as goal
+use Rattle.m88_base.proofs.segments.place_alone.Goals as goal
 
 pub returns-clause-ok : goal.returns-clause-ok
 returns-clause-ok c =

@@ -3,7 +3,7 @@ use Rattle.std.proofs.lemmas.List.{length-take, get_or-take}
 use Rattle.m88_base.specs.Placed.{Placed}
 use Rattle.m88_base.proofs.Apart.{none_below}
 use Rattle.m88_base.proofs.Cuts.{found_in_last}
-use Rattle.m88_base.proofs.runs.find.Goals as goal
+use Rattle.m88_base.proofs.segments.find.Goals as goal
 
 pub returns-in-empty : goal.returns-in-empty
 returns-in-empty c =

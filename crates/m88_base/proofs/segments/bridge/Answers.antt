@@ -1,7 +1,7 @@
 use Rattle.std.proofs.Common.{◌≡◌, ◌-◌, get_or, take, drop, sym, ap, length, arith}
 use Rattle.m88_base.proofs.Edits.{bridged, gap}
-use Rattle.m88_base.proofs.runs.bridge.Goals.{After-bytes}
-use Rattle.m88_base.proofs.runs.bridge.Goals as goal
+use Rattle.m88_base.proofs.segments.bridge.Goals.{After-bytes}
+use Rattle.m88_base.proofs.segments.bridge.Goals as goal
 
 front : (c : After-bytes) → c.split_at_mut-front.result.0.now ≡ take c.args.index c.args.runs.now.items
 front c = rw c.deref_mut.ensures.value at c.split_at_mut-front.ensures.front

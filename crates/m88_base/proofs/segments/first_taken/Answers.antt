@@ -3,7 +3,7 @@ use Rattle.std.proofs.lemmas.List.{get_or-drop, length-drop}
 use Rattle.m88_base.specs.Placed.{Placed}
 use Rattle.m88_base.specs.Placing.{next_start}
 use Rattle.m88_base.proofs.Cuts.{taken_in_last, taken_in_next}
-use Rattle.m88_base.proofs.runs.first_taken.Goals as goal
+use Rattle.m88_base.proofs.segments.first_taken.Goals as goal
 
 pub returns-then-next_start-from-clause-taken : goal.returns-then-next_start-from-clause-taken
 returns-then-next_start-from-clause-taken c =

@@ -1,6 +1,6 @@
 use Rattle.std.proofs.Common.{arith, ◌≤◌, length}
 use Rattle.m88_base.proofs.Edits.{ends_before, lengthened}
-use Rattle.m88_base.proofs.runs.place_behind.Goals as goal
+use Rattle.m88_base.proofs.segments.place_behind.Goals as goal
 
 pub append-requires : goal.append-requires
 append-requires c =

@@ -6,12 +6,12 @@ use std::marker::Model;
 
 /// Bytes at consecutive addresses, none past 0xFFFFFFFF.
 #[derive(Drop, Debug)]
-pub struct Run {
+pub struct Segment {
     at: u32,
     bytes: Vec<u8>,
 }
 
-impl Model for Run {
+impl Model for Segment {
     ghost use Rattle.std.specs.Prelude.{◌+◌, ◌^◌, ◌≤◌, vec_len};
     ghost use Rattle.m88_base.specs.Placed.{Placed};
 
@@ -22,14 +22,14 @@ impl Model for Run {
     ghost invariant = { λ run. run.at + vec_len run.bytes ≤ 2 ^ 32 };
 }
 
-impl Run {
+impl Segment {
     /// A run of copied bytes.
-    pub fn new(alloc: Global, at: u32, bytes: &[u8]) -> Result<Run, AllocError>
+    pub fn new(alloc: Global, at: u32, bytes: &[u8]) -> Result<Segment, AllocError>
         requires { at + length bytes.now ≤ 2 ^ 32 }
         ensures { IfOk result (λ run. run ≡ record { at = at; bytes = bytes.now }) }
     {
         let bytes = Vec::from_slice(alloc, bytes)?;
-        Ok(Run { at, bytes })
+        Ok(Segment { at, bytes })
     }
 
     /// The address of the first byte.
@@ -65,8 +65,10 @@ impl Run {
 
     /// Puts copies of two lists of bytes at the end, both or none.
     pub fn append(&mut self, first: &[u8], second: &[u8]) -> Result<(), AllocError>
-        requires { self.old.at + length self.old.bytes + length first.now + length second.now ≤ 2 ^ 32 }
-        ensures ok { OnOk result (self.new ≡ record self.old { bytes = self.old.bytes ++ (first.now ++ second.now) }) }
+        requires { self.old.at + length self.old.bytes + length first.now + length second.now
+            ≤ 2 ^ 32 }
+        ensures ok { OnOk result (self.new
+            ≡ record self.old { bytes = self.old.bytes ++ (first.now ++ second.now) }) }
         ensures err { OnErr result (self.new ≡ self.old) }
     {
         self.bytes.reserve(first.len() + second.len())?;

@@ -1,5 +1,5 @@
 use Rattle.m88_base.proofs.Cuts.{next_start_last}
-use Rattle.m88_base.proofs.runs.next_start.Goals as goal
+use Rattle.m88_base.proofs.segments.next_start.Goals as goal
 
 pub returns-in-len1-up-clause-value : goal.returns-in-len1-up-clause-value
 returns-in-len1-up-clause-value c =
