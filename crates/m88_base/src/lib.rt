@@ -2,30 +2,37 @@
 //! and the image that a program is linked into.
 #![tactic(auto)]
 
+// Registers, and what the data unit is asked for.
 mod absent;
+mod reg;
+mod triple;
+
+// Where bytes come from and go to.
 mod failing;
-mod fixup;
-mod hex;
-mod image;
-mod line;
-mod listed;
 mod mem_sink;
 mod mem_source;
-mod name;
-mod numerals;
 mod pieces;
 mod reading;
-mod refused;
-mod reg;
-mod segment;
-mod segments;
 mod sink;
 mod source;
 mod std_edge;
+mod writing;
+
+// Parts of texts.
+mod fixup;
+mod hex;
+mod line;
+mod listed;
+mod name;
+mod numerals;
+mod refused;
+
+// The image of a program.
+mod image;
+mod segment;
+mod segments;
 #[cfg(test)]
 mod tests;
-mod triple;
-mod writing;
 
 pub use absent::Absent;
 pub use failing::{Failed, NoMemory};
