@@ -1,6 +1,10 @@
-//! What no clause says of sources, sinks, images and names: that calls which take memory succeed, and worked examples.
+//! What no clause says of sources, sinks, texts, images and names: that calls which take memory
+//! succeed, and worked examples.
+
+ghost use Rattle.std.specs.Prelude.{◌≤◌, IfOk};
 
 use super::*;
+use std::io::{self, ErrorKind, Read, Write};
 use std::test::Fail;
 
 const TEXT: &[u8] = b"abcdefg";
@@ -86,8 +90,156 @@ fn readers_and_writers_of_std_are_sources_and_sinks(rt: HostRuntime) -> Result<(
 }
 
 #[test]
+fn an_end_in_memory_fails_in_each_named_call_and_goes_on(rt: HostRuntime) -> Result<(), Fail> {
+    let mut source = MemSource::new(rt.alloc(), TEXT, 2, &[1, 3]).map_err(|_| "memory")?;
+    for want in [None, None, Some(b"efg".as_slice())] {
+        let fine = match read_all(rt.alloc(), &mut source, 100) {
+            Ok(bytes) => want == Some(bytes.as_slice()),
+            Err(end) => want.is_none() && end == ReadEnd::SourceFault,
+        };
+        assert!(rt; fine, "where {want:?} is wanted");
+    }
+    let mut sink = MemSink::new(rt.alloc(), 7, 2, &[1, 3]).map_err(|_| "memory")?;
+    for (from, want) in [
+        (0, Err(SinkFault { written: 2 })),
+        (2, Err(SinkFault { written: 2 })),
+        (4, Ok(())),
+    ] {
+        assert_eq!(rt; write_all(&mut sink, &TEXT[from..]), want, "from {from}");
+    }
+    assert_eq!(rt; sink.bytes(), TEXT);
+    Ok(())
+}
+
+/// A reader and a writer of single bytes that answers an error in its second call.
+#[derive(Drop)]
+struct Faulty {
+    calls: u32,
+}
+
+impl Faulty {
+    /// How many bytes this call gives or takes.
+    fn call(&mut self) -> io::Result<usize>
+        ensures { IfOk result (λ count. count ≤ 1) }
+    {
+        self.calls = self.calls.saturating_add(1);
+        match self.calls {
+            2 => Err(io::Error::from(ErrorKind::Interrupted)),
+            1 | 3 => Ok(1),
+            _ => Ok(0),
+        }
+    }
+}
+
+impl Read for Faulty {
+    fn read(&mut self, buf: &mut [u8]) -> io::Result<usize> {
+        let count = self.call()?;
+        if buf.is_empty() {
+            return Ok(0);
+        }
+        buf[0] = b'x';
+        Ok(count)
+    }
+}
+
+impl Write for Faulty {
+    fn write(&mut self, buf: &[u8]) -> io::Result<usize> {
+        let count = self.call()?;
+        Ok(count.min(buf.len()))
+    }
+
+    fn flush(&mut self) -> io::Result<()> {
+        Ok(())
+    }
+}
+
+#[test]
+fn errors_of_readers_and_writers_are_failures(rt: HostRuntime) -> Result<(), Fail> {
+    let mut source = StdSource::new(Faulty { calls: 0 });
+    for want in [None, Some(b"x".as_slice())] {
+        let fine = match read_all(rt.alloc(), &mut source, 7) {
+            Ok(bytes) => want == Some(bytes.as_slice()),
+            Err(end) => want.is_none() && end == ReadEnd::SourceFault,
+        };
+        assert!(rt; fine, "where {want:?} is wanted");
+    }
+    let mut sink = StdSink::new(Faulty { calls: 0 });
+    for (bytes, want) in [
+        (b"ab".as_slice(), Err(SinkFault { written: 1 })),
+        (b"c", Ok(())),
+        (b"d", Err(SinkFault { written: 0 })),
+    ] {
+        assert_eq!(rt; write_all(&mut sink, bytes), want);
+    }
+    Ok(())
+}
+
+#[test]
+fn lines_end_by_lf_by_cr_lf_and_with_the_input(rt: HostRuntime) {
+    for (input, first, after) in [
+        (b"a\nb\n".as_slice(), b"a".as_slice(), b"b\n".as_slice()),
+        (b"a\r\nb", b"a", b"b"),
+        (b"b", b"b", b""),
+        (b"\n", b"", b""),
+        (b"\r\n\n", b"", b"\n"),
+        (b"a\rb\n", b"a\rb", b""),
+        (b"a\r", b"a\r", b""),
+        (b"a\r\r\n", b"a\r", b""),
+    ] {
+        assert_eq!(rt; first_line(input), (first, after), "{input:?}");
+    }
+}
+
+#[test]
+fn numbers_are_read_up_to_a_limit(rt: HostRuntime) {
+    for (text, decimal, digits, hex, word) in [
+        (b"0".as_slice(), Some(0), Some(0), Some(0), None),
+        (b"00", None, Some(0), Some(0), None),
+        (b"010", None, Some(10), Some(16), None),
+        (b"1000", Some(1000), Some(1000), None, None),
+        (b"1001", None, None, None, None),
+        (b"99999999999999999999", None, None, None, None),
+        (b"3e8", None, None, Some(1000), None),
+        (b"3E9", None, None, None, None),
+        (b"", None, None, None, None),
+        (b"+1", None, None, None, None),
+        (b"0000DCFE", None, None, None, Some(0xDCFE)),
+        (b"0000dcfe", None, None, None, None),
+        (b"FFFFFFFF", None, None, None, Some(0xFFFF_FFFF)),
+        (b"000000001", None, Some(1), Some(1), None),
+        (b"0000000G", None, None, None, None),
+    ] {
+        assert_eq!(rt;
+            (
+                decimal_in(text, 1000),
+                number_in(10, text, 1000),
+                number_in(16, text, 1000),
+                hex8_of(text)
+            ),
+            (decimal, digits, hex, word),
+            "{text:?}"
+        );
+    }
+}
+
+#[test]
+fn parts_of_texts_are_written(rt: HostRuntime) -> Result<(), Fail> {
+    let mut text = Vec::new(rt.alloc());
+    push_hex8(&mut text, 0x0001_AF29).map_err(|_| "memory")?;
+    push_hex2(&mut text, 0x0B).map_err(|_| "memory")?;
+    push_decimal(&mut text, 0).map_err(|_| "memory")?;
+    push_refused(&mut text, 12, 3, b"no such name").map_err(|_| "memory")?;
+    assert_eq!(rt;
+        text.as_slice(),
+        b"0001AF290B0refused 12:3 no such name\n".as_slice()
+    );
+    Ok(())
+}
+
+#[test]
 fn an_image_joins_what_touches_and_refuses_what_overlaps(rt: HostRuntime) {
     let mut image = Image::new(rt.alloc());
+    assert!(rt; image.is_empty());
     let many = [0u8; 1024];
     for (at, bytes, want, len, parts) in [
         (0x1000, b"abcd".as_slice(), Ok(()), 4, 1),
