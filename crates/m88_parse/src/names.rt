@@ -1,25 +1,10 @@
 //! Names with a meaning of their own: registers, bits, conditions, halves, symbols.
 ghost use Rattle.std.specs.Prelude.{◌≡◌, ◌≤◌, ◌<◌, IfSome, SomeIff, true};
-ghost use Rattle.m88_parse.specs.Reader.Names.{number_up_to, register_of, control_of, float_control_of, control_in, is_here, is_module, is_name, is_symbol};
+ghost use Rattle.m88_parse.specs.Reader.Names.{register_of, control_of, float_control_of, control_in, is_here, is_module, is_name, is_symbol};
 ghost use Rattle.m88_parse.specs.Language.Words.{bit_named, condition_named, half_named};
 ghost use Rattle.m88_parse.specs.WellFormed.{IsHalf};
 
-use crate::scan::{is_decimal, value_of};
-use m88_base::{Kind, Name};
-
-/// The number of decimal digits, where there is one, and it is at most `most`.
-fn number_up_to(most: u32, digits: &[u8]) -> Option<u32>
-    ensures value { result ≡ number_up_to most digits.now }
-    ensures bound { IfSome result (λ n. n ≤ most) }
-{
-    if digits.is_empty() || !is_decimal(digits) {
-        return None;
-    }
-    match value_of(10, digits) {
-        Ok(n) if n <= most => Some(n),
-        _ => None,
-    }
-}
+use m88_base::{Kind, Name, decimal_in};
 
 /// The number of a general register.
 #[tactic(auto, unfolding(crate::specs::Reader::Names::register_of))]
@@ -28,7 +13,7 @@ pub(crate) fn register_of(name: &[u8]) -> Option<u32>
     ensures bound { IfSome result (λ n. n < 32) }
 {
     match name {
-        [b'r', digits @ ..] => number_up_to(31, digits),
+        [b'r', digits @ ..] => decimal_in(digits, 31),
         _ => None,
     }
 }
@@ -39,7 +24,7 @@ fn control_of(name: &[u8]) -> Option<u32>
     ensures bound { IfSome result (λ n. n < 64) }
 {
     match name {
-        [b'c', b'r', digits @ ..] => number_up_to(63, digits),
+        [b'c', b'r', digits @ ..] => decimal_in(digits, 63),
         _ => None,
     }
 }

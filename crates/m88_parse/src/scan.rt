@@ -119,7 +119,7 @@ fn is_hexadecimal(run: &[u8]) -> bool
     }
 }
 
-pub(crate) fn is_decimal(run: &[u8]) -> bool
+fn is_decimal(run: &[u8]) -> bool
     ensures { result ≡ is_decimal run.now }
 {
     match run {
@@ -129,7 +129,7 @@ pub(crate) fn is_decimal(run: &[u8]) -> bool
 }
 
 /// The value of digits in a base, where it is below 2^32.
-pub(crate) fn value_of(base: u64, digits: &[u8]) -> Result<u32, ParseKind>
+fn value_of(base: u64, digits: &[u8]) -> Result<u32, ParseKind>
     requires least { 0 < base }
     requires most { base ≤ 16 }
     ensures value { result ≡ bounded (digits_value base digits.now) }

@@ -1,79 +1,67 @@
 -- The law of names: which names are registers, control registers and symbols.
-use Rattle.std.proofs.Common.{◌≡◌, ◌≢◌, ℕ, ◌<◌, ◌≤◌, Bool, true, false, not, ◌&&◌, ◌||◌, ◌==◌, nat_le, nat_lt, inl, inr, List, [], ◌∷◌, length, Option, Some, None, is_some, Ok, Err, Result, refl, sym, ap, ◌∙◌, arith, subst, ap₂, eqb-true, ltb-true, lt-ltb, leb-true, le-leb, codes, bytes_eq, true≢false}
+use Rattle.std.proofs.Common.{◌≡◌, ◌≢◌, ℕ, ◌<◌, ◌≤◌, Bool, true, false, not, ◌&&◌, ◌||◌, ◌==◌, nat_le, nat_lt, inl, inr, List, [], ◌∷◌, length, Option, Some, None, is_some, refl, sym, ap, ◌∙◌, arith, subst, ap₂, eqb-true, ltb-true, lt-ltb, leb-true, codes, decimal, bytes_eq, true≢false}
 use Rattle.std.specs.Str.Parse.{digits_value}
 use Rattle.std.specs.List.{list_all}
 use Rattle.std.proofs.lemmas.List.Sums.{list_all-from_AllPass, AllPass-from_list_all}
 use Rattle.std.proofs.lemmas.Slice.Eq.{bytes_eq-Decides}
+use Rattle.m88_base.specs.Numerals.{is_numeral, number_in, has_no_needless_zero, decimal_in}
+use Rattle.m88_base.proofs.Digits.{decimal_found, decimal_needed, decimal_told}
 use Rattle.m88_base.specs.Name.{IsName, begins_name, continues_name}
-use Rattle.m88_parse.specs.declared.fault.ParseKind.{ParseKind}
-use Rattle.m88_parse.specs.Reader.Tokens.{is_decimal, bounded}
-use Rattle.m88_parse.specs.Reader.Names.{up_to, number_up_to, register_of, control_of, float_control_of, control_in, is_here, is_name, is_symbol}
-use Rattle.m88_parse.specs.Language.Tokens.{IsDecimal}
+use Rattle.m88_parse.specs.Reader.Names.{register_of, control_of, float_control_of, control_in, is_here, is_name, is_symbol}
 use Rattle.m88_parse.specs.Language.Names.{IsRegisterName, IsControlName, IsSymbolName}
 use Rattle.m88_parse.proofs.Law.Steps.{both, neither, chosen, not_true, take_then, tested}
-use Rattle.m88_parse.proofs.Law.Numbers.{decimal_is, is_decimal_again, bounded_is, bounded_again}
 
 pub some_same : {A : Type 0} {a b : A} → Some a ≡ Some b → a ≡ b
 some_same h = cc
 
-up_to_is : (most n : ℕ) (r : Result ℕ ParseKind) → up_to most r ≡ Some n → (r ≡ Ok n) × (n ≤ most)
-up_to_is most n (Err k) h = absurd cc
-up_to_is most n (Ok v) h =
-    elim (chosen (nat_le v most) (Some v) None (Some n) h) [
-      | inl j ↦ let e : v ≡ n = some_same j.1 in (cc, subst (λ (x : ℕ). x ≤ most) e (leb-true v most j.0))
-      | inr j ↦ absurd cc
-    ]
-
-numbered_is : (most n : ℕ) (ds : List ℕ) → number_up_to most ds ≡ Some n → IsDecimal ds n × (n ≤ most)
-numbered_is most n [] h = absurd cc
-numbered_is most n (d ∷ ds) h =
-    elim (chosen (is_decimal (d ∷ ds)) (up_to most (bounded (digits_value 10 (d ∷ ds)))) None (Some n) h) [
+decimal_is : (most n : ℕ) (ds : List ℕ) → most < 4294967296 → decimal_in most ds ≡ Some n → (ds ≡ decimal n) × (n ≤ most)
+decimal_is most n ds small h =
+    elim (chosen (has_no_needless_zero ds) (number_in 10 most ds) None (Some n) h) [
       | inl j ↦
-          let u = up_to_is most n (bounded (digits_value 10 (d ∷ ds))) j.1 in
-          let b = bounded_is (digits_value 10 (d ∷ ds)) n u.0 in
-          (subst (IsDecimal (d ∷ ds)) (sym b.0) (decimal_is (d ∷ ds) (omega arith) j.0), u.1)
+          elim (chosen (is_numeral 10 ds && nat_le (digits_value 10 ds) most) (Some (digits_value 10 ds)) None (Some n) j.1) [
+            | inl k ↦
+                let b = both (is_numeral 10 ds) (nat_le (digits_value 10 ds) most) k.0 in
+                (decimal_found most ds (Some n) small j.0 (sym j.1), subst (λ (x : ℕ). x ≤ most) (some_same k.1) (leb-true (digits_value 10 ds) most b.1))
+            | inr k ↦ absurd cc
+          ]
       | inr j ↦ absurd cc
     ]
 
-numbered_again : (most n : ℕ) (ds : List ℕ) → most < 4294967296 → IsDecimal ds n → n ≤ most → number_up_to most ds ≡ Some n
-numbered_again most n [] m h l = let s = h.some in absurd (omega arith)
-numbered_again most n (d ∷ ds) m h l =
-    let b : bounded (digits_value 10 (d ∷ ds)) ≡ Ok n = ap bounded (sym h.value) ∙ bounded_again n (omega arith) in
-    take_then (is_decimal (d ∷ ds)) (up_to most (bounded (digits_value 10 (d ∷ ds)))) None (is_decimal_again (d ∷ ds) n h)
-    ∙ ap (up_to most) b
-    ∙ take_then (nat_le n most) (Some n) None (le-leb n most l)
+decimal_again : (most n : ℕ) → most < 4294967296 → n ≤ most → decimal_in most (decimal n) ≡ Some n
+decimal_again most n small l =
+    take_then (has_no_needless_zero (decimal n)) (number_in 10 most (decimal n)) None (decimal_needed n (omega (arith, small, l))) ∙ decimal_told most n small l
 
 pub register_is : (name : List ℕ) (n : ℕ) → register_of name ≡ Some n → IsRegisterName name n
 unfolding register_of
 register_is [] n h = absurd cc
 register_is (r ∷ ds) n h =
-    elim (chosen (r == 114) (number_up_to 31 ds) None (Some n) h) [
-      | inl j ↦ let e = eqb-true r 114 j.0 in let k = numbered_is 31 n ds j.1 in record { digits = ds; name_is = ap (λ (x : ℕ). x ∷ ds) e; number = k.0; most = k.1 }
+    elim (chosen (r == 114) (decimal_in 31 ds) None (Some n) h) [
+      | inl j ↦ let e = eqb-true r 114 j.0 in let k = decimal_is 31 n ds (omega arith) j.1 in (ap₂ (λ (x : ℕ) (xs : List ℕ). x ∷ xs) e k.0, k.1)
       | inr j ↦ absurd cc
     ]
 
 pub register_name_again : (name : List ℕ) (n : ℕ) → IsRegisterName name n → register_of name ≡ Some n
 unfolding register_of
-register_name_again name n h = ap register_of h.name_is ∙ numbered_again 31 n h.digits (omega arith) h.number h.most
+register_name_again name n h = ap register_of h.0 ∙ decimal_again 31 n (omega arith) h.1
 
 control_is : (name : List ℕ) (n : ℕ) → control_of name ≡ Some n → IsControlName false name n
 unfolding control_of
 control_is [] n h = absurd cc
 control_is (c ∷ []) n h = absurd cc
 control_is (c ∷ r ∷ ds) n h =
-    elim (chosen (c == 99 && r == 114) (number_up_to 63 ds) None (Some n) h) [
+    elim (chosen (c == 99 && r == 114) (decimal_in 63 ds) None (Some n) h) [
       | inl j ↦
           let b = both (c == 99) (r == 114) j.0 in
           let e = eqb-true c 99 b.0 in
           let f = eqb-true r 114 b.1 in
-          let k = numbered_is 63 n ds j.1 in
-          record { digits = ds; name_is = ap₂ (λ (x y : ℕ). x ∷ y ∷ ds) e f; number = k.0; most = k.1 }
+          let k = decimal_is 63 n ds (omega arith) j.1 in
+          (ap₂ (λ (x y : ℕ). x ∷ y ∷ ds) e f ∙ ap (λ (xs : List ℕ). 99 ∷ 114 ∷ xs) k.0, k.1)
       | inr j ↦ absurd cc
     ]
 
 control_again : (name : List ℕ) (n : ℕ) → IsControlName false name n → control_of name ≡ Some n
 unfolding control_of
-control_again name n h = ap control_of h.name_is ∙ numbered_again 63 n h.digits (omega arith) h.number h.most
+control_again name n h = ap control_of h.0 ∙ decimal_again 63 n (omega arith) h.1
 
 float_is : (name : List ℕ) (n : ℕ) → float_control_of name ≡ Some n → IsControlName true name n
 unfolding float_control_of
@@ -82,13 +70,13 @@ float_is (f ∷ name) n h =
     elim (chosen (f == 102) (control_of name) None (Some n) h) [
       | inl j ↦
           let k = control_is name n j.1 in
-          record { digits = k.digits; name_is = ap₂ (λ (x : ℕ) (xs : List ℕ). x ∷ xs) (eqb-true f 102 j.0) k.name_is; number = k.number; most = k.most }
+          (ap₂ (λ (x : ℕ) (xs : List ℕ). x ∷ xs) (eqb-true f 102 j.0) k.0, k.1)
       | inr j ↦ absurd cc
     ]
 
 float_again : (name : List ℕ) (n : ℕ) → IsControlName true name n → float_control_of name ≡ Some n
 unfolding float_control_of control_of
-float_again name n h = ap float_control_of h.name_is ∙ numbered_again 63 n h.digits (omega arith) h.number h.most
+float_again name n h = ap float_control_of h.0 ∙ decimal_again 63 n (omega arith) h.1
 
 pub control_name_is : (float : Bool) (name : List ℕ) (n : ℕ) → control_in float name ≡ Some n → IsControlName float name n
 control_name_is false name n h = control_is name n h

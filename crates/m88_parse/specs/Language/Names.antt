@@ -1,20 +1,16 @@
 -- What single tokens stand for where an operand wants a register, a control register, a bit, a condition or a symbol
 -- (operand syntax of the assembly language).
-use Rattle.std.specs.Prelude.{ℕ, Bool, true, false, ◌≡◌, ◌≢◌, ◌⊎◌, ◌<◌, ◌≤◌, List, ◌++◌, Some, codes}
+use Rattle.std.specs.Prelude.{ℕ, Bool, true, false, ◌≡◌, ◌≢◌, ◌⊎◌, ◌<◌, ◌≤◌, List, ◌++◌, Some, codes, decimal}
 use Rattle.m88_base.specs.declared.reg.Reg.{Reg}
 use Rattle.m88_base.specs.Reg.{reg_of}
 use Rattle.m88_base.specs.Name.{IsName}
 use Rattle.m88_parse.specs.Language.Bytes.{comma_mark}
 use Rattle.m88_parse.specs.Language.Pieces.{a_name, a_number, a_mark, Piece}
 use Rattle.m88_parse.specs.Language.Words.{bit_named, condition_named}
-use Rattle.m88_parse.specs.Language.Tokens.{IsDecimal}
 
--- letters and then a number with no needless 0, at most a last one
-pub record IsNumbered (letters : List ℕ) (last : ℕ) (name : List ℕ) (n : ℕ) : Type 0 where
-  pub digits : List ℕ
-  pub name_is : name ≡ letters ++ digits
-  pub number : IsDecimal digits n
-  pub most : n ≤ last
+-- letters and then a number in decimal without a needless 0, at most a last one
+abbrev pub IsNumbered : List ℕ → ℕ → List ℕ → ℕ → Type 0
+IsNumbered letters last name n = (name ≡ letters ++ decimal n) × (n ≤ last)
 
 -- r0 to r31
 abbrev pub IsRegisterName : List ℕ → ℕ → Type 0

@@ -1,32 +1,20 @@
 -- Words for the contracts of private functions; no promise of the crate names them. Names with a meaning of their own
 -- as they are read: registers and control registers, in lower case and with no needless 0 in their numbers, and
 -- symbols.
-use Rattle.std.specs.Prelude.{ℕ, Bool, true, false, List, [], ◌∷◌, ◌==◌, ◌&&◌, ◌||◌, not, nat_le, nat_lt, length, if◌then◌else◌, Option, Some, None, Result, Ok, Err, is_some, codes}
+use Rattle.std.specs.Prelude.{ℕ, Bool, true, false, List, [], ◌∷◌, ◌==◌, ◌&&◌, ◌||◌, not, nat_lt, length, if◌then◌else◌, Option, None, is_some, codes}
 use Rattle.std.specs.List.{list_all}
 use Rattle.std.specs.Str.{bytes_eq}
-use Rattle.std.specs.Str.Parse.{digits_value}
+use Rattle.m88_base.specs.Numerals.{decimal_in}
 use Rattle.m88_base.specs.Name.{begins_name, continues_name}
-use Rattle.m88_parse.specs.declared.fault.ParseKind.{ParseKind}
-use Rattle.m88_parse.specs.Reader.Tokens.{is_decimal, bounded}
-
--- a number that was read, where it is at most so much
-abbrev pub up_to : ℕ → Result ℕ ParseKind → Option ℕ
-up_to most (Ok n) = if nat_le n most then Some n else None
-up_to most (Err _) = None
-
--- the number that one or more decimal digits are, where it is at most so much
-abbrev pub number_up_to : ℕ → List ℕ → Option ℕ
-number_up_to most [] = None
-number_up_to most (d ∷ ds) = if is_decimal (d ∷ ds) then up_to most (bounded (digits_value 10 (d ∷ ds))) else None
 
 -- rN, N to 31
 unfoldable pub register_of : List ℕ → Option ℕ
-register_of (r ∷ ds) = if r == 114 then number_up_to 31 ds else None
+register_of (r ∷ ds) = if r == 114 then decimal_in 31 ds else None
 register_of [] = None
 
 -- crN, N to 63
 unfoldable pub control_of : List ℕ → Option ℕ
-control_of (c ∷ r ∷ ds) = if c == 99 && r == 114 then number_up_to 63 ds else None
+control_of (c ∷ r ∷ ds) = if c == 99 && r == 114 then decimal_in 63 ds else None
 control_of _ = None
 
 -- fcrN, N to 63
