@@ -2,3 +2,4 @@ pub mod Letters
 pub mod Follows
 pub mod Bound
 pub mod Over
+pub mod Worked

@@ -16,6 +16,8 @@ mod outcome;
 
 // how a board goes along it
 mod law;
+#[cfg(test)]
+mod tests;
 
 pub use happened::{End, Happened, Why};
 pub use law::moves_follow_the_timeline;
