@@ -2,17 +2,18 @@
 use Rattle.std.proofs.Common.{◌≡◌, ℕ, zero, suc, ◌+◌, ◌<◌, ◌≤◌, List, [], ◌∷◌, length, drop, get_or, sym, ap, ◌∙◌, sum_by, arith}
 use Rattle.std.proofs.lemmas.List.{drop_more}
 use Rattle.std.proofs.lemmas.List.Sums.{sum_by-cons, sum_by-le-sum_by}
-use Rattle.std.specs.Prelude.{slice_get, All, ◌^◌}
+use Rattle.std.specs.Prelude.{slice_get, All, ◌^◌, ◌%◌, IsSomeAnd}
 use Rattle.std.specs.List.{AllByRecursion}
 use Rattle.std.proofs.lemmas.List.Elements.{All-from_recursion, recursion_from_All}
 use Rattle.std.specs.Option.{option_map_or}
 use Rattle.m88_link.specs.declared.object.Object.{Object}
 use Rattle.m88_link.specs.declared.object.Place.{Place}
 use Rattle.m88_link.specs.declared.object.Place.TheVariants.{Text, DataSection, At}
+use Rattle.m88_link.specs.declared.object.Reloc.{Reloc}
 use Rattle.m88_link.specs.declared.object.Section.{Section}
-use Rattle.m88_link.specs.Bases.{Standing, base_at, section_size, stood_from, text_end, up_to_multiple}
+use Rattle.m88_link.specs.Bases.{Standing, base_at, base_of, section_size, stood_from, text_end, up_to_multiple}
 use Rattle.m88_link.specs.Sizes.{object_size, sections_size, total_size}
-use Rattle.m88_link.specs.Sound.{AreSections, HasRoom, IsOwnAddress, IsSound, most_bytes, origin}
+use Rattle.m88_link.specs.Sound.{AreSections, HasRoom, IsOwnAddress, IsPatchIn, IsSound, most_bytes, origin}
 
 size_at : (k : ℕ) (ss : List Section) → option_map_or (λ s. length s.bytes) (slice_get ss k) 0 ≤ sections_size ss
 size_at k [] = omega arith
@@ -65,3 +66,17 @@ sections_fit s sound text datas = by s.object.sections sound.sections sound.room
         let rest = recursion_from_All HasRoom (x ∷ y ∷ ys) r in
         All-from_recursion (λ z. base_at s z.place + length z.bytes ≤ 2 ^ 32) (x ∷ y ∷ ys)
         (rw h.0 t, (rw h.1 d, others ys (recursion_from_All (λ z. IsOwnAddress z.place) ys h.2) rest.1.1))
+
+word_within : (s : Standing) (xs : List Section) (k offset : ℕ) → AllByRecursion (λ x. base_at s x.place + length x.bytes ≤ 2 ^ 32) xs
+    → IsSomeAnd (slice_get xs k) (λ x. (offset + 4 ≤ length x.bytes) × ((origin x.place + offset) % 4 ≡ 0))
+    → option_map_or (λ x. base_at s x.place) (slice_get xs k) 0 + offset + 4 ≤ 2 ^ 32
+word_within s [] k offset all h = absurd h
+word_within s (x ∷ xs) zero offset all h = omega (arith, all.0, h.0)
+word_within s (x ∷ xs) (suc k) offset all h = word_within s xs k offset all.1 h
+
+-- the word of a relocation of a sound object ends at or below 2 ^ 32
+pub word_fits : (s : Standing) (r : Reloc) → IsSound s.object → s.text + section_size 0 s.object ≤ 2 ^ 32 → s.datas + section_size 1 s.object ≤ 2 ^ 32
+    → IsPatchIn s.object.sections r → base_of s r.section + r.offset + 4 ≤ 2 ^ 32
+word_fits s r sound text datas h =
+    word_within s s.object.sections r.section r.offset
+    (recursion_from_All (λ x. base_at s x.place + length x.bytes ≤ 2 ^ 32) s.object.sections (sections_fit s sound text datas)) h

@@ -10,3 +10,6 @@ pub mod Tables
 pub mod Sizes
 pub mod Spans
 pub mod Faults
+pub mod ObjectText
+pub mod Exports
+pub mod Resolved

@@ -2,10 +2,10 @@
 ghost use Rattle.std.specs.Prelude.{◌≡◌, ◌+◌, ◌*◌, ◌^◌, length, ◌<◌, ◌≤◌, ◌↔◌, All, IfOk, IsTrue, MatchOption};
 ghost use Rattle.m88_link.specs.Bases.{base_at, base_of, first_data, first_text, section_size, stood, text_end};
 ghost use Rattle.m88_link.specs.Sizes.{object_size, sections_size, total_size};
-ghost use Rattle.m88_link.specs.Sound.{IsSound, most_bytes};
+ghost use Rattle.m88_link.specs.Sound.{IsPatchIn, IsSound, most_bytes};
 ghost use Rattle.m88_link.specs.Symbols.{value_in};
 
-use crate::object::{Object, Place, Section, Symbol};
+use crate::object::{Object, Place, Reloc, Section, Symbol};
 use m88_base::MOST_BYTES;
 use std::alloc::{AllocError, Global};
 use std::marker::Model;
@@ -51,6 +51,22 @@ impl Placement<'_> {
         self.object.sections.as_slice()
     }
 
+    /// The symbols of the object.
+    pub fn symbols(&self) -> &[Symbol]
+        ensures value { result.now ≡ self.now.object.symbols }
+        ensures sound { IsSound self.now.object }
+    {
+        self.object.symbols.as_slice()
+    }
+
+    /// The relocations of the object.
+    pub fn relocs(&self) -> &[Reloc]
+        ensures value { result.now ≡ self.now.object.relocs }
+        ensures sound { IsSound self.now.object }
+    {
+        self.object.relocs.as_slice()
+    }
+
     /// The address of a section's first byte, by its place.
     pub fn base_at(&self, place: Place) -> u32
         ensures { result ≡ base_at self.now place }
@@ -70,6 +86,16 @@ impl Placement<'_> {
             Some(section) => self.base_at(section.place),
             None => 0,
         }
+    }
+
+    #[tactic(auto, using(crate::proofs::Stood::word_fits))]
+    /// The address of the word of a relocation of the object.
+    pub fn address(&self, reloc: &Reloc) -> u32
+        requires { IsPatchIn self.now.object.sections reloc.now }
+        ensures { result ≡ base_of self.now reloc.now.section + reloc.now.offset }
+    {
+        let _ = &self.object;
+        self.base(reloc.section) + reloc.offset
     }
 
     /// The value of a symbol of the object.

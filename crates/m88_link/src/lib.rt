@@ -8,12 +8,16 @@ mod object;
 
 // Parts of linking.
 mod bases;
+mod exports;
 mod patch;
+mod resolve;
 mod sound;
 mod spans;
 mod table;
+mod text;
 
 pub use fault::{LinkFault, LinkKind};
 pub use object::{Object, Place, Reloc, Section, Symbol};
 pub use sound::is_sound;
 pub use table::SymbolTable;
+pub use text::object_text;
