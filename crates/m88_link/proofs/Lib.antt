@@ -4,3 +4,8 @@ pub mod Stood
 pub mod Swept
 pub mod Chunks
 pub mod Parts
+pub mod Carried
+pub mod Imaged
+pub mod Extents
+pub mod Rooms
+pub mod Linkage

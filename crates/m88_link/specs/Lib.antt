@@ -13,3 +13,4 @@ pub mod Faults
 pub mod ObjectText
 pub mod Exports
 pub mod Resolved
+pub mod Carried

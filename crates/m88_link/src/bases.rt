@@ -11,7 +11,7 @@ use std::alloc::{AllocError, Global};
 use std::marker::Model;
 
 /// The address of the first text.
-const FIRST_TEXT: u32 = 0x1000;
+pub const FIRST_TEXT: u32 = 0x1000;
 
 /// The size of the pages between text and data, in bytes.
 const PAGE: u32 = 4096;

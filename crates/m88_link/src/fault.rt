@@ -35,6 +35,13 @@ pub struct LinkFault {
     pub kind: LinkKind,
 }
 
+/// There are too many bytes, told at line 1, column 1.
+pub const TOO_LARGE: LinkFault = LinkFault {
+    line: 1,
+    col: 1,
+    kind: LinkKind::TooLarge,
+};
+
 /// Memory ran out.
 const OUT_OF_MEMORY: LinkFault = LinkFault {
     line: 0,

@@ -9,7 +9,9 @@ mod object;
 // Parts of linking.
 mod bases;
 mod exports;
+mod linking;
 mod patch;
+mod placing;
 mod resolve;
 mod sound;
 mod spans;
@@ -17,6 +19,7 @@ mod table;
 mod text;
 
 pub use fault::{LinkFault, LinkKind};
+pub use linking::link;
 pub use object::{Object, Place, Reloc, Section, Symbol};
 pub use sound::is_sound;
 pub use table::SymbolTable;

@@ -1,11 +1,12 @@
-//! The targets of relocations: the value of the symbol plus the addend.
-ghost use Rattle.std.specs.Prelude.{◌≡◌, ◌∷◌, ◌⊎◌, [], All, IfErr, IfOk, None, OnOk, Some, flat_map};
+//! What names mean, and the uses of names that can't be carried out.
+ghost use Rattle.std.specs.Prelude.{◌≡◌, ◌∷◌, ◌⊎◌, [], All, IfErr, IfOk, unwrap_or, None, OnOk, Some, flat_map};
 ghost use Rattle.std.specs.Option.{option_or};
 ghost use Rattle.m88_link.specs.Bases.{base_of};
 ghost use Rattle.m88_link.specs.Faults.{out_of_memory};
-ghost use Rattle.m88_link.specs.Layout.{references_of};
+ghost use Rattle.m88_link.specs.Layout.{reference, references_of, value_of_name};
 ghost use Rattle.m88_link.specs.Refusal.{too_far, undefined};
-ghost use Rattle.m88_link.specs.Resolved.{Resolves, all_targets};
+ghost use Rattle.m88_link.specs.Relocated.{target_of};
+ghost use Rattle.m88_link.specs.Resolved.{Checks};
 ghost use Rattle.m88_link.specs.Sound.{IsPatchIn};
 ghost use Rattle.m88_link.specs.Symbols.{first_repeated, symbol_meaning};
 
@@ -16,57 +17,36 @@ use crate::patch::{distance, is_in_reach};
 use crate::table::SymbolTable;
 use m88_base::Name;
 use std::alloc::{AllocError, Global};
-use std::marker::Model;
 
-/// The targets of the relocations so far, and the first of these that is too far.
-#[derive(Drop)]
-struct Targets {
-    targets: Vec<u32>,
-    far: Option<LinkFault>,
-}
-
-impl Model for Targets {
-    ghost use Rattle.m88_link.specs.Resolved.{Known};
-
-    ghost Value = { Known };
-
-    ghost view = { λ t. record { targets = t.targets.items; far = t.far } };
-}
-
-/// The targets of all relocations, or the first fault: a name that means nothing comes before a
-/// displacement that doesn't fit its field.
-pub fn all_targets(
+/// Refuses the first name that means nothing, or else the first displacement that doesn't fit its
+/// field.
+pub fn check_references(
     alloc: Global,
     standings: &[Placement],
     globals: &SymbolTable,
-) -> Result<Vec<u32>, LinkFault>
-    ensures ok { IfOk result (λ targets. targets.items ≡ all_targets globals.now standings.now) }
-    ensures fine { OnOk result (option_or (undefined (flat_map (references_of globals.now) standings.now))
+) -> Result<(), LinkFault>
+    ensures ok { OnOk result (option_or (undefined (flat_map (references_of globals.now) standings.now))
         (too_far (flat_map (references_of globals.now) standings.now)) ≡ None) }
     ensures err { IfErr result (λ e. (e ≡ out_of_memory)
         ⊎ (option_or (undefined (flat_map (references_of globals.now) standings.now))
         (too_far (flat_map (references_of globals.now) standings.now)) ≡ Some e)) }
 {
-    let mut known = Targets {
-        targets: Vec::new(alloc),
-        far: None,
-    };
+    let mut far = None;
     for standing in standings {
         let own = own_symbols(alloc, standing.symbols())?;
-        match known.resolve_all(globals, standing, &own, standing.relocs()) {
+        match check_all(&mut far, globals, standing, &own, standing.relocs()) {
             Ok(()) => {}
             Err(fault) => return Err(fault),
         }
     }
-    let Targets { targets, far } = known;
     match far {
         Some(fault) => Err(fault),
-        None => Ok(targets),
+        None => Ok(()),
     }
 }
 
 /// The symbols of an object as a table.
-fn own_symbols(alloc: Global, symbols: &[Symbol]) -> Result<SymbolTable, AllocError>
+pub fn own_symbols(alloc: Global, symbols: &[Symbol]) -> Result<SymbolTable, AllocError>
     requires { first_repeated symbols.now ≡ None }
     ensures { IfOk result (λ table. table ≡ symbols.now) }
 {
@@ -92,57 +72,72 @@ fn meaning(
     }
 }
 
-impl Targets {
-    /// Adds the targets of relocations of an object.
-    fn resolve_all(
-        &mut self,
-        globals: &SymbolTable,
-        standing: &Placement,
-        own: &SymbolTable,
-        relocs: &[Reloc],
-    ) -> Result<(), LinkFault>
-        requires own { own.now ≡ standing.now.object.symbols }
-        requires sound { All (IsPatchIn standing.now.object.sections) relocs.now }
-        ensures { Resolves globals.now standing.now relocs.now self.old self.new result }
-    {
-        for reloc in relocs {
-            match self.resolve(globals, standing, own, reloc) {
-                Ok(()) => {}
-                Err(fault) => return Err(fault),
-            }
-        }
-        Ok(())
-    }
+/// The target of a relocation of an object, the symbol's value plus the addend, where the symbol means
+/// something.
+pub fn target(
+    globals: &SymbolTable,
+    standing: &Placement,
+    own: &SymbolTable,
+    reloc: &Reloc,
+) -> Option<u32>
+    requires { own.now ≡ standing.now.object.symbols }
+    ensures known { result ≡ (reference globals.now (base_of standing.now) own.now reloc.now).target }
+    ensures value { unwrap_or result reloc.now.addend ≡ target_of (value_of_name globals.now standing.now) reloc.now }
+{
+    let addend = reloc.addend;
+    let value = meaning(globals, standing, own, &reloc.symbol)?;
+    Some(value.wrapping_add(addend))
+}
 
-    /// Adds the target of a relocation of an object.
-    fn resolve(
-        &mut self,
-        globals: &SymbolTable,
-        standing: &Placement,
-        own: &SymbolTable,
-        reloc: &Reloc,
-    ) -> Result<(), LinkFault>
-        requires own { own.now ≡ standing.now.object.symbols }
-        requires sound { IsPatchIn standing.now.object.sections reloc.now }
-        ensures { Resolves globals.now standing.now (reloc.now ∷ []) self.old self.new result }
-    {
-        let Some(value) = meaning(globals, standing, own, &reloc.symbol) else {
-            return Err(LinkFault {
-                line: reloc.line,
-                col: reloc.col,
-                kind: LinkKind::Undefined(reloc.symbol),
-            });
-        };
-        let target = value.wrapping_add(reloc.addend);
-        let at = standing.address(reloc);
-        if self.far.is_none() && !is_in_reach(reloc.kind, target, at) {
-            self.far = Some(LinkFault {
-                line: reloc.line,
-                col: reloc.col,
-                kind: LinkKind::TooFar(distance(target, at).cast_signed()),
-            });
+/// Refuses the first of the relocations of an object whose symbol means nothing, and keeps the first
+/// that is too far.
+fn check_all(
+    far: &mut Option<LinkFault>,
+    globals: &SymbolTable,
+    standing: &Placement,
+    own: &SymbolTable,
+    relocs: &[Reloc],
+) -> Result<(), LinkFault>
+    requires own { own.now ≡ standing.now.object.symbols }
+    requires sound { All (IsPatchIn standing.now.object.sections) relocs.now }
+    ensures { Checks globals.now standing.now relocs.now far.old far.new result }
+{
+    for reloc in relocs {
+        match check(far, globals, standing, own, reloc) {
+            Ok(()) => {}
+            Err(fault) => return Err(fault),
         }
-        self.targets.push(target)?;
-        Ok(())
     }
+    Ok(())
+}
+
+/// Refuses a relocation of an object whose symbol means nothing, and keeps it where it is the first
+/// that is too far.
+fn check(
+    far: &mut Option<LinkFault>,
+    globals: &SymbolTable,
+    standing: &Placement,
+    own: &SymbolTable,
+    reloc: &Reloc,
+) -> Result<(), LinkFault>
+    requires own { own.now ≡ standing.now.object.symbols }
+    requires sound { IsPatchIn standing.now.object.sections reloc.now }
+    ensures { Checks globals.now standing.now (reloc.now ∷ []) far.old far.new result }
+{
+    let Some(target) = target(globals, standing, own, reloc) else {
+        return Err(LinkFault {
+            line: reloc.line,
+            col: reloc.col,
+            kind: LinkKind::Undefined(reloc.symbol),
+        });
+    };
+    let at = standing.address(reloc);
+    if far.is_none() && !is_in_reach(reloc.kind, target, at) {
+        *far = Some(LinkFault {
+            line: reloc.line,
+            col: reloc.col,
+            kind: LinkKind::TooFar(distance(target, at).cast_signed()),
+        });
+    }
+    Ok(())
 }

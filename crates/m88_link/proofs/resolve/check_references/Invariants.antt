@@ -2,11 +2,9 @@ use Rattle.std.proofs.Common.{◌≡◌, take}
 use Rattle.std.specs.Prelude.{flat_map, None}
 use Rattle.m88_link.specs.Layout.{references_of}
 use Rattle.m88_link.specs.Refusal.{too_far, undefined}
-use Rattle.m88_link.specs.Resolved.{all_targets}
-use Rattle.m88_link.proofs.resolve.all_targets.Given as goal
+use Rattle.m88_link.proofs.resolve.check_references.Given as goal
 
 abbrev pub invariant-loop-standing : goal.invariant-loop-standing
 invariant-loop-standing l =
-    (l.known.targets ≡ all_targets l.globals (take l.standing-index l.standings))
-    × (l.known.far ≡ too_far (flat_map (references_of l.globals) (take l.standing-index l.standings)))
+    (l.far ≡ too_far (flat_map (references_of l.globals) (take l.standing-index l.standings)))
     × (undefined (flat_map (references_of l.globals) (take l.standing-index l.standings)) ≡ None)

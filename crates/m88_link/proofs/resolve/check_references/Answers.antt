@@ -1,11 +1,11 @@
-use Rattle.std.proofs.Common.{◌+◌, ◌++◌, ◌∙◌, take, drop, sym, ap, inl, inr, arith}
+use Rattle.std.proofs.Common.{◌+◌, ◌∙◌, take, drop, sym, ap, inl, inr, arith}
 use Rattle.std.specs.Prelude.{flat_map}
 use Rattle.std.specs.Option.{option_or}
 use Rattle.m88_link.specs.Layout.{references_of}
 use Rattle.m88_link.specs.Refusal.{too_far, too_far_in, undefined, undefined_in}
-use Rattle.m88_link.specs.Resolved.{all_targets, targets_in, uses_in}
+use Rattle.m88_link.specs.Resolved.{uses_in}
 use Rattle.m88_link.proofs.Parts.{fault_none, fault_within, first_fault-append, flat_more, flat_parts, some_first}
-use Rattle.m88_link.proofs.resolve.all_targets.Goals as goal
+use Rattle.m88_link.proofs.resolve.check_references.Goals as goal
 
 pub returns-in-Err-clause-err : goal.returns-in-Err-clause-err
 returns-in-Err-clause-err c =
@@ -21,7 +21,7 @@ returns-in-Err-clause-err c =
       | inr found ↦ inr
           (some_first (undefined (uses all)) (too_far (uses all)) c.in-Err.fault
           (ap (λ l. undefined l) whole
-          ∙ fault_within undefined_in (uses (take i all)) (references_of g s) (uses (drop (i + 1) all)) c.in-Err.fault c.loop-standing.invariant.2
+          ∙ fault_within undefined_in (uses (take i all)) (references_of g s) (uses (drop (i + 1) all)) c.in-Err.fault c.loop-standing.invariant.1
           (ap (λ r. undefined (uses_in g s r)) (sym e) ∙ found)))
     ]
 
@@ -35,10 +35,8 @@ loop-standing-preserved c =
     let e = c.relocs.ensures.value in
     let rs = c.relocs.result.now in
     let done = flat_map (references_of g) (take i all) in
-    let uses = flat_more (references_of g) all i s (omega arith) c.standing-item.is in
-    let targets = flat_more (λ s. targets_in g s s.object.relocs) all i s (omega arith) c.standing-item.is in (
-      c.in-Ok.ensures.0 ∙ ap (λ l. l ++ targets_in g s rs) inv.0 ∙ ap (λ r. all_targets g (take i all) ++ targets_in g s r) e ∙ sym targets,
-      c.in-Ok.ensures.1 ∙ ap (λ o. option_or o (too_far (uses_in g s rs))) inv.1 ∙ ap (λ r. option_or (too_far done) (too_far (uses_in g s r))) e
+    let uses = flat_more (references_of g) all i s (omega arith) c.standing-item.is in (
+      c.in-Ok.ensures.0 ∙ ap (λ o. option_or o (too_far (uses_in g s rs))) inv.0 ∙ ap (λ r. option_or (too_far done) (too_far (uses_in g s r))) e
           ∙ sym (first_fault-append too_far_in done (references_of g s)) ∙ ap (λ l. too_far l) (sym uses),
-      ap (λ l. undefined l) uses ∙ fault_none undefined_in done (references_of g s) inv.2 (ap (λ r. undefined (uses_in g s r)) (sym e) ∙ c.in-Ok.ensures.2),
+      ap (λ l. undefined l) uses ∙ fault_none undefined_in done (references_of g s) inv.1 (ap (λ r. undefined (uses_in g s r)) (sym e) ∙ c.in-Ok.ensures.1),
     )

@@ -1,0 +1,90 @@
+use Rattle.std.proofs.Common.{◌≡◌, ◌<◌, ◌≤◌, ◌∙◌, false, true, refl, sym, ap, subst, inl, inr}
+use Rattle.std.proofs.lemmas.Bool.Decides.{leb_tells}
+use Rattle.std.specs.Prelude.{flat_map, None, Some}
+use Rattle.std.specs.Option.{option_or}
+use Rattle.m88_base.specs.Placed.{count_among}
+use Rattle.m88_link.specs.Carried.{AreAlone}
+use Rattle.m88_link.specs.Layout.{extents_of, globals_of, references_of, spots_of}
+use Rattle.m88_link.specs.Refusal.{AreDisjoint, IsOverlap, duplicate, too_far, undefined}
+use Rattle.m88_link.specs.Sizes.{total_size}
+use Rattle.m88_link.specs.Sound.{most_bytes}
+use Rattle.m88_link.proofs.Linkage.{linkable, refused_duplicate, refused_overlap, refused_reference, refused_too_large, spots_alone, spots_few}
+use Rattle.m88_link.proofs.linking.link.Goals as goal
+
+pub returns-then-not-fit-clause-err : goal.returns-then-not-fit-clause-err
+returns-then-not-fit-clause-err c =
+    let os = c.args.objects.now in
+    let many : most_bytes < total_size os = elim (leb_tells (total_size os) most_bytes) [
+      | inl few ↦ let e : false ≡ true = c.if-not-fit.ensures.1 few.1 in absurd (cc)
+      | inr many ↦ many.1
+    ] in
+    inr (refused_too_large os c.requires many)
+
+pub returns-in-Err-clause-err : goal.returns-in-Err-clause-err
+returns-in-Err-clause-err c =
+    let os = c.args.objects.now in
+    let few : total_size os ≤ most_bytes = c.if-not-fit.ensures.0 refl in
+    let stand = c.deref.ensures.value ∙ c.in_ok-standings.ensures in
+    elim c.in-Err.ensures.err [
+      | inl memory ↦ inl memory
+      | inr found ↦ inr (refused_overlap os c.requires few c.in-Err.fault (subst (λ l. IsOverlap (flat_map extents_of l) c.in-Err.fault) stand found))
+    ]
+
+pub returns-in-Err-globals-clause-err : goal.returns-in-Err-globals-clause-err
+returns-in-Err-globals-clause-err c =
+    let os = c.args.objects.now in
+    let few : total_size os ≤ most_bytes = c.if-not-fit.ensures.0 refl in
+    let alone = subst (λ l. AreDisjoint (flat_map extents_of l)) (c.deref.ensures.value ∙ c.in_ok-standings.ensures) c.in-Ok.ensures.ok in
+    let fault = c.in-Err-globals.fault in
+    elim c.in-Err-globals.ensures.err [
+      | inl memory ↦ inl memory
+      | inr found ↦ inr (refused_duplicate os c.requires few alone fault
+          (subst (λ l. duplicate (flat_map globals_of l) ≡ Some fault) (c.deref-2.ensures.value ∙ c.in_ok-standings.ensures) found))
+    ]
+
+pub returns-in-Err-check_references-clause-err : goal.returns-in-Err-check_references-clause-err
+returns-in-Err-check_references-clause-err c =
+    let os = c.args.objects.now in
+    let few : total_size os ≤ most_bytes = c.if-not-fit.ensures.0 refl in
+    let alone = subst (λ l. AreDisjoint (flat_map extents_of l)) (c.deref.ensures.value ∙ c.in_ok-standings.ensures) c.in-Ok.ensures.ok in
+    let stand2 = c.deref-2.ensures.value ∙ c.in_ok-standings.ensures in
+    let once = subst (λ l. duplicate (flat_map globals_of l) ≡ None) stand2 c.in-Ok-globals.ensures.once in
+    let globals = c.in-Ok-globals.globals in
+    let are = c.in-Ok-globals.ensures.ok ∙ ap (λ l. flat_map globals_of l) stand2 in
+    let fault = c.in-Err-check_references.fault in
+    elim c.in-Err-check_references.ensures.err [
+      | inl memory ↦ inl memory
+      | inr found ↦ inr (refused_reference os c.requires few alone once globals are fault
+          (subst (λ l. option_or (undefined (flat_map (references_of globals) l)) (too_far (flat_map (references_of globals) l)) ≡ Some fault)
+          (c.deref-3.ensures.value ∙ c.in_ok-standings.ensures) found))
+    ]
+
+pub put-requires-clause-alone : goal.put-requires-clause-alone
+put-requires-clause-alone c =
+    let os = c.args.objects.now in
+    let few : total_size os ≤ most_bytes = c.if-not-fit.ensures.0 refl in
+    let alone = subst (λ l. AreDisjoint (flat_map extents_of l)) (c.deref.ensures.value ∙ c.in_ok-standings.ensures) c.in-Ok.ensures.ok in
+    let globals = c.in-Ok-globals.globals in
+    let spots = c.deref-5.ensures.value ∙ c.in_ok-spots.ensures ∙ ap (λ l. flat_map (spots_of globals) l) (c.deref-4.ensures.value ∙ c.in_ok-standings.ensures) in
+    subst (λ l. AreAlone l) (sym spots) (spots_alone os c.requires few alone globals)
+
+pub put-requires-clause-fit : goal.put-requires-clause-fit
+put-requires-clause-fit c =
+    let os = c.args.objects.now in
+    let few : total_size os ≤ most_bytes = c.if-not-fit.ensures.0 refl in
+    let globals = c.in-Ok-globals.globals in
+    let spots = c.deref-5.ensures.value ∙ c.in_ok-spots.ensures ∙ ap (λ l. flat_map (spots_of globals) l) (c.deref-4.ensures.value ∙ c.in_ok-standings.ensures) in
+    subst (λ l. count_among l ≤ most_bytes) (sym spots) (spots_few os c.requires few globals)
+
+pub returns-clause-linkable : goal.returns-clause-linkable
+returns-clause-linkable c =
+    let os = c.args.objects.now in
+    let few : total_size os ≤ most_bytes = c.if-not-fit.ensures.0 refl in
+    let alone = subst (λ l. AreDisjoint (flat_map extents_of l)) (c.deref.ensures.value ∙ c.in_ok-standings.ensures) c.in-Ok.ensures.ok in
+    let stand2 = c.deref-2.ensures.value ∙ c.in_ok-standings.ensures in
+    let once = subst (λ l. duplicate (flat_map globals_of l) ≡ None) stand2 c.in-Ok-globals.ensures.once in
+    let globals = c.in-Ok-globals.globals in
+    let are = c.in-Ok-globals.ensures.ok ∙ ap (λ l. flat_map globals_of l) stand2 in
+    linkable os c.requires few alone once globals are
+    (subst (λ l. option_or (undefined (flat_map (references_of globals) l)) (too_far (flat_map (references_of globals) l)) ≡ None)
+    (c.deref-3.ensures.value ∙ c.in_ok-standings.ensures) c.in-Ok-check_references.ensures.ok)

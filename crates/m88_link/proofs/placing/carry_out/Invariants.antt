@@ -1,0 +1,12 @@
+use Rattle.std.proofs.Common.{◌≡◌, drop}
+use Rattle.std.specs.Prelude.{All}
+use Rattle.m88_link.specs.Carried.{HasWord, carried}
+use Rattle.m88_link.specs.Layout.{value_of_name}
+use Rattle.m88_link.specs.Relocated.{target_of}
+use Rattle.m88_link.proofs.placing.carry_out.Given as goal
+
+abbrev pub invariant-loop-reloc : goal.invariant-loop-reloc
+invariant-loop-reloc l =
+    (carried (target_of (value_of_name l.globals l.standing)) (drop l.reloc-index l.relocs) l.spots.items
+    ≡ carried (target_of (value_of_name l.globals l.standing)) l.relocs l.initial.spots.items)
+    × All (HasWord l.spots.items) l.relocs

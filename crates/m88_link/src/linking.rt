@@ -1,0 +1,64 @@
+//! The linker.
+ghost use Rattle.std.specs.Prelude.{◌≡◌, ◌⊎◌, All, IfErr, IfOk, OnOk};
+ghost use Rattle.m88_link.specs.Faults.{out_of_memory};
+ghost use Rattle.m88_link.specs.Layout.{layout_of};
+ghost use Rattle.m88_link.specs.Linked.{IsLinked, start_address};
+ghost use Rattle.m88_link.specs.Refusal.{IsLinkable, IsRefused};
+ghost use Rattle.m88_link.specs.Sound.{IsSound};
+
+use crate::bases::{FIRST_TEXT, fit, stand};
+use crate::exports::globals;
+use crate::fault::{LinkFault, TOO_LARGE};
+use crate::object::Object;
+use crate::placing::{put, spots};
+use crate::resolve::check_references;
+use crate::spans::check_overlap;
+use crate::table::SymbolTable;
+use m88_base::{Image, Name};
+use std::alloc::Global;
+
+/// The image of objects, or the first reason why they have none. The text of all objects stands from
+/// 0x00001000 on and the data in the pages behind it, each part at the next multiple of 8; other
+/// sections stand at their own addresses. The program starts at `_start`, or at 0x00001000 where that
+/// isn't defined.
+pub fn link(alloc: Global, objects: &[Object]) -> Result<Image, LinkFault>
+    requires { All IsSound objects.now }
+    ensures image { IfOk result (IsLinked (layout_of objects.now)) }
+    ensures linkable { OnOk result (IsLinkable (layout_of objects.now)) }
+    ensures err { IfErr result (λ fault. (fault ≡ out_of_memory) ⊎ IsRefused (layout_of objects.now) fault) }
+{
+    if !fit(objects) {
+        return Err(TOO_LARGE);
+    }
+    let standings = stand(alloc, objects)?;
+    match check_overlap(alloc, &standings) {
+        Ok(()) => {}
+        Err(fault) => return Err(fault),
+    }
+    let globals = match globals(alloc, &standings) {
+        Ok(globals) => globals,
+        Err(fault) => return Err(fault),
+    };
+    match check_references(alloc, &standings, &globals) {
+        Ok(()) => {}
+        Err(fault) => return Err(fault),
+    }
+    let spots = spots(alloc, &standings, &globals)?;
+    let mut image = Image::new(alloc);
+    put(&mut image, &spots)?;
+    image.set_start(start(&globals));
+    Ok(image)
+}
+
+/// The address at which a program starts.
+fn start(globals: &SymbolTable) -> u32
+    ensures { result ≡ start_address globals.now }
+{
+    let Some(name) = Name::new(b"_start") else {
+        unreachable!();
+    };
+    match globals.get(&name) {
+        Some(symbol) => symbol.value,
+        None => FIRST_TEXT,
+    }
+}

@@ -1,0 +1,170 @@
+//! The bytes of sections with their relocations carried out, and the image of them.
+ghost use Rattle.std.specs.Prelude.{◌≡◌, ℕ, [], ◌+◌, ◌^◌, ◌≤◌, ◌++◌, All, IfOk, OnOk, flat_map, length, map};
+ghost use Rattle.m88_base.specs.Found.{IsFree, PutsBytes};
+ghost use Rattle.m88_base.specs.Image.{byte_at, byte_count};
+ghost use Rattle.m88_base.specs.Placed.{byte_among, count_among};
+ghost use Rattle.m88_link.specs.Bases.{base_at};
+ghost use Rattle.m88_link.specs.Carried.{AreAlone, HasWord, bare, carried, patched_spot};
+ghost use Rattle.m88_link.specs.Layout.{spots_of, value_of_name};
+ghost use Rattle.m88_link.specs.Relocated.{target_of};
+ghost use Rattle.m88_link.specs.Sound.{most_bytes};
+
+use crate::bases::Placement;
+use crate::object::{Reloc, Section};
+use crate::patch::patch;
+use crate::resolve::{own_symbols, target};
+use crate::table::SymbolTable;
+use m88_base::{Image, ImageFault};
+use std::alloc::{AllocError, Global};
+use std::marker::Model;
+
+/// Bytes at consecutive addresses, none past 0xFFFFFFFF.
+#[derive(Drop)]
+pub struct Spot {
+    at: u32,
+    bytes: Vec<u8>,
+}
+
+impl Model for Spot {
+    ghost use Rattle.std.specs.Prelude.{◌+◌, ◌^◌, ◌≤◌, vec_len};
+    ghost use Rattle.m88_base.specs.Placed.{Placed};
+
+    ghost Value = { Placed };
+
+    ghost view = { λ spot. record { at = spot.at; bytes = spot.bytes.items } };
+
+    ghost invariant = { λ spot. spot.at + vec_len spot.bytes ≤ 2 ^ 32 };
+}
+
+impl Spot {
+    /// The address of the first byte.
+    fn at(&self) -> u32
+        ensures { result ≡ self.now.at }
+    {
+        self.at
+    }
+
+    /// The bytes in order of their addresses.
+    fn bytes(&self) -> &[u8]
+        ensures value { result.now ≡ self.now.bytes }
+        ensures fit { self.now.at + length self.now.bytes ≤ 2 ^ 32 }
+    {
+        self.bytes.as_slice()
+    }
+
+    /// Patches the word of a relocation for a target.
+    #[tactic(auto, using(crate::proofs::Carried::patched_length))]
+    fn patch(&mut self, reloc: &Reloc, target: u32)
+        requires { reloc.now.offset + 4 ≤ length self.old.bytes }
+        ensures { self.new ≡ patched_spot reloc.now target self.old }
+    {
+        let at = self.at + reloc.offset;
+        patch(
+            self.bytes.as_mut_slice(),
+            reloc.offset as usize,
+            reloc.kind,
+            target,
+            at,
+        );
+    }
+}
+
+/// The bytes of the sections of all objects, in order, with their relocations carried out.
+pub fn spots(
+    alloc: Global,
+    standings: &[Placement],
+    globals: &SymbolTable,
+) -> Result<Vec<Spot>, AllocError>
+    ensures { IfOk result (λ spots. spots.items ≡ flat_map (spots_of globals.now) standings.now) }
+{
+    let mut spots = Vec::new(alloc);
+    for standing in standings {
+        let mut own = object_spots(alloc, standing, globals)?;
+        spots.append(&mut own)?;
+    }
+    Ok(spots)
+}
+
+/// The bytes of the sections of an object with its relocations carried out.
+fn object_spots(
+    alloc: Global,
+    standing: &Placement,
+    globals: &SymbolTable,
+) -> Result<Vec<Spot>, AllocError>
+    ensures { IfOk result (λ spots. spots.items ≡ spots_of globals.now standing.now) }
+{
+    let mut spots = bare_spots(alloc, standing, standing.sections())?;
+    let own = own_symbols(alloc, standing.symbols())?;
+    carry_out(&mut spots, globals, standing, &own, standing.relocs());
+    Ok(spots)
+}
+
+/// The bytes of sections of an object as the object has them.
+fn bare_spots(
+    alloc: Global,
+    standing: &Placement,
+    sections: &[Section],
+) -> Result<Vec<Spot>, AllocError>
+    requires { All (λ x. base_at standing.now x.place + length x.bytes ≤ 2 ^ 32) sections.now }
+    ensures { IfOk result (λ spots. spots.items ≡ map (bare standing.now) sections.now) }
+{
+    let mut spots = Vec::new(alloc);
+    for section in sections {
+        spots.push(Spot {
+            at: standing.base_at(section.place),
+            bytes: Vec::from_slice(alloc, section.bytes.as_slice())?,
+        })?;
+    }
+    Ok(spots)
+}
+
+/// Carries out relocations of an object on its sections; a name that means nothing counts as 0.
+fn carry_out(
+    spots: &mut Vec<Spot>,
+    globals: &SymbolTable,
+    standing: &Placement,
+    own: &SymbolTable,
+    relocs: &[Reloc],
+)
+    requires own { own.now ≡ standing.now.object.symbols }
+    requires words { All (HasWord spots.old.items) relocs.now }
+    ensures { spots.new.items
+        ≡ carried (target_of (value_of_name globals.now standing.now)) relocs.now spots.old.items }
+{
+    for reloc in relocs {
+        let target = target(globals, standing, own, reloc).unwrap_or(reloc.addend);
+        let spot = &mut spots[reloc.section as usize];
+        spot.patch(reloc, target);
+    }
+}
+
+/// Puts the bytes of sections, no two of which have one address, into an empty image.
+pub fn put(image: &mut Image, spots: &[Spot]) -> Result<(), AllocError>
+    requires empty { (a : ℕ) → byte_at image.old a ≡ byte_among [] a }
+    requires none { byte_count image.old ≡ 0 }
+    requires alone { AreAlone spots.now }
+    requires fit { count_among spots.now ≤ most_bytes }
+    ensures bytes { OnOk result ((a : ℕ) → byte_at image.new a ≡ byte_among spots.now a) }
+    ensures count { OnOk result (byte_count image.new ≡ count_among spots.now) }
+    ensures start { image.new.start ≡ image.old.start }
+{
+    for spot in spots {
+        put_one(image, spot)?;
+    }
+    Ok(())
+}
+
+/// Puts the bytes of a section into an image that has room for them and none at their addresses.
+fn put_one(image: &mut Image, spot: &Spot) -> Result<(), AllocError>
+    requires room { byte_count image.old + length spot.now.bytes ≤ most_bytes }
+    requires free { IsFree (byte_at image.old) spot.now.at (length spot.now.bytes) }
+    ensures bytes { OnOk result (PutsBytes (byte_at image.old) (byte_at image.new) spot.now.at spot.now.bytes) }
+    ensures count { OnOk result (byte_count image.new ≡ byte_count image.old + length spot.now.bytes) }
+    ensures start { image.new.start ≡ image.old.start }
+{
+    match image.add(spot.at(), spot.bytes()) {
+        Ok(()) => Ok(()),
+        Err(ImageFault::Memory) => Err(AllocError),
+        Err(_) => unreachable!(),
+    }
+}
