@@ -1,7 +1,9 @@
 pub mod Alone
 pub mod Apart
+pub mod Changed
 pub mod Constants
 pub mod Held
+pub mod ImageProgram
 pub mod InWords
 pub mod Late
 pub mod Plans

@@ -17,6 +17,7 @@ pub mod Effect
 -- a program of them
 pub mod Monitor
 pub mod Machine
+pub mod ImageProgram
 pub mod Bus
 pub mod History
 pub mod Held
