@@ -55,4 +55,12 @@ impl SymbolTable {
         self.symbols.insert(symbol.name, symbol)?;
         Ok(())
     }
+
+    /// The symbols in order of definition.
+    pub fn into_symbols(self, alloc: Global) -> Result<Vec<Symbol>, AllocError>
+        ensures value { IfOk result (λ v. v.items ≡ self) }
+        ensures names { first_repeated self ≡ None }
+    {
+        self.symbols.into_values().collect(alloc)
+    }
 }

@@ -1,0 +1,6 @@
+-- Want of memory as a fault of the assembler: line 0 and column 0.
+use Rattle.m88_asm.specs.declared.fault.AsmFault.{AsmFault}
+use Rattle.m88_asm.specs.declared.fault.AsmKind.TheVariants.{Memory}
+
+abbrev pub memory_fault : AsmFault
+memory_fault = record { line = 0; col = 0; kind = Memory }

@@ -1,0 +1,79 @@
+//! Why a unit can't be assembled.
+ghost use Rattle.std.specs.Prelude.{◌≡◌};
+ghost use Rattle.m88_asm.specs.Fault.{memory_fault};
+
+use m88_base::Name;
+use std::alloc::{AllocError, AllocFailed};
+use std::error::Error;
+use std::fmt;
+
+/// What a statement meets that can't be laid out.
+#[derive(Clone, Copy, PartialEq, Eq, Debug)]
+pub enum AsmKind {
+    /// A name that its module has defined before, with the line of the first definition.
+    Duplicate { name: Name, first: u32 },
+    /// A `.half` off a multiple of 2, a `.word` or an instruction off a multiple of 4.
+    Alignment,
+    /// The section would pass 1,048,576 bytes or address 0xFFFFFFFF.
+    TooLarge,
+    /// Memory ran out.
+    Memory,
+}
+
+impl fmt::Display for AsmKind {
+    fn fmt<W: fmt::Write>(&self, f: &mut fmt::Formatter<W>) -> fmt::Result {
+        match self {
+            AsmKind::Duplicate { name, first } => {
+                f.write_str("duplicate ")?;
+                for byte in name.bytes() {
+                    f.write_char(char::from(*byte))?;
+                }
+                write!(f, " first at {first}")
+            }
+            AsmKind::Alignment => f.write_str("alignment"),
+            AsmKind::TooLarge => f.write_str("too large"),
+            AsmKind::Memory => f.write_str("out of memory"),
+        }
+    }
+}
+
+impl Error for AsmKind {}
+
+/// The first fault of a unit: its line and column, both from 1, and its kind. Want of memory has line 0
+/// and column 0.
+#[derive(Clone, Copy, PartialEq, Eq, Debug)]
+pub struct AsmFault {
+    pub line: u32,
+    pub col: u32,
+    pub kind: AsmKind,
+}
+
+impl fmt::Display for AsmFault {
+    fn fmt<W: fmt::Write>(&self, f: &mut fmt::Formatter<W>) -> fmt::Result {
+        write!(f, "{}:{} {}", self.line, self.col, self.kind)
+    }
+}
+
+impl Error for AsmFault {}
+
+const OUT_OF_MEMORY: AsmFault = AsmFault {
+    line: 0,
+    col: 0,
+    kind: AsmKind::Memory,
+};
+
+impl From<AllocError> for AsmFault {
+    ghost from_gives = { λ _ e. e ≡ memory_fault };
+
+    fn from(_e: AllocError) -> AsmFault {
+        OUT_OF_MEMORY
+    }
+}
+
+impl<T: Drop> From<AllocFailed<T>> for AsmFault {
+    ghost from_gives = { λ _ e. e ≡ memory_fault };
+
+    fn from(_e: AllocFailed<T>) -> AsmFault {
+        OUT_OF_MEMORY
+    }
+}

@@ -1,0 +1,85 @@
+//! The objects of a unit.
+ghost use Rattle.std.specs.Prelude.{◌≡◌, ◌⊎◌, ◌^◌, ◌<◌, [], None, Some, length, map, IfErr, IfOk, OnOk};
+ghost use Rattle.std.specs.List.{All, sum_by};
+ghost use Rattle.m88_parse.specs.WellFormed.{IsFormedModule, IsFormedStatement, IsWellFormed};
+ghost use Rattle.m88_link.specs.Sound.{IsSound};
+ghost use Rattle.m88_asm.specs.Counters.{at_begin, located};
+ghost use Rattle.m88_asm.specs.Drafts.{empty_growth, with_statements};
+ghost use Rattle.m88_asm.specs.Fault.{memory_fault};
+ghost use Rattle.m88_asm.specs.Faults.{IsAssembled, first_fault, module_fault, modules_fault, unit_fault};
+ghost use Rattle.m88_asm.specs.Objects.{object_of, objects_of};
+
+use crate::assembly::Assembly;
+use crate::fault::AsmFault;
+use m88_link::Object;
+use m88_parse::{Module, Statement, Unit};
+use std::alloc::Global;
+
+/// What a module's statements grow to, or the first fault.
+fn lay_out(alloc: Global, line: u32, statements: &[Statement]) -> Result<Assembly, AsmFault>
+    requires formed { All IsFormedStatement statements.now }
+    requires few { length statements.now < 2 ^ 31 }
+    ensures whole { IfOk result (λ a. a ≡ with_statements (empty_growth line) statements.now) }
+    ensures clean { OnOk result (first_fault [] (located at_begin statements.now) ≡ None) }
+    ensures fault { IfErr result (λ e. (e ≡ memory_fault)
+        ⊎ (first_fault [] (located at_begin statements.now) ≡ Some e)) }
+{
+    let mut assembly = Assembly::new(alloc, line)?;
+    for x in statements {
+        match assembly.add(alloc, x) {
+            Ok(()) => {}
+            Err(fault) => return Err(fault),
+        }
+    }
+    Ok(assembly)
+}
+
+/// The object of a module, or the first fault of its statements.
+fn object(alloc: Global, module: &Module) -> Result<Object, AsmFault>
+    requires formed { IsFormedModule «module».now }
+    requires few { length «module».now.statements < 2 ^ 31 }
+    ensures object { IfOk result (λ o. o ≡ object_of «module».now) }
+    ensures sound { IfOk result IsSound }
+    ensures clean { OnOk result (module_fault «module».now ≡ None) }
+    ensures fault { IfErr result (λ e. (e ≡ memory_fault) ⊎ (module_fault «module».now ≡ Some e)) }
+{
+    let statements = module.statements.as_slice();
+    match lay_out(alloc, module.line, statements) {
+        Ok(assembly) => Ok(assembly.into_object(alloc, module.name, statements)?),
+        Err(fault) => Err(fault),
+    }
+}
+
+/// The objects of modules, or the first fault.
+fn objects(alloc: Global, modules: &[Module]) -> Result<Vec<Object>, AsmFault>
+    requires formed { All IsFormedModule modules.now }
+    requires few { sum_by (λ m. length m.statements) modules.now < 2 ^ 31 }
+    ensures objects { IfOk result (λ v. v.items ≡ map object_of modules.now) }
+    ensures sound { IfOk result (λ v. All IsSound v.items) }
+    ensures clean { OnOk result (modules_fault modules.now ≡ None) }
+    ensures fault { IfErr result (λ e. (e ≡ memory_fault) ⊎ (modules_fault modules.now ≡ Some e)) }
+{
+    let mut out = Vec::new(alloc);
+    for part in modules {
+        match object(alloc, part) {
+            Ok(object) => out.push(object)?,
+            Err(fault) => return Err(fault),
+        }
+    }
+    Ok(out)
+}
+
+/// The objects of a unit, one for each module in order, or the first statement's fault: a name that its
+/// module has defined before, words off their alignment, or more than 1,048,576 bytes or address
+/// 0xFFFFFFFF in a section.
+pub fn assemble(alloc: Global, unit: &Unit) -> Result<Vec<Object>, AsmFault>
+    requires { IsWellFormed unit.now }
+    ensures objects { IfOk result (λ v. v.items ≡ objects_of unit.now) }
+    ensures sound { IfOk result (λ v. All IsSound v.items) }
+    // Only a unit none of whose statements meets a fault has objects.
+    ensures accepted { OnOk result (IsAssembled unit.now) }
+    // A fault is the first one, or memory ran out.
+    ensures fault { IfErr result (λ e. (e ≡ memory_fault) ⊎ (unit_fault unit.now ≡ Some e)) }
+{
+    objects(alloc, unit.modules.as_slice())
+}
