@@ -8,5 +8,6 @@ pub mod Known
 pub mod Lines
 pub mod Lookup
 pub mod Placing
+pub mod RegisterBits
 pub mod Same
 pub mod SameRuns

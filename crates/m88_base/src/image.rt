@@ -1,11 +1,12 @@
 //! The bytes of a program at their addresses.
-ghost use Rattle.std.specs.Prelude.{◌≡◌, ◌+◌, ◌^◌, ◌<◌, ◌≤◌, ◌↔◌, ℕ, None, Some, Err, length, slice_get, IfErr, IsTrue, OnOk, OnErr};
+ghost use Rattle.std.specs.Prelude.{◌≡◌, ◌+◌, ◌^◌, ◌<◌, ◌≤◌, ◌↔◌, ℕ, None, Some, Err, length, slice_get, IfErr, IfOk, IsTrue, OnOk, OnErr};
 ghost use Rattle.m88_base.specs.Found.{IsFree, IsLeastTaken, IsPart, PutsBytes};
 ghost use Rattle.m88_base.specs.Placed.{AreApart, byte_among};
 ghost use Rattle.m88_base.specs.Image.{IsImage, IsTooLarge, ProgramImage, WhereOverlap, byte_at, byte_count, most_bytes, parts};
 
+use crate::failing::NoMemory;
 use crate::segment::Segment;
-use crate::segments::{find, first_taken, locate, place};
+use crate::segments::{copied, find, first_taken, locate, place};
 use std::alloc::{AllocError, Global};
 use std::marker::Model;
 use thiserror::Error;
@@ -76,6 +77,19 @@ impl Image {
             len: 0,
             start: 0x1000,
         }
+    }
+
+    /// The same image with bytes of its own.
+    pub fn copy(&self, alloc: Global) -> Result<Image, NoMemory>
+        ensures { IfOk result (λ image. image ≡ self.now) }
+    {
+        let runs = copied(alloc, &self.runs)?;
+        Ok(Image {
+            alloc,
+            runs,
+            len: self.len,
+            start: self.start,
+        })
     }
 
     /// Puts copies of the bytes at the addresses from `at` on.

@@ -51,3 +51,13 @@ impl Reg {
         self.n as usize
     }
 }
+
+impl Default for Reg {
+    ghost use Rattle.m88_base.specs.Reg.{reg_of};
+
+    ghost is_default = { λ r. r ≡ reg_of 0 };
+
+    fn default() -> Reg {
+        Reg::ZERO
+    }
+}

@@ -32,6 +32,13 @@ impl Segment {
         Ok(Segment { at, bytes })
     }
 
+    /// The same run with bytes of its own.
+    pub fn copy(&self, alloc: Global) -> Result<Segment, AllocError>
+        ensures { IfOk result (λ run. run ≡ self.now) }
+    {
+        Segment::new(alloc, self.at, self.bytes())
+    }
+
     /// The address of the first byte.
     pub fn at(&self) -> u32
         ensures { result ≡ self.now.at }

@@ -1,11 +1,22 @@
 //! Runs in ascending order, with an address without a byte between each two.
-ghost use Rattle.std.specs.Prelude.{◌≡◌, ℕ, ◌+◌, ◌-◌, ◌^◌, ◌<◌, ◌≤◌, ◌↔◌, take, drop, length, OnOk, OnErr, IfNone, IfSome, IsTrue, All, vec_len};
+ghost use Rattle.std.specs.Prelude.{◌≡◌, ℕ, ◌+◌, ◌-◌, ◌^◌, ◌<◌, ◌≤◌, ◌↔◌, take, drop, length, IfOk, OnOk, OnErr, IfNone, IfSome, IsTrue, All, vec_len};
 ghost use Rattle.m88_base.specs.Found.{IsLeastTaken};
 ghost use Rattle.m88_base.specs.Placed.{AreApart, byte_among};
 ghost use Rattle.m88_base.specs.Placing.{BeginsAt, Places, next_start};
 
 use crate::segment::Segment;
 use std::alloc::{AllocError, Global};
+
+/// The same runs, each with bytes of its own.
+pub fn copied(alloc: Global, runs: &[Segment]) -> Result<Vec<Segment>, AllocError>
+    ensures { IfOk result (λ copy. copy.items ≡ runs.now) }
+{
+    let mut copy = Vec::new(alloc);
+    for run in runs {
+        copy.push(run.copy(alloc)?)?;
+    }
+    Ok(copy)
+}
 
 /// The number of runs that begin at or below an address.
 pub fn locate(runs: &[Segment], at: u32) -> usize

@@ -1,7 +1,7 @@
 -- The three words that the data unit keeps of an access, DMT, DMD and DMA, bit by bit ("Control Registers": data unit
 -- transaction registers). That BO and DAS, bits 15 and 14 of DMT, are never set is this project's profile: memory is
 -- big-endian and programs run in user mode.
-use Rattle.std.specs.Prelude.{ℕ, Bool, List, [], ◌∷◌, Option, Some, None, ◌+◌, ◌*◌, ◌/◌, ◌%◌, ◌^◌, ◌==◌, slice_get}
+use Rattle.std.specs.Prelude.{ℕ, Bool, List, [], ◌∷◌, Option, Some, None, ◌+◌, ◌*◌, ◌/◌, ◌%◌, ◌^◌, ◌==◌, slice_get, if◌then◌else◌}
 use Rattle.std.specs.Int.{bit_at}
 use Rattle.m88_base.specs.declared.triple.Triple.{Triple}
 use Rattle.m88_base.specs.Reg.{number_of, reg_of}
@@ -52,3 +52,8 @@ access_in t = record {
   lock = bit_at t.dmt 12 == 1;
   value = t.dmd;
 }
+
+-- the accesses of those of some triples that are valid, in order
+abbrev pub accesses_in : List Triple → List Access
+accesses_in [] = []
+accesses_in (t ∷ triples) = if is_valid_triple t then access_in t ∷ accesses_in triples else accesses_in triples

@@ -38,7 +38,7 @@ pub struct Accesses {
 }
 
 /// One access to a word of data memory, as the data unit's registers describe it.
-#[derive(Clone, Copy, PartialEq, Eq, Debug)]
+#[derive(Clone, Copy, PartialEq, Eq, Default, Debug)]
 pub struct Access {
     /// Whether it is a store.
     pub write: bool,

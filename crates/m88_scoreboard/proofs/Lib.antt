@@ -1,2 +1,1 @@
-pub mod RegisterBits
 pub mod Waits

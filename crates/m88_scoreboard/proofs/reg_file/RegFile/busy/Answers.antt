@@ -2,7 +2,7 @@ use Rattle.std.proofs.Common.{◌≡◌, false, refl, arith, slice_index_or, ◌
 use Rattle.std.proofs.Math.ListN.{get_or-eq_default}
 use Rattle.m88_scoreboard.specs.Registers.{waiting_of}
 use Rattle.m88_base.specs.RegisterSet.{bits_below, register_bits, registers_in}
-use Rattle.m88_scoreboard.proofs.RegisterBits.{bits_with_member, bits_without_member, bits_fit, bits_name_set, weight_fits}
+use Rattle.m88_base.proofs.RegisterBits.{bits_with_member, bits_without_member, bits_fit, bits_name_set, weight_fits}
 use Rattle.m88_scoreboard.proofs.reg_file.RegFile.busy.Goals as goal
 use Rattle.m88_scoreboard.proofs.reg_file.RegFile.busy.Goals.{then-self-r, else-self-r}
 

@@ -2,8 +2,9 @@
 use Rattle.std.proofs.Common.{◌≡◌, ℕ, zero, suc, ◌+◌, ◌-◌, ◌*◌, ◌%◌, ◌^◌, ◌<◌, ◌≤◌, Bool, true, false, ◌==◌, if◌then◌else◌, refl, arith, ◌∙◌, sym, ap, lit<, inl, inr, subst, add-one}
 use Rattle.std.proofs.Math.Path.{fun_ext}
 use Rattle.std.proofs.lemmas.Bool.{cases_lt}
+use Rattle.std.proofs.lemmas.Bool.Decides.{nat_tests}
 use Rattle.std.proofs.lemmas.Nat.{pow_below}
-use Rattle.std.proofs.lemmas.Nat.Bits.{bit_at_above, bit_at_cat_high, bit_at_cat_low}
+use Rattle.std.proofs.lemmas.Nat.Bits.{bit_at-lt, bit_at_above, bit_at_cat_high, bit_at_cat_low}
 use Rattle.std.proofs.Math.Nat.{mod-eq_of_lt, pow-suc, pow-le-pow_right, sub_self}
 use Rattle.std.specs.Int.{bit_at}
 use Rattle.m88_base.specs.RegisterSet.{bits_below, register_bits, registers_in}
@@ -75,3 +76,17 @@ bits_name_set set z above = fun_ext (λ k. named k)
           | inl l ↦ bit_of_member set 32 (suc k) l
           | inr g ↦ ap (λ m. m == 1) (bit_at_above (bits_below set 32) 32 (suc k) (bits_below-lt set 32) g) ∙ sym (above (suc k) g)
         ]
+
+-- a bit as a number
+bit_number : (n k : ℕ) (b : Bool) → (bit_at n k == 1) ≡ b → bit_at n k ≡ (if b then 1 else 0)
+bit_number n k true e = grind (arith, nat_tests)
+bit_number n k false e = let two : bit_at n k < 2 = bit_at-lt n k in grind (arith, nat_tests)
+
+-- the word of a set has the bits of its members below 32, and no others
+pub bit_of_set : (set : ℕ → Bool) → ((k : ℕ) → 32 ≤ k → set k ≡ false) → (k : ℕ) →
+    bit_at (register_bits set) k ≡ (if set k then 1 else 0)
+bit_of_set set above k =
+    elim (cases_lt k 32) [
+      | inl l ↦ bit_number (bits_below set 32) k (set k) (bit_of_member set 32 k l)
+      | inr g ↦ bit_at_above (bits_below set 32) 32 k (bits_below-lt set 32) g ∙ sym (ap (λ b. if b then 1 else 0) (above k g))
+    ]

@@ -1,0 +1,194 @@
+//! The words of transactions as fault records of worked programs show them.
+ghost use Rattle.std.specs.Prelude.{◌≡◌, ◌%◌};
+ghost use Rattle.m88_isa.specs.Memory.{IsWordAccess};
+ghost use Rattle.m88_dunit.specs.Pending.{CanIssue};
+
+use crate::{DataUnit, Full};
+use m88_base::{Reg, Triple};
+use m88_isa::{Access, Accesses};
+
+const NONE: Triple = Triple {
+    dmt: 0,
+    dmd: 0,
+    dma: 0,
+};
+
+/// A load of a word.
+fn load(register: u32, addr: u32) -> Access
+    requires { addr % 4 ≡ 0 }
+    ensures { IsWordAccess result }
+{
+    Access {
+        write: false,
+        addr,
+        en: 15,
+        reg: Reg::from_low_bits(register),
+        signed: false,
+        doub1: false,
+        lock: false,
+        value: 0,
+    }
+}
+
+/// A store of a word.
+fn store(value: u32, addr: u32) -> Access
+    requires { addr % 4 ≡ 0 }
+    ensures { IsWordAccess result }
+{
+    Access {
+        write: true,
+        addr,
+        en: 15,
+        reg: Reg::ZERO,
+        signed: false,
+        doub1: false,
+        lock: false,
+        value,
+    }
+}
+
+/// One access.
+fn one(first: Access) -> Accesses
+    requires { IsWordAccess first }
+    ensures { CanIssue result }
+{
+    Accesses {
+        count: 1,
+        first,
+        second: first,
+    }
+}
+
+/// Two accesses.
+fn two(first: Access, second: Access) -> Accesses
+    requires first { IsWordAccess first }
+    requires second { IsWordAccess second }
+    ensures { CanIssue result }
+{
+    Accesses {
+        count: 2,
+        first,
+        second,
+    }
+}
+
+#[test]
+fn three_loads_fill_the_unit(rt: HostRuntime) {
+    let mut unit = DataUnit::new();
+    assert_eq!(rt; unit.issue(&one(load(2, 0x5000))), Ok(()));
+    assert_eq!(rt; unit.issue(&one(load(3, 0x6000))), Ok(()));
+    assert_eq!(rt; unit.room(), 1);
+    assert_eq!(rt;
+        unit.issue(&two(load(5, 0x8000), load(6, 0x8004))),
+        Err(Full)
+    );
+    assert_eq!(rt; unit.issue(&one(load(4, 0x7000))), Ok(()));
+    assert_eq!(rt; unit.pending_regs(), 0x1C);
+    assert_eq!(rt;
+        unit.triples(),
+        [
+            Triple {
+                dmt: 0x13D,
+                dmd: 0,
+                dma: 0x5000
+            },
+            Triple {
+                dmt: 0x1BD,
+                dmd: 0,
+                dma: 0x6000
+            },
+            Triple {
+                dmt: 0x23D,
+                dmd: 0,
+                dma: 0x7000
+            },
+        ]
+    );
+    if unit.oldest().is_some() {
+        unit.retire();
+    }
+    assert_eq!(rt; unit.oldest(), Some(load(3, 0x6000)));
+    assert_eq!(rt; unit.room(), 1);
+}
+
+#[test]
+fn words_of_a_double_an_exchange_and_a_store(rt: HostRuntime) {
+    let double = two(
+        Access {
+            doub1: true,
+            ..load(31, 0x2000)
+        },
+        load(0, 0x2004),
+    );
+    let exchange = two(
+        Access {
+            lock: true,
+            ..load(2, 0x5000)
+        },
+        Access {
+            lock: true,
+            ..store(5, 0x5000)
+        },
+    );
+    let stores = two(store(7, 0x5000), store(7, 0x6000));
+    let rows = [
+        (
+            double,
+            0x8000_0000,
+            [
+                Triple {
+                    dmt: 0x2FBD,
+                    dmd: 0,
+                    dma: 0x2000,
+                },
+                Triple {
+                    dmt: 0x3D,
+                    dmd: 0,
+                    dma: 0x2004,
+                },
+                NONE,
+            ],
+        ),
+        (
+            exchange,
+            4,
+            [
+                Triple {
+                    dmt: 0x113D,
+                    dmd: 0,
+                    dma: 0x5000,
+                },
+                Triple {
+                    dmt: 0x103F,
+                    dmd: 5,
+                    dma: 0x5000,
+                },
+                NONE,
+            ],
+        ),
+        (
+            stores,
+            0,
+            [
+                Triple {
+                    dmt: 0x3F,
+                    dmd: 7,
+                    dma: 0x5000,
+                },
+                Triple {
+                    dmt: 0x3F,
+                    dmd: 7,
+                    dma: 0x6000,
+                },
+                NONE,
+            ],
+        ),
+    ];
+    for (accesses, waiting, words) in rows {
+        let mut unit = DataUnit::new();
+        assert_eq!(rt; unit.issue(&accesses), Ok(()));
+        assert_eq!(rt; unit.pending_regs(), waiting);
+        assert_eq!(rt; unit.freeze(), words);
+        assert_eq!(rt; unit.room(), 3);
+    }
+}
