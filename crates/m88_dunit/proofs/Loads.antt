@@ -11,7 +11,7 @@ use Rattle.m88_base.specs.Reg.{number_of}
 use Rattle.m88_isa.proofs.Alone.{by_test}
 use Rattle.m88_isa.proofs.Late.{beyond_waits_not}
 use Rattle.m88_dunit.specs.Pending.{ArePending, loaded_set}
-use Rattle.m88_isa.specs.Bus.{loads, waiting_set, waits_for}
+use Rattle.m88_isa.specs.Bus.{loads, waits_for}
 use Rattle.m88_isa.specs.Operands.{bit_of}
 use Rattle.m88_isa.specs.declared.planned.Access.{Access}
 
@@ -52,28 +52,38 @@ bit_of_load a r = by_test a.write
     (λ w. rw w (bit_at-zero r))
     (λ l. rw l (number_bit (number_of a.reg) r))
 
-bit_of_loads : (xs : List Access) (r : ℕ) → bit_at (waiting_set xs) r ≡ as_number (waits_for xs r)
-unfolding waiting_set waits_for
+-- the bits of all of them together
+loads_word : List Access → ℕ
+loads_word [] = 0
+loads_word (a ∷ xs) = bit_or (if a.write then 0 else bit_of a.reg) (loads_word xs)
+
+bit_of_loads : (xs : List Access) (r : ℕ) → bit_at (loads_word xs) r ≡ as_number (waits_for xs r)
+unfolding loads_word waits_for
 bit_of_loads [] r = bit_at-zero r
 bit_of_loads (a ∷ xs) r =
-    bit_at_or (if a.write then 0 else bit_of a.reg) (waiting_set xs) r
-    ∙ ap (λ n. max n (bit_at (waiting_set xs) r)) (bit_of_load a r)
+    bit_at_or (if a.write then 0 else bit_of a.reg) (loads_word xs) r
+    ∙ ap (λ n. max n (bit_at (loads_word xs) r)) (bit_of_load a r)
     ∙ ap (max (as_number (loads a r))) (bit_of_loads xs r)
     ∙ greater_of (loads a r) (waits_for xs r)
 
 -- the word is that of the set of the registers that wait
-pub loads_as_set : (xs : List Access) → waiting_set xs ≡ register_bits (waits_for xs)
-loads_as_set xs = same_from_bits (waiting_set xs) (register_bits (waits_for xs)) (λ i.
+loads_as_set : (xs : List Access) → loads_word xs ≡ register_bits (waits_for xs)
+loads_as_set xs = same_from_bits (loads_word xs) (register_bits (waits_for xs)) (λ i.
     bit_of_loads xs i ∙ sym (bit_of_set (waits_for xs) (beyond_waits_not xs) i))
 
 -- the word of at most three accesses, from their places
-pub loads_by_place : (xs : List Access) → ArePending xs →
-    bit_or (loaded_set (slice_get xs 0)) (bit_or (loaded_set (slice_get xs 1)) (loaded_set (slice_get xs 2))) ≡ waiting_set xs
-unfolding waiting_set
-loads_by_place [] h = refl
-loads_by_place (a ∷ []) h = refl
-loads_by_place (a ∷ b ∷ []) h = refl
-loads_by_place (a ∷ b ∷ c ∷ []) h =
+by_place : (xs : List Access) → ArePending xs →
+    bit_or (loaded_set (slice_get xs 0)) (bit_or (loaded_set (slice_get xs 1)) (loaded_set (slice_get xs 2))) ≡ loads_word xs
+unfolding loads_word
+by_place [] h = refl
+by_place (a ∷ []) h = refl
+by_place (a ∷ b ∷ []) h = refl
+by_place (a ∷ b ∷ c ∷ []) h =
     let e : bit_or (loaded_set (Some c)) 0 ≡ loaded_set (Some c) = or_zero_r (loaded_set (Some c)) in
     ap (λ n. bit_or (loaded_set (Some a)) (bit_or (loaded_set (Some b)) n)) (sym e)
-loads_by_place (a ∷ b ∷ c ∷ d ∷ xs) h = absurd (omega (arith, h.few))
+by_place (a ∷ b ∷ c ∷ d ∷ xs) h = absurd (omega (arith, h.few))
+
+pub loads_by_place : (xs : List Access) → ArePending xs →
+    bit_or (loaded_set (slice_get xs 0)) (bit_or (loaded_set (slice_get xs 1)) (loaded_set (slice_get xs 2)))
+    ≡ register_bits (waits_for xs)
+loads_by_place xs h = by_place xs h ∙ loads_as_set xs

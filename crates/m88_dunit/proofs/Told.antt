@@ -1,5 +1,5 @@
 -- The words of an access tell the access.
-use Rattle.std.proofs.Common.{◌≡◌, ℕ, ◌+◌, ◌*◌, ◌/◌, ◌%◌, ◌^◌, ◌<◌, ◌≤◌, ◌==◌, Bool, true, false, List, [], ◌∷◌, length, All, refl, arith, lit<, ap, sym, ◌∙◌}
+use Rattle.std.proofs.Common.{◌≡◌, ℕ, ◌+◌, ◌*◌, ◌/◌, ◌%◌, ◌^◌, ◌<◌, ◌≤◌, ◌==◌, Bool, true, false, List, [], ◌∷◌, refl, arith, lit<, ap, ◌∙◌}
 use Rattle.std.specs.Int.{bit_at}
 use Rattle.m88_base.proofs.Same.{same_reg}
 use Rattle.m88_base.specs.Reg.{number_of, reg_of}

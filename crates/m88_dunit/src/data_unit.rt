@@ -1,7 +1,7 @@
 //! The stages of the data unit.
 ghost use Rattle.std.specs.Prelude.{◌≡◌, ◌+◌, ◌<◌, ◌≤◌, ◌↔◌, ◌++◌, [], drop, length, slice_get, IfSome, IsErr, OnErr, OnOk};
 ghost use Rattle.m88_base.specs.RegisterSet.{register_bits};
-ghost use Rattle.m88_isa.specs.Bus.{listed, waiting_set, waits_for};
+ghost use Rattle.m88_isa.specs.Bus.{listed, waits_for};
 ghost use Rattle.m88_isa.specs.Held.{most_pending};
 ghost use Rattle.m88_isa.specs.Memory.{IsWordAccess};
 ghost use Rattle.m88_isa.specs.Triples.{accesses_in, triples_of};
@@ -62,8 +62,7 @@ impl DataUnit {
 
     /// The registers other than r0 that the pending transactions load, a bit for each.
     pub fn pending_regs(&self) -> u32
-        ensures value { result ≡ waiting_set self.now }
-        ensures set { result ≡ register_bits (waits_for self.now) }
+        ensures { result ≡ register_bits (waits_for self.now) }
     {
         let stages = self.stages();
         let first = loaded_set(stage(stages, 0));

@@ -1,4 +1,4 @@
-use Rattle.std.proofs.Common.{◌≡◌, ◌<◌, arith, length-append}
+use Rattle.std.proofs.Common.{arith, length-append}
 use Rattle.std.proofs.lemmas.List.Elements.{All-push}
 use Rattle.m88_isa.specs.Memory.{IsWordAccess}
 use Rattle.m88_dunit.proofs.data_unit.DataUnit.issue.Goals as goal

@@ -1,4 +1,4 @@
-use Rattle.std.proofs.Common.{◌≡◌, ◌∙◌, ap}
+use Rattle.std.proofs.Common.{◌∙◌, ap}
 use Rattle.m88_isa.specs.Triples.{accesses_in}
 use Rattle.m88_dunit.proofs.Told.{told_all}
 use Rattle.m88_dunit.proofs.data_unit.DataUnit.triples.Goals as goal
