@@ -1,0 +1,9 @@
+pub mod Cases
+pub mod Framing
+pub mod Free
+pub mod Reading
+pub mod Law
+pub mod Cutting
+pub mod Spelled
+pub mod Trip
+pub mod Turns

@@ -1,0 +1,329 @@
+-- The text that is written for an image is accepted and writes that image.
+use Rattle.std.proofs.Common.{◌≡◌, ℕ, zero, suc, ◌+◌, ◌-◌, ◌^◌, ◌<◌, ◌≤◌, min, true, List, [], ◌∷◌, ◌++◌, length, get_or, take, drop, sym, refl, ap, ◌∙◌, subst, append_assoc, length-append, take-append-drop, arith, inl, inr}
+use Rattle.std.specs.Prelude.{Option, Some, None, IfSome, codes, slice_get}
+use Rattle.std.proofs.lemmas.Option.{slice_get-get_or}
+use Rattle.std.specs.Int.{to_be_bytes, w32}
+use Rattle.std.specs.List.{flat_map}
+use Rattle.std.specs.Option.{option_or}
+use Rattle.std.proofs.lemmas.List.{length-drop, length-take-le}
+use Rattle.std.proofs.lemmas.List.Sums.{sum_by-cons}
+use mathlib.Core.Path.{fun_ext}
+use Rattle.m88_base.specs.Image.{IsImage, ProgramImage, byte_at, byte_count, parts}
+use Rattle.m88_base.specs.Found.{FindsBytes}
+use Rattle.m88_base.proofs.Apart.{none_below}
+use Rattle.m88_base.specs.Placed.{AreApart, Placed, byte_among, byte_in, count_among}
+use Rattle.m88_base.specs.Image.{most_bytes}
+use Rattle.m88_base.proofs.Lookup.{byte_in-join, byte_in_from, byte_in_above, byte_in_below, option_or-none, option_or_assoc}
+use Rattle.std.proofs.lemmas.Bool.{cases_lt}
+use Rattle.m88_srec.specs.Accepted.{WriteEntries, ComeTo, Fits, IsAccepted, empty_line, ended, entry_line, filled, headed, no_line, number_of_bytes, whole_of}
+use Rattle.m88_base.specs.Hex.{hex2}
+use Rattle.m88_srec.specs.Placing.{Loaded, nothing_loaded, with_data}
+use Rattle.m88_srec.specs.Records.{Entry, WritesEntry, check_of, counted, framed, is_bare, record_type, type_of}
+use Rattle.m88_srec.specs.Written.{data_line, data_lines, last_line, header_line, lines_for, part_lines, record_line, srec_text}
+use Rattle.m88_srec.specs.declared.purpose.Purpose.TheVariants.{Header, Data, End}
+use Rattle.m88_srec.proofs.Cutting.{next_line}
+use Rattle.m88_srec.proofs.Spelled.{AllInner, AreBytes, AreInner, bytes_of_digits, digits_are_inner, lines_of_text, pairs_of_bytes}
+
+-- bytes one behind the other
+bytes_append : (xs ys : List ℕ) → AreBytes xs → AreBytes ys → AreBytes (xs ++ ys)
+bytes_append [] ys h k = k
+bytes_append (x ∷ xs) ys h k = (h.0, bytes_append xs ys h.1 k)
+
+frame_bytes : (body : List ℕ) → length body ≤ 254 → AreBytes body → AreBytes (framed body)
+frame_bytes body small h =
+    bytes_append (counted body) (check_of (counted body) ∷ []) (omega arith, h) (omega arith, tt)
+
+-- a line that is written writes its entry
+line_of_entry : (entry : Entry) (digit : ℕ) → type_of digit ≡ record_type entry.purpose (length entry.address)
+    → AreBytes (framed (entry.address ++ entry.given)) → (is_bare entry.purpose ≡ true → entry.given ≡ [])
+    → WritesEntry entry (record_line digit (entry.address ++ entry.given))
+unfolding record_line
+line_of_entry entry digit type_is bytes bare = record {
+  digit = digit;
+  digits = flat_map hex2 (framed (entry.address ++ entry.given));
+  line_is = refl;
+  type_is = type_is;
+  pairs = pairs_of_bytes (framed (entry.address ++ entry.given));
+  bytes = bytes_of_digits (framed (entry.address ++ entry.given)) bytes;
+  bare = bare;
+}
+
+-- an address in four bytes
+address_bytes : (n : ℕ) → AreBytes (to_be_bytes w32 n)
+address_bytes n = (omega arith, (omega arith, (omega arith, (omega arith, tt))))
+
+address_number : (n : ℕ) → n < 2 ^ 32 → number_of_bytes (to_be_bytes w32 n) ≡ n
+address_number n h = omega arith
+
+-- the entries of a text
+abbrev header_entry : Entry
+header_entry = record { purpose = Header; address = 0 ∷ 0 ∷ []; given = codes "M88" }
+
+abbrev data_entry : ℕ → List ℕ → Entry
+data_entry at given = record { purpose = Data; address = to_be_bytes w32 at; given = given }
+
+abbrev end_entry : ℕ → Entry
+end_entry start = record { purpose = End; address = to_be_bytes w32 start; given = [] }
+
+header_written : WritesEntry header_entry header_line
+header_written =
+    line_of_entry header_entry 48 refl
+    (frame_bytes (0 ∷ 0 ∷ codes "M88") (omega arith) (omega arith, (omega arith, (omega arith, (omega arith, (omega arith, tt))))))
+    (λ h. absurd cc)
+
+data_written : (at : ℕ) (given : List ℕ) → length given ≤ 16 → AreBytes given → WritesEntry (data_entry at given) (data_line at given)
+data_written at given small h =
+    line_of_entry (data_entry at given) 51 refl
+    (frame_bytes (to_be_bytes w32 at ++ given) (omega arith) (bytes_append (to_be_bytes w32 at) given (address_bytes at) h))
+    (λ e. absurd cc)
+
+end_written : (start : ℕ) → WritesEntry (end_entry start) (last_line start)
+end_written start =
+    line_of_entry (end_entry start) 55 refl (frame_bytes (to_be_bytes w32 start) (omega arith) (address_bytes start)) (λ e. refl)
+
+-- lines one behind the other
+lines_append : (es fs : List Entry) (ls ms : List (List ℕ)) → WriteEntries es ls → WriteEntries fs ms → WriteEntries (es ++ fs) (ls ++ ms)
+lines_append [] fs [] ms no_line more = more
+lines_append (e ∷ es) fs [] ms nothing more = elim nothing [ ]
+lines_append es fs ([] ∷ ls) ms (empty_line rest) more = empty_line (lines_append es fs ls ms rest more)
+lines_append (e ∷ es) fs (l ∷ ls) ms (entry_line written rest) more = entry_line written (lines_append es fs ls ms rest more)
+lines_append [] fs ((b ∷ bs) ∷ ls) ms nothing more = elim nothing [ ]
+
+-- lines that lead from what was loaded to more
+record Leads (lines : List (List ℕ)) (loaded later : Loaded) : Type 0 where
+  entries : List Entry
+  written : WriteEntries entries lines
+  leads : (n start : ℕ) (rest : List Entry) (last : Loaded)
+      → ((m : ℕ) → ComeTo later m rest last start) → ComeTo loaded n (entries ++ rest) last start
+
+stays : (loaded : Loaded) → Leads [] loaded loaded
+stays loaded = record { entries = []; written = no_line; leads = λ n start rest last on. on n }
+
+joined : (ls ms : List (List ℕ)) (loaded middle later : Loaded) → Leads ls loaded middle → Leads ms middle later → Leads (ls ++ ms) loaded later
+joined ls ms loaded middle later a b = record {
+  entries = a.entries ++ b.entries;
+  written = lines_append a.entries b.entries ls ms a.written b.written;
+  leads = λ n start rest last on.
+      subst (λ (es : List Entry). ComeTo loaded n es last start) (sym (append_assoc a.entries b.entries rest))
+      (a.leads n start (b.entries ++ rest) last (λ m. b.leads m start rest last on));
+}
+
+-- one line of data
+one_line : (at : ℕ) (given : List ℕ) (loaded : Loaded) → 0 < length given → at + length given ≤ 2 ^ 32 → loaded.count + length given ≤ most_bytes
+    → ((a : ℕ) → at ≤ a → loaded.found a ≡ None) → length given ≤ 16 → AreBytes given
+    → Leads (data_line at given ∷ []) loaded (with_data at given loaded)
+one_line at given loaded some below few free small h =
+    let e : number_of_bytes (to_be_bytes w32 at) ≡ at = address_number at (omega arith) in
+    let fits : Fits (data_entry at given) loaded = record {
+      below = subst (λ (k : ℕ). k + length given ≤ 2 ^ 32) (sym e) below;
+      few = few;
+      free = λ a within. free a (subst (λ (k : ℕ). k ≤ a) e within.0);
+    } in
+    record {
+      entries = data_entry at given ∷ [];
+      written = entry_line (data_written at given small h) no_line;
+      leads = λ n start rest last on.
+          filled refl fits (subst (λ (k : ℕ). ComeTo (with_data k given loaded) (n + 1) rest last start) (sym e) (on (n + 1)));
+    }
+
+-- bytes behind bytes
+behind : (at next : ℕ) (xs ys : List ℕ) (loaded : Loaded) → at + length xs ≡ next
+    → with_data next ys (with_data at xs loaded) ≡ with_data at (xs ++ ys) loaded
+behind at next xs ys loaded e =
+    let found : (with_data next ys (with_data at xs loaded)).found ≡ (with_data at (xs ++ ys) loaded).found =
+    fun_ext (λ a. option_or_assoc (loaded.found a) (byte_in (record { at = at; bytes = xs }) a) (byte_in (record { at = next; bytes = ys }) a)
+    ∙ ap (option_or (loaded.found a)) (sym (byte_in-join at xs ys next a e))) in
+    let count : loaded.count + length xs + length ys ≡ loaded.count + length (xs ++ ys) = omega (arith, length-append xs ys) in
+    λ i. record { found = found i; count = count i }
+
+none_in : (at a : ℕ) → byte_in (record { at = at; bytes = [] }) a ≡ None
+none_in at a =
+    elim (cases_lt a at) [
+      | inl low ↦ byte_in_below (record { at = at; bytes = [] }) a low
+      | inr from ↦ byte_in_above (record { at = at; bytes = [] }) a (omega (arith, from))
+    ]
+
+no_data : (at : ℕ) (loaded : Loaded) → loaded ≡ with_data at [] loaded
+no_data at loaded =
+    let found : loaded.found ≡ (with_data at [] loaded).found =
+    fun_ext (λ a. sym (ap (option_or (loaded.found a)) (none_in at a) ∙ option_or-none (loaded.found a))) in
+    let count : loaded.count ≡ loaded.count + 0 = omega arith in
+    λ i. record { found = found i; count = count i }
+
+bytes_take : (n : ℕ) (xs : List ℕ) → AreBytes xs → AreBytes (take n xs)
+bytes_take zero xs h = tt
+bytes_take (suc n) [] h = tt
+bytes_take (suc n) (x ∷ xs) h = (h.0, bytes_take n xs h.1)
+
+bytes_drop : (n : ℕ) (xs : List ℕ) → AreBytes xs → AreBytes (drop n xs)
+bytes_drop zero xs h = h
+bytes_drop (suc n) [] h = tt
+bytes_drop (suc n) (x ∷ xs) h = bytes_drop n xs h.1
+
+-- nothing is found behind bytes
+free_behind : (at next : ℕ) (xs : List ℕ) (loaded : Loaded) → at + length xs ≤ next → ((a : ℕ) → at ≤ a → loaded.found a ≡ None)
+    → (a : ℕ) → next ≤ a → (with_data at xs loaded).found a ≡ None
+free_behind at next xs loaded e free a h =
+    ap (λ o. option_or o (byte_in (record { at = at; bytes = xs }) a)) (free a (omega arith))
+    ∙ byte_in_above (record { at = at; bytes = xs }) a (omega arith)
+
+-- a line of data, and the lines behind it
+some_data : (fuel at n : ℕ) (bytes : List ℕ) (loaded : Loaded) → n ≡ min (length bytes) 16 → 0 < length bytes → length bytes ≤ suc fuel
+    → at + length bytes ≤ 2 ^ 32 → loaded.count + length bytes ≤ most_bytes → ((a : ℕ) → at ≤ a → loaded.found a ≡ None) → AreBytes bytes
+    → Leads (data_lines 0 (at + n) (drop n bytes)) (with_data at (take n bytes) loaded) (with_data (at + n) (drop n bytes) (with_data at (take n bytes) loaded))
+    → Leads (data_lines 0 at bytes) loaded (with_data at bytes loaded)
+some_data fuel at n bytes loaded n_is some fits below few free h rest =
+    let size : length (take n bytes) ≡ n = length-take-le n bytes (omega arith) in
+    let first = one_line at (take n bytes) loaded (omega arith) (omega arith) (omega arith) free (omega arith) (bytes_take n bytes h) in
+    let both = joined (data_line at (take n bytes) ∷ []) (data_lines 0 (at + n) (drop n bytes)) loaded (with_data at (take n bytes) loaded)
+    (with_data (at + n) (drop n bytes) (with_data at (take n bytes) loaded)) first rest in
+    let lines = next_line at n bytes some n_is in
+    let whole : with_data (at + n) (drop n bytes) (with_data at (take n bytes) loaded) ≡ with_data at bytes loaded =
+    behind at (at + n) (take n bytes) (drop n bytes) loaded (omega arith) ∙ ap (λ (xs : List ℕ). with_data at xs loaded) (take-append-drop n bytes) in
+    subst (λ (later : Loaded). Leads (data_lines 0 at bytes) loaded later) whole
+    (subst (λ (ls : List (List ℕ)). Leads ls loaded (with_data (at + n) (drop n bytes) (with_data at (take n bytes) loaded))) (sym lines) both)
+
+data_leads : (fuel at : ℕ) (bytes : List ℕ) (loaded : Loaded) → length bytes ≤ fuel → at + length bytes ≤ 2 ^ 32
+    → loaded.count + length bytes ≤ most_bytes → ((a : ℕ) → at ≤ a → loaded.found a ≡ None) → AreBytes bytes
+    → Leads (data_lines 0 at bytes) loaded (with_data at bytes loaded)
+unfolding data_lines
+data_leads fuel at [] loaded fits below few free h = subst (λ (later : Loaded). Leads [] loaded later) (no_data at loaded) (stays loaded)
+data_leads zero at (b ∷ bs) loaded fits below few free h = absurd (omega arith)
+data_leads (suc fuel) at (b ∷ bs) loaded fits below few free h =
+    let n : ℕ = min (length (b ∷ bs)) 16 in
+    let n_is : n ≡ min (length (b ∷ bs)) 16 = refl in
+    let size : length (take n (b ∷ bs)) ≡ n = length-take-le n (b ∷ bs) (omega arith) in
+    let left = length-drop n (b ∷ bs) in
+    let rest = data_leads fuel (at + n) (drop n (b ∷ bs)) (with_data at (take n (b ∷ bs)) loaded) (omega arith) (omega arith) (omega arith)
+    (free_behind at (at + n) (take n (b ∷ bs)) loaded (omega arith) free) (bytes_drop n (b ∷ bs) h) in
+    some_data fuel at n (b ∷ bs) loaded n_is (omega arith) fits below few free h rest
+
+-- parts, each of bytes and below the last address
+abbrev pub ArePieces : List Placed → Type 0
+ArePieces [] = Unit {0}
+ArePieces (p ∷ ps) = AreBytes p.bytes × (p.at + length p.bytes ≤ 2 ^ 32) × ArePieces ps
+
+-- what was loaded, with parts behind it
+abbrev with_parts : List Placed → Loaded → Loaded
+with_parts ps loaded = record {
+  found = λ a. option_or (loaded.found a) (byte_among ps a);
+  count = loaded.count + count_among ps;
+}
+
+no_parts : (loaded : Loaded) → loaded ≡ with_parts [] loaded
+no_parts loaded =
+    let found : loaded.found ≡ (with_parts [] loaded).found = fun_ext (λ a. sym (option_or-none (loaded.found a))) in
+    let count : loaded.count ≡ loaded.count + 0 = omega arith in
+    λ i. record { found = found i; count = count i }
+
+one_more_part : (p : Placed) (ps : List Placed) (loaded : Loaded) → with_parts ps (with_data p.at p.bytes loaded) ≡ with_parts (p ∷ ps) loaded
+one_more_part p ps loaded =
+    let found : (with_parts ps (with_data p.at p.bytes loaded)).found ≡ (with_parts (p ∷ ps) loaded).found =
+    fun_ext (λ a. option_or_assoc (loaded.found a) (byte_in p a) (byte_among ps a)) in
+    let count : loaded.count + length p.bytes + count_among ps ≡ loaded.count + count_among (p ∷ ps) =
+    omega (arith, sum_by-cons (λ (q : Placed). length q.bytes) p ps) in
+    λ i. record { found = found i; count = count i }
+
+-- the lines of parts lead to them
+parts_lead : (from : ℕ) (ps : List Placed) (loaded : Loaded) → AreApart from ps → ArePieces ps
+    → loaded.count + count_among ps ≤ most_bytes → ((a : ℕ) → from ≤ a → loaded.found a ≡ None)
+    → Leads (flat_map part_lines ps) loaded (with_parts ps loaded)
+parts_lead from [] loaded apart pieces few free = subst (λ (later : Loaded). Leads [] loaded later) (no_parts loaded) (stays loaded)
+parts_lead from (p ∷ ps) loaded apart pieces few free =
+    let low : from ≤ p.at = apart.0 in
+    let size = sum_by-cons (λ (q : Placed). length q.bytes) p ps in
+    let free_here : (a : ℕ) → p.at ≤ a → loaded.found a ≡ None = λ a h. free a (omega arith) in
+    let first = data_leads (length p.bytes) p.at p.bytes loaded (omega arith) pieces.1 (omega (arith, size)) free_here pieces.0 in
+    let rest = parts_lead (p.at + length p.bytes + 1) ps (with_data p.at p.bytes loaded) apart.2 pieces.2 (omega (arith, size))
+    (free_behind p.at (p.at + length p.bytes + 1) p.bytes loaded (omega arith) free_here) in
+    subst (λ (later : Loaded). Leads (flat_map part_lines (p ∷ ps)) loaded later) (one_more_part p ps loaded)
+    (joined (part_lines p) (flat_map part_lines ps) loaded (with_data p.at p.bytes loaded) (with_parts ps (with_data p.at p.bytes loaded)) first rest)
+
+-- no line has a byte of a line end
+inner_line : (digit : ℕ) (body : List ℕ) → 48 ≤ digit → AreInner (record_line digit body)
+unfolding record_line
+inner_line digit body h = (omega arith, (h, digits_are_inner (framed body)))
+
+inner_append : (ls ms : List (List ℕ)) → AllInner ls → AllInner ms → AllInner (ls ++ ms)
+inner_append [] ms h k = k
+inner_append (l ∷ ls) ms h k = (h.0, inner_append ls ms h.1 k)
+
+inner_data : (passed at : ℕ) (bytes : List ℕ) → AllInner (data_lines passed at bytes)
+unfolding data_lines
+inner_data zero at [] = tt
+inner_data (suc passed) at [] = tt
+inner_data zero at (b ∷ bytes) = (inner_line 51 (to_be_bytes w32 at ++ take 16 (b ∷ bytes)) (omega arith), inner_data 15 (at + 1) bytes)
+inner_data (suc passed) at (b ∷ bytes) = inner_data passed (at + 1) bytes
+
+inner_parts : (ps : List Placed) → AllInner (flat_map part_lines ps)
+inner_parts [] = tt
+inner_parts (p ∷ ps) = inner_append (part_lines p) (flat_map part_lines ps) (inner_data 0 p.at p.bytes) (inner_parts ps)
+
+inner_lines : (image : ProgramImage) → AllInner (lines_for image)
+inner_lines image =
+    inner_append (header_line ∷ flat_map part_lines (parts image)) (last_line image.start ∷ [])
+    (inner_line 48 (0 ∷ 0 ∷ codes "M88") (omega arith), inner_parts (parts image))
+    (inner_line 55 (to_be_bytes w32 image.start) (omega arith), tt)
+
+-- the text of an image is accepted and writes the image
+pub text_is_accepted : (image : ProgramImage) → AreApart 0 (parts image) → ArePieces (parts image) → count_among (parts image) ≤ most_bytes
+    → image.start < 2 ^ 32 → IsAccepted (srec_text image) (whole_of image)
+unfolding srec_text byte_at
+text_is_accepted image apart pieces few start =
+    let body = parts_lead 0 (parts image) nothing_loaded apart pieces (omega arith) (λ a h. refl) in
+    let last : Loaded = with_parts (parts image) nothing_loaded in
+    let told : number_of_bytes (to_be_bytes w32 image.start) ≡ image.start = address_number image.start start in
+    let end : (m : ℕ) → ComeTo last m (end_entry image.start ∷ []) last image.start =
+    λ m. subst (ComeTo last m (end_entry image.start ∷ []) last) told (ended refl) in
+    record {
+      entries = header_entry ∷ (body.entries ++ end_entry image.start ∷ []);
+      lines = subst (WriteEntries (header_entry ∷ (body.entries ++ end_entry image.start ∷ []))) (sym (lines_of_text (lines_for image) (inner_lines image)))
+          (entry_line header_written (lines_append body.entries (end_entry image.start ∷ []) (flat_map part_lines (parts image)) (last_line image.start ∷ []) body.written (entry_line (end_written image.start) no_line)));
+      loaded = last;
+      comes = headed refl (body.leads 0 image.start (end_entry image.start ∷ []) last end);
+      found = refl;
+    }
+
+-- an address of a part
+in_part : (p : Placed) (k : ℕ) (b : ℕ) (ps : List Placed) → slice_get p.bytes k ≡ Some b → byte_among (p ∷ ps) (p.at + k) ≡ Some b
+in_part p k b ps e = ap (λ o. option_or o (byte_among ps (p.at + k))) (byte_in_from p.at p.bytes k ∙ e)
+
+some_fits : (o : Option ℕ) (a b : ℕ) → o ≡ Some b → IfSome o (λ c. (a < 2 ^ 32) × (c < 256)) → (a < 2 ^ 32) × (b < 256)
+some_fits o a b e h = subst (λ q. IfSome q (λ c. (a < 2 ^ 32) × (c < 256))) e h
+
+bytes_by_index : (bytes : List ℕ) → ((k b : ℕ) → slice_get bytes k ≡ Some b → b < 256) → AreBytes bytes
+bytes_by_index [] h = tt
+bytes_by_index (b ∷ bytes) h = (h 0 b refl, bytes_by_index bytes (λ k c e. h (suc k) c e))
+
+-- the part behind others finds what they find
+behind_finds : (from : ℕ) (p : Placed) (ps : List Placed) → AreApart from (p ∷ ps) → FindsBytes (byte_among (p ∷ ps)) → FindsBytes (byte_among ps)
+behind_finds from p ps apart finds a =
+    elim (cases_lt a (p.at + length p.bytes + 1)) [
+      | inl low ↦ subst (λ o. IfSome o (λ c. (a < 2 ^ 32) × (c < 256))) (sym (none_below (p.at + length p.bytes + 1) ps a apart.2 low)) tt
+      | inr high ↦
+          subst (λ o. IfSome (option_or o (byte_among ps a)) (λ c. (a < 2 ^ 32) × (c < 256))) (byte_in_above p a (omega (arith, high))) (finds a)
+    ]
+
+-- the end of a part is at most the end of all addresses
+part_ends : (p : Placed) (ps : List Placed) → 0 < length p.bytes → FindsBytes (byte_among (p ∷ ps)) → p.at + length p.bytes ≤ 2 ^ 32
+part_ends p ps some finds =
+    let k : ℕ = length p.bytes - 1 in
+    let found = slice_get-get_or p.bytes k 0 (omega arith) in
+    let fits = some_fits (byte_among (p ∷ ps) (p.at + k)) (p.at + k) (get_or p.bytes k 0) (in_part p k (get_or p.bytes k 0) ps found) (finds (p.at + k)) in
+    let low : p.at + k < 2 ^ 32 = fits.0 in
+    omega arith
+
+pieces_of : (from : ℕ) (ps : List Placed) → AreApart from ps → FindsBytes (byte_among ps) → ArePieces ps
+pieces_of from [] apart finds = tt
+pieces_of from (p ∷ ps) apart finds = (
+  bytes_by_index p.bytes (λ k b e. (some_fits (byte_among (p ∷ ps) (p.at + k)) (p.at + k) b (in_part p k b ps e) (finds (p.at + k))).1),
+  part_ends p ps apart.1 finds,
+  pieces_of (p.at + length p.bytes + 1) ps apart.2 (behind_finds from p ps apart finds),
+)
+
+-- the text of every image is accepted and writes the image
+pub image_is_accepted : (image : ProgramImage) (text : List ℕ) → IsImage image → text ≡ srec_text image → IsAccepted text (whole_of image)
+unfolding byte_at byte_count
+image_is_accepted image text is text_is =
+    subst (λ (t : List ℕ). IsAccepted t (whole_of image)) (sym text_is)
+    (text_is_accepted image is.apart (pieces_of 0 (parts image) is.apart is.bytes) is.few is.start)

@@ -1,0 +1,5 @@
+use Rattle.m88_srec.proofs.Trip.{image_is_accepted}
+use Rattle.m88_srec.proofs.writer.write_srec.Goals as goal
+
+pub returns-clause-again : goal.returns-clause-again
+returns-clause-again c = image_is_accepted c.args.image.now _ c.in_ok-text.ensures.image c.in_ok-text.ensures.text

@@ -1,0 +1,27 @@
+-- Words for the contracts of private functions; no promise of the crate names them. What a loading stands for, and
+-- what a call that may run out of memory gives.
+use Rattle.std.specs.Prelude.{ℕ, Result, Ok, Err, ◌≡◌, ◌⊎◌}
+use Rattle.m88_base.specs.Image.{byte_at, byte_count}
+use Rattle.m88_srec.specs.Verdict.{Load}
+use Rattle.m88_srec.specs.declared.fault.SrecFault.{SrecFault}
+use Rattle.m88_srec.specs.declared.fault.SrecKind.{SrecKind}
+use Rattle.m88_srec.specs.declared.fault.SrecKind.TheVariants.{Memory}
+use Rattle.m88_srec.specs.declared.loading.Loading.{Loading}
+
+-- what the lines of a loading write
+abbrev pub load_seen : Loading → Load
+load_seen x = record {
+  loaded = record { found = byte_at x.image; count = byte_count x.image };
+  records = x.records;
+  start = x.start;
+}
+
+-- a call left the load that is said, or answered the kind that is said, or memory ran out
+abbrev pub GivesLoad : {T : Type 0} → Load → Result T SrecKind → Result Load SrecKind → Type 0
+GivesLoad load (Ok u) said = said ≡ Ok load
+GivesLoad load (Err kind) said = (kind ≡ Memory) ⊎ (said ≡ Err kind)
+
+-- the fault that is answered at a line
+abbrev pub fault_of_line : ℕ → SrecKind → SrecFault
+fault_of_line line Memory = record { line = 0; kind = Memory }
+fault_of_line line kind = record { line = line; kind = kind }

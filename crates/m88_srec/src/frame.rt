@@ -1,0 +1,90 @@
+//! Records as lines: their bytes framed by count and sum, and written in digits.
+ghost use Rattle.std.specs.Prelude.{◌≡◌, ◌+◌, ◌≤◌, ◌++◌, length, OnOk};
+ghost use Rattle.std.specs.Int.{to_be_bytes, w32};
+ghost use Rattle.std.specs.List.{flat_map};
+ghost use Rattle.m88_base.specs.Hex.{hex2};
+ghost use Rattle.m88_base.specs.Lines.{line_end};
+ghost use Rattle.m88_srec.specs.Records.{framed};
+ghost use Rattle.m88_srec.specs.Written.{data_line, last_line, header_line, record_line};
+
+use crate::record::check_of;
+use arrayvec::ArrayVec;
+use m88_base::push_hex2;
+use std::alloc::AllocError;
+
+/// The bytes of a record: the count, the body and the sum.
+fn framed(body: &[u8]) -> ArrayVec<u8, 22>
+    requires { length body.now ≤ 20 }
+    ensures value { result.items ≡ framed body.now }
+{
+    let mut bytes = ArrayVec::new();
+    bytes.push(body.len() as u8 + 1);
+    for byte in body {
+        bytes.push(*byte);
+    }
+    let sum = check_of(bytes.as_slice());
+    bytes.push(sum);
+    bytes
+}
+
+/// Appends bytes in digits.
+fn push_digits(text: &mut Vec<u8>, bytes: &[u8]) -> Result<(), AllocError>
+    ensures { OnOk result (text.new.items ≡ text.old.items ++ flat_map hex2 bytes.now) }
+{
+    for byte in bytes {
+        push_hex2(text, *byte)?;
+    }
+    Ok(())
+}
+
+/// An address and the bytes from it on.
+fn data_body(at: u32, given: &[u8]) -> ArrayVec<u8, 20>
+    requires { length given.now ≤ 16 }
+    ensures { result.items ≡ to_be_bytes w32 at ++ given.now }
+{
+    let mut body = ArrayVec::new();
+    for byte in at.to_be_bytes() {
+        body.push(byte);
+    }
+    for byte in given {
+        body.push(*byte);
+    }
+    body
+}
+
+/// Appends the line of a record with a type digit and a body.
+#[tactic(auto, unfolding(crate::specs::Written::record_line))]
+fn push_record(text: &mut Vec<u8>, digit: u8, body: &[u8]) -> Result<(), AllocError>
+    requires { length body.now ≤ 20 }
+    ensures { OnOk result (text.new.items ≡ text.old.items ++ (record_line digit body.now
+        ++ line_end)) }
+{
+    text.push(b'S')?;
+    text.push(digit)?;
+    push_digits(text, framed(body).as_slice())?;
+    text.push(b'\n')?;
+    Ok(())
+}
+
+/// Appends the line that heads a text.
+pub fn push_header(text: &mut Vec<u8>) -> Result<(), AllocError>
+    ensures { OnOk result (text.new.items ≡ text.old.items ++ (header_line ++ line_end)) }
+{
+    push_record(text, b'0', b"\0\0M88")
+}
+
+/// Appends the line of some bytes from an address on.
+pub fn push_data(text: &mut Vec<u8>, at: u32, given: &[u8]) -> Result<(), AllocError>
+    requires { length given.now ≤ 16 }
+    ensures { OnOk result (text.new.items ≡ text.old.items ++ (data_line at given.now
+        ++ line_end)) }
+{
+    push_record(text, b'3', data_body(at, given).as_slice())
+}
+
+/// Appends the line that ends a text with the start address.
+pub fn push_end(text: &mut Vec<u8>, start: u32) -> Result<(), AllocError>
+    ensures { OnOk result (text.new.items ≡ text.old.items ++ (last_line start ++ line_end)) }
+{
+    push_record(text, b'7', &start.to_be_bytes())
+}

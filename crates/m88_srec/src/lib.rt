@@ -1,0 +1,20 @@
+//! S-records: the text of an image for a monitor's loader or a device programmer, written and read (Motorola S-record
+//! format). Types 0 to 3, 5 and 7 to 9 are read, and types 0, 3 and 7 are written.
+//! What a text writes is said in `specs/` as a relation between its lines and the records.
+#![tactic(auto)]
+
+mod digits;
+mod fault;
+mod form;
+mod frame;
+mod loading;
+mod purpose;
+mod reader;
+mod record;
+#[cfg(test)]
+mod tests;
+mod writer;
+
+pub use fault::{SrecFault, SrecKind};
+pub use reader::read_srec;
+pub use writer::write_srec;

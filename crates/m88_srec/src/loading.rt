@@ -1,0 +1,167 @@
+//! What the lines so far load, and one line more.
+ghost use Rattle.std.specs.Prelude.{◌≡◌, ◌+◌, ◌≤◌, ◌<◌, ◌^◌, length, Ok, Err};
+ghost use Rattle.m88_srec.specs.Accepted.{whole_of};
+ghost use Rattle.m88_srec.specs.Verdict.{acted, ended_on, framed_on, judged, opening_load, placed, summed};
+ghost use Rattle.m88_srec.specs.Forms.{form_seen};
+ghost use Rattle.m88_srec.specs.GivesVerdict.{GivesVerdict};
+ghost use Rattle.m88_srec.specs.Loads.{GivesLoad, load_seen};
+
+use crate::fault::{SrecFault, SrecKind};
+use crate::form::Form;
+use crate::purpose::Purpose;
+use crate::record::{
+    bytes_of, check_of, count, following, is_miscounted, number_of_bytes, record_form,
+};
+use m88_base::{Image, ImageFault};
+use std::alloc::Global;
+
+/// What the lines so far load: the image, the number of records that load, and the start address once the end record
+/// came.
+#[derive(Drop)]
+pub struct Loading {
+    pub image: Image,
+    pub records: u32,
+    pub start: Option<u32>,
+}
+
+impl Loading {
+    /// Nothing is loaded yet.
+    pub fn new(alloc: Global) -> Loading
+        ensures { load_seen result ≡ opening_load }
+    {
+        Loading {
+            image: Image::new(alloc),
+            records: 0,
+            start: None,
+        }
+    }
+
+    /// Takes one line more.
+    #[tactic(auto, unfolding(crate::specs::Verdict::judged))]
+    pub fn line(&mut self, line: &[u8]) -> Result<(), SrecKind>
+        requires room { self.old.records < 2 ^ 31 }
+        requires short { length line.now < 2 ^ 31 }
+        ensures value { GivesLoad (load_seen self.new) result (judged
+            (load_seen self.old) line.now) }
+        ensures records { self.new.records ≤ self.old.records + 1 }
+    {
+        if line.is_empty() {
+            return Ok(());
+        }
+        if self.start.is_some() {
+            return Err(SrecKind::AfterEnd);
+        }
+        match record_form(line) {
+            Some(form) => self.form(&form),
+            None => Err(SrecKind::Form),
+        }
+    }
+
+    /// Takes a line that has the form of a record.
+    #[tactic(auto, unfolding(crate::specs::Verdict::framed_on))]
+    fn form(&mut self, form: &Form<'_>) -> Result<(), SrecKind>
+        requires { self.old.records < 2 ^ 31 }
+        ensures value { GivesLoad (load_seen self.new) result (framed_on (load_seen self.old)
+            (form_seen form.now)) }
+        ensures records { self.new.records ≤ self.old.records + 1 }
+    {
+        if is_miscounted(form) {
+            return Err(SrecKind::Count {
+                written: count(form),
+                found: following(form) as u32,
+            });
+        }
+        let bytes = bytes_of(form);
+        self.bytes(form.purpose, form.width, bytes.as_slice())
+    }
+
+    /// Takes the bytes of a record whose count is right.
+    #[tactic(auto, unfolding(crate::specs::Verdict::summed))]
+    fn bytes(&mut self, purpose: Purpose, width: usize, bytes: &[u8]) -> Result<(), SrecKind>
+        requires room { self.old.records < 2 ^ 31 }
+        requires some { 2 ≤ width }
+        requires narrow { width ≤ 4 }
+        requires enough { width + 2 ≤ length bytes.now }
+        requires few { length bytes.now ≤ 256 }
+        ensures value { GivesLoad (load_seen self.new) result
+            (summed (load_seen self.old) (record { purpose = purpose; width = width; bytes = bytes.now })) }
+        ensures records { self.new.records ≤ self.old.records + 1 }
+    {
+        let following = bytes.len() - 1;
+        let (counted, _) = bytes.split_at(following);
+        let written = bytes[following];
+        let computed = check_of(counted);
+        if written != computed {
+            return Err(SrecKind::Sum { written, computed });
+        }
+        let (_, behind_count) = bytes.split_at(1);
+        let (address, _) = behind_count.split_at(width);
+        let (_, given) = counted.split_at(width + 1);
+        self.carry_out(purpose, number_of_bytes(address), given)
+    }
+
+    /// Does what a record is for.
+    #[tactic(auto, unfolding(crate::specs::Verdict::acted))]
+    fn carry_out(&mut self, purpose: Purpose, at: u32, given: &[u8]) -> Result<(), SrecKind>
+        requires { self.old.records < 2 ^ 31 }
+        ensures value { GivesLoad (load_seen self.new) result (acted
+            (load_seen self.old) purpose at given.now) }
+        ensures records { self.new.records ≤ self.old.records + 1 }
+    {
+        match purpose {
+            Purpose::Header => Ok(()),
+            Purpose::Data => self.place(at, given),
+            Purpose::Tally => {
+                if at == self.records {
+                    Ok(())
+                } else {
+                    Err(SrecKind::CountRecord {
+                        written: at,
+                        found: self.records,
+                    })
+                }
+            }
+            Purpose::End => {
+                self.start = Some(at);
+                Ok(())
+            }
+        }
+    }
+
+    /// Loads data from an address on.
+    #[tactic(auto, using(crate::proofs::Free::placing), unfolding(crate::specs::Verdict::placed))]
+    fn place(&mut self, at: u32, given: &[u8]) -> Result<(), SrecKind>
+        requires { self.old.records < 2 ^ 31 }
+        ensures value { GivesLoad (load_seen self.new) result (placed
+            (load_seen self.old) at given.now) }
+        ensures records { self.new.records ≤ self.old.records + 1 }
+    {
+        match self.image.add(at, given) {
+            Ok(()) => {
+                self.records += 1;
+                Ok(())
+            }
+            Err(ImageFault::TooLarge) => Err(SrecKind::TooLarge),
+            Err(ImageFault::Overlap(taken)) => Err(SrecKind::Overlap(taken)),
+            Err(ImageFault::Memory) => Err(SrecKind::Memory),
+        }
+    }
+
+    /// The image behind the last line, whose number is the one before this.
+    pub fn finish(self, number: u32) -> Result<Image, SrecFault>
+        ensures { GivesVerdict whole_of result (ended_on number
+            (load_seen self).loaded self.start) }
+    {
+        match self.start {
+            Some(start) => {
+                let mut image = self.image;
+                image.set_start(start);
+                Ok(image)
+            }
+            None => Err(SrecFault {
+                line: number,
+                kind: SrecKind::NoEnd,
+            }),
+        }
+    }
+}

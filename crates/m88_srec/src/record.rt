@@ -1,0 +1,130 @@
+//! The form of a line: an `S`, a type digit and pairs of hexadecimal digits; and what stands in its bytes.
+ghost use Rattle.std.specs.Prelude.{◌≡◌, ◌+◌, ◌-◌, ◌*◌, ◌≤◌, ◌<◌, ◌%◌, ◌^◌, false, length, option_map, sum, IfSome};
+ghost use Rattle.m88_srec.specs.Records.{bytes_in, check_of, is_bare, type_of};
+ghost use Rattle.m88_srec.specs.Accepted.{number_of_bytes};
+ghost use Rattle.m88_srec.specs.Verdict.{following, record_form, is_miscounted, written_count};
+ghost use Rattle.m88_srec.specs.Forms.{form_seen, type_seen};
+
+use crate::digits::{are_pairs, byte};
+use crate::form::Form;
+use crate::purpose::Purpose;
+use arrayvec::ArrayVec;
+
+/// What a type digit says: the purpose of a record and the number of its address bytes.
+fn type_of(digit: u8) -> Option<(Purpose, usize)>
+    ensures value { option_map type_seen result ≡ type_of digit }
+    ensures some { IfSome result (λ t. 2 ≤ t.1) }
+    ensures narrow { IfSome result (λ t. t.1 ≤ 4) }
+{
+    match digit {
+        b'0' => Some((Purpose::Header, 2)),
+        b'1' => Some((Purpose::Data, 2)),
+        b'2' => Some((Purpose::Data, 3)),
+        b'3' => Some((Purpose::Data, 4)),
+        b'5' => Some((Purpose::Tally, 2)),
+        b'7' => Some((Purpose::End, 4)),
+        b'8' => Some((Purpose::End, 3)),
+        b'9' => Some((Purpose::End, 2)),
+        _ => None,
+    }
+}
+
+/// Whether records of this purpose have no data.
+fn is_bare(purpose: Purpose) -> bool
+    ensures { result ≡ is_bare purpose }
+{
+    match purpose {
+        Purpose::Header => false,
+        Purpose::Data => false,
+        Purpose::Tally => true,
+        Purpose::End => true,
+    }
+}
+
+/// The form of a line, where it has one.
+#[tactic(auto, unfolding(crate::specs::Verdict::record_form))]
+pub fn record_form(line: &[u8]) -> Option<Form<'_>>
+    requires { length line.now < 2 ^ 31 }
+    ensures { option_map form_seen result ≡ record_form line.now }
+{
+    let [b'S', digit, digits @ ..] = line else {
+        return None;
+    };
+    if !are_pairs(digits) {
+        return None;
+    }
+    let (purpose, width) = type_of(*digit)?;
+    Some(Form {
+        purpose,
+        width,
+        digits,
+    })
+}
+
+/// The count that is written.
+pub fn count(form: &Form<'_>) -> u8
+    ensures { result ≡ written_count (form_seen form.now) }
+{
+    byte(form.digits[0], form.digits[1])
+}
+
+/// The number of bytes that follow the count.
+#[tactic(auto, using(crate::proofs::Framing::pairs_halved))]
+pub fn following(form: &Form<'_>) -> usize
+    ensures value { result ≡ following (form_seen form.now) }
+    ensures bound { result < 2 ^ 31 }
+{
+    form.digits.len() / 2 - 1
+}
+
+/// Whether the count is wrong, there are too few bytes, or a record that has no data has some.
+pub fn is_miscounted(form: &Form<'_>) -> bool
+    ensures value { result ≡ is_miscounted (form_seen form.now) }
+    ensures few { result ≡ false → following (form_seen form.now) ≤ 255 }
+    ensures enough { result ≡ false → form.now.width + 1 ≤ following (form_seen form.now) }
+{
+    let following = following(form);
+    usize::from(count(form)) != following
+        || following < form.width + 1
+        || is_bare(form.purpose) && following != form.width + 1
+}
+
+/// The bytes of a record whose count is right.
+pub fn bytes_of(form: &Form<'_>) -> ArrayVec<u8, 256>
+    requires few { following (form_seen form.now) ≤ 255 }
+    requires enough { form.now.width + 1 ≤ following (form_seen form.now) }
+    ensures bytes { result.items ≡ bytes_in form.now.digits.now }
+    ensures enough { form.now.width + 2 ≤ length result.items }
+    ensures few { length result.items ≤ 256 }
+{
+    let mut bytes = ArrayVec::new();
+    let mut rest = form.digits;
+    while let [high, low, left @ ..] = rest {
+        bytes.push(byte(*high, *low));
+        rest = left;
+    }
+    bytes
+}
+
+/// The sum of a record with these bytes before it.
+pub fn check_of(bytes: &[u8]) -> u8
+    requires { length bytes.now ≤ 256 }
+    ensures { result ≡ check_of bytes.now }
+{
+    let sum: u32 = bytes.iter().map(|b| u32::from(*b)).sum();
+    255 - (sum % 256) as u8
+}
+
+/// The number of the bytes of an address, the highest first.
+pub fn number_of_bytes(bytes: &[u8]) -> u32
+    requires some { 2 ≤ length bytes.now }
+    requires narrow { length bytes.now ≤ 4 }
+    ensures { result ≡ number_of_bytes bytes.now }
+{
+    match bytes {
+        [a, b] => u32::from_be_bytes([0, 0, *a, *b]),
+        [a, b, c] => u32::from_be_bytes([0, *a, *b, *c]),
+        [a, b, c, d] => u32::from_be_bytes([*a, *b, *c, *d]),
+        _ => unreachable!(),
+    }
+}

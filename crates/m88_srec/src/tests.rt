@@ -1,0 +1,121 @@
+//! What no clause says: that reading and writing succeed, and worked texts whose bytes and sums weren't made by this
+//! crate.
+
+use super::*;
+use m88_base::Image;
+use std::test::Fail;
+
+/// Two instructions at the default start.
+const PROGRAM: [u8; 8] = [0x58, 0x40, 0x00, 0x41, 0xF0, 0x00, 0xD1, 0xF0];
+
+const PROGRAM_TEXT: &[u8] = b"S00600004D38383C\nS30D0000100058400041F000D1F058\nS70500001000EA\n";
+
+/// A text that is widely given as an example of the format: a program and its greeting, in records of type 1 with a
+/// count record.
+const GREETING: &[u8] = b"S00F000068656C6C6F202020202000003C\r\n\
+S11F00007C0802A6900100049421FFF07C6C1B787C8C23783C6000003863000026\r\n\
+S11F001C4BFFFFE5398000007D83637880010014382100107C0803A64E800020E9\r\n\
+S111003848656C6C6F20776F726C642E0A0042\r\n\
+S5030003F9\r\n\
+S9030000FC";
+
+#[test]
+fn an_image_is_written_as_the_format_has_it(rt: HostRuntime) -> Result<(), Fail> {
+    let mut image = Image::new(rt.alloc());
+    image
+        .add(0x1000, &PROGRAM)
+        .map_err(|_| "an image has room")?;
+    let text = write_srec(rt.alloc(), &image).map_err(|_| "memory")?;
+    assert!(rt; text.as_slice() == PROGRAM_TEXT);
+    Ok(())
+}
+
+#[test]
+fn texts_of_other_programs_are_read(rt: HostRuntime) -> Result<(), Fail> {
+    let image = read_srec(rt.alloc(), GREETING).map_err(|_| "the text is accepted")?;
+    assert!(rt; image.len() == 70 && image.start() == 0 && image.part_count() == 1);
+    let (at, bytes) = image.part(0);
+    assert!(rt; at == 0 && &bytes[56..] == b"Hello world.\n\0".as_slice());
+    Ok(())
+}
+
+#[test]
+fn a_text_is_refused_at_its_first_fault(rt: HostRuntime) -> Result<(), Fail> {
+    for (text, line, kind) in [
+        (b"S309FFFFFFFE01020304F1".as_slice(), 1, SrecKind::TooLarge),
+        (b"S307FFFFFFFE0102FA", 2, SrecKind::NoEnd),
+        (
+            b"S30500001000",
+            1,
+            SrecKind::Count {
+                written: 5,
+                found: 4,
+            },
+        ),
+        (
+            b"S30100",
+            1,
+            SrecKind::Count {
+                written: 1,
+                found: 1,
+            },
+        ),
+        (
+            b"S5030002FA",
+            1,
+            SrecKind::CountRecord {
+                written: 2,
+                found: 0,
+            },
+        ),
+        (b"S70500001000EA\n\nS00600004D38383C", 3, SrecKind::AfterEnd),
+        (
+            b"S00600004D38383C\nS70500001000EB",
+            2,
+            SrecKind::Sum {
+                written: 0xEB,
+                computed: 0xEA,
+            },
+        ),
+        (
+            b"S1051000ABCD72\nS1041001EEFC",
+            2,
+            SrecKind::Overlap(0x1001),
+        ),
+        (b"s70500001000EA", 1, SrecKind::Form),
+        (b"S405000010", 1, SrecKind::Form),
+        (b"S7050000100EA", 1, SrecKind::Form),
+        (b" ", 1, SrecKind::Form),
+        (b"", 1, SrecKind::NoEnd),
+    ] {
+        let wanted = SrecFault { line, kind };
+        let told = match read_srec(rt.alloc(), text) {
+            Ok(_) => false,
+            Err(fault) => fault == wanted,
+        };
+        assert!(rt; told, "{wanted:?}");
+    }
+    Ok(())
+}
+
+#[test]
+fn every_type_and_either_case_are_taken(rt: HostRuntime) -> Result<(), Fail> {
+    for (text, start, len) in [
+        (
+            b"S2052000000AD0\nS5030001FB\nS804200004D7".as_slice(),
+            0x20_0004,
+            1,
+        ),
+        (b"\nS307000030000a0bb3\n\r\nS903fffc01\n\n", 0xFFFC, 2),
+        (
+            b"S10310EC00\r\nS5030001FB\r\nS5030001FB\r\nS70500001000EA\r\n",
+            0x1000,
+            0,
+        ),
+        (b"S70500001000EA", 0x1000, 0),
+    ] {
+        let image = read_srec(rt.alloc(), text).map_err(|_| "the text is accepted")?;
+        assert!(rt; image.start() == start && image.len() == len, "{start}");
+    }
+    Ok(())
+}
