@@ -164,26 +164,53 @@ fn labels_and_places(rt: HostRuntime) {
     }
 }
 
-#[test]
-fn names_of_directives(rt: HostRuntime) {
-    assert!(rt; matches!(last(rt.alloc(), b"a:").map(|s| s.body), Some(Body::Empty)));
-    assert!(rt; matches!(last(rt.alloc(), b".text").map(|s| s.body), Some(Body::Text)));
-    assert!(rt;
-        matches!(
-            last(rt.alloc(), b".data").map(|s| s.body),
-            Some(Body::DataSection)
-        )
-    );
-    match last(rt.alloc(), b".global hi16").map(|s| s.body) {
-        Some(Body::Global(name)) => assert_eq!(rt; name.bytes(), b"hi16".as_slice()),
-        _ => assert!(rt; false, "not .global"),
+/// What a body is, in a word.
+fn word_of(body: &Body) -> &'static str {
+    match body {
+        Body::Empty => "empty",
+        Body::Text => "text",
+        Body::DataSection => "data",
+        Body::Global(_) => "global",
+        Body::Set { .. } => "set",
+        _ => "another",
     }
-    match last(rt.alloc(), b"x: .set lo16 , 7").map(|s| s.body) {
-        Some(Body::Set { name, col, .. }) => {
-            assert_eq!(rt; name.bytes(), b"lo16".as_slice());
-            assert_eq!(rt; col, 9);
+}
+
+/// Whether a body is about this symbol, and `.set` names it at this column.
+fn is_about(body: &Body, symbol: &[u8], place: u32) -> bool {
+    match body {
+        Body::Global(name) => name.bytes() == symbol && place == 0,
+        Body::Set { name, col, .. } => name.bytes() == symbol && *col == place,
+        _ => false,
+    }
+}
+
+#[test]
+fn directives(rt: HostRuntime) {
+    let rows: [(&[u8], &str); 5] = [
+        (b"a:", "empty"),
+        (b".text", "text"),
+        (b".data", "data"),
+        (b".global hi16", "global"),
+        (b"x: .set lo16 , 7", "set"),
+    ];
+    for (source, word) in rows {
+        assert!(rt; source.len() < 100);
+        match last(rt.alloc(), source) {
+            Some(found) => assert_eq!(rt; word_of(&found.body), word),
+            None => assert!(rt; false, "no statement"),
         }
-        _ => assert!(rt; false, "not .set"),
+    }
+    let rows: [(&[u8], &[u8], u32); 2] = [
+        (b".global hi16", b"hi16", 0),
+        (b"x: .set lo16 , 7", b"lo16", 9),
+    ];
+    for (source, wanted, place) in rows {
+        assert!(rt; source.len() < 100);
+        match last(rt.alloc(), source) {
+            Some(found) => assert!(rt; is_about(&found.body, wanted, place)),
+            None => assert!(rt; false, "no statement"),
+        }
     }
 }
 
