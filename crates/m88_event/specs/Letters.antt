@@ -30,10 +30,11 @@ letter_at schedule k = unwrap_or (slice_get schedule k) (in_turn (k - length sch
 abbrev pub letter_of : ℕ → Letter
 letter_of byte = if byte == 0x69 then Issue else Answer
 
--- bytes that are letters
+-- a byte that is a letter
 abbrev pub is_letter : ℕ → Bool
 is_letter byte = byte == 0x69 || byte == 0x72
 
+-- each of some bytes is one
 abbrev pub AreLetters : List ℕ → Type 0
 AreLetters bytes = All (λ byte. is_letter byte ≡ true) bytes
 

@@ -84,17 +84,19 @@ move_by faults fault l = record l {
 abbrev pub with_move_counted : Local → Local
 with_move_counted l = record l { events = l.events + 1 }
 
--- what a letter makes the board do, and the record that a data fault would leave
+-- what a letter makes the board do
 abbrev pub choice_by : Program → ℕ → Letter → Local → Choice
 choice_by p limit letter l = choice_of p letter (situation_of limit l)
 
+-- the record that a data fault would leave
 abbrev pub record_by : Program → ℕ → Local → Record
 record_by p limit l = record_of p (situation_of limit l)
 
--- what a letter makes of it, and what its event says
+-- what a letter makes of it
 unfoldable pub move : Program → ℕ → Letter → Local → Local
 move p limit letter l = with_move_counted (move_by (choice_by p limit letter l) (record_by p limit l) l)
 
+-- what the event of a letter says
 unfoldable pub said_by : Program → ℕ → Letter → Local → Happened
 said_by p limit letter l = said (choice_by p limit letter l) (record_by p limit l)
 

@@ -30,10 +30,11 @@ fetched_pointer p a = record { address = a; valid = true; failed = is_none (four
 abbrev pub squashed_pointer : Pointer → Pointer
 squashed_pointer xip = record { address = after_bytes xip.address 4; valid = false; failed = false }
 
--- NIP and FIP: the next two instructions, or the one that is passed over and the next
+-- NIP: the next instruction, or the one that is passed over
 abbrev pub nip_of : Program → Bool → Pointer → ℕ → Pointer
 nip_of p bubble xip pc = if bubble then squashed_pointer xip else fetched_pointer p pc
 
+-- FIP: the instruction behind that one
 abbrev pub fip_of : Program → Bool → ℕ → ℕ → Pointer
 fip_of p bubble pc next = fetched_pointer p (if bubble then pc else next)
 

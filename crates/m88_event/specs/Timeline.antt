@@ -84,18 +84,20 @@ after_choice p faults fault m = record m {
 abbrev pub with_event : Moment → Moment
 with_event m = record m { events = m.events + 1 }
 
--- what a letter makes the board do at a moment, and the record that a data fault would leave there
+-- what a letter makes the board do at a moment
 abbrev pub choice_at : Program → (ℕ → Bool) → ℕ → Letter → Moment → Choice
 choice_at p named limit letter m = choice_of p letter (situation_at p named limit m)
 
+-- the record that a data fault would leave there
 abbrev pub record_at : Program → (ℕ → Bool) → ℕ → Moment → Record
 record_at p named limit m = record_of p (situation_at p named limit m)
 
--- the moment after a letter, and what its event says
+-- the moment after a letter
 unfoldable pub after_letter : Program → (ℕ → Bool) → ℕ → Letter → Moment → Moment
 after_letter p named limit letter m =
     with_event (after_choice p (choice_at p named limit letter m) (record_at p named limit m) m)
 
+-- what the event of a letter says
 unfoldable pub said_at : Program → (ℕ → Bool) → ℕ → Letter → Moment → Happened
 said_at p named limit letter m = said (choice_at p named limit letter m) (record_at p named limit m)
 

@@ -21,5 +21,6 @@ pub fn moves_follow_the_timeline()
         → DoneWereMade p m → DoneWereMade p (after_letter p named limit letter m) }
     ensures ends { (p : Program) (named : ℕ → Bool) (limit : ℕ) (schedule : List LetterValue)
         → IsProgram p
-        → (events : ℕ) × (events ≤ length schedule + 8 * limit + 8) × IsRun p named limit schedule events }
+        → (events : ℕ) × (events ≤ length schedule + 8 * limit + 8)
+        × IsRun p named limit schedule events }
 {}

@@ -13,7 +13,7 @@ use Rattle.m88_isa.proofs.Alone.{by_test, in_left, in_right, in_own}
 use Rattle.m88_isa.proofs.Held.{none_busy, writes_it}
 use Rattle.m88_isa.proofs.Plans.{touches_counted}
 use Rattle.m88_isa.specs.Address.{after_bytes}
-use Rattle.m88_isa.specs.Bus.{AreApart, loads, waits_for}
+use Rattle.m88_isa.specs.Bus.{LoadApart, loads, waits_for}
 use Rattle.m88_isa.specs.Held.{busy_register}
 use Rattle.m88_isa.specs.Effect.{Change, Meaning, accesses, goes, inputs_of, meaning_of, raises, traps}
 use Rattle.m88_isa.specs.History.{change_accesses}
@@ -77,7 +77,7 @@ and_swap n = by_test (n == 0)
     (λ is_zero. rw is_zero (and_false (n == n)))
     (λ there. rw there (and_true (n == n)))
 
-free_there : (x : Access) (xs : List Access) (r : ℕ) → x.write ≡ false → AreApart (x ∷ xs) → loads x r ≡ true →
+free_there : (x : Access) (xs : List Access) (r : ℕ) → x.write ≡ false → LoadApart (x ∷ xs) → loads x r ≡ true →
     waits_for xs r ≡ false
 free_there x xs r read apart h = by_test (number_of x.reg == r)
     (λ same. let e : number_of x.reg ≡ r = eqb-true (number_of x.reg) r same in
@@ -115,7 +115,7 @@ loaded_last x xs read = fun_ext (λ r.
     ∙ sym (waits_append xs (x ∷ []) r))
 
 -- one that is answered leaves it free, where no other loads it
-pub loaded_first : (x : Access) (xs : List Access) → x.write ≡ false → AreApart (x ∷ xs) →
+pub loaded_first : (x : Access) (xs : List Access) → x.write ≡ false → LoadApart (x ∷ xs) →
     with_member (number_of x.reg) false (waits_for (x ∷ xs)) ≡ waits_for xs
 unfolding waits_for
 loaded_first x xs read apart = fun_ext (λ r.
@@ -127,7 +127,7 @@ loaded_first x xs read apart = fun_ext (λ r.
 -- accesses that load registers of a set alone, and no register twice
 pub record IsIssue (set : ℕ) (xs : List Access) : Type 0 where
   pub within : (r : ℕ) → waits_for xs r ≡ true → bit_at set r ≡ 1
-  pub apart : AreApart xs
+  pub apart : LoadApart xs
 
 none_issue : (set : ℕ) → IsIssue set []
 unfolding waits_for
@@ -269,16 +269,16 @@ later_not : (a b : Bool) → (a || b) ≡ false → b ≡ false
 later_not true b h = absurd cc
 later_not false b h = h
 
-apart_head : (x : Access) (xs ys : List Access) → AreApart (x ∷ xs) →
+apart_head : (x : Access) (xs ys : List Access) → LoadApart (x ∷ xs) →
     (loads x (number_of x.reg) ≡ true → waits_for ys (number_of x.reg) ≡ false) →
     loads x (number_of x.reg) ≡ true →
     waits_for (xs ++ ys) (number_of x.reg) ≡ false
 apart_head x xs ys apart other h =
     waits_append xs ys (number_of x.reg) ∙ ap₂ (λ a b. a || b) (apart.0 h) (other h)
 
-pub apart_append : (xs ys : List Access) → AreApart xs → AreApart ys →
+pub apart_append : (xs ys : List Access) → LoadApart xs → LoadApart ys →
     ((r : ℕ) → waits_for ys r ≡ true → waits_for xs r ≡ false) →
-    AreApart (xs ++ ys)
+    LoadApart (xs ++ ys)
 unfolding waits_for
 apart_append [] ys apart others new = others
 apart_append (x ∷ xs) ys apart others new = (
@@ -292,8 +292,8 @@ apart_append (x ∷ xs) ys apart others new = (
 pub issue_stays_apart : (i : Instr) (pending : List Access) (regs : List ℕ) (carry : Bool) (pc next : ℕ) (change : Change) → IsValid i →
     meaning_of i regs carry pc next ≡ goes change →
     busy_register (Some i) pending ≡ None →
-    AreApart pending →
-    AreApart (pending ++ change_accesses change)
+    LoadApart pending →
+    LoadApart (pending ++ change_accesses change)
 issue_stays_apart i pending regs carry pc next change valid is free apart =
     let issue = issued_apart i regs carry pc next change valid is in
     apart_append pending (change_accesses change) apart issue.apart

@@ -65,19 +65,20 @@ unfoldable pub waits_for : List Access → ℕ → Bool
 waits_for [] register = false
 waits_for (a ∷ accesses) register = loads a register || waits_for accesses register
 
--- the words that differ between two contents of memory, each with its address and its later value, in order of
--- address: among the first words, and among all
+-- the words that differ between two contents of memory, among the first so many words: each with its address and its
+-- later value, in order of address
 unfoldable pub changed_among : ℕ → (ℕ → ℕ) → (ℕ → ℕ) → List (ℕ × ℕ)
 changed_among zero old new = []
 changed_among (suc words) old new =
     changed_among words old new
     ++ (if old (4 * words) == new (4 * words) then [] else (4 * words, new (4 * words)) ∷ [])
 
+-- the same among all words
 unfoldable pub changed_words : (ℕ → ℕ) → (ℕ → ℕ) → List (ℕ × ℕ)
 changed_words old new = changed_among (2 ^ 30) old new
 
 -- no two accesses load one register, r0 aside
-abbrev pub AreApart : List Access → Type 0
-AreApart [] = Unit {0}
-AreApart (a ∷ accesses) =
-    (loads a (number_of a.reg) ≡ true → waits_for accesses (number_of a.reg) ≡ false) × AreApart accesses
+abbrev pub LoadApart : List Access → Type 0
+LoadApart [] = Unit {0}
+LoadApart (a ∷ accesses) =
+    (loads a (number_of a.reg) ≡ true → waits_for accesses (number_of a.reg) ≡ false) × LoadApart accesses

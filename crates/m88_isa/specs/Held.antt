@@ -23,6 +23,7 @@ abbrev pub fetched_instruction : Option (List ℕ) → Option Instr → Option I
 fetched_instruction None i = None
 fetched_instruction (Some word) i = i
 
+-- the instruction at an address, if it can be fetched and is one
 abbrev pub instruction_at : Program → ℕ → Option Instr
 instruction_at p a = fetched_instruction (four_bytes p.byte a) (p.instruction a)
 

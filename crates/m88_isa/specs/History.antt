@@ -8,10 +8,11 @@ use Rattle.m88_isa.specs.Machine.{Program, State, Turn, changes, opening, output
 use Rattle.m88_isa.specs.Memory.{access_of}
 use Rattle.m88_isa.specs.declared.planned.Access.{Access}
 
--- the accesses of a change, and those of a turn, in order
+-- the accesses of a change, in order
 abbrev pub change_accesses : Change → List Access
 change_accesses change = map access_of change.touches
 
+-- those of a turn
 abbrev pub turn_accesses : Turn → List Access
 turn_accesses (changes change) = change_accesses change
 turn_accesses (outputs byte) = []
