@@ -11,7 +11,8 @@ use Rattle.m88_link.specs.Bases.{Standing, base_at, first_data, first_text, sect
 use Rattle.m88_link.specs.Layout.{Extent, extent, extents_of}
 use Rattle.m88_link.specs.Refusal.{is_too_large}
 use Rattle.m88_link.specs.Sizes.{object_size, sections_size, total_size}
-use Rattle.m88_link.specs.Sound.{IsSound, most_bytes}
+use Rattle.m88_base.specs.Image.{most_bytes}
+use Rattle.m88_link.specs.Sound.{IsSound}
 use Rattle.m88_link.proofs.Stood.{sections_fit, sizes_fit}
 
 abbrev len_of : Extent → ℕ

@@ -1,9 +1,11 @@
 -- The bytes of sections in an image, one section on.
-use Rattle.std.proofs.Common.{◌≡◌, ℕ, ◌+◌, ◌-◌, ◌<◌, ◌≤◌, List, [], ◌∷◌, ◌++◌, length, take, drop, get_or, cond, refl, sym, ap, ◌∙◌, arith, inl, inr}
+use Rattle.std.proofs.Common.{sum_by, zero, suc, ◌≡◌, ℕ, ◌+◌, ◌-◌, ◌<◌, ◌≤◌, List, [], ◌∷◌, ◌++◌, length, take, drop, get_or, cond, refl, sym, ap, ◌∙◌, arith, inl, inr}
 use Rattle.std.proofs.lemmas.Bool.Decides.{leb_tells, nat_tests}
 use Rattle.std.proofs.lemmas.List.{drop_more, take-append-drop, take_more}
 use Rattle.std.proofs.lemmas.List.Sums.{sum_by-append, sum_by-cons}
-use Rattle.std.specs.Prelude.{count_by, Option, None}
+use Rattle.std.proofs.lemmas.List.Sorted.{sum_by-IsPermutation}
+use Rattle.std.specs.List.Sorted.{IsPermutation}
+use Rattle.std.specs.Prelude.{count_by, Option, None, Some}
 use Rattle.std.specs.Option.{option_or}
 use Rattle.m88_base.proofs.Lookup.{byte_among-append, byte_in_above, byte_in_at, byte_in_below, option_or-none}
 use Rattle.m88_base.specs.Found.{PutsBytes}
@@ -71,3 +73,57 @@ module _ (ps : List Placed) (i : ℕ) (p : Placed) (within : i < length ps) (is 
           ∙ ap (λ o. option_or o (byte_in p a)) (sym (free_before alone a from.1 here.1)) ∙ sym (byte_more a)
     ]
   ]
+
+-- what is found at an address as a number, 0 where there is nothing, and back
+abbrev code_of : Option ℕ → ℕ
+code_of None = 0
+code_of (Some b) = suc b
+
+abbrev found_of : ℕ → Option ℕ
+found_of zero = None
+found_of (suc b) = Some b
+
+found_back : (o : Option ℕ) → found_of (code_of o) ≡ o
+found_back None = refl
+found_back (Some b) = refl
+
+nothing : (ps : List Placed) (a : ℕ) → count_by (holds a) ps ≡ 0 → sum_by (λ p. code_of (byte_in p a)) ps ≡ 0
+nothing [] a h = refl
+nothing (p ∷ ps) a h =
+    let both = sum_by-cons (one a) p ps in
+    let here : code_of (byte_in p a) ≡ 0 = ap code_of (none_in a p (omega (arith, both, h))) in
+    omega (arith, sum_by-cons (λ (q : Placed). code_of (byte_in q a)) p ps, here, nothing ps a (omega (arith, both, h)))
+
+-- what is found is a sum over the sections, where none has an address of another
+found_sum : (ps : List Placed) (a : ℕ) → count_by (holds a) ps < 2 → byte_among ps a ≡ found_of (sum_by (λ p. code_of (byte_in p a)) ps)
+found_sum [] a h = refl
+found_sum (p ∷ ps) a h = by (one a p) refl (found_sum ps a)
+  where
+    both : count_by (holds a) (p ∷ ps) ≡ one a p + count_by (holds a) ps
+    both = sum_by-cons (one a) p ps
+
+    sums : sum_by (λ (q : Placed). code_of (byte_in q a)) (p ∷ ps) ≡ code_of (byte_in p a) + sum_by (λ (q : Placed). code_of (byte_in q a)) ps
+    sums = sum_by-cons (λ (q : Placed). code_of (byte_in q a)) p ps
+
+    by : (n : ℕ) → one a p ≡ n
+        → (count_by (holds a) ps < 2 → byte_among ps a ≡ found_of (sum_by (λ q. code_of (byte_in q a)) ps))
+        → byte_among (p ∷ ps) a ≡ found_of (sum_by (λ q. code_of (byte_in q a)) (p ∷ ps))
+    by zero e rest =
+        let here = none_in a p e in
+        let sum : sum_by (λ (q : Placed). code_of (byte_in q a)) (p ∷ ps) ≡ sum_by (λ (q : Placed). code_of (byte_in q a)) ps = omega (arith, sums, ap code_of here) in
+        ap (λ o. option_or o (byte_among ps a)) here ∙ rest (omega (arith, both, h)) ∙ ap found_of (sym sum)
+    by (suc n) e rest =
+        let none : count_by (holds a) ps ≡ 0 = omega (arith, both, h, e) in
+        let sum : sum_by (λ (q : Placed). code_of (byte_in q a)) (p ∷ ps) ≡ code_of (byte_in p a) = omega (arith, sums, nothing ps a none) in
+        ap (λ o. option_or (byte_in p a) o) (nobody ps a none) ∙ option_or-none (byte_in p a) ∙ sym (found_back (byte_in p a)) ∙ ap found_of (sym sum)
+
+-- in another order no address is in two sections either
+pub alone_in_order : (xs ys : List Placed) → IsPermutation xs ys → AreAlone xs → AreAlone ys
+alone_in_order xs ys same h = λ a. omega (arith, sum_by-IsPermutation (one a) xs ys same, h a)
+
+-- and the same bytes are found
+pub found_in_order : (xs ys : List Placed) → IsPermutation xs ys → AreAlone xs → (a : ℕ) → byte_among ys a ≡ byte_among xs a
+found_in_order xs ys same h a =
+    found_sum ys a (alone_in_order xs ys same h a)
+    ∙ ap found_of (sum_by-IsPermutation (λ p. code_of (byte_in p a)) xs ys same)
+    ∙ sym (found_sum xs a (h a))

@@ -13,7 +13,8 @@ use Rattle.m88_link.specs.declared.object.Reloc.{Reloc}
 use Rattle.m88_link.specs.declared.object.Section.{Section}
 use Rattle.m88_link.specs.Bases.{Standing, base_at, base_of, section_size, stood_from, text_end, up_to_multiple}
 use Rattle.m88_link.specs.Sizes.{object_size, sections_size, total_size}
-use Rattle.m88_link.specs.Sound.{AreSections, HasRoom, IsOwnAddress, IsPatchIn, IsSound, most_bytes, origin}
+use Rattle.m88_base.specs.Image.{most_bytes}
+use Rattle.m88_link.specs.Sound.{AreSections, HasRoom, IsOwnAddress, IsPatchIn, IsSound, origin}
 
 size_at : (k : ℕ) (ss : List Section) → option_map_or (λ s. length s.bytes) (slice_get ss k) 0 ≤ sections_size ss
 size_at k [] = omega arith

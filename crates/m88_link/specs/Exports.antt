@@ -3,7 +3,7 @@ use Rattle.std.specs.Prelude.{◌≡◌, ◌⊎◌, List, ◌++◌, None, Some, 
 use Rattle.std.specs.Option.{option_map}
 use Rattle.m88_link.specs.declared.fault.LinkFault.{LinkFault}
 use Rattle.m88_link.specs.declared.object.Symbol.{Symbol}
-use Rattle.m88_link.specs.Faults.{out_of_memory}
+use Rattle.m88_link.specs.Faults.{memory_fault}
 use Rattle.m88_link.specs.Refusal.{duplicate_fault}
 use Rattle.m88_link.specs.Symbols.{repeated_after}
 
@@ -12,4 +12,4 @@ abbrev pub TakesSymbols : List Symbol → List Symbol → List Symbol → Result
 TakesSymbols old new symbols result =
     MatchResult result
     (λ _. (new ≡ old ++ symbols) × (repeated_after old symbols ≡ None))
-    (λ e. (e ≡ out_of_memory) ⊎ (option_map duplicate_fault (repeated_after old symbols) ≡ Some e))
+    (λ e. (e ≡ memory_fault) ⊎ (option_map duplicate_fault (repeated_after old symbols) ≡ Some e))

@@ -8,7 +8,7 @@ use Rattle.m88_link.specs.declared.fault.LinkKind.TheVariants as kind
 use Rattle.m88_link.specs.declared.object.Symbol.{Symbol}
 use Rattle.m88_link.specs.Field.{distance, is_in_reach}
 use Rattle.m88_link.specs.Layout.{Extent, Layout, Reference}
-use Rattle.m88_link.specs.Sound.{most_bytes}
+use Rattle.m88_base.specs.Image.{most_bytes}
 use Rattle.m88_link.specs.Symbols.{Repetition, first_repeated}
 
 -- 1. TooLarge: the bytes are more than 1,048,576, or reach past 0xFFFFFFFF

@@ -5,7 +5,7 @@ use Rattle.m88_link.specs.declared.fault.LinkFault.{LinkFault}
 use Rattle.m88_link.specs.declared.object.Reloc.{Reloc}
 use Rattle.m88_link.specs.declared.object.Symbol.{Symbol}
 use Rattle.m88_link.specs.Bases.{Standing, base_of}
-use Rattle.m88_link.specs.Faults.{out_of_memory}
+use Rattle.m88_link.specs.Faults.{memory_fault}
 use Rattle.m88_link.specs.Layout.{Reference, reference}
 use Rattle.m88_link.specs.Refusal.{too_far, undefined}
 
@@ -18,4 +18,4 @@ abbrev pub Checks : List Symbol → Standing → List Reloc → Option LinkFault
 Checks globals s relocs old new result =
     MatchResult result
     (λ _. (new ≡ option_or old (too_far (uses_in globals s relocs))) × (undefined (uses_in globals s relocs) ≡ None))
-    (λ e. (e ≡ out_of_memory) ⊎ (undefined (uses_in globals s relocs) ≡ Some e))
+    (λ e. (e ≡ memory_fault) ⊎ (undefined (uses_in globals s relocs) ≡ Some e))

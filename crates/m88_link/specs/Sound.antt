@@ -1,5 +1,6 @@
 -- Soundness: what every object keeps that the assembler makes and the linker takes.
 use Rattle.std.specs.Prelude.{◌≡◌, ℕ, ◌+◌, ◌%◌, ◌^◌, ◌≤◌, List, [], ◌∷◌, length, slice_get, All, IfSome, IsSomeAnd, IsTrue, None, codes}
+use Rattle.m88_base.specs.Image.{most_bytes}
 use Rattle.m88_link.specs.declared.object.Object.{Object}
 use Rattle.m88_link.specs.declared.object.Place.{Place}
 use Rattle.m88_link.specs.declared.object.Place.TheVariants.{Text, DataSection, At}
@@ -25,10 +26,6 @@ abbrev pub origin : Place → ℕ
 origin Text = 0
 origin DataSection = 0
 origin (At a) = a
-
--- the most bytes that a section has, and all sections together
-abbrev pub most_bytes : ℕ
-most_bytes = 2 ^ 20
 
 -- a section has at most 1,048,576 bytes, none past 0xFFFFFFFF
 abbrev pub HasRoom : Section → Type 0

@@ -2,7 +2,7 @@
 ghost use Rattle.std.specs.Prelude.{◌≡◌, ◌∷◌, ◌⊎◌, [], IfErr, IfOk, None, OnOk, Some, flat_map};
 ghost use Rattle.m88_link.specs.Bases.{base_of};
 ghost use Rattle.m88_link.specs.Exports.{TakesSymbols};
-ghost use Rattle.m88_link.specs.Faults.{out_of_memory};
+ghost use Rattle.m88_link.specs.Faults.{memory_fault};
 ghost use Rattle.m88_link.specs.Layout.{globals_of};
 ghost use Rattle.m88_link.specs.Refusal.{duplicate};
 ghost use Rattle.m88_link.specs.Symbols.{exported};
@@ -17,7 +17,7 @@ use std::alloc::Global;
 pub fn globals(alloc: Global, standings: &[Placement]) -> Result<SymbolTable, LinkFault>
     ensures ok { IfOk result (λ table. table ≡ flat_map globals_of standings.now) }
     ensures once { OnOk result (duplicate (flat_map globals_of standings.now) ≡ None) }
-    ensures err { IfErr result (λ e. (e ≡ out_of_memory) ⊎ (duplicate (flat_map globals_of standings.now) ≡ Some e)) }
+    ensures err { IfErr result (λ e. (e ≡ memory_fault) ⊎ (duplicate (flat_map globals_of standings.now) ≡ Some e)) }
 {
     let mut table = SymbolTable::new(alloc);
     for standing in standings {

@@ -1,10 +1,12 @@
 //! Why a list of objects has no image.
 
 ghost use Rattle.std.specs.Prelude.{◌≡◌};
-ghost use Rattle.m88_link.specs.Faults.{out_of_memory};
+ghost use Rattle.m88_link.specs.Faults.{memory_fault};
 
 use m88_base::Name;
 use std::alloc::{AllocError, AllocFailed};
+use std::error::Error;
+use std::fmt;
 
 /// Why objects can't be linked, in the order in which the reasons are tried.
 #[derive(Clone, Copy, PartialEq, Eq, Debug)]
@@ -23,6 +25,36 @@ pub enum LinkKind {
     Memory,
 }
 
+impl fmt::Display for LinkKind {
+    fn fmt<W: fmt::Write>(&self, f: &mut fmt::Formatter<W>) -> fmt::Result {
+        match self {
+            LinkKind::TooLarge => f.write_str("too large"),
+            LinkKind::Overlap(at) => write!(f, "overlap {at:08X}"),
+            LinkKind::Duplicate { name, first } => {
+                f.write_str("duplicate ")?;
+                write_name(f, name)?;
+                write!(f, " first at {first}")
+            }
+            LinkKind::Undefined(name) => {
+                f.write_str("undefined ")?;
+                write_name(f, name)
+            }
+            LinkKind::TooFar(distance) => write!(f, "too far {distance}"),
+            LinkKind::Memory => f.write_str("out of memory"),
+        }
+    }
+}
+
+/// Writes a name, whose bytes are ASCII.
+fn write_name<W: fmt::Write>(f: &mut fmt::Formatter<W>, name: &Name) -> fmt::Result {
+    for byte in name.bytes() {
+        write!(f, "{}", char::from(*byte))?;
+    }
+    Ok(())
+}
+
+impl Error for LinkKind {}
+
 /// The first reason why objects can't be linked, with the line and column that it is told at. Out of
 /// memory has line 0 and column 0.
 #[derive(Clone, Copy, PartialEq, Eq, Debug)]
@@ -34,6 +66,14 @@ pub struct LinkFault {
     /// The reason.
     pub kind: LinkKind,
 }
+
+impl fmt::Display for LinkFault {
+    fn fmt<W: fmt::Write>(&self, f: &mut fmt::Formatter<W>) -> fmt::Result {
+        write!(f, "{}:{} {}", self.line, self.col, self.kind)
+    }
+}
+
+impl Error for LinkFault {}
 
 /// There are too many bytes, told at line 1, column 1.
 pub const TOO_LARGE: LinkFault = LinkFault {
@@ -50,7 +90,7 @@ const OUT_OF_MEMORY: LinkFault = LinkFault {
 };
 
 impl From<AllocError> for LinkFault {
-    ghost from_gives = { λ _ e. e ≡ out_of_memory };
+    ghost from_gives = { λ _ e. e ≡ memory_fault };
 
     fn from(_e: AllocError) -> LinkFault {
         OUT_OF_MEMORY
@@ -58,7 +98,7 @@ impl From<AllocError> for LinkFault {
 }
 
 impl<T: Drop> From<AllocFailed<T>> for LinkFault {
-    ghost from_gives = { λ _ e. e ≡ out_of_memory };
+    ghost from_gives = { λ _ e. e ≡ memory_fault };
 
     fn from(_e: AllocFailed<T>) -> LinkFault {
         OUT_OF_MEMORY

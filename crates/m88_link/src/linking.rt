@@ -1,6 +1,6 @@
 //! The linker.
 ghost use Rattle.std.specs.Prelude.{◌≡◌, ◌⊎◌, All, IfErr, IfOk, OnOk};
-ghost use Rattle.m88_link.specs.Faults.{out_of_memory};
+ghost use Rattle.m88_link.specs.Faults.{memory_fault};
 ghost use Rattle.m88_link.specs.Layout.{layout_of};
 ghost use Rattle.m88_link.specs.Linked.{IsLinked, start_address};
 ghost use Rattle.m88_link.specs.Refusal.{IsLinkable, IsRefused};
@@ -10,7 +10,7 @@ use crate::bases::{FIRST_TEXT, fit, stand};
 use crate::exports::globals;
 use crate::fault::{LinkFault, TOO_LARGE};
 use crate::object::Object;
-use crate::placing::{put, spots};
+use crate::placing::{image_of, spots};
 use crate::resolve::check_references;
 use crate::spans::check_overlap;
 use crate::table::SymbolTable;
@@ -25,7 +25,7 @@ pub fn link(alloc: Global, objects: &[Object]) -> Result<Image, LinkFault>
     requires { All IsSound objects.now }
     ensures image { IfOk result (IsLinked (layout_of objects.now)) }
     ensures linkable { OnOk result (IsLinkable (layout_of objects.now)) }
-    ensures err { IfErr result (λ fault. (fault ≡ out_of_memory) ⊎ IsRefused (layout_of objects.now) fault) }
+    ensures err { IfErr result (λ fault. (fault ≡ memory_fault) ⊎ IsRefused (layout_of objects.now) fault) }
 {
     if !fit(objects) {
         return Err(TOO_LARGE);
@@ -44,8 +44,7 @@ pub fn link(alloc: Global, objects: &[Object]) -> Result<Image, LinkFault>
         Err(fault) => return Err(fault),
     }
     let spots = spots(alloc, &standings, &globals)?;
-    let mut image = Image::new(alloc);
-    put(&mut image, &spots)?;
+    let mut image = image_of(alloc, spots)?;
     image.set_start(start(&globals));
     Ok(image)
 }

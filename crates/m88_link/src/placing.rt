@@ -7,7 +7,7 @@ ghost use Rattle.m88_link.specs.Bases.{base_at};
 ghost use Rattle.m88_link.specs.Carried.{AreAlone, HasWord, bare, carried, patched_spot};
 ghost use Rattle.m88_link.specs.Layout.{spots_of, value_of_name};
 ghost use Rattle.m88_link.specs.Relocated.{target_of};
-ghost use Rattle.m88_link.specs.Sound.{most_bytes};
+ghost use Rattle.m88_base.specs.Image.{most_bytes};
 
 use crate::bases::Placement;
 use crate::object::{Reloc, Section};
@@ -138,8 +138,21 @@ fn carry_out(
     }
 }
 
+/// The image of sections, no two of which have one address; it starts at 0x00001000.
+pub fn image_of(alloc: Global, mut spots: Vec<Spot>) -> Result<Image, AllocError>
+    requires alone { AreAlone spots.items }
+    requires fit { count_among spots.items ≤ most_bytes }
+    ensures bytes { IfOk result (λ image. (a : ℕ) → byte_at image a ≡ byte_among spots.items a) }
+    ensures count { IfOk result (λ image. byte_count image ≡ count_among spots.items) }
+{
+    spots.sort_unstable_by_key(|spot| spot.at());
+    let mut image = Image::new(alloc);
+    put(&mut image, &spots)?;
+    Ok(image)
+}
+
 /// Puts the bytes of sections, no two of which have one address, into an empty image.
-pub fn put(image: &mut Image, spots: &[Spot]) -> Result<(), AllocError>
+fn put(image: &mut Image, spots: &[Spot]) -> Result<(), AllocError>
     requires empty { (a : ℕ) → byte_at image.old a ≡ byte_among [] a }
     requires none { byte_count image.old ≡ 0 }
     requires alone { AreAlone spots.now }

@@ -2,7 +2,7 @@
 ghost use Rattle.std.specs.Prelude.{◌≡◌, ◌∷◌, ◌⊎◌, [], All, IfErr, IfOk, unwrap_or, None, OnOk, Some, flat_map};
 ghost use Rattle.std.specs.Option.{option_or};
 ghost use Rattle.m88_link.specs.Bases.{base_of};
-ghost use Rattle.m88_link.specs.Faults.{out_of_memory};
+ghost use Rattle.m88_link.specs.Faults.{memory_fault};
 ghost use Rattle.m88_link.specs.Layout.{reference, references_of, value_of_name};
 ghost use Rattle.m88_link.specs.Refusal.{too_far, undefined};
 ghost use Rattle.m88_link.specs.Relocated.{target_of};
@@ -27,7 +27,7 @@ pub fn check_references(
 ) -> Result<(), LinkFault>
     ensures ok { OnOk result (option_or (undefined (flat_map (references_of globals.now) standings.now))
         (too_far (flat_map (references_of globals.now) standings.now)) ≡ None) }
-    ensures err { IfErr result (λ e. (e ≡ out_of_memory)
+    ensures err { IfErr result (λ e. (e ≡ memory_fault)
         ⊎ (option_or (undefined (flat_map (references_of globals.now) standings.now))
         (too_far (flat_map (references_of globals.now) standings.now)) ≡ Some e)) }
 {

@@ -2,7 +2,7 @@
 ghost use Rattle.std.specs.Prelude.{◌≡◌, ◌+◌, ◌^◌, ◌≤◌, ◌⊎◌, ◌++◌, All, IfErr, IfOk, IfSome, MatchOption, MatchResult, OnOk, Some, option_copied, flat_map, length, map, slice_get, filter};
 ghost use Rattle.std.specs.List.Sorted.{IsNonDecreasingBy};
 ghost use Rattle.m88_link.specs.Bases.{base_at};
-ghost use Rattle.m88_link.specs.Faults.{out_of_memory};
+ghost use Rattle.m88_link.specs.Faults.{memory_fault};
 ghost use Rattle.m88_link.specs.Layout.{extent, extents_of};
 ghost use Rattle.m88_link.specs.Refusal.{AreDisjoint, IsOverlap, covers, hits};
 ghost use Rattle.m88_link.specs.Spans.{IsLeastDouble};
@@ -136,7 +136,7 @@ fn second_at(spans: &[Span], at: u32) -> Option<&Span>
 /// Refuses sections of which two have one address.
 pub fn check_overlap(alloc: Global, standings: &[Placement]) -> Result<(), LinkFault>
     ensures ok { OnOk result (AreDisjoint (flat_map extents_of standings.now)) }
-    ensures err { IfErr result (λ e. (e ≡ out_of_memory) ⊎ IsOverlap (flat_map extents_of standings.now) e) }
+    ensures err { IfErr result (λ e. (e ≡ memory_fault) ⊎ IsOverlap (flat_map extents_of standings.now) e) }
 {
     let mut spans = extents(alloc, standings)?;
     spans.sort_unstable_by_key(|span| span.at());
@@ -149,7 +149,7 @@ pub fn check_overlap(alloc: Global, standings: &[Placement]) -> Result<(), LinkF
 /// Refuses sections whose least address with two bytes is known.
 fn overlap(alloc: Global, standings: &[Placement], at: u32) -> Result<(), LinkFault>
     requires { IsLeastDouble (flat_map extents_of standings.now) at }
-    ensures { MatchResult result (λ _. ⊥) (λ e. (e ≡ out_of_memory) ⊎ IsOverlap (flat_map extents_of standings.now) e) }
+    ensures { MatchResult result (λ _. ⊥) (λ e. (e ≡ memory_fault) ⊎ IsOverlap (flat_map extents_of standings.now) e) }
 {
     let spans = extents(alloc, standings)?;
     match second_at(&spans, at) {

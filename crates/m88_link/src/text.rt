@@ -16,17 +16,6 @@ pub fn object_text(alloc: Global, objects: &[Object]) -> Result<Vec<u8>, NoMemor
     requires { All IsSound objects.now }
     ensures { IfOk result (λ text. text.items ≡ objects_text objects.now) }
 {
-    match text_of(alloc, objects) {
-        Ok(text) => Ok(text),
-        Err(_) => Err(NoMemory),
-    }
-}
-
-/// The text of objects, or the allocator's own error.
-fn text_of(alloc: Global, objects: &[Object]) -> Result<Vec<u8>, AllocError>
-    requires { All IsSound objects.now }
-    ensures { IfOk result (λ text. text.items ≡ objects_text objects.now) }
-{
     let mut text = Vec::new(alloc);
     for object in objects {
         push_object(&mut text, object)?;

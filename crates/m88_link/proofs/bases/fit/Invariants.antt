@@ -1,6 +1,6 @@
 use Rattle.std.proofs.Common.{◌≡◌, ◌+◌, take}
 use Rattle.m88_link.specs.Sizes.{total_size}
-use Rattle.m88_link.specs.Sound.{most_bytes}
+use Rattle.m88_base.specs.Image.{most_bytes}
 use Rattle.m88_link.proofs.bases.fit.Given as goal
 
 abbrev pub invariant-loop-object : goal.invariant-loop-object

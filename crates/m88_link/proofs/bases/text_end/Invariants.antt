@@ -1,6 +1,6 @@
 use Rattle.std.proofs.Common.{◌≡◌, ◌+◌, ◌*◌, ◌≤◌, drop, sum_by}
 use Rattle.m88_link.specs.Bases.{first_text, section_size, text_end, up_to_multiple}
-use Rattle.m88_link.specs.Sound.{most_bytes}
+use Rattle.m88_base.specs.Image.{most_bytes}
 use Rattle.m88_link.proofs.bases.text_end.Given as goal
 
 abbrev pub invariant-loop-object : goal.invariant-loop-object

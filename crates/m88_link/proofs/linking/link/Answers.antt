@@ -7,7 +7,7 @@ use Rattle.m88_link.specs.Carried.{AreAlone}
 use Rattle.m88_link.specs.Layout.{extents_of, globals_of, references_of, spots_of}
 use Rattle.m88_link.specs.Refusal.{AreDisjoint, IsOverlap, duplicate, too_far, undefined}
 use Rattle.m88_link.specs.Sizes.{total_size}
-use Rattle.m88_link.specs.Sound.{most_bytes}
+use Rattle.m88_base.specs.Image.{most_bytes}
 use Rattle.m88_link.proofs.Linkage.{linkable, refused_duplicate, refused_overlap, refused_reference, refused_too_large, spots_alone, spots_few}
 use Rattle.m88_link.proofs.linking.link.Goals as goal
 
@@ -59,21 +59,21 @@ returns-in-Err-check_references-clause-err c =
           (c.deref-3.ensures.value ∙ c.in_ok-standings.ensures) found))
     ]
 
-pub put-requires-clause-alone : goal.put-requires-clause-alone
-put-requires-clause-alone c =
+pub image_of-requires-clause-alone : goal.image_of-requires-clause-alone
+image_of-requires-clause-alone c =
     let os = c.args.objects.now in
     let few : total_size os ≤ most_bytes = c.if-not-fit.ensures.0 refl in
     let alone = subst (λ l. AreDisjoint (flat_map extents_of l)) (c.deref.ensures.value ∙ c.in_ok-standings.ensures) c.in-Ok.ensures.ok in
     let globals = c.in-Ok-globals.globals in
-    let spots = c.deref-5.ensures.value ∙ c.in_ok-spots.ensures ∙ ap (λ l. flat_map (spots_of globals) l) (c.deref-4.ensures.value ∙ c.in_ok-standings.ensures) in
+    let spots = c.in_ok-spots.ensures ∙ ap (λ l. flat_map (spots_of globals) l) (c.deref-4.ensures.value ∙ c.in_ok-standings.ensures) in
     subst (λ l. AreAlone l) (sym spots) (spots_alone os c.requires few alone globals)
 
-pub put-requires-clause-fit : goal.put-requires-clause-fit
-put-requires-clause-fit c =
+pub image_of-requires-clause-fit : goal.image_of-requires-clause-fit
+image_of-requires-clause-fit c =
     let os = c.args.objects.now in
     let few : total_size os ≤ most_bytes = c.if-not-fit.ensures.0 refl in
     let globals = c.in-Ok-globals.globals in
-    let spots = c.deref-5.ensures.value ∙ c.in_ok-spots.ensures ∙ ap (λ l. flat_map (spots_of globals) l) (c.deref-4.ensures.value ∙ c.in_ok-standings.ensures) in
+    let spots = c.in_ok-spots.ensures ∙ ap (λ l. flat_map (spots_of globals) l) (c.deref-4.ensures.value ∙ c.in_ok-standings.ensures) in
     subst (λ l. count_among l ≤ most_bytes) (sym spots) (spots_few os c.requires few globals)
 
 pub returns-clause-linkable : goal.returns-clause-linkable
