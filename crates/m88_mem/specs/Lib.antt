@@ -1,0 +1,2 @@
+pub mod DataBus
+pub mod Marks

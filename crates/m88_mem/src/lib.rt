@@ -1,0 +1,11 @@
+//! Memory over two buses: the instruction bus has the image as it was linked, and the data bus starts with
+//! the same bytes and has pages that are present or absent.
+#![tactic(auto)]
+
+mod absent_page;
+mod marks;
+mod memory;
+mod places;
+
+pub use absent_page::AbsentPage;
+pub use memory::{Memory, PAGE_BYTES, PAGE_COUNT};
