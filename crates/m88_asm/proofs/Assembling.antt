@@ -16,7 +16,8 @@ use Rattle.m88_parse.specs.declared.unit.Statement.{Statement}
 use Rattle.m88_link.specs.declared.object.Object.{Object}
 use Rattle.m88_link.specs.declared.object.Place.TheVariants as place
 use Rattle.m88_link.specs.declared.object.Section.{Section}
-use Rattle.m88_link.specs.Sound.{HasRoom, most_bytes, origin}
+use Rattle.m88_base.specs.Image.{most_bytes}
+use Rattle.m88_link.specs.Sound.{HasRoom, origin}
 use Rattle.m88_asm.specs.Counters.{Counters, Located, advanced, after, at_begin, at_body, entered, length_at, located, offset_here, place_here}
 use Rattle.m88_asm.specs.Drafts.{Growth, IsOpen, counters_of, empty_growth, next_row, no_section, nth, section_at, sections_at, with_bytes, with_statement, with_statements}
 use Rattle.m88_asm.specs.Faults.{misfit_at, misplaced_at, too_large_at}

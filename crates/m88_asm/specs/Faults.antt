@@ -7,7 +7,7 @@ use Rattle.m88_parse.specs.declared.unit.Body.TheVariants.{Word, Half, Code}
 use Rattle.m88_parse.specs.declared.unit.Module.{Module}
 use Rattle.m88_parse.specs.declared.unit.Statement.{Statement}
 use Rattle.m88_parse.specs.declared.unit.Unit.{Unit as Source}
-use Rattle.m88_link.specs.Sound.{most_bytes}
+use Rattle.m88_base.specs.Image.{most_bytes}
 use Rattle.m88_link.specs.Symbols.{Repetition, repeated_after}
 use Rattle.m88_link.specs.declared.object.Symbol.{Symbol}
 use Rattle.m88_asm.specs.declared.fault.AsmFault.{AsmFault}
