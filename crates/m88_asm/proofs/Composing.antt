@@ -116,7 +116,7 @@ same_value globals b = ap (λ f. λ name. unwrap_or (symbol_meaning globals f (s
 abbrev pub CanReach : List Symbol → Based → Type 0
 CanReach globals b = AreInReach (value_in_module globals b) (base_in b) (flat_map uses_of (lines_in b.source))
 
-formed : (xs : List Statement) → All IsFormedStatement xs → AllFormed xs
+pub formed : (xs : List Statement) → All IsFormedStatement xs → AllFormed xs
 formed [] h = tt
 formed (x ∷ xs) h = (h 0 x (omega arith), formed xs (λ k d l. h (suc k) d (omega arith)))
 

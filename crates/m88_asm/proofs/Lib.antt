@@ -5,3 +5,6 @@ pub mod Assembling
 pub mod Resting
 pub mod Sounding
 pub mod Composing
+pub mod Reaching
+pub mod Imaging
+pub mod Instructions

@@ -27,9 +27,9 @@ use Rattle.m88_asm.specs.Objects.{Head, labels_at, lines_in, marked, object_of, 
 use Rattle.m88_asm.proofs.Assembling.{counters_empty, counters_next, grown_object, open_next}
 
 -- the section that stands is one of those that are
-record Stands (c : Counters) : Type 0 where
-  both : 2 ≤ c.count
-  here : c.here < c.count
+pub record Stands (c : Counters) : Type 0 where
+  pub both : 2 ≤ c.count
+  pub here : c.here < c.count
 
 -- sections stay where they are, and only grow
 record Extends (c d : Counters) : Type 0 where
@@ -37,7 +37,7 @@ record Extends (c d : Counters) : Type 0 where
   starts : (k : ℕ) → k < c.count → d.starts k ≡ c.starts k
   lengths : (k : ℕ) → c.lengths k ≤ d.lengths k
 
-entered_stands : (c : Counters) (b : Body) → Stands c → Stands (entered c b)
+pub entered_stands : (c : Counters) (b : Body) → Stands c → Stands (entered c b)
 entered_stands c body.Text s = record { both = s.both; here = omega (arith, s.both) }
 entered_stands c body.DataSection s = record { both = s.both; here = omega (arith, s.both) }
 entered_stands c (body.At a) s = record { both = omega (arith, s.both); here = omega arith }
@@ -66,7 +66,7 @@ extends-trans a b c p q = record {
   lengths = λ k. omega (arith, p.lengths k, q.lengths k);
 }
 
-after_stands : (c : Counters) (b : Body) → Stands c → Stands (after c b)
+pub after_stands : (c : Counters) (b : Body) → Stands c → Stands (after c b)
 after_stands c b s = let t = entered_stands c b s in record { both = t.both; here = t.here }
 
 after_extends : (c : Counters) (b : Body) → Extends c (after c b)

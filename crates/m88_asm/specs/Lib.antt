@@ -4,4 +4,6 @@ pub mod Filled
 pub mod Objects
 pub mod Faults
 pub mod Units
+pub mod Accepted
+pub mod Images
 pub mod Drafts

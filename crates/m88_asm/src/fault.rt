@@ -3,6 +3,7 @@ ghost use Rattle.std.specs.Prelude.{◌≡◌};
 ghost use Rattle.m88_asm.specs.Fault.{memory_fault};
 
 use m88_base::Name;
+use m88_link::LinkFault;
 use std::alloc::{AllocError, AllocFailed};
 use std::error::Error;
 use std::fmt;
@@ -77,3 +78,23 @@ impl<T: Drop> From<AllocFailed<T>> for AsmFault {
         OUT_OF_MEMORY
     }
 }
+
+/// Why a unit has no image.
+#[derive(Clone, Copy, PartialEq, Eq, Debug)]
+pub enum UnitFault {
+    /// The first fault of its statements.
+    Asm(AsmFault),
+    /// The first refusal of its layout, where no statement has a fault.
+    Link(LinkFault),
+}
+
+impl fmt::Display for UnitFault {
+    fn fmt<W: fmt::Write>(&self, f: &mut fmt::Formatter<W>) -> fmt::Result {
+        match self {
+            UnitFault::Asm(fault) => write!(f, "{fault}"),
+            UnitFault::Link(fault) => write!(f, "{fault:?}"),
+        }
+    }
+}
+
+impl Error for UnitFault {}

@@ -6,7 +6,9 @@ mod exports;
 mod fault;
 mod filling;
 mod growing;
+mod image;
 mod objects;
 
-pub use fault::{AsmFault, AsmKind};
+pub use fault::{AsmFault, AsmKind, UnitFault};
+pub use image::image_of;
 pub use objects::assemble;

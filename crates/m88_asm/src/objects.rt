@@ -1,13 +1,18 @@
 //! The objects of a unit.
-ghost use Rattle.std.specs.Prelude.{◌≡◌, ◌⊎◌, ◌^◌, ◌<◌, [], None, Some, length, map, IfErr, IfOk, OnOk};
+ghost use Rattle.std.specs.Prelude.{◌≡◌, ◌⊎◌, ◌^◌, ◌<◌, ℕ, [], None, Some, length, map, slice_get, take, IfErr, IfOk, OnOk};
 ghost use Rattle.std.specs.List.{All, sum_by};
 ghost use Rattle.m88_parse.specs.WellFormed.{IsFormedModule, IsFormedStatement, IsWellFormed};
 ghost use Rattle.m88_link.specs.Sound.{IsSound};
-ghost use Rattle.m88_asm.specs.Counters.{at_begin, located};
+ghost use Rattle.m88_link.specs.Layout.{layout_of};
+ghost use Rattle.m88_link.specs.Refusal.{IsLinkable, IsRefused};
+ghost use Rattle.m88_link.specs.declared.fault.LinkFault.{LinkFault as Refusal};
+ghost use Rattle.m88_parse.specs.declared.unit.Module.{Module as Part};
+ghost use Rattle.m88_asm.specs.Counters.{Located, at_begin, located, offset_of, section_of};
 ghost use Rattle.m88_asm.specs.Drafts.{empty_growth, with_statements};
 ghost use Rattle.m88_asm.specs.Fault.{memory_fault};
 ghost use Rattle.m88_asm.specs.Faults.{IsAssembled, first_fault, module_fault, modules_fault, unit_fault};
-ghost use Rattle.m88_asm.specs.Objects.{object_of, objects_of};
+ghost use Rattle.m88_asm.specs.Objects.{lines_in, object_of, objects_of};
+ghost use Rattle.m88_asm.specs.Units.{length_in, unit_layout};
 
 use crate::assembly::Assembly;
 use crate::fault::AsmFault;
@@ -80,6 +85,15 @@ pub fn assemble(alloc: Global, unit: &Unit) -> Result<Vec<Object>, AsmFault>
     ensures accepted { OnOk result (IsAssembled unit.now) }
     // A fault is the first one, or memory ran out.
     ensures fault { IfErr result (λ e. (e ≡ memory_fault) ⊎ (unit_fault unit.now ≡ Some e)) }
+    // Linking looks at the objects as it would at the unit: a layout that can be linked is the unit's,
+    // and a refusal is the unit's.
+    ensures layout { IsLinkable (layout_of (objects_of unit.now))
+        → layout_of (objects_of unit.now) ≡ unit_layout unit.now }
+    ensures refusal { (e : Refusal) → IsRefused (layout_of (objects_of unit.now)) e
+        → IsRefused (unit_layout unit.now) e }
+    // A statement stands in its section behind the statements before it there.
+    ensures offsets { (m : Part) (i : ℕ) (r : Located) → slice_get (lines_in m) i ≡ Some r
+        → offset_of r ≡ sum_by (length_in (section_of r)) (take i (lines_in m)) }
 {
     objects(alloc, unit.modules.as_slice())
 }

@@ -1,0 +1,68 @@
+-- The image of a unit: the bytes that its statements give at their addresses, its start, and the instruction that is placed at
+-- an address.
+use Rattle.std.specs.Prelude.{◌≡◌, ◌⊎◌, ℕ, ◌+◌, ◌%◌, ◌<◌, ◌==◌, if◌then◌else◌, List, [], ◌∷◌, map, flat_map, slice_get, Option, None, Some}
+use Rattle.std.specs.Int.{to_be_bytes, w32}
+use Rattle.std.specs.Option.{option_or}
+use Rattle.m88_base.specs.Placed.{Placed, byte_among}
+use Rattle.m88_isa.specs.Instr.{IsValid}
+use Rattle.m88_isa.specs.Word.{word_of}
+use Rattle.m88_isa.specs.declared.instr.Instr.{Instr}
+use Rattle.m88_parse.specs.declared.unit.Body.{Body}
+use Rattle.m88_parse.specs.declared.unit.Body.TheVariants.{Code}
+use Rattle.m88_parse.specs.declared.unit.Unit.{Unit as Source}
+use Rattle.m88_link.specs.Linked.{start_address}
+use Rattle.m88_link.specs.declared.object.Symbol.{Symbol}
+use Rattle.m88_asm.specs.Counters.{Located}
+use Rattle.m88_asm.specs.Filled.{resolved}
+use Rattle.m88_asm.specs.Objects.{lines_in}
+use Rattle.m88_asm.specs.Units.{Based, address_of, based, bytes_of, unit_layout, value_in_module}
+
+-- the bytes of a statement, its symbols replaced, from its address on
+abbrev pub run_of : List Symbol → Based → Located → Placed
+run_of globals b r = record { at = address_of b r; bytes = bytes_of globals b r }
+
+-- the bytes of the statements of a module
+abbrev pub runs_in : List Symbol → Based → List Placed
+runs_in globals b = map (run_of globals b) (lines_in b.source)
+
+-- the byte that the statements of a unit give at an address
+abbrev pub unit_byte : Source → ℕ → Option ℕ
+unit_byte u = byte_among (flat_map (runs_in (unit_layout u).globals) (based u))
+
+-- the address at which a unit starts
+abbrev pub unit_start : Source → ℕ
+unit_start u = start_address (unit_layout u).globals
+
+-- the instruction that a body is at an address
+abbrev pub code_in : (List ℕ → ℕ) → ℕ → Body → Option Instr
+code_in value address (Code instr fixup) = Some (resolved value address instr fixup)
+code_in value address _ = None
+
+-- the instruction of a statement that stands at an address
+abbrev pub code_at : List Symbol → Based → ℕ → Located → Option Instr
+code_at globals b address r =
+    if address_of b r == address then code_in (value_in_module globals b) (address_of b r) r.statement.body else None
+
+-- the first that is found
+abbrev pub first_of : {A B : Type 0} → (A → Option B) → List A → Option B
+first_of find_in [] = None
+first_of find_in (x ∷ xs) = option_or (find_in x) (first_of find_in xs)
+
+abbrev pub module_code : List Symbol → ℕ → Based → Option Instr
+module_code globals address b = first_of (code_at globals b address) (lines_in b.source)
+
+-- the instruction statement that is placed at an address, its symbol replaced
+abbrev pub placed_instruction : Source → ℕ → Option Instr
+placed_instruction u address = first_of (module_code (unit_layout u).globals address) (based u)
+
+-- the four bytes of an instruction's word stand at an address, so that they are read as this instruction
+abbrev pub HasInstruction : (ℕ → Option ℕ) → ℕ → Instr → Type 0
+HasInstruction found address instr =
+    IsValid instr × ((k : ℕ) → k < 4 → found (address + k) ≡ slice_get (to_be_bytes w32 (word_of instr)) k)
+
+-- the instruction at an address of a unit: the one that is placed there, else the one that four bytes at a multiple of 4
+-- are read as
+abbrev pub IsInstructionAt : Source → ℕ → Instr → Type 0
+IsInstructionAt u address instr =
+    (placed_instruction u address ≡ Some instr)
+    ⊎ ((placed_instruction u address ≡ None) × (address % 4 ≡ 0) × HasInstruction (unit_byte u) address instr)
