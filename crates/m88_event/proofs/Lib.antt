@@ -2,4 +2,5 @@ pub mod Letters
 pub mod Follows
 pub mod Bound
 pub mod Over
+pub mod Precise
 pub mod Worked

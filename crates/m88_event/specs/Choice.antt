@@ -88,3 +88,9 @@ said (serves byte) fault = happened.Served byte
 said (finishes stop) fault = happened.Ended (end_by stop)
 said replies fault = happened.Answered
 said faults fault = happened.Faulted fault
+
+-- an event that serves a trap or ends the program
+abbrev pub ServesOrEnds : Happened → Type 0
+ServesOrEnds (happened.Served byte) = Unit {0}
+ServesOrEnds (happened.Ended end) = Unit {0}
+ServesOrEnds _ = ⊥

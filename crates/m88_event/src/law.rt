@@ -2,6 +2,8 @@
 
 ghost use Rattle.std.specs.Prelude.{ℕ, Bool, List, ◌≡◌, ◌≤◌, ◌+◌, ◌*◌, length};
 ghost use Rattle.m88_isa.specs.Machine.{IsProgram, Program};
+ghost use Rattle.m88_isa.specs.History.{transaction_count};
+ghost use Rattle.m88_event.specs.Choice.{ServesOrEnds};
 ghost use Rattle.m88_event.specs.Local.{local_at, move, said_by};
 ghost use Rattle.m88_event.specs.Run.{IsRun};
 ghost use Rattle.m88_event.specs.Timeline.{DoneWereMade, Moment, after_letter, said_at};
@@ -9,8 +11,9 @@ ghost use Rattle.m88_event.specs.declared.letter.Letter.{Letter as LetterValue};
 
 /// What a letter makes of what a moment looks like is what the next moment looks like, and both say the same of the
 /// event. So a board that moves as its own look tells, which names no beginning, goes along the timeline of the
-/// program that it began with. Every run is over within the letters of its schedule, eight events for each
-/// instruction that it may retire, and eight more. It does nothing: the law is its contract.
+/// program that it began with. A trap is served and the program ends only where no transaction is pending. Every run
+/// is over within the letters of its schedule, eight events for each instruction that it may retire, and eight more.
+/// It does nothing: the law is its contract.
 pub fn moves_follow_the_timeline()
     ensures moves { (p : Program) (named : ℕ → Bool) (limit : ℕ) (letter : LetterValue) (m : Moment)
         → IsProgram p → DoneWereMade p m
@@ -19,6 +22,9 @@ pub fn moves_follow_the_timeline()
         → said_by p limit letter (local_at p named m) ≡ said_at p named limit letter m }
     ensures within { (p : Program) (named : ℕ → Bool) (limit : ℕ) (letter : LetterValue) (m : Moment)
         → DoneWereMade p m → DoneWereMade p (after_letter p named limit letter m) }
+    ensures precise { (p : Program) (named : ℕ → Bool) (limit : ℕ) (letter : LetterValue) (m : Moment)
+        → DoneWereMade p m → ServesOrEnds (said_at p named limit letter m)
+        → m.done ≡ transaction_count p m.retired }
     ensures ends { (p : Program) (named : ℕ → Bool) (limit : ℕ) (schedule : List LetterValue)
         → IsProgram p
         → (events : ℕ) × (events ≤ length schedule + 8 * limit + 8)
