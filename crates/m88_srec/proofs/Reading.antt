@@ -5,7 +5,7 @@ use Rattle.std.proofs.lemmas.Bool.Decides.{nat_tests}
 use Rattle.std.proofs.lemmas.List.{drop_all, length-drop, length-take-le}
 use Rattle.m88_srec.specs.Accepted.{number_of_bytes}
 use Rattle.m88_srec.specs.Records.{Entry, WritesEntry, RecordType, are_pairs, bytes_in, check_of, counted, framed, is_bare, letter_s, record_type, type_of}
-use Rattle.m88_srec.specs.Verdict.{Formed, Load, address_of, acted, computed_sum, data_of, following, record_form, formed_as, formed_on, framed_on, is_miscounted, judged, summed, written_count, written_sum}
+use Rattle.m88_srec.specs.Verdict.{Formed, Load, record_address, acted, computed_sum, record_data, following, record_form, formed_as, formed_on, framed_on, is_miscounted, judged, summed, written_count, written_sum}
 use Rattle.m88_srec.specs.declared.fault.SrecKind.{SrecKind}
 use Rattle.m88_srec.specs.declared.fault.SrecKind.TheVariants.{AfterEnd, Count, Sum}
 use Rattle.m88_srec.proofs.Cases.{by_bool}
@@ -36,12 +36,12 @@ from_test true kind r x e = absurd cc
 from_test false kind r x e = (refl, e)
 
 from_sum : (load later : Load) (f : Formed) → summed load f ≡ Ok later
-    → (written_sum f ≡ computed_sum f) × (acted load f.purpose (address_of f) (data_of f) ≡ Ok later)
+    → (written_sum f ≡ computed_sum f) × (acted load f.purpose (record_address f) (record_data f) ≡ Ok later)
 unfolding summed
 from_sum load later f e =
     by_bool (written_sum f == computed_sum f)
-    (λ t. (grind (arith, nat_tests), subst (λ (b : Bool). (if b then acted load f.purpose (address_of f) (data_of f) else Err (Sum (written_sum f) (computed_sum f))) ≡ Ok later) t e))
-    (λ t. absurd (let h : Err (Sum (written_sum f) (computed_sum f)) ≡ Ok later = subst (λ (b : Bool). (if b then acted load f.purpose (address_of f) (data_of f) else Err (Sum (written_sum f) (computed_sum f))) ≡ Ok later) t e in cc))
+    (λ t. (grind (arith, nat_tests), subst (λ (b : Bool). (if b then acted load f.purpose (record_address f) (record_data f) else Err (Sum (written_sum f) (computed_sum f))) ≡ Ok later) t e))
+    (λ t. absurd (let h : Err (Sum (written_sum f) (computed_sum f)) ≡ Ok later = subst (λ (b : Bool). (if b then acted load f.purpose (record_address f) (record_data f) else Err (Sum (written_sum f) (computed_sum f))) ≡ Ok later) t e in cc))
 
 from_frame : (load later : Load) (f : Formed) → framed_on load f ≡ Ok later → (is_miscounted f ≡ false) × (summed load f ≡ Ok later)
 unfolding framed_on
@@ -49,12 +49,12 @@ from_frame load later f e = from_test (is_miscounted f) (Count (written_count f)
 
 -- the entry of a form
 abbrev entry_of : Formed → Entry
-entry_of f = record { purpose = f.purpose; address = take f.width (drop 1 f.bytes); given = data_of f }
+entry_of f = record { purpose = f.purpose; address = take f.width (drop 1 f.bytes); given = record_data f }
 
 length-address : (f : Formed) → f.width + 1 ≤ following f → length (take f.width (drop 1 f.bytes)) ≡ f.width
 length-address f h = length-take-le f.width (drop 1 f.bytes) (omega (arith, length-drop 1 f.bytes))
 
-bare_given : (f : Formed) → RightCount f → is_bare f.purpose ≡ true → data_of f ≡ []
+bare_given : (f : Formed) → RightCount f → is_bare f.purpose ≡ true → record_data f ≡ []
 bare_given f right h =
     drop_all (f.width + 1) (take (following f) f.bytes)
     (omega (arith, right.bare h, length-take-le (following f) f.bytes (omega arith)))
@@ -159,7 +159,7 @@ sum_is_right entry =
     let same : written_sum (form_for entry) ≡ computed_sum (form_for entry) = written ∙ sym computed in
     eq-eqb (written_sum (form_for entry)) (computed_sum (form_for entry)) same
 
-given_in_frame : (entry : Entry) → data_of (form_for entry) ≡ entry.given
+given_in_frame : (entry : Entry) → record_data (form_for entry) ≡ entry.given
 given_in_frame entry =
     let body : List ℕ = entry.address ++ entry.given in
     ap (λ (n : ℕ). drop (length entry.address + 1) (take n (framed body))) (following-framed entry)
@@ -176,6 +176,6 @@ carried_by load entry line w open_end =
     ∙ ap (λ (b : Bool). if b then Err AfterEnd else formed_on load (record_form (letter_s ∷ w.digit ∷ w.digits))) open_end
     ∙ ap (formed_on load) (ap record_form (sym w.line_is) ∙ form_of_entry entry line w)
     ∙ ap (λ (b : Bool). if b then Err (Count (written_count f) (following f)) else summed load f) (is_counted entry w.bare)
-    ∙ ap (λ (b : Bool). if b then acted load entry.purpose (address_of f) (data_of f) else Err (Sum (written_sum f) (computed_sum f))) (sum_is_right entry)
-    ∙ ap (λ (xs : List ℕ). acted load entry.purpose (number_of_bytes xs) (data_of f)) (address-framed entry.address entry.given)
+    ∙ ap (λ (b : Bool). if b then acted load entry.purpose (record_address f) (record_data f) else Err (Sum (written_sum f) (computed_sum f))) (sum_is_right entry)
+    ∙ ap (λ (xs : List ℕ). acted load entry.purpose (number_of_bytes xs) (record_data f)) (address-framed entry.address entry.given)
     ∙ ap (acted load entry.purpose (number_of_bytes entry.address)) (given_in_frame entry)

@@ -64,12 +64,12 @@ abbrev pub computed_sum : Formed → ℕ
 computed_sum f = check_of (take (following f) f.bytes)
 
 -- the address of a record
-abbrev pub address_of : Formed → ℕ
-address_of f = number_of_bytes (take f.width (drop 1 f.bytes))
+abbrev pub record_address : Formed → ℕ
+record_address f = number_of_bytes (take f.width (drop 1 f.bytes))
 
 -- its data
-abbrev pub data_of : Formed → List ℕ
-data_of f = drop (f.width + 1) (take (following f) f.bytes)
+abbrev pub record_data : Formed → List ℕ
+record_data f = drop (f.width + 1) (take (following f) f.bytes)
 
 -- data is loaded, unless it is too large or a byte is given twice
 abbrev pub placed_on : Option ℕ → Load → ℕ → List ℕ → Result Load SrecKind
@@ -93,7 +93,7 @@ acted load End at given = Ok (record load { start = Some at })
 -- the sum is looked at, then the record is carried out
 unfoldable pub summed : Load → Formed → Result Load SrecKind
 summed load f =
-    if written_sum f == computed_sum f then acted load f.purpose (address_of f) (data_of f)
+    if written_sum f == computed_sum f then acted load f.purpose (record_address f) (record_data f)
     else Err (Sum (written_sum f) (computed_sum f))
 
 -- the count is looked at first
