@@ -1,11 +1,11 @@
 -- Units that have an image, and why one has none: no statement meets a fault, and no refusal of linking occurs.
 use Rattle.std.specs.Prelude.{◌≡◌, ◌⊎◌, Some}
 use Rattle.m88_parse.specs.declared.unit.Unit.{Unit as Source}
-use Rattle.m88_link.specs.Faults.{out_of_memory}
+use Rattle.m88_link.specs.Faults.{memory_fault}
 use Rattle.m88_link.specs.Refusal.{IsLinkable, IsRefused}
 use Rattle.m88_asm.specs.declared.fault.UnitFault.{UnitFault}
 use Rattle.m88_asm.specs.declared.fault.UnitFault.TheVariants.{Asm, Link}
-use Rattle.m88_asm.specs.Fault.{memory_fault}
+use Rattle.m88_asm.specs.Fault.{memory_ran_out}
 use Rattle.m88_asm.specs.Faults.{IsAssembled, unit_fault}
 use Rattle.m88_asm.specs.Units.{unit_layout}
 
@@ -16,5 +16,5 @@ pub record IsAccepted (u : Source) : Type 0 where
 
 -- the first fault of a unit: that of its statements, else the refusal of its layout, unless memory ran out
 abbrev pub IsUnitFault : Source → UnitFault → Type 0
-IsUnitFault u (Asm fault) = (fault ≡ memory_fault) ⊎ (unit_fault u ≡ Some fault)
-IsUnitFault u (Link fault) = (fault ≡ out_of_memory) ⊎ (IsAssembled u × IsRefused (unit_layout u) fault)
+IsUnitFault u (Asm fault) = (fault ≡ memory_ran_out) ⊎ (unit_fault u ≡ Some fault)
+IsUnitFault u (Link fault) = (fault ≡ memory_fault) ⊎ (IsAssembled u × IsRefused (unit_layout u) fault)

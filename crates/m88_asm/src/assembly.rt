@@ -7,7 +7,7 @@ ghost use Rattle.m88_link.specs.Sound.{HasRoom, origin};
 ghost use Rattle.m88_link.specs.Symbols.{first_repeated, repeated_after, repetition, symbol_of};
 ghost use Rattle.m88_asm.specs.Counters.{offset_here, place_here};
 ghost use Rattle.m88_asm.specs.Drafts.{counters_of, empty_growth, here_bytes, next_row, nth, with_body, with_bytes, with_section, with_statement, with_symbols};
-ghost use Rattle.m88_asm.specs.Fault.{memory_fault};
+ghost use Rattle.m88_asm.specs.Fault.{memory_ran_out};
 ghost use Rattle.m88_asm.specs.Faults.{duplicate, fault_in, misfit_at};
 ghost use Rattle.m88_asm.specs.Filled.{waiting_bytes};
 ghost use Rattle.m88_asm.specs.Objects.{labels_at, marked, sets_at, symbols_of};
@@ -61,7 +61,7 @@ impl Assembly {
     fn define(&mut self, symbol: Symbol) -> Result<(), AsmFault>
         ensures new { OnOk result (self.new ≡ with_symbols self.old (symbol ∷ [])) }
         ensures fresh { OnOk result (repetition self.old.symbols symbol ≡ None) }
-        ensures fault { IfErr result (λ e. (e ≡ memory_fault)
+        ensures fault { IfErr result (λ e. (e ≡ memory_ran_out)
             ⊎ (option_map duplicate (repetition self.old.symbols symbol) ≡ Some e)) }
     {
         if let Some(first) = self.symbols.get(&symbol.name) {
@@ -85,7 +85,7 @@ impl Assembly {
             (labels_at (counters_of self.old.sections self.old.here) line label.now)) }
         ensures fresh { OnOk result (repeated_after self.old.symbols
             (labels_at (counters_of self.old.sections self.old.here) line label.now) ≡ None) }
-        ensures fault { IfErr result (λ e. (e ≡ memory_fault) ⊎ (option_map duplicate (repeated_after self.old.symbols
+        ensures fault { IfErr result (λ e. (e ≡ memory_ran_out) ⊎ (option_map duplicate (repeated_after self.old.symbols
             (labels_at (counters_of self.old.sections self.old.here) line label.now)) ≡ Some e)) }
     {
         match label {
@@ -108,7 +108,7 @@ impl Assembly {
     fn set(&mut self, line: u32, body: &Body) -> Result<(), AsmFault>
         ensures new { OnOk result (self.new ≡ with_symbols self.old (sets_at line body.now)) }
         ensures fresh { OnOk result (repeated_after self.old.symbols (sets_at line body.now) ≡ None) }
-        ensures fault { IfErr result (λ e. (e ≡ memory_fault)
+        ensures fault { IfErr result (λ e. (e ≡ memory_ran_out)
             ⊎ (option_map duplicate (repeated_after self.old.symbols (sets_at line body.now)) ≡ Some e)) }
     {
         match body {
@@ -195,7 +195,7 @@ impl Assembly {
         requires few { length self.old.sections < 2 ^ 32 - 1 }
         ensures new { OnOk result (self.new ≡ with_statement self.old x.now) }
         ensures clean { OnOk result (fault_in self.old.symbols (next_row self.old x.now) ≡ None) }
-        ensures fault { IfErr result (λ e. (e ≡ memory_fault)
+        ensures fault { IfErr result (λ e. (e ≡ memory_ran_out)
             ⊎ (fault_in self.old.symbols (next_row self.old x.now) ≡ Some e)) }
     {
         match self.label(x.line, &x.label) {

@@ -1,6 +1,6 @@
 //! Why a unit can't be assembled.
 ghost use Rattle.std.specs.Prelude.{◌≡◌};
-ghost use Rattle.m88_asm.specs.Fault.{memory_fault};
+ghost use Rattle.m88_asm.specs.Fault.{memory_ran_out};
 
 use m88_base::Name;
 use m88_link::LinkFault;
@@ -64,7 +64,7 @@ const OUT_OF_MEMORY: AsmFault = AsmFault {
 };
 
 impl From<AllocError> for AsmFault {
-    ghost from_gives = { λ _ e. e ≡ memory_fault };
+    ghost from_gives = { λ _ e. e ≡ memory_ran_out };
 
     fn from(_e: AllocError) -> AsmFault {
         OUT_OF_MEMORY
@@ -72,7 +72,7 @@ impl From<AllocError> for AsmFault {
 }
 
 impl<T: Drop> From<AllocFailed<T>> for AsmFault {
-    ghost from_gives = { λ _ e. e ≡ memory_fault };
+    ghost from_gives = { λ _ e. e ≡ memory_ran_out };
 
     fn from(_e: AllocFailed<T>) -> AsmFault {
         OUT_OF_MEMORY
@@ -92,7 +92,7 @@ impl fmt::Display for UnitFault {
     fn fmt<W: fmt::Write>(&self, f: &mut fmt::Formatter<W>) -> fmt::Result {
         match self {
             UnitFault::Asm(fault) => write!(f, "{fault}"),
-            UnitFault::Link(fault) => write!(f, "{fault:?}"),
+            UnitFault::Link(fault) => write!(f, "{fault}"),
         }
     }
 }
