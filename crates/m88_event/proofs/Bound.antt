@@ -7,12 +7,13 @@ use Rattle.std.proofs.lemmas.Option.{slice_get_past}
 use Rattle.m88_isa.proofs.Alone.{by_test}
 use Rattle.m88_isa.proofs.Held.{nothing_held}
 use Rattle.m88_isa.proofs.Turns.{TurnFits, turn_fits}
+use Rattle.m88_isa.specs.Bus.{page_number}
 use Rattle.m88_isa.specs.Held.{Hold, held, instruction_at, is_pending}
 use Rattle.m88_isa.specs.History.{change_accesses}
 use Rattle.m88_isa.specs.Machine.{IsProgram, Program, Turn, changes, outputs, stops}
 use Rattle.m88_isa.specs.Memory.{Touch, access_of}
 use Rattle.m88_isa.specs.declared.planned.Access.{Access}
-use Rattle.m88_event.specs.Choice.{Choice, answer_choice, choice_of, faults, finishes, holds, idles, issue_choice, issues, next_choice, next_turn, page_of, passes, replies, serves, turn_choice}
+use Rattle.m88_event.specs.Choice.{Choice, answer_choice, choice_of, faults, finishes, holds, idles, issue_choice, issues, next_choice, next_turn, passes, replies, serves, turn_choice}
 use Rattle.m88_event.specs.Letters.{letter_at}
 use Rattle.m88_event.specs.Local.{Local, is_over_by, move, move_by, situation_of}
 use Rattle.m88_event.specs.Situation.{record_of}
@@ -137,7 +138,7 @@ answer_spends : (may_stay : Bool) (limit : ℕ) (l : Local) (pending : List Acce
     length l.pending ≡ length pending → (is_pending pending ≡ false → may_stay ≡ true) →
     Spends may_stay limit l (answer_choice pending absent)
 answer_spends may_stay limit l [] absent e may = may refl
-answer_spends may_stay limit l (x ∷ xs) absent e may = page_spends may_stay limit l (absent (page_of x.addr)) (omega (arith, e))
+answer_spends may_stay limit l (x ∷ xs) absent e may = page_spends may_stay limit l (absent (page_number x.addr)) (omega (arith, e))
 
 always_may : (why : Option Hold) → MayBeHeld true why
 always_may None = tt

@@ -4,12 +4,12 @@ use Rattle.std.proofs.Common.{arith, add-one, length-append, refl, sym, ap, ◌�
 use Rattle.std.proofs.Math.Path.{fun_ext}
 use Rattle.std.proofs.lemmas.List.{append-nil, drop-append-le, drop_all, length-drop, take-append-drop, take-append-le, take_all}
 use Rattle.m88_isa.proofs.InWords.{bus_of_append, state_agrees}
-use Rattle.m88_isa.specs.Bus.{bus_after_all, in_words}
+use Rattle.m88_isa.specs.Bus.{page_number, bus_after_all, in_words}
 use Rattle.m88_isa.specs.Held.{Hold}
 use Rattle.m88_isa.specs.History.{after_turn, bus_at, change_accesses, completed_state, pending_at, transaction_count, transactions, turn_accesses}
 use Rattle.m88_isa.specs.Machine.{IsProgram, Program, Turn, changes, opening, outputs, state, stops, turn_at}
 use Rattle.m88_isa.specs.declared.planned.Access.{Access}
-use Rattle.m88_event.specs.Choice.{Choice, answer_choice, choice_of, faults, finishes, holds, idles, issue_choice, issues, next_choice, page_of, passes, replies, said, serves, touches_page, turn_choice}
+use Rattle.m88_event.specs.Choice.{Choice, answer_choice, choice_of, faults, finishes, holds, idles, issue_choice, issues, next_choice, passes, replies, said, serves, touches_page, turn_choice}
 use Rattle.m88_event.specs.Local.{with_move_counted, local_at, move, move_by, said_by, situation_of}
 use Rattle.m88_event.specs.Shadow.{retired_pointer}
 use Rattle.m88_event.specs.Letters.{letter_at}
@@ -64,7 +64,7 @@ by_oldest : (p : Program) (m : Moment) (pending : List Access) (absent : ℕ →
     (1 ≤ length pending → m.done < transaction_count p m.retired) →
     Fits p m (answer_choice pending absent)
 by_oldest p m [] absent h = tt
-by_oldest p m (x ∷ xs) absent h = by_page p m (absent (page_of x.addr)) (h (omega arith))
+by_oldest p m (x ∷ xs) absent h = by_page p m (absent (page_number x.addr)) (h (omega arith))
 
 some_left : (xs : List Access) (n : ℕ) → 1 ≤ length (drop n xs) → n < length xs
 some_left xs n h = let e = length-drop n xs in omega (arith, e)

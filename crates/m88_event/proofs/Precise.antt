@@ -3,6 +3,7 @@ use Rattle.std.specs.Prelude.{ℕ, Bool, true, false, List, [], ◌∷◌, Optio
 use Rattle.std.proofs.Common.{arith, refl}
 use Rattle.std.proofs.lemmas.List.{length-drop}
 use Rattle.m88_isa.proofs.Turns.{traps_wait}
+use Rattle.m88_isa.specs.Bus.{page_number}
 use Rattle.m88_isa.specs.Effect.{Meaning, goes, meaning_of, raises, traps}
 use Rattle.m88_isa.specs.Held.{Hold, busy_register, exceeds, fetched_instruction, first_reason, held, instruction_at, is_pending, needs_empty}
 use Rattle.m88_isa.specs.History.{transaction_count, transactions}
@@ -10,7 +11,7 @@ use Rattle.m88_isa.specs.Machine.{Program, Turn, carried_out, changes, fetched, 
 use Rattle.m88_isa.specs.Operands.{waits_for_empty}
 use Rattle.m88_isa.specs.declared.instr.Instr.{Instr}
 use Rattle.m88_isa.specs.declared.planned.Access.{Access}
-use Rattle.m88_event.specs.Choice.{Choice, ServesOrEnds, answer_choice, choice_of, faults, finishes, holds, idles, issue_choice, issues, next_choice, next_turn, page_of, passes, replies, said, serves, turn_choice}
+use Rattle.m88_event.specs.Choice.{Choice, ServesOrEnds, answer_choice, choice_of, faults, finishes, holds, idles, issue_choice, issues, next_choice, next_turn, passes, replies, said, serves, turn_choice}
 use Rattle.m88_event.specs.Local.{Local, said_by, situation_of}
 use Rattle.m88_event.specs.Timeline.{DoneWereMade, Moment, said_at, situation_at}
 use Rattle.m88_event.specs.Situation.{Situation, record_of}
@@ -101,7 +102,7 @@ by_page false last = last
 
 by_answer : (pending : List Access) (absent : ℕ → Bool) → IsLastChoice (answer_choice pending absent) → ⊥
 by_answer [] absent last = last
-by_answer (x ∷ xs) absent last = by_page (absent (page_of x.addr)) last
+by_answer (x ∷ xs) absent last = by_page (absent (page_number x.addr)) last
 
 pub precise_choice : (p : Program) (letter : Letter) (s : Situation) → IsLastChoice (choice_of p letter s) → is_pending s.pending ≡ false
 precise_choice p Issue s last = by_mark p s s.idle s.bubble last

@@ -1,6 +1,7 @@
 -- What a letter makes the board do: the first that applies.
-use Rattle.std.specs.Prelude.{ℕ, Bool, List, [], ◌∷◌, Option, Some, None, ◌/◌, ◌==◌, ◌||◌, false, if◌then◌else◌}
+use Rattle.std.specs.Prelude.{ℕ, Bool, List, [], ◌∷◌, Option, Some, None, ◌==◌, ◌||◌, false, if◌then◌else◌}
 use Rattle.m88_base.specs.Reg.{reg_of}
+use Rattle.m88_isa.specs.Bus.{page_number}
 use Rattle.m88_isa.specs.Effect.{Change}
 use Rattle.m88_isa.specs.Held.{Hold, busy, full, held, instruction_at, sync}
 use Rattle.m88_isa.specs.Machine.{Program, Stop, Turn, by_vector, changes, exits, outputs, stops, turn}
@@ -43,14 +44,10 @@ next_choice None turn = turn_choice turn
 abbrev pub issue_choice : Bool → Bool → Option Hold → Turn → Choice
 issue_choice idle bubble why turn = if idle then idles else if bubble then passes else next_choice why turn
 
--- a page is 4096 bytes
-abbrev pub page_of : ℕ → ℕ
-page_of address = address / 4096
-
 -- the letter `r`: idle where nothing is pending, else the oldest transaction, by its page
 abbrev pub answer_choice : List Access → (ℕ → Bool) → Choice
 answer_choice [] absent = idles
-answer_choice (a ∷ pending) absent = if absent (page_of a.addr) then faults else replies
+answer_choice (a ∷ pending) absent = if absent (page_number a.addr) then faults else replies
 
 -- the turn of the next instruction
 abbrev pub next_turn : Program → Situation → Turn
@@ -65,7 +62,7 @@ choice_of p Answer s = answer_choice s.pending s.absent
 -- a page is that of one of some accesses
 abbrev pub touches_page : List Access → ℕ → Bool
 touches_page [] page = false
-touches_page (a ∷ accesses) page = page_of a.addr == page || touches_page accesses page
+touches_page (a ∷ accesses) page = page_number a.addr == page || touches_page accesses page
 
 -- how a history that ended did so
 abbrev pub end_by : Stop → End

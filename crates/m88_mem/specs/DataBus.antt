@@ -6,17 +6,11 @@ use Rattle.std.specs.Map.{lookup}
 use Rattle.std.specs.Ordering.{nat_cmp}
 use Rattle.m88_base.specs.Image.{ProgramImage, byte_at}
 use Rattle.m88_isa.specs.Bus.{in_words}
+pub use Rattle.m88_isa.specs.Bus.{page_bytes, page_number}
 
--- the bytes of a page, and how many pages there are
-abbrev pub page_bytes : ℕ
-page_bytes = 4096
-
+-- how many pages there are
 abbrev pub page_count : ℕ
 page_count = 2 ^ 20
-
--- the number of the page of an address
-abbrev pub page_number : ℕ → ℕ
-page_number address = address / page_bytes
 
 -- the image, the words that were made ready by their places, and a mark for each page: it is ready, it is absent
 pub record MemoryView : Type 0 where
