@@ -7,5 +7,7 @@ pub mod Moving
 pub mod Running
 pub mod Loading
 pub mod Whole
+pub mod OneUnit
 pub mod OneSource
+pub mod Refusing
 pub mod OneReport

@@ -2,10 +2,12 @@
 use Rattle.std.proofs.Common.{◌≡◌, ℕ, suc, List, [], ◌∷◌, ◌++◌, length, drop, refl, ap, sym, ◌∙◌, subst, arith, inl, inr, get_or}
 use Rattle.std.specs.Prelude.{All}
 use Rattle.m88_isa.specs.declared.instr.Instr.{Instr}
-use Rattle.m88_cli.specs.Answer.{Accepts, Refusal, Refuses}
+use Rattle.m88_cli.specs.Answer.{Accepts, Refuses}
+use Rattle.m88_cli.specs.Refusal.{Refusal}
+use Rattle.m88_cli.proofs.OneUnit.{not_assembled, same_refusal}
 use Rattle.m88_cli.specs.Source.{AreLinesOf, IsFirstOther, IsLine, IsSourceOf, code_line, empty_line, no_line}
 use Rattle.m88_cli.specs.declared.commands.Command.{Command}
-use Rattle.m88_cli.specs.declared.commands.Command.TheVariants.{Run}
+use Rattle.m88_cli.specs.declared.commands.Command.TheVariants.{Asm, Run}
 use Rattle.m88_cli.proofs.Texts.{no_empty, one_instruction}
 
 -- lines write one list of instructions
@@ -45,6 +47,7 @@ same_first source m n g h =
 -- an input that is refused isn't accepted, and has one refusal
 pub refused_not_accepted : (command : Command) (input : List ℕ) (r : Refusal) → Refuses command input r → ¬ Accepts command input
 refused_not_accepted (Run limit) input r refused = λ accepted. not_written input r.line accepted.0 refused.0 accepted.1
+refused_not_accepted Asm input r refused = λ accepted. not_assembled input r accepted refused
 
 pub one_refusal : (command : Command) (input : List ℕ) (r s : Refusal) → Refuses command input r → Refuses command input s → r ≡ s
 one_refusal (Run limit) input r s a b = λ i. record {
@@ -52,3 +55,4 @@ one_refusal (Run limit) input r s a b = λ i. record {
   column = (a.1 ∙ sym b.1) i;
   reason = (a.2 ∙ sym b.2) i;
 }
+one_refusal Asm input r s a b = same_refusal input r s a b

@@ -1,10 +1,10 @@
 -- The words of a command one by one.
-use Rattle.std.proofs.Common.{◌≡◌, ℕ, ◌≤◌, ◌<◌, List, [], ◌∷◌, String, Global, length, get_or, refl, sym, ap, ◌∙◌, subst, arith}
+use Rattle.std.proofs.Common.{◌≡◌, ℕ, ◌≤◌, ◌<◌, List, codes, [], ◌∷◌, String, Global, length, get_or, refl, sym, ap, ◌∙◌, subst, arith}
 use Rattle.std.specs.Prelude.{string_bytes}
 use Rattle.m88_cli.specs.Command.{IsLimit, Spells}
 use Rattle.m88_cli.specs.Words.{texts}
 use Rattle.m88_cli.specs.declared.commands.Command.{Command}
-use Rattle.m88_cli.specs.declared.commands.Command.TheVariants.{Run}
+use Rattle.m88_cli.specs.declared.commands.Command.TheVariants.{Asm, Run}
 
 -- four words and what stands at each place
 pub four_words : (words : List (String Global)) (a b c d : String Global) → 4 ≤ length words → length words < 5
@@ -23,3 +23,14 @@ pub limit_spelled : (words : List (List ℕ)) (a b c d : List ℕ) (command : Co
 limit_spelled words a b c d (Run n) e spelled =
     let text : spelled.0 ≡ b = ap (λ (ws : List (List ℕ)). get_or ws 1 []) (sym spelled.2 ∙ e) in
     (n, subst (λ t. IsLimit t n) text spelled.1)
+limit_spelled words a b c d Asm e spelled = absurd (longer a b c d (sym e ∙ spelled))
+  where
+    longer : (a b c d : List ℕ) → a ∷ b ∷ c ∷ d ∷ [] ≡ codes "asm" ∷ [] → ⊥
+    longer a b c d f = absurd cc
+
+-- one word and what it is
+pub one_word : (words : List (String Global)) (a : String Global) → 1 ≤ length words → length words < 2 → a ≡ get_or words 0 a
+    → texts words ≡ string_bytes a ∷ []
+one_word [] a least most e = absurd (omega arith)
+one_word (w ∷ []) a least most e = rw e refl
+one_word (w ∷ x ∷ words) a least most e = absurd (omega arith)

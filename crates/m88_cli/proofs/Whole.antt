@@ -4,14 +4,15 @@ use Rattle.std.specs.Prelude.{MatchBool, OnErr, is_err}
 use Rattle.std.specs.Io.KnownBytes.{Consumes, IsAtEnd}
 use Rattle.std.proofs.lemmas.List.{append-nil, length-take-le}
 use Rattle.m88_base.specs.Outside.{AppendsPart}
-use Rattle.m88_cli.specs.Answer.{IsAnswerToAccepted, IsAnswer, IsAnswerToRefused, Refusal, Refuses, refusal_line}
+use Rattle.m88_cli.specs.Answer.{IsAnswerToAccepted, IsAnswer, IsAnswerToRefused, Refuses}
+use Rattle.m88_cli.specs.Refusal.{Refusal, refusal_line}
 use Rattle.m88_cli.specs.Reply.{Replies}
 use Rattle.m88_cli.specs.declared.reply.Reply.{Reply}
 use Rattle.m88_cli.specs.Calls.{GivesInput, HasInput, IsWhole}
 use Rattle.m88_cli.specs.Command.{reads_input}
 use Rattle.m88_cli.specs.Limits.{most_input}
 use Rattle.m88_cli.specs.declared.commands.Command.{Command}
-use Rattle.m88_cli.specs.declared.commands.Command.TheVariants.{Run}
+use Rattle.m88_cli.specs.declared.commands.Command.TheVariants.{Asm, Run}
 use Rattle.m88_cli.proofs.OneSource.{one_refusal, refused_not_accepted}
 
 -- what holds of a call that failed
@@ -67,6 +68,7 @@ given_once command before after input given holds gives = by_reading (reads_inpu
 pub given_whole : (command : Command) (before after : Option (List ℕ)) (input given : List ℕ) (r : Refusal) → Refuses command input r
     → before ≡ Some input → after ≡ Some [] → GivesInput command before after given → given ≡ input
 given_whole (Run limit) before after input given r refused had left gives = same_input before after input given had left gives.0
+given_whole Asm before after input given r refused had left gives = same_input before after input given had left gives.0
 
 -- a reply to what a command was given, where command and input are known
 abbrev pub RepliesToGiven : Command → Option (List ℕ) → Option (List ℕ) → Reply → Type 0

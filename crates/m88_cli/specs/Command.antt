@@ -1,9 +1,10 @@
--- What the words of a command spell, and which commands read an input. There is one command yet: `run LIMIT none -`.
+-- What the words of a command spell, and which commands read an input. There are two commands yet:
+-- `run LIMIT none -` and `asm`.
 use Rattle.std.specs.Prelude.{ℕ, Bool, true, false, ◌≡◌, ◌≤◌, List, [], ◌∷◌, codes, length}
 use Rattle.std.specs.Str.Parse.{IsNumeral, digits_value}
 use Rattle.m88_cli.specs.Limits.{most_limit}
 use Rattle.m88_cli.specs.declared.commands.Command.{Command}
-use Rattle.m88_cli.specs.declared.commands.Command.TheVariants.{Run}
+use Rattle.m88_cli.specs.declared.commands.Command.TheVariants.{Asm, Run}
 
 -- a text writes a limit in one to seven decimal digits, which may begin with zeros
 pub record IsLimit (text : List ℕ) (n : ℕ) : Type 0 where
@@ -16,6 +17,7 @@ pub record IsLimit (text : List ℕ) (n : ℕ) : Type 0 where
 abbrev pub Spells : List (List ℕ) → Command → Type 0
 Spells words (Run limit) =
     (text : List ℕ) × IsLimit text limit × (words ≡ codes "run" ∷ text ∷ codes "none" ∷ codes "-" ∷ [])
+Spells words Asm = words ≡ codes "asm" ∷ []
 
 -- the words spell no command
 abbrev pub SpellNothing : List (List ℕ) → Type 0
@@ -24,6 +26,7 @@ SpellNothing words = (command : Command) → ¬ Spells words command
 -- whether a command reads an input
 abbrev pub reads_input : Command → Bool
 reads_input (Run limit) = true
+reads_input Asm = true
 
 -- the words spell no command that reads an input
 abbrev pub SpellNoReader : List (List ℕ) → Type 0

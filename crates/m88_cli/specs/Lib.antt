@@ -3,6 +3,8 @@ pub mod Limits
 pub mod Words
 pub mod Command
 pub mod Calls
+pub mod Refusal
+pub mod Assembly
 pub mod Answer
 pub mod Status
 pub mod Numbers

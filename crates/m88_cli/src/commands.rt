@@ -6,4 +6,6 @@ pub enum Command {
     /// A run of a source that retires at most `limit` instructions, with every page present and no
     /// schedule.
     Run { limit: u32 },
+    /// The text of the objects of a source.
+    Asm,
 }

@@ -1,5 +1,5 @@
 //! The grammar of the words of a command.
-ghost use Rattle.std.specs.Prelude.{◌≡◌, ℕ, IfSome, Some};
+ghost use Rattle.std.specs.Prelude.{◌≡◌, ◌∷◌, [], ℕ, IfSome, Some};
 ghost use Rattle.m88_cli.specs.Command.{IsLimit, Spells};
 ghost use Rattle.m88_cli.specs.Reply.{IsWithinLimit};
 ghost use Rattle.m88_cli.specs.Words.{texts};
@@ -15,12 +15,28 @@ pub fn command(words: &[String]) -> Option<Command>
     ensures only { (c : AnyCommand) → Spells (texts words.now) c → result ≡ Some c }
     ensures limit { IfSome result IsWithinLimit }
 {
+    if let [word] = words {
+        return bare_command(word.as_str());
+    }
     let [name, limit, absent, schedule] = words else {
         return None;
     };
     if name.as_str() == "run" && absent.as_str() == "none" && schedule.as_str() == "-" {
         let limit = limit_of(limit.as_bytes())?;
         Some(Command::Run { limit })
+    } else {
+        None
+    }
+}
+
+/// The command that one word spells alone.
+fn bare_command(name: &str) -> Option<Command>
+    ensures found { IfSome result (Spells (name.now ∷ [])) }
+    ensures only { (c : AnyCommand) → Spells (name.now ∷ []) c → result ≡ Some c }
+    ensures limit { IfSome result IsWithinLimit }
+{
+    if name == "asm" {
+        Some(Command::Asm)
     } else {
         None
     }

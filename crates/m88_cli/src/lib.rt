@@ -17,6 +17,9 @@ mod load;
 mod numbers;
 mod source;
 
+// A source for `asm`.
+mod assembly;
+
 // The run.
 mod fetch;
 mod letter;

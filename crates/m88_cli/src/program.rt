@@ -3,10 +3,11 @@ ghost use Rattle.std.specs.Prelude.{[], ◌≡◌, ◌≢◌, ◌↔◌, ◌+◌
 ghost use Rattle.std.specs.Io.KnownBytes.{Appends};
 ghost use Rattle.m88_base.specs.Causes.{Rose};
 ghost use Rattle.m88_base.specs.Outside.{AppendsPart, TakesAtMost, TakesExactly};
-ghost use Rattle.m88_cli.specs.Answer.{Accepts, IsAnswerToAccepted, IsAnswer, IsAnswerToRefused, Refusal, Refuses, refusal_line};
+ghost use Rattle.m88_cli.specs.Answer.{Accepts, IsAnswer, IsAnswerToAccepted, IsAnswerToRefused, Refuses};
 ghost use Rattle.m88_cli.specs.Calls.{CarriedOut, GivesInput, HasInput, IsWhole};
 ghost use Rattle.m88_cli.specs.Command.{SpellNoReader, SpellNothing, Spells, reads_input};
 ghost use Rattle.m88_cli.specs.Limits.{most_input};
+ghost use Rattle.m88_cli.specs.Refusal.{Refusal, refusal_line};
 ghost use Rattle.m88_cli.specs.Reply.{IsWithinLimit, Replies};
 ghost use Rattle.m88_cli.specs.Status.{Answers, IsOfReading, WritesNothing};
 ghost use Rattle.m88_cli.specs.Words.{texts};
@@ -42,7 +43,7 @@ pub fn m88<S: Source, K: Sink>(
         → TakesAtMost (S.left source.old) (S.left source.new) most_input }
 
     // A command was carried out, its input is accepted, and the sink was given its text: for a run the
-    // report of the sequential machine.
+    // report of the sequential machine, for `asm` the text of the source's objects.
     ensures done { result ≡ Status.Done
         → CarriedOut (texts words.now) (S.left source.old) (S.left source.new)
         IsAnswerToAccepted (Appends (K.held sink.old) (K.held sink.new)) }

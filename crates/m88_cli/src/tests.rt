@@ -174,6 +174,63 @@ fn a_line_of_another_form_is_refused(rt: HostRuntime) -> Result<(), Fail> {
     Ok(())
 }
 
+/// A branch and a load that wait for symbols, as `asm` reads them and as it writes their object.
+const WAITING: &[u8] =
+    b"_start: br.n _start\n        ld r2,r0,lo16(x)\n        .data\nx:      .word 1\n";
+
+const WAITING_OBJECT: &[u8] =
+    b"object main\ntext 00000008 1\n=C400000014400000\ndata 00000004 1\n=00000001\n\
+    symbol _start g 0 00000000 1 1\nsymbol x l 1 00000000 4 1\n\
+    reloc pc26 0 00000000 _start 00000000 1 14\nreloc lo16 0 00000004 x 00000000 2 23\nend\n";
+
+/// Two modules, of which the second branches into the first.
+const MODULES: &[u8] = b".module a\n.global f\nf: or r2,r0,1\n.module b\n.text\nbr f\n";
+
+const MODULES_OBJECTS: &[u8] = b"object a\ntext 00000004 1\n=58400001\ndata 00000000 1\n\
+    symbol f g 0 00000000 3 1\nend\n\
+    object b\ntext 00000004 4\n=C0000000\ndata 00000000 4\nreloc pc26 0 00000000 f 00000000 6 4\nend\n";
+
+#[test]
+fn a_source_is_assembled_or_refused_at_its_first_fault(rt: HostRuntime) -> Result<(), Fail> {
+    for (input, status, text) in [
+        (WAITING, Status::Done, WAITING_OBJECT),
+        (MODULES, Status::Done, MODULES_OBJECTS),
+        (
+            b"foo r2\n",
+            Status::Refused,
+            b"refused 1:1 no such name\n".as_slice(),
+        ),
+        (b"or r2,r0\n", Status::Refused, b"refused 1:9 syntax\n"),
+        (
+            b"or r2,r0,65536\n",
+            Status::Refused,
+            b"refused 1:10 out of range\n",
+        ),
+        (b"\xE9", Status::Refused, b"refused 1:1 not ascii\n"),
+        (
+            b"a:\na:\n",
+            Status::Refused,
+            b"refused 2:1 duplicate a first at 1\n",
+        ),
+        (
+            b".byte 1\nor r2,r0,1\n",
+            Status::Refused,
+            b"refused 2:1 alignment\n",
+        ),
+        (
+            b".zero 1048577\n",
+            Status::Refused,
+            b"refused 1:1 too large\n",
+        ),
+    ] {
+        let source = MemSource::new(rt.alloc(), input, 7, &[]).map_err(|_| "memory")?;
+        let sink = MemSink::new(rt.alloc(), 1000, 7, &[]).map_err(|_| "memory")?;
+        let (answer, held) = run(rt.alloc(), "asm", source, sink)?;
+        assert!(rt; answer == status && held.as_slice() == text, "at {text:?}");
+    }
+    Ok(())
+}
+
 #[test]
 fn other_words_are_usage(rt: HostRuntime) -> Result<(), Fail> {
     for line in [
@@ -192,7 +249,10 @@ fn other_words_are_usage(rt: HostRuntime) -> Result<(), Fail> {
         "run 1 all -",
         "Run 1 none -",
         "exec 1 none -",
-        "asm",
+        "asm -",
+        "asm asm",
+        "ASM",
+        "as",
     ] {
         let source = MemSource::new(rt.alloc(), LETTER, 7, &[0]).map_err(|_| "memory")?;
         let sink = MemSink::new(rt.alloc(), 1000, 7, &[0]).map_err(|_| "memory")?;

@@ -1,6 +1,7 @@
 -- The report is that on the source, and a source that is refused isn't accepted.
 use Rattle.std.proofs.Common.{refl, subst}
-use Rattle.m88_cli.specs.Answer.{IsReport, Refusal, Refuses}
+use Rattle.m88_cli.specs.Answer.{IsReport, Refuses}
+use Rattle.m88_cli.specs.Refusal.{Refusal}
 use Rattle.std.specs.Prelude.{codes}
 use Rattle.m88_cli.specs.Program.{program_of}
 use Rattle.m88_cli.specs.Reading.{Reads}

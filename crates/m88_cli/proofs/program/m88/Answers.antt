@@ -1,7 +1,7 @@
 -- A refusal stands whole only where it was written whole; where the sink failed a part of the text was written.
 use Rattle.std.proofs.Common.{◌≡◌, inr, refl, sym, ◌∙◌, subst}
 use Rattle.m88_base.specs.Outside.{AppendsPart}
-use Rattle.m88_cli.specs.Answer.{refusal_line}
+use Rattle.m88_cli.specs.Refusal.{refusal_line}
 use Rattle.m88_cli.proofs.OneSource.{refused_not_accepted}
 use Rattle.m88_cli.proofs.Texts.{some_same}
 use Rattle.m88_cli.proofs.Whole.{accepted_reply, answer_of, line_of_reply, not_part, not_whole, of_err, refusal_some, refused_reply, reply_given, reply_whole}
