@@ -1,9 +1,8 @@
 -- A source of the assembly language has one unit or one first fault, so `asm` accepts it or has one refusal of it.
-use Rattle.std.proofs.Common.{◌≡◌, ◌⊎◌, List, ℕ, Some, None, ap, inl, inr, sym, ◌∙◌}
+use Rattle.std.proofs.Common.{◌≡◌, List, ℕ, Some, ap, inl, inr, sym, ◌∙◌}
 use Rattle.m88_parse.proofs.Law.Faults.{one_answer}
-use Rattle.m88_parse.specs.Language.FirstFaults.{HasOneAnswer}
 use Rattle.m88_asm.specs.Faults.{unit_fault}
-use Rattle.m88_cli.specs.Assembly.{IsAssemblySource, IsRefusedSource, IsUnassembled, IsUnread, asm_refusal, parse_refusal}
+use Rattle.m88_cli.specs.Assembly.{IsAssemblySource, IsRefusedSource, asm_refusal, parse_refusal}
 use Rattle.m88_cli.specs.Refusal.{Refusal}
 
 -- a source that is refused isn't accepted
