@@ -1,6 +1,6 @@
 //! What `asm` makes of a source.
 ghost use Rattle.std.specs.Prelude.{◌≡◌, ◌≢◌, ◌≤◌, IfOk, length};
-ghost use Rattle.m88_asm.specs.Fault.{memory_fault};
+ghost use Rattle.m88_asm.specs.Fault.{memory_ran_out};
 ghost use Rattle.m88_parse.specs.Fault.{out_of_memory};
 ghost use Rattle.m88_cli.specs.Assembly.{asm_reason, asm_refusal, parse_refusal};
 ghost use Rattle.m88_cli.specs.Limits.{most_input};
@@ -62,7 +62,7 @@ fn unread(alloc: Global, fault: ParseFault) -> Result<Vec<u8>, AllocError>
 /// The line that refuses a source for a fault of its statements, unless the fault is that memory ran out.
 fn unassembled(alloc: Global, fault: &AsmFault) -> Result<Vec<u8>, AllocError>
     ensures line { IfOk result (λ text. text.items ≡ refusal_line (asm_refusal fault.now)) }
-    ensures place { IfOk result (λ _. fault.now ≢ memory_fault) }
+    ensures place { IfOk result (λ _. fault.now ≢ memory_ran_out) }
 {
     if fault.kind == AsmKind::Memory {
         return Err(AllocError);
