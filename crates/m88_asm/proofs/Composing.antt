@@ -69,7 +69,7 @@ same_address b Text = refl
 same_address b DataSection = refl
 same_address b (At a) = refl
 
-under_head : (m : Module) (f : Place → ℕ) (n : ℕ) (hs : List Head) (k : ℕ)
+pub under_head : (m : Module) (f : Place → ℕ) (n : ℕ) (hs : List Head) (k : ℕ)
     → option_map_or (λ (x : Section). f x.place) (slice_get (map (section_under m) (enumerate_from n hs)) k) 0
     ≡ option_map_or (λ (h : Head). f h.place) (slice_get hs k) 0
 under_head m f n [] k = refl

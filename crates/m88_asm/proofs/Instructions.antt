@@ -1,6 +1,6 @@
 -- The word of a placed instruction stands at its address, and where each statement stands.
 use Rattle.std.proofs.Common.{ℕ, zero, suc, Bool, true, false, ◌≡◌, ◌+◌, ◌^◌, ◌<◌, ◌⊎◌, inl, inr, List, [], ◌∷◌, get_or, map, take, Option, Some, None, refl, sym, ◌∙◌, ap, subst, arith, add-zero}
-use Rattle.std.specs.Prelude.{flat_map, ◌==◌, if◌then◌else◌, slice_get, sum_by}
+use Rattle.std.specs.Prelude.{IsSome, flat_map, ◌==◌, if◌then◌else◌, slice_get, sum_by}
 use Rattle.std.specs.Int.{to_be_bytes, w32}
 use Rattle.std.specs.Option.{option_or}
 use Rattle.std.proofs.lemmas.Bool.{cases_Bool, cond-true, cond-false, eqb-true}
@@ -8,11 +8,14 @@ use Rattle.std.proofs.lemmas.List.Sums.{sum_by-cons}
 use Rattle.std.proofs.lemmas.Nat.{mod_below}
 use Rattle.std.proofs.lemmas.Option.{slice_get-get_or}
 use Rattle.std.proofs.Math.Dec.{lit<}
+use Rattle.std.proofs.Math.Path.{fun_ext}
 use Rattle.m88_base.proofs.Lookup.{byte_in_from}
 use Rattle.m88_base.specs.Image.{ProgramImage, byte_at}
 use Rattle.m88_base.specs.Placed.{Placed, byte_in}
 use Rattle.m88_base.specs.declared.fixup.Fixup.{Fixup}
+use Rattle.m88_isa.specs.ImageProgram.{HasWordOf, IsInstructionAt}
 use Rattle.m88_isa.specs.Instr.{IsValid}
+use Rattle.m88_isa.specs.Machine.{four_bytes, word_bytes}
 use Rattle.m88_isa.specs.Word.{word_of}
 use Rattle.m88_isa.specs.declared.instr.Instr.{Instr}
 use Rattle.m88_parse.specs.declared.unit.Body.{Body}
@@ -26,9 +29,11 @@ use Rattle.m88_link.specs.Linked.{IsLinked}
 use Rattle.m88_link.specs.Refusal.{IsLinkable}
 use Rattle.m88_asm.specs.Counters.{Counters, Located, after, at_begin, located, length_of, offset_of, place_of, section_of}
 use Rattle.m88_asm.specs.Filled.{filled_bytes, resolved, target}
-use Rattle.m88_asm.specs.Images.{HasInstruction, code_at, code_in, first_of, module_code, placed_instruction, run_of, runs_in, unit_byte}
+use Rattle.m88_asm.specs.Images.{IsUnitInstruction, code_at, code_in, first_of, module_code, placed_instruction, run_of, runs_in, unit_byte}
 use Rattle.m88_asm.specs.Objects.{lines_in, uses_in_body, uses_of}
 use Rattle.m88_asm.specs.Units.{Based, address_of, base_in, based, bytes_of, length_in, unit_layout, value_in_module}
+use Rattle.m88_asm.specs.Faults.{IsAssembled}
+use Rattle.m88_asm.proofs.Aligned.{aligned_law}
 use Rattle.m88_asm.proofs.Composing.{CanFill, EachBased, formed}
 use Rattle.m88_asm.proofs.FieldLaw.{field_law}
 use Rattle.m88_asm.proofs.Imaging.{Has, has_left, has_right, run_found, runs_law}
@@ -112,15 +117,41 @@ modules_stand globals a i (b ∷ bs) f h = elim (either_code (module_code global
 pub bytes_law : (u : Source) (image : ProgramImage) → IsLinkable (unit_layout u) → IsLinked (unit_layout u) image → (a : ℕ) → byte_at image a ≡ unit_byte u a
 bytes_law u image h l a = l.bytes a ∙ runs_law (unit_layout u).globals (based u) a h.disjoint
 
-pub instructions_law : (u : Source) (image : ProgramImage) → IsWellFormed u → IsLinkable (unit_layout u) → IsLinked (unit_layout u) image
-    → (a : ℕ) (i : Instr) → placed_instruction u a ≡ Some i → HasInstruction (byte_at image) a i
-instructions_law u image w h l a i e =
+-- four bytes that are those of a word
+word_there : (found : ℕ → Option ℕ) (a : ℕ) (i : Instr) → ((k : ℕ) → k < 4 → found (a + k) ≡ slice_get (to_be_bytes w32 (word_of i)) k)
+    → four_bytes found a ≡ Some (to_be_bytes w32 (word_of i))
+word_there found a i h =
+    ap (λ x. word_bytes x (found (a + 1)) (found (a + 2)) (found (a + 3))) (ap found (sym (add-zero a)) ∙ h 0 (omega arith))
+    ∙ ap (λ x. word_bytes (slice_get (to_be_bytes w32 (word_of i)) 0) x (found (a + 2)) (found (a + 3))) (h 1 (omega arith))
+    ∙ ap (λ x. word_bytes (slice_get (to_be_bytes w32 (word_of i)) 0) (slice_get (to_be_bytes w32 (word_of i)) 1) x (found (a + 3))) (h 2 (omega arith))
+    ∙ ap (λ x. word_bytes (slice_get (to_be_bytes w32 (word_of i)) 0) (slice_get (to_be_bytes w32 (word_of i)) 1) (slice_get (to_be_bytes w32 (word_of i)) 2) x)
+    (h 3 (omega arith))
+
+placed_law : (u : Source) (image : ProgramImage) → IsWellFormed u → IsAssembled u → IsLinkable (unit_layout u) → IsLinked (unit_layout u) image
+    → (a : ℕ) (i : Instr) → placed_instruction u a ≡ Some i → HasWordOf (byte_at image) a i
+placed_law u image w f h l a i e =
     let s = modules_stand (unit_layout u).globals a i (based u) (each_fills u w h) e in (
-      s.0,
-      λ k n.
-          let g = slice_get-get_or (to_be_bytes w32 (word_of i)) k 0 n in
-          l.bytes (a + k) ∙ run_found (unit_layout u).globals (based u) (a + k) (get_or (to_be_bytes w32 (word_of i)) k 0) h.disjoint (s.1 k _ n g) ∙ sym g,
+      aligned_law u a i f e,
+      (
+        word_of i,
+        word_there (byte_at image) a i (λ k n.
+            let g = slice_get-get_or (to_be_bytes w32 (word_of i)) k 0 n in
+            l.bytes (a + k) ∙ run_found (unit_layout u).globals (based u) (a + k) (get_or (to_be_bytes w32 (word_of i)) k 0) h.disjoint (s.1 k _ n g) ∙ sym g),
+        (s.0, refl),
+      ),
     )
+
+none_is_some : (o : Option Instr) → o ≡ None → IsSome o → ⊥
+none_is_some None h x = cc
+none_is_some (Some i) h x = cc
+
+-- what stands at an address of the unit stands there in its image
+pub instructions_law : (u : Source) (image : ProgramImage) → IsWellFormed u → IsAssembled u → IsLinkable (unit_layout u) → IsLinked (unit_layout u) image
+    → (a : ℕ) (o : Option Instr) → IsUnitInstruction u a o → IsInstructionAt (byte_at image) a o
+instructions_law u image w f h l a (Some i) (inl e) = placed_law u image w f h l a i e.1
+instructions_law u image w f h l a None (inl e) = absurd (none_is_some None refl e.0)
+instructions_law u image w f h l a o (inr e) =
+    subst (λ found. IsInstructionAt found a o) (sym (fun_ext (bytes_law u image h l))) e.1
 
 -- a statement stands behind the statements before it in its section
 

@@ -8,3 +8,4 @@ pub mod Composing
 pub mod Reaching
 pub mod Imaging
 pub mod Instructions
+pub mod Aligned

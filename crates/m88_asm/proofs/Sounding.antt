@@ -32,10 +32,10 @@ pub record Stands (c : Counters) : Type 0 where
   pub here : c.here < c.count
 
 -- sections stay where they are, and only grow
-record Extends (c d : Counters) : Type 0 where
-  count : c.count ≤ d.count
-  starts : (k : ℕ) → k < c.count → d.starts k ≡ c.starts k
-  lengths : (k : ℕ) → c.lengths k ≤ d.lengths k
+pub record Extends (c d : Counters) : Type 0 where
+  pub count : c.count ≤ d.count
+  pub starts : (k : ℕ) → k < c.count → d.starts k ≡ c.starts k
+  pub lengths : (k : ℕ) → c.lengths k ≤ d.lengths k
 
 pub entered_stands : (c : Counters) (b : Body) → Stands c → Stands (entered c b)
 entered_stands c body.Text s = record { both = s.both; here = omega (arith, s.both) }
@@ -51,7 +51,7 @@ entered_extends c (body.At a) = record {
 }
 entered_extends c _ = record { count = omega arith; starts = λ k h. refl; lengths = λ k. omega arith }
 
-advanced_extends : (c : Counters) (n : ℕ) → Extends c (advanced c n)
+pub advanced_extends : (c : Counters) (n : ℕ) → Extends c (advanced c n)
 advanced_extends c n = record {
   count = omega arith;
   starts = λ k h. refl;
@@ -73,11 +73,11 @@ after_extends : (c : Counters) (b : Body) → Extends c (after c b)
 after_extends c b = extends-trans c (entered c b) (after c b) (entered_extends c b) (advanced_extends (entered c b) (length_at (place_here (entered c b)) b))
 
 -- counters behind statements
-counters_after : Counters → List Statement → Counters
+unfoldable pub counters_after : Counters → List Statement → Counters
 counters_after c [] = c
 counters_after c (x ∷ xs) = counters_after (after c x.body) xs
 
-after_all_extends : (c : Counters) (xs : List Statement) → Extends c (counters_after c xs)
+pub after_all_extends : (c : Counters) (xs : List Statement) → Extends c (counters_after c xs)
 unfolding counters_after
 after_all_extends c [] = record { count = omega arith; starts = λ k h. refl; lengths = λ k. omega arith }
 after_all_extends c (x ∷ xs) = extends-trans c (after c x.body) (counters_after (after c x.body) xs) (after_extends c x.body) (after_all_extends (after c x.body) xs)
@@ -125,11 +125,11 @@ body_patch c number line (body.Code i None) offset h l a = none_of (PatchAt c)
 body_patch c number line (body.Code i (Some f)) offset h l a = All-cons (PatchAt c) _ [] (h, l, a) (none_of (PatchAt c))
 body_patch c number line _ offset h l a = none_of (PatchAt c)
 
-option_or-none : {A : Type 0} (a b : Option A) → option_or a b ≡ None → (a ≡ None) × (b ≡ None)
+pub option_or-none : {A : Type 0} (a b : Option A) → option_or a b ≡ None → (a ≡ None) × (b ≡ None)
 option_or-none None b h = (refl, h)
 option_or-none (Some x) b h = cc
 
-no_fault_else : {A : Type 0} (b : Bool) (x : A) → (if b then None else Some x) ≡ None → b ≡ true
+pub no_fault_else : {A : Type 0} (b : Bool) (x : A) → (if b then None else Some x) ≡ None → b ≡ true
 no_fault_else true x h = refl
 no_fault_else false x h = cc
 
@@ -158,7 +158,7 @@ row_defined : (c : Counters) (x : Statement) → Stands c → All (DefinedAt c) 
 row_defined c x s = All-append (DefinedAt c) (labels_at c x.line x.label) (sets_at x.line x.body) (label_defined c x.line x.label s) (set_defined c x.line x.body)
 
 -- all statements
-first_parts : (defined : List Symbol) (c : Counters) (x : Statement) (xs : List Statement) → first_fault defined (located c (x ∷ xs)) ≡ None
+pub first_parts : (defined : List Symbol) (c : Counters) (x : Statement) (xs : List Statement) → first_fault defined (located c (x ∷ xs)) ≡ None
     → (fault_in defined (record { before = c; statement = x }) ≡ None)
     × (first_fault (defined ++ symbols_of (record { before = c; statement = x })) (located (after c x.body) xs) ≡ None)
 unfolding first_fault located
@@ -181,7 +181,7 @@ rows_sound defined c (x ∷ xs) s h =
     )
 
 -- the counters of what statements grow to
-counters_grown : (g : Growth) (xs : List Statement) → IsOpen g.sections g.here
+pub counters_grown : (g : Growth) (xs : List Statement) → IsOpen g.sections g.here
     → counters_of (with_statements g xs).sections (with_statements g xs).here ≡ counters_after (counters_of g.sections g.here) xs
 unfolding with_statements counters_after
 counters_grown g [] o = refl

@@ -1,11 +1,10 @@
 -- The image of a unit: the bytes that its statements give at their addresses, its start, and the instruction that is placed at
 -- an address.
-use Rattle.std.specs.Prelude.{◌≡◌, ◌⊎◌, ℕ, ◌+◌, ◌%◌, ◌<◌, ◌==◌, if◌then◌else◌, List, [], ◌∷◌, map, flat_map, slice_get, Option, None, Some}
+use Rattle.std.specs.Prelude.{◌≡◌, ◌⊎◌, ℕ, ◌+◌, ◌%◌, ◌<◌, ◌==◌, if◌then◌else◌, List, [], ◌∷◌, map, flat_map, slice_get, Option, None, Some, IsSome}
 use Rattle.std.specs.Int.{to_be_bytes, w32}
 use Rattle.std.specs.Option.{option_or}
 use Rattle.m88_base.specs.Placed.{Placed, byte_among}
-use Rattle.m88_isa.specs.Instr.{IsValid}
-use Rattle.m88_isa.specs.Word.{word_of}
+use Rattle.m88_isa.specs.ImageProgram.{IsInstructionAt}
 use Rattle.m88_isa.specs.declared.instr.Instr.{Instr}
 use Rattle.m88_parse.specs.declared.unit.Body.{Body}
 use Rattle.m88_parse.specs.declared.unit.Body.TheVariants.{Code}
@@ -55,14 +54,9 @@ module_code globals address b = first_of (code_at globals b address) (lines_in b
 abbrev pub placed_instruction : Source → ℕ → Option Instr
 placed_instruction u address = first_of (module_code (unit_layout u).globals address) (based u)
 
--- the four bytes of an instruction's word stand at an address, so that they are read as this instruction
-abbrev pub HasInstruction : (ℕ → Option ℕ) → ℕ → Instr → Type 0
-HasInstruction found address instr =
-    IsValid instr × ((k : ℕ) → k < 4 → found (address + k) ≡ slice_get (to_be_bytes w32 (word_of instr)) k)
-
--- the instruction at an address of a unit: the one that is placed there, else the one that four bytes at a multiple of 4
--- are read as
-abbrev pub IsInstructionAt : Source → ℕ → Instr → Type 0
-IsInstructionAt u address instr =
-    (placed_instruction u address ≡ Some instr)
-    ⊎ ((placed_instruction u address ≡ None) × (address % 4 ≡ 0) × HasInstruction (unit_byte u) address instr)
+-- the instruction at an address of a unit: the one that is placed there; where none is, the one that the four bytes there are
+-- the word of, or none
+abbrev pub IsUnitInstruction : Source → ℕ → Option Instr → Type 0
+IsUnitInstruction u address instruction =
+    (IsSome instruction × (placed_instruction u address ≡ instruction))
+    ⊎ ((placed_instruction u address ≡ None) × IsInstructionAt (unit_byte u) address instruction)

@@ -1,11 +1,12 @@
 //! The image of a unit.
-ghost use Rattle.std.specs.Prelude.{◌≡◌, ℕ, Some, IfErr, IfOk, OnOk};
+ghost use Rattle.std.specs.Prelude.{◌≡◌, ℕ, Option, IfErr, IfOk, OnOk};
 ghost use Rattle.m88_base.specs.Image.{byte_at};
+ghost use Rattle.m88_isa.specs.ImageProgram.{IsInstructionAt};
 ghost use Rattle.m88_isa.specs.declared.instr.Instr.{Instr as Instruction};
 ghost use Rattle.m88_parse.specs.WellFormed.{IsWellFormed};
 ghost use Rattle.m88_link.specs.Linked.{IsLinked};
 ghost use Rattle.m88_asm.specs.Accepted.{IsAccepted, IsUnitFault};
-ghost use Rattle.m88_asm.specs.Images.{HasInstruction, placed_instruction, unit_byte, unit_start};
+ghost use Rattle.m88_asm.specs.Images.{IsUnitInstruction, unit_byte, unit_start};
 ghost use Rattle.m88_asm.specs.Units.{unit_layout};
 
 use crate::fault::UnitFault;
@@ -23,9 +24,10 @@ pub fn image_of(alloc: Global, unit: &Unit) -> Result<Image, UnitFault>
     // The image has at each address the byte that the unit's statements give there, and no other.
     ensures bytes { IfOk result (λ image. (a : ℕ) → byte_at image a ≡ unit_byte unit.now a) }
     ensures start { IfOk result (λ image. image.start ≡ unit_start unit.now) }
-    // Where an instruction statement is placed stands its word, its symbol replaced.
-    ensures instructions { IfOk result (λ image. (a : ℕ) (i : Instruction)
-        → placed_instruction unit.now a ≡ Some i → HasInstruction (byte_at image) a i) }
+    // The instruction at an address of the unit, placed there or read from its bytes, is what the image's
+    // bytes are the word of.
+    ensures instructions { IfOk result (λ image. (a : ℕ) (instruction : Option Instruction)
+        → IsUnitInstruction unit.now a instruction → IsInstructionAt (byte_at image) a instruction) }
     // By sections: the image is that of the unit's layout.
     ensures linked { IfOk result (IsLinked (unit_layout unit.now)) }
     ensures accepted { OnOk result (IsAccepted unit.now) }

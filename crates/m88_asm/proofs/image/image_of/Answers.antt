@@ -32,7 +32,7 @@ returns-in-Ok-link-clause-start c = (is_linked c).start
 
 pub returns-in-Ok-link-clause-instructions : goal.returns-in-Ok-link-clause-instructions
 returns-in-Ok-link-clause-instructions c =
-    instructions_law c.args.unit.now c.in-Ok-link.image c.requires (linkable_law c.args.unit.now (can_link c)) (is_linked c)
+    instructions_law c.args.unit.now c.in-Ok-link.image c.requires c.in-Ok.ensures.accepted (linkable_law c.args.unit.now (can_link c)) (is_linked c)
 
 pub returns-in-Ok-link-clause-accepted : goal.returns-in-Ok-link-clause-accepted
 returns-in-Ok-link-clause-accepted c = record {
