@@ -8,6 +8,8 @@ mod filling;
 mod growing;
 mod image;
 mod objects;
+#[cfg(test)]
+mod tests;
 
 pub use fault::{AsmFault, AsmKind, UnitFault};
 pub use image::image_of;
