@@ -1,0 +1,26 @@
+use Rattle.std.proofs.Common.{◌≡◌, ◌∙◌, ap, refl}
+use Rattle.m88_monitor.proofs.Steps.{second_kept, third_kept, third_kept_again}
+use Rattle.m88_monitor.specs.Serving.{Serving, after_triple, serving_of, valid_count_of}
+use Rattle.m88_monitor.proofs.served.serve.Goals as goal
+
+pub returns-clause-served : goal.returns-clause-served
+returns-clause-served c =
+    c.serve_triple-third.ensures.served
+    ∙ ap (after_triple 2) (c.serve_triple-second.ensures.served ∙ ap (after_triple 1) c.serve_triple-first.ensures.served)
+
+pub returns-clause-done : goal.returns-clause-done
+returns-clause-done c =
+    let before : Serving = serving_of c.args.ctrl.now c.args.regs.now c.args.memory.now in
+    let between : Serving =
+    serving_of c.serve_triple-first.new.ctrl c.serve_triple-first.new.regs c.serve_triple-first.new.memory in
+    let second : c.serve_triple-second.result ≡ valid_count_of c.args.ctrl.now.t1 =
+    c.serve_triple-second.ensures.count
+    ∙ ap valid_count_of (ap (λ (s : Serving). s.control.t1) c.serve_triple-first.ensures.served ∙ second_kept before) in
+    let third : c.serve_triple-third.result ≡ valid_count_of c.args.ctrl.now.t2 =
+    c.serve_triple-third.ensures.count
+    ∙ ap valid_count_of (
+    ap (λ (s : Serving). s.control.t2) c.serve_triple-second.ensures.served
+    ∙ third_kept_again between
+    ∙ ap (λ (s : Serving). s.control.t2) c.serve_triple-first.ensures.served
+    ∙ third_kept before) in
+    rw (c.serve_triple-first.ensures.count, second, third) refl

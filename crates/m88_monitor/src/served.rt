@@ -1,0 +1,188 @@
+//! How the monitor finishes the data transactions that a fault left.
+#![tactic(auto, unfolding(m88_isa::specs::Bus::loaded, m88_isa::specs::Bus::stored))]
+
+ghost use Rattle.std.specs.Prelude.{◌≡◌, ◌<◌, ◌≤◌, true, false, slice_set, if◌then◌else◌};
+ghost use Rattle.m88_base.specs.Reg.{number_of};
+ghost use Rattle.m88_ctrl.specs.ControlRegisters.{by_number, kept_of};
+ghost use Rattle.m88_isa.specs.Bus.{bus_after, loaded};
+ghost use Rattle.m88_isa.specs.Machine.{with_register};
+ghost use Rattle.m88_isa.specs.Triples.{access_in, is_valid_triple};
+ghost use Rattle.m88_mem.specs.DataBus.{absent_of, bus_of, page_number, ready_of};
+ghost use Rattle.m88_mem.specs.Marks.{with_page};
+ghost use Rattle.m88_scoreboard.specs.Registers.{none_waits, waiting_of};
+ghost use Rattle.m88_monitor.specs.Serving.{CanServe, CanServeTriple, after_service, after_triple, serving_of, triple_at, valid_count, with_finished, with_loaded, without_bit};
+
+use m88_base::{Reg, Triple};
+use m88_ctrl::{Control, cr};
+use m88_isa::{Access, datum};
+use m88_mem::{Memory, PAGE_BYTES};
+use m88_scoreboard::RegFile;
+
+/// How many transactions the monitor finished.
+#[derive(Clone, Copy, PartialEq, Eq, Debug)]
+pub struct Served {
+    pub done: u8,
+}
+
+/// Finishes the transactions whose triples are valid, the oldest first: their pages are supplied, stores and
+/// loads are made, and the registers of the loads wait no more. Nothing else changes.
+pub fn serve(ctrl: &mut Control, regs: &mut RegFile, memory: &mut Memory) -> Served
+    requires waiting { waiting_of regs.old ≡ none_waits }
+    requires first { CanServeTriple (ready_of memory.old) ctrl.old.t0 }
+    requires second { CanServeTriple (ready_of memory.old) ctrl.old.t1 }
+    requires third { CanServeTriple (ready_of memory.old) ctrl.old.t2 }
+    ensures served { serving_of ctrl.new regs.new memory.new ≡ after_service (serving_of ctrl.old regs.old memory.old) }
+    ensures done { result.done ≡ valid_count ctrl.old }
+    ensures waiting { waiting_of regs.new ≡ waiting_of regs.old }
+    ensures image { memory.new.image ≡ memory.old.image }
+    ensures ready { ready_of memory.new ≡ ready_of memory.old }
+{
+    let first = serve_triple(ctrl, regs, memory, 0);
+    let second = serve_triple(ctrl, regs, memory, 1);
+    let third = serve_triple(ctrl, regs, memory, 2);
+    Served {
+        done: first + second + third,
+    }
+}
+
+/// Finishes the transaction of a triple, if it is valid, and answers how many it was.
+fn serve_triple(ctrl: &mut Control, regs: &mut RegFile, memory: &mut Memory, index: usize) -> u8
+    requires index { index < 3 }
+    requires waiting { waiting_of regs.old ≡ none_waits }
+    requires triple { CanServeTriple (ready_of memory.old) (triple_at index ctrl.old) }
+    ensures served { serving_of ctrl.new regs.new memory.new ≡ after_triple index (serving_of ctrl.old regs.old memory.old) }
+    ensures count { result ≡ (if is_valid_triple (triple_at index ctrl.old) then 1 else 0) }
+    ensures waiting { waiting_of regs.new ≡ waiting_of regs.old }
+    ensures image { memory.new.image ≡ memory.old.image }
+    ensures ready { ready_of memory.new ≡ ready_of memory.old }
+{
+    let triple = triple_at(ctrl, index);
+    if triple.dmt % 2 == 0 {
+        return 0;
+    }
+    let access = access_in(&triple);
+    memory.supply(access.addr / PAGE_BYTES);
+    make(ctrl, regs, memory, &access);
+    finish(ctrl, index, triple.dmt);
+    1
+}
+
+/// The triple at a place, 0 the oldest.
+fn triple_at(ctrl: &Control, index: usize) -> Triple
+    requires { index < 3 }
+    ensures { result ≡ triple_at index ctrl.now }
+{
+    match index {
+        0 => ctrl.triple(0),
+        1 => ctrl.triple(1),
+        _ => ctrl.triple(2),
+    }
+}
+
+/// Makes an access whose page is present.
+fn make(ctrl: &mut Control, regs: &mut RegFile, memory: &mut Memory, access: &Access)
+    requires serve { CanServe (ready_of memory.old) access.now }
+    requires present { absent_of memory.old (page_number access.now.addr) ≡ false }
+    requires waiting { waiting_of regs.old ≡ none_waits }
+    ensures control { ctrl.new ≡ with_loaded access.now ctrl.old }
+    ensures numbers { regs.new.numbers ≡ (if access.now.write then regs.old.numbers
+        else with_register access.now.reg (loaded access.now (bus_of memory.old)) regs.old.numbers) }
+    ensures bus { bus_of memory.new ≡ bus_after access.now (bus_of memory.old) }
+    ensures waiting { waiting_of regs.new ≡ waiting_of regs.old }
+    ensures image { memory.new.image ≡ memory.old.image }
+    ensures absent { absent_of memory.new ≡ absent_of memory.old }
+    ensures ready { ready_of memory.new ≡ ready_of memory.old }
+{
+    if access.write {
+        store(memory, access);
+        return;
+    }
+    load(ctrl, regs, memory, access);
+}
+
+/// The access of a triple, field by field.
+fn access_in(triple: &Triple) -> Access
+    ensures { result ≡ access_in triple.now }
+{
+    let dmt = triple.dmt;
+    Access {
+        write: dmt / (1 << 1) % 2 == 1,
+        addr: triple.dma,
+        en: (dmt / (1 << 2) % (1 << 4)) as u8,
+        reg: Reg::from_low_bits(dmt / (1 << 7)),
+        signed: dmt / (1 << 6) % 2 == 1,
+        doub1: dmt / (1 << 13) % 2 == 1,
+        lock: dmt / (1 << 12) % 2 == 1,
+        value: triple.dmd,
+    }
+}
+
+/// Makes a store to a page that is ready and present.
+fn store(memory: &mut Memory, access: &Access)
+    requires serve { CanServe (ready_of memory.old) access.now }
+    requires write { access.now.write ≡ true }
+    requires present { absent_of memory.old (page_number access.now.addr) ≡ false }
+    ensures bus { bus_of memory.new ≡ bus_after access.now (bus_of memory.old) }
+    ensures image { memory.new.image ≡ memory.old.image }
+    ensures absent { absent_of memory.new ≡ absent_of memory.old }
+    ensures ready { ready_of memory.new ≡ ready_of memory.old }
+{
+    if memory
+        .write_lanes(access.addr, access.en, access.value)
+        .is_err()
+    {
+        unreachable!();
+    }
+}
+
+/// Makes a load into its register, which waits no more.
+fn load(ctrl: &mut Control, regs: &mut RegFile, memory: &Memory, access: &Access)
+    requires serve { CanServe (ready_of memory.now) access.now }
+    requires read { access.now.write ≡ false }
+    requires waiting { waiting_of regs.old ≡ none_waits }
+    ensures numbers { regs.new.numbers ≡ with_register access.now.reg (loaded access.now (bus_of memory.now)) regs.old.numbers }
+    ensures waiting { waiting_of regs.new ≡ waiting_of regs.old }
+    ensures control { ctrl.new ≡ with_loaded access.now ctrl.old }
+{
+    let word = memory.word(access.addr);
+    regs.set(access.reg, datum(access.en, access.signed, word));
+    end_wait(ctrl, access.reg);
+}
+
+/// Clears the bit of a register in SSBR.
+fn end_wait(ctrl: &mut Control, r: Reg)
+    ensures { ctrl.new ≡ record ctrl.old { ssbr = kept_of 3 (without_bit (number_of r) ctrl.old.ssbr) } }
+{
+    let Some(waiting) = ctrl.ldcr(cr::SSBR) else {
+        unreachable!();
+    };
+    put(
+        ctrl,
+        cr::SSBR,
+        waiting - waiting / (1 << r.number()) % 2 * (1 << r.number()),
+    );
+}
+
+/// Clears VALID of a triple with this DMT.
+fn finish(ctrl: &mut Control, index: usize, dmt: u32)
+    requires index { index < 3 }
+    requires dmt { (triple_at index ctrl.old).dmt ≡ dmt }
+    ensures { ctrl.new ≡ with_finished index ctrl.old }
+{
+    match index {
+        0 => put(ctrl, cr::DMT0, dmt / 2 * 2),
+        1 => put(ctrl, cr::DMT1, dmt / 2 * 2),
+        _ => put(ctrl, cr::DMT2, dmt / 2 * 2),
+    }
+}
+
+/// Stores a word into a control register that can be written.
+fn put(ctrl: &mut Control, n: u8, value: u32)
+    requires written { 0 < n }
+    requires there { n ≤ 20 }
+    ensures { by_number ctrl.new ≡ slice_set (by_number ctrl.old) n (kept_of n value) }
+{
+    if !ctrl.stcr(n, value) {
+        unreachable!();
+    }
+}
