@@ -16,6 +16,8 @@ mod resolve;
 mod sound;
 mod spans;
 mod table;
+#[cfg(test)]
+mod tests;
 mod text;
 
 pub use fault::{LinkFault, LinkKind};
