@@ -39,7 +39,7 @@ fn store(value: u32, addr: u32) -> Access
         write: true,
         addr,
         en: 15,
-        reg: Reg::ZERO,
+        reg: Reg::from_low_bits(0),
         signed: false,
         doub1: false,
         lock: false,
@@ -112,83 +112,60 @@ fn three_loads_fill_the_unit(rt: HostRuntime) {
 }
 
 #[test]
-fn words_of_a_double_an_exchange_and_a_store(rt: HostRuntime) {
-    let double = two(
-        Access {
-            doub1: true,
-            ..load(31, 0x2000)
-        },
-        load(0, 0x2004),
+fn words_of_a_double(rt: HostRuntime) {
+    let mut unit = DataUnit::new();
+    let first = Access {
+        doub1: true,
+        ..load(31, 0x2000)
+    };
+    assert_eq!(rt; unit.issue(&two(first, load(0, 0x2004))), Ok(()));
+    assert_eq!(rt; unit.pending_regs(), 0x8000_0000);
+    assert_eq!(rt;
+        unit.freeze(),
+        [
+            Triple {
+                dmt: 0x2FBD,
+                dmd: 0,
+                dma: 0x2000
+            },
+            Triple {
+                dmt: 0x3D,
+                dmd: 0,
+                dma: 0x2004
+            },
+            NONE,
+        ]
     );
-    let exchange = two(
-        Access {
-            lock: true,
-            ..load(2, 0x5000)
-        },
-        Access {
-            lock: true,
-            ..store(5, 0x5000)
-        },
+    assert_eq!(rt; unit.room(), 3);
+}
+
+#[test]
+fn words_of_an_exchange(rt: HostRuntime) {
+    let mut unit = DataUnit::new();
+    let read = Access {
+        lock: true,
+        ..load(2, 0x5000)
+    };
+    let written = Access {
+        lock: true,
+        ..store(5, 0x5000)
+    };
+    assert_eq!(rt; unit.issue(&two(read, written)), Ok(()));
+    assert_eq!(rt; unit.pending_regs(), 4);
+    assert_eq!(rt;
+        unit.freeze(),
+        [
+            Triple {
+                dmt: 0x113D,
+                dmd: 0,
+                dma: 0x5000
+            },
+            Triple {
+                dmt: 0x103F,
+                dmd: 5,
+                dma: 0x5000
+            },
+            NONE,
+        ]
     );
-    let stores = two(store(7, 0x5000), store(7, 0x6000));
-    let rows = [
-        (
-            double,
-            0x8000_0000,
-            [
-                Triple {
-                    dmt: 0x2FBD,
-                    dmd: 0,
-                    dma: 0x2000,
-                },
-                Triple {
-                    dmt: 0x3D,
-                    dmd: 0,
-                    dma: 0x2004,
-                },
-                NONE,
-            ],
-        ),
-        (
-            exchange,
-            4,
-            [
-                Triple {
-                    dmt: 0x113D,
-                    dmd: 0,
-                    dma: 0x5000,
-                },
-                Triple {
-                    dmt: 0x103F,
-                    dmd: 5,
-                    dma: 0x5000,
-                },
-                NONE,
-            ],
-        ),
-        (
-            stores,
-            0,
-            [
-                Triple {
-                    dmt: 0x3F,
-                    dmd: 7,
-                    dma: 0x5000,
-                },
-                Triple {
-                    dmt: 0x3F,
-                    dmd: 7,
-                    dma: 0x6000,
-                },
-                NONE,
-            ],
-        ),
-    ];
-    for (accesses, waiting, words) in rows {
-        let mut unit = DataUnit::new();
-        assert_eq!(rt; unit.issue(&accesses), Ok(()));
-        assert_eq!(rt; unit.pending_regs(), waiting);
-        assert_eq!(rt; unit.freeze(), words);
-        assert_eq!(rt; unit.room(), 3);
-    }
 }
