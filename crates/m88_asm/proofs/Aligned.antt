@@ -1,7 +1,6 @@
 -- The instructions of a unit without a fault stand at multiples of 4.
-use Rattle.std.proofs.Common.{ℕ, zero, suc, Bool, true, false, ◌≡◌, ◌+◌, ◌-◌, ◌*◌, ◌/◌, ◌%◌, ◌^◌, ◌<◌, ◌≤◌, ◌⊎◌, inl, inr, List, [], ◌∷◌, ◌++◌, length, get_or, map, Option, Some, None, refl, sym, ◌∙◌, ap, subst, arith, add-zero}
-use Rattle.std.specs.Prelude.{flat_map, ◌==◌, if◌then◌else◌, slice_get}
-use Rattle.std.specs.List.{enumerate_from}
+use Rattle.std.proofs.Common.{ℕ, zero, suc, Bool, true, false, ◌≡◌, ◌+◌, ◌%◌, ◌<◌, ◌⊎◌, inl, inr, List, [], ◌∷◌, ◌++◌, length, Option, Some, None, refl, sym, ◌∙◌, ap, subst, arith}
+use Rattle.std.specs.Prelude.{◌==◌, if◌then◌else◌, slice_get}
 use Rattle.std.specs.Option.{option_map, option_map_or, option_or}
 use Rattle.std.proofs.lemmas.Bool.{eqb-true}
 use Rattle.std.proofs.lemmas.Option.{slice_get-get_or}
@@ -19,15 +18,15 @@ use Rattle.m88_link.specs.declared.object.Symbol.{Symbol}
 use Rattle.m88_link.specs.Bases.{first_text, up_to_multiple}
 use Rattle.m88_link.specs.Sound.{origin}
 use Rattle.m88_link.specs.Symbols.{repeated_after}
-use Rattle.m88_asm.specs.Counters.{Counters, Located, after, at_begin, entered, length_at, located, offset_here, offset_of, place_here, place_of, section_of}
-use Rattle.m88_asm.specs.Drafts.{IsOpen, counters_of, empty_growth, no_section, nth, with_statements}
-use Rattle.m88_asm.specs.Faults.{IsAssembled, alignment_of, misfit_at, misplaced_at, first_fault, module_fault, modules_fault, too_large_at}
+use Rattle.m88_asm.specs.Counters.{Counters, Located, after, at_begin, at_section, located, offset_here, place_here}
+use Rattle.m88_asm.specs.Drafts.{IsOpen, counters_of, empty_growth, no_section, with_statements}
+use Rattle.m88_asm.specs.Faults.{IsAssembled, alignment_of, misfit_at, misplaced_at, statements_fault, module_fault, modules_fault, too_large_at}
 use Rattle.m88_asm.specs.Images.{code_at, code_in, first_of, module_code, placed_instruction}
-use Rattle.m88_asm.specs.Objects.{Head, heads_in, lines_in, object_of, section_under, sections_in, symbols_of}
-use Rattle.m88_asm.specs.Units.{Based, address_at, address_of, base_in, based, based_from, end_of_text, section_length, unit_layout, value_in_module}
+use Rattle.m88_asm.specs.Objects.{Head, heads_in, sections_in, symbols_of}
+use Rattle.m88_asm.specs.Units.{Based, address_at, address_in, base_in, based, based_from, end_of_text, section_length, unit_layout, value_in_module}
 use Rattle.m88_asm.proofs.Assembling.{counters_empty, grown_object}
 use Rattle.m88_asm.proofs.Composing.{EachBased, under_head}
-use Rattle.m88_asm.proofs.Sounding.{Extends, Stands, advanced_extends, after_all_extends, after_stands, counters_after, counters_grown, entered_stands, first_parts, no_fault_else, option_or-none}
+use Rattle.m88_asm.proofs.Sounding.{Extends, Stands, after_all_extends, after_stands, counters_after, counters_grown, entered_stands, first_parts, no_fault_else, option_or-none}
 
 -- a statement's section and offset, with the counters that its module ends with
 record Spot (b : Based) (end : Counters) (a : ℕ) : Type 0 where
@@ -46,17 +45,17 @@ either_code (Some x) q v h = inl h
 either_code None q v h = inr h
 
 row_spot : (globals : List Symbol) (b : Based) (a : ℕ) (i : Instr) (c end : Counters) (x : Statement) → Stands c → Extends (after c x.body) end
-    → misfit_at (offset_here (entered c x.body)) (place_here (entered c x.body)) x ≡ None
+    → misfit_at (offset_here (at_section c x.body)) (place_here (at_section c x.body)) x ≡ None
     → code_at globals b a (record { before = c; statement = x }) ≡ Some i → Spot b end a
-row_spot globals b a i c end x s e m h = by (address_of b r == a) refl h
+row_spot globals b a i c end x s e m h = by (address_in b r == a) refl h
   where
     r : Located
     r = record { before = c; statement = x }
 
-    by : (t : Bool) → (address_of b (record { before = c; statement = x }) == a) ≡ t
-        → (if t then code_in (value_in_module globals b) (address_of b (record { before = c; statement = x })) x.body else None) ≡ Some i → Spot b end a
+    by : (t : Bool) → (address_in b (record { before = c; statement = x }) == a) ≡ t
+        → (if t then code_in (value_in_module globals b) (address_in b (record { before = c; statement = x })) x.body else None) ≡ Some i → Spot b end a
     by true t h =
-        let d = entered c x.body in
+        let d = at_section c x.body in
         let p = eqb-true _ 0 (no_fault_else _ _ (option_or-none (misplaced_at (place_here d) x) (too_large_at (offset_here d) (place_here d) x) m).0) in
         let n = entered_stands c x.body s in
         let even = body_even (value_in_module globals b) (base_in b d.here + offset_here d) (place_here d) x.body i h p in
@@ -70,14 +69,14 @@ row_spot globals b a i c end x s e m h = by (address_of b r == a) refl h
     by false t h = cc
 
 rows_spot : (globals : List Symbol) (b : Based) (a : ℕ) (i : Instr) (defined : List Symbol) (c : Counters) (xs : List Statement) → Stands c
-    → first_fault defined (located c xs) ≡ None → first_of (code_at globals b a) (located c xs) ≡ Some i → Spot b (counters_after c xs) a
+    → statements_fault defined (located c xs) ≡ None → first_of (code_at globals b a) (located c xs) ≡ Some i → Spot b (counters_after c xs) a
 unfolding located counters_after
 rows_spot globals b a i defined c [] s f h = cc
 rows_spot globals b a i defined c (x ∷ xs) s f h =
     let r : Located = record { before = c; statement = x } in
     let rest = located (after c x.body) xs in
     let parts = first_parts defined c x xs f in
-    let misfit = (option_or-none (option_map _ (repeated_after defined (symbols_of r))) (misfit_at (offset_here (entered c x.body)) (place_here (entered c x.body)) x) parts.0).1 in
+    let misfit = (option_or-none (option_map _ (repeated_after defined (symbols_of r))) (misfit_at (offset_here (at_section c x.body)) (place_here (at_section c x.body)) x) parts.0).1 in
     elim (either_code (code_at globals b a r) (first_of (code_at globals b a) rest) i h) [
       | inl e ↦ row_spot globals b a i c (counters_after (after c x.body) xs) x s (after_all_extends (after c x.body) xs) misfit e
       | inr e ↦ rows_spot globals b a i (defined ++ symbols_of r) (after c x.body) xs (after_stands c x.body s) parts.1 e

@@ -18,11 +18,11 @@ use Rattle.m88_link.specs.declared.object.Place.TheVariants as place
 use Rattle.m88_link.specs.declared.object.Section.{Section}
 use Rattle.m88_base.specs.Image.{most_bytes}
 use Rattle.m88_link.specs.Sound.{HasRoom, origin}
-use Rattle.m88_asm.specs.Counters.{Counters, Located, advanced, after, at_begin, at_body, entered, length_at, located, offset_here, place_here}
+use Rattle.m88_asm.specs.Counters.{Counters, Located, with_length, after, at_begin, at_body, at_section, length_at, located, offset_here, place_here}
 use Rattle.m88_asm.specs.Drafts.{Growth, IsOpen, counters_of, empty_growth, next_row, no_section, nth, section_at, sections_at, with_bytes, with_statement, with_statements}
 use Rattle.m88_asm.specs.Faults.{misfit_at, misplaced_at, too_large_at}
 use Rattle.m88_asm.specs.Filled.{waiting_bytes}
-use Rattle.m88_asm.specs.Objects.{Head, heads_in, lines_in, marked, object_of, opens, opened_by, section_bytes, section_under, sections_in, symbols_in, symbols_of, uses_in_body, uses_of, waiting_in}
+use Rattle.m88_asm.specs.Objects.{Head, heads_in, lines_in, marked, object_of, opens, opened_by, section_bytes, section_under, sections_in, symbols_in, symbols_of, uses_in_body, symbol_uses, waiting_in}
 use Rattle.m88_asm.proofs.Relocating.{length-waiting_bytes}
 
 -- a statement that fits leaves room for its bytes
@@ -94,7 +94,7 @@ lengths_at line sections (body.At a) k =
 lengths_at line sections _ k = refl
 
 counters_entered : (line : ℕ) (sections : List Section) (here : ℕ) (b : Body)
-    → counters_of (sections_at line sections b) (section_at here sections b) ≡ entered (counters_of sections here) b
+    → counters_of (sections_at line sections b) (section_at here sections b) ≡ at_section (counters_of sections here) b
 counters_entered line sections here (body.At a) =
     let s : Section = record { place = place.At a; bytes = []; line = line } in
     same_counters (length sections) _ _ _ _ _ _ (length-append sections (s ∷ []))
@@ -105,7 +105,7 @@ counters_entered line sections here body.DataSection = refl
 counters_entered line sections here _ = refl
 
 counters_filled : (sections : List Section) (here : ℕ) (w : List ℕ) → here < length sections
-    → counters_of (slice_set sections here (with_bytes (nth sections here) w)) here ≡ advanced (counters_of sections here) (length w)
+    → counters_of (slice_set sections here (with_bytes (nth sections here) w)) here ≡ with_length (counters_of sections here) (length w)
 counters_filled sections here w l =
     let s = with_bytes (nth sections here) w in
     same_counters here _ _ _ _ _ _ (length-set sections here s)
@@ -141,8 +141,8 @@ counters_next g x o =
     let here = section_at g.here g.sections x.body in
     let p = open_entered x.line g.sections g.here x.body o in
     counters_filled sections here (waiting_bytes (place_here (counters_of sections here)) x.body) p.stands
-    ∙ ap (advanced (counters_of sections here)) (length-waiting_bytes (place_here (counters_of sections here)) x.body)
-    ∙ ap (λ c. advanced c (length_at (place_here c) x.body)) (entered_next g x)
+    ∙ ap (with_length (counters_of sections here)) (length-waiting_bytes (place_here (counters_of sections here)) x.body)
+    ∙ ap (λ c. with_length c (length_at (place_here c) x.body)) (entered_next g x)
 
 bytes_next : (g : Growth) (x : Statement) (k : ℕ) → IsOpen g.sections g.here
     → (nth (with_statement g x).sections k).bytes ≡ (nth g.sections k).bytes ++ waiting_in k (next_row g x)
@@ -164,7 +164,7 @@ bytes_next g x k o =
       | inr t ↦ cond-false (here == k) _ _ t ∙ sym (append-nil (nth sections k).bytes) ∙ ap (λ z. (nth sections k).bytes ++ z) (sym (cond-false (here == k) w [] t))
     ]
 
-uses_next : (g : Growth) (x : Statement) → (with_statement g x).uses ≡ g.uses ++ uses_of (next_row g x)
+uses_next : (g : Growth) (x : Statement) → (with_statement g x).uses ≡ g.uses ++ symbol_uses (next_row g x)
 uses_next g x = ap (λ c. g.uses ++ uses_in_body c.here (offset_here c) x.line x.body) (entered_next g x)
 
 abbrev pub head_of : Section → Head
@@ -184,7 +184,7 @@ heads_next g x =
 
 pub record Grown (g : Growth) (rows : List Located) (end : Growth) : Type 0 where
   pub symbols : end.symbols ≡ g.symbols ++ flat_map symbols_of rows
-  pub uses : end.uses ≡ g.uses ++ flat_map uses_of rows
+  pub uses : end.uses ≡ g.uses ++ flat_map symbol_uses rows
   pub bytes : (k : ℕ) → (nth end.sections k).bytes ≡ (nth g.sections k).bytes ++ flat_map (waiting_in k) rows
   pub heads : map head_of end.sections ≡ map head_of g.sections ++ flat_map opens rows
 
@@ -204,7 +204,7 @@ grown g (x ∷ xs) o =
     subst (λ c. Grown next (located c xs) (with_statements next xs)) (counters_next g x o) (grown next xs (open_next g x o)) in
     record {
       symbols = h.symbols ∙ append_assoc g.symbols (symbols_of r) (flat_map symbols_of rest);
-      uses = h.uses ∙ ap (λ us. us ++ flat_map uses_of rest) (uses_next g x) ∙ append_assoc g.uses (uses_of r) (flat_map uses_of rest);
+      uses = h.uses ∙ ap (λ us. us ++ flat_map symbol_uses rest) (uses_next g x) ∙ append_assoc g.uses (symbol_uses r) (flat_map symbol_uses rest);
       bytes = λ k. h.bytes k ∙ ap (λ us. us ++ flat_map (waiting_in k) rest) (bytes_next g x k o)
           ∙ append_assoc (nth g.sections k).bytes (waiting_in k r) (flat_map (waiting_in k) rest);
       heads = h.heads ∙ ap (λ us. us ++ flat_map opens rest) (heads_next g x) ∙ append_assoc (map head_of g.sections) (opens r) (flat_map opens rest);

@@ -20,7 +20,7 @@ use Rattle.m88_link.specs.Relocated.{relocated}
 use Rattle.m88_link.specs.Symbols.{exported, symbol_meaning}
 use Rattle.m88_asm.specs.Counters.{Located, at_begin, place_of, section_of}
 use Rattle.m88_asm.specs.Filled.{waiting_bytes}
-use Rattle.m88_asm.specs.Objects.{Head, heads_in, lines_in, object_of, objects_of, section_bytes, section_under, symbols_in, uses_of, waiting_in}
+use Rattle.m88_asm.specs.Objects.{Head, heads_in, lines_in, object_of, objects_of, section_bytes, section_under, symbols_in, symbol_uses, waiting_in}
 use Rattle.m88_asm.specs.Units.{Based, address_at, base_in, based, based_from, end_of_text, extent_under, extents_in, globals_in, length_in, references_in, section_length, spot_under, spots_in, unit_layout, value_in_module}
 use Rattle.m88_asm.proofs.Relocating.{AllFormed, AreInReach, length-waiting_bytes, rows_law}
 
@@ -90,7 +90,7 @@ same_globals : (b : Based) → globals_of (standing b) ≡ globals_in b
 same_globals b = ap (λ f. exported f (symbols_in b.source)) (same_base b)
 
 same_references : (globals : List Symbol) (b : Based) → references_of globals (standing b) ≡ references_in globals b
-same_references globals b = ap (λ f. map (reference globals f (symbols_in b.source)) (flat_map uses_of (lines_in b.source))) (same_base b)
+same_references globals b = ap (λ f. map (reference globals f (symbols_in b.source)) (flat_map symbol_uses (lines_in b.source))) (same_base b)
 
 same_extent : (b : Based) (e : ℕ × Head) → extent (standing b) (section_under b.source e) ≡ extent_under b e
 same_extent b e =
@@ -114,7 +114,7 @@ same_value globals b = ap (λ f. λ name. unwrap_or (symbol_meaning globals f (s
 
 -- each symbol of a module can be replaced
 abbrev pub CanReach : List Symbol → Based → Type 0
-CanReach globals b = AreInReach (value_in_module globals b) (base_in b) (flat_map uses_of (lines_in b.source))
+CanReach globals b = AreInReach (value_in_module globals b) (base_in b) (flat_map symbol_uses (lines_in b.source))
 
 pub formed : (xs : List Statement) → All IsFormedStatement xs → AllFormed xs
 formed [] h = tt
@@ -123,7 +123,7 @@ formed (x ∷ xs) h = (h 0 x (omega arith), formed xs (λ k d l. h (suc k) d (om
 same_spot : (globals : List Symbol) (b : Based) → IsFormedModule b.source → CanReach globals b → (e : ℕ × Head)
     → spot globals (standing b) e.0 (section_under b.source e) ≡ spot_under globals b e
 same_spot globals b f r e =
-    let uses = flat_map uses_of (lines_in b.source) in
+    let uses = flat_map symbol_uses (lines_in b.source) in
     ap (λ n. let x : Placed = record { at = n; bytes = relocated (value_of_name globals (standing b)) (base_of (standing b)) e.0 uses (section_bytes b.source e.0) } in x)
     (same_address b e.1.place)
     ∙ ap (λ (bytes : List ℕ). let x : Placed = record { at = address_at b e.1.place; bytes = bytes } in x)

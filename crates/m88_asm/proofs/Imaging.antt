@@ -20,7 +20,7 @@ use Rattle.m88_link.specs.Refusal.{AreDisjoint, covers, hits}
 use Rattle.m88_asm.specs.Counters.{Counters, Located, after, at_begin, located, offset_of, place_of, section_of}
 use Rattle.m88_asm.specs.Images.{run_of, runs_in}
 use Rattle.m88_asm.specs.Objects.{Head, heads_in, lines_in, opened_by, opens}
-use Rattle.m88_asm.specs.Units.{Based, address_at, address_of, base_in, bytes_of, extent_under, extents_in, filled_in, filled_section, length_in, section_length, spot_under, spots_in, value_in_module}
+use Rattle.m88_asm.specs.Units.{Based, address_at, address_in, base_in, bytes_of, extent_under, extents_in, filled_in, filled_section, length_in, section_length, spot_under, spots_in, value_in_module}
 use Rattle.m88_asm.proofs.Relocating.{grows, length-filled_bytes}
 use Rattle.m88_asm.proofs.Sounding.{Stands, after_stands, entered_stands}
 
@@ -290,7 +290,7 @@ filled_length globals b k =
 
     one : (r : Located) → length (filled_in globals b k r) ≡ length_in k r
     one r = through length (section_of r == k) (bytes_of globals b r) []
-        ∙ ap (λ n. if section_of r == k then n else 0) (length-filled_bytes (value_in_module globals b) (address_of b r) (place_of r) r.statement.body)
+        ∙ ap (λ n. if section_of r == k then n else 0) (length-filled_bytes (value_in_module globals b) (address_in b r) (place_of r) r.statement.body)
 
 paired_sections : (globals : List Symbol) (b : Based) (n : ℕ) (hs : List Head)
     → Paired (map (spot_under globals b) (enumerate_from n hs)) (map (extent_under b) (enumerate_from n hs))

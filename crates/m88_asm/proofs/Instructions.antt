@@ -30,8 +30,8 @@ use Rattle.m88_link.specs.Refusal.{IsLinkable}
 use Rattle.m88_asm.specs.Counters.{Counters, Located, after, at_begin, located, length_of, offset_of, place_of, section_of}
 use Rattle.m88_asm.specs.Filled.{filled_bytes, resolved, target}
 use Rattle.m88_asm.specs.Images.{IsUnitInstruction, code_at, code_in, first_of, module_code, placed_instruction, run_of, runs_in, unit_byte}
-use Rattle.m88_asm.specs.Objects.{lines_in, uses_in_body, uses_of}
-use Rattle.m88_asm.specs.Units.{Based, address_of, base_in, based, bytes_of, length_in, unit_layout, value_in_module}
+use Rattle.m88_asm.specs.Objects.{lines_in, uses_in_body, symbol_uses}
+use Rattle.m88_asm.specs.Units.{Based, address_in, base_in, based, bytes_of, length_in, unit_layout, value_in_module}
 use Rattle.m88_asm.specs.Faults.{IsAssembled}
 use Rattle.m88_asm.proofs.Aligned.{aligned_law}
 use Rattle.m88_asm.proofs.Composing.{CanFill, EachBased, formed}
@@ -64,18 +64,18 @@ body_stands globals b line place section offset (body.Code instr fixup) i f r h 
 body_stands globals b line place section offset _ i f r h = cc
 
 row_stands : (globals : List Symbol) (b : Based) (a : ℕ) (r : Located) (i : Instr) → IsFormedStatement r.statement
-    → AreInReach (value_in_module globals b) (base_in b) (uses_of r) → code_at globals b a r ≡ Some i → Stood (run_of globals b r ∷ []) a i
+    → AreInReach (value_in_module globals b) (base_in b) (symbol_uses r) → code_at globals b a r ≡ Some i → Stood (run_of globals b r ∷ []) a i
 unfolding Has
-row_stands globals b a r i f n h = by (address_of b r == a) refl h
+row_stands globals b a r i f n h = by (address_in b r == a) refl h
   where
-    by : (t : Bool) → (address_of b r == a) ≡ t
-        → (if t then code_in (value_in_module globals b) (address_of b r) r.statement.body else None) ≡ Some i → Stood (run_of globals b r ∷ []) a i
+    by : (t : Bool) → (address_in b r == a) ≡ t
+        → (if t then code_in (value_in_module globals b) (address_in b r) r.statement.body else None) ≡ Some i → Stood (run_of globals b r ∷ []) a i
     by true t h =
         let p = body_stands globals b r.statement.line (place_of r) (section_of r) (offset_of r) r.statement.body i f n h in (
           p.0,
           λ k v l s. inl (
-              ap (λ m. byte_in (run_of globals b r) (m + k)) (sym (eqb-true (address_of b r) a t))
-              ∙ byte_in_from (address_of b r) (bytes_of globals b r) k ∙ ap (λ bytes. slice_get bytes k) p.1 ∙ s),
+              ap (λ m. byte_in (run_of globals b r) (m + k)) (sym (eqb-true (address_in b r) a t))
+              ∙ byte_in_from (address_in b r) (bytes_of globals b r) k ∙ ap (λ bytes. slice_get bytes k) p.1 ∙ s),
         )
     by false t h = cc
 
@@ -84,7 +84,7 @@ either_code (Some x) q v h = inl h
 either_code None q v h = inr h
 
 rows_stand : (globals : List Symbol) (b : Based) (a : ℕ) (i : Instr) (c : Counters) (xs : List Statement) → AllFormed xs
-    → AreInReach (value_in_module globals b) (base_in b) (flat_map uses_of (located c xs))
+    → AreInReach (value_in_module globals b) (base_in b) (flat_map symbol_uses (located c xs))
     → first_of (code_at globals b a) (located c xs) ≡ Some i → Stood (map (run_of globals b) (located c xs)) a i
 unfolding located Has
 rows_stand globals b a i c [] f n h = cc
@@ -93,10 +93,10 @@ rows_stand globals b a i c (x ∷ xs) f n h =
     let rest = located (after c x.body) xs in
     elim (either_code (code_at globals b a r) (first_of (code_at globals b a) rest) i h) [
       | inl e ↦
-          let s = row_stands globals b a r i f.0 (in_reach_left (value_in_module globals b) (base_in b) (uses_of r) (flat_map uses_of rest) n) e in
+          let s = row_stands globals b a r i f.0 (in_reach_left (value_in_module globals b) (base_in b) (symbol_uses r) (flat_map symbol_uses rest) n) e in
           (s.0, λ k v l g. has_left (run_of globals b r ∷ []) (map (run_of globals b) rest) (a + k) v (s.1 k v l g))
       | inr e ↦
-          let s = rows_stand globals b a i (after c x.body) xs f.1 (in_reach_right (value_in_module globals b) (base_in b) (uses_of r) (flat_map uses_of rest) n) e in
+          let s = rows_stand globals b a i (after c x.body) xs f.1 (in_reach_right (value_in_module globals b) (base_in b) (symbol_uses r) (flat_map symbol_uses rest) n) e in
           (s.0, λ k v l g. inr (s.1 k v l g))
     ]
 

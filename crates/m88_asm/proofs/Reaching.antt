@@ -17,7 +17,7 @@ use Rattle.m88_link.specs.Layout.{Extent, Layout, Reference, layout_of, referenc
 use Rattle.m88_link.specs.Linked.{IsLinked}
 use Rattle.m88_link.specs.Refusal.{IsLinkable, IsRefused, duplicate, first_fault, too_far, too_far_in, undefined, undefined_in}
 use Rattle.m88_link.specs.Symbols.{symbol_meaning}
-use Rattle.m88_asm.specs.Objects.{lines_in, objects_of, symbols_in, uses_of}
+use Rattle.m88_asm.specs.Objects.{lines_in, objects_of, symbols_in, symbol_uses}
 use Rattle.m88_asm.specs.Units.{Based, base_in, based, based_from, end_of_text, references_in, section_length, unit_layout, value_in_module}
 use Rattle.m88_asm.proofs.Composing.{CanFill, CanReach, EachBased, extents_law, globals_law, references_law, spots_law}
 use Rattle.m88_asm.proofs.Relocating.{AreInReach}
@@ -61,7 +61,7 @@ each_reaches globals [] u f = tt
 each_reaches globals (b ∷ bs) u f =
     let p = first_fault-append undefined_in (references_in globals b) (flat_map (references_in globals) bs) u in
     let q = first_fault-append too_far_in (references_in globals b) (flat_map (references_in globals) bs) f in
-    (uses_reach globals b (flat_map uses_of (lines_in b.source)) p.0 q.0, each_reaches globals bs p.1 q.1)
+    (uses_reach globals b (flat_map symbol_uses (lines_in b.source)) p.0 q.0, each_reaches globals bs p.1 q.1)
 
 each_formed : (text datas : ℕ) (ms : List Module) → All IsFormedModule ms → EachBased (λ b. IsFormedModule b.source) (based_from text datas ms)
 each_formed text datas [] h = tt

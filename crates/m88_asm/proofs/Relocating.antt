@@ -22,7 +22,7 @@ use Rattle.m88_link.specs.Field.{is_in_reach, patched_word}
 use Rattle.m88_link.specs.Relocated.{patched, relocated, target_of}
 use Rattle.m88_asm.specs.Counters.{Counters, Located, after, located, length_at, length_of, offset_of, padding, place_of, section_of}
 use Rattle.m88_asm.specs.Filled.{filled_bytes, filled_word, target, waiting_bytes, waiting_word}
-use Rattle.m88_asm.specs.Objects.{uses_in_body, uses_in_values, uses_of, waiting_in}
+use Rattle.m88_asm.specs.Objects.{uses_in_body, uses_in_values, symbol_uses, waiting_in}
 use Rattle.m88_asm.proofs.FieldLaw.{field_law, waiting_bound}
 
 -- a word between other bytes, patched
@@ -173,18 +173,18 @@ filled_at value base k r =
     if section_of r == k then filled_bytes value (base (section_of r) + offset_of r) (place_of r) r.statement.body else []
 
 one_law : (value : List ℕ → ℕ) (base : ℕ → ℕ) (k : ℕ) (r : Located) (front back : List ℕ) → IsFormedStatement r.statement
-    → r.before.lengths k ≡ length front → AreInReach value base (uses_of r)
-    → relocated value base k (uses_of r) (front ++ (waiting_in k r ++ back)) ≡ front ++ (filled_at value base k r ++ back)
+    → r.before.lengths k ≡ length front → AreInReach value base (symbol_uses r)
+    → relocated value base k (symbol_uses r) (front ++ (waiting_in k r ++ back)) ≡ front ++ (filled_at value base k r ++ back)
 one_law value base k r front back f e h =
     let s = section_of r in
     let w = waiting_bytes (place_of r) r.statement.body in
     let z = filled_bytes value (base s + offset_of r) (place_of r) r.statement.body in
     elim (cases_Bool (s == k)) [
-      | inl t ↦ ap (λ x. relocated value base k (uses_of r) (front ++ (x ++ back))) (cond-true (s == k) w [] t)
+      | inl t ↦ ap (λ x. relocated value base k (symbol_uses r) (front ++ (x ++ back))) (cond-true (s == k) w [] t)
           ∙ body_law value base k s (offset_of r) r.statement.line (place_of r) r.statement.body front back f t (eqb-true s k t)
           (ap r.before.lengths (eqb-true s k t) ∙ e) h
           ∙ ap (λ x. front ++ (x ++ back)) (sym (cond-true (s == k) z [] t))
-      | inr t ↦ ap (λ x. relocated value base k (uses_of r) (front ++ (x ++ back))) (cond-false (s == k) w [] t)
+      | inr t ↦ ap (λ x. relocated value base k (symbol_uses r) (front ++ (x ++ back))) (cond-false (s == k) w [] t)
           ∙ elsewhere value base k s (offset_of r) r.statement.line r.statement.body (front ++ back) t
           ∙ ap (λ x. front ++ (x ++ back)) (sym (cond-false (s == k) z [] t))
     ]
@@ -211,8 +211,8 @@ AllFormed (x ∷ xs) = IsFormedStatement x × AllFormed xs
 
 -- all statements from counters on, behind the bytes that section k has
 pub rows_law : (value : List ℕ → ℕ) (base : ℕ → ℕ) (k : ℕ) (c : Counters) (xs : List Statement) (front : List ℕ) → AllFormed xs
-    → c.lengths k ≡ length front → AreInReach value base (flat_map uses_of (located c xs))
-    → relocated value base k (flat_map uses_of (located c xs)) (front ++ flat_map (waiting_in k) (located c xs))
+    → c.lengths k ≡ length front → AreInReach value base (flat_map symbol_uses (located c xs))
+    → relocated value base k (flat_map symbol_uses (located c xs)) (front ++ flat_map (waiting_in k) (located c xs))
     ≡ front ++ flat_map (filled_at value base k) (located c xs)
 unfolding located
 rows_law value base k c [] front f e h = refl
@@ -220,9 +220,9 @@ rows_law value base k c (x ∷ xs) front f e h =
     let r : Located = record { before = c; statement = x } in
     let rest = located (after c x.body) xs in
     let z = filled_at value base k r in
-    relocated-append value base k (uses_of r) (flat_map uses_of rest) _
-    ∙ ap (relocated value base k (flat_map uses_of rest))
-    (one_law value base k r front (flat_map (waiting_in k) rest) f.0 e (in_reach_left value base (uses_of r) _ h) ∙ sym (append_assoc front z _))
+    relocated-append value base k (symbol_uses r) (flat_map symbol_uses rest) _
+    ∙ ap (relocated value base k (flat_map symbol_uses rest))
+    (one_law value base k r front (flat_map (waiting_in k) rest) f.0 e (in_reach_left value base (symbol_uses r) _ h) ∙ sym (append_assoc front z _))
     ∙ rows_law value base k (after c x.body) xs (front ++ z) f.1
-    (grows value base k r ∙ ap (λ n. n + length z) e ∙ sym (length-append front z)) (in_reach_right value base (uses_of r) _ h)
+    (grows value base k r ∙ ap (λ n. n + length z) e ∙ sym (length-append front z)) (in_reach_right value base (symbol_uses r) _ h)
     ∙ append_assoc front z _

@@ -10,7 +10,7 @@ use Rattle.m88_link.specs.declared.object.Section.{Section}
 use Rattle.m88_asm.specs.declared.fault.AsmFault.{AsmFault}
 use Rattle.m88_asm.specs.Counters.{after, at_begin, located, place_here}
 use Rattle.m88_asm.specs.Drafts.{Growth, IsOpen, counters_of, empty_growth, next_row, nth, section_at, sections_at, with_bytes, with_statement, with_statements}
-use Rattle.m88_asm.specs.Faults.{fault_in, first_fault}
+use Rattle.m88_asm.specs.Faults.{fault_in, statements_fault}
 use Rattle.m88_asm.specs.Filled.{waiting_bytes}
 use Rattle.m88_asm.proofs.Assembling.{counters_empty, counters_next, open_next}
 
@@ -20,20 +20,20 @@ next_of xs i x d h e = drop-cons xs i d h ∙ ap (λ y. y ∷ drop (suc i) xs) (
 
 -- the first fault of statements behind what there is
 abbrev pub fault_from : Growth → List Statement → Option AsmFault
-fault_from g xs = first_fault g.symbols (located (counters_of g.sections g.here) xs)
+fault_from g xs = statements_fault g.symbols (located (counters_of g.sections g.here) xs)
 
 pub fault_goes_on : (g : Growth) (x : Statement) (xs : List Statement) → IsOpen g.sections g.here → fault_in g.symbols (next_row g x) ≡ None
     → fault_from (with_statement g x) xs ≡ fault_from g (x ∷ xs)
-unfolding first_fault located
+unfolding statements_fault located
 fault_goes_on g x xs o h =
-    ap (λ c. first_fault (with_statement g x).symbols (located c xs)) (counters_next g x o)
-    ∙ ap (λ f. option_or f (first_fault (with_statement g x).symbols (located (after (counters_of g.sections g.here) x.body) xs))) (sym h)
+    ap (λ c. statements_fault (with_statement g x).symbols (located c xs)) (counters_next g x o)
+    ∙ ap (λ f. option_or f (statements_fault (with_statement g x).symbols (located (after (counters_of g.sections g.here) x.body) xs))) (sym h)
 
 pub fault_stops : (g : Growth) (x : Statement) (xs : List Statement) (e : AsmFault) → fault_in g.symbols (next_row g x) ≡ Some e
     → fault_from g (x ∷ xs) ≡ Some e
-unfolding first_fault located
+unfolding statements_fault located
 fault_stops g x xs e h =
-    ap (λ f. option_or f (first_fault (with_statement g x).symbols (located (after (counters_of g.sections g.here) x.body) xs))) h
+    ap (λ f. option_or f (statements_fault (with_statement g x).symbols (located (after (counters_of g.sections g.here) x.body) xs))) h
 
 whole_goes_on : (g : Growth) (x : Statement) (xs : List Statement) → with_statements (with_statement g x) xs ≡ with_statements g (x ∷ xs)
 unfolding with_statements
@@ -52,14 +52,14 @@ few_next g x =
 -- what a loop over the statements of a module keeps
 pub record Rest (line : ℕ) (all : List Statement) (i : ℕ) (g : Growth) : Type 0 where
   pub whole : with_statements g (drop i all) ≡ with_statements (empty_growth line) all
-  pub faults : fault_from g (drop i all) ≡ first_fault [] (located at_begin all)
+  pub faults : fault_from g (drop i all) ≡ statements_fault [] (located at_begin all)
   pub opened : IsOpen g.sections g.here
   pub few : length g.sections ≤ i + 2
 
 pub rest_begins : (line : ℕ) (all : List Statement) → Rest line all 0 (empty_growth line)
 rest_begins line all = record {
   whole = refl;
-  faults = ap (λ c. first_fault [] (located c all)) (counters_empty line);
+  faults = ap (λ c. statements_fault [] (located c all)) (counters_empty line);
   opened = record { both = omega arith; stands = omega arith };
   few = omega arith;
 }
@@ -76,12 +76,12 @@ rest_goes_on line all i g new x d l e r is h =
     })
 
 pub rest_stops : (line : ℕ) (all : List Statement) (i : ℕ) (g : Growth) (x d : Statement) (e : AsmFault) → i < length all → x ≡ get_or all i d → Rest line all i g
-    → fault_in g.symbols (next_row g x) ≡ Some e → first_fault [] (located at_begin all) ≡ Some e
+    → fault_in g.symbols (next_row g x) ≡ Some e → statements_fault [] (located at_begin all) ≡ Some e
 rest_stops line all i g x d e l is r h = sym r.faults ∙ ap (fault_from g) (next_of all i x d l is) ∙ fault_stops g x (drop (i + 1) all) e h
 
 pub rest_ends : (line : ℕ) (all : List Statement) (i : ℕ) (g : Growth) → length all ≤ i → Rest line all i g
-    → (g ≡ with_statements (empty_growth line) all) × (first_fault [] (located at_begin all) ≡ None)
-unfolding with_statements first_fault located
+    → (g ≡ with_statements (empty_growth line) all) × (statements_fault [] (located at_begin all) ≡ None)
+unfolding with_statements statements_fault located
 rest_ends line all i g l r =
     let n = drop_of_length-le all l in
     (ap (with_statements g) (sym n) ∙ r.whole, sym r.faults ∙ ap (fault_from g) n)

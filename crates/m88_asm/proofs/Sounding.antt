@@ -20,10 +20,10 @@ use Rattle.m88_link.specs.declared.object.Section.{Section}
 use Rattle.m88_link.specs.declared.object.Symbol.{Symbol}
 use Rattle.m88_link.specs.Sound.{AreSections, HasRoom, IsDefinedIn, IsOwnAddress, IsPatchIn, IsSeenAtStart, IsSound, origin, start_name}
 use Rattle.m88_link.specs.Symbols.{Repetition, first_repeated, repeated_after, repetition, symbol_of}
-use Rattle.m88_asm.specs.Counters.{Counters, Located, advanced, after, at_begin, entered, length_at, located, offset_here, place_here}
+use Rattle.m88_asm.specs.Counters.{Counters, Located, with_length, after, at_begin, at_section, length_at, located, offset_here, place_here}
 use Rattle.m88_asm.specs.Drafts.{Growth, IsOpen, counters_of, empty_growth, no_section, nth, with_statement, with_statements}
-use Rattle.m88_asm.specs.Faults.{alignment_of, fault_in, first_fault, misfit_at, misplaced_at, module_fault, too_large_at}
-use Rattle.m88_asm.specs.Objects.{Head, labels_at, lines_in, marked, object_of, opened_by, opens, section_under, sections_in, sets_at, symbols_of, uses_in_body, uses_in_values, uses_of}
+use Rattle.m88_asm.specs.Faults.{alignment_of, fault_in, statements_fault, misfit_at, misplaced_at, module_fault, too_large_at}
+use Rattle.m88_asm.specs.Objects.{Head, labels_at, lines_in, marked, object_of, opened_by, opens, section_under, sections_in, sets_at, symbols_of, uses_in_body, uses_in_values, symbol_uses}
 use Rattle.m88_asm.proofs.Assembling.{counters_empty, counters_next, grown_object, open_next}
 
 -- the section that stands is one of those that are
@@ -37,13 +37,13 @@ pub record Extends (c d : Counters) : Type 0 where
   pub starts : (k : ℕ) → k < c.count → d.starts k ≡ c.starts k
   pub lengths : (k : ℕ) → c.lengths k ≤ d.lengths k
 
-pub entered_stands : (c : Counters) (b : Body) → Stands c → Stands (entered c b)
+pub entered_stands : (c : Counters) (b : Body) → Stands c → Stands (at_section c b)
 entered_stands c body.Text s = record { both = s.both; here = omega (arith, s.both) }
 entered_stands c body.DataSection s = record { both = s.both; here = omega (arith, s.both) }
 entered_stands c (body.At a) s = record { both = omega (arith, s.both); here = omega arith }
 entered_stands c _ s = s
 
-entered_extends : (c : Counters) (b : Body) → Extends c (entered c b)
+entered_extends : (c : Counters) (b : Body) → Extends c (at_section c b)
 entered_extends c (body.At a) = record {
   count = omega arith;
   starts = λ k h. let n : (c.count ≡ k → ⊥) = λ e. omega arith in cond-false (c.count == k) a (c.starts k) (ne_eqb _ _ n);
@@ -51,8 +51,8 @@ entered_extends c (body.At a) = record {
 }
 entered_extends c _ = record { count = omega arith; starts = λ k h. refl; lengths = λ k. omega arith }
 
-pub advanced_extends : (c : Counters) (n : ℕ) → Extends c (advanced c n)
-advanced_extends c n = record {
+pub longer_extends : (c : Counters) (n : ℕ) → Extends c (with_length c n)
+longer_extends c n = record {
   count = omega arith;
   starts = λ k h. refl;
   lengths = λ k. cond_both (c.here == k) (c.lengths c.here + n) (c.lengths k) (λ m. c.lengths k ≤ m)
@@ -70,7 +70,7 @@ pub after_stands : (c : Counters) (b : Body) → Stands c → Stands (after c b)
 after_stands c b s = let t = entered_stands c b s in record { both = t.both; here = t.here }
 
 after_extends : (c : Counters) (b : Body) → Extends c (after c b)
-after_extends c b = extends-trans c (entered c b) (after c b) (entered_extends c b) (advanced_extends (entered c b) (length_at (place_here (entered c b)) b))
+after_extends c b = extends-trans c (at_section c b) (after c b) (entered_extends c b) (longer_extends (at_section c b) (length_at (place_here (at_section c b)) b))
 
 -- counters behind statements
 unfoldable pub counters_after : Counters → List Statement → Counters
@@ -133,10 +133,10 @@ pub no_fault_else : {A : Type 0} (b : Bool) (x : A) → (if b then None else Som
 no_fault_else true x h = refl
 no_fault_else false x h = cc
 
-row_patch : (c : Counters) (x : Statement) → Stands c → misfit_at (offset_here (entered c x.body)) (place_here (entered c x.body)) x ≡ None
-    → All (PatchAt (after c x.body)) (uses_of (record { before = c; statement = x }))
+row_patch : (c : Counters) (x : Statement) → Stands c → misfit_at (offset_here (at_section c x.body)) (place_here (at_section c x.body)) x ≡ None
+    → All (PatchAt (after c x.body)) (symbol_uses (record { before = c; statement = x }))
 row_patch c x s h =
-    let e = entered c x.body in
+    let e = at_section c x.body in
     let t = entered_stands c x.body s in
     let n = length_at (place_here e) x.body in
     let a = no_fault_else _ _ (option_or-none (misplaced_at (place_here e) x) (too_large_at (offset_here e) (place_here e) x) h).0 in
@@ -158,24 +158,24 @@ row_defined : (c : Counters) (x : Statement) → Stands c → All (DefinedAt c) 
 row_defined c x s = All-append (DefinedAt c) (labels_at c x.line x.label) (sets_at x.line x.body) (label_defined c x.line x.label s) (set_defined c x.line x.body)
 
 -- all statements
-pub first_parts : (defined : List Symbol) (c : Counters) (x : Statement) (xs : List Statement) → first_fault defined (located c (x ∷ xs)) ≡ None
+pub first_parts : (defined : List Symbol) (c : Counters) (x : Statement) (xs : List Statement) → statements_fault defined (located c (x ∷ xs)) ≡ None
     → (fault_in defined (record { before = c; statement = x }) ≡ None)
-    × (first_fault (defined ++ symbols_of (record { before = c; statement = x })) (located (after c x.body) xs) ≡ None)
-unfolding first_fault located
+    × (statements_fault (defined ++ symbols_of (record { before = c; statement = x })) (located (after c x.body) xs) ≡ None)
+unfolding statements_fault located
 first_parts defined c x xs h = option_or-none _ _ h
 
-rows_sound : (defined : List Symbol) (c : Counters) (xs : List Statement) → Stands c → first_fault defined (located c xs) ≡ None
-    → All (PatchAt (counters_after c xs)) (flat_map uses_of (located c xs)) × All (DefinedAt (counters_after c xs)) (flat_map symbols_of (located c xs))
+rows_sound : (defined : List Symbol) (c : Counters) (xs : List Statement) → Stands c → statements_fault defined (located c xs) ≡ None
+    → All (PatchAt (counters_after c xs)) (flat_map symbol_uses (located c xs)) × All (DefinedAt (counters_after c xs)) (flat_map symbols_of (located c xs))
 unfolding counters_after located
 rows_sound defined c [] s h = (none_of (PatchAt c), none_of (DefinedAt c))
 rows_sound defined c (x ∷ xs) s h =
     let r : Located = record { before = c; statement = x } in
     let parts = first_parts defined c x xs h in
-    let misfit = (option_or-none (option_map _ (repeated_after defined (symbols_of r))) (misfit_at (offset_here (entered c x.body)) (place_here (entered c x.body)) x) parts.0).1 in
+    let misfit = (option_or-none (option_map _ (repeated_after defined (symbols_of r))) (misfit_at (offset_here (at_section c x.body)) (place_here (at_section c x.body)) x) parts.0).1 in
     let rest = rows_sound (defined ++ symbols_of r) (after c x.body) xs (after_stands c x.body s) parts.1 in
     let end = counters_after (after c x.body) xs in
     let tail = after_all_extends (after c x.body) xs in (
-      All-append (PatchAt end) (uses_of r) _ (λ k d l. patch_extends (after c x.body) end _ tail (row_patch c x s misfit k d l)) rest.0,
+      All-append (PatchAt end) (symbol_uses r) _ (λ k d l. patch_extends (after c x.body) end _ tail (row_patch c x s misfit k d l)) rest.0,
       All-append (DefinedAt end) (symbols_of r) _
           (λ k d l. defined_extends c end _ (extends-trans c (after c x.body) end (after_extends c x.body) tail) (row_defined c x s k d l)) rest.1,
     )
@@ -260,8 +260,8 @@ sound_object m clean names room =
     let counters : counters_of end.sections end.here ≡ counters_after at_begin m.statements =
     counters_grown start m.statements opened ∙ ap (λ c. counters_after c m.statements) (counters_empty m.line) in
     let rows = rows_sound [] at_begin m.statements (record { both = omega arith; here = omega arith }) clean in
-    let patches : All (IsPatchIn end.sections) (flat_map uses_of (lines_in m)) =
-    λ k d l. patch_in end.sections end.here _ (subst (λ c. PatchAt c (get_or (flat_map uses_of (lines_in m)) k d)) (sym counters) (rows.0 k d l)) in
+    let patches : All (IsPatchIn end.sections) (flat_map symbol_uses (lines_in m)) =
+    λ k d l. patch_in end.sections end.here _ (subst (λ c. PatchAt c (get_or (flat_map symbol_uses (lines_in m)) k d)) (sym counters) (rows.0 k d l)) in
     let defined : All (IsDefinedIn end.sections) (flat_map symbols_of (lines_in m)) =
     λ k d l. defined_in end.sections end.here _ (subst (λ c. DefinedAt c (get_or (flat_map symbols_of (lines_in m)) k d)) (sym counters) (rows.1 k d l)) in
     record {
@@ -269,7 +269,7 @@ sound_object m clean names room =
       room = room;
       symbols = All-map (IsDefinedIn (sections_in m)) (marked m.statements) (flat_map symbols_of (lines_in m))
           (subst (λ xs. All (IsDefinedIn xs) (flat_map symbols_of (lines_in m))) same defined);
-      relocs = subst (λ xs. All (IsPatchIn xs) (flat_map uses_of (lines_in m))) same patches;
+      relocs = subst (λ xs. All (IsPatchIn xs) (flat_map symbol_uses (lines_in m))) same patches;
       names = repeated-marked m.statements [] (flat_map symbols_of (lines_in m)) names;
       start = seen_at_start m.statements (flat_map symbols_of (lines_in m));
     }

@@ -10,7 +10,7 @@ use Rattle.m88_asm.specs.Faults.{IsAssembled, unit_fault}
 use Rattle.m88_asm.specs.Units.{unit_layout}
 
 -- a unit that is accepted for linking
-pub record IsAccepted (u : Source) : Type 0 where
+pub record IsAcceptedUnit (u : Source) : Type 0 where
   pub assembled : IsAssembled u
   pub linkable : IsLinkable (unit_layout u)
 

@@ -1,5 +1,6 @@
--- Layout of a module (assembler manuals: sections and location counters). Sections are numbered: 0 is text, 1 is data, and
--- each `.at` opens the next. In every section the bytes of the statements follow one another, padded by `.align` alone.
+-- Layout of a module (assembler manuals: sections and location counters). Sections are numbered: 0 is text, 1 is
+-- data, and each `.at` opens the next. In every section the bytes of the statements follow one another, padded by
+-- `.align` alone.
 use Rattle.std.specs.Prelude.{ℕ, ◌+◌, ◌-◌, ◌*◌, ◌%◌, ◌==◌, if◌then◌else◌, List, [], ◌∷◌, length}
 use Rattle.m88_parse.specs.declared.unit.Body.{Body}
 use Rattle.m88_parse.specs.declared.unit.Body.TheVariants.{
@@ -43,22 +44,30 @@ here_at c DataSection = 1
 here_at c (At address) = c.count
 here_at c _ = c.here
 
+-- the number of sections once the body's section stands
 abbrev pub count_at : Counters → Body → ℕ
 count_at c (At address) = c.count + 1
 count_at c _ = c.count
 
+-- from which number each section counts for alignment then
 abbrev pub starts_at : Counters → Body → ℕ → ℕ
 starts_at c (At address) = put c.starts c.count address
 starts_at c _ = c.starts
 
 -- the counters once the body's section stands
-abbrev pub entered : Counters → Body → Counters
-entered c body = record { here = here_at c body; count = count_at c body; starts = starts_at c body; lengths = c.lengths }
+abbrev pub at_section : Counters → Body → Counters
+at_section c body = record {
+  here = here_at c body;
+  count = count_at c body;
+  starts = starts_at c body;
+  lengths = c.lengths;
+}
 
 -- the number of bytes that the section that stands has, and the place that alignment goes by
 abbrev pub offset_here : Counters → ℕ
 offset_here c = c.lengths c.here
 
+-- the place that the alignment of the next byte goes by
 abbrev pub place_here : Counters → ℕ
 place_here c = c.starts c.here + c.lengths c.here
 
@@ -78,12 +87,17 @@ length_at place (Code instr fixup) = 4
 length_at place _ = 0
 
 -- the counters with n bytes more in the section that stands
-abbrev pub advanced : Counters → ℕ → Counters
-advanced c n = record { here = c.here; count = c.count; starts = c.starts; lengths = put c.lengths c.here (c.lengths c.here + n) }
+abbrev pub with_length : Counters → ℕ → Counters
+with_length c n = record {
+  here = c.here;
+  count = c.count;
+  starts = c.starts;
+  lengths = put c.lengths c.here (c.lengths c.here + n);
+}
 
 -- the counters after a statement with this body
 abbrev pub after : Counters → Body → Counters
-after c body = advanced (entered c body) (length_at (place_here (entered c body)) body)
+after c body = with_length (at_section c body) (length_at (place_here (at_section c body)) body)
 
 -- a statement and the counters before it
 pub record Located : Type 0 where
@@ -97,15 +111,17 @@ located c (x ∷ xs) = record { before = c; statement = x } ∷ located (after c
 
 -- the counters once a statement's section stands
 abbrev pub at_body : Located → Counters
-at_body r = entered r.before r.statement.body
+at_body r = at_section r.before r.statement.body
 
 -- the number of a statement's section, the offset of its first byte there, and the place that its alignment goes by
 abbrev pub section_of : Located → ℕ
 section_of r = here_at r.before r.statement.body
 
+-- the offset of a statement's first byte in its section
 abbrev pub offset_of : Located → ℕ
 offset_of r = offset_here (at_body r)
 
+-- the place that a statement's alignment goes by
 abbrev pub place_of : Located → ℕ
 place_of r = place_here (at_body r)
 

@@ -1,5 +1,5 @@
--- Words for the contracts of private functions; no promise of the program names them. The object of a module as it grows
--- statement by statement.
+-- Words for the contracts of private functions; no promise of the program names them. The object of a module as it
+-- grows statement by statement.
 use Rattle.std.specs.Prelude.{ℕ, ◌<◌, ◌≤◌, List, [], ◌∷◌, ◌++◌, length, slice_index_or, slice_set}
 use Rattle.m88_parse.specs.declared.unit.Body.{Body}
 use Rattle.m88_parse.specs.declared.unit.Body.TheVariants as body
@@ -24,6 +24,7 @@ pub record Growth : Type 0 where
 abbrev pub no_section : Section
 no_section = record { place = place.Text; bytes = []; line = 0 }
 
+-- a section by its number
 abbrev pub nth : List Section → ℕ → Section
 nth sections k = slice_index_or sections k no_section
 
@@ -44,14 +45,17 @@ counters_of sections here = record {
 abbrev pub next_row : Growth → Statement → Located
 next_row g x = record { before = counters_of g.sections g.here; statement = x }
 
+-- with more symbols
 abbrev pub with_symbols : Growth → List Symbol → Growth
 with_symbols g symbols = record { sections = g.sections; here = g.here; symbols = g.symbols ++ symbols; uses = g.uses }
 
+-- the sections once the body's section stands
 abbrev pub sections_at : ℕ → List Section → Body → List Section
 sections_at line sections (body.At address) =
     sections ++ record { place = place.At address; bytes = []; line = line } ∷ []
 sections_at line sections _ = sections
 
+-- the section that stands then
 abbrev pub section_at : ℕ → List Section → Body → ℕ
 section_at here sections body.Text = 0
 section_at here sections body.DataSection = 1
@@ -71,6 +75,7 @@ with_section g line b = record {
 abbrev pub here_bytes : Growth → Body → List ℕ
 here_bytes g b = waiting_bytes (place_here (counters_of g.sections g.here)) b
 
+-- with a body in the section that stands
 abbrev pub with_body : Growth → ℕ → Body → Growth
 with_body g line b = record {
   sections = slice_set g.sections g.here (with_bytes (nth g.sections g.here) (here_bytes g b));

@@ -1,5 +1,5 @@
--- The first statement of a unit that can't be laid out, and in it the first of three reasons: a name that its module has
--- defined before, a place that its words don't take, and too many bytes.
+-- The first statement of a unit that can't be laid out, and in it the first of three reasons: a name that its
+-- module has defined before, a place that its words don't take, and too many bytes.
 use Rattle.std.specs.Prelude.{◌≡◌, ℕ, ◌+◌, ◌%◌, ◌^◌, ◌==◌, ◌||◌, nat_lt, if◌then◌else◌, List, [], ◌∷◌, ◌++◌, Option, Some, None}
 use Rattle.std.specs.Option.{option_map, option_or}
 use Rattle.m88_parse.specs.declared.unit.Body.{Body}
@@ -16,8 +16,8 @@ use Rattle.m88_asm.specs.Counters.{Located, length_at, offset_of, place_of}
 use Rattle.m88_asm.specs.Objects.{lines_in, symbols_of}
 
 -- a repeated definition, told at its place with the line of the first
-abbrev pub duplicate : Repetition → AsmFault
-duplicate r = record { line = r.symbol.line; col = r.symbol.col; kind = kind.Duplicate r.symbol.name r.first }
+abbrev pub duplicate_at : Repetition → AsmFault
+duplicate_at r = record { line = r.symbol.line; col = r.symbol.col; kind = kind.Duplicate r.symbol.name r.first }
 
 -- the multiple at which a body's words stand: half words at 2, words and instructions at 4
 abbrev pub alignment_of : Body → ℕ
@@ -26,6 +26,7 @@ alignment_of (Half numbers) = 2
 alignment_of (Code instr fixup) = 4
 alignment_of _ = 1
 
+-- a statement at a place that its words don't take
 abbrev pub misplaced_at : ℕ → Statement → Option AsmFault
 misplaced_at place x =
     if place % alignment_of x.body == 0 then None
@@ -45,21 +46,24 @@ misfit_at offset place x = option_or (misplaced_at place x) (too_large_at offset
 -- what a statement meets, behind symbols that are defined
 abbrev pub fault_in : List Symbol → Located → Option AsmFault
 fault_in defined r =
-    option_or (option_map duplicate (repeated_after defined (symbols_of r))) (misfit_at (offset_of r) (place_of r) r.statement)
+    option_or (option_map duplicate_at (repeated_after defined (symbols_of r)))
+    (misfit_at (offset_of r) (place_of r) r.statement)
 
 -- the first fault of statements, behind symbols that are defined
-unfoldable pub first_fault : List Symbol → List Located → Option AsmFault
-first_fault defined [] = None
-first_fault defined (r ∷ rs) = option_or (fault_in defined r) (first_fault (defined ++ symbols_of r) rs)
+unfoldable pub statements_fault : List Symbol → List Located → Option AsmFault
+statements_fault defined [] = None
+statements_fault defined (r ∷ rs) = option_or (fault_in defined r) (statements_fault (defined ++ symbols_of r) rs)
 
+-- the first fault of a module
 abbrev pub module_fault : Module → Option AsmFault
-module_fault m = first_fault [] (lines_in m)
+module_fault m = statements_fault [] (lines_in m)
 
 -- the first fault of modules
 abbrev pub modules_fault : List Module → Option AsmFault
 modules_fault [] = None
 modules_fault (m ∷ ms) = option_or (module_fault m) (modules_fault ms)
 
+-- the first fault of a unit, its modules in order
 abbrev pub unit_fault : Source → Option AsmFault
 unit_fault u = modules_fault u.modules
 

@@ -1,5 +1,5 @@
--- The bytes of statements (assembler manuals: directives; relocation): what a statement gives where the fields that wait for
--- a symbol are 0, and what it gives once each symbol is replaced by its value.
+-- The bytes of statements (assembler manuals: directives; relocation): what a statement gives where the fields that
+-- wait for a symbol are 0, and what it gives once each symbol is replaced by its value.
 use Rattle.std.specs.Prelude.{ℕ, ℤ, pos, negsuc, ◌+◌, ◌-◌, ◌/◌, ◌%◌, ◌^◌, List, [], nat_lt, if◌then◌else◌, flat_map, replicate, Option, Some, None}
 use Rattle.std.specs.Int.{to_be_bytes, w16, w32}
 use Rattle.m88_base.specs.declared.fixup.Fixup.{Fixup}
@@ -28,8 +28,8 @@ half_of _ target = target % 2 ^ 16
 abbrev pub words_of : ℕ → ℤ
 words_of d = if nat_lt d (2 ^ 31) then pos (d / 4) else negsuc ((2 ^ 32 - d) / 4 - 1)
 
--- an instruction at an address, its symbol replaced: an immediate is a half of the target, a branch counts the words from
--- its address to the target
+-- an instruction at an address, its symbol replaced: an immediate is a half of the target, a branch counts the
+-- words from its address to the target
 abbrev pub filled : Instr → Kind → ℕ → ℕ → Instr
 filled (Imm op d s1 imm) kind target address = Imm op d s1 (half_of kind target)
 filled (MemImm op d s1 imm) kind target address = MemImm op d s1 (half_of kind target)
@@ -50,6 +50,7 @@ abbrev pub waiting_word : Value → ℕ
 waiting_word (Number n) = n
 waiting_word (Symbol f) = 0
 
+-- a word of `.word` with its symbol replaced
 abbrev pub filled_word : (List ℕ → ℕ) → Value → ℕ
 filled_word value (Number n) = n
 filled_word value (Symbol f) = target value f

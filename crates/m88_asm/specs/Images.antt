@@ -1,7 +1,6 @@
--- The image of a unit: the bytes that its statements give at their addresses, its start, and the instruction that is placed at
--- an address.
-use Rattle.std.specs.Prelude.{◌≡◌, ◌⊎◌, ℕ, ◌+◌, ◌%◌, ◌<◌, ◌==◌, if◌then◌else◌, List, [], ◌∷◌, map, flat_map, slice_get, Option, None, Some, IsSome}
-use Rattle.std.specs.Int.{to_be_bytes, w32}
+-- The image of a unit: the bytes that its statements give at their addresses, its start, and the instruction that
+-- is placed at an address.
+use Rattle.std.specs.Prelude.{◌≡◌, ◌⊎◌, ℕ, ◌==◌, if◌then◌else◌, List, [], ◌∷◌, map, flat_map, Option, None, Some, IsSome}
 use Rattle.std.specs.Option.{option_or}
 use Rattle.m88_base.specs.Placed.{Placed, byte_among}
 use Rattle.m88_isa.specs.ImageProgram.{IsInstructionAt}
@@ -14,11 +13,11 @@ use Rattle.m88_link.specs.declared.object.Symbol.{Symbol}
 use Rattle.m88_asm.specs.Counters.{Located}
 use Rattle.m88_asm.specs.Filled.{resolved}
 use Rattle.m88_asm.specs.Objects.{lines_in}
-use Rattle.m88_asm.specs.Units.{Based, address_of, based, bytes_of, unit_layout, value_in_module}
+use Rattle.m88_asm.specs.Units.{Based, address_in, based, bytes_of, unit_layout, value_in_module}
 
 -- the bytes of a statement, its symbols replaced, from its address on
 abbrev pub run_of : List Symbol → Based → Located → Placed
-run_of globals b r = record { at = address_of b r; bytes = bytes_of globals b r }
+run_of globals b r = record { at = address_in b r; bytes = bytes_of globals b r }
 
 -- the bytes of the statements of a module
 abbrev pub runs_in : List Symbol → Based → List Placed
@@ -40,13 +39,14 @@ code_in value address _ = None
 -- the instruction of a statement that stands at an address
 abbrev pub code_at : List Symbol → Based → ℕ → Located → Option Instr
 code_at globals b address r =
-    if address_of b r == address then code_in (value_in_module globals b) (address_of b r) r.statement.body else None
+    if address_in b r == address then code_in (value_in_module globals b) (address_in b r) r.statement.body else None
 
 -- the first that is found
 abbrev pub first_of : {A B : Type 0} → (A → Option B) → List A → Option B
 first_of find_in [] = None
 first_of find_in (x ∷ xs) = option_or (find_in x) (first_of find_in xs)
 
+-- the instruction of a statement of a module at an address
 abbrev pub module_code : List Symbol → ℕ → Based → Option Instr
 module_code globals address b = first_of (code_at globals b address) (lines_in b.source)
 
@@ -54,8 +54,8 @@ module_code globals address b = first_of (code_at globals b address) (lines_in b
 abbrev pub placed_instruction : Source → ℕ → Option Instr
 placed_instruction u address = first_of (module_code (unit_layout u).globals address) (based u)
 
--- the instruction at an address of a unit: the one that is placed there; where none is, the one that the four bytes there are
--- the word of, or none
+-- the instruction at an address of a unit: the one that is placed there; where none is, the one that the four bytes
+-- there are the word of, or none
 abbrev pub IsUnitInstruction : Source → ℕ → Option Instr → Type 0
 IsUnitInstruction u address instruction =
     (IsSome instruction × (placed_instruction u address ≡ instruction))

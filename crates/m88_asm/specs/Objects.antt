@@ -1,5 +1,5 @@
--- The objects of a unit: of each module its sections, its symbols in order of definition, and one relocation for each use of
--- a symbol, whose field is 0 in the bytes.
+-- The objects of a unit: of each module its sections, its symbols in order of definition, and one relocation for
+-- each use of a symbol, whose field is 0 in the bytes.
 use Rattle.std.specs.Prelude.{ℕ, ◌+◌, ◌==◌, ◌||◌, if◌then◌else◌, Bool, false, List, [], ◌∷◌, ◌++◌, map, flat_map, bytes_eq, Option, Some, None}
 use Rattle.std.specs.List.{enumerate_from, list_any}
 use Rattle.m88_base.specs.declared.fixup.Fixup.{Fixup}
@@ -36,12 +36,14 @@ abbrev pub opened_by : ℕ → Body → List Head
 opened_by line (At address) = record { place = place.At address; line = line } ∷ []
 opened_by line _ = []
 
+-- the section that a statement opens
 abbrev pub opens : Located → List Head
 opens r = opened_by r.statement.line r.statement.body
 
 -- text and data, which have the line of the module
 abbrev pub first_heads : ℕ → List Head
-first_heads line = record { place = place.Text; line = line } ∷ record { place = place.DataSection; line = line } ∷ []
+first_heads line =
+    record { place = place.Text; line = line } ∷ record { place = place.DataSection; line = line } ∷ []
 
 -- the sections of a module in order: text, data, and one for each `.at`
 abbrev pub heads_in : Module → List Head
@@ -55,9 +57,11 @@ waiting_in k r = if section_of r == k then waiting_bytes (place_of r) r.statemen
 abbrev pub section_bytes : Module → ℕ → List ℕ
 section_bytes m k = flat_map (waiting_in k) (lines_in m)
 
+-- a section by its number and its head
 abbrev pub section_under : Module → ℕ × Head → Section
 section_under m e = record { place = e.1.place; bytes = section_bytes m e.0; line = e.1.line }
 
+-- the sections of a module by their numbers
 abbrev pub sections_in : Module → List Section
 sections_in m = map (section_under m) (enumerate_from 0 (heads_in m))
 
@@ -88,13 +92,16 @@ abbrev pub body_declares : List ℕ → Body → Bool
 body_declares name (Global declared) = bytes_eq declared name
 body_declares name _ = false
 
+-- a statement is the `.global` of a name
 abbrev pub declares : List ℕ → Statement → Bool
 declares name x = body_declares name x.body
 
--- a name is global: `_start` always is, another where a `.global` of the module names it, before or after its definition
+-- a name is global: `_start` always is, another where a `.global` of the module names it, before or after its
+-- definition
 abbrev pub is_global : List Statement → List ℕ → Bool
 is_global statements name = bytes_eq name start_name || list_any (declares name) statements
 
+-- a symbol of a module, marked as global or not
 abbrev pub marked : List Statement → Symbol → Symbol
 marked statements s = record s { global = is_global statements s.name }
 
@@ -114,6 +121,7 @@ use_at kind section offset line f = record {
   col = f.col;
 }
 
+-- the use of a symbol in a word of `.word`
 abbrev pub use_in_value : ℕ → ℕ → ℕ → Value → List Reloc
 use_in_value section offset line (Number n) = []
 use_in_value section offset line (Symbolic f) = use_at Abs32 section offset line f ∷ []
@@ -124,18 +132,20 @@ uses_in_values section offset line [] = []
 uses_in_values section offset line (v ∷ vs) =
     use_in_value section offset line v ++ uses_in_values section (offset + 4) line vs
 
+-- the use of a symbol in an instruction
 abbrev pub use_in_code : ℕ → ℕ → ℕ → Option Fixup → List Reloc
 use_in_code section offset line None = []
 use_in_code section offset line (Some f) = use_at f.kind section offset line f ∷ []
 
+-- the uses of symbols in a body at an offset of a section
 abbrev pub uses_in_body : ℕ → ℕ → ℕ → Body → List Reloc
 uses_in_body section offset line (Word values) = uses_in_values section offset line values
 uses_in_body section offset line (Code instr fixup) = use_in_code section offset line fixup
 uses_in_body section offset line _ = []
 
 -- the uses of symbols in a statement
-abbrev pub uses_of : Located → List Reloc
-uses_of r = uses_in_body (section_of r) (offset_of r) r.statement.line r.statement.body
+abbrev pub symbol_uses : Located → List Reloc
+symbol_uses r = uses_in_body (section_of r) (offset_of r) r.statement.line r.statement.body
 
 -- the object of a module
 abbrev pub object_of : Module → Object
@@ -143,7 +153,7 @@ object_of m = record {
   name = m.name;
   sections = sections_in m;
   symbols = symbols_in m;
-  relocs = flat_map uses_of (lines_in m);
+  relocs = flat_map symbol_uses (lines_in m);
 }
 
 -- the objects of a unit, one for each module

@@ -1,5 +1,5 @@
--- The layout of a unit: where each module stands, what each symbol means, and the bytes of each section at their addresses.
--- It is said of the statements alone.
+-- The layout of a unit: where each module stands, what each symbol means, and the bytes of each section at their
+-- addresses. It is said of the statements alone.
 use Rattle.std.specs.Prelude.{ℕ, ◌+◌, ◌==◌, if◌then◌else◌, List, [], ◌∷◌, map, flat_map, slice_get, sum_by, unwrap_or}
 use Rattle.std.specs.List.{enumerate_from}
 use Rattle.std.specs.Option.{option_map_or}
@@ -14,12 +14,13 @@ use Rattle.m88_link.specs.declared.object.Place.TheVariants.{Text, DataSection, 
 use Rattle.m88_link.specs.declared.object.Symbol.{Symbol}
 use Rattle.m88_asm.specs.Counters.{Located, length_of, offset_of, place_of, section_of}
 use Rattle.m88_asm.specs.Filled.{filled_bytes}
-use Rattle.m88_asm.specs.Objects.{Head, heads_in, lines_in, symbols_in, uses_of}
+use Rattle.m88_asm.specs.Objects.{Head, heads_in, lines_in, symbols_in, symbol_uses}
 
 -- the number of bytes that a statement gives to section k, and that section k of a module has
 abbrev pub length_in : ℕ → Located → ℕ
 length_in k r = if section_of r == k then length_of r else 0
 
+-- the number of bytes of section k of a module
 abbrev pub section_length : ℕ → Module → ℕ
 section_length k m = sum_by (length_in k) (lines_in m)
 
@@ -51,6 +52,7 @@ address_at b Text = b.text
 address_at b DataSection = b.datas
 address_at b (At address) = address
 
+-- the address of section k of a module, by its head
 abbrev pub base_in : Based → ℕ → ℕ
 base_in b k = option_map_or (λ h. address_at b h.place) (slice_get (heads_in b.source) k) 0
 
@@ -63,20 +65,22 @@ abbrev pub value_in_module : List Symbol → Based → List ℕ → ℕ
 value_in_module globals b name = unwrap_or (symbol_meaning globals (base_in b) (symbols_in b.source) name) 0
 
 -- the address of a statement: the base of its section and its offset there
-abbrev pub address_of : Based → Located → ℕ
-address_of b r = base_in b (section_of r) + offset_of r
+abbrev pub address_in : Based → Located → ℕ
+address_in b r = base_in b (section_of r) + offset_of r
 
 -- the bytes of a statement, its symbols replaced
 abbrev pub bytes_of : List Symbol → Based → Located → List ℕ
-bytes_of globals b r = filled_bytes (value_in_module globals b) (address_of b r) (place_of r) r.statement.body
+bytes_of globals b r = filled_bytes (value_in_module globals b) (address_in b r) (place_of r) r.statement.body
 
 -- what a statement gives to section k
 abbrev pub filled_in : List Symbol → Based → ℕ → Located → List ℕ
 filled_in globals b k r = if section_of r == k then bytes_of globals b r else []
 
+-- the bytes of section k of a module, its symbols replaced
 abbrev pub filled_section : List Symbol → Based → ℕ → List ℕ
 filled_section globals b k = flat_map (filled_in globals b k) (lines_in b.source)
 
+-- a section at its address
 abbrev pub spot_under : List Symbol → Based → ℕ × Head → Placed
 spot_under globals b e = record { at = address_at b e.1.place; bytes = filled_section globals b e.0 }
 
@@ -84,16 +88,20 @@ spot_under globals b e = record { at = address_at b e.1.place; bytes = filled_se
 abbrev pub spots_in : List Symbol → Based → List Placed
 spots_in globals b = map (spot_under globals b) (enumerate_from 0 (heads_in b.source))
 
+-- the room of a section
 abbrev pub extent_under : Based → ℕ × Head → Extent
 extent_under b e = record { at = address_at b e.1.place; len = section_length e.0 b.source; line = e.1.line }
 
+-- the room of the sections of a module
 abbrev pub extents_in : Based → List Extent
 extents_in b = map (extent_under b) (enumerate_from 0 (heads_in b.source))
 
 -- the uses of symbols in a module
 abbrev pub references_in : List Symbol → Based → List Reference
-references_in globals b = map (reference globals (base_in b) (symbols_in b.source)) (flat_map uses_of (lines_in b.source))
+references_in globals b =
+    map (reference globals (base_in b) (symbols_in b.source)) (flat_map symbol_uses (lines_in b.source))
 
+-- the layout of modules that stand somewhere
 abbrev pub layout_on : List Based → Layout
 layout_on bs = record {
   spots = flat_map (spots_in (flat_map globals_in bs)) bs;
@@ -102,5 +110,6 @@ layout_on bs = record {
   extents = flat_map extents_in bs;
 }
 
+-- the layout of a unit
 abbrev pub unit_layout : Source → Layout
 unit_layout u = layout_on (based u)

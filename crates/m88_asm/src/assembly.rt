@@ -8,7 +8,7 @@ ghost use Rattle.m88_link.specs.Symbols.{first_repeated, repeated_after, repetit
 ghost use Rattle.m88_asm.specs.Counters.{offset_here, place_here};
 ghost use Rattle.m88_asm.specs.Drafts.{counters_of, empty_growth, here_bytes, next_row, nth, with_body, with_bytes, with_section, with_statement, with_symbols};
 ghost use Rattle.m88_asm.specs.Fault.{memory_ran_out};
-ghost use Rattle.m88_asm.specs.Faults.{duplicate, fault_in, misfit_at};
+ghost use Rattle.m88_asm.specs.Faults.{duplicate_at, fault_in, misfit_at};
 ghost use Rattle.m88_asm.specs.Filled.{waiting_bytes};
 ghost use Rattle.m88_asm.specs.Objects.{labels_at, marked, sets_at, symbols_of};
 
@@ -36,7 +36,12 @@ impl Model for Assembly {
 
     ghost Value = { Growth };
 
-    ghost view = { λ a. record { sections = a.sections.items; here = a.here; symbols = a.symbols; uses = a.uses.items } };
+    ghost view = { λ a. record {
+      sections = a.sections.items;
+      here = a.here;
+      symbols = a.symbols;
+      uses = a.uses.items;
+    } };
 
     ghost invariant = { λ a. IsOpen a.sections.items a.here };
 }
@@ -62,7 +67,7 @@ impl Assembly {
         ensures new { OnOk result (self.new ≡ with_symbols self.old (symbol ∷ [])) }
         ensures fresh { OnOk result (repetition self.old.symbols symbol ≡ None) }
         ensures fault { IfErr result (λ e. (e ≡ memory_ran_out)
-            ⊎ (option_map duplicate (repetition self.old.symbols symbol) ≡ Some e)) }
+            ⊎ (option_map duplicate_at (repetition self.old.symbols symbol) ≡ Some e)) }
     {
         if let Some(first) = self.symbols.get(&symbol.name) {
             return Err(AsmFault {
@@ -85,7 +90,8 @@ impl Assembly {
             (labels_at (counters_of self.old.sections self.old.here) line label.now)) }
         ensures fresh { OnOk result (repeated_after self.old.symbols
             (labels_at (counters_of self.old.sections self.old.here) line label.now) ≡ None) }
-        ensures fault { IfErr result (λ e. (e ≡ memory_ran_out) ⊎ (option_map duplicate (repeated_after self.old.symbols
+        ensures fault { IfErr result (λ e. (e ≡ memory_ran_out)
+            ⊎ (option_map duplicate_at (repeated_after self.old.symbols
             (labels_at (counters_of self.old.sections self.old.here) line label.now)) ≡ Some e)) }
     {
         match label {
@@ -107,9 +113,10 @@ impl Assembly {
     /// Defines the symbol of a `.set` as its number.
     fn set(&mut self, line: u32, body: &Body) -> Result<(), AsmFault>
         ensures new { OnOk result (self.new ≡ with_symbols self.old (sets_at line body.now)) }
-        ensures fresh { OnOk result (repeated_after self.old.symbols (sets_at line body.now) ≡ None) }
+        ensures fresh { OnOk result
+            (repeated_after self.old.symbols (sets_at line body.now) ≡ None) }
         ensures fault { IfErr result (λ e. (e ≡ memory_ran_out)
-            ⊎ (option_map duplicate (repeated_after self.old.symbols (sets_at line body.now)) ≡ Some e)) }
+            ⊎ (option_map duplicate_at (repeated_after self.old.symbols (sets_at line body.now)) ≡ Some e)) }
     {
         match body {
             Body::Set { name, col, value } => {
@@ -181,7 +188,8 @@ impl Assembly {
     fn fill(&mut self, line: u32, body: &Body) -> Result<(), AllocError>
         requires formed { IsFormedBody body.now }
         requires few { length self.old.sections < 2 ^ 32 }
-        requires room { HasRoom (with_bytes (nth self.old.sections self.old.here) (here_bytes self.old body.now)) }
+        requires room { HasRoom
+            (with_bytes (nth self.old.sections self.old.here) (here_bytes self.old body.now)) }
         ensures { OnOk result (self.new ≡ with_body self.old line body.now) }
     {
         let number = self.here as u32;

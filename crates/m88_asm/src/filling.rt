@@ -40,7 +40,8 @@ fn word(
     value: &Value,
 ) -> Result<(), AllocError>
     requires { HasRoom (with_bytes section.old (to_be_bytes w32 (waiting_word value.now))) }
-    ensures bytes { OnOk result (section.new ≡ with_bytes section.old (to_be_bytes w32 (waiting_word value.now))) }
+    ensures bytes { OnOk result
+        (section.new ≡ with_bytes section.old (to_be_bytes w32 (waiting_word value.now))) }
     ensures uses { OnOk result (uses.new.items
         ≡ uses.old.items ++ use_in_value number (length section.old.bytes) line value.now) }
 {
@@ -62,7 +63,8 @@ fn words(
     line: u32,
     values: &[Value],
 ) -> Result<(), AllocError>
-    requires { HasRoom (with_bytes section.old (flat_map (λ v. to_be_bytes w32 (waiting_word v)) values.now)) }
+    requires { HasRoom
+        (with_bytes section.old (flat_map (λ v. to_be_bytes w32 (waiting_word v)) values.now)) }
     ensures bytes { OnOk result (section.new
         ≡ with_bytes section.old (flat_map (λ v. to_be_bytes w32 (waiting_word v)) values.now)) }
     ensures uses { OnOk result (uses.new.items
@@ -77,7 +79,8 @@ fn words(
 /// Puts the half words of `.half` into a section.
 fn halves(section: &mut Growing, numbers: &[u16]) -> Result<(), AllocError>
     requires { HasRoom (with_bytes section.old (flat_map (λ n. to_be_bytes w16 n) numbers.now)) }
-    ensures { OnOk result (section.new ≡ with_bytes section.old (flat_map (λ n. to_be_bytes w16 n) numbers.now)) }
+    ensures { OnOk result
+        (section.new ≡ with_bytes section.old (flat_map (λ n. to_be_bytes w16 n) numbers.now)) }
 {
     for n in numbers {
         section.push_all(&n.to_be_bytes())?;

@@ -5,7 +5,7 @@ ghost use Rattle.m88_isa.specs.ImageProgram.{IsInstructionAt};
 ghost use Rattle.m88_isa.specs.declared.instr.Instr.{Instr as Instruction};
 ghost use Rattle.m88_parse.specs.WellFormed.{IsWellFormed};
 ghost use Rattle.m88_link.specs.Linked.{IsLinked};
-ghost use Rattle.m88_asm.specs.Accepted.{IsAccepted, IsUnitFault};
+ghost use Rattle.m88_asm.specs.Accepted.{IsAcceptedUnit, IsUnitFault};
 ghost use Rattle.m88_asm.specs.Images.{IsUnitInstruction, unit_byte, unit_start};
 ghost use Rattle.m88_asm.specs.Units.{unit_layout};
 
@@ -30,7 +30,7 @@ pub fn image_of(alloc: Global, unit: &Unit) -> Result<Image, UnitFault>
         → IsUnitInstruction unit.now a instruction → IsInstructionAt (byte_at image) a instruction) }
     // By sections: the image is that of the unit's layout.
     ensures linked { IfOk result (IsLinked (unit_layout unit.now)) }
-    ensures accepted { OnOk result (IsAccepted unit.now) }
+    ensures accepted { OnOk result (IsAcceptedUnit unit.now) }
     // A fault is the first one of the statements, else the refusal of the layout, or memory ran out.
     ensures fault { IfErr result (IsUnitFault unit.now) }
 {

@@ -10,7 +10,7 @@ ghost use Rattle.m88_parse.specs.declared.unit.Module.{Module as Part};
 ghost use Rattle.m88_asm.specs.Counters.{Located, at_begin, located, offset_of, section_of};
 ghost use Rattle.m88_asm.specs.Drafts.{empty_growth, with_statements};
 ghost use Rattle.m88_asm.specs.Fault.{memory_ran_out};
-ghost use Rattle.m88_asm.specs.Faults.{IsAssembled, first_fault, module_fault, modules_fault, unit_fault};
+ghost use Rattle.m88_asm.specs.Faults.{IsAssembled, statements_fault, module_fault, modules_fault, unit_fault};
 ghost use Rattle.m88_asm.specs.Objects.{lines_in, object_of, objects_of};
 ghost use Rattle.m88_asm.specs.Units.{length_in, unit_layout};
 
@@ -25,9 +25,9 @@ fn lay_out(alloc: Global, line: u32, statements: &[Statement]) -> Result<Assembl
     requires formed { All IsFormedStatement statements.now }
     requires few { length statements.now < 2 ^ 31 }
     ensures whole { IfOk result (λ a. a ≡ with_statements (empty_growth line) statements.now) }
-    ensures clean { OnOk result (first_fault [] (located at_begin statements.now) ≡ None) }
+    ensures clean { OnOk result (statements_fault [] (located at_begin statements.now) ≡ None) }
     ensures fault { IfErr result (λ e. (e ≡ memory_ran_out)
-        ⊎ (first_fault [] (located at_begin statements.now) ≡ Some e)) }
+        ⊎ (statements_fault [] (located at_begin statements.now) ≡ Some e)) }
 {
     let mut assembly = Assembly::new(alloc, line)?;
     for x in statements {
@@ -46,7 +46,8 @@ fn object(alloc: Global, module: &Module) -> Result<Object, AsmFault>
     ensures object { IfOk result (λ o. o ≡ object_of «module».now) }
     ensures sound { IfOk result IsSound }
     ensures clean { OnOk result (module_fault «module».now ≡ None) }
-    ensures fault { IfErr result (λ e. (e ≡ memory_ran_out) ⊎ (module_fault «module».now ≡ Some e)) }
+    ensures fault { IfErr result (λ e. (e ≡ memory_ran_out)
+        ⊎ (module_fault «module».now ≡ Some e)) }
 {
     let statements = module.statements.as_slice();
     match lay_out(alloc, module.line, statements) {
@@ -62,7 +63,8 @@ fn objects(alloc: Global, modules: &[Module]) -> Result<Vec<Object>, AsmFault>
     ensures objects { IfOk result (λ v. v.items ≡ map object_of modules.now) }
     ensures sound { IfOk result (λ v. All IsSound v.items) }
     ensures clean { OnOk result (modules_fault modules.now ≡ None) }
-    ensures fault { IfErr result (λ e. (e ≡ memory_ran_out) ⊎ (modules_fault modules.now ≡ Some e)) }
+    ensures fault { IfErr result (λ e. (e ≡ memory_ran_out)
+        ⊎ (modules_fault modules.now ≡ Some e)) }
 {
     let mut out = Vec::new(alloc);
     for part in modules {
@@ -84,7 +86,8 @@ pub fn assemble(alloc: Global, unit: &Unit) -> Result<Vec<Object>, AsmFault>
     // Only a unit none of whose statements meets a fault has objects.
     ensures accepted { OnOk result (IsAssembled unit.now) }
     // A fault is the first one, or memory ran out.
-    ensures fault { IfErr result (λ e. (e ≡ memory_ran_out) ⊎ (unit_fault unit.now ≡ Some e)) }
+    ensures fault { IfErr result (λ e. (e ≡ memory_ran_out)
+        ⊎ (unit_fault unit.now ≡ Some e)) }
     // Linking looks at the objects as it would at the unit: a layout that can be linked is the unit's,
     // and a refusal is the unit's.
     ensures layout { IsLinkable (layout_of (objects_of unit.now))

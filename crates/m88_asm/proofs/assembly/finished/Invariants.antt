@@ -1,3 +1,4 @@
+-- What the loop of `finished` keeps.
 use Rattle.std.proofs.Common.{◌≡◌}
 use Rattle.std.specs.List.{All}
 use Rattle.m88_link.specs.Sound.{HasRoom}

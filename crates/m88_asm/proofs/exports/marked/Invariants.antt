@@ -1,3 +1,4 @@
+-- What the loop of `marked` keeps.
 use Rattle.std.proofs.Common.{◌≡◌, map, take}
 use Rattle.m88_asm.specs.Objects.{marked}
 use Rattle.m88_asm.proofs.exports.marked.Given as goal

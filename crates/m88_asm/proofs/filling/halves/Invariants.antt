@@ -1,3 +1,4 @@
+-- What the loop of `halves` keeps.
 use Rattle.std.proofs.Common.{◌≡◌, drop, flat_map}
 use Rattle.std.specs.Int.{to_be_bytes, w16}
 use Rattle.m88_asm.specs.Drafts.{with_bytes}

@@ -1,3 +1,4 @@
+-- What the loop of `words` keeps.
 use Rattle.std.proofs.Common.{◌≡◌, ◌++◌, length, drop, flat_map}
 use Rattle.std.specs.Int.{to_be_bytes, w32}
 use Rattle.m88_asm.specs.Drafts.{with_bytes}

@@ -1,3 +1,4 @@
+-- What the loop of `lay_out` keeps.
 use Rattle.m88_asm.proofs.Resting.{Rest}
 use Rattle.m88_asm.proofs.objects.lay_out.Given as goal
 

@@ -6,7 +6,7 @@ use Rattle.m88_link.specs.Symbols.{first_repeated}
 use Rattle.m88_link.specs.declared.object.Object.{Object}
 use Rattle.m88_asm.specs.Drafts.{Growth, empty_growth, with_statements}
 use Rattle.m88_asm.specs.Counters.{at_begin, located}
-use Rattle.m88_asm.specs.Faults.{first_fault, module_fault}
+use Rattle.m88_asm.specs.Faults.{statements_fault, module_fault}
 use Rattle.m88_asm.specs.Objects.{lines_in, marked, object_of, symbols_of}
 use Rattle.m88_asm.proofs.Sounding.{sound_object}
 use Rattle.m88_asm.proofs.Assembling.{grown_object, grown_symbols}
@@ -25,7 +25,7 @@ pub returns-in_ok-into_object-in-Ok-clause-sound : goal.returns-in_ok-into_objec
 returns-in_ok-into_object-in-Ok-clause-sound c =
     let m = c.args.«module».now in
     let is : c.in_ok-into_object-in-Ok.field-0 ≡ object_of m = returns-in_ok-into_object-in-Ok-clause-object c in
-    let clean : module_fault m ≡ None = ap (λ xs. first_fault [] (located at_begin xs)) (sym c.as_slice-statements.ensures) ∙ c.in-Ok.ensures.clean in
+    let clean : module_fault m ≡ None = ap (λ xs. statements_fault [] (located at_begin xs)) (sym c.as_slice-statements.ensures) ∙ c.in-Ok.ensures.clean in
     let symbols : c.in-Ok.assembly.symbols ≡ flat_map symbols_of (lines_in m) =
     ap (λ (g : Growth). g.symbols) (c.in-Ok.ensures.whole ∙ ap (with_statements (empty_growth m.line)) c.as_slice-statements.ensures) ∙ grown_symbols m in
     subst IsSound (sym is) (sound_object m clean (ap first_repeated (sym symbols) ∙ c.in_ok-into_object-in-Ok.ensures.names)

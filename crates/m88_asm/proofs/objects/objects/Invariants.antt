@@ -1,3 +1,4 @@
+-- What the loop of `objects` keeps.
 use Rattle.std.proofs.Common.{◌≡◌, map, take, drop}
 use Rattle.std.specs.List.{All}
 use Rattle.m88_link.specs.Sound.{IsSound}
