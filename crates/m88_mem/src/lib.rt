@@ -6,6 +6,8 @@ mod absent_page;
 mod marks;
 mod memory;
 mod places;
+#[cfg(test)]
+mod tests;
 
 pub use absent_page::AbsentPage;
 pub use memory::{Memory, PAGE_BYTES, PAGE_COUNT};

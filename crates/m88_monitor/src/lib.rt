@@ -3,6 +3,8 @@
 
 mod answer;
 mod served;
+#[cfg(test)]
+mod tests;
 mod traps;
 
 pub use answer::Service;

@@ -1,0 +1,40 @@
+//! Memory over two buses, told by hand.
+
+use crate::{AbsentPage, Memory};
+use m88_base::{Absent, Image, ImageFault};
+
+#[test]
+fn words_of_an_image_and_stores(rt: HostRuntime) -> Result<(), ImageFault> {
+    let mut image = Image::new(rt.alloc());
+    image.add(0x1FFC, &[1, 2, 3, 4, 5])?;
+    let Ok(mut memory) = Memory::new(rt.alloc(), &image, &Absent::None) else {
+        return Err(ImageFault::Memory);
+    };
+    assert_eq!(rt; memory.fetch(0x1FFC), Some(0x0102_0304));
+    assert_eq!(rt; memory.fetch(0x2000), None);
+    assert_eq!(rt; memory.word(0x2000), 0x0500_0000);
+    let Ok(()) = memory.prepare(0x2ABC) else {
+        return Err(ImageFault::Memory);
+    };
+    assert_eq!(rt; memory.word(0x2000), 0x0500_0000);
+    if memory.is_ready(0x2000) {
+        assert_eq!(rt; memory.write_lanes(0x2000, 3, 0x1234_5678), Ok(()));
+    }
+    assert_eq!(rt; memory.word(0x2000), 0x0500_5678);
+    assert_eq!(rt; memory.word(0x1FFC), 0x0102_0304);
+    assert_eq!(rt; memory.fetch(0x2000), None);
+    Ok(())
+}
+
+#[test]
+fn absent_pages(rt: HostRuntime) -> Result<(), ImageFault> {
+    let image = Image::new(rt.alloc());
+    let Ok(mut memory) = Memory::new(rt.alloc(), &image, &Absent::All) else {
+        return Err(ImageFault::Memory);
+    };
+    assert_eq!(rt; memory.read_word(0x5000), Err(AbsentPage));
+    memory.supply(5);
+    assert_eq!(rt; memory.read_word(0x5000), Ok(0));
+    assert_eq!(rt; memory.read_word(0x6000), Err(AbsentPage));
+    Ok(())
+}
