@@ -26,8 +26,8 @@ pub record IsReportOn (source : List ℕ) (limit : ℕ) (text : List ℕ) : Type
   pub only : (others : List Instr) → IsSourceOf others source → others ≡ instructions
   pub report : IsReport (program_of instructions) limit text
 
--- a command accepts an input: a run a source that writes instructions, `asm` a source of the assembly language whose unit
--- can be laid out
+-- a command accepts an input: a run a source that writes instructions, `asm` a source of the assembly language whose
+-- unit can be laid out
 abbrev pub Accepts : Command → List ℕ → Type 0
 Accepts (Run limit) source = (instructions : List Instr) × IsSourceOf instructions source
 Accepts Asm source = IsAssemblySource source

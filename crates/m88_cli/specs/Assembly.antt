@@ -34,10 +34,11 @@ asm_reason kind.Alignment = codes "alignment"
 asm_reason kind.TooLarge = codes "too large"
 asm_reason kind.Memory = codes "out of memory"
 
--- the refusal for a fault of a source's lines, and for one of a unit's statements
+-- the refusal for a fault of a source's lines
 abbrev pub parse_refusal : ParseFault → Refusal
 parse_refusal fault = record { line = fault.line; column = fault.col; reason = reason fault.kind }
 
+-- and for one of a unit's statements
 abbrev pub asm_refusal : AsmFault → Refusal
 asm_refusal fault = record { line = fault.line; column = fault.col; reason = asm_reason fault.kind }
 

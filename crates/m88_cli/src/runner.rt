@@ -94,7 +94,8 @@ impl<'a> Runner<'a> {
     pub fn event(&mut self, letter: Letter) -> Result<(), AllocError>
         ensures moves { OnOk result ((p : Program) (limit : ℕ) (m : RunMoment)
             → IsAt p limit m self.old → IsAt p limit (made (event_step_at p limit letter m) m) self.new) }
-        ensures nearer { OnOk result (is_over_at self.old ≡ false → IsNearer letter self.old self.new) }
+        ensures nearer { OnOk result (is_over_at self.old ≡ false
+            → IsNearer letter self.old self.new) }
     {
         match letter {
             Letter::Answer => Ok(()),
