@@ -7,3 +7,4 @@ pub mod Cutting
 pub mod Spelled
 pub mod Trip
 pub mod Turns
+pub mod Sizes

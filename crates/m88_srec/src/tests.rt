@@ -82,6 +82,16 @@ fn a_text_is_refused_at_its_first_fault(rt: HostRuntime) -> Result<(), Fail> {
             2,
             SrecKind::Overlap(0x1001),
         ),
+        (
+            b"S00600004D38383D\nS70500001000EA",
+            1,
+            SrecKind::Sum {
+                written: 0x3D,
+                computed: 0x3C,
+            },
+        ),
+        (b"S70500001000EA\r", 1, SrecKind::Form),
+        (b"S70500001000EA\r\r\n", 1, SrecKind::Form),
         (b"s70500001000EA", 1, SrecKind::Form),
         (b"S405000010", 1, SrecKind::Form),
         (b"S7050000100EA", 1, SrecKind::Form),
@@ -112,6 +122,7 @@ fn every_type_and_either_case_are_taken(rt: HostRuntime) -> Result<(), Fail> {
             0x1000,
             0,
         ),
+        (b"S105FFFF0102F9\nS70500001000EA", 0x1000, 2),
         (b"S70500001000EA", 0x1000, 0),
     ] {
         let image = read_srec(rt.alloc(), text).map_err(|_| "the text is accepted")?;

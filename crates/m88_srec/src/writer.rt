@@ -1,5 +1,5 @@
 //! S-record texts written.
-ghost use Rattle.std.specs.Prelude.{◌≡◌, ◌+◌, ◌≤◌, ◌^◌, ◌++◌, length, IfOk, OnOk};
+ghost use Rattle.std.specs.Prelude.{◌≡◌, ◌+◌, ◌<◌, ◌≤◌, ◌^◌, ◌++◌, length, IfOk, OnOk};
 ghost use Rattle.std.specs.List.{flat_map};
 ghost use Rattle.m88_base.specs.Image.{IsImage, parts};
 ghost use Rattle.m88_srec.specs.Accepted.{IsAccepted, whole_of};
@@ -55,8 +55,9 @@ fn written(alloc: Global, image: &Image) -> Result<Vec<u8>, AllocError>
 pub fn write_srec(alloc: Global, image: &Image) -> Result<Vec<u8>, NoMemory>
     ensures value { IfOk result (λ text. text.items ≡ srec_text image.now) }
 
-    // Reading the text again gives the image with its start.
+    // Reading the text again gives the image with its start, and it is short enough to be read.
     ensures again { IfOk result (λ text. IsAccepted text.items (whole_of image.now)) }
+    ensures short { IfOk result (λ text. length text.items < 2 ^ 31) }
 {
     let text = written(alloc, image)?;
     Ok(text)
