@@ -1,8 +1,8 @@
 -- The runs as a list's own calls leave them, once bytes are placed at an index.
-use Rattle.std.proofs.Common.{◌≡◌, ℕ, zero, suc, ◌+◌, ◌-◌, ◌<◌, ◌≤◌, List, [], ◌∷◌, ◌++◌, length, get_or, set, take, drop, refl, sym, arith, append_assoc, append-nil, add-zero, length-append}
+use Rattle.std.proofs.Common.{◌≡◌, ℕ, zero, suc, ◌+◌, ◌-◌, ◌<◌, ◌≤◌, List, [], ◌∷◌, ◌++◌, length, get_or, set, take, drop, refl, sym, ap, ◌∙◌, ◌≢◌, arith, append_assoc, append-nil, length-append}
 use Rattle.std.specs.Prelude.{insert, remove}
-use Rattle.std.proofs.Math.Seq.{drop-cons, drop-nil, set-append_seam, take-append_seam, take-suc}
-use Rattle.std.proofs.lemmas.List.{take-append-drop, set_split, get_or-take, get_or-drop, length-take, length-drop}
+use Rattle.std.proofs.Math.Seq.{drop-cons, drop-nil, take-append_seam}
+use Rattle.std.proofs.lemmas.List.{take-append-drop, set_split, length-take, get_or-set_other}
 use Rattle.m88_base.specs.Placed.{Placed, AreApart}
 use Rattle.m88_base.specs.Placing.{BeginsAt, next_start, Places}
 use Rattle.m88_base.proofs.Cuts.{cut_at, apart_take, next_start-take}
@@ -56,12 +56,6 @@ begun_earlier xs i at bytes next h is above below some =
     let placed = places_ahead (take i xs) (drop (suc i) xs) at next.at bytes next.bytes touch above some (rw cut at h) in
     rw (append-nil, set_split xs i (record { at = at; bytes = bytes ++ next.bytes }) l) (rw (← cut) at placed)
 
-set_last : (xs : List Placed) (x y : Placed) (n : ℕ) → length xs ≡ n → set (xs ++ x ∷ []) n y ≡ xs ++ y ∷ []
-set_last xs x y n e = rw (← e) (set-append_seam xs x [] y)
-
-take_whole : (xs ys : List Placed) (n : ℕ) → length xs ≡ n → take n (xs ++ ys) ≡ xs
-take_whole xs ys n e = rw (← e) (take-append_seam xs ys)
-
 drop_past : (xs ys : List Placed) (x : Placed) → drop (suc (length xs)) (xs ++ x ∷ ys) ≡ ys
 drop_past [] ys x = refl
 drop_past (z ∷ xs) ys x = drop_past xs ys x
@@ -69,38 +63,46 @@ drop_past (z ∷ xs) ys x = drop_past xs ys x
 removed : (xs ys : List Placed) (x : Placed) (n : ℕ) → length xs ≡ n → remove (xs ++ x ∷ ys) n ≡ xs ++ ys
 removed xs ys x n e = rw (← e, take-append_seam xs (x ∷ ys), drop_past xs ys x)
 
+-- what is put where another was put before
+pub set_again : {X : Type 0} (xs : List X) (i : ℕ) (x y : X) → set (set xs i x) i y ≡ set xs i y
+set_again [] i x y = refl
+set_again (z ∷ xs) zero x y = refl
+set_again (z ∷ xs) (suc i) x y = ap (λ zs. z ∷ zs) (set_again xs i x y)
+
+-- the run at the index stands while the one before it is out
+pub next_stands : (xs : List Placed) (i at : ℕ) (hole next : Placed) → next_start 0 (take i xs) ≡ at + 1 → next ≡ get_or (set xs (i - 1) hole) i next
+    → next ≡ get_or xs i next
+next_stands xs i at hole next above is =
+    let some : 0 < i = some_before xs i at above in
+    let other : i ≢ i - 1 = omega arith in
+    is ∙ get_or-set_other xs (i - 1) i hole next other
+
 -- the gap between the run before the index and the one at it
-pub gap : (xs : List Placed) (i at n : ℕ) (run next : Placed) → run ≡ get_or (take i xs) (i - 1) run → next ≡ get_or (drop i xs) 0 next
+pub gap : (xs : List Placed) (i at n : ℕ) (run next : Placed) → run ≡ get_or xs (i - 1) run → next ≡ get_or xs i next
     → next_start 0 (take i xs) ≡ at + 1 → BeginsAt (drop i xs) (at + n) → (run.at + length run.bytes ≡ at) × (next.at ≡ at + n)
 gap xs i at n run next is js above below =
     let l : i < length xs = begins_within xs i (at + n) below in
-    let some : 0 < i = some_before xs i at above in
-    let inside : i - 1 < i = omega arith in (
-      ends_before xs i at run (omega arith) (rw (get_or-take i xs (i - 1) run inside) at is) above,
-      begins_next xs i (at + n) next (rw (get_or-drop, add-zero) at js) below,
-    )
+    (ends_before xs i at run (omega arith) is above, begins_next xs i (at + n) next js below)
 
-pub bridged : (xs rest : List Placed) (i at size : ℕ) (bytes : List ℕ) (run next : Placed) → AreApart 0 xs → length xs ≡ size
-    → run ≡ get_or (take i xs) (i - 1) run → next ≡ get_or (drop i xs) 0 next → next_start 0 (take i xs) ≡ at + 1 → BeginsAt (drop i xs) (at + length bytes)
-    → Places xs (remove (take size (set (take i xs) (i - 1) (record { at = run.at; bytes = run.bytes ++ (bytes ++ next.bytes) }) ++ drop i xs ++ rest)) i) at bytes
-bridged xs rest zero at size bytes run next h n is js above below = absurd (omega arith)
-bridged xs rest (suc i) at size bytes run next h n is js above below =
+pub bridged : (xs : List Placed) (i at : ℕ) (bytes : List ℕ) (run next : Placed) → AreApart 0 xs → run ≡ get_or xs (i - 1) run → next ≡ get_or xs i next
+    → next_start 0 (take i xs) ≡ at + 1 → BeginsAt (drop i xs) (at + length bytes)
+    → Places xs (remove (set xs (i - 1) (record { at = run.at; bytes = run.bytes ++ (bytes ++ next.bytes) })) i) at bytes
+bridged xs zero at bytes run next h is js above below = absurd (omega arith)
+bridged xs (suc i) at bytes run next h is js above below =
     let whole : Placed = record { at = run.at; bytes = run.bytes ++ (bytes ++ next.bytes) } in
     let more : List Placed = drop (suc (suc i)) xs in
     let front_new : List Placed = take i xs ++ whole ∷ [] in
     let e : suc i - 1 ≡ i = omega arith in
     let l : suc i < length xs = begins_within xs (suc i) (at + length bytes) below in
-    let inside : i < suc i = omega arith in
-    let was : get_or xs i run ≡ run = sym (rw (e, get_or-take (suc i) xs i run inside) at is) in
-    let then : get_or xs (suc i) next ≡ next = sym (rw (get_or-drop, add-zero) at js) in
-    let front : take (suc i) xs ≡ take i xs ++ run ∷ [] = rw was at (take-suc xs i run (omega arith)) in
-    let back : drop (suc i) xs ≡ next ∷ more = rw then at (drop-cons xs (suc i) next l) in
+    let here : i < length xs = omega arith in
+    let was : get_or xs i run ≡ run = sym (rw e at is) in
+    let back : drop (suc i) xs ≡ next ∷ more = rw (← js) at (drop-cons xs (suc i) next l) in
     let short : length (take i xs) ≡ i = simp length-take (omega arith) in
-    let cut : xs ≡ take i xs ++ run ∷ next ∷ more = rw (was, back) at (cut_at xs i run (omega arith)) in
-    let set_one : set (take (suc i) xs) (suc i - 1) whole ≡ front_new = rw (e, front) (set_last (take i xs) run whole i short) in
+    let cut : xs ≡ take i xs ++ run ∷ next ∷ more = rw (was, back) at (cut_at xs i run here) in
     let long : length front_new ≡ suc i = omega (arith, length-append (take i xs) (whole ∷ []), short) in
-    let all : length (front_new ++ next ∷ more) ≡ size =
-    omega (arith, length-append front_new (next ∷ more), long, n, length-drop (suc (suc i)) xs) in
+    let gone : remove (take i xs ++ whole ∷ next ∷ more) (suc i) ≡ take i xs ++ whole ∷ more =
+    ap (λ ys. remove ys (suc i)) (sym (append_assoc (take i xs) (whole ∷ []) (next ∷ more)))
+    ∙ (removed front_new more next (suc i) long ∙ append_assoc (take i xs) (whole ∷ []) more) in
     let ends = gap xs (suc i) at (length bytes) run next is js above below in
     let placed = places_across (take i xs) more run.at at next.at run.bytes bytes next.bytes ends.0 (sym ends.1) (rw cut at h) in
-    rw (set_one, back, take_whole (front_new ++ next ∷ more) rest size all, removed front_new more next (suc i) long, append_assoc) (rw (← cut) at placed)
+    rw (e, set_split xs i whole here, back, gone) (rw (← cut) at placed)

@@ -4,6 +4,7 @@ pub mod Cuts
 pub mod Edits
 pub mod Digits
 pub mod Hexadecimal
+pub mod InBlocks
 pub mod Known
 pub mod Lines
 pub mod Lookup

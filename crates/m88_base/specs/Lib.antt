@@ -14,4 +14,5 @@ pub mod Memory
 pub mod Found
 pub mod Placed
 pub mod Placing
+pub mod Blocks
 pub mod Image

@@ -1,6 +1,6 @@
 -- Words for the contracts of private functions; no promise of the program names them. Where one more run fits among
 -- others, and what runs become once bytes are placed among them.
-use Rattle.std.specs.Prelude.{◌≡◌, ℕ, ◌+◌, List, [], ◌∷◌, length}
+use Rattle.std.specs.Prelude.{◌≡◌, ℕ, ◌+◌, ◌≤◌, List, [], ◌∷◌, length, take, drop, All}
 use Rattle.m88_base.specs.Found.{PutsBytes}
 use Rattle.m88_base.specs.Placed.{Placed, byte_among, count_among, AreApart}
 
@@ -13,6 +13,12 @@ next_start from (run ∷ runs) = next_start (run.at + length run.bytes + 1) runs
 abbrev pub BeginsAt : List Placed → ℕ → Type 0
 BeginsAt [] a = ⊥
 BeginsAt (run ∷ runs) a = run.at ≡ a
+
+-- as many runs as the index begin at or below the address
+pub record IsCut (runs : List Placed) (index at : ℕ) : Type 0 where
+  pub bound : index ≤ length runs
+  pub below : All (λ run. run.at ≤ at) (take index runs)
+  pub above : AreApart (at + 1) (drop index runs)
 
 -- runs that are others with the bytes put at the addresses from `at` on
 pub record Places (old new : List Placed) (at : ℕ) (bytes : List ℕ) : Type 0 where

@@ -5,8 +5,7 @@ ghost use Rattle.m88_base.specs.Placed.{AreApart, byte_among};
 ghost use Rattle.m88_base.specs.Image.{IsImage, IsTooLarge, ProgramImage, WhereOverlap, byte_at, byte_count, most_bytes, parts};
 
 use crate::failing::NoMemory;
-use crate::segment::Segment;
-use crate::segments::{copied, find, first_taken, locate, place};
+use crate::segments::Segments;
 use std::alloc::{AllocError, Global};
 use std::marker::Model;
 use thiserror::Error;
@@ -43,7 +42,7 @@ impl From<AllocError> for ImageFault {
 #[derive(Drop, Debug)]
 pub struct Image {
     alloc: Global,
-    runs: Vec<Segment>,
+    runs: Segments,
     len: usize,
     start: u32,
 }
@@ -51,16 +50,15 @@ pub struct Image {
 impl Model for Image {
     ghost use Rattle.std.specs.Prelude.{◌≡◌, ◌≤◌, ◌<◌, ◌^◌};
     ghost use Rattle.m88_base.specs.Found.{FindsBytes};
-    ghost use Rattle.m88_base.specs.Placed.{AreApart, byte_among, count_among};
+    ghost use Rattle.m88_base.specs.Placed.{byte_among, count_among};
     ghost use Rattle.m88_base.specs.Image.{ProgramImage, most_bytes};
 
     ghost Value = { ProgramImage };
 
-    ghost view = { λ image. record { runs = image.runs.items; start = image.start } };
+    ghost view = { λ image. record { runs = image.runs; start = image.start } };
 
-    ghost invariant = { λ image. AreApart 0 image.runs.items × (image.len ≡ count_among image.runs.items)
-        × (image.len ≤ most_bytes) × FindsBytes (byte_among image.runs.items)
-        × (image.start < 2 ^ 32) };
+    ghost invariant = { λ image. (image.len ≡ count_among image.runs) × (image.len ≤ most_bytes)
+        × FindsBytes (byte_among image.runs) × (image.start < 2 ^ 32) };
 }
 
 impl Image {
@@ -73,7 +71,7 @@ impl Image {
     {
         Image {
             alloc,
-            runs: Vec::new(alloc),
+            runs: Segments::new(alloc),
             len: 0,
             start: 0x1000,
         }
@@ -83,7 +81,7 @@ impl Image {
     pub fn copy(&self, alloc: Global) -> Result<Image, NoMemory>
         ensures { IfOk result (λ image. image ≡ self.now) }
     {
-        let runs = copied(alloc, &self.runs)?;
+        let runs = self.runs.copy(alloc)?;
         Ok(Image {
             alloc,
             runs,
@@ -112,11 +110,11 @@ impl Image {
         if bytes.is_empty() {
             return Ok(());
         }
-        let index = locate(&self.runs, at);
-        if let Some(taken) = first_taken(&self.runs, index, at, bytes.len()) {
+        let index = self.runs.locate(at);
+        if let Some(taken) = self.runs.first_taken(index, at, bytes.len()) {
             return Err(ImageFault::Overlap(taken));
         }
-        place(self.alloc, &mut self.runs, index, at, bytes)?;
+        self.runs.place(self.alloc, index, at, bytes)?;
         self.len += bytes.len();
         Ok(())
     }
@@ -164,7 +162,7 @@ impl Image {
     pub fn byte(&self, at: u32) -> Option<u8>
         ensures { result ≡ byte_at self.now at }
     {
-        find(&self.runs, at)
+        self.runs.find(at)
     }
 
     /// The number of parts, the runs of consecutive addresses that are as long as they can be.
@@ -189,7 +187,7 @@ impl Image {
         ensures part { IsPart (byte_at self.now) result.0 result.1.now }
         ensures fits { result.0 + length result.1.now ≤ 2 ^ 32 }
     {
-        let run = &self.runs[index];
+        let run = self.runs.get(index);
         (run.at(), run.bytes())
     }
 }

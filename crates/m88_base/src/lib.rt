@@ -28,6 +28,8 @@ mod numerals;
 mod refused;
 
 // The image of a program.
+mod block;
+mod blocks;
 mod image;
 mod segment;
 mod segments;

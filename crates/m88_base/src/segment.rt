@@ -1,5 +1,5 @@
 //! A run of bytes at consecutive addresses.
-ghost use Rattle.std.specs.Prelude.{◌≡◌, ◌+◌, ◌-◌, ◌^◌, ◌≤◌, ◌++◌, length, slice_get, IfOk, OnOk, OnErr};
+ghost use Rattle.std.specs.Prelude.{◌≡◌, ◌+◌, ◌-◌, ◌^◌, ◌≤◌, ◌++◌, [], length, slice_get, IfOk, OnOk, OnErr};
 
 use std::alloc::{AllocError, Global};
 use std::marker::Model;
@@ -37,6 +37,16 @@ impl Segment {
         ensures { IfOk result (λ run. run ≡ self.now) }
     {
         Segment::new(alloc, self.at, self.bytes())
+    }
+
+    /// A run of no bytes, which takes no memory.
+    pub fn empty(alloc: Global) -> Segment
+        ensures { result ≡ record { at = 0; bytes = [] } }
+    {
+        Segment {
+            at: 0,
+            bytes: Vec::new(alloc),
+        }
     }
 
     /// The address of the first byte.

@@ -1,6 +1,7 @@
-use Rattle.m88_base.proofs.Cuts.{next_start_last}
+use Rattle.std.proofs.Common.{arith}
+use Rattle.m88_base.proofs.Cuts.{next_start-take}
 use Rattle.m88_base.proofs.segments.next_start.Goals as goal
 
-pub returns-in-len1-up-clause-value : goal.returns-in-len1-up-clause-value
-returns-in-len1-up-clause-value c =
-    rw (next_start_last c.args.runs.now c.last-item.result c.in-len1-up.len_at_least, ← c.last-item.is, c.end.ensures.value)
+pub returns-clause-value : goal.returns-clause-value
+returns-clause-value c =
+    rw (next_start-take c.args.runs.now c.args.index c.get-run.result.now (omega arith) c.requires, ← c.get-run.ensures, c.end.ensures.value)

@@ -1,6 +1,5 @@
 use Rattle.std.proofs.Common.{◌≡◌, ◌<◌, ◌+◌, refl, sym, inl, inr, ◌^◌, length, arith}
 use Rattle.m88_base.specs.Image.{byte_at, byte_count}
-use Rattle.m88_base.proofs.Cuts.{free_between}
 use Rattle.m88_base.proofs.SameRuns.{puts_bytes}
 use Rattle.m88_base.proofs.image.Image.add.Goals.{In_ok-place}
 use Rattle.m88_base.proofs.image.Image.add.Goals as goal
@@ -16,12 +15,12 @@ returns-in-Some-clause-too_large c = (λ e. absurd (cc), λ x. absurd (let f = c
 
 pub returns-in-Some-clause-overlap : goal.returns-in-Some-clause-overlap
 unfolding byte_at
-returns-in-Some-clause-overlap c = rw (← c.self.view_is, ← c.deref-2.ensures.value) c.in-Some.ensures.taken
+returns-in-Some-clause-overlap c = rw (← c.self.view_is) c.in-Some.ensures.taken
 
 -- the number that the image keeps is the number of its bytes
 counted_bytes : (c : In_ok-place) → byte_count c.args.self.now ≡ c.self.inside.len
 unfolding byte_count
-counted_bytes c = rw (← c.self.view_is) (sym c.self.invariant.1)
+counted_bytes c = rw (← c.self.view_is) (sym c.self.invariant.0)
 
 pub invariant_of-self-2 : goal.invariant_of-self-2
 invariant_of-self-2 c =
@@ -30,8 +29,8 @@ invariant_of-self-2 c =
     let placed = c.in_ok-place.ensures.ok in
     let far : 2 ^ 32 < c.args.at + length c.args.bytes.now → ⊥ =
     λ p. absurd (let f = c.if-is_too_large.ensures.1 (inl p) in cc) in
-    let bytes = puts_bytes _ _ c.args.at c.args.bytes.now c.self.invariant.3 (omega (arith, far)) (λ k p. (c.type_inv.bytes k).fits) placed.puts in
-    (placed.apart, omega (arith, placed.count, c.self.invariant.1), omega (arith, many, counted_bytes ((goal.at.invariant_of-self-2 c).In_ok-place)), bytes, c.self.invariant.4)
+    let bytes = puts_bytes _ _ c.args.at c.args.bytes.now c.self.invariant.2 (omega (arith, far)) (λ k p. (c.type_inv.bytes k).fits) placed.puts in
+    (omega (arith, placed.count, c.self.invariant.0), omega (arith, many, counted_bytes ((goal.at.invariant_of-self-2 c).In_ok-place)), bytes, c.self.invariant.3)
 
 pub returns-clause-ok : goal.returns-clause-ok
 unfolding byte_at
@@ -43,7 +42,4 @@ returns-clause-len c = rw (← c.self.view_is) c.in_ok-place.ensures.ok.count
 
 pub returns-clause-free : goal.returns-clause-free
 unfolding byte_at
-returns-clause-free c =
-    rw (← c.self.view_is)
-    (free_between c.self.inside.runs.items c.locate-index.result c.args.at (length c.args.bytes.now) c.self.invariant.0
-    (rw c.deref-2.ensures.value at c.in_default.ensures.free_above) (rw c.deref-2.ensures.value at c.in_default.ensures.free_below))
+returns-clause-free c = rw (← c.self.view_is) c.in_ok-place.ensures.free

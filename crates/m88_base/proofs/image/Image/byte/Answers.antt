@@ -3,4 +3,4 @@ use Rattle.m88_base.proofs.image.Image.byte.Goals as goal
 
 pub returns : goal.returns
 unfolding byte_at
-returns c = rw (c.find.ensures, c.deref.ensures.value, ← c.self.view_is)
+returns c = rw (c.find.ensures, ← c.self.view_is)

@@ -6,7 +6,7 @@ use Rattle.std.proofs.lemmas.List.Sorted.{IsPartitionPoint-from_clause, IsPartit
 use Rattle.std.specs.List.Sorted.{IsPartitionPoint}
 use Rattle.m88_base.specs.Placed.{Placed}
 use Rattle.m88_base.proofs.Cuts.{starts_rise, apart_from_first, apart_drop}
-use Rattle.m88_base.proofs.segments.locate.Goals as goal
+use Rattle.m88_base.proofs.block.locate.Goals as goal
 
 point : (c : goal.After-partition_point)
     → IsPartitionPoint (λ (run : Placed). leb run.at c.args.at ≡ true) (λ (run : Placed). leb run.at c.args.at ≡ false) c.args.runs.now c.partition_point.result

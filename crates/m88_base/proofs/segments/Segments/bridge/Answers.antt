@@ -1,0 +1,40 @@
+use Rattle.std.proofs.Common.{◌≡◌, length, get_or, ap, arith}
+use Rattle.m88_base.specs.Placing.{Places}
+use Rattle.m88_base.proofs.InBlocks.{put_back}
+use Rattle.m88_base.proofs.Edits.{bridged, gap, next_stands, set_again}
+use Rattle.m88_base.proofs.segments.Segments.bridge.Goals.{After-bytes, After-remove, After-replace-in-Err}
+use Rattle.m88_base.proofs.segments.Segments.bridge.Goals as goal
+
+next : (c : After-bytes) → c.get-next.result.now ≡ get_or c.self.inside.runs c.args.index c.get-next.result.now
+next c =
+    next_stands c.self.inside.runs c.args.index c.args.at c.empty.result c.get-next.result.now (rw (← c.self.view_is) at c.requires.above)
+    (rw c.replace-run.ensures.now at c.get-next.ensures)
+
+pub append-requires : goal.append-requires
+append-requires c =
+    let ends = gap c.self.inside.runs c.args.index c.args.at (length c.args.bytes.now) c.replace-run.result c.get-next.result.now c.replace-run.ensures.was
+    (next c) (rw (← c.self.view_is) at c.requires.above) (rw (← c.self.view_is) at c.requires.below) in
+    omega (arith, ends.0, ends.1, ap length c.bytes.ensures.value, c.bytes.ensures.fits)
+
+placed : (c : After-remove) → Places c.self.inside.runs c.remove.new.self c.args.at c.args.bytes.now
+placed c =
+    rw (c.remove.ensures, c.replace.ensures.now, c.replace-run.ensures.now, set_again, c.in-Ok.ensures.ok, c.bytes.ensures.value)
+    (bridged c.self.inside.runs c.args.index c.args.at c.args.bytes.now c.replace-run.result c.get-next.result.now c.self.invariant
+    c.replace-run.ensures.was (next ((goal.at.invariant_of-self c).After-bytes)) (rw (← c.self.view_is) at c.requires.above) (rw (← c.self.view_is) at c.requires.below))
+
+restored : (c : After-replace-in-Err) → c.replace-in-Err.new.self ≡ c.self.inside.runs
+restored c =
+    rw (c.replace-in-Err.ensures.now, c.replace-run.ensures.now, set_again, c.in-Err.ensures.err)
+    (put_back c.self.inside.runs _ c.replace-run.result c.replace-run.ensures.was)
+
+pub invariant_of-self : goal.invariant_of-self
+invariant_of-self c = (placed ((goal.at.invariant_of-self c).After-remove)).apart
+
+pub invariant_of-self-in-Err : goal.invariant_of-self-in-Err
+invariant_of-self-in-Err c = rw (restored ((goal.at.invariant_of-self-in-Err c).After-replace-in-Err)) c.self.invariant
+
+pub returns-in-Ok-clause-ok : goal.returns-in-Ok-clause-ok
+returns-in-Ok-clause-ok c = rw (← c.self.view_is) (placed ((goal.at.returns-in-Ok-clause-ok c).After-remove))
+
+pub returns-in-Err-clause-err : goal.returns-in-Err-clause-err
+returns-in-Err-clause-err c = rw (← c.self.view_is) (restored ((goal.at.returns-in-Err-clause-err c).After-replace-in-Err))

@@ -1,0 +1,122 @@
+//! A few runs in a row.
+ghost use Rattle.std.specs.Prelude.{◌≡◌, ◌+◌, ◌<◌, ◌≤◌, [], ◌++◌, All, take, drop, length, insert, remove, slice_index_or, slice_set, IfOk, OnOk, OnErr};
+ghost use Rattle.m88_base.specs.Placed.{AreApart};
+
+use crate::segment::Segment;
+use std::alloc::{AllocError, Global};
+use std::marker::Model;
+use std::mem;
+
+/// Runs in a row, few enough that one more is soon put between them.
+#[derive(Drop, Debug)]
+pub struct Block {
+    runs: Vec<Segment>,
+}
+
+impl Model for Block {
+    ghost use Rattle.std.specs.Prelude.{List};
+    ghost use Rattle.m88_base.specs.Placed.{Placed};
+
+    ghost Value = { List Placed };
+
+    ghost view = { λ block. block.runs.items };
+}
+
+impl Block {
+    /// A block without runs.
+    pub fn new(alloc: Global) -> Block
+        ensures { result ≡ [] }
+    {
+        Block {
+            runs: Vec::new(alloc),
+        }
+    }
+
+    /// The same runs, each with bytes of its own.
+    pub fn copy(&self, alloc: Global) -> Result<Block, AllocError>
+        ensures { IfOk result (λ copy. copy ≡ self.now) }
+    {
+        let runs = copied(alloc, &self.runs)?;
+        Ok(Block { runs })
+    }
+
+    /// The number of runs.
+    pub fn len(&self) -> usize
+        ensures { result ≡ length self.now }
+    {
+        self.runs.len()
+    }
+
+    /// The run at an index.
+    pub fn get(&self, index: usize) -> &Segment
+        requires { index < length self.now }
+        ensures { result.now ≡ slice_index_or self.now index result.now }
+    {
+        &self.runs[index]
+    }
+
+    /// The number of runs that begin at or below an address.
+    pub fn locate(&self, at: u32) -> usize
+        requires { AreApart 0 self.now }
+        ensures bound { result ≤ length self.now }
+        ensures below { All (λ run. run.at ≤ at) (take result self.now) }
+        ensures above { AreApart (at + 1) (drop result self.now) }
+    {
+        locate(&self.runs, at)
+    }
+
+    /// Puts a run in ahead of the one at an index.
+    pub fn insert(&mut self, index: usize, run: Segment) -> Result<(), AllocError>
+        requires { index ≤ length self.old }
+        ensures ok { OnOk result (self.new ≡ insert self.old index run) }
+        ensures err { OnErr result (self.new ≡ self.old) }
+    {
+        self.runs.insert(index, run)?;
+        Ok(())
+    }
+
+    /// Puts a run in the place of another, and gives that one back.
+    pub fn replace(&mut self, index: usize, run: Segment) -> Segment
+        requires { index < length self.old }
+        ensures was { result ≡ slice_index_or self.old index result }
+        ensures now { self.new ≡ slice_set self.old index run }
+    {
+        mem::replace(&mut self.runs[index], run)
+    }
+
+    /// Takes the run at an index out.
+    pub fn remove(&mut self, index: usize)
+        requires { index < length self.old }
+        ensures { self.new ≡ remove self.old index }
+    {
+        self.runs.remove(index);
+    }
+
+    /// Takes the upper half of the runs out, as a block of its own.
+    pub fn split_off(&mut self) -> Result<Block, AllocError>
+        ensures ok { IfOk result (λ upper. self.new ++ upper ≡ self.old) }
+        ensures err { OnErr result (self.new ≡ self.old) }
+    {
+        let runs = self.runs.split_off(self.runs.len() / 2)?;
+        Ok(Block { runs })
+    }
+}
+
+fn copied(alloc: Global, runs: &[Segment]) -> Result<Vec<Segment>, AllocError>
+    ensures { IfOk result (λ copy. copy.items ≡ runs.now) }
+{
+    let mut copy = Vec::new(alloc);
+    for run in runs {
+        copy.push(run.copy(alloc)?)?;
+    }
+    Ok(copy)
+}
+
+fn locate(runs: &[Segment], at: u32) -> usize
+    requires { AreApart 0 runs.now }
+    ensures bound { result ≤ length runs.now }
+    ensures below { All (λ run. run.at ≤ at) (take result runs.now) }
+    ensures above { AreApart (at + 1) (drop result runs.now) }
+{
+    runs.partition_point(|run| run.at() <= at)
+}
