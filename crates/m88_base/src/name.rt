@@ -27,7 +27,8 @@ impl Model for Name {
 
     ghost use Rattle.m88_base.specs.declared.name.Name.TheInside.{Inside};
 
-    ghost inverse_ok = { λ a h. padded {A = Inside} (λ bytes len. record { bytes = bytes; len = len }) a.bytes a.len 64 h.1 h.2 h.3 };
+    ghost inverse_ok = { λ a h. padded {A = Inside} (λ bytes len. record { bytes = bytes; len = len })
+        a.bytes a.len 64 h.1 h.2 h.3 };
 }
 
 impl PartialEq for Name {

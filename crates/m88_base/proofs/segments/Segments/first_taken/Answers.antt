@@ -1,4 +1,4 @@
-use Rattle.std.proofs.Common.{◌≡◌, ◌+◌, ◌<◌, ◌≤◌, take, List, [], length, arith}
+use Rattle.std.proofs.Common.{◌+◌, ◌<◌, ◌≤◌, take, List, [], length, arith}
 use Rattle.m88_base.specs.Placed.{Placed}
 use Rattle.m88_base.specs.Placing.{IsCut, next_start}
 use Rattle.m88_base.proofs.Cuts.{taken_in_last, taken_in_next}
