@@ -18,7 +18,7 @@ use Rattle.m88_link.specs.declared.object.Object.{Object}
 use Rattle.m88_link.specs.declared.object.Reloc.{Reloc}
 use Rattle.m88_link.specs.declared.object.Section.{Section}
 use Rattle.m88_link.specs.declared.object.Symbol.{Symbol}
-use Rattle.m88_link.specs.Sound.{AreSections, HasRoom, IsDefinedIn, IsOwnAddress, IsPatchIn, IsSeenAtStart, IsSound, origin, start_name}
+use Rattle.m88_link.specs.Sound.{AreSections, HasRoom, IsDefinedIn, IsOwnAddress, IsPatchIn, IsGlobalIfStart, IsSound, origin, start_name}
 use Rattle.m88_link.specs.Symbols.{Repetition, first_repeated, repeated_after, repetition, symbol_of}
 use Rattle.m88_asm.specs.Counters.{Counters, Located, with_length, after, at_begin, at_section, length_at, located, offset_here, place_here}
 use Rattle.m88_asm.specs.Drafts.{Growth, IsOpen, counters_of, empty_growth, no_section, nth, with_statement, with_statements}
@@ -220,8 +220,8 @@ own_sections m n (h ∷ hs) a =
 are_sections : (m : Module) → AreSections (sections_in m)
 are_sections m = (refl, refl, own_sections m 2 (flat_map opens (lines_in m)) (own_opens (lines_in m)))
 
-seen_at_start : (xs : List Statement) (ss : List Symbol) → All IsSeenAtStart (map (marked xs) ss)
-seen_at_start xs ss = All-map IsSeenAtStart (marked xs) ss
+seen_at_start : (xs : List Statement) (ss : List Symbol) → All IsGlobalIfStart (map (marked xs) ss)
+seen_at_start xs ss = All-map IsGlobalIfStart (marked xs) ss
     (λ k d l e. or_left (bytes_eq (get_or ss k d).name start_name) (list_any _ xs) ((bytes_eq-Decides (get_or ss k d).name start_name).1 e))
 
 -- a mark changes no name

@@ -1,11 +1,13 @@
-pub mod Tabled
+-- Lemmas in the order of the way: symbols and where objects stand, overlap, lists in parts, relocation and the image,
+-- the layout as a whole, and lines of bytes.
 pub mod Repeated
+pub mod Tabled
 pub mod Stood
 pub mod Swept
-pub mod Chunks
 pub mod Parts
 pub mod Carried
 pub mod Imaged
 pub mod Extents
 pub mod Rooms
 pub mod Linkage
+pub mod Chunks

@@ -1,5 +1,5 @@
--- Where the text and the data of each object stand: each part at the next multiple of 8, the data in the pages behind
--- the text of all objects.
+-- Allocation of sections to addresses (manuals of linkers: layout): where the text and the data of each object stand,
+-- each part at the next multiple of 8, the data from the least multiple of 4096 on that isn't below the end of all text.
 use Rattle.std.specs.Prelude.{ℕ, ◌+◌, ◌-◌, ◌*◌, ◌/◌, List, [], ◌∷◌, length, slice_get}
 use Rattle.std.specs.Option.{option_map_or}
 use Rattle.m88_link.specs.declared.object.Object.{Object}
@@ -36,7 +36,7 @@ text_end text (o ∷ os) = text_end (up_to_multiple 8 text + section_size 0 o) o
 abbrev pub first_text : ℕ
 first_text = 0x1000
 
--- the address of the first data, the first page that has no text
+-- the address of the first data: the least multiple of 4096 that isn't below the end of all text
 abbrev pub first_data : List Object → ℕ
 first_data objects = up_to_multiple 4096 (text_end first_text objects)
 

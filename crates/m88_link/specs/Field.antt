@@ -1,4 +1,5 @@
--- Relocation of a word: the field that takes the value of a symbol, and the word with that field filled.
+-- Relocation of a word (object file formats: relocation types): the field that takes the value of a symbol, and the
+-- word with that field filled.
 use Rattle.std.specs.Prelude.{ℕ, ◌+◌, ◌-◌, ◌*◌, ◌/◌, ◌%◌, ◌^◌, Bool, true, ◌&&◌, ◌||◌, ◌==◌, nat_lt, nat_le}
 use Rattle.m88_base.specs.declared.fixup.Kind.{Kind}
 use Rattle.m88_base.specs.declared.fixup.Kind.TheVariants.{Hi16, Lo16, Pc26, Pc16, Abs32}

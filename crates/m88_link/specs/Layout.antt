@@ -1,5 +1,6 @@
--- The layout of a list of objects: all that linking looks at. A unit of the assembler has a layout of its own, made of
--- its statements, and the two are compared part by part.
+-- Layout of a program (manuals of linkers: allocation of sections, resolution of symbols): all of a list of objects
+-- that linking looks at. A unit of the assembler has a layout of its own, made of its statements, and the two are
+-- compared part by part.
 use Rattle.std.specs.Prelude.{ℕ, ◌+◌, ◌%◌, ◌^◌, List, map, length, flat_map, Option, unwrap_or}
 use Rattle.std.specs.List.{enumerate_from}
 use Rattle.std.specs.Option.{option_map}
@@ -29,6 +30,7 @@ pub record Extent : Type 0 where
   pub len : ℕ
   pub line : ℕ
 
+-- the layout of a program: bytes at their addresses, global definitions, uses of symbols, and rooms of sections
 pub record Layout : Type 0 where
   -- the bytes of each section with its relocations carried out, in the order of objects and section numbers
   pub spots : List Placed

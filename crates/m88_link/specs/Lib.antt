@@ -1,16 +1,18 @@
-pub mod Field
+-- What contracts cite: objects, where they stand, relocation, the layout, its refusals and its image, and their text;
+-- the last group is for private contracts.
 pub mod Symbols
 pub mod Sound
 pub mod Bases
+pub mod Field
 pub mod Relocated
 pub mod Layout
+pub mod Faults
 pub mod Refusal
 pub mod Linked
+pub mod ObjectText
 pub mod Tables
 pub mod Sizes
 pub mod Spans
-pub mod Faults
-pub mod ObjectText
 pub mod Exports
 pub mod Resolved
 pub mod Carried

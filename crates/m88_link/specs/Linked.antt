@@ -1,4 +1,4 @@
--- The image that a layout is linked into.
+-- The image of a program (manuals of linkers: output file, entry point) that a layout is linked into.
 use Rattle.std.specs.Prelude.{◌≡◌, ℕ, List}
 use Rattle.std.specs.Option.{option_map_or}
 use Rattle.m88_base.specs.Image.{ProgramImage, byte_at, byte_count}

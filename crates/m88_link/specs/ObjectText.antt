@@ -1,4 +1,5 @@
--- The text of objects: lines that end with LF, of words parted by one blank.
+-- Object files as text (object file formats: sections, symbol table, relocation entries): lines that end with LF, of
+-- words parted by one blank.
 use Rattle.std.specs.Prelude.{ℕ, zero, suc, ◌+◌, ◌*◌, ◌/◌, List, [], ◌++◌, codes, decimal, drop, take, length, flat_map, Option, None, Some, if◌then◌else◌}
 use Rattle.m88_base.specs.Hex.{hex2, hex8}
 use Rattle.m88_base.specs.Lines.{line_end}

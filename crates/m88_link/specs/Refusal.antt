@@ -1,4 +1,5 @@
--- Why a layout has no image: five kinds of refusal, each with its own search, in the order in which they are tried.
+-- Faults of linking (manuals of linkers: diagnostics), or why a layout has no image: five kinds of refusal, each with
+-- its own search, in the order in which they are tried.
 use Rattle.std.specs.Prelude.{◌≡◌, ℕ, ◌+◌, ◌^◌, ◌<◌, ◌≤◌, ◌⊎◌, Bool, true, false, ◌&&◌, ◌||◌, nat_lt, nat_le, List, [], ◌∷◌, filter, slice_get, sum_by, count_by, if◌then◌else◌, Option, None, Some}
 use Rattle.std.specs.Int.{w32, cast_signed}
 use Rattle.std.specs.List.{list_any}
@@ -56,7 +57,9 @@ first_fault find_in (x ∷ xs) = option_or (find_in x) (first_fault find_in xs)
 
 -- a name that means nothing
 abbrev pub undefined_in : Reference → Option LinkFault
-undefined_in r = option_map_or (λ _. None) r.target (Some (record { line = r.line; col = r.col; kind = kind.Undefined r.name }))
+undefined_in r =
+    option_map_or (λ _. None) r.target
+    (Some (record { line = r.line; col = r.col; kind = kind.Undefined r.name }))
 
 -- 4. Undefined: the first use of a name that means nothing
 abbrev pub undefined : List Reference → Option LinkFault
@@ -68,6 +71,7 @@ far_from r target =
     if is_in_reach r.kind target r.at then None
     else Some (record { line = r.line; col = r.col; kind = kind.TooFar (cast_signed w32 (distance target r.at)) })
 
+-- a use whose name means something and whose field can't take the displacement
 abbrev pub too_far_in : Reference → Option LinkFault
 too_far_in r = option_map_or (far_from r) r.target None
 

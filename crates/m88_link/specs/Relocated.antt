@@ -1,4 +1,5 @@
--- The bytes of a section once relocations are carried out, in the order of their list.
+-- Relocation of a section (object file formats: relocation entries): its bytes once relocations are carried out, in
+-- the order of their list.
 use Rattle.std.specs.Prelude.{ℕ, ◌+◌, ◌%◌, ◌^◌, ◌==◌, List, [], ◌∷◌, ◌++◌, take, drop, if◌then◌else◌}
 use Rattle.std.specs.Int.{w32, from_be_bytes, to_be_bytes}
 use Rattle.m88_base.specs.declared.fixup.Kind.{Kind}

@@ -14,7 +14,8 @@ abbrev pub uses_in : List Symbol → Standing → List Reloc → List Reference
 uses_in globals s relocs = map (reference globals (base_of s) s.object.symbols) relocs
 
 -- each symbol means something and the first that is too far is kept, or the first that means nothing is the fault
-abbrev pub Checks : List Symbol → Standing → List Reloc → Option LinkFault → Option LinkFault → Result (Unit {0}) LinkFault → Type 0
+abbrev pub Checks : List Symbol → Standing → List Reloc → Option LinkFault → Option LinkFault
+    → Result (Unit {0}) LinkFault → Type 0
 Checks globals s relocs old new result =
     MatchResult result
     (λ _. (new ≡ option_or old (too_far (uses_in globals s relocs))) × (undefined (uses_in globals s relocs) ≡ None))

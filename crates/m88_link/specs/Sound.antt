@@ -1,4 +1,5 @@
--- Soundness: what every object keeps that the assembler makes and the linker takes.
+-- Soundness of an object file (object file formats: sections, symbol table, relocation entries): what every object
+-- keeps that the assembler makes and the linker takes.
 use Rattle.std.specs.Prelude.{◌≡◌, ℕ, ◌+◌, ◌%◌, ◌^◌, ◌≤◌, List, [], ◌∷◌, length, slice_get, All, IfSome, IsSomeAnd, IsTrue, None, codes}
 use Rattle.m88_base.specs.Image.{most_bytes}
 use Rattle.m88_link.specs.declared.object.Object.{Object}
@@ -19,9 +20,11 @@ IsOwnAddress (At a) = Unit {0}
 abbrev pub AreSections : List Section → Type 0
 AreSections [] = ⊥
 AreSections (text ∷ []) = ⊥
-AreSections (text ∷ datas ∷ others) = (text.place ≡ Text) × (datas.place ≡ DataSection) × All (λ s. IsOwnAddress s.place) others
+AreSections (text ∷ datas ∷ others) =
+    (text.place ≡ Text) × (datas.place ≡ DataSection) × All (λ s. IsOwnAddress s.place) others
 
--- the number from which alignment counts in a section: its address, or 0 in text and data, whose bases are multiples of 8
+-- the number from which alignment counts in a section: its address, or 0 in text and data, whose bases are multiples
+-- of 8
 abbrev pub origin : Place → ℕ
 origin Text = 0
 origin DataSection = 0
@@ -33,7 +36,8 @@ HasRoom s = (length s.bytes ≤ most_bytes) × (origin s.place + length s.bytes 
 
 -- the section of a symbol exists, and the symbol's offset is at most its length
 abbrev pub IsDefinedIn : List Section → Symbol → Type 0
-IsDefinedIn sections symbol = IfSome symbol.section (λ k. IsSomeAnd (slice_get sections k) (λ s. symbol.value ≤ length s.bytes))
+IsDefinedIn sections symbol =
+    IfSome symbol.section (λ k. IsSomeAnd (slice_get sections k) (λ s. symbol.value ≤ length s.bytes))
 
 -- the section of a relocation exists, and the word's four bytes lie in it at a multiple of 4
 abbrev pub IsPatchIn : List Section → Reloc → Type 0
@@ -45,9 +49,9 @@ IsPatchIn sections reloc =
 abbrev pub start_name : List ℕ
 start_name = codes "_start"
 
--- `_start` is global
-abbrev pub IsSeenAtStart : Symbol → Type 0
-IsSeenAtStart symbol = symbol.name ≡ start_name → IsTrue symbol.global
+-- a symbol named `_start` is global
+abbrev pub IsGlobalIfStart : Symbol → Type 0
+IsGlobalIfStart symbol = symbol.name ≡ start_name → IsTrue symbol.global
 
 -- an object is sound
 pub record IsSound (object : Object) : Type 0 where
@@ -57,4 +61,4 @@ pub record IsSound (object : Object) : Type 0 where
   pub relocs : All (IsPatchIn object.sections) object.relocs
   -- no two symbols have one name
   pub names : first_repeated object.symbols ≡ None
-  pub start : All IsSeenAtStart object.symbols
+  pub start : All IsGlobalIfStart object.symbols

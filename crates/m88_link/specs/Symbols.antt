@@ -1,4 +1,5 @@
--- What a name means among symbols, and the first symbol whose name is there already.
+-- Symbol tables (object file formats: symbol binding and resolution): what a name means among symbols, and the first
+-- symbol whose name is there already.
 use Rattle.std.specs.Prelude.{ℕ, ◌+◌, ◌%◌, ◌^◌, List, [], ◌∷◌, ◌++◌, find, filter, map, Option, None, bytes_eq}
 use Rattle.std.specs.Option.{option_map, option_map_or, option_or}
 use Rattle.m88_link.specs.declared.object.Symbol.{Symbol}

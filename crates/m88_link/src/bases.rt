@@ -14,7 +14,7 @@ use std::marker::Model;
 /// The address of the first text.
 pub const FIRST_TEXT: u32 = 0x1000;
 
-/// The size of the pages between text and data, in bytes.
+/// The number of which the address of the first data is a multiple.
 const PAGE: u32 = 4096;
 
 /// The alignment of each object's text and data, in bytes.
@@ -42,8 +42,8 @@ impl<'a> Model for Placement<'a> {
 }
 
 impl Placement<'_> {
-    #[tactic(auto, using(crate::proofs::Stood::sections_fit))]
     /// The sections of the object.
+    #[tactic(auto, using(crate::proofs::Stood::sections_fit))]
     pub fn sections(&self) -> &[Section]
         ensures value { result.now ≡ self.now.object.sections }
         ensures sound { IsSound self.now.object }
@@ -89,8 +89,8 @@ impl Placement<'_> {
         }
     }
 
-    #[tactic(auto, using(crate::proofs::Stood::word_fits))]
     /// The address of the word of a relocation of the object.
+    #[tactic(auto, using(crate::proofs::Stood::word_fits))]
     pub fn address(&self, reloc: &Reloc) -> u32
         requires { IsPatchIn self.now.object.sections reloc.now }
         ensures { result ≡ base_of self.now reloc.now.section + reloc.now.offset }
@@ -126,7 +126,8 @@ pub fn fit(objects: &[Object]) -> bool
 
 /// What the bytes of sections leave of a room for bytes; None where they don't fit it.
 fn room_beside(sections: &[Section], room: usize) -> Option<usize>
-    ensures { MatchOption result (room < sections_size sections.now) (λ left. left + sections_size sections.now ≡ room) }
+    ensures { MatchOption result (room < sections_size sections.now)
+        (λ left. left + sections_size sections.now ≡ room) }
 {
     let mut left = room;
     for section in sections {

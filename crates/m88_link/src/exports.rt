@@ -17,7 +17,8 @@ use std::alloc::Global;
 pub fn globals(alloc: Global, standings: &[Placement]) -> Result<SymbolTable, LinkFault>
     ensures ok { IfOk result (λ table. table ≡ flat_map globals_of standings.now) }
     ensures once { OnOk result (duplicate (flat_map globals_of standings.now) ≡ None) }
-    ensures err { IfErr result (λ e. (e ≡ memory_fault) ⊎ (duplicate (flat_map globals_of standings.now) ≡ Some e)) }
+    ensures err { IfErr result (λ e. (e ≡ memory_fault)
+        ⊎ (duplicate (flat_map globals_of standings.now) ≡ Some e)) }
 {
     let mut table = SymbolTable::new(alloc);
     for standing in standings {
@@ -35,7 +36,8 @@ fn export_all(
     standing: &Placement,
     symbols: &[Symbol],
 ) -> Result<(), LinkFault>
-    ensures { TakesSymbols table.old table.new (exported (base_of standing.now) symbols.now) result }
+    ensures { TakesSymbols table.old table.new
+        (exported (base_of standing.now) symbols.now) result }
 {
     for symbol in symbols {
         match export(table, standing, symbol) {
@@ -48,7 +50,8 @@ fn export_all(
 
 /// Adds a symbol of an object to a table where it is global.
 fn export(table: &mut SymbolTable, standing: &Placement, symbol: &Symbol) -> Result<(), LinkFault>
-    ensures { TakesSymbols table.old table.new (exported (base_of standing.now) (symbol.now ∷ [])) result }
+    ensures { TakesSymbols table.old table.new
+        (exported (base_of standing.now) (symbol.now ∷ [])) result }
 {
     if !symbol.global {
         return Ok(());

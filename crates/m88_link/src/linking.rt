@@ -1,4 +1,4 @@
-//! The linker.
+//! The linker: the image of a list of objects.
 ghost use Rattle.std.specs.Prelude.{◌≡◌, ◌⊎◌, All, IfErr, IfOk, OnOk};
 ghost use Rattle.m88_link.specs.Faults.{memory_fault};
 ghost use Rattle.m88_link.specs.Layout.{layout_of};
@@ -18,14 +18,15 @@ use m88_base::{Image, Name};
 use std::alloc::Global;
 
 /// The image of objects, or the first reason why they have none. The text of all objects stands from
-/// 0x00001000 on and the data in the pages behind it, each part at the next multiple of 8; other
-/// sections stand at their own addresses. The program starts at `_start`, or at 0x00001000 where that
-/// isn't defined.
+/// 0x00001000 on and the data from the least multiple of 4096 on that isn't below the end of all text,
+/// each part at the next multiple of 8; other sections stand at their own addresses. The program
+/// starts at `_start`, or at 0x00001000 where that isn't defined.
 pub fn link(alloc: Global, objects: &[Object]) -> Result<Image, LinkFault>
     requires { All IsSound objects.now }
     ensures image { IfOk result (IsLinked (layout_of objects.now)) }
     ensures linkable { OnOk result (IsLinkable (layout_of objects.now)) }
-    ensures err { IfErr result (λ fault. (fault ≡ memory_fault) ⊎ IsRefused (layout_of objects.now) fault) }
+    ensures err { IfErr result (λ fault. (fault ≡ memory_fault)
+        ⊎ IsRefused (layout_of objects.now) fault) }
 {
     if !fit(objects) {
         return Err(TOO_LARGE);

@@ -32,7 +32,8 @@ pub struct Section {
 pub enum Place {
     /// Among the text of all objects, from 0x00001000 on.
     Text,
-    /// Among the data of all objects, in the pages behind the text.
+    /// Among the data of all objects, from the least multiple of 4096 on that isn't below the end of all
+    /// text.
     DataSection,
     /// From this address on.
     At(u32),

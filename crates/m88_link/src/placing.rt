@@ -171,8 +171,10 @@ fn put(image: &mut Image, spots: &[Spot]) -> Result<(), AllocError>
 fn put_one(image: &mut Image, spot: &Spot) -> Result<(), AllocError>
     requires room { byte_count image.old + length spot.now.bytes ≤ most_bytes }
     requires free { IsFree (byte_at image.old) spot.now.at (length spot.now.bytes) }
-    ensures bytes { OnOk result (PutsBytes (byte_at image.old) (byte_at image.new) spot.now.at spot.now.bytes) }
-    ensures count { OnOk result (byte_count image.new ≡ byte_count image.old + length spot.now.bytes) }
+    ensures bytes { OnOk result
+        (PutsBytes (byte_at image.old) (byte_at image.new) spot.now.at spot.now.bytes) }
+    ensures count { OnOk result
+        (byte_count image.new ≡ byte_count image.old + length spot.now.bytes) }
     ensures start { image.new.start ≡ image.old.start }
 {
     match image.add(spot.at(), spot.bytes()) {

@@ -25,7 +25,8 @@ pub fn check_references(
     standings: &[Placement],
     globals: &SymbolTable,
 ) -> Result<(), LinkFault>
-    ensures ok { OnOk result (option_or (undefined (flat_map (references_of globals.now) standings.now))
+    ensures ok { OnOk result
+        (option_or (undefined (flat_map (references_of globals.now) standings.now))
         (too_far (flat_map (references_of globals.now) standings.now)) ≡ None) }
     ensures err { IfErr result (λ e. (e ≡ memory_fault)
         ⊎ (option_or (undefined (flat_map (references_of globals.now) standings.now))
@@ -81,8 +82,10 @@ pub fn target(
     reloc: &Reloc,
 ) -> Option<u32>
     requires { own.now ≡ standing.now.object.symbols }
-    ensures known { result ≡ (reference globals.now (base_of standing.now) own.now reloc.now).target }
-    ensures value { unwrap_or result reloc.now.addend ≡ target_of (value_of_name globals.now standing.now) reloc.now }
+    ensures known { result
+        ≡ (reference globals.now (base_of standing.now) own.now reloc.now).target }
+    ensures value { unwrap_or result reloc.now.addend
+        ≡ target_of (value_of_name globals.now standing.now) reloc.now }
 {
     let addend = reloc.addend;
     let value = meaning(globals, standing, own, &reloc.symbol)?;

@@ -1,6 +1,6 @@
 //! Whether an object keeps what every object keeps.
 ghost use Rattle.std.specs.Prelude.{◌≡◌, ◌↔◌, None, IsTrue, option_copied};
-ghost use Rattle.m88_link.specs.Sound.{AreSections, HasRoom, IsDefinedIn, IsPatchIn, IsSeenAtStart, IsSound, origin};
+ghost use Rattle.m88_link.specs.Sound.{AreSections, HasRoom, IsDefinedIn, IsPatchIn, IsGlobalIfStart, IsSound, origin};
 ghost use Rattle.m88_link.specs.Symbols.{first_repeated, symbol_of};
 
 use crate::object::{Object, Place, Reloc, Section, Symbol};
@@ -24,7 +24,7 @@ pub fn is_sound(object: &Object) -> bool
             .iter()
             .all(|reloc| is_patch_in(sections, reloc))
         && names_differ(symbols)
-        && symbols.iter().all(|symbol| is_seen_at_start(symbol))
+        && symbols.iter().all(|symbol| is_global_if_start(symbol))
 }
 
 /// Whether section 0 is text, section 1 is data, and each other one has an address of its own.
@@ -86,8 +86,8 @@ fn is_patch_in(sections: &[Section], reloc: &Reloc) -> bool
         && (origin(section.place) as usize + offset) % 4 == 0
 }
 
-#[tactic(auto, using(crate::proofs::Repeated::repeated_at))]
 /// Whether no two symbols have one name.
+#[tactic(auto, using(crate::proofs::Repeated::repeated_at))]
 fn names_differ(symbols: &[Symbol]) -> bool
     ensures { IsTrue result ↔ (first_repeated symbols.now ≡ None) }
 {
@@ -106,9 +106,9 @@ fn find_named<'a>(symbols: &'a [Symbol], name: &Name) -> Option<&'a Symbol>
     symbols.iter().find(|symbol| *name == symbol.name)
 }
 
-/// Whether a symbol is global where it is `_start`.
-fn is_seen_at_start(symbol: &Symbol) -> bool
-    ensures { IsTrue result ↔ IsSeenAtStart symbol.now }
+/// Whether a symbol is global or isn't `_start`.
+fn is_global_if_start(symbol: &Symbol) -> bool
+    ensures { IsTrue result ↔ IsGlobalIfStart symbol.now }
 {
     symbol.global || symbol.name.bytes() != b"_start".as_slice()
 }

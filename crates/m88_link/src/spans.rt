@@ -88,7 +88,8 @@ fn push_extents(
     sections: &[Section],
 ) -> Result<(), AllocError>
     requires { All (λ x. base_at standing.now x.place + length x.bytes ≤ 2 ^ 32) sections.now }
-    ensures { OnOk result (spans.new.items ≡ spans.old.items ++ map (extent standing.now) sections.now) }
+    ensures { OnOk result
+        (spans.new.items ≡ spans.old.items ++ map (extent standing.now) sections.now) }
 {
     for section in sections {
         spans.push(Span {
@@ -136,7 +137,8 @@ fn second_at(spans: &[Span], at: u32) -> Option<&Span>
 /// Refuses sections of which two have one address.
 pub fn check_overlap(alloc: Global, standings: &[Placement]) -> Result<(), LinkFault>
     ensures ok { OnOk result (AreDisjoint (flat_map extents_of standings.now)) }
-    ensures err { IfErr result (λ e. (e ≡ memory_fault) ⊎ IsOverlap (flat_map extents_of standings.now) e) }
+    ensures err { IfErr result (λ e. (e ≡ memory_fault)
+        ⊎ IsOverlap (flat_map extents_of standings.now) e) }
 {
     let mut spans = extents(alloc, standings)?;
     spans.sort_unstable_by_key(|span| span.at());
@@ -149,7 +151,8 @@ pub fn check_overlap(alloc: Global, standings: &[Placement]) -> Result<(), LinkF
 /// Refuses sections whose least address with two bytes is known.
 fn overlap(alloc: Global, standings: &[Placement], at: u32) -> Result<(), LinkFault>
     requires { IsLeastDouble (flat_map extents_of standings.now) at }
-    ensures { MatchResult result (λ _. ⊥) (λ e. (e ≡ memory_fault) ⊎ IsOverlap (flat_map extents_of standings.now) e) }
+    ensures { MatchResult result (λ _. ⊥) (λ e. (e ≡ memory_fault)
+        ⊎ IsOverlap (flat_map extents_of standings.now) e) }
 {
     let spans = extents(alloc, standings)?;
     match second_at(&spans, at) {

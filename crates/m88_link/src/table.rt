@@ -38,8 +38,8 @@ impl SymbolTable {
         }
     }
 
-    #[tactic(auto, using(crate::proofs::Tabled::table_found))]
     /// The symbol of a name, where the table has one.
+    #[tactic(auto, using(crate::proofs::Tabled::table_found))]
     pub fn get(&self, name: &Name) -> Option<&Symbol>
         ensures { option_copied result ≡ symbol_of self.now name.now }
     {

@@ -325,3 +325,108 @@ fn objects_are_told_sound_or_not(rt: HostRuntime) -> Result<(), Fail> {
     assert!(rt; !is_sound(&object(alloc, b"m", &[], &[], &past, &[], &[])?));
     Ok(())
 }
+
+/// A word with relocations: the word, the relocations, the value of `k`, and the word in the image.
+type PatchRow<'a> = ([u8; 4], &'a [RelocRow<'a>], u32, [u8; 4]);
+
+#[test]
+fn words_that_are_not_0_are_patched_in_order(rt: HostRuntime) -> Result<(), Fail> {
+    let alloc = rt.alloc();
+    let k = b"k".as_slice();
+    let ones = [0xFF; 4];
+    let hi16 = (Kind::Hi16, 0, 0, k, 0, 2, 9);
+    let less_1 = (Kind::Lo16, 0, 0, k, 0xFFFF_FFFF, 2, 9);
+    let pc26 = (Kind::Pc26, 0, 0, k, 0, 2, 9);
+    let pc16 = (Kind::Pc16, 0, 0, k, 0, 2, 9);
+    let abs32 = (Kind::Abs32, 0, 0, k, 0, 2, 9);
+    let rows: [PatchRow; 6] = [
+        (ones, &[hi16], 0x0001_8003, [0xFF, 0xFF, 0x00, 0x01]),
+        (ones, &[less_1], 0x0001_8003, [0xFF, 0xFF, 0x80, 0x02]),
+        (ones, &[pc26], 0x1008, [0xFC, 0x00, 0x00, 0x02]),
+        (
+            [0xD4, 0x5A, 0x12, 0x34],
+            &[pc16],
+            0x0FFC,
+            [0xD4, 0x5A, 0xFF, 0xFF],
+        ),
+        (ones, &[abs32, hi16], 0x0001_8003, [0x00, 0x01, 0x00, 0x01]),
+        (ones, &[hi16, abs32], 0x0001_8003, [0x00, 0x01, 0x80, 0x03]),
+    ];
+    for (word, uses, value, expected) in rows {
+        let mut objects = Vec::new(alloc);
+        let symbols = [(k, false, None, value, 1, 6)];
+        objects.push(object(alloc, b"m", &word, &[], &[], &symbols, uses)?)?;
+        let image = linked(&rt, alloc, &objects);
+        expect_bytes(&rt, &image, 0x1000, &expected);
+    }
+    Ok(())
+}
+
+/// Two objects that are refused: other sections and symbols of the first one, its relocations, other
+/// sections and symbols of the second one, and the line, column and kind that are told.
+type RefusedRow<'a> = (
+    &'a [AtRow<'a>],
+    &'a [SymbolRow<'a>],
+    &'a [RelocRow<'a>],
+    &'a [AtRow<'a>],
+    &'a [SymbolRow<'a>],
+    (u32, u32, LinkKind),
+);
+
+#[test]
+fn refusals_go_by_kind_and_by_the_order_of_objects(rt: HostRuntime) -> Result<(), Fail> {
+    let alloc = rt.alloc();
+    let quarter = [0; 262_145];
+    let quarter = quarter.as_slice();
+    let byte = [7].as_slice();
+    let bytes = [8, 9].as_slice();
+    let f = b"f".as_slice();
+    let far = (Kind::Pc16, 0, 0, b"far".as_slice(), 0, 2, 14);
+    let unknown = (Kind::Pc26, 0, 4, b"nowhere".as_slice(), 0, 5, 4);
+    let far_off = (b"far".as_slice(), false, None, 0x0010_0000, 1, 6);
+    let rows: [RefusedRow; 4] = [
+        (
+            &[(0x10_0000, quarter, 2), (0x20_0000, quarter, 3)],
+            &[],
+            &[],
+            &[(0x30_0000, quarter, 2), (0x30_0000, quarter, 3)],
+            &[],
+            (1, 1, LinkKind::TooLarge),
+        ),
+        (
+            &[(0x2000, byte, 9)],
+            &[],
+            &[],
+            &[(0x2000, byte, 3)],
+            &[],
+            (3, 1, LinkKind::Overlap(0x2000)),
+        ),
+        (
+            &[(0x4000, byte, 3)],
+            &[(f, true, Some(0), 0, 2, 1)],
+            &[],
+            &[(0x3FFF, bytes, 7)],
+            &[(f, true, None, 7, 5, 6)],
+            (7, 1, LinkKind::Overlap(0x4000)),
+        ),
+        (
+            &[],
+            &[far_off],
+            &[far, unknown],
+            &[],
+            &[],
+            (5, 4, LinkKind::Undefined(name(b"nowhere")?)),
+        ),
+    ];
+    for (others, symbols, uses, later, exported, told) in rows {
+        let mut objects = Vec::new(alloc);
+        objects.push(object(alloc, b"a", &[0; 8], &[], others, symbols, uses)?)?;
+        objects.push(object(alloc, b"b", &[], &[], later, exported, &[])?)?;
+        let (line, col, kind) = told;
+        assert_eq!(rt;
+            fault_of(&rt, alloc, &objects),
+            LinkFault { line, col, kind }
+        );
+    }
+    Ok(())
+}

@@ -183,8 +183,8 @@ fn push_reloc(text: &mut Vec<u8>, reloc: &Reloc) -> Result<(), AllocError>
     push_source(text, reloc.line, reloc.col)
 }
 
-#[tactic(auto, unfolding(crate::specs::ObjectText::field_words))]
 /// Appends the words for a relocation's field.
+#[tactic(auto, unfolding(crate::specs::ObjectText::field_words))]
 fn push_field(text: &mut Vec<u8>, reloc: &Reloc) -> Result<(), AllocError>
     ensures { OnOk result (text.new.items ≡ text.old.items ++ field_words reloc.now) }
 {
@@ -195,8 +195,8 @@ fn push_field(text: &mut Vec<u8>, reloc: &Reloc) -> Result<(), AllocError>
     push_hex8(text, reloc.offset)
 }
 
-#[tactic(auto, unfolding(crate::specs::ObjectText::target_words))]
 /// Appends the words for a relocation's target.
+#[tactic(auto, unfolding(crate::specs::ObjectText::target_words))]
 fn push_target(text: &mut Vec<u8>, reloc: &Reloc) -> Result<(), AllocError>
     ensures { OnOk result (text.new.items ≡ text.old.items ++ target_words reloc.now) }
 {
