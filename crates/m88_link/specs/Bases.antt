@@ -1,5 +1,6 @@
 -- Allocation of sections to addresses (manuals of linkers: layout): where the text and the data of each object stand,
--- each part at the next multiple of 8, the data from the least multiple of 4096 on that isn't below the end of all text.
+-- each part at the next multiple of 8, the data from the least multiple of 4096 on that isn't below the end of all
+-- text.
 use Rattle.std.specs.Prelude.{ℕ, ◌+◌, ◌-◌, ◌*◌, ◌/◌, List, [], ◌∷◌, length, slice_get}
 use Rattle.std.specs.Option.{option_map_or}
 use Rattle.m88_link.specs.declared.object.Object.{Object}
