@@ -1,3 +1,4 @@
+-- What a reader of the promises must believe.
 pub mod Counters
 pub mod Fault
 pub mod Filled
@@ -6,4 +7,5 @@ pub mod Faults
 pub mod Units
 pub mod Accepted
 pub mod Images
+-- Words for the contracts of private functions.
 pub mod Drafts

@@ -1,5 +1,5 @@
 //! The objects of a unit.
-ghost use Rattle.std.specs.Prelude.{◌≡◌, ◌⊎◌, ◌^◌, ◌<◌, ℕ, [], None, Some, length, map, slice_get, take, IfErr, IfOk, OnOk};
+ghost use Rattle.std.specs.Prelude.{◌≡◌, ◌⊎◌, ◌^◌, ◌<◌, ℕ, [], None, Some, length, map, slice_get, take, Contains, IfErr, IfOk, OnOk};
 ghost use Rattle.std.specs.List.{All, sum_by};
 ghost use Rattle.m88_parse.specs.WellFormed.{IsFormedModule, IsFormedStatement, IsWellFormed};
 ghost use Rattle.m88_link.specs.Sound.{IsSound};
@@ -77,8 +77,8 @@ fn objects(alloc: Global, modules: &[Module]) -> Result<Vec<Object>, AsmFault>
 }
 
 /// The objects of a unit, one for each module in order, or the first statement's fault: a name that its
-/// module has defined before, words off their alignment, or more than 1,048,576 bytes or address
-/// 0xFFFFFFFF in a section.
+/// module has defined before, words off their alignment, or in a section more than 1,048,576 bytes or a byte
+/// past address 0xFFFFFFFF.
 pub fn assemble(alloc: Global, unit: &Unit) -> Result<Vec<Object>, AsmFault>
     requires { IsWellFormed unit.now }
     ensures objects { IfOk result (λ v. v.items ≡ objects_of unit.now) }
@@ -88,15 +88,16 @@ pub fn assemble(alloc: Global, unit: &Unit) -> Result<Vec<Object>, AsmFault>
     // A fault is the first one, or memory ran out.
     ensures fault { IfErr result (λ e. (e ≡ memory_ran_out)
         ⊎ (unit_fault unit.now ≡ Some e)) }
-    // Linking looks at the objects as it would at the unit: a layout that can be linked is the unit's,
-    // and a refusal is the unit's.
-    ensures layout { IsLinkable (layout_of (objects_of unit.now))
-        → layout_of (objects_of unit.now) ≡ unit_layout unit.now }
-    ensures refusal { (e : Refusal) → IsRefused (layout_of (objects_of unit.now)) e
-        → IsRefused (unit_layout unit.now) e }
-    // A statement stands in its section behind the statements before it there.
-    ensures offsets { (m : Part) (i : ℕ) (r : Located) → slice_get (lines_in m) i ≡ Some r
-        → offset_of r ≡ sum_by (length_in (section_of r)) (take i (lines_in m)) }
+    // Linking looks at the objects as it would at the unit: their layout is the unit's where it can be
+    // linked, and a refusal of it is the unit's.
+    ensures layout { IfOk result (λ v. IsLinkable (layout_of v.items)
+        → layout_of v.items ≡ unit_layout unit.now) }
+    ensures refusal { IfOk result (λ v. (e : Refusal) → IsRefused (layout_of v.items) e
+        → IsRefused (unit_layout unit.now) e) }
+    // A statement of a module stands in its section behind the statements before it there.
+    ensures offsets { OnOk result ((m : Part) (i : ℕ) (r : Located) → Contains unit.now.modules m
+        → slice_get (lines_in m) i ≡ Some r
+        → offset_of r ≡ sum_by (length_in (section_of r)) (take i (lines_in m))) }
 {
     objects(alloc, unit.modules.as_slice())
 }

@@ -219,3 +219,71 @@ fn refusals(rt: HostRuntime) -> Result<(), Fail> {
     }
     Ok(())
 }
+
+#[test]
+fn words_of_linked_modules(rt: HostRuntime) {
+    let rows: [(&[u8], u32, u32); 6] = [
+        // `.global` may stand behind the definition, and a name that isn't defined may be global.
+        (
+            b".module a\nf: or r2,r0,1\n.global f\n.module b\nbr f\n",
+            0x1008,
+            0xC3FF_FFFE,
+        ),
+        (b".global g\nor r2,r0,1\n", 0x1000, 0x5840_0001),
+        // Address 0 is four bytes behind 0xFFFFFFFC.
+        (
+            b".at 0xfffffffc\nbr x\n.at 0\nx: .word 1\n",
+            0xFFFF_FFFC,
+            0xC000_0001,
+        ),
+        // The ends of what a field of 16 bits reaches.
+        (b"x:\n.at 0x21000\nbcnd eq0,r0,x\n", 0x21000, 0xE840_8000),
+        (
+            b".at 0x2004\nbcnd eq0,r0,x\n.at 0x22000\nx: .word 1\n",
+            0x2004,
+            0xE840_7FFF,
+        ),
+        // A section without bytes stands in no section's way.
+        (b"or r2,r0,1\n.at 0x1000\n", 0x1000, 0x5840_0001),
+    ];
+    for (source, at, wanted) in rows {
+        assert!(rt; source.len() < 1000);
+        match image(rt.alloc(), source) {
+            Some(image) => assert!(rt; word(&image, at) == Some(wanted)),
+            None => assert!(rt; false, "no image"),
+        }
+    }
+}
+
+#[test]
+fn refusals_of_linking(rt: HostRuntime) -> Result<(), Fail> {
+    let rows: [(&[u8], &str); 8] = [
+        // A local name means nothing in another module, and `.global` defines none.
+        (
+            b".module a\nf: or r2,r0,1\n.module b\nbr f\n",
+            "4:4 undefined f",
+        ),
+        (b".global g\nbr g\n", "2:4 undefined g"),
+        // `_start` is global without a `.global`.
+        (
+            b".module a\n_start: or r2,r0,1\n.module b\n_start: or r2,r0,1\n",
+            "4:1 duplicate _start first at 2",
+        ),
+        (b"x: br x+2\n", "1:7 too far 2"),
+        (
+            b".at 0x2000\nbcnd eq0,r0,x\n.at 0x22000\nx: .word 1\n",
+            "2:13 too far 131072",
+        ),
+        (b"x:\n.at 0x21004\nbcnd eq0,r0,x\n", "3:13 too far -131076"),
+        // Each section is small enough, and all together aren't.
+        (b".zero 600000\n.data\n.zero 600000\n", "1:1 too large"),
+        // What isn't defined comes before what is too far, on whatever lines they stand.
+        (b"x: br x+2\nbr nowhere\n", "2:4 undefined nowhere"),
+    ];
+    for (source, wanted) in rows {
+        assert!(rt; source.len() < 1000);
+        let told = told(rt.alloc(), source)?;
+        assert!(rt; told.as_str() == wanted);
+    }
+    Ok(())
+}
