@@ -1,6 +1,7 @@
 //! The timeline of a run on the board: schedules of letters, the events that they make, and what a run comes to.
 //! The definitions in `specs/` say it over the history of the sequential machine, with a count of the instructions
-//! that are retired and one of the transactions that are done; the board is proved to go the same way.
+//! that are retired and one of the transactions that are done. What moves as a board looks goes the same way, which
+//! is proved (`moves_follow_the_timeline`).
 #![tactic(auto)]
 
 // the letters of a run
