@@ -1,5 +1,5 @@
--- Memory over two buses ("Data Unit"; "Instruction Unit"): the instruction bus fetches the image as it was linked, and the
--- data bus starts with the same bytes and zeros elsewhere. Pages and their absence are for the data bus alone.
+-- Memory over two buses ("Data Unit"; "Instruction Unit"): the instruction bus fetches the image as it was linked, and
+-- the data bus starts with the same bytes and zeros elsewhere. Pages and their absence are for the data bus alone.
 use Rattle.std.specs.Prelude.{ℕ, Bool, false, ◌≡◌, ◌/◌, ◌^◌, List, true, unwrap_or, is_some, length, slice_index_or}
 use Rattle.std.specs.BTreeMap.{is_at}
 use Rattle.std.specs.Map.{lookup}
@@ -12,7 +12,9 @@ pub use Rattle.m88_isa.specs.Bus.{page_bytes, page_number}
 abbrev pub page_count : ℕ
 page_count = 2 ^ 20
 
--- the image, the words that were made ready by their places, and a mark for each page: it is ready, it is absent
+-- the image, the words that have a place of their own, each by its address / 4, and a mark for each page: it is ready,
+-- it is absent. Where memory is refused while a page is made ready, some of its words may have got places, each with the
+-- value that it had: no word of the data bus changes.
 pub record MemoryView : Type 0 where
   pub image : ProgramImage
   pub words : List (ℕ × ℕ)

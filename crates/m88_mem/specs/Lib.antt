@@ -1,2 +1,3 @@
 pub mod DataBus
 pub mod Marks
+pub mod Walk

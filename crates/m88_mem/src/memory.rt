@@ -1,14 +1,15 @@
 //! Memory, as the instruction bus and the data bus see it.
 #![tactic(auto, unfolding(crate::specs::DataBus::bus_of, crate::specs::DataBus::ready_of, crate::specs::DataBus::absent_of, crate::specs::DataBus::has_place, m88_isa::specs::Bus::with_word))]
 
-ghost use Rattle.std.specs.Prelude.{◌≡◌, ◌%◌, ◌<◌, ◌↔◌, ℕ, true, false, option_map, IfOk, IsErr, IsTrue, OnErr, OnOk};
+ghost use Rattle.std.specs.Prelude.{◌≡◌, ◌%◌, ◌^◌, ◌<◌, ◌↔◌, ℕ, true, false, option_map, IfOk, IsErr, IsTrue, OnErr, OnOk};
 ghost use Rattle.std.specs.Int.{to_be_bytes, w32};
 ghost use Rattle.m88_base.specs.Image.{byte_at};
-ghost use Rattle.m88_isa.specs.Bus.{with_word};
+ghost use Rattle.m88_isa.specs.Bus.{changed_words, with_word};
 ghost use Rattle.m88_isa.specs.Lanes.{IsEnable, merged};
 ghost use Rattle.m88_isa.specs.Machine.{four_bytes};
 ghost use Rattle.m88_mem.specs.DataBus.{absent_of, bus_of, has_place, image_bus, page_count, page_number, ready_of};
 ghost use Rattle.m88_mem.specs.Marks.{NamesPages, absent_in, no_page, with_page};
+ghost use Rattle.m88_mem.specs.Walk.{is_other};
 
 use crate::absent_page::AbsentPage;
 use crate::marks::{absent_marks, marks};
@@ -29,7 +30,7 @@ pub const PAGE_COUNT: usize = 1 << 20;
 const PAGE_WORDS: u32 = PAGE_BYTES / 4;
 
 /// The image as it was linked, the data bus over it, and the pages that are ready and those that are absent.
-#[derive(Drop)]
+#[derive(Drop, Debug)]
 pub struct Memory {
     image: Image,
     words: BTreeMap<u32, u32>,
@@ -113,7 +114,8 @@ impl Memory {
         }
     }
 
-    /// Makes the page of a byte address ready. The data bus stays as it is.
+    /// Makes the page of a byte address ready. The data bus stays as it is, and so do the pages that are ready
+    /// where memory is refused.
     pub fn prepare(&mut self, addr: u32) -> Result<(), NoMemory>
         ensures image { self.new.image ≡ self.old.image }
         ensures bus { bus_of self.new ≡ bus_of self.old }
@@ -169,7 +171,8 @@ impl Memory {
         requires ready { ready_of self.old (page_number addr) ≡ true }
         requires enable { IsEnable en }
         ensures absent { IsErr result ↔ IsTrue (absent_of self.old (page_number addr)) }
-        ensures bus { OnOk result (bus_of self.new ≡ with_word (bus_of self.old) addr (merged en value (bus_of self.old addr))) }
+        ensures bus { OnOk result (bus_of self.new
+            ≡ with_word (bus_of self.old) addr (merged en value (bus_of self.old addr))) }
         ensures image { self.new.image ≡ self.old.image }
         ensures pages { absent_of self.new ≡ absent_of self.old }
         ensures prepared { ready_of self.new ≡ ready_of self.old }
@@ -207,4 +210,27 @@ impl Memory {
     {
         self.absent[page as usize] = false;
     }
+
+    /// The words of the data bus that differ from the image's, each with its address, in order of address.
+    pub fn changed(&self, alloc: Global) -> Result<Vec<(u32, u32)>, NoMemory>
+        ensures { IfOk result (λ words.
+            words.items ≡ changed_words (image_bus self.now.image) (bus_of self.now)) }
+    {
+        let mut changed = vec![in alloc]?;
+        for (place, word) in &self.words {
+            if is_changed(&self.image, *place, *word) {
+                if changed.push((4 * *place, *word)).is_err() {
+                    return Err(NoMemory);
+                }
+            }
+        }
+        Ok(changed)
+    }
+}
+
+/// Whether the word at a place is there and isn't the image's.
+fn is_changed(image: &Image, place: u32, word: u32) -> bool
+    ensures { result ≡ is_other (2 ^ 30) (image_bus image.now) (place, word) }
+{
+    place < 1 << 30 && word != image_word(image, 4 * place)
 }

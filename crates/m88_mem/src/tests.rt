@@ -21,6 +21,11 @@ fn words_of_an_image_and_stores(rt: HostRuntime) -> Result<(), ImageFault> {
         assert_eq!(rt; memory.write_lanes(0x2000, 3, 0x1234_5678), Ok(()));
     }
     assert_eq!(rt; memory.word(0x2000), 0x0500_5678);
+    let Ok(changed) = memory.changed(rt.alloc()) else {
+        return Err(ImageFault::Memory);
+    };
+    assert_eq!(rt; changed.len(), 1);
+    assert_eq!(rt; changed[0], (0x2000, 0x0500_5678));
     assert_eq!(rt; memory.word(0x1FFC), 0x0102_0304);
     assert_eq!(rt; memory.fetch(0x2000), None);
     Ok(())
