@@ -29,6 +29,7 @@ triple_at index c = if index == 0 then c.t0 else if index == 1 then c.t1 else c.
 abbrev pub finished : Triple → Triple
 finished t = record t { dmt = t.dmt / 2 * 2 }
 
+-- the control registers with VALID of one triple cleared, by its place
 abbrev pub with_finished : ℕ → ControlRegisters → ControlRegisters
 with_finished index c =
     if index == 0 then record c { t0 = finished c.t0 }
@@ -39,7 +40,7 @@ with_finished index c =
 abbrev pub without_bit : ℕ → ℕ → ℕ
 without_bit n word = word - bit_at word n * 2 ^ n
 
--- the control registers once the register of a load waits no more
+-- the control registers once the bit of a load's register in SSBR is cleared
 abbrev pub with_loaded : Access → ControlRegisters → ControlRegisters
 with_loaded a c = if a.write then c else record c { ssbr = kept_of 3 (without_bit (number_of a.reg) c.ssbr) }
 
@@ -71,10 +72,11 @@ pub record CanServe (ready : ℕ → Bool) (a : Access) : Type 0 where
 abbrev pub CanServeTriple : (ℕ → Bool) → Triple → Type 0
 CanServeTriple ready t = is_valid_triple t ≡ true → CanServe ready (access_in t)
 
--- how many triples are valid
+-- 1 for a triple that is valid, 0 for another
 abbrev pub valid_count_of : Triple → ℕ
 valid_count_of t = if is_valid_triple t then 1 else 0
 
+-- how many of the three triples are valid
 abbrev pub valid_count : ControlRegisters → ℕ
 valid_count c = valid_count_of c.t0 + valid_count_of c.t1 + valid_count_of c.t2
 

@@ -21,11 +21,13 @@ use m88_scoreboard::RegFile;
 /// How many transactions the monitor finished.
 #[derive(Clone, Copy, PartialEq, Eq, Debug)]
 pub struct Served {
+    /// How many triples were valid, at most three.
     pub done: u8,
 }
 
 /// Finishes the transactions whose triples are valid, the oldest first: their pages are supplied, stores and
-/// loads are made, and the registers of the loads wait no more. Nothing else changes.
+/// loads are made, the bits of the loaded registers in SSBR are cleared, and VALID of each triple is cleared.
+/// Nothing else changes.
 pub fn serve(ctrl: &mut Control, regs: &mut RegFile, memory: &mut Memory) -> Served
     requires waiting { waiting_of regs.old ≡ none_waits }
     requires first { CanServeTriple (ready_of memory.old) ctrl.old.t0 }
@@ -135,7 +137,7 @@ fn store(memory: &mut Memory, access: &Access)
     }
 }
 
-/// Makes a load into its register, which waits no more.
+/// Makes a load into its register, whose bit in SSBR is cleared.
 fn load(ctrl: &mut Control, regs: &mut RegFile, memory: &Memory, access: &Access)
     requires serve { CanServe (ready_of memory.now) access.now }
     requires read { access.now.write ≡ false }
