@@ -1,0 +1,91 @@
+-- The choices that the paths of an event come to.
+use Rattle.std.specs.Prelude.{ℕ, Bool, true, false, List, [], ◌∷◌, Option, Some, ◌≡◌, ◌<◌, ◌==◌, ◌&&◌, is_some, length, slice_get, slice_index, if◌then◌else◌}
+use Rattle.std.proofs.Common.{arith, refl, sym, ap, ◌∙◌, subst}
+use Rattle.m88_event.specs.Choice.{Choice, answer_choice, faults, finishes, holds, replies, serves, turn_choice}
+use Rattle.m88_event.specs.declared.happened.Happened.{Happened}
+use Rattle.m88_event.specs.declared.record.Record.{Record}
+use Rattle.m88_isa.proofs.Alone.{by_test}
+use Rattle.m88_isa.specs.Bus.{page_number, waits_for}
+use Rattle.m88_isa.specs.Held.{is_pending, sync}
+use Rattle.m88_isa.specs.Machine.{Stop, by_vector, exits, trapped}
+use Rattle.m88_isa.specs.Monitor.{exit_service, monitor_trap, put_service, service_register}
+use Rattle.m88_isa.specs.declared.planned.Access.{Access}
+use Rattle.m88_iunit.specs.Pointers.{Pointers}
+use Rattle.m88_iunit.specs.declared.slot.Slot.{Slot}
+use Rattle.m88_monitor.specs.Service.{service_of}
+use Rattle.m88_monitor.specs.declared.answer.Service.{Service}
+use Rattle.m88_monitor.specs.declared.answer.Service.TheVariants.{Out, End, Unserved}
+use Rattle.m88_scoreboard.specs.Registers.{Registers, waiting_of}
+use Rattle.m88_mem.specs.DataBus.{MemoryView}
+use Rattle.m88_board.specs.Board.{BoardView, pc_of}
+use Rattle.m88_board.specs.Kept.{PartsAgree}
+use Rattle.m88_board.specs.Moves.{Did, stopping}
+
+-- nothing is pending where there is no oldest
+pub none_pending : (xs : List Access) (o : Option Access) → o ≡ slice_get xs 0 → is_some o ≡ false → xs ≡ []
+none_pending [] o e h = refl
+none_pending (x ∷ xs) o e h = absurd (let no = ap is_some e in cc)
+
+pub some_pending : (xs : List Access) (o : Option Access) → o ≡ slice_get xs 0 → is_some o ≡ true → is_pending xs ≡ true
+some_pending [] o e h = absurd (let no = ap is_some e in cc)
+some_pending (x ∷ xs) o e h = refl
+
+pub some_length : (xs : List Access) (x : Access) → Some x ≡ slice_get xs 0 → 0 < length xs
+some_length [] x h = absurd cc
+some_length (y ∷ ys) x h = omega arith
+
+-- what raises with something pending, and with nothing
+pub stopping_held : (stop : Stop) (xs : List Access) → is_pending xs ≡ true → stopping stop xs ≡ holds sync
+stopping_held stop xs h = ap (λ (t : Bool). if t then holds sync else finishes stop) h
+
+pub stopping_ends : (stop : Stop) (xs : List Access) → xs ≡ [] → stopping stop xs ≡ finishes stop
+stopping_ends stop xs h = ap (λ (ys : List Access). stopping stop ys) h
+
+-- the oldest is answered by its page
+pub answer_is : (xs : List Access) (x : Access) (absent : ℕ → Bool) (t : Bool) → Some x ≡ slice_get xs 0 →
+    absent (page_number x.addr) ≡ t → answer_choice xs absent ≡ (if t then faults else replies)
+answer_is [] x absent t h e = absurd cc
+answer_is (y ∷ ys) x absent t h e =
+    let same : y ≡ x = cc in
+    ap (λ (z : Access). if absent (page_number z.addr) then faults else replies) same
+    ∙ ap (λ (b : Bool). if b then faults else replies) e
+
+-- what is done by a choice that is another's
+pub did_by : (a b : Choice) (fault : Record) (old : BoardView) (h : Happened) (new : BoardView) → a ≡ b →
+    Did b fault old h new → Did a fault old h new
+did_by a b fault old h new e did = subst (λ choice. Did choice fault old h new) (sym e) did
+
+-- no register waits where nothing is pending
+pub nothing_waits : (xs : List Access) (file : Registers) (memory : MemoryView) (r : ℕ) → PartsAgree xs file memory → xs ≡ [] →
+    waiting_of file r ≡ false
+unfolding waits_for
+nothing_waits xs file memory r agree none = ap (λ set. set r) (agree.waiting ∙ ap waits_for none)
+
+-- the turn of a taken trap by what the monitor does
+abbrev pub turn_of_service : Service → ℕ → ℕ → Choice
+turn_of_service (Out byte) vector pc = serves byte
+turn_of_service End vector pc = finishes (exits pc)
+turn_of_service Unserved vector pc = finishes (by_vector vector pc)
+
+pub trapped_is : (vector : ℕ) (numbers : List ℕ) (pc : ℕ) →
+    turn_choice (trapped vector numbers pc) ≡ turn_of_service (service_of vector numbers) vector pc
+trapped_is vector numbers pc = by_test (vector == monitor_trap && slice_index numbers service_register == put_service)
+    (λ put. rw put refl)
+    (λ other. by_test (vector == monitor_trap && slice_index numbers service_register == exit_service)
+    (λ exit. rw (other, exit) refl)
+    (λ none. rw (other, none) refl))
+
+pub trap_choice : (vector pc : ℕ) (numbers seen : List ℕ) (result s : Service) → result ≡ service_of vector numbers →
+    numbers ≡ seen →
+    result ≡ s →
+    turn_choice (trapped vector seen pc) ≡ turn_of_service s vector pc
+trap_choice vector pc numbers seen result s is same found =
+    trapped_is vector seen pc
+    ∙ ap (λ (u : Service). turn_of_service u vector pc) (ap (service_of vector) (sym same) ∙ sym is ∙ found)
+
+-- the next instruction, where it isn't passed over, is at NIP
+pub at_pc : (slots seen : Pointers) (slot : Slot) → slot ≡ slots.nip → slots ≡ seen → seen.nip.v ≡ true → slot.addr ≡ pc_of seen
+at_pc slots seen slot is same valid =
+    ap (λ (s : Slot). s.addr) is
+    ∙ ap (λ (s : Pointers). s.nip.addr) same
+    ∙ sym (ap (λ (v : Bool). if v then seen.nip.addr else seen.fip.addr) valid)

@@ -1,0 +1,9 @@
+pub mod Agree
+pub mod Choosing
+pub mod Steps
+pub mod Records
+pub mod Keeping
+pub mod Service
+pub mod Moving
+pub mod Searching
+pub mod Starting

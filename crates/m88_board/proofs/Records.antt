@@ -1,0 +1,125 @@
+-- The record that a data fault leaves, from the parts.
+use Rattle.std.specs.Prelude.{ℕ, Bool, true, false, not, List, Option, ◌≡◌, ◌≢◌, ◌+◌, is_none, if◌then◌else◌}
+use Rattle.std.specs.Int.{bit_at}
+use Rattle.std.proofs.Common.{arith, sym, ap, ◌∙◌}
+use Rattle.std.proofs.Math.Path.{fun_ext}
+use Rattle.std.proofs.lemmas.Bool.{eqb-false}
+use Rattle.std.proofs.lemmas.Nat.Bits.{bit_at-lt}
+use Rattle.m88_base.proofs.RegisterBits.{bit_of_member}
+use Rattle.m88_base.specs.Image.{byte_at}
+use Rattle.m88_base.specs.RegisterSet.{register_bits}
+use Rattle.m88_base.specs.declared.triple.Triple.{Triple}
+use Rattle.m88_event.specs.Local.{record_by, situation_of}
+use Rattle.m88_event.specs.Shadow.{fip_of, nip_of, pointer_word}
+use Rattle.m88_event.specs.Situation.{record_of}
+use Rattle.m88_isa.specs.Address.{after_bytes}
+use Rattle.m88_isa.specs.Machine.{Program, four_bytes}
+use Rattle.m88_isa.specs.Triples.{triples_of}
+use Rattle.m88_iunit.specs.Pointers.{squashed_slot, valid_slot, word_behind, word_of}
+use Rattle.m88_iunit.specs.declared.slot.Slot.{Slot}
+use Rattle.m88_scoreboard.specs.Registers.{waiting_of}
+use Rattle.m88_board.specs.Board.{BoardView, completed_of, local_of, pointer_of}
+use Rattle.m88_board.specs.ImageOf.{IsImageOf}
+use Rattle.m88_board.specs.Kept.{IsKept, epsr_of}
+use Rattle.m88_board.proofs.Agree.{zero_waits_not}
+
+-- NIP is the next instruction, or the one that is passed over
+nip_is : (byte : ℕ → Option ℕ) (p : Program) (xip : Slot) (a : ℕ) (v e : Bool) (f : ℕ) → p.byte ≡ byte →
+    record { addr = a; v = v; e = e }
+    ≡ (if v then valid_slot a (is_none (four_bytes byte a)) else squashed_slot (word_behind xip.addr)) →
+    pointer_of (record { addr = a; v = v; e = e }) ≡ nip_of p (not v) (pointer_of xip) (if v then a else f)
+nip_is byte p xip a true e f of h =
+    ap pointer_of h ∙ ap (λ (b : ℕ → Option ℕ). record { address = a; valid = true; failed = is_none (four_bytes b a) }) (sym of)
+nip_is byte p xip a false e f of h = ap pointer_of h
+
+-- FIP is behind it
+fip_is : (byte : ℕ → Option ℕ) (p : Program) (fip : Slot) (a : ℕ) (v : Bool) → p.byte ≡ byte →
+    fip ≡ valid_slot fip.addr (is_none (four_bytes byte fip.addr)) →
+    pointer_of fip
+    ≡ fip_of p (not v) (if v then a else fip.addr) (if v then fip.addr else after_bytes fip.addr 4)
+fip_is byte p fip a true of h =
+    ap pointer_of h
+    ∙ ap (λ (b : ℕ → Option ℕ). record { address = fip.addr; valid = true; failed = is_none (four_bytes b fip.addr) }) (sym of)
+fip_is byte p fip a false of h =
+    ap pointer_of h
+    ∙ ap (λ (b : ℕ → Option ℕ). record { address = fip.addr; valid = true; failed = is_none (four_bytes b fip.addr) }) (sym of)
+
+pub piped : (p : Program) (b : BoardView) → IsImageOf p b.memory.image → IsKept b →
+    record {
+      event = b.events + 1;
+      epsr = epsr_of b;
+      sxip = word_of b.slots.xip;
+      snip = word_of b.slots.nip;
+      sfip = word_of b.slots.fip;
+      ssbr = register_bits (waiting_of b.file);
+      triples = triples_of b.pending;
+    } ≡ record_by p b.limit (local_of b)
+unfolding record_of situation_of local_of completed_of
+piped p b of kept =
+    let bytes : p.byte ≡ byte_at b.memory.image = fun_ext of.bytes in
+    let nip = nip_is (byte_at b.memory.image) p b.slots.xip b.slots.nip.addr b.slots.nip.v b.slots.nip.e b.slots.fip.addr bytes kept.slots.nip in
+    let fip = fip_is (byte_at b.memory.image) p b.slots.fip b.slots.nip.addr b.slots.nip.v bytes kept.slots.fip in
+    λ i. record {
+      event = b.events + 1;
+      epsr = kept.status i;
+      sxip = word_of b.slots.xip;
+      snip = pointer_word (nip i);
+      sfip = pointer_word (fip i);
+      ssbr = register_bits (kept.parts.waiting i);
+      triples = triples_of b.pending;
+    }
+
+-- SSBR never has bit 0
+pub zero_bit : (b : BoardView) → IsKept b → bit_at (register_bits (waiting_of b.file)) 0 ≡ 0
+zero_bit b kept =
+    let no = bit_of_member (waiting_of b.file) 32 0 (omega arith) ∙ zero_waits_not b.pending b.file b.memory kept.parts in
+    let other : bit_at (register_bits (waiting_of b.file)) 0 ≢ 1 = eqb-false (bit_at (register_bits (waiting_of b.file)) 0) 1 no in
+    let small = bit_at-lt (register_bits (waiting_of b.file)) 0 in
+    omega (arith, other, small)
+
+-- the same of what the parts answer
+pub piped_by : (p : Program) (b : BoardView) (epsr sxip snip sfip ssbr : ℕ) (triples : List Triple) →
+    IsImageOf p b.memory.image →
+    IsKept b →
+    epsr ≡ epsr_of b →
+    sxip ≡ word_of b.slots.xip →
+    snip ≡ word_of b.slots.nip →
+    sfip ≡ word_of b.slots.fip →
+    ssbr ≡ register_bits (waiting_of b.file) →
+    triples ≡ triples_of b.pending →
+    record {
+      event = b.events + 1;
+      epsr = epsr;
+      sxip = sxip;
+      snip = snip;
+      sfip = sfip;
+      ssbr = ssbr;
+      triples = triples;
+    } ≡ record_by p b.limit (local_of b)
+piped_by p b epsr sxip snip sfip ssbr triples of kept status first second third waits all =
+    let same : record {
+      event = b.events + 1;
+      epsr = epsr;
+      sxip = sxip;
+      snip = snip;
+      sfip = sfip;
+      ssbr = ssbr;
+      triples = triples;
+    } ≡ record {
+      event = b.events + 1;
+      epsr = epsr_of b;
+      sxip = word_of b.slots.xip;
+      snip = word_of b.slots.nip;
+      sfip = word_of b.slots.fip;
+      ssbr = register_bits (waiting_of b.file);
+      triples = triples_of b.pending;
+    } = λ i. record {
+      event = b.events + 1;
+      epsr = status i;
+      sxip = first i;
+      snip = second i;
+      sfip = third i;
+      ssbr = waits i;
+      triples = all i;
+    } in
+    same ∙ piped p b of kept

@@ -1,0 +1,215 @@
+-- What the monitor does of the triples of the pending transactions is what these do.
+use Rattle.std.specs.Prelude.{ℕ, zero, suc, IfSome, Bool, true, false, not, List, [], ◌∷◌, Option, Some, None, All, ◌≡◌, ◌≢◌, ◌≤◌, ◌==◌, ◌&&◌, ◌||◌, length, slice_get, if◌then◌else◌}
+use Rattle.std.proofs.Common.{arith, refl, sym, ap, ◌∙◌, subst}
+use Rattle.std.proofs.Math.Path.{fun_ext}
+use Rattle.std.proofs.lemmas.Bool.{eqb-true, eqb-false}
+use Rattle.std.proofs.lemmas.Bool.Decides.{nat_tests}
+use Rattle.std.proofs.lemmas.List.Elements.{All-head, All-tail}
+use Rattle.m88_base.specs.Triple.{no_triple}
+use Rattle.m88_base.specs.declared.triple.Triple.{Triple}
+use Rattle.m88_ctrl.specs.ControlRegisters.{ControlRegisters}
+use Rattle.m88_dunit.proofs.Told.{told_of, valid_of}
+use Rattle.m88_event.specs.Choice.{touches_page}
+use Rattle.m88_isa.proofs.Alone.{by_test}
+use Rattle.m88_isa.specs.Bus.{Cells, after_accesses, page_number}
+use Rattle.m88_isa.specs.Memory.{IsWordAccess}
+use Rattle.m88_isa.specs.Triples.{access_in, is_valid_triple, triple_of, triple_or_none}
+use Rattle.m88_isa.specs.declared.planned.Access.{Access}
+use Rattle.m88_monitor.proofs.Steps.{same_triple}
+use Rattle.m88_board.specs.Kept.{HasReadyPage}
+use Rattle.m88_monitor.specs.Serving.{CanServe, CanServeTriple, Serving, after_access_at, after_service, after_triple, triple_at, with_finished, with_loaded}
+
+-- a triple of an access, and a triple of none
+valid_step : (index : ℕ) (s : Serving) (a : Access) → triple_at index s.control ≡ triple_of a → IsWordAccess a →
+    after_triple index s ≡ after_access_at index a s
+valid_step index s a e made =
+    ap (λ (t : Triple). if is_valid_triple t then after_access_at index (access_in t) s else s) e
+    ∙ ap (λ (v : Bool). if v then after_access_at index (access_in (triple_of a)) s else s) (valid_of a made)
+    ∙ ap (λ (x : Access). after_access_at index x s) (told_of a made)
+
+empty_step : (index : ℕ) (s : Serving) → triple_at index s.control ≡ no_triple → after_triple index s ≡ s
+empty_step index s e = ap (λ (t : Triple). if is_valid_triple t then after_access_at index (access_in t) s else s) e
+
+-- the three steps of the pending transactions
+steps_of : List Access → Serving → Serving
+steps_of [] s = s
+steps_of (a ∷ []) s = after_access_at 0 a s
+steps_of (a ∷ b ∷ []) s = after_access_at 1 b (after_access_at 0 a s)
+steps_of (a ∷ b ∷ c ∷ xs) s = after_access_at 2 c (after_access_at 1 b (after_access_at 0 a s))
+
+three_steps : (xs : List Access) (s : Serving) →
+    s.control.t0 ≡ triple_or_none (slice_get xs 0) →
+    s.control.t1 ≡ triple_or_none (slice_get xs 1) →
+    s.control.t2 ≡ triple_or_none (slice_get xs 2) →
+    All IsWordAccess xs →
+    after_service s ≡ steps_of xs s
+unfolding steps_of
+three_steps [] s e0 e1 e2 made =
+    ap (λ u. after_triple 2 (after_triple 1 u)) (empty_step 0 s e0)
+    ∙ ap (after_triple 2) (empty_step 1 s e1)
+    ∙ empty_step 2 s e2
+three_steps (a ∷ []) s e0 e1 e2 made =
+    ap (λ u. after_triple 2 (after_triple 1 u)) (valid_step 0 s a e0 (All-head IsWordAccess a [] made))
+    ∙ ap (after_triple 2) (empty_step 1 (after_access_at 0 a s) (same_triple 1 a s.control ∙ e1))
+    ∙ empty_step 2 (after_access_at 0 a s) (same_triple 2 a s.control ∙ e2)
+three_steps (a ∷ b ∷ []) s e0 e1 e2 made =
+    let rest = All-tail IsWordAccess a (b ∷ []) made in
+    ap (λ u. after_triple 2 (after_triple 1 u)) (valid_step 0 s a e0 (All-head IsWordAccess a (b ∷ []) made))
+    ∙ ap (after_triple 2) (valid_step 1 (after_access_at 0 a s) b (same_triple 1 a s.control ∙ e1) (All-head IsWordAccess b [] rest))
+    ∙ empty_step 2 (after_access_at 1 b (after_access_at 0 a s))
+    (same_triple 2 b (after_access_at 0 a s).control ∙ same_triple 2 a s.control ∙ e2)
+three_steps (a ∷ b ∷ c ∷ xs) s e0 e1 e2 made =
+    let rest = All-tail IsWordAccess a (b ∷ c ∷ xs) made in
+    let last = All-tail IsWordAccess b (c ∷ xs) rest in
+    ap (λ u. after_triple 2 (after_triple 1 u)) (valid_step 0 s a e0 (All-head IsWordAccess a (b ∷ c ∷ xs) made))
+    ∙ ap (after_triple 2) (valid_step 1 (after_access_at 0 a s) b (same_triple 1 a s.control ∙ e1) (All-head IsWordAccess b (c ∷ xs) rest))
+    ∙ valid_step 2 (after_access_at 1 b (after_access_at 0 a s)) c
+    (same_triple 2 b (after_access_at 0 a s).control ∙ same_triple 2 a s.control ∙ e2) (All-head IsWordAccess c xs last)
+
+-- registers and words
+cells_in : Serving → Cells
+cells_in s = record { regs = s.numbers; bus = s.bus }
+
+steps_cells : (xs : List Access) (s : Serving) → length xs ≤ 3 → cells_in (steps_of xs s) ≡ after_accesses xs (cells_in s)
+unfolding steps_of cells_in after_accesses
+steps_cells [] s few = refl
+steps_cells (a ∷ []) s few = refl
+steps_cells (a ∷ b ∷ []) s few = refl
+steps_cells (a ∷ b ∷ c ∷ []) s few = refl
+steps_cells (a ∷ b ∷ c ∷ d ∷ xs) s few = absurd (omega arith)
+
+-- the control registers that stay
+pub record StaysSaved (old new : ControlRegisters) : Type 0 where
+  pub psr : new.psr ≡ old.psr
+  pub epsr : new.epsr ≡ old.epsr
+  pub snip : new.snip ≡ old.snip
+  pub sfip : new.sfip ≡ old.sfip
+
+by_index : (index : ℕ) (c : ControlRegisters) → StaysSaved c (with_finished index c)
+by_index index c = by_test (index == 0)
+    (λ t. rw t (record { psr = refl; epsr = refl; snip = refl; sfip = refl }))
+    (λ f. by_test (index == 1)
+    (λ t. rw (f, t) (record { psr = refl; epsr = refl; snip = refl; sfip = refl }))
+    (λ g. rw (f, g) (record { psr = refl; epsr = refl; snip = refl; sfip = refl })))
+
+by_load : (a : Access) (c : ControlRegisters) → StaysSaved c (with_loaded a c)
+by_load a c = by_test a.write
+    (λ w. rw w (record { psr = refl; epsr = refl; snip = refl; sfip = refl }))
+    (λ r. rw r (record { psr = refl; epsr = refl; snip = refl; sfip = refl }))
+
+-- the pages
+step_page : (absent touched : Bool) (n page : ℕ) →
+    (if page == n then false else (absent && not touched)) ≡ (absent && not (n == page || touched))
+step_page absent touched n page = by_test (page == n)
+    (λ t. let e : page ≡ n = eqb-true page n t in
+    let same : (n == page) ≡ true = grind (arith, nat_tests) in
+    rw (t, same) (sym (and_false absent)))
+    (λ f. let e : page ≢ n = eqb-false page n f in
+    let other : (n == page) ≡ false = grind (arith, nat_tests) in
+    rw (f, other) refl)
+  where
+    and_false : (b : Bool) → (b && false) ≡ false
+    and_false true = refl
+    and_false false = refl
+
+and_true : (b : Bool) → b ≡ (b && true)
+and_true true = refl
+and_true false = refl
+
+eq_turned : (m n : ℕ) → (m == n) ≡ (n == m)
+eq_turned m n = by_test (m == n)
+    (λ t. let e : m ≡ n = eqb-true m n t in
+    let same : (n == m) ≡ true = grind (arith, nat_tests) in
+    t ∙ sym same)
+    (λ f. let e : m ≢ n = eqb-false m n f in
+    let other : (n == m) ≡ false = grind (arith, nat_tests) in
+    f ∙ sym other)
+
+pages2 : (x a b : Bool) → (if b then false else (if a then false else x)) ≡ (x && not (a || (b || false)))
+pages2 true true true = refl
+pages2 true true false = refl
+pages2 true false true = refl
+pages2 true false false = refl
+pages2 false true true = refl
+pages2 false true false = refl
+pages2 false false true = refl
+pages2 false false false = refl
+
+pages3 : (x a b c : Bool) → (if c then false else (if b then false else (if a then false else x))) ≡ (x && not (a || (b || (c || false))))
+pages3 true true true true = refl
+pages3 true true true false = refl
+pages3 true true false true = refl
+pages3 true true false false = refl
+pages3 true false true true = refl
+pages3 true false true false = refl
+pages3 true false false true = refl
+pages3 true false false false = refl
+pages3 false true true true = refl
+pages3 false true true false = refl
+pages3 false true false true = refl
+pages3 false true false false = refl
+pages3 false false true true = refl
+pages3 false false true false = refl
+pages3 false false false true = refl
+pages3 false false false false = refl
+
+steps_absent : (xs : List Access) (s : Serving) → length xs ≤ 3 →
+    (steps_of xs s).absent ≡ (λ page. s.absent page && not (touches_page xs page))
+unfolding steps_of
+steps_absent [] s few = fun_ext (λ page. and_true (s.absent page))
+steps_absent (a ∷ []) s few = fun_ext (λ page.
+    ap (λ (t : Bool). if page == page_number a.addr then false else t) (and_true (s.absent page))
+    ∙ step_page (s.absent page) false (page_number a.addr) page)
+steps_absent (a ∷ b ∷ []) s few = fun_ext (λ page.
+    pages2 (s.absent page) (page == page_number a.addr) (page == page_number b.addr)
+    ∙ ap (λ (t : Bool). s.absent page && not (t || (page == page_number b.addr || false))) (eq_turned page (page_number a.addr))
+    ∙ ap (λ (t : Bool). s.absent page && not (page_number a.addr == page || (t || false))) (eq_turned page (page_number b.addr)))
+steps_absent (a ∷ b ∷ c ∷ []) s few = fun_ext (λ page.
+    pages3 (s.absent page) (page == page_number a.addr) (page == page_number b.addr) (page == page_number c.addr)
+    ∙ ap (λ (t : Bool). s.absent page && not (t || (page == page_number b.addr || (page == page_number c.addr || false)))) (eq_turned page (page_number a.addr))
+    ∙ ap (λ (t : Bool). s.absent page && not (page_number a.addr == page || (t || (page == page_number c.addr || false)))) (eq_turned page (page_number b.addr))
+    ∙ ap (λ (t : Bool). s.absent page && not (page_number a.addr == page || (page_number b.addr == page || (t || false)))) (eq_turned page (page_number c.addr)))
+steps_absent (a ∷ b ∷ c ∷ d ∷ xs) s few = absurd (omega arith)
+
+-- each pending transaction can be served
+at_place : (P : Access → Type 0) (xs : List Access) (k : ℕ) → All P xs → IfSome (slice_get xs k) P
+at_place P [] k h = tt
+at_place P (x ∷ xs) zero h = All-head P x xs h
+at_place P (x ∷ xs) (suc k) h = at_place P xs k (All-tail P x xs h)
+
+from_access : (ready : ℕ → Bool) (o : Option Access) → IfSome o IsWordAccess → IfSome o (HasReadyPage ready) →
+    CanServeTriple ready (triple_or_none o)
+from_access ready None made prepared = λ v. absurd cc
+from_access ready (Some a) made prepared = λ v.
+    subst (λ (x : Access). CanServe ready x) (sym (told_of a made))
+    (record { word = made.0; enable = made.1; prepared = prepared })
+
+pub can_serve : (ready : ℕ → Bool) (xs : List Access) (k : ℕ) (t : Triple) → t ≡ triple_or_none (slice_get xs k) →
+    All IsWordAccess xs →
+    All (HasReadyPage ready) xs →
+    CanServeTriple ready t
+can_serve ready xs k t e made prepared =
+    subst (λ (u : Triple). CanServeTriple ready u) (sym e)
+    (from_access ready (slice_get xs k) (at_place IsWordAccess xs k made) (at_place (HasReadyPage ready) xs k prepared))
+
+-- all together
+pub served_cells : (xs : List Access) (s : Serving) →
+    s.control.t0 ≡ triple_or_none (slice_get xs 0) →
+    s.control.t1 ≡ triple_or_none (slice_get xs 1) →
+    s.control.t2 ≡ triple_or_none (slice_get xs 2) →
+    All IsWordAccess xs →
+    length xs ≤ 3 →
+    record { regs = (after_service s).numbers; bus = (after_service s).bus }
+    ≡ after_accesses xs (record { regs = s.numbers; bus = s.bus })
+unfolding cells_in
+served_cells xs s e0 e1 e2 made few = ap cells_in (three_steps xs s e0 e1 e2 made) ∙ steps_cells xs s few
+
+pub served_absent : (xs : List Access) (s : Serving) →
+    s.control.t0 ≡ triple_or_none (slice_get xs 0) →
+    s.control.t1 ≡ triple_or_none (slice_get xs 1) →
+    s.control.t2 ≡ triple_or_none (slice_get xs 2) →
+    All IsWordAccess xs →
+    length xs ≤ 3 →
+    (after_service s).absent ≡ (λ page. s.absent page && not (touches_page xs page))
+served_absent xs s e0 e1 e2 made few =
+    ap (λ (u : Serving). u.absent) (three_steps xs s e0 e1 e2 made) ∙ steps_absent xs s few

@@ -1,0 +1,157 @@
+-- A board before its first event: what always holds of it, and that it stands at the first moment.
+use Rattle.std.specs.Prelude.{ℕ, Bool, true, false, not, List, [], None, ◌≡◌, ◌≤◌, ◌&&◌, replicate, unwrap_or}
+use Rattle.std.proofs.Common.{arith, refl, sym, ap, ◌∙◌}
+use Rattle.std.proofs.Math.Path.{fun_ext}
+use Rattle.std.proofs.lemmas.List.Elements.{All-nil}
+use Rattle.m88_base.specs.Image.{ProgramImage}
+use Rattle.m88_ctrl.specs.ControlRegisters.{ControlRegisters, at_start}
+use Rattle.m88_event.specs.Local.{Local, local_at}
+use Rattle.m88_event.specs.Shadow.{no_pointer}
+use Rattle.m88_event.specs.declared.record.Record.{Record}
+use Rattle.m88_isa.specs.declared.planned.Access.{Access}
+use Rattle.m88_event.specs.Timeline.{opening_moment, xip_at}
+use Rattle.m88_isa.specs.Address.{after_bytes, word_address}
+use Rattle.m88_isa.specs.Bus.{after_accesses, bus_after_all, in_words}
+use Rattle.m88_isa.specs.History.{completed_state, transactions}
+use Rattle.m88_isa.specs.Machine.{Program, opening, state}
+use Rattle.m88_isa.specs.Memory.{IsWordAccess}
+use Rattle.m88_iunit.specs.Pointers.{Pointers, at_entry, word_behind}
+use Rattle.m88_mem.specs.DataBus.{MemoryView, absent_of, bus_of, image_bus, image_bytes, ready_of}
+use Rattle.m88_scoreboard.specs.Registers.{Registers, none_waits, waiting_of}
+use Rattle.m88_board.proofs.Keeping.{none_wait_for_none}
+use Rattle.m88_board.specs.Board.{BoardView, completed_of, local_of}
+use Rattle.m88_board.specs.ImageOf.{IsImageOf}
+use Rattle.m88_board.specs.Kept.{HasReadyPage, IsKept, lacks_word, most_retired}
+use Rattle.m88_board.specs.Moves.{IsAt}
+
+-- such a board by its parts
+abbrev pub starting : ℕ → Pointers → Registers → MemoryView → BoardView
+starting limit slots file memory = record {
+  limit = limit;
+  slots = slots;
+  pending = [];
+  file = file;
+  memory = memory;
+  control = at_start;
+  out = [];
+  retired = 0;
+  done = 0;
+  events = 0;
+  answers = 0;
+  ended = None;
+  records = [];
+}
+
+-- what holds of it holds of any board whose parts are these
+pub made : (P : BoardView → Type 0) (limit : ℕ) (slots seen : Pointers) (pending : List Access) (file : Registers)
+    (memory : MemoryView) (control : ControlRegisters) (out : List ℕ) (records : List Record) →
+    slots ≡ seen →
+    pending ≡ [] →
+    control ≡ at_start →
+    out ≡ [] →
+    records ≡ [] →
+    P (starting limit seen file memory) →
+    P (record {
+      limit = limit;
+      slots = slots;
+      pending = pending;
+      file = file;
+      memory = memory;
+      control = control;
+      out = out;
+      retired = 0;
+      done = 0;
+      events = 0;
+      answers = 0;
+      ended = None;
+      records = records;
+    })
+made P limit slots seen pending file memory control out records s p c o r known = rw (s, p, c, o, r) known
+
+-- what always holds
+pub kept : (limit entry : ℕ) (e0 e1 : Bool) (file : Registers) (memory : MemoryView) → limit ≤ most_retired →
+    waiting_of file ≡ none_waits →
+    e0 ≡ lacks_word memory.image entry →
+    e1 ≡ lacks_word memory.image (word_behind entry) →
+    IsKept (starting limit (at_entry entry e0 e1) file memory)
+kept limit entry e0 e1 file memory small none first second = record {
+  parts = record {
+    few = omega arith;
+    made = All-nil IsWordAccess;
+    apart = tt;
+    waiting = none ∙ none_wait_for_none;
+    ready = All-nil (HasReadyPage (ready_of memory));
+  };
+  slots = record { nip = rw first refl; fip = rw second refl };
+  status = refl;
+  drained = λ h. refl;
+  made = omega arith;
+  answered = omega arith;
+  faulted = omega arith;
+  within = omega arith;
+  small = small;
+  counted = omega arith;
+}
+
+-- what is seen of it by its registers, words, absent pages and start
+abbrev seen_at : List ℕ → (ℕ → ℕ) → (ℕ → Bool) → ℕ → Local
+seen_at numbers bus absent entry = record {
+  completed = record { regs = numbers; carry = false; pc = entry; next = after_bytes entry 4; bus = bus; out = [] };
+  bus = bus;
+  pending = [];
+  xip = no_pointer;
+  bubble = false;
+  ended = false;
+  absent = absent;
+  retired = 0;
+  done = 0;
+  events = 0;
+  answers = 0;
+  records = [];
+}
+
+-- a page that is absent
+still_absent : (t : Bool) → t ≡ (t && not false)
+still_absent true = refl
+still_absent false = refl
+
+-- the bytes of the program are those of the image
+same_bytes : (p : Program) (image : ProgramImage) → IsImageOf p image →
+    image_bus image ≡ in_words (λ a. unwrap_or (p.byte a) 0)
+unfolding image_bytes
+same_bytes p image of = ap in_words (fun_ext (λ a. ap (λ b. unwrap_or b 0) (sym (of.bytes a))))
+
+board_seen : (limit entry : ℕ) (e0 e1 : Bool) (file : Registers) (memory : MemoryView) →
+    local_of (starting limit (at_entry entry e0 e1) file memory)
+    ≡ seen_at file.numbers (bus_of memory) (absent_of memory) entry
+unfolding local_of completed_of after_accesses bus_of
+board_seen limit entry e0 e1 file memory = refl
+
+moment_seen : (p : Program) (named : ℕ → Bool) →
+    local_at p named opening_moment
+    ≡ seen_at (replicate 32 0) (in_words (λ a. unwrap_or (p.byte a) 0)) (λ page. named page && not false)
+    (word_address p.start)
+unfolding local_at completed_state state opening transactions xip_at bus_after_all
+moment_seen p named = refl
+
+-- it stands at the first moment
+pub opens : (p : Program) (named : ℕ → Bool) (limit entry : ℕ) (e0 e1 : Bool) (file : Registers) (memory : MemoryView) →
+    file.numbers ≡ replicate 32 0 →
+    bus_of memory ≡ image_bus memory.image →
+    absent_of memory ≡ named →
+    entry ≡ word_address memory.image.start →
+    IsImageOf p memory.image →
+    IsAt p named opening_moment (starting limit (at_entry entry e0 e1) file memory)
+unfolding transactions
+opens p named limit entry e0 e1 file memory numbers bus absent start of = record {
+  image = of;
+  within = omega arith;
+  seen = board_seen limit entry e0 e1 file memory
+      ∙ ap (λ ns. seen_at ns (bus_of memory) (absent_of memory) entry) numbers
+      ∙ ap (λ b. seen_at (replicate 32 0) b (absent_of memory) entry) (bus ∙ same_bytes p memory.image of)
+      ∙ ap (λ t. seen_at (replicate 32 0) (in_words (λ a. unwrap_or (p.byte a) 0)) t entry)
+      (absent ∙ fun_ext (λ page. still_absent (named page)))
+      ∙ ap (λ e. seen_at (replicate 32 0) (in_words (λ a. unwrap_or (p.byte a) 0)) (λ page. named page && not false) e)
+      (start ∙ ap word_address (sym of.start))
+      ∙ sym (moment_seen p named);
+}

@@ -1,0 +1,17 @@
+-- The oldest transaction is answered or finished with all others.
+use Rattle.std.proofs.Common.{◌≡◌, ◌∙◌, sym, subst, refl, Some, false}
+use Rattle.std.specs.Prelude.{slice_get}
+use Rattle.m88_event.specs.Local.{record_by}
+use Rattle.m88_isa.specs.Bus.{page_number}
+use Rattle.m88_mem.specs.DataBus.{absent_of}
+use Rattle.m88_board.specs.Board.{BoardView, local_of}
+use Rattle.m88_board.proofs.Choosing.{answer_is, did_by}
+use Rattle.m88_board.proofs.board.Board.answer.Goals as goal
+
+pub returns-clause-ok : goal.returns-clause-ok
+returns-clause-ok c = λ p of.
+    let oldest = subst (λ (b : BoardView). Some c.in-Some.oldest ≡ slice_get b.pending 0) c.self.view_is (sym c.in-Some.is ∙ c.oldest.ensures.value) in
+    let present = subst (λ (b : BoardView). c.is_absent.result ≡ absent_of b.memory (page_number c.in-Some.oldest.addr)) c.self.view_is c.is_absent.ensures in
+    did_by _ _ (record_by p c.args.self.now.limit (local_of c.args.self.now)) c.args.self.now _ c.reply.new.self
+    (answer_is c.args.self.now.pending c.in-Some.oldest (absent_of c.args.self.now.memory) false oldest (sym present ∙ c.if-is_absent.false))
+    (record { says = refl; does = c.reply.ensures.does (record_by p c.args.self.now.limit (local_of c.args.self.now)) })

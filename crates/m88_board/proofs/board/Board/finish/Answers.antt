@@ -1,0 +1,15 @@
+-- The program has ended.
+use Rattle.std.proofs.Common.{ap}
+use Rattle.m88_ctrl.specs.ControlRegisters.{ControlRegisters}
+use Rattle.m88_event.specs.declared.happened.Happened.TheVariants as happened
+use Rattle.m88_board.proofs.Keeping.{carry_entered}
+use Rattle.m88_board.proofs.Steps.{finished}
+use Rattle.m88_board.specs.contracts.board.Board.{the_view}
+use Rattle.m88_board.proofs.board.Board.finish.Goals as goal
+
+pub returns : goal.returns
+returns c = λ stop fault is. rw (← c.self.view_is) (record {
+  says = ap happened.Ended is;
+  does = finished fault stop (the_view c.self.inside) c.enter.new.self c.args.end
+      (carry_entered c.self.inside.ctrl c.enter.new.self (ap (λ (r : ControlRegisters). r.psr) c.enter.ensures.state));
+})

@@ -1,0 +1,81 @@
+-- A board as contracts see it, and what it looks like from outside: the state that its pending transactions lead to is
+-- computed from them.
+use Rattle.std.specs.Prelude.{ℕ, Bool, not, List, Option, ◌==◌, ◌||◌, is_some, if◌then◌else◌}
+use Rattle.m88_ctrl.specs.ControlRegisters.{ControlRegisters, carry_of}
+use Rattle.m88_event.specs.Local.{Local}
+use Rattle.m88_event.specs.Shadow.{Pointer}
+use Rattle.m88_event.specs.declared.happened.End.{End}
+use Rattle.m88_event.specs.declared.record.Record.{Record}
+use Rattle.m88_isa.specs.Address.{after_bytes}
+use Rattle.m88_isa.specs.Bus.{Cells, after_accesses}
+use Rattle.m88_isa.specs.History.{Completed}
+use Rattle.m88_isa.specs.declared.planned.Access.{Access}
+use Rattle.m88_iunit.specs.Pointers.{Pointers}
+use Rattle.m88_iunit.specs.declared.slot.Slot.{Slot}
+use Rattle.m88_mem.specs.DataBus.{MemoryView, absent_of, bus_of}
+use Rattle.m88_scoreboard.specs.Registers.{Registers}
+
+-- the most instructions that it may retire, its parts, the output, the counts of instructions retired, transactions
+-- answered or finished, events, and transactions answered with data, how the program ended, if it has, and the records
+-- of the data faults
+pub record BoardView : Type 0 where
+  pub limit : ℕ
+  pub slots : Pointers
+  pub pending : List Access
+  pub file : Registers
+  pub memory : MemoryView
+  pub control : ControlRegisters
+  pub out : List ℕ
+  pub retired : ℕ
+  pub done : ℕ
+  pub events : ℕ
+  pub answers : ℕ
+  pub ended : Option End
+  pub records : List Record
+
+-- the registers and the words of a register file and a memory
+abbrev pub cells_of : Registers → MemoryView → Cells
+cells_of file memory = record { regs = file.numbers; bus = bus_of memory }
+
+-- the address of the next instruction that isn't passed over, and of the one that follows it
+abbrev pub pc_of : Pointers → ℕ
+pc_of slots = if slots.nip.v then slots.nip.addr else slots.fip.addr
+
+abbrev pub next_of : Pointers → ℕ
+next_of slots = if slots.nip.v then slots.fip.addr else after_bytes slots.fip.addr 4
+
+-- a slot as the timeline has it
+abbrev pub pointer_of : Slot → Pointer
+pointer_of slot = record { address = slot.addr; valid = slot.v; failed = slot.e }
+
+-- the state once the pending transactions are done
+unfoldable pub completed_of : BoardView → Completed
+completed_of b = record {
+  regs = (after_accesses b.pending (cells_of b.file b.memory)).regs;
+  carry = carry_of b.control;
+  pc = pc_of b.slots;
+  next = next_of b.slots;
+  bus = (after_accesses b.pending (cells_of b.file b.memory)).bus;
+  out = b.out;
+}
+
+-- what it looks like from outside
+unfoldable pub local_of : BoardView → Local
+local_of b = record {
+  completed = completed_of b;
+  bus = bus_of b.memory;
+  pending = b.pending;
+  xip = pointer_of b.slots.xip;
+  bubble = not b.slots.nip.v;
+  ended = is_some b.ended;
+  absent = absent_of b.memory;
+  retired = b.retired;
+  done = b.done;
+  events = b.events;
+  answers = b.answers;
+  records = b.records;
+}
+
+-- no more may be issued
+abbrev pub is_idle_board : BoardView → Bool
+is_idle_board b = is_some b.ended || b.retired == b.limit

@@ -1,0 +1,4 @@
+pub mod ImageOf
+pub mod Board
+pub mod Kept
+pub mod Moves

@@ -1,0 +1,66 @@
+-- What an event makes of a board.
+use Rattle.std.specs.Prelude.{ℕ, Bool, true, not, List, ◌≡◌, ◌%◌, if◌then◌else◌}
+use Rattle.m88_event.specs.Choice.{Choice, finishes, holds, said}
+use Rattle.m88_event.specs.Local.{local_at, move, move_by, said_by}
+use Rattle.m88_event.specs.Shadow.{retired_pointer}
+use Rattle.m88_event.specs.Timeline.{DoneWereMade, Moment}
+use Rattle.m88_event.specs.declared.happened.Happened.{Happened}
+use Rattle.m88_event.specs.declared.letter.Letter.{Letter}
+use Rattle.m88_event.specs.declared.record.Record.{Record}
+use Rattle.m88_isa.specs.Address.{after_bytes}
+use Rattle.m88_isa.specs.Held.{is_pending, sync}
+use Rattle.m88_iunit.specs.Pointers.{Pointers}
+use Rattle.m88_isa.specs.Machine.{Program, Stop}
+use Rattle.m88_isa.specs.declared.planned.Access.{Access}
+use Rattle.m88_board.specs.Board.{BoardView, local_of, next_of, pc_of, pointer_of}
+use Rattle.m88_board.specs.ImageOf.{IsImageOf}
+
+-- the slots after an instruction that goes on: it is XIP, and these are next
+pub record IsAdvanced (old new : Pointers) (pc next : ℕ) (bubble : Bool) : Type 0 where
+  pub xip : pointer_of new.xip ≡ retired_pointer (pc_of old)
+  pub here : pc_of new ≡ pc
+  pub behind : next_of new ≡ next
+  pub bubble_is : not new.nip.v ≡ bubble
+
+-- where an instruction goes on: at words, and behind a target comes the word behind it where one that was fetched is
+-- passed over
+pub record FlowFits (after : ℕ × ℕ) (bubble : Bool) : Type 0 where
+  pub here : after.0 % 4 ≡ 0
+  pub behind : after.1 % 4 ≡ 0
+  pub straight : bubble ≡ true → after.1 ≡ after_bytes after.0 4
+
+-- the same image and the same limit
+pub record IsSameRun (old new : BoardView) : Type 0 where
+  pub limit : new.limit ≡ old.limit
+  pub image : new.memory.image ≡ old.memory.image
+
+-- a board did what a choice makes of it, but for the count of events
+pub record Does (choice : Choice) (fault : Record) (old new : BoardView) : Type 0 where
+  pub moved : local_of new ≡ move_by choice fault (local_of old)
+  pub same : IsSameRun old new
+
+-- and says so
+pub record Did (choice : Choice) (fault : Record) (old : BoardView) (happened : Happened) (new : BoardView) : Type 0 where
+  pub says : happened ≡ said choice fault
+  pub does : Does choice fault old new
+
+-- an event of a letter: the move of what is seen, and what it says
+pub record IsMove (p : Program) (letter : Letter) (old : BoardView) (happened : Happened) (new : BoardView) : Type 0 where
+  pub says : happened ≡ said_by p old.limit letter (local_of old)
+  pub moved : local_of new ≡ move p old.limit letter (local_of old)
+  pub same : IsSameRun old new
+
+-- a board stands at a moment of a program that its image holds
+pub record IsAt (p : Program) (named : ℕ → Bool) (m : Moment) (b : BoardView) : Type 0 where
+  pub image : IsImageOf p b.memory.image
+  pub within : DoneWereMade p m
+  pub seen : local_of b ≡ local_at p named m
+
+-- what is seen of it stays: memory ran out
+pub record IsUnmoved (old new : BoardView) : Type 0 where
+  pub seen : local_of new ≡ local_of old
+  pub same : IsSameRun old new
+
+-- what raises waits for an empty data unit, and then ends the program
+abbrev pub stopping : Stop → List Access → Choice
+stopping stop pending = if is_pending pending then holds sync else finishes stop

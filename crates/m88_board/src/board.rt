@@ -1,0 +1,393 @@
+//! The board: its parts, and what a choice makes of them.
+
+ghost use Rattle.std.specs.Prelude.{ℕ, Bool, ◌&&◌, option_map, ◌≡◌, ◌<◌, ◌≤◌, ◌+◌, ◌*◌, ◌%◌, ◌++◌, [], Option, Some, None, true, false, length, slice_get, IfOk, IfSome, OnErr, OnOk};
+ghost use Rattle.m88_base.specs.Reg.{number_of};
+ghost use Rattle.m88_event.specs.Choice.{answer_choice, end_by, faults, finishes, issues, passes, replies, serves, turn_choice};
+ghost use Rattle.m88_event.specs.Local.{record_by};
+ghost use Rattle.m88_event.specs.Timeline.{Moment, after_letter, opening_moment};
+ghost use Rattle.m88_event.specs.declared.letter.Letter.{Letter as LetterValue};
+ghost use Rattle.m88_event.specs.declared.record.Record.{Record as RecordValue};
+ghost use Rattle.m88_isa.specs.Bus.{page_number, LoadApart, listed, waits_for};
+ghost use Rattle.m88_mem.specs.DataBus.{absent_of};
+ghost use Rattle.m88_mem.specs.Marks.{NamesPages, absent_in};
+ghost use Rattle.m88_isa.specs.Effect.{Change, recorded_change};
+ghost use Rattle.m88_isa.specs.Held.{busy_register, involves, most_pending};
+ghost use Rattle.m88_isa.specs.Machine.{IsProgram, Program, Stop, by_vector, trapped};
+ghost use Rattle.m88_isa.specs.Instr.{IsValid};
+ghost use Rattle.m88_board.specs.Board.{is_idle_board, local_of, pc_of};
+ghost use Rattle.m88_board.specs.ImageOf.{IsImageOf};
+ghost use Rattle.std.specs.Int.{bit_at};
+ghost use Rattle.m88_dunit.specs.Pending.{CanIssue};
+ghost use Rattle.m88_iunit.specs.Pointers.{resumed};
+ghost use Rattle.m88_board.specs.Kept.{epsr_of, most_events, most_retired};
+ghost use Rattle.m88_board.specs.Moves.{Did, Does, FlowFits, IsAt, IsMove, IsUnmoved, stopping};
+
+use crate::unit::{advance, complete, lacks_word, prepare, put_in, serve_all, visit, write};
+use m88_base::{Absent, Image, NoMemory, Reg};
+use m88_ctrl::{Control, Frame};
+use m88_dunit::DataUnit;
+use m88_event::{End, Happened, Record, Why};
+use m88_isa::{Access, Effect, Instr, uses, writes};
+use m88_iunit::InstrUnit;
+use m88_mem::{Memory, PAGE_BYTES};
+use m88_monitor::{Service, service};
+use m88_scoreboard::RegFile;
+use std::alloc::Global;
+use std::marker::Model;
+
+/// The number of PSR, the status of a program that runs.
+const PSR: u8 = 1;
+
+/// The number of EPSR, the status of a program that ended.
+const EPSR: u8 = 2;
+
+/// The board. It holds its image once, in its memory.
+#[derive(Drop)]
+pub struct Board {
+    limit: u32,
+    iunit: InstrUnit,
+    dunit: DataUnit,
+    regs: RegFile,
+    memory: Memory,
+    ctrl: Control,
+    out: Vec<u8>,
+    retired: u32,
+    done: u32,
+    events: u64,
+    answers: u32,
+    ended: Option<End>,
+    records: Vec<Record>,
+}
+
+impl Model for Board {
+    ghost use Rattle.m88_board.specs.Board.{BoardView};
+    ghost use Rattle.m88_board.specs.Kept.{IsKept};
+
+    ghost Value = { BoardView };
+
+    ghost view = { λ b. record {
+      limit = b.limit;
+      slots = b.iunit;
+      pending = b.dunit;
+      file = b.regs;
+      memory = b.memory;
+      control = b.ctrl;
+      out = b.out.items;
+      retired = b.retired;
+      done = b.done;
+      events = b.events;
+      answers = b.answers;
+      ended = b.ended;
+      records = b.records.items;
+    } };
+
+    ghost invariant = { λ b. IsKept (record {
+      limit = b.limit;
+      slots = b.iunit;
+      pending = b.dunit;
+      file = b.regs;
+      memory = b.memory;
+      control = b.ctrl;
+      out = b.out.items;
+      retired = b.retired;
+      done = b.done;
+      events = b.events;
+      answers = b.answers;
+      ended = b.ended;
+      records = b.records.items;
+    }) };
+}
+
+impl Board {
+    /// A board over an image, before its first event: the pages that are named are absent, and it retires at most
+    /// `limit` instructions.
+    pub fn new(alloc: Global, image: &Image, absent: &Absent, limit: u32) -> Result<Board, NoMemory>
+        requires pages { NamesPages absent.now }
+        requires small { limit ≤ most_retired }
+        ensures limit { IfOk result (λ b. b.limit ≡ limit) }
+        ensures at { IfOk result (λ b. (p : Program) → IsImageOf p image.now
+            → IsAt p (absent_in absent.now) opening_moment b) }
+    {
+        let memory = Memory::new(alloc, image, absent)?;
+        let entry = image.start() / 4 * 4;
+        let e0 = lacks_word(&memory, entry);
+        let e1 = lacks_word(&memory, entry.wrapping_add(4));
+        Ok(Board {
+            limit,
+            iunit: InstrUnit::new(entry, e0, e1),
+            dunit: DataUnit::new(),
+            regs: RegFile::new(),
+            memory,
+            ctrl: Control::new(),
+            out: Vec::new(alloc),
+            retired: 0,
+            done: 0,
+            events: 0,
+            answers: 0,
+            ended: None,
+            records: Vec::new(alloc),
+        })
+    }
+
+    /// Whether the next event may issue nothing: the program has ended, or the limit is reached.
+    fn is_idle(&self) -> bool
+        ensures { result ≡ is_idle_board self.now }
+    {
+        self.ended.is_some() || self.retired == self.limit
+    }
+
+    /// Passes the instruction behind a taken branch over.
+    fn pass(&mut self)
+        requires { self.old.slots.nip.v ≡ false }
+        ensures { (fault : RecordValue) → Does passes fault self.old self.new }
+    {
+        let then = self.iunit.following().addr.wrapping_add(4);
+        let lacks = self.memory.fetch(then).is_none();
+        self.iunit.pass_bubble(lacks);
+    }
+
+    /// The record that a data fault now would leave.
+    pub fn pipe(&self) -> Record
+        ensures value { (p : Program) → IsImageOf p self.now.memory.image
+            → result ≡ record_by p self.now.limit (local_of self.now) }
+        ensures resumes { resumed self.now.slots result.snip result.sfip ≡ self.now.slots }
+        ensures ssbr { bit_at result.ssbr 0 ≡ 0 }
+    {
+        let (sxip, snip, sfip) = self.iunit.shadow();
+        Record {
+            event: self.events + 1,
+            epsr: self.status(),
+            sxip,
+            snip,
+            sfip,
+            ssbr: self.regs.busy(),
+            triples: self.dunit.triples(),
+        }
+    }
+
+    /// The status of the program: PSR, or EPSR once it has ended.
+    fn status(&self) -> u32
+        ensures { result ≡ epsr_of self.now }
+    {
+        let number = if self.ended.is_some() { EPSR } else { PSR };
+        match self.ctrl.ldcr(number) {
+            Some(status) => status,
+            None => unreachable!(),
+        }
+    }
+
+    /// Answers the oldest transaction, whose page is present.
+    fn reply(&mut self, oldest: &Access)
+        requires oldest { slice_get self.old.pending 0 ≡ Some oldest.now }
+        requires present { absent_of self.old.memory (page_number oldest.now.addr) ≡ false }
+        ensures does { (fault : RecordValue) → Does replies fault self.old self.new }
+        ensures events { self.new.events ≡ self.old.events }
+    {
+        complete(oldest, &mut self.dunit, &mut self.memory, &mut self.regs);
+        self.done += 1;
+        self.answers += 1;
+    }
+
+    /// The oldest transaction meets an absent page: the record stays, and the monitor finishes all that are
+    /// pending.
+    fn fault(&mut self) -> Result<Record, NoMemory>
+        requires { 0 < length self.old.pending }
+        ensures record { IfOk result (λ fault. (p : Program) → IsImageOf p self.old.memory.image
+            → fault ≡ record_by p self.old.limit (local_of self.old)) }
+        ensures does { IfOk result (λ fault. Does faults fault self.old self.new) }
+        ensures events { self.new.events ≡ self.old.events }
+        ensures err { OnErr result (IsUnmoved self.old self.new) }
+    {
+        let fault = self.pipe();
+        if self.records.push(fault).is_err() {
+            return Err(NoMemory);
+        }
+        let (done, snip, sfip) = serve_all(
+            fault,
+            &mut self.dunit,
+            &mut self.ctrl,
+            &mut self.regs,
+            &mut self.memory,
+        );
+        self.iunit.resume(snip, sfip);
+        self.done += u32::from(done);
+        Ok(fault)
+    }
+
+    /// The letter `r`.
+    fn answer(&mut self) -> Result<Happened, NoMemory>
+        ensures ok { IfOk result (λ happened. (p : Program) → IsImageOf p self.old.memory.image
+            → Did (answer_choice self.old.pending (absent_of self.old.memory))
+            (record_by p self.old.limit (local_of self.old)) self.old happened self.new) }
+        ensures events { self.new.events ≡ self.old.events }
+        ensures err { OnErr result (IsUnmoved self.old self.new) }
+    {
+        let Some(oldest) = self.dunit.oldest() else {
+            return Ok(Happened::Idle);
+        };
+        if self.memory.is_absent(oldest.addr / PAGE_BYTES) {
+            let fault = self.fault()?;
+            return Ok(Happened::Faulted(fault));
+        }
+        self.reply(&oldest);
+        Ok(Happened::Answered)
+    }
+
+    /// The program ends by a vector, with nothing pending.
+    fn finish(&mut self, vector: u16, end: End) -> Happened
+        requires vector { vector < 512 }
+        requires going { is_idle_board self.old ≡ false }
+        requires empty { self.old.pending ≡ [] }
+        ensures { (stop : Stop) (fault : RecordValue) → end ≡ end_by stop
+            → Did (finishes stop) fault self.old result self.new }
+    {
+        let fault = self.pipe();
+        let triples = fault.triples;
+        let frame = Frame {
+            ssbr: fault.ssbr,
+            sxip: fault.sxip,
+            snip: fault.snip,
+            sfip: fault.sfip,
+            triples,
+        };
+        self.ctrl.enter(vector, &frame);
+        self.ended = Some(end);
+        Happened::Ended(end)
+    }
+
+    /// Puts a byte out for the next instruction.
+    fn put_out(&mut self, byte: u8) -> Result<Happened, NoMemory>
+        requires going { is_idle_board self.old ≡ false }
+        requires valid { self.old.slots.nip.v ≡ true }
+        requires fetched { self.old.slots.nip.e ≡ false }
+        ensures ok { IfOk result (λ happened. (fault : RecordValue)
+            → Did (serves byte) fault self.old happened self.new) }
+        ensures err { OnErr result (IsUnmoved self.old self.new) }
+    {
+        if self.out.push(byte).is_err() {
+            return Err(NoMemory);
+        }
+        let next = self.iunit.following().addr;
+        advance(
+            &mut self.iunit,
+            &self.memory,
+            (next, next.wrapping_add(4)),
+            false,
+        );
+        self.retired += 1;
+        visit(&mut self.ctrl, &self.iunit);
+        Ok(Happened::Served(byte))
+    }
+
+    /// Issues the next instruction.
+    fn go(&mut self, effect: &Effect) -> Result<(), NoMemory>
+        requires going { is_idle_board self.old ≡ false }
+        requires valid { self.old.slots.nip.v ≡ true }
+        requires fetched { self.old.slots.nip.e ≡ false }
+        requires flow { FlowFits effect.now.after effect.now.bubble }
+        requires can { CanIssue effect.now.accesses }
+        requires room { length self.old.pending + effect.now.accesses.count ≤ most_pending }
+        requires free { IfSome effect.now.reg (λ w. waits_for self.old.pending (number_of w.0) ≡ false) }
+        requires apart { LoadApart (self.old.pending ++ listed effect.now.accesses) }
+        ensures ok { OnOk result ((change : Change) (fault : RecordValue)
+            → effect.now ≡ recorded_change change → length change.touches ≤ 2
+            → Does (issues change) fault self.old self.new) }
+        ensures err { OnErr result (IsUnmoved self.old self.new) }
+    {
+        prepare(&mut self.memory, &effect.accesses)?;
+        write(&mut self.regs, effect.reg);
+        put_in(&mut self.dunit, &mut self.regs, &effect.accesses);
+        self.ctrl.set_carry(effect.carry);
+        advance(&mut self.iunit, &self.memory, effect.after, effect.bubble);
+        self.retired += 1;
+        Ok(())
+    }
+
+    /// The next word can't be fetched or is no instruction, or the next instruction raises: the program ends by
+    /// this vector, or waits for an empty data unit.
+    fn raise(&mut self, vector: u16) -> Happened
+        requires vector { vector < 512 }
+        requires going { is_idle_board self.old ≡ false }
+        requires valid { self.old.slots.nip.v ≡ true }
+        ensures { (fault : RecordValue) → Did
+            (stopping (by_vector vector (pc_of self.old.slots)) self.old.pending)
+            fault self.old result self.new }
+    {
+        if self.dunit.oldest().is_some() {
+            return Happened::Stalled(Why::Sync);
+        }
+        let at = self.iunit.candidate().addr;
+        self.finish(vector, End::Vector { vector, at })
+    }
+
+    /// The next instruction is a taken trap, and nothing is pending.
+    fn trap(&mut self, vector: u16) -> Result<Happened, NoMemory>
+        requires vector { vector < 512 }
+        requires going { is_idle_board self.old ≡ false }
+        requires valid { self.old.slots.nip.v ≡ true }
+        requires fetched { self.old.slots.nip.e ≡ false }
+        requires empty { self.old.pending ≡ [] }
+        ensures ok { IfOk result (λ happened. (fault : RecordValue) → Did
+            (turn_choice (trapped vector self.old.file.numbers (pc_of self.old.slots)))
+            fault self.old happened self.new) }
+        ensures err { OnErr result (IsUnmoved self.old self.new) }
+    {
+        let at = self.iunit.candidate().addr;
+        match service(vector, &self.regs) {
+            Service::Out(byte) => self.put_out(byte),
+            Service::End => Ok(self.finish(vector, End::Exit { at })),
+            Service::Unserved => Ok(self.finish(vector, End::Vector { vector, at })),
+        }
+    }
+
+    /// Whether an instruction uses or writes a register that waits.
+    fn waits_on(&self, instr: &Instr, r: Reg) -> bool
+        requires { IsValid instr.now }
+        ensures { result
+            ≡ (involves (Some instr.now) (number_of r) && waits_for self.now.pending (number_of r)) }
+    {
+        if self.regs.get(r).is_ok() {
+            return false;
+        }
+        let n = r.number();
+        (uses(instr) >> n) % 2 == 1 || (writes(instr) >> n) % 2 == 1
+    }
+
+    /// The register with the least number, other than r0, that an instruction uses or writes and that waits.
+    fn busy_register(&self, instr: &Instr) -> Option<Reg>
+        requires { IsValid instr.now }
+        ensures { option_map number_of result ≡ busy_register (Some instr.now) self.now.pending }
+    {
+        for n in 1..32 {
+            let r = Reg::from_low_bits(n);
+            if self.waits_on(instr, r) {
+                return Some(r);
+            }
+        }
+        None
+    }
+
+    /// One more event is counted.
+    fn count(&mut self)
+        requires { self.old.events < most_events }
+        ensures { self.new ≡ record self.old { events = self.old.events + 1 } }
+    {
+        self.events += 1;
+    }
+
+    /// Makes the event of the letter `r`: the oldest transaction is answered, or meets its fault. Memory is taken
+    /// before anything changes: where it runs out, what is seen of the board is as before, and no event is counted.
+    pub fn take_answer(&mut self) -> Result<Happened, NoMemory>
+        requires { self.old.events < most_events }
+        ensures moved { IfOk result (λ happened. (p : Program) → IsImageOf p self.old.memory.image
+            → IsMove p LetterValue.Answer self.old happened self.new) }
+        ensures timeline { OnOk result ((p : Program) (named : ℕ → Bool) (m : Moment) → IsProgram p
+            → IsAt p named m self.old
+            → IsAt p named (after_letter p named self.old.limit LetterValue.Answer m) self.new) }
+        ensures err { OnErr result (IsUnmoved self.old self.new) }
+    {
+        let happened = self.answer()?;
+        self.count();
+        Ok(happened)
+    }
+}
