@@ -16,7 +16,7 @@ invariant_of-result c =
     made IsKept c.args.limit c.new-2.result _ c.new-3.result c.new-4.result c.in_ok-memory.memory c.new-5.result
     c.new-6.result.items c.new-7.result.items c.new-2.ensures c.new-3.ensures c.new-5.ensures c.new-6.ensures.items
     c.new-7.ensures.items
-    (kept c.args.limit (c.start.result / 4 * 4) c.lacks_word-e0.result c.lacks_word-e1.result c.new-4.result
+    (kept c.args.limit _ _ _ c.new-4.result
     c.in_ok-memory.memory c.requires.small c.new-4.ensures.waiting c.lacks_word-e0.ensures c.lacks_word-e1.ensures)
 
 pub returns-clause-at : goal.returns-clause-at
