@@ -362,71 +362,86 @@ fn words_that_are_not_0_are_patched_in_order(rt: HostRuntime) -> Result<(), Fail
     Ok(())
 }
 
-/// Two objects that are refused: other sections and symbols of the first one, its relocations, other
-/// sections and symbols of the second one, and the line, column and kind that are told.
-type RefusedRow<'a> = (
-    &'a [AtRow<'a>],
-    &'a [SymbolRow<'a>],
-    &'a [RelocRow<'a>],
-    &'a [AtRow<'a>],
-    &'a [SymbolRow<'a>],
-    (u32, u32, LinkKind),
-);
+/// Two objects are refused at a place for a reason.
+fn expect_refusal_of_two(
+    rt: &impl Abort,
+    alloc: Global,
+    first: Object,
+    second: Object,
+    fault: LinkFault,
+) -> Result<(), Fail> {
+    let mut objects = Vec::new(alloc);
+    objects.push(first)?;
+    objects.push(second)?;
+    assert_eq!(rt; fault_of(rt, alloc, &objects), fault);
+    Ok(())
+}
 
 #[test]
-fn refusals_go_by_kind_and_by_the_order_of_objects(rt: HostRuntime) -> Result<(), Fail> {
+fn too_many_bytes_come_before_an_overlap(rt: HostRuntime) -> Result<(), Fail> {
     let alloc = rt.alloc();
     let quarter = [0; 262_145];
-    let quarter = quarter.as_slice();
-    let byte = [7].as_slice();
-    let bytes = [8, 9].as_slice();
-    let f = b"f".as_slice();
-    let far = (Kind::Pc16, 0, 0, b"far".as_slice(), 0, 2, 14);
-    let unknown = (Kind::Pc26, 0, 4, b"nowhere".as_slice(), 0, 5, 4);
-    let far_off = (b"far".as_slice(), false, None, 0x0010_0000, 1, 6);
-    let rows: [RefusedRow; 4] = [
-        (
-            &[(0x10_0000, quarter, 2), (0x20_0000, quarter, 3)],
-            &[],
-            &[],
-            &[(0x30_0000, quarter, 2), (0x30_0000, quarter, 3)],
-            &[],
-            (1, 1, LinkKind::TooLarge),
-        ),
-        (
-            &[(0x2000, byte, 9)],
-            &[],
-            &[],
-            &[(0x2000, byte, 3)],
-            &[],
-            (3, 1, LinkKind::Overlap(0x2000)),
-        ),
-        (
-            &[(0x4000, byte, 3)],
-            &[(f, true, Some(0), 0, 2, 1)],
-            &[],
-            &[(0x3FFF, bytes, 7)],
-            &[(f, true, None, 7, 5, 6)],
-            (7, 1, LinkKind::Overlap(0x4000)),
-        ),
-        (
-            &[],
-            &[far_off],
-            &[far, unknown],
-            &[],
-            &[],
-            (5, 4, LinkKind::Undefined(name(b"nowhere")?)),
-        ),
+    let others = [
+        (0x10_0000, quarter.as_slice(), 2),
+        (0x20_0000, quarter.as_slice(), 3),
     ];
-    for (others, symbols, uses, later, exported, told) in rows {
-        let mut objects = Vec::new(alloc);
-        objects.push(object(alloc, b"a", &[0; 8], &[], others, symbols, uses)?)?;
-        objects.push(object(alloc, b"b", &[], &[], later, exported, &[])?)?;
-        let (line, col, kind) = told;
-        assert_eq!(rt;
-            fault_of(&rt, alloc, &objects),
-            LinkFault { line, col, kind }
-        );
-    }
-    Ok(())
+    let first = object(alloc, b"a", &[0; 8], &[], &others, &[], &[])?;
+    let others = [
+        (0x30_0000, quarter.as_slice(), 2),
+        (0x30_0000, quarter.as_slice(), 3),
+    ];
+    let second = object(alloc, b"b", &[], &[], &others, &[], &[])?;
+    let told = LinkFault {
+        line: 1,
+        col: 1,
+        kind: LinkKind::TooLarge,
+    };
+    expect_refusal_of_two(&rt, alloc, first, second, told)
+}
+
+#[test]
+fn an_overlap_is_told_at_the_later_object_and_before_a_duplicate(
+    rt: HostRuntime,
+) -> Result<(), Fail> {
+    let alloc = rt.alloc();
+    let others = [(0x2000, [7].as_slice(), 9)];
+    let first = object(alloc, b"a", &[0; 8], &[], &others, &[], &[])?;
+    let others = [(0x2000, [7].as_slice(), 3)];
+    let second = object(alloc, b"b", &[], &[], &others, &[], &[])?;
+    let told = LinkFault {
+        line: 3,
+        col: 1,
+        kind: LinkKind::Overlap(0x2000),
+    };
+    expect_refusal_of_two(&rt, alloc, first, second, told)?;
+
+    let others = [(0x4000, [7].as_slice(), 3)];
+    let symbols = [(b"f".as_slice(), true, Some(0), 0, 2, 1)];
+    let first = object(alloc, b"a", &[0; 8], &[], &others, &symbols, &[])?;
+    let others = [(0x3FFF, [8, 9].as_slice(), 7)];
+    let symbols = [(b"f".as_slice(), true, None, 7, 5, 6)];
+    let second = object(alloc, b"b", &[], &[], &others, &symbols, &[])?;
+    let told = LinkFault {
+        line: 7,
+        col: 1,
+        kind: LinkKind::Overlap(0x4000),
+    };
+    expect_refusal_of_two(&rt, alloc, first, second, told)
+}
+
+#[test]
+fn an_unknown_name_comes_before_a_far_one_on_an_earlier_line(rt: HostRuntime) -> Result<(), Fail> {
+    let alloc = rt.alloc();
+    let symbols = [(b"far".as_slice(), false, None, 0x0010_0000, 1, 6)];
+    let uses = [
+        (Kind::Pc16, 0, 0, b"far".as_slice(), 0, 2, 14),
+        (Kind::Pc26, 0, 4, b"nowhere".as_slice(), 0, 5, 4),
+    ];
+    let object = object(alloc, b"a", &[0; 8], &[], &[], &symbols, &uses)?;
+    let told = LinkFault {
+        line: 5,
+        col: 4,
+        kind: LinkKind::Undefined(name(b"nowhere")?),
+    };
+    expect_refusal(&rt, alloc, object, told)
 }
