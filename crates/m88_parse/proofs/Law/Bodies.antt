@@ -25,7 +25,7 @@ use Rattle.m88_parse.specs.Language.Operands.{IsSigned, IsValue}
 use Rattle.m88_parse.specs.Language.Statements.{AreParted, IsBody, text, data_section, at, word, half, byte, ascii, zeros, align, global, set, code}
 use Rattle.m88_parse.proofs.Law.Steps.{chosen, take_else}
 use Rattle.m88_parse.proofs.Law.Names.{some_same}
-use Rattle.m88_parse.proofs.Law.Slots.{st, bind_ok, bind_to, mark_read, mark_again, IsUpTo, number_read, number_slot_again, IsSymbolAt, symbol_read, symbol_again, IsText, text_read, text_again, IsPower, alignment_read, alignment_again}
+use Rattle.m88_parse.proofs.Law.Slots.{st, bind_ok, bind_to, mark_read, mark_again, IsUpTo, IsSymbolAt, IsText, IsPower, one_alignment, one_number, one_symbol, one_text, slot_again, slot_read}
 use Rattle.m88_parse.proofs.Law.Values.{IsWhole, whole_read, whole_again, word_signed, signed_word}
 use Rattle.m88_parse.proofs.Law.Forms.{ends_read, ends_again, several_last, one_last, operands_read}
 use Rattle.m88_parse.proofs.Law.Codes.{operands_again}
@@ -73,7 +73,7 @@ number_last : (most line e : ℕ) (ps : List Piece) (made : ℕ → Body) (c : B
 unfolding read
 number_last most line e ps made c h =
     let b = bind_ok (unsigned_at most (st line e ps)) (λ (x : ℕ × ReaderState). read (ends (made x.0)) x.1) c h in
-    let l = one_last ℕ (IsUpTo most) line e ps b.0 (made b.0.0) c (number_read most line e ps b.0 b.1) b.2 in
+    let l = one_last ℕ (IsUpTo most) line e ps b.0 (made b.0.0) c (slot_read (one_number most line e) ps b.0 b.1) b.2 in
     (b.0.0, l.0, l.1, l.2.0, l.3, l.2.1)
 
 words_last : (line e : ℕ) (ps : List Piece) (c : Body) → read (directive_form directive.Word) (st line e ps) ≡ Ok c → (vs : List Value) × AreParted (IsValue Abs32) ps vs × (body.Word vs ≡ c)
@@ -94,21 +94,21 @@ text_last : (line e : ℕ) (ps : List Piece) (c : Body) → read (directive_form
 unfolding read directive_form
 text_last line e ps c h =
     let b = bind_ok (text_at (st line e ps)) (λ (x : List ℕ × ReaderState). read (ends (body.Ascii x.0)) x.1) c h in
-    let l = one_last (List ℕ) IsText line e ps b.0 (body.Ascii b.0.0) c (text_read line e ps b.0 b.1) b.2 in
+    let l = one_last (List ℕ) IsText line e ps b.0 (body.Ascii b.0.0) c (slot_read (one_text line e) ps b.0 b.1) b.2 in
     (b.0.0, l.0, l.1, l.2, l.3)
 
 align_last : (line e : ℕ) (ps : List Piece) (c : Body) → read (directive_form directive.Align) (st line e ps) ≡ Ok c → (n : ℕ) × (q : Piece) × (ps ≡ q ∷ []) × IsPower n q × (body.Align n ≡ c)
 unfolding read directive_form
 align_last line e ps c h =
     let b = bind_ok (alignment_at (st line e ps)) (λ (x : ℕ × ReaderState). read (ends (body.Align x.0)) x.1) c h in
-    let l = one_last ℕ IsPower line e ps b.0 (body.Align b.0.0) c (alignment_read line e ps b.0 b.1) b.2 in
+    let l = one_last ℕ IsPower line e ps b.0 (body.Align b.0.0) c (slot_read (one_alignment line e) ps b.0 b.1) b.2 in
     (b.0.0, l.0, l.1, l.2, l.3)
 
 global_last : (line e : ℕ) (ps : List Piece) (c : Body) → read (directive_form directive.Global) (st line e ps) ≡ Ok c → (name : List ℕ) × (q : Piece) × (ps ≡ q ∷ []) × IsSymbol name q × (body.Global name ≡ c)
 unfolding read directive_form
 global_last line e ps c h =
     let b = bind_ok (symbol_at (st line e ps)) (λ (x : (List ℕ × ℕ) × ReaderState). read (ends (body.Global x.0.0)) x.1) c h in
-    let l = one_last (List ℕ × ℕ) IsSymbolAt line e ps b.0 (body.Global b.0.0.0) c (symbol_read line e ps b.0 b.1) b.2 in
+    let l = one_last (List ℕ × ℕ) IsSymbolAt line e ps b.0 (body.Global b.0.0.0) c (slot_read (one_symbol line e) ps b.0 b.1) b.2 in
     (b.0.0.0, l.0, l.1, l.2.0, l.3)
 
 -- the tokens of .set
@@ -131,7 +131,7 @@ set_last : (line e : ℕ) (ps : List Piece) (c : Body) → read (directive_form 
 unfolding read directive_form
 set_last line e ps c h =
     let b = bind_ok (symbol_at (st line e ps)) (λ (x : (List ℕ × ℕ) × ReaderState). mark_at 44 x.1 >>= λ t. signed_at 2147483648 4294967295 t >>= set_value x.0.0 x.0.1) c h in
-    let s = symbol_read line e ps b.0 b.1 in
+    let s = slot_read (one_symbol line e) ps b.0 b.1 in
     let d = bind_ok (mark_at 44 b.0.1) (λ (t : ReaderState). signed_at 2147483648 4294967295 t >>= set_value b.0.0.0 b.0.0.1) c b.2 in
     let m = mark_read 44 line e s.rest d.0 (ap (mark_at 44) (sym s.after) ∙ d.1) in
     let v = bind_ok (signed_at 2147483648 4294967295 d.0) (set_value b.0.0.0 b.0.0.1) c d.2 in
@@ -195,7 +195,7 @@ operation_read line e p ps c h = operation_by line e p ps p.says c refl h
 number_form_again : (most line e n : ℕ) (q : Piece) (made : ℕ → Body) → IsNumber n q → n ≤ most → read (unsigned_then most (λ n. ends (made n))) (st line e (q ∷ [])) ≡ Ok (made n)
 unfolding read
 number_form_again most line e n q made h l =
-    bind_to (unsigned_at most (st line e (q ∷ []))) (λ (x : ℕ × ReaderState). read (ends (made x.0)) x.1) (n, st line e []) (Ok (made n)) (number_slot_again most line e n q [] h l) (ends_again line e (made n))
+    bind_to (unsigned_at most (st line e (q ∷ []))) (λ (x : ℕ × ReaderState). read (ends (made x.0)) x.1) (n, st line e []) (Ok (made n)) (slot_again (one_number most line e) n q [] (h, l)) (ends_again line e (made n))
 
 words_again : (line e : ℕ) (ps : List Piece) (vs : List Value) → AreParted (IsValue Abs32) ps vs → read (directive_form directive.Word) (st line e ps) ≡ Ok (body.Word vs)
 unfolding read directive_form
@@ -210,22 +210,22 @@ parts_again part made line e ps ns h =
 
 ascii_again : (line e : ℕ) (bs : List ℕ) (q : Piece) → IsText bs q → read (directive_form directive.Ascii) (st line e (q ∷ [])) ≡ Ok (body.Ascii bs)
 unfolding read directive_form
-ascii_again line e bs q h = bind_to (text_at (st line e (q ∷ []))) (λ (x : List ℕ × ReaderState). read (ends (body.Ascii x.0)) x.1) (bs, st line e []) (Ok (body.Ascii bs)) (text_again line e bs q [] h) (ends_again line e (body.Ascii bs))
+ascii_again line e bs q h = bind_to (text_at (st line e (q ∷ []))) (λ (x : List ℕ × ReaderState). read (ends (body.Ascii x.0)) x.1) (bs, st line e []) (Ok (body.Ascii bs)) (slot_again (one_text line e) bs q [] h) (ends_again line e (body.Ascii bs))
 
 align_again : (line e n : ℕ) (q : Piece) → IsPower n q → read (directive_form directive.Align) (st line e (q ∷ [])) ≡ Ok (body.Align n)
 unfolding read directive_form
-align_again line e n q h = bind_to (alignment_at (st line e (q ∷ []))) (λ (x : ℕ × ReaderState). read (ends (body.Align x.0)) x.1) (n, st line e []) (Ok (body.Align n)) (alignment_again line e n q [] h) (ends_again line e (body.Align n))
+align_again line e n q h = bind_to (alignment_at (st line e (q ∷ []))) (λ (x : ℕ × ReaderState). read (ends (body.Align x.0)) x.1) (n, st line e []) (Ok (body.Align n)) (slot_again (one_alignment line e) n q [] h) (ends_again line e (body.Align n))
 
 global_again : (line e : ℕ) (name : List ℕ) (q : Piece) → IsSymbol name q → read (directive_form directive.Global) (st line e (q ∷ [])) ≡ Ok (body.Global name)
 unfolding read directive_form
 global_again line e name q h =
-    bind_to (symbol_at (st line e (q ∷ []))) (λ (x : (List ℕ × ℕ) × ReaderState). read (ends (body.Global x.0.0)) x.1) ((name, q.col), st line e []) (Ok (body.Global name)) (symbol_again line e name q [] h) (ends_again line e (body.Global name))
+    bind_to (symbol_at (st line e (q ∷ []))) (λ (x : (List ℕ × ℕ) × ReaderState). read (ends (body.Global x.0.0)) x.1) ((name, q.col), st line e []) (Ok (body.Global name)) (slot_again (one_symbol line e) (name, q.col) q [] (h, refl)) (ends_again line e (body.Global name))
 
 set_again : (line e n : ℕ) (name : List ℕ) (q c : Piece) (ps : List Piece) → IsSymbol name q → IsComma c → IsSigned 4294967296 ps n → read (directive_form directive.Set) (st line e (q ∷ c ∷ ps)) ≡ Ok (body.Set name q.col n)
 unfolding read directive_form
 set_again line e n name q c ps h k v =
     let z : Result Body ParseFault = Ok (body.Set name q.col n) in
-    bind_to (symbol_at (st line e (q ∷ c ∷ ps))) (λ (x : (List ℕ × ℕ) × ReaderState). mark_at 44 x.1 >>= λ t. signed_at 2147483648 4294967295 t >>= set_value x.0.0 x.0.1) ((name, q.col), st line e (c ∷ ps)) z (symbol_again line e name q (c ∷ ps) h)
+    bind_to (symbol_at (st line e (q ∷ c ∷ ps))) (λ (x : (List ℕ × ℕ) × ReaderState). mark_at 44 x.1 >>= λ t. signed_at 2147483648 4294967295 t >>= set_value x.0.0 x.0.1) ((name, q.col), st line e (c ∷ ps)) z (slot_again (one_symbol line e) (name, q.col) q (c ∷ ps) (h, refl))
     (bind_to (mark_at 44 (st line e (c ∷ ps))) (λ (t : ReaderState). signed_at 2147483648 4294967295 t >>= set_value name q.col) (st line e ps) z (mark_again 44 line e c ps k)
     (bind_to (signed_at 2147483648 4294967295 (st line e ps)) (set_value name q.col) (n, st line e []) z
     (ap (λ (qs : List Piece). signed_at 2147483648 4294967295 (st line e qs)) (sym (append-nil ps)) ∙ whole_again 2147483648 4294967295 line e ps [] n (signed_word ps n v)) (ends_again line e (body.Set name q.col n))))

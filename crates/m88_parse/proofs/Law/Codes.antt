@@ -27,8 +27,8 @@ use Rattle.m88_parse.specs.Reader.Operands.{immediate_at, operand_at, bound_at, 
 use Rattle.m88_parse.specs.Reader.Grammar.{Form, ends, register_then, control_then, bit_then, mask_then, unsigned_then, immediate_then, operand_then, bound_then, scaled_then, index_then, user_index_then, field_then, goal_ends, read, comma_then, code_only, either_body, memory_body, bits_body, bounds_body, form_of}
 use Rattle.m88_parse.specs.Language.Operands.{most_width, IsImmediate, IsScaled, IsGoal, AreOperands, either_immediate, either_register, immediate, registers, offset, index as plain_index, scaled, user_index, user_scaled, address, literal, field as register_field, find, branch, branch_bit, branch_condition, jump, trap_bit, trap_condition, bound_number, bound_register, return, control_load, control_store, control_exchange}
 use Rattle.m88_parse.specs.Language.Names.{IsComma, IsNumber, IsControl, IsBit, IsCondition}
-use Rattle.m88_parse.proofs.Law.Slots.{st, bind_to, mark_again, number_slot_again, control_slot_again, bit_again, mask_again}
-use Rattle.m88_parse.proofs.Law.Operands.{immediate_again, operand_register_again, operand_immediate_again, bound_register_again, bound_number_again}
+use Rattle.m88_parse.proofs.Law.Slots.{st, bind_to, mark_again, one_bit, one_control, one_mask, one_number, slot_again}
+use Rattle.m88_parse.proofs.Law.Operands.{immediate_again, operand_register_again, operand_immediate_again, bound_register_again, one_bound}
 use Rattle.m88_parse.proofs.Law.Indices.{scaled_again, index_scaled_again, index_offset_again, user_scaled_again, user_plain_again, field_register_again, field_literal_again}
 use Rattle.m88_parse.proofs.Law.Goals.{goal_again}
 use Rattle.m88_parse.proofs.Law.Forms.{ends_again, behind_again, register_to, last_to}
@@ -76,22 +76,22 @@ bound_to made line e ps x h = bind_to (bound_at (st line e ps)) (λ (y : Bound �
 
 vector_to : (made : ℕ → Instr) (line e n : ℕ) (p : Piece) → IsNumber n p → n < 512 → read (unsigned_then 511 (λ v. code_only (made v))) (st line e (p ∷ [])) ≡ Ok (body.Code (made n) None)
 unfolding read
-vector_to made line e n p h l = bind_to (unsigned_at 511 (st line e (p ∷ []))) (λ (y : ℕ × ReaderState). read (code_only (made y.0)) y.1) (n, st line e []) (done (made n) None) (number_slot_again 511 line e n p [] h (omega arith)) (ends_again line e (body.Code (made n) None))
+vector_to made line e n p h l = bind_to (unsigned_at 511 (st line e (p ∷ []))) (λ (y : ℕ × ReaderState). read (code_only (made y.0)) y.1) (n, st line e []) (done (made n) None) (slot_again (one_number 511 line e) n p [] (h, omega arith)) (ends_again line e (body.Code (made n) None))
 
 control_to : (float : Bool) (made : ℕ → Instr) (line e n : ℕ) (p : Piece) → IsControl float n p → read (control_then float (λ cr. code_only (made cr))) (st line e (p ∷ [])) ≡ Ok (body.Code (made n) None)
 unfolding read
-control_to float made line e n p h = bind_to (control_at float (st line e (p ∷ []))) (λ (y : ℕ × ReaderState). read (code_only (made y.0)) y.1) (n, st line e []) (done (made n) None) (control_slot_again float line e n p [] h) (ends_again line e (body.Code (made n) None))
+control_to float made line e n p h = bind_to (control_at float (st line e (p ∷ []))) (λ (y : ℕ × ReaderState). read (code_only (made y.0)) y.1) (n, st line e []) (done (made n) None) (slot_again (one_control float line e) n p [] h) (ends_again line e (body.Code (made n) None))
 
 bit_to : (next : ℕ → Form) (line e n : ℕ) (p c : Piece) (ps : List Piece) (z : Result Body ParseFault) → IsBit n p → IsComma c → read (next n) (st line e ps) ≡ z → read (bit_then (λ b. comma_then (next b))) (st line e (p ∷ c ∷ ps)) ≡ z
 unfolding read
 bit_to next line e n p c ps z h k g =
-    bind_to (bit_at (st line e (p ∷ c ∷ ps))) (λ (y : ℕ × ReaderState). read (comma_then (next y.0)) y.1) (n, st line e (c ∷ ps)) z (bit_again line e n p (c ∷ ps) h)
+    bind_to (bit_at (st line e (p ∷ c ∷ ps))) (λ (y : ℕ × ReaderState). read (comma_then (next y.0)) y.1) (n, st line e (c ∷ ps)) z (slot_again (one_bit line e) n p (c ∷ ps) h)
     (bind_to (mark_at 44 (st line e (c ∷ ps))) (λ (t : ReaderState). read (next n) t) (st line e ps) z (mark_again 44 line e c ps k) g)
 
 mask_to : (next : ℕ → Form) (line e n : ℕ) (p c : Piece) (ps : List Piece) (z : Result Body ParseFault) → IsCondition n p → IsComma c → read (next n) (st line e ps) ≡ z → read (mask_then (λ b. comma_then (next b))) (st line e (p ∷ c ∷ ps)) ≡ z
 unfolding read
 mask_to next line e n p c ps z h k g =
-    bind_to (mask_at (st line e (p ∷ c ∷ ps))) (λ (y : ℕ × ReaderState). read (comma_then (next y.0)) y.1) (n, st line e (c ∷ ps)) z (mask_again line e n p (c ∷ ps) h)
+    bind_to (mask_at (st line e (p ∷ c ∷ ps))) (λ (y : ℕ × ReaderState). read (comma_then (next y.0)) y.1) (n, st line e (c ∷ ps)) z (slot_again (one_mask line e) n p (c ∷ ps) h)
     (bind_to (mark_at 44 (st line e (c ∷ ps))) (λ (t : ReaderState). read (next n) t) (st line e ps) z (mark_again 44 line e c ps k) g)
 
 -- each form
@@ -177,7 +177,7 @@ operands_again sh line e ps i f (trap_condition {mask = mask} {vector = vector} 
     (vector_to (λ n. instr.TrapCond mask s1 n) line e vector v n l))
 operands_again sh line e ps i f (bound_number {s1 = s1} {imm = imm} {p = p} u n l) =
     behind_again (λ s1. bound_then (λ x. ends (bounds_body s1 x))) line e ps (p ∷ []) s1 (done i f) u
-    (bound_to (bounds_body s1) line e (p ∷ []) (bound.Number imm) (bound_number_again line e imm p n l))
+    (bound_to (bounds_body s1) line e (p ∷ []) (bound.Number imm) (slot_again (one_bound line e) (bound.Number imm) p [] (n, l)))
 operands_again sh line e ps i f (bound_register {s1 = s1} {s2 = s2} {rest = rest} u h) =
     behind_again (λ s1. bound_then (λ x. ends (bounds_body s1 x))) line e ps rest s1 (done i f) u
     (bound_to (bounds_body s1) line e rest (bound.Register s2) (bound_register_again line e s2 rest h))

@@ -32,9 +32,9 @@ use Rattle.m88_parse.specs.Reader.Operands.{immediate_at, operand_at, bound_at, 
 use Rattle.m88_parse.specs.Reader.Grammar.{Form, ends, register_then, control_then, bit_then, mask_then, unsigned_then, immediate_then, operand_then, bound_then, scaled_then, index_then, user_index_then, field_then, goal_ends, read, comma_then, code_only, either_body, memory_body, bits_body, bounds_body, form_of}
 use Rattle.m88_parse.specs.Language.Operands.{most_width, Behind, IsScaled, IsLast, IsGoal, AreOperands, either_immediate, either_register, immediate, registers, offset, index as plain_index, scaled, user_index, user_scaled, address, literal, field as register_field, find, branch, branch_bit, branch_condition, jump, trap_bit, trap_condition, bound_number, bound_register, return, control_load, control_store, control_exchange}
 use Rattle.m88_parse.specs.Language.Names.{IsComma, IsNumber, IsRegister, IsControl, IsBit, IsCondition}
-use Rattle.m88_parse.proofs.Law.Slots.{st, ok_same, bind_ok, bind_to, One, mark_read, mark_again, end_read, IsUpTo, number_read, register_read, register_again, control_read, bit_read, mask_read}
+use Rattle.m88_parse.proofs.Law.Slots.{st, ok_same, bind_ok, bind_to, One, mark_read, mark_again, end_read, IsUpTo, one_bit, one_control, one_mask, one_number, one_register, slot_again, slot_read}
 use Rattle.m88_parse.proofs.Law.Values.{Several}
-use Rattle.m88_parse.proofs.Law.Operands.{IsImmediateOf, immediate_read, IsOperandOf, operand_read, IsBoundOf, bound_read}
+use Rattle.m88_parse.proofs.Law.Operands.{IsImmediateOf, immediate_read, IsOperandOf, operand_read, IsBoundOf, one_bound}
 use Rattle.m88_parse.proofs.Law.Indices.{scaled_read, IsIndexOf, index_read, UserIndex, IsUserIndexOf, user_index_read, IsFieldOf, field_read}
 use Rattle.m88_parse.proofs.Law.Goals.{IsGoalOf, goal_read}
 
@@ -73,7 +73,7 @@ pub behind_read : (form : Reg → Form) (line e : ℕ) (ps : List Piece) (c : Bo
 unfolding read
 behind_read form line e ps c h =
     let b = bind_ok (register_at (st line e ps)) (λ (x : Reg × ReaderState). read (comma_then (form x.0)) x.1) c h in
-    let r = register_read line e ps b.0 b.1 in
+    let r = slot_read (one_register line e) ps b.0 b.1 in
     let d = bind_ok (mark_at 44 b.0.1) (λ (t : ReaderState). read (form b.0.0) t) c b.2 in
     let m = mark_read 44 line e r.rest d.0 (ap (mark_at 44) (sym r.after) ∙ d.1) in (
       b.0.0,
@@ -86,7 +86,7 @@ pub behind_again : (form : Reg → Form) (line e : ℕ) (ps rest : List Piece) (
 unfolding read
 behind_again form line e ps rest d z w h =
     ap (λ (qs : List Piece). register_at (st line e qs) >>= λ (x : Reg × ReaderState). read (comma_then (form x.0)) x.1) w.tokens
-    ∙ bind_to (register_at (st line e (w.operand ∷ w.comma ∷ rest))) (λ (x : Reg × ReaderState). read (comma_then (form x.0)) x.1) (d, st line e (w.comma ∷ rest)) z (register_again line e d w.operand (w.comma ∷ rest) w.register)
+    ∙ bind_to (register_at (st line e (w.operand ∷ w.comma ∷ rest))) (λ (x : Reg × ReaderState). read (comma_then (form x.0)) x.1) (d, st line e (w.comma ∷ rest)) z (slot_again (one_register line e) d w.operand (w.comma ∷ rest) w.register)
     (bind_to (mark_at 44 (st line e (w.comma ∷ rest))) (λ (t : ReaderState). read (form d) t) (st line e rest) z (mark_again 44 line e w.comma rest w.parted) h)
 
 -- one register
@@ -95,11 +95,11 @@ register_step : (form : Reg → Form) (line e : ℕ) (ps : List Piece) (c : Body
 unfolding read
 register_step form line e ps c h =
     let b = bind_ok (register_at (st line e ps)) (λ (x : Reg × ReaderState). read (form x.0) x.1) c h in
-    (b.0, register_read line e ps b.0 b.1, b.2)
+    (b.0, slot_read (one_register line e) ps b.0 b.1, b.2)
 
 pub register_to : (form : Reg → Form) (line e : ℕ) (p : Piece) (ps : List Piece) (r : Reg) (z : Result Body ParseFault) → IsRegister r p → read (form r) (st line e ps) ≡ z → read (register_then form) (st line e (p ∷ ps)) ≡ z
 unfolding read
-register_to form line e p ps r z h k = bind_to (register_at (st line e (p ∷ ps))) (λ (x : Reg × ReaderState). read (form x.0) x.1) (r, st line e ps) z (register_again line e r p ps h) k
+register_to form line e p ps r z h k = bind_to (register_at (st line e (p ∷ ps))) (λ (x : Reg × ReaderState). read (form x.0) x.1) (r, st line e ps) z (slot_again (one_register line e) r p ps h) k
 
 pub last_to : (form : Reg → Form) (line e : ℕ) (ps : List Piece) (r : Reg) (z : Result Body ParseFault) → IsLast r ps → read (form r) (st line e []) ≡ z → read (register_then form) (st line e ps) ≡ z
 last_to form line e [] r z h k = absurd h
@@ -265,13 +265,13 @@ bit_first : (line e : ℕ) (ps : List Piece) (next : ℕ → Form) (c : Body) �
 unfolding read
 bit_first line e ps next c h =
     let b = bind_ok (bit_at (st line e ps)) (λ (x : ℕ × ReaderState). read (comma_then (next x.0)) x.1) c h in
-    first_read ℕ IsBit line e ps next c b.0 (bit_read line e ps b.0 b.1) b.2
+    first_read ℕ IsBit line e ps next c b.0 (slot_read (one_bit line e) ps b.0 b.1) b.2
 
 mask_first : (line e : ℕ) (ps : List Piece) (next : ℕ → Form) (c : Body) → read (mask_then (λ m. comma_then (next m))) (st line e ps) ≡ Ok c → First ℕ IsCondition line e ps next c
 unfolding read
 mask_first line e ps next c h =
     let b = bind_ok (mask_at (st line e ps)) (λ (x : ℕ × ReaderState). read (comma_then (next x.0)) x.1) c h in
-    first_read ℕ IsCondition line e ps next c b.0 (mask_read line e ps b.0 b.1) b.2
+    first_read ℕ IsCondition line e ps next c b.0 (slot_read (one_mask line e) ps b.0 b.1) b.2
 
 at_tokens : (sh : Shape) (ps qs : List Piece) (b : Body) → ps ≡ qs → Coded sh qs b → Coded sh ps b
 at_tokens sh ps qs b t h = subst (λ (xs : List Piece). Coded sh xs b) (sym t) h
@@ -308,7 +308,7 @@ vector_last : (line e : ℕ) (ps : List Piece) (made : ℕ → Instr) (c : Body)
 unfolding read
 vector_last line e ps made c h =
     let b = bind_ok (unsigned_at 511 (st line e ps)) (λ (x : ℕ × ReaderState). read (code_only (made x.0)) x.1) c h in
-    let l = one_last ℕ (IsUpTo 511) line e ps b.0 (body.Code (made b.0.0) None) c (number_read 511 line e ps b.0 b.1) b.2 in
+    let l = one_last ℕ (IsUpTo 511) line e ps b.0 (body.Code (made b.0.0) None) c (slot_read (one_number 511 line e) ps b.0 b.1) b.2 in
     let m = l.2.1 in
     (b.0.0, l.0, l.1, l.2.0, omega arith, l.3)
 
@@ -339,7 +339,7 @@ unfolding form_of read
 bounds_form_read line e ps b h =
     let u = behind_read (λ s1. bound_then (λ x. ends (bounds_body s1 x))) line e ps b h in
     let w = bind_ok (bound_at (st line e u.1)) (λ (x : Bound × ReaderState). read (ends (bounds_body u.0 x.0)) x.1) b u.3 in
-    let l = one_last Bound IsBoundOf line e u.1 w.0 (bounds_body u.0 w.0.0) b (bound_read line e u.1 w.0 w.1) w.2 in
+    let l = one_last Bound IsBoundOf line e u.1 w.0 (bounds_body u.0 w.0.0) b (slot_read (one_bound line e) u.1 w.0 w.1) w.2 in
     bounds_coded u.0 ps u.1 l.0 w.0.0 b u.2 l.1 l.2 l.3
 
 -- control registers
@@ -349,7 +349,7 @@ control_last : (float : Bool) (line e : ℕ) (ps : List Piece) (made : ℕ → I
 unfolding read
 control_last float line e ps made c h =
     let b = bind_ok (control_at float (st line e ps)) (λ (x : ℕ × ReaderState). read (code_only (made x.0)) x.1) c h in
-    let l = one_last ℕ (IsControl float) line e ps b.0 (body.Code (made b.0.0) None) c (control_read float line e ps b.0 b.1) b.2 in
+    let l = one_last ℕ (IsControl float) line e ps b.0 (body.Code (made b.0.0) None) c (slot_read (one_control float line e) ps b.0 b.1) b.2 in
     (b.0.0, l.0, l.1, l.2, l.3)
 
 load_read : (float : Bool) (line e : ℕ) (ps : List Piece) (b : Body) → read (form_of (shape.Ldcr float)) (st line e ps) ≡ Ok b → Coded (shape.Ldcr float) ps b

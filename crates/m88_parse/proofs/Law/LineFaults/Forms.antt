@@ -3,15 +3,17 @@ use Rattle.std.proofs.Common.{ℕ, Bool, true, false, List, refl}
 use Rattle.m88_base.specs.declared.reg.Reg.{Reg}
 use Rattle.m88_parse.specs.declared.unit.Body.{Body}
 use Rattle.m88_parse.specs.declared.operand.Bound.{Bound}
+use Rattle.m88_parse.specs.Language.Pieces.{Piece}
 use Rattle.m88_parse.specs.Reader.State.{ReaderState, ◌>>=◌}
 use Rattle.m88_parse.specs.Reader.Slots.{Read, unsigned_at, register_at, control_at, bit_at, mask_at, symbol_at, text_at, alignment_at}
 use Rattle.m88_parse.specs.Reader.Operands.{bound_at}
 use Rattle.m88_parse.specs.Reader.Grammar.{Form, ends, comma_then, register_then, control_then, bit_then, mask_then, unsigned_then, signed_then, alignment_then, symbol_then, immediate_then, operand_then, bound_then, scaled_then, index_then, user_index_then, field_then, goal_ends, words_end, parts_end, text_then, read}
-use Rattle.m88_parse.proofs.Law.Slots.{st}
-use Rattle.m88_parse.proofs.Law.LineFaults.Readers.{fault_in, Reader, Good, Naming, no_name, own_names, symbols}
+use Rattle.m88_parse.proofs.Law.Slots.{st, Naming, no_name, own_names, symbols, OneToken, one_register, one_control, one_bit, one_mask, one_number, one_alignment, one_symbol, one_text}
+use Rattle.m88_parse.proofs.Law.LineFaults.Readers.{fault_in, Reader, Good}
 use Rattle.m88_parse.proofs.Law.LineFaults.Nodes.{good}
-use Rattle.m88_parse.proofs.Law.LineFaults.Slots.{OneToken, one_token, mark_node, one_register, one_control, one_bit, one_mask, one_number, one_alignment, one_symbol, one_bound, one_text}
+use Rattle.m88_parse.proofs.Law.LineFaults.Slots.{one_token, mark_node}
 use Rattle.m88_parse.proofs.Law.LineFaults.Values.{ends_node, whole_node}
+use Rattle.m88_parse.proofs.Law.Operands.{one_bound}
 use Rattle.m88_parse.proofs.Law.LineFaults.Operands.{immediate_node}
 use Rattle.m88_parse.proofs.Law.LineFaults.Indices.{operand_node, scaled_node, index_node, user_index_node, field_node}
 use Rattle.m88_parse.proofs.Law.LineFaults.Goals.{goal_node}
@@ -24,7 +26,7 @@ abbrev pub FormGood : ℕ → ℕ → ℕ → Form → Type 0
 FormGood few line e form = Good few line e (λ ps. fault_in (read form (st line e ps)))
 
 -- a slot of one token, and what follows it
-slot_good : (few : ℕ) (A : Type 0) (num : Bool) (nam : Naming) (line e : ℕ) (slot : ReaderState → Read A) → OneToken A num nam line e slot → (form : A → Form) → ((x : A) → FormGood few line e (form x))
+slot_good : (few : ℕ) (A : Type 0) (num : Bool) (nam : Naming) (line e : ℕ) (slot : ReaderState → Read A) {Is : A → Piece → Type 0} → OneToken A Is num nam line e slot → (form : A → Form) → ((x : A) → FormGood few line e (form x))
     → Good few line e (λ ps. fault_in (slot (st line e ps) >>= λ (x : A × ReaderState). read (form x.0) x.1))
 slot_good few A num nam line e slot o form g =
     good few num nam line e (λ ps. fault_in (slot (st line e ps) >>= λ (x : A × ReaderState). read (form x.0) x.1)) (one_token few A Body num nam line e slot o (λ x s. read (form x) s) g)

@@ -14,12 +14,13 @@ use Rattle.m88_parse.specs.Reader.Slots.{Read, fixup_at}
 use Rattle.m88_parse.specs.Reader.Operands.{distance_at, words_at, is_here_on, goal_at}
 use Rattle.m88_parse.specs.Language.Names.{IsMark, IsSymbol}
 use Rattle.m88_parse.proofs.Law.Steps.{tested, take_then, take_else}
-use Rattle.m88_parse.proofs.Law.Slots.{st}
+use Rattle.m88_parse.proofs.Law.Slots.{st, no_name, symbols, kind_for, any, any_is_symbol}
 use Rattle.m88_parse.proofs.Law.Names.{symbol_name_again}
-use Rattle.m88_parse.proofs.Law.LineFaults.Readers.{fault_in, here, Reader, Goes, Good, no_name, symbols, kind_for}
+use Rattle.m88_parse.proofs.Law.LineFaults.Readers.{fault_in, here, Reader, Goes, Good}
 use Rattle.m88_parse.proofs.Law.LineFaults.Nodes.{Leads, Faults, Node, leads, or_mark, good}
-use Rattle.m88_parse.proofs.Law.LineFaults.Slots.{reader_of, one_token, never, one_distance, any, any_is_symbol}
+use Rattle.m88_parse.proofs.Law.LineFaults.Slots.{reader_of, one_token, never}
 use Rattle.m88_parse.proofs.Law.LineFaults.Values.{mapped, NoName, number_is, text_is, mark_is, behind_symbol, behind_symbol_good, fixup_taken, fixup_refused, fixup_no_name, fixup_at_end}
+use Rattle.m88_parse.proofs.Law.Goals.{one_distance}
 
 -- behind the . of a goal
 

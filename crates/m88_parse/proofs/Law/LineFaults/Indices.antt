@@ -1,5 +1,6 @@
 -- Operands that may be a register or something else, what stands behind a base register, and bit fields.
 use Rattle.std.proofs.Common.{◌≡◌, ℕ, Bool, true, false, if◌then◌else◌, ◌⊎◌, inl, inr, List, [], ◌∷◌, Option, Some, None, Result, Ok, Err, refl, sym, ap, ◌∙◌, codes}
+use Rattle.std.specs.Option.{option_map}
 use Rattle.m88_base.specs.Reg.{reg_of}
 use Rattle.m88_base.specs.declared.reg.Reg.{Reg}
 use Rattle.m88_parse.specs.declared.fault.ParseFault.{ParseFault}
@@ -13,14 +14,14 @@ use Rattle.m88_parse.specs.declared.operand.Field.TheVariants as field
 use Rattle.m88_parse.specs.Reader.Names.{register_of}
 use Rattle.m88_parse.specs.Language.Pieces.{TokenValue, a_name, a_number, a_text, a_mark, Piece}
 use Rattle.m88_parse.specs.Reader.State.{ReaderState, is_mark_of, is_next, ◌>>=◌}
-use Rattle.m88_parse.specs.Reader.Slots.{Read, mark_at, unsigned_at, as_register, register_on, register_at}
+use Rattle.m88_parse.specs.Reader.Slots.{Read, mark_at, unsigned_at, named, register_on, register_at}
 use Rattle.m88_parse.specs.Reader.Operands.{immediate_at, register_in, operand_of, operand_at, scaled_at, index_at, user_index_at, width_at, literal_at, field_on, field_at}
 use Rattle.m88_parse.specs.Language.Names.{IsMark}
 use Rattle.m88_parse.proofs.Law.Steps.{take_then, take_else}
-use Rattle.m88_parse.proofs.Law.Slots.{st}
-use Rattle.m88_parse.proofs.Law.LineFaults.Readers.{fault_in, here, Reader, Goes, Good, no_name, own_names, kind_for}
+use Rattle.m88_parse.proofs.Law.Slots.{st, no_name, own_names, kind_for, saying, one_register, one_number, any, any_is_symbol}
+use Rattle.m88_parse.proofs.Law.LineFaults.Readers.{fault_in, here, Reader, Goes, Good}
 use Rattle.m88_parse.proofs.Law.LineFaults.Nodes.{Leads, Faults, Node, leads, leads_as, node_as, or_mark, good}
-use Rattle.m88_parse.proofs.Law.LineFaults.Slots.{saying, reader_of, one_token, never, one_register, one_number, mark_node, any, any_is_symbol}
+use Rattle.m88_parse.proofs.Law.LineFaults.Slots.{reader_of, one_token, never, mark_node}
 use Rattle.m88_parse.proofs.Law.LineFaults.Values.{mapped, NoName, number_is, text_is, mark_is}
 use Rattle.m88_parse.proofs.Law.LineFaults.Operands.{no_immediate, immediate_node}
 
@@ -249,7 +250,7 @@ field_node few B line e most k g = record {
     as_literal p ps m h text_is = ap (λ (o : TokenValue). fault_in (field_on most (st line e (p ∷ ps)) (Some o) >>= λ (z : Field × ReaderState). k z.0 z.1)) h
     as_literal p ps m h mark_is = ap (λ (o : TokenValue). fault_in (field_on most (st line e (p ∷ ps)) (Some o) >>= λ (z : Field × ReaderState). k z.0 z.1)) h
 
-    as_register_at : (p : Piece) (ps : List Piece) (text : List ℕ) → p.says ≡ a_name text → reader_of line e (field_at most) k (p ∷ ps) ≡ fault_in (as_register (st line e (p ∷ ps)) (register_of text) >>= λ (r : Reg × ReaderState). k (field.Register r.0) r.1)
+    as_register_at : (p : Piece) (ps : List Piece) (text : List ℕ) → p.says ≡ a_name text → reader_of line e (field_at most) k (p ∷ ps) ≡ fault_in (named (st line e (p ∷ ps)) (option_map reg_of (register_of text)) >>= λ (r : Reg × ReaderState). k (field.Register r.0) r.1)
     as_register_at p ps text h =
         ap (λ (o : TokenValue). fault_in (field_on most (st line e (p ∷ ps)) (Some o) >>= λ (z : Field × ReaderState). k z.0 z.1)) h
         ∙ ap (λ (r : Result B ParseFault). fault_in r) (mapped Reg B Field (register_at (st line e (p ∷ ps))) (λ r. field.Register r) k)
@@ -261,13 +262,13 @@ field_node few B line e most k g = record {
     no_register : (p : Piece) (text : List ℕ) → p.says ≡ a_name text → register_of text ≡ None → Faults true own_names line (reader_of line e (field_at most) k) p
     no_register p text h n ps =
         as_register_at p ps text h
-        ∙ ap (λ (o : Option ℕ). fault_in (as_register (st line e (p ∷ ps)) o >>= λ (r : Reg × ReaderState). k (field.Register r.0) r.1)) n
+        ∙ ap (λ (o : Option ℕ). fault_in (named (st line e (p ∷ ps)) (option_map reg_of o) >>= λ (r : Reg × ReaderState). k (field.Register r.0) r.1)) n
         ∙ ap (λ (m : TokenValue). here line p.col (kind_for true own_names m)) (sym h)
 
     name_by : (p : Piece) (text : List ℕ) → p.says ≡ a_name text → (o : Option ℕ) → register_of text ≡ o → Leads few true line e (reader_of line e (field_at most) k) p ⊎ Faults true own_names line (reader_of line e (field_at most) k) p
     name_by p text h (Some n) i =
         inl (leads few true line e (reader_of line e (field_at most) k) (λ ps. fault_in (k (field.Register (reg_of n)) (st line e ps))) p (g (field.Register (reg_of n)))
-        (λ ps. as_register_at p ps text h ∙ ap (λ (o : Option ℕ). fault_in (as_register (st line e (p ∷ ps)) o >>= λ (r : Reg × ReaderState). k (field.Register r.0) r.1)) i) (inl (no_minus p text h)))
+        (λ ps. as_register_at p ps text h ∙ ap (λ (o : Option ℕ). fault_in (named (st line e (p ∷ ps)) (option_map reg_of o) >>= λ (r : Reg × ReaderState). k (field.Register r.0) r.1)) i) (inl (no_minus p text h)))
     name_by p text h None i = inr (no_register p text h i)
 
     literal_by : (p : Piece) (m : TokenValue) → p.says ≡ m → NoName m → Leads few true line e (reader_of line e (field_at most) k) p ⊎ Faults true own_names line (reader_of line e (field_at most) k) p

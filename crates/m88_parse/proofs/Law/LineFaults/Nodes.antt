@@ -15,10 +15,10 @@ use Rattle.m88_parse.specs.Reader.Slots.{any_name_at, end_at}
 use Rattle.m88_parse.specs.Reader.Source.{operation_at, head_at, is_head_on, statement}
 use Rattle.m88_parse.specs.Language.Statements.{IsHead, head}
 use Rattle.m88_parse.proofs.Law.Steps.{chosen, tested, take_then, take_else}
-use Rattle.m88_parse.proofs.Law.Slots.{st, bind_ok, bind_to, end_read, any_name_read, any_name_again}
+use Rattle.m88_parse.proofs.Law.Slots.{st, bind_ok, bind_to, end_read, Naming, no_name, own_names, symbols, kind_for, one_any_name, slot_again, slot_read}
 use Rattle.m88_parse.proofs.Law.Bodies.{operation_read, body_again}
 use Rattle.m88_parse.proofs.Law.Rows.{head_named, made_head, not_head}
-use Rattle.m88_parse.proofs.Law.LineFaults.Readers.{fault_in, row_or_head, here, some_same, Reader, heard, Goes, Refuses, Reads, EndsAt, Told, Traced, Fresh, Good, Naming, no_name, own_names, symbols, kind_for, WantsNumbers, WantsNames, Wants, NumbersWanted, NamesWanted, Wanted}
+use Rattle.m88_parse.proofs.Law.LineFaults.Readers.{fault_in, row_or_head, here, some_same, Reader, heard, Goes, Refuses, Reads, EndsAt, Told, Traced, Fresh, Good, WantsNumbers, WantsNames, Wants, NumbersWanted, NamesWanted, Wanted}
 
 -- what is heard is what is related
 
@@ -26,7 +26,7 @@ head_is : (line e : ℕ) (p : Piece) (ps : List Piece) (r : Row) → IsNamed (co
 unfolding head_at
 head_is line e p ps r n h =
     let b = bind_ok (any_name_at (st line e ps)) (λ (name : List ℕ × ReaderState). end_at name.1 >>= made_head line name) r h in
-    let o = any_name_read line e ps b.0 b.1 in
+    let o = slot_read (one_any_name line e) ps b.0 b.1 in
     let d = bind_ok (end_at b.0.1) (made_head line b.0) r b.2 in
     let z = end_read line e o.rest d.0 (ap end_at (sym o.after) ∙ d.1) in
     let t : ps ≡ o.piece ∷ [] = o.tokens ∙ ap (λ (qs : List Piece). o.piece ∷ qs) z in
@@ -66,7 +66,7 @@ unfolding head_at
 head_heard line e ps name (head {p = p} {q = q} n k v) =
     ap (λ (r : Result Row ParseFault). fault_in r)
     (take_then (is_head_on (Some p.says)) _ _ (ap (λ (m : TokenValue). is_head_on (Some m)) n)
-    ∙ bind_to (any_name_at (st line e (q ∷ []))) (λ (x : List ℕ × ReaderState). end_at x.1 >>= made_head line x) (name, st line e []) (Ok (row.Head name line)) (any_name_again line e name q [] (k, v)) refl)
+    ∙ bind_to (any_name_at (st line e (q ∷ []))) (λ (x : List ℕ × ReaderState). end_at x.1 >>= made_head line x) (name, st line e []) (Ok (row.Head name line)) (slot_again (one_any_name line e) name q [] (k, v)) refl)
 
 pub is_heard : (line e : ℕ) (ps : List Piece) → IsOperation ps → heard line e ps ≡ None
 is_heard line e ps (operation {said = said} h) = operation_heard line e ps said (body_again line e ps said h)

@@ -14,10 +14,10 @@ use Rattle.m88_parse.specs.Reader.Operands.{half_immediate, half_at, half_on, sh
 use Rattle.m88_parse.specs.Language.Names.{IsMark, IsNamed}
 use Rattle.m88_parse.specs.Language.LineFaults.{IsOperation, half_alone, EndsInHalf}
 use Rattle.m88_parse.proofs.Law.Steps.{take_then, take_else}
-use Rattle.m88_parse.proofs.Law.Slots.{st, mark_says}
-use Rattle.m88_parse.proofs.Law.LineFaults.Readers.{fault_in, here, Reader, heard, Goes, Reads, EndsAt, Told, Traced, Good, own_names, symbols, kind_for}
+use Rattle.m88_parse.proofs.Law.Slots.{st, mark_says, own_names, symbols, kind_for, saying, any, any_is_symbol}
+use Rattle.m88_parse.proofs.Law.LineFaults.Readers.{fault_in, here, Reader, heard, Goes, Reads, EndsAt, Told, Traced, Good}
 use Rattle.m88_parse.proofs.Law.LineFaults.Nodes.{is_heard, Leads, Faults, Node, leads, good, reads_on, continues, follows, follows_not, told, moved, fresh_behind}
-use Rattle.m88_parse.proofs.Law.LineFaults.Slots.{saying, reader_of, never, mark_node, any, any_is_symbol}
+use Rattle.m88_parse.proofs.Law.LineFaults.Slots.{reader_of, never, mark_node}
 use Rattle.m88_parse.proofs.Law.LineFaults.Values.{value_node, NoName, number_is, text_is, mark_is}
 
 -- hi16 and lo16 where ( may follow

@@ -15,19 +15,13 @@ use Rattle.m88_parse.specs.Reader.Grammar.{ends, read}
 use Rattle.m88_parse.specs.Language.Names.{IsMark, IsNumber, IsNamed}
 use Rattle.m88_parse.specs.Language.LineFaults.{MayFollow, NumberMayFollow, NameMayFollow, signed_out_of_range, other_token, misplaced, EndsInSign, EndsInHalf}
 use Rattle.m88_parse.proofs.Law.Steps.{take_then, take_else}
-use Rattle.m88_parse.proofs.Law.Slots.{st, mark_says}
+use Rattle.m88_parse.proofs.Law.Slots.{st, mark_says, no_name, symbols, kind_for, saying, one_number, any, any_is_symbol, plain_kind}
 use Rattle.m88_parse.proofs.Law.Names.{symbol_name_again}
-use Rattle.m88_parse.proofs.Law.LineFaults.Readers.{fault_in, here, Reader, heard, Goes, Reads, EndsAt, Told, Traced, Good, no_name, symbols, kind_for}
+use Rattle.m88_parse.proofs.Law.LineFaults.Readers.{fault_in, here, Reader, heard, Goes, Reads, EndsAt, Told, Traced, Good}
 use Rattle.m88_parse.proofs.Law.LineFaults.Nodes.{Leads, Faults, Node, leads, leads_as, or_lead, or_mark, good, reads_on, continues, follows, follows_not, told, ended, moved, same_last, fresh_behind}
-use Rattle.m88_parse.proofs.Law.LineFaults.Slots.{saying, reader_of, one_token, one_number, any, any_is_symbol}
+use Rattle.m88_parse.proofs.Law.LineFaults.Slots.{reader_of, one_token}
 
 -- the end of a statement
-
-plain_kind : (m : TokenValue) → Syntax ≡ kind_for false no_name m
-plain_kind (a_name name) = refl
-plain_kind (a_number n) = refl
-plain_kind (a_text bytes) = refl
-plain_kind (a_mark m) = refl
 
 pub ends_node : (few : ℕ) (line e : ℕ) (b : Body) → Node few false no_name line e (λ ps. fault_in (read (ends b) (st line e ps)))
 unfolding read
