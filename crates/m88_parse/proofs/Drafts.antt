@@ -109,10 +109,6 @@ ends_all number (b ∷ bs) d total h so_far = absurd (omega arith)
 no_statements : All IsFormedStatement []
 no_statements k d h = absurd (omega arith)
 
-pub statement_formed : (current : Option Module) (x : Statement) → IfSome current IsFormedModule → IsFormedStatement x → IsFormedModule (with_more (begun current) (x ∷ []))
-statement_formed None x h s = All-push IsFormedStatement [] x no_statements s
-statement_formed (Some m) x h s = All-push IsFormedStatement m.statements x h s
-
 -- a line by its row
 pub line_fault : (number : ℕ) (line : List ℕ) (before : Drafted) (f : ParseFault)
     → (f ≡ out_of_memory) ⊎ (row_of number line ≡ Err f) → (f ≡ out_of_memory) ⊎ EndsWith number line before f

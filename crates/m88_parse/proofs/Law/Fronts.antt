@@ -46,9 +46,6 @@ digit_word b h = grind (arith, nat_tests)
 
 -- the front by its first byte
 
-after_gaps : List ℕ → ℕ → List ℕ → Result Cut Flaw
-after_gaps run b bs = if continues_name b then word_front b run else (if is_mark b then cut 1 (a_mark b) else (if b == 34 || b == 39 then quoted b bs else flaw Syntax 0))
-
 pub run_at : (b : ℕ) (bs : List ℕ) → continues_name b ≡ true → take (prefix_len continues_name (b ∷ bs)) (b ∷ bs) ≡ b ∷ take (prefix_len continues_name bs) bs
 run_at b bs h =
     let e : prefix_len continues_name (b ∷ bs) ≡ suc (prefix_len continues_name bs) = take_then (continues_name b) (1 + prefix_len continues_name bs) 0 h ∙ one-add (prefix_len continues_name bs) in

@@ -267,12 +267,17 @@ wants_as num nam k r x w = record { numbers = numbers num w.numbers; names = nam
 pub leads_as : (few : ℕ) (num : Bool) (line e : ℕ) (k r : Reader) (p : Piece) → ((ps : List Piece) → k (p ∷ ps) ≡ r (p ∷ ps)) → Leads few num line e r p → Leads few num line e k p
 leads_as few num line e k r p x l front w h = l front w (λ ps. h ps ∙ x ps)
 
+pub each_as : (few : ℕ) (num : Bool) (mine other : Naming) (line e : ℕ) (k r : Reader) (p : Piece) → ((ps : List Piece) → k (p ∷ ps) ≡ r (p ∷ ps)) → kind_for num other p.says ≡ kind_for num mine p.says
+    → Leads few num line e r p ⊎ Faults num other line r p → Leads few num line e k p ⊎ Faults num mine line k p
+each_as few num mine other line e k r p x s (inl l) = inl (leads_as few num line e k r p x l)
+each_as few num mine other line e k r p x s (inr f) = inr (λ ps. x ps ∙ f ps ∙ ap (here line p.col) s)
+
 pub node_as : (few : ℕ) (num : Bool) (nam : Naming) (line e : ℕ) (k r : Reader) → ((ps : List Piece) → k ps ≡ r ps) → Node few num nam line e r → Node few num nam line e k
 node_as few num nam line e k r x n = record {
   wants = wants_as num nam k r x n.wants;
   goes = (n.goes.0, x n.goes.0 ∙ n.goes.1);
   stop = elim (n.stop) [ inl s ↦ inl (x [] ∙ s) | inr s ↦ inr (x [] ∙ s) ];
-  each = λ p. elim (n.each p) [ inl l ↦ inl (leads_as few num line e k r p (λ ps. x (p ∷ ps)) l) | inr f ↦ inr (λ ps. x (p ∷ ps) ∙ f ps) ];
+  each = λ p. each_as few num nam nam line e k r p (λ ps. x (p ∷ ps)) refl (n.each p);
 }
 
 -- where a mark leads on by itself, and anything else as before
@@ -297,7 +302,7 @@ or_lead few num nam line e m all k o g x y z n = record {
   stop = elim (n.stop) [ inl t ↦ inl (z ∙ t) | inr t ↦ inr (z ∙ t) ];
   each = λ p. elim (tested (is_mark_of m (Some p.says))) [
     | inl t ↦ inl (x p t)
-    | inr t ↦ by_node p t (n.each p)
+    | inr t ↦ each_as few num nam nam line e all k p (λ ps. y p ps t) refl (n.each p)
   ];
 }
   where
@@ -321,10 +326,6 @@ or_lead few num nam line e m all k o g x y z n = record {
         let b = h.1 in
         ((a.0, a.1, a.2, goes_on a.0 (other a.0 (a_name a.1) a.2 name_unmarked) a.3), (b.0, b.1, b.2, refuses b.0 (other b.0 (a_name b.1) b.2.0 name_unmarked) b.3))
     names symbols h = λ p i j. goes_on p (other p (a_name i) j.0 name_unmarked) (h p i j)
-
-    by_node : (p : Piece) → is_mark_of m (Some p.says) ≡ false → Leads few num line e k p ⊎ Faults num nam line k p → Leads few num line e all p ⊎ Faults num nam line all p
-    by_node p t (inl l) = inl (leads_as few num line e all k p (λ ps. y p ps t) l)
-    by_node p t (inr f) = inr (λ ps. y p ps t ∙ f ps)
 
 pub or_mark : (few : ℕ) (num : Bool) (nam : Naming) (line e m : ℕ) (all k r : Reader) → (40 == m) ≡ false → ((45 == m) ≡ false) ⊎ (num ≡ false)
     → ((p : Piece) (ps : List Piece) → is_mark_of m (Some p.says) ≡ true → all (p ∷ ps) ≡ r ps)

@@ -12,6 +12,11 @@ use Rattle.m88_parse.proofs.Law.LineFaults.Nodes.{Leads, Faults, Node, leads, no
 abbrev pub reader_of : {A B : Type 0} → ℕ → ℕ → (ReaderState → Read A) → (A → ReaderState → Result B ParseFault) → Reader
 reader_of line e slot k ps = fault_in (slot (st line e ps) >>= λ x. k x.0 x.1)
 
+-- readings in turn, the last of which is read on from
+pub turns : {A B C : Type 0} (r : Result A ParseFault) (f : A → Result B ParseFault) (g : B → Result C ParseFault) (h : A → Result C ParseFault) → ((x : A) → (f x >>= g) ≡ h x) → ((r >>= f) >>= g) ≡ (r >>= h)
+turns (Ok x) f g h same = same x
+turns (Err y) f g h same = refl
+
 pub taken : (A B : Type 0) (num : Bool) (nam : Naming) (line e : ℕ) (slot : ReaderState → Read A) {Is : A → Piece → Type 0} (o : OneToken A Is num nam line e slot) (k : A → ReaderState → Result B ParseFault) (p : Piece) (x : A) → o.given p ≡ Some x → (ps : List Piece)
     → reader_of line e slot k (p ∷ ps) ≡ fault_in (k x (st line e ps))
 taken A B num nam line e slot o k p x h ps =
@@ -24,9 +29,20 @@ refused A B num nam line e slot o k p h ps =
 pub never : (num : Bool) (nam : Naming) (line : ℕ) (k : Reader) (p : Piece) → Faults num nam line k p → Refuses k p
 never num nam line k p f ps h = let x : ◌≡◌ {A = Option ParseFault} (here line p.col (kind_for num nam p.says)) None = sym (f ps) ∙ h in cc
 
+-- where more or fewer numbers are wanted, a token leads on or is a fault all the same
+pub token_each : (few : ℕ) (A B : Type 0) (num more : Bool) (nam : Naming) (line e : ℕ) (slot : ReaderState → Read A) {Is : A → Piece → Type 0} (o : OneToken A Is num nam line e slot) (k : A → ReaderState → Result B ParseFault)
+    → ((x : A) → Good few line e (λ ps. fault_in (k x (st line e ps)))) → (p : Piece) → kind_for num nam p.says ≡ kind_for more nam p.says → Leads few more line e (reader_of line e slot k) p ⊎ Faults more nam line (reader_of line e slot k) p
+token_each few A B num more nam line e slot o k g p s = by_given (o.given p) refl
+  where
+    by_given : (x : Option A) → o.given p ≡ x → Leads few more line e (reader_of line e slot k) p ⊎ Faults more nam line (reader_of line e slot k) p
+    by_given (Some x) h =
+        inl (leads few more line e (reader_of line e slot k) (λ ps. fault_in (k x (st line e ps))) p (g x) (taken A B num nam line e slot o k p x h)
+        (inl (λ m. let y : ◌≡◌ {A = Option A} (Some x) None = sym h ∙ o.minus p m in absurd cc)))
+    by_given None h = inr (λ ps. refused A B num nam line e slot o k p h ps ∙ ap (here line p.col) s)
+
 pub one_token : (few : ℕ) (A B : Type 0) (num : Bool) (nam : Naming) (line e : ℕ) (slot : ReaderState → Read A) {Is : A → Piece → Type 0} → OneToken A Is num nam line e slot → (k : A → ReaderState → Result B ParseFault)
     → ((x : A) → Good few line e (λ ps. fault_in (k x (st line e ps)))) → Node few num nam line e (reader_of line e slot k)
-one_token few A B num nam line e slot o k g = record { wants = record { numbers = numbers num o.numbers; names = names nam o.names; opening = λ p h. refuses p (o.opening p h) }; goes = begun; stop = inr (ap (λ (r : Read A). fault_in (r >>= λ (y : A × ReaderState). k y.0 y.1)) o.empty); each = λ p. by_given p (o.given p) refl }
+one_token few A B num nam line e slot o k g = record { wants = record { numbers = numbers num o.numbers; names = names nam o.names; opening = λ p h. refuses p (o.opening p h) }; goes = begun; stop = inr (ap (λ (r : Read A). fault_in (r >>= λ (y : A × ReaderState). k y.0 y.1)) o.empty); each = λ p. token_each few A B num num nam line e slot o k g p refl }
   where
     goes_on : (p : Piece) (x : A) → o.given p ≡ Some x → Goes (λ ps. reader_of line e slot k (p ∷ ps))
     goes_on p x h = let y = (g x).0 in (y.0, taken A B num nam line e slot o k p x h y.0 ∙ y.1)
@@ -45,12 +61,6 @@ one_token few A B num nam line e slot o k g = record { wants = record { numbers 
 
     begun : Goes (reader_of line e slot k)
     begun = let s = o.some in let y = goes_on s.0 s.1 s.2 in (s.0 ∷ y.0, y.1)
-
-    by_given : (p : Piece) (x : Option A) → o.given p ≡ x → Leads few num line e (reader_of line e slot k) p ⊎ Faults num nam line (reader_of line e slot k) p
-    by_given p (Some x) h =
-        inl (leads few num line e (reader_of line e slot k) (λ ps. fault_in (k x (st line e ps))) p (g x) (taken A B num nam line e slot o k p x h)
-        (inl (λ m. let y : ◌≡◌ {A = Option A} (Some x) None = sym h ∙ o.minus p m in absurd cc)))
-    by_given p None h = inr (refused A B num nam line e slot o k p h)
 
 -- marks
 
