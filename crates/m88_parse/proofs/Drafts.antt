@@ -105,10 +105,6 @@ unfolding rows_of lines_of
 ends_all number [] d total h so_far = sym so_far
 ends_all number (b ∷ bs) d total h so_far = absurd (omega arith)
 
--- what is kept of each statement
-no_statements : All IsFormedStatement []
-no_statements k d h = absurd (omega arith)
-
 -- a line by its row
 pub line_fault : (number : ℕ) (line : List ℕ) (before : Drafted) (f : ParseFault)
     → (f ≡ out_of_memory) ⊎ (row_of number line ≡ Err f) → (f ≡ out_of_memory) ⊎ EndsWith number line before f

@@ -15,7 +15,7 @@ use Rattle.m88_parse.specs.Language.Operands.{IsFixup, IsDistance, IsPlace, IsGo
 use Rattle.m88_parse.proofs.Law.Steps.{both, chosen, take_then, take_else}
 use Rattle.m88_parse.proofs.Law.Names.{other_bytes}
 use Rattle.m88_parse.proofs.Law.Slots.{st, ok_same, bind_ok, bind_to, next_is, next_again, no_name, saying, OneToken, slot_read, slot_again, nothing, by_token, token_gives, token_is, only_if, tested_gives, tested_is}
-use Rattle.m88_parse.proofs.Law.Values.{Several, several, fixup_read, fixup_again}
+use Rattle.m88_parse.proofs.Law.Values.{Several, several, several_as, fixup_read, fixup_again}
 
 -- a distance in words
 
@@ -56,8 +56,7 @@ one_distance most line e = record {
   again = λ p x h. ap (distance_by most) h.0 ∙ distance_given most x h.1;
   numbers = (saying (a_number 0), 0, 0, refl, distance_given most 0 (omega arith));
   names = λ p name i. ap (distance_by most) i;
-  opening = λ o i. ap (distance_by most) i;
-  minus = λ m i. ap (distance_by most) i;
+  marks = λ p m w i. ap (distance_by most) i;
   some = (saying (a_number 0), 0, distance_given most 0 (omega arith));
 }
 
@@ -147,10 +146,7 @@ place_read kind bits line e h ps n x k (some_words m p rest t d a) g =
 
 goal_symbol : (kind : Kind) (bits line e : ℕ) (ps : List Piece) (x : Goal × ReaderState) → (fixup_at kind (st line e ps) >>= symbol_goal) ≡ Ok x → Several Goal (IsGoalOf kind bits) line e ps x
 goal_symbol kind bits line e ps x h =
-    let b = bind_ok (fixup_at kind (st line e ps)) symbol_goal x h in
-    let w = fixup_read kind line e ps b.0 b.1 in
-    several Goal (IsGoalOf kind bits) line e ps w.front w.rest (record { words = pos 0; fixup = Some b.0.0 }) x w.tokens (a_symbol w.is)
-    (ap (λ (u : ReaderState). let y : Goal × ReaderState = (record { words = pos 0; fixup = Some b.0.0 }, u) in y) (sym w.after) ∙ ok_same b.2)
+    several_as Fixup Goal (IsFixup kind) (IsGoalOf kind bits) (λ f. record { words = pos 0; fixup = Some f }) line e ps (fixup_at kind (st line e ps)) x (fixup_read kind line e ps) (λ front f w. a_symbol w) h
 
 pub goal_read : (kind : Kind) (bits limit line e : ℕ) (ps : List Piece) (x : Goal × ReaderState) → limit ≡ 2 ^ bits → 0 < limit → goal_at kind limit (st line e ps) ≡ Ok x → Several Goal (IsGoalOf kind bits) line e ps x
 unfolding goal_at

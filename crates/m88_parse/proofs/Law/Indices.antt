@@ -15,7 +15,7 @@ use Rattle.m88_parse.specs.Language.Operands.{IsScaled, IsLast, IsLiteral}
 use Rattle.m88_parse.proofs.Law.Steps.{chosen, take_then, take_else}
 use Rattle.m88_parse.proofs.Law.Slots.{st, ok_same, bind_ok, bind_to, next_again, mark_read, mark_again, one_number, one_register, slot_again, slot_read}
 use Rattle.m88_parse.proofs.Law.Operands.{IsOperandOf, operand_read}
-use Rattle.m88_parse.proofs.Law.Values.{Several, several}
+use Rattle.m88_parse.proofs.Law.Values.{Several, several, several_as}
 
 -- [rS2]
 
@@ -70,11 +70,7 @@ pub index_read : (line e : ℕ) (ps : List Piece) (x : Index × ReaderState) →
 unfolding index_at
 index_read line e ps x h =
     elim (chosen (is_next 91 (st line e ps)) _ _ _ h) [
-      | inl j ↦
-          let b = bind_ok (scaled_at (st line e ps)) scaled_index x j.1 in
-          let w = scaled_read line e ps b.0 b.1 in
-          several Index IsIndexOf line e ps w.front w.rest (index.Scaled b.0.0) x w.tokens w.is
-          (ap (λ (u : ReaderState). let y : Index × ReaderState = (index.Scaled b.0.0, u) in y) (sym w.after) ∙ ok_same b.2)
+      | inl j ↦ several_as Reg Index (λ qs r. IsScaled r qs) IsIndexOf (λ r. index.Scaled r) line e ps (scaled_at (st line e ps)) x (scaled_read line e ps) (λ front r w. w) j.1
       | inr j ↦
           let b = bind_ok (mark_at 44 (st line e ps)) (λ (t : ReaderState). operand_at t >>= offset_index) x j.1 in
           let m = mark_read 44 line e ps b.0 b.1 in
@@ -118,11 +114,7 @@ pub user_index_read : (line e : ℕ) (ps : List Piece) (x : (Reg × Bool) × Rea
 unfolding user_index_at
 user_index_read line e ps x h =
     elim (chosen (is_next 91 (st line e ps)) _ _ _ h) [
-      | inl j ↦
-          let b = bind_ok (scaled_at (st line e ps)) user_scaled_index x j.1 in
-          let w = scaled_read line e ps b.0 b.1 in
-          several (Reg × Bool) IsUserIndexOf line e ps w.front w.rest (b.0.0, true) x w.tokens w.is
-          (ap (λ (u : ReaderState). let y : (Reg × Bool) × ReaderState = ((b.0.0, true), u) in y) (sym w.after) ∙ ok_same b.2)
+      | inl j ↦ several_as Reg (Reg × Bool) (λ qs r. IsScaled r qs) IsUserIndexOf (λ r. (r, true)) line e ps (scaled_at (st line e ps)) x (scaled_read line e ps) (λ front r w. w) j.1
       | inr j ↦
           let b = bind_ok (mark_at 44 (st line e ps)) (λ (t : ReaderState). register_at t >>= user_plain_index) x j.1 in
           let m = mark_read 44 line e ps b.0 b.1 in

@@ -26,7 +26,7 @@ use Rattle.m88_parse.specs.Language.Operands.{IsValue, IsHalfOf, IsImmediate, sh
 use Rattle.m88_parse.proofs.Law.Steps.{chosen, take_then}
 use Rattle.m88_parse.proofs.Law.Names.{some_same, register_is, register_name_again}
 use Rattle.m88_parse.proofs.Law.Slots.{st, ok_same, bind_ok, bind_to, mark_read, mark_again, own_names, saying, any, any_is_symbol, gives, OneToken, slot_again, nothing, by_token, token_gives, token_is, only_if, within, within_is, within_again}
-use Rattle.m88_parse.proofs.Law.Values.{Several, several, IsUnsigned, value_read, value_again}
+use Rattle.m88_parse.proofs.Law.Values.{Several, several, several_as, IsUnsigned, value_read, value_again}
 
 -- hi16 and lo16
 
@@ -158,11 +158,7 @@ abbrev immediate_operand : Immediate × ReaderState → Read Operand
 immediate_operand x = Ok (operand.Immediate x.0, x.1)
 
 operand_immediate : (line e : ℕ) (ps : List Piece) (x : Operand × ReaderState) → (immediate_at (st line e ps) >>= immediate_operand) ≡ Ok x → Several Operand IsOperandOf line e ps x
-operand_immediate line e ps x h =
-    let b = bind_ok (immediate_at (st line e ps)) immediate_operand x h in
-    let w = immediate_read line e ps b.0 b.1 in
-    several Operand IsOperandOf line e ps w.front w.rest (operand.Immediate b.0.0) x w.tokens w.is
-    (ap (λ (u : ReaderState). let y : Operand × ReaderState = (operand.Immediate b.0.0, u) in y) (sym w.after) ∙ ok_same b.2)
+operand_immediate line e ps x h = several_as Immediate Operand IsImmediateOf IsOperandOf (λ i. operand.Immediate i) line e ps (immediate_at (st line e ps)) x (immediate_read line e ps) (λ front i w. w) h
 
 operand_by : (line e : ℕ) (p : Piece) (ps : List Piece) (m : TokenValue) (x : Operand × ReaderState) → p.says ≡ m → operand_of (st line e (p ∷ ps)) (register_in (Some m)) ≡ Ok x → Several Operand IsOperandOf line e (p ∷ ps) x
 operand_by line e p ps (a_name text) x k h = by_register (register_of text) refl h
@@ -251,8 +247,7 @@ one_bound line e = record {
   again = bound_given;
   numbers = (saying (a_number 0), 0, bound.Number 0, refl, refl);
   names = ((saying (a_name (codes "r0")), codes "r0", bound.Register (reg_of 0), refl, refl), (any, codes "x", any_is_symbol, refl));
-  opening = λ o i. ap bound_by i;
-  minus = λ m i. ap bound_by i;
+  marks = λ p m w i. ap bound_by i;
   some = (saying (a_number 0), bound.Number 0, refl);
 }
   where

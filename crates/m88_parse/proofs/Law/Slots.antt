@@ -141,8 +141,7 @@ pub record OneToken (A : Type 0) (Is : A → Piece → Type 0) (num : Bool) (nam
   pub again : (p : Piece) (x : A) → Is x p → given p ≡ Some x
   pub numbers : GivesNumbers num given
   pub names : GivesNames nam given
-  pub opening : (o : Piece) → IsMark 40 o → given o ≡ None
-  pub minus : (m : Piece) → IsMark 45 m → given m ≡ None
+  pub marks : (p : Piece) (m : ℕ) → (m ≡ 40) ⊎ (m ≡ 45) → IsMark m p → given p ≡ None
   pub some : (p : Piece) × (x : A) × (given p ≡ Some x)
 
 -- what is read in such a slot is what the token is
@@ -222,8 +221,7 @@ one_mark m line e h k = record {
   again = λ p x i. take_then (is_mark_of m (Some p.says)) _ _ (next_again m line e p [] i);
   numbers = λ p n i. ap (mark_by m) i;
   names = λ p name i. ap (mark_by m) i;
-  opening = λ o i. ap (mark_by m) i ∙ take_else (40 == m) _ _ h;
-  minus = λ o i. ap (mark_by m) i ∙ take_else (45 == m) _ _ k;
+  marks = λ p n w i. ap (mark_by m) i ∙ take_else (n == m) _ _ (elim w [ inl j ↦ ap (λ (x : ℕ). x == m) j ∙ h | inr j ↦ ap (λ (x : ℕ). x == m) j ∙ k ]);
   some = (saying (a_mark m), tt, take_then (m == m) _ _ (eq-eqb m m refl));
 }
   where
@@ -259,8 +257,7 @@ one_number most line e = record {
   again = λ p x h. ap (number_in most) h.0 ∙ within_again most x h.1;
   numbers = (saying (a_number 0), 0, 0, refl, within_again most 0 (omega arith));
   names = λ p name i. ap (number_in most) i;
-  opening = λ o i. ap (number_in most) i;
-  minus = λ m i. ap (number_in most) i;
+  marks = λ p m w i. ap (number_in most) i;
   some = (saying (a_number 0), 0, within_again most 0 (omega arith));
 }
 
@@ -286,8 +283,7 @@ one_register line e = record {
   again = λ p x h. ap register_by h.2 ∙ ap (option_map reg_of) (register_name_again h.0 h.1 h.3) ∙ ap (λ (r : Reg). let y : Option Reg = Some r in y) (sym h.4);
   numbers = λ p n i. ap register_by i;
   names = ((saying (a_name (codes "r0")), codes "r0", reg_of 0, refl, refl), (any, codes "x", any_is_symbol, refl));
-  opening = λ o i. ap register_by i;
-  minus = λ m i. ap register_by i;
+  marks = λ p m w i. ap register_by i;
   some = (saying (a_name (codes "r0")), reg_of 0, refl);
 }
 
@@ -320,8 +316,7 @@ one_control float line e = record {
   again = λ p x h. ap (control_by float) h.1 ∙ control_name_again float h.0 x h.2;
   numbers = λ p n i. ap (control_by float) i;
   names = ((saying (a_name (first_control float)), first_control float, 0, refl, first_control_is float), (any, codes "x", any_is_symbol, no_control float));
-  opening = λ o i. ap (control_by float) i;
-  minus = λ m i. ap (control_by float) i;
+  marks = λ p m w i. ap (control_by float) i;
   some = (saying (a_name (first_control float)), 0, first_control_is float);
 }
 
@@ -343,8 +338,7 @@ one_tabled table most line e name v some none = record {
   again = λ p x h. elim h [ inl i ↦ ap (tabled table most) i.0 ∙ within_again most x (omega (arith, i.1)) | inr i ↦ ap (tabled table most) i.1 ∙ i.2 ];
   numbers = (saying (a_number 0), 0, 0, refl, within_again most 0 (omega arith));
   names = ((saying (a_name name), name, v, refl, some), (any, codes "x", any_is_symbol, none));
-  opening = λ o i. ap (tabled table most) i;
-  minus = λ m i. ap (tabled table most) i;
+  marks = λ p m w i. ap (tabled table most) i;
   some = (saying (a_number 0), 0, within_again most 0 (omega arith));
 }
 
@@ -380,8 +374,7 @@ one_symbol line e = record {
   again = λ p x h. symbol_given p x.0 h.0 ∙ ap (λ (c : ℕ). let y : Option (List ℕ × ℕ) = Some (x.0, c) in y) (sym h.1);
   numbers = λ p n i. ap (symbol_by p.col) i;
   names = λ p name i. ((name, p.col), symbol_given p name i);
-  opening = λ o i. ap (symbol_by o.col) i;
-  minus = λ m i. ap (symbol_by m.col) i;
+  marks = λ p m w i. ap (symbol_by p.col) i;
   some = (any, (codes "x", any.col), symbol_given any (codes "x") any_is_symbol);
 }
 
@@ -409,8 +402,7 @@ one_any_name line e = record {
   again = λ p x h. name_given p x h;
   numbers = λ p n i. ap name_by i;
   names = λ p name i. (name, name_given p name (i.0, i.1.valid));
-  opening = λ o i. ap name_by i;
-  minus = λ m i. ap name_by i;
+  marks = λ p m w i. ap name_by i;
   some = (any, codes "x", name_given any (codes "x") (any_is_symbol.0, any_is_symbol.1.valid));
 }
 
@@ -436,8 +428,7 @@ one_text line e = record {
   again = λ p x h. ap text_by h;
   numbers = λ p n i. ap text_by i;
   names = λ p name i. ap text_by i;
-  opening = λ o i. ap text_by i;
-  minus = λ m i. ap text_by i;
+  marks = λ p m w i. ap text_by i;
   some = (saying (a_text []), [], refl);
 }
 
@@ -482,7 +473,6 @@ one_alignment line e = record {
   again = λ p x h. ap power_by h.0 ∙ take_then (is_power x) _ _ (power_again x h.1);
   numbers = (saying (a_number 1), 1, 1, refl, refl);
   names = λ p name i. ap power_by i;
-  opening = λ o i. ap power_by i;
-  minus = λ m i. ap power_by i;
+  marks = λ p m w i. ap power_by i;
   some = (saying (a_number 1), 1, refl);
 }

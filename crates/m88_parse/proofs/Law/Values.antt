@@ -1,5 +1,5 @@
 -- The law of operands of several tokens: numbers with a sign, symbols with what is added to them, and halves of values.
-use Rattle.std.proofs.Common.{◌≡◌, ℕ, ◌≤◌, true, false, ◌==◌, nat_le, ◌⊎◌, inl, inr, List, [], ◌∷◌, ◌++◌, Option, Some, None, Ok, refl, sym, ap, ◌∙◌, arith, subst, eqb-true, leb-true, le-leb, if◌then◌else◌}
+use Rattle.std.proofs.Common.{◌≡◌, ℕ, ◌≤◌, true, false, ◌==◌, nat_le, ◌⊎◌, inl, inr, List, [], ◌∷◌, ◌++◌, Option, Some, None, Ok, Err, refl, sym, ap, ◌∙◌, arith, subst, eqb-true, leb-true, le-leb, if◌then◌else◌}
 use Rattle.m88_base.specs.declared.fixup.Kind.{Kind}
 use Rattle.m88_base.specs.declared.fixup.Fixup.{Fixup}
 use Rattle.m88_parse.specs.declared.unit.Value.{Value}
@@ -22,6 +22,14 @@ pub record Several (A : Type 0) (Is : List Piece → A → Type 0) (line e : ℕ
 
 pub several : (A : Type 0) (Is : List Piece → A → Type 0) (line e : ℕ) (ps front rest : List Piece) (v : A) (x : A × ReaderState) → ps ≡ front ++ rest → Is front v → (v, st line e rest) ≡ x → Several A Is line e ps x
 several A Is line e ps front rest v x t h k = subst (Several A Is line e ps) k (record { front = front; rest = rest; tokens = t; is = h; after = refl })
+
+-- what is read by a slot and then changed
+pub several_as : (A C : Type 0) (Is : List Piece → A → Type 0) (As : List Piece → C → Type 0) (f : A → C) (line e : ℕ) (ps : List Piece) (r : Read A) (x : C × ReaderState) → ((y : A × ReaderState) → r ≡ Ok y → Several A Is line e ps y)
+    → ((front : List Piece) (v : A) → Is front v → As front (f v)) → (r >>= λ (y : A × ReaderState). let z : Read C = Ok (f y.0, y.1) in z) ≡ Ok x → Several C As line e ps x
+several_as A C Is As f line e ps (Ok y) x reads made h =
+    let w = reads y refl in
+    several C As line e ps w.front w.rest (f y.0) x w.tokens (made w.front y.0 w.is) (ap (λ (u : ReaderState). let z : C × ReaderState = (f y.0, u) in z) (sym w.after) ∙ ok_same h)
+several_as A C Is As f line e ps (Err k) x reads made h = absurd cc
 
 -- a number with a sign of its own
 
@@ -207,17 +215,10 @@ symbol_value f = Ok (Symbol f.0, f.1)
 
 number_here : (kind : Kind) (line e : ℕ) (ps : List Piece) (x : Value × ReaderState) → (signed_at 2147483648 4294967295 (st line e ps) >>= number_value) ≡ Ok x → Several Value (IsValue kind) line e ps x
 number_here kind line e ps x h =
-    let b = bind_ok (signed_at 2147483648 4294967295 (st line e ps)) number_value x h in
-    let w = whole_read 2147483648 4294967295 line e ps b.0 b.1 in
-    several Value (IsValue kind) line e ps w.front w.rest (Number b.0.0) x w.tokens (word_signed w.front b.0.0 w.is)
-    (ap (λ (u : ReaderState). let y : Value × ReaderState = (Number b.0.0, u) in y) (sym w.after) ∙ ok_same b.2)
+    several_as ℕ Value (IsWhole 2147483648 4294967295) (IsValue kind) (λ n. Number n) line e ps (signed_at 2147483648 4294967295 (st line e ps)) x (whole_read 2147483648 4294967295 line e ps) word_signed h
 
 symbol_here : (kind : Kind) (line e : ℕ) (ps : List Piece) (x : Value × ReaderState) → (fixup_at kind (st line e ps) >>= symbol_value) ≡ Ok x → Several Value (IsValue kind) line e ps x
-symbol_here kind line e ps x h =
-    let b = bind_ok (fixup_at kind (st line e ps)) symbol_value x h in
-    let w = fixup_read kind line e ps b.0 b.1 in
-    several Value (IsValue kind) line e ps w.front w.rest (Symbol b.0.0) x w.tokens w.is
-    (ap (λ (u : ReaderState). let y : Value × ReaderState = (Symbol b.0.0, u) in y) (sym w.after) ∙ ok_same b.2)
+symbol_here kind line e ps x h = several_as Fixup Value (IsFixup kind) (IsValue kind) (λ f. Symbol f) line e ps (fixup_at kind (st line e ps)) x (fixup_read kind line e ps) (λ front f w. w) h
 
 value_by : (kind : Kind) (line e : ℕ) (ps : List Piece) (o : Option TokenValue) (x : Value × ReaderState) → value_on kind (st line e ps) o ≡ Ok x → Several Value (IsValue kind) line e ps x
 value_by kind line e ps None x h = number_here kind line e ps x h

@@ -37,12 +37,12 @@ token_each few A B num more nam line e slot o k g p s = by_given (o.given p) ref
     by_given : (x : Option A) → o.given p ≡ x → Leads few more line e (reader_of line e slot k) p ⊎ Faults more nam line (reader_of line e slot k) p
     by_given (Some x) h =
         inl (leads few more line e (reader_of line e slot k) (λ ps. fault_in (k x (st line e ps))) p (g x) (taken A B num nam line e slot o k p x h)
-        (inl (λ m. let y : ◌≡◌ {A = Option A} (Some x) None = sym h ∙ o.minus p m in absurd cc)))
+        (inl (λ m. let y : ◌≡◌ {A = Option A} (Some x) None = sym h ∙ o.marks p 45 (inr refl) m in absurd cc)))
     by_given None h = inr (λ ps. refused A B num nam line e slot o k p h ps ∙ ap (here line p.col) s)
 
 pub one_token : (few : ℕ) (A B : Type 0) (num : Bool) (nam : Naming) (line e : ℕ) (slot : ReaderState → Read A) {Is : A → Piece → Type 0} → OneToken A Is num nam line e slot → (k : A → ReaderState → Result B ParseFault)
     → ((x : A) → Good few line e (λ ps. fault_in (k x (st line e ps)))) → Node few num nam line e (reader_of line e slot k)
-one_token few A B num nam line e slot o k g = record { wants = record { numbers = numbers num o.numbers; names = names nam o.names; opening = λ p h. refuses p (o.opening p h) }; goes = begun; stop = inr (ap (λ (r : Read A). fault_in (r >>= λ (y : A × ReaderState). k y.0 y.1)) o.empty); each = λ p. token_each few A B num num nam line e slot o k g p refl }
+one_token few A B num nam line e slot o k g = record { wants = record { numbers = numbers num o.numbers; names = names nam o.names; opening = λ p h. refuses p (o.marks p 40 (inl refl) h) }; goes = begun; stop = inr (ap (λ (r : Read A). fault_in (r >>= λ (y : A × ReaderState). k y.0 y.1)) o.empty); each = λ p. token_each few A B num num nam line e slot o k g p refl }
   where
     goes_on : (p : Piece) (x : A) → o.given p ≡ Some x → Goes (λ ps. reader_of line e slot k (p ∷ ps))
     goes_on p x h = let y = (g x).0 in (y.0, taken A B num nam line e slot o k p x h y.0 ∙ y.1)
