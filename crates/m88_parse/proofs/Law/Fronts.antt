@@ -8,7 +8,7 @@ use Rattle.std.proofs.lemmas.Bool.{eqb-false}
 use Rattle.std.proofs.lemmas.Bool.Decides.{nat_tests}
 use Rattle.m88_base.specs.Name.{IsName, begins_name, continues_name}
 use Rattle.m88_parse.specs.declared.fault.ParseKind.{ParseKind}
-use Rattle.m88_parse.specs.declared.fault.ParseKind.TheVariants.{NotAscii, Syntax, OutOfRange}
+use Rattle.m88_parse.specs.declared.fault.ParseKind.TheVariants.{NotAscii, OutOfRange}
 use Rattle.m88_parse.specs.declared.scan.Flaw.{Flaw}
 use Rattle.m88_parse.specs.Reader.Tokens.{inside_len, holds_escapes, text_bytes, character, Cut, gap, cut, flaw, token_or_flaw, name_front, number_front, as_number, quoted_value, quoted, word_front, front, numeral}
 use Rattle.m88_parse.specs.Language.Bytes.{is_blank, is_comment, is_plain, is_mark, are_digits}

@@ -1,12 +1,12 @@
 -- The law of operands of several tokens: numbers with a sign, symbols with what is added to them, and halves of values.
-use Rattle.std.proofs.Common.{◌≡◌, ℕ, ◌≤◌, true, false, ◌==◌, nat_le, ◌⊎◌, inl, inr, List, [], ◌∷◌, ◌++◌, Option, Some, None, Ok, Err, refl, sym, ap, ◌∙◌, arith, subst, eqb-true, leb-true, le-leb, if◌then◌else◌}
+use Rattle.std.proofs.Common.{◌≡◌, ℕ, ◌≤◌, true, false, ◌==◌, nat_le, ◌⊎◌, inl, inr, List, [], ◌∷◌, ◌++◌, Option, Some, None, Ok, Err, refl, sym, ap, ◌∙◌, arith, subst, eqb-true, leb-true, le-leb}
 use Rattle.m88_base.specs.declared.fixup.Kind.{Kind}
 use Rattle.m88_base.specs.declared.fixup.Fixup.{Fixup}
 use Rattle.m88_parse.specs.declared.unit.Value.{Value}
 use Rattle.m88_parse.specs.declared.unit.Value.TheVariants.{Number, Symbol}
 use Rattle.m88_parse.specs.Language.Pieces.{TokenValue, a_name, a_number, a_text, a_mark, Piece}
 use Rattle.m88_parse.specs.Reader.State.{ReaderState, first, past, is_mark_of, is_next, ◌>>=◌}
-use Rattle.m88_parse.specs.Reader.Slots.{Read, negated, negative_on, unsigned_on, unsigned_at, signed_at, symbol_at, addend_at, fixup_at, value_on, value_at}
+use Rattle.m88_parse.specs.Reader.Slots.{Read, negated, negative_on, unsigned_at, signed_at, symbol_at, addend_at, fixup_at, value_on, value_at}
 use Rattle.m88_parse.specs.Language.Names.{IsMark, IsNumber}
 use Rattle.m88_parse.specs.Language.Operands.{minus, IsSigned, IsSymbolOf, IsAddend, IsFixup, IsValue}
 use Rattle.m88_parse.proofs.Law.Steps.{chosen, take_then, take_else}

@@ -1,21 +1,19 @@
 -- Where branches go.
-use Rattle.std.proofs.Common.{◌≡◌, ℕ, ◌-◌, ℤ, pos, Bool, true, false, if◌then◌else◌, ◌⊎◌, inl, inr, List, [], ◌∷◌, Some, None, Result, Ok, refl, sym, ap, ◌∙◌, codes}
+use Rattle.std.proofs.Common.{◌≡◌, ℕ, ◌-◌, ℤ, pos, true, false, if◌then◌else◌, inl, inr, List, [], ◌∷◌, Some, None, Result, Ok, refl, sym, ap, ◌∙◌, codes}
 use Rattle.std.specs.Prelude.{neg_ℤ}
 use Rattle.std.proofs.lemmas.Slice.Eq.{bytes_eq-Decides}
 use Rattle.m88_base.specs.declared.fixup.Kind.{Kind}
 use Rattle.m88_base.specs.declared.fixup.Fixup.{Fixup}
-use Rattle.m88_parse.specs.declared.fault.ParseKind.TheVariants.{Syntax}
 use Rattle.m88_parse.specs.declared.fault.ParseFault.{ParseFault}
 use Rattle.m88_parse.specs.declared.operand.Goal.{Goal}
-use Rattle.m88_parse.specs.Reader.Names.{is_here, is_symbol}
-use Rattle.m88_parse.specs.Language.Pieces.{TokenValue, a_name, a_number, a_text, a_mark, Piece}
+use Rattle.m88_parse.specs.Reader.Names.{is_here}
+use Rattle.m88_parse.specs.Language.Pieces.{TokenValue, Piece}
 use Rattle.m88_parse.specs.Reader.State.{ReaderState, past, is_mark_of, is_next, ◌>>=◌}
 use Rattle.m88_parse.specs.Reader.Slots.{Read, fixup_at}
 use Rattle.m88_parse.specs.Reader.Operands.{distance_at, words_at, is_here_on, goal_at}
-use Rattle.m88_parse.specs.Language.Names.{IsMark, IsSymbol}
+use Rattle.m88_parse.specs.Language.Names.{IsSymbol}
 use Rattle.m88_parse.proofs.Law.Steps.{tested, take_then, take_else}
 use Rattle.m88_parse.proofs.Law.Slots.{st, no_name, symbols, any, any_is_symbol}
-use Rattle.m88_parse.proofs.Law.Names.{symbol_name_again}
 use Rattle.m88_parse.proofs.Law.LineFaults.Readers.{fault_in, Reader, Goes, Good}
 use Rattle.m88_parse.proofs.Law.LineFaults.Nodes.{Node, leads, or_mark, good, each_as}
 use Rattle.m88_parse.proofs.Law.LineFaults.Slots.{reader_of, one_token}

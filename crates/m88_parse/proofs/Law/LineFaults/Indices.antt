@@ -1,6 +1,5 @@
 -- Operands that may be a register or something else, what stands behind a base register, and bit fields.
-use Rattle.std.proofs.Common.{◌≡◌, ℕ, Bool, true, false, if◌then◌else◌, ◌⊎◌, inl, inr, List, [], ◌∷◌, Option, Some, None, Result, Ok, Err, refl, sym, ap, ◌∙◌, codes}
-use Rattle.std.specs.Option.{option_map}
+use Rattle.std.proofs.Common.{◌≡◌, ℕ, Bool, true, false, if◌then◌else◌, ◌⊎◌, inl, inr, List, [], ◌∷◌, Option, Some, None, Result, Ok, refl, sym, ap, ◌∙◌, codes}
 use Rattle.m88_base.specs.Reg.{reg_of}
 use Rattle.m88_base.specs.declared.reg.Reg.{Reg}
 use Rattle.m88_parse.specs.declared.fault.ParseFault.{ParseFault}
@@ -14,7 +13,7 @@ use Rattle.m88_parse.specs.declared.operand.Field.TheVariants as field
 use Rattle.m88_parse.specs.Reader.Names.{register_of}
 use Rattle.m88_parse.specs.Language.Pieces.{TokenValue, a_name, a_number, a_text, a_mark, Piece}
 use Rattle.m88_parse.specs.Reader.State.{ReaderState, is_mark_of, is_next, ◌>>=◌}
-use Rattle.m88_parse.specs.Reader.Slots.{Read, mark_at, unsigned_at, named, register_on, register_at}
+use Rattle.m88_parse.specs.Reader.Slots.{Read, mark_at, unsigned_at, register_at}
 use Rattle.m88_parse.specs.Reader.Operands.{immediate_at, register_in, operand_of, operand_at, scaled_at, index_at, user_index_at, width_at, literal_at, field_on, field_at}
 use Rattle.m88_parse.specs.Language.Names.{IsMark}
 use Rattle.m88_parse.proofs.Law.Steps.{take_then, take_else}

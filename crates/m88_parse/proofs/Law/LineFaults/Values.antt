@@ -16,7 +16,6 @@ use Rattle.m88_parse.specs.Language.Names.{IsMark, IsNumber, IsNamed, IsSymbol}
 use Rattle.m88_parse.specs.Language.LineFaults.{MayFollow, NumberMayFollow, NameMayFollow, signed_out_of_range, other_token, misplaced, EndsInSign, EndsInHalf}
 use Rattle.m88_parse.proofs.Law.Steps.{take_then, take_else}
 use Rattle.m88_parse.proofs.Law.Slots.{st, mark_says, no_name, symbols, kind_for, saying, one_number, any, any_is_symbol, plain_kind, one_symbol}
-use Rattle.m88_parse.proofs.Law.Names.{symbol_name_again}
 use Rattle.m88_parse.proofs.Law.LineFaults.Readers.{fault_in, here, Reader, heard, Goes, Reads, EndsAt, Told, Traced, Good}
 use Rattle.m88_parse.proofs.Law.LineFaults.Nodes.{Leads, Faults, Node, node_as, or_lead, or_mark, good, reads_on, continues, follows, follows_not, told, ended, moved, same_last, fresh_behind, each_as}
 use Rattle.m88_parse.proofs.Law.LineFaults.Slots.{reader_of, one_token, token_each, turns}
