@@ -1,31 +1,25 @@
 -- The law of operations: a directive or an instruction is read as the body that it is related to.
-use Rattle.std.proofs.Common.{◌≡◌, ℕ, ◌≤◌, Bool, true, false, inl, inr, List, [], ◌∷◌, Option, Some, None, Ok, Result, refl, sym, ap, ap₂, ◌∙◌, arith, subst, bytes_eq, find, append-nil}
+use Rattle.std.proofs.Common.{◌≡◌, ℕ, Bool, true, false, inl, inr, List, [], ◌∷◌, Option, Some, None, Ok, refl, sym, ap, ap₂, ◌∙◌, arith, subst, bytes_eq, find}
 use Rattle.std.proofs.lemmas.Slice.Eq.{bytes_eq-Decides}
-use Rattle.m88_base.specs.declared.fixup.Kind.TheVariants.{Abs32}
 use Rattle.m88_isa.specs.declared.mnemonic.Mnemonic.{Mnemonic}
 use Rattle.m88_isa.specs.declared.mnemonic.Mnemonic.TheVariants as mnemonic
 use Rattle.m88_isa.specs.Mnemonic.{text_of, all_mnemonics, mnemonic_of}
 use Rattle.m88_isa.proofs.Spelling.{spelled_once}
-use Rattle.m88_parse.specs.declared.fault.ParseFault.{ParseFault}
 use Rattle.m88_parse.specs.declared.unit.Body.{Body}
 use Rattle.m88_parse.specs.declared.unit.Body.TheVariants as body
-use Rattle.m88_parse.specs.declared.unit.Value.{Value}
 use Rattle.m88_parse.specs.declared.directive.Directive.{Directive}
 use Rattle.m88_parse.specs.declared.directive.Directive.TheVariants as directive
 use Rattle.m88_parse.specs.Reader.Names.{is_module}
 use Rattle.m88_parse.specs.Language.Pieces.{TokenValue, a_name, a_number, a_text, a_mark, Piece}
-use Rattle.m88_parse.specs.Reader.State.{ReaderState, ◌>>=◌}
-use Rattle.m88_parse.specs.Reader.Slots.{mark_at, unsigned_at, signed_at, symbol_at, text_at, alignment_at}
 use Rattle.m88_parse.specs.Language.Shapes.{shape_of}
 use Rattle.m88_parse.specs.Reader.Directives.{directive_text, all_directives, directive_of}
-use Rattle.m88_parse.specs.Reader.Grammar.{ends, unsigned_then, read, list_at, word_item_at, Part, a_half, a_byte, modulus_of, part_item_at, parts_end, form_of, directive_form}
+use Rattle.m88_parse.specs.Reader.Grammar.{read, form_of, directive_form}
 use Rattle.m88_parse.specs.Reader.Source.{instruction_form, form_in, by_form, operation_on, operation_at}
-use Rattle.m88_parse.specs.Language.Names.{IsComma, IsNumber, IsNamed, IsSymbol}
-use Rattle.m88_parse.specs.Language.Operands.{IsSigned, IsValue}
-use Rattle.m88_parse.specs.Language.Statements.{AreParted, IsBody, text, data_section, at, word, half, byte, ascii, zeros, align, global, set, code}
+use Rattle.m88_parse.specs.Language.Names.{IsNamed}
+use Rattle.m88_parse.specs.Language.Statements.{IsBody, text, data_section, at, word, half, byte, ascii, zeros, align, global, set, code}
 use Rattle.m88_parse.proofs.Law.Steps.{chosen, take_else}
 use Rattle.m88_parse.proofs.Law.Names.{some_same}
-use Rattle.m88_parse.proofs.Law.Slots.{st, bind_ok, bind_to, mark_read, mark_again, IsUpTo, IsSymbolAt, IsText, IsPower, one_alignment, one_number, one_symbol, one_text, slot_again, slot_read}
+use Rattle.m88_parse.proofs.Law.Slots.{st}
 use Rattle.m88_parse.proofs.Law.Values.{word_signed, signed_word}
 use Rattle.m88_parse.proofs.Law.Forms.{Meets, form_reads, form_meets}
 use Rattle.m88_parse.proofs.Law.Codes.{first_met, only_met, met_one, met_first, operands_met, met_operands}

@@ -19,11 +19,11 @@ use Rattle.m88_parse.specs.Language.Pieces.{Piece}
 use Rattle.m88_parse.specs.Reader.State.{ReaderState, ◌>>=◌}
 use Rattle.m88_parse.specs.Reader.Slots.{Read, mark_at, end_at, signed_at}
 use Rattle.m88_parse.specs.Reader.Operands.{operand_at, immediate_at, scaled_at, index_at, user_index_at, field_at, goal_at}
-use Rattle.m88_parse.specs.Reader.Grammar.{Form, ends, comma_then, register_then, control_then, bit_then, mask_then, unsigned_then, alignment_then, symbol_then, bound_then, text_then, signed_ends, immediate_ends, operand_ends, scaled_ends, index_ends, user_index_ends, field_ends, goal_ends, words_end, parts_end, Part, modulus_of, word_item_at, part_item_at, list_at, end_with, read}
+use Rattle.m88_parse.specs.Reader.Grammar.{Form, ends, comma_then, register_then, control_then, bit_then, mask_then, unsigned_then, alignment_then, symbol_then, bound_then, text_then, signed_ends, immediate_ends, operand_ends, scaled_ends, index_ends, user_index_ends, field_ends, goal_ends, words_end, parts_end, modulus_of, word_item_at, part_item_at, list_at, end_with, read}
 use Rattle.m88_parse.specs.Language.Names.{IsComma, IsRegister, IsControl, IsBit, IsCondition}
 use Rattle.m88_parse.specs.Language.Operands.{IsScaled, IsSigned, IsValue}
 use Rattle.m88_parse.specs.Language.Statements.{AreParted}
-use Rattle.m88_parse.proofs.Law.Slots.{st, ok_same, bind_ok, bind_to, One, mark_read, mark_again, end_read, Naming, OneToken, slot_read, slot_again, IsUpTo, one_number, one_register, one_control, one_bit, one_mask, IsSymbolAt, one_symbol, IsText, one_text, IsPower, one_alignment}
+use Rattle.m88_parse.proofs.Law.Slots.{st, ok_same, bind_ok, bind_to, mark_read, mark_again, end_read, Naming, OneToken, slot_read, slot_again, IsUpTo, one_number, one_register, one_control, one_bit, one_mask, IsSymbolAt, one_symbol, IsText, one_text, IsPower, one_alignment}
 use Rattle.m88_parse.proofs.Law.Values.{Several, IsWhole, whole_read, whole_again}
 use Rattle.m88_parse.proofs.Law.Operands.{IsImmediateOf, immediate_read, immediate_again, IsOperandOf, operand_read, operand_register_again, operand_immediate_again, IsBoundOf, one_bound}
 use Rattle.m88_parse.proofs.Law.Indices.{scaled_read, scaled_again, IsIndexOf, index_read, index_scaled_again, index_offset_again, IsUserIndexOf, user_index_read, user_scaled_again, user_plain_again, IsFieldOf, field_read, field_register_again, field_literal_again}

@@ -191,9 +191,9 @@ field_node few B line e most k g = record {
   wants = record {
     numbers = let w = lit.wants.numbers in (w.0, w.1, w.2, (w.3.0, as_literal w.0 w.3.0 (a_number w.1) w.2 number_is ∙ w.3.1));
     names =
-    let a = reg.wants.names.0 in
-    let b = reg.wants.names.1 in
-    ((a.0, a.1, a.2, (a.3.0, as_register_at a.0 a.3.0 a.1 a.2 ∙ a.3.1)), (b.0, b.1, b.2, λ ps x. b.3 ps (sym (as_register_at b.0 ps b.1 b.2.0) ∙ x)));
+        let a = reg.wants.names.0 in
+        let b = reg.wants.names.1 in
+        ((a.0, a.1, a.2, (a.3.0, as_register_at a.0 a.3.0 a.1 a.2 ∙ a.3.1)), (b.0, b.1, b.2, λ ps x. b.3 ps (sym (as_register_at b.0 ps b.1 b.2.0) ∙ x)));
     opening = λ o h ps x. lit.wants.opening o h ps (sym (as_literal o ps (a_mark 40) h mark_is) ∙ x);
   };
   goes = let a = reg.wants.names.0 in (a.0 ∷ a.3.0, as_register_at a.0 a.3.0 a.1 a.2 ∙ a.3.1);
