@@ -16,10 +16,6 @@ abbrev pub Collects : {A : Type 0} → (ReaderState → Read A) → Bool → Lis
 Collects item true done s total = (room : ℕ) × (length s.rest < room) × (with_items done (many item room s) ≡ total)
 Collects item false done s total = total ≡ Ok (done, s)
 
-with_none : {A : Type 0} (r : Read (List A)) → with_items [] r ≡ r
-with_none (Ok x) = refl
-with_none (Err e) = refl
-
 -- what follows an item
 abbrev after : {A : Type 0} → (ReaderState → Read A) → ℕ → Read A → Read (List A)
 after item room r = r >>= λ x. cond (is_next 44 x.1) (many item room (past x.1) >>= λ xs. Ok (x.0 ∷ xs.0, xs.1)) (Ok (x.0 ∷ [], x.1))

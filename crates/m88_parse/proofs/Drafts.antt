@@ -1,10 +1,7 @@
 -- The modules of a source as they grow, row by row.
 use Rattle.std.proofs.Common.{◌≡◌, ℕ, ◌+◌, ◌⊎◌, inl, inr, List, [], ◌∷◌, ◌++◌, length, Option, Some, None, Result, Ok, Err, refl, sym, ap, ◌∙◌, append_assoc, arith}
 use Rattle.std.specs.Prelude.{IfOk, IfErr, MatchResult}
-use Rattle.std.specs.List.{All}
-use Rattle.std.specs.Option.{IfSome}
 use Rattle.std.proofs.lemmas.List.{append-nil}
-use Rattle.std.proofs.lemmas.List.Elements.{All-push}
 use Rattle.m88_parse.specs.declared.fault.ParseFault.{ParseFault}
 use Rattle.m88_parse.specs.declared.unit.Statement.{Statement}
 use Rattle.m88_parse.specs.declared.unit.Module.{Module}
@@ -16,7 +13,6 @@ use Rattle.m88_parse.specs.Reader.State.{◌>>=◌}
 use Rattle.m88_base.specs.Lines.{lines_of}
 use Rattle.m88_parse.specs.Reader.Source.{grouped, row_of, rows_of, with_row, unit_of_rows, unit_of}
 use Rattle.m88_parse.specs.Reader.Drafts.{Drafted, nothing_yet, with_more, modules_with, modules_after, begun, leads, Follows, LeadsOn, EndsWith}
-use Rattle.m88_parse.specs.WellFormed.{IsFormedStatement, IsFormedModule}
 
 more_first : (closed : List Module) (m : Module) (x : Statement) (g : List Statement) (ms : List Module)
     → closed ++ with_more (with_more m (x ∷ [])) g ∷ ms ≡ closed ++ with_more m (x ∷ g) ∷ ms
@@ -104,14 +100,6 @@ pub ends_all : (number : ℕ) (rest : List ℕ) (d : Drafted) (total : Result So
 unfolding rows_of lines_of
 ends_all number [] d total h so_far = sym so_far
 ends_all number (b ∷ bs) d total h so_far = absurd (omega arith)
-
--- what is kept of each statement
-no_statements : All IsFormedStatement []
-no_statements k d h = absurd (omega arith)
-
-pub statement_formed : (current : Option Module) (x : Statement) → IfSome current IsFormedModule → IsFormedStatement x → IsFormedModule (with_more (begun current) (x ∷ []))
-statement_formed None x h s = All-push IsFormedStatement [] x no_statements s
-statement_formed (Some m) x h s = All-push IsFormedStatement m.statements x h s
 
 -- a line by its row
 pub line_fault : (number : ℕ) (line : List ℕ) (before : Drafted) (f : ParseFault)

@@ -1,15 +1,15 @@
--- The law of instructions, the other way round: what is related to the operands of a form is read of them.
-use Rattle.std.proofs.Common.{◌≡◌, ℕ, ◌<◌, ◌^◌, ℤ, Bool, true, false, List, [], ◌∷◌, Option, None, Ok, Result, refl, ap, ◌∙◌, arith}
+-- The law of instructions: the slots of a form are met by the operands that make its instruction, and by no others.
+use Rattle.std.proofs.Common.{◌≡◌, Bool, true, false, List, [], ◌∷◌, Option, None, refl, sym, ap, ◌∙◌, arith, subst}
 use Rattle.m88_base.specs.declared.reg.Reg.{Reg}
-use Rattle.m88_base.specs.declared.fixup.Kind.{Kind}
-use Rattle.m88_base.specs.declared.fixup.Kind.TheVariants.{Pc26, Pc16}
 use Rattle.m88_base.specs.declared.fixup.Fixup.{Fixup}
+use Rattle.m88_isa.specs.declared.instr.ImmOp.{ImmOp}
+use Rattle.m88_isa.specs.declared.instr.RegOp.{RegOp}
+use Rattle.m88_isa.specs.declared.instr.MemOp.{MemOp}
+use Rattle.m88_isa.specs.declared.instr.BitOp.{BitOp}
 use Rattle.m88_isa.specs.declared.instr.Instr.{Instr}
 use Rattle.m88_isa.specs.declared.instr.Instr.TheVariants as instr
-use Rattle.m88_parse.specs.declared.fault.ParseFault.{ParseFault}
 use Rattle.m88_parse.specs.declared.unit.Body.{Body}
 use Rattle.m88_parse.specs.declared.unit.Body.TheVariants as body
-use Rattle.m88_parse.specs.declared.operand.Immediate.{Immediate}
 use Rattle.m88_parse.specs.declared.operand.Operand.{Operand}
 use Rattle.m88_parse.specs.declared.operand.Operand.TheVariants as operand
 use Rattle.m88_parse.specs.declared.operand.Bound.{Bound}
@@ -18,177 +18,182 @@ use Rattle.m88_parse.specs.declared.operand.Index.{Index}
 use Rattle.m88_parse.specs.declared.operand.Index.TheVariants as index
 use Rattle.m88_parse.specs.declared.operand.Field.{Field}
 use Rattle.m88_parse.specs.declared.operand.Field.TheVariants as field
-use Rattle.m88_parse.specs.declared.operand.Goal.{Goal}
 use Rattle.m88_parse.specs.declared.shape.Shape.{Shape}
+use Rattle.m88_parse.specs.declared.shape.Shape.TheVariants as shape
 use Rattle.m88_parse.specs.Language.Pieces.{Piece}
-use Rattle.m88_parse.specs.Reader.State.{ReaderState}
-use Rattle.m88_parse.specs.Reader.Slots.{mark_at, unsigned_at, control_at, bit_at, mask_at}
-use Rattle.m88_parse.specs.Reader.Operands.{immediate_at, operand_at, bound_at, scaled_at, index_at, user_index_at, field_at, goal_at}
-use Rattle.m88_parse.specs.Reader.Grammar.{Form, ends, register_then, control_then, bit_then, mask_then, unsigned_then, immediate_then, operand_then, bound_then, scaled_then, index_then, user_index_then, field_then, goal_ends, read, comma_then, code_only, either_body, memory_body, bits_body, bounds_body, form_of}
-use Rattle.m88_parse.specs.Language.Operands.{most_width, IsImmediate, IsScaled, IsGoal, AreOperands, either_immediate, either_register, immediate, registers, offset, index as plain_index, scaled, user_index, user_scaled, address, literal, field as register_field, find, branch, branch_bit, branch_condition, jump, trap_bit, trap_condition, bound_number, bound_register, return, control_load, control_store, control_exchange}
-use Rattle.m88_parse.specs.Language.Names.{IsComma, IsNumber, IsControl, IsBit, IsCondition}
-use Rattle.m88_parse.proofs.Law.Slots.{st, bind_to, mark_again, number_slot_again, control_slot_again, bit_again, mask_again}
-use Rattle.m88_parse.proofs.Law.Operands.{immediate_again, operand_register_again, operand_immediate_again, bound_register_again, bound_number_again}
-use Rattle.m88_parse.proofs.Law.Indices.{scaled_again, index_scaled_again, index_offset_again, user_scaled_again, user_plain_again, field_register_again, field_literal_again}
-use Rattle.m88_parse.proofs.Law.Goals.{goal_again}
-use Rattle.m88_parse.proofs.Law.Forms.{ends_again, behind_again, register_to, last_to}
+use Rattle.m88_parse.specs.Reader.Grammar.{either_body, memory_body, bits_body, bounds_body, form_of}
+use Rattle.m88_parse.specs.Language.Operands.{most_width, Behind, IsLast, AreOperands, either_immediate, either_register, immediate, registers, offset, index as plain_index, scaled, user_index, user_scaled, address, literal, field as register_field, find, branch, branch_bit, branch_condition, jump, trap_bit, trap_condition, bound_number, bound_register, return, control_load, control_store, control_exchange}
+use Rattle.m88_parse.specs.Language.Names.{IsComma, IsRegister}
+use Rattle.m88_parse.proofs.Law.Operands.{IsOperandOf, IsBoundOf}
+use Rattle.m88_parse.proofs.Law.Indices.{IsIndexOf, UserIndex, IsFieldOf}
+use Rattle.m88_parse.proofs.Law.Forms.{Then, AfterComma, Meets}
 
--- a code and its end
-abbrev done : Instr → Option Fixup → Result Body ParseFault
-done i f = Ok (body.Code i f)
+-- a token and a comma, a register and a comma, and a token that stands last
 
-operand_to : (made : Operand → Body) (line e : ℕ) (ps : List Piece) (x : Operand) → operand_at (st line e ps) ≡ Ok (x, st line e []) → read (operand_then (λ y. ends (made y))) (st line e ps) ≡ Ok (made x)
-unfolding read
-operand_to made line e ps x h = bind_to (operand_at (st line e ps)) (λ (y : Operand × ReaderState). read (ends (made y.0)) y.1) (x, st line e []) (Ok (made x)) h (ends_again line e (made x))
+pub record First (A : Type 0) (Is : A → Piece → Type 0) (Next : A → List Piece → Type 0) (ps : List Piece) : Type 0 where
+  pub value : A
+  pub piece : Piece
+  pub comma : Piece
+  pub rest : List Piece
+  pub tokens : ps ≡ piece ∷ comma ∷ rest
+  pub is : Is value piece
+  pub parted : IsComma comma
+  pub next : Next value rest
 
-immediate_to : (made : Immediate → Body) (line e : ℕ) (ps : List Piece) (imm : ℕ) (fixup : Option Fixup) → IsImmediate ps imm fixup → read (immediate_then (λ y. ends (made y))) (st line e ps) ≡ Ok (made (record { imm = imm; fixup = fixup }))
-unfolding read
-immediate_to made line e ps imm fixup h =
-    let x : Immediate = record { imm = imm; fixup = fixup } in
-    bind_to (immediate_at (st line e ps)) (λ (y : Immediate × ReaderState). read (ends (made y.0)) y.1) (x, st line e []) (Ok (made x)) (immediate_again line e ps imm fixup h) (ends_again line e (made x))
+pub first_met : {A : Type 0} {Is : A → Piece → Type 0} {Next : A → List Piece → Type 0} {ps : List Piece} → Then A Is (λ x. AfterComma (Next x)) ps → First A Is Next ps
+first_met w =
+    let c = w.next in
+    record { value = w.value; piece = w.piece; comma = c.0; rest = c.1; tokens = w.tokens ∙ ap (λ (qs : List Piece). w.piece ∷ qs) c.2; is = w.is; parted = c.3; next = c.4 }
 
-index_to : (made : Index → Body) (line e : ℕ) (ps : List Piece) (x : Index) → index_at (st line e ps) ≡ Ok (x, st line e []) → read (index_then (λ y. ends (made y))) (st line e ps) ≡ Ok (made x)
-unfolding read
-index_to made line e ps x h = bind_to (index_at (st line e ps)) (λ (y : Index × ReaderState). read (ends (made y.0)) y.1) (x, st line e []) (Ok (made x)) h (ends_again line e (made x))
+behind_met : {Next : Reg → List Piece → Type 0} {ps : List Piece} → Then Reg IsRegister (λ x. AfterComma (Next x)) ps → (d : Reg) × (rest : List Piece) × Behind d ps rest × Next d rest
+behind_met w = let f = first_met w in (f.value, f.rest, record { operand = f.piece; comma = f.comma; tokens = f.tokens; register = f.is; parted = f.parted }, f.next)
 
-user_to : (made : Reg → Bool → Instr) (line e : ℕ) (ps : List Piece) (r : Reg) (t : Bool) → user_index_at (st line e ps) ≡ Ok ((r, t), st line e []) → read (user_index_then (λ s2 t. code_only (made s2 t))) (st line e ps) ≡ Ok (body.Code (made r t) None)
-unfolding read
-user_to made line e ps r t h = bind_to (user_index_at (st line e ps)) (λ (y : (Reg × Bool) × ReaderState). read (code_only (made y.0.0 y.0.1)) y.1) ((r, t), st line e []) (done (made r t) None) h (ends_again line e (body.Code (made r t) None))
+pub only_met : {A : Type 0} {Is : A → Piece → Type 0} {made : A → Body} {ps : List Piece} {b : Body} → Then A Is (λ x qs. (qs ≡ []) × (made x ≡ b)) ps → (x : A) × (p : Piece) × (ps ≡ p ∷ []) × Is x p × (made x ≡ b)
+only_met w = let n = w.next in (w.value, w.piece, w.tokens ∙ ap (λ (qs : List Piece). w.piece ∷ qs) n.0, w.is, n.1)
 
-scaled_to : (made : Reg → Instr) (line e : ℕ) (ps : List Piece) (r : Reg) → IsScaled r ps → read (scaled_then (λ s2. code_only (made s2))) (st line e ps) ≡ Ok (body.Code (made r) None)
-unfolding read
-scaled_to made line e ps r h = bind_to (scaled_at (st line e ps)) (λ (y : Reg × ReaderState). read (code_only (made y.0)) y.1) (r, st line e []) (done (made r) None) (scaled_again line e r ps h) (ends_again line e (body.Code (made r) None))
+last_met : {made : Reg → Body} {ps : List Piece} {b : Body} → Then Reg IsRegister (λ x qs. (qs ≡ []) × (made x ≡ b)) ps → (r : Reg) × IsLast r ps × (made r ≡ b)
+last_met w = let k = only_met w in (k.0, subst (IsLast k.0) (sym k.2) k.3, k.4)
 
-field_to : (most : ℕ) (made : Field → Body) (line e : ℕ) (ps : List Piece) (x : Field) → field_at most (st line e ps) ≡ Ok (x, st line e []) → read (field_then most (λ y. ends (made y))) (st line e ps) ≡ Ok (made x)
-unfolding read
-field_to most made line e ps x h = bind_to (field_at most (st line e ps)) (λ (y : Field × ReaderState). read (ends (made y.0)) y.1) (x, st line e []) (Ok (made x)) h (ends_again line e (made x))
+pub met_one : {A : Type 0} {Is : A → Piece → Type 0} {Next : A → List Piece → Type 0} {p : Piece} {rest : List Piece} (x : A) → Is x p → Next x rest → Then A Is Next (p ∷ rest)
+met_one {p = p} {rest = rest} x h n = record { value = x; piece = p; rest = rest; tokens = refl; is = h; next = n }
 
-goal_to : (kind : Kind) (bits limit : ℕ) (made : Goal → Body) (line e : ℕ) (ps : List Piece) (words : ℤ) (fixup : Option Fixup) → limit ≡ 2 ^ bits → IsGoal kind bits ps words fixup
-    → read (goal_ends kind limit made) (st line e ps) ≡ Ok (made (record { words = words; fixup = fixup }))
-unfolding read
-goal_to kind bits limit made line e ps words fixup w h =
-    let x : Goal = record { words = words; fixup = fixup } in
-    bind_to (goal_at kind limit (st line e ps)) (λ (y : Goal × ReaderState). read (ends (made y.0)) y.1) (x, st line e []) (Ok (made x)) (goal_again kind bits limit line e ps words fixup w h) (ends_again line e (made x))
+pub met_first : {A : Type 0} {Is : A → Piece → Type 0} {Next : A → List Piece → Type 0} {p c : Piece} {rest : List Piece} (x : A) → Is x p → IsComma c → Next x rest → Then A Is (λ y. AfterComma (Next y)) (p ∷ c ∷ rest)
+met_first {c = c} {rest = rest} x h k n = met_one x h (c, rest, refl, k, n)
 
-bound_to : (made : Bound → Body) (line e : ℕ) (ps : List Piece) (x : Bound) → bound_at (st line e ps) ≡ Ok (x, st line e []) → read (bound_then (λ y. ends (made y))) (st line e ps) ≡ Ok (made x)
-unfolding read
-bound_to made line e ps x h = bind_to (bound_at (st line e ps)) (λ (y : Bound × ReaderState). read (ends (made y.0)) y.1) (x, st line e []) (Ok (made x)) h (ends_again line e (made x))
+met_behind : {Next : Reg → List Piece → Type 0} {d : Reg} {ps rest : List Piece} → Behind d ps rest → Next d rest → Then Reg IsRegister (λ x. AfterComma (Next x)) ps
+met_behind {d = d} {rest = rest} w n = record { value = d; piece = w.operand; rest = w.comma ∷ rest; tokens = w.tokens; is = w.register; next = (w.comma, rest, refl, w.parted, n) }
 
-vector_to : (made : ℕ → Instr) (line e n : ℕ) (p : Piece) → IsNumber n p → n < 512 → read (unsigned_then 511 (λ v. code_only (made v))) (st line e (p ∷ [])) ≡ Ok (body.Code (made n) None)
-unfolding read
-vector_to made line e n p h l = bind_to (unsigned_at 511 (st line e (p ∷ []))) (λ (y : ℕ × ReaderState). read (code_only (made y.0)) y.1) (n, st line e []) (done (made n) None) (number_slot_again 511 line e n p [] h (omega arith)) (ends_again line e (body.Code (made n) None))
+met_last : {Next : Reg → List Piece → Type 0} {ps : List Piece} (r : Reg) → IsLast r ps → Next r [] → Then Reg IsRegister Next ps
+met_last {ps = []} r h n = absurd h
+met_last {ps = p ∷ []} r h n = met_one r h n
+met_last {ps = p ∷ q ∷ ps} r h n = absurd h
 
-control_to : (float : Bool) (made : ℕ → Instr) (line e n : ℕ) (p : Piece) → IsControl float n p → read (control_then float (λ cr. code_only (made cr))) (st line e (p ∷ [])) ≡ Ok (body.Code (made n) None)
-unfolding read
-control_to float made line e n p h = bind_to (control_at float (st line e (p ∷ []))) (λ (y : ℕ × ReaderState). read (code_only (made y.0)) y.1) (n, st line e []) (done (made n) None) (control_slot_again float line e n p [] h) (ends_again line e (body.Code (made n) None))
+-- what the operands of a form are, where they are read
+pub record Coded (sh : Shape) (ps : List Piece) (b : Body) : Type 0 where
+  pub code : Instr
+  pub fixup : Option Fixup
+  pub body_is : body.Code code fixup ≡ b
+  pub operands : AreOperands sh ps code fixup
 
-bit_to : (next : ℕ → Form) (line e n : ℕ) (p c : Piece) (ps : List Piece) (z : Result Body ParseFault) → IsBit n p → IsComma c → read (next n) (st line e ps) ≡ z → read (bit_then (λ b. comma_then (next b))) (st line e (p ∷ c ∷ ps)) ≡ z
-unfolding read
-bit_to next line e n p c ps z h k g =
-    bind_to (bit_at (st line e (p ∷ c ∷ ps))) (λ (y : ℕ × ReaderState). read (comma_then (next y.0)) y.1) (n, st line e (c ∷ ps)) z (bit_again line e n p (c ∷ ps) h)
-    (bind_to (mark_at 44 (st line e (c ∷ ps))) (λ (t : ReaderState). read (next n) t) (st line e ps) z (mark_again 44 line e c ps k) g)
+coded : (sh : Shape) (ps : List Piece) (b : Body) (i : Instr) (f : Option Fixup) → AreOperands sh ps i f → body.Code i f ≡ b → Coded sh ps b
+coded sh ps b i f h k = record { code = i; fixup = f; body_is = k; operands = h }
 
-mask_to : (next : ℕ → Form) (line e n : ℕ) (p c : Piece) (ps : List Piece) (z : Result Body ParseFault) → IsCondition n p → IsComma c → read (next n) (st line e ps) ≡ z → read (mask_then (λ b. comma_then (next b))) (st line e (p ∷ c ∷ ps)) ≡ z
-unfolding read
-mask_to next line e n p c ps z h k g =
-    bind_to (mask_at (st line e (p ∷ c ∷ ps))) (λ (y : ℕ × ReaderState). read (comma_then (next y.0)) y.1) (n, st line e (c ∷ ps)) z (mask_again line e n p (c ∷ ps) h)
-    (bind_to (mark_at 44 (st line e (c ∷ ps))) (λ (t : ReaderState). read (next n) t) (st line e ps) z (mark_again 44 line e c ps k) g)
+either_coded : (i : ImmOp) (r : RegOp) (d s1 : Reg) (ps qs rest : List Piece) (x : Operand) (b : Body) → Behind d ps qs → Behind s1 qs rest → IsOperandOf rest x → either_body i r d s1 x ≡ b → Coded (shape.Either i r) ps b
+either_coded i r d s1 ps qs rest (operand.Register s2) b u v h k = coded (shape.Either i r) ps b (instr.Regs r d s1 s2) None (either_register u v h) k
+either_coded i r d s1 ps qs rest (operand.Immediate x) b u v h k = coded (shape.Either i r) ps b (instr.Imm i d s1 x.imm) x.fixup (either_immediate u v h) k
+
+memory_coded : (op : MemOp) (d s1 : Reg) (ps qs : List Piece) (p : Piece) (rest : List Piece) (x : Index) (b : Body) → Behind d ps qs → qs ≡ p ∷ rest → IsRegister s1 p → IsIndexOf rest x → memory_body op d s1 x ≡ b → Coded (shape.Memory op) ps b
+memory_coded op d s1 ps qs p rest (index.Scaled s2) b u t r h k = coded (shape.Memory op) ps b (instr.MemReg op d s1 s2 true false) None (scaled (subst (Behind d ps) t u) r h) k
+memory_coded op d s1 ps qs p rest (index.Offset (operand.Register s2)) b u t r h k =
+    coded (shape.Memory op) ps b (instr.MemReg op d s1 s2 false false) None
+    (plain_index u (record { operand = p; comma = h.0; tokens = t ∙ ap (λ (xs : List Piece). p ∷ xs) h.2; register = r; parted = h.3 }) h.4) k
+memory_coded op d s1 ps qs p rest (index.Offset (operand.Immediate x)) b u t r h k =
+    coded (shape.Memory op) ps b (instr.MemImm op d s1 x.imm) x.fixup
+    (offset u (record { operand = p; comma = h.0; tokens = t ∙ ap (λ (xs : List Piece). p ∷ xs) h.2; register = r; parted = h.3 }) h.4) k
+
+user_coded : (op : MemOp) (d s1 s2 : Reg) (t : Bool) (ps qs : List Piece) (p : Piece) (rest : List Piece) (b : Body) → Behind d ps qs → qs ≡ p ∷ rest → IsRegister s1 p → UserIndex rest s2 t → body.Code (instr.MemReg op d s1 s2 t true) None ≡ b → Coded (shape.UserMemory op) ps b
+user_coded op d s1 s2 true ps qs p rest b u t r h k = coded (shape.UserMemory op) ps b (instr.MemReg op d s1 s2 true true) None (user_scaled (subst (Behind d ps) t u) r h) k
+user_coded op d s1 s2 false ps qs p rest b u t r h k =
+    coded (shape.UserMemory op) ps b (instr.MemReg op d s1 s2 false true) None
+    (user_index u (record { operand = p; comma = h.0; tokens = t ∙ ap (λ (xs : List Piece). p ∷ xs) h.2; register = r; parted = h.3 }) h.4) k
+
+bits_coded : (op : BitOp) (d s1 : Reg) (ps qs rest : List Piece) (x : Field) (b : Body) → Behind d ps qs → Behind s1 qs rest → IsFieldOf (most_width op) rest x → bits_body op d s1 x ≡ b → Coded (shape.Bits op) ps b
+bits_coded op d s1 ps qs rest (field.Register s2) b u v h k = coded (shape.Bits op) ps b (instr.BitReg op d s1 s2) None (register_field u v h) k
+bits_coded op d s1 ps qs rest (field.Literal width off) b u v h k =
+    coded (shape.Bits op) ps b (instr.BitLit op d s1 width off) None (literal u v h) k
+
+bounds_coded : (s1 : Reg) (ps rest : List Piece) (p : Piece) (x : Bound) (b : Body) → Behind s1 ps rest → rest ≡ p ∷ [] → IsBoundOf x p → bounds_body s1 x ≡ b → Coded shape.Bounds ps b
+bounds_coded s1 ps rest p (bound.Register s2) b u t h k = coded shape.Bounds ps b (instr.BoundReg s1 s2) None (bound_register (subst (Behind s1 ps) t u) h) k
+bounds_coded s1 ps rest p (bound.Number n) b u t h k = coded shape.Bounds ps b (instr.BoundImm s1 n) None (bound_number (subst (Behind s1 ps) t u) h.0 h.1) k
+
+at_tokens : (sh : Shape) (ps qs : List Piece) (b : Body) → ps ≡ qs → Coded sh qs b → Coded sh ps b
+at_tokens sh ps qs b t h = subst (λ (xs : List Piece). Coded sh xs b) (sym t) h
 
 -- each form
 
-pub operands_again : (sh : Shape) (line e : ℕ) (ps : List Piece) (i : Instr) (f : Option Fixup) → AreOperands sh ps i f → read (form_of sh) (st line e ps) ≡ Ok (body.Code i f)
+pub operands_met : (sh : Shape) (ps : List Piece) (b : Body) → Meets (form_of sh) ps b → Coded sh ps b
 unfolding form_of
-operands_again sh line e ps i f (either_immediate {iop = iop} {rop = rop} {d = d} {s1 = s1} {qs = qs} {rest = rest} {imm = imm} {fixup = fixup} u v h) =
-    behind_again (λ d. register_then (λ s1. comma_then (operand_then (λ x. ends (either_body iop rop d s1 x))))) line e ps qs d (done i f) u
-    (behind_again (λ s1. operand_then (λ x. ends (either_body iop rop d s1 x))) line e qs rest s1 (done i f) v
-    (operand_to (either_body iop rop d s1) line e rest (operand.Immediate (record { imm = imm; fixup = fixup })) (operand_immediate_again line e rest imm fixup h)))
-operands_again sh line e ps i f (either_register {iop = iop} {rop = rop} {d = d} {s1 = s1} {s2 = s2} {qs = qs} {rest = rest} u v h) =
-    behind_again (λ d. register_then (λ s1. comma_then (operand_then (λ x. ends (either_body iop rop d s1 x))))) line e ps qs d (done i f) u
-    (behind_again (λ s1. operand_then (λ x. ends (either_body iop rop d s1 x))) line e qs rest s1 (done i f) v
-    (operand_to (either_body iop rop d s1) line e rest (operand.Register s2) (operand_register_again line e s2 rest h)))
-operands_again sh line e ps i f (immediate {op = op} {d = d} {s1 = s1} {qs = qs} {rest = rest} {imm = imm} {fixup = fixup} u v h) =
-    behind_again (λ d. register_then (λ s1. comma_then (immediate_then (λ x. ends (body.Code (instr.Imm op d s1 x.imm) x.fixup))))) line e ps qs d (done i f) u
-    (behind_again (λ s1. immediate_then (λ x. ends (body.Code (instr.Imm op d s1 x.imm) x.fixup))) line e qs rest s1 (done i f) v
-    (immediate_to (λ x. body.Code (instr.Imm op d s1 x.imm) x.fixup) line e rest imm fixup h))
-operands_again sh line e ps i f (registers {op = op} {d = d} {s1 = s1} {s2 = s2} {qs = qs} {rest = rest} u v h) =
-    behind_again (λ d. register_then (λ s1. comma_then (register_then (λ s2. code_only (instr.Regs op d s1 s2))))) line e ps qs d (done i f) u
-    (behind_again (λ s1. register_then (λ s2. code_only (instr.Regs op d s1 s2))) line e qs rest s1 (done i f) v
-    (last_to (λ s2. code_only (instr.Regs op d s1 s2)) line e rest s2 (done i f) h (ends_again line e (body.Code i f))))
-operands_again sh line e ps i f (offset {op = op} {d = d} {s1 = s1} {qs = qs} {rest = rest} {imm = imm} {fixup = fixup} u v h) =
-    behind_again (λ d. register_then (λ s1. index_then (λ x. ends (memory_body op d s1 x)))) line e ps qs d (done i f) u
-    (ap (λ (xs : List Piece). read (register_then (λ s1. index_then (λ x. ends (memory_body op d s1 x)))) (st line e xs)) v.tokens
-    ∙ register_to (λ s1. index_then (λ x. ends (memory_body op d s1 x))) line e v.operand (v.comma ∷ rest) s1 (done i f) v.register
-    (index_to (memory_body op d s1) line e (v.comma ∷ rest) (index.Offset (operand.Immediate (record { imm = imm; fixup = fixup })))
-    (index_offset_again line e v.comma rest (operand.Immediate (record { imm = imm; fixup = fixup })) v.parted (operand_immediate_again line e rest imm fixup h))))
-operands_again sh line e ps i f (plain_index {op = op} {d = d} {s1 = s1} {s2 = s2} {qs = qs} {rest = rest} u v h) =
-    behind_again (λ d. register_then (λ s1. index_then (λ x. ends (memory_body op d s1 x)))) line e ps qs d (done i f) u
-    (ap (λ (xs : List Piece). read (register_then (λ s1. index_then (λ x. ends (memory_body op d s1 x)))) (st line e xs)) v.tokens
-    ∙ register_to (λ s1. index_then (λ x. ends (memory_body op d s1 x))) line e v.operand (v.comma ∷ rest) s1 (done i f) v.register
-    (index_to (memory_body op d s1) line e (v.comma ∷ rest) (index.Offset (operand.Register s2))
-    (index_offset_again line e v.comma rest (operand.Register s2) v.parted (operand_register_again line e s2 rest h))))
-operands_again sh line e ps i f (scaled {op = op} {d = d} {s1 = s1} {s2 = s2} {rest = rest} {p = p} u r h) =
-    behind_again (λ d. register_then (λ s1. index_then (λ x. ends (memory_body op d s1 x)))) line e ps (p ∷ rest) d (done i f) u
-    (register_to (λ s1. index_then (λ x. ends (memory_body op d s1 x))) line e p rest s1 (done i f) r
-    (index_to (memory_body op d s1) line e rest (index.Scaled s2) (index_scaled_again line e s2 rest h)))
-operands_again sh line e ps i f (user_index {op = op} {d = d} {s1 = s1} {s2 = s2} {qs = qs} {rest = rest} u v h) =
-    behind_again (λ d. register_then (λ s1. user_index_then (λ s2 t. code_only (instr.MemReg op d s1 s2 t true)))) line e ps qs d (done i f) u
-    (ap (λ (xs : List Piece). read (register_then (λ s1. user_index_then (λ s2 t. code_only (instr.MemReg op d s1 s2 t true)))) (st line e xs)) v.tokens
-    ∙ register_to (λ s1. user_index_then (λ s2 t. code_only (instr.MemReg op d s1 s2 t true))) line e v.operand (v.comma ∷ rest) s1 (done i f) v.register
-    (user_to (λ s2 t. instr.MemReg op d s1 s2 t true) line e (v.comma ∷ rest) s2 false (user_plain_again line e s2 v.comma rest v.parted h)))
-operands_again sh line e ps i f (user_scaled {op = op} {d = d} {s1 = s1} {s2 = s2} {rest = rest} {p = p} u r h) =
-    behind_again (λ d. register_then (λ s1. user_index_then (λ s2 t. code_only (instr.MemReg op d s1 s2 t true)))) line e ps (p ∷ rest) d (done i f) u
-    (register_to (λ s1. user_index_then (λ s2 t. code_only (instr.MemReg op d s1 s2 t true))) line e p rest s1 (done i f) r
-    (user_to (λ s2 t. instr.MemReg op d s1 s2 t true) line e rest s2 true (user_scaled_again line e s2 rest h)))
-operands_again sh line e ps i f (address {size = size} {d = d} {s1 = s1} {s2 = s2} {rest = rest} {p = p} u r h) =
-    behind_again (λ d. register_then (λ s1. scaled_then (λ s2. code_only (instr.Lda size d s1 s2)))) line e ps (p ∷ rest) d (done i f) u
-    (register_to (λ s1. scaled_then (λ s2. code_only (instr.Lda size d s1 s2))) line e p rest s1 (done i f) r
-    (scaled_to (λ s2. instr.Lda size d s1 s2) line e rest s2 h))
-operands_again sh line e ps i f (literal {op = op} {d = d} {s1 = s1} {qs = qs} {rest = rest} {width = width} {offset = off} u v h) =
-    behind_again (λ d. register_then (λ s1. comma_then (field_then (most_width op) (λ x. ends (bits_body op d s1 x))))) line e ps qs d (done i f) u
-    (behind_again (λ s1. field_then (most_width op) (λ x. ends (bits_body op d s1 x))) line e qs rest s1 (done i f) v
-    (field_to (most_width op) (bits_body op d s1) line e rest (field.Literal width off)
-    (field_literal_again (most_width op) line e width off rest h)))
-operands_again sh line e ps i f (register_field {op = op} {d = d} {s1 = s1} {s2 = s2} {qs = qs} {rest = rest} u v h) =
-    behind_again (λ d. register_then (λ s1. comma_then (field_then (most_width op) (λ x. ends (bits_body op d s1 x))))) line e ps qs d (done i f) u
-    (behind_again (λ s1. field_then (most_width op) (λ x. ends (bits_body op d s1 x))) line e qs rest s1 (done i f) v
-    (field_to (most_width op) (bits_body op d s1) line e rest (field.Register s2) (field_register_again (most_width op) line e s2 rest h)))
-operands_again sh line e ps i f (find {ones = ones} {d = d} {s2 = s2} {rest = rest} u h) =
-    behind_again (λ d. register_then (λ s2. code_only (instr.Find ones d s2))) line e ps rest d (done i f) u
-    (last_to (λ s2. code_only (instr.Find ones d s2)) line e rest s2 (done i f) h (ends_again line e (body.Code i f)))
-operands_again sh line e ps i f (branch {link = link} {delayed = delayed} {words = words} {fixup = fixup} h) =
-    goal_to Pc26 25 33554432 (λ g. body.Code (instr.Branch link delayed g.words) g.fixup) line e ps words fixup refl h
-operands_again sh line e ps i f (branch_bit {set = on} {delayed = delayed} {bit = bit} {s1 = s1} {b = b} {c = c} {ps = qs} {rest = rest} {words = words} {fixup = fixup} t k v h) =
-    bit_to (λ n. register_then (λ s1. comma_then (goal_ends Pc16 32768 (λ g. body.Code (instr.BranchBit on delayed n s1 g.words) g.fixup)))) line e bit b c qs (done i f) t k
-    (behind_again (λ s1. goal_ends Pc16 32768 (λ g. body.Code (instr.BranchBit on delayed bit s1 g.words) g.fixup)) line e qs rest s1 (done i f) v
-    (goal_to Pc16 15 32768 (λ g. body.Code (instr.BranchBit on delayed bit s1 g.words) g.fixup) line e rest words fixup refl h))
-operands_again sh line e ps i f (branch_condition {delayed = delayed} {mask = mask} {s1 = s1} {m = m} {c = c} {ps = qs} {rest = rest} {words = words} {fixup = fixup} t k v h) =
-    mask_to (λ n. register_then (λ s1. comma_then (goal_ends Pc16 32768 (λ g. body.Code (instr.BranchCond delayed n s1 g.words) g.fixup)))) line e mask m c qs (done i f) t k
-    (behind_again (λ s1. goal_ends Pc16 32768 (λ g. body.Code (instr.BranchCond delayed mask s1 g.words) g.fixup)) line e qs rest s1 (done i f) v
-    (goal_to Pc16 15 32768 (λ g. body.Code (instr.BranchCond delayed mask s1 g.words) g.fixup) line e rest words fixup refl h))
-operands_again sh line e ps i f (jump {link = link} {delayed = delayed} {s2 = s2} h) =
-    last_to (λ s2. code_only (instr.Jump link delayed s2)) line e ps s2 (done i f) h (ends_again line e (body.Code i f))
-operands_again sh line e ps i f (trap_bit {set = on} {bit = bit} {vector = vector} {s1 = s1} {b = b} {c = c} {v = v} {ps = qs} t k u n l) =
-    bit_to (λ n. register_then (λ s1. comma_then (unsigned_then 511 (λ v. code_only (instr.TrapBit on n s1 v))))) line e bit b c qs (done i f) t k
-    (behind_again (λ s1. unsigned_then 511 (λ v. code_only (instr.TrapBit on bit s1 v))) line e qs (v ∷ []) s1 (done i f) u
-    (vector_to (λ n. instr.TrapBit on bit s1 n) line e vector v n l))
-operands_again sh line e ps i f (trap_condition {mask = mask} {vector = vector} {s1 = s1} {m = m} {c = c} {v = v} {ps = qs} t k u n l) =
-    mask_to (λ n. register_then (λ s1. comma_then (unsigned_then 511 (λ v. code_only (instr.TrapCond n s1 v))))) line e mask m c qs (done i f) t k
-    (behind_again (λ s1. unsigned_then 511 (λ v. code_only (instr.TrapCond mask s1 v))) line e qs (v ∷ []) s1 (done i f) u
-    (vector_to (λ n. instr.TrapCond mask s1 n) line e vector v n l))
-operands_again sh line e ps i f (bound_number {s1 = s1} {imm = imm} {p = p} u n l) =
-    behind_again (λ s1. bound_then (λ x. ends (bounds_body s1 x))) line e ps (p ∷ []) s1 (done i f) u
-    (bound_to (bounds_body s1) line e (p ∷ []) (bound.Number imm) (bound_number_again line e imm p n l))
-operands_again sh line e ps i f (bound_register {s1 = s1} {s2 = s2} {rest = rest} u h) =
-    behind_again (λ s1. bound_then (λ x. ends (bounds_body s1 x))) line e ps rest s1 (done i f) u
-    (bound_to (bounds_body s1) line e rest (bound.Register s2) (bound_register_again line e s2 rest h))
-operands_again sh line e ps i f return = ends_again line e (body.Code instr.Rte None)
-operands_again sh line e ps i f (control_load {float = float} {d = d} {cr = cr} {c = c} u h) =
-    behind_again (λ d. control_then float (λ cr. code_only (instr.Ldcr d cr float))) line e ps (c ∷ []) d (done i f) u
-    (control_to float (λ cr. instr.Ldcr d cr float) line e cr c h)
-operands_again sh line e ps i f (control_store {float = float} {s1 = s1} {cr = cr} {c = c} u h) =
-    behind_again (λ s1. control_then float (λ cr. code_only (instr.Stcr s1 cr float))) line e ps (c ∷ []) s1 (done i f) u
-    (control_to float (λ cr. instr.Stcr s1 cr float) line e cr c h)
-operands_again sh line e ps i f (control_exchange {float = float} {d = d} {s1 = s1} {cr = cr} {qs = qs} {c = c} u v h) =
-    behind_again (λ d. register_then (λ s1. comma_then (control_then float (λ cr. code_only (instr.Xcr d s1 cr float))))) line e ps qs d (done i f) u
-    (behind_again (λ s1. control_then float (λ cr. code_only (instr.Xcr d s1 cr float))) line e qs (c ∷ []) s1 (done i f) v
-    (control_to float (λ cr. instr.Xcr d s1 cr float) line e cr c h))
+operands_met (shape.Either i r) ps b h = let u = behind_met h in let v = behind_met u.3 in let x = v.3 in either_coded i r u.0 v.0 ps u.1 v.1 x.0 b u.2 v.2 x.1 x.2
+operands_met (shape.Immediate i) ps b h =
+    let u = behind_met h in let v = behind_met u.3 in let x = v.3 in coded (shape.Immediate i) ps b (instr.Imm i u.0 v.0 x.0.imm) x.0.fixup (immediate u.2 v.2 x.1) x.2
+operands_met (shape.Registers r) ps b h =
+    let u = behind_met h in let v = behind_met u.3 in let x = last_met v.3 in coded (shape.Registers r) ps b (instr.Regs r u.0 v.0 x.0) None (registers u.2 v.2 x.1) x.2
+operands_met (shape.Memory op) ps b h =
+    let u = behind_met h in let v = u.3 in let x = v.next in memory_coded op u.0 v.value ps u.1 v.piece v.rest x.0 b u.2 v.tokens v.is x.1 x.2
+operands_met (shape.UserMemory op) ps b h =
+    let u = behind_met h in let v = u.3 in let x = v.next in user_coded op u.0 v.value x.0.0 x.0.1 ps u.1 v.piece v.rest b u.2 v.tokens v.is x.1 x.2
+operands_met (shape.Address size) ps b h =
+    let u = behind_met h in let v = u.3 in let x = v.next in coded (shape.Address size) ps b (instr.Lda size u.0 v.value x.0) None (address (subst (Behind u.0 ps) v.tokens u.2) v.is x.1) x.2
+operands_met (shape.Bits op) ps b h = let u = behind_met h in let v = behind_met u.3 in let x = v.3 in bits_coded op u.0 v.0 ps u.1 v.1 x.0 b u.2 v.2 x.1 x.2
+operands_met (shape.Find ones) ps b h = let u = behind_met h in let x = last_met u.3 in coded (shape.Find ones) ps b (instr.Find ones u.0 x.0) None (find u.2 x.1) x.2
+operands_met (shape.Branch link delayed) ps b h = coded (shape.Branch link delayed) ps b (instr.Branch link delayed h.0.words) h.0.fixup (branch h.1) h.2
+operands_met (shape.BranchBit on delayed) ps b h =
+    let f = first_met h in let v = behind_met f.next in let g = v.3 in
+    at_tokens (shape.BranchBit on delayed) ps (f.piece ∷ f.comma ∷ f.rest) b f.tokens
+    (coded (shape.BranchBit on delayed) (f.piece ∷ f.comma ∷ f.rest) b (instr.BranchBit on delayed f.value v.0 g.0.words) g.0.fixup (branch_bit f.is f.parted v.2 g.1) g.2)
+operands_met (shape.BranchCond delayed) ps b h =
+    let f = first_met h in let v = behind_met f.next in let g = v.3 in
+    at_tokens (shape.BranchCond delayed) ps (f.piece ∷ f.comma ∷ f.rest) b f.tokens
+    (coded (shape.BranchCond delayed) (f.piece ∷ f.comma ∷ f.rest) b (instr.BranchCond delayed f.value v.0 g.0.words) g.0.fixup (branch_condition f.is f.parted v.2 g.1) g.2)
+operands_met (shape.Jump link delayed) ps b h = let x = last_met h in coded (shape.Jump link delayed) ps b (instr.Jump link delayed x.0) None (jump x.1) x.2
+operands_met (shape.TrapBit on) ps b h =
+    let f = first_met h in let v = behind_met f.next in let n = only_met v.3 in let l = n.3.1 in
+    at_tokens (shape.TrapBit on) ps (f.piece ∷ f.comma ∷ f.rest) b f.tokens
+    (coded (shape.TrapBit on) (f.piece ∷ f.comma ∷ f.rest) b (instr.TrapBit on f.value v.0 n.0) None (trap_bit f.is f.parted (subst (Behind v.0 f.rest) n.2 v.2) n.3.0 (omega arith)) n.4)
+operands_met shape.TrapCond ps b h =
+    let f = first_met h in let v = behind_met f.next in let n = only_met v.3 in let l = n.3.1 in
+    at_tokens shape.TrapCond ps (f.piece ∷ f.comma ∷ f.rest) b f.tokens
+    (coded shape.TrapCond (f.piece ∷ f.comma ∷ f.rest) b (instr.TrapCond f.value v.0 n.0) None (trap_condition f.is f.parted (subst (Behind v.0 f.rest) n.2 v.2) n.3.0 (omega arith)) n.4)
+operands_met shape.Bounds ps b h = let u = behind_met h in let x = only_met u.3 in bounds_coded u.0 ps u.1 x.1 x.0 b u.2 x.2 x.3 x.4
+operands_met shape.Return ps b h = at_tokens shape.Return ps [] b h.0 (coded shape.Return [] b instr.Rte None return h.1)
+operands_met (shape.Ldcr float) ps b h =
+    let u = behind_met h in let n = only_met u.3 in coded (shape.Ldcr float) ps b (instr.Ldcr u.0 n.0 float) None (control_load (subst (Behind u.0 ps) n.2 u.2) n.3) n.4
+operands_met (shape.Stcr float) ps b h =
+    let u = behind_met h in let n = only_met u.3 in coded (shape.Stcr float) ps b (instr.Stcr u.0 n.0 float) None (control_store (subst (Behind u.0 ps) n.2 u.2) n.3) n.4
+operands_met (shape.Xcr float) ps b h =
+    let u = behind_met h in let v = behind_met u.3 in let n = only_met v.3 in
+    coded (shape.Xcr float) ps b (instr.Xcr u.0 v.0 n.0 float) None (control_exchange u.2 (subst (Behind v.0 u.1) n.2 v.2) n.3) n.4
+
+-- and the other way round
+
+met_at : {Next : Reg → List Piece → Type 0} {d : Reg} {ps rest : List Piece} (w : Behind d ps rest) → Next d (w.comma ∷ rest) → Then Reg IsRegister Next ps
+met_at {d = d} {rest = rest} w n = record { value = d; piece = w.operand; rest = w.comma ∷ rest; tokens = w.tokens; is = w.register; next = n }
+
+met_bound : {Next : Bound → List Piece → Type 0} {ps : List Piece} (r : Reg) → IsLast r ps → Next (bound.Register r) [] → Then Bound IsBoundOf Next ps
+met_bound {ps = []} r h n = absurd h
+met_bound {ps = p ∷ []} r h n = met_one (bound.Register r) h n
+met_bound {ps = p ∷ q ∷ ps} r h n = absurd h
+
+user_last : {d r : Reg} {ps rest : List Piece} (w : Behind d ps rest) → IsLast r rest → UserIndex (w.comma ∷ rest) r false
+user_last {rest = []} w h = absurd h
+user_last {rest = p ∷ []} w h = (w.comma, p, refl, w.parted, h)
+user_last {rest = p ∷ q ∷ rest} w h = absurd h
+
+pub met_operands : (sh : Shape) (ps : List Piece) (i : Instr) (f : Option Fixup) → AreOperands sh ps i f → Meets (form_of sh) ps (body.Code i f)
+unfolding form_of
+met_operands sh ps i f (either_immediate {imm = imm} {fixup = fixup} u v h) = met_behind u (met_behind v (operand.Immediate (record { imm = imm; fixup = fixup }), h, refl))
+met_operands sh ps i f (either_register {s2 = s2} u v h) = met_behind u (met_behind v (operand.Register s2, h, refl))
+met_operands sh ps i f (immediate {imm = imm} {fixup = fixup} u v h) = met_behind u (met_behind v (record { imm = imm; fixup = fixup }, h, refl))
+met_operands sh ps i f (registers {s2 = s2} u v h) = met_behind u (met_behind v (met_last s2 h (refl, refl)))
+met_operands sh ps i f (offset {rest = rest} {imm = imm} {fixup = fixup} u v h) =
+    met_behind u (met_at v (index.Offset (operand.Immediate (record { imm = imm; fixup = fixup })), (v.comma, rest, refl, v.parted, h), refl))
+met_operands sh ps i f (plain_index {s2 = s2} {rest = rest} u v h) = met_behind u (met_at v (index.Offset (operand.Register s2), (v.comma, rest, refl, v.parted, h), refl))
+met_operands sh ps i f (scaled {s1 = s1} {s2 = s2} u r h) = met_behind u (met_one s1 r (index.Scaled s2, h, refl))
+met_operands sh ps i f (user_index {s2 = s2} u v h) = met_behind u (met_at v ((s2, false), user_last v h, refl))
+met_operands sh ps i f (user_scaled {s1 = s1} {s2 = s2} u r h) = met_behind u (met_one s1 r ((s2, true), h, refl))
+met_operands sh ps i f (address {s1 = s1} {s2 = s2} u r h) = met_behind u (met_one s1 r (s2, h, refl))
+met_operands sh ps i f (literal {width = width} {offset = off} u v h) = met_behind u (met_behind v (field.Literal width off, h, refl))
+met_operands sh ps i f (register_field {s2 = s2} u v h) = met_behind u (met_behind v (field.Register s2, h, refl))
+met_operands sh ps i f (find {s2 = s2} u h) = met_behind u (met_last s2 h (refl, refl))
+met_operands sh ps i f (branch {words = words} {fixup = fixup} h) = (record { words = words; fixup = fixup }, h, refl)
+met_operands sh ps i f (branch_bit {bit = bit} {words = words} {fixup = fixup} t k v h) = met_first bit t k (met_behind v (record { words = words; fixup = fixup }, h, refl))
+met_operands sh ps i f (branch_condition {mask = mask} {words = words} {fixup = fixup} t k v h) = met_first mask t k (met_behind v (record { words = words; fixup = fixup }, h, refl))
+met_operands sh ps i f (jump {s2 = s2} h) = met_last s2 h (refl, refl)
+met_operands sh ps i f (trap_bit {bit = bit} {vector = vector} t k v n l) = met_first bit t k (met_behind v (met_one vector (n, omega (arith, l)) (refl, refl)))
+met_operands sh ps i f (trap_condition {mask = mask} {vector = vector} t k v n l) = met_first mask t k (met_behind v (met_one vector (n, omega (arith, l)) (refl, refl)))
+met_operands sh ps i f (bound_number {imm = imm} u n l) = met_behind u (met_one (bound.Number imm) (n, l) (refl, refl))
+met_operands sh ps i f (bound_register {s2 = s2} u h) = met_behind u (met_bound s2 h (refl, refl))
+met_operands sh ps i f return = (refl, refl)
+met_operands sh ps i f (control_load {cr = cr} u h) = met_behind u (met_one cr h (refl, refl))
+met_operands sh ps i f (control_store {cr = cr} u h) = met_behind u (met_one cr h (refl, refl))
+met_operands sh ps i f (control_exchange {cr = cr} u v h) = met_behind u (met_behind v (met_one cr h (refl, refl)))

@@ -8,7 +8,7 @@ use Rattle.std.proofs.lemmas.Bool.{eqb-false}
 use Rattle.std.proofs.lemmas.Bool.Decides.{nat_tests}
 use Rattle.m88_base.specs.Name.{IsName, begins_name, continues_name}
 use Rattle.m88_parse.specs.declared.fault.ParseKind.{ParseKind}
-use Rattle.m88_parse.specs.declared.fault.ParseKind.TheVariants.{NotAscii, Syntax, OutOfRange}
+use Rattle.m88_parse.specs.declared.fault.ParseKind.TheVariants.{NotAscii, OutOfRange}
 use Rattle.m88_parse.specs.declared.scan.Flaw.{Flaw}
 use Rattle.m88_parse.specs.Reader.Tokens.{inside_len, holds_escapes, text_bytes, character, Cut, gap, cut, flaw, token_or_flaw, name_front, number_front, as_number, quoted_value, quoted, word_front, front, numeral}
 use Rattle.m88_parse.specs.Language.Bytes.{is_blank, is_comment, is_plain, is_mark, are_digits}
@@ -45,9 +45,6 @@ pub digit_word : (b : ℕ) → is_ascii_digit b ≡ true → continues_name b �
 digit_word b h = grind (arith, nat_tests)
 
 -- the front by its first byte
-
-after_gaps : List ℕ → ℕ → List ℕ → Result Cut Flaw
-after_gaps run b bs = if continues_name b then word_front b run else (if is_mark b then cut 1 (a_mark b) else (if b == 34 || b == 39 then quoted b bs else flaw Syntax 0))
 
 pub run_at : (b : ℕ) (bs : List ℕ) → continues_name b ≡ true → take (prefix_len continues_name (b ∷ bs)) (b ∷ bs) ≡ b ∷ take (prefix_len continues_name bs) bs
 run_at b bs h =

@@ -1,9 +1,10 @@
 -- The law of where branches go.
-use Rattle.std.proofs.Common.{◌≡◌, ℕ, ◌-◌, ◌*◌, ◌/◌, ◌%◌, ◌^◌, ◌<◌, ◌≤◌, ℤ, pos, true, false, ◌&&◌, ◌==◌, nat_le, ◌⊎◌, inl, inr, List, [], ◌∷◌, Option, Some, None, Ok, refl, sym, ap, ap₂, ◌∙◌, arith, subst, eqb-true, leb-true, le-leb, append-nil, codes}
+use Rattle.std.proofs.Common.{◌≡◌, ℕ, ◌-◌, ◌*◌, ◌/◌, ◌%◌, ◌^◌, ◌<◌, ◌≤◌, ℤ, pos, Bool, true, false, ◌&&◌, ◌==◌, nat_le, ◌⊎◌, inl, inr, List, [], ◌∷◌, Option, Some, None, Ok, refl, sym, ap, ap₂, ◌∙◌, arith, subst, eqb-true, leb-true, le-leb, append-nil, codes}
 use Rattle.std.specs.Prelude.{neg_ℤ}
 use Rattle.std.proofs.lemmas.Slice.Eq.{bytes_eq-Decides}
 use Rattle.m88_base.specs.declared.fixup.Kind.{Kind}
 use Rattle.m88_base.specs.declared.fixup.Fixup.{Fixup}
+use Rattle.m88_parse.specs.declared.fault.ParseKind.TheVariants.{OutOfRange}
 use Rattle.m88_parse.specs.declared.operand.Goal.{Goal}
 use Rattle.m88_parse.specs.Language.Pieces.{TokenValue, a_name, a_number, a_text, a_mark, Piece}
 use Rattle.m88_parse.specs.Reader.State.{ReaderState, first, past, is_mark_of, is_next, ◌>>=◌}
@@ -13,8 +14,8 @@ use Rattle.m88_parse.specs.Language.Names.{IsMark, IsNumber, IsNamed}
 use Rattle.m88_parse.specs.Language.Operands.{IsFixup, IsDistance, IsPlace, IsGoal, place as a_place, symbol as a_symbol}
 use Rattle.m88_parse.proofs.Law.Steps.{both, chosen, take_then, take_else}
 use Rattle.m88_parse.proofs.Law.Names.{other_bytes}
-use Rattle.m88_parse.proofs.Law.Slots.{st, ok_same, bind_ok, bind_to, One, next_is, next_again}
-use Rattle.m88_parse.proofs.Law.Values.{Several, several, fixup_read, fixup_again}
+use Rattle.m88_parse.proofs.Law.Slots.{st, ok_same, bind_ok, bind_to, next_is, next_again, no_name, saying, OneToken, slot_read, slot_again, nothing, by_token, token_gives, token_is, only_if, tested_gives, tested_is}
+use Rattle.m88_parse.proofs.Law.Values.{Several, several, several_as, fixup_read, fixup_again}
 
 -- a distance in words
 
@@ -22,35 +23,42 @@ use Rattle.m88_parse.proofs.Law.Values.{Several, several, fixup_read, fixup_agai
 abbrev pub IsFourfold : ℕ → ℕ → Piece → Type 0
 IsFourfold most n p = IsNumber (4 * n) p × (n ≤ most)
 
-distance_by : (most line e : ℕ) (p : Piece) (ps : List Piece) (m : TokenValue) (x : ℕ × ReaderState) → p.says ≡ m → distance_on most (st line e (p ∷ ps)) (Some m) ≡ Ok x → One ℕ (IsFourfold most) line e (p ∷ ps) x
-distance_by most line e p ps (a_name text) x k h = absurd cc
-distance_by most line e p ps (a_number n) x k h =
-    elim (chosen (n % 4 == 0 && nat_le (n / 4) most) _ _ _ h) [
-      | inl j ↦
-          let b = both (n % 4 == 0) (nat_le (n / 4) most) j.0 in
-          let z = eqb-true (n % 4) 0 b.0 in
-          let f : n ≡ 4 * (n / 4) = omega (arith, z) in
-          subst (One ℕ (IsFourfold most) line e (p ∷ ps)) (ok_same j.1)
-          (record { piece = p; rest = ps; tokens = refl; is = (k ∙ ap a_number f, leb-true (n / 4) most b.1); after = refl })
-      | inr j ↦ absurd cc
-    ]
-distance_by most line e p ps (a_text bytes) x k h = absurd cc
-distance_by most line e p ps (a_mark m) x k h = absurd cc
+abbrev is_distance : ℕ → ℕ → Bool
+is_distance most n = n % 4 == 0 && nat_le (n / 4) most
 
-distance_read : (most line e : ℕ) (ps : List Piece) (x : ℕ × ReaderState) → distance_at most (st line e ps) ≡ Ok x → One ℕ (IsFourfold most) line e ps x
-unfolding distance_at
-distance_read most line e [] x h = absurd cc
-distance_read most line e (p ∷ ps) x h = distance_by most line e p ps p.says x refl h
+abbrev distance_here : ℕ → ℕ → Option ℕ
+distance_here most n = only_if (is_distance most n) (n / 4)
 
-distance_again : (most line e n : ℕ) (p : Piece) (ps : List Piece) → IsNumber (4 * n) p → n ≤ most → distance_at most (st line e (p ∷ ps)) ≡ Ok (n, st line e ps)
-unfolding distance_at
-distance_again most line e n p ps h l =
+abbrev distance_by : ℕ → TokenValue → Option ℕ
+distance_by most = by_token nothing (distance_here most) nothing
+
+distance_found : (most : ℕ) (p : Piece) (n x : ℕ) → IsNumber n p → distance_here most n ≡ Some x → IsFourfold most x p
+distance_found most p n x i k =
+    let j = tested_is (is_distance most n) (n / 4) x k in
+    let b = both (n % 4 == 0) (nat_le (n / 4) most) j.0 in
+    let z = eqb-true (n % 4) 0 b.0 in
+    let f : n ≡ 4 * (n / 4) = omega (arith, z) in
+    subst (λ (y : ℕ). IsFourfold most y p) j.1 (i ∙ ap a_number f, leb-true (n / 4) most b.1)
+
+distance_given : (most n : ℕ) → n ≤ most → distance_here most (4 * n) ≡ Some n
+distance_given most n l =
     let m : (4 * n) % 4 ≡ 0 = omega arith in
     let d : (4 * n) / 4 ≡ n = omega arith in
-    let t : ((4 * n) % 4 == 0 && nat_le ((4 * n) / 4) most) ≡ true = ap₂ (λ (a b : ℕ). a == 0 && nat_le b most) m d ∙ le-leb n most l in
-    ap (λ (o : TokenValue). distance_on most (st line e (p ∷ ps)) (Some o)) h
-    ∙ take_then ((4 * n) % 4 == 0 && nat_le ((4 * n) / 4) most) _ _ t
-    ∙ ap (λ (k : ℕ). let y : Read ℕ = Ok (k, st line e ps) in y) d
+    take_then (is_distance most (4 * n)) _ _ (ap₂ (λ (a b : ℕ). a == 0 && nat_le b most) m d ∙ le-leb n most l) ∙ ap (λ (k : ℕ). let y : Option ℕ = Some k in y) d
+
+pub one_distance : (most line e : ℕ) → OneToken ℕ (IsFourfold most) true no_name line e (distance_at most)
+unfolding distance_at
+one_distance most line e = record {
+  given = λ p. distance_by most p.says;
+  empty = refl;
+  each = λ p ps. token_gives true no_name line e p ps (λ o. distance_on most (st line e (p ∷ ps)) (Some o)) (distance_by most) (λ name i. refl) (λ n. tested_gives (is_distance most n) (n / 4) OutOfRange line e p ps) (λ bytes. refl) (λ m. refl) p.says refl;
+  is = λ p x. token_is (IsFourfold most) nothing (distance_here most) p x (λ name i k. absurd cc) (λ n. distance_found most p n x) p.says refl;
+  again = λ p x h. ap (distance_by most) h.0 ∙ distance_given most x h.1;
+  numbers = (saying (a_number 0), 0, 0, refl, distance_given most 0 (omega arith));
+  names = λ p name i. ap (distance_by most) i;
+  marks = λ p m w i. ap (distance_by most) i;
+  some = (saying (a_number 0), 0, distance_given most 0 (omega arith));
+}
 
 abbrev forward_words : ℕ × ReaderState → Read ℤ
 forward_words n = Ok (pos n.0, n.1)
@@ -70,7 +78,7 @@ words_read bits limit line e ps x w some h =
       | inl j ↦
           let m = next_is 43 line e ps j.0 in
           let b = bind_ok (distance_at (limit - 1) (past (st line e ps))) forward_words x j.1 in
-          let n = distance_read (limit - 1) line e m.rest b.0 (ap (distance_at (limit - 1)) (sym m.after) ∙ b.1) in
+          let n = slot_read (one_distance (limit - 1) line e) m.rest b.0 (ap (distance_at (limit - 1)) (sym m.after) ∙ b.1) in
           let same = ok_same b.2 in
           let below : b.0.0 < 2 ^ bits = rw (← w) (let l = n.is.1 in omega arith) in
           some_words m.piece n.piece n.rest (m.tokens ∙ ap (λ (qs : List Piece). m.piece ∷ qs) n.tokens) (b.0.0, n.is.0, inl (m.is, below, sym (ap (λ (y : ℤ × ReaderState). y.0) same)))
@@ -80,7 +88,7 @@ words_read bits limit line e ps x w some h =
             | inl k ↦
                 let m = next_is 45 line e ps k.0 in
                 let b = bind_ok (distance_at limit (past (st line e ps))) back_words x k.1 in
-                let n = distance_read limit line e m.rest b.0 (ap (distance_at limit) (sym m.after) ∙ b.1) in
+                let n = slot_read (one_distance limit line e) m.rest b.0 (ap (distance_at limit) (sym m.after) ∙ b.1) in
                 let same = ok_same b.2 in
                 let most : b.0.0 ≤ 2 ^ bits = rw (← w) n.is.1 in
                 some_words m.piece n.piece n.rest (m.tokens ∙ ap (λ (qs : List Piece). m.piece ∷ qs) n.tokens) (b.0.0, n.is.0, inr (m.is, most, sym (ap (λ (y : ℤ × ReaderState). y.0) same)))
@@ -102,13 +110,13 @@ words_again bits limit line e m p words w h = by_mark h.2
     by_mark (inl k) =
         let l : h.0 < limit = rw w k.1 in
         take_then (is_next 43 (st line e (m ∷ p ∷ []))) _ _ (next_again 43 line e m (p ∷ []) k.0)
-        ∙ bind_to (distance_at (limit - 1) (st line e (p ∷ []))) forward_words (h.0, st line e []) (Ok (words, st line e [])) (distance_again (limit - 1) line e h.0 p [] h.1 (omega arith))
+        ∙ bind_to (distance_at (limit - 1) (st line e (p ∷ []))) forward_words (h.0, st line e []) (Ok (words, st line e [])) (slot_again (one_distance (limit - 1) line e) h.0 p [] (h.1, omega arith))
         (ap (λ (z : ℤ). let y : Read ℤ = Ok (z, st line e []) in y) (sym k.2))
     by_mark (inr k) =
         let l : h.0 ≤ limit = rw w k.1 in
         take_else (is_next 43 (st line e (m ∷ p ∷ []))) _ _ (minus_no_plus m.says k.0)
         ∙ take_then (is_next 45 (st line e (m ∷ p ∷ []))) _ _ (next_again 45 line e m (p ∷ []) k.0)
-        ∙ bind_to (distance_at limit (st line e (p ∷ []))) back_words (h.0, st line e []) (Ok (words, st line e [])) (distance_again limit line e h.0 p [] h.1 l)
+        ∙ bind_to (distance_at limit (st line e (p ∷ []))) back_words (h.0, st line e []) (Ok (words, st line e [])) (slot_again (one_distance limit line e) h.0 p [] (h.1, l))
         (ap (λ (z : ℤ). let y : Read ℤ = Ok (z, st line e []) in y) (sym k.2))
 
 -- where a branch goes
@@ -138,10 +146,7 @@ place_read kind bits line e h ps n x k (some_words m p rest t d a) g =
 
 goal_symbol : (kind : Kind) (bits line e : ℕ) (ps : List Piece) (x : Goal × ReaderState) → (fixup_at kind (st line e ps) >>= symbol_goal) ≡ Ok x → Several Goal (IsGoalOf kind bits) line e ps x
 goal_symbol kind bits line e ps x h =
-    let b = bind_ok (fixup_at kind (st line e ps)) symbol_goal x h in
-    let w = fixup_read kind line e ps b.0 b.1 in
-    several Goal (IsGoalOf kind bits) line e ps w.front w.rest (record { words = pos 0; fixup = Some b.0.0 }) x w.tokens (a_symbol w.is)
-    (ap (λ (u : ReaderState). let y : Goal × ReaderState = (record { words = pos 0; fixup = Some b.0.0 }, u) in y) (sym w.after) ∙ ok_same b.2)
+    several_as Fixup Goal (IsFixup kind) (IsGoalOf kind bits) (λ f. record { words = pos 0; fixup = Some f }) line e ps (fixup_at kind (st line e ps)) x (fixup_read kind line e ps) (λ front f w. a_symbol w) h
 
 pub goal_read : (kind : Kind) (bits limit line e : ℕ) (ps : List Piece) (x : Goal × ReaderState) → limit ≡ 2 ^ bits → 0 < limit → goal_at kind limit (st line e ps) ≡ Ok x → Several Goal (IsGoalOf kind bits) line e ps x
 unfolding goal_at

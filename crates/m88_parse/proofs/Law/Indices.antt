@@ -13,9 +13,9 @@ use Rattle.m88_parse.specs.Reader.Operands.{operand_at, scaled_at, index_at, use
 use Rattle.m88_parse.specs.Language.Names.{IsMark, IsComma, IsNumber, IsRegister}
 use Rattle.m88_parse.specs.Language.Operands.{IsScaled, IsLast, IsLiteral}
 use Rattle.m88_parse.proofs.Law.Steps.{chosen, take_then, take_else}
-use Rattle.m88_parse.proofs.Law.Slots.{st, ok_same, bind_ok, bind_to, next_again, mark_read, mark_again, number_read, number_slot_again, register_read, register_again}
+use Rattle.m88_parse.proofs.Law.Slots.{st, ok_same, bind_ok, bind_to, next_again, mark_read, mark_again, one_number, one_register, slot_again, slot_read}
 use Rattle.m88_parse.proofs.Law.Operands.{IsOperandOf, operand_read}
-use Rattle.m88_parse.proofs.Law.Values.{Several, several}
+use Rattle.m88_parse.proofs.Law.Values.{Several, several, several_as}
 
 -- [rS2]
 
@@ -28,7 +28,7 @@ scaled_read line e ps x h =
     let b = bind_ok (mark_at 91 (st line e ps)) (λ (opened : ReaderState). register_at opened >>= close_scaled) x h in
     let o = mark_read 91 line e ps b.0 b.1 in
     let c = bind_ok (register_at b.0) close_scaled x b.2 in
-    let r = register_read line e o.rest c.0 (ap register_at (sym o.after) ∙ c.1) in
+    let r = slot_read (one_register line e) o.rest c.0 (ap register_at (sym o.after) ∙ c.1) in
     let d = bind_ok (mark_at 93 c.0.1) (λ (closed : ReaderState). Ok (c.0.0, closed)) x c.2 in
     let m = mark_read 93 line e r.rest d.0 (ap (mark_at 93) (sym r.after) ∙ d.1) in
     let t : ps ≡ (o.piece ∷ r.piece ∷ m.piece ∷ []) ++ m.rest = o.tokens ∙ ap (λ (qs : List Piece). o.piece ∷ qs) (r.tokens ∙ ap (λ (qs : List Piece). r.piece ∷ qs) m.tokens) in
@@ -43,7 +43,7 @@ scaled_again line e r (o ∷ p ∷ []) h = absurd h
 scaled_again line e r (o ∷ p ∷ c ∷ []) h =
     let z : Read Reg = Ok (r, st line e []) in
     bind_to (mark_at 91 (st line e (o ∷ p ∷ c ∷ []))) (λ (opened : ReaderState). register_at opened >>= close_scaled) (st line e (p ∷ c ∷ [])) z (mark_again 91 line e o (p ∷ c ∷ []) h.0)
-    (bind_to (register_at (st line e (p ∷ c ∷ []))) close_scaled (r, st line e (c ∷ [])) z (register_again line e r p (c ∷ []) h.1)
+    (bind_to (register_at (st line e (p ∷ c ∷ []))) close_scaled (r, st line e (c ∷ [])) z (slot_again (one_register line e) r p (c ∷ []) h.1)
     (bind_to (mark_at 93 (st line e (c ∷ []))) (λ (closed : ReaderState). Ok (r, closed)) (st line e []) z (mark_again 93 line e c [] h.2) refl))
 scaled_again line e r (o ∷ p ∷ c ∷ q ∷ ps) h = absurd h
 
@@ -70,11 +70,7 @@ pub index_read : (line e : ℕ) (ps : List Piece) (x : Index × ReaderState) →
 unfolding index_at
 index_read line e ps x h =
     elim (chosen (is_next 91 (st line e ps)) _ _ _ h) [
-      | inl j ↦
-          let b = bind_ok (scaled_at (st line e ps)) scaled_index x j.1 in
-          let w = scaled_read line e ps b.0 b.1 in
-          several Index IsIndexOf line e ps w.front w.rest (index.Scaled b.0.0) x w.tokens w.is
-          (ap (λ (u : ReaderState). let y : Index × ReaderState = (index.Scaled b.0.0, u) in y) (sym w.after) ∙ ok_same b.2)
+      | inl j ↦ several_as Reg Index (λ qs r. IsScaled r qs) IsIndexOf (λ r. index.Scaled r) line e ps (scaled_at (st line e ps)) x (scaled_read line e ps) (λ front r w. w) j.1
       | inr j ↦
           let b = bind_ok (mark_at 44 (st line e ps)) (λ (t : ReaderState). operand_at t >>= offset_index) x j.1 in
           let m = mark_read 44 line e ps b.0 b.1 in
@@ -118,16 +114,12 @@ pub user_index_read : (line e : ℕ) (ps : List Piece) (x : (Reg × Bool) × Rea
 unfolding user_index_at
 user_index_read line e ps x h =
     elim (chosen (is_next 91 (st line e ps)) _ _ _ h) [
-      | inl j ↦
-          let b = bind_ok (scaled_at (st line e ps)) user_scaled_index x j.1 in
-          let w = scaled_read line e ps b.0 b.1 in
-          several (Reg × Bool) IsUserIndexOf line e ps w.front w.rest (b.0.0, true) x w.tokens w.is
-          (ap (λ (u : ReaderState). let y : (Reg × Bool) × ReaderState = ((b.0.0, true), u) in y) (sym w.after) ∙ ok_same b.2)
+      | inl j ↦ several_as Reg (Reg × Bool) (λ qs r. IsScaled r qs) IsUserIndexOf (λ r. (r, true)) line e ps (scaled_at (st line e ps)) x (scaled_read line e ps) (λ front r w. w) j.1
       | inr j ↦
           let b = bind_ok (mark_at 44 (st line e ps)) (λ (t : ReaderState). register_at t >>= user_plain_index) x j.1 in
           let m = mark_read 44 line e ps b.0 b.1 in
           let c = bind_ok (register_at b.0) user_plain_index x b.2 in
-          let w = register_read line e m.rest c.0 (ap register_at (sym m.after) ∙ c.1) in
+          let w = slot_read (one_register line e) m.rest c.0 (ap register_at (sym m.after) ∙ c.1) in
           several (Reg × Bool) IsUserIndexOf line e ps (m.piece ∷ w.piece ∷ []) w.rest (c.0.0, false) x (m.tokens ∙ ap (λ (qs : List Piece). m.piece ∷ qs) w.tokens) (m.piece, w.piece, refl, m.is, w.is)
           (ap (λ (u : ReaderState). let y : (Reg × Bool) × ReaderState = ((c.0.0, false), u) in y) (sym w.after) ∙ ok_same c.2)
     ]
@@ -145,7 +137,7 @@ user_plain_again line e r c (p ∷ []) k h =
     let z : Read (Reg × Bool) = Ok ((r, false), st line e []) in
     take_else (is_next 91 (st line e (c ∷ p ∷ []))) _ _ (comma_opens_none line e c (p ∷ []) k)
     ∙ bind_to (mark_at 44 (st line e (c ∷ p ∷ []))) (λ (t : ReaderState). register_at t >>= user_plain_index) (st line e (p ∷ [])) z (mark_again 44 line e c (p ∷ []) k)
-    (bind_to (register_at (st line e (p ∷ []))) user_plain_index (r, st line e []) z (register_again line e r p [] h) refl)
+    (bind_to (register_at (st line e (p ∷ []))) user_plain_index (r, st line e []) z (slot_again (one_register line e) r p [] h) refl)
 user_plain_again line e r c (p ∷ q ∷ ps) k h = absurd h
 
 -- bit fields
@@ -179,7 +171,7 @@ offset_read line e width ps x h =
     let b = bind_ok (mark_at 60 (st line e ps)) (λ (opened : ReaderState). unsigned_at 31 opened >>= close_literal width) x h in
     let o = mark_read 60 line e ps b.0 b.1 in
     let c = bind_ok (unsigned_at 31 b.0) (close_literal width) x b.2 in
-    let n = number_read 31 line e o.rest c.0 (ap (unsigned_at 31) (sym o.after) ∙ c.1) in
+    let n = slot_read (one_number 31 line e) o.rest c.0 (ap (unsigned_at 31) (sym o.after) ∙ c.1) in
     let d = bind_ok (mark_at 62 c.0.1) (λ (closed : ReaderState). Ok (field.Literal width c.0.0, closed)) x c.2 in
     let m = mark_read 62 line e n.rest d.0 (ap (mark_at 62) (sym n.after) ∙ d.1) in
     record {
@@ -200,7 +192,7 @@ offset_again : (line e width offset : ℕ) (o p c : Piece) → IsMark 60 o → I
 offset_again line e width offset o p c a b l d =
     let z : Read Field = Ok (field.Literal width offset, st line e []) in
     bind_to (mark_at 60 (st line e (o ∷ p ∷ c ∷ []))) (λ (opened : ReaderState). unsigned_at 31 opened >>= close_literal width) (st line e (p ∷ c ∷ [])) z (mark_again 60 line e o (p ∷ c ∷ []) a)
-    (bind_to (unsigned_at 31 (st line e (p ∷ c ∷ []))) (close_literal width) (offset, st line e (c ∷ [])) z (number_slot_again 31 line e offset p (c ∷ []) b (omega arith))
+    (bind_to (unsigned_at 31 (st line e (p ∷ c ∷ []))) (close_literal width) (offset, st line e (c ∷ [])) z (slot_again (one_number 31 line e) offset p (c ∷ []) (b, omega arith))
     (bind_to (mark_at 62 (st line e (c ∷ []))) (λ (closed : ReaderState). Ok (field.Literal width offset, closed)) (st line e []) z (mark_again 62 line e c [] d) refl))
 
 literal_read : (most line e : ℕ) (ps : List Piece) (x : Field × ReaderState) → literal_at most (st line e ps) ≡ Ok x → Several Field (IsFieldOf most) line e ps x
@@ -212,7 +204,7 @@ literal_read most line e ps x h =
           let w = offset_read line e 0 ps x (ap after_width (ok_same j.1) ∙ b.2) in
           several Field (IsFieldOf most) line e ps (w.o ∷ w.p ∷ w.c ∷ []) w.rest (field.Literal 0 w.offset) x w.tokens (refl, w.opened, w.number, w.most, w.closed) w.value
       | inr j ↦
-          let n = number_read most line e ps b.0 j.1 in
+          let n = slot_read (one_number most line e) ps b.0 j.1 in
           let w = offset_read line e b.0.0 n.rest x (ap (λ (u : ReaderState). after_width (b.0.0, u)) (sym n.after) ∙ b.2) in
           several Field (IsFieldOf most) line e ps (n.piece ∷ w.o ∷ w.p ∷ w.c ∷ []) w.rest (field.Literal b.0.0 w.offset) x
           (n.tokens ∙ ap (λ (qs : List Piece). n.piece ∷ qs) w.tokens) (n.is.0, n.is.1, w.opened, w.number, w.most, w.closed) w.value
@@ -232,7 +224,7 @@ literal_again most line e width offset (w ∷ o ∷ p ∷ c ∷ []) h =
     let s = st line e (w ∷ o ∷ p ∷ c ∷ []) in
     let z : Read Field = Ok (field.Literal width offset, st line e []) in
     bind_to (width_at most s) after_width (width, st line e (o ∷ p ∷ c ∷ [])) z
-    (take_else (is_next 60 s) _ _ (ap (λ (m : TokenValue). is_mark_of 60 (Some m)) h.0) ∙ number_slot_again most line e width w (o ∷ p ∷ c ∷ []) h.0 h.1)
+    (take_else (is_next 60 s) _ _ (ap (λ (m : TokenValue). is_mark_of 60 (Some m)) h.0) ∙ slot_again (one_number most line e) width w (o ∷ p ∷ c ∷ []) (h.0, h.1))
     (offset_again line e width offset o p c h.2 h.3 h.4 h.5)
 literal_again most line e width offset (w ∷ o ∷ p ∷ c ∷ q ∷ ps) h = absurd h
 
@@ -243,7 +235,7 @@ field_by : (most line e : ℕ) (ps : List Piece) (o : Option TokenValue) (x : Fi
 field_by most line e ps None x h = literal_read most line e ps x h
 field_by most line e ps (Some (a_name text)) x h =
     let b = bind_ok (register_at (st line e ps)) register_field x h in
-    let r = register_read line e ps b.0 b.1 in
+    let r = slot_read (one_register line e) ps b.0 b.1 in
     several Field (IsFieldOf most) line e ps (r.piece ∷ []) r.rest (field.Register b.0.0) x r.tokens r.is
     (ap (λ (u : ReaderState). let y : Field × ReaderState = (field.Register b.0.0, u) in y) (sym r.after) ∙ ok_same b.2)
 field_by most line e ps (Some (a_number n)) x h = literal_read most line e ps x h
@@ -260,7 +252,7 @@ field_register_again most line e r [] h = absurd h
 field_register_again most line e r (p ∷ []) h =
     let s = st line e (p ∷ []) in
     ap (λ (m : TokenValue). field_on most s (Some m)) h.2
-    ∙ bind_to (register_at s) register_field (r, st line e []) (Ok (field.Register r, st line e [])) (register_again line e r p [] h) refl
+    ∙ bind_to (register_at s) register_field (r, st line e []) (Ok (field.Register r, st line e [])) (slot_again (one_register line e) r p [] h) refl
 field_register_again most line e r (p ∷ q ∷ ps) h = absurd h
 
 pub field_literal_again : (most line e width offset : ℕ) (ps : List Piece) → IsLiteral most ps width offset → field_at most (st line e ps) ≡ Ok (field.Literal width offset, st line e [])

@@ -1,5 +1,5 @@
 -- The law of the operands that stand last: immediates, registers, indices, bit fields and goals.
-use Rattle.std.proofs.Common.{◌≡◌, ℕ, ◌/◌, ◌%◌, ◌<◌, Bool, true, false, nat_le, ◌⊎◌, inl, inr, List, [], ◌∷◌, ◌++◌, Option, Some, None, Ok, refl, sym, ap, ap₂, ◌∙◌, arith, subst, leb-true, le-leb, if◌then◌else◌, append_assoc, codes, bytes_eq}
+use Rattle.std.proofs.Common.{◌≡◌, ℕ, ◌/◌, ◌%◌, ◌<◌, Bool, true, false, nat_le, ◌⊎◌, inl, inr, List, [], ◌∷◌, ◌++◌, Option, Some, None, Ok, Err, refl, sym, ap, ap₂, ◌∙◌, arith, subst, leb-true, le-leb, if◌then◌else◌, append_assoc, codes, bytes_eq}
 use Rattle.std.specs.Option.{option_map}
 use Rattle.std.proofs.lemmas.Slice.Eq.{bytes_eq-Decides}
 use Rattle.m88_base.specs.Reg.{reg_of}
@@ -7,6 +7,7 @@ use Rattle.m88_base.specs.declared.reg.Reg.{Reg}
 use Rattle.m88_base.specs.declared.fixup.Kind.{Kind}
 use Rattle.m88_base.specs.declared.fixup.Kind.TheVariants.{Hi16, Lo16}
 use Rattle.m88_base.specs.declared.fixup.Fixup.{Fixup}
+use Rattle.m88_parse.specs.declared.fault.ParseKind.TheVariants.{NoSuchName, OutOfRange}
 use Rattle.m88_parse.specs.declared.unit.Value.{Value}
 use Rattle.m88_parse.specs.declared.unit.Value.TheVariants.{Number, Symbol}
 use Rattle.m88_parse.specs.declared.operand.Immediate.{Immediate}
@@ -18,14 +19,14 @@ use Rattle.m88_parse.specs.Reader.Names.{register_of}
 use Rattle.m88_parse.specs.Language.Words.{half_named}
 use Rattle.m88_parse.specs.Language.Pieces.{TokenValue, a_name, a_number, a_text, a_mark, Piece}
 use Rattle.m88_parse.specs.Reader.State.{ReaderState, says_first, first, is_mark_of, ◌>>=◌}
-use Rattle.m88_parse.specs.Reader.Slots.{Read, mark_at, register_at, value_at}
+use Rattle.m88_parse.specs.Reader.Slots.{Read, named, mark_at, register_on, register_at, value_at}
 use Rattle.m88_parse.specs.Reader.Operands.{half_immediate, half_at, half_on, short_on, immediate_of, immediate_at, register_in, operand_of, operand_at, bound_on, bound_at}
 use Rattle.m88_parse.specs.Language.Names.{IsMark, IsNumber, IsNamed, IsRegister}
 use Rattle.m88_parse.specs.Language.Operands.{IsValue, IsHalfOf, IsImmediate, short, half, IsLast}
 use Rattle.m88_parse.proofs.Law.Steps.{chosen, take_then}
 use Rattle.m88_parse.proofs.Law.Names.{some_same, register_is, register_name_again}
-use Rattle.m88_parse.proofs.Law.Slots.{st, ok_same, bind_ok, bind_to, One, mark_read, mark_again, register_read, register_again}
-use Rattle.m88_parse.proofs.Law.Values.{Several, several, IsUnsigned, value_read, value_again}
+use Rattle.m88_parse.proofs.Law.Slots.{st, ok_same, bind_ok, bind_to, mark_read, mark_again, own_names, saying, any, any_is_symbol, gives, OneToken, slot_again, nothing, by_token, token_gives, token_is, only_if, within, within_is, within_again}
+use Rattle.m88_parse.proofs.Law.Values.{Several, several, several_as, IsUnsigned, value_read, value_again}
 
 -- hi16 and lo16
 
@@ -157,11 +158,7 @@ abbrev immediate_operand : Immediate × ReaderState → Read Operand
 immediate_operand x = Ok (operand.Immediate x.0, x.1)
 
 operand_immediate : (line e : ℕ) (ps : List Piece) (x : Operand × ReaderState) → (immediate_at (st line e ps) >>= immediate_operand) ≡ Ok x → Several Operand IsOperandOf line e ps x
-operand_immediate line e ps x h =
-    let b = bind_ok (immediate_at (st line e ps)) immediate_operand x h in
-    let w = immediate_read line e ps b.0 b.1 in
-    several Operand IsOperandOf line e ps w.front w.rest (operand.Immediate b.0.0) x w.tokens w.is
-    (ap (λ (u : ReaderState). let y : Operand × ReaderState = (operand.Immediate b.0.0, u) in y) (sym w.after) ∙ ok_same b.2)
+operand_immediate line e ps x h = several_as Immediate Operand IsImmediateOf IsOperandOf (λ i. operand.Immediate i) line e ps (immediate_at (st line e ps)) x (immediate_read line e ps) (λ front i w. w) h
 
 operand_by : (line e : ℕ) (p : Piece) (ps : List Piece) (m : TokenValue) (x : Operand × ReaderState) → p.says ≡ m → operand_of (st line e (p ∷ ps)) (register_in (Some m)) ≡ Ok x → Several Operand IsOperandOf line e (p ∷ ps) x
 operand_by line e p ps (a_name text) x k h = by_register (register_of text) refl h
@@ -209,40 +206,55 @@ abbrev pub IsBoundOf : Bound → Piece → Type 0
 IsBoundOf (bound.Register r) p = IsRegister r p
 IsBoundOf (bound.Number n) p = IsNumber n p × (n < 65536)
 
-abbrev register_bound : Reg × ReaderState → Read Bound
-register_bound r = Ok (bound.Register r.0, r.1)
+abbrev bound_on_name : List ℕ → Option Bound
+bound_on_name text = option_map (λ (r : Reg). bound.Register r) (option_map reg_of (register_of text))
 
-bound_by : (line e : ℕ) (p : Piece) (ps : List Piece) (m : TokenValue) (x : Bound × ReaderState) → p.says ≡ m → bound_on (st line e (p ∷ ps)) (Some m) ≡ Ok x → One Bound IsBoundOf line e (p ∷ ps) x
-bound_by line e p ps (a_name text) x k h =
-    let b = bind_ok (register_at (st line e (p ∷ ps))) register_bound x h in
-    let r = register_read line e (p ∷ ps) b.0 b.1 in
-    let same = ap (λ (u : ReaderState). let y : Bound × ReaderState = (bound.Register b.0.0, u) in y) (sym r.after) ∙ ok_same b.2 in
-    subst (One Bound IsBoundOf line e (p ∷ ps)) same (record { piece = r.piece; rest = r.rest; tokens = r.tokens; is = r.is; after = refl })
-bound_by line e p ps (a_number n) x k h =
-    elim (chosen (nat_le n 65535) _ _ _ h) [
-      | inl j ↦
-          let l = leb-true n 65535 j.0 in
-          subst (One Bound IsBoundOf line e (p ∷ ps)) (ok_same j.1) (record { piece = p; rest = ps; tokens = refl; is = (k, omega arith); after = refl })
-      | inr j ↦ absurd cc
-    ]
-bound_by line e p ps (a_text bytes) x k h = absurd cc
-bound_by line e p ps (a_mark m) x k h = absurd cc
+abbrev bound_on_number : ℕ → Option Bound
+bound_on_number n = option_map (λ (k : ℕ). bound.Number k) (within 65535 n)
 
-pub bound_read : (line e : ℕ) (ps : List Piece) (x : Bound × ReaderState) → bound_at (st line e ps) ≡ Ok x → One Bound IsBoundOf line e ps x
-unfolding bound_at
-bound_read line e [] x h = absurd cc
-bound_read line e (p ∷ ps) x h = bound_by line e p ps p.says x refl h
+abbrev bound_by : TokenValue → Option Bound
+bound_by = by_token bound_on_name bound_on_number nothing
+
+bound_name : (line e : ℕ) (p : Piece) (ps : List Piece) (o : Option ℕ) → (named (st line e (p ∷ ps)) (option_map reg_of o) >>= λ (r : Reg × ReaderState). let y : Read Bound = Ok (bound.Register r.0, r.1) in y)
+    ≡ gives line e p ps NoSuchName (option_map (λ (r : Reg). bound.Register r) (option_map reg_of o))
+bound_name line e p ps (Some n) = refl
+bound_name line e p ps None = refl
+
+bound_number : (line e n : ℕ) (p : Piece) (ps : List Piece) (t : Bool) → (if t then Ok (bound.Number n, st line e ps) else Err (record { line = line; col = p.col; kind = OutOfRange })) ≡ gives line e p ps OutOfRange (option_map (λ (k : ℕ). bound.Number k) (only_if t n))
+bound_number line e n p ps true = refl
+bound_number line e n p ps false = refl
+
+register_bounds : (p : Piece) (name : List ℕ) (x : Bound) → IsNamed name p → (o : Option ℕ) → register_of name ≡ o → option_map (λ (r : Reg). bound.Register r) (option_map reg_of o) ≡ Some x → IsBoundOf x p
+register_bounds p name x i (Some n) j k = subst (λ (y : Bound). IsBoundOf y p) (some_same k) (name, n, i, register_is name n j, refl)
+register_bounds p name x i None j k = absurd cc
+
+number_bounds : (p : Piece) (n : ℕ) (x : Bound) → IsNumber n p → (o : Option ℕ) → within 65535 n ≡ o → option_map (λ (k : ℕ). bound.Number k) o ≡ Some x → IsBoundOf x p
+number_bounds p n x i (Some m) j k = let w = within_is 65535 n m j in subst (λ (y : Bound). IsBoundOf y p) (some_same k) (i ∙ ap a_number w.0, omega (arith, w.1))
+number_bounds p n x i None j k = absurd cc
+
+bound_given : (p : Piece) (x : Bound) → IsBoundOf x p → bound_by p.says ≡ Some x
+bound_given p (bound.Register r) h =
+    ap bound_by h.2 ∙ ap (λ (o : Option ℕ). option_map (λ (r : Reg). bound.Register r) (option_map reg_of o)) (register_name_again h.0 h.1 h.3) ∙ ap (λ (r : Reg). let y : Option Bound = Some (bound.Register r) in y) (sym h.4)
+bound_given p (bound.Number n) h = ap bound_by h.0 ∙ ap (option_map (λ (k : ℕ). bound.Number k)) (within_again 65535 n (omega (arith, h.1)))
+
+pub one_bound : (line e : ℕ) → OneToken Bound IsBoundOf true own_names line e bound_at
+unfolding bound_at register_at register_of any
+one_bound line e = record {
+  given = λ p. bound_by p.says;
+  empty = refl;
+  each = λ p ps. token_gives true own_names line e p ps (λ o. bound_on (st line e (p ∷ ps)) (Some o)) bound_by (λ name i. by_name p ps name i) (λ n. bound_number line e n p ps (nat_le n 65535)) (λ bytes. refl) (λ m. refl) p.says refl;
+  is = λ p x. token_is IsBoundOf bound_on_name bound_on_number p x (λ name i. register_bounds p name x i (register_of name) refl) (λ n i. number_bounds p n x i (within 65535 n) refl) p.says refl;
+  again = bound_given;
+  numbers = (saying (a_number 0), 0, bound.Number 0, refl, refl);
+  names = ((saying (a_name (codes "r0")), codes "r0", bound.Register (reg_of 0), refl, refl), (any, codes "x", any_is_symbol, refl));
+  marks = λ p m w i. ap bound_by i;
+  some = (saying (a_number 0), bound.Number 0, refl);
+}
+  where
+    by_name : (p : Piece) (ps : List Piece) (name : List ℕ) → IsNamed name p → bound_on (st line e (p ∷ ps)) (Some (a_name name)) ≡ gives line e p ps NoSuchName (bound_on_name name)
+    by_name p ps name i = ap (λ (m : TokenValue). register_on (st line e (p ∷ ps)) (Some m) >>= λ (r : Reg × ReaderState). let y : Read Bound = Ok (bound.Register r.0, r.1) in y) i ∙ bound_name line e p ps (register_of name)
 
 pub bound_register_again : (line e : ℕ) (r : Reg) (ps : List Piece) → IsLast r ps → bound_at (st line e ps) ≡ Ok (bound.Register r, st line e [])
-unfolding bound_at
 bound_register_again line e r [] h = absurd h
-bound_register_again line e r (p ∷ []) h =
-    let s = st line e (p ∷ []) in
-    ap (λ (m : TokenValue). bound_on s (Some m)) h.2
-    ∙ bind_to (register_at s) register_bound (r, st line e []) (Ok (bound.Register r, st line e [])) (register_again line e r p [] h) refl
+bound_register_again line e r (p ∷ []) h = slot_again (one_bound line e) (bound.Register r) p [] h
 bound_register_again line e r (p ∷ q ∷ ps) h = absurd h
-
-pub bound_number_again : (line e n : ℕ) (p : Piece) → IsNumber n p → n < 65536 → bound_at (st line e (p ∷ [])) ≡ Ok (bound.Number n, st line e [])
-unfolding bound_at
-bound_number_again line e n p h l =
-    ap (λ (m : TokenValue). bound_on (st line e (p ∷ [])) (Some m)) h ∙ take_then (nat_le n 65535) _ _ (le-leb n 65535 (omega arith))

@@ -15,7 +15,7 @@ use Rattle.m88_parse.specs.Language.Names.{IsNamed, IsSymbol}
 use Rattle.m88_parse.specs.Language.Statements.{IsBody, text, data_section, at, word, half, byte, ascii, zeros, align, global, set, code, IsLabel, BeginsWithNoColon, IsStatement, unlabelled, labelled, label_alone, IsHead, head}
 use Rattle.m88_parse.specs.Language.Units.{Said, says_nothing, says, begins, LineSays, empty_line, statement_line, module_line}
 use Rattle.m88_parse.proofs.Law.Steps.{chosen, tested, take_then, take_else}
-use Rattle.m88_parse.proofs.Law.Slots.{st, ok_same, bind_ok, bind_to, mark_says, end_read, symbol_read, symbol_again, any_name_read, any_name_again}
+use Rattle.m88_parse.proofs.Law.Slots.{st, ok_same, bind_ok, bind_to, mark_says, end_read, one_any_name, one_symbol, slot_again, slot_read}
 use Rattle.m88_parse.proofs.Law.Bodies.{operation_read, body_again}
 
 -- the row that says it
@@ -51,7 +51,7 @@ label_read line e p [] r m h = absurd cc
 label_read line e p (c ∷ ps) r m h =
     let s = st line e (p ∷ c ∷ ps) in
     let b = bind_ok (symbol_at s) (λ (label : (List ℕ × ℕ) × ReaderState). labelled_on (past label.1) label.0 (first (past label.1))) r h in
-    let o = symbol_read line e (p ∷ c ∷ ps) b.0 b.1 in
+    let o = slot_read (one_symbol line e) (p ∷ c ∷ ps) b.0 b.1 in
     let same_piece : p ≡ o.piece = cc (o.tokens) in
     let same_rest : c ∷ ps ≡ o.rest = cc (o.tokens) in
     let after : b.0.1 ≡ st line e (c ∷ ps) = o.after ∙ ap (st line e) (sym same_rest) in
@@ -76,7 +76,7 @@ head_read : (line e : ℕ) (p : Piece) (ps : List Piece) (r : Row) → IsNamed (
 unfolding head_at
 head_read line e p ps r n h =
     let b = bind_ok (any_name_at (st line e ps)) (λ (name : List ℕ × ReaderState). end_at name.1 >>= made_head line name) r h in
-    let o = any_name_read line e ps b.0 b.1 in
+    let o = slot_read (one_any_name line e) ps b.0 b.1 in
     let d = bind_ok (end_at b.0.1) (made_head line b.0) r b.2 in
     let z = end_read line e o.rest d.0 (ap end_at (sym o.after) ∙ d.1) in
     let t : ps ≡ o.piece ∷ [] = o.tokens ∙ ap (λ (qs : List Piece). o.piece ∷ qs) z in
@@ -132,7 +132,7 @@ unfolding row_at labelled_at
 label_again line e p c ps name z k h =
     let s = st line e (p ∷ c ∷ ps) in
     take_then (is_label_on (Some p.says) (Some c.says)) _ _ (ap₂ (λ (a b : TokenValue). is_label_on (Some a) (Some b)) k.symbol.0 k.colon)
-    ∙ bind_to (symbol_at s) (λ (label : (List ℕ × ℕ) × ReaderState). labelled_on (past label.1) label.0 (first (past label.1))) ((name, p.col), st line e (c ∷ ps)) z (symbol_again line e name p (c ∷ ps) k.symbol) h
+    ∙ bind_to (symbol_at s) (λ (label : (List ℕ × ℕ) × ReaderState). labelled_on (past label.1) label.0 (first (past label.1))) ((name, p.col), st line e (c ∷ ps)) z (slot_again (one_symbol line e) (name, p.col) p (c ∷ ps) (k.symbol, refl)) h
 
 colon_free : (m : TokenValue) (ps : List Piece) → BeginsWithNoColon ps → is_label_on (Some m) (says_first ps) ≡ false
 colon_free (a_name name) [] h = refl
@@ -149,7 +149,7 @@ unfolding row_at head_at
 head_again line e ps name (head {p = p} {q = q} n k v) =
     take_else (is_label_on (Some p.says) (Some q.says)) _ _ (head_no_label line e p q name n k)
     ∙ take_then (is_head_on (Some p.says)) _ _ (ap (λ (m : TokenValue). is_head_on (Some m)) n)
-    ∙ bind_to (any_name_at (st line e (q ∷ []))) (λ (x : List ℕ × ReaderState). end_at x.1 >>= made_head line x) (name, st line e []) (Ok (row.Head name line)) (any_name_again line e name q [] (k, v)) refl
+    ∙ bind_to (any_name_at (st line e (q ∷ []))) (λ (x : List ℕ × ReaderState). end_at x.1 >>= made_head line x) (name, st line e []) (Ok (row.Head name line)) (slot_again (one_any_name line e) name q [] (k, v)) refl
 
 -- an operation isn't the head of a module
 pub not_head : (line e : ℕ) (ps : List Piece) (c : Body) → operation_at (st line e ps) ≡ Ok c → is_head_on (first (st line e ps)) ≡ false

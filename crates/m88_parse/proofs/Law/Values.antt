@@ -1,16 +1,16 @@
 -- The law of operands of several tokens: numbers with a sign, symbols with what is added to them, and halves of values.
-use Rattle.std.proofs.Common.{◌≡◌, ℕ, ◌≤◌, true, false, ◌==◌, nat_le, ◌⊎◌, inl, inr, List, [], ◌∷◌, ◌++◌, Option, Some, None, Ok, refl, sym, ap, ◌∙◌, arith, subst, eqb-true, leb-true, le-leb, if◌then◌else◌}
+use Rattle.std.proofs.Common.{◌≡◌, ℕ, ◌≤◌, true, false, ◌==◌, nat_le, ◌⊎◌, inl, inr, List, [], ◌∷◌, ◌++◌, Option, Some, None, Ok, Err, refl, sym, ap, ◌∙◌, arith, subst, eqb-true, leb-true, le-leb}
 use Rattle.m88_base.specs.declared.fixup.Kind.{Kind}
 use Rattle.m88_base.specs.declared.fixup.Fixup.{Fixup}
 use Rattle.m88_parse.specs.declared.unit.Value.{Value}
 use Rattle.m88_parse.specs.declared.unit.Value.TheVariants.{Number, Symbol}
 use Rattle.m88_parse.specs.Language.Pieces.{TokenValue, a_name, a_number, a_text, a_mark, Piece}
 use Rattle.m88_parse.specs.Reader.State.{ReaderState, first, past, is_mark_of, is_next, ◌>>=◌}
-use Rattle.m88_parse.specs.Reader.Slots.{Read, negated, negative_on, unsigned_on, unsigned_at, signed_at, symbol_at, addend_at, fixup_at, value_on, value_at}
+use Rattle.m88_parse.specs.Reader.Slots.{Read, negated, negative_on, unsigned_at, signed_at, symbol_at, addend_at, fixup_at, value_on, value_at}
 use Rattle.m88_parse.specs.Language.Names.{IsMark, IsNumber}
 use Rattle.m88_parse.specs.Language.Operands.{minus, IsSigned, IsSymbolOf, IsAddend, IsFixup, IsValue}
 use Rattle.m88_parse.proofs.Law.Steps.{chosen, take_then, take_else}
-use Rattle.m88_parse.proofs.Law.Slots.{st, ok_same, bind_ok, bind_to, One, mark_says, next_is, next_again, IsUpTo, number_by, number_read, number_slot_again, ranged_again, IsSymbolAt, symbol_read, symbol_again}
+use Rattle.m88_parse.proofs.Law.Slots.{st, ok_same, bind_ok, bind_to, One, mark_says, next_is, next_again, IsUpTo, IsSymbolAt, one_number, one_symbol, slot_again, slot_read}
 
 -- several tokens, what they give, and what is left
 pub record Several (A : Type 0) (Is : List Piece → A → Type 0) (line e : ℕ) (ps : List Piece) (x : A × ReaderState) : Type 0 where
@@ -22,6 +22,14 @@ pub record Several (A : Type 0) (Is : List Piece → A → Type 0) (line e : ℕ
 
 pub several : (A : Type 0) (Is : List Piece → A → Type 0) (line e : ℕ) (ps front rest : List Piece) (v : A) (x : A × ReaderState) → ps ≡ front ++ rest → Is front v → (v, st line e rest) ≡ x → Several A Is line e ps x
 several A Is line e ps front rest v x t h k = subst (Several A Is line e ps) k (record { front = front; rest = rest; tokens = t; is = h; after = refl })
+
+-- what is read by a slot and then changed
+pub several_as : (A C : Type 0) (Is : List Piece → A → Type 0) (As : List Piece → C → Type 0) (f : A → C) (line e : ℕ) (ps : List Piece) (r : Read A) (x : C × ReaderState) → ((y : A × ReaderState) → r ≡ Ok y → Several A Is line e ps y)
+    → ((front : List Piece) (v : A) → Is front v → As front (f v)) → (r >>= λ (y : A × ReaderState). let z : Read C = Ok (f y.0, y.1) in z) ≡ Ok x → Several C As line e ps x
+several_as A C Is As f line e ps (Ok y) x reads made h =
+    let w = reads y refl in
+    several C As line e ps w.front w.rest (f y.0) x w.tokens (made w.front y.0 w.is) (ap (λ (u : ReaderState). let z : C × ReaderState = (f y.0, u) in z) (sym w.after) ∙ ok_same h)
+several_as A C Is As f line e ps (Err k) x reads made h = absurd cc
 
 -- a number with a sign of its own
 
@@ -50,23 +58,22 @@ whole_of_one : (low most line e : ℕ) (ps : List Piece) (x : ℕ × ReaderState
 whole_of_one low most line e ps x o = record { front = o.piece ∷ []; rest = o.rest; tokens = o.tokens; is = o.is; after = o.after }
 
 pub whole_read : (low most line e : ℕ) (ps : List Piece) (x : ℕ × ReaderState) → signed_at low most (st line e ps) ≡ Ok x → Several ℕ (IsWhole low most) line e ps x
-unfolding signed_at
+unfolding signed_at unsigned_at
 whole_read low most line e [] x h = absurd cc
 whole_read low most line e (p ∷ ps) x h =
     elim (chosen (is_next 45 (st line e (p ∷ ps))) _ _ _ h) [
       | inl j ↦ negative_read low most line e p ps x (mark_of_next line e p ps j.0) j.1
-      | inr j ↦ whole_of_one low most line e (p ∷ ps) x (number_by most line e p ps p.says x refl j.1)
+      | inr j ↦ whole_of_one low most line e (p ∷ ps) x (slot_read (one_number most line e) (p ∷ ps) x j.1)
     ]
   where
     mark_of_next : (line e : ℕ) (p : Piece) (ps : List Piece) → is_next 45 (st line e (p ∷ ps)) ≡ true → IsMark 45 p
     mark_of_next line e p ps k = mark_says 45 p.says k
 
 pub whole_again : (low most line e : ℕ) (front rest : List Piece) (v : ℕ) → IsWhole low most front v → signed_at low most (st line e (front ++ rest)) ≡ Ok (v, st line e rest)
-unfolding signed_at
+unfolding signed_at unsigned_at
 whole_again low most line e [] rest v h = absurd h
 whole_again low most line e (p ∷ []) rest v h =
-    let s = st line e (p ∷ rest) in
-    ap (λ (m : TokenValue). if is_mark_of 45 (Some m) then negative_on low s (past s) (first (past s)) else unsigned_on most s (Some m)) h.0 ∙ ranged_again most v s h.1
+    take_else (is_next 45 (st line e (p ∷ rest))) _ _ (ap (λ (m : TokenValue). is_mark_of 45 (Some m)) h.0) ∙ slot_again (one_number most line e) v p rest h
 whole_again low most line e (m ∷ p ∷ []) rest v h =
     let s = st line e (m ∷ p ∷ rest) in
     let n = h.1 in
@@ -99,14 +106,14 @@ pub data Added (line e : ℕ) (ps : List Piece) (x : ℕ × ReaderState) : Type 
 plus_added : (line e : ℕ) (ps : List Piece) (x : ℕ × ReaderState) → is_next 43 (st line e ps) ≡ true → unsigned_at 2147483647 (past (st line e ps)) ≡ Ok x → Added line e ps x
 plus_added line e ps x k h =
     let m = next_is 43 line e ps k in
-    let n = number_read 2147483647 line e m.rest x (ap (unsigned_at 2147483647) (sym m.after) ∙ h) in
+    let n = slot_read (one_number 2147483647 line e) m.rest x (ap (unsigned_at 2147483647) (sym m.after) ∙ h) in
     number_added m.piece n.piece n.rest (m.tokens ∙ ap (λ (qs : List Piece). m.piece ∷ qs) n.tokens) (x.0, n.is.0, omega (arith, n.is.1), inl (m.is, refl)) n.after
 
 minus_added : (line e : ℕ) (ps : List Piece) (x : ℕ × ReaderState) → is_next 45 (st line e ps) ≡ true → (unsigned_at 2147483647 (past (st line e ps)) >>= λ n. Ok (negated n.0, n.1)) ≡ Ok x → Added line e ps x
 minus_added line e ps x k h =
     let m = next_is 45 line e ps k in
     let b = bind_ok (unsigned_at 2147483647 (past (st line e ps))) (λ (n : ℕ × ReaderState). Ok (negated n.0, n.1)) x h in
-    let n = number_read 2147483647 line e m.rest b.0 (ap (unsigned_at 2147483647) (sym m.after) ∙ b.1) in
+    let n = slot_read (one_number 2147483647 line e) m.rest b.0 (ap (unsigned_at 2147483647) (sym m.after) ∙ b.1) in
     let same = ok_same b.2 in
     number_added m.piece n.piece n.rest (m.tokens ∙ ap (λ (qs : List Piece). m.piece ∷ qs) n.tokens) (b.0.0, n.is.0, omega (arith, n.is.1), inr (m.is, sym (ap (λ (y : ℕ × ReaderState). y.0) same)))
     (sym (ap (λ (y : ℕ × ReaderState). y.1) same) ∙ n.after)
@@ -148,12 +155,12 @@ addend_again line e addend m p rest h = by_mark h.3
     by_mark : (IsMark 43 m × (addend ≡ h.0)) ⊎ (IsMark 45 m × (addend ≡ minus 4294967296 h.0)) → addend_at (st line e (m ∷ p ∷ rest)) ≡ Ok (addend, st line e rest)
     by_mark (inl k) =
         take_then (is_next 43 (st line e (m ∷ p ∷ rest))) _ _ (next_again 43 line e m (p ∷ rest) k.0)
-        ∙ number_slot_again 2147483647 line e h.0 p rest h.1 (omega (arith, h.2))
+        ∙ slot_again (one_number 2147483647 line e) h.0 p rest (h.1, omega (arith, h.2))
         ∙ ap (λ (n : ℕ). let y : Read ℕ = Ok (n, st line e rest) in y) (sym k.1)
     by_mark (inr k) =
         take_else (is_next 43 (st line e (m ∷ p ∷ rest))) _ _ (plus_no_minus m.says (next_again 45 line e m (p ∷ rest) k.0))
         ∙ take_then (is_next 45 (st line e (m ∷ p ∷ rest))) _ _ (next_again 45 line e m (p ∷ rest) k.0)
-        ∙ bind_to (unsigned_at 2147483647 (st line e (p ∷ rest))) (λ (n : ℕ × ReaderState). Ok (negated n.0, n.1)) (h.0, st line e rest) (Ok (addend, st line e rest)) (number_slot_again 2147483647 line e h.0 p rest h.1 (omega (arith, h.2)))
+        ∙ bind_to (unsigned_at 2147483647 (st line e (p ∷ rest))) (λ (n : ℕ × ReaderState). Ok (negated n.0, n.1)) (h.0, st line e rest) (Ok (addend, st line e rest)) (slot_again (one_number 2147483647 line e) h.0 p rest (h.1, omega (arith, h.2)))
         (ap (λ (n : ℕ). let y : Read ℕ = Ok (n, st line e rest) in y) (sym k.1))
 
 -- a symbol with what is added to it
@@ -176,7 +183,7 @@ pub fixup_read : (kind : Kind) (line e : ℕ) (ps : List Piece) (x : Fixup × Re
 unfolding fixup_at
 fixup_read kind line e ps x h =
     let b = bind_ok (symbol_at (st line e ps)) (λ (name : (List ℕ × ℕ) × ReaderState). addend_at name.1 >>= with_addend kind name) x h in
-    let s = symbol_read line e ps b.0 b.1 in
+    let s = slot_read (one_symbol line e) ps b.0 b.1 in
     let c = bind_ok (addend_at b.0.1) (with_addend kind b.0) x b.2 in
     let a = addend_read line e s.rest c.0 (ap addend_at (sym s.after) ∙ c.1) in
     fixup_added kind line e ps s.piece s.rest b.0.0 c.0 x s.tokens s.is a (ok_same c.2)
@@ -187,7 +194,7 @@ same_fixup kind f addend col a b c = λ i. record { kind = sym a i; symbol = f.s
 fixup_from : (kind : Kind) (line e : ℕ) (s : Piece) (ps rest : List Piece) (f : Fixup) → IsSymbolOf kind f s → addend_at (st line e ps) ≡ Ok (f.addend, st line e rest) → fixup_at kind (st line e (s ∷ ps)) ≡ Ok (f, st line e rest)
 unfolding fixup_at
 fixup_from kind line e s ps rest f i a =
-    bind_to (symbol_at (st line e (s ∷ ps))) (λ (name : (List ℕ × ℕ) × ReaderState). addend_at name.1 >>= with_addend kind name) ((f.symbol, s.col), st line e ps) (Ok (f, st line e rest)) (symbol_again line e f.symbol s ps i.1)
+    bind_to (symbol_at (st line e (s ∷ ps))) (λ (name : (List ℕ × ℕ) × ReaderState). addend_at name.1 >>= with_addend kind name) ((f.symbol, s.col), st line e ps) (Ok (f, st line e rest)) (slot_again (one_symbol line e) (f.symbol, s.col) s ps (i.1, refl))
     (bind_to (addend_at (st line e ps)) (with_addend kind ((f.symbol, s.col), st line e ps)) (f.addend, st line e rest) (Ok (f, st line e rest)) a
     (ap (λ (g : Fixup). let y : Read Fixup = Ok (g, st line e rest) in y) (same_fixup kind f f.addend s.col i.0 refl i.2)))
 
@@ -208,17 +215,10 @@ symbol_value f = Ok (Symbol f.0, f.1)
 
 number_here : (kind : Kind) (line e : ℕ) (ps : List Piece) (x : Value × ReaderState) → (signed_at 2147483648 4294967295 (st line e ps) >>= number_value) ≡ Ok x → Several Value (IsValue kind) line e ps x
 number_here kind line e ps x h =
-    let b = bind_ok (signed_at 2147483648 4294967295 (st line e ps)) number_value x h in
-    let w = whole_read 2147483648 4294967295 line e ps b.0 b.1 in
-    several Value (IsValue kind) line e ps w.front w.rest (Number b.0.0) x w.tokens (word_signed w.front b.0.0 w.is)
-    (ap (λ (u : ReaderState). let y : Value × ReaderState = (Number b.0.0, u) in y) (sym w.after) ∙ ok_same b.2)
+    several_as ℕ Value (IsWhole 2147483648 4294967295) (IsValue kind) (λ n. Number n) line e ps (signed_at 2147483648 4294967295 (st line e ps)) x (whole_read 2147483648 4294967295 line e ps) word_signed h
 
 symbol_here : (kind : Kind) (line e : ℕ) (ps : List Piece) (x : Value × ReaderState) → (fixup_at kind (st line e ps) >>= symbol_value) ≡ Ok x → Several Value (IsValue kind) line e ps x
-symbol_here kind line e ps x h =
-    let b = bind_ok (fixup_at kind (st line e ps)) symbol_value x h in
-    let w = fixup_read kind line e ps b.0 b.1 in
-    several Value (IsValue kind) line e ps w.front w.rest (Symbol b.0.0) x w.tokens w.is
-    (ap (λ (u : ReaderState). let y : Value × ReaderState = (Symbol b.0.0, u) in y) (sym w.after) ∙ ok_same b.2)
+symbol_here kind line e ps x h = several_as Fixup Value (IsFixup kind) (IsValue kind) (λ f. Symbol f) line e ps (fixup_at kind (st line e ps)) x (fixup_read kind line e ps) (λ front f w. w) h
 
 value_by : (kind : Kind) (line e : ℕ) (ps : List Piece) (o : Option TokenValue) (x : Value × ReaderState) → value_on kind (st line e ps) o ≡ Ok x → Several Value (IsValue kind) line e ps x
 value_by kind line e ps None x h = number_here kind line e ps x h

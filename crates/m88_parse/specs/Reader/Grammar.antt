@@ -75,20 +75,20 @@ pub data Form : Type 0 where
   bit_then : (ℕ → Form) → Form
   mask_then : (ℕ → Form) → Form
   unsigned_then : ℕ → (ℕ → Form) → Form
-  signed_then : ℕ → ℕ → (ℕ → Form) → Form
   alignment_then : (ℕ → Form) → Form
   symbol_then : (List ℕ → ℕ → Form) → Form
-  immediate_then : (Immediate → Form) → Form
-  operand_then : (Operand → Form) → Form
   bound_then : (Bound → Form) → Form
-  scaled_then : (Reg → Form) → Form
-  index_then : (Index → Form) → Form
-  user_index_then : (Reg → Bool → Form) → Form
-  field_then : ℕ → (Field → Form) → Form
+  text_then : (List ℕ → Form) → Form
+  signed_ends : ℕ → ℕ → (ℕ → Body) → Form
+  immediate_ends : (Immediate → Body) → Form
+  operand_ends : (Operand → Body) → Form
+  scaled_ends : (Reg → Body) → Form
+  index_ends : (Index → Body) → Form
+  user_index_ends : (Reg → Bool → Body) → Form
+  field_ends : ℕ → (Field → Body) → Form
   goal_ends : Kind → ℕ → (Goal → Body) → Form
   words_end : (List Value → Body) → Form
   parts_end : Part → (List ℕ → Body) → Form
-  text_then : (List ℕ → Form) → Form
 
 -- the end of the line, and what was read before it
 abbrev pub end_with : Body → ReaderState → Result Body ParseFault
@@ -103,20 +103,20 @@ read (control_then float form) s = control_at float s >>= λ x. read (form x.0) 
 read (bit_then form) s = bit_at s >>= λ x. read (form x.0) x.1
 read (mask_then form) s = mask_at s >>= λ x. read (form x.0) x.1
 read (unsigned_then most form) s = unsigned_at most s >>= λ x. read (form x.0) x.1
-read (signed_then low most form) s = signed_at low most s >>= λ x. read (form x.0) x.1
 read (alignment_then form) s = alignment_at s >>= λ x. read (form x.0) x.1
 read (symbol_then form) s = symbol_at s >>= λ x. read (form x.0.0 x.0.1) x.1
-read (immediate_then form) s = immediate_at s >>= λ x. read (form x.0) x.1
-read (operand_then form) s = operand_at s >>= λ x. read (form x.0) x.1
 read (bound_then form) s = bound_at s >>= λ x. read (form x.0) x.1
-read (scaled_then form) s = scaled_at s >>= λ x. read (form x.0) x.1
-read (index_then form) s = index_at s >>= λ x. read (form x.0) x.1
-read (user_index_then form) s = user_index_at s >>= λ x. read (form x.0.0 x.0.1) x.1
-read (field_then most form) s = field_at most s >>= λ x. read (form x.0) x.1
-read (goal_ends kind limit made) s = goal_at kind limit s >>= λ x. end_with (made x.0) x.1
+read (text_then form) s = text_at s >>= λ x. read (form x.0) x.1
+read (signed_ends low most made) s = signed_at low most s >>= λ x. end_with (made x.0) x.1
+read (immediate_ends made) s = immediate_at s >>= λ x. end_with (made x.0) x.1
+read (operand_ends made) s = operand_at s >>= λ x. end_with (made x.0) x.1
+read (scaled_ends made) s = scaled_at s >>= λ x. end_with (made x.0) x.1
+read (index_ends made) s = index_at s >>= λ x. end_with (made x.0) x.1
+read (user_index_ends made) s = user_index_at s >>= λ x. end_with (made x.0.0 x.0.1) x.1
+read (field_ends most made) s = field_at most s >>= λ x. end_with (made x.0) x.1
+read (goal_ends kind bits made) s = goal_at kind (2 ^ bits) s >>= λ x. end_with (made x.0) x.1
 read (words_end made) s = list_at word_item_at s >>= λ x. end_with (made x.0) x.1
 read (parts_end part made) s = list_at (part_item_at part) s >>= λ x. end_with (made x.0) x.1
-read (text_then form) s = text_at s >>= λ x. read (form x.0) x.1
 
 -- an instruction with no fixup
 abbrev pub code_only : Instr → Form
@@ -149,12 +149,12 @@ bounds_body s1 (bound.Number imm) = body.Code (instr.BoundImm s1 imm) None
 
 -- rD,rS1 and an immediate or a register
 abbrev pub either_form : ImmOp → RegOp → Form
-either_form i r = two_registers (λ d s1. comma_then (operand_then (λ x. ends (either_body i r d s1 x))))
+either_form i r = two_registers (λ d s1. comma_then (operand_ends (λ x. either_body i r d s1 x)))
 
 -- rD,rS1 and an immediate
 abbrev pub immediate_form : ImmOp → Form
 immediate_form i =
-    two_registers (λ d s1. comma_then (immediate_then (λ x. ends (body.Code (instr.Imm i d s1 x.imm) x.fixup))))
+    two_registers (λ d s1. comma_then (immediate_ends (λ x. body.Code (instr.Imm i d s1 x.imm) x.fixup)))
 
 -- rD,rS1,rS2
 abbrev pub registers_form : RegOp → Form
@@ -162,20 +162,20 @@ registers_form r = two_registers (λ d s1. comma_then (register_then (λ s2. cod
 
 -- rD,rS1 and an immediate, a register, or a scaled register
 abbrev pub memory_form : MemOp → Form
-memory_form op = two_registers (λ d s1. index_then (λ x. ends (memory_body op d s1 x)))
+memory_form op = two_registers (λ d s1. index_ends (λ x. memory_body op d s1 x))
 
 -- rD,rS1 and a register or a scaled register, in the user's address space
 abbrev pub user_memory_form : MemOp → Form
 user_memory_form op =
-    two_registers (λ d s1. user_index_then (λ s2 scaled. code_only (instr.MemReg op d s1 s2 scaled true)))
+    two_registers (λ d s1. user_index_ends (λ s2 scaled. body.Code (instr.MemReg op d s1 s2 scaled true) None))
 
 -- rD,rS1[rS2]
 abbrev pub address_form : LdaSize → Form
-address_form size = two_registers (λ d s1. scaled_then (λ s2. code_only (instr.Lda size d s1 s2)))
+address_form size = two_registers (λ d s1. scaled_ends (λ s2. body.Code (instr.Lda size d s1 s2) None))
 
 -- rD,rS1 and a width and an offset, or a register
 abbrev pub bits_form : BitOp → Form
-bits_form op = two_registers (λ d s1. comma_then (field_then (most_width op) (λ x. ends (bits_body op d s1 x))))
+bits_form op = two_registers (λ d s1. comma_then (field_ends (most_width op) (λ x. bits_body op d s1 x)))
 
 -- rD,rS2
 abbrev pub find_bit_form : Bool → Form
@@ -183,19 +183,19 @@ find_bit_form ones = two_registers (λ d s2. code_only (instr.Find ones d s2))
 
 -- a goal in a field of 26 bits
 abbrev pub branch_form : Bool → Bool → Form
-branch_form link delayed = goal_ends Pc26 (2 ^ 25) (λ g. body.Code (instr.Branch link delayed g.words) g.fixup)
+branch_form link delayed = goal_ends Pc26 25 (λ g. body.Code (instr.Branch link delayed g.words) g.fixup)
 
 -- a bit, rS1 and a goal in a field of 16 bits
 abbrev pub branch_bit_form : Bool → Bool → Form
 branch_bit_form on delayed =
     bit_then (λ b. comma_then (register_then (λ s1. comma_then
-    (goal_ends Pc16 (2 ^ 15) (λ g. body.Code (instr.BranchBit on delayed b s1 g.words) g.fixup)))))
+    (goal_ends Pc16 15 (λ g. body.Code (instr.BranchBit on delayed b s1 g.words) g.fixup)))))
 
 -- a condition, rS1 and a goal in a field of 16 bits
 abbrev pub branch_cond_form : Bool → Form
 branch_cond_form delayed =
     mask_then (λ m. comma_then (register_then (λ s1. comma_then
-    (goal_ends Pc16 (2 ^ 15) (λ g. body.Code (instr.BranchCond delayed m s1 g.words) g.fixup)))))
+    (goal_ends Pc16 15 (λ g. body.Code (instr.BranchCond delayed m s1 g.words) g.fixup)))))
 
 -- rS2
 abbrev pub jump_form : Bool → Bool → Form
@@ -264,4 +264,4 @@ directive_form directive.Zero = unsigned_then (2 ^ 32 - 1) (λ n. ends (body.Zer
 directive_form directive.Align = alignment_then (λ n. ends (body.Align n))
 directive_form directive.Global = symbol_then (λ name col. ends (body.Global name))
 directive_form directive.Set =
-    symbol_then (λ name col. comma_then (signed_then (2 ^ 31) (2 ^ 32 - 1) (λ n. ends (body.Set name col n))))
+    symbol_then (λ name col. comma_then (signed_ends (2 ^ 31) (2 ^ 32 - 1) (λ n. body.Set name col n)))

@@ -2,6 +2,7 @@
 -- by what stands where one is wanted. A slot gives its value and what is left behind it, or the fault of the first
 -- token that can't stand there.
 use Rattle.std.specs.Prelude.{ℕ, ◌-◌, ◌^◌, Bool, List, ◌==◌, ◌||◌, nat_le, if◌then◌else◌, Option, Some, None, Result, Ok}
+use Rattle.std.specs.Option.{option_map}
 use Rattle.m88_base.specs.Reg.{reg_of}
 use Rattle.m88_base.specs.declared.reg.Reg.{Reg}
 use Rattle.m88_base.specs.declared.fixup.Kind.{Kind}
@@ -21,9 +22,9 @@ use Rattle.m88_parse.specs.Reader.State.{ReaderState, first, place, past, troubl
 abbrev pub Read : Type 0 → Type 0
 Read A = Result (A × ReaderState) ParseFault
 
--- what a name that has a number of its own stands for
-abbrev pub named : ReaderState → Option ℕ → Read ℕ
-named s (Some n) = Ok (n, past s)
+-- what a name that has a meaning of its own stands for
+abbrev pub named : {A : Type 0} → ReaderState → Option A → Read A
+named s (Some x) = Ok (x, past s)
 named s None = trouble NoSuchName s
 
 -- a number, where it is in range
@@ -66,14 +67,9 @@ unfoldable pub signed_at : ℕ → ℕ → ReaderState → Read ℕ
 signed_at low most s =
     if is_next minus_mark s then negative_on low s (past s) (first (past s)) else unsigned_on most s (first s)
 
--- the general register of a number
-abbrev pub as_register : ReaderState → Option ℕ → Read Reg
-as_register s (Some n) = Ok (reg_of n, past s)
-as_register s None = trouble NoSuchName s
-
 -- a general register, by what stands there
 abbrev pub register_on : ReaderState → Option TokenValue → Read Reg
-register_on s (Some (a_name text)) = as_register s (register_of text)
+register_on s (Some (a_name text)) = named s (option_map reg_of (register_of text))
 register_on s _ = trouble Syntax s
 
 -- a general register
@@ -89,25 +85,19 @@ control_on float s _ = trouble Syntax s
 unfoldable pub control_at : Bool → ReaderState → Read ℕ
 control_at float s = control_on float s (first s)
 
--- a bit, by what stands there
-abbrev pub bit_on : ReaderState → Option TokenValue → Read ℕ
-bit_on s (Some (a_name text)) = named s (bit_named text)
-bit_on s (Some (a_number n)) = ranged 31 n s
-bit_on s _ = trouble Syntax s
+-- a number, 0 to most, or a name of a table, by what stands there
+abbrev pub tabled_on : (List ℕ → Option ℕ) → ℕ → ReaderState → Option TokenValue → Read ℕ
+tabled_on table most s (Some (a_name text)) = named s (table text)
+tabled_on table most s (Some (a_number n)) = ranged most n s
+tabled_on table most s _ = trouble Syntax s
 
 -- a bit, 0 to 31 or by its name
 unfoldable pub bit_at : ReaderState → Read ℕ
-bit_at s = bit_on s (first s)
-
--- a condition, by what stands there
-abbrev pub mask_on : ReaderState → Option TokenValue → Read ℕ
-mask_on s (Some (a_name text)) = named s (condition_named text)
-mask_on s (Some (a_number n)) = ranged 15 n s
-mask_on s _ = trouble Syntax s
+bit_at s = tabled_on bit_named 31 s (first s)
 
 -- a condition, 0 to 15 or by its name
 unfoldable pub mask_at : ReaderState → Read ℕ
-mask_at s = mask_on s (first s)
+mask_at s = tabled_on condition_named 15 s (first s)
 
 -- a symbol's name with its column, by what stands there
 abbrev pub symbol_on : ReaderState → Option TokenValue → Read (List ℕ × ℕ)

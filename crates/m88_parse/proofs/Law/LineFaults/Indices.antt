@@ -1,5 +1,5 @@
 -- Operands that may be a register or something else, what stands behind a base register, and bit fields.
-use Rattle.std.proofs.Common.{◌≡◌, ℕ, Bool, true, false, if◌then◌else◌, ◌⊎◌, inl, inr, List, [], ◌∷◌, Option, Some, None, Result, Ok, Err, refl, sym, ap, ◌∙◌, codes}
+use Rattle.std.proofs.Common.{◌≡◌, ℕ, Bool, true, false, if◌then◌else◌, ◌⊎◌, inl, inr, List, [], ◌∷◌, Option, Some, None, Result, Ok, refl, sym, ap, ◌∙◌, codes}
 use Rattle.m88_base.specs.Reg.{reg_of}
 use Rattle.m88_base.specs.declared.reg.Reg.{Reg}
 use Rattle.m88_parse.specs.declared.fault.ParseFault.{ParseFault}
@@ -13,19 +13,16 @@ use Rattle.m88_parse.specs.declared.operand.Field.TheVariants as field
 use Rattle.m88_parse.specs.Reader.Names.{register_of}
 use Rattle.m88_parse.specs.Language.Pieces.{TokenValue, a_name, a_number, a_text, a_mark, Piece}
 use Rattle.m88_parse.specs.Reader.State.{ReaderState, is_mark_of, is_next, ◌>>=◌}
-use Rattle.m88_parse.specs.Reader.Slots.{Read, mark_at, unsigned_at, as_register, register_on, register_at}
+use Rattle.m88_parse.specs.Reader.Slots.{Read, mark_at, unsigned_at, register_at}
 use Rattle.m88_parse.specs.Reader.Operands.{immediate_at, register_in, operand_of, operand_at, scaled_at, index_at, user_index_at, width_at, literal_at, field_on, field_at}
 use Rattle.m88_parse.specs.Language.Names.{IsMark}
 use Rattle.m88_parse.proofs.Law.Steps.{take_then, take_else}
-use Rattle.m88_parse.proofs.Law.Slots.{st}
-use Rattle.m88_parse.proofs.Law.LineFaults.Readers.{fault_in, here, Reader, Goes, Good, no_name, own_names, kind_for}
-use Rattle.m88_parse.proofs.Law.LineFaults.Nodes.{Leads, Faults, Node, leads, leads_as, node_as, or_mark, good}
-use Rattle.m88_parse.proofs.Law.LineFaults.Slots.{saying, reader_of, one_token, never, one_register, one_number, mark_node, any, any_is_symbol}
+use Rattle.m88_parse.proofs.Law.Slots.{st, no_name, own_names, kind_for, saying, one_register, one_number, any, any_is_symbol}
+use Rattle.m88_parse.proofs.Law.LineFaults.Readers.{fault_in, Reader, Goes, Good}
+use Rattle.m88_parse.proofs.Law.LineFaults.Nodes.{Leads, Faults, Node, leads, node_as, or_mark, good, each_as}
+use Rattle.m88_parse.proofs.Law.LineFaults.Slots.{reader_of, one_token, never, mark_node, token_each, turns}
 use Rattle.m88_parse.proofs.Law.LineFaults.Values.{mapped, NoName, number_is, text_is, mark_is}
 use Rattle.m88_parse.proofs.Law.LineFaults.Operands.{no_immediate, immediate_node}
-
-no_minus : (p : Piece) (text : List ℕ) → p.says ≡ a_name text → IsMark 45 p → ⊥
-no_minus p text h m = let x = sym h ∙ m in cc
 
 -- a register or an immediate
 
@@ -66,10 +63,7 @@ operand_node few B line e k g = record {
     by_register : (p : Piece) (o : Option Reg) → register_in (Some p.says) ≡ o → Leads few true line e (reader_of line e operand_at k) p ⊎ Faults true own_names line (reader_of line e operand_at k) p
     by_register p (Some r) h =
         inl (leads few true line e (reader_of line e operand_at k) (λ ps. fault_in (k (operand.Register r) (st line e ps))) p (g (operand.Register r)) (λ ps. as_register_here p ps r h) (inl (register_no_minus p r h)))
-    by_register p None h = elim (imm.each p) [
-      | inl l ↦ inl (leads_as few true line e (reader_of line e operand_at k) (reader_of line e immediate_at (λ x. k (operand.Immediate x))) p (λ ps. as_immediate p ps h) l)
-      | inr f ↦ inr (λ ps. as_immediate p ps h ∙ f ps)
-    ]
+    by_register p None h = each_as few true own_names own_names line e (reader_of line e operand_at k) (reader_of line e immediate_at (λ x. k (operand.Immediate x))) p (λ ps. as_immediate p ps h) refl (imm.each p)
 
 -- [rS2]
 
@@ -83,24 +77,9 @@ behind_bracket_good few B line e k g =
     (one_token few Reg B false own_names line e register_at (one_register line e) (λ r s. mark_at 93 s >>= λ (closed : ReaderState). k r closed)
     (λ r. good few false no_name line e (λ ps. fault_in (mark_at 93 (st line e ps) >>= λ (closed : ReaderState). k r closed)) (mark_node few B 93 line e (λ closed. k r closed) refl refl (g r))))
 
-bracket_split : (B C : Type 0) (r : Result ReaderState ParseFault) (x : C) (k : C → ReaderState → Result B ParseFault) → ((r >>= λ (closed : ReaderState). let y : Read C = Ok (x, closed) in y) >>= λ (z : C × ReaderState). k z.0 z.1) ≡ (r >>= λ (closed : ReaderState). k x closed)
-bracket_split B C (Ok s) x k = refl
-bracket_split B C (Err f) x k = refl
-
-register_split : (B : Type 0) (r : Read Reg) (k : Reg → ReaderState → Result B ParseFault)
-    → ((r >>= λ (v : Reg × ReaderState). mark_at 93 v.1 >>= λ (closed : ReaderState). let y : Read Reg = Ok (v.0, closed) in y) >>= λ (z : Reg × ReaderState). k z.0 z.1) ≡ (r >>= λ (v : Reg × ReaderState). mark_at 93 v.1 >>= λ (closed : ReaderState). k v.0 closed)
-register_split B (Ok v) k = bracket_split B Reg (mark_at 93 v.1) v.0 k
-register_split B (Err f) k = refl
-
-scaled_split : (B : Type 0) (r : Result ReaderState ParseFault) (k : Reg → ReaderState → Result B ParseFault)
-    → ((r >>= λ (opened : ReaderState). register_at opened >>= λ (v : Reg × ReaderState). mark_at 93 v.1 >>= λ (closed : ReaderState). let y : Read Reg = Ok (v.0, closed) in y) >>= λ (z : Reg × ReaderState). k z.0 z.1)
-    ≡ (r >>= λ (opened : ReaderState). register_at opened >>= λ (v : Reg × ReaderState). mark_at 93 v.1 >>= λ (closed : ReaderState). k v.0 closed)
-scaled_split B (Ok s) k = register_split B (register_at s) k
-scaled_split B (Err f) k = refl
-
 scaled_steps : (B : Type 0) (s : ReaderState) (k : Reg → ReaderState → Result B ParseFault) → (scaled_at s >>= λ (z : Reg × ReaderState). k z.0 z.1) ≡ (mark_at 91 s >>= λ (opened : ReaderState). register_at opened >>= λ (v : Reg × ReaderState). mark_at 93 v.1 >>= λ (closed : ReaderState). k v.0 closed)
 unfolding scaled_at
-scaled_steps B s k = scaled_split B (mark_at 91 s) k
+scaled_steps B s k = turns (mark_at 91 s) _ _ _ (λ opened. turns (register_at opened) _ _ _ (λ r. turns (mark_at 93 r.1) _ _ _ (λ closed. refl)))
 
 scaled_taken : (B : Type 0) (line e : ℕ) (p : Piece) (ps : List Piece) (k : Reg → ReaderState → Result B ParseFault) → is_mark_of 91 (Some p.says) ≡ true → fault_in (scaled_at (st line e (p ∷ ps)) >>= λ (z : Reg × ReaderState). k z.0 z.1) ≡ behind_bracket line e k ps
 unfolding behind_bracket
@@ -117,18 +96,13 @@ scaled_node few B line e k g =
 
 -- behind the base register
 
-comma_split : (A B C : Type 0) (r : Result ReaderState ParseFault) (slot : ReaderState → Read A) (f : A → C) (k : C → ReaderState → Result B ParseFault)
-    → ((r >>= λ (t : ReaderState). slot t >>= λ (x : A × ReaderState). let y : Read C = Ok (f x.0, x.1) in y) >>= λ (z : C × ReaderState). k z.0 z.1) ≡ (r >>= λ (t : ReaderState). slot t >>= λ (x : A × ReaderState). k (f x.0) x.1)
-comma_split A B C (Ok t) slot f k = mapped A B C (slot t) f k
-comma_split A B C (Err g) slot f k = refl
-
 pub index_node : (few : ℕ) (B : Type 0) (line e : ℕ) (k : Index → ReaderState → Result B ParseFault) → ((x : Index) → Good few line e (λ ps. fault_in (k x (st line e ps)))) → Node few false no_name line e (reader_of line e index_at k)
 unfolding index_at
 index_node few B line e k g =
     or_mark few false no_name line e 91 (reader_of line e index_at k) offset (behind_bracket line e (λ r. k (index.Scaled r))) refl (inr refl) bracket otherwise refl
     (behind_bracket_good few B line e (λ r. k (index.Scaled r)) (λ r. g (index.Scaled r)))
     (node_as few false no_name line e offset (λ ps. fault_in (mark_at 44 (st line e ps) >>= λ (t : ReaderState). operand_at t >>= λ (x : Operand × ReaderState). k (index.Offset x.0) x.1))
-    (λ ps. ap (λ (r : Result B ParseFault). fault_in r) (comma_split Operand B Index (mark_at 44 (st line e ps)) operand_at (λ x. index.Offset x) k))
+    (λ ps. ap (λ (r : Result B ParseFault). fault_in r) (turns (mark_at 44 (st line e ps)) _ _ _ (λ t. mapped Operand B Index (operand_at t) (λ x. index.Offset x) k)))
     (mark_node few B 44 line e (λ t. operand_at t >>= λ (x : Operand × ReaderState). k (index.Offset x.0) x.1) refl refl
     (good few true own_names line e (reader_of line e operand_at (λ x. k (index.Offset x))) (operand_node few B line e (λ x. k (index.Offset x)) (λ x. g (index.Offset x))))))
   where
@@ -150,7 +124,7 @@ user_index_node few B line e k g =
     or_mark few false no_name line e 91 (reader_of line e user_index_at k) offset (behind_bracket line e (λ r. k (r, true))) refl (inr refl) bracket otherwise refl
     (behind_bracket_good few B line e (λ r. k (r, true)) (λ r. g (r, true)))
     (node_as few false no_name line e offset (λ ps. fault_in (mark_at 44 (st line e ps) >>= λ (t : ReaderState). register_at t >>= λ (x : Reg × ReaderState). k (x.0, false) x.1))
-    (λ ps. ap (λ (r : Result B ParseFault). fault_in r) (comma_split Reg B (Reg × Bool) (mark_at 44 (st line e ps)) register_at (λ x. (x, false)) k))
+    (λ ps. ap (λ (r : Result B ParseFault). fault_in r) (turns (mark_at 44 (st line e ps)) _ _ _ (λ t. mapped Reg B (Reg × Bool) (register_at t) (λ x. (x, false)) k)))
     (mark_node few B 44 line e (λ t. register_at t >>= λ (x : Reg × ReaderState). k (x.0, false) x.1) refl refl
     (good few false own_names line e (reader_of line e register_at (λ x. k (x, false))) (one_token few Reg B false own_names line e register_at (one_register line e) (λ x. k (x, false)) (λ x. g (x, false))))))
   where
@@ -183,27 +157,10 @@ after_width_node : (few : ℕ) (B : Type 0) (line e width : ℕ) (k : Field → 
 after_width_node few B line e width k g =
     mark_node few B 60 line e (λ opened. unsigned_at 31 opened >>= λ (offset : ℕ × ReaderState). mark_at 62 offset.1 >>= λ (closed : ReaderState). k (field.Literal width offset.0) closed) refl refl (offset_good few B line e width k g)
 
-offset_split : (B : Type 0) (width : ℕ) (r : Read ℕ) (k : Field → ReaderState → Result B ParseFault)
-    → ((r >>= λ (offset : ℕ × ReaderState). mark_at 62 offset.1 >>= λ (closed : ReaderState). let y : Read Field = Ok (field.Literal width offset.0, closed) in y) >>= λ (z : Field × ReaderState). k z.0 z.1)
-    ≡ (r >>= λ (offset : ℕ × ReaderState). mark_at 62 offset.1 >>= λ (closed : ReaderState). k (field.Literal width offset.0) closed)
-offset_split B width (Ok v) k = bracket_split B Field (mark_at 62 v.1) (field.Literal width v.0) k
-offset_split B width (Err f) k = refl
-
-opened_split : (B : Type 0) (width : ℕ) (r : Result ReaderState ParseFault) (k : Field → ReaderState → Result B ParseFault)
-    → ((r >>= λ (opened : ReaderState). unsigned_at 31 opened >>= λ (offset : ℕ × ReaderState). mark_at 62 offset.1 >>= λ (closed : ReaderState). let y : Read Field = Ok (field.Literal width offset.0, closed) in y) >>= λ (z : Field × ReaderState). k z.0 z.1)
-    ≡ (r >>= λ (opened : ReaderState). unsigned_at 31 opened >>= λ (offset : ℕ × ReaderState). mark_at 62 offset.1 >>= λ (closed : ReaderState). k (field.Literal width offset.0) closed)
-opened_split B width (Ok s) k = offset_split B width (unsigned_at 31 s) k
-opened_split B width (Err f) k = refl
-
-literal_split : (B : Type 0) (r : Read ℕ) (k : Field → ReaderState → Result B ParseFault)
-    → ((r >>= λ (width : ℕ × ReaderState). mark_at 60 width.1 >>= λ (opened : ReaderState). unsigned_at 31 opened >>= λ (offset : ℕ × ReaderState). mark_at 62 offset.1 >>= λ (closed : ReaderState). let y : Read Field = Ok (field.Literal width.0 offset.0, closed) in y) >>= λ (z : Field × ReaderState). k z.0 z.1)
-    ≡ (r >>= λ (width : ℕ × ReaderState). after_width k width.0 width.1)
-literal_split B (Ok w) k = opened_split B w.0 (mark_at 60 w.1) k
-literal_split B (Err f) k = refl
-
 literal_steps : (B : Type 0) (most : ℕ) (s : ReaderState) (k : Field → ReaderState → Result B ParseFault) → (literal_at most s >>= λ (z : Field × ReaderState). k z.0 z.1) ≡ ((if is_next 60 s then Ok (0, s) else unsigned_at most s) >>= λ (width : ℕ × ReaderState). after_width k width.0 width.1)
 unfolding literal_at width_at
-literal_steps B most s k = literal_split B (if is_next 60 s then Ok (0, s) else unsigned_at most s) k
+literal_steps B most s k =
+    turns (if is_next 60 s then Ok (0, s) else unsigned_at most s) _ _ _ (λ width. turns (mark_at 60 width.1) _ _ _ (λ opened. turns (unsigned_at 31 opened) _ _ _ (λ offset. turns (mark_at 62 offset.1) _ _ _ (λ closed. refl))))
 
 literal_node : (few : ℕ) (B : Type 0) (line e most : ℕ) (k : Field → ReaderState → Result B ParseFault) → ((x : Field) → Good few line e (λ ps. fault_in (k x (st line e ps)))) → Node few true no_name line e (reader_of line e (literal_at most) k)
 literal_node few B line e most k g =
@@ -233,10 +190,13 @@ unfolding field_at register_at register_of
 field_node few B line e most k g = record {
   wants = record {
     numbers = let w = lit.wants.numbers in (w.0, w.1, w.2, (w.3.0, as_literal w.0 w.3.0 (a_number w.1) w.2 number_is ∙ w.3.1));
-    names = ((saying (a_name (codes "r0")), codes "r0", refl, register_goes), (any, codes "x", any_is_symbol, never true own_names line (reader_of line e (field_at most) k) any (no_register any (codes "x") any_is_symbol.0 refl)));
+    names =
+        let a = reg.wants.names.0 in
+        let b = reg.wants.names.1 in
+        ((a.0, a.1, a.2, (a.3.0, as_register_at a.0 a.3.0 a.1 a.2 ∙ a.3.1)), (b.0, b.1, b.2, λ ps x. b.3 ps (sym (as_register_at b.0 ps b.1 b.2.0) ∙ x)));
     opening = λ o h ps x. lit.wants.opening o h ps (sym (as_literal o ps (a_mark 40) h mark_is) ∙ x);
   };
-  goes = (saying (a_name (codes "r0")) ∷ register_goes.0, register_goes.1);
+  goes = let a = reg.wants.names.0 in (a.0 ∷ a.3.0, as_register_at a.0 a.3.0 a.1 a.2 ∙ a.3.1);
   stop = elim (lit.stop) [ inl s ↦ inl s | inr s ↦ inr s ];
   each = λ p. by_says p p.says refl;
 }
@@ -244,41 +204,28 @@ field_node few B line e most k g = record {
     lit : Node few true no_name line e (reader_of line e (literal_at most) k)
     lit = literal_node few B line e most k g
 
+    reg : Node few false own_names line e (reader_of line e register_at (λ r. k (field.Register r)))
+    reg = one_token few Reg B false own_names line e register_at (one_register line e) (λ r. k (field.Register r)) (λ r. g (field.Register r))
+
     as_literal : (p : Piece) (ps : List Piece) (m : TokenValue) → p.says ≡ m → NoName m → reader_of line e (field_at most) k (p ∷ ps) ≡ reader_of line e (literal_at most) k (p ∷ ps)
     as_literal p ps m h number_is = ap (λ (o : TokenValue). fault_in (field_on most (st line e (p ∷ ps)) (Some o) >>= λ (z : Field × ReaderState). k z.0 z.1)) h
     as_literal p ps m h text_is = ap (λ (o : TokenValue). fault_in (field_on most (st line e (p ∷ ps)) (Some o) >>= λ (z : Field × ReaderState). k z.0 z.1)) h
     as_literal p ps m h mark_is = ap (λ (o : TokenValue). fault_in (field_on most (st line e (p ∷ ps)) (Some o) >>= λ (z : Field × ReaderState). k z.0 z.1)) h
 
-    as_register_at : (p : Piece) (ps : List Piece) (text : List ℕ) → p.says ≡ a_name text → reader_of line e (field_at most) k (p ∷ ps) ≡ fault_in (as_register (st line e (p ∷ ps)) (register_of text) >>= λ (r : Reg × ReaderState). k (field.Register r.0) r.1)
+    as_register_at : (p : Piece) (ps : List Piece) (text : List ℕ) → p.says ≡ a_name text → reader_of line e (field_at most) k (p ∷ ps) ≡ reader_of line e register_at (λ r. k (field.Register r)) (p ∷ ps)
     as_register_at p ps text h =
         ap (λ (o : TokenValue). fault_in (field_on most (st line e (p ∷ ps)) (Some o) >>= λ (z : Field × ReaderState). k z.0 z.1)) h
         ∙ ap (λ (r : Result B ParseFault). fault_in r) (mapped Reg B Field (register_at (st line e (p ∷ ps))) (λ r. field.Register r) k)
-        ∙ ap (λ (o : TokenValue). fault_in (register_on (st line e (p ∷ ps)) (Some o) >>= λ (r : Reg × ReaderState). k (field.Register r.0) r.1)) h
-
-    register_goes : Goes (λ ps. reader_of line e (field_at most) k (saying (a_name (codes "r0")) ∷ ps))
-    register_goes = let y = (g (field.Register (reg_of 0))).0 in (y.0, as_register_at (saying (a_name (codes "r0"))) y.0 (codes "r0") refl ∙ y.1)
-
-    no_register : (p : Piece) (text : List ℕ) → p.says ≡ a_name text → register_of text ≡ None → Faults true own_names line (reader_of line e (field_at most) k) p
-    no_register p text h n ps =
-        as_register_at p ps text h
-        ∙ ap (λ (o : Option ℕ). fault_in (as_register (st line e (p ∷ ps)) o >>= λ (r : Reg × ReaderState). k (field.Register r.0) r.1)) n
-        ∙ ap (λ (m : TokenValue). here line p.col (kind_for true own_names m)) (sym h)
-
-    name_by : (p : Piece) (text : List ℕ) → p.says ≡ a_name text → (o : Option ℕ) → register_of text ≡ o → Leads few true line e (reader_of line e (field_at most) k) p ⊎ Faults true own_names line (reader_of line e (field_at most) k) p
-    name_by p text h (Some n) i =
-        inl (leads few true line e (reader_of line e (field_at most) k) (λ ps. fault_in (k (field.Register (reg_of n)) (st line e ps))) p (g (field.Register (reg_of n)))
-        (λ ps. as_register_at p ps text h ∙ ap (λ (o : Option ℕ). fault_in (as_register (st line e (p ∷ ps)) o >>= λ (r : Reg × ReaderState). k (field.Register r.0) r.1)) i) (inl (no_minus p text h)))
-    name_by p text h None i = inr (no_register p text h i)
 
     literal_by : (p : Piece) (m : TokenValue) → p.says ≡ m → NoName m → Leads few true line e (reader_of line e (field_at most) k) p ⊎ Faults true own_names line (reader_of line e (field_at most) k) p
-    literal_by p m h z = elim (lit.each p) [
-      | inl l ↦ inl (leads_as few true line e (reader_of line e (field_at most) k) (reader_of line e (literal_at most) k) p (λ ps. as_literal p ps m h z) l)
-      | inr f ↦
-          inr (λ ps. as_literal p ps m h z ∙ f ps ∙ ap (λ (o : TokenValue). here line p.col (kind_for true no_name o)) h ∙ ap (here line p.col) (plain_or_named m z) ∙ ap (λ (o : TokenValue). here line p.col (kind_for true own_names o)) (sym h))
-    ]
+    literal_by p m h z =
+        each_as few true own_names no_name line e (reader_of line e (field_at most) k) (reader_of line e (literal_at most) k) p (λ ps. as_literal p ps m h z)
+        (ap (kind_for true no_name) h ∙ plain_or_named m z ∙ sym (ap (kind_for true own_names) h)) (lit.each p)
 
     by_says : (p : Piece) (m : TokenValue) → p.says ≡ m → Leads few true line e (reader_of line e (field_at most) k) p ⊎ Faults true own_names line (reader_of line e (field_at most) k) p
-    by_says p (a_name text) h = name_by p text h (register_of text) refl
+    by_says p (a_name text) h =
+        each_as few true own_names own_names line e (reader_of line e (field_at most) k) (reader_of line e register_at (λ r. k (field.Register r))) p (λ ps. as_register_at p ps text h) refl
+        (token_each few Reg B false true own_names line e register_at (one_register line e) (λ r. k (field.Register r)) (λ r. g (field.Register r)) p (ap (kind_for false own_names) h ∙ sym (ap (kind_for true own_names) h)))
     by_says p (a_number n) h = literal_by p (a_number n) h number_is
     by_says p (a_text bytes) h = literal_by p (a_text bytes) h text_is
     by_says p (a_mark b) h = literal_by p (a_mark b) h mark_is

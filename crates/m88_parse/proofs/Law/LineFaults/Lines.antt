@@ -23,12 +23,12 @@ use Rattle.m88_parse.specs.Language.Units.{Said, LineSays, empty_line, statement
 use Rattle.m88_parse.specs.Language.LineFaults.{IsOperation, operation, head_of_module, Continues, MayFollow, misplaced, Stops, IsBroken, IsLineFault, no_label, labelled_head, behind_label, without_label}
 use Rattle.m88_parse.proofs.Law.Steps.{chosen, tested, take_then, take_else}
 use Rattle.m88_parse.proofs.Law.Names.{symbol_is, symbol_name_again}
-use Rattle.m88_parse.proofs.Law.Slots.{st, mark_says}
+use Rattle.m88_parse.proofs.Law.Slots.{st, mark_says, no_name, own_names, symbols, kind_for, saying, one_any_name, any, any_is_symbol}
 use Rattle.m88_parse.proofs.Law.Bodies.{body_again}
 use Rattle.m88_parse.proofs.Law.Rows.{label_marks, head_named, no_colon}
-use Rattle.m88_parse.proofs.Law.LineFaults.Readers.{fault_in, Reader, here, row_or_head, heard, EndsAt, Told, Good, no_name, own_names, symbols, kind_for, Wanted}
+use Rattle.m88_parse.proofs.Law.LineFaults.Readers.{fault_in, Reader, here, row_or_head, heard, EndsAt, Told, Good, Wanted}
 use Rattle.m88_parse.proofs.Law.LineFaults.Nodes.{is_heard, fresh_behind, misplaced_by, told, good, node_as}
-use Rattle.m88_parse.proofs.Law.LineFaults.Slots.{saying, reader_of, one_token, one_any_name, any, any_is_symbol}
+use Rattle.m88_parse.proofs.Law.LineFaults.Slots.{reader_of, one_token}
 use Rattle.m88_parse.proofs.Law.LineFaults.Values.{NoName, number_is, text_is, mark_is, symbol_step}
 use Rattle.m88_parse.proofs.Law.LineFaults.Lists.{end_plain, end_node}
 use Rattle.m88_parse.proofs.Law.LineFaults.Forms.{FormGood, form_good}

@@ -11,12 +11,12 @@ use Rattle.m88_parse.specs.Reader.Slots.{Read, end_at, signed_at, value_at}
 use Rattle.m88_parse.specs.Reader.Grammar.{many, list_at, word_item_at, Part, a_half, a_byte, modulus_of, part_item_at, ends, read}
 use Rattle.m88_parse.specs.Language.Operands.{IsSigned, IsValue}
 use Rattle.m88_parse.proofs.Law.Steps.{tested, take_then, take_else}
-use Rattle.m88_parse.proofs.Law.Slots.{st}
+use Rattle.m88_parse.proofs.Law.Slots.{st, no_name, symbols, saying}
 use Rattle.m88_parse.proofs.Law.Values.{Several}
 use Rattle.m88_parse.proofs.Law.Lists.{ReadsOnly, word_reads, part_reads}
-use Rattle.m88_parse.proofs.Law.LineFaults.Readers.{fault_in, Goes, Good, no_name, symbols}
+use Rattle.m88_parse.proofs.Law.LineFaults.Readers.{fault_in, Goes, Good}
 use Rattle.m88_parse.proofs.Law.LineFaults.Nodes.{Node, node_as, or_mark, good, good_as, good_node}
-use Rattle.m88_parse.proofs.Law.LineFaults.Slots.{saying, reader_of}
+use Rattle.m88_parse.proofs.Law.LineFaults.Slots.{reader_of}
 use Rattle.m88_parse.proofs.Law.LineFaults.Values.{mapped, ends_node, whole_node, value_node}
 
 -- what is read of a list and the end behind it, where only the fault counts

@@ -15,10 +15,10 @@ use Rattle.m88_parse.specs.Reader.Slots.{any_name_at, end_at}
 use Rattle.m88_parse.specs.Reader.Source.{operation_at, head_at, is_head_on, statement}
 use Rattle.m88_parse.specs.Language.Statements.{IsHead, head}
 use Rattle.m88_parse.proofs.Law.Steps.{chosen, tested, take_then, take_else}
-use Rattle.m88_parse.proofs.Law.Slots.{st, bind_ok, bind_to, end_read, any_name_read, any_name_again}
+use Rattle.m88_parse.proofs.Law.Slots.{st, bind_ok, bind_to, end_read, Naming, no_name, own_names, symbols, kind_for, one_any_name, slot_again, slot_read}
 use Rattle.m88_parse.proofs.Law.Bodies.{operation_read, body_again}
 use Rattle.m88_parse.proofs.Law.Rows.{head_named, made_head, not_head}
-use Rattle.m88_parse.proofs.Law.LineFaults.Readers.{fault_in, row_or_head, here, some_same, Reader, heard, Goes, Refuses, Reads, EndsAt, Told, Traced, Fresh, Good, Naming, no_name, own_names, symbols, kind_for, WantsNumbers, WantsNames, Wants, NumbersWanted, NamesWanted, Wanted}
+use Rattle.m88_parse.proofs.Law.LineFaults.Readers.{fault_in, row_or_head, here, some_same, Reader, heard, Goes, Refuses, Reads, EndsAt, Told, Traced, Fresh, Good, WantsNumbers, WantsNames, Wants, NumbersWanted, NamesWanted, Wanted}
 
 -- what is heard is what is related
 
@@ -26,7 +26,7 @@ head_is : (line e : ℕ) (p : Piece) (ps : List Piece) (r : Row) → IsNamed (co
 unfolding head_at
 head_is line e p ps r n h =
     let b = bind_ok (any_name_at (st line e ps)) (λ (name : List ℕ × ReaderState). end_at name.1 >>= made_head line name) r h in
-    let o = any_name_read line e ps b.0 b.1 in
+    let o = slot_read (one_any_name line e) ps b.0 b.1 in
     let d = bind_ok (end_at b.0.1) (made_head line b.0) r b.2 in
     let z = end_read line e o.rest d.0 (ap end_at (sym o.after) ∙ d.1) in
     let t : ps ≡ o.piece ∷ [] = o.tokens ∙ ap (λ (qs : List Piece). o.piece ∷ qs) z in
@@ -66,7 +66,7 @@ unfolding head_at
 head_heard line e ps name (head {p = p} {q = q} n k v) =
     ap (λ (r : Result Row ParseFault). fault_in r)
     (take_then (is_head_on (Some p.says)) _ _ (ap (λ (m : TokenValue). is_head_on (Some m)) n)
-    ∙ bind_to (any_name_at (st line e (q ∷ []))) (λ (x : List ℕ × ReaderState). end_at x.1 >>= made_head line x) (name, st line e []) (Ok (row.Head name line)) (any_name_again line e name q [] (k, v)) refl)
+    ∙ bind_to (any_name_at (st line e (q ∷ []))) (λ (x : List ℕ × ReaderState). end_at x.1 >>= made_head line x) (name, st line e []) (Ok (row.Head name line)) (slot_again (one_any_name line e) name q [] (k, v)) refl)
 
 pub is_heard : (line e : ℕ) (ps : List Piece) → IsOperation ps → heard line e ps ≡ None
 is_heard line e ps (operation {said = said} h) = operation_heard line e ps said (body_again line e ps said h)
@@ -267,12 +267,17 @@ wants_as num nam k r x w = record { numbers = numbers num w.numbers; names = nam
 pub leads_as : (few : ℕ) (num : Bool) (line e : ℕ) (k r : Reader) (p : Piece) → ((ps : List Piece) → k (p ∷ ps) ≡ r (p ∷ ps)) → Leads few num line e r p → Leads few num line e k p
 leads_as few num line e k r p x l front w h = l front w (λ ps. h ps ∙ x ps)
 
+pub each_as : (few : ℕ) (num : Bool) (mine other : Naming) (line e : ℕ) (k r : Reader) (p : Piece) → ((ps : List Piece) → k (p ∷ ps) ≡ r (p ∷ ps)) → kind_for num other p.says ≡ kind_for num mine p.says
+    → Leads few num line e r p ⊎ Faults num other line r p → Leads few num line e k p ⊎ Faults num mine line k p
+each_as few num mine other line e k r p x s (inl l) = inl (leads_as few num line e k r p x l)
+each_as few num mine other line e k r p x s (inr f) = inr (λ ps. x ps ∙ f ps ∙ ap (here line p.col) s)
+
 pub node_as : (few : ℕ) (num : Bool) (nam : Naming) (line e : ℕ) (k r : Reader) → ((ps : List Piece) → k ps ≡ r ps) → Node few num nam line e r → Node few num nam line e k
 node_as few num nam line e k r x n = record {
   wants = wants_as num nam k r x n.wants;
   goes = (n.goes.0, x n.goes.0 ∙ n.goes.1);
   stop = elim (n.stop) [ inl s ↦ inl (x [] ∙ s) | inr s ↦ inr (x [] ∙ s) ];
-  each = λ p. elim (n.each p) [ inl l ↦ inl (leads_as few num line e k r p (λ ps. x (p ∷ ps)) l) | inr f ↦ inr (λ ps. x (p ∷ ps) ∙ f ps) ];
+  each = λ p. each_as few num nam nam line e k r p (λ ps. x (p ∷ ps)) refl (n.each p);
 }
 
 -- where a mark leads on by itself, and anything else as before
@@ -297,7 +302,7 @@ or_lead few num nam line e m all k o g x y z n = record {
   stop = elim (n.stop) [ inl t ↦ inl (z ∙ t) | inr t ↦ inr (z ∙ t) ];
   each = λ p. elim (tested (is_mark_of m (Some p.says))) [
     | inl t ↦ inl (x p t)
-    | inr t ↦ by_node p t (n.each p)
+    | inr t ↦ each_as few num nam nam line e all k p (λ ps. y p ps t) refl (n.each p)
   ];
 }
   where
@@ -321,10 +326,6 @@ or_lead few num nam line e m all k o g x y z n = record {
         let b = h.1 in
         ((a.0, a.1, a.2, goes_on a.0 (other a.0 (a_name a.1) a.2 name_unmarked) a.3), (b.0, b.1, b.2, refuses b.0 (other b.0 (a_name b.1) b.2.0 name_unmarked) b.3))
     names symbols h = λ p i j. goes_on p (other p (a_name i) j.0 name_unmarked) (h p i j)
-
-    by_node : (p : Piece) → is_mark_of m (Some p.says) ≡ false → Leads few num line e k p ⊎ Faults num nam line k p → Leads few num line e all p ⊎ Faults num nam line all p
-    by_node p t (inl l) = inl (leads_as few num line e all k p (λ ps. y p ps t) l)
-    by_node p t (inr f) = inr (λ ps. y p ps t ∙ f ps)
 
 pub or_mark : (few : ℕ) (num : Bool) (nam : Naming) (line e m : ℕ) (all k r : Reader) → (40 == m) ≡ false → ((45 == m) ≡ false) ⊎ (num ≡ false)
     → ((p : Piece) (ps : List Piece) → is_mark_of m (Some p.says) ≡ true → all (p ∷ ps) ≡ r ps)

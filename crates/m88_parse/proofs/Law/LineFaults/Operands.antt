@@ -14,10 +14,10 @@ use Rattle.m88_parse.specs.Reader.Operands.{half_immediate, half_at, half_on, sh
 use Rattle.m88_parse.specs.Language.Names.{IsMark, IsNamed}
 use Rattle.m88_parse.specs.Language.LineFaults.{IsOperation, half_alone, EndsInHalf}
 use Rattle.m88_parse.proofs.Law.Steps.{take_then, take_else}
-use Rattle.m88_parse.proofs.Law.Slots.{st, mark_says}
-use Rattle.m88_parse.proofs.Law.LineFaults.Readers.{fault_in, here, Reader, heard, Goes, Reads, EndsAt, Told, Traced, Good, own_names, symbols, kind_for}
+use Rattle.m88_parse.proofs.Law.Slots.{st, mark_says, own_names, symbols, kind_for, saying, any, any_is_symbol}
+use Rattle.m88_parse.proofs.Law.LineFaults.Readers.{fault_in, here, Reader, heard, Goes, Reads, EndsAt, Told, Traced, Good}
 use Rattle.m88_parse.proofs.Law.LineFaults.Nodes.{is_heard, Leads, Faults, Node, leads, good, reads_on, continues, follows, follows_not, told, moved, fresh_behind}
-use Rattle.m88_parse.proofs.Law.LineFaults.Slots.{saying, reader_of, never, mark_node, any, any_is_symbol}
+use Rattle.m88_parse.proofs.Law.LineFaults.Slots.{reader_of, never, mark_node, turns}
 use Rattle.m88_parse.proofs.Law.LineFaults.Values.{value_node, NoName, number_is, text_is, mark_is}
 
 -- hi16 and lo16 where ( may follow
@@ -87,21 +87,12 @@ behind_opening_good few B line e kind k g =
     good few true symbols line e (reader_of line e (value_at kind) (λ v s. mark_at 41 s >>= λ (closed : ReaderState). k (half_immediate kind v) closed))
     (value_node few B kind line e (λ v s. mark_at 41 s >>= λ (closed : ReaderState). k (half_immediate kind v) closed) (λ v. mark_node few B 41 line e (λ closed. k (half_immediate kind v) closed) refl refl (g (half_immediate kind v))))
 
-close_split : (B : Type 0) (r : Result ReaderState ParseFault) (x : Immediate) (k : Immediate → ReaderState → Result B ParseFault) → ((r >>= λ (closed : ReaderState). let y : Read Immediate = Ok (x, closed) in y) >>= λ (z : Immediate × ReaderState). k z.0 z.1) ≡ (r >>= λ (closed : ReaderState). k x closed)
-close_split B (Ok s) x k = refl
-close_split B (Err f) x k = refl
-
-value_split : (B : Type 0) (kind : Kind) (r : Read Value) (k : Immediate → ReaderState → Result B ParseFault)
-    → ((r >>= λ (v : Value × ReaderState). mark_at 41 v.1 >>= λ (closed : ReaderState). let y : Read Immediate = Ok (half_immediate kind v.0, closed) in y) >>= λ (z : Immediate × ReaderState). k z.0 z.1) ≡ (r >>= λ (v : Value × ReaderState). mark_at 41 v.1 >>= λ (closed : ReaderState). k (half_immediate kind v.0) closed)
-value_split B kind (Ok v) k = close_split B (mark_at 41 v.1) (half_immediate kind v.0) k
-value_split B kind (Err f) k = refl
-
 half_step : (B : Type 0) (line e : ℕ) (kind : Kind) (h q : Piece) (ps : List Piece) (k : Immediate → ReaderState → Result B ParseFault) → is_mark_of 40 (Some q.says) ≡ true
     → fault_in (half_at kind (st line e (h ∷ q ∷ ps)) >>= λ (x : Immediate × ReaderState). k x.0 x.1) ≡ behind_opening line e kind k ps
 unfolding half_at behind_opening
 half_step B line e kind h q ps k t =
     ap (λ (r : Result ReaderState ParseFault). fault_in ((r >>= λ (opened : ReaderState). value_at kind opened >>= λ (v : Value × ReaderState). mark_at 41 v.1 >>= λ (closed : ReaderState). let y : Read Immediate = Ok (half_immediate kind v.0, closed) in y) >>= λ (x : Immediate × ReaderState). k x.0 x.1)) (take_then (is_mark_of 40 (Some q.says)) _ _ t)
-    ∙ ap (λ (r : Result B ParseFault). fault_in r) (value_split B kind (value_at kind (st line e ps)) k)
+    ∙ ap (λ (r : Result B ParseFault). fault_in r) (turns (value_at kind (st line e ps)) _ _ _ (λ v. turns (mark_at 41 v.1) _ _ _ (λ closed. refl)))
 
 short_step : (B : Type 0) (line e : ℕ) (k : Immediate → ReaderState → Result B ParseFault) (p : Piece) (ps : List Piece) (m : TokenValue) → p.says ≡ m → half_on (Some m) (says_first ps) ≡ None
     → reader_of line e immediate_at k (p ∷ ps) ≡ fault_in (short_on (st line e (p ∷ ps)) (Some m) >>= λ (x : Immediate × ReaderState). k x.0 x.1)

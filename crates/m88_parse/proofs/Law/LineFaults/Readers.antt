@@ -1,15 +1,14 @@
 -- Readers of tokens, of which only the fault counts here, and what they say of the tokens behind a front.
 use Rattle.std.proofs.Common.{◌≡◌, ℕ, ◌+◌, ◌<◌, Bool, true, false, if◌then◌else◌, List, [], ◌∷◌, ◌++◌, length, Option, Some, None, Result, Ok, Err}
 use Rattle.m88_parse.specs.declared.fault.ParseKind.{ParseKind}
-use Rattle.m88_parse.specs.declared.fault.ParseKind.TheVariants.{Syntax, NoSuchName, OutOfRange}
 use Rattle.m88_parse.specs.declared.fault.ParseFault.{ParseFault}
 use Rattle.m88_parse.specs.declared.row.Row.{Row}
-use Rattle.m88_parse.specs.Language.Pieces.{TokenValue, a_name, a_number, a_text, a_mark, Piece}
+use Rattle.m88_parse.specs.Language.Pieces.{Piece}
 use Rattle.m88_parse.specs.Reader.State.{ReaderState, first}
 use Rattle.m88_parse.specs.Reader.Source.{unlabelled_at, head_at, is_head_on}
 use Rattle.m88_parse.specs.Language.Names.{IsMark, IsNumber, IsNamed, IsSymbol}
 use Rattle.m88_parse.specs.Language.LineFaults.{MayFollow, NumberMayFollow, NameMayFollow, EverySymbolMayFollow, EndsInSign, IsBroken}
-use Rattle.m88_parse.proofs.Law.Slots.{st}
+use Rattle.m88_parse.proofs.Law.Slots.{st, Naming, no_name, own_names, symbols}
 
 -- what is read has this fault, or none
 abbrev pub fault_in : {A : Type 0} → Result A ParseFault → Option ParseFault
@@ -65,28 +64,6 @@ Fresh front = (m : Piece) → EndsInSign front m → ⊥
 -- a reader that some tokens satisfy, and whose faults are those of the language wherever it reads on
 abbrev pub Good : ℕ → ℕ → ℕ → Reader → Type 0
 Good few line e k = Goes k × ((front : List Piece) → Fresh front → Reads line e front k → Traced few line e front)
-
--- which names are wanted: none, those with a meaning of their own, or symbols
-pub data Naming : Type 0 where
-  no_name : Naming
-  own_names : Naming
-  symbols : Naming
-
-abbrev pub kind_of_number : Bool → ParseKind
-kind_of_number true = OutOfRange
-kind_of_number false = Syntax
-
-abbrev pub kind_of_name : Naming → ParseKind
-kind_of_name no_name = Syntax
-kind_of_name own_names = NoSuchName
-kind_of_name symbols = Syntax
-
--- the kind of fault of a token where numbers or names are wanted
-abbrev pub kind_for : Bool → Naming → TokenValue → ParseKind
-kind_for num nam (a_name name) = kind_of_name nam
-kind_for num nam (a_number n) = kind_of_number num
-kind_for num nam (a_text bytes) = Syntax
-kind_for num nam (a_mark m) = Syntax
 
 -- what a reader wants
 

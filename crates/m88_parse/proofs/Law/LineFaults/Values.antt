@@ -12,22 +12,15 @@ use Rattle.m88_parse.specs.Language.Pieces.{TokenValue, a_name, a_number, a_text
 use Rattle.m88_parse.specs.Reader.State.{ReaderState, first, past, is_mark_of, is_next, ◌>>=◌}
 use Rattle.m88_parse.specs.Reader.Slots.{Read, negated, negative_on, unsigned_at, signed_at, symbol_on, symbol_at, addend_at, fixup_at, value_on, value_at}
 use Rattle.m88_parse.specs.Reader.Grammar.{ends, read}
-use Rattle.m88_parse.specs.Language.Names.{IsMark, IsNumber, IsNamed}
+use Rattle.m88_parse.specs.Language.Names.{IsMark, IsNumber, IsNamed, IsSymbol}
 use Rattle.m88_parse.specs.Language.LineFaults.{MayFollow, NumberMayFollow, NameMayFollow, signed_out_of_range, other_token, misplaced, EndsInSign, EndsInHalf}
 use Rattle.m88_parse.proofs.Law.Steps.{take_then, take_else}
-use Rattle.m88_parse.proofs.Law.Slots.{st, mark_says}
-use Rattle.m88_parse.proofs.Law.Names.{symbol_name_again}
-use Rattle.m88_parse.proofs.Law.LineFaults.Readers.{fault_in, here, Reader, heard, Goes, Reads, EndsAt, Told, Traced, Good, no_name, symbols, kind_for}
-use Rattle.m88_parse.proofs.Law.LineFaults.Nodes.{Leads, Faults, Node, leads, leads_as, or_lead, or_mark, good, reads_on, continues, follows, follows_not, told, ended, moved, same_last, fresh_behind}
-use Rattle.m88_parse.proofs.Law.LineFaults.Slots.{saying, reader_of, one_token, one_number, any, any_is_symbol}
+use Rattle.m88_parse.proofs.Law.Slots.{st, mark_says, no_name, symbols, kind_for, saying, one_number, any, any_is_symbol, plain_kind, one_symbol}
+use Rattle.m88_parse.proofs.Law.LineFaults.Readers.{fault_in, here, Reader, heard, Goes, Reads, EndsAt, Told, Traced, Good}
+use Rattle.m88_parse.proofs.Law.LineFaults.Nodes.{Leads, Faults, Node, node_as, or_lead, or_mark, good, reads_on, continues, follows, follows_not, told, ended, moved, same_last, fresh_behind, each_as}
+use Rattle.m88_parse.proofs.Law.LineFaults.Slots.{reader_of, one_token, token_each, turns}
 
 -- the end of a statement
-
-plain_kind : (m : TokenValue) → Syntax ≡ kind_for false no_name m
-plain_kind (a_name name) = refl
-plain_kind (a_number n) = refl
-plain_kind (a_text bytes) = refl
-plain_kind (a_mark m) = refl
 
 pub ends_node : (few : ℕ) (line e : ℕ) (b : Body) → Node few false no_name line e (λ ps. fault_in (read (ends b) (st line e ps)))
 unfolding read
@@ -199,54 +192,36 @@ made_fixup kind name col n = record { kind = kind; symbol = name; addend = n; co
 abbrev pub behind_symbol : {B : Type 0} → Kind → ℕ → ℕ → List ℕ → ℕ → (Fixup → ReaderState → Result B ParseFault) → Reader
 behind_symbol kind line e name col k ps = reader_of line e addend_at (λ n. k (made_fixup kind name col n)) ps
 
-fixup_split : (B : Type 0) (kind : Kind) (r : Read (List ℕ × ℕ)) (k : Fixup → ReaderState → Result B ParseFault)
-    → ((r >>= λ (name : (List ℕ × ℕ) × ReaderState). addend_at name.1 >>= λ (more : ℕ × ReaderState). let y : Read Fixup = Ok (made_fixup kind name.0.0 name.0.1 more.0, more.1) in y) >>= λ (x : Fixup × ReaderState). k x.0 x.1)
-    ≡ (r >>= λ (name : (List ℕ × ℕ) × ReaderState). addend_at name.1 >>= λ (more : ℕ × ReaderState). k (made_fixup kind name.0.0 name.0.1 more.0) more.1)
-fixup_split B kind (Ok x) k = mapped ℕ B Fixup (addend_at x.1) (λ n. made_fixup kind x.0.0 x.0.1 n) k
-fixup_split B kind (Err f) k = refl
-
 fixup_steps : (B : Type 0) (kind : Kind) (s : ReaderState) (k : Fixup → ReaderState → Result B ParseFault)
     → (fixup_at kind s >>= λ (x : Fixup × ReaderState). k x.0 x.1) ≡ (symbol_at s >>= λ (name : (List ℕ × ℕ) × ReaderState). addend_at name.1 >>= λ (more : ℕ × ReaderState). k (made_fixup kind name.0.0 name.0.1 more.0) more.1)
 unfolding fixup_at
-fixup_steps B kind s k = fixup_split B kind (symbol_at s) k
+fixup_steps B kind s k = turns (symbol_at s) _ _ _ (λ name. mapped ℕ B Fixup (addend_at name.1) (λ n. made_fixup kind name.0.0 name.0.1 n) k)
 
 pub symbol_step : (line e : ℕ) (p : Piece) (ps : List Piece) (text : List ℕ) → p.says ≡ a_name text → symbol_at (st line e (p ∷ ps)) ≡ (if is_symbol text then Ok ((text, p.col), st line e ps) else Err (record { line = line; col = p.col; kind = Syntax }))
 unfolding symbol_at
 symbol_step line e p ps text h = ap (λ (m : TokenValue). symbol_on (st line e (p ∷ ps)) (Some m)) h
-
-pub fixup_taken : (B : Type 0) (kind : Kind) (line e : ℕ) (p : Piece) (ps : List Piece) (text : List ℕ) (k : Fixup → ReaderState → Result B ParseFault) → p.says ≡ a_name text → is_symbol text ≡ true
-    → fault_in (fixup_at kind (st line e (p ∷ ps)) >>= λ (x : Fixup × ReaderState). k x.0 x.1) ≡ behind_symbol kind line e text p.col k ps
-fixup_taken B kind line e p ps text k h t =
-    ap (λ (r : Result B ParseFault). fault_in r) (fixup_steps B kind (st line e (p ∷ ps)) k)
-    ∙ ap (λ (r : Read (List ℕ × ℕ)). fault_in (r >>= λ (name : (List ℕ × ℕ) × ReaderState). addend_at name.1 >>= λ (more : ℕ × ReaderState). k (made_fixup kind name.0.0 name.0.1 more.0) more.1)) (symbol_step line e p ps text h ∙ take_then (is_symbol text) _ _ t)
-
-pub fixup_refused : (B : Type 0) (kind : Kind) (line e : ℕ) (p : Piece) (ps : List Piece) (text : List ℕ) (k : Fixup → ReaderState → Result B ParseFault) → p.says ≡ a_name text → is_symbol text ≡ false
-    → fault_in (fixup_at kind (st line e (p ∷ ps)) >>= λ (x : Fixup × ReaderState). k x.0 x.1) ≡ here line p.col Syntax
-fixup_refused B kind line e p ps text k h t =
-    ap (λ (r : Result B ParseFault). fault_in r) (fixup_steps B kind (st line e (p ∷ ps)) k)
-    ∙ ap (λ (r : Read (List ℕ × ℕ)). fault_in (r >>= λ (name : (List ℕ × ℕ) × ReaderState). addend_at name.1 >>= λ (more : ℕ × ReaderState). k (made_fixup kind name.0.0 name.0.1 more.0) more.1)) (symbol_step line e p ps text h ∙ take_else (is_symbol text) _ _ t)
-
-pub fixup_at_end : (B : Type 0) (kind : Kind) (line e : ℕ) (k : Fixup → ReaderState → Result B ParseFault) → fault_in (fixup_at kind (st line e []) >>= λ (x : Fixup × ReaderState). k x.0 x.1) ≡ here line e Syntax
-unfolding fixup_at symbol_at
-fixup_at_end B kind line e k = refl
-
-pub fixup_no_name : (B : Type 0) (kind : Kind) (line e : ℕ) (p : Piece) (ps : List Piece) (m : TokenValue) (k : Fixup → ReaderState → Result B ParseFault) → p.says ≡ m → NoName m
-    → fault_in (fixup_at kind (st line e (p ∷ ps)) >>= λ (x : Fixup × ReaderState). k x.0 x.1) ≡ here line p.col Syntax
-unfolding symbol_at
-fixup_no_name B kind line e p ps m k h z =
-    ap (λ (r : Result B ParseFault). fault_in r) (fixup_steps B kind (st line e (p ∷ ps)) k)
-    ∙ ap (λ (r : Read (List ℕ × ℕ)). fault_in (r >>= λ (name : (List ℕ × ℕ) × ReaderState). addend_at name.1 >>= λ (more : ℕ × ReaderState). k (made_fixup kind name.0.0 name.0.1 more.0) more.1)) (ap (λ (o : TokenValue). symbol_on (st line e (p ∷ ps)) (Some o)) h ∙ by_other m z)
-  where
-    by_other : (o : TokenValue) → NoName o → symbol_on (st line e (p ∷ ps)) (Some o) ≡ Err (record { line = line; col = p.col; kind = Syntax })
-    by_other o number_is = refl
-    by_other o text_is = refl
-    by_other o mark_is = refl
 
 pub behind_symbol_good : (few : ℕ) (B : Type 0) (kind : Kind) (line e : ℕ) (name : List ℕ) (col : ℕ) (k : Fixup → ReaderState → Result B ParseFault) → ((f : Fixup) → Node few false no_name line e (λ ps. fault_in (k f (st line e ps))))
     → Good few line e (behind_symbol kind line e name col k)
 behind_symbol_good few B kind line e name col k n =
     good few false no_name line e (behind_symbol kind line e name col k)
     (addend_node few B line e (λ m. k (made_fixup kind name col m)) (λ m. good few false no_name line e (λ ps. fault_in (k (made_fixup kind name col m) (st line e ps))) (n (made_fixup kind name col m))) (n (made_fixup kind name col 0)))
+
+abbrev symbol_then : {B : Type 0} → Kind → (Fixup → ReaderState → Result B ParseFault) → List ℕ × ℕ → ReaderState → Result B ParseFault
+symbol_then kind k name s = addend_at s >>= λ (more : ℕ × ReaderState). k (made_fixup kind name.0 name.1 more.0) more.1
+
+-- also where numbers are wanted beside it
+pub fixup_each : (few : ℕ) (B : Type 0) (kind : Kind) (line e : ℕ) (k : Fixup → ReaderState → Result B ParseFault) → ((f : Fixup) → Node few false no_name line e (λ ps. fault_in (k f (st line e ps)))) → (more : Bool) (p : Piece)
+    → kind_for false symbols p.says ≡ kind_for more symbols p.says → Leads few more line e (reader_of line e (fixup_at kind) k) p ⊎ Faults more symbols line (reader_of line e (fixup_at kind) k) p
+fixup_each few B kind line e k n more p s =
+    each_as few more symbols symbols line e (reader_of line e (fixup_at kind) k) (reader_of line e symbol_at (symbol_then kind k)) p (λ ps. ap (λ (r : Result B ParseFault). fault_in r) (fixup_steps B kind (st line e (p ∷ ps)) k)) refl
+    (token_each few (List ℕ × ℕ) B false more symbols line e symbol_at (one_symbol line e) (symbol_then kind k) (λ name. behind_symbol_good few B kind line e name.0 name.1 k n) p s)
+
+pub fixup_node : (few : ℕ) (B : Type 0) (kind : Kind) (line e : ℕ) (k : Fixup → ReaderState → Result B ParseFault) → ((f : Fixup) → Node few false no_name line e (λ ps. fault_in (k f (st line e ps))))
+    → Node few false symbols line e (reader_of line e (fixup_at kind) k)
+fixup_node few B kind line e k n =
+    node_as few false symbols line e (reader_of line e (fixup_at kind) k) (reader_of line e symbol_at (symbol_then kind k)) (λ ps. ap (λ (r : Result B ParseFault). fault_in r) (fixup_steps B kind (st line e ps) k))
+    (one_token few (List ℕ × ℕ) B false symbols line e symbol_at (one_symbol line e) (symbol_then kind k) (λ name. behind_symbol_good few B kind line e name.0 name.1 k n))
 
 -- a value: a number with a sign, or a symbol with what is added to it
 
@@ -262,10 +237,10 @@ unfolding value_at signed_at
 value_node few B kind line e k n = record {
   wants = record {
     numbers = let w = whole.wants.numbers in (w.0, w.1, w.2, (w.3.0, by_whole w.0 w.3.0 (a_number w.1) w.2 number_is ∙ w.3.1));
-    names = λ p name h. symbol_goes p name h.0 (symbol_name_again name h.1);
+    names = λ p name h. symbol_goes p name h;
     opening = λ o h ps x. whole.wants.opening o h ps (sym (by_whole o ps (a_mark 40) h mark_is) ∙ x);
   };
-  goes = let y = symbol_goes any (codes "x") any_is_symbol.0 (symbol_name_again (codes "x") any_is_symbol.1) in (any ∷ y.0, y.1);
+  goes = let y = symbol_goes any (codes "x") any_is_symbol in (any ∷ y.0, y.1);
   stop = inr refl;
   each = λ p. by_says p p.says refl;
 }
@@ -287,30 +262,23 @@ value_node few B kind line e k n = record {
         ap (λ (o : TokenValue). fault_in (value_on kind (st line e (p ∷ ps)) (Some o) >>= λ (x : Value × ReaderState). k x.0 x.1)) h
         ∙ ap (λ (r : Result B ParseFault). fault_in r) (mapped Fixup B Value (fixup_at kind (st line e (p ∷ ps))) (λ f. value.Symbol f) k)
 
-    symbol_good : (name : List ℕ) (col : ℕ) → Good few line e (behind_symbol kind line e name col (λ f. k (value.Symbol f)))
-    symbol_good name col = behind_symbol_good few B kind line e name col (λ f. k (value.Symbol f)) (λ f. n (value.Symbol f))
+    symbol : (f : Fixup) → Node few false no_name line e (λ ps. fault_in (k (value.Symbol f) (st line e ps)))
+    symbol f = n (value.Symbol f)
 
-    symbol_goes : (p : Piece) (text : List ℕ) → p.says ≡ a_name text → is_symbol text ≡ true → Goes (λ ps. reader_of line e (value_at kind) k (p ∷ ps))
-    symbol_goes p text h t = let y = (symbol_good text p.col).0 in (y.0, by_fixup p y.0 text h ∙ fixup_taken B kind line e p y.0 text (λ f. k (value.Symbol f)) h t ∙ y.1)
+    symbol_goes : (p : Piece) (text : List ℕ) → IsSymbol text p → Goes (λ ps. reader_of line e (value_at kind) k (p ∷ ps))
+    symbol_goes p text h = let y = (fixup_node few B kind line e (λ f. k (value.Symbol f)) symbol).wants.names p text h in (y.0, by_fixup p y.0 text h.0 ∙ y.1)
 
-    no_minus : (p : Piece) (text : List ℕ) → p.says ≡ a_name text → IsMark 45 p → ⊥
-    no_minus p text h m = let x = sym h ∙ m in cc
-
-    name_by : (p : Piece) (text : List ℕ) → p.says ≡ a_name text → (t : Bool) → is_symbol text ≡ t → Leads few true line e (reader_of line e (value_at kind) k) p ⊎ Faults true symbols line (reader_of line e (value_at kind) k) p
-    name_by p text h true t =
-        inl (leads few true line e (reader_of line e (value_at kind) k) (behind_symbol kind line e text p.col (λ f. k (value.Symbol f))) p (symbol_good text p.col)
-        (λ ps. by_fixup p ps text h ∙ fixup_taken B kind line e p ps text (λ f. k (value.Symbol f)) h t) (inl (no_minus p text h)))
-    name_by p text h false t =
-        inr (λ ps. by_fixup p ps text h ∙ fixup_refused B kind line e p ps text (λ f. k (value.Symbol f)) h t ∙ ap (λ (m : TokenValue). here line p.col (kind_for true symbols m)) (sym h))
+    name_by : (p : Piece) (text : List ℕ) → p.says ≡ a_name text → Leads few true line e (reader_of line e (value_at kind) k) p ⊎ Faults true symbols line (reader_of line e (value_at kind) k) p
+    name_by p text h =
+        each_as few true symbols symbols line e (reader_of line e (value_at kind) k) (reader_of line e (fixup_at kind) (λ f. k (value.Symbol f))) p (λ ps. by_fixup p ps text h) refl
+        (fixup_each few B kind line e (λ f. k (value.Symbol f)) symbol true p (ap (kind_for false symbols) h ∙ sym (ap (kind_for true symbols) h)))
 
     whole_by : (p : Piece) (m : TokenValue) → p.says ≡ m → NoName m → Leads few true line e (reader_of line e (value_at kind) k) p ⊎ Faults true symbols line (reader_of line e (value_at kind) k) p
-    whole_by p m h z = elim (whole.each p) [
-      | inl l ↦ inl (leads_as few true line e (reader_of line e (value_at kind) k) (reader_of line e (signed_at 2147483648 4294967295) (λ n. k (value.Number n))) p (λ ps. by_whole p ps m h z) l)
-      | inr f ↦ inr (λ ps. by_whole p ps m h z ∙ f ps ∙ ap (here line p.col) (same_kind p.says))
-    ]
+    whole_by p m h z =
+        each_as few true symbols no_name line e (reader_of line e (value_at kind) k) (reader_of line e (signed_at 2147483648 4294967295) (λ n. k (value.Number n))) p (λ ps. by_whole p ps m h z) (same_kind p.says) (whole.each p)
 
     by_says : (p : Piece) (m : TokenValue) → p.says ≡ m → Leads few true line e (reader_of line e (value_at kind) k) p ⊎ Faults true symbols line (reader_of line e (value_at kind) k) p
-    by_says p (a_name text) h = name_by p text h (is_symbol text) refl
+    by_says p (a_name text) h = name_by p text h
     by_says p (a_number v) h = whole_by p (a_number v) h number_is
     by_says p (a_text bytes) h = whole_by p (a_text bytes) h text_is
     by_says p (a_mark b) h = whole_by p (a_mark b) h mark_is
