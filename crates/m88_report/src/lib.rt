@@ -2,6 +2,8 @@
 #![tactic(auto)]
 
 mod lines;
+#[cfg(test)]
+mod tests;
 mod writer;
 
 pub use lines::{push_carry, push_count, push_end, push_record, push_registers, push_word};
