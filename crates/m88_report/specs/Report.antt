@@ -16,8 +16,8 @@ end_text (Exit at) = codes "exit at " ++ hex8 at
 end_text (Vector vector at) = codes "vector " ++ decimal vector ++ codes " at " ++ hex8 at
 
 -- the line that says how a run ended
-abbrev pub end_line : End → List ℕ
-end_line end = codes "end " ++ end_text end ++ line_end
+abbrev pub run_end_line : End → List ℕ
+run_end_line end = codes "end " ++ end_text end ++ line_end
 
 -- a line with a name and a count
 abbrev pub count_line : List ℕ → ℕ → List ℕ
@@ -91,7 +91,7 @@ fault_lines fault = fault_line fault.0 fault.1.event ++ record_lines fault.1
 -- changed, the counts of events, of transactions answered with data and of data faults, and each data fault, from 1
 unfoldable pub report_of : Outcome → List ℕ
 report_of o =
-    end_line o.end
+    run_end_line o.end
     ++ count_line (codes "retired") o.retired
     ++ register_lines (map Some o.regs)
     ++ carry_line o.carry

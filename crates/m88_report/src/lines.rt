@@ -4,7 +4,7 @@
 
 ghost use Rattle.std.specs.Prelude.{◌≡◌, ◌++◌, OnOk};
 ghost use Rattle.std.specs.List.{enumerate_from, flat_map};
-ghost use Rattle.m88_report.specs.Report.{carry_line, count_line, end_line, end_text, fault_lines, named_word, out_line, out_text, record_lines, register_line, register_lines, register_text, status_line, triple_line, word_line};
+ghost use Rattle.m88_report.specs.Report.{carry_line, count_line, run_end_line, end_text, fault_lines, named_word, out_line, out_text, record_lines, register_line, register_lines, register_text, status_line, triple_line, word_line};
 
 use m88_base::{Triple, push_decimal, push_hex2, push_hex8};
 use m88_event::{End, Record};
@@ -12,7 +12,7 @@ use std::alloc::AllocError;
 
 /// Appends the line `end ..`: how a run ended.
 pub fn push_end(text: &mut Vec<u8>, end: End) -> Result<(), AllocError>
-    ensures { OnOk result (text.new.items ≡ text.old.items ++ end_line end) }
+    ensures { OnOk result (text.new.items ≡ text.old.items ++ run_end_line end) }
 {
     text.extend_from_slice(b"end ")?;
     push_end_words(text, end)?;
