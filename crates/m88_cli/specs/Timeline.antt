@@ -89,8 +89,8 @@ end_of_step (on bubble s) = Limit
 end_of_step (ends stop) = end_of_stop stop
 
 -- what a run comes to that is over at a moment: the end of the history where the program ended, and else the limit; the
--- registers, the carry and the output of the history after as many instructions; the counts of the moment. No instruction of
--- a source has an access, so no word of memory changes, and no access faults
+-- registers, the carry and the output of the history after as many instructions; the counts of the moment. No
+-- instruction of a source has an access, so no word of memory changes and nothing faults
 abbrev pub run_outcome_at : Program → RunMoment → Outcome
 run_outcome_at p m = record {
   end = if m.ended then end_of_step (step p (state p m.retired)) else Limit;

@@ -9,7 +9,7 @@ use Rattle.m88_event.specs.declared.happened.End.TheVariants.{Limit, Exit, Vecto
 use Rattle.m88_event.specs.declared.outcome.Outcome.{Outcome}
 use Rattle.m88_event.specs.declared.record.Record.{Record}
 
--- how a run ended, in words: at its limit, by the program's own exit, or by a vector, each with its address
+-- how a run ended, in words: at its limit, or by its own exit or a vector at an address
 abbrev pub end_text : End → List ℕ
 end_text Limit = codes "limit"
 end_text (Exit at) = codes "exit at " ++ hex8 at
@@ -39,8 +39,10 @@ register_line name registers = name ++ flat_map register_text registers ++ line_
 -- the four lines of the 32 registers, eight in each
 abbrev pub register_lines : List (Option ℕ) → List ℕ
 register_lines registers =
-    register_line (codes "r0") (take 8 registers) ++ register_line (codes "r8") (take 8 (drop 8 registers))
-    ++ register_line (codes "r16") (take 8 (drop 16 registers)) ++ register_line (codes "r24") (take 8 (drop 24 registers))
+    register_line (codes "r0") (take 8 registers)
+    ++ register_line (codes "r8") (take 8 (drop 8 registers))
+    ++ register_line (codes "r16") (take 8 (drop 16 registers))
+    ++ register_line (codes "r24") (take 8 (drop 24 registers))
 
 -- the line of the carry
 abbrev pub carry_line : Bool → List ℕ

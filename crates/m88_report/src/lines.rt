@@ -1,6 +1,5 @@
 //! The lines of a report, a call for each kind. Each appends to a text, and where memory runs out, some of the line may
 //! be in it.
-#![tactic(auto, unfolding(crate::specs::Report::status_line, crate::specs::Report::triple_line, crate::specs::Report::fault_lines))]
 
 ghost use Rattle.std.specs.Prelude.{◌≡◌, ◌++◌, OnOk};
 ghost use Rattle.std.specs.List.{enumerate_from, flat_map};
@@ -68,7 +67,8 @@ fn push_register_line(
     name: &[u8],
     registers: &[Option<u32>],
 ) -> Result<(), AllocError>
-    ensures { OnOk result (text.new.items ≡ text.old.items ++ register_line name.now registers.now) }
+    ensures { OnOk result (text.new.items ≡ text.old.items
+        ++ register_line name.now registers.now) }
 {
     text.extend_from_slice(name)?;
     for register in registers {
@@ -135,6 +135,7 @@ pub fn push_word(text: &mut Vec<u8>, address: u32, word: u32) -> Result<(), Allo
 }
 
 /// Appends the lines of a data fault with its number, from 1.
+#[tactic(auto, unfolding(crate::specs::Report::fault_lines))]
 pub(crate) fn push_fault(text: &mut Vec<u8>, number: u64, fault: &Record) -> Result<(), AllocError>
     ensures { OnOk result (text.new.items ≡ text.old.items ++ fault_lines (number, fault.now)) }
 {
@@ -156,6 +157,7 @@ pub fn push_record(text: &mut Vec<u8>, fault: &Record) -> Result<(), AllocError>
 }
 
 /// Appends the line of the processor's status, the three instruction pointers and the waiting registers.
+#[tactic(auto, unfolding(crate::specs::Report::status_line))]
 fn push_status(text: &mut Vec<u8>, fault: &Record) -> Result<(), AllocError>
     ensures { OnOk result (text.new.items ≡ text.old.items ++ status_line fault.now) }
 {
@@ -180,7 +182,8 @@ fn push_named(text: &mut Vec<u8>, name: &[u8], word: u32) -> Result<(), AllocErr
 /// Appends the lines of triples, from `t0` on.
 #[tactic(auto, using(std::proofs::lemmas::Grind::common_steps, crate::proofs::Numbered::one_more_numbered))]
 fn push_triples(text: &mut Vec<u8>, triples: &[Triple; 3]) -> Result<(), AllocError>
-    ensures { OnOk result (text.new.items ≡ text.old.items ++ flat_map triple_line (enumerate_from 0 triples.now)) }
+    ensures { OnOk result (text.new.items ≡ text.old.items
+        ++ flat_map triple_line (enumerate_from 0 triples.now)) }
 {
     for (number, triple) in triples.iter().enumerate() {
         push_triple(text, number as u64, *triple)?;
@@ -189,6 +192,7 @@ fn push_triples(text: &mut Vec<u8>, triples: &[Triple; 3]) -> Result<(), AllocEr
 }
 
 /// Appends the line of a triple with its number.
+#[tactic(auto, unfolding(crate::specs::Report::triple_line))]
 fn push_triple(text: &mut Vec<u8>, number: u64, triple: Triple) -> Result<(), AllocError>
     ensures { OnOk result (text.new.items ≡ text.old.items ++ triple_line (number, triple)) }
 {

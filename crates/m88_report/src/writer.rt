@@ -1,5 +1,4 @@
 //! The report of a run, whole.
-#![tactic(auto, unfolding(crate::specs::Report::report_of))]
 
 ghost use Rattle.std.specs.Prelude.{◌≡◌, ◌++◌, map, Some, IfOk, OnOk};
 ghost use Rattle.std.specs.List.{enumerate_from, flat_map};
@@ -14,6 +13,7 @@ use std::alloc::{AllocError, Global};
 
 /// The report of what a run came to: how it ended, what was retired, registers, carry and output, the words of data
 /// memory that changed, the counts, and the control registers at each data fault. Each line ends with LF.
+#[tactic(auto, unfolding(crate::specs::Report::report_of))]
 pub fn report(alloc: Global, outcome: &Outcome) -> Result<Vec<u8>, NoMemory>
     ensures { IfOk result (λ text. text.items ≡ report_of outcome.now) }
 {
