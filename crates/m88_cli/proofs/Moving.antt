@@ -8,8 +8,8 @@ use Rattle.m88_cli.specs.Runner.{IsAt, RunnerState, after_own_turn, is_over_at, 
 use Rattle.m88_cli.specs.Timeline.{EventStep, RunMoment, idles, passes, event_step_of, run_is_over, issue_step, made}
 use Rattle.m88_cli.specs.declared.next_turn.NextTurn.{NextTurn}
 use Rattle.m88_cli.specs.declared.next_turn.NextTurn.TheVariants as next
-use Rattle.m88_cli.specs.declared.outcome.End.{End}
-use Rattle.m88_cli.specs.declared.outcome.End.TheVariants.{Exit, Vector}
+use Rattle.m88_event.specs.declared.happened.End.{End}
+use Rattle.m88_event.specs.declared.happened.End.TheVariants.{Exit, Vector}
 
 -- what isn't there isn't anything
 not_there : (o : Option End) (P : End → Type 0) → is_some o ≡ false → MatchOption o (Unit {0}) P

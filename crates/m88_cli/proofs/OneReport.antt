@@ -6,9 +6,10 @@ use Rattle.m88_isa.specs.declared.instr.Instr.{Instr}
 use Rattle.m88_cli.specs.Answer.{IsReport, IsReportOn}
 use Rattle.m88_cli.specs.Program.{program_of}
 use Rattle.m88_cli.specs.Source.{IsSourceOf}
-use Rattle.m88_cli.specs.Report.{Summary, report_of}
 use Rattle.m88_cli.proofs.OneSource.{one_list}
-use Rattle.m88_cli.specs.Timeline.{IsWholeRun, IsRunSummary, moment, summary_at}
+use Rattle.m88_cli.specs.Timeline.{IsWholeRun, IsRunOutcome, moment, run_outcome_at}
+use Rattle.m88_event.specs.declared.outcome.Outcome.{Outcome}
+use Rattle.m88_report.specs.Report.{report_of}
 
 -- a run that is over isn't over before
 not_before : (p : Program) (limit n m : ℕ) → IsWholeRun p limit n → IsWholeRun p limit m → n < m → ⊥
@@ -24,17 +25,17 @@ same_events p limit n m run other = elim (cases_lt n m) [
 ]
 
 -- a run comes to one thing
-pub same_summary : (p : Program) (limit : ℕ) (summary other : Summary) → IsRunSummary p limit summary → IsRunSummary p limit other → other ≡ summary
-same_summary p limit summary other is is_too =
+pub same_outcome : (p : Program) (limit : ℕ) (outcome other : Outcome) → IsRunOutcome p limit outcome → IsRunOutcome p limit other → other ≡ outcome
+same_outcome p limit outcome other is is_too =
     let same = same_events p limit is_too.events is.events is_too.run is.run in
-    is_too.summary ∙ ap (λ n. summary_at p (moment p limit n)) same ∙ sym is.summary
+    is_too.value ∙ ap (λ n. run_outcome_at p (moment p limit n)) same ∙ sym is.value
 
 -- the text of what a run comes to is its report
-pub report_is : (p : Program) (limit : ℕ) (summary : Summary) (text : List ℕ) → IsRunSummary p limit summary → text ≡ report_of summary → IsReport p limit text
-report_is p limit summary text run report = record {
-  summary = summary;
+pub report_is : (p : Program) (limit : ℕ) (outcome : Outcome) (text : List ℕ) → IsRunOutcome p limit outcome → text ≡ report_of outcome → IsReport p limit text
+report_is p limit outcome text run report = record {
+  outcome = outcome;
   run = run;
-  only = λ other is. same_summary p limit summary other run is;
+  only = λ other is. same_outcome p limit outcome other run is;
   report = report;
 }
 

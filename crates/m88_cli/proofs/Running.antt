@@ -1,13 +1,13 @@
 -- The moments of a run, one after the other, and the runner that stands at each of them.
-use Rattle.std.proofs.Common.{◌≡◌, ℕ, zero, suc, ◌+◌, ◌*◌, ◌%◌, ◌≤◌, ◌<◌, ◌==◌, ◌≢◌, Bool, true, false, Option, Some, None, add-one, refl, ap, sym, ◌∙◌, arith}
+use Rattle.std.proofs.Common.{◌≡◌, ℕ, zero, suc, ◌+◌, ◌*◌, ◌%◌, ◌≤◌, ◌<◌, ◌==◌, ◌≢◌, Bool, true, false, Option, Some, None, [], add-one, refl, ap, sym, ◌∙◌, arith}
 use Rattle.std.specs.Prelude.{MatchOption, if◌then◌else◌, is_some, unwrap_or}
 use Rattle.std.proofs.lemmas.Bool.Decides.{nat_tests}
 use Rattle.m88_isa.specs.Machine.{Program, State, state, step}
-use Rattle.m88_cli.specs.Runner.{IsAt, IsNearer, RunnerState, is_over_at, left_to_do, summary_in}
-use Rattle.m88_cli.specs.Timeline.{EventStep, IsRunSummary, RunMoment, event_step_at, counted_event, end_of_step, finishes, idles, run_is_over, letter_by_turns, made, moment, run_opening, passes, retires, summary_at}
+use Rattle.m88_cli.specs.Runner.{IsAt, IsNearer, RunnerState, is_over_at, left_to_do, outcome_in}
+use Rattle.m88_cli.specs.Timeline.{EventStep, IsRunOutcome, RunMoment, event_step_at, counted_event, end_of_step, finishes, idles, run_is_over, letter_by_turns, made, moment, run_opening, passes, retires, run_outcome_at}
 use Rattle.m88_cli.specs.declared.letter.Letter.TheVariants.{Issue, Answer}
-use Rattle.m88_cli.specs.declared.outcome.End.{End}
-use Rattle.m88_cli.specs.declared.outcome.End.TheVariants.{Limit}
+use Rattle.m88_event.specs.declared.happened.End.{End}
+use Rattle.m88_event.specs.declared.happened.End.TheVariants.{Limit}
 
 -- before the first event
 pub at_start : (p : Program) (limit : ℕ) (r : RunnerState) → IsAt p limit run_opening r → IsAt p limit (moment p limit 0) r
@@ -69,30 +69,27 @@ nearer_by_one n old new nearer = by_turn (n % 2 == 0) n old new refl nearer
 pub record SameCounts (m n : RunMoment) : Type 0 where
   pub events : n.events ≡ m.events
   pub answers : n.answers ≡ m.answers
-  pub faults : n.faults ≡ m.faults
 
 made_counts : (c : EventStep) (m : RunMoment) → SameCounts m (made c m)
-made_counts idles m = record { events = refl; answers = refl; faults = refl }
-made_counts passes m = record { events = refl; answers = refl; faults = refl }
-made_counts finishes m = record { events = refl; answers = refl; faults = refl }
-made_counts (retires bubble) m = record { events = refl; answers = refl; faults = refl }
+made_counts idles m = record { events = refl; answers = refl }
+made_counts passes m = record { events = refl; answers = refl }
+made_counts finishes m = record { events = refl; answers = refl }
+made_counts (retires bubble) m = record { events = refl; answers = refl }
 
 -- the counts after as many events
 pub record HasCounts (n : ℕ) (m : RunMoment) : Type 0 where
   pub events : m.events ≡ n
   pub answers : m.answers ≡ 0
-  pub faults : m.faults ≡ 0
 
 pub counts : (p : Program) (limit n : ℕ) → HasCounts n (moment p limit n)
 unfolding moment
-counts p limit zero = record { events = refl; answers = refl; faults = refl }
+counts p limit zero = record { events = refl; answers = refl }
 counts p limit (suc n) =
     let before = counts p limit n in
     let same = made_counts (event_step_at p limit (letter_by_turns n) (moment p limit n)) (moment p limit n) in
     record {
       events = ap (λ k. k + 1) (same.events ∙ before.events) ∙ add-one n;
       answers = same.answers ∙ before.answers;
-      faults = same.faults ∙ before.faults;
     }
 
 -- how a runner ended that stands at a moment
@@ -104,7 +101,7 @@ end_at (Some x) false e h stop = absurd cc
 
 -- a runner that stands at the moment behind some events came to what the run comes to there
 came_to : (p : Program) (limit n : ℕ) (r : RunnerState) → IsAt p limit (moment p limit n) r
-    → summary_in r n ≡ summary_at p (moment p limit n)
+    → outcome_in r n ≡ run_outcome_at p (moment p limit n)
 came_to p limit n r at =
     let there = counts p limit n in
     let end : unwrap_or r.ended Limit ≡ (if (moment p limit n).ended then end_of_step (step p (state p (moment p limit n).retired)) else Limit) =
@@ -118,16 +115,17 @@ came_to p limit n r at =
       regs = regs i;
       carry = carry i;
       out = out i;
+      changed = [];
       events = sym there.events i;
       answers = sym there.answers i;
-      faults = sym there.faults i;
+      records = [];
     }
 
 -- the run is over at the first moment at which its runner is
 pub ran : (p : Program) (limit n : ℕ) (r : RunnerState) → IsAt p limit (moment p limit n) r → is_over_at r ≡ true
-    → ((k : ℕ) → k < n → run_is_over limit (moment p limit k) ≡ false) → IsRunSummary p limit (summary_in r n)
+    → ((k : ℕ) → k < n → run_is_over limit (moment p limit k) ≡ false) → IsRunOutcome p limit (outcome_in r n)
 ran p limit n r at over first = record {
   events = n;
   run = record { over = over_at p limit (moment p limit n) r true at over; first = first };
-  summary = came_to p limit n r at;
+  value = came_to p limit n r at;
 }

@@ -3,21 +3,22 @@
 use Rattle.std.specs.Prelude.{ℕ, ◌≡◌, ◌⊎◌, List, codes}
 use Rattle.m88_isa.specs.Machine.{Program}
 use Rattle.m88_isa.specs.declared.instr.Instr.{Instr}
+use Rattle.m88_event.specs.declared.outcome.Outcome.{Outcome}
+use Rattle.m88_report.specs.Report.{report_of}
 use Rattle.m88_cli.specs.Assembly.{IsAssemblySource, IsObjectText, IsRefusedSource}
 use Rattle.m88_cli.specs.Program.{program_of}
 use Rattle.m88_cli.specs.Refusal.{Refusal, refusal_line}
-use Rattle.m88_cli.specs.Report.{Summary, report_of}
 use Rattle.m88_cli.specs.Source.{IsFirstOther, IsSourceOf}
-use Rattle.m88_cli.specs.Timeline.{IsRunSummary}
+use Rattle.m88_cli.specs.Timeline.{IsRunOutcome}
 use Rattle.m88_cli.specs.declared.commands.Command.{Command}
 use Rattle.m88_cli.specs.declared.commands.Command.TheVariants.{Asm, Run}
 
 -- the text is the report of the sequential machine over a program with a limit, and the run comes to nothing else
 pub record IsReport (p : Program) (limit : ℕ) (text : List ℕ) : Type 0 where
-  pub summary : Summary
-  pub run : IsRunSummary p limit summary
-  pub only : (other : Summary) → IsRunSummary p limit other → other ≡ summary
-  pub report : text ≡ report_of summary
+  pub outcome : Outcome
+  pub run : IsRunOutcome p limit outcome
+  pub only : (other : Outcome) → IsRunOutcome p limit other → other ≡ outcome
+  pub report : text ≡ report_of outcome
 
 -- the text is the report over the program that a source writes, and the source writes no other
 pub record IsReportOn (source : List ℕ) (limit : ℕ) (text : List ℕ) : Type 0 where

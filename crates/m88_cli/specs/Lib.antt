@@ -11,11 +11,9 @@ pub mod Numbers
 pub mod Source
 pub mod Program
 pub mod Timeline
-pub mod Report
 -- Words for the contracts of private functions.
 pub mod Plain
 pub mod Reading
 pub mod Loaded
 pub mod Runner
-pub mod Outcome
 pub mod Reply

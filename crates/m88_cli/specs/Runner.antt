@@ -6,14 +6,14 @@ use Rattle.m88_isa.specs.Address.{after_bytes}
 use Rattle.m88_isa.specs.Machine.{Program, State, Turn, by_vector, changes, exits, opening, outputs, state, step, stops, with_written}
 use Rattle.m88_cli.specs.Limits.{most_limit}
 use Rattle.m88_cli.specs.Loaded.{HasPlainWords, IsImageOf}
-use Rattle.m88_cli.specs.Report.{Summary}
 use Rattle.m88_cli.specs.Timeline.{RunMoment, end_of_step}
 use Rattle.m88_cli.specs.declared.letter.Letter.{Letter}
 use Rattle.m88_cli.specs.declared.letter.Letter.TheVariants.{Issue, Answer}
 use Rattle.m88_cli.specs.declared.next_turn.NextTurn.{NextTurn}
 use Rattle.m88_cli.specs.declared.next_turn.NextTurn.TheVariants as next
-use Rattle.m88_cli.specs.declared.outcome.End.{End}
-use Rattle.m88_cli.specs.declared.outcome.End.TheVariants.{Limit, Exit, Vector}
+use Rattle.m88_event.specs.declared.happened.End.{End}
+use Rattle.m88_event.specs.declared.happened.End.TheVariants.{Limit, Exit, Vector}
+use Rattle.m88_event.specs.declared.outcome.Outcome.{Outcome}
 
 -- what a runner is seen as: the image and the limit, the state of the machine but for the memory, and what became of
 -- the program so far
@@ -107,14 +107,15 @@ IsNearer Issue before after = left_to_do after < left_to_do before
 IsNearer Answer before after = left_to_do after ≡ left_to_do before
 
 -- what a runner came to that made as many events; no transaction was made
-abbrev pub summary_in : RunnerState → ℕ → Summary
-summary_in r events = record {
+abbrev pub outcome_in : RunnerState → ℕ → Outcome
+outcome_in r events = record {
   end = unwrap_or r.ended Limit;
   retired = r.retired;
   regs = r.regs;
   carry = r.carry;
   out = r.out;
+  changed = [];
   events = events;
   answers = 0;
-  faults = 0;
+  records = [];
 }

@@ -1,27 +1,26 @@
 -- The timeline of a run: its events, one for each letter, and the moments between them. The letter `r` is for the data
 -- unit, which answers its oldest transaction, and the letter `i` for an attempt to issue. No instruction that a source
 -- may have reads or writes memory, so nothing is ever pending.
-use Rattle.std.specs.Prelude.{ℕ, zero, suc, Bool, true, false, ◌≡◌, ◌<◌, ◌+◌, ◌%◌, ◌==◌, ◌||◌, if◌then◌else◌}
+use Rattle.std.specs.Prelude.{ℕ, zero, suc, Bool, true, false, [], ◌≡◌, ◌<◌, ◌+◌, ◌%◌, ◌==◌, ◌||◌, if◌then◌else◌}
 use Rattle.m88_isa.specs.Machine.{Program, Step, Stop, by_vector, ends, exits, on, state, step}
-use Rattle.m88_cli.specs.Report.{Summary}
 use Rattle.m88_cli.specs.declared.letter.Letter.{Letter}
 use Rattle.m88_cli.specs.declared.letter.Letter.TheVariants.{Issue, Answer}
-use Rattle.m88_cli.specs.declared.outcome.End.{End}
-use Rattle.m88_cli.specs.declared.outcome.End.TheVariants.{Limit, Exit, Vector}
+use Rattle.m88_event.specs.declared.happened.End.{End}
+use Rattle.m88_event.specs.declared.happened.End.TheVariants.{Limit, Exit, Vector}
+use Rattle.m88_event.specs.declared.outcome.Outcome.{Outcome}
 
 -- a moment: the instructions retired, the mark that the next fetched instruction is passed over, the mark that the
--- program has ended, and the counts of events, of transactions answered with data and of data faults
+-- program has ended, and the counts of events and of transactions answered with data
 pub record RunMoment : Type 0 where
   pub retired : ℕ
   pub bubble : Bool
   pub ended : Bool
   pub events : ℕ
   pub answers : ℕ
-  pub faults : ℕ
 
 -- before the first event
 abbrev pub run_opening : RunMoment
-run_opening = record { retired = 0; bubble = false; ended = false; events = 0; answers = 0; faults = 0 }
+run_opening = record { retired = 0; bubble = false; ended = false; events = 0; answers = 0 }
 
 -- the program has ended, or the limit is reached
 abbrev pub run_is_over : ℕ → RunMoment → Bool
@@ -90,21 +89,23 @@ end_of_step (on bubble s) = Limit
 end_of_step (ends stop) = end_of_stop stop
 
 -- what a run comes to that is over at a moment: the end of the history where the program ended, and else the limit; the
--- registers, the carry and the output of the history after as many instructions; the counts of the moment
-abbrev pub summary_at : Program → RunMoment → Summary
-summary_at p m = record {
+-- registers, the carry and the output of the history after as many instructions; the counts of the moment. No
+-- instruction of a source has an access, so no word of memory changes and nothing faults
+abbrev pub run_outcome_at : Program → RunMoment → Outcome
+run_outcome_at p m = record {
   end = if m.ended then end_of_step (step p (state p m.retired)) else Limit;
   retired = m.retired;
   regs = (state p m.retired).regs;
   carry = (state p m.retired).carry;
   out = (state p m.retired).out;
+  changed = [];
   events = m.events;
   answers = m.answers;
-  faults = m.faults;
+  records = [];
 }
 
--- a summary is that of the run of a program with a limit
-pub record IsRunSummary (p : Program) (limit : ℕ) (s : Summary) : Type 0 where
+-- an outcome is that of the run of a program with a limit
+pub record IsRunOutcome (p : Program) (limit : ℕ) (o : Outcome) : Type 0 where
   pub events : ℕ
   pub run : IsWholeRun p limit events
-  pub summary : s ≡ summary_at p (moment p limit events)
+  pub value : o ≡ run_outcome_at p (moment p limit events)

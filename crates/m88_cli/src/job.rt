@@ -10,10 +10,11 @@ use crate::assembly::assemble_source;
 use crate::commands::Command;
 use crate::load::load;
 use crate::reply::{Reply, refusal};
-use crate::report::report;
 use crate::run::run;
 use crate::source::{Reading, read_source};
+use m88_base::NoMemory;
 use m88_isa::Instr;
+use m88_report::report;
 use std::alloc::{AllocError, Global};
 
 /// The reply of a command to its whole input.
@@ -61,5 +62,8 @@ fn run_report(alloc: Global, instructions: &[Instr], limit: u32) -> Result<Vec<u
 {
     let image = load(alloc, instructions)?;
     let outcome = run(alloc, &image, limit)?;
-    report(alloc, &outcome)
+    match report(alloc, &outcome) {
+        Ok(text) => Ok(text),
+        Err(NoMemory) => Err(AllocError),
+    }
 }

@@ -24,12 +24,8 @@ mod assembly;
 mod fetch;
 mod letter;
 mod next_turn;
-mod outcome;
 mod run;
 mod runner;
-
-// What is written.
-mod report;
 #[cfg(test)]
 mod tests;
 

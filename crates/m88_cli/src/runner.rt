@@ -4,17 +4,16 @@ ghost use Rattle.m88_isa.specs.Effect.{meaning_of};
 ghost use Rattle.m88_isa.specs.Machine.{Program, carried_out, trapped, turn, with_register};
 ghost use Rattle.m88_cli.specs.Limits.{most_limit};
 ghost use Rattle.m88_cli.specs.Loaded.{HasPlainWords, IsImageOf};
-ghost use Rattle.m88_cli.specs.Outcome.{summary_of};
 ghost use Rattle.m88_cli.specs.Plain.{IsPlain};
-ghost use Rattle.m88_cli.specs.Runner.{IsAt, IsFlowAligned, IsNearer, after_own_turn, is_over_at, left_to_do, summary_in, told};
+ghost use Rattle.m88_cli.specs.Runner.{IsAt, IsFlowAligned, IsNearer, after_own_turn, is_over_at, left_to_do, outcome_in, told};
 ghost use Rattle.m88_cli.specs.Timeline.{RunMoment, event_step_at, issue_step, made, run_opening};
 
 use crate::fetch::fetch;
 use crate::letter::Letter;
 use crate::next_turn::NextTurn;
-use crate::outcome::{End, Outcome};
-use m88_base::{Image, Reg};
+use m88_base::{Image, Listed, Reg};
 use m88_codec::{BadWord, decode};
+use m88_event::{End, Outcome};
 use m88_isa::{
     EXIT_SERVICE, Effect, INSTRUCTION_ACCESS, Instr, MONITOR_TRAP, OUTPUT_REGISTER, PUT_SERVICE,
     Plan, SERVICE_REGISTER, UNIMPLEMENTED, plan,
@@ -104,8 +103,8 @@ impl<'a> Runner<'a> {
     }
 
     /// What a run came to that made as many events.
-    pub fn into_outcome(self, events: u64) -> Outcome
-        ensures { summary_of result ≡ summary_in self.entry events }
+    pub fn into_outcome(self, alloc: Global, events: u64) -> Outcome
+        ensures { result ≡ outcome_in self.entry events }
     {
         let regs = self.regs;
         Outcome {
@@ -113,10 +112,11 @@ impl<'a> Runner<'a> {
             retired: self.retired,
             regs,
             carry: self.carry,
-            out: self.out,
+            out: Listed::new(self.out),
+            changed: Listed::new(Vec::new(alloc)),
             events,
             answers: 0,
-            faults: 0,
+            records: Listed::new(Vec::new(alloc)),
         }
     }
 

@@ -1,0 +1,3 @@
+-- Lemmas on lists: elements with their numbers, and arrays of what a function gives.
+pub mod Numbered
+pub mod Mapped

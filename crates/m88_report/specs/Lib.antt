@@ -1,0 +1,2 @@
+-- What contracts cite: the text of a report.
+pub mod Report
