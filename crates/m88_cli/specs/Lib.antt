@@ -13,6 +13,8 @@ pub mod Program
 pub mod Timeline
 pub mod Report
 -- Words for the contracts of private functions.
+pub mod SourceFault
+pub mod Linking
 pub mod Plain
 pub mod Reading
 pub mod Loaded
