@@ -1,9 +1,11 @@
--- The image of a unit: the bytes that its statements give at their addresses, its start, and the instruction that
--- is placed at an address.
+-- The image and the program of a unit: the bytes that its statements give at their addresses, its start, and the
+-- instruction that is placed at an address.
 use Rattle.std.specs.Prelude.{◌≡◌, ◌⊎◌, ℕ, ◌==◌, if◌then◌else◌, List, [], ◌∷◌, map, flat_map, Option, None, Some, IsSome}
 use Rattle.std.specs.Option.{option_or}
+use Rattle.m88_base.specs.Image.{IsImage, ProgramImage, byte_at}
 use Rattle.m88_base.specs.Placed.{Placed, byte_among}
 use Rattle.m88_isa.specs.ImageProgram.{IsInstructionAt}
+use Rattle.m88_isa.specs.Machine.{Program}
 use Rattle.m88_isa.specs.declared.instr.Instr.{Instr}
 use Rattle.m88_parse.specs.declared.unit.Body.{Body}
 use Rattle.m88_parse.specs.declared.unit.Body.TheVariants.{Code}
@@ -30,6 +32,12 @@ unit_byte u = byte_among (flat_map (runs_in (unit_layout u).globals) (based u))
 -- the address at which a unit starts
 abbrev pub unit_start : Source → ℕ
 unit_start u = start_address (unit_layout u).globals
+
+-- the image of a unit: the bytes that its statements give, no others, and its start
+pub record IsUnitImage (u : Source) (image : ProgramImage) : Type 0 where
+  pub is_image : IsImage image
+  pub bytes : (a : ℕ) → byte_at image a ≡ unit_byte u a
+  pub start : image.start ≡ unit_start u
 
 -- the instruction that a body is at an address
 abbrev pub code_in : (List ℕ → ℕ) → ℕ → Body → Option Instr
@@ -60,3 +68,9 @@ abbrev pub IsUnitInstruction : Source → ℕ → Option Instr → Type 0
 IsUnitInstruction u address instruction =
     (IsSome instruction × (placed_instruction u address ≡ instruction))
     ⊎ ((placed_instruction u address ≡ None) × IsInstructionAt (unit_byte u) address instruction)
+
+-- the program of a unit: its bytes, its start, and at each address the instruction there
+pub record IsUnitProgram (u : Source) (p : Program) : Type 0 where
+  pub start : p.start ≡ unit_start u
+  pub bytes : (a : ℕ) → p.byte a ≡ unit_byte u a
+  pub instructions : (a : ℕ) → IsUnitInstruction u a (p.instruction a)

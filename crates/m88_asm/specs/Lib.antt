@@ -4,6 +4,7 @@ pub mod Fault
 pub mod Filled
 pub mod Objects
 pub mod Faults
+pub mod Reasons
 pub mod Units
 pub mod Accepted
 pub mod Images

@@ -22,15 +22,15 @@ pub enum AsmKind {
 }
 
 impl fmt::Display for AsmKind {
+    ghost use Rattle.std.specs.Prelude.{Some};
+    ghost use Rattle.m88_asm.specs.Reasons.{asm_reason};
+
+    ghost output = { λ kind. Some (asm_reason kind) };
+
+    #[tactic(auto, unfolding(crate::specs::Reasons::asm_reason))]
     fn fmt<W: fmt::Write>(&self, f: &mut fmt::Formatter<W>) -> fmt::Result {
         match self {
-            AsmKind::Duplicate { name, first } => {
-                f.write_str("duplicate ")?;
-                for byte in name.bytes() {
-                    f.write_char(char::from(*byte))?;
-                }
-                write!(f, " first at {first}")
-            }
+            AsmKind::Duplicate { name, first } => write!(f, "duplicate {name} first at {first}"),
             AsmKind::Alignment => f.write_str("alignment"),
             AsmKind::TooLarge => f.write_str("too large"),
             AsmKind::Memory => f.write_str("out of memory"),

@@ -5,6 +5,8 @@ ghost use Rattle.m88_base.specs.Hex.{hex_digit, hex2, hex8, hex8_of, is_hex8, is
 
 use crate::numerals::number_in;
 use std::alloc::AllocError;
+use std::fmt;
+use std::str::from_utf8;
 
 /// The digit of a number below 16.
 fn digit(d: u32) -> u8
@@ -54,6 +56,24 @@ pub fn push_hex2(text: &mut Vec<u8>, n: u8) -> Result<(), AllocError>
     ensures { OnOk result (text.new.items ≡ text.old.items ++ hex2 n) }
 {
     text.extend_from_slice(&byte_digits(n))
+}
+
+/// A word that is printed in eight digits.
+#[derive(Clone, Copy, PartialEq, Eq, Debug)]
+pub struct Hex8(pub u32);
+
+impl fmt::Display for Hex8 {
+    ghost use Rattle.std.specs.Prelude.{Some};
+    ghost use Rattle.m88_base.specs.Hex.{hex8};
+
+    ghost output = { λ word. Some (hex8 word.0) };
+
+    fn fmt<W: fmt::Write>(&self, f: &mut fmt::Formatter<W>) -> fmt::Result {
+        match from_utf8(&word_digits(self.0)) {
+            Ok(text) => f.write_str(text),
+            Err(_) => unreachable!(),
+        }
+    }
 }
 
 /// Whether a byte is a digit as they are written, no letter of lower case.

@@ -2,7 +2,9 @@
 ghost use Rattle.std.specs.Prelude.{◌≡◌, ◌↔◌, ◌-◌, ◌≤◌, ◌++◌, length, replicate, IsTrue, IsSome, IfSome};
 ghost use Rattle.m88_base.specs.Name.{IsName, begins_name, continues_name};
 
+use std::fmt;
 use std::marker::Model;
+use std::str::from_utf8;
 
 /// A name of an assembly source, 1 to 64 bytes.
 #[derive(Clone, Copy, Hash, Debug)]
@@ -73,6 +75,26 @@ impl Name {
         ensures name { IsName self.now }
     {
         &self.bytes[..self.len]
+    }
+
+    /// The name as text; all its bytes are ASCII.
+    pub fn text(&self) -> &str
+        ensures { result.now ≡ self.now }
+    {
+        match from_utf8(self.bytes()) {
+            Ok(text) => text,
+            Err(_) => unreachable!(),
+        }
+    }
+}
+
+impl fmt::Display for Name {
+    ghost use Rattle.std.specs.Prelude.{Some};
+
+    ghost output = { λ name. Some name };
+
+    fn fmt<W: fmt::Write>(&self, f: &mut fmt::Formatter<W>) -> fmt::Result {
+        f.write_str(self.text())
     }
 }
 

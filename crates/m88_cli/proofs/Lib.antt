@@ -10,4 +10,5 @@ pub mod Whole
 pub mod OneUnit
 pub mod OneSource
 pub mod Refusing
+pub mod Linked
 pub mod OneReport

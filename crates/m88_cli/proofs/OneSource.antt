@@ -4,10 +4,10 @@ use Rattle.std.specs.Prelude.{All}
 use Rattle.m88_isa.specs.declared.instr.Instr.{Instr}
 use Rattle.m88_cli.specs.Answer.{Accepts, Refuses}
 use Rattle.m88_cli.specs.Refusal.{Refusal}
-use Rattle.m88_cli.proofs.OneUnit.{not_assembled, same_refusal}
+use Rattle.m88_cli.proofs.OneUnit.{not_assembled, not_linked, same_program_refusal, same_refusal}
 use Rattle.m88_cli.specs.Source.{AreLinesOf, IsFirstOther, IsLine, IsSourceOf, code_line, empty_line, no_line}
 use Rattle.m88_cli.specs.declared.commands.Command.{Command}
-use Rattle.m88_cli.specs.declared.commands.Command.TheVariants.{Asm, Run}
+use Rattle.m88_cli.specs.declared.commands.Command.TheVariants.{Asm, Build, Run}
 use Rattle.m88_cli.proofs.Texts.{no_empty, one_instruction}
 
 -- lines write one list of instructions
@@ -48,6 +48,7 @@ same_first source m n g h =
 pub refused_not_accepted : (command : Command) (input : List ℕ) (r : Refusal) → Refuses command input r → ¬ Accepts command input
 refused_not_accepted (Run limit) input r refused = λ accepted. not_written input r.line accepted.0 refused.0 accepted.1
 refused_not_accepted Asm input r refused = λ accepted. not_assembled input r accepted refused
+refused_not_accepted Build input r refused = λ accepted. not_linked input r accepted refused
 
 pub one_refusal : (command : Command) (input : List ℕ) (r s : Refusal) → Refuses command input r → Refuses command input s → r ≡ s
 one_refusal (Run limit) input r s a b = λ i. record {
@@ -56,3 +57,4 @@ one_refusal (Run limit) input r s a b = λ i. record {
   reason = (a.2 ∙ sym b.2) i;
 }
 one_refusal Asm input r s a b = same_refusal input r s a b
+one_refusal Build input r s a b = same_program_refusal input r s a b

@@ -12,7 +12,7 @@ use Rattle.m88_cli.specs.Calls.{GivesInput, HasInput, IsWhole}
 use Rattle.m88_cli.specs.Command.{reads_input}
 use Rattle.m88_cli.specs.Limits.{most_input}
 use Rattle.m88_cli.specs.declared.commands.Command.{Command}
-use Rattle.m88_cli.specs.declared.commands.Command.TheVariants.{Asm, Run}
+use Rattle.m88_cli.specs.declared.commands.Command.TheVariants.{Asm, Build, Run}
 use Rattle.m88_cli.proofs.OneSource.{one_refusal, refused_not_accepted}
 
 -- what holds of a call that failed
@@ -69,6 +69,7 @@ pub given_whole : (command : Command) (before after : Option (List ℕ)) (input 
     → before ≡ Some input → after ≡ Some [] → GivesInput command before after given → given ≡ input
 given_whole (Run limit) before after input given r refused had left gives = same_input before after input given had left gives.0
 given_whole Asm before after input given r refused had left gives = same_input before after input given had left gives.0
+given_whole Build before after input given r refused had left gives = same_input before after input given had left gives.0
 
 -- a reply to what a command was given, where command and input are known
 abbrev pub RepliesToGiven : Command → Option (List ℕ) → Option (List ℕ) → Reply → Type 0

@@ -1,10 +1,10 @@
--- What the words of a command spell, and which commands read an input. There are two commands yet:
--- `run LIMIT none -` and `asm`.
+-- What the words of a command spell, and which commands read an input. There are three commands yet:
+-- `run LIMIT none -`, `asm` and `build`.
 use Rattle.std.specs.Prelude.{ℕ, Bool, true, false, ◌≡◌, ◌≤◌, List, [], ◌∷◌, codes, length}
 use Rattle.std.specs.Str.Parse.{IsNumeral, digits_value}
 use Rattle.m88_cli.specs.Limits.{most_limit}
 use Rattle.m88_cli.specs.declared.commands.Command.{Command}
-use Rattle.m88_cli.specs.declared.commands.Command.TheVariants.{Asm, Run}
+use Rattle.m88_cli.specs.declared.commands.Command.TheVariants.{Asm, Build, Run}
 
 -- a text writes a limit in one to seven decimal digits, which may begin with zeros
 pub record IsLimit (text : List ℕ) (n : ℕ) : Type 0 where
@@ -18,6 +18,7 @@ abbrev pub Spells : List (List ℕ) → Command → Type 0
 Spells words (Run limit) =
     (text : List ℕ) × IsLimit text limit × (words ≡ codes "run" ∷ text ∷ codes "none" ∷ codes "-" ∷ [])
 Spells words Asm = words ≡ codes "asm" ∷ []
+Spells words Build = words ≡ codes "build" ∷ []
 
 -- the words spell no command
 abbrev pub SpellNothing : List (List ℕ) → Type 0
@@ -27,6 +28,7 @@ SpellNothing words = (command : Command) → ¬ Spells words command
 abbrev pub reads_input : Command → Bool
 reads_input (Run limit) = true
 reads_input Asm = true
+reads_input Build = true
 
 -- the words spell no command that reads an input
 abbrev pub SpellNoReader : List (List ℕ) → Type 0

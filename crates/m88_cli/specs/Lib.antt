@@ -12,6 +12,8 @@ pub mod Source
 pub mod Program
 pub mod Timeline
 -- Words for the contracts of private functions.
+pub mod SourceFault
+pub mod Linking
 pub mod Plain
 pub mod Reading
 pub mod Loaded

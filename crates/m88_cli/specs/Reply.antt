@@ -4,7 +4,7 @@ use Rattle.std.specs.Prelude.{ℕ, ◌≤◌, List, MatchBool}
 use Rattle.m88_cli.specs.Answer.{IsAnswerToAccepted, IsAnswerToRefused}
 use Rattle.m88_cli.specs.Limits.{most_limit}
 use Rattle.m88_cli.specs.declared.commands.Command.{Command}
-use Rattle.m88_cli.specs.declared.commands.Command.TheVariants.{Asm, Run}
+use Rattle.m88_cli.specs.declared.commands.Command.TheVariants.{Asm, Build, Run}
 use Rattle.m88_cli.specs.declared.reply.Reply.{Reply}
 
 -- the reply's text answers an input that is accepted or not, as the reply says
@@ -16,3 +16,4 @@ Replies command input r =
 abbrev pub IsWithinLimit : Command → Type 0
 IsWithinLimit (Run limit) = limit ≤ most_limit
 IsWithinLimit Asm = Unit {0}
+IsWithinLimit Build = Unit {0}

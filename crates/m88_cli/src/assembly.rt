@@ -1,18 +1,23 @@
-//! What `asm` makes of a source.
-ghost use Rattle.std.specs.Prelude.{◌≡◌, ◌≢◌, ◌≤◌, IfOk, length};
-ghost use Rattle.m88_asm.specs.Fault.{memory_ran_out};
-ghost use Rattle.m88_parse.specs.Fault.{out_of_memory};
-ghost use Rattle.m88_cli.specs.Assembly.{asm_reason, asm_refusal, parse_refusal};
+//! What `asm` and `build` make of a source.
+ghost use Rattle.std.specs.Prelude.{◌≡◌, ◌≤◌, ◌<◌, ◌^◌, All, IfErr, IfOk, length};
+ghost use Rattle.m88_asm.specs.Faults.{IsAssembled};
+ghost use Rattle.m88_asm.specs.Objects.{objects_of};
+ghost use Rattle.m88_link.specs.Sound.{IsSound};
+ghost use Rattle.m88_parse.specs.Language.Units.{IsUnit};
+ghost use Rattle.m88_parse.specs.declared.unit.Unit.{Unit as SourceUnit};
 ghost use Rattle.m88_cli.specs.Limits.{most_input};
-ghost use Rattle.m88_cli.specs.Refusal.{refusal_line};
+ghost use Rattle.m88_cli.specs.Linking.{HoldsUnit, IsObjectsOf};
 ghost use Rattle.m88_cli.specs.Reply.{Replies};
+ghost use Rattle.m88_cli.specs.SourceFault.{IsAssemblyFault, IsProgramFault};
 ghost use Rattle.m88_cli.specs.declared.commands.Command.{Command};
 
-use crate::reply::{Reply, refusal};
-use m88_asm::{AsmFault, AsmKind, assemble};
-use m88_base::{NoMemory, push_decimal};
-use m88_link::object_text;
-use m88_parse::{ParseFault, ParseKind, parse};
+use crate::reply::Reply;
+use crate::source_fault::{SourceFault, refuse};
+use m88_asm::{UnitFault, assemble, image_of};
+use m88_base::{Image, NoMemory};
+use m88_link::{Object, object_text};
+use m88_parse::parse;
+use m88_srec::write_srec;
 use std::alloc::{AllocError, Global};
 
 /// The reply of `asm` to a source.
@@ -20,71 +25,66 @@ pub fn assemble_source(alloc: Global, source: &[u8]) -> Result<Reply, AllocError
     requires { length source.now ≤ most_input }
     ensures { IfOk result (Replies Command.Asm source.now) }
 {
+    let objects = match objects_of(alloc, source) {
+        Ok(objects) => objects,
+        Err(fault) => return refuse(alloc, fault),
+    };
+    match object_text(alloc, objects.as_slice()) {
+        Ok(text) => Ok(Reply {
+            accepted: true,
+            text,
+        }),
+        Err(NoMemory) => Err(AllocError),
+    }
+}
+
+/// The reply of `build` to a source.
+pub fn build_source(alloc: Global, source: &[u8]) -> Result<Reply, AllocError>
+    requires { length source.now ≤ most_input }
+    ensures { IfOk result (Replies Command.Build source.now) }
+{
+    let image = match image_of_source(alloc, source) {
+        Ok(image) => image,
+        Err(fault) => return refuse(alloc, fault),
+    };
+    match write_srec(alloc, &image) {
+        Ok(text) => Ok(Reply {
+            accepted: true,
+            text,
+        }),
+        Err(NoMemory) => Err(AllocError),
+    }
+}
+
+/// The objects of a source, or its first fault.
+fn objects_of(alloc: Global, source: &[u8]) -> Result<Vec<Object>, SourceFault>
+    requires { length source.now ≤ most_input }
+    ensures objects { IfOk result (λ objects. IsObjectsOf source.now objects.items) }
+    ensures sound { IfOk result (λ objects. All IsSound objects.items) }
+    ensures fault { IfErr result (IsAssemblyFault source.now) }
+{
     let unit = match parse(alloc, source) {
         Ok(unit) => unit,
-        Err(fault) => {
-            let text = unread(alloc, fault)?;
-            return Ok(Reply {
-                accepted: false,
-                text,
-            });
-        }
+        Err(fault) => return Err(SourceFault::Parse(fault)),
     };
     match assemble(alloc, &unit) {
-        Ok(objects) => match object_text(alloc, objects.as_slice()) {
-            Ok(text) => Ok(Reply {
-                accepted: true,
-                text,
-            }),
-            Err(NoMemory) => Err(AllocError),
-        },
-        Err(fault) => {
-            let text = unassembled(alloc, &fault)?;
-            Ok(Reply {
-                accepted: false,
-                text,
-            })
-        }
+        Ok(objects) => Ok(objects),
+        Err(fault) => Err(SourceFault::Unit(UnitFault::Asm(fault))),
     }
 }
 
-/// The line that refuses a source for a fault of its lines, unless the fault is that memory ran out.
-fn unread(alloc: Global, fault: ParseFault) -> Result<Vec<u8>, AllocError>
-    ensures line { IfOk result (λ text. text.items ≡ refusal_line (parse_refusal fault)) }
-    ensures place { IfOk result (λ _. fault ≢ out_of_memory) }
+/// The image of a source, assembled and linked, or the source's first fault.
+pub fn image_of_source(alloc: Global, source: &[u8]) -> Result<Image, SourceFault>
+    requires { length source.now ≤ most_input }
+    ensures image { IfOk result (HoldsUnit source.now) }
+    ensures fault { IfErr result (IsProgramFault source.now) }
 {
-    if fault.kind == ParseKind::Memory {
-        return Err(AllocError);
-    }
-    refusal(alloc, fault.line, fault.col, fault.kind.reason().as_bytes())
-}
-
-/// The line that refuses a source for a fault of its statements, unless the fault is that memory ran out.
-fn unassembled(alloc: Global, fault: &AsmFault) -> Result<Vec<u8>, AllocError>
-    ensures line { IfOk result (λ text. text.items ≡ refusal_line (asm_refusal fault.now)) }
-    ensures place { IfOk result (λ _. fault.now ≢ memory_ran_out) }
-{
-    if fault.kind == AsmKind::Memory {
-        return Err(AllocError);
-    }
-    let reason = reason_of(alloc, &fault.kind)?;
-    refusal(alloc, fault.line, fault.col, reason.as_slice())
-}
-
-/// The reason of a fault of the assembler, in the words of a refused line.
-fn reason_of(alloc: Global, kind: &AsmKind) -> Result<Vec<u8>, AllocError>
-    ensures { IfOk result (λ text. text.items ≡ asm_reason kind.now) }
-{
-    match kind {
-        AsmKind::Duplicate { name, first } => {
-            let mut text = Vec::from_slice(alloc, b"duplicate ")?;
-            text.extend_from_slice(name.bytes())?;
-            text.extend_from_slice(b" first at ")?;
-            push_decimal(&mut text, u64::from(*first))?;
-            Ok(text)
-        }
-        AsmKind::Alignment => Vec::from_slice(alloc, b"alignment"),
-        AsmKind::TooLarge => Vec::from_slice(alloc, b"too large"),
-        AsmKind::Memory => Vec::from_slice(alloc, b"out of memory"),
+    let unit = match parse(alloc, source) {
+        Ok(unit) => unit,
+        Err(fault) => return Err(SourceFault::Parse(fault)),
+    };
+    match image_of(alloc, &unit) {
+        Ok(image) => Ok(image),
+        Err(fault) => Err(SourceFault::Unit(fault)),
     }
 }

@@ -8,4 +8,6 @@ pub enum Command {
     Run { limit: u32 },
     /// The text of the objects of a source.
     Asm,
+    /// The S-records of the image of a source.
+    Build,
 }

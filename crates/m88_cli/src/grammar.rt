@@ -36,10 +36,12 @@ fn bare_command(name: &str) -> Option<Command>
     ensures limit { IfSome result IsWithinLimit }
 {
     if name == "asm" {
-        Some(Command::Asm)
-    } else {
-        None
+        return Some(Command::Asm);
     }
+    if name == "build" {
+        return Some(Command::Build);
+    }
+    None
 }
 
 /// A limit: one to seven decimal digits, at most a million.

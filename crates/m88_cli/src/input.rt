@@ -29,6 +29,6 @@ pub fn input_of<S: Source>(
         → TakesAtMost (S.left source.old) (S.left source.new) most_input }
 {
     match command {
-        Command::Run { .. } | Command::Asm => read_all(alloc, source, MOST_INPUT),
+        Command::Run { .. } | Command::Asm | Command::Build => read_all(alloc, source, MOST_INPUT),
     }
 }

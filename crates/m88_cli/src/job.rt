@@ -6,7 +6,7 @@ ghost use Rattle.m88_cli.specs.Plain.{IsPlain};
 ghost use Rattle.m88_cli.specs.Program.{program_of};
 ghost use Rattle.m88_cli.specs.Reply.{IsWithinLimit, Replies};
 
-use crate::assembly::assemble_source;
+use crate::assembly::{assemble_source, build_source};
 use crate::commands::Command;
 use crate::load::load;
 use crate::reply::{Reply, refusal};
@@ -26,6 +26,7 @@ pub fn reply_to(alloc: Global, command: Command, input: &[u8]) -> Result<Reply, 
     match command {
         Command::Run { limit } => run_source(alloc, limit, input),
         Command::Asm => assemble_source(alloc, input),
+        Command::Build => build_source(alloc, input),
     }
 }
 

@@ -17,8 +17,9 @@ mod load;
 mod numbers;
 mod source;
 
-// A source for `asm`.
+// A source for `asm` and `build`.
 mod assembly;
+mod source_fault;
 
 // The run.
 mod fetch;

@@ -231,6 +231,72 @@ fn a_source_is_assembled_or_refused_at_its_first_fault(rt: HostRuntime) -> Resul
     Ok(())
 }
 
+/// The S-records of two instructions, and of a branch and a load that wait for symbols.
+const TWO_WORDS: &[u8] = b"S00600004D38383C\nS30D0000100058400041F000D1F058\nS70500001000EA\n";
+
+const WAITING_RECORDS: &[u8] =
+    b"S00600004D38383C\nS30D00001000C400000014402000AA\nS3090000200000000001D5\nS70500001000EA\n";
+
+#[test]
+fn a_source_is_built_or_refused_at_its_first_fault(rt: HostRuntime) -> Result<(), Fail> {
+    for (input, status, text) in [
+        (
+            b"or r2,r0,65\ntb0 0,r0,496\n".as_slice(),
+            Status::Done,
+            TWO_WORDS,
+        ),
+        (WAITING, Status::Done, WAITING_RECORDS),
+        (
+            b"foo r2\n",
+            Status::Refused,
+            b"refused 1:1 no such name\n".as_slice(),
+        ),
+        (b"or r2,r0\n", Status::Refused, b"refused 1:9 syntax\n"),
+        (
+            b"or r2,r0,65536\n",
+            Status::Refused,
+            b"refused 1:10 out of range\n",
+        ),
+        (b"\xE9", Status::Refused, b"refused 1:1 not ascii\n"),
+        (
+            b"br nowhere\n",
+            Status::Refused,
+            b"refused 1:4 undefined nowhere\n",
+        ),
+        (
+            b"a:\na:\n",
+            Status::Refused,
+            b"refused 2:1 duplicate a first at 1\n",
+        ),
+        (
+            b".byte 1\nor r2,r0,1\n",
+            Status::Refused,
+            b"refused 2:1 alignment\n",
+        ),
+        (
+            b".zero 1048577\n",
+            Status::Refused,
+            b"refused 1:1 too large\n",
+        ),
+        (
+            b".at 0x2000\n.byte 1\n.at 0x2000\n.byte 2\n",
+            Status::Refused,
+            b"refused 3:1 overlap 00002000\n",
+        ),
+        (
+            b"x:\n.at 0x100000\n bcnd eq0,r0,x\n",
+            Status::Refused,
+            b"refused 3:14 too far -1044480\n",
+        ),
+    ] {
+        let source = MemSource::new(rt.alloc(), input, 7, &[]).map_err(|_| "memory")?;
+        let sink = MemSink::new(rt.alloc(), 1000, 7, &[]).map_err(|_| "memory")?;
+        let (answer, held) = run(rt.alloc(), "build", source, sink)?;
+        assert!(rt; answer == status && held.as_slice() == text, "at {text:?}");
+    }
+    Ok(())
+}
+
 #[test]
 fn other_words_are_usage(rt: HostRuntime) -> Result<(), Fail> {
     for line in [
@@ -253,6 +319,9 @@ fn other_words_are_usage(rt: HostRuntime) -> Result<(), Fail> {
         "asm asm",
         "ASM",
         "as",
+        "build -",
+        "Build",
+        "buil",
     ] {
         let source = MemSource::new(rt.alloc(), LETTER, 7, &[0]).map_err(|_| "memory")?;
         let sink = MemSink::new(rt.alloc(), 1000, 7, &[0]).map_err(|_| "memory")?;

@@ -9,6 +9,7 @@ pub mod Layout
 pub mod Faults
 pub mod Refusal
 pub mod Linked
+pub mod Reasons
 pub mod ObjectText
 pub mod Tables
 pub mod Sizes

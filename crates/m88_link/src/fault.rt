@@ -3,7 +3,7 @@
 ghost use Rattle.std.specs.Prelude.{◌≡◌};
 ghost use Rattle.m88_link.specs.Faults.{memory_fault};
 
-use m88_base::Name;
+use m88_base::{Hex8, Name};
 use std::alloc::{AllocError, AllocFailed};
 use std::error::Error;
 use std::fmt;
@@ -26,31 +26,22 @@ pub enum LinkKind {
 }
 
 impl fmt::Display for LinkKind {
+    ghost use Rattle.std.specs.Prelude.{Some};
+    ghost use Rattle.m88_link.specs.Reasons.{link_reason};
+
+    ghost output = { λ kind. Some (link_reason kind) };
+
+    #[tactic(auto, unfolding(crate::specs::Reasons::link_reason))]
     fn fmt<W: fmt::Write>(&self, f: &mut fmt::Formatter<W>) -> fmt::Result {
         match self {
             LinkKind::TooLarge => f.write_str("too large"),
-            LinkKind::Overlap(at) => write!(f, "overlap {at:08X}"),
-            LinkKind::Duplicate { name, first } => {
-                f.write_str("duplicate ")?;
-                write_name(f, name)?;
-                write!(f, " first at {first}")
-            }
-            LinkKind::Undefined(name) => {
-                f.write_str("undefined ")?;
-                write_name(f, name)
-            }
+            LinkKind::Overlap(at) => write!(f, "overlap {}", Hex8(*at)),
+            LinkKind::Duplicate { name, first } => write!(f, "duplicate {name} first at {first}"),
+            LinkKind::Undefined(name) => write!(f, "undefined {name}"),
             LinkKind::TooFar(distance) => write!(f, "too far {distance}"),
             LinkKind::Memory => f.write_str("out of memory"),
         }
     }
-}
-
-/// Writes a name, whose bytes are ASCII.
-fn write_name<W: fmt::Write>(f: &mut fmt::Formatter<W>, name: &Name) -> fmt::Result {
-    for byte in name.bytes() {
-        write!(f, "{}", char::from(*byte))?;
-    }
-    Ok(())
 }
 
 impl Error for LinkKind {}

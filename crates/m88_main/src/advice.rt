@@ -33,7 +33,7 @@ impl fmt::Display for Advice {
         match self {
             Advice::Usage => write!(
                 f,
-                "usage: m88 run LIMIT none -  or  m88 asm    (LIMIT up to {MOST_LIMIT}; input from standard input)"
+                "usage: m88 run LIMIT none -, m88 asm or m88 build    (LIMIT up to {MOST_LIMIT}; input from standard input)"
             ),
             Advice::SourceFault => write!(f, "m88: standard input can't be read"),
             Advice::SinkFault => write!(f, "m88: standard output can't be written"),

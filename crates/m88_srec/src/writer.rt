@@ -54,6 +54,7 @@ fn written(alloc: Global, image: &Image) -> Result<Vec<u8>, AllocError>
 /// The S-record text of an image.
 pub fn write_srec(alloc: Global, image: &Image) -> Result<Vec<u8>, NoMemory>
     ensures value { IfOk result (λ text. text.items ≡ srec_text image.now) }
+    ensures image { OnOk result (IsImage image.now) }
 
     // Reading the text again gives the image with its start, and it is short enough to be read.
     ensures again { IfOk result (λ text. IsAccepted text.items (whole_of image.now)) }

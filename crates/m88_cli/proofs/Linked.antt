@@ -1,0 +1,49 @@
+-- What a source is assembled and linked into answers it.
+use Rattle.std.proofs.Common.{◌≡◌, List, ℕ, ap, sym, ◌∙◌, subst}
+use Rattle.m88_base.specs.Image.{IsImage, ProgramImage, byte_at}
+use Rattle.m88_base.proofs.SameRuns.{same_images}
+use Rattle.m88_link.specs.ObjectText.{objects_text}
+use Rattle.m88_link.specs.declared.object.Object.{Object}
+use Rattle.m88_asm.specs.Images.{IsUnitImage, unit_byte, unit_start}
+use Rattle.m88_parse.proofs.Law.Faults.{one_answer}
+use Rattle.m88_srec.specs.Written.{srec_text}
+use Rattle.m88_parse.specs.declared.unit.Unit.{Unit as Source}
+use Rattle.m88_cli.specs.Answer.{IsAnswerToAccepted}
+use Rattle.m88_cli.specs.Assembly.{IsSourceImage}
+use Rattle.m88_cli.specs.Linking.{HoldsUnit, IsObjectsOf}
+use Rattle.m88_cli.specs.declared.commands.Command.TheVariants.{Asm, Build}
+
+-- the text of its objects
+pub assembled : (source text : List ℕ) (objects : List Object) → IsObjectsOf source objects → text ≡ objects_text objects
+    → IsAnswerToAccepted Asm source text
+assembled source text objects of_source is = record {
+  accepted = record { unit = of_source.unit; is_unit = of_source.is_unit; is_assembled = of_source.is_assembled };
+  output = record {
+    unit = of_source.unit;
+    is_unit = of_source.is_unit;
+    only = λ other is_too. (one_answer source).one_unit other of_source.unit is_too of_source.is_unit;
+    is_text = is ∙ ap objects_text of_source.objects_are;
+  };
+}
+
+-- a unit has one image
+one_image : (u : Source) (i j : ProgramImage) → IsUnitImage u i → IsUnitImage u j → i ≡ j
+one_image u i j a b =
+    same_images i j a.is_image.apart b.is_image.apart (a.start ∙ sym b.start) (λ n. a.bytes n ∙ sym (b.bytes n))
+
+-- the records of its image
+pub linked : (source text : List ℕ) (image : ProgramImage) → HoldsUnit source image → IsImage image → text ≡ srec_text image
+    → IsAnswerToAccepted Build source text
+linked source text image holds is_image is =
+    let own : IsUnitImage holds.unit image = record { is_image = is_image; bytes = holds.bytes; start = holds.start } in
+    record {
+      accepted = record { unit = holds.unit; is_unit = holds.is_unit; is_accepted = holds.is_accepted };
+      output = record {
+        image = image;
+        of_source = record { unit = holds.unit; is_unit = holds.is_unit; is_image = own };
+        only = λ other is_too.
+            let unit = (one_answer source).one_unit is_too.unit holds.unit is_too.is_unit holds.is_unit in
+            one_image holds.unit other image (subst (λ u. IsUnitImage u other) unit is_too.is_image) own;
+        is_text = is;
+      };
+    }

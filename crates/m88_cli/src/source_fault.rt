@@ -1,0 +1,83 @@
+//! Why a source is refused, and the line that says so.
+ghost use Rattle.std.specs.Prelude.{◌≡◌, ◌≢◌, IfOk, false};
+ghost use Rattle.m88_asm.specs.Fault.{memory_ran_out};
+ghost use Rattle.m88_link.specs.Faults.{memory_fault};
+ghost use Rattle.m88_parse.specs.Fault.{out_of_memory};
+ghost use Rattle.m88_cli.specs.Assembly.{asm_refusal, link_refusal, parse_refusal};
+ghost use Rattle.m88_cli.specs.Refusal.{refusal_line};
+ghost use Rattle.m88_cli.specs.SourceFault.{IsTold, refusal_of};
+
+use crate::reply::{Reply, refusal};
+use m88_asm::{AsmFault, AsmKind, UnitFault};
+use m88_link::{LinkFault, LinkKind};
+use m88_parse::{ParseFault, ParseKind};
+use std::alloc::{AllocError, Global};
+
+/// The first fault of a source.
+#[derive(Clone, Copy, PartialEq, Eq, Debug)]
+pub enum SourceFault {
+    /// The first fault of its lines.
+    Parse(ParseFault),
+    /// The first fault of the unit that they write.
+    Unit(UnitFault),
+}
+
+/// The reply that refuses a source, unless the fault is that memory ran out.
+pub fn refuse(alloc: Global, fault: SourceFault) -> Result<Reply, AllocError>
+    ensures line { IfOk result (λ reply. reply.text.items ≡ refusal_line (refusal_of fault)) }
+    ensures refused { IfOk result (λ reply. reply.accepted ≡ false) }
+    ensures told { IfOk result (λ _. IsTold fault) }
+{
+    let text = line_of(alloc, fault)?;
+    Ok(Reply {
+        accepted: false,
+        text,
+    })
+}
+
+/// The line that refuses a source, unless the fault is that memory ran out.
+fn line_of(alloc: Global, fault: SourceFault) -> Result<Vec<u8>, AllocError>
+    ensures line { IfOk result (λ text. text.items ≡ refusal_line (refusal_of fault)) }
+    ensures told { IfOk result (λ _. IsTold fault) }
+{
+    match fault {
+        SourceFault::Parse(fault) => unread(alloc, fault),
+        SourceFault::Unit(UnitFault::Asm(fault)) => unassembled(alloc, fault),
+        SourceFault::Unit(UnitFault::Link(fault)) => unlinked(alloc, fault),
+    }
+}
+
+/// The line that refuses a source for a fault of its lines.
+fn unread(alloc: Global, fault: ParseFault) -> Result<Vec<u8>, AllocError>
+    ensures line { IfOk result (λ text. text.items ≡ refusal_line (parse_refusal fault)) }
+    ensures told { IfOk result (λ _. fault ≢ out_of_memory) }
+{
+    if fault.kind == ParseKind::Memory {
+        return Err(AllocError);
+    }
+    refusal(alloc, fault.line, fault.col, fault.kind.reason().as_bytes())
+}
+
+/// The line that refuses a source for a fault of its statements.
+fn unassembled(alloc: Global, fault: AsmFault) -> Result<Vec<u8>, AllocError>
+    ensures line { IfOk result (λ text. text.items ≡ refusal_line (asm_refusal fault)) }
+    ensures told { IfOk result (λ _. fault ≢ memory_ran_out) }
+{
+    if fault.kind == AsmKind::Memory {
+        return Err(AllocError);
+    }
+    let reason = fault.kind.to_string(alloc)?;
+    refusal(alloc, fault.line, fault.col, reason.as_bytes())
+}
+
+/// The line that refuses a source for a fault of its layout.
+fn unlinked(alloc: Global, fault: LinkFault) -> Result<Vec<u8>, AllocError>
+    ensures line { IfOk result (λ text. text.items ≡ refusal_line (link_refusal fault)) }
+    ensures told { IfOk result (λ _. fault ≢ memory_fault) }
+{
+    if fault.kind == LinkKind::Memory {
+        return Err(AllocError);
+    }
+    let reason = fault.kind.to_string(alloc)?;
+    refusal(alloc, fault.line, fault.col, reason.as_bytes())
+}
