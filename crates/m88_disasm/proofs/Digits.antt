@@ -1,5 +1,5 @@
 -- The eight hexadecimal digits of a word, appended one by one.
-use Rattle.std.proofs.Common.{◌≡◌, ℕ, ◌/◌, ◌%◌, ◌^◌, ◌<◌, List, [], ◌∷◌, ◌++◌, codes, ap, sym, ◌∙◌, append_assoc, arith}
+use Rattle.std.proofs.Common.{◌≡◌, ℕ, ◌/◌, ◌%◌, ◌^◌, ◌<◌, List, [], ◌∷◌, ◌++◌, codes, ap, ◌∙◌, append_assoc, arith}
 use Rattle.m88_base.specs.Hex.{hex_digit}
 use Rattle.m88_disasm.specs.Text.{word_text}
 

@@ -2,7 +2,6 @@
 use Rattle.std.proofs.Common.{◌≡◌, ℕ, ◌+◌, ◌<◌, ◌≤◌, List, [], ◌∷◌, ◌++◌, length, take, drop, get_or, sym, refl, ap, subst, ◌∙◌, append_assoc, append-nil, arith}
 use Rattle.std.specs.Prelude.{Some, slice_get}
 use Rattle.std.specs.Int.{from_be_bytes, w32}
-use Rattle.std.specs.List.{flat_map}
 use Rattle.std.proofs.lemmas.List.{at_drop_more, drop-drop, drop_all}
 use Rattle.std.proofs.lemmas.Option.{get_or_from_slice_get, slice_get_within}
 use Rattle.std.proofs.lemmas.List.Concat.{flat_map-append}
@@ -59,6 +58,11 @@ byte_first at (b ∷ bytes) old new some none e =
       text_is = line_before old new (byte_line b) lines e;
     }
 
+-- the same lines, of a text that is equal
+retold : (Are : List (List ℕ) → Type 0) (old new same : List ℕ) → same ≡ new → LinesAppended Are old new
+    → LinesAppended Are old same
+retold Are old new same e l = record { lines = l.lines; are = l.are; text_is = e ∙ l.text_is }
+
 -- nothing is appended yet
 pub none_yet : (at : ℕ) (bytes old : List ℕ) → BytesAppended at bytes old old 0
 none_yet at bytes old =
@@ -77,7 +81,7 @@ more_bytes at m n bytes rest t0 t1 t2 rest_is first second =
     let next : LinesAppended (AreLines (at + m) rest) t1 (t2 ++ text_of_lines lines) = second lines are_left in
     let whole : LinesAppended (AreLines at bytes) t0 (t1 ++ text_of_lines next.lines) =
     first next.lines (subst (λ (xs : List ℕ). AreLines (at + m) xs next.lines) rest_is next.are) in
-    record { lines = whole.lines; are = whole.are; text_is = next.text_is ∙ whole.text_is }
+    retold (AreLines at bytes) t0 (t1 ++ text_of_lines next.lines) (t2 ++ text_of_lines lines) next.text_is whole
 
 -- all lines are there
 pub all_bytes : (at n : ℕ) (bytes old new : List ℕ) → length bytes ≤ n → BytesAppended at bytes old new n
@@ -85,8 +89,7 @@ pub all_bytes : (at n : ℕ) (bytes old new : List ℕ) → length bytes ≤ n �
 all_bytes at n bytes old new past so_far =
     let none_left : AreLines (at + n) (drop n bytes) [] =
     subst (λ (xs : List ℕ). AreLines (at + n) xs []) (sym (drop_all n bytes past)) no_line in
-    let whole : LinesAppended (AreLines at bytes) old (new ++ []) = so_far [] none_left in
-    record { lines = whole.lines; are = whole.are; text_is = sym (append-nil new) ∙ whole.text_is }
+    retold (AreLines at bytes) old (new ++ []) new (sym (append-nil new)) (so_far [] none_left)
 
 -- no part is appended yet
 pub no_parts_yet : (runs : List Placed) (old : List ℕ) → PartsAppended runs old old 0
@@ -118,12 +121,8 @@ more_parts runs k run t0 t1 t2 t3 found before place l =
     let all : List (List ℕ) = place_line run.at ∷ (l.lines ++ more) in
     let are_all : ArePartLines (drop k runs) all =
     subst (λ (rs : List Placed). ArePartLines rs all) (sym (part_next runs k run found)) (part l.are are) in
-    let whole : LinesAppended (ArePartLines runs) t0 (t1 ++ text_of_lines all) = before all are_all in
-    record {
-      lines = whole.lines;
-      are = whole.are;
-      text_is = part_text t1 t2 t3 (place_line run.at) l.lines more place l.text_is ∙ whole.text_is;
-    }
+    retold (ArePartLines runs) t0 (t1 ++ text_of_lines all) (t3 ++ text_of_lines more)
+    (part_text t1 t2 t3 (place_line run.at) l.lines more place l.text_is) (before all are_all)
 
 -- all parts are there
 pub all_parts : (runs : List Placed) (n : ℕ) (old new : List ℕ) → length runs ≤ n → PartsAppended runs old new n
@@ -131,8 +130,7 @@ pub all_parts : (runs : List Placed) (n : ℕ) (old new : List ℕ) → length r
 all_parts runs n old new past so_far =
     let none_left : ArePartLines (drop n runs) [] =
     subst (λ (rs : List Placed). ArePartLines rs []) (sym (drop_all n runs past)) no_part in
-    let whole : LinesAppended (ArePartLines runs) old (new ++ []) = so_far [] none_left in
-    record { lines = whole.lines; are = whole.are; text_is = sym (append-nil new) ∙ whole.text_is }
+    retold (ArePartLines runs) old (new ++ []) new (sym (append-nil new)) (so_far [] none_left)
 
 -- the start and the parts are the listing
 pub start_and_parts : (image : ProgramImage) (start : ℕ) (t0 t1 t2 : List ℕ) → start ≡ image.start → t0 ≡ []

@@ -6,6 +6,8 @@
 mod lister;
 mod mnemonics;
 mod put;
+#[cfg(test)]
+mod tests;
 mod text;
 
 pub use lister::listing;

@@ -193,7 +193,11 @@ pub fn of_branch_bit(set: bool, delayed: bool) -> Mnemonic
 pub fn of_branch_cond(delayed: bool) -> Mnemonic
     ensures { result ≡ of_branch_cond delayed }
 {
-    if delayed { Mnemonic::BcndN } else { Mnemonic::Bcnd }
+    if delayed {
+        Mnemonic::BcndN
+    } else {
+        Mnemonic::Bcnd
+    }
 }
 
 /// The mnemonic of a jump, with a link or not, with a delay slot or not.
@@ -219,14 +223,22 @@ pub fn of_trap_bit(set: bool) -> Mnemonic
 pub fn of_ldcr(float: bool) -> Mnemonic
     ensures { result ≡ of_ldcr float }
 {
-    if float { Mnemonic::Fldcr } else { Mnemonic::Ldcr }
+    if float {
+        Mnemonic::Fldcr
+    } else {
+        Mnemonic::Ldcr
+    }
 }
 
 /// The mnemonic of the write of a control register, of the floating-point unit or not.
 pub fn of_stcr(float: bool) -> Mnemonic
     ensures { result ≡ of_stcr float }
 {
-    if float { Mnemonic::Fstcr } else { Mnemonic::Stcr }
+    if float {
+        Mnemonic::Fstcr
+    } else {
+        Mnemonic::Stcr
+    }
 }
 
 /// The mnemonic of the exchange of a control register, of the floating-point unit or not.

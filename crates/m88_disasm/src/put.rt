@@ -124,13 +124,8 @@ pub fn put_target(text: &mut ArrayString<48>, words: i32)
     requires room { length text.old.bytes ≤ 36 }
     ensures { text.new.bytes ≡ text.old.bytes ++ target words }
 {
-    if words < 0 {
-        text.push_str(".-");
-        put_long(text, 4 * words.unsigned_abs());
-    } else {
-        text.push_str(".+");
-        put_long(text, 4 * words.unsigned_abs());
-    }
+    text.push_str(if words < 0 { ".-" } else { ".+" });
+    put_long(text, 4 * words.unsigned_abs());
 }
 
 /// Appends the digit of a number below 16.
