@@ -1,0 +1,4 @@
+pub mod Mnemonics
+pub mod Text
+pub mod Listing
+pub mod Appended

@@ -1,0 +1,281 @@
+//! The text of an instruction, form by form.
+ghost use Rattle.std.specs.Prelude.{◌≡◌, ◌∷◌, [], decimal};
+ghost use Rattle.m88_isa.specs.Instr.{FitsWords, IsValid};
+ghost use Rattle.m88_disasm.specs.Mnemonics.{of_bits, of_xcr};
+ghost use Rattle.m88_disasm.specs.Text.{condition, control, field, index_operands, instr_text, register, scaled, spelled, target, word_text};
+
+use super::mnemonics::{
+    of_bits, of_branch, of_branch_bit, of_branch_cond, of_find, of_imm, of_index, of_jump, of_lda,
+    of_ldcr, of_mem, of_reg, of_stcr, of_trap_bit, of_xcr,
+};
+use super::put::{
+    begun, put_condition, put_control, put_field, put_half, put_register, put_scaled, put_short,
+    put_target, put_word,
+};
+use arrayvec::ArrayString;
+use m88_base::Reg;
+use m88_codec::encode;
+use m88_isa::{BitOp, Instr, Mnemonic};
+
+/// rD,rS1 and a number.
+fn immediate(mnemonic: Mnemonic, d: Reg, s1: Reg, imm: u16) -> ArrayString<48>
+    ensures { result.bytes ≡ spelled mnemonic (register d ∷ register s1 ∷ decimal imm ∷ []) }
+{
+    let mut text = begun(mnemonic);
+    put_register(&mut text, d);
+    text.push_str(",");
+    put_register(&mut text, s1);
+    text.push_str(",");
+    put_half(&mut text, imm);
+    text
+}
+
+/// rD,rS1,rS2
+fn registers(mnemonic: Mnemonic, d: Reg, s1: Reg, s2: Reg) -> ArrayString<48>
+    ensures { result.bytes ≡ spelled mnemonic (register d ∷ register s1 ∷ register s2 ∷ []) }
+{
+    let mut text = begun(mnemonic);
+    put_register(&mut text, d);
+    text.push_str(",");
+    put_register(&mut text, s1);
+    text.push_str(",");
+    put_register(&mut text, s2);
+    text
+}
+
+/// rD,rS1[rS2]
+fn scaled_index(mnemonic: Mnemonic, d: Reg, s1: Reg, s2: Reg) -> ArrayString<48>
+    ensures { result.bytes ≡ spelled mnemonic (register d ∷ scaled s1 s2 ∷ []) }
+{
+    let mut text = begun(mnemonic);
+    put_register(&mut text, d);
+    text.push_str(",");
+    put_scaled(&mut text, s1, s2);
+    text
+}
+
+/// rD,rS1[rS2] or rD,rS1,rS2.
+fn index(mnemonic: Mnemonic, d: Reg, s1: Reg, s2: Reg, is_scaled: bool) -> ArrayString<48>
+    ensures { result.bytes ≡ spelled mnemonic (index_operands d s1 s2 is_scaled) }
+{
+    if is_scaled {
+        scaled_index(mnemonic, d, s1, s2)
+    } else {
+        registers(mnemonic, d, s1, s2)
+    }
+}
+
+/// rD,rS1 and a literal bit field.
+fn literal(op: BitOp, d: Reg, s1: Reg, width: u8, offset: u8) -> ArrayString<48>
+    ensures { result.bytes ≡ spelled (of_bits op) (register d ∷ register s1 ∷ field op width offset ∷ []) }
+{
+    let mut text = begun(of_bits(op));
+    put_register(&mut text, d);
+    text.push_str(",");
+    put_register(&mut text, s1);
+    text.push_str(",");
+    put_field(&mut text, op, width, offset);
+    text
+}
+
+/// Two registers.
+fn pair(mnemonic: Mnemonic, first: Reg, second: Reg) -> ArrayString<48>
+    ensures { result.bytes ≡ spelled mnemonic (register first ∷ register second ∷ []) }
+{
+    let mut text = begun(mnemonic);
+    put_register(&mut text, first);
+    text.push_str(",");
+    put_register(&mut text, second);
+    text
+}
+
+/// A target.
+fn branch(mnemonic: Mnemonic, words: i32) -> ArrayString<48>
+    requires { FitsWords 25 words }
+    ensures { result.bytes ≡ spelled mnemonic (target words ∷ []) }
+{
+    let mut text = begun(mnemonic);
+    put_target(&mut text, words);
+    text
+}
+
+/// A bit, rS1 and a target.
+fn branch_on_bit(mnemonic: Mnemonic, bit: u8, s1: Reg, words: i16) -> ArrayString<48>
+    ensures { result.bytes ≡ spelled mnemonic (decimal bit ∷ register s1 ∷ target words ∷ []) }
+{
+    let mut text = begun(mnemonic);
+    put_short(&mut text, bit);
+    text.push_str(",");
+    put_register(&mut text, s1);
+    text.push_str(",");
+    put_target(&mut text, words as i32);
+    text
+}
+
+/// A condition, rS1 and a target.
+fn branch_on_condition(mnemonic: Mnemonic, mask: u8, s1: Reg, words: i16) -> ArrayString<48>
+    ensures { result.bytes ≡ spelled mnemonic (condition mask ∷ register s1 ∷ target words ∷ []) }
+{
+    let mut text = begun(mnemonic);
+    put_condition(&mut text, mask);
+    text.push_str(",");
+    put_register(&mut text, s1);
+    text.push_str(",");
+    put_target(&mut text, words as i32);
+    text
+}
+
+/// One register.
+fn single(mnemonic: Mnemonic, r: Reg) -> ArrayString<48>
+    ensures { result.bytes ≡ spelled mnemonic (register r ∷ []) }
+{
+    let mut text = begun(mnemonic);
+    put_register(&mut text, r);
+    text
+}
+
+/// A bit, rS1 and a vector.
+fn trap_on_bit(mnemonic: Mnemonic, bit: u8, s1: Reg, vector: u16) -> ArrayString<48>
+    ensures { result.bytes ≡ spelled mnemonic (decimal bit ∷ register s1 ∷ decimal vector ∷ []) }
+{
+    let mut text = begun(mnemonic);
+    put_short(&mut text, bit);
+    text.push_str(",");
+    put_register(&mut text, s1);
+    text.push_str(",");
+    put_half(&mut text, vector);
+    text
+}
+
+/// A condition, rS1 and a vector.
+fn trap_on_condition(mask: u8, s1: Reg, vector: u16) -> ArrayString<48>
+    ensures { result.bytes ≡ spelled Mnemonic.Tcnd (condition mask ∷ register s1 ∷ decimal vector ∷ []) }
+{
+    let mut text = begun(Mnemonic::Tcnd);
+    put_condition(&mut text, mask);
+    text.push_str(",");
+    put_register(&mut text, s1);
+    text.push_str(",");
+    put_half(&mut text, vector);
+    text
+}
+
+/// rS1 and a number.
+fn bound(s1: Reg, imm: u16) -> ArrayString<48>
+    ensures { result.bytes ≡ spelled Mnemonic.Tbnd (register s1 ∷ decimal imm ∷ []) }
+{
+    let mut text = begun(Mnemonic::Tbnd);
+    put_register(&mut text, s1);
+    text.push_str(",");
+    put_half(&mut text, imm);
+    text
+}
+
+/// The mnemonic alone.
+#[tactic(auto, using(crate::proofs::Names::name_short))]
+fn alone(mnemonic: Mnemonic) -> ArrayString<48>
+    ensures { result.bytes ≡ spelled mnemonic [] }
+{
+    let mut text = ArrayString::new();
+    text.push_str(mnemonic.text());
+    text
+}
+
+/// A register and a control register.
+fn with_control(mnemonic: Mnemonic, r: Reg, float: bool, cr: u8) -> ArrayString<48>
+    ensures { result.bytes ≡ spelled mnemonic (register r ∷ control float cr ∷ []) }
+{
+    let mut text = begun(mnemonic);
+    put_register(&mut text, r);
+    text.push_str(",");
+    put_control(&mut text, float, cr);
+    text
+}
+
+/// Two registers and a control register.
+fn exchange(d: Reg, s1: Reg, cr: u8, float: bool) -> ArrayString<48>
+    ensures { result.bytes ≡ spelled (of_xcr float) (register d ∷ register s1 ∷ control float cr ∷ []) }
+{
+    let mut text = begun(of_xcr(float));
+    put_register(&mut text, d);
+    text.push_str(",");
+    put_register(&mut text, s1);
+    text.push_str(",");
+    put_control(&mut text, float, cr);
+    text
+}
+
+/// A word by itself.
+fn word(word: u32) -> ArrayString<48>
+    ensures { result.bytes ≡ word_text word }
+{
+    let mut text = ArrayString::new();
+    put_word(&mut text, word);
+    text
+}
+
+/// The text of an instruction in the assembly language: its mnemonic, a blank, and its operands with a comma between
+/// each two and no other blank ("Instruction Set": the assembler syntax of each instruction). A branch names its
+/// target by the distance in bytes from itself, and a word of a special function unit is written by itself.
+#[tactic(auto, unfolding(crate::specs::Text::instr_text))]
+pub fn text_of(instr: &Instr) -> ArrayString<48>
+    requires { IsValid instr.now }
+    ensures { result.bytes ≡ instr_text instr.now }
+{
+    match *instr {
+        Instr::Imm { op, d, s1, imm } => immediate(of_imm(op), d, s1, imm),
+        Instr::MemImm { op, d, s1, imm } => immediate(of_mem(op), d, s1, imm),
+        Instr::Regs { op, d, s1, s2 } => registers(of_reg(op), d, s1, s2),
+        Instr::MemReg {
+            op,
+            d,
+            s1,
+            s2,
+            scaled,
+            usr,
+        } => index(of_index(op, usr), d, s1, s2, scaled),
+        Instr::Lda { size, d, s1, s2 } => scaled_index(of_lda(size), d, s1, s2),
+        Instr::BitLit {
+            op,
+            d,
+            s1,
+            width,
+            offset,
+        } => literal(op, d, s1, width, offset),
+        Instr::BitReg { op, d, s1, s2 } => registers(of_bits(op), d, s1, s2),
+        Instr::Find { ones, d, s2 } => pair(of_find(ones), d, s2),
+        Instr::Branch {
+            link,
+            delayed,
+            words,
+        } => branch(of_branch(link, delayed), words),
+        Instr::BranchBit {
+            set,
+            delayed,
+            bit,
+            s1,
+            words,
+        } => branch_on_bit(of_branch_bit(set, delayed), bit, s1, words),
+        Instr::BranchCond {
+            delayed,
+            mask,
+            s1,
+            words,
+        } => branch_on_condition(of_branch_cond(delayed), mask, s1, words),
+        Instr::Jump { link, delayed, s2 } => single(of_jump(link, delayed), s2),
+        Instr::TrapBit {
+            set,
+            bit,
+            s1,
+            vector,
+        } => trap_on_bit(of_trap_bit(set), bit, s1, vector),
+        Instr::TrapCond { mask, s1, vector } => trap_on_condition(mask, s1, vector),
+        Instr::BoundImm { s1, imm } => bound(s1, imm),
+        Instr::BoundReg { s1, s2 } => pair(Mnemonic::Tbnd, s1, s2),
+        Instr::Rte => alone(Mnemonic::Rte),
+        Instr::Ldcr { d, cr, float } => with_control(of_ldcr(float), d, float, cr),
+        Instr::Stcr { s1, cr, float } => with_control(of_stcr(float), s1, float, cr),
+        Instr::Xcr { d, s1, cr, float } => exchange(d, s1, cr, float),
+        Instr::Sfu { .. } => word(encode(instr)),
+    }
+}
