@@ -1,5 +1,5 @@
 -- The law of forms: what is read by a form is what each of its slots is related to, and the other way round.
-use Rattle.std.proofs.Common.{◌≡◌, ◌↔◌, ℕ, ◌<◌, ◌^◌, Bool, true, false, List, [], ◌∷◌, ◌++◌, Ok, Result, refl, sym, ap, ◌∙◌, arith, subst, append-nil}
+use Rattle.std.proofs.Common.{◌≡◌, ◌↔◌, ℕ, ◌<◌, ◌^◌, Bool, List, [], ◌∷◌, ◌++◌, Ok, Result, refl, sym, ap, ◌∙◌, arith, subst, append-nil}
 use Rattle.std.proofs.Math.Pow.{suc_ones}
 use Rattle.m88_base.specs.declared.reg.Reg.{Reg}
 use Rattle.m88_base.specs.declared.fixup.Kind.TheVariants.{Abs32}
@@ -8,12 +8,9 @@ use Rattle.m88_parse.specs.declared.unit.Body.{Body}
 use Rattle.m88_parse.specs.declared.unit.Value.{Value}
 use Rattle.m88_parse.specs.declared.operand.Immediate.{Immediate}
 use Rattle.m88_parse.specs.declared.operand.Operand.{Operand}
-use Rattle.m88_parse.specs.declared.operand.Operand.TheVariants as operand
 use Rattle.m88_parse.specs.declared.operand.Bound.{Bound}
 use Rattle.m88_parse.specs.declared.operand.Index.{Index}
-use Rattle.m88_parse.specs.declared.operand.Index.TheVariants as index
 use Rattle.m88_parse.specs.declared.operand.Field.{Field}
-use Rattle.m88_parse.specs.declared.operand.Field.TheVariants as field
 use Rattle.m88_parse.specs.declared.operand.Goal.{Goal}
 use Rattle.m88_parse.specs.Language.Pieces.{Piece}
 use Rattle.m88_parse.specs.Reader.State.{ReaderState, ◌>>=◌}
@@ -25,8 +22,8 @@ use Rattle.m88_parse.specs.Language.Operands.{IsScaled, IsSigned, IsValue}
 use Rattle.m88_parse.specs.Language.Statements.{AreParted}
 use Rattle.m88_parse.proofs.Law.Slots.{st, ok_same, bind_ok, bind_to, mark_read, mark_again, end_read, Naming, OneToken, slot_read, slot_again, IsUpTo, one_number, one_register, one_control, one_bit, one_mask, IsSymbolAt, one_symbol, IsText, one_text, IsPower, one_alignment}
 use Rattle.m88_parse.proofs.Law.Values.{Several, IsWhole, whole_read, whole_again}
-use Rattle.m88_parse.proofs.Law.Operands.{IsImmediateOf, immediate_read, immediate_again, IsOperandOf, operand_read, operand_register_again, operand_immediate_again, IsBoundOf, one_bound}
-use Rattle.m88_parse.proofs.Law.Indices.{scaled_read, scaled_again, IsIndexOf, index_read, index_scaled_again, index_offset_again, IsUserIndexOf, user_index_read, user_scaled_again, user_plain_again, IsFieldOf, field_read, field_register_again, field_literal_again}
+use Rattle.m88_parse.proofs.Law.Operands.{IsImmediateOf, immediate_read, immediate_again, IsOperandOf, operand_read, operand_again, IsBoundOf, one_bound}
+use Rattle.m88_parse.proofs.Law.Indices.{scaled_read, scaled_again, IsIndexOf, index_read, index_again, IsUserIndexOf, user_index_read, user_index_again, IsFieldOf, field_read, field_again}
 use Rattle.m88_parse.proofs.Law.Goals.{IsGoalOf, goal_read, goal_again}
 use Rattle.m88_parse.proofs.Law.Lists.{list_read, list_again, word_reads, word_reads_all, part_reads, part_reads_all}
 
@@ -129,22 +126,6 @@ last_law A Is made line e ps r b read again =
 whole_last : (low most line e : ℕ) (ps : List Piece) (n : ℕ) → IsWhole low most ps n → signed_at low most (st line e ps) ≡ Ok (n, st line e [])
 whole_last low most line e ps n w = ap (λ (qs : List Piece). signed_at low most (st line e qs)) (sym (append-nil ps)) ∙ whole_again low most line e ps [] n w
 
-operand_last : (line e : ℕ) (ps : List Piece) (x : Operand) → IsOperandOf ps x → operand_at (st line e ps) ≡ Ok (x, st line e [])
-operand_last line e ps (operand.Register r) w = operand_register_again line e r ps w
-operand_last line e ps (operand.Immediate x) w = operand_immediate_again line e ps x.imm x.fixup w
-
-index_last : (line e : ℕ) (ps : List Piece) (x : Index) → IsIndexOf ps x → index_at (st line e ps) ≡ Ok (x, st line e [])
-index_last line e ps (index.Scaled r) w = index_scaled_again line e r ps w
-index_last line e ps (index.Offset x) w = ap (λ (qs : List Piece). index_at (st line e qs)) w.2 ∙ index_offset_again line e w.0 w.1 x w.3 (operand_last line e w.1 x w.4)
-
-user_index_last : (line e : ℕ) (ps : List Piece) (r : Reg) (t : Bool) → IsUserIndexOf ps (r, t) → user_index_at (st line e ps) ≡ Ok ((r, t), st line e [])
-user_index_last line e ps r true w = user_scaled_again line e r ps w
-user_index_last line e ps r false w = ap (λ (qs : List Piece). user_index_at (st line e qs)) w.2 ∙ user_plain_again line e r w.0 (w.1 ∷ []) w.3 w.4
-
-field_last : (most line e : ℕ) (ps : List Piece) (x : Field) → IsFieldOf most ps x → field_at most (st line e ps) ≡ Ok (x, st line e [])
-field_last most line e ps (field.Register r) w = field_register_again most line e r ps w
-field_last most line e ps (field.Literal width offset) w = field_literal_again most line e width offset ps w
-
 some_words : (bits : ℕ) → 0 < 2 ^ bits
 some_words bits = subst (λ (n : ℕ). 0 < n) (suc_ones bits) (omega arith)
 
@@ -165,12 +146,12 @@ form_law (bound_then form) line e ps b = slot_law (one_bound line e) (λ x. read
 form_law (text_then form) line e ps b = slot_law (one_text line e) (λ x. read (form x)) (λ x qs. Meets (form x) qs b) ps b (λ x qs. form_law (form x) line e qs b)
 form_law (signed_ends low most made) line e ps b = last_law ℕ (IsWhole low most) made line e ps (signed_at low most (st line e ps)) b (whole_read low most line e ps) (whole_last low most line e ps)
 form_law (immediate_ends made) line e ps b = last_law Immediate IsImmediateOf made line e ps (immediate_at (st line e ps)) b (immediate_read line e ps) (λ x. immediate_again line e ps x.imm x.fixup)
-form_law (operand_ends made) line e ps b = last_law Operand IsOperandOf made line e ps (operand_at (st line e ps)) b (operand_read line e ps) (operand_last line e ps)
+form_law (operand_ends made) line e ps b = last_law Operand IsOperandOf made line e ps (operand_at (st line e ps)) b (operand_read line e ps) (operand_again line e ps)
 form_law (scaled_ends made) line e ps b = last_law Reg (λ qs r. IsScaled r qs) made line e ps (scaled_at (st line e ps)) b (scaled_read line e ps) (λ r. scaled_again line e r ps)
-form_law (index_ends made) line e ps b = last_law Index IsIndexOf made line e ps (index_at (st line e ps)) b (index_read line e ps) (index_last line e ps)
+form_law (index_ends made) line e ps b = last_law Index IsIndexOf made line e ps (index_at (st line e ps)) b (index_read line e ps) (index_again line e ps)
 form_law (user_index_ends made) line e ps b =
-    last_law (Reg × Bool) IsUserIndexOf (λ x. made x.0 x.1) line e ps (user_index_at (st line e ps)) b (user_index_read line e ps) (λ x. user_index_last line e ps x.0 x.1)
-form_law (field_ends most made) line e ps b = last_law Field (IsFieldOf most) made line e ps (field_at most (st line e ps)) b (field_read most line e ps) (field_last most line e ps)
+    last_law (Reg × Bool) IsUserIndexOf (λ x. made x.0 x.1) line e ps (user_index_at (st line e ps)) b (user_index_read line e ps) (λ x. user_index_again line e ps x.0 x.1)
+form_law (field_ends most made) line e ps b = last_law Field (IsFieldOf most) made line e ps (field_at most (st line e ps)) b (field_read most line e ps) (field_again most line e ps)
 form_law (goal_ends kind bits made) line e ps b =
     last_law Goal (IsGoalOf kind bits) made line e ps (goal_at kind (2 ^ bits) (st line e ps)) b
     (λ x. goal_read kind bits (2 ^ bits) line e ps x refl (some_words bits)) (λ x. goal_again kind bits (2 ^ bits) line e ps x.words x.fixup refl)
