@@ -21,7 +21,7 @@ use Rattle.m88_parse.proofs.Law.Steps.{chosen, take_else}
 use Rattle.m88_parse.proofs.Law.Names.{some_same}
 use Rattle.m88_parse.proofs.Law.Slots.{st}
 use Rattle.m88_parse.proofs.Law.Values.{word_signed, signed_word}
-use Rattle.m88_parse.proofs.Law.Forms.{Meets, form_reads, form_meets}
+use Rattle.m88_parse.proofs.Law.Forms.{Meets, form_law}
 use Rattle.m88_parse.proofs.Law.Codes.{first_met, only_met, met_one, met_first, operands_met, met_operands}
 
 -- the names of operations
@@ -82,12 +82,12 @@ directive_met directive.Set p ps c n h =
     moved p ps (k.piece ∷ k.comma ∷ k.rest) (body.Set k.value.0 k.piece.col v.0) c k.tokens (ap (λ (col : ℕ). body.Set k.value.0 col v.0) (sym k.is.1) ∙ v.2) (set n k.is.0 k.parted (word_signed k.rest v.0 v.1))
 
 instruction_read : (m : Mnemonic) (line e : ℕ) (p : Piece) (ps : List Piece) (c : Body) → IsNamed (text_of m) p → read (instruction_form m) (st line e ps) ≡ Ok c → IsBody (p ∷ ps) c
-instruction_read m line e p ps c n h = let k = operands_met (shape_of m) ps c (form_reads (form_of (shape_of m)) line e ps c h) in subst (IsBody (p ∷ ps)) k.body_is (code m n k.operands)
+instruction_read m line e p ps c n h = let k = operands_met (shape_of m) ps c ((form_law (form_of (shape_of m)) line e ps c).0 h) in subst (IsBody (p ∷ ps)) k.body_is (code m n k.operands)
 
 form_read : (line e : ℕ) (p : Piece) (ps : List Piece) (name : List ℕ) (m : Option Mnemonic) (d : Option Directive) (c : Body) → IsNamed name p → mnemonic_of name ≡ m → directive_of name ≡ d
     → by_form (st line e (p ∷ ps)) (form_in m d) ≡ Ok c → IsBody (p ∷ ps) c
 form_read line e p ps name (Some m) d c n f g h = instruction_read m line e p ps c (n ∙ ap a_name (mnemonic_is name m f)) h
-form_read line e p ps name None (Some d) c n f g h = directive_met d p ps c (n ∙ ap a_name (directive_is name d g)) (form_reads (directive_form d) line e ps c h)
+form_read line e p ps name None (Some d) c n f g h = directive_met d p ps c (n ∙ ap a_name (directive_is name d g)) ((form_law (directive_form d) line e ps c).0 h)
 form_read line e p ps name None None c n f g h = absurd cc
 
 operation_by : (line e : ℕ) (p : Piece) (ps : List Piece) (m : TokenValue) (c : Body) → p.says ≡ m → operation_on (st line e (p ∷ ps)) (Some m) ≡ Ok c → IsBody (p ∷ ps) c
@@ -113,7 +113,7 @@ by_directive d line e p ps c n h =
     ap (λ (m : TokenValue). operation_on s (Some m)) n
     ∙ take_else (is_module (directive_text d)) _ _ (no_module d)
     ∙ ap₂ (λ (m : Option Mnemonic) (k : Option Directive). by_form s (form_in m k)) (no_mnemonic d) (directive_once d)
-    ∙ form_meets (directive_form d) line e ps c h
+    ∙ (form_law (directive_form d) line e ps c).1 h
 
 by_mnemonic : (m : Mnemonic) (line e : ℕ) (p : Piece) (ps : List Piece) (c : Body) → IsNamed (text_of m) p → Meets (form_of (shape_of m)) ps c → operation_at (st line e (p ∷ ps)) ≡ Ok c
 unfolding operation_at
@@ -122,7 +122,7 @@ by_mnemonic m line e p ps c n h =
     ap (λ (o : TokenValue). operation_on s (Some o)) n
     ∙ take_else (is_module (text_of m)) _ _ (no_module_mnemonic m)
     ∙ ap (λ (o : Option Mnemonic). by_form s (form_in o (directive_of (text_of m)))) (spelled_once m)
-    ∙ form_meets (form_of (shape_of m)) line e ps c h
+    ∙ (form_law (form_of (shape_of m)) line e ps c).1 h
 
 pub body_again : (line e : ℕ) (ps : List Piece) (c : Body) → IsBody ps c → operation_at (st line e ps) ≡ Ok c
 unfolding directive_text directive_form

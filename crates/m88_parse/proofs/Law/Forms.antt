@@ -1,5 +1,5 @@
 -- The law of forms: what is read by a form is what each of its slots is related to, and the other way round.
-use Rattle.std.proofs.Common.{◌≡◌, ℕ, ◌<◌, ◌^◌, Bool, true, false, List, [], ◌∷◌, ◌++◌, Ok, Result, refl, sym, ap, ◌∙◌, arith, subst, append-nil}
+use Rattle.std.proofs.Common.{◌≡◌, ◌↔◌, ℕ, ◌<◌, ◌^◌, Bool, List, [], ◌∷◌, ◌++◌, Ok, Result, refl, sym, ap, ◌∙◌, arith, subst, append-nil}
 use Rattle.std.proofs.Math.Pow.{suc_ones}
 use Rattle.m88_base.specs.declared.reg.Reg.{Reg}
 use Rattle.m88_base.specs.declared.fixup.Kind.TheVariants.{Abs32}
@@ -8,12 +8,9 @@ use Rattle.m88_parse.specs.declared.unit.Body.{Body}
 use Rattle.m88_parse.specs.declared.unit.Value.{Value}
 use Rattle.m88_parse.specs.declared.operand.Immediate.{Immediate}
 use Rattle.m88_parse.specs.declared.operand.Operand.{Operand}
-use Rattle.m88_parse.specs.declared.operand.Operand.TheVariants as operand
 use Rattle.m88_parse.specs.declared.operand.Bound.{Bound}
 use Rattle.m88_parse.specs.declared.operand.Index.{Index}
-use Rattle.m88_parse.specs.declared.operand.Index.TheVariants as index
 use Rattle.m88_parse.specs.declared.operand.Field.{Field}
-use Rattle.m88_parse.specs.declared.operand.Field.TheVariants as field
 use Rattle.m88_parse.specs.declared.operand.Goal.{Goal}
 use Rattle.m88_parse.specs.Language.Pieces.{Piece}
 use Rattle.m88_parse.specs.Reader.State.{ReaderState, ◌>>=◌}
@@ -25,8 +22,8 @@ use Rattle.m88_parse.specs.Language.Operands.{IsScaled, IsSigned, IsValue}
 use Rattle.m88_parse.specs.Language.Statements.{AreParted}
 use Rattle.m88_parse.proofs.Law.Slots.{st, ok_same, bind_ok, bind_to, mark_read, mark_again, end_read, Naming, OneToken, slot_read, slot_again, IsUpTo, one_number, one_register, one_control, one_bit, one_mask, IsSymbolAt, one_symbol, IsText, one_text, IsPower, one_alignment}
 use Rattle.m88_parse.proofs.Law.Values.{Several, IsWhole, whole_read, whole_again}
-use Rattle.m88_parse.proofs.Law.Operands.{IsImmediateOf, immediate_read, immediate_again, IsOperandOf, operand_read, operand_register_again, operand_immediate_again, IsBoundOf, one_bound}
-use Rattle.m88_parse.proofs.Law.Indices.{scaled_read, scaled_again, IsIndexOf, index_read, index_scaled_again, index_offset_again, IsUserIndexOf, user_index_read, user_scaled_again, user_plain_again, IsFieldOf, field_read, field_register_again, field_literal_again}
+use Rattle.m88_parse.proofs.Law.Operands.{IsImmediateOf, immediate_read, immediate_again, IsOperandOf, operand_read, operand_again, IsBoundOf, one_bound}
+use Rattle.m88_parse.proofs.Law.Indices.{scaled_read, scaled_again, IsIndexOf, index_read, index_again, IsUserIndexOf, user_index_read, user_index_again, IsFieldOf, field_read, field_again}
 use Rattle.m88_parse.proofs.Law.Goals.{IsGoalOf, goal_read, goal_again}
 use Rattle.m88_parse.proofs.Law.Lists.{list_read, list_again, word_reads, word_reads_all, part_reads, part_reads_all}
 
@@ -71,126 +68,96 @@ Meets (goal_ends kind bits made) ps b = Last Goal (IsGoalOf kind bits) made ps b
 Meets (words_end made) ps b = Last (List Value) (AreParted (IsValue Abs32)) made ps b
 Meets (parts_end part made) ps b = Last (List ℕ) (AreParted (IsSigned (modulus_of part))) made ps b
 
--- one slot: what is read is related
+-- one slot: what is read is related, and what is related is read
 
-end_reads : (line e : ℕ) (ps : List Piece) (b c : Body) → end_with b (st line e ps) ≡ Ok c → (ps ≡ []) × (b ≡ c)
-end_reads line e ps b c h =
-    let k = bind_ok (end_at (st line e ps)) (λ (t : ReaderState). let y : Result Body ParseFault = Ok b in y) c h in
-    (end_read line e ps k.0 k.1, ok_same k.2)
+end_law : (line e : ℕ) (ps : List Piece) (b c : Body) → (end_with b (st line e ps) ≡ Ok c) ↔ ((ps ≡ []) × (b ≡ c))
+end_law line e ps b c = (reads, λ w. ap (λ (qs : List Piece). end_with b (st line e qs)) w.0 ∙ ap (λ (x : Body). let y : Result Body ParseFault = Ok x in y) w.1)
+  where
+    reads : end_with b (st line e ps) ≡ Ok c → (ps ≡ []) × (b ≡ c)
+    reads h =
+        let k = bind_ok (end_at (st line e ps)) (λ (t : ReaderState). let y : Result Body ParseFault = Ok b in y) c h in
+        (end_read line e ps k.0 k.1, ok_same k.2)
 
-comma_reads : (next : ReaderState → Result Body ParseFault) (Next : List Piece → Type 0) (line e : ℕ) (ps : List Piece) (b : Body) → ((rest : List Piece) → next (st line e rest) ≡ Ok b → Next rest)
-    → (mark_at 44 (st line e ps) >>= next) ≡ Ok b → AfterComma Next ps
-comma_reads next Next line e ps b go h =
-    let k = bind_ok (mark_at 44 (st line e ps)) next b h in
-    let m = mark_read 44 line e ps k.0 k.1 in
-    (m.piece, m.rest, m.tokens, m.is, go m.rest (ap next (sym m.after) ∙ k.2))
+comma_law : (next : ReaderState → Result Body ParseFault) (Next : List Piece → Type 0) (line e : ℕ) (ps : List Piece) (b : Body) → ((rest : List Piece) → (next (st line e rest) ≡ Ok b) ↔ Next rest)
+    → ((mark_at 44 (st line e ps) >>= next) ≡ Ok b) ↔ AfterComma Next ps
+comma_law next Next line e ps b go = (reads, meets)
+  where
+    reads : (mark_at 44 (st line e ps) >>= next) ≡ Ok b → AfterComma Next ps
+    reads h =
+        let k = bind_ok (mark_at 44 (st line e ps)) next b h in
+        let m = mark_read 44 line e ps k.0 k.1 in
+        (m.piece, m.rest, m.tokens, m.is, (go m.rest).0 (ap next (sym m.after) ∙ k.2))
 
-slot_reads : {A : Type 0} {Is : A → Piece → Type 0} {num : Bool} {nam : Naming} {line e : ℕ} {slot : ReaderState → Read A} (o : OneToken A Is num nam line e slot) (next : A → ReaderState → Result Body ParseFault)
-    (Next : A → List Piece → Type 0) (ps : List Piece) (b : Body) → ((x : A) (rest : List Piece) → next x (st line e rest) ≡ Ok b → Next x rest) → (slot (st line e ps) >>= λ (x : A × ReaderState). next x.0 x.1) ≡ Ok b → Then A Is Next ps
-slot_reads {A = A} {line = line} {e = e} {slot = slot} o next Next ps b go h =
-    let k = bind_ok (slot (st line e ps)) (λ (x : A × ReaderState). next x.0 x.1) b h in
-    let r = slot_read o ps k.0 k.1 in
-    record { value = k.0.0; piece = r.piece; rest = r.rest; tokens = r.tokens; is = r.is; next = go k.0.0 r.rest (ap (next k.0.0) (sym r.after) ∙ k.2) }
+    meets : AfterComma Next ps → (mark_at 44 (st line e ps) >>= next) ≡ Ok b
+    meets w =
+        ap (λ (qs : List Piece). mark_at 44 (st line e qs) >>= next) w.2
+        ∙ bind_to (mark_at 44 (st line e (w.0 ∷ w.1))) next (st line e w.1) (Ok b) (mark_again 44 line e w.0 w.1 w.3) ((go w.1).1 w.4)
 
-last_reads : (A : Type 0) (Is : List Piece → A → Type 0) (made : A → Body) (line e : ℕ) (ps : List Piece) (r : Read A) (b : Body) → ((x : A × ReaderState) → r ≡ Ok x → Several A Is line e ps x)
-    → (r >>= λ (x : A × ReaderState). end_with (made x.0) x.1) ≡ Ok b → Last A Is made ps b
-last_reads A Is made line e ps r b reads h =
-    let k = bind_ok r (λ (x : A × ReaderState). end_with (made x.0) x.1) b h in
-    let w = reads k.0 k.1 in
-    let n = end_reads line e w.rest (made k.0.0) b (ap (end_with (made k.0.0)) (sym w.after) ∙ k.2) in
-    let t : ps ≡ w.front = w.tokens ∙ ap (λ (qs : List Piece). w.front ++ qs) n.0 ∙ append-nil w.front in
-    (k.0.0, subst (λ (qs : List Piece). Is qs k.0.0) (sym t) w.is, n.1)
+slot_law : {A : Type 0} {Is : A → Piece → Type 0} {num : Bool} {nam : Naming} {line e : ℕ} {slot : ReaderState → Read A} (o : OneToken A Is num nam line e slot) (next : A → ReaderState → Result Body ParseFault)
+    (Next : A → List Piece → Type 0) (ps : List Piece) (b : Body) → ((x : A) (rest : List Piece) → (next x (st line e rest) ≡ Ok b) ↔ Next x rest) → ((slot (st line e ps) >>= λ (x : A × ReaderState). next x.0 x.1) ≡ Ok b) ↔ Then A Is Next ps
+slot_law {A = A} {Is = Is} {line = line} {e = e} {slot = slot} o next Next ps b go = (reads, meets)
+  where
+    reads : (slot (st line e ps) >>= λ (x : A × ReaderState). next x.0 x.1) ≡ Ok b → Then A Is Next ps
+    reads h =
+        let k = bind_ok (slot (st line e ps)) (λ (x : A × ReaderState). next x.0 x.1) b h in
+        let r = slot_read o ps k.0 k.1 in
+        record { value = k.0.0; piece = r.piece; rest = r.rest; tokens = r.tokens; is = r.is; next = (go k.0.0 r.rest).0 (ap (next k.0.0) (sym r.after) ∙ k.2) }
 
--- one slot: what is related is read
+    meets : Then A Is Next ps → (slot (st line e ps) >>= λ (x : A × ReaderState). next x.0 x.1) ≡ Ok b
+    meets w =
+        ap (λ (qs : List Piece). slot (st line e qs) >>= λ (x : A × ReaderState). next x.0 x.1) w.tokens
+        ∙ bind_to (slot (st line e (w.piece ∷ w.rest))) (λ (x : A × ReaderState). next x.0 x.1) (w.value, st line e w.rest) (Ok b) (slot_again o w.value w.piece w.rest w.is) ((go w.value w.rest).1 w.next)
 
-comma_meets : (next : ReaderState → Result Body ParseFault) (Next : List Piece → Type 0) (line e : ℕ) (ps : List Piece) (b : Body) → ((rest : List Piece) → Next rest → next (st line e rest) ≡ Ok b)
-    → AfterComma Next ps → (mark_at 44 (st line e ps) >>= next) ≡ Ok b
-comma_meets next Next line e ps b go w =
-    ap (λ (qs : List Piece). mark_at 44 (st line e qs) >>= next) w.2 ∙ bind_to (mark_at 44 (st line e (w.0 ∷ w.1))) next (st line e w.1) (Ok b) (mark_again 44 line e w.0 w.1 w.3) (go w.1 w.4)
-
-slot_meets : {A : Type 0} {Is : A → Piece → Type 0} {num : Bool} {nam : Naming} {line e : ℕ} {slot : ReaderState → Read A} (o : OneToken A Is num nam line e slot) (next : A → ReaderState → Result Body ParseFault)
-    (Next : A → List Piece → Type 0) (ps : List Piece) (b : Body) → ((x : A) (rest : List Piece) → Next x rest → next x (st line e rest) ≡ Ok b) → Then A Is Next ps → (slot (st line e ps) >>= λ (x : A × ReaderState). next x.0 x.1) ≡ Ok b
-slot_meets {A = A} {line = line} {e = e} {slot = slot} o next Next ps b go w =
-    ap (λ (qs : List Piece). slot (st line e qs) >>= λ (x : A × ReaderState). next x.0 x.1) w.tokens
-    ∙ bind_to (slot (st line e (w.piece ∷ w.rest))) (λ (x : A × ReaderState). next x.0 x.1) (w.value, st line e w.rest) (Ok b) (slot_again o w.value w.piece w.rest w.is) (go w.value w.rest w.next)
-
-last_meets : (A : Type 0) (Is : List Piece → A → Type 0) (made : A → Body) (line e : ℕ) (ps : List Piece) (r : Read A) (b : Body) → ((x : A) → Is ps x → r ≡ Ok (x, st line e []))
-    → Last A Is made ps b → (r >>= λ (x : A × ReaderState). end_with (made x.0) x.1) ≡ Ok b
-last_meets A Is made line e ps r b reads w =
-    bind_to r (λ (x : A × ReaderState). end_with (made x.0) x.1) (w.0, st line e []) (Ok b) (reads w.0 w.1) (ap (λ (c : Body). let y : Result Body ParseFault = Ok c in y) w.2)
+last_law : (A : Type 0) (Is : List Piece → A → Type 0) (made : A → Body) (line e : ℕ) (ps : List Piece) (r : Read A) (b : Body) → ((x : A × ReaderState) → r ≡ Ok x → Several A Is line e ps x)
+    → ((x : A) → Is ps x → r ≡ Ok (x, st line e [])) → ((r >>= λ (x : A × ReaderState). end_with (made x.0) x.1) ≡ Ok b) ↔ Last A Is made ps b
+last_law A Is made line e ps r b read again =
+    (reads, λ w. bind_to r (λ (x : A × ReaderState). end_with (made x.0) x.1) (w.0, st line e []) (Ok b) (again w.0 w.1) (ap (λ (c : Body). let y : Result Body ParseFault = Ok c in y) w.2))
+  where
+    reads : (r >>= λ (x : A × ReaderState). end_with (made x.0) x.1) ≡ Ok b → Last A Is made ps b
+    reads h =
+        let k = bind_ok r (λ (x : A × ReaderState). end_with (made x.0) x.1) b h in
+        let w = read k.0 k.1 in
+        let n = (end_law line e w.rest (made k.0.0) b).0 (ap (end_with (made k.0.0)) (sym w.after) ∙ k.2) in
+        let t : ps ≡ w.front = w.tokens ∙ ap (λ (qs : List Piece). w.front ++ qs) n.0 ∙ append-nil w.front in
+        (k.0.0, subst (λ (qs : List Piece). Is qs k.0.0) (sym t) w.is, n.1)
 
 -- operands of several tokens that stand last
 
 whole_last : (low most line e : ℕ) (ps : List Piece) (n : ℕ) → IsWhole low most ps n → signed_at low most (st line e ps) ≡ Ok (n, st line e [])
 whole_last low most line e ps n w = ap (λ (qs : List Piece). signed_at low most (st line e qs)) (sym (append-nil ps)) ∙ whole_again low most line e ps [] n w
 
-operand_last : (line e : ℕ) (ps : List Piece) (x : Operand) → IsOperandOf ps x → operand_at (st line e ps) ≡ Ok (x, st line e [])
-operand_last line e ps (operand.Register r) w = operand_register_again line e r ps w
-operand_last line e ps (operand.Immediate x) w = operand_immediate_again line e ps x.imm x.fixup w
-
-index_last : (line e : ℕ) (ps : List Piece) (x : Index) → IsIndexOf ps x → index_at (st line e ps) ≡ Ok (x, st line e [])
-index_last line e ps (index.Scaled r) w = index_scaled_again line e r ps w
-index_last line e ps (index.Offset x) w = ap (λ (qs : List Piece). index_at (st line e qs)) w.2 ∙ index_offset_again line e w.0 w.1 x w.3 (operand_last line e w.1 x w.4)
-
-user_index_last : (line e : ℕ) (ps : List Piece) (r : Reg) (t : Bool) → IsUserIndexOf ps (r, t) → user_index_at (st line e ps) ≡ Ok ((r, t), st line e [])
-user_index_last line e ps r true w = user_scaled_again line e r ps w
-user_index_last line e ps r false w = ap (λ (qs : List Piece). user_index_at (st line e qs)) w.2 ∙ user_plain_again line e r w.0 (w.1 ∷ []) w.3 w.4
-
-field_last : (most line e : ℕ) (ps : List Piece) (x : Field) → IsFieldOf most ps x → field_at most (st line e ps) ≡ Ok (x, st line e [])
-field_last most line e ps (field.Register r) w = field_register_again most line e r ps w
-field_last most line e ps (field.Literal width offset) w = field_literal_again most line e width offset ps w
-
 some_words : (bits : ℕ) → 0 < 2 ^ bits
 some_words bits = subst (λ (n : ℕ). 0 < n) (suc_ones bits) (omega arith)
 
--- each form
+-- each form, walked once
 
-pub form_reads : (form : Form) (line e : ℕ) (ps : List Piece) (b : Body) → read form (st line e ps) ≡ Ok b → Meets form ps b
+pub form_law : (form : Form) (line e : ℕ) (ps : List Piece) (b : Body) → (read form (st line e ps) ≡ Ok b) ↔ Meets form ps b
 unfolding read
-form_reads (ends made) line e ps b h = end_reads line e ps made b h
-form_reads (comma_then form) line e ps b h = comma_reads (read form) (λ qs. Meets form qs b) line e ps b (λ qs. form_reads form line e qs b) h
-form_reads (register_then form) line e ps b h = slot_reads (one_register line e) (λ x. read (form x)) (λ x qs. Meets (form x) qs b) ps b (λ x qs. form_reads (form x) line e qs b) h
-form_reads (control_then float form) line e ps b h = slot_reads (one_control float line e) (λ x. read (form x)) (λ x qs. Meets (form x) qs b) ps b (λ x qs. form_reads (form x) line e qs b) h
-form_reads (bit_then form) line e ps b h = slot_reads (one_bit line e) (λ x. read (form x)) (λ x qs. Meets (form x) qs b) ps b (λ x qs. form_reads (form x) line e qs b) h
-form_reads (mask_then form) line e ps b h = slot_reads (one_mask line e) (λ x. read (form x)) (λ x qs. Meets (form x) qs b) ps b (λ x qs. form_reads (form x) line e qs b) h
-form_reads (unsigned_then most form) line e ps b h = slot_reads (one_number most line e) (λ x. read (form x)) (λ x qs. Meets (form x) qs b) ps b (λ x qs. form_reads (form x) line e qs b) h
-form_reads (alignment_then form) line e ps b h = slot_reads (one_alignment line e) (λ x. read (form x)) (λ x qs. Meets (form x) qs b) ps b (λ x qs. form_reads (form x) line e qs b) h
-form_reads (symbol_then form) line e ps b h = slot_reads (one_symbol line e) (λ x. read (form x.0 x.1)) (λ x qs. Meets (form x.0 x.1) qs b) ps b (λ x qs. form_reads (form x.0 x.1) line e qs b) h
-form_reads (bound_then form) line e ps b h = slot_reads (one_bound line e) (λ x. read (form x)) (λ x qs. Meets (form x) qs b) ps b (λ x qs. form_reads (form x) line e qs b) h
-form_reads (text_then form) line e ps b h = slot_reads (one_text line e) (λ x. read (form x)) (λ x qs. Meets (form x) qs b) ps b (λ x qs. form_reads (form x) line e qs b) h
-form_reads (signed_ends low most made) line e ps b h = last_reads ℕ (IsWhole low most) made line e ps (signed_at low most (st line e ps)) b (whole_read low most line e ps) h
-form_reads (immediate_ends made) line e ps b h = last_reads Immediate IsImmediateOf made line e ps (immediate_at (st line e ps)) b (immediate_read line e ps) h
-form_reads (operand_ends made) line e ps b h = last_reads Operand IsOperandOf made line e ps (operand_at (st line e ps)) b (operand_read line e ps) h
-form_reads (scaled_ends made) line e ps b h = last_reads Reg (λ qs r. IsScaled r qs) made line e ps (scaled_at (st line e ps)) b (scaled_read line e ps) h
-form_reads (index_ends made) line e ps b h = last_reads Index IsIndexOf made line e ps (index_at (st line e ps)) b (index_read line e ps) h
-form_reads (user_index_ends made) line e ps b h = last_reads (Reg × Bool) IsUserIndexOf (λ x. made x.0 x.1) line e ps (user_index_at (st line e ps)) b (user_index_read line e ps) h
-form_reads (field_ends most made) line e ps b h = last_reads Field (IsFieldOf most) made line e ps (field_at most (st line e ps)) b (field_read most line e ps) h
-form_reads (goal_ends kind bits made) line e ps b h = last_reads Goal (IsGoalOf kind bits) made line e ps (goal_at kind (2 ^ bits) (st line e ps)) b (λ x. goal_read kind bits (2 ^ bits) line e ps x refl (some_words bits)) h
-form_reads (words_end made) line e ps b h = last_reads (List Value) (AreParted (IsValue Abs32)) made line e ps (list_at word_item_at (st line e ps)) b (list_read Value (IsValue Abs32) word_item_at word_reads line e ps) h
-form_reads (parts_end part made) line e ps b h =
-    last_reads (List ℕ) (AreParted (IsSigned (modulus_of part))) made line e ps (list_at (part_item_at part) (st line e ps)) b (list_read ℕ (IsSigned (modulus_of part)) (part_item_at part) (part_reads part) line e ps) h
-
-pub form_meets : (form : Form) (line e : ℕ) (ps : List Piece) (b : Body) → Meets form ps b → read form (st line e ps) ≡ Ok b
-unfolding read
-form_meets (ends made) line e ps b w = ap (λ (qs : List Piece). end_with made (st line e qs)) w.0 ∙ ap (λ (c : Body). let y : Result Body ParseFault = Ok c in y) w.1
-form_meets (comma_then form) line e ps b w = comma_meets (read form) (λ qs. Meets form qs b) line e ps b (λ qs. form_meets form line e qs b) w
-form_meets (register_then form) line e ps b w = slot_meets (one_register line e) (λ x. read (form x)) (λ x qs. Meets (form x) qs b) ps b (λ x qs. form_meets (form x) line e qs b) w
-form_meets (control_then float form) line e ps b w = slot_meets (one_control float line e) (λ x. read (form x)) (λ x qs. Meets (form x) qs b) ps b (λ x qs. form_meets (form x) line e qs b) w
-form_meets (bit_then form) line e ps b w = slot_meets (one_bit line e) (λ x. read (form x)) (λ x qs. Meets (form x) qs b) ps b (λ x qs. form_meets (form x) line e qs b) w
-form_meets (mask_then form) line e ps b w = slot_meets (one_mask line e) (λ x. read (form x)) (λ x qs. Meets (form x) qs b) ps b (λ x qs. form_meets (form x) line e qs b) w
-form_meets (unsigned_then most form) line e ps b w = slot_meets (one_number most line e) (λ x. read (form x)) (λ x qs. Meets (form x) qs b) ps b (λ x qs. form_meets (form x) line e qs b) w
-form_meets (alignment_then form) line e ps b w = slot_meets (one_alignment line e) (λ x. read (form x)) (λ x qs. Meets (form x) qs b) ps b (λ x qs. form_meets (form x) line e qs b) w
-form_meets (symbol_then form) line e ps b w = slot_meets (one_symbol line e) (λ x. read (form x.0 x.1)) (λ x qs. Meets (form x.0 x.1) qs b) ps b (λ x qs. form_meets (form x.0 x.1) line e qs b) w
-form_meets (bound_then form) line e ps b w = slot_meets (one_bound line e) (λ x. read (form x)) (λ x qs. Meets (form x) qs b) ps b (λ x qs. form_meets (form x) line e qs b) w
-form_meets (text_then form) line e ps b w = slot_meets (one_text line e) (λ x. read (form x)) (λ x qs. Meets (form x) qs b) ps b (λ x qs. form_meets (form x) line e qs b) w
-form_meets (signed_ends low most made) line e ps b w = last_meets ℕ (IsWhole low most) made line e ps (signed_at low most (st line e ps)) b (whole_last low most line e ps) w
-form_meets (immediate_ends made) line e ps b w = last_meets Immediate IsImmediateOf made line e ps (immediate_at (st line e ps)) b (λ x. immediate_again line e ps x.imm x.fixup) w
-form_meets (operand_ends made) line e ps b w = last_meets Operand IsOperandOf made line e ps (operand_at (st line e ps)) b (operand_last line e ps) w
-form_meets (scaled_ends made) line e ps b w = last_meets Reg (λ qs r. IsScaled r qs) made line e ps (scaled_at (st line e ps)) b (λ r. scaled_again line e r ps) w
-form_meets (index_ends made) line e ps b w = last_meets Index IsIndexOf made line e ps (index_at (st line e ps)) b (index_last line e ps) w
-form_meets (user_index_ends made) line e ps b w = last_meets (Reg × Bool) IsUserIndexOf (λ x. made x.0 x.1) line e ps (user_index_at (st line e ps)) b (λ x. user_index_last line e ps x.0 x.1) w
-form_meets (field_ends most made) line e ps b w = last_meets Field (IsFieldOf most) made line e ps (field_at most (st line e ps)) b (field_last most line e ps) w
-form_meets (goal_ends kind bits made) line e ps b w = last_meets Goal (IsGoalOf kind bits) made line e ps (goal_at kind (2 ^ bits) (st line e ps)) b (λ x. goal_again kind bits (2 ^ bits) line e ps x.words x.fixup refl) w
-form_meets (words_end made) line e ps b w = last_meets (List Value) (AreParted (IsValue Abs32)) made line e ps (list_at word_item_at (st line e ps)) b (list_again Value (IsValue Abs32) word_item_at word_reads_all line e ps) w
-form_meets (parts_end part made) line e ps b w =
-    last_meets (List ℕ) (AreParted (IsSigned (modulus_of part))) made line e ps (list_at (part_item_at part) (st line e ps)) b (list_again ℕ (IsSigned (modulus_of part)) (part_item_at part) (part_reads_all part) line e ps) w
+form_law (ends made) line e ps b = end_law line e ps made b
+form_law (comma_then form) line e ps b = comma_law (read form) (λ qs. Meets form qs b) line e ps b (λ qs. form_law form line e qs b)
+form_law (register_then form) line e ps b = slot_law (one_register line e) (λ x. read (form x)) (λ x qs. Meets (form x) qs b) ps b (λ x qs. form_law (form x) line e qs b)
+form_law (control_then float form) line e ps b = slot_law (one_control float line e) (λ x. read (form x)) (λ x qs. Meets (form x) qs b) ps b (λ x qs. form_law (form x) line e qs b)
+form_law (bit_then form) line e ps b = slot_law (one_bit line e) (λ x. read (form x)) (λ x qs. Meets (form x) qs b) ps b (λ x qs. form_law (form x) line e qs b)
+form_law (mask_then form) line e ps b = slot_law (one_mask line e) (λ x. read (form x)) (λ x qs. Meets (form x) qs b) ps b (λ x qs. form_law (form x) line e qs b)
+form_law (unsigned_then most form) line e ps b = slot_law (one_number most line e) (λ x. read (form x)) (λ x qs. Meets (form x) qs b) ps b (λ x qs. form_law (form x) line e qs b)
+form_law (alignment_then form) line e ps b = slot_law (one_alignment line e) (λ x. read (form x)) (λ x qs. Meets (form x) qs b) ps b (λ x qs. form_law (form x) line e qs b)
+form_law (symbol_then form) line e ps b = slot_law (one_symbol line e) (λ x. read (form x.0 x.1)) (λ x qs. Meets (form x.0 x.1) qs b) ps b (λ x qs. form_law (form x.0 x.1) line e qs b)
+form_law (bound_then form) line e ps b = slot_law (one_bound line e) (λ x. read (form x)) (λ x qs. Meets (form x) qs b) ps b (λ x qs. form_law (form x) line e qs b)
+form_law (text_then form) line e ps b = slot_law (one_text line e) (λ x. read (form x)) (λ x qs. Meets (form x) qs b) ps b (λ x qs. form_law (form x) line e qs b)
+form_law (signed_ends low most made) line e ps b = last_law ℕ (IsWhole low most) made line e ps (signed_at low most (st line e ps)) b (whole_read low most line e ps) (whole_last low most line e ps)
+form_law (immediate_ends made) line e ps b = last_law Immediate IsImmediateOf made line e ps (immediate_at (st line e ps)) b (immediate_read line e ps) (λ x. immediate_again line e ps x.imm x.fixup)
+form_law (operand_ends made) line e ps b = last_law Operand IsOperandOf made line e ps (operand_at (st line e ps)) b (operand_read line e ps) (operand_again line e ps)
+form_law (scaled_ends made) line e ps b = last_law Reg (λ qs r. IsScaled r qs) made line e ps (scaled_at (st line e ps)) b (scaled_read line e ps) (λ r. scaled_again line e r ps)
+form_law (index_ends made) line e ps b = last_law Index IsIndexOf made line e ps (index_at (st line e ps)) b (index_read line e ps) (index_again line e ps)
+form_law (user_index_ends made) line e ps b =
+    last_law (Reg × Bool) IsUserIndexOf (λ x. made x.0 x.1) line e ps (user_index_at (st line e ps)) b (user_index_read line e ps) (λ x. user_index_again line e ps x.0 x.1)
+form_law (field_ends most made) line e ps b = last_law Field (IsFieldOf most) made line e ps (field_at most (st line e ps)) b (field_read most line e ps) (field_again most line e ps)
+form_law (goal_ends kind bits made) line e ps b =
+    last_law Goal (IsGoalOf kind bits) made line e ps (goal_at kind (2 ^ bits) (st line e ps)) b
+    (λ x. goal_read kind bits (2 ^ bits) line e ps x refl (some_words bits)) (λ x. goal_again kind bits (2 ^ bits) line e ps x.words x.fixup refl)
+form_law (words_end made) line e ps b =
+    last_law (List Value) (AreParted (IsValue Abs32)) made line e ps (list_at word_item_at (st line e ps)) b
+    (list_read Value (IsValue Abs32) word_item_at word_reads line e ps) (list_again Value (IsValue Abs32) word_item_at word_reads_all line e ps)
+form_law (parts_end part made) line e ps b =
+    last_law (List ℕ) (AreParted (IsSigned (modulus_of part))) made line e ps (list_at (part_item_at part) (st line e ps)) b
+    (list_read ℕ (IsSigned (modulus_of part)) (part_item_at part) (part_reads part) line e ps) (list_again ℕ (IsSigned (modulus_of part)) (part_item_at part) (part_reads_all part) line e ps)

@@ -9,12 +9,12 @@ use Rattle.m88_parse.specs.declared.operand.Field.TheVariants as field
 use Rattle.m88_parse.specs.Language.Pieces.{TokenValue, a_name, a_number, a_text, a_mark, Piece}
 use Rattle.m88_parse.specs.Reader.State.{ReaderState, first, is_mark_of, is_next, ◌>>=◌}
 use Rattle.m88_parse.specs.Reader.Slots.{Read, mark_at, unsigned_at, register_at}
-use Rattle.m88_parse.specs.Reader.Operands.{operand_at, scaled_at, index_at, user_index_at, width_at, literal_at, field_on, field_at}
+use Rattle.m88_parse.specs.Reader.Operands.{operand_at, scaled_at, indexed_at, index_at, user_index_at, width_at, literal_at, field_on, field_at}
 use Rattle.m88_parse.specs.Language.Names.{IsMark, IsComma, IsNumber, IsRegister}
 use Rattle.m88_parse.specs.Language.Operands.{IsScaled, IsLast, IsLiteral}
 use Rattle.m88_parse.proofs.Law.Steps.{chosen, take_then, take_else}
 use Rattle.m88_parse.proofs.Law.Slots.{st, ok_same, bind_ok, bind_to, next_again, mark_read, mark_again, one_number, one_register, slot_again, slot_read}
-use Rattle.m88_parse.proofs.Law.Operands.{IsOperandOf, operand_read}
+use Rattle.m88_parse.proofs.Law.Operands.{IsOperandOf, operand_read, operand_again}
 use Rattle.m88_parse.proofs.Law.Values.{Several, several, several_as}
 
 -- [rS2]
@@ -60,9 +60,6 @@ abbrev pub IsIndexOf : List Piece → Index → Type 0
 IsIndexOf ps (index.Scaled r) = IsScaled r ps
 IsIndexOf ps (index.Offset x) = (c : Piece) × (rest : List Piece) × (ps ≡ c ∷ rest) × IsComma c × IsOperandOf rest x
 
-abbrev scaled_index : Reg × ReaderState → Read Index
-scaled_index r = Ok (index.Scaled r.0, r.1)
-
 abbrev offset_index : Operand × ReaderState → Read Index
 offset_index x = Ok (index.Offset x.0, x.1)
 
@@ -80,22 +77,24 @@ index_read line e ps x h =
           (ap (λ (u : ReaderState). let y : Index × ReaderState = (index.Offset c.0.0, u) in y) (sym w.after) ∙ ok_same c.2)
     ]
 
-pub index_scaled_again : (line e : ℕ) (r : Reg) (ps : List Piece) → IsScaled r ps → index_at (st line e ps) ≡ Ok (index.Scaled r, st line e [])
-unfolding index_at
-index_scaled_again line e r ps h =
+indexed_scaled_again : (X C : Type 0) (slot : ReaderState → Read X) (scaled : Reg → C) (plain : X → C) (line e : ℕ) (r : Reg) (ps : List Piece) → IsScaled r ps → indexed_at slot scaled plain (st line e ps) ≡ Ok (scaled r, st line e [])
+indexed_scaled_again X C slot scaled plain line e r ps h =
     take_then (is_next 91 (st line e ps)) _ _ (scaled_opens line e r ps h)
-    ∙ bind_to (scaled_at (st line e ps)) scaled_index (r, st line e []) (Ok (index.Scaled r, st line e [])) (scaled_again line e r ps h) refl
+    ∙ bind_to (scaled_at (st line e ps)) (λ (x : Reg × ReaderState). let y : Read C = Ok (scaled x.0, x.1) in y) (r, st line e []) (Ok (scaled r, st line e [])) (scaled_again line e r ps h) refl
 
-comma_opens_none : (line e : ℕ) (c : Piece) (ps : List Piece) → IsComma c → is_next 91 (st line e (c ∷ ps)) ≡ false
-comma_opens_none line e c ps h = ap (λ (m : TokenValue). is_mark_of 91 (Some m)) h
+indexed_plain_again : (X C : Type 0) (slot : ReaderState → Read X) (scaled : Reg → C) (plain : X → C) (line e : ℕ) (ps : List Piece) (c : Piece) (rest : List Piece) (x : X) → ps ≡ c ∷ rest → IsComma c → slot (st line e rest) ≡ Ok (x, st line e [])
+    → indexed_at slot scaled plain (st line e ps) ≡ Ok (plain x, st line e [])
+indexed_plain_again X C slot scaled plain line e ps c rest x t k h =
+    let z : Read C = Ok (plain x, st line e []) in
+    ap (λ (qs : List Piece). indexed_at slot scaled plain (st line e qs)) t
+    ∙ take_else (is_next 91 (st line e (c ∷ rest))) _ _ (ap (λ (m : TokenValue). is_mark_of 91 (Some m)) k)
+    ∙ bind_to (mark_at 44 (st line e (c ∷ rest))) (λ (u : ReaderState). slot u >>= λ (y : X × ReaderState). Ok (plain y.0, y.1)) (st line e rest) z (mark_again 44 line e c rest k)
+    (bind_to (slot (st line e rest)) (λ (y : X × ReaderState). Ok (plain y.0, y.1)) (x, st line e []) z h refl)
 
-pub index_offset_again : (line e : ℕ) (c : Piece) (ps : List Piece) (x : Operand) → IsComma c → operand_at (st line e ps) ≡ Ok (x, st line e []) → index_at (st line e (c ∷ ps)) ≡ Ok (index.Offset x, st line e [])
+pub index_again : (line e : ℕ) (ps : List Piece) (x : Index) → IsIndexOf ps x → index_at (st line e ps) ≡ Ok (x, st line e [])
 unfolding index_at
-index_offset_again line e c ps x k h =
-    let z : Read Index = Ok (index.Offset x, st line e []) in
-    take_else (is_next 91 (st line e (c ∷ ps))) _ _ (comma_opens_none line e c ps k)
-    ∙ bind_to (mark_at 44 (st line e (c ∷ ps))) (λ (t : ReaderState). operand_at t >>= offset_index) (st line e ps) z (mark_again 44 line e c ps k)
-    (bind_to (operand_at (st line e ps)) offset_index (x, st line e []) z h refl)
+index_again line e ps (index.Scaled r) w = indexed_scaled_again Operand Index operand_at (λ r. index.Scaled r) (λ x. index.Offset x) line e r ps w
+index_again line e ps (index.Offset x) w = indexed_plain_again Operand Index operand_at (λ r. index.Scaled r) (λ x. index.Offset x) line e ps w.0 w.1 x w.2 w.3 (operand_again line e w.1 x w.4)
 
 abbrev pub UserIndex : List Piece → Reg → Bool → Type 0
 UserIndex ps r true = IsScaled r ps
@@ -103,9 +102,6 @@ UserIndex ps r false = (c : Piece) × (p : Piece) × (ps ≡ c ∷ p ∷ []) × 
 
 abbrev pub IsUserIndexOf : List Piece → Reg × Bool → Type 0
 IsUserIndexOf ps x = UserIndex ps x.0 x.1
-
-abbrev user_scaled_index : Reg × ReaderState → Read (Reg × Bool)
-user_scaled_index r = Ok ((r.0, true), r.1)
 
 abbrev user_plain_index : Reg × ReaderState → Read (Reg × Bool)
 user_plain_index r = Ok ((r.0, false), r.1)
@@ -124,21 +120,10 @@ user_index_read line e ps x h =
           (ap (λ (u : ReaderState). let y : (Reg × Bool) × ReaderState = ((c.0.0, false), u) in y) (sym w.after) ∙ ok_same c.2)
     ]
 
-pub user_scaled_again : (line e : ℕ) (r : Reg) (ps : List Piece) → IsScaled r ps → user_index_at (st line e ps) ≡ Ok ((r, true), st line e [])
+pub user_index_again : (line e : ℕ) (ps : List Piece) (r : Reg) (t : Bool) → IsUserIndexOf ps (r, t) → user_index_at (st line e ps) ≡ Ok ((r, t), st line e [])
 unfolding user_index_at
-user_scaled_again line e r ps h =
-    take_then (is_next 91 (st line e ps)) _ _ (scaled_opens line e r ps h)
-    ∙ bind_to (scaled_at (st line e ps)) user_scaled_index (r, st line e []) (Ok ((r, true), st line e [])) (scaled_again line e r ps h) refl
-
-pub user_plain_again : (line e : ℕ) (r : Reg) (c : Piece) (ps : List Piece) → IsComma c → IsLast r ps → user_index_at (st line e (c ∷ ps)) ≡ Ok ((r, false), st line e [])
-unfolding user_index_at
-user_plain_again line e r c [] k h = absurd h
-user_plain_again line e r c (p ∷ []) k h =
-    let z : Read (Reg × Bool) = Ok ((r, false), st line e []) in
-    take_else (is_next 91 (st line e (c ∷ p ∷ []))) _ _ (comma_opens_none line e c (p ∷ []) k)
-    ∙ bind_to (mark_at 44 (st line e (c ∷ p ∷ []))) (λ (t : ReaderState). register_at t >>= user_plain_index) (st line e (p ∷ [])) z (mark_again 44 line e c (p ∷ []) k)
-    (bind_to (register_at (st line e (p ∷ []))) user_plain_index (r, st line e []) z (slot_again (one_register line e) r p [] h) refl)
-user_plain_again line e r c (p ∷ q ∷ ps) k h = absurd h
+user_index_again line e ps r true w = indexed_scaled_again Reg (Reg × Bool) register_at (λ r. (r, true)) (λ r. (r, false)) line e r ps w
+user_index_again line e ps r false w = indexed_plain_again Reg (Reg × Bool) register_at (λ r. (r, true)) (λ r. (r, false)) line e ps w.0 (w.1 ∷ []) r w.2 w.3 (slot_again (one_register line e) r w.1 [] w.4)
 
 -- bit fields
 
@@ -246,7 +231,7 @@ pub field_read : (most line e : ℕ) (ps : List Piece) (x : Field × ReaderState
 unfolding field_at
 field_read most line e ps x h = field_by most line e ps (first (st line e ps)) x h
 
-pub field_register_again : (most line e : ℕ) (r : Reg) (ps : List Piece) → IsLast r ps → field_at most (st line e ps) ≡ Ok (field.Register r, st line e [])
+field_register_again : (most line e : ℕ) (r : Reg) (ps : List Piece) → IsLast r ps → field_at most (st line e ps) ≡ Ok (field.Register r, st line e [])
 unfolding field_at
 field_register_again most line e r [] h = absurd h
 field_register_again most line e r (p ∷ []) h =
@@ -255,7 +240,7 @@ field_register_again most line e r (p ∷ []) h =
     ∙ bind_to (register_at s) register_field (r, st line e []) (Ok (field.Register r, st line e [])) (slot_again (one_register line e) r p [] h) refl
 field_register_again most line e r (p ∷ q ∷ ps) h = absurd h
 
-pub field_literal_again : (most line e width offset : ℕ) (ps : List Piece) → IsLiteral most ps width offset → field_at most (st line e ps) ≡ Ok (field.Literal width offset, st line e [])
+field_literal_again : (most line e width offset : ℕ) (ps : List Piece) → IsLiteral most ps width offset → field_at most (st line e ps) ≡ Ok (field.Literal width offset, st line e [])
 unfolding field_at
 field_literal_again most line e width offset [] h = absurd h
 field_literal_again most line e width offset (o ∷ []) h = absurd h
@@ -265,3 +250,7 @@ field_literal_again most line e width offset (o ∷ p ∷ c ∷ []) h =
 field_literal_again most line e width offset (w ∷ o ∷ p ∷ c ∷ []) h =
     ap (λ (m : TokenValue). field_on most (st line e (w ∷ o ∷ p ∷ c ∷ [])) (Some m)) h.0 ∙ literal_again most line e width offset (w ∷ o ∷ p ∷ c ∷ []) h
 field_literal_again most line e width offset (w ∷ o ∷ p ∷ c ∷ q ∷ ps) h = absurd h
+
+pub field_again : (most line e : ℕ) (ps : List Piece) (x : Field) → IsFieldOf most ps x → field_at most (st line e ps) ≡ Ok (x, st line e [])
+field_again most line e ps (field.Register r) w = field_register_again most line e r ps w
+field_again most line e ps (field.Literal width offset) w = field_literal_again most line e width offset ps w

@@ -25,7 +25,7 @@ use Rattle.m88_parse.specs.Language.Names.{IsMark, IsNumber, IsNamed, IsRegister
 use Rattle.m88_parse.specs.Language.Operands.{IsValue, IsHalfOf, IsImmediate, short, half, IsLast}
 use Rattle.m88_parse.proofs.Law.Steps.{chosen, take_then}
 use Rattle.m88_parse.proofs.Law.Names.{some_same, register_is, register_name_again}
-use Rattle.m88_parse.proofs.Law.Slots.{st, ok_same, bind_ok, bind_to, mark_read, mark_again, own_names, saying, any, any_is_symbol, gives, OneToken, slot_again, nothing, by_token, token_gives, token_is, only_if, within, within_is, within_again}
+use Rattle.m88_parse.proofs.Law.Slots.{st, ok_same, bind_ok, bind_to, mark_read, mark_again, own_names, saying, any, any_is_symbol, gives, OneToken, nothing, by_token, token_gives, token_is, only_if, within, within_is, within_again}
 use Rattle.m88_parse.proofs.Law.Values.{Several, several, several_as, IsUnsigned, value_read, value_again}
 
 -- hi16 and lo16
@@ -175,7 +175,7 @@ unfolding operand_at
 operand_read line e [] x h = operand_immediate line e [] x h
 operand_read line e (p ∷ ps) x h = operand_by line e p ps p.says x refl h
 
-pub operand_register_again : (line e : ℕ) (r : Reg) (ps : List Piece) → IsLast r ps → operand_at (st line e ps) ≡ Ok (operand.Register r, st line e [])
+operand_register_again : (line e : ℕ) (r : Reg) (ps : List Piece) → IsLast r ps → operand_at (st line e ps) ≡ Ok (operand.Register r, st line e [])
 unfolding operand_at
 operand_register_again line e r [] h = absurd h
 operand_register_again line e r (p ∷ []) h =
@@ -193,12 +193,16 @@ no_register : (line e : ℕ) (ps : List Piece) (imm : ℕ) (fixup : Option Fixup
 no_register line e ps imm fixup (short {p = p} h l) = ap (λ (m : TokenValue). register_in (Some m)) h
 no_register line e ps imm fixup (half inside c name kind v n k a t b d h) = ap (λ (m : TokenValue). register_in (Some m)) n ∙ ap (option_map reg_of) (half_no_register name kind k)
 
-pub operand_immediate_again : (line e : ℕ) (ps : List Piece) (imm : ℕ) (fixup : Option Fixup) → IsImmediate ps imm fixup → operand_at (st line e ps) ≡ Ok (operand.Immediate (record { imm = imm; fixup = fixup }), st line e [])
+operand_immediate_again : (line e : ℕ) (ps : List Piece) (imm : ℕ) (fixup : Option Fixup) → IsImmediate ps imm fixup → operand_at (st line e ps) ≡ Ok (operand.Immediate (record { imm = imm; fixup = fixup }), st line e [])
 unfolding operand_at
 operand_immediate_again line e ps imm fixup h =
     let s = st line e ps in
     ap (operand_of s) (no_register line e ps imm fixup h)
     ∙ bind_to (immediate_at s) immediate_operand (record { imm = imm; fixup = fixup }, st line e []) (Ok (operand.Immediate (record { imm = imm; fixup = fixup }), st line e [])) (immediate_again line e ps imm fixup h) refl
+
+pub operand_again : (line e : ℕ) (ps : List Piece) (x : Operand) → IsOperandOf ps x → operand_at (st line e ps) ≡ Ok (x, st line e [])
+operand_again line e ps (operand.Register r) w = operand_register_again line e r ps w
+operand_again line e ps (operand.Immediate x) w = operand_immediate_again line e ps x.imm x.fixup w
 
 -- the bound of tbnd
 
@@ -253,8 +257,3 @@ one_bound line e = record {
   where
     by_name : (p : Piece) (ps : List Piece) (name : List ℕ) → IsNamed name p → bound_on (st line e (p ∷ ps)) (Some (a_name name)) ≡ gives line e p ps NoSuchName (bound_on_name name)
     by_name p ps name i = ap (λ (m : TokenValue). register_on (st line e (p ∷ ps)) (Some m) >>= λ (r : Reg × ReaderState). let y : Read Bound = Ok (bound.Register r.0, r.1) in y) i ∙ bound_name line e p ps (register_of name)
-
-pub bound_register_again : (line e : ℕ) (r : Reg) (ps : List Piece) → IsLast r ps → bound_at (st line e ps) ≡ Ok (bound.Register r, st line e [])
-bound_register_again line e r [] h = absurd h
-bound_register_again line e r (p ∷ []) h = slot_again (one_bound line e) (bound.Register r) p [] h
-bound_register_again line e r (p ∷ q ∷ ps) h = absurd h

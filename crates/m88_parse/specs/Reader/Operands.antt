@@ -97,17 +97,19 @@ scaled_at s = do
   closed ← mark_at closing_bracket r.1
   Ok (r.0, closed)
 
+-- behind the base register: a scaled register, or a comma and what a slot gives
+abbrev pub indexed_at : {X C : Type 0} → (ReaderState → Read X) → (Reg → C) → (X → C) → ReaderState → Read C
+indexed_at slot scaled plain s =
+    if is_next opening_bracket s then (scaled_at s >>= λ r. Ok (scaled r.0, r.1))
+    else (mark_at comma_mark s >>= λ t. slot t >>= λ x. Ok (plain x.0, x.1))
+
 -- behind the base register of a memory operand: a scaled register, or a comma and an operand
 unfoldable pub index_at : ReaderState → Read Index
-index_at s =
-    if is_next opening_bracket s then (scaled_at s >>= λ r. Ok (index.Scaled r.0, r.1))
-    else (mark_at comma_mark s >>= λ t. operand_at t >>= λ x. Ok (index.Offset x.0, x.1))
+index_at s = indexed_at operand_at (λ r. index.Scaled r) (λ x. index.Offset x) s
 
 -- the same of a register alone, and whether it is scaled
 unfoldable pub user_index_at : ReaderState → Read (Reg × Bool)
-user_index_at s =
-    if is_next opening_bracket s then (scaled_at s >>= λ r. Ok ((r.0, true), r.1))
-    else (mark_at comma_mark s >>= λ t. register_at t >>= λ r. Ok ((r.0, false), r.1))
+user_index_at s = indexed_at register_at (λ r. (r, true)) (λ r. (r, false)) s
 
 -- a width, 0 to most; no width is 0
 unfoldable pub width_at : ℕ → ReaderState → Read ℕ

@@ -14,7 +14,7 @@ use Rattle.m88_parse.specs.Reader.Names.{register_of}
 use Rattle.m88_parse.specs.Language.Pieces.{TokenValue, a_name, a_number, a_text, a_mark, Piece}
 use Rattle.m88_parse.specs.Reader.State.{ReaderState, is_mark_of, is_next, ◌>>=◌}
 use Rattle.m88_parse.specs.Reader.Slots.{Read, mark_at, unsigned_at, register_at}
-use Rattle.m88_parse.specs.Reader.Operands.{immediate_at, register_in, operand_of, operand_at, scaled_at, index_at, user_index_at, width_at, literal_at, field_on, field_at}
+use Rattle.m88_parse.specs.Reader.Operands.{immediate_at, register_in, operand_of, operand_at, scaled_at, indexed_at, index_at, user_index_at, width_at, literal_at, field_on, field_at}
 use Rattle.m88_parse.specs.Language.Names.{IsMark}
 use Rattle.m88_parse.proofs.Law.Steps.{take_then, take_else}
 use Rattle.m88_parse.proofs.Law.Slots.{st, no_name, own_names, kind_for, saying, one_register, one_number, any, any_is_symbol}
@@ -96,49 +96,38 @@ scaled_node few B line e k g =
 
 -- behind the base register
 
+indexed_node : (few : ℕ) (B X C : Type 0) (line e : ℕ) (slot : ReaderState → Read X) (scaled : Reg → C) (plain : X → C) (k : C → ReaderState → Result B ParseFault) → ((x : C) → Good few line e (λ ps. fault_in (k x (st line e ps))))
+    → Good few line e (reader_of line e slot (λ x. k (plain x))) → Node few false no_name line e (reader_of line e (indexed_at slot scaled plain) k)
+indexed_node few B X C line e slot scaled plain k g h =
+    or_mark few false no_name line e 91 (reader_of line e (indexed_at slot scaled plain) k) comma (behind_bracket line e (λ r. k (scaled r))) refl (inr refl) bracket otherwise refl
+    (behind_bracket_good few B line e (λ r. k (scaled r)) (λ r. g (scaled r)))
+    (node_as few false no_name line e comma (λ ps. fault_in (mark_at 44 (st line e ps) >>= λ (t : ReaderState). slot t >>= λ (x : X × ReaderState). k (plain x.0) x.1))
+    (λ ps. ap (λ (r : Result B ParseFault). fault_in r) (turns (mark_at 44 (st line e ps)) _ _ _ (λ t. mapped X B C (slot t) plain k)))
+    (mark_node few B 44 line e (λ t. slot t >>= λ (x : X × ReaderState). k (plain x.0) x.1) refl refl h))
+  where
+    comma : Reader
+    comma ps = fault_in ((mark_at 44 (st line e ps) >>= λ (t : ReaderState). slot t >>= λ (x : X × ReaderState). let y : Read C = Ok (plain x.0, x.1) in y) >>= λ (z : C × ReaderState). k z.0 z.1)
+
+    bracket : (p : Piece) (ps : List Piece) → is_mark_of 91 (Some p.says) ≡ true → reader_of line e (indexed_at slot scaled plain) k (p ∷ ps) ≡ behind_bracket line e (λ r. k (scaled r)) ps
+    bracket p ps t =
+        ap (λ (r : Read C). fault_in (r >>= λ (z : C × ReaderState). k z.0 z.1)) (take_then (is_mark_of 91 (Some p.says)) _ _ t)
+        ∙ ap (λ (r : Result B ParseFault). fault_in r) (mapped Reg B C (scaled_at (st line e (p ∷ ps))) scaled k)
+        ∙ scaled_taken B line e p ps (λ r. k (scaled r)) t
+
+    otherwise : (p : Piece) (ps : List Piece) → is_mark_of 91 (Some p.says) ≡ false → reader_of line e (indexed_at slot scaled plain) k (p ∷ ps) ≡ comma (p ∷ ps)
+    otherwise p ps t = ap (λ (r : Read C). fault_in (r >>= λ (z : C × ReaderState). k z.0 z.1)) (take_else (is_mark_of 91 (Some p.says)) _ _ t)
+
 pub index_node : (few : ℕ) (B : Type 0) (line e : ℕ) (k : Index → ReaderState → Result B ParseFault) → ((x : Index) → Good few line e (λ ps. fault_in (k x (st line e ps)))) → Node few false no_name line e (reader_of line e index_at k)
 unfolding index_at
 index_node few B line e k g =
-    or_mark few false no_name line e 91 (reader_of line e index_at k) offset (behind_bracket line e (λ r. k (index.Scaled r))) refl (inr refl) bracket otherwise refl
-    (behind_bracket_good few B line e (λ r. k (index.Scaled r)) (λ r. g (index.Scaled r)))
-    (node_as few false no_name line e offset (λ ps. fault_in (mark_at 44 (st line e ps) >>= λ (t : ReaderState). operand_at t >>= λ (x : Operand × ReaderState). k (index.Offset x.0) x.1))
-    (λ ps. ap (λ (r : Result B ParseFault). fault_in r) (turns (mark_at 44 (st line e ps)) _ _ _ (λ t. mapped Operand B Index (operand_at t) (λ x. index.Offset x) k)))
-    (mark_node few B 44 line e (λ t. operand_at t >>= λ (x : Operand × ReaderState). k (index.Offset x.0) x.1) refl refl
-    (good few true own_names line e (reader_of line e operand_at (λ x. k (index.Offset x))) (operand_node few B line e (λ x. k (index.Offset x)) (λ x. g (index.Offset x))))))
-  where
-    offset : Reader
-    offset ps = fault_in ((mark_at 44 (st line e ps) >>= λ (t : ReaderState). operand_at t >>= λ (x : Operand × ReaderState). let y : Read Index = Ok (index.Offset x.0, x.1) in y) >>= λ (z : Index × ReaderState). k z.0 z.1)
-
-    bracket : (p : Piece) (ps : List Piece) → is_mark_of 91 (Some p.says) ≡ true → reader_of line e index_at k (p ∷ ps) ≡ behind_bracket line e (λ r. k (index.Scaled r)) ps
-    bracket p ps t =
-        ap (λ (r : Read Index). fault_in (r >>= λ (z : Index × ReaderState). k z.0 z.1)) (take_then (is_mark_of 91 (Some p.says)) _ _ t)
-        ∙ ap (λ (r : Result B ParseFault). fault_in r) (mapped Reg B Index (scaled_at (st line e (p ∷ ps))) (λ r. index.Scaled r) k)
-        ∙ scaled_taken B line e p ps (λ r. k (index.Scaled r)) t
-
-    otherwise : (p : Piece) (ps : List Piece) → is_mark_of 91 (Some p.says) ≡ false → reader_of line e index_at k (p ∷ ps) ≡ offset (p ∷ ps)
-    otherwise p ps t = ap (λ (r : Read Index). fault_in (r >>= λ (z : Index × ReaderState). k z.0 z.1)) (take_else (is_mark_of 91 (Some p.says)) _ _ t)
+    indexed_node few B Operand Index line e operand_at (λ r. index.Scaled r) (λ x. index.Offset x) k g
+    (good few true own_names line e (reader_of line e operand_at (λ x. k (index.Offset x))) (operand_node few B line e (λ x. k (index.Offset x)) (λ x. g (index.Offset x))))
 
 pub user_index_node : (few : ℕ) (B : Type 0) (line e : ℕ) (k : Reg × Bool → ReaderState → Result B ParseFault) → ((x : Reg × Bool) → Good few line e (λ ps. fault_in (k x (st line e ps)))) → Node few false no_name line e (reader_of line e user_index_at k)
 unfolding user_index_at
 user_index_node few B line e k g =
-    or_mark few false no_name line e 91 (reader_of line e user_index_at k) offset (behind_bracket line e (λ r. k (r, true))) refl (inr refl) bracket otherwise refl
-    (behind_bracket_good few B line e (λ r. k (r, true)) (λ r. g (r, true)))
-    (node_as few false no_name line e offset (λ ps. fault_in (mark_at 44 (st line e ps) >>= λ (t : ReaderState). register_at t >>= λ (x : Reg × ReaderState). k (x.0, false) x.1))
-    (λ ps. ap (λ (r : Result B ParseFault). fault_in r) (turns (mark_at 44 (st line e ps)) _ _ _ (λ t. mapped Reg B (Reg × Bool) (register_at t) (λ x. (x, false)) k)))
-    (mark_node few B 44 line e (λ t. register_at t >>= λ (x : Reg × ReaderState). k (x.0, false) x.1) refl refl
-    (good few false own_names line e (reader_of line e register_at (λ x. k (x, false))) (one_token few Reg B false own_names line e register_at (one_register line e) (λ x. k (x, false)) (λ x. g (x, false))))))
-  where
-    offset : Reader
-    offset ps = fault_in ((mark_at 44 (st line e ps) >>= λ (t : ReaderState). register_at t >>= λ (x : Reg × ReaderState). let y : Read (Reg × Bool) = Ok ((x.0, false), x.1) in y) >>= λ (z : (Reg × Bool) × ReaderState). k z.0 z.1)
-
-    bracket : (p : Piece) (ps : List Piece) → is_mark_of 91 (Some p.says) ≡ true → reader_of line e user_index_at k (p ∷ ps) ≡ behind_bracket line e (λ r. k (r, true)) ps
-    bracket p ps t =
-        ap (λ (r : Read (Reg × Bool)). fault_in (r >>= λ (z : (Reg × Bool) × ReaderState). k z.0 z.1)) (take_then (is_mark_of 91 (Some p.says)) _ _ t)
-        ∙ ap (λ (r : Result B ParseFault). fault_in r) (mapped Reg B (Reg × Bool) (scaled_at (st line e (p ∷ ps))) (λ r. (r, true)) k)
-        ∙ scaled_taken B line e p ps (λ r. k (r, true)) t
-
-    otherwise : (p : Piece) (ps : List Piece) → is_mark_of 91 (Some p.says) ≡ false → reader_of line e user_index_at k (p ∷ ps) ≡ offset (p ∷ ps)
-    otherwise p ps t = ap (λ (r : Read (Reg × Bool)). fault_in (r >>= λ (z : (Reg × Bool) × ReaderState). k z.0 z.1)) (take_else (is_mark_of 91 (Some p.says)) _ _ t)
+    indexed_node few B Reg (Reg × Bool) line e register_at (λ r. (r, true)) (λ r. (r, false)) k g
+    (good few false own_names line e (reader_of line e register_at (λ x. k (x, false))) (one_token few Reg B false own_names line e register_at (one_register line e) (λ x. k (x, false)) (λ x. g (x, false))))
 
 -- bit fields
 
