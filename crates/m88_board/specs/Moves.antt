@@ -1,18 +1,15 @@
 -- What an event makes of a board.
-use Rattle.std.specs.Prelude.{ℕ, Bool, true, not, List, Option, ◌≡◌, ◌%◌, if◌then◌else◌}
-use Rattle.m88_event.specs.Choice.{Choice, finishes, holds, next_choice, said}
+use Rattle.std.specs.Prelude.{ℕ, Bool, not, List, ◌≡◌, if◌then◌else◌}
+use Rattle.m88_event.specs.Choice.{Choice, finishes, holds, said}
 use Rattle.m88_event.specs.Local.{local_at, move, move_by, said_by}
 use Rattle.m88_event.specs.Shadow.{retired_pointer}
 use Rattle.m88_event.specs.Timeline.{DoneWereMade, Moment}
 use Rattle.m88_event.specs.declared.happened.Happened.{Happened}
 use Rattle.m88_event.specs.declared.letter.Letter.{Letter}
 use Rattle.m88_event.specs.declared.record.Record.{Record}
-use Rattle.m88_isa.specs.Address.{after_bytes}
-use Rattle.m88_isa.specs.Held.{held, is_pending, sync}
-use Rattle.m88_isa.specs.History.{Completed}
+use Rattle.m88_isa.specs.Held.{is_pending, sync}
 use Rattle.m88_iunit.specs.Pointers.{Pointers}
-use Rattle.m88_isa.specs.Machine.{Program, Stop, Turn, executed}
-use Rattle.m88_isa.specs.declared.instr.Instr.{Instr}
+use Rattle.m88_isa.specs.Machine.{Program, Stop}
 use Rattle.m88_isa.specs.declared.planned.Access.{Access}
 use Rattle.m88_board.specs.Board.{BoardView, local_of, next_of, pc_of, pointer_of}
 use Rattle.m88_board.specs.ImageOf.{IsImageOf}
@@ -23,13 +20,6 @@ pub record IsAdvanced (old new : Pointers) (pc next : ℕ) (bubble : Bool) : Typ
   pub here : pc_of new ≡ pc
   pub behind : next_of new ≡ next
   pub bubble_is : not new.nip.v ≡ bubble
-
--- where an instruction goes on: at words, and behind a target comes the word behind it where one that was fetched is
--- passed over
-pub record FlowFits (after : ℕ × ℕ) (bubble : Bool) : Type 0 where
-  pub here : after.0 % 4 ≡ 0
-  pub behind : after.1 % 4 ≡ 0
-  pub straight : bubble ≡ true → after.1 ≡ after_bytes after.0 4
 
 -- the same image and the same limit
 pub record IsSameRun (old new : BoardView) : Type 0 where
@@ -66,11 +56,3 @@ pub record IsUnmoved (old new : BoardView) : Type 0 where
 -- what raises waits for an empty data unit, and then ends the program
 abbrev pub stopping : Stop → List Access → Choice
 stopping stop pending = if is_pending pending then holds sync else finishes stop
-
--- the turn of an instruction that was fetched and read
-abbrev pub turn_of : Option Instr → Completed → Turn
-turn_of i c = executed i c.regs c.carry c.pc c.next
-
--- the choice that the next instruction comes to in its turn, by the transactions that are pending
-abbrev pub choice_for : Option Instr → Turn → BoardView → Choice
-choice_for i turn b = next_choice (held i turn b.pending) turn

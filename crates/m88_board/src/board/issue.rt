@@ -9,7 +9,8 @@ ghost use Rattle.m88_isa.specs.Instr.{IsValid};
 ghost use Rattle.m88_isa.specs.Machine.{Program};
 ghost use Rattle.m88_board.specs.Board.{completed_of, is_idle_board, local_of};
 ghost use Rattle.m88_board.specs.ImageOf.{IsImageOf};
-ghost use Rattle.m88_board.specs.Moves.{Did, IsUnmoved, choice_for, turn_of};
+ghost use Rattle.m88_board.specs.Moves.{Did, IsUnmoved};
+ghost use Rattle.m88_board.specs.Turns.{choice_for, turn_of};
 
 use crate::board::Board;
 use m88_base::NoMemory;
