@@ -7,3 +7,4 @@ pub mod Service
 pub mod Moving
 pub mod Searching
 pub mod Starting
+pub mod Issuing

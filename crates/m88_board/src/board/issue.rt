@@ -4,13 +4,15 @@ ghost use Rattle.std.specs.Prelude.{◌≡◌, Some, None, true, false, IfOk, On
 ghost use Rattle.m88_event.specs.Local.{choice_by};
 ghost use Rattle.m88_event.specs.declared.letter.Letter.{Letter as LetterValue};
 ghost use Rattle.m88_event.specs.declared.record.Record.{Record as RecordValue};
+ghost use Rattle.m88_isa.specs.Effect.{FlowsToWords, MakesAccesses, RaisesListed, TrapsForUser, WritesWithin, plan_for};
 ghost use Rattle.m88_isa.specs.Held.{busy_register};
 ghost use Rattle.m88_isa.specs.Instr.{IsValid};
 ghost use Rattle.m88_isa.specs.Machine.{Program};
+ghost use Rattle.m88_isa.specs.Operands.{access_count_of, writes_of};
 ghost use Rattle.m88_board.specs.Board.{completed_of, is_idle_board, local_of};
 ghost use Rattle.m88_board.specs.ImageOf.{IsImageOf};
 ghost use Rattle.m88_board.specs.Moves.{Did, IsUnmoved};
-ghost use Rattle.m88_board.specs.Turns.{choice_for, turn_of};
+ghost use Rattle.m88_board.specs.Turns.{choice_for, meaning_at, turn_of};
 
 use crate::board::Board;
 use m88_base::NoMemory;
@@ -75,10 +77,7 @@ impl Board {
             fault self.old happened self.new) }
         ensures err { OnErr result (IsUnmoved self.old self.new) }
     {
-        let values = self.regs.values();
-        let pc = self.iunit.candidate().addr;
-        let next = self.iunit.following().addr;
-        match plan(instr, &values, self.ctrl.carry(), pc, next) {
+        match self.planned(instr) {
             Plan::Raise(vector) => Ok(self.raise(vector)),
             Plan::Trap(vector) => {
                 if self.dunit.oldest().is_some() {
@@ -97,5 +96,26 @@ impl Board {
                 Ok(Happened::Issued)
             }
         }
+    }
+
+    /// What the next instruction does, where no register that it uses or writes waits.
+    fn planned(&self, instr: &Instr) -> Plan
+        requires instr { IsValid instr.now }
+        requires valid { self.now.slots.nip.v ≡ true }
+        requires free { busy_register (Some instr.now) self.now.pending ≡ None }
+        ensures value { result ≡ plan_for (meaning_at instr.now (completed_of self.now)) }
+        ensures accesses { MakesAccesses (access_count_of instr.now) result }
+        ensures register { WritesWithin (writes_of instr.now) result }
+        ensures trap { TrapsForUser result }
+        ensures raise { RaisesListed result }
+        ensures flow { FlowsToWords result }
+    {
+        plan(
+            instr,
+            &self.regs.values(),
+            self.ctrl.carry(),
+            self.iunit.candidate().addr,
+            self.iunit.following().addr,
+        )
     }
 }
