@@ -1,4 +1,3 @@
-pub mod ImageOf
 pub mod Board
 pub mod Kept
 pub mod Moves

@@ -12,7 +12,7 @@ use Rattle.m88_iunit.specs.Pointers.{Pointers}
 use Rattle.m88_isa.specs.Machine.{Program, Stop}
 use Rattle.m88_isa.specs.declared.planned.Access.{Access}
 use Rattle.m88_board.specs.Board.{BoardView, local_of, next_of, pc_of, pointer_of}
-use Rattle.m88_board.specs.ImageOf.{IsImageOf}
+use Rattle.m88_isa.specs.ImageProgram.{IsProgramOf}
 
 -- the slots after an instruction that goes on: it is XIP, and these are next
 pub record IsAdvanced (old new : Pointers) (pc next : ℕ) (bubble : Bool) : Type 0 where
@@ -44,7 +44,7 @@ pub record IsMove (p : Program) (letter : Letter) (old : BoardView) (happened : 
 
 -- a board stands at a moment of a program that its image holds
 pub record IsAt (p : Program) (named : ℕ → Bool) (m : Moment) (b : BoardView) : Type 0 where
-  pub image : IsImageOf p b.memory.image
+  pub image : IsProgramOf b.memory.image p
   pub within : DoneWereMade p m
   pub seen : local_of b ≡ local_at p named m
 

@@ -16,7 +16,7 @@ ghost use Rattle.m88_isa.specs.Held.{busy_register, involves, most_pending};
 ghost use Rattle.m88_isa.specs.Machine.{IsProgram, Program, Stop, by_vector, trapped};
 ghost use Rattle.m88_isa.specs.Instr.{IsValid};
 ghost use Rattle.m88_board.specs.Board.{is_idle_board, local_of, pc_of};
-ghost use Rattle.m88_board.specs.ImageOf.{IsImageOf};
+ghost use Rattle.m88_isa.specs.ImageProgram.{IsProgramOf};
 ghost use Rattle.std.specs.Int.{bit_at};
 ghost use Rattle.m88_dunit.specs.Pending.{CanIssue};
 ghost use Rattle.m88_iunit.specs.Pointers.{resumed};
@@ -108,7 +108,7 @@ impl Board {
         requires pages { NamesPages absent.now }
         requires small { limit ≤ most_retired }
         ensures limit { IfOk result (λ b. b.limit ≡ limit) }
-        ensures at { IfOk result (λ b. (p : Program) → IsImageOf p image.now
+        ensures at { IfOk result (λ b. (p : Program) → IsProgramOf image.now p
             → IsAt p (absent_in absent.now) opening_moment b) }
     {
         let memory = Memory::new(alloc, image, absent)?;
@@ -151,7 +151,7 @@ impl Board {
 
     /// The record that a data fault now would leave.
     pub fn pipe(&self) -> Record
-        ensures value { (p : Program) → IsImageOf p self.now.memory.image
+        ensures value { (p : Program) → IsProgramOf self.now.memory.image p
             → result ≡ record_by p self.now.limit (local_of self.now) }
         ensures resumes { resumed self.now.slots result.snip result.sfip ≡ self.now.slots }
         ensures ssbr { bit_at result.ssbr 0 ≡ 0 }
@@ -195,7 +195,7 @@ impl Board {
     /// pending.
     fn fault(&mut self) -> Result<Record, NoMemory>
         requires { 0 < length self.old.pending }
-        ensures record { IfOk result (λ fault. (p : Program) → IsImageOf p self.old.memory.image
+        ensures record { IfOk result (λ fault. (p : Program) → IsProgramOf self.old.memory.image p
             → fault ≡ record_by p self.old.limit (local_of self.old)) }
         ensures does { IfOk result (λ fault. Does faults fault self.old self.new) }
         ensures events { self.new.events ≡ self.old.events }
@@ -219,7 +219,7 @@ impl Board {
 
     /// The letter `r`.
     fn answer(&mut self) -> Result<Happened, NoMemory>
-        ensures ok { IfOk result (λ happened. (p : Program) → IsImageOf p self.old.memory.image
+        ensures ok { IfOk result (λ happened. (p : Program) → IsProgramOf self.old.memory.image p
             → Did (answer_choice self.old.pending (absent_of self.old.memory))
             (record_by p self.old.limit (local_of self.old)) self.old happened self.new) }
         ensures events { self.new.events ≡ self.old.events }
@@ -382,7 +382,7 @@ impl Board {
     /// before anything changes: where it runs out, what is seen of the board is as before, and no event is counted.
     pub fn take_answer(&mut self) -> Result<Happened, NoMemory>
         requires { self.old.events < most_events }
-        ensures moved { IfOk result (λ happened. (p : Program) → IsImageOf p self.old.memory.image
+        ensures moved { IfOk result (λ happened. (p : Program) → IsProgramOf self.old.memory.image p
             → IsMove p LetterValue.Answer self.old happened self.new) }
         ensures timeline { OnOk result ((p : Program) (named : ℕ → Bool) (m : Moment) → IsProgram p
             → IsAt p named m self.old
