@@ -3,11 +3,14 @@ use Rattle.std.specs.Prelude.{ℕ, Bool, true, false, List, [], ◌∷◌, ◌++
 use Rattle.std.specs.Int.{bit_at}
 use Rattle.std.proofs.Common.{arith, refl, sym, ap, ◌∙◌, subst}
 use Rattle.std.proofs.lemmas.Bool.Decides.{nat_tests}
-use Rattle.m88_base.specs.Reg.{number_of}
+use Rattle.m88_base.proofs.Same.{same_reg}
+use Rattle.m88_base.specs.Reg.{number_of, reg_of}
+use Rattle.m88_base.specs.declared.reg.Reg.{Reg}
 use Rattle.m88_ctrl.specs.ControlRegisters.{carry_of}
 use Rattle.m88_dunit.specs.Pending.{CanIssue}
 use Rattle.m88_event.specs.Choice.{Choice, finishes, holds, issues, next_choice, turn_choice, why_of}
 use Rattle.m88_event.specs.declared.happened.Happened.TheVariants as happened
+use Rattle.m88_event.specs.declared.happened.Why.TheVariants.{Busy}
 use Rattle.m88_event.specs.declared.record.Record.{Record}
 use Rattle.m88_isa.proofs.Alone.{by_test}
 use Rattle.m88_isa.proofs.Apart.{issue_stays_apart}
@@ -16,7 +19,7 @@ use Rattle.m88_isa.proofs.Plans.{at_most_two, touches_counted}
 use Rattle.m88_isa.proofs.Turns.{listed_recorded, traps_wait}
 use Rattle.m88_isa.specs.Bus.{LoadApart, after_accesses, listed, waits_for}
 use Rattle.m88_isa.specs.Effect.{Change, Meaning, goes, meaning_of, plan_for, plan_of, raises, recorded_change, traps}
-use Rattle.m88_isa.specs.Held.{Hold, busy_register, exceeds, full, held, is_pending, most_pending, needs_empty, sync}
+use Rattle.m88_isa.specs.Held.{Hold, busy, busy_register, exceeds, full, held, is_pending, most_pending, needs_empty, sync}
 use Rattle.m88_isa.specs.History.{change_accesses}
 use Rattle.m88_isa.specs.Instr.{IsValid}
 use Rattle.m88_isa.specs.Machine.{Stop, Turn, by_vector, carried_out, changes, outputs, stops, trapped}
@@ -269,3 +272,12 @@ pub held_still : (choice : Choice) (why : Hold) (fault : Record) (b : BoardView)
 held_still choice why fault b is =
     did_by choice (holds why) fault b (happened.Stalled (why_of why)) b is
     (record { says = refl; does = record { moved = refl; same = record { limit = refl; image = refl } } })
+
+-- the least register that it uses or writes and that waits holds it
+pub busy_first : (i : Instr) (b : BoardView) (r : Reg) (turn : Turn) (fault : Record) → Some (number_of r) ≡ busy_register (Some i) b.pending →
+    Did (choice_for (Some i) turn b) fault b (happened.Stalled (Busy r)) b
+busy_first i b r turn fault h =
+    let same : reg_of (number_of r) ≡ r = same_reg _ _ (let low : number_of r < 32 = r.in_range in omega (arith, low)) in
+    let choice : choice_for (Some i) turn b ≡ holds (busy (number_of r)) = rw (sym h) refl in
+    subst (λ (s : Reg). Did (choice_for (Some i) turn b) fault b (happened.Stalled (Busy s)) b) same
+    (held_still (choice_for (Some i) turn b) (busy (number_of r)) fault b choice)

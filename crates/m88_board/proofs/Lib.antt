@@ -8,3 +8,4 @@ pub mod Moving
 pub mod Searching
 pub mod Starting
 pub mod Issuing
+pub mod Fetching

@@ -10,7 +10,7 @@ ghost use Rattle.m88_isa.specs.Instr.{IsValid};
 ghost use Rattle.m88_isa.specs.Machine.{Program};
 ghost use Rattle.m88_isa.specs.Operands.{access_count_of, writes_of};
 ghost use Rattle.m88_board.specs.Board.{completed_of, is_idle_board, local_of};
-ghost use Rattle.m88_board.specs.ImageOf.{IsImageOf};
+ghost use Rattle.m88_isa.specs.ImageProgram.{IsProgramOf};
 ghost use Rattle.m88_board.specs.Moves.{Did, IsUnmoved};
 ghost use Rattle.m88_board.specs.Turns.{choice_for, meaning_at, turn_of};
 
@@ -25,7 +25,7 @@ impl Board {
     /// turn.
     pub(super) fn issue(&mut self) -> Result<Happened, NoMemory>
         ensures ok { IfOk result (λ happened. (p : Program) (fault : RecordValue)
-            → IsImageOf p self.old.memory.image
+            → IsProgramOf self.old.memory.image p
             → Did (choice_by p self.old.limit LetterValue.Issue (local_of self.old)) fault
             self.old happened self.new) }
         ensures events { self.new.events ≡ self.old.events }
