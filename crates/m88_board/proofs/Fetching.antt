@@ -2,7 +2,7 @@
 use Rattle.std.specs.Prelude.{ℕ, Bool, true, false, not, List, [], ◌∷◌, Option, Some, None, Result, Ok, Err, IfOk, OnErr, MatchOption, ◌≡◌, ◌<◌, ◌%◌, ◌^◌, ◌&&◌}
 use Rattle.std.specs.Int.{to_be_bytes, w32}
 use Rattle.std.proofs.Common.{refl, sym, ap, ap₂, ◌∙◌, subst}
-use Rattle.m88_base.specs.Image.{byte_at}
+use Rattle.m88_base.specs.Image.{ProgramImage, byte_at}
 use Rattle.m88_base.specs.declared.failing.NoMemory.{NoMemory}
 use Rattle.m88_event.specs.Choice.{Choice, faults, finishes, holds, idles, issue_choice, issues, next_choice, passes, replies, serves}
 use Rattle.m88_event.specs.Local.{Local, choice_by, move_by, situation_of}
@@ -20,6 +20,8 @@ use Rattle.m88_isa.specs.Vector.{instruction_access, unimplemented}
 use Rattle.m88_isa.specs.Word.{IsWord}
 use Rattle.m88_isa.specs.declared.instr.Instr.{Instr}
 use Rattle.m88_isa.specs.declared.planned.Access.{Access}
+use Rattle.m88_iunit.specs.declared.slot.Slot.{Slot}
+use Rattle.m88_board.proofs.Choosing.{at_pc}
 use Rattle.m88_board.specs.Board.{BoardView, completed_of, is_idle_board, local_of, pc_of}
 use Rattle.m88_board.specs.Moves.{Did, Does, IsUnmoved, stopping}
 use Rattle.m88_board.specs.Turns.{choice_for, turn_of}
@@ -30,10 +32,14 @@ unfolding situation_of local_of
 idles_by p b idle = rw idle refl
 
 -- a bubble
-pub passes_by : (p : Program) (b : BoardView) → is_idle_board b ≡ false → b.slots.nip.v ≡ false →
+passed_over : (idle bubble : Bool) (why : Option Hold) (turn : Turn) → idle ≡ false → bubble ≡ true →
+    issue_choice idle bubble why turn ≡ passes
+passed_over idle bubble why turn goes over = rw (goes, over) refl
+
+pub passes_by : (p : Program) (b : BoardView) → is_idle_board b ≡ false → not b.slots.nip.v ≡ true →
     choice_by p b.limit Issue (local_of b) ≡ passes
 unfolding situation_of local_of
-passes_by p b goes bubble = rw (goes, bubble) refl
+passes_by p b goes bubble = passed_over (is_idle_board b) (not b.slots.nip.v) _ _ goes bubble
 
 -- the choice by the four bytes that are fetched and the instruction that the program has there
 abbrev choice_fetched : Option (List ℕ) → Option Instr → Completed → List Access → Choice
@@ -74,13 +80,38 @@ bytes_of : (p : Program) (b : BoardView) (a : ℕ) → IsProgramOf b.memory.imag
     four_bytes p.byte a ≡ four_bytes (byte_at b.memory.image) a
 bytes_of p b a of = ap (λ (byte : ℕ → Option ℕ). four_bytes byte a) of.bytes
 
+-- NIP is to be carried out, and these are the bytes there, if all four of them are
+pub record NextAt (b : BoardView) (word : Option (List ℕ)) : Type 0 where
+  pub valid : b.slots.nip.v ≡ true
+  pub aligned : pc_of b.slots % 4 ≡ 0
+  pub bytes : four_bytes (byte_at b.memory.image) (pc_of b.slots) ≡ word
+
+unmarked : (v : Bool) → not v ≡ false → v ≡ true
+unmarked true h = refl
+unmarked false h = absurd cc
+
+pub next_at : (inside b : BoardView) (slot : Slot) (word : Option (List ℕ)) → inside ≡ b → slot ≡ inside.slots.nip →
+    slot.addr % 4 ≡ 0 →
+    not slot.v ≡ false →
+    word ≡ four_bytes (byte_at inside.memory.image) slot.addr →
+    NextAt b word
+next_at inside b slot word same is aligned marked bytes =
+    let image : inside.memory.image ≡ b.memory.image = ap (λ (x : BoardView). x.memory.image) same in
+    let valid : b.slots.nip.v ≡ true =
+    sym (ap (λ (s : Slot). s.v) is ∙ ap (λ (x : BoardView). x.slots.nip.v) same) ∙ unmarked slot.v marked in
+    let here : slot.addr ≡ pc_of b.slots = at_pc inside.slots b.slots slot is (ap (λ (x : BoardView). x.slots) same) valid in
+    record {
+      valid = valid;
+      aligned = subst (λ (a : ℕ). a % 4 ≡ 0) here aligned;
+      bytes = ap₂ (λ (i : ProgramImage) (a : ℕ). four_bytes (byte_at i) a) (sym image) (sym here) ∙ sym bytes;
+    }
+
 -- the word can't be fetched
-pub lacks_by : (p : Program) (b : BoardView) → IsProgramOf b.memory.image p → is_idle_board b ≡ false → b.slots.nip.v ≡ true →
-    four_bytes (byte_at b.memory.image) (pc_of b.slots) ≡ None →
+pub lacks_by : (p : Program) (b : BoardView) → IsProgramOf b.memory.image p → is_idle_board b ≡ false → NextAt b None →
     choice_by p b.limit Issue (local_of b) ≡ stopping (by_vector instruction_access (pc_of b.slots)) b.pending
 unfolding completed_of
-lacks_by p b of goes valid absent =
-    fetches_by p b None (p.instruction (pc_of b.slots)) goes valid (bytes_of p b (pc_of b.slots) of ∙ absent) refl
+lacks_by p b of goes next =
+    fetches_by p b None (p.instruction (pc_of b.slots)) goes next.valid (bytes_of p b (pc_of b.slots) of ∙ next.bytes) refl
     ∙ stopped_early (by_vector instruction_access (pc_of b.slots)) b.pending
 
 -- the word is no instruction
@@ -91,17 +122,15 @@ none_there None word found none = refl
 none_there (Some j) word found none = absurd (none j found)
 
 pub unimplemented_by : (p : Program) (b : BoardView) (word : ℕ) → IsProgramOf b.memory.image p → is_idle_board b ≡ false →
-    b.slots.nip.v ≡ true →
-    pc_of b.slots % 4 ≡ 0 →
+    NextAt b (Some (to_be_bytes w32 word)) →
     word < 2 ^ 32 →
-    four_bytes (byte_at b.memory.image) (pc_of b.slots) ≡ Some (to_be_bytes w32 word) →
     ((j : Instr) → ¬ IsWord j word) →
     choice_by p b.limit Issue (local_of b) ≡ stopping (by_vector unimplemented (pc_of b.slots)) b.pending
 unfolding completed_of
-unimplemented_by p b word of goes valid aligned small bytes none =
-    fetches_by p b (Some (to_be_bytes w32 word)) None goes valid (bytes_of p b (pc_of b.slots) of ∙ bytes)
+unimplemented_by p b word of goes next small none =
+    fetches_by p b (Some (to_be_bytes w32 word)) None goes next.valid (bytes_of p b (pc_of b.slots) of ∙ next.bytes)
     (none_there (p.instruction (pc_of b.slots)) word
-    (instruction_at_word b.memory.image p (pc_of b.slots) word of aligned small bytes) none)
+    (instruction_at_word b.memory.image p (pc_of b.slots) word of next.aligned small next.bytes) none)
     ∙ stopped_early (by_vector unimplemented (pc_of b.slots)) b.pending
 
 -- the word is an instruction's
@@ -113,17 +142,15 @@ found_there None i word none is only = absurd (none i is)
 found_there (Some j) i word found is only = ap Some (only j found)
 
 pub turns_by : (p : Program) (b : BoardView) (word : ℕ) (i : Instr) → IsProgramOf b.memory.image p → is_idle_board b ≡ false →
-    b.slots.nip.v ≡ true →
-    pc_of b.slots % 4 ≡ 0 →
+    NextAt b (Some (to_be_bytes w32 word)) →
     word < 2 ^ 32 →
-    four_bytes (byte_at b.memory.image) (pc_of b.slots) ≡ Some (to_be_bytes w32 word) →
     IsWord i word →
     ((j : Instr) → IsWord j word → j ≡ i) →
     choice_by p b.limit Issue (local_of b) ≡ choice_for (Some i) (turn_of (Some i) (completed_of b)) b
-turns_by p b word i of goes valid aligned small bytes is only =
-    fetches_by p b (Some (to_be_bytes w32 word)) (Some i) goes valid (bytes_of p b (pc_of b.slots) of ∙ bytes)
+turns_by p b word i of goes next small is only =
+    fetches_by p b (Some (to_be_bytes w32 word)) (Some i) goes next.valid (bytes_of p b (pc_of b.slots) of ∙ next.bytes)
     (found_there (p.instruction (pc_of b.slots)) i word
-    (instruction_at_word b.memory.image p (pc_of b.slots) word of aligned small bytes) is only)
+    (instruction_at_word b.memory.image p (pc_of b.slots) word of next.aligned small next.bytes) is only)
 
 -- no choice counts an event
 moved_events : (choice : Choice) (fault : Record) (l : Local) → (move_by choice fault l).events ≡ l.events
