@@ -1,14 +1,11 @@
 -- What the letter `i` comes to, by what is fetched for it.
-use Rattle.std.specs.Prelude.{ℕ, Bool, true, false, not, List, [], ◌∷◌, Option, Some, None, Result, Ok, Err, IfOk, OnErr, MatchOption, ◌≡◌, ◌<◌, ◌%◌, ◌^◌, ◌&&◌}
+use Rattle.std.specs.Prelude.{ℕ, Bool, true, false, not, List, [], ◌∷◌, Option, Some, None, MatchOption, ◌≡◌, ◌<◌, ◌%◌, ◌^◌, ◌&&◌}
 use Rattle.std.specs.Int.{to_be_bytes, w32}
 use Rattle.std.proofs.Common.{refl, sym, ap, ap₂, ◌∙◌, subst}
 use Rattle.m88_base.specs.Image.{ProgramImage, byte_at}
-use Rattle.m88_base.specs.declared.failing.NoMemory.{NoMemory}
-use Rattle.m88_event.specs.Choice.{Choice, faults, finishes, holds, idles, issue_choice, issues, next_choice, passes, replies, serves}
-use Rattle.m88_event.specs.Local.{Local, choice_by, move_by, situation_of}
-use Rattle.m88_event.specs.declared.happened.Happened.{Happened}
+use Rattle.m88_event.specs.Choice.{Choice, idles, issue_choice, next_choice, passes}
+use Rattle.m88_event.specs.Local.{choice_by, situation_of}
 use Rattle.m88_event.specs.declared.letter.Letter.TheVariants.{Issue}
-use Rattle.m88_event.specs.declared.record.Record.{Record}
 use Rattle.m88_isa.proofs.Held.{none_passes}
 use Rattle.m88_isa.proofs.ImageProgram.{instruction_at_word}
 use Rattle.m88_isa.specs.Bus.{waits_for}
@@ -23,19 +20,21 @@ use Rattle.m88_isa.specs.declared.planned.Access.{Access}
 use Rattle.m88_iunit.specs.declared.slot.Slot.{Slot}
 use Rattle.m88_board.proofs.Choosing.{at_pc}
 use Rattle.m88_board.specs.Board.{BoardView, completed_of, is_idle_board, local_of, pc_of}
-use Rattle.m88_board.specs.Moves.{Did, Does, IsUnmoved, stopping}
+use Rattle.m88_board.specs.Moves.{stopping}
 use Rattle.m88_board.specs.Turns.{choice_for, turn_of}
 
 -- no more may be issued
-pub idles_by : (p : Program) (b : BoardView) → is_idle_board b ≡ true → choice_by p b.limit Issue (local_of b) ≡ idles
+pub idles_by : (p : Program) (b : BoardView) → is_idle_board b ≡ true →
+    choice_by p b.limit Issue (local_of b) ≡ idles
 unfolding situation_of local_of
 idles_by p b idle = rw idle refl
 
--- a bubble
+-- the choice where the next fetched instruction is passed over
 passed_over : (idle bubble : Bool) (why : Option Hold) (turn : Turn) → idle ≡ false → bubble ≡ true →
     issue_choice idle bubble why turn ≡ passes
 passed_over idle bubble why turn goes over = rw (goes, over) refl
 
+-- a bubble
 pub passes_by : (p : Program) (b : BoardView) → is_idle_board b ≡ false → not b.slots.nip.v ≡ true →
     choice_by p b.limit Issue (local_of b) ≡ passes
 unfolding situation_of local_of
@@ -47,16 +46,19 @@ choice_fetched word i c pending =
     next_choice (held (fetched_instruction word i) (fetched word i c.regs c.carry c.pc c.next) pending)
     (fetched word i c.regs c.carry c.pc c.next)
 
+-- the choice where the next instruction has its turn
 goes_next : (idle bubble : Bool) (why : Option Hold) (turn : Turn) → idle ≡ false → bubble ≡ false →
     issue_choice idle bubble why turn ≡ next_choice why turn
 goes_next idle bubble why turn goes valid = rw (goes, valid) refl
 
+-- it has its turn by the bytes and the instruction that the program has there
 nexts_by : (p : Program) (b : BoardView) → is_idle_board b ≡ false → b.slots.nip.v ≡ true →
     choice_by p b.limit Issue (local_of b)
     ≡ choice_fetched (four_bytes p.byte (pc_of b.slots)) (p.instruction (pc_of b.slots)) (completed_of b) b.pending
 unfolding situation_of local_of completed_of
 nexts_by p b goes valid = goes_next (is_idle_board b) (not b.slots.nip.v) _ _ goes (ap not valid)
 
+-- and by what is known of these
 fetches_by : (p : Program) (b : BoardView) (word : Option (List ℕ)) (i : Option Instr) → is_idle_board b ≡ false →
     b.slots.nip.v ≡ true →
     four_bytes p.byte (pc_of b.slots) ≡ word →
@@ -71,7 +73,9 @@ none_involved : (pending : List Access) → busy_register None pending ≡ None
 unfolding busy_register
 none_involved pending = none_passes 1 31 (λ register. false && waits_for pending register) (λ k. refl)
 
-stopped_early : (stop : Stop) (pending : List Access) → next_choice (held None (stops stop) pending) (stops stop) ≡ stopping stop pending
+-- so nothing but the pending transactions holds it
+stopped_early : (stop : Stop) (pending : List Access) →
+    next_choice (held None (stops stop) pending) (stops stop) ≡ stopping stop pending
 stopped_early stop [] = rw (none_involved []) refl
 stopped_early stop (a ∷ pending) = rw (none_involved (a ∷ pending)) refl
 
@@ -86,10 +90,12 @@ pub record NextAt (b : BoardView) (word : Option (List ℕ)) : Type 0 where
   pub aligned : pc_of b.slots % 4 ≡ 0
   pub bytes : four_bytes (byte_at b.memory.image) (pc_of b.slots) ≡ word
 
+-- a mark that isn't unset is set
 unmarked : (v : Bool) → not v ≡ false → v ≡ true
 unmarked true h = refl
 unmarked false h = absurd cc
 
+-- as the parts show it
 pub next_at : (inside b : BoardView) (slot : Slot) (word : Option (List ℕ)) → inside ≡ b → slot ≡ inside.slots.nip →
     slot.addr % 4 ≡ 0 →
     not slot.v ≡ false →
@@ -107,21 +113,26 @@ next_at inside b slot word same is aligned marked bytes =
     }
 
 -- the word can't be fetched
-pub lacks_by : (p : Program) (b : BoardView) → IsProgramOf b.memory.image p → is_idle_board b ≡ false → NextAt b None →
+pub lacks_by : (p : Program) (b : BoardView) → IsProgramOf b.memory.image p → is_idle_board b ≡ false →
+    NextAt b None →
     choice_by p b.limit Issue (local_of b) ≡ stopping (by_vector instruction_access (pc_of b.slots)) b.pending
 unfolding completed_of
 lacks_by p b of goes next =
-    fetches_by p b None (p.instruction (pc_of b.slots)) goes next.valid (bytes_of p b (pc_of b.slots) of ∙ next.bytes) refl
+    fetches_by p b None (p.instruction (pc_of b.slots)) goes next.valid
+    (bytes_of p b (pc_of b.slots) of ∙ next.bytes) refl
     ∙ stopped_early (by_vector instruction_access (pc_of b.slots)) b.pending
 
--- the word is no instruction
-none_there : (o : Option Instr) (word : ℕ) → MatchOption o ((j : Instr) → ¬ IsWord j word) (λ j. IsWord j word) →
+-- the program has no instruction where the word is none
+none_there : (o : Option Instr) (word : ℕ) →
+    MatchOption o ((j : Instr) → ¬ IsWord j word) (λ j. IsWord j word) →
     ((j : Instr) → ¬ IsWord j word) →
     o ≡ None
 none_there None word found none = refl
 none_there (Some j) word found none = absurd (none j found)
 
-pub unimplemented_by : (p : Program) (b : BoardView) (word : ℕ) → IsProgramOf b.memory.image p → is_idle_board b ≡ false →
+-- the word is no instruction
+pub unimplemented_by : (p : Program) (b : BoardView) (word : ℕ) → IsProgramOf b.memory.image p →
+    is_idle_board b ≡ false →
     NextAt b (Some (to_be_bytes w32 word)) →
     word < 2 ^ 32 →
     ((j : Instr) → ¬ IsWord j word) →
@@ -133,15 +144,18 @@ unimplemented_by p b word of goes next small none =
     (instruction_at_word b.memory.image p (pc_of b.slots) word of next.aligned small next.bytes) none)
     ∙ stopped_early (by_vector unimplemented (pc_of b.slots)) b.pending
 
--- the word is an instruction's
-found_there : (o : Option Instr) (i : Instr) (word : ℕ) → MatchOption o ((j : Instr) → ¬ IsWord j word) (λ j. IsWord j word) →
+-- the program has the one instruction of the word
+found_there : (o : Option Instr) (i : Instr) (word : ℕ) →
+    MatchOption o ((j : Instr) → ¬ IsWord j word) (λ j. IsWord j word) →
     IsWord i word →
     ((j : Instr) → IsWord j word → j ≡ i) →
     o ≡ Some i
 found_there None i word none is only = absurd (none i is)
 found_there (Some j) i word found is only = ap Some (only j found)
 
-pub turns_by : (p : Program) (b : BoardView) (word : ℕ) (i : Instr) → IsProgramOf b.memory.image p → is_idle_board b ≡ false →
+-- the word is an instruction's, which has its turn
+pub turns_by : (p : Program) (b : BoardView) (word : ℕ) (i : Instr) → IsProgramOf b.memory.image p →
+    is_idle_board b ≡ false →
     NextAt b (Some (to_be_bytes w32 word)) →
     word < 2 ^ 32 →
     IsWord i word →
@@ -151,38 +165,3 @@ turns_by p b word i of goes next small is only =
     fetches_by p b (Some (to_be_bytes w32 word)) (Some i) goes next.valid (bytes_of p b (pc_of b.slots) of ∙ next.bytes)
     (found_there (p.instruction (pc_of b.slots)) i word
     (instruction_at_word b.memory.image p (pc_of b.slots) word of next.aligned small next.bytes) is only)
-
--- no choice counts an event
-moved_events : (choice : Choice) (fault : Record) (l : Local) → (move_by choice fault l).events ≡ l.events
-moved_events idles fault l = refl
-moved_events passes fault l = refl
-moved_events (holds why) fault l = refl
-moved_events (issues change) fault l = refl
-moved_events (serves byte) fault l = refl
-moved_events (finishes stop) fault l = refl
-moved_events replies fault l = refl
-moved_events faults fault l = refl
-
-does_events : (choice : Choice) (fault : Record) (old new : BoardView) → Does choice fault old new → new.events ≡ old.events
-unfolding local_of
-does_events choice fault old new does = ap (λ (l : Local). l.events) does.moved ∙ moved_events choice fault (local_of old)
-
--- a record, where a choice needs none
-no_record : Record
-no_record = record { event = 0; epsr = 0; sxip = 0; snip = 0; sfip = 0; ssbr = 0; triples = [] }
-
-pub same_events : (choice : Choice) (old new : BoardView) → ((fault : Record) → Does choice fault old new) → new.events ≡ old.events
-same_events choice old new does = does_events choice no_record old new (does no_record)
-
-pub did_events : (choice : Choice) (old : BoardView) (h : Happened) (new : BoardView) →
-    ((fault : Record) → Did choice fault old h new) →
-    new.events ≡ old.events
-did_events choice old h new did = same_events choice old new (λ fault. (did fault).does)
-
-pub events_kept : (choice : Choice) (r : Result Happened NoMemory) (old new : BoardView) →
-    IfOk r (λ h. (fault : Record) → Did choice fault old h new) →
-    OnErr r (IsUnmoved old new) →
-    new.events ≡ old.events
-unfolding local_of
-events_kept choice (Ok h) old new did still = did_events choice old h new did
-events_kept choice (Err e) old new did still = ap (λ (l : Local). l.events) still.seen

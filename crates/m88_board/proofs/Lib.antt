@@ -9,3 +9,4 @@ pub mod Searching
 pub mod Starting
 pub mod Issuing
 pub mod Fetching
+pub mod Counting

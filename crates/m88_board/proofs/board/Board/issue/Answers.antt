@@ -1,5 +1,5 @@
 -- What the letter `i` comes to.
-use Rattle.std.proofs.Common.{◌≡◌, ◌∙◌, ℕ, Some, None, Option, Bool, List, not, arith, ap, refl, sym, subst, true, false}
+use Rattle.std.proofs.Common.{◌≡◌, ◌∙◌, ℕ, Some, None, Option, Bool, not, arith, ap, refl, sym, subst, true}
 use Rattle.std.specs.Prelude.{option_map}
 use Rattle.std.specs.Int.{to_be_bytes, w32}
 use Rattle.std.proofs.lemmas.Result.{IfOk-weaker}
@@ -13,7 +13,8 @@ use Rattle.m88_isa.specs.Machine.{Program, by_vector}
 use Rattle.m88_isa.specs.Vector.{instruction_access, unimplemented}
 use Rattle.m88_iunit.specs.declared.slot.Slot.{Slot}
 use Rattle.m88_board.proofs.Choosing.{did_by}
-use Rattle.m88_board.proofs.Fetching.{did_events, events_kept, idles_by, lacks_by, next_at, passes_by, same_events, turns_by, unimplemented_by}
+use Rattle.m88_board.proofs.Counting.{did_events, events_kept, same_events}
+use Rattle.m88_board.proofs.Fetching.{idles_by, lacks_by, next_at, passes_by, turns_by, unimplemented_by}
 use Rattle.m88_board.specs.Board.{BoardView, completed_of, local_of, pc_of}
 use Rattle.m88_board.specs.Moves.{Did, stopping}
 use Rattle.m88_board.specs.Turns.{choice_for, turn_of}
@@ -77,7 +78,7 @@ returns-in-Ok-clause-ok c =
     IfOk-weaker c.issue_instr.result
     (λ h. (fault : Record) → Did (choice_for (Some i) (turn_of (Some i) (completed_of b)) b) fault b h c.issue_instr.new.self)
     (λ h. (p : Program) (fault : Record) → IsProgramOf b.memory.image p
-        → Did (choice_by p b.limit Issue (local_of b)) fault b h c.issue_instr.new.self)
+    → Did (choice_by p b.limit Issue (local_of b)) fault b h c.issue_instr.new.self)
     (λ h did p fault of. did_by (choice_by p b.limit Issue (local_of b)) (choice_for (Some i) (turn_of (Some i) (completed_of b)) b)
     fault b h c.issue_instr.new.self
     (turns_by p b c.in-Some.word i of (sym c.is_idle.ensures ∙ c.if-is_idle.false)
