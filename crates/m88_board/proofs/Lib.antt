@@ -7,3 +7,6 @@ pub mod Service
 pub mod Moving
 pub mod Searching
 pub mod Starting
+pub mod Issuing
+pub mod Fetching
+pub mod Counting

@@ -1,3 +1,4 @@
 pub mod Board
 pub mod Kept
 pub mod Moves
+pub mod Turns

@@ -36,6 +36,8 @@ use m88_scoreboard::RegFile;
 use std::alloc::Global;
 use std::marker::Model;
 
+mod issue;
+
 /// The number of PSR, the status of a program that runs.
 const PSR: u8 = 1;
 
