@@ -367,27 +367,88 @@ impl Board {
         None
     }
 
+    /// The next instruction, of whose registers none waits.
+    fn issue_free(&mut self, instr: &Instr) -> Result<Happened, NoMemory>
+        requires instr { IsValid instr.now }
+        requires going { is_idle_board self.old ≡ false }
+        requires valid { self.old.slots.nip.v ≡ true }
+        requires fetched { self.old.slots.nip.e ≡ false }
+        requires free { busy_register (Some instr.now) self.old.pending ≡ None }
+        ensures ok { IfOk result (λ happened. (fault : RecordValue) → Did
+            (choice_for (Some instr.now) (turn_of (Some instr.now) (completed_of self.old)) self.old)
+            fault self.old happened self.new) }
+        ensures err { OnErr result (IsUnmoved self.old self.new) }
+    {
+        let values = self.regs.values();
+        let pc = self.iunit.candidate().addr;
+        let next = self.iunit.following().addr;
+        match plan(instr, &values, self.ctrl.carry(), pc, next) {
+            Plan::Raise(vector) => Ok(self.raise(vector)),
+            Plan::Trap(vector) => {
+                if self.dunit.oldest().is_some() {
+                    return Ok(Happened::Stalled(Why::Sync));
+                }
+                self.trap(vector)
+            }
+            Plan::Go(effect) => {
+                if effect.accesses.count > self.dunit.room() {
+                    return Ok(Happened::Stalled(Why::Full));
+                }
+                if waits_for_empty(instr) && self.dunit.oldest().is_some() {
+                    return Ok(Happened::Stalled(Why::Sync));
+                }
+                self.go(&effect)?;
+                Ok(Happened::Issued)
+            }
+        }
+    }
+
+    /// The next instruction.
+    fn issue_instr(&mut self, instr: &Instr) -> Result<Happened, NoMemory>
+        requires instr { IsValid instr.now }
+        requires going { is_idle_board self.old ≡ false }
+        requires valid { self.old.slots.nip.v ≡ true }
+        requires fetched { self.old.slots.nip.e ≡ false }
+        ensures ok { IfOk result (λ happened. (fault : RecordValue) → Did
+            (choice_for (Some instr.now) (turn_of (Some instr.now) (completed_of self.old)) self.old)
+            fault self.old happened self.new) }
+        ensures err { OnErr result (IsUnmoved self.old self.new) }
+    {
+        if let Some(r) = self.busy_register(instr) {
+            return Ok(Happened::Stalled(Why::Busy(r)));
+        }
+        self.issue_free(instr)
+    }
+
+    /// The letter `i`.
+    fn issue(&mut self) -> Result<Happened, NoMemory>
+        ensures ok { IfOk result (λ happened. (p : Program) (fault : RecordValue) → IsImageOf p self.old.memory.image
+            → Did (choice_by p self.old.limit LetterValue.Issue (local_of self.old)) fault self.old happened self.new) }
+        ensures events { self.new.events ≡ self.old.events }
+        ensures err { OnErr result (IsUnmoved self.old self.new) }
+    {
+        if self.is_idle() {
+            return Ok(Happened::Idle);
+        }
+        let nip = self.iunit.candidate();
+        if !nip.v {
+            self.pass();
+            return Ok(Happened::Bubble);
+        }
+        let Some(word) = self.memory.fetch(nip.addr) else {
+            return Ok(self.raise(INSTRUCTION_ACCESS));
+        };
+        match decode(word) {
+            Ok(instr) => self.issue_instr(&instr),
+            Err(BadWord) => Ok(self.raise(UNIMPLEMENTED)),
+        }
+    }
+
     /// One more event is counted.
     fn count(&mut self)
         requires { self.old.events < most_events }
         ensures { self.new ≡ record self.old { events = self.old.events + 1 } }
     {
         self.events += 1;
-    }
-
-    /// Makes the event of the letter `r`: the oldest transaction is answered, or meets its fault. Memory is taken
-    /// before anything changes: where it runs out, what is seen of the board is as before, and no event is counted.
-    pub fn take_answer(&mut self) -> Result<Happened, NoMemory>
-        requires { self.old.events < most_events }
-        ensures moved { IfOk result (λ happened. (p : Program) → IsImageOf p self.old.memory.image
-            → IsMove p LetterValue.Answer self.old happened self.new) }
-        ensures timeline { OnOk result ((p : Program) (named : ℕ → Bool) (m : Moment) → IsProgram p
-            → IsAt p named m self.old
-            → IsAt p named (after_letter p named self.old.limit LetterValue.Answer m) self.new) }
-        ensures err { OnErr result (IsUnmoved self.old self.new) }
-    {
-        let happened = self.answer()?;
-        self.count();
-        Ok(happened)
     }
 }

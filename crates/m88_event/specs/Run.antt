@@ -1,11 +1,9 @@
 -- Whole runs: the moments of a schedule up to the first that is over, and what the run comes to there.
-use Rattle.std.specs.Prelude.{ℕ, zero, suc, Bool, true, false, List, ◌≡◌, ◌<◌, if◌then◌else◌}
+use Rattle.std.specs.Prelude.{ℕ, zero, suc, Bool, true, false, List, ◌≡◌, ◌<◌, unwrap_or}
 use Rattle.m88_isa.specs.Bus.{changed_words, in_words}
-use Rattle.m88_isa.specs.Machine.{Program, Turn, changes, opening, outputs, state, stops, turn_at}
-use Rattle.m88_event.specs.Choice.{end_by}
+use Rattle.m88_isa.specs.Machine.{Program, opening, state}
 use Rattle.m88_event.specs.Letters.{letter_at}
-use Rattle.m88_event.specs.Timeline.{Moment, is_over, after_letter, opening_moment}
-use Rattle.m88_event.specs.declared.happened.End.{End}
+use Rattle.m88_event.specs.Timeline.{Moment, after_letter, end_at, is_over, opening_moment}
 use Rattle.m88_event.specs.declared.happened.End.TheVariants.{Limit}
 use Rattle.m88_event.specs.declared.letter.Letter.{Letter}
 use Rattle.m88_event.specs.declared.outcome.Outcome.{Outcome}
@@ -21,17 +19,11 @@ pub record IsRun (p : Program) (named : ℕ → Bool) (limit : ℕ) (schedule : 
   pub over : is_over p limit (moment_after p named limit schedule events) ≡ true
   pub first : (k : ℕ) → k < events → is_over p limit (moment_after p named limit schedule k) ≡ false
 
--- how a turn ends a history; of one that goes on it is the limit, which no moment with the mark of the end asks for
-abbrev pub end_of_turn : Turn → End
-end_of_turn (changes change) = Limit
-end_of_turn (outputs byte) = Limit
-end_of_turn (stops stop) = end_by stop
-
 -- what a run comes to that is over at a moment: the end of the history where the program ended, and else the limit;
 -- registers, carry, output and memory of the history after as many instructions; the counts and records of the moment
 unfoldable pub outcome_at : Program → Moment → Outcome
 outcome_at p m = record {
-  end = if m.ended then end_of_turn (turn_at p (state p m.retired)) else Limit;
+  end = unwrap_or (end_at p m) Limit;
   retired = m.retired;
   regs = (state p m.retired).regs;
   carry = (state p m.retired).carry;
