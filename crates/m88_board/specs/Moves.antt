@@ -1,5 +1,5 @@
 -- What an event makes of a board.
-use Rattle.std.specs.Prelude.{ℕ, Bool, true, not, List, ◌≡◌, ◌%◌, if◌then◌else◌}
+use Rattle.std.specs.Prelude.{ℕ, Bool, not, List, ◌≡◌, if◌then◌else◌}
 use Rattle.m88_event.specs.Choice.{Choice, finishes, holds, said}
 use Rattle.m88_event.specs.Local.{local_at, move, move_by, said_by}
 use Rattle.m88_event.specs.Shadow.{retired_pointer}
@@ -7,7 +7,6 @@ use Rattle.m88_event.specs.Timeline.{DoneWereMade, Moment}
 use Rattle.m88_event.specs.declared.happened.Happened.{Happened}
 use Rattle.m88_event.specs.declared.letter.Letter.{Letter}
 use Rattle.m88_event.specs.declared.record.Record.{Record}
-use Rattle.m88_isa.specs.Address.{after_bytes}
 use Rattle.m88_isa.specs.Held.{is_pending, sync}
 use Rattle.m88_iunit.specs.Pointers.{Pointers}
 use Rattle.m88_isa.specs.Machine.{Program, Stop}
@@ -21,13 +20,6 @@ pub record IsAdvanced (old new : Pointers) (pc next : ℕ) (bubble : Bool) : Typ
   pub here : pc_of new ≡ pc
   pub behind : next_of new ≡ next
   pub bubble_is : not new.nip.v ≡ bubble
-
--- where an instruction goes on: at words, and behind a target comes the word behind it where one that was fetched is
--- passed over
-pub record FlowFits (after : ℕ × ℕ) (bubble : Bool) : Type 0 where
-  pub here : after.0 % 4 ≡ 0
-  pub behind : after.1 % 4 ≡ 0
-  pub straight : bubble ≡ true → after.1 ≡ after_bytes after.0 4
 
 -- the same image and the same limit
 pub record IsSameRun (old new : BoardView) : Type 0 where

@@ -11,6 +11,7 @@ ghost use Rattle.m88_isa.specs.Bus.{page_number, LoadApart, listed, waits_for};
 ghost use Rattle.m88_mem.specs.DataBus.{absent_of};
 ghost use Rattle.m88_mem.specs.Marks.{NamesPages, absent_in};
 ghost use Rattle.m88_isa.specs.Effect.{Change, recorded_change};
+ghost use Rattle.m88_isa.specs.Flow.{FlowFits};
 ghost use Rattle.m88_isa.specs.Held.{busy_register, involves, most_pending};
 ghost use Rattle.m88_isa.specs.Machine.{IsProgram, Program, Stop, by_vector, trapped};
 ghost use Rattle.m88_isa.specs.Instr.{IsValid};
@@ -20,7 +21,7 @@ ghost use Rattle.std.specs.Int.{bit_at};
 ghost use Rattle.m88_dunit.specs.Pending.{CanIssue};
 ghost use Rattle.m88_iunit.specs.Pointers.{resumed};
 ghost use Rattle.m88_board.specs.Kept.{epsr_of, most_events, most_retired};
-ghost use Rattle.m88_board.specs.Moves.{Did, Does, FlowFits, IsAt, IsMove, IsUnmoved, stopping};
+ghost use Rattle.m88_board.specs.Moves.{Did, Does, IsAt, IsMove, IsUnmoved, stopping};
 
 use crate::unit::{advance, complete, lacks_word, prepare, put_in, serve_all, visit, write};
 use m88_base::{Absent, Image, NoMemory, Reg};

@@ -6,6 +6,7 @@ ghost use Rattle.m88_base.specs.RegisterSet.{with_member};
 ghost use Rattle.std.specs.Int.{bit_at};
 ghost use Rattle.m88_event.specs.Choice.{touches_page};
 ghost use Rattle.m88_isa.specs.Bus.{page_number, after_accesses, bus_after_all, listed, loaded, stored, waits_for};
+ghost use Rattle.m88_isa.specs.Flow.{FlowFits};
 ghost use Rattle.m88_isa.specs.Held.{most_pending};
 ghost use Rattle.m88_isa.specs.Machine.{with_register, with_written};
 ghost use Rattle.m88_isa.specs.Memory.{IsWordAccess};
@@ -15,7 +16,7 @@ ghost use Rattle.m88_mem.specs.DataBus.{absent_of, bus_of, ready_of};
 ghost use Rattle.m88_scoreboard.specs.Registers.{none_waits, waiting_of};
 ghost use Rattle.m88_board.specs.Board.{cells_of};
 ghost use Rattle.m88_board.specs.Kept.{AreReady, HasReadyPage, PartsAgree, SlotsAgree, StaysReady, lacks_word};
-ghost use Rattle.m88_board.specs.Moves.{FlowFits, IsAdvanced};
+ghost use Rattle.m88_board.specs.Moves.{IsAdvanced};
 
 use m88_base::{NoMemory, Reg, Triple};
 use m88_ctrl::{Control, Frame};

@@ -2,6 +2,7 @@ pub mod Alone
 pub mod Apart
 pub mod Changed
 pub mod Constants
+pub mod Flows
 pub mod Held
 pub mod ImageProgram
 pub mod InWords

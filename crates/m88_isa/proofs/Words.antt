@@ -1,7 +1,6 @@
 -- The words of the word table are words of 32 bits.
 use Rattle.std.specs.Prelude.{ℕ, ℤ, pos, negsuc, Bool, true, false, ◌<◌, ◌≤◌, ◌^◌}
 use Rattle.std.proofs.Common.{arith}
-use Rattle.m88_base.specs.Reg.{number_of}
 use Rattle.m88_isa.specs.Compute.{weight_if}
 use Rattle.m88_isa.specs.Instr.{FitsWords, IsValid, IsWidth}
 use Rattle.m88_isa.specs.Word.{bit_code, imm_byte, lda_code, low16, low26, mem_byte, reg_code, word_of}

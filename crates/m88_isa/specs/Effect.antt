@@ -9,7 +9,7 @@ use Rattle.m88_base.specs.Reg.{number_of}
 use Rattle.m88_isa.specs.Address.{address, after_bytes, scale_of, word_address}
 use Rattle.m88_isa.specs.Compute.{immediate, registers}
 use Rattle.m88_isa.specs.Fields.{bit_field, find_bit, offset_in, width_in, width_of}
-use Rattle.m88_isa.specs.Flow.{bit_is, class_in, words_away}
+use Rattle.m88_isa.specs.Flow.{FlowFits, bit_is, class_in, words_away}
 use Rattle.m88_isa.specs.Lanes.{IsAligned}
 use Rattle.m88_isa.specs.Memory.{AreWordAccesses, Touch, recorded, size_of, touches_of}
 use Rattle.m88_isa.specs.Operands.{after_d_of, d_of, is_flow, link_register, s1_of, s2_of, uses_of}
@@ -200,6 +200,10 @@ TrapsForUser plan = IfTrap plan (λ vector. (first_user_vector ≤ vector) × (v
 -- a plan that raises has one of the instructions' vectors, all of which are the supervisor's
 abbrev pub RaisesListed : Plan → Type 0
 RaisesListed plan = IfRaise plan (λ vector. (vector < first_user_vector) × IsRaised vector)
+
+-- a plan that goes on does so at words, behind a target too
+abbrev pub FlowsToWords : Plan → Type 0
+FlowsToWords plan = IfGo plan (λ changes. FlowFits changes.after changes.bubble)
 
 -- every access of a list is aligned to its size
 abbrev pub AreAligned : List Touch → Type 0

@@ -1,7 +1,8 @@
 //! What every instruction does, form by form ("Instruction Set").
 
-ghost use Rattle.std.specs.Prelude.{◌≡◌, ◌<◌};
+ghost use Rattle.std.specs.Prelude.{◌≡◌, ◌<◌, ◌%◌};
 ghost use Rattle.m88_isa.specs.Effect.{
+  FlowsToWords,
   IgnoresUnused,
   MakesAccesses,
   RaisesListed,
@@ -36,7 +37,7 @@ use m88_base::Reg;
 
 /// What an instruction does at the byte address `pc`, where `next` is the address of the one that follows. A change
 /// of flow in a taken delay slot, where that isn't `pc` + 4, raises before anything else.
-#[tactic(auto, using(crate::proofs::Alone::plan_alone, crate::proofs::Plans::touches_aligned))]
+#[tactic(auto, using(crate::proofs::Alone::plan_alone, crate::proofs::Flows::plan_flows, crate::proofs::Plans::touches_aligned))]
 pub fn plan(instr: &Instr, regs: &[u32; 32], carry: bool, pc: u32, next: u32) -> Plan
     requires { IsValid instr.now }
     ensures value { result ≡ plan_of instr.now regs.now carry pc next }
@@ -45,6 +46,7 @@ pub fn plan(instr: &Instr, regs: &[u32; 32], carry: bool, pc: u32, next: u32) ->
     ensures trap { TrapsForUser result }
     ensures raise { RaisesListed result }
     ensures aligned { TouchesAligned (meaning_of instr.now regs.now carry pc next) }
+    ensures flow { pc % 4 ≡ 0 → next % 4 ≡ 0 → FlowsToWords result }
     ensures alone { IgnoresUnused instr.now regs.now carry pc next }
 {
     if is_flow(instr) && next != pc.wrapping_add(4) {
