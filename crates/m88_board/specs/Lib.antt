@@ -2,3 +2,4 @@ pub mod ImageOf
 pub mod Board
 pub mod Kept
 pub mod Moves
+pub mod Glances

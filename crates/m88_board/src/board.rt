@@ -1,10 +1,10 @@
 //! The board: its parts, and what a choice makes of them.
 
-ghost use Rattle.std.specs.Prelude.{ℕ, Bool, ◌&&◌, option_map, ◌≡◌, ◌<◌, ◌≤◌, ◌+◌, ◌*◌, ◌%◌, ◌++◌, [], Option, Some, None, true, false, length, slice_get, IfOk, IfSome, OnErr, OnOk};
+ghost use Rattle.std.specs.Prelude.{◌&&◌, option_map, ◌≡◌, ◌<◌, ◌≤◌, ◌+◌, ◌-◌, ◌*◌, ◌%◌, ◌++◌, [], Option, Some, None, true, false, length, slice_get, IfOk, IfSome, OnErr, OnOk};
 ghost use Rattle.m88_base.specs.Reg.{number_of};
 ghost use Rattle.m88_event.specs.Choice.{answer_choice, end_by, faults, finishes, issues, passes, replies, serves, turn_choice};
-ghost use Rattle.m88_event.specs.Local.{record_by};
-ghost use Rattle.m88_event.specs.Timeline.{Moment, after_letter, opening_moment};
+ghost use Rattle.m88_event.specs.Local.{choice_by, record_by};
+ghost use Rattle.m88_event.specs.Timeline.{opening_moment};
 ghost use Rattle.m88_event.specs.declared.letter.Letter.{Letter as LetterValue};
 ghost use Rattle.m88_event.specs.declared.record.Record.{Record as RecordValue};
 ghost use Rattle.m88_isa.specs.Bus.{page_number, LoadApart, listed, waits_for};
@@ -13,22 +13,27 @@ ghost use Rattle.m88_mem.specs.Marks.{NamesPages, absent_in};
 ghost use Rattle.m88_isa.specs.Effect.{Change, recorded_change};
 ghost use Rattle.m88_isa.specs.Flow.{FlowFits};
 ghost use Rattle.m88_isa.specs.Held.{busy_register, involves, most_pending};
-ghost use Rattle.m88_isa.specs.Machine.{IsProgram, Program, Stop, by_vector, trapped};
+ghost use Rattle.m88_isa.specs.Machine.{Program, Stop, by_vector, trapped};
 ghost use Rattle.m88_isa.specs.Instr.{IsValid};
-ghost use Rattle.m88_board.specs.Board.{is_idle_board, local_of, pc_of};
+ghost use Rattle.m88_board.specs.Board.{completed_of, is_idle_board, local_of, pc_of};
 ghost use Rattle.m88_board.specs.ImageOf.{IsImageOf};
 ghost use Rattle.std.specs.Int.{bit_at};
 ghost use Rattle.m88_dunit.specs.Pending.{CanIssue};
 ghost use Rattle.m88_iunit.specs.Pointers.{resumed};
 ghost use Rattle.m88_board.specs.Kept.{epsr_of, most_events, most_retired};
-ghost use Rattle.m88_board.specs.Moves.{Did, Does, IsAt, IsMove, IsUnmoved, stopping};
+ghost use Rattle.m88_board.specs.Moves.{Did, Does, IsAt, IsUnmoved, choice_for, stopping, turn_of};
+
+mod event;
 
 use crate::unit::{advance, complete, lacks_word, prepare, put_in, serve_all, visit, write};
 use m88_base::{Absent, Image, NoMemory, Reg};
+use m88_codec::{BadWord, decode};
 use m88_ctrl::{Control, Frame};
 use m88_dunit::DataUnit;
 use m88_event::{End, Happened, Record, Why};
-use m88_isa::{Access, Effect, Instr, uses, writes};
+use m88_isa::{
+    Access, Effect, INSTRUCTION_ACCESS, Instr, Plan, UNIMPLEMENTED, plan, uses, waits_for_empty, writes,
+};
 use m88_iunit::InstrUnit;
 use m88_mem::{Memory, PAGE_BYTES};
 use m88_monitor::{Service, service};
@@ -221,6 +226,7 @@ impl Board {
             → Did (answer_choice self.old.pending (absent_of self.old.memory))
             (record_by p self.old.limit (local_of self.old)) self.old happened self.new) }
         ensures events { self.new.events ≡ self.old.events }
+        ensures shorter { OnOk result (length self.new.pending ≤ length self.old.pending - 1) }
         ensures err { OnErr result (IsUnmoved self.old self.new) }
     {
         let Some(oldest) = self.dunit.oldest() else {
