@@ -7,3 +7,7 @@ pub mod Service
 pub mod Moving
 pub mod Searching
 pub mod Starting
+pub mod Seeing
+pub mod Shown
+pub mod Running
+pub mod Ending

@@ -59,9 +59,9 @@ says_so p named m letter old h new at moved =
     moved.says ∙ ap (said_by p old.limit letter) at.seen ∙ same_said p named old.limit letter m
 
 -- a trap is served and the program ends only where nothing is pending
-none_pending : (xs : List Access) → is_pending xs ≡ false → xs ≡ []
-none_pending [] h = refl
-none_pending (x ∷ xs) h = absurd cc
+pub empty_of : (xs : List Access) → is_pending xs ≡ false → xs ≡ []
+empty_of [] h = refl
+empty_of (x ∷ xs) h = absurd cc
 
 pub precise_on : (p : Program) (letter : Letter) (old : BoardView) (h : Happened) (new : BoardView) →
     IsMove p letter old h new →
@@ -69,7 +69,7 @@ pub precise_on : (p : Program) (letter : Letter) (old : BoardView) (h : Happened
     old.pending ≡ []
 unfolding local_of
 precise_on p letter old h new moved last =
-    none_pending old.pending (precise_by p old.limit letter (local_of old) (subst ServesOrEnds moved.says last))
+    empty_of old.pending (precise_by p old.limit letter (local_of old) (subst ServesOrEnds moved.says last))
 
 -- the letter `r` makes the choice of the oldest transaction
 pub answer_chosen : (p : Program) (old : BoardView) →

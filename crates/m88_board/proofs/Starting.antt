@@ -116,7 +116,7 @@ still_absent true = refl
 still_absent false = refl
 
 -- the bytes of the program are those of the image
-same_bytes : (p : Program) (image : ProgramImage) → IsImageOf p image →
+pub same_bytes : (p : Program) (image : ProgramImage) → IsImageOf p image →
     image_bus image ≡ in_words (λ a. unwrap_or (p.byte a) 0)
 unfolding image_bytes
 same_bytes p image of = ap in_words (fun_ext (λ a. ap (λ b. unwrap_or b 0) (sym (of.bytes a))))

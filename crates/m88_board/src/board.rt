@@ -24,6 +24,8 @@ ghost use Rattle.m88_board.specs.Kept.{epsr_of, most_events, most_retired};
 ghost use Rattle.m88_board.specs.Moves.{Did, Does, IsAt, IsUnmoved, choice_for, stopping, turn_of};
 
 mod event;
+mod reading;
+mod run;
 
 use crate::unit::{advance, complete, lacks_word, prepare, put_in, serve_all, visit, write};
 use m88_base::{Absent, Image, NoMemory, Reg};

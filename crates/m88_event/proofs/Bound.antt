@@ -198,7 +198,7 @@ next_phase schedule k l h = by_test (nat_lt (k + 1) (length schedule))
     (ap (λ n. n % 2 == 0) last) refl)
 
 -- behind the schedule `r` and `i` come in turn
-behind : (schedule : List Letter) (k : ℕ) (answer : Bool) → length schedule ≤ k → ((k - length schedule) % 2 == 0) ≡ answer →
+pub behind : (schedule : List Letter) (k : ℕ) (answer : Bool) → length schedule ≤ k → ((k - length schedule) % 2 == 0) ≡ answer →
     letter_at schedule k ≡ (if answer then Answer else Issue)
 unfolding letter_at
 behind schedule k answer h e = rw (slice_get_past schedule k h, e) refl

@@ -16,7 +16,7 @@ use Rattle.m88_event.proofs.Follows.{ended_is, law, reached_within}
 use Rattle.m88_event.specs.Letters.{letter_at}
 use Rattle.m88_event.specs.Local.{Local, is_over_by, local_at, move}
 use Rattle.m88_event.specs.Run.{IsOutcome, IsRun, moment_after, outcome_at}
-use Rattle.m88_event.specs.Timeline.{DoneWereMade, Moment, is_idle, is_over}
+use Rattle.m88_event.specs.Timeline.{DoneWereMade, Moment, is_drained, is_over}
 use Rattle.m88_event.specs.declared.letter.Letter.{Letter}
 use Rattle.m88_event.specs.declared.outcome.Outcome.{Outcome}
 
@@ -27,6 +27,11 @@ none_left done xs within = by_left (drop done xs) (length-drop done xs)
     by_left : (left : List Access) → length left ≡ length xs - done → not (is_pending left) ≡ (done == length xs)
     by_left [] e = let all : done ≡ length xs = omega (arith, e, within) in grind (arith, nat_tests)
     by_left (x ∷ left) e = let some : done ≢ length xs = omega (arith, e) in grind (arith, nat_tests)
+
+pub drained_seen : (p : Program) (named : ℕ → Bool) (m : Moment) → DoneWereMade p m →
+    not (is_pending (local_at p named m).pending) ≡ is_drained p m
+unfolding local_at
+drained_seen p named m within = none_left m.done (transactions p m.retired) within
 
 pub same_over : (p : Program) (named : ℕ → Bool) (limit : ℕ) (m : Moment) → DoneWereMade p m →
     is_over_by limit (local_at p named m) ≡ is_over p limit m
