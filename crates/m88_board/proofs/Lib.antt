@@ -7,6 +7,9 @@ pub mod Service
 pub mod Moving
 pub mod Searching
 pub mod Starting
+pub mod Issuing
+pub mod Fetching
+pub mod Counting
 pub mod Seeing
 pub mod Shown
 pub mod Running

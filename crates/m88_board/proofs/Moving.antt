@@ -16,7 +16,7 @@ use Rattle.m88_isa.specs.Machine.{IsProgram, Program}
 use Rattle.m88_isa.specs.declared.planned.Access.{Access}
 use Rattle.m88_mem.specs.DataBus.{absent_of}
 use Rattle.m88_board.specs.Board.{BoardView, completed_of, local_of}
-use Rattle.m88_board.specs.ImageOf.{IsImageOf}
+use Rattle.m88_isa.specs.ImageProgram.{IsProgramOf}
 use Rattle.m88_board.specs.Moves.{Did, Does, IsAt, IsMove}
 
 -- a choice that was made and counted is the move
@@ -37,7 +37,7 @@ pub along : (p : Program) (named : ℕ → Bool) (m : Moment) (letter : Letter) 
     IsMove p letter old h new →
     IsAt p named (after_letter p named old.limit letter m) new
 along p named m letter old h new is at moved = record {
-  image = subst (λ image. IsImageOf p image) (sym moved.same.image) at.image;
+  image = subst (λ image. IsProgramOf image p) (sym moved.same.image) at.image;
   within = stays_within p named old.limit letter m at.within;
   seen = moved.moved ∙ ap (move p old.limit letter) at.seen ∙ law p named old.limit letter m is at.within;
 }

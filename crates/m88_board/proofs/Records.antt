@@ -2,7 +2,6 @@
 use Rattle.std.specs.Prelude.{ℕ, Bool, true, false, not, List, Option, ◌≡◌, ◌≢◌, ◌+◌, is_none, if◌then◌else◌}
 use Rattle.std.specs.Int.{bit_at}
 use Rattle.std.proofs.Common.{arith, sym, ap, ◌∙◌}
-use Rattle.std.proofs.Math.Path.{fun_ext}
 use Rattle.std.proofs.lemmas.Bool.{eqb-false}
 use Rattle.std.proofs.lemmas.Nat.Bits.{bit_at-lt}
 use Rattle.m88_base.proofs.RegisterBits.{bit_of_member}
@@ -19,7 +18,7 @@ use Rattle.m88_iunit.specs.Pointers.{squashed_slot, valid_slot, word_behind, wor
 use Rattle.m88_iunit.specs.declared.slot.Slot.{Slot}
 use Rattle.m88_scoreboard.specs.Registers.{waiting_of}
 use Rattle.m88_board.specs.Board.{BoardView, completed_of, local_of, pointer_of}
-use Rattle.m88_board.specs.ImageOf.{IsImageOf}
+use Rattle.m88_isa.specs.ImageProgram.{IsProgramOf}
 use Rattle.m88_board.specs.Kept.{IsKept, epsr_of}
 use Rattle.m88_board.proofs.Agree.{zero_waits_not}
 
@@ -44,7 +43,7 @@ fip_is byte p fip a false of h =
     ap pointer_of h
     ∙ ap (λ (b : ℕ → Option ℕ). record { address = fip.addr; valid = true; failed = is_none (four_bytes b fip.addr) }) (sym of)
 
-pub piped : (p : Program) (b : BoardView) → IsImageOf p b.memory.image → IsKept b →
+pub piped : (p : Program) (b : BoardView) → IsProgramOf b.memory.image p → IsKept b →
     record {
       event = b.events + 1;
       epsr = epsr_of b;
@@ -56,9 +55,8 @@ pub piped : (p : Program) (b : BoardView) → IsImageOf p b.memory.image → IsK
     } ≡ record_by p b.limit (local_of b)
 unfolding record_of situation_of local_of completed_of
 piped p b of kept =
-    let bytes : p.byte ≡ byte_at b.memory.image = fun_ext of.bytes in
-    let nip = nip_is (byte_at b.memory.image) p b.slots.xip b.slots.nip.addr b.slots.nip.v b.slots.nip.e b.slots.fip.addr bytes kept.slots.nip in
-    let fip = fip_is (byte_at b.memory.image) p b.slots.fip b.slots.nip.addr b.slots.nip.v bytes kept.slots.fip in
+    let nip = nip_is (byte_at b.memory.image) p b.slots.xip b.slots.nip.addr b.slots.nip.v b.slots.nip.e b.slots.fip.addr of.bytes kept.slots.nip in
+    let fip = fip_is (byte_at b.memory.image) p b.slots.fip b.slots.nip.addr b.slots.nip.v of.bytes kept.slots.fip in
     λ i. record {
       event = b.events + 1;
       epsr = kept.status i;
@@ -79,7 +77,7 @@ zero_bit b kept =
 
 -- the same of what the parts answer
 pub piped_by : (p : Program) (b : BoardView) (epsr sxip snip sfip ssbr : ℕ) (triples : List Triple) →
-    IsImageOf p b.memory.image →
+    IsProgramOf b.memory.image p →
     IsKept b →
     epsr ≡ epsr_of b →
     sxip ≡ word_of b.slots.xip →

@@ -16,7 +16,7 @@ use Rattle.m88_isa.specs.declared.planned.Access.{Access}
 use Rattle.m88_board.proofs.Seeing.{saw_none, saw_same, saw_then}
 use Rattle.m88_board.specs.Board.{BoardView, local_of}
 use Rattle.m88_board.specs.Glances.{Saw, glance_at, glances_along}
-use Rattle.m88_board.specs.ImageOf.{IsImageOf}
+use Rattle.m88_isa.specs.ImageProgram.{IsProgramOf}
 use Rattle.m88_board.specs.Moves.{IsAlong, IsAt, IsStep, IsUnmoved}
 use Rattle.m88_board.specs.declared.glance.Glance.{Glance}
 
@@ -114,7 +114,7 @@ runs_out p named schedule k start b before after is runs most =
 pub still_at : (p : Program) (named : ℕ → Bool) (m : Moment) (b c : BoardView) → IsUnmoved b c → IsAt p named m b →
     IsAt p named m c
 still_at p named m b c unmoved at = record {
-  image = subst (λ image. IsImageOf p image) (sym unmoved.same.image) at.image;
+  image = subst (λ image. IsProgramOf image p) (sym unmoved.same.image) at.image;
   within = at.within;
   seen = unmoved.seen ∙ at.seen;
 }

@@ -1,7 +1,6 @@
 -- What a board shows at a moment.
 use Rattle.std.specs.Prelude.{ℕ, Bool, true, false, not, List, [], ◌∷◌, Option, Some, None, ◌≡◌, ◌&&◌, ◌||◌, ◌==◌, is_none, is_some, slice_get}
 use Rattle.std.proofs.Common.{refl, sym, ap, ◌∙◌}
-use Rattle.std.proofs.Math.Path.{fun_ext}
 use Rattle.m88_base.specs.Image.{byte_at}
 use Rattle.m88_event.proofs.Over.{same_over}
 use Rattle.m88_event.specs.Local.{Local, is_over_by, local_at}
@@ -14,7 +13,7 @@ use Rattle.m88_isa.specs.declared.planned.Access.{Access}
 use Rattle.m88_board.proofs.Records.{nip_is}
 use Rattle.m88_board.specs.Board.{BoardView, completed_of, is_idle_board, local_of, pointer_of}
 use Rattle.m88_board.specs.Glances.{glance_at, glance_of, slot_at}
-use Rattle.m88_board.specs.ImageOf.{IsImageOf}
+use Rattle.m88_isa.specs.ImageProgram.{IsProgramOf}
 use Rattle.m88_board.specs.Kept.{SlotsAgree}
 use Rattle.m88_board.specs.Moves.{IsAt}
 
@@ -51,11 +50,11 @@ pub over_at : (p : Program) (named : ℕ → Bool) (m : Moment) (b : BoardView) 
 over_at p named m b at = ap (is_over_by b.limit) at.seen ∙ same_over p named b.limit m at.within
 
 -- NIP
-nip_shown : (p : Program) (b : BoardView) → IsImageOf p b.memory.image → SlotsAgree b.memory.image b.slots →
+nip_shown : (p : Program) (b : BoardView) → IsProgramOf b.memory.image p → SlotsAgree b.memory.image b.slots →
     pointer_of b.slots.nip ≡ nip_of p (local_of b).bubble (local_of b).xip (local_of b).completed.pc
 unfolding local_of completed_of
 nip_shown p b of slots =
-    nip_is (byte_at b.memory.image) p b.slots.xip b.slots.nip.addr b.slots.nip.v b.slots.nip.e b.slots.fip.addr (fun_ext of.bytes)
+    nip_is (byte_at b.memory.image) p b.slots.xip b.slots.nip.addr b.slots.nip.v b.slots.nip.e b.slots.fip.addr of.bytes
     slots.nip
 
 pub nip_at : (p : Program) (named : ℕ → Bool) (m : Moment) (b : BoardView) → IsAt p named m b →

@@ -1,5 +1,5 @@
 -- A board before its first event: what always holds of it, and that it stands at the first moment.
-use Rattle.std.specs.Prelude.{ℕ, Bool, true, false, not, List, [], None, ◌≡◌, ◌≤◌, ◌&&◌, replicate, unwrap_or}
+use Rattle.std.specs.Prelude.{ℕ, Bool, true, false, not, List, [], None, ◌≡◌, ◌≤◌, ◌&&◌, Option, replicate, unwrap_or}
 use Rattle.std.proofs.Common.{arith, refl, sym, ap, ◌∙◌}
 use Rattle.std.proofs.Math.Path.{fun_ext}
 use Rattle.std.proofs.lemmas.List.Elements.{All-nil}
@@ -20,7 +20,7 @@ use Rattle.m88_mem.specs.DataBus.{MemoryView, absent_of, bus_of, image_bus, imag
 use Rattle.m88_scoreboard.specs.Registers.{Registers, none_waits, waiting_of}
 use Rattle.m88_board.proofs.Keeping.{none_wait_for_none}
 use Rattle.m88_board.specs.Board.{BoardView, completed_of, local_of}
-use Rattle.m88_board.specs.ImageOf.{IsImageOf}
+use Rattle.m88_isa.specs.ImageProgram.{IsProgramOf}
 use Rattle.m88_board.specs.Kept.{HasReadyPage, IsKept, lacks_word, most_retired}
 use Rattle.m88_board.specs.Moves.{IsAt}
 
@@ -116,10 +116,10 @@ still_absent true = refl
 still_absent false = refl
 
 -- the bytes of the program are those of the image
-pub same_bytes : (p : Program) (image : ProgramImage) → IsImageOf p image →
+pub same_bytes : (p : Program) (image : ProgramImage) → IsProgramOf image p →
     image_bus image ≡ in_words (λ a. unwrap_or (p.byte a) 0)
 unfolding image_bytes
-same_bytes p image of = ap in_words (fun_ext (λ a. ap (λ b. unwrap_or b 0) (sym (of.bytes a))))
+same_bytes p image of = ap in_words (fun_ext (λ a. ap (λ (byte : ℕ → Option ℕ). unwrap_or (byte a) 0) (sym of.bytes)))
 
 board_seen : (limit entry : ℕ) (e0 e1 : Bool) (file : Registers) (memory : MemoryView) →
     local_of (starting limit (at_entry entry e0 e1) file memory)
@@ -140,7 +140,7 @@ pub opens : (p : Program) (named : ℕ → Bool) (limit entry : ℕ) (e0 e1 : Bo
     bus_of memory ≡ image_bus memory.image →
     absent_of memory ≡ named →
     entry ≡ word_address memory.image.start →
-    IsImageOf p memory.image →
+    IsProgramOf memory.image p →
     IsAt p named opening_moment (starting limit (at_entry entry e0 e1) file memory)
 unfolding transactions
 opens p named limit entry e0 e1 file memory numbers bus absent start of = record {

@@ -37,10 +37,11 @@ pub record BoardView : Type 0 where
 abbrev pub cells_of : Registers → MemoryView → Cells
 cells_of file memory = record { regs = file.numbers; bus = bus_of memory }
 
--- the address of the next instruction that isn't passed over, and of the one that follows it
+-- the address of the next instruction that isn't passed over
 abbrev pub pc_of : Pointers → ℕ
 pc_of slots = if slots.nip.v then slots.nip.addr else slots.fip.addr
 
+-- the address of the instruction that follows it
 abbrev pub next_of : Pointers → ℕ
 next_of slots = if slots.nip.v then slots.fip.addr else after_bytes slots.fip.addr 4
 

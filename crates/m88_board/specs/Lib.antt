@@ -1,5 +1,5 @@
-pub mod ImageOf
 pub mod Board
 pub mod Kept
 pub mod Glances
 pub mod Moves
+pub mod Turns

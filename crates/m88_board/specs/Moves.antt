@@ -1,22 +1,20 @@
 -- What an event makes of a board.
 use Rattle.std.specs.Prelude.{ℕ, Bool, not, List, [], ◌∷◌, Option, ◌≡◌, if◌then◌else◌}
-use Rattle.m88_event.specs.Choice.{Choice, finishes, holds, next_choice, said}
+use Rattle.m88_event.specs.Choice.{Choice, finishes, holds, said}
 use Rattle.m88_event.specs.Local.{local_at, move, move_by, said_by}
 use Rattle.m88_event.specs.Shadow.{retired_pointer}
 use Rattle.m88_event.specs.Timeline.{DoneWereMade, Moment, after_letter}
 use Rattle.m88_event.specs.declared.happened.Happened.{Happened}
 use Rattle.m88_event.specs.declared.letter.Letter.{Letter}
 use Rattle.m88_event.specs.declared.record.Record.{Record}
-use Rattle.m88_isa.specs.Held.{held, is_pending, sync}
-use Rattle.m88_isa.specs.History.{Completed}
+use Rattle.m88_isa.specs.Held.{is_pending, sync}
 use Rattle.m88_iunit.specs.Pointers.{Pointers}
-use Rattle.m88_isa.specs.Machine.{Program, Stop, Turn, executed}
-use Rattle.m88_isa.specs.declared.instr.Instr.{Instr}
+use Rattle.m88_isa.specs.Machine.{Program, Stop}
 use Rattle.m88_isa.specs.declared.planned.Access.{Access}
 use Rattle.m88_board.specs.Board.{BoardView, local_of, next_of, pc_of, pointer_of}
 use Rattle.m88_board.specs.Glances.{Saw, glance_at, glances_along}
-use Rattle.m88_board.specs.ImageOf.{IsImageOf}
 use Rattle.m88_board.specs.declared.glance.Glance.{Glance}
+use Rattle.m88_isa.specs.ImageProgram.{IsProgramOf}
 
 -- the slots after an instruction that goes on: it is XIP, and these are next
 pub record IsAdvanced (old new : Pointers) (pc next : ℕ) (bubble : Bool) : Type 0 where
@@ -48,7 +46,7 @@ pub record IsMove (p : Program) (letter : Letter) (old : BoardView) (happened : 
 
 -- a board stands at a moment of a program that its image holds
 pub record IsAt (p : Program) (named : ℕ → Bool) (m : Moment) (b : BoardView) : Type 0 where
-  pub image : IsImageOf p b.memory.image
+  pub image : IsProgramOf b.memory.image p
   pub within : DoneWereMade p m
   pub seen : local_of b ≡ local_at p named m
 
@@ -73,10 +71,3 @@ pub record IsUnmoved (old new : BoardView) : Type 0 where
 -- what raises waits for an empty data unit, and then ends the program
 abbrev pub stopping : Stop → List Access → Choice
 stopping stop pending = if is_pending pending then holds sync else finishes stop
-
--- the turn of an instruction that was fetched and read, and the choice that it comes to
-abbrev pub turn_of : Option Instr → Completed → Turn
-turn_of i c = executed i c.regs c.carry c.pc c.next
-
-abbrev pub choice_for : Option Instr → Turn → BoardView → Choice
-choice_for i turn b = next_choice (held i turn b.pending) turn

@@ -3,9 +3,8 @@
 ghost use Rattle.std.specs.Prelude.{◌&&◌, option_map, ◌≡◌, ◌<◌, ◌≤◌, ◌+◌, ◌-◌, ◌*◌, ◌%◌, ◌++◌, [], Option, Some, None, true, false, length, slice_get, IfOk, IfSome, OnErr, OnOk};
 ghost use Rattle.m88_base.specs.Reg.{number_of};
 ghost use Rattle.m88_event.specs.Choice.{answer_choice, end_by, faults, finishes, issues, passes, replies, serves, turn_choice};
-ghost use Rattle.m88_event.specs.Local.{choice_by, record_by};
+ghost use Rattle.m88_event.specs.Local.{record_by};
 ghost use Rattle.m88_event.specs.Timeline.{opening_moment};
-ghost use Rattle.m88_event.specs.declared.letter.Letter.{Letter as LetterValue};
 ghost use Rattle.m88_event.specs.declared.record.Record.{Record as RecordValue};
 ghost use Rattle.m88_isa.specs.Bus.{page_number, LoadApart, listed, waits_for};
 ghost use Rattle.m88_mem.specs.DataBus.{absent_of};
@@ -15,33 +14,31 @@ ghost use Rattle.m88_isa.specs.Flow.{FlowFits};
 ghost use Rattle.m88_isa.specs.Held.{busy_register, involves, most_pending};
 ghost use Rattle.m88_isa.specs.Machine.{Program, Stop, by_vector, trapped};
 ghost use Rattle.m88_isa.specs.Instr.{IsValid};
-ghost use Rattle.m88_board.specs.Board.{completed_of, is_idle_board, local_of, pc_of};
-ghost use Rattle.m88_board.specs.ImageOf.{IsImageOf};
+ghost use Rattle.m88_board.specs.Board.{is_idle_board, local_of, pc_of};
+ghost use Rattle.m88_isa.specs.ImageProgram.{IsProgramOf};
 ghost use Rattle.std.specs.Int.{bit_at};
 ghost use Rattle.m88_dunit.specs.Pending.{CanIssue};
 ghost use Rattle.m88_iunit.specs.Pointers.{resumed};
 ghost use Rattle.m88_board.specs.Kept.{epsr_of, most_events, most_retired};
-ghost use Rattle.m88_board.specs.Moves.{Did, Does, IsAt, IsUnmoved, choice_for, stopping, turn_of};
-
-mod event;
-mod reading;
-mod run;
+ghost use Rattle.m88_board.specs.Moves.{Did, Does, IsAt, IsUnmoved, stopping};
 
 use crate::unit::{advance, complete, lacks_word, prepare, put_in, serve_all, visit, write};
 use m88_base::{Absent, Image, NoMemory, Reg};
-use m88_codec::{BadWord, decode};
 use m88_ctrl::{Control, Frame};
 use m88_dunit::DataUnit;
 use m88_event::{End, Happened, Record, Why};
-use m88_isa::{
-    Access, Effect, INSTRUCTION_ACCESS, Instr, Plan, UNIMPLEMENTED, plan, uses, waits_for_empty, writes,
-};
+use m88_isa::{Access, Effect, Instr, uses, writes};
 use m88_iunit::InstrUnit;
 use m88_mem::{Memory, PAGE_BYTES};
 use m88_monitor::{Service, service};
 use m88_scoreboard::RegFile;
 use std::alloc::Global;
 use std::marker::Model;
+
+mod event;
+mod issue;
+mod reading;
+mod run;
 
 /// The number of PSR, the status of a program that runs.
 const PSR: u8 = 1;
@@ -113,7 +110,7 @@ impl Board {
         requires pages { NamesPages absent.now }
         requires small { limit ≤ most_retired }
         ensures limit { IfOk result (λ b. b.limit ≡ limit) }
-        ensures at { IfOk result (λ b. (p : Program) → IsImageOf p image.now
+        ensures at { IfOk result (λ b. (p : Program) → IsProgramOf image.now p
             → IsAt p (absent_in absent.now) opening_moment b) }
     {
         let memory = Memory::new(alloc, image, absent)?;
@@ -156,7 +153,7 @@ impl Board {
 
     /// The record that a data fault now would leave.
     pub fn pipe(&self) -> Record
-        ensures value { (p : Program) → IsImageOf p self.now.memory.image
+        ensures value { (p : Program) → IsProgramOf self.now.memory.image p
             → result ≡ record_by p self.now.limit (local_of self.now) }
         ensures resumes { resumed self.now.slots result.snip result.sfip ≡ self.now.slots }
         ensures ssbr { bit_at result.ssbr 0 ≡ 0 }
@@ -200,7 +197,7 @@ impl Board {
     /// pending.
     fn fault(&mut self) -> Result<Record, NoMemory>
         requires { 0 < length self.old.pending }
-        ensures record { IfOk result (λ fault. (p : Program) → IsImageOf p self.old.memory.image
+        ensures record { IfOk result (λ fault. (p : Program) → IsProgramOf self.old.memory.image p
             → fault ≡ record_by p self.old.limit (local_of self.old)) }
         ensures does { IfOk result (λ fault. Does faults fault self.old self.new) }
         ensures events { self.new.events ≡ self.old.events }
@@ -224,7 +221,7 @@ impl Board {
 
     /// The letter `r`.
     fn answer(&mut self) -> Result<Happened, NoMemory>
-        ensures ok { IfOk result (λ happened. (p : Program) → IsImageOf p self.old.memory.image
+        ensures ok { IfOk result (λ happened. (p : Program) → IsProgramOf self.old.memory.image p
             → Did (answer_choice self.old.pending (absent_of self.old.memory))
             (record_by p self.old.limit (local_of self.old)) self.old happened self.new) }
         ensures events { self.new.events ≡ self.old.events }
@@ -374,83 +371,6 @@ impl Board {
             }
         }
         None
-    }
-
-    /// The next instruction, of whose registers none waits.
-    fn issue_free(&mut self, instr: &Instr) -> Result<Happened, NoMemory>
-        requires instr { IsValid instr.now }
-        requires going { is_idle_board self.old ≡ false }
-        requires valid { self.old.slots.nip.v ≡ true }
-        requires fetched { self.old.slots.nip.e ≡ false }
-        requires free { busy_register (Some instr.now) self.old.pending ≡ None }
-        ensures ok { IfOk result (λ happened. (fault : RecordValue) → Did
-            (choice_for (Some instr.now) (turn_of (Some instr.now) (completed_of self.old)) self.old)
-            fault self.old happened self.new) }
-        ensures err { OnErr result (IsUnmoved self.old self.new) }
-    {
-        let values = self.regs.values();
-        let pc = self.iunit.candidate().addr;
-        let next = self.iunit.following().addr;
-        match plan(instr, &values, self.ctrl.carry(), pc, next) {
-            Plan::Raise(vector) => Ok(self.raise(vector)),
-            Plan::Trap(vector) => {
-                if self.dunit.oldest().is_some() {
-                    return Ok(Happened::Stalled(Why::Sync));
-                }
-                self.trap(vector)
-            }
-            Plan::Go(effect) => {
-                if effect.accesses.count > self.dunit.room() {
-                    return Ok(Happened::Stalled(Why::Full));
-                }
-                if waits_for_empty(instr) && self.dunit.oldest().is_some() {
-                    return Ok(Happened::Stalled(Why::Sync));
-                }
-                self.go(&effect)?;
-                Ok(Happened::Issued)
-            }
-        }
-    }
-
-    /// The next instruction.
-    fn issue_instr(&mut self, instr: &Instr) -> Result<Happened, NoMemory>
-        requires instr { IsValid instr.now }
-        requires going { is_idle_board self.old ≡ false }
-        requires valid { self.old.slots.nip.v ≡ true }
-        requires fetched { self.old.slots.nip.e ≡ false }
-        ensures ok { IfOk result (λ happened. (fault : RecordValue) → Did
-            (choice_for (Some instr.now) (turn_of (Some instr.now) (completed_of self.old)) self.old)
-            fault self.old happened self.new) }
-        ensures err { OnErr result (IsUnmoved self.old self.new) }
-    {
-        if let Some(r) = self.busy_register(instr) {
-            return Ok(Happened::Stalled(Why::Busy(r)));
-        }
-        self.issue_free(instr)
-    }
-
-    /// The letter `i`.
-    fn issue(&mut self) -> Result<Happened, NoMemory>
-        ensures ok { IfOk result (λ happened. (p : Program) (fault : RecordValue) → IsImageOf p self.old.memory.image
-            → Did (choice_by p self.old.limit LetterValue.Issue (local_of self.old)) fault self.old happened self.new) }
-        ensures events { self.new.events ≡ self.old.events }
-        ensures err { OnErr result (IsUnmoved self.old self.new) }
-    {
-        if self.is_idle() {
-            return Ok(Happened::Idle);
-        }
-        let nip = self.iunit.candidate();
-        if !nip.v {
-            self.pass();
-            return Ok(Happened::Bubble);
-        }
-        let Some(word) = self.memory.fetch(nip.addr) else {
-            return Ok(self.raise(INSTRUCTION_ACCESS));
-        };
-        match decode(word) {
-            Ok(instr) => self.issue_instr(&instr),
-            Err(BadWord) => Ok(self.raise(UNIMPLEMENTED)),
-        }
     }
 
     /// One more event is counted.

@@ -16,7 +16,7 @@ use Rattle.m88_isa.specs.declared.instr.RegOp.TheVariants as regop
 use Rattle.m88_isa.specs.declared.instr.LdaSize.{LdaSize}
 use Rattle.m88_isa.specs.declared.instr.LdaSize.TheVariants.{Double}
 use Rattle.m88_isa.specs.declared.instr.BitOp.{BitOp}
-use Rattle.m88_isa.specs.declared.instr.BitOp.TheVariants.{Clr, Rot}
+use Rattle.m88_isa.specs.declared.instr.BitOp.TheVariants.{Clr}
 use Rattle.m88_isa.specs.declared.instr.Instr.{Instr}
 use Rattle.m88_isa.specs.declared.instr.Instr.TheVariants as instr
 use Rattle.m88_codec.specs.Candidate.{

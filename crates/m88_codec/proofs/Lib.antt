@@ -1,1 +1,2 @@
+pub mod ImagePrograms
 pub mod Law

@@ -58,20 +58,23 @@ by_number c =
 abbrev pub triples_by_age : ControlRegisters → List Triple
 triples_by_age c = c.t0 ∷ c.t1 ∷ c.t2 ∷ []
 
--- bits of PSR: MODE is the supervisor's mode, C the carry, SFD1 that the first special function unit is off, IND that
--- interrupts are off, and SFRZ that the shadow registers are frozen
+-- bits of PSR ("Control Registers"). MODE: the supervisor's mode
 abbrev pub mode_bit : ℕ
 mode_bit = 2 ^ 31
 
+-- the place of C, the carry, counted from bit 0
 abbrev pub carry_place : ℕ
 carry_place = 28
 
+-- SFD1: the first special function unit is off
 abbrev pub sfd1_bit : ℕ
 sfd1_bit = 2 ^ 3
 
+-- IND: interrupts are off
 abbrev pub ind_bit : ℕ
 ind_bit = 2 ^ 1
 
+-- SFRZ: the shadow registers are frozen
 abbrev pub sfrz_bit : ℕ
 sfrz_bit = 2 ^ 0
 

@@ -4,7 +4,7 @@ use Rattle.std.specs.Prelude.{ℕ, zero, suc, Bool, List, [], ◌∷◌, ◌++�
 use Rattle.m88_isa.specs.Address.{after_bytes}
 use Rattle.m88_isa.specs.Bus.{Cells, after_accesses, bus_after_all, in_words}
 use Rattle.m88_isa.specs.Effect.{Change}
-use Rattle.m88_isa.specs.Machine.{Program, State, Turn, changes, opening, outputs, state, stops, turn, turn_at, with_written}
+use Rattle.m88_isa.specs.Machine.{Program, State, Turn, changes, opening, outputs, state, stops, turn_at, with_written}
 use Rattle.m88_isa.specs.Memory.{access_of}
 use Rattle.m88_isa.specs.declared.planned.Access.{Access}
 
@@ -55,10 +55,6 @@ completed_state s = record {
   bus = in_words s.memory;
   out = s.out;
 }
-
--- the turn at such a state
-abbrev pub completed_turn : Program → Completed → Turn
-completed_turn p c = turn p c.regs c.carry c.pc c.next
 
 -- registers and words after a change: the register that is written at once, and then the accesses
 abbrev pub cells_after : Change → Completed → Cells

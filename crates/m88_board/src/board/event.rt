@@ -7,7 +7,7 @@ ghost use Rattle.m88_event.specs.Timeline.{Moment, after_letter, said_at};
 ghost use Rattle.m88_event.specs.declared.letter.Letter.{Letter as LetterValue};
 ghost use Rattle.m88_isa.specs.Machine.{IsProgram, Program};
 ghost use Rattle.m88_board.specs.Board.{local_of};
-ghost use Rattle.m88_board.specs.ImageOf.{IsImageOf};
+ghost use Rattle.m88_isa.specs.ImageProgram.{IsProgramOf};
 ghost use Rattle.m88_board.specs.Kept.{most_events};
 ghost use Rattle.m88_board.specs.Moves.{Did, IsAt, IsMove, IsUnmoved};
 
@@ -18,7 +18,7 @@ use m88_event::{Happened, Letter};
 impl Board {
     /// What a letter makes the board do; the event isn't counted yet.
     fn take(&mut self, letter: Letter) -> Result<Happened, NoMemory>
-        ensures ok { IfOk result (λ happened. (p : Program) → IsImageOf p self.old.memory.image
+        ensures ok { IfOk result (λ happened. (p : Program) → IsProgramOf self.old.memory.image p
             → Did (choice_by p self.old.limit letter (local_of self.old)) (record_by p self.old.limit (local_of self.old))
             self.old happened self.new) }
         ensures events { self.new.events ≡ self.old.events }
@@ -37,7 +37,7 @@ impl Board {
     /// anything changes: where it runs out, what is seen of the board is as before, and no event is counted.
     pub fn event(&mut self, letter: Letter) -> Result<Happened, NoMemory>
         requires { self.old.events < most_events }
-        ensures moved { IfOk result (λ happened. (p : Program) → IsImageOf p self.old.memory.image
+        ensures moved { IfOk result (λ happened. (p : Program) → IsProgramOf self.old.memory.image p
             → IsMove p letter self.old happened self.new) }
         ensures timeline { OnOk result ((p : Program) (named : ℕ → Bool) (m : Moment) → IsProgram p
             → IsAt p named m self.old
@@ -45,7 +45,7 @@ impl Board {
         ensures said { IfOk result (λ happened. (p : Program) (named : ℕ → Bool) (m : Moment)
             → IsAt p named m self.old
             → happened ≡ said_at p named self.old.limit letter m) }
-        ensures precise { IfOk result (λ happened. (p : Program) → IsImageOf p self.old.memory.image
+        ensures precise { IfOk result (λ happened. (p : Program) → IsProgramOf self.old.memory.image p
             → ServesOrEnds happened → self.old.pending ≡ []) }
         ensures counted { OnOk result (self.new.events ≡ self.old.events + 1) }
         ensures shorter { letter ≡ LetterValue.Answer

@@ -6,7 +6,7 @@ use Rattle.m88_isa.specs.Address.{word_address}
 use Rattle.m88_mem.specs.DataBus.{image_bus}
 use Rattle.m88_mem.specs.Marks.{absent_in}
 use Rattle.m88_board.proofs.Starting.{kept, made, opens}
-use Rattle.m88_board.specs.ImageOf.{IsImageOf}
+use Rattle.m88_isa.specs.ImageProgram.{IsProgramOf}
 use Rattle.m88_board.specs.Kept.{IsKept}
 use Rattle.m88_board.specs.Moves.{IsAt}
 use Rattle.m88_board.proofs.board.Board.new.Goals as goal
@@ -29,4 +29,4 @@ returns-clause-at c = λ p of.
     c.lacks_word-e1.result c.new-4.result c.in_ok-memory.memory c.new-4.ensures.numbers
     (c.in_ok-memory.ensures.bus ∙ ap image_bus image) c.in_ok-memory.ensures.absent
     (ap (λ (n : ℕ). n / 4 * 4) c.start.ensures ∙ ap (λ (i : ProgramImage). word_address i.start) image)
-    (subst (λ (i : ProgramImage). IsImageOf p i) image of))
+    (subst (λ (i : ProgramImage). IsProgramOf i p) image of))

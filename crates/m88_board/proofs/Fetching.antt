@@ -1,0 +1,167 @@
+-- What the letter `i` comes to, by what is fetched for it.
+use Rattle.std.specs.Prelude.{ℕ, Bool, true, false, not, List, [], ◌∷◌, Option, Some, None, MatchOption, ◌≡◌, ◌<◌, ◌%◌, ◌^◌, ◌&&◌}
+use Rattle.std.specs.Int.{to_be_bytes, w32}
+use Rattle.std.proofs.Common.{refl, sym, ap, ap₂, ◌∙◌, subst}
+use Rattle.m88_base.specs.Image.{ProgramImage, byte_at}
+use Rattle.m88_event.specs.Choice.{Choice, idles, issue_choice, next_choice, passes}
+use Rattle.m88_event.specs.Local.{choice_by, situation_of}
+use Rattle.m88_event.specs.declared.letter.Letter.TheVariants.{Issue}
+use Rattle.m88_isa.proofs.Held.{none_passes}
+use Rattle.m88_isa.proofs.ImageProgram.{instruction_at_word}
+use Rattle.m88_isa.specs.Bus.{waits_for}
+use Rattle.m88_isa.specs.Held.{Hold, busy_register, fetched_instruction, held}
+use Rattle.m88_isa.specs.History.{Completed}
+use Rattle.m88_isa.specs.ImageProgram.{IsProgramOf}
+use Rattle.m88_isa.specs.Machine.{Program, Stop, Turn, by_vector, fetched, four_bytes, stops}
+use Rattle.m88_isa.specs.Vector.{instruction_access, unimplemented}
+use Rattle.m88_isa.specs.Word.{IsWord}
+use Rattle.m88_isa.specs.declared.instr.Instr.{Instr}
+use Rattle.m88_isa.specs.declared.planned.Access.{Access}
+use Rattle.m88_iunit.specs.declared.slot.Slot.{Slot}
+use Rattle.m88_board.proofs.Choosing.{at_pc}
+use Rattle.m88_board.specs.Board.{BoardView, completed_of, is_idle_board, local_of, pc_of}
+use Rattle.m88_board.specs.Moves.{stopping}
+use Rattle.m88_board.specs.Turns.{choice_for, turn_of}
+
+-- no more may be issued
+pub idles_by : (p : Program) (b : BoardView) → is_idle_board b ≡ true →
+    choice_by p b.limit Issue (local_of b) ≡ idles
+unfolding situation_of local_of
+idles_by p b idle = rw idle refl
+
+-- the choice where the next fetched instruction is passed over
+passed_over : (idle bubble : Bool) (why : Option Hold) (turn : Turn) → idle ≡ false → bubble ≡ true →
+    issue_choice idle bubble why turn ≡ passes
+passed_over idle bubble why turn goes over = rw (goes, over) refl
+
+-- a bubble
+pub passes_by : (p : Program) (b : BoardView) → is_idle_board b ≡ false → not b.slots.nip.v ≡ true →
+    choice_by p b.limit Issue (local_of b) ≡ passes
+unfolding situation_of local_of
+passes_by p b goes bubble = passed_over (is_idle_board b) (not b.slots.nip.v) _ _ goes bubble
+
+-- the choice by the four bytes that are fetched and the instruction that the program has there
+abbrev choice_fetched : Option (List ℕ) → Option Instr → Completed → List Access → Choice
+choice_fetched word i c pending =
+    next_choice (held (fetched_instruction word i) (fetched word i c.regs c.carry c.pc c.next) pending)
+    (fetched word i c.regs c.carry c.pc c.next)
+
+-- the choice where the next instruction has its turn
+goes_next : (idle bubble : Bool) (why : Option Hold) (turn : Turn) → idle ≡ false → bubble ≡ false →
+    issue_choice idle bubble why turn ≡ next_choice why turn
+goes_next idle bubble why turn goes valid = rw (goes, valid) refl
+
+-- it has its turn by the bytes and the instruction that the program has there
+nexts_by : (p : Program) (b : BoardView) → is_idle_board b ≡ false → b.slots.nip.v ≡ true →
+    choice_by p b.limit Issue (local_of b)
+    ≡ choice_fetched (four_bytes p.byte (pc_of b.slots)) (p.instruction (pc_of b.slots)) (completed_of b) b.pending
+unfolding situation_of local_of completed_of
+nexts_by p b goes valid = goes_next (is_idle_board b) (not b.slots.nip.v) _ _ goes (ap not valid)
+
+-- and by what is known of these
+fetches_by : (p : Program) (b : BoardView) (word : Option (List ℕ)) (i : Option Instr) → is_idle_board b ≡ false →
+    b.slots.nip.v ≡ true →
+    four_bytes p.byte (pc_of b.slots) ≡ word →
+    p.instruction (pc_of b.slots) ≡ i →
+    choice_by p b.limit Issue (local_of b) ≡ choice_fetched word i (completed_of b) b.pending
+fetches_by p b word i goes valid bytes there =
+    nexts_by p b goes valid
+    ∙ ap₂ (λ (w : Option (List ℕ)) (o : Option Instr). choice_fetched w o (completed_of b) b.pending) bytes there
+
+-- a word that isn't there, or is no instruction, uses no register
+none_involved : (pending : List Access) → busy_register None pending ≡ None
+unfolding busy_register
+none_involved pending = none_passes 1 31 (λ register. false && waits_for pending register) (λ k. refl)
+
+-- so nothing but the pending transactions holds it
+stopped_early : (stop : Stop) (pending : List Access) →
+    next_choice (held None (stops stop) pending) (stops stop) ≡ stopping stop pending
+stopped_early stop [] = rw (none_involved []) refl
+stopped_early stop (a ∷ pending) = rw (none_involved (a ∷ pending)) refl
+
+-- the bytes that the image has are the program's
+bytes_of : (p : Program) (b : BoardView) (a : ℕ) → IsProgramOf b.memory.image p →
+    four_bytes p.byte a ≡ four_bytes (byte_at b.memory.image) a
+bytes_of p b a of = ap (λ (byte : ℕ → Option ℕ). four_bytes byte a) of.bytes
+
+-- NIP is to be carried out, and these are the bytes there, if all four of them are
+pub record NextAt (b : BoardView) (word : Option (List ℕ)) : Type 0 where
+  pub valid : b.slots.nip.v ≡ true
+  pub aligned : pc_of b.slots % 4 ≡ 0
+  pub bytes : four_bytes (byte_at b.memory.image) (pc_of b.slots) ≡ word
+
+-- a mark that isn't unset is set
+unmarked : (v : Bool) → not v ≡ false → v ≡ true
+unmarked true h = refl
+unmarked false h = absurd cc
+
+-- as the parts show it
+pub next_at : (inside b : BoardView) (slot : Slot) (word : Option (List ℕ)) → inside ≡ b → slot ≡ inside.slots.nip →
+    slot.addr % 4 ≡ 0 →
+    not slot.v ≡ false →
+    word ≡ four_bytes (byte_at inside.memory.image) slot.addr →
+    NextAt b word
+next_at inside b slot word same is aligned marked bytes =
+    let image : inside.memory.image ≡ b.memory.image = ap (λ (x : BoardView). x.memory.image) same in
+    let valid : b.slots.nip.v ≡ true =
+    sym (ap (λ (s : Slot). s.v) is ∙ ap (λ (x : BoardView). x.slots.nip.v) same) ∙ unmarked slot.v marked in
+    let here : slot.addr ≡ pc_of b.slots = at_pc inside.slots b.slots slot is (ap (λ (x : BoardView). x.slots) same) valid in
+    record {
+      valid = valid;
+      aligned = subst (λ (a : ℕ). a % 4 ≡ 0) here aligned;
+      bytes = ap₂ (λ (i : ProgramImage) (a : ℕ). four_bytes (byte_at i) a) (sym image) (sym here) ∙ sym bytes;
+    }
+
+-- the word can't be fetched
+pub lacks_by : (p : Program) (b : BoardView) → IsProgramOf b.memory.image p → is_idle_board b ≡ false →
+    NextAt b None →
+    choice_by p b.limit Issue (local_of b) ≡ stopping (by_vector instruction_access (pc_of b.slots)) b.pending
+unfolding completed_of
+lacks_by p b of goes next =
+    fetches_by p b None (p.instruction (pc_of b.slots)) goes next.valid
+    (bytes_of p b (pc_of b.slots) of ∙ next.bytes) refl
+    ∙ stopped_early (by_vector instruction_access (pc_of b.slots)) b.pending
+
+-- the program has no instruction where the word is none
+none_there : (o : Option Instr) (word : ℕ) →
+    MatchOption o ((j : Instr) → ¬ IsWord j word) (λ j. IsWord j word) →
+    ((j : Instr) → ¬ IsWord j word) →
+    o ≡ None
+none_there None word found none = refl
+none_there (Some j) word found none = absurd (none j found)
+
+-- the word is no instruction
+pub unimplemented_by : (p : Program) (b : BoardView) (word : ℕ) → IsProgramOf b.memory.image p →
+    is_idle_board b ≡ false →
+    NextAt b (Some (to_be_bytes w32 word)) →
+    word < 2 ^ 32 →
+    ((j : Instr) → ¬ IsWord j word) →
+    choice_by p b.limit Issue (local_of b) ≡ stopping (by_vector unimplemented (pc_of b.slots)) b.pending
+unfolding completed_of
+unimplemented_by p b word of goes next small none =
+    fetches_by p b (Some (to_be_bytes w32 word)) None goes next.valid (bytes_of p b (pc_of b.slots) of ∙ next.bytes)
+    (none_there (p.instruction (pc_of b.slots)) word
+    (instruction_at_word b.memory.image p (pc_of b.slots) word of next.aligned small next.bytes) none)
+    ∙ stopped_early (by_vector unimplemented (pc_of b.slots)) b.pending
+
+-- the program has the one instruction of the word
+found_there : (o : Option Instr) (i : Instr) (word : ℕ) →
+    MatchOption o ((j : Instr) → ¬ IsWord j word) (λ j. IsWord j word) →
+    IsWord i word →
+    ((j : Instr) → IsWord j word → j ≡ i) →
+    o ≡ Some i
+found_there None i word none is only = absurd (none i is)
+found_there (Some j) i word found is only = ap Some (only j found)
+
+-- the word is an instruction's, which has its turn
+pub turns_by : (p : Program) (b : BoardView) (word : ℕ) (i : Instr) → IsProgramOf b.memory.image p →
+    is_idle_board b ≡ false →
+    NextAt b (Some (to_be_bytes w32 word)) →
+    word < 2 ^ 32 →
+    IsWord i word →
+    ((j : Instr) → IsWord j word → j ≡ i) →
+    choice_by p b.limit Issue (local_of b) ≡ choice_for (Some i) (turn_of (Some i) (completed_of b)) b
+turns_by p b word i of goes next small is only =
+    fetches_by p b (Some (to_be_bytes w32 word)) (Some i) goes next.valid (bytes_of p b (pc_of b.slots) of ∙ next.bytes)
+    (found_there (p.instruction (pc_of b.slots)) i word
+    (instruction_at_word b.memory.image p (pc_of b.slots) word of next.aligned small next.bytes) is only)

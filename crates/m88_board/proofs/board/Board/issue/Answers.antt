@@ -1,0 +1,96 @@
+-- What the letter `i` comes to.
+use Rattle.std.proofs.Common.{◌≡◌, ◌∙◌, ℕ, Some, None, Option, Bool, not, arith, ap, refl, sym, subst, true}
+use Rattle.std.specs.Prelude.{option_map}
+use Rattle.std.specs.Int.{to_be_bytes, w32}
+use Rattle.std.proofs.lemmas.Result.{IfOk-weaker}
+use Rattle.m88_event.specs.Choice.{idles, passes}
+use Rattle.m88_event.specs.Local.{choice_by}
+use Rattle.m88_event.specs.declared.happened.Happened.TheVariants.{Bubble, Idle}
+use Rattle.m88_event.specs.declared.letter.Letter.TheVariants.{Issue}
+use Rattle.m88_event.specs.declared.record.Record.{Record}
+use Rattle.m88_isa.specs.ImageProgram.{IsProgramOf}
+use Rattle.m88_isa.specs.Machine.{Program, by_vector}
+use Rattle.m88_isa.specs.Vector.{instruction_access, unimplemented}
+use Rattle.m88_iunit.specs.declared.slot.Slot.{Slot}
+use Rattle.m88_board.proofs.Choosing.{did_by}
+use Rattle.m88_board.proofs.Counting.{did_events, events_kept, same_events}
+use Rattle.m88_board.proofs.Fetching.{idles_by, lacks_by, next_at, passes_by, turns_by, unimplemented_by}
+use Rattle.m88_board.specs.Board.{BoardView, completed_of, local_of, pc_of}
+use Rattle.m88_board.specs.Moves.{Did, stopping}
+use Rattle.m88_board.specs.Turns.{choice_for, turn_of}
+use Rattle.m88_board.specs.contracts.board.Board.{the_view}
+use Rattle.m88_board.proofs.board.Board.issue.Goals as goal
+
+pub returns-then-is_idle-clause-ok : goal.returns-then-is_idle-clause-ok
+returns-then-is_idle-clause-ok c = λ p fault of.
+    let b = c.args.self.now in
+    did_by (choice_by p b.limit Issue (local_of b)) idles fault b Idle b
+    (idles_by p b (sym c.is_idle.ensures ∙ c.if-is_idle.true))
+    (record { says = refl; does = record { moved = refl; same = record { limit = refl; image = refl } } })
+
+pub returns-then-not-nip-clause-ok : goal.returns-then-not-nip-clause-ok
+returns-then-not-nip-clause-ok c = λ p fault of.
+    let b = c.args.self.now in
+    let seen = ap (λ (s : Slot). s.v) c.candidate-nip.ensures.value ∙ ap (λ (x : BoardView). x.slots.nip.v) c.self.view_is in
+    did_by (choice_by p b.limit Issue (local_of b)) passes fault b Bubble c.pass.new.self
+    (passes_by p b (sym c.is_idle.ensures ∙ c.if-is_idle.false) (subst (λ (v : Bool). not v ≡ true) seen c.if-not-nip.true))
+    (record { says = refl; does = c.pass.ensures fault })
+
+pub returns-then-not-nip-clause-events : goal.returns-then-not-nip-clause-events
+returns-then-not-nip-clause-events c = same_events passes c.args.self.now c.pass.new.self c.pass.ensures
+
+pub returns-in_default-clause-ok : goal.returns-in_default-clause-ok
+returns-in_default-clause-ok c = λ p fault of.
+    let b = c.args.self.now in
+    let absent = ap (λ (o : Option ℕ). option_map (λ (word : ℕ). to_be_bytes w32 word) o) (sym c.in_default.is) ∙ c.fetch.ensures in
+    did_by (choice_by p b.limit Issue (local_of b)) (stopping (by_vector instruction_access (pc_of b.slots)) b.pending) fault b
+    c.raise.result c.raise.new.self
+    (lacks_by p b of (sym c.is_idle.ensures ∙ c.if-is_idle.false)
+    (next_at (the_view c.self.inside) b c.candidate-nip.result None c.self.view_is c.candidate-nip.ensures.value
+    c.candidate-nip.ensures.word c.if-not-nip.false absent))
+    (c.raise.ensures fault)
+
+pub returns-in_default-clause-events : goal.returns-in_default-clause-events
+returns-in_default-clause-events c =
+    did_events (stopping (by_vector instruction_access (pc_of c.args.self.now.slots)) c.args.self.now.pending) c.args.self.now
+    c.raise.result c.raise.new.self c.raise.ensures
+
+pub returns-in-Err-clause-ok : goal.returns-in-Err-clause-ok
+returns-in-Err-clause-ok c = λ p fault of.
+    let b = c.args.self.now in
+    did_by (choice_by p b.limit Issue (local_of b)) (stopping (by_vector unimplemented (pc_of b.slots)) b.pending) fault b
+    c.raise-in-Err.result c.raise-in-Err.new.self
+    (unimplemented_by p b c.in-Some.word of (sym c.is_idle.ensures ∙ c.if-is_idle.false)
+    (next_at (the_view c.self.inside) b c.candidate-nip.result (Some (to_be_bytes w32 c.in-Some.word)) c.self.view_is
+    c.candidate-nip.ensures.value c.candidate-nip.ensures.word c.if-not-nip.false c.in-Some.ensures)
+    (omega arith) (λ j is. let read = c.in-Err.ensures.only j is in cc))
+    (c.raise-in-Err.ensures fault)
+
+pub returns-in-Err-clause-events : goal.returns-in-Err-clause-events
+returns-in-Err-clause-events c =
+    did_events (stopping (by_vector unimplemented (pc_of c.args.self.now.slots)) c.args.self.now.pending) c.args.self.now
+    c.raise-in-Err.result c.raise-in-Err.new.self c.raise-in-Err.ensures
+
+pub returns-in-Ok-clause-ok : goal.returns-in-Ok-clause-ok
+returns-in-Ok-clause-ok c =
+    let b = c.args.self.now in
+    let i = c.in-Ok.instr in
+    IfOk-weaker c.issue_instr.result
+    (λ h. (fault : Record) → Did (choice_for (Some i) (turn_of (Some i) (completed_of b)) b) fault b h c.issue_instr.new.self)
+    (λ h. (p : Program) (fault : Record) → IsProgramOf b.memory.image p
+    → Did (choice_by p b.limit Issue (local_of b)) fault b h c.issue_instr.new.self)
+    (λ h did p fault of. did_by (choice_by p b.limit Issue (local_of b)) (choice_for (Some i) (turn_of (Some i) (completed_of b)) b)
+    fault b h c.issue_instr.new.self
+    (turns_by p b c.in-Some.word i of (sym c.is_idle.ensures ∙ c.if-is_idle.false)
+    (next_at (the_view c.self.inside) b c.candidate-nip.result (Some (to_be_bytes w32 c.in-Some.word)) c.self.view_is
+    c.candidate-nip.ensures.value c.candidate-nip.ensures.word c.if-not-nip.false c.in-Some.ensures)
+    (omega arith) c.in-Ok.ensures.found (λ j is. let read = c.decode.ensures.only j is in let said = c.in-Ok.is in cc))
+    (did fault))
+    c.issue_instr.ensures.ok
+
+pub returns-in-Ok-clause-events : goal.returns-in-Ok-clause-events
+returns-in-Ok-clause-events c =
+    let b = c.args.self.now in
+    let i = c.in-Ok.instr in
+    events_kept (choice_for (Some i) (turn_of (Some i) (completed_of b)) b) c.issue_instr.result b c.issue_instr.new.self
+    c.issue_instr.ensures.ok c.issue_instr.ensures.err

@@ -1,0 +1,15 @@
+-- The parts show what the instruction needs.
+use Rattle.std.proofs.Common.{◌∙◌, ap}
+use Rattle.m88_isa.specs.Effect.{plan_for}
+use Rattle.m88_iunit.specs.declared.slot.Slot.{Slot}
+use Rattle.m88_board.proofs.Issuing.{meant}
+use Rattle.m88_board.specs.contracts.board.Board.{the_view}
+use Rattle.m88_board.proofs.board.Board.planned.Goals as goal
+
+pub returns-clause-value : goal.returns-clause-value
+returns-clause-value c =
+    c.plan.ensures.value
+    ∙ ap plan_for (meant c.args.instr.now (the_view c.self.inside) c.args.self.now c.values.result c.carry.result
+    c.candidate.result.addr c.following.result.addr c.self.view_is c.self.invariant c.requires.valid c.requires.free
+    c.values.ensures.each c.carry.ensures (ap (λ (s : Slot). s.addr) c.candidate.ensures.value)
+    (ap (λ (s : Slot). s.addr) c.following.ensures.value))

@@ -1,0 +1,21 @@
+-- What the next instruction comes to in its turn.
+use Rattle.std.specs.Prelude.{Option}
+use Rattle.m88_event.specs.Choice.{Choice, next_choice}
+use Rattle.m88_isa.specs.Held.{held}
+use Rattle.m88_isa.specs.History.{Completed}
+use Rattle.m88_isa.specs.Effect.{Meaning, meaning_of}
+use Rattle.m88_isa.specs.Machine.{Turn, executed}
+use Rattle.m88_isa.specs.declared.instr.Instr.{Instr}
+use Rattle.m88_board.specs.Board.{BoardView}
+
+-- what an instruction means at a state
+abbrev pub meaning_at : Instr → Completed → Meaning
+meaning_at i c = meaning_of i c.regs c.carry c.pc c.next
+
+-- the turn of an instruction that was fetched and read, or of a word that is none
+abbrev pub turn_of : Option Instr → Completed → Turn
+turn_of i c = executed i c.regs c.carry c.pc c.next
+
+-- the choice that it comes to in its turn: the pending transactions hold it, or nothing does
+abbrev pub choice_for : Option Instr → Turn → BoardView → Choice
+choice_for i turn b = next_choice (held i turn b.pending) turn
