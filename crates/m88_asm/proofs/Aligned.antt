@@ -15,6 +15,7 @@ use Rattle.m88_link.specs.declared.object.Place.{Place}
 use Rattle.m88_link.specs.declared.object.Place.TheVariants.{Text, DataSection, At}
 use Rattle.m88_link.specs.declared.object.Section.{Section}
 use Rattle.m88_link.specs.declared.object.Symbol.{Symbol}
+use Rattle.m88_base.specs.Pages.{page_bytes}
 use Rattle.m88_link.specs.Bases.{first_text, up_to_multiple}
 use Rattle.m88_link.specs.Sound.{origin}
 use Rattle.m88_link.specs.Symbols.{repeated_after}
@@ -140,4 +141,4 @@ modules_even globals a i (b ∷ bs) f h = elim (either_code (module_code globals
 
 pub aligned_law : (u : Source) (a : ℕ) (i : Instr) → IsAssembled u → placed_instruction u a ≡ Some i → a % 4 ≡ 0
 aligned_law u a i f h =
-    modules_even (unit_layout u).globals a i (based u) (each_even first_text (up_to_multiple 4096 (end_of_text first_text u.modules)) u.modules f) h
+    modules_even (unit_layout u).globals a i (based u) (each_even first_text (up_to_multiple page_bytes (end_of_text first_text u.modules)) u.modules f) h

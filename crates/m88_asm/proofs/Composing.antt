@@ -14,6 +14,7 @@ use Rattle.m88_link.specs.declared.object.Place.{Place}
 use Rattle.m88_link.specs.declared.object.Place.TheVariants.{Text, DataSection, At}
 use Rattle.m88_link.specs.declared.object.Section.{Section}
 use Rattle.m88_link.specs.declared.object.Symbol.{Symbol}
+use Rattle.m88_base.specs.Pages.{page_bytes}
 use Rattle.m88_link.specs.Bases.{Standing, base_at, base_of, first_text, stood, stood_from, text_end, up_to_multiple}
 use Rattle.m88_link.specs.Layout.{Extent, extent, extents_of, globals_of, layout_of, reference, references_of, spot, spots_of, value_of_name}
 use Rattle.m88_link.specs.Relocated.{relocated}
@@ -59,8 +60,8 @@ text_end-objects text (m ∷ ms) =
 
 all_stood : (u : Source) → stood (objects_of u) ≡ map standing (based u)
 all_stood u =
-    ap (λ n. stood_from first_text (up_to_multiple 4096 n) (objects_of u)) (text_end-objects first_text u.modules)
-    ∙ stood-objects first_text (up_to_multiple 4096 (end_of_text first_text u.modules)) u.modules
+    ap (λ n. stood_from first_text (up_to_multiple page_bytes n) (objects_of u)) (text_end-objects first_text u.modules)
+    ∙ stood-objects first_text (up_to_multiple page_bytes (end_of_text first_text u.modules)) u.modules
 
 -- the bases of its sections
 

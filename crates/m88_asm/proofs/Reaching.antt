@@ -11,6 +11,7 @@ use Rattle.m88_parse.specs.WellFormed.{IsFormedModule, IsWellFormed}
 use Rattle.m88_link.specs.declared.fault.LinkFault.{LinkFault}
 use Rattle.m88_link.specs.declared.object.Reloc.{Reloc}
 use Rattle.m88_link.specs.declared.object.Symbol.{Symbol}
+use Rattle.m88_base.specs.Pages.{page_bytes}
 use Rattle.m88_link.specs.Bases.{first_text, up_to_multiple}
 use Rattle.m88_link.specs.Field.{is_in_reach}
 use Rattle.m88_link.specs.Layout.{Extent, Layout, Reference, layout_of, reference}
@@ -107,7 +108,7 @@ each_fills u w h =
     let p = option_or-none (duplicate l.globals) (option_or (undefined l.references) (too_far l.references)) h.named in
     let q = option_or-none (undefined l.references) (too_far l.references) p.1 in
     both_each (λ b. IsFormedModule b.source) (CanReach l.globals) (based u)
-    (each_formed first_text (up_to_multiple 4096 (end_of_text first_text u.modules)) u.modules w.each)
+    (each_formed first_text (up_to_multiple page_bytes (end_of_text first_text u.modules)) u.modules w.each)
     (each_reaches l.globals (based u) q.0 q.1)
 
 pub layout_law : (u : Source) → IsWellFormed u → IsLinkable (layout_of (objects_of u)) → layout_of (objects_of u) ≡ unit_layout u

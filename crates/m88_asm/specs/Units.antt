@@ -6,6 +6,7 @@ use Rattle.std.specs.Option.{option_map_or}
 use Rattle.m88_base.specs.Placed.{Placed}
 use Rattle.m88_parse.specs.declared.unit.Module.{Module}
 use Rattle.m88_parse.specs.declared.unit.Unit.{Unit as Source}
+use Rattle.m88_base.specs.Pages.{page_bytes}
 use Rattle.m88_link.specs.Bases.{first_text, up_to_multiple}
 use Rattle.m88_link.specs.Layout.{Extent, Layout, Reference, reference}
 use Rattle.m88_link.specs.Symbols.{exported, symbol_meaning}
@@ -44,7 +45,7 @@ end_of_text text (m ∷ ms) = end_of_text (up_to_multiple 8 text + section_lengt
 
 -- the modules of a unit where they stand: text from 0x00001000, data from the first page behind all text
 abbrev pub based : Source → List Based
-based u = based_from first_text (up_to_multiple 4096 (end_of_text first_text u.modules)) u.modules
+based u = based_from first_text (up_to_multiple page_bytes (end_of_text first_text u.modules)) u.modules
 
 -- the address of the first byte of a section
 abbrev pub address_at : Based → Place → ℕ

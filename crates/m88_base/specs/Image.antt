@@ -9,6 +9,10 @@ use Rattle.m88_base.specs.declared.image.ImageFault.TheVariants.{TooLarge, Overl
 abbrev pub most_bytes : ℕ
 most_bytes = 2 ^ 20
 
+-- where a program's first text stands, and where one starts that doesn't say: this project's profile
+abbrev pub first_text : ℕ
+first_text = 0x1000
+
 -- an image, its bytes in runs of consecutive addresses
 pub record ProgramImage : Type 0 where
   pub runs : List Placed

@@ -16,3 +16,4 @@ pub mod Placed
 pub mod Placing
 pub mod Blocks
 pub mod Image
+pub mod Pages

@@ -1,6 +1,9 @@
-//! Which pages of memory are absent.
+//! Pages of memory, and which of them are absent.
 
 use arrayvec::ArrayVec;
+
+/// The bytes of a page.
+pub const PAGE_BYTES: u32 = 4096;
 
 /// The pages that are absent for the data bus as a run begins.
 #[derive(Drop, Debug)]

@@ -2,7 +2,7 @@
 ghost use Rattle.std.specs.Prelude.{◌≡◌, ◌+◌, ◌^◌, ◌<◌, ◌≤◌, ◌↔◌, ℕ, None, Some, Err, length, slice_get, IfErr, IfOk, IsTrue, OnOk, OnErr};
 ghost use Rattle.m88_base.specs.Found.{IsFree, IsLeastTaken, IsPart, PutsBytes};
 ghost use Rattle.m88_base.specs.Placed.{AreApart, byte_among};
-ghost use Rattle.m88_base.specs.Image.{IsImage, IsTooLarge, ProgramImage, WhereOverlap, byte_at, byte_count, most_bytes, parts};
+ghost use Rattle.m88_base.specs.Image.{IsImage, IsTooLarge, ProgramImage, WhereOverlap, byte_at, byte_count, first_text, most_bytes, parts};
 
 use crate::failing::NoMemory;
 use crate::segments::Segments;
@@ -12,6 +12,9 @@ use thiserror::Error;
 
 /// The most bytes that an image has.
 pub const MOST_BYTES: usize = 1_048_576;
+
+/// The address of a program's first text, and the one at which a program starts that names no other.
+pub const FIRST_TEXT: u32 = 0x1000;
 
 /// Why bytes were not added to an image.
 #[derive(Clone, Copy, PartialEq, Eq, Debug, Error)]
@@ -67,13 +70,13 @@ impl Image {
     pub fn new(alloc: Global) -> Image
         ensures empty { (a : ℕ) → byte_at result a ≡ None }
         ensures len { byte_count result ≡ 0 }
-        ensures start { result.start ≡ 0x1000 }
+        ensures start { result.start ≡ first_text }
     {
         Image {
             alloc,
             runs: Segments::new(alloc),
             len: 0,
-            start: 0x1000,
+            start: FIRST_TEXT,
         }
     }
 

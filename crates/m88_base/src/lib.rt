@@ -36,11 +36,11 @@ mod segments;
 #[cfg(test)]
 mod tests;
 
-pub use absent::Absent;
+pub use absent::{Absent, PAGE_BYTES};
 pub use failing::{Failed, NoMemory};
 pub use fixup::{Fixup, Kind};
 pub use hex::{hex8_of, push_hex2, push_hex8};
-pub use image::{Image, ImageFault, MOST_BYTES};
+pub use image::{FIRST_TEXT, Image, ImageFault, MOST_BYTES};
 pub use line::first_line;
 pub use listed::Listed;
 pub use mem_sink::MemSink;

@@ -127,6 +127,13 @@ pub plan_flows : (i : Instr) (regs : List ℕ) (carry : Bool) (pc next : ℕ) �
 plan_flows i regs carry pc next here behind =
     of_plan (meaning_of i regs carry pc next) (meaning_fits i regs carry pc next here behind)
 
+-- the same of what an instruction does, a change of flow in a taken delay slot aside
+pub effect_flows : (i : Instr) (regs : List ℕ) (carry : Bool) (pc next : ℕ) → pc % 4 ≡ 0 → next % 4 ≡ 0 →
+    FlowsToWords (plan_for (effect i (inputs_of i regs carry pc next)))
+effect_flows i regs carry pc next here behind =
+    let x = inputs_of i regs carry pc next in
+    of_plan (effect i x) (effect_fits i x (record { pc = here; next = behind }))
+
 -- a change that an instruction means
 pub change_flows : (i : Instr) (regs : List ℕ) (carry : Bool) (pc next : ℕ) (change : Change) → pc % 4 ≡ 0 →
     next % 4 ≡ 0 →

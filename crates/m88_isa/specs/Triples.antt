@@ -9,9 +9,9 @@ use Rattle.m88_base.specs.Triple.{no_triple}
 use Rattle.m88_isa.specs.Compute.{weight_if}
 use Rattle.m88_isa.specs.declared.planned.Access.{Access}
 
--- DMT: bit 13 DOUB1 marks the first half of a double word, 12 LOCKBAR both halves of an exchange, 11 to 7 DREG are the
--- register that a load writes, 6 SIGNED asks for its sign, 5 to 2 EN are the enables, bit 5 that of the byte at offset 0,
--- 1 WRITE marks a store, and 0 VALID that there is an access
+-- DMT: bit 13 DOUB1 marks the first half of a double word, 12 LOCKBAR both halves of an exchange, 11 to 7 DREG are
+-- the register that a load writes, 6 SIGNED asks for its sign, 5 to 2 EN are the enables, bit 5 that of the byte at
+-- offset 0, 1 WRITE marks a store, and 0 VALID that there is an access
 abbrev pub dmt_of : Access → ℕ
 dmt_of a =
     weight_if a.doub1 (2 ^ 13)
@@ -34,7 +34,10 @@ triple_or_none (Some a) = triple_of a
 -- triples 0, 1 and 2 of the accesses that are pending, of which triple 0 has the oldest
 abbrev pub triples_of : List Access → List Triple
 triples_of pending =
-    triple_or_none (slice_get pending 0) ∷ triple_or_none (slice_get pending 1) ∷ triple_or_none (slice_get pending 2) ∷ []
+    triple_or_none (slice_get pending 0)
+    ∷ triple_or_none (slice_get pending 1)
+    ∷ triple_or_none (slice_get pending 2)
+    ∷ []
 
 -- VALID: there is an access that isn't done
 abbrev pub is_valid_triple : Triple → Bool

@@ -3,6 +3,8 @@
 -- text.
 use Rattle.std.specs.Prelude.{ℕ, ◌+◌, ◌-◌, ◌*◌, ◌/◌, List, [], ◌∷◌, length, slice_get}
 use Rattle.std.specs.Option.{option_map_or}
+pub use Rattle.m88_base.specs.Image.{first_text}
+use Rattle.m88_base.specs.Pages.{page_bytes}
 use Rattle.m88_link.specs.declared.object.Object.{Object}
 use Rattle.m88_link.specs.declared.object.Place.{Place}
 use Rattle.m88_link.specs.declared.object.Place.TheVariants.{Text, DataSection, At}
@@ -33,13 +35,9 @@ abbrev pub text_end : ℕ → List Object → ℕ
 text_end text [] = text
 text_end text (o ∷ os) = text_end (up_to_multiple 8 text + section_size 0 o) os
 
--- the address of the first text
-abbrev pub first_text : ℕ
-first_text = 0x1000
-
--- the address of the first data: the least multiple of 4096 that isn't below the end of all text
+-- the address of the first data: of the first page that begins at or behind the end of all text
 abbrev pub first_data : List Object → ℕ
-first_data objects = up_to_multiple 4096 (text_end first_text objects)
+first_data objects = up_to_multiple page_bytes (text_end first_text objects)
 
 -- the objects where they are linked
 abbrev pub stood : List Object → List Standing

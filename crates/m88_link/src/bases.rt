@@ -7,15 +7,9 @@ ghost use Rattle.m88_link.specs.Sound.{IsPatchIn, IsSound};
 ghost use Rattle.m88_link.specs.Symbols.{value_in};
 
 use crate::object::{Object, Place, Reloc, Section, Symbol};
-use m88_base::MOST_BYTES;
+use m88_base::{FIRST_TEXT, MOST_BYTES, PAGE_BYTES};
 use std::alloc::{AllocError, Global};
 use std::marker::Model;
-
-/// The address of the first text.
-pub const FIRST_TEXT: u32 = 0x1000;
-
-/// The number of which the address of the first data is a multiple.
-const PAGE: u32 = 4096;
 
 /// The alignment of each object's text and data, in bytes.
 const PART: u32 = 8;
@@ -170,7 +164,7 @@ pub fn stand<'a>(alloc: Global, objects: &'a [Object]) -> Result<Vec<Placement<'
 {
     let mut standings = Vec::new(alloc);
     let mut text = FIRST_TEXT;
-    let mut datas = text_end(objects).next_multiple_of(PAGE);
+    let mut datas = text_end(objects).next_multiple_of(PAGE_BYTES);
     for object in objects {
         text = text.next_multiple_of(PART);
         datas = datas.next_multiple_of(PART);

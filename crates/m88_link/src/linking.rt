@@ -6,7 +6,7 @@ ghost use Rattle.m88_link.specs.Linked.{IsLinked, start_address};
 ghost use Rattle.m88_link.specs.Refusal.{IsLinkable, IsRefused};
 ghost use Rattle.m88_link.specs.Sound.{IsSound};
 
-use crate::bases::{FIRST_TEXT, fit, stand};
+use crate::bases::{fit, stand};
 use crate::exports::globals;
 use crate::fault::{LinkFault, TOO_LARGE};
 use crate::object::Object;
@@ -14,7 +14,7 @@ use crate::placing::{image_of, spots};
 use crate::resolve::check_references;
 use crate::spans::check_overlap;
 use crate::table::SymbolTable;
-use m88_base::{Image, Name};
+use m88_base::{FIRST_TEXT, Image, Name};
 use std::alloc::Global;
 
 /// The image of objects, or the first reason why they have none. The text of all objects stands from

@@ -6,7 +6,7 @@ use Rattle.std.specs.Map.{lookup}
 use Rattle.std.specs.Ordering.{nat_cmp}
 use Rattle.m88_base.specs.Image.{ProgramImage, byte_at}
 use Rattle.m88_isa.specs.Bus.{in_words}
-pub use Rattle.m88_isa.specs.Bus.{page_bytes, page_number}
+pub use Rattle.m88_isa.specs.Bus.{page_number}
 
 -- how many pages there are
 abbrev pub page_count : ℕ

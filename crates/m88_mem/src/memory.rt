@@ -14,14 +14,11 @@ ghost use Rattle.m88_mem.specs.Walk.{is_other};
 use crate::absent_page::AbsentPage;
 use crate::marks::{absent_marks, marks};
 use crate::places::{fetched, image_word};
-use m88_base::{Absent, Image, NoMemory};
+use m88_base::{Absent, Image, NoMemory, PAGE_BYTES};
 use m88_isa::merge;
 use std::alloc::Global;
 use std::collections::BTreeMap;
 use std::marker::Model;
-
-/// The bytes of a page.
-pub const PAGE_BYTES: u32 = 4096;
 
 /// How many pages there are.
 pub const PAGE_COUNT: usize = 1 << 20;

@@ -1,7 +1,8 @@
 -- The plan is that of the definition, of which the law on every form speaks.
-use Rattle.std.proofs.Common.{subst, sym}
-use Rattle.m88_isa.specs.Effect.{MakesAccesses, RaisesListed, TrapsForUser, WritesWithin, effect}
+use Rattle.std.proofs.Common.{◌∙◌, ap, subst, sym}
+use Rattle.m88_isa.specs.Effect.{FlowsToWords, MakesAccesses, RaisesListed, TrapsForUser, WritesWithin, effect, plan_for}
 use Rattle.m88_isa.specs.Operands.{access_count_of, writes_of}
+use Rattle.m88_isa.proofs.Flows.{effect_flows}
 use Rattle.m88_isa.proofs.Plans.{effect_lawful, made_of, raised_of, trapped_of, within_of}
 use Rattle.m88_isa.proofs.effect.plan.Goals as goal
 
@@ -32,3 +33,9 @@ returns-else-is_flow-clause-raise c =
     let x = c.inputs_of.result in
     subst RaisesListed (sym c.effect.ensures)
     (raised_of (access_count_of i) (writes_of i) (effect i x) (effect_lawful i x c.requires))
+
+pub returns-else-is_flow-clause-flow : goal.returns-else-is_flow-clause-flow
+returns-else-is_flow-clause-flow c = λ here behind.
+    let i = c.args.instr.now in
+    subst FlowsToWords (sym (c.effect.ensures ∙ ap (λ x. plan_for (effect i x)) c.inputs_of.ensures))
+    (effect_flows i c.args.regs.now c.args.carry c.args.pc c.args.next here behind)

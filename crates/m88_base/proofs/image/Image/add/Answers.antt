@@ -1,5 +1,5 @@
 use Rattle.std.proofs.Common.{◌≡◌, ◌<◌, ◌+◌, refl, sym, inl, inr, ◌^◌, length, arith}
-use Rattle.m88_base.specs.Image.{byte_at, byte_count}
+use Rattle.m88_base.specs.Image.{byte_at, byte_count, most_bytes}
 use Rattle.m88_base.proofs.SameRuns.{puts_bytes}
 use Rattle.m88_base.proofs.image.Image.add.Goals.{In_ok-place}
 use Rattle.m88_base.proofs.image.Image.add.Goals as goal
@@ -24,7 +24,7 @@ counted_bytes c = rw (← c.self.view_is) (sym c.self.invariant.0)
 
 pub invariant_of-self-2 : goal.invariant_of-self-2
 invariant_of-self-2 c =
-    let many : 1048576 < byte_count c.args.self.now + length c.args.bytes.now → ⊥ =
+    let many : most_bytes < byte_count c.args.self.now + length c.args.bytes.now → ⊥ =
     λ p. absurd (let f = c.if-is_too_large.ensures.1 (inr p) in cc) in
     let placed = c.in_ok-place.ensures.ok in
     let far : 2 ^ 32 < c.args.at + length c.args.bytes.now → ⊥ =
