@@ -30,6 +30,10 @@ pub some_pending : (xs : List Access) (o : Option Access) → o ≡ slice_get xs
 some_pending [] o e h = absurd (let no = ap is_some e in cc)
 some_pending (x ∷ xs) o e h = refl
 
+pub some_count : (xs : List Access) (o : Option Access) → o ≡ slice_get xs 0 → is_some o ≡ true → 0 < length xs
+some_count [] o e h = absurd (let no = ap is_some e in cc)
+some_count (x ∷ xs) o e h = omega arith
+
 pub some_length : (xs : List Access) (x : Access) → Some x ≡ slice_get xs 0 → 0 < length xs
 some_length [] x h = absurd cc
 some_length (y ∷ ys) x h = omega arith

@@ -10,3 +10,7 @@ pub mod Starting
 pub mod Issuing
 pub mod Fetching
 pub mod Counting
+pub mod Seeing
+pub mod Shown
+pub mod Running
+pub mod Ending

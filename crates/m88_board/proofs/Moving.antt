@@ -1,18 +1,23 @@
 -- An event is the move of what is seen, and so goes along the timeline.
-use Rattle.std.specs.Prelude.{ℕ, Bool, ◌≡◌, ◌+◌}
-use Rattle.std.proofs.Common.{sym, ap, ◌∙◌, subst}
-use Rattle.m88_event.proofs.Follows.{law, stays_within}
-use Rattle.m88_event.specs.Choice.{answer_choice}
-use Rattle.m88_event.specs.Local.{choice_by, move, record_by, said_by, situation_of, with_move_counted}
-use Rattle.m88_event.specs.Timeline.{Moment, after_letter}
+use Rattle.std.specs.Prelude.{ℕ, Bool, false, List, [], ◌∷◌, ◌≡◌, ◌≤◌, ◌+◌, ◌-◌, length}
+use Rattle.std.proofs.Common.{arith, refl, sym, ap, ◌∙◌, subst}
+use Rattle.std.proofs.lemmas.List.{length-drop}
+use Rattle.m88_event.proofs.Follows.{law, same_said, stays_within}
+use Rattle.m88_event.proofs.Precise.{precise_by}
+use Rattle.m88_event.specs.Choice.{ServesOrEnds, answer_choice, faults, replies}
+use Rattle.m88_event.specs.Local.{Local, choice_by, move, record_by, said_by, situation_of, with_move_counted}
+use Rattle.m88_event.specs.Timeline.{Moment, after_letter, said_at}
 use Rattle.m88_event.specs.declared.happened.Happened.{Happened}
 use Rattle.m88_event.specs.declared.letter.Letter.{Letter}
 use Rattle.m88_event.specs.declared.letter.Letter.TheVariants.{Answer}
+use Rattle.m88_event.specs.declared.record.Record.{Record}
+use Rattle.m88_isa.specs.Held.{is_pending}
 use Rattle.m88_isa.specs.Machine.{IsProgram, Program}
+use Rattle.m88_isa.specs.declared.planned.Access.{Access}
 use Rattle.m88_mem.specs.DataBus.{absent_of}
 use Rattle.m88_board.specs.Board.{BoardView, completed_of, local_of}
 use Rattle.m88_isa.specs.ImageProgram.{IsProgramOf}
-use Rattle.m88_board.specs.Moves.{Did, IsAt, IsMove}
+use Rattle.m88_board.specs.Moves.{Did, Does, IsAt, IsMove}
 
 -- a choice that was made and counted is the move
 pub counted : (p : Program) (letter : Letter) (old middle : BoardView) (h : Happened) →
@@ -37,11 +42,51 @@ along p named m letter old h new is at moved = record {
   seen = moved.moved ∙ ap (move p old.limit letter) at.seen ∙ law p named old.limit letter m is at.within;
 }
 
--- the same for the letter `r`
-pub answered : (p : Program) (old middle : BoardView) (h : Happened) (new : BoardView) →
+-- the same of a board whose events are counted behind it
+pub moved_by : (p : Program) (letter : Letter) (old middle : BoardView) (h : Happened) (new : BoardView) →
     new ≡ record middle { events = middle.events + 1 } →
-    Did (answer_choice old.pending (absent_of old.memory)) (record_by p old.limit (local_of old)) old h middle →
-    IsMove p Answer old h new
+    Did (choice_by p old.limit letter (local_of old)) (record_by p old.limit (local_of old)) old h middle →
+    IsMove p letter old h new
+moved_by p letter old middle h new is did =
+    subst (λ (b : BoardView). IsMove p letter old h b) (sym is) (counted p letter old middle h did)
+
+-- and it says what the timeline says
+pub says_so : (p : Program) (named : ℕ → Bool) (m : Moment) (letter : Letter) (old : BoardView) (h : Happened) (new : BoardView) →
+    IsAt p named m old →
+    IsMove p letter old h new →
+    h ≡ said_at p named old.limit letter m
+says_so p named m letter old h new at moved =
+    moved.says ∙ ap (said_by p old.limit letter) at.seen ∙ same_said p named old.limit letter m
+
+-- a trap is served and the program ends only where nothing is pending
+pub empty_of : (xs : List Access) → is_pending xs ≡ false → xs ≡ []
+empty_of [] h = refl
+empty_of (x ∷ xs) h = absurd cc
+
+pub precise_on : (p : Program) (letter : Letter) (old : BoardView) (h : Happened) (new : BoardView) →
+    IsMove p letter old h new →
+    ServesOrEnds h →
+    old.pending ≡ []
+unfolding local_of
+precise_on p letter old h new moved last =
+    empty_of old.pending (precise_by p old.limit letter (local_of old) (subst ServesOrEnds moved.says last))
+
+-- the letter `r` makes the choice of the oldest transaction
+pub answer_chosen : (p : Program) (old : BoardView) →
+    choice_by p old.limit Answer (local_of old) ≡ answer_choice old.pending (absent_of old.memory)
 unfolding situation_of local_of
-answered p old middle h new is did =
-    subst (λ (b : BoardView). IsMove p Answer old h b) (sym is) (counted p Answer old middle h did)
+answer_chosen p old = refl
+
+-- an answer leaves fewer transactions pending
+pub fewer_replied : (fault : Record) (old new : BoardView) → Does replies fault old new →
+    length new.pending ≤ length old.pending - 1
+unfolding local_of
+fewer_replied fault old new did =
+    let left = ap (λ (l : Local). length l.pending) did.moved in
+    let dropped = length-drop 1 old.pending in
+    omega (arith, left, dropped)
+
+pub fewer_faulted : (fault : Record) (old new : BoardView) → Does faults fault old new →
+    length new.pending ≤ length old.pending - 1
+unfolding local_of
+fewer_faulted fault old new did = let left = ap (λ (l : Local). length l.pending) did.moved in omega (arith, left)

@@ -23,7 +23,7 @@ use Rattle.m88_board.specs.Kept.{IsKept, epsr_of}
 use Rattle.m88_board.proofs.Agree.{zero_waits_not}
 
 -- NIP is the next instruction, or the one that is passed over
-nip_is : (byte : ℕ → Option ℕ) (p : Program) (xip : Slot) (a : ℕ) (v e : Bool) (f : ℕ) → p.byte ≡ byte →
+pub nip_is : (byte : ℕ → Option ℕ) (p : Program) (xip : Slot) (a : ℕ) (v e : Bool) (f : ℕ) → p.byte ≡ byte →
     record { addr = a; v = v; e = e }
     ≡ (if v then valid_slot a (is_none (four_bytes byte a)) else squashed_slot (word_behind xip.addr)) →
     pointer_of (record { addr = a; v = v; e = e }) ≡ nip_of p (not v) (pointer_of xip) (if v then a else f)
@@ -32,7 +32,7 @@ nip_is byte p xip a true e f of h =
 nip_is byte p xip a false e f of h = ap pointer_of h
 
 -- FIP is behind it
-fip_is : (byte : ℕ → Option ℕ) (p : Program) (fip : Slot) (a : ℕ) (v : Bool) → p.byte ≡ byte →
+pub fip_is : (byte : ℕ → Option ℕ) (p : Program) (fip : Slot) (a : ℕ) (v : Bool) → p.byte ≡ byte →
     fip ≡ valid_slot fip.addr (is_none (four_bytes byte fip.addr)) →
     pointer_of fip
     ≡ fip_of p (not v) (if v then a else fip.addr) (if v then fip.addr else after_bytes fip.addr 4)

@@ -101,7 +101,7 @@ seen_at numbers bus absent entry = record {
   pending = [];
   xip = no_pointer;
   bubble = false;
-  ended = false;
+  ended = None;
   absent = absent;
   retired = 0;
   done = 0;
@@ -116,7 +116,7 @@ still_absent true = refl
 still_absent false = refl
 
 -- the bytes of the program are those of the image
-same_bytes : (p : Program) (image : ProgramImage) → IsProgramOf image p →
+pub same_bytes : (p : Program) (image : ProgramImage) → IsProgramOf image p →
     image_bus image ≡ in_words (λ a. unwrap_or (p.byte a) 0)
 unfolding image_bytes
 same_bytes p image of = ap in_words (fun_ext (λ a. ap (λ (byte : ℕ → Option ℕ). unwrap_or (byte a) 0) (sym of.bytes)))

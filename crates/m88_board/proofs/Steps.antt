@@ -1,8 +1,8 @@
 -- What a board looks like after its parts have moved, choice by choice.
-use Rattle.std.specs.Prelude.{ℕ, Bool, true, false, not, List, [], ◌∷◌, ◌++◌, Some, ◌≡◌, ◌+◌, ◌&&◌, drop, take, length, is_some, if◌then◌else◌}
+use Rattle.std.specs.Prelude.{ℕ, Bool, true, false, not, List, [], ◌∷◌, ◌++◌, Some, ◌≡◌, ◌+◌, ◌&&◌, drop, take, length, if◌then◌else◌}
 use Rattle.std.proofs.Common.{refl, sym, ap, ◌∙◌}
 use Rattle.m88_ctrl.specs.ControlRegisters.{ControlRegisters, carry_of}
-use Rattle.m88_event.specs.Choice.{faults, finishes, issues, passes, replies, serves, touches_page}
+use Rattle.m88_event.specs.Choice.{end_by, faults, finishes, issues, passes, replies, serves, touches_page}
 use Rattle.m88_event.specs.declared.happened.End.{End}
 use Rattle.m88_event.specs.declared.record.Record.{Record}
 use Rattle.m88_isa.specs.Address.{after_bytes}
@@ -50,7 +50,7 @@ passed fault b slots e bubble valid is = record {
     pending = b.pending;
     xip = ap (λ (s : Pointers). pointer_of s.xip) is i;
     bubble = (ap (λ (s : Pointers). not s.nip.v) is ∙ ap not valid) i;
-    ended = is_some b.ended;
+    ended = b.ended;
     absent = absent_of b.memory;
     retired = b.retired;
     done = b.done;
@@ -90,7 +90,7 @@ replied fault b pending file memory left cells bus absent image = record {
     pending = left i;
     xip = pointer_of b.slots.xip;
     bubble = not b.slots.nip.v;
-    ended = is_some b.ended;
+    ended = b.ended;
     absent = absent i;
     retired = b.retired;
     done = b.done + 1;
@@ -135,7 +135,7 @@ faulted fault b file memory control slots done cells bus absent image carry same
     pending = [];
     xip = pointer_of (same i).xip;
     bubble = not (same i).nip.v;
-    ended = is_some b.ended;
+    ended = b.ended;
     absent = absent i;
     retired = b.retired;
     done = count i;
@@ -148,10 +148,11 @@ faulted fault b file memory control slots done cells bus absent image carry same
 
 -- the program ends
 pub finished : (fault : Record) (stop : Stop) (b : BoardView) (control : ControlRegisters) (end : End) →
+    end ≡ end_by stop →
     carry_of control ≡ carry_of b.control →
     Does (finishes stop) fault b (record b { control = control; ended = Some end })
 unfolding local_of completed_of
-finished fault stop b control end carry = record {
+finished fault stop b control end by carry = record {
   moved = λ i. record {
     completed = record {
       regs = (after_accesses b.pending (cells_of b.file b.memory)).regs;
@@ -165,7 +166,7 @@ finished fault stop b control end carry = record {
     pending = b.pending;
     xip = pointer_of b.slots.xip;
     bubble = not b.slots.nip.v;
-    ended = true;
+    ended = Some (by i);
     absent = absent_of b.memory;
     retired = b.retired;
     done = b.done;
@@ -201,7 +202,7 @@ put_out fault byte b slots control on carry = record {
     pending = b.pending;
     xip = on.xip i;
     bubble = on.bubble_is i;
-    ended = is_some b.ended;
+    ended = b.ended;
     absent = absent_of b.memory;
     retired = b.retired + 1;
     done = b.done;
@@ -248,7 +249,7 @@ issued fault change b slots pending file memory control on joined cells bus abse
         pending = joined i;
         xip = on.xip i;
         bubble = on.bubble_is i;
-        ended = is_some b.ended;
+        ended = b.ended;
         absent = absent i;
         retired = b.retired + 1;
         done = b.done;

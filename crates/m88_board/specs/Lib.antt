@@ -1,4 +1,5 @@
 pub mod Board
 pub mod Kept
+pub mod Glances
 pub mod Moves
 pub mod Turns

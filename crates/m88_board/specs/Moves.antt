@@ -1,9 +1,9 @@
 -- What an event makes of a board.
-use Rattle.std.specs.Prelude.{ℕ, Bool, not, List, ◌≡◌, if◌then◌else◌}
+use Rattle.std.specs.Prelude.{ℕ, Bool, not, List, [], ◌∷◌, Option, ◌≡◌, if◌then◌else◌}
 use Rattle.m88_event.specs.Choice.{Choice, finishes, holds, said}
 use Rattle.m88_event.specs.Local.{local_at, move, move_by, said_by}
 use Rattle.m88_event.specs.Shadow.{retired_pointer}
-use Rattle.m88_event.specs.Timeline.{DoneWereMade, Moment}
+use Rattle.m88_event.specs.Timeline.{DoneWereMade, Moment, after_letter}
 use Rattle.m88_event.specs.declared.happened.Happened.{Happened}
 use Rattle.m88_event.specs.declared.letter.Letter.{Letter}
 use Rattle.m88_event.specs.declared.record.Record.{Record}
@@ -12,6 +12,8 @@ use Rattle.m88_iunit.specs.Pointers.{Pointers}
 use Rattle.m88_isa.specs.Machine.{Program, Stop}
 use Rattle.m88_isa.specs.declared.planned.Access.{Access}
 use Rattle.m88_board.specs.Board.{BoardView, local_of, next_of, pc_of, pointer_of}
+use Rattle.m88_board.specs.Glances.{Saw, glance_at, glances_along}
+use Rattle.m88_board.specs.declared.glance.Glance.{Glance}
 use Rattle.m88_isa.specs.ImageProgram.{IsProgramOf}
 
 -- the slots after an instruction that goes on: it is XIP, and these are next
@@ -47,6 +49,19 @@ pub record IsAt (p : Program) (named : ℕ → Bool) (m : Moment) (b : BoardView
   pub image : IsProgramOf b.memory.image p
   pub within : DoneWereMade p m
   pub seen : local_of b ≡ local_at p named m
+
+-- a board made the event of a letter at a moment, and was shown
+pub record IsStep (p : Program) (named : ℕ → Bool) (letter : Letter) (m : Moment) (before after : Option (List Glance))
+    (old new : BoardView) : Type 0 where
+  pub at : IsAt p named (after_letter p named old.limit letter m) new
+  pub limit : new.limit ≡ old.limit
+  pub saw : Saw before after (glance_at p (after_letter p named old.limit letter m) ∷ [])
+
+-- a board went along moments, from the first to the last of so many more, and was shown at each of these
+pub record IsAlong (p : Program) (named : ℕ → Bool) (moments : ℕ → Moment) (events : ℕ) (before after : Option (List Glance))
+    (b : BoardView) : Type 0 where
+  pub at : IsAt p named (moments events) b
+  pub saw : Saw before after (glances_along p moments events)
 
 -- what is seen of it stays: memory ran out
 pub record IsUnmoved (old new : BoardView) : Type 0 where

@@ -1,11 +1,10 @@
 //! The board: its parts, and what a choice makes of them.
 
-ghost use Rattle.std.specs.Prelude.{ℕ, Bool, ◌&&◌, option_map, ◌≡◌, ◌<◌, ◌≤◌, ◌+◌, ◌*◌, ◌%◌, ◌++◌, [], Option, Some, None, true, false, length, slice_get, IfOk, IfSome, OnErr, OnOk};
+ghost use Rattle.std.specs.Prelude.{◌&&◌, option_map, ◌≡◌, ◌<◌, ◌≤◌, ◌+◌, ◌-◌, ◌*◌, ◌%◌, ◌++◌, [], Option, Some, None, true, false, length, slice_get, IfOk, IfSome, OnErr, OnOk};
 ghost use Rattle.m88_base.specs.Reg.{number_of};
 ghost use Rattle.m88_event.specs.Choice.{answer_choice, end_by, faults, finishes, issues, passes, replies, serves, turn_choice};
 ghost use Rattle.m88_event.specs.Local.{record_by};
-ghost use Rattle.m88_event.specs.Timeline.{Moment, after_letter, opening_moment};
-ghost use Rattle.m88_event.specs.declared.letter.Letter.{Letter as LetterValue};
+ghost use Rattle.m88_event.specs.Timeline.{opening_moment};
 ghost use Rattle.m88_event.specs.declared.record.Record.{Record as RecordValue};
 ghost use Rattle.m88_isa.specs.Bus.{page_number, LoadApart, listed, waits_for};
 ghost use Rattle.m88_mem.specs.DataBus.{absent_of};
@@ -13,7 +12,7 @@ ghost use Rattle.m88_mem.specs.Marks.{NamesPages, absent_in};
 ghost use Rattle.m88_isa.specs.Effect.{Change, recorded_change};
 ghost use Rattle.m88_isa.specs.Flow.{FlowFits};
 ghost use Rattle.m88_isa.specs.Held.{busy_register, involves, most_pending};
-ghost use Rattle.m88_isa.specs.Machine.{IsProgram, Program, Stop, by_vector, trapped};
+ghost use Rattle.m88_isa.specs.Machine.{Program, Stop, by_vector, trapped};
 ghost use Rattle.m88_isa.specs.Instr.{IsValid};
 ghost use Rattle.m88_board.specs.Board.{is_idle_board, local_of, pc_of};
 ghost use Rattle.m88_isa.specs.ImageProgram.{IsProgramOf};
@@ -21,7 +20,7 @@ ghost use Rattle.std.specs.Int.{bit_at};
 ghost use Rattle.m88_dunit.specs.Pending.{CanIssue};
 ghost use Rattle.m88_iunit.specs.Pointers.{resumed};
 ghost use Rattle.m88_board.specs.Kept.{epsr_of, most_events, most_retired};
-ghost use Rattle.m88_board.specs.Moves.{Did, Does, IsAt, IsMove, IsUnmoved, stopping};
+ghost use Rattle.m88_board.specs.Moves.{Did, Does, IsAt, IsUnmoved, stopping};
 
 use crate::unit::{advance, complete, lacks_word, prepare, put_in, serve_all, visit, write};
 use m88_base::{Absent, Image, NoMemory, Reg};
@@ -36,7 +35,10 @@ use m88_scoreboard::RegFile;
 use std::alloc::Global;
 use std::marker::Model;
 
+mod event;
 mod issue;
+mod reading;
+mod run;
 
 /// The number of PSR, the status of a program that runs.
 const PSR: u8 = 1;
@@ -223,6 +225,7 @@ impl Board {
             → Did (answer_choice self.old.pending (absent_of self.old.memory))
             (record_by p self.old.limit (local_of self.old)) self.old happened self.new) }
         ensures events { self.new.events ≡ self.old.events }
+        ensures shorter { OnOk result (length self.new.pending ≤ length self.old.pending - 1) }
         ensures err { OnErr result (IsUnmoved self.old self.new) }
     {
         let Some(oldest) = self.dunit.oldest() else {
@@ -376,21 +379,5 @@ impl Board {
         ensures { self.new ≡ record self.old { events = self.old.events + 1 } }
     {
         self.events += 1;
-    }
-
-    /// Makes the event of the letter `r`: the oldest transaction is answered, or meets its fault. Memory is taken
-    /// before anything changes: where it runs out, what is seen of the board is as before, and no event is counted.
-    pub fn take_answer(&mut self) -> Result<Happened, NoMemory>
-        requires { self.old.events < most_events }
-        ensures moved { IfOk result (λ happened. (p : Program) → IsProgramOf self.old.memory.image p
-            → IsMove p LetterValue.Answer self.old happened self.new) }
-        ensures timeline { OnOk result ((p : Program) (named : ℕ → Bool) (m : Moment) → IsProgram p
-            → IsAt p named m self.old
-            → IsAt p named (after_letter p named self.old.limit LetterValue.Answer m) self.new) }
-        ensures err { OnErr result (IsUnmoved self.old self.new) }
-    {
-        let happened = self.answer()?;
-        self.count();
-        Ok(happened)
     }
 }

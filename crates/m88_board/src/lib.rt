@@ -6,6 +6,10 @@
 #![tactic(auto)]
 
 mod board;
+mod glance;
 mod unit;
+mod watch;
 
 pub use board::Board;
+pub use glance::Glance;
+pub use watch::{Unwatched, Watch};

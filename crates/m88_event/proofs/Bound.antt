@@ -1,5 +1,5 @@
 -- A run is over within the length of its schedule, eight events for each instruction that it may retire, and eight more.
-use Rattle.std.specs.Prelude.{ℕ, suc, Bool, true, false, not, List, [], ◌∷◌, Option, Some, None, ◌≡◌, ◌≢◌, ◌<◌, ◌≤◌, ◌+◌, ◌-◌, ◌*◌, ◌%◌, ◌==◌, ◌&&◌, ◌||◌, length, map, nat_lt, if◌then◌else◌}
+use Rattle.std.specs.Prelude.{ℕ, suc, Bool, true, false, not, List, [], ◌∷◌, Option, Some, None, ◌≡◌, ◌≢◌, ◌<◌, ◌≤◌, ◌+◌, ◌-◌, ◌*◌, ◌%◌, ◌==◌, ◌&&◌, ◌||◌, is_some, length, map, nat_lt, if◌then◌else◌}
 use Rattle.std.proofs.Common.{arith, length-append, refl, sym, ap, ◌∙◌, subst}
 use Rattle.std.proofs.lemmas.Bool.{eqb-false, eqb-true, le-ltb, lt-ltb, ltb-false, ltb-true}
 use Rattle.std.proofs.lemmas.List.{length-drop}
@@ -27,7 +27,7 @@ one_if mark = if mark then 1 else 0
 
 -- what may still happen but idling and holding: an instruction counts as four, for itself, two accesses and a bubble
 unfoldable pub fuel : ℕ → Local → ℕ
-fuel limit l = 4 * (limit - l.retired) + length l.pending + one_if l.bubble + one_if (not l.ended)
+fuel limit l = 4 * (limit - l.retired) + length l.pending + one_if l.bubble + one_if (not (is_some l.ended))
 
 -- the events that may yet pass before the next that makes the fuel less
 abbrev pub turns_left : Bool → Bool → Bool → ℕ
@@ -47,7 +47,7 @@ Spends may_stay limit l passes = l.bubble ≡ true
 Spends may_stay limit l (holds why) = may_stay ≡ true
 Spends may_stay limit l (issues change) = (l.retired < limit) × (length change.touches ≤ 2)
 Spends may_stay limit l (serves byte) = l.retired < limit
-Spends may_stay limit l (finishes stop) = l.ended ≡ false
+Spends may_stay limit l (finishes stop) = is_some l.ended ≡ false
 Spends may_stay limit l replies = 1 ≤ length l.pending
 Spends may_stay limit l faults = 1 ≤ length l.pending
 
@@ -88,7 +88,7 @@ spent may_stay limit l replies fault h =
 spent may_stay limit l faults fault h = let most = one_at_most (not may_stay) in omega (arith, h, most)
 
 -- the letter `i`: what it does is the turn of the next instruction, unless something holds it
-turn_spends : (may_stay : Bool) (limit : ℕ) (l : Local) (turn : Turn) → l.retired < limit → l.ended ≡ false → TurnFits turn →
+turn_spends : (may_stay : Bool) (limit : ℕ) (l : Local) (turn : Turn) → l.retired < limit → is_some l.ended ≡ false → TurnFits turn →
     Spends may_stay limit l (turn_choice turn)
 turn_spends may_stay limit l (changes change) room lives fits = (room, fits.short)
 turn_spends may_stay limit l (outputs byte) room lives short = room
@@ -99,7 +99,7 @@ abbrev pub MayBeHeld : Bool → Option Hold → Type 0
 MayBeHeld may_stay None = Unit {0}
 MayBeHeld may_stay (Some why) = may_stay ≡ true
 
-next_spends : (may_stay : Bool) (limit : ℕ) (l : Local) (why : Option Hold) (turn : Turn) → l.retired < limit → l.ended ≡ false →
+next_spends : (may_stay : Bool) (limit : ℕ) (l : Local) (why : Option Hold) (turn : Turn) → l.retired < limit → is_some l.ended ≡ false →
     TurnFits turn → MayBeHeld may_stay why →
     Spends may_stay limit l (next_choice why turn)
 next_spends may_stay limit l None turn room lives short may = turn_spends may_stay limit l turn room lives short
@@ -114,19 +114,19 @@ apart_of : (ended reached : Bool) → (ended || reached) ≡ false → reached �
 apart_of true reached h = absurd cc
 apart_of false reached h = h
 
-room_of : (limit : ℕ) (l : Local) → l.retired ≤ limit → (l.ended || l.retired == limit) ≡ false → l.retired < limit
+room_of : (limit : ℕ) (l : Local) → l.retired ≤ limit → (is_some l.ended || l.retired == limit) ≡ false → l.retired < limit
 room_of limit l within h =
-    let apart : l.retired ≢ limit = eqb-false l.retired limit (apart_of l.ended (l.retired == limit) h) in
+    let apart : l.retired ≢ limit = eqb-false l.retired limit (apart_of (is_some l.ended) (l.retired == limit) h) in
     omega (arith, within, apart)
 
 issue_spends : (may_stay : Bool) (limit : ℕ) (l : Local) (idle bubble : Bool) (why : Option Hold) (turn : Turn) →
-    l.retired ≤ limit → (l.ended || l.retired == limit) ≡ idle → l.bubble ≡ bubble → TurnFits turn →
+    l.retired ≤ limit → (is_some l.ended || l.retired == limit) ≡ idle → l.bubble ≡ bubble → TurnFits turn →
     (idle ≡ true → may_stay ≡ true) → MayBeHeld may_stay why →
     Spends may_stay limit l (issue_choice idle bubble why turn)
 issue_spends may_stay limit l true bubble why turn within e b short may held = may refl
 issue_spends may_stay limit l false true why turn within e b short may held = b
 issue_spends may_stay limit l false false why turn within e b short may held =
-    next_spends may_stay limit l why turn (room_of limit l within e) (lives_of l.ended (l.retired == limit) e) short held
+    next_spends may_stay limit l why turn (room_of limit l within e) (lives_of (is_some l.ended) (l.retired == limit) e) short held
 
 -- the letter `r` answers the oldest transaction, unless none is pending
 page_spends : (may_stay : Bool) (limit : ℕ) (l : Local) (absent : Bool) → 1 ≤ length l.pending →
@@ -169,7 +169,7 @@ answer_less p limit l some = answer_spends false limit l l.pending l.absent refl
 
 -- `i` makes it less where nothing is pending and instructions may be issued
 issue_less : (p : Program) (limit : ℕ) (l : Local) → IsProgram p → l.retired ≤ limit → is_pending l.pending ≡ false →
-    (l.ended || l.retired == limit) ≡ false →
+    (is_some l.ended || l.retired == limit) ≡ false →
     Spends false limit l (choice_of p Issue (situation_of limit l))
 unfolding situation_of
 issue_less p limit l is within none lives =
@@ -198,7 +198,7 @@ next_phase schedule k l h = by_test (nat_lt (k + 1) (length schedule))
     (ap (λ n. n % 2 == 0) last) refl)
 
 -- behind the schedule `r` and `i` come in turn
-behind : (schedule : List Letter) (k : ℕ) (answer : Bool) → length schedule ≤ k → ((k - length schedule) % 2 == 0) ≡ answer →
+pub behind : (schedule : List Letter) (k : ℕ) (answer : Bool) → length schedule ≤ k → ((k - length schedule) % 2 == 0) ≡ answer →
     letter_at schedule k ≡ (if answer then Answer else Issue)
 unfolding letter_at
 behind schedule k answer h e = rw (slice_get_past schedule k h, e) refl
@@ -238,7 +238,7 @@ fuel_answered p limit l some =
     omega (arith, less, same)
 
 fuel_issued : (p : Program) (limit : ℕ) (l : Local) → IsProgram p → l.retired ≤ limit → is_pending l.pending ≡ false →
-    (l.ended || l.retired == limit) ≡ false →
+    (is_some l.ended || l.retired == limit) ≡ false →
     fuel limit (move p limit Issue l) + 1 ≤ fuel limit l
 unfolding after
 fuel_issued p limit l is within none lives =
@@ -309,7 +309,7 @@ issue_lessens p limit schedule k l true is within h e some goes =
     (other_turn k (length schedule) false h e) refl in
     rw (old, new) (omega (arith, fuels, h))
 issue_lessens p limit schedule k l false is within h e none goes =
-    let fuels = fuel_issued p limit l is within none (only_idle (is_pending l.pending) (l.ended || l.retired == limit) none goes) in
+    let fuels = fuel_issued p limit l is within none (only_idle (is_pending l.pending) (is_some l.ended || l.retired == limit) none goes) in
     let old = outside_phase schedule k l false false h e none in
     let new = outside_phase schedule (k + 1) (move p limit Issue l) true (is_pending (move p limit Issue l).pending) (omega (arith, h))
     (other_turn k (length schedule) false h e) refl in
@@ -334,7 +334,7 @@ unfolding weight fuel
 weight_at_start limit schedule l none =
     let pending : length l.pending ≡ 0 = ap length none in
     let bubble = one_at_most l.bubble in
-    let ended = one_at_most (not l.ended) in
+    let ended = one_at_most (not (is_some l.ended)) in
     let most = at_most_two (nat_lt 0 (length schedule)) ((0 - length schedule) % 2 == 0) (is_pending l.pending) in
     omega (arith, pending, bubble, ended, most)
 

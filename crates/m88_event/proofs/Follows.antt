@@ -1,5 +1,5 @@
 -- A move takes what a moment looks like to what the next looks like.
-use Rattle.std.specs.Prelude.{ℕ, zero, suc, Bool, true, false, not, List, [], ◌∷◌, ◌++◌, Option, Some, None, ◌≡◌, ◌<◌, ◌≤◌, ◌+◌, ◌&&◌, ◌||◌, drop, length, take, if◌then◌else◌}
+use Rattle.std.specs.Prelude.{ℕ, zero, suc, Bool, true, false, not, List, [], ◌∷◌, ◌++◌, Option, Some, None, ◌≡◌, ◌<◌, ◌≤◌, ◌+◌, ◌==◌, ◌&&◌, ◌||◌, drop, is_some, length, take, if◌then◌else◌}
 use Rattle.std.proofs.Common.{arith, add-one, length-append, refl, sym, ap, ◌∙◌}
 use Rattle.std.proofs.Math.Path.{fun_ext}
 use Rattle.std.proofs.lemmas.List.{append-nil, drop-append-le, drop_all, length-drop, take-append-drop, take-append-le, take_all}
@@ -9,51 +9,69 @@ use Rattle.m88_isa.specs.Held.{Hold}
 use Rattle.m88_isa.specs.History.{after_turn, bus_at, change_accesses, completed_state, pending_at, transaction_count, transactions, turn_accesses}
 use Rattle.m88_isa.specs.Machine.{IsProgram, Program, Turn, changes, opening, outputs, state, stops, turn_at}
 use Rattle.m88_isa.specs.declared.planned.Access.{Access}
-use Rattle.m88_event.specs.Choice.{Choice, answer_choice, choice_of, faults, finishes, holds, idles, issue_choice, issues, next_choice, passes, replies, said, serves, touches_page, turn_choice}
+use Rattle.m88_event.specs.Choice.{Choice, answer_choice, choice_of, end_by, faults, finishes, holds, idles, issue_choice, issues, next_choice, passes, replies, said, serves, touches_page, turn_choice}
 use Rattle.m88_event.specs.Local.{with_move_counted, local_at, move, move_by, said_by, situation_of}
 use Rattle.m88_event.specs.Shadow.{retired_pointer}
 use Rattle.m88_event.specs.Letters.{letter_at}
 use Rattle.m88_event.specs.Run.{moment_after}
 use Rattle.m88_event.specs.Situation.{record_of}
-use Rattle.m88_event.specs.Timeline.{DoneWereMade, Moment, opening_moment, absent_at, after_choice, after_letter, with_event, said_at, situation_at, xip_at}
+use Rattle.m88_event.specs.Timeline.{DoneWereMade, Moment, opening_moment, absent_at, after_choice, after_letter, end_at, end_of_turn, is_idle, with_event, said_at, situation_at, xip_at}
+use Rattle.m88_event.specs.declared.happened.End.{End}
 use Rattle.m88_event.specs.declared.letter.Letter.{Letter}
 use Rattle.m88_event.specs.declared.letter.Letter.TheVariants.{Issue, Answer}
 use Rattle.m88_event.specs.declared.record.Record.{Record}
+
+-- whether the program has ended is seen
+ended_seen : (ended : Bool) (end : End) → is_some (if ended then Some end else None) ≡ ended
+ended_seen true end = refl
+ended_seen false end = refl
+
+pub ended_is : (p : Program) (m : Moment) → is_some (end_at p m) ≡ m.ended
+ended_is p m = ended_seen m.ended (end_of_turn (turn_at p (state p m.retired)))
 
 -- what the next event depends on is what is seen of it
 pub same_situation : (p : Program) (named : ℕ → Bool) (limit : ℕ) (m : Moment) →
     situation_of limit (local_at p named m) ≡ situation_at p named limit m
 unfolding situation_of situation_at local_at completed_state
-same_situation p named limit m = refl
+same_situation p named limit m =
+    ap (λ (ended : Bool). record (situation_at p named limit m) { idle = ended || m.retired == limit }) (ended_is p m)
 
--- a choice is one that a moment of a program may come to: what is issued, served or ended by is the program's turn there, and
--- something is pending where the oldest transaction is answered
+-- a choice is one that a moment of a program may come to: what is issued, served or ended by is the program's turn there, which
+-- goes on only where the program hasn't ended, and something is pending where the oldest transaction is answered
 abbrev pub Fits : Program → Moment → Choice → Type 0
 Fits p m idles = Unit {0}
 Fits p m passes = Unit {0}
 Fits p m (holds why) = Unit {0}
-Fits p m (issues change) = turn_at p (state p m.retired) ≡ changes change
-Fits p m (serves byte) = turn_at p (state p m.retired) ≡ outputs byte
+Fits p m (issues change) = (turn_at p (state p m.retired) ≡ changes change) × (m.ended ≡ false)
+Fits p m (serves byte) = (turn_at p (state p m.retired) ≡ outputs byte) × (m.ended ≡ false)
 Fits p m (finishes stop) = turn_at p (state p m.retired) ≡ stops stop
 Fits p m replies = m.done < transaction_count p m.retired
 Fits p m faults = Unit {0}
 
-by_turn : (p : Program) (m : Moment) (turn : Turn) → turn_at p (state p m.retired) ≡ turn → Fits p m (turn_choice turn)
-by_turn p m (changes change) e = e
-by_turn p m (outputs byte) e = e
-by_turn p m (stops stop) e = e
+by_turn : (p : Program) (m : Moment) (turn : Turn) → turn_at p (state p m.retired) ≡ turn → m.ended ≡ false →
+    Fits p m (turn_choice turn)
+by_turn p m (changes change) e lives = (e, lives)
+by_turn p m (outputs byte) e lives = (e, lives)
+by_turn p m (stops stop) e lives = e
 
 by_hold : (p : Program) (m : Moment) (why : Option Hold) (turn : Turn) → turn_at p (state p m.retired) ≡ turn →
+    m.ended ≡ false →
     Fits p m (next_choice why turn)
-by_hold p m None turn e = by_turn p m turn e
-by_hold p m (Some why) turn e = tt
+by_hold p m None turn e lives = by_turn p m turn e lives
+by_hold p m (Some why) turn e lives = tt
 
 by_issue : (p : Program) (m : Moment) (idle bubble : Bool) (why : Option Hold) (turn : Turn) →
     turn_at p (state p m.retired) ≡ turn →
+    (idle ≡ false → m.ended ≡ false) →
     Fits p m (issue_choice idle bubble why turn)
-by_issue p m true bubble why turn e = tt
-by_issue p m false true why turn e = tt
-by_issue p m false false why turn e = by_hold p m why turn e
+by_issue p m true bubble why turn e lives = tt
+by_issue p m false true why turn e lives = tt
+by_issue p m false false why turn e lives = by_hold p m why turn e (lives refl)
+
+-- where instructions may be issued, the program lives
+lives_of : (ended reached : Bool) → (ended || reached) ≡ false → ended ≡ false
+lives_of true reached h = h
+lives_of false reached h = refl
 
 by_page : (p : Program) (m : Moment) (absent : Bool) → m.done < transaction_count p m.retired →
     Fits p m (if absent then faults else replies)
@@ -72,7 +90,7 @@ some_left xs n h = let e = length-drop n xs in omega (arith, e)
 fits : (p : Program) (named : ℕ → Bool) (limit : ℕ) (letter : Letter) (m : Moment) →
     Fits p m (choice_of p letter (situation_at p named limit m))
 unfolding situation_at
-fits p named limit Issue m = by_issue p m _ _ _ _ refl
+fits p named limit Issue m = by_issue p m _ _ _ _ refl (lives_of m.ended (m.retired == limit))
 fits p named limit Answer m = by_oldest p m _ _ (some_left (transactions p m.retired) m.done)
 
 -- the transactions behind one more step
@@ -130,6 +148,16 @@ finished_absent true false touched = refl
 finished_absent false true touched = refl
 finished_absent false false touched = refl
 
+-- as long as the program goes on, it has no end, and where it ends, that is its history's
+no_end : (ended : Bool) (here next : End) → ended ≡ false →
+    (if ended then Some here else None) ≡ (if ended then Some next else None)
+no_end true here next h = absurd cc
+no_end false here next h = refl
+
+goes_on : (p : Program) (m : Moment) (n : ℕ) → m.ended ≡ false →
+    end_at p m ≡ (if m.ended then Some (end_of_turn (turn_at p (state p n))) else None)
+goes_on p m n = no_end m.ended (end_of_turn (turn_at p (state p m.retired))) (end_of_turn (turn_at p (state p n)))
+
 -- what a choice makes of what is seen of a moment is what is seen of what it makes of the moment
 by_choice : (p : Program) (named : ℕ → Bool) (m : Moment) (choice : Choice) (fault : Record) →
     IsProgram p →
@@ -141,17 +169,18 @@ by_choice p named m idles fault bytes kept fit = refl
 by_choice p named m passes fault bytes kept fit = refl
 by_choice p named m (holds why) fault bytes kept fit = refl
 by_choice p named m (issues change) fault bytes kept fit =
-    let completed = more_state p m.retired (changes change) bytes fit in
-    let bus = same_bus p m.retired m.done (changes change) fit kept in
-    let pending = more_pending p m.retired m.done (changes change) fit kept in
+    let completed = more_state p m.retired (changes change) bytes fit.0 in
+    let bus = same_bus p m.retired m.done (changes change) fit.0 kept in
+    let pending = more_pending p m.retired m.done (changes change) fit.0 kept in
     let xip = more_xip p m.retired in
+    let ended = goes_on p m (m.retired + 1) fit.1 in
     λ i. record {
       completed = sym completed i;
       bus = bus i;
       pending = pending i;
       xip = xip i;
       bubble = change.bubble;
-      ended = m.ended;
+      ended = ended i;
       absent = absent_at named m;
       retired = m.retired + 1;
       done = m.done;
@@ -160,17 +189,18 @@ by_choice p named m (issues change) fault bytes kept fit =
       records = m.records;
     }
 by_choice p named m (serves byte) fault bytes kept fit =
-    let completed = more_state p m.retired (outputs byte) bytes fit in
-    let bus = same_bus p m.retired m.done (outputs byte) fit kept in
-    let pending = sym (append-nil (pending_at p m.retired m.done)) ∙ more_pending p m.retired m.done (outputs byte) fit kept in
+    let completed = more_state p m.retired (outputs byte) bytes fit.0 in
+    let bus = same_bus p m.retired m.done (outputs byte) fit.0 kept in
+    let pending = sym (append-nil (pending_at p m.retired m.done)) ∙ more_pending p m.retired m.done (outputs byte) fit.0 kept in
     let xip = more_xip p m.retired in
+    let ended = goes_on p m (m.retired + 1) fit.1 in
     λ i. record {
       completed = sym completed i;
       bus = bus i;
       pending = pending i;
       xip = xip i;
       bubble = false;
-      ended = m.ended;
+      ended = ended i;
       absent = absent_at named m;
       retired = m.retired + 1;
       done = m.done;
@@ -178,7 +208,8 @@ by_choice p named m (serves byte) fault bytes kept fit =
       answers = m.answers;
       records = m.records;
     }
-by_choice p named m (finishes stop) fault bytes kept fit = refl
+by_choice p named m (finishes stop) fault bytes kept fit =
+    ap (λ (turn : Turn). record (local_at p named m) { ended = Some (end_of_turn turn) }) (sym fit)
 by_choice p named m replies fault bytes kept fit =
     let bus = answered_bus p m.retired m.done in
     let pending = split_drop m.done (transactions p m.retired) ∙ ap (λ k. drop k (transactions p m.retired)) (sym (add-one m.done)) in
@@ -188,7 +219,7 @@ by_choice p named m replies fault bytes kept fit =
       pending = pending i;
       xip = xip_at p m.retired;
       bubble = m.bubble;
-      ended = m.ended;
+      ended = end_at p m;
       absent = absent_at named m;
       retired = m.retired;
       done = m.done + 1;
@@ -210,7 +241,7 @@ by_choice p named m faults fault bytes kept fit =
       pending = pending i;
       xip = xip_at p m.retired;
       bubble = m.bubble;
-      ended = m.ended;
+      ended = end_at p m;
       absent = absent i;
       retired = m.retired;
       done = done i;
@@ -249,11 +280,11 @@ kept_by_choice p m idles fault kept fit = kept
 kept_by_choice p m passes fault kept fit = kept
 kept_by_choice p m (holds why) fault kept fit = kept
 kept_by_choice p m (issues change) fault kept fit =
-    let more = ap length (more_transactions p m.retired (changes change) fit) in
+    let more = ap length (more_transactions p m.retired (changes change) fit.0) in
     let split = length-append (transactions p m.retired) (change_accesses change) in
     omega (arith, more, split, kept)
 kept_by_choice p m (serves byte) fault kept fit =
-    let more = ap length (more_transactions p m.retired (outputs byte) fit) in
+    let more = ap length (more_transactions p m.retired (outputs byte) fit.0) in
     let split = length-append {A = Access} (transactions p m.retired) [] in
     omega (arith, more, split, kept)
 kept_by_choice p m (finishes stop) fault kept fit = kept

@@ -1,5 +1,5 @@
 -- The moment at which a run is over: what is seen of it, that there is one and no other, and what its memory is.
-use Rattle.std.specs.Prelude.{ℕ, zero, suc, Bool, true, false, not, List, [], ◌∷◌, ◌≡◌, ◌≢◌, ◌<◌, ◌≤◌, ◌⊎◌, ◌+◌, ◌-◌, ◌*◌, ◌==◌, ◌&&◌, drop, length, nat_lt}
+use Rattle.std.specs.Prelude.{ℕ, zero, suc, Bool, true, false, not, List, [], ◌∷◌, ◌≡◌, ◌≢◌, ◌<◌, ◌≤◌, ◌⊎◌, ◌+◌, ◌-◌, ◌*◌, ◌==◌, ◌&&◌, ◌||◌, drop, length, nat_lt}
 use Rattle.std.proofs.Common.{arith, add-one, refl, sym, ap, ap₂, ◌∙◌, subst, inl, inr}
 use Rattle.std.proofs.lemmas.Bool.{eqb-false, eqb-true, ltb-false, ltb-true}
 use Rattle.std.proofs.lemmas.Bool.Decides.{nat_tests}
@@ -12,11 +12,11 @@ use Rattle.m88_isa.specs.History.{bus_at, transaction_count, transactions}
 use Rattle.m88_isa.specs.Machine.{IsProgram, Program, opening, state}
 use Rattle.m88_isa.specs.declared.planned.Access.{Access}
 use Rattle.m88_event.proofs.Bound.{lessens, stays_in_limit, weight, weight_at_start}
-use Rattle.m88_event.proofs.Follows.{law, reached_within}
+use Rattle.m88_event.proofs.Follows.{ended_is, law, reached_within}
 use Rattle.m88_event.specs.Letters.{letter_at}
 use Rattle.m88_event.specs.Local.{Local, is_over_by, local_at, move}
 use Rattle.m88_event.specs.Run.{IsOutcome, IsRun, moment_after, outcome_at}
-use Rattle.m88_event.specs.Timeline.{DoneWereMade, Moment, is_idle, is_over}
+use Rattle.m88_event.specs.Timeline.{DoneWereMade, Moment, is_drained, is_over}
 use Rattle.m88_event.specs.declared.letter.Letter.{Letter}
 use Rattle.m88_event.specs.declared.outcome.Outcome.{Outcome}
 
@@ -28,10 +28,16 @@ none_left done xs within = by_left (drop done xs) (length-drop done xs)
     by_left [] e = let all : done ≡ length xs = omega (arith, e, within) in grind (arith, nat_tests)
     by_left (x ∷ left) e = let some : done ≢ length xs = omega (arith, e) in grind (arith, nat_tests)
 
+pub drained_seen : (p : Program) (named : ℕ → Bool) (m : Moment) → DoneWereMade p m →
+    not (is_pending (local_at p named m).pending) ≡ is_drained p m
+unfolding local_at
+drained_seen p named m within = none_left m.done (transactions p m.retired) within
+
 pub same_over : (p : Program) (named : ℕ → Bool) (limit : ℕ) (m : Moment) → DoneWereMade p m →
     is_over_by limit (local_at p named m) ≡ is_over p limit m
 unfolding local_at
-same_over p named limit m within = ap (λ b. b && is_idle limit m) (none_left m.done (transactions p m.retired) within)
+same_over p named limit m within =
+    ap₂ (λ none ended. none && (ended || m.retired == limit)) (none_left m.done (transactions p m.retired) within) (ended_is p m)
 
 -- where all transactions are done, memory is that of the history
 pub drained_bus : (p : Program) (n done : ℕ) → IsProgram p → done ≡ transaction_count p n →

@@ -1,6 +1,6 @@
 -- Worked runs, computed by the definitions: what each comes to is what the processor's rules give by hand. No proof cites
 -- them; a definition that is changed must still give them.
-use Rattle.std.specs.Prelude.{ℕ, pos, zero, suc, Bool, true, false, List, [], ◌∷◌, Option, Some, None, ◌≡◌, ◌+◌, ◌-◌, ◌==◌, ◌&&◌, ◌||◌, map, nat_le, nat_lt, replicate, slice_get, if◌then◌else◌}
+use Rattle.std.specs.Prelude.{ℕ, pos, zero, suc, Bool, true, false, List, [], ◌∷◌, Option, Some, None, ◌≡◌, ◌+◌, ◌-◌, ◌==◌, ◌&&◌, ◌||◌, map, nat_le, nat_lt, replicate, slice_get, unwrap_or, if◌then◌else◌}
 use Rattle.std.proofs.Common.{refl}
 use Rattle.m88_base.specs.Reg.{reg_of}
 use Rattle.m88_base.specs.RegisterSet as set
@@ -9,7 +9,7 @@ use Rattle.m88_base.specs.declared.triple.Triple.{Triple}
 use Rattle.m88_isa.specs.Bus.{in_words, waits_for}
 use Rattle.m88_isa.specs.Held.{busy_register, first_from}
 use Rattle.m88_isa.specs.History.{transactions}
-use Rattle.m88_isa.specs.Machine.{Program, opening, state, turn_at}
+use Rattle.m88_isa.specs.Machine.{Program, opening, state}
 use Rattle.m88_isa.specs.Operands.{uses_of, writes_of}
 use Rattle.m88_isa.specs.declared.instr.ImmOp.{ImmOp}
 use Rattle.m88_isa.specs.declared.instr.ImmOp.TheVariants as immop
@@ -18,9 +18,9 @@ use Rattle.m88_isa.specs.declared.instr.Instr.TheVariants as instr
 use Rattle.m88_isa.specs.declared.instr.MemOp.{MemOp}
 use Rattle.m88_isa.specs.declared.instr.MemOp.TheVariants as memop
 use Rattle.m88_event.specs.Letters.{letter_at}
-use Rattle.m88_event.specs.Run.{end_of_turn, moment_after}
+use Rattle.m88_event.specs.Run.{moment_after}
 use Rattle.m88_event.specs.Situation.{record_of}
-use Rattle.m88_event.specs.Timeline.{Moment, after_letter, is_over, opening_moment, situation_at, xip_at}
+use Rattle.m88_event.specs.Timeline.{Moment, after_letter, end_at, is_over, opening_moment, situation_at, xip_at}
 use Rattle.m88_event.specs.declared.happened.End.{End}
 use Rattle.m88_event.specs.declared.happened.End.TheVariants.{Limit, Exit, Vector}
 use Rattle.m88_event.specs.declared.letter.Letter.{Letter}
@@ -89,7 +89,7 @@ events_from p w (suc most) k m =
 abbrev came_at : Program → List (ℕ × ℕ) → ℕ → Moment → Came
 came_at p words events m = record {
   events = events;
-  end = if m.ended then end_of_turn (turn_at p (state p m.retired)) else Limit;
+  end = unwrap_or (end_at p m) Limit;
   retired = m.retired;
   registers = set_from 0 (state p m.retired).regs;
   words = map (λ (w : ℕ × ℕ). (w.0, in_words (state p m.retired).memory w.0)) words;

@@ -1,30 +1,31 @@
 -- What a board looks like from outside, with no word of the program's beginning: the state that its pending
 -- transactions lead to, memory as it is now, these transactions, marks, absent pages, counts and records; and what a
 -- letter makes of it.
-use Rattle.std.specs.Prelude.{ℕ, Bool, true, false, not, List, [], ◌∷◌, ◌++◌, Option, Some, None, ◌+◌, ◌==◌, ◌&&◌, ◌||◌, drop, length, slice_index, take, if◌then◌else◌}
+use Rattle.std.specs.Prelude.{ℕ, Bool, true, false, not, List, [], ◌∷◌, ◌++◌, Option, Some, None, ◌+◌, ◌==◌, ◌&&◌, ◌||◌, drop, is_some, length, slice_index, take, if◌then◌else◌}
 use Rattle.m88_isa.specs.Bus.{bus_after_all, waits_for}
 use Rattle.m88_isa.specs.History.{Completed, after_turn, bus_at, change_accesses, completed_state, pending_at}
 use Rattle.m88_isa.specs.Held.{is_pending}
 use Rattle.m88_isa.specs.Machine.{Program, changes, outputs, state}
 use Rattle.m88_isa.specs.declared.planned.Access.{Access}
-use Rattle.m88_event.specs.Choice.{Choice, choice_of, faults, finishes, holds, idles, issues, passes, replies, said, serves, touches_page}
+use Rattle.m88_event.specs.Choice.{Choice, choice_of, end_by, faults, finishes, holds, idles, issues, passes, replies, said, serves, touches_page}
 use Rattle.m88_event.specs.Shadow.{Pointer, retired_pointer}
 use Rattle.m88_event.specs.Situation.{Situation, record_of}
-use Rattle.m88_event.specs.Timeline.{Moment, absent_at, xip_at}
+use Rattle.m88_event.specs.Timeline.{Moment, absent_at, end_at, xip_at}
+use Rattle.m88_event.specs.declared.happened.End.{End}
 use Rattle.m88_event.specs.declared.happened.Happened.{Happened}
 use Rattle.m88_event.specs.declared.letter.Letter.{Letter}
 use Rattle.m88_event.specs.declared.record.Record.{Record}
 
 -- the state once the pending transactions are done in order, memory by words as it is now, the pending transactions,
--- XIP, the marks of a bubble and of the end, the absent pages, the counts of instructions retired, transactions done,
--- events and transactions answered with data, and the records of the data faults
+-- XIP, the mark of a bubble, how the program ended, if it has, the absent pages, the counts of instructions retired,
+-- transactions done, events and transactions answered with data, and the records of the data faults
 pub record Local : Type 0 where
   pub completed : Completed
   pub bus : ℕ → ℕ
   pub pending : List Access
   pub xip : Pointer
   pub bubble : Bool
-  pub ended : Bool
+  pub ended : Option End
   pub absent : ℕ → Bool
   pub retired : ℕ
   pub done : ℕ
@@ -41,7 +42,7 @@ situation_of limit l = record {
   next = l.completed.next;
   xip = l.xip;
   bubble = l.bubble;
-  idle = l.ended || l.retired == limit;
+  idle = is_some l.ended || l.retired == limit;
   pending = l.pending;
   absent = l.absent;
   event = l.events + 1;
@@ -65,7 +66,7 @@ move_by (serves byte) fault l = record l {
   bubble = false;
   retired = l.retired + 1;
 }
-move_by (finishes stop) fault l = record l { ended = true }
+move_by (finishes stop) fault l = record l { ended = Some (end_by stop) }
 move_by replies fault l = record l {
   bus = bus_after_all (take 1 l.pending) l.bus;
   pending = drop 1 l.pending;
@@ -102,7 +103,7 @@ said_by p limit letter l = said (choice_by p limit letter l) (record_by p limit 
 
 -- nothing is pending, and no more may be issued
 abbrev pub is_over_by : ℕ → Local → Bool
-is_over_by limit l = not (is_pending l.pending) && (l.ended || l.retired == limit)
+is_over_by limit l = not (is_pending l.pending) && (is_some l.ended || l.retired == limit)
 
 -- a register that waits has no value yet; every other has that of the state
 abbrev pub register_seen : Local → ℕ → Option ℕ
@@ -116,7 +117,7 @@ local_at p named m = record {
   pending = pending_at p m.retired m.done;
   xip = xip_at p m.retired;
   bubble = m.bubble;
-  ended = m.ended;
+  ended = end_at p m;
   absent = absent_at named m;
   retired = m.retired;
   done = m.done;

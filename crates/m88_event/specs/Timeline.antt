@@ -1,11 +1,13 @@
 -- The timeline of a run: its moments, each a count of the instructions that are retired and one of the transactions
 -- that are done along the history of the sequential machine, and what a letter makes of one.
-use Rattle.std.specs.Prelude.{ℕ, zero, suc, Bool, true, false, not, List, [], ◌∷◌, ◌++◌, ◌+◌, ◌≤◌, ◌==◌, ◌&&◌, ◌||◌}
+use Rattle.std.specs.Prelude.{ℕ, zero, suc, Bool, true, false, not, List, [], ◌∷◌, ◌++◌, Option, Some, None, ◌+◌, ◌≤◌, ◌==◌, ◌&&◌, ◌||◌, if◌then◌else◌}
 use Rattle.m88_isa.specs.History.{pending_at, transaction_count}
-use Rattle.m88_isa.specs.Machine.{Program, state}
-use Rattle.m88_event.specs.Choice.{Choice, choice_of, faults, finishes, holds, idles, issues, passes, replies, said, serves, touches_page}
+use Rattle.m88_isa.specs.Machine.{Program, Turn, changes, outputs, state, stops, turn_at}
+use Rattle.m88_event.specs.Choice.{Choice, choice_of, end_by, faults, finishes, holds, idles, issues, passes, replies, said, serves, touches_page}
 use Rattle.m88_event.specs.Shadow.{Pointer, no_pointer, retired_pointer}
 use Rattle.m88_event.specs.Situation.{Situation, record_of}
+use Rattle.m88_event.specs.declared.happened.End.{End}
+use Rattle.m88_event.specs.declared.happened.End.TheVariants.{Limit}
 use Rattle.m88_event.specs.declared.happened.Happened.{Happened}
 use Rattle.m88_event.specs.declared.letter.Letter.{Letter}
 use Rattle.m88_event.specs.declared.record.Record.{Record}
@@ -44,6 +46,16 @@ xip_at p (suc n) = retired_pointer (state p n).pc
 -- the pages that are absent: those that are named and weren't supplied
 abbrev pub absent_at : (ℕ → Bool) → Moment → ℕ → Bool
 absent_at named m page = named page && not (m.supplied page)
+
+-- how a turn ends a history; of one that goes on it is the limit, which no moment with the mark of the end asks for
+abbrev pub end_of_turn : Turn → End
+end_of_turn (changes change) = Limit
+end_of_turn (outputs byte) = Limit
+end_of_turn (stops stop) = end_by stop
+
+-- how the program has ended, if it has: as its history does
+abbrev pub end_at : Program → Moment → Option End
+end_at p m = if m.ended then Some (end_of_turn (turn_at p (state p m.retired))) else None
 
 -- no more may be issued: the program has ended, or as many instructions are retired as the limit
 abbrev pub is_idle : ℕ → Moment → Bool
@@ -101,9 +113,13 @@ after_letter p named limit letter m =
 unfoldable pub said_at : Program → (ℕ → Bool) → ℕ → Letter → Moment → Happened
 said_at p named limit letter m = said (choice_at p named limit letter m) (record_at p named limit m)
 
+-- nothing is pending: all transactions are done
+abbrev pub is_drained : Program → Moment → Bool
+is_drained p m = m.done == transaction_count p m.retired
+
 -- the run is over: nothing is pending, and no more may be issued
 abbrev pub is_over : Program → ℕ → Moment → Bool
-is_over p limit m = m.done == transaction_count p m.retired && is_idle limit m
+is_over p limit m = is_drained p m && is_idle limit m
 
 -- no more transactions are done than were made, as at every moment that a run comes to
 abbrev pub DoneWereMade : Program → Moment → Type 0

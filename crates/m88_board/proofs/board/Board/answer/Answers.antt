@@ -1,11 +1,12 @@
 -- The oldest transaction is answered or finished with all others.
 use Rattle.std.proofs.Common.{◌≡◌, ◌∙◌, sym, subst, refl, Some, false}
-use Rattle.std.specs.Prelude.{slice_get}
+use Rattle.std.specs.Prelude.{None, slice_get}
 use Rattle.m88_event.specs.Local.{record_by}
 use Rattle.m88_isa.specs.Bus.{page_number}
 use Rattle.m88_mem.specs.DataBus.{absent_of}
 use Rattle.m88_board.specs.Board.{BoardView, local_of}
 use Rattle.m88_board.proofs.Choosing.{answer_is, did_by}
+use Rattle.m88_board.proofs.Moving.{fewer_faulted, fewer_replied}
 use Rattle.m88_board.proofs.board.Board.answer.Goals as goal
 
 pub returns-clause-ok : goal.returns-clause-ok
@@ -15,3 +16,12 @@ returns-clause-ok c = λ p of.
     did_by _ _ (record_by p c.args.self.now.limit (local_of c.args.self.now)) c.args.self.now _ c.reply.new.self
     (answer_is c.args.self.now.pending c.in-Some.oldest (absent_of c.args.self.now.memory) false oldest (sym present ∙ c.if-is_absent.false))
     (record { says = refl; does = c.reply.ensures.does (record_by p c.args.self.now.limit (local_of c.args.self.now)) })
+
+pub returns-then-is_absent-clause-shorter : goal.returns-then-is_absent-clause-shorter
+returns-then-is_absent-clause-shorter c =
+    fewer_faulted c.in_ok-fault.fault c.args.self.now c.fault.new.self c.in_ok-fault.ensures.does
+
+pub returns-clause-shorter : goal.returns-clause-shorter
+returns-clause-shorter c =
+    let fault = record_by (record { start = 0; byte = λ a. None; instruction = λ a. None }) c.args.self.now.limit (local_of c.args.self.now) in
+    fewer_replied fault c.args.self.now c.reply.new.self (c.reply.ensures.does fault)

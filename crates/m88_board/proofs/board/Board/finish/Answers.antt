@@ -10,6 +10,6 @@ use Rattle.m88_board.proofs.board.Board.finish.Goals as goal
 pub returns : goal.returns
 returns c = λ stop fault is. rw (← c.self.view_is) (record {
   says = ap happened.Ended is;
-  does = finished fault stop (the_view c.self.inside) c.enter.new.self c.args.end
+  does = finished fault stop (the_view c.self.inside) c.enter.new.self c.args.end is
       (carry_entered c.self.inside.ctrl c.enter.new.self (ap (λ (r : ControlRegisters). r.psr) c.enter.ensures.state));
 })

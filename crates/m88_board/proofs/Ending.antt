@@ -1,0 +1,119 @@
+-- What a run came to, from the parts of a board that is over.
+use Rattle.std.specs.Prelude.{ℕ, Bool, true, false, not, List, [], ◌≡◌, ◌&&◌, unwrap_or}
+use Rattle.std.proofs.Common.{refl, sym, ap, ap₂, ◌∙◌}
+use Rattle.std.proofs.lemmas.Bool.{eqb-true}
+use Rattle.m88_ctrl.specs.ControlRegisters.{carry_of}
+use Rattle.m88_event.proofs.Over.{drained_bus}
+use Rattle.m88_event.specs.Local.{Local, local_at}
+use Rattle.m88_event.specs.Run.{outcome_at}
+use Rattle.m88_event.specs.Timeline.{Moment, is_drained, is_idle, is_over}
+use Rattle.m88_event.specs.declared.happened.End.{End}
+use Rattle.m88_event.specs.declared.happened.End.TheVariants.{Limit}
+use Rattle.m88_event.specs.declared.record.Record.{Record}
+use Rattle.m88_isa.specs.Bus.{after_accesses, changed_words, in_words, waits_for}
+use Rattle.m88_isa.specs.Held.{is_pending}
+use Rattle.m88_isa.specs.History.{bus_at, completed_state, transaction_count}
+use Rattle.m88_isa.specs.Machine.{IsProgram, Program, opening, state}
+use Rattle.m88_isa.specs.declared.planned.Access.{Access}
+use Rattle.m88_mem.specs.DataBus.{bus_of, image_bus}
+use Rattle.m88_scoreboard.specs.Registers.{none_waits, waiting_of}
+use Rattle.m88_board.proofs.Moving.{empty_of}
+use Rattle.m88_board.proofs.Running.{drained_by}
+use Rattle.m88_board.proofs.Starting.{same_bytes}
+use Rattle.m88_board.specs.Board.{BoardView, cells_of, completed_of, local_of}
+use Rattle.m88_board.specs.Kept.{IsKept}
+use Rattle.m88_board.specs.Moves.{IsAt}
+
+-- both of two tests hold
+first_of : (a b : Bool) → (a && b) ≡ true → a ≡ true
+first_of true b h = refl
+first_of false b h = h
+
+not_pending : (t : Bool) → not t ≡ true → t ≡ false
+not_pending true h = sym h
+not_pending false h = refl
+
+-- where a run is over, nothing is pending
+all_done : (p : Program) (limit : ℕ) (m : Moment) → is_over p limit m ≡ true → is_drained p m ≡ true
+all_done p limit m over = first_of (is_drained p m) (is_idle limit m) over
+
+none_left : (p : Program) (named : ℕ → Bool) (m : Moment) (b : BoardView) → IsAt p named m b → is_over p b.limit m ≡ true →
+    b.pending ≡ []
+none_left p named m b at over =
+    empty_of b.pending
+    (not_pending (is_pending b.pending) (drained_by p named m b at ∙ all_done p b.limit m over))
+
+-- the registers are those of the history
+none_wait : (b : BoardView) → IsKept b → b.pending ≡ [] → waiting_of b.file ≡ none_waits
+unfolding waits_for
+none_wait b kept none = kept.parts.waiting ∙ ap waits_for none
+
+registers_are : (p : Program) (named : ℕ → Bool) (m : Moment) (b : BoardView) → IsAt p named m b → b.pending ≡ [] →
+    b.file.numbers ≡ (state p m.retired).regs
+unfolding local_of completed_of local_at completed_state after_accesses
+registers_are p named m b at none =
+    sym (ap (λ (xs : List Access). (after_accesses xs (cells_of b.file b.memory)).regs) none)
+    ∙ ap (λ (l : Local). l.completed.regs) at.seen
+
+-- and so is memory
+memory_is : (p : Program) (named : ℕ → Bool) (m : Moment) (b : BoardView) → IsProgram p → IsAt p named m b →
+    is_drained p m ≡ true →
+    bus_of b.memory ≡ in_words (state p m.retired).memory
+unfolding local_of local_at
+memory_is p named m b is at drained =
+    ap (λ (l : Local). l.bus) at.seen
+    ∙ drained_bus p m.retired m.done is (eqb-true m.done (transaction_count p m.retired) drained)
+
+changed_are : (p : Program) (named : ℕ → Bool) (m : Moment) (b : BoardView) → IsProgram p → IsAt p named m b →
+    is_drained p m ≡ true →
+    changed_words (image_bus b.memory.image) (bus_of b.memory)
+    ≡ changed_words (in_words (opening p).memory) (in_words (state p m.retired).memory)
+unfolding opening
+changed_are p named m b is at drained =
+    ap₂ changed_words (same_bytes p b.memory.image at.image) (memory_is p named m b is at drained)
+
+-- the whole
+pub came_to : (p : Program) (named : ℕ → Bool) (m : Moment) (b : BoardView) (end : End) (regs : List ℕ) (carry : Bool)
+    (out : List ℕ) (changed : List (ℕ × ℕ)) (records : List Record) →
+    IsProgram p →
+    IsKept b →
+    IsAt p named m b →
+    is_over p b.limit m ≡ true →
+    end ≡ unwrap_or b.ended Limit →
+    (waiting_of b.file ≡ none_waits → regs ≡ b.file.numbers) →
+    carry ≡ carry_of b.control →
+    out ≡ b.out →
+    changed ≡ changed_words (image_bus b.memory.image) (bus_of b.memory) →
+    records ≡ b.records →
+    record {
+      end = end;
+      retired = b.retired;
+      regs = regs;
+      carry = carry;
+      out = out;
+      changed = changed;
+      events = b.events;
+      answers = b.answers;
+      records = records;
+    } ≡ outcome_at p m
+unfolding outcome_at local_of completed_of local_at completed_state
+came_to p named m b end regs carry out changed records is kept at over ends values carries puts changes faults =
+    let none = none_left p named m b at over in
+    let drained = all_done p b.limit m over in
+    let end_is = ends ∙ ap (λ (l : Local). unwrap_or l.ended Limit) at.seen in
+    let regs_are = values (none_wait b kept none) ∙ registers_are p named m b at none in
+    let carry_is = carries ∙ ap (λ (l : Local). l.completed.carry) at.seen in
+    let out_is = puts ∙ ap (λ (l : Local). l.completed.out) at.seen in
+    let changed_is = changes ∙ changed_are p named m b is at drained in
+    let records_are = faults ∙ ap (λ (l : Local). l.records) at.seen in
+    λ i. record {
+      end = end_is i;
+      retired = (at.seen i).retired;
+      regs = regs_are i;
+      carry = carry_is i;
+      out = out_is i;
+      changed = changed_is i;
+      events = (at.seen i).events;
+      answers = (at.seen i).answers;
+      records = records_are i;
+    }

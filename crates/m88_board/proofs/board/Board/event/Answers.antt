@@ -1,0 +1,29 @@
+-- The event is the move of what is seen, and so goes along the timeline.
+use Rattle.m88_board.proofs.Moving.{along, moved_by, precise_on, says_so}
+use Rattle.m88_isa.specs.Machine.{Program}
+use Rattle.m88_isa.specs.ImageProgram.{IsProgramOf}
+use Rattle.m88_board.specs.Moves.{IsMove}
+use Rattle.m88_board.proofs.board.Board.event.Goals as goal
+
+pub returns-clause-moved : goal.returns-clause-moved
+returns-clause-moved c = λ p of.
+    moved_by p c.args.letter c.args.self.now c.take.new.self c.in_ok-happened.happened c.count.new.self c.count.ensures
+    (c.in_ok-happened.ensures.ok p of)
+
+pub returns-clause-timeline : goal.returns-clause-timeline
+returns-clause-timeline c = λ p named m is at.
+    along p named m c.args.letter c.args.self.now c.in_ok-happened.happened c.count.new.self is at
+    (moved_by p c.args.letter c.args.self.now c.take.new.self c.in_ok-happened.happened c.count.new.self c.count.ensures
+    (c.in_ok-happened.ensures.ok p at.image))
+
+pub returns-clause-said : goal.returns-clause-said
+returns-clause-said c = λ p named m at.
+    says_so p named m c.args.letter c.args.self.now c.in_ok-happened.happened c.count.new.self at
+    (moved_by p c.args.letter c.args.self.now c.take.new.self c.in_ok-happened.happened c.count.new.self c.count.ensures
+    (c.in_ok-happened.ensures.ok p at.image))
+
+pub returns-clause-precise : goal.returns-clause-precise
+returns-clause-precise c = λ p of last.
+    precise_on p c.args.letter c.args.self.now c.in_ok-happened.happened c.count.new.self
+    (moved_by p c.args.letter c.args.self.now c.take.new.self c.in_ok-happened.happened c.count.new.self c.count.ensures
+    (c.in_ok-happened.ensures.ok p of)) last

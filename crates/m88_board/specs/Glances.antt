@@ -1,0 +1,37 @@
+-- What a watch is shown of a board, and of the moments of a timeline.
+use Rattle.std.specs.Prelude.{ℕ, zero, suc, List, [], ◌∷◌, ◌++◌, Option, Some, None, ◌≡◌}
+use Rattle.m88_event.specs.Shadow.{Pointer, nip_of}
+use Rattle.m88_event.specs.Timeline.{Moment, xip_at}
+use Rattle.m88_isa.specs.Machine.{Program, state}
+use Rattle.m88_iunit.specs.declared.slot.Slot.{Slot}
+use Rattle.m88_board.specs.Board.{BoardView}
+use Rattle.m88_board.specs.declared.glance.Glance.{Glance}
+
+-- what is noted of a board: its events, the instructions that were retired, the transactions that were answered or
+-- finished, and NIP
+abbrev pub glance_of : BoardView → Glance
+glance_of b = record { events = b.events; issued = b.retired; done = b.done; next = b.slots.nip }
+
+-- a pointer as a slot
+abbrev pub slot_at : Pointer → Slot
+slot_at pointer = record { addr = pointer.address; v = pointer.valid; e = pointer.failed }
+
+-- the same of a moment
+abbrev pub glance_at : Program → Moment → Glance
+glance_at p m = record {
+  events = m.events;
+  issued = m.retired;
+  done = m.done;
+  next = slot_at (nip_of p m.bubble (xip_at p m.retired) (state p m.retired).pc);
+}
+
+-- of moments in order, each behind the first of so many
+unfoldable pub glances_along : Program → (ℕ → Moment) → ℕ → List Glance
+glances_along p moments zero = []
+glances_along p moments (suc k) = glances_along p moments k ++ glance_at p (moments (suc k)) ∷ []
+
+-- a watch was shown so many glances more, in order: where it tells now what it was shown, it told before too
+abbrev pub Saw : Option (List Glance) → Option (List Glance) → List Glance → Type 0
+Saw before None glances = Unit {0}
+Saw None (Some after) glances = ⊥
+Saw (Some before) (Some after) glances = after ≡ before ++ glances

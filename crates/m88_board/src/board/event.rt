@@ -1,0 +1,59 @@
+//! The event of a letter.
+
+ghost use Rattle.std.specs.Prelude.{ℕ, Bool, ◌≡◌, ◌<◌, ◌≤◌, ◌+◌, ◌-◌, [], length, IfOk, OnErr, OnOk};
+ghost use Rattle.m88_event.specs.Choice.{ServesOrEnds};
+ghost use Rattle.m88_event.specs.Local.{choice_by, record_by, local_at};
+ghost use Rattle.m88_event.specs.Timeline.{Moment, after_letter, said_at};
+ghost use Rattle.m88_event.specs.declared.letter.Letter.{Letter as LetterValue};
+ghost use Rattle.m88_isa.specs.Machine.{IsProgram, Program};
+ghost use Rattle.m88_board.specs.Board.{local_of};
+ghost use Rattle.m88_isa.specs.ImageProgram.{IsProgramOf};
+ghost use Rattle.m88_board.specs.Kept.{most_events};
+ghost use Rattle.m88_board.specs.Moves.{Did, IsAt, IsMove, IsUnmoved};
+
+use super::Board;
+use m88_base::NoMemory;
+use m88_event::{Happened, Letter};
+
+impl Board {
+    /// What a letter makes the board do; the event isn't counted yet.
+    fn take(&mut self, letter: Letter) -> Result<Happened, NoMemory>
+        ensures ok { IfOk result (λ happened. (p : Program) → IsProgramOf self.old.memory.image p
+            → Did (choice_by p self.old.limit letter (local_of self.old)) (record_by p self.old.limit (local_of self.old))
+            self.old happened self.new) }
+        ensures events { self.new.events ≡ self.old.events }
+        ensures shorter { letter ≡ LetterValue.Answer
+            → OnOk result (length self.new.pending ≤ length self.old.pending - 1) }
+        ensures err { OnErr result (IsUnmoved self.old self.new) }
+    {
+        match letter {
+            Letter::Issue => self.issue(),
+            Letter::Answer => self.answer(),
+        }
+    }
+
+    /// Makes the event of a letter: of `i` the next instruction is issued, or a bubble passed, or nothing where
+    /// it must wait; of `r` the oldest transaction is answered, or meets its fault. Memory is taken before
+    /// anything changes: where it runs out, what is seen of the board is as before, and no event is counted.
+    pub fn event(&mut self, letter: Letter) -> Result<Happened, NoMemory>
+        requires { self.old.events < most_events }
+        ensures moved { IfOk result (λ happened. (p : Program) → IsProgramOf self.old.memory.image p
+            → IsMove p letter self.old happened self.new) }
+        ensures timeline { OnOk result ((p : Program) (named : ℕ → Bool) (m : Moment) → IsProgram p
+            → IsAt p named m self.old
+            → IsAt p named (after_letter p named self.old.limit letter m) self.new) }
+        ensures said { IfOk result (λ happened. (p : Program) (named : ℕ → Bool) (m : Moment)
+            → IsAt p named m self.old
+            → happened ≡ said_at p named self.old.limit letter m) }
+        ensures precise { IfOk result (λ happened. (p : Program) → IsProgramOf self.old.memory.image p
+            → ServesOrEnds happened → self.old.pending ≡ []) }
+        ensures counted { OnOk result (self.new.events ≡ self.old.events + 1) }
+        ensures shorter { letter ≡ LetterValue.Answer
+            → OnOk result (length self.new.pending ≤ length self.old.pending - 1) }
+        ensures err { OnErr result (IsUnmoved self.old self.new) }
+    {
+        let happened = self.take(letter)?;
+        self.count();
+        Ok(happened)
+    }
+}

@@ -1,0 +1,156 @@
+//! Whole runs, and draining.
+
+ghost use Rattle.std.specs.Prelude.{ℕ, Bool, List, [], ◌∷◌, ◌≡◌, ◌<◌, ◌≤◌, ◌+◌, ◌-◌, ◌*◌, ◌^◌, true, length, IfOk, OnErr, OnOk};
+ghost use Rattle.m88_event.specs.Letters.{letter_at};
+ghost use Rattle.m88_event.specs.Run.{IsDrain, IsDraining, IsOutcome, IsRun, IsRunning, answered_after, moment_after, outcome_at};
+ghost use Rattle.m88_event.specs.Timeline.{Moment, after_letter, is_over, opening_moment};
+ghost use Rattle.m88_event.specs.declared.letter.Letter.{Letter as LetterValue};
+ghost use Rattle.m88_event.specs.declared.outcome.Outcome.{Outcome as OutcomeValue};
+ghost use Rattle.m88_isa.specs.Machine.{IsProgram, Program};
+ghost use Rattle.m88_board.specs.Glances.{Saw, glance_at, glances_along};
+ghost use Rattle.m88_board.specs.Kept.{most_events};
+ghost use Rattle.m88_board.specs.Moves.{IsAlong, IsAt, IsStep, IsUnmoved};
+
+use super::Board;
+use crate::watch::Watch;
+use m88_base::{Listed, NoMemory};
+use m88_event::{End, Letter, Outcome, Schedule};
+
+impl Board {
+    /// Makes the events of the letters of a schedule, and then of `r` and `i` in turn, until nothing is pending and
+    /// the program has ended or the limit is reached. The board is shown to the watch after each event. Where
+    /// memory runs out, the board is gone.
+    pub fn run<W: Watch>(mut self, schedule: &Schedule, watch: &mut W) -> Result<Outcome, NoMemory>
+        requires { self.events ≡ 0 }
+        ensures outcome { IfOk result (λ o. (p : Program) (named : ℕ → Bool) → IsProgram p
+            → IsAt p named opening_moment self → IsOutcome p named self.limit schedule.now o) }
+        ensures only { (p : Program) (named : ℕ → Bool) (o other : OutcomeValue)
+            → IsOutcome p named self.limit schedule.now o → IsOutcome p named self.limit schedule.now other
+            → o ≡ other }
+        ensures within { IfOk result (λ o. o.events ≤ length schedule.now + 8 * self.limit + 8) }
+        ensures watched { IfOk result (λ o. (p : Program) (named : ℕ → Bool) → IsProgram p
+            → IsAt p named opening_moment self
+            → Saw (W.seen watch.old) (W.seen watch.new)
+            (glances_along p (moment_after p named self.limit schedule.now) o.events)) }
+        ensures err { OnErr result ((p : Program) (named : ℕ → Bool) → IsProgram p
+            → IsAt p named opening_moment self
+            → (events : ℕ) × IsRunning p named self.limit schedule.now events
+            × Saw (W.seen watch.old) (W.seen watch.new)
+            (glances_along p (moment_after p named self.limit schedule.now) events)) }
+    {
+        self.go_on(schedule, watch)?;
+        self.into_outcome()
+    }
+
+    /// Makes `r` events until nothing is pending. The board is shown to the watch after each event. Where memory
+    /// runs out, the board stands after whole events.
+    pub fn drain<W: Watch>(&mut self, watch: &mut W) -> Result<(), NoMemory>
+        requires { self.old.events < 2 ^ 63 - 3 }
+        ensures ok { OnOk result ((p : Program) (named : ℕ → Bool) (m : Moment) → IsProgram p
+            → IsAt p named m self.old
+            → (events : ℕ) × IsDrain p named self.old.limit m events
+            × IsAlong p named (answered_after p named self.old.limit m) events (W.seen watch.old) (W.seen watch.new)
+            self.new) }
+        ensures empty { OnOk result (self.new.pending ≡ []) }
+        ensures err { OnErr result ((p : Program) (named : ℕ → Bool) (m : Moment) → IsProgram p
+            → IsAt p named m self.old
+            → (events : ℕ) × IsDraining p named self.old.limit m events
+            × IsAlong p named (answered_after p named self.old.limit m) events (W.seen watch.old) (W.seen watch.new)
+            self.new) }
+    {
+        while self.dunit.oldest().is_some() {
+            self.step(Letter::Answer, watch)?;
+        }
+        Ok(())
+    }
+
+    /// Makes the events of a run.
+    fn go_on<W: Watch>(&mut self, schedule: &Schedule, watch: &mut W) -> Result<(), NoMemory>
+        requires { self.old.events ≡ 0 }
+        ensures ok { OnOk result ((p : Program) (named : ℕ → Bool) → IsProgram p
+            → IsAt p named opening_moment self.old
+            → IsRun p named self.old.limit schedule.now self.new.events
+            × IsAlong p named (moment_after p named self.old.limit schedule.now) self.new.events (W.seen watch.old)
+            (W.seen watch.new) self.new
+            × (self.new.limit ≡ self.old.limit)) }
+        ensures within { OnOk result (self.new.events ≤ length schedule.now + 8 * self.old.limit + 8) }
+        ensures err { OnErr result ((p : Program) (named : ℕ → Bool) → IsProgram p
+            → IsAt p named opening_moment self.old
+            → (events : ℕ) × IsRunning p named self.old.limit schedule.now events
+            × Saw (W.seen watch.old) (W.seen watch.new)
+            (glances_along p (moment_after p named self.old.limit schedule.now) events)) }
+    {
+        // Every run is over within so many events.
+        let most = schedule.len() + 8 * self.limit as usize + 8;
+        for k in 0..most {
+            if self.is_over() {
+                return Ok(());
+            }
+            self.step(letter_at(schedule, k), watch)?;
+        }
+        Ok(())
+    }
+
+    /// Makes an event and shows the board.
+    fn step<W: Watch>(&mut self, letter: Letter, watch: &mut W) -> Result<(), NoMemory>
+        requires { self.old.events < most_events }
+        ensures ok { OnOk result ((p : Program) (named : ℕ → Bool) (m : Moment) → IsProgram p
+            → IsAt p named m self.old
+            → IsStep p named letter m (W.seen watch.old) (W.seen watch.new) self.old self.new) }
+        ensures counted { OnOk result (self.new.events ≡ self.old.events + 1) }
+        ensures shorter { letter ≡ LetterValue.Answer
+            → OnOk result (length self.new.pending ≤ length self.old.pending - 1) }
+        ensures err { OnErr result (IsUnmoved self.old self.new) }
+        ensures unseen { OnErr result (watch.new ≡ watch.old) }
+    {
+        self.event(letter)?;
+        self.show(watch);
+        Ok(())
+    }
+
+    /// Shows the board.
+    fn show<W: Watch>(&self, watch: &mut W)
+        ensures { (p : Program) (named : ℕ → Bool) (m : Moment) → IsAt p named m self.now
+            → Saw (W.seen watch.old) (W.seen watch.new) (glance_at p m ∷ []) }
+    {
+        // What always holds of a board is known where a field of it is read.
+        let _ = &self.iunit;
+        watch.after(self);
+    }
+
+    /// What a run came to that is over.
+    fn into_outcome(self) -> Result<Outcome, NoMemory>
+        ensures events { IfOk result (λ o. o.events ≡ self.events) }
+        ensures value { IfOk result (λ o. (p : Program) (named : ℕ → Bool) (m : Moment) → IsProgram p
+            → IsAt p named m self → is_over p self.limit m ≡ true → o ≡ outcome_at p m) }
+    {
+        let alloc = *self.out.allocator();
+        let changed = self.memory.changed(alloc)?;
+        let regs = self.regs.values();
+        Ok(Outcome {
+            end: self.ended.unwrap_or(End::Limit),
+            retired: self.retired,
+            regs,
+            carry: self.ctrl.carry(),
+            out: Listed::new(self.out),
+            changed: Listed::new(changed),
+            events: self.events,
+            answers: self.answers,
+            records: Listed::new(self.records),
+        })
+    }
+}
+
+/// The letter of an event of a run, from 0: that of the schedule, and behind it `r` and `i` in turn.
+fn letter_at(schedule: &Schedule, k: usize) -> Letter
+    ensures { result ≡ letter_at schedule.now k }
+{
+    if k < schedule.len() {
+        return schedule.letter(k);
+    }
+    if (k - schedule.len()) % 2 == 0 {
+        Letter::Answer
+    } else {
+        Letter::Issue
+    }
+}
