@@ -6,9 +6,11 @@
 
 mod board;
 mod glance;
+mod mem_watch;
 mod unit;
 mod watch;
 
 pub use board::Board;
 pub use glance::Glance;
+pub use mem_watch::MemWatch;
 pub use watch::{Unwatched, Watch};
