@@ -4,3 +4,4 @@ pub mod Lines
 pub mod OneListing
 pub mod Parts
 pub mod Forms
+pub mod Spoken

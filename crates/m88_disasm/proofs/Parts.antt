@@ -56,7 +56,7 @@ AreGood (p ∷ ps) = IsGood p × AreGood ps
 -- no two names or numbers stand side by side
 abbrev pub parted_from : Part → List Part → Bool
 parted_from p [] = true
-parted_from p (q ∷ qs) = is_mark_part p || is_mark_part q
+parted_from p (q ∷ qs) = is_mark_part q || is_mark_part p
 
 abbrev pub are_parted : List Part → Bool
 are_parted [] = true
