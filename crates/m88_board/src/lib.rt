@@ -1,7 +1,8 @@
 //! The board: instruction unit, data unit, register file, memory, control registers and monitor as the parts of one
 //! machine, with its output, its counts and the records of its data faults. `Board::new` makes one over an image,
 //! `Board::take_answer` is its event of the letter `r`, and `Board::pipe` the record that a data fault now would leave.
-//! The event of the letter `i` is a private call; the call that takes a letter isn't in the crate yet.
+//! The choice of an instruction's event and the step over a letter aren't in the crate yet; the private calls that do
+//! what a choice says are.
 #![tactic(auto)]
 
 mod board;
