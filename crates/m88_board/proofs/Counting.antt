@@ -24,7 +24,8 @@ moved_events faults fault l = refl
 does_events : (choice : Choice) (fault : Record) (old new : BoardView) → Does choice fault old new →
     new.events ≡ old.events
 unfolding local_of
-does_events choice fault old new does = ap (λ (l : Local). l.events) does.moved ∙ moved_events choice fault (local_of old)
+does_events choice fault old new does =
+    ap (λ (l : Local). l.events) does.moved ∙ moved_events choice fault (local_of old)
 
 -- a record, where a choice needs none
 no_record : Record

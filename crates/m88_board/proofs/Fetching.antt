@@ -21,7 +21,7 @@ use Rattle.m88_iunit.specs.declared.slot.Slot.{Slot}
 use Rattle.m88_board.proofs.Choosing.{at_pc}
 use Rattle.m88_board.specs.Board.{BoardView, completed_of, is_idle_board, local_of, pc_of}
 use Rattle.m88_board.specs.Moves.{stopping}
-use Rattle.m88_board.specs.Turns.{choice_for, turn_of}
+use Rattle.m88_board.specs.Turns.{choice_for}
 
 -- no more may be issued
 pub idles_by : (p : Program) (b : BoardView) → is_idle_board b ≡ true →
@@ -105,7 +105,8 @@ next_at inside b slot word same is aligned marked bytes =
     let image : inside.memory.image ≡ b.memory.image = ap (λ (x : BoardView). x.memory.image) same in
     let valid : b.slots.nip.v ≡ true =
     sym (ap (λ (s : Slot). s.v) is ∙ ap (λ (x : BoardView). x.slots.nip.v) same) ∙ unmarked slot.v marked in
-    let here : slot.addr ≡ pc_of b.slots = at_pc inside.slots b.slots slot is (ap (λ (x : BoardView). x.slots) same) valid in
+    let here : slot.addr ≡ pc_of b.slots =
+    at_pc inside.slots b.slots slot is (ap (λ (x : BoardView). x.slots) same) valid in
     record {
       valid = valid;
       aligned = subst (λ (a : ℕ). a % 4 ≡ 0) here aligned;
@@ -160,7 +161,7 @@ pub turns_by : (p : Program) (b : BoardView) (word : ℕ) (i : Instr) → IsProg
     word < 2 ^ 32 →
     IsWord i word →
     ((j : Instr) → IsWord j word → j ≡ i) →
-    choice_by p b.limit Issue (local_of b) ≡ choice_for (Some i) (turn_of (Some i) (completed_of b)) b
+    choice_by p b.limit Issue (local_of b) ≡ choice_for (Some i) b
 turns_by p b word i of goes next small is only =
     fetches_by p b (Some (to_be_bytes w32 word)) (Some i) goes next.valid (bytes_of p b (pc_of b.slots) of ∙ next.bytes)
     (found_there (p.instruction (pc_of b.slots)) i word

@@ -33,15 +33,27 @@ use Rattle.m88_board.specs.Board.{BoardView, cells_of, completed_of, pc_of, next
 use Rattle.m88_board.specs.Kept.{IsKept}
 use Rattle.m88_board.proofs.Choosing.{did_by, none_pending}
 use Rattle.m88_board.specs.Moves.{Did, stopping}
-use Rattle.m88_board.specs.Turns.{choice_for, meaning_at, turn_of}
+use Rattle.m88_board.specs.Turns.{choice_for, meaning_at}
+
+-- the oldest transaction, as the data unit shows it
+pub oldest_of : (inside b : BoardView) (o : Option Access) → inside ≡ b → o ≡ slice_get inside.pending 0 →
+    o ≡ slice_get b.pending 0
+oldest_of inside b o same h = subst (λ (x : BoardView). o ≡ slice_get x.pending 0) same h
+
+-- and the room in it
+pub room_of : (inside b : BoardView) (room : ℕ) → inside ≡ b → room + length inside.pending ≡ most_pending →
+    room + length b.pending ≡ most_pending
+room_of inside b room same h = subst (λ (x : BoardView). room + length x.pending ≡ most_pending) same h
 
 -- what the next instruction comes to where it has this meaning
 abbrev choice_meant : Instr → BoardView → Meaning → Choice
-choice_meant i b m = choice_for (Some i) (carried_out m (completed_of b).regs (completed_of b).pc) b
+choice_meant i b m =
+    next_choice (held (Some i) (carried_out m (completed_of b).regs (completed_of b).pc) b.pending)
+    (carried_out m (completed_of b).regs (completed_of b).pc)
 
 -- its choice is that of its meaning
 by_meaning : (i : Instr) (b : BoardView) (m : Meaning) → meaning_at i (completed_of b) ≡ m →
-    choice_for (Some i) (turn_of (Some i) (completed_of b)) b ≡ choice_meant i b m
+    choice_for (Some i) b ≡ choice_meant i b m
 by_meaning i b m means = ap (choice_meant i b) means
 
 -- the registers show what they hold where nothing waits
@@ -121,7 +133,7 @@ stopped i stop (a ∷ pending) free = rw free (by_test (waits_for_empty i) (λ t
 -- an instruction that raises
 pub raising : (i : Instr) (b : BoardView) (vector : ℕ) → busy_register (Some i) b.pending ≡ None →
     meaning_at i (completed_of b) ≡ raises vector →
-    choice_for (Some i) (turn_of (Some i) (completed_of b)) b ≡ stopping (by_vector vector (pc_of b.slots)) b.pending
+    choice_for (Some i) b ≡ stopping (by_vector vector (pc_of b.slots)) b.pending
 unfolding completed_of
 raising i b vector free means =
     by_meaning i b (raises vector) means ∙ stopped i (by_vector vector (pc_of b.slots)) b.pending free
@@ -160,7 +172,7 @@ unheld i turn pending free room goes_on = rw (free, room, goes_on) refl
 pub trap_held : (i : Instr) (b : BoardView) (vector : ℕ) → busy_register (Some i) b.pending ≡ None →
     meaning_at i (completed_of b) ≡ traps vector →
     is_pending b.pending ≡ true →
-    choice_for (Some i) (turn_of (Some i) (completed_of b)) b ≡ holds sync
+    choice_for (Some i) b ≡ holds sync
 trap_held i b vector free means some =
     let c = completed_of b in
     by_meaning i b (traps vector) means
@@ -171,7 +183,7 @@ trap_held i b vector free means some =
 pub trap_turn : (i : Instr) (b : BoardView) (vector : ℕ) → busy_register (Some i) b.pending ≡ None →
     meaning_at i (completed_of b) ≡ traps vector →
     b.pending ≡ [] →
-    choice_for (Some i) (turn_of (Some i) (completed_of b)) b
+    choice_for (Some i) b
     ≡ turn_choice (trapped vector b.file.numbers (pc_of b.slots))
 unfolding completed_of after_accesses
 trap_turn i b vector free means none =
@@ -229,7 +241,7 @@ stays_apart i b effect going apart =
 -- it is held where there is no room for them
 pub go_full : (i : Instr) (b : BoardView) (effect : Effect) → IsGoing i b effect →
     most_pending < length b.pending + effect.accesses.count →
-    choice_for (Some i) (turn_of (Some i) (completed_of b)) b ≡ holds full
+    choice_for (Some i) b ≡ holds full
 go_full i b effect going many =
     let count = count_is i b effect going in
     by_meaning i b (goes going.on.change) going.on.means
@@ -240,7 +252,7 @@ pub go_sync : (i : Instr) (b : BoardView) (effect : Effect) → IsGoing i b effe
     length b.pending + effect.accesses.count ≤ most_pending →
     waits_for_empty i ≡ true →
     is_pending b.pending ≡ true →
-    choice_for (Some i) (turn_of (Some i) (completed_of b)) b ≡ holds sync
+    choice_for (Some i) b ≡ holds sync
 go_sync i b effect going few trap some =
     let count = count_is i b effect going in
     by_meaning i b (goes going.on.change) going.on.means
@@ -267,7 +279,7 @@ no_stop false trap h = refl
 pub go_issued : (i : Instr) (b : BoardView) (effect : Effect) (going : IsGoing i b effect) →
     length b.pending + effect.accesses.count ≤ most_pending →
     (is_pending b.pending && waits_for_empty i) ≡ false →
-    choice_for (Some i) (turn_of (Some i) (completed_of b)) b ≡ issues going.on.change
+    choice_for (Some i) b ≡ issues going.on.change
 go_issued i b effect going few goes_on =
     let count = count_is i b effect going in
     by_meaning i b (goes going.on.change) going.on.means
@@ -282,12 +294,12 @@ held_still choice why fault b is =
     (record { says = refl; does = record { moved = refl; same = record { limit = refl; image = refl } } })
 
 -- the least register that it uses or writes and that waits holds it
-pub busy_first : (i : Instr) (b : BoardView) (r : Reg) (turn : Turn) (fault : Record) →
+pub busy_first : (i : Instr) (b : BoardView) (r : Reg) (fault : Record) →
     Some (number_of r) ≡ busy_register (Some i) b.pending →
-    Did (choice_for (Some i) turn b) fault b (happened.Stalled (Busy r)) b
-busy_first i b r turn fault h =
+    Did (choice_for (Some i) b) fault b (happened.Stalled (Busy r)) b
+busy_first i b r fault h =
     let same : reg_of (number_of r) ≡ r =
     same_reg _ _ (let low : number_of r < 32 = r.in_range in omega (arith, low)) in
-    let choice : choice_for (Some i) turn b ≡ holds (busy (number_of r)) = rw (sym h) refl in
-    subst (λ (s : Reg). Did (choice_for (Some i) turn b) fault b (happened.Stalled (Busy s)) b) same
-    (held_still (choice_for (Some i) turn b) (busy (number_of r)) fault b choice)
+    let choice : choice_for (Some i) b ≡ holds (busy (number_of r)) = rw (sym h) refl in
+    subst (λ (s : Reg). Did (choice_for (Some i) b) fault b (happened.Stalled (Busy s)) b) same
+    (held_still (choice_for (Some i) b) (busy (number_of r)) fault b choice)

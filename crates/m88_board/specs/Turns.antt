@@ -6,7 +6,7 @@ use Rattle.m88_isa.specs.History.{Completed}
 use Rattle.m88_isa.specs.Effect.{Meaning, meaning_of}
 use Rattle.m88_isa.specs.Machine.{Turn, executed}
 use Rattle.m88_isa.specs.declared.instr.Instr.{Instr}
-use Rattle.m88_board.specs.Board.{BoardView}
+use Rattle.m88_board.specs.Board.{BoardView, completed_of}
 
 -- what an instruction means at a state
 abbrev pub meaning_at : Instr → Completed → Meaning
@@ -16,6 +16,6 @@ meaning_at i c = meaning_of i c.regs c.carry c.pc c.next
 abbrev pub turn_of : Option Instr → Completed → Turn
 turn_of i c = executed i c.regs c.carry c.pc c.next
 
--- the choice that it comes to in its turn: the pending transactions hold it, or nothing does
-abbrev pub choice_for : Option Instr → Turn → BoardView → Choice
-choice_for i turn b = next_choice (held i turn b.pending) turn
+-- the choice that it comes to in its turn on a board: the pending transactions hold it, or nothing does
+abbrev pub choice_for : Option Instr → BoardView → Choice
+choice_for i b = next_choice (held i (turn_of i (completed_of b)) b.pending) (turn_of i (completed_of b))

@@ -12,7 +12,7 @@ ghost use Rattle.m88_isa.specs.Operands.{access_count_of, writes_of};
 ghost use Rattle.m88_board.specs.Board.{completed_of, is_idle_board, local_of};
 ghost use Rattle.m88_isa.specs.ImageProgram.{IsProgramOf};
 ghost use Rattle.m88_board.specs.Moves.{Did, IsUnmoved};
-ghost use Rattle.m88_board.specs.Turns.{choice_for, meaning_at, turn_of};
+ghost use Rattle.m88_board.specs.Turns.{choice_for, meaning_at};
 
 use crate::board::Board;
 use m88_base::NoMemory;
@@ -54,9 +54,8 @@ impl Board {
         requires going { is_idle_board self.old ≡ false }
         requires valid { self.old.slots.nip.v ≡ true }
         requires fetched { self.old.slots.nip.e ≡ false }
-        ensures ok { IfOk result (λ happened. (fault : RecordValue) → Did
-            (choice_for (Some instr.now) (turn_of (Some instr.now) (completed_of self.old)) self.old)
-            fault self.old happened self.new) }
+        ensures ok { IfOk result (λ happened. (fault : RecordValue)
+            → Did (choice_for (Some instr.now) self.old) fault self.old happened self.new) }
         ensures err { OnErr result (IsUnmoved self.old self.new) }
     {
         if let Some(r) = self.busy_register(instr) {
@@ -72,9 +71,8 @@ impl Board {
         requires valid { self.old.slots.nip.v ≡ true }
         requires fetched { self.old.slots.nip.e ≡ false }
         requires free { busy_register (Some instr.now) self.old.pending ≡ None }
-        ensures ok { IfOk result (λ happened. (fault : RecordValue) → Did
-            (choice_for (Some instr.now) (turn_of (Some instr.now) (completed_of self.old)) self.old)
-            fault self.old happened self.new) }
+        ensures ok { IfOk result (λ happened. (fault : RecordValue)
+            → Did (choice_for (Some instr.now) self.old) fault self.old happened self.new) }
         ensures err { OnErr result (IsUnmoved self.old self.new) }
     {
         match self.planned(instr) {

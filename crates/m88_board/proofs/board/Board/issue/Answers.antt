@@ -15,9 +15,9 @@ use Rattle.m88_iunit.specs.declared.slot.Slot.{Slot}
 use Rattle.m88_board.proofs.Choosing.{did_by}
 use Rattle.m88_board.proofs.Counting.{did_events, events_kept, same_events}
 use Rattle.m88_board.proofs.Fetching.{idles_by, lacks_by, next_at, passes_by, turns_by, unimplemented_by}
-use Rattle.m88_board.specs.Board.{BoardView, completed_of, local_of, pc_of}
+use Rattle.m88_board.specs.Board.{BoardView, local_of, pc_of}
 use Rattle.m88_board.specs.Moves.{Did, stopping}
-use Rattle.m88_board.specs.Turns.{choice_for, turn_of}
+use Rattle.m88_board.specs.Turns.{choice_for}
 use Rattle.m88_board.specs.contracts.board.Board.{the_view}
 use Rattle.m88_board.proofs.board.Board.issue.Goals as goal
 
@@ -31,9 +31,11 @@ returns-then-is_idle-clause-ok c = λ p fault of.
 pub returns-then-not-nip-clause-ok : goal.returns-then-not-nip-clause-ok
 returns-then-not-nip-clause-ok c = λ p fault of.
     let b = c.args.self.now in
-    let seen = ap (λ (s : Slot). s.v) c.candidate-nip.ensures.value ∙ ap (λ (x : BoardView). x.slots.nip.v) c.self.view_is in
+    let seen = ap (λ (s : Slot). s.v) c.candidate-nip.ensures.value
+    ∙ ap (λ (x : BoardView). x.slots.nip.v) c.self.view_is in
     did_by (choice_by p b.limit Issue (local_of b)) passes fault b Bubble c.pass.new.self
-    (passes_by p b (sym c.is_idle.ensures ∙ c.if-is_idle.false) (subst (λ (v : Bool). not v ≡ true) seen c.if-not-nip.true))
+    (passes_by p b (sym c.is_idle.ensures ∙ c.if-is_idle.false)
+    (subst (λ (v : Bool). not v ≡ true) seen c.if-not-nip.true))
     (record { says = refl; does = c.pass.ensures fault })
 
 pub returns-then-not-nip-clause-events : goal.returns-then-not-nip-clause-events
@@ -42,9 +44,10 @@ returns-then-not-nip-clause-events c = same_events passes c.args.self.now c.pass
 pub returns-in_default-clause-ok : goal.returns-in_default-clause-ok
 returns-in_default-clause-ok c = λ p fault of.
     let b = c.args.self.now in
-    let absent = ap (λ (o : Option ℕ). option_map (λ (word : ℕ). to_be_bytes w32 word) o) (sym c.in_default.is) ∙ c.fetch.ensures in
-    did_by (choice_by p b.limit Issue (local_of b)) (stopping (by_vector instruction_access (pc_of b.slots)) b.pending) fault b
-    c.raise.result c.raise.new.self
+    let absent = ap (λ (o : Option ℕ). option_map (λ (word : ℕ). to_be_bytes w32 word) o) (sym c.in_default.is)
+    ∙ c.fetch.ensures in
+    did_by (choice_by p b.limit Issue (local_of b))
+    (stopping (by_vector instruction_access (pc_of b.slots)) b.pending) fault b c.raise.result c.raise.new.self
     (lacks_by p b of (sym c.is_idle.ensures ∙ c.if-is_idle.false)
     (next_at (the_view c.self.inside) b c.candidate-nip.result None c.self.view_is c.candidate-nip.ensures.value
     c.candidate-nip.ensures.word c.if-not-nip.false absent))
@@ -52,14 +55,15 @@ returns-in_default-clause-ok c = λ p fault of.
 
 pub returns-in_default-clause-events : goal.returns-in_default-clause-events
 returns-in_default-clause-events c =
-    did_events (stopping (by_vector instruction_access (pc_of c.args.self.now.slots)) c.args.self.now.pending) c.args.self.now
-    c.raise.result c.raise.new.self c.raise.ensures
+    let b = c.args.self.now in
+    did_events (stopping (by_vector instruction_access (pc_of b.slots)) b.pending) b c.raise.result c.raise.new.self
+    c.raise.ensures
 
 pub returns-in-Err-clause-ok : goal.returns-in-Err-clause-ok
 returns-in-Err-clause-ok c = λ p fault of.
     let b = c.args.self.now in
-    did_by (choice_by p b.limit Issue (local_of b)) (stopping (by_vector unimplemented (pc_of b.slots)) b.pending) fault b
-    c.raise-in-Err.result c.raise-in-Err.new.self
+    did_by (choice_by p b.limit Issue (local_of b))
+    (stopping (by_vector unimplemented (pc_of b.slots)) b.pending) fault b c.raise-in-Err.result c.raise-in-Err.new.self
     (unimplemented_by p b c.in-Some.word of (sym c.is_idle.ensures ∙ c.if-is_idle.false)
     (next_at (the_view c.self.inside) b c.candidate-nip.result (Some (to_be_bytes w32 c.in-Some.word)) c.self.view_is
     c.candidate-nip.ensures.value c.candidate-nip.ensures.word c.if-not-nip.false c.in-Some.ensures)
@@ -68,23 +72,25 @@ returns-in-Err-clause-ok c = λ p fault of.
 
 pub returns-in-Err-clause-events : goal.returns-in-Err-clause-events
 returns-in-Err-clause-events c =
-    did_events (stopping (by_vector unimplemented (pc_of c.args.self.now.slots)) c.args.self.now.pending) c.args.self.now
-    c.raise-in-Err.result c.raise-in-Err.new.self c.raise-in-Err.ensures
+    let b = c.args.self.now in
+    did_events (stopping (by_vector unimplemented (pc_of b.slots)) b.pending) b c.raise-in-Err.result
+    c.raise-in-Err.new.self c.raise-in-Err.ensures
 
 pub returns-in-Ok-clause-ok : goal.returns-in-Ok-clause-ok
 returns-in-Ok-clause-ok c =
     let b = c.args.self.now in
     let i = c.in-Ok.instr in
     IfOk-weaker c.issue_instr.result
-    (λ h. (fault : Record) → Did (choice_for (Some i) (turn_of (Some i) (completed_of b)) b) fault b h c.issue_instr.new.self)
+    (λ h. (fault : Record) → Did (choice_for (Some i) b) fault b h c.issue_instr.new.self)
     (λ h. (p : Program) (fault : Record) → IsProgramOf b.memory.image p
     → Did (choice_by p b.limit Issue (local_of b)) fault b h c.issue_instr.new.self)
-    (λ h did p fault of. did_by (choice_by p b.limit Issue (local_of b)) (choice_for (Some i) (turn_of (Some i) (completed_of b)) b)
+    (λ h did p fault of. did_by (choice_by p b.limit Issue (local_of b)) (choice_for (Some i) b)
     fault b h c.issue_instr.new.self
     (turns_by p b c.in-Some.word i of (sym c.is_idle.ensures ∙ c.if-is_idle.false)
     (next_at (the_view c.self.inside) b c.candidate-nip.result (Some (to_be_bytes w32 c.in-Some.word)) c.self.view_is
     c.candidate-nip.ensures.value c.candidate-nip.ensures.word c.if-not-nip.false c.in-Some.ensures)
-    (omega arith) c.in-Ok.ensures.found (λ j is. let read = c.decode.ensures.only j is in let said = c.in-Ok.is in cc))
+    (omega arith) c.in-Ok.ensures.found
+    (λ j is. let read = c.decode.ensures.only j is in let said = c.in-Ok.is in cc))
     (did fault))
     c.issue_instr.ensures.ok
 
@@ -92,5 +98,5 @@ pub returns-in-Ok-clause-events : goal.returns-in-Ok-clause-events
 returns-in-Ok-clause-events c =
     let b = c.args.self.now in
     let i = c.in-Ok.instr in
-    events_kept (choice_for (Some i) (turn_of (Some i) (completed_of b)) b) c.issue_instr.result b c.issue_instr.new.self
+    events_kept (choice_for (Some i) b) c.issue_instr.result b c.issue_instr.new.self
     c.issue_instr.ensures.ok c.issue_instr.ensures.err

@@ -1,27 +1,28 @@
 -- The plan of the instruction is carried out, or it waits.
-use Rattle.std.proofs.Common.{◌≡◌, ◌∙◌, ◌+◌, Some, false, arith, refl, sym, subst, length}
-use Rattle.std.specs.Prelude.{◌&&◌, slice_get}
+use Rattle.std.proofs.Common.{◌≡◌, ◌∙◌, Some, false, arith, refl, sym, subst}
+use Rattle.std.specs.Prelude.{◌&&◌}
 use Rattle.std.proofs.lemmas.Result.{IfOk-weaker}
 use Rattle.m88_event.specs.Choice.{issues, turn_choice}
 use Rattle.m88_event.specs.declared.happened.Happened.TheVariants.{Issued}
 use Rattle.m88_event.specs.declared.record.Record.{Record}
 use Rattle.m88_isa.proofs.Held.{written_waits_not}
-use Rattle.m88_isa.specs.Held.{full, is_pending, most_pending, sync}
+use Rattle.m88_isa.specs.Held.{full, is_pending, sync}
 use Rattle.m88_isa.specs.Machine.{by_vector, trapped}
 use Rattle.m88_isa.specs.Operands.{waits_for_empty}
 use Rattle.m88_board.proofs.Choosing.{did_by, none_pending, some_pending}
-use Rattle.m88_board.proofs.Issuing.{at_most, go_full, go_issued, go_sync, held_still, is_going, no_trap, none_to_wait_for, raise_is, raising, stays_apart, trap_held, trap_is, trap_turn}
-use Rattle.m88_board.specs.Board.{BoardView, completed_of, pc_of}
+use Rattle.m88_board.proofs.Issuing.{at_most, go_full, go_issued, go_sync, held_still, is_going, no_trap, none_to_wait_for, oldest_of, raise_is, raising, room_of, stays_apart, trap_held, trap_is, trap_turn}
+use Rattle.m88_board.specs.Board.{pc_of}
 use Rattle.m88_board.specs.Kept.{IsKept}
 use Rattle.m88_board.specs.Moves.{Did, stopping}
-use Rattle.m88_board.specs.Turns.{choice_for, turn_of}
+use Rattle.m88_board.specs.Turns.{choice_for}
+use Rattle.m88_board.specs.contracts.board.Board.{the_view}
 use Rattle.m88_board.proofs.board.Board.issue_free.Goals as goal
 use Rattle.m88_board.proofs.board.Board.issue_free.Goals.{else-waits_for_empty-via-then-waits_for_empty+else-is_some-2, else-waits_for_empty-via-else-waits_for_empty}
 
 pub returns-in-Raise-clause-ok : goal.returns-in-Raise-clause-ok
 returns-in-Raise-clause-ok c = λ fault.
     let b = c.args.self.now in
-    did_by (choice_for (Some c.args.instr.now) (turn_of (Some c.args.instr.now) (completed_of b)) b)
+    did_by (choice_for (Some c.args.instr.now) b)
     (stopping (by_vector c.in-Raise.vector (pc_of b.slots)) b.pending) fault b c.raise.result c.raise.new.self
     (raising c.args.instr.now b c.in-Raise.vector c.requires.free
     (raise_is _ c.in-Raise.vector c.in-Raise.ensures.value))
@@ -30,7 +31,7 @@ returns-in-Raise-clause-ok c = λ fault.
 pub returns-then-is_some-clause-ok : goal.returns-then-is_some-clause-ok
 returns-then-is_some-clause-ok c = λ fault.
     let b = c.args.self.now in
-    let oldest = subst (λ (b : BoardView). c.oldest.result ≡ slice_get b.pending 0) c.self.view_is c.oldest.ensures.value in
+    let oldest = oldest_of (the_view c.self.inside) c.args.self.now c.oldest.result c.self.view_is c.oldest.ensures.value in
     held_still _ sync fault b
     (trap_held c.args.instr.now b c.in-Trap.vector c.requires.free
     (trap_is _ c.in-Trap.vector c.in-Trap.ensures.value)
@@ -38,15 +39,15 @@ returns-then-is_some-clause-ok c = λ fault.
 
 pub trap-requires-clause-empty : goal.trap-requires-clause-empty
 trap-requires-clause-empty c =
-    let oldest = subst (λ (b : BoardView). c.oldest.result ≡ slice_get b.pending 0) c.self.view_is c.oldest.ensures.value in
+    let oldest = oldest_of (the_view c.self.inside) c.args.self.now c.oldest.result c.self.view_is c.oldest.ensures.value in
     none_pending c.args.self.now.pending c.oldest.result oldest (sym c.is_some.ensures ∙ c.if-is_some.false)
 
 pub returns-else-is_some-clause-ok : goal.returns-else-is_some-clause-ok
 returns-else-is_some-clause-ok c =
     let b = c.args.self.now in
-    let choice = choice_for (Some c.args.instr.now) (turn_of (Some c.args.instr.now) (completed_of b)) b in
+    let choice = choice_for (Some c.args.instr.now) b in
     let turn = trapped c.in-Trap.vector b.file.numbers (pc_of b.slots) in
-    let oldest = subst (λ (b : BoardView). c.oldest.result ≡ slice_get b.pending 0) c.self.view_is c.oldest.ensures.value in
+    let oldest = oldest_of (the_view c.self.inside) c.args.self.now c.oldest.result c.self.view_is c.oldest.ensures.value in
     let empty = none_pending b.pending c.oldest.result oldest (sym c.is_some.ensures ∙ c.if-is_some.false) in
     IfOk-weaker c.trap.result
     (λ h. (fault : Record) → Did (turn_choice turn) fault b h c.trap.new.self)
@@ -60,20 +61,20 @@ returns-else-is_some-clause-ok c =
 pub returns-then-effect-room-clause-ok : goal.returns-then-effect-room-clause-ok
 returns-then-effect-room-clause-ok c = λ fault.
     let b = c.args.self.now in
-    let going = is_going c.args.instr.now b c.in-Go.effect c.in-Go.ensures.value c.requires.instr c.in-Go.ensures.accesses
-    c.requires.free in
-    let room = subst (λ (b : BoardView). c.room.result + length b.pending ≡ most_pending) c.self.view_is c.room.ensures in
+    let going = is_going c.args.instr.now b c.in-Go.effect c.in-Go.ensures.value c.requires.instr
+    c.in-Go.ensures.accesses c.requires.free in
+    let room = room_of (the_view c.self.inside) b c.room.result c.self.view_is c.room.ensures in
     let more = c.if-effect-room.true in
     held_still _ full fault b (go_full c.args.instr.now b c.in-Go.effect going (omega (arith, room, more)))
 
 pub returns-then-is_some-2-clause-ok : goal.returns-then-is_some-2-clause-ok
 returns-then-is_some-2-clause-ok c = λ fault.
     let b = c.args.self.now in
-    let going = is_going c.args.instr.now b c.in-Go.effect c.in-Go.ensures.value c.requires.instr c.in-Go.ensures.accesses
-    c.requires.free in
-    let room = subst (λ (b : BoardView). c.room.result + length b.pending ≡ most_pending) c.self.view_is c.room.ensures in
+    let going = is_going c.args.instr.now b c.in-Go.effect c.in-Go.ensures.value c.requires.instr
+    c.in-Go.ensures.accesses c.requires.free in
+    let room = room_of (the_view c.self.inside) b c.room.result c.self.view_is c.room.ensures in
     let fits = c.if-effect-room.false in
-    let oldest = subst (λ (b : BoardView). c.oldest-then-waits_for_empty.result ≡ slice_get b.pending 0) c.self.view_is
+    let oldest = oldest_of (the_view c.self.inside) b c.oldest-then-waits_for_empty.result c.self.view_is
     c.oldest-then-waits_for_empty.ensures.value in
     held_still _ sync fault b
     (go_sync c.args.instr.now b c.in-Go.effect going (omega (arith, room, fits))
@@ -83,27 +84,28 @@ returns-then-is_some-2-clause-ok c = λ fault.
 
 pub go-requires-clause-free : goal.go-requires-clause-free
 go-requires-clause-free c =
-    written_waits_not c.args.instr.now c.args.self.now.pending c.in-Go.effect.reg c.requires.free c.in-Go.ensures.register
+    written_waits_not c.args.instr.now c.args.self.now.pending c.in-Go.effect.reg c.requires.free
+    c.in-Go.ensures.register
 
 pub go-requires-clause-apart : goal.go-requires-clause-apart
 go-requires-clause-apart c =
     let kept = subst IsKept c.self.view_is c.self.invariant in
     stays_apart c.args.instr.now c.args.self.now c.in-Go.effect
-    (is_going c.args.instr.now c.args.self.now c.in-Go.effect c.in-Go.ensures.value c.requires.instr c.in-Go.ensures.accesses
-    c.requires.free)
+    (is_going c.args.instr.now c.args.self.now c.in-Go.effect c.in-Go.ensures.value c.requires.instr
+    c.in-Go.ensures.accesses c.requires.free)
     kept.parts.apart
 
 pub returns-in_ok-go-in-Go-clause-ok : goal.returns-in_ok-go-in-Go-clause-ok
 returns-in_ok-go-in-Go-clause-ok c = λ fault.
     let b = c.args.self.now in
-    let going = is_going c.args.instr.now b c.in-Go.effect c.in-Go.ensures.value c.requires.instr c.in-Go.ensures.accesses
-    c.requires.free in
-    let room = subst (λ (b : BoardView). c.room.result + length b.pending ≡ most_pending) c.self.view_is c.room.ensures in
+    let going = is_going c.args.instr.now b c.in-Go.effect c.in-Go.ensures.value c.requires.instr
+    c.in-Go.ensures.accesses c.requires.free in
+    let room = room_of (the_view c.self.inside) b c.room.result c.self.view_is c.room.ensures in
     let fits = c.if-effect-room.false in
     let goes_on : (is_pending b.pending && waits_for_empty c.args.instr.now) ≡ false =
     elim c.else-waits_for_empty.branch [
       | else-waits_for_empty-via-then-waits_for_empty+else-is_some-2 w ↦
-          let oldest = subst (λ (b : BoardView). w.oldest-then-waits_for_empty.result ≡ slice_get b.pending 0) c.self.view_is
+          let oldest = oldest_of (the_view c.self.inside) b w.oldest-then-waits_for_empty.result c.self.view_is
           w.oldest-then-waits_for_empty.ensures.value in
           none_to_wait_for b.pending w.oldest-then-waits_for_empty.result (waits_for_empty c.args.instr.now) oldest
           (sym w.is_some-then-waits_for_empty.ensures ∙ w.if-is_some-2.false)
@@ -111,7 +113,7 @@ returns-in_ok-go-in-Go-clause-ok c = λ fault.
           no_trap (is_pending b.pending) (waits_for_empty c.args.instr.now)
           (sym c.waits_for_empty.ensures.value ∙ w.if-waits_for_empty.false)
     ] in
-    did_by (choice_for (Some c.args.instr.now) (turn_of (Some c.args.instr.now) (completed_of b)) b)
+    did_by (choice_for (Some c.args.instr.now) b)
     (issues going.on.change) fault b Issued c.go.new.self
     (go_issued c.args.instr.now b c.in-Go.effect going (omega (arith, room, fits)) goes_on)
     (record {
