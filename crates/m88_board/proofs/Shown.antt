@@ -1,5 +1,5 @@
 -- What a board shows at a moment.
-use Rattle.std.specs.Prelude.{ℕ, Bool, true, false, not, List, [], ◌∷◌, Option, Some, None, Result, Ok, Err, ◌≡◌, ◌↔◌, ◌&&◌, ◌||◌, ◌==◌, IfOk, IsErr, IsTrue, is_none, is_some, slice_get, slice_index, if◌then◌else◌}
+use Rattle.std.specs.Prelude.{ℕ, Bool, true, false, not, List, [], ◌∷◌, Option, Some, None, Result, Ok, Err, ◌≡◌, ◌↔◌, ◌&&◌, ◌==◌, IfOk, IsErr, IsTrue, is_none, is_some, slice_get, slice_index, if◌then◌else◌}
 use Rattle.std.specs.Result.{result_ok}
 use Rattle.std.proofs.Common.{get_or-set_other, refl, sym, ap, ◌∙◌, subst}
 use Rattle.std.proofs.lemmas.Bool.{eqb-false, eqb-true}
@@ -10,7 +10,7 @@ use Rattle.m88_event.proofs.Follows.{ended_is}
 use Rattle.m88_event.proofs.Over.{same_over}
 use Rattle.m88_event.specs.Local.{Local, is_over_by, local_at, register_seen}
 use Rattle.m88_event.specs.Shadow.{fip_of, nip_of, status_of}
-use Rattle.m88_event.specs.Timeline.{Moment, end_at, is_over, xip_at}
+use Rattle.m88_event.specs.Timeline.{Moment, is_over, xip_at}
 use Rattle.m88_isa.proofs.Alone.{by_test}
 use Rattle.m88_isa.proofs.Late.{same_after_accesses}
 use Rattle.m88_isa.specs.Bus.{Cells, after_access, after_accesses, loaded, waits_for}
@@ -25,7 +25,7 @@ use Rattle.m88_scoreboard.specs.declared.busy.Busy.{Busy}
 use Rattle.m88_board.proofs.Records.{fip_is, nip_is}
 use Rattle.m88_board.specs.Board.{BoardView, cells_of, completed_of, is_idle_board, local_of, pointer_of}
 use Rattle.m88_board.specs.Glances.{glance_at, glance_of, slot_at}
-use Rattle.m88_board.specs.Kept.{AreReady, IsKept, SlotsAgree, epsr_of}
+use Rattle.m88_board.specs.Kept.{AreReady, IsKept, SlotsAgree}
 use Rattle.m88_board.specs.Moves.{IsAt}
 use Rattle.m88_board.specs.Shown.{ArePointers, AreRegisters, IsDataBus, IsStatus}
 

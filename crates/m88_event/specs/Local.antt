@@ -1,7 +1,7 @@
 -- What a board looks like from outside, with no word of the program's beginning: the state that its pending
 -- transactions lead to, memory as it is now, these transactions, marks, absent pages, counts and records; and what a
 -- letter makes of it.
-use Rattle.std.specs.Prelude.{ℕ, Bool, true, false, not, List, [], ◌∷◌, ◌++◌, Option, Some, None, ◌+◌, ◌==◌, ◌&&◌, ◌||◌, drop, is_some, length, slice_index, take, if◌then◌else◌}
+use Rattle.std.specs.Prelude.{ℕ, Bool, false, not, List, [], ◌∷◌, ◌++◌, Option, Some, None, ◌+◌, ◌==◌, ◌&&◌, ◌||◌, drop, is_some, length, slice_index, take, if◌then◌else◌}
 use Rattle.m88_isa.specs.Bus.{bus_after_all, waits_for}
 use Rattle.m88_isa.specs.History.{Completed, after_turn, bus_at, change_accesses, completed_state, pending_at}
 use Rattle.m88_isa.specs.Held.{is_pending}

@@ -1,13 +1,11 @@
 -- Each event answers one transaction at least, so that three are enough.
 use Rattle.std.specs.Prelude.{slice_get}
-use Rattle.std.proofs.Common.{arith, length, refl, suc, subst, sym, ◌≡◌, ◌≤◌, ◌∙◌, ℕ}
+use Rattle.std.proofs.Common.{arith, length, refl, suc, subst, sym, ◌≡◌, ◌≤◌, ◌∙◌}
 use Rattle.std.proofs.lemmas.Result.{err_from_is_err_and}
-use Rattle.m88_event.specs.Run.{IsDrain, answered_after}
-use Rattle.m88_isa.specs.declared.planned.Access.{Access}
+use Rattle.m88_event.specs.Run.{answered_after}
 use Rattle.m88_board.proofs.Choosing.{none_pending, some_count, some_pending}
 use Rattle.m88_board.proofs.Running.{drains_end, drains_start, drains_step, still_at}
 use Rattle.m88_board.specs.Board.{BoardView}
-use Rattle.m88_board.specs.Moves.{IsAlong}
 use Rattle.m88_board.proofs.board.Board.drain.Goals as goal
 
 pub loop-self-init : goal.loop-self-init
