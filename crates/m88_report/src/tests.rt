@@ -150,8 +150,8 @@ t2 00000000 00000000 00000000\n";
     Ok(())
 }
 
-/// No run comes to this: the lines are written by hand from the format, so that two changed words, two faults, an output,
-/// the carry and a register of each line stand in one text.
+/// No run comes to this: the lines are written by hand from the format, so that two changed words, two faults, an
+/// output, the carry and a register of each line stand in one text.
 #[test]
 fn all_lines_at_once(rt: HostRuntime) -> Result<(), NoMemory> {
     let mut outcome = at_limit(rt.alloc(), 1_000_000, 4_294_967_296);
