@@ -9,9 +9,9 @@ pub mod Values
 pub mod Operands
 pub mod Indices
 pub mod Goals
+pub mod Lists
 pub mod Forms
 pub mod Codes
-pub mod Lists
 pub mod Bodies
 pub mod Rows
 pub mod Units

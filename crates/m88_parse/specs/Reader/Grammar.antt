@@ -66,7 +66,7 @@ modulus_of a_byte = 2 ^ 8
 abbrev pub part_item_at : Part → ReaderState → Read ℕ
 part_item_at part s = signed_at (modulus_of part / 2) (modulus_of part - 1) s >>= λ n. Ok (n.0 % modulus_of part, n.1)
 
--- a slot and the form behind it, by what the slot gives
+-- a slot and the form behind it, by what the slot gives, or a slot that stands last and the body that it makes
 pub data Form : Type 0 where
   ends : Body → Form
   comma_then : Form → Form
