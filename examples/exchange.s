@@ -1,5 +1,5 @@
-; Takes a lock: an exchange puts 1 into the lock's word and brings back what stood there, 0 where the lock was free. The
-; two accesses are one transaction behind the other, and both carry the mark of the bus lock.
+; Takes a lock: an exchange puts 1 into the lock's word and brings back what stood there, 0 where the lock was free. It makes
+; two transactions, a read and then a write, and both carry the mark of a locked bus.
 _start: or      r2,r0,1
 again:  xmem    r2,r0,lo16(lock)
         bcnd    ne0,r2,again    ; somebody else has it: once more
