@@ -10,7 +10,7 @@ use Rattle.m88_base.specs.Placed.{Placed, AreApart}
 use Rattle.m88_base.specs.Placing.{next_start}
 use Rattle.m88_base.proofs.Apart.{apart_lower, apart_front, apart_back}
 use Rattle.m88_base.proofs.Cuts.{apart_drop}
-use Rattle.m88_base.specs.Blocks.{all_runs, IsPlace}
+use Rattle.m88_base.specs.Blocks.{all_runs, IsPlaceInBlocks}
 
 pub all_runs-append : (xs ys : List (List Placed)) → all_runs (xs ++ ys) ≡ all_runs xs ++ all_runs ys
 all_runs-append [] ys = refl
@@ -31,7 +31,7 @@ edited bs b block l = rw (set_split bs b block l) (all_runs-append (take b bs) (
 pub block_length : (bs : List (List Placed)) (b : ℕ) (block : List Placed) → b < length bs → block ≡ get_or bs b block → get_or bs b [] ≡ block
 block_length bs b block l is = get_or_default bs b [] block l ∙ sym is
 
-pub get_at : (bs : List (List Placed)) (b k i : ℕ) (block : List Placed) (run : Placed) → IsPlace bs b k i → k < length (get_or bs b []) → block ≡ get_or bs b block
+pub get_at : (bs : List (List Placed)) (b k i : ℕ) (block : List Placed) (run : Placed) → IsPlaceInBlocks bs b k i → k < length (get_or bs b []) → block ≡ get_or bs b block
     → run ≡ get_or block k run → run ≡ get_or (all_runs bs) i run
 get_at bs b k i block run p l is at =
     let inside : k < length block = rw (block_length bs b block p.within is) at l in
@@ -44,7 +44,7 @@ get_at bs b k i block run p l is at =
       get_or-append block (all_runs (drop (suc b) bs)) run k inside,
     ) at
 
-pub set_at : (bs : List (List Placed)) (b k i : ℕ) (block : List Placed) (run : Placed) → IsPlace bs b k i → k < length (get_or bs b []) → block ≡ get_or bs b block
+pub set_at : (bs : List (List Placed)) (b k i : ℕ) (block : List Placed) (run : Placed) → IsPlaceInBlocks bs b k i → k < length (get_or bs b []) → block ≡ get_or bs b block
     → all_runs (set bs b (set block k run)) ≡ set (all_runs bs) i run
 set_at bs b k i block run p l is =
     let inside : k < length block = rw (block_length bs b block p.within is) at l in
@@ -58,7 +58,7 @@ set_at bs b k i block run p l is =
       set-append_left block (all_runs (drop (suc b) bs)) k run inside,
     ) refl
 
-pub insert_at : (bs : List (List Placed)) (b k i : ℕ) (block : List Placed) (run : Placed) → IsPlace bs b k i → block ≡ get_or bs b block
+pub insert_at : (bs : List (List Placed)) (b k i : ℕ) (block : List Placed) (run : Placed) → IsPlaceInBlocks bs b k i → block ≡ get_or bs b block
     → all_runs (set bs b (insert block k run)) ≡ insert (all_runs bs) i run
 insert_at bs b k i block run p is =
     let inside : k ≤ length block = rw (block_length bs b block p.within is) at p.room in
@@ -70,7 +70,7 @@ insert_at bs b k i block run p is =
     ∙ (ap (λ n. all_runs (take b bs) ++ insert (block ++ all_runs (drop (suc b) bs)) n run) off
     ∙ ap (λ ys. all_runs (take b bs) ++ ys) (insert-append_left block (all_runs (drop (suc b) bs)) k run inside))))
 
-pub remove_at : (bs : List (List Placed)) (b k i : ℕ) (block : List Placed) → IsPlace bs b k i → k < length (get_or bs b []) → block ≡ get_or bs b block
+pub remove_at : (bs : List (List Placed)) (b k i : ℕ) (block : List Placed) → IsPlaceInBlocks bs b k i → k < length (get_or bs b []) → block ≡ get_or bs b block
     → all_runs (set bs b (remove block k)) ≡ remove (all_runs bs) i
 remove_at bs b k i block p l is =
     let inside : k < length block = rw (block_length bs b block p.within is) at l in
@@ -90,7 +90,7 @@ take_runs-suc bs b block l is =
 
 -- the place of an index in a block that has it
 pub place_here : (bs : List (List Placed)) (b k i : ℕ) (block : List Placed) → b < length bs → block ≡ get_or bs b block → length (all_runs (take b bs)) + k ≡ i
-    → k ≤ length block → IsPlace bs b k i
+    → k ≤ length block → IsPlaceInBlocks bs b k i
 place_here bs b k i block l is sum room = record {
   within = l;
   room = rw (block_length bs b block l is) room;

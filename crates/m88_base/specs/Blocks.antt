@@ -9,7 +9,7 @@ all_runs [] = []
 all_runs (block ∷ blocks) = block ++ all_runs blocks
 
 -- the runs ahead of `inside` in the block `at` are the first `index` of all
-pub record IsPlace (blocks : List (List Placed)) (at inside index : ℕ) : Type 0 where
+pub record IsPlaceInBlocks (blocks : List (List Placed)) (at inside index : ℕ) : Type 0 where
   pub within : at < length blocks
   pub room : inside ≤ length (slice_index_or blocks at [])
   pub sum : length (all_runs (take at blocks)) + inside ≡ index

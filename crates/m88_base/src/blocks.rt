@@ -1,7 +1,7 @@
 //! Runs in a row, in blocks, so that few others move when one more is put between them.
 ghost use Rattle.std.specs.Prelude.{◌≡◌, ◌+◌, ◌<◌, ◌≤◌, [], All, take, drop, length, insert, remove, slice_index_or, slice_set, IfOk, OnOk, OnErr};
 ghost use Rattle.m88_base.specs.Placed.{AreApart};
-ghost use Rattle.m88_base.specs.Blocks.{IsPlace, all_runs};
+ghost use Rattle.m88_base.specs.Blocks.{IsPlaceInBlocks, all_runs};
 
 use crate::block::Block;
 use crate::segment::Segment;
@@ -127,7 +127,7 @@ fn copied(alloc: Global, blocks: &[Block]) -> Result<Vec<Block>, AllocError>
 /// The block that has the run at an index, and where the run stands in it.
 fn place_of(blocks: &[Block], index: usize) -> (usize, usize)
     requires { index < length (all_runs blocks.now) }
-    ensures place { IsPlace blocks.now result.0 result.1 index }
+    ensures place { IsPlaceInBlocks blocks.now result.0 result.1 index }
     ensures inside { result.1 < length (slice_index_or blocks.now result.0 []) }
 {
     let mut left = index;
@@ -144,7 +144,7 @@ fn place_of(blocks: &[Block], index: usize) -> (usize, usize)
 fn place_before(blocks: &[Block], index: usize) -> (usize, usize)
     requires some { 0 < length blocks.now }
     requires index { index ≤ length (all_runs blocks.now) }
-    ensures { IsPlace blocks.now result.0 result.1 index }
+    ensures { IsPlaceInBlocks blocks.now result.0 result.1 index }
 {
     if index == 0 {
         return (0, 0);

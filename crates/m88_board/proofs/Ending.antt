@@ -12,7 +12,7 @@ use Rattle.m88_event.specs.declared.happened.End.TheVariants.{Limit}
 use Rattle.m88_event.specs.declared.record.Record.{Record}
 use Rattle.m88_isa.specs.Bus.{after_accesses, changed_words, in_words, waits_for}
 use Rattle.m88_isa.specs.Held.{is_pending}
-use Rattle.m88_isa.specs.History.{bus_at, completed_state, transaction_count}
+use Rattle.m88_isa.specs.History.{completed_state, transaction_count}
 use Rattle.m88_isa.specs.Machine.{IsProgram, Program, opening, state}
 use Rattle.m88_isa.specs.declared.planned.Access.{Access}
 use Rattle.m88_mem.specs.DataBus.{bus_of, image_bus}

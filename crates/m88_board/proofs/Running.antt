@@ -1,10 +1,10 @@
 -- A run, and draining, one event after the other.
-use Rattle.std.specs.Prelude.{ℕ, suc, zero, Bool, true, false, not, List, [], ◌∷◌, ◌++◌, Option, ◌≡◌, ◌<◌, ◌≤◌, ◌+◌, ◌*◌, ◌==◌, length}
+use Rattle.std.specs.Prelude.{ℕ, suc, Bool, true, false, not, List, [], ◌∷◌, Option, ◌≡◌, ◌+◌, ◌*◌, ◌==◌, length}
 use Rattle.std.proofs.Common.{add-one, arith, refl, sym, ap, ◌∙◌, subst}
 use Rattle.std.proofs.lemmas.Bool.{eqb-false, eqb-true}
 use Rattle.m88_event.proofs.Over.{drained_seen, run_ends}
 use Rattle.m88_event.specs.Letters.{letter_at}
-use Rattle.m88_event.specs.Local.{Local, local_at}
+use Rattle.m88_event.specs.Local.{Local}
 use Rattle.m88_event.specs.Run.{IsDrain, IsDraining, IsRun, IsRunning, answered_after, moment_after}
 use Rattle.m88_event.specs.Timeline.{Moment, after_letter, is_drained, is_over, opening_moment}
 use Rattle.m88_event.specs.declared.letter.Letter.{Letter}
@@ -13,7 +13,7 @@ use Rattle.m88_isa.proofs.Alone.{by_test}
 use Rattle.m88_isa.specs.Held.{is_pending}
 use Rattle.m88_isa.specs.Machine.{IsProgram, Program}
 use Rattle.m88_isa.specs.declared.planned.Access.{Access}
-use Rattle.m88_board.proofs.Seeing.{saw_none, saw_same, saw_then}
+use Rattle.m88_board.proofs.Seeing.{saw_none, saw_then}
 use Rattle.m88_board.specs.Board.{BoardView, local_of}
 use Rattle.m88_board.specs.Glances.{Saw, glance_at, glances_along}
 use Rattle.m88_isa.specs.ImageProgram.{IsProgramOf}

@@ -1,21 +1,33 @@
 -- What a board shows at a moment.
-use Rattle.std.specs.Prelude.{ℕ, Bool, true, false, not, List, [], ◌∷◌, Option, Some, None, ◌≡◌, ◌&&◌, ◌||◌, ◌==◌, is_none, is_some, slice_get}
-use Rattle.std.proofs.Common.{refl, sym, ap, ◌∙◌}
+use Rattle.std.specs.Prelude.{ℕ, Bool, true, false, not, List, [], ◌∷◌, Option, Some, None, Result, Ok, Err, ◌≡◌, ◌↔◌, ◌&&◌, ◌==◌, IfOk, IsErr, IsTrue, is_none, is_some, slice_get, slice_index, if◌then◌else◌}
+use Rattle.std.specs.Result.{result_ok}
+use Rattle.std.proofs.Common.{get_or-set_other, refl, sym, ap, ◌∙◌, subst}
+use Rattle.std.proofs.lemmas.Bool.{eqb-false, eqb-true}
 use Rattle.m88_base.specs.Image.{byte_at}
+use Rattle.m88_base.specs.Reg.{number_of}
+use Rattle.m88_ctrl.specs.ControlRegisters.{carry_of}
+use Rattle.m88_event.proofs.Follows.{ended_is}
 use Rattle.m88_event.proofs.Over.{same_over}
-use Rattle.m88_event.specs.Local.{Local, is_over_by, local_at}
-use Rattle.m88_event.specs.Shadow.{nip_of}
+use Rattle.m88_event.specs.Local.{Local, is_over_by, local_at, register_seen}
+use Rattle.m88_event.specs.Shadow.{fip_of, nip_of, status_of}
 use Rattle.m88_event.specs.Timeline.{Moment, is_over, xip_at}
+use Rattle.m88_isa.proofs.Alone.{by_test}
+use Rattle.m88_isa.proofs.Late.{same_after_accesses}
+use Rattle.m88_isa.specs.Bus.{Cells, after_access, after_accesses, loaded, waits_for}
 use Rattle.m88_isa.specs.Held.{is_pending}
-use Rattle.m88_isa.specs.History.{completed_state}
+use Rattle.m88_isa.specs.History.{bus_at, completed_state, pending_at}
+use Rattle.m88_isa.specs.ImageProgram.{IsProgramOf}
 use Rattle.m88_isa.specs.Machine.{Program, state}
 use Rattle.m88_isa.specs.declared.planned.Access.{Access}
-use Rattle.m88_board.proofs.Records.{nip_is}
-use Rattle.m88_board.specs.Board.{BoardView, completed_of, is_idle_board, local_of, pointer_of}
+use Rattle.m88_mem.specs.DataBus.{bus_of, ready_of}
+use Rattle.m88_scoreboard.specs.Registers.{waiting_of}
+use Rattle.m88_scoreboard.specs.declared.busy.Busy.{Busy}
+use Rattle.m88_board.proofs.Records.{fip_is, nip_is}
+use Rattle.m88_board.specs.Board.{BoardView, cells_of, completed_of, is_idle_board, local_of, pointer_of}
 use Rattle.m88_board.specs.Glances.{glance_at, glance_of, slot_at}
-use Rattle.m88_isa.specs.ImageProgram.{IsProgramOf}
-use Rattle.m88_board.specs.Kept.{SlotsAgree}
+use Rattle.m88_board.specs.Kept.{AreReady, IsKept, SlotsAgree}
 use Rattle.m88_board.specs.Moves.{IsAt}
+use Rattle.m88_board.specs.Shown.{ArePointers, AreRegisters, IsDataBus, IsStatus}
 
 -- a run is over by the board's own parts
 none_oldest : (xs : List Access) (o : Option Access) → o ≡ slice_get xs 0 → is_none o ≡ not (is_pending xs)
@@ -63,6 +75,135 @@ pub nip_at : (p : Program) (named : ℕ → Bool) (m : Moment) (b : BoardView) �
 unfolding local_at completed_state
 nip_at p named m b at slots =
     nip_shown p b at.image slots ∙ ap (λ (l : Local). nip_of p l.bubble l.xip l.completed.pc) at.seen
+
+-- FIP
+fip_shown : (p : Program) (b : BoardView) → IsProgramOf b.memory.image p → SlotsAgree b.memory.image b.slots →
+    pointer_of b.slots.fip ≡ fip_of p (local_of b).bubble (local_of b).completed.pc (local_of b).completed.next
+unfolding local_of completed_of
+fip_shown p b of slots =
+    fip_is (byte_at b.memory.image) p b.slots.fip b.slots.nip.addr b.slots.nip.v of.bytes slots.fip
+
+-- the three
+pub pointers_are : (p : Program) (named : ℕ → Bool) (m : Moment) (b : BoardView) → IsAt p named m b →
+    SlotsAgree b.memory.image b.slots →
+    ArePointers p m b.slots
+unfolding local_of local_at completed_state
+pointers_are p named m b at slots = record {
+  xip = ap (λ (l : Local). l.xip) at.seen;
+  nip = nip_at p named m b at slots;
+  fip =
+      fip_shown p b at.image slots
+      ∙ ap (λ (l : Local). fip_of p l.bubble l.completed.pc l.completed.next) at.seen;
+}
+
+-- a register that doesn't wait has its value already
+zero_after : (x : Access) (c : Cells) → slice_index (after_access x c).regs 0 ≡ slice_index c.regs 0
+unfolding loaded
+zero_after x c = by_test x.write
+    (λ write. rw write refl)
+    (λ read. by_test (number_of x.reg == 0)
+    (λ zero. rw (read, zero) refl)
+    (λ other. rw (read, other)
+    (get_or-set_other c.regs (number_of x.reg) 0 (loaded x c.bus) 0
+    (λ e. eqb-false (number_of x.reg) 0 other (sym e)))))
+
+zero_stays : (xs : List Access) (c : Cells) → slice_index (after_accesses xs c).regs 0 ≡ slice_index c.regs 0
+unfolding after_accesses
+zero_stays [] c = refl
+zero_stays (x ∷ xs) c = zero_stays xs (after_access x c) ∙ zero_after x c
+
+value_stays : (xs : List Access) (c : Cells) (r : ℕ) → waits_for xs r ≡ false →
+    slice_index (after_accesses xs c).regs r ≡ slice_index c.regs r
+value_stays xs c r h = by_test (r == 0)
+    (λ zero. subst (λ (n : ℕ). slice_index (after_accesses xs c).regs n ≡ slice_index c.regs n) (sym (eqb-true r 0 zero))
+    (zero_stays xs c))
+    (λ there. same_after_accesses xs c r there h)
+
+value_seen : (b : BoardView) (r : ℕ) → waits_for b.pending r ≡ false →
+    slice_index b.file.numbers r ≡ slice_index (completed_of b).regs r
+unfolding completed_of
+value_seen b r h = sym (value_stays b.pending (cells_of b.file b.memory) r h)
+
+by_waiting : (pending : List Access) (regs : List ℕ) (r : ℕ) (t : Bool) → waits_for pending r ≡ t →
+    register_seen pending regs r ≡ (if t then None else Some (slice_index regs r))
+by_waiting pending regs r t e = ap (λ (w : Bool). if w then None else Some (slice_index regs r)) e
+
+waits_not : (t : Bool) → (IsTrue t → ⊥) → t ≡ false
+waits_not true h = absurd (h refl)
+waits_not false h = refl
+
+pub register_is : (b : BoardView) (r : ℕ) (got : Result ℕ Busy) (o : Option ℕ) → waiting_of b.file ≡ waits_for b.pending →
+    o ≡ result_ok got →
+    (IsErr got ↔ IsTrue (waiting_of b.file r)) →
+    IfOk got (λ value. value ≡ slice_index b.file.numbers r) →
+    o ≡ register_seen b.pending (completed_of b).regs r
+register_is b r (Ok value) o same is busy known =
+    let free : waits_for b.pending r ≡ false =
+    waits_not (waits_for b.pending r) (λ yes. let no : IsErr {T = ℕ} {E = Busy} (Ok value) = busy.1 (ap (λ (set : ℕ → Bool). set r) same ∙ yes) in cc) in
+    is ∙ ap Some (known ∙ value_seen b r free) ∙ sym (by_waiting b.pending (completed_of b).regs r false free)
+register_is b r (Err e) o same is busy known =
+    is ∙ sym (by_waiting b.pending (completed_of b).regs r true (sym (ap (λ (set : ℕ → Bool). set r) same) ∙ busy.0 refl))
+
+pub register_at : (p : Program) (named : ℕ → Bool) (m : Moment) (b : BoardView) (r : ℕ) → IsAt p named m b →
+    register_seen b.pending (completed_of b).regs r
+    ≡ register_seen (pending_at p m.retired m.done) (state p m.retired).regs r
+unfolding local_of local_at completed_state
+register_at p named m b r at = ap (λ (l : Local). register_seen l.pending l.completed.regs r) at.seen
+
+-- the register file
+pub registers_seen : (p : Program) (named : ℕ → Bool) (m : Moment) (b : BoardView) → IsAt p named m b → IsKept b →
+    AreRegisters p m b.file
+unfolding local_of local_at completed_state
+registers_seen p named m b at kept =
+    let pending : b.pending ≡ pending_at p m.retired m.done = ap (λ (l : Local). l.pending) at.seen in
+    record {
+      waiting = kept.parts.waiting ∙ ap waits_for pending;
+      values = λ r free.
+          value_seen b r (ap (λ (xs : List Access). waits_for xs r) pending ∙ free)
+          ∙ ap (λ (l : Local). slice_index l.completed.regs r) at.seen;
+    }
+
+-- the data unit
+pub pending_seen : (p : Program) (named : ℕ → Bool) (m : Moment) (b : BoardView) → IsAt p named m b →
+    b.pending ≡ pending_at p m.retired m.done
+unfolding local_of local_at
+pending_seen p named m b at = ap (λ (l : Local). l.pending) at.seen
+
+-- memory
+pub words_seen : (p : Program) (named : ℕ → Bool) (m : Moment) (b : BoardView) → IsAt p named m b →
+    bus_of b.memory ≡ bus_at p m.retired m.done
+unfolding local_of local_at
+words_seen p named m b at = ap (λ (l : Local). l.bus) at.seen
+
+pub memory_seen : (p : Program) (named : ℕ → Bool) (m : Moment) (b : BoardView) → IsAt p named m b → IsKept b →
+    IsDataBus p named m b.memory
+unfolding local_of local_at
+memory_seen p named m b at kept = record {
+  image = at.image;
+  words = words_seen p named m b at;
+  absent = ap (λ (l : Local). l.absent) at.seen;
+  ready = subst (AreReady (ready_of b.memory)) (pending_seen p named m b at) kept.parts.ready;
+}
+
+-- the control registers
+pub carry_seen : (p : Program) (named : ℕ → Bool) (m : Moment) (b : BoardView) → IsAt p named m b →
+    carry_of b.control ≡ (state p m.retired).carry
+unfolding local_of completed_of local_at completed_state
+carry_seen p named m b at = ap (λ (l : Local). l.completed.carry) at.seen
+
+ended_seen : (p : Program) (named : ℕ → Bool) (m : Moment) (b : BoardView) → IsAt p named m b → is_some b.ended ≡ m.ended
+unfolding local_of local_at
+ended_seen p named m b at = ap (λ (l : Local). is_some l.ended) at.seen ∙ ended_is p m
+
+pub status_seen : (p : Program) (named : ℕ → Bool) (m : Moment) (b : BoardView) → IsAt p named m b → IsKept b →
+    IsStatus p m b.control
+status_seen p named m b at kept = record {
+  status =
+      sym (ap (λ (t : Bool). if t then b.control.epsr else b.control.psr) (ended_seen p named m b at))
+      ∙ kept.status
+      ∙ ap status_of (carry_seen p named m b at);
+  carry = carry_seen p named m b at;
+}
 
 -- a glance
 pub glance_is : (p : Program) (named : ℕ → Bool) (m : Moment) (b : BoardView) → IsAt p named m b →

@@ -1,5 +1,5 @@
 -- What a watch is shown of a board, and of the moments of a timeline.
-use Rattle.std.specs.Prelude.{ℕ, zero, suc, List, [], ◌∷◌, ◌++◌, Option, Some, None, ◌≡◌}
+use Rattle.std.specs.Prelude.{ℕ, zero, suc, Bool, false, List, [], ◌∷◌, ◌++◌, Option, Some, None, ◌≡◌, length, nat_lt, if◌then◌else◌}
 use Rattle.m88_event.specs.Shadow.{Pointer, nip_of}
 use Rattle.m88_event.specs.Timeline.{Moment, xip_at}
 use Rattle.m88_isa.specs.Machine.{Program, state}
@@ -35,3 +35,22 @@ abbrev pub Saw : Option (List Glance) → Option (List Glance) → List Glance �
 Saw before None glances = Unit {0}
 Saw None (Some after) glances = ⊥
 Saw (Some before) (Some after) glances = after ≡ before ++ glances
+
+-- the most glances that a watch in memory keeps
+abbrev pub most_glances : ℕ
+most_glances = 256
+
+-- the glances that it keeps, and whether these are all that it was shown
+pub record KeptGlances : Type 0 where
+  pub glances : List Glance
+  pub whole : Bool
+
+-- the same after one more
+abbrev pub kept_after : Glance → KeptGlances → KeptGlances
+kept_after glance w =
+    if nat_lt (length w.glances) most_glances then record w { glances = w.glances ++ glance ∷ [] }
+    else record w { whole = false }
+
+-- it tells what it was shown where it keeps all of it
+abbrev pub told : KeptGlances → Option (List Glance)
+told w = if w.whole then Some w.glances else None

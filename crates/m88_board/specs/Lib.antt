@@ -3,3 +3,4 @@ pub mod Kept
 pub mod Glances
 pub mod Moves
 pub mod Turns
+pub mod Shown

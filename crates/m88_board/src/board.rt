@@ -110,6 +110,7 @@ impl Board {
         requires pages { NamesPages absent.now }
         requires small { limit ≤ most_retired }
         ensures limit { IfOk result (λ b. b.limit ≡ limit) }
+        ensures events { IfOk result (λ b. b.events ≡ 0) }
         ensures at { IfOk result (λ b. (p : Program) → IsProgramOf image.now p
             → IsAt p (absent_in absent.now) opening_moment b) }
     {

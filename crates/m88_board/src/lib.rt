@@ -1,15 +1,19 @@
 //! The board: instruction unit, data unit, register file, memory, control registers and monitor as the parts of one
 //! machine, with its output, its counts and the records of its data faults. `Board::new` makes one over an image,
-//! `Board::take_answer` is its event of the letter `r`, and `Board::pipe` the record that a data fault now would leave.
-//! The choice of an instruction's event and the step over a letter aren't in the crate yet; the private calls that do
-//! what a choice says are.
+//! `event` makes the event of a letter, `run` those of a whole run and `drain` those that leave nothing pending; a
+//! `Watch` is shown the board after each. All else tells what the board shows.
 #![tactic(auto)]
 
 mod board;
-mod glance;
 mod unit;
+
+// who watches it
+mod glance;
+mod mem_watch;
 mod watch;
 
 pub use board::Board;
 pub use glance::Glance;
+pub use m88_event::{End, Happened, Letter, Outcome, Record, Schedule, Why};
+pub use mem_watch::MemWatch;
 pub use watch::{Unwatched, Watch};

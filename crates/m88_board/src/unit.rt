@@ -102,7 +102,8 @@ pub(crate) fn answer_load(access: &Access, memory: &Memory, regs: &mut RegFile)
     requires zero { waiting_of regs.old 0 ≡ false }
     ensures numbers { regs.new.numbers
         ≡ with_register access.now.reg (loaded access.now (bus_of memory.now)) regs.old.numbers }
-    ensures waiting { waiting_of regs.new ≡ with_member (number_of access.now.reg) false (waiting_of regs.old) }
+    ensures waiting { waiting_of regs.new
+        ≡ with_member (number_of access.now.reg) false (waiting_of regs.old) }
 {
     let Ok(word) = memory.read_word(access.addr) else {
         unreachable!()
@@ -201,7 +202,8 @@ pub(crate) fn serve_all(
     requires ssbr { bit_at fault.ssbr 0 ≡ 0 }
     requires agree { PartsAgree unit.old regs.old memory.old }
     ensures pending { unit.new ≡ [] }
-    ensures cells { cells_of regs.new memory.new ≡ after_accesses unit.old (cells_of regs.old memory.old) }
+    ensures cells { cells_of regs.new memory.new
+        ≡ after_accesses unit.old (cells_of regs.old memory.old) }
     ensures waiting { waiting_of regs.new ≡ none_waits }
     ensures absent { absent_of memory.new
         ≡ (λ page. absent_of memory.old page && not (touches_page unit.old page)) }

@@ -1,6 +1,6 @@
 -- The control registers ("Control Registers"; "Exception Processing" for what an exception and a return from it do to
--- them). Their numbers, the bits of PSR and its start value are this project's profile, as are that PID can't be written
--- and that bit 0 of SSBR is never set.
+-- them). Their numbers, the bits of PSR and its start value are this project's profile, as are that PID can't be
+-- written and that bit 0 of SSBR is never set.
 use Rattle.std.specs.Prelude.{ℕ, Bool, ◌+◌, ◌*◌, ◌/◌, ◌%◌, ◌^◌, ◌==◌, List, [], ◌∷◌, bit_or, slice_index_or, if◌then◌else◌}
 use Rattle.std.specs.Int.{bit_at}
 use Rattle.m88_base.specs.declared.triple.Triple.{Triple}

@@ -141,7 +141,8 @@ impl Control {
     /// neither 0 nor above 20. SSBR keeps bit 0 clear.
     pub fn stcr(&mut self, n: u8, value: u32) -> bool
         ensures valid { IsTrue result ↔ ((0 < n) × (n ≤ 20)) }
-        ensures stored { IsTrue result → by_number self.new ≡ slice_set (by_number self.old) n (kept_of n value) }
+        ensures stored { IsTrue result
+            → by_number self.new ≡ slice_set (by_number self.old) n (kept_of n value) }
         ensures refused { result ≡ false → self.new ≡ self.old }
     {
         if n == cr::PID || n > cr::SR3 {
@@ -207,7 +208,8 @@ impl Control {
         ensures handler { result ≡ handler_of self.old.vbr vector }
         ensures state { self.new ≡ entered frame.now self.old }
         ensures returning { (returned self.new).psr ≡ self.old.psr }
-        ensures restart { restart_of self.new ≡ record { ssbr = frame.now.ssbr; snip = frame.now.snip; sfip = frame.now.sfip } }
+        ensures restart { restart_of self.new
+            ≡ record { ssbr = frame.now.ssbr; snip = frame.now.snip; sfip = frame.now.sfip } }
     {
         self.epsr = self.psr;
         self.psr |= EXCEPTION_BITS;

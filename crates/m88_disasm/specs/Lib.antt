@@ -1,4 +1,5 @@
 pub mod Mnemonics
 pub mod Text
 pub mod Listing
+pub mod Read
 pub mod Appended

@@ -1,6 +1,7 @@
 //! The text of an instruction, form by form.
-ghost use Rattle.std.specs.Prelude.{◌≡◌, ◌∷◌, [], decimal};
+ghost use Rattle.std.specs.Prelude.{◌≡◌, ◌∷◌, [], ℕ, decimal};
 ghost use Rattle.m88_isa.specs.Instr.{FitsWords, IsValid};
+ghost use Rattle.m88_disasm.specs.Read.{IsReadAs, said_by};
 ghost use Rattle.m88_disasm.specs.Mnemonics.{of_bits, of_xcr};
 ghost use Rattle.m88_disasm.specs.Text.{condition, control, field, index_operands, instr_text, register, scaled, spelled, target, word_text};
 
@@ -214,11 +215,9 @@ fn word(word: u32) -> ArrayString<48>
     text
 }
 
-/// The text of an instruction in the assembly language: its mnemonic, a blank, and its operands with a comma between
-/// each two and no other blank ("Instruction Set": the assembler syntax of each instruction). A branch names its
-/// target by the distance in bytes from itself, and a word of a special function unit is written by itself.
+/// The text of an instruction, by its form.
 #[tactic(auto, unfolding(crate::specs::Text::instr_text))]
-pub fn text_of(instr: &Instr) -> ArrayString<48>
+fn by_form(instr: &Instr) -> ArrayString<48>
     requires { IsValid instr.now }
     ensures { result.bytes ≡ instr_text instr.now }
 {
@@ -278,4 +277,17 @@ pub fn text_of(instr: &Instr) -> ArrayString<48>
         Instr::Xcr { d, s1, cr, float } => exchange(d, s1, cr, float),
         Instr::Sfu { .. } => word(encode(instr)),
     }
+}
+
+/// The text of an instruction in the assembly language: its mnemonic, a blank, and its operands with a comma between
+/// each two and no other blank ("Instruction Set": the assembler syntax of each instruction). A branch names its
+/// target by the distance in bytes from itself, and a word of a special function unit is written by itself.
+pub fn text_of(instr: &Instr) -> ArrayString<48>
+    requires { IsValid instr.now }
+    ensures value { result.bytes ≡ instr_text instr.now }
+
+    // The language reads the text as the instruction.
+    ensures read { (number : ℕ) → IsReadAs number result.bytes (said_by instr.now) }
+{
+    by_form(instr)
 }

@@ -7,5 +7,5 @@ mod full;
 mod tests;
 mod words;
 
-pub use data_unit::DataUnit;
+pub use data_unit::{DataUnit, MOST_PENDING};
 pub use full::Full;

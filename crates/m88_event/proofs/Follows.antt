@@ -9,13 +9,13 @@ use Rattle.m88_isa.specs.Held.{Hold}
 use Rattle.m88_isa.specs.History.{after_turn, bus_at, change_accesses, completed_state, pending_at, transaction_count, transactions, turn_accesses}
 use Rattle.m88_isa.specs.Machine.{IsProgram, Program, Turn, changes, opening, outputs, state, stops, turn_at}
 use Rattle.m88_isa.specs.declared.planned.Access.{Access}
-use Rattle.m88_event.specs.Choice.{Choice, answer_choice, choice_of, end_by, faults, finishes, holds, idles, issue_choice, issues, next_choice, passes, replies, said, serves, touches_page, turn_choice}
+use Rattle.m88_event.specs.Choice.{Choice, answer_choice, choice_of, faults, finishes, holds, idles, issue_choice, issues, next_choice, passes, replies, said, serves, touches_page, turn_choice}
 use Rattle.m88_event.specs.Local.{with_move_counted, local_at, move, move_by, said_by, situation_of}
 use Rattle.m88_event.specs.Shadow.{retired_pointer}
 use Rattle.m88_event.specs.Letters.{letter_at}
 use Rattle.m88_event.specs.Run.{moment_after}
 use Rattle.m88_event.specs.Situation.{record_of}
-use Rattle.m88_event.specs.Timeline.{DoneWereMade, Moment, opening_moment, absent_at, after_choice, after_letter, end_at, end_of_turn, is_idle, with_event, said_at, situation_at, xip_at}
+use Rattle.m88_event.specs.Timeline.{DoneWereMade, Moment, opening_moment, absent_at, after_choice, after_letter, end_at, end_of_turn, with_event, said_at, situation_at, xip_at}
 use Rattle.m88_event.specs.declared.happened.End.{End}
 use Rattle.m88_event.specs.declared.letter.Letter.{Letter}
 use Rattle.m88_event.specs.declared.letter.Letter.TheVariants.{Issue, Answer}

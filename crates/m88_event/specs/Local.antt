@@ -1,7 +1,7 @@
 -- What a board looks like from outside, with no word of the program's beginning: the state that its pending
 -- transactions lead to, memory as it is now, these transactions, marks, absent pages, counts and records; and what a
 -- letter makes of it.
-use Rattle.std.specs.Prelude.{ℕ, Bool, true, false, not, List, [], ◌∷◌, ◌++◌, Option, Some, None, ◌+◌, ◌==◌, ◌&&◌, ◌||◌, drop, is_some, length, slice_index, take, if◌then◌else◌}
+use Rattle.std.specs.Prelude.{ℕ, Bool, false, not, List, [], ◌∷◌, ◌++◌, Option, Some, None, ◌+◌, ◌==◌, ◌&&◌, ◌||◌, drop, is_some, length, slice_index, take, if◌then◌else◌}
 use Rattle.m88_isa.specs.Bus.{bus_after_all, waits_for}
 use Rattle.m88_isa.specs.History.{Completed, after_turn, bus_at, change_accesses, completed_state, pending_at}
 use Rattle.m88_isa.specs.Held.{is_pending}
@@ -105,9 +105,9 @@ said_by p limit letter l = said (choice_by p limit letter l) (record_by p limit 
 abbrev pub is_over_by : ℕ → Local → Bool
 is_over_by limit l = not (is_pending l.pending) && (is_some l.ended || l.retired == limit)
 
--- a register that waits has no value yet; every other has that of the state
-abbrev pub register_seen : Local → ℕ → Option ℕ
-register_seen l register = if waits_for l.pending register then None else Some (slice_index l.completed.regs register)
+-- what is shown of a register: one that a pending load is to fill has no value yet, every other has that of the state
+abbrev pub register_seen : List Access → List ℕ → ℕ → Option ℕ
+register_seen pending regs register = if waits_for pending register then None else Some (slice_index regs register)
 
 -- what a moment looks like
 unfoldable pub local_at : Program → (ℕ → Bool) → Moment → Local

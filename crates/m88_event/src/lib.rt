@@ -1,7 +1,7 @@
 //! The timeline of a run on the board: schedules of letters, the events that they make, and what a run comes to.
 //! The definitions in `specs/` say it over the history of the sequential machine, with a count of the instructions
-//! that are retired and one of the transactions that are done. What moves as a board looks goes the same way, which
-//! is proved (`moves_follow_the_timeline`).
+//! that are retired and one of the transactions that are done. That what moves as a board looks goes the same way, and
+//! that every run is over, stands in `proofs/`; the calls of a board promise it.
 #![tactic(auto)]
 
 // the letters of a run
@@ -14,14 +14,10 @@ mod record;
 
 // what it comes to
 mod outcome;
-
-// how a board goes along it
-mod law;
 #[cfg(test)]
 mod tests;
 
 pub use happened::{End, Happened, Why};
-pub use law::moves_follow_the_timeline;
 pub use letter::Letter;
 pub use outcome::Outcome;
 pub use record::Record;

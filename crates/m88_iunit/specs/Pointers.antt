@@ -31,8 +31,8 @@ abbrev pub mark_bit : Bool → ℕ
 mark_bit mark = if mark then 1 else 0
 
 -- the word of a pointer: the address in bits 31 to 2, V in bit 1, E in bit 0
-abbrev pub word_of : Slot → ℕ
-word_of slot = slot.addr + 2 * mark_bit slot.v + mark_bit slot.e
+abbrev pub slot_word : Slot → ℕ
+slot_word slot = slot.addr + 2 * mark_bit slot.v + mark_bit slot.e
 
 -- the pointer of a word
 abbrev pub slot_of : ℕ → Slot

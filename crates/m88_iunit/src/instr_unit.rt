@@ -1,6 +1,6 @@
 //! The three instruction pointers and how they move.
 ghost use Rattle.std.specs.Prelude.{◌≡◌, ◌%◌, true, false};
-ghost use Rattle.m88_iunit.specs.Pointers.{AreWordSlots, IsWordSlot, advanced, at_entry, no_slot, resumed, slot_of, squashed_slot, valid_slot, word_behind, word_of};
+ghost use Rattle.m88_iunit.specs.Pointers.{AreWordSlots, IsWordSlot, advanced, at_entry, no_slot, resumed, slot_of, squashed_slot, valid_slot, word_behind, slot_word};
 
 use crate::slot::Slot;
 use std::marker::Model;
@@ -113,17 +113,22 @@ impl InstrUnit {
     /// The words of XIP, NIP and FIP, which an exception saves. Resuming by the last two of them leaves the
     /// pointers as they are.
     pub fn shadow(&self) -> (u32, u32, u32)
-        ensures value { result ≡ (word_of self.now.xip, word_of self.now.nip, word_of self.now.fip) }
+        ensures value { result
+            ≡ (slot_word self.now.xip, slot_word self.now.nip, slot_word self.now.fip) }
         ensures kept { resumed self.now result.1 result.2 ≡ self.now }
     {
-        (word_of(self.xip), word_of(self.nip), word_of(self.fip))
+        (
+            slot_word(self.xip),
+            slot_word(self.nip),
+            slot_word(self.fip),
+        )
     }
 
     /// Goes on by the words of NIP and FIP that a return from an exception hands back.
     pub fn resume(&mut self, snip: u32, sfip: u32)
         ensures value { self.new ≡ resumed self.old snip sfip }
-        ensures nip { word_of self.new.nip ≡ snip }
-        ensures fip { word_of self.new.fip ≡ sfip }
+        ensures nip { slot_word self.new.nip ≡ snip }
+        ensures fip { slot_word self.new.fip ≡ sfip }
     {
         self.nip = slot_of(snip);
         self.fip = slot_of(sfip);
@@ -149,9 +154,9 @@ fn squashed(addr: u32) -> Slot
 }
 
 /// The word of a pointer.
-fn word_of(slot: Slot) -> u32
+fn slot_word(slot: Slot) -> u32
     requires { IsWordSlot slot }
-    ensures value { result ≡ word_of slot }
+    ensures value { result ≡ slot_word slot }
     ensures back { slot_of result ≡ slot }
 {
     slot.addr + 2 * u32::from(slot.v) + u32::from(slot.e)
@@ -161,7 +166,7 @@ fn word_of(slot: Slot) -> u32
 fn slot_of(word: u32) -> Slot
     ensures value { result ≡ slot_of word }
     ensures aligned { IsWordSlot result }
-    ensures back { word_of result ≡ word }
+    ensures back { slot_word result ≡ word }
 {
     Slot {
         addr: word / 4 * 4,

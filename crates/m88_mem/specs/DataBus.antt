@@ -13,8 +13,8 @@ abbrev pub page_count : ℕ
 page_count = 2 ^ 20
 
 -- the image, the words that have a place of their own, each by its address / 4, and a mark for each page: it is ready,
--- it is absent. Where memory is refused while a page is made ready, some of its words may have got places, each with the
--- value that it had: no word of the data bus changes.
+-- it is absent. Where memory is refused while a page is made ready, some of its words may have got places, each with
+-- the value that it had: no word of the data bus changes.
 pub record MemoryView : Type 0 where
   pub image : ProgramImage
   pub words : List (ℕ × ℕ)

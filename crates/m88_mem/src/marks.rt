@@ -11,7 +11,8 @@ use std::alloc::Global;
 /// Marks that are all the same.
 pub(crate) fn marks(alloc: Global, count: usize, mark: bool) -> Result<Vec<bool>, NoMemory>
     ensures long { IfOk result (λ marks. vec_len marks ≡ count) }
-    ensures each { IfOk result (λ marks. (p : ℕ) → slice_index_or marks.items p false ≡ (nat_lt p count && mark)) }
+    ensures each { IfOk result (λ marks. (p : ℕ)
+        → slice_index_or marks.items p false ≡ (nat_lt p count && mark)) }
 {
     Ok(vec![in alloc; mark; count]?)
 }
@@ -20,7 +21,8 @@ pub(crate) fn marks(alloc: Global, count: usize, mark: bool) -> Result<Vec<bool>
 pub(crate) fn absent_marks(alloc: Global, absent: &Absent) -> Result<Vec<bool>, NoMemory>
     requires { NamesPages absent.now }
     ensures long { IfOk result (λ marks. vec_len marks ≡ page_count) }
-    ensures each { IfOk result (λ marks. (p : ℕ) → slice_index_or marks.items p false ≡ absent_in absent.now p) }
+    ensures each { IfOk result (λ marks. (p : ℕ)
+        → slice_index_or marks.items p false ≡ absent_in absent.now p) }
 {
     match absent {
         Absent::None => marks(alloc, PAGE_COUNT, false),

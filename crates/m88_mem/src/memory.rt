@@ -80,7 +80,8 @@ impl Memory {
     /// in the image.
     pub fn fetch(&self, addr: u32) -> Option<u32>
         requires { addr % 4 ≡ 0 }
-        ensures { option_map (λ word. to_be_bytes w32 word) result ≡ four_bytes (byte_at self.now.image) addr }
+        ensures { option_map (λ word. to_be_bytes w32 word) result
+            ≡ four_bytes (byte_at self.now.image) addr }
     {
         fetched(&self.image, addr)
     }
@@ -117,7 +118,8 @@ impl Memory {
         ensures image { self.new.image ≡ self.old.image }
         ensures bus { bus_of self.new ≡ bus_of self.old }
         ensures absent { absent_of self.new ≡ absent_of self.old }
-        ensures ready { OnOk result (ready_of self.new ≡ with_page (page_number addr) true (ready_of self.old)) }
+        ensures ready { OnOk result
+            (ready_of self.new ≡ with_page (page_number addr) true (ready_of self.old)) }
         ensures err { OnErr result (ready_of self.new ≡ ready_of self.old) }
     {
         if self.is_ready(addr) {

@@ -13,7 +13,8 @@ use m88_base::Image;
 /// The word at an address, where all its four bytes are there.
 pub(crate) fn fetched(image: &Image, addr: u32) -> Option<u32>
     requires { addr % 4 ≡ 0 }
-    ensures { option_map (λ word. to_be_bytes w32 word) result ≡ four_bytes (byte_at image.now) addr }
+    ensures { option_map (λ word. to_be_bytes w32 word) result
+        ≡ four_bytes (byte_at image.now) addr }
 {
     let bytes = [
         image.byte(addr)?,

@@ -56,7 +56,9 @@ after_access_at index a s = record {
 -- a triple that isn't valid changes nothing
 abbrev pub after_triple : ℕ → Serving → Serving
 after_triple index s =
-    if is_valid_triple (triple_at index s.control) then after_access_at index (access_in (triple_at index s.control)) s else s
+    if is_valid_triple (triple_at index s.control)
+    then after_access_at index (access_in (triple_at index s.control)) s
+    else s
 
 -- the three triples in order, the oldest first
 abbrev pub after_service : Serving → Serving

@@ -33,7 +33,8 @@ pub fn serve(ctrl: &mut Control, regs: &mut RegFile, memory: &mut Memory) -> Ser
     requires first { CanServeTriple (ready_of memory.old) ctrl.old.t0 }
     requires second { CanServeTriple (ready_of memory.old) ctrl.old.t1 }
     requires third { CanServeTriple (ready_of memory.old) ctrl.old.t2 }
-    ensures served { serving_of ctrl.new regs.new memory.new ≡ after_service (serving_of ctrl.old regs.old memory.old) }
+    ensures served { serving_of ctrl.new regs.new memory.new
+        ≡ after_service (serving_of ctrl.old regs.old memory.old) }
     ensures done { result.done ≡ valid_count ctrl.old }
     ensures waiting { waiting_of regs.new ≡ waiting_of regs.old }
     ensures image { memory.new.image ≡ memory.old.image }
@@ -52,7 +53,8 @@ fn serve_triple(ctrl: &mut Control, regs: &mut RegFile, memory: &mut Memory, ind
     requires index { index < 3 }
     requires waiting { waiting_of regs.old ≡ none_waits }
     requires triple { CanServeTriple (ready_of memory.old) (triple_at index ctrl.old) }
-    ensures served { serving_of ctrl.new regs.new memory.new ≡ after_triple index (serving_of ctrl.old regs.old memory.old) }
+    ensures served { serving_of ctrl.new regs.new memory.new
+        ≡ after_triple index (serving_of ctrl.old regs.old memory.old) }
     ensures count { result ≡ (if is_valid_triple (triple_at index ctrl.old) then 1 else 0) }
     ensures waiting { waiting_of regs.new ≡ waiting_of regs.old }
     ensures image { memory.new.image ≡ memory.old.image }
@@ -142,7 +144,8 @@ fn load(ctrl: &mut Control, regs: &mut RegFile, memory: &Memory, access: &Access
     requires serve { CanServe (ready_of memory.now) access.now }
     requires read { access.now.write ≡ false }
     requires waiting { waiting_of regs.old ≡ none_waits }
-    ensures numbers { regs.new.numbers ≡ with_register access.now.reg (loaded access.now (bus_of memory.now)) regs.old.numbers }
+    ensures numbers { regs.new.numbers
+        ≡ with_register access.now.reg (loaded access.now (bus_of memory.now)) regs.old.numbers }
     ensures waiting { waiting_of regs.new ≡ waiting_of regs.old }
     ensures control { ctrl.new ≡ with_loaded access.now ctrl.old }
 {
@@ -153,7 +156,8 @@ fn load(ctrl: &mut Control, regs: &mut RegFile, memory: &Memory, access: &Access
 
 /// Clears the bit of a register in SSBR.
 fn end_wait(ctrl: &mut Control, r: Reg)
-    ensures { ctrl.new ≡ record ctrl.old { ssbr = kept_of 3 (without_bit (number_of r) ctrl.old.ssbr) } }
+    ensures { ctrl.new
+        ≡ record ctrl.old { ssbr = kept_of 3 (without_bit (number_of r) ctrl.old.ssbr) } }
 {
     let Some(waiting) = ctrl.ldcr(cr::SSBR) else {
         unreachable!();

@@ -1,4 +1,4 @@
-//! Reports and lines of worked runs, whose texts weren't made by this program.
+//! Reports and lines of worked runs, and one text by hand; none was made by this program.
 
 use crate::{push_carry, push_end, push_record, push_registers, report};
 use m88_base::{Listed, NoMemory, Triple};
@@ -150,7 +150,8 @@ t2 00000000 00000000 00000000\n";
     Ok(())
 }
 
-/// Two changed words and two faults stand in their order, with an output, the carry and registers of each line.
+/// No run comes to this: the lines are written by hand from the format, so that two changed words, two faults, an
+/// output, the carry and a register of each line stand in one text.
 #[test]
 fn all_lines_at_once(rt: HostRuntime) -> Result<(), NoMemory> {
     let mut outcome = at_limit(rt.alloc(), 1_000_000, 4_294_967_296);

@@ -82,7 +82,8 @@ impl RegFile {
     /// A load into a register is under way: it waits, except r0.
     pub fn mark(&mut self, r: Reg)
         ensures numbers { self.new.numbers ≡ self.old.numbers }
-        ensures waiting { waiting_of self.new ≡ with_member (number_of r) true (waiting_of self.old) }
+        ensures waiting { waiting_of self.new
+            ≡ with_member (number_of r) true (waiting_of self.old) }
     {
         if r != Reg::ZERO {
             self.waits[r.index()] = true;
@@ -92,7 +93,8 @@ impl RegFile {
     /// The load into a register is answered: it waits no more.
     pub fn clear(&mut self, r: Reg)
         ensures numbers { self.new.numbers ≡ self.old.numbers }
-        ensures waiting { waiting_of self.new ≡ with_member (number_of r) false (waiting_of self.old) }
+        ensures waiting { waiting_of self.new
+            ≡ with_member (number_of r) false (waiting_of self.old) }
     {
         self.waits[r.index()] = false;
     }

@@ -10,7 +10,7 @@ returns-in_ok-push_line-in-Ok c =
     said_instruction c.in-Ok.instr c.args.word _ _ c.in-Ok.ensures.found
     (c.in_ok-push_line-in-Ok.ensures
     ∙ ap (λ (xs : List ℕ). c.args.text.now.items ++ (xs ++ line_end))
-    (c.as_bytes.ensures.value ∙ c.as_str.ensures.value ∙ c.text_of.ensures))
+    (c.as_bytes.ensures.value ∙ c.as_str.ensures.value ∙ c.text_of.ensures.value))
 
 pub returns-in_ok-push_hexadecimal-in-Err : goal.returns-in_ok-push_hexadecimal-in-Err
 returns-in_ok-push_hexadecimal-in-Err c =

@@ -1,13 +1,11 @@
 -- Each event answers one transaction at least, so that three are enough.
 use Rattle.std.specs.Prelude.{slice_get}
-use Rattle.std.proofs.Common.{arith, length, refl, suc, subst, sym, ◌≡◌, ◌≤◌, ◌∙◌, ℕ}
+use Rattle.std.proofs.Common.{arith, length, refl, suc, subst, sym, ◌≡◌, ◌≤◌, ◌∙◌}
 use Rattle.std.proofs.lemmas.Result.{err_from_is_err_and}
-use Rattle.m88_event.specs.Run.{IsDrain, answered_after}
-use Rattle.m88_isa.specs.declared.planned.Access.{Access}
+use Rattle.m88_event.specs.Run.{answered_after}
 use Rattle.m88_board.proofs.Choosing.{none_pending, some_count, some_pending}
 use Rattle.m88_board.proofs.Running.{drains_end, drains_start, drains_step, still_at}
 use Rattle.m88_board.specs.Board.{BoardView}
-use Rattle.m88_board.specs.Moves.{IsAlong}
 use Rattle.m88_board.proofs.board.Board.drain.Goals as goal
 
 pub loop-self-init : goal.loop-self-init
@@ -27,10 +25,12 @@ loop-self-preserved g c =
     record {
       counted = omega (arith, some, few, counted, shorter, before);
       drains = λ p named m is at.
-          let drains = c.loop-self.invariant.drains p named m is at in
-          (suc drains.0, drains_step p named m drains.0 c.args.self.now c.loop-self.self c.step.new.self _ _ _ drains.1
-          (some_pending c.loop-self.self.pending c.oldest.result oldest (sym c.is_some.ensures ∙ c.loop-self-test.true))
-          (c.in_ok-step.ensures.ok p named (answered_after p named c.args.self.now.limit m drains.0) is drains.1.along.at));
+          let drains = c.loop-self.invariant.drains p named m is at in (
+            suc drains.0,
+            drains_step p named m drains.0 c.args.self.now c.loop-self.self c.step.new.self _ _ _ drains.1
+                (some_pending c.loop-self.self.pending c.oldest.result oldest (sym c.is_some.ensures ∙ c.loop-self-test.true))
+                (c.in_ok-step.ensures.ok p named (answered_after p named c.args.self.now.limit m drains.0) is drains.1.along.at),
+          );
     }
 
 pub returns-clause-empty : goal.returns-clause-empty
@@ -51,9 +51,12 @@ pub returns-in_err-step-clause-err : goal.returns-in_err-step-clause-err
 returns-in_err-step-clause-err g c =
     let p = err_from_is_err_and c.from_residual.result c.from_residual.ensures.1 in
     rw (p.1) (λ p named m is at.
-    let drains = c.loop-self.invariant.drains p named m is at in
-    (drains.0, drains.1.draining, record {
-      at = still_at p named (answered_after p named c.args.self.now.limit m drains.0) c.loop-self.self c.step.new.self
-          c.in_err-step.ensures.err drains.1.along.at;
-      saw = rw c.in_err-step.ensures.unseen drains.1.along.saw;
-    }))
+    let drains = c.loop-self.invariant.drains p named m is at in (
+      drains.0,
+      drains.1.draining,
+      record {
+        at = still_at p named (answered_after p named c.args.self.now.limit m drains.0) c.loop-self.self c.step.new.self
+            c.in_err-step.ensures.err drains.1.along.at;
+        saw = rw c.in_err-step.ensures.unseen drains.1.along.saw;
+      },
+    ))

@@ -1,8 +1,5 @@
 -- The event is the move of what is seen, and so goes along the timeline.
 use Rattle.m88_board.proofs.Moving.{along, moved_by, precise_on, says_so}
-use Rattle.m88_isa.specs.Machine.{Program}
-use Rattle.m88_isa.specs.ImageProgram.{IsProgramOf}
-use Rattle.m88_board.specs.Moves.{IsMove}
 use Rattle.m88_board.proofs.board.Board.event.Goals as goal
 
 pub returns-clause-moved : goal.returns-clause-moved

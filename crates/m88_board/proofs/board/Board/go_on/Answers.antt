@@ -1,6 +1,5 @@
 -- The run goes on from moment to moment, until it is over or the bound is reached, where it is over too.
-use Rattle.std.proofs.Common.{ap, arith, subst, sym, ◌≡◌, ◌≤◌, ◌∙◌, ◌+◌, ◌*◌, length, ℕ}
-use Rattle.m88_event.specs.Letters.{letter_at}
+use Rattle.std.proofs.Common.{ap, arith, subst, sym, ◌≡◌, ◌∙◌, ◌+◌, ℕ}
 use Rattle.m88_event.specs.Run.{IsRun, moment_after}
 use Rattle.m88_event.specs.declared.letter.Letter.{Letter}
 use Rattle.m88_board.proofs.Running.{runs_end, runs_out, runs_start, runs_step}

@@ -1,6 +1,6 @@
 -- The letter of an event is the schedule's, or comes in turn.
-use Rattle.std.specs.Prelude.{ℕ, Option, Some, slice_get, unwrap_or, ◌≡◌, ◌-◌, ◌%◌, ◌==◌, length, true, false}
-use Rattle.std.proofs.Common.{ap, arith, sym, ◌∙◌}
+use Rattle.std.specs.Prelude.{Option, unwrap_or, ◌≡◌, ◌-◌, ◌%◌, ◌==◌, length, true, false}
+use Rattle.std.proofs.Common.{ap, arith, sym}
 use Rattle.std.proofs.lemmas.Bool.Decides.{nat_tests}
 use Rattle.m88_event.proofs.Bound.{behind}
 use Rattle.m88_event.specs.Letters.{in_turn, letter_at}

@@ -1,0 +1,8 @@
+-- The registers at a moment.
+use Rattle.m88_board.proofs.Shown.{registers_seen}
+use Rattle.m88_board.specs.contracts.board.Board.{the_view}
+use Rattle.m88_board.proofs.board.Board.regfile.Goals as goal
+
+pub returns-clause-moment : goal.returns-clause-moment
+returns-clause-moment c = λ p named m at.
+    registers_seen p named m (the_view c.self.inside) (rw (← c.self.view_is) at at) c.self.invariant

@@ -1,0 +1,259 @@
+-- Texts that are put together from parts, each one token of the assembly language, and the tokens that they are.
+use Rattle.std.proofs.Common.{◌≡◌, ◌≢◌, ℕ, zero, suc, ◌+◌, ◌/◌, ◌%◌, ◌<◌, ◌≤◌, ◌^◌, Bool, true, false, ◌&&◌, ◌||◌, nat_lt, inl, inr, List, [], ◌∷◌, ◌++◌, length, get_or, refl, sym, ap, ◌∙◌, arith, lit<, append-nil, length-append, lt-ltb, ltb-true, codes, decimal}
+use Rattle.std.specs.Prelude.{flat_map}
+use Rattle.std.specs.Char.{digit_value}
+use Rattle.std.specs.List.{list_all}
+use Rattle.std.specs.Str.Parse.{AllDigits, digits_value}
+use Rattle.std.proofs.lemmas.Bool.Decides.{nat_tests}
+use Rattle.std.proofs.lemmas.Fmt.{decimal_digit, decimal_is_IsNumeral, first_decimal, length-decimal-le}
+use Rattle.std.proofs.lemmas.List.Folds.{list_all-append}
+use Rattle.std.proofs.lemmas.List.Sums.{AllPass-from_list_all}
+use Rattle.m88_base.specs.Hex.{hex_digit, hex2, hex8}
+use Rattle.m88_base.specs.Name.{IsName, begins_name, continues_name}
+use Rattle.m88_base.proofs.Hexadecimal.{value_of_hex8}
+use Rattle.m88_isa.specs.Mnemonic.{text_of}
+use Rattle.m88_isa.specs.declared.mnemonic.Mnemonic.{Mnemonic}
+use Rattle.m88_isa.specs.declared.mnemonic.Mnemonic.TheVariants as m
+use Rattle.m88_parse.specs.Language.Bytes.{are_digits, is_mark}
+use Rattle.m88_parse.specs.Language.Pieces.{Piece, TokenValue, a_name, a_number, a_mark}
+use Rattle.m88_parse.specs.Language.Tokens.{AreNameBytes, AreTokens, Begins, BeginsWithNoNameByte, HasNoNeedlessZero, IsDecimal, IsToken, LineTokens}
+
+-- a name, a number in decimal, a number in hexadecimal by its digits, or a mark
+pub data Part : Type 0 where
+  part_name : List ℕ → Part
+  part_number : ℕ → Part
+  part_hex : List ℕ → ℕ → Part
+  part_mark : ℕ → Part
+
+abbrev pub part_text : Part → List ℕ
+part_text (part_name name) = name
+part_text (part_number n) = decimal n
+part_text (part_hex digits n) = 48 ∷ 120 ∷ digits
+part_text (part_mark b) = b ∷ []
+
+abbrev pub part_says : Part → TokenValue
+part_says (part_name name) = a_name name
+part_says (part_number n) = a_number n
+part_says (part_hex digits n) = a_number n
+part_says (part_mark b) = a_mark b
+
+abbrev pub is_mark_part : Part → Bool
+is_mark_part (part_mark b) = true
+is_mark_part _ = false
+
+-- the text of a part is a token
+abbrev pub IsGood : Part → Type 0
+IsGood (part_name name) = IsName name
+IsGood (part_number n) = n < 2 ^ 32
+IsGood (part_hex digits n) =
+    (0 < length digits) × (are_digits 16 digits ≡ true) × (n ≡ digits_value 16 digits) × (n < 2 ^ 32)
+IsGood (part_mark b) = (is_mark b ≡ true) × (continues_name b ≡ false)
+
+abbrev pub AreGood : List Part → Type 0
+AreGood [] = Unit {0}
+AreGood (p ∷ ps) = IsGood p × AreGood ps
+
+-- no two names or numbers stand side by side
+abbrev pub parted_from : Part → List Part → Bool
+parted_from p [] = true
+parted_from p (q ∷ qs) = is_mark_part q || is_mark_part p
+
+abbrev pub are_parted : List Part → Bool
+are_parted [] = true
+are_parted (p ∷ ps) = parted_from p ps && are_parted ps
+
+abbrev pub parts_text : List Part → List ℕ
+parts_text ps = flat_map part_text ps
+
+-- a part as a token at a column, and parts from a column on
+abbrev pub piece_of : ℕ → Part → Piece
+piece_of col p = record { text = part_text p; col = col; says = part_says p }
+
+abbrev pub pieces : ℕ → List Part → List Piece
+pieces col [] = []
+pieces col (p ∷ ps) = piece_of col p ∷ pieces (col + length (part_text p)) ps
+
+-- tests that hold both
+both : (a b : Bool) → (a && b) ≡ true → (a ≡ true) × (b ≡ true)
+both true b e = (refl, e)
+both false b e = absurd cc
+
+-- decimal digits
+are_all : (base : ℕ) (ds : List ℕ) → AllDigits base ds → are_digits base ds ≡ true
+are_all base [] h = refl
+are_all base (d ∷ ds) h =
+    ap (λ (t : Bool). t && are_digits base ds) (lt-ltb (digit_value d) base h.0) ∙ are_all base ds h.1
+
+decimal_leads : (n : ℕ) → n < 2 ^ 64 → get_or (decimal n) 0 0 ≡ 48 → length (decimal n) ≡ 1
+decimal_leads zero small e = ap length (decimal_digit 0 (omega arith))
+decimal_leads (suc n) small e = let first = first_decimal (suc n) (omega arith) small in absurd (omega arith)
+
+is_short : (text : List ℕ) → (get_or text 0 0 ≡ 48 → length text ≡ 1) → HasNoNeedlessZero text
+is_short [] f = tt
+is_short (d ∷ []) f = tt
+is_short (d ∷ e ∷ ds) f = λ is. let k = f is in absurd (omega (arith, k))
+
+decimal_is : (n : ℕ) → n < 2 ^ 32 → IsDecimal (decimal n) n
+decimal_is n h =
+    let small : n < 2 ^ 64 = omega arith in
+    let k = decimal_is_IsNumeral n small in
+    record {
+      some = k.0.0;
+      digits = are_all 10 (decimal n) k.0.1;
+      short = is_short (decimal n) (decimal_leads n small);
+      value = sym k.1;
+    }
+
+good_token : (p : Part) → IsGood p → IsToken (part_text p) (part_says p)
+good_token (part_name name) h = (refl, h)
+good_token (part_number n) h = inl (inl (decimal_is n h), h)
+good_token (part_hex digits n) h =
+    inl (inr (record { digits = digits; bytes = refl; some = h.0; hexadecimal = h.1; value = h.2 }), h.3)
+good_token (part_mark b) h = (refl, h.0)
+
+-- a name or a number is as long as it can be
+ends : (p : Part) (ps : List Part) → IsGood p → AreGood ps → parted_from p ps ≡ true
+    → AreNameBytes (part_text p) → BeginsWithNoNameByte (parts_text ps)
+ends p [] g gs a h = tt
+ends (part_mark b) (q ∷ qs) g gs a h = let e = both (continues_name b) true h in absurd cc
+ends p (part_mark b ∷ qs) g gs a h = gs.0.1
+ends _ (_ ∷ qs) g gs a h = absurd cc
+
+-- parts are their tokens
+tokens_of : (col : ℕ) (ps : List Part) → AreGood ps → are_parted ps ≡ true → AreTokens col (parts_text ps) (pieces col ps)
+tokens_of col [] gs a = record { gap = []; tail = []; bytes_are = refl; blank = refl; comment = tt }
+tokens_of col (p ∷ ps) gs a =
+    let k = both (parted_from p ps) (are_parted ps) a in (
+      parts_text ps,
+      record {
+        gap = [];
+        bytes_are = refl;
+        blank = refl;
+        place = omega arith;
+        token = good_token p gs.0;
+        longest = ends p ps gs.0 gs.1 k.0;
+      },
+      tokens_of (col + length (part_text p)) ps gs.1 k.1,
+    )
+
+-- the tokens of an operation by its name and of its operands behind a blank
+abbrev pub line_pieces : List ℕ → List Part → List Piece
+line_pieces op ps = piece_of 1 (part_name op) ∷ pieces (1 + length op + 1) ps
+
+pub line_tokens : (op : List ℕ) (p : Part) (ps : List Part) → IsName op → AreGood (p ∷ ps) → are_parted (p ∷ ps) ≡ true
+    → LineTokens (op ++ 32 ∷ parts_text (p ∷ ps)) (line_pieces op (p ∷ ps))
+line_tokens op p ps name gs a =
+    let k = both (parted_from p ps) (are_parted ps) a in (
+      32 ∷ parts_text (p ∷ ps),
+      record {
+        gap = [];
+        bytes_are = refl;
+        blank = refl;
+        place = refl;
+        token = (refl, name);
+        longest = λ h. refl;
+      },
+      (
+        parts_text ps,
+        record {
+          gap = 32 ∷ [];
+          bytes_are = refl;
+          blank = refl;
+          place = refl;
+          token = good_token p gs.0;
+          longest = ends p ps gs.0 gs.1 k.0;
+        },
+        tokens_of (1 + length op + 1 + length (part_text p)) ps gs.1 k.1,
+      ),
+    )
+
+-- a name alone
+pub name_token : (op : List ℕ) → IsName op → LineTokens op (piece_of 1 (part_name op) ∷ [])
+name_token op name = (
+  [],
+  record {
+    gap = [];
+    bytes_are = sym (append-nil op);
+    blank = refl;
+    place = refl;
+    token = (refl, name);
+    longest = λ h. tt;
+  },
+  record { gap = []; tail = []; bytes_are = refl; blank = refl; comment = tt },
+)
+
+-- a test of names
+abbrev pub is_name_text : List ℕ → Bool
+is_name_text [] = false
+is_name_text (b ∷ bs) = (begins_name b && nat_lt (length bs) 64) && list_all continues_name bs
+
+name_passes : (text : List ℕ) → is_name_text text ≡ true → IsName text
+name_passes [] e = absurd cc
+name_passes (b ∷ bs) e =
+    let h = both (begins_name b && nat_lt (length bs) 64) (list_all continues_name bs) e in
+    let k = both (begins_name b) (nat_lt (length bs) 64) h.0 in
+    (k.0, AllPass-from_list_all continues_name bs h.1, ltb-true (length bs) 64 k.1)
+
+pub word_name : (text : List ℕ) → is_name_text text ≡ true → IsName text
+word_name text e = name_passes text e
+
+mnemonic_passes : (mnemonic : Mnemonic) → is_name_text (text_of mnemonic) ≡ true
+unfolding text_of
+mnemonic_passes m.XmemBu = refl
+mnemonic_passes _ = refl
+
+pub mnemonic_name : (mnemonic : Mnemonic) → IsName (text_of mnemonic)
+mnemonic_name mnemonic = name_passes (text_of mnemonic) (mnemonic_passes mnemonic)
+
+-- digits go on with a name
+digit_continues : (d : ℕ) → digit_value d < 10 → continues_name d ≡ true
+digit_continues d h = grind (arith, nat_tests)
+
+digits_continue : (ds : List ℕ) → AllDigits 10 ds → list_all continues_name ds ≡ true
+digits_continue [] h = refl
+digits_continue (d ∷ ds) h =
+    ap (λ (t : Bool). t && list_all continues_name ds) (digit_continues d h.0) ∙ digits_continue ds h.1
+
+-- letters and a short number
+pub numbered_name : (first : ℕ) (letters : List ℕ) (n : ℕ) → begins_name first ≡ true → list_all continues_name letters ≡ true
+    → length letters ≤ 3 → n < 100 → IsName (first ∷ letters ++ decimal n)
+numbered_name first letters n b ls short small =
+    let k = decimal_is_IsNumeral n (omega arith) in
+    let digits : list_all continues_name (decimal n) ≡ true = digits_continue (decimal n) k.0.1 in
+    let all : list_all continues_name (letters ++ decimal n) ≡ true =
+    rw (list_all-append continues_name letters (decimal n), ls, digits) refl in
+    let few : length (decimal n) ≤ 2 = length-decimal-le 2 n (omega arith) (omega arith) (omega arith) in
+    let len : length (letters ++ decimal n) ≡ length letters + length (decimal n) = length-append letters (decimal n) in
+    (b, AllPass-from_list_all continues_name (letters ++ decimal n) all, omega (arith, few, len))
+
+-- hexadecimal digits
+one_digit : (d : ℕ) → d < 16 → nat_lt (digit_value (hex_digit d)) 16 ≡ true
+one_digit d h = grind (arith, nat_tests)
+
+eight_digits : (n : ℕ) → are_digits 16 (hex8 n) ≡ true
+eight_digits n =
+    rw (
+      one_digit (n / 268435456 % 16) (omega arith),
+      one_digit (n / 16777216 % 16) (omega arith),
+      one_digit (n / 1048576 % 16) (omega arith),
+      one_digit (n / 65536 % 16) (omega arith),
+      one_digit (n / 4096 % 16) (omega arith),
+      one_digit (n / 256 % 16) (omega arith),
+      one_digit (n / 16 % 16) (omega arith),
+      one_digit (n / 1 % 16) (omega arith),
+    ) refl
+
+pub word_part_good : (n : ℕ) → n < 2 ^ 32 → IsGood (part_hex (hex8 n) n)
+word_part_good n small = (lit< tt, eight_digits n, sym (value_of_hex8 n small), small)
+
+digit_back : (d : ℕ) → d < 16 → digit_value (hex_digit d) ≡ d
+digit_back d h = grind (arith, nat_tests)
+
+two_digits : (n : ℕ) → are_digits 16 (hex2 n) ≡ true
+two_digits n = rw (one_digit (n / 16 % 16) (omega arith), one_digit (n / 1 % 16) (omega arith)) refl
+
+value_of_hex2 : (n : ℕ) → n < 2 ^ 8 → digits_value 16 (hex2 n) ≡ n
+value_of_hex2 n small = rw (digit_back (n / 16 % 16) (omega arith), digit_back (n / 1 % 16) (omega arith)) (omega arith)
+
+pub byte_part_good : (n : ℕ) → n < 2 ^ 8 → IsGood (part_hex (hex2 n) n)
+byte_part_good n small = (lit< tt, two_digits n, sym (value_of_hex2 n small), omega arith)

@@ -1,0 +1,354 @@
+-- The text of each instruction is read as that instruction.
+use Rattle.std.proofs.Common.{◌≡◌, ◌≢◌, ℕ, ℤ, pos, negsuc, ◌+◌, ◌*◌, ◌<◌, ◌≤◌, ◌^◌, Bool, true, false, ◌==◌, inl, inr, List, [], ◌∷◌, ◌++◌, length, refl, sym, ap, subst, ◌∙◌, arith, append_assoc, append-nil, codes, decimal, eqb-true}
+use Rattle.std.specs.Prelude.{None, Some, flat_map, if◌then◌else◌}
+use Rattle.m88_base.specs.Hex.{hex2, hex8}
+use Rattle.m88_base.specs.Reg.{number_of}
+use Rattle.m88_base.specs.Name.{IsName}
+use Rattle.m88_base.specs.declared.reg.Reg.{Reg}
+use Rattle.m88_isa.specs.Instr.{FitsWords, IsValid, IsWidth}
+use Rattle.m88_isa.specs.Mnemonic.{text_of}
+use Rattle.m88_isa.specs.Word.{word_of}
+use Rattle.m88_isa.specs.declared.instr.BitOp.{BitOp}
+use Rattle.m88_isa.specs.declared.instr.BitOp.TheVariants as bits
+use Rattle.m88_isa.specs.declared.instr.Instr.{Instr}
+use Rattle.m88_isa.specs.declared.instr.Instr.TheVariants as instr
+use Rattle.m88_isa.specs.declared.mnemonic.Mnemonic.{Mnemonic}
+use Rattle.m88_isa.specs.declared.mnemonic.Mnemonic.TheVariants as m
+use Rattle.m88_parse.specs.Language.Names.{IsCondition}
+use Rattle.m88_parse.specs.Language.Operands.{AreOperands, most_width}
+use Rattle.m88_parse.specs.Language.Pieces.{Piece, a_mark, a_name, a_number}
+use Rattle.m88_parse.specs.Language.Shapes.{shape_of}
+use Rattle.m88_parse.specs.Language.Statements.{BeginsWithNoColon, code, one, unlabelled, word}
+use Rattle.m88_parse.specs.declared.unit.Value.TheVariants.{Number}
+use Rattle.m88_parse.specs.Language.Words.{condition_named}
+use Rattle.m88_parse.specs.declared.unit.Body.{Body}
+use Rattle.m88_parse.specs.declared.unit.Body.TheVariants as body
+use Rattle.m88_disasm.specs.Mnemonics.{of_imm, of_reg, of_mem, of_index, of_lda, of_bits, of_find, of_branch, of_branch_bit, of_branch_cond, of_jump, of_trap_bit, of_ldcr, of_stcr, of_xcr}
+use Rattle.m88_disasm.specs.Read.{IsReadAs, said_by}
+use Rattle.m88_disasm.specs.Text.{condition, control, field, hexadecimal, instr_text, register, scaled, spelled, target, word_text}
+use Rattle.m88_disasm.proofs.Parts.{AreGood, IsGood, Part, are_parted, is_mark_part, is_name_text, line_pieces, line_tokens, mnemonic_name, name_token, numbered_name, part_hex, part_mark, part_name, part_number, part_says, part_text, parts_text, piece_of, pieces, word_name, word_part_good}
+use Rattle.m88_disasm.proofs.Forms.{bits_register_form, bound_number_form, bound_register_form, branch_bit_form, branch_cond_form, branch_form, distance_of, field_form, find_form, imm_form, jump_form, lda_form, ldcr_form, mem_imm_form, mem_index_form, mem_scaled_form, reg_form, return_form, rotation_form, sign_of, stcr_form, trap_bit_form, trap_cond_form, xcr_form}
+
+-- no mark comes first, so no colon
+no_colon : (col : ℕ) (p : Part) (ps : List Part) → is_mark_part p ≡ false → BeginsWithNoColon (pieces col (p ∷ ps))
+no_colon col (part_mark b) ps e = absurd cc
+no_colon col _ ps e = λ h. cc
+
+-- a mnemonic and operands that are an instruction's
+says_code : (mnemonic : Mnemonic) (p : Part) (ps : List Part) (i : Instr) (number : ℕ) (text : List ℕ)
+    → text ≡ text_of mnemonic ++ 32 ∷ parts_text (p ∷ ps) → AreGood (p ∷ ps) → are_parted (p ∷ ps) ≡ true
+    → is_mark_part p ≡ false
+    → AreOperands (shape_of mnemonic) (pieces (1 + length (text_of mnemonic) + 1) (p ∷ ps)) i None
+    → IsReadAs number text (body.Code i None)
+says_code mnemonic p ps i number text text_is goods parted first operands =
+    let line : List ℕ = text_of mnemonic ++ 32 ∷ parts_text (p ∷ ps) in
+    let said : IsReadAs number line (body.Code i None) = record {
+      tokens = line_pieces (text_of mnemonic) (p ∷ ps);
+      are_tokens = line_tokens (text_of mnemonic) p ps (mnemonic_name mnemonic) goods parted;
+      statement =
+          unlabelled (code mnemonic refl operands) (no_colon (1 + length (text_of mnemonic) + 1) p ps first);
+    } in
+    subst (λ (l : List ℕ). IsReadAs number l (body.Code i None)) (sym text_is) said
+
+-- names and marks
+abbrev reg_part : Reg → Part
+reg_part r = part_name (register r)
+
+abbrev comma : Part
+comma = part_mark 44
+
+reg_good : (r : Reg) → IsGood (reg_part r)
+reg_good r = let below : number_of r < 32 = r.in_range in
+    numbered_name 114 [] (number_of r) refl refl (omega arith) (omega arith)
+
+control_good : (float : Bool) (cr : ℕ) → cr < 64 → IsGood (part_name (control float cr))
+control_good true cr small = numbered_name 102 (codes "cr") cr refl refl (omega arith) (omega arith)
+control_good false cr small = numbered_name 99 (codes "r") cr refl refl (omega arith) (omega arith)
+
+comma_good : IsGood comma
+comma_good = (refl, refl)
+
+-- a condition by its name or its number
+record ConditionPart (mask : ℕ) : Type 0 where
+  part : Part
+  text_is : condition mask ≡ part_text part
+  good : IsGood part
+  plain : is_mark_part part ≡ false
+  read : (p : Piece) → p.says ≡ part_says part → IsCondition mask p
+
+named_condition : (mask : ℕ) (name : List ℕ) → condition mask ≡ name → is_name_text name ≡ true
+    → condition_named name ≡ Some mask → ConditionPart mask
+named_condition mask name text_is good is = record {
+  part = part_name name;
+  text_is = text_is;
+  good = word_name name good;
+  plain = refl;
+  read = λ p e. inr (name, e, is);
+}
+
+condition_part : (mask : ℕ) → mask < 16 → ConditionPart mask
+unfolding condition condition_named
+condition_part mask small = by1 (mask == 1) refl
+  where
+    by6 : (t : Bool) → (mask == 1) ≡ false → (mask == 2) ≡ false → (mask == 3) ≡ false → (mask == 12) ≡ false
+        → (mask == 13) ≡ false → (mask == 14) ≡ t → ConditionPart mask
+    by6 true e1 e2 e3 e4 e5 e = subst ConditionPart (sym (eqb-true mask 14 e)) (named_condition 14 (codes "le0") refl refl refl)
+    by6 false e1 e2 e3 e4 e5 e = record {
+      part = part_number mask;
+      text_is = rw (e1, e2, e3, e4, e5, e) refl;
+      good = omega arith;
+      plain = refl;
+      read = λ p says. inl (says, small);
+    }
+    by5 : (t : Bool) → (mask == 1) ≡ false → (mask == 2) ≡ false → (mask == 3) ≡ false → (mask == 12) ≡ false
+        → (mask == 13) ≡ t → ConditionPart mask
+    by5 true e1 e2 e3 e4 e = subst ConditionPart (sym (eqb-true mask 13 e)) (named_condition 13 (codes "ne0") refl refl refl)
+    by5 false e1 e2 e3 e4 e = by6 (mask == 14) e1 e2 e3 e4 e refl
+    by4 : (t : Bool) → (mask == 1) ≡ false → (mask == 2) ≡ false → (mask == 3) ≡ false → (mask == 12) ≡ t
+        → ConditionPart mask
+    by4 true e1 e2 e3 e = subst ConditionPart (sym (eqb-true mask 12 e)) (named_condition 12 (codes "lt0") refl refl refl)
+    by4 false e1 e2 e3 e = by5 (mask == 13) e1 e2 e3 e refl
+    by3 : (t : Bool) → (mask == 1) ≡ false → (mask == 2) ≡ false → (mask == 3) ≡ t → ConditionPart mask
+    by3 true e1 e2 e = subst ConditionPart (sym (eqb-true mask 3 e)) (named_condition 3 (codes "ge0") refl refl refl)
+    by3 false e1 e2 e = by4 (mask == 12) e1 e2 e refl
+    by2 : (t : Bool) → (mask == 1) ≡ false → (mask == 2) ≡ t → ConditionPart mask
+    by2 true e1 e = subst ConditionPart (sym (eqb-true mask 2 e)) (named_condition 2 (codes "eq0") refl refl refl)
+    by2 false e1 e = by3 (mask == 3) e1 e refl
+    by1 : (t : Bool) → (mask == 1) ≡ t → ConditionPart mask
+    by1 true e = subst ConditionPart (sym (eqb-true mask 1 e)) (named_condition 1 (codes "gt0") refl refl refl)
+    by1 false e = by2 (mask == 2) e refl
+
+-- rD,rS1 and a number
+said_imm : (number : ℕ) (mnemonic : Mnemonic) (d s1 : Reg) (n : ℕ) (i : Instr) → n < 2 ^ 16
+    → AreOperands (shape_of mnemonic)
+    (pieces (1 + length (text_of mnemonic) + 1) (reg_part d ∷ comma ∷ reg_part s1 ∷ comma ∷ part_number n ∷ [])) i None
+    → IsReadAs number (spelled mnemonic (register d ∷ register s1 ∷ decimal n ∷ [])) (body.Code i None)
+said_imm number mnemonic d s1 n i small operands =
+    says_code mnemonic (reg_part d) (comma ∷ reg_part s1 ∷ comma ∷ part_number n ∷ []) i number _ refl
+    (reg_good d, (comma_good, (reg_good s1, (comma_good, (omega arith, tt))))) refl refl operands
+
+-- rD,rS1,rS2
+said_regs : (number : ℕ) (mnemonic : Mnemonic) (d s1 s2 : Reg) (i : Instr)
+    → AreOperands (shape_of mnemonic)
+    (pieces (1 + length (text_of mnemonic) + 1) (reg_part d ∷ comma ∷ reg_part s1 ∷ comma ∷ reg_part s2 ∷ [])) i None
+    → IsReadAs number (spelled mnemonic (register d ∷ register s1 ∷ register s2 ∷ [])) (body.Code i None)
+said_regs number mnemonic d s1 s2 i operands =
+    says_code mnemonic (reg_part d) (comma ∷ reg_part s1 ∷ comma ∷ reg_part s2 ∷ []) i number _ refl
+    (reg_good d, (comma_good, (reg_good s1, (comma_good, (reg_good s2, tt))))) refl refl operands
+
+-- two texts, each with a mark behind it
+marked_twice : (x y : ℕ) (a b : List ℕ) → (((a ++ x ∷ []) ++ b) ++ y ∷ []) ++ [] ≡ a ++ x ∷ (b ++ y ∷ [])
+marked_twice x y a b = append-nil (((a ++ x ∷ []) ++ b) ++ y ∷ []) ∙ simp append_assoc
+
+-- rD,rS1[rS2]
+said_scaled : (number : ℕ) (mnemonic : Mnemonic) (d s1 s2 : Reg) (i : Instr)
+    → AreOperands (shape_of mnemonic)
+    (pieces (1 + length (text_of mnemonic) + 1)
+    (reg_part d ∷ comma ∷ reg_part s1 ∷ part_mark 91 ∷ reg_part s2 ∷ part_mark 93 ∷ [])) i None
+    → IsReadAs number (spelled mnemonic (register d ∷ scaled s1 s2 ∷ [])) (body.Code i None)
+said_scaled number mnemonic d s1 s2 i operands =
+    says_code mnemonic (reg_part d) (comma ∷ reg_part s1 ∷ part_mark 91 ∷ reg_part s2 ∷ part_mark 93 ∷ []) i number _
+    (ap (λ (xs : List ℕ). text_of mnemonic ++ 32 ∷ (register d ++ 44 ∷ xs)) (marked_twice 91 93 (register s1) (register s2)))
+    (reg_good d, (comma_good, (reg_good s1, ((refl, refl), (reg_good s2, ((refl, refl), tt)))))) refl refl operands
+
+-- rD,rS1,W<O>
+said_field : (number : ℕ) (mnemonic : Mnemonic) (d s1 : Reg) (width offset : ℕ) (i : Instr) → width < 32 → offset < 32
+    → AreOperands (shape_of mnemonic)
+    (pieces (1 + length (text_of mnemonic) + 1)
+    (reg_part d ∷ comma ∷ reg_part s1 ∷ comma ∷ part_number width ∷ part_mark 60 ∷ part_number offset ∷ part_mark 62 ∷ []))
+    i None
+    → IsReadAs number
+    (spelled mnemonic (register d ∷ register s1 ∷ (decimal width ++ codes "<" ++ decimal offset ++ codes ">") ∷ []))
+    (body.Code i None)
+said_field number mnemonic d s1 width offset i wide small operands =
+    says_code mnemonic (reg_part d)
+    (comma ∷ reg_part s1 ∷ comma ∷ part_number width ∷ part_mark 60 ∷ part_number offset ∷ part_mark 62 ∷ []) i number _
+    (ap (λ (xs : List ℕ). text_of mnemonic ++ 32 ∷ (register d ++ 44 ∷ (register s1 ++ 44 ∷ xs))) (marked_twice 60 62 (decimal width) (decimal offset)))
+    (reg_good d, (comma_good, (reg_good s1, (comma_good, (omega arith, ((refl, refl), (omega arith, ((refl, refl), tt)))))))) refl refl operands
+
+-- rD,rS1,<O>
+said_rotation : (number : ℕ) (mnemonic : Mnemonic) (d s1 : Reg) (offset : ℕ) (i : Instr) → offset < 32
+    → AreOperands (shape_of mnemonic)
+    (pieces (1 + length (text_of mnemonic) + 1)
+    (reg_part d ∷ comma ∷ reg_part s1 ∷ comma ∷ part_mark 60 ∷ part_number offset ∷ part_mark 62 ∷ [])) i None
+    → IsReadAs number
+    (spelled mnemonic (register d ∷ register s1 ∷ (codes "<" ++ decimal offset ++ codes ">") ∷ []))
+    (body.Code i None)
+said_rotation number mnemonic d s1 offset i small operands =
+    says_code mnemonic (reg_part d)
+    (comma ∷ reg_part s1 ∷ comma ∷ part_mark 60 ∷ part_number offset ∷ part_mark 62 ∷ []) i number _
+    (ap (λ (xs : List ℕ). text_of mnemonic ++ 32 ∷ (register d ++ 44 ∷ (register s1 ++ 44 ∷ (60 ∷ xs)))) (append-nil (decimal offset ++ codes ">")))
+    (reg_good d, (comma_good, (reg_good s1, (comma_good, ((refl, refl), (omega arith, ((refl, refl), tt))))))) refl refl operands
+
+said_literal : (number : ℕ) (op : BitOp) (d s1 : Reg) (width offset : ℕ) → IsWidth op width → offset < 32
+    → IsReadAs number (spelled (of_bits op) (register d ∷ register s1 ∷ field op width offset ∷ []))
+    (body.Code (instr.BitLit op d s1 width offset) None)
+said_literal number bits.Rot d s1 width offset wide small =
+    said_rotation number (of_bits bits.Rot) d s1 offset (instr.BitLit bits.Rot d s1 width offset) small
+    (rotation_form d s1 width offset _ _ _ _ _ _ _ refl refl refl refl refl refl refl wide small)
+said_literal number op d s1 width offset wide small =
+    said_field number (of_bits op) d s1 width offset (instr.BitLit op d s1 width offset) wide small
+    (field_form op d s1 width offset _ _ _ _ _ _ _ _ refl refl refl refl refl refl refl refl (omega arith) small)
+
+-- two registers
+said_pair : (number : ℕ) (mnemonic : Mnemonic) (r s : Reg) (i : Instr)
+    → AreOperands (shape_of mnemonic) (pieces (1 + length (text_of mnemonic) + 1) (reg_part r ∷ comma ∷ reg_part s ∷ [])) i None
+    → IsReadAs number (spelled mnemonic (register r ∷ register s ∷ [])) (body.Code i None)
+said_pair number mnemonic r s i operands =
+    says_code mnemonic (reg_part r) (comma ∷ reg_part s ∷ []) i number _ refl
+    (reg_good r, (comma_good, (reg_good s, tt))) refl refl operands
+
+said_single : (number : ℕ) (mnemonic : Mnemonic) (r : Reg) (i : Instr)
+    → AreOperands (shape_of mnemonic) (pieces (1 + length (text_of mnemonic) + 1) (reg_part r ∷ [])) i None
+    → IsReadAs number (spelled mnemonic (register r ∷ [])) (body.Code i None)
+said_single number mnemonic r i operands =
+    says_code mnemonic (reg_part r) [] i number _ refl (reg_good r, tt) refl refl operands
+
+said_bound : (number : ℕ) (s1 : Reg) (n : ℕ) → n < 2 ^ 16
+    → IsReadAs number (spelled m.Tbnd (register s1 ∷ decimal n ∷ [])) (body.Code (instr.BoundImm s1 n) None)
+said_bound number s1 n small =
+    says_code m.Tbnd (reg_part s1) (comma ∷ part_number n ∷ []) (instr.BoundImm s1 n) number _ refl
+    (reg_good s1, (comma_good, (omega arith, tt))) refl refl (bound_number_form s1 n _ _ _ refl refl refl small)
+
+-- targets
+abbrev target_parts : ℤ → List Part
+target_parts words = part_name (codes ".") ∷ part_mark (sign_of words) ∷ part_number (distance_of words) ∷ []
+
+target_text : (words : ℤ) → target words ++ [] ≡ parts_text (target_parts words)
+target_text (pos n) = refl
+target_text (negsuc n) = refl
+
+target_good : (words : ℤ) → FitsWords 25 words → AreGood (target_parts words)
+target_good (pos n) fits = (word_name (codes ".") refl, ((refl, refl), (omega arith, tt)))
+target_good (negsuc n) fits = (word_name (codes ".") refl, ((refl, refl), (omega arith, tt)))
+
+wider : (words : ℤ) → FitsWords 15 words → FitsWords 25 words
+wider (pos n) fits = omega arith
+wider (negsuc n) fits = omega arith
+
+said_branch : (number : ℕ) (link delayed : Bool) (words : ℤ) → FitsWords 25 words
+    → IsReadAs number (spelled (of_branch link delayed) (target words ∷ [])) (body.Code (instr.Branch link delayed words) None)
+said_branch number link delayed words fits =
+    says_code (of_branch link delayed) (part_name (codes ".")) (part_mark (sign_of words) ∷ part_number (distance_of words) ∷ [])
+    (instr.Branch link delayed words) number _
+    (ap (λ (xs : List ℕ). text_of (of_branch link delayed) ++ 32 ∷ xs) (target_text words)) (target_good words fits) refl refl
+    (branch_form link delayed words _ _ _ fits refl refl refl)
+
+said_branch_bit : (number : ℕ) (set delayed : Bool) (bit : ℕ) (s1 : Reg) (words : ℤ) → bit < 32 → FitsWords 15 words
+    → IsReadAs number (spelled (of_branch_bit set delayed) (decimal bit ∷ register s1 ∷ target words ∷ []))
+    (body.Code (instr.BranchBit set delayed bit s1 words) None)
+said_branch_bit number set delayed bit s1 words small fits =
+    says_code (of_branch_bit set delayed) (part_number bit) (comma ∷ reg_part s1 ∷ comma ∷ target_parts words)
+    (instr.BranchBit set delayed bit s1 words) number _
+    (ap (λ (xs : List ℕ). text_of (of_branch_bit set delayed) ++ 32 ∷ (decimal bit ++ 44 ∷ (register s1 ++ 44 ∷ xs))) (target_text words))
+    (omega arith, (comma_good, (reg_good s1, (comma_good, target_good words (wider words fits))))) refl refl
+    (branch_bit_form set delayed bit s1 words _ _ _ _ _ _ _ refl small refl refl refl fits refl refl refl)
+
+said_branch_cond : (number : ℕ) (delayed : Bool) (mask : ℕ) (s1 : Reg) (words : ℤ) → ConditionPart mask → FitsWords 15 words
+    → IsReadAs number (spelled (of_branch_cond delayed) (condition mask ∷ register s1 ∷ target words ∷ []))
+    (body.Code (instr.BranchCond delayed mask s1 words) None)
+said_branch_cond number delayed mask s1 words c fits =
+    says_code (of_branch_cond delayed) c.part (comma ∷ reg_part s1 ∷ comma ∷ target_parts words)
+    (instr.BranchCond delayed mask s1 words) number _
+    (ap (λ (xs : List ℕ). text_of (of_branch_cond delayed) ++ 32 ∷ (condition mask ++ 44 ∷ (register s1 ++ 44 ∷ xs))) (target_text words)
+    ∙ ap (λ (ys : List ℕ). text_of (of_branch_cond delayed) ++ 32 ∷ (ys ++ 44 ∷ (register s1 ++ 44 ∷ parts_text (target_parts words)))) c.text_is)
+    (c.good, (comma_good, (reg_good s1, (comma_good, target_good words (wider words fits))))) refl c.plain
+    (branch_cond_form delayed mask s1 words _ _ _ _ _ _ _
+    (c.read (piece_of (1 + length (text_of (of_branch_cond delayed)) + 1) c.part) refl) refl refl refl fits refl refl refl)
+
+-- traps
+said_trap_bit : (number : ℕ) (set : Bool) (bit : ℕ) (s1 : Reg) (vector : ℕ) → bit < 32 → vector < 512
+    → IsReadAs number (spelled (of_trap_bit set) (decimal bit ∷ register s1 ∷ decimal vector ∷ []))
+    (body.Code (instr.TrapBit set bit s1 vector) None)
+said_trap_bit number set bit s1 vector small few =
+    says_code (of_trap_bit set) (part_number bit) (comma ∷ reg_part s1 ∷ comma ∷ part_number vector ∷ [])
+    (instr.TrapBit set bit s1 vector) number _ refl
+    (omega arith, (comma_good, (reg_good s1, (comma_good, (omega arith, tt))))) refl refl
+    (trap_bit_form set bit s1 vector _ _ _ _ _ refl small refl refl refl refl few)
+
+said_trap_cond : (number : ℕ) (mask : ℕ) (s1 : Reg) (vector : ℕ) → ConditionPart mask → vector < 512
+    → IsReadAs number (spelled m.Tcnd (condition mask ∷ register s1 ∷ decimal vector ∷ []))
+    (body.Code (instr.TrapCond mask s1 vector) None)
+said_trap_cond number mask s1 vector c few =
+    says_code m.Tcnd c.part (comma ∷ reg_part s1 ∷ comma ∷ part_number vector ∷ [])
+    (instr.TrapCond mask s1 vector) number _
+    (ap (λ (ys : List ℕ). text_of m.Tcnd ++ 32 ∷ (ys ++ 44 ∷ (register s1 ++ 44 ∷ (decimal vector ++ [])))) c.text_is)
+    (c.good, (comma_good, (reg_good s1, (comma_good, (omega arith, tt))))) refl c.plain
+    (trap_cond_form mask s1 vector _ _ _ _ _ (c.read (piece_of (1 + length (text_of m.Tcnd) + 1) c.part) refl) refl refl refl refl few)
+
+-- control registers
+said_control : (number : ℕ) (mnemonic : Mnemonic) (r : Reg) (float : Bool) (cr : ℕ) (i : Instr) → cr < 64
+    → AreOperands (shape_of mnemonic)
+    (pieces (1 + length (text_of mnemonic) + 1) (reg_part r ∷ comma ∷ part_name (control float cr) ∷ [])) i None
+    → IsReadAs number (spelled mnemonic (register r ∷ control float cr ∷ [])) (body.Code i None)
+said_control number mnemonic r float cr i small operands =
+    says_code mnemonic (reg_part r) (comma ∷ part_name (control float cr) ∷ []) i number _ refl
+    (reg_good r, (comma_good, (control_good float cr small, tt))) refl refl operands
+
+said_exchange : (number : ℕ) (d s1 : Reg) (float : Bool) (cr : ℕ) → cr < 64
+    → IsReadAs number (spelled (of_xcr float) (register d ∷ register s1 ∷ control float cr ∷ []))
+    (body.Code (instr.Xcr d s1 cr float) None)
+said_exchange number d s1 float cr small =
+    says_code (of_xcr float) (reg_part d) (comma ∷ reg_part s1 ∷ comma ∷ part_name (control float cr) ∷ [])
+    (instr.Xcr d s1 cr float) number _ refl
+    (reg_good d, (comma_good, (reg_good s1, (comma_good, (control_good float cr small, tt))))) refl refl
+    (xcr_form float d s1 cr _ _ _ _ _ refl refl refl refl refl small)
+
+-- the mnemonic alone
+said_return : (number : ℕ) → IsReadAs number (spelled m.Rte []) (body.Code instr.Rte None)
+said_return number =
+    let alone : IsReadAs number (text_of m.Rte) (body.Code instr.Rte None) = record {
+      tokens = line_pieces (text_of m.Rte) [];
+      are_tokens = name_token (text_of m.Rte) (mnemonic_name m.Rte);
+      statement = unlabelled (code m.Rte refl return_form) tt;
+    } in
+    subst (λ (l : List ℕ). IsReadAs number l (body.Code instr.Rte None)) (sym (append-nil (text_of m.Rte))) alone
+
+-- a word by itself
+pub said_word : (number w : ℕ) → w < 2 ^ 32 → IsReadAs number (word_text w) (body.Word (Number w ∷ []))
+said_word number w small = record {
+  tokens = line_pieces (codes ".word") (part_hex (hex8 w) w ∷ []);
+  are_tokens =
+      line_tokens (codes ".word") (part_hex (hex8 w) w) [] (word_name (codes ".word") refl) (word_part_good w small, tt) refl;
+  statement = unlabelled (word refl (one (refl, small))) (λ h. cc);
+}
+
+-- the text of each instruction
+pub said_instr : (number : ℕ) (i : Instr) → IsValid i → IsReadAs number (instr_text i) (said_by i)
+unfolding instr_text
+said_instr number (instr.Imm op d s1 n) v =
+    said_imm number (of_imm op) d s1 n _ v (imm_form op d s1 n _ _ _ _ _ refl refl refl refl refl v)
+said_instr number (instr.MemImm op d s1 n) v =
+    said_imm number (of_mem op) d s1 n _ v (mem_imm_form op d s1 n _ _ _ _ _ refl refl refl refl refl v)
+said_instr number (instr.MemReg op d s1 s2 true usr) v =
+    said_scaled number (of_index op usr) d s1 s2 _ (mem_scaled_form op usr d s1 s2 _ _ _ _ _ _ refl refl refl refl refl refl)
+said_instr number (instr.MemReg op d s1 s2 false usr) v =
+    said_regs number (of_index op usr) d s1 s2 _ (mem_index_form op usr d s1 s2 _ _ _ _ _ refl refl refl refl refl)
+said_instr number (instr.Lda size d s1 s2) v =
+    said_scaled number (of_lda size) d s1 s2 _ (lda_form size d s1 s2 _ _ _ _ _ _ refl refl refl refl refl refl)
+said_instr number (instr.Regs op d s1 s2) v =
+    said_regs number (of_reg op) d s1 s2 _ (reg_form op d s1 s2 _ _ _ _ _ refl refl refl refl refl)
+said_instr number (instr.BitLit op d s1 width offset) v = said_literal number op d s1 width offset v.0 v.1
+said_instr number (instr.BitReg op d s1 s2) v =
+    said_regs number (of_bits op) d s1 s2 _ (bits_register_form op d s1 s2 _ _ _ _ _ refl refl refl refl refl)
+said_instr number (instr.Find ones d s2) v =
+    said_pair number (of_find ones) d s2 _ (find_form ones d s2 _ _ _ refl refl refl)
+said_instr number (instr.Branch link delayed words) v = said_branch number link delayed words v
+said_instr number (instr.BranchBit set delayed bit s1 words) v =
+    said_branch_bit number set delayed bit s1 words v.0 v.1
+said_instr number (instr.BranchCond delayed mask s1 words) v =
+    said_branch_cond number delayed mask s1 words (condition_part mask v.0) v.1
+said_instr number (instr.Jump link delayed s2) v =
+    said_single number (of_jump link delayed) s2 _ (jump_form link delayed s2 _ refl)
+said_instr number (instr.TrapBit set bit s1 vector) v = said_trap_bit number set bit s1 vector v.0 v.1
+said_instr number (instr.TrapCond mask s1 vector) v = said_trap_cond number mask s1 vector (condition_part mask v.0) v.1
+said_instr number (instr.BoundImm s1 n) v = said_bound number s1 n v
+said_instr number (instr.BoundReg s1 s2) v =
+    said_pair number m.Tbnd s1 s2 _ (bound_register_form s1 s2 _ _ _ refl refl refl)
+said_instr number instr.Rte v = said_return number
+said_instr number (instr.Ldcr d cr float) v =
+    said_control number (of_ldcr float) d float cr _ v (ldcr_form float d cr _ _ _ refl refl refl v)
+said_instr number (instr.Stcr s1 cr float) v =
+    said_control number (of_stcr float) s1 float cr _ v (stcr_form float s1 cr _ _ _ refl refl refl v)
+said_instr number (instr.Xcr d s1 cr float) v = said_exchange number d s1 float cr v
+said_instr number (instr.Sfu unit rest) v = said_word number (word_of (instr.Sfu unit rest)) (omega arith)
