@@ -11,3 +11,4 @@ pub mod Extents
 pub mod Rooms
 pub mod Linkage
 pub mod Chunks
+pub mod Divided

@@ -10,9 +10,11 @@ pub mod Faults
 pub mod Refusal
 pub mod Linked
 pub mod ObjectText
+pub mod ObjectRead
 pub mod Tables
 pub mod Sizes
 pub mod Spans
 pub mod Exports
 pub mod Resolved
 pub mod Carried
+pub mod Rows

@@ -5,6 +5,7 @@
 // What objects are, and what is told of them.
 mod fault;
 mod object;
+mod object_fault;
 
 // Parts of linking.
 mod bases;
@@ -20,8 +21,15 @@ mod table;
 mod tests;
 mod text;
 
+// Parts of reading object texts.
+mod cut;
+mod row;
+mod row_text;
+mod words;
+
 pub use fault::{LinkFault, LinkKind};
 pub use linking::link;
+pub use object_fault::ObjectFault;
 pub use object::{Object, Place, Reloc, Section, Symbol};
 pub use sound::is_sound;
 pub use table::SymbolTable;
