@@ -12,3 +12,4 @@ pub mod Rooms
 pub mod Linkage
 pub mod Chunks
 pub mod Divided
+pub mod Pairs

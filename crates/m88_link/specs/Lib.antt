@@ -18,3 +18,4 @@ pub mod Exports
 pub mod Resolved
 pub mod Carried
 pub mod Rows
+pub mod Drafts

@@ -164,3 +164,7 @@ abbrev pub bytes_of : List ℕ → Option (List ℕ)
 bytes_of [] = Some []
 bytes_of (high ∷ []) = None
 bytes_of (high ∷ low ∷ digits) = byte_of high low >>= λ b. option_map (λ bs. b ∷ bs) (bytes_of digits)
+
+-- bytes with those behind them that digits write
+unfoldable pub bytes_behind : List ℕ → List ℕ → Option (List ℕ)
+bytes_behind front digits = option_map (λ bs. front ++ bs) (bytes_of digits)

@@ -23,6 +23,9 @@ mod text;
 
 // Parts of reading object texts.
 mod cut;
+mod object_draft;
+mod object_lines;
+mod progress;
 mod row;
 mod row_text;
 mod words;

@@ -1,6 +1,7 @@
 //! Lines of an object text that give no bytes, read.
 ghost use Rattle.std.specs.Prelude.{◌≡◌, ◌*◌, ◌+◌, ◌<◌, ◌^◌, IfSome};
-ghost use Rattle.m88_link.specs.Rows.{at_of, byte_of, head_of, hex_value, reloc_in, keyword_of, row_by, row_of, symbol_in};
+ghost use Rattle.m88_link.specs.Drafts.{Takes};
+ghost use Rattle.m88_link.specs.Rows.{at_of, byte_of, bytes_behind, head_of, hex_value, reloc_in, keyword_of, row_by, row_of, symbol_in};
 
 use crate::cut::cut;
 use crate::object::{Place, Reloc, Symbol};
@@ -8,6 +9,7 @@ use crate::row::{Keyword, Row, SectionHead};
 use crate::words::{
     hex8_word, kind_word, name_of, name_word, number_of, number_word, scope_word, section_word,
 };
+use std::alloc::AllocError;
 
 /// A section's length and line.
 #[tactic(auto, unfolding(crate::specs::Rows::head_of))]
@@ -136,10 +138,25 @@ fn hex_value(digit: u8) -> Option<u8>
 
 /// The byte that two digits write.
 #[tactic(auto, unfolding(crate::specs::Rows::byte_of))]
-pub fn byte_of(high: u8, low: u8) -> Option<u8>
+fn byte_of(high: u8, low: u8) -> Option<u8>
     ensures { result ≡ byte_of high low }
 {
     let high = hex_value(high)?;
     let low = hex_value(low)?;
     Some(high * 16 + low)
+}
+
+/// Appends the bytes that digits write, two for each; `false` where they write none.
+pub fn push_bytes(bytes: &mut Vec<u8>, digits: &[u8]) -> Result<bool, AllocError>
+    ensures { Takes result bytes.new.items (bytes_behind bytes.old.items digits.now) }
+{
+    let mut rest = digits;
+    while let [high, low, left @ ..] = rest {
+        let Some(byte) = byte_of(*high, *low) else {
+            return Ok(false);
+        };
+        bytes.push(byte)?;
+        rest = left;
+    }
+    Ok(rest.is_empty())
 }
