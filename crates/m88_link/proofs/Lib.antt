@@ -13,3 +13,5 @@ pub mod Linkage
 pub mod Chunks
 pub mod Divided
 pub mod Pairs
+pub mod Lined
+pub mod LineTurns
