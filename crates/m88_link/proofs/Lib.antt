@@ -15,3 +15,4 @@ pub mod Divided
 pub mod Pairs
 pub mod Lined
 pub mod LineTurns
+pub mod Walks

@@ -19,3 +19,4 @@ pub mod Resolved
 pub mod Carried
 pub mod Rows
 pub mod Drafts
+pub mod Walked

@@ -28,6 +28,7 @@ mod object_lines;
 mod progress;
 mod row;
 mod row_text;
+mod walk;
 mod words;
 
 pub use fault::{LinkFault, LinkKind};
