@@ -16,3 +16,4 @@ pub mod Pairs
 pub mod Lined
 pub mod LineTurns
 pub mod Walks
+pub mod Spelling

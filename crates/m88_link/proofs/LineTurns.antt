@@ -1,15 +1,15 @@
 -- The turns of the loop over the lines of an object text: a line that is taken, one that is refused, and the end.
 use Rattle.std.proofs.Common.{◌≡◌, ℕ, ◌+◌, ◌<◌, List, [], ◌∷◌, ◌++◌, length, refl, sym, ap, ◌∙◌, inl, inr, arith}
-use Rattle.std.specs.Prelude.{Bool, true, false, ◌==◌, Option, None, Some, Result, Ok, Err}
+use Rattle.std.specs.Prelude.{Bool, true, false, ◌==◌, if◌then◌else◌, Option, None, Some, Result, Ok, Err}
 use Rattle.std.proofs.lemmas.Bool.Decides.{nat_tests}
 use Rattle.std.proofs.lemmas.List.{nil_from_length}
 use Rattle.m88_link.specs.declared.object.Object.{Object}
 use Rattle.m88_link.specs.declared.object_fault.ObjectFault.{ObjectFault}
 use Rattle.m88_link.specs.declared.object_fault.ObjectFault.TheVariants.{Form}
-use Rattle.m88_link.specs.Drafts.{GivesObjects, Progress, Takes, at_rest, ended_step, line_step, read_from, read_on}
+use Rattle.m88_link.specs.Drafts.{GivesObjects, Progress, Takes, at_rest, ended_step, is_bare, line_step, read_from, read_on, unended}
 use Rattle.m88_link.specs.ObjectRead.{ended_lines}
 use Rattle.m88_link.specs.Rows.{◌>>=◌, cut}
-use Rattle.m88_link.proofs.Lined.{Cut, cut_at, cut_found, lines_at, lines_none, one_line, uncut}
+use Rattle.m88_link.proofs.Lined.{Cut, cut_at, cut_found, lacks, lines_at, lines_none, one_line, uncut}
 
 -- the first line and what it comes to
 pub first_read : (n : ℕ) (s : Progress) (line : List ℕ) (lines : List (List ℕ)) (o : Option Progress) → ended_step s line ≡ o
@@ -22,8 +22,11 @@ unfolding read_from
 none_read n s = refl
 
 -- a line with its LF is judged without it
-pub ended_is : (s : Progress) (line : List ℕ) → (p : List ℕ × List ℕ) → cut 10 line ≡ Some p → ended_step s line ≡ line_step s p.0
-ended_is s line p e = ap (λ o. o >>= λ p. line_step s p.0) e
+pub unended_is : (line : List ℕ) → lacks 10 line ≡ true → unended (line ++ 10 ∷ []) ≡ Some line
+unended_is line lacking = ap (λ o. o >>= λ p. (if is_bare p.1 then Some p.0 else None)) (cut_at 10 line [] lacking)
+
+pub ended_is : (s : Progress) (line : List ℕ) → lacks 10 line ≡ true → ended_step s (line ++ 10 ∷ []) ≡ line_step s line
+ended_is s line lacking = ap (λ o. o >>= line_step s) (unended_is line lacking)
 
 module _ (n : ℕ) (s : Progress) (text : List ℕ) (said : Result (List Object) ObjectFault)
     (h : read_from n s (ended_lines text) ≡ said) where
@@ -33,7 +36,7 @@ module _ (n : ℕ) (s : Progress) (text : List ℕ) (said : Result (List Object)
         let k = cut_found 10 text p e in
         let lines = ap ended_lines k.text_is ∙ lines_at p.0 p.1 k.lacking in
         sym (ap (read_from n s) lines
-        ∙ first_read n s (p.0 ++ 10 ∷ []) (ended_lines p.1) o (ended_is s (p.0 ++ 10 ∷ []) (p.0, []) (cut_at 10 p.0 [] k.lacking) ∙ step))
+        ∙ first_read n s (p.0 ++ 10 ∷ []) (ended_lines p.1) o (ended_is s p.0 k.lacking ∙ step))
         ∙ h
 
   pub line_taken : (line behind : List ℕ) (t : Progress) → cut 10 text ≡ Some (line, behind) → line_step s line ≡ Some t
@@ -46,7 +49,7 @@ module _ (n : ℕ) (s : Progress) (text : List ℕ) (said : Result (List Object)
   pub line_unended : 0 < length text → cut 10 text ≡ None → said ≡ Err (Form n)
   line_unended some e =
       sym h ∙ ap (read_from n s) (one_line text some (uncut 10 text e))
-      ∙ first_read n s text [] None (ap (λ o. o >>= λ p. line_step s p.0) e)
+      ∙ first_read n s text [] None (ap (λ o. (o >>= λ p. (if is_bare p.1 then Some p.0 else None)) >>= line_step s) e)
 
   pub lines_ended : length text ≡ 0 → at_rest n s ≡ said
   lines_ended none = sym (none_read n s) ∙ sym (ap (read_from n s) (ap ended_lines (nil_from_length text none) ∙ lines_none)) ∙ h

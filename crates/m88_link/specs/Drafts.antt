@@ -128,9 +128,13 @@ unfoldable pub line_step : Progress → List ℕ → Option Progress
 line_step s [] = None
 line_step s (b ∷ bs) = if b == 61 then within s (bytes_step bs) else (row_of (b ∷ bs) >>= row_step s)
 
+-- a line without the LF that is its last byte
+abbrev pub unended : List ℕ → Option (List ℕ)
+unended line = cut 10 line >>= λ p. (if is_bare p.1 then Some p.0 else None)
+
 -- a line with its LF
 abbrev pub ended_step : Progress → List ℕ → Option Progress
-ended_step s line = cut 10 line >>= λ p. line_step s p.0
+ended_step s line = unended line >>= line_step s
 
 -- what the end of the text leaves of what came: one or more objects, all of them whole
 abbrev pub at_rest : ℕ → Progress → Result (List Object) ObjectFault
