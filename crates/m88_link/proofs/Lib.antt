@@ -17,3 +17,4 @@ pub mod Lined
 pub mod LineTurns
 pub mod Walks
 pub mod Spelling
+pub mod RowTexts

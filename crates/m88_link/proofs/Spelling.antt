@@ -174,10 +174,10 @@ kind_read Pc26 rest = word_read kind_of (codes "pc26") rest Pc26 refl refl
 kind_read Pc16 rest = word_read kind_of (codes "pc16") rest Pc16 refl refl
 kind_read Abs32 rest = word_read kind_of (codes "abs32") rest Abs32 refl refl
 
-same_text : (xs ys : List ℕ) → bytes_eq xs ys ≡ true → xs ≡ ys
+pub same_text : (xs ys : List ℕ) → bytes_eq xs ys ≡ true → xs ≡ ys
 same_text xs ys e = (bytes_eq-Decides xs ys).0 e
 
-if_same : {A : Type 0} (b : Bool) (x y : A) (o : Option A) → (if b then Some x else o) ≡ Some y → ((b ≡ true) × (x ≡ y)) ⊎ ((b ≡ false) × (o ≡ Some y))
+pub if_same : {A : Type 0} (b : Bool) (x y : A) (o : Option A) → (if b then Some x else o) ≡ Some y → ((b ≡ true) × (x ≡ y)) ⊎ ((b ≡ false) × (o ≡ Some y))
 if_same true x y o e = inl (refl, cc)
 if_same false x y o e = inr (refl, e)
 
