@@ -18,3 +18,4 @@ pub mod LineTurns
 pub mod Walks
 pub mod Spelling
 pub mod RowTexts
+pub mod ByteTexts

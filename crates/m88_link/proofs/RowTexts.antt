@@ -241,7 +241,7 @@ keyword_found text k e = elim (if_same (bytes_eq text (codes "object")) word.Obj
 ]
 
 -- what a word of a row was made of
-mapped : {A B P : Type 0} (f : A → B) (o : Option A) (y : B) → option_map f o ≡ Some y → ((x : A) → o ≡ Some x → f x ≡ y → P) → P
+pub mapped : {A B P : Type 0} (f : A → B) (o : Option A) (y : B) → option_map f o ≡ Some y → ((x : A) → o ≡ Some x → f x ≡ y → P) → P
 mapped f None y e k = absurd cc
 mapped f (Some x) y e k = k x refl cc
 
