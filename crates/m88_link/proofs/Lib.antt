@@ -19,3 +19,4 @@ pub mod Walks
 pub mod Spelling
 pub mod RowTexts
 pub mod ByteTexts
+pub mod Written
