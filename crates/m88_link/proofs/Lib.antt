@@ -20,3 +20,4 @@ pub mod Spelling
 pub mod RowTexts
 pub mod ByteTexts
 pub mod Written
+pub mod Kept
