@@ -21,3 +21,4 @@ pub mod RowTexts
 pub mod ByteTexts
 pub mod Written
 pub mod Kept
+pub mod Goes
