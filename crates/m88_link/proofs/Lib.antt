@@ -22,3 +22,4 @@ pub mod ByteTexts
 pub mod Written
 pub mod Kept
 pub mod Goes
+pub mod Forward
