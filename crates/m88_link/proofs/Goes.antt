@@ -30,7 +30,7 @@ pub record Fills (f g : Filled) (n : ℕ) (digits : List ℕ) : Type 0 where
   pub fillable : IsFillable g n
   pub rows : filled_rows g ≡ filled_rows f ++ (61 ∷ digits) ∷ []
 
-all_append : (P : ℕ → Type 0) (xs ys : List ℕ) → AllByRecursion P xs → AllByRecursion P ys → AllByRecursion P (xs ++ ys)
+pub all_append : (P : ℕ → Type 0) (xs ys : List ℕ) → AllByRecursion P xs → AllByRecursion P ys → AllByRecursion P (xs ++ ys)
 all_append P [] ys h k = k
 all_append P (x ∷ xs) ys h k = (h.0, all_append P xs ys h.1 k)
 
@@ -227,6 +227,14 @@ begin_went s t name kept h step =
       rows = ap (λ l. l ++ row_text (Begin name) ∷ []) (sym (append-nil (objects_rows s.done)) ∙ ap (λ o. objects_rows s.done ++ open_rows o) (sym none));
     })
 
+-- the lines of an object that ends
+pub whole_rows : (d : Begun) → d.filling ≡ None → object_rows (object_with d) ≡ draft_rows d ++ row_text End ∷ []
+whole_rows d none =
+    ap (λ l. row_text (Begin d.name) ∷ (sections_rows d.sections ++ l)) (sym (append_assoc (symbol_rows d.symbols) (reloc_rows d.relocs) (row_text End ∷ [])))
+    ∙ ap (λ l. row_text (Begin d.name) ∷ l) (sym (append_assoc (sections_rows d.sections) (symbol_rows d.symbols ++ reloc_rows d.relocs) (row_text End ∷ [])))
+    ∙ ap (λ o. row_text (Begin d.name) ∷ ((sections_rows d.sections ++ (filling_rows o ++ (symbol_rows d.symbols ++ reloc_rows d.relocs))) ++ row_text End ∷ []))
+    (sym none)
+
 -- an object ends
 end_went_whole : (s : Progress) (d : Begun) → IsProgress s → s.draft ≡ Some d → is_whole d ≡ true
     → Went s (record { done = s.done ++ object_with d ∷ []; draft = None }) (row_text End)
@@ -234,11 +242,7 @@ end_went_whole s d kept e whole =
     let k = draft_of s d kept e in
     let t = both (is_none d.filling) (nat_le 2 (length d.sections)) whole in
     let two = leb-true 2 (length d.sections) t.1 in
-    let rows : object_rows (object_with d) ≡ draft_rows d ++ row_text End ∷ [] =
-    ap (λ l. row_text (Begin d.name) ∷ (sections_rows d.sections ++ l)) (sym (append_assoc (symbol_rows d.symbols) (reloc_rows d.relocs) (row_text End ∷ [])))
-    ∙ ap (λ l. row_text (Begin d.name) ∷ l) (sym (append_assoc (sections_rows d.sections) (symbol_rows d.symbols ++ reloc_rows d.relocs) (row_text End ∷ [])))
-    ∙ ap (λ o. row_text (Begin d.name) ∷ ((sections_rows d.sections ++ (filling_rows o ++ (symbol_rows d.symbols ++ reloc_rows d.relocs))) ++ row_text End ∷ []))
-    (sym (none_is d.filling t.0)) in
+    let rows = whole_rows d (none_is d.filling t.0) in
     record {
       kept = record {
         done =

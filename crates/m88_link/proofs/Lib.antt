@@ -23,3 +23,5 @@ pub mod Written
 pub mod Kept
 pub mod Goes
 pub mod Forward
+pub mod Completes
+pub mod Texts
