@@ -25,3 +25,4 @@ pub mod Goes
 pub mod Forward
 pub mod Completes
 pub mod Texts
+pub mod Judged
