@@ -26,3 +26,4 @@ pub mod Forward
 pub mod Completes
 pub mod Texts
 pub mod Judged
+pub mod Ranged

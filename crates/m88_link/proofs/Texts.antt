@@ -146,7 +146,7 @@ objects_joined os = parts_joined object_lines object_rows object_joined os
 abbrev pub Lack : List (List ℕ) → Type 0
 Lack rows = AllByRecursion (λ l. lacks 10 l ≡ true) rows
 
-lack_append : (xs ys : List (List ℕ)) → Lack xs → Lack ys → Lack (xs ++ ys)
+pub lack_append : (xs ys : List (List ℕ)) → Lack xs → Lack ys → Lack (xs ++ ys)
 lack_append [] ys h k = k
 lack_append (x ∷ xs) ys h k = (h.0, lack_append xs ys h.1 k)
 
@@ -177,7 +177,7 @@ kind_lacks Pc26 = refl
 kind_lacks Pc16 = refl
 kind_lacks Abs32 = refl
 
-row_lacks : (r : Row) → IsRow r → lacks 10 (row_text r) ≡ true
+pub row_lacks : (r : Row) → IsRow r → lacks 10 (row_text r) ≡ true
 row_lacks (Begin name) h = word_more (codes "object") name refl (name_is_word name h).1
 row_lacks (Head x) h = place_lacks x.place x h.2
 row_lacks (Define s) h =
@@ -214,17 +214,17 @@ bytes_lack bytes (suc n) =
     let part : List ℕ = take 32 (drop (n * 32) bytes) in
     lack_append (rows_before bytes n) (byte_row part ∷ []) (bytes_lack bytes n) (digits_lack part, tt)
 
-parts_lack : {A : Type 0} (P : A → Type 0) (rows : A → List (List ℕ)) → ((x : A) → P x → Lack (rows x)) → (xs : List A) → AllByRecursion P xs
+pub parts_lack : {A : Type 0} (P : A → Type 0) (rows : A → List (List ℕ)) → ((x : A) → P x → Lack (rows x)) → (xs : List A) → AllByRecursion P xs
     → Lack (flat_map rows xs)
 parts_lack P rows each [] h = tt
 parts_lack P rows each (x ∷ xs) h = lack_append (rows x) (flat_map rows xs) (each x h.0) (parts_lack P rows each xs h.1)
 
-ones_lack : {A : Type 0} (P : A → Type 0) (row : A → List ℕ) → ((x : A) → P x → lacks 10 (row x) ≡ true) → (xs : List A) → AllByRecursion P xs
+pub ones_lack : {A : Type 0} (P : A → Type 0) (row : A → List ℕ) → ((x : A) → P x → lacks 10 (row x) ≡ true) → (xs : List A) → AllByRecursion P xs
     → Lack (map row xs)
 ones_lack P row each [] h = tt
 ones_lack P row each (x ∷ xs) h = (each x h.0, ones_lack P row each xs h.1)
 
-section_lack : (s : Section) → HasSectionText s → Lack (section_rows s)
+pub section_lack : (s : Section) → HasSectionText s → Lack (section_rows s)
 section_lack s h =
     (row_lacks (Head (record { place = s.place; len = length s.bytes; line = s.line })) (h.address, h.few, h.line),
     bytes_lack s.bytes ((length s.bytes + 31) / 32))

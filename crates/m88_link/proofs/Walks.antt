@@ -24,7 +24,7 @@ last_of P (y ∷ xs) x h = last_of P xs x h.1
 pub All-last : {A : Type 0} (P : A → Type 0) (xs : List A) (x : A) → All P (xs ++ x ∷ []) → P x
 All-last P xs x h = last_of P xs x (recursion_from_All P (xs ++ x ∷ []) h)
 
-front_of : {A : Type 0} (P : A → Type 0) (xs ys : List A) → AllByRecursion P (xs ++ ys) → AllByRecursion P xs
+pub front_of : {A : Type 0} (P : A → Type 0) (xs ys : List A) → AllByRecursion P (xs ++ ys) → AllByRecursion P xs
 front_of P [] ys h = tt
 front_of P (x ∷ xs) ys h = (h.0, front_of P xs ys h.1)
 

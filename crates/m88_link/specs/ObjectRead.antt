@@ -1,6 +1,6 @@
 -- Object texts as an input (object file formats: text form): which objects have a text, at which line a text is none
 -- of theirs, and at which line one gives an object that isn't sound.
-use Rattle.std.specs.Prelude.{◌≡◌, ℕ, ◌+◌, ◌-◌, ◌<◌, ◌^◌, ◌==◌, ◌⊎◌, List, [], ◌∷◌, ◌++◌, All, IfSome, None, flat_map, length, take, if◌then◌else◌}
+use Rattle.std.specs.Prelude.{◌≡◌, ℕ, ◌+◌, ◌-◌, ◌<◌, ◌^◌, ◌==◌, ◌⊎◌, List, [], ◌∷◌, ◌++◌, All, IfSome, None, Result, Ok, Err, flat_map, length, take, if◌then◌else◌}
 use Rattle.std.specs.List.{AllByRecursion}
 use Rattle.m88_base.specs.Lines.{line_end, line_feed, on_first_line}
 use Rattle.m88_base.specs.Name.{IsName}
@@ -146,3 +146,8 @@ abbrev pub IsRefusedText : List ℕ → ObjectFault → Type 0
 IsRefusedText text (Form n) = IsFormLine text n
 IsRefusedText text (Range n) = IsRangeLine text n
 IsRefusedText text Memory = Unit {0}
+
+-- a call refuses with this fault, or memory ran out
+abbrev pub Refuses : {X : Type 0} → Result X ObjectFault → ObjectFault → Type 0
+Refuses (Ok x) fault = ⊥
+Refuses (Err e) fault = (e ≡ fault) ⊎ (e ≡ Memory)
