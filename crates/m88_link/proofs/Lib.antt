@@ -27,3 +27,4 @@ pub mod Completes
 pub mod Texts
 pub mod Judged
 pub mod Ranged
+pub mod Told
