@@ -52,12 +52,12 @@ byte_back : (high low n : ℕ) → byte_of high low ≡ Some n → (high ∷ low
 unfolding byte_of
 byte_back high low n e =
     option_and_then_some _ (hex_value high) n e (λ h e1 f1.
-      option_and_then_some _ (hex_value low) n f1 (λ l e2 f2.
-        let a = value_back high h e1 in
-        let b = value_back low l e2 in
-        let same : h * 16 + l ≡ n = cc in
-        let d = digits_are h l n a.1 b.1 same in
-        (ap (λ (x : ℕ). let t : List ℕ = x ∷ low ∷ [] in t) a.0 ∙ ap (λ (x : ℕ). let t : List ℕ = hex_digit h ∷ x ∷ [] in t) b.0 ∙ d.0, d.1)))
+    option_and_then_some _ (hex_value low) n f1 (λ l e2 f2.
+    let a = value_back high h e1 in
+    let b = value_back low l e2 in
+    let same : h * 16 + l ≡ n = cc in
+    let d = digits_are h l n a.1 b.1 same in
+    (ap (λ (x : ℕ). let t : List ℕ = x ∷ low ∷ [] in t) a.0 ∙ ap (λ (x : ℕ). let t : List ℕ = hex_digit h ∷ x ∷ [] in t) b.0 ∙ d.0, d.1)))
 
 -- what was written is read
 pub bytes_read : (bs : List ℕ) → AllByRecursion (λ b. b < 2 ^ 8) bs → bytes_of (flat_map hex2 bs) ≡ Some bs
@@ -73,10 +73,10 @@ bytes_back [] (b ∷ bs) e = absurd (let h : ◌≡◌ {A = Option (List ℕ)} (
 bytes_back (x ∷ []) bs e = absurd cc
 bytes_back (high ∷ low ∷ rest) bs e =
     option_and_then_some _ (byte_of high low) bs e (λ b e1 f1.
-      mapped (λ bs. b ∷ bs) (bytes_of rest) bs f1 (λ more e2 same.
-        let k = byte_back high low b e1 in
-        let l = bytes_back rest more e2 in
-        rw (← same) (ap (λ (t : List ℕ). t ++ rest) k.0 ∙ ap (λ (t : List ℕ). hex2 b ++ t) l.0, (k.1, l.1))))
+    mapped (λ bs. b ∷ bs) (bytes_of rest) bs f1 (λ more e2 same.
+    let k = byte_back high low b e1 in
+    let l = bytes_back rest more e2 in
+    rw (← same) (ap (λ (t : List ℕ). t ++ rest) k.0 ∙ ap (λ (t : List ℕ). hex2 b ++ t) l.0, (k.1, l.1))))
 
 pub length-digits : (bs : List ℕ) → length (flat_map hex2 bs) ≡ 2 * length bs
 length-digits [] = refl

@@ -163,7 +163,14 @@ some_name = (refl, λ k d h. absurd (omega arith), omega arith)
 by_draft : (done : List Object) (o : Option Begun) → AllByRecursion HasText done → IfSome o IsKept → Continues (objects_rows done ++ open_rows o)
 by_draft [] None h k =
     let kept : IsKept (bare (codes "a") [] None) = record {
-      name = some_name; order = tt; sections = tt; filling = tt; few = λ k. (refl, refl); symbols = tt; relocs = tt } in
+      name = some_name;
+      order = tt;
+      sections = tt;
+      filling = tt;
+      few = λ k. (refl, refl);
+      symbols = tt;
+      relocs = tt;
+    } in
     let c = bare_completed (codes "a") some_name [] kept in
     record {
       objects = c.object ∷ [];

@@ -75,7 +75,7 @@ module _ (at n : ℕ) (text : List ℕ) (is : n ≡ prefix_len (is_other at) tex
       let same = b ∙ ap (λ (k : ℕ). drop k text) n_is in
       let front = f ∙ ap (λ (k : ℕ). take k text) n_is in
       some_at at text (subst (λ (xs : List ℕ). 1 ≤ length xs) same h)
-      ∙ sym (ap (λ (xs : List ℕ). Some (xs, drop 1 (drop (len_to at text) text))) front ∙ refl) 
+      ∙ sym (ap (λ (xs : List ℕ). Some (xs, drop 1 (drop (len_to at text) text))) front ∙ refl)
       ∙ ap (λ (xs : List ℕ). Some (before, drop 1 xs)) (sym same)
 
 -- the test of names

@@ -218,14 +218,14 @@ module _ (done : List Object) (name : List ℕ) (sections : List Section) where
         let whole : section_with (headed head) ≡ s = ap (λ (l : List ℕ). let x : Section = record s { bytes = l } in x) (sym nil) in
         ap (λ l. run (going done before_it) (row_text (Head head) ∷ l)) rows
         ∙ run_one _ _ (row_text (Head head)) (head_taken head good next
-          ∙ ap (λ d. Some (going done d)) (settled_head head (length s.bytes) refl true (eq-eqb (length s.bytes) 0 none))
-          ∙ ap (λ x. Some (going done (bare name (sections ++ x ∷ []) None))) whole)
+        ∙ ap (λ d. Some (going done d)) (settled_head head (length s.bytes) refl true (eq-eqb (length s.bytes) 0 none))
+        ∙ ap (λ x. Some (going done (bare name (sections ++ x ∷ []) None))) whole)
 
     full : (length s.bytes == 0) ≡ false → run (going done before_it) (section_rows s) ≡ Some (going done (bare name (sections ++ s ∷ []) None))
     full some =
         run_then _ (going done (bare name sections (Some (headed head)))) _ (row_text (Head head) ∷ []) (byte_rows s.bytes)
         (run_one _ _ (row_text (Head head)) (head_taken head good next
-          ∙ ap (λ d. Some (going done d)) (settled_head head (length s.bytes) refl false some)))
+        ∙ ap (λ d. Some (going done d)) (settled_head head (length s.bytes) refl false some)))
         (fill_all done name sections s.place s.line s.bytes h.bytes (apart_from_none (length s.bytes) some))
 
     by_size : (b : Bool) → (length s.bytes == 0) ≡ b → run (going done before_it) (section_rows s) ≡ Some (going done (bare name (sections ++ s ∷ []) None))
@@ -260,8 +260,8 @@ sections_taken done name (t ∷ d ∷ others) h k =
     run_then _ (going done (bare name (t ∷ []) None)) _ (section_rows t) (section_rows d ++ sections_rows others)
     (section_taken done name [] t h.0 (ap (is_next 0) k.0))
     (run_then _ (going done (bare name (t ∷ d ∷ []) None)) _ (section_rows d) (sections_rows others)
-      (section_taken done name (t ∷ []) d h.1.0 (ap (is_next 1) k.1))
-      (others_taken done name (t ∷ d ∷ []) others (omega arith) h.1.1 (recursion_from_All (λ s. IsOwnAddress s.place) others k.2)))
+    (section_taken done name (t ∷ []) d h.1.0 (ap (is_next 1) k.1))
+    (others_taken done name (t ∷ d ∷ []) others (omega arith) h.1.1 (recursion_from_All (λ s. IsOwnAddress s.place) others k.2)))
 
 -- symbols and relocations
 module _ (done : List Object) (name : List ℕ) (sections : List Section) (two : 2 ≤ length sections) where
@@ -278,7 +278,7 @@ module _ (done : List Object) (name : List ℕ) (sections : List Section) (two :
   symbols_taken symbols (x ∷ xs) h =
       run_then _ (going done (with_both (symbols ++ x ∷ []) [])) _ (row_text (Define x) ∷ []) (symbol_rows xs)
       (run_one _ _ (row_text (Define x)) (row_taken (going done (with_both symbols [])) (Define x) h.0
-        ∙ within_is done (with_both symbols []) (with_both (symbols ++ x ∷ []) []) (define_step x) (define_is x symbols)))
+      ∙ within_is done (with_both symbols []) (with_both (symbols ++ x ∷ []) []) (define_step x) (define_is x symbols)))
       (symbols_taken (symbols ++ x ∷ []) xs h.1 ∙ ap (λ l. Some (going done (with_both l []))) (append_assoc symbols (x ∷ []) xs))
 
   patch_is : (r : Reloc) (symbols : List Symbol) (relocs : List Reloc) → patch_step r (with_both symbols relocs) ≡ Some (with_both symbols (relocs ++ r ∷ []))
@@ -291,7 +291,7 @@ module _ (done : List Object) (name : List ℕ) (sections : List Section) (two :
   relocs_taken symbols relocs (x ∷ xs) h =
       run_then _ (going done (with_both symbols (relocs ++ x ∷ []))) _ (row_text (Patch x) ∷ []) (reloc_rows xs)
       (run_one _ _ (row_text (Patch x)) (row_taken (going done (with_both symbols relocs)) (Patch x) h.0
-        ∙ within_is done (with_both symbols relocs) (with_both symbols (relocs ++ x ∷ [])) (patch_step x) (patch_is x symbols relocs)))
+      ∙ within_is done (with_both symbols relocs) (with_both symbols (relocs ++ x ∷ [])) (patch_step x) (patch_is x symbols relocs)))
       (relocs_taken symbols (relocs ++ x ∷ []) xs h.1 ∙ ap (λ l. Some (going done (with_both symbols l))) (append_assoc relocs (x ∷ []) xs))
 
   end_is : (symbols : List Symbol) (relocs : List Reloc)
@@ -308,7 +308,7 @@ module _ (done : List Object) (name : List ℕ) (sections : List Section) (two :
   parts_taken symbols relocs h k =
       run_then _ (going done (with_both symbols [])) _ (symbol_rows symbols) (reloc_rows relocs ++ row_text End ∷ []) (symbols_taken [] symbols h)
       (run_then _ (going done (with_both symbols relocs)) _ (reloc_rows relocs) (row_text End ∷ []) (relocs_taken symbols [] relocs k)
-        (run_one _ _ (row_text End) (row_taken (going done (with_both symbols relocs)) End tt ∙ end_is symbols relocs)))
+      (run_one _ _ (row_text End) (row_taken (going done (with_both symbols relocs)) End tt ∙ end_is symbols relocs)))
 
 -- what is read of whole objects
 abbrev pub rested : List Object → Progress
@@ -328,8 +328,8 @@ object_taken done o h =
     run_then _ (going done (named o.name)) _ (row_text (Begin o.name) ∷ []) (sections_rows o.sections ++ (symbol_rows o.symbols ++ (reloc_rows o.relocs ++ row_text End ∷ [])))
     (run_one _ _ (row_text (Begin o.name)) (row_taken (rested done) (Begin o.name) h.name ∙ begin_is done o.name))
     (run_then _ (going done (bare o.name o.sections None)) _ (sections_rows o.sections) (symbol_rows o.symbols ++ (reloc_rows o.relocs ++ row_text End ∷ []))
-      (sections_taken done o.name o.sections h.sections h.order)
-      (parts_taken done o.name o.sections (two_sections o.sections h.order) o.symbols o.relocs h.symbols h.relocs))
+    (sections_taken done o.name o.sections h.sections h.order)
+    (parts_taken done o.name o.sections (two_sections o.sections h.order) o.symbols o.relocs h.symbols h.relocs))
 
 -- the lines of objects are taken for these objects
 pub objects_taken : (done xs : List Object) → AllByRecursion HasText xs → run (rested done) (objects_rows xs) ≡ Some (rested (done ++ xs))

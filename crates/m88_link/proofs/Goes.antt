@@ -66,15 +66,15 @@ more_fills digits f g n h some step = by_size (length digits == 2 * min f.missin
         → Fills f g n digits
     by_size true size step =
         option_and_then_some _ (bytes_behind f.bytes digits) g step (λ all e1 f1.
-          mapped (λ bs. f.bytes ++ bs) (bytes_of digits) all e1 (λ bs e2 same.
-            let k = bytes_back digits bs e2 in
-            let long : length digits ≡ 2 * length bs = ap length k.0 ∙ length-digits bs in
-            let twice : length digits ≡ 2 * min f.missing 32 = eqb-true (length digits) (2 * min f.missing 32) size in
-            let count : length bs ≡ min f.missing 32 = omega (arith, long, twice) in
-            let is : with_bytes f bs ≡ g =
-            ap (λ (l : List ℕ). let x : Filled = record { place = f.place; line = f.line; bytes = l; missing = f.missing - min f.missing 32 } in x) same ∙ cc in
-            let P : List ℕ → Type 0 = λ ds. Fills f g n ds in
-            subst P (sym k.0) (subst (λ x. Fills f x n (flat_map hex2 bs)) is (fills f n bs h some count k.1))))
+        mapped (λ bs. f.bytes ++ bs) (bytes_of digits) all e1 (λ bs e2 same.
+        let k = bytes_back digits bs e2 in
+        let long : length digits ≡ 2 * length bs = ap length k.0 ∙ length-digits bs in
+        let twice : length digits ≡ 2 * min f.missing 32 = eqb-true (length digits) (2 * min f.missing 32) size in
+        let count : length bs ≡ min f.missing 32 = omega (arith, long, twice) in
+        let is : with_bytes f bs ≡ g =
+        ap (λ (l : List ℕ). let x : Filled = record { place = f.place; line = f.line; bytes = l; missing = f.missing - min f.missing 32 } in x) same ∙ cc in
+        let P : List ℕ → Type 0 = λ ds. Fills f g n ds in
+        subst P (sym k.0) (subst (λ x. Fills f x n (flat_map hex2 bs)) is (fills f n bs h some count k.1))))
     by_size false size step = absurd cc
 
 bytes_goes_bare : (name : List ℕ) (sections : List Section) (f g : Filled) (digits : List ℕ) → IsKept (bare name sections (Some f))
@@ -106,9 +106,9 @@ pub bytes_goes : (digits : List ℕ) (d e : Begun) → IsKept d → bytes_step d
 unfolding bytes_step
 bytes_goes digits d e kept step =
     option_and_then_some _ d.filling e step (λ f e1 f1.
-      option_and_then_some _ (more_bytes digits f) e f1 (λ g e2 f2.
-        let same : settled d g ≡ e = cc in
-        bytes_goes_filling digits d e f g kept e1 e2 same))
+    option_and_then_some _ (more_bytes digits f) e f1 (λ g e2 f2.
+    let same : settled d g ≡ e = cc in
+    bytes_goes_filling digits d e f g kept e1 e2 same))
 
 -- a symbol
 module _ (name : List ℕ) (sections : List Section) (symbols : List Symbol) where
@@ -195,15 +195,15 @@ pub within_went : (s t : Progress) (step : Begun → Option Begun) (line : List 
     → ((d e : Begun) → IsKept d → step d ≡ Some e → Goes d e line) → within s step ≡ Some t → Went s t line
 within_went s t step line kept goes h =
     option_and_then_some _ s.draft t h (λ d e1 f1.
-      option_and_then_some _ (step d) t f1 (λ e e2 f2.
-        let g = goes d e (draft_of s d kept e1) e2 in
-        let same : record { done = s.done; draft = Some e } ≡ t = cc in
-        rw (← same) (record {
-          kept = record { done = kept.done; draft = g.kept };
-          rows = ap (λ l. objects_rows s.done ++ l) g.rows
-              ∙ sym (append_assoc (objects_rows s.done) (draft_rows d) (line ∷ []))
-              ∙ ap (λ o. (objects_rows s.done ++ open_rows o) ++ line ∷ []) (sym e1);
-        })))
+    option_and_then_some _ (step d) t f1 (λ e e2 f2.
+    let g = goes d e (draft_of s d kept e1) e2 in
+    let same : record { done = s.done; draft = Some e } ≡ t = cc in
+    rw (← same) (record {
+      kept = record { done = kept.done; draft = g.kept };
+      rows = ap (λ l. objects_rows s.done ++ l) g.rows
+          ∙ sym (append_assoc (objects_rows s.done) (draft_rows d) (line ∷ []))
+          ∙ ap (λ o. (objects_rows s.done ++ open_rows o) ++ line ∷ []) (sym e1);
+    })))
 
 -- an object begins
 pub begin_went : (s t : Progress) (name : List ℕ) → IsProgress s → IsName name → begin_step name s ≡ Some t → Went s t (row_text (Begin name))
@@ -261,8 +261,8 @@ pub end_went : (s t : Progress) → IsProgress s → end_step s ≡ Some t → W
 unfolding end_step
 end_went s t kept step =
     option_and_then_some _ s.draft t step (λ d e1 f1.
-      let k = if_some (is_whole d) (record { done = s.done ++ object_with d ∷ []; draft = None }) t f1 in
-      subst (λ x. Went s x (row_text End)) k.1 (end_went_whole s d kept e1 k.0))
+    let k = if_some (is_whole d) (record { done = s.done ++ object_with d ∷ []; draft = None }) t f1 in
+    subst (λ x. Went s x (row_text End)) k.1 (end_went_whole s d kept e1 k.0))
 
 -- a line without bytes
 pub row_went : (s t : Progress) (r : Row) → IsProgress s → IsRow r → row_step s r ≡ Some t → Went s t (row_text r)
@@ -285,5 +285,5 @@ line_went s t (b ∷ bs) kept step = by_first (b == 61) refl step
         subst P (sym first) (within_went s t (bytes_step bs) (61 ∷ bs) kept (λ d e k g. bytes_goes bs d e k g) step)
     by_first false is step =
         option_and_then_some (row_step s) (row_of (b ∷ bs)) t step (λ r e1 f1.
-          let k = row_back (b ∷ bs) r e1 in
-          subst (Went s t) (sym k.0) (row_went s t r kept k.1 f1))
+        let k = row_back (b ∷ bs) r e1 in
+        subst (Went s t) (sym k.0) (row_went s t r kept k.1 f1))

@@ -50,8 +50,8 @@ front_run : (s t : Progress) (xs ys : List (List ℕ)) → ended_run s (xs ++ ys
 front_run s t [] ys e = (s, refl)
 front_run s t (x ∷ xs) ys e =
     option_and_then_some _ (ended_step s x) t e (λ u e1 f1.
-      let k = front_run u t xs ys f1 in
-      (k.0, ap (λ o. o >>= λ t. ended_run t xs) e1 ∙ k.1))
+    let k = front_run u t xs ys f1 in
+    (k.0, ap (λ o. o >>= λ t. ended_run t xs) e1 ∙ k.1))
 
 pub taken_run : (t : Progress) (n : ℕ) (lines : List (List ℕ)) → ended_run nothing_read lines ≡ Some t
     → (u : Progress) × (ended_run nothing_read (take n lines) ≡ Some u)
@@ -67,8 +67,8 @@ pub record Came (s t : Progress) (lines : List (List ℕ)) : Type 0 where
 unended_back : (line row : List ℕ) → unended line ≡ Some row → line ≡ ended row
 unended_back line row e =
     option_and_then_some _ (cut 10 line) row e (λ p e1 f1.
-      let k = if_some (is_bare p.1) p.0 row f1 in
-      (cut_found 10 line p e1).text_is ∙ ap (λ l. p.0 ++ 10 ∷ l) (bare_nil p.1 k.0) ∙ ap ended k.1)
+    let k = if_some (is_bare p.1) p.0 row f1 in
+    (cut_found 10 line p e1).text_is ∙ ap (λ l. p.0 ++ 10 ∷ l) (bare_nil p.1 k.0) ∙ ap ended k.1)
 
 pub came : (s t : Progress) (lines : List (List ℕ)) → IsProgress s → ended_run s lines ≡ Some t → Came s t lines
 came s t [] kept e =
@@ -76,15 +76,15 @@ came s t [] kept e =
     subst (λ u. Came s u []) same (record { kept = kept; rows = []; lines_are = refl; written_is = sym (append-nil (written s)) })
 came s t (line ∷ lines) kept e =
     option_and_then_some _ (ended_step s line) t e (λ u e1 f1.
-      option_and_then_some (line_step s) (unended line) u e1 (λ row e2 f2.
-        let w = line_went s u row kept f2 in
-        let k = came u t lines w.kept f1 in
-        record {
-          kept = k.kept;
-          rows = row ∷ k.rows;
-          lines_are = ap (λ l. l ∷ lines) (unended_back line row e2) ∙ ap (λ l. ended row ∷ l) k.lines_are;
-          written_is = k.written_is ∙ ap (λ l. l ++ k.rows) w.rows ∙ append_assoc (written s) (row ∷ []) k.rows;
-        }))
+    option_and_then_some (line_step s) (unended line) u e1 (λ row e2 f2.
+    let w = line_went s u row kept f2 in
+    let k = came u t lines w.kept f1 in
+    record {
+      kept = k.kept;
+      rows = row ∷ k.rows;
+      lines_are = ap (λ l. l ∷ lines) (unended_back line row e2) ∙ ap (λ l. ended row ∷ l) k.lines_are;
+      written_is = k.written_is ∙ ap (λ l. l ++ k.rows) w.rows ∙ append_assoc (written s) (row ∷ []) k.rows;
+    }))
 
 nothing_kept : IsProgress nothing_read
 nothing_kept = record { done = tt; draft = tt }
@@ -127,7 +127,7 @@ runs_read n s [] os some e =
     none_read n s ∙ ap (at_rest n) same ∙ rest_is n os some
 runs_read n s (line ∷ lines) os some e =
     option_and_then_some _ (ended_step s line) (rested os) e (λ t e1 f1.
-      first_read n s line lines (Some t) e1 ∙ runs_read (n + 1) t lines os some f1)
+    first_read n s line lines (Some t) e1 ∙ runs_read (n + 1) t lines os some f1)
 
 -- reading that stops
 pub record Stops (n : ℕ) (s : Progress) (lines : List (List ℕ)) (e : ObjectFault) : Type 0 where
@@ -252,11 +252,14 @@ module _ (text : List ℕ) where
   read_refused e h =
       let k = read_stops 1 nothing_read (ended_lines text) e h in
       let n_is : 1 + k.taken ≡ suc k.taken = omega arith in
-      let before : suc k.taken - 1 ≡ k.taken = omega arith in
-      (suc k.taken, k.fault_is ∙ ap Form n_is, record {
-        before = subst (IsContinued text) (sym before) (so_far_continued k.taken k.so_far k.within k.runs);
-        here = not_continued e k;
-      })
+      let before : suc k.taken - 1 ≡ k.taken = omega arith in (
+        suc k.taken,
+        k.fault_is ∙ ap Form n_is,
+        record {
+          before = subst (IsContinued text) (sym before) (so_far_continued k.taken k.so_far k.within k.runs);
+          here = not_continued e k;
+        },
+      )
 
   -- a text whose first lines go on has fewer that go on
   fewer : (m n : ℕ) → m ≤ n → IsContinued text n → IsContinued text m
@@ -270,9 +273,9 @@ module _ (text : List ℕ) where
   pub one_form_line : (m n : ℕ) → IsFormLine text m → IsFormLine text n → m ≡ n
   one_form_line m n h k = elim (leb_tells m n) [
     | inl low ↦ elim (leb_tells n m) [
-        | inl high ↦ let a = low.1 in let b = high.1 in omega (arith, a, b)
-        | inr above ↦ let a = above.1 in absurd (h.here (fewer m (n - 1) (omega (arith, a)) k.before))
-      ]
+      | inl high ↦ let a = low.1 in let b = high.1 in omega (arith, a, b)
+      | inr above ↦ let a = above.1 in absurd (h.here (fewer m (n - 1) (omega (arith, a)) k.before))
+    ]
     | inr below ↦ let a = below.1 in absurd (k.here (fewer n (m - 1) (omega (arith, a)) h.before))
   ]
 

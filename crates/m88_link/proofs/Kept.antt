@@ -140,26 +140,26 @@ module _ (name : List ℕ) (sections : List Section) (f : Filled) (named_so : Is
           relocs = tt;
         },
         bare_rows name (sections ++ section_with f ∷ []) None
-        ∙ ap (λ l. row_text (Begin name) ∷ l)
-        (append-nil (sections_rows (sections ++ section_with f ∷ []))
-        ∙ flat_map-append section_rows sections (section_with f ∷ [])
-        ∙ ap (λ l. sections_rows sections ++ l)
-        (append-nil (section_rows (section_with f)) ∙ ap (λ n. head_row f.place n f.line ∷ byte_rows f.bytes) (sym size))),
+            ∙ ap (λ l. row_text (Begin name) ∷ l)
+            (append-nil (sections_rows (sections ++ section_with f ∷ []))
+            ∙ flat_map-append section_rows sections (section_with f ∷ [])
+            ∙ ap (λ l. sections_rows sections ++ l)
+            (append-nil (section_rows (section_with f)) ∙ ap (λ n. head_row f.place n f.line ∷ byte_rows f.bytes) (sym size))),
       )
 
   filled_settled : 1 ≤ f.missing → Settled filled_one
   filled_settled some = (
-      record {
-        name = named_so;
-        order = order;
-        sections = texts;
-        filling = record { fillable = h; some = some; symbols = refl; relocs = refl };
-        few = λ k. (refl, refl);
-        symbols = tt;
-        relocs = tt;
-      },
-      bare_rows name sections (Some f),
-    )
+    record {
+      name = named_so;
+      order = order;
+      sections = texts;
+      filling = record { fillable = h; some = some; symbols = refl; relocs = refl };
+      few = λ k. (refl, refl);
+      symbols = tt;
+      relocs = tt;
+    },
+    bare_rows name sections (Some f),
+  )
 
   by_missing : (b : Bool) → (f.missing == 0) ≡ b → Settled (if b then whole_one else filled_one)
   by_missing true e = whole_settled (grind (arith, nat_tests))

@@ -216,9 +216,9 @@ module _ (o : Object) (has : HasText o) where
   part_stands n f = elim f [
     | inl s ↦ subst (Stands o) (sym s.2) (section_stands s.0 s.1)
     | inr r ↦ elim r [
-        | inl s ↦ let k = s.1 in subst (Stands o) (sym k.2) (symbol_stands k.0 s.0 k.1)
-        | inr s ↦ let k = s.2 in subst (Stands o) (sym k.2) (reloc_stands k.0 s.0 s.1 k.1)
-      ]
+      | inl s ↦ let k = s.1 in subst (Stands o) (sym k.2) (symbol_stands k.0 s.0 k.1)
+      | inr s ↦ let k = s.2 in subst (Stands o) (sym k.2) (reloc_stands k.0 s.0 s.1 k.1)
+    ]
   ]
 
 -- the parts of an object, and the object
@@ -266,21 +266,21 @@ part_below o n f = elim f [
       let e = s.2 in
       omega (arith, all, c, e)
   | inr r ↦ elim r [
-      | inl s ↦
-          let k = s.1 in
-          let g = k.1 in
-          let all = ap length g.parts ∙ length-append g.before (g.part ∷ g.after) in
-          let c = g.count_is in
-          let e = k.2 in
-          omega (arith, all, c, e)
-      | inr s ↦
-          let k = s.2 in
-          let g = k.1 in
-          let all = ap length g.parts ∙ length-append g.before (g.part ∷ g.after) in
-          let c = g.count_is in
-          let e = k.2 in
-          omega (arith, all, c, e)
-    ]
+    | inl s ↦
+        let k = s.1 in
+        let g = k.1 in
+        let all = ap length g.parts ∙ length-append g.before (g.part ∷ g.after) in
+        let c = g.count_is in
+        let e = k.2 in
+        omega (arith, all, c, e)
+    | inr s ↦
+        let k = s.2 in
+        let g = k.1 in
+        let all = ap length g.parts ∙ length-append g.before (g.part ∷ g.after) in
+        let c = g.count_is in
+        let e = k.2 in
+        omega (arith, all, c, e)
+  ]
 ]
 
 pub found_below : (os : List Object) (n : ℕ) → IsFoundObject os n → n < objects_count os
@@ -324,12 +324,12 @@ pub unsound_object : (o : Object) (front : List ℕ) → IsUnsoundPart o front �
 unsound_object o front u sound = elim u [
   | inl s ↦ s.unsound (All-middle HasRoom s.before s.section s.after (subst (All HasRoom) s.parts sound.room))
   | inr r ↦ elim r [
-      | inl s ↦
-          let all : AreSoundSymbols o.sections o.symbols = record { defined = sound.symbols; names = sound.names; start = sound.start } in
-          let e : o.symbols ≡ (s.before ++ s.symbol ∷ []) ++ s.after = s.parts ∙ sym (append_assoc s.before (s.symbol ∷ []) s.after) in
-          s.unsound (sound_front o.sections (s.before ++ s.symbol ∷ []) s.after (subst (AreSoundSymbols o.sections) e all))
-      | inr s ↦ s.unsound (All-middle (IsPatchIn o.sections) s.before s.reloc s.after (subst (All (IsPatchIn o.sections)) s.parts sound.relocs))
-    ]
+    | inl s ↦
+        let all : AreSoundSymbols o.sections o.symbols = record { defined = sound.symbols; names = sound.names; start = sound.start } in
+        let e : o.symbols ≡ (s.before ++ s.symbol ∷ []) ++ s.after = s.parts ∙ sym (append_assoc s.before (s.symbol ∷ []) s.after) in
+        s.unsound (sound_front o.sections (s.before ++ s.symbol ∷ []) s.after (subst (AreSoundSymbols o.sections) e all))
+    | inr s ↦ s.unsound (All-middle (IsPatchIn o.sections) s.before s.reloc s.after (subst (All (IsPatchIn o.sections)) s.parts sound.relocs))
+  ]
 ]
 
 no_room : (o : Object) (front : List ℕ) → IsUnsoundSection o front → All HasRoom o.sections → ⊥
@@ -344,40 +344,40 @@ no_symbols_sound o front s all =
 one_part : (o : Object) (f g : List ℕ) → IsUnsoundPart o f → IsUnsoundPart o g → f ≡ g
 one_part o f g u v = elim u [
   | inl s ↦ elim v [
-      | inl t ↦
-          let k = same_first (All HasRoom) (All-front HasRoom) s.before t.before s.after t.after s.section t.section (sym s.parts ∙ t.parts)
-          s.sound (λ h. s.unsound (All-last HasRoom s.before s.section h)) t.sound (λ h. t.unsound (All-last HasRoom t.before t.section h)) in
-          s.front_is ∙ ap (λ l. object_line o.name ++ flat_map section_lines l) k ∙ sym t.front_is
-      | inr w ↦ elim w [
-          | inl t ↦ absurd (no_room o f s t.room)
-          | inr t ↦ absurd (no_room o f s t.room)
-        ]
+    | inl t ↦
+        let k = same_first (All HasRoom) (All-front HasRoom) s.before t.before s.after t.after s.section t.section (sym s.parts ∙ t.parts)
+        s.sound (λ h. s.unsound (All-last HasRoom s.before s.section h)) t.sound (λ h. t.unsound (All-last HasRoom t.before t.section h)) in
+        s.front_is ∙ ap (λ l. object_line o.name ++ flat_map section_lines l) k ∙ sym t.front_is
+    | inr w ↦ elim w [
+      | inl t ↦ absurd (no_room o f s t.room)
+      | inr t ↦ absurd (no_room o f s t.room)
     ]
+  ]
   | inr r ↦ elim r [
-      | inl s ↦ elim v [
-          | inl t ↦ absurd (no_room o g t s.room)
-          | inr w ↦ elim w [
-              | inl t ↦
-                  let k = same_first (AreSoundSymbols o.sections) (sound_front o.sections) s.before t.before s.after t.after s.symbol t.symbol (sym s.parts ∙ t.parts)
-                  s.sound s.unsound t.sound t.unsound in
-                  s.front_is ∙ ap (λ l. object_line o.name ++ flat_map section_lines o.sections ++ flat_map symbol_line l) k ∙ sym t.front_is
-              | inr t ↦ absurd (no_symbols_sound o f s t.symbols)
-            ]
-        ]
-      | inr s ↦ elim v [
-          | inl t ↦ absurd (no_room o g t s.room)
-          | inr w ↦ elim w [
-              | inl t ↦ absurd (no_symbols_sound o g t s.symbols)
-              | inr t ↦
-                  let k = same_first (All (IsPatchIn o.sections)) (All-front (IsPatchIn o.sections)) s.before t.before s.after t.after s.reloc t.reloc (sym s.parts ∙ t.parts)
-                  s.sound (λ h. s.unsound (All-last (IsPatchIn o.sections) s.before s.reloc h)) t.sound
-                  (λ h. t.unsound (All-last (IsPatchIn o.sections) t.before t.reloc h)) in
-                  s.front_is
-                  ∙ ap (λ l. object_line o.name ++ flat_map section_lines o.sections ++ flat_map symbol_line o.symbols ++ flat_map reloc_line l) k
-                  ∙ sym t.front_is
-            ]
-        ]
+    | inl s ↦ elim v [
+      | inl t ↦ absurd (no_room o g t s.room)
+      | inr w ↦ elim w [
+        | inl t ↦
+            let k = same_first (AreSoundSymbols o.sections) (sound_front o.sections) s.before t.before s.after t.after s.symbol t.symbol (sym s.parts ∙ t.parts)
+            s.sound s.unsound t.sound t.unsound in
+            s.front_is ∙ ap (λ l. object_line o.name ++ flat_map section_lines o.sections ++ flat_map symbol_line l) k ∙ sym t.front_is
+        | inr t ↦ absurd (no_symbols_sound o f s t.symbols)
+      ]
     ]
+    | inr s ↦ elim v [
+      | inl t ↦ absurd (no_room o g t s.room)
+      | inr w ↦ elim w [
+        | inl t ↦ absurd (no_symbols_sound o g t s.symbols)
+        | inr t ↦
+            let k = same_first (All (IsPatchIn o.sections)) (All-front (IsPatchIn o.sections)) s.before t.before s.after t.after s.reloc t.reloc (sym s.parts ∙ t.parts)
+            s.sound (λ h. s.unsound (All-last (IsPatchIn o.sections) s.before s.reloc h)) t.sound
+            (λ h. t.unsound (All-last (IsPatchIn o.sections) t.before t.reloc h)) in
+            s.front_is
+            ∙ ap (λ l. object_line o.name ++ flat_map section_lines o.sections ++ flat_map symbol_line o.symbols ++ flat_map reloc_line l) k
+            ∙ sym t.front_is
+      ]
+    ]
+  ]
 ]
 
 -- the first line by which an object isn't sound is one

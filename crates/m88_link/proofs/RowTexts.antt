@@ -127,21 +127,21 @@ head_back : (place : Place) (text : List ℕ) (h : SectionHead) → head_of plac
 unfolding head_of
 head_back place text h e =
     option_and_then_some _ (hex8_word text) h e (λ len e1 f1.
-      option_and_then_some _ (number_of len.1) h f1 (λ line e2 f2.
-        let k = hex8_back text len.1 len.0 e1 in
-        let l = number_found len.1 line e2 in
-        let same : record { place = place; len = len.0; line = line } ≡ h = cc in
-        rw (← same) (refl, k.0 ∙ ap (λ (t : List ℕ). hex8 len.0 ++ 32 ∷ t) l.0, k.1, l.1)))
+    option_and_then_some _ (number_of len.1) h f1 (λ line e2 f2.
+    let k = hex8_back text len.1 len.0 e1 in
+    let l = number_found len.1 line e2 in
+    let same : record { place = place; len = len.0; line = line } ≡ h = cc in
+    rw (← same) (refl, k.0 ∙ ap (λ (t : List ℕ). hex8 len.0 ++ 32 ∷ t) l.0, k.1, l.1)))
 
 at_back : (text : List ℕ) (h : SectionHead) → at_of text ≡ Some h → (codes "at" ++ 32 ∷ text ≡ place_text h.place h) × IsHead h
 unfolding at_of
 at_back text h e =
     option_and_then_some _ (hex8_word text) h e (λ at e1 f1.
-      let k = hex8_back text at.1 at.0 e1 in
-      let l = head_back (At at.0) at.1 h f1 in (
-        ap (λ (t : List ℕ). codes "at" ++ 32 ∷ t) (k.0 ∙ ap (λ (t : List ℕ). hex8 at.0 ++ 32 ∷ t) l.1) ∙ ap (λ (p : Place). place_text p h) l.0,
-        (let P : Place → Type 0 = λ p. origin p < 2 ^ 32 in subst P l.0 k.1, l.2, l.3),
-      ))
+    let k = hex8_back text at.1 at.0 e1 in
+    let l = head_back (At at.0) at.1 h f1 in (
+      ap (λ (t : List ℕ). codes "at" ++ 32 ∷ t) (k.0 ∙ ap (λ (t : List ℕ). hex8 at.0 ++ 32 ∷ t) l.1) ∙ ap (λ (p : Place). place_text p h) l.0,
+      (let P : Place → Type 0 = λ p. origin p < 2 ^ 32 in subst P l.0 k.1, l.2, l.3),
+    ))
 
 text_back : (text : List ℕ) (h : SectionHead) → head_of Text text ≡ Some h → (codes "text" ++ 32 ∷ text ≡ place_text h.place h) × IsHead h
 text_back text h e =
@@ -161,54 +161,54 @@ symbol_back : (text : List ℕ) (s : Symbol) → symbol_in text ≡ Some s → (
 unfolding symbol_in
 symbol_back text s e =
     option_and_then_some _ (name_word text) s e (λ name e1 f1.
-      option_and_then_some _ (scope_word name.1) s f1 (λ scope e2 f2.
-        option_and_then_some _ (section_word_of scope.1) s f2 (λ section e3 f3.
-          option_and_then_some _ (hex8_word section.1) s f3 (λ value e4 f4.
-            option_and_then_some _ (number_word value.1) s f4 (λ line e5 f5.
-              option_and_then_some _ (number_of line.1) s f5 (λ col e6 f6.
-                let k1 = name_back text name.0 name.1 e1 in
-                let k2 = scope_back name.1 scope.1 scope.0 e2 in
-                let k3 = section_back scope.1 section.1 section.0 e3 in
-                let k4 = hex8_back section.1 value.1 value.0 e4 in
-                let k5 = number_back value.1 line.1 line.0 e5 in
-                let k6 = number_found line.1 col e6 in
-                let same : record { name = name.0; global = scope.0; section = section.0; value = value.0; line = line.0; col = col } ≡ s = cc in
-                rw (← same) (
-                  k1.0 ∙ ap (λ (t : List ℕ). name.0 ++ 32 ∷ t)
-                  (k2 ∙ ap (λ (t : List ℕ). scope_text scope.0 ++ 32 ∷ t)
-                  (k3.0 ∙ ap (λ (t : List ℕ). section_word section.0 ++ 32 ∷ t)
-                  (k4.0 ∙ ap (λ (t : List ℕ). hex8 value.0 ++ 32 ∷ t)
-                  (k5.0 ∙ ap (λ (t : List ℕ). decimal line.0 ++ 32 ∷ t) k6.0)))),
-                  record { name = k1.1; section = k3.1; value = k4.1; line = k5.1; col = k6.1 },
-                )))))))
+    option_and_then_some _ (scope_word name.1) s f1 (λ scope e2 f2.
+    option_and_then_some _ (section_word_of scope.1) s f2 (λ section e3 f3.
+    option_and_then_some _ (hex8_word section.1) s f3 (λ value e4 f4.
+    option_and_then_some _ (number_word value.1) s f4 (λ line e5 f5.
+    option_and_then_some _ (number_of line.1) s f5 (λ col e6 f6.
+    let k1 = name_back text name.0 name.1 e1 in
+    let k2 = scope_back name.1 scope.1 scope.0 e2 in
+    let k3 = section_back scope.1 section.1 section.0 e3 in
+    let k4 = hex8_back section.1 value.1 value.0 e4 in
+    let k5 = number_back value.1 line.1 line.0 e5 in
+    let k6 = number_found line.1 col e6 in
+    let same : record { name = name.0; global = scope.0; section = section.0; value = value.0; line = line.0; col = col } ≡ s = cc in
+    rw (← same) (
+      k1.0 ∙ ap (λ (t : List ℕ). name.0 ++ 32 ∷ t)
+          (k2 ∙ ap (λ (t : List ℕ). scope_text scope.0 ++ 32 ∷ t)
+          (k3.0 ∙ ap (λ (t : List ℕ). section_word section.0 ++ 32 ∷ t)
+          (k4.0 ∙ ap (λ (t : List ℕ). hex8 value.0 ++ 32 ∷ t)
+          (k5.0 ∙ ap (λ (t : List ℕ). decimal line.0 ++ 32 ∷ t) k6.0)))),
+      record { name = k1.1; section = k3.1; value = k4.1; line = k5.1; col = k6.1 },
+    )))))))
 
 reloc_back : (text : List ℕ) (r : Reloc) → reloc_in text ≡ Some r → (text ≡ reloc_text r) × HasRelocText r
 unfolding reloc_in
 reloc_back text r e =
     option_and_then_some _ (kind_word_of text) r e (λ kind e1 f1.
-      option_and_then_some _ (number_word kind.1) r f1 (λ section e2 f2.
-        option_and_then_some _ (hex8_word section.1) r f2 (λ offset e3 f3.
-          option_and_then_some _ (name_word offset.1) r f3 (λ symbol e4 f4.
-            option_and_then_some _ (hex8_word symbol.1) r f4 (λ addend e5 f5.
-              option_and_then_some _ (number_word addend.1) r f5 (λ line e6 f6.
-                option_and_then_some _ (number_of line.1) r f6 (λ col e7 f7.
-                  let k1 = kind_back text kind.1 kind.0 e1 in
-                  let k2 = number_back kind.1 section.1 section.0 e2 in
-                  let k3 = hex8_back section.1 offset.1 offset.0 e3 in
-                  let k4 = name_back offset.1 symbol.0 symbol.1 e4 in
-                  let k5 = hex8_back symbol.1 addend.1 addend.0 e5 in
-                  let k6 = number_back addend.1 line.1 line.0 e6 in
-                  let k7 = number_found line.1 col e7 in
-                  let same : record { kind = kind.0; section = section.0; offset = offset.0; symbol = symbol.0; addend = addend.0; line = line.0; col = col } ≡ r = cc in
-                  rw (← same) (
-                    k1 ∙ ap (λ (t : List ℕ). kind_word kind.0 ++ 32 ∷ t)
-                    (k2.0 ∙ ap (λ (t : List ℕ). decimal section.0 ++ 32 ∷ t)
-                    (k3.0 ∙ ap (λ (t : List ℕ). hex8 offset.0 ++ 32 ∷ t)
-                    (k4.0 ∙ ap (λ (t : List ℕ). symbol.0 ++ 32 ∷ t)
-                    (k5.0 ∙ ap (λ (t : List ℕ). hex8 addend.0 ++ 32 ∷ t)
-                    (k6.0 ∙ ap (λ (t : List ℕ). decimal line.0 ++ 32 ∷ t) k7.0))))),
-                    record { section = k2.1; offset = k3.1; symbol = k4.1; addend = k5.1; line = k6.1; col = k7.1 },
-                  ))))))))
+    option_and_then_some _ (number_word kind.1) r f1 (λ section e2 f2.
+    option_and_then_some _ (hex8_word section.1) r f2 (λ offset e3 f3.
+    option_and_then_some _ (name_word offset.1) r f3 (λ symbol e4 f4.
+    option_and_then_some _ (hex8_word symbol.1) r f4 (λ addend e5 f5.
+    option_and_then_some _ (number_word addend.1) r f5 (λ line e6 f6.
+    option_and_then_some _ (number_of line.1) r f6 (λ col e7 f7.
+    let k1 = kind_back text kind.1 kind.0 e1 in
+    let k2 = number_back kind.1 section.1 section.0 e2 in
+    let k3 = hex8_back section.1 offset.1 offset.0 e3 in
+    let k4 = name_back offset.1 symbol.0 symbol.1 e4 in
+    let k5 = hex8_back symbol.1 addend.1 addend.0 e5 in
+    let k6 = number_back addend.1 line.1 line.0 e6 in
+    let k7 = number_found line.1 col e7 in
+    let same : record { kind = kind.0; section = section.0; offset = offset.0; symbol = symbol.0; addend = addend.0; line = line.0; col = col } ≡ r = cc in
+    rw (← same) (
+      k1 ∙ ap (λ (t : List ℕ). kind_word kind.0 ++ 32 ∷ t)
+          (k2.0 ∙ ap (λ (t : List ℕ). decimal section.0 ++ 32 ∷ t)
+          (k3.0 ∙ ap (λ (t : List ℕ). hex8 offset.0 ++ 32 ∷ t)
+          (k4.0 ∙ ap (λ (t : List ℕ). symbol.0 ++ 32 ∷ t)
+          (k5.0 ∙ ap (λ (t : List ℕ). hex8 addend.0 ++ 32 ∷ t)
+          (k6.0 ∙ ap (λ (t : List ℕ). decimal line.0 ++ 32 ∷ t) k7.0))))),
+      record { section = k2.1; offset = k3.1; symbol = k4.1; addend = k5.1; line = k6.1; col = k7.1 },
+    ))))))))
 
 -- the word that begins a line
 abbrev keyword_text : Keyword → List ℕ
@@ -223,21 +223,21 @@ keyword_found : (text : List ℕ) (k : Keyword) → keyword_of text ≡ Some k �
 keyword_found text k e = elim (if_same (bytes_eq text (codes "object")) word.Object k _ e) [
   | inl here ↦ same_text text (codes "object") here.0 ∙ ap keyword_text here.1
   | inr later ↦ elim (if_same (bytes_eq text (codes "symbol")) word.Symbol k _ later.1) [
-      | inl here ↦ same_text text (codes "symbol") here.0 ∙ ap keyword_text here.1
-      | inr later ↦ elim (if_same (bytes_eq text (codes "text")) word.Text k _ later.1) [
-          | inl here ↦ same_text text (codes "text") here.0 ∙ ap keyword_text here.1
-          | inr later ↦ elim (if_same (bytes_eq text (codes "data")) word.Data k _ later.1) [
-              | inl here ↦ same_text text (codes "data") here.0 ∙ ap keyword_text here.1
-              | inr later ↦ elim (if_same (bytes_eq text (codes "at")) word.At k _ later.1) [
-                  | inl here ↦ same_text text (codes "at") here.0 ∙ ap keyword_text here.1
-                  | inr later ↦ elim (if_same (bytes_eq text (codes "reloc")) word.Reloc k _ later.1) [
-                      | inl here ↦ same_text text (codes "reloc") here.0 ∙ ap keyword_text here.1
-                      | inr never ↦ absurd (let h = never.1 in cc)
-                    ]
-                ]
-            ]
+    | inl here ↦ same_text text (codes "symbol") here.0 ∙ ap keyword_text here.1
+    | inr later ↦ elim (if_same (bytes_eq text (codes "text")) word.Text k _ later.1) [
+      | inl here ↦ same_text text (codes "text") here.0 ∙ ap keyword_text here.1
+      | inr later ↦ elim (if_same (bytes_eq text (codes "data")) word.Data k _ later.1) [
+        | inl here ↦ same_text text (codes "data") here.0 ∙ ap keyword_text here.1
+        | inr later ↦ elim (if_same (bytes_eq text (codes "at")) word.At k _ later.1) [
+          | inl here ↦ same_text text (codes "at") here.0 ∙ ap keyword_text here.1
+          | inr later ↦ elim (if_same (bytes_eq text (codes "reloc")) word.Reloc k _ later.1) [
+            | inl here ↦ same_text text (codes "reloc") here.0 ∙ ap keyword_text here.1
+            | inr never ↦ absurd (let h = never.1 in cc)
+          ]
         ]
+      ]
     ]
+  ]
 ]
 
 -- what a word of a row was made of
@@ -255,8 +255,8 @@ said_as text x r e h = subst (Says text) e h
 by_keyword : (k : Keyword) (rest : List ℕ) (r : Row) → row_by k rest ≡ Some r → Says (keyword_text k ++ 32 ∷ rest) r
 by_keyword word.Object rest r e =
     mapped Begin (name_of rest) r e (λ name is same.
-      let k = name_found rest name is in
-      said_as (codes "object" ++ 32 ∷ rest) (Begin name) r same (ap (λ (t : List ℕ). codes "object" ++ 32 ∷ t) k.0, k.1))
+    let k = name_found rest name is in
+    said_as (codes "object" ++ 32 ∷ rest) (Begin name) r same (ap (λ (t : List ℕ). codes "object" ++ 32 ∷ t) k.0, k.1))
 by_keyword word.Text rest r e =
     mapped Head (head_of Text rest) r e (λ h is same. said_as (codes "text" ++ 32 ∷ rest) (Head h) r same (text_back rest h is))
 by_keyword word.Data rest r e =
@@ -265,12 +265,12 @@ by_keyword word.At rest r e =
     mapped Head (at_of rest) r e (λ h is same. said_as (codes "at" ++ 32 ∷ rest) (Head h) r same (at_back rest h is))
 by_keyword word.Symbol rest r e =
     mapped Define (symbol_in rest) r e (λ s is same.
-      let k = symbol_back rest s is in
-      said_as (codes "symbol" ++ 32 ∷ rest) (Define s) r same (ap (λ (t : List ℕ). codes "symbol" ++ 32 ∷ t) k.0, k.1))
+    let k = symbol_back rest s is in
+    said_as (codes "symbol" ++ 32 ∷ rest) (Define s) r same (ap (λ (t : List ℕ). codes "symbol" ++ 32 ∷ t) k.0, k.1))
 by_keyword word.Reloc rest r e =
     mapped Patch (reloc_in rest) r e (λ s is same.
-      let k = reloc_back rest s is in
-      said_as (codes "reloc" ++ 32 ∷ rest) (Patch s) r same (ap (λ (t : List ℕ). codes "reloc" ++ 32 ∷ t) k.0, k.1))
+    let k = reloc_back rest s is in
+    said_as (codes "reloc" ++ 32 ∷ rest) (Patch s) r same (ap (λ (t : List ℕ). codes "reloc" ++ 32 ∷ t) k.0, k.1))
 
 pub row_back : (text : List ℕ) (r : Row) → row_of text ≡ Some r → (text ≡ row_text r) × IsRow r
 unfolding row_of
@@ -278,8 +278,8 @@ row_back text r e = elim (if_same (bytes_eq text (codes "end")) End r _ e) [
   | inl here ↦ said_as text End r here.1 (same_text text (codes "end") here.0, tt)
   | inr later ↦
       option_and_then_some _ (first_word text) r later.1 (λ p found f.
-        option_and_then_some _ (keyword_of p.0) r f (λ k is g.
-          let t : text ≡ keyword_text k ++ 32 ∷ p.1 = (cut_found 32 text p found).text_is ∙ ap (λ (l : List ℕ). l ++ 32 ∷ p.1) (keyword_found p.0 k is) in
-          let s = by_keyword k p.1 r g in
-          (t ∙ s.0, s.1)))
+      option_and_then_some _ (keyword_of p.0) r f (λ k is g.
+      let t : text ≡ keyword_text k ++ 32 ∷ p.1 = (cut_found 32 text p found).text_is ∙ ap (λ (l : List ℕ). l ++ 32 ∷ p.1) (keyword_found p.0 k is) in
+      let s = by_keyword k p.1 r g in
+      (t ∙ s.0, s.1)))
 ]

@@ -117,8 +117,8 @@ word_told of text word rest rest' a b is says e =
 pub word_back : {A : Type 0} (of : List ℕ → Option A) (text rest : List ℕ) (a : A) → word_by of text ≡ Some (a, rest) → WordIs of text a rest
 word_back of text rest a e =
     option_and_then_some (λ p. of p.0 >>= λ a. Some (a, p.1)) (first_word text) (a, rest) e (λ p found f.
-      option_and_then_some (λ a. Some (a, p.1)) (of p.0) (a, rest) f (λ b says g.
-        word_told of text p.0 p.1 rest a b (cut_found 32 text p found).text_is says g))
+    option_and_then_some (λ a. Some (a, p.1)) (of p.0) (a, rest) f (λ b says g.
+    word_told of text p.0 p.1 rest a b (cut_found 32 text p found).text_is says g))
 
 -- the words of each kind, read
 module _ (rest : List ℕ) where
@@ -185,9 +185,9 @@ scope_found : (text : List ℕ) (scope : Bool) → scope_of text ≡ Some scope 
 scope_found text scope e = elim (if_same (bytes_eq text (codes "g")) true scope _ e) [
   | inl here ↦ same_text text (codes "g") here.0 ∙ ap scope_text here.1
   | inr later ↦ elim (if_same (bytes_eq text (codes "l")) false scope _ later.1) [
-      | inl here ↦ same_text text (codes "l") here.0 ∙ ap scope_text here.1
-      | inr never ↦ absurd (let h = never.1 in cc)
-    ]
+    | inl here ↦ same_text text (codes "l") here.0 ∙ ap scope_text here.1
+    | inr never ↦ absurd (let h = never.1 in cc)
+  ]
 ]
 
 pub scope_back : (text rest : List ℕ) (scope : Bool) → scope_word text ≡ Some (scope, rest) → text ≡ scope_text scope ++ 32 ∷ rest
@@ -200,18 +200,18 @@ kind_found : (text : List ℕ) (kind : Kind) → kind_of text ≡ Some kind → 
 kind_found text kind e = elim (if_same (bytes_eq text (codes "hi16")) Hi16 kind _ e) [
   | inl here ↦ same_text text (codes "hi16") here.0 ∙ ap kind_word here.1
   | inr later ↦ elim (if_same (bytes_eq text (codes "lo16")) Lo16 kind _ later.1) [
-      | inl here ↦ same_text text (codes "lo16") here.0 ∙ ap kind_word here.1
-      | inr later ↦ elim (if_same (bytes_eq text (codes "pc26")) Pc26 kind _ later.1) [
-          | inl here ↦ same_text text (codes "pc26") here.0 ∙ ap kind_word here.1
-          | inr later ↦ elim (if_same (bytes_eq text (codes "pc16")) Pc16 kind _ later.1) [
-              | inl here ↦ same_text text (codes "pc16") here.0 ∙ ap kind_word here.1
-              | inr later ↦ elim (if_same (bytes_eq text (codes "abs32")) Abs32 kind _ later.1) [
-                  | inl here ↦ same_text text (codes "abs32") here.0 ∙ ap kind_word here.1
-                  | inr never ↦ absurd (let h = never.1 in cc)
-                ]
-            ]
+    | inl here ↦ same_text text (codes "lo16") here.0 ∙ ap kind_word here.1
+    | inr later ↦ elim (if_same (bytes_eq text (codes "pc26")) Pc26 kind _ later.1) [
+      | inl here ↦ same_text text (codes "pc26") here.0 ∙ ap kind_word here.1
+      | inr later ↦ elim (if_same (bytes_eq text (codes "pc16")) Pc16 kind _ later.1) [
+        | inl here ↦ same_text text (codes "pc16") here.0 ∙ ap kind_word here.1
+        | inr later ↦ elim (if_same (bytes_eq text (codes "abs32")) Abs32 kind _ later.1) [
+          | inl here ↦ same_text text (codes "abs32") here.0 ∙ ap kind_word here.1
+          | inr never ↦ absurd (let h = never.1 in cc)
         ]
+      ]
     ]
+  ]
 ]
 
 pub kind_back : (text rest : List ℕ) (kind : Kind) → kind_word_of text ≡ Some (kind, rest) → text ≡ kind_word kind ++ 32 ∷ rest
@@ -249,6 +249,7 @@ section_found text section e = elim (if_same (bytes_eq text (codes "abs")) None 
     absent : (section : Option ℕ) → None ≡ section → text ≡ codes "abs" → (text ≡ section_word section) × IfSome section (λ k. k < 2 ^ 32)
     absent None e h = (h, tt)
     absent (Some k) e h = absurd cc
+
     numbered : (o : Option ℕ) → number_of text ≡ o → (section : Option ℕ) → option_map Some o ≡ Some section
         → (text ≡ section_word section) × IfSome section (λ k. k < 2 ^ 32)
     numbered None is section h = absurd cc

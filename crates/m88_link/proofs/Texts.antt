@@ -225,17 +225,19 @@ ones_lack P row each [] h = tt
 ones_lack P row each (x ∷ xs) h = (each x h.0, ones_lack P row each xs h.1)
 
 pub section_lack : (s : Section) → HasSectionText s → Lack (section_rows s)
-section_lack s h =
-    (row_lacks (Head (record { place = s.place; len = length s.bytes; line = s.line })) (h.address, h.few, h.line),
-    bytes_lack s.bytes ((length s.bytes + 31) / 32))
+section_lack s h = (
+  row_lacks (Head (record { place = s.place; len = length s.bytes; line = s.line })) (h.address, h.few, h.line),
+  bytes_lack s.bytes ((length s.bytes + 31) / 32),
+)
 
 object_lack : (o : Object) → HasText o → Lack (object_rows o)
-object_lack o h =
-    (row_lacks (Begin o.name) h.name,
-    lack_append (sections_rows o.sections) _ (parts_lack HasSectionText section_rows section_lack o.sections h.sections)
-    (lack_append (symbol_rows o.symbols) _ (ones_lack HasSymbolText (λ s. row_text (Define s)) (λ s k. row_lacks (Define s) k) o.symbols h.symbols)
-    (lack_append (reloc_rows o.relocs) (row_text End ∷ []) (ones_lack HasRelocText (λ r. row_text (Patch r)) (λ r k. row_lacks (Patch r) k) o.relocs h.relocs)
-    (refl, tt))))
+object_lack o h = (
+  row_lacks (Begin o.name) h.name,
+  lack_append (sections_rows o.sections) _ (parts_lack HasSectionText section_rows section_lack o.sections h.sections)
+      (lack_append (symbol_rows o.symbols) _ (ones_lack HasSymbolText (λ s. row_text (Define s)) (λ s k. row_lacks (Define s) k) o.symbols h.symbols)
+      (lack_append (reloc_rows o.relocs) (row_text End ∷ []) (ones_lack HasRelocText (λ r. row_text (Patch r)) (λ r k. row_lacks (Patch r) k) o.relocs h.relocs)
+      (refl, tt))),
+)
 
 pub objects_lack : (os : List Object) → AllByRecursion HasText os → Lack (objects_rows os)
 objects_lack os h = parts_lack HasText object_rows object_lack os h

@@ -108,10 +108,10 @@ module _ (sections : List Section) (ss : List Symbol) (s : Symbol) where
 
   pub sound_last : AreSoundSymbols sections (ss ++ s ∷ []) → IsDefinedIn sections s × (symbol_of ss s.name ≡ None) × IsGlobalIfStart s
   sound_last h = (
-      All-last (IsDefinedIn sections) ss s h.defined,
-      new_of (symbol_of ss s.name) (last_or (first_repeated ss) (repetition ss s) (sym (repeated_after-push [] ss s) ∙ h.names)),
-      All-last IsGlobalIfStart ss s h.start,
-    )
+    All-last (IsDefinedIn sections) ss s h.defined,
+    new_of (symbol_of ss s.name) (last_or (first_repeated ss) (repetition ss s) (sym (repeated_after-push [] ss s) ∙ h.names)),
+    All-last IsGlobalIfStart ss s h.start,
+  )
 
 pub no_symbols : (sections : List Section) → AreSoundSymbols sections []
 no_symbols sections = record { defined = λ k d h. absurd (omega arith); names = refl; start = λ k d h. absurd (omega arith) }
@@ -125,9 +125,9 @@ module _ (sections : List Section) (xs : List Symbol) (i : ℕ) (x : Symbol) (wi
   symbol_fails e =
       found_at xs i x within is (AreSoundSymbols sections) length i sound
       (λ h.
-        let k = sound_last sections (take i xs) x h in
-        let t = tells.1 (k.0, ap (λ l. symbol_of l x.name) named ∙ k.1, k.2) in
-        absurd cc)
+      let k = sound_last sections (take i xs) x h in
+      let t = tells.1 (k.0, ap (λ l. symbol_of l x.name) named ∙ k.1, k.2) in
+      absurd cc)
       (len_taken xs i x within is)
 
   pub symbol_holds : b ≡ true → AreSoundSymbols sections (take (i + 1) xs)

@@ -113,7 +113,8 @@ rows_prefix xs ys whole =
     let before : (length xs + 31) / 32 ≡ n = omega (arith, whole) in
     let both = length-append xs ys in
     let after : (length (xs ++ ys) + 31) / 32 ≡ n + m = omega (arith, whole, both) in
-    let k = rows_more (xs ++ ys) n m in
-    (k.0,
+    let k = rows_more (xs ++ ys) n m in (
+      k.0,
       ap (rows_before (xs ++ ys)) after ∙ k.1
-      ∙ ap (λ l. l ++ k.0) (rows_front xs ys n size ∙ ap (rows_before xs) (sym before)))
+          ∙ ap (λ l. l ++ k.0) (rows_front xs ys n size ∙ ap (rows_before xs) (sym before)),
+    )

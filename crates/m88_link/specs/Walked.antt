@@ -66,7 +66,7 @@ IsFoundPart o n =
     ((k : ℕ) × IsFoundSection o.sections k × (n ≡ 1 + k))
     ⊎ (HaveRoom o.sections × ((k : ℕ) × IsFoundSymbol o.sections o.symbols k × (n ≡ 1 + sections_count o.sections + k)))
     ⊎ (HaveRoom o.sections × AreSoundSymbols o.sections o.symbols
-      × ((k : ℕ) × IsFoundReloc o.sections o.relocs k × (n ≡ 1 + sections_count o.sections + length o.symbols + k)))
+    × ((k : ℕ) × IsFoundReloc o.sections o.relocs k × (n ≡ 1 + sections_count o.sections + length o.symbols + k)))
 
 -- n lines stand before that part in the text of objects
 pub record IsFoundObject (objects : List Object) (n : ℕ) : Type 0 where

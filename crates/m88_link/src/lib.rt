@@ -27,6 +27,8 @@ mod object_draft;
 mod object_lines;
 mod progress;
 mod read;
+#[cfg(test)]
+mod read_tests;
 mod row;
 mod row_text;
 mod walk;
@@ -34,8 +36,8 @@ mod words;
 
 pub use fault::{LinkFault, LinkKind};
 pub use linking::link;
-pub use object_fault::ObjectFault;
 pub use object::{Object, Place, Reloc, Section, Symbol};
+pub use object_fault::ObjectFault;
 pub use read::read_objects;
 pub use sound::is_sound;
 pub use table::SymbolTable;

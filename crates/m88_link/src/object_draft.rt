@@ -46,7 +46,12 @@ impl Model for Draft {
     ghost Value = { Begun };
 
     ghost view = { λ d. record {
-        name = d.name; sections = d.sections.items; filling = d.filling; symbols = d.symbols.items; relocs = d.relocs.items } };
+      name = d.name;
+      sections = d.sections.items;
+      filling = d.filling;
+      symbols = d.symbols.items;
+      relocs = d.relocs.items;
+    } };
 }
 
 impl Filling {
@@ -83,7 +88,10 @@ impl Filling {
         ensures { result ≡ section_with self }
     {
         let Filling {
-            place, bytes, line, ..
+            place,
+            bytes,
+            line,
+            ..
         } = self;
         Section {
             place,
