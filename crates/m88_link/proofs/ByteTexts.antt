@@ -1,15 +1,14 @@
 -- Lines of an object text that give bytes: what a line writes, it says, and what it says, it writes.
-use Rattle.std.proofs.Common.{◌≡◌, ℕ, suc, ◌+◌, ◌*◌, ◌/◌, ◌%◌, ◌^◌, ◌<◌, ◌≤◌, Bool, true, false, List, [], ◌∷◌, ◌++◌, length, refl, sym, ap, ◌∙◌, arith}
-use Rattle.std.specs.Prelude.{Option, None, Some, ◌&&◌, flat_map, option_and_then, option_map, if◌then◌else◌}
+use Rattle.std.proofs.Common.{◌≡◌, ℕ, ◌+◌, ◌*◌, ◌/◌, ◌%◌, ◌^◌, ◌<◌, Bool, true, false, List, [], ◌∷◌, ◌++◌, length, refl, ap, ◌∙◌, arith}
+use Rattle.std.specs.Prelude.{Option, None, Some, ◌&&◌, flat_map, option_map, if◌then◌else◌}
 use Rattle.std.specs.Char.{digit_value}
-use Rattle.std.specs.List.{AllByRecursion, list_all}
+use Rattle.std.specs.List.{AllByRecursion}
 use Rattle.std.proofs.lemmas.Bool.Decides.{nat_tests}
 use Rattle.std.proofs.lemmas.Option.{option_and_then_some}
 use Rattle.m88_base.specs.Hex.{hex_digit, hex2, is_hex_digit}
 use Rattle.m88_link.specs.Rows.{◌>>=◌, byte_of, bytes_of, hex_value}
 use Rattle.m88_link.proofs.Divided.{is_other}
-use Rattle.m88_link.proofs.Lined.{lacks, lacks-append}
-use Rattle.m88_link.proofs.Spelling.{if_same}
+use Rattle.m88_link.proofs.Lined.{lacks}
 use Rattle.m88_link.proofs.RowTexts.{mapped}
 
 is_digit_of : (d : ℕ) → d < 16 → is_hex_digit (hex_digit d) ≡ true

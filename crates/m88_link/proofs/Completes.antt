@@ -1,6 +1,6 @@
 -- What is read so far begins the lines of objects that have a text.
 use Rattle.std.proofs.Common.{◌≡◌, ℕ, zero, suc, ◌+◌, ◌<◌, ◌≤◌, ◌^◌, true, List, [], ◌∷◌, ◌++◌, length, replicate, refl, sym, ap, ◌∙◌, subst, arith, append_assoc, length-append}
-use Rattle.std.specs.Prelude.{Option, None, Some, IfSome, codes, flat_map}
+use Rattle.std.specs.Prelude.{Option, None, Some, IfSome, codes}
 use Rattle.std.specs.List.{AllByRecursion}
 use Rattle.std.proofs.lemmas.List.{append-nil, length-replicate}
 use Rattle.std.proofs.lemmas.List.Concat.{flat_map-append}
@@ -12,9 +12,8 @@ use Rattle.m88_link.specs.declared.object.Section.{Section}
 use Rattle.m88_link.specs.declared.row.Row.TheVariants.{Begin, End}
 use Rattle.m88_link.specs.Drafts.{Begun, Filled, Progress, is_next, object_with}
 use Rattle.m88_link.specs.ObjectRead.{HasSectionText, HasText, HaveText}
-use Rattle.m88_link.specs.Sound.{origin}
 use Rattle.m88_link.proofs.RowTexts.{row_text}
-use Rattle.m88_link.proofs.Written.{byte_rows, draft_rows, filled_rows, filling_rows, head_row, object_rows, objects_rows, open_rows, rows_prefix, section_rows, sections_rows, written}
+use Rattle.m88_link.proofs.Written.{byte_rows, draft_rows, filled_rows, head_row, object_rows, objects_rows, open_rows, rows_prefix, section_rows, sections_rows, written}
 use Rattle.m88_link.proofs.Kept.{AreInOrder, IsFilling, IsKept, IsProgress, all_push, bare, bare_is, bare_rows, order_push, order_whole}
 use Rattle.m88_link.proofs.Goes.{all_append, whole_rows}
 

@@ -1,12 +1,10 @@
 -- The lines of objects that have a text are taken one by one, and come to these objects.
-use Rattle.std.proofs.Common.{◌≡◌, ℕ, zero, suc, ◌+◌, ◌-◌, ◌*◌, ◌/◌, ◌%◌, ◌^◌, ◌<◌, ◌≤◌, Bool, true, false, List, [], ◌∷◌, ◌++◌, length, map, take, drop, min, refl, sym, ap, ◌∙◌, subst, arith, append_assoc, length-append, length-drop}
-use Rattle.std.specs.Prelude.{Option, None, Some, ◌==◌, ◌&&◌, IfSome, All, flat_map, nat_le, option_map, if◌then◌else◌}
+use Rattle.std.proofs.Common.{◌≡◌, ℕ, zero, suc, ◌+◌, ◌-◌, ◌*◌, ◌/◌, ◌^◌, ◌<◌, ◌≤◌, Bool, true, false, List, [], ◌∷◌, ◌++◌, length, take, drop, min, refl, sym, ap, ◌∙◌, arith, append_assoc, length-append, length-drop}
+use Rattle.std.specs.Prelude.{Option, None, Some, ◌==◌, ◌&&◌, flat_map, option_map, if◌then◌else◌}
 use Rattle.std.specs.List.{AllByRecursion}
-use Rattle.std.specs.Option.{is_none}
 use Rattle.std.proofs.lemmas.Bool.Decides.{nat_tests}
 use Rattle.std.proofs.lemmas.Bool.{eq-eqb, le-leb}
 use Rattle.std.proofs.lemmas.List.{append-nil, length-take-le, nil_from_length, take-append-drop, take-take, take_all, drop-take}
-use Rattle.std.proofs.lemmas.List.Concat.{flat_map-append}
 use Rattle.std.proofs.lemmas.List.Elements.{recursion_from_All}
 use Rattle.m88_base.specs.Hex.{hex2}
 use Rattle.m88_link.specs.declared.object.Object.{Object}
@@ -18,13 +16,13 @@ use Rattle.m88_link.specs.declared.object.Symbol.{Symbol}
 use Rattle.m88_link.specs.declared.row.Row.{Row}
 use Rattle.m88_link.specs.declared.row.Row.TheVariants.{Begin, Head, Define, Patch, End}
 use Rattle.m88_link.specs.declared.row.SectionHead.{SectionHead}
-use Rattle.m88_link.specs.Drafts.{Begun, Filled, Progress, bytes_step, define_step, end_step, begin_step, head_step, headed, is_bare, is_next, is_whole, line_step, more_bytes, named, object_with, patch_step, row_step, settled, section_with, takes_head, within}
+use Rattle.m88_link.specs.Drafts.{Begun, Filled, Progress, bytes_step, define_step, end_step, begin_step, head_step, headed, is_next, line_step, more_bytes, named, object_with, patch_step, row_step, settled, section_with, within}
 use Rattle.m88_link.specs.ObjectRead.{HasRelocText, HasSectionText, HasSymbolText, HasText}
-use Rattle.m88_link.specs.Rows.{◌>>=◌, bytes_behind, bytes_of, row_of}
-use Rattle.m88_link.specs.Sound.{AreSections, IsOwnAddress, origin}
+use Rattle.m88_link.specs.Rows.{◌>>=◌, bytes_behind, row_of}
+use Rattle.m88_link.specs.Sound.{AreSections, IsOwnAddress}
 use Rattle.m88_link.proofs.ByteTexts.{bytes_read, length-digits}
 use Rattle.m88_link.proofs.RowTexts.{IsRow, place_text, row_read, row_text}
-use Rattle.m88_link.proofs.Written.{byte_row, byte_rows, draft_rows, object_rows, objects_rows, reloc_rows, rows_before, section_rows, sections_rows, symbol_rows}
+use Rattle.m88_link.proofs.Written.{byte_row, byte_rows, object_rows, objects_rows, reloc_rows, rows_before, section_rows, sections_rows, symbol_rows}
 use Rattle.m88_link.proofs.Kept.{bare}
 
 -- lines one after the other

@@ -1,9 +1,8 @@
 -- Each line that is taken goes behind what is read so far: bytes, symbols, relocations, and the two ends of an object.
-use Rattle.std.proofs.Common.{◌≡◌, ℕ, zero, suc, ◌+◌, ◌-◌, ◌*◌, ◌/◌, ◌%◌, ◌^◌, ◌<◌, ◌≤◌, Bool, true, false, List, [], ◌∷◌, ◌++◌, length, map, min, refl, sym, ap, ◌∙◌, subst, arith, append_assoc, length-append}
-use Rattle.std.specs.Prelude.{Option, None, Some, ◌==◌, ◌&&◌, IfSome, flat_map, nat_le, option_map, if◌then◌else◌}
+use Rattle.std.proofs.Common.{◌≡◌, ℕ, ◌+◌, ◌-◌, ◌*◌, ◌^◌, ◌<◌, ◌≤◌, Bool, true, false, List, [], ◌∷◌, ◌++◌, length, min, refl, sym, ap, ◌∙◌, subst, arith, append_assoc, length-append}
+use Rattle.std.specs.Prelude.{Option, None, Some, ◌==◌, ◌&&◌, IfSome, flat_map, nat_le, if◌then◌else◌}
 use Rattle.std.specs.List.{AllByRecursion}
 use Rattle.std.specs.Option.{is_none}
-use Rattle.std.proofs.lemmas.Bool.Decides.{nat_tests}
 use Rattle.std.proofs.lemmas.Bool.{eqb-true, leb-true}
 use Rattle.std.proofs.lemmas.List.{append-nil, map_push}
 use Rattle.std.proofs.lemmas.List.Concat.{flat_map-append}
@@ -11,7 +10,6 @@ use Rattle.std.proofs.lemmas.Option.{option_and_then_some}
 use Rattle.m88_base.specs.Hex.{hex2}
 use Rattle.m88_base.specs.Name.{IsName}
 use Rattle.m88_base.proofs.Digits.{both}
-use Rattle.m88_link.specs.declared.object.Object.{Object}
 use Rattle.m88_link.specs.declared.object.Reloc.{Reloc}
 use Rattle.m88_link.specs.declared.object.Section.{Section}
 use Rattle.m88_link.specs.declared.object.Symbol.{Symbol}
@@ -22,7 +20,7 @@ use Rattle.m88_link.specs.ObjectRead.{HasRelocText, HasSymbolText, HasText}
 use Rattle.m88_link.specs.Rows.{◌>>=◌, bytes_behind, bytes_of, row_of}
 use Rattle.m88_link.proofs.ByteTexts.{bytes_back, length-digits}
 use Rattle.m88_link.proofs.RowTexts.{IsRow, mapped, row_back, row_text}
-use Rattle.m88_link.proofs.Written.{byte_row, byte_rows, draft_rows, filled_rows, filling_rows, head_row, object_rows, objects_rows, one_row_more, open_rows, reloc_rows, section_rows, sections_rows, symbol_rows, written}
+use Rattle.m88_link.proofs.Written.{byte_rows, draft_rows, filled_rows, filling_rows, head_row, object_rows, objects_rows, one_row_more, open_rows, reloc_rows, sections_rows, symbol_rows, written}
 use Rattle.m88_link.proofs.Kept.{Goes, IsFillable, IsFilling, IsKept, IsProgress, all_push, bare, bare_is, bare_nil, bare_rows, head_goes, if_some, is_settled, none_is, order_whole}
 
 -- bytes that come to a section

@@ -1,11 +1,11 @@
 -- What reading comes to: the objects whose text it is, or the first line that no objects' text continues.
-use Rattle.std.proofs.Common.{◌≡◌, ℕ, zero, suc, ◌+◌, ◌-◌, ◌<◌, ◌≤◌, Bool, true, false, List, [], ◌∷◌, ◌++◌, length, map, take, drop, min, refl, sym, ap, ◌∙◌, subst, arith, inl, inr, append_assoc, length-take}
-use Rattle.std.specs.Prelude.{◌⊎◌, Option, None, Some, Result, Ok, Err, ◌==◌, ◌&&◌, nat_le, flat_map, if◌then◌else◌}
+use Rattle.std.proofs.Common.{◌≡◌, ℕ, suc, ◌+◌, ◌-◌, ◌≤◌, Bool, true, false, List, [], ◌∷◌, ◌++◌, length, map, take, drop, min, refl, sym, ap, ◌∙◌, subst, arith, inl, inr, append_assoc, length-take}
+use Rattle.std.specs.Prelude.{◌⊎◌, Option, None, Some, Ok, Err, ◌&&◌, nat_le, flat_map, if◌then◌else◌}
 use Rattle.std.specs.Option.{is_none}
 use Rattle.std.specs.List.{AllByRecursion}
-use Rattle.std.proofs.lemmas.Bool.{eqb-true, le-leb, leb-true}
+use Rattle.std.proofs.lemmas.Bool.{le-leb, leb-true}
 use Rattle.std.proofs.lemmas.Bool.Decides.{leb_tells}
-use Rattle.std.proofs.lemmas.List.{append-nil, length-map, length-take-le, map-append, take-append-drop, take-take, take_all, take_at}
+use Rattle.std.proofs.lemmas.List.{append-nil, length-take-le, map-append, take-append-drop, take-take, take_all, take_at}
 use Rattle.std.proofs.lemmas.Option.{option_and_then_some}
 use Rattle.m88_base.proofs.Digits.{both}
 use Rattle.m88_link.specs.declared.object.Object.{Object}

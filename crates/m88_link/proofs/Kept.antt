@@ -1,33 +1,27 @@
 -- What is read so far keeps to, and what each line that is taken adds to it: one line, that line.
-use Rattle.std.proofs.Common.{◌≡◌, ℕ, zero, suc, ◌+◌, ◌-◌, ◌*◌, ◌/◌, ◌%◌, ◌^◌, ◌<◌, ◌≤◌, Bool, true, false, List, [], ◌∷◌, ◌++◌, length, map, min, refl, sym, ap, ◌∙◌, subst, arith, append_assoc, length-append}
-use Rattle.std.specs.Prelude.{Option, None, Some, ◌==◌, ◌&&◌, IfSome, All, flat_map, nat_le, option_map, if◌then◌else◌}
+use Rattle.std.proofs.Common.{◌≡◌, ℕ, ◌+◌, ◌%◌, ◌^◌, ◌<◌, ◌≤◌, Bool, true, false, List, [], ◌∷◌, ◌++◌, length, refl, sym, ap, ◌∙◌, subst, arith}
+use Rattle.std.specs.Prelude.{Option, None, Some, ◌==◌, ◌&&◌, IfSome, if◌then◌else◌}
 use Rattle.std.specs.List.{AllByRecursion}
 use Rattle.std.specs.Option.{is_none}
 use Rattle.std.proofs.lemmas.Bool.Decides.{nat_tests}
-use Rattle.std.proofs.lemmas.Bool.{eqb-true, leb-true}
-use Rattle.std.proofs.lemmas.List.{append-nil, map-append, nil_from_length}
+use Rattle.std.proofs.lemmas.Bool.{eqb-true}
+use Rattle.std.proofs.lemmas.List.{append-nil, nil_from_length}
 use Rattle.std.proofs.lemmas.List.Concat.{flat_map-append}
 use Rattle.std.proofs.lemmas.List.Elements.{All-from_recursion}
-use Rattle.std.proofs.lemmas.Option.{option_and_then_some}
-use Rattle.m88_base.specs.Hex.{hex2}
 use Rattle.m88_base.specs.Name.{IsName}
 use Rattle.m88_base.proofs.Digits.{both}
-use Rattle.m88_link.specs.declared.object.Object.{Object}
 use Rattle.m88_link.specs.declared.object.Place.{Place}
 use Rattle.m88_link.specs.declared.object.Place.TheVariants.{Text, DataSection, At}
 use Rattle.m88_link.specs.declared.object.Reloc.{Reloc}
 use Rattle.m88_link.specs.declared.object.Section.{Section}
 use Rattle.m88_link.specs.declared.object.Symbol.{Symbol}
-use Rattle.m88_link.specs.declared.row.Row.{Row}
-use Rattle.m88_link.specs.declared.row.Row.TheVariants.{Begin, Head, Define, Patch, End}
+use Rattle.m88_link.specs.declared.row.Row.TheVariants.{Begin, Head}
 use Rattle.m88_link.specs.declared.row.SectionHead.{SectionHead}
-use Rattle.m88_link.specs.Drafts.{Begun, Filled, Progress, bytes_step, define_step, end_step, begin_step, head_step, headed, is_bare, is_next, is_whole, line_step, more_bytes, named, object_with, patch_step, row_step, section_with, settled, takes_head, within}
+use Rattle.m88_link.specs.Drafts.{Begun, Filled, Progress, head_step, headed, is_bare, is_next, section_with, settled, takes_head}
 use Rattle.m88_link.specs.ObjectRead.{HasRelocText, HasSectionText, HasSymbolText, HasText}
-use Rattle.m88_link.specs.Rows.{◌>>=◌, bytes_behind, bytes_of, row_of}
 use Rattle.m88_link.specs.Sound.{AreSections, IsOwnAddress, origin}
-use Rattle.m88_link.proofs.ByteTexts.{bytes_back, length-digits}
-use Rattle.m88_link.proofs.RowTexts.{IsHead, IsRow, mapped, row_back, row_text}
-use Rattle.m88_link.proofs.Written.{byte_row, byte_rows, draft_rows, filled_rows, filling_rows, head_row, object_rows, objects_rows, one_row_more, open_rows, reloc_rows, section_rows, sections_rows, symbol_rows, written}
+use Rattle.m88_link.proofs.RowTexts.{IsHead, row_text}
+use Rattle.m88_link.proofs.Written.{byte_rows, draft_rows, filled_rows, filling_rows, head_row, section_rows, sections_rows}
 
 -- sections that begin as those of an object do
 abbrev pub AreInOrder : List Section → Type 0

@@ -1,5 +1,5 @@
 -- The turns of the loop over the lines of an object text: a line that is taken, one that is refused, and the end.
-use Rattle.std.proofs.Common.{◌≡◌, ℕ, ◌+◌, ◌<◌, List, [], ◌∷◌, ◌++◌, length, refl, sym, ap, ◌∙◌, inl, inr, arith}
+use Rattle.std.proofs.Common.{◌≡◌, ℕ, ◌+◌, ◌<◌, List, [], ◌∷◌, ◌++◌, length, refl, sym, ap, ◌∙◌, arith}
 use Rattle.std.specs.Prelude.{Bool, true, false, ◌==◌, if◌then◌else◌, Option, None, Some, Result, Ok, Err}
 use Rattle.std.proofs.lemmas.Bool.Decides.{nat_tests}
 use Rattle.std.proofs.lemmas.List.{nil_from_length}
@@ -9,7 +9,7 @@ use Rattle.m88_link.specs.declared.object_fault.ObjectFault.TheVariants.{Form}
 use Rattle.m88_link.specs.Drafts.{GivesObjects, Progress, Takes, at_rest, ended_step, is_bare, line_step, read_from, read_on, unended}
 use Rattle.m88_link.specs.ObjectRead.{ended_lines}
 use Rattle.m88_link.specs.Rows.{◌>>=◌, cut}
-use Rattle.m88_link.proofs.Lined.{Cut, cut_at, cut_found, lacks, lines_at, lines_none, one_line, uncut}
+use Rattle.m88_link.proofs.Lined.{cut_at, cut_found, lacks, lines_at, lines_none, one_line, uncut}
 
 -- the first line and what it comes to
 pub first_read : (n : ℕ) (s : Progress) (line : List ℕ) (lines : List (List ℕ)) (o : Option Progress) → ended_step s line ≡ o

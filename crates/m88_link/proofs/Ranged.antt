@@ -1,10 +1,9 @@
 -- The first part by which an object isn't sound, as the line at which it stands; there is one such line at most.
-use Rattle.std.proofs.Common.{◌≡◌, ℕ, zero, suc, ◌+◌, ◌*◌, ◌/◌, ◌<◌, ◌≤◌, ◌^◌, List, [], ◌∷◌, ◌++◌, length, map, take, drop, refl, sym, ap, ◌∙◌, subst, arith, inl, inr, append_assoc, length-append}
-use Rattle.std.specs.Prelude.{◌⊎◌, Option, None, Some, All, flat_map, sum_by, if◌then◌else◌, Bool, true, false, ◌==◌}
+use Rattle.std.proofs.Common.{◌≡◌, ℕ, zero, suc, ◌+◌, ◌*◌, ◌/◌, ◌<◌, ◌≤◌, List, [], ◌∷◌, ◌++◌, length, take, drop, refl, sym, ap, ◌∙◌, subst, arith, inl, inr, append_assoc, length-append}
+use Rattle.std.specs.Prelude.{Option, None, Some, All, flat_map, sum_by, if◌then◌else◌, Bool, true, false, ◌==◌}
 use Rattle.std.specs.List.{AllByRecursion}
 use Rattle.std.specs.Option.{option_or}
 use Rattle.std.proofs.lemmas.List.{append_cancel_left, length-map}
-use Rattle.std.proofs.lemmas.List.Concat.{flat_map-append}
 use Rattle.std.proofs.lemmas.List.Elements.{All-from_recursion, All-push, recursion_from_All}
 use Rattle.std.proofs.lemmas.List.Sums.{sum_by-append, sum_by-cons}
 use Rattle.m88_base.specs.Lines.{line_end, on_first_line}
@@ -13,17 +12,16 @@ use Rattle.m88_link.specs.declared.object.Reloc.{Reloc}
 use Rattle.m88_link.specs.declared.object.Section.{Section}
 use Rattle.m88_link.specs.declared.object.Symbol.{Symbol}
 use Rattle.m88_link.specs.declared.row.Row.TheVariants.{Begin, Define, Patch, End}
-use Rattle.m88_link.specs.ObjectRead.{AreSoundSymbols, HasRelocText, HasSectionText, HasSymbolText, HasText, HaveText, IsFirstUnsound, IsUnsoundPart, IsUnsoundReloc, IsUnsoundSection, IsUnsoundSymbol, ended_lines, line_behind}
+use Rattle.m88_link.specs.ObjectRead.{AreSoundSymbols, HasRelocText, HasSectionText, HasSymbolText, HasText, HaveText, IsFirstUnsound, IsUnsoundPart, IsUnsoundSection, IsUnsoundSymbol, ended_lines, line_behind}
 use Rattle.m88_link.specs.ObjectText.{object_line, objects_text, reloc_line, section_lines, symbol_line}
 use Rattle.m88_link.specs.Sound.{HasRoom, IsDefinedIn, IsGlobalIfStart, IsPatchIn, IsSound}
 use Rattle.m88_link.specs.Symbols.{first_repeated, repeated_after}
-use Rattle.m88_link.specs.Walked.{ArePatches, AreSoundParts, HaveRoom, IsFound, IsFoundObject, IsFoundPart, IsFoundReloc, IsFoundSection, IsFoundSymbol, object_count, objects_count, section_count, sections_count}
-use Rattle.m88_link.proofs.Lined.{lacks}
+use Rattle.m88_link.specs.Walked.{AreSoundParts, HaveRoom, IsFoundObject, IsFoundPart, IsFoundReloc, IsFoundSection, IsFoundSymbol, object_count, objects_count, section_count, sections_count}
 use Rattle.m88_link.proofs.Parts.{repeated_after-append}
 use Rattle.m88_link.proofs.RowTexts.{row_text}
 use Rattle.m88_link.proofs.Texts.{Lack, ended, joined, joined-append, lack_append, lines_of_objects, lines_of_rows, name_front, objects_joined, objects_lack, ones_lack, parts_lack, relocs_joined, row_lacks, section_lack, symbols_joined}
 use Rattle.m88_link.proofs.Walks.{All-front, All-last, front_of}
-use Rattle.m88_link.proofs.Written.{byte_row, byte_rows, object_rows, objects_rows, reloc_rows, rows_before, section_rows, sections_rows, symbol_rows}
+use Rattle.m88_link.proofs.Written.{byte_row, object_rows, objects_rows, reloc_rows, rows_before, section_rows, sections_rows, symbol_rows}
 
 -- the numbers of lines
 length-rows_before : (bytes : List ℕ) (n : ℕ) → length (rows_before bytes n) ≡ n

@@ -1,10 +1,9 @@
 -- Lines of an object text that give no bytes: what a line writes, it says, and what it says, it writes.
-use Rattle.std.proofs.Common.{◌≡◌, ℕ, ◌<◌, ◌^◌, Bool, true, false, List, [], ◌∷◌, ◌++◌, refl, sym, ap, ◌∙◌, subst, inl, inr, arith}
-use Rattle.std.specs.Prelude.{◌⊎◌, Option, None, Some, codes, decimal, bytes_eq, option_and_then, option_map, IfSome, if◌then◌else◌}
+use Rattle.std.proofs.Common.{◌≡◌, ℕ, ◌<◌, ◌^◌, List, ◌∷◌, ◌++◌, refl, ap, ◌∙◌, subst, inl, inr, arith}
+use Rattle.std.specs.Prelude.{Option, None, Some, codes, decimal, bytes_eq, option_map}
 use Rattle.std.proofs.lemmas.Option.{option_and_then_some}
 use Rattle.m88_base.specs.Hex.{hex8}
 use Rattle.m88_base.specs.Name.{IsName}
-use Rattle.m88_base.specs.declared.fixup.Kind.{Kind}
 use Rattle.m88_link.specs.declared.object.Place.{Place}
 use Rattle.m88_link.specs.declared.object.Place.TheVariants.{Text, DataSection, At}
 use Rattle.m88_link.specs.declared.object.Reloc.{Reloc}
@@ -16,7 +15,7 @@ use Rattle.m88_link.specs.declared.row.Row.TheVariants.{Begin, Head, Define, Pat
 use Rattle.m88_link.specs.declared.row.SectionHead.{SectionHead}
 use Rattle.m88_link.specs.ObjectRead.{HasRelocText, HasSymbolText}
 use Rattle.m88_link.specs.ObjectText.{kind_word, section_word}
-use Rattle.m88_link.specs.Rows.{◌>>=◌, at_of, first_word, head_of, hex8_word, keyword_of, kind_word_of, name_of, name_word, number_of, number_word, reloc_in, row_by, row_of, scope_word, section_word_of, symbol_in}
+use Rattle.m88_link.specs.Rows.{at_of, first_word, head_of, hex8_word, keyword_of, kind_word_of, name_of, name_word, number_of, number_word, reloc_in, row_by, row_of, scope_word, section_word_of, symbol_in}
 use Rattle.m88_link.specs.Sound.{origin}
 use Rattle.m88_link.proofs.Lined.{cut_found}
 use Rattle.m88_link.proofs.Spelling.{hex8_back, hex8_read, if_same, kind_back, kind_read, name_back, name_found, name_of-name, name_read, number_back, number_found, number_of-decimal, number_read, same_text, scope_back, scope_read, scope_text, section_back, section_read}

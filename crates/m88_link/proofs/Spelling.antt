@@ -1,17 +1,17 @@
 -- The words of an object text, each written and read: what was written is read again, and what is read was written.
-use Rattle.std.proofs.Common.{◌≡◌, ℕ, ◌+◌, ◌*◌, ◌<◌, ◌≤◌, ◌^◌, ◌/◌, ◌%◌, Bool, true, false, List, [], ◌∷◌, ◌++◌, length, refl, sym, ap, ◌∙◌, subst, inl, inr, arith, nat_le}
-use Rattle.std.specs.Prelude.{◌⊎◌, Option, None, Some, ◌==◌, ◌&&◌, not, nat_lt, codes, decimal, bytes_eq, option_and_then, option_map, IfSome, IsTrue, All, if◌then◌else◌}
+use Rattle.std.proofs.Common.{◌≡◌, ℕ, ◌<◌, ◌≤◌, ◌^◌, Bool, true, false, List, [], ◌∷◌, ◌++◌, length, refl, sym, ap, ◌∙◌, subst, inl, inr, arith, nat_le}
+use Rattle.std.specs.Prelude.{◌⊎◌, Option, None, Some, ◌==◌, ◌&&◌, nat_lt, codes, decimal, bytes_eq, option_map, IfSome, if◌then◌else◌}
 use Rattle.std.specs.Char.{digit_value, is_digit}
-use Rattle.std.specs.List.{AllByRecursion, list_all}
+use Rattle.std.specs.List.{list_all}
 use Rattle.std.specs.Str.Parse.{AllDigits, digits_value}
 use Rattle.std.proofs.lemmas.Bool.Decides.{nat_tests}
-use Rattle.std.proofs.lemmas.Bool.{lt-ltb, le-leb, leb-true}
+use Rattle.std.proofs.lemmas.Bool.{lt-ltb, leb-true}
 use Rattle.std.proofs.lemmas.Fmt.{decimal_is_IsNumeral}
 use Rattle.std.proofs.lemmas.Option.{option_and_then_some, some_pair_parts}
 use Rattle.std.proofs.lemmas.Slice.Eq.{bytes_eq-Decides}
-use Rattle.m88_base.specs.Hex.{hex_digit, hex2, hex8, hex8_of, is_hex8, is_hex_digit}
+use Rattle.m88_base.specs.Hex.{hex8, hex8_of, is_hex_digit}
 use Rattle.m88_base.specs.Name.{IsName, begins_name, continues_name}
-use Rattle.m88_base.specs.Numerals.{decimal_in, has_no_needless_zero, is_numeral, number_in}
+use Rattle.m88_base.specs.Numerals.{has_no_needless_zero, is_numeral, number_in}
 use Rattle.m88_base.specs.declared.fixup.Kind.{Kind}
 use Rattle.m88_base.specs.declared.fixup.Kind.TheVariants.{Hi16, Lo16, Pc26, Pc16, Abs32}
 use Rattle.m88_base.proofs.Digits.{both, decimal_found, decimal_needed, decimal_told}
@@ -19,7 +19,7 @@ use Rattle.m88_base.proofs.Hexadecimal.{hex8_of-hex8, hex8-hex8_of, is_hex8-hex8
 use Rattle.m88_link.specs.ObjectText.{kind_word, section_word}
 use Rattle.m88_link.specs.Rows.{◌>>=◌, first_word, hex8_word, is_name, kind_of, kind_word_of, name_of, name_word, number_of, number_word, scope_of, scope_word, section_of, section_word_of, word_by}
 use Rattle.m88_link.proofs.Divided.{is_named, is_other, name_is}
-use Rattle.m88_link.proofs.Lined.{Cut, cut_at, cut_found, lacks, lacks_by}
+use Rattle.m88_link.proofs.Lined.{cut_at, cut_found, lacks, lacks_by}
 
 -- the bytes are no blank and no LF
 abbrev pub IsWord : List ℕ → Type 0

@@ -1,10 +1,10 @@
 -- The text of objects as its lines.
-use Rattle.std.proofs.Common.{◌≡◌, ℕ, zero, suc, ◌+◌, ◌*◌, ◌/◌, ◌<◌, ◌^◌, Bool, true, false, List, [], ◌∷◌, ◌++◌, length, map, take, drop, refl, sym, ap, ◌∙◌, subst, arith, append_assoc}
-use Rattle.std.specs.Prelude.{Option, None, Some, ◌&&◌, IfSome, codes, decimal, flat_map, if◌then◌else◌}
+use Rattle.std.proofs.Common.{◌≡◌, ℕ, zero, suc, ◌+◌, ◌*◌, ◌/◌, ◌<◌, ◌^◌, Bool, true, false, List, [], ◌∷◌, ◌++◌, length, map, take, drop, refl, sym, ap, ◌∙◌, append_assoc}
+use Rattle.std.specs.Prelude.{Option, None, Some, IfSome, codes, decimal, flat_map, if◌then◌else◌}
 use Rattle.std.specs.List.{AllByRecursion}
 use Rattle.std.proofs.lemmas.List.{append-nil}
 use Rattle.std.proofs.lemmas.List.Concat.{flat_map-append}
-use Rattle.m88_base.specs.Hex.{hex2, hex8}
+use Rattle.m88_base.specs.Hex.{hex8}
 use Rattle.m88_base.specs.Lines.{line_end}
 use Rattle.m88_base.specs.declared.fixup.Kind.{Kind}
 use Rattle.m88_base.specs.declared.fixup.Kind.TheVariants.{Hi16, Lo16, Pc26, Pc16, Abs32}
@@ -19,12 +19,11 @@ use Rattle.m88_link.specs.declared.row.Row.TheVariants.{Begin, Head, Define, Pat
 use Rattle.m88_link.specs.declared.row.SectionHead.{SectionHead}
 use Rattle.m88_link.specs.ObjectRead.{HasRelocText, HasSectionText, HasSymbolText, HasText, ended_lines}
 use Rattle.m88_link.specs.ObjectText.{byte_line, byte_lines, byte_lines_before, blank, end_line, field_words, kind_word, object_line, object_lines, objects_text, place_words, reloc_line, section_lines, section_word, source_words, symbol_line, target_words}
-use Rattle.m88_link.specs.Sound.{origin}
 use Rattle.m88_link.proofs.ByteTexts.{digits_lack}
 use Rattle.m88_link.proofs.Lined.{lacks, lacks-append, lines_at, lines_none}
 use Rattle.m88_link.proofs.RowTexts.{IsRow, head_text, place_text, row_text}
 use Rattle.m88_link.proofs.Spelling.{decimal_is_word, hex8_is_word, name_is_word, scope_text}
-use Rattle.m88_link.proofs.Written.{byte_row, byte_rows, head_row, object_rows, objects_rows, reloc_rows, rows_before, section_rows, sections_rows, symbol_rows}
+use Rattle.m88_link.proofs.Written.{byte_row, head_row, object_rows, objects_rows, reloc_rows, rows_before, section_rows, sections_rows, symbol_rows}
 
 -- a line with its LF
 abbrev pub ended : List ℕ → List ℕ

@@ -1,10 +1,10 @@
 -- What is told of a text against the texts that are read and the lines at which texts are refused.
-use Rattle.std.proofs.Common.{◌≡◌, ℕ, ◌+◌, ◌<◌, ◌≤◌, ◌^◌, List, length, refl, sym, ap, ◌∙◌, subst, arith, inl, inr}
+use Rattle.std.proofs.Common.{◌≡◌, ℕ, ◌+◌, ◌<◌, ◌^◌, List, length, refl, sym, ap, ◌∙◌, subst, arith, inl, inr}
 use Rattle.std.specs.Prelude.{◌⊎◌, All, IfErr, IfOk, MatchResult, Result, Ok, Err}
 use Rattle.m88_link.specs.declared.object.Object.{Object}
 use Rattle.m88_link.specs.declared.object_fault.ObjectFault.{ObjectFault}
 use Rattle.m88_link.specs.declared.object_fault.ObjectFault.TheVariants.{Form, Range, Memory}
-use Rattle.m88_link.specs.Drafts.{GivesObjects, nothing_read, read_from}
+use Rattle.m88_link.specs.Drafts.{nothing_read, read_from}
 use Rattle.m88_link.specs.ObjectRead.{IsAnswer, IsFirstUnsound, IsFormLine, IsRangeLine, IsRefusedText, IsSoundText, Refuses, ended_lines}
 use Rattle.m88_link.specs.Sound.{IsSound}
 use Rattle.m88_link.specs.Walked.{AreSoundParts, IsFoundObject, objects_count}

@@ -1,9 +1,8 @@
 -- Words for private contracts: what a line of an object text says, word by word.
-use Rattle.std.specs.Prelude.{ℕ, ◌+◌, ◌*◌, ◌==◌, ◌&&◌, Bool, true, false, List, [], ◌∷◌, ◌++◌, Option, None, Some, bytes_eq, codes, decimal, flat_map, length, nat_lt, option_and_then, option_map, if◌then◌else◌}
+use Rattle.std.specs.Prelude.{ℕ, ◌+◌, ◌*◌, ◌==◌, ◌&&◌, Bool, true, false, List, [], ◌∷◌, ◌++◌, Option, None, Some, bytes_eq, codes, length, nat_lt, option_and_then, option_map, if◌then◌else◌}
 use Rattle.std.specs.Char.{digit_value}
 use Rattle.std.specs.List.{list_all}
-use Rattle.m88_base.specs.Hex.{hex2, hex8_of, is_hex_digit}
-use Rattle.m88_base.specs.Lines.{line_end}
+use Rattle.m88_base.specs.Hex.{hex8_of, is_hex_digit}
 use Rattle.m88_base.specs.Name.{begins_name, continues_name}
 use Rattle.m88_base.specs.Numerals.{decimal_in}
 use Rattle.m88_base.specs.declared.fixup.Kind.{Kind}
@@ -17,7 +16,6 @@ use Rattle.m88_link.specs.declared.row.Keyword.TheVariants as word
 use Rattle.m88_link.specs.declared.row.Row.{Row}
 use Rattle.m88_link.specs.declared.row.Row.TheVariants.{Begin, Head, Define, Patch, End}
 use Rattle.m88_link.specs.declared.row.SectionHead.{SectionHead}
-use Rattle.m88_link.specs.ObjectText.{blank, end_line, object_line, place_words, reloc_line, symbol_line}
 
 -- one step and then another, where the first has a result
 infixl 10 ◌>>=◌

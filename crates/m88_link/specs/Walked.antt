@@ -8,7 +8,7 @@ use Rattle.m88_link.specs.declared.object.Symbol.{Symbol}
 use Rattle.m88_link.specs.declared.walk.Walked.{Walked}
 use Rattle.m88_link.specs.declared.walk.Walked.TheVariants.{Sound, Unsound}
 use Rattle.m88_link.specs.ObjectRead.{AreSoundSymbols}
-use Rattle.m88_link.specs.Sound.{HasRoom, IsPatchIn, IsSound}
+use Rattle.m88_link.specs.Sound.{HasRoom, IsPatchIn}
 
 -- the number of lines of a section: its head and its byte lines
 abbrev pub section_count : Section → ℕ

@@ -1,5 +1,3 @@
-use Rattle.std.proofs.Common.{◌≡◌, ◌∙◌, ap, drop, sym}
-use Rattle.std.specs.Prelude.{Some}
 use Rattle.std.proofs.lemmas.List.{take_rest}
 use Rattle.m88_link.proofs.Divided.{cut_none, cut_some, within}
 use Rattle.m88_link.proofs.cut.cut.Goals as goal

@@ -1,5 +1,5 @@
 -- The objects whose text it is are gone through, whose lines are no more than the text has bytes.
-use Rattle.std.proofs.Common.{◌≡◌, ◌<◌, ◌^◌, ℕ, List, sym, subst, arith}
+use Rattle.std.proofs.Common.{◌<◌, ◌^◌, List, sym, subst, arith}
 use Rattle.std.specs.Prelude.{All}
 use Rattle.m88_link.specs.declared.object.Object.{Object}
 use Rattle.m88_link.specs.Walked.{AreSoundParts, IsFoundObject, objects_count}

@@ -1,4 +1,3 @@
-use Rattle.std.proofs.Common.{arith}
 use Rattle.m88_link.specs.Sound.{HasRoom}
 use Rattle.m88_link.specs.Walked.{section_count, sections_count}
 use Rattle.m88_link.proofs.Walks.{all_one, found_one, summed_one}
