@@ -11,9 +11,13 @@ pub mod Refusal
 pub mod Linked
 pub mod Reasons
 pub mod ObjectText
+pub mod ObjectRead
 pub mod Tables
 pub mod Sizes
 pub mod Spans
 pub mod Exports
 pub mod Resolved
 pub mod Carried
+pub mod Rows
+pub mod Drafts
+pub mod Walked

@@ -5,6 +5,7 @@
 // What objects are, and what is told of them.
 mod fault;
 mod object;
+mod object_fault;
 
 // Parts of linking.
 mod bases;
@@ -20,9 +21,24 @@ mod table;
 mod tests;
 mod text;
 
+// Parts of reading object texts.
+mod cut;
+mod object_draft;
+mod object_lines;
+mod progress;
+mod read;
+#[cfg(test)]
+mod read_tests;
+mod row;
+mod row_text;
+mod walk;
+mod words;
+
 pub use fault::{LinkFault, LinkKind};
 pub use linking::link;
 pub use object::{Object, Place, Reloc, Section, Symbol};
+pub use object_fault::ObjectFault;
+pub use read::read_objects;
 pub use sound::is_sound;
 pub use table::SymbolTable;
 pub use text::object_text;

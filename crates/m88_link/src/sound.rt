@@ -54,7 +54,7 @@ fn origin(place: Place) -> u32
 }
 
 /// Whether a section has at most 1,048,576 bytes, none past 0xFFFFFFFF.
-fn has_room(section: &Section) -> bool
+pub fn has_room(section: &Section) -> bool
     ensures { IsTrue result ↔ HasRoom section.now }
 {
     let len = section.bytes.as_slice().len();
@@ -62,7 +62,7 @@ fn has_room(section: &Section) -> bool
 }
 
 /// Whether the section of a symbol exists and the symbol's offset is at most its length.
-fn is_defined_in(sections: &[Section], symbol: &Symbol) -> bool
+pub fn is_defined_in(sections: &[Section], symbol: &Symbol) -> bool
     ensures { IsTrue result ↔ IsDefinedIn sections.now symbol.now }
 {
     let Some(index) = symbol.section else {
@@ -75,7 +75,7 @@ fn is_defined_in(sections: &[Section], symbol: &Symbol) -> bool
 }
 
 /// Whether the section of a relocation exists and the word lies in it, at a multiple of 4.
-fn is_patch_in(sections: &[Section], reloc: &Reloc) -> bool
+pub fn is_patch_in(sections: &[Section], reloc: &Reloc) -> bool
     ensures { IsTrue result ↔ IsPatchIn sections.now reloc.now }
 {
     let Some(section) = sections.get(reloc.section as usize) else {
@@ -107,7 +107,7 @@ fn find_named<'a>(symbols: &'a [Symbol], name: &Name) -> Option<&'a Symbol>
 }
 
 /// Whether a symbol is global or isn't `_start`.
-fn is_global_if_start(symbol: &Symbol) -> bool
+pub fn is_global_if_start(symbol: &Symbol) -> bool
     ensures { IsTrue result ↔ IsGlobalIfStart symbol.now }
 {
     symbol.global || symbol.name.bytes() != b"_start".as_slice()

@@ -1,0 +1,48 @@
+//! Why a text isn't that of sound objects.
+
+ghost use Rattle.std.specs.Prelude.{◌≡◌};
+ghost use Rattle.m88_link.specs.declared.object_fault.ObjectFault.TheVariants.{Memory as memory};
+
+use std::alloc::{AllocError, AllocFailed};
+use std::error::Error;
+use std::fmt;
+
+/// Why a text isn't that of one or more sound objects.
+#[derive(Clone, Copy, PartialEq, Eq, Debug)]
+pub enum ObjectFault {
+    /// The first line that the text of no objects continues; the line behind the last one where the
+    /// text stops early.
+    Form { line: u32 },
+    /// The first line that gives a section, a symbol or a relocation by which its object isn't sound.
+    Range { line: u32 },
+    /// Memory ran out.
+    Memory,
+}
+
+impl fmt::Display for ObjectFault {
+    fn fmt<W: fmt::Write>(&self, f: &mut fmt::Formatter<W>) -> fmt::Result {
+        match self {
+            ObjectFault::Form { line } => write!(f, "{line}:1 form"),
+            ObjectFault::Range { line } => write!(f, "{line}:1 range"),
+            ObjectFault::Memory => f.write_str("out of memory"),
+        }
+    }
+}
+
+impl Error for ObjectFault {}
+
+impl From<AllocError> for ObjectFault {
+    ghost from_gives = { λ _ e. e ≡ memory };
+
+    fn from(_e: AllocError) -> ObjectFault {
+        ObjectFault::Memory
+    }
+}
+
+impl<T: Drop> From<AllocFailed<T>> for ObjectFault {
+    ghost from_gives = { λ _ e. e ≡ memory };
+
+    fn from(_e: AllocFailed<T>) -> ObjectFault {
+        ObjectFault::Memory
+    }
+}

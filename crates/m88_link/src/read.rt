@@ -1,0 +1,49 @@
+//! Object texts read.
+ghost use Rattle.std.specs.Prelude.{◌≡◌, ◌<◌, ◌^◌, ℕ, IfErr, IfOk, List, MatchResult, length};
+ghost use Rattle.m88_link.specs.declared.object.Object.{Object as ObjectValue};
+ghost use Rattle.m88_link.specs.ObjectRead.{IsAnswer, IsFormLine, IsRangeLine, IsRefusedText, IsSoundText, Refuses};
+ghost use Rattle.m88_link.specs.declared.object_fault.ObjectFault.TheVariants as fault;
+
+use crate::object::Object;
+use crate::object_fault::ObjectFault;
+use crate::object_lines::parse_objects;
+use crate::walk::{Walked, walk_objects};
+use std::alloc::Global;
+
+/// The sound objects of a text, or its fault.
+fn read(alloc: Global, text: &[u8]) -> Result<Vec<Object>, ObjectFault>
+    requires { length text.now < 2 ^ 31 }
+    ensures { IsAnswer (λ v. v.items) text.now result }
+{
+    let objects = match parse_objects(alloc, text) {
+        Ok(objects) => objects,
+        Err(fault) => return Err(fault),
+    };
+    match walk_objects(alloc, objects.as_slice())? {
+        Walked::Sound(_) => Ok(objects),
+        Walked::Unsound(lines) => Err(ObjectFault::Range {
+            line: lines as u32 + 1,
+        }),
+    }
+}
+
+/// The objects whose text this is, as `object_text` writes it: one or more, all sound. A text of no
+/// objects is refused at the first line that the text of no objects, sound or not, continues; the text
+/// of objects that aren't all sound at the first line that gives a section, a symbol or a relocation by
+/// which its object isn't.
+pub fn read_objects(alloc: Global, text: &[u8]) -> Result<Vec<Object>, ObjectFault>
+    requires { length text.now < 2 ^ 31 }
+
+    // What is read is the sound objects whose text it is, and each text of sound objects is read so: writing
+    // what was read gives the text back, and reading what was written gives the objects back.
+    ensures read { IfOk result (λ v. IsSoundText v.items text.now) }
+    ensures written { (objects : List ObjectValue) → IsSoundText objects text.now
+        → MatchResult result (λ v. v.items ≡ objects) (λ e. e ≡ fault.Memory) }
+
+    // What is refused is refused at its line, and each line at which it is to be refused is told.
+    ensures refused { IfErr result (λ e. IsRefusedText text.now e) }
+    ensures form { (n : ℕ) → IsFormLine text.now n → Refuses result (fault.Form n) }
+    ensures range { (n : ℕ) → IsRangeLine text.now n → Refuses result (fault.Range n) }
+{
+    read(alloc, text)
+}
