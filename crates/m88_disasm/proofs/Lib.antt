@@ -5,3 +5,4 @@ pub mod OneListing
 pub mod Parts
 pub mod Forms
 pub mod Spoken
+pub mod Rows
