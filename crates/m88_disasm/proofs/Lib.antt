@@ -6,3 +6,4 @@ pub mod Parts
 pub mod Forms
 pub mod Spoken
 pub mod Rows
+pub mod Bodies
