@@ -7,3 +7,4 @@ pub mod Forms
 pub mod Spoken
 pub mod Rows
 pub mod Bodies
+pub mod Standing
