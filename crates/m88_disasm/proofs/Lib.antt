@@ -8,3 +8,5 @@ pub mod Spoken
 pub mod Rows
 pub mod Bodies
 pub mod Standing
+pub mod Accepting
+pub mod Linking

@@ -23,10 +23,10 @@ use Rattle.m88_disasm.proofs.Bodies.{Data, Gives, PartsData, a_byte, a_code, a_w
 use Rattle.m88_disasm.proofs.Rows.{numbered}
 
 -- functions with another value at a place
-put_same : (f : ℕ → ℕ) (k v : ℕ) → put f k v k ≡ v
+pub put_same : (f : ℕ → ℕ) (k v : ℕ) → put f k v k ≡ v
 put_same f k v = ap (λ (t : Bool). if t then v else f k) (eq-eqb k k refl)
 
-put_other : (f : ℕ → ℕ) (k v j : ℕ) → k ≢ j → put f k v j ≡ f j
+pub put_other : (f : ℕ → ℕ) (k v j : ℕ) → k ≢ j → put f k v j ≡ f j
 put_other f k v j h = ap (λ (t : Bool). if t then v else f j) (ne_eqb k j h)
 
 -- no part stands yet from section n on
