@@ -57,7 +57,7 @@ data_symbols c n _ _ (a_code i) = refl
 data_symbols c n _ _ (a_word w) = refl
 data_symbols c n _ _ (a_byte b) = refl
 
-faults_cons : (defined : List Symbol) (r : Located) (rs : List Located) → fault_in defined r ≡ None
+pub faults_cons : (defined : List Symbol) (r : Located) (rs : List Located) → fault_in defined r ≡ None
     → statements_fault (defined ++ symbols_of r) rs ≡ None → statements_fault defined (r ∷ rs) ≡ None
 unfolding statements_fault
 faults_cons defined r rs first others =
@@ -154,7 +154,7 @@ data_opens n _ _ (a_code i) = refl
 data_opens n _ _ (a_word w) = refl
 data_opens n _ _ (a_byte b) = refl
 
-abbrev opened_in : ℕ → List Body → List Head
+abbrev pub opened_in : ℕ → List Body → List Head
 opened_in n bs = flat_map (λ x. opened_by x.line x.body) (numbered n bs)
 
 data_heads : (n from : ℕ) (bytes : List ℕ) (own more : List Body) (runs : List Placed) → Data from bytes own
@@ -197,7 +197,7 @@ defined_symbols c i (b ∷ bs) =
     ap (flat_map symbols_of) (located_cons c (bare i b) (numbered (i + 1) bs))
     ∙ ap (λ (ss : List Symbol). sets_at i b ++ ss) (defined_symbols (after c b) (i + 1) bs)
 
-abbrev set_in : ℕ → List Body → List Symbol
+abbrev pub set_in : ℕ → List Body → List Symbol
 set_in n bs = flat_map (λ x. sets_at x.line x.body) (numbered n bs)
 
 data_sets : (n : ℕ) (b : Body) (given : List ℕ) → Gives b given → sets_at n b ≡ []
@@ -224,7 +224,7 @@ data_uses c n _ _ (a_code i) = refl
 data_uses c n _ _ (a_word w) = refl
 data_uses c n _ _ (a_byte b) = refl
 
-abbrev uses_of : Counters → ℕ → List Body → List Reloc
+abbrev pub uses_of : Counters → ℕ → List Body → List Reloc
 uses_of c n bs = flat_map symbol_uses (located c (numbered n bs))
 
 data_use : (c : Counters) (n from : ℕ) (bytes : List ℕ) (own more : List Body) → Data from bytes own

@@ -10,3 +10,4 @@ pub mod Bodies
 pub mod Standing
 pub mod Accepting
 pub mod Linking
+pub mod Again

@@ -30,10 +30,10 @@ data_length j c n _ _ (a_word w) = refl
 data_length j c n _ _ (a_byte b) = refl
 
 -- the bytes of a section among statements
-abbrev lengths_of : ℕ → Counters → ℕ → List Body → ℕ
+abbrev pub lengths_of : ℕ → Counters → ℕ → List Body → ℕ
 lengths_of j c n bs = sum_by (length_in j) (located c (numbered n bs))
 
-lengths_cons : (j : ℕ) (c : Counters) (n : ℕ) (b : Body) (bs : List Body)
+pub lengths_cons : (j : ℕ) (c : Counters) (n : ℕ) (b : Body) (bs : List Body)
     → lengths_of j c n (b ∷ bs) ≡ length_in j (record { before = c; statement = bare n b }) + lengths_of j (after c b) (n + 1) bs
 lengths_cons j c n b bs =
     ap (sum_by (length_in j)) (located_cons c (bare n b) (numbered (n + 1) bs))
@@ -42,7 +42,7 @@ lengths_cons j c n b bs =
 lengths_none : (j : ℕ) (c : Counters) (n : ℕ) → lengths_of j c n [] ≡ 0
 lengths_none j c n = ap (sum_by (length_in j)) (located_none c)
 
-abbrev where_same : Bool → ℕ → ℕ
+abbrev pub where_same : Bool → ℕ → ℕ
 where_same t n = if t then n else 0
 
 where_sum : (t : Bool) (m n s : ℕ) → where_same t m + (where_same t n + s) ≡ where_same t (m + n) + s
@@ -149,7 +149,7 @@ rooms_low (e ∷ es) (run ∷ runs) are pieces =
 rooms_low [] (run ∷ runs) are pieces = absurd are
 rooms_low (e ∷ es) [] are pieces = absurd are
 
-hits_cons : (e : Extent) (es : List Extent) (a : ℕ) → hits (e ∷ es) a ≡ cond (covers a e) 1 0 + hits es a
+pub hits_cons : (e : Extent) (es : List Extent) (a : ℕ) → hits (e ∷ es) a ≡ cond (covers a e) 1 0 + hits es a
 hits_cons e es a = sum_by-cons (λ (x : Extent). cond (covers a x) 1 0) e es
 
 -- a room behind an address covers nothing below it

@@ -105,7 +105,7 @@ run_is g d c n _ _ (a_code i) = refl
 run_is g d c n _ _ (a_word w) = refl
 run_is g d c n _ _ (a_byte b) = refl
 
-none_in : (at a : ℕ) → byte_in (record { at = at; bytes = [] }) a ≡ None
+pub none_in : (at a : ℕ) → byte_in (record { at = at; bytes = [] }) a ≡ None
 none_in at a =
     elim (leb_tells at a) [
       | inl from ↦ byte_in_above (record { at = at; bytes = [] }) a (omega (arith, from.1))
