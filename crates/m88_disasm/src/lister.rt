@@ -4,6 +4,7 @@ ghost use Rattle.m88_base.specs.Image.{IsImage, parts};
 ghost use Rattle.m88_base.specs.Lines.{line_end};
 ghost use Rattle.m88_disasm.specs.Appended.{BytesAppended, LineAppended, LinesAppended};
 ghost use Rattle.m88_disasm.specs.Listing.{AreLines, ArePartLines, BeginsWord, IsListing, IsWordLine, byte_line, place_line, start_line};
+ghost use Rattle.m88_disasm.specs.Read.{WritesImage};
 ghost use Rattle.m88_disasm.specs.Text.{hexadecimal, word_text};
 
 use crate::text::text_of;
@@ -111,7 +112,9 @@ fn push_bytes(text: &mut Vec<u8>, at: u32, bytes: &[u8]) -> Result<(), AllocErro
 
 /// Appends the lines of all parts of an image.
 fn push_parts(text: &mut Vec<u8>, image: &Image) -> Result<(), AllocError>
-    ensures { OnOk result (LinesAppended (ArePartLines (parts image.now)) text.old.items text.new.items) }
+    ensures text { OnOk result
+        (LinesAppended (ArePartLines (parts image.now)) text.old.items text.new.items) }
+    ensures image { IsImage image.now }
 {
     for index in 0..image.part_count() {
         let (at, bytes) = image.part(index);
@@ -123,7 +126,8 @@ fn push_parts(text: &mut Vec<u8>, image: &Image) -> Result<(), AllocError>
 
 /// The listing, or that there is no memory for it.
 fn listed(alloc: Global, image: &Image) -> Result<Vec<u8>, AllocError>
-    ensures { IfOk result (λ text. IsListing image.now text.items) }
+    ensures text { IfOk result (λ text. IsListing image.now text.items) }
+    ensures image { OnOk result (IsImage image.now) }
 {
     let mut text = Vec::new(alloc);
     push_start(&mut text, image.start())?;
@@ -135,6 +139,9 @@ fn listed(alloc: Global, image: &Image) -> Result<Vec<u8>, AllocError>
 /// address and the texts of its instructions; words of no instruction and bytes of no whole word by themselves.
 pub fn listing(alloc: Global, image: &Image) -> Result<Vec<u8>, NoMemory>
     ensures value { IfOk result (λ text. IsListing image.now text.items) }
+
+    // Read, assembled and linked, the listing is the image with its start.
+    ensures again { IfOk result (λ text. WritesImage text.items image.now) }
 
     // An image has no other listing.
     ensures only { IfOk result (λ text. (other : List ℕ) → IsListing image.now other

@@ -8,5 +8,5 @@ loop-index-preserved c =
     more_parts (parts c.args.image.now) c.loop-index.index _ _ _ _ _ c.part-at.ensures.value c.loop-index.invariant
     c.in_ok-push_place.ensures c.in_ok-push_bytes.ensures
 
-pub returns : goal.returns
-returns c = all_parts (parts c.args.image.now) c.loop-index.index _ _ (omega arith) c.loop-index.invariant
+pub returns-clause-text : goal.returns-clause-text
+returns-clause-text c = all_parts (parts c.args.image.now) c.loop-index.index _ _ (omega arith) c.loop-index.invariant
