@@ -1,8 +1,7 @@
 -- The statements of a listing meet no fault, open the sections of the parts, and define and use no symbol.
-use Rattle.std.proofs.Common.{◌≡◌, ◌≢◌, ℕ, zero, suc, ◌+◌, ◌%◌, ◌<◌, ◌≤◌, ◌^◌, Bool, true, false, ◌==◌, ◌||◌, nat_lt, cond, inl, inr, List, [], ◌∷◌, ◌++◌, length, refl, sym, ap, subst, ◌∙◌, arith, eq-eqb, ne_eqb, le-ltb, length-append, append_assoc, codes}
-use Rattle.std.specs.Prelude.{Option, None, Some, flat_map, if◌then◌else◌, map, slice_get, sum_by}
+use Rattle.std.proofs.Common.{◌≡◌, ℕ, ◌+◌, ◌%◌, ◌≤◌, ◌^◌, Bool, ◌||◌, nat_lt, List, [], ◌∷◌, ◌++◌, length, refl, sym, ap, subst, ◌∙◌, arith, eq-eqb, le-ltb, length-append, append_assoc}
+use Rattle.std.specs.Prelude.{Option, None, Some, flat_map, if◌then◌else◌, slice_get}
 use Rattle.std.specs.Option.{option_map_or, option_or}
-use Rattle.std.proofs.lemmas.List.Sums.{sum_by-cons}
 use Rattle.m88_base.specs.Image.{most_bytes}
 use Rattle.m88_base.specs.Placed.{Placed}
 use Rattle.m88_parse.specs.declared.unit.Body.{Body}
@@ -13,10 +12,10 @@ use Rattle.m88_link.specs.declared.object.Reloc.{Reloc}
 use Rattle.m88_link.specs.declared.object.Symbol.{Symbol}
 use Rattle.m88_asm.specs.declared.fault.AsmFault.{AsmFault}
 use Rattle.m88_asm.specs.declared.fault.AsmKind.TheVariants as kind
-use Rattle.m88_asm.specs.Counters.{Counters, Located, after, length_at, length_of, located, offset_of, place_of, section_of}
+use Rattle.m88_asm.specs.Counters.{Counters, Located, after, length_at, located, place_of}
 use Rattle.m88_asm.specs.Faults.{alignment_of, fault_in, misfit_at, misplaced_at, statements_fault, too_large_at}
 use Rattle.m88_asm.specs.Objects.{Head, heads_in, opened_by, opens, sets_at, symbols_of, symbol_uses}
-use Rattle.m88_asm.specs.Units.{Based, address_at, base_in, length_in}
+use Rattle.m88_asm.specs.Units.{Based, address_at}
 use Rattle.m88_disasm.specs.Read.{bare}
 use Rattle.m88_disasm.proofs.Bodies.{ArePieces, Data, Gives, PartsData, a_byte, a_code, a_word, more_data, more_parts, no_data, no_parts}
 use Rattle.m88_disasm.proofs.Rows.{numbered}
@@ -184,7 +183,7 @@ bases_are d n pre (h ∷ hs) (run ∷ runs) heads len are =
     ∙ ap (λ (xs : List Head). slice_get xs (length pre)) heads ∙ get_behind pre h hs in (
       ap (λ (o : Option Head). option_map_or (λ x. address_at d x.place) o 0) found ∙ ap (address_at d) are.0,
       bases_are d (n + 1) (pre ++ h ∷ []) hs runs (heads ∙ sym (append_assoc pre (h ∷ []) hs))
-      (length-append pre (h ∷ []) ∙ ap (λ (k : ℕ). k + 1) len) are.1,
+          (length-append pre (h ∷ []) ∙ ap (λ (k : ℕ). k + 1) len) are.1,
     )
 bases_are d n pre [] (run ∷ runs) heads len are = absurd are
 bases_are d n pre (h ∷ hs) [] heads len are = absurd are

@@ -1,35 +1,31 @@
 -- The listing of an image writes that image again, with its start.
-use Rattle.std.proofs.Common.{◌≡◌, ◌≢◌, ℕ, zero, suc, ◌+◌, ◌%◌, ◌<◌, ◌≤◌, ◌^◌, Bool, true, false, ◌==◌, ◌||◌, ◌&&◌, nat_le, nat_lt, cond, inl, inr, List, [], ◌∷◌, ◌++◌, length, refl, sym, ap, subst, ◌∙◌, arith, le-ltb, append-nil, codes}
-use Rattle.std.specs.Prelude.{Option, None, Some, flat_map, if◌then◌else◌, map, sum_by}
+use Rattle.std.proofs.Common.{◌≡◌, ℕ, ◌+◌, ◌≤◌, ◌^◌, Bool, true, false, ◌==◌, ◌||◌, nat_lt, cond, List, [], ◌∷◌, ◌++◌, length, refl, sym, ap, subst, ◌∙◌, arith, le-ltb, append-nil, codes}
+use Rattle.std.specs.Prelude.{Option, None, flat_map, map, sum_by}
 use Rattle.std.specs.List.{enumerate_from, list_any}
 use Rattle.std.specs.Option.{option_or}
 use Rattle.std.proofs.lemmas.Bool.Decides.{nat_tests}
 use Rattle.std.proofs.lemmas.List.Sums.{sum_by-cons}
 use Rattle.m88_base.specs.Image.{IsImage, ProgramImage, byte_at, byte_count, most_bytes, parts}
 use Rattle.m88_base.specs.Placed.{AreApart, Placed, byte_among, count_among}
-use Rattle.m88_parse.specs.Language.Units.{IsUnit}
 use Rattle.m88_parse.specs.declared.unit.Body.{Body}
 use Rattle.m88_parse.specs.declared.unit.Body.TheVariants as body
 use Rattle.m88_parse.specs.declared.unit.Module.{Module}
-use Rattle.m88_parse.specs.declared.unit.Unit.{Unit as Source}
 use Rattle.m88_link.specs.Bases.{first_text, up_to_multiple}
 use Rattle.m88_link.specs.Layout.{Extent, Reference, reference}
 use Rattle.m88_link.specs.Linked.{start_address}
-use Rattle.m88_link.specs.Refusal.{AreDisjoint, IsLinkable, covers, duplicate, hits, is_too_large, symbol_fault, too_far, undefined}
+use Rattle.m88_link.specs.Refusal.{AreDisjoint, IsLinkable, covers, duplicate, hits, is_too_large, too_far, undefined}
 use Rattle.m88_link.specs.Symbols.{exported}
-use Rattle.m88_link.specs.declared.fault.LinkFault.{LinkFault}
 use Rattle.m88_link.specs.declared.object.Reloc.{Reloc}
 use Rattle.m88_link.specs.declared.object.Symbol.{Symbol}
 use Rattle.m88_asm.specs.declared.fault.AsmFault.{AsmFault}
-use Rattle.m88_asm.specs.Accepted.{IsAcceptedUnit}
 use Rattle.m88_asm.specs.Counters.{Counters, Located, after, at_begin, located}
 use Rattle.m88_asm.specs.Faults.{IsAssembled, module_fault, statements_fault}
-use Rattle.m88_asm.specs.Images.{run_of, unit_byte, unit_start}
-use Rattle.m88_asm.specs.Objects.{Head, first_heads, heads_in, lines_in, marked, opens, symbol_uses, symbols_in, symbols_of}
+use Rattle.m88_asm.specs.Images.{run_of}
+use Rattle.m88_asm.specs.Objects.{Head, first_heads, heads_in, lines_in, marked, symbol_uses, symbols_in, symbols_of}
 use Rattle.m88_asm.specs.Units.{Based, base_in, end_of_text, extent_under, extents_in, globals_in, length_in, references_in, section_length, unit_layout}
 use Rattle.m88_disasm.specs.Listing.{IsListing, start_line}
 use Rattle.m88_disasm.specs.Read.{WritesImage, bare}
-use Rattle.m88_disasm.proofs.Accepting.{AreFew, HeadsAre, bases_are, defined_symbols, faults_cons, opened_in, opened_sections, parts_define, parts_faults, parts_heads, parts_use, set_in, uses_of}
+use Rattle.m88_disasm.proofs.Accepting.{AreFew, bases_are, defined_symbols, faults_cons, opened_in, opened_sections, parts_define, parts_faults, parts_heads, parts_use}
 use Rattle.m88_disasm.proofs.Bodies.{ArePieces, ListedParts, PartsData, listed_parts, pieces_of}
 use Rattle.m88_disasm.proofs.Linking.{RoomsAre, hits_cons, lengths_cons, lengths_of, no_room, parts_lengths, room, rooms_apart, rooms_are, rooms_count, rooms_low, where_same}
 use Rattle.m88_disasm.proofs.Rows.{numbered, unit_is, unit_of_bodies}

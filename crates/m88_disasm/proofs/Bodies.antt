@@ -1,5 +1,5 @@
 -- The statements of a listing, and the bytes that each gives.
-use Rattle.std.proofs.Common.{◌≡◌, ℕ, zero, suc, ◌+◌, ◌-◌, ◌%◌, ◌<◌, ◌≤◌, ◌^◌, inl, inr, List, [], ◌∷◌, ◌++◌, length, get_or, refl, sym, ap, subst, ◌∙◌, arith, codes}
+use Rattle.std.proofs.Common.{◌≡◌, ℕ, zero, suc, ◌+◌, ◌-◌, ◌%◌, ◌<◌, ◌≤◌, ◌^◌, inl, inr, List, [], ◌∷◌, ◌++◌, length, get_or, refl, sym, ap, subst, ◌∙◌, arith}
 use Rattle.std.specs.Prelude.{Option, None, Some, IfSome, slice_get}
 use Rattle.std.specs.Int.{from_be_bytes, to_be_bytes, w32}
 use Rattle.std.specs.Option.{option_or}
@@ -10,15 +10,14 @@ use Rattle.m88_base.specs.Found.{FindsBytes}
 use Rattle.m88_base.specs.Placed.{AreApart, Placed, byte_among}
 use Rattle.m88_base.proofs.Apart.{none_below}
 use Rattle.m88_base.proofs.Lookup.{byte_in_above, byte_in_from}
-use Rattle.m88_isa.specs.Instr.{IsValid}
-use Rattle.m88_isa.specs.Word.{IsWord, word_of}
+use Rattle.m88_isa.specs.Word.{word_of}
 use Rattle.m88_isa.specs.declared.instr.Instr.{Instr}
 use Rattle.m88_isa.specs.declared.instr.Instr.TheVariants as instr
 use Rattle.m88_parse.specs.declared.unit.Body.{Body}
 use Rattle.m88_parse.specs.declared.unit.Body.TheVariants as body
 use Rattle.m88_parse.specs.declared.unit.Value.TheVariants.{Number}
 use Rattle.m88_asm.specs.Faults.{alignment_of}
-use Rattle.m88_disasm.specs.Listing.{AreLines, ArePartLines, IsWordLine, byte, byte_line, instruction, no_instruction, no_line, no_part, part, place_line, word}
+use Rattle.m88_disasm.specs.Listing.{AreLines, ArePartLines, IsWordLine, byte, byte_line, instruction, no_instruction, no_line, no_part, part, word}
 use Rattle.m88_disasm.specs.Read.{said_by}
 use Rattle.m88_disasm.specs.Text.{instr_text, word_text}
 use Rattle.m88_disasm.proofs.Rows.{Stated, stated_behind}
@@ -176,7 +175,7 @@ pub pieces_of : (from : ℕ) (ps : List Placed) → AreApart from ps → FindsBy
 pieces_of from [] apart finds = tt
 pieces_of from (p ∷ ps) apart finds = (
   bytes_by_index p.bytes
-  (λ k b e. (some_fits (byte_among (p ∷ ps) (p.at + k)) (p.at + k) b (in_part p k b ps e) (finds (p.at + k))).1),
+      (λ k b e. (some_fits (byte_among (p ∷ ps) (p.at + k)) (p.at + k) b (in_part p k b ps e) (finds (p.at + k))).1),
   apart.1,
   part_ends p ps apart.1 finds,
   pieces_of (p.at + length p.bytes + 1) ps apart.2 (behind_finds from p ps apart finds),

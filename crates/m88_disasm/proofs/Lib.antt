@@ -1,6 +1,7 @@
 pub mod Digits
 pub mod Names
 pub mod Lines
+pub mod Sizes
 pub mod OneListing
 pub mod Parts
 pub mod Forms

@@ -1,23 +1,20 @@
 -- The layout of a listing's statements is linked without a refusal.
-use Rattle.std.proofs.Common.{◌≡◌, ◌≢◌, ℕ, zero, suc, ◌+◌, ◌%◌, ◌<◌, ◌≤◌, ◌^◌, Bool, true, false, ◌==◌, ◌||◌, ◌&&◌, nat_le, nat_lt, cond, inl, inr, List, [], ◌∷◌, ◌++◌, length, refl, sym, ap, subst, ◌∙◌, arith, eq-eqb, ne_eqb, le-ltb, length-append, codes}
-use Rattle.std.specs.Prelude.{Option, None, Some, count_by, flat_map, if◌then◌else◌, map, sum_by}
+use Rattle.std.proofs.Common.{◌≡◌, ◌≢◌, ℕ, ◌+◌, ◌<◌, ◌≤◌, ◌^◌, Bool, true, false, ◌==◌, ◌||◌, nat_lt, cond, inl, inr, List, [], ◌∷◌, ◌++◌, length, refl, sym, ap, subst, ◌∙◌, arith, eq-eqb, ne_eqb, le-ltb, length-append}
+use Rattle.std.specs.Prelude.{if◌then◌else◌, map, sum_by}
 use Rattle.std.specs.List.{enumerate_from, list_any}
 use Rattle.std.proofs.lemmas.Bool.{cases_lt}
 use Rattle.std.proofs.lemmas.Bool.Decides.{nat_tests}
 use Rattle.std.proofs.lemmas.List.Sums.{sum_by-cons}
-use Rattle.m88_base.specs.Image.{most_bytes}
 use Rattle.m88_base.specs.Placed.{AreApart, Placed, count_among}
 use Rattle.m88_parse.specs.declared.unit.Body.{Body}
 use Rattle.m88_parse.specs.declared.unit.Body.TheVariants as body
-use Rattle.m88_parse.specs.declared.unit.Module.{Module}
-use Rattle.m88_parse.specs.declared.unit.Statement.{Statement}
 use Rattle.m88_link.specs.Layout.{Extent}
-use Rattle.m88_link.specs.Refusal.{AreDisjoint, covers, hits, is_too_large}
-use Rattle.m88_asm.specs.Counters.{Counters, Located, after, located, section_of}
+use Rattle.m88_link.specs.Refusal.{AreDisjoint, covers, hits}
+use Rattle.m88_asm.specs.Counters.{Counters, after, located}
 use Rattle.m88_asm.specs.Objects.{Head}
 use Rattle.m88_asm.specs.Units.{Based, address_at, extent_under, length_in, section_length}
 use Rattle.m88_disasm.specs.Read.{bare}
-use Rattle.m88_disasm.proofs.Accepting.{AreFew, HeadsAre}
+use Rattle.m88_disasm.proofs.Accepting.{HeadsAre}
 use Rattle.m88_disasm.proofs.Bodies.{ArePieces, Data, Gives, PartsData, a_byte, a_code, a_word, more_data, more_parts, no_data, no_parts}
 use Rattle.m88_disasm.proofs.Rows.{numbered}
 use Rattle.m88_disasm.proofs.Standing.{Fresh, Stands, fresh_behind, located_cons, located_none, opens_part, stands_behind}
@@ -119,12 +116,12 @@ rooms_are d n [] [] are lens = tt
 rooms_are d n (h ∷ hs) (run ∷ runs) are lens = (
   ap (address_at d) are.0,
   lens n (omega arith)
-  ∙ ap (λ (t : Bool). where_same t (length run.bytes) + room (n + 1) runs n) (eq-eqb n n refl)
-  ∙ (let e = no_room (n + 1) n runs (omega arith) in omega (arith, e)),
+      ∙ ap (λ (t : Bool). where_same t (length run.bytes) + room (n + 1) runs n) (eq-eqb n n refl)
+      ∙ (let e = no_room (n + 1) n runs (omega arith) in omega (arith, e)),
   rooms_are d (n + 1) hs runs are.1 (λ j low.
-  let other : n ≢ j = omega arith in
-  lens j (omega arith)
-  ∙ ap (λ (t : Bool). where_same t (length run.bytes) + room (n + 1) runs j) (ne_eqb n j other) ∙ omega arith),
+      let other : n ≢ j = omega arith in
+      lens j (omega arith)
+      ∙ ap (λ (t : Bool). where_same t (length run.bytes) + room (n + 1) runs j) (ne_eqb n j other) ∙ omega arith),
 )
 rooms_are d n [] (run ∷ runs) are lens = absurd are
 rooms_are d n (h ∷ hs) [] are lens = absurd are

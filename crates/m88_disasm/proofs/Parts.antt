@@ -1,5 +1,5 @@
 -- Texts that are put together from parts, each one token of the assembly language, and the tokens that they are.
-use Rattle.std.proofs.Common.{◌≡◌, ◌≢◌, ℕ, zero, suc, ◌+◌, ◌/◌, ◌%◌, ◌<◌, ◌≤◌, ◌^◌, Bool, true, false, ◌&&◌, ◌||◌, nat_le, nat_lt, inl, inr, List, [], ◌∷◌, ◌++◌, length, get_or, refl, sym, ap, ◌∙◌, arith, lit<, append-nil, length-append, lt-ltb, ltb-true, codes, decimal}
+use Rattle.std.proofs.Common.{◌≡◌, ℕ, zero, suc, ◌+◌, ◌/◌, ◌%◌, ◌<◌, ◌≤◌, ◌^◌, Bool, true, false, ◌&&◌, ◌||◌, nat_le, nat_lt, inl, inr, List, [], ◌∷◌, ◌++◌, length, get_or, refl, sym, ap, ◌∙◌, arith, lit<, append-nil, length-append, lt-ltb, ltb-true, decimal}
 use Rattle.std.specs.Prelude.{flat_map}
 use Rattle.std.specs.Char.{digit_value}
 use Rattle.std.specs.List.{list_all}
@@ -16,7 +16,7 @@ use Rattle.m88_isa.specs.declared.mnemonic.Mnemonic.{Mnemonic}
 use Rattle.m88_isa.specs.declared.mnemonic.Mnemonic.TheVariants as m
 use Rattle.m88_parse.specs.Language.Bytes.{are_digits, is_mark}
 use Rattle.m88_parse.specs.Language.Pieces.{Piece, TokenValue, a_name, a_number, a_mark}
-use Rattle.m88_parse.specs.Language.Tokens.{AreNameBytes, AreTokens, Begins, BeginsWithNoNameByte, HasNoNeedlessZero, IsDecimal, IsToken, LineTokens}
+use Rattle.m88_parse.specs.Language.Tokens.{AreNameBytes, AreTokens, BeginsWithNoNameByte, HasNoNeedlessZero, IsDecimal, IsToken, LineTokens}
 
 -- a name, a number in decimal, a number in hexadecimal by its digits, or a mark
 pub data Part : Type 0 where

@@ -1,9 +1,8 @@
 -- Lines that are each read as a statement are a source, whose unit has these statements.
-use Rattle.std.proofs.Common.{◌≡◌, ℕ, ◌+◌, ◌<◌, ◌≤◌, Bool, true, false, ◌==◌, ◌&&◌, cond, List, [], ◌∷◌, ◌++◌, length, refl, sym, ap, subst, ◌∙◌, arith, append_assoc, codes}
-use Rattle.std.specs.Prelude.{flat_map, if◌then◌else◌}
-use Rattle.std.specs.List.{list_all}
+use Rattle.std.proofs.Common.{◌≡◌, ℕ, ◌+◌, Bool, true, false, ◌==◌, ◌&&◌, List, [], ◌∷◌, ◌++◌, length, refl, sym, ap, subst, ◌∙◌, arith, append_assoc, codes}
+use Rattle.std.specs.Prelude.{if◌then◌else◌}
 use Rattle.std.proofs.lemmas.Bool.Decides.{nat_tests}
-use Rattle.m88_base.specs.Lines.{begins_with_lf, carriage_return, line_end, line_feed, lines_of, on_first_line}
+use Rattle.m88_base.specs.Lines.{begins_with_lf, line_end, lines_of, on_first_line}
 use Rattle.m88_parse.specs.Language.Units.{AreRows, IsUnit, no_row, only_main, row_of_statement, statement_line}
 use Rattle.m88_parse.specs.declared.unit.Body.{Body}
 use Rattle.m88_parse.specs.declared.unit.Statement.{Statement}

@@ -1,9 +1,8 @@
 -- The text of each instruction is read as that instruction.
-use Rattle.std.proofs.Common.{◌≡◌, ◌≢◌, ℕ, ℤ, pos, negsuc, ◌+◌, ◌*◌, ◌<◌, ◌≤◌, ◌^◌, Bool, true, false, ◌==◌, inl, inr, List, [], ◌∷◌, ◌++◌, length, get_or, refl, sym, ap, subst, ◌∙◌, arith, append_assoc, append-nil, codes, decimal, eqb-true}
-use Rattle.std.specs.Prelude.{None, Some, flat_map, if◌then◌else◌}
+use Rattle.std.proofs.Common.{◌≡◌, ◌≢◌, ℕ, ℤ, pos, negsuc, ◌+◌, ◌<◌, ◌^◌, Bool, true, false, ◌==◌, inl, inr, List, [], ◌∷◌, ◌++◌, length, get_or, refl, sym, ap, subst, ◌∙◌, arith, append_assoc, append-nil, codes, decimal, eqb-true}
+use Rattle.std.specs.Prelude.{None, Some}
 use Rattle.m88_base.specs.Hex.{hex2, hex8}
 use Rattle.m88_base.specs.Reg.{number_of}
-use Rattle.m88_base.specs.Name.{IsName}
 use Rattle.m88_base.specs.declared.reg.Reg.{Reg}
 use Rattle.m88_isa.specs.Instr.{FitsWords, IsValid, IsWidth}
 use Rattle.m88_isa.specs.Mnemonic.{text_of}
@@ -15,8 +14,8 @@ use Rattle.m88_isa.specs.declared.instr.Instr.TheVariants as instr
 use Rattle.m88_isa.specs.declared.mnemonic.Mnemonic.{Mnemonic}
 use Rattle.m88_isa.specs.declared.mnemonic.Mnemonic.TheVariants as m
 use Rattle.m88_parse.specs.Language.Names.{IsCondition, IsControlName, IsSymbolName}
-use Rattle.m88_parse.specs.Language.Operands.{AreOperands, most_width}
-use Rattle.m88_parse.specs.Language.Pieces.{Piece, a_mark, a_name, a_number}
+use Rattle.m88_parse.specs.Language.Operands.{AreOperands}
+use Rattle.m88_parse.specs.Language.Pieces.{Piece}
 use Rattle.m88_parse.specs.Language.Shapes.{shape_of}
 use Rattle.m88_parse.specs.Language.Statements.{BeginsWithNoColon, IsBody, at, byte, code, one, set as set_symbol, unlabelled, word}
 use Rattle.m88_parse.specs.declared.unit.Value.TheVariants.{Number}
@@ -26,7 +25,7 @@ use Rattle.m88_parse.specs.declared.unit.Body.TheVariants as body
 use Rattle.m88_disasm.specs.Listing.{byte_line, place_line, start_line}
 use Rattle.m88_disasm.specs.Mnemonics.{of_imm, of_reg, of_mem, of_index, of_lda, of_bits, of_find, of_branch, of_branch_bit, of_branch_cond, of_jump, of_trap_bit, of_ldcr, of_stcr, of_xcr}
 use Rattle.m88_disasm.specs.Read.{IsReadAs, said_by}
-use Rattle.m88_disasm.specs.Text.{condition, control, field, hexadecimal, instr_text, register, scaled, spelled, target, word_text}
+use Rattle.m88_disasm.specs.Text.{condition, control, field, instr_text, register, scaled, spelled, target, word_text}
 use Rattle.m88_disasm.proofs.Parts.{AreGood, IsGood, Part, are_parted, are_printed, byte_part_good, is_mark_part, is_name_text, line_pieces, line_printed, line_tokens, name_is_printed, mnemonic_name, name_token, numbered_name, part_hex, part_mark, part_name, part_number, part_says, part_text, parts_text, piece_of, pieces, word_name, word_part_good}
 use Rattle.m88_disasm.proofs.Forms.{bits_register_form, bound_number_form, bound_register_form, branch_bit_form, branch_cond_form, branch_form, distance_of, field_form, find_form, imm_form, jump_form, lda_form, ldcr_form, mem_imm_form, mem_index_form, mem_scaled_form, reg_form, return_form, rotation_form, sign_of, stcr_form, trap_bit_form, trap_cond_form, xcr_form}
 
@@ -109,20 +108,25 @@ condition_part mask small = by1 (mask == 1) refl
       plain = refl;
       read = λ p says. inl (says, small);
     }
+
     by5 : (t : Bool) → (mask == 1) ≡ false → (mask == 2) ≡ false → (mask == 3) ≡ false → (mask == 12) ≡ false
         → (mask == 13) ≡ t → ConditionPart mask
     by5 true e1 e2 e3 e4 e = subst ConditionPart (sym (eqb-true mask 13 e)) (named_condition 13 (codes "ne0") refl refl refl)
     by5 false e1 e2 e3 e4 e = by6 (mask == 14) e1 e2 e3 e4 e refl
+
     by4 : (t : Bool) → (mask == 1) ≡ false → (mask == 2) ≡ false → (mask == 3) ≡ false → (mask == 12) ≡ t
         → ConditionPart mask
     by4 true e1 e2 e3 e = subst ConditionPart (sym (eqb-true mask 12 e)) (named_condition 12 (codes "lt0") refl refl refl)
     by4 false e1 e2 e3 e = by5 (mask == 13) e1 e2 e3 e refl
+
     by3 : (t : Bool) → (mask == 1) ≡ false → (mask == 2) ≡ false → (mask == 3) ≡ t → ConditionPart mask
     by3 true e1 e2 e = subst ConditionPart (sym (eqb-true mask 3 e)) (named_condition 3 (codes "ge0") refl refl refl)
     by3 false e1 e2 e = by4 (mask == 12) e1 e2 e refl
+
     by2 : (t : Bool) → (mask == 1) ≡ false → (mask == 2) ≡ t → ConditionPart mask
     by2 true e1 e = subst ConditionPart (sym (eqb-true mask 2 e)) (named_condition 2 (codes "eq0") refl refl refl)
     by2 false e1 e = by3 (mask == 3) e1 e refl
+
     by1 : (t : Bool) → (mask == 1) ≡ t → ConditionPart mask
     by1 true e = subst ConditionPart (sym (eqb-true mask 1 e)) (named_condition 1 (codes "gt0") refl refl refl)
     by1 false e = by2 (mask == 2) e refl

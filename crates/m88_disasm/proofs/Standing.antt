@@ -1,23 +1,17 @@
 -- The statements of a listing where they stand: what the counters are before each, and what each one gives there.
-use Rattle.std.proofs.Common.{◌≡◌, ◌≢◌, ℕ, zero, suc, ◌+◌, ◌%◌, ◌<◌, ◌≤◌, ◌^◌, Bool, true, false, ◌==◌, ◌||◌, nat_lt, cond, inl, inr, List, [], ◌∷◌, ◌++◌, length, refl, sym, ap, subst, ◌∙◌, arith, eq-eqb, ne_eqb, le-ltb, length-append, codes}
-use Rattle.std.specs.Prelude.{Option, None, Some, flat_map, if◌then◌else◌, map, sum_by}
-use Rattle.std.specs.Int.{to_be_bytes, w32}
+use Rattle.std.proofs.Common.{◌≡◌, ◌≢◌, ℕ, ◌+◌, ◌≤◌, Bool, inl, inr, List, [], ◌∷◌, ◌++◌, length, refl, sym, ap, subst, ◌∙◌, arith, eq-eqb, ne_eqb, length-append}
+use Rattle.std.specs.Prelude.{Option, None, if◌then◌else◌, map}
 use Rattle.std.specs.Option.{option_or}
-use Rattle.std.proofs.lemmas.List.Sums.{sum_by-cons}
-use Rattle.m88_base.specs.Image.{most_bytes}
 use Rattle.m88_base.specs.Placed.{Placed, byte_among, byte_in}
 use Rattle.m88_base.proofs.Lookup.{byte_in-join, byte_in_above, byte_in_below, option_or_assoc}
 use Rattle.std.proofs.lemmas.Bool.Decides.{leb_tells}
-use Rattle.m88_isa.specs.Word.{word_of}
 use Rattle.m88_parse.specs.declared.unit.Body.{Body}
 use Rattle.m88_parse.specs.declared.unit.Body.TheVariants as body
 use Rattle.m88_parse.specs.declared.unit.Statement.{Statement}
 use Rattle.m88_link.specs.declared.object.Symbol.{Symbol}
-use Rattle.m88_asm.specs.Counters.{Counters, Located, after, length_of, located, offset_of, place_of, put, section_of, with_length}
-use Rattle.m88_asm.specs.Faults.{alignment_of, fault_in, misfit_at, statements_fault}
+use Rattle.m88_asm.specs.Counters.{Counters, Located, after, located, put, with_length}
 use Rattle.m88_asm.specs.Images.{run_of}
-use Rattle.m88_asm.specs.Objects.{opened_by, sets_at, symbols_of, uses_in_body}
-use Rattle.m88_asm.specs.Units.{Based, base_in, length_in}
+use Rattle.m88_asm.specs.Units.{Based, base_in}
 use Rattle.m88_disasm.specs.Read.{bare}
 use Rattle.m88_disasm.proofs.Bodies.{Data, Gives, PartsData, a_byte, a_code, a_word, more_data, more_parts, no_data, no_parts}
 use Rattle.m88_disasm.proofs.Rows.{numbered}
