@@ -1,11 +1,10 @@
 -- The operands of each form, by what their tokens say.
-use Rattle.std.proofs.Common.{◌≡◌, ℕ, ℤ, pos, negsuc, ◌+◌, ◌*◌, ◌%◌, ◌<◌, ◌≤◌, ◌^◌, Bool, true, false, inl, inr, List, [], ◌∷◌, ◌++◌, refl, sym, ap, ◌∙◌, arith, codes, decimal, neg_ℤ, add-one}
+use Rattle.std.proofs.Common.{◌≡◌, ℕ, ℤ, pos, negsuc, ◌+◌, ◌*◌, ◌<◌, ◌≤◌, ◌^◌, Bool, true, false, inl, inr, List, [], ◌∷◌, refl, sym, ap, arith, codes, neg_ℤ, add-one}
 use Rattle.std.specs.Prelude.{None}
 use Rattle.m88_base.specs.declared.reg.Reg.{Reg}
 use Rattle.m88_base.specs.Reg.{number_of, reg_of}
 use Rattle.m88_base.proofs.Same.{same_reg}
-use Rattle.m88_base.specs.declared.fixup.Kind.{Kind}
-use Rattle.m88_isa.specs.Instr.{FitsWords, IsWidth}
+use Rattle.m88_isa.specs.Instr.{FitsWords}
 use Rattle.m88_isa.specs.declared.instr.ImmOp.{ImmOp}
 use Rattle.m88_isa.specs.declared.instr.ImmOp.TheVariants as imm
 use Rattle.m88_isa.specs.declared.instr.RegOp.{RegOp}
@@ -19,8 +18,8 @@ use Rattle.m88_isa.specs.declared.instr.BitOp.TheVariants as bits
 use Rattle.m88_isa.specs.declared.instr.Instr.TheVariants as instr
 use Rattle.m88_isa.specs.declared.mnemonic.Mnemonic.TheVariants as m
 use Rattle.m88_parse.specs.Language.Pieces.{Piece, a_name, a_number, a_mark}
-use Rattle.m88_parse.specs.Language.Names.{IsComma, IsCondition, IsControl, IsMark, IsNumber, IsRegister}
-use Rattle.m88_parse.specs.Language.Operands.{most_width, AreOperands, Behind, IsDistance, IsGoal, IsLiteral, IsPlace, short, place, either_immediate, either_register, immediate, registers, offset as memory_offset, index as plain_index, scaled, user_index, user_scaled, address, literal, field as register_field, find, branch, branch_bit, branch_condition, jump, trap_bit, trap_condition, bound_number, bound_register, return, control_load, control_store, control_exchange}
+use Rattle.m88_parse.specs.Language.Names.{IsCondition, IsControl, IsRegister}
+use Rattle.m88_parse.specs.Language.Operands.{most_width, AreOperands, Behind, IsLiteral, IsPlace, short, place, either_immediate, either_register, immediate, registers, offset as memory_offset, index as plain_index, scaled, user_index, user_scaled, address, literal, field as register_field, find, branch, branch_bit, branch_condition, jump, trap_bit, trap_condition, bound_number, bound_register, return, control_load, control_store, control_exchange}
 use Rattle.m88_parse.specs.Language.Shapes.{shape_of}
 use Rattle.m88_disasm.specs.Mnemonics.{of_imm, of_reg, of_mem, of_user_mem, of_index, of_lda, of_bits, of_find, of_branch, of_branch_bit, of_branch_cond, of_jump, of_trap_bit, of_ldcr, of_stcr, of_xcr}
 use Rattle.m88_disasm.specs.Text.{control, register}

@@ -1,7 +1,14 @@
 pub mod Digits
 pub mod Names
 pub mod Lines
+pub mod Sizes
 pub mod OneListing
 pub mod Parts
 pub mod Forms
 pub mod Spoken
+pub mod Rows
+pub mod Bodies
+pub mod Standing
+pub mod Accepting
+pub mod Linking
+pub mod Again

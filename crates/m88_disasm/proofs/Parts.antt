@@ -1,5 +1,5 @@
 -- Texts that are put together from parts, each one token of the assembly language, and the tokens that they are.
-use Rattle.std.proofs.Common.{◌≡◌, ◌≢◌, ℕ, zero, suc, ◌+◌, ◌/◌, ◌%◌, ◌<◌, ◌≤◌, ◌^◌, Bool, true, false, ◌&&◌, ◌||◌, nat_lt, inl, inr, List, [], ◌∷◌, ◌++◌, length, get_or, refl, sym, ap, ◌∙◌, arith, lit<, append-nil, length-append, lt-ltb, ltb-true, codes, decimal}
+use Rattle.std.proofs.Common.{◌≡◌, ℕ, zero, suc, ◌+◌, ◌/◌, ◌%◌, ◌<◌, ◌≤◌, ◌^◌, Bool, true, false, ◌&&◌, ◌||◌, nat_le, nat_lt, inl, inr, List, [], ◌∷◌, ◌++◌, length, get_or, refl, sym, ap, ◌∙◌, arith, lit<, append-nil, length-append, lt-ltb, ltb-true, decimal}
 use Rattle.std.specs.Prelude.{flat_map}
 use Rattle.std.specs.Char.{digit_value}
 use Rattle.std.specs.List.{list_all}
@@ -7,7 +7,7 @@ use Rattle.std.specs.Str.Parse.{AllDigits, digits_value}
 use Rattle.std.proofs.lemmas.Bool.Decides.{nat_tests}
 use Rattle.std.proofs.lemmas.Fmt.{decimal_digit, decimal_is_IsNumeral, first_decimal, length-decimal-le}
 use Rattle.std.proofs.lemmas.List.Folds.{list_all-append}
-use Rattle.std.proofs.lemmas.List.Sums.{AllPass-from_list_all}
+use Rattle.std.proofs.lemmas.List.Sums.{AllPass-from_list_all, list_all-from_AllPass}
 use Rattle.m88_base.specs.Hex.{hex_digit, hex2, hex8}
 use Rattle.m88_base.specs.Name.{IsName, begins_name, continues_name}
 use Rattle.m88_base.proofs.Hexadecimal.{value_of_hex8}
@@ -16,7 +16,7 @@ use Rattle.m88_isa.specs.declared.mnemonic.Mnemonic.{Mnemonic}
 use Rattle.m88_isa.specs.declared.mnemonic.Mnemonic.TheVariants as m
 use Rattle.m88_parse.specs.Language.Bytes.{are_digits, is_mark}
 use Rattle.m88_parse.specs.Language.Pieces.{Piece, TokenValue, a_name, a_number, a_mark}
-use Rattle.m88_parse.specs.Language.Tokens.{AreNameBytes, AreTokens, Begins, BeginsWithNoNameByte, HasNoNeedlessZero, IsDecimal, IsToken, LineTokens}
+use Rattle.m88_parse.specs.Language.Tokens.{AreNameBytes, AreTokens, BeginsWithNoNameByte, HasNoNeedlessZero, IsDecimal, IsToken, LineTokens}
 
 -- a name, a number in decimal, a number in hexadecimal by its digits, or a mark
 pub data Part : Type 0 where
@@ -41,13 +41,20 @@ abbrev pub is_mark_part : Part → Bool
 is_mark_part (part_mark b) = true
 is_mark_part _ = false
 
+-- a byte that ends no line
+abbrev pub is_printed : ℕ → Bool
+is_printed b = nat_le 32 b
+
+abbrev pub are_printed : List ℕ → Bool
+are_printed bytes = list_all is_printed bytes
+
 -- the text of a part is a token
 abbrev pub IsGood : Part → Type 0
 IsGood (part_name name) = IsName name
 IsGood (part_number n) = n < 2 ^ 32
 IsGood (part_hex digits n) =
     (0 < length digits) × (are_digits 16 digits ≡ true) × (n ≡ digits_value 16 digits) × (n < 2 ^ 32)
-IsGood (part_mark b) = (is_mark b ≡ true) × (continues_name b ≡ false)
+IsGood (part_mark b) = (is_mark b ≡ true) × (continues_name b ≡ false) × (is_printed b ≡ true)
 
 abbrev pub AreGood : List Part → Type 0
 AreGood [] = Unit {0}
@@ -257,3 +264,51 @@ value_of_hex2 n small = rw (digit_back (n / 16 % 16) (omega arith), digit_back (
 
 pub byte_part_good : (n : ℕ) → n < 2 ^ 8 → IsGood (part_hex (hex2 n) n)
 byte_part_good n small = (lit< tt, two_digits n, sym (value_of_hex2 n small), omega arith)
+
+-- what is printed ends no line
+name_printed : (b : ℕ) → continues_name b ≡ true → is_printed b ≡ true
+name_printed b h = grind (arith, nat_tests)
+
+names_printed : (bs : List ℕ) → list_all continues_name bs ≡ true → are_printed bs ≡ true
+names_printed [] h = refl
+names_printed (b ∷ bs) h =
+    let k = both (continues_name b) (list_all continues_name bs) h in
+    ap (λ (t : Bool). t && are_printed bs) (name_printed b k.0) ∙ names_printed bs k.1
+
+first_printed : (b : ℕ) → begins_name b ≡ true → is_printed b ≡ true
+first_printed b h = grind (arith, nat_tests)
+
+pub name_is_printed : (name : List ℕ) → IsName name → are_printed name ≡ true
+name_is_printed [] h = absurd h
+name_is_printed (b ∷ bs) h =
+    ap (λ (t : Bool). t && are_printed bs) (first_printed b h.0)
+    ∙ names_printed bs (list_all-from_AllPass continues_name bs h.1)
+
+digit_printed : (b : ℕ) → digit_value b < 16 → is_printed b ≡ true
+digit_printed b h = grind (arith, nat_tests)
+
+digits_printed : (bs : List ℕ) → are_digits 16 bs ≡ true → are_printed bs ≡ true
+digits_printed [] h = refl
+digits_printed (b ∷ bs) h =
+    let k = both (nat_lt (digit_value b) 16) (are_digits 16 bs) h in
+    ap (λ (t : Bool). t && are_printed bs) (digit_printed b (ltb-true (digit_value b) 16 k.0)) ∙ digits_printed bs k.1
+
+decimals_printed : (n : ℕ) → n < 2 ^ 32 → are_printed (decimal n) ≡ true
+decimals_printed n h =
+    names_printed (decimal n) (digits_continue (decimal n) (decimal_is_IsNumeral n (omega arith)).0.1)
+
+part_printed : (p : Part) → IsGood p → are_printed (part_text p) ≡ true
+part_printed (part_name name) g = name_is_printed name g
+part_printed (part_number n) g = decimals_printed n g
+part_printed (part_hex digits n) g = digits_printed digits g.1
+part_printed (part_mark b) g = rw g.2 refl
+
+printed_behind : (xs ys : List ℕ) → are_printed xs ≡ true → are_printed ys ≡ true → are_printed (xs ++ ys) ≡ true
+printed_behind xs ys e f = list_all-append is_printed xs ys ∙ rw (e, f) refl
+
+parts_printed : (ps : List Part) → AreGood ps → are_printed (parts_text ps) ≡ true
+parts_printed [] gs = refl
+parts_printed (p ∷ ps) gs = printed_behind (part_text p) (parts_text ps) (part_printed p gs.0) (parts_printed ps gs.1)
+
+pub line_printed : (op : List ℕ) (ps : List Part) → IsName op → AreGood ps → are_printed (op ++ 32 ∷ parts_text ps) ≡ true
+line_printed op ps name gs = printed_behind op (32 ∷ parts_text ps) (name_is_printed op name) (parts_printed ps gs)

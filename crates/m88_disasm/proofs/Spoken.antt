@@ -1,9 +1,8 @@
 -- The text of each instruction is read as that instruction.
-use Rattle.std.proofs.Common.{◌≡◌, ◌≢◌, ℕ, ℤ, pos, negsuc, ◌+◌, ◌*◌, ◌<◌, ◌≤◌, ◌^◌, Bool, true, false, ◌==◌, inl, inr, List, [], ◌∷◌, ◌++◌, length, refl, sym, ap, subst, ◌∙◌, arith, append_assoc, append-nil, codes, decimal, eqb-true}
-use Rattle.std.specs.Prelude.{None, Some, flat_map, if◌then◌else◌}
+use Rattle.std.proofs.Common.{◌≡◌, ◌≢◌, ℕ, ℤ, pos, negsuc, ◌+◌, ◌<◌, ◌^◌, Bool, true, false, ◌==◌, inl, inr, List, [], ◌∷◌, ◌++◌, length, get_or, refl, sym, ap, subst, ◌∙◌, arith, append_assoc, append-nil, codes, decimal, eqb-true}
+use Rattle.std.specs.Prelude.{None, Some}
 use Rattle.m88_base.specs.Hex.{hex2, hex8}
 use Rattle.m88_base.specs.Reg.{number_of}
-use Rattle.m88_base.specs.Name.{IsName}
 use Rattle.m88_base.specs.declared.reg.Reg.{Reg}
 use Rattle.m88_isa.specs.Instr.{FitsWords, IsValid, IsWidth}
 use Rattle.m88_isa.specs.Mnemonic.{text_of}
@@ -14,20 +13,26 @@ use Rattle.m88_isa.specs.declared.instr.Instr.{Instr}
 use Rattle.m88_isa.specs.declared.instr.Instr.TheVariants as instr
 use Rattle.m88_isa.specs.declared.mnemonic.Mnemonic.{Mnemonic}
 use Rattle.m88_isa.specs.declared.mnemonic.Mnemonic.TheVariants as m
-use Rattle.m88_parse.specs.Language.Names.{IsCondition}
-use Rattle.m88_parse.specs.Language.Operands.{AreOperands, most_width}
-use Rattle.m88_parse.specs.Language.Pieces.{Piece, a_mark, a_name, a_number}
+use Rattle.m88_parse.specs.Language.Names.{IsCondition, IsControlName, IsSymbolName}
+use Rattle.m88_parse.specs.Language.Operands.{AreOperands}
+use Rattle.m88_parse.specs.Language.Pieces.{Piece}
 use Rattle.m88_parse.specs.Language.Shapes.{shape_of}
-use Rattle.m88_parse.specs.Language.Statements.{BeginsWithNoColon, code, one, unlabelled, word}
+use Rattle.m88_parse.specs.Language.Statements.{BeginsWithNoColon, IsBody, at, byte, code, one, set as set_symbol, unlabelled, word}
 use Rattle.m88_parse.specs.declared.unit.Value.TheVariants.{Number}
 use Rattle.m88_parse.specs.Language.Words.{condition_named}
 use Rattle.m88_parse.specs.declared.unit.Body.{Body}
 use Rattle.m88_parse.specs.declared.unit.Body.TheVariants as body
+use Rattle.m88_disasm.specs.Listing.{byte_line, place_line, start_line}
 use Rattle.m88_disasm.specs.Mnemonics.{of_imm, of_reg, of_mem, of_index, of_lda, of_bits, of_find, of_branch, of_branch_bit, of_branch_cond, of_jump, of_trap_bit, of_ldcr, of_stcr, of_xcr}
 use Rattle.m88_disasm.specs.Read.{IsReadAs, said_by}
-use Rattle.m88_disasm.specs.Text.{condition, control, field, hexadecimal, instr_text, register, scaled, spelled, target, word_text}
-use Rattle.m88_disasm.proofs.Parts.{AreGood, IsGood, Part, are_parted, is_mark_part, is_name_text, line_pieces, line_tokens, mnemonic_name, name_token, numbered_name, part_hex, part_mark, part_name, part_number, part_says, part_text, parts_text, piece_of, pieces, word_name, word_part_good}
+use Rattle.m88_disasm.specs.Text.{condition, control, field, instr_text, register, scaled, spelled, target, word_text}
+use Rattle.m88_disasm.proofs.Parts.{AreGood, IsGood, Part, are_parted, are_printed, byte_part_good, is_mark_part, is_name_text, line_pieces, line_printed, line_tokens, name_is_printed, mnemonic_name, name_token, numbered_name, part_hex, part_mark, part_name, part_number, part_says, part_text, parts_text, piece_of, pieces, word_name, word_part_good}
 use Rattle.m88_disasm.proofs.Forms.{bits_register_form, bound_number_form, bound_register_form, branch_bit_form, branch_cond_form, branch_form, distance_of, field_form, find_form, imm_form, jump_form, lda_form, ldcr_form, mem_imm_form, mem_index_form, mem_scaled_form, reg_form, return_form, rotation_form, sign_of, stcr_form, trap_bit_form, trap_cond_form, xcr_form}
+
+-- a line that ends nowhere within and is read as a statement
+pub record Spoken (number : ℕ) (line : List ℕ) (said : Body) : Type 0 where
+  pub read : IsReadAs number line said
+  pub printed : are_printed line ≡ true
 
 -- no mark comes first, so no colon
 no_colon : (col : ℕ) (p : Part) (ps : List Part) → is_mark_part p ≡ false → BeginsWithNoColon (pieces col (p ∷ ps))
@@ -39,16 +44,19 @@ says_code : (mnemonic : Mnemonic) (p : Part) (ps : List Part) (i : Instr) (numbe
     → text ≡ text_of mnemonic ++ 32 ∷ parts_text (p ∷ ps) → AreGood (p ∷ ps) → are_parted (p ∷ ps) ≡ true
     → is_mark_part p ≡ false
     → AreOperands (shape_of mnemonic) (pieces (1 + length (text_of mnemonic) + 1) (p ∷ ps)) i None
-    → IsReadAs number text (body.Code i None)
+    → Spoken number text (body.Code i None)
 says_code mnemonic p ps i number text text_is goods parted first operands =
     let line : List ℕ = text_of mnemonic ++ 32 ∷ parts_text (p ∷ ps) in
-    let said : IsReadAs number line (body.Code i None) = record {
-      tokens = line_pieces (text_of mnemonic) (p ∷ ps);
-      are_tokens = line_tokens (text_of mnemonic) p ps (mnemonic_name mnemonic) goods parted;
-      statement =
-          unlabelled (code mnemonic refl operands) (no_colon (1 + length (text_of mnemonic) + 1) p ps first);
+    let said : Spoken number line (body.Code i None) = record {
+      read = record {
+        tokens = line_pieces (text_of mnemonic) (p ∷ ps);
+        are_tokens = line_tokens (text_of mnemonic) p ps (mnemonic_name mnemonic) goods parted;
+        statement =
+            unlabelled (code mnemonic refl operands) (no_colon (1 + length (text_of mnemonic) + 1) p ps first);
+      };
+      printed = line_printed (text_of mnemonic) (p ∷ ps) (mnemonic_name mnemonic) goods;
     } in
-    subst (λ (l : List ℕ). IsReadAs number l (body.Code i None)) (sym text_is) said
+    subst (λ (l : List ℕ). Spoken number l (body.Code i None)) (sym text_is) said
 
 -- names and marks
 abbrev reg_part : Reg → Part
@@ -66,7 +74,7 @@ control_good true cr small = numbered_name 102 (codes "cr") cr refl refl (omega 
 control_good false cr small = numbered_name 99 (codes "r") cr refl refl (omega arith) (omega arith)
 
 comma_good : IsGood comma
-comma_good = (refl, refl)
+comma_good = (refl, refl, refl)
 
 -- a condition by its name or its number
 record ConditionPart (mask : ℕ) : Type 0 where
@@ -100,20 +108,25 @@ condition_part mask small = by1 (mask == 1) refl
       plain = refl;
       read = λ p says. inl (says, small);
     }
+
     by5 : (t : Bool) → (mask == 1) ≡ false → (mask == 2) ≡ false → (mask == 3) ≡ false → (mask == 12) ≡ false
         → (mask == 13) ≡ t → ConditionPart mask
     by5 true e1 e2 e3 e4 e = subst ConditionPart (sym (eqb-true mask 13 e)) (named_condition 13 (codes "ne0") refl refl refl)
     by5 false e1 e2 e3 e4 e = by6 (mask == 14) e1 e2 e3 e4 e refl
+
     by4 : (t : Bool) → (mask == 1) ≡ false → (mask == 2) ≡ false → (mask == 3) ≡ false → (mask == 12) ≡ t
         → ConditionPart mask
     by4 true e1 e2 e3 e = subst ConditionPart (sym (eqb-true mask 12 e)) (named_condition 12 (codes "lt0") refl refl refl)
     by4 false e1 e2 e3 e = by5 (mask == 13) e1 e2 e3 e refl
+
     by3 : (t : Bool) → (mask == 1) ≡ false → (mask == 2) ≡ false → (mask == 3) ≡ t → ConditionPart mask
     by3 true e1 e2 e = subst ConditionPart (sym (eqb-true mask 3 e)) (named_condition 3 (codes "ge0") refl refl refl)
     by3 false e1 e2 e = by4 (mask == 12) e1 e2 e refl
+
     by2 : (t : Bool) → (mask == 1) ≡ false → (mask == 2) ≡ t → ConditionPart mask
     by2 true e1 e = subst ConditionPart (sym (eqb-true mask 2 e)) (named_condition 2 (codes "eq0") refl refl refl)
     by2 false e1 e = by3 (mask == 3) e1 e refl
+
     by1 : (t : Bool) → (mask == 1) ≡ t → ConditionPart mask
     by1 true e = subst ConditionPart (sym (eqb-true mask 1 e)) (named_condition 1 (codes "gt0") refl refl refl)
     by1 false e = by2 (mask == 2) e refl
@@ -122,7 +135,7 @@ condition_part mask small = by1 (mask == 1) refl
 said_imm : (number : ℕ) (mnemonic : Mnemonic) (d s1 : Reg) (n : ℕ) (i : Instr) → n < 2 ^ 16
     → AreOperands (shape_of mnemonic)
     (pieces (1 + length (text_of mnemonic) + 1) (reg_part d ∷ comma ∷ reg_part s1 ∷ comma ∷ part_number n ∷ [])) i None
-    → IsReadAs number (spelled mnemonic (register d ∷ register s1 ∷ decimal n ∷ [])) (body.Code i None)
+    → Spoken number (spelled mnemonic (register d ∷ register s1 ∷ decimal n ∷ [])) (body.Code i None)
 said_imm number mnemonic d s1 n i small operands =
     says_code mnemonic (reg_part d) (comma ∷ reg_part s1 ∷ comma ∷ part_number n ∷ []) i number _ refl
     (reg_good d, (comma_good, (reg_good s1, (comma_good, (omega arith, tt))))) refl refl operands
@@ -131,7 +144,7 @@ said_imm number mnemonic d s1 n i small operands =
 said_regs : (number : ℕ) (mnemonic : Mnemonic) (d s1 s2 : Reg) (i : Instr)
     → AreOperands (shape_of mnemonic)
     (pieces (1 + length (text_of mnemonic) + 1) (reg_part d ∷ comma ∷ reg_part s1 ∷ comma ∷ reg_part s2 ∷ [])) i None
-    → IsReadAs number (spelled mnemonic (register d ∷ register s1 ∷ register s2 ∷ [])) (body.Code i None)
+    → Spoken number (spelled mnemonic (register d ∷ register s1 ∷ register s2 ∷ [])) (body.Code i None)
 said_regs number mnemonic d s1 s2 i operands =
     says_code mnemonic (reg_part d) (comma ∷ reg_part s1 ∷ comma ∷ reg_part s2 ∷ []) i number _ refl
     (reg_good d, (comma_good, (reg_good s1, (comma_good, (reg_good s2, tt))))) refl refl operands
@@ -145,11 +158,11 @@ said_scaled : (number : ℕ) (mnemonic : Mnemonic) (d s1 s2 : Reg) (i : Instr)
     → AreOperands (shape_of mnemonic)
     (pieces (1 + length (text_of mnemonic) + 1)
     (reg_part d ∷ comma ∷ reg_part s1 ∷ part_mark 91 ∷ reg_part s2 ∷ part_mark 93 ∷ [])) i None
-    → IsReadAs number (spelled mnemonic (register d ∷ scaled s1 s2 ∷ [])) (body.Code i None)
+    → Spoken number (spelled mnemonic (register d ∷ scaled s1 s2 ∷ [])) (body.Code i None)
 said_scaled number mnemonic d s1 s2 i operands =
     says_code mnemonic (reg_part d) (comma ∷ reg_part s1 ∷ part_mark 91 ∷ reg_part s2 ∷ part_mark 93 ∷ []) i number _
     (ap (λ (xs : List ℕ). text_of mnemonic ++ 32 ∷ (register d ++ 44 ∷ xs)) (marked_twice 91 93 (register s1) (register s2)))
-    (reg_good d, (comma_good, (reg_good s1, ((refl, refl), (reg_good s2, ((refl, refl), tt)))))) refl refl operands
+    (reg_good d, (comma_good, (reg_good s1, ((refl, refl, refl), (reg_good s2, ((refl, refl, refl), tt)))))) refl refl operands
 
 -- rD,rS1,W<O>
 said_field : (number : ℕ) (mnemonic : Mnemonic) (d s1 : Reg) (width offset : ℕ) (i : Instr) → width < 32 → offset < 32
@@ -157,31 +170,31 @@ said_field : (number : ℕ) (mnemonic : Mnemonic) (d s1 : Reg) (width offset : �
     (pieces (1 + length (text_of mnemonic) + 1)
     (reg_part d ∷ comma ∷ reg_part s1 ∷ comma ∷ part_number width ∷ part_mark 60 ∷ part_number offset ∷ part_mark 62 ∷ []))
     i None
-    → IsReadAs number
+    → Spoken number
     (spelled mnemonic (register d ∷ register s1 ∷ (decimal width ++ codes "<" ++ decimal offset ++ codes ">") ∷ []))
     (body.Code i None)
 said_field number mnemonic d s1 width offset i wide small operands =
     says_code mnemonic (reg_part d)
     (comma ∷ reg_part s1 ∷ comma ∷ part_number width ∷ part_mark 60 ∷ part_number offset ∷ part_mark 62 ∷ []) i number _
     (ap (λ (xs : List ℕ). text_of mnemonic ++ 32 ∷ (register d ++ 44 ∷ (register s1 ++ 44 ∷ xs))) (marked_twice 60 62 (decimal width) (decimal offset)))
-    (reg_good d, (comma_good, (reg_good s1, (comma_good, (omega arith, ((refl, refl), (omega arith, ((refl, refl), tt)))))))) refl refl operands
+    (reg_good d, (comma_good, (reg_good s1, (comma_good, (omega arith, ((refl, refl, refl), (omega arith, ((refl, refl, refl), tt)))))))) refl refl operands
 
 -- rD,rS1,<O>
 said_rotation : (number : ℕ) (mnemonic : Mnemonic) (d s1 : Reg) (offset : ℕ) (i : Instr) → offset < 32
     → AreOperands (shape_of mnemonic)
     (pieces (1 + length (text_of mnemonic) + 1)
     (reg_part d ∷ comma ∷ reg_part s1 ∷ comma ∷ part_mark 60 ∷ part_number offset ∷ part_mark 62 ∷ [])) i None
-    → IsReadAs number
+    → Spoken number
     (spelled mnemonic (register d ∷ register s1 ∷ (codes "<" ++ decimal offset ++ codes ">") ∷ []))
     (body.Code i None)
 said_rotation number mnemonic d s1 offset i small operands =
     says_code mnemonic (reg_part d)
     (comma ∷ reg_part s1 ∷ comma ∷ part_mark 60 ∷ part_number offset ∷ part_mark 62 ∷ []) i number _
     (ap (λ (xs : List ℕ). text_of mnemonic ++ 32 ∷ (register d ++ 44 ∷ (register s1 ++ 44 ∷ (60 ∷ xs)))) (append-nil (decimal offset ++ codes ">")))
-    (reg_good d, (comma_good, (reg_good s1, (comma_good, ((refl, refl), (omega arith, ((refl, refl), tt))))))) refl refl operands
+    (reg_good d, (comma_good, (reg_good s1, (comma_good, ((refl, refl, refl), (omega arith, ((refl, refl, refl), tt))))))) refl refl operands
 
 said_literal : (number : ℕ) (op : BitOp) (d s1 : Reg) (width offset : ℕ) → IsWidth op width → offset < 32
-    → IsReadAs number (spelled (of_bits op) (register d ∷ register s1 ∷ field op width offset ∷ []))
+    → Spoken number (spelled (of_bits op) (register d ∷ register s1 ∷ field op width offset ∷ []))
     (body.Code (instr.BitLit op d s1 width offset) None)
 said_literal number bits.Rot d s1 width offset wide small =
     said_rotation number (of_bits bits.Rot) d s1 offset (instr.BitLit bits.Rot d s1 width offset) small
@@ -193,19 +206,19 @@ said_literal number op d s1 width offset wide small =
 -- two registers
 said_pair : (number : ℕ) (mnemonic : Mnemonic) (r s : Reg) (i : Instr)
     → AreOperands (shape_of mnemonic) (pieces (1 + length (text_of mnemonic) + 1) (reg_part r ∷ comma ∷ reg_part s ∷ [])) i None
-    → IsReadAs number (spelled mnemonic (register r ∷ register s ∷ [])) (body.Code i None)
+    → Spoken number (spelled mnemonic (register r ∷ register s ∷ [])) (body.Code i None)
 said_pair number mnemonic r s i operands =
     says_code mnemonic (reg_part r) (comma ∷ reg_part s ∷ []) i number _ refl
     (reg_good r, (comma_good, (reg_good s, tt))) refl refl operands
 
 said_single : (number : ℕ) (mnemonic : Mnemonic) (r : Reg) (i : Instr)
     → AreOperands (shape_of mnemonic) (pieces (1 + length (text_of mnemonic) + 1) (reg_part r ∷ [])) i None
-    → IsReadAs number (spelled mnemonic (register r ∷ [])) (body.Code i None)
+    → Spoken number (spelled mnemonic (register r ∷ [])) (body.Code i None)
 said_single number mnemonic r i operands =
     says_code mnemonic (reg_part r) [] i number _ refl (reg_good r, tt) refl refl operands
 
 said_bound : (number : ℕ) (s1 : Reg) (n : ℕ) → n < 2 ^ 16
-    → IsReadAs number (spelled m.Tbnd (register s1 ∷ decimal n ∷ [])) (body.Code (instr.BoundImm s1 n) None)
+    → Spoken number (spelled m.Tbnd (register s1 ∷ decimal n ∷ [])) (body.Code (instr.BoundImm s1 n) None)
 said_bound number s1 n small =
     says_code m.Tbnd (reg_part s1) (comma ∷ part_number n ∷ []) (instr.BoundImm s1 n) number _ refl
     (reg_good s1, (comma_good, (omega arith, tt))) refl refl (bound_number_form s1 n _ _ _ refl refl refl small)
@@ -219,15 +232,15 @@ target_text (pos n) = refl
 target_text (negsuc n) = refl
 
 target_good : (words : ℤ) → FitsWords 25 words → AreGood (target_parts words)
-target_good (pos n) fits = (word_name (codes ".") refl, ((refl, refl), (omega arith, tt)))
-target_good (negsuc n) fits = (word_name (codes ".") refl, ((refl, refl), (omega arith, tt)))
+target_good (pos n) fits = (word_name (codes ".") refl, ((refl, refl, refl), (omega arith, tt)))
+target_good (negsuc n) fits = (word_name (codes ".") refl, ((refl, refl, refl), (omega arith, tt)))
 
 wider : (words : ℤ) → FitsWords 15 words → FitsWords 25 words
 wider (pos n) fits = omega arith
 wider (negsuc n) fits = omega arith
 
 said_branch : (number : ℕ) (link delayed : Bool) (words : ℤ) → FitsWords 25 words
-    → IsReadAs number (spelled (of_branch link delayed) (target words ∷ [])) (body.Code (instr.Branch link delayed words) None)
+    → Spoken number (spelled (of_branch link delayed) (target words ∷ [])) (body.Code (instr.Branch link delayed words) None)
 said_branch number link delayed words fits =
     says_code (of_branch link delayed) (part_name (codes ".")) (part_mark (sign_of words) ∷ part_number (distance_of words) ∷ [])
     (instr.Branch link delayed words) number _
@@ -235,7 +248,7 @@ said_branch number link delayed words fits =
     (branch_form link delayed words _ _ _ fits refl refl refl)
 
 said_branch_bit : (number : ℕ) (set delayed : Bool) (bit : ℕ) (s1 : Reg) (words : ℤ) → bit < 32 → FitsWords 15 words
-    → IsReadAs number (spelled (of_branch_bit set delayed) (decimal bit ∷ register s1 ∷ target words ∷ []))
+    → Spoken number (spelled (of_branch_bit set delayed) (decimal bit ∷ register s1 ∷ target words ∷ []))
     (body.Code (instr.BranchBit set delayed bit s1 words) None)
 said_branch_bit number set delayed bit s1 words small fits =
     says_code (of_branch_bit set delayed) (part_number bit) (comma ∷ reg_part s1 ∷ comma ∷ target_parts words)
@@ -245,7 +258,7 @@ said_branch_bit number set delayed bit s1 words small fits =
     (branch_bit_form set delayed bit s1 words _ _ _ _ _ _ _ refl small refl refl refl fits refl refl refl)
 
 said_branch_cond : (number : ℕ) (delayed : Bool) (mask : ℕ) (s1 : Reg) (words : ℤ) → ConditionPart mask → FitsWords 15 words
-    → IsReadAs number (spelled (of_branch_cond delayed) (condition mask ∷ register s1 ∷ target words ∷ []))
+    → Spoken number (spelled (of_branch_cond delayed) (condition mask ∷ register s1 ∷ target words ∷ []))
     (body.Code (instr.BranchCond delayed mask s1 words) None)
 said_branch_cond number delayed mask s1 words c fits =
     says_code (of_branch_cond delayed) c.part (comma ∷ reg_part s1 ∷ comma ∷ target_parts words)
@@ -258,7 +271,7 @@ said_branch_cond number delayed mask s1 words c fits =
 
 -- traps
 said_trap_bit : (number : ℕ) (set : Bool) (bit : ℕ) (s1 : Reg) (vector : ℕ) → bit < 32 → vector < 512
-    → IsReadAs number (spelled (of_trap_bit set) (decimal bit ∷ register s1 ∷ decimal vector ∷ []))
+    → Spoken number (spelled (of_trap_bit set) (decimal bit ∷ register s1 ∷ decimal vector ∷ []))
     (body.Code (instr.TrapBit set bit s1 vector) None)
 said_trap_bit number set bit s1 vector small few =
     says_code (of_trap_bit set) (part_number bit) (comma ∷ reg_part s1 ∷ comma ∷ part_number vector ∷ [])
@@ -267,7 +280,7 @@ said_trap_bit number set bit s1 vector small few =
     (trap_bit_form set bit s1 vector _ _ _ _ _ refl small refl refl refl refl few)
 
 said_trap_cond : (number : ℕ) (mask : ℕ) (s1 : Reg) (vector : ℕ) → ConditionPart mask → vector < 512
-    → IsReadAs number (spelled m.Tcnd (condition mask ∷ register s1 ∷ decimal vector ∷ []))
+    → Spoken number (spelled m.Tcnd (condition mask ∷ register s1 ∷ decimal vector ∷ []))
     (body.Code (instr.TrapCond mask s1 vector) None)
 said_trap_cond number mask s1 vector c few =
     says_code m.Tcnd c.part (comma ∷ reg_part s1 ∷ comma ∷ part_number vector ∷ [])
@@ -280,13 +293,13 @@ said_trap_cond number mask s1 vector c few =
 said_control : (number : ℕ) (mnemonic : Mnemonic) (r : Reg) (float : Bool) (cr : ℕ) (i : Instr) → cr < 64
     → AreOperands (shape_of mnemonic)
     (pieces (1 + length (text_of mnemonic) + 1) (reg_part r ∷ comma ∷ part_name (control float cr) ∷ [])) i None
-    → IsReadAs number (spelled mnemonic (register r ∷ control float cr ∷ [])) (body.Code i None)
+    → Spoken number (spelled mnemonic (register r ∷ control float cr ∷ [])) (body.Code i None)
 said_control number mnemonic r float cr i small operands =
     says_code mnemonic (reg_part r) (comma ∷ part_name (control float cr) ∷ []) i number _ refl
     (reg_good r, (comma_good, (control_good float cr small, tt))) refl refl operands
 
 said_exchange : (number : ℕ) (d s1 : Reg) (float : Bool) (cr : ℕ) → cr < 64
-    → IsReadAs number (spelled (of_xcr float) (register d ∷ register s1 ∷ control float cr ∷ []))
+    → Spoken number (spelled (of_xcr float) (register d ∷ register s1 ∷ control float cr ∷ []))
     (body.Code (instr.Xcr d s1 cr float) None)
 said_exchange number d s1 float cr small =
     says_code (of_xcr float) (reg_part d) (comma ∷ reg_part s1 ∷ comma ∷ part_name (control float cr) ∷ [])
@@ -295,26 +308,74 @@ said_exchange number d s1 float cr small =
     (xcr_form float d s1 cr _ _ _ _ _ refl refl refl refl refl small)
 
 -- the mnemonic alone
-said_return : (number : ℕ) → IsReadAs number (spelled m.Rte []) (body.Code instr.Rte None)
+said_return : (number : ℕ) → Spoken number (spelled m.Rte []) (body.Code instr.Rte None)
 said_return number =
-    let alone : IsReadAs number (text_of m.Rte) (body.Code instr.Rte None) = record {
-      tokens = line_pieces (text_of m.Rte) [];
-      are_tokens = name_token (text_of m.Rte) (mnemonic_name m.Rte);
-      statement = unlabelled (code m.Rte refl return_form) tt;
+    let alone : Spoken number (text_of m.Rte) (body.Code instr.Rte None) = record {
+      read = record {
+        tokens = line_pieces (text_of m.Rte) [];
+        are_tokens = name_token (text_of m.Rte) (mnemonic_name m.Rte);
+        statement = unlabelled (code m.Rte refl return_form) tt;
+      };
+      printed = name_is_printed (text_of m.Rte) (mnemonic_name m.Rte);
     } in
-    subst (λ (l : List ℕ). IsReadAs number l (body.Code instr.Rte None)) (sym (append-nil (text_of m.Rte))) alone
+    subst (λ (l : List ℕ). Spoken number l (body.Code instr.Rte None)) (sym (append-nil (text_of m.Rte))) alone
 
--- a word by itself
-pub said_word : (number w : ℕ) → w < 2 ^ 32 → IsReadAs number (word_text w) (body.Word (Number w ∷ []))
-said_word number w small = record {
-  tokens = line_pieces (codes ".word") (part_hex (hex8 w) w ∷ []);
-  are_tokens =
-      line_tokens (codes ".word") (part_hex (hex8 w) w) [] (word_name (codes ".word") refl) (word_part_good w small, tt) refl;
-  statement = unlabelled (word refl (one (refl, small))) (λ h. cc);
+-- the operands of a directive behind its name
+says_body : (name : List ℕ) (p : Part) (ps : List Part) (number : ℕ) (said : Body) → is_name_text name ≡ true
+    → AreGood (p ∷ ps) → are_parted (p ∷ ps) ≡ true → is_mark_part p ≡ false
+    → IsBody (line_pieces name (p ∷ ps)) said → Spoken number (name ++ 32 ∷ parts_text (p ∷ ps)) said
+says_body name p ps number said named goods parted first is = record {
+  read = record {
+    tokens = line_pieces name (p ∷ ps);
+    are_tokens = line_tokens name p ps (word_name name named) goods parted;
+    statement = unlabelled is (no_colon (1 + length name + 1) p ps first);
+  };
+  printed = line_printed name (p ∷ ps) (word_name name named) goods;
 }
 
+-- a word by itself
+pub said_word : (number w : ℕ) → w < 2 ^ 32 → Spoken number (word_text w) (body.Word (Number w ∷ []))
+said_word number w small =
+    says_body (codes ".word") (part_hex (hex8 w) w) [] number (body.Word (Number w ∷ [])) refl
+    (word_part_good w small, tt) refl refl (word refl (one (refl, small)))
+
+-- a byte by itself
+pub said_byte : (number b : ℕ) → b < 2 ^ 8 → Spoken number (byte_line b) (body.Byte (b ∷ []))
+said_byte number b small =
+    says_body (codes ".byte") (part_hex (hex2 b) b) [] number (body.Byte (b ∷ [])) refl
+    (byte_part_good b small, tt) refl refl (byte refl (one (refl, small)))
+
+-- where a part begins
+pub said_place : (number a : ℕ) → a < 2 ^ 32 → Spoken number (place_line a) (body.At a)
+said_place number a small =
+    says_body (codes ".at") (part_hex (hex8 a) a) [] number (body.At a) refl
+    (word_part_good a small, tt) refl refl (at refl refl small)
+
+-- where the program starts
+other_first : (b : ℕ) (name : List ℕ) → codes "_start" ≡ name → get_or name 0 0 ≡ b → b ≢ 95 → ⊥
+other_first b name e f other = other (sym (ap (λ (xs : List ℕ). get_or xs 0 0) e ∙ f))
+
+start_symbol : IsSymbolName (codes "_start")
+start_symbol = record {
+  valid = word_name (codes "_start") refl;
+  no_place = λ e. cc;
+  no_register = λ n h. other_first 114 _ h.0 refl (omega arith);
+  no_control = no_control;
+}
+  where
+    no_control : (float : Bool) (n : ℕ) → IsControlName float (codes "_start") n → ⊥
+    no_control true n h = other_first 102 _ h.0 refl (omega arith)
+    no_control false n h = other_first 99 _ h.0 refl (omega arith)
+
+pub said_start : (number a : ℕ) → a < 2 ^ 32 → Spoken number (start_line a) (body.Set (codes "_start") 6 a)
+said_start number a small =
+    says_body (codes ".set") (part_name (codes "_start")) (comma ∷ part_hex (hex8 a) a ∷ []) number
+    (body.Set (codes "_start") 6 a) refl
+    (word_name (codes "_start") refl, (comma_good, (word_part_good a small, tt))) refl refl
+    (set_symbol refl (refl, start_symbol) refl (refl, small))
+
 -- the text of each instruction
-pub said_instr : (number : ℕ) (i : Instr) → IsValid i → IsReadAs number (instr_text i) (said_by i)
+pub said_instr : (number : ℕ) (i : Instr) → IsValid i → Spoken number (instr_text i) (said_by i)
 unfolding instr_text
 said_instr number (instr.Imm op d s1 n) v =
     said_imm number (of_imm op) d s1 n _ v (imm_form op d s1 n _ _ _ _ _ refl refl refl refl refl v)

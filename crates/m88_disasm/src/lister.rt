@@ -1,9 +1,11 @@
 //! The listing of an image.
-ghost use Rattle.std.specs.Prelude.{◌≡◌, ◌+◌, ◌<◌, ◌≤◌, ◌^◌, ◌++◌, ℕ, List, length, IfOk, IsTrue, OnOk, ◌↔◌};
+ghost use Rattle.std.specs.Prelude.{◌≡◌, ◌+◌, ◌*◌, ◌<◌, ◌≤◌, ◌^◌, ◌++◌, ℕ, List, length, IfOk, IsTrue, OnOk, ◌↔◌};
 ghost use Rattle.m88_base.specs.Image.{IsImage, parts};
 ghost use Rattle.m88_base.specs.Lines.{line_end};
+ghost use Rattle.m88_base.specs.Placed.{count_among};
 ghost use Rattle.m88_disasm.specs.Appended.{BytesAppended, LineAppended, LinesAppended};
 ghost use Rattle.m88_disasm.specs.Listing.{AreLines, ArePartLines, BeginsWord, IsListing, IsWordLine, byte_line, place_line, start_line};
+ghost use Rattle.m88_disasm.specs.Read.{WritesImage};
 ghost use Rattle.m88_disasm.specs.Text.{hexadecimal, word_text};
 
 use crate::text::text_of;
@@ -58,7 +60,8 @@ fn push_line(text: &mut Vec<u8>, line: &[u8]) -> Result<(), AllocError>
 
 /// Appends the line of a word.
 fn push_word(text: &mut Vec<u8>, word: u32) -> Result<(), AllocError>
-    ensures { OnOk result (LineAppended (IsWordLine word) text.old.items text.new.items) }
+    ensures line { OnOk result (LineAppended (IsWordLine word) text.old.items text.new.items) }
+    ensures room { OnOk result (length text.new.items ≤ length text.old.items + 49) }
 {
     match decode(word) {
         Ok(instr) => {
@@ -83,7 +86,9 @@ fn begins_word(at: u32, bytes: &[u8]) -> bool
 /// Appends the line of the word that begins there, else of the first byte, and answers how many bytes that line is for.
 fn push_first(text: &mut Vec<u8>, at: u32, bytes: &[u8]) -> Result<usize, AllocError>
     requires { 0 < length bytes.now }
-    ensures appended { IfOk result (λ n. BytesAppended at bytes.now text.old.items text.new.items n) }
+    ensures appended { IfOk result
+        (λ n. BytesAppended at bytes.now text.old.items text.new.items n) }
+    ensures room { IfOk result (λ n. length text.new.items ≤ length text.old.items + 49 * n) }
     ensures some { IfOk result (λ n. 0 < n) }
     ensures within { IfOk result (λ n. n ≤ length bytes.now) }
 {
@@ -99,7 +104,10 @@ fn push_first(text: &mut Vec<u8>, at: u32, bytes: &[u8]) -> Result<usize, AllocE
 /// Appends the lines of the bytes from an address on.
 fn push_bytes(text: &mut Vec<u8>, at: u32, bytes: &[u8]) -> Result<(), AllocError>
     requires { at + length bytes.now ≤ 2 ^ 32 }
-    ensures { OnOk result (LinesAppended (AreLines at bytes.now) text.old.items text.new.items) }
+    ensures lines { OnOk result
+        (LinesAppended (AreLines at bytes.now) text.old.items text.new.items) }
+    ensures room { OnOk result
+        (length text.new.items ≤ length text.old.items + 49 * length bytes.now) }
 {
     let mut done = 0;
     while done < bytes.len() {
@@ -111,7 +119,11 @@ fn push_bytes(text: &mut Vec<u8>, at: u32, bytes: &[u8]) -> Result<(), AllocErro
 
 /// Appends the lines of all parts of an image.
 fn push_parts(text: &mut Vec<u8>, image: &Image) -> Result<(), AllocError>
-    ensures { OnOk result (LinesAppended (ArePartLines (parts image.now)) text.old.items text.new.items) }
+    ensures lines { OnOk result
+        (LinesAppended (ArePartLines (parts image.now)) text.old.items text.new.items) }
+    ensures room { OnOk result
+        (length text.new.items ≤ length text.old.items + 64 * count_among (parts image.now)) }
+    ensures image { IsImage image.now }
 {
     for index in 0..image.part_count() {
         let (at, bytes) = image.part(index);
@@ -123,7 +135,9 @@ fn push_parts(text: &mut Vec<u8>, image: &Image) -> Result<(), AllocError>
 
 /// The listing, or that there is no memory for it.
 fn listed(alloc: Global, image: &Image) -> Result<Vec<u8>, AllocError>
-    ensures { IfOk result (λ text. IsListing image.now text.items) }
+    ensures text { IfOk result (λ text. IsListing image.now text.items) }
+    ensures short { IfOk result (λ text. length text.items < 2 ^ 31) }
+    ensures image { OnOk result (IsImage image.now) }
 {
     let mut text = Vec::new(alloc);
     push_start(&mut text, image.start())?;
@@ -135,6 +149,10 @@ fn listed(alloc: Global, image: &Image) -> Result<Vec<u8>, AllocError>
 /// address and the texts of its instructions; words of no instruction and bytes of no whole word by themselves.
 pub fn listing(alloc: Global, image: &Image) -> Result<Vec<u8>, NoMemory>
     ensures value { IfOk result (λ text. IsListing image.now text.items) }
+
+    // Read, assembled and linked, the listing is the image with its start.
+    ensures again { IfOk result (λ text. WritesImage text.items image.now) }
+    ensures short { IfOk result (λ text. length text.items < 2 ^ 31) }
 
     // An image has no other listing.
     ensures only { IfOk result (λ text. (other : List ℕ) → IsListing image.now other

@@ -1,5 +1,5 @@
--- The lines of the bytes so far are there.
-use Rattle.std.proofs.Common.{◌≤◌, ◌-◌, length}
+-- The lines of the bytes so far are there, at most 49 bytes for each.
+use Rattle.std.proofs.Common.{◌+◌, ◌*◌, ◌≤◌, ◌-◌, length}
 use Rattle.m88_disasm.specs.Appended.{BytesAppended}
 use Rattle.m88_disasm.proofs.lister.push_bytes.Given as goal
 
@@ -7,6 +7,7 @@ abbrev pub invariant-loop-done : goal.invariant-loop-done
 invariant-loop-done l = record {
   within : l.done ≤ length l.bytes;
   so_far : BytesAppended l.at l.bytes l.initial.text.items l.text.items l.done;
+  room : length l.text.items ≤ length l.initial.text.items + 49 * l.done;
 }
 
 abbrev pub decreases-loop-done : goal.decreases-loop-done

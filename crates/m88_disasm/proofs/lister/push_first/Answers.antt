@@ -4,7 +4,7 @@ use Rattle.m88_disasm.proofs.lister.push_first.Goals as goal
 
 pub returns-in_ok-push_word-clause-appended : goal.returns-in_ok-push_word-clause-appended
 returns-in_ok-push_word-clause-appended c =
-    word_first c.args.at _ c.args.bytes.now _ _ (c.if-begins_word.ensures.0 refl) c.word_at.ensures.value c.in_ok-push_word.ensures
+    word_first c.args.at _ c.args.bytes.now _ _ (c.if-begins_word.ensures.0 refl) c.word_at.ensures.value c.in_ok-push_word.ensures.line
 
 pub returns-in_ok-push_byte-clause-appended : goal.returns-in_ok-push_byte-clause-appended
 returns-in_ok-push_byte-clause-appended c =

@@ -6,4 +6,4 @@ use Rattle.m88_disasm.proofs.text.text_of.Goals as goal
 pub returns-clause-read : goal.returns-clause-read
 returns-clause-read c =
     λ number. subst (λ (text : List ℕ). IsReadAs number text (said_by c.args.instr.now)) (sym c.by_form.ensures)
-    (said_instr number c.args.instr.now c.requires)
+    (said_instr number c.args.instr.now c.requires).read

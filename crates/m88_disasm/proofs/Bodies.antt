@@ -1,0 +1,182 @@
+-- The statements of a listing, and the bytes that each gives.
+use Rattle.std.proofs.Common.{◌≡◌, ℕ, zero, suc, ◌+◌, ◌-◌, ◌%◌, ◌<◌, ◌≤◌, ◌^◌, inl, inr, List, [], ◌∷◌, ◌++◌, length, get_or, refl, sym, ap, subst, ◌∙◌, arith}
+use Rattle.std.specs.Prelude.{Option, None, Some, IfSome, slice_get}
+use Rattle.std.specs.Int.{from_be_bytes, to_be_bytes, w32}
+use Rattle.std.specs.Option.{option_or}
+use Rattle.std.proofs.lemmas.Bool.{cases_lt}
+use Rattle.std.proofs.lemmas.Nat.{be_bytes_4}
+use Rattle.std.proofs.lemmas.Option.{slice_get-get_or}
+use Rattle.m88_base.specs.Found.{FindsBytes}
+use Rattle.m88_base.specs.Placed.{AreApart, Placed, byte_among}
+use Rattle.m88_base.proofs.Apart.{none_below}
+use Rattle.m88_base.proofs.Lookup.{byte_in_above, byte_in_from}
+use Rattle.m88_isa.specs.Word.{word_of}
+use Rattle.m88_isa.specs.declared.instr.Instr.{Instr}
+use Rattle.m88_isa.specs.declared.instr.Instr.TheVariants as instr
+use Rattle.m88_parse.specs.declared.unit.Body.{Body}
+use Rattle.m88_parse.specs.declared.unit.Body.TheVariants as body
+use Rattle.m88_parse.specs.declared.unit.Value.TheVariants.{Number}
+use Rattle.m88_asm.specs.Faults.{alignment_of}
+use Rattle.m88_disasm.specs.Listing.{AreLines, ArePartLines, IsWordLine, byte, byte_line, instruction, no_instruction, no_line, no_part, part, word}
+use Rattle.m88_disasm.specs.Read.{said_by}
+use Rattle.m88_disasm.specs.Text.{instr_text, word_text}
+use Rattle.m88_disasm.proofs.Rows.{Stated, stated_behind}
+use Rattle.m88_disasm.proofs.Spoken.{Spoken, said_byte, said_instr, said_place, said_word}
+
+-- a body that gives these bytes
+pub data Gives : Body → List ℕ → Type 0 where
+  a_code : (i : Instr) → Gives (body.Code i None) (to_be_bytes w32 (word_of i))
+  a_word : (w : ℕ) → Gives (body.Word (Number w ∷ [])) (to_be_bytes w32 w)
+  a_byte : (b : ℕ) → Gives (body.Byte (b ∷ [])) (b ∷ [])
+
+-- bodies that give bytes from an address on
+pub data Data : ℕ → List ℕ → List Body → Type 0 where
+  no_data : {at : ℕ} → Data at [] []
+  more_data : {at : ℕ} {bytes : List ℕ} {b : Body} {bs : List Body} (given rest : List ℕ) → bytes ≡ given ++ rest
+      → Gives b given → at % alignment_of b ≡ 0 → Data (at + length given) rest bs → Data at bytes (b ∷ bs)
+
+-- the bodies of parts in turn
+pub data PartsData : List Placed → List Body → Type 0 where
+  no_parts : PartsData [] []
+  more_parts : {run : Placed} {runs : List Placed} {bodies : List Body} (own more : List Body)
+      → bodies ≡ body.At run.at ∷ (own ++ more) → Data run.at run.bytes own → PartsData runs more
+      → PartsData (run ∷ runs) bodies
+
+-- each byte is below 256
+abbrev pub AreBytes : List ℕ → Type 0
+AreBytes [] = Unit {0}
+AreBytes (b ∷ bs) = (b < 256) × AreBytes bs
+
+-- parts of bytes that lie below 2 ^ 32
+abbrev pub ArePieces : List Placed → Type 0
+ArePieces [] = Unit {0}
+ArePieces (p ∷ ps) = AreBytes p.bytes × (0 < length p.bytes) × (p.at + length p.bytes ≤ 2 ^ 32) × ArePieces ps
+
+-- the lines of some bytes, each read as a statement, and the bytes that these give
+pub record ListedBytes (number at : ℕ) (bytes : List ℕ) (lines : List (List ℕ)) : Type 0 where
+  pub bodies : List Body
+  pub stated : Stated number lines bodies
+  pub datas : Data at bytes bodies
+
+gives_instr : (i : Instr) → Gives (said_by i) (to_be_bytes w32 (word_of i))
+gives_instr (instr.Sfu unit rest) = a_word (word_of (instr.Sfu unit rest))
+gives_instr i = a_code _
+
+stands_instr : (i : Instr) (at : ℕ) → at % 4 ≡ 0 → at % alignment_of (said_by i) ≡ 0
+stands_instr (instr.Sfu unit rest) at h = h
+stands_instr i at h = h
+
+below : (bs : List ℕ) → AreBytes bs → (i : ℕ) → get_or bs i 0 < 256
+below [] h i = omega arith
+below (b ∷ bs) h zero = h.0
+below (b ∷ bs) h (suc i) = below bs h.1 i
+
+four : (a b c d : ℕ) → a < 256 → b < 256 → c < 256 → d < 256
+    → to_be_bytes w32 (from_be_bytes w32 (a ∷ b ∷ c ∷ d ∷ [])) ≡ a ∷ b ∷ c ∷ d ∷ []
+four a b c d ha hb hc hd =
+    be_bytes_4 (a ∷ b ∷ c ∷ d ∷ []) (from_be_bytes w32 (a ∷ b ∷ c ∷ d ∷ [])) refl (below (a ∷ b ∷ c ∷ d ∷ []) (ha, (hb, (hc, (hd, tt))))) refl
+
+word_below : (a b c d : ℕ) → a < 256 → b < 256 → c < 256 → d < 256 → from_be_bytes w32 (a ∷ b ∷ c ∷ d ∷ []) < 2 ^ 32
+word_below a b c d ha hb hc hd = omega arith
+
+-- a line before others that are listed, whose body gives the first bytes
+listed_before : (number at : ℕ) (given rest bytes line : List ℕ) (lines : List (List ℕ)) (b : Body) → bytes ≡ given ++ rest
+    → Gives b given → at % alignment_of b ≡ 0 → Spoken number line b
+    → ListedBytes (number + 1) (at + length given) rest lines → ListedBytes number at bytes (line ∷ lines)
+listed_before number at given rest bytes line lines b bytes_are gives stands spoken l = record {
+  bodies = b ∷ l.bodies;
+  stated = (spoken, l.stated);
+  datas = more_data given rest bytes_are gives stands l.datas;
+}
+
+-- the line of a word
+listed_word : (number at a b c d : ℕ) (rest line : List ℕ) (lines : List (List ℕ)) → a < 256 → b < 256 → c < 256 → d < 256
+    → at % 4 ≡ 0 → IsWordLine (from_be_bytes w32 (a ∷ b ∷ c ∷ d ∷ [])) line
+    → ListedBytes (number + 1) (at + 4) rest lines → ListedBytes number at (a ∷ b ∷ c ∷ d ∷ rest) (line ∷ lines)
+listed_word number at a b c d rest _ lines ha hb hc hd stands (instruction i is) l =
+    let given : List ℕ = a ∷ b ∷ c ∷ d ∷ [] in
+    let bytes : to_be_bytes w32 (word_of i) ≡ given = ap (to_be_bytes w32) is.1 ∙ four a b c d ha hb hc hd in
+    listed_before number at given rest _ (instr_text i) lines (said_by i) refl
+    (subst (λ (xs : List ℕ). Gives (said_by i) xs) bytes (gives_instr i)) (stands_instr i at stands)
+    (said_instr number i is.0) l
+listed_word number at a b c d rest _ lines ha hb hc hd stands (no_instruction none) l =
+    let w : ℕ = from_be_bytes w32 (a ∷ b ∷ c ∷ d ∷ []) in
+    listed_before number at (a ∷ b ∷ c ∷ d ∷ []) rest _ (word_text w) lines (body.Word (Number w ∷ [])) refl
+    (subst (λ (xs : List ℕ). Gives (body.Word (Number w ∷ [])) xs) (four a b c d ha hb hc hd) (a_word w)) stands
+    (said_word number w (word_below a b c d ha hb hc hd)) l
+
+listed : (number at : ℕ) (bytes : List ℕ) (lines : List (List ℕ)) → AreBytes bytes → AreLines at bytes lines
+    → ListedBytes number at bytes lines
+listed number at _ _ small no_line = record { bodies = []; stated = tt; datas = no_data }
+listed number at _ _ small (word {a = a} {b = b} {c = c} {d = d} {bytes = rest} {line = line} {lines = lines} begins is more) =
+    listed_word number at a b c d rest line lines small.0 small.1.0 small.1.1.0 small.1.1.1.0 begins.0 is
+    (listed (number + 1) (at + 4) rest lines small.1.1.1.1 more)
+listed number at _ _ small (byte {b = b} {bytes = rest} {lines = lines} none more) =
+    listed_before number at (b ∷ []) rest _ (byte_line b) lines (body.Byte (b ∷ [])) refl (a_byte b) (omega arith)
+    (said_byte number b small.0) (listed (number + 1) (at + 1) rest lines small.1 more)
+
+-- the lines of parts, each read as a statement
+pub record ListedParts (number : ℕ) (runs : List Placed) (lines : List (List ℕ)) : Type 0 where
+  pub bodies : List Body
+  pub stated : Stated number lines bodies
+  pub datas : PartsData runs bodies
+
+pub listed_parts : (number : ℕ) (runs : List Placed) (lines : List (List ℕ)) → ArePieces runs → ArePartLines runs lines
+    → ListedParts number runs lines
+listed_parts number _ _ pieces no_part = record { bodies = []; stated = tt; datas = no_parts }
+listed_parts number _ _ pieces (part {run = run} {runs = runs} {lines = lines} {more = more} own others) =
+    let l : ListedBytes (number + 1) run.at run.bytes lines = listed (number + 1) run.at run.bytes lines pieces.0 own in
+    let later : ℕ = number + 1 + length lines in
+    let k : ListedParts later runs more = listed_parts later runs more pieces.3 others in
+    record {
+      bodies = body.At run.at ∷ (l.bodies ++ k.bodies);
+      stated = (
+        said_place number run.at (omega (arith, pieces.1, pieces.2)),
+        stated_behind (number + 1) later lines more l.bodies k.bodies refl l.stated k.stated,
+      );
+      datas = more_parts l.bodies k.bodies refl l.datas k.datas;
+    }
+
+-- the parts of an image
+in_part : (p : Placed) (k b : ℕ) (ps : List Placed) → slice_get p.bytes k ≡ Some b
+    → byte_among (p ∷ ps) (p.at + k) ≡ Some b
+in_part p k b ps e = ap (λ (o : Option ℕ). option_or o (byte_among ps (p.at + k))) (byte_in_from p.at p.bytes k ∙ e)
+
+some_fits : (o : Option ℕ) (a b : ℕ) → o ≡ Some b → IfSome o (λ c. (a < 2 ^ 32) × (c < 256)) → (a < 2 ^ 32) × (b < 256)
+some_fits o a b e h = subst (λ (q : Option ℕ). IfSome q (λ c. (a < 2 ^ 32) × (c < 256))) e h
+
+bytes_by_index : (bytes : List ℕ) → ((k b : ℕ) → slice_get bytes k ≡ Some b → b < 256) → AreBytes bytes
+bytes_by_index [] h = tt
+bytes_by_index (b ∷ bytes) h = (h 0 b refl, bytes_by_index bytes (λ k c e. h (suc k) c e))
+
+behind_finds : (from : ℕ) (p : Placed) (ps : List Placed) → AreApart from (p ∷ ps) → FindsBytes (byte_among (p ∷ ps))
+    → FindsBytes (byte_among ps)
+behind_finds from p ps apart finds a =
+    elim (cases_lt a (p.at + length p.bytes + 1)) [
+      | inl low ↦
+          subst (λ (o : Option ℕ). IfSome o (λ c. (a < 2 ^ 32) × (c < 256)))
+          (sym (none_below (p.at + length p.bytes + 1) ps a apart.2 low)) tt
+      | inr high ↦
+          subst (λ (o : Option ℕ). IfSome (option_or o (byte_among ps a)) (λ c. (a < 2 ^ 32) × (c < 256)))
+          (byte_in_above p a (omega (arith, high))) (finds a)
+    ]
+
+part_ends : (p : Placed) (ps : List Placed) → 0 < length p.bytes → FindsBytes (byte_among (p ∷ ps))
+    → p.at + length p.bytes ≤ 2 ^ 32
+part_ends p ps some finds =
+    let k : ℕ = length p.bytes - 1 in
+    let found = slice_get-get_or p.bytes k 0 (omega arith) in
+    let fits = some_fits (byte_among (p ∷ ps) (p.at + k)) (p.at + k) (get_or p.bytes k 0)
+    (in_part p k (get_or p.bytes k 0) ps found) (finds (p.at + k)) in
+    let low : p.at + k < 2 ^ 32 = fits.0 in
+    omega arith
+
+pub pieces_of : (from : ℕ) (ps : List Placed) → AreApart from ps → FindsBytes (byte_among ps) → ArePieces ps
+pieces_of from [] apart finds = tt
+pieces_of from (p ∷ ps) apart finds = (
+  bytes_by_index p.bytes
+      (λ k b e. (some_fits (byte_among (p ∷ ps) (p.at + k)) (p.at + k) b (in_part p k b ps e) (finds (p.at + k))).1),
+  apart.1,
+  part_ends p ps apart.1 finds,
+  pieces_of (p.at + length p.bytes + 1) ps apart.2 (behind_finds from p ps apart finds),
+)

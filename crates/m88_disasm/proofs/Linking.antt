@@ -1,0 +1,190 @@
+-- The layout of a listing's statements is linked without a refusal.
+use Rattle.std.proofs.Common.{◌≡◌, ◌≢◌, ℕ, ◌+◌, ◌<◌, ◌≤◌, ◌^◌, Bool, true, false, ◌==◌, ◌||◌, nat_lt, cond, inl, inr, List, [], ◌∷◌, ◌++◌, length, refl, sym, ap, subst, ◌∙◌, arith, eq-eqb, ne_eqb, le-ltb, length-append}
+use Rattle.std.specs.Prelude.{if◌then◌else◌, map, sum_by}
+use Rattle.std.specs.List.{enumerate_from, list_any}
+use Rattle.std.proofs.lemmas.Bool.{cases_lt}
+use Rattle.std.proofs.lemmas.Bool.Decides.{nat_tests}
+use Rattle.std.proofs.lemmas.List.Sums.{sum_by-cons}
+use Rattle.m88_base.specs.Placed.{AreApart, Placed, count_among}
+use Rattle.m88_parse.specs.declared.unit.Body.{Body}
+use Rattle.m88_parse.specs.declared.unit.Body.TheVariants as body
+use Rattle.m88_link.specs.Layout.{Extent}
+use Rattle.m88_link.specs.Refusal.{AreDisjoint, covers, hits}
+use Rattle.m88_asm.specs.Counters.{Counters, after, located}
+use Rattle.m88_asm.specs.Objects.{Head}
+use Rattle.m88_asm.specs.Units.{Based, address_at, extent_under, length_in, section_length}
+use Rattle.m88_disasm.specs.Read.{bare}
+use Rattle.m88_disasm.proofs.Accepting.{HeadsAre}
+use Rattle.m88_disasm.proofs.Bodies.{ArePieces, Data, Gives, PartsData, a_byte, a_code, a_word, more_data, more_parts, no_data, no_parts}
+use Rattle.m88_disasm.proofs.Rows.{numbered}
+use Rattle.m88_disasm.proofs.Standing.{Fresh, Stands, fresh_behind, located_cons, located_none, opens_part, stands_behind}
+
+-- the bytes that a body gives count for its section
+data_length : (j : ℕ) (c : Counters) (n : ℕ) (b : Body) (given : List ℕ) → Gives b given
+    → length_in j (record { before = c; statement = bare n b }) ≡ (if c.here == j then length given else 0)
+data_length j c n _ _ (a_code i) = refl
+data_length j c n _ _ (a_word w) = refl
+data_length j c n _ _ (a_byte b) = refl
+
+-- the bytes of a section among statements
+abbrev pub lengths_of : ℕ → Counters → ℕ → List Body → ℕ
+lengths_of j c n bs = sum_by (length_in j) (located c (numbered n bs))
+
+pub lengths_cons : (j : ℕ) (c : Counters) (n : ℕ) (b : Body) (bs : List Body)
+    → lengths_of j c n (b ∷ bs) ≡ length_in j (record { before = c; statement = bare n b }) + lengths_of j (after c b) (n + 1) bs
+lengths_cons j c n b bs =
+    ap (sum_by (length_in j)) (located_cons c (bare n b) (numbered (n + 1) bs))
+    ∙ sum_by-cons (length_in j) (record { before = c; statement = bare n b }) (located (after c b) (numbered (n + 1) bs))
+
+lengths_none : (j : ℕ) (c : Counters) (n : ℕ) → lengths_of j c n [] ≡ 0
+lengths_none j c n = ap (sum_by (length_in j)) (located_none c)
+
+abbrev pub where_same : Bool → ℕ → ℕ
+where_same t n = if t then n else 0
+
+where_sum : (t : Bool) (m n s : ℕ) → where_same t m + (where_same t n + s) ≡ where_same t (m + n) + s
+where_sum true m n s = omega arith
+where_sum false m n s = omega arith
+
+where_none : (t : Bool) (s : ℕ) → s ≡ where_same t 0 + s
+where_none true s = omega arith
+where_none false s = omega arith
+
+data_lengths : (j k at done : ℕ) (c : Counters) (n from : ℕ) (bytes : List ℕ) (own more : List Body) (total : ℕ)
+    → Stands c k at done → Data from bytes own
+    → ((e : Counters) (m : ℕ) → Stands e k at (done + length bytes) → lengths_of j e m more ≡ total)
+    → lengths_of j c n (own ++ more) ≡ where_same (k == j) (length bytes) + total
+data_lengths j k at done c n from _ _ more total s no_data rest =
+    let none : done ≡ done + 0 = omega arith in
+    rest c n (subst (λ (m : ℕ). Stands c k at m) none s) ∙ where_none (k == j) total
+data_lengths j k at done c n from bytes _ more total s (more_data {b = b} {bs = bs} given left bytes_are gives stands tail) rest =
+    let size : length bytes ≡ length given + length left = ap length bytes_are ∙ length-append given left in
+    let later : (e : Counters) (m : ℕ) → Stands e k at (done + length given + length left) → lengths_of j e m more ≡ total =
+    λ e m h. rest e m (let same : done + length given + length left ≡ done + length bytes = omega (arith, size) in
+    subst (λ (i : ℕ). Stands e k at i) same h) in
+    let ih = data_lengths j k at (done + length given) (after c b) (n + 1) (from + length given) left bs more total
+    (stands_behind c k at done b given gives s) tail later in
+    lengths_cons j c n b (bs ++ more)
+    ∙ ap (λ (m : ℕ). m + lengths_of j (after c b) (n + 1) (bs ++ more))
+    (data_length j c n b given gives ∙ ap (λ (i : ℕ). where_same (i == j) (length given)) s.here)
+    ∙ ap (λ (m : ℕ). where_same (k == j) (length given) + m) ih
+    ∙ where_sum (k == j) (length given) (length left) total
+    ∙ ap (λ (m : ℕ). where_same (k == j) m + total) (sym size)
+
+-- the bytes of section j where parts stand from section n on
+abbrev pub room : ℕ → List Placed → ℕ → ℕ
+room n [] j = 0
+room n (run ∷ runs) j = where_same (n == j) (length run.bytes) + room (n + 1) runs j
+
+place_length : (j : ℕ) (c : Counters) (n at : ℕ) → length_in j (record { before = c; statement = bare n (body.At at) }) ≡ 0
+place_length j c n at = by_test (c.count == j)
+  where
+    by_test : (t : Bool) → where_same t 0 ≡ 0
+    by_test true = refl
+    by_test false = refl
+
+pub parts_lengths : (j : ℕ) (c : Counters) (n i : ℕ) (runs : List Placed) (bodies : List Body) → Fresh c n → PartsData runs bodies
+    → lengths_of j c i bodies ≡ room n runs j
+parts_lengths j c n i _ _ f no_parts = lengths_none j c i
+parts_lengths j c n i _ bodies f (more_parts {run = run} {runs = runs} own more bodies_are datas others) =
+    let opened : Counters = after c (body.At run.at) in
+    let own_lengths = data_lengths j n run.at 0 opened (i + 1) run.at run.bytes own more (room (n + 1) runs j) (opens_part c n run.at f)
+    datas (λ e m h. parts_lengths j e (n + 1) m runs more (fresh_behind e n run.at (0 + length run.bytes) h) others) in
+    ap (lengths_of j c i) bodies_are
+    ∙ lengths_cons j c i (body.At run.at) (own ++ more)
+    ∙ ap (λ (m : ℕ). m + lengths_of j opened (i + 1) (own ++ more)) (place_length j c i run.at)
+    ∙ (let e = own_lengths in omega (arith, e))
+
+-- sections before the parts have no bytes
+pub no_room : (n j : ℕ) (runs : List Placed) → j < n → room n runs j ≡ 0
+no_room n j [] h = refl
+no_room n j (run ∷ runs) h =
+    let other : n ≢ j = omega arith in
+    ap (λ (t : Bool). where_same t (length run.bytes) + room (n + 1) runs j) (ne_eqb n j other)
+    ∙ (let e = no_room (n + 1) j runs (omega arith) in omega (arith, e))
+
+-- each extent is that of its part
+abbrev pub RoomsAre : List Extent → List Placed → Type 0
+RoomsAre [] [] = Unit {0}
+RoomsAre (e ∷ es) (run ∷ runs) = (e.at ≡ run.at) × (e.len ≡ length run.bytes) × RoomsAre es runs
+RoomsAre _ _ = ⊥
+
+pub rooms_are : (d : Based) (n : ℕ) (hs : List Head) (runs : List Placed) → HeadsAre hs runs
+    → ((j : ℕ) → n ≤ j → section_length j d.source ≡ room n runs j)
+    → RoomsAre (map (extent_under d) (enumerate_from n hs)) runs
+rooms_are d n [] [] are lens = tt
+rooms_are d n (h ∷ hs) (run ∷ runs) are lens = (
+  ap (address_at d) are.0,
+  lens n (omega arith)
+      ∙ ap (λ (t : Bool). where_same t (length run.bytes) + room (n + 1) runs n) (eq-eqb n n refl)
+      ∙ (let e = no_room (n + 1) n runs (omega arith) in omega (arith, e)),
+  rooms_are d (n + 1) hs runs are.1 (λ j low.
+      let other : n ≢ j = omega arith in
+      lens j (omega arith)
+      ∙ ap (λ (t : Bool). where_same t (length run.bytes) + room (n + 1) runs j) (ne_eqb n j other) ∙ omega arith),
+)
+rooms_are d n [] (run ∷ runs) are lens = absurd are
+rooms_are d n (h ∷ hs) [] are lens = absurd are
+
+-- they have the bytes of the parts together, below the last address, and no two of them share one
+pub rooms_count : (es : List Extent) (runs : List Placed) → RoomsAre es runs → sum_by (λ (e : Extent). e.len) es ≡ count_among runs
+rooms_count [] [] are = refl
+rooms_count (e ∷ es) (run ∷ runs) are =
+    sum_by-cons (λ (x : Extent). x.len) e es
+    ∙ (let h = are.1 in let k = rooms_count es runs are.2 in omega (arith, h, k))
+    ∙ sym (sum_by-cons (λ (r : Placed). length r.bytes) run runs)
+rooms_count [] (run ∷ runs) are = absurd are
+rooms_count (e ∷ es) [] are = absurd are
+
+pub rooms_low : (es : List Extent) (runs : List Placed) → RoomsAre es runs → ArePieces runs
+    → list_any (λ (e : Extent). nat_lt (2 ^ 32) (e.at + e.len)) es ≡ false
+rooms_low [] [] are pieces = refl
+rooms_low (e ∷ es) (run ∷ runs) are pieces =
+    ap (λ (t : Bool). t || list_any (λ (x : Extent). nat_lt (2 ^ 32) (x.at + x.len)) es)
+    (le-ltb (2 ^ 32) (e.at + e.len) (let h = are.0 in let k = are.1 in let l = pieces.2 in omega (arith, h, k, l)))
+    ∙ rooms_low es runs are.2 pieces.3
+rooms_low [] (run ∷ runs) are pieces = absurd are
+rooms_low (e ∷ es) [] are pieces = absurd are
+
+pub hits_cons : (e : Extent) (es : List Extent) (a : ℕ) → hits (e ∷ es) a ≡ cond (covers a e) 1 0 + hits es a
+hits_cons e es a = sum_by-cons (λ (x : Extent). cond (covers a x) 1 0) e es
+
+-- a room behind an address covers nothing below it
+not_covered : (e : Extent) (a : ℕ) → a < e.at → covers a e ≡ false
+not_covered e a h = grind (arith, nat_tests)
+
+behind_room : (e : Extent) (a : ℕ) → e.at + e.len ≤ a → covers a e ≡ false
+behind_room e a h = grind (arith, nat_tests)
+
+none_hit : (es : List Extent) (runs : List Placed) (from a : ℕ) → RoomsAre es runs → AreApart from runs → a < from → hits es a ≡ 0
+none_hit [] [] from a are apart h = refl
+none_hit (e ∷ es) (run ∷ runs) from a are apart h =
+    let low : from ≤ run.at = apart.0 in
+    let at : e.at ≡ run.at = are.0 in
+    hits_cons e es a
+    ∙ ap (λ (t : Bool). cond t 1 0 + hits es a) (not_covered e a (omega arith))
+    ∙ (let k = none_hit es runs (run.at + length run.bytes + 1) a are.2 apart.2 (omega arith) in omega (arith, k))
+none_hit [] (run ∷ runs) from a are apart h = absurd are
+none_hit (e ∷ es) [] from a are apart h = absurd are
+
+at_most_one : (t : Bool) (n : ℕ) → n ≡ 0 → cond t 1 0 + n < 2
+at_most_one true n e = omega (arith, e)
+at_most_one false n e = omega (arith, e)
+
+pub rooms_apart : (es : List Extent) (runs : List Placed) (from : ℕ) → RoomsAre es runs → AreApart from runs → AreDisjoint es
+rooms_apart [] [] from are apart a = omega arith
+rooms_apart (e ∷ es) (run ∷ runs) from are apart a =
+    elim (cases_lt a (e.at + e.len)) [
+      | inl low ↦
+          let at : e.at ≡ run.at = are.0 in
+          let len : e.len ≡ length run.bytes = are.1 in
+          let k : hits es a ≡ 0 = none_hit es runs (run.at + length run.bytes + 1) a are.2 apart.2 (omega (arith, low)) in
+          subst (λ (n : ℕ). n < 2) (sym (hits_cons e es a)) (at_most_one (covers a e) (hits es a) k)
+      | inr high ↦
+          let k : hits es a < 2 = rooms_apart es runs (run.at + length run.bytes + 1) are.2 apart.2 a in
+          subst (λ (n : ℕ). n < 2)
+          (sym (hits_cons e es a ∙ ap (λ (t : Bool). cond t 1 0 + hits es a) (behind_room e a high)))
+          (omega (arith, k))
+    ]
+rooms_apart [] (run ∷ runs) from are apart a = absurd are
+rooms_apart (e ∷ es) [] from are apart a = absurd are

@@ -1,0 +1,93 @@
+-- Lines that are each read as a statement are a source, whose unit has these statements.
+use Rattle.std.proofs.Common.{◌≡◌, ℕ, ◌+◌, Bool, true, false, ◌==◌, ◌&&◌, List, [], ◌∷◌, ◌++◌, length, refl, sym, ap, subst, ◌∙◌, arith, append_assoc, codes}
+use Rattle.std.specs.Prelude.{if◌then◌else◌}
+use Rattle.std.proofs.lemmas.Bool.Decides.{nat_tests}
+use Rattle.m88_base.specs.Lines.{begins_with_lf, line_end, lines_of, on_first_line}
+use Rattle.m88_parse.specs.Language.Units.{AreRows, IsUnit, no_row, only_main, row_of_statement, statement_line}
+use Rattle.m88_parse.specs.declared.unit.Body.{Body}
+use Rattle.m88_parse.specs.declared.unit.Statement.{Statement}
+use Rattle.m88_parse.specs.declared.unit.Unit.{Unit as Source}
+use Rattle.m88_disasm.specs.Listing.{text_of_lines}
+use Rattle.m88_disasm.specs.Read.{bare}
+use Rattle.m88_disasm.proofs.Parts.{are_printed, is_printed}
+use Rattle.m88_disasm.proofs.Spoken.{Spoken}
+
+both : (a b : Bool) → (a && b) ≡ true → (a ≡ true) × (b ≡ true)
+both true b e = (refl, e)
+both false b e = absurd cc
+
+-- a byte that ends no line goes on its first line
+inner_byte : (b : ℕ) (bs : List ℕ) → (b == 10) ≡ false → (b == 13) ≡ false → lines_of (b ∷ bs) ≡ on_first_line b (lines_of bs)
+unfolding lines_of
+inner_byte b bs e f =
+    ap (λ (t : Bool). if t then [] ∷ lines_of bs else (if b == 13 && begins_with_lf bs then lines_of bs else on_first_line b (lines_of bs))) e
+    ∙ ap (λ (t : Bool). if t && begins_with_lf bs then lines_of bs else on_first_line b (lines_of bs)) f
+
+ended_line : (bs : List ℕ) → lines_of (10 ∷ bs) ≡ [] ∷ lines_of bs
+unfolding lines_of
+ended_line bs = refl
+
+no_lines : lines_of [] ≡ []
+unfolding lines_of
+no_lines = refl
+
+-- a printed line and what stands behind its end
+first_line_is : (line rest : List ℕ) → are_printed line ≡ true → lines_of (line ++ 10 ∷ rest) ≡ line ∷ lines_of rest
+first_line_is [] rest h = ended_line rest
+first_line_is (b ∷ bs) rest h =
+    let k = both (is_printed b) (are_printed bs) h in
+    let printed : is_printed b ≡ true = k.0 in
+    let e : (b == 10) ≡ false = grind (arith, nat_tests) in
+    let f : (b == 13) ≡ false = grind (arith, nat_tests) in
+    inner_byte b (bs ++ 10 ∷ rest) e f ∙ ap (on_first_line b) (first_line_is bs rest k.1)
+
+-- lines from a number on, each read as a statement with the body at its place
+abbrev pub Stated : ℕ → List (List ℕ) → List Body → Type 0
+Stated number [] [] = Unit {0}
+Stated number (line ∷ lines) (said ∷ others) = Spoken number line said × Stated (number + 1) lines others
+Stated number _ _ = ⊥
+
+pub stated_behind : (number later : ℕ) (ls ms : List (List ℕ)) (bs cs : List Body) → later ≡ number + length ls
+    → Stated number ls bs → Stated later ms cs → Stated number (ls ++ ms) (bs ++ cs)
+stated_behind number later [] ms [] cs e h k =
+    let same : later ≡ number = omega (arith, e) in subst (λ (n : ℕ). Stated n ms cs) same k
+stated_behind number later (l ∷ ls) ms (b ∷ bs) cs e h k =
+    (h.0, stated_behind (number + 1) later ls ms bs cs (omega (arith, e)) h.1 k)
+stated_behind number later [] ms (b ∷ bs) cs e h k = absurd h
+stated_behind number later (l ∷ ls) ms [] cs e h k = absurd h
+
+-- the statements of bodies in lines from a number on
+abbrev pub numbered : ℕ → List Body → List Statement
+numbered number [] = []
+numbered number (b ∷ bs) = bare number b ∷ numbered (number + 1) bs
+
+lines_are : (number : ℕ) (ls : List (List ℕ)) (bs : List Body) → Stated number ls bs → lines_of (text_of_lines ls) ≡ ls
+lines_are number [] [] h = no_lines
+lines_are number (l ∷ ls) (b ∷ bs) h =
+    ap lines_of (append_assoc l line_end (text_of_lines ls))
+    ∙ first_line_is l (text_of_lines ls) h.0.printed
+    ∙ ap (λ (ms : List (List ℕ)). let ns : List (List ℕ) = l ∷ ms in ns) (lines_are (number + 1) ls bs h.1)
+lines_are number [] (b ∷ bs) h = absurd h
+lines_are number (l ∷ ls) [] h = absurd h
+
+rows_are : (number : ℕ) (ls : List (List ℕ)) (bs : List Body) → Stated number ls bs → AreRows number ls (numbered number bs) []
+rows_are number [] [] h = no_row
+rows_are number (l ∷ ls) (b ∷ bs) h =
+    row_of_statement h.0.read.are_tokens (statement_line h.0.read.statement) (rows_are (number + 1) ls bs h.1)
+rows_are number [] (b ∷ bs) h = absurd h
+rows_are number (l ∷ ls) [] h = absurd h
+
+-- the unit of bodies in lines from the first on
+abbrev pub unit_of_bodies : List Body → Source
+unit_of_bodies bs = record { modules = record { name = codes "main"; line = 1; statements = numbered 1 bs } ∷ [] }
+
+pub unit_is : (ls : List (List ℕ)) (bs : List Body) (text : List ℕ) → text ≡ text_of_lines ls → Stated 1 ls bs
+    → IsUnit text (unit_of_bodies bs)
+unit_is ls bs text text_is h = record {
+  statements = numbered 1 bs;
+  modules = [];
+  are_rows =
+      subst (λ (ms : List (List ℕ)). AreRows 1 ms (numbered 1 bs) [])
+      (sym (ap lines_of text_is ∙ lines_are 1 ls bs h)) (rows_are 1 ls bs h);
+  are_modules = only_main;
+}

@@ -1,0 +1,161 @@
+-- The statements of a listing where they stand: what the counters are before each, and what each one gives there.
+use Rattle.std.proofs.Common.{◌≡◌, ◌≢◌, ℕ, ◌+◌, ◌≤◌, Bool, inl, inr, List, [], ◌∷◌, ◌++◌, length, refl, sym, ap, subst, ◌∙◌, arith, eq-eqb, ne_eqb, length-append}
+use Rattle.std.specs.Prelude.{Option, None, if◌then◌else◌, map}
+use Rattle.std.specs.Option.{option_or}
+use Rattle.m88_base.specs.Placed.{Placed, byte_among, byte_in}
+use Rattle.m88_base.proofs.Lookup.{byte_in-join, byte_in_above, byte_in_below, option_or_assoc}
+use Rattle.std.proofs.lemmas.Bool.Decides.{leb_tells}
+use Rattle.m88_parse.specs.declared.unit.Body.{Body}
+use Rattle.m88_parse.specs.declared.unit.Body.TheVariants as body
+use Rattle.m88_parse.specs.declared.unit.Statement.{Statement}
+use Rattle.m88_link.specs.declared.object.Symbol.{Symbol}
+use Rattle.m88_asm.specs.Counters.{Counters, Located, after, located, put, with_length}
+use Rattle.m88_asm.specs.Images.{run_of}
+use Rattle.m88_asm.specs.Units.{Based, base_in}
+use Rattle.m88_disasm.specs.Read.{bare}
+use Rattle.m88_disasm.proofs.Bodies.{Data, Gives, PartsData, a_byte, a_code, a_word, more_data, more_parts, no_data, no_parts}
+use Rattle.m88_disasm.proofs.Rows.{numbered}
+
+-- functions with another value at a place
+pub put_same : (f : ℕ → ℕ) (k v : ℕ) → put f k v k ≡ v
+put_same f k v = ap (λ (t : Bool). if t then v else f k) (eq-eqb k k refl)
+
+pub put_other : (f : ℕ → ℕ) (k v j : ℕ) → k ≢ j → put f k v j ≡ f j
+put_other f k v j h = ap (λ (t : Bool). if t then v else f j) (ne_eqb k j h)
+
+-- no part stands yet from section n on
+pub record Fresh (c : Counters) (n : ℕ) : Type 0 where
+  pub count : c.count ≡ n
+  pub empty : (j : ℕ) → n ≤ j → c.lengths j ≡ 0
+
+-- section k stands, which begins at an address and has so many bytes, and none stands behind it
+pub record Stands (c : Counters) (k at done : ℕ) : Type 0 where
+  pub here : c.here ≡ k
+  pub count : c.count ≡ k + 1
+  pub begins : c.starts k ≡ at
+  pub has : c.lengths k ≡ done
+  pub empty : (j : ℕ) → k + 1 ≤ j → c.lengths j ≡ 0
+
+pub located_cons : (c : Counters) (x : Statement) (xs : List Statement)
+    → located c (x ∷ xs) ≡ record { before = c; statement = x } ∷ located (after c x.body) xs
+unfolding located
+located_cons c x xs = refl
+
+pub located_none : (c : Counters) → located c [] ≡ []
+unfolding located
+located_none c = refl
+
+-- where a part begins
+pub opens_part : (c : Counters) (n at : ℕ) → Fresh c n → Stands (after c (body.At at)) n at 0
+opens_part c n at f = subst (λ (k : ℕ). Stands (after c (body.At at)) k at 0) f.count opened
+  where
+    opened : Stands (after c (body.At at)) c.count at 0
+    opened = record {
+      here = refl;
+      count = refl;
+      begins = put_same c.starts c.count at;
+      has =
+          put_same c.lengths c.count (c.lengths c.count + 0)
+          ∙ (let e : c.lengths c.count ≡ 0 = f.empty c.count (let k = f.count in omega arith) in omega (arith, e));
+      empty = λ j h.
+          put_other c.lengths c.count (c.lengths c.count + 0) j (omega arith)
+          ∙ f.empty j (let k = f.count in omega arith);
+    }
+
+-- bytes go into the section that stands
+after_data : (c : Counters) (b : Body) (given : List ℕ) → Gives b given → after c b ≡ with_length c (length given)
+after_data c _ _ (a_code i) = refl
+after_data c _ _ (a_word w) = refl
+after_data c _ _ (a_byte b) = refl
+
+stands_more : (c : Counters) (k at done n : ℕ) → Stands c k at done → Stands (with_length c n) k at (done + n)
+stands_more c k at done n s = record {
+  here = s.here;
+  count = s.count;
+  begins = s.begins;
+  has =
+      ap (λ (h : ℕ). put c.lengths h (c.lengths h + n) k) s.here
+      ∙ put_same c.lengths k (c.lengths k + n) ∙ ap (λ (d : ℕ). d + n) s.has;
+  empty = λ j h.
+      ap (λ (i : ℕ). put c.lengths i (c.lengths i + n) j) s.here
+      ∙ put_other c.lengths k (c.lengths k + n) j (omega arith) ∙ s.empty j h;
+}
+
+pub stands_behind : (c : Counters) (k at done : ℕ) (b : Body) (given : List ℕ) → Gives b given → Stands c k at done
+    → Stands (after c b) k at (done + length given)
+stands_behind c k at done b given g s =
+    subst (λ (d : Counters). Stands d k at (done + length given)) (sym (after_data c b given g))
+    (stands_more c k at done (length given) s)
+
+-- behind a part no other stands
+pub fresh_behind : (c : Counters) (k at done : ℕ) → Stands c k at done → Fresh c (k + 1)
+fresh_behind c k at done s = record { count = s.count; empty = s.empty }
+
+-- bytes: what a statement gives is at the address of its section plus what that has
+run_is : (g : List Symbol) (d : Based) (c : Counters) (n : ℕ) (b : Body) (given : List ℕ) → Gives b given
+    → run_of g d (record { before = c; statement = bare n b })
+    ≡ record { at = base_in d c.here + c.lengths c.here; bytes = given }
+run_is g d c n _ _ (a_code i) = refl
+run_is g d c n _ _ (a_word w) = refl
+run_is g d c n _ _ (a_byte b) = refl
+
+pub none_in : (at a : ℕ) → byte_in (record { at = at; bytes = [] }) a ≡ None
+none_in at a =
+    elim (leb_tells at a) [
+      | inl from ↦ byte_in_above (record { at = at; bytes = [] }) a (omega (arith, from.1))
+      | inr low ↦ byte_in_below (record { at = at; bytes = [] }) a low.1
+    ]
+
+-- the bytes of a part, and what is found behind it
+data_bytes : (g : List Symbol) (d : Based) (a k at done : ℕ) (c : Counters) (n from : ℕ) (bytes : List ℕ) (own more : List Body)
+    (found : Option ℕ) → base_in d k ≡ at → from ≡ at + done → Stands c k at done → Data from bytes own
+    → ((e : Counters) (m : ℕ) → Stands e k at (done + length bytes)
+    → byte_among (map (run_of g d) (located e (numbered m more))) a ≡ found)
+    → byte_among (map (run_of g d) (located c (numbered n (own ++ more)))) a
+    ≡ option_or (byte_in (record { at = from; bytes = bytes }) a) found
+data_bytes g d a k at done c n from _ _ more found base begins s no_data rest =
+    let none : done ≡ done + 0 = omega arith in
+    rest c n (subst (λ (m : ℕ). Stands c k at m) none s)
+    ∙ sym (ap (λ (o : Option ℕ). option_or o found) (none_in from a))
+data_bytes g d a k at done c n from bytes _ more found base begins s (more_data {b = b} {bs = bs} given left bytes_are gives stands tail) rest =
+    let next : from + length given ≡ at + (done + length given) = omega arith in
+    let size : length bytes ≡ length given + length left = ap length bytes_are ∙ length-append given left in
+    let later : (e : Counters) (m : ℕ) → Stands e k at (done + length given + length left)
+    → byte_among (map (run_of g d) (located e (numbered m more))) a ≡ found =
+    λ e m h. rest e m (let same : done + length given + length left ≡ done + length bytes = omega (arith, size) in
+    subst (λ (i : ℕ). Stands e k at i) same h) in
+    let ih = data_bytes g d a k at (done + length given) (after c b) (n + 1) (from + length given) left bs more found base next
+    (stands_behind c k at done b given gives s) tail later in
+    let place : base_in d c.here + c.lengths c.here ≡ from =
+    ap (λ (i : ℕ). base_in d i + c.lengths i) s.here ∙ (let e = s.has in omega (arith, e, base, begins)) in
+    ap (λ (rs : List Located). byte_among (map (run_of g d) rs) a) (located_cons c (bare n b) (numbered (n + 1) (bs ++ more)))
+    ∙ ap (λ (r : Placed). option_or (byte_in r a) (byte_among (map (run_of g d) (located (after c b) (numbered (n + 1) (bs ++ more)))) a))
+    (run_is g d c n b given gives ∙ ap (λ (i : ℕ). let r : Placed = record { at = i; bytes = given } in r) place)
+    ∙ ap (λ (o : Option ℕ). option_or (byte_in (record { at = from; bytes = given }) a) o) ih
+    ∙ sym (option_or_assoc (byte_in (record { at = from; bytes = given }) a) (byte_in (record { at = from + length given; bytes = left }) a) found)
+    ∙ ap (λ (o : Option ℕ). option_or o found) (sym (byte_in-join from given left (from + length given) a refl))
+    ∙ ap (λ (bs : List ℕ). option_or (byte_in (record { at = from; bytes = bs }) a) found) (sym bytes_are)
+
+-- sections from number n on begin where the parts do
+abbrev pub Bases : Based → ℕ → List Placed → Type 0
+Bases d n [] = Unit {0}
+Bases d n (run ∷ runs) = (base_in d n ≡ run.at) × Bases d (n + 1) runs
+
+pub parts_bytes : (g : List Symbol) (d : Based) (a : ℕ) (c : Counters) (n i : ℕ) (runs : List Placed) (bodies : List Body)
+    → Bases d n runs → Fresh c n → PartsData runs bodies
+    → byte_among (map (run_of g d) (located c (numbered i bodies))) a ≡ byte_among runs a
+parts_bytes g d a c n i _ _ bases f no_parts =
+    ap (λ (rs : List Located). byte_among (map (run_of g d) rs) a) (located_none c)
+parts_bytes g d a c n i _ bodies bases f (more_parts {run = run} {runs = runs} own more bodies_are datas others) =
+    let opened : Counters = after c (body.At run.at) in
+    let x : Statement = bare i (body.At run.at) in
+    let behind : (e : Counters) (m : ℕ) → Stands e n run.at (0 + length run.bytes)
+    → byte_among (map (run_of g d) (located e (numbered m more))) a ≡ byte_among runs a =
+    λ e m h. parts_bytes g d a e (n + 1) m runs more bases.1 (fresh_behind e n run.at (0 + length run.bytes) h) others in
+    let own_bytes = data_bytes g d a n run.at 0 opened (i + 1) run.at run.bytes own more (byte_among runs a) bases.0 (omega arith)
+    (opens_part c n run.at f) datas behind in
+    ap (λ (bs : List Body). byte_among (map (run_of g d) (located c (numbered i bs))) a) bodies_are
+    ∙ ap (λ (rs : List Located). byte_among (map (run_of g d) rs) a) (located_cons c x (numbered (i + 1) (own ++ more)))
+    ∙ ap (λ (o : Option ℕ). option_or o (byte_among (map (run_of g d) (located opened (numbered (i + 1) (own ++ more)))) a))
+    (none_in (base_in d c.count + c.lengths c.count) a)
+    ∙ own_bytes
