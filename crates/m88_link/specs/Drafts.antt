@@ -13,6 +13,7 @@ use Rattle.m88_link.specs.declared.object_fault.ObjectFault.TheVariants.{Form, M
 use Rattle.m88_link.specs.declared.row.Row.{Row}
 use Rattle.m88_link.specs.declared.row.Row.TheVariants.{Begin, Head, Define, Patch, End}
 use Rattle.m88_link.specs.declared.row.SectionHead.{SectionHead}
+use Rattle.m88_link.specs.ObjectRead.{IsRefusedText, IsSoundText}
 use Rattle.m88_link.specs.Rows.{◌>>=◌, bytes_behind, cut, row_of}
 
 -- a section with the bytes that came, and how many are missing
@@ -160,3 +161,8 @@ Takes (Err e) new said = Unit {0}
 abbrev pub GivesObjects : {X : Type 0} → (X → List Object) → Result X ObjectFault → Result (List Object) ObjectFault → Type 0
 GivesObjects seen (Ok x) said = said ≡ Ok (seen x)
 GivesObjects seen (Err e) said = (e ≡ Memory) ⊎ (said ≡ Err e)
+
+-- what a call gives is the text's: its sound objects, seen by `seen`, or its fault
+abbrev pub IsAnswer : {X : Type 0} → (X → List Object) → List ℕ → Result X ObjectFault → Type 0
+IsAnswer seen text (Ok x) = IsSoundText (seen x) text
+IsAnswer seen text (Err e) = IsRefusedText text e

@@ -151,8 +151,3 @@ IsRefusedText text Memory = Unit {0}
 abbrev pub Refuses : {X : Type 0} → Result X ObjectFault → ObjectFault → Type 0
 Refuses (Ok x) fault = ⊥
 Refuses (Err e) fault = (e ≡ fault) ⊎ (e ≡ Memory)
-
--- what a call gives is the text's: its sound objects, seen by `seen`, or its fault
-abbrev pub IsAnswer : {X : Type 0} → (X → List Object) → List ℕ → Result X ObjectFault → Type 0
-IsAnswer seen text (Ok x) = IsSoundText (seen x) text
-IsAnswer seen text (Err e) = IsRefusedText text e

@@ -1,7 +1,8 @@
 //! Object texts read.
 ghost use Rattle.std.specs.Prelude.{◌≡◌, ◌<◌, ◌^◌, ℕ, IfErr, IfOk, List, MatchResult, length};
 ghost use Rattle.m88_link.specs.declared.object.Object.{Object as ObjectValue};
-ghost use Rattle.m88_link.specs.ObjectRead.{IsAnswer, IsFormLine, IsRangeLine, IsRefusedText, IsSoundText, Refuses};
+ghost use Rattle.m88_link.specs.Drafts.{IsAnswer};
+ghost use Rattle.m88_link.specs.ObjectRead.{IsFormLine, IsRangeLine, IsRefusedText, IsSoundText, Refuses};
 ghost use Rattle.m88_link.specs.declared.object_fault.ObjectFault.TheVariants as fault;
 
 use crate::object::Object;

@@ -1,6 +1,12 @@
 //! Object texts read: a worked one that this crate didn't make, and lines at which texts are refused.
 
+ghost use Rattle.std.specs.Prelude.{All};
+ghost use Rattle.m88_link.specs.Sound.{IsSound};
+
 use super::*;
+use m88_base::Image;
+use std::alloc::Global;
+use std::process::Abort;
 use std::test::Fail;
 
 /// A `br.n` to itself, a load of the lower half of the address of `x`, and `x` in data.
@@ -15,13 +21,23 @@ reloc pc26 0 00000000 _start 00000000 1 14\n\
 reloc lo16 0 00000004 x 00000000 2 23\n\
 end\n";
 
+/// The image of objects that are sound and not refused.
+fn linked(rt: &impl Abort, alloc: Global, objects: &[Object]) -> Image
+    requires { All IsSound objects.now }
+{
+    match link(alloc, objects) {
+        Ok(image) => image,
+        Err(_) => panic!(rt; "refused"),
+    }
+}
+
 #[test]
 fn a_text_is_read_written_and_linked(rt: HostRuntime) -> Result<(), Fail> {
     let alloc = rt.alloc();
     let objects = read_objects(alloc, WORKED).map_err(|_| "the text is read")?;
     let text = object_text(alloc, &objects).map_err(|_| "memory")?;
     assert!(rt; text.as_slice() == WORKED);
-    let image = link(alloc, &objects).map_err(|_| "the objects are linked")?;
+    let image = linked(&rt, alloc, &objects);
     assert!(rt; image.len() == 12 && image.start() == 0x1000);
     for (at, byte) in [
         (0x1000, 0xC4),
@@ -152,6 +168,7 @@ fn a_line_behind_the_sections_is_told(rt: HostRuntime) -> Result<(), Fail> {
             b"object a\ntext 00000000 1\ndata 00000000 1\n",
         )?;
         whole.extend_from_slice(text)?;
+        assert!(rt; whole.len() < 1000);
         let told = match read_objects(rt.alloc(), &whole) {
             Ok(_) => false,
             Err(fault) => fault == wanted,
