@@ -22,7 +22,8 @@ use Rattle.m88_disasm.proofs.Rows.{numbered}
 use Rattle.m88_disasm.proofs.Standing.{Bases, Fresh, Stands, fresh_behind, located_cons, located_none, opens_part, put_same, stands_behind}
 
 -- a statement that fits where it stands
-fits : (offset place : ℕ) (x : Statement) → place % alignment_of x.body ≡ 0 → offset + length_at place x.body ≤ most_bytes
+fits : (offset place : ℕ) (x : Statement) → place % alignment_of x.body ≡ 0
+    → offset + length_at place x.body ≤ most_bytes
     → place + length_at place x.body ≤ 2 ^ 32 → misfit_at offset place x ≡ None
 fits offset place x stands few low =
     let misplaced : misplaced_at place x ≡ None =
@@ -66,7 +67,8 @@ no_faults : (defined : List Symbol) → statements_fault defined [] ≡ None
 unfolding statements_fault
 no_faults defined = refl
 
-data_faults : (k at done : ℕ) (c : Counters) (n from : ℕ) (bytes : List ℕ) (own more : List Body) (defined : List Symbol)
+data_faults : (k at done : ℕ) (c : Counters) (n from : ℕ) (bytes : List ℕ) (own more : List Body)
+    (defined : List Symbol)
     → from ≡ at + done → done + length bytes ≤ most_bytes → from + length bytes ≤ 2 ^ 32 → Stands c k at done
     → Data from bytes own
     → ((e : Counters) (m : ℕ) (names : List Symbol) → Stands e k at (done + length bytes)
@@ -75,21 +77,25 @@ data_faults : (k at done : ℕ) (c : Counters) (n from : ℕ) (bytes : List ℕ)
 data_faults k at done c n from _ _ more defined begins few low s no_data rest =
     let none : done ≡ done + 0 = omega arith in
     rest c n defined (subst (λ (m : ℕ). Stands c k at m) none s)
-data_faults k at done c n from bytes _ more defined begins few low s (more_data {b = b} {bs = bs} given left bytes_are gives stands tail) rest =
+data_faults k at done c n from bytes _ more defined begins few low s
+    (more_data {b = b} {bs = bs} given left bytes_are gives stands tail) rest =
     let next : from + length given ≡ at + (done + length given) = omega arith in
     let size : length bytes ≡ length given + length left = ap length bytes_are ∙ length-append given left in
     let later : (e : Counters) (m : ℕ) (names : List Symbol) → Stands e k at (done + length given + length left)
     → statements_fault names (located e (numbered m more)) ≡ None =
-    λ e m names h. rest e m names (let same : done + length given + length left ≡ done + length bytes = omega (arith, size) in
+    λ e m names h. rest e m names (let same : done + length given + length left ≡ done + length bytes = omega
+    (arith, size) in
     subst (λ (i : ℕ). Stands e k at i) same h) in
     let r : Located = record { before = c; statement = bare n b } in
     let others : List Located = located (after c b) (numbered (n + 1) (bs ++ more)) in
     let ih : statements_fault (defined ++ symbols_of r) others ≡ None =
-    data_faults k at (done + length given) (after c b) (n + 1) (from + length given) left bs more (defined ++ symbols_of r) next
+    data_faults k at (done + length given) (after c b) (n + 1) (from + length given) left bs more
+    (defined ++ symbols_of r) next
     (omega (arith, size)) (omega (arith, size)) (stands_behind c k at done b given gives s) tail later in
     let offset : c.lengths c.here ≡ done = ap c.lengths s.here ∙ s.has in
     let place : c.starts c.here + c.lengths c.here ≡ from =
-    ap (λ (i : ℕ). c.starts i + c.lengths i) s.here ∙ (let e = s.has in let f = s.begins in omega (arith, e, f, begins)) in
+    ap (λ (i : ℕ). c.starts i + c.lengths i) s.here
+    ∙ (let e = s.has in let f = s.begins in omega (arith, e, f, begins)) in
     let len : length_at from b ≡ length given = gives_length from b given gives in
     let one : fault_in defined r ≡ None =
     data_fault defined c n b given gives
@@ -115,18 +121,23 @@ place_fault defined c n at none low =
     ∙ ap (λ (i : ℕ). misfit_at 0 i x) place
     ∙ fits 0 at x (omega arith) (omega arith) (omega arith)
 
-pub parts_faults : (c : Counters) (n i : ℕ) (runs : List Placed) (bodies : List Body) (defined : List Symbol) → ArePieces runs
+pub parts_faults : (c : Counters) (n i : ℕ) (runs : List Placed) (bodies : List Body) (defined : List Symbol)
+    → ArePieces runs
     → AreFew runs → Fresh c n → PartsData runs bodies → statements_fault defined (located c (numbered i bodies)) ≡ None
-parts_faults c n i _ _ defined pieces few f no_parts = ap (statements_fault defined) (located_none c) ∙ no_faults defined
-parts_faults c n i _ bodies defined pieces few f (more_parts {run = run} {runs = runs} own more bodies_are datas others) =
+parts_faults c n i _ _ defined pieces few f no_parts = ap (statements_fault defined) (located_none c)
+    ∙ no_faults defined
+parts_faults c n i _ bodies defined pieces few f
+    (more_parts {run = run} {runs = runs} own more bodies_are datas others) =
     let opened : Counters = after c (body.At run.at) in
     let x : Statement = bare i (body.At run.at) in
     let r : Located = record { before = c; statement = x } in
     let behind : (e : Counters) (m : ℕ) (names : List Symbol) → Stands e n run.at (0 + length run.bytes)
     → statements_fault names (located e (numbered m more)) ≡ None =
-    λ e m names h. parts_faults e (n + 1) m runs more names pieces.3 few.1 (fresh_behind e n run.at (0 + length run.bytes) h) others in
+    λ e m names h. parts_faults e (n + 1) m runs more names pieces.3 few.1
+    (fresh_behind e n run.at (0 + length run.bytes) h) others in
     let own_fine : statements_fault (defined ++ symbols_of r) (located opened (numbered (i + 1) (own ++ more))) ≡ None =
-    data_faults n run.at 0 opened (i + 1) run.at run.bytes own more (defined ++ symbols_of r) (omega arith) (let h = few.0 in omega arith) pieces.2
+    data_faults n run.at 0 opened (i + 1) run.at run.bytes own more (defined ++ symbols_of r) (omega arith)
+    (let h = few.0 in omega arith) pieces.2
     (opens_part c n run.at f) datas behind in
     let none : c.lengths c.count ≡ 0 = f.empty c.count (let e = f.count in omega arith) in
     ap (λ (bs : List Body). statements_fault defined (located c (numbered i bs))) bodies_are
@@ -153,6 +164,7 @@ data_opens n _ _ (a_code i) = refl
 data_opens n _ _ (a_word w) = refl
 data_opens n _ _ (a_byte b) = refl
 
+-- the sections that bodies open
 abbrev pub opened_in : ℕ → List Body → List Head
 opened_in n bs = flat_map (λ x. opened_by x.line x.body) (numbered n bs)
 
@@ -163,7 +175,8 @@ data_heads n from _ _ more runs (more_data {b = b} {bs = bs} given left bytes_ar
     subst (λ (hs : List Head). HeadsAre (hs ++ opened_in (n + 1) (bs ++ more)) runs) (sym (data_opens n b given gives))
     (data_heads (n + 1) (from + length given) left bs more runs tail rest)
 
-pub parts_heads : (i : ℕ) (runs : List Placed) (bodies : List Body) → PartsData runs bodies → HeadsAre (opened_in i bodies) runs
+pub parts_heads : (i : ℕ) (runs : List Placed) (bodies : List Body) → PartsData runs bodies
+    → HeadsAre (opened_in i bodies) runs
 parts_heads i _ _ no_parts = tt
 parts_heads i _ bodies (more_parts {run = run} {runs = runs} own more bodies_are datas others) =
     subst (λ (bs : List Body). HeadsAre (opened_in i bs) (run ∷ runs)) (sym bodies_are)
@@ -174,7 +187,8 @@ get_behind : (pre : List Head) (h : Head) (hs : List Head) → slice_get (pre ++
 get_behind [] h hs = refl
 get_behind (p ∷ pre) h hs = get_behind pre h hs
 
-pub bases_are : (d : Based) (n : ℕ) (pre hs : List Head) (runs : List Placed) → heads_in d.source ≡ pre ++ hs → length pre ≡ n
+pub bases_are : (d : Based) (n : ℕ) (pre hs : List Head) (runs : List Placed) → heads_in d.source ≡ pre ++ hs
+    → length pre ≡ n
     → HeadsAre hs runs → Bases d n runs
 bases_are d n pre [] [] heads len are = tt
 bases_are d n pre (h ∷ hs) (run ∷ runs) heads len are =
@@ -196,6 +210,7 @@ defined_symbols c i (b ∷ bs) =
     ap (flat_map symbols_of) (located_cons c (bare i b) (numbered (i + 1) bs))
     ∙ ap (λ (ss : List Symbol). sets_at i b ++ ss) (defined_symbols (after c b) (i + 1) bs)
 
+-- the symbols that bodies set
 abbrev pub set_in : ℕ → List Body → List Symbol
 set_in n bs = flat_map (λ x. sets_at x.line x.body) (numbered n bs)
 
@@ -223,6 +238,7 @@ data_uses c n _ _ (a_code i) = refl
 data_uses c n _ _ (a_word w) = refl
 data_uses c n _ _ (a_byte b) = refl
 
+-- the uses of symbols in bodies
 abbrev pub uses_of : Counters → ℕ → List Body → List Reloc
 uses_of c n bs = flat_map symbol_uses (located c (numbered n bs))
 
@@ -234,9 +250,11 @@ data_use c n from _ _ more (more_data {b = b} {bs = bs} given left bytes_are giv
     ∙ ap (λ (rs : List Reloc). rs ++ uses_of (after c b) (n + 1) (bs ++ more)) (data_uses c n b given gives)
     ∙ data_use (after c b) (n + 1) (from + length given) left bs more tail rest
 
-pub parts_use : (c : Counters) (i : ℕ) (runs : List Placed) (bodies : List Body) → PartsData runs bodies → uses_of c i bodies ≡ []
+pub parts_use : (c : Counters) (i : ℕ) (runs : List Placed) (bodies : List Body) → PartsData runs bodies
+    → uses_of c i bodies ≡ []
 parts_use c i _ _ no_parts = ap (flat_map symbol_uses) (located_none c)
 parts_use c i _ bodies (more_parts {run = run} {runs = runs} own more bodies_are datas others) =
     ap (uses_of c i) bodies_are
     ∙ ap (flat_map symbol_uses) (located_cons c (bare i (body.At run.at)) (numbered (i + 1) (own ++ more)))
-    ∙ data_use (after c (body.At run.at)) (i + 1) run.at run.bytes own more datas (λ e m. parts_use e m runs more others)
+    ∙ data_use (after c (body.At run.at)) (i + 1) run.at run.bytes own more datas
+    (λ e m. parts_use e m runs more others)

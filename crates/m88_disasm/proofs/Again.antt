@@ -36,6 +36,7 @@ use Rattle.m88_disasm.proofs.Standing.{Bases, Fresh, located_cons, none_in, part
 abbrev first_body : ℕ → Body
 first_body start = body.Set (codes "_start") 6 start
 
+-- all of them
 abbrev all_bodies : ℕ → List Body → List Body
 all_bodies start bodies = first_body start ∷ bodies
 
@@ -58,6 +59,7 @@ behind_first start = after at_begin (first_body start)
 fresh_first : (start : ℕ) → Fresh (behind_first start) 2
 fresh_first start = record { count = refl; empty = λ j h. put_other (λ _. 0) 0 0 j (omega arith) }
 
+-- the first statement where it stands
 abbrev first_row : ℕ → Located
 first_row start = record { before = at_begin; statement = bare 1 (first_body start) }
 
@@ -75,17 +77,27 @@ bytes_are : (start : ℕ) (runs : List Placed) (bodies : List Body) (g : List Sy
     → byte_among (map (run_of g (stood start bodies)) (lines_in (main start bodies)) ++ []) a ≡ byte_among runs a
 bytes_are start runs bodies g a datas =
     let d : Based = stood start bodies in
-    let bases : Bases d 2 runs = bases_are d 2 (first_heads 1) (opened_in 2 bodies) runs (heads_are start bodies) refl (parts_heads 2 runs bodies datas) in
+    let bases : Bases d 2 runs = bases_are d 2 (first_heads 1) (opened_in 2 bodies) runs (heads_are start bodies)
+    refl (parts_heads 2 runs bodies datas) in
     ap (λ (rs : List Placed). byte_among rs a) (append-nil (map (run_of g d) (lines_in (main start bodies))))
     ∙ ap (λ (rs : List Located). byte_among (map (run_of g d) rs) a) (rows_of start bodies)
-    ∙ ap (λ (o : Option ℕ). option_or o (byte_among (map (run_of g d) (located (behind_first start) (numbered 2 bodies))) a))
+    ∙ ap (λ (o : Option ℕ). option_or o (byte_among
+    (map (run_of g d) (located (behind_first start) (numbered 2 bodies))) a))
     (none_in (base_in d 0 + 0) a)
     ∙ parts_bytes g d a (behind_first start) 2 2 runs bodies bases (fresh_first start) datas
 
 -- symbols
 abbrev start_definition : ℕ → Symbol
-start_definition start = record { name = codes "_start"; global = false; section = None; value = start; line = 1; col = 6 }
+start_definition start = record {
+  name = codes "_start";
+  global = false;
+  section = None;
+  value = start;
+  line = 1;
+  col = 6;
+}
 
+-- the same as the linker sees it
 abbrev start_global : ℕ → Symbol
 start_global start = record { name = codes "_start"; global = true; section = None; value = start; line = 1; col = 6 }
 
@@ -93,20 +105,24 @@ symbols_are : (start : ℕ) (runs : List Placed) (bodies : List Body) → PartsD
     → flat_map symbols_of (lines_in (main start bodies)) ≡ start_definition start ∷ []
 symbols_are start runs bodies datas =
     defined_symbols at_begin 1 (all_bodies start bodies)
-    ∙ ap (λ (ss : List Symbol). let ts : List Symbol = start_definition start ∷ ss in ts) (parts_define 2 runs bodies datas)
+    ∙ ap (λ (ss : List Symbol). let ts : List Symbol = start_definition start ∷ ss in ts)
+    (parts_define 2 runs bodies datas)
 
 globals_are : (start : ℕ) (runs : List Placed) (bodies : List Body) → PartsData runs bodies
     → globals_in (stood start bodies) ++ [] ≡ start_global start ∷ []
 globals_are start runs bodies datas =
-    ap (λ (ss : List Symbol). exported (base_in (stood start bodies)) (map (marked (main start bodies).statements) ss) ++ [])
+    ap (λ (ss : List Symbol). exported (base_in (stood start bodies))
+    (map (marked (main start bodies).statements) ss) ++ [])
     (symbols_are start runs bodies datas)
 
 -- faults
 assembled : (start : ℕ) (runs : List Placed) (bodies : List Body) → ArePieces runs → AreFew runs → PartsData runs bodies
     → IsAssembled (unit_of_bodies (all_bodies start bodies))
 assembled start runs bodies pieces few datas =
-    let rest : statements_fault (start_definition start ∷ []) (located (behind_first start) (numbered 2 bodies)) ≡ None =
-    parts_faults (behind_first start) 2 2 runs bodies (start_definition start ∷ []) pieces few (fresh_first start) datas in
+    let rest : statements_fault (start_definition start ∷ []) (located (behind_first start) (numbered 2 bodies)) ≡ None
+    =
+    parts_faults (behind_first start) 2 2 runs bodies (start_definition start ∷ []) pieces few (fresh_first start)
+    datas in
     let whole : module_fault (main start bodies) ≡ None =
     ap (statements_fault []) (rows_of start bodies)
     ∙ faults_cons [] (first_row start) (located (behind_first start) (numbered 2 bodies)) refl rest in
@@ -142,7 +158,8 @@ record Rooms (start : ℕ) (runs : List Placed) (bodies : List Body) : Type 0 wh
 rooms : (start : ℕ) (runs : List Placed) (bodies : List Body) → PartsData runs bodies → Rooms start runs bodies
 rooms start runs bodies datas =
     let d : Based = stood start bodies in
-    let none : section_length 0 (main start bodies) ≡ 0 = lengths_are start 0 runs bodies datas ∙ no_room 2 0 runs (omega arith) in
+    let none : section_length 0 (main start bodies) ≡ 0 = lengths_are start 0 runs bodies datas
+    ∙ no_room 2 0 runs (omega arith) in
     let datas_at : d.datas ≡ 4096 =
     ap (λ (n : ℕ). up_to_multiple 8 (up_to_multiple 4096 (up_to_multiple 8 first_text + n))) none in
     record {
@@ -156,10 +173,12 @@ rooms start runs bodies datas =
       second_low = subst (λ (n : ℕ). n ≤ 4294967296) (sym datas_at) (omega arith);
       first_none = none;
       second_none = lengths_are start 1 runs bodies datas ∙ no_room 2 1 runs (omega arith);
-      are = rooms_are d 2 (opened_in 2 bodies) runs (parts_heads 2 runs bodies datas) (λ j h. lengths_are start j runs bodies datas);
+      are = rooms_are d 2 (opened_in 2 bodies) runs (parts_heads 2 runs bodies datas)
+          (λ j h. lengths_are start j runs bodies datas);
     }
 
-too_large_not : (es : List Extent) (r s : Extent) (runs : List Placed) → r.at ≤ 2 ^ 32 → s.at ≤ 2 ^ 32 → r.len ≡ 0 → s.len ≡ 0
+too_large_not : (es : List Extent) (r s : Extent) (runs : List Placed) → r.at ≤ 2 ^ 32 → s.at ≤ 2 ^ 32 → r.len ≡ 0
+    → s.len ≡ 0
     → RoomsAre es runs → ArePieces runs → count_among runs ≤ most_bytes → is_too_large (r ∷ s ∷ es) ≡ false
 too_large_not es r s runs r_low s_low r_none s_none are pieces few =
     let one = sum_by-cons (λ (e : Extent). e.len) r (s ∷ es) in
@@ -185,7 +204,8 @@ disjoint_with es r s r_none s_none apart a =
     let k = apart a in
     omega (arith, one, two, k)
 
-linkable : (start : ℕ) (runs : List Placed) (bodies : List Body) → ArePieces runs → AreApart 0 runs → count_among runs ≤ most_bytes
+linkable : (start : ℕ) (runs : List Placed) (bodies : List Body) → ArePieces runs → AreApart 0 runs
+    → count_among runs ≤ most_bytes
     → PartsData runs bodies → IsLinkable (unit_layout (unit_of_bodies (all_bodies start bodies)))
 linkable start runs bodies pieces apart few datas =
     let d : Based = stood start bodies in
@@ -198,12 +218,15 @@ linkable start runs bodies pieces apart few datas =
     record {
       fits =
           ap is_too_large r.extents
-          ∙ too_large_not r.others r.first r.second runs r.first_low r.second_low r.first_none r.second_none r.are pieces few;
+          ∙ too_large_not r.others r.first r.second runs r.first_low r.second_low r.first_none r.second_none r.are
+          pieces few;
       disjoint =
           subst AreDisjoint (sym r.extents)
-          (disjoint_with r.others r.first r.second r.first_none r.second_none (rooms_apart r.others runs 0 r.are apart));
+          (disjoint_with r.others r.first r.second r.first_none r.second_none
+          (rooms_apart r.others runs 0 r.are apart));
       named =
-          ap (λ (ss : List Symbol). option_or (duplicate ss) (option_or (undefined (references_in g d ++ [])) (too_far (references_in g d ++ []))))
+          ap (λ (ss : List Symbol). option_or (duplicate ss)
+          (option_or (undefined (references_in g d ++ [])) (too_far (references_in g d ++ []))))
           (globals_are start runs bodies datas)
           ∙ ap (λ (rs : List Reference). option_or (undefined rs) (too_far rs)) references;
     }
@@ -215,7 +238,8 @@ few_each (run ∷ runs) few =
     (omega (arith, e), few_each runs (omega (arith, e)))
 
 -- the listing writes the image
-pub listing_again : (image : ProgramImage) (text : List ℕ) → IsImage image → IsListing image text → WritesImage text image
+pub listing_again : (image : ProgramImage) (text : List ℕ) → IsImage image → IsListing image text
+    → WritesImage text image
 unfolding byte_at byte_count
 listing_again image text is listed =
     let runs : List Placed = parts image in

@@ -74,13 +74,15 @@ below (b ∷ bs) h (suc i) = below bs h.1 i
 four : (a b c d : ℕ) → a < 256 → b < 256 → c < 256 → d < 256
     → to_be_bytes w32 (from_be_bytes w32 (a ∷ b ∷ c ∷ d ∷ [])) ≡ a ∷ b ∷ c ∷ d ∷ []
 four a b c d ha hb hc hd =
-    be_bytes_4 (a ∷ b ∷ c ∷ d ∷ []) (from_be_bytes w32 (a ∷ b ∷ c ∷ d ∷ [])) refl (below (a ∷ b ∷ c ∷ d ∷ []) (ha, (hb, (hc, (hd, tt))))) refl
+    be_bytes_4 (a ∷ b ∷ c ∷ d ∷ []) (from_be_bytes w32 (a ∷ b ∷ c ∷ d ∷ [])) refl
+    (below (a ∷ b ∷ c ∷ d ∷ []) (ha, (hb, (hc, (hd, tt))))) refl
 
 word_below : (a b c d : ℕ) → a < 256 → b < 256 → c < 256 → d < 256 → from_be_bytes w32 (a ∷ b ∷ c ∷ d ∷ []) < 2 ^ 32
 word_below a b c d ha hb hc hd = omega arith
 
 -- a line before others that are listed, whose body gives the first bytes
-listed_before : (number at : ℕ) (given rest bytes line : List ℕ) (lines : List (List ℕ)) (b : Body) → bytes ≡ given ++ rest
+listed_before : (number at : ℕ) (given rest bytes line : List ℕ) (lines : List (List ℕ)) (b : Body)
+    → bytes ≡ given ++ rest
     → Gives b given → at % alignment_of b ≡ 0 → Spoken number line b
     → ListedBytes (number + 1) (at + length given) rest lines → ListedBytes number at bytes (line ∷ lines)
 listed_before number at given rest bytes line lines b bytes_are gives stands spoken l = record {
@@ -90,7 +92,8 @@ listed_before number at given rest bytes line lines b bytes_are gives stands spo
 }
 
 -- the line of a word
-listed_word : (number at a b c d : ℕ) (rest line : List ℕ) (lines : List (List ℕ)) → a < 256 → b < 256 → c < 256 → d < 256
+listed_word : (number at a b c d : ℕ) (rest line : List ℕ) (lines : List (List ℕ)) → a < 256 → b < 256 → c < 256
+    → d < 256
     → at % 4 ≡ 0 → IsWordLine (from_be_bytes w32 (a ∷ b ∷ c ∷ d ∷ [])) line
     → ListedBytes (number + 1) (at + 4) rest lines → ListedBytes number at (a ∷ b ∷ c ∷ d ∷ rest) (line ∷ lines)
 listed_word number at a b c d rest _ lines ha hb hc hd stands (instruction i is) l =
@@ -108,7 +111,8 @@ listed_word number at a b c d rest _ lines ha hb hc hd stands (no_instruction no
 listed : (number at : ℕ) (bytes : List ℕ) (lines : List (List ℕ)) → AreBytes bytes → AreLines at bytes lines
     → ListedBytes number at bytes lines
 listed number at _ _ small no_line = record { bodies = []; stated = tt; datas = no_data }
-listed number at _ _ small (word {a = a} {b = b} {c = c} {d = d} {bytes = rest} {line = line} {lines = lines} begins is more) =
+listed number at _ _ small (word {a = a} {b = b} {c = c} {d = d} {bytes = rest} {line = line} {lines = lines} begins
+    is more) =
     listed_word number at a b c d rest line lines small.0 small.1.0 small.1.1.0 small.1.1.1.0 begins.0 is
     (listed (number + 1) (at + 4) rest lines small.1.1.1.1 more)
 listed number at _ _ small (byte {b = b} {bytes = rest} {lines = lines} none more) =

@@ -182,7 +182,8 @@ pub field_form : (op : BitOp) (d s1 : Reg) (width offset : ℕ) (p1 c1 p2 c2 w o
     → p1.says ≡ a_name (register d) → c1.says ≡ a_mark 44 → p2.says ≡ a_name (register s1) → c2.says ≡ a_mark 44
     → w.says ≡ a_number width → o.says ≡ a_mark 60 → p.says ≡ a_number offset → c.says ≡ a_mark 62
     → width ≤ most_width op → offset < 32
-    → AreOperands (shape_of (of_bits op)) (p1 ∷ c1 ∷ p2 ∷ c2 ∷ w ∷ o ∷ p ∷ c ∷ []) (instr.BitLit op d s1 width offset) None
+    → AreOperands (shape_of (of_bits op)) (p1 ∷ c1 ∷ p2 ∷ c2 ∷ w ∷ o ∷ p ∷ c ∷ [])
+    (instr.BitLit op d s1 width offset) None
 field_form op d s1 width offset p1 c1 p2 c2 w o p c e1 f1 e2 f2 ew fo ep fc wide small =
     literal_form op d s1 width offset p1 c1 p2 c2 _ e1 f1 e2 f2 (ew, wide, fo, ep, small, fc)
 
@@ -190,7 +191,8 @@ field_form op d s1 width offset p1 c1 p2 c2 w o p c e1 f1 e2 f2 ew fo ep fc wide
 pub rotation_form : (d s1 : Reg) (width offset : ℕ) (p1 c1 p2 c2 o p c : Piece)
     → p1.says ≡ a_name (register d) → c1.says ≡ a_mark 44 → p2.says ≡ a_name (register s1) → c2.says ≡ a_mark 44
     → o.says ≡ a_mark 60 → p.says ≡ a_number offset → c.says ≡ a_mark 62 → width ≡ 0 → offset < 32
-    → AreOperands (shape_of (of_bits bits.Rot)) (p1 ∷ c1 ∷ p2 ∷ c2 ∷ o ∷ p ∷ c ∷ []) (instr.BitLit bits.Rot d s1 width offset) None
+    → AreOperands (shape_of (of_bits bits.Rot)) (p1 ∷ c1 ∷ p2 ∷ c2 ∷ o ∷ p ∷ c ∷ [])
+    (instr.BitLit bits.Rot d s1 width offset) None
 rotation_form d s1 width offset p1 c1 p2 c2 o p c e1 f1 e2 f2 fo ep fc none small =
     literal_form bits.Rot d s1 width offset p1 c1 p2 c2 _ e1 f1 e2 f2 (none, fo, ep, small, fc)
 
@@ -223,6 +225,7 @@ abbrev pub sign_of : ℤ → ℕ
 sign_of (pos n) = 43
 sign_of (negsuc n) = 45
 
+-- its distance in bytes
 abbrev pub distance_of : ℤ → ℕ
 distance_of (pos n) = 4 * n
 distance_of (negsuc n) = 4 * (n + 1)

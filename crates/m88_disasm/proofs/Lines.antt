@@ -77,7 +77,8 @@ more_bytes at m n bytes rest t0 t1 t2 rest_is first second =
     let sum : at + (m + n) ≡ at + m + n = omega arith in
     let left : drop (m + n) bytes ≡ drop n rest = sym (drop-drop n m bytes) ∙ ap (drop n) (sym rest_is) in
     let are_left : AreLines (at + m + n) (drop n rest) lines =
-    subst (λ (xs : List ℕ). AreLines (at + m + n) xs lines) left (subst (λ (k : ℕ). AreLines k (drop (m + n) bytes) lines) sum are) in
+    subst (λ (xs : List ℕ). AreLines (at + m + n) xs lines) left
+    (subst (λ (k : ℕ). AreLines k (drop (m + n) bytes) lines) sum are) in
     let next : LinesAppended (AreLines (at + m) rest) t1 (t2 ++ text_of_lines lines) = second lines are_left in
     let whole : LinesAppended (AreLines at bytes) t0 (t1 ++ text_of_lines next.lines) =
     first next.lines (subst (λ (xs : List ℕ). AreLines (at + m) xs next.lines) rest_is next.are) in
@@ -100,7 +101,8 @@ part_next : (runs : List Placed) (k : ℕ) (run : Placed) → slice_get runs k �
     → drop k runs ≡ run ∷ drop (k + 1) runs
 part_next runs k run found =
     at_drop_more (λ (rs : List Placed). rs) runs k run (slice_get_within runs k run found)
-    ∙ ap (λ (r : Placed). let rs : List Placed = r ∷ drop (k + 1) runs in rs) (get_or_from_slice_get runs k run run found)
+    ∙ ap (λ (r : Placed). let rs : List Placed = r ∷ drop (k + 1) runs in rs)
+    (get_or_from_slice_get runs k run run found)
 
 -- the text of a part and of what stands behind it
 part_text : (t1 t2 t3 place : List ℕ) (lines more : List (List ℕ)) → t2 ≡ t1 ++ (place ++ line_end)

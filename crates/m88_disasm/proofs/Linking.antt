@@ -31,14 +31,17 @@ abbrev pub lengths_of : ℕ → Counters → ℕ → List Body → ℕ
 lengths_of j c n bs = sum_by (length_in j) (located c (numbered n bs))
 
 pub lengths_cons : (j : ℕ) (c : Counters) (n : ℕ) (b : Body) (bs : List Body)
-    → lengths_of j c n (b ∷ bs) ≡ length_in j (record { before = c; statement = bare n b }) + lengths_of j (after c b) (n + 1) bs
+    → lengths_of j c n (b ∷ bs) ≡ length_in j (record { before = c; statement = bare n b }) + lengths_of j
+    (after c b) (n + 1) bs
 lengths_cons j c n b bs =
     ap (sum_by (length_in j)) (located_cons c (bare n b) (numbered (n + 1) bs))
-    ∙ sum_by-cons (length_in j) (record { before = c; statement = bare n b }) (located (after c b) (numbered (n + 1) bs))
+    ∙ sum_by-cons (length_in j) (record { before = c; statement = bare n b })
+    (located (after c b) (numbered (n + 1) bs))
 
 lengths_none : (j : ℕ) (c : Counters) (n : ℕ) → lengths_of j c n [] ≡ 0
 lengths_none j c n = ap (sum_by (length_in j)) (located_none c)
 
+-- a number where a test holds, else 0
 abbrev pub where_same : Bool → ℕ → ℕ
 where_same t n = if t then n else 0
 
@@ -57,9 +60,11 @@ data_lengths : (j k at done : ℕ) (c : Counters) (n from : ℕ) (bytes : List �
 data_lengths j k at done c n from _ _ more total s no_data rest =
     let none : done ≡ done + 0 = omega arith in
     rest c n (subst (λ (m : ℕ). Stands c k at m) none s) ∙ where_none (k == j) total
-data_lengths j k at done c n from bytes _ more total s (more_data {b = b} {bs = bs} given left bytes_are gives stands tail) rest =
+data_lengths j k at done c n from bytes _ more total s
+    (more_data {b = b} {bs = bs} given left bytes_are gives stands tail) rest =
     let size : length bytes ≡ length given + length left = ap length bytes_are ∙ length-append given left in
-    let later : (e : Counters) (m : ℕ) → Stands e k at (done + length given + length left) → lengths_of j e m more ≡ total =
+    let later : (e : Counters) (m : ℕ) → Stands e k at (done + length given + length left)
+    → lengths_of j e m more ≡ total =
     λ e m h. rest e m (let same : done + length given + length left ≡ done + length bytes = omega (arith, size) in
     subst (λ (i : ℕ). Stands e k at i) same h) in
     let ih = data_lengths j k at (done + length given) (after c b) (n + 1) (from + length given) left bs more total
@@ -76,19 +81,22 @@ abbrev pub room : ℕ → List Placed → ℕ → ℕ
 room n [] j = 0
 room n (run ∷ runs) j = where_same (n == j) (length run.bytes) + room (n + 1) runs j
 
-place_length : (j : ℕ) (c : Counters) (n at : ℕ) → length_in j (record { before = c; statement = bare n (body.At at) }) ≡ 0
+place_length : (j : ℕ) (c : Counters) (n at : ℕ)
+    → length_in j (record { before = c; statement = bare n (body.At at) }) ≡ 0
 place_length j c n at = by_test (c.count == j)
   where
     by_test : (t : Bool) → where_same t 0 ≡ 0
     by_test true = refl
     by_test false = refl
 
-pub parts_lengths : (j : ℕ) (c : Counters) (n i : ℕ) (runs : List Placed) (bodies : List Body) → Fresh c n → PartsData runs bodies
+pub parts_lengths : (j : ℕ) (c : Counters) (n i : ℕ) (runs : List Placed) (bodies : List Body) → Fresh c n
+    → PartsData runs bodies
     → lengths_of j c i bodies ≡ room n runs j
 parts_lengths j c n i _ _ f no_parts = lengths_none j c i
 parts_lengths j c n i _ bodies f (more_parts {run = run} {runs = runs} own more bodies_are datas others) =
     let opened : Counters = after c (body.At run.at) in
-    let own_lengths = data_lengths j n run.at 0 opened (i + 1) run.at run.bytes own more (room (n + 1) runs j) (opens_part c n run.at f)
+    let own_lengths = data_lengths j n run.at 0 opened (i + 1) run.at run.bytes own more (room (n + 1) runs j)
+    (opens_part c n run.at f)
     datas (λ e m h. parts_lengths j e (n + 1) m runs more (fresh_behind e n run.at (0 + length run.bytes) h) others) in
     ap (lengths_of j c i) bodies_are
     ∙ lengths_cons j c i (body.At run.at) (own ++ more)
@@ -127,7 +135,8 @@ rooms_are d n [] (run ∷ runs) are lens = absurd are
 rooms_are d n (h ∷ hs) [] are lens = absurd are
 
 -- they have the bytes of the parts together, below the last address, and no two of them share one
-pub rooms_count : (es : List Extent) (runs : List Placed) → RoomsAre es runs → sum_by (λ (e : Extent). e.len) es ≡ count_among runs
+pub rooms_count : (es : List Extent) (runs : List Placed) → RoomsAre es runs
+    → sum_by (λ (e : Extent). e.len) es ≡ count_among runs
 rooms_count [] [] are = refl
 rooms_count (e ∷ es) (run ∷ runs) are =
     sum_by-cons (λ (x : Extent). x.len) e es
@@ -156,7 +165,8 @@ not_covered e a h = grind (arith, nat_tests)
 behind_room : (e : Extent) (a : ℕ) → e.at + e.len ≤ a → covers a e ≡ false
 behind_room e a h = grind (arith, nat_tests)
 
-none_hit : (es : List Extent) (runs : List Placed) (from a : ℕ) → RoomsAre es runs → AreApart from runs → a < from → hits es a ≡ 0
+none_hit : (es : List Extent) (runs : List Placed) (from a : ℕ) → RoomsAre es runs → AreApart from runs → a < from
+    → hits es a ≡ 0
 none_hit [] [] from a are apart h = refl
 none_hit (e ∷ es) (run ∷ runs) from a are apart h =
     let low : from ≤ run.at = apart.0 in
@@ -171,14 +181,16 @@ at_most_one : (t : Bool) (n : ℕ) → n ≡ 0 → cond t 1 0 + n < 2
 at_most_one true n e = omega (arith, e)
 at_most_one false n e = omega (arith, e)
 
-pub rooms_apart : (es : List Extent) (runs : List Placed) (from : ℕ) → RoomsAre es runs → AreApart from runs → AreDisjoint es
+pub rooms_apart : (es : List Extent) (runs : List Placed) (from : ℕ) → RoomsAre es runs → AreApart from runs
+    → AreDisjoint es
 rooms_apart [] [] from are apart a = omega arith
 rooms_apart (e ∷ es) (run ∷ runs) from are apart a =
     elim (cases_lt a (e.at + e.len)) [
       | inl low ↦
           let at : e.at ≡ run.at = are.0 in
           let len : e.len ≡ length run.bytes = are.1 in
-          let k : hits es a ≡ 0 = none_hit es runs (run.at + length run.bytes + 1) a are.2 apart.2 (omega (arith, low)) in
+          let k : hits es a ≡ 0 = none_hit es runs (run.at + length run.bytes + 1) a are.2 apart.2
+          (omega (arith, low)) in
           subst (λ (n : ℕ). n < 2) (sym (hits_cons e es a)) (at_most_one (covers a e) (hits es a) k)
       | inr high ↦
           let k : hits es a < 2 = rooms_apart es runs (run.at + length run.bytes + 1) are.2 apart.2 a in

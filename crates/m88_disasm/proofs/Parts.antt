@@ -25,18 +25,21 @@ pub data Part : Type 0 where
   part_hex : List ℕ → ℕ → Part
   part_mark : ℕ → Part
 
+-- its bytes
 abbrev pub part_text : Part → List ℕ
 part_text (part_name name) = name
 part_text (part_number n) = decimal n
 part_text (part_hex digits n) = 48 ∷ 120 ∷ digits
 part_text (part_mark b) = b ∷ []
 
+-- what it stands for
 abbrev pub part_says : Part → TokenValue
 part_says (part_name name) = a_name name
 part_says (part_number n) = a_number n
 part_says (part_hex digits n) = a_number n
 part_says (part_mark b) = a_mark b
 
+-- whether it is a mark
 abbrev pub is_mark_part : Part → Bool
 is_mark_part (part_mark b) = true
 is_mark_part _ = false
@@ -45,6 +48,7 @@ is_mark_part _ = false
 abbrev pub is_printed : ℕ → Bool
 is_printed b = nat_le 32 b
 
+-- bytes that end no line
 abbrev pub are_printed : List ℕ → Bool
 are_printed bytes = list_all is_printed bytes
 
@@ -56,6 +60,7 @@ IsGood (part_hex digits n) =
     (0 < length digits) × (are_digits 16 digits ≡ true) × (n ≡ digits_value 16 digits) × (n < 2 ^ 32)
 IsGood (part_mark b) = (is_mark b ≡ true) × (continues_name b ≡ false) × (is_printed b ≡ true)
 
+-- each part is a token
 abbrev pub AreGood : List Part → Type 0
 AreGood [] = Unit {0}
 AreGood (p ∷ ps) = IsGood p × AreGood ps
@@ -65,10 +70,12 @@ abbrev pub parted_from : Part → List Part → Bool
 parted_from p [] = true
 parted_from p (q ∷ qs) = is_mark_part q || is_mark_part p
 
+-- that is so all along
 abbrev pub are_parted : List Part → Bool
 are_parted [] = true
 are_parted (p ∷ ps) = parted_from p ps && are_parted ps
 
+-- the bytes of parts in turn
 abbrev pub parts_text : List Part → List ℕ
 parts_text ps = flat_map part_text ps
 
@@ -76,6 +83,7 @@ parts_text ps = flat_map part_text ps
 abbrev pub piece_of : ℕ → Part → Piece
 piece_of col p = record { text = part_text p; col = col; says = part_says p }
 
+-- parts as tokens from a column on
 abbrev pub pieces : ℕ → List Part → List Piece
 pieces col [] = []
 pieces col (p ∷ ps) = piece_of col p ∷ pieces (col + length (part_text p)) ps
@@ -127,7 +135,8 @@ ends p (part_mark b ∷ qs) g gs a h = gs.0.1
 ends _ (_ ∷ qs) g gs a h = absurd cc
 
 -- parts are their tokens
-tokens_of : (col : ℕ) (ps : List Part) → AreGood ps → are_parted ps ≡ true → AreTokens col (parts_text ps) (pieces col ps)
+tokens_of : (col : ℕ) (ps : List Part) → AreGood ps → are_parted ps ≡ true
+    → AreTokens col (parts_text ps) (pieces col ps)
 tokens_of col [] gs a = record { gap = []; tail = []; bytes_are = refl; blank = refl; comment = tt }
 tokens_of col (p ∷ ps) gs a =
     let k = both (parted_from p ps) (are_parted ps) a in (
@@ -222,7 +231,8 @@ digits_continue (d ∷ ds) h =
     ap (λ (t : Bool). t && list_all continues_name ds) (digit_continues d h.0) ∙ digits_continue ds h.1
 
 -- letters and a short number
-pub numbered_name : (first : ℕ) (letters : List ℕ) (n : ℕ) → begins_name first ≡ true → list_all continues_name letters ≡ true
+pub numbered_name : (first : ℕ) (letters : List ℕ) (n : ℕ) → begins_name first ≡ true
+    → list_all continues_name letters ≡ true
     → length letters ≤ 3 → n < 100 → IsName (first ∷ letters ++ decimal n)
 numbered_name first letters n b ls short small =
     let k = decimal_is_IsNumeral n (omega arith) in
@@ -310,5 +320,6 @@ parts_printed : (ps : List Part) → AreGood ps → are_printed (parts_text ps) 
 parts_printed [] gs = refl
 parts_printed (p ∷ ps) gs = printed_behind (part_text p) (parts_text ps) (part_printed p gs.0) (parts_printed ps gs.1)
 
-pub line_printed : (op : List ℕ) (ps : List Part) → IsName op → AreGood ps → are_printed (op ++ 32 ∷ parts_text ps) ≡ true
+pub line_printed : (op : List ℕ) (ps : List Part) → IsName op → AreGood ps
+    → are_printed (op ++ 32 ∷ parts_text ps) ≡ true
 line_printed op ps name gs = printed_behind op (32 ∷ parts_text ps) (name_is_printed op name) (parts_printed ps gs)

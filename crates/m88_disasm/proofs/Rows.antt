@@ -17,10 +17,12 @@ both true b e = (refl, e)
 both false b e = absurd cc
 
 -- a byte that ends no line goes on its first line
-inner_byte : (b : ℕ) (bs : List ℕ) → (b == 10) ≡ false → (b == 13) ≡ false → lines_of (b ∷ bs) ≡ on_first_line b (lines_of bs)
+inner_byte : (b : ℕ) (bs : List ℕ) → (b == 10) ≡ false → (b == 13) ≡ false
+    → lines_of (b ∷ bs) ≡ on_first_line b (lines_of bs)
 unfolding lines_of
 inner_byte b bs e f =
-    ap (λ (t : Bool). if t then [] ∷ lines_of bs else (if b == 13 && begins_with_lf bs then lines_of bs else on_first_line b (lines_of bs))) e
+    ap (λ (t : Bool). if t then [] ∷ lines_of bs else
+    (if b == 13 && begins_with_lf bs then lines_of bs else on_first_line b (lines_of bs))) e
     ∙ ap (λ (t : Bool). if t && begins_with_lf bs then lines_of bs else on_first_line b (lines_of bs)) f
 
 ended_line : (bs : List ℕ) → lines_of (10 ∷ bs) ≡ [] ∷ lines_of bs
@@ -70,7 +72,8 @@ lines_are number (l ∷ ls) (b ∷ bs) h =
 lines_are number [] (b ∷ bs) h = absurd h
 lines_are number (l ∷ ls) [] h = absurd h
 
-rows_are : (number : ℕ) (ls : List (List ℕ)) (bs : List Body) → Stated number ls bs → AreRows number ls (numbered number bs) []
+rows_are : (number : ℕ) (ls : List (List ℕ)) (bs : List Body) → Stated number ls bs
+    → AreRows number ls (numbered number bs) []
 rows_are number [] [] h = no_row
 rows_are number (l ∷ ls) (b ∷ bs) h =
     row_of_statement h.0.read.are_tokens (statement_line h.0.read.statement) (rows_are (number + 1) ls bs h.1)

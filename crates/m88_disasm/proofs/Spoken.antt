@@ -62,6 +62,7 @@ says_code mnemonic p ps i number text text_is goods parted first operands =
 abbrev reg_part : Reg → Part
 reg_part r = part_name (register r)
 
+-- the mark between two operands
 abbrev comma : Part
 comma = part_mark 44
 
@@ -100,7 +101,8 @@ condition_part mask small = by1 (mask == 1) refl
   where
     by6 : (t : Bool) → (mask == 1) ≡ false → (mask == 2) ≡ false → (mask == 3) ≡ false → (mask == 12) ≡ false
         → (mask == 13) ≡ false → (mask == 14) ≡ t → ConditionPart mask
-    by6 true e1 e2 e3 e4 e5 e = subst ConditionPart (sym (eqb-true mask 14 e)) (named_condition 14 (codes "le0") refl refl refl)
+    by6 true e1 e2 e3 e4 e5 e = subst ConditionPart (sym (eqb-true mask 14 e))
+        (named_condition 14 (codes "le0") refl refl refl)
     by6 false e1 e2 e3 e4 e5 e = record {
       part = part_number mask;
       text_is = rw (e1, e2, e3, e4, e5, e) refl;
@@ -111,12 +113,14 @@ condition_part mask small = by1 (mask == 1) refl
 
     by5 : (t : Bool) → (mask == 1) ≡ false → (mask == 2) ≡ false → (mask == 3) ≡ false → (mask == 12) ≡ false
         → (mask == 13) ≡ t → ConditionPart mask
-    by5 true e1 e2 e3 e4 e = subst ConditionPart (sym (eqb-true mask 13 e)) (named_condition 13 (codes "ne0") refl refl refl)
+    by5 true e1 e2 e3 e4 e = subst ConditionPart (sym (eqb-true mask 13 e))
+        (named_condition 13 (codes "ne0") refl refl refl)
     by5 false e1 e2 e3 e4 e = by6 (mask == 14) e1 e2 e3 e4 e refl
 
     by4 : (t : Bool) → (mask == 1) ≡ false → (mask == 2) ≡ false → (mask == 3) ≡ false → (mask == 12) ≡ t
         → ConditionPart mask
-    by4 true e1 e2 e3 e = subst ConditionPart (sym (eqb-true mask 12 e)) (named_condition 12 (codes "lt0") refl refl refl)
+    by4 true e1 e2 e3 e = subst ConditionPart (sym (eqb-true mask 12 e))
+        (named_condition 12 (codes "lt0") refl refl refl)
     by4 false e1 e2 e3 e = by5 (mask == 13) e1 e2 e3 e refl
 
     by3 : (t : Bool) → (mask == 1) ≡ false → (mask == 2) ≡ false → (mask == 3) ≡ t → ConditionPart mask
@@ -161,14 +165,17 @@ said_scaled : (number : ℕ) (mnemonic : Mnemonic) (d s1 s2 : Reg) (i : Instr)
     → Spoken number (spelled mnemonic (register d ∷ scaled s1 s2 ∷ [])) (body.Code i None)
 said_scaled number mnemonic d s1 s2 i operands =
     says_code mnemonic (reg_part d) (comma ∷ reg_part s1 ∷ part_mark 91 ∷ reg_part s2 ∷ part_mark 93 ∷ []) i number _
-    (ap (λ (xs : List ℕ). text_of mnemonic ++ 32 ∷ (register d ++ 44 ∷ xs)) (marked_twice 91 93 (register s1) (register s2)))
-    (reg_good d, (comma_good, (reg_good s1, ((refl, refl, refl), (reg_good s2, ((refl, refl, refl), tt)))))) refl refl operands
+    (ap (λ (xs : List ℕ). text_of mnemonic ++ 32 ∷ (register d ++ 44 ∷ xs))
+    (marked_twice 91 93 (register s1) (register s2)))
+    (reg_good d, (comma_good, (reg_good s1, ((refl, refl, refl), (reg_good s2, ((refl, refl, refl), tt)))))) refl
+    refl operands
 
 -- rD,rS1,W<O>
 said_field : (number : ℕ) (mnemonic : Mnemonic) (d s1 : Reg) (width offset : ℕ) (i : Instr) → width < 32 → offset < 32
     → AreOperands (shape_of mnemonic)
     (pieces (1 + length (text_of mnemonic) + 1)
-    (reg_part d ∷ comma ∷ reg_part s1 ∷ comma ∷ part_number width ∷ part_mark 60 ∷ part_number offset ∷ part_mark 62 ∷ []))
+    (reg_part d ∷ comma ∷ reg_part s1 ∷ comma ∷ part_number width ∷ part_mark 60 ∷ part_number offset ∷ part_mark 62
+    ∷ []))
     i None
     → Spoken number
     (spelled mnemonic (register d ∷ register s1 ∷ (decimal width ++ codes "<" ++ decimal offset ++ codes ">") ∷ []))
@@ -176,8 +183,17 @@ said_field : (number : ℕ) (mnemonic : Mnemonic) (d s1 : Reg) (width offset : �
 said_field number mnemonic d s1 width offset i wide small operands =
     says_code mnemonic (reg_part d)
     (comma ∷ reg_part s1 ∷ comma ∷ part_number width ∷ part_mark 60 ∷ part_number offset ∷ part_mark 62 ∷ []) i number _
-    (ap (λ (xs : List ℕ). text_of mnemonic ++ 32 ∷ (register d ++ 44 ∷ (register s1 ++ 44 ∷ xs))) (marked_twice 60 62 (decimal width) (decimal offset)))
-    (reg_good d, (comma_good, (reg_good s1, (comma_good, (omega arith, ((refl, refl, refl), (omega arith, ((refl, refl, refl), tt)))))))) refl refl operands
+    (ap (λ (xs : List ℕ). text_of mnemonic ++ 32 ∷ (register d ++ 44 ∷ (register s1 ++ 44 ∷ xs)))
+    (marked_twice 60 62 (decimal width) (decimal offset))) (
+      reg_good d,
+      (
+        comma_good,
+        (
+          reg_good s1,
+          (comma_good, (omega arith, ((refl, refl, refl), (omega arith, ((refl, refl, refl), tt))))),
+        ),
+      ),
+    ) refl refl operands
 
 -- rD,rS1,<O>
 said_rotation : (number : ℕ) (mnemonic : Mnemonic) (d s1 : Reg) (offset : ℕ) (i : Instr) → offset < 32
@@ -190,8 +206,17 @@ said_rotation : (number : ℕ) (mnemonic : Mnemonic) (d s1 : Reg) (offset : ℕ)
 said_rotation number mnemonic d s1 offset i small operands =
     says_code mnemonic (reg_part d)
     (comma ∷ reg_part s1 ∷ comma ∷ part_mark 60 ∷ part_number offset ∷ part_mark 62 ∷ []) i number _
-    (ap (λ (xs : List ℕ). text_of mnemonic ++ 32 ∷ (register d ++ 44 ∷ (register s1 ++ 44 ∷ (60 ∷ xs)))) (append-nil (decimal offset ++ codes ">")))
-    (reg_good d, (comma_good, (reg_good s1, (comma_good, ((refl, refl, refl), (omega arith, ((refl, refl, refl), tt))))))) refl refl operands
+    (ap (λ (xs : List ℕ). text_of mnemonic ++ 32 ∷ (register d ++ 44 ∷ (register s1 ++ 44 ∷ (60 ∷ xs))))
+    (append-nil (decimal offset ++ codes ">"))) (
+      reg_good d,
+      (
+        comma_good,
+        (
+          reg_good s1,
+          (comma_good, ((refl, refl, refl), (omega arith, ((refl, refl, refl), tt)))),
+        ),
+      ),
+    ) refl refl operands
 
 said_literal : (number : ℕ) (op : BitOp) (d s1 : Reg) (width offset : ℕ) → IsWidth op width → offset < 32
     → Spoken number (spelled (of_bits op) (register d ∷ register s1 ∷ field op width offset ∷ []))
@@ -205,7 +230,8 @@ said_literal number op d s1 width offset wide small =
 
 -- two registers
 said_pair : (number : ℕ) (mnemonic : Mnemonic) (r s : Reg) (i : Instr)
-    → AreOperands (shape_of mnemonic) (pieces (1 + length (text_of mnemonic) + 1) (reg_part r ∷ comma ∷ reg_part s ∷ [])) i None
+    → AreOperands (shape_of mnemonic) (pieces (1 + length (text_of mnemonic) + 1)
+    (reg_part r ∷ comma ∷ reg_part s ∷ [])) i None
     → Spoken number (spelled mnemonic (register r ∷ register s ∷ [])) (body.Code i None)
 said_pair number mnemonic r s i operands =
     says_code mnemonic (reg_part r) (comma ∷ reg_part s ∷ []) i number _ refl
@@ -240,11 +266,14 @@ wider (pos n) fits = omega arith
 wider (negsuc n) fits = omega arith
 
 said_branch : (number : ℕ) (link delayed : Bool) (words : ℤ) → FitsWords 25 words
-    → Spoken number (spelled (of_branch link delayed) (target words ∷ [])) (body.Code (instr.Branch link delayed words) None)
+    → Spoken number (spelled (of_branch link delayed) (target words ∷ []))
+    (body.Code (instr.Branch link delayed words) None)
 said_branch number link delayed words fits =
-    says_code (of_branch link delayed) (part_name (codes ".")) (part_mark (sign_of words) ∷ part_number (distance_of words) ∷ [])
+    says_code (of_branch link delayed) (part_name (codes "."))
+    (part_mark (sign_of words) ∷ part_number (distance_of words) ∷ [])
     (instr.Branch link delayed words) number _
-    (ap (λ (xs : List ℕ). text_of (of_branch link delayed) ++ 32 ∷ xs) (target_text words)) (target_good words fits) refl refl
+    (ap (λ (xs : List ℕ). text_of (of_branch link delayed) ++ 32 ∷ xs) (target_text words)) (target_good words fits)
+    refl refl
     (branch_form link delayed words _ _ _ fits refl refl refl)
 
 said_branch_bit : (number : ℕ) (set delayed : Bool) (bit : ℕ) (s1 : Reg) (words : ℤ) → bit < 32 → FitsWords 15 words
@@ -253,21 +282,26 @@ said_branch_bit : (number : ℕ) (set delayed : Bool) (bit : ℕ) (s1 : Reg) (wo
 said_branch_bit number set delayed bit s1 words small fits =
     says_code (of_branch_bit set delayed) (part_number bit) (comma ∷ reg_part s1 ∷ comma ∷ target_parts words)
     (instr.BranchBit set delayed bit s1 words) number _
-    (ap (λ (xs : List ℕ). text_of (of_branch_bit set delayed) ++ 32 ∷ (decimal bit ++ 44 ∷ (register s1 ++ 44 ∷ xs))) (target_text words))
+    (ap (λ (xs : List ℕ). text_of (of_branch_bit set delayed) ++ 32 ∷ (decimal bit ++ 44 ∷ (register s1 ++ 44 ∷ xs)))
+    (target_text words))
     (omega arith, (comma_good, (reg_good s1, (comma_good, target_good words (wider words fits))))) refl refl
     (branch_bit_form set delayed bit s1 words _ _ _ _ _ _ _ refl small refl refl refl fits refl refl refl)
 
-said_branch_cond : (number : ℕ) (delayed : Bool) (mask : ℕ) (s1 : Reg) (words : ℤ) → ConditionPart mask → FitsWords 15 words
+said_branch_cond : (number : ℕ) (delayed : Bool) (mask : ℕ) (s1 : Reg) (words : ℤ) → ConditionPart mask
+    → FitsWords 15 words
     → Spoken number (spelled (of_branch_cond delayed) (condition mask ∷ register s1 ∷ target words ∷ []))
     (body.Code (instr.BranchCond delayed mask s1 words) None)
 said_branch_cond number delayed mask s1 words c fits =
     says_code (of_branch_cond delayed) c.part (comma ∷ reg_part s1 ∷ comma ∷ target_parts words)
     (instr.BranchCond delayed mask s1 words) number _
-    (ap (λ (xs : List ℕ). text_of (of_branch_cond delayed) ++ 32 ∷ (condition mask ++ 44 ∷ (register s1 ++ 44 ∷ xs))) (target_text words)
-    ∙ ap (λ (ys : List ℕ). text_of (of_branch_cond delayed) ++ 32 ∷ (ys ++ 44 ∷ (register s1 ++ 44 ∷ parts_text (target_parts words)))) c.text_is)
+    (ap (λ (xs : List ℕ). text_of (of_branch_cond delayed) ++ 32 ∷ (condition mask ++ 44 ∷ (register s1 ++ 44 ∷ xs)))
+    (target_text words)
+    ∙ ap (λ (ys : List ℕ). text_of (of_branch_cond delayed) ++ 32 ∷
+    (ys ++ 44 ∷ (register s1 ++ 44 ∷ parts_text (target_parts words)))) c.text_is)
     (c.good, (comma_good, (reg_good s1, (comma_good, target_good words (wider words fits))))) refl c.plain
     (branch_cond_form delayed mask s1 words _ _ _ _ _ _ _
-    (c.read (piece_of (1 + length (text_of (of_branch_cond delayed)) + 1) c.part) refl) refl refl refl fits refl refl refl)
+    (c.read (piece_of (1 + length (text_of (of_branch_cond delayed)) + 1) c.part) refl) refl refl refl fits refl refl
+    refl)
 
 -- traps
 said_trap_bit : (number : ℕ) (set : Bool) (bit : ℕ) (s1 : Reg) (vector : ℕ) → bit < 32 → vector < 512
@@ -287,7 +321,8 @@ said_trap_cond number mask s1 vector c few =
     (instr.TrapCond mask s1 vector) number _
     (ap (λ (ys : List ℕ). text_of m.Tcnd ++ 32 ∷ (ys ++ 44 ∷ (register s1 ++ 44 ∷ (decimal vector ++ [])))) c.text_is)
     (c.good, (comma_good, (reg_good s1, (comma_good, (omega arith, tt))))) refl c.plain
-    (trap_cond_form mask s1 vector _ _ _ _ _ (c.read (piece_of (1 + length (text_of m.Tcnd) + 1) c.part) refl) refl refl refl refl few)
+    (trap_cond_form mask s1 vector _ _ _ _ _ (c.read (piece_of (1 + length (text_of m.Tcnd) + 1) c.part) refl) refl
+    refl refl refl few)
 
 -- control registers
 said_control : (number : ℕ) (mnemonic : Mnemonic) (r : Reg) (float : Bool) (cr : ℕ) (i : Instr) → cr < 64
@@ -382,7 +417,8 @@ said_instr number (instr.Imm op d s1 n) v =
 said_instr number (instr.MemImm op d s1 n) v =
     said_imm number (of_mem op) d s1 n _ v (mem_imm_form op d s1 n _ _ _ _ _ refl refl refl refl refl v)
 said_instr number (instr.MemReg op d s1 s2 true usr) v =
-    said_scaled number (of_index op usr) d s1 s2 _ (mem_scaled_form op usr d s1 s2 _ _ _ _ _ _ refl refl refl refl refl refl)
+    said_scaled number (of_index op usr) d s1 s2 _
+    (mem_scaled_form op usr d s1 s2 _ _ _ _ _ _ refl refl refl refl refl refl)
 said_instr number (instr.MemReg op d s1 s2 false usr) v =
     said_regs number (of_index op usr) d s1 s2 _ (mem_index_form op usr d s1 s2 _ _ _ _ _ refl refl refl refl refl)
 said_instr number (instr.Lda size d s1 s2) v =

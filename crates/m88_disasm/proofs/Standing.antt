@@ -107,7 +107,8 @@ none_in at a =
     ]
 
 -- the bytes of a part, and what is found behind it
-data_bytes : (g : List Symbol) (d : Based) (a k at done : ℕ) (c : Counters) (n from : ℕ) (bytes : List ℕ) (own more : List Body)
+data_bytes : (g : List Symbol) (d : Based) (a k at done : ℕ) (c : Counters) (n from : ℕ) (bytes : List ℕ)
+    (own more : List Body)
     (found : Option ℕ) → base_in d k ≡ at → from ≡ at + done → Stands c k at done → Data from bytes own
     → ((e : Counters) (m : ℕ) → Stands e k at (done + length bytes)
     → byte_among (map (run_of g d) (located e (numbered m more))) a ≡ found)
@@ -117,22 +118,27 @@ data_bytes g d a k at done c n from _ _ more found base begins s no_data rest =
     let none : done ≡ done + 0 = omega arith in
     rest c n (subst (λ (m : ℕ). Stands c k at m) none s)
     ∙ sym (ap (λ (o : Option ℕ). option_or o found) (none_in from a))
-data_bytes g d a k at done c n from bytes _ more found base begins s (more_data {b = b} {bs = bs} given left bytes_are gives stands tail) rest =
+data_bytes g d a k at done c n from bytes _ more found base begins s
+    (more_data {b = b} {bs = bs} given left bytes_are gives stands tail) rest =
     let next : from + length given ≡ at + (done + length given) = omega arith in
     let size : length bytes ≡ length given + length left = ap length bytes_are ∙ length-append given left in
     let later : (e : Counters) (m : ℕ) → Stands e k at (done + length given + length left)
     → byte_among (map (run_of g d) (located e (numbered m more))) a ≡ found =
     λ e m h. rest e m (let same : done + length given + length left ≡ done + length bytes = omega (arith, size) in
     subst (λ (i : ℕ). Stands e k at i) same h) in
-    let ih = data_bytes g d a k at (done + length given) (after c b) (n + 1) (from + length given) left bs more found base next
+    let ih = data_bytes g d a k at (done + length given) (after c b) (n + 1) (from + length given) left bs more found
+    base next
     (stands_behind c k at done b given gives s) tail later in
     let place : base_in d c.here + c.lengths c.here ≡ from =
     ap (λ (i : ℕ). base_in d i + c.lengths i) s.here ∙ (let e = s.has in omega (arith, e, base, begins)) in
-    ap (λ (rs : List Located). byte_among (map (run_of g d) rs) a) (located_cons c (bare n b) (numbered (n + 1) (bs ++ more)))
-    ∙ ap (λ (r : Placed). option_or (byte_in r a) (byte_among (map (run_of g d) (located (after c b) (numbered (n + 1) (bs ++ more)))) a))
+    ap (λ (rs : List Located). byte_among (map (run_of g d) rs) a)
+    (located_cons c (bare n b) (numbered (n + 1) (bs ++ more)))
+    ∙ ap (λ (r : Placed). option_or (byte_in r a)
+    (byte_among (map (run_of g d) (located (after c b) (numbered (n + 1) (bs ++ more)))) a))
     (run_is g d c n b given gives ∙ ap (λ (i : ℕ). let r : Placed = record { at = i; bytes = given } in r) place)
     ∙ ap (λ (o : Option ℕ). option_or (byte_in (record { at = from; bytes = given }) a) o) ih
-    ∙ sym (option_or_assoc (byte_in (record { at = from; bytes = given }) a) (byte_in (record { at = from + length given; bytes = left }) a) found)
+    ∙ sym (option_or_assoc (byte_in (record { at = from; bytes = given }) a)
+    (byte_in (record { at = from + length given; bytes = left }) a) found)
     ∙ ap (λ (o : Option ℕ). option_or o found) (sym (byte_in-join from given left (from + length given) a refl))
     ∙ ap (λ (bs : List ℕ). option_or (byte_in (record { at = from; bytes = bs }) a) found) (sym bytes_are)
 
@@ -141,7 +147,8 @@ abbrev pub Bases : Based → ℕ → List Placed → Type 0
 Bases d n [] = Unit {0}
 Bases d n (run ∷ runs) = (base_in d n ≡ run.at) × Bases d (n + 1) runs
 
-pub parts_bytes : (g : List Symbol) (d : Based) (a : ℕ) (c : Counters) (n i : ℕ) (runs : List Placed) (bodies : List Body)
+pub parts_bytes : (g : List Symbol) (d : Based) (a : ℕ) (c : Counters) (n i : ℕ) (runs : List Placed)
+    (bodies : List Body)
     → Bases d n runs → Fresh c n → PartsData runs bodies
     → byte_among (map (run_of g d) (located c (numbered i bodies))) a ≡ byte_among runs a
 parts_bytes g d a c n i _ _ bases f no_parts =
@@ -151,11 +158,14 @@ parts_bytes g d a c n i _ bodies bases f (more_parts {run = run} {runs = runs} o
     let x : Statement = bare i (body.At run.at) in
     let behind : (e : Counters) (m : ℕ) → Stands e n run.at (0 + length run.bytes)
     → byte_among (map (run_of g d) (located e (numbered m more))) a ≡ byte_among runs a =
-    λ e m h. parts_bytes g d a e (n + 1) m runs more bases.1 (fresh_behind e n run.at (0 + length run.bytes) h) others in
-    let own_bytes = data_bytes g d a n run.at 0 opened (i + 1) run.at run.bytes own more (byte_among runs a) bases.0 (omega arith)
+    λ e m h. parts_bytes g d a e (n + 1) m runs more bases.1 (fresh_behind e n run.at (0 + length run.bytes) h)
+    others in
+    let own_bytes = data_bytes g d a n run.at 0 opened (i + 1) run.at run.bytes own more (byte_among runs a) bases.0
+    (omega arith)
     (opens_part c n run.at f) datas behind in
     ap (λ (bs : List Body). byte_among (map (run_of g d) (located c (numbered i bs))) a) bodies_are
     ∙ ap (λ (rs : List Located). byte_among (map (run_of g d) rs) a) (located_cons c x (numbered (i + 1) (own ++ more)))
-    ∙ ap (λ (o : Option ℕ). option_or o (byte_among (map (run_of g d) (located opened (numbered (i + 1) (own ++ more)))) a))
+    ∙ ap (λ (o : Option ℕ). option_or o (byte_among
+    (map (run_of g d) (located opened (numbered (i + 1) (own ++ more)))) a))
     (none_in (base_in d c.count + c.lengths c.count) a)
     ∙ own_bytes

@@ -1,6 +1,6 @@
--- The text of each instruction, a line for each form ("Instruction Set": the assembler syntax of each instruction). It is
--- the mnemonic, a blank, and the operands with a comma between each two and no other blank. Numbers are decimal, without
--- needless zeros.
+-- The text of each instruction, a line for each form ("Instruction Set": the assembler syntax of each instruction). It
+-- is the mnemonic, a blank, and the operands with a comma between each two and no other blank. Numbers are decimal,
+-- without needless zeros.
 use Rattle.std.specs.Prelude.{ℕ, ℤ, pos, negsuc, Bool, true, false, ◌+◌, ◌*◌, ◌==◌, List, [], ◌∷◌, ◌++◌, codes, decimal, flat_map, if◌then◌else◌}
 use Rattle.m88_base.specs.Hex.{hex8}
 use Rattle.m88_base.specs.Reg.{number_of}
@@ -67,8 +67,8 @@ hexadecimal n = codes "0x" ++ hex8 n
 abbrev pub word_text : ℕ → List ℕ
 word_text word = codes ".word " ++ hexadecimal word
 
--- the text of an instruction: immediates, memory, three registers, bit fields, flow, traps, control registers; a word of a
--- special function unit has no mnemonic
+-- the text of an instruction: immediates, memory, three registers, bit fields, flow, traps, control registers; a word
+-- of a special function unit has no mnemonic
 unfoldable pub instr_text : Instr → List ℕ
 instr_text (instr.Imm op d s1 imm) = spelled (of_imm op) (register d ∷ register s1 ∷ decimal imm ∷ [])
 instr_text (instr.MemImm op d s1 imm) = spelled (of_mem op) (register d ∷ register s1 ∷ decimal imm ∷ [])

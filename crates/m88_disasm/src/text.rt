@@ -68,7 +68,8 @@ fn index(mnemonic: Mnemonic, d: Reg, s1: Reg, s2: Reg, is_scaled: bool) -> Array
 
 /// rD,rS1 and a literal bit field.
 fn literal(op: BitOp, d: Reg, s1: Reg, width: u8, offset: u8) -> ArrayString<48>
-    ensures { result.bytes ≡ spelled (of_bits op) (register d ∷ register s1 ∷ field op width offset ∷ []) }
+    ensures { result.bytes ≡ spelled (of_bits op)
+        (register d ∷ register s1 ∷ field op width offset ∷ []) }
 {
     let mut text = begun(of_bits(op));
     put_register(&mut text, d);
@@ -150,7 +151,8 @@ fn trap_on_bit(mnemonic: Mnemonic, bit: u8, s1: Reg, vector: u16) -> ArrayString
 
 /// A condition, rS1 and a vector.
 fn trap_on_condition(mask: u8, s1: Reg, vector: u16) -> ArrayString<48>
-    ensures { result.bytes ≡ spelled Mnemonic.Tcnd (condition mask ∷ register s1 ∷ decimal vector ∷ []) }
+    ensures { result.bytes ≡ spelled Mnemonic.Tcnd
+        (condition mask ∷ register s1 ∷ decimal vector ∷ []) }
 {
     let mut text = begun(Mnemonic::Tcnd);
     put_condition(&mut text, mask);
@@ -195,7 +197,8 @@ fn with_control(mnemonic: Mnemonic, r: Reg, float: bool, cr: u8) -> ArrayString<
 
 /// Two registers and a control register.
 fn exchange(d: Reg, s1: Reg, cr: u8, float: bool) -> ArrayString<48>
-    ensures { result.bytes ≡ spelled (of_xcr float) (register d ∷ register s1 ∷ control float cr ∷ []) }
+    ensures { result.bytes ≡ spelled (of_xcr float)
+        (register d ∷ register s1 ∷ control float cr ∷ []) }
 {
     let mut text = begun(of_xcr(float));
     put_register(&mut text, d);

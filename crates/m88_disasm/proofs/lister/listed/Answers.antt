@@ -1,3 +1,4 @@
+-- The listing is short enough.
 use Rattle.m88_disasm.proofs.Sizes.{short_text}
 use Rattle.m88_disasm.proofs.lister.listed.Goals as goal
 

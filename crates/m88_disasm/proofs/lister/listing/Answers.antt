@@ -1,3 +1,4 @@
+-- The listing is the only one, and writes the image again.
 use Rattle.m88_disasm.proofs.Again.{listing_again}
 use Rattle.m88_disasm.proofs.OneListing.{one_listing}
 use Rattle.m88_disasm.proofs.lister.listing.Goals as goal

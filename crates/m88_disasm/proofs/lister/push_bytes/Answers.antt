@@ -1,3 +1,4 @@
+-- Behind the last byte no line is left.
 use Rattle.std.proofs.Common.{arith}
 use Rattle.m88_disasm.proofs.Lines.{all_bytes}
 use Rattle.m88_disasm.proofs.lister.push_bytes.Goals as goal

@@ -1,3 +1,4 @@
+-- The line of an instruction, or of a word that is none.
 use Rattle.std.proofs.Common.{◌∙◌, ◌++◌, List, ℕ, ap, append_assoc}
 use Rattle.std.specs.Prelude.{codes}
 use Rattle.m88_base.specs.Lines.{line_end}

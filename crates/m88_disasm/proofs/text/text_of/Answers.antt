@@ -1,3 +1,4 @@
+-- What was written is read as the instruction.
 use Rattle.std.proofs.Common.{ℕ, List, subst, sym}
 use Rattle.m88_disasm.specs.Read.{IsReadAs, said_by}
 use Rattle.m88_disasm.proofs.Spoken.{said_instr}
