@@ -31,16 +31,16 @@ use Rattle.m88_isa.specs.declared.planned.Plan.TheVariants.{Go, Raise, Trap}
 use Rattle.m88_scoreboard.specs.Registers.{shown_at}
 use Rattle.m88_board.specs.Board.{BoardView, cells_of, completed_of, pc_of, next_of}
 use Rattle.m88_board.specs.Kept.{IsKept}
-use Rattle.m88_board.proofs.Choosing.{did_by, none_pending}
+use Rattle.m88_board.proofs.Choosing.{did_by}
 use Rattle.m88_board.specs.Moves.{Did, stopping}
 use Rattle.m88_board.specs.Turns.{choice_for, meaning_at}
 
--- the oldest transaction, as the data unit shows it
-pub oldest_of : (inside b : BoardView) (o : Option Access) → inside ≡ b → o ≡ slice_get inside.pending 0 →
-    o ≡ slice_get b.pending 0
-oldest_of inside b o same h = subst (λ (x : BoardView). o ≡ slice_get x.pending 0) same h
+-- something is pending where there is an oldest
+pub pending_shown : (xs : List Access) (o : Option Access) → o ≡ slice_get xs 0 → is_some o ≡ is_pending xs
+pending_shown [] o e = ap is_some e
+pending_shown (x ∷ xs) o e = ap is_some e
 
--- and the room in it
+-- the room in the data unit
 pub room_of : (inside b : BoardView) (room : ℕ) → inside ≡ b → room + length inside.pending ≡ most_pending →
     room + length b.pending ≡ most_pending
 room_of inside b room same h = subst (λ (x : BoardView). room + length x.pending ≡ most_pending) same h
@@ -258,11 +258,14 @@ go_sync i b effect going few trap some =
     by_meaning i b (goes going.on.change) going.on.means
     ∙ held_sync i (changes going.on.change) b.pending going.free (grind (arith, nat_tests)) trap some
 
+-- nothing is pending
+pub nothing_pending : (pending : List Access) → is_pending pending ≡ false → pending ≡ []
+nothing_pending [] h = refl
+nothing_pending (a ∷ pending) h = absurd cc
+
 -- it doesn't wait where nothing is pending
-pub none_to_wait_for : (pending : List Access) (o : Option Access) (trap : Bool) → o ≡ slice_get pending 0 →
-    is_some o ≡ false →
-    (is_pending pending && trap) ≡ false
-none_to_wait_for pending o trap e h = ap (λ (xs : List Access). is_pending xs && trap) (none_pending pending o e h)
+pub none_to_wait_for : (pending trap : Bool) → pending ≡ false → (pending && trap) ≡ false
+none_to_wait_for pending trap h = rw h refl
 
 -- or where it is no trap
 pub no_trap : (pending trap : Bool) → trap ≡ false → (pending && trap) ≡ false

@@ -5,7 +5,7 @@ ghost use Rattle.m88_event.specs.Local.{choice_by};
 ghost use Rattle.m88_event.specs.declared.letter.Letter.{Letter as LetterValue};
 ghost use Rattle.m88_event.specs.declared.record.Record.{Record as RecordValue};
 ghost use Rattle.m88_isa.specs.Effect.{FlowsToWords, MakesAccesses, RaisesListed, TrapsForUser, WritesWithin, plan_for};
-ghost use Rattle.m88_isa.specs.Held.{busy_register};
+ghost use Rattle.m88_isa.specs.Held.{busy_register, is_pending};
 ghost use Rattle.m88_isa.specs.Instr.{IsValid};
 ghost use Rattle.m88_isa.specs.Machine.{Program};
 ghost use Rattle.m88_isa.specs.Operands.{access_count_of, writes_of};
@@ -78,7 +78,7 @@ impl Board {
         match self.planned(instr) {
             Plan::Raise(vector) => Ok(self.raise(vector)),
             Plan::Trap(vector) => {
-                if self.dunit.oldest().is_some() {
+                if self.is_pending() {
                     return Ok(Happened::Stalled(Why::Sync));
                 }
                 self.trap(vector)
@@ -87,13 +87,21 @@ impl Board {
                 if effect.accesses.count > self.dunit.room() {
                     return Ok(Happened::Stalled(Why::Full));
                 }
-                if waits_for_empty(instr) && self.dunit.oldest().is_some() {
+                if waits_for_empty(instr) && self.is_pending() {
                     return Ok(Happened::Stalled(Why::Sync));
                 }
                 self.go(&effect)?;
                 Ok(Happened::Issued)
             }
         }
+    }
+
+    /// Whether a transaction is pending.
+    #[tactic(auto, using(crate::proofs::Issuing::pending_shown))]
+    fn is_pending(&self) -> bool
+        ensures { result ≡ is_pending self.now.pending }
+    {
+        self.dunit.oldest().is_some()
     }
 
     /// What the next instruction does, where no register that it uses or writes waits.

@@ -9,15 +9,15 @@ use Rattle.m88_isa.proofs.Held.{written_waits_not}
 use Rattle.m88_isa.specs.Held.{full, is_pending, sync}
 use Rattle.m88_isa.specs.Machine.{by_vector, trapped}
 use Rattle.m88_isa.specs.Operands.{waits_for_empty}
-use Rattle.m88_board.proofs.Choosing.{did_by, none_pending, some_pending}
-use Rattle.m88_board.proofs.Issuing.{at_most, go_full, go_issued, go_sync, held_still, is_going, no_trap, none_to_wait_for, oldest_of, raise_is, raising, room_of, stays_apart, trap_held, trap_is, trap_turn}
+use Rattle.m88_board.proofs.Choosing.{did_by}
+use Rattle.m88_board.proofs.Issuing.{at_most, go_full, go_issued, go_sync, held_still, is_going, no_trap, none_to_wait_for, nothing_pending, raise_is, raising, room_of, stays_apart, trap_held, trap_is, trap_turn}
 use Rattle.m88_board.specs.Board.{pc_of}
 use Rattle.m88_board.specs.Kept.{IsKept}
 use Rattle.m88_board.specs.Moves.{Did, stopping}
 use Rattle.m88_board.specs.Turns.{choice_for}
 use Rattle.m88_board.specs.contracts.board.Board.{the_view}
 use Rattle.m88_board.proofs.board.Board.issue_free.Goals as goal
-use Rattle.m88_board.proofs.board.Board.issue_free.Goals.{else-waits_for_empty-via-then-waits_for_empty+else-is_some-2, else-waits_for_empty-via-else-waits_for_empty}
+use Rattle.m88_board.proofs.board.Board.issue_free.Goals.{else-waits_for_empty-via-then-waits_for_empty+else-is_pending-2, else-waits_for_empty-via-else-waits_for_empty}
 
 pub returns-in-Raise-clause-ok : goal.returns-in-Raise-clause-ok
 returns-in-Raise-clause-ok c = λ fault.
@@ -28,33 +28,28 @@ returns-in-Raise-clause-ok c = λ fault.
     (raise_is _ c.in-Raise.vector c.in-Raise.ensures.value))
     (c.raise.ensures fault)
 
-pub returns-then-is_some-clause-ok : goal.returns-then-is_some-clause-ok
-returns-then-is_some-clause-ok c = λ fault.
-    let b = c.args.self.now in
-    let oldest = oldest_of (the_view c.self.inside) c.args.self.now c.oldest.result c.self.view_is c.oldest.ensures.value in
-    held_still _ sync fault b
-    (trap_held c.args.instr.now b c.in-Trap.vector c.requires.free
+pub returns-then-is_pending-clause-ok : goal.returns-then-is_pending-clause-ok
+returns-then-is_pending-clause-ok c = λ fault.
+    held_still _ sync fault c.args.self.now
+    (trap_held c.args.instr.now c.args.self.now c.in-Trap.vector c.requires.free
     (trap_is _ c.in-Trap.vector c.in-Trap.ensures.value)
-    (some_pending b.pending c.oldest.result oldest (sym c.is_some.ensures ∙ c.if-is_some.true)))
+    (sym c.is_pending.ensures ∙ c.if-is_pending.true))
 
 pub trap-requires-clause-empty : goal.trap-requires-clause-empty
-trap-requires-clause-empty c =
-    let oldest = oldest_of (the_view c.self.inside) c.args.self.now c.oldest.result c.self.view_is c.oldest.ensures.value in
-    none_pending c.args.self.now.pending c.oldest.result oldest (sym c.is_some.ensures ∙ c.if-is_some.false)
+trap-requires-clause-empty c = nothing_pending c.args.self.now.pending (sym c.is_pending.ensures ∙ c.if-is_pending.false)
 
-pub returns-else-is_some-clause-ok : goal.returns-else-is_some-clause-ok
-returns-else-is_some-clause-ok c =
+pub returns-else-is_pending-clause-ok : goal.returns-else-is_pending-clause-ok
+returns-else-is_pending-clause-ok c =
     let b = c.args.self.now in
     let choice = choice_for (Some c.args.instr.now) b in
     let turn = trapped c.in-Trap.vector b.file.numbers (pc_of b.slots) in
-    let oldest = oldest_of (the_view c.self.inside) c.args.self.now c.oldest.result c.self.view_is c.oldest.ensures.value in
-    let empty = none_pending b.pending c.oldest.result oldest (sym c.is_some.ensures ∙ c.if-is_some.false) in
     IfOk-weaker c.trap.result
     (λ h. (fault : Record) → Did (turn_choice turn) fault b h c.trap.new.self)
     (λ h. (fault : Record) → Did choice fault b h c.trap.new.self)
     (λ h did fault. did_by choice (turn_choice turn) fault b h c.trap.new.self
     (trap_turn c.args.instr.now b c.in-Trap.vector c.requires.free
-    (trap_is _ c.in-Trap.vector c.in-Trap.ensures.value) empty)
+    (trap_is _ c.in-Trap.vector c.in-Trap.ensures.value)
+    (nothing_pending b.pending (sym c.is_pending.ensures ∙ c.if-is_pending.false)))
     (did fault))
     c.trap.ensures.ok
 
@@ -67,20 +62,17 @@ returns-then-effect-room-clause-ok c = λ fault.
     let more = c.if-effect-room.true in
     held_still _ full fault b (go_full c.args.instr.now b c.in-Go.effect going (omega (arith, room, more)))
 
-pub returns-then-is_some-2-clause-ok : goal.returns-then-is_some-2-clause-ok
-returns-then-is_some-2-clause-ok c = λ fault.
+pub returns-then-is_pending-2-clause-ok : goal.returns-then-is_pending-2-clause-ok
+returns-then-is_pending-2-clause-ok c = λ fault.
     let b = c.args.self.now in
     let going = is_going c.args.instr.now b c.in-Go.effect c.in-Go.ensures.value c.requires.instr
     c.in-Go.ensures.accesses c.requires.free in
     let room = room_of (the_view c.self.inside) b c.room.result c.self.view_is c.room.ensures in
     let fits = c.if-effect-room.false in
-    let oldest = oldest_of (the_view c.self.inside) b c.oldest-then-waits_for_empty.result c.self.view_is
-    c.oldest-then-waits_for_empty.ensures.value in
     held_still _ sync fault b
     (go_sync c.args.instr.now b c.in-Go.effect going (omega (arith, room, fits))
     (sym c.waits_for_empty.ensures.value ∙ c.if-waits_for_empty.true)
-    (some_pending b.pending c.oldest-then-waits_for_empty.result oldest
-    (sym c.is_some-then-waits_for_empty.ensures ∙ c.if-is_some-2.true)))
+    (sym c.is_pending-then-waits_for_empty.ensures ∙ c.if-is_pending-2.true))
 
 pub go-requires-clause-free : goal.go-requires-clause-free
 go-requires-clause-free c =
@@ -104,11 +96,9 @@ returns-in_ok-go-in-Go-clause-ok c = λ fault.
     let fits = c.if-effect-room.false in
     let goes_on : (is_pending b.pending && waits_for_empty c.args.instr.now) ≡ false =
     elim c.else-waits_for_empty.branch [
-      | else-waits_for_empty-via-then-waits_for_empty+else-is_some-2 w ↦
-          let oldest = oldest_of (the_view c.self.inside) b w.oldest-then-waits_for_empty.result c.self.view_is
-          w.oldest-then-waits_for_empty.ensures.value in
-          none_to_wait_for b.pending w.oldest-then-waits_for_empty.result (waits_for_empty c.args.instr.now) oldest
-          (sym w.is_some-then-waits_for_empty.ensures ∙ w.if-is_some-2.false)
+      | else-waits_for_empty-via-then-waits_for_empty+else-is_pending-2 w ↦
+          none_to_wait_for (is_pending b.pending) (waits_for_empty c.args.instr.now)
+          (sym w.is_pending-then-waits_for_empty.ensures ∙ w.if-is_pending-2.false)
       | else-waits_for_empty-via-else-waits_for_empty w ↦
           no_trap (is_pending b.pending) (waits_for_empty c.args.instr.now)
           (sym c.waits_for_empty.ensures.value ∙ w.if-waits_for_empty.false)
