@@ -30,7 +30,7 @@ impl Board {
         ensures moment { (p : Program) (named : ℕ → Bool) (m : Moment) → IsAt p named m self.now
             → result ≡ is_over p self.now.limit m }
     {
-        self.dunit.oldest().is_none() && self.is_idle()
+        !self.is_pending() && self.is_idle()
     }
 
     /// The events so far.
