@@ -1,5 +1,5 @@
 -- What a board shows at a moment.
-use Rattle.std.specs.Prelude.{ℕ, Bool, true, false, not, List, [], ◌∷◌, Option, Some, None, Result, Ok, Err, ◌≡◌, ◌↔◌, ◌&&◌, ◌==◌, IfOk, IsErr, IsTrue, is_none, is_some, slice_get, slice_index, if◌then◌else◌}
+use Rattle.std.specs.Prelude.{ℕ, Bool, true, false, not, List, [], ◌∷◌, Option, Some, None, Result, Ok, Err, ◌≡◌, ◌↔◌, ◌&&◌, ◌==◌, IfOk, IsErr, IsTrue, is_some, slice_index, if◌then◌else◌}
 use Rattle.std.specs.Result.{result_ok}
 use Rattle.std.proofs.Common.{get_or-set_other, refl, sym, ap, ◌∙◌, subst}
 use Rattle.std.proofs.lemmas.Bool.{eqb-false, eqb-true}
