@@ -159,7 +159,8 @@ impl Board {
         ensures value { (p : Program) → IsProgramOf self.now.memory.image p
             → result ≡ record_by p self.now.limit (local_of self.now) }
         ensures resumes { resumed self.now.slots result.snip result.sfip ≡ self.now.slots }
-        ensures words { is_some self.now.ended ≡ false → IsRecordOf result self.now.pending self.now.control }
+        ensures words { is_some self.now.ended ≡ false
+            → IsRecordOf result self.now.pending self.now.control }
         ensures ssbr { bit_at result.ssbr 0 ≡ 0 }
     {
         let (sxip, snip, sfip) = self.iunit.shadow();

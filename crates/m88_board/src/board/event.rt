@@ -22,8 +22,8 @@ impl Board {
     /// What a letter makes the board do; the event isn't counted yet.
     fn take(&mut self, letter: Letter) -> Result<Happened, NoMemory>
         ensures ok { IfOk result (λ happened. (p : Program) → IsProgramOf self.old.memory.image p
-            → Did (choice_by p self.old.limit letter (local_of self.old)) (record_by p self.old.limit (local_of self.old))
-            self.old happened self.new) }
+            → Did (choice_by p self.old.limit letter (local_of self.old))
+            (record_by p self.old.limit (local_of self.old)) self.old happened self.new) }
         ensures events { self.new.events ≡ self.old.events }
         ensures shorter { letter ≡ LetterValue.Answer
             → OnOk result (length self.new.pending ≤ length self.old.pending - 1) }
