@@ -14,3 +14,4 @@ pub mod Seeing
 pub mod Shown
 pub mod Running
 pub mod Ending
+pub mod Recorded

@@ -31,13 +31,13 @@ empty_step : (index : ℕ) (s : Serving) → triple_at index s.control ≡ no_tr
 empty_step index s e = ap (λ (t : Triple). if is_valid_triple t then after_access_at index (access_in t) s else s) e
 
 -- the three steps of the pending transactions
-steps_of : List Access → Serving → Serving
+unfoldable pub steps_of : List Access → Serving → Serving
 steps_of [] s = s
 steps_of (a ∷ []) s = after_access_at 0 a s
 steps_of (a ∷ b ∷ []) s = after_access_at 1 b (after_access_at 0 a s)
 steps_of (a ∷ b ∷ c ∷ xs) s = after_access_at 2 c (after_access_at 1 b (after_access_at 0 a s))
 
-three_steps : (xs : List Access) (s : Serving) →
+pub three_steps : (xs : List Access) (s : Serving) →
     s.control.t0 ≡ triple_or_none (slice_get xs 0) →
     s.control.t1 ≡ triple_or_none (slice_get xs 1) →
     s.control.t2 ≡ triple_or_none (slice_get xs 2) →

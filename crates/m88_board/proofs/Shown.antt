@@ -1,5 +1,5 @@
 -- What a board shows at a moment.
-use Rattle.std.specs.Prelude.{ℕ, Bool, true, false, not, List, [], ◌∷◌, Option, Some, None, Result, Ok, Err, ◌≡◌, ◌↔◌, ◌&&◌, ◌==◌, IfOk, IsErr, IsTrue, is_none, is_some, slice_get, slice_index, if◌then◌else◌}
+use Rattle.std.specs.Prelude.{ℕ, Bool, true, false, not, List, [], ◌∷◌, Option, Some, None, Result, Ok, Err, ◌≡◌, ◌↔◌, ◌&&◌, ◌==◌, IfOk, IsErr, IsTrue, is_some, slice_index, if◌then◌else◌}
 use Rattle.std.specs.Result.{result_ok}
 use Rattle.std.proofs.Common.{get_or-set_other, refl, sym, ap, ◌∙◌, subst}
 use Rattle.std.proofs.lemmas.Bool.{eqb-false, eqb-true}
@@ -29,32 +29,21 @@ use Rattle.m88_board.specs.Kept.{AreReady, IsKept, SlotsAgree}
 use Rattle.m88_board.specs.Moves.{IsAt}
 use Rattle.m88_board.specs.Shown.{ArePointers, AreRegisters, IsDataBus, IsStatus}
 
--- a run is over by the board's own parts
-none_oldest : (xs : List Access) (o : Option Access) → o ≡ slice_get xs 0 → is_none o ≡ not (is_pending xs)
-none_oldest [] o e = ap is_none e
-none_oldest (x ∷ xs) o e = ap is_none e
-
-pub over_of : (b : BoardView) (o : Option Access) → o ≡ slice_get b.pending 0 →
-    (is_none o && is_idle_board b) ≡ is_over_by b.limit (local_of b)
+-- a run is over where nothing is pending and no more may be issued
+over_of : (b : BoardView) → (not (is_pending b.pending) && is_idle_board b) ≡ is_over_by b.limit (local_of b)
 unfolding local_of
-over_of b o e = ap (λ (t : Bool). t && is_idle_board b) (none_oldest b.pending o e)
+over_of b = refl
 
-pub over_if : (b : BoardView) (o : Option Access) (none idle : Bool) → o ≡ slice_get b.pending 0 → is_some o ≡ not none →
-    none ≡ true →
+pub over_if : (b : BoardView) (pending idle : Bool) → pending ≡ is_pending b.pending → pending ≡ false →
     idle ≡ is_idle_board b →
     idle ≡ is_over_by b.limit (local_of b)
-over_if b o none idle e is empty known =
-    known
-    ∙ sym (ap (λ (t : Bool). t && is_idle_board b) (ap not is ∙ ap (λ (t : Bool). not (not t)) empty))
-    ∙ over_of b o e
+over_if b pending idle is none known =
+    known ∙ sym (ap (λ (t : Bool). not t && is_idle_board b) (sym is ∙ none)) ∙ over_of b
 
-pub not_over_if : (b : BoardView) (o : Option Access) (none : Bool) → o ≡ slice_get b.pending 0 → is_some o ≡ not none →
-    none ≡ false →
-    none ≡ is_over_by b.limit (local_of b)
-not_over_if b o none e is some =
-    some
-    ∙ sym (ap (λ (t : Bool). t && is_idle_board b) (ap not is ∙ ap (λ (t : Bool). not (not t)) some))
-    ∙ over_of b o e
+pub not_over_if : (b : BoardView) (pending : Bool) → pending ≡ is_pending b.pending → pending ≡ true →
+    not pending ≡ is_over_by b.limit (local_of b)
+not_over_if b pending is some =
+    ap not some ∙ sym (ap (λ (t : Bool). not t && is_idle_board b) (sym is ∙ some)) ∙ over_of b
 
 -- and so at a moment
 pub over_at : (p : Program) (named : ℕ → Bool) (m : Moment) (b : BoardView) → IsAt p named m b →

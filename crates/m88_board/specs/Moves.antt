@@ -58,8 +58,8 @@ pub record IsStep (p : Program) (named : ℕ → Bool) (letter : Letter) (m : Mo
   pub saw : Saw before after (glance_at p (after_letter p named old.limit letter m) ∷ [])
 
 -- a board went along moments, from the first to the last of so many more, and was shown at each of these
-pub record IsAlong (p : Program) (named : ℕ → Bool) (moments : ℕ → Moment) (events : ℕ) (before after : Option (List Glance))
-    (b : BoardView) : Type 0 where
+pub record IsAlong (p : Program) (named : ℕ → Bool) (moments : ℕ → Moment) (events : ℕ)
+    (before after : Option (List Glance)) (b : BoardView) : Type 0 where
   pub at : IsAt p named (moments events) b
   pub saw : Saw before after (glances_along p moments events)
 

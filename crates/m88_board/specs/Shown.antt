@@ -1,14 +1,19 @@
 -- What the parts of a board show at a moment of the timeline.
-use Rattle.std.specs.Prelude.{ℕ, Bool, false, ◌≡◌, slice_index, if◌then◌else◌}
-use Rattle.m88_ctrl.specs.ControlRegisters.{ControlRegisters, carry_of}
+use Rattle.std.specs.Prelude.{ℕ, Bool, false, List, ◌≡◌, map, slice_index, if◌then◌else◌}
+use Rattle.m88_base.specs.RegisterSet.{register_bits}
+use Rattle.m88_ctrl.specs.ControlRegisters.{ControlRegisters, carry_of, triples_by_age}
 use Rattle.m88_event.specs.Shadow.{fip_of, nip_of, status_of}
 use Rattle.m88_event.specs.Timeline.{Moment, absent_at, xip_at}
+use Rattle.m88_event.specs.declared.record.Record.{Record}
 use Rattle.m88_isa.specs.Bus.{waits_for}
 use Rattle.m88_isa.specs.History.{bus_at, pending_at}
 use Rattle.m88_isa.specs.ImageProgram.{IsProgramOf}
 use Rattle.m88_isa.specs.Machine.{Program, state}
+use Rattle.m88_isa.specs.Triples.{triples_of}
+use Rattle.m88_isa.specs.declared.planned.Access.{Access}
 use Rattle.m88_iunit.specs.Pointers.{Pointers}
 use Rattle.m88_mem.specs.DataBus.{MemoryView, absent_of, bus_of, ready_of}
+use Rattle.m88_monitor.specs.Serving.{finished}
 use Rattle.m88_scoreboard.specs.Registers.{Registers, waiting_of}
 use Rattle.m88_board.specs.Board.{pointer_of}
 use Rattle.m88_board.specs.Kept.{AreReady}
@@ -32,6 +37,23 @@ pub record IsDataBus (p : Program) (named : ℕ → Bool) (m : Moment) (memory :
   pub words : bus_of memory ≡ bus_at p m.retired m.done
   pub absent : absent_of memory ≡ absent_at named m
   pub ready : AreReady (ready_of memory) (pending_at p m.retired m.done)
+
+-- a record has the status, the registers that wait and the triples of the pending transactions
+pub record IsRecordOf (fault : Record) (pending : List Access) (control : ControlRegisters) : Type 0 where
+  pub epsr : fault.epsr ≡ control.psr
+  pub ssbr : fault.ssbr ≡ register_bits (waits_for pending)
+  pub triples : fault.triples ≡ triples_of pending
+
+-- the control registers after a data fault was served: they show its record, PSR is EPSR again, no register is left in
+-- SSBR, and VALID of each triple is cleared
+pub record ShowsFault (fault : Record) (control : ControlRegisters) : Type 0 where
+  pub epsr : control.epsr ≡ fault.epsr
+  pub psr : control.psr ≡ fault.epsr
+  pub sxip : control.sxip ≡ fault.sxip
+  pub snip : control.snip ≡ fault.snip
+  pub sfip : control.sfip ≡ fault.sfip
+  pub ssbr : control.ssbr ≡ 0
+  pub triples : triples_by_age control ≡ map finished fault.triples
 
 -- the status: PSR is a user's with the carry of the history; from the program's end on EPSR is, and PSR has that carry
 pub record IsStatus (p : Program) (m : Moment) (control : ControlRegisters) : Type 0 where

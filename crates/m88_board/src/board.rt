@@ -1,6 +1,6 @@
 //! The board: its parts, and what a choice makes of them.
 
-ghost use Rattle.std.specs.Prelude.{◌&&◌, option_map, ◌≡◌, ◌<◌, ◌≤◌, ◌+◌, ◌-◌, ◌*◌, ◌%◌, ◌++◌, [], Option, Some, None, true, false, length, slice_get, IfOk, IfSome, OnErr, OnOk};
+ghost use Rattle.std.specs.Prelude.{◌&&◌, option_map, ◌≡◌, ◌<◌, ◌≤◌, ◌+◌, ◌-◌, ◌*◌, ◌%◌, ◌++◌, [], Option, Some, None, true, false, is_some, length, slice_get, IfOk, IfSome, OnErr, OnOk};
 ghost use Rattle.m88_base.specs.Reg.{number_of};
 ghost use Rattle.m88_event.specs.Choice.{answer_choice, end_by, faults, finishes, issues, passes, replies, serves, turn_choice};
 ghost use Rattle.m88_event.specs.Local.{record_by};
@@ -21,6 +21,8 @@ ghost use Rattle.m88_dunit.specs.Pending.{CanIssue};
 ghost use Rattle.m88_iunit.specs.Pointers.{resumed};
 ghost use Rattle.m88_board.specs.Kept.{epsr_of, most_events, most_retired};
 ghost use Rattle.m88_board.specs.Moves.{Did, Does, IsAt, IsUnmoved, stopping};
+ghost use Rattle.m88_board.specs.Shown.{IsRecordOf, ShowsFault};
+ghost use Rattle.m88_event.specs.declared.happened.Happened.{Happened as HappenedValue};
 
 use crate::unit::{advance, complete, lacks_word, prepare, put_in, serve_all, visit, write};
 use m88_base::{Absent, Image, NoMemory, Reg};
@@ -157,6 +159,8 @@ impl Board {
         ensures value { (p : Program) → IsProgramOf self.now.memory.image p
             → result ≡ record_by p self.now.limit (local_of self.now) }
         ensures resumes { resumed self.now.slots result.snip result.sfip ≡ self.now.slots }
+        ensures words { is_some self.now.ended ≡ false
+            → IsRecordOf result self.now.pending self.now.control }
         ensures ssbr { bit_at result.ssbr 0 ≡ 0 }
     {
         let (sxip, snip, sfip) = self.iunit.shadow();
@@ -201,6 +205,7 @@ impl Board {
         ensures record { IfOk result (λ fault. (p : Program) → IsProgramOf self.old.memory.image p
             → fault ≡ record_by p self.old.limit (local_of self.old)) }
         ensures does { IfOk result (λ fault. Does faults fault self.old self.new) }
+        ensures shows { IfOk result (λ fault. ShowsFault fault self.new.control) }
         ensures events { self.new.events ≡ self.old.events }
         ensures err { OnErr result (IsUnmoved self.old self.new) }
     {
@@ -227,6 +232,8 @@ impl Board {
             (record_by p self.old.limit (local_of self.old)) self.old happened self.new) }
         ensures events { self.new.events ≡ self.old.events }
         ensures shorter { OnOk result (length self.new.pending ≤ length self.old.pending - 1) }
+        ensures shows { IfOk result (λ happened. (fault : RecordValue)
+            → happened ≡ HappenedValue.Faulted fault → ShowsFault fault self.new.control) }
         ensures err { OnErr result (IsUnmoved self.old self.new) }
     {
         let Some(oldest) = self.dunit.oldest() else {

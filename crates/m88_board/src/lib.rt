@@ -10,6 +10,8 @@ mod unit;
 // who watches it
 mod glance;
 mod mem_watch;
+#[cfg(test)]
+mod tests;
 mod watch;
 
 pub use board::Board;

@@ -17,6 +17,7 @@ ghost use Rattle.m88_scoreboard.specs.Registers.{none_waits, waiting_of};
 ghost use Rattle.m88_board.specs.Board.{cells_of};
 ghost use Rattle.m88_board.specs.Kept.{AreReady, HasReadyPage, PartsAgree, SlotsAgree, StaysReady, lacks_word};
 ghost use Rattle.m88_board.specs.Moves.{IsAdvanced};
+ghost use Rattle.m88_board.specs.Shown.{IsRecordOf, ShowsFault};
 
 use m88_base::{NoMemory, Reg, Triple};
 use m88_ctrl::{Control, Frame};
@@ -212,6 +213,7 @@ pub(crate) fn serve_all(
     ensures done { result.0 ≡ length unit.old }
     ensures snip { result.1 ≡ fault.snip }
     ensures sfip { result.2 ≡ fault.sfip }
+    ensures shows { IsRecordOf fault unit.old ctrl.old → ShowsFault fault ctrl.new }
 {
     let triples = unit.freeze();
     let frame = Frame {

@@ -10,6 +10,9 @@ ghost use Rattle.m88_board.specs.Board.{local_of};
 ghost use Rattle.m88_isa.specs.ImageProgram.{IsProgramOf};
 ghost use Rattle.m88_board.specs.Kept.{most_events};
 ghost use Rattle.m88_board.specs.Moves.{Did, IsAt, IsMove, IsUnmoved};
+ghost use Rattle.m88_board.specs.Shown.{ShowsFault};
+ghost use Rattle.m88_event.specs.declared.happened.Happened.{Happened as HappenedValue};
+ghost use Rattle.m88_event.specs.declared.record.Record.{Record as RecordValue};
 
 use super::Board;
 use m88_base::NoMemory;
@@ -19,11 +22,13 @@ impl Board {
     /// What a letter makes the board do; the event isn't counted yet.
     fn take(&mut self, letter: Letter) -> Result<Happened, NoMemory>
         ensures ok { IfOk result (λ happened. (p : Program) → IsProgramOf self.old.memory.image p
-            → Did (choice_by p self.old.limit letter (local_of self.old)) (record_by p self.old.limit (local_of self.old))
-            self.old happened self.new) }
+            → Did (choice_by p self.old.limit letter (local_of self.old))
+            (record_by p self.old.limit (local_of self.old)) self.old happened self.new) }
         ensures events { self.new.events ≡ self.old.events }
         ensures shorter { letter ≡ LetterValue.Answer
             → OnOk result (length self.new.pending ≤ length self.old.pending - 1) }
+        ensures shows { letter ≡ LetterValue.Answer → IfOk result (λ happened. (fault : RecordValue)
+            → happened ≡ HappenedValue.Faulted fault → ShowsFault fault self.new.control) }
         ensures err { OnErr result (IsUnmoved self.old self.new) }
     {
         match letter {
@@ -50,6 +55,8 @@ impl Board {
         ensures counted { OnOk result (self.new.events ≡ self.old.events + 1) }
         ensures shorter { letter ≡ LetterValue.Answer
             → OnOk result (length self.new.pending ≤ length self.old.pending - 1) }
+        ensures shows { letter ≡ LetterValue.Answer → IfOk result (λ happened. (fault : RecordValue)
+            → happened ≡ HappenedValue.Faulted fault → ShowsFault fault self.new.control) }
         ensures err { OnErr result (IsUnmoved self.old self.new) }
     {
         let happened = self.take(letter)?;

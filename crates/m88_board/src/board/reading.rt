@@ -30,7 +30,7 @@ impl Board {
         ensures moment { (p : Program) (named : ℕ → Bool) (m : Moment) → IsAt p named m self.now
             → result ≡ is_over p self.now.limit m }
     {
-        self.dunit.oldest().is_none() && self.is_idle()
+        !self.is_pending() && self.is_idle()
     }
 
     /// The events so far.
@@ -79,9 +79,11 @@ impl Board {
 
     /// The value of a register, or None where it waits for a load.
     pub fn register(&self, r: Reg) -> Option<u32>
-        ensures value { result ≡ register_seen self.now.pending (completed_of self.now).regs (number_of r) }
+        ensures value { result
+            ≡ register_seen self.now.pending (completed_of self.now).regs (number_of r) }
         ensures moment { (p : Program) (named : ℕ → Bool) (m : Moment) → IsAt p named m self.now
-            → result ≡ register_seen (pending_at p m.retired m.done) (state p m.retired).regs (number_of r) }
+            → result
+            ≡ register_seen (pending_at p m.retired m.done) (state p m.retired).regs (number_of r) }
     {
         self.regs.get(r).ok()
     }

@@ -25,7 +25,8 @@ impl Board {
         ensures outcome { IfOk result (λ o. (p : Program) (named : ℕ → Bool) → IsProgram p
             → IsAt p named opening_moment self → IsOutcome p named self.limit schedule.now o) }
         ensures only { (p : Program) (named : ℕ → Bool) (o other : OutcomeValue)
-            → IsOutcome p named self.limit schedule.now o → IsOutcome p named self.limit schedule.now other
+            → IsOutcome p named self.limit schedule.now o
+            → IsOutcome p named self.limit schedule.now other
             → o ≡ other }
         ensures within { IfOk result (λ o. o.events ≤ length schedule.now + 8 * self.limit + 8) }
         ensures watched { IfOk result (λ o. (p : Program) (named : ℕ → Bool) → IsProgram p
@@ -49,14 +50,14 @@ impl Board {
         ensures ok { OnOk result ((p : Program) (named : ℕ → Bool) (m : Moment) → IsProgram p
             → IsAt p named m self.old
             → (events : ℕ) × IsDrain p named self.old.limit m events
-            × IsAlong p named (answered_after p named self.old.limit m) events (W.seen watch.old) (W.seen watch.new)
-            self.new) }
+            × IsAlong p named (answered_after p named self.old.limit m) events
+            (W.seen watch.old) (W.seen watch.new) self.new) }
         ensures empty { OnOk result (self.new.pending ≡ []) }
         ensures err { OnErr result ((p : Program) (named : ℕ → Bool) (m : Moment) → IsProgram p
             → IsAt p named m self.old
             → (events : ℕ) × IsDraining p named self.old.limit m events
-            × IsAlong p named (answered_after p named self.old.limit m) events (W.seen watch.old) (W.seen watch.new)
-            self.new) }
+            × IsAlong p named (answered_after p named self.old.limit m) events
+            (W.seen watch.old) (W.seen watch.new) self.new) }
     {
         while self.dunit.oldest().is_some() {
             self.step(Letter::Answer, watch)?;
@@ -70,10 +71,11 @@ impl Board {
         ensures ok { OnOk result ((p : Program) (named : ℕ → Bool) → IsProgram p
             → IsAt p named opening_moment self.old
             → IsRun p named self.old.limit schedule.now self.new.events
-            × IsAlong p named (moment_after p named self.old.limit schedule.now) self.new.events (W.seen watch.old)
-            (W.seen watch.new) self.new
+            × IsAlong p named (moment_after p named self.old.limit schedule.now) self.new.events
+            (W.seen watch.old) (W.seen watch.new) self.new
             × (self.new.limit ≡ self.old.limit)) }
-        ensures within { OnOk result (self.new.events ≤ length schedule.now + 8 * self.old.limit + 8) }
+        ensures within { OnOk result
+            (self.new.events ≤ length schedule.now + 8 * self.old.limit + 8) }
         ensures err { OnErr result ((p : Program) (named : ℕ → Bool) → IsProgram p
             → IsAt p named opening_moment self.old
             → (events : ℕ) × IsRunning p named self.old.limit schedule.now events

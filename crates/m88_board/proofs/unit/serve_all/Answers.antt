@@ -1,5 +1,5 @@
 -- The monitor finishes the pending transactions.
-use Rattle.std.proofs.Common.{◌∙◌, ap, List, ℕ}
+use Rattle.std.proofs.Common.{◌∙◌, ap, subst, sym, List, ℕ}
 use Rattle.std.specs.Prelude.{slice_index_or}
 use Rattle.m88_base.specs.Triple.{no_triple}
 use Rattle.m88_base.specs.declared.triple.Triple.{Triple}
@@ -8,6 +8,7 @@ use Rattle.m88_isa.specs.Bus.{after_accesses}
 use Rattle.m88_mem.specs.DataBus.{bus_of, ready_of}
 use Rattle.m88_monitor.specs.Serving.{Serving, serving_of}
 use Rattle.m88_board.proofs.Keeping.{no_members}
+use Rattle.m88_board.proofs.Recorded.{IsServed, served_control, shows_fault}
 use Rattle.m88_board.proofs.Service.{can_serve, served_absent, served_cells}
 use Rattle.m88_board.proofs.unit.serve_all.Goals as goal
 
@@ -44,3 +45,20 @@ returns-clause-absent c =
     (ap (λ (r : ControlRegisters). r.t1) c.enter.ensures.state ∙ ap (λ (ts : List Triple). slice_index_or ts 1 no_triple) c.freeze-triples.ensures.value)
     (ap (λ (r : ControlRegisters). r.t2) c.enter.ensures.state ∙ ap (λ (ts : List Triple). slice_index_or ts 2 no_triple) c.freeze-triples.ensures.value)
     c.requires.agree.made c.requires.agree.few
+
+pub returns-clause-shows : goal.returns-clause-shows
+returns-clause-shows c = λ of.
+    let t0 = ap (λ (r : ControlRegisters). r.t0) c.enter.ensures.state ∙ ap (λ (ts : List Triple). slice_index_or ts 0 no_triple) c.freeze-triples.ensures.value in
+    let t1 = ap (λ (r : ControlRegisters). r.t1) c.enter.ensures.state ∙ ap (λ (ts : List Triple). slice_index_or ts 1 no_triple) c.freeze-triples.ensures.value in
+    let t2 = ap (λ (r : ControlRegisters). r.t2) c.enter.ensures.state ∙ ap (λ (ts : List Triple). slice_index_or ts 2 no_triple) c.freeze-triples.ensures.value in
+    let served = served_control c.args.unit.now (serving_of c.enter.new.self c.restore.new.self c.args.memory.now) t0 t1 t2
+    c.requires.agree.made c.requires.agree.few c.requires.agree.apart
+    (ap (λ (r : ControlRegisters). r.ssbr) c.enter.ensures.state ∙ of.ssbr) in
+    shows_fault c.args.fault c.args.unit.now c.args.ctrl.now c.enter.new.self c.serve-served.new.ctrl c.rte-restart.new.self of
+    (ap (λ (r : ControlRegisters). r.epsr) c.enter.ensures.state)
+    (ap (λ (r : ControlRegisters). r.sxip) c.enter.ensures.state)
+    (ap (λ (r : ControlRegisters). r.snip) c.enter.ensures.state)
+    (ap (λ (r : ControlRegisters). r.sfip) c.enter.ensures.state)
+    t0 t1 t2
+    (subst (λ (s : Serving). IsServed c.enter.new.self s.control) (sym c.serve-served.ensures.served) served)
+    c.rte-restart.ensures.state

@@ -1,5 +1,8 @@
 -- The event is the move of what is seen, and so goes along the timeline.
+use Rattle.std.proofs.Common.{subst, sym}
 use Rattle.m88_board.proofs.Moving.{along, moved_by, precise_on, says_so}
+use Rattle.m88_board.specs.Board.{BoardView}
+use Rattle.m88_board.specs.Shown.{ShowsFault}
 use Rattle.m88_board.proofs.board.Board.event.Goals as goal
 
 pub returns-clause-moved : goal.returns-clause-moved
@@ -24,3 +27,8 @@ returns-clause-precise c = λ p of last.
     precise_on p c.args.letter c.args.self.now c.in_ok-happened.happened c.count.new.self
     (moved_by p c.args.letter c.args.self.now c.take.new.self c.in_ok-happened.happened c.count.new.self c.count.ensures
     (c.in_ok-happened.ensures.ok p of)) last
+
+pub returns-clause-shows : goal.returns-clause-shows
+returns-clause-shows c = λ answers fault says.
+    subst (λ (b : BoardView). ShowsFault fault b.control) (sym c.count.ensures)
+    (c.in_ok-happened.ensures.shows answers fault says)
