@@ -14,7 +14,7 @@ use Rattle.m88_event.specs.Situation.{record_of}
 use Rattle.m88_isa.specs.Address.{after_bytes}
 use Rattle.m88_isa.specs.Machine.{Program, four_bytes}
 use Rattle.m88_isa.specs.Triples.{triples_of}
-use Rattle.m88_iunit.specs.Pointers.{squashed_slot, valid_slot, word_behind, word_of}
+use Rattle.m88_iunit.specs.Pointers.{squashed_slot, valid_slot, word_behind, slot_word}
 use Rattle.m88_iunit.specs.declared.slot.Slot.{Slot}
 use Rattle.m88_scoreboard.specs.Registers.{waiting_of}
 use Rattle.m88_board.specs.Board.{BoardView, completed_of, local_of, pointer_of}
@@ -47,9 +47,9 @@ pub piped : (p : Program) (b : BoardView) → IsProgramOf b.memory.image p → I
     record {
       event = b.events + 1;
       epsr = epsr_of b;
-      sxip = word_of b.slots.xip;
-      snip = word_of b.slots.nip;
-      sfip = word_of b.slots.fip;
+      sxip = slot_word b.slots.xip;
+      snip = slot_word b.slots.nip;
+      sfip = slot_word b.slots.fip;
       ssbr = register_bits (waiting_of b.file);
       triples = triples_of b.pending;
     } ≡ record_by p b.limit (local_of b)
@@ -60,7 +60,7 @@ piped p b of kept =
     λ i. record {
       event = b.events + 1;
       epsr = kept.status i;
-      sxip = word_of b.slots.xip;
+      sxip = slot_word b.slots.xip;
       snip = pointer_word (nip i);
       sfip = pointer_word (fip i);
       ssbr = register_bits (kept.parts.waiting i);
@@ -80,9 +80,9 @@ pub piped_by : (p : Program) (b : BoardView) (epsr sxip snip sfip ssbr : ℕ) (t
     IsProgramOf b.memory.image p →
     IsKept b →
     epsr ≡ epsr_of b →
-    sxip ≡ word_of b.slots.xip →
-    snip ≡ word_of b.slots.nip →
-    sfip ≡ word_of b.slots.fip →
+    sxip ≡ slot_word b.slots.xip →
+    snip ≡ slot_word b.slots.nip →
+    sfip ≡ slot_word b.slots.fip →
     ssbr ≡ register_bits (waiting_of b.file) →
     triples ≡ triples_of b.pending →
     record {
@@ -106,9 +106,9 @@ piped_by p b epsr sxip snip sfip ssbr triples of kept status first second third 
     } ≡ record {
       event = b.events + 1;
       epsr = epsr_of b;
-      sxip = word_of b.slots.xip;
-      snip = word_of b.slots.nip;
-      sfip = word_of b.slots.fip;
+      sxip = slot_word b.slots.xip;
+      snip = slot_word b.slots.nip;
+      sfip = slot_word b.slots.fip;
       ssbr = register_bits (waiting_of b.file);
       triples = triples_of b.pending;
     } = λ i. record {
