@@ -8,18 +8,22 @@ use Rattle.m88_base.proofs.RegisterBits.{bit_of_member}
 use Rattle.m88_base.specs.Image.{byte_at}
 use Rattle.m88_base.specs.RegisterSet.{register_bits}
 use Rattle.m88_base.specs.declared.triple.Triple.{Triple}
-use Rattle.m88_event.specs.Local.{record_by, situation_of}
+use Rattle.m88_event.proofs.Follows.{same_situation}
+use Rattle.m88_event.specs.Local.{Local, record_by, situation_of}
 use Rattle.m88_event.specs.Shadow.{fip_of, nip_of, pointer_word}
 use Rattle.m88_event.specs.Situation.{record_of}
+use Rattle.m88_event.specs.Timeline.{Moment, record_at}
+use Rattle.m88_event.specs.declared.record.Record.{Record}
 use Rattle.m88_isa.specs.Address.{after_bytes}
 use Rattle.m88_isa.specs.Machine.{Program, four_bytes}
 use Rattle.m88_isa.specs.Triples.{triples_of}
-use Rattle.m88_iunit.specs.Pointers.{squashed_slot, valid_slot, word_behind, word_of}
+use Rattle.m88_iunit.specs.Pointers.{squashed_slot, valid_slot, word_behind, slot_word}
 use Rattle.m88_iunit.specs.declared.slot.Slot.{Slot}
 use Rattle.m88_scoreboard.specs.Registers.{waiting_of}
 use Rattle.m88_board.specs.Board.{BoardView, completed_of, local_of, pointer_of}
 use Rattle.m88_isa.specs.ImageProgram.{IsProgramOf}
 use Rattle.m88_board.specs.Kept.{IsKept, epsr_of}
+use Rattle.m88_board.specs.Moves.{IsAt}
 use Rattle.m88_board.proofs.Agree.{zero_waits_not}
 
 -- NIP is the next instruction, or the one that is passed over
@@ -47,9 +51,9 @@ pub piped : (p : Program) (b : BoardView) → IsProgramOf b.memory.image p → I
     record {
       event = b.events + 1;
       epsr = epsr_of b;
-      sxip = word_of b.slots.xip;
-      snip = word_of b.slots.nip;
-      sfip = word_of b.slots.fip;
+      sxip = slot_word b.slots.xip;
+      snip = slot_word b.slots.nip;
+      sfip = slot_word b.slots.fip;
       ssbr = register_bits (waiting_of b.file);
       triples = triples_of b.pending;
     } ≡ record_by p b.limit (local_of b)
@@ -60,7 +64,7 @@ piped p b of kept =
     λ i. record {
       event = b.events + 1;
       epsr = kept.status i;
-      sxip = word_of b.slots.xip;
+      sxip = slot_word b.slots.xip;
       snip = pointer_word (nip i);
       sfip = pointer_word (fip i);
       ssbr = register_bits (kept.parts.waiting i);
@@ -80,9 +84,9 @@ pub piped_by : (p : Program) (b : BoardView) (epsr sxip snip sfip ssbr : ℕ) (t
     IsProgramOf b.memory.image p →
     IsKept b →
     epsr ≡ epsr_of b →
-    sxip ≡ word_of b.slots.xip →
-    snip ≡ word_of b.slots.nip →
-    sfip ≡ word_of b.slots.fip →
+    sxip ≡ slot_word b.slots.xip →
+    snip ≡ slot_word b.slots.nip →
+    sfip ≡ slot_word b.slots.fip →
     ssbr ≡ register_bits (waiting_of b.file) →
     triples ≡ triples_of b.pending →
     record {
@@ -106,9 +110,9 @@ piped_by p b epsr sxip snip sfip ssbr triples of kept status first second third 
     } ≡ record {
       event = b.events + 1;
       epsr = epsr_of b;
-      sxip = word_of b.slots.xip;
-      snip = word_of b.slots.nip;
-      sfip = word_of b.slots.fip;
+      sxip = slot_word b.slots.xip;
+      snip = slot_word b.slots.nip;
+      sfip = slot_word b.slots.fip;
       ssbr = register_bits (waiting_of b.file);
       triples = triples_of b.pending;
     } = λ i. record {
@@ -121,3 +125,11 @@ piped_by p b epsr sxip snip sfip ssbr triples of kept status first second third 
       triples = all i;
     } in
     same ∙ piped p b of kept
+
+-- and at a moment
+pub piped_at : (p : Program) (named : ℕ → Bool) (m : Moment) (b : BoardView) (fault : Record) →
+    IsAt p named m b →
+    fault ≡ record_by p b.limit (local_of b) →
+    fault ≡ record_at p named b.limit m
+piped_at p named m b fault at is =
+    is ∙ ap (λ (l : Local). record_by p b.limit l) at.seen ∙ ap (record_of p) (same_situation p named b.limit m)

@@ -9,7 +9,7 @@ ghost use Rattle.m88_event.specs.declared.outcome.Outcome.{Outcome as OutcomeVal
 ghost use Rattle.m88_isa.specs.Machine.{IsProgram, Program};
 ghost use Rattle.m88_board.specs.Glances.{Saw, glance_at, glances_along};
 ghost use Rattle.m88_board.specs.Kept.{most_events};
-ghost use Rattle.m88_board.specs.Moves.{IsAlong, IsAt, IsStep, IsUnmoved};
+ghost use Rattle.m88_board.specs.Moves.{IsAlong, IsAt, IsSameRun, IsStep, IsUnmoved};
 
 use super::Board;
 use crate::watch::Watch;
@@ -53,6 +53,7 @@ impl Board {
             × IsAlong p named (answered_after p named self.old.limit m) events
             (W.seen watch.old) (W.seen watch.new) self.new) }
         ensures empty { OnOk result (self.new.pending ≡ []) }
+        ensures same { IsSameRun self.old self.new }
         ensures err { OnErr result ((p : Program) (named : ℕ → Bool) (m : Moment) → IsProgram p
             → IsAt p named m self.old
             → (events : ℕ) × IsDraining p named self.old.limit m events
@@ -100,6 +101,7 @@ impl Board {
             → IsAt p named m self.old
             → IsStep p named letter m (W.seen watch.old) (W.seen watch.new) self.old self.new) }
         ensures counted { OnOk result (self.new.events ≡ self.old.events + 1) }
+        ensures same { OnOk result (IsSameRun self.old self.new) }
         ensures shorter { letter ≡ LetterValue.Answer
             → OnOk result (length self.new.pending ≤ length self.old.pending - 1) }
         ensures err { OnErr result (IsUnmoved self.old self.new) }
