@@ -139,6 +139,8 @@ kept_issued b accesses slots pending file memory control carry kept goes can roo
       answered = kept.answered;
       faulted = kept.faulted;
       within = one_more b goes kept.within;
+      early = λ ended. absurd (let no = going in cc);
+      ends = kept.ends;
       small = kept.small;
       counted = kept.counted;
     }
@@ -321,6 +323,8 @@ kept_faulted b file memory control slots pending done records fault kept some em
       answered = omega (arith, count, answered);
       faulted = omega (arith, more, longer, some, count, faulted);
       within = kept.within;
+      early = kept.early;
+      ends = kept.ends;
       small = kept.small;
       counted = kept.counted;
     }

@@ -19,7 +19,7 @@ ghost use Rattle.m88_isa.specs.ImageProgram.{IsProgramOf};
 ghost use Rattle.std.specs.Int.{bit_at};
 ghost use Rattle.m88_dunit.specs.Pending.{CanIssue};
 ghost use Rattle.m88_iunit.specs.Pointers.{resumed};
-ghost use Rattle.m88_board.specs.Kept.{epsr_of, most_events, most_retired};
+ghost use Rattle.m88_board.specs.Kept.{IsProgramEnd, epsr_of, most_events, most_retired};
 ghost use Rattle.m88_board.specs.Moves.{Did, Does, IsAt, IsSameRun, IsStill, IsUnmoved, stopping};
 ghost use Rattle.m88_board.specs.Shown.{IsRecordOf, ShowsFault};
 ghost use Rattle.m88_event.specs.declared.happened.Happened.{Happened as HappenedValue};
@@ -257,6 +257,7 @@ impl Board {
         requires vector { vector < 512 }
         requires going { is_idle_board self.old ≡ false }
         requires empty { self.old.pending ≡ [] }
+        requires ends { IsProgramEnd end }
         ensures { (stop : Stop) (fault : RecordValue) → end ≡ end_by stop
             → Did (finishes stop) fault self.old result self.new }
     {
