@@ -28,7 +28,7 @@ does_events choice fault old new does =
     ap (λ (l : Local). l.events) does.moved ∙ moved_events choice fault (local_of old)
 
 -- a record, where a choice needs none
-no_record : Record
+pub no_record : Record
 no_record = record { event = 0; epsr = 0; sxip = 0; snip = 0; sfip = 0; ssbr = 0; triples = [] }
 
 -- by a choice that is no data fault
@@ -47,6 +47,5 @@ pub events_kept : (choice : Choice) (r : Result Happened NoMemory) (old new : Bo
     IfOk r (λ h. (fault : Record) → Did choice fault old h new) →
     OnErr r (IsUnmoved old new) →
     new.events ≡ old.events
-unfolding local_of
 events_kept choice (Ok h) old new did still = did_events choice old h new did
-events_kept choice (Err e) old new did still = ap (λ (l : Local). l.events) still.seen
+events_kept choice (Err e) old new did still = ap (λ (b : BoardView). b.events) still.rest

@@ -1,6 +1,6 @@
 -- What a run came to, from the parts of a board that is over.
-use Rattle.std.specs.Prelude.{ℕ, Bool, true, false, not, List, [], ◌≡◌, ◌&&◌, unwrap_or}
-use Rattle.std.proofs.Common.{refl, sym, ap, ap₂, ◌∙◌}
+use Rattle.std.specs.Prelude.{ℕ, Bool, true, false, not, List, [], Option, Some, None, IfSome, ◌≡◌, ◌↔◌, ◌<◌, ◌==◌, ◌&&◌, ◌||◌, is_some, unwrap_or}
+use Rattle.std.proofs.Common.{arith, refl, sym, ap, ap₂, ◌∙◌, subst}
 use Rattle.std.proofs.lemmas.Bool.{eqb-true}
 use Rattle.m88_ctrl.specs.ControlRegisters.{carry_of}
 use Rattle.m88_event.proofs.Over.{drained_bus}
@@ -19,9 +19,10 @@ use Rattle.m88_mem.specs.DataBus.{bus_of, image_bus}
 use Rattle.m88_scoreboard.specs.Registers.{none_waits, waiting_of}
 use Rattle.m88_board.proofs.Moving.{empty_of}
 use Rattle.m88_board.proofs.Running.{drained_by}
+use Rattle.m88_board.proofs.Shown.{over_at}
 use Rattle.m88_board.proofs.Starting.{same_bytes}
-use Rattle.m88_board.specs.Board.{BoardView, cells_of, completed_of, local_of}
-use Rattle.m88_board.specs.Kept.{IsKept}
+use Rattle.m88_board.specs.Board.{BoardView, cells_of, completed_of, is_idle_board, local_of}
+use Rattle.m88_board.specs.Kept.{IsKept, IsProgramEnd}
 use Rattle.m88_board.specs.Moves.{IsAt}
 
 -- both of two tests hold
@@ -117,3 +118,35 @@ came_to p named m b end regs carry out changed records is kept at over ends valu
       answers = (at.seen i).answers;
       records = records_are i;
     }
+
+-- a run that is over ended by its limit exactly where it retired as many
+limited_by : (ended : Option End) (retired limit : ℕ) (end : End) →
+    (is_some ended ≡ true → retired < limit) →
+    IfSome ended IsProgramEnd →
+    (is_some ended || retired == limit) ≡ true →
+    end ≡ unwrap_or ended Limit →
+    (end ≡ Limit) ↔ (retired ≡ limit)
+limited_by None retired limit end early ends idle is = (λ h. eqb-true retired limit idle, λ h. is)
+limited_by (Some e) retired limit end early ends idle is = (
+  λ h. absurd (subst IsProgramEnd (sym is ∙ h) ends),
+  λ h. absurd (let less = early refl in omega (arith, less, h)),
+)
+
+second_of : (a b : Bool) → (a && b) ≡ true → b ≡ true
+second_of true b h = h
+second_of false b h = absurd cc
+
+over_idle : (p : Program) (named : ℕ → Bool) (m : Moment) (b : BoardView) → IsAt p named m b → is_over p b.limit m ≡ true →
+    is_idle_board b ≡ true
+unfolding local_of
+over_idle p named m b at over =
+    second_of (not (is_pending b.pending)) (is_idle_board b) (over_at p named m b at ∙ over)
+
+pub limited : (p : Program) (named : ℕ → Bool) (m : Moment) (b : BoardView) (end : End) →
+    IsKept b →
+    IsAt p named m b →
+    is_over p b.limit m ≡ true →
+    end ≡ unwrap_or b.ended Limit →
+    (end ≡ Limit) ↔ (b.retired ≡ b.limit)
+limited p named m b end kept at over is =
+    limited_by b.ended b.retired b.limit end kept.early kept.ends (over_idle p named m b at over) is

@@ -139,6 +139,8 @@ kept_issued b accesses slots pending file memory control carry kept goes can roo
       answered = kept.answered;
       faulted = kept.faulted;
       within = one_more b goes kept.within;
+      early = λ ended. absurd (let no = going in cc);
+      ends = kept.ends;
       small = kept.small;
       counted = kept.counted;
     }
@@ -186,31 +188,38 @@ pub unmoved : (b : BoardView) (memory : MemoryView) →
     absent_of memory ≡ absent_of b.memory →
     memory.image ≡ b.memory.image →
     IsUnmoved b (record b { memory = memory })
+unmoved b memory bus absent image = record { rest = refl; image = image; bus = bus; absent = absent }
+
+-- what is seen of it stays
+seen_with : (b : BoardView) (memory : MemoryView) →
+    bus_of memory ≡ bus_of b.memory →
+    absent_of memory ≡ absent_of b.memory →
+    local_of (record b { memory = memory }) ≡ local_of b
 unfolding local_of completed_of
-unmoved b memory bus absent image = record {
-  seen = λ i. record {
-    completed = record {
-      regs = (after_accesses b.pending (record { regs = b.file.numbers; bus = bus i })).regs;
-      carry = carry_of b.control;
-      pc = (local_of b).completed.pc;
-      next = (local_of b).completed.next;
-      bus = (after_accesses b.pending (record { regs = b.file.numbers; bus = bus i })).bus;
-      out = b.out;
-    };
-    bus = bus i;
-    pending = b.pending;
-    xip = (local_of b).xip;
-    bubble = not b.slots.nip.v;
-    ended = b.ended;
-    absent = absent i;
-    retired = b.retired;
-    done = b.done;
-    events = b.events;
-    answers = b.answers;
-    records = b.records;
+seen_with b memory bus absent = λ i. record {
+  completed = record {
+    regs = (after_accesses b.pending (record { regs = b.file.numbers; bus = bus i })).regs;
+    carry = carry_of b.control;
+    pc = (local_of b).completed.pc;
+    next = (local_of b).completed.next;
+    bus = (after_accesses b.pending (record { regs = b.file.numbers; bus = bus i })).bus;
+    out = b.out;
   };
-  same = record { limit = refl; image = image };
+  bus = bus i;
+  pending = b.pending;
+  xip = (local_of b).xip;
+  bubble = not b.slots.nip.v;
+  ended = b.ended;
+  absent = absent i;
+  retired = b.retired;
+  done = b.done;
+  events = b.events;
+  answers = b.answers;
+  records = b.records;
 }
+
+pub unmoved_seen : (old new : BoardView) → IsUnmoved old new → local_of new ≡ local_of old
+unmoved_seen old new still = ap local_of still.rest ∙ seen_with old new.memory still.bus still.absent
 
 -- where something is pending, it hasn't ended
 pub still_going : (b : BoardView) → IsKept b → 0 < length b.pending → is_some b.ended ≡ false
@@ -314,6 +323,8 @@ kept_faulted b file memory control slots pending done records fault kept some em
       answered = omega (arith, count, answered);
       faulted = omega (arith, more, longer, some, count, faulted);
       within = kept.within;
+      early = kept.early;
+      ends = kept.ends;
       small = kept.small;
       counted = kept.counted;
     }

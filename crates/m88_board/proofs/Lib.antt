@@ -10,6 +10,7 @@ pub mod Starting
 pub mod Issuing
 pub mod Fetching
 pub mod Counting
+pub mod Still
 pub mod Seeing
 pub mod Shown
 pub mod Running

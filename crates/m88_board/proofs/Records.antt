@@ -8,9 +8,12 @@ use Rattle.m88_base.proofs.RegisterBits.{bit_of_member}
 use Rattle.m88_base.specs.Image.{byte_at}
 use Rattle.m88_base.specs.RegisterSet.{register_bits}
 use Rattle.m88_base.specs.declared.triple.Triple.{Triple}
-use Rattle.m88_event.specs.Local.{record_by, situation_of}
+use Rattle.m88_event.proofs.Follows.{same_situation}
+use Rattle.m88_event.specs.Local.{Local, record_by, situation_of}
 use Rattle.m88_event.specs.Shadow.{fip_of, nip_of, pointer_word}
 use Rattle.m88_event.specs.Situation.{record_of}
+use Rattle.m88_event.specs.Timeline.{Moment, record_at}
+use Rattle.m88_event.specs.declared.record.Record.{Record}
 use Rattle.m88_isa.specs.Address.{after_bytes}
 use Rattle.m88_isa.specs.Machine.{Program, four_bytes}
 use Rattle.m88_isa.specs.Triples.{triples_of}
@@ -20,6 +23,7 @@ use Rattle.m88_scoreboard.specs.Registers.{waiting_of}
 use Rattle.m88_board.specs.Board.{BoardView, completed_of, local_of, pointer_of}
 use Rattle.m88_isa.specs.ImageProgram.{IsProgramOf}
 use Rattle.m88_board.specs.Kept.{IsKept, epsr_of}
+use Rattle.m88_board.specs.Moves.{IsAt}
 use Rattle.m88_board.proofs.Agree.{zero_waits_not}
 
 -- NIP is the next instruction, or the one that is passed over
@@ -121,3 +125,11 @@ piped_by p b epsr sxip snip sfip ssbr triples of kept status first second third 
       triples = all i;
     } in
     same ∙ piped p b of kept
+
+-- and at a moment
+pub piped_at : (p : Program) (named : ℕ → Bool) (m : Moment) (b : BoardView) (fault : Record) →
+    IsAt p named m b →
+    fault ≡ record_by p b.limit (local_of b) →
+    fault ≡ record_at p named b.limit m
+piped_at p named m b fault at is =
+    is ∙ ap (λ (l : Local). record_by p b.limit l) at.seen ∙ ap (record_of p) (same_situation p named b.limit m)

@@ -13,6 +13,7 @@ use Rattle.m88_isa.proofs.Alone.{by_test}
 use Rattle.m88_isa.specs.Held.{is_pending}
 use Rattle.m88_isa.specs.Machine.{IsProgram, Program}
 use Rattle.m88_isa.specs.declared.planned.Access.{Access}
+use Rattle.m88_board.proofs.Keeping.{unmoved_seen}
 use Rattle.m88_board.proofs.Seeing.{saw_none, saw_then}
 use Rattle.m88_board.specs.Board.{BoardView, local_of}
 use Rattle.m88_board.specs.Glances.{Saw, glance_at, glances_along}
@@ -114,9 +115,9 @@ runs_out p named schedule k start b before after is runs most =
 pub still_at : (p : Program) (named : ℕ → Bool) (m : Moment) (b c : BoardView) → IsUnmoved b c → IsAt p named m b →
     IsAt p named m c
 still_at p named m b c unmoved at = record {
-  image = subst (λ image. IsProgramOf image p) (sym unmoved.same.image) at.image;
+  image = subst (λ image. IsProgramOf image p) (sym unmoved.image) at.image;
   within = at.within;
-  seen = unmoved.seen ∙ at.seen;
+  seen = unmoved_seen b c unmoved ∙ at.seen;
 }
 
 -- what holds of draining after as many events

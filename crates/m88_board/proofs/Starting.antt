@@ -89,6 +89,8 @@ kept limit entry e0 e1 file memory small none first second = record {
   answered = omega arith;
   faulted = omega arith;
   within = omega arith;
+  early = λ h. absurd cc;
+  ends = tt;
   small = small;
   counted = omega arith;
 }

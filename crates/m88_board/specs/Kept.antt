@@ -1,8 +1,10 @@
 -- What always holds of a board.
-use Rattle.std.specs.Prelude.{ℕ, Bool, true, List, [], All, ◌≡◌, ◌≤◌, ◌+◌, ◌*◌, ◌^◌, is_none, is_some, length, if◌then◌else◌}
+use Rattle.std.specs.Prelude.{ℕ, Bool, true, List, [], All, IfSome, ◌≡◌, ◌<◌, ◌≤◌, ◌+◌, ◌*◌, ◌^◌, is_none, is_some, length, if◌then◌else◌}
 use Rattle.m88_base.specs.Image.{ProgramImage, byte_at}
 use Rattle.m88_ctrl.specs.ControlRegisters.{carry_of}
 use Rattle.m88_event.specs.Shadow.{status_of}
+use Rattle.m88_event.specs.declared.happened.End.{End}
+use Rattle.m88_event.specs.declared.happened.End.TheVariants.{Limit}
 use Rattle.m88_isa.specs.Bus.{page_number, LoadApart, waits_for}
 use Rattle.m88_isa.specs.Held.{most_pending}
 use Rattle.m88_isa.specs.Machine.{four_bytes}
@@ -58,6 +60,11 @@ pub record SlotsAgree (image : ProgramImage) (slots : Pointers) : Type 0 where
 abbrev pub epsr_of : BoardView → ℕ
 epsr_of b = if is_some b.ended then b.control.epsr else b.control.psr
 
+-- an end that a program comes to by itself
+abbrev pub IsProgramEnd : End → Type 0
+IsProgramEnd Limit = ⊥
+IsProgramEnd _ = Unit {0}
+
 -- what always holds of a board
 pub record IsKept (b : BoardView) : Type 0 where
   pub parts : PartsAgree b.pending b.file b.memory
@@ -68,5 +75,7 @@ pub record IsKept (b : BoardView) : Type 0 where
   pub answered : b.answers ≤ b.done
   pub faulted : length b.records ≤ b.done
   pub within : b.retired ≤ b.limit
+  pub early : is_some b.ended ≡ true → b.retired < b.limit
+  pub ends : IfSome b.ended IsProgramEnd
   pub small : b.limit ≤ most_retired
   pub counted : b.events ≤ most_events

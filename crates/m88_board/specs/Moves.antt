@@ -5,10 +5,12 @@ use Rattle.m88_event.specs.Local.{local_at, move, move_by, said_by}
 use Rattle.m88_event.specs.Shadow.{retired_pointer}
 use Rattle.m88_event.specs.Timeline.{DoneWereMade, Moment, after_letter}
 use Rattle.m88_event.specs.declared.happened.Happened.{Happened}
+use Rattle.m88_event.specs.declared.happened.Happened.TheVariants as happened
 use Rattle.m88_event.specs.declared.letter.Letter.{Letter}
 use Rattle.m88_event.specs.declared.record.Record.{Record}
 use Rattle.m88_isa.specs.Held.{is_pending, sync}
 use Rattle.m88_iunit.specs.Pointers.{Pointers}
+use Rattle.m88_mem.specs.DataBus.{absent_of, bus_of}
 use Rattle.m88_isa.specs.Machine.{Program, Stop}
 use Rattle.m88_isa.specs.declared.planned.Access.{Access}
 use Rattle.m88_board.specs.Board.{BoardView, local_of, next_of, pc_of, pointer_of}
@@ -63,10 +65,19 @@ pub record IsAlong (p : Program) (named : ℕ → Bool) (moments : ℕ → Momen
   pub at : IsAt p named (moments events) b
   pub saw : Saw before after (glances_along p moments events)
 
--- what is seen of it stays: memory ran out
+-- memory ran out: at most pages were made ready, and all else stays
 pub record IsUnmoved (old new : BoardView) : Type 0 where
-  pub seen : local_of new ≡ local_of old
-  pub same : IsSameRun old new
+  pub rest : new ≡ record old { memory = new.memory }
+  pub image : new.memory.image ≡ old.memory.image
+  pub bus : bus_of new.memory ≡ bus_of old.memory
+  pub absent : absent_of new.memory ≡ absent_of old.memory
+
+-- what an event says that changes nothing but the count of events: there was nothing to do, or the next instruction is
+-- held
+abbrev pub IsStill : Happened → Type 0
+IsStill happened.Idle = Unit {0}
+IsStill (happened.Stalled why) = Unit {0}
+IsStill _ = ⊥
 
 -- what raises waits for an empty data unit, and then ends the program
 abbrev pub stopping : Stop → List Access → Choice

@@ -1,10 +1,10 @@
 //! The board: its parts, and what a choice makes of them.
 
-ghost use Rattle.std.specs.Prelude.{◌&&◌, option_map, ◌≡◌, ◌<◌, ◌≤◌, ◌+◌, ◌-◌, ◌*◌, ◌%◌, ◌++◌, [], Option, Some, None, true, false, is_some, length, slice_get, IfOk, IfSome, OnErr, OnOk};
+ghost use Rattle.std.specs.Prelude.{ℕ, Bool, ◌&&◌, option_map, ◌≡◌, ◌<◌, ◌≤◌, ◌+◌, ◌-◌, ◌*◌, ◌%◌, ◌++◌, [], Option, Some, None, true, false, is_some, length, slice_get, IfOk, IfSome, OnErr, OnOk};
 ghost use Rattle.m88_base.specs.Reg.{number_of};
 ghost use Rattle.m88_event.specs.Choice.{answer_choice, end_by, faults, finishes, issues, passes, replies, serves, turn_choice};
 ghost use Rattle.m88_event.specs.Local.{record_by};
-ghost use Rattle.m88_event.specs.Timeline.{opening_moment};
+ghost use Rattle.m88_event.specs.Timeline.{Moment, opening_moment, record_at};
 ghost use Rattle.m88_event.specs.declared.record.Record.{Record as RecordValue};
 ghost use Rattle.m88_isa.specs.Bus.{page_number, LoadApart, listed, waits_for};
 ghost use Rattle.m88_mem.specs.DataBus.{absent_of};
@@ -19,8 +19,8 @@ ghost use Rattle.m88_isa.specs.ImageProgram.{IsProgramOf};
 ghost use Rattle.std.specs.Int.{bit_at};
 ghost use Rattle.m88_dunit.specs.Pending.{CanIssue};
 ghost use Rattle.m88_iunit.specs.Pointers.{resumed};
-ghost use Rattle.m88_board.specs.Kept.{epsr_of, most_events, most_retired};
-ghost use Rattle.m88_board.specs.Moves.{Did, Does, IsAt, IsUnmoved, stopping};
+ghost use Rattle.m88_board.specs.Kept.{IsProgramEnd, epsr_of, most_events, most_retired};
+ghost use Rattle.m88_board.specs.Moves.{Did, Does, IsAt, IsSameRun, IsStill, IsUnmoved, stopping};
 ghost use Rattle.m88_board.specs.Shown.{IsRecordOf, ShowsFault};
 ghost use Rattle.m88_event.specs.declared.happened.Happened.{Happened as HappenedValue};
 
@@ -112,6 +112,7 @@ impl Board {
         requires pages { NamesPages absent.now }
         requires small { limit ≤ most_retired }
         ensures limit { IfOk result (λ b. b.limit ≡ limit) }
+        ensures image { IfOk result (λ b. b.memory.image ≡ image.now) }
         ensures events { IfOk result (λ b. b.events ≡ 0) }
         ensures at { IfOk result (λ b. (p : Program) → IsProgramOf image.now p
             → IsAt p (absent_in absent.now) opening_moment b) }
@@ -158,6 +159,8 @@ impl Board {
     pub fn pipe(&self) -> Record
         ensures value { (p : Program) → IsProgramOf self.now.memory.image p
             → result ≡ record_by p self.now.limit (local_of self.now) }
+        ensures moment { (p : Program) (named : ℕ → Bool) (m : Moment) → IsAt p named m self.now
+            → result ≡ record_at p named self.now.limit m }
         ensures resumes { resumed self.now.slots result.snip result.sfip ≡ self.now.slots }
         ensures words { is_some self.now.ended ≡ false
             → IsRecordOf result self.now.pending self.now.control }
@@ -231,6 +234,8 @@ impl Board {
             → Did (answer_choice self.old.pending (absent_of self.old.memory))
             (record_by p self.old.limit (local_of self.old)) self.old happened self.new) }
         ensures events { self.new.events ≡ self.old.events }
+        ensures same { OnOk result (IsSameRun self.old self.new) }
+        ensures still { IfOk result (λ happened. IsStill happened → self.new ≡ self.old) }
         ensures shorter { OnOk result (length self.new.pending ≤ length self.old.pending - 1) }
         ensures shows { IfOk result (λ happened. (fault : RecordValue)
             → happened ≡ HappenedValue.Faulted fault → ShowsFault fault self.new.control) }
@@ -252,6 +257,7 @@ impl Board {
         requires vector { vector < 512 }
         requires going { is_idle_board self.old ≡ false }
         requires empty { self.old.pending ≡ [] }
+        requires ends { IsProgramEnd end }
         ensures { (stop : Stop) (fault : RecordValue) → end ≡ end_by stop
             → Did (finishes stop) fault self.old result self.new }
     {
@@ -323,9 +329,10 @@ impl Board {
         requires vector { vector < 512 }
         requires going { is_idle_board self.old ≡ false }
         requires valid { self.old.slots.nip.v ≡ true }
-        ensures { (fault : RecordValue) → Did
+        ensures does { (fault : RecordValue) → Did
             (stopping (by_vector vector (pc_of self.old.slots)) self.old.pending)
             fault self.old result self.new }
+        ensures still { IsStill result → self.new ≡ self.old }
     {
         if self.dunit.oldest().is_some() {
             return Happened::Stalled(Why::Sync);

@@ -9,7 +9,7 @@ ghost use Rattle.m88_isa.specs.Machine.{IsProgram, Program};
 ghost use Rattle.m88_board.specs.Board.{local_of};
 ghost use Rattle.m88_isa.specs.ImageProgram.{IsProgramOf};
 ghost use Rattle.m88_board.specs.Kept.{most_events};
-ghost use Rattle.m88_board.specs.Moves.{Did, IsAt, IsMove, IsUnmoved};
+ghost use Rattle.m88_board.specs.Moves.{Did, IsAt, IsMove, IsSameRun, IsStill, IsUnmoved};
 ghost use Rattle.m88_board.specs.Shown.{ShowsFault};
 ghost use Rattle.m88_event.specs.declared.happened.Happened.{Happened as HappenedValue};
 ghost use Rattle.m88_event.specs.declared.record.Record.{Record as RecordValue};
@@ -25,6 +25,8 @@ impl Board {
             → Did (choice_by p self.old.limit letter (local_of self.old))
             (record_by p self.old.limit (local_of self.old)) self.old happened self.new) }
         ensures events { self.new.events ≡ self.old.events }
+        ensures same { OnOk result (IsSameRun self.old self.new) }
+        ensures still { IfOk result (λ happened. IsStill happened → self.new ≡ self.old) }
         ensures shorter { letter ≡ LetterValue.Answer
             → OnOk result (length self.new.pending ≤ length self.old.pending - 1) }
         ensures shows { letter ≡ LetterValue.Answer → IfOk result (λ happened. (fault : RecordValue)
@@ -39,7 +41,7 @@ impl Board {
 
     /// Makes the event of a letter: of `i` the next instruction is issued, or a bubble passed, or nothing where
     /// it must wait; of `r` the oldest transaction is answered, or meets its fault. Memory is taken before
-    /// anything changes: where it runs out, what is seen of the board is as before, and no event is counted.
+    /// anything changes: where it runs out, the board is as before but for pages made ready, and no event is counted.
     pub fn event(&mut self, letter: Letter) -> Result<Happened, NoMemory>
         requires { self.old.events < most_events }
         ensures moved { IfOk result (λ happened. (p : Program) → IsProgramOf self.old.memory.image p
@@ -53,6 +55,9 @@ impl Board {
         ensures precise { IfOk result (λ happened. (p : Program) → IsProgramOf self.old.memory.image p
             → ServesOrEnds happened → self.old.pending ≡ []) }
         ensures counted { OnOk result (self.new.events ≡ self.old.events + 1) }
+        ensures same { OnOk result (IsSameRun self.old self.new) }
+        ensures still { IfOk result (λ happened. IsStill happened
+            → self.new ≡ record self.old { events = self.old.events + 1 }) }
         ensures shorter { letter ≡ LetterValue.Answer
             → OnOk result (length self.new.pending ≤ length self.old.pending - 1) }
         ensures shows { letter ≡ LetterValue.Answer → IfOk result (λ happened. (fault : RecordValue)

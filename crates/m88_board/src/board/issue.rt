@@ -1,6 +1,6 @@
 //! The event of the letter `i`: the next instruction is issued, is held, or ends the program.
 
-ghost use Rattle.std.specs.Prelude.{◌≡◌, Some, None, true, false, IfOk, OnErr};
+ghost use Rattle.std.specs.Prelude.{◌≡◌, Some, None, true, false, IfOk, OnErr, OnOk};
 ghost use Rattle.m88_event.specs.Local.{choice_by};
 ghost use Rattle.m88_event.specs.declared.letter.Letter.{Letter as LetterValue};
 ghost use Rattle.m88_event.specs.declared.record.Record.{Record as RecordValue};
@@ -11,7 +11,7 @@ ghost use Rattle.m88_isa.specs.Machine.{Program};
 ghost use Rattle.m88_isa.specs.Operands.{access_count_of, writes_of};
 ghost use Rattle.m88_board.specs.Board.{completed_of, is_idle_board, local_of};
 ghost use Rattle.m88_isa.specs.ImageProgram.{IsProgramOf};
-ghost use Rattle.m88_board.specs.Moves.{Did, IsUnmoved};
+ghost use Rattle.m88_board.specs.Moves.{Did, IsSameRun, IsStill, IsUnmoved};
 ghost use Rattle.m88_board.specs.Turns.{choice_for, meaning_at};
 
 use crate::board::Board;
@@ -29,6 +29,8 @@ impl Board {
             → Did (choice_by p self.old.limit LetterValue.Issue (local_of self.old)) fault
             self.old happened self.new) }
         ensures events { self.new.events ≡ self.old.events }
+        ensures same { OnOk result (IsSameRun self.old self.new) }
+        ensures still { IfOk result (λ happened. IsStill happened → self.new ≡ self.old) }
         ensures err { OnErr result (IsUnmoved self.old self.new) }
     {
         if self.is_idle() {
@@ -56,6 +58,7 @@ impl Board {
         requires fetched { self.old.slots.nip.e ≡ false }
         ensures ok { IfOk result (λ happened. (fault : RecordValue)
             → Did (choice_for (Some instr.now) self.old) fault self.old happened self.new) }
+        ensures still { IfOk result (λ happened. IsStill happened → self.new ≡ self.old) }
         ensures err { OnErr result (IsUnmoved self.old self.new) }
     {
         if let Some(r) = self.busy_register(instr) {
@@ -73,6 +76,7 @@ impl Board {
         requires free { busy_register (Some instr.now) self.old.pending ≡ None }
         ensures ok { IfOk result (λ happened. (fault : RecordValue)
             → Did (choice_for (Some instr.now) self.old) fault self.old happened self.new) }
+        ensures still { IfOk result (λ happened. IsStill happened → self.new ≡ self.old) }
         ensures err { OnErr result (IsUnmoved self.old self.new) }
     {
         match self.planned(instr) {

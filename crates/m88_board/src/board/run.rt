@@ -1,15 +1,16 @@
 //! Whole runs, and draining.
 
-ghost use Rattle.std.specs.Prelude.{ℕ, Bool, List, [], ◌∷◌, ◌≡◌, ◌<◌, ◌≤◌, ◌+◌, ◌-◌, ◌*◌, ◌^◌, true, length, IfOk, OnErr, OnOk};
+ghost use Rattle.std.specs.Prelude.{ℕ, Bool, List, [], ◌∷◌, ◌↔◌, ◌≡◌, ◌<◌, ◌≤◌, ◌+◌, ◌-◌, ◌*◌, ◌^◌, true, length, IfOk, OnErr, OnOk};
 ghost use Rattle.m88_event.specs.Letters.{letter_at};
 ghost use Rattle.m88_event.specs.Run.{IsDrain, IsDraining, IsOutcome, IsRun, IsRunning, answered_after, moment_after, outcome_at};
 ghost use Rattle.m88_event.specs.Timeline.{Moment, after_letter, is_over, opening_moment};
+ghost use Rattle.m88_event.specs.declared.happened.End.{End as EndValue};
 ghost use Rattle.m88_event.specs.declared.letter.Letter.{Letter as LetterValue};
 ghost use Rattle.m88_event.specs.declared.outcome.Outcome.{Outcome as OutcomeValue};
 ghost use Rattle.m88_isa.specs.Machine.{IsProgram, Program};
 ghost use Rattle.m88_board.specs.Glances.{Saw, glance_at, glances_along};
 ghost use Rattle.m88_board.specs.Kept.{most_events};
-ghost use Rattle.m88_board.specs.Moves.{IsAlong, IsAt, IsStep, IsUnmoved};
+ghost use Rattle.m88_board.specs.Moves.{IsAlong, IsAt, IsSameRun, IsStep, IsUnmoved};
 
 use super::Board;
 use crate::watch::Watch;
@@ -28,6 +29,9 @@ impl Board {
             → IsOutcome p named self.limit schedule.now o
             → IsOutcome p named self.limit schedule.now other
             → o ≡ other }
+        ensures limit_end { IfOk result (λ o. (p : Program) (named : ℕ → Bool) → IsProgram p
+            → IsAt p named opening_moment self
+            → (o.end ≡ EndValue.Limit) ↔ (o.retired ≡ self.limit)) }
         ensures within { IfOk result (λ o. o.events ≤ length schedule.now + 8 * self.limit + 8) }
         ensures watched { IfOk result (λ o. (p : Program) (named : ℕ → Bool) → IsProgram p
             → IsAt p named opening_moment self
@@ -53,6 +57,7 @@ impl Board {
             × IsAlong p named (answered_after p named self.old.limit m) events
             (W.seen watch.old) (W.seen watch.new) self.new) }
         ensures empty { OnOk result (self.new.pending ≡ []) }
+        ensures same { IsSameRun self.old self.new }
         ensures err { OnErr result ((p : Program) (named : ℕ → Bool) (m : Moment) → IsProgram p
             → IsAt p named m self.old
             → (events : ℕ) × IsDraining p named self.old.limit m events
@@ -100,6 +105,7 @@ impl Board {
             → IsAt p named m self.old
             → IsStep p named letter m (W.seen watch.old) (W.seen watch.new) self.old self.new) }
         ensures counted { OnOk result (self.new.events ≡ self.old.events + 1) }
+        ensures same { OnOk result (IsSameRun self.old self.new) }
         ensures shorter { letter ≡ LetterValue.Answer
             → OnOk result (length self.new.pending ≤ length self.old.pending - 1) }
         ensures err { OnErr result (IsUnmoved self.old self.new) }
@@ -125,6 +131,9 @@ impl Board {
         ensures events { IfOk result (λ o. o.events ≡ self.events) }
         ensures value { IfOk result (λ o. (p : Program) (named : ℕ → Bool) (m : Moment) → IsProgram p
             → IsAt p named m self → is_over p self.limit m ≡ true → o ≡ outcome_at p m) }
+        ensures limit_end { IfOk result (λ o. (p : Program) (named : ℕ → Bool) (m : Moment)
+            → IsAt p named m self → is_over p self.limit m ≡ true
+            → (o.end ≡ EndValue.Limit) ↔ (o.retired ≡ self.limit)) }
     {
         let alloc = *self.out.allocator();
         let changed = self.memory.changed(alloc)?;

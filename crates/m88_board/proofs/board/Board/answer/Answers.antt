@@ -6,6 +6,7 @@ use Rattle.m88_isa.specs.Bus.{page_number}
 use Rattle.m88_mem.specs.DataBus.{absent_of}
 use Rattle.m88_board.specs.Board.{BoardView, local_of}
 use Rattle.m88_board.proofs.Choosing.{answer_is, did_by}
+use Rattle.m88_board.proofs.Counting.{no_record}
 use Rattle.m88_board.proofs.Moving.{fewer_faulted, fewer_replied}
 use Rattle.m88_board.proofs.board.Board.answer.Goals as goal
 
@@ -25,3 +26,6 @@ pub returns-clause-shorter : goal.returns-clause-shorter
 returns-clause-shorter c =
     let fault = record_by (record { start = 0; byte = λ a. None; instruction = λ a. None }) c.args.self.now.limit (local_of c.args.self.now) in
     fewer_replied fault c.args.self.now c.reply.new.self (c.reply.ensures.does fault)
+
+pub returns-clause-same : goal.returns-clause-same
+returns-clause-same c = (c.reply.ensures.does no_record).same

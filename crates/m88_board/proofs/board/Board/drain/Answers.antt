@@ -5,12 +5,14 @@ use Rattle.std.proofs.lemmas.Result.{err_from_is_err_and}
 use Rattle.m88_event.specs.Run.{answered_after}
 use Rattle.m88_board.proofs.Choosing.{none_pending, some_count, some_pending}
 use Rattle.m88_board.proofs.Running.{drains_end, drains_start, drains_step, still_at}
+use Rattle.m88_board.proofs.Still.{same_then, unmoved_same}
 use Rattle.m88_board.specs.Board.{BoardView}
 use Rattle.m88_board.proofs.board.Board.drain.Goals as goal
 
 pub loop-self-init : goal.loop-self-init
 loop-self-init g c = record {
   counted = omega arith;
+  same = record { limit = refl; image = refl };
   drains = λ p named m is at. (0, drains_start p named m c.args.self.now (g.W.Watch.seen c.args.watch.now) at);
 }
 
@@ -24,6 +26,7 @@ loop-self-preserved g c =
     let before = c.loop-self.invariant.counted in
     record {
       counted = omega (arith, some, few, counted, shorter, before);
+      same = same_then c.args.self.now c.loop-self.self c.step.new.self c.loop-self.invariant.same c.in_ok-step.ensures.same;
       drains = λ p named m is at.
           let drains = c.loop-self.invariant.drains p named m is at in (
             suc drains.0,
@@ -60,3 +63,8 @@ returns-in_err-step-clause-err g c =
         saw = rw c.in_err-step.ensures.unseen drains.1.along.saw;
       },
     ))
+
+pub returns-in_err-step-clause-same : goal.returns-in_err-step-clause-same
+returns-in_err-step-clause-same g c =
+    same_then c.args.self.now c.loop-self.self c.step.new.self c.loop-self.invariant.same
+    (unmoved_same c.loop-self.self c.step.new.self c.in_err-step.ensures.err)

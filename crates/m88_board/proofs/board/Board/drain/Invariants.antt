@@ -3,12 +3,13 @@ use Rattle.std.proofs.Common.{ℕ, Bool, ◌≤◌, ◌+◌, ◌-◌, length}
 use Rattle.m88_event.specs.Timeline.{Moment}
 use Rattle.m88_isa.specs.Machine.{IsProgram, Program}
 use Rattle.m88_board.proofs.Running.{Drains}
-use Rattle.m88_board.specs.Moves.{IsAt}
+use Rattle.m88_board.specs.Moves.{IsAt, IsSameRun}
 use Rattle.m88_board.proofs.board.Board.drain.Given as goal
 
 abbrev pub invariant-loop-self : goal.invariant-loop-self
 invariant-loop-self g l = record {
   counted : l.self.events ≤ l.initial.self.events + (3 - length l.self.pending);
+  same : IsSameRun l.initial.self l.self;
   drains : (p : Program) (named : ℕ → Bool) (m : Moment) → IsProgram p → IsAt p named m l.initial.self
       → (k : ℕ) × Drains p named m k l.initial.self (g.W.Watch.seen l.initial.watch) (g.W.Watch.seen l.watch) l.self;
 }

@@ -1,5 +1,5 @@
 -- The event is the move of what is seen, and so goes along the timeline.
-use Rattle.std.proofs.Common.{subst, sym}
+use Rattle.std.proofs.Common.{ap, subst, sym, ◌+◌, ◌∙◌}
 use Rattle.m88_board.proofs.Moving.{along, moved_by, precise_on, says_so}
 use Rattle.m88_board.specs.Board.{BoardView}
 use Rattle.m88_board.specs.Shown.{ShowsFault}
@@ -32,3 +32,14 @@ pub returns-clause-shows : goal.returns-clause-shows
 returns-clause-shows c = λ answers fault says.
     subst (λ (b : BoardView). ShowsFault fault b.control) (sym c.count.ensures)
     (c.in_ok-happened.ensures.shows answers fault says)
+
+pub returns-clause-same : goal.returns-clause-same
+returns-clause-same c = record {
+  limit = ap (λ (b : BoardView). b.limit) c.count.ensures ∙ c.in_ok-happened.ensures.same.limit;
+  image = ap (λ (b : BoardView). b.memory.image) c.count.ensures ∙ c.in_ok-happened.ensures.same.image;
+}
+
+pub returns-clause-still : goal.returns-clause-still
+returns-clause-still c = λ still.
+    c.count.ensures
+    ∙ ap (λ (b : BoardView). record b { events = b.events + 1 }) (c.in_ok-happened.ensures.still still)

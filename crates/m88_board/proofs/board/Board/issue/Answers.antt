@@ -13,10 +13,11 @@ use Rattle.m88_isa.specs.Machine.{Program, by_vector}
 use Rattle.m88_isa.specs.Vector.{instruction_access, unimplemented}
 use Rattle.m88_iunit.specs.declared.slot.Slot.{Slot}
 use Rattle.m88_board.proofs.Choosing.{did_by}
-use Rattle.m88_board.proofs.Counting.{did_events, events_kept, same_events}
+use Rattle.m88_board.proofs.Counting.{did_events, events_kept, no_record, same_events}
 use Rattle.m88_board.proofs.Fetching.{idles_by, lacks_by, next_at, passes_by, turns_by, unimplemented_by}
 use Rattle.m88_board.specs.Board.{BoardView, local_of, pc_of}
 use Rattle.m88_board.specs.Moves.{Did, stopping}
+use Rattle.m88_board.proofs.Still.{same_if}
 use Rattle.m88_board.specs.Turns.{choice_for}
 use Rattle.m88_board.specs.contracts.board.Board.{the_view}
 use Rattle.m88_board.proofs.board.Board.issue.Goals as goal
@@ -51,13 +52,13 @@ returns-in_default-clause-ok c = λ p fault of.
     (lacks_by p b of (sym c.is_idle.ensures ∙ c.if-is_idle.false)
     (next_at (the_view c.self.inside) b c.candidate-nip.result None c.self.view_is c.candidate-nip.ensures.value
     c.candidate-nip.ensures.word c.if-not-nip.false absent))
-    (c.raise.ensures fault)
+    (c.raise.ensures.does fault)
 
 pub returns-in_default-clause-events : goal.returns-in_default-clause-events
 returns-in_default-clause-events c =
     let b = c.args.self.now in
     did_events (stopping (by_vector instruction_access (pc_of b.slots)) b.pending) b c.raise.result c.raise.new.self
-    c.raise.ensures
+    c.raise.ensures.does
 
 pub returns-in-Err-clause-ok : goal.returns-in-Err-clause-ok
 returns-in-Err-clause-ok c = λ p fault of.
@@ -68,13 +69,13 @@ returns-in-Err-clause-ok c = λ p fault of.
     (next_at (the_view c.self.inside) b c.candidate-nip.result (Some (to_be_bytes w32 c.in-Some.word)) c.self.view_is
     c.candidate-nip.ensures.value c.candidate-nip.ensures.word c.if-not-nip.false c.in-Some.ensures)
     (omega arith) (λ j is. let read = c.in-Err.ensures.only j is in cc))
-    (c.raise-in-Err.ensures fault)
+    (c.raise-in-Err.ensures.does fault)
 
 pub returns-in-Err-clause-events : goal.returns-in-Err-clause-events
 returns-in-Err-clause-events c =
     let b = c.args.self.now in
     did_events (stopping (by_vector unimplemented (pc_of b.slots)) b.pending) b c.raise-in-Err.result
-    c.raise-in-Err.new.self c.raise-in-Err.ensures
+    c.raise-in-Err.new.self c.raise-in-Err.ensures.does
 
 pub returns-in-Ok-clause-ok : goal.returns-in-Ok-clause-ok
 returns-in-Ok-clause-ok c =
@@ -100,3 +101,17 @@ returns-in-Ok-clause-events c =
     let i = c.in-Ok.instr in
     events_kept (choice_for (Some i) b) c.issue_instr.result b c.issue_instr.new.self
     c.issue_instr.ensures.ok c.issue_instr.ensures.err
+
+pub returns-then-not-nip-clause-same : goal.returns-then-not-nip-clause-same
+returns-then-not-nip-clause-same c = (c.pass.ensures no_record).same
+
+pub returns-in_default-clause-same : goal.returns-in_default-clause-same
+returns-in_default-clause-same c = (c.raise.ensures.does no_record).does.same
+
+pub returns-in-Err-clause-same : goal.returns-in-Err-clause-same
+returns-in-Err-clause-same c = (c.raise-in-Err.ensures.does no_record).does.same
+
+pub returns-in-Ok-clause-same : goal.returns-in-Ok-clause-same
+returns-in-Ok-clause-same c =
+    same_if (choice_for (Some c.in-Ok.instr) c.args.self.now) c.issue_instr.result c.args.self.now c.issue_instr.new.self
+    c.issue_instr.ensures.ok

@@ -11,6 +11,7 @@ use Rattle.m88_isa.specs.Machine.{by_vector, trapped}
 use Rattle.m88_isa.specs.Operands.{waits_for_empty}
 use Rattle.m88_board.proofs.Choosing.{did_by}
 use Rattle.m88_board.proofs.Issuing.{at_most, go_full, go_issued, go_sync, held_still, is_going, no_trap, none_to_wait_for, nothing_pending, raise_is, raising, room_of, stays_apart, trap_held, trap_is, trap_turn}
+use Rattle.m88_board.proofs.Still.{still_if_turned}
 use Rattle.m88_board.specs.Board.{pc_of}
 use Rattle.m88_board.specs.Kept.{IsKept}
 use Rattle.m88_board.specs.Moves.{Did, stopping}
@@ -26,7 +27,7 @@ returns-in-Raise-clause-ok c = λ fault.
     (stopping (by_vector c.in-Raise.vector (pc_of b.slots)) b.pending) fault b c.raise.result c.raise.new.self
     (raising c.args.instr.now b c.in-Raise.vector c.requires.free
     (raise_is _ c.in-Raise.vector c.in-Raise.ensures.value))
-    (c.raise.ensures fault)
+    (c.raise.ensures.does fault)
 
 pub returns-then-is_pending-clause-ok : goal.returns-then-is_pending-clause-ok
 returns-then-is_pending-clause-ok c = λ fault.
@@ -111,3 +112,8 @@ returns-in_ok-go-in-Go-clause-ok c = λ fault.
       does = c.in_ok-go-in-Go.ensures.ok going.on.change fault going.on.same
           (at_most c.args.instr.now b c.in-Go.effect going);
     })
+
+pub returns-else-is_pending-clause-still : goal.returns-else-is_pending-clause-still
+returns-else-is_pending-clause-still c =
+    let b = c.args.self.now in
+    still_if_turned (trapped c.in-Trap.vector b.file.numbers (pc_of b.slots)) c.trap.result b c.trap.new.self c.trap.ensures.ok

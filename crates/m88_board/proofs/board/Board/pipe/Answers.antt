@@ -1,7 +1,7 @@
 -- The record of the parts is that of what is seen of them.
 use Rattle.std.proofs.Common.{ℕ, ◌∙◌, ap, sym}
 use Rattle.std.specs.Int.{bit_at}
-use Rattle.m88_board.proofs.Records.{piped_by, zero_bit}
+use Rattle.m88_board.proofs.Records.{piped_at, piped_by, zero_bit}
 use Rattle.m88_board.specs.contracts.board.Board.{the_view}
 use Rattle.m88_board.specs.Kept.{epsr_of}
 use Rattle.m88_board.proofs.board.Board.pipe.Goals as goal
@@ -17,3 +17,7 @@ returns-clause-value c =
 
 pub returns-clause-ssbr : goal.returns-clause-ssbr
 returns-clause-ssbr c = ap (λ n. bit_at n 0) c.busy.ensures.value ∙ zero_bit (the_view c.self.inside) c.self.invariant
+
+pub returns-clause-moment : goal.returns-clause-moment
+returns-clause-moment c = λ p named m at.
+    piped_at p named m c.args.self.now _ at (returns-clause-value c p at.image)

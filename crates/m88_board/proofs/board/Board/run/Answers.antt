@@ -1,11 +1,13 @@
 -- The run is over after its events, and came to what the moment says.
-use Rattle.std.proofs.Common.{ap, true, ℕ, Bool, ◌≡◌, ◌∙◌}
+use Rattle.std.proofs.Common.{ap, subst, true, ℕ, Bool, ◌≡◌, ◌∙◌}
+use Rattle.std.specs.Prelude.{◌↔◌}
 use Rattle.std.proofs.lemmas.Result.{IfOk-weaker}
 use Rattle.m88_event.specs.Run.{IsOutcome, moment_after, outcome_at}
 use Rattle.m88_event.specs.Timeline.{Moment, is_over, opening_moment}
 use Rattle.m88_isa.specs.Machine.{IsProgram, Program}
 use Rattle.m88_board.specs.Moves.{IsAt}
 use Rattle.m88_board.proofs.board.Board.run.Goals as goal
+use Rattle.m88_event.specs.declared.happened.End.TheVariants.{Limit}
 use Rattle.m88_event.specs.declared.outcome.Outcome.{Outcome}
 
 pub returns-clause-outcome : goal.returns-clause-outcome
@@ -25,3 +27,18 @@ returns-clause-outcome g c =
       value = value p named last is went.1.at (ap (λ (limit : ℕ). is_over p limit last) went.2 ∙ went.0.over);
     })
     c.into_outcome.ensures.value
+
+pub returns-clause-limit_end : goal.returns-clause-limit_end
+returns-clause-limit_end g c =
+    let end = c.go_on.new.self in
+    IfOk-weaker c.into_outcome.result
+    (λ (o : Outcome). (p : Program) (named : ℕ → Bool) (m : Moment) → IsAt p named m end
+    → is_over p end.limit m ≡ true → (o.end ≡ Limit) ↔ (o.retired ≡ end.limit))
+    (λ (o : Outcome). (p : Program) (named : ℕ → Bool) → IsProgram p → IsAt p named opening_moment c.args.self
+    → (o.end ≡ Limit) ↔ (o.retired ≡ c.args.self.limit))
+    (λ o says p named is at.
+    let went = c.in_ok-go_on.ensures.ok p named is at in
+    let last = moment_after p named c.args.self.limit c.args.schedule.now end.events in
+    subst (λ (limit : ℕ). (o.end ≡ Limit) ↔ (o.retired ≡ limit)) went.2
+    (says p named last went.1.at (ap (λ (limit : ℕ). is_over p limit last) went.2 ∙ went.0.over)))
+    c.into_outcome.ensures.limit_end
