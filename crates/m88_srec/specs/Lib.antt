@@ -3,6 +3,7 @@ pub mod Placing
 pub mod Accepted
 pub mod Verdict
 pub mod Written
+pub mod Reasons
 pub mod GivesVerdict
 pub mod Forms
 pub mod Loads
