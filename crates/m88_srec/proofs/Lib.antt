@@ -8,3 +8,4 @@ pub mod Spelled
 pub mod Trip
 pub mod Turns
 pub mod Sizes
+pub mod AsciiDigits

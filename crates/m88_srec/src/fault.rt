@@ -1,6 +1,7 @@
 //! Why an S-record text is refused.
 
-use m88_base::{Hex2, Hex8};
+use crate::printed::Hex2;
+use m88_base::Hex8;
 use std::error::Error;
 use std::fmt;
 
@@ -72,7 +73,10 @@ impl fmt::Display for SrecKind {
         match self {
             SrecKind::AfterEnd => f.write_str("after end"),
             SrecKind::Form => f.write_str("form"),
-            SrecKind::Count { written, found } => write!(f, "count written {written} found {found}"),
+            SrecKind::Count { written, found } => write!(
+                f,
+                "count written {written} found {found}"
+            ),
             SrecKind::Sum { written, computed } => {
                 let (written, computed) = (Hex2(*written), Hex2(*computed));
                 write!(f, "sum written {written} computed {computed}")

@@ -8,6 +8,7 @@ mod fault;
 mod form;
 mod frame;
 mod loading;
+mod printed;
 mod purpose;
 mod reader;
 mod record;
