@@ -11,11 +11,11 @@ use Rattle.m88_parse.specs.declared.unit.Unit.{Unit as Source}
 use Rattle.m88_cli.specs.Answer.{IsAnswerToAccepted}
 use Rattle.m88_cli.specs.Assembly.{IsSourceImage}
 use Rattle.m88_cli.specs.Linking.{HoldsUnit, IsObjectsOf}
-use Rattle.m88_cli.specs.declared.commands.Command.TheVariants.{Asm, Build}
+use Rattle.m88_cli.specs.Command.{asm, build}
 
 -- the text of its objects
 pub assembled : (source text : List ℕ) (objects : List Object) → IsObjectsOf source objects → text ≡ objects_text objects
-    → IsAnswerToAccepted Asm source text
+    → IsAnswerToAccepted asm source text
 assembled source text objects of_source is = record {
   accepted = record { unit = of_source.unit; is_unit = of_source.is_unit; is_assembled = of_source.is_assembled };
   output = record {
@@ -33,7 +33,7 @@ one_image u i j a b =
 
 -- the records of its image
 pub linked : (source text : List ℕ) (image : ProgramImage) → HoldsUnit source image → IsImage image → text ≡ srec_text image
-    → IsAnswerToAccepted Build source text
+    → IsAnswerToAccepted build source text
 linked source text image holds is_image is =
     let own : IsUnitImage holds.unit image = record { is_image = is_image; bytes = holds.bytes; start = holds.start } in
     record {

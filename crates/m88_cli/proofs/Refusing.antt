@@ -1,7 +1,7 @@
 -- A fault of a source, other than that memory ran out, is a refusal of it.
-use Rattle.std.proofs.Common.{◌≡◌, List, ℕ, Result, Ok, Err, false, inl, inr, refl, subst, sym}
+use Rattle.std.proofs.Common.{◌≡◌, ◌≢◌, List, ℕ, Option, Result, Ok, Err, false, inl, inr, refl, ap, subst, sym, ◌∙◌}
 use Rattle.std.specs.Prelude.{IfOk, MatchBool}
-use Rattle.std.specs.declared.alloc.AllocError.{AllocError}
+use Rattle.m88_base.specs.declared.failing.NoMemory.{NoMemory}
 use Rattle.m88_parse.specs.Language.Units.{IsUnit}
 use Rattle.m88_parse.specs.declared.unit.Unit.{Unit as Source}
 use Rattle.m88_asm.specs.Accepted.{IsUnitFault}
@@ -9,10 +9,18 @@ use Rattle.m88_asm.specs.declared.fault.UnitFault.{UnitFault}
 use Rattle.m88_asm.specs.declared.fault.UnitFault.TheVariants as unit_kind
 use Rattle.m88_cli.specs.Answer.{IsAnswerToAccepted, IsAnswerToRefused, Refuses}
 use Rattle.m88_cli.specs.Assembly.{IsRefusedProgram, IsRefusedSource}
-use Rattle.m88_cli.specs.Refusal.{refusal_line}
+use Rattle.m88_cli.specs.Command.{Command}
+use Rattle.m88_cli.specs.Loading.{IsRefusedRecords, srec_refusal}
+use Rattle.m88_cli.specs.Refusal.{Refusal, refusal_line}
 use Rattle.m88_cli.specs.SourceFault.{IsAssemblyFault, IsProgramFault, IsTold, refusal_of}
-use Rattle.m88_cli.specs.Reply.{Replies}
-use Rattle.m88_cli.specs.declared.commands.Command.{Command}
+use Rattle.m88_cli.specs.Reply.{Replies, WatchesReply}
+use Rattle.m88_cli.specs.Watching.{Shown}
+use Rattle.m88_base.specs.Image.{ProgramImage}
+use Rattle.m88_board.specs.declared.glance.Glance.{Glance}
+use Rattle.m88_srec.specs.Accepted.{whole_of}
+use Rattle.m88_srec.specs.GivesVerdict.{GivesVerdict, no_memory}
+use Rattle.m88_srec.specs.Verdict.{verdict}
+use Rattle.m88_srec.specs.declared.fault.SrecFault.{SrecFault}
 use Rattle.m88_cli.specs.declared.reply.Reply.{Reply}
 use Rattle.m88_cli.specs.declared.source_fault.SourceFault.{SourceFault}
 use Rattle.m88_cli.specs.declared.source_fault.SourceFault.TheVariants.{Parse, Unit}
@@ -42,16 +50,32 @@ program_refusal source (Parse fault) (inl memory) told = absurd (told memory)
 program_refusal source (Parse fault) (inr first) told = inl (inl (record { fault = fault; is_first = first; refusal = refl }))
 program_refusal source (Unit fault) (unit, is_unit, first) told = of_unit source unit fault is_unit first told
 
--- the reply that refuses a source answers it
-pub refused_reply : (command : Command) (source : List ℕ) (fault : SourceFault) (result : Result Reply AllocError)
-    → (IsTold fault → Refuses command source (refusal_of fault)) → IfOk result (λ r. r.text.items ≡ refusal_line (refusal_of fault))
-    → IfOk result (λ r. r.accepted ≡ false) → IfOk result (λ _. IsTold fault) → IfOk result (Replies command source)
-refused_reply command source fault (Err e) refuses line refused told = tt
-refused_reply command source fault (Ok r) refuses line refused told =
-    subst (λ t. MatchBool t (IsAnswerToAccepted command source r.text.items) (IsAnswerToRefused command source r.text.items)) (sym refused)
+-- S-records whose fault isn't that memory ran out
+pub records_refusal : (text : List ℕ) (r : Result ProgramImage SrecFault) (fault : SrecFault) → r ≡ Err fault
+    → GivesVerdict whole_of r (verdict text) → fault ≢ no_memory → IsRefusedRecords text (srec_refusal fault)
+records_refusal text (Ok image) fault e gives told = absurd cc
+records_refusal text (Err own) fault e (inl memory) told = absurd (told (let same : own ≡ fault = cc in sym same ∙ memory))
+records_refusal text (Err own) fault e (inr first) told =
+    let same : own ≡ fault = cc in
+    record { fault = fault; is_first = first ∙ ap Err same; refusal = refl }
+
+-- the reply that refuses an input answers it
+pub refused_reply : {Told : Type 0} (command : Command) (input : List ℕ) (refusal : Refusal) (result : Result Reply NoMemory)
+    → (Told → Refuses command input refusal) → IfOk result (λ r. r.text.items ≡ refusal_line refusal)
+    → IfOk result (λ r. r.accepted ≡ false) → IfOk result (λ _. Told) → IfOk result (Replies command input)
+refused_reply command input refusal (Err e) refuses line refused told = tt
+refused_reply command input refusal (Ok r) refuses line refused told =
+    subst (λ t. MatchBool t (IsAnswerToAccepted command input r.text.items) (IsAnswerToRefused command input r.text.items)) (sym refused)
     (record {
-      unaccepted = refused_not_accepted command source (refusal_of fault) (refuses told);
-      refusal = refusal_of fault;
+      unaccepted = refused_not_accepted command input refusal (refuses told);
+      refusal = refusal;
       refused = refuses told;
       line = line;
     })
+
+-- and leaves a watch as it was
+pub refused_watch : {W : Type 0} (seen : W → Option (List Glance)) (watch : W) (command : Command) (input : List ℕ) (result : Result Reply NoMemory)
+    → IfOk result (λ r. r.accepted ≡ false) → IfOk result (WatchesReply seen watch watch command input)
+refused_watch seen watch command input (Err e) refused = tt
+refused_watch seen watch command input (Ok r) refused =
+    subst (λ t. MatchBool t (Shown command input (seen watch) (seen watch)) (watch ≡ watch)) (sym refused) refl

@@ -1,37 +1,38 @@
--- The words of a command one by one.
-use Rattle.std.proofs.Common.{◌≡◌, ℕ, ◌≤◌, ◌<◌, List, codes, [], ◌∷◌, String, Global, length, get_or, refl, sym, ap, ◌∙◌, subst, arith}
-use Rattle.std.specs.Prelude.{string_bytes}
-use Rattle.m88_cli.specs.Command.{IsLimit, Spells}
-use Rattle.m88_cli.specs.Words.{texts}
-use Rattle.m88_cli.specs.declared.commands.Command.{Command}
-use Rattle.m88_cli.specs.declared.commands.Command.TheVariants.{Asm, Build, Run}
+-- The four words of a run.
+use Rattle.std.proofs.Common.{◌≡◌, ℕ, Bool, List, codes, [], ◌∷◌, get_or, sym, ap, subst}
+use Rattle.m88_event.specs.Letters.{IsSchedule}
+use Rattle.m88_event.specs.declared.letter.Letter.{Letter}
+use Rattle.m88_cli.specs.Command.{Command, IsLimit, Spells, SpellsRun, run, exec, asm, build}
+use Rattle.m88_cli.specs.Pages.{IsAbsent}
 
--- four words and what stands at each place
-pub four_words : (words : List (String Global)) (a b c d : String Global) → 4 ≤ length words → length words < 5
-    → a ≡ get_or words 0 a → b ≡ get_or words 1 b → c ≡ get_or words 2 c → d ≡ get_or words 3 d
-    → texts words ≡ string_bytes a ∷ string_bytes b ∷ string_bytes c ∷ string_bytes d ∷ []
-four_words [] a b c d least most e f g h = absurd (omega arith)
-four_words (w ∷ []) a b c d least most e f g h = absurd (omega arith)
-four_words (w ∷ x ∷ []) a b c d least most e f g h = absurd (omega arith)
-four_words (w ∷ x ∷ y ∷ []) a b c d least most e f g h = absurd (omega arith)
-four_words (w ∷ x ∷ y ∷ z ∷ []) a b c d least most e f g h = rw (e, f, g, h) refl
-four_words (w ∷ x ∷ y ∷ z ∷ v ∷ words) a b c d least most e f g h = absurd (omega arith)
+-- what four words of a run are
+pub record AreOfRun (name a b c d : List ℕ) (limit : ℕ) (absent : ℕ → Bool) (schedule : List Letter) : Type 0 where
+  pub name_is : a ≡ name
+  pub is_limit : IsLimit b limit
+  pub is_absent : IsAbsent c absent
+  pub is_schedule : IsSchedule d schedule
 
+pub of_run : (name a b c d : List ℕ) (limit : ℕ) (absent : ℕ → Bool) (schedule : List Letter)
+    → SpellsRun name (a ∷ b ∷ c ∷ d ∷ []) limit absent schedule → AreOfRun name a b c d limit absent schedule
+of_run name a b c d limit absent schedule spelled =
+    let e = sym spelled.words_are in
+    record {
+      name_is = sym (ap (λ (ws : List (List ℕ)). get_or ws 0 []) e);
+      is_limit = subst (λ t. IsLimit t limit) (ap (λ (ws : List (List ℕ)). get_or ws 1 []) e) spelled.is_limit;
+      is_absent = subst (λ t. IsAbsent t absent) (ap (λ (ws : List (List ℕ)). get_or ws 2 []) e) spelled.is_absent;
+      is_schedule = subst (λ t. IsSchedule t schedule) (ap (λ (ws : List (List ℕ)). get_or ws 3 []) e) spelled.is_schedule;
+    }
+
+-- four words are not one
 longer : (a b c d word : List ℕ) → a ∷ b ∷ c ∷ d ∷ [] ≡ word ∷ [] → ⊥
-longer a b c d word f = absurd cc
+longer a b c d word e = absurd cc
 
--- the limit of a command that four words spell stands in the second of them
-pub limit_spelled : (words : List (List ℕ)) (a b c d : List ℕ) (command : Command) → words ≡ a ∷ b ∷ c ∷ d ∷ [] → Spells words command
-    → (n : ℕ) × IsLimit b n
-limit_spelled words a b c d (Run n) e spelled =
-    let text : spelled.0 ≡ b = ap (λ (ws : List (List ℕ)). get_or ws 1 []) (sym spelled.2 ∙ e) in
-    (n, subst (λ t. IsLimit t n) text spelled.1)
-limit_spelled words a b c d Asm e spelled = absurd (longer a b c d (codes "asm") (sym e ∙ spelled))
-limit_spelled words a b c d Build e spelled = absurd (longer a b c d (codes "build") (sym e ∙ spelled))
-
--- one word and what it is
-pub one_word : (words : List (String Global)) (a : String Global) → 1 ≤ length words → length words < 2 → a ≡ get_or words 0 a
-    → texts words ≡ string_bytes a ∷ []
-one_word [] a least most e = absurd (omega arith)
-one_word (w ∷ []) a least most e = rw e refl
-one_word (w ∷ x ∷ words) a least most e = absurd (omega arith)
+-- what four words spell is a run
+pub spelled_by_four : (P : Command → Type 0) (a b c d : List ℕ) (command : Command) → Spells (a ∷ b ∷ c ∷ d ∷ []) command
+    → ((limit : ℕ) (absent : ℕ → Bool) (schedule : List Letter) → AreOfRun (codes "run") a b c d limit absent schedule → P (run limit absent schedule))
+    → ((limit : ℕ) (absent : ℕ → Bool) (schedule : List Letter) → AreOfRun (codes "exec") a b c d limit absent schedule → P (exec limit absent schedule))
+    → P command
+spelled_by_four P a b c d (run limit absent schedule) spelled runs execs = runs limit absent schedule (of_run (codes "run") a b c d limit absent schedule spelled)
+spelled_by_four P a b c d (exec limit absent schedule) spelled runs execs = execs limit absent schedule (of_run (codes "exec") a b c d limit absent schedule spelled)
+spelled_by_four P a b c d asm spelled runs execs = absurd (longer a b c d (codes "asm") spelled)
+spelled_by_four P a b c d build spelled runs execs = absurd (longer a b c d (codes "build") spelled)

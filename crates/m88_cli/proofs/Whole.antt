@@ -6,13 +6,13 @@ use Rattle.std.proofs.lemmas.List.{append-nil, length-take-le}
 use Rattle.m88_base.specs.Outside.{AppendsPart}
 use Rattle.m88_cli.specs.Answer.{IsAnswerToAccepted, IsAnswer, IsAnswerToRefused, Refuses}
 use Rattle.m88_cli.specs.Refusal.{Refusal, refusal_line}
-use Rattle.m88_cli.specs.Reply.{Replies}
+use Rattle.m88_board.specs.declared.glance.Glance.{Glance}
+use Rattle.m88_cli.specs.Reply.{Replies, WatchesReply}
+use Rattle.m88_cli.specs.Watching.{Shown, ShownIfAccepted}
 use Rattle.m88_cli.specs.declared.reply.Reply.{Reply}
 use Rattle.m88_cli.specs.Calls.{GivesInput, HasInput, IsWhole}
-use Rattle.m88_cli.specs.Command.{reads_input}
+use Rattle.m88_cli.specs.Command.{Command, run, exec, asm, build, reads_input}
 use Rattle.m88_cli.specs.Limits.{most_input}
-use Rattle.m88_cli.specs.declared.commands.Command.{Command}
-use Rattle.m88_cli.specs.declared.commands.Command.TheVariants.{Asm, Build, Run}
 use Rattle.m88_cli.proofs.OneSource.{one_refusal, refused_not_accepted}
 
 -- what holds of a call that failed
@@ -67,9 +67,10 @@ given_once command before after input given holds gives = by_reading (reads_inpu
 -- an input that a command refuses is what the source gave it
 pub given_whole : (command : Command) (before after : Option (List ℕ)) (input given : List ℕ) (r : Refusal) → Refuses command input r
     → before ≡ Some input → after ≡ Some [] → GivesInput command before after given → given ≡ input
-given_whole (Run limit) before after input given r refused had left gives = same_input before after input given had left gives.0
-given_whole Asm before after input given r refused had left gives = same_input before after input given had left gives.0
-given_whole Build before after input given r refused had left gives = same_input before after input given had left gives.0
+given_whole (run limit absent schedule) before after input given r refused had left gives = same_input before after input given had left gives.0
+given_whole (exec limit absent schedule) before after input given r refused had left gives = same_input before after input given had left gives.0
+given_whole asm before after input given r refused had left gives = same_input before after input given had left gives.0
+given_whole build before after input given r refused had left gives = same_input before after input given had left gives.0
 
 -- a reply to what a command was given, where command and input are known
 abbrev pub RepliesToGiven : Command → Option (List ℕ) → Option (List ℕ) → Reply → Type 0
@@ -115,3 +116,14 @@ accepted_reply command input r e h = subst (λ t. MatchBool t (IsAnswerToAccepte
 pub refused_reply : (command : Command) (input : List ℕ) (r : Reply) → r.accepted ≡ false → Replies command input r
     → IsAnswerToRefused command input r.text.items
 refused_reply command input r e h = subst (λ t. MatchBool t (IsAnswerToAccepted command input r.text.items) (IsAnswerToRefused command input r.text.items)) e h
+
+-- a watch was shown what the reply says
+by_reply : {W : Type 0} (accepted : Bool) (seen : W → Option (List Glance)) (old new : W) (command : Command) (input text : List ℕ)
+    → MatchBool accepted (IsAnswerToAccepted command input text) (IsAnswerToRefused command input text)
+    → MatchBool accepted (Shown command input (seen old) (seen new)) (new ≡ old) → ShownIfAccepted seen old new command input
+by_reply true seen old new command input text replies watches = inl (replies.accepted, watches)
+by_reply false seen old new command input text replies watches = inr (replies.unaccepted, watches)
+
+pub shown_if : {W : Type 0} (seen : W → Option (List Glance)) (old new : W) (command : Command) (input : List ℕ) (r : Reply) → Replies command input r
+    → WatchesReply seen old new command input r → ShownIfAccepted seen old new command input
+shown_if seen old new command input r replies watches = by_reply r.accepted seen old new command input r.text.items replies watches

@@ -1,51 +1,34 @@
 -- What a command does with an input. A command has a case in each of three definitions: which inputs it accepts
 -- (`Accepts`), what it writes for one that it accepts (`IsOutput`), and where and why it refuses any other (`Refuses`).
-use Rattle.std.specs.Prelude.{ℕ, ◌≡◌, ◌⊎◌, List, codes}
-use Rattle.m88_isa.specs.Machine.{Program}
-use Rattle.m88_isa.specs.declared.instr.Instr.{Instr}
-use Rattle.m88_event.specs.declared.outcome.Outcome.{Outcome}
-use Rattle.m88_report.specs.Report.{report_of}
+use Rattle.std.specs.Prelude.{ℕ, ◌≡◌, ◌⊎◌, List}
 use Rattle.m88_cli.specs.Assembly.{IsAssemblySource, IsObjectText, IsProgramSource, IsRecordText, IsRefusedProgram, IsRefusedSource}
-use Rattle.m88_cli.specs.Program.{program_of}
+use Rattle.m88_cli.specs.Command.{Command, run, exec, asm, build}
+use Rattle.m88_cli.specs.Loading.{IsRecords, IsRefusedRecords}
 use Rattle.m88_cli.specs.Refusal.{Refusal, refusal_line}
-use Rattle.m88_cli.specs.Source.{IsFirstOther, IsSourceOf}
-use Rattle.m88_cli.specs.Timeline.{IsRunOutcome}
-use Rattle.m88_cli.specs.declared.commands.Command.{Command}
-use Rattle.m88_cli.specs.declared.commands.Command.TheVariants.{Asm, Build, Run}
+use Rattle.m88_cli.specs.Runs.{IsLoadedProgram, IsReport, IsSourceProgram}
 
--- the text is the report of the sequential machine over a program with a limit, and the run comes to nothing else
-pub record IsReport (p : Program) (limit : ℕ) (text : List ℕ) : Type 0 where
-  pub outcome : Outcome
-  pub run : IsRunOutcome p limit outcome
-  pub only : (other : Outcome) → IsRunOutcome p limit other → other ≡ outcome
-  pub report : text ≡ report_of outcome
-
--- the text is the report over the program that a source writes, and the source writes no other
-pub record IsReportOn (source : List ℕ) (limit : ℕ) (text : List ℕ) : Type 0 where
-  pub instructions : List Instr
-  pub written : IsSourceOf instructions source
-  pub only : (others : List Instr) → IsSourceOf others source → others ≡ instructions
-  pub report : IsReport (program_of instructions) limit text
-
--- a command accepts an input: a run a source that writes instructions, `asm` a source of the assembly language that can
--- be assembled, `build` one that can be linked too
+-- a command accepts an input: `asm` a source that can be assembled, `run` and `build` one that can be linked too, `exec`
+-- the text of S-records
 abbrev pub Accepts : Command → List ℕ → Type 0
-Accepts (Run limit) source = (instructions : List Instr) × IsSourceOf instructions source
-Accepts Asm source = IsAssemblySource source
-Accepts Build source = IsProgramSource source
+Accepts (run limit absent schedule) source = IsProgramSource source
+Accepts (exec limit absent schedule) text = IsRecords text
+Accepts asm source = IsAssemblySource source
+Accepts build source = IsProgramSource source
 
--- the text is what a command writes for an input that it accepts: a run its report, `asm` the text of the objects,
--- `build` the S-records of the image
+-- the text is what a command writes for an input that it accepts: `run` and `exec` the report of a run, `asm` the text
+-- of the objects, `build` the S-records of the image
 abbrev pub IsOutput : Command → List ℕ → List ℕ → Type 0
-IsOutput (Run limit) source text = IsReportOn source limit text
-IsOutput Asm source text = IsObjectText source text
-IsOutput Build source text = IsRecordText source text
+IsOutput (run limit absent schedule) source text = IsReport (IsSourceProgram source) limit absent schedule text
+IsOutput (exec limit absent schedule) records text = IsReport (IsLoadedProgram records) limit absent schedule text
+IsOutput asm source text = IsObjectText source text
+IsOutput build source text = IsRecordText source text
 
--- a command refuses an input so: a run at the first line of another form, `asm` and `build` at the first fault
+-- a command refuses an input so: at the first fault of a source or of S-records
 abbrev pub Refuses : Command → List ℕ → Refusal → Type 0
-Refuses (Run limit) source r = IsFirstOther source r.line × (r.column ≡ 1) × (r.reason ≡ codes "form")
-Refuses Asm source r = IsRefusedSource source r
-Refuses Build source r = IsRefusedProgram source r
+Refuses (run limit absent schedule) source r = IsRefusedProgram source r
+Refuses (exec limit absent schedule) text r = IsRefusedRecords text r
+Refuses asm source r = IsRefusedSource source r
+Refuses build source r = IsRefusedProgram source r
 
 -- the text answers an input that the command accepts
 pub record IsAnswerToAccepted (command : Command) (input text : List ℕ) : Type 0 where

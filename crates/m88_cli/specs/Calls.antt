@@ -2,9 +2,8 @@
 -- bytes nothing is said.
 use Rattle.std.specs.Prelude.{ℕ, ◌≡◌, ◌≤◌, ◌++◌, List, [], Option, Some, None, MatchBool, length}
 use Rattle.std.specs.Io.KnownBytes.{Consumes, IsAtEnd}
-use Rattle.m88_cli.specs.Command.{Spells, reads_input}
+use Rattle.m88_cli.specs.Command.{Command, Spells, reads_input}
 use Rattle.m88_cli.specs.Limits.{most_input}
-use Rattle.m88_cli.specs.declared.commands.Command.{Command}
 
 -- the source, with these bytes left before and those after, gave a command its input: all that it had, to its end; a
 -- command that reads none has the empty input
@@ -13,9 +12,9 @@ GivesInput command before after input =
     MatchBool (reads_input command) (Consumes before after input × IsAtEnd after) (input ≡ [])
 
 -- a call carried a command out: the words spell it, the source gave it its input, the text is as told for that input,
--- and the sink was given the text as told
-pub record CarriedOut (words : List (List ℕ)) (before after : Option (List ℕ))
-    (IsText : Command → List ℕ → List ℕ → Type 0) (SinkIsGiven : List ℕ → Type 0) : Type 0 where
+-- the sink was given the text as told, and the watch was shown what is told
+pub record CarriedOut (words : List (List ℕ)) (before after : Option (List ℕ)) (IsText : Command → List ℕ → List ℕ → Type 0)
+    (SinkIsGiven : List ℕ → Type 0) (WatchIsShown : Command → List ℕ → Type 0) : Type 0 where
   pub command : Command
   pub spelled : Spells words command
   pub input : List ℕ
@@ -23,6 +22,15 @@ pub record CarriedOut (words : List (List ℕ)) (before after : Option (List ℕ
   pub text : List ℕ
   pub is_text : IsText command input text
   pub written : SinkIsGiven text
+  pub watched : WatchIsShown command input
+
+-- the words spell a command, the source gave it its input, and something holds of these two
+pub record Given (words : List (List ℕ)) (before after : Option (List ℕ)) (Holds : Command → List ℕ → Type 0) : Type 0 where
+  pub command : Command
+  pub spelled : Spells words command
+  pub input : List ℕ
+  pub given : GivesInput command before after input
+  pub holds : Holds command input
 
 -- what a source has left is the input for a command, and not too long; a command that reads none has the empty input
 abbrev pub HasInput : Command → Option (List ℕ) → List ℕ → Type 0

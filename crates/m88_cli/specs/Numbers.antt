@@ -1,15 +1,9 @@
--- Numbers as the lines of a source write them.
-use Rattle.std.specs.Prelude.{ℕ, List, ◌≡◌, ◌≤◌, ◌⊎◌, ◌++◌, codes, decimal, length}
+-- Numbers in the words of a command.
+use Rattle.std.specs.Prelude.{ℕ, ◌≡◌, ◌≤◌, List, length}
 use Rattle.std.specs.Str.Parse.{IsNumeral, digits_value}
 
--- a text writes a number as `0x` and one to four hexadecimal digits; letters may be of either case
-pub record IsOperandHexadecimal (text : List ℕ) (n : ℕ) : Type 0 where
-  pub digits : List ℕ
-  pub text_is : text ≡ codes "0x" ++ digits
-  pub numeral : IsNumeral 16 digits
-  pub short : length digits ≤ 4
-  pub value : n ≡ digits_value 16 digits
-
--- a text writes a number below 2 ^ 64 in either notation; its decimal digits begin with a 0 only where the number is 0
-abbrev pub IsOperandNumber : List ℕ → ℕ → Type 0
-IsOperandNumber text n = (text ≡ decimal n) ⊎ IsOperandHexadecimal text n
+-- a text writes a number in one to so many digits of a base, which may begin with zeros; letters may be of either case
+pub record IsShortNumber (base most_digits : ℕ) (text : List ℕ) (n : ℕ) : Type 0 where
+  pub numeral : IsNumeral base text
+  pub short : length text ≤ most_digits
+  pub value : n ≡ digits_value base text

@@ -1,10 +1,10 @@
 -- Words for the contracts of private functions; no promise of the program names them. What the reply to an
--- input says.
-use Rattle.std.specs.Prelude.{ℕ, ◌≤◌, List, MatchBool}
+-- input says, and what a watch was shown on the way to it.
+use Rattle.std.specs.Prelude.{ℕ, ◌≡◌, ◌⊎◌, List, Option, MatchBool}
+use Rattle.m88_board.specs.declared.glance.Glance.{Glance}
 use Rattle.m88_cli.specs.Answer.{IsAnswerToAccepted, IsAnswerToRefused}
-use Rattle.m88_cli.specs.Limits.{most_limit}
-use Rattle.m88_cli.specs.declared.commands.Command.{Command}
-use Rattle.m88_cli.specs.declared.commands.Command.TheVariants.{Asm, Build, Run}
+use Rattle.m88_cli.specs.Command.{Command}
+use Rattle.m88_cli.specs.Watching.{Shown, ShownFront}
 use Rattle.m88_cli.specs.declared.reply.Reply.{Reply}
 
 -- the reply's text answers an input that is accepted or not, as the reply says
@@ -12,8 +12,12 @@ abbrev pub Replies : Command → List ℕ → Reply → Type 0
 Replies command input r =
     MatchBool r.accepted (IsAnswerToAccepted command input r.text.items) (IsAnswerToRefused command input r.text.items)
 
--- the limit of a command is one that a run may have
-abbrev pub IsWithinLimit : Command → Type 0
-IsWithinLimit (Run limit) = limit ≤ most_limit
-IsWithinLimit Asm = Unit {0}
-IsWithinLimit Build = Unit {0}
+-- a watch, which tells what it was shown, was shown the whole of a command whose reply accepts the input, and is as it was
+-- where the reply refuses it
+abbrev pub WatchesReply : {W : Type 0} → (W → Option (List Glance)) → W → W → Command → List ℕ → Reply → Type 0
+WatchesReply seen old new command input r =
+    MatchBool r.accepted (Shown command input (seen old) (seen new)) (new ≡ old)
+
+-- where there is no reply it was shown a front of that, or is as it was
+abbrev pub WatchesFront : {W : Type 0} → (W → Option (List Glance)) → W → W → Command → List ℕ → Type 0
+WatchesFront seen old new command input = (new ≡ old) ⊎ ShownFront command input (seen old) (seen new)

@@ -25,6 +25,16 @@ WritesNothing Refused = ⊥
 WritesNothing Memory = Unit {0}
 WritesNothing TooLong = Unit {0}
 
+-- an answer with which nobody was shown anything
+abbrev pub ShowsNothing : Status → Type 0
+ShowsNothing Done = ⊥
+ShowsNothing Usage = Unit {0}
+ShowsNothing SourceFault = Unit {0}
+ShowsNothing SinkFault = ⊥
+ShowsNothing Refused = Unit {0}
+ShowsNothing Memory = ⊥
+ShowsNothing TooLong = Unit {0}
+
 -- the answer where nothing failed: memory ran out, or Done where the input is accepted and Refused where it isn't
 abbrev pub Answers : Type 0 → Status → Type 0
 Answers Accepted status =

@@ -1,15 +1,11 @@
 //! What `asm` and `build` make of a source.
-ghost use Rattle.std.specs.Prelude.{◌≡◌, ◌≤◌, ◌<◌, ◌^◌, All, IfErr, IfOk, length};
-ghost use Rattle.m88_asm.specs.Faults.{IsAssembled};
-ghost use Rattle.m88_asm.specs.Objects.{objects_of};
+ghost use Rattle.std.specs.Prelude.{◌≤◌, All, IfErr, IfOk, length};
 ghost use Rattle.m88_link.specs.Sound.{IsSound};
-ghost use Rattle.m88_parse.specs.Language.Units.{IsUnit};
-ghost use Rattle.m88_parse.specs.declared.unit.Unit.{Unit as SourceUnit};
+ghost use Rattle.m88_cli.specs.Command.{asm, build};
 ghost use Rattle.m88_cli.specs.Limits.{most_input};
 ghost use Rattle.m88_cli.specs.Linking.{HoldsUnit, IsObjectsOf};
 ghost use Rattle.m88_cli.specs.Reply.{Replies};
 ghost use Rattle.m88_cli.specs.SourceFault.{IsAssemblyFault, IsProgramFault};
-ghost use Rattle.m88_cli.specs.declared.commands.Command.{Command};
 
 use crate::reply::Reply;
 use crate::source_fault::{SourceFault, refuse};
@@ -18,42 +14,38 @@ use m88_base::{Image, NoMemory};
 use m88_link::{Object, object_text};
 use m88_parse::parse;
 use m88_srec::write_srec;
-use std::alloc::{AllocError, Global};
+use std::alloc::Global;
 
 /// The reply of `asm` to a source.
-pub fn assemble_source(alloc: Global, source: &[u8]) -> Result<Reply, AllocError>
+pub fn assemble_source(alloc: Global, source: &[u8]) -> Result<Reply, NoMemory>
     requires { length source.now ≤ most_input }
-    ensures { IfOk result (Replies Command.Asm source.now) }
+    ensures { IfOk result (Replies asm source.now) }
 {
     let objects = match objects_of(alloc, source) {
         Ok(objects) => objects,
         Err(fault) => return refuse(alloc, fault),
     };
-    match object_text(alloc, objects.as_slice()) {
-        Ok(text) => Ok(Reply {
-            accepted: true,
-            text,
-        }),
-        Err(NoMemory) => Err(AllocError),
-    }
+    let text = object_text(alloc, objects.as_slice())?;
+    Ok(Reply {
+        accepted: true,
+        text,
+    })
 }
 
 /// The reply of `build` to a source.
-pub fn build_source(alloc: Global, source: &[u8]) -> Result<Reply, AllocError>
+pub fn build_source(alloc: Global, source: &[u8]) -> Result<Reply, NoMemory>
     requires { length source.now ≤ most_input }
-    ensures { IfOk result (Replies Command.Build source.now) }
+    ensures { IfOk result (Replies build source.now) }
 {
     let image = match image_of_source(alloc, source) {
         Ok(image) => image,
         Err(fault) => return refuse(alloc, fault),
     };
-    match write_srec(alloc, &image) {
-        Ok(text) => Ok(Reply {
-            accepted: true,
-            text,
-        }),
-        Err(NoMemory) => Err(AllocError),
-    }
+    let text = write_srec(alloc, &image)?;
+    Ok(Reply {
+        accepted: true,
+        text,
+    })
 }
 
 /// The objects of a source, or its first fault.

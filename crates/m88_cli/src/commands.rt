@@ -1,11 +1,24 @@
 //! The commands of the program.
 
+use m88_base::Absent;
+use m88_event::Schedule;
+
 /// What the words of the program ask for.
-#[derive(Clone, Copy, PartialEq, Eq, Debug)]
-pub enum Command {
-    /// A run of a source that retires at most `limit` instructions, with every page present and no
-    /// schedule.
-    Run { limit: u32 },
+#[derive(Drop, Debug)]
+pub enum Command<'a> {
+    /// The report of a run of a source that retires at most `limit` instructions, with pages absent at first and the
+    /// letters that its events begin with.
+    Run {
+        limit: u32,
+        absent: Absent,
+        schedule: Schedule<'a>,
+    },
+    /// The same of the image that S-records write.
+    Exec {
+        limit: u32,
+        absent: Absent,
+        schedule: Schedule<'a>,
+    },
     /// The text of the objects of a source.
     Asm,
     /// The S-records of the image of a source.

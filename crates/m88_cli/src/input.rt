@@ -4,6 +4,7 @@ ghost use Rattle.m88_base.specs.Causes.{Rose};
 ghost use Rattle.m88_base.specs.Outside.{TakesAtMost, TakesExactly};
 ghost use Rattle.m88_cli.specs.Calls.{GivesInput};
 ghost use Rattle.m88_cli.specs.Command.{reads_input};
+ghost use Rattle.m88_cli.specs.Kept.{choice_of};
 ghost use Rattle.m88_cli.specs.Limits.{most_input};
 
 use crate::commands::Command;
@@ -14,13 +15,13 @@ use std::alloc::Global;
 /// The whole input of a command; a command that reads none leaves the source alone.
 pub fn input_of<S: Source>(
     alloc: Global,
-    command: Command,
+    command: &Command,
     source: &mut S,
 ) -> Result<Vec<u8>, ReadEnd>
     ensures ok { IfOk result (λ input.
-        GivesInput command (S.left source.old) (S.left source.new) input.items) }
+        GivesInput (choice_of command.now) (S.left source.old) (S.left source.new) input.items) }
     ensures short { IfOk result (λ input. length input.items ≤ most_input) }
-    ensures unread { reads_input command ≡ false → source.new ≡ source.old }
+    ensures unread { reads_input (choice_of command.now) ≡ false → source.new ≡ source.old }
     ensures fault { result ≡ Err ReadEnd.SourceFault
         → Rose (S.faults source.old) (S.faults source.new) }
     ensures too_long { result ≡ Err ReadEnd.TooLong
@@ -29,6 +30,8 @@ pub fn input_of<S: Source>(
         → TakesAtMost (S.left source.old) (S.left source.new) most_input }
 {
     match command {
-        Command::Run { .. } | Command::Asm | Command::Build => read_all(alloc, source, MOST_INPUT),
+        Command::Run { .. } | Command::Exec { .. } | Command::Asm | Command::Build => {
+            read_all(alloc, source, MOST_INPUT)
+        }
     }
 }

@@ -1,35 +1,31 @@
-//! The program's commands: what its words spell, the run of a source, the report that it writes and
-//! the top call that does all of it between a source of bytes and a sink.
+//! The program's commands: what its words spell, what each command makes of its input, and the top call that does all
+//! of it between a source of bytes, a sink and a watch.
 #![tactic(auto)]
 
-// The top call, from its words to its answer.
+// The words of a command.
 mod commands;
 mod grammar;
+mod limits;
+mod numbers;
+mod pages;
+
+// The top call, from its words to its answer.
 mod input;
 mod job;
-mod limits;
 mod program;
 mod reply;
 mod status;
 
-// A source for `run`, its program, and the image of that.
-mod load;
-mod numbers;
-mod source;
-
-// A source for `asm` and `build`.
+// What commands make of a source and of S-records.
 mod assembly;
+mod loading;
+mod running;
 mod source_fault;
-
-// The run.
-mod fetch;
-mod letter;
-mod next_turn;
-mod run;
-mod runner;
 #[cfg(test)]
 mod tests;
 
+pub use commands::Command;
+pub use grammar::command;
 pub use limits::{MOST_INPUT, MOST_LIMIT};
 pub use program::m88;
 pub use status::Status;

@@ -1,26 +1,21 @@
-//! The numbers of a source for `run`.
-ghost use Rattle.std.specs.Prelude.{◌≡◌, ◌≤◌, ℕ, IfSome, Some};
-ghost use Rattle.m88_cli.specs.Numbers.{IsOperandNumber};
-ghost use Rattle.m88_cli.specs.Reading.{is_operand_hexadecimal};
+//! Numbers in the words of a command.
+ghost use Rattle.std.specs.Prelude.{ℕ, ◌≡◌, ◌≤◌, IfSome, Some};
+ghost use Rattle.m88_cli.specs.Numbers.{IsShortNumber};
 
-use m88_base::{decimal_in, number_in};
+use m88_base::number_in;
 
-/// A number in either notation of a source, at most `most`.
-pub fn operand_number(text: &[u8], most: u32) -> Option<u32>
-    ensures found { IfSome result (λ n. IsOperandNumber text.now n) }
+/// The number, at most `most`, that a text writes in one to so many digits of a base, zeros in front allowed.
+pub fn short_number(base: u32, most_digits: usize, text: &[u8], most: u32) -> Option<u32>
+    requires low { 2 ≤ base }
+    requires high { base ≤ 16 }
+    ensures found { IfSome result (IsShortNumber base most_digits text.now) }
     ensures bound { IfSome result (λ n. n ≤ most) }
-    ensures only { (n : ℕ) → n ≤ most → IsOperandNumber text.now n → result ≡ Some n }
+    ensures only { (n : ℕ) → n ≤ most → IsShortNumber base most_digits text.now n
+        → result ≡ Some n }
 {
-    if is_operand_hexadecimal(text) {
-        number_in(16, &text[2..], most)
+    if text.len() <= most_digits {
+        number_in(base, text, most)
     } else {
-        decimal_in(text, most)
+        None
     }
-}
-
-/// Whether a text is `0x` and one to four further bytes.
-fn is_operand_hexadecimal(text: &[u8]) -> bool
-    ensures { result ≡ is_operand_hexadecimal text.now }
-{
-    text.len() >= 3 && text.len() <= 6 && text[0] == b'0' && text[1] == b'x'
 }

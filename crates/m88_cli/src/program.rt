@@ -1,34 +1,38 @@
 //! The top call.
-ghost use Rattle.std.specs.Prelude.{[], ◌≡◌, ◌≢◌, ◌↔◌, ◌+◌, ◌≤◌, ℕ, List, IfErr, IfOk, Err, Some, false, length};
+ghost use Rattle.std.specs.Prelude.{[], ◌≡◌, ◌≢◌, ◌↔◌, ◌⊎◌, ◌+◌, ◌≤◌, ℕ, List, IfErr, IfOk, OnErr, Err, Some, false, length};
 ghost use Rattle.std.specs.Io.KnownBytes.{Appends};
 ghost use Rattle.m88_base.specs.Causes.{Rose};
 ghost use Rattle.m88_base.specs.Outside.{AppendsPart, TakesAtMost, TakesExactly};
 ghost use Rattle.m88_cli.specs.Answer.{Accepts, IsAnswer, IsAnswerToAccepted, IsAnswerToRefused, Refuses};
-ghost use Rattle.m88_cli.specs.Calls.{CarriedOut, GivesInput, HasInput, IsWhole};
-ghost use Rattle.m88_cli.specs.Command.{SpellNoReader, SpellNothing, Spells, reads_input};
+ghost use Rattle.m88_cli.specs.Calls.{CarriedOut, GivesInput, Given, HasInput, IsWhole};
+ghost use Rattle.m88_cli.specs.Command.{Command as Choice, SpellNoReader, SpellNoRun, SpellNothing, Spells, makes_events, reads_input};
+ghost use Rattle.m88_cli.specs.Kept.{IsFit, choice_of};
 ghost use Rattle.m88_cli.specs.Limits.{most_input};
 ghost use Rattle.m88_cli.specs.Refusal.{Refusal, refusal_line};
-ghost use Rattle.m88_cli.specs.Reply.{IsWithinLimit, Replies};
-ghost use Rattle.m88_cli.specs.Status.{Answers, IsOfReading, WritesNothing};
+ghost use Rattle.m88_cli.specs.Reply.{Replies, WatchesFront, WatchesReply};
+ghost use Rattle.m88_cli.specs.Status.{Answers, IsOfReading, ShowsNothing, WritesNothing};
+ghost use Rattle.m88_cli.specs.Watching.{Shown, ShownFront, ShownIfAccepted};
 ghost use Rattle.m88_cli.specs.Words.{texts};
-ghost use Rattle.m88_cli.specs.declared.commands.Command.{Command};
 
 use crate::commands::Command;
-use crate::grammar;
+use crate::grammar::command;
 use crate::input::input_of;
 use crate::job::reply_to;
 use crate::reply::Reply;
 use crate::status::Status;
 use m88_base::{Sink, Source, write_all};
+use m88_board::Watch;
 use std::alloc::Global;
 
-/// The whole program between its words, a source and a sink: the command that the words spell reads
-/// the source to its end, and its text is written to the sink.
-pub fn m88<S: Source, K: Sink>(
+/// The whole program between its words, a source, a sink and a watch: the command that the words spell reads
+/// the source to its end, its text is written to the sink, and the board of a run is shown to the watch after
+/// each event.
+pub fn m88<S: Source, K: Sink, W: Watch>(
     alloc: Global,
     words: &[String],
     source: &mut S,
     sink: &mut K,
+    watch: &mut W,
 ) -> Status
     // Words outside the grammar, exactly. Then nothing is read, nor for a command that has no input.
     ensures usage { (result ≡ Status.Usage) ↔ SpellNothing (texts words.now) }
@@ -42,18 +46,21 @@ pub fn m88<S: Source, K: Sink>(
     ensures not_too_long { result ≢ Status.TooLong
         → TakesAtMost (S.left source.old) (S.left source.new) most_input }
 
-    // A command was carried out, its input is accepted, and the sink was given its text: for a run the
-    // report of the sequential machine, for `asm` the text of the source's objects.
+    // A command was carried out, its input is accepted, the sink was given its text, and the watch was shown
+    // its boards. For `run` the text is the report of the sequential machine over the source, and the boards
+    // are those of each event.
     ensures done { result ≡ Status.Done
         → CarriedOut (texts words.now) (S.left source.old) (S.left source.new)
-        IsAnswerToAccepted (Appends (K.held sink.old) (K.held sink.new)) }
+        IsAnswerToAccepted (Appends (K.held sink.old) (K.held sink.new))
+        (λ command input. Shown command input (W.seen watch.old) (W.seen watch.new)) }
 
-    // The input is not accepted, and the sink was given the line that says so; an input whose line
-    // stands whole in the sink was refused.
+    // The input is not accepted, the sink was given the line that says so, and the watch nothing; an input
+    // whose line stands whole in the sink was refused.
     ensures refused { result ≡ Status.Refused
         → CarriedOut (texts words.now) (S.left source.old) (S.left source.new)
-        IsAnswerToRefused (Appends (K.held sink.old) (K.held sink.new)) }
-    ensures refusal { (command : Command) (input : List ℕ) (refusal : Refusal)
+        IsAnswerToRefused (Appends (K.held sink.old) (K.held sink.new))
+        (λ _ _. watch.new ≡ watch.old) }
+    ensures refusal { (command : Choice) (input : List ℕ) (refusal : Refusal)
         → Spells (texts words.now) command → Refuses command input refusal
         → S.left source.old ≡ Some input → S.left source.new ≡ Some []
         → IsWhole (K.held sink.old) (K.held sink.new) (refusal_line refusal) → result ≡ Status.Refused }
@@ -63,22 +70,28 @@ pub fn m88<S: Source, K: Sink>(
         → Rose (K.faults sink.old) (K.faults sink.new) }
     ensures part { result ≡ Status.SinkFault
         → CarriedOut (texts words.now) (S.left source.old) (S.left source.new)
-        IsAnswer (AppendsPart (K.held sink.old) (K.held sink.new)) }
+        IsAnswer (AppendsPart (K.held sink.old) (K.held sink.new))
+        (ShownIfAccepted W.seen watch.old watch.new) }
 
     // Where nothing failed, an input that is not too long is answered: Done if it is accepted, Refused if
     // it is not, or Memory.
-    ensures complete { (command : Command) (input : List ℕ) → Spells (texts words.now) command
+    ensures complete { (command : Choice) (input : List ℕ) → Spells (texts words.now) command
         → HasInput command (S.left source.old) input
         → ¬ Rose (S.faults source.old) (S.faults source.new) → ¬ Rose (K.faults sink.old) (K.faults sink.new)
         → Answers (Accepts command input) result }
 
-    // With every other answer nothing is written.
+    // With every other answer nothing is written, and where memory ran out the watch was shown a front at most.
     ensures unwritten { WritesNothing result → sink.new ≡ sink.old }
+    ensures unshown { ShowsNothing result → watch.new ≡ watch.old }
+    ensures unshown_by { SpellNoRun (texts words.now) → watch.new ≡ watch.old }
+    ensures front { result ≡ Status.Memory → (watch.new ≡ watch.old)
+        ⊎ Given (texts words.now) (S.left source.old) (S.left source.new)
+        (λ command input. ShownFront command input (W.seen watch.old) (W.seen watch.new)) }
 {
-    let Some(command) = grammar::command(words) else {
+    let Some(command) = command(words) else {
         return Status::Usage;
     };
-    let reply = match reply_from(alloc, command, source) {
+    let reply = match reply_from(alloc, &command, source, watch) {
         Ok(reply) => reply,
         Err(status) => return status,
     };
@@ -93,12 +106,24 @@ pub fn m88<S: Source, K: Sink>(
 }
 
 /// The reply of a command to what a source gives it, or why there is none.
-fn reply_from<S: Source>(alloc: Global, command: Command, source: &mut S) -> Result<Reply, Status>
-    requires { IsWithinLimit command }
+fn reply_from<S: Source, W: Watch>(
+    alloc: Global,
+    command: &Command,
+    source: &mut S,
+    watch: &mut W,
+) -> Result<Reply, Status>
+    requires { IsFit command.now }
     ensures ok { IfOk result (λ reply. (input : List ℕ)
-        × GivesInput command (S.left source.old) (S.left source.new) input × Replies command input reply) }
-    ensures unread { reads_input command ≡ false → source.new ≡ source.old }
+        × GivesInput (choice_of command.now) (S.left source.old) (S.left source.new) input
+        × Replies (choice_of command.now) input reply
+        × WatchesReply W.seen watch.old watch.new (choice_of command.now) input reply) }
+    ensures unread { reads_input (choice_of command.now) ≡ false → source.new ≡ source.old }
+    ensures unshown_by { makes_events (choice_of command.now) ≡ false → watch.new ≡ watch.old }
     ensures status { IfErr result IsOfReading }
+    ensures unshown { IfErr result (λ status. ShowsNothing status → watch.new ≡ watch.old) }
+    ensures front { OnErr result ((watch.new ≡ watch.old) ⊎ ((input : List ℕ)
+        × GivesInput (choice_of command.now) (S.left source.old) (S.left source.new) input
+        × ShownFront (choice_of command.now) input (W.seen watch.old) (W.seen watch.new))) }
     ensures fault { result ≡ Err Status.SourceFault
         → Rose (S.faults source.old) (S.faults source.new) }
     ensures too_long { result ≡ Err Status.TooLong
@@ -107,6 +132,6 @@ fn reply_from<S: Source>(alloc: Global, command: Command, source: &mut S) -> Res
         → TakesAtMost (S.left source.old) (S.left source.new) most_input }
 {
     let input = input_of(alloc, command, source)?;
-    let reply = reply_to(alloc, command, input.as_slice())?;
+    let reply = reply_to(alloc, command, input.as_slice(), watch)?;
     Ok(reply)
 }

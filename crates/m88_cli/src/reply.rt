@@ -1,9 +1,9 @@
 //! What a command answers to its input.
-ghost use Rattle.std.specs.Prelude.{◌≡◌, IfOk};
+ghost use Rattle.std.specs.Prelude.{◌≡◌, IfOk, false};
 ghost use Rattle.m88_base.specs.Refused.{refused_line};
 
-use m88_base::push_refused;
-use std::alloc::{AllocError, Global};
+use m88_base::{NoMemory, push_refused};
+use std::alloc::Global;
 
 /// What a command writes, and whether it accepts its input.
 #[derive(Debug, Drop)]
@@ -12,11 +12,15 @@ pub struct Reply {
     pub text: Vec<u8>,
 }
 
-/// The line that refuses an input at a line and a column, both from 1, for a reason.
-pub fn refusal(alloc: Global, line: u32, column: u32, reason: &[u8]) -> Result<Vec<u8>, AllocError>
-    ensures { IfOk result (λ text. text.items ≡ refused_line line column reason.now) }
+/// The reply that refuses an input at a line and a column, both from 1, for a reason.
+pub fn refusal(alloc: Global, line: u32, column: u32, reason: &[u8]) -> Result<Reply, NoMemory>
+    ensures line { IfOk result (λ r. r.text.items ≡ refused_line line column reason.now) }
+    ensures refused { IfOk result (λ r. r.accepted ≡ false) }
 {
     let mut text = Vec::new(alloc);
     push_refused(&mut text, line, column, reason)?;
-    Ok(text)
+    Ok(Reply {
+        accepted: false,
+        text,
+    })
 }

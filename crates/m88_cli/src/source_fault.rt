@@ -9,9 +9,10 @@ ghost use Rattle.m88_cli.specs.SourceFault.{IsTold, refusal_of};
 
 use crate::reply::{Reply, refusal};
 use m88_asm::{AsmFault, AsmKind, UnitFault};
+use m88_base::NoMemory;
 use m88_link::{LinkFault, LinkKind};
 use m88_parse::{ParseFault, ParseKind};
-use std::alloc::{AllocError, Global};
+use std::alloc::Global;
 
 /// The first fault of a source.
 #[derive(Clone, Copy, PartialEq, Eq, Debug)]
@@ -23,21 +24,9 @@ pub enum SourceFault {
 }
 
 /// The reply that refuses a source, unless the fault is that memory ran out.
-pub fn refuse(alloc: Global, fault: SourceFault) -> Result<Reply, AllocError>
+pub fn refuse(alloc: Global, fault: SourceFault) -> Result<Reply, NoMemory>
     ensures line { IfOk result (λ reply. reply.text.items ≡ refusal_line (refusal_of fault)) }
     ensures refused { IfOk result (λ reply. reply.accepted ≡ false) }
-    ensures told { IfOk result (λ _. IsTold fault) }
-{
-    let text = line_of(alloc, fault)?;
-    Ok(Reply {
-        accepted: false,
-        text,
-    })
-}
-
-/// The line that refuses a source, unless the fault is that memory ran out.
-fn line_of(alloc: Global, fault: SourceFault) -> Result<Vec<u8>, AllocError>
-    ensures line { IfOk result (λ text. text.items ≡ refusal_line (refusal_of fault)) }
     ensures told { IfOk result (λ _. IsTold fault) }
 {
     match fault {
@@ -47,36 +36,39 @@ fn line_of(alloc: Global, fault: SourceFault) -> Result<Vec<u8>, AllocError>
     }
 }
 
-/// The line that refuses a source for a fault of its lines.
-fn unread(alloc: Global, fault: ParseFault) -> Result<Vec<u8>, AllocError>
-    ensures line { IfOk result (λ text. text.items ≡ refusal_line (parse_refusal fault)) }
+/// The reply that refuses a source for a fault of its lines.
+fn unread(alloc: Global, fault: ParseFault) -> Result<Reply, NoMemory>
+    ensures line { IfOk result (λ reply. reply.text.items ≡ refusal_line (parse_refusal fault)) }
+    ensures refused { IfOk result (λ reply. reply.accepted ≡ false) }
     ensures told { IfOk result (λ _. fault ≢ out_of_memory) }
 {
     if fault.kind == ParseKind::Memory {
-        return Err(AllocError);
+        return Err(NoMemory);
     }
     refusal(alloc, fault.line, fault.col, fault.kind.reason().as_bytes())
 }
 
-/// The line that refuses a source for a fault of its statements.
-fn unassembled(alloc: Global, fault: AsmFault) -> Result<Vec<u8>, AllocError>
-    ensures line { IfOk result (λ text. text.items ≡ refusal_line (asm_refusal fault)) }
+/// The reply that refuses a source for a fault of its statements.
+fn unassembled(alloc: Global, fault: AsmFault) -> Result<Reply, NoMemory>
+    ensures line { IfOk result (λ reply. reply.text.items ≡ refusal_line (asm_refusal fault)) }
+    ensures refused { IfOk result (λ reply. reply.accepted ≡ false) }
     ensures told { IfOk result (λ _. fault ≢ memory_ran_out) }
 {
     if fault.kind == AsmKind::Memory {
-        return Err(AllocError);
+        return Err(NoMemory);
     }
     let reason = fault.kind.to_string(alloc)?;
     refusal(alloc, fault.line, fault.col, reason.as_bytes())
 }
 
-/// The line that refuses a source for a fault of its layout.
-fn unlinked(alloc: Global, fault: LinkFault) -> Result<Vec<u8>, AllocError>
-    ensures line { IfOk result (λ text. text.items ≡ refusal_line (link_refusal fault)) }
+/// The reply that refuses a source for a fault of its layout.
+fn unlinked(alloc: Global, fault: LinkFault) -> Result<Reply, NoMemory>
+    ensures line { IfOk result (λ reply. reply.text.items ≡ refusal_line (link_refusal fault)) }
+    ensures refused { IfOk result (λ reply. reply.accepted ≡ false) }
     ensures told { IfOk result (λ _. fault ≢ memory_fault) }
 {
     if fault.kind == LinkKind::Memory {
-        return Err(AllocError);
+        return Err(NoMemory);
     }
     let reason = fault.kind.to_string(alloc)?;
     refusal(alloc, fault.line, fault.col, reason.as_bytes())

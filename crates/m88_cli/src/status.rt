@@ -2,8 +2,7 @@
 ghost use Rattle.std.specs.Prelude.{◌≡◌};
 ghost use Rattle.m88_cli.specs.Status.{exit_number};
 
-use m88_base::ReadEnd;
-use std::alloc::AllocError;
+use m88_base::{NoMemory, ReadEnd};
 
 /// How the program ended.
 #[derive(Clone, Copy, PartialEq, Eq, Debug)]
@@ -56,13 +55,13 @@ impl From<ReadEnd> for Status {
     }
 }
 
-impl From<AllocError> for Status {
+impl From<NoMemory> for Status {
     ghost use Rattle.std.specs.Prelude.{◌≡◌};
     ghost use Rattle.m88_cli.specs.declared.status.Status.TheVariants.{Memory};
 
     ghost from_gives = { λ _ status. status ≡ Memory };
 
-    fn from(_error: AllocError) -> Status {
+    fn from(_error: NoMemory) -> Status {
         Status::Memory
     }
 }

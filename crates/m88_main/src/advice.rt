@@ -33,7 +33,9 @@ impl fmt::Display for Advice {
         match self {
             Advice::Usage => write!(
                 f,
-                "usage: m88 run LIMIT none -, m88 asm or m88 build    (LIMIT up to {MOST_LIMIT}; input from standard input)"
+                "usage: m88 run LIMIT ABSENT SCHEDULE, m88 exec LIMIT ABSENT SCHEDULE, m88 asm or m88 build\n\
+                 LIMIT is up to {MOST_LIMIT}; ABSENT is none, all or page numbers joined by commas;\n\
+                 SCHEDULE is - or letters i and r; the input is standard input"
             ),
             Advice::SourceFault => write!(f, "m88: standard input can't be read"),
             Advice::SinkFault => write!(f, "m88: standard output can't be written"),

@@ -6,6 +6,7 @@ mod advice;
 
 use crate::advice::{NO_WORDS, advice_on};
 use m88_base::{StdSink, StdSource};
+use m88_board::Unwatched;
 use m88_cli::{Status, m88};
 use std::env;
 use std::process::ExitCode;
@@ -22,7 +23,14 @@ fn main(rt: HostRuntime) -> ExitCode {
         Ok(words) => {
             let mut source = StdSource::new(rt.reader());
             let mut sink = StdSink::new(rt.stdout());
-            m88(rt.alloc(), words.as_slice(), &mut source, &mut sink)
+            let mut watch = Unwatched::new();
+            m88(
+                rt.alloc(),
+                words.as_slice(),
+                &mut source,
+                &mut sink,
+                &mut watch,
+            )
         }
         Err(_) => Status::Memory,
     };

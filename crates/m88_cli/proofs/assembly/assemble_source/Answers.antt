@@ -1,18 +1,19 @@
 -- The text of the objects answers the source, and so does the line that refuses it.
 use Rattle.std.proofs.Common.{ap, sym, ◌∙◌}
 use Rattle.m88_link.specs.ObjectText.{objects_text}
-use Rattle.m88_cli.specs.declared.commands.Command.TheVariants.{Asm}
+use Rattle.m88_cli.specs.Command.{asm}
+use Rattle.m88_cli.specs.SourceFault.{refusal_of}
 use Rattle.m88_cli.proofs.Linked.{assembled}
 use Rattle.m88_cli.proofs.Refusing.{assembly_refusal, refused_reply}
 use Rattle.m88_cli.proofs.assembly.assemble_source.Goals as goal
 
 pub returns-in-Err : goal.returns-in-Err
 returns-in-Err c =
-    refused_reply Asm c.args.source.now c.in-Err.fault c.refuse.result
+    refused_reply asm c.args.source.now (refusal_of c.in-Err.fault) c.refuse.result
     (assembly_refusal c.args.source.now c.in-Err.fault c.in-Err.ensures.fault)
     c.refuse.ensures.line c.refuse.ensures.refused c.refuse.ensures.told
 
-pub returns-in-Ok-object_text : goal.returns-in-Ok-object_text
-returns-in-Ok-object_text c =
-    assembled c.args.source.now c.in-Ok-object_text.text.items c.in-Ok.objects.items c.in-Ok.ensures.objects
-    (c.in-Ok-object_text.ensures ∙ ap objects_text c.as_slice.ensures.value)
+pub returns : goal.returns
+returns c =
+    assembled c.args.source.now c.in_ok-text.text.items c.in-Ok.objects.items c.in-Ok.ensures.objects
+    (c.in_ok-text.ensures ∙ ap objects_text c.as_slice.ensures.value)

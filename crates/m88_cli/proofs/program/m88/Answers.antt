@@ -1,10 +1,10 @@
 -- A refusal stands whole only where it was written whole; where the sink failed a part of the text was written.
 use Rattle.std.proofs.Common.{◌≡◌, inr, refl, sym, ◌∙◌, subst}
 use Rattle.m88_base.specs.Outside.{AppendsPart}
+use Rattle.m88_cli.specs.Kept.{choice_of}
 use Rattle.m88_cli.specs.Refusal.{refusal_line}
 use Rattle.m88_cli.proofs.OneSource.{refused_not_accepted}
-use Rattle.m88_cli.proofs.Texts.{some_same}
-use Rattle.m88_cli.proofs.Whole.{accepted_reply, answer_of, line_of_reply, not_part, not_whole, of_err, refusal_some, refused_reply, reply_given, reply_whole}
+use Rattle.m88_cli.proofs.Whole.{accepted_reply, answer_of, line_of_reply, not_part, not_whole, of_err, refusal_some, refused_reply, reply_given, reply_whole, shown_if}
 use Rattle.m88_cli.proofs.program.m88.Goals as goal
 
 pub returns-in-Err-clause-refusal : goal.returns-in-Err-clause-refusal
@@ -13,14 +13,16 @@ returns-in-Err-clause-refusal g c = λ command input refusal spelled refused had
 
 pub returns-then-reply-clause-refusal : goal.returns-then-reply-clause-refusal
 returns-then-reply-clause-refusal g c = λ command input refusal spelled refused had left whole.
-    let same : c.in-Some.command ≡ command = some_same (c.in-Some.ensures.only command spelled) in
-    let replies = reply_whole command c.in-Some.command _ _ input refusal c.in-Ok.reply same refused had left c.in-Ok.ensures.ok in
+    let ok = c.in-Ok.ensures.ok in
+    let same : choice_of c.in-Some.command ≡ command = c.in-Some.ensures.only command spelled in
+    let replies = reply_whole command (choice_of c.in-Some.command) _ _ input refusal c.in-Ok.reply same refused had left (ok.0, ok.1, ok.2) in
     absurd (refused_not_accepted command input refusal refused (accepted_reply command input c.in-Ok.reply c.if-reply.true replies).accepted)
 
 pub returns-then-is_err-clause-refusal : goal.returns-then-is_err-clause-refusal
 returns-then-is_err-clause-refusal g c = λ command input refusal spelled refused had left whole.
-    let same : c.in-Some.command ≡ command = some_same (c.in-Some.ensures.only command spelled) in
-    let replies = reply_whole command c.in-Some.command _ _ input refusal c.in-Ok.reply same refused had left c.in-Ok.ensures.ok in
+    let ok = c.in-Ok.ensures.ok in
+    let same : choice_of c.in-Some.command ≡ command = c.in-Some.ensures.only command spelled in
+    let replies = reply_whole command (choice_of c.in-Some.command) _ _ input refusal c.in-Ok.reply same refused had left (ok.0, ok.1, ok.2) in
     let written : c.as_slice.result.now ≡ refusal_line refusal =
     c.as_slice.ensures.value ∙ line_of_reply command input refusal c.in-Ok.reply refused replies in
     let part = of_err c.write_all.result (sym c.is_err.ensures.value ∙ c.if-is_err.true) c.write_all.ensures.part in
@@ -32,18 +34,20 @@ returns-then-is_err-clause-part g c = λ e.
     let ok = c.in-Ok.ensures.ok in
     let part = of_err c.write_all.result (sym c.is_err.ensures.value ∙ c.if-is_err.true) c.write_all.ensures.part in
     record {
-      command = c.in-Some.command;
+      command = choice_of c.in-Some.command;
       spelled = c.in-Some.ensures.found;
       input = ok.0;
       given = ok.1;
       text = c.in-Ok.reply.text.items;
-      is_text = answer_of c.in-Some.command ok.0 c.in-Ok.reply ok.2;
+      is_text = answer_of (choice_of c.in-Some.command) ok.0 c.in-Ok.reply ok.2;
       written = subst (λ t. AppendsPart (g.K.Sink.held c.args.sink.now) (g.K.Sink.held c.write_all.new.sink) t) c.as_slice.ensures.value part;
+      watched = shown_if g.W.Watch.seen c.args.watch.now c.reply_from.new.watch (choice_of c.in-Some.command) ok.0 c.in-Ok.reply ok.2 ok.3;
     }
 
 pub returns-clause-complete : goal.returns-clause-complete
 returns-clause-complete g c = λ command input spelled holds sound unfailing.
-    let same : c.in-Some.command ≡ command = some_same (c.in-Some.ensures.only command spelled) in
-    let replies = reply_given command c.in-Some.command (g.S.Source.left c.args.source.now) (g.S.Source.left c.reply_from.new.source) input c.in-Ok.reply same
-    holds c.in-Ok.ensures.ok in
+    let ok = c.in-Ok.ensures.ok in
+    let same : choice_of c.in-Some.command ≡ command = c.in-Some.ensures.only command spelled in
+    let replies = reply_given command (choice_of c.in-Some.command) (g.S.Source.left c.args.source.now) (g.S.Source.left c.reply_from.new.source) input c.in-Ok.reply same
+    holds (ok.0, ok.1, ok.2) in
     inr (inr ((refused_reply command input c.in-Ok.reply c.if-reply.false replies).unaccepted, refl))

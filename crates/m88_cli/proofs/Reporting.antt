@@ -1,0 +1,115 @@
+-- A run of the one program of an input comes to one outcome, and its report answers the input.
+use Rattle.std.proofs.Common.{◌≡◌, ℕ, zero, suc, ◌+◌, ◌<◌, Bool, List, [], ◌++◌, Option, Some, None, Result, Ok, Err, add-one, refl, ap, sym, ◌∙◌, subst, arith, append-nil}
+use Rattle.std.specs.Prelude.{OnErr, OnOk}
+use Rattle.m88_isa.specs.Machine.{Program}
+use Rattle.m88_event.specs.Choice.{Choice, faults, finishes, holds, idles, issues, passes, replies, serves}
+use Rattle.m88_event.specs.Letters.{letter_at}
+use Rattle.m88_event.specs.Run.{IsOutcome, IsRun, IsRunning, moment_after, outcome_at}
+use Rattle.m88_event.specs.Timeline.{Moment, after_choice, after_letter, choice_at, record_at}
+use Rattle.m88_event.specs.declared.letter.Letter.{Letter}
+use Rattle.m88_event.specs.declared.outcome.Outcome.{Outcome}
+use Rattle.m88_event.specs.declared.record.Record.{Record}
+use Rattle.m88_report.specs.Report.{report_of}
+use Rattle.m88_board.specs.Glances.{Saw, glances_along}
+use Rattle.m88_board.specs.declared.glance.Glance.{Glance}
+use Rattle.m88_cli.specs.Runs.{ComesTo, IsReport}
+use Rattle.m88_cli.specs.Watching.{SawFront, SawRun}
+
+-- a choice counts no event
+choice_counts_none : (p : Program) (c : Choice) (fault : Record) (m : Moment) → (after_choice p c fault m).events ≡ m.events
+choice_counts_none p idles fault m = refl
+choice_counts_none p passes fault m = refl
+choice_counts_none p (holds why) fault m = refl
+choice_counts_none p (issues change) fault m = refl
+choice_counts_none p (serves byte) fault m = refl
+choice_counts_none p (finishes stop) fault m = refl
+choice_counts_none p replies fault m = refl
+choice_counts_none p faults fault m = refl
+
+-- so a moment has as many events as letters led to it
+letter_counts : (p : Program) (named : ℕ → Bool) (limit : ℕ) (letter : Letter) (m : Moment) → (after_letter p named limit letter m).events ≡ m.events + 1
+unfolding after_letter
+letter_counts p named limit letter m = ap (λ n. n + 1) (choice_counts_none p (choice_at p named limit letter m) (record_at p named limit m) m)
+
+pub counts : (p : Program) (named : ℕ → Bool) (limit : ℕ) (schedule : List Letter) (k : ℕ) → (moment_after p named limit schedule k).events ≡ k
+unfolding moment_after
+counts p named limit schedule zero = refl
+counts p named limit schedule (suc k) =
+    letter_counts p named limit (letter_at schedule k) (moment_after p named limit schedule k)
+    ∙ ap (λ n. n + 1) (counts p named limit schedule k) ∙ add-one k
+
+events_of : (p : Program) (m : Moment) → (outcome_at p m).events ≡ m.events
+unfolding outcome_at
+events_of p m = refl
+
+pub outcome_counts : (p : Program) (named : ℕ → Bool) (limit : ℕ) (schedule : List Letter) (o : Outcome) (is : IsOutcome p named limit schedule o)
+    → o.events ≡ is.events
+outcome_counts p named limit schedule o is =
+    ap (λ (x : Outcome). x.events) is.value ∙ events_of p (moment_after p named limit schedule is.events) ∙ counts p named limit schedule is.events
+
+-- what was seen of as many events as the outcome has was seen of the run
+pub saw_run : (p : Program) (limit : ℕ) (absent : ℕ → Bool) (schedule : List Letter) (before after : Option (List Glance)) (o : Outcome)
+    → IsOutcome p absent limit schedule o → Saw before after (glances_along p (moment_after p absent limit schedule) o.events)
+    → SawRun p limit absent schedule before after
+saw_run p limit absent schedule before after o is saw = record {
+  events = is.events;
+  is_run = is.run;
+  saw = subst (λ k. Saw before after (glances_along p (moment_after p absent limit schedule) k)) (outcome_counts p absent limit schedule o is) saw;
+}
+
+-- and of its front
+pub front_of_run : (p : Program) (limit : ℕ) (absent : ℕ → Bool) (schedule : List Letter) (before after : Option (List Glance))
+    → SawRun p limit absent schedule before after → SawFront p limit absent schedule before after
+front_of_run p limit absent schedule before after seen = record { events = seen.events; is_running = seen.is_run.first; saw = seen.saw }
+
+-- nothing that was seen is a front
+saw_nothing : (seen : Option (List Glance)) → Saw seen seen []
+saw_nothing None = tt
+saw_nothing (Some glances) = sym (append-nil glances)
+
+no_glance : (p : Program) (moments : ℕ → Moment) → glances_along p moments 0 ≡ []
+unfolding glances_along
+no_glance p moments = refl
+
+pub no_front : (p : Program) (limit : ℕ) (absent : ℕ → Bool) (schedule : List Letter) (seen : Option (List Glance)) → SawFront p limit absent schedule seen seen
+no_front p limit absent schedule seen = record {
+  events = 0;
+  is_running = λ k below. absurd (omega arith);
+  saw = subst (λ glances. Saw seen seen glances) (sym (no_glance p (moment_after p absent limit schedule))) (saw_nothing seen);
+}
+
+-- the report of a run of the one program of an input
+pub reported : (IsSuch : Program → Type 0) (p : Program) (limit : ℕ) (absent : ℕ → Bool) (schedule : List Letter) (text : List ℕ)
+    → IsSuch p → ((q : Program) → IsSuch q → q ≡ p)
+    → ((o other : Outcome) → IsOutcome p absent limit schedule o → IsOutcome p absent limit schedule other → o ≡ other)
+    → (o : Outcome) × IsOutcome p absent limit schedule o × (text ≡ report_of o) → IsReport IsSuch limit absent schedule text
+reported IsSuch p limit absent schedule text is_such one only (o, is, report) = record {
+  outcome = o;
+  comes = record { program = p; is_such = is_such; is_outcome = is };
+  only = λ other comes.
+      only other o
+      (subst (λ q. IsOutcome q absent limit schedule other) (one comes.program comes.is_such) comes.is_outcome) is;
+  is_text = report;
+}
+
+-- the same of a limit that is the board's
+pub front_by : (p : Program) (own limit : ℕ) (absent : ℕ → Bool) (schedule : List Letter) (before after : Option (List Glance)) → own ≡ limit
+    → (events : ℕ) × IsRunning p absent own schedule events × Saw before after (glances_along p (moment_after p absent own schedule) events)
+    → SawFront p limit absent schedule before after
+front_by p own limit absent schedule before after e (events, running, saw) =
+    subst (λ n. SawFront p n absent schedule before after) e (record { events = events; is_running = running; saw = saw })
+
+pub run_by : (p : Program) (own limit : ℕ) (absent : ℕ → Bool) (schedule : List Letter) (before after : Option (List Glance)) (o : Outcome) → own ≡ limit
+    → IsOutcome p absent own schedule o → Saw before after (glances_along p (moment_after p absent own schedule) o.events)
+    → SawRun p limit absent schedule before after
+run_by p own limit absent schedule before after o e is saw =
+    subst (λ n. SawRun p n absent schedule before after) e (saw_run p own absent schedule before after o is saw)
+
+-- a fact holds where a call failed, and where it didn't
+pub on_err : {T E P : Type 0} (r : Result T E) → P → OnErr r P
+on_err (Ok x) h = tt
+on_err (Err e) h = h
+
+pub on_ok : {T E P : Type 0} (r : Result T E) → P → OnOk r P
+on_ok (Ok x) h = h
+on_ok (Err e) h = tt

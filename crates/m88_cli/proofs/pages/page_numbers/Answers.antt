@@ -1,0 +1,32 @@
+-- The numbers are read one by one.
+use Rattle.std.proofs.Common.{arith}
+use Rattle.m88_cli.proofs.PageLists.{at_first, last_found, last_only, none_before, none_last, one_more}
+use Rattle.m88_cli.proofs.pages.page_numbers.Goals as goal
+
+pub loop-first-preserved : goal.loop-first-preserved
+loop-first-preserved c = record {
+  sofar = one_more c.args.text.now c.loop-first.rest.now c.in-Some.first.now c.in-Some.others.now c.loop-first.numbers.items
+      c.add_number.new.numbers.items c.loop-first.invariant.sofar c.in-Some.ensures.found c.in-Some.ensures.before c.in_ok-add_number.ensures.added;
+  few = c.in_ok-add_number.ensures.room;
+  below = c.in_ok-add_number.ensures.below c.loop-first.invariant.below;
+}
+
+pub returns-in_err-add_number-clause-only : goal.returns-in_err-add_number-clause-only
+returns-in_err-add_number-clause-only c = λ ns are few.
+    absurd (none_before c.args.text.now c.loop-first.rest.now c.in-Some.first.now c.in-Some.others.now c.loop-first.numbers.items ns
+    c.loop-first.invariant.sofar c.in-Some.ensures.found c.in-Some.ensures.before (c.add_number.ensures.full c.in_err-add_number.was) are few)
+
+pub returns-in_err-add_number-2-clause-only : goal.returns-in_err-add_number-2-clause-only
+returns-in_err-add_number-2-clause-only c = λ ns are few.
+    absurd (none_last c.args.text.now c.loop-first.rest.now c.loop-first.numbers.items ns
+    c.loop-first.invariant.sofar c.in_default.ensures.none (c.add_number-2.ensures.full c.in_err-add_number-2.was) are few)
+
+pub returns-clause-found : goal.returns-clause-found
+returns-clause-found c =
+    last_found c.args.text.now c.loop-first.rest.now c.loop-first.numbers.items c.add_number-2.new.numbers.items
+    c.loop-first.invariant.sofar c.in_ok-add_number-2.ensures.added
+
+pub returns-clause-only : goal.returns-clause-only
+returns-clause-only c = λ ns are few.
+    last_only c.args.text.now c.loop-first.rest.now c.loop-first.numbers.items c.add_number-2.new.numbers.items ns
+    c.loop-first.invariant.sofar c.in_default.ensures.none c.in_ok-add_number-2.ensures.added are

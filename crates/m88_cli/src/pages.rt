@@ -1,0 +1,116 @@
+//! The word of a command that says which pages are absent.
+ghost use Rattle.std.specs.Prelude.{ℕ, Bool, ◌≡◌, ◌≢◌, ◌<◌, ◌≤◌, ◌++◌, ◌∷◌, ◌==◌, [], All, List, IfNone, IfSome, MatchOption, None, OnSome, Some, codes, length};
+ghost use Rattle.std.specs.List.{position_or_len};
+ghost use Rattle.m88_mem.specs.DataBus.{page_count};
+ghost use Rattle.m88_mem.specs.Marks.{NamesPages, absent_in};
+ghost use Rattle.m88_cli.specs.Commas.{HasNoComma};
+ghost use Rattle.m88_cli.specs.Pages.{ArePageNumbers, IsAbsent, IsPageNumber, comma, most_numbers};
+
+use crate::numbers::short_number;
+use arrayvec::ArrayVec;
+use m88_base::Absent;
+
+/// The most page numbers that a text may have.
+const MOST_NUMBERS: usize = 64;
+
+/// The greatest number of a page.
+const LAST_PAGE: u32 = 0xFFFFF;
+
+/// The absent pages that a text says: `none`, `all`, or 1 to 64 page numbers joined by commas. None for any other text.
+pub fn absent_of(text: &str) -> Option<Absent>
+    ensures found { IfSome result (λ choice. IsAbsent text.now (absent_in choice)) }
+    ensures only { (absent : ℕ → Bool) → IsAbsent text.now absent
+        → MatchOption result ⊥ (λ choice. absent_in choice ≡ absent) }
+    ensures pages { IfSome result NamesPages }
+{
+    if text == "none" {
+        return Some(Absent::None);
+    }
+    if text == "all" {
+        return Some(Absent::All);
+    }
+    let numbers = page_numbers(text.as_bytes())?;
+    Some(Absent::Pages(numbers))
+}
+
+/// The page numbers that a text joins by commas.
+fn page_numbers(text: &[u8]) -> Option<ArrayVec<u32, MOST_NUMBERS>>
+    ensures found { IfSome result (λ numbers. ArePageNumbers text.now numbers.items) }
+    ensures few { IfSome result (λ numbers. length numbers.items ≤ most_numbers) }
+    ensures below { IfSome result (λ numbers. All (λ n. n < page_count) numbers.items) }
+    ensures only { (numbers : List ℕ) → ArePageNumbers text.now numbers
+        → length numbers ≤ most_numbers
+        → MatchOption result ⊥ (λ found. found.items ≡ numbers) }
+{
+    let mut numbers = ArrayVec::new();
+    let mut rest = text;
+    while let Some((first, others)) = cut_at_comma(rest) {
+        add_number(&mut numbers, first)?;
+        rest = others;
+    }
+    add_number(&mut numbers, rest)?;
+    Some(numbers)
+}
+
+/// Appends the page number that a text writes, or answers None where it writes none or there is no room.
+fn add_number(numbers: &mut ArrayVec<u32, MOST_NUMBERS>, text: &[u8]) -> Option<()>
+    ensures added { OnSome result ((n : ℕ) × IsPageNumber text.now n
+        × (numbers.new.items ≡ numbers.old.items ++ n ∷ [])) }
+    ensures room { OnSome result (length numbers.new.items ≤ most_numbers) }
+    ensures below { OnSome result (All (λ n. n < page_count) numbers.old.items
+        → All (λ n. n < page_count) numbers.new.items) }
+    ensures full { result ≡ None → (n : ℕ) → IsPageNumber text.now n
+        → most_numbers ≤ length numbers.old.items }
+{
+    let number = page_number(text)?;
+    if numbers.is_full() {
+        return None;
+    }
+    numbers.push(number);
+    Some(())
+}
+
+/// The number of a page that a text writes.
+fn page_number(text: &[u8]) -> Option<u32>
+    ensures found { IfSome result (IsPageNumber text.now) }
+    ensures only { (n : ℕ) → IsPageNumber text.now n → result ≡ Some n }
+{
+    match after_0x(text) {
+        Some(digits) => short_number(16, 5, digits, LAST_PAGE),
+        None => short_number(10, 7, text, LAST_PAGE),
+    }
+}
+
+/// What stands behind `0x`.
+fn after_0x(text: &[u8]) -> Option<&[u8]>
+    ensures found { IfSome result (λ digits. text.now ≡ codes "0x" ++ digits.now) }
+    ensures none { result ≡ None → (digits : List ℕ) → text.now ≢ codes "0x" ++ digits }
+{
+    if text.starts_with(b"0x") {
+        Some(&text[2..])
+    } else {
+        None
+    }
+}
+
+/// What stands before the first comma and after it.
+fn cut_at_comma(text: &[u8]) -> Option<(&[u8], &[u8])>
+    ensures found { IfSome result (λ o. text.now ≡ o.0.now ++ comma ∷ o.1.now) }
+    ensures before { IfSome result (λ o. HasNoComma o.0.now) }
+    ensures none { IfNone result (HasNoComma text.now) }
+{
+    let at = length_before_comma(text);
+    if at < text.len() {
+        Some((&text[..at], &text[at + 1..]))
+    } else {
+        None
+    }
+}
+
+/// How many bytes stand before the first comma; all where there is none.
+fn length_before_comma(text: &[u8]) -> usize
+    ensures value { result ≡ position_or_len (λ b. b == comma) text.now }
+    ensures bound { result ≤ length text.now }
+{
+    text.iter().take_while(|b| **b != b',').count()
+}

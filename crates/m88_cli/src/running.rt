@@ -1,0 +1,114 @@
+//! What `run` and `exec` make of their input: a run on the board, and its report.
+ghost use Rattle.std.specs.Prelude.{◌≡◌, ◌≤◌, IfOk, OnErr, OnOk, length};
+ghost use Rattle.m88_base.specs.Image.{IsImage};
+ghost use Rattle.m88_event.specs.Run.{IsOutcome};
+ghost use Rattle.m88_event.specs.declared.outcome.Outcome.{Outcome as OutcomeValue};
+ghost use Rattle.m88_isa.specs.ImageProgram.{IsProgramOf};
+ghost use Rattle.m88_isa.specs.Machine.{Program};
+ghost use Rattle.m88_mem.specs.Marks.{NamesPages, absent_in};
+ghost use Rattle.m88_cli.specs.Command.{exec, run};
+ghost use Rattle.m88_cli.specs.Limits.{most_input, most_limit};
+ghost use Rattle.m88_cli.specs.Reply.{Replies, WatchesFront, WatchesReply};
+ghost use Rattle.m88_cli.specs.Watching.{SawFront, SawRun};
+ghost use Rattle.m88_report.specs.Report.{report_of};
+
+use crate::assembly::image_of_source;
+use crate::loading::unloaded;
+use crate::reply::Reply;
+use crate::source_fault::refuse;
+use m88_base::{Absent, Image, NoMemory};
+use m88_board::{Board, Watch};
+use m88_event::Schedule;
+use m88_report::report;
+use m88_srec::read_srec;
+use std::alloc::Global;
+
+/// The reply of `run` to a source.
+pub fn run_source<W: Watch>(
+    alloc: Global,
+    limit: u32,
+    absent: &Absent,
+    schedule: &Schedule,
+    source: &[u8],
+    watch: &mut W,
+) -> Result<Reply, NoMemory>
+    requires size { length source.now ≤ most_input }
+    requires limit { limit ≤ most_limit }
+    requires pages { NamesPages absent.now }
+    ensures reply { IfOk result
+        (Replies (run limit (absent_in absent.now) schedule.now) source.now) }
+    ensures watched { IfOk result (WatchesReply W.seen watch.old watch.new
+        (run limit (absent_in absent.now) schedule.now) source.now) }
+    ensures front { OnErr result (WatchesFront W.seen watch.old watch.new
+        (run limit (absent_in absent.now) schedule.now) source.now) }
+{
+    let image = match image_of_source(alloc, source) {
+        Ok(image) => image,
+        Err(fault) => return refuse(alloc, fault),
+    };
+    let text = run_image(alloc, limit, absent, schedule, &image, watch)?;
+    Ok(Reply {
+        accepted: true,
+        text,
+    })
+}
+
+/// The reply of `exec` to S-records.
+pub fn run_records<W: Watch>(
+    alloc: Global,
+    limit: u32,
+    absent: &Absent,
+    schedule: &Schedule,
+    records: &[u8],
+    watch: &mut W,
+) -> Result<Reply, NoMemory>
+    requires size { length records.now ≤ most_input }
+    requires limit { limit ≤ most_limit }
+    requires pages { NamesPages absent.now }
+    ensures reply { IfOk result
+        (Replies (exec limit (absent_in absent.now) schedule.now) records.now) }
+    ensures watched { IfOk result (WatchesReply W.seen watch.old watch.new
+        (exec limit (absent_in absent.now) schedule.now) records.now) }
+    ensures front { OnErr result (WatchesFront W.seen watch.old watch.new
+        (exec limit (absent_in absent.now) schedule.now) records.now) }
+{
+    let image = match read_srec(alloc, records) {
+        Ok(image) => image,
+        Err(fault) => return unloaded(alloc, fault),
+    };
+    let text = run_image(alloc, limit, absent, schedule, &image, watch)?;
+    Ok(Reply {
+        accepted: true,
+        text,
+    })
+}
+
+/// The report of a run of the program that an image holds, on a board that is shown to the watch after each event.
+fn run_image<W: Watch>(
+    alloc: Global,
+    limit: u32,
+    absent: &Absent,
+    schedule: &Schedule,
+    image: &Image,
+    watch: &mut W,
+) -> Result<Vec<u8>, NoMemory>
+    requires limit { limit ≤ most_limit }
+    requires pages { NamesPages absent.now }
+    ensures image { IsImage image.now }
+    ensures report { IfOk result (λ text. (p : Program) → IsProgramOf image.now p
+        → (o : OutcomeValue) × IsOutcome p (absent_in absent.now) limit schedule.now o
+        × (text.items ≡ report_of o)) }
+    ensures only { (p : Program) (o other : OutcomeValue)
+        → IsOutcome p (absent_in absent.now) limit schedule.now o
+        → IsOutcome p (absent_in absent.now) limit schedule.now other → o ≡ other }
+    ensures watched { OnOk result ((p : Program) → IsProgramOf image.now p
+        → SawRun p limit (absent_in absent.now) schedule.now (W.seen watch.old) (W.seen watch.new)) }
+    ensures front { OnErr result ((p : Program) → IsProgramOf image.now p
+        → SawFront p limit (absent_in absent.now) schedule.now (W.seen watch.old) (W.seen watch.new)) }
+{
+    // What always holds of an image is told with its parts.
+    let _ = image.part_count();
+    let board = Board::new(alloc, image, absent, limit)?;
+    let outcome = board.run(schedule, watch)?;
+    report(alloc, &outcome)
+}
