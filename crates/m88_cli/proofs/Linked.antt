@@ -1,15 +1,14 @@
 -- What a source is assembled and linked into answers it.
 use Rattle.std.proofs.Common.{◌≡◌, List, ℕ, ap, sym, ◌∙◌, subst}
-use Rattle.m88_base.specs.Image.{IsImage, ProgramImage, byte_at}
+use Rattle.m88_base.specs.Image.{IsImage, ProgramImage}
 use Rattle.m88_base.proofs.SameRuns.{same_images}
 use Rattle.m88_link.specs.ObjectText.{objects_text}
 use Rattle.m88_link.specs.declared.object.Object.{Object}
-use Rattle.m88_asm.specs.Images.{IsUnitImage, unit_byte, unit_start}
+use Rattle.m88_asm.specs.Images.{IsUnitImage}
 use Rattle.m88_parse.proofs.Law.Faults.{one_answer}
 use Rattle.m88_srec.specs.Written.{srec_text}
 use Rattle.m88_parse.specs.declared.unit.Unit.{Unit as Source}
 use Rattle.m88_cli.specs.Answer.{IsAnswerToAccepted}
-use Rattle.m88_cli.specs.Assembly.{IsSourceImage}
 use Rattle.m88_cli.specs.Linking.{HoldsUnit, IsObjectsOf}
 use Rattle.m88_cli.specs.Command.{asm, build}
 

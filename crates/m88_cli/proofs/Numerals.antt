@@ -1,5 +1,5 @@
 -- Short numbers: which texts the reading takes, and what they write.
-use Rattle.std.proofs.Common.{◌≡◌, Option, ℕ, ◌≤◌, ◌<◌, List, [], ◌∷◌, Bool, true, false, ◌&&◌, Some, None, length, refl, ap, sym, ◌∙◌, nat_le}
+use Rattle.std.proofs.Common.{◌≡◌, Option, ℕ, ◌≤◌, List, [], ◌∷◌, Bool, true, false, ◌&&◌, Some, None, length, refl, ap, sym, ◌∙◌, nat_le}
 use Rattle.std.specs.Prelude.{IfSome, if◌then◌else◌}
 use Rattle.std.specs.Char.{digit_value, is_digit}
 use Rattle.std.specs.Str.Parse.{AllDigits, IsNumeral, digits_value}

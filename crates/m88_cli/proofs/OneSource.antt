@@ -1,5 +1,5 @@
 -- An input that a command refuses isn't accepted, and has one refusal.
-use Rattle.std.proofs.Common.{◌≡◌, ℕ, List, Ok, Err, ap, sym, ◌∙◌}
+use Rattle.std.proofs.Common.{◌≡◌, ℕ, List, ap, sym, ◌∙◌}
 use Rattle.m88_srec.proofs.Law.{verdict_takes}
 use Rattle.m88_cli.specs.Answer.{Accepts, Refuses}
 use Rattle.m88_cli.specs.Command.{Command, run, exec, asm, build}

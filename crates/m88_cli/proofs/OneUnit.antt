@@ -8,7 +8,7 @@ use Rattle.m88_asm.specs.Units.{unit_layout}
 use Rattle.m88_asm.specs.declared.fault.AsmFault.{AsmFault}
 use Rattle.m88_link.specs.Refusal.{IsLinkable, IsRefused}
 use Rattle.m88_parse.specs.declared.unit.Unit.{Unit as Source}
-use Rattle.m88_cli.specs.Assembly.{IsAssemblySource, IsProgramSource, IsRefusedProgram, IsRefusedSource, IsUnassembled, IsUnlinked, IsUnread, asm_refusal, link_refusal, parse_refusal}
+use Rattle.m88_cli.specs.Assembly.{IsAssemblySource, IsProgramSource, IsRefusedProgram, IsRefusedSource, IsUnlinked, asm_refusal, link_refusal, parse_refusal}
 use Rattle.m88_cli.specs.Refusal.{Refusal}
 
 -- a unit without a fault has none

@@ -1,5 +1,5 @@
 -- A source that is accepted has one program, and its image holds that; so have S-records.
-use Rattle.std.proofs.Common.{◌≡◌, ℕ, ◌<◌, ◌^◌, List, [], Option, Some, None, Ok, false, true, inl, inr, refl, ap, sym, ◌∙◌, subst}
+use Rattle.std.proofs.Common.{◌≡◌, ℕ, ◌<◌, ◌^◌, List, [], Option, Some, None, false, true, inl, inr, refl, ap, sym, ◌∙◌, subst}
 use Rattle.std.specs.Int.{from_be_bytes, to_be_bytes, w32}
 use Rattle.std.specs.Option.{option_or}
 use Rattle.std.specs.Prelude.{unwrap_or}
@@ -18,7 +18,7 @@ use Rattle.m88_parse.proofs.Law.Faults.{one_answer}
 use Rattle.m88_parse.specs.declared.unit.Unit.{Unit as Source}
 use Rattle.m88_asm.specs.Images.{IsUnitInstruction, IsUnitProgram, placed_instruction, unit_byte}
 use Rattle.m88_srec.proofs.Law.{verdict_takes}
-use Rattle.m88_srec.specs.Accepted.{IsAccepted, Whole, whole_of}
+use Rattle.m88_srec.specs.Accepted.{Whole, whole_of}
 use Rattle.m88_cli.specs.Linking.{HoldsUnit}
 use Rattle.m88_cli.specs.Runs.{IsLoadedProgram, IsSourceProgram}
 

@@ -1,10 +1,10 @@
 -- A run of the one program of an input comes to one outcome, and its report answers the input.
-use Rattle.std.proofs.Common.{◌≡◌, ℕ, zero, suc, ◌+◌, ◌<◌, Bool, List, [], ◌++◌, Option, Some, None, Result, Ok, Err, add-one, refl, ap, sym, ◌∙◌, subst, arith, append-nil}
+use Rattle.std.proofs.Common.{◌≡◌, ℕ, zero, suc, ◌+◌, Bool, List, [], Option, Some, None, Result, Ok, Err, add-one, refl, ap, sym, ◌∙◌, subst, arith, append-nil}
 use Rattle.std.specs.Prelude.{OnErr, OnOk}
 use Rattle.m88_isa.specs.Machine.{Program}
 use Rattle.m88_event.specs.Choice.{Choice, faults, finishes, holds, idles, issues, passes, replies, serves}
 use Rattle.m88_event.specs.Letters.{letter_at}
-use Rattle.m88_event.specs.Run.{IsOutcome, IsRun, IsRunning, moment_after, outcome_at}
+use Rattle.m88_event.specs.Run.{IsOutcome, IsRunning, moment_after, outcome_at}
 use Rattle.m88_event.specs.Timeline.{Moment, after_choice, after_letter, choice_at, record_at}
 use Rattle.m88_event.specs.declared.letter.Letter.{Letter}
 use Rattle.m88_event.specs.declared.outcome.Outcome.{Outcome}
@@ -12,7 +12,7 @@ use Rattle.m88_event.specs.declared.record.Record.{Record}
 use Rattle.m88_report.specs.Report.{report_of}
 use Rattle.m88_board.specs.Glances.{Saw, glances_along}
 use Rattle.m88_board.specs.declared.glance.Glance.{Glance}
-use Rattle.m88_cli.specs.Runs.{ComesTo, IsReport}
+use Rattle.m88_cli.specs.Runs.{IsReport}
 use Rattle.m88_cli.specs.Watching.{SawFront, SawRun}
 
 -- a choice counts no event

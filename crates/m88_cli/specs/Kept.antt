@@ -1,5 +1,5 @@
 -- Words for the contracts of private functions; no promise of the program names them. A command as the code keeps it.
-use Rattle.std.specs.Prelude.{◌≤◌, ◌≡◌, Option, None, Some}
+use Rattle.std.specs.Prelude.{◌≤◌}
 use Rattle.m88_mem.specs.Marks.{NamesPages, absent_in}
 use Rattle.m88_cli.specs.Command.{Command as Choice, run, exec, asm, build}
 use Rattle.m88_cli.specs.Limits.{most_limit}

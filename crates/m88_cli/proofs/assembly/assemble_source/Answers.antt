@@ -1,5 +1,5 @@
 -- The text of the objects answers the source, and so does the line that refuses it.
-use Rattle.std.proofs.Common.{ap, sym, ◌∙◌}
+use Rattle.std.proofs.Common.{ap, ◌∙◌}
 use Rattle.m88_link.specs.ObjectText.{objects_text}
 use Rattle.m88_cli.specs.Command.{asm}
 use Rattle.m88_cli.specs.SourceFault.{refusal_of}

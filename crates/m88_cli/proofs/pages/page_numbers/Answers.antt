@@ -1,6 +1,5 @@
 -- The numbers are read one by one.
-use Rattle.std.proofs.Common.{arith}
-use Rattle.m88_cli.proofs.PageLists.{at_first, last_found, last_only, none_before, none_last, one_more}
+use Rattle.m88_cli.proofs.PageLists.{last_found, last_only, none_before, none_last, one_more}
 use Rattle.m88_cli.proofs.pages.page_numbers.Goals as goal
 
 pub loop-first-preserved : goal.loop-first-preserved

@@ -1,5 +1,5 @@
 -- The image that the records write holds their program, and the report of its run answers them.
-use Rattle.std.proofs.Common.{◌≡◌, inr, refl}
+use Rattle.std.proofs.Common.{inr}
 use Rattle.m88_codec.proofs.ImagePrograms.{program_in, program_in_holds}
 use Rattle.m88_mem.specs.Marks.{absent_in}
 use Rattle.m88_srec.specs.Accepted.{whole_of}

@@ -1,5 +1,5 @@
 -- The image holds the program of the source, and the report of its run answers the source.
-use Rattle.std.proofs.Common.{◌≡◌, inr, refl, sym, subst}
+use Rattle.std.proofs.Common.{inr}
 use Rattle.m88_mem.specs.Marks.{absent_in}
 use Rattle.m88_cli.specs.Command.{run}
 use Rattle.m88_cli.specs.Runs.{IsSourceProgram}
