@@ -8,6 +8,5 @@ pub mod OneSource
 pub mod Programs
 pub mod Reporting
 pub mod Refusing
-pub mod RunningReplies
 pub mod Linked
 pub mod Whole
