@@ -33,7 +33,7 @@ use Rattle.m88_mem.specs.DataBus.{MemoryView, absent_of, bus_of, ready_of}
 use Rattle.m88_scoreboard.specs.Registers.{Registers, none_waits, waiting_of}
 use Rattle.m88_board.proofs.Steps.{faulted, issued, put_out}
 use Rattle.m88_board.specs.Board.{BoardView, cells_of, completed_of, is_idle_board, local_of, next_of}
-use Rattle.m88_board.specs.Kept.{AreReady, HasReadyPage, IsKept, SlotsAgree, StaysReady}
+use Rattle.m88_board.specs.Kept.{AreReady, HasReadyPage, IsBehind, IsKept, SlotsAgree, StaysReady}
 use Rattle.m88_board.specs.Moves.{Did, Does, IsAdvanced, IsUnmoved}
 
 -- a word without bits names no register
@@ -97,6 +97,7 @@ pub kept_issued : (b : BoardView) (accesses : Accesses) (slots : Pointers) (pend
     StaysReady b.memory memory →
     AreReady (ready_of memory) (listed accesses) →
     SlotsAgree memory.image slots →
+    slots.xip.v ≡ true →
     control ≡ record b.control { psr = with_carry carry b.control.psr } →
     carry_of control ≡ carry →
     IsKept (record b {
@@ -107,7 +108,7 @@ pub kept_issued : (b : BoardView) (accesses : Accesses) (slots : Pointers) (pend
       control = control;
       retired = b.retired + 1;
     })
-kept_issued b accesses slots pending file memory control carry kept goes can room apart joined waiting stays ready agree changed carries =
+kept_issued b accesses slots pending file memory control carry kept goes can room apart joined waiting stays ready agree behind changed carries =
     let more = length-append b.pending (listed accesses) in
     let count = listed_count accesses can.count in
     let all = ap length joined in
@@ -129,6 +130,7 @@ kept_issued b accesses slots pending file memory control carry kept goes can roo
             ready);
       };
       slots = agree;
+      bubbled = λ bubble. record { some = omega arith; xip = behind };
       status = ap (λ (t : Bool). if t then control.epsr else control.psr) going
           ∙ ap (λ (c : ControlRegisters). c.psr) changed
           ∙ ap (with_carry carry) (sym (ap (λ (t : Bool). if t then b.control.epsr else b.control.psr) going) ∙ kept.status)
@@ -313,6 +315,7 @@ kept_faulted b file memory control slots pending done records fault kept some em
       };
       slots = subst (λ (s : Pointers). SlotsAgree memory.image s) (sym same)
           (subst (λ i. SlotsAgree i b.slots) (sym image) kept.slots);
+      bubbled = subst (λ (s : Pointers). s.nip.v ≡ false → IsBehind b.retired s) (sym same) kept.bubbled;
       status = ap (λ (t : Bool). if t then control.epsr else control.psr) going
           ∙ psr
           ∙ sym (ap (λ (t : Bool). if t then b.control.epsr else b.control.psr) going)

@@ -83,6 +83,7 @@ kept limit entry e0 e1 file memory small none first second = record {
     ready = All-nil (HasReadyPage (ready_of memory));
   };
   slots = record { nip = rw first refl; fip = rw second refl };
+  bubbled = λ h. absurd cc;
   status = refl;
   drained = λ h. refl;
   made = omega arith;

@@ -1,5 +1,5 @@
 -- What always holds of a board.
-use Rattle.std.specs.Prelude.{ℕ, Bool, true, List, [], All, IfSome, ◌≡◌, ◌<◌, ◌≤◌, ◌+◌, ◌*◌, ◌^◌, is_none, is_some, length, if◌then◌else◌}
+use Rattle.std.specs.Prelude.{ℕ, Bool, true, false, List, [], All, IfSome, ◌≡◌, ◌<◌, ◌≤◌, ◌+◌, ◌*◌, ◌^◌, is_none, is_some, length, if◌then◌else◌}
 use Rattle.m88_base.specs.Image.{ProgramImage, byte_at}
 use Rattle.m88_ctrl.specs.ControlRegisters.{carry_of}
 use Rattle.m88_event.specs.Shadow.{status_of}
@@ -56,6 +56,11 @@ pub record SlotsAgree (image : ProgramImage) (slots : Pointers) : Type 0 where
       else squashed_slot (word_behind slots.xip.addr))
   pub fip : slots.fip ≡ valid_slot slots.fip.addr (lacks_word image slots.fip.addr)
 
+-- an instruction was retired, and it is XIP: a bubble is there only behind one
+pub record IsBehind (retired : ℕ) (slots : Pointers) : Type 0 where
+  pub some : 1 ≤ retired
+  pub xip : slots.xip.v ≡ true
+
 -- the status: until the program has ended PSR is a user's with the carry, afterwards EPSR has that
 abbrev pub epsr_of : BoardView → ℕ
 epsr_of b = if is_some b.ended then b.control.epsr else b.control.psr
@@ -69,6 +74,7 @@ IsProgramEnd _ = Unit {0}
 pub record IsKept (b : BoardView) : Type 0 where
   pub parts : PartsAgree b.pending b.file b.memory
   pub slots : SlotsAgree b.memory.image b.slots
+  pub bubbled : b.slots.nip.v ≡ false → IsBehind b.retired b.slots
   pub status : epsr_of b ≡ status_of (carry_of b.control)
   pub drained : is_some b.ended ≡ true → b.pending ≡ []
   pub made : b.done + length b.pending ≤ 2 * b.retired
