@@ -1,5 +1,5 @@
 -- What always holds of a board goes on to hold.
-use Rattle.std.specs.Prelude.{ℕ, zero, suc, Bool, true, false, not, List, [], ◌∷◌, ◌++◌, All, IfSome, ◌≡◌, ◌≢◌, ◌<◌, ◌≤◌, ◌+◌, ◌==◌, ◌&&◌, bit_or, max, is_some, length, if◌then◌else◌}
+use Rattle.std.specs.Prelude.{ℕ, zero, suc, Bool, true, false, not, List, [], ◌∷◌, ◌++◌, Some, All, IfSome, ◌≡◌, ◌≢◌, ◌<◌, ◌≤◌, ◌+◌, ◌==◌, ◌&&◌, bit_or, max, is_some, length, if◌then◌else◌}
 use Rattle.std.specs.Int.{bit_at}
 use Rattle.std.proofs.Common.{arith, refl, sym, ap, ap₂, ◌∙◌, subst, length-append}
 use Rattle.std.proofs.Math.Path.{fun_ext}
@@ -12,6 +12,7 @@ use Rattle.m88_ctrl.specs.ControlRegisters.{ControlRegisters, carry_of, exceptio
 use Rattle.m88_dunit.specs.Pending.{CanIssue}
 use Rattle.m88_event.specs.Choice.{faults, issues, serves, touches_page}
 use Rattle.m88_event.specs.Shadow.{status_of}
+use Rattle.m88_event.specs.declared.happened.End.{End}
 use Rattle.m88_event.specs.declared.happened.Happened.TheVariants as happened
 use Rattle.m88_event.specs.declared.record.Record.{Record}
 use Rattle.m88_isa.proofs.Alone.{by_test}
@@ -32,9 +33,11 @@ use Rattle.m88_iunit.specs.Pointers.{Pointers}
 use Rattle.m88_mem.specs.DataBus.{MemoryView, absent_of, bus_of, ready_of}
 use Rattle.m88_scoreboard.specs.Registers.{Registers, none_waits, waiting_of}
 use Rattle.m88_board.proofs.Steps.{faulted, issued, put_out}
+use Rattle.m88_board.proofs.Stopping.{ends_now, no_end}
 use Rattle.m88_board.specs.Board.{BoardView, cells_of, completed_of, is_idle_board, local_of, next_of}
-use Rattle.m88_board.specs.Kept.{AreReady, HasReadyPage, IsBehind, IsKept, SlotsAgree, StaysReady}
+use Rattle.m88_board.specs.Kept.{AreReady, HasReadyPage, IsBehind, IsKept, IsProgramEnd, SlotsAgree, StaysReady}
 use Rattle.m88_board.specs.Moves.{Did, Does, IsAdvanced, IsUnmoved}
+use Rattle.m88_board.specs.Turns.{ComesToEnd}
 
 -- a word without bits names no register
 pub no_members : registers_in 0 ≡ none_waits
@@ -108,7 +111,8 @@ pub kept_issued : (b : BoardView) (accesses : Accesses) (slots : Pointers) (pend
       control = control;
       retired = b.retired + 1;
     })
-kept_issued b accesses slots pending file memory control carry kept goes can room apart joined waiting stays ready agree behind changed carries =
+kept_issued b accesses slots pending file memory control carry kept goes can room apart joined waiting stays ready agree
+    behind changed carries =
     let more = length-append b.pending (listed accesses) in
     let count = listed_count accesses can.count in
     let all = ap length joined in
@@ -143,6 +147,7 @@ kept_issued b accesses slots pending file memory control carry kept goes can roo
       within = one_more b goes kept.within;
       early = λ ended. absurd (let no = going in cc);
       ends = kept.ends;
+      ends_so = rw (no_end b.ended going) tt;
       small = kept.small;
       counted = kept.counted;
     }
@@ -328,6 +333,7 @@ kept_faulted b file memory control slots pending done records fault kept some em
       within = kept.within;
       early = kept.early;
       ends = kept.ends;
+      ends_so = rw (no_end b.ended going) tt;
       small = kept.small;
       counted = kept.counted;
     }
@@ -341,6 +347,39 @@ pub carry_entered : (control control' : ControlRegisters) →
 carry_entered control control' psr =
     ap (λ n. bit_at n 28 == 1) psr
     ∙ ap (λ n. n == 1) (bit_at_or control.psr exception_bits 28 ∙ max_zero (bit_at control.psr 28) (bit_at exception_bits 28) refl)
+
+-- the program ends, with nothing pending
+pub kept_finished : (b : BoardView) (control : ControlRegisters) (end : End) →
+    IsKept b →
+    is_idle_board b ≡ false →
+    b.pending ≡ [] →
+    IsProgramEnd end →
+    ComesToEnd end b →
+    control.psr ≡ bit_or b.control.psr exception_bits →
+    control.epsr ≡ b.control.psr →
+    IsKept (record b { control = control; ended = Some end })
+kept_finished b control end kept goes none ends comes psr epsr =
+    let carry = carry_entered b.control control psr in
+    let more = one_more b goes kept.within in
+    record {
+      parts = kept.parts;
+      slots = kept.slots;
+      bubbled = kept.bubbled;
+      status = epsr
+          ∙ sym (ap (λ (t : Bool). if t then b.control.epsr else b.control.psr) (not_ended b goes))
+          ∙ kept.status
+          ∙ ap status_of (sym carry);
+      drained = λ ended. none;
+      made = kept.made;
+      answered = kept.answered;
+      faulted = kept.faulted;
+      within = kept.within;
+      early = λ ended. omega (arith, more);
+      ends = ends;
+      ends_so = ends_now b control end none comes carry;
+      small = kept.small;
+      counted = kept.counted;
+    }
 
 -- a byte is put out for a trap
 pub said_and_done : (fault : Record) (byte : ℕ) (b : BoardView) (slots : Pointers) (control : ControlRegisters) (out : List ℕ)

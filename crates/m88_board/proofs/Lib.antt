@@ -1,6 +1,7 @@
 pub mod Agree
 pub mod Choosing
 pub mod Steps
+pub mod Stopping
 pub mod Records
 pub mod Keeping
 pub mod Service

@@ -92,6 +92,7 @@ kept limit entry e0 e1 file memory small none first second = record {
   within = omega arith;
   early = λ h. absurd cc;
   ends = tt;
+  ends_so = tt;
   small = small;
   counted = omega arith;
 }

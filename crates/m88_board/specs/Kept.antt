@@ -3,17 +3,19 @@ use Rattle.std.specs.Prelude.{ℕ, Bool, true, false, List, [], All, IfSome, ◌
 use Rattle.m88_base.specs.Image.{ProgramImage, byte_at}
 use Rattle.m88_ctrl.specs.ControlRegisters.{carry_of}
 use Rattle.m88_event.specs.Shadow.{status_of}
+use Rattle.m88_event.specs.Timeline.{end_of_turn}
 use Rattle.m88_event.specs.declared.happened.End.{End}
 use Rattle.m88_event.specs.declared.happened.End.TheVariants.{Limit}
 use Rattle.m88_isa.specs.Bus.{page_number, LoadApart, waits_for}
 use Rattle.m88_isa.specs.Held.{most_pending}
-use Rattle.m88_isa.specs.Machine.{four_bytes}
+use Rattle.m88_isa.specs.ImageProgram.{IsProgramOf}
+use Rattle.m88_isa.specs.Machine.{Program, four_bytes, turn}
 use Rattle.m88_isa.specs.Memory.{IsWordAccess}
 use Rattle.m88_isa.specs.declared.planned.Access.{Access}
 use Rattle.m88_iunit.specs.Pointers.{Pointers, squashed_slot, valid_slot, word_behind}
 use Rattle.m88_mem.specs.DataBus.{MemoryView, ready_of}
 use Rattle.m88_scoreboard.specs.Registers.{Registers, waiting_of}
-use Rattle.m88_board.specs.Board.{BoardView}
+use Rattle.m88_board.specs.Board.{BoardView, next_of, pc_of}
 
 -- the most instructions that a run may retire
 abbrev pub most_retired : ℕ
@@ -70,6 +72,11 @@ abbrev pub IsProgramEnd : End → Type 0
 IsProgramEnd Limit = ⊥
 IsProgramEnd _ = Unit {0}
 
+-- it ended so as each program of its image does at the state reached: with nothing pending, that of the parts
+abbrev pub EndsSo : BoardView → End → Type 0
+EndsSo b end = (p : Program) → IsProgramOf b.memory.image p →
+    end_of_turn (turn p b.file.numbers (carry_of b.control) (pc_of b.slots) (next_of b.slots)) ≡ end
+
 -- what always holds of a board
 pub record IsKept (b : BoardView) : Type 0 where
   pub parts : PartsAgree b.pending b.file b.memory
@@ -83,5 +90,6 @@ pub record IsKept (b : BoardView) : Type 0 where
   pub within : b.retired ≤ b.limit
   pub early : is_some b.ended ≡ true → b.retired < b.limit
   pub ends : IfSome b.ended IsProgramEnd
+  pub ends_so : IfSome b.ended (EndsSo b)
   pub small : b.limit ≤ most_retired
   pub counted : b.events ≤ most_events

@@ -1,12 +1,16 @@
 -- What the next instruction comes to in its turn.
-use Rattle.std.specs.Prelude.{Option}
-use Rattle.m88_event.specs.Choice.{Choice, next_choice}
+use Rattle.std.specs.Prelude.{Option, ◌≡◌}
+use Rattle.m88_event.specs.Choice.{Choice, end_by, finishes, next_choice}
+use Rattle.m88_event.specs.Local.{choice_by}
+use Rattle.m88_event.specs.declared.happened.End.{End}
+use Rattle.m88_event.specs.declared.letter.Letter.TheVariants.{Issue}
 use Rattle.m88_isa.specs.Held.{held}
 use Rattle.m88_isa.specs.History.{Completed}
 use Rattle.m88_isa.specs.Effect.{Meaning, meaning_of}
-use Rattle.m88_isa.specs.Machine.{Turn, executed}
+use Rattle.m88_isa.specs.ImageProgram.{IsProgramOf}
+use Rattle.m88_isa.specs.Machine.{Program, Stop, Turn, executed}
 use Rattle.m88_isa.specs.declared.instr.Instr.{Instr}
-use Rattle.m88_board.specs.Board.{BoardView, completed_of}
+use Rattle.m88_board.specs.Board.{BoardView, completed_of, local_of}
 
 -- what an instruction means at a state
 abbrev pub meaning_at : Instr → Completed → Meaning
@@ -19,3 +23,12 @@ turn_of i c = executed i c.regs c.carry c.pc c.next
 -- the choice that it comes to in its turn on a board: the pending transactions hold it, or nothing does
 abbrev pub choice_for : Option Instr → BoardView → Choice
 choice_for i b = next_choice (held i (turn_of i (completed_of b)) b.pending) (turn_of i (completed_of b))
+
+-- the letter `i` comes to a choice on a board, by each program that its image holds
+abbrev pub ComesTo : Choice → BoardView → Type 0
+ComesTo choice b =
+    (p : Program) → IsProgramOf b.memory.image p → choice_by p b.limit Issue (local_of b) ≡ choice
+
+-- it comes to an end of the program
+abbrev pub ComesToEnd : End → BoardView → Type 0
+ComesToEnd end b = (stop : Stop) × (end ≡ end_by stop) × ComesTo (finishes stop) b

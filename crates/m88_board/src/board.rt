@@ -22,6 +22,7 @@ ghost use Rattle.m88_iunit.specs.Pointers.{resumed};
 ghost use Rattle.m88_board.specs.Kept.{IsProgramEnd, epsr_of, most_events, most_retired};
 ghost use Rattle.m88_board.specs.Moves.{Did, Does, IsAt, IsSameRun, IsStill, IsUnmoved, stopping};
 ghost use Rattle.m88_board.specs.Shown.{IsRecordOf, ShowsFault};
+ghost use Rattle.m88_board.specs.Turns.{ComesTo, ComesToEnd};
 ghost use Rattle.m88_event.specs.declared.happened.Happened.{Happened as HappenedValue};
 
 use crate::unit::{advance, complete, lacks_word, prepare, put_in, serve_all, visit, write};
@@ -147,7 +148,8 @@ impl Board {
 
     /// Passes the instruction behind a taken branch over.
     fn pass(&mut self)
-        requires { self.old.slots.nip.v ≡ false }
+        requires going { is_idle_board self.old ≡ false }
+        requires bubble { self.old.slots.nip.v ≡ false }
         ensures { (fault : RecordValue) → Does passes fault self.old self.new }
     {
         let then = self.iunit.following().addr.wrapping_add(4);
@@ -258,6 +260,7 @@ impl Board {
         requires going { is_idle_board self.old ≡ false }
         requires empty { self.old.pending ≡ [] }
         requires ends { IsProgramEnd end }
+        requires comes { ComesToEnd end self.old }
         ensures { (stop : Stop) (fault : RecordValue) → end ≡ end_by stop
             → Did (finishes stop) fault self.old result self.new }
     {
@@ -329,6 +332,8 @@ impl Board {
         requires vector { vector < 512 }
         requires going { is_idle_board self.old ≡ false }
         requires valid { self.old.slots.nip.v ≡ true }
+        requires comes { ComesTo
+            (stopping (by_vector vector (pc_of self.old.slots)) self.old.pending) self.old }
         ensures does { (fault : RecordValue) → Did
             (stopping (by_vector vector (pc_of self.old.slots)) self.old.pending)
             fault self.old result self.new }
@@ -348,6 +353,8 @@ impl Board {
         requires valid { self.old.slots.nip.v ≡ true }
         requires fetched { self.old.slots.nip.e ≡ false }
         requires empty { self.old.pending ≡ [] }
+        requires comes { ComesTo
+            (turn_choice (trapped vector self.old.file.numbers (pc_of self.old.slots))) self.old }
         ensures ok { IfOk result (λ happened. (fault : RecordValue) → Did
             (turn_choice (trapped vector self.old.file.numbers (pc_of self.old.slots)))
             fault self.old happened self.new) }

@@ -2,10 +2,18 @@
 use Rattle.std.proofs.Common.{ap}
 use Rattle.m88_ctrl.specs.ControlRegisters.{ControlRegisters}
 use Rattle.m88_event.specs.declared.happened.Happened.TheVariants as happened
-use Rattle.m88_board.proofs.Keeping.{carry_entered}
+use Rattle.m88_board.proofs.Keeping.{carry_entered, kept_finished}
 use Rattle.m88_board.proofs.Steps.{finished}
 use Rattle.m88_board.specs.contracts.board.Board.{the_view}
 use Rattle.m88_board.proofs.board.Board.finish.Goals as goal
+
+pub invariant_of-self : goal.invariant_of-self
+invariant_of-self c =
+    let goes = rw (← c.self.view_is) at c.requires.going in
+    let empty = rw (← c.self.view_is) at c.requires.empty in
+    let comes = rw (← c.self.view_is) at c.requires.comes in
+    kept_finished (the_view c.self.inside) c.enter.new.self c.args.end c.self.invariant goes empty c.requires.ends comes
+    (ap (λ (r : ControlRegisters). r.psr) c.enter.ensures.state) (ap (λ (r : ControlRegisters). r.epsr) c.enter.ensures.state)
 
 pub returns : goal.returns
 returns c = λ stop fault is. rw (← c.self.view_is) (record {

@@ -115,3 +115,29 @@ pub returns-in-Ok-clause-same : goal.returns-in-Ok-clause-same
 returns-in-Ok-clause-same c =
     same_if (choice_for (Some c.in-Ok.instr) c.args.self.now) c.issue_instr.result c.args.self.now c.issue_instr.new.self
     c.issue_instr.ensures.ok
+
+pub raise-requires-clause-comes : goal.raise-requires-clause-comes
+raise-requires-clause-comes c = λ p of.
+    let b = c.args.self.now in
+    let absent = ap (λ (o : Option ℕ). option_map (λ (word : ℕ). to_be_bytes w32 word) o) (sym c.in_default.is)
+    ∙ c.fetch.ensures in
+    lacks_by p b of (sym c.is_idle.ensures ∙ c.if-is_idle.false)
+    (next_at (the_view c.self.inside) b c.candidate-nip.result None c.self.view_is c.candidate-nip.ensures.value
+    c.candidate-nip.ensures.word c.if-not-nip.false absent)
+
+pub raise-requires-in-Err-clause-comes : goal.raise-requires-in-Err-clause-comes
+raise-requires-in-Err-clause-comes c = λ p of.
+    let b = c.args.self.now in
+    unimplemented_by p b c.in-Some.word of (sym c.is_idle.ensures ∙ c.if-is_idle.false)
+    (next_at (the_view c.self.inside) b c.candidate-nip.result (Some (to_be_bytes w32 c.in-Some.word)) c.self.view_is
+    c.candidate-nip.ensures.value c.candidate-nip.ensures.word c.if-not-nip.false c.in-Some.ensures)
+    (omega arith) (λ j is. let read = c.in-Err.ensures.only j is in cc)
+
+pub issue_instr-requires-clause-comes : goal.issue_instr-requires-clause-comes
+issue_instr-requires-clause-comes c = λ p of.
+    let b = c.args.self.now in
+    turns_by p b c.in-Some.word c.in-Ok.instr of (sym c.is_idle.ensures ∙ c.if-is_idle.false)
+    (next_at (the_view c.self.inside) b c.candidate-nip.result (Some (to_be_bytes w32 c.in-Some.word)) c.self.view_is
+    c.candidate-nip.ensures.value c.candidate-nip.ensures.word c.if-not-nip.false c.in-Some.ensures)
+    (omega arith) c.in-Ok.ensures.found
+    (λ j is. let read = c.decode.ensures.only j is in let said = c.in-Ok.is in cc)

@@ -117,3 +117,16 @@ pub returns-else-is_pending-clause-still : goal.returns-else-is_pending-clause-s
 returns-else-is_pending-clause-still c =
     let b = c.args.self.now in
     still_if_turned (trapped c.in-Trap.vector b.file.numbers (pc_of b.slots)) c.trap.result b c.trap.new.self c.trap.ensures.ok
+
+pub raise-requires-clause-comes : goal.raise-requires-clause-comes
+raise-requires-clause-comes c = λ p of.
+    c.requires.comes p of
+    ∙ raising c.args.instr.now c.args.self.now c.in-Raise.vector c.requires.free
+    (raise_is _ c.in-Raise.vector c.in-Raise.ensures.value)
+
+pub trap-requires-clause-comes : goal.trap-requires-clause-comes
+trap-requires-clause-comes c = λ p of.
+    c.requires.comes p of
+    ∙ trap_turn c.args.instr.now c.args.self.now c.in-Trap.vector c.requires.free
+    (trap_is _ c.in-Trap.vector c.in-Trap.ensures.value)
+    (nothing_pending c.args.self.now.pending (sym c.is_pending.ensures ∙ c.if-is_pending.false))

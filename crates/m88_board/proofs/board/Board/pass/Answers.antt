@@ -7,7 +7,7 @@ use Rattle.m88_board.proofs.board.Board.pass.Goals as goal
 
 pub returns : goal.returns
 returns c =
-    let bubble = rw (← c.self.view_is) at c.requires in
+    let bubble = rw (← c.self.view_is) at c.requires.bubble in
     λ fault. rw (← c.self.view_is)
     (passed fault (the_view c.self.inside) c.pass_bubble.new.self c.is_none-lacks.result bubble
     (ap (λ (s : Slot). s.v) c.self.invariant.slots.fip)

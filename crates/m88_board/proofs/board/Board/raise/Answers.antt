@@ -32,3 +32,15 @@ returns-clause-still c =
     (ap (λ a. Vector c.args.vector a)
     (at_pc c.self.inside.iunit c.args.self.now.slots c.candidate-at.result c.candidate-at.ensures.value
     (ap (λ (b : BoardView). b.slots) c.self.view_is) c.requires.valid)))
+
+pub finish-requires-clause-comes : goal.finish-requires-clause-comes
+finish-requires-clause-comes c =
+    let stop = by_vector c.args.vector (pc_of c.args.self.now.slots) in
+    let oldest = subst (λ (b : BoardView). c.oldest.result ≡ slice_get b.pending 0) c.self.view_is c.oldest.ensures.value in
+    let empty = none_pending c.args.self.now.pending c.oldest.result oldest (sym c.is_some.ensures ∙ c.if-is_some.false) in (
+      stop,
+      ap (λ a. Vector c.args.vector a)
+          (at_pc c.self.inside.iunit c.args.self.now.slots c.candidate-at.result c.candidate-at.ensures.value
+          (ap (λ (b : BoardView). b.slots) c.self.view_is) c.requires.valid),
+      λ p of. c.requires.comes p of ∙ stopping_ends stop c.args.self.now.pending empty,
+    )

@@ -1,5 +1,5 @@
 -- What the monitor does at a trap.
-use Rattle.std.proofs.Common.{ap}
+use Rattle.std.proofs.Common.{ap, ◌∙◌}
 use Rattle.std.proofs.lemmas.Result.{IfOk-weaker}
 use Rattle.m88_event.specs.Choice.{finishes, serves, turn_choice}
 use Rattle.m88_event.specs.declared.happened.End.TheVariants.{Exit, Vector}
@@ -54,3 +54,27 @@ returns-in-Unserved-clause-ok c = λ fault.
     (ap (λ a. Vector c.args.vector a)
     (at_pc c.self.inside.iunit old.slots c.candidate-at.result c.candidate-at.ensures.value
     (ap (λ (b : BoardView). b.slots) c.self.view_is) c.requires.valid)))
+
+pub finish-requires-clause-comes : goal.finish-requires-clause-comes
+finish-requires-clause-comes c =
+    let old = c.args.self.now in (
+      exits (pc_of old.slots),
+      ap (λ a. Exit a)
+          (at_pc c.self.inside.iunit old.slots c.candidate-at.result c.candidate-at.ensures.value
+          (ap (λ (b : BoardView). b.slots) c.self.view_is) c.requires.valid),
+      λ p of. c.requires.comes p of
+          ∙ trap_choice c.args.vector (pc_of old.slots) c.self.inside.regs.numbers old.file.numbers c.service.result _ c.service.ensures
+          (ap (λ (b : BoardView). b.file.numbers) c.self.view_is) c.in-End.is,
+    )
+
+pub finish-requires-in-Unserved-clause-comes : goal.finish-requires-in-Unserved-clause-comes
+finish-requires-in-Unserved-clause-comes c =
+    let old = c.args.self.now in (
+      by_vector c.args.vector (pc_of old.slots),
+      ap (λ a. Vector c.args.vector a)
+          (at_pc c.self.inside.iunit old.slots c.candidate-at.result c.candidate-at.ensures.value
+          (ap (λ (b : BoardView). b.slots) c.self.view_is) c.requires.valid),
+      λ p of. c.requires.comes p of
+          ∙ trap_choice c.args.vector (pc_of old.slots) c.self.inside.regs.numbers old.file.numbers c.service.result _ c.service.ensures
+          (ap (λ (b : BoardView). b.file.numbers) c.self.view_is) c.in-Unserved.is,
+    )

@@ -1,0 +1,49 @@
+-- How a program ended is how it ends at the state that was reached.
+use Rattle.std.specs.Prelude.{Bool, true, false, List, [], Option, Some, None, ◌≡◌, is_some}
+use Rattle.std.proofs.Common.{refl, sym, ap, ◌∙◌}
+use Rattle.m88_ctrl.specs.ControlRegisters.{ControlRegisters, carry_of}
+use Rattle.m88_event.specs.Choice.{end_by, finishes, issue_choice}
+use Rattle.m88_event.specs.Local.{choice_by, situation_of}
+use Rattle.m88_event.specs.Timeline.{end_of_turn}
+use Rattle.m88_event.specs.declared.happened.End.{End}
+use Rattle.m88_event.specs.declared.letter.Letter.TheVariants.{Issue}
+use Rattle.m88_isa.specs.Bus.{after_accesses}
+use Rattle.m88_isa.specs.Held.{Hold}
+use Rattle.m88_isa.specs.Machine.{Program, Stop, Turn, changes, outputs, stops, turn}
+use Rattle.m88_isa.specs.declared.planned.Access.{Access}
+use Rattle.m88_board.specs.Board.{BoardView, cells_of, completed_of, local_of, next_of, pc_of}
+use Rattle.m88_board.specs.Kept.{EndsSo}
+use Rattle.m88_board.specs.Turns.{ComesToEnd}
+
+-- the letter `i` ends the program only by the turn of the next instruction
+ends_turn : (idle bubble : Bool) (why : Option Hold) (t : Turn) (stop : Stop) →
+    issue_choice idle bubble why t ≡ finishes stop → end_of_turn t ≡ end_by stop
+ends_turn true bubble why t stop h = absurd cc
+ends_turn false true why t stop h = absurd cc
+ends_turn false false (Some hold) t stop h = absurd cc
+ends_turn false false None (changes change) stop h = absurd cc
+ends_turn false false None (outputs byte) stop h = absurd cc
+ends_turn false false None (stops s) stop h = let same : s ≡ stop = cc in ap end_by same
+
+-- with nothing pending, the turn is that at the state of the parts
+stops_so : (p : Program) (b : BoardView) (stop : Stop) → b.pending ≡ [] →
+    choice_by p b.limit Issue (local_of b) ≡ finishes stop →
+    end_of_turn (turn p b.file.numbers (carry_of b.control) (pc_of b.slots) (next_of b.slots)) ≡ end_by stop
+unfolding situation_of local_of completed_of after_accesses
+stops_so p b stop none comes =
+    sym (ap (λ (xs : List Access). end_of_turn (turn p (after_accesses xs (cells_of b.file b.memory)).regs
+    (carry_of b.control) (pc_of b.slots) (next_of b.slots))) none)
+    ∙ ends_turn _ _ _ _ stop comes
+
+-- the program ends
+pub ends_now : (b : BoardView) (control : ControlRegisters) (end : End) → b.pending ≡ [] → ComesToEnd end b →
+    carry_of control ≡ carry_of b.control → EndsSo (record b { control = control; ended = Some end }) end
+ends_now b control end none comes carry = λ p of.
+    ap (λ (c : Bool). end_of_turn (turn p b.file.numbers c (pc_of b.slots) (next_of b.slots))) carry
+    ∙ stops_so p b comes.0 none (comes.2 p of)
+    ∙ sym comes.1
+
+-- it hasn't ended
+pub no_end : (ended : Option End) → is_some ended ≡ false → ended ≡ None
+no_end None going = refl
+no_end (Some end) going = absurd cc
