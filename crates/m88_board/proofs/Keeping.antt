@@ -376,7 +376,7 @@ kept_finished b control end kept goes none ends comes psr epsr =
       within = kept.within;
       early = λ ended. omega (arith, more);
       ends = ends;
-      ends_so = ends_now b control end none comes carry;
+      ends_so = ends_now b control end comes carry;
       small = kept.small;
       counted = kept.counted;
     }

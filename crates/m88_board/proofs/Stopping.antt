@@ -1,5 +1,5 @@
 -- How a program ended is how it ends at the state that was reached.
-use Rattle.std.specs.Prelude.{Bool, true, false, List, [], Option, Some, None, ◌≡◌, is_some}
+use Rattle.std.specs.Prelude.{Bool, true, false, Option, Some, None, ◌≡◌, is_some}
 use Rattle.std.proofs.Common.{refl, sym, ap, ◌∙◌}
 use Rattle.m88_ctrl.specs.ControlRegisters.{ControlRegisters, carry_of}
 use Rattle.m88_event.specs.Choice.{end_by, finishes, issue_choice}
@@ -9,11 +9,11 @@ use Rattle.m88_event.specs.declared.happened.End.{End}
 use Rattle.m88_event.specs.declared.letter.Letter.TheVariants.{Issue}
 use Rattle.m88_isa.specs.Bus.{after_accesses}
 use Rattle.m88_isa.specs.Held.{Hold}
-use Rattle.m88_isa.specs.Machine.{Program, Stop, Turn, changes, outputs, stops, turn}
-use Rattle.m88_isa.specs.declared.planned.Access.{Access}
+use Rattle.m88_isa.specs.History.{Completed}
+use Rattle.m88_isa.specs.Machine.{Program, Stop, Turn, changes, outputs, stops}
 use Rattle.m88_board.specs.Board.{BoardView, cells_of, completed_of, local_of, next_of, pc_of}
 use Rattle.m88_board.specs.Kept.{EndsSo}
-use Rattle.m88_board.specs.Turns.{ComesToEnd}
+use Rattle.m88_board.specs.Turns.{ComesToEnd, turn_by}
 
 -- the letter `i` ends the program only by the turn of the next instruction
 ends_turn : (idle bubble : Bool) (why : Option Hold) (t : Turn) (stop : Stop) →
@@ -25,22 +25,31 @@ ends_turn false false None (changes change) stop h = absurd cc
 ends_turn false false None (outputs byte) stop h = absurd cc
 ends_turn false false None (stops s) stop h = let same : s ≡ stop = cc in ap end_by same
 
--- with nothing pending, the turn is that at the state of the parts
-stops_so : (p : Program) (b : BoardView) (stop : Stop) → b.pending ≡ [] →
-    choice_by p b.limit Issue (local_of b) ≡ finishes stop →
-    end_of_turn (turn p b.file.numbers (carry_of b.control) (pc_of b.slots) (next_of b.slots)) ≡ end_by stop
-unfolding situation_of local_of completed_of after_accesses
-stops_so p b stop none comes =
-    sym (ap (λ (xs : List Access). end_of_turn (turn p (after_accesses xs (cells_of b.file b.memory)).regs
-    (carry_of b.control) (pc_of b.slots) (next_of b.slots))) none)
-    ∙ ends_turn _ _ _ _ stop comes
+-- and so as the program does at the state reached
+stops_so : (p : Program) (b : BoardView) (stop : Stop) → choice_by p b.limit Issue (local_of b) ≡ finishes stop →
+    end_of_turn (turn_by p (completed_of b)) ≡ end_by stop
+unfolding situation_of local_of
+stops_so p b stop comes = ends_turn _ _ _ _ stop comes
+
+-- the state reached is the same where the carry is
+same_state : (b : BoardView) (control : ControlRegisters) (end : End) → carry_of control ≡ carry_of b.control →
+    completed_of (record b { control = control; ended = Some end }) ≡ completed_of b
+unfolding completed_of
+same_state b control end carry = λ i. record {
+  regs = (after_accesses b.pending (cells_of b.file b.memory)).regs;
+  carry = carry i;
+  pc = pc_of b.slots;
+  next = next_of b.slots;
+  bus = (after_accesses b.pending (cells_of b.file b.memory)).bus;
+  out = b.out;
+}
 
 -- the program ends
-pub ends_now : (b : BoardView) (control : ControlRegisters) (end : End) → b.pending ≡ [] → ComesToEnd end b →
+pub ends_now : (b : BoardView) (control : ControlRegisters) (end : End) → ComesToEnd end b →
     carry_of control ≡ carry_of b.control → EndsSo (record b { control = control; ended = Some end }) end
-ends_now b control end none comes carry = λ p of.
-    ap (λ (c : Bool). end_of_turn (turn p b.file.numbers c (pc_of b.slots) (next_of b.slots))) carry
-    ∙ stops_so p b comes.0 none (comes.2 p of)
+ends_now b control end comes carry = λ p of.
+    ap (λ (c : Completed). end_of_turn (turn_by p c)) (same_state b control end carry)
+    ∙ stops_so p b comes.0 (comes.2 p of)
     ∙ sym comes.1
 
 -- it hasn't ended

@@ -9,13 +9,14 @@ use Rattle.m88_event.specs.declared.happened.End.TheVariants.{Limit}
 use Rattle.m88_isa.specs.Bus.{page_number, LoadApart, waits_for}
 use Rattle.m88_isa.specs.Held.{most_pending}
 use Rattle.m88_isa.specs.ImageProgram.{IsProgramOf}
-use Rattle.m88_isa.specs.Machine.{Program, four_bytes, turn}
+use Rattle.m88_isa.specs.Machine.{Program, four_bytes}
 use Rattle.m88_isa.specs.Memory.{IsWordAccess}
 use Rattle.m88_isa.specs.declared.planned.Access.{Access}
 use Rattle.m88_iunit.specs.Pointers.{Pointers, squashed_slot, valid_slot, word_behind}
 use Rattle.m88_mem.specs.DataBus.{MemoryView, ready_of}
 use Rattle.m88_scoreboard.specs.Registers.{Registers, waiting_of}
-use Rattle.m88_board.specs.Board.{BoardView, next_of, pc_of}
+use Rattle.m88_board.specs.Board.{BoardView, completed_of}
+use Rattle.m88_board.specs.Turns.{turn_by}
 
 -- the most instructions that a run may retire
 abbrev pub most_retired : ℕ
@@ -72,10 +73,9 @@ abbrev pub IsProgramEnd : End → Type 0
 IsProgramEnd Limit = ⊥
 IsProgramEnd _ = Unit {0}
 
--- it ended so as each program of its image does at the state reached: with nothing pending, that of the parts
+-- it ended as each program of its image does at the state reached
 abbrev pub EndsSo : BoardView → End → Type 0
-EndsSo b end = (p : Program) → IsProgramOf b.memory.image p →
-    end_of_turn (turn p b.file.numbers (carry_of b.control) (pc_of b.slots) (next_of b.slots)) ≡ end
+EndsSo b end = (p : Program) → IsProgramOf b.memory.image p → end_of_turn (turn_by p (completed_of b)) ≡ end
 
 -- what always holds of a board
 pub record IsKept (b : BoardView) : Type 0 where

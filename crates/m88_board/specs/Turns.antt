@@ -8,13 +8,17 @@ use Rattle.m88_isa.specs.Held.{held}
 use Rattle.m88_isa.specs.History.{Completed}
 use Rattle.m88_isa.specs.Effect.{Meaning, meaning_of}
 use Rattle.m88_isa.specs.ImageProgram.{IsProgramOf}
-use Rattle.m88_isa.specs.Machine.{Program, Stop, Turn, executed}
+use Rattle.m88_isa.specs.Machine.{Program, Stop, Turn, executed, turn}
 use Rattle.m88_isa.specs.declared.instr.Instr.{Instr}
 use Rattle.m88_board.specs.Board.{BoardView, completed_of, local_of}
 
 -- what an instruction means at a state
 abbrev pub meaning_at : Instr → Completed → Meaning
 meaning_at i c = meaning_of i c.regs c.carry c.pc c.next
+
+-- the turn of the next instruction of a program
+abbrev pub turn_by : Program → Completed → Turn
+turn_by p c = turn p c.regs c.carry c.pc c.next
 
 -- the turn of an instruction that was fetched and read, or of a word that is none
 abbrev pub turn_of : Option Instr → Completed → Turn

@@ -396,6 +396,7 @@ impl Board {
     }
 
     /// One more event is counted.
+    #[tactic(auto, unfolding(crate::specs::Board::completed_of))]
     fn count(&mut self)
         requires { self.old.events < most_events }
         ensures { self.new ≡ record self.old { events = self.old.events + 1 } }
