@@ -7,8 +7,8 @@ use Rattle.m88_cli.specs.Loading.{IsRecords, IsRefusedRecords}
 use Rattle.m88_cli.specs.Refusal.{Refusal, refusal_line}
 use Rattle.m88_cli.specs.Runs.{IsLoadedProgram, IsReport, IsSourceProgram}
 
--- a command accepts an input: `asm` a source that can be assembled, `run` and `build` one that can be linked too, `exec`
--- the text of S-records
+-- a command accepts an input: `asm` a source that can be assembled, `run` and `build` one that can be linked too,
+-- `exec` the text of S-records
 abbrev pub Accepts : Command → List ℕ → Type 0
 Accepts (run limit absent schedule) source = IsProgramSource source
 Accepts (exec limit absent schedule) text = IsRecords text

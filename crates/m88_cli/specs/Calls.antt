@@ -13,8 +13,9 @@ GivesInput command before after input =
 
 -- a call carried a command out: the words spell it, the source gave it its input, the text is as told for that input,
 -- the sink was given the text as told, and the watch was shown what is told
-pub record CarriedOut (words : List (List ℕ)) (before after : Option (List ℕ)) (IsText : Command → List ℕ → List ℕ → Type 0)
-    (SinkIsGiven : List ℕ → Type 0) (WatchIsShown : Command → List ℕ → Type 0) : Type 0 where
+pub record CarriedOut (words : List (List ℕ)) (before after : Option (List ℕ))
+    (IsText : Command → List ℕ → List ℕ → Type 0) (SinkIsGiven : List ℕ → Type 0)
+    (WatchIsShown : Command → List ℕ → Type 0) : Type 0 where
   pub command : Command
   pub spelled : Spells words command
   pub input : List ℕ
@@ -25,7 +26,8 @@ pub record CarriedOut (words : List (List ℕ)) (before after : Option (List ℕ
   pub watched : WatchIsShown command input
 
 -- the words spell a command, the source gave it its input, and something holds of these two
-pub record Given (words : List (List ℕ)) (before after : Option (List ℕ)) (Holds : Command → List ℕ → Type 0) : Type 0 where
+pub record Given (words : List (List ℕ)) (before after : Option (List ℕ))
+    (Holds : Command → List ℕ → Type 0) : Type 0 where
   pub command : Command
   pub spelled : Spells words command
   pub input : List ℕ

@@ -23,7 +23,8 @@ abbrev pub IsLimit : List ℕ → ℕ → Type 0
 IsLimit text n = IsShortNumber 10 7 text n × (n ≤ most_limit)
 
 -- the words are a name and the limit, the absent pages and the schedule of a run
-pub record SpellsRun (name : List ℕ) (words : List (List ℕ)) (limit : ℕ) (absent : ℕ → Bool) (schedule : List Letter) : Type 0 where
+pub record SpellsRun (name : List ℕ) (words : List (List ℕ)) (limit : ℕ) (absent : ℕ → Bool)
+    (schedule : List Letter) : Type 0 where
   pub limit_text : List ℕ
   pub absent_text : List ℕ
   pub schedule_text : List ℕ

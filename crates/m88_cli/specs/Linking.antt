@@ -19,8 +19,8 @@ pub record IsObjectsOf (source : List ℕ) (objects : List Object) : Type 0 wher
   pub is_assembled : IsAssembled unit
   pub objects_are : objects ≡ objects_of unit
 
--- the image holds the source's unit, which is accepted: its bytes, its start, and where the unit has an instruction, the
--- word of that one
+-- the image holds the source's unit, which is accepted: its bytes, its start, and where the unit has an instruction,
+-- the word of that one
 pub record HoldsUnit (source : List ℕ) (image : ProgramImage) : Type 0 where
   pub unit : Source
   pub is_unit : IsUnit source unit

@@ -1,5 +1,5 @@
--- The word ABSENT of a command, which says what pages of memory are absent at first: `none`, `all`, or the numbers of 1 to
--- 64 pages, joined by commas. A number may stand twice.
+-- The word ABSENT of a command, which says what pages of memory are absent at first: `none`, `all`, or the numbers of 1
+-- to 64 pages, joined by commas. A number may stand twice.
 use Rattle.std.specs.Prelude.{ℕ, Bool, ◌≡◌, ◌<◌, ◌≤◌, ◌⊎◌, ◌++◌, ◌==◌, List, [], ◌∷◌, codes, length, nat_lt}
 use Rattle.std.specs.List.{list_any}
 use Rattle.m88_mem.specs.DataBus.{page_count}

@@ -12,8 +12,8 @@ abbrev pub Replies : Command → List ℕ → Reply → Type 0
 Replies command input r =
     MatchBool r.accepted (IsAnswerToAccepted command input r.text.items) (IsAnswerToRefused command input r.text.items)
 
--- a watch, which tells what it was shown, was shown the whole of a command whose reply accepts the input, and is as it was
--- where the reply refuses it
+-- a watch, which tells what it was shown, was shown the whole of a command whose reply accepts the input, and is as it
+-- was where the reply refuses it
 abbrev pub WatchesReply : {W : Type 0} → (W → Option (List Glance)) → W → W → Command → List ℕ → Reply → Type 0
 WatchesReply seen old new command input r =
     MatchBool r.accepted (Shown command input (seen old) (seen new)) (new ≡ old)

@@ -25,13 +25,15 @@ pub record IsLoadedProgram (text : List ℕ) (p : Program) : Type 0 where
   pub is_program : IsProgramOf image p
 
 -- a run of such a program comes to the outcome
-pub record ComesTo (IsSuch : Program → Type 0) (limit : ℕ) (absent : ℕ → Bool) (schedule : List Letter) (o : Outcome) : Type 0 where
+pub record ComesTo (IsSuch : Program → Type 0) (limit : ℕ) (absent : ℕ → Bool) (schedule : List Letter)
+    (o : Outcome) : Type 0 where
   pub program : Program
   pub is_such : IsSuch program
   pub is_outcome : IsOutcome program absent limit schedule o
 
 -- the text is the report of the outcome that a run of such a program comes to, and it comes to no other
-pub record IsReport (IsSuch : Program → Type 0) (limit : ℕ) (absent : ℕ → Bool) (schedule : List Letter) (text : List ℕ) : Type 0 where
+pub record IsReport (IsSuch : Program → Type 0) (limit : ℕ) (absent : ℕ → Bool) (schedule : List Letter)
+    (text : List ℕ) : Type 0 where
   pub outcome : Outcome
   pub comes : ComesTo IsSuch limit absent schedule outcome
   pub only : (other : Outcome) → ComesTo IsSuch limit absent schedule other → other ≡ outcome

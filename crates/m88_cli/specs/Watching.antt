@@ -11,13 +11,15 @@ use Rattle.m88_cli.specs.Command.{Command, run, exec, asm, build}
 use Rattle.m88_cli.specs.Runs.{IsLoadedProgram, IsSourceProgram}
 
 -- a watch was shown a board at each moment of a whole run of a program
-pub record SawRun (p : Program) (limit : ℕ) (absent : ℕ → Bool) (schedule : List Letter) (before after : Option (List Glance)) : Type 0 where
+pub record SawRun (p : Program) (limit : ℕ) (absent : ℕ → Bool) (schedule : List Letter)
+    (before after : Option (List Glance)) : Type 0 where
   pub events : ℕ
   pub is_run : IsRun p absent limit schedule events
   pub saw : Saw before after (glances_along p (moment_after p absent limit schedule) events)
 
 -- or at its first moments
-pub record SawFront (p : Program) (limit : ℕ) (absent : ℕ → Bool) (schedule : List Letter) (before after : Option (List Glance)) : Type 0 where
+pub record SawFront (p : Program) (limit : ℕ) (absent : ℕ → Bool) (schedule : List Letter)
+    (before after : Option (List Glance)) : Type 0 where
   pub events : ℕ
   pub is_running : IsRunning p absent limit schedule events
   pub saw : Saw before after (glances_along p (moment_after p absent limit schedule) events)
@@ -40,8 +42,8 @@ ShownFront (exec limit absent schedule) text before after =
 ShownFront asm source before after = Saw before after []
 ShownFront build source before after = Saw before after []
 
--- a watch, of which it is known how it tells what it was shown, was shown the whole of a command where the command accepts
--- its input, and else is as it was
+-- a watch, of which it is known how it tells what it was shown, was shown the whole of a command where the command
+-- accepts its input, and else is as it was
 abbrev pub ShownIfAccepted : {W : Type 0} → (W → Option (List Glance)) → W → W → Command → List ℕ → Type 0
 ShownIfAccepted seen old new command input =
     (Accepts command input × Shown command input (seen old) (seen new)) ⊎ (¬ Accepts command input × (new ≡ old))
