@@ -1,6 +1,6 @@
 -- The lines of an input. A line ends by LF, by CR LF or with the input; a line end that is the last thing in the input
 -- opens no further line, and an empty input has no line.
-use Rattle.std.specs.Prelude.{ℕ, Bool, false, List, [], ◌∷◌, ◌==◌, ◌&&◌, if◌then◌else◌}
+use Rattle.std.specs.Prelude.{ℕ, Bool, false, List, [], ◌∷◌, ◌++◌, ◌==◌, ◌&&◌, flat_map, if◌then◌else◌}
 
 -- the byte that ends a line
 abbrev pub line_feed : ℕ
@@ -13,6 +13,10 @@ carriage_return = 13
 -- the line end that every format writes
 abbrev pub line_end : List ℕ
 line_end = line_feed ∷ []
+
+-- the text of lines, a line end behind each
+abbrev pub text_of_lines : List (List ℕ) → List ℕ
+text_of_lines lines = flat_map (λ line. line ++ line_end) lines
 
 -- the bytes begin with an LF
 abbrev pub begins_with_lf : List ℕ → Bool

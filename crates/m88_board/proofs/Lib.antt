@@ -17,3 +17,4 @@ pub mod Shown
 pub mod Running
 pub mod Ending
 pub mod Recorded
+pub mod Advancing

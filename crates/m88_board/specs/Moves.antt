@@ -36,12 +36,14 @@ pub record Does (choice : Choice) (fault : Record) (old new : BoardView) : Type 
   pub same : IsSameRun old new
 
 -- and says so
-pub record Did (choice : Choice) (fault : Record) (old : BoardView) (happened : Happened) (new : BoardView) : Type 0 where
+pub record Did (choice : Choice) (fault : Record) (old : BoardView) (happened : Happened)
+    (new : BoardView) : Type 0 where
   pub says : happened ≡ said choice fault
   pub does : Does choice fault old new
 
 -- an event of a letter: the move of what is seen, and what it says
-pub record IsMove (p : Program) (letter : Letter) (old : BoardView) (happened : Happened) (new : BoardView) : Type 0 where
+pub record IsMove (p : Program) (letter : Letter) (old : BoardView) (happened : Happened)
+    (new : BoardView) : Type 0 where
   pub says : happened ≡ said_by p old.limit letter (local_of old)
   pub moved : local_of new ≡ move p old.limit letter (local_of old)
   pub same : IsSameRun old new

@@ -29,10 +29,10 @@ abbrev pub choice_for : Option Instr → BoardView → Choice
 choice_for i b = next_choice (held i (turn_of i (completed_of b)) b.pending) (turn_of i (completed_of b))
 
 -- the letter `i` comes to a choice on a board, by each program that its image holds
-abbrev pub ComesTo : Choice → BoardView → Type 0
-ComesTo choice b =
+abbrev pub IssueComesTo : Choice → BoardView → Type 0
+IssueComesTo choice b =
     (p : Program) → IsProgramOf b.memory.image p → choice_by p b.limit Issue (local_of b) ≡ choice
 
 -- it comes to an end of the program
 abbrev pub ComesToEnd : End → BoardView → Type 0
-ComesToEnd end b = (stop : Stop) × (end ≡ end_by stop) × ComesTo (finishes stop) b
+ComesToEnd end b = (stop : Stop) × (end ≡ end_by stop) × IssueComesTo (finishes stop) b

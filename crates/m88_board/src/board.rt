@@ -22,7 +22,7 @@ ghost use Rattle.m88_iunit.specs.Pointers.{resumed};
 ghost use Rattle.m88_board.specs.Kept.{IsProgramEnd, epsr_of, most_events, most_retired};
 ghost use Rattle.m88_board.specs.Moves.{Did, Does, IsAt, IsSameRun, IsStill, IsUnmoved, stopping};
 ghost use Rattle.m88_board.specs.Shown.{IsRecordOf, ShowsFault};
-ghost use Rattle.m88_board.specs.Turns.{ComesTo, ComesToEnd};
+ghost use Rattle.m88_board.specs.Turns.{IssueComesTo, ComesToEnd};
 ghost use Rattle.m88_event.specs.declared.happened.Happened.{Happened as HappenedValue};
 
 use crate::unit::{advance, complete, lacks_word, prepare, put_in, serve_all, visit, write};
@@ -310,7 +310,8 @@ impl Board {
         requires flow { FlowFits effect.now.after effect.now.bubble }
         requires can { CanIssue effect.now.accesses }
         requires room { length self.old.pending + effect.now.accesses.count ≤ most_pending }
-        requires free { IfSome effect.now.reg (λ w. waits_for self.old.pending (number_of w.0) ≡ false) }
+        requires free { IfSome effect.now.reg
+            (λ w. waits_for self.old.pending (number_of w.0) ≡ false) }
         requires apart { LoadApart (self.old.pending ++ listed effect.now.accesses) }
         ensures ok { OnOk result ((change : Change) (fault : RecordValue)
             → effect.now ≡ recorded_change change → length change.touches ≤ 2
@@ -332,7 +333,7 @@ impl Board {
         requires vector { vector < 512 }
         requires going { is_idle_board self.old ≡ false }
         requires valid { self.old.slots.nip.v ≡ true }
-        requires comes { ComesTo
+        requires comes { IssueComesTo
             (stopping (by_vector vector (pc_of self.old.slots)) self.old.pending) self.old }
         ensures does { (fault : RecordValue) → Did
             (stopping (by_vector vector (pc_of self.old.slots)) self.old.pending)
@@ -353,7 +354,7 @@ impl Board {
         requires valid { self.old.slots.nip.v ≡ true }
         requires fetched { self.old.slots.nip.e ≡ false }
         requires empty { self.old.pending ≡ [] }
-        requires comes { ComesTo
+        requires comes { IssueComesTo
             (turn_choice (trapped vector self.old.file.numbers (pc_of self.old.slots))) self.old }
         ensures ok { IfOk result (λ happened. (fault : RecordValue) → Did
             (turn_choice (trapped vector self.old.file.numbers (pc_of self.old.slots)))

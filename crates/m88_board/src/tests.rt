@@ -1,7 +1,7 @@
-//! Two programs on the board, with what they come to told by hand, and a load that is drained.
+//! Two programs on the board, with what they come to told by hand, and loads that are drained.
 
-use crate::{Board, End, Happened, Letter, MemWatch, Schedule, Unwatched};
-use m88_base::{Absent, Image, ImageFault};
+use crate::{Board, End, Happened, Letter, MemWatch, Schedule, Unwatched, Why};
+use m88_base::{Absent, Image, ImageFault, Reg};
 use m88_iunit::Slot;
 use std::alloc::Global;
 
@@ -108,5 +108,67 @@ fn load_that_is_drained(rt: HostRuntime) -> Result<(), ImageFault> {
     }
     assert_eq!(rt; board.pending(), 0);
     assert_eq!(rt; board.word(0x1000), 0x1440_1000);
+    Ok(())
+}
+
+#[test]
+fn four_loads_that_are_drained(rt: HostRuntime) -> Result<(), ImageFault> {
+    let image = image_of(
+        rt.alloc(),
+        &[0x1440_5000, 0x1460_5004, 0x1480_5008, 0x14A0_6000],
+    )?;
+    let Ok(mut board) = Board::new(rt.alloc(), &image, &Absent::None, 4) else {
+        return Err(ImageFault::Memory);
+    };
+    for (letter, did) in [
+        (Letter::Issue, Happened::Issued),
+        (Letter::Issue, Happened::Issued),
+        (Letter::Issue, Happened::Issued),
+        (Letter::Issue, Happened::Stalled(Why::Full)),
+        (Letter::Answer, Happened::Answered),
+        (Letter::Issue, Happened::Issued),
+    ] {
+        if board.events() < 100 {
+            assert!(rt; board.event(letter) == Ok(did));
+        }
+    }
+    assert_eq!(rt; board.pending(), 3);
+    let mut watch = MemWatch::new();
+    if board.events() < 100 {
+        assert_eq!(rt; board.drain(&mut watch), Ok(()));
+    }
+    assert_eq!(rt; watch.seen().len(), 3);
+    for (glance, (events, done)) in watch.seen().iter().zip([(7, 2), (8, 3), (9, 4)]) {
+        assert_eq!(rt; glance.events, events);
+        assert_eq!(rt; glance.issued, 4);
+        assert_eq!(rt; glance.done, done);
+    }
+    assert_eq!(rt; board.faults(), 0);
+    assert_eq!(rt; board.pending(), 0);
+    Ok(())
+}
+
+#[test]
+fn loads_from_absent_pages_that_are_drained(rt: HostRuntime) -> Result<(), ImageFault> {
+    let image = image_of(rt.alloc(), &[0x1440_5000, 0x1460_6000, 0x1480_7000])?;
+    let Ok(mut board) = Board::new(rt.alloc(), &image, &Absent::All, 3) else {
+        return Err(ImageFault::Memory);
+    };
+    for _ in 0..3 {
+        if board.events() < 100 {
+            assert!(rt; board.event(Letter::Issue) == Ok(Happened::Issued));
+        }
+    }
+    assert_eq!(rt; board.pipe().ssbr, 0x1C);
+    assert_eq!(rt; board.register(Reg::from_low_bits(2)), None);
+    let mut watch = MemWatch::new();
+    if board.events() < 100 {
+        assert_eq!(rt; board.drain(&mut watch), Ok(()));
+    }
+    assert_eq!(rt; watch.seen().len(), 1);
+    assert_eq!(rt; board.done(), 3);
+    assert_eq!(rt; board.faults(), 1);
+    assert_eq!(rt; board.pipe().ssbr, 0);
+    assert_eq!(rt; board.register(Reg::from_low_bits(2)), Some(0));
     Ok(())
 }

@@ -4,7 +4,9 @@ use Rattle.m88_base.specs.Image.{IsImage, ProgramImage}
 use Rattle.m88_base.proofs.SameRuns.{same_images}
 use Rattle.m88_link.specs.ObjectText.{objects_text}
 use Rattle.m88_link.specs.declared.object.Object.{Object}
+use Rattle.m88_asm.specs.Accepted.{IsAcceptedUnit}
 use Rattle.m88_asm.specs.Images.{IsUnitImage}
+use Rattle.m88_parse.specs.Language.Units.{IsUnit}
 use Rattle.m88_parse.proofs.Law.Faults.{one_answer}
 use Rattle.m88_srec.specs.Written.{srec_text}
 use Rattle.m88_parse.specs.declared.unit.Unit.{Unit as Source}
@@ -31,18 +33,22 @@ one_image u i j a b =
     same_images i j a.is_image.apart b.is_image.apart (a.start ∙ sym b.start) (λ n. a.bytes n ∙ sym (b.bytes n))
 
 -- the records of its image
+pub recorded : (source text : List ℕ) (u : Source) (image : ProgramImage) → IsUnit source u → IsAcceptedUnit u
+    → IsUnitImage u image → text ≡ srec_text image → IsAnswerToAccepted build source text
+recorded source text u image is_unit is_accepted own is = record {
+  accepted = record { unit = u; is_unit = is_unit; is_accepted = is_accepted };
+  output = record {
+    image = image;
+    of_source = record { unit = u; is_unit = is_unit; is_image = own };
+    only = λ other is_too.
+        let unit = (one_answer source).one_unit is_too.unit u is_too.is_unit is_unit in
+        one_image u other image (subst (λ v. IsUnitImage v other) unit is_too.is_image) own;
+    is_text = is;
+  };
+}
+
 pub linked : (source text : List ℕ) (image : ProgramImage) → HoldsUnit source image → IsImage image → text ≡ srec_text image
     → IsAnswerToAccepted build source text
 linked source text image holds is_image is =
-    let own : IsUnitImage holds.unit image = record { is_image = is_image; bytes = holds.bytes; start = holds.start } in
-    record {
-      accepted = record { unit = holds.unit; is_unit = holds.is_unit; is_accepted = holds.is_accepted };
-      output = record {
-        image = image;
-        of_source = record { unit = holds.unit; is_unit = holds.is_unit; is_image = own };
-        only = λ other is_too.
-            let unit = (one_answer source).one_unit is_too.unit holds.unit is_too.is_unit holds.is_unit in
-            one_image holds.unit other image (subst (λ u. IsUnitImage u other) unit is_too.is_image) own;
-        is_text = is;
-      };
-    }
+    recorded source text holds.unit image holds.is_unit holds.is_accepted
+    (record { is_image = is_image; bytes = holds.bytes; start = holds.start }) is

@@ -12,7 +12,7 @@ use Rattle.m88_cli.specs.Assembly.{IsAssemblySource, IsProgramSource, IsRefusedP
 use Rattle.m88_cli.specs.Refusal.{Refusal}
 
 -- a unit without a fault has none
-none_some : (o : Option AsmFault) (fault : AsmFault) → o ≡ None → o ≡ Some fault → ⊥
+pub none_some : (o : Option AsmFault) (fault : AsmFault) → o ≡ None → o ≡ Some fault → ⊥
 none_some o fault none some = absurd cc
 
 -- a source that is refused can't be assembled

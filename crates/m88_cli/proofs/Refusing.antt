@@ -24,7 +24,7 @@ use Rattle.m88_srec.specs.declared.fault.SrecFault.{SrecFault}
 use Rattle.m88_cli.specs.declared.reply.Reply.{Reply}
 use Rattle.m88_cli.specs.declared.source_fault.SourceFault.{SourceFault}
 use Rattle.m88_cli.specs.declared.source_fault.SourceFault.TheVariants.{Parse, Unit}
-use Rattle.m88_cli.proofs.OneSource.{refused_not_accepted}
+use Rattle.m88_cli.proofs.OneSource.{one_refusal, refused_not_accepted}
 
 -- of one that can't be assembled
 pub assembly_refusal : (source : List ℕ) (fault : SourceFault) → IsAssemblyFault source fault → IsTold fault → IsRefusedSource source (refusal_of fault)
@@ -70,6 +70,7 @@ refused_reply command input refusal (Ok r) refuses line refused told =
       unaccepted = refused_not_accepted command input refusal (refuses told);
       refusal = refusal;
       refused = refuses told;
+      only = λ other also. one_refusal command input other refusal also (refuses told);
       line = line;
     })
 

@@ -9,7 +9,6 @@ use Rattle.m88_event.specs.Timeline.{Moment, after_choice, after_letter, choice_
 use Rattle.m88_event.specs.declared.letter.Letter.{Letter}
 use Rattle.m88_event.specs.declared.outcome.Outcome.{Outcome}
 use Rattle.m88_event.specs.declared.record.Record.{Record}
-use Rattle.m88_report.specs.Report.{report_of}
 use Rattle.m88_board.specs.Glances.{Saw, glances_along}
 use Rattle.m88_board.specs.declared.glance.Glance.{Glance}
 use Rattle.m88_cli.specs.Runs.{IsReport}
@@ -78,11 +77,11 @@ no_front p limit absent schedule seen = record {
   saw = subst (λ glances. Saw seen seen glances) (sym (no_glance p (moment_after p absent limit schedule))) (saw_nothing seen);
 }
 
--- the report of a run of the one program of an input
-pub reported : (IsSuch : Program → Type 0) (p : Program) (limit : ℕ) (absent : ℕ → Bool) (schedule : List Letter) (text : List ℕ)
+-- what is told of a run of the one program of an input
+pub reported : {told_of : Outcome → List ℕ} (IsSuch : Program → Type 0) (p : Program) (limit : ℕ) (absent : ℕ → Bool) (schedule : List Letter) (text : List ℕ)
     → IsSuch p → ((q : Program) → IsSuch q → q ≡ p)
     → ((o other : Outcome) → IsOutcome p absent limit schedule o → IsOutcome p absent limit schedule other → o ≡ other)
-    → (o : Outcome) × IsOutcome p absent limit schedule o × (text ≡ report_of o) → IsReport IsSuch limit absent schedule text
+    → (o : Outcome) × IsOutcome p absent limit schedule o × (text ≡ told_of o) → IsReport told_of IsSuch limit absent schedule text
 reported IsSuch p limit absent schedule text is_such one only (o, is, report) = record {
   outcome = o;
   comes = record { program = p; is_such = is_such; is_outcome = is };

@@ -2,7 +2,7 @@
 use Rattle.std.proofs.Common.{◌≡◌, ℕ, Bool, List, codes, [], ◌∷◌, get_or, sym, ap, subst}
 use Rattle.m88_event.specs.Letters.{IsSchedule}
 use Rattle.m88_event.specs.declared.letter.Letter.{Letter}
-use Rattle.m88_cli.specs.Command.{Command, IsLimit, Spells, SpellsRun, run, exec, asm, build}
+use Rattle.m88_cli.specs.Command.{Command, IsLimit, Spells, SpellsRun, run, exec, dis, asm, link, build, soak, mon}
 use Rattle.m88_cli.specs.Pages.{IsAbsent}
 
 -- what four words of a run are
@@ -27,6 +27,10 @@ of_run name a b c d limit absent schedule spelled =
 longer : (a b c d word : List ℕ) → a ∷ b ∷ c ∷ d ∷ [] ≡ word ∷ [] → ⊥
 longer a b c d word e = absurd cc
 
+-- nor are they three
+no_fewer : (a b c d name number count : List ℕ) → a ∷ b ∷ c ∷ d ∷ [] ≡ name ∷ number ∷ count ∷ [] → ⊥
+no_fewer a b c d name number count e = absurd cc
+
 -- what four words spell is a run
 pub spelled_by_four : (P : Command → Type 0) (a b c d : List ℕ) (command : Command) → Spells (a ∷ b ∷ c ∷ d ∷ []) command
     → ((limit : ℕ) (absent : ℕ → Bool) (schedule : List Letter) → AreOfRun (codes "run") a b c d limit absent schedule → P (run limit absent schedule))
@@ -34,5 +38,11 @@ pub spelled_by_four : (P : Command → Type 0) (a b c d : List ℕ) (command : C
     → P command
 spelled_by_four P a b c d (run limit absent schedule) spelled runs execs = runs limit absent schedule (of_run (codes "run") a b c d limit absent schedule spelled)
 spelled_by_four P a b c d (exec limit absent schedule) spelled runs execs = execs limit absent schedule (of_run (codes "exec") a b c d limit absent schedule spelled)
+spelled_by_four P a b c d dis spelled runs execs = absurd (longer a b c d (codes "dis") spelled)
 spelled_by_four P a b c d asm spelled runs execs = absurd (longer a b c d (codes "asm") spelled)
+spelled_by_four P a b c d link spelled runs execs = absurd (longer a b c d (codes "link") spelled)
 spelled_by_four P a b c d build spelled runs execs = absurd (longer a b c d (codes "build") spelled)
+spelled_by_four P a b c d (soak number count) spelled runs execs =
+    absurd (no_fewer a b c d (codes "soak") spelled.number_text spelled.count_text spelled.words_are)
+spelled_by_four P a b c d (mon absent schedule) spelled runs execs =
+    absurd (no_fewer a b c d (codes "mon") spelled.absent_text spelled.schedule_text spelled.words_are)

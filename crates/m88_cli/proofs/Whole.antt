@@ -1,17 +1,20 @@
 -- Where a text stands whole behind what a sink held, it was written whole.
-use Rattle.std.proofs.Common.{◌≡◌, ℕ, ◌<◌, ◌≤◌, ◌+◌, List, [], Option, Some, None, Bool, true, false, inl, inr, Result, Ok, Err, length, length-append, take, ap, sym, ◌∙◌, subst, arith}
+use Rattle.std.proofs.Common.{◌≡◌, ℕ, ◌<◌, ◌≤◌, ◌+◌, List, [], Option, Some, None, Bool, true, false, inl, inr, refl, Result, Ok, Err, length, length-append, take, ap, sym, ◌∙◌, subst, arith}
 use Rattle.std.specs.Prelude.{MatchBool, OnErr, is_err}
 use Rattle.std.specs.Io.KnownBytes.{Consumes, IsAtEnd}
 use Rattle.std.proofs.lemmas.List.{append-nil, length-take-le}
-use Rattle.m88_base.specs.Outside.{AppendsPart}
+use Rattle.m88_base.specs.Outside.{AppendsPart, TakesExactly}
 use Rattle.m88_cli.specs.Answer.{IsAnswerToAccepted, IsAnswer, IsAnswerToRefused, Refuses}
 use Rattle.m88_cli.specs.Refusal.{Refusal, refusal_line}
 use Rattle.m88_board.specs.declared.glance.Glance.{Glance}
 use Rattle.m88_cli.specs.Reply.{Replies, WatchesReply}
 use Rattle.m88_cli.specs.Watching.{Shown, ShownIfAccepted}
 use Rattle.m88_cli.specs.declared.reply.Reply.{Reply}
+use Rattle.m88_cli.specs.Status.{Answers, IsOfReading}
+use Rattle.m88_cli.specs.declared.status.Status.{Status}
+use Rattle.m88_cli.specs.declared.status.Status.TheVariants.{Done, Usage, SourceFault, SinkFault, Refused, Memory, TooLong}
 use Rattle.m88_cli.specs.Calls.{GivesInput, HasInput, IsWhole}
-use Rattle.m88_cli.specs.Command.{Command, run, exec, asm, build, reads_input}
+use Rattle.m88_cli.specs.Command.{Command, run, exec, dis, asm, link, build, reads_input, soak, mon}
 use Rattle.m88_cli.specs.Limits.{most_input}
 use Rattle.m88_cli.proofs.OneSource.{one_refusal, refused_not_accepted}
 
@@ -64,13 +67,51 @@ pub given_once : (command : Command) (before after : Option (List ℕ)) (input g
     → GivesInput command before after given → given ≡ input
 given_once command before after input given holds gives = by_reading (reads_input command) before after input given holds gives
 
+-- no more was taken from a source than the input that it had
+no_longer : (old new : Option (List ℕ)) (input : List ℕ) → old ≡ Some input → length input ≤ most_input
+    → TakesExactly old new (most_input + 1) → ⊥
+no_longer old None input had short takes = absurd (subst (λ o. Consumes o None takes.0) had takes.1)
+no_longer old (Some left) input had short takes =
+    let all : Consumes (Some input) (Some left) takes.0 = subst (λ o. Consumes o (Some left) takes.0) had takes.1 in
+    let long : length input ≡ length takes.0 + length left = ap length all ∙ length-append takes.0 left in
+    let taken = takes.2 in
+    absurd (omega (arith, long, taken, short))
+
+not_memory : TooLong ≡ Memory → ⊥
+not_memory e = absurd cc
+
+-- an input that isn't too long isn't taken for one that is
+not_longer : (reads : Bool) (before after : Option (List ℕ)) (input : List ℕ)
+    → MatchBool reads ((before ≡ Some input) × (length input ≤ most_input)) (input ≡ [])
+    → TakesExactly before after (most_input + 1) → (reads ≡ false → TooLong ≡ Memory) → ⊥
+not_longer true before after input holds takes none = no_longer before after input holds.0 holds.1 takes
+not_longer false before after input holds takes none = not_memory (none refl)
+
+-- a call without a reply, whose source didn't fail and whose input isn't too long, answers that memory ran out
+pub unanswered : (Accepted : Type 0) (command : Command) (before after : Option (List ℕ)) (input : List ℕ) (status : Status)
+    → HasInput command before input → IsOfReading status → (status ≡ SourceFault → ⊥)
+    → (status ≡ TooLong → TakesExactly before after (most_input + 1)) → (reads_input command ≡ false → status ≡ Memory)
+    → Answers Accepted status
+unanswered Accepted command before after input Done holds of sound long none = absurd of
+unanswered Accepted command before after input Usage holds of sound long none = absurd of
+unanswered Accepted command before after input SourceFault holds of sound long none = absurd (sound refl)
+unanswered Accepted command before after input SinkFault holds of sound long none = absurd of
+unanswered Accepted command before after input Refused holds of sound long none = absurd of
+unanswered Accepted command before after input Memory holds of sound long none = inl refl
+unanswered Accepted command before after input TooLong holds of sound long none =
+    absurd (not_longer (reads_input command) before after input holds (long refl) none)
+
 -- an input that a command refuses is what the source gave it
 pub given_whole : (command : Command) (before after : Option (List ℕ)) (input given : List ℕ) (r : Refusal) → Refuses command input r
     → before ≡ Some input → after ≡ Some [] → GivesInput command before after given → given ≡ input
 given_whole (run limit absent schedule) before after input given r refused had left gives = same_input before after input given had left gives.0
 given_whole (exec limit absent schedule) before after input given r refused had left gives = same_input before after input given had left gives.0
+given_whole dis before after input given r refused had left gives = same_input before after input given had left gives.0
 given_whole asm before after input given r refused had left gives = same_input before after input given had left gives.0
+given_whole link before after input given r refused had left gives = same_input before after input given had left gives.0
 given_whole build before after input given r refused had left gives = same_input before after input given had left gives.0
+given_whole (soak number count) before after input given r refused had left gives = absurd refused
+given_whole (mon absent schedule) before after input given r refused had left gives = same_input before after input given had left gives.0
 
 -- a reply to what a command was given, where command and input are known
 abbrev pub RepliesToGiven : Command → Option (List ℕ) → Option (List ℕ) → Reply → Type 0

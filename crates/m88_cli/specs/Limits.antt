@@ -8,3 +8,11 @@ most_input = 2 ^ 20
 -- the most instructions that a run may be allowed
 abbrev pub most_limit : ℕ
 most_limit = 1000000
+
+-- the most statements that a generated workload may have
+abbrev pub most_statements : ℕ
+most_statements = 40000
+
+-- the most instructions that the board of a session with the monitor retires
+abbrev pub session_limit : ℕ
+session_limit = 100000

@@ -1,6 +1,9 @@
--- What commands make of S-records: a text that writes an image, and where and why any other is refused.
+-- What commands make of S-records: a text that writes an image, what `dis` writes for it, and where and why any other
+-- is refused.
 use Rattle.std.specs.Prelude.{ℕ, ◌≡◌, List, Err}
-use Rattle.m88_srec.specs.Accepted.{IsAccepted, Whole}
+use Rattle.m88_base.specs.Image.{IsImage, ProgramImage}
+use Rattle.m88_disasm.specs.Listing.{IsListing}
+use Rattle.m88_srec.specs.Accepted.{IsAccepted, Whole, whole_of}
 use Rattle.m88_srec.specs.Reasons.{srec_reason}
 use Rattle.m88_srec.specs.Verdict.{verdict}
 use Rattle.m88_srec.specs.declared.fault.SrecFault.{SrecFault}
@@ -9,6 +12,18 @@ use Rattle.m88_cli.specs.Refusal.{Refusal}
 -- the text is accepted: it writes bytes at addresses and a start address
 abbrev pub IsRecords : List ℕ → Type 0
 IsRecords text = (whole : Whole) × IsAccepted text whole
+
+-- the text is the listing of the image that S-records write
+pub record ListsRecords (records text : List ℕ) : Type 0 where
+  pub image : ProgramImage
+  pub is_image : IsImage image
+  pub is_written : IsAccepted records (whole_of image)
+  pub is_listing : IsListing image text
+
+-- and they have no other listing
+pub record IsListingText (records text : List ℕ) : Type 0 where
+  pub lists : ListsRecords records text
+  pub only : (other : List ℕ) → ListsRecords records other → other ≡ text
 
 -- the refusal for a fault of S-records, told at column 1 of its line
 abbrev pub srec_refusal : SrecFault → Refusal

@@ -4,7 +4,7 @@ use Rattle.std.specs.Prelude.{ℕ, ◌≡◌, ◌⊎◌, List, Option, MatchBool
 use Rattle.m88_board.specs.declared.glance.Glance.{Glance}
 use Rattle.m88_cli.specs.Answer.{IsAnswerToAccepted, IsAnswerToRefused}
 use Rattle.m88_cli.specs.Command.{Command}
-use Rattle.m88_cli.specs.Watching.{Shown, ShownFront}
+use Rattle.m88_cli.specs.Watching.{FrontOfAccepted, Shown}
 use Rattle.m88_cli.specs.declared.reply.Reply.{Reply}
 
 -- the reply's text answers an input that is accepted or not, as the reply says
@@ -18,6 +18,6 @@ abbrev pub WatchesReply : {W : Type 0} → (W → Option (List Glance)) → W �
 WatchesReply seen old new command input r =
     MatchBool r.accepted (Shown command input (seen old) (seen new)) (new ≡ old)
 
--- where there is no reply it was shown a front of that, or is as it was
+-- where there is no reply it was shown a front of that, and the command accepts the input, or is as it was
 abbrev pub WatchesFront : {W : Type 0} → (W → Option (List Glance)) → W → W → Command → List ℕ → Type 0
-WatchesFront seen old new command input = (new ≡ old) ⊎ ShownFront command input (seen old) (seen new)
+WatchesFront seen old new command input = (new ≡ old) ⊎ FrontOfAccepted command input (seen old) (seen new)

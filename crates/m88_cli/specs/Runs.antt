@@ -1,5 +1,6 @@
--- What a run reports: what the sequential machine comes to over the program of a source, or of S-records.
-use Rattle.std.specs.Prelude.{ℕ, Bool, ◌≡◌, List}
+-- What a run reports: what the sequential machine comes to over the program of a source, of S-records, or of a
+-- workload.
+use Rattle.std.specs.Prelude.{ℕ, Bool, ◌≡◌, ◌≤◌, List}
 use Rattle.m88_base.specs.Image.{ProgramImage}
 use Rattle.m88_isa.specs.ImageProgram.{IsProgramOf}
 use Rattle.m88_isa.specs.Machine.{Program}
@@ -10,7 +11,10 @@ use Rattle.m88_srec.specs.Accepted.{IsAccepted, whole_of}
 use Rattle.m88_event.specs.Run.{IsOutcome}
 use Rattle.m88_event.specs.declared.letter.Letter.{Letter}
 use Rattle.m88_event.specs.declared.outcome.Outcome.{Outcome}
-use Rattle.m88_report.specs.Report.{report_of}
+use Rattle.m88_cli.specs.Assembly.{IsProgramSource}
+use Rattle.m88_cli.specs.Limits.{most_statements}
+use Rattle.m88_cli.specs.Pages.{every_page}
+use Rattle.m88_cli.specs.Workload.{summary_of, workload_schedule, workload_source}
 
 -- the program is that of the source's unit: its bytes, its start, and its instructions where they are placed
 pub record IsSourceProgram (source : List ℕ) (p : Program) : Type 0 where
@@ -31,10 +35,21 @@ pub record ComesTo (IsSuch : Program → Type 0) (limit : ℕ) (absent : ℕ →
   pub is_such : IsSuch program
   pub is_outcome : IsOutcome program absent limit schedule o
 
--- the text is the report of the outcome that a run of such a program comes to, and it comes to no other
-pub record IsReport (IsSuch : Program → Type 0) (limit : ℕ) (absent : ℕ → Bool) (schedule : List Letter)
-    (text : List ℕ) : Type 0 where
+-- the text is what is told of the outcome that a run of such a program comes to, and it comes to no other
+pub record IsReport (told_of : Outcome → List ℕ) (IsSuch : Program → Type 0) (limit : ℕ) (absent : ℕ → Bool)
+    (schedule : List Letter) (text : List ℕ) : Type 0 where
   pub outcome : Outcome
   pub comes : ComesTo IsSuch limit absent schedule outcome
   pub only : (other : Outcome) → ComesTo IsSuch limit absent schedule other → other ≡ outcome
-  pub is_text : text ≡ report_of outcome
+  pub is_text : text ≡ told_of outcome
+
+-- the text is the summary of the run of a workload: over its source, with each page absent at first, its schedule, and
+-- as many instructions as it has statements
+abbrev pub IsSummary : ℕ → ℕ → List ℕ → Type 0
+IsSummary number count text =
+    IsReport (summary_of number count) (IsSourceProgram (workload_source number count)) count every_page
+    (workload_schedule number count) text
+
+-- the source of each workload is accepted
+abbrev pub WorkloadsAreAccepted : Type 0
+WorkloadsAreAccepted = (number count : ℕ) → count ≤ most_statements → IsProgramSource (workload_source number count)

@@ -1,10 +1,10 @@
 //! The input that a command reads.
-ghost use Rattle.std.specs.Prelude.{◌≡◌, ◌≢◌, ◌+◌, ◌≤◌, Err, IfOk, false, length};
+ghost use Rattle.std.specs.Prelude.{◌≡◌, ◌≢◌, ◌+◌, ◌≤◌, Err, IfErr, IfOk, false, true, length};
 ghost use Rattle.m88_base.specs.Causes.{Rose};
 ghost use Rattle.m88_base.specs.Outside.{TakesAtMost, TakesExactly};
 ghost use Rattle.m88_cli.specs.Calls.{GivesInput};
 ghost use Rattle.m88_cli.specs.Command.{reads_input};
-ghost use Rattle.m88_cli.specs.Kept.{choice_of};
+ghost use Rattle.m88_cli.specs.Kept.{command_of};
 ghost use Rattle.m88_cli.specs.Limits.{most_input};
 
 use crate::commands::Command;
@@ -19,9 +19,10 @@ pub fn input_of<S: Source>(
     source: &mut S,
 ) -> Result<Vec<u8>, ReadEnd>
     ensures ok { IfOk result (λ input.
-        GivesInput (choice_of command.now) (S.left source.old) (S.left source.new) input.items) }
+        GivesInput (command_of command.now) (S.left source.old) (S.left source.new) input.items) }
     ensures short { IfOk result (λ input. length input.items ≤ most_input) }
-    ensures unread { reads_input (choice_of command.now) ≡ false → source.new ≡ source.old }
+    ensures unread { reads_input (command_of command.now) ≡ false → source.new ≡ source.old }
+    ensures reader { IfErr result (λ _. reads_input (command_of command.now) ≡ true) }
     ensures fault { result ≡ Err ReadEnd.SourceFault
         → Rose (S.faults source.old) (S.faults source.new) }
     ensures too_long { result ≡ Err ReadEnd.TooLong
@@ -30,8 +31,13 @@ pub fn input_of<S: Source>(
         → TakesAtMost (S.left source.old) (S.left source.new) most_input }
 {
     match command {
-        Command::Run { .. } | Command::Exec { .. } | Command::Asm | Command::Build => {
-            read_all(alloc, source, MOST_INPUT)
-        }
+        Command::Run { .. }
+        | Command::Exec { .. }
+        | Command::Dis
+        | Command::Asm
+        | Command::Link
+        | Command::Build
+        | Command::Mon { .. } => read_all(alloc, source, MOST_INPUT),
+        Command::Soak { .. } => Ok(Vec::new(alloc)),
     }
 }

@@ -4,6 +4,7 @@
 
 // The words of a command.
 mod commands;
+mod cutting;
 mod grammar;
 mod limits;
 mod numbers;
@@ -16,16 +17,34 @@ mod program;
 mod reply;
 mod status;
 
-// What commands make of a source and of S-records.
+// The script of the monitor.
+mod script;
+mod script_line;
+mod script_lines;
+
+// What commands make of a source, of objects, of S-records, of a script, and of a number.
 mod assembly;
 mod loading;
+mod monitoring;
+mod objects;
 mod running;
+mod soaking;
+mod source_behind;
 mod source_fault;
+mod summary;
+mod workload;
+
+// What the monitor makes of the commands of a script.
+mod monitor;
+#[cfg(test)]
+mod script_tests;
 #[cfg(test)]
 mod tests;
+#[cfg(test)]
+mod workload_tests;
 
 pub use commands::Command;
 pub use grammar::command;
-pub use limits::{MOST_INPUT, MOST_LIMIT};
+pub use limits::{MOST_INPUT, MOST_LIMIT, MOST_STATEMENTS};
 pub use program::m88;
 pub use status::Status;

@@ -5,3 +5,9 @@ pub const MOST_INPUT: usize = 1_048_576;
 
 /// The most instructions that a run may be allowed.
 pub const MOST_LIMIT: u32 = 1_000_000;
+
+/// The most statements that a generated workload may have.
+pub const MOST_STATEMENTS: u32 = 40_000;
+
+/// The most instructions that the board of a session with the monitor retires.
+pub const SESSION_LIMIT: u32 = 100_000;

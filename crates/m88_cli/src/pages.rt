@@ -1,11 +1,10 @@
 //! The word of a command that says which pages are absent.
-ghost use Rattle.std.specs.Prelude.{ℕ, Bool, ◌≡◌, ◌≢◌, ◌<◌, ◌≤◌, ◌++◌, ◌∷◌, ◌==◌, [], All, List, IfNone, IfSome, MatchOption, None, OnSome, Some, codes, length};
-ghost use Rattle.std.specs.List.{position_or_len};
+ghost use Rattle.std.specs.Prelude.{ℕ, Bool, ◌≡◌, ◌≢◌, ◌<◌, ◌≤◌, ◌++◌, ◌∷◌, [], All, List, IfSome, MatchOption, None, OnSome, Some, codes, length};
 ghost use Rattle.m88_mem.specs.DataBus.{page_count};
 ghost use Rattle.m88_mem.specs.Marks.{NamesPages, absent_in};
-ghost use Rattle.m88_cli.specs.Commas.{HasNoComma};
 ghost use Rattle.m88_cli.specs.Pages.{ArePageNumbers, IsAbsent, IsPageNumber, comma, most_numbers};
 
+use crate::cutting::cut_at;
 use crate::numbers::short_number;
 use arrayvec::ArrayVec;
 use m88_base::Absent;
@@ -44,7 +43,7 @@ fn page_numbers(text: &[u8]) -> Option<ArrayVec<u32, MOST_NUMBERS>>
 {
     let mut numbers = ArrayVec::new();
     let mut rest = text;
-    while let Some((first, others)) = cut_at_comma(rest) {
+    while let Some((first, others)) = cut_at(b',', rest) {
         add_number(&mut numbers, first)?;
         rest = others;
     }
@@ -91,26 +90,4 @@ fn after_0x(text: &[u8]) -> Option<&[u8]>
     } else {
         None
     }
-}
-
-/// What stands before the first comma and after it.
-fn cut_at_comma(text: &[u8]) -> Option<(&[u8], &[u8])>
-    ensures found { IfSome result (λ o. text.now ≡ o.0.now ++ comma ∷ o.1.now) }
-    ensures before { IfSome result (λ o. HasNoComma o.0.now) }
-    ensures none { IfNone result (HasNoComma text.now) }
-{
-    let at = length_before_comma(text);
-    if at < text.len() {
-        Some((&text[..at], &text[at + 1..]))
-    } else {
-        None
-    }
-}
-
-/// How many bytes stand before the first comma; all where there is none.
-fn length_before_comma(text: &[u8]) -> usize
-    ensures value { result ≡ position_or_len (λ b. b == comma) text.now }
-    ensures bound { result ≤ length text.now }
-{
-    text.iter().take_while(|b| **b != b',').count()
 }

@@ -4,14 +4,16 @@ ghost use Rattle.std.specs.Io.KnownBytes.{Appends};
 ghost use Rattle.m88_base.specs.Causes.{Rose};
 ghost use Rattle.m88_base.specs.Outside.{AppendsPart, TakesAtMost, TakesExactly};
 ghost use Rattle.m88_cli.specs.Answer.{Accepts, IsAnswer, IsAnswerToAccepted, IsAnswerToRefused, Refuses};
+ghost use Rattle.m88_cli.specs.Bridge.{AssembledLinksAlike, BuiltRunsAlike, ListedBuildsAlike};
 ghost use Rattle.m88_cli.specs.Calls.{CarriedOut, GivesInput, Given, HasInput, IsWhole};
 ghost use Rattle.m88_cli.specs.Command.{Command as Choice, SpellNoReader, SpellNoRun, SpellNothing, Spells, makes_events, reads_input};
-ghost use Rattle.m88_cli.specs.Kept.{IsFit, choice_of};
+ghost use Rattle.m88_cli.specs.Kept.{IsFit, command_of};
 ghost use Rattle.m88_cli.specs.Limits.{most_input};
 ghost use Rattle.m88_cli.specs.Refusal.{Refusal, refusal_line};
 ghost use Rattle.m88_cli.specs.Reply.{Replies, WatchesFront, WatchesReply};
+ghost use Rattle.m88_cli.specs.Runs.{WorkloadsAreAccepted};
 ghost use Rattle.m88_cli.specs.Status.{Answers, IsOfReading, ShowsNothing, WritesNothing};
-ghost use Rattle.m88_cli.specs.Watching.{Shown, ShownFront, ShownIfAccepted};
+ghost use Rattle.m88_cli.specs.Watching.{FrontOfAccepted, Shown, ShownIfAccepted};
 ghost use Rattle.m88_cli.specs.Words.{texts};
 
 use crate::commands::Command;
@@ -80,13 +82,24 @@ pub fn m88<S: Source, K: Sink, W: Watch>(
         → ¬ Rose (S.faults source.old) (S.faults source.new) → ¬ Rose (K.faults sink.old) (K.faults sink.new)
         → Answers (Accepts command input) result }
 
-    // With every other answer nothing is written, and where memory ran out the watch was shown a front at most.
+    // With every other answer nothing is written, and where memory ran out the watch was shown nothing, or a
+    // front of the boards of an input that is accepted.
     ensures unwritten { WritesNothing result → sink.new ≡ sink.old }
     ensures unshown { ShowsNothing result → watch.new ≡ watch.old }
     ensures unshown_by { SpellNoRun (texts words.now) → watch.new ≡ watch.old }
     ensures front { result ≡ Status.Memory → (watch.new ≡ watch.old)
         ⊎ Given (texts words.now) (S.left source.old) (S.left source.new)
-        (λ command input. ShownFront command input (W.seen watch.old) (W.seen watch.new)) }
+        (λ command input. FrontOfAccepted command input (W.seen watch.old) (W.seen watch.new)) }
+
+    // Between the commands: what `build` writes of a source runs by `exec` as the source does by `run`, what
+    // `asm` writes of it links by `link` as the source does by `build`, and what `dis` writes of S-records is
+    // built into the records of their image.
+    ensures bridge { BuiltRunsAlike }
+    ensures relinked { AssembledLinksAlike }
+    ensures relisted { ListedBuildsAlike }
+
+    // The source of each workload is accepted, so `soak` always has a run to tell of.
+    ensures workloads { WorkloadsAreAccepted }
 {
     let Some(command) = command(words) else {
         return Status::Usage;
@@ -114,16 +127,18 @@ fn reply_from<S: Source, W: Watch>(
 ) -> Result<Reply, Status>
     requires { IsFit command.now }
     ensures ok { IfOk result (λ reply. (input : List ℕ)
-        × GivesInput (choice_of command.now) (S.left source.old) (S.left source.new) input
-        × Replies (choice_of command.now) input reply
-        × WatchesReply W.seen watch.old watch.new (choice_of command.now) input reply) }
-    ensures unread { reads_input (choice_of command.now) ≡ false → source.new ≡ source.old }
-    ensures unshown_by { makes_events (choice_of command.now) ≡ false → watch.new ≡ watch.old }
+        × GivesInput (command_of command.now) (S.left source.old) (S.left source.new) input
+        × Replies (command_of command.now) input reply
+        × WatchesReply W.seen watch.old watch.new (command_of command.now) input reply) }
+    ensures unread { reads_input (command_of command.now) ≡ false → source.new ≡ source.old }
+    ensures unshown_by { makes_events (command_of command.now) ≡ false → watch.new ≡ watch.old }
     ensures status { IfErr result IsOfReading }
+    ensures memory { IfErr result (λ status. reads_input (command_of command.now) ≡ false
+        → status ≡ Status.Memory) }
     ensures unshown { IfErr result (λ status. ShowsNothing status → watch.new ≡ watch.old) }
     ensures front { OnErr result ((watch.new ≡ watch.old) ⊎ ((input : List ℕ)
-        × GivesInput (choice_of command.now) (S.left source.old) (S.left source.new) input
-        × ShownFront (choice_of command.now) input (W.seen watch.old) (W.seen watch.new))) }
+        × GivesInput (command_of command.now) (S.left source.old) (S.left source.new) input
+        × FrontOfAccepted (command_of command.now) input (W.seen watch.old) (W.seen watch.new))) }
     ensures fault { result ≡ Err Status.SourceFault
         → Rose (S.faults source.old) (S.faults source.new) }
     ensures too_long { result ≡ Err Status.TooLong

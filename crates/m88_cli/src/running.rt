@@ -18,7 +18,7 @@ use crate::reply::Reply;
 use crate::source_fault::refuse;
 use m88_base::{Absent, Image, NoMemory};
 use m88_board::{Board, Watch};
-use m88_event::Schedule;
+use m88_event::{Outcome, Schedule};
 use m88_report::report;
 use m88_srec::read_srec;
 use std::alloc::Global;
@@ -106,9 +106,35 @@ fn run_image<W: Watch>(
     ensures front { OnErr result ((p : Program) → IsProgramOf image.now p
         → SawFront p limit (absent_in absent.now) schedule.now (W.seen watch.old) (W.seen watch.new)) }
 {
+    let outcome = outcome_of(alloc, limit, absent, schedule, image, watch)?;
+    report(alloc, &outcome)
+}
+
+/// What a run of the program that an image holds comes to, on a board that is shown to the watch after each event.
+pub fn outcome_of<W: Watch>(
+    alloc: Global,
+    limit: u32,
+    absent: &Absent,
+    schedule: &Schedule,
+    image: &Image,
+    watch: &mut W,
+) -> Result<Outcome, NoMemory>
+    requires limit { limit ≤ most_limit }
+    requires pages { NamesPages absent.now }
+    ensures image { IsImage image.now }
+    ensures outcome { IfOk result (λ o. (p : Program) → IsProgramOf image.now p
+        → IsOutcome p (absent_in absent.now) limit schedule.now o) }
+    ensures only { (p : Program) (o other : OutcomeValue)
+        → IsOutcome p (absent_in absent.now) limit schedule.now o
+        → IsOutcome p (absent_in absent.now) limit schedule.now other → o ≡ other }
+    ensures watched { OnOk result ((p : Program) → IsProgramOf image.now p
+        → SawRun p limit (absent_in absent.now) schedule.now (W.seen watch.old) (W.seen watch.new)) }
+    ensures front { OnErr result ((p : Program) → IsProgramOf image.now p
+        → SawFront p limit (absent_in absent.now) schedule.now (W.seen watch.old) (W.seen watch.new)) }
+{
     // What always holds of an image is told with its parts.
     let _ = image.part_count();
     let board = Board::new(alloc, image, absent, limit)?;
     let outcome = board.run(schedule, watch)?;
-    report(alloc, &outcome)
+    Ok(outcome)
 }

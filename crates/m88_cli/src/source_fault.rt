@@ -61,8 +61,8 @@ fn unassembled(alloc: Global, fault: AsmFault) -> Result<Reply, NoMemory>
     refusal(alloc, fault.line, fault.col, reason.as_bytes())
 }
 
-/// The reply that refuses a source for a fault of its layout.
-fn unlinked(alloc: Global, fault: LinkFault) -> Result<Reply, NoMemory>
+/// The reply that refuses a source, or objects, for a fault of the layout.
+pub fn unlinked(alloc: Global, fault: LinkFault) -> Result<Reply, NoMemory>
     ensures line { IfOk result (λ reply. reply.text.items ≡ refusal_line (link_refusal fault)) }
     ensures refused { IfOk result (λ reply. reply.accepted ≡ false) }
     ensures told { IfOk result (λ _. fault ≢ memory_fault) }

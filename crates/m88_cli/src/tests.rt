@@ -1,5 +1,5 @@
-//! What no clause says of the commands: worked runs with their whole reports, refused inputs, words outside the grammar,
-//! what a watch is shown, and the answer where a source or a sink fails.
+//! What no clause says of the commands: worked runs with their whole reports, refused inputs, words outside the
+//! grammar, what a watch is shown, and the answer where a source or a sink fails.
 
 use super::*;
 use m88_base::{MemSink, MemSource};
@@ -204,7 +204,8 @@ const SUM_TOO_LARGE_REPORT: &[u8] = b"end vector 9 at 00001008\nretired 2\n\
     r0 00000000 00000000 7FFFFFFF 00000000 00000000 00000000 00000000 00000000\n\
     r8 00000000 00000000 00000000 00000000 00000000 00000000 00000000 00000000\n\
     r16 00000000 00000000 00000000 00000000 00000000 00000000 00000000 00000000\n\
-    r24 00000000 00000000 00000000 00000000 00000000 00000000 00000000 00000000\ncarry 0\nout -\nevents 6\nanswers 0\nfaults 0\n";
+    r24 00000000 00000000 00000000 00000000 00000000 00000000 00000000 00000000\n\
+    carry 0\nout -\nevents 6\nanswers 0\nfaults 0\n";
 
 /// A signed division of a negative number.
 const NEGATIVE: &[u8] = b"subu r2,r0,1\ndiv r3,r2,2\n";
@@ -213,7 +214,8 @@ const NEGATIVE_REPORT: &[u8] = b"end vector 8 at 00001004\nretired 1\n\
     r0 00000000 00000000 FFFFFFFF 00000000 00000000 00000000 00000000 00000000\n\
     r8 00000000 00000000 00000000 00000000 00000000 00000000 00000000 00000000\n\
     r16 00000000 00000000 00000000 00000000 00000000 00000000 00000000 00000000\n\
-    r24 00000000 00000000 00000000 00000000 00000000 00000000 00000000 00000000\ncarry 0\nout -\nevents 4\nanswers 0\nfaults 0\n";
+    r24 00000000 00000000 00000000 00000000 00000000 00000000 00000000 00000000\n\
+    carry 0\nout -\nevents 4\nanswers 0\nfaults 0\n";
 
 /// A branch in the slot of a taken branch.
 const FLOW_IN_SLOT: &[u8] = b"br.n x\nbr x\nor r2,r0,1\nx: or r3,r0,1\n";
@@ -222,7 +224,8 @@ const FLOW_IN_SLOT_REPORT: &[u8] = b"end vector 5 at 00001004\nretired 1\n\
     r0 00000000 00000000 00000000 00000000 00000000 00000000 00000000 00000000\n\
     r8 00000000 00000000 00000000 00000000 00000000 00000000 00000000 00000000\n\
     r16 00000000 00000000 00000000 00000000 00000000 00000000 00000000 00000000\n\
-    r24 00000000 00000000 00000000 00000000 00000000 00000000 00000000 00000000\ncarry 0\nout -\nevents 4\nanswers 0\nfaults 0\n";
+    r24 00000000 00000000 00000000 00000000 00000000 00000000 00000000 00000000\n\
+    carry 0\nout -\nevents 4\nanswers 0\nfaults 0\n";
 
 /// The same where the slot is followed by what stands behind it.
 const FLOW_BEHIND: &[u8] = b"br.n y\nbr x\ny: or r2,r0,1\nx: or r3,r0,1\n";
@@ -231,7 +234,8 @@ const FLOW_BEHIND_REPORT: &[u8] = b"end limit\nretired 3\n\
     r0 00000000 00000000 00000000 00000001 00000000 00000000 00000000 00000000\n\
     r8 00000000 00000000 00000000 00000000 00000000 00000000 00000000 00000000\n\
     r16 00000000 00000000 00000000 00000000 00000000 00000000 00000000 00000000\n\
-    r24 00000000 00000000 00000000 00000000 00000000 00000000 00000000 00000000\ncarry 0\nout -\nevents 8\nanswers 0\nfaults 0\n";
+    r24 00000000 00000000 00000000 00000000 00000000 00000000 00000000 00000000\n\
+    carry 0\nout -\nevents 8\nanswers 0\nfaults 0\n";
 
 /// A load of a word off its alignment.
 const ODD: &[u8] = b"ld r2,r0,2\n";
@@ -240,19 +244,21 @@ const ODD_REPORT: &[u8] = b"end vector 4 at 00001000\nretired 0\n\
     r0 00000000 00000000 00000000 00000000 00000000 00000000 00000000 00000000\n\
     r8 00000000 00000000 00000000 00000000 00000000 00000000 00000000 00000000\n\
     r16 00000000 00000000 00000000 00000000 00000000 00000000 00000000 00000000\n\
-    r24 00000000 00000000 00000000 00000000 00000000 00000000 00000000 00000000\ncarry 0\nout -\nevents 2\nanswers 0\nfaults 0\n";
+    r24 00000000 00000000 00000000 00000000 00000000 00000000 00000000 00000000\n\
+    carry 0\nout -\nevents 2\nanswers 0\nfaults 0\n";
 
 const ANSWERED_REPORT: &[u8] = b"end limit\nretired 4\n\
     r0 00000000 00000000 00000000 00000000 00000000 00000000 00000000 00000000\n\
     r8 00000000 00000000 00000000 00000000 00000000 00000000 00000000 00000000\n\
     r16 00000000 00000000 00000000 00000000 00000000 00000000 00000000 00000000\n\
-    r24 00000000 00000000 00000000 00000000 00000000 00000000 00000000 00000000\ncarry 0\nout -\nevents 57\nanswers 4\nfaults 0\n";
+    r24 00000000 00000000 00000000 00000000 00000000 00000000 00000000 00000000\n\
+    carry 0\nout -\nevents 57\nanswers 4\nfaults 0\n";
 
 /// A call number that is never reached.
 const NEVER: u32 = 4_000_000_000;
 
 /// The answer to a line of words, and what the sink then holds.
-fn run(
+pub fn run(
     alloc: Global,
     line: &str,
     source: MemSource,
@@ -263,7 +269,7 @@ fn run(
 }
 
 /// The same with a watch that is shown the boards.
-fn run_watched<W: Watch>(
+pub fn run_watched<W: Watch>(
     alloc: Global,
     line: &str,
     mut source: MemSource,
@@ -293,7 +299,9 @@ fn an_input_in_any_pieces_is_answered_by_the_whole_text(rt: HostRuntime) -> Resu
         ("run 3 5,6,7 iiir", LOADS, Status::Done, LOADS_REPORT),
         ("run 1000 all iiirrr", SUM, Status::Done, SUM_REPORT),
         ("build", WAITING, Status::Done, WAITING_RECORDS),
+        ("link", WAITING_OBJECT, Status::Done, WAITING_RECORDS),
         ("exec 1 none -", TWO_WORDS, Status::Done, ONE_RETIRED),
+        ("dis", TWO_WORDS, Status::Done, TWO_WORDS_LISTING),
         (
             "run 1 none -",
             b"br nowhere\n",
@@ -411,14 +419,44 @@ const WAITING_RECORDS: &[u8] =
 
 const TWO_WORDS: &[u8] = b"S00600004D38383C\nS30D0000100058400041F000D1F058\nS70500001000EA\n";
 
+const TWO_WORDS_LISTING: &[u8] =
+    b".set _start,0x00001000\n.at 0x00001000\nor r2,r0,65\ntb0 0,r0,496\n";
+
+/// A part that begins and ends off a multiple of 4, with a word of no instruction, and the start behind its odd bytes.
+const ODD_PART: &[u8] = b"S00600004D38383C\nS30D0000100058400041F000D1F058\n\
+    S30C0000200212ABF8200001FFFC\nS70500002004D6\n";
+
+const ODD_PART_LISTING: &[u8] =
+    b".set _start,0x00002004\n.at 0x00001000\nor r2,r0,65\ntb0 0,r0,496\n\
+    .at 0x00002002\n.byte 0x12\n.byte 0xAB\n.word 0xF8200001\n.byte 0xFF\n";
+
+/// Two parts, of instructions and of one other word, and a start off a multiple of 4.
+const TWO_PARTS: &[u8] =
+    b"S0030000FC\r\nS11BFFF0592000637D5041D35840004124405000F000D1F07D5041D319\r\n\
+    S3090001000C845452BC03\r\nS9031002EA\r\n";
+
+const TWO_PARTS_LISTING: &[u8] =
+    b".set _start,0x00001002\n.at 0x0000FFF0\nor r9,r0,99\ncmp r10,r16,16851\n\
+    or r2,r0,65\nst r2,r0,20480\ntb0 0,r0,496\ncmp r10,r16,16851\n.at 0x0001000C\n.word 0x845452BC\n";
+
+/// An object without bytes, and the records of its image.
+const NO_BYTES: &[u8] = b"object a\ntext 00000000 1\ndata 00000000 1\nend\n";
+
+const NO_RECORDS: &[u8] = b"S00600004D38383C\nS70500001000EA\n";
+
 #[test]
 fn a_source_is_assembled_and_built(rt: HostRuntime) -> Result<(), Fail> {
     for (line, input, text) in [
         ("asm", WAITING, WAITING_OBJECT),
         ("asm", MODULES, MODULES_OBJECTS),
+        ("link", WAITING_OBJECT, WAITING_RECORDS),
+        ("link", MODULES_OBJECTS, MODULES_RECORDS),
+        ("link", NO_BYTES, NO_RECORDS),
         ("build", WAITING, WAITING_RECORDS),
         ("build", MODULES, MODULES_RECORDS),
         ("build", b"or r2,r0,65\ntb0 0,r0,496\n", TWO_WORDS),
+        ("build", TWO_WORDS_LISTING, TWO_WORDS),
+        ("build", ODD_PART_LISTING, ODD_PART),
     ] {
         let source = MemSource::new(rt.alloc(), input, 7, &[]).map_err(|_| "memory")?;
         let sink = MemSink::new(rt.alloc(), 1000, 7, &[]).map_err(|_| "memory")?;
@@ -493,6 +531,85 @@ fn a_source_is_refused_by_the_assembler(rt: HostRuntime) -> Result<(), Fail> {
 }
 
 #[test]
+fn records_are_listed(rt: HostRuntime) -> Result<(), Fail> {
+    for (input, text) in [
+        (TWO_WORDS, TWO_WORDS_LISTING),
+        (ODD_PART, ODD_PART_LISTING),
+        (TWO_PARTS, TWO_PARTS_LISTING),
+        (b"S9031002EA", b".set _start,0x00001002\n"),
+    ] {
+        let source = MemSource::new(rt.alloc(), input, 7, &[]).map_err(|_| "memory")?;
+        let sink = MemSink::new(rt.alloc(), 1000, 7, &[]).map_err(|_| "memory")?;
+        let (answer, held) = run(rt.alloc(), "dis", source, sink)?;
+        assert!(rt;
+            answer == Status::Done && held.as_slice() == text,
+            "at {text:?}"
+        );
+    }
+    Ok(())
+}
+
+#[test]
+fn objects_are_refused_at_their_first_fault(rt: HostRuntime) -> Result<(), Fail> {
+    for (input, text) in [
+        (b"".as_slice(), b"refused 1:1 form\n".as_slice()),
+        (b"objekt main\n", b"refused 1:1 form\n"),
+        (
+            b"object main\ntext 00000008 1\n=58400041\n",
+            b"refused 3:1 form\n",
+        ),
+        (b"object main\ntext FFFFFFFF 1\n", b"refused 3:1 form\n"),
+        (
+            b"object a\ntext 00000000 1\ndata 00000000 1\nend",
+            b"refused 4:1 form\n",
+        ),
+        (
+            b"object a\ntext 00000000 1\ndata 00000000 1\nsymbol x l 0 00000001 1 1\nend\nobject 9\n",
+            b"refused 6:1 form\n",
+        ),
+        (
+            b"object main\ntext 00000004 1\n=58400041\ndata 00000000 1\n\
+    reloc lo16 0 00000004 x 00000000 1 1\nend\n",
+            b"refused 5:1 range\n",
+        ),
+        (
+            b"object a\ntext 00000000 1\ndata 00000000 1\nend\n\
+    object b\ntext 00000000 4\ndata 00000000 4\nsymbol _start l 0 00000000 4 1\nend\n",
+            b"refused 8:1 range\n",
+        ),
+        (
+            b"object a\ntext 00000000 1\ndata 00000000 1\nat 00002000 00000001 5\n=01\n\
+    at 00002000 00000001 3\n=02\nend\n",
+            b"refused 3:1 overlap 00002000\n",
+        ),
+        (
+            b"object a\ntext 00000000 1\ndata 00000000 1\nsymbol f g 0 00000000 3 1\nend\n\
+    object b\ntext 00000000 4\ndata 00000000 4\nsymbol f g 1 00000000 9 5\nend\n",
+            b"refused 9:5 duplicate f first at 3\n",
+        ),
+        (
+            b"object a\ntext 00000004 1\n=C0000000\ndata 00000000 1\n\
+    reloc pc26 0 00000000 nowhere 00000000 7 4\nend\n",
+            b"refused 7:4 undefined nowhere\n",
+        ),
+        (
+            b"object a\ntext 00000000 1\ndata 00000000 1\nat 00100000 00000004 2\n=E8400000\n\
+    symbol x l 0 00000000 1 1\nreloc pc16 2 00000000 x 00000000 3 14\nend\n",
+            b"refused 3:14 too far -1044480\n",
+        ),
+    ] {
+        let source = MemSource::new(rt.alloc(), input, 7, &[]).map_err(|_| "memory")?;
+        let sink = MemSink::new(rt.alloc(), 1000, 7, &[]).map_err(|_| "memory")?;
+        let (answer, held) = run(rt.alloc(), "link", source, sink)?;
+        assert!(rt;
+            answer == Status::Refused && held.as_slice() == text,
+            "at {text:?}"
+        );
+    }
+    Ok(())
+}
+
+#[test]
 fn records_are_refused_at_their_first_fault(rt: HostRuntime) -> Result<(), Fail> {
     for (input, text) in [
         (
@@ -520,13 +637,15 @@ fn records_are_refused_at_their_first_fault(rt: HostRuntime) -> Result<(), Fail>
             b"refused 2:1 after end\n",
         ),
     ] {
-        let source = MemSource::new(rt.alloc(), input, 7, &[]).map_err(|_| "memory")?;
-        let sink = MemSink::new(rt.alloc(), 1000, 7, &[]).map_err(|_| "memory")?;
-        let (answer, held) = run(rt.alloc(), "exec 1 none -", source, sink)?;
-        assert!(rt;
-            answer == Status::Refused && held.as_slice() == text,
-            "at {text:?}"
-        );
+        for line in ["exec 1 none -", "dis"] {
+            let source = MemSource::new(rt.alloc(), input, 7, &[]).map_err(|_| "memory")?;
+            let sink = MemSink::new(rt.alloc(), 1000, 7, &[]).map_err(|_| "memory")?;
+            let (answer, held) = run(rt.alloc(), line, source, sink)?;
+            assert!(rt;
+                answer == Status::Refused && held.as_slice() == text,
+                "{line}: {text:?}"
+            );
+        }
     }
     Ok(())
 }
@@ -555,10 +674,16 @@ fn other_words_are_usage(rt: HostRuntime) -> Result<(), Fail> {
         "exec 1 none",
         "exec 1000001 none -",
         "execute 1 none -",
+        "dis -",
+        "Dis",
+        "di",
         "asm -",
         "asm asm",
         "ASM",
         "as",
+        "link -",
+        "Link",
+        "linker",
         "build -",
         "Build",
         "buil",

@@ -16,7 +16,7 @@ use Rattle.m88_asm.specs.Counters.{Counters, Located, after, length_at, located,
 use Rattle.m88_asm.specs.Faults.{alignment_of, fault_in, misfit_at, misplaced_at, statements_fault, too_large_at}
 use Rattle.m88_asm.specs.Objects.{Head, heads_in, opened_by, opens, sets_at, symbols_of, symbol_uses}
 use Rattle.m88_asm.specs.Units.{Based, address_at}
-use Rattle.m88_disasm.specs.Read.{bare}
+use Rattle.m88_disasm.specs.Read.{unlabelled}
 use Rattle.m88_disasm.proofs.Bodies.{ArePieces, Data, Gives, PartsData, a_byte, a_code, a_word, more_data, more_parts, no_data, no_parts}
 use Rattle.m88_disasm.proofs.Rows.{numbered}
 use Rattle.m88_disasm.proofs.Standing.{Bases, Fresh, Stands, fresh_behind, located_cons, located_none, opens_part, put_same, stands_behind}
@@ -45,14 +45,14 @@ gives_length place _ _ (a_byte b) = refl
 
 -- a statement that gives bytes defines nothing
 data_fault : (defined : List Symbol) (c : Counters) (n : ℕ) (b : Body) (given : List ℕ) → Gives b given
-    → fault_in defined (record { before = c; statement = bare n b })
-    ≡ misfit_at (c.lengths c.here) (c.starts c.here + c.lengths c.here) (bare n b)
+    → fault_in defined (record { before = c; statement = unlabelled n b })
+    ≡ misfit_at (c.lengths c.here) (c.starts c.here + c.lengths c.here) (unlabelled n b)
 data_fault defined c n _ _ (a_code i) = refl
 data_fault defined c n _ _ (a_word w) = refl
 data_fault defined c n _ _ (a_byte b) = refl
 
 data_symbols : (c : Counters) (n : ℕ) (b : Body) (given : List ℕ) → Gives b given
-    → symbols_of (record { before = c; statement = bare n b }) ≡ []
+    → symbols_of (record { before = c; statement = unlabelled n b }) ≡ []
 data_symbols c n _ _ (a_code i) = refl
 data_symbols c n _ _ (a_word w) = refl
 data_symbols c n _ _ (a_byte b) = refl
@@ -86,7 +86,7 @@ data_faults k at done c n from bytes _ more defined begins few low s
     λ e m names h. rest e m names (let same : done + length given + length left ≡ done + length bytes = omega
     (arith, size) in
     subst (λ (i : ℕ). Stands e k at i) same h) in
-    let r : Located = record { before = c; statement = bare n b } in
+    let r : Located = record { before = c; statement = unlabelled n b } in
     let others : List Located = located (after c b) (numbered (n + 1) (bs ++ more)) in
     let ih : statements_fault (defined ++ symbols_of r) others ≡ None =
     data_faults k at (done + length given) (after c b) (n + 1) (from + length given) left bs more
@@ -99,10 +99,10 @@ data_faults k at done c n from bytes _ more defined begins few low s
     let len : length_at from b ≡ length given = gives_length from b given gives in
     let one : fault_in defined r ≡ None =
     data_fault defined c n b given gives
-    ∙ ap (λ (i : ℕ). misfit_at i (c.starts c.here + c.lengths c.here) (bare n b)) offset
-    ∙ ap (λ (i : ℕ). misfit_at done i (bare n b)) place
-    ∙ fits done from (bare n b) stands (omega (arith, size, len)) (omega (arith, size, len)) in
-    ap (statements_fault defined) (located_cons c (bare n b) (numbered (n + 1) (bs ++ more)))
+    ∙ ap (λ (i : ℕ). misfit_at i (c.starts c.here + c.lengths c.here) (unlabelled n b)) offset
+    ∙ ap (λ (i : ℕ). misfit_at done i (unlabelled n b)) place
+    ∙ fits done from (unlabelled n b) stands (omega (arith, size, len)) (omega (arith, size, len)) in
+    ap (statements_fault defined) (located_cons c (unlabelled n b) (numbered (n + 1) (bs ++ more)))
     ∙ faults_cons defined r others one ih
 
 -- the parts have no more bytes together than an image
@@ -111,9 +111,9 @@ AreFew [] = Unit {0}
 AreFew (run ∷ runs) = (length run.bytes ≤ most_bytes) × AreFew runs
 
 place_fault : (defined : List Symbol) (c : Counters) (n at : ℕ) → c.lengths c.count ≡ 0 → at ≤ 2 ^ 32
-    → fault_in defined (record { before = c; statement = bare n (body.At at) }) ≡ None
+    → fault_in defined (record { before = c; statement = unlabelled n (body.At at) }) ≡ None
 place_fault defined c n at none low =
-    let x : Statement = bare n (body.At at) in
+    let x : Statement = unlabelled n (body.At at) in
     let r : Located = record { before = c; statement = x } in
     let place : place_of r ≡ at =
     ap (λ (k : ℕ). k + c.lengths c.count) (put_same c.starts c.count at) ∙ omega (arith, none) in
@@ -129,7 +129,7 @@ parts_faults c n i _ _ defined pieces few f no_parts = ap (statements_fault defi
 parts_faults c n i _ bodies defined pieces few f
     (more_parts {run = run} {runs = runs} own more bodies_are datas others) =
     let opened : Counters = after c (body.At run.at) in
-    let x : Statement = bare i (body.At run.at) in
+    let x : Statement = unlabelled i (body.At run.at) in
     let r : Located = record { before = c; statement = x } in
     let behind : (e : Counters) (m : ℕ) (names : List Symbol) → Stands e n run.at (0 + length run.bytes)
     → statements_fault names (located e (numbered m more)) ≡ None =
@@ -207,7 +207,7 @@ pub defined_symbols : (c : Counters) (i : ℕ) (bs : List Body)
     → flat_map symbols_of (located c (numbered i bs)) ≡ flat_map (λ x. sets_at x.line x.body) (numbered i bs)
 defined_symbols c i [] = ap (flat_map symbols_of) (located_none c)
 defined_symbols c i (b ∷ bs) =
-    ap (flat_map symbols_of) (located_cons c (bare i b) (numbered (i + 1) bs))
+    ap (flat_map symbols_of) (located_cons c (unlabelled i b) (numbered (i + 1) bs))
     ∙ ap (λ (ss : List Symbol). sets_at i b ++ ss) (defined_symbols (after c b) (i + 1) bs)
 
 -- the symbols that bodies set
@@ -233,7 +233,7 @@ parts_define i _ bodies (more_parts {run = run} {runs = runs} own more bodies_ar
     ∙ data_defines (i + 1) run.at run.bytes own more datas (λ m. parts_define m runs more others)
 
 data_uses : (c : Counters) (n : ℕ) (b : Body) (given : List ℕ) → Gives b given
-    → symbol_uses (record { before = c; statement = bare n b }) ≡ []
+    → symbol_uses (record { before = c; statement = unlabelled n b }) ≡ []
 data_uses c n _ _ (a_code i) = refl
 data_uses c n _ _ (a_word w) = refl
 data_uses c n _ _ (a_byte b) = refl
@@ -246,7 +246,7 @@ data_use : (c : Counters) (n from : ℕ) (bytes : List ℕ) (own more : List Bod
     → ((e : Counters) (m : ℕ) → uses_of e m more ≡ []) → uses_of c n (own ++ more) ≡ []
 data_use c n from _ _ more no_data rest = rest c n
 data_use c n from _ _ more (more_data {b = b} {bs = bs} given left bytes_are gives stands tail) rest =
-    ap (flat_map symbol_uses) (located_cons c (bare n b) (numbered (n + 1) (bs ++ more)))
+    ap (flat_map symbol_uses) (located_cons c (unlabelled n b) (numbered (n + 1) (bs ++ more)))
     ∙ ap (λ (rs : List Reloc). rs ++ uses_of (after c b) (n + 1) (bs ++ more)) (data_uses c n b given gives)
     ∙ data_use (after c b) (n + 1) (from + length given) left bs more tail rest
 
@@ -255,6 +255,6 @@ pub parts_use : (c : Counters) (i : ℕ) (runs : List Placed) (bodies : List Bod
 parts_use c i _ _ no_parts = ap (flat_map symbol_uses) (located_none c)
 parts_use c i _ bodies (more_parts {run = run} {runs = runs} own more bodies_are datas others) =
     ap (uses_of c i) bodies_are
-    ∙ ap (flat_map symbol_uses) (located_cons c (bare i (body.At run.at)) (numbered (i + 1) (own ++ more)))
+    ∙ ap (flat_map symbol_uses) (located_cons c (unlabelled i (body.At run.at)) (numbered (i + 1) (own ++ more)))
     ∙ data_use (after c (body.At run.at)) (i + 1) run.at run.bytes own more datas
     (λ e m. parts_use e m runs more others)

@@ -24,7 +24,7 @@ use Rattle.m88_asm.specs.Images.{run_of}
 use Rattle.m88_asm.specs.Objects.{Head, first_heads, heads_in, lines_in, marked, symbol_uses, symbols_in, symbols_of}
 use Rattle.m88_asm.specs.Units.{Based, base_in, end_of_text, extent_under, extents_in, globals_in, length_in, references_in, section_length, unit_layout}
 use Rattle.m88_disasm.specs.Listing.{IsListing, start_line}
-use Rattle.m88_disasm.specs.Read.{WritesImage, bare}
+use Rattle.m88_disasm.specs.Read.{WritesImage, unlabelled}
 use Rattle.m88_disasm.proofs.Accepting.{AreFew, bases_are, defined_symbols, faults_cons, opened_in, opened_sections, parts_define, parts_faults, parts_heads, parts_use}
 use Rattle.m88_disasm.proofs.Bodies.{ArePieces, ListedParts, PartsData, listed_parts, pieces_of}
 use Rattle.m88_disasm.proofs.Linking.{RoomsAre, hits_cons, lengths_cons, lengths_of, no_room, parts_lengths, room, rooms_apart, rooms_are, rooms_count, rooms_low, where_same}
@@ -61,11 +61,11 @@ fresh_first start = record { count = refl; empty = λ j h. put_other (λ _. 0) 0
 
 -- the first statement where it stands
 abbrev first_row : ℕ → Located
-first_row start = record { before = at_begin; statement = bare 1 (first_body start) }
+first_row start = record { before = at_begin; statement = unlabelled 1 (first_body start) }
 
 rows_of : (start : ℕ) (bodies : List Body)
     → lines_in (main start bodies) ≡ first_row start ∷ located (behind_first start) (numbered 2 bodies)
-rows_of start bodies = located_cons at_begin (bare 1 (first_body start)) (numbered 2 bodies)
+rows_of start bodies = located_cons at_begin (unlabelled 1 (first_body start)) (numbered 2 bodies)
 
 -- sections
 heads_are : (start : ℕ) (bodies : List Body) → heads_in (main start bodies) ≡ first_heads 1 ++ opened_in 2 bodies

@@ -17,8 +17,8 @@ use Rattle.m88_parse.specs.declared.unit.Body.{Body}
 use Rattle.m88_parse.specs.declared.unit.Body.TheVariants as body
 use Rattle.m88_parse.specs.declared.unit.Value.TheVariants.{Number}
 use Rattle.m88_asm.specs.Faults.{alignment_of}
-use Rattle.m88_disasm.specs.Listing.{AreLines, ArePartLines, IsWordLine, byte, byte_line, instruction, no_instruction, no_line, no_part, part, word}
-use Rattle.m88_disasm.specs.Read.{said_by}
+use Rattle.m88_disasm.specs.Listing.{AreLines, ArePartLines, IsWordLine, byte, lone_byte_line, instruction, no_instruction, no_line, no_part, part, word}
+use Rattle.m88_disasm.specs.Read.{said_body}
 use Rattle.m88_disasm.specs.Text.{instr_text, word_text}
 use Rattle.m88_disasm.proofs.Rows.{Stated, stated_behind}
 use Rattle.m88_disasm.proofs.Spoken.{Spoken, said_byte, said_instr, said_place, said_word}
@@ -58,11 +58,11 @@ pub record ListedBytes (number at : ℕ) (bytes : List ℕ) (lines : List (List 
   pub stated : Stated number lines bodies
   pub datas : Data at bytes bodies
 
-gives_instr : (i : Instr) → Gives (said_by i) (to_be_bytes w32 (word_of i))
+gives_instr : (i : Instr) → Gives (said_body i) (to_be_bytes w32 (word_of i))
 gives_instr (instr.Sfu unit rest) = a_word (word_of (instr.Sfu unit rest))
 gives_instr i = a_code _
 
-stands_instr : (i : Instr) (at : ℕ) → at % 4 ≡ 0 → at % alignment_of (said_by i) ≡ 0
+stands_instr : (i : Instr) (at : ℕ) → at % 4 ≡ 0 → at % alignment_of (said_body i) ≡ 0
 stands_instr (instr.Sfu unit rest) at h = h
 stands_instr i at h = h
 
@@ -99,8 +99,8 @@ listed_word : (number at a b c d : ℕ) (rest line : List ℕ) (lines : List (Li
 listed_word number at a b c d rest _ lines ha hb hc hd stands (instruction i is) l =
     let given : List ℕ = a ∷ b ∷ c ∷ d ∷ [] in
     let bytes : to_be_bytes w32 (word_of i) ≡ given = ap (to_be_bytes w32) is.1 ∙ four a b c d ha hb hc hd in
-    listed_before number at given rest _ (instr_text i) lines (said_by i) refl
-    (subst (λ (xs : List ℕ). Gives (said_by i) xs) bytes (gives_instr i)) (stands_instr i at stands)
+    listed_before number at given rest _ (instr_text i) lines (said_body i) refl
+    (subst (λ (xs : List ℕ). Gives (said_body i) xs) bytes (gives_instr i)) (stands_instr i at stands)
     (said_instr number i is.0) l
 listed_word number at a b c d rest _ lines ha hb hc hd stands (no_instruction none) l =
     let w : ℕ = from_be_bytes w32 (a ∷ b ∷ c ∷ d ∷ []) in
@@ -116,7 +116,7 @@ listed number at _ _ small (word {a = a} {b = b} {c = c} {d = d} {bytes = rest} 
     listed_word number at a b c d rest line lines small.0 small.1.0 small.1.1.0 small.1.1.1.0 begins.0 is
     (listed (number + 1) (at + 4) rest lines small.1.1.1.1 more)
 listed number at _ _ small (byte {b = b} {bytes = rest} {lines = lines} none more) =
-    listed_before number at (b ∷ []) rest _ (byte_line b) lines (body.Byte (b ∷ [])) refl (a_byte b) (omega arith)
+    listed_before number at (b ∷ []) rest _ (lone_byte_line b) lines (body.Byte (b ∷ [])) refl (a_byte b) (omega arith)
     (said_byte number b small.0) (listed (number + 1) (at + 1) rest lines small.1 more)
 
 -- the lines of parts, each read as a statement

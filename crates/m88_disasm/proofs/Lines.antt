@@ -6,12 +6,12 @@ use Rattle.std.proofs.lemmas.List.{at_drop_more, drop-drop, drop_all}
 use Rattle.std.proofs.lemmas.Option.{get_or_from_slice_get, slice_get_within}
 use Rattle.std.proofs.lemmas.List.Concat.{flat_map-append}
 use Rattle.m88_base.specs.Image.{ProgramImage, parts}
-use Rattle.m88_base.specs.Lines.{line_end}
+use Rattle.m88_base.specs.Lines.{line_end, text_of_lines}
 use Rattle.m88_base.specs.Placed.{Placed}
 use Rattle.m88_isa.specs.Word.{IsWord}
 use Rattle.m88_isa.specs.declared.instr.Instr.{Instr}
 use Rattle.m88_disasm.specs.Text.{instr_text, word_text}
-use Rattle.m88_disasm.specs.Listing.{AreLines, ArePartLines, BeginsWord, IsListing, IsWordLine, byte_line, place_line, start_line, text_of_lines}
+use Rattle.m88_disasm.specs.Listing.{AreLines, ArePartLines, BeginsWord, IsListing, IsWordLine, lone_byte_line, place_line, start_line}
 use Rattle.m88_disasm.specs.Listing.IsWordLine.{instruction, no_instruction}
 use Rattle.m88_disasm.specs.Listing.AreLines.{no_line, word, byte}
 use Rattle.m88_disasm.specs.Listing.ArePartLines.{no_part, part}
@@ -49,13 +49,13 @@ word_first at w (a ∷ b ∷ c ∷ d ∷ bytes) old new begins e l =
 
 -- the line of the first byte
 pub byte_first : (at : ℕ) (bytes old new : List ℕ) → 0 < length bytes → (BeginsWord at bytes → ⊥)
-    → new ≡ old ++ (byte_line (get_or bytes 0 0) ++ line_end) → BytesAppended at bytes old new 1
+    → new ≡ old ++ (lone_byte_line (get_or bytes 0 0) ++ line_end) → BytesAppended at bytes old new 1
 byte_first at [] old new some none e = absurd (omega arith)
 byte_first at (b ∷ bytes) old new some none e =
     λ lines are. record {
-      lines = byte_line b ∷ lines;
+      lines = lone_byte_line b ∷ lines;
       are = byte none are;
-      text_is = line_before old new (byte_line b) lines e;
+      text_is = line_before old new (lone_byte_line b) lines e;
     }
 
 -- the same lines, of a text that is equal

@@ -13,7 +13,7 @@ use Rattle.m88_link.specs.Refusal.{AreDisjoint, covers, hits}
 use Rattle.m88_asm.specs.Counters.{Counters, after, located}
 use Rattle.m88_asm.specs.Objects.{Head}
 use Rattle.m88_asm.specs.Units.{Based, address_at, extent_under, length_in, section_length}
-use Rattle.m88_disasm.specs.Read.{bare}
+use Rattle.m88_disasm.specs.Read.{unlabelled}
 use Rattle.m88_disasm.proofs.Accepting.{HeadsAre}
 use Rattle.m88_disasm.proofs.Bodies.{ArePieces, Data, Gives, PartsData, a_byte, a_code, a_word, more_data, more_parts, no_data, no_parts}
 use Rattle.m88_disasm.proofs.Rows.{numbered}
@@ -21,7 +21,7 @@ use Rattle.m88_disasm.proofs.Standing.{Fresh, Stands, fresh_behind, located_cons
 
 -- the bytes that a body gives count for its section
 data_length : (j : ℕ) (c : Counters) (n : ℕ) (b : Body) (given : List ℕ) → Gives b given
-    → length_in j (record { before = c; statement = bare n b }) ≡ (if c.here == j then length given else 0)
+    → length_in j (record { before = c; statement = unlabelled n b }) ≡ (if c.here == j then length given else 0)
 data_length j c n _ _ (a_code i) = refl
 data_length j c n _ _ (a_word w) = refl
 data_length j c n _ _ (a_byte b) = refl
@@ -31,11 +31,11 @@ abbrev pub lengths_of : ℕ → Counters → ℕ → List Body → ℕ
 lengths_of j c n bs = sum_by (length_in j) (located c (numbered n bs))
 
 pub lengths_cons : (j : ℕ) (c : Counters) (n : ℕ) (b : Body) (bs : List Body)
-    → lengths_of j c n (b ∷ bs) ≡ length_in j (record { before = c; statement = bare n b }) + lengths_of j
+    → lengths_of j c n (b ∷ bs) ≡ length_in j (record { before = c; statement = unlabelled n b }) + lengths_of j
     (after c b) (n + 1) bs
 lengths_cons j c n b bs =
-    ap (sum_by (length_in j)) (located_cons c (bare n b) (numbered (n + 1) bs))
-    ∙ sum_by-cons (length_in j) (record { before = c; statement = bare n b })
+    ap (sum_by (length_in j)) (located_cons c (unlabelled n b) (numbered (n + 1) bs))
+    ∙ sum_by-cons (length_in j) (record { before = c; statement = unlabelled n b })
     (located (after c b) (numbered (n + 1) bs))
 
 lengths_none : (j : ℕ) (c : Counters) (n : ℕ) → lengths_of j c n [] ≡ 0
@@ -82,7 +82,7 @@ room n [] j = 0
 room n (run ∷ runs) j = where_same (n == j) (length run.bytes) + room (n + 1) runs j
 
 place_length : (j : ℕ) (c : Counters) (n at : ℕ)
-    → length_in j (record { before = c; statement = bare n (body.At at) }) ≡ 0
+    → length_in j (record { before = c; statement = unlabelled n (body.At at) }) ≡ 0
 place_length j c n at = by_test (c.count == j)
   where
     by_test : (t : Bool) → where_same t 0 ≡ 0

@@ -1,10 +1,11 @@
 -- An image has one listing.
 use Rattle.std.proofs.Common.{◌≡◌, ℕ, List, [], ◌∷◌, sym, refl, ap, ◌∙◌}
+use Rattle.m88_base.specs.Lines.{text_of_lines}
 use Rattle.m88_base.specs.Image.{ProgramImage, parts}
 use Rattle.m88_base.specs.Placed.{Placed}
 use Rattle.m88_codec.proofs.Law.{one_reading}
 use Rattle.m88_disasm.specs.Text.{instr_text}
-use Rattle.m88_disasm.specs.Listing.{AreLines, ArePartLines, IsListing, IsWordLine, start_line, text_of_lines}
+use Rattle.m88_disasm.specs.Listing.{AreLines, ArePartLines, IsListing, IsWordLine, start_line}
 use Rattle.m88_disasm.specs.Listing.IsWordLine.{instruction, no_instruction}
 use Rattle.m88_disasm.specs.Listing.AreLines.{no_line, word, byte}
 use Rattle.m88_disasm.specs.Listing.ArePartLines.{no_part, part}

@@ -2,13 +2,12 @@
 use Rattle.std.proofs.Common.{◌≡◌, ℕ, ◌+◌, Bool, true, false, ◌==◌, ◌&&◌, List, [], ◌∷◌, ◌++◌, length, refl, sym, ap, subst, ◌∙◌, arith, append_assoc, codes}
 use Rattle.std.specs.Prelude.{if◌then◌else◌}
 use Rattle.std.proofs.lemmas.Bool.Decides.{nat_tests}
-use Rattle.m88_base.specs.Lines.{begins_with_lf, line_end, lines_of, on_first_line}
+use Rattle.m88_base.specs.Lines.{begins_with_lf, line_end, lines_of, on_first_line, text_of_lines}
 use Rattle.m88_parse.specs.Language.Units.{AreRows, IsUnit, no_row, only_main, row_of_statement, statement_line}
 use Rattle.m88_parse.specs.declared.unit.Body.{Body}
 use Rattle.m88_parse.specs.declared.unit.Statement.{Statement}
 use Rattle.m88_parse.specs.declared.unit.Unit.{Unit as Source}
-use Rattle.m88_disasm.specs.Listing.{text_of_lines}
-use Rattle.m88_disasm.specs.Read.{bare}
+use Rattle.m88_disasm.specs.Read.{unlabelled}
 use Rattle.m88_disasm.proofs.Parts.{are_printed, is_printed}
 use Rattle.m88_disasm.proofs.Spoken.{Spoken}
 
@@ -61,7 +60,7 @@ stated_behind number later (l ∷ ls) ms [] cs e h k = absurd h
 -- the statements of bodies in lines from a number on
 abbrev pub numbered : ℕ → List Body → List Statement
 numbered number [] = []
-numbered number (b ∷ bs) = bare number b ∷ numbered (number + 1) bs
+numbered number (b ∷ bs) = unlabelled number b ∷ numbered (number + 1) bs
 
 lines_are : (number : ℕ) (ls : List (List ℕ)) (bs : List Body) → Stated number ls bs → lines_of (text_of_lines ls) ≡ ls
 lines_are number [] [] h = no_lines

@@ -22,10 +22,10 @@ use Rattle.m88_parse.specs.declared.unit.Value.TheVariants.{Number}
 use Rattle.m88_parse.specs.Language.Words.{condition_named}
 use Rattle.m88_parse.specs.declared.unit.Body.{Body}
 use Rattle.m88_parse.specs.declared.unit.Body.TheVariants as body
-use Rattle.m88_disasm.specs.Listing.{byte_line, place_line, start_line}
+use Rattle.m88_disasm.specs.Listing.{lone_byte_line, place_line, start_line}
 use Rattle.m88_disasm.specs.Mnemonics.{of_imm, of_reg, of_mem, of_index, of_lda, of_bits, of_find, of_branch, of_branch_bit, of_branch_cond, of_jump, of_trap_bit, of_ldcr, of_stcr, of_xcr}
-use Rattle.m88_disasm.specs.Read.{IsReadAs, said_by}
-use Rattle.m88_disasm.specs.Text.{condition, control, field, instr_text, register, scaled, spelled, target, word_text}
+use Rattle.m88_disasm.specs.Read.{IsReadAs, said_body}
+use Rattle.m88_disasm.specs.Text.{condition, control, field, instr_text, register_name, scaled, spelled, target_operand, word_text}
 use Rattle.m88_disasm.proofs.Parts.{AreGood, IsGood, Part, are_parted, are_printed, byte_part_good, is_mark_part, is_name_text, line_pieces, line_printed, line_tokens, name_is_printed, mnemonic_name, name_token, numbered_name, part_hex, part_mark, part_name, part_number, part_says, part_text, parts_text, piece_of, pieces, word_name, word_part_good}
 use Rattle.m88_disasm.proofs.Forms.{bits_register_form, bound_number_form, bound_register_form, branch_bit_form, branch_cond_form, branch_form, distance_of, field_form, find_form, imm_form, jump_form, lda_form, ldcr_form, mem_imm_form, mem_index_form, mem_scaled_form, reg_form, return_form, rotation_form, sign_of, stcr_form, trap_bit_form, trap_cond_form, xcr_form}
 
@@ -60,7 +60,7 @@ says_code mnemonic p ps i number text text_is goods parted first operands =
 
 -- names and marks
 abbrev reg_part : Reg → Part
-reg_part r = part_name (register r)
+reg_part r = part_name (register_name r)
 
 -- the mark between two operands
 abbrev comma : Part
@@ -139,7 +139,7 @@ condition_part mask small = by1 (mask == 1) refl
 said_imm : (number : ℕ) (mnemonic : Mnemonic) (d s1 : Reg) (n : ℕ) (i : Instr) → n < 2 ^ 16
     → AreOperands (shape_of mnemonic)
     (pieces (1 + length (text_of mnemonic) + 1) (reg_part d ∷ comma ∷ reg_part s1 ∷ comma ∷ part_number n ∷ [])) i None
-    → Spoken number (spelled mnemonic (register d ∷ register s1 ∷ decimal n ∷ [])) (body.Code i None)
+    → Spoken number (spelled mnemonic (register_name d ∷ register_name s1 ∷ decimal n ∷ [])) (body.Code i None)
 said_imm number mnemonic d s1 n i small operands =
     says_code mnemonic (reg_part d) (comma ∷ reg_part s1 ∷ comma ∷ part_number n ∷ []) i number _ refl
     (reg_good d, (comma_good, (reg_good s1, (comma_good, (omega arith, tt))))) refl refl operands
@@ -148,7 +148,7 @@ said_imm number mnemonic d s1 n i small operands =
 said_regs : (number : ℕ) (mnemonic : Mnemonic) (d s1 s2 : Reg) (i : Instr)
     → AreOperands (shape_of mnemonic)
     (pieces (1 + length (text_of mnemonic) + 1) (reg_part d ∷ comma ∷ reg_part s1 ∷ comma ∷ reg_part s2 ∷ [])) i None
-    → Spoken number (spelled mnemonic (register d ∷ register s1 ∷ register s2 ∷ [])) (body.Code i None)
+    → Spoken number (spelled mnemonic (register_name d ∷ register_name s1 ∷ register_name s2 ∷ [])) (body.Code i None)
 said_regs number mnemonic d s1 s2 i operands =
     says_code mnemonic (reg_part d) (comma ∷ reg_part s1 ∷ comma ∷ reg_part s2 ∷ []) i number _ refl
     (reg_good d, (comma_good, (reg_good s1, (comma_good, (reg_good s2, tt))))) refl refl operands
@@ -162,11 +162,11 @@ said_scaled : (number : ℕ) (mnemonic : Mnemonic) (d s1 s2 : Reg) (i : Instr)
     → AreOperands (shape_of mnemonic)
     (pieces (1 + length (text_of mnemonic) + 1)
     (reg_part d ∷ comma ∷ reg_part s1 ∷ part_mark 91 ∷ reg_part s2 ∷ part_mark 93 ∷ [])) i None
-    → Spoken number (spelled mnemonic (register d ∷ scaled s1 s2 ∷ [])) (body.Code i None)
+    → Spoken number (spelled mnemonic (register_name d ∷ scaled s1 s2 ∷ [])) (body.Code i None)
 said_scaled number mnemonic d s1 s2 i operands =
     says_code mnemonic (reg_part d) (comma ∷ reg_part s1 ∷ part_mark 91 ∷ reg_part s2 ∷ part_mark 93 ∷ []) i number _
-    (ap (λ (xs : List ℕ). text_of mnemonic ++ 32 ∷ (register d ++ 44 ∷ xs))
-    (marked_twice 91 93 (register s1) (register s2)))
+    (ap (λ (xs : List ℕ). text_of mnemonic ++ 32 ∷ (register_name d ++ 44 ∷ xs))
+    (marked_twice 91 93 (register_name s1) (register_name s2)))
     (reg_good d, (comma_good, (reg_good s1, ((refl, refl, refl), (reg_good s2, ((refl, refl, refl), tt)))))) refl
     refl operands
 
@@ -178,12 +178,12 @@ said_field : (number : ℕ) (mnemonic : Mnemonic) (d s1 : Reg) (width offset : �
     ∷ []))
     i None
     → Spoken number
-    (spelled mnemonic (register d ∷ register s1 ∷ (decimal width ++ codes "<" ++ decimal offset ++ codes ">") ∷ []))
+    (spelled mnemonic (register_name d ∷ register_name s1 ∷ (decimal width ++ codes "<" ++ decimal offset ++ codes ">") ∷ []))
     (body.Code i None)
 said_field number mnemonic d s1 width offset i wide small operands =
     says_code mnemonic (reg_part d)
     (comma ∷ reg_part s1 ∷ comma ∷ part_number width ∷ part_mark 60 ∷ part_number offset ∷ part_mark 62 ∷ []) i number _
-    (ap (λ (xs : List ℕ). text_of mnemonic ++ 32 ∷ (register d ++ 44 ∷ (register s1 ++ 44 ∷ xs)))
+    (ap (λ (xs : List ℕ). text_of mnemonic ++ 32 ∷ (register_name d ++ 44 ∷ (register_name s1 ++ 44 ∷ xs)))
     (marked_twice 60 62 (decimal width) (decimal offset))) (
       reg_good d,
       (
@@ -201,12 +201,12 @@ said_rotation : (number : ℕ) (mnemonic : Mnemonic) (d s1 : Reg) (offset : ℕ)
     (pieces (1 + length (text_of mnemonic) + 1)
     (reg_part d ∷ comma ∷ reg_part s1 ∷ comma ∷ part_mark 60 ∷ part_number offset ∷ part_mark 62 ∷ [])) i None
     → Spoken number
-    (spelled mnemonic (register d ∷ register s1 ∷ (codes "<" ++ decimal offset ++ codes ">") ∷ []))
+    (spelled mnemonic (register_name d ∷ register_name s1 ∷ (codes "<" ++ decimal offset ++ codes ">") ∷ []))
     (body.Code i None)
 said_rotation number mnemonic d s1 offset i small operands =
     says_code mnemonic (reg_part d)
     (comma ∷ reg_part s1 ∷ comma ∷ part_mark 60 ∷ part_number offset ∷ part_mark 62 ∷ []) i number _
-    (ap (λ (xs : List ℕ). text_of mnemonic ++ 32 ∷ (register d ++ 44 ∷ (register s1 ++ 44 ∷ (60 ∷ xs))))
+    (ap (λ (xs : List ℕ). text_of mnemonic ++ 32 ∷ (register_name d ++ 44 ∷ (register_name s1 ++ 44 ∷ (60 ∷ xs))))
     (append-nil (decimal offset ++ codes ">"))) (
       reg_good d,
       (
@@ -219,7 +219,7 @@ said_rotation number mnemonic d s1 offset i small operands =
     ) refl refl operands
 
 said_literal : (number : ℕ) (op : BitOp) (d s1 : Reg) (width offset : ℕ) → IsWidth op width → offset < 32
-    → Spoken number (spelled (of_bits op) (register d ∷ register s1 ∷ field op width offset ∷ []))
+    → Spoken number (spelled (of_bits op) (register_name d ∷ register_name s1 ∷ field op width offset ∷ []))
     (body.Code (instr.BitLit op d s1 width offset) None)
 said_literal number bits.Rot d s1 width offset wide small =
     said_rotation number (of_bits bits.Rot) d s1 offset (instr.BitLit bits.Rot d s1 width offset) small
@@ -232,19 +232,19 @@ said_literal number op d s1 width offset wide small =
 said_pair : (number : ℕ) (mnemonic : Mnemonic) (r s : Reg) (i : Instr)
     → AreOperands (shape_of mnemonic) (pieces (1 + length (text_of mnemonic) + 1)
     (reg_part r ∷ comma ∷ reg_part s ∷ [])) i None
-    → Spoken number (spelled mnemonic (register r ∷ register s ∷ [])) (body.Code i None)
+    → Spoken number (spelled mnemonic (register_name r ∷ register_name s ∷ [])) (body.Code i None)
 said_pair number mnemonic r s i operands =
     says_code mnemonic (reg_part r) (comma ∷ reg_part s ∷ []) i number _ refl
     (reg_good r, (comma_good, (reg_good s, tt))) refl refl operands
 
 said_single : (number : ℕ) (mnemonic : Mnemonic) (r : Reg) (i : Instr)
     → AreOperands (shape_of mnemonic) (pieces (1 + length (text_of mnemonic) + 1) (reg_part r ∷ [])) i None
-    → Spoken number (spelled mnemonic (register r ∷ [])) (body.Code i None)
+    → Spoken number (spelled mnemonic (register_name r ∷ [])) (body.Code i None)
 said_single number mnemonic r i operands =
     says_code mnemonic (reg_part r) [] i number _ refl (reg_good r, tt) refl refl operands
 
 said_bound : (number : ℕ) (s1 : Reg) (n : ℕ) → n < 2 ^ 16
-    → Spoken number (spelled m.Tbnd (register s1 ∷ decimal n ∷ [])) (body.Code (instr.BoundImm s1 n) None)
+    → Spoken number (spelled m.Tbnd (register_name s1 ∷ decimal n ∷ [])) (body.Code (instr.BoundImm s1 n) None)
 said_bound number s1 n small =
     says_code m.Tbnd (reg_part s1) (comma ∷ part_number n ∷ []) (instr.BoundImm s1 n) number _ refl
     (reg_good s1, (comma_good, (omega arith, tt))) refl refl (bound_number_form s1 n _ _ _ refl refl refl small)
@@ -253,7 +253,7 @@ said_bound number s1 n small =
 abbrev target_parts : ℤ → List Part
 target_parts words = part_name (codes ".") ∷ part_mark (sign_of words) ∷ part_number (distance_of words) ∷ []
 
-target_text : (words : ℤ) → target words ++ [] ≡ parts_text (target_parts words)
+target_text : (words : ℤ) → target_operand words ++ [] ≡ parts_text (target_parts words)
 target_text (pos n) = refl
 target_text (negsuc n) = refl
 
@@ -266,7 +266,7 @@ wider (pos n) fits = omega arith
 wider (negsuc n) fits = omega arith
 
 said_branch : (number : ℕ) (link delayed : Bool) (words : ℤ) → FitsWords 25 words
-    → Spoken number (spelled (of_branch link delayed) (target words ∷ []))
+    → Spoken number (spelled (of_branch link delayed) (target_operand words ∷ []))
     (body.Code (instr.Branch link delayed words) None)
 said_branch number link delayed words fits =
     says_code (of_branch link delayed) (part_name (codes "."))
@@ -277,27 +277,27 @@ said_branch number link delayed words fits =
     (branch_form link delayed words _ _ _ fits refl refl refl)
 
 said_branch_bit : (number : ℕ) (set delayed : Bool) (bit : ℕ) (s1 : Reg) (words : ℤ) → bit < 32 → FitsWords 15 words
-    → Spoken number (spelled (of_branch_bit set delayed) (decimal bit ∷ register s1 ∷ target words ∷ []))
+    → Spoken number (spelled (of_branch_bit set delayed) (decimal bit ∷ register_name s1 ∷ target_operand words ∷ []))
     (body.Code (instr.BranchBit set delayed bit s1 words) None)
 said_branch_bit number set delayed bit s1 words small fits =
     says_code (of_branch_bit set delayed) (part_number bit) (comma ∷ reg_part s1 ∷ comma ∷ target_parts words)
     (instr.BranchBit set delayed bit s1 words) number _
-    (ap (λ (xs : List ℕ). text_of (of_branch_bit set delayed) ++ 32 ∷ (decimal bit ++ 44 ∷ (register s1 ++ 44 ∷ xs)))
+    (ap (λ (xs : List ℕ). text_of (of_branch_bit set delayed) ++ 32 ∷ (decimal bit ++ 44 ∷ (register_name s1 ++ 44 ∷ xs)))
     (target_text words))
     (omega arith, (comma_good, (reg_good s1, (comma_good, target_good words (wider words fits))))) refl refl
     (branch_bit_form set delayed bit s1 words _ _ _ _ _ _ _ refl small refl refl refl fits refl refl refl)
 
 said_branch_cond : (number : ℕ) (delayed : Bool) (mask : ℕ) (s1 : Reg) (words : ℤ) → ConditionPart mask
     → FitsWords 15 words
-    → Spoken number (spelled (of_branch_cond delayed) (condition mask ∷ register s1 ∷ target words ∷ []))
+    → Spoken number (spelled (of_branch_cond delayed) (condition mask ∷ register_name s1 ∷ target_operand words ∷ []))
     (body.Code (instr.BranchCond delayed mask s1 words) None)
 said_branch_cond number delayed mask s1 words c fits =
     says_code (of_branch_cond delayed) c.part (comma ∷ reg_part s1 ∷ comma ∷ target_parts words)
     (instr.BranchCond delayed mask s1 words) number _
-    (ap (λ (xs : List ℕ). text_of (of_branch_cond delayed) ++ 32 ∷ (condition mask ++ 44 ∷ (register s1 ++ 44 ∷ xs)))
+    (ap (λ (xs : List ℕ). text_of (of_branch_cond delayed) ++ 32 ∷ (condition mask ++ 44 ∷ (register_name s1 ++ 44 ∷ xs)))
     (target_text words)
     ∙ ap (λ (ys : List ℕ). text_of (of_branch_cond delayed) ++ 32 ∷
-    (ys ++ 44 ∷ (register s1 ++ 44 ∷ parts_text (target_parts words)))) c.text_is)
+    (ys ++ 44 ∷ (register_name s1 ++ 44 ∷ parts_text (target_parts words)))) c.text_is)
     (c.good, (comma_good, (reg_good s1, (comma_good, target_good words (wider words fits))))) refl c.plain
     (branch_cond_form delayed mask s1 words _ _ _ _ _ _ _
     (c.read (piece_of (1 + length (text_of (of_branch_cond delayed)) + 1) c.part) refl) refl refl refl fits refl refl
@@ -305,7 +305,7 @@ said_branch_cond number delayed mask s1 words c fits =
 
 -- traps
 said_trap_bit : (number : ℕ) (set : Bool) (bit : ℕ) (s1 : Reg) (vector : ℕ) → bit < 32 → vector < 512
-    → Spoken number (spelled (of_trap_bit set) (decimal bit ∷ register s1 ∷ decimal vector ∷ []))
+    → Spoken number (spelled (of_trap_bit set) (decimal bit ∷ register_name s1 ∷ decimal vector ∷ []))
     (body.Code (instr.TrapBit set bit s1 vector) None)
 said_trap_bit number set bit s1 vector small few =
     says_code (of_trap_bit set) (part_number bit) (comma ∷ reg_part s1 ∷ comma ∷ part_number vector ∷ [])
@@ -314,12 +314,12 @@ said_trap_bit number set bit s1 vector small few =
     (trap_bit_form set bit s1 vector _ _ _ _ _ refl small refl refl refl refl few)
 
 said_trap_cond : (number : ℕ) (mask : ℕ) (s1 : Reg) (vector : ℕ) → ConditionPart mask → vector < 512
-    → Spoken number (spelled m.Tcnd (condition mask ∷ register s1 ∷ decimal vector ∷ []))
+    → Spoken number (spelled m.Tcnd (condition mask ∷ register_name s1 ∷ decimal vector ∷ []))
     (body.Code (instr.TrapCond mask s1 vector) None)
 said_trap_cond number mask s1 vector c few =
     says_code m.Tcnd c.part (comma ∷ reg_part s1 ∷ comma ∷ part_number vector ∷ [])
     (instr.TrapCond mask s1 vector) number _
-    (ap (λ (ys : List ℕ). text_of m.Tcnd ++ 32 ∷ (ys ++ 44 ∷ (register s1 ++ 44 ∷ (decimal vector ++ [])))) c.text_is)
+    (ap (λ (ys : List ℕ). text_of m.Tcnd ++ 32 ∷ (ys ++ 44 ∷ (register_name s1 ++ 44 ∷ (decimal vector ++ [])))) c.text_is)
     (c.good, (comma_good, (reg_good s1, (comma_good, (omega arith, tt))))) refl c.plain
     (trap_cond_form mask s1 vector _ _ _ _ _ (c.read (piece_of (1 + length (text_of m.Tcnd) + 1) c.part) refl) refl
     refl refl refl few)
@@ -328,13 +328,13 @@ said_trap_cond number mask s1 vector c few =
 said_control : (number : ℕ) (mnemonic : Mnemonic) (r : Reg) (float : Bool) (cr : ℕ) (i : Instr) → cr < 64
     → AreOperands (shape_of mnemonic)
     (pieces (1 + length (text_of mnemonic) + 1) (reg_part r ∷ comma ∷ part_name (control float cr) ∷ [])) i None
-    → Spoken number (spelled mnemonic (register r ∷ control float cr ∷ [])) (body.Code i None)
+    → Spoken number (spelled mnemonic (register_name r ∷ control float cr ∷ [])) (body.Code i None)
 said_control number mnemonic r float cr i small operands =
     says_code mnemonic (reg_part r) (comma ∷ part_name (control float cr) ∷ []) i number _ refl
     (reg_good r, (comma_good, (control_good float cr small, tt))) refl refl operands
 
 said_exchange : (number : ℕ) (d s1 : Reg) (float : Bool) (cr : ℕ) → cr < 64
-    → Spoken number (spelled (of_xcr float) (register d ∷ register s1 ∷ control float cr ∷ []))
+    → Spoken number (spelled (of_xcr float) (register_name d ∷ register_name s1 ∷ control float cr ∷ []))
     (body.Code (instr.Xcr d s1 cr float) None)
 said_exchange number d s1 float cr small =
     says_code (of_xcr float) (reg_part d) (comma ∷ reg_part s1 ∷ comma ∷ part_name (control float cr) ∷ [])
@@ -375,7 +375,7 @@ said_word number w small =
     (word_part_good w small, tt) refl refl (word refl (one (refl, small)))
 
 -- a byte by itself
-pub said_byte : (number b : ℕ) → b < 2 ^ 8 → Spoken number (byte_line b) (body.Byte (b ∷ []))
+pub said_byte : (number b : ℕ) → b < 2 ^ 8 → Spoken number (lone_byte_line b) (body.Byte (b ∷ []))
 said_byte number b small =
     says_body (codes ".byte") (part_hex (hex2 b) b) [] number (body.Byte (b ∷ [])) refl
     (byte_part_good b small, tt) refl refl (byte refl (one (refl, small)))
@@ -410,7 +410,7 @@ said_start number a small =
     (set_symbol refl (refl, start_symbol) refl (refl, small))
 
 -- the text of each instruction
-pub said_instr : (number : ℕ) (i : Instr) → IsValid i → Spoken number (instr_text i) (said_by i)
+pub said_instr : (number : ℕ) (i : Instr) → IsValid i → Spoken number (instr_text i) (said_body i)
 unfolding instr_text
 said_instr number (instr.Imm op d s1 n) v =
     said_imm number (of_imm op) d s1 n _ v (imm_form op d s1 n _ _ _ _ _ refl refl refl refl refl v)

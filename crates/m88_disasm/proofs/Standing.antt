@@ -12,7 +12,7 @@ use Rattle.m88_link.specs.declared.object.Symbol.{Symbol}
 use Rattle.m88_asm.specs.Counters.{Counters, Located, after, located, put, with_length}
 use Rattle.m88_asm.specs.Images.{run_of}
 use Rattle.m88_asm.specs.Units.{Based, base_in}
-use Rattle.m88_disasm.specs.Read.{bare}
+use Rattle.m88_disasm.specs.Read.{unlabelled}
 use Rattle.m88_disasm.proofs.Bodies.{Data, Gives, PartsData, a_byte, a_code, a_word, more_data, more_parts, no_data, no_parts}
 use Rattle.m88_disasm.proofs.Rows.{numbered}
 
@@ -93,7 +93,7 @@ fresh_behind c k at done s = record { count = s.count; empty = s.empty }
 
 -- bytes: what a statement gives is at the address of its section plus what that has
 run_is : (g : List Symbol) (d : Based) (c : Counters) (n : ℕ) (b : Body) (given : List ℕ) → Gives b given
-    → run_of g d (record { before = c; statement = bare n b })
+    → run_of g d (record { before = c; statement = unlabelled n b })
     ≡ record { at = base_in d c.here + c.lengths c.here; bytes = given }
 run_is g d c n _ _ (a_code i) = refl
 run_is g d c n _ _ (a_word w) = refl
@@ -132,7 +132,7 @@ data_bytes g d a k at done c n from bytes _ more found base begins s
     let place : base_in d c.here + c.lengths c.here ≡ from =
     ap (λ (i : ℕ). base_in d i + c.lengths i) s.here ∙ (let e = s.has in omega (arith, e, base, begins)) in
     ap (λ (rs : List Located). byte_among (map (run_of g d) rs) a)
-    (located_cons c (bare n b) (numbered (n + 1) (bs ++ more)))
+    (located_cons c (unlabelled n b) (numbered (n + 1) (bs ++ more)))
     ∙ ap (λ (r : Placed). option_or (byte_in r a)
     (byte_among (map (run_of g d) (located (after c b) (numbered (n + 1) (bs ++ more)))) a))
     (run_is g d c n b given gives ∙ ap (λ (i : ℕ). let r : Placed = record { at = i; bytes = given } in r) place)
@@ -155,7 +155,7 @@ parts_bytes g d a c n i _ _ bases f no_parts =
     ap (λ (rs : List Located). byte_among (map (run_of g d) rs) a) (located_none c)
 parts_bytes g d a c n i _ bodies bases f (more_parts {run = run} {runs = runs} own more bodies_are datas others) =
     let opened : Counters = after c (body.At run.at) in
-    let x : Statement = bare i (body.At run.at) in
+    let x : Statement = unlabelled i (body.At run.at) in
     let behind : (e : Counters) (m : ℕ) → Stands e n run.at (0 + length run.bytes)
     → byte_among (map (run_of g d) (located e (numbered m more))) a ≡ byte_among runs a =
     λ e m h. parts_bytes g d a e (n + 1) m runs more bases.1 (fresh_behind e n run.at (0 + length run.bytes) h)

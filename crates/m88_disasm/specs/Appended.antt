@@ -1,8 +1,8 @@
 -- Words for the contracts of private functions; no promise of the program names them. What was appended to a text.
 use Rattle.std.specs.Prelude.{◌≡◌, ◌+◌, ℕ, List, ◌++◌, drop}
-use Rattle.m88_base.specs.Lines.{line_end}
+use Rattle.m88_base.specs.Lines.{line_end, text_of_lines}
 use Rattle.m88_base.specs.Placed.{Placed}
-use Rattle.m88_disasm.specs.Listing.{AreLines, ArePartLines, text_of_lines}
+use Rattle.m88_disasm.specs.Listing.{AreLines, ArePartLines}
 
 -- a line of this kind
 pub record LineAppended (Is : List ℕ → Type 0) (old new : List ℕ) : Type 0 where

@@ -5,7 +5,7 @@ use Rattle.std.specs.Prelude.{◌≡◌, ℕ, ◌+◌, ◌%◌, ◌≤◌, List,
 use Rattle.std.specs.Int.{from_be_bytes, w32}
 use Rattle.m88_base.specs.Hex.{hex2}
 use Rattle.m88_base.specs.Image.{ProgramImage, parts}
-use Rattle.m88_base.specs.Lines.{line_end}
+use Rattle.m88_base.specs.Lines.{text_of_lines}
 use Rattle.m88_base.specs.Placed.{Placed}
 use Rattle.m88_isa.specs.Word.{IsWord}
 use Rattle.m88_isa.specs.declared.instr.Instr.{Instr}
@@ -20,8 +20,8 @@ abbrev pub place_line : ℕ → List ℕ
 place_line at = codes ".at " ++ hexadecimal at
 
 -- the line of a byte by itself
-abbrev pub byte_line : ℕ → List ℕ
-byte_line b = codes ".byte 0x" ++ hex2 b
+abbrev pub lone_byte_line : ℕ → List ℕ
+lone_byte_line b = codes ".byte 0x" ++ hex2 b
 
 -- the line of a word: the text of the instruction whose word it is, or the word where it is that of none
 pub data IsWordLine (word : ℕ) : List ℕ → Type 0 where
@@ -40,7 +40,7 @@ pub data AreLines : ℕ → List ℕ → List (List ℕ) → Type 0 where
       → AreLines (at + 4) bytes lines → AreLines at (a ∷ b ∷ c ∷ d ∷ bytes) (line ∷ lines)
   byte : {at b : ℕ} {bytes : List ℕ} {lines : List (List ℕ)}
       → (BeginsWord at (b ∷ bytes) → ⊥) → AreLines (at + 1) bytes lines
-      → AreLines at (b ∷ bytes) (byte_line b ∷ lines)
+      → AreLines at (b ∷ bytes) (lone_byte_line b ∷ lines)
 
 -- the lines of the parts in turn
 pub data ArePartLines : List Placed → List (List ℕ) → Type 0 where
@@ -48,10 +48,6 @@ pub data ArePartLines : List Placed → List (List ℕ) → Type 0 where
   part : {run : Placed} {runs : List Placed} {lines more : List (List ℕ)}
       → AreLines run.at run.bytes lines → ArePartLines runs more
       → ArePartLines (run ∷ runs) (place_line run.at ∷ lines ++ more)
-
--- lines as a text
-abbrev pub text_of_lines : List (List ℕ) → List ℕ
-text_of_lines lines = flat_map (λ line. line ++ line_end) lines
 
 -- the listing of an image
 pub record IsListing (image : ProgramImage) (text : List ℕ) : Type 0 where

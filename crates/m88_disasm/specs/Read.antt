@@ -18,19 +18,19 @@ use Rattle.m88_parse.specs.declared.unit.Unit.{Unit as Source}
 use Rattle.m88_parse.specs.declared.unit.Value.TheVariants.{Number}
 
 -- a statement at the beginning of a line, without a label
-abbrev pub bare : ℕ → Body → Statement
-bare number said = record { line = number; label = None; col = 1; body = said }
+abbrev pub unlabelled : ℕ → Body → Statement
+unlabelled number said = record { line = number; label = None; col = 1; body = said }
 
 -- the line of this number is such a statement
 pub record IsReadAs (number : ℕ) (line : List ℕ) (said : Body) : Type 0 where
   pub tokens : List Piece
   pub are_tokens : LineTokens line tokens
-  pub statement : IsStatement number tokens (bare number said)
+  pub statement : IsStatement number tokens (unlabelled number said)
 
 -- what the text of an instruction says: the instruction; a word of a special function unit is given as a word
-abbrev pub said_by : Instr → Body
-said_by (Sfu unit rest) = Word (Number (word_of (Sfu unit rest)) ∷ [])
-said_by i = Code i None
+abbrev pub said_body : Instr → Body
+said_body (Sfu unit rest) = Word (Number (word_of (Sfu unit rest)) ∷ [])
+said_body i = Code i None
 
 -- a source that has an accepted unit with this image: the same bytes at the same addresses, and the same start
 pub record WritesImage (source : List ℕ) (image : ProgramImage) : Type 0 where

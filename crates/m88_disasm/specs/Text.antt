@@ -16,17 +16,17 @@ use Rattle.m88_isa.specs.declared.mnemonic.Mnemonic.TheVariants as m
 use Rattle.m88_disasm.specs.Mnemonics.{of_imm, of_reg, of_mem, of_index, of_lda, of_bits, of_find, of_branch, of_branch_bit, of_branch_cond, of_jump, of_trap_bit, of_ldcr, of_stcr, of_xcr}
 
 -- a register: r and its number
-abbrev pub register : Reg → List ℕ
-register r = codes "r" ++ decimal (number_of r)
+abbrev pub register_name : Reg → List ℕ
+register_name r = codes "r" ++ decimal (number_of r)
 
 -- a register and the one that is scaled, in brackets
 abbrev pub scaled : Reg → Reg → List ℕ
-scaled s1 s2 = register s1 ++ codes "[" ++ register s2 ++ codes "]"
+scaled s1 s2 = register_name s1 ++ codes "[" ++ register_name s2 ++ codes "]"
 
 -- rD,rS1[rS2], or rD,rS1,rS2 where the index isn't scaled
 abbrev pub index_operands : Reg → Reg → Reg → Bool → List (List ℕ)
-index_operands d s1 s2 true = register d ∷ scaled s1 s2 ∷ []
-index_operands d s1 s2 false = register d ∷ register s1 ∷ register s2 ∷ []
+index_operands d s1 s2 true = register_name d ∷ scaled s1 s2 ∷ []
+index_operands d s1 s2 false = register_name d ∷ register_name s1 ∷ register_name s2 ∷ []
 
 -- a control register: cr, of the floating-point unit fcr, and its number
 abbrev pub control : Bool → ℕ → List ℕ
@@ -46,9 +46,9 @@ condition mask =
     else decimal mask)))))
 
 -- the target that is so many words on, or back: the distance in bytes from the instruction itself, +0 for none
-abbrev pub target : ℤ → List ℕ
-target (pos n) = codes ".+" ++ decimal (4 * n)
-target (negsuc n) = codes ".-" ++ decimal (4 * (n + 1))
+abbrev pub target_operand : ℤ → List ℕ
+target_operand (pos n) = codes ".+" ++ decimal (4 * n)
+target_operand (negsuc n) = codes ".-" ++ decimal (4 * (n + 1))
 
 -- the operands behind a mnemonic
 abbrev pub operands_text : List (List ℕ) → List ℕ
@@ -70,28 +70,29 @@ word_text word = codes ".word " ++ hexadecimal word
 -- the text of an instruction: immediates, memory, three registers, bit fields, flow, traps, control registers; a word
 -- of a special function unit has no mnemonic
 unfoldable pub instr_text : Instr → List ℕ
-instr_text (instr.Imm op d s1 imm) = spelled (of_imm op) (register d ∷ register s1 ∷ decimal imm ∷ [])
-instr_text (instr.MemImm op d s1 imm) = spelled (of_mem op) (register d ∷ register s1 ∷ decimal imm ∷ [])
+instr_text (instr.Imm op d s1 imm) = spelled (of_imm op) (register_name d ∷ register_name s1 ∷ decimal imm ∷ [])
+instr_text (instr.MemImm op d s1 imm) = spelled (of_mem op) (register_name d ∷ register_name s1 ∷ decimal imm ∷ [])
 instr_text (instr.MemReg op d s1 s2 scaled usr) = spelled (of_index op usr) (index_operands d s1 s2 scaled)
-instr_text (instr.Lda size d s1 s2) = spelled (of_lda size) (register d ∷ scaled s1 s2 ∷ [])
-instr_text (instr.Regs op d s1 s2) = spelled (of_reg op) (register d ∷ register s1 ∷ register s2 ∷ [])
+instr_text (instr.Lda size d s1 s2) = spelled (of_lda size) (register_name d ∷ scaled s1 s2 ∷ [])
+instr_text (instr.Regs op d s1 s2) = spelled (of_reg op) (register_name d ∷ register_name s1 ∷ register_name s2 ∷ [])
 instr_text (instr.BitLit op d s1 width offset) =
-    spelled (of_bits op) (register d ∷ register s1 ∷ field op width offset ∷ [])
-instr_text (instr.BitReg op d s1 s2) = spelled (of_bits op) (register d ∷ register s1 ∷ register s2 ∷ [])
-instr_text (instr.Find ones d s2) = spelled (of_find ones) (register d ∷ register s2 ∷ [])
-instr_text (instr.Branch link delayed words) = spelled (of_branch link delayed) (target words ∷ [])
+    spelled (of_bits op) (register_name d ∷ register_name s1 ∷ field op width offset ∷ [])
+instr_text (instr.BitReg op d s1 s2) = spelled (of_bits op) (register_name d ∷ register_name s1 ∷ register_name s2 ∷ [])
+instr_text (instr.Find ones d s2) = spelled (of_find ones) (register_name d ∷ register_name s2 ∷ [])
+instr_text (instr.Branch link delayed words) = spelled (of_branch link delayed) (target_operand words ∷ [])
 instr_text (instr.BranchBit set delayed bit s1 words) =
-    spelled (of_branch_bit set delayed) (decimal bit ∷ register s1 ∷ target words ∷ [])
+    spelled (of_branch_bit set delayed) (decimal bit ∷ register_name s1 ∷ target_operand words ∷ [])
 instr_text (instr.BranchCond delayed mask s1 words) =
-    spelled (of_branch_cond delayed) (condition mask ∷ register s1 ∷ target words ∷ [])
-instr_text (instr.Jump link delayed s2) = spelled (of_jump link delayed) (register s2 ∷ [])
+    spelled (of_branch_cond delayed) (condition mask ∷ register_name s1 ∷ target_operand words ∷ [])
+instr_text (instr.Jump link delayed s2) = spelled (of_jump link delayed) (register_name s2 ∷ [])
 instr_text (instr.TrapBit set bit s1 vector) =
-    spelled (of_trap_bit set) (decimal bit ∷ register s1 ∷ decimal vector ∷ [])
-instr_text (instr.TrapCond mask s1 vector) = spelled m.Tcnd (condition mask ∷ register s1 ∷ decimal vector ∷ [])
-instr_text (instr.BoundImm s1 imm) = spelled m.Tbnd (register s1 ∷ decimal imm ∷ [])
-instr_text (instr.BoundReg s1 s2) = spelled m.Tbnd (register s1 ∷ register s2 ∷ [])
+    spelled (of_trap_bit set) (decimal bit ∷ register_name s1 ∷ decimal vector ∷ [])
+instr_text (instr.TrapCond mask s1 vector) = spelled m.Tcnd (condition mask ∷ register_name s1 ∷ decimal vector ∷ [])
+instr_text (instr.BoundImm s1 imm) = spelled m.Tbnd (register_name s1 ∷ decimal imm ∷ [])
+instr_text (instr.BoundReg s1 s2) = spelled m.Tbnd (register_name s1 ∷ register_name s2 ∷ [])
 instr_text instr.Rte = spelled m.Rte []
-instr_text (instr.Ldcr d cr float) = spelled (of_ldcr float) (register d ∷ control float cr ∷ [])
-instr_text (instr.Stcr s1 cr float) = spelled (of_stcr float) (register s1 ∷ control float cr ∷ [])
-instr_text (instr.Xcr d s1 cr float) = spelled (of_xcr float) (register d ∷ register s1 ∷ control float cr ∷ [])
+instr_text (instr.Ldcr d cr float) = spelled (of_ldcr float) (register_name d ∷ control float cr ∷ [])
+instr_text (instr.Stcr s1 cr float) = spelled (of_stcr float) (register_name s1 ∷ control float cr ∷ [])
+instr_text (instr.Xcr d s1 cr float) =
+    spelled (of_xcr float) (register_name d ∷ register_name s1 ∷ control float cr ∷ [])
 instr_text (instr.Sfu unit rest) = word_text (word_of (instr.Sfu unit rest))

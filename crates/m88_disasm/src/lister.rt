@@ -4,7 +4,7 @@ ghost use Rattle.m88_base.specs.Image.{IsImage, parts};
 ghost use Rattle.m88_base.specs.Lines.{line_end};
 ghost use Rattle.m88_base.specs.Placed.{count_among};
 ghost use Rattle.m88_disasm.specs.Appended.{BytesAppended, LineAppended, LinesAppended};
-ghost use Rattle.m88_disasm.specs.Listing.{AreLines, ArePartLines, BeginsWord, IsListing, IsWordLine, byte_line, place_line, start_line};
+ghost use Rattle.m88_disasm.specs.Listing.{AreLines, ArePartLines, BeginsWord, IsListing, IsWordLine, lone_byte_line, place_line, start_line};
 ghost use Rattle.m88_disasm.specs.Read.{WritesImage};
 ghost use Rattle.m88_disasm.specs.Text.{hexadecimal, word_text};
 
@@ -41,7 +41,7 @@ fn push_place(text: &mut Vec<u8>, at: u32) -> Result<(), AllocError>
 
 /// Appends the line of a byte by itself.
 fn push_byte(text: &mut Vec<u8>, b: u8) -> Result<(), AllocError>
-    ensures { OnOk result (text.new.items ≡ text.old.items ++ (byte_line b ++ line_end)) }
+    ensures { OnOk result (text.new.items ≡ text.old.items ++ (lone_byte_line b ++ line_end)) }
 {
     text.extend_from_slice(b".byte 0x")?;
     push_hex2(text, b)?;

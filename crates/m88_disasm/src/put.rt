@@ -3,7 +3,7 @@ ghost use Rattle.std.specs.Prelude.{◌≡◌, ◌+◌, ◌≤◌, ◌<◌, ◌^
 ghost use Rattle.m88_base.specs.Hex.{hex_digit};
 ghost use Rattle.m88_isa.specs.Instr.{FitsWords};
 ghost use Rattle.m88_isa.specs.Mnemonic.{text_of};
-ghost use Rattle.m88_disasm.specs.Text.{condition, control, field, register, scaled, target, word_text};
+ghost use Rattle.m88_disasm.specs.Text.{condition, control, field, register_name, scaled, target_operand, word_text};
 
 use arrayvec::ArrayString;
 use itoa::Buffer;
@@ -55,7 +55,7 @@ pub fn put_long(text: &mut ArrayString<48>, n: u32)
 /// Appends a register.
 pub fn put_register(text: &mut ArrayString<48>, r: Reg)
     requires { length text.old.bytes ≤ 44 }
-    ensures bytes { text.new.bytes ≡ text.old.bytes ++ register r }
+    ensures bytes { text.new.bytes ≡ text.old.bytes ++ register_name r }
     ensures room { length text.new.bytes ≤ length text.old.bytes + 4 }
 {
     text.push_str("r");
@@ -122,7 +122,7 @@ pub fn put_condition(text: &mut ArrayString<48>, mask: u8)
 pub fn put_target(text: &mut ArrayString<48>, words: i32)
     requires fits { FitsWords 25 words }
     requires room { length text.old.bytes ≤ 36 }
-    ensures { text.new.bytes ≡ text.old.bytes ++ target words }
+    ensures { text.new.bytes ≡ text.old.bytes ++ target_operand words }
 {
     text.push_str(if words < 0 { ".-" } else { ".+" });
     put_long(text, 4 * words.unsigned_abs());

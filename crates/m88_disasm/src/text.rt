@@ -1,9 +1,9 @@
 //! The text of an instruction, form by form.
 ghost use Rattle.std.specs.Prelude.{◌≡◌, ◌∷◌, [], ℕ, decimal};
 ghost use Rattle.m88_isa.specs.Instr.{FitsWords, IsValid};
-ghost use Rattle.m88_disasm.specs.Read.{IsReadAs, said_by};
+ghost use Rattle.m88_disasm.specs.Read.{IsReadAs, said_body};
 ghost use Rattle.m88_disasm.specs.Mnemonics.{of_bits, of_xcr};
-ghost use Rattle.m88_disasm.specs.Text.{condition, control, field, index_operands, instr_text, register, scaled, spelled, target, word_text};
+ghost use Rattle.m88_disasm.specs.Text.{condition, control, field, index_operands, instr_text, register_name, scaled, spelled, target_operand, word_text};
 
 use super::mnemonics::{
     of_bits, of_branch, of_branch_bit, of_branch_cond, of_find, of_imm, of_index, of_jump, of_lda,
@@ -20,7 +20,8 @@ use m88_isa::{BitOp, Instr, Mnemonic};
 
 /// rD,rS1 and a number.
 fn immediate(mnemonic: Mnemonic, d: Reg, s1: Reg, imm: u16) -> ArrayString<48>
-    ensures { result.bytes ≡ spelled mnemonic (register d ∷ register s1 ∷ decimal imm ∷ []) }
+    ensures { result.bytes ≡ spelled mnemonic
+        (register_name d ∷ register_name s1 ∷ decimal imm ∷ []) }
 {
     let mut text = begun(mnemonic);
     put_register(&mut text, d);
@@ -33,7 +34,8 @@ fn immediate(mnemonic: Mnemonic, d: Reg, s1: Reg, imm: u16) -> ArrayString<48>
 
 /// rD,rS1,rS2
 fn registers(mnemonic: Mnemonic, d: Reg, s1: Reg, s2: Reg) -> ArrayString<48>
-    ensures { result.bytes ≡ spelled mnemonic (register d ∷ register s1 ∷ register s2 ∷ []) }
+    ensures { result.bytes ≡ spelled mnemonic
+        (register_name d ∷ register_name s1 ∷ register_name s2 ∷ []) }
 {
     let mut text = begun(mnemonic);
     put_register(&mut text, d);
@@ -46,7 +48,7 @@ fn registers(mnemonic: Mnemonic, d: Reg, s1: Reg, s2: Reg) -> ArrayString<48>
 
 /// rD,rS1[rS2]
 fn scaled_index(mnemonic: Mnemonic, d: Reg, s1: Reg, s2: Reg) -> ArrayString<48>
-    ensures { result.bytes ≡ spelled mnemonic (register d ∷ scaled s1 s2 ∷ []) }
+    ensures { result.bytes ≡ spelled mnemonic (register_name d ∷ scaled s1 s2 ∷ []) }
 {
     let mut text = begun(mnemonic);
     put_register(&mut text, d);
@@ -69,7 +71,7 @@ fn index(mnemonic: Mnemonic, d: Reg, s1: Reg, s2: Reg, is_scaled: bool) -> Array
 /// rD,rS1 and a literal bit field.
 fn literal(op: BitOp, d: Reg, s1: Reg, width: u8, offset: u8) -> ArrayString<48>
     ensures { result.bytes ≡ spelled (of_bits op)
-        (register d ∷ register s1 ∷ field op width offset ∷ []) }
+        (register_name d ∷ register_name s1 ∷ field op width offset ∷ []) }
 {
     let mut text = begun(of_bits(op));
     put_register(&mut text, d);
@@ -82,7 +84,7 @@ fn literal(op: BitOp, d: Reg, s1: Reg, width: u8, offset: u8) -> ArrayString<48>
 
 /// Two registers.
 fn pair(mnemonic: Mnemonic, first: Reg, second: Reg) -> ArrayString<48>
-    ensures { result.bytes ≡ spelled mnemonic (register first ∷ register second ∷ []) }
+    ensures { result.bytes ≡ spelled mnemonic (register_name first ∷ register_name second ∷ []) }
 {
     let mut text = begun(mnemonic);
     put_register(&mut text, first);
@@ -94,7 +96,7 @@ fn pair(mnemonic: Mnemonic, first: Reg, second: Reg) -> ArrayString<48>
 /// A target.
 fn branch(mnemonic: Mnemonic, words: i32) -> ArrayString<48>
     requires { FitsWords 25 words }
-    ensures { result.bytes ≡ spelled mnemonic (target words ∷ []) }
+    ensures { result.bytes ≡ spelled mnemonic (target_operand words ∷ []) }
 {
     let mut text = begun(mnemonic);
     put_target(&mut text, words);
@@ -103,7 +105,8 @@ fn branch(mnemonic: Mnemonic, words: i32) -> ArrayString<48>
 
 /// A bit, rS1 and a target.
 fn branch_on_bit(mnemonic: Mnemonic, bit: u8, s1: Reg, words: i16) -> ArrayString<48>
-    ensures { result.bytes ≡ spelled mnemonic (decimal bit ∷ register s1 ∷ target words ∷ []) }
+    ensures { result.bytes ≡ spelled mnemonic
+        (decimal bit ∷ register_name s1 ∷ target_operand words ∷ []) }
 {
     let mut text = begun(mnemonic);
     put_short(&mut text, bit);
@@ -116,7 +119,8 @@ fn branch_on_bit(mnemonic: Mnemonic, bit: u8, s1: Reg, words: i16) -> ArrayStrin
 
 /// A condition, rS1 and a target.
 fn branch_on_condition(mnemonic: Mnemonic, mask: u8, s1: Reg, words: i16) -> ArrayString<48>
-    ensures { result.bytes ≡ spelled mnemonic (condition mask ∷ register s1 ∷ target words ∷ []) }
+    ensures { result.bytes ≡ spelled mnemonic
+        (condition mask ∷ register_name s1 ∷ target_operand words ∷ []) }
 {
     let mut text = begun(mnemonic);
     put_condition(&mut text, mask);
@@ -129,7 +133,7 @@ fn branch_on_condition(mnemonic: Mnemonic, mask: u8, s1: Reg, words: i16) -> Arr
 
 /// One register.
 fn single(mnemonic: Mnemonic, r: Reg) -> ArrayString<48>
-    ensures { result.bytes ≡ spelled mnemonic (register r ∷ []) }
+    ensures { result.bytes ≡ spelled mnemonic (register_name r ∷ []) }
 {
     let mut text = begun(mnemonic);
     put_register(&mut text, r);
@@ -138,7 +142,8 @@ fn single(mnemonic: Mnemonic, r: Reg) -> ArrayString<48>
 
 /// A bit, rS1 and a vector.
 fn trap_on_bit(mnemonic: Mnemonic, bit: u8, s1: Reg, vector: u16) -> ArrayString<48>
-    ensures { result.bytes ≡ spelled mnemonic (decimal bit ∷ register s1 ∷ decimal vector ∷ []) }
+    ensures { result.bytes ≡ spelled mnemonic
+        (decimal bit ∷ register_name s1 ∷ decimal vector ∷ []) }
 {
     let mut text = begun(mnemonic);
     put_short(&mut text, bit);
@@ -152,7 +157,7 @@ fn trap_on_bit(mnemonic: Mnemonic, bit: u8, s1: Reg, vector: u16) -> ArrayString
 /// A condition, rS1 and a vector.
 fn trap_on_condition(mask: u8, s1: Reg, vector: u16) -> ArrayString<48>
     ensures { result.bytes ≡ spelled Mnemonic.Tcnd
-        (condition mask ∷ register s1 ∷ decimal vector ∷ []) }
+        (condition mask ∷ register_name s1 ∷ decimal vector ∷ []) }
 {
     let mut text = begun(Mnemonic::Tcnd);
     put_condition(&mut text, mask);
@@ -165,7 +170,7 @@ fn trap_on_condition(mask: u8, s1: Reg, vector: u16) -> ArrayString<48>
 
 /// rS1 and a number.
 fn bound(s1: Reg, imm: u16) -> ArrayString<48>
-    ensures { result.bytes ≡ spelled Mnemonic.Tbnd (register s1 ∷ decimal imm ∷ []) }
+    ensures { result.bytes ≡ spelled Mnemonic.Tbnd (register_name s1 ∷ decimal imm ∷ []) }
 {
     let mut text = begun(Mnemonic::Tbnd);
     put_register(&mut text, s1);
@@ -186,7 +191,7 @@ fn alone(mnemonic: Mnemonic) -> ArrayString<48>
 
 /// A register and a control register.
 fn with_control(mnemonic: Mnemonic, r: Reg, float: bool, cr: u8) -> ArrayString<48>
-    ensures { result.bytes ≡ spelled mnemonic (register r ∷ control float cr ∷ []) }
+    ensures { result.bytes ≡ spelled mnemonic (register_name r ∷ control float cr ∷ []) }
 {
     let mut text = begun(mnemonic);
     put_register(&mut text, r);
@@ -198,7 +203,7 @@ fn with_control(mnemonic: Mnemonic, r: Reg, float: bool, cr: u8) -> ArrayString<
 /// Two registers and a control register.
 fn exchange(d: Reg, s1: Reg, cr: u8, float: bool) -> ArrayString<48>
     ensures { result.bytes ≡ spelled (of_xcr float)
-        (register d ∷ register s1 ∷ control float cr ∷ []) }
+        (register_name d ∷ register_name s1 ∷ control float cr ∷ []) }
 {
     let mut text = begun(of_xcr(float));
     put_register(&mut text, d);
@@ -290,7 +295,7 @@ pub fn text_of(instr: &Instr) -> ArrayString<48>
     ensures value { result.bytes ≡ instr_text instr.now }
 
     // The language reads the text as the instruction.
-    ensures read { (number : ℕ) → IsReadAs number result.bytes (said_by instr.now) }
+    ensures read { (number : ℕ) → IsReadAs number result.bytes (said_body instr.now) }
 {
     by_form(instr)
 }

@@ -34,3 +34,28 @@ fn texts_that_are_none(rt: HostRuntime) {
         assert!(rt; Schedule::read(text).is_none());
     }
 }
+
+#[test]
+fn schedules_of_the_most_letters(rt: HostRuntime) -> Result<(), AllocError> {
+    let mut text = String::new(rt.alloc());
+    for _ in 0..65_535 {
+        text.push('i')?;
+    }
+    text.push('r')?;
+    let read = Schedule::read(text.as_str());
+    assert!(rt; read.is_some());
+    if let Some(schedule) = read {
+        assert_eq!(rt; schedule.len(), 65_536);
+        for (k, letter) in [
+            (0, Letter::Issue),
+            (65_534, Letter::Issue),
+            (65_535, Letter::Answer),
+        ] {
+            assert!(rt; k < schedule.len());
+            assert_eq!(rt; schedule.letter(k), letter);
+        }
+    }
+    text.push('i')?;
+    assert!(rt; Schedule::read(text.as_str()).is_none());
+    Ok(())
+}

@@ -6,7 +6,7 @@ use Rattle.std.specs.List.{AllByRecursion}
 use Rattle.std.proofs.lemmas.Bool.Decides.{nat_tests}
 use Rattle.std.proofs.lemmas.Option.{option_and_then_some}
 use Rattle.m88_base.specs.Hex.{hex_digit, hex2, is_hex_digit}
-use Rattle.m88_link.specs.Rows.{◌>>=◌, byte_of, bytes_of, hex_value}
+use Rattle.m88_link.specs.Rows.{◌>>=◌, byte_by_digits, bytes_by_digits, hex_value}
 use Rattle.m88_link.proofs.Divided.{is_other}
 use Rattle.m88_link.proofs.Lined.{lacks}
 use Rattle.m88_link.proofs.RowTexts.{mapped}
@@ -35,8 +35,8 @@ value_back b d e =
     let k = value_by b d (digit_value b) (is_hex_digit b) e in
     (digit_is b k.0 ∙ ap hex_digit k.1, let small = small_value b k.0 in omega (arith, small, k.1))
 
-byte_read : (n : ℕ) → n < 2 ^ 8 → byte_of (hex_digit (n / 16 % 16)) (hex_digit (n / 1 % 16)) ≡ Some n
-unfolding byte_of
+byte_read : (n : ℕ) → n < 2 ^ 8 → byte_by_digits (hex_digit (n / 16 % 16)) (hex_digit (n / 1 % 16)) ≡ Some n
+unfolding byte_by_digits
 byte_read n small =
     let whole : n / 16 % 16 * 16 + n / 1 % 16 ≡ n = omega (arith, small) in
     rw (value_read (n / 16 % 16) (omega arith), value_read (n / 1 % 16) (omega arith)) (ap Some whole)
@@ -47,8 +47,8 @@ digits_are h l n a b e =
     let low : n / 1 % 16 ≡ l = omega (arith, a, b, e) in
     (rw (high, low) refl, omega (arith, a, b, e))
 
-byte_back : (high low n : ℕ) → byte_of high low ≡ Some n → (high ∷ low ∷ [] ≡ hex2 n) × (n < 2 ^ 8)
-unfolding byte_of
+byte_back : (high low n : ℕ) → byte_by_digits high low ≡ Some n → (high ∷ low ∷ [] ≡ hex2 n) × (n < 2 ^ 8)
+unfolding byte_by_digits
 byte_back high low n e =
     option_and_then_some _ (hex_value high) n e (λ h e1 f1.
     option_and_then_some _ (hex_value low) n f1 (λ l e2 f2.
@@ -59,20 +59,20 @@ byte_back high low n e =
     (ap (λ (x : ℕ). let t : List ℕ = x ∷ low ∷ [] in t) a.0 ∙ ap (λ (x : ℕ). let t : List ℕ = hex_digit h ∷ x ∷ [] in t) b.0 ∙ d.0, d.1)))
 
 -- what was written is read
-pub bytes_read : (bs : List ℕ) → AllByRecursion (λ b. b < 2 ^ 8) bs → bytes_of (flat_map hex2 bs) ≡ Some bs
+pub bytes_read : (bs : List ℕ) → AllByRecursion (λ b. b < 2 ^ 8) bs → bytes_by_digits (flat_map hex2 bs) ≡ Some bs
 bytes_read [] h = refl
 bytes_read (b ∷ bs) h =
-    ap (λ o. o >>= λ b. option_map (λ bs. b ∷ bs) (bytes_of (flat_map hex2 bs))) (byte_read b h.0)
+    ap (λ o. o >>= λ b. option_map (λ bs. b ∷ bs) (bytes_by_digits (flat_map hex2 bs))) (byte_read b h.0)
     ∙ ap (λ o. option_map (λ bs. b ∷ bs) o) (bytes_read bs h.1)
 
 -- what is read was written
-pub bytes_back : (digits bs : List ℕ) → bytes_of digits ≡ Some bs → (digits ≡ flat_map hex2 bs) × AllByRecursion (λ b. b < 2 ^ 8) bs
+pub bytes_back : (digits bs : List ℕ) → bytes_by_digits digits ≡ Some bs → (digits ≡ flat_map hex2 bs) × AllByRecursion (λ b. b < 2 ^ 8) bs
 bytes_back [] [] e = (refl, tt)
 bytes_back [] (b ∷ bs) e = absurd (let h : ◌≡◌ {A = Option (List ℕ)} (Some []) (Some (b ∷ bs)) = e in cc)
 bytes_back (x ∷ []) bs e = absurd cc
 bytes_back (high ∷ low ∷ rest) bs e =
-    option_and_then_some _ (byte_of high low) bs e (λ b e1 f1.
-    mapped (λ bs. b ∷ bs) (bytes_of rest) bs f1 (λ more e2 same.
+    option_and_then_some _ (byte_by_digits high low) bs e (λ b e1 f1.
+    mapped (λ bs. b ∷ bs) (bytes_by_digits rest) bs f1 (λ more e2 same.
     let k = byte_back high low b e1 in
     let l = bytes_back rest more e2 in
     rw (← same) (ap (λ (t : List ℕ). t ++ rest) k.0 ∙ ap (λ (t : List ℕ). hex2 b ++ t) l.0, (k.1, l.1))))

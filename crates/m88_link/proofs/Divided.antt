@@ -6,7 +6,7 @@ use Rattle.std.proofs.lemmas.Bool.{lt-ltb, ltb-true}
 use Rattle.std.proofs.lemmas.List.Elements.{All-from_recursion, recursion_from_All}
 use Rattle.m88_base.specs.Name.{IsName, begins_name, continues_name}
 use Rattle.m88_base.proofs.Digits.{both}
-use Rattle.m88_link.specs.Rows.{cut, is_name, name_of, with_first}
+use Rattle.m88_link.specs.Rows.{split_at_byte, is_name_text, name_of, with_first}
 
 -- the byte has another value
 abbrev pub is_other : ℕ → ℕ → Bool
@@ -33,26 +33,26 @@ len_within at [] = omega arith
 len_within at (b ∷ bs) = len_step at b bs (b == at) (len_within at bs)
 
 -- a text without the byte
-none_step : (at b : ℕ) (bs : List ℕ) (v : Bool) → (length (drop (len_to at bs) bs) < 1 → cut at bs ≡ None)
+none_step : (at b : ℕ) (bs : List ℕ) (v : Bool) → (length (drop (len_to at bs) bs) < 1 → split_at_byte at bs ≡ None)
     → length (drop (cond (not v) (suc (len_to at bs)) 0) (b ∷ bs)) < 1
-    → (if v then Some ([], bs) else option_map (with_first b) (cut at bs)) ≡ None
+    → (if v then Some ([], bs) else option_map (with_first b) (split_at_byte at bs)) ≡ None
 none_step at b bs true ih h = absurd (omega arith)
 none_step at b bs false ih h = ap (option_map (with_first b)) (ih h)
 
-none_at : (at : ℕ) (bs : List ℕ) → length (drop (len_to at bs) bs) < 1 → cut at bs ≡ None
+none_at : (at : ℕ) (bs : List ℕ) → length (drop (len_to at bs) bs) < 1 → split_at_byte at bs ≡ None
 none_at at [] h = refl
 none_at at (b ∷ bs) h = none_step at b bs (b == at) (none_at at bs) h
 
 -- a text with the byte
 some_step : (at b : ℕ) (bs : List ℕ) (v : Bool)
-    → (1 ≤ length (drop (len_to at bs) bs) → cut at bs ≡ Some (take (len_to at bs) bs, drop 1 (drop (len_to at bs) bs)))
+    → (1 ≤ length (drop (len_to at bs) bs) → split_at_byte at bs ≡ Some (take (len_to at bs) bs, drop 1 (drop (len_to at bs) bs)))
     → 1 ≤ length (drop (cond (not v) (suc (len_to at bs)) 0) (b ∷ bs))
-    → (if v then Some ([], bs) else option_map (with_first b) (cut at bs))
+    → (if v then Some ([], bs) else option_map (with_first b) (split_at_byte at bs))
     ≡ Some (take (cond (not v) (suc (len_to at bs)) 0) (b ∷ bs), drop 1 (drop (cond (not v) (suc (len_to at bs)) 0) (b ∷ bs)))
 some_step at b bs true ih h = refl
 some_step at b bs false ih h = ap (option_map (with_first b)) (ih h)
 
-some_at : (at : ℕ) (bs : List ℕ) → 1 ≤ length (drop (len_to at bs) bs) → cut at bs ≡ Some (take (len_to at bs) bs, drop 1 (drop (len_to at bs) bs))
+some_at : (at : ℕ) (bs : List ℕ) → 1 ≤ length (drop (len_to at bs) bs) → split_at_byte at bs ≡ Some (take (len_to at bs) bs, drop 1 (drop (len_to at bs) bs))
 some_at at [] h = absurd (omega arith)
 some_at at (b ∷ bs) h = some_step at b bs (b == at) (some_at at bs) h
 
@@ -63,12 +63,12 @@ module _ (at n : ℕ) (text : List ℕ) (is : n ≡ prefix_len (is_other at) tex
   pub within : n ≤ length text
   within = let e = n_is in let l = len_within at text in omega (arith, e, l)
 
-  pub cut_none : (behind : List ℕ) → behind ≡ drop n text → length behind < 1 → cut at text ≡ None
+  pub cut_none : (behind : List ℕ) → behind ≡ drop n text → length behind < 1 → split_at_byte at text ≡ None
   cut_none behind b h =
       none_at at text (subst (λ (xs : List ℕ). length xs < 1) (b ∙ ap (λ (k : ℕ). drop k text) n_is) h)
 
   pub cut_some : (before behind : List ℕ) → before ≡ take n text → behind ≡ drop n text → 1 ≤ length behind
-      → cut at text ≡ Some (before, drop 1 behind)
+      → split_at_byte at text ≡ Some (before, drop 1 behind)
   cut_some before behind f b h =
       let same = b ∙ ap (λ (k : ℕ). drop k text) n_is in
       let front = f ∙ ap (λ (k : ℕ). take k text) n_is in
@@ -91,13 +91,13 @@ all_three false b c e f g = absurd cc
 all_three true false c e f g = absurd cc
 all_three true true false e f g = absurd cc
 
-pub name_is : (text : List ℕ) → IsName text → is_name text ≡ true
+pub name_is : (text : List ℕ) → IsName text → is_name_text text ≡ true
 name_is [] h = absurd h
 name_is (b ∷ bs) h =
     all_three (begins_name b) (list_all continues_name bs) (nat_lt (length bs) 64) h.0
     (all_true continues_name bs (recursion_from_All (λ b. IsTrue (continues_name b)) bs h.1)) (lt-ltb (length bs) 64 h.2)
 
-pub is_named : (text : List ℕ) → is_name text ≡ true → IsName text
+pub is_named : (text : List ℕ) → is_name_text text ≡ true → IsName text
 is_named [] e = absurd cc
 is_named (b ∷ bs) e =
     let k = both (begins_name b && list_all continues_name bs) (nat_lt (length bs) 64) e in
@@ -106,9 +106,9 @@ is_named (b ∷ bs) e =
 
 -- a call that tells a name exactly where the bytes are one
 pub told_name : (r : Option (List ℕ)) (text : List ℕ) → (IsSome r ↔ IsName text) → IfSome r (λ name. name ≡ text) → r ≡ name_of text
-told_name r text valid value = by_test (is_name text) refl r valid value
+told_name r text valid value = by_test (is_name_text text) refl r valid value
   where
-    by_test : (t : Bool) → is_name text ≡ t → (r : Option (List ℕ)) → (IsSome r ↔ IsName text) → IfSome r (λ name. name ≡ text)
+    by_test : (t : Bool) → is_name_text text ≡ t → (r : Option (List ℕ)) → (IsSome r ↔ IsName text) → IfSome r (λ name. name ≡ text)
         → r ≡ (if t then Some text else None)
     by_test true e None valid value = absurd (let h = valid.1 (is_named text e) in cc)
     by_test true e (Some name) valid value = ap Some value

@@ -16,9 +16,9 @@ use Rattle.m88_link.specs.declared.object.Symbol.{Symbol}
 use Rattle.m88_link.specs.declared.row.Row.{Row}
 use Rattle.m88_link.specs.declared.row.Row.TheVariants.{Begin, Head, Define, Patch, End}
 use Rattle.m88_link.specs.declared.row.SectionHead.{SectionHead}
-use Rattle.m88_link.specs.Drafts.{Begun, Filled, Progress, bytes_step, define_step, end_step, begin_step, head_step, headed, is_next, line_step, more_bytes, named, object_with, patch_step, row_step, settled, section_with, within}
+use Rattle.m88_link.specs.Drafts.{Begun, Filled, Progress, bytes_step, define_step, end_step, begin_step, head_step, headed, may_stand, line_step, more_bytes, only_named, object_with, patch_step, row_step, settled, section_with, within}
 use Rattle.m88_link.specs.ObjectRead.{HasRelocText, HasSectionText, HasSymbolText, HasText}
-use Rattle.m88_link.specs.Rows.{◌>>=◌, bytes_behind, row_of}
+use Rattle.m88_link.specs.Rows.{◌>>=◌, bytes_behind, row_in}
 use Rattle.m88_link.specs.Sound.{AreSections, IsOwnAddress}
 use Rattle.m88_link.proofs.ByteTexts.{bytes_read, length-digits}
 use Rattle.m88_link.proofs.RowTexts.{IsRow, place_text, row_read, row_text}
@@ -46,17 +46,17 @@ run_one : (s t : Progress) (line : List ℕ) → line_step s line ≡ Some t →
 run_one s t line e = ap (λ o. o >>= λ t. run t []) e
 
 -- a line that gives no bytes begins otherwise than one that gives some
-other_line : (s : Progress) (b : ℕ) (bs : List ℕ) → (b == 61) ≡ false → line_step s (b ∷ bs) ≡ (row_of (b ∷ bs) >>= row_step s)
+other_line : (s : Progress) (b : ℕ) (bs : List ℕ) → (b == 61) ≡ false → line_step s (b ∷ bs) ≡ (row_in (b ∷ bs) >>= row_step s)
 unfolding line_step
-other_line s b bs e = ap (λ (v : Bool). if v then within s (bytes_step bs) else (row_of (b ∷ bs) >>= row_step s)) e
+other_line s b bs e = ap (λ (v : Bool). if v then within s (bytes_step bs) else (row_in (b ∷ bs) >>= row_step s)) e
 
-head_line : (s : Progress) (p : Place) (h : SectionHead) → line_step s (place_text p h) ≡ (row_of (place_text p h) >>= row_step s)
+head_line : (s : Progress) (p : Place) (h : SectionHead) → line_step s (place_text p h) ≡ (row_in (place_text p h) >>= row_step s)
 unfolding line_step
 head_line s Text h = refl
 head_line s DataSection h = refl
 head_line s (At a) h = refl
 
-row_line : (s : Progress) (r : Row) → line_step s (row_text r) ≡ (row_of (row_text r) >>= row_step s)
+row_line : (s : Progress) (r : Row) → line_step s (row_text r) ≡ (row_in (row_text r) >>= row_step s)
 unfolding line_step
 row_line s (Begin name) = refl
 row_line s (Head h) = head_line s h.place h
@@ -181,11 +181,11 @@ module _ (done : List Object) (name : List ℕ) (sections : List Section) where
   abbrev before_it : Begun
   before_it = bare name sections None
 
-  head_step_is : (h : SectionHead) → is_next (length sections) h.place ≡ true → head_step h before_it ≡ Some (settled before_it (headed h))
+  head_step_is : (h : SectionHead) → may_stand (length sections) h.place ≡ true → head_step h before_it ≡ Some (settled before_it (headed h))
   unfolding head_step
   head_step_is h next = ap (λ (t : Bool). if t then Some (settled before_it (headed h)) else None) next
 
-  head_taken : (h : SectionHead) → IsRow (Head h) → is_next (length sections) h.place ≡ true
+  head_taken : (h : SectionHead) → IsRow (Head h) → may_stand (length sections) h.place ≡ true
       → line_step (going done before_it) (row_text (Head h)) ≡ Some (going done (settled before_it (headed h)))
   head_taken h good next =
       row_taken (going done before_it) (Head h) good ∙ within_is done before_it (settled before_it (headed h)) (head_step h) (head_step_is h next)
@@ -202,7 +202,7 @@ module _ (done : List Object) (name : List ℕ) (sections : List Section) where
   none_at_all : (n : ℕ) → (n == 0) ≡ true → n ≡ 0
   none_at_all n e = grind (arith, nat_tests)
 
-  module _ (s : Section) (h : HasSectionText s) (next : is_next (length sections) s.place ≡ true) where
+  module _ (s : Section) (h : HasSectionText s) (next : may_stand (length sections) s.place ≡ true) where
     abbrev head : SectionHead
     head = record { place = s.place; len = length s.bytes; line = s.line }
 
@@ -234,7 +234,7 @@ module _ (done : List Object) (name : List ℕ) (sections : List Section) where
     section_taken = by_size (length s.bytes == 0) refl
 
 -- sections with addresses
-addressed : (n : ℕ) (p : Place) → 2 ≤ n → IsOwnAddress p → is_next n p ≡ true
+addressed : (n : ℕ) (p : Place) → 2 ≤ n → IsOwnAddress p → may_stand n p ≡ true
 addressed n Text h k = absurd k
 addressed n DataSection h k = absurd k
 addressed n (At a) h k = le-leb 2 n h
@@ -256,9 +256,9 @@ sections_taken done name [] h k = absurd k
 sections_taken done name (t ∷ []) h k = absurd k
 sections_taken done name (t ∷ d ∷ others) h k =
     run_then _ (going done (bare name (t ∷ []) None)) _ (section_rows t) (section_rows d ++ sections_rows others)
-    (section_taken done name [] t h.0 (ap (is_next 0) k.0))
+    (section_taken done name [] t h.0 (ap (may_stand 0) k.0))
     (run_then _ (going done (bare name (t ∷ d ∷ []) None)) _ (section_rows d) (sections_rows others)
-    (section_taken done name (t ∷ []) d h.1.0 (ap (is_next 1) k.1))
+    (section_taken done name (t ∷ []) d h.1.0 (ap (may_stand 1) k.1))
     (others_taken done name (t ∷ d ∷ []) others (omega arith) h.1.1 (recursion_from_All (λ s. IsOwnAddress s.place) others k.2)))
 
 -- symbols and relocations
@@ -312,7 +312,7 @@ module _ (done : List Object) (name : List ℕ) (sections : List Section) (two :
 abbrev pub rested : List Object → Progress
 rested done = record { done = done; draft = None }
 
-begin_is : (done : List Object) (name : List ℕ) → begin_step name (rested done) ≡ Some (going done (named name))
+begin_is : (done : List Object) (name : List ℕ) → begin_step name (rested done) ≡ Some (going done (only_named name))
 unfolding begin_step
 begin_is done name = refl
 
@@ -323,7 +323,7 @@ two_sections (t ∷ d ∷ others) k = omega arith
 
 object_taken : (done : List Object) (o : Object) → HasText o → run (rested done) (object_rows o) ≡ Some (rested (done ++ o ∷ []))
 object_taken done o h =
-    run_then _ (going done (named o.name)) _ (row_text (Begin o.name) ∷ []) (sections_rows o.sections ++ (symbol_rows o.symbols ++ (reloc_rows o.relocs ++ row_text End ∷ [])))
+    run_then _ (going done (only_named o.name)) _ (row_text (Begin o.name) ∷ []) (sections_rows o.sections ++ (symbol_rows o.symbols ++ (reloc_rows o.relocs ++ row_text End ∷ [])))
     (run_one _ _ (row_text (Begin o.name)) (row_taken (rested done) (Begin o.name) h.name ∙ begin_is done o.name))
     (run_then _ (going done (bare o.name o.sections None)) _ (sections_rows o.sections) (symbol_rows o.symbols ++ (reloc_rows o.relocs ++ row_text End ∷ []))
     (sections_taken done o.name o.sections h.sections h.order)

@@ -15,9 +15,9 @@ use Rattle.m88_link.specs.declared.object.Section.{Section}
 use Rattle.m88_link.specs.declared.object.Symbol.{Symbol}
 use Rattle.m88_link.specs.declared.row.Row.{Row}
 use Rattle.m88_link.specs.declared.row.Row.TheVariants.{Begin, Head, Define, Patch, End}
-use Rattle.m88_link.specs.Drafts.{Begun, Filled, Progress, bytes_step, define_step, end_step, begin_step, head_step, is_bare, is_whole, line_step, more_bytes, named, object_with, patch_step, row_step, settled, within}
+use Rattle.m88_link.specs.Drafts.{Begun, Filled, Progress, bytes_step, define_step, end_step, begin_step, head_step, is_nil, is_whole, line_step, more_bytes, only_named, object_with, patch_step, row_step, settled, within}
 use Rattle.m88_link.specs.ObjectRead.{HasRelocText, HasSymbolText, HasText}
-use Rattle.m88_link.specs.Rows.{◌>>=◌, bytes_behind, bytes_of, row_of}
+use Rattle.m88_link.specs.Rows.{◌>>=◌, bytes_behind, bytes_by_digits, row_in}
 use Rattle.m88_link.proofs.ByteTexts.{bytes_back, length-digits}
 use Rattle.m88_link.proofs.RowTexts.{IsRow, mapped, row_back, row_text}
 use Rattle.m88_link.proofs.Written.{byte_rows, draft_rows, filled_rows, filling_rows, head_row, object_rows, objects_rows, one_row_more, open_rows, reloc_rows, sections_rows, symbol_rows, written}
@@ -64,7 +64,7 @@ more_fills digits f g n h some step = by_size (length digits == 2 * min f.missin
         → Fills f g n digits
     by_size true size step =
         option_and_then_some _ (bytes_behind f.bytes digits) g step (λ all e1 f1.
-        mapped (λ bs. f.bytes ++ bs) (bytes_of digits) all e1 (λ bs e2 same.
+        mapped (λ bs. f.bytes ++ bs) (bytes_by_digits digits) all e1 (λ bs e2 same.
         let k = bytes_back digits bs e2 in
         let long : length digits ≡ 2 * length bs = ap length k.0 ∙ length-digits bs in
         let twice : length digits ≡ 2 * min f.missing 32 = eqb-true (length digits) (2 * min f.missing 32) size in
@@ -133,8 +133,8 @@ module _ (name : List ℕ) (sections : List Section) (symbols : List Symbol) whe
 pub define_goes : (s : Symbol) (d e : Begun) → IsKept d → HasSymbolText s → define_step s d ≡ Some e → Goes d e (row_text (Define s))
 unfolding define_step
 define_goes s d e kept h step =
-    let t = if_some (is_whole d && is_bare d.relocs) (record d { symbols = d.symbols ++ s ∷ [] }) e step in
-    let t1 = both (is_whole d) (is_bare d.relocs) t.0 in
+    let t = if_some (is_whole d && is_nil d.relocs) (record d { symbols = d.symbols ++ s ∷ [] }) e step in
+    let t1 = both (is_whole d) (is_nil d.relocs) t.0 in
     let t2 = both (is_none d.filling) (nat_le 2 (length d.sections)) t1.0 in
     let is : d ≡ with_symbols d.name d.sections d.symbols d.symbols =
     ap (λ (o : Option Filled). let b : Begun = record d { filling = o } in b) (none_is d.filling t2.0)
@@ -207,7 +207,7 @@ within_went s t step line kept goes h =
 pub begin_went : (s t : Progress) (name : List ℕ) → IsProgress s → IsName name → begin_step name s ≡ Some t → Went s t (row_text (Begin name))
 unfolding begin_step
 begin_went s t name kept h step =
-    let k = if_some (is_none s.draft) (record { done = s.done; draft = Some (named name) }) t step in
+    let k = if_some (is_none s.draft) (record { done = s.done; draft = Some (only_named name) }) t step in
     let none = none_is s.draft k.0 in
     rw (← k.1) (record {
       kept = record {
@@ -276,12 +276,12 @@ unfolding line_step
 line_went s t [] kept step = absurd cc
 line_went s t (b ∷ bs) kept step = by_first (b == 61) refl step
   where
-    by_first : (v : Bool) → (b == 61) ≡ v → (if v then within s (bytes_step bs) else (row_of (b ∷ bs) >>= row_step s)) ≡ Some t → Went s t (b ∷ bs)
+    by_first : (v : Bool) → (b == 61) ≡ v → (if v then within s (bytes_step bs) else (row_in (b ∷ bs) >>= row_step s)) ≡ Some t → Went s t (b ∷ bs)
     by_first true is step =
         let first : b ≡ 61 = eqb-true b 61 is in
         let P : ℕ → Type 0 = λ x. Went s t (x ∷ bs) in
         subst P (sym first) (within_went s t (bytes_step bs) (61 ∷ bs) kept (λ d e k g. bytes_goes bs d e k g) step)
     by_first false is step =
-        option_and_then_some (row_step s) (row_of (b ∷ bs)) t step (λ r e1 f1.
+        option_and_then_some (row_step s) (row_in (b ∷ bs)) t step (λ r e1 f1.
         let k = row_back (b ∷ bs) r e1 in
         subst (Went s t) (sym k.0) (row_went s t r kept k.1 f1))

@@ -38,13 +38,13 @@ module _ (ps : List Placed) (i : ℕ) (p : Placed) (within : i < length ps) (is 
   -- none of the sections before one has a byte where it has one
   pub free_before : AreAlone ps → (a : ℕ) → p.at ≤ a → a < p.at + length p.bytes → byte_among (take i ps) a ≡ None
   free_before alone a low high =
-      let cut : ps ≡ take i ps ++ p ∷ drop (i + 1) ps =
+      let split_at_byte : ps ≡ take i ps ++ p ∷ drop (i + 1) ps =
       sym (take-append-drop i ps) ∙ ap (λ l. take i ps ++ l) (drop_more ps i p within ∙ ap (λ x. x ∷ drop (i + 1) ps) (sym is)) in
       nobody (take i ps) a
       (omega (
         arith,
         alone a,
-        ap (λ l. count_by (holds a) l) cut,
+        ap (λ l. count_by (holds a) l) split_at_byte,
         sum_by-append (one a) (take i ps) (p ∷ drop (i + 1) ps),
         sum_by-cons (one a) p (drop (i + 1) ps),
         one_in a p low high,

@@ -11,10 +11,10 @@ use Rattle.m88_base.proofs.Digits.{both}
 use Rattle.m88_link.specs.declared.object.Object.{Object}
 use Rattle.m88_link.specs.declared.object_fault.ObjectFault.{ObjectFault}
 use Rattle.m88_link.specs.declared.object_fault.ObjectFault.TheVariants.{Form}
-use Rattle.m88_link.specs.Drafts.{Begun, Progress, at_rest, ended_step, is_bare, line_step, nothing_read, read_from, read_on, unended}
+use Rattle.m88_link.specs.Drafts.{Begun, Progress, at_rest, ended_step, is_nil, line_step, nothing_read, read_from, read_on, unended}
 use Rattle.m88_link.specs.ObjectRead.{HasText, HaveText, IsContinued, IsFormLine, ended_lines}
 use Rattle.m88_link.specs.ObjectText.{objects_text}
-use Rattle.m88_link.specs.Rows.{◌>>=◌, cut}
+use Rattle.m88_link.specs.Rows.{◌>>=◌, split_at_byte}
 use Rattle.m88_link.proofs.Completes.{continues}
 use Rattle.m88_link.proofs.Forward.{objects_taken, rested, run}
 use Rattle.m88_link.proofs.Goes.{line_went}
@@ -66,8 +66,8 @@ pub record Came (s t : Progress) (lines : List (List ℕ)) : Type 0 where
 
 unended_back : (line row : List ℕ) → unended line ≡ Some row → line ≡ ended row
 unended_back line row e =
-    option_and_then_some _ (cut 10 line) row e (λ p e1 f1.
-    let k = if_some (is_bare p.1) p.0 row f1 in
+    option_and_then_some _ (split_at_byte 10 line) row e (λ p e1 f1.
+    let k = if_some (is_nil p.1) p.0 row f1 in
     (cut_found 10 line p e1).text_is ∙ ap (λ l. p.0 ++ 10 ∷ l) (bare_nil p.1 k.0) ∙ ap ended k.1)
 
 pub came : (s t : Progress) (lines : List (List ℕ)) → IsProgress s → ended_run s lines ≡ Some t → Came s t lines

@@ -17,7 +17,7 @@ use Rattle.m88_link.specs.declared.object.Section.{Section}
 use Rattle.m88_link.specs.declared.object.Symbol.{Symbol}
 use Rattle.m88_link.specs.declared.row.Row.TheVariants.{Begin, Head}
 use Rattle.m88_link.specs.declared.row.SectionHead.{SectionHead}
-use Rattle.m88_link.specs.Drafts.{Begun, Filled, Progress, head_step, headed, is_bare, is_next, section_with, settled, takes_head}
+use Rattle.m88_link.specs.Drafts.{Begun, Filled, Progress, head_step, headed, is_nil, may_stand, section_with, settled, takes_head}
 use Rattle.m88_link.specs.ObjectRead.{HasRelocText, HasSectionText, HasSymbolText, HasText}
 use Rattle.m88_link.specs.Sound.{AreSections, IsOwnAddress, origin}
 use Rattle.m88_link.proofs.RowTexts.{IsHead, row_text}
@@ -31,7 +31,7 @@ AreInOrder (t ∷ d ∷ others) = (t.place ≡ Text) × (d.place ≡ DataSection
 
 -- a section behind n others whose bytes come, or have come
 pub record IsFillable (f : Filled) (n : ℕ) : Type 0 where
-  pub next : is_next n f.place ≡ true
+  pub next : may_stand n f.place ≡ true
   pub address : origin f.place < 2 ^ 32
   pub few : length f.bytes + f.missing < 2 ^ 32
   pub line : f.line < 2 ^ 32
@@ -66,22 +66,22 @@ all_push P [] x h k = (k, tt)
 all_push P (y ∷ xs) x h k = (h.0, all_push P xs x h.1 k)
 
 -- a section more in order
-order_at : (n : ℕ) (p : Place) → 2 ≤ n → is_next n p ≡ true → IsOwnAddress p
+order_at : (n : ℕ) (p : Place) → 2 ≤ n → may_stand n p ≡ true → IsOwnAddress p
 order_at n Text h e = absurd (grind (arith, nat_tests))
 order_at n DataSection h e = absurd (grind (arith, nat_tests))
 order_at n (At a) h e = tt
 
-order_first : (p : Place) → is_next 0 p ≡ true → p ≡ Text
+order_first : (p : Place) → may_stand 0 p ≡ true → p ≡ Text
 order_first Text e = refl
 order_first DataSection e = absurd cc
 order_first (At a) e = absurd cc
 
-order_second : (p : Place) → is_next 1 p ≡ true → p ≡ DataSection
+order_second : (p : Place) → may_stand 1 p ≡ true → p ≡ DataSection
 order_second Text e = absurd cc
 order_second DataSection e = refl
 order_second (At a) e = absurd cc
 
-pub order_push : (ss : List Section) (s : Section) → AreInOrder ss → is_next (length ss) s.place ≡ true → AreInOrder (ss ++ s ∷ [])
+pub order_push : (ss : List Section) (s : Section) → AreInOrder ss → may_stand (length ss) s.place ≡ true → AreInOrder (ss ++ s ∷ [])
 order_push [] s h e = order_first s.place e
 order_push (t ∷ []) s h e = (h, order_second s.place e, tt)
 order_push (t ∷ d ∷ others) s h e =
@@ -167,7 +167,7 @@ pub record Goes (d e : Begun) (line : List ℕ) : Type 0 where
   pub kept : IsKept e
   pub rows : draft_rows e ≡ draft_rows d ++ line ∷ []
 
-pub bare_nil : {A : Type 0} (xs : List A) → is_bare xs ≡ true → xs ≡ []
+pub bare_nil : {A : Type 0} (xs : List A) → is_nil xs ≡ true → xs ≡ []
 bare_nil xs e = nil_from_length xs (eqb-true (length xs) 0 e)
 
 pub none_is : {A : Type 0} (o : Option A) → is_none o ≡ true → o ≡ None
@@ -179,7 +179,7 @@ if_some true x y e = (refl, cc)
 if_some false x y e = absurd cc
 
 -- the head of a section
-headed_fillable : (h : SectionHead) (n : ℕ) → IsHead h → is_next n h.place ≡ true → IsFillable (headed h) n
+headed_fillable : (h : SectionHead) (n : ℕ) → IsHead h → may_stand n h.place ≡ true → IsFillable (headed h) n
 headed_fillable h n k e = record {
   next = e;
   address = k.0;
@@ -190,7 +190,7 @@ headed_fillable h n k e = record {
 }
 
 head_goes_bare : (name : List ℕ) (sections : List Section) (h : SectionHead) → IsKept (bare name sections None) → IsHead h
-    → is_next (length sections) h.place ≡ true
+    → may_stand (length sections) h.place ≡ true
     → Goes (bare name sections None) (settled (bare name sections None) (headed h)) (row_text (Head h))
 head_goes_bare name sections h kept k next =
     let s = is_settled name sections (headed h) kept.name kept.order kept.sections (headed_fillable h (length sections) k next) in
@@ -206,9 +206,9 @@ pub head_goes : (h : SectionHead) (d e : Begun) → IsKept d → IsHead h → he
 unfolding head_step
 head_goes h d e kept k step =
     let t = if_some (takes_head d h) (settled d (headed h)) e step in
-    let t1 = both (is_none d.filling && is_bare d.symbols && is_bare d.relocs) (is_next (length d.sections) h.place) t.0 in
-    let t2 = both (is_none d.filling && is_bare d.symbols) (is_bare d.relocs) t1.0 in
-    let t3 = both (is_none d.filling) (is_bare d.symbols) t2.0 in
+    let t1 = both (is_none d.filling && is_nil d.symbols && is_nil d.relocs) (may_stand (length d.sections) h.place) t.0 in
+    let t2 = both (is_none d.filling && is_nil d.symbols) (is_nil d.relocs) t1.0 in
+    let t3 = both (is_none d.filling) (is_nil d.symbols) t2.0 in
     let is : d ≡ bare d.name d.sections None = bare_is d None (none_is d.filling t3.0) (bare_nil d.symbols t3.1) (bare_nil d.relocs t2.1) in
     let P : Begun → Type 0 = λ b. Goes b (settled b (headed h)) (row_text (Head h)) in
     let g : P d = subst P (sym is) (head_goes_bare d.name d.sections h (subst IsKept is kept) k t1.1) in

@@ -6,9 +6,9 @@ use Rattle.std.proofs.lemmas.List.{nil_from_length}
 use Rattle.m88_link.specs.declared.object.Object.{Object}
 use Rattle.m88_link.specs.declared.object_fault.ObjectFault.{ObjectFault}
 use Rattle.m88_link.specs.declared.object_fault.ObjectFault.TheVariants.{Form}
-use Rattle.m88_link.specs.Drafts.{GivesObjects, Progress, Takes, at_rest, ended_step, is_bare, line_step, read_from, read_on, unended}
+use Rattle.m88_link.specs.Drafts.{GivesObjects, Progress, TakesOrRefuses, at_rest, ended_step, is_nil, line_step, read_from, read_on, unended}
 use Rattle.m88_link.specs.ObjectRead.{ended_lines}
-use Rattle.m88_link.specs.Rows.{◌>>=◌, cut}
+use Rattle.m88_link.specs.Rows.{◌>>=◌, split_at_byte}
 use Rattle.m88_link.proofs.Lined.{cut_at, cut_found, lacks, lines_at, lines_none, one_line, uncut}
 
 -- the first line and what it comes to
@@ -23,14 +23,14 @@ none_read n s = refl
 
 -- a line with its LF is judged without it
 pub unended_is : (line : List ℕ) → lacks 10 line ≡ true → unended (line ++ 10 ∷ []) ≡ Some line
-unended_is line lacking = ap (λ o. o >>= λ p. (if is_bare p.1 then Some p.0 else None)) (cut_at 10 line [] lacking)
+unended_is line lacking = ap (λ o. o >>= λ p. (if is_nil p.1 then Some p.0 else None)) (cut_at 10 line [] lacking)
 
 pub ended_is : (s : Progress) (line : List ℕ) → lacks 10 line ≡ true → ended_step s (line ++ 10 ∷ []) ≡ line_step s line
 ended_is s line lacking = ap (λ o. o >>= line_step s) (unended_is line lacking)
 
 module _ (n : ℕ) (s : Progress) (text : List ℕ) (said : Result (List Object) ObjectFault)
     (h : read_from n s (ended_lines text) ≡ said) where
-  module _ (p : List ℕ × List ℕ) (e : cut 10 text ≡ Some p) (o : Option Progress) (step : line_step s p.0 ≡ o) where
+  module _ (p : List ℕ × List ℕ) (e : split_at_byte 10 text ≡ Some p) (o : Option Progress) (step : line_step s p.0 ≡ o) where
     turn : read_on n o (λ t. read_from (n + 1) t (ended_lines p.1)) ≡ said
     turn =
         let k = cut_found 10 text p e in
@@ -39,27 +39,27 @@ module _ (n : ℕ) (s : Progress) (text : List ℕ) (said : Result (List Object)
         ∙ first_read n s (p.0 ++ 10 ∷ []) (ended_lines p.1) o (ended_is s p.0 k.lacking ∙ step))
         ∙ h
 
-  pub line_taken : (line behind : List ℕ) (t : Progress) → cut 10 text ≡ Some (line, behind) → line_step s line ≡ Some t
+  pub line_taken : (line behind : List ℕ) (t : Progress) → split_at_byte 10 text ≡ Some (line, behind) → line_step s line ≡ Some t
       → read_from (n + 1) t (ended_lines behind) ≡ said
   line_taken line behind t e step = turn (line, behind) e (Some t) step
 
-  pub line_refused : (line behind : List ℕ) → cut 10 text ≡ Some (line, behind) → line_step s line ≡ None → said ≡ Err (Form n)
+  pub line_refused : (line behind : List ℕ) → split_at_byte 10 text ≡ Some (line, behind) → line_step s line ≡ None → said ≡ Err (Form n)
   line_refused line behind e step = sym (turn (line, behind) e None step)
 
-  pub line_unended : 0 < length text → cut 10 text ≡ None → said ≡ Err (Form n)
+  pub line_unended : 0 < length text → split_at_byte 10 text ≡ None → said ≡ Err (Form n)
   line_unended some e =
       sym h ∙ ap (read_from n s) (one_line text some (uncut 10 text e))
-      ∙ first_read n s text [] None (ap (λ o. (o >>= λ p. (if is_bare p.1 then Some p.0 else None)) >>= line_step s) e)
+      ∙ first_read n s text [] None (ap (λ o. (o >>= λ p. (if is_nil p.1 then Some p.0 else None)) >>= line_step s) e)
 
   pub lines_ended : length text ≡ 0 → at_rest n s ≡ said
   lines_ended none = sym (none_read n s) ∙ sym (ap (read_from n s) (ap ended_lines (nil_from_length text none) ∙ lines_none)) ∙ h
 
 -- what a call says that took a line, or refused it
-pub has_taken : {S : Type 0} (b : Bool) (new : S) (said : Option S) → Takes (Ok b) new said → b ≡ true → said ≡ Some new
+pub has_taken : {S : Type 0} (b : Bool) (new : S) (said : Option S) → TakesOrRefuses (Ok b) new said → b ≡ true → said ≡ Some new
 has_taken true new said h e = h
 has_taken false new said h e = absurd cc
 
-pub has_refused : {S : Type 0} (b : Bool) (new : S) (said : Option S) → Takes (Ok b) new said → b ≡ false → said ≡ None
+pub has_refused : {S : Type 0} (b : Bool) (new : S) (said : Option S) → TakesOrRefuses (Ok b) new said → b ≡ false → said ≡ None
 has_refused true new said h e = absurd cc
 has_refused false new said h e = h
 

@@ -15,7 +15,7 @@ use Rattle.m88_link.specs.declared.row.Row.TheVariants.{Begin, Head, Define, Pat
 use Rattle.m88_link.specs.declared.row.SectionHead.{SectionHead}
 use Rattle.m88_link.specs.ObjectRead.{HasRelocText, HasSymbolText}
 use Rattle.m88_link.specs.ObjectText.{kind_word, section_word}
-use Rattle.m88_link.specs.Rows.{at_of, first_word, head_of, hex8_word, keyword_of, kind_word_of, name_of, name_word, number_of, number_word, reloc_in, row_by, row_of, scope_word, section_word_of, symbol_in}
+use Rattle.m88_link.specs.Rows.{at_of, first_word, head_of, hex8_word, keyword_of, kind_word_of, name_of, name_word, decimal_value, number_word, reloc_in, row_by, row_in, scope_word, section_word_of, symbol_in}
 use Rattle.m88_link.specs.Sound.{origin}
 use Rattle.m88_link.proofs.Lined.{cut_found}
 use Rattle.m88_link.proofs.Spelling.{hex8_back, hex8_read, if_same, kind_back, kind_read, name_back, name_found, name_of-name, name_read, number_back, number_found, number_of-decimal, number_read, same_text, scope_back, scope_read, scope_text, section_back, section_read}
@@ -106,14 +106,14 @@ reloc_read r h =
     ) refl
 
 section_head_read : (place : Place) (len line : ℕ) → origin place < 2 ^ 32 → len < 2 ^ 32 → line < 2 ^ 32
-    → row_of (place_text place (record { place = place; len = len; line = line })) ≡ Some (Head (record { place = place; len = len; line = line }))
-unfolding row_of
+    → row_in (place_text place (record { place = place; len = len; line = line })) ≡ Some (Head (record { place = place; len = len; line = line }))
+unfolding row_in
 section_head_read Text len line g h k = ap (option_map Head) (head_read Text len line h k)
 section_head_read DataSection len line g h k = ap (option_map Head) (head_read DataSection len line h k)
 section_head_read (At a) len line g h k = ap (option_map Head) (at_read a len line g h k)
 
-pub row_read : (r : Row) → IsRow r → row_of (row_text r) ≡ Some r
-unfolding row_of
+pub row_read : (r : Row) → IsRow r → row_in (row_text r) ≡ Some r
+unfolding row_in
 row_read (Begin name) h = ap (option_map Begin) (name_of-name name h)
 row_read (Head s) h = section_head_read s.place s.len s.line h.0 h.1 h.2
 row_read (Define s) h = ap (option_map Define) (symbol_read s h)
@@ -126,7 +126,7 @@ head_back : (place : Place) (text : List ℕ) (h : SectionHead) → head_of plac
 unfolding head_of
 head_back place text h e =
     option_and_then_some _ (hex8_word text) h e (λ len e1 f1.
-    option_and_then_some _ (number_of len.1) h f1 (λ line e2 f2.
+    option_and_then_some _ (decimal_value len.1) h f1 (λ line e2 f2.
     let k = hex8_back text len.1 len.0 e1 in
     let l = number_found len.1 line e2 in
     let same : record { place = place; len = len.0; line = line } ≡ h = cc in
@@ -164,7 +164,7 @@ symbol_back text s e =
     option_and_then_some _ (section_word_of scope.1) s f2 (λ section e3 f3.
     option_and_then_some _ (hex8_word section.1) s f3 (λ value e4 f4.
     option_and_then_some _ (number_word value.1) s f4 (λ line e5 f5.
-    option_and_then_some _ (number_of line.1) s f5 (λ col e6 f6.
+    option_and_then_some _ (decimal_value line.1) s f5 (λ col e6 f6.
     let k1 = name_back text name.0 name.1 e1 in
     let k2 = scope_back name.1 scope.1 scope.0 e2 in
     let k3 = section_back scope.1 section.1 section.0 e3 in
@@ -190,7 +190,7 @@ reloc_back text r e =
     option_and_then_some _ (name_word offset.1) r f3 (λ symbol e4 f4.
     option_and_then_some _ (hex8_word symbol.1) r f4 (λ addend e5 f5.
     option_and_then_some _ (number_word addend.1) r f5 (λ line e6 f6.
-    option_and_then_some _ (number_of line.1) r f6 (λ col e7 f7.
+    option_and_then_some _ (decimal_value line.1) r f6 (λ col e7 f7.
     let k1 = kind_back text kind.1 kind.0 e1 in
     let k2 = number_back kind.1 section.1 section.0 e2 in
     let k3 = hex8_back section.1 offset.1 offset.0 e3 in
@@ -271,8 +271,8 @@ by_keyword word.Reloc rest r e =
     let k = reloc_back rest s is in
     said_as (codes "reloc" ++ 32 ∷ rest) (Patch s) r same (ap (λ (t : List ℕ). codes "reloc" ++ 32 ∷ t) k.0, k.1))
 
-pub row_back : (text : List ℕ) (r : Row) → row_of text ≡ Some r → (text ≡ row_text r) × IsRow r
-unfolding row_of
+pub row_back : (text : List ℕ) (r : Row) → row_in text ≡ Some r → (text ≡ row_text r) × IsRow r
+unfolding row_in
 row_back text r e = elim (if_same (bytes_eq text (codes "end")) End r _ e) [
   | inl here ↦ said_as text End r here.1 (same_text text (codes "end") here.0, tt)
   | inr later ↦

@@ -17,7 +17,7 @@ use Rattle.m88_base.specs.declared.fixup.Kind.TheVariants.{Hi16, Lo16, Pc26, Pc1
 use Rattle.m88_base.proofs.Digits.{both, decimal_found, decimal_needed, decimal_told}
 use Rattle.m88_base.proofs.Hexadecimal.{hex8_of-hex8, hex8-hex8_of, is_hex8-hex8}
 use Rattle.m88_link.specs.ObjectText.{kind_word, section_word}
-use Rattle.m88_link.specs.Rows.{◌>>=◌, first_word, hex8_word, is_name, kind_of, kind_word_of, name_of, name_word, number_of, number_word, scope_of, scope_word, section_of, section_word_of, word_by}
+use Rattle.m88_link.specs.Rows.{◌>>=◌, first_word, hex8_word, is_name_text, field_kind_of, kind_word_of, name_of, name_word, decimal_value, number_word, scope_of, scope_word, symbol_section_of, section_word_of, word_by}
 use Rattle.m88_link.proofs.Divided.{is_named, is_other, name_is}
 use Rattle.m88_link.proofs.Lined.{cut_at, cut_found, lacks, lacks_by}
 
@@ -31,13 +31,13 @@ word_by_test : (p : ℕ → Bool) → ((b : ℕ) → p b ≡ true → is_other 3
 word_by_test p no_blank no_end text h = (lacks_by p 32 no_blank text h, lacks_by p 10 no_end text h)
 
 -- names
-name_first : (b : ℕ) (bs : List ℕ) → is_name (b ∷ bs) ≡ true → list_all continues_name (b ∷ bs) ≡ true
+name_first : (b : ℕ) (bs : List ℕ) → is_name_text (b ∷ bs) ≡ true → list_all continues_name (b ∷ bs) ≡ true
 name_first b bs e =
     let k = both (begins_name b && list_all continues_name bs) (nat_lt (length bs) 64) e in
     let l = both (begins_name b) (list_all continues_name bs) k.0 in
     grind (arith, nat_tests, l)
 
-named_all : (text : List ℕ) → is_name text ≡ true → list_all continues_name text ≡ true
+named_all : (text : List ℕ) → is_name_text text ≡ true → list_all continues_name text ≡ true
 named_all [] e = absurd cc
 named_all (b ∷ bs) e = name_first b bs e
 
@@ -49,9 +49,9 @@ pub name_of-name : (text : List ℕ) → IsName text → name_of text ≡ Some t
 name_of-name text h = ap (λ (t : Bool). if t then Some text else None) (name_is text h)
 
 pub name_found : (text name : List ℕ) → name_of text ≡ Some name → (text ≡ name) × IsName name
-name_found text name e = by_test (is_name text) refl e
+name_found text name e = by_test (is_name_text text) refl e
   where
-    by_test : (t : Bool) → is_name text ≡ t → (if t then Some text else None) ≡ Some name → (text ≡ name) × IsName name
+    by_test : (t : Bool) → is_name_text text ≡ t → (if t then Some text else None) ≡ Some name → (text ≡ name) × IsName name
     by_test true is e = let same : text ≡ name = cc in (same, subst IsName same (is_named text is))
     by_test false is e = absurd cc
 
@@ -74,7 +74,7 @@ decimal_is_word n small =
     word_by_test (λ b. is_digit b 10) (λ b e. grind (arith, nat_tests)) (λ b e. grind (arith, nat_tests)) (decimal n)
     (digits_all (decimal n) (decimal_is_IsNumeral n (omega arith)).0.1)
 
-pub number_of-decimal : (n : ℕ) → n < 2 ^ 32 → number_of (decimal n) ≡ Some n
+pub number_of-decimal : (n : ℕ) → n < 2 ^ 32 → decimal_value (decimal n) ≡ Some n
 number_of-decimal n small =
     ap (λ (t : Bool). if t then number_in 10 4294967295 (decimal n) else None) (decimal_needed n (omega arith))
     ∙ decimal_told 4294967295 n (omega arith) (omega arith)
@@ -84,7 +84,7 @@ bounded true true v n e = (refl, cc)
 bounded true false v n e = absurd cc
 bounded false b v n e = absurd cc
 
-pub number_found : (text : List ℕ) (n : ℕ) → number_of text ≡ Some n → (text ≡ decimal n) × (n < 2 ^ 32)
+pub number_found : (text : List ℕ) (n : ℕ) → decimal_value text ≡ Some n → (text ≡ decimal n) × (n < 2 ^ 32)
 number_found text n e = by_test (has_no_needless_zero text) refl e
   where
     by_test : (t : Bool) → has_no_needless_zero text ≡ t → (if t then number_in 10 4294967295 text else None) ≡ Some n
@@ -132,7 +132,7 @@ module _ (rest : List ℕ) where
 
   pub number_read : (n : ℕ) → n < 2 ^ 32 → number_word (decimal n ++ 32 ∷ rest) ≡ Some (n, rest)
   unfolding number_word
-  number_read n small = word_read number_of (decimal n) rest n (decimal_is_word n small).0 (number_of-decimal n small)
+  number_read n small = word_read decimal_value (decimal n) rest n (decimal_is_word n small).0 (number_of-decimal n small)
 
 -- and what they were
 pub name_back : (text name rest : List ℕ) → name_word text ≡ Some (name, rest) → (text ≡ name ++ 32 ∷ rest) × IsName name
@@ -152,7 +152,7 @@ hex8_back text rest n e =
 pub number_back : (text rest : List ℕ) (n : ℕ) → number_word text ≡ Some (n, rest) → (text ≡ decimal n ++ 32 ∷ rest) × (n < 2 ^ 32)
 unfolding number_word
 number_back text rest n e =
-    let k = word_back number_of text rest n e in
+    let k = word_back decimal_value text rest n e in
     let h = number_found k.word n k.says in
     (k.text_is ∙ ap (λ l. l ++ 32 ∷ rest) h.0, h.1)
 
@@ -168,11 +168,11 @@ scope_read false rest = word_read scope_of (codes "l") rest false refl refl
 
 pub kind_read : (kind : Kind) (rest : List ℕ) → kind_word_of (kind_word kind ++ 32 ∷ rest) ≡ Some (kind, rest)
 unfolding kind_word_of
-kind_read Hi16 rest = word_read kind_of (codes "hi16") rest Hi16 refl refl
-kind_read Lo16 rest = word_read kind_of (codes "lo16") rest Lo16 refl refl
-kind_read Pc26 rest = word_read kind_of (codes "pc26") rest Pc26 refl refl
-kind_read Pc16 rest = word_read kind_of (codes "pc16") rest Pc16 refl refl
-kind_read Abs32 rest = word_read kind_of (codes "abs32") rest Abs32 refl refl
+kind_read Hi16 rest = word_read field_kind_of (codes "hi16") rest Hi16 refl refl
+kind_read Lo16 rest = word_read field_kind_of (codes "lo16") rest Lo16 refl refl
+kind_read Pc26 rest = word_read field_kind_of (codes "pc26") rest Pc26 refl refl
+kind_read Pc16 rest = word_read field_kind_of (codes "pc16") rest Pc16 refl refl
+kind_read Abs32 rest = word_read field_kind_of (codes "abs32") rest Abs32 refl refl
 
 pub same_text : (xs ys : List ℕ) → bytes_eq xs ys ≡ true → xs ≡ ys
 same_text xs ys e = (bytes_eq-Decides xs ys).0 e
@@ -196,7 +196,7 @@ scope_back text rest scope e =
     let k = word_back scope_of text rest scope e in
     k.text_is ∙ ap (λ l. l ++ 32 ∷ rest) (scope_found k.word scope k.says)
 
-kind_found : (text : List ℕ) (kind : Kind) → kind_of text ≡ Some kind → text ≡ kind_word kind
+kind_found : (text : List ℕ) (kind : Kind) → field_kind_of text ≡ Some kind → text ≡ kind_word kind
 kind_found text kind e = elim (if_same (bytes_eq text (codes "hi16")) Hi16 kind _ e) [
   | inl here ↦ same_text text (codes "hi16") here.0 ∙ ap kind_word here.1
   | inr later ↦ elim (if_same (bytes_eq text (codes "lo16")) Lo16 kind _ later.1) [
@@ -217,7 +217,7 @@ kind_found text kind e = elim (if_same (bytes_eq text (codes "hi16")) Hi16 kind 
 pub kind_back : (text rest : List ℕ) (kind : Kind) → kind_word_of text ≡ Some (kind, rest) → text ≡ kind_word kind ++ 32 ∷ rest
 unfolding kind_word_of
 kind_back text rest kind e =
-    let k = word_back kind_of text rest kind e in
+    let k = word_back field_kind_of text rest kind e in
     k.text_is ∙ ap (λ l. l ++ 32 ∷ rest) (kind_found k.word kind k.says)
 
 -- a section's number is not `abs`
@@ -234,23 +234,23 @@ first_digit n small = not_abs (decimal n) (digits_all (decimal n) (decimal_is_Is
 pub section_read : (section : Option ℕ) (rest : List ℕ) → IfSome section (λ k. k < 2 ^ 32)
     → section_word_of (section_word section ++ 32 ∷ rest) ≡ Some (section, rest)
 unfolding section_word_of
-section_read None rest h = word_read section_of (codes "abs") rest None refl refl
+section_read None rest h = word_read symbol_section_of (codes "abs") rest None refl refl
 section_read (Some k) rest h =
-    word_read section_of (decimal k) rest (Some k) (decimal_is_word k h).0
-    (ap (λ (t : Bool). if t then Some None else option_map Some (number_of (decimal k))) (first_digit k h) ∙ ap (option_map Some) (number_of-decimal k h))
+    word_read symbol_section_of (decimal k) rest (Some k) (decimal_is_word k h).0
+    (ap (λ (t : Bool). if t then Some None else option_map Some (decimal_value (decimal k))) (first_digit k h) ∙ ap (option_map Some) (number_of-decimal k h))
 
-section_found : (text : List ℕ) (section : Option ℕ) → section_of text ≡ Some section
+section_found : (text : List ℕ) (section : Option ℕ) → symbol_section_of text ≡ Some section
     → (text ≡ section_word section) × IfSome section (λ k. k < 2 ^ 32)
 section_found text section e = elim (if_same (bytes_eq text (codes "abs")) None section _ e) [
   | inl here ↦ absent section here.1 (same_text text (codes "abs") here.0)
-  | inr later ↦ numbered (number_of text) refl section later.1
+  | inr later ↦ numbered (decimal_value text) refl section later.1
 ]
   where
     absent : (section : Option ℕ) → None ≡ section → text ≡ codes "abs" → (text ≡ section_word section) × IfSome section (λ k. k < 2 ^ 32)
     absent None e h = (h, tt)
     absent (Some k) e h = absurd cc
 
-    numbered : (o : Option ℕ) → number_of text ≡ o → (section : Option ℕ) → option_map Some o ≡ Some section
+    numbered : (o : Option ℕ) → decimal_value text ≡ o → (section : Option ℕ) → option_map Some o ≡ Some section
         → (text ≡ section_word section) × IfSome section (λ k. k < 2 ^ 32)
     numbered None is section h = absurd cc
     numbered (Some n) is None h = absurd (let k : Some n ≡ None = cc in cc)
@@ -263,6 +263,6 @@ pub section_back : (text rest : List ℕ) (section : Option ℕ) → section_wor
     → (text ≡ section_word section ++ 32 ∷ rest) × IfSome section (λ k. k < 2 ^ 32)
 unfolding section_word_of
 section_back text rest section e =
-    let k = word_back section_of text rest section e in
+    let k = word_back symbol_section_of text rest section e in
     let h = section_found k.word section k.says in
     (k.text_is ∙ ap (λ l. l ++ 32 ∷ rest) h.0, h.1)

@@ -4,8 +4,8 @@ use Rattle.std.specs.Prelude.{◌⊎◌, All, IfErr, IfOk, MatchResult, Result, 
 use Rattle.m88_link.specs.declared.object.Object.{Object}
 use Rattle.m88_link.specs.declared.object_fault.ObjectFault.{ObjectFault}
 use Rattle.m88_link.specs.declared.object_fault.ObjectFault.TheVariants.{Form, Range, Memory}
-use Rattle.m88_link.specs.Drafts.{IsAnswer, nothing_read, read_from}
-use Rattle.m88_link.specs.ObjectRead.{IsFirstUnsound, IsFormLine, IsRangeLine, IsRefusedText, IsSoundText, Refuses, ended_lines}
+use Rattle.m88_link.specs.Drafts.{AnswersText, nothing_read, read_from}
+use Rattle.m88_link.specs.ObjectRead.{IsFirstUnsound, IsFormLine, IsRangeLine, IsRefusedText, IsSoundText, RefusesText, ended_lines}
 use Rattle.m88_link.specs.Sound.{IsSound}
 use Rattle.m88_link.specs.Walked.{AreSoundParts, IsFoundObject, objects_count}
 use Rattle.m88_link.proofs.Judged.{no_form_line, one_form_line, read_refused, read_written, written_read}
@@ -50,7 +50,7 @@ same_objects text os ps e f = let same : Ok os ≡ Ok ps = sym e ∙ f in cc
 
 module _ {X : Type 0} (seen : X → List Object) (text : List ℕ) where
   -- a text of sound objects is read
-  pub told_written : (r : Result X ObjectFault) → IsAnswer seen text r → (os : List Object) → IsSoundText os text
+  pub told_written : (r : Result X ObjectFault) → AnswersText seen text r → (os : List Object) → IsSoundText os text
       → MatchResult r (λ x. seen x ≡ os) (λ e. e ≡ Memory)
   told_written (Ok x) h os k =
       same_objects text (seen x) os (written_read text (seen x) h.have h.text_is) (written_read text os k.have k.text_is)
@@ -61,14 +61,14 @@ module _ {X : Type 0} (seen : X → List Object) (text : List ℕ) where
   told_written (Err Memory) h os k = refl
 
   -- a line that no text continues is told
-  pub told_form : (r : Result X ObjectFault) → IsAnswer seen text r → (n : ℕ) → IsFormLine text n → Refuses r (Form n)
+  pub told_form : (r : Result X ObjectFault) → AnswersText seen text r → (n : ℕ) → IsFormLine text n → RefusesText r (Form n)
   told_form (Ok x) h n k = no_form_line text n (seen x) h.have h.text_is k
   told_form (Err (Form m)) h n k = inl (ap Form (one_form_line text m n h k))
   told_form (Err (Range m)) h n k = absurd (no_form_line text n h.objects h.have h.text_is k)
   told_form (Err Memory) h n k = inr refl
 
   -- a line by which an object isn't sound is told
-  pub told_range : (r : Result X ObjectFault) → IsAnswer seen text r → (n : ℕ) → IsRangeLine text n → Refuses r (Range n)
+  pub told_range : (r : Result X ObjectFault) → AnswersText seen text r → (n : ℕ) → IsRangeLine text n → RefusesText r (Range n)
   told_range (Ok x) h n k =
       let same : k.objects ≡ seen x = same_objects text k.objects (seen x) (written_read text k.objects k.have k.text_is) (written_read text (seen x) h.have h.text_is) in
       not_sound k.objects n k.first (subst (All IsSound) (sym same) h.sound)
@@ -79,10 +79,10 @@ module _ {X : Type 0} (seen : X → List Object) (text : List ℕ) where
   told_range (Err Memory) h n k = inr refl
 
   -- what is read, and what is refused
-  pub told_read : (r : Result X ObjectFault) → IsAnswer seen text r → IfOk r (λ x. IsSoundText (seen x) text)
+  pub told_read : (r : Result X ObjectFault) → AnswersText seen text r → IfOk r (λ x. IsSoundText (seen x) text)
   told_read (Ok x) h = h
   told_read (Err e) h = tt
 
-  pub told_refused : (r : Result X ObjectFault) → IsAnswer seen text r → IfErr r (λ e. IsRefusedText text e)
+  pub told_refused : (r : Result X ObjectFault) → AnswersText seen text r → IfErr r (λ e. IsRefusedText text e)
   told_refused (Ok x) h = tt
   told_refused (Err e) h = h

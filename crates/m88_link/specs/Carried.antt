@@ -7,8 +7,8 @@ use Rattle.m88_link.specs.Bases.{Standing, base_at}
 use Rattle.m88_link.specs.Relocated.{patched}
 
 -- the bytes of a section as the object has them
-abbrev pub bare : Standing → Section → Placed
-bare s x = record { at = base_at s x.place; bytes = x.bytes }
+abbrev pub unpatched : Standing → Section → Placed
+unpatched s x = record { at = base_at s x.place; bytes = x.bytes }
 
 -- the word of the relocation lies in its section
 abbrev pub HasWord : List Placed → Reloc → Type 0

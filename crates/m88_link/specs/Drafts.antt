@@ -1,4 +1,5 @@
--- Words for private contracts: an object text read line by line, what it has come to, and how a line goes on from there.
+-- Words for private contracts: an object text read line by line, what it has come to, and how a line goes on from
+-- there.
 use Rattle.std.specs.Prelude.{◌≡◌, ℕ, ◌+◌, ◌-◌, ◌*◌, ◌==◌, ◌&&◌, ◌⊎◌, Bool, true, false, List, [], ◌∷◌, ◌++◌, Option, None, Some, Result, Ok, Err, length, min, nat_le, if◌then◌else◌}
 use Rattle.std.specs.Option.{is_none}
 use Rattle.std.specs.declared.alloc.AllocError.{AllocError}
@@ -14,7 +15,7 @@ use Rattle.m88_link.specs.declared.row.Row.{Row}
 use Rattle.m88_link.specs.declared.row.Row.TheVariants.{Begin, Head, Define, Patch, End}
 use Rattle.m88_link.specs.declared.row.SectionHead.{SectionHead}
 use Rattle.m88_link.specs.ObjectRead.{IsRefusedText, IsSoundText}
-use Rattle.m88_link.specs.Rows.{◌>>=◌, bytes_behind, cut, row_of}
+use Rattle.m88_link.specs.Rows.{◌>>=◌, bytes_behind, split_at_byte, row_in}
 
 -- a section with the bytes that came, and how many are missing
 pub record Filled : Type 0 where
@@ -41,12 +42,12 @@ abbrev pub nothing_read : Progress
 nothing_read = record { done = []; draft = None }
 
 -- an object of which only the name came
-abbrev pub named : List ℕ → Begun
-named name = record { name = name; sections = []; filling = None; symbols = []; relocs = [] }
+abbrev pub only_named : List ℕ → Begun
+only_named name = record { name = name; sections = []; filling = None; symbols = []; relocs = [] }
 
 -- the list is empty
-abbrev pub is_bare : {A : Type 0} → List A → Bool
-is_bare xs = length xs == 0
+abbrev pub is_nil : {A : Type 0} → List A → Bool
+is_nil xs = length xs == 0
 
 -- a section of which only the head came
 abbrev pub headed : SectionHead → Filled
@@ -63,14 +64,14 @@ settled d f =
     else record d { filling = Some f }
 
 -- the section may stand behind n others
-abbrev pub is_next : ℕ → Place → Bool
-is_next n Text = n == 0
-is_next n DataSection = n == 1
-is_next n (At a) = nat_le 2 n
+abbrev pub may_stand : ℕ → Place → Bool
+may_stand n Text = n == 0
+may_stand n DataSection = n == 1
+may_stand n (At a) = nat_le 2 n
 
 -- a section may begin
 abbrev pub takes_head : Begun → SectionHead → Bool
-takes_head d h = is_none d.filling && is_bare d.symbols && is_bare d.relocs && is_next (length d.sections) h.place
+takes_head d h = is_none d.filling && is_nil d.symbols && is_nil d.relocs && may_stand (length d.sections) h.place
 
 -- text and data are there, and no section has bytes to come
 abbrev pub is_whole : Begun → Bool
@@ -84,7 +85,8 @@ head_step h d = if takes_head d h then Some (settled d (headed h)) else None
 unfoldable pub more_bytes : List ℕ → Filled → Option Filled
 more_bytes digits f =
     if length digits == 2 * min f.missing 32
-    then (bytes_behind f.bytes digits >>= λ bs. Some (record { place = f.place; line = f.line; bytes = bs; missing = f.missing - min f.missing 32 }))
+    then (bytes_behind f.bytes digits >>= λ bs.
+    Some (record { place = f.place; line = f.line; bytes = bs; missing = f.missing - min f.missing 32 }))
     else None
 
 -- bytes come
@@ -93,7 +95,7 @@ bytes_step digits d = d.filling >>= λ f. (more_bytes digits f >>= λ g. Some (s
 
 -- a symbol comes
 unfoldable pub define_step : Symbol → Begun → Option Begun
-define_step s d = if is_whole d && is_bare d.relocs then Some (record d { symbols = d.symbols ++ s ∷ [] }) else None
+define_step s d = if is_whole d && is_nil d.relocs then Some (record d { symbols = d.symbols ++ s ∷ [] }) else None
 
 -- a relocation comes
 unfoldable pub patch_step : Reloc → Begun → Option Begun
@@ -109,7 +111,7 @@ within s f = s.draft >>= λ d. (f d >>= λ e. Some (record { done = s.done; draf
 
 -- an object begins, where none has begun
 unfoldable pub begin_step : List ℕ → Progress → Option Progress
-begin_step name s = if is_none s.draft then Some (record { done = s.done; draft = Some (named name) }) else None
+begin_step name s = if is_none s.draft then Some (record { done = s.done; draft = Some (only_named name) }) else None
 
 -- the object ends, where it is whole
 unfoldable pub end_step : Progress → Option Progress
@@ -127,11 +129,11 @@ row_step s End = end_step s
 -- a line, without its LF
 unfoldable pub line_step : Progress → List ℕ → Option Progress
 line_step s [] = None
-line_step s (b ∷ bs) = if b == 61 then within s (bytes_step bs) else (row_of (b ∷ bs) >>= row_step s)
+line_step s (b ∷ bs) = if b == 61 then within s (bytes_step bs) else (row_in (b ∷ bs) >>= row_step s)
 
 -- a line without the LF that is its last byte
 abbrev pub unended : List ℕ → Option (List ℕ)
-unended line = cut 10 line >>= λ p. (if is_bare p.1 then Some p.0 else None)
+unended line = split_at_byte 10 line >>= λ p. (if is_nil p.1 then Some p.0 else None)
 
 -- a line with its LF
 abbrev pub ended_step : Progress → List ℕ → Option Progress
@@ -142,7 +144,8 @@ abbrev pub at_rest : ℕ → Progress → Result (List Object) ObjectFault
 at_rest n s = if is_none s.draft && nat_le 1 (length s.done) then Ok s.done else Err (Form n)
 
 -- on with what a line comes to
-abbrev pub read_on : ℕ → Option Progress → (Progress → Result (List Object) ObjectFault) → Result (List Object) ObjectFault
+abbrev pub read_on
+    : ℕ → Option Progress → (Progress → Result (List Object) ObjectFault) → Result (List Object) ObjectFault
 read_on n None rest = Err (Form n)
 read_on n (Some t) rest = rest t
 
@@ -152,17 +155,18 @@ read_from n s [] = at_rest n s
 read_from n s (line ∷ lines) = read_on n (ended_step s line) (λ t. read_from (n + 1) t lines)
 
 -- a call took what it was given or refused it, as it is said; or memory ran out
-abbrev pub Takes : {S : Type 0} → Result Bool AllocError → S → Option S → Type 0
-Takes (Ok true) new said = said ≡ Some new
-Takes (Ok false) new said = said ≡ None
-Takes (Err e) new said = Unit {0}
+abbrev pub TakesOrRefuses : {S : Type 0} → Result Bool AllocError → S → Option S → Type 0
+TakesOrRefuses (Ok true) new said = said ≡ Some new
+TakesOrRefuses (Ok false) new said = said ≡ None
+TakesOrRefuses (Err e) new said = Unit {0}
 
 -- what a call gives is what is said; or memory ran out
-abbrev pub GivesObjects : {X : Type 0} → (X → List Object) → Result X ObjectFault → Result (List Object) ObjectFault → Type 0
+abbrev pub GivesObjects
+    : {X : Type 0} → (X → List Object) → Result X ObjectFault → Result (List Object) ObjectFault → Type 0
 GivesObjects seen (Ok x) said = said ≡ Ok (seen x)
 GivesObjects seen (Err e) said = (e ≡ Memory) ⊎ (said ≡ Err e)
 
 -- what a call gives is the text's: its sound objects, seen by `seen`, or its fault
-abbrev pub IsAnswer : {X : Type 0} → (X → List Object) → List ℕ → Result X ObjectFault → Type 0
-IsAnswer seen text (Ok x) = IsSoundText (seen x) text
-IsAnswer seen text (Err e) = IsRefusedText text e
+abbrev pub AnswersText : {X : Type 0} → (X → List Object) → List ℕ → Result X ObjectFault → Type 0
+AnswersText seen text (Ok x) = IsSoundText (seen x) text
+AnswersText seen text (Err e) = IsRefusedText text e

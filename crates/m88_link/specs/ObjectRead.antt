@@ -148,6 +148,6 @@ IsRefusedText text (Range n) = IsRangeLine text n
 IsRefusedText text Memory = Unit {0}
 
 -- a call refuses with this fault, or memory ran out
-abbrev pub Refuses : {X : Type 0} → Result X ObjectFault → ObjectFault → Type 0
-Refuses (Ok x) fault = ⊥
-Refuses (Err e) fault = (e ≡ fault) ⊎ (e ≡ Memory)
+abbrev pub RefusesText : {X : Type 0} → Result X ObjectFault → ObjectFault → Type 0
+RefusesText (Ok x) fault = ⊥
+RefusesText (Err e) fault = (e ≡ fault) ⊎ (e ≡ Memory)

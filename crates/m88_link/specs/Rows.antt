@@ -17,8 +17,8 @@ use Rattle.m88_link.specs.declared.row.Row.{Row}
 use Rattle.m88_link.specs.declared.row.Row.TheVariants.{Begin, Head, Define, Patch, End}
 use Rattle.m88_link.specs.declared.row.SectionHead.{SectionHead}
 
--- one step and then another, where the first has a result
 infixl 10 ◌>>=◌
+-- one step and then another, where the first has a result
 abbrev pub ◌>>=◌ : {A B : Type 0} → Option A → (A → Option B) → Option B
 o >>= f = option_and_then f o
 
@@ -27,26 +27,26 @@ abbrev pub with_first : ℕ → List ℕ × List ℕ → List ℕ × List ℕ
 with_first b p = (b ∷ p.0, p.1)
 
 -- what stands before the first byte of a value, and what stands behind it
-abbrev pub cut : ℕ → List ℕ → Option (List ℕ × List ℕ)
-cut at [] = None
-cut at (b ∷ bs) = if b == at then Some ([], bs) else option_map (with_first b) (cut at bs)
+abbrev pub split_at_byte : ℕ → List ℕ → Option (List ℕ × List ℕ)
+split_at_byte at [] = None
+split_at_byte at (b ∷ bs) = if b == at then Some ([], bs) else option_map (with_first b) (split_at_byte at bs)
 
 -- the first word of a line and what stands behind its blank
 abbrev pub first_word : List ℕ → Option (List ℕ × List ℕ)
-first_word text = cut 32 text
+first_word text = split_at_byte 32 text
 
 -- the bytes are one name
-abbrev pub is_name : List ℕ → Bool
-is_name [] = false
-is_name (b ∷ bs) = begins_name b && list_all continues_name bs && nat_lt (length bs) 64
+abbrev pub is_name_text : List ℕ → Bool
+is_name_text [] = false
+is_name_text (b ∷ bs) = begins_name b && list_all continues_name bs && nat_lt (length bs) 64
 
 -- the name that the bytes are
 abbrev pub name_of : List ℕ → Option (List ℕ)
-name_of text = if is_name text then Some text else None
+name_of text = if is_name_text text then Some text else None
 
 -- the number below 2^32 that decimal digits write
-abbrev pub number_of : List ℕ → Option ℕ
-number_of text = decimal_in 4294967295 text
+abbrev pub decimal_value : List ℕ → Option ℕ
+decimal_value text = decimal_in 4294967295 text
 
 -- a word that is read by `of`, and what stands behind its blank
 abbrev pub word_by : {A : Type 0} → (List ℕ → Option A) → List ℕ → Option (A × List ℕ)
@@ -62,37 +62,44 @@ hex8_word text = word_by hex8_of text
 
 -- a decimal number
 unfoldable pub number_word : List ℕ → Option (ℕ × List ℕ)
-number_word text = word_by number_of text
+number_word text = word_by decimal_value text
 
 -- whether a symbol is global
 abbrev pub scope_of : List ℕ → Option Bool
-scope_of text = if bytes_eq text (codes "g") then Some true else (if bytes_eq text (codes "l") then Some false else None)
+scope_of text =
+    if bytes_eq text (codes "g") then Some true
+    else (if bytes_eq text (codes "l") then Some false else None)
 
+-- a word that says it
 unfoldable pub scope_word : List ℕ → Option (Bool × List ℕ)
 scope_word text = word_by scope_of text
 
 -- the section of a symbol: none where it is absolute
-abbrev pub section_of : List ℕ → Option (Option ℕ)
-section_of text = if bytes_eq text (codes "abs") then Some None else option_map Some (number_of text)
+abbrev pub symbol_section_of : List ℕ → Option (Option ℕ)
+symbol_section_of text = if bytes_eq text (codes "abs") then Some None else option_map Some (decimal_value text)
 
+-- a word that says it
 unfoldable pub section_word_of : List ℕ → Option (Option ℕ × List ℕ)
-section_word_of text = word_by section_of text
+section_word_of text = word_by symbol_section_of text
 
 -- the kind of a field
-abbrev pub kind_of : List ℕ → Option Kind
-kind_of text =
-    if bytes_eq text (codes "hi16") then Some Hi16 else (if bytes_eq text (codes "lo16") then Some Lo16
-    else (if bytes_eq text (codes "pc26") then Some Pc26 else (if bytes_eq text (codes "pc16") then Some Pc16
+abbrev pub field_kind_of : List ℕ → Option Kind
+field_kind_of text =
+    if bytes_eq text (codes "hi16") then Some Hi16
+    else (if bytes_eq text (codes "lo16") then Some Lo16
+    else (if bytes_eq text (codes "pc26") then Some Pc26
+    else (if bytes_eq text (codes "pc16") then Some Pc16
     else (if bytes_eq text (codes "abs32") then Some Abs32 else None))))
 
+-- a word that says it
 unfoldable pub kind_word_of : List ℕ → Option (Kind × List ℕ)
-kind_word_of text = word_by kind_of text
+kind_word_of text = word_by field_kind_of text
 
 -- a section's length and line, by its place
 unfoldable pub head_of : Place → List ℕ → Option SectionHead
 head_of place text = do
   len ← hex8_word text
-  line ← number_of len.1
+  line ← decimal_value len.1
   Some (record { place = place; len = len.0; line = line })
 
 -- an address, and then as of any section
@@ -109,7 +116,7 @@ symbol_in text = do
   section ← section_word_of scope.1
   value ← hex8_word section.1
   line ← number_word value.1
-  col ← number_of line.1
+  col ← decimal_value line.1
   Some (record { name = name.0; global = scope.0; section = section.0; value = value.0; line = line.0; col = col })
 
 -- a relocation
@@ -121,15 +128,26 @@ reloc_in text = do
   symbol ← name_word offset.1
   addend ← hex8_word symbol.1
   line ← number_word addend.1
-  col ← number_of line.1
-  Some (record { kind = kind.0; section = section.0; offset = offset.0; symbol = symbol.0; addend = addend.0; line = line.0; col = col })
+  col ← decimal_value line.1
+  Some (record {
+    kind = kind.0;
+    section = section.0;
+    offset = offset.0;
+    symbol = symbol.0;
+    addend = addend.0;
+    line = line.0;
+    col = col;
+  })
 
 -- the word that begins a line without bytes, where it is one of these
 abbrev pub keyword_of : List ℕ → Option Keyword
 keyword_of text =
-    if bytes_eq text (codes "object") then Some word.Object else (if bytes_eq text (codes "symbol") then Some word.Symbol
-    else (if bytes_eq text (codes "text") then Some word.Text else (if bytes_eq text (codes "data") then Some word.Data
-    else (if bytes_eq text (codes "at") then Some word.At else (if bytes_eq text (codes "reloc") then Some word.Reloc else None)))))
+    if bytes_eq text (codes "object") then Some word.Object
+    else (if bytes_eq text (codes "symbol") then Some word.Symbol
+    else (if bytes_eq text (codes "text") then Some word.Text
+    else (if bytes_eq text (codes "data") then Some word.Data
+    else (if bytes_eq text (codes "at") then Some word.At
+    else (if bytes_eq text (codes "reloc") then Some word.Reloc else None)))))
 
 -- what stands behind the first word, by that word
 abbrev pub row_by : Keyword → List ℕ → Option Row
@@ -141,8 +159,8 @@ row_by word.Symbol rest = option_map Define (symbol_in rest)
 row_by word.Reloc rest = option_map Patch (reloc_in rest)
 
 -- what a line without bytes says
-unfoldable pub row_of : List ℕ → Option Row
-row_of text =
+unfoldable pub row_in : List ℕ → Option Row
+row_in text =
     if bytes_eq text (codes "end") then Some End
     else (first_word text >>= λ p. (keyword_of p.0 >>= λ k. row_by k p.1))
 
@@ -151,18 +169,18 @@ abbrev pub hex_value : ℕ → Option ℕ
 hex_value b = if is_hex_digit b then Some (digit_value b) else None
 
 -- the byte that two digits write
-unfoldable pub byte_of : ℕ → ℕ → Option ℕ
-byte_of high low = do
+unfoldable pub byte_by_digits : ℕ → ℕ → Option ℕ
+byte_by_digits high low = do
   h ← hex_value high
   l ← hex_value low
   Some (h * 16 + l)
 
 -- the bytes that digits write, two for each
-abbrev pub bytes_of : List ℕ → Option (List ℕ)
-bytes_of [] = Some []
-bytes_of (high ∷ []) = None
-bytes_of (high ∷ low ∷ digits) = byte_of high low >>= λ b. option_map (λ bs. b ∷ bs) (bytes_of digits)
+abbrev pub bytes_by_digits : List ℕ → Option (List ℕ)
+bytes_by_digits [] = Some []
+bytes_by_digits (high ∷ []) = None
+bytes_by_digits (high ∷ low ∷ digits) = byte_by_digits high low >>= λ b. option_map (λ bs. b ∷ bs) (bytes_by_digits digits)
 
 -- bytes with those behind them that digits write
 unfoldable pub bytes_behind : List ℕ → List ℕ → Option (List ℕ)
-bytes_behind front digits = option_map (λ bs. front ++ bs) (bytes_of digits)
+bytes_behind front digits = option_map (λ bs. front ++ bs) (bytes_by_digits digits)

@@ -44,13 +44,15 @@ HaveRoom sections = All HasRoom sections
 abbrev pub ArePatches : List Section → List Reloc → Type 0
 ArePatches sections relocs = All (IsPatchIn sections) relocs
 
--- the first section, symbol or relocation of an object by which it isn't sound
+-- the first section of an object by which it isn't sound
 abbrev pub IsFoundSection : List Section → ℕ → Type 0
 IsFoundSection sections n = IsFound HaveRoom sections_count sections n
 
+-- the first symbol
 abbrev pub IsFoundSymbol : List Section → List Symbol → ℕ → Type 0
 IsFoundSymbol sections symbols n = IsFound (AreSoundSymbols sections) length symbols n
 
+-- the first relocation
 abbrev pub IsFoundReloc : List Section → List Reloc → ℕ → Type 0
 IsFoundReloc sections relocs n = IsFound (ArePatches sections) length relocs n
 

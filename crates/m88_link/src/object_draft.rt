@@ -1,6 +1,6 @@
 //! An object of which not all lines came.
 ghost use Rattle.std.specs.Prelude.{◌≡◌, ◌*◌, OnOk};
-ghost use Rattle.m88_link.specs.Drafts.{Takes, bytes_step, define_step, head_step, headed, is_next, is_whole, more_bytes, named, object_with, patch_step, section_with, settled, takes_head};
+ghost use Rattle.m88_link.specs.Drafts.{TakesOrRefuses, bytes_step, define_step, head_step, headed, may_stand, is_whole, more_bytes, only_named, object_with, patch_step, section_with, settled, takes_head};
 
 use crate::object::{Object, Place, Reloc, Section, Symbol};
 use crate::row::SectionHead;
@@ -70,7 +70,7 @@ impl Filling {
     /// Takes the digits of 32 bytes more, or of those that are missing.
     #[tactic(auto, unfolding(crate::specs::Drafts::more_bytes))]
     fn more(&mut self, digits: &[u8]) -> Result<bool, AllocError>
-        ensures { Takes result self.new (more_bytes digits.now self.old) }
+        ensures { TakesOrRefuses result self.new (more_bytes digits.now self.old) }
     {
         let count = self.missing.min(LINE_BYTES);
         if digits.len() != 2 * count as usize {
@@ -104,7 +104,7 @@ impl Filling {
 impl Draft {
     /// An object of which only the name came.
     pub fn new(alloc: Global, name: Name) -> Draft
-        ensures { result ≡ named name }
+        ensures { result ≡ only_named name }
     {
         Draft {
             name,
@@ -148,7 +148,7 @@ impl Draft {
     /// The head of a section.
     #[tactic(auto, unfolding(crate::specs::Drafts::head_step))]
     pub fn head(&mut self, alloc: Global, head: SectionHead) -> Result<bool, AllocError>
-        ensures { Takes result self.new (head_step head self.old) }
+        ensures { TakesOrRefuses result self.new (head_step head self.old) }
     {
         if !self.takes_head(head) {
             return Ok(false);
@@ -160,7 +160,7 @@ impl Draft {
     /// The digits of bytes of a section.
     #[tactic(auto, unfolding(crate::specs::Drafts::bytes_step))]
     pub fn bytes(&mut self, digits: &[u8]) -> Result<bool, AllocError>
-        ensures { Takes result self.new (bytes_step digits.now self.old) }
+        ensures { TakesOrRefuses result self.new (bytes_step digits.now self.old) }
     {
         let Some(mut filling) = self.filling.take() else {
             return Ok(false);
@@ -175,7 +175,7 @@ impl Draft {
     /// A symbol.
     #[tactic(auto, unfolding(crate::specs::Drafts::define_step))]
     pub fn define(&mut self, symbol: Symbol) -> Result<bool, AllocError>
-        ensures { Takes result self.new (define_step symbol self.old) }
+        ensures { TakesOrRefuses result self.new (define_step symbol self.old) }
     {
         if !(self.is_whole() && self.relocs.is_empty()) {
             return Ok(false);
@@ -187,7 +187,7 @@ impl Draft {
     /// A relocation.
     #[tactic(auto, unfolding(crate::specs::Drafts::patch_step))]
     pub fn patch(&mut self, reloc: Reloc) -> Result<bool, AllocError>
-        ensures { Takes result self.new (patch_step reloc self.old) }
+        ensures { TakesOrRefuses result self.new (patch_step reloc self.old) }
     {
         if !self.is_whole() {
             return Ok(false);
@@ -218,7 +218,7 @@ impl Draft {
 
 /// Whether a section may stand behind as many others.
 fn is_next(sections: usize, place: Place) -> bool
-    ensures { result ≡ is_next sections place }
+    ensures { result ≡ may_stand sections place }
 {
     match place {
         Place::Text => sections == 0,

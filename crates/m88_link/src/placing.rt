@@ -4,7 +4,7 @@ ghost use Rattle.m88_base.specs.Found.{IsFree, PutsBytes};
 ghost use Rattle.m88_base.specs.Image.{byte_at, byte_count};
 ghost use Rattle.m88_base.specs.Placed.{byte_among, count_among};
 ghost use Rattle.m88_link.specs.Bases.{base_at};
-ghost use Rattle.m88_link.specs.Carried.{AreAlone, HasWord, bare, carried, patched_spot};
+ghost use Rattle.m88_link.specs.Carried.{AreAlone, HasWord, unpatched, carried, patched_spot};
 ghost use Rattle.m88_link.specs.Layout.{spots_of, value_of_name};
 ghost use Rattle.m88_link.specs.Relocated.{target_of};
 ghost use Rattle.m88_base.specs.Image.{most_bytes};
@@ -106,7 +106,7 @@ fn bare_spots(
     sections: &[Section],
 ) -> Result<Vec<Spot>, AllocError>
     requires { All (λ x. base_at standing.now x.place + length x.bytes ≤ 2 ^ 32) sections.now }
-    ensures { IfOk result (λ spots. spots.items ≡ map (bare standing.now) sections.now) }
+    ensures { IfOk result (λ spots. spots.items ≡ map (unpatched standing.now) sections.now) }
 {
     let mut spots = Vec::new(alloc);
     for section in sections {

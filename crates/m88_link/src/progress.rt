@@ -1,7 +1,7 @@
 //! An object text read line by line: the objects that are whole, and the one whose end hasn't come.
 ghost use Rattle.std.specs.Prelude.{◌≡◌};
 ghost use Rattle.m88_link.specs.declared.row.Row.TheVariants as row;
-ghost use Rattle.m88_link.specs.Drafts.{GivesObjects, Takes, at_rest, begin_step, bytes_step, end_step, line_step, nothing_read, row_step, within};
+ghost use Rattle.m88_link.specs.Drafts.{GivesObjects, TakesOrRefuses, at_rest, begin_step, bytes_step, end_step, line_step, nothing_read, row_step, within};
 
 use crate::object::{Object, Reloc, Symbol};
 use crate::object_draft::Draft;
@@ -43,7 +43,7 @@ impl Progress {
     /// One line more, without its LF; `false` where no objects' text continues the lines before with it.
     #[tactic(auto, unfolding(crate::specs::Drafts::line_step))]
     pub fn line(&mut self, line: &[u8]) -> Result<bool, AllocError>
-        ensures { Takes result self.new (line_step self.old line.now) }
+        ensures { TakesOrRefuses result self.new (line_step self.old line.now) }
     {
         match line {
             [] => Ok(false),
@@ -57,7 +57,7 @@ impl Progress {
 
     /// A line with bytes.
     fn bytes(&mut self, digits: &[u8]) -> Result<bool, AllocError>
-        ensures { Takes result self.new (within self.old (bytes_step digits.now)) }
+        ensures { TakesOrRefuses result self.new (within self.old (bytes_step digits.now)) }
     {
         match &mut self.draft {
             Some(draft) => draft.bytes(digits),
@@ -67,7 +67,7 @@ impl Progress {
 
     /// A line without bytes.
     fn row(&mut self, row: Row) -> Result<bool, AllocError>
-        ensures { Takes result self.new (row_step self.old row) }
+        ensures { TakesOrRefuses result self.new (row_step self.old row) }
     {
         match row {
             Row::Begin(name) => Ok(self.begin(name)),
@@ -81,7 +81,7 @@ impl Progress {
     /// An object begins, where none has begun.
     #[tactic(auto, unfolding(crate::specs::Drafts::begin_step))]
     fn begin(&mut self, name: Name) -> bool
-        ensures { Takes (Ok result) self.new (begin_step name self.old) }
+        ensures { TakesOrRefuses (Ok result) self.new (begin_step name self.old) }
     {
         if self.draft.is_some() {
             return false;
@@ -92,7 +92,7 @@ impl Progress {
 
     /// A section begins.
     fn head(&mut self, head: SectionHead) -> Result<bool, AllocError>
-        ensures { Takes result self.new (row_step self.old (row.Head head)) }
+        ensures { TakesOrRefuses result self.new (row_step self.old (row.Head head)) }
     {
         match &mut self.draft {
             Some(draft) => draft.head(self.alloc, head),
@@ -102,7 +102,7 @@ impl Progress {
 
     /// A symbol.
     fn define(&mut self, symbol: Symbol) -> Result<bool, AllocError>
-        ensures { Takes result self.new (row_step self.old (row.Define symbol)) }
+        ensures { TakesOrRefuses result self.new (row_step self.old (row.Define symbol)) }
     {
         match &mut self.draft {
             Some(draft) => draft.define(symbol),
@@ -112,7 +112,7 @@ impl Progress {
 
     /// A relocation.
     fn patch(&mut self, reloc: Reloc) -> Result<bool, AllocError>
-        ensures { Takes result self.new (row_step self.old (row.Patch reloc)) }
+        ensures { TakesOrRefuses result self.new (row_step self.old (row.Patch reloc)) }
     {
         match &mut self.draft {
             Some(draft) => draft.patch(reloc),
@@ -123,7 +123,7 @@ impl Progress {
     /// The end of an object, where it is whole.
     #[tactic(auto, unfolding(crate::specs::Drafts::end_step))]
     fn end(&mut self) -> Result<bool, AllocError>
-        ensures { Takes result self.new (end_step self.old) }
+        ensures { TakesOrRefuses result self.new (end_step self.old) }
     {
         let Some(draft) = self.draft.take() else {
             return Ok(false);

@@ -1,8 +1,8 @@
 //! Object texts read.
 ghost use Rattle.std.specs.Prelude.{◌≡◌, ◌<◌, ◌^◌, ℕ, IfErr, IfOk, List, MatchResult, length};
 ghost use Rattle.m88_link.specs.declared.object.Object.{Object as ObjectValue};
-ghost use Rattle.m88_link.specs.Drafts.{IsAnswer};
-ghost use Rattle.m88_link.specs.ObjectRead.{IsFormLine, IsRangeLine, IsRefusedText, IsSoundText, Refuses};
+ghost use Rattle.m88_link.specs.Drafts.{AnswersText};
+ghost use Rattle.m88_link.specs.ObjectRead.{IsFormLine, IsRangeLine, IsRefusedText, IsSoundText, RefusesText};
 ghost use Rattle.m88_link.specs.declared.object_fault.ObjectFault.TheVariants as fault;
 
 use crate::object::Object;
@@ -14,7 +14,7 @@ use std::alloc::Global;
 /// The sound objects of a text, or its fault.
 fn read(alloc: Global, text: &[u8]) -> Result<Vec<Object>, ObjectFault>
     requires { length text.now < 2 ^ 31 }
-    ensures { IsAnswer (λ v. v.items) text.now result }
+    ensures { AnswersText (λ v. v.items) text.now result }
 {
     let objects = match parse_objects(alloc, text) {
         Ok(objects) => objects,
@@ -43,8 +43,8 @@ pub fn read_objects(alloc: Global, text: &[u8]) -> Result<Vec<Object>, ObjectFau
 
     // What is refused is refused at its line, and each line at which it is to be refused is told.
     ensures refused { IfErr result (λ e. IsRefusedText text.now e) }
-    ensures form { (n : ℕ) → IsFormLine text.now n → Refuses result (fault.Form n) }
-    ensures range { (n : ℕ) → IsRangeLine text.now n → Refuses result (fault.Range n) }
+    ensures form { (n : ℕ) → IsFormLine text.now n → RefusesText result (fault.Form n) }
+    ensures range { (n : ℕ) → IsRangeLine text.now n → RefusesText result (fault.Range n) }
 {
     read(alloc, text)
 }

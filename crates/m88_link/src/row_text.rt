@@ -1,7 +1,7 @@
 //! Lines of an object text that give no bytes, read.
 ghost use Rattle.std.specs.Prelude.{◌≡◌, ◌*◌, ◌+◌, ◌<◌, ◌^◌, IfSome};
-ghost use Rattle.m88_link.specs.Drafts.{Takes};
-ghost use Rattle.m88_link.specs.Rows.{at_of, byte_of, bytes_behind, head_of, hex_value, reloc_in, keyword_of, row_by, row_of, symbol_in};
+ghost use Rattle.m88_link.specs.Drafts.{TakesOrRefuses};
+ghost use Rattle.m88_link.specs.Rows.{at_of, byte_by_digits, bytes_behind, head_of, hex_value, reloc_in, keyword_of, row_by, row_in, symbol_in};
 
 use crate::cut::cut;
 use crate::object::{Place, Reloc, Symbol};
@@ -112,9 +112,9 @@ fn row_by(keyword: Keyword, rest: &[u8]) -> Option<Row>
 }
 
 /// What a line says that gives no bytes.
-#[tactic(auto, unfolding(crate::specs::Rows::row_of))]
+#[tactic(auto, unfolding(crate::specs::Rows::row_in))]
 pub fn row_of(line: &[u8]) -> Option<Row>
-    ensures { result ≡ row_of line.now }
+    ensures { result ≡ row_in line.now }
 {
     if line == b"end".as_slice() {
         return Some(Row::End);
@@ -137,9 +137,9 @@ fn hex_value(digit: u8) -> Option<u8>
 }
 
 /// The byte that two digits write.
-#[tactic(auto, unfolding(crate::specs::Rows::byte_of))]
+#[tactic(auto, unfolding(crate::specs::Rows::byte_by_digits))]
 fn byte_of(high: u8, low: u8) -> Option<u8>
-    ensures { result ≡ byte_of high low }
+    ensures { result ≡ byte_by_digits high low }
 {
     let high = hex_value(high)?;
     let low = hex_value(low)?;
@@ -148,7 +148,7 @@ fn byte_of(high: u8, low: u8) -> Option<u8>
 
 /// Appends the bytes that digits write, two for each; `false` where they write none.
 pub fn push_bytes(bytes: &mut Vec<u8>, digits: &[u8]) -> Result<bool, AllocError>
-    ensures { Takes result bytes.new.items (bytes_behind bytes.old.items digits.now) }
+    ensures { TakesOrRefuses result bytes.new.items (bytes_behind bytes.old.items digits.now) }
 {
     let mut rest = digits;
     while let [high, low, left @ ..] = rest {

@@ -1,6 +1,6 @@
 //! Words of a line of an object text, each read up to its blank.
 ghost use Rattle.std.specs.Prelude.{◌≡◌, None, Some, MatchOption};
-ghost use Rattle.m88_link.specs.Rows.{hex8_word, kind_of, kind_word_of, name_of, name_word, number_of, number_word, scope_of, scope_word, section_of, section_word_of};
+ghost use Rattle.m88_link.specs.Rows.{hex8_word, field_kind_of, kind_word_of, name_of, name_word, decimal_value, number_word, scope_of, scope_word, symbol_section_of, section_word_of};
 
 use crate::cut::cut;
 use m88_base::{Kind, Name, decimal_in, hex8_of};
@@ -14,7 +14,7 @@ pub fn name_of(text: &[u8]) -> Option<Name>
 
 /// The number below 2^32 that decimal digits write.
 pub fn number_of(text: &[u8]) -> Option<u32>
-    ensures { result ≡ number_of text.now }
+    ensures { result ≡ decimal_value text.now }
 {
     decimal_in(text, u32::MAX)
 }
@@ -32,7 +32,7 @@ fn scope_of(text: &[u8]) -> Option<bool>
 
 /// The section of a symbol: a number, or `abs` where it has none.
 fn section_of(text: &[u8]) -> Option<Option<u32>>
-    ensures { result ≡ section_of text.now }
+    ensures { result ≡ symbol_section_of text.now }
 {
     match text {
         b"abs" => Some(None),
@@ -42,7 +42,7 @@ fn section_of(text: &[u8]) -> Option<Option<u32>>
 
 /// The kind of a field.
 fn kind_of(text: &[u8]) -> Option<Kind>
-    ensures { result ≡ kind_of text.now }
+    ensures { result ≡ field_kind_of text.now }
 {
     match text {
         b"hi16" => Some(Kind::Hi16),

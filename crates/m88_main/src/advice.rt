@@ -1,6 +1,6 @@
 //! What a person is told on standard error.
 
-use m88_cli::{MOST_INPUT, MOST_LIMIT, Status};
+use m88_cli::{MOST_INPUT, MOST_LIMIT, MOST_STATEMENTS, Status};
 use std::fmt;
 
 /// What a person is told where the words of the command can't be had.
@@ -33,9 +33,10 @@ impl fmt::Display for Advice {
         match self {
             Advice::Usage => write!(
                 f,
-                "usage: m88 run LIMIT ABSENT SCHEDULE, m88 exec LIMIT ABSENT SCHEDULE, m88 asm or m88 build\n\
+                "usage: m88 run LIMIT ABSENT SCHEDULE, m88 exec LIMIT ABSENT SCHEDULE, m88 mon ABSENT SCHEDULE, \
+                 m88 soak NUMBER COUNT, m88 dis, m88 asm, m88 link or m88 build\n\
                  LIMIT is up to {MOST_LIMIT}; ABSENT is none, all or page numbers joined by commas;\n\
-                 SCHEDULE is - or letters i and r; the input is standard input"
+                 SCHEDULE is - or letters i and r; COUNT is 1 to {MOST_STATEMENTS}; the input is standard input"
             ),
             Advice::SourceFault => write!(f, "m88: standard input can't be read"),
             Advice::SinkFault => write!(f, "m88: standard output can't be written"),

@@ -1,5 +1,9 @@
 //! Memory, as the instruction bus and the data bus see it.
-#![tactic(auto, unfolding(crate::specs::DataBus::bus_of, crate::specs::DataBus::ready_of, crate::specs::DataBus::absent_of, crate::specs::DataBus::has_place, m88_isa::specs::Bus::with_word))]
+#![tactic(auto, unfolding(
+// the words of the data bus, and the marks of its pages
+crate::specs::DataBus::bus_of, crate::specs::DataBus::ready_of, crate::specs::DataBus::absent_of,
+// the places of words, and a word that changes
+crate::specs::DataBus::has_place, m88_isa::specs::Bus::with_word))]
 
 ghost use Rattle.std.specs.Prelude.{◌≡◌, ◌%◌, ◌^◌, ◌<◌, ◌↔◌, ℕ, true, false, option_map, IfOk, IsErr, IsTrue, OnErr, OnOk};
 ghost use Rattle.std.specs.Int.{to_be_bytes, w32};

@@ -43,3 +43,51 @@ fn absent_pages(rt: HostRuntime) -> Result<(), ImageFault> {
     assert_eq!(rt; memory.read_word(0x6000), Err(AbsentPage));
     Ok(())
 }
+
+/// Stores a word with its page made ready.
+fn store(memory: &mut Memory, addr: u32, value: u32) -> Result<(), ImageFault> {
+    let addr = addr / 4 * 4;
+    let Ok(()) = memory.prepare(addr) else {
+        return Err(ImageFault::Memory);
+    };
+    if memory.is_ready(addr) {
+        let Ok(()) = memory.write_lanes(addr, 15, value) else {
+            return Err(ImageFault::Memory);
+        };
+    }
+    Ok(())
+}
+
+#[test]
+fn changed_words_over_pages_and_parts(rt: HostRuntime) -> Result<(), ImageFault> {
+    let mut image = Image::new(rt.alloc());
+    image.add(0x1FFC, &[1, 2, 3, 4])?;
+    image.add(0x4000, &[0x11, 0x22, 0x33, 0x44, 0x55])?;
+    let Ok(mut memory) = Memory::new(rt.alloc(), &image, &Absent::None) else {
+        return Err(ImageFault::Memory);
+    };
+    // Not in order of address: 1FFC is changed and changed back, 3000 and 4000 get what they have.
+    for (addr, value) in [
+        (0xFFFF_FFFC, 0xFFFF_FFFF),
+        (0x4004, 0xAABB_CCDD),
+        (0x1FFC, 9),
+        (0x2000, 7),
+        (0x3000, 0),
+        (0x4000, 0x1122_3344),
+        (0x1000, 0x80),
+        (0x1FFC, 0x0102_0304),
+    ] {
+        store(&mut memory, addr, value)?;
+    }
+    let Ok(changed) = memory.changed(rt.alloc()) else {
+        return Err(ImageFault::Memory);
+    };
+    let words = [
+        (0x1000, 0x80),
+        (0x2000, 7),
+        (0x4004, 0xAABB_CCDD),
+        (0xFFFF_FFFC, 0xFFFF_FFFF),
+    ];
+    assert!(rt; changed.as_slice() == words.as_slice());
+    Ok(())
+}

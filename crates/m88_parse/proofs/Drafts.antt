@@ -11,7 +11,7 @@ use Rattle.m88_parse.specs.declared.row.Row.TheVariants as row
 use Rattle.m88_parse.specs.Fault.{out_of_memory}
 use Rattle.m88_parse.specs.Reader.State.{◌>>=◌}
 use Rattle.m88_base.specs.Lines.{lines_of}
-use Rattle.m88_parse.specs.Reader.Source.{grouped, row_of, rows_of, with_row, unit_of_rows, unit_of}
+use Rattle.m88_parse.specs.Reader.Source.{grouped, row_of_line, rows_of, with_row, unit_of_rows, unit_of}
 use Rattle.m88_parse.specs.Reader.Drafts.{Drafted, nothing_yet, with_more, modules_with, modules_after, begun, leads, Follows, LeadsOn, EndsWith}
 
 more_first : (closed : List Module) (m : Module) (x : Statement) (g : List Statement) (ms : List Module)
@@ -74,14 +74,14 @@ unfolding rows_of
 by_row number lines r = r >>= λ x. rows_of (number + 1) lines >>= λ rows. Ok (with_row x rows)
 
 pub line_leads_on : (number : ℕ) (line : List ℕ) (after before : Drafted) (r : Option Row)
-    → row_of number line ≡ Ok r → Follows after before r → LeadsOn number line after before
+    → row_of_line number line ≡ Ok r → Follows after before r → LeadsOn number line after before
 unfolding rows_of by_row
 line_leads_on number line after before r e h lines =
     leads_on after before r (rows_of (number + 1) lines) h
     ∙ ap (λ x. leads before (by_row number lines x)) (sym e)
 
 line_ends_with : (number : ℕ) (line : List ℕ) (before : Drafted) (f : ParseFault)
-    → row_of number line ≡ Err f → EndsWith number line before f
+    → row_of_line number line ≡ Err f → EndsWith number line before f
 unfolding rows_of by_row
 line_ends_with number line before f e lines = ap (λ x. leads before (by_row number lines x)) e
 
@@ -103,12 +103,12 @@ ends_all number (b ∷ bs) d total h so_far = absurd (omega arith)
 
 -- a line by its row
 pub line_fault : (number : ℕ) (line : List ℕ) (before : Drafted) (f : ParseFault)
-    → (f ≡ out_of_memory) ⊎ (row_of number line ≡ Err f) → (f ≡ out_of_memory) ⊎ EndsWith number line before f
+    → (f ≡ out_of_memory) ⊎ (row_of_line number line ≡ Err f) → (f ≡ out_of_memory) ⊎ EndsWith number line before f
 line_fault number line before f (inl e) = inl e
 line_fault number line before f (inr e) = inr (line_ends_with number line before f e)
 
 pub line_added : {X : Type 0} (r : Result X ParseFault) (number : ℕ) (line : List ℕ) (after before : Drafted) (x : Row)
-    → row_of number line ≡ Ok (Some x) → IfOk r (λ y. Follows after before (Some x)) → IfErr r (λ e. e ≡ out_of_memory)
+    → row_of_line number line ≡ Ok (Some x) → IfOk r (λ y. Follows after before (Some x)) → IfErr r (λ e. e ≡ out_of_memory)
     → MatchResult r (λ y. LeadsOn number line after before) (λ e. (e ≡ out_of_memory) ⊎ EndsWith number line before e)
 line_added (Ok y) number line after before x e h k = line_leads_on number line after before (Some x) e h
 line_added (Err f) number line after before x e h k = inl k

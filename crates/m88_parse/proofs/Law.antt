@@ -1,3 +1,4 @@
+-- The laws that tie the reader to the language: what is read is related, what is related is read, and faults.
 pub mod Steps
 pub mod Numbers
 pub mod Quotes
@@ -18,6 +19,7 @@ pub mod Units
 pub mod Flaws
 pub mod Breaks
 pub mod LineFaults
+pub mod Walks
 pub mod Faults
 pub mod Cuts
 pub mod Kinds

@@ -1,3 +1,4 @@
+-- What only helps the proofs: tokens as they are cut, lists, drafts, then the laws between reader and language.
 pub mod Runs
 pub mod Pieces
 pub mod Law

@@ -52,7 +52,7 @@ impl Model for Draft {
 }
 
 /// The name of the module of statements that stand before the first `.module`.
-#[tactic(auto, unfolding(crate::specs::Reader::Names::is_name))]
+#[tactic(auto, unfolding(crate::specs::Reader::Names::is_valid_name))]
 fn main_name() -> Name
     ensures { result ≡ codes "main" }
 {

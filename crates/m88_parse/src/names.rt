@@ -1,6 +1,6 @@
 //! Names with a meaning of their own: registers, bits, conditions, halves, symbols.
 ghost use Rattle.std.specs.Prelude.{◌≡◌, ◌≤◌, ◌<◌, IfSome, SomeIff, true};
-ghost use Rattle.m88_parse.specs.Reader.Names.{register_of, control_of, float_control_of, control_in, is_here, is_module, is_name, is_symbol};
+ghost use Rattle.m88_parse.specs.Reader.Names.{register_of, control_of, float_control_of, control_in, is_here, is_module, is_valid_name, is_symbol};
 ghost use Rattle.m88_parse.specs.Language.Words.{bit_named, condition_named, half_named};
 ghost use Rattle.m88_parse.specs.WellFormed.{IsHalf};
 
@@ -118,7 +118,7 @@ pub(crate) fn is_module(name: &[u8]) -> bool
 
 /// The name that the bytes are, if they are one.
 pub(crate) fn name_of(text: &[u8]) -> Option<Name>
-    ensures { SomeIff result (is_name text.now ≡ true) text.now }
+    ensures { SomeIff result (is_valid_name text.now ≡ true) text.now }
 {
     Name::new(text)
 }

@@ -1,8 +1,8 @@
 //! The tokens of a line that are left, as a statement is read from them.
 ghost use Rattle.std.specs.Prelude.{◌≡◌, map, length, ◌-◌};
 ghost use Rattle.m88_parse.specs.Fault.{Gives};
-ghost use Rattle.m88_parse.specs.Reader.State.{ReaderState, first, second, place, past, fault, is_next};
-ghost use Rattle.m88_parse.specs.Reader.Slots.{mark_at, end_at};
+ghost use Rattle.m88_parse.specs.Reader.State.{ReaderState, first, second, place, past, fault, is_next_mark};
+ghost use Rattle.m88_parse.specs.Reader.Slots.{mark_at, line_end_at};
 ghost use Rattle.m88_parse.specs.Reader.Tokens.{piece_of, token_value_in};
 
 use crate::fault::{ParseFault, ParseKind};
@@ -95,7 +95,7 @@ impl<'a> Parser<'a> {
 
     /// Whether the next token is this mark.
     pub fn is_next(&self, mark: u8) -> bool
-        ensures { result ≡ is_next mark self.now }
+        ensures { result ≡ is_next_mark mark self.now }
     {
         match self.first() {
             Some(What::Mark(m)) => m == mark,
@@ -116,7 +116,7 @@ impl<'a> Parser<'a> {
 
     /// The end of the line.
     pub fn end(&self) -> Result<(), ParseFault>
-        ensures { Gives (λ _. self.now) result (end_at self.now) }
+        ensures { Gives (λ _. self.now) result (line_end_at self.now) }
     {
         match self.first() {
             None => Ok(()),

@@ -7,7 +7,7 @@ ghost use Rattle.m88_parse.specs.Language.Units.{IsUnit};
 ghost use Rattle.m88_parse.specs.declared.fault.ParseFault.{ParseFault as FaultValue};
 ghost use Rattle.m88_parse.specs.Fault.{Gives, out_of_memory, IsSourceKind};
 ghost use Rattle.m88_parse.specs.Reader.Places.{IsNear};
-ghost use Rattle.m88_parse.specs.Reader.Source.{end_of_line, row_of, unit_of};
+ghost use Rattle.m88_parse.specs.Reader.Source.{end_of_line, row_of_line, unit_of};
 ghost use Rattle.m88_parse.specs.Reader.Tokens.{piece_of};
 ghost use Rattle.m88_parse.specs.WellFormed.{IsWellFormed};
 ghost use Rattle.m88_parse.specs.Reader.Kept.{IsFormedRow};
@@ -34,10 +34,10 @@ fn end_of_line(lexemes: &[Lexeme<'_>]) -> u32
 }
 
 /// What a line says, if it has a token.
-#[tactic(auto, unfolding(crate::specs::Reader::Source::row_of))]
+#[tactic(auto, unfolding(crate::specs::Reader::Source::row_of_line))]
 fn row_of(alloc: Global, line: &[u8], number: u32) -> Result<Option<Row>, ParseFault>
     requires { length line.now < 2 ^ 31 }
-    ensures value { Gives (λ r. r) result (row_of number line.now) }
+    ensures value { Gives (λ r. r) result (row_of_line number line.now) }
     ensures row { IfOk result (λ r. IfSome r IsFormedRow) }
 {
     let lexemes = lexemes(alloc, line, number)?;

@@ -8,8 +8,8 @@ use Rattle.std.proofs.lemmas.Option.{get_or_from_slice_get, slice_get_within}
 use Rattle.std.specs.Prelude.{Some, slice_get}
 use Rattle.m88_base.specs.Image.{ProgramImage, parts}
 use Rattle.m88_base.specs.Placed.{Placed}
-use Rattle.m88_base.specs.Lines.{line_end}
-use Rattle.m88_srec.specs.Written.{data_line, data_lines, last_line, header_line, part_lines, srec_text, text_of_lines}
+use Rattle.m88_base.specs.Lines.{line_end, text_of_lines}
+use Rattle.m88_srec.specs.Written.{data_line, data_lines, last_line, header_line, part_lines, srec_text}
 
 -- the bytes that belong to the piece before are passed over
 pub passed_over : (passed at : ℕ) (bytes : List ℕ) → data_lines passed at bytes ≡ data_lines 0 (at + passed) (drop passed bytes)

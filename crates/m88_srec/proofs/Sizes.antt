@@ -8,10 +8,10 @@ use Rattle.std.proofs.lemmas.List.Concat.{flat_map-append}
 use Rattle.std.proofs.lemmas.List.Sums.{sum_by-cons}
 use Rattle.m88_base.specs.Hex.{hex2}
 use Rattle.m88_base.specs.Image.{IsImage, ProgramImage, byte_count, most_bytes, parts}
-use Rattle.m88_base.specs.Lines.{line_end}
+use Rattle.m88_base.specs.Lines.{line_end, text_of_lines}
 use Rattle.m88_base.specs.Placed.{Placed, count_among}
 use Rattle.m88_srec.specs.Records.{check_of, counted, framed}
-use Rattle.m88_srec.specs.Written.{data_line, data_lines, header_line, last_line, part_lines, record_line, srec_text, text_of_lines}
+use Rattle.m88_srec.specs.Written.{data_line, data_lines, header_line, last_line, part_lines, record_line, srec_text}
 use Rattle.m88_srec.proofs.Cutting.{next_line}
 
 length_digits : (bytes : List ℕ) → length (flat_map hex2 bytes) ≡ 2 * length bytes

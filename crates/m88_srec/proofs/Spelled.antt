@@ -5,10 +5,9 @@ use Rattle.std.specs.Char.{digit_value, is_digit}
 use Rattle.std.specs.List.{flat_map}
 use Rattle.std.proofs.lemmas.Bool.Decides.{nat_tests}
 use Rattle.m88_base.specs.Hex.{hex2, hex_digit}
-use Rattle.m88_base.specs.Lines.{lines_of}
+use Rattle.m88_base.specs.Lines.{lines_of, text_of_lines}
 use Rattle.m88_base.specs.Lines.{line_end}
 use Rattle.m88_srec.specs.Records.{are_more_pairs, bytes_in}
-use Rattle.m88_srec.specs.Written.{text_of_lines}
 use Rattle.m88_srec.proofs.Cases.{by_bool}
 
 -- the value of a digit that is written

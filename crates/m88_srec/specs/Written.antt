@@ -4,7 +4,7 @@ use Rattle.std.specs.Prelude.{ℕ, zero, suc, List, [], ◌∷◌, ◌++◌, ◌
 use Rattle.std.specs.Int.{to_be_bytes, w32}
 use Rattle.m88_base.specs.Hex.{hex2}
 use Rattle.m88_base.specs.Image.{ProgramImage, parts}
-use Rattle.m88_base.specs.Lines.{line_end}
+use Rattle.m88_base.specs.Lines.{text_of_lines}
 use Rattle.m88_base.specs.Placed.{Placed}
 use Rattle.m88_srec.specs.Records.{framed, letter_s}
 
@@ -33,10 +33,6 @@ unfoldable pub data_lines : ℕ → ℕ → List ℕ → List (List ℕ)
 data_lines passed at [] = []
 data_lines zero at (b ∷ bytes) = data_line at (take most_data (b ∷ bytes)) ∷ data_lines (most_data - 1) (at + 1) bytes
 data_lines (suc passed) at (b ∷ bytes) = data_lines passed (at + 1) bytes
-
--- lines as a text
-abbrev pub text_of_lines : List (List ℕ) → List ℕ
-text_of_lines lines = flat_map (λ line. line ++ line_end) lines
 
 -- the lines of a part
 abbrev pub part_lines : Placed → List (List ℕ)

@@ -1,9 +1,10 @@
 //! S-record texts written.
 ghost use Rattle.std.specs.Prelude.{◌≡◌, ◌+◌, ◌<◌, ◌≤◌, ◌^◌, ◌++◌, length, IfOk, OnOk};
 ghost use Rattle.std.specs.List.{flat_map};
+ghost use Rattle.m88_base.specs.Lines.{text_of_lines};
 ghost use Rattle.m88_base.specs.Image.{IsImage, parts};
 ghost use Rattle.m88_srec.specs.Accepted.{IsAccepted, whole_of};
-ghost use Rattle.m88_srec.specs.Written.{data_lines, part_lines, srec_text, text_of_lines};
+ghost use Rattle.m88_srec.specs.Written.{data_lines, part_lines, srec_text};
 
 use crate::frame::{push_data, push_end, push_header};
 use m88_base::{Image, NoMemory};

@@ -44,7 +44,8 @@ impl Board {
     /// anything changes: where it runs out, the board is as before but for pages made ready, and no event is counted.
     pub fn event(&mut self, letter: Letter) -> Result<Happened, NoMemory>
         requires { self.old.events < most_events }
-        ensures moved { IfOk result (λ happened. (p : Program) → IsProgramOf self.old.memory.image p
+        ensures moved { IfOk result (λ happened. (p : Program)
+            → IsProgramOf self.old.memory.image p
             → IsMove p letter self.old happened self.new) }
         ensures timeline { OnOk result ((p : Program) (named : ℕ → Bool) (m : Moment) → IsProgram p
             → IsAt p named m self.old

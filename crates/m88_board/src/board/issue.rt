@@ -12,7 +12,7 @@ ghost use Rattle.m88_isa.specs.Operands.{access_count_of, writes_of};
 ghost use Rattle.m88_board.specs.Board.{completed_of, is_idle_board, local_of};
 ghost use Rattle.m88_isa.specs.ImageProgram.{IsProgramOf};
 ghost use Rattle.m88_board.specs.Moves.{Did, IsSameRun, IsStill, IsUnmoved};
-ghost use Rattle.m88_board.specs.Turns.{ComesTo, choice_for, meaning_at};
+ghost use Rattle.m88_board.specs.Turns.{IssueComesTo, choice_for, meaning_at};
 
 use crate::board::Board;
 use m88_base::NoMemory;
@@ -56,7 +56,7 @@ impl Board {
         requires going { is_idle_board self.old ≡ false }
         requires valid { self.old.slots.nip.v ≡ true }
         requires fetched { self.old.slots.nip.e ≡ false }
-        requires comes { ComesTo (choice_for (Some instr.now) self.old) self.old }
+        requires comes { IssueComesTo (choice_for (Some instr.now) self.old) self.old }
         ensures ok { IfOk result (λ happened. (fault : RecordValue)
             → Did (choice_for (Some instr.now) self.old) fault self.old happened self.new) }
         ensures still { IfOk result (λ happened. IsStill happened → self.new ≡ self.old) }
@@ -75,7 +75,7 @@ impl Board {
         requires valid { self.old.slots.nip.v ≡ true }
         requires fetched { self.old.slots.nip.e ≡ false }
         requires free { busy_register (Some instr.now) self.old.pending ≡ None }
-        requires comes { ComesTo (choice_for (Some instr.now) self.old) self.old }
+        requires comes { IssueComesTo (choice_for (Some instr.now) self.old) self.old }
         ensures ok { IfOk result (λ happened. (fault : RecordValue)
             → Did (choice_for (Some instr.now) self.old) fault self.old happened self.new) }
         ensures still { IfOk result (λ happened. IsStill happened → self.new ≡ self.old) }

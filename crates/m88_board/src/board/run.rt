@@ -129,8 +129,8 @@ impl Board {
     /// What a run came to that is over.
     fn into_outcome(self) -> Result<Outcome, NoMemory>
         ensures events { IfOk result (λ o. o.events ≡ self.events) }
-        ensures value { IfOk result (λ o. (p : Program) (named : ℕ → Bool) (m : Moment) → IsProgram p
-            → IsAt p named m self → is_over p self.limit m ≡ true → o ≡ outcome_at p m) }
+        ensures value { IfOk result (λ o. (p : Program) (named : ℕ → Bool) (m : Moment)
+            → IsProgram p → IsAt p named m self → is_over p self.limit m ≡ true → o ≡ outcome_at p m) }
         ensures limit_end { IfOk result (λ o. (p : Program) (named : ℕ → Bool) (m : Moment)
             → IsAt p named m self → is_over p self.limit m ≡ true
             → (o.end ≡ EndValue.Limit) ↔ (o.retired ≡ self.limit)) }

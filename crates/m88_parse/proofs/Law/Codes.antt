@@ -26,7 +26,8 @@ use Rattle.m88_parse.specs.Language.Operands.{most_width, Behind, IsLast, AreOpe
 use Rattle.m88_parse.specs.Language.Names.{IsComma, IsRegister}
 use Rattle.m88_parse.proofs.Law.Operands.{IsOperandOf, IsBoundOf}
 use Rattle.m88_parse.proofs.Law.Indices.{IsIndexOf, UserIndex, IsFieldOf}
-use Rattle.m88_parse.proofs.Law.Forms.{Then, AfterComma, Meets}
+use Rattle.m88_parse.proofs.Law.Walks.{Then, AfterComma}
+use Rattle.m88_parse.proofs.Law.Forms.{Meets}
 
 -- a token and a comma, a register and a comma, and a token that stands last
 
@@ -164,11 +165,6 @@ met_bound {ps = []} r h n = absurd h
 met_bound {ps = p ∷ []} r h n = met_one (bound.Register r) h n
 met_bound {ps = p ∷ q ∷ ps} r h n = absurd h
 
-user_last : {d r : Reg} {ps rest : List Piece} (w : Behind d ps rest) → IsLast r rest → UserIndex (w.comma ∷ rest) r false
-user_last {rest = []} w h = absurd h
-user_last {rest = p ∷ []} w h = (w.comma, p, refl, w.parted, h)
-user_last {rest = p ∷ q ∷ rest} w h = absurd h
-
 pub met_operands : (sh : Shape) (ps : List Piece) (i : Instr) (f : Option Fixup) → AreOperands sh ps i f → Meets (form_of sh) ps (body.Code i f)
 unfolding form_of
 met_operands sh ps i f (either_immediate {imm = imm} {fixup = fixup} u v h) = met_behind u (met_behind v (operand.Immediate (record { imm = imm; fixup = fixup }), h, refl))
@@ -179,7 +175,7 @@ met_operands sh ps i f (offset {rest = rest} {imm = imm} {fixup = fixup} u v h) 
     met_behind u (met_at v (index.Offset (operand.Immediate (record { imm = imm; fixup = fixup })), (v.comma, rest, refl, v.parted, h), refl))
 met_operands sh ps i f (plain_index {s2 = s2} {rest = rest} u v h) = met_behind u (met_at v (index.Offset (operand.Register s2), (v.comma, rest, refl, v.parted, h), refl))
 met_operands sh ps i f (scaled {s1 = s1} {s2 = s2} u r h) = met_behind u (met_one s1 r (index.Scaled s2, h, refl))
-met_operands sh ps i f (user_index {s2 = s2} u v h) = met_behind u (met_at v ((s2, false), user_last v h, refl))
+met_operands sh ps i f (user_index {s2 = s2} {rest = rest} u v h) = met_behind u (met_at v ((s2, false), (v.comma, rest, refl, v.parted, h), refl))
 met_operands sh ps i f (user_scaled {s1 = s1} {s2 = s2} u r h) = met_behind u (met_one s1 r ((s2, true), h, refl))
 met_operands sh ps i f (address {s1 = s1} {s2 = s2} u r h) = met_behind u (met_one s1 r (s2, h, refl))
 met_operands sh ps i f (literal {width = width} {offset = off} u v h) = met_behind u (met_behind v (field.Literal width off, h, refl))

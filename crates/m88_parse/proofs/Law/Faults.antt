@@ -9,7 +9,7 @@ use Rattle.m88_parse.specs.Reader.Tokens.{pieces_of}
 use Rattle.m88_parse.specs.Language.Pieces.{Piece}
 use Rattle.m88_parse.specs.Reader.State.{◌>>=◌}
 use Rattle.m88_base.specs.Lines.{lines_of}
-use Rattle.m88_parse.specs.Reader.Source.{row_of_pieces, row_of, with_row, rows_of, unit_of_rows, unit_of}
+use Rattle.m88_parse.specs.Reader.Source.{row_of_pieces, row_of_line, with_row, rows_of, unit_of_rows, unit_of}
 use Rattle.m88_parse.specs.Language.Tokens.{LineTokens}
 use Rattle.m88_parse.specs.Language.Units.{IsUnit}
 use Rattle.m88_parse.specs.Language.LineFaults.{IsLineFault}
@@ -39,10 +39,10 @@ Rest number lines r = rows_of (number + 1) lines >>= λ (rs : List Row). Ok (wit
 -- what is read is related
 
 first_related : (number : ℕ) (lines : List (List ℕ)) (f : ParseFault) → rows_of number lines ≡ Err f → FirstOf number lines f
-unfolding rows_of row_of
+unfolding rows_of row_of_line
 first_related number [] f h = absurd cc
 first_related number (line ∷ lines) f h =
-    elim (bind_failed (row_of number line) (Rest number lines) f h) [
+    elim (bind_failed (row_of_line number line) (Rest number lines) f h) [
       | inl j ↦
           elim (bind_failed (pieces_of number line) (λ (ps : List Piece). row_of_pieces number ps) f j) [
             | inl k ↦
@@ -84,15 +84,15 @@ line_fault_read number ps at kind u = by_result (row_of_pieces number ps) refl
         e ∙ ap (λ (g : ParseFault). let r : Result (Option Row) ParseFault = Err g in r) (same_fault f.line number f.col at f.kind kind (sym w.1) same.0 same.1)
 
 first_read : {number : ℕ} {lines : List (List ℕ)} {f : ParseFault} → FirstOf number lines f → rows_of number lines ≡ Err f
-unfolding rows_of row_of
+unfolding rows_of row_of_line
 first_read (uncut_line {number = number} {line = line} {lines = lines} ps {at = at} {kind = kind} h) =
     let e : ParseFault = record { line = number; col = at; kind = kind } in
-    bind_err (row_of number line) (Rest number lines) e (bind_err (pieces_of number line) (λ (qs : List Piece). row_of_pieces number qs) e (breaks_read number 1 line ps at kind h))
+    bind_err (row_of_line number line) (Rest number lines) e (bind_err (pieces_of number line) (λ (qs : List Piece). row_of_pieces number qs) e (breaks_read number 1 line ps at kind h))
 first_read (faulty_line {number = number} {line = line} {lines = lines} ps {at = at} {kind = kind} t u) =
     let e : ParseFault = record { line = number; col = at; kind = kind } in
-    bind_err (row_of number line) (Rest number lines) e (bind_to (pieces_of number line) (λ (qs : List Piece). row_of_pieces number qs) ps (Err e) (line_is_read number line ps t) (line_fault_read number ps at kind u))
+    bind_err (row_of_line number line) (Rest number lines) e (bind_to (pieces_of number line) (λ (qs : List Piece). row_of_pieces number qs) ps (Err e) (line_is_read number line ps t) (line_fault_read number ps at kind u))
 first_read (later_line {number = number} {line = line} {lines = lines} ps said {fault = fault} t h g) =
-    bind_to (row_of number line) (Rest number lines) (row_for number said) (Err fault) (row_again number line ps said t h)
+    bind_to (row_of_line number line) (Rest number lines) (row_for number said) (Err fault) (row_again number line ps said t h)
     (bind_err (rows_of (number + 1) lines) (λ (rs : List Row). let y : Result (List Row) ParseFault = Ok (with_row (row_for number said) rs) in y) fault (first_read g))
 
 -- sources

@@ -9,7 +9,7 @@ use Rattle.std.proofs.lemmas.Bool.Decides.{nat_tests}
 use Rattle.m88_parse.specs.declared.fault.ParseKind.{ParseKind}
 use Rattle.m88_parse.specs.declared.fault.ParseKind.TheVariants.{NotAscii, Syntax, OutOfRange}
 use Rattle.m88_parse.specs.declared.scan.Flaw.{Flaw}
-use Rattle.m88_parse.specs.Reader.Tokens.{is_hexadecimal, is_decimal, bounded, inside_len, Cut, cut, flaw, token_or_flaw, name_front, number_front, quoted_value, quoted, word_front, front, numeral}
+use Rattle.m88_parse.specs.Reader.Tokens.{is_hexadecimal, is_decimal, bounded, inside_len, Cut, token_cut, flaw, token_or_flaw, name_front, number_front, quoted_value, quoted, word_front, front, numeral}
 use Rattle.m88_parse.specs.Language.Bytes.{is_blank, is_comment, is_plain, is_mark}
 use Rattle.m88_base.specs.Name.{continues_name}
 use Rattle.m88_parse.specs.Language.Pieces.{TokenValue, a_name}
@@ -266,7 +266,7 @@ word_flawed b t rest bytes f e r k h =
     elim (chosen (is_ascii_digit b) (number_front (length (b ∷ t)) (numeral (b ∷ t))) (name_front (b ∷ t)) (Err f) h) [
       | inl j ↦ by_numeral (numeral (b ∷ t)) refl j.0 j.1
       | inr j ↦
-          elim (chosen (nat_lt 64 (length (b ∷ t))) (flaw OutOfRange 0) (cut (length (b ∷ t)) (a_name (b ∷ t))) (Err f) j.1) [
+          elim (chosen (nat_lt 64 (length (b ∷ t))) (flaw OutOfRange 0) (token_cut (length (b ∷ t)) (a_name (b ∷ t))) (Err f) j.1) [
             | inl i ↦ subst (Flawed bytes) (flaw_same i.1) (long_name (b ∷ t) rest e r k j.0 (ltb-true 64 (length (b ∷ t)) i.0))
             | inr i ↦ absurd cc
           ]
@@ -326,9 +326,9 @@ quoted_flawed q bs f i h =
     cuts : (inside rest : List ℕ) (m : TokenValue) → bs ≡ inside ++ q ∷ rest → IsToken (q ∷ inside ++ q ∷ []) m → ⊥
     cuts inside rest m b x =
         let no_run : AreNameBytes (q ∷ inside ++ q ∷ []) → BeginsWithNoNameByte rest = λ (r : AreNameBytes (q ∷ inside ++ q ∷ [])). absurd (true≢false (sym (both (continues_name q) (list_all continues_name (inside ++ q ∷ [])) r).0 ∙ quote_no_word q i)) in
-        let c : front (q ∷ bs) ≡ cut (length (q ∷ inside ++ q ∷ [])) m =
+        let c : front (q ∷ bs) ≡ token_cut (length (q ∷ inside ++ q ∷ [])) m =
         ap front (ap (λ (xs : List ℕ). q ∷ xs) b ∙ sym (between q inside rest)) ∙ front_again (q ∷ inside ++ q ∷ []) rest m x no_run in
-        let e : ◌≡◌ {A = Result Cut Flaw} (Err f) (cut (length (q ∷ inside ++ q ∷ [])) m) = sym h ∙ sym (front_quote q bs i) ∙ c in
+        let e : ◌≡◌ {A = Result Cut Flaw} (Err f) (token_cut (length (q ∷ inside ++ q ∷ [])) m) = sym h ∙ sym (front_quote q bs i) ∙ c in
         cc
 
 stray_is : (b : ℕ) → is_plain b ≡ true → is_comment b ≡ false → is_blank b ≡ false → continues_name b ≡ false → is_mark b ≡ false → (b == 34 || b == 39) ≡ false → IsStray b

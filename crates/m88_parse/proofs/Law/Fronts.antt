@@ -10,7 +10,7 @@ use Rattle.m88_base.specs.Name.{IsName, begins_name, continues_name}
 use Rattle.m88_parse.specs.declared.fault.ParseKind.{ParseKind}
 use Rattle.m88_parse.specs.declared.fault.ParseKind.TheVariants.{NotAscii, OutOfRange}
 use Rattle.m88_parse.specs.declared.scan.Flaw.{Flaw}
-use Rattle.m88_parse.specs.Reader.Tokens.{inside_len, holds_escapes, text_bytes, character, Cut, gap, cut, flaw, token_or_flaw, name_front, number_front, as_number, quoted_value, quoted, word_front, front, numeral}
+use Rattle.m88_parse.specs.Reader.Tokens.{inside_len, holds_escapes, text_bytes, character, Cut, gap, token_cut, flaw, token_or_flaw, name_front, number_front, as_number, quoted_value, quoted, word_front, front, numeral}
 use Rattle.m88_parse.specs.Language.Bytes.{is_blank, is_comment, is_plain, is_mark, are_digits}
 use Rattle.m88_parse.specs.Language.Pieces.{TokenValue, a_name, a_number, a_text, a_mark}
 use Rattle.m88_parse.specs.Language.Tokens.{AreNameBytes, BeginsWithNoNameByte, IsDecimal, IsNumeral, Holds, IsToken}
@@ -60,7 +60,7 @@ front_word b bs h =
     ∙ take_then (continues_name b) _ _ h
     ∙ ap (word_front b) (run_at b bs h)
 
-front_mark : (b : ℕ) (bs : List ℕ) → is_mark b ≡ true → front (b ∷ bs) ≡ cut 1 (a_mark b)
+front_mark : (b : ℕ) (bs : List ℕ) → is_mark b ≡ true → front (b ∷ bs) ≡ token_cut 1 (a_mark b)
 unfolding front
 front_mark b bs h =
     take_else (is_comment b) _ _ (mark_no_comment b h)
@@ -88,7 +88,7 @@ quoted_by q total len inside =
     else token_or_flaw (len + 2) (if len == total then None else quoted_value q inside)
 
 quoted_again : (q : ℕ) (m : TokenValue) (inside bytes rest : List ℕ) → (92 == q) ≡ false → Holds q inside bytes → quoted_value q inside ≡ Some m
-    → quoted q (inside ++ q ∷ rest) ≡ cut (length inside + 2) m
+    → quoted q (inside ++ q ∷ rest) ≡ token_cut (length inside + 2) m
 unfolding quoted
 quoted_again q m inside bytes rest k h e =
     let bs = inside ++ q ∷ rest in
@@ -142,7 +142,7 @@ all_here p xs h = list_all-from_AllPass p xs h
 all_there : (p : ℕ → Bool) (xs : List ℕ) → list_all p xs ≡ true → All (λ b. p b ≡ true) xs
 all_there p xs h = AllPass-from_list_all p xs h
 
-name_again : (name rest : List ℕ) → IsName name → (AreNameBytes name → BeginsWithNoNameByte rest) → front (name ++ rest) ≡ cut (length name) (a_name name)
+name_again : (name rest : List ℕ) → IsName name → (AreNameBytes name → BeginsWithNoNameByte rest) → front (name ++ rest) ≡ token_cut (length name) (a_name name)
 name_again [] rest h k = absurd h
 name_again (b ∷ t) rest h k =
     let r : AreNameBytes (b ∷ t) = ap (λ (u : Bool). u && list_all continues_name t) (begin_word b h.0) ∙ all_as continues_name continues_name continue_word t (all_here continues_name t h.1) in
@@ -151,7 +151,7 @@ name_again (b ∷ t) rest h k =
     ∙ take_else (is_ascii_digit b) _ _ (begin_no_digit b h.0)
     ∙ take_else (nat_lt 64 (length (b ∷ t))) _ _ (le-ltb 64 (length (b ∷ t)) (omega (arith, l)))
 
-number_run : (text rest : List ℕ) (n : ℕ) → 0 < length text → AreNameBytes text → BeginsWithNoNameByte rest → list_all is_ascii_digit (take 1 text) ≡ true → numeral text ≡ Ok n → front (text ++ rest) ≡ cut (length text) (a_number n)
+number_run : (text rest : List ℕ) (n : ℕ) → 0 < length text → AreNameBytes text → BeginsWithNoNameByte rest → list_all is_ascii_digit (take 1 text) ≡ true → numeral text ≡ Ok n → front (text ++ rest) ≡ token_cut (length text) (a_number n)
 number_run [] rest n s h k d e = absurd (omega arith)
 number_run (b ∷ t) rest n s h k d e =
     front_run b t rest h k
@@ -169,7 +169,7 @@ decimal_first (d ∷ ds) h = ap (λ (t : Bool). t && true) (value_digit d (both 
 pub hexadecimal_run : (digits : List ℕ) → are_digits 16 digits ≡ true → AreNameBytes (48 ∷ 120 ∷ digits)
 hexadecimal_run digits h = all_as (λ d. nat_lt (digit_value d) 16) continues_name value_word digits h
 
-numeral_again : (text rest : List ℕ) (n : ℕ) → IsNumeral text n → n < 4294967296 → (AreNameBytes text → BeginsWithNoNameByte rest) → front (text ++ rest) ≡ cut (length text) (a_number n)
+numeral_again : (text rest : List ℕ) (n : ℕ) → IsNumeral text n → n < 4294967296 → (AreNameBytes text → BeginsWithNoNameByte rest) → front (text ++ rest) ≡ token_cut (length text) (a_number n)
 numeral_again text rest n (inl h) b k =
     let r = decimal_run text n h in
     number_run text rest n h.some r (k r) (decimal_first text h.digits) (number_again text n (inl h) b)
@@ -182,17 +182,17 @@ numeral_again text rest n (inr h) b k =
 pub between : (q : ℕ) (inside rest : List ℕ) → (q ∷ inside ++ q ∷ []) ++ rest ≡ q ∷ (inside ++ q ∷ rest)
 between q inside rest = ap (λ (bs : List ℕ). q ∷ bs) (append_assoc inside (q ∷ []) rest)
 
-double_again : (inside bytes rest : List ℕ) → Holds 34 inside bytes → front ((34 ∷ inside ++ 34 ∷ []) ++ rest) ≡ cut (length (34 ∷ inside ++ 34 ∷ [])) (a_text bytes)
+double_again : (inside bytes rest : List ℕ) → Holds 34 inside bytes → front ((34 ∷ inside ++ 34 ∷ []) ++ rest) ≡ token_cut (length (34 ∷ inside ++ 34 ∷ [])) (a_text bytes)
 double_again inside bytes rest h =
     let v : quoted_value 34 inside ≡ Some (a_text bytes) = take_then (holds_escapes false inside) _ _ (holds_again 34 h) ∙ ap (λ (bs : List ℕ). let o : Option TokenValue = Some (a_text bs) in o) (bytes_again 34 h) in
-    ap front (between 34 inside rest) ∙ front_double (inside ++ 34 ∷ rest) ∙ quoted_again 34 (a_text bytes) inside bytes rest refl h v ∙ ap (λ (n : ℕ). cut n (a_text bytes)) (length_text 34 inside)
+    ap front (between 34 inside rest) ∙ front_double (inside ++ 34 ∷ rest) ∙ quoted_again 34 (a_text bytes) inside bytes rest refl h v ∙ ap (λ (n : ℕ). token_cut n (a_text bytes)) (length_text 34 inside)
 
-single_again : (inside rest : List ℕ) (n : ℕ) → Holds 39 inside (n ∷ []) → front ((39 ∷ inside ++ 39 ∷ []) ++ rest) ≡ cut (length (39 ∷ inside ++ 39 ∷ [])) (a_number n)
+single_again : (inside rest : List ℕ) (n : ℕ) → Holds 39 inside (n ∷ []) → front ((39 ∷ inside ++ 39 ∷ []) ++ rest) ≡ token_cut (length (39 ∷ inside ++ 39 ∷ [])) (a_number n)
 single_again inside rest n h =
     let v : quoted_value 39 inside ≡ Some (a_number n) = ap as_number (character_again 39 n h) in
-    ap front (between 39 inside rest) ∙ front_single (inside ++ 39 ∷ rest) ∙ quoted_again 39 (a_number n) inside (n ∷ []) rest refl h v ∙ ap (λ (k : ℕ). cut k (a_number n)) (length_text 39 inside)
+    ap front (between 39 inside rest) ∙ front_single (inside ++ 39 ∷ rest) ∙ quoted_again 39 (a_number n) inside (n ∷ []) rest refl h v ∙ ap (λ (k : ℕ). token_cut k (a_number n)) (length_text 39 inside)
 
-pub front_again : (text rest : List ℕ) (m : TokenValue) → IsToken text m → (AreNameBytes text → BeginsWithNoNameByte rest) → front (text ++ rest) ≡ cut (length text) m
+pub front_again : (text rest : List ℕ) (m : TokenValue) → IsToken text m → (AreNameBytes text → BeginsWithNoNameByte rest) → front (text ++ rest) ≡ token_cut (length text) m
 front_again text rest (a_name name) h k =
     let e : text ≡ name = h.0 in
     rw e (name_again name rest h.1 (subst (λ (bs : List ℕ). AreNameBytes bs → BeginsWithNoNameByte rest) e k))
@@ -239,7 +239,7 @@ word_stands b t rest c r k h =
     elim (chosen (is_ascii_digit b) (number_front (length (b ∷ t)) (numeral (b ∷ t))) (name_front (b ∷ t)) (Ok c) h) [
       | inl j ↦ number_stands (numeral (b ∷ t)) refl j.1
       | inr j ↦
-          elim (chosen (nat_lt 64 (length (b ∷ t))) (flaw OutOfRange 0) (cut (length (b ∷ t)) (a_name (b ∷ t))) (Ok c) j.1) [
+          elim (chosen (nat_lt 64 (length (b ∷ t))) (flaw OutOfRange 0) (token_cut (length (b ∷ t)) (a_name (b ∷ t))) (Ok c) j.1) [
             | inl i ↦ absurd cc
             | inr i ↦ name_stands (ok_cut i.1) j.0 (ltb-false 64 (length (b ∷ t)) i.0)
           ]
@@ -262,14 +262,14 @@ word_stands b t rest c r k h =
 abbrev pub Makes : ℕ → Type 0
 Makes q = (inside : List ℕ) → inside_len q false inside ≡ length inside → list_all is_plain inside ≡ true → inside ≢ 92 ∷ [] → (m : TokenValue) → quoted_value q inside ≡ Some m → IsToken (q ∷ inside ++ q ∷ []) m
 
-quoted_made : (q : ℕ) (bs inside rest : List ℕ) (m : TokenValue) (c : Cut) → continues_name q ≡ false → bs ≡ inside ++ q ∷ rest → IsToken (q ∷ inside ++ q ∷ []) m → inside_len q false bs ≡ length inside → cut (inside_len q false bs + 2) m ≡ Ok c → TokenAt (q ∷ bs) c
+quoted_made : (q : ℕ) (bs inside rest : List ℕ) (m : TokenValue) (c : Cut) → continues_name q ≡ false → bs ≡ inside ++ q ∷ rest → IsToken (q ∷ inside ++ q ∷ []) m → inside_len q false bs ≡ length inside → token_cut (inside_len q false bs + 2) m ≡ Ok c → TokenAt (q ∷ bs) c
 quoted_made q bs inside rest m c w b t l f =
     let x : q ∷ bs ≡ (q ∷ inside ++ q ∷ []) ++ rest = ap (λ (xs : List ℕ). q ∷ xs) b ∙ sym (between q inside rest) in
     let y : length (q ∷ inside ++ q ∷ []) ≡ inside_len q false bs + 2 = omega (arith, l, length_text q inside) in
     let no_run : AreNameBytes (q ∷ inside ++ q ∷ []) → BeginsWithNoNameByte rest = λ (r : AreNameBytes (q ∷ inside ++ q ∷ [])). absurd (true≢false (sym (both (continues_name q) (list_all continues_name (inside ++ q ∷ [])) r).0 ∙ w)) in
     subst (TokenAt (q ∷ bs)) (ok_cut f) (token_is (q ∷ bs) (q ∷ inside ++ q ∷ []) rest m (inside_len q false bs + 2) x y (omega arith) t no_run)
 
-token_made : (len : ℕ) (o : Option TokenValue) (c : Cut) → token_or_flaw len o ≡ Ok c → (m : TokenValue) × (o ≡ Some m) × (cut len m ≡ Ok c)
+token_made : (len : ℕ) (o : Option TokenValue) (c : Cut) → token_or_flaw len o ≡ Ok c → (m : TokenValue) × (o ≡ Some m) × (token_cut len m ≡ Ok c)
 token_made len (Some m) c h = (m, refl, h)
 token_made len None c h = absurd cc
 

@@ -1,21 +1,30 @@
--- The law of where branches go.
-use Rattle.std.proofs.Common.{◌≡◌, ℕ, ◌-◌, ◌*◌, ◌/◌, ◌%◌, ◌^◌, ◌<◌, ◌≤◌, ℤ, pos, Bool, true, false, ◌&&◌, ◌==◌, nat_le, ◌⊎◌, inl, inr, List, [], ◌∷◌, Option, Some, None, Ok, refl, sym, ap, ap₂, ◌∙◌, arith, subst, eqb-true, leb-true, le-leb, append-nil, codes}
+-- The law of where branches go, walked once.
+use Rattle.std.proofs.Common.{◌≡◌, ◌↔◌, ℕ, ◌-◌, ◌*◌, ◌/◌, ◌%◌, ◌^◌, ◌<◌, ◌≤◌, ℤ, pos, Bool, true, false, if◌then◌else◌, ◌&&◌, ◌==◌, nat_le, ◌⊎◌, inl, inr, List, [], ◌∷◌, Option, Some, None, Result, Ok, refl, sym, ap, ap₂, ◌∙◌, arith, subst, eqb-true, leb-true, le-leb, append-nil, codes}
 use Rattle.std.specs.Prelude.{neg_ℤ}
+use Rattle.std.proofs.Math.Pow.{suc_ones}
 use Rattle.std.proofs.lemmas.Slice.Eq.{bytes_eq-Decides}
 use Rattle.m88_base.specs.declared.fixup.Kind.{Kind}
 use Rattle.m88_base.specs.declared.fixup.Fixup.{Fixup}
+use Rattle.m88_parse.specs.declared.fault.ParseFault.{ParseFault}
 use Rattle.m88_parse.specs.declared.fault.ParseKind.TheVariants.{OutOfRange}
+use Rattle.m88_parse.specs.declared.unit.Body.{Body}
 use Rattle.m88_parse.specs.declared.operand.Goal.{Goal}
 use Rattle.m88_parse.specs.Language.Pieces.{TokenValue, a_name, a_number, a_text, a_mark, Piece}
-use Rattle.m88_parse.specs.Reader.State.{ReaderState, first, past, is_mark_of, is_next, ◌>>=◌}
+use Rattle.m88_parse.specs.Reader.State.{ReaderState, first, past, is_mark_of, is_next_mark, ◌>>=◌}
 use Rattle.m88_parse.specs.Reader.Slots.{Read, fixup_at}
 use Rattle.m88_parse.specs.Reader.Operands.{distance_on, distance_at, words_at, is_here_on, goal_at}
-use Rattle.m88_parse.specs.Language.Names.{IsMark, IsNumber, IsNamed}
-use Rattle.m88_parse.specs.Language.Operands.{IsFixup, IsDistance, IsPlace, IsGoal, place as a_place, symbol as a_symbol}
-use Rattle.m88_parse.proofs.Law.Steps.{both, chosen, take_then, take_else}
+use Rattle.m88_parse.specs.Reader.Grammar.{end_with}
+use Rattle.m88_parse.specs.Language.Names.{IsNumber, IsNamed}
+use Rattle.m88_parse.specs.Language.Operands.{IsFixup, IsPlace, IsGoal, place as a_place, symbol as a_symbol}
+use Rattle.m88_parse.proofs.Law.Steps.{both, tested, take_then, take_else}
 use Rattle.m88_parse.proofs.Law.Names.{other_bytes}
-use Rattle.m88_parse.proofs.Law.Slots.{st, ok_same, bind_ok, bind_to, next_is, next_again, no_name, saying, OneToken, slot_read, slot_again, nothing, by_token, token_gives, token_is, only_if, tested_gives, tested_is}
-use Rattle.m88_parse.proofs.Law.Values.{Several, several, several_as, fixup_read, fixup_again}
+use Rattle.m88_parse.proofs.Law.Slots.{st, no_name, symbols, any, any_is_symbol, saying, OneToken, nothing, by_token, token_gives, token_is, only_if, tested_gives, tested_is}
+use Rattle.m88_parse.proofs.Law.Values.{fixup_read, fixup_again}
+use Rattle.m88_parse.proofs.Law.Walks.{Then, AfterMark, Last, Walk, marked_other, end_walk, one_end, ended, last_walk, or_walk}
+use Rattle.m88_parse.proofs.Law.LineFaults.Readers.{fault_in}
+use Rattle.m88_parse.proofs.Law.LineFaults.Nodes.{Node, leads, good, each_as}
+use Rattle.m88_parse.proofs.Law.LineFaults.Slots.{reader_of}
+use Rattle.m88_parse.proofs.Law.LineFaults.Values.{mapped, ends_node, fixup_node}
 
 -- a distance in words
 
@@ -60,123 +69,100 @@ one_distance most line e = record {
   some = (saying (a_number 0), 0, distance_given most 0 (omega arith));
 }
 
-abbrev forward_words : ℕ × ReaderState → Read ℤ
-forward_words n = Ok (pos n.0, n.1)
+-- what stands behind the . of a goal: nothing, or a distance forward or back
 
-abbrev back_words : ℕ × ReaderState → Read ℤ
-back_words n = Ok (neg_ℤ (pos n.0), n.1)
+abbrev OneEnd : (ℕ → Piece → Type 0) → (ℕ → Body) → List Piece → Body → Type 0
+OneEnd Is made ps b = Then ℕ Is (λ n qs. (qs ≡ []) × (made n ≡ b)) ps
 
--- what stands behind the . of a goal
-pub data Words (bits line e : ℕ) (ps : List Piece) (x : ℤ × ReaderState) : Type 0 where
-  no_words : x.0 ≡ pos 0 → x.1 ≡ st line e ps → Words bits line e ps x
-  some_words : (m p : Piece) (rest : List Piece) → ps ≡ m ∷ p ∷ rest → IsDistance bits x.0 m p → x.1 ≡ st line e rest → Words bits line e ps x
+abbrev BackEnd : ℕ → (ℤ → Body) → List Piece → Body → Type 0
+BackEnd limit made ps b = AfterMark 45 (λ qs. OneEnd (IsFourfold limit) (λ n. made (neg_ℤ (pos n))) qs b) ps ⊎ ((ps ≡ []) × (made (pos 0) ≡ b))
 
-words_read : (bits limit line e : ℕ) (ps : List Piece) (x : ℤ × ReaderState) → limit ≡ 2 ^ bits → 0 < limit → words_at limit (st line e ps) ≡ Ok x → Words bits line e ps x
+abbrev WordsEnd : ℕ → (ℤ → Body) → List Piece → Body → Type 0
+WordsEnd limit made ps b = AfterMark 43 (λ qs. OneEnd (IsFourfold (limit - 1)) (λ n. made (pos n)) qs b) ps ⊎ BackEnd limit made ps b
+
+words_both : (line e limit : ℕ) (made : ℤ → Body)
+    → ((ps : List Piece) (b : Body) → (ended (words_at limit) made (st line e ps) ≡ Ok b) ↔ WordsEnd limit made ps b) × ((few : ℕ) → Node few false no_name line e (λ ps. fault_in (ended (words_at limit) made (st line e ps))))
 unfolding words_at
-words_read bits limit line e ps x w some h =
-    elim (chosen (is_next 43 (st line e ps)) _ _ _ h) [
-      | inl j ↦
-          let m = next_is 43 line e ps j.0 in
-          let b = bind_ok (distance_at (limit - 1) (past (st line e ps))) forward_words x j.1 in
-          let n = slot_read (one_distance (limit - 1) line e) m.rest b.0 (ap (distance_at (limit - 1)) (sym m.after) ∙ b.1) in
-          let same = ok_same b.2 in
-          let below : b.0.0 < 2 ^ bits = rw (← w) (let l = n.is.1 in omega arith) in
-          some_words m.piece n.piece n.rest (m.tokens ∙ ap (λ (qs : List Piece). m.piece ∷ qs) n.tokens) (b.0.0, n.is.0, inl (m.is, below, sym (ap (λ (y : ℤ × ReaderState). y.0) same)))
-          (sym (ap (λ (y : ℤ × ReaderState). y.1) same) ∙ n.after)
-      | inr j ↦
-          elim (chosen (is_next 45 (st line e ps)) _ _ _ j.1) [
-            | inl k ↦
-                let m = next_is 45 line e ps k.0 in
-                let b = bind_ok (distance_at limit (past (st line e ps))) back_words x k.1 in
-                let n = slot_read (one_distance limit line e) m.rest b.0 (ap (distance_at limit) (sym m.after) ∙ b.1) in
-                let same = ok_same b.2 in
-                let most : b.0.0 ≤ 2 ^ bits = rw (← w) n.is.1 in
-                some_words m.piece n.piece n.rest (m.tokens ∙ ap (λ (qs : List Piece). m.piece ∷ qs) n.tokens) (b.0.0, n.is.0, inr (m.is, most, sym (ap (λ (y : ℤ × ReaderState). y.0) same)))
-                (sym (ap (λ (y : ℤ × ReaderState). y.1) same) ∙ n.after)
-            | inr k ↦
-                let same = ok_same k.1 in
-                no_words (sym (ap (λ (y : ℤ × ReaderState). y.0) same)) (sym (ap (λ (y : ℤ × ReaderState). y.1) same))
-          ]
-    ]
-
-minus_no_plus : (o : TokenValue) → o ≡ a_mark 45 → is_mark_of 43 (Some o) ≡ false
-minus_no_plus o h = ap (λ (m : TokenValue). is_mark_of 43 (Some m)) h
-
-words_again : (bits limit line e : ℕ) (m p : Piece) (words : ℤ) → limit ≡ 2 ^ bits → IsDistance bits words m p → words_at limit (st line e (m ∷ p ∷ [])) ≡ Ok (words, st line e [])
-unfolding words_at
-words_again bits limit line e m p words w h = by_mark h.2
+words_both line e limit made =
+    or_walk 43 false no_name line e (ended (words_at limit) made) (ended (distance_at (limit - 1)) (λ n. made (pos n))) no_plus (OneEnd (IsFourfold (limit - 1)) (λ n. made (pos n))) (BackEnd limit made) refl (inr refl) plus otherwise refl
+    (one_end (one_distance (limit - 1) line e) (λ n. made (pos n))) back.0 no_plus_first back.1
   where
-    by_mark : (IsMark 43 m × (h.0 < 2 ^ bits) × (words ≡ pos h.0)) ⊎ (IsMark 45 m × (h.0 ≤ 2 ^ bits) × (words ≡ neg_ℤ (pos h.0))) → words_at limit (st line e (m ∷ p ∷ [])) ≡ Ok (words, st line e [])
-    by_mark (inl k) =
-        let l : h.0 < limit = rw w k.1 in
-        take_then (is_next 43 (st line e (m ∷ p ∷ []))) _ _ (next_again 43 line e m (p ∷ []) k.0)
-        ∙ bind_to (distance_at (limit - 1) (st line e (p ∷ []))) forward_words (h.0, st line e []) (Ok (words, st line e [])) (slot_again (one_distance (limit - 1) line e) h.0 p [] (h.1, omega arith))
-        (ap (λ (z : ℤ). let y : Read ℤ = Ok (z, st line e []) in y) (sym k.2))
-    by_mark (inr k) =
-        let l : h.0 ≤ limit = rw w k.1 in
-        take_else (is_next 43 (st line e (m ∷ p ∷ []))) _ _ (minus_no_plus m.says k.0)
-        ∙ take_then (is_next 45 (st line e (m ∷ p ∷ []))) _ _ (next_again 45 line e m (p ∷ []) k.0)
-        ∙ bind_to (distance_at limit (st line e (p ∷ []))) back_words (h.0, st line e []) (Ok (words, st line e [])) (slot_again (one_distance limit line e) h.0 p [] (h.1, l))
-        (ap (λ (z : ℤ). let y : Read ℤ = Ok (z, st line e []) in y) (sym k.2))
+    no_plus : ReaderState → Result Body ParseFault
+    no_plus s = (if is_next_mark 45 s then (distance_at limit (past s) >>= λ (d : ℕ × ReaderState). let y : Read ℤ = Ok (neg_ℤ (pos d.0), d.1) in y) else Ok (pos 0, s)) >>= λ (x : ℤ × ReaderState). end_with (made x.0) x.1
+
+    plus : (p : Piece) (ps : List Piece) → is_mark_of 43 (Some p.says) ≡ true → ended (words_at limit) made (st line e (p ∷ ps)) ≡ ended (distance_at (limit - 1)) (λ n. made (pos n)) (st line e ps)
+    plus p ps t =
+        ap (λ (r : Read ℤ). r >>= λ (x : ℤ × ReaderState). end_with (made x.0) x.1) (take_then (is_mark_of 43 (Some p.says)) _ _ t)
+        ∙ mapped ℕ Body ℤ (distance_at (limit - 1) (st line e ps)) (λ d. pos d) (λ x. end_with (made x))
+
+    otherwise : (p : Piece) (ps : List Piece) → is_mark_of 43 (Some p.says) ≡ false → ended (words_at limit) made (st line e (p ∷ ps)) ≡ no_plus (st line e (p ∷ ps))
+    otherwise p ps t = ap (λ (r : Read ℤ). r >>= λ (x : ℤ × ReaderState). end_with (made x.0) x.1) (take_else (is_mark_of 43 (Some p.says)) _ _ t)
+
+    minus : (p : Piece) (ps : List Piece) → is_mark_of 45 (Some p.says) ≡ true → no_plus (st line e (p ∷ ps)) ≡ ended (distance_at limit) (λ n. made (neg_ℤ (pos n))) (st line e ps)
+    minus p ps t =
+        ap (λ (r : Read ℤ). r >>= λ (x : ℤ × ReaderState). end_with (made x.0) x.1) (take_then (is_mark_of 45 (Some p.says)) _ _ t)
+        ∙ mapped ℕ Body ℤ (distance_at limit (st line e ps)) (λ d. neg_ℤ (pos d)) (λ x. end_with (made x))
+
+    neither : (p : Piece) (ps : List Piece) → is_mark_of 45 (Some p.says) ≡ false → no_plus (st line e (p ∷ ps)) ≡ end_with (made (pos 0)) (st line e (p ∷ ps))
+    neither p ps t = ap (λ (r : Read ℤ). r >>= λ (x : ℤ × ReaderState). end_with (made x.0) x.1) (take_else (is_mark_of 45 (Some p.says)) _ _ t)
+
+    none_left : (p : Piece) (ps : List Piece) (b : Body) → (p ∷ ps ≡ []) × (made (pos 0) ≡ b) → is_mark_of 45 (Some p.says) ≡ false
+    none_left p ps b w = let h = w.0 in absurd cc
+
+    no_plus_first : (p : Piece) (ps : List Piece) (b : Body) → BackEnd limit made (p ∷ ps) b → is_mark_of 43 (Some p.says) ≡ false
+    no_plus_first p ps b (inl w) = marked_other 43 45 p ps w.0 w.1 w.2 w.3 refl
+    no_plus_first p ps b (inr w) = let h = w.0 in absurd cc
+
+    back : ((ps : List Piece) (b : Body) → (no_plus (st line e ps) ≡ Ok b) ↔ BackEnd limit made ps b) × ((few : ℕ) → Node few false no_name line e (λ ps. fault_in (no_plus (st line e ps))))
+    back =
+        or_walk 45 false no_name line e no_plus (ended (distance_at limit) (λ n. made (neg_ℤ (pos n)))) (end_with (made (pos 0))) (OneEnd (IsFourfold limit) (λ n. made (neg_ℤ (pos n)))) (λ ps b. (ps ≡ []) × (made (pos 0) ≡ b)) refl (inr refl) minus neither refl
+        (one_end (one_distance limit line e) (λ n. made (neg_ℤ (pos n)))) (end_walk line e (made (pos 0))).0 none_left (λ few. ends_node few Body line e (made (pos 0)))
+
+-- a place
+
+some_words : (bits : ℕ) → 0 < 2 ^ bits
+some_words bits = subst (λ (n : ℕ). 0 < n) (suc_ones bits) (omega arith)
+
+two_tokens : (ps : List Piece) (m p : Piece) (qs rest : List Piece) → ps ≡ m ∷ qs → qs ≡ p ∷ rest → rest ≡ [] → ps ≡ m ∷ p ∷ []
+two_tokens ps m p qs rest t u v = t ∙ ap (λ (xs : List Piece). m ∷ xs) (u ∙ ap (λ (xs : List Piece). p ∷ xs) v)
+
+place_met : (bits : ℕ) (made : ℤ → Body) (h : Piece) (ps : List Piece) (b : Body) → IsNamed (codes ".") h → WordsEnd (2 ^ bits) made ps b → Last ℤ (λ qs n. IsPlace bits (h ∷ qs) n) made ps b
+place_met bits made h ps b i (inl w) =
+    let t = w.4 in
+    let l = t.is.1 in
+    let s = some_words bits in
+    let below : t.value < 2 ^ bits = omega (arith, l, s) in
+    (pos t.value, subst (λ (qs : List Piece). IsPlace bits (h ∷ qs) (pos t.value)) (sym (two_tokens ps w.0 t.piece w.1 t.rest w.2 t.tokens t.next.0)) (i, (t.value, t.is.0, inl (w.3, below, refl))), t.next.1)
+place_met bits made h ps b i (inr (inl w)) =
+    let t = w.4 in
+    (neg_ℤ (pos t.value), subst (λ (qs : List Piece). IsPlace bits (h ∷ qs) (neg_ℤ (pos t.value))) (sym (two_tokens ps w.0 t.piece w.1 t.rest w.2 t.tokens t.next.0)) (i, (t.value, t.is.0, inr (w.3, t.is.1, refl))), t.next.1)
+place_met bits made h ps b i (inr (inr w)) = (pos 0, subst (λ (qs : List Piece). IsPlace bits (h ∷ qs) (pos 0)) (sym w.0) (i, refl), w.1)
+
+met_place : (bits : ℕ) (made : ℤ → Body) (h : Piece) (ps : List Piece) (b : Body) (n : ℤ) → IsPlace bits (h ∷ ps) n → made n ≡ b → WordsEnd (2 ^ bits) made ps b
+met_place bits made h [] b n w k = inr (inr (refl, ap made (sym w.1) ∙ k))
+met_place bits made h (m ∷ []) b n w k = absurd w
+met_place bits made h (m ∷ p ∷ []) b n w k = let d = w.1 in elim d.2 [
+  | inl x ↦ let l = x.1 in inl (m, p ∷ [], refl, x.0, record { value = d.0; piece = p; rest = []; tokens = refl; is = (d.1, omega (arith, l)); next = (refl, ap made (sym x.2) ∙ k) })
+  | inr x ↦ inr (inl (m, p ∷ [], refl, x.0, record { value = d.0; piece = p; rest = []; tokens = refl; is = (d.1, x.1); next = (refl, ap made (sym x.2) ∙ k) }))
+]
+met_place bits made h (m ∷ p ∷ q ∷ ps) b n w k = absurd w
 
 -- where a branch goes
 
 abbrev pub IsGoalOf : Kind → ℕ → List Piece → Goal → Type 0
 IsGoalOf kind bits ps x = IsGoal kind bits ps x.words x.fixup
 
-abbrev place_goal : ℤ × ReaderState → Read Goal
-place_goal n = Ok (record { words = n.0; fixup = None }, n.1)
+abbrev place_goal : ℤ → Goal
+place_goal n = record { words = n; fixup = None }
 
-abbrev symbol_goal : Fixup × ReaderState → Read Goal
-symbol_goal f = Ok (record { words = pos 0; fixup = Some f.0 }, f.1)
+abbrev symbol_goal : Fixup → Goal
+symbol_goal f = record { words = pos 0; fixup = Some f }
 
 here_says : (o : TokenValue) → is_here_on (Some o) ≡ true → o ≡ a_name (codes ".")
 here_says (a_name text) h = ap a_name ((bytes_eq-Decides text (codes ".")).0 h)
 here_says (a_number n) h = absurd cc
 here_says (a_text bytes) h = absurd cc
 here_says (a_mark m) h = absurd cc
-
-place_read : (kind : Kind) (bits line e : ℕ) (h : Piece) (ps : List Piece) (n : ℤ × ReaderState) (x : Goal × ReaderState) → IsNamed (codes ".") h → Words bits line e ps n → place_goal n ≡ Ok x → Several Goal (IsGoalOf kind bits) line e (h ∷ ps) x
-place_read kind bits line e h ps n x k (no_words z a) g =
-    several Goal (IsGoalOf kind bits) line e (h ∷ ps) (h ∷ []) ps (record { words = n.0; fixup = None }) x refl (a_place (k, z))
-    (ap (λ (u : ReaderState). let y : Goal × ReaderState = (record { words = n.0; fixup = None }, u) in y) (sym a) ∙ ok_same g)
-place_read kind bits line e h ps n x k (some_words m p rest t d a) g =
-    several Goal (IsGoalOf kind bits) line e (h ∷ ps) (h ∷ m ∷ p ∷ []) rest (record { words = n.0; fixup = None }) x (ap (λ (qs : List Piece). h ∷ qs) t) (a_place (k, d))
-    (ap (λ (u : ReaderState). let y : Goal × ReaderState = (record { words = n.0; fixup = None }, u) in y) (sym a) ∙ ok_same g)
-
-goal_symbol : (kind : Kind) (bits line e : ℕ) (ps : List Piece) (x : Goal × ReaderState) → (fixup_at kind (st line e ps) >>= symbol_goal) ≡ Ok x → Several Goal (IsGoalOf kind bits) line e ps x
-goal_symbol kind bits line e ps x h =
-    several_as Fixup Goal (IsFixup kind) (IsGoalOf kind bits) (λ f. record { words = pos 0; fixup = Some f }) line e ps (fixup_at kind (st line e ps)) x (fixup_read kind line e ps) (λ front f w. a_symbol w) h
-
-pub goal_read : (kind : Kind) (bits limit line e : ℕ) (ps : List Piece) (x : Goal × ReaderState) → limit ≡ 2 ^ bits → 0 < limit → goal_at kind limit (st line e ps) ≡ Ok x → Several Goal (IsGoalOf kind bits) line e ps x
-unfolding goal_at
-goal_read kind bits limit line e [] x w some h = goal_symbol kind bits line e [] x h
-goal_read kind bits limit line e (p ∷ ps) x w some h =
-    elim (chosen (is_here_on (Some p.says)) _ _ _ h) [
-      | inl j ↦
-          let b = bind_ok (words_at limit (st line e ps)) place_goal x j.1 in
-          place_read kind bits line e p ps b.0 x (here_says p.says j.0) (words_read bits limit line e ps b.0 w some b.1) b.2
-      | inr j ↦ goal_symbol kind bits line e (p ∷ ps) x j.1
-    ]
-
-no_words_again : (limit line e : ℕ) → words_at limit (st line e []) ≡ Ok (pos 0, st line e [])
-unfolding words_at
-no_words_again limit line e = refl
-
-made_goal : (line e : ℕ) (a b : ℤ) → a ≡ b → ◌≡◌ {A = Read Goal} (Ok (record { words = a; fixup = None }, st line e [])) (Ok (record { words = b; fixup = None }, st line e []))
-made_goal line e a b h = ap (λ (z : ℤ). let y : Read Goal = Ok (record { words = z; fixup = None }, st line e []) in y) h
-
-place_again : (kind : Kind) (bits limit line e : ℕ) (ps : List Piece) (words : ℤ) → limit ≡ 2 ^ bits → IsPlace bits ps words → goal_at kind limit (st line e ps) ≡ Ok (record { words = words; fixup = None }, st line e [])
-unfolding goal_at
-place_again kind bits limit line e [] words w h = absurd h
-place_again kind bits limit line e (p ∷ []) words w h =
-    take_then (is_here_on (Some p.says)) _ _ (ap (λ (m : TokenValue). is_here_on (Some m)) h.0)
-    ∙ bind_to (words_at limit (st line e [])) place_goal (pos 0, st line e []) (Ok (record { words = words; fixup = None }, st line e [])) (no_words_again limit line e) (made_goal line e (pos 0) words (sym h.1))
-place_again kind bits limit line e (p ∷ m ∷ []) words w h = absurd h
-place_again kind bits limit line e (p ∷ m ∷ q ∷ []) words w h =
-    take_then (is_here_on (Some p.says)) _ _ (ap (λ (m : TokenValue). is_here_on (Some m)) h.0)
-    ∙ bind_to (words_at limit (st line e (m ∷ q ∷ []))) place_goal (words, st line e []) (Ok (record { words = words; fixup = None }, st line e [])) (words_again bits limit line e m q words w h.1) refl
-place_again kind bits limit line e (p ∷ m ∷ q ∷ r ∷ ps) words w h = absurd h
 
 not_here : (line e : ℕ) (kind : Kind) (ps : List Piece) (f : Fixup) → IsFixup kind ps f → is_here_on (first (st line e ps)) ≡ false
 not_here line e kind [] f h = absurd h
@@ -185,10 +171,79 @@ not_here line e kind (s ∷ m ∷ []) f h = absurd h
 not_here line e kind (s ∷ m ∷ p ∷ []) f h = ap (λ (m : TokenValue). is_here_on (Some m)) h.0.1.0 ∙ other_bytes f.symbol (codes ".") h.0.1.1.no_place
 not_here line e kind (s ∷ m ∷ p ∷ q ∷ ps) f h = absurd h
 
-pub goal_again : (kind : Kind) (bits limit line e : ℕ) (ps : List Piece) (words : ℤ) (fixup : Option Fixup) → limit ≡ 2 ^ bits → IsGoal kind bits ps words fixup → goal_at kind limit (st line e ps) ≡ Ok (record { words = words; fixup = fixup }, st line e [])
+symbol_walk : (kind : Kind) (line e : ℕ) (made : Fixup → Body) → Walk line e (ended (fixup_at kind) made) (Last Fixup (IsFixup kind) made)
+symbol_walk kind line e made =
+    last_walk Fixup (IsFixup kind) made line e (fixup_at kind) (fixup_read kind line e) (λ ps f w. ap (λ (qs : List Piece). fixup_at kind (st line e qs)) (sym (append-nil ps)) ∙ fixup_again kind line e ps [] f w tt)
+    (λ few. good few false symbols line e (reader_of line e (fixup_at kind) (λ f. end_with (made f))) (fixup_node few Body kind line e (λ f. end_with (made f)) (λ f. ends_node few Body line e (made f))))
+
+pub goal_walk : (kind : Kind) (bits line e : ℕ) (made : Goal → Body) → Walk line e (ended (goal_at kind (2 ^ bits)) made) (Last Goal (IsGoalOf kind bits) made)
 unfolding goal_at
-goal_again kind bits limit line e ps words fixup w (a_place h) = place_again kind bits limit line e ps words w h
-goal_again kind bits limit line e ps words fixup w (a_symbol {f = f} h) =
-    take_else (is_here_on (first (st line e ps))) _ _ (not_here line e kind ps f h)
-    ∙ bind_to (fixup_at kind (st line e ps)) symbol_goal (f, st line e []) (Ok (record { words = pos 0; fixup = Some f }, st line e []))
-    (ap (λ (qs : List Piece). fixup_at kind (st line e qs)) (sym (append-nil ps)) ∙ fixup_again kind line e ps [] f h tt) refl
+goal_walk kind bits line e made = (λ ps b. (reads ps b, λ w. meets ps b w.0.words w.0.fixup w.1 w.2), λ few. good few false symbols line e (λ ps. fault_in (all (st line e ps))) (node few))
+  where
+    all : ReaderState → Result Body ParseFault
+    all s = ended (goal_at kind (2 ^ bits)) made s
+
+    places : ReaderState → Result Body ParseFault
+    places s = ended (words_at (2 ^ bits)) (λ n. made (place_goal n)) s
+
+    fixups : ReaderState → Result Body ParseFault
+    fixups s = ended (fixup_at kind) (λ f. made (symbol_goal f)) s
+
+    by_place : (p : Piece) (ps : List Piece) → is_here_on (Some p.says) ≡ true → all (st line e (p ∷ ps)) ≡ places (st line e ps)
+    by_place p ps t =
+        ap (λ (r : Read Goal). r >>= λ (x : Goal × ReaderState). end_with (made x.0) x.1) (take_then (is_here_on (Some p.says)) _ _ t)
+        ∙ mapped ℤ Body Goal (words_at (2 ^ bits) (st line e ps)) place_goal (λ x. end_with (made x))
+
+    by_fixup : (ps : List Piece) → is_here_on (first (st line e ps)) ≡ false → all (st line e ps) ≡ fixups (st line e ps)
+    by_fixup ps t =
+        ap (λ (r : Read Goal). r >>= λ (x : Goal × ReaderState). end_with (made x.0) x.1) (take_else (is_here_on (first (st line e ps))) _ _ t)
+        ∙ mapped Fixup Body Goal (fixup_at kind (st line e ps)) symbol_goal (λ x. end_with (made x))
+
+    is_symbol_here : (ps : List Piece) (b : Body) → fixups (st line e ps) ≡ Ok b → Last Goal (IsGoalOf kind bits) made ps b
+    is_symbol_here ps b x = let k = ((symbol_walk kind line e (λ f. made (symbol_goal f))).0 ps b).0 x in (symbol_goal k.0, a_symbol k.1, k.2)
+
+    reads : (ps : List Piece) (b : Body) → all (st line e ps) ≡ Ok b → Last Goal (IsGoalOf kind bits) made ps b
+    reads [] b x = is_symbol_here [] b (sym (by_fixup [] refl) ∙ x)
+    reads (p ∷ ps) b x = elim (tested (is_here_on (Some p.says))) [
+      | inl t ↦
+          let k = place_met bits (λ n. made (place_goal n)) p ps b (here_says p.says t) (((words_both line e (2 ^ bits) (λ n. made (place_goal n))).0 ps b).0 (sym (by_place p ps t) ∙ x)) in
+          (place_goal k.0, a_place k.1, k.2)
+      | inr t ↦ is_symbol_here (p ∷ ps) b (sym (by_fixup (p ∷ ps) t) ∙ x)
+    ]
+
+    named_here : (p : Piece) (ps : List Piece) (n : ℤ) → IsPlace bits (p ∷ ps) n → is_here_on (Some p.says) ≡ true
+    named_here p [] n h = ap (λ (m : TokenValue). is_here_on (Some m)) h.0
+    named_here p (m ∷ []) n h = absurd h
+    named_here p (m ∷ q ∷ []) n h = ap (λ (o : TokenValue). is_here_on (Some o)) h.0
+    named_here p (m ∷ q ∷ r ∷ ps) n h = absurd h
+
+    place_again : (ps : List Piece) (b : Body) (n : ℤ) → IsPlace bits ps n → made (place_goal n) ≡ b → all (st line e ps) ≡ Ok b
+    place_again [] b n h k = absurd h
+    place_again (p ∷ ps) b n h k =
+        by_place p ps (named_here p ps n h) ∙ ((words_both line e (2 ^ bits) (λ z. made (place_goal z))).0 ps b).1 (met_place bits (λ z. made (place_goal z)) p ps b n h k)
+
+    meets : (ps : List Piece) (b : Body) (words : ℤ) (fixup : Option Fixup) → IsGoal kind bits ps words fixup → made (record { words = words; fixup = fixup }) ≡ b → all (st line e ps) ≡ Ok b
+    meets ps b words fixup (a_place h) k = place_again ps b words h k
+    meets ps b words fixup (a_symbol {f = f} h) k = by_fixup ps (not_here line e kind ps f h) ∙ ((symbol_walk kind line e (λ g. made (symbol_goal g))).0 ps b).1 (f, h, k)
+
+    node : (few : ℕ) → Node few false symbols line e (λ ps. fault_in (all (st line e ps)))
+    node few = record {
+      wants = record {
+        numbers = λ p v h ps x. sym_node.wants.numbers p v h ps (sym (same (p ∷ ps) (ap (λ (m : TokenValue). is_here_on (Some m)) h)) ∙ x);
+        names = λ p name h. let y = sym_node.wants.names p name h in (y.0, same (p ∷ y.0) (ap (λ (m : TokenValue). is_here_on (Some m)) h.0 ∙ other_bytes name (codes ".") h.1.no_place) ∙ y.1);
+        opening = λ o h ps x. sym_node.wants.opening o h ps (sym (same (o ∷ ps) (ap (λ (m : TokenValue). is_here_on (Some m)) h)) ∙ x);
+      };
+      goes = let y = sym_node.wants.names any (codes "x") any_is_symbol in (any ∷ y.0, same (any ∷ y.0) (ap (λ (m : TokenValue). is_here_on (Some m)) any_is_symbol.0) ∙ y.1);
+      stop = elim (sym_node.stop) [ inl s ↦ inl (same [] refl ∙ s) | inr s ↦ inr (same [] refl ∙ s) ];
+      each = λ p. elim (tested (is_here_on (Some p.says))) [
+        | inl t ↦ inl (leads few false line e (λ ps. fault_in (all (st line e ps))) (λ ps. fault_in (places (st line e ps))) p (good few false no_name line e (λ ps. fault_in (places (st line e ps))) ((words_both line e (2 ^ bits) (λ n. made (place_goal n))).1 few))
+            (λ ps. ap (λ (r : Result Body ParseFault). fault_in r) (by_place p ps t)) (inr refl))
+        | inr t ↦ each_as few false symbols symbols line e (λ ps. fault_in (all (st line e ps))) (λ ps. fault_in (fixups (st line e ps))) p (λ ps. same (p ∷ ps) t) refl (sym_node.each p)
+      ];
+    }
+      where
+        sym_node : Node few false symbols line e (λ ps. fault_in (fixups (st line e ps)))
+        sym_node = fixup_node few Body kind line e (λ f. end_with (made (symbol_goal f))) (λ f. ends_node few Body line e (made (symbol_goal f)))
+
+        same : (ps : List Piece) → is_here_on (first (st line e ps)) ≡ false → fault_in (all (st line e ps)) ≡ fault_in (fixups (st line e ps))
+        same ps t = ap (λ (r : Result Body ParseFault). fault_in r) (by_fixup ps t)

@@ -1,256 +1,305 @@
--- The law of what stands behind a base register, of bit fields, and of where branches go.
-use Rattle.std.proofs.Common.{◌≡◌, ℕ, ◌<◌, Bool, true, false, inl, inr, List, [], ◌∷◌, ◌++◌, Option, Some, None, Ok, refl, sym, ap, ◌∙◌, arith}
+-- The law of what stands behind a base register and of bit fields, each walked once.
+use Rattle.std.proofs.Common.{◌≡◌, ◌↔◌, ℕ, ◌<◌, Bool, true, false, if◌then◌else◌, ◌⊎◌, inl, inr, List, [], ◌∷◌, Some, Result, Ok, refl, sym, ap, ◌∙◌, subst, arith}
 use Rattle.m88_base.specs.declared.reg.Reg.{Reg}
+use Rattle.m88_parse.specs.declared.fault.ParseFault.{ParseFault}
+use Rattle.m88_parse.specs.declared.unit.Body.{Body}
 use Rattle.m88_parse.specs.declared.operand.Operand.{Operand}
 use Rattle.m88_parse.specs.declared.operand.Index.{Index}
 use Rattle.m88_parse.specs.declared.operand.Index.TheVariants as index
 use Rattle.m88_parse.specs.declared.operand.Field.{Field}
 use Rattle.m88_parse.specs.declared.operand.Field.TheVariants as field
 use Rattle.m88_parse.specs.Language.Pieces.{TokenValue, a_name, a_number, a_text, a_mark, Piece}
-use Rattle.m88_parse.specs.Reader.State.{ReaderState, first, is_mark_of, is_next, ◌>>=◌}
+use Rattle.m88_parse.specs.Language.Names.{IsMark, IsNumber, IsRegister}
+use Rattle.m88_parse.specs.Language.Operands.{IsScaled, IsLast, IsLiteral}
+use Rattle.m88_parse.specs.Reader.Names.{register_of}
+use Rattle.m88_parse.specs.Reader.State.{ReaderState, is_mark_of, is_next_mark, ◌>>=◌}
 use Rattle.m88_parse.specs.Reader.Slots.{Read, mark_at, unsigned_at, register_at}
 use Rattle.m88_parse.specs.Reader.Operands.{operand_at, scaled_at, indexed_at, index_at, user_index_at, width_at, literal_at, field_on, field_at}
-use Rattle.m88_parse.specs.Language.Names.{IsMark, IsComma, IsNumber, IsRegister}
-use Rattle.m88_parse.specs.Language.Operands.{IsScaled, IsLast, IsLiteral}
-use Rattle.m88_parse.proofs.Law.Steps.{chosen, take_then, take_else}
-use Rattle.m88_parse.proofs.Law.Slots.{st, ok_same, bind_ok, bind_to, next_again, mark_read, mark_again, one_number, one_register, slot_again, slot_read}
-use Rattle.m88_parse.proofs.Law.Operands.{IsOperandOf, operand_read, operand_again}
-use Rattle.m88_parse.proofs.Law.Values.{Several, several, several_as}
+use Rattle.m88_parse.specs.Reader.Grammar.{end_with}
+use Rattle.m88_parse.proofs.Law.Steps.{take_then, take_else}
+use Rattle.m88_parse.proofs.Law.Slots.{st, no_name, own_names, IsUpTo, one_register, one_number}
+use Rattle.m88_parse.proofs.Law.Operands.{IsOperandOf, operand_walk}
+use Rattle.m88_parse.proofs.Law.Walks.{Then, AfterMark, AfterComma, Last, Walk, end_good, mark_walk, slot_walk, ended, one_end, closed_end, ClosedEnd, closed_walk, walk_as, marked_other, or_walk}
+use Rattle.m88_parse.proofs.Law.LineFaults.Readers.{fault_in}
+use Rattle.m88_parse.proofs.Law.LineFaults.Nodes.{Node, good}
+use Rattle.m88_parse.proofs.Law.LineFaults.Slots.{one_token, mark_node, token_each, turns}
+use Rattle.m88_parse.proofs.Law.LineFaults.Values.{mapped, NoName, number_is, text_is, mark_is, or_name}
+
+-- a register alone
+
+register_walk : (line e : ℕ) (made : Reg → Body) → Walk line e (ended register_at made) (Last Reg (λ ps r. IsLast r ps) made)
+register_walk line e made =
+    walk_as line e (ended register_at made) (ended register_at made) (Last Reg (λ ps r. IsLast r ps) made) (λ ps b. Then Reg IsRegister (λ r qs. (qs ≡ []) × (made r ≡ b)) ps) (λ ps. refl) (λ ps b. (to ps b, λ w. from ps b w.0 w.1 w.2))
+    (one_end (one_register line e) made)
+  where
+    to : (ps : List Piece) (b : Body) → Then Reg IsRegister (λ r qs. (qs ≡ []) × (made r ≡ b)) ps → Last Reg (λ qs r. IsLast r qs) made ps b
+    to ps b w = (w.value, subst (IsLast w.value) (sym (w.tokens ∙ ap (λ (qs : List Piece). w.piece ∷ qs) w.next.0)) w.is, w.next.1)
+
+    from : (ps : List Piece) (b : Body) (r : Reg) → IsLast r ps → made r ≡ b → Then Reg IsRegister (λ x qs. (qs ≡ []) × (made x ≡ b)) ps
+    from [] b r h k = absurd h
+    from (p ∷ []) b r h k = record { value = r; piece = p; rest = []; tokens = refl; is = h; next = (refl, k) }
+    from (p ∷ q ∷ ps) b r h k = absurd h
 
 -- [rS2]
 
-close_scaled : Reg × ReaderState → Read Reg
-close_scaled r = mark_at 93 r.1 >>= λ closed. Ok (r.0, closed)
+abbrev ScaledEnd : (Reg → Body) → List Piece → Body → Type 0
+ScaledEnd made ps b = AfterMark 91 (λ qs. ClosedEnd Reg IsRegister 93 made qs b) ps
 
-pub scaled_read : (line e : ℕ) (ps : List Piece) (x : Reg × ReaderState) → scaled_at (st line e ps) ≡ Ok x → Several Reg (λ qs r. IsScaled r qs) line e ps x
-unfolding scaled_at close_scaled
-scaled_read line e ps x h =
-    let b = bind_ok (mark_at 91 (st line e ps)) (λ (opened : ReaderState). register_at opened >>= close_scaled) x h in
-    let o = mark_read 91 line e ps b.0 b.1 in
-    let c = bind_ok (register_at b.0) close_scaled x b.2 in
-    let r = slot_read (one_register line e) o.rest c.0 (ap register_at (sym o.after) ∙ c.1) in
-    let d = bind_ok (mark_at 93 c.0.1) (λ (closed : ReaderState). Ok (c.0.0, closed)) x c.2 in
-    let m = mark_read 93 line e r.rest d.0 (ap (mark_at 93) (sym r.after) ∙ d.1) in
-    let t : ps ≡ (o.piece ∷ r.piece ∷ m.piece ∷ []) ++ m.rest = o.tokens ∙ ap (λ (qs : List Piece). o.piece ∷ qs) (r.tokens ∙ ap (λ (qs : List Piece). r.piece ∷ qs) m.tokens) in
-    several Reg (λ qs r. IsScaled r qs) line e ps (o.piece ∷ r.piece ∷ m.piece ∷ []) m.rest c.0.0 x t (o.is, r.is, m.is)
-    (ap (λ (u : ReaderState). let y : Reg × ReaderState = (c.0.0, u) in y) (sym m.after) ∙ ok_same d.2)
+scaled_met : (made : Reg → Body) (ps : List Piece) (b : Body) → ScaledEnd made ps b → Last Reg (λ qs r. IsScaled r qs) made ps b
+scaled_met made ps b w =
+    let t = w.4 in
+    let c = t.next in
+    let same : ps ≡ w.0 ∷ t.piece ∷ c.0 ∷ [] = w.2 ∙ ap (λ (qs : List Piece). w.0 ∷ qs) (t.tokens ∙ ap (λ (qs : List Piece). t.piece ∷ qs) (c.2 ∙ ap (λ (qs : List Piece). c.0 ∷ qs) c.4.0)) in
+    (t.value, subst (IsScaled t.value) (sym same) (w.3, t.is, c.3), c.4.1)
 
-pub scaled_again : (line e : ℕ) (r : Reg) (ps : List Piece) → IsScaled r ps → scaled_at (st line e ps) ≡ Ok (r, st line e [])
-unfolding scaled_at close_scaled
-scaled_again line e r [] h = absurd h
-scaled_again line e r (o ∷ []) h = absurd h
-scaled_again line e r (o ∷ p ∷ []) h = absurd h
-scaled_again line e r (o ∷ p ∷ c ∷ []) h =
-    let z : Read Reg = Ok (r, st line e []) in
-    bind_to (mark_at 91 (st line e (o ∷ p ∷ c ∷ []))) (λ (opened : ReaderState). register_at opened >>= close_scaled) (st line e (p ∷ c ∷ [])) z (mark_again 91 line e o (p ∷ c ∷ []) h.0)
-    (bind_to (register_at (st line e (p ∷ c ∷ []))) close_scaled (r, st line e (c ∷ [])) z (slot_again (one_register line e) r p (c ∷ []) h.1)
-    (bind_to (mark_at 93 (st line e (c ∷ []))) (λ (closed : ReaderState). Ok (r, closed)) (st line e []) z (mark_again 93 line e c [] h.2) refl))
-scaled_again line e r (o ∷ p ∷ c ∷ q ∷ ps) h = absurd h
+met_scaled : (made : Reg → Body) (ps : List Piece) (b : Body) (r : Reg) → IsScaled r ps → made r ≡ b → ScaledEnd made ps b
+met_scaled made [] b r h k = absurd h
+met_scaled made (o ∷ []) b r h k = absurd h
+met_scaled made (o ∷ p ∷ []) b r h k = absurd h
+met_scaled made (o ∷ p ∷ c ∷ []) b r h k = (o, p ∷ c ∷ [], refl, h.0, record { value = r; piece = p; rest = c ∷ []; tokens = refl; is = h.1; next = (c, [], refl, h.2, (refl, k)) })
+met_scaled made (o ∷ p ∷ c ∷ q ∷ ps) b r h k = absurd h
 
-scaled_opens : (line e : ℕ) (r : Reg) (ps : List Piece) → IsScaled r ps → is_next 91 (st line e ps) ≡ true
-scaled_opens line e r [] h = absurd h
-scaled_opens line e r (o ∷ []) h = absurd h
-scaled_opens line e r (o ∷ p ∷ []) h = absurd h
-scaled_opens line e r (o ∷ p ∷ c ∷ []) h = next_again 91 line e o (p ∷ c ∷ []) h.0
-scaled_opens line e r (o ∷ p ∷ c ∷ q ∷ ps) h = absurd h
+scaled_steps : (B : Type 0) (s : ReaderState) (k : Reg → ReaderState → Result B ParseFault) → (scaled_at s >>= λ (z : Reg × ReaderState). k z.0 z.1) ≡ (mark_at 91 s >>= λ (opened : ReaderState). register_at opened >>= λ (v : Reg × ReaderState). mark_at 93 v.1 >>= λ (closed : ReaderState). k v.0 closed)
+unfolding scaled_at
+scaled_steps B s k = turns (mark_at 91 s) _ _ _ (λ opened. turns (register_at opened) _ _ _ (λ r. turns (mark_at 93 r.1) _ _ _ (λ closed. refl)))
+
+bracket_walk : (line e : ℕ) (made : Reg → Body) → Walk line e (closed_end register_at 93 made) (ClosedEnd Reg IsRegister 93 made)
+bracket_walk line e made = closed_walk (one_register line e) 93 made refl refl
+
+pub scaled_walk : (line e : ℕ) (made : Reg → Body) → Walk line e (ended scaled_at made) (Last Reg (λ qs r. IsScaled r qs) made)
+scaled_walk line e made =
+    walk_as line e (ended scaled_at made) (λ s. mark_at 91 s >>= closed_end register_at 93 made) (Last Reg (λ qs r. IsScaled r qs) made) (ScaledEnd made) (λ ps. scaled_steps Body (st line e ps) (λ r. end_with (made r)))
+    (λ ps b. (scaled_met made ps b, λ w. met_scaled made ps b w.0 w.1 w.2)) (mark_walk 91 line e (closed_end register_at 93 made) (ClosedEnd Reg IsRegister 93 made) refl refl (bracket_walk line e made))
 
 -- behind the base register: a scaled register, or a comma and more
 
+abbrev PlainEnd : (X : Type 0) → (List Piece → X → Type 0) → (X → Body) → List Piece → Body → Type 0
+PlainEnd X Is made ps b = AfterComma (λ qs. Last X Is made qs b) ps
+
+-- the two ways to say an index
+abbrev Indexed : (X C : Type 0) → (List Piece → X → Type 0) → (Reg → C) → (X → C) → List Piece → C → Type 0
+Indexed X C Is scaled plain ps y = ((r : Reg) × IsScaled r ps × (scaled r ≡ y)) ⊎ ((x : X) × AfterComma (λ qs. Is qs x) ps × (plain x ≡ y))
+
+indexed_walk : (X C : Type 0) (Is : List Piece → X → Type 0) (As : List Piece → C → Type 0) (slot : ReaderState → Read X) (scaled : Reg → C) (plain : X → C) (made : C → Body) (line e : ℕ)
+    → Walk line e (ended slot (λ x. made (plain x))) (Last X Is (λ x. made (plain x))) → ((ps : List Piece) (y : C) → Indexed X C Is scaled plain ps y ↔ As ps y)
+    → Walk line e (ended (indexed_at slot scaled plain) made) (Last C As made)
+indexed_walk X C Is As slot scaled plain made line e go alike =
+    walk_as line e all all (Last C As made) (λ ps b. ScaledEnd (λ r. made (scaled r)) ps b ⊎ PlainEnd X Is (λ x. made (plain x)) ps b) (λ ps. refl) (λ ps b. (to ps b, λ w. from ps b w.0 ((alike ps w.0).1 w.1) w.2))
+    (both.0, λ few. good few false no_name line e (λ ps. fault_in (all (st line e ps))) (both.1 few))
+  where
+    all : ReaderState → Result Body ParseFault
+    all s = ended (indexed_at slot scaled plain) made s
+
+    comma : ReaderState → Result Body ParseFault
+    comma s = mark_at 44 s >>= ended slot (λ x. made (plain x))
+
+    bracket : (p : Piece) (ps : List Piece) → is_mark_of 91 (Some p.says) ≡ true → all (st line e (p ∷ ps)) ≡ closed_end register_at 93 (λ r. made (scaled r)) (st line e ps)
+    bracket p ps t =
+        ap (λ (r : Read C). r >>= λ (z : C × ReaderState). end_with (made z.0) z.1) (take_then (is_mark_of 91 (Some p.says)) _ _ t)
+        ∙ mapped Reg Body C (scaled_at (st line e (p ∷ ps))) scaled (λ z. end_with (made z))
+        ∙ scaled_steps Body (st line e (p ∷ ps)) (λ r. end_with (made (scaled r)))
+        ∙ ap (λ (r : Result ReaderState ParseFault). r >>= closed_end register_at 93 (λ x. made (scaled x))) (take_then (is_mark_of 91 (Some p.says)) _ _ t)
+
+    otherwise : (p : Piece) (ps : List Piece) → is_mark_of 91 (Some p.says) ≡ false → all (st line e (p ∷ ps)) ≡ comma (st line e (p ∷ ps))
+    otherwise p ps t =
+        ap (λ (r : Read C). r >>= λ (z : C × ReaderState). end_with (made z.0) z.1) (take_else (is_mark_of 91 (Some p.says)) _ _ t)
+        ∙ turns (mark_at 44 (st line e (p ∷ ps))) _ _ _ (λ u. mapped X Body C (slot u) plain (λ z. end_with (made z)))
+
+    no_bracket : (p : Piece) (ps : List Piece) (b : Body) → PlainEnd X Is (λ x. made (plain x)) (p ∷ ps) b → is_mark_of 91 (Some p.says) ≡ false
+    no_bracket p ps b w = marked_other 91 44 p ps w.0 w.1 w.2 w.3 refl
+
+    both : ((ps : List Piece) (b : Body) → (all (st line e ps) ≡ Ok b) ↔ (ScaledEnd (λ r. made (scaled r)) ps b ⊎ PlainEnd X Is (λ x. made (plain x)) ps b)) × ((few : ℕ) → Node few false no_name line e (λ ps. fault_in (all (st line e ps))))
+    both =
+        or_walk 91 false no_name line e all (closed_end register_at 93 (λ r. made (scaled r))) comma (ClosedEnd Reg IsRegister 93 (λ r. made (scaled r))) (PlainEnd X Is (λ x. made (plain x))) refl (inr refl) bracket otherwise refl
+        (bracket_walk line e (λ r. made (scaled r)))
+        (mark_walk 44 line e (ended slot (λ x. made (plain x))) (Last X Is (λ x. made (plain x))) refl refl go).0 no_bracket
+        (λ few. mark_node few Body 44 line e (ended slot (λ x. made (plain x))) refl refl (go.1 few))
+
+    to : (ps : List Piece) (b : Body) → ScaledEnd (λ r. made (scaled r)) ps b ⊎ PlainEnd X Is (λ x. made (plain x)) ps b → Last C As made ps b
+    to ps b (inl w) = let k = scaled_met (λ r. made (scaled r)) ps b w in (scaled k.0, (alike ps (scaled k.0)).0 (inl (k.0, k.1, refl)), k.2)
+    to ps b (inr w) = let v = w.4 in (plain v.0, (alike ps (plain v.0)).0 (inr (v.0, (w.0, w.1, w.2, w.3, v.1), refl)), v.2)
+
+    from : (ps : List Piece) (b : Body) (y : C) → Indexed X C Is scaled plain ps y → made y ≡ b → ScaledEnd (λ r. made (scaled r)) ps b ⊎ PlainEnd X Is (λ x. made (plain x)) ps b
+    from ps b y (inl u) k = inl (met_scaled (λ r. made (scaled r)) ps b u.0 u.1 (ap made u.2 ∙ k))
+    from ps b y (inr u) k = let c = u.1 in inr (c.0, c.1, c.2, c.3, (u.0, c.4, ap made u.2 ∙ k))
+
 abbrev pub IsIndexOf : List Piece → Index → Type 0
 IsIndexOf ps (index.Scaled r) = IsScaled r ps
-IsIndexOf ps (index.Offset x) = (c : Piece) × (rest : List Piece) × (ps ≡ c ∷ rest) × IsComma c × IsOperandOf rest x
+IsIndexOf ps (index.Offset x) = AfterComma (λ qs. IsOperandOf qs x) ps
 
-abbrev offset_index : Operand × ReaderState → Read Index
-offset_index x = Ok (index.Offset x.0, x.1)
-
-pub index_read : (line e : ℕ) (ps : List Piece) (x : Index × ReaderState) → index_at (st line e ps) ≡ Ok x → Several Index IsIndexOf line e ps x
+pub index_walk : (line e : ℕ) (made : Index → Body) → Walk line e (ended index_at made) (Last Index IsIndexOf made)
 unfolding index_at
-index_read line e ps x h =
-    elim (chosen (is_next 91 (st line e ps)) _ _ _ h) [
-      | inl j ↦ several_as Reg Index (λ qs r. IsScaled r qs) IsIndexOf (λ r. index.Scaled r) line e ps (scaled_at (st line e ps)) x (scaled_read line e ps) (λ front r w. w) j.1
-      | inr j ↦
-          let b = bind_ok (mark_at 44 (st line e ps)) (λ (t : ReaderState). operand_at t >>= offset_index) x j.1 in
-          let m = mark_read 44 line e ps b.0 b.1 in
-          let c = bind_ok (operand_at b.0) offset_index x b.2 in
-          let w = operand_read line e m.rest c.0 (ap operand_at (sym m.after) ∙ c.1) in
-          several Index IsIndexOf line e ps (m.piece ∷ w.front) w.rest (index.Offset c.0.0) x (m.tokens ∙ ap (λ (qs : List Piece). m.piece ∷ qs) w.tokens) (m.piece, w.front, refl, m.is, w.is)
-          (ap (λ (u : ReaderState). let y : Index × ReaderState = (index.Offset c.0.0, u) in y) (sym w.after) ∙ ok_same c.2)
-    ]
+index_walk line e made =
+    indexed_walk Operand Index IsOperandOf IsIndexOf operand_at (λ r. index.Scaled r) (λ x. index.Offset x) made line e (operand_walk line e (λ x. made (index.Offset x))) (λ ps y. (to ps y, from ps y))
+  where
+    to : (ps : List Piece) (y : Index) → Indexed Operand Index IsOperandOf (λ r. index.Scaled r) (λ x. index.Offset x) ps y → IsIndexOf ps y
+    to ps y (inl u) = subst (IsIndexOf ps) u.2 u.1
+    to ps y (inr u) = subst (IsIndexOf ps) u.2 u.1
 
-indexed_scaled_again : (X C : Type 0) (slot : ReaderState → Read X) (scaled : Reg → C) (plain : X → C) (line e : ℕ) (r : Reg) (ps : List Piece) → IsScaled r ps → indexed_at slot scaled plain (st line e ps) ≡ Ok (scaled r, st line e [])
-indexed_scaled_again X C slot scaled plain line e r ps h =
-    take_then (is_next 91 (st line e ps)) _ _ (scaled_opens line e r ps h)
-    ∙ bind_to (scaled_at (st line e ps)) (λ (x : Reg × ReaderState). let y : Read C = Ok (scaled x.0, x.1) in y) (r, st line e []) (Ok (scaled r, st line e [])) (scaled_again line e r ps h) refl
-
-indexed_plain_again : (X C : Type 0) (slot : ReaderState → Read X) (scaled : Reg → C) (plain : X → C) (line e : ℕ) (ps : List Piece) (c : Piece) (rest : List Piece) (x : X) → ps ≡ c ∷ rest → IsComma c → slot (st line e rest) ≡ Ok (x, st line e [])
-    → indexed_at slot scaled plain (st line e ps) ≡ Ok (plain x, st line e [])
-indexed_plain_again X C slot scaled plain line e ps c rest x t k h =
-    let z : Read C = Ok (plain x, st line e []) in
-    ap (λ (qs : List Piece). indexed_at slot scaled plain (st line e qs)) t
-    ∙ take_else (is_next 91 (st line e (c ∷ rest))) _ _ (ap (λ (m : TokenValue). is_mark_of 91 (Some m)) k)
-    ∙ bind_to (mark_at 44 (st line e (c ∷ rest))) (λ (u : ReaderState). slot u >>= λ (y : X × ReaderState). Ok (plain y.0, y.1)) (st line e rest) z (mark_again 44 line e c rest k)
-    (bind_to (slot (st line e rest)) (λ (y : X × ReaderState). Ok (plain y.0, y.1)) (x, st line e []) z h refl)
-
-pub index_again : (line e : ℕ) (ps : List Piece) (x : Index) → IsIndexOf ps x → index_at (st line e ps) ≡ Ok (x, st line e [])
-unfolding index_at
-index_again line e ps (index.Scaled r) w = indexed_scaled_again Operand Index operand_at (λ r. index.Scaled r) (λ x. index.Offset x) line e r ps w
-index_again line e ps (index.Offset x) w = indexed_plain_again Operand Index operand_at (λ r. index.Scaled r) (λ x. index.Offset x) line e ps w.0 w.1 x w.2 w.3 (operand_again line e w.1 x w.4)
+    from : (ps : List Piece) (y : Index) → IsIndexOf ps y → Indexed Operand Index IsOperandOf (λ r. index.Scaled r) (λ x. index.Offset x) ps y
+    from ps (index.Scaled r) h = inl (r, h, refl)
+    from ps (index.Offset x) h = inr (x, h, refl)
 
 abbrev pub UserIndex : List Piece → Reg → Bool → Type 0
 UserIndex ps r true = IsScaled r ps
-UserIndex ps r false = (c : Piece) × (p : Piece) × (ps ≡ c ∷ p ∷ []) × IsComma c × IsRegister r p
+UserIndex ps r false = AfterComma (IsLast r) ps
 
 abbrev pub IsUserIndexOf : List Piece → Reg × Bool → Type 0
 IsUserIndexOf ps x = UserIndex ps x.0 x.1
 
-abbrev user_plain_index : Reg × ReaderState → Read (Reg × Bool)
-user_plain_index r = Ok ((r.0, false), r.1)
-
-pub user_index_read : (line e : ℕ) (ps : List Piece) (x : (Reg × Bool) × ReaderState) → user_index_at (st line e ps) ≡ Ok x → Several (Reg × Bool) IsUserIndexOf line e ps x
+pub user_index_walk : (line e : ℕ) (made : Reg × Bool → Body) → Walk line e (ended user_index_at made) (Last (Reg × Bool) IsUserIndexOf made)
 unfolding user_index_at
-user_index_read line e ps x h =
-    elim (chosen (is_next 91 (st line e ps)) _ _ _ h) [
-      | inl j ↦ several_as Reg (Reg × Bool) (λ qs r. IsScaled r qs) IsUserIndexOf (λ r. (r, true)) line e ps (scaled_at (st line e ps)) x (scaled_read line e ps) (λ front r w. w) j.1
-      | inr j ↦
-          let b = bind_ok (mark_at 44 (st line e ps)) (λ (t : ReaderState). register_at t >>= user_plain_index) x j.1 in
-          let m = mark_read 44 line e ps b.0 b.1 in
-          let c = bind_ok (register_at b.0) user_plain_index x b.2 in
-          let w = slot_read (one_register line e) m.rest c.0 (ap register_at (sym m.after) ∙ c.1) in
-          several (Reg × Bool) IsUserIndexOf line e ps (m.piece ∷ w.piece ∷ []) w.rest (c.0.0, false) x (m.tokens ∙ ap (λ (qs : List Piece). m.piece ∷ qs) w.tokens) (m.piece, w.piece, refl, m.is, w.is)
-          (ap (λ (u : ReaderState). let y : (Reg × Bool) × ReaderState = ((c.0.0, false), u) in y) (sym w.after) ∙ ok_same c.2)
-    ]
+user_index_walk line e made =
+    indexed_walk Reg (Reg × Bool) (λ qs r. IsLast r qs) IsUserIndexOf register_at (λ r. (r, true)) (λ r. (r, false)) made line e (register_walk line e (λ r. made (r, false))) (λ ps y. (to ps y, from ps y.0 y.1))
+  where
+    to : (ps : List Piece) (y : Reg × Bool) → Indexed Reg (Reg × Bool) (λ qs r. IsLast r qs) (λ r. (r, true)) (λ r. (r, false)) ps y → IsUserIndexOf ps y
+    to ps y (inl u) = subst (IsUserIndexOf ps) u.2 u.1
+    to ps y (inr u) = subst (IsUserIndexOf ps) u.2 u.1
 
-pub user_index_again : (line e : ℕ) (ps : List Piece) (r : Reg) (t : Bool) → IsUserIndexOf ps (r, t) → user_index_at (st line e ps) ≡ Ok ((r, t), st line e [])
-unfolding user_index_at
-user_index_again line e ps r true w = indexed_scaled_again Reg (Reg × Bool) register_at (λ r. (r, true)) (λ r. (r, false)) line e r ps w
-user_index_again line e ps r false w = indexed_plain_again Reg (Reg × Bool) register_at (λ r. (r, true)) (λ r. (r, false)) line e ps w.0 (w.1 ∷ []) r w.2 w.3 (slot_again (one_register line e) r w.1 [] w.4)
+    from : (ps : List Piece) (r : Reg) (t : Bool) → UserIndex ps r t → Indexed Reg (Reg × Bool) (λ qs x. IsLast x qs) (λ x. (x, true)) (λ x. (x, false)) ps (r, t)
+    from ps r true h = inl (r, h, refl)
+    from ps r false h = inr (r, h, refl)
 
--- bit fields
+-- W<O>
+
+abbrev OffsetEnd : (ℕ → Body) → List Piece → Body → Type 0
+OffsetEnd made ps b = AfterMark 60 (λ qs. ClosedEnd ℕ (IsUpTo 31) 62 made qs b) ps
+
+abbrev after_width : (ℕ → ℕ → Body) → ℕ → ReaderState → Result Body ParseFault
+after_width made width s = mark_at 60 s >>= closed_end (unsigned_at 31) 62 (made width)
+
+abbrev LiteralEnd : ℕ → (ℕ → ℕ → Body) → List Piece → Body → Type 0
+LiteralEnd most made ps b = OffsetEnd (made 0) ps b ⊎ Then ℕ (IsUpTo most) (λ width qs. OffsetEnd (made width) qs b) ps
+
+literal_steps : (most : ℕ) (s : ReaderState) (made : Field → Body)
+    → ended (literal_at most) made s ≡ ((if is_next_mark 60 s then Ok (0, s) else unsigned_at most s) >>= λ (width : ℕ × ReaderState). after_width (λ w o. made (field.Literal w o)) width.0 width.1)
+unfolding literal_at width_at
+literal_steps most s made =
+    turns (if is_next_mark 60 s then Ok (0, s) else unsigned_at most s) _ _ _ (λ width. turns (mark_at 60 width.1) _ _ _ (λ opened. turns (unsigned_at 31 opened) _ _ _ (λ offset. turns (mark_at 62 offset.1) _ _ _ (λ closed. refl))))
+
+literal_both : (most line e : ℕ) (made : Field → Body)
+    → ((ps : List Piece) (b : Body) → (ended (literal_at most) made (st line e ps) ≡ Ok b) ↔ LiteralEnd most (λ w o. made (field.Literal w o)) ps b)
+    × ((few : ℕ) → Node few true no_name line e (λ ps. fault_in (ended (literal_at most) made (st line e ps))))
+literal_both most line e made =
+    or_walk 60 true no_name line e (ended (literal_at most) made) (closed_end (unsigned_at 31) 62 (literal 0)) number (ClosedEnd ℕ (IsUpTo 31) 62 (literal 0)) (λ ps b. Then ℕ (IsUpTo most) (λ width qs. OffsetEnd (literal width) qs b) ps)
+    refl (inl refl) opened numbered (literal_steps most (st line e []) made) (offset 0)
+    (slot_walk (one_number most line e) (after_width literal) (λ width qs b. OffsetEnd (literal width) qs b) behind).0 no_mark
+    (λ few. one_token few ℕ Body true no_name line e (unsigned_at most) (one_number most line e) (after_width literal) (λ width. (behind width).1 few))
+  where
+    literal : ℕ → ℕ → Body
+    literal width offset = made (field.Literal width offset)
+
+    number : ReaderState → Result Body ParseFault
+    number s = unsigned_at most s >>= λ (width : ℕ × ReaderState). after_width literal width.0 width.1
+
+    offset : (width : ℕ) → Walk line e (closed_end (unsigned_at 31) 62 (literal width)) (ClosedEnd ℕ (IsUpTo 31) 62 (literal width))
+    offset width = closed_walk (one_number 31 line e) 62 (literal width) refl refl
+
+    behind : (width : ℕ) → Walk line e (after_width literal width) (OffsetEnd (literal width))
+    behind width = mark_walk 60 line e (closed_end (unsigned_at 31) 62 (literal width)) (ClosedEnd ℕ (IsUpTo 31) 62 (literal width)) refl refl (offset width)
+
+    opened : (p : Piece) (ps : List Piece) → is_mark_of 60 (Some p.says) ≡ true → ended (literal_at most) made (st line e (p ∷ ps)) ≡ closed_end (unsigned_at 31) 62 (literal 0) (st line e ps)
+    opened p ps t =
+        literal_steps most (st line e (p ∷ ps)) made
+        ∙ ap (λ (r : Read ℕ). r >>= λ (width : ℕ × ReaderState). after_width literal width.0 width.1) (take_then (is_mark_of 60 (Some p.says)) _ _ t)
+        ∙ ap (λ (r : Result ReaderState ParseFault). r >>= closed_end (unsigned_at 31) 62 (literal 0)) (take_then (is_mark_of 60 (Some p.says)) _ _ t)
+
+    numbered : (p : Piece) (ps : List Piece) → is_mark_of 60 (Some p.says) ≡ false → ended (literal_at most) made (st line e (p ∷ ps)) ≡ number (st line e (p ∷ ps))
+    numbered p ps t = literal_steps most (st line e (p ∷ ps)) made ∙ ap (λ (r : Read ℕ). r >>= λ (width : ℕ × ReaderState). after_width literal width.0 width.1) (take_else (is_mark_of 60 (Some p.says)) _ _ t)
+
+    no_mark : (p : Piece) (ps : List Piece) (b : Body) → Then ℕ (IsUpTo most) (λ width qs. OffsetEnd (literal width) qs b) (p ∷ ps) → is_mark_of 60 (Some p.says) ≡ false
+    no_mark p ps b w =
+        let h = w.tokens in
+        let same : p ≡ w.piece = cc in
+        ap (λ (q : Piece). is_mark_of 60 (Some q.says)) same ∙ ap (λ (m : TokenValue). is_mark_of 60 (Some m)) w.is.0
+
+literal_met : (most : ℕ) (made : ℕ → ℕ → Body) (ps : List Piece) (b : Body) → LiteralEnd most made ps b → (width : ℕ) × (offset : ℕ) × IsLiteral most ps width offset × (made width offset ≡ b)
+literal_met most made ps b (inl w) =
+    let t = w.4 in
+    let c = t.next in
+    let l = t.is.1 in
+    let same : ps ≡ w.0 ∷ t.piece ∷ c.0 ∷ [] = w.2 ∙ ap (λ (qs : List Piece). w.0 ∷ qs) (t.tokens ∙ ap (λ (qs : List Piece). t.piece ∷ qs) (c.2 ∙ ap (λ (qs : List Piece). c.0 ∷ qs) c.4.0)) in
+    (0, t.value, subst (λ (qs : List Piece). IsLiteral most qs 0 t.value) (sym same) (refl, w.3, t.is.0, omega (arith, l), c.3), c.4.1)
+literal_met most made ps b (inr v) =
+    let w = v.next in
+    let t = w.4 in
+    let c = t.next in
+    let l = t.is.1 in
+    let same : ps ≡ v.piece ∷ w.0 ∷ t.piece ∷ c.0 ∷ [] =
+    v.tokens ∙ ap (λ (qs : List Piece). v.piece ∷ qs) (w.2 ∙ ap (λ (qs : List Piece). w.0 ∷ qs) (t.tokens ∙ ap (λ (qs : List Piece). t.piece ∷ qs) (c.2 ∙ ap (λ (qs : List Piece). c.0 ∷ qs) c.4.0))) in
+    (v.value, t.value, subst (λ (qs : List Piece). IsLiteral most qs v.value t.value) (sym same) (v.is.0, v.is.1, w.3, t.is.0, omega (arith, l), c.3), c.4.1)
+
+offset_met : (made : ℕ → Body) (o p c : Piece) (offset : ℕ) (b : Body) → IsMark 60 o → IsNumber offset p → offset < 32 → IsMark 62 c → made offset ≡ b → OffsetEnd made (o ∷ p ∷ c ∷ []) b
+offset_met made o p c offset b h n l k w = (o, p ∷ c ∷ [], refl, h, record { value = offset; piece = p; rest = c ∷ []; tokens = refl; is = (n, omega (arith, l)); next = (c, [], refl, k, (refl, w)) })
+
+met_literal : (most : ℕ) (made : ℕ → ℕ → Body) (ps : List Piece) (b : Body) (width offset : ℕ) → IsLiteral most ps width offset → made width offset ≡ b → LiteralEnd most made ps b
+met_literal most made [] b width offset h k = absurd h
+met_literal most made (o ∷ []) b width offset h k = absurd h
+met_literal most made (o ∷ p ∷ []) b width offset h k = absurd h
+met_literal most made (o ∷ p ∷ c ∷ []) b width offset h k = inl (offset_met (made 0) o p c offset b h.1 h.2 h.3 h.4 (ap (λ (w : ℕ). made w offset) (sym h.0) ∙ k))
+met_literal most made (w ∷ o ∷ p ∷ c ∷ []) b width offset h k =
+    inr (record { value = width; piece = w; rest = o ∷ p ∷ c ∷ []; tokens = refl; is = (h.0, h.1); next = offset_met (made width) o p c offset b h.2 h.3 h.4 h.5 k })
+met_literal most made (w ∷ o ∷ p ∷ c ∷ q ∷ ps) b width offset h k = absurd h
+
+-- a bit field: literals, or a register
 
 abbrev pub IsFieldOf : ℕ → List Piece → Field → Type 0
 IsFieldOf most ps (field.Register r) = IsLast r ps
 IsFieldOf most ps (field.Literal width offset) = IsLiteral most ps width offset
 
-abbrev close_literal : ℕ → ℕ × ReaderState → Read Field
-close_literal width offset = mark_at 62 offset.1 >>= λ closed. Ok (field.Literal width offset.0, closed)
+pub field_walk : (most line e : ℕ) (made : Field → Body) → Walk line e (ended (field_at most) made) (Last Field (IsFieldOf most) made)
+unfolding field_at register_at register_of
+field_walk most line e made = (λ ps b. (reads ps b, λ w. meets ps b w.0 w.1 w.2), λ few. good few true own_names line e (λ ps. fault_in (all (st line e ps))) (node few))
+  where
+    all : ReaderState → Result Body ParseFault
+    all s = ended (field_at most) made s
 
-abbrev after_width : ℕ × ReaderState → Read Field
-after_width width = mark_at 60 width.1 >>= λ opened. unsigned_at 31 opened >>= close_literal width.0
+    literals : ReaderState → Result Body ParseFault
+    literals s = ended (literal_at most) made s
 
--- <O>
-pub record IsOffset (line e : ℕ) (ps : List Piece) (width : ℕ) (x : Field × ReaderState) : Type 0 where
-  pub o : Piece
-  pub p : Piece
-  pub c : Piece
-  pub rest : List Piece
-  pub offset : ℕ
-  pub tokens : ps ≡ o ∷ p ∷ c ∷ rest
-  pub opened : IsMark 60 o
-  pub number : IsNumber offset p
-  pub most : offset < 32
-  pub closed : IsMark 62 c
-  pub value : (field.Literal width offset, st line e rest) ≡ x
+    registers : ReaderState → Result Body ParseFault
+    registers s = ended register_at (λ r. made (field.Register r)) s
 
-offset_read : (line e width : ℕ) (ps : List Piece) (x : Field × ReaderState) → after_width (width, st line e ps) ≡ Ok x → IsOffset line e ps width x
-offset_read line e width ps x h =
-    let b = bind_ok (mark_at 60 (st line e ps)) (λ (opened : ReaderState). unsigned_at 31 opened >>= close_literal width) x h in
-    let o = mark_read 60 line e ps b.0 b.1 in
-    let c = bind_ok (unsigned_at 31 b.0) (close_literal width) x b.2 in
-    let n = slot_read (one_number 31 line e) o.rest c.0 (ap (unsigned_at 31) (sym o.after) ∙ c.1) in
-    let d = bind_ok (mark_at 62 c.0.1) (λ (closed : ReaderState). Ok (field.Literal width c.0.0, closed)) x c.2 in
-    let m = mark_read 62 line e n.rest d.0 (ap (mark_at 62) (sym n.after) ∙ d.1) in
-    record {
-      o = o.piece;
-      p = n.piece;
-      c = m.piece;
-      rest = m.rest;
-      offset = c.0.0;
-      tokens = o.tokens ∙ ap (λ (qs : List Piece). o.piece ∷ qs) (n.tokens ∙ ap (λ (qs : List Piece). n.piece ∷ qs) m.tokens);
-      opened = o.is;
-      number = n.is.0;
-      most = omega (arith, n.is.1);
-      closed = m.is;
-      value = ap (λ (u : ReaderState). let y : Field × ReaderState = (field.Literal width c.0.0, u) in y) (sym m.after) ∙ ok_same d.2;
-    }
+    as_literal : (p : Piece) (ps : List Piece) (m : TokenValue) → p.says ≡ m → NoName m → all (st line e (p ∷ ps)) ≡ literals (st line e (p ∷ ps))
+    as_literal p ps m h number_is = ap (λ (o : TokenValue). field_on most (st line e (p ∷ ps)) (Some o) >>= λ (z : Field × ReaderState). end_with (made z.0) z.1) h
+    as_literal p ps m h text_is = ap (λ (o : TokenValue). field_on most (st line e (p ∷ ps)) (Some o) >>= λ (z : Field × ReaderState). end_with (made z.0) z.1) h
+    as_literal p ps m h mark_is = ap (λ (o : TokenValue). field_on most (st line e (p ∷ ps)) (Some o) >>= λ (z : Field × ReaderState). end_with (made z.0) z.1) h
 
-offset_again : (line e width offset : ℕ) (o p c : Piece) → IsMark 60 o → IsNumber offset p → offset < 32 → IsMark 62 c → after_width (width, st line e (o ∷ p ∷ c ∷ [])) ≡ Ok (field.Literal width offset, st line e [])
-offset_again line e width offset o p c a b l d =
-    let z : Read Field = Ok (field.Literal width offset, st line e []) in
-    bind_to (mark_at 60 (st line e (o ∷ p ∷ c ∷ []))) (λ (opened : ReaderState). unsigned_at 31 opened >>= close_literal width) (st line e (p ∷ c ∷ [])) z (mark_again 60 line e o (p ∷ c ∷ []) a)
-    (bind_to (unsigned_at 31 (st line e (p ∷ c ∷ []))) (close_literal width) (offset, st line e (c ∷ [])) z (slot_again (one_number 31 line e) offset p (c ∷ []) (b, omega arith))
-    (bind_to (mark_at 62 (st line e (c ∷ []))) (λ (closed : ReaderState). Ok (field.Literal width offset, closed)) (st line e []) z (mark_again 62 line e c [] d) refl))
+    as_register : (p : Piece) (ps : List Piece) (text : List ℕ) → p.says ≡ a_name text → all (st line e (p ∷ ps)) ≡ registers (st line e (p ∷ ps))
+    as_register p ps text h =
+        ap (λ (o : TokenValue). field_on most (st line e (p ∷ ps)) (Some o) >>= λ (z : Field × ReaderState). end_with (made z.0) z.1) h
+        ∙ mapped Reg Body Field (register_at (st line e (p ∷ ps))) (λ r. field.Register r) (λ z. end_with (made z))
 
-literal_read : (most line e : ℕ) (ps : List Piece) (x : Field × ReaderState) → literal_at most (st line e ps) ≡ Ok x → Several Field (IsFieldOf most) line e ps x
-unfolding literal_at width_at
-literal_read most line e ps x h =
-    let b = bind_ok (width_at most (st line e ps)) after_width x h in
-    elim (chosen (is_next 60 (st line e ps)) _ _ _ b.1) [
-      | inl j ↦
-          let w = offset_read line e 0 ps x (ap after_width (ok_same j.1) ∙ b.2) in
-          several Field (IsFieldOf most) line e ps (w.o ∷ w.p ∷ w.c ∷ []) w.rest (field.Literal 0 w.offset) x w.tokens (refl, w.opened, w.number, w.most, w.closed) w.value
-      | inr j ↦
-          let n = slot_read (one_number most line e) ps b.0 j.1 in
-          let w = offset_read line e b.0.0 n.rest x (ap (λ (u : ReaderState). after_width (b.0.0, u)) (sym n.after) ∙ b.2) in
-          several Field (IsFieldOf most) line e ps (n.piece ∷ w.o ∷ w.p ∷ w.c ∷ []) w.rest (field.Literal b.0.0 w.offset) x
-          (n.tokens ∙ ap (λ (qs : List Piece). n.piece ∷ qs) w.tokens) (n.is.0, n.is.1, w.opened, w.number, w.most, w.closed) w.value
-    ]
+    is_literal : (ps : List Piece) (b : Body) → literals (st line e ps) ≡ Ok b → Last Field (IsFieldOf most) made ps b
+    is_literal ps b x = let k = literal_met most (λ w o. made (field.Literal w o)) ps b (((literal_both most line e made).0 ps b).0 x) in (field.Literal k.0 k.1, k.2, k.3)
 
-literal_again : (most line e width offset : ℕ) (ps : List Piece) → IsLiteral most ps width offset → literal_at most (st line e ps) ≡ Ok (field.Literal width offset, st line e [])
-unfolding literal_at width_at
-literal_again most line e width offset [] h = absurd h
-literal_again most line e width offset (o ∷ []) h = absurd h
-literal_again most line e width offset (o ∷ p ∷ []) h = absurd h
-literal_again most line e width offset (o ∷ p ∷ c ∷ []) h =
-    let s = st line e (o ∷ p ∷ c ∷ []) in
-    let z : Read Field = Ok (field.Literal width offset, st line e []) in
-    bind_to (width_at most s) after_width (0, s) z (take_then (is_next 60 s) _ _ (next_again 60 line e o (p ∷ c ∷ []) h.1))
-    (offset_again line e 0 offset o p c h.1 h.2 h.3 h.4 ∙ ap (λ (w : ℕ). let y : Read Field = Ok (field.Literal w offset, st line e []) in y) (sym h.0))
-literal_again most line e width offset (w ∷ o ∷ p ∷ c ∷ []) h =
-    let s = st line e (w ∷ o ∷ p ∷ c ∷ []) in
-    let z : Read Field = Ok (field.Literal width offset, st line e []) in
-    bind_to (width_at most s) after_width (width, st line e (o ∷ p ∷ c ∷ [])) z
-    (take_else (is_next 60 s) _ _ (ap (λ (m : TokenValue). is_mark_of 60 (Some m)) h.0) ∙ slot_again (one_number most line e) width w (o ∷ p ∷ c ∷ []) (h.0, h.1))
-    (offset_again line e width offset o p c h.2 h.3 h.4 h.5)
-literal_again most line e width offset (w ∷ o ∷ p ∷ c ∷ q ∷ ps) h = absurd h
+    by_says : (p : Piece) (ps : List Piece) (b : Body) (m : TokenValue) → p.says ≡ m → all (st line e (p ∷ ps)) ≡ Ok b → Last Field (IsFieldOf most) made (p ∷ ps) b
+    by_says p ps b (a_name text) h x = let k = ((register_walk line e (λ r. made (field.Register r))).0 (p ∷ ps) b).0 (sym (as_register p ps text h) ∙ x) in (field.Register k.0, k.1, k.2)
+    by_says p ps b (a_number n) h x = is_literal (p ∷ ps) b (sym (as_literal p ps (a_number n) h number_is) ∙ x)
+    by_says p ps b (a_text bytes) h x = is_literal (p ∷ ps) b (sym (as_literal p ps (a_text bytes) h text_is) ∙ x)
+    by_says p ps b (a_mark o) h x = is_literal (p ∷ ps) b (sym (as_literal p ps (a_mark o) h mark_is) ∙ x)
 
-abbrev register_field : Reg × ReaderState → Read Field
-register_field r = Ok (field.Register r.0, r.1)
+    reads : (ps : List Piece) (b : Body) → all (st line e ps) ≡ Ok b → Last Field (IsFieldOf most) made ps b
+    reads [] b x = is_literal [] b x
+    reads (p ∷ ps) b x = by_says p ps b p.says refl x
 
-field_by : (most line e : ℕ) (ps : List Piece) (o : Option TokenValue) (x : Field × ReaderState) → field_on most (st line e ps) o ≡ Ok x → Several Field (IsFieldOf most) line e ps x
-field_by most line e ps None x h = literal_read most line e ps x h
-field_by most line e ps (Some (a_name text)) x h =
-    let b = bind_ok (register_at (st line e ps)) register_field x h in
-    let r = slot_read (one_register line e) ps b.0 b.1 in
-    several Field (IsFieldOf most) line e ps (r.piece ∷ []) r.rest (field.Register b.0.0) x r.tokens r.is
-    (ap (λ (u : ReaderState). let y : Field × ReaderState = (field.Register b.0.0, u) in y) (sym r.after) ∙ ok_same b.2)
-field_by most line e ps (Some (a_number n)) x h = literal_read most line e ps x h
-field_by most line e ps (Some (a_text bytes)) x h = literal_read most line e ps x h
-field_by most line e ps (Some (a_mark m)) x h = literal_read most line e ps x h
+    literal_again : (ps : List Piece) (b : Body) (width offset : ℕ) → IsLiteral most ps width offset → made (field.Literal width offset) ≡ b → literals (st line e ps) ≡ Ok b
+    literal_again ps b width offset h k = ((literal_both most line e made).0 ps b).1 (met_literal most (λ w o. made (field.Literal w o)) ps b width offset h k)
 
-pub field_read : (most line e : ℕ) (ps : List Piece) (x : Field × ReaderState) → field_at most (st line e ps) ≡ Ok x → Several Field (IsFieldOf most) line e ps x
-unfolding field_at
-field_read most line e ps x h = field_by most line e ps (first (st line e ps)) x h
+    meets : (ps : List Piece) (b : Body) (x : Field) → IsFieldOf most ps x → made x ≡ b → all (st line e ps) ≡ Ok b
+    meets [] b (field.Register r) h k = absurd h
+    meets (p ∷ []) b (field.Register r) h k = as_register p [] h.0 h.2 ∙ ((register_walk line e (λ x. made (field.Register x))).0 (p ∷ []) b).1 (r, h, k)
+    meets (p ∷ q ∷ ps) b (field.Register r) h k = absurd h
+    meets [] b (field.Literal width offset) h k = absurd h
+    meets (o ∷ []) b (field.Literal width offset) h k = absurd h
+    meets (o ∷ p ∷ []) b (field.Literal width offset) h k = absurd h
+    meets (o ∷ p ∷ c ∷ []) b (field.Literal width offset) h k = as_literal o (p ∷ c ∷ []) (a_mark 60) h.1 mark_is ∙ literal_again (o ∷ p ∷ c ∷ []) b width offset h k
+    meets (w ∷ o ∷ p ∷ c ∷ []) b (field.Literal width offset) h k = as_literal w (o ∷ p ∷ c ∷ []) (a_number width) h.0 number_is ∙ literal_again (w ∷ o ∷ p ∷ c ∷ []) b width offset h k
+    meets (w ∷ o ∷ p ∷ c ∷ q ∷ ps) b (field.Literal width offset) h k = absurd h
 
-field_register_again : (most line e : ℕ) (r : Reg) (ps : List Piece) → IsLast r ps → field_at most (st line e ps) ≡ Ok (field.Register r, st line e [])
-unfolding field_at
-field_register_again most line e r [] h = absurd h
-field_register_again most line e r (p ∷ []) h =
-    let s = st line e (p ∷ []) in
-    ap (λ (m : TokenValue). field_on most s (Some m)) h.2
-    ∙ bind_to (register_at s) register_field (r, st line e []) (Ok (field.Register r, st line e [])) (slot_again (one_register line e) r p [] h) refl
-field_register_again most line e r (p ∷ q ∷ ps) h = absurd h
-
-field_literal_again : (most line e width offset : ℕ) (ps : List Piece) → IsLiteral most ps width offset → field_at most (st line e ps) ≡ Ok (field.Literal width offset, st line e [])
-unfolding field_at
-field_literal_again most line e width offset [] h = absurd h
-field_literal_again most line e width offset (o ∷ []) h = absurd h
-field_literal_again most line e width offset (o ∷ p ∷ []) h = absurd h
-field_literal_again most line e width offset (o ∷ p ∷ c ∷ []) h =
-    ap (λ (m : TokenValue). field_on most (st line e (o ∷ p ∷ c ∷ [])) (Some m)) h.1 ∙ literal_again most line e width offset (o ∷ p ∷ c ∷ []) h
-field_literal_again most line e width offset (w ∷ o ∷ p ∷ c ∷ []) h =
-    ap (λ (m : TokenValue). field_on most (st line e (w ∷ o ∷ p ∷ c ∷ [])) (Some m)) h.0 ∙ literal_again most line e width offset (w ∷ o ∷ p ∷ c ∷ []) h
-field_literal_again most line e width offset (w ∷ o ∷ p ∷ c ∷ q ∷ ps) h = absurd h
-
-pub field_again : (most line e : ℕ) (ps : List Piece) (x : Field) → IsFieldOf most ps x → field_at most (st line e ps) ≡ Ok (x, st line e [])
-field_again most line e ps (field.Register r) w = field_register_again most line e r ps w
-field_again most line e ps (field.Literal width offset) w = field_literal_again most line e width offset ps w
+    node : (few : ℕ) → Node few true own_names line e (λ ps. fault_in (all (st line e ps)))
+    node few =
+        or_name few own_names line e (λ ps. fault_in (all (st line e ps))) (λ ps. fault_in (registers (st line e ps))) (λ ps. fault_in (literals (st line e ps)))
+        (λ p ps text h. ap (λ (r : Result Body ParseFault). fault_in r) (as_register p ps text h)) (λ p ps m h z. ap (λ (r : Result Body ParseFault). fault_in r) (as_literal p ps m h z)) refl
+        (one_token few Reg Body false own_names line e register_at (one_register line e) (λ r. end_with (made (field.Register r))) (λ r. end_good few line e (made (field.Register r)))).wants.names
+        (token_each few Reg Body false true own_names line e register_at (one_register line e) (λ r. end_with (made (field.Register r))) (λ r. end_good few line e (made (field.Register r)))) ((literal_both most line e made).1 few)

@@ -1,11 +1,10 @@
+-- The laws of the faults of a line, from the readers of single tokens up to whole lines.
 pub mod Readers
 pub mod Nodes
 pub mod One
 pub mod Slots
 pub mod Values
 pub mod Operands
-pub mod Indices
-pub mod Goals
 pub mod Lists
-pub mod Forms
+pub mod Heard
 pub mod Lines

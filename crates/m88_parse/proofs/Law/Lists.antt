@@ -3,7 +3,7 @@ use Rattle.std.proofs.Common.{◌≡◌, ℕ, zero, suc, ◌-◌, ◌/◌, ◌%�
 use Rattle.m88_base.specs.declared.fixup.Kind.TheVariants.{Abs32}
 use Rattle.m88_parse.specs.declared.unit.Value.{Value}
 use Rattle.m88_parse.specs.Language.Pieces.{TokenValue, a_number, Piece}
-use Rattle.m88_parse.specs.Reader.State.{ReaderState, past, is_mark_of, is_next, ◌>>=◌}
+use Rattle.m88_parse.specs.Reader.State.{ReaderState, past, is_mark_of, is_next_mark, ◌>>=◌}
 use Rattle.m88_parse.specs.Reader.Slots.{Read, negated, signed_at}
 use Rattle.m88_parse.specs.Reader.Grammar.{many, list_at, word_item_at, Part, a_half, a_byte, modulus_of, part_item_at}
 use Rattle.m88_parse.specs.Language.Names.{IsComma}
@@ -24,7 +24,7 @@ abbrev joined : (A : Type 0) → A → List A × ReaderState → Read (List A)
 joined A x xs = Ok (x ∷ xs.0, xs.1)
 
 abbrev after_item : (A : Type 0) → (ReaderState → Read A) → ℕ → A → ReaderState → Read (List A)
-after_item A item more x t = if is_next 44 t then (many item more (past t) >>= joined A x) else Ok (x ∷ [], t)
+after_item A item more x t = if is_next_mark 44 t then (many item more (past t) >>= joined A x) else Ok (x ∷ [], t)
 
 pub many_read : (A : Type 0) (Is : List Piece → A → Type 0) (item : ReaderState → Read A) → ReadsOnly A Is item → (n line e : ℕ) (ps : List Piece) (x : List A × ReaderState) → many item n (st line e ps) ≡ Ok x → Several (List A) (AreParted Is) line e ps x
 unfolding many
@@ -33,7 +33,7 @@ many_read A Is item reads (suc n) line e ps x h =
     let b = bind_ok (item (st line e ps)) (λ (y : A × ReaderState). after_item A item n y.0 y.1) x h in
     let w = reads line e ps b.0 b.1 in
     let k : after_item A item n b.0.0 (st line e w.rest) ≡ Ok x = ap (after_item A item n b.0.0) (sym w.after) ∙ b.2 in
-    elim (chosen (is_next 44 (st line e w.rest)) _ _ _ k) [
+    elim (chosen (is_next_mark 44 (st line e w.rest)) _ _ _ k) [
       | inl j ↦
           let m = next_is 44 line e w.rest j.0 in
           let c = bind_ok (many item n (past (st line e w.rest))) (joined A b.0.0) x j.1 in
@@ -59,7 +59,7 @@ many_again A Is item reads (suc n) line e ps xs l (more_items {front = front} {r
     let z : Read (List A) = Ok (x ∷ ys, st line e []) in
     bind_to (item (st line e ps)) (λ (y : A × ReaderState). after_item A item n y.0 y.1) (x, st line e (c ∷ rest)) z
     (ap (λ (qs : List Piece). item (st line e qs)) t ∙ reads line e front (c ∷ rest) x h (comma_unsigned c rest k))
-    (take_then (is_next 44 (st line e (c ∷ rest))) _ _ (next_again 44 line e c rest k)
+    (take_then (is_next_mark 44 (st line e (c ∷ rest))) _ _ (next_again 44 line e c rest k)
     ∙ bind_to (many item n (st line e rest)) (joined A x) (ys, st line e []) z (many_again A Is item reads n line e rest ys size hs) refl)
 
 pub list_read : (A : Type 0) (Is : List Piece → A → Type 0) (item : ReaderState → Read A) → ReadsOnly A Is item → (line e : ℕ) (ps : List Piece) (x : List A × ReaderState) → list_at item (st line e ps) ≡ Ok x → Several (List A) (AreParted Is) line e ps x

@@ -7,7 +7,7 @@ use Rattle.std.proofs.lemmas.Slice.Eq.{bytes_eq-Decides}
 use Rattle.m88_base.specs.Numerals.{is_numeral, number_in, has_no_needless_zero, decimal_in}
 use Rattle.m88_base.proofs.Digits.{decimal_found, decimal_needed, decimal_told}
 use Rattle.m88_base.specs.Name.{IsName, begins_name, continues_name}
-use Rattle.m88_parse.specs.Reader.Names.{register_of, control_of, float_control_of, control_in, is_here, is_name, is_symbol}
+use Rattle.m88_parse.specs.Reader.Names.{register_of, control_of, float_control_of, control_in, is_here, is_valid_name, is_symbol}
 use Rattle.m88_parse.specs.Language.Names.{IsRegisterName, IsControlName, IsSymbolName}
 use Rattle.m88_parse.proofs.Law.Steps.{both, neither, chosen, not_true, take_then, tested}
 
@@ -86,16 +86,16 @@ pub control_name_again : (float : Bool) (name : List ℕ) (n : ℕ) → IsContro
 control_name_again false name n h = control_again name n h
 control_name_again true name n h = float_again name n h
 
-pub name_is : (name : List ℕ) → is_name name ≡ true → IsName name
-unfolding is_name
+pub name_is : (name : List ℕ) → is_valid_name name ≡ true → IsName name
+unfolding is_valid_name
 name_is [] h = absurd cc
 name_is (b ∷ bs) h =
     let i = both (begins_name b && nat_lt (length bs) 64) (list_all continues_name bs) h in
     let j = both (begins_name b) (nat_lt (length bs) 64) i.0 in
     (j.0, AllPass-from_list_all continues_name bs i.1, ltb-true (length bs) 64 j.1)
 
-pub name_spelled_again : (name : List ℕ) → IsName name → is_name name ≡ true
-unfolding is_name
+pub name_spelled_again : (name : List ℕ) → IsName name → is_valid_name name ≡ true
+unfolding is_valid_name
 name_spelled_again [] h = absurd h
 name_spelled_again (b ∷ bs) h =
     ap (λ (t : Bool). t && nat_lt (length bs) 64 && list_all continues_name bs) h.0
@@ -126,7 +126,7 @@ no_control_name name c f true n h = never (float_control_of name) f n (float_aga
 pub symbol_is : (name : List ℕ) → is_symbol name ≡ true → IsSymbolName name
 unfolding is_symbol
 symbol_is name h =
-    let i = both (is_name name) (not (is_here name || is_some (register_of name) || is_some (control_of name) || is_some (float_control_of name))) h in
+    let i = both (is_valid_name name) (not (is_here name || is_some (register_of name) || is_some (control_of name) || is_some (float_control_of name))) h in
     let j = neither (is_here name || is_some (register_of name) || is_some (control_of name)) (is_some (float_control_of name)) (not_true _ i.1) in
     let k = neither (is_here name || is_some (register_of name)) (is_some (control_of name)) j.0 in
     let l = neither (is_here name) (is_some (register_of name)) k.0 in

@@ -1,5 +1,5 @@
--- The law of the operands that stand last: immediates, registers, indices, bit fields and goals.
-use Rattle.std.proofs.Common.{◌≡◌, ℕ, ◌/◌, ◌%◌, ◌<◌, Bool, true, false, nat_le, ◌⊎◌, inl, inr, List, [], ◌∷◌, ◌++◌, Option, Some, None, Ok, Err, refl, sym, ap, ap₂, ◌∙◌, arith, subst, leb-true, le-leb, if◌then◌else◌, append_assoc, codes, bytes_eq}
+-- The law of immediates, walked once, and of what may stand in their place: a register, or the bound of tbnd.
+use Rattle.std.proofs.Common.{◌≡◌, ◌↔◌, ℕ, ◌/◌, ◌%◌, ◌<◌, Bool, true, false, nat_le, ◌⊎◌, inl, inr, List, [], ◌∷◌, ◌++◌, Option, Some, None, Ok, Err, refl, sym, ap, ◌∙◌, arith, subst, leb-true, le-leb, if◌then◌else◌, codes, bytes_eq}
 use Rattle.std.specs.Option.{option_map}
 use Rattle.std.proofs.lemmas.Slice.Eq.{bytes_eq-Decides}
 use Rattle.m88_base.specs.Reg.{reg_of}
@@ -8,6 +8,7 @@ use Rattle.m88_base.specs.declared.fixup.Kind.{Kind}
 use Rattle.m88_base.specs.declared.fixup.Kind.TheVariants.{Hi16, Lo16}
 use Rattle.m88_base.specs.declared.fixup.Fixup.{Fixup}
 use Rattle.m88_parse.specs.declared.fault.ParseKind.TheVariants.{NoSuchName, OutOfRange}
+use Rattle.m88_parse.specs.declared.unit.Body.{Body}
 use Rattle.m88_parse.specs.declared.unit.Value.{Value}
 use Rattle.m88_parse.specs.declared.unit.Value.TheVariants.{Number, Symbol}
 use Rattle.m88_parse.specs.declared.operand.Immediate.{Immediate}
@@ -19,14 +20,19 @@ use Rattle.m88_parse.specs.Reader.Names.{register_of}
 use Rattle.m88_parse.specs.Language.Words.{half_named}
 use Rattle.m88_parse.specs.Language.Pieces.{TokenValue, a_name, a_number, a_text, a_mark, Piece}
 use Rattle.m88_parse.specs.Reader.State.{ReaderState, says_first, first, is_mark_of, ◌>>=◌}
-use Rattle.m88_parse.specs.Reader.Slots.{Read, named, mark_at, register_on, register_at, value_at}
-use Rattle.m88_parse.specs.Reader.Operands.{half_immediate, half_at, half_on, short_on, immediate_of, immediate_at, register_in, operand_of, operand_at, bound_on, bound_at}
+use Rattle.m88_parse.specs.Reader.Slots.{Read, meaning_or_fault, mark_at, register_on, register_at, value_at}
+use Rattle.m88_parse.specs.Reader.Operands.{half_immediate, half_on, short_on, immediate_at, register_in, operand_at, bound_on, bound_at}
+use Rattle.m88_parse.specs.Reader.Grammar.{end_with}
 use Rattle.m88_parse.specs.Language.Names.{IsMark, IsNumber, IsNamed, IsRegister}
 use Rattle.m88_parse.specs.Language.Operands.{IsValue, IsHalfOf, IsImmediate, short, half, IsLast}
-use Rattle.m88_parse.proofs.Law.Steps.{chosen, take_then}
+use Rattle.m88_parse.proofs.Law.Steps.{chosen, tested, take_then, take_else}
 use Rattle.m88_parse.proofs.Law.Names.{some_same, register_is, register_name_again}
-use Rattle.m88_parse.proofs.Law.Slots.{st, ok_same, bind_ok, bind_to, mark_read, mark_again, own_names, saying, any, any_is_symbol, gives, OneToken, nothing, by_token, token_gives, token_is, only_if, within, within_is, within_again}
-use Rattle.m88_parse.proofs.Law.Values.{Several, several, several_as, IsUnsigned, value_read, value_again}
+use Rattle.m88_parse.proofs.Law.Slots.{st, bind_ok, bind_to, mark_says, next_again, register_found, own_names, saying, any, any_is_symbol, gives, OneToken, nothing, by_token, token_gives, token_is, only_if, within, within_is, within_again}
+use Rattle.m88_parse.proofs.Law.Values.{IsUnsigned, value_read, value_again}
+use Rattle.m88_parse.proofs.Law.Walks.{AfterMark, Last, Walk, end_good, end_walk, mark_walk, ended}
+use Rattle.m88_parse.proofs.Law.LineFaults.Nodes.{good}
+use Rattle.m88_parse.proofs.Law.LineFaults.Slots.{reader_of}
+use Rattle.m88_parse.proofs.Law.LineFaults.Operands.{half_inside, half_taken, short_step, no_half_on, immediate_node, operand_immediate, operand_register, operand_node}
 
 -- hi16 and lo16
 
@@ -69,121 +75,87 @@ kinds_only name kind h = elim (half_names name kind h) [ inl j ↦ inl j.1 | inr
 abbrev pub IsImmediateOf : List Piece → Immediate → Type 0
 IsImmediateOf ps x = IsImmediate ps x.imm x.fixup
 
-abbrev close_half : Kind → Value × ReaderState → Read Immediate
-close_half kind v = mark_at 41 v.1 >>= λ closed. Ok (half_immediate kind v.0, closed)
+-- what stands behind the ( of a half
+abbrev Inside : Kind → (Immediate → Body) → List Piece → Body → Type 0
+Inside kind made ps b = (v : Value) × (front : List Piece) × (c : Piece) × (ps ≡ front ++ c ∷ []) × IsValue kind front v × IsMark 41 c × (made (half_immediate kind v) ≡ b)
 
-half_read : (line e : ℕ) (p : Piece) (ps : List Piece) (name : List ℕ) (kind : Kind) (x : Immediate × ReaderState) → IsNamed name p → half_named name ≡ Some kind → half_at kind (st line e (p ∷ ps)) ≡ Ok x → Several Immediate IsImmediateOf line e (p ∷ ps) x
-unfolding half_at
-half_read line e p ps name kind x n k h =
-    let b = bind_ok (mark_at 40 (st line e ps)) (λ (opened : ReaderState). value_at kind opened >>= close_half kind) x h in
-    let o = mark_read 40 line e ps b.0 b.1 in
-    let c = bind_ok (value_at kind b.0) (close_half kind) x b.2 in
-    let v = value_read kind line e o.rest c.0 (ap (value_at kind) (sym o.after) ∙ c.1) in
-    let d = bind_ok (mark_at 41 c.0.1) (λ (closed : ReaderState). Ok (half_immediate kind c.0.0, closed)) x c.2 in
-    let m = mark_read 41 line e v.rest d.0 (ap (mark_at 41) (sym v.after) ∙ d.1) in
-    let inside = v.front ++ m.piece ∷ [] in
-    let t : p ∷ ps ≡ (p ∷ o.piece ∷ inside) ++ m.rest =
-    ap (λ (qs : List Piece). p ∷ qs) (o.tokens ∙ ap (λ (qs : List Piece). o.piece ∷ qs) (v.tokens ∙ ap (λ (qs : List Piece). v.front ++ qs) m.tokens ∙ sym (append_assoc v.front (m.piece ∷ []) m.rest))) in
-    several Immediate IsImmediateOf line e (p ∷ ps) (p ∷ o.piece ∷ inside) m.rest (half_immediate kind c.0.0) x t
-    (half v.front m.piece name kind c.0.0 n k o.is refl v.is m.is (half_is_of kind c.0.0 (kinds_only name kind k)))
-    (ap (λ (u : ReaderState). let y : Immediate × ReaderState = (half_immediate kind c.0.0, u) in y) (sym m.after) ∙ ok_same d.2)
+closing : (line e : ℕ) (b : Body) → Walk line e (λ s. mark_at 41 s >>= end_with b) (λ ps c. AfterMark 41 (λ qs. (qs ≡ []) × (b ≡ c)) ps)
+closing line e b = mark_walk 41 line e (end_with b) (λ qs c. (qs ≡ []) × (b ≡ c)) refl refl (end_walk line e b)
 
-named_half : (line e : ℕ) (p : Piece) (ps : List Piece) (text : List ℕ) (t : Bool) (x : Immediate × ReaderState) → p.says ≡ a_name text
-    → immediate_of (st line e (p ∷ ps)) (if t then half_named text else None) ≡ Ok x → Several Immediate IsImmediateOf line e (p ∷ ps) x
-named_half line e p ps text true x k h = by_kind (half_named text) refl h
+inside_read : (kind : Kind) (line e : ℕ) (made : Immediate → Body) (ps : List Piece) (b : Body) → half_inside kind (λ x. end_with (made x)) (st line e ps) ≡ Ok b → Inside kind made ps b
+inside_read kind line e made ps b h =
+    let k = bind_ok (value_at kind (st line e ps)) (λ (v : Value × ReaderState). mark_at 41 v.1 >>= end_with (made (half_immediate kind v.0))) b h in
+    let w = value_read kind line e ps k.0 k.1 in
+    let m = ((closing line e (made (half_immediate kind k.0.0))).0 w.rest b).0 (ap (λ (t : ReaderState). mark_at 41 t >>= end_with (made (half_immediate kind k.0.0))) (sym w.after) ∙ k.2) in
+    (k.0.0, w.front, m.0, w.tokens ∙ ap (λ (qs : List Piece). w.front ++ qs) (m.2 ∙ ap (λ (qs : List Piece). m.0 ∷ qs) m.4.0), w.is, m.3, m.4.1)
+
+inside_again : (kind : Kind) (line e : ℕ) (made : Immediate → Body) (ps : List Piece) (b : Body) → Inside kind made ps b → half_inside kind (λ x. end_with (made x)) (st line e ps) ≡ Ok b
+inside_again kind line e made ps b w =
+    let front = w.1 in
+    let c = w.2 in
+    let u : IsUnsigned (c ∷ []) = (ap (λ (m : TokenValue). is_mark_of 43 (Some m)) w.5, ap (λ (m : TokenValue). is_mark_of 45 (Some m)) w.5) in
+    ap (λ (qs : List Piece). half_inside kind (λ x. end_with (made x)) (st line e qs)) w.3
+    ∙ bind_to (value_at kind (st line e (front ++ c ∷ []))) (λ (v : Value × ReaderState). mark_at 41 v.1 >>= end_with (made (half_immediate kind v.0))) (w.0, st line e (c ∷ [])) (Ok b) (value_again kind line e front (c ∷ []) w.0 w.4 u)
+    (((closing line e (made (half_immediate kind w.0))).0 (c ∷ []) b).1 (c, [], refl, w.5, (refl, w.6)))
+
+abbrev short_immediate : ℕ → Immediate
+short_immediate n = record { imm = n; fixup = None }
+
+pub immediate_walk : (line e : ℕ) (made : Immediate → Body) → Walk line e (ended immediate_at made) (Last Immediate IsImmediateOf made)
+unfolding immediate_at
+immediate_walk line e made = (
+  λ ps b. (reads ps b, λ w. meets ps b w.0.imm w.0.fixup w.1 w.2),
+  λ few. good few true own_names line e (reader_of line e immediate_at (λ x. end_with (made x))) (immediate_node few Body line e (λ x. end_with (made x)) (λ x. end_good few line e (made x))),
+)
   where
-    by_kind : (o : Option Kind) → half_named text ≡ o → immediate_of (st line e (p ∷ ps)) o ≡ Ok x → Several Immediate IsImmediateOf line e (p ∷ ps) x
-    by_kind (Some kind) f g = half_read line e p ps text kind x k f g
-    by_kind None f g =
-        let r : short_on (st line e (p ∷ ps)) (Some (a_name text)) ≡ Ok x = ap (λ (m : TokenValue). short_on (st line e (p ∷ ps)) (Some m)) (sym k) ∙ g in
-        absurd cc
-named_half line e p ps text false x k h =
-    let r : short_on (st line e (p ∷ ps)) (Some (a_name text)) ≡ Ok x = ap (λ (m : TokenValue). short_on (st line e (p ∷ ps)) (Some m)) (sym k) ∙ h in
-    absurd cc
+    shorter : (p : Piece) (ps : List Piece) (m : TokenValue) → p.says ≡ m → half_on (Some m) (says_first ps) ≡ None → ended immediate_at made (st line e (p ∷ ps)) ≡ (short_on (st line e (p ∷ ps)) (Some m) >>= λ (x : Immediate × ReaderState). end_with (made x.0) x.1)
+    shorter p ps m h n = short_step Body line e (λ x. end_with (made x)) p ps m h n
 
-short_by : (line e : ℕ) (p : Piece) (ps : List Piece) (m : TokenValue) (x : Immediate × ReaderState) → p.says ≡ m → short_on (st line e (p ∷ ps)) (Some m) ≡ Ok x → Several Immediate IsImmediateOf line e (p ∷ ps) x
-short_by line e p ps (a_name text) x k h = absurd cc
-short_by line e p ps (a_number n) x k h =
-    elim (chosen (nat_le n 65535) _ _ _ h) [
-      | inl j ↦ several Immediate IsImmediateOf line e (p ∷ ps) (p ∷ []) ps (record { imm = n; fixup = None }) x refl (short k (let l = leb-true n 65535 j.0 in omega arith)) (ok_same j.1)
-      | inr j ↦ absurd cc
+    by_half : (p : Piece) (text : List ℕ) (kind : Kind) → IsNamed text p → half_named text ≡ Some kind → (ps : List Piece) (b : Body) → ended immediate_at made (st line e (p ∷ ps)) ≡ Ok b → Last Immediate IsImmediateOf made (p ∷ ps) b
+    by_half p text kind h n [] b x = let y = sym (shorter p [] (a_name text) h refl) ∙ x in absurd cc
+    by_half p text kind h n (q ∷ ps) b x = elim (tested (is_mark_of 40 (Some q.says))) [
+      | inl t ↦
+          let w = inside_read kind line e made ps b (sym (half_taken Body line e kind p q ps text (λ z. end_with (made z)) h n t) ∙ x) in
+          (half_immediate kind w.0, half w.1 w.2 text kind w.0 h n (mark_says 40 q.says t) w.3 w.4 w.5 (half_is_of kind w.0 (kinds_only text kind n)), w.6)
+      | inr t ↦ let y = sym (shorter p (q ∷ ps) (a_name text) h (take_else (is_mark_of 40 (Some q.says)) _ _ t)) ∙ x in absurd cc
     ]
-short_by line e p ps (a_text bytes) x k h = absurd cc
-short_by line e p ps (a_mark m) x k h = absurd cc
 
-immediate_by : (line e : ℕ) (p : Piece) (ps : List Piece) (m : TokenValue) (x : Immediate × ReaderState) → p.says ≡ m → immediate_of (st line e (p ∷ ps)) (half_on (Some m) (says_first ps)) ≡ Ok x → Several Immediate IsImmediateOf line e (p ∷ ps) x
-immediate_by line e p ps (a_name text) x k h = named_half line e p ps text (is_mark_of 40 (says_first ps)) x k h
-immediate_by line e p ps (a_number n) x k h = short_by line e p ps p.says x refl h
-immediate_by line e p ps (a_text bytes) x k h = short_by line e p ps p.says x refl h
-immediate_by line e p ps (a_mark m) x k h = short_by line e p ps p.says x refl h
+    by_name : (p : Piece) (ps : List Piece) (text : List ℕ) (o : Option Kind) → IsNamed text p → half_named text ≡ o → (b : Body) → ended immediate_at made (st line e (p ∷ ps)) ≡ Ok b → Last Immediate IsImmediateOf made (p ∷ ps) b
+    by_name p ps text (Some kind) h n b x = by_half p text kind h n ps b x
+    by_name p ps text None h n b x = let y = sym (shorter p ps (a_name text) h (no_half_on text (is_mark_of 40 (says_first ps)) n)) ∙ x in absurd cc
 
-pub immediate_read : (line e : ℕ) (ps : List Piece) (x : Immediate × ReaderState) → immediate_at (st line e ps) ≡ Ok x → Several Immediate IsImmediateOf line e ps x
-unfolding immediate_at
-immediate_read line e [] x h = absurd cc
-immediate_read line e (p ∷ ps) x h = immediate_by line e p ps p.says x refl h
+    by_number : (p : Piece) (ps : List Piece) (n : ℕ) (b : Body) (t : Bool) → nat_le n 65535 ≡ t → IsNumber n p
+        → ((if t then Ok (short_immediate n, st line e ps) else Err (record { line = line; col = p.col; kind = OutOfRange })) >>= λ (x : Immediate × ReaderState). end_with (made x.0) x.1) ≡ Ok b → Last Immediate IsImmediateOf made (p ∷ ps) b
+    by_number p ps n b true t h x =
+        let k = ((end_walk line e (made (short_immediate n))).0 ps b).0 x in
+        let l = leb-true n 65535 t in
+        (short_immediate n, subst (λ (qs : List Piece). IsImmediate (p ∷ qs) n None) (sym k.0) (short h (omega arith)), k.1)
+    by_number p ps n b false t h x = absurd cc
 
-half_again : (line e : ℕ) (p o c : Piece) (inside : List Piece) (kind : Kind) (v : Value) (imm : ℕ) (fixup : Option Fixup)
-    → IsMark 40 o → IsValue kind inside v → IsMark 41 c → IsHalfOf kind v imm fixup → (kind ≡ Hi16) ⊎ (kind ≡ Lo16)
-    → half_at kind (st line e (p ∷ o ∷ (inside ++ c ∷ []))) ≡ Ok (record { imm = imm; fixup = fixup }, st line e [])
-unfolding half_at
-half_again line e p o c inside kind v imm fixup a b d h k =
-    let z : Read Immediate = Ok (record { imm = imm; fixup = fixup }, st line e []) in
-    let u : IsUnsigned (c ∷ []) = (ap (λ (m : TokenValue). is_mark_of 43 (Some m)) d, ap (λ (m : TokenValue). is_mark_of 45 (Some m)) d) in
-    bind_to (mark_at 40 (st line e (o ∷ (inside ++ c ∷ [])))) (λ (opened : ReaderState). value_at kind opened >>= close_half kind) (st line e (inside ++ c ∷ [])) z (mark_again 40 line e o (inside ++ c ∷ []) a)
-    (bind_to (value_at kind (st line e (inside ++ c ∷ []))) (close_half kind) (v, st line e (c ∷ [])) z (value_again kind line e inside (c ∷ []) v b u)
-    (bind_to (mark_at 41 (st line e (c ∷ []))) (λ (closed : ReaderState). Ok (half_immediate kind v, closed)) (st line e []) z (mark_again 41 line e c [] d)
-    (ap (λ (x : Immediate). let y : Read Immediate = Ok (x, st line e []) in y) (half_of_is kind v imm fixup k h))))
+    by_says : (p : Piece) (ps : List Piece) (b : Body) (m : TokenValue) → p.says ≡ m → ended immediate_at made (st line e (p ∷ ps)) ≡ Ok b → Last Immediate IsImmediateOf made (p ∷ ps) b
+    by_says p ps b (a_name text) h x = by_name p ps text (half_named text) h refl b x
+    by_says p ps b (a_number n) h x = by_number p ps n b (nat_le n 65535) refl h (sym (shorter p ps (a_number n) h refl) ∙ x)
+    by_says p ps b (a_text bytes) h x = let y = sym (shorter p ps (a_text bytes) h refl) ∙ x in absurd cc
+    by_says p ps b (a_mark m) h x = let y = sym (shorter p ps (a_mark m) h refl) ∙ x in absurd cc
 
-pub immediate_again : (line e : ℕ) (ps : List Piece) (imm : ℕ) (fixup : Option Fixup) → IsImmediate ps imm fixup → immediate_at (st line e ps) ≡ Ok (record { imm = imm; fixup = fixup }, st line e [])
-unfolding immediate_at
-immediate_again line e ps imm fixup (short {p = p} h l) =
-    let s = st line e (p ∷ []) in
-    ap (λ (m : TokenValue). immediate_of s (half_on (Some m) None)) h
-    ∙ ap (λ (m : TokenValue). short_on s (Some m)) h
-    ∙ take_then (nat_le imm 65535) _ _ (le-leb imm 65535 (omega arith))
-immediate_again line e ps imm fixup (half {h = p} {o = o} {ps = qs} inside c name kind v n k a t b d h) =
-    let s = st line e (p ∷ o ∷ qs) in
-    ap₂ (λ (m q : TokenValue). immediate_of s (half_on (Some m) (Some q))) n a
-    ∙ ap (immediate_of s) k
-    ∙ ap (λ (xs : List Piece). half_at kind (st line e (p ∷ o ∷ xs))) t
-    ∙ half_again line e p o c inside kind v imm fixup a b d h (kinds_only name kind k)
+    reads : (ps : List Piece) (b : Body) → ended immediate_at made (st line e ps) ≡ Ok b → Last Immediate IsImmediateOf made ps b
+    reads [] b x = absurd cc
+    reads (p ∷ ps) b x = by_says p ps b p.says refl x
+
+    meets : (ps : List Piece) (b : Body) (imm : ℕ) (fixup : Option Fixup) → IsImmediate ps imm fixup → made (record { imm = imm; fixup = fixup }) ≡ b → ended immediate_at made (st line e ps) ≡ Ok b
+    meets ps b imm fixup (short {p = p} h l) w =
+        shorter p [] (a_number imm) h refl
+        ∙ ap (λ (r : Read Immediate). r >>= λ (x : Immediate × ReaderState). end_with (made x.0) x.1) (take_then (nat_le imm 65535) _ _ (le-leb imm 65535 (omega (arith, l))))
+        ∙ ((end_walk line e (made (short_immediate imm))).0 [] b).1 (refl, w)
+    meets ps b imm fixup (half {h = p} {o = o} {ps = qs} inside c name kind v n k a t i d g) w =
+        half_taken Body line e kind p o qs name (λ z. end_with (made z)) n k (next_again 40 line e o qs a)
+        ∙ inside_again kind line e made qs b (v, inside, c, t, i, d, ap made (half_of_is kind v imm fixup (kinds_only name kind k) g) ∙ w)
 
 -- a register or an immediate
 
 abbrev pub IsOperandOf : List Piece → Operand → Type 0
 IsOperandOf ps (operand.Register r) = IsLast r ps
 IsOperandOf ps (operand.Immediate x) = IsImmediate ps x.imm x.fixup
-
-abbrev immediate_operand : Immediate × ReaderState → Read Operand
-immediate_operand x = Ok (operand.Immediate x.0, x.1)
-
-operand_immediate : (line e : ℕ) (ps : List Piece) (x : Operand × ReaderState) → (immediate_at (st line e ps) >>= immediate_operand) ≡ Ok x → Several Operand IsOperandOf line e ps x
-operand_immediate line e ps x h = several_as Immediate Operand IsImmediateOf IsOperandOf (λ i. operand.Immediate i) line e ps (immediate_at (st line e ps)) x (immediate_read line e ps) (λ front i w. w) h
-
-operand_by : (line e : ℕ) (p : Piece) (ps : List Piece) (m : TokenValue) (x : Operand × ReaderState) → p.says ≡ m → operand_of (st line e (p ∷ ps)) (register_in (Some m)) ≡ Ok x → Several Operand IsOperandOf line e (p ∷ ps) x
-operand_by line e p ps (a_name text) x k h = by_register (register_of text) refl h
-  where
-    by_register : (o : Option ℕ) → register_of text ≡ o → operand_of (st line e (p ∷ ps)) (option_map reg_of o) ≡ Ok x → Several Operand IsOperandOf line e (p ∷ ps) x
-    by_register (Some n) f g = several Operand IsOperandOf line e (p ∷ ps) (p ∷ []) ps (operand.Register (reg_of n)) x refl (text, n, k, register_is text n f, refl) (ok_same g)
-    by_register None f g = operand_immediate line e (p ∷ ps) x g
-operand_by line e p ps (a_number n) x k h = operand_immediate line e (p ∷ ps) x h
-operand_by line e p ps (a_text bytes) x k h = operand_immediate line e (p ∷ ps) x h
-operand_by line e p ps (a_mark m) x k h = operand_immediate line e (p ∷ ps) x h
-
-pub operand_read : (line e : ℕ) (ps : List Piece) (x : Operand × ReaderState) → operand_at (st line e ps) ≡ Ok x → Several Operand IsOperandOf line e ps x
-unfolding operand_at
-operand_read line e [] x h = operand_immediate line e [] x h
-operand_read line e (p ∷ ps) x h = operand_by line e p ps p.says x refl h
-
-operand_register_again : (line e : ℕ) (r : Reg) (ps : List Piece) → IsLast r ps → operand_at (st line e ps) ≡ Ok (operand.Register r, st line e [])
-unfolding operand_at
-operand_register_again line e r [] h = absurd h
-operand_register_again line e r (p ∷ []) h =
-    let s = st line e (p ∷ []) in
-    ap (λ (m : TokenValue). operand_of s (register_in (Some m))) h.2
-    ∙ ap (λ (o : Option ℕ). operand_of s (option_map reg_of o)) (register_name_again h.0 h.1 h.3)
-    ∙ ap (λ (v : Reg). let y : Read Operand = Ok (operand.Register v, st line e []) in y) (sym h.4)
-operand_register_again line e r (p ∷ q ∷ ps) h = absurd h
 
 half_no_register : (name : List ℕ) (kind : Kind) → half_named name ≡ Some kind → register_of name ≡ None
 unfolding register_of
@@ -193,16 +165,37 @@ no_register : (line e : ℕ) (ps : List Piece) (imm : ℕ) (fixup : Option Fixup
 no_register line e ps imm fixup (short {p = p} h l) = ap (λ (m : TokenValue). register_in (Some m)) h
 no_register line e ps imm fixup (half inside c name kind v n k a t b d h) = ap (λ (m : TokenValue). register_in (Some m)) n ∙ ap (option_map reg_of) (half_no_register name kind k)
 
-operand_immediate_again : (line e : ℕ) (ps : List Piece) (imm : ℕ) (fixup : Option Fixup) → IsImmediate ps imm fixup → operand_at (st line e ps) ≡ Ok (operand.Immediate (record { imm = imm; fixup = fixup }), st line e [])
-unfolding operand_at
-operand_immediate_again line e ps imm fixup h =
-    let s = st line e ps in
-    ap (operand_of s) (no_register line e ps imm fixup h)
-    ∙ bind_to (immediate_at s) immediate_operand (record { imm = imm; fixup = fixup }, st line e []) (Ok (operand.Immediate (record { imm = imm; fixup = fixup }), st line e [])) (immediate_again line e ps imm fixup h) refl
+pub operand_walk : (line e : ℕ) (made : Operand → Body) → Walk line e (ended operand_at made) (Last Operand IsOperandOf made)
+unfolding register_of
+operand_walk line e made = (
+  λ ps b. (reads ps b (register_in (first (st line e ps))) refl, λ w. meets ps b w.0 w.1 w.2),
+  λ few. good few true own_names line e (reader_of line e operand_at (λ x. end_with (made x))) (operand_node few Body line e (λ x. end_with (made x)) (λ x. end_good few line e (made x))),
+)
+  where
+    immediates : (ps : List Piece) (b : Body) → (ended immediate_at (λ x. made (operand.Immediate x)) (st line e ps) ≡ Ok b) ↔ Last Immediate IsImmediateOf (λ x. made (operand.Immediate x)) ps b
+    immediates = (immediate_walk line e (λ x. made (operand.Immediate x))).0
 
-pub operand_again : (line e : ℕ) (ps : List Piece) (x : Operand) → IsOperandOf ps x → operand_at (st line e ps) ≡ Ok (x, st line e [])
-operand_again line e ps (operand.Register r) w = operand_register_again line e r ps w
-operand_again line e ps (operand.Immediate x) w = operand_immediate_again line e ps x.imm x.fixup w
+    named_register : (p : Piece) (r : Reg) (m : TokenValue) → p.says ≡ m → register_in (Some m) ≡ Some r → IsRegister r p
+    named_register p r (a_name text) h k = register_found p text r h (register_of text) refl k
+    named_register p r (a_number n) h k = absurd cc
+    named_register p r (a_text bytes) h k = absurd cc
+    named_register p r (a_mark m) h k = absurd cc
+
+    reads : (ps : List Piece) (b : Body) (o : Option Reg) → register_in (first (st line e ps)) ≡ o → ended operand_at made (st line e ps) ≡ Ok b → Last Operand IsOperandOf made ps b
+    reads ps b None h x = let k = (immediates ps b).0 (sym (operand_immediate Body line e (λ z. end_with (made z)) ps h) ∙ x) in (operand.Immediate k.0, k.1, k.2)
+    reads [] b (Some r) h x = absurd cc
+    reads (p ∷ ps) b (Some r) h x =
+        let k = ((end_walk line e (made (operand.Register r))).0 ps b).0 (sym (operand_register Body line e (λ z. end_with (made z)) (p ∷ ps) r h) ∙ x) in
+        (operand.Register r, subst (λ (qs : List Piece). IsLast r (p ∷ qs)) (sym k.0) (named_register p r p.says refl h), k.1)
+
+    meets : (ps : List Piece) (b : Body) (x : Operand) → IsOperandOf ps x → made x ≡ b → ended operand_at made (st line e ps) ≡ Ok b
+    meets [] b (operand.Register r) h k = absurd h
+    meets (p ∷ []) b (operand.Register r) h k =
+        operand_register Body line e (λ z. end_with (made z)) (p ∷ []) r
+        (ap (λ (m : TokenValue). register_in (Some m)) h.2 ∙ ap (option_map reg_of) (register_name_again h.0 h.1 h.3) ∙ ap (λ (v : Reg). let y : Option Reg = Some v in y) (sym h.4))
+        ∙ ((end_walk line e (made (operand.Register r))).0 [] b).1 (refl, k)
+    meets (p ∷ q ∷ ps) b (operand.Register r) h k = absurd h
+    meets ps b (operand.Immediate x) h k = operand_immediate Body line e (λ z. end_with (made z)) ps (no_register line e ps x.imm x.fixup h) ∙ (immediates ps b).1 (x, h, k)
 
 -- the bound of tbnd
 
@@ -219,7 +212,7 @@ bound_on_number n = option_map (λ (k : ℕ). bound.Number k) (within 65535 n)
 abbrev bound_by : TokenValue → Option Bound
 bound_by = by_token bound_on_name bound_on_number nothing
 
-bound_name : (line e : ℕ) (p : Piece) (ps : List Piece) (o : Option ℕ) → (named (st line e (p ∷ ps)) (option_map reg_of o) >>= λ (r : Reg × ReaderState). let y : Read Bound = Ok (bound.Register r.0, r.1) in y)
+bound_name : (line e : ℕ) (p : Piece) (ps : List Piece) (o : Option ℕ) → (meaning_or_fault (st line e (p ∷ ps)) (option_map reg_of o) >>= λ (r : Reg × ReaderState). let y : Read Bound = Ok (bound.Register r.0, r.1) in y)
     ≡ gives line e p ps NoSuchName (option_map (λ (r : Reg). bound.Register r) (option_map reg_of o))
 bound_name line e p ps (Some n) = refl
 bound_name line e p ps None = refl

@@ -9,7 +9,7 @@ use Rattle.m88_parse.specs.declared.row.Row.TheVariants as row
 use Rattle.m88_parse.specs.Reader.Names.{is_module}
 use Rattle.m88_parse.specs.Language.Pieces.{TokenValue, a_name, a_number, a_text, a_mark, Piece}
 use Rattle.m88_parse.specs.Reader.State.{ReaderState, says_first, first, past, is_mark_of, ◌>>=◌}
-use Rattle.m88_parse.specs.Reader.Slots.{symbol_at, any_name_at, end_at}
+use Rattle.m88_parse.specs.Reader.Slots.{symbol_at, any_name_at, line_end_at}
 use Rattle.m88_parse.specs.Reader.Source.{operation_on, operation_at, statement, labelled_on, labelled_at, unlabelled_at, head_at, is_label_on, is_head_on, row_at, end_of_line, row_of_pieces}
 use Rattle.m88_parse.specs.Language.Names.{IsNamed, IsSymbol}
 use Rattle.m88_parse.specs.Language.Statements.{IsBody, text, data_section, at, word, half, byte, ascii, zeros, align, global, set, code, IsLabel, BeginsWithNoColon, IsStatement, unlabelled, labelled, label_alone, IsHead, head}
@@ -75,10 +75,10 @@ made_head line name t = Ok (row.Head name.0 line)
 head_read : (line e : ℕ) (p : Piece) (ps : List Piece) (r : Row) → IsNamed (codes ".module") p → head_at (st line e (p ∷ ps)) ≡ Ok r → Stated line (p ∷ ps) r
 unfolding head_at
 head_read line e p ps r n h =
-    let b = bind_ok (any_name_at (st line e ps)) (λ (name : List ℕ × ReaderState). end_at name.1 >>= made_head line name) r h in
+    let b = bind_ok (any_name_at (st line e ps)) (λ (name : List ℕ × ReaderState). line_end_at name.1 >>= made_head line name) r h in
     let o = slot_read (one_any_name line e) ps b.0 b.1 in
-    let d = bind_ok (end_at b.0.1) (made_head line b.0) r b.2 in
-    let z = end_read line e o.rest d.0 (ap end_at (sym o.after) ∙ d.1) in
+    let d = bind_ok (line_end_at b.0.1) (made_head line b.0) r b.2 in
+    let z = end_read line e o.rest d.0 (ap line_end_at (sym o.after) ∙ d.1) in
     let t : ps ≡ o.piece ∷ [] = o.tokens ∙ ap (λ (qs : List Piece). o.piece ∷ qs) z in
     subst (λ (qs : List Piece). Stated line (p ∷ qs) r) (sym t)
     (record { said = begins b.0.0; line_says = module_line (head n o.is.0 o.is.1); row_is = ap (λ (x : Row). let y : Option Row = Some x in y) (ok_same d.2) })
@@ -149,7 +149,7 @@ unfolding row_at head_at
 head_again line e ps name (head {p = p} {q = q} n k v) =
     take_else (is_label_on (Some p.says) (Some q.says)) _ _ (head_no_label line e p q name n k)
     ∙ take_then (is_head_on (Some p.says)) _ _ (ap (λ (m : TokenValue). is_head_on (Some m)) n)
-    ∙ bind_to (any_name_at (st line e (q ∷ []))) (λ (x : List ℕ × ReaderState). end_at x.1 >>= made_head line x) (name, st line e []) (Ok (row.Head name line)) (slot_again (one_any_name line e) name q [] (k, v)) refl
+    ∙ bind_to (any_name_at (st line e (q ∷ []))) (λ (x : List ℕ × ReaderState). line_end_at x.1 >>= made_head line x) (name, st line e []) (Ok (row.Head name line)) (slot_again (one_any_name line e) name q [] (k, v)) refl
 
 -- an operation isn't the head of a module
 pub not_head : (line e : ℕ) (ps : List Piece) (c : Body) → operation_at (st line e ps) ≡ Ok c → is_head_on (first (st line e ps)) ≡ false

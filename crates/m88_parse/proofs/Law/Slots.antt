@@ -9,10 +9,10 @@ use Rattle.m88_parse.specs.declared.fault.ParseKind.{ParseKind}
 use Rattle.m88_parse.specs.declared.fault.ParseKind.TheVariants.{Syntax, NoSuchName, OutOfRange}
 use Rattle.m88_parse.specs.declared.fault.ParseFault.{ParseFault}
 use Rattle.m88_parse.specs.Language.Pieces.{TokenValue, a_name, a_number, a_text, a_mark, Piece}
-use Rattle.m88_parse.specs.Reader.Names.{register_of, control_of, float_control_of, control_in, is_name, is_symbol}
+use Rattle.m88_parse.specs.Reader.Names.{register_of, control_of, float_control_of, control_in, is_valid_name, is_symbol}
 use Rattle.m88_parse.specs.Language.Words.{bit_named, condition_named}
-use Rattle.m88_parse.specs.Reader.State.{ReaderState, first, past, is_mark_of, is_next, ◌>>=◌}
-use Rattle.m88_parse.specs.Reader.Slots.{Read, named, mark_at, end_at, unsigned_on, unsigned_at, register_on, register_at, control_on, control_at, tabled_on, bit_at, mask_at, symbol_on, symbol_at, text_on, text_at, any_name_on, any_name_at, alignment_on, alignment_at}
+use Rattle.m88_parse.specs.Reader.State.{ReaderState, first, past, is_mark_of, is_next_mark, ◌>>=◌}
+use Rattle.m88_parse.specs.Reader.Slots.{Read, meaning_or_fault, mark_at, line_end_at, unsigned_on, unsigned_at, register_on, register_at, control_on, control_at, tabled_on, bit_at, mask_at, symbol_on, symbol_at, text_on, text_at, any_name_on, any_name_at, alignment_on, alignment_at}
 use Rattle.m88_parse.specs.Language.Names.{IsMark, IsNumber, IsNamed, IsRegister, IsControl, IsBit, IsCondition, IsSymbol}
 use Rattle.m88_parse.proofs.Law.Steps.{either, chosen, take_then, take_else}
 use Rattle.m88_parse.proofs.Law.Names.{some_same, register_is, register_name_again, control_name_is, control_name_again, symbol_is, symbol_name_again, name_is, name_spelled_again}
@@ -54,26 +54,26 @@ mark_says m (a_number n) h = absurd cc
 mark_says m (a_text bytes) h = absurd cc
 mark_says m (a_mark b) h = ap a_mark (eqb-true b m h)
 
-pub next_is : (m line e : ℕ) (ps : List Piece) → is_next m (st line e ps) ≡ true → OneMark m line e ps (past (st line e ps))
+pub next_is : (m line e : ℕ) (ps : List Piece) → is_next_mark m (st line e ps) ≡ true → OneMark m line e ps (past (st line e ps))
 next_is m line e [] h = absurd cc
 next_is m line e (p ∷ ps) h = record { piece = p; rest = ps; tokens = refl; is = mark_says m p.says h; after = refl }
 
-pub next_again : (m line e : ℕ) (p : Piece) (ps : List Piece) → IsMark m p → is_next m (st line e (p ∷ ps)) ≡ true
+pub next_again : (m line e : ℕ) (p : Piece) (ps : List Piece) → IsMark m p → is_next_mark m (st line e (p ∷ ps)) ≡ true
 next_again m line e p ps h = ap (λ (o : TokenValue). is_mark_of m (Some o)) h ∙ eq-eqb m m refl
 
 pub mark_read : (m line e : ℕ) (ps : List Piece) (t : ReaderState) → mark_at m (st line e ps) ≡ Ok t → OneMark m line e ps t
 mark_read m line e ps t h =
-    elim (chosen (is_next m (st line e ps)) _ _ _ h) [
+    elim (chosen (is_next_mark m (st line e ps)) _ _ _ h) [
       | inl j ↦ subst (OneMark m line e ps) (ok_same j.1) (next_is m line e ps j.0)
       | inr j ↦ absurd cc
     ]
 
 pub mark_again : (m line e : ℕ) (p : Piece) (ps : List Piece) → IsMark m p → mark_at m (st line e (p ∷ ps)) ≡ Ok (st line e ps)
-mark_again m line e p ps h = take_then (is_next m (st line e (p ∷ ps))) _ _ (next_again m line e p ps h)
+mark_again m line e p ps h = take_then (is_next_mark m (st line e (p ∷ ps))) _ _ (next_again m line e p ps h)
 
 -- the end of the line
 
-pub end_read : (line e : ℕ) (ps : List Piece) (t : ReaderState) → end_at (st line e ps) ≡ Ok t → ps ≡ []
+pub end_read : (line e : ℕ) (ps : List Piece) (t : ReaderState) → line_end_at (st line e ps) ≡ Ok t → ps ≡ []
 end_read line e [] t h = refl
 end_read line e (p ∷ ps) t h = absurd cc
 
@@ -114,7 +114,7 @@ unfoldable pub any : Piece
 any = saying (a_name (codes "x"))
 
 pub any_is_symbol : IsSymbol (codes "x") any
-unfolding any is_symbol is_name register_of control_of float_control_of
+unfolding any is_symbol is_valid_name register_of control_of float_control_of
 any_is_symbol = (refl, symbol_is (codes "x") refl)
 
 -- what a token gives
@@ -200,7 +200,7 @@ pub tested_is : {A : Type 0} (t : Bool) (x y : A) → only_if t x ≡ Some y →
 tested_is true x y h = (refl, some_same h)
 tested_is false x y h = absurd cc
 
-pub named_gives : {A : Type 0} (o : Option A) (line e : ℕ) (p : Piece) (ps : List Piece) → named (st line e (p ∷ ps)) o ≡ gives line e p ps NoSuchName o
+pub named_gives : {A : Type 0} (o : Option A) (line e : ℕ) (p : Piece) (ps : List Piece) → meaning_or_fault (st line e (p ∷ ps)) o ≡ gives line e p ps NoSuchName o
 named_gives (Some x) line e p ps = refl
 named_gives None line e p ps = refl
 
@@ -263,7 +263,7 @@ one_number most line e = record {
 
 -- a general register
 
-register_found : (p : Piece) (text : List ℕ) (x : Reg) → IsNamed text p → (o : Option ℕ) → register_of text ≡ o → option_map reg_of o ≡ Some x → IsRegister x p
+pub register_found : (p : Piece) (text : List ℕ) (x : Reg) → IsNamed text p → (o : Option ℕ) → register_of text ≡ o → option_map reg_of o ≡ Some x → IsRegister x p
 register_found p text x i (Some n) j k = (text, n, i, register_is text n j, sym (some_same k))
 register_found p text x i None j k = absurd cc
 
@@ -384,21 +384,21 @@ abbrev pub IsAnyName : List ℕ → Piece → Type 0
 IsAnyName name p = IsNamed name p × IsName name
 
 abbrev name_here : List ℕ → Option (List ℕ)
-name_here text = only_if (is_name text) text
+name_here text = only_if (is_valid_name text) text
 
 abbrev name_by : TokenValue → Option (List ℕ)
 name_by = by_token name_here nothing nothing
 
 name_given : (p : Piece) (name : List ℕ) → IsAnyName name p → name_by p.says ≡ Some name
-name_given p name h = ap name_by h.0 ∙ take_then (is_name name) _ _ (name_spelled_again name h.1)
+name_given p name h = ap name_by h.0 ∙ take_then (is_valid_name name) _ _ (name_spelled_again name h.1)
 
 pub one_any_name : (line e : ℕ) → OneToken (List ℕ) IsAnyName false symbols line e any_name_at
 unfolding any_name_at
 one_any_name line e = record {
   given = λ p. name_by p.says;
   empty = refl;
-  each = λ p ps. token_gives false symbols line e p ps (λ o. any_name_on (st line e (p ∷ ps)) (Some o)) name_by (λ name i. tested_gives (is_name name) name Syntax line e p ps) (λ n. refl) (λ bytes. refl) (λ m. refl) p.says refl;
-  is = λ p x. token_is IsAnyName name_here nothing p x (λ name i k. let j = tested_is (is_name name) name x k in subst (λ (y : List ℕ). IsAnyName y p) j.1 (i, name_is name j.0)) (λ n i k. absurd cc) p.says refl;
+  each = λ p ps. token_gives false symbols line e p ps (λ o. any_name_on (st line e (p ∷ ps)) (Some o)) name_by (λ name i. tested_gives (is_valid_name name) name Syntax line e p ps) (λ n. refl) (λ bytes. refl) (λ m. refl) p.says refl;
+  is = λ p x. token_is IsAnyName name_here nothing p x (λ name i k. let j = tested_is (is_valid_name name) name x k in subst (λ (y : List ℕ). IsAnyName y p) j.1 (i, name_is name j.0)) (λ n i k. absurd cc) p.says refl;
   again = λ p x h. name_given p x h;
   numbers = λ p n i. ap name_by i;
   names = λ p name i. (name, name_given p name (i.0, i.1.valid));

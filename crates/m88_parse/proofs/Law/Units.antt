@@ -11,7 +11,7 @@ use Rattle.m88_parse.specs.Language.Pieces.{Piece}
 use Rattle.m88_parse.specs.Fault.{Gives}
 use Rattle.m88_parse.specs.Reader.State.{◌>>=◌}
 use Rattle.m88_base.specs.Lines.{lines_of}
-use Rattle.m88_parse.specs.Reader.Source.{row_of_pieces, row_of, with_row, rows_of, grouped, main_with, modules_in, unit_of_rows, unit_of}
+use Rattle.m88_parse.specs.Reader.Source.{row_of_pieces, row_of_line, with_row, rows_of, grouped, main_with, modules_in, unit_of_rows, unit_of}
 use Rattle.m88_parse.specs.Language.Tokens.{LineTokens}
 use Rattle.m88_parse.specs.Language.Units.{Said, says_nothing, says, begins, LineSays, AreRows, no_row, row_of_nothing, row_of_statement, row_of_module, AreModules, only_main, first_main, no_main, IsUnit}
 use Rattle.m88_parse.proofs.Law.Slots.{ok_same, bind_ok, bind_to}
@@ -27,15 +27,15 @@ pub record LineRow (number : ℕ) (line : List ℕ) (o : Option Row) : Type 0 wh
   pub line_says : LineSays number pieces said
   pub row_is : row_for number said ≡ o
 
-pub line_row : (number : ℕ) (line : List ℕ) (o : Option Row) → row_of number line ≡ Ok o → LineRow number line o
-unfolding row_of
+pub line_row : (number : ℕ) (line : List ℕ) (o : Option Row) → row_of_line number line ≡ Ok o → LineRow number line o
+unfolding row_of_line
 line_row number line o h =
     let b = bind_ok (pieces_of number line) (λ (ps : List Piece). row_of_pieces number ps) o h in
     let k = line_read number b.0 o b.2 in
     record { pieces = b.0; said = k.0; tokens = line_is_cut number line b.0 b.1; line_says = k.1; row_is = k.2 }
 
-pub row_again : (number : ℕ) (line : List ℕ) (ps : List Piece) (said : Said) → LineTokens line ps → LineSays number ps said → row_of number line ≡ Ok (row_for number said)
-unfolding row_of
+pub row_again : (number : ℕ) (line : List ℕ) (ps : List Piece) (said : Said) → LineTokens line ps → LineSays number ps said → row_of_line number line ≡ Ok (row_for number said)
+unfolding row_of_line
 row_again number line ps said t h = bind_to (pieces_of number line) (λ (qs : List Piece). row_of_pieces number qs) ps (Ok (row_for number said)) (line_is_read number line ps t) (line_again number ps said h)
 
 -- the lines in order
@@ -53,7 +53,7 @@ rows_related : (number : ℕ) (lines : List (List ℕ)) (rows : List Row) → ro
 unfolding rows_of grouped
 rows_related number [] rows h = subst (Grouped number []) (ok_same h) no_row
 rows_related number (line ∷ lines) rows h =
-    let b = bind_ok (row_of number line) (λ (r : Option Row). rows_of (number + 1) lines >>= λ (rs : List Row). Ok (with_row r rs)) rows h in
+    let b = bind_ok (row_of_line number line) (λ (r : Option Row). rows_of (number + 1) lines >>= λ (rs : List Row). Ok (with_row r rs)) rows h in
     let c = bind_ok (rows_of (number + 1) lines) (λ (rs : List Row). Ok (with_row b.0 rs)) rows b.2 in
     let k = line_row number line b.0 b.1 in
     subst (Grouped number (line ∷ lines)) (ok_same c.2) (add_row number line lines k.pieces k.said b.0 c.0 k.tokens k.line_says k.row_is (rows_related (number + 1) lines c.0 c.1))
@@ -65,10 +65,10 @@ pub record RowsRead (number : ℕ) (lines : List (List ℕ)) (ss : List Statemen
   pub statements : (grouped rows).0 ≡ ss
   pub modules : (grouped rows).1 ≡ ms
 
-one_more : (number : ℕ) (line : List ℕ) (lines : List (List ℕ)) (o : Option Row) (rows : List Row) → row_of number line ≡ Ok o → rows_of (number + 1) lines ≡ Ok rows → rows_of number (line ∷ lines) ≡ Ok (with_row o rows)
+one_more : (number : ℕ) (line : List ℕ) (lines : List (List ℕ)) (o : Option Row) (rows : List Row) → row_of_line number line ≡ Ok o → rows_of (number + 1) lines ≡ Ok rows → rows_of number (line ∷ lines) ≡ Ok (with_row o rows)
 unfolding rows_of
 one_more number line lines o rows h k =
-    bind_to (row_of number line) (λ (r : Option Row). rows_of (number + 1) lines >>= λ (rs : List Row). Ok (with_row r rs)) o (Ok (with_row o rows)) h
+    bind_to (row_of_line number line) (λ (r : Option Row). rows_of (number + 1) lines >>= λ (rs : List Row). Ok (with_row r rs)) o (Ok (with_row o rows)) h
     (bind_to (rows_of (number + 1) lines) (λ (rs : List Row). Ok (with_row o rs)) rows (Ok (with_row o rows)) k refl)
 
 rows_again : {number : ℕ} {lines : List (List ℕ)} {ss : List Statement} {ms : List Module} → AreRows number lines ss ms → RowsRead number lines ss ms

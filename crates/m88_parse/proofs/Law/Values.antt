@@ -5,7 +5,7 @@ use Rattle.m88_base.specs.declared.fixup.Fixup.{Fixup}
 use Rattle.m88_parse.specs.declared.unit.Value.{Value}
 use Rattle.m88_parse.specs.declared.unit.Value.TheVariants.{Number, Symbol}
 use Rattle.m88_parse.specs.Language.Pieces.{TokenValue, a_name, a_number, a_text, a_mark, Piece}
-use Rattle.m88_parse.specs.Reader.State.{ReaderState, first, past, is_mark_of, is_next, ◌>>=◌}
+use Rattle.m88_parse.specs.Reader.State.{ReaderState, first, past, is_mark_of, is_next_mark, ◌>>=◌}
 use Rattle.m88_parse.specs.Reader.Slots.{Read, negated, negative_on, unsigned_at, signed_at, symbol_at, addend_at, fixup_at, value_on, value_at}
 use Rattle.m88_parse.specs.Language.Names.{IsMark, IsNumber}
 use Rattle.m88_parse.specs.Language.Operands.{minus, IsSigned, IsSymbolOf, IsAddend, IsFixup, IsValue}
@@ -61,23 +61,23 @@ pub whole_read : (low most line e : ℕ) (ps : List Piece) (x : ℕ × ReaderSta
 unfolding signed_at unsigned_at
 whole_read low most line e [] x h = absurd cc
 whole_read low most line e (p ∷ ps) x h =
-    elim (chosen (is_next 45 (st line e (p ∷ ps))) _ _ _ h) [
+    elim (chosen (is_next_mark 45 (st line e (p ∷ ps))) _ _ _ h) [
       | inl j ↦ negative_read low most line e p ps x (mark_of_next line e p ps j.0) j.1
       | inr j ↦ whole_of_one low most line e (p ∷ ps) x (slot_read (one_number most line e) (p ∷ ps) x j.1)
     ]
   where
-    mark_of_next : (line e : ℕ) (p : Piece) (ps : List Piece) → is_next 45 (st line e (p ∷ ps)) ≡ true → IsMark 45 p
+    mark_of_next : (line e : ℕ) (p : Piece) (ps : List Piece) → is_next_mark 45 (st line e (p ∷ ps)) ≡ true → IsMark 45 p
     mark_of_next line e p ps k = mark_says 45 p.says k
 
 pub whole_again : (low most line e : ℕ) (front rest : List Piece) (v : ℕ) → IsWhole low most front v → signed_at low most (st line e (front ++ rest)) ≡ Ok (v, st line e rest)
 unfolding signed_at unsigned_at
 whole_again low most line e [] rest v h = absurd h
 whole_again low most line e (p ∷ []) rest v h =
-    take_else (is_next 45 (st line e (p ∷ rest))) _ _ (ap (λ (m : TokenValue). is_mark_of 45 (Some m)) h.0) ∙ slot_again (one_number most line e) v p rest h
+    take_else (is_next_mark 45 (st line e (p ∷ rest))) _ _ (ap (λ (m : TokenValue). is_mark_of 45 (Some m)) h.0) ∙ slot_again (one_number most line e) v p rest h
 whole_again low most line e (m ∷ p ∷ []) rest v h =
     let s = st line e (m ∷ p ∷ rest) in
     let n = h.1 in
-    take_then (is_next 45 s) _ _ (next_again 45 line e m (p ∷ rest) h.0)
+    take_then (is_next_mark 45 s) _ _ (next_again 45 line e m (p ∷ rest) h.0)
     ∙ ap (λ (o : TokenValue). negative_on low s (past s) (Some o)) n.1
     ∙ take_then (nat_le n.0 low) _ _ (le-leb n.0 low n.2)
     ∙ ap (λ (k : ℕ). let y : Read ℕ = Ok (k, st line e rest) in y) (sym n.3)
@@ -103,13 +103,13 @@ pub data Added (line e : ℕ) (ps : List Piece) (x : ℕ × ReaderState) : Type 
   nothing_added : x.0 ≡ 0 → x.1 ≡ st line e ps → Added line e ps x
   number_added : (m p : Piece) (rest : List Piece) → ps ≡ m ∷ p ∷ rest → IsAddend x.0 m p → x.1 ≡ st line e rest → Added line e ps x
 
-plus_added : (line e : ℕ) (ps : List Piece) (x : ℕ × ReaderState) → is_next 43 (st line e ps) ≡ true → unsigned_at 2147483647 (past (st line e ps)) ≡ Ok x → Added line e ps x
+plus_added : (line e : ℕ) (ps : List Piece) (x : ℕ × ReaderState) → is_next_mark 43 (st line e ps) ≡ true → unsigned_at 2147483647 (past (st line e ps)) ≡ Ok x → Added line e ps x
 plus_added line e ps x k h =
     let m = next_is 43 line e ps k in
     let n = slot_read (one_number 2147483647 line e) m.rest x (ap (unsigned_at 2147483647) (sym m.after) ∙ h) in
     number_added m.piece n.piece n.rest (m.tokens ∙ ap (λ (qs : List Piece). m.piece ∷ qs) n.tokens) (x.0, n.is.0, omega (arith, n.is.1), inl (m.is, refl)) n.after
 
-minus_added : (line e : ℕ) (ps : List Piece) (x : ℕ × ReaderState) → is_next 45 (st line e ps) ≡ true → (unsigned_at 2147483647 (past (st line e ps)) >>= λ n. Ok (negated n.0, n.1)) ≡ Ok x → Added line e ps x
+minus_added : (line e : ℕ) (ps : List Piece) (x : ℕ × ReaderState) → is_next_mark 45 (st line e ps) ≡ true → (unsigned_at 2147483647 (past (st line e ps)) >>= λ n. Ok (negated n.0, n.1)) ≡ Ok x → Added line e ps x
 minus_added line e ps x k h =
     let m = next_is 45 line e ps k in
     let b = bind_ok (unsigned_at 2147483647 (past (st line e ps))) (λ (n : ℕ × ReaderState). Ok (negated n.0, n.1)) x h in
@@ -121,10 +121,10 @@ minus_added line e ps x k h =
 pub addend_read : (line e : ℕ) (ps : List Piece) (x : ℕ × ReaderState) → addend_at (st line e ps) ≡ Ok x → Added line e ps x
 unfolding addend_at
 addend_read line e ps x h =
-    elim (chosen (is_next 43 (st line e ps)) _ _ _ h) [
+    elim (chosen (is_next_mark 43 (st line e ps)) _ _ _ h) [
       | inl j ↦ plus_added line e ps x j.0 j.1
       | inr j ↦
-          elim (chosen (is_next 45 (st line e ps)) _ _ _ j.1) [
+          elim (chosen (is_next_mark 45 (st line e ps)) _ _ _ j.1) [
             | inl k ↦ minus_added line e ps x k.0 k.1
             | inr k ↦
                 let same = ok_same k.1 in
@@ -140,7 +140,7 @@ IsUnsigned (p ∷ ps) = (is_mark_of 43 (Some p.says) ≡ false) × (is_mark_of 4
 pub no_addend : (line e : ℕ) (rest : List Piece) → IsUnsigned rest → addend_at (st line e rest) ≡ Ok (0, st line e rest)
 unfolding addend_at
 no_addend line e [] h = refl
-no_addend line e (p ∷ ps) h = take_else (is_next 43 (st line e (p ∷ ps))) _ _ h.0 ∙ take_else (is_next 45 (st line e (p ∷ ps))) _ _ h.1
+no_addend line e (p ∷ ps) h = take_else (is_next_mark 43 (st line e (p ∷ ps))) _ _ h.0 ∙ take_else (is_next_mark 45 (st line e (p ∷ ps))) _ _ h.1
 
 plus_no_minus : (o : TokenValue) → is_mark_of 45 (Some o) ≡ true → is_mark_of 43 (Some o) ≡ false
 plus_no_minus (a_name text) h = refl
@@ -154,12 +154,12 @@ addend_again line e addend m p rest h = by_mark h.3
   where
     by_mark : (IsMark 43 m × (addend ≡ h.0)) ⊎ (IsMark 45 m × (addend ≡ minus 4294967296 h.0)) → addend_at (st line e (m ∷ p ∷ rest)) ≡ Ok (addend, st line e rest)
     by_mark (inl k) =
-        take_then (is_next 43 (st line e (m ∷ p ∷ rest))) _ _ (next_again 43 line e m (p ∷ rest) k.0)
+        take_then (is_next_mark 43 (st line e (m ∷ p ∷ rest))) _ _ (next_again 43 line e m (p ∷ rest) k.0)
         ∙ slot_again (one_number 2147483647 line e) h.0 p rest (h.1, omega (arith, h.2))
         ∙ ap (λ (n : ℕ). let y : Read ℕ = Ok (n, st line e rest) in y) (sym k.1)
     by_mark (inr k) =
-        take_else (is_next 43 (st line e (m ∷ p ∷ rest))) _ _ (plus_no_minus m.says (next_again 45 line e m (p ∷ rest) k.0))
-        ∙ take_then (is_next 45 (st line e (m ∷ p ∷ rest))) _ _ (next_again 45 line e m (p ∷ rest) k.0)
+        take_else (is_next_mark 43 (st line e (m ∷ p ∷ rest))) _ _ (plus_no_minus m.says (next_again 45 line e m (p ∷ rest) k.0))
+        ∙ take_then (is_next_mark 45 (st line e (m ∷ p ∷ rest))) _ _ (next_again 45 line e m (p ∷ rest) k.0)
         ∙ bind_to (unsigned_at 2147483647 (st line e (p ∷ rest))) (λ (n : ℕ × ReaderState). Ok (negated n.0, n.1)) (h.0, st line e rest) (Ok (addend, st line e rest)) (slot_again (one_number 2147483647 line e) h.0 p rest (h.1, omega (arith, h.2)))
         (ap (λ (n : ℕ). let y : Read ℕ = Ok (n, st line e rest) in y) (sym k.1))
 

@@ -19,11 +19,11 @@ pub record Piece : Type 0 where
   pub says : TokenValue
 
 -- the kind of a token by what it says
-abbrev pub kind_of : TokenValue → TokenKind
-kind_of (a_name _) = kinds.Name
-kind_of (a_number _) = kinds.Number
-kind_of (a_text _) = kinds.Text
-kind_of (a_mark _) = kinds.Mark
+abbrev pub token_kind : TokenValue → TokenKind
+token_kind (a_name _) = kinds.Name
+token_kind (a_number _) = kinds.Number
+token_kind (a_text _) = kinds.Text
+token_kind (a_mark _) = kinds.Mark
 
 -- a token of the public call without where its bytes lie in memory.
 pub record PlainToken : Type 0 where
@@ -38,7 +38,7 @@ plain_token t = record { text = t.text.now; line = t.line; col = t.col; kind = t
 
 -- the same of a piece of a line with this number
 abbrev pub token_of : ℕ → Piece → PlainToken
-token_of line p = record { text = p.text; line = line; col = p.col; kind = kind_of p.says }
+token_of line p = record { text = p.text; line = line; col = p.col; kind = token_kind p.says }
 
 -- these bytes stand in the line at the column
 abbrev pub IsSlice : List ℕ → List ℕ → ℕ → Type 0

@@ -33,8 +33,8 @@ use Rattle.m88_parse.specs.declared.directive.Directive.{Directive}
 use Rattle.m88_parse.specs.declared.directive.Directive.TheVariants as directive
 use Rattle.m88_parse.specs.Language.Bytes.{comma_mark}
 use Rattle.m88_parse.specs.Language.Operands.{most_width}
-use Rattle.m88_parse.specs.Reader.State.{ReaderState, trouble, past, is_next, ◌>>=◌}
-use Rattle.m88_parse.specs.Reader.Slots.{Read, mark_at, end_at, unsigned_at, signed_at, register_at, control_at, bit_at, mask_at, symbol_at, value_at, text_at, alignment_at}
+use Rattle.m88_parse.specs.Reader.State.{ReaderState, trouble, past, is_next_mark, ◌>>=◌}
+use Rattle.m88_parse.specs.Reader.Slots.{Read, mark_at, line_end_at, unsigned_at, signed_at, register_at, control_at, bit_at, mask_at, symbol_at, value_at, text_at, alignment_at}
 use Rattle.m88_parse.specs.Reader.Operands.{immediate_at, operand_at, bound_at, scaled_at, index_at, user_index_at, field_at, goal_at}
 
 -- one or more items with commas between them, at most so many
@@ -42,7 +42,8 @@ unfoldable pub many : {A : Type 0} → (ReaderState → Read A) → ℕ → Read
 many item zero s = trouble Syntax s
 many item (suc more) s = do
   x ← item s
-  if is_next comma_mark x.1 then (many item more (past x.1) >>= λ xs. Ok (x.0 ∷ xs.0, xs.1)) else Ok (x.0 ∷ [], x.1)
+  if is_next_mark comma_mark x.1 then (many item more (past x.1) >>= λ xs. Ok (x.0 ∷ xs.0, xs.1))
+      else Ok (x.0 ∷ [], x.1)
 
 -- the same, as many as there are
 abbrev pub list_at : {A : Type 0} → (ReaderState → Read A) → ReaderState → Read (List A)
@@ -92,7 +93,7 @@ pub data Form : Type 0 where
 
 -- the end of the line, and what was read before it
 abbrev pub end_with : Body → ReaderState → Result Body ParseFault
-end_with b s = end_at s >>= λ t. Ok b
+end_with b s = line_end_at s >>= λ t. Ok b
 
 -- what the tokens say by a form, or the fault of the first one that can't stand where it stands
 unfoldable pub read : Form → ReaderState → Result Body ParseFault

@@ -36,11 +36,11 @@ abbrev pub is_module : List ℕ → Bool
 is_module name = bytes_eq name (codes ".module")
 
 -- a name: 1 to 64 letters, digits, _ . $, and no digit first
-unfoldable pub is_name : List ℕ → Bool
-is_name [] = false
-is_name (b ∷ bs) = begins_name b && nat_lt (length bs) 64 && list_all continues_name bs
+unfoldable pub is_valid_name : List ℕ → Bool
+is_valid_name [] = false
+is_valid_name (b ∷ bs) = begins_name b && nat_lt (length bs) 64 && list_all continues_name bs
 
 -- what a label or a symbol may be called: any name but . and the registers
 unfoldable pub is_symbol : List ℕ → Bool
-is_symbol name = is_name name
+is_symbol name = is_valid_name name
     && not (is_here name || is_some (register_of name) || is_some (control_of name) || is_some (float_control_of name))

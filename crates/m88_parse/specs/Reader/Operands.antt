@@ -23,7 +23,7 @@ use Rattle.m88_parse.specs.Reader.Names.{register_of, is_here}
 use Rattle.m88_parse.specs.Language.Bytes.{opening_parenthesis, closing_parenthesis, opening_bracket, closing_bracket, opening_angle, closing_angle, plus_mark, comma_mark, minus_mark}
 use Rattle.m88_parse.specs.Language.Words.{half_named}
 use Rattle.m88_parse.specs.Language.Pieces.{TokenValue, a_name, a_number}
-use Rattle.m88_parse.specs.Reader.State.{ReaderState, first, second, past, trouble, is_mark_of, is_next, ◌>>=◌}
+use Rattle.m88_parse.specs.Reader.State.{ReaderState, first, second, past, trouble, is_mark_of, is_next_mark, ◌>>=◌}
 use Rattle.m88_parse.specs.Reader.Slots.{Read, mark_at, unsigned_at, register_at, fixup_at, value_at}
 
 -- the upper or the lower 16 bits of a number
@@ -100,7 +100,7 @@ scaled_at s = do
 -- behind the base register: a scaled register, or a comma and what a slot gives
 abbrev pub indexed_at : {X C : Type 0} → (ReaderState → Read X) → (Reg → C) → (X → C) → ReaderState → Read C
 indexed_at slot scaled plain s =
-    if is_next opening_bracket s then (scaled_at s >>= λ r. Ok (scaled r.0, r.1))
+    if is_next_mark opening_bracket s then (scaled_at s >>= λ r. Ok (scaled r.0, r.1))
     else (mark_at comma_mark s >>= λ t. slot t >>= λ x. Ok (plain x.0, x.1))
 
 -- behind the base register of a memory operand: a scaled register, or a comma and an operand
@@ -113,7 +113,7 @@ user_index_at s = indexed_at register_at (λ r. (r, true)) (λ r. (r, false)) s
 
 -- a width, 0 to most; no width is 0
 unfoldable pub width_at : ℕ → ReaderState → Read ℕ
-width_at most s = if is_next opening_angle s then Ok (0, s) else unsigned_at most s
+width_at most s = if is_next_mark opening_angle s then Ok (0, s) else unsigned_at most s
 
 -- a width and an offset, as in 5<3>
 unfoldable pub literal_at : ℕ → ReaderState → Read Field
@@ -146,8 +146,8 @@ distance_at most s = distance_on most s (first s)
 -- behind the . of a goal: words forward or back, which fit a sign and the bits below limit
 unfoldable pub words_at : ℕ → ReaderState → Read ℤ
 words_at limit s =
-    if is_next plus_mark s then (distance_at (limit - 1) (past s) >>= λ n. Ok (pos n.0, n.1))
-    else (if is_next minus_mark s then (distance_at limit (past s) >>= λ n. Ok (neg_ℤ (pos n.0), n.1))
+    if is_next_mark plus_mark s then (distance_at (limit - 1) (past s) >>= λ n. Ok (pos n.0, n.1))
+    else (if is_next_mark minus_mark s then (distance_at limit (past s) >>= λ n. Ok (neg_ℤ (pos n.0), n.1))
     else Ok (pos 0, s))
 
 -- whether what a token says is the place of the statement

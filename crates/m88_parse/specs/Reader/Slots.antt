@@ -11,21 +11,21 @@ use Rattle.m88_parse.specs.declared.fault.ParseFault.{ParseFault}
 use Rattle.m88_parse.specs.declared.fault.ParseKind.TheVariants.{Syntax, NoSuchName, OutOfRange}
 use Rattle.m88_parse.specs.declared.unit.Value.{Value}
 use Rattle.m88_parse.specs.declared.unit.Value.TheVariants as value
-use Rattle.m88_parse.specs.Reader.Names.{register_of, control_in, is_name, is_symbol}
+use Rattle.m88_parse.specs.Reader.Names.{register_of, control_in, is_valid_name, is_symbol}
 use Rattle.m88_parse.specs.Language.Bytes.{plus_mark, minus_mark}
 use Rattle.m88_parse.specs.Language.Operands.{minus}
 use Rattle.m88_parse.specs.Language.Words.{bit_named, condition_named}
 use Rattle.m88_parse.specs.Language.Pieces.{TokenValue, a_name, a_number, a_text}
-use Rattle.m88_parse.specs.Reader.State.{ReaderState, first, place, past, trouble, is_next, ◌>>=◌}
+use Rattle.m88_parse.specs.Reader.State.{ReaderState, first, place, past, trouble, is_next_mark, ◌>>=◌}
 
 -- a value and what is left behind it, or a fault
 abbrev pub Read : Type 0 → Type 0
 Read A = Result (A × ReaderState) ParseFault
 
 -- what a name that has a meaning of its own stands for
-abbrev pub named : {A : Type 0} → ReaderState → Option A → Read A
-named s (Some x) = Ok (x, past s)
-named s None = trouble NoSuchName s
+abbrev pub meaning_or_fault : {A : Type 0} → ReaderState → Option A → Read A
+meaning_or_fault s (Some x) = Ok (x, past s)
+meaning_or_fault s None = trouble NoSuchName s
 
 -- a number, where it is in range
 abbrev pub ranged : ℕ → ℕ → ReaderState → Read ℕ
@@ -33,16 +33,16 @@ ranged most n s = if nat_le n most then Ok (n, past s) else trouble OutOfRange s
 
 -- a mark
 abbrev pub mark_at : ℕ → ReaderState → Result ReaderState ParseFault
-mark_at m s = if is_next m s then Ok (past s) else trouble Syntax s
+mark_at m s = if is_next_mark m s then Ok (past s) else trouble Syntax s
 
 -- the end of the line, by what stands there
-abbrev pub end_on : ReaderState → Option TokenValue → Result ReaderState ParseFault
-end_on s None = Ok s
-end_on s (Some _) = trouble Syntax s
+abbrev pub line_end_on : ReaderState → Option TokenValue → Result ReaderState ParseFault
+line_end_on s None = Ok s
+line_end_on s (Some _) = trouble Syntax s
 
 -- the end of the line
-abbrev pub end_at : ReaderState → Result ReaderState ParseFault
-end_at s = end_on s (first s)
+abbrev pub line_end_at : ReaderState → Result ReaderState ParseFault
+line_end_at s = line_end_on s (first s)
 
 -- a number, 0 to most, by what stands there
 abbrev pub unsigned_on : ℕ → ReaderState → Option TokenValue → Read ℕ
@@ -65,11 +65,11 @@ negative_on low s t _ = trouble Syntax t
 -- a number modulo 2 ^ 32, from -low to most: its own sign is one of its tokens
 unfoldable pub signed_at : ℕ → ℕ → ReaderState → Read ℕ
 signed_at low most s =
-    if is_next minus_mark s then negative_on low s (past s) (first (past s)) else unsigned_on most s (first s)
+    if is_next_mark minus_mark s then negative_on low s (past s) (first (past s)) else unsigned_on most s (first s)
 
 -- a general register, by what stands there
 abbrev pub register_on : ReaderState → Option TokenValue → Read Reg
-register_on s (Some (a_name text)) = named s (option_map reg_of (register_of text))
+register_on s (Some (a_name text)) = meaning_or_fault s (option_map reg_of (register_of text))
 register_on s _ = trouble Syntax s
 
 -- a general register
@@ -78,7 +78,7 @@ register_at s = register_on s (first s)
 
 -- a control register, by what stands there
 abbrev pub control_on : Bool → ReaderState → Option TokenValue → Read ℕ
-control_on float s (Some (a_name text)) = named s (control_in float text)
+control_on float s (Some (a_name text)) = meaning_or_fault s (control_in float text)
 control_on float s _ = trouble Syntax s
 
 -- a control register
@@ -87,7 +87,7 @@ control_at float s = control_on float s (first s)
 
 -- a number, 0 to most, or a name of a table, by what stands there
 abbrev pub tabled_on : (List ℕ → Option ℕ) → ℕ → ReaderState → Option TokenValue → Read ℕ
-tabled_on table most s (Some (a_name text)) = named s (table text)
+tabled_on table most s (Some (a_name text)) = meaning_or_fault s (table text)
 tabled_on table most s (Some (a_number n)) = ranged most n s
 tabled_on table most s _ = trouble Syntax s
 
@@ -111,8 +111,8 @@ symbol_at s = symbol_on s (first s)
 -- what is added to a symbol, modulo 2 ^ 32: nothing, or a number below 2 ^ 31 behind + or -
 unfoldable pub addend_at : ReaderState → Read ℕ
 addend_at s =
-    if is_next plus_mark s then unsigned_at (2 ^ 31 - 1) (past s)
-    else (if is_next minus_mark s then (unsigned_at (2 ^ 31 - 1) (past s) >>= λ n. Ok (negated n.0, n.1))
+    if is_next_mark plus_mark s then unsigned_at (2 ^ 31 - 1) (past s)
+    else (if is_next_mark minus_mark s then (unsigned_at (2 ^ 31 - 1) (past s) >>= λ n. Ok (negated n.0, n.1))
     else Ok (0, s))
 
 -- a symbol with what is added to it
@@ -142,7 +142,7 @@ text_at s = text_on s (first s)
 
 -- any name, by what stands there
 abbrev pub any_name_on : ReaderState → Option TokenValue → Read (List ℕ)
-any_name_on s (Some (a_name text)) = if is_name text then Ok (text, past s) else trouble Syntax s
+any_name_on s (Some (a_name text)) = if is_valid_name text then Ok (text, past s) else trouble Syntax s
 any_name_on s _ = trouble Syntax s
 
 -- any name

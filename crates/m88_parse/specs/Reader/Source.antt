@@ -20,7 +20,7 @@ use Rattle.m88_parse.specs.Reader.Tokens.{pieces_of}
 use Rattle.m88_parse.specs.Language.Bytes.{colon_mark}
 use Rattle.m88_parse.specs.Language.Pieces.{TokenValue, a_name, Piece}
 use Rattle.m88_parse.specs.Reader.State.{ReaderState, first, second, place, past, trouble, is_mark_of, ◌>>=◌}
-use Rattle.m88_parse.specs.Reader.Slots.{symbol_at, any_name_at, end_at}
+use Rattle.m88_parse.specs.Reader.Slots.{symbol_at, any_name_at, line_end_at}
 use Rattle.m88_parse.specs.Language.Shapes.{shape_of}
 use Rattle.m88_parse.specs.Reader.Directives.{directive_of}
 use Rattle.m88_parse.specs.Reader.Grammar.{Form, read, form_of, directive_form}
@@ -74,7 +74,7 @@ unlabelled_at s = operation_at s >>= λ b. Ok (statement s None (place s) b)
 unfoldable pub head_at : ReaderState → Result Row ParseFault
 head_at s = do
   name ← any_name_at (past s)
-  end ← end_at name.1
+  end ← line_end_at name.1
   Ok (row.Head name.0 s.line)
 
 -- a name with a colon behind it is a label
@@ -106,8 +106,8 @@ row_of_pieces line (p ∷ ps) =
     row_at (record { line = line; end_col = end_of_line (p ∷ ps); rest = p ∷ ps }) >>= λ r. Ok (Some r)
 
 -- what a line says, if it has a token: it is cut into tokens whole before its statement is read
-unfoldable pub row_of : ℕ → List ℕ → Result (Option Row) ParseFault
-row_of line bytes = pieces_of line bytes >>= λ ps. row_of_pieces line ps
+unfoldable pub row_of_line : ℕ → List ℕ → Result (Option Row) ParseFault
+row_of_line line bytes = pieces_of line bytes >>= λ ps. row_of_pieces line ps
 
 -- a row more in front, if there is one
 abbrev pub with_row : Option Row → List Row → List Row
@@ -118,7 +118,7 @@ with_row (Some r) rows = r ∷ rows
 unfoldable pub rows_of : ℕ → List (List ℕ) → Result (List Row) ParseFault
 rows_of number [] = Ok []
 rows_of number (line ∷ lines) = do
-  r ← row_of number line
+  r ← row_of_line number line
   rows ← rows_of (number + 1) lines
   Ok (with_row r rows)
 

@@ -51,8 +51,8 @@ is_mark_of m (Some (a_mark b)) = b == m
 is_mark_of m _ = false
 
 -- whether the next token is this mark
-abbrev pub is_next : ℕ → ReaderState → Bool
-is_next m s = is_mark_of m (first s)
+abbrev pub is_next_mark : ℕ → ReaderState → Bool
+is_next_mark m s = is_mark_of m (first s)
 
 infixl 10 ◌>>=◌
 -- the first fault of two readings in turn, or what the second gives

@@ -78,8 +78,8 @@ abbrev pub gap : ℕ → Result Cut Flaw
 gap len = Ok (record { len = len; says = None })
 
 -- a token
-abbrev pub cut : ℕ → TokenValue → Result Cut Flaw
-cut len meaning = Ok (record { len = len; says = Some meaning })
+abbrev pub token_cut : ℕ → TokenValue → Result Cut Flaw
+token_cut len meaning = Ok (record { len = len; says = Some meaning })
 
 -- a place that can't be cut
 abbrev pub flaw : ParseKind → ℕ → Result Cut Flaw
@@ -87,16 +87,16 @@ flaw kind at = Err (record { at = at; kind = kind })
 
 -- a token, or a quote that holds none
 abbrev pub token_or_flaw : ℕ → Option TokenValue → Result Cut Flaw
-token_or_flaw len (Some meaning) = cut len meaning
+token_or_flaw len (Some meaning) = token_cut len meaning
 token_or_flaw len None = flaw Syntax 0
 
 -- a name, which has at most 64 bytes
 abbrev pub name_front : List ℕ → Result Cut Flaw
-name_front run = if nat_lt 64 (length run) then flaw OutOfRange 0 else cut (length run) (a_name run)
+name_front run = if nat_lt 64 (length run) then flaw OutOfRange 0 else token_cut (length run) (a_name run)
 
 -- a number
 abbrev pub number_front : ℕ → Result ℕ ParseKind → Result Cut Flaw
-number_front len (Ok n) = cut len (a_number n)
+number_front len (Ok n) = token_cut len (a_number n)
 number_front len (Err kind) = flaw kind 0
 
 -- a character as a number
@@ -129,7 +129,7 @@ front (b ∷ bs) =
     else (if is_blank b then gap 1
     else (if not (is_plain b) then flaw NotAscii 0
     else (if continues_name b then word_front b (take (prefix_len continues_name (b ∷ bs)) (b ∷ bs))
-    else (if is_mark b then cut 1 (a_mark b)
+    else (if is_mark b then token_cut 1 (a_mark b)
     else (if b == double_quote || b == single_quote then quoted b bs else flaw Syntax 0)))))
 
 -- a token more in front, if there is one

@@ -1,10 +1,16 @@
 -- A refusal stands whole only where it was written whole; where the sink failed a part of the text was written.
-use Rattle.std.proofs.Common.{◌≡◌, inr, refl, sym, ◌∙◌, subst}
+use Rattle.std.proofs.Common.{◌≡◌, Err, inl, inr, refl, ap, sym, ◌∙◌, subst}
 use Rattle.m88_base.specs.Outside.{AppendsPart}
-use Rattle.m88_cli.specs.Kept.{choice_of}
+use Rattle.m88_cli.specs.Answer.{Accepts}
+use Rattle.m88_cli.specs.Command.{reads_input}
+use Rattle.m88_cli.specs.Kept.{command_of}
 use Rattle.m88_cli.specs.Refusal.{refusal_line}
+use Rattle.m88_cli.proofs.BridgeLinks.{assembled_links_alike}
+use Rattle.m88_cli.proofs.BridgeListings.{listed_builds_alike}
+use Rattle.m88_cli.proofs.BridgeRuns.{built_runs_alike}
 use Rattle.m88_cli.proofs.OneSource.{refused_not_accepted}
-use Rattle.m88_cli.proofs.Whole.{accepted_reply, answer_of, line_of_reply, not_part, not_whole, of_err, refusal_some, refused_reply, reply_given, reply_whole, shown_if}
+use Rattle.m88_cli.proofs.PlainSources.{workload_accepted}
+use Rattle.m88_cli.proofs.Whole.{accepted_reply, answer_of, line_of_reply, not_part, not_whole, of_err, refusal_some, refused_reply, reply_given, reply_whole, shown_if, unanswered}
 use Rattle.m88_cli.proofs.program.m88.Goals as goal
 
 pub returns-in-Err-clause-refusal : goal.returns-in-Err-clause-refusal
@@ -14,15 +20,15 @@ returns-in-Err-clause-refusal g c = λ command input refusal spelled refused had
 pub returns-then-reply-clause-refusal : goal.returns-then-reply-clause-refusal
 returns-then-reply-clause-refusal g c = λ command input refusal spelled refused had left whole.
     let ok = c.in-Ok.ensures.ok in
-    let same : choice_of c.in-Some.command ≡ command = c.in-Some.ensures.only command spelled in
-    let replies = reply_whole command (choice_of c.in-Some.command) _ _ input refusal c.in-Ok.reply same refused had left (ok.0, ok.1, ok.2) in
+    let same : command_of c.in-Some.command ≡ command = c.in-Some.ensures.only command spelled in
+    let replies = reply_whole command (command_of c.in-Some.command) _ _ input refusal c.in-Ok.reply same refused had left (ok.0, ok.1, ok.2) in
     absurd (refused_not_accepted command input refusal refused (accepted_reply command input c.in-Ok.reply c.if-reply.true replies).accepted)
 
 pub returns-then-is_err-clause-refusal : goal.returns-then-is_err-clause-refusal
 returns-then-is_err-clause-refusal g c = λ command input refusal spelled refused had left whole.
     let ok = c.in-Ok.ensures.ok in
-    let same : choice_of c.in-Some.command ≡ command = c.in-Some.ensures.only command spelled in
-    let replies = reply_whole command (choice_of c.in-Some.command) _ _ input refusal c.in-Ok.reply same refused had left (ok.0, ok.1, ok.2) in
+    let same : command_of c.in-Some.command ≡ command = c.in-Some.ensures.only command spelled in
+    let replies = reply_whole command (command_of c.in-Some.command) _ _ input refusal c.in-Ok.reply same refused had left (ok.0, ok.1, ok.2) in
     let written : c.as_slice.result.now ≡ refusal_line refusal =
     c.as_slice.ensures.value ∙ line_of_reply command input refusal c.in-Ok.reply refused replies in
     let part = of_err c.write_all.result (sym c.is_err.ensures.value ∙ c.if-is_err.true) c.write_all.ensures.part in
@@ -34,20 +40,96 @@ returns-then-is_err-clause-part g c = λ e.
     let ok = c.in-Ok.ensures.ok in
     let part = of_err c.write_all.result (sym c.is_err.ensures.value ∙ c.if-is_err.true) c.write_all.ensures.part in
     record {
-      command = choice_of c.in-Some.command;
+      command = command_of c.in-Some.command;
       spelled = c.in-Some.ensures.found;
       input = ok.0;
       given = ok.1;
       text = c.in-Ok.reply.text.items;
-      is_text = answer_of (choice_of c.in-Some.command) ok.0 c.in-Ok.reply ok.2;
+      is_text = answer_of (command_of c.in-Some.command) ok.0 c.in-Ok.reply ok.2;
       written = subst (λ t. AppendsPart (g.K.Sink.held c.args.sink.now) (g.K.Sink.held c.write_all.new.sink) t) c.as_slice.ensures.value part;
-      watched = shown_if g.W.Watch.seen c.args.watch.now c.reply_from.new.watch (choice_of c.in-Some.command) ok.0 c.in-Ok.reply ok.2 ok.3;
+      watched = shown_if g.W.Watch.seen c.args.watch.now c.reply_from.new.watch (command_of c.in-Some.command) ok.0 c.in-Ok.reply ok.2 ok.3;
     }
+
+pub returns-in-Err-clause-complete : goal.returns-in-Err-clause-complete
+returns-in-Err-clause-complete g c = λ command input spelled holds sound unfailing.
+    let same : command_of c.in-Some.command ≡ command = c.in-Some.ensures.only command spelled in
+    unanswered (Accepts command input) command (g.S.Source.left c.args.source.now) (g.S.Source.left c.reply_from.new.source)
+    input c.in-Err.status holds c.in-Err.ensures.status (λ e. sound (c.reply_from.ensures.fault (c.in-Err.is ∙ ap Err e)))
+    (λ e. c.reply_from.ensures.too_long (c.in-Err.is ∙ ap Err e)) (λ e. c.in-Err.ensures.memory (ap reads_input same ∙ e))
+
+pub returns-then-reply-clause-complete : goal.returns-then-reply-clause-complete
+returns-then-reply-clause-complete g c = λ command input spelled holds sound unfailing.
+    let ok = c.in-Ok.ensures.ok in
+    let same : command_of c.in-Some.command ≡ command = c.in-Some.ensures.only command spelled in
+    let replies = reply_given command (command_of c.in-Some.command) (g.S.Source.left c.args.source.now) (g.S.Source.left c.reply_from.new.source) input c.in-Ok.reply same
+    holds (ok.0, ok.1, ok.2) in
+    inr (inl ((accepted_reply command input c.in-Ok.reply c.if-reply.true replies).accepted, refl))
 
 pub returns-clause-complete : goal.returns-clause-complete
 returns-clause-complete g c = λ command input spelled holds sound unfailing.
     let ok = c.in-Ok.ensures.ok in
-    let same : choice_of c.in-Some.command ≡ command = c.in-Some.ensures.only command spelled in
-    let replies = reply_given command (choice_of c.in-Some.command) (g.S.Source.left c.args.source.now) (g.S.Source.left c.reply_from.new.source) input c.in-Ok.reply same
+    let same : command_of c.in-Some.command ≡ command = c.in-Some.ensures.only command spelled in
+    let replies = reply_given command (command_of c.in-Some.command) (g.S.Source.left c.args.source.now) (g.S.Source.left c.reply_from.new.source) input c.in-Ok.reply same
     holds (ok.0, ok.1, ok.2) in
     inr (inr ((refused_reply command input c.in-Ok.reply c.if-reply.false replies).unaccepted, refl))
+
+-- a law between commands is one of all inputs, so it holds wherever the call returns
+pub returns-in_default-clause-bridge : goal.returns-in_default-clause-bridge
+returns-in_default-clause-bridge g c = built_runs_alike
+
+pub returns-in-Err-clause-bridge : goal.returns-in-Err-clause-bridge
+returns-in-Err-clause-bridge g c = built_runs_alike
+
+pub returns-then-is_err-clause-bridge : goal.returns-then-is_err-clause-bridge
+returns-then-is_err-clause-bridge g c = built_runs_alike
+
+pub returns-then-reply-clause-bridge : goal.returns-then-reply-clause-bridge
+returns-then-reply-clause-bridge g c = built_runs_alike
+
+pub returns-clause-bridge : goal.returns-clause-bridge
+returns-clause-bridge g c = built_runs_alike
+
+pub returns-in_default-clause-relinked : goal.returns-in_default-clause-relinked
+returns-in_default-clause-relinked g c = assembled_links_alike
+
+pub returns-in-Err-clause-relinked : goal.returns-in-Err-clause-relinked
+returns-in-Err-clause-relinked g c = assembled_links_alike
+
+pub returns-then-is_err-clause-relinked : goal.returns-then-is_err-clause-relinked
+returns-then-is_err-clause-relinked g c = assembled_links_alike
+
+pub returns-then-reply-clause-relinked : goal.returns-then-reply-clause-relinked
+returns-then-reply-clause-relinked g c = assembled_links_alike
+
+pub returns-clause-relinked : goal.returns-clause-relinked
+returns-clause-relinked g c = assembled_links_alike
+
+pub returns-in_default-clause-relisted : goal.returns-in_default-clause-relisted
+returns-in_default-clause-relisted g c = listed_builds_alike
+
+pub returns-in-Err-clause-relisted : goal.returns-in-Err-clause-relisted
+returns-in-Err-clause-relisted g c = listed_builds_alike
+
+pub returns-then-is_err-clause-relisted : goal.returns-then-is_err-clause-relisted
+returns-then-is_err-clause-relisted g c = listed_builds_alike
+
+pub returns-then-reply-clause-relisted : goal.returns-then-reply-clause-relisted
+returns-then-reply-clause-relisted g c = listed_builds_alike
+
+pub returns-clause-relisted : goal.returns-clause-relisted
+returns-clause-relisted g c = listed_builds_alike
+
+pub returns-in_default-clause-workloads : goal.returns-in_default-clause-workloads
+returns-in_default-clause-workloads g c = workload_accepted
+
+pub returns-in-Err-clause-workloads : goal.returns-in-Err-clause-workloads
+returns-in-Err-clause-workloads g c = workload_accepted
+
+pub returns-then-is_err-clause-workloads : goal.returns-then-is_err-clause-workloads
+returns-then-is_err-clause-workloads g c = workload_accepted
+
+pub returns-then-reply-clause-workloads : goal.returns-then-reply-clause-workloads
+returns-then-reply-clause-workloads g c = workload_accepted
+
+pub returns-clause-workloads : goal.returns-clause-workloads
+returns-clause-workloads g c = workload_accepted

@@ -1,57 +1,31 @@
--- The board stands at the first moment of the program that the image holds, and its run is that of the program.
-use Rattle.std.proofs.Common.{◌≡◌, subst}
+-- The report is that of what the run comes to.
+use Rattle.std.proofs.Common.{◌≡◌}
 use Rattle.std.proofs.lemmas.Result.{IfOk-weaker}
 use Rattle.m88_event.specs.Run.{IsOutcome}
 use Rattle.m88_event.specs.declared.outcome.Outcome.{Outcome}
-use Rattle.m88_isa.proofs.ImageProgram.{program_of_image}
 use Rattle.m88_isa.specs.ImageProgram.{IsProgramOf}
 use Rattle.m88_isa.specs.Machine.{Program}
 use Rattle.m88_mem.specs.Marks.{absent_in}
 use Rattle.m88_report.specs.Report.{report_of}
-use Rattle.m88_cli.proofs.Reporting.{front_by, front_of_run, no_front, on_err, on_ok, run_by}
+use Rattle.m88_cli.proofs.Reporting.{front_of_run, on_err, on_ok}
 use Rattle.m88_cli.proofs.running.run_image.Goals as goal
 
-pub returns-in_err-board-clause-front : goal.returns-in_err-board-clause-front
-returns-in_err-board-clause-front g c =
-    on_err c.from_residual.result (λ p of. no_front p c.args.limit (absent_in c.args.absent.now) c.args.schedule.now (g.W.Watch.seen c.args.watch.now))
-
 pub returns-in_err-outcome-clause-front : goal.returns-in_err-outcome-clause-front
-returns-in_err-outcome-clause-front g c =
-    on_err c.from_residual-in_err-outcome.result (λ p of.
-    front_by p c.in_ok-board.board.limit c.args.limit (absent_in c.args.absent.now) c.args.schedule.now (g.W.Watch.seen c.args.watch.now)
-    (g.W.Watch.seen c.run.new.watch) c.in_ok-board.ensures.limit
-    (c.in_err-outcome.ensures.err p (absent_in c.args.absent.now) (program_of_image c.args.image.now p c.part_count.ensures.image of)
-    (c.in_ok-board.ensures.at p of)))
+returns-in_err-outcome-clause-front g c = on_err c.from_residual.result c.in_err-outcome.ensures.front
 
 pub returns-clause-report : goal.returns-clause-report
 returns-clause-report g c =
     IfOk-weaker c.report.result (λ text. text.items ≡ report_of c.in_ok-outcome.outcome)
     (λ text. (p : Program) → IsProgramOf c.args.image.now p
     → (o : Outcome) × IsOutcome p (absent_in c.args.absent.now) c.args.limit c.args.schedule.now o × (text.items ≡ report_of o))
-    (λ text is p of. (
-      c.in_ok-outcome.outcome,
-      subst (λ n. IsOutcome p (absent_in c.args.absent.now) n c.args.schedule.now c.in_ok-outcome.outcome) c.in_ok-board.ensures.limit
-          (c.in_ok-outcome.ensures.outcome p (absent_in c.args.absent.now) (program_of_image c.args.image.now p c.part_count.ensures.image of)
-          (c.in_ok-board.ensures.at p of)),
-      is,
-    ))
+    (λ text is p of. (c.in_ok-outcome.outcome, c.in_ok-outcome.ensures.outcome p of, is))
     c.report.ensures
 
 pub returns-clause-watched : goal.returns-clause-watched
-returns-clause-watched g c =
-    on_ok c.report.result (λ p of.
-    let is = program_of_image c.args.image.now p c.part_count.ensures.image of in
-    let at = c.in_ok-board.ensures.at p of in
-    run_by p c.in_ok-board.board.limit c.args.limit (absent_in c.args.absent.now) c.args.schedule.now (g.W.Watch.seen c.args.watch.now)
-    (g.W.Watch.seen c.run.new.watch) c.in_ok-outcome.outcome c.in_ok-board.ensures.limit
-    (c.in_ok-outcome.ensures.outcome p (absent_in c.args.absent.now) is at) (c.in_ok-outcome.ensures.watched p (absent_in c.args.absent.now) is at))
+returns-clause-watched g c = on_ok c.report.result c.in_ok-outcome.ensures.watched
 
 pub returns-clause-front : goal.returns-clause-front
 returns-clause-front g c =
     on_err c.report.result (λ p of.
-    let is = program_of_image c.args.image.now p c.part_count.ensures.image of in
-    let at = c.in_ok-board.ensures.at p of in
-    front_of_run p c.args.limit (absent_in c.args.absent.now) c.args.schedule.now (g.W.Watch.seen c.args.watch.now) (g.W.Watch.seen c.run.new.watch)
-    (run_by p c.in_ok-board.board.limit c.args.limit (absent_in c.args.absent.now) c.args.schedule.now (g.W.Watch.seen c.args.watch.now)
-    (g.W.Watch.seen c.run.new.watch) c.in_ok-outcome.outcome c.in_ok-board.ensures.limit
-    (c.in_ok-outcome.ensures.outcome p (absent_in c.args.absent.now) is at) (c.in_ok-outcome.ensures.watched p (absent_in c.args.absent.now) is at)))
+    front_of_run p c.args.limit (absent_in c.args.absent.now) c.args.schedule.now (g.W.Watch.seen c.args.watch.now)
+    (g.W.Watch.seen c.outcome_of.new.watch) (c.in_ok-outcome.ensures.watched p of))

@@ -22,7 +22,10 @@ returns-in_err-text-clause-front g c =
     let p = program_in c.in-Ok.image c.run_image.ensures.image in
     let of = program_in_holds c.in-Ok.image c.run_image.ensures.image in
     let own : IsLoadedProgram c.args.records.now p = record { image = c.in-Ok.image; is_written = c.in-Ok.ensures.accepted; is_program = of } in
-    on_err c.from_residual.result (inr (p, own, c.in_err-text.ensures.front p of))
+    on_err c.from_residual.result (inr (record {
+      accepted = (whole_of c.in-Ok.image, c.in-Ok.ensures.accepted);
+      shown = (p, own, c.in_err-text.ensures.front p of);
+    }))
 
 pub returns-clause-reply : goal.returns-clause-reply
 returns-clause-reply g c =

@@ -18,7 +18,14 @@ returns-in-Err-clause-reply g c =
 pub returns-in_err-text-clause-front : goal.returns-in_err-text-clause-front
 returns-in_err-text-clause-front g c =
     let held = held_by c.args.source.now c.in-Ok.image c.in-Ok.ensures.image c.run_image.ensures.image in
-    on_err c.from_residual.result (inr (held.program, held.of_source, c.in_err-text.ensures.front held.program held.of_image))
+    on_err c.from_residual.result (inr (record {
+      accepted = record {
+        unit = c.in-Ok.ensures.image.unit;
+        is_unit = c.in-Ok.ensures.image.is_unit;
+        is_accepted = c.in-Ok.ensures.image.is_accepted;
+      };
+      shown = (held.program, held.of_source, c.in_err-text.ensures.front held.program held.of_image);
+    }))
 
 pub returns-clause-reply : goal.returns-clause-reply
 returns-clause-reply g c =

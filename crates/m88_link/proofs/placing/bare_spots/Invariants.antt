@@ -1,6 +1,6 @@
 use Rattle.std.proofs.Common.{◌≡◌, take, map}
-use Rattle.m88_link.specs.Carried.{bare}
+use Rattle.m88_link.specs.Carried.{unpatched}
 use Rattle.m88_link.proofs.placing.bare_spots.Given as goal
 
 abbrev pub invariant-loop-section : goal.invariant-loop-section
-invariant-loop-section l = l.spots.items ≡ map (bare l.standing) (take l.section-index l.sections)
+invariant-loop-section l = l.spots.items ≡ map (unpatched l.standing) (take l.section-index l.sections)

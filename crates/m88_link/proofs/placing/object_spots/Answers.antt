@@ -1,6 +1,6 @@
 use Rattle.std.proofs.Common.{◌∙◌, map, sym, ap, subst}
 use Rattle.std.specs.Prelude.{All}
-use Rattle.m88_link.specs.Carried.{HasWord, bare, carried}
+use Rattle.m88_link.specs.Carried.{HasWord, unpatched, carried}
 use Rattle.m88_link.specs.Layout.{value_of_name}
 use Rattle.m88_link.specs.Relocated.{target_of}
 use Rattle.m88_link.proofs.Carried.{carried_is, has_words}
@@ -9,9 +9,9 @@ use Rattle.m88_link.proofs.placing.object_spots.Goals as goal
 pub carry_out-requires-clause-words : goal.carry_out-requires-clause-words
 carry_out-requires-clause-words c =
     let s = c.args.standing.now in
-    let items = c.in_ok-spots.ensures ∙ ap (λ l. map (bare s) l) c.sections.ensures.value in
+    let items = c.in_ok-spots.ensures ∙ ap (λ l. map (unpatched s) l) c.sections.ensures.value in
     subst (λ l. All (HasWord l) c.relocs.result.now) (sym items)
-    (subst (λ rs. All (HasWord (map (bare s) s.object.sections)) rs) (sym c.relocs.ensures.value)
+    (subst (λ rs. All (HasWord (map (unpatched s) s.object.sections)) rs) (sym c.relocs.ensures.value)
     (has_words s s.object.sections s.object.relocs c.relocs.ensures.sound.relocs))
 
 pub returns : goal.returns
@@ -19,7 +19,7 @@ returns c =
     let g = c.args.globals.now in
     let s = c.args.standing.now in
     let t = target_of (value_of_name g s) in
-    let items = c.in_ok-spots.ensures ∙ ap (λ l. map (bare s) l) c.sections.ensures.value in
+    let items = c.in_ok-spots.ensures ∙ ap (λ l. map (unpatched s) l) c.sections.ensures.value in
     c.carry_out.ensures
     ∙ ap (λ rs. carried t rs c.in_ok-spots.spots.items) c.relocs.ensures.value
     ∙ ap (λ l. carried t s.object.relocs l) items

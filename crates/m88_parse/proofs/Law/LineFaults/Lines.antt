@@ -12,7 +12,7 @@ use Rattle.m88_parse.specs.declared.row.Row.TheVariants as row
 use Rattle.m88_parse.specs.Reader.Names.{is_module, is_symbol}
 use Rattle.m88_parse.specs.Language.Pieces.{TokenValue, a_name, a_number, a_text, a_mark, Piece}
 use Rattle.m88_parse.specs.Reader.State.{ReaderState, says_first, first, place, past, is_mark_of, ◌>>=◌}
-use Rattle.m88_parse.specs.Reader.Slots.{symbol_at, any_name_at, end_at}
+use Rattle.m88_parse.specs.Reader.Slots.{symbol_at, any_name_at, line_end_at}
 use Rattle.m88_parse.specs.Language.Shapes.{shape_of}
 use Rattle.m88_parse.specs.Reader.Directives.{directive_text, all_directives, directive_of}
 use Rattle.m88_parse.specs.Reader.Grammar.{Form, read, form_of, directive_form}
@@ -27,11 +27,11 @@ use Rattle.m88_parse.proofs.Law.Slots.{st, mark_says, no_name, own_names, symbol
 use Rattle.m88_parse.proofs.Law.Bodies.{body_again}
 use Rattle.m88_parse.proofs.Law.Rows.{label_marks, head_named, no_colon}
 use Rattle.m88_parse.proofs.Law.LineFaults.Readers.{fault_in, Reader, here, row_or_head, heard, EndsAt, Told, Good, Wanted}
-use Rattle.m88_parse.proofs.Law.LineFaults.Nodes.{is_heard, fresh_behind, misplaced_by, told, good, node_as}
+use Rattle.m88_parse.proofs.Law.LineFaults.Nodes.{fresh_behind, misplaced_by, told, good}
 use Rattle.m88_parse.proofs.Law.LineFaults.Slots.{reader_of, one_token}
-use Rattle.m88_parse.proofs.Law.LineFaults.Values.{NoName, number_is, text_is, mark_is, symbol_step}
-use Rattle.m88_parse.proofs.Law.LineFaults.Lists.{end_plain, end_node}
-use Rattle.m88_parse.proofs.Law.LineFaults.Forms.{FormGood, form_good}
+use Rattle.m88_parse.proofs.Law.LineFaults.Values.{ends_node, NoName, number_is, text_is, mark_is, symbol_step}
+use Rattle.m88_parse.proofs.Law.Forms.{form_walk}
+use Rattle.m88_parse.proofs.Law.LineFaults.Heard.{heard_law}
 
 -- the first token of an operation
 
@@ -75,7 +75,7 @@ unfolding text_of all_mnemonics directive_text all_directives
 unnamed = refl
 
 not_first : (p : Piece) → ((ps : List Piece) → heard 0 0 (p ∷ ps) ≡ None → ⊥) → MayFollow [] p → ⊥
-not_first p n x = n x.0 (is_heard 0 0 (p ∷ x.0) x.1)
+not_first p n x = n x.0 ((heard_law 0 0 (p ∷ x.0)).1 x.1)
 
 no_any : (ps : List Piece) → heard 0 0 (any ∷ ps) ≡ None → ⊥
 no_any ps h =
@@ -112,40 +112,38 @@ no_minus p name h m = let x = sym h ∙ m in cc
 
 by_good : (line e : ℕ) (p : Piece) (ps : List Piece) (f : ParseFault) (name : List ℕ) (k : Reader) → p.says ≡ a_name name → ((qs : List Piece) → heard line e (p ∷ qs) ≡ k qs)
     → Good (suc (length ps)) line e k → EndsAt (p ∷ ps) e → heard line e (p ∷ ps) ≡ Some f → Told line (p ∷ ps) f
-by_good line e p ps f name k h x g a i = g.1 (p ∷ []) (fresh_behind [] p (no_minus p name h)) x ps f (omega arith) a i
+by_good line e p ps f name k h x g a i = g.1 (heard_law line e) (p ∷ []) (fresh_behind [] p (no_minus p name h)) x ps f (omega arith) a i
 
 form_told : (line e : ℕ) (p : Piece) (ps : List Piece) (f : ParseFault) (name : List ℕ) (form : Form) → p.says ≡ a_name name → is_module name ≡ false → form_named name ≡ Some form
-    → FormGood (suc (length ps)) line e form → EndsAt (p ∷ ps) e → heard line e (p ∷ ps) ≡ Some f → Told line (p ∷ ps) f
+    → Good (suc (length ps)) line e (λ qs. fault_in (read form (st line e qs))) → EndsAt (p ∷ ps) e → heard line e (p ∷ ps) ≡ Some f → Told line (p ∷ ps) f
 form_told line e p ps f name form h n i g =
     by_good line e p ps f name (λ qs. fault_in (read form (st line e qs))) h (λ qs. heard_named line e p qs name h n ∙ ap (λ (o : Option Form). fault_in (by_form (st line e (p ∷ qs)) o)) i) g
 
 named_told : (line e : ℕ) (p : Piece) (ps : List Piece) (f : ParseFault) (name : List ℕ) (m : Option Mnemonic) (d : Option Directive) → p.says ≡ a_name name → is_module name ≡ false → mnemonic_of name ≡ m → directive_of name ≡ d
     → EndsAt (p ∷ ps) e → heard line e (p ∷ ps) ≡ Some f → Told line (p ∷ ps) f
 named_told line e p ps f name (Some m) d h n i j =
-    form_told line e p ps f name (form_of (shape_of m)) h n (ap (λ (o : Option Mnemonic). form_in o (directive_of name)) i) (form_good (suc (length ps)) line e (form_of (shape_of m)))
+    form_told line e p ps f name (form_of (shape_of m)) h n (ap (λ (o : Option Mnemonic). form_in o (directive_of name)) i) ((form_walk (form_of (shape_of m)) line e).1 (suc (length ps)))
 named_told line e p ps f name None (Some d) h n i j =
-    form_told line e p ps f name (directive_form d) h n (ap₂ (λ (a : Option Mnemonic) (b : Option Directive). form_in a b) i j) (form_good (suc (length ps)) line e (directive_form d))
+    form_told line e p ps f name (directive_form d) h n (ap₂ (λ (a : Option Mnemonic) (b : Option Directive). form_in a b) i j) ((form_walk (directive_form d) line e).1 (suc (length ps)))
 named_told line e p ps f name None None h n i j =
     λ a. first_told line e p ps f
     (λ l c qs. heard_named l c p qs name h n ∙ ap₂ (λ (a : Option Mnemonic) (b : Option Directive). fault_in (by_form (st l c (p ∷ qs)) (form_in a b))) i j ∙ ap (λ (o : TokenValue). here l p.col (kind_for false own_names o)) (sym h))
 
 -- the head of a module
 
-head_reader : (line e : ℕ) (p : Piece) (ps : List Piece) (name : List ℕ) → p.says ≡ a_name name → is_module name ≡ true → heard line e (p ∷ ps) ≡ reader_of line e any_name_at (λ x s. end_at s >>= λ (t : ReaderState). let y : Result Row ParseFault = Ok (row.Head x line) in y) ps
+head_reader : (line e : ℕ) (p : Piece) (ps : List Piece) (name : List ℕ) → p.says ≡ a_name name → is_module name ≡ true → heard line e (p ∷ ps) ≡ reader_of line e any_name_at (λ x s. line_end_at s >>= λ (t : ReaderState). let y : Result Row ParseFault = Ok (row.Head x line) in y) ps
 unfolding head_at
 head_reader line e p ps name h t = ap (λ (r : Result Row ParseFault). fault_in r) (take_then (is_head_on (Some p.says)) _ _ (ap (λ (o : TokenValue). is_head_on (Some o)) h ∙ t))
 
-head_good : (few line e : ℕ) → Good few line e (reader_of line e any_name_at (λ x s. end_at s >>= λ (t : ReaderState). let y : Result Row ParseFault = Ok (row.Head x line) in y))
+head_good : (few line e : ℕ) → Good few line e (reader_of line e any_name_at (λ x s. line_end_at s >>= λ (t : ReaderState). let y : Result Row ParseFault = Ok (row.Head x line) in y))
 head_good few line e =
-    good few false symbols line e (reader_of line e any_name_at (λ x s. end_at s >>= λ (t : ReaderState). let y : Result Row ParseFault = Ok (row.Head x line) in y))
-    (one_token few (List ℕ) Row false symbols line e any_name_at (one_any_name line e) (λ x s. end_at s >>= λ (t : ReaderState). let y : Result Row ParseFault = Ok (row.Head x line) in y)
-    (λ x. good few false no_name line e (λ ps. fault_in (end_at (st line e ps) >>= λ (t : ReaderState). let y : Result Row ParseFault = Ok (row.Head x line) in y))
-    (node_as few false no_name line e (λ ps. fault_in (end_at (st line e ps) >>= λ (t : ReaderState). let y : Result Row ParseFault = Ok (row.Head x line) in y)) (λ ps. fault_in (end_at (st line e ps)))
-    (λ ps. sym (end_plain Row (row.Head x line) (end_at (st line e ps)))) (end_node few line e))))
+    good few false symbols line e (reader_of line e any_name_at (λ x s. line_end_at s >>= λ (t : ReaderState). let y : Result Row ParseFault = Ok (row.Head x line) in y))
+    (one_token few (List ℕ) Row false symbols line e any_name_at (one_any_name line e) (λ x s. line_end_at s >>= λ (t : ReaderState). let y : Result Row ParseFault = Ok (row.Head x line) in y)
+    (λ x. good few false no_name line e (λ ps. fault_in (line_end_at (st line e ps) >>= λ (t : ReaderState). let y : Result Row ParseFault = Ok (row.Head x line) in y)) (ends_node few Row line e (row.Head x line))))
 
 module_told : (line e : ℕ) (p : Piece) (ps : List Piece) (f : ParseFault) (name : List ℕ) → p.says ≡ a_name name → is_module name ≡ true → EndsAt (p ∷ ps) e → heard line e (p ∷ ps) ≡ Some f → Told line (p ∷ ps) f
 module_told line e p ps f name h t a i =
-    by_good line e p ps f name (reader_of line e any_name_at (λ x s. end_at s >>= λ (u : ReaderState). let y : Result Row ParseFault = Ok (row.Head x line) in y)) h (λ qs. head_reader line e p qs name h t) (head_good (suc (length ps)) line e) a i
+    by_good line e p ps f name (reader_of line e any_name_at (λ x s. line_end_at s >>= λ (u : ReaderState). let y : Result Row ParseFault = Ok (row.Head x line) in y)) h (λ qs. head_reader line e p qs name h t) (head_good (suc (length ps)) line e) a i
 
 other_told : (line e : ℕ) (p : Piece) (ps : List Piece) (f : ParseFault) (m : TokenValue) → p.says ≡ m → NoName m → heard line e (p ∷ ps) ≡ Some f → Told line (p ∷ ps) f
 other_told line e p ps f m h z = first_told line e p ps f (λ l c qs. heard_other l c p qs m h z ∙ same l m h z)

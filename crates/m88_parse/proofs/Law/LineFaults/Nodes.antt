@@ -1,109 +1,49 @@
 -- What stands behind a front, one token at a time: where each token either leads on or is a fault whatever follows it, each
 -- fault is the one of the language.
-use Rattle.std.proofs.Common.{◌≡◌, ℕ, suc, ◌+◌, ◌<◌, arith, Bool, true, false, ◌⊎◌, inl, inr, List, [], ◌∷◌, ◌++◌, length, Option, Some, None, Result, Ok, Err, refl, sym, ap, ◌∙◌, subst, append_assoc, append-nil, codes, ◌==◌, eq-eqb, true≢false}
+use Rattle.std.proofs.Common.{◌≡◌, ℕ, suc, ◌+◌, ◌<◌, arith, Bool, true, false, ◌⊎◌, inl, inr, List, [], ◌∷◌, ◌++◌, length, Option, Some, None, refl, sym, ap, ◌∙◌, subst, append_assoc, append-nil, ◌==◌, eq-eqb, true≢false}
 use Rattle.m88_parse.specs.declared.fault.ParseKind.{ParseKind}
 use Rattle.m88_parse.specs.declared.fault.ParseKind.TheVariants.{Syntax}
 use Rattle.m88_parse.specs.declared.fault.ParseFault.{ParseFault}
 use Rattle.m88_parse.specs.Language.Pieces.{TokenValue, a_name, a_number, a_text, a_mark, Piece}
-use Rattle.m88_parse.specs.Language.Names.{IsMark, IsNamed}
-use Rattle.m88_parse.specs.Language.LineFaults.{IsOperation, operation, head_of_module, Continues, MayFollow, NumberMayFollow, EndsInHalf, IsMisplaced, number_out_of_range, no_such_name, other_token, IsFaultBehind, misplaced, line_ends, Stops}
-use Rattle.m88_parse.specs.declared.unit.Body.{Body}
-use Rattle.m88_parse.specs.declared.row.Row.{Row}
-use Rattle.m88_parse.specs.declared.row.Row.TheVariants as row
-use Rattle.m88_parse.specs.Reader.State.{ReaderState, first, place, is_mark_of, ◌>>=◌}
-use Rattle.m88_parse.specs.Reader.Slots.{any_name_at, end_at}
-use Rattle.m88_parse.specs.Reader.Source.{operation_at, head_at, is_head_on, statement}
-use Rattle.m88_parse.specs.Language.Statements.{IsHead, head}
-use Rattle.m88_parse.proofs.Law.Steps.{chosen, tested, take_then, take_else}
-use Rattle.m88_parse.proofs.Law.Slots.{st, bind_ok, bind_to, end_read, Naming, no_name, own_names, symbols, kind_for, one_any_name, slot_again, slot_read}
-use Rattle.m88_parse.proofs.Law.Bodies.{operation_read, body_again}
-use Rattle.m88_parse.proofs.Law.Rows.{head_named, made_head, not_head}
-use Rattle.m88_parse.proofs.Law.LineFaults.Readers.{fault_in, row_or_head, here, some_same, Reader, heard, Goes, Refuses, Reads, EndsAt, Told, Traced, Fresh, Good, WantsNumbers, WantsNames, Wants, NumbersWanted, NamesWanted, Wanted}
-
--- what is heard is what is related
-
-head_is : (line e : ℕ) (p : Piece) (ps : List Piece) (r : Row) → IsNamed (codes ".module") p → head_at (st line e (p ∷ ps)) ≡ Ok r → IsOperation (p ∷ ps)
-unfolding head_at
-head_is line e p ps r n h =
-    let b = bind_ok (any_name_at (st line e ps)) (λ (name : List ℕ × ReaderState). end_at name.1 >>= made_head line name) r h in
-    let o = slot_read (one_any_name line e) ps b.0 b.1 in
-    let d = bind_ok (end_at b.0.1) (made_head line b.0) r b.2 in
-    let z = end_read line e o.rest d.0 (ap end_at (sym o.after) ∙ d.1) in
-    let t : ps ≡ o.piece ∷ [] = o.tokens ∙ ap (λ (qs : List Piece). o.piece ∷ qs) z in
-    subst (λ (qs : List Piece). IsOperation (p ∷ qs)) (sym t) (head_of_module (head n o.is.0 o.is.1))
-
-operation_is : (line e : ℕ) (ps : List Piece) (c : Body) → operation_at (st line e ps) ≡ Ok c → IsOperation ps
-unfolding operation_at
-operation_is line e [] c h = absurd cc
-operation_is line e (p ∷ ps) c h = operation (operation_read line e p ps c h)
-
-row_is : (line e : ℕ) (ps : List Piece) (r : Row) → row_or_head (st line e ps) ≡ Ok r → IsOperation ps
-unfolding operation_at
-row_is line e [] r h = absurd cc
-row_is line e (p ∷ ps) r h =
-    let s = st line e (p ∷ ps) in
-    elim (chosen (is_head_on (Some p.says)) _ _ _ h) [
-      | inl k ↦ head_is line e p ps r (head_named p.says k.0) k.1
-      | inr k ↦ let b = bind_ok (operation_at s) (λ (x : Body). Ok (statement s None p.col x)) r k.1 in operation_is line e (p ∷ ps) b.0 b.1
-    ]
-
-fault_free : {A : Type 0} (r : Result A ParseFault) → fault_in r ≡ None → (x : A) × (r ≡ Ok x)
-fault_free (Ok x) h = (x, refl)
-fault_free (Err f) h = absurd cc
-
-pub heard_is : (line e : ℕ) (ps : List Piece) → heard line e ps ≡ None → IsOperation ps
-heard_is line e ps h = let b = fault_free (row_or_head (st line e ps)) h in row_is line e ps b.0 b.1
-
-operation_heard : (line e : ℕ) (ps : List Piece) (c : Body) → operation_at (st line e ps) ≡ Ok c → heard line e ps ≡ None
-operation_heard line e ps c h =
-    let s = st line e ps in
-    ap (λ (r : Result Row ParseFault). fault_in r)
-    (take_else (is_head_on (first s)) _ _ (not_head line e ps c h)
-    ∙ bind_to (operation_at s) (λ (x : Body). Ok (statement s None (place s) x)) c (Ok (statement s None (place s) c)) h refl)
-
-head_heard : (line e : ℕ) (ps : List Piece) (name : List ℕ) → IsHead ps name → heard line e ps ≡ None
-unfolding head_at
-head_heard line e ps name (head {p = p} {q = q} n k v) =
-    ap (λ (r : Result Row ParseFault). fault_in r)
-    (take_then (is_head_on (Some p.says)) _ _ (ap (λ (m : TokenValue). is_head_on (Some m)) n)
-    ∙ bind_to (any_name_at (st line e (q ∷ []))) (λ (x : List ℕ × ReaderState). end_at x.1 >>= made_head line x) (name, st line e []) (Ok (row.Head name line)) (slot_again (one_any_name line e) name q [] (k, v)) refl)
-
-pub is_heard : (line e : ℕ) (ps : List Piece) → IsOperation ps → heard line e ps ≡ None
-is_heard line e ps (operation {said = said} h) = operation_heard line e ps said (body_again line e ps said h)
-is_heard line e ps (head_of_module {name = name} h) = head_heard line e ps name h
+use Rattle.m88_parse.specs.Language.Names.{IsMark}
+use Rattle.m88_parse.specs.Language.LineFaults.{IsOperation, Continues, MayFollow, NumberMayFollow, EndsInHalf, IsMisplaced, number_out_of_range, no_such_name, other_token, IsFaultBehind, misplaced, line_ends, Stops}
+use Rattle.m88_parse.specs.Reader.State.{is_mark_of}
+use Rattle.m88_parse.proofs.Law.Steps.{tested}
+use Rattle.m88_parse.proofs.Law.Slots.{Naming, no_name, own_names, symbols, kind_for}
+use Rattle.m88_parse.proofs.Law.LineFaults.Readers.{here, some_same, Reader, heard, HeardLaw, Goes, Refuses, Reads, EndsAt, Told, Traced, Fresh, Good, WantsNumbers, WantsNames, Wants, NumbersWanted, NamesWanted, Wanted}
 
 -- from readers to the language
 
 pub reads_on : (line e : ℕ) (front : List Piece) (k : Reader) (p : Piece) → ((ps : List Piece) → heard line e (front ++ p ∷ ps) ≡ k (p ∷ ps)) → Reads line e (front ++ p ∷ []) (λ ps. k (p ∷ ps))
 reads_on line e front k p r ps = ap (heard line e) (append_assoc front (p ∷ []) ps) ∙ r ps
 
-pub continues : (line e : ℕ) (front : List Piece) (k : Reader) → Reads line e front k → Goes k → Continues front
-continues line e front k r g = (g.0, heard_is line e (front ++ g.0) (r g.0 ∙ g.1))
+pub continues : (line e : ℕ) → HeardLaw line e → (front : List Piece) (k : Reader) → Reads line e front k → Goes k → Continues front
+continues line e law front k r g = (g.0, (law (front ++ g.0)).0 (r g.0 ∙ g.1))
 
-pub follows : (line e : ℕ) (front : List Piece) (k : Reader) (p : Piece) → Reads line e front k → Goes (λ ps. k (p ∷ ps)) → MayFollow front p
-follows line e front k p r g = continues line e (front ++ p ∷ []) (λ ps. k (p ∷ ps)) (reads_on line e front k p (λ ps. r (p ∷ ps))) g
+pub follows : (line e : ℕ) → HeardLaw line e → (front : List Piece) (k : Reader) (p : Piece) → Reads line e front k → Goes (λ ps. k (p ∷ ps)) → MayFollow front p
+follows line e law front k p r g = continues line e law (front ++ p ∷ []) (λ ps. k (p ∷ ps)) (reads_on line e front k p (λ ps. r (p ∷ ps))) g
 
-pub follows_not : (line e : ℕ) (front : List Piece) (k : Reader) (p : Piece) → Reads line e front k → Refuses k p → MayFollow front p → ⊥
-follows_not line e front k p r n f =
-    n f.0 (sym (r (p ∷ f.0)) ∙ ap (heard line e) (sym (append_assoc front (p ∷ []) f.0)) ∙ is_heard line e ((front ++ p ∷ []) ++ f.0) f.1)
+pub follows_not : (line e : ℕ) → HeardLaw line e → (front : List Piece) (k : Reader) (p : Piece) → Reads line e front k → Refuses k p → MayFollow front p → ⊥
+follows_not line e law front k p r n f =
+    n f.0 (sym (r (p ∷ f.0)) ∙ ap (heard line e) (sym (append_assoc front (p ∷ []) f.0)) ∙ (law ((front ++ p ∷ []) ++ f.0)).1 f.1)
 
-numbers_wanted : (num : Bool) (line e : ℕ) (front : List Piece) (k : Reader) → Reads line e front k → WantsNumbers num k → NumbersWanted num front
-numbers_wanted true line e front k r w = (w.0, w.1, w.2, follows line e front k w.0 r w.3)
-numbers_wanted false line e front k r w = λ f. follows_not line e front k f.0 r (w f.0 f.1 f.2) f.3
+numbers_wanted : (num : Bool) (line e : ℕ) → HeardLaw line e → (front : List Piece) (k : Reader) → Reads line e front k → WantsNumbers num k → NumbersWanted num front
+numbers_wanted true line e law front k r w = (w.0, w.1, w.2, follows line e law front k w.0 r w.3)
+numbers_wanted false line e law front k r w = λ f. follows_not line e law front k f.0 r (w f.0 f.1 f.2) f.3
 
-names_wanted : (nam : Naming) (line e : ℕ) (front : List Piece) (k : Reader) → Reads line e front k → WantsNames nam k → NamesWanted nam front
-names_wanted no_name line e front k r w = λ f. follows_not line e front k f.0 r (w f.0 f.1 f.2) f.3
-names_wanted own_names line e front k r w =
+names_wanted : (nam : Naming) (line e : ℕ) → HeardLaw line e → (front : List Piece) (k : Reader) → Reads line e front k → WantsNames nam k → NamesWanted nam front
+names_wanted no_name line e law front k r w = λ f. follows_not line e law front k f.0 r (w f.0 f.1 f.2) f.3
+names_wanted own_names line e law front k r w =
     let a = w.0 in
     let b = w.1 in
-    ((a.0, a.1, a.2, follows line e front k a.0 r a.3), λ all. follows_not line e front k b.0 r b.3 (all b.0 b.1 b.2))
-names_wanted symbols line e front k r w = λ p name h. follows line e front k p r (w p name h)
+    ((a.0, a.1, a.2, follows line e law front k a.0 r a.3), λ all. follows_not line e law front k b.0 r b.3 (all b.0 b.1 b.2))
+names_wanted symbols line e law front k r w = λ p name h. follows line e law front k p r (w p name h)
 
-pub wanted : (num : Bool) (nam : Naming) (line e : ℕ) (front : List Piece) (k : Reader) → Reads line e front k → Wants num nam k → Wanted num nam front
-wanted num nam line e front k r w = record {
-  numbers = numbers_wanted num line e front k r w.numbers;
-  names = names_wanted nam line e front k r w.names;
-  opening = λ o m. follows_not line e front k o r (w.opening o m);
+pub wanted : (num : Bool) (nam : Naming) (line e : ℕ) → HeardLaw line e → (front : List Piece) (k : Reader) → Reads line e front k → Wants num nam k → Wanted num nam front
+wanted num nam line e law front k r w = record {
+  numbers = numbers_wanted num line e law front k r w.numbers;
+  names = names_wanted nam line e law front k r w.names;
+  opening = λ o m. follows_not line e law front k o r (w.opening o m);
 }
 
 -- the kind of a token's fault
@@ -127,7 +67,7 @@ misplaced_by num nam front p (a_mark m) h f w = other_token (λ x. let a = sym h
 
 abbrev pub Leads : ℕ → Bool → ℕ → ℕ → Reader → Piece → Type 0
 Leads few num line e k p =
-    (front : List Piece) → NumbersWanted num front → ((ps : List Piece) → heard line e (front ++ p ∷ ps) ≡ k (p ∷ ps)) → Traced few line e (front ++ p ∷ [])
+    HeardLaw line e → (front : List Piece) → NumbersWanted num front → ((ps : List Piece) → heard line e (front ++ p ∷ ps) ≡ k (p ∷ ps)) → Traced few line e (front ++ p ∷ [])
 
 abbrev pub Faults : Bool → Naming → ℕ → Reader → Piece → Type 0
 Faults num nam line k p = (ps : List Piece) → k (p ∷ ps) ≡ here line p.col (kind_for num nam p.says)
@@ -147,13 +87,13 @@ told line front rest at kind f c s b h =
     let same : record { line = line; col = at; kind = kind } ≡ f = sym (some_same h) in
     subst (Told line (front ++ rest)) same (record { front = front; rest = rest; tokens = refl; continues = c; stops = s; fault = b }, refl)
 
-pub ended : (line e : ℕ) (front : List Piece) (k : Reader) (f : ParseFault) → Reads line e front k → Goes k → ((h : Piece) → EndsInHalf front h → ⊥) → EndsAt (front ++ []) e
+pub ended : (line e : ℕ) → HeardLaw line e → (front : List Piece) (k : Reader) (f : ParseFault) → Reads line e front k → Goes k → ((h : Piece) → EndsInHalf front h → ⊥) → EndsAt (front ++ []) e
     → (k [] ≡ None) ⊎ (k [] ≡ here line e Syntax) → heard line e (front ++ []) ≡ Some f → Told line (front ++ []) f
-ended line e front k f r g n a (inl s) h = let x : ◌≡◌ {A = Option ParseFault} None (Some f) = sym s ∙ sym (r []) ∙ h in absurd cc
-ended line e front k f r g n a (inr s) h =
+ended line e law front k f r g n a (inl s) h = let x : ◌≡◌ {A = Option ParseFault} None (Some f) = sym s ∙ sym (r []) ∙ h in absurd cc
+ended line e law front k f r g n a (inr s) h =
     let same : ◌≡◌ {A = Option ParseFault} (Some f) (here line e Syntax) = sym h ∙ r [] ∙ s in
-    let not_said : IsOperation front → ⊥ = λ o. let x : ◌≡◌ {A = Option ParseFault} (Some f) None = sym h ∙ is_heard line e (front ++ []) (subst (IsOperation) (sym (append-nil front)) o) in absurd cc in
-    told line front [] (a.1.col + length a.1.text) Syntax f (continues line e front k r g) not_said (line_ends a.0 a.1 n (sym (append-nil front) ∙ a.2))
+    let not_said : IsOperation front → ⊥ = λ o. let x : ◌≡◌ {A = Option ParseFault} (Some f) None = sym h ∙ (law (front ++ [])).1 (subst (IsOperation) (sym (append-nil front)) o) in absurd cc in
+    told line front [] (a.1.col + length a.1.text) Syntax f (continues line e law front k r g) not_said (line_ends a.0 a.1 n (sym (append-nil front) ∙ a.2))
     (same ∙ ap (λ (c : ℕ). here line c Syntax) (sym a.3))
 
 pub moved : (few : ℕ) (line e : ℕ) (front : List Piece) (p : Piece) (ps : List Piece) (f : ParseFault) → Traced few line e (front ++ p ∷ []) → length (p ∷ ps) < suc few → EndsAt (front ++ p ∷ ps) e
@@ -162,30 +102,30 @@ moved few line e front p ps f t l a h =
     let w : (front ++ p ∷ []) ++ ps ≡ front ++ p ∷ ps = append_assoc front (p ∷ []) ps in
     subst (λ (qs : List Piece). Told line qs f) w (t ps f (omega (arith, l)) (subst (λ (qs : List Piece). EndsAt qs e) (sym w) a) (ap (heard line e) w ∙ h))
 
-faulted : (num : Bool) (nam : Naming) (line e : ℕ) (front : List Piece) (k : Reader) (p : Piece) (ps : List Piece) (f : ParseFault) → Reads line e front k → Goes k → Fresh front → Wanted num nam front
+faulted : (num : Bool) (nam : Naming) (line e : ℕ) → HeardLaw line e → (front : List Piece) (k : Reader) (p : Piece) (ps : List Piece) (f : ParseFault) → Reads line e front k → Goes k → Fresh front → Wanted num nam front
     → Faults num nam line k p → heard line e (front ++ p ∷ ps) ≡ Some f → Told line (front ++ p ∷ ps) f
-faulted num nam line e front k p ps f r g u w x h =
-    told line front (p ∷ ps) p.col (kind_for num nam p.says) f (continues line e front k r g)
-    (follows_not line e front k p r (λ qs n. let y : ◌≡◌ {A = Option ParseFault} (here line p.col (kind_for num nam p.says)) None = sym (x qs) ∙ n in absurd cc))
+faulted num nam line e law front k p ps f r g u w x h =
+    told line front (p ∷ ps) p.col (kind_for num nam p.says) f (continues line e law front k r g)
+    (follows_not line e law front k p r (λ qs n. let y : ◌≡◌ {A = Option ParseFault} (here line p.col (kind_for num nam p.says)) None = sym (x qs) ∙ n in absurd cc))
     (misplaced (no_half front w.opening) (misplaced_by num nam front p p.says refl u w))
     (sym h ∙ r (p ∷ ps) ∙ x ps)
 
 pub good_node : (few : ℕ) (num : Bool) (nam : Naming) (line e : ℕ) (k : Reader) → Node few num nam line e k → Good (suc few) line e k
 good_node few num nam line e k n = (n.goes, traced)
   where
-    traced : (front : List Piece) → Fresh front → Reads line e front k → Traced (suc few) line e front
-    traced front u r [] f l a h = ended line e front k f r n.goes (no_half front (wanted num nam line e front k r n.wants).opening) a n.stop h
-    traced front u r (p ∷ ps) f l a h =
-        let w = wanted num nam line e front k r n.wants in
+    traced : HeardLaw line e → (front : List Piece) → Fresh front → Reads line e front k → Traced (suc few) line e front
+    traced law front u r [] f l a h = ended line e law front k f r n.goes (no_half front (wanted num nam line e law front k r n.wants).opening) a n.stop h
+    traced law front u r (p ∷ ps) f l a h =
+        let w = wanted num nam line e law front k r n.wants in
         elim (n.each p) [
-          | inl t ↦ moved few line e front p ps f (t front w.numbers (λ qs. r (p ∷ qs))) l a h
-          | inr x ↦ faulted num nam line e front k p ps f r n.goes u w x h
+          | inl t ↦ moved few line e front p ps f (t law front w.numbers (λ qs. r (p ∷ qs))) l a h
+          | inr x ↦ faulted num nam line e law front k p ps f r n.goes u w x h
         ]
 
 -- what holds of some tokens holds of fewer
 
 pub fewer : (few : ℕ) (line e : ℕ) (k : Reader) → Good (suc few) line e k → Good few line e k
-fewer few line e k g = (g.0, λ front u r ps f l. g.1 front u r ps f (omega (arith, l)))
+fewer few line e k g = (g.0, λ law front u r ps f l. g.1 law front u r ps f (omega (arith, l)))
 
 pub good : (few : ℕ) (num : Bool) (nam : Naming) (line e : ℕ) (k : Reader) → Node few num nam line e k → Good few line e k
 good few num nam line e k n = fewer few line e k (good_node few num nam line e k n)
@@ -232,7 +172,7 @@ fresh_without front p n m x = n (subst (NumberMayFollow) (sym (same_front front 
 
 pub leads : (few : ℕ) (num : Bool) (line e : ℕ) (k r : Reader) (p : Piece) → Good few line e r → ((ps : List Piece) → k (p ∷ ps) ≡ r ps)
     → (IsMark 45 p → ⊥) ⊎ (num ≡ false) → Leads few num line e k p
-leads few num line e k r p g x s front w h = g.1 (front ++ p ∷ []) (fresh s) (λ ps. reads_on line e front k p h ps ∙ x ps)
+leads few num line e k r p g x s law front w h = g.1 law (front ++ p ∷ []) (fresh s) (λ ps. reads_on line e front k p h ps ∙ x ps)
   where
     none : (b : Bool) → b ≡ false → NumbersWanted b front → NumberMayFollow front → ⊥
     none true y z = absurd cc
@@ -244,7 +184,7 @@ leads few num line e k r p g x s front w h = g.1 (front ++ p ∷ []) (fresh s) (
 
 -- readers that say the same
 pub good_as : (few : ℕ) (line e : ℕ) (k r : Reader) → ((ps : List Piece) → k ps ≡ r ps) → Good few line e r → Good few line e k
-good_as few line e k r x g = ((g.0.0, x g.0.0 ∙ g.0.1), λ front u h. g.1 front u (λ ps. h ps ∙ x ps))
+good_as few line e k r x g = ((g.0.0, x g.0.0 ∙ g.0.1), λ law front u h. g.1 law front u (λ ps. h ps ∙ x ps))
 
 wants_as : (num : Bool) (nam : Naming) (k r : Reader) → ((ps : List Piece) → k ps ≡ r ps) → Wants num nam r → Wants num nam k
 wants_as num nam k r x w = record { numbers = numbers num w.numbers; names = names nam w.names; opening = λ o h. refuses o (w.opening o h) }
@@ -265,7 +205,7 @@ wants_as num nam k r x w = record { numbers = numbers num w.numbers; names = nam
     names symbols h = λ p name i. goes p (h p name i)
 
 pub leads_as : (few : ℕ) (num : Bool) (line e : ℕ) (k r : Reader) (p : Piece) → ((ps : List Piece) → k (p ∷ ps) ≡ r (p ∷ ps)) → Leads few num line e r p → Leads few num line e k p
-leads_as few num line e k r p x l front w h = l front w (λ ps. h ps ∙ x ps)
+leads_as few num line e k r p x l law front w h = l law front w (λ ps. h ps ∙ x ps)
 
 pub each_as : (few : ℕ) (num : Bool) (mine other : Naming) (line e : ℕ) (k r : Reader) (p : Piece) → ((ps : List Piece) → k (p ∷ ps) ≡ r (p ∷ ps)) → kind_for num other p.says ≡ kind_for num mine p.says
     → Leads few num line e r p ⊎ Faults num other line r p → Leads few num line e k p ⊎ Faults num mine line k p

@@ -1,5 +1,5 @@
 -- Readers of tokens, of which only the fault counts here, and what they say of the tokens behind a front.
-use Rattle.std.proofs.Common.{◌≡◌, ℕ, ◌+◌, ◌<◌, Bool, true, false, if◌then◌else◌, List, [], ◌∷◌, ◌++◌, length, Option, Some, None, Result, Ok, Err}
+use Rattle.std.proofs.Common.{◌≡◌, ◌↔◌, ℕ, ◌+◌, ◌<◌, Bool, true, false, if◌then◌else◌, List, [], ◌∷◌, ◌++◌, length, Option, Some, None, Result, Ok, Err}
 use Rattle.m88_parse.specs.declared.fault.ParseKind.{ParseKind}
 use Rattle.m88_parse.specs.declared.fault.ParseFault.{ParseFault}
 use Rattle.m88_parse.specs.declared.row.Row.{Row}
@@ -7,7 +7,7 @@ use Rattle.m88_parse.specs.Language.Pieces.{Piece}
 use Rattle.m88_parse.specs.Reader.State.{ReaderState, first}
 use Rattle.m88_parse.specs.Reader.Source.{unlabelled_at, head_at, is_head_on}
 use Rattle.m88_parse.specs.Language.Names.{IsMark, IsNumber, IsNamed, IsSymbol}
-use Rattle.m88_parse.specs.Language.LineFaults.{MayFollow, NumberMayFollow, NameMayFollow, EverySymbolMayFollow, EndsInSign, IsBroken}
+use Rattle.m88_parse.specs.Language.LineFaults.{IsOperation, MayFollow, NumberMayFollow, NameMayFollow, EverySymbolMayFollow, EndsInSign, IsBroken}
 use Rattle.m88_parse.proofs.Law.Slots.{st, Naming, no_name, own_names, symbols}
 
 -- what is read has this fault, or none
@@ -41,6 +41,10 @@ Goes k = (ps : List Piece) × (k ps ≡ None)
 abbrev pub Refuses : Reader → Piece → Type 0
 Refuses k p = (ps : List Piece) → k (p ∷ ps) ≡ None → ⊥
 
+-- what is heard without a fault is an operation, and the other way round
+abbrev pub HeardLaw : ℕ → ℕ → Type 0
+HeardLaw line e = (ps : List Piece) → (heard line e ps ≡ None) ↔ IsOperation ps
+
 -- what is heard behind a front
 abbrev pub Reads : ℕ → ℕ → List Piece → Reader → Type 0
 Reads line e front k = (ps : List Piece) → heard line e (front ++ ps) ≡ k ps
@@ -61,9 +65,10 @@ Traced few line e front = (ps : List Piece) (f : ParseFault) → length ps < few
 abbrev pub Fresh : List Piece → Type 0
 Fresh front = (m : Piece) → EndsInSign front m → ⊥
 
--- a reader that some tokens satisfy, and whose faults are those of the language wherever it reads on
+-- a reader that some tokens satisfy, and whose faults are those of the language wherever it reads on, by the law of what
+-- is heard
 abbrev pub Good : ℕ → ℕ → ℕ → Reader → Type 0
-Good few line e k = Goes k × ((front : List Piece) → Fresh front → Reads line e front k → Traced few line e front)
+Good few line e k = Goes k × (HeardLaw line e → (front : List Piece) → Fresh front → Reads line e front k → Traced few line e front)
 
 -- what a reader wants
 

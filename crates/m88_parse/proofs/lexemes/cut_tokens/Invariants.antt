@@ -1,3 +1,4 @@
+-- The tokens so far are those of the lexemes so far.
 use Rattle.std.proofs.Common.{◌≡◌, map, take}
 use Rattle.std.specs.List.{All}
 use Rattle.m88_parse.specs.Language.Pieces.{IsTokenOf, plain_token, token_of}

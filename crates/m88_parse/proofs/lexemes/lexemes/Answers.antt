@@ -1,3 +1,4 @@
+-- One front more, a token or a gap, keeps what the loop of `lexemes` keeps; a flaw is the line's first.
 use Rattle.std.proofs.Common.{◌+◌, take, Result, Ok, ◌≡◌, ◌<◌, ◌≤◌, length, map, inr, ◌++◌, ◌∷◌, [], Some, None, ap, ◌∙◌, arith}
 use Rattle.std.proofs.lemmas.Grind.{common_steps}
 use Rattle.std.proofs.lemmas.List.{map_push}

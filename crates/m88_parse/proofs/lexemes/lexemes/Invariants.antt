@@ -1,3 +1,4 @@
+-- The tokens so far, with those of the bytes that are left, are the tokens of the line.
 use Rattle.std.proofs.Common.{◌≡◌, ◌+◌, ◌-◌, ◌≤◌, drop, length, map}
 use Rattle.std.specs.List.{All}
 use Rattle.m88_parse.specs.Reader.Places.{IsNear, IsLexemeOf}

@@ -1,3 +1,4 @@
+-- The bytes so far, with those that the rest stands for, are the bytes of the text.
 use Rattle.std.proofs.Common.{◌≡◌, ◌++◌, drop, false}
 use Rattle.m88_parse.specs.Reader.Tokens.{text_bytes}
 use Rattle.m88_parse.proofs.lists.text_bytes.Given as goal

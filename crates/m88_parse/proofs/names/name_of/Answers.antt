@@ -1,3 +1,4 @@
+-- A name is made of exactly the texts that pass the test of names.
 use Rattle.m88_parse.proofs.Naming.{some_iff}
 use Rattle.m88_parse.proofs.names.name_of.Goals as goal
 

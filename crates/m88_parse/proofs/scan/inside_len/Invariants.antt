@@ -1,3 +1,4 @@
+-- The bytes passed, with those up to a closing quote of the rest, are those up to the closing quote.
 use Rattle.std.proofs.Common.{◌≡◌, ◌+◌, drop, false}
 use Rattle.m88_parse.specs.Reader.Tokens.{inside_len}
 use Rattle.m88_parse.proofs.scan.inside_len.Given as goal

@@ -1,3 +1,4 @@
+-- One digit more: the value is capped at 2 ^ 32 before or after it, to the same number.
 use Rattle.std.proofs.Common.{ℕ, ◌∙◌, ap, sym, min, ◌*◌, ◌+◌, take, get_or}
 use Rattle.std.specs.Char.{digit_value}
 use Rattle.std.specs.Str.Parse.{digits_value}

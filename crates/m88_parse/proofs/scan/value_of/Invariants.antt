@@ -1,3 +1,4 @@
+-- The value of the digits so far, or 2 ^ 32 where it is larger.
 use Rattle.std.proofs.Common.{◌≡◌, take, min}
 use Rattle.std.specs.Str.Parse.{digits_value}
 use Rattle.m88_parse.proofs.scan.value_of.Given as goal

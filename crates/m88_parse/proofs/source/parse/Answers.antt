@@ -1,3 +1,4 @@
+-- What was read is the unit of the source, and a fault is its first fault.
 use Rattle.m88_parse.proofs.Law.Faults.{found_fault, only_fault, one_answer}
 use Rattle.m88_parse.proofs.Law.Kinds.{source_kinds}
 use Rattle.m88_parse.proofs.Law.Units.{found_unit, only_unit}

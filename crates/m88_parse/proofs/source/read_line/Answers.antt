@@ -1,3 +1,4 @@
+-- What a line says is added to the draft, or its fault is the fault of the source.
 use Rattle.std.proofs.Common.{Result, Ok, Option, None, refl, ap, ◌∙◌}
 use Rattle.std.proofs.lemmas.Result.{err_from_is_err_and}
 use Rattle.m88_parse.specs.declared.fault.ParseFault.{ParseFault}

@@ -1,3 +1,4 @@
+-- An empty draft begins the unit; behind the last line the draft's modules are those of the unit.
 use Rattle.std.proofs.Common.{List, Result, Ok, ap, sym, ◌∙◌, arith, ◌≡◌, length}
 use Rattle.std.proofs.lemmas.Grind.{common_steps}
 use Rattle.m88_parse.specs.declared.fault.ParseFault.{ParseFault}

@@ -1,3 +1,4 @@
+-- The draft, with the rows of the lines that are left, leads to the unit of the source.
 use Rattle.std.proofs.Common.{◌≡◌, ◌+◌, ◌≤◌, length}
 use Rattle.m88_base.specs.Lines.{lines_of}
 use Rattle.m88_parse.specs.Reader.Source.{rows_of, unit_of}

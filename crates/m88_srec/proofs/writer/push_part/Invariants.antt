@@ -1,6 +1,7 @@
 -- The text so far and the lines of the bytes that are left are the whole.
 use Rattle.std.proofs.Common.{◌≡◌, ◌+◌, ◌-◌, ◌≤◌, ◌++◌, drop, length}
-use Rattle.m88_srec.specs.Written.{data_lines, text_of_lines}
+use Rattle.m88_base.specs.Lines.{text_of_lines}
+use Rattle.m88_srec.specs.Written.{data_lines}
 use Rattle.m88_srec.proofs.writer.push_part.Given as goal
 
 abbrev pub invariant-loop-done : goal.invariant-loop-done

@@ -1,3 +1,4 @@
+-- A module that begins closes the one that was open, if any was.
 use Rattle.std.proofs.Common.{Option, [], ◌∷◌, ◌++◌, sym, ap, ◌∙◌}
 use Rattle.m88_parse.specs.declared.unit.Module.{Module}
 use Rattle.m88_parse.specs.Reader.Drafts.{Drafted, modules_with}

@@ -1,3 +1,4 @@
+-- The modules at the end are those closed, and the open one, which is there even where no row was.
 use Rattle.std.proofs.Common.{[], ◌∷◌, ◌++◌, sym, ap, ◌∙◌}
 use Rattle.m88_parse.specs.declared.unit.Module.{Module}
 use Rattle.m88_parse.specs.Reader.Drafts.{Drafted, modules_after}

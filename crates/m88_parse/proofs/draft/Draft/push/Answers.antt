@@ -1,3 +1,4 @@
+-- A statement goes to the end of the open module, or of the module main where none has begun.
 use Rattle.std.proofs.Common.{Option, [], ◌∷◌, sym, ap, ◌∙◌}
 use Rattle.m88_parse.specs.declared.unit.Module.{Module}
 use Rattle.m88_parse.specs.Reader.Drafts.{Drafted, with_more, begun}

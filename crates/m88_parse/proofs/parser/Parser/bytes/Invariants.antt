@@ -1,3 +1,4 @@
+-- What is collected and what is left are the whole list of `.byte`.
 use Rattle.std.proofs.Common.{◌+◌, cond, length}
 use Rattle.m88_parse.specs.Reader.Grammar.{list_at, a_byte, part_item_at}
 use Rattle.m88_parse.proofs.Collecting.{Collects}

@@ -1,3 +1,4 @@
+-- One value more keeps what the loop of `words_list` keeps; a fault in a value is the fault of the list.
 use Rattle.std.proofs.lemmas.List.Elements.{All-push}
 use Rattle.m88_base.specs.declared.fixup.Kind.TheVariants.{Abs32}
 use Rattle.m88_parse.specs.WellFormed.{IsOfKind}

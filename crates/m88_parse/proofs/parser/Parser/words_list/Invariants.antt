@@ -1,3 +1,4 @@
+-- What is collected and what is left are the whole list of `.word`; each item waits for 32 bits.
 use Rattle.std.proofs.Common.{◌+◌, cond, length}
 use Rattle.std.specs.List.{All}
 use Rattle.m88_base.specs.declared.fixup.Kind.TheVariants.{Abs32}

@@ -1,0 +1,172 @@
+-- The reply of `soak`: its source is accepted, so it isn't refused, and its letters are read as its schedule.
+use Rattle.std.proofs.Common.{◌≡◌, ℕ, zero, suc, ◌*◌, ◌≤◌, List, Option, None, Some, false, Result, length, add-one, ap, ◌∙◌, subst, inr, arith}
+use Rattle.std.specs.Prelude.{IfOk, map}
+use Rattle.std.specs.List.{range_with_len}
+use Rattle.std.proofs.lemmas.List.{length-map}
+use Rattle.std.proofs.lemmas.List.FromFn.{length-range_with_len}
+use Rattle.m88_base.specs.Image.{IsImage, ProgramImage}
+use Rattle.m88_base.specs.declared.failing.NoMemory.{NoMemory}
+use Rattle.m88_isa.specs.ImageProgram.{IsProgramOf}
+use Rattle.m88_isa.specs.Machine.{Program}
+use Rattle.m88_board.specs.declared.glance.Glance.{Glance}
+use Rattle.m88_event.specs.Run.{IsOutcome}
+use Rattle.m88_event.specs.declared.outcome.Outcome.{Outcome}
+use Rattle.m88_event.specs.Letters.{IsSchedule, letter_byte}
+use Rattle.m88_event.specs.declared.letter.Letter.{Letter}
+use Rattle.m88_cli.specs.Answer.{IsAnswerToAccepted}
+use Rattle.m88_cli.specs.Command.{soak}
+use Rattle.m88_cli.specs.Linking.{HoldsUnit}
+use Rattle.m88_cli.specs.Pages.{every_page}
+use Rattle.m88_cli.specs.Refusal.{refusal_line}
+use Rattle.m88_cli.specs.Reply.{Replies, WatchesReply}
+use Rattle.m88_cli.specs.Runs.{IsSourceProgram}
+use Rattle.m88_cli.specs.Limits.{most_input, most_statements}
+use Rattle.m88_cli.specs.SourceFault.{IsProgramFault, IsTold, refusal_of}
+use Rattle.m88_cli.specs.Watching.{SawFront, SawRun, Shown, ShownFront}
+use Rattle.m88_cli.specs.Workload.{drawn_letters, seed_after, summary_of, workload_letters, workload_schedule, workload_source}
+use Rattle.m88_cli.specs.declared.reply.Reply.{Reply}
+use Rattle.m88_cli.specs.declared.source_fault.SourceFault.{SourceFault}
+use Rattle.m88_cli.proofs.Drawing.{letters_behind, no_source}
+use Rattle.m88_cli.proofs.OneUnit.{not_linked}
+use Rattle.m88_cli.proofs.PlainSources.{workload_accepted}
+use Rattle.m88_cli.proofs.Programs.{held_by, one_source_program}
+use Rattle.m88_cli.proofs.Refusing.{program_refusal, refused_reply, refused_watch}
+use Rattle.m88_cli.proofs.Reporting.{front_of_run, reported}
+use Rattle.m88_cli.proofs.Statements.{source_grows}
+
+-- the source of so many statements is short enough to be read
+lines_short : (number n : ℕ) → length (workload_source number n) ≤ 26 * n
+lines_short number zero = let none = ap length (no_source number) in omega (arith, none)
+lines_short number (suc n) =
+    let more = source_grows number n in
+    let before = lines_short number n in
+    let next = ap (λ (k : ℕ). length (workload_source number k)) (add-one n) in
+    omega (arith, more, before, next)
+
+pub source_short : (number count : ℕ) (source : List ℕ) → count ≤ most_statements → source ≡ workload_source number count
+    → length source ≤ most_input
+source_short number count source few is =
+    let short = lines_short number count in
+    let same = ap length is in
+    omega (arith, short, same)
+
+-- what the letters of the schedule are read as
+letters_count : (number first n : ℕ) → length (drawn_letters number first n) ≡ n
+unfolding drawn_letters
+letters_count number first n = length-map (range_with_len 0 n) _ ∙ length-range_with_len 0 n
+
+pub letters_are : (number count : ℕ) (text : List ℕ)
+    → text ≡ map letter_byte (drawn_letters (seed_after number (4 * count)) 0 workload_letters)
+    → IsSchedule text (workload_schedule number count)
+letters_are number count text is =
+    let long = letters_count number (4 * count) workload_letters in
+    inr (is ∙ ap (map letter_byte) (letters_behind number (4 * count) workload_letters), omega (arith, long), omega (arith, long))
+
+-- a workload has no fault, unless memory ran out
+pub no_refusal : (number count : ℕ) (source : List ℕ) (fault : SourceFault) → count ≤ most_statements
+    → source ≡ workload_source number count → IsProgramFault source fault → IsTold fault → ⊥
+no_refusal number count source fault few is faulty told =
+    not_linked (workload_source number count) (refusal_of fault) (workload_accepted number count few)
+    (program_refusal (workload_source number count) fault (subst (λ (s : List ℕ). IsProgramFault s fault) is faulty) told)
+
+-- so it is never refused
+pub never_refused : (number count : ℕ) (source : List ℕ) (fault : SourceFault) (result : Result Reply NoMemory) → count ≤ most_statements
+    → source ≡ workload_source number count → IsProgramFault source fault
+    → IfOk result (λ r. r.text.items ≡ refusal_line (refusal_of fault)) → IfOk result (λ r. r.accepted ≡ false) → IfOk result (λ _. IsTold fault)
+    → (input : List ℕ) → IfOk result (Replies (soak number count) input)
+never_refused number count source fault result few is faulty line refused told input =
+    refused_reply (soak number count) input (refusal_of fault) result
+    (λ is_told. no_refusal number count source fault few is faulty is_told) line refused told
+
+pub never_refused_watch : {W : Type 0} (seen : W → Option (List Glance)) (watch : W) (number count : ℕ) (result : Result Reply NoMemory)
+    → IfOk result (λ r. r.accepted ≡ false) → (input : List ℕ) → IfOk result (WatchesReply seen watch watch (soak number count) input)
+never_refused_watch seen watch number count result refused input = refused_watch seen watch (soak number count) input result refused
+
+-- the program of the workload, which the image holds
+pub record Made (number count : ℕ) (image : ProgramImage) : Type 0 where
+  pub program : Program
+  pub of_source : IsSourceProgram (workload_source number count) program
+  pub of_image : IsProgramOf image program
+
+pub made_by : (number count : ℕ) (source : List ℕ) (image : ProgramImage) → source ≡ workload_source number count
+    → HoldsUnit source image → IsImage image → Made number count image
+made_by number count source image is holds is_image =
+    let held = held_by source image holds is_image in
+    record {
+      program = held.program;
+      of_source = subst (λ (s : List ℕ). IsSourceProgram s held.program) is held.of_source;
+      of_image = held.of_image;
+    }
+
+-- the summary of its run answers
+pub summed_up : (number count : ℕ) (input text : List ℕ) (p : Program) (o : Outcome) → IsSourceProgram (workload_source number count) p
+    → IsOutcome p every_page count (workload_schedule number count) o
+    → ((o other : Outcome) → IsOutcome p every_page count (workload_schedule number count) o
+    → IsOutcome p every_page count (workload_schedule number count) other → o ≡ other)
+    → text ≡ summary_of number count o → IsAnswerToAccepted (soak number count) input text
+summed_up number count input text p o of_source is only text_is = record {
+  accepted = tt;
+  output = reported (IsSourceProgram (workload_source number count)) p count every_page (workload_schedule number count) text of_source
+      (λ q is_too. one_source_program (workload_source number count) q p is_too of_source) only (o, is, text_is);
+}
+
+-- what the code has of the source and the letters
+pub source_text : (number count first : ℕ) (source bytes : List ℕ) → first ≡ number → bytes ≡ workload_source first count
+    → source ≡ bytes → source ≡ workload_source number count
+source_text number count first source bytes same is text =
+    text ∙ is ∙ ap (λ (n : ℕ). workload_source n count) same
+
+pub letters_text : (number count first seed : ℕ) (text bytes : List ℕ) → first ≡ number → seed ≡ seed_after first (4 * count)
+    → bytes ≡ map letter_byte (drawn_letters seed 0 workload_letters) → text ≡ bytes
+    → IsSchedule text (workload_schedule number count)
+letters_text number count first seed text bytes same drawn is text_is =
+    letters_are number count text
+    (text_is ∙ is ∙ ap (λ (s : ℕ). map letter_byte (drawn_letters s 0 workload_letters))
+    (drawn ∙ ap (λ (n : ℕ). seed_after n (4 * count)) same))
+
+-- so they are read
+pub are_unread : (o : Option (List Letter)) (letters : List Letter) → o ≡ None → o ≡ Some letters → ⊥
+are_unread o letters none some = absurd cc
+
+pub read_letters : (o : Option (List Letter)) (schedule letters : List Letter) → o ≡ Some schedule → o ≡ Some letters → schedule ≡ letters
+read_letters o schedule letters e f = cc
+
+-- the same over the schedule that the code has
+pub answer_of_run : (number count : ℕ) (input text : List ℕ) (image : ProgramImage) (schedule : List Letter) (o : Outcome)
+    → Made number count image → schedule ≡ workload_schedule number count
+    → ((p : Program) → IsProgramOf image p → IsOutcome p every_page count schedule o)
+    → ((p : Program) (x other : Outcome) → IsOutcome p every_page count schedule x → IsOutcome p every_page count schedule other → x ≡ other)
+    → text ≡ summary_of number count o → IsAnswerToAccepted (soak number count) input text
+answer_of_run number count input text image schedule o made is comes only text_is =
+    summed_up number count input text made.program o made.of_source
+    (subst (λ (s : List Letter). IsOutcome made.program every_page count s o) is (comes made.program made.of_image))
+    (subst (λ (s : List Letter). (x other : Outcome) → IsOutcome made.program every_page count s x
+    → IsOutcome made.program every_page count s other → x ≡ other) is (only made.program))
+    text_is
+
+pub run_shown : (number count : ℕ) (input : List ℕ) (image : ProgramImage) (schedule : List Letter) (before after : Option (List Glance))
+    → Made number count image → schedule ≡ workload_schedule number count
+    → ((p : Program) → IsProgramOf image p → SawRun p count every_page schedule before after) → Shown (soak number count) input before after
+run_shown number count input image schedule before after made is saw = (
+  made.program,
+  made.of_source,
+  subst (λ (s : List Letter). SawRun made.program count every_page s before after) is (saw made.program made.of_image),
+)
+
+pub front_shown : (number count : ℕ) (input : List ℕ) (image : ProgramImage) (schedule : List Letter) (before after : Option (List Glance))
+    → Made number count image → schedule ≡ workload_schedule number count
+    → ((p : Program) → IsProgramOf image p → SawFront p count every_page schedule before after)
+    → ShownFront (soak number count) input before after
+front_shown number count input image schedule before after made is saw = (
+  made.program,
+  made.of_source,
+  subst (λ (s : List Letter). SawFront made.program count every_page s before after) is (saw made.program made.of_image),
+)
+
+pub run_front_shown : (number count : ℕ) (input : List ℕ) (image : ProgramImage) (schedule : List Letter) (before after : Option (List Glance))
+    → Made number count image → schedule ≡ workload_schedule number count
+    → ((p : Program) → IsProgramOf image p → SawRun p count every_page schedule before after)
+    → ShownFront (soak number count) input before after
+run_front_shown number count input image schedule before after made is saw =
+    front_shown number count input image schedule before after made is
+    (λ p of. front_of_run p count every_page schedule before after (saw p of))

@@ -1,0 +1,85 @@
+-- The lines of events, one after the other.
+use Rattle.std.specs.Prelude.{ℕ, zero, suc, Bool, true, false, List, [], ◌∷◌, ◌++◌, Option, ◌≡◌, ◌<◌, ◌≤◌, ◌+◌, length}
+use Rattle.std.proofs.Common.{add-one, append_assoc, append-nil, refl, sym, ap, ap₂, ◌∙◌, subst}
+use Rattle.m88_event.specs.Letters.{letter_at}
+use Rattle.m88_event.specs.Timeline.{Moment, said_at}
+use Rattle.m88_event.specs.declared.happened.Happened.{Happened}
+use Rattle.m88_event.specs.declared.letter.Letter.{Letter}
+use Rattle.m88_isa.specs.Held.{instruction_at}
+use Rattle.m88_isa.specs.Machine.{Program}
+use Rattle.m88_isa.specs.declared.instr.Instr.{Instr}
+use Rattle.m88_board.specs.Moves.{IsAt}
+use Rattle.m88_board.specs.declared.glance.Glance.{Glance}
+use Rattle.m88_cli.proofs.Along.{IsAlongOn}
+use Rattle.m88_cli.specs.MonitorLines.{happened_line, letter_text, nip_at, trace_line}
+use Rattle.m88_cli.specs.Session.{Course, MakesEach, Session, moment_on, session_on, trace_lines, wants_event}
+use Rattle.m88_cli.specs.SessionKept.{Carried, IsBefore, IsNext, Stands, told_line}
+use Rattle.m88_cli.specs.declared.monitor.Monitor.{Monitor}
+use Rattle.m88_cli.specs.declared.monitor.tracing.Before.{Before}
+use Rattle.m88_cli.specs.declared.script.MonitorCommand.TheVariants.{Trace}
+
+-- the line of an event by what was noted before it is that of the moment
+pub told_is : (p : Program) (named : ℕ → Bool) (limit : ℕ) (letter : Letter) (m : Moment) (before : Before) (happened : Happened) →
+    IsBefore p letter m before →
+    happened ≡ said_at p named limit letter m →
+    told_line before happened ≡ trace_line p named limit letter m
+unfolding trace_line
+told_is p named limit letter m before happened is says =
+    ap₂ (λ n l. letter_text n l ++ happened_line before.address before.instruction before.fault happened) is.number is.letter_is
+    ∙ ap₂ (λ a i. letter_text (m.events + 1) letter ++ happened_line a i before.fault happened) is.address is.instruction
+    ∙ ap₂ (λ f h. letter_text (m.events + 1) letter ++ happened_line (nip_at p m).address (instruction_at p (nip_at p m).address) f h) is.fault says
+
+-- the letter of the next event
+pub letter_here : (c : Course) (letters : List Letter) (s : Session) (k : ℕ) (monitor : Monitor) (letter : Letter) →
+    Stands c letters (session_on c s k) monitor →
+    letter ≡ letter_at letters monitor.taken →
+    letter ≡ letter_at c.schedule (s.taken + k)
+unfolding session_on
+letter_here c letters s k monitor letter stands e =
+    e ∙ ap (letter_at letters) stands.taken ∙ ap (λ ls. letter_at ls (s.taken + k)) stands.schedule
+
+-- what holds on the way of `trace`
+pub record IsTracing (c : Course) (letters : List Letter) (s : Session) (count k : ℕ) (before after : Option (List Glance))
+    (old new : List ℕ) (monitor : Monitor) : Type 0 where
+  pub along : IsAlongOn c letters s k before after monitor
+  pub each : MakesEach c s (Trace count) k
+  pub told : new ≡ old ++ trace_lines c s k
+
+pub none_told : (c : Course) (s : Session) (old : List ℕ) → old ≡ old ++ trace_lines c s 0
+unfolding trace_lines
+none_told c s old = sym (append-nil old)
+
+pub one_told : (c : Course) (letters : List Letter) (s : Session) (k : ℕ) (letter : Letter) (before : Before) (happened : Happened)
+    (here after : Option (List Glance)) (monitor next : Monitor) (old text new : List ℕ) →
+    Stands c letters (session_on c s k) monitor →
+    letter ≡ letter_at letters monitor.taken →
+    ((p : Program) (named : ℕ → Bool) (m : Moment) → IsAt p named m monitor.board → IsBefore p letter m before) →
+    IsNext c letters (session_on c s k) here after happened next →
+    text ≡ old ++ trace_lines c s k →
+    new ≡ text ++ told_line before happened →
+    new ≡ old ++ trace_lines c s (k + 1)
+unfolding session_on trace_lines
+one_told c letters s k letter before happened here after monitor next old text new stands e noted says told more =
+    let m : Moment = moment_on c s k in
+    let l : Letter = letter_at c.schedule (s.taken + k) in
+    let is : IsBefore c.program l m before =
+    subst (λ x. IsBefore c.program x m before) (letter_here c letters s k monitor letter stands e) (noted c.program c.named m stands.at) in
+    more ∙ ap₂ (λ front line. front ++ line) told (told_is c.program c.named c.limit l m before happened is says.says)
+    ∙ append_assoc old (trace_lines c s k) (trace_line c.program c.named c.limit l m)
+    ∙ ap (λ n. old ++ trace_lines c s n) (sym (add-one k))
+
+-- the events of `trace` are made, and told
+pub trace_carried : (c : Course) (letters : List Letter) (s : Session) (count k : ℕ) (before after : Option (List Glance))
+    (old new : List ℕ) (monitor : Monitor) →
+    IsTracing c letters s count k before after old new monitor →
+    wants_event c s (Trace count) k ≡ false →
+    Carried c letters s (Trace count) before after old new monitor
+trace_carried c letters s count k before after old new monitor traces done = record {
+  went = record {
+    events = k;
+    makes = record { each = traces.each; done = done };
+    stands = traces.along.stands;
+    saw = traces.along.saw;
+  };
+  text = traces.told;
+}

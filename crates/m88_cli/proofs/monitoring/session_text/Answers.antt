@@ -1,0 +1,45 @@
+-- The board stands at the first moment of the program that the image holds, and its session is that of the program.
+use Rattle.std.proofs.Common.{[], ℕ, Bool, List}
+use Rattle.std.proofs.lemmas.Result.{IfOk-weaker}
+use Rattle.m88_isa.proofs.ImageProgram.{program_of_image}
+use Rattle.m88_isa.specs.ImageProgram.{IsProgramOf}
+use Rattle.m88_isa.specs.Machine.{IsProgram, Program}
+use Rattle.m88_event.specs.Timeline.{opening_moment}
+use Rattle.m88_mem.specs.Marks.{absent_in}
+use Rattle.m88_board.specs.Glances.{Saw}
+use Rattle.m88_board.specs.Moves.{IsAt}
+use Rattle.m88_board.specs.declared.glance.Glance.{Glance}
+use Rattle.m88_cli.specs.Session.{IsSession, course_of, opening_session}
+use Rattle.m88_cli.proofs.Carrying.{one_session, then_err}
+use Rattle.m88_cli.proofs.InputSessions.{no_session_front, saw_none}
+use Rattle.m88_cli.proofs.Reporting.{on_err}
+use Rattle.m88_cli.proofs.monitoring.session_text.Goals as goal
+
+pub returns-in_err-board-clause-front : goal.returns-in_err-board-clause-front
+returns-in_err-board-clause-front g c =
+    on_err c.from_residual.result (λ p of. (
+      [],
+      no_session_front (course_of p (absent_in c.args.absent.now) c.args.schedule.now) c.args.commands.now opening_session,
+      saw_none (g.W.Watch.seen c.args.watch.now),
+    ))
+
+pub returns-clause-session : goal.returns-clause-session
+returns-clause-session g c =
+    IfOk-weaker c.carry_out.result
+    (λ text. (p : Program) (named : ℕ → Bool) → IsProgram p → IsAt p named opening_moment c.in_ok-board.board → (glances : List Glance)
+    × IsSession (course_of p named c.args.schedule.now) c.args.commands.now opening_session text.items glances
+    × Saw (g.W.Watch.seen c.args.watch.now) (g.W.Watch.seen c.carry_out.new.watch) glances)
+    (λ text. (p : Program) → IsProgramOf c.args.image.now p → (glances : List Glance)
+    × IsSession (course_of p (absent_in c.args.absent.now) c.args.schedule.now) c.args.commands.now opening_session text.items glances
+    × Saw (g.W.Watch.seen c.args.watch.now) (g.W.Watch.seen c.carry_out.new.watch) glances)
+    (λ text told p of.
+    told p (absent_in c.args.absent.now) (program_of_image c.args.image.now p c.part_count.ensures.image of) (c.in_ok-board.ensures.at p of))
+    c.carry_out.ensures.ok
+
+pub returns-clause-front : goal.returns-clause-front
+returns-clause-front g c =
+    then_err c.carry_out.result c.carry_out.ensures.err (λ told p of.
+    told p (absent_in c.args.absent.now) (program_of_image c.args.image.now p c.part_count.ensures.image of) (c.in_ok-board.ensures.at p of))
+
+pub returns-in_err-board-clause-only : goal.returns-in_err-board-clause-only
+returns-in_err-board-clause-only g c = λ d s. one_session d c.args.commands.now s

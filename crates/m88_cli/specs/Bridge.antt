@@ -1,0 +1,49 @@
+-- What a command makes of what another one wrote: laws between the commands, of every input.
+use Rattle.std.specs.Prelude.{ℕ, Bool, ◌↔◌, ◌≤◌, List, Option, length}
+use Rattle.m88_base.specs.Image.{IsImage, ProgramImage}
+use Rattle.m88_isa.specs.Machine.{Program}
+use Rattle.m88_event.specs.declared.letter.Letter.{Letter}
+use Rattle.m88_srec.specs.Accepted.{IsAccepted, whole_of}
+use Rattle.m88_srec.specs.Written.{srec_text}
+use Rattle.m88_board.specs.declared.glance.Glance.{Glance}
+use Rattle.m88_cli.specs.Answer.{IsAnswerToAccepted, IsAnswerToRefused}
+use Rattle.m88_cli.specs.Command.{asm, build, exec, link, run, dis}
+use Rattle.m88_cli.specs.Limits.{most_input}
+use Rattle.m88_cli.specs.Runs.{IsLoadedProgram, IsSourceProgram}
+use Rattle.m88_cli.specs.Watching.{Shown}
+
+-- a text is short enough to be an input
+abbrev pub FitsInput : List ℕ → Type 0
+FitsInput text = length text ≤ most_input
+
+-- `exec` of the records does what `run` of the source does: they carry one program out, write the same reports, and
+-- show a watch the same
+pub record RunAlike (source records : List ℕ) : Type 0 where
+  pub programs : (p : Program) → IsSourceProgram source p ↔ IsLoadedProgram records p
+  pub reports : (limit : ℕ) (absent : ℕ → Bool) (schedule : List Letter) (report : List ℕ)
+      → IsAnswerToAccepted (run limit absent schedule) source report
+      ↔ IsAnswerToAccepted (exec limit absent schedule) records report
+  pub watched : (limit : ℕ) (absent : ℕ → Bool) (schedule : List Letter) (before after : Option (List Glance))
+      → Shown (run limit absent schedule) source before after
+      ↔ Shown (exec limit absent schedule) records before after
+
+-- a source and the records that `build` writes of it run alike
+abbrev pub BuiltRunsAlike : Type 0
+BuiltRunsAlike = (source records : List ℕ) → FitsInput source → IsAnswerToAccepted build source records
+    → RunAlike source records
+
+-- `link` of the objects answers as `build` does of the source: with the same records, or with the line that refuses the
+-- layout
+pub record LinkAlike (source objects : List ℕ) : Type 0 where
+  pub records : (text : List ℕ) → IsAnswerToAccepted build source text ↔ IsAnswerToAccepted link objects text
+  pub refusals : (text : List ℕ) → IsAnswerToRefused build source text → IsAnswerToRefused link objects text
+
+-- a source and the objects that `asm` writes of it link alike
+abbrev pub AssembledLinksAlike : Type 0
+AssembledLinksAlike = (source objects : List ℕ) → FitsInput source → IsAnswerToAccepted asm source objects
+    → LinkAlike source objects
+
+-- `build` of the listing that `dis` writes of S-records writes the records of the image that they hold
+abbrev pub ListedBuildsAlike : Type 0
+ListedBuildsAlike = (records listing : List ℕ) (image : ProgramImage) → IsAnswerToAccepted dis records listing
+    → IsImage image → IsAccepted records (whole_of image) → IsAnswerToAccepted build listing (srec_text image)

@@ -1,0 +1,49 @@
+-- What `mon` writes, and what a watch is shown: a session over the program of the source behind the script.
+use Rattle.std.specs.Prelude.{ℕ, Bool, ◌≡◌, List, Option}
+use Rattle.m88_isa.specs.Machine.{Program}
+use Rattle.m88_event.specs.declared.letter.Letter.{Letter}
+use Rattle.m88_board.specs.Glances.{Saw}
+use Rattle.m88_board.specs.declared.glance.Glance.{Glance}
+use Rattle.m88_cli.specs.Runs.{IsSourceProgram}
+use Rattle.m88_cli.specs.Script.{IsScript}
+use Rattle.m88_cli.specs.Session.{IsSession, IsSessionFront, course_of, opening_session}
+use Rattle.m88_cli.specs.declared.script.MonitorCommand.{MonitorCommand}
+
+-- the commands of an input's script, and a program of the source behind it
+pub record Scripted (input : List ℕ) (commands : List MonitorCommand) (p : Program) : Type 0 where
+  pub lines : ℕ
+  pub source : List ℕ
+  pub is_script : IsScript input commands lines source
+  pub is_program : IsSourceProgram source p
+
+-- a session of the input's commands over such a program writes the text and shows the glances
+pub record IsInputSession (input : List ℕ) (absent : ℕ → Bool) (schedule : List Letter) (text : List ℕ)
+    (glances : List Glance) : Type 0 where
+  pub commands : List MonitorCommand
+  pub program : Program
+  pub scripted : Scripted input commands program
+  pub is_session : IsSession (course_of program absent schedule) commands opening_session text glances
+
+-- the text is what a session writes, and no session writes another
+pub record IsMonitorText (input : List ℕ) (absent : ℕ → Bool) (schedule : List Letter) (text : List ℕ) : Type 0 where
+  pub glances : List Glance
+  pub session : IsInputSession input absent schedule text glances
+  pub only : (other : List ℕ) (others : List Glance) → IsInputSession input absent schedule other others → other ≡ text
+
+-- a watch was shown the glances of a whole session
+pub record SawSession (input : List ℕ) (absent : ℕ → Bool) (schedule : List Letter)
+    (before after : Option (List Glance)) : Type 0 where
+  pub text : List ℕ
+  pub glances : List Glance
+  pub session : IsInputSession input absent schedule text glances
+  pub saw : Saw before after glances
+
+-- or of a front of one
+pub record SawSessionFront (input : List ℕ) (absent : ℕ → Bool) (schedule : List Letter)
+    (before after : Option (List Glance)) : Type 0 where
+  pub commands : List MonitorCommand
+  pub program : Program
+  pub scripted : Scripted input commands program
+  pub glances : List Glance
+  pub is_front : IsSessionFront (course_of program absent schedule) commands opening_session glances
+  pub saw : Saw before after glances

@@ -1,0 +1,34 @@
+-- Which inputs `mon` accepts, and where and why it refuses any other: the faults of a script come before those of the
+-- source behind it.
+use Rattle.std.specs.Prelude.{ℕ, ◌≡◌, ◌⊎◌, List}
+use Rattle.m88_cli.specs.Assembly.{IsProgramSource}
+use Rattle.m88_cli.specs.Behind.{IsRefusedBehind}
+use Rattle.m88_cli.specs.Refusal.{Refusal}
+use Rattle.m88_cli.specs.Script.{HasNoScript, IsScript, script_refusal}
+use Rattle.m88_cli.specs.declared.script.MonitorCommand.{MonitorCommand}
+
+-- the input is a script and a source behind it that can be assembled and linked
+pub record IsMonitorInput (input : List ℕ) : Type 0 where
+  pub commands : List MonitorCommand
+  pub lines : ℕ
+  pub source : List ℕ
+  pub is_script : IsScript input commands lines source
+  pub is_program : IsProgramSource source
+
+-- an input is refused where it has no script
+pub record IsUnscripted (input : List ℕ) (r : Refusal) : Type 0 where
+  pub line : ℕ
+  pub has_none : HasNoScript input line
+  pub refusal : r ≡ script_refusal line
+
+-- and where it has one, at the first fault of the source behind it
+pub record IsRefusedAfterScript (input : List ℕ) (r : Refusal) : Type 0 where
+  pub commands : List MonitorCommand
+  pub lines : ℕ
+  pub source : List ℕ
+  pub is_script : IsScript input commands lines source
+  pub is_refused : IsRefusedBehind lines source r
+
+-- an input is refused so
+abbrev pub IsRefusedMonitor : List ℕ → Refusal → Type 0
+IsRefusedMonitor input r = IsUnscripted input r ⊎ IsRefusedAfterScript input r

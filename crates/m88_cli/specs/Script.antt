@@ -1,0 +1,126 @@
+-- The script of the monitor: lines that are commands or empty, then a line `source`, and a source behind that line.
+use Rattle.std.specs.Prelude.{ℕ, ◌≡◌, ◌≢◌, ◌+◌, ◌≤◌, ◌==◌, ◌++◌, Bool, true, false, List, [], ◌∷◌, codes, count_by, length, zero, suc, if◌then◌else◌}
+use Rattle.m88_base.specs.Lines.{line_feed, lines_of}
+use Rattle.m88_isa.specs.Address.{word_address}
+use Rattle.m88_cli.specs.Numbers.{IsShortNumber}
+use Rattle.m88_cli.specs.Refusal.{Refusal}
+use Rattle.m88_cli.specs.declared.script.MonitorCommand.{MonitorCommand}
+use Rattle.m88_cli.specs.declared.script.MonitorCommand.TheVariants.{Step, Go, Break, Regs, Pipe, Memory, Drain, Trace}
+
+-- the most commands of a script
+abbrev pub most_commands : ℕ
+most_commands = 64
+
+-- and the most of them that set a breakpoint
+abbrev pub most_breaks : ℕ
+most_breaks = 16
+
+-- the most events that a command may ask for
+abbrev pub most_steps : ℕ
+most_steps = 1000000
+
+-- the most words
+abbrev pub most_words : ℕ
+most_words = 1024
+
+-- a text writes a number from 1 on, in one to seven decimal digits
+pub record IsCount (most : ℕ) (text : List ℕ) (n : ℕ) : Type 0 where
+  pub number : IsShortNumber 10 7 text n
+  pub some : 1 ≤ n
+  pub few : n ≤ most
+
+-- a text writes an address in one to eight hexadecimal digits, whose two low bits are cleared
+pub record IsWordAddress (text : List ℕ) (address : ℕ) : Type 0 where
+  pub written : ℕ
+  pub number : IsShortNumber 16 8 text written
+  pub cleared : address ≡ word_address written
+
+-- a text writes an address, a blank, and a number of words
+pub record AreMemoryOperands (text : List ℕ) (address count : ℕ) : Type 0 where
+  pub place : List ℕ
+  pub digits : List ℕ
+  pub text_is : text ≡ place ++ codes " " ++ digits
+  pub is_place : IsWordAddress place address
+  pub is_count : IsCount most_words digits count
+
+-- a line is a name, a blank, and an operand of some kind
+pub record HasOperand (name : List ℕ) (IsSuch : List ℕ → Type 0) (line : List ℕ) : Type 0 where
+  pub operand : List ℕ
+  pub line_is : line ≡ name ++ codes " " ++ operand
+  pub is_such : IsSuch operand
+
+-- a line writes a command
+abbrev pub WritesCommand : MonitorCommand → List ℕ → Type 0
+WritesCommand (Step n) line = HasOperand (codes "step") (λ text. IsCount most_steps text n) line
+WritesCommand Go line = line ≡ codes "go"
+WritesCommand (Break address) line = HasOperand (codes "break") (λ text. IsWordAddress text address) line
+WritesCommand Regs line = line ≡ codes "regs"
+WritesCommand Pipe line = line ≡ codes "pipe"
+WritesCommand (Memory address count) line = HasOperand (codes "mem") (λ text. AreMemoryOperands text address count) line
+WritesCommand Drain line = line ≡ codes "drain"
+WritesCommand (Trace n) line = HasOperand (codes "trace") (λ text. IsCount most_steps text n) line
+
+-- the command sets a breakpoint
+abbrev pub is_break : MonitorCommand → Bool
+is_break (Step n) = false
+is_break Go = false
+is_break (Break address) = true
+is_break Regs = false
+is_break Pipe = false
+is_break (Memory address count) = false
+is_break Drain = false
+is_break (Trace n) = false
+
+-- lines write commands: an empty one none, and each other one the next of them
+abbrev pub WriteCommands : List (List ℕ) → List MonitorCommand → Type 0
+WriteCommands [] commands = commands ≡ []
+WriteCommands ([] ∷ lines) commands = WriteCommands lines commands
+WriteCommands ((b ∷ bs) ∷ lines) [] = ⊥
+WriteCommands ((b ∷ bs) ∷ lines) (command ∷ commands) = WritesCommand command (b ∷ bs) × WriteCommands lines commands
+
+-- the lines are those of a script with these commands
+pub record AreScriptLines (lines : List (List ℕ)) (commands : List MonitorCommand) : Type 0 where
+  pub write : WriteCommands lines commands
+  pub few : length commands ≤ most_commands
+  pub few_breaks : count_by is_break commands ≤ most_breaks
+
+-- the line behind a script, which is the line of no command
+abbrev pub source_line : List ℕ
+source_line = codes "source"
+
+-- what stands behind so many lines of an input
+abbrev pub behind_lines : ℕ → List ℕ → List ℕ
+behind_lines zero input = input
+behind_lines (suc n) [] = []
+behind_lines (suc n) (b ∷ bs) = if b == line_feed then behind_lines n bs else behind_lines (suc n) bs
+
+-- the input is a script with these commands and a source, before which so many lines stand; the last of these lines is
+-- the line `source`
+pub record IsScript (input : List ℕ) (commands : List MonitorCommand) (n : ℕ) (source : List ℕ) : Type 0 where
+  pub lines : List (List ℕ)
+  pub later : List (List ℕ)
+  pub lines_are : lines_of input ≡ lines ++ source_line ∷ later
+  pub are_script : AreScriptLines lines commands
+  pub number : n ≡ length lines + 1
+  pub source_is : source ≡ behind_lines n input
+
+-- behind the lines of a script stands a line that isn't `source`, and with it they are none of a script; or no line
+abbrev pub StopsScript : List (List ℕ) → List (List ℕ) → Type 0
+StopsScript lines [] = Unit {0}
+StopsScript lines (line ∷ later) =
+    (line ≢ source_line) × ((commands : List MonitorCommand) → ¬ AreScriptLines (lines ++ line ∷ []) commands)
+
+-- the input has no script: behind lines that are those of a script this is the line that stops it, or the one behind
+-- the last
+pub record HasNoScript (input : List ℕ) (n : ℕ) : Type 0 where
+  pub lines : List (List ℕ)
+  pub later : List (List ℕ)
+  pub commands : List MonitorCommand
+  pub lines_are : lines_of input ≡ lines ++ later
+  pub are_script : AreScriptLines lines commands
+  pub stops : StopsScript lines later
+  pub number : n ≡ length lines + 1
+
+-- the refusal of an input without a script, at a line
+abbrev pub script_refusal : ℕ → Refusal
+script_refusal n = record { line = n; column = 1; reason = codes "script" }

@@ -1,0 +1,165 @@
+-- A session with the monitor: commands that are carried out one after the other on one board, over one timeline. What
+-- each writes, and what a watch is shown.
+use Rattle.std.specs.Prelude.{ℕ, zero, suc, Bool, true, false, not, List, [], ◌∷◌, ◌++◌, ◌≡◌, ◌<◌, ◌⊎◌, ◌+◌, ◌==◌, ◌&&◌, ◌||◌, nat_lt}
+use Rattle.std.specs.List.{list_any}
+use Rattle.m88_isa.specs.Address.{word_address}
+use Rattle.m88_isa.specs.Machine.{Program}
+use Rattle.m88_event.specs.Letters.{letter_at}
+use Rattle.m88_event.specs.Run.{answered_after}
+use Rattle.m88_event.specs.Timeline.{Moment, after_letter, is_drained, is_over, opening_moment, record_at}
+use Rattle.m88_event.specs.declared.letter.Letter.{Letter}
+use Rattle.m88_report.specs.Report.{record_lines}
+use Rattle.m88_board.specs.Glances.{glances_along}
+use Rattle.m88_board.specs.declared.glance.Glance.{Glance}
+use Rattle.m88_cli.specs.Limits.{session_limit}
+use Rattle.m88_cli.specs.MonitorLines.{breakpoint_line, counts_text, nip_at, registers_text, trace_line, words_text}
+use Rattle.m88_cli.specs.declared.script.MonitorCommand.{MonitorCommand}
+use Rattle.m88_cli.specs.declared.script.MonitorCommand.TheVariants.{Step, Go, Break, Regs, Pipe, Memory, Drain, Trace}
+
+-- what a session runs: a program, the pages that are absent at first, the most instructions that are retired, and the
+-- letters that the events begin with, behind which `r` and `i` come in turn
+pub record Course : Type 0 where
+  pub program : Program
+  pub named : ℕ → Bool
+  pub limit : ℕ
+  pub schedule : List Letter
+
+-- the course of a session's board
+abbrev pub course_of : Program → (ℕ → Bool) → List Letter → Course
+course_of p named schedule =
+    record { program = p; named = named; limit = session_limit; schedule = schedule }
+
+-- where a session stands: the moment, how many letters of the run were taken, and the breakpoints, which are addresses
+-- of words
+pub record Session : Type 0 where
+  pub moment : Moment
+  pub taken : ℕ
+  pub breakpoints : List ℕ
+
+-- at first
+abbrev pub opening_session : Session
+opening_session = record { moment = opening_moment; taken = 0; breakpoints = [] }
+
+-- the moment after so many events of the letters that come next
+unfoldable pub moment_on : Course → Session → ℕ → Moment
+moment_on c s zero = s.moment
+moment_on c s (suc k) =
+    after_letter c.program c.named c.limit (letter_at c.schedule (s.taken + k)) (moment_on c s k)
+
+-- the run is over there
+abbrev pub is_over_on : Course → Session → ℕ → Bool
+is_over_on c s k = is_over c.program c.limit (moment_on c s k)
+
+-- NIP is valid with the address of a breakpoint
+abbrev pub is_at_breakpoint : Program → List ℕ → Moment → Bool
+is_at_breakpoint p breakpoints m =
+    (nip_at p m).valid && list_any (λ a. a == (nip_at p m).address) breakpoints
+
+-- after so many events `go` stops: the run is over, or at least one event was made and the next instruction stands at a
+-- breakpoint
+abbrev pub stops_on : Course → Session → ℕ → Bool
+stops_on c s zero = is_over_on c s zero
+stops_on c s (suc k) = is_over_on c s (suc k) || is_at_breakpoint c.program s.breakpoints (moment_on c s (suc k))
+
+-- the moments that a command goes along: `drain` makes `r` events and takes no letter of the run, the others take these
+abbrev pub moments_of : Course → Session → MonitorCommand → ℕ → Moment
+moments_of c s Drain = answered_after c.program c.named c.limit s.moment
+moments_of c s _ = moment_on c s
+
+-- after so many events a command makes another one: `step` and `trace` as long as they made fewer than they are asked
+-- for and the run isn't over, `go` until it stops, `drain` as long as something is pending, and the others none
+abbrev pub wants_event : Course → Session → MonitorCommand → ℕ → Bool
+wants_event c s (Step most) k = nat_lt k most && not (is_over_on c s k)
+wants_event c s (Trace most) k = nat_lt k most && not (is_over_on c s k)
+wants_event c s Go k = not (stops_on c s k)
+wants_event c s Drain k = not (is_drained c.program (answered_after c.program c.named c.limit s.moment k))
+wants_event c s _ k = false
+
+-- a command made so many events, each while it went on
+abbrev pub MakesEach : Course → Session → MonitorCommand → ℕ → Type 0
+MakesEach c s command events = (k : ℕ) → k < events → wants_event c s command k ≡ true
+
+-- a command makes so many events: it goes on before each of them, and not behind them
+pub record Makes (c : Course) (s : Session) (command : MonitorCommand) (events : ℕ) : Type 0 where
+  pub each : MakesEach c s command events
+  pub done : wants_event c s command events ≡ false
+
+-- the lines of so many events
+unfoldable pub trace_lines : Course → Session → ℕ → List ℕ
+trace_lines c s zero = []
+trace_lines c s (suc k) =
+    trace_lines c s k
+    ++ trace_line c.program c.named c.limit (letter_at c.schedule (s.taken + k)) (moment_on c s k)
+
+-- what a command writes that makes so many events
+abbrev pub text_of_command : Course → Session → MonitorCommand → ℕ → List ℕ
+text_of_command c s (Step most) events = counts_text c.program (moment_on c s events)
+text_of_command c s Go events = counts_text c.program (moment_on c s events)
+text_of_command c s (Break a) events = breakpoint_line (word_address a)
+text_of_command c s Regs events = registers_text c.program s.moment
+text_of_command c s Pipe events = record_lines (record_at c.program c.named c.limit s.moment)
+text_of_command c s (Memory a n) events = words_text c.program s.moment a n
+text_of_command c s Drain events = counts_text c.program (answered_after c.program c.named c.limit s.moment events)
+text_of_command c s (Trace most) events = trace_lines c s events
+
+-- where a session stands after so many events of the run's letters
+unfoldable pub session_on : Course → Session → ℕ → Session
+session_on c s events = record s { moment = moment_on c s events; taken = s.taken + events }
+
+-- where a session stands after a command that makes so many events
+abbrev pub after_command : Course → Session → MonitorCommand → ℕ → Session
+after_command c s (Step most) events = session_on c s events
+after_command c s Go events = session_on c s events
+after_command c s (Break a) events = record s { breakpoints = s.breakpoints ++ word_address a ∷ [] }
+after_command c s Regs events = s
+after_command c s Pipe events = s
+after_command c s (Memory a n) events = s
+after_command c s Drain events = record s { moment = answered_after c.program c.named c.limit s.moment events }
+after_command c s (Trace most) events = session_on c s events
+
+-- what a watch is shown of so many events of a command: a glance after each
+abbrev pub glances_of : Course → Session → MonitorCommand → ℕ → List Glance
+glances_of c s command events = glances_along c.program (moments_of c s command) events
+
+-- a command, and then others: what they write, and what a watch is shown
+pub record IsThen (IsRest : Session → List ℕ → List Glance → Type 0) (c : Course) (s : Session)
+    (command : MonitorCommand) (text : List ℕ) (glances : List Glance) : Type 0 where
+  pub events : ℕ
+  pub makes : Makes c s command events
+  pub rest : List ℕ
+  pub others : List Glance
+  pub is_rest : IsRest (after_command c s command events) rest others
+  pub text_is : text ≡ text_of_command c s command events ++ rest
+  pub glances_are : glances ≡ glances_of c s command events ++ others
+
+-- the text that commands write from a session on, in order, and the glances that a watch is shown
+abbrev pub IsSession : Course → List MonitorCommand → Session → List ℕ → List Glance → Type 0
+IsSession c [] s text glances = (text ≡ []) × (glances ≡ [])
+IsSession c (command ∷ commands) s text glances = IsThen (IsSession c commands) c s command text glances
+
+-- the glances of the first events of a command, maybe not all of it
+pub record IsUnfinished (c : Course) (s : Session) (command : MonitorCommand) (glances : List Glance) : Type 0 where
+  pub events : ℕ
+  pub each : MakesEach c s command events
+  pub glances_are : glances ≡ glances_of c s command events
+
+-- a command whole, and then a front of others
+pub record IsThenFront (IsRest : Session → List Glance → Type 0) (c : Course) (s : Session)
+    (command : MonitorCommand) (glances : List Glance) : Type 0 where
+  pub events : ℕ
+  pub makes : Makes c s command events
+  pub others : List Glance
+  pub is_rest : IsRest (after_command c s command events) others
+  pub glances_are : glances ≡ glances_of c s command events ++ others
+
+-- the glances of a front of commands: some of them whole, and then maybe a part of one more
+abbrev pub IsSessionFront : Course → List MonitorCommand → Session → List Glance → Type 0
+IsSessionFront c [] s glances = glances ≡ []
+IsSessionFront c (command ∷ commands) s glances =
+    IsUnfinished c s command glances ⊎ IsThenFront (IsSessionFront c commands) c s command glances
+
+-- two sessions of the same commands write one text, and show the same glances
+abbrev pub HasOneSession : Course → List MonitorCommand → Session → Type 0
+HasOneSession c commands s =
+    (text other : List ℕ) (glances others : List Glance) → IsSession c commands s text glances
+    → IsSession c commands s other others → (text ≡ other) × (glances ≡ others)

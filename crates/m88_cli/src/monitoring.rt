@@ -1,0 +1,138 @@
+//! What `mon` makes of its input: a session with the monitor by a script, over the source behind it.
+ghost use Rattle.std.specs.Prelude.{ℕ, ◌≡◌, ◌≤◌, IfErr, IfOk, List, OnErr, false, length};
+ghost use Rattle.m88_base.specs.Image.{IsImage};
+ghost use Rattle.m88_board.specs.Glances.{Saw};
+ghost use Rattle.m88_board.specs.declared.glance.Glance.{Glance};
+ghost use Rattle.m88_isa.specs.ImageProgram.{IsProgramOf};
+ghost use Rattle.m88_isa.specs.Machine.{Program};
+ghost use Rattle.m88_mem.specs.Marks.{NamesPages, absent_in};
+ghost use Rattle.m88_cli.specs.Command.{mon};
+ghost use Rattle.m88_cli.specs.Limits.{most_input};
+ghost use Rattle.m88_cli.specs.Linking.{HoldsUnit};
+ghost use Rattle.m88_cli.specs.MonitorFaults.{IsMonitorFault, IsToldFault, monitor_refusal};
+ghost use Rattle.m88_cli.specs.Refusal.{Refusal, refusal_line};
+ghost use Rattle.m88_cli.specs.Monitoring.{IsMonitorInput, IsRefusedMonitor};
+ghost use Rattle.m88_cli.specs.Reply.{Replies, WatchesFront, WatchesReply};
+ghost use Rattle.m88_cli.specs.Script.{IsScript, most_commands};
+ghost use Rattle.m88_cli.specs.Session.{Course, HasOneSession, IsSession, IsSessionFront, Session, course_of, opening_session};
+
+use crate::assembly::image_of_source;
+use crate::limits::SESSION_LIMIT;
+use crate::monitor::carry_out;
+use crate::reply::{Reply, refusal};
+use crate::script::{MonitorCommand, ScriptFault, read_script};
+use crate::script_lines::MOST_COMMANDS;
+use crate::source_behind::refuse_behind;
+use crate::source_fault::SourceFault;
+use arrayvec::ArrayVec;
+use m88_base::{Absent, Image, NoMemory};
+use m88_board::{Board, Watch};
+use m88_event::Schedule;
+use std::alloc::Global;
+
+/// Why an input has no script or no program behind it.
+#[derive(Clone, Copy, PartialEq, Eq, Debug)]
+pub enum MonitorFault {
+    /// It has no script.
+    Script(ScriptFault),
+    /// The source behind so many lines has a fault.
+    Source { lines: u32, fault: SourceFault },
+}
+
+/// The commands of an input's script and the image of the source behind it, or the first fault of the input.
+pub fn script_and_image(
+    alloc: Global,
+    input: &[u8],
+) -> Result<(ArrayVec<MonitorCommand, MOST_COMMANDS>, Image), MonitorFault>
+    requires { length input.now ≤ most_input }
+    ensures found { IfOk result (λ p. (lines : ℕ) × (source : List ℕ)
+        × IsScript input.now p.0.items lines source × HoldsUnit source p.1) }
+    ensures fault { IfErr result (IsMonitorFault input.now) }
+{
+    let script = match read_script(input) {
+        Ok(script) => script,
+        Err(fault) => return Err(MonitorFault::Script(fault)),
+    };
+    match image_of_source(alloc, script.source) {
+        Ok(image) => Ok((script.commands, image)),
+        Err(fault) => Err(MonitorFault::Source {
+            lines: script.lines,
+            fault,
+        }),
+    }
+}
+
+/// The reply that refuses an input of `mon`, unless the fault is that memory ran out.
+pub fn refuse_monitor(alloc: Global, fault: MonitorFault) -> Result<Reply, NoMemory>
+    ensures line { IfOk result
+        (λ reply. reply.text.items ≡ refusal_line (monitor_refusal fault)) }
+    ensures refused { IfOk result (λ reply. reply.accepted ≡ false) }
+    ensures told { IfOk result (λ _. IsToldFault fault) }
+
+    // An input is accepted or refused for its first fault, in one way.
+    ensures refuses { (input : List ℕ) → IsMonitorFault input fault → IsToldFault fault
+        → IsRefusedMonitor input (monitor_refusal fault) }
+    ensures not_both { (input : List ℕ) (r : Refusal)
+        → IsMonitorInput input → ¬ IsRefusedMonitor input r }
+    ensures once { (input : List ℕ) (r s : Refusal)
+        → IsRefusedMonitor input r → IsRefusedMonitor input s → r ≡ s }
+{
+    match fault {
+        MonitorFault::Script(fault) => refusal(alloc, fault.line, 1, b"script"),
+        MonitorFault::Source { lines, fault } => refuse_behind(alloc, lines, fault),
+    }
+}
+
+/// The reply of `mon` to its input.
+pub fn run_monitor<W: Watch>(
+    alloc: Global,
+    absent: &Absent,
+    schedule: &Schedule,
+    input: &[u8],
+    watch: &mut W,
+) -> Result<Reply, NoMemory>
+    requires size { length input.now ≤ most_input }
+    requires pages { NamesPages absent.now }
+    ensures reply { IfOk result (Replies (mon (absent_in absent.now) schedule.now) input.now) }
+    ensures watched { IfOk result (WatchesReply W.seen watch.old watch.new
+        (mon (absent_in absent.now) schedule.now) input.now) }
+    ensures front { OnErr result (WatchesFront W.seen watch.old watch.new
+        (mon (absent_in absent.now) schedule.now) input.now) }
+{
+    let (commands, image) = match script_and_image(alloc, input) {
+        Ok(parts) => parts,
+        Err(fault) => return refuse_monitor(alloc, fault),
+    };
+    let text = session_text(alloc, absent, schedule, commands.as_slice(), &image, watch)?;
+    Ok(Reply {
+        accepted: true,
+        text,
+    })
+}
+
+/// What a session writes over the program that an image holds, on a board that is shown to the watch after each event.
+fn session_text<W: Watch>(
+    alloc: Global,
+    absent: &Absent,
+    schedule: &Schedule,
+    commands: &[MonitorCommand],
+    image: &Image,
+    watch: &mut W,
+) -> Result<Vec<u8>, NoMemory>
+    requires pages { NamesPages absent.now }
+    requires few { length commands.now ≤ most_commands }
+    ensures image { IsImage image.now }
+    ensures session { IfOk result (λ text. (p : Program) → IsProgramOf image.now p
+        → (glances : List Glance)
+        × IsSession (course_of p (absent_in absent.now) schedule.now) commands.now opening_session text.items glances
+        × Saw (W.seen watch.old) (W.seen watch.new) glances) }
+    ensures front { OnErr result ((p : Program) → IsProgramOf image.now p → (glances : List Glance)
+        × IsSessionFront (course_of p (absent_in absent.now) schedule.now) commands.now opening_session glances
+        × Saw (W.seen watch.old) (W.seen watch.new) glances) }
+    ensures only { (c : Course) (s : Session) → HasOneSession c commands.now s }
+{
+    // What always holds of an image is told with its parts.
+    let _ = image.part_count();
+    let board = Board::new(alloc, image, absent, SESSION_LIMIT)?;
+    carry_out(alloc, board, schedule, commands, watch)
+}

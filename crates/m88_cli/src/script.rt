@@ -1,0 +1,89 @@
+//! The script of the monitor.
+ghost use Rattle.std.specs.Prelude.{ℕ, ◌≡◌, ◌≤◌, IfErr, IfOk, List, MatchResult, length};
+ghost use Rattle.m88_cli.specs.Limits.{most_input};
+ghost use Rattle.m88_cli.specs.Script.{HasNoScript, IsScript};
+ghost use Rattle.m88_cli.specs.declared.script.MonitorCommand.{MonitorCommand as CommandValue};
+
+use crate::script_lines::{MOST_COMMANDS, next_line, take_line};
+use arrayvec::ArrayVec;
+
+/// A command of a script.
+#[derive(Clone, Copy, PartialEq, Eq, Debug)]
+pub enum MonitorCommand {
+    /// That many events, 1 to 1,000,000, or fewer where the run is over before.
+    Step(u32),
+    /// Events until the run is over or stands at a breakpoint.
+    Go,
+    /// A breakpoint at this address, whose two low bits are clear.
+    Break(u32),
+    /// The registers and the carry.
+    Regs,
+    /// The words that a fault now would leave.
+    Pipe,
+    /// That many words of memory, 1 to 1,024, from this address on, whose two low bits are clear.
+    Memory { address: u32, count: u32 },
+    /// Events `r` until nothing is pending.
+    Drain,
+    /// As `Step`, told event by event.
+    Trace(u32),
+}
+
+impl Default for MonitorCommand {
+    /// What stands in a place of a script that isn't used.
+    fn default() -> MonitorCommand {
+        MonitorCommand::Go
+    }
+}
+
+/// A script, and the source behind it.
+#[derive(Debug, Drop)]
+pub struct Script<'a> {
+    /// The commands in their order.
+    pub commands: ArrayVec<MonitorCommand, MOST_COMMANDS>,
+    /// The number of lines before the source; the last of them is the line `source`.
+    pub lines: u32,
+    /// The source.
+    pub source: &'a [u8],
+}
+
+/// The line, from 1, at which an input has no script.
+#[derive(Clone, Copy, PartialEq, Eq, Debug)]
+pub struct ScriptFault {
+    pub line: u32,
+}
+
+/// The script of an input and the source behind it, or the first line that is no command, a 65th command or a 17th
+/// breakpoint; where no line `source` comes, the line behind the last.
+pub fn read_script(input: &[u8]) -> Result<Script<'_>, ScriptFault>
+    requires { length input.now ≤ most_input }
+    ensures script { IfOk result (λ s. IsScript input.now s.commands.items s.lines s.source.now) }
+    ensures short { IfOk result (λ s. length s.source.now ≤ length input.now) }
+    ensures fault { IfErr result (λ fault. HasNoScript input.now fault.line) }
+
+    // An input has one script, or one line at which it has none.
+    ensures only { (commands : List CommandValue) (n : ℕ) (source : List ℕ)
+        → IsScript input.now commands n source → MatchResult result
+        (λ s. (s.commands.items ≡ commands) × (s.lines ≡ n) × (s.source.now ≡ source)) (λ _. ⊥) }
+    ensures only_fault { (n : ℕ) → HasNoScript input.now n
+        → MatchResult result (λ _. ⊥) (λ fault. fault.line ≡ n) }
+{
+    let mut commands = ArrayVec::new();
+    let mut rest = input;
+    let mut passed = 0;
+    while !rest.is_empty() {
+        let (line, behind) = next_line(rest);
+        passed += 1;
+        if line == b"source".as_slice() {
+            return Ok(Script {
+                commands,
+                lines: passed,
+                source: behind,
+            });
+        }
+        if !take_line(&mut commands, line) {
+            return Err(ScriptFault { line: passed });
+        }
+        rest = behind;
+    }
+    Err(ScriptFault { line: passed + 1 })
+}

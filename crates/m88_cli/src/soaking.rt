@@ -1,0 +1,48 @@
+//! What `soak` makes of its number and its count: a run of their workload, and its summary.
+ghost use Rattle.std.specs.Prelude.{ℕ, ◌≤◌, List, IfOk, OnErr};
+ghost use Rattle.m88_cli.specs.Command.{soak};
+ghost use Rattle.m88_cli.specs.Limits.{most_statements};
+ghost use Rattle.m88_cli.specs.Reply.{Replies, WatchesFront, WatchesReply};
+
+use crate::assembly::image_of_source;
+use crate::reply::Reply;
+use crate::running::outcome_of;
+use crate::source_fault::refuse;
+use crate::summary::summary;
+use crate::workload::Draws;
+use m88_base::{Absent, NoMemory};
+use m88_board::Watch;
+use m88_event::Schedule;
+use std::alloc::Global;
+
+/// The reply of `soak` to a number and a count, whatever its input.
+pub fn run_workload<W: Watch>(
+    alloc: Global,
+    number: u32,
+    count: u32,
+    watch: &mut W,
+) -> Result<Reply, NoMemory>
+    requires { count ≤ most_statements }
+    ensures reply { (input : List ℕ) → IfOk result (Replies (soak number count) input) }
+    ensures watched { (input : List ℕ) → IfOk result
+        (WatchesReply W.seen watch.old watch.new (soak number count) input) }
+    ensures front { (input : List ℕ) → OnErr result
+        (WatchesFront W.seen watch.old watch.new (soak number count) input) }
+{
+    let mut draws = Draws::new(number);
+    let source = draws.source(alloc, count)?;
+    let letters = draws.letters(alloc)?;
+    let Some(schedule) = Schedule::read(letters.as_str()) else {
+        unreachable!();
+    };
+    let image = match image_of_source(alloc, source.as_slice()) {
+        Ok(image) => image,
+        Err(fault) => return refuse(alloc, fault),
+    };
+    let outcome = outcome_of(alloc, count, &Absent::All, &schedule, &image, watch)?;
+    let text = summary(alloc, number, count, &outcome)?;
+    Ok(Reply {
+        accepted: true,
+        text,
+    })
+}

@@ -1,0 +1,72 @@
+-- The law of whole operations: what is heard without a fault is an operation or the head of a module, and the other way
+-- round.
+use Rattle.std.proofs.Common.{◌≡◌, ℕ, inl, inr, List, [], ◌∷◌, Some, None, Result, Ok, Err, refl, sym, ap, ◌∙◌, subst, codes}
+use Rattle.m88_parse.specs.declared.fault.ParseFault.{ParseFault}
+use Rattle.m88_parse.specs.declared.unit.Body.{Body}
+use Rattle.m88_parse.specs.declared.row.Row.{Row}
+use Rattle.m88_parse.specs.declared.row.Row.TheVariants as row
+use Rattle.m88_parse.specs.Language.Pieces.{TokenValue, Piece}
+use Rattle.m88_parse.specs.Language.Names.{IsNamed}
+use Rattle.m88_parse.specs.Language.Statements.{IsHead, head}
+use Rattle.m88_parse.specs.Language.LineFaults.{IsOperation, operation, head_of_module}
+use Rattle.m88_parse.specs.Reader.State.{ReaderState, first, place, ◌>>=◌}
+use Rattle.m88_parse.specs.Reader.Slots.{any_name_at, line_end_at}
+use Rattle.m88_parse.specs.Reader.Source.{operation_at, head_at, is_head_on, statement}
+use Rattle.m88_parse.proofs.Law.Steps.{chosen, take_then, take_else}
+use Rattle.m88_parse.proofs.Law.Slots.{st, bind_ok, bind_to, end_read, one_any_name, slot_again, slot_read}
+use Rattle.m88_parse.proofs.Law.Bodies.{operation_read, body_again}
+use Rattle.m88_parse.proofs.Law.Rows.{head_named, made_head, not_head}
+use Rattle.m88_parse.proofs.Law.LineFaults.Readers.{fault_in, row_or_head, heard, HeardLaw}
+
+head_is : (line e : ℕ) (p : Piece) (ps : List Piece) (r : Row) → IsNamed (codes ".module") p → head_at (st line e (p ∷ ps)) ≡ Ok r → IsOperation (p ∷ ps)
+unfolding head_at
+head_is line e p ps r n h =
+    let b = bind_ok (any_name_at (st line e ps)) (λ (name : List ℕ × ReaderState). line_end_at name.1 >>= made_head line name) r h in
+    let o = slot_read (one_any_name line e) ps b.0 b.1 in
+    let d = bind_ok (line_end_at b.0.1) (made_head line b.0) r b.2 in
+    let z = end_read line e o.rest d.0 (ap line_end_at (sym o.after) ∙ d.1) in
+    let t : ps ≡ o.piece ∷ [] = o.tokens ∙ ap (λ (qs : List Piece). o.piece ∷ qs) z in
+    subst (λ (qs : List Piece). IsOperation (p ∷ qs)) (sym t) (head_of_module (head n o.is.0 o.is.1))
+
+operation_is : (line e : ℕ) (ps : List Piece) (c : Body) → operation_at (st line e ps) ≡ Ok c → IsOperation ps
+unfolding operation_at
+operation_is line e [] c h = absurd cc
+operation_is line e (p ∷ ps) c h = operation (operation_read line e p ps c h)
+
+row_is : (line e : ℕ) (ps : List Piece) (r : Row) → row_or_head (st line e ps) ≡ Ok r → IsOperation ps
+unfolding operation_at
+row_is line e [] r h = absurd cc
+row_is line e (p ∷ ps) r h =
+    let s = st line e (p ∷ ps) in
+    elim (chosen (is_head_on (Some p.says)) _ _ _ h) [
+      | inl k ↦ head_is line e p ps r (head_named p.says k.0) k.1
+      | inr k ↦ let b = bind_ok (operation_at s) (λ (x : Body). Ok (statement s None p.col x)) r k.1 in operation_is line e (p ∷ ps) b.0 b.1
+    ]
+
+fault_free : {A : Type 0} (r : Result A ParseFault) → fault_in r ≡ None → (x : A) × (r ≡ Ok x)
+fault_free (Ok x) h = (x, refl)
+fault_free (Err f) h = absurd cc
+
+heard_is : (line e : ℕ) (ps : List Piece) → heard line e ps ≡ None → IsOperation ps
+heard_is line e ps h = let b = fault_free (row_or_head (st line e ps)) h in row_is line e ps b.0 b.1
+
+operation_heard : (line e : ℕ) (ps : List Piece) (c : Body) → operation_at (st line e ps) ≡ Ok c → heard line e ps ≡ None
+operation_heard line e ps c h =
+    let s = st line e ps in
+    ap (λ (r : Result Row ParseFault). fault_in r)
+    (take_else (is_head_on (first s)) _ _ (not_head line e ps c h)
+    ∙ bind_to (operation_at s) (λ (x : Body). Ok (statement s None (place s) x)) c (Ok (statement s None (place s) c)) h refl)
+
+head_heard : (line e : ℕ) (ps : List Piece) (name : List ℕ) → IsHead ps name → heard line e ps ≡ None
+unfolding head_at
+head_heard line e ps name (head {p = p} {q = q} n k v) =
+    ap (λ (r : Result Row ParseFault). fault_in r)
+    (take_then (is_head_on (Some p.says)) _ _ (ap (λ (m : TokenValue). is_head_on (Some m)) n)
+    ∙ bind_to (any_name_at (st line e (q ∷ []))) (λ (x : List ℕ × ReaderState). line_end_at x.1 >>= made_head line x) (name, st line e []) (Ok (row.Head name line)) (slot_again (one_any_name line e) name q [] (k, v)) refl)
+
+is_heard : (line e : ℕ) (ps : List Piece) → IsOperation ps → heard line e ps ≡ None
+is_heard line e ps (operation {said = said} h) = operation_heard line e ps said (body_again line e ps said h)
+is_heard line e ps (head_of_module {name = name} h) = head_heard line e ps name h
+
+pub heard_law : (line e : ℕ) → HeardLaw line e
+heard_law line e ps = (heard_is line e ps, is_heard line e ps)
