@@ -1,7 +1,6 @@
 //! Why an S-record text is refused.
 
-use crate::printed::Hex2;
-use m88_base::Hex8;
+use m88_base::{Hex2, Hex8};
 use std::error::Error;
 use std::fmt;
 

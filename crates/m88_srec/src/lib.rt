@@ -8,7 +8,6 @@ mod fault;
 mod form;
 mod frame;
 mod loading;
-mod printed;
 mod purpose;
 mod reader;
 mod record;
