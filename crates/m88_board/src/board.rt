@@ -373,7 +373,8 @@ impl Board {
     fn waits_on(&self, instr: &Instr, r: Reg) -> bool
         requires { IsValid instr.now }
         ensures { result
-            ≡ (involves (Some instr.now) (number_of r) && waits_for self.now.pending (number_of r)) }
+            ≡ (involves (Some instr.now) (number_of r)
+            && waits_for self.now.pending (number_of r)) }
     {
         if self.regs.get(r).is_ok() {
             return false;
