@@ -46,7 +46,7 @@ mod reading;
 mod run;
 
 /// The board. It holds its image once, in its memory.
-#[derive(Drop)]
+#[derive(Debug, Drop)]
 pub struct Board {
     limit: u32,
     iunit: InstrUnit,

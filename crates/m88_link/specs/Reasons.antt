@@ -1,8 +1,10 @@
--- The reasons of the linker's faults, in the words of a refused line (formats: the line that refuses an input).
+-- The reasons of the linker's faults and of those of a text of objects, in the words of a refused line (formats: the line that refuses an input).
 use Rattle.std.specs.Prelude.{ℕ, List, ◌++◌, codes, decimal}
 use Rattle.std.specs.Fmt.{signed_decimal}
 use Rattle.m88_base.specs.Hex.{hex8}
 use Rattle.m88_link.specs.declared.fault.LinkKind.{LinkKind}
+use Rattle.m88_link.specs.declared.object_fault.ObjectFault.{ObjectFault}
+use Rattle.m88_link.specs.declared.object_fault.ObjectFault.TheVariants as object
 use Rattle.m88_link.specs.declared.fault.LinkKind.TheVariants as kind
 
 -- a name that is defined already, with the line of its first definition
@@ -17,3 +19,9 @@ link_reason (kind.Duplicate name first) = duplicate_reason name first
 link_reason (kind.Undefined name) = codes "undefined " ++ name
 link_reason (kind.TooFar distance) = codes "too far " ++ signed_decimal distance
 link_reason kind.Memory = codes "out of memory"
+
+-- the reason of a fault of a text of objects
+unfoldable pub object_reason : ObjectFault → List ℕ
+object_reason (object.Form line) = codes "form"
+object_reason (object.Range line) = codes "range"
+object_reason object.Memory = codes "out of memory"
