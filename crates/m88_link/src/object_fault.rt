@@ -35,6 +35,12 @@ impl ObjectFault {
 }
 
 impl fmt::Display for ObjectFault {
+    ghost use Rattle.std.specs.Prelude.{Some};
+    ghost use Rattle.m88_link.specs.Reasons.{object_fault_text};
+
+    ghost output = { λ fault. Some (object_fault_text fault) };
+
+    #[tactic(auto, unfolding(crate::specs::Reasons::object_fault_text))]
     fn fmt<W: fmt::Write>(&self, f: &mut fmt::Formatter<W>) -> fmt::Result {
         match self {
             ObjectFault::Form { line } | ObjectFault::Range { line } => {
