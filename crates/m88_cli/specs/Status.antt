@@ -25,6 +25,16 @@ WritesNothing Refused = ⊥
 WritesNothing Memory = Unit {0}
 WritesNothing TooLong = Unit {0}
 
+-- an answer with which all was read and all was written
+abbrev pub IsAnswered : Status → Type 0
+IsAnswered Done = Unit {0}
+IsAnswered Usage = ⊥
+IsAnswered SourceFault = ⊥
+IsAnswered SinkFault = ⊥
+IsAnswered Refused = Unit {0}
+IsAnswered Memory = ⊥
+IsAnswered TooLong = ⊥
+
 -- an answer with which nobody was shown anything
 abbrev pub ShowsNothing : Status → Type 0
 ShowsNothing Done = ⊥

@@ -1,5 +1,5 @@
 //! The input that a command reads.
-ghost use Rattle.std.specs.Prelude.{◌≡◌, ◌≢◌, ◌+◌, ◌≤◌, Err, IfErr, IfOk, false, true, length};
+ghost use Rattle.std.specs.Prelude.{◌≡◌, ◌≢◌, ◌+◌, ◌≤◌, Err, IfErr, IfOk, OnOk, false, true, length};
 ghost use Rattle.m88_base.specs.Causes.{Rose};
 ghost use Rattle.m88_base.specs.Outside.{TakesAtMost, TakesExactly};
 ghost use Rattle.m88_cli.specs.Calls.{GivesInput};
@@ -22,6 +22,7 @@ pub fn input_of<S: Source>(
         GivesInput (command_of command.now) (S.left source.old) (S.left source.new) input.items) }
     ensures short { IfOk result (λ input. length input.items ≤ most_input) }
     ensures unread { reads_input (command_of command.now) ≡ false → source.new ≡ source.old }
+    ensures clean { OnOk result (S.faults source.new ≡ S.faults source.old) }
     ensures reader { IfErr result (λ _. reads_input (command_of command.now) ≡ true) }
     ensures fault { result ≡ Err ReadEnd.SourceFault
         → Rose (S.faults source.old) (S.faults source.new) }

@@ -1,5 +1,5 @@
 //! The top call.
-ghost use Rattle.std.specs.Prelude.{[], ◌≡◌, ◌≢◌, ◌↔◌, ◌⊎◌, ◌+◌, ◌≤◌, ℕ, List, IfErr, IfOk, OnErr, Err, Some, false, length};
+ghost use Rattle.std.specs.Prelude.{[], ◌≡◌, ◌≢◌, ◌↔◌, ◌⊎◌, ◌+◌, ◌≤◌, ℕ, List, IfErr, IfOk, OnErr, OnOk, Err, Some, false, length};
 ghost use Rattle.std.specs.Io.KnownBytes.{Appends};
 ghost use Rattle.m88_base.specs.Causes.{Rose};
 ghost use Rattle.m88_base.specs.Outside.{AppendsPart, TakesAtMost, TakesExactly};
@@ -12,7 +12,7 @@ ghost use Rattle.m88_cli.specs.Limits.{most_input};
 ghost use Rattle.m88_cli.specs.Refusal.{Refusal, refusal_line};
 ghost use Rattle.m88_cli.specs.Reply.{Replies, WatchesFront, WatchesReply};
 ghost use Rattle.m88_cli.specs.Runs.{WorkloadsAreAccepted};
-ghost use Rattle.m88_cli.specs.Status.{Answers, IsOfReading, ShowsNothing, WritesNothing};
+ghost use Rattle.m88_cli.specs.Status.{Answers, IsAnswered, IsOfReading, ShowsNothing, WritesNothing};
 ghost use Rattle.m88_cli.specs.Watching.{FrontOfAccepted, Shown, ShownIfAccepted};
 ghost use Rattle.m88_cli.specs.Words.{texts};
 
@@ -75,6 +75,10 @@ pub fn m88<S: Source, K: Sink, W: Watch>(
         IsAnswer (AppendsPart (K.held sink.old) (K.held sink.new))
         (ShownIfAccepted W.seen watch.old watch.new) }
 
+    // With Done and Refused nothing failed: no failure of the source or of the sink is passed over.
+    ensures unfailed { IsAnswered result → (S.faults source.new ≡ S.faults source.old)
+        × (K.faults sink.new ≡ K.faults sink.old) }
+
     // Where nothing failed, an input that is not too long is answered: Done if it is accepted, Refused if
     // it is not, or Memory.
     ensures complete { (command : Choice) (input : List ℕ) → Spells (texts words.now) command
@@ -132,6 +136,7 @@ fn reply_from<S: Source, W: Watch>(
         × WatchesReply W.seen watch.old watch.new (command_of command.now) input reply) }
     ensures unread { reads_input (command_of command.now) ≡ false → source.new ≡ source.old }
     ensures unshown_by { makes_events (command_of command.now) ≡ false → watch.new ≡ watch.old }
+    ensures clean { OnOk result (S.faults source.new ≡ S.faults source.old) }
     ensures status { IfErr result IsOfReading }
     ensures memory { IfErr result (λ status. reads_input (command_of command.now) ≡ false
         → status ≡ Status.Memory) }
