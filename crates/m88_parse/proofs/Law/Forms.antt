@@ -1,9 +1,8 @@
 -- The law of forms, in one walk over their slots: what is read by a form is what each of its slots is related to, the
 -- other way round, and each fault is the one of the language.
-use Rattle.std.proofs.Common.{◌≡◌, ◌↔◌, ℕ, Bool, true, List, [], Option, Ok, refl, sym, ap, ◌∙◌, append-nil}
+use Rattle.std.proofs.Common.{◌≡◌, ◌↔◌, ℕ, Bool, List, [], Ok, refl}
 use Rattle.m88_base.specs.declared.reg.Reg.{Reg}
 use Rattle.m88_base.specs.declared.fixup.Kind.TheVariants.{Abs32}
-use Rattle.m88_parse.specs.declared.fault.ParseFault.{ParseFault}
 use Rattle.m88_parse.specs.declared.unit.Body.{Body}
 use Rattle.m88_parse.specs.declared.unit.Value.{Value}
 use Rattle.m88_parse.specs.declared.operand.Immediate.{Immediate}
@@ -13,15 +12,14 @@ use Rattle.m88_parse.specs.declared.operand.Index.{Index}
 use Rattle.m88_parse.specs.declared.operand.Field.{Field}
 use Rattle.m88_parse.specs.declared.operand.Goal.{Goal}
 use Rattle.m88_parse.specs.Language.Pieces.{Piece}
-use Rattle.m88_parse.specs.Reader.State.{ReaderState}
-use Rattle.m88_parse.specs.Reader.Slots.{Read, signed_at}
-use Rattle.m88_parse.specs.Reader.Grammar.{Form, ends, comma_then, register_then, control_then, bit_then, mask_then, unsigned_then, alignment_then, symbol_then, bound_then, text_then, signed_ends, immediate_ends, operand_ends, scaled_ends, index_ends, user_index_ends, field_ends, goal_ends, words_end, parts_end, modulus_of, word_item_at, part_item_at, list_at, end_with, read}
+use Rattle.m88_parse.specs.Reader.Slots.{signed_at}
+use Rattle.m88_parse.specs.Reader.Grammar.{Form, ends, comma_then, register_then, control_then, bit_then, mask_then, unsigned_then, alignment_then, symbol_then, bound_then, text_then, signed_ends, immediate_ends, operand_ends, scaled_ends, index_ends, user_index_ends, field_ends, goal_ends, words_end, parts_end, modulus_of, end_with, read}
 use Rattle.m88_parse.specs.Language.Names.{IsRegister, IsControl, IsBit, IsCondition}
 use Rattle.m88_parse.specs.Language.Operands.{IsScaled, IsSigned, IsValue}
 use Rattle.m88_parse.specs.Language.Statements.{AreParted}
 use Rattle.m88_parse.proofs.Law.Goals.{IsGoalOf, goal_walk}
 use Rattle.m88_parse.proofs.Law.Lists.{words_walk, parts_walk}
-use Rattle.m88_parse.proofs.Law.Slots.{st, no_name, one_register, one_control, one_bit, one_mask, IsUpTo, one_number, IsSymbolAt, one_symbol, IsText, one_text, IsPower, one_alignment}
+use Rattle.m88_parse.proofs.Law.Slots.{st, one_register, one_control, one_bit, one_mask, IsUpTo, one_number, IsSymbolAt, one_symbol, IsText, one_text, IsPower, one_alignment}
 use Rattle.m88_parse.proofs.Law.Values.{IsWhole, signed_start}
 use Rattle.m88_parse.proofs.Law.Operands.{IsImmediateOf, immediate_walk, IsOperandOf, operand_walk, IsBoundOf, one_bound}
 use Rattle.m88_parse.proofs.Law.Walks.{Then, AfterComma, Last, Ends, Walk, begun, lawful, end_start, mark_start, slot_start, last_start}

@@ -1,5 +1,5 @@
 -- The law of where branches go, walked once.
-use Rattle.std.proofs.Common.{◌≡◌, ◌↔◌, ℕ, ◌-◌, ◌*◌, ◌/◌, ◌%◌, ◌^◌, ◌<◌, ◌≤◌, ℤ, pos, Bool, true, false, if◌then◌else◌, ◌&&◌, ◌==◌, nat_le, ◌⊎◌, inl, inr, List, [], ◌∷◌, Option, Some, None, Result, Ok, refl, sym, ap, ap₂, ◌∙◌, arith, subst, eqb-true, leb-true, le-leb, append-nil, codes}
+use Rattle.std.proofs.Common.{◌≡◌, ◌↔◌, ℕ, ◌-◌, ◌*◌, ◌/◌, ◌%◌, ◌^◌, ◌<◌, ◌≤◌, ℤ, pos, Bool, true, false, ◌&&◌, ◌==◌, nat_le, inl, inr, List, [], ◌∷◌, Option, Some, None, Result, Ok, refl, sym, ap, ap₂, ◌∙◌, arith, subst, eqb-true, leb-true, le-leb, codes}
 use Rattle.std.specs.Prelude.{neg_ℤ}
 use Rattle.std.proofs.Math.Pow.{suc_ones}
 use Rattle.std.proofs.lemmas.Slice.Eq.{bytes_eq-Decides}
@@ -10,7 +10,7 @@ use Rattle.m88_parse.specs.declared.fault.ParseKind.TheVariants.{OutOfRange}
 use Rattle.m88_parse.specs.declared.unit.Body.{Body}
 use Rattle.m88_parse.specs.declared.operand.Goal.{Goal}
 use Rattle.m88_parse.specs.Language.Pieces.{TokenValue, a_name, a_number, a_text, a_mark, Piece}
-use Rattle.m88_parse.specs.Reader.State.{ReaderState, first, past, is_mark_of, is_next_mark, ◌>>=◌}
+use Rattle.m88_parse.specs.Reader.State.{ReaderState, first, ◌>>=◌}
 use Rattle.m88_parse.specs.Reader.Slots.{Read, fixup_at}
 use Rattle.m88_parse.specs.Reader.Operands.{distance_on, distance_at, words_at, is_here_on, goal_at}
 use Rattle.m88_parse.specs.Reader.Grammar.{end_with}
@@ -20,7 +20,7 @@ use Rattle.m88_parse.proofs.Law.Steps.{both, tested, take_then, take_else}
 use Rattle.m88_parse.proofs.Law.Names.{other_bytes}
 use Rattle.m88_parse.proofs.Law.Slots.{st, no_name, symbols, any, any_is_symbol, saying, OneToken, nothing, by_token, token_gives, token_is, only_if, tested_gives, tested_is}
 use Rattle.m88_parse.proofs.Law.Values.{fixup_start}
-use Rattle.m88_parse.proofs.Law.Walks.{Then, AfterMark, Last, Ends, Walk, Start, begun, lawful, start_as, end_start, one_end, ended, last_start, end_unsigned, AfterSign, sign_start}
+use Rattle.m88_parse.proofs.Law.Walks.{Then, Last, Ends, Walk, Start, begun, lawful, start_as, end_start, one_end, ended, last_start, end_unsigned, AfterSign, sign_start}
 use Rattle.m88_parse.proofs.Law.LineFaults.Readers.{fault_in}
 use Rattle.m88_parse.proofs.Law.LineFaults.Nodes.{Node, leads, good, each_as}
 use Rattle.m88_parse.proofs.Law.LineFaults.Slots.{mapped}

@@ -1,5 +1,5 @@
 -- The law of operands that commas part, walked once: the items of .word, .half and .byte.
-use Rattle.std.proofs.Common.{◌≡◌, ◌↔◌, ℕ, zero, suc, ◌-◌, ◌/◌, ◌%◌, ◌≤◌, ◌<◌, Bool, true, false, cond, ◌⊎◌, inl, inr, List, [], ◌∷◌, ◌++◌, length, Option, Some, None, Ok, Err, Result, refl, sym, ap, ◌∙◌, arith, if◌then◌else◌, subst, append-nil, length-append}
+use Rattle.std.proofs.Common.{◌≡◌, ℕ, zero, suc, ◌-◌, ◌/◌, ◌%◌, ◌≤◌, ◌<◌, Bool, true, false, cond, ◌⊎◌, inl, inr, List, [], ◌∷◌, ◌++◌, length, Option, Some, None, Ok, Err, Result, refl, sym, ap, ◌∙◌, arith, if◌then◌else◌, subst, append-nil, length-append}
 use Rattle.m88_base.specs.declared.fixup.Kind.TheVariants.{Abs32}
 use Rattle.m88_parse.specs.declared.fault.ParseFault.{ParseFault}
 use Rattle.m88_parse.specs.declared.unit.Body.{Body}
@@ -10,9 +10,9 @@ use Rattle.m88_parse.specs.Reader.Slots.{Read, mark_at, negated, signed_at, valu
 use Rattle.m88_parse.specs.Reader.Grammar.{many, list_at, word_item_at, Part, a_half, a_byte, modulus_of, part_item_at, end_with}
 use Rattle.m88_parse.specs.Language.Operands.{minus, IsSigned, IsValue}
 use Rattle.m88_parse.specs.Language.Statements.{AreParted, one as one_item, more as more_items}
-use Rattle.m88_parse.proofs.Law.Steps.{tested, take_then, take_else}
+use Rattle.m88_parse.proofs.Law.Steps.{take_then, take_else}
 use Rattle.m88_parse.proofs.Law.Slots.{st, Naming, no_name, ok_same, bind_to, saying}
-use Rattle.m88_parse.proofs.Law.Walks.{Several, AfterMark, AfterComma, Last, Ends, Walk, Start, begun, begun_more, end_start, mark_start, start_as, or_start, ended, IsUnsigned, mark_unsigned, end_unsigned}
+use Rattle.m88_parse.proofs.Law.Walks.{Several, AfterComma, Last, Ends, Walk, Start, begun, begun_more, end_start, mark_start, start_as, or_start, ended, IsUnsigned, mark_unsigned, end_unsigned}
 use Rattle.m88_parse.proofs.Law.Values.{IsWhole, signed_start, value_start}
 use Rattle.m88_parse.proofs.Law.LineFaults.Readers.{fault_in, Goes}
 use Rattle.m88_parse.proofs.Law.LineFaults.Slots.{mapped}

@@ -20,7 +20,7 @@ use Rattle.m88_parse.specs.Reader.Names.{register_of}
 use Rattle.m88_parse.specs.Language.Words.{half_named}
 use Rattle.m88_parse.specs.Language.Pieces.{TokenValue, a_name, a_number, a_text, a_mark, Piece}
 use Rattle.m88_parse.specs.Reader.State.{ReaderState, says_first, first, is_mark_of, ◌>>=◌}
-use Rattle.m88_parse.specs.Reader.Slots.{Read, meaning_or_fault, mark_at, register_on, register_at, value_at}
+use Rattle.m88_parse.specs.Reader.Slots.{Read, meaning_or_fault, mark_at, register_on, register_at}
 use Rattle.m88_parse.specs.Reader.Operands.{half_immediate, half_on, short_on, immediate_at, register_in, operand_at, bound_on, bound_at}
 use Rattle.m88_parse.specs.Reader.Grammar.{end_with}
 use Rattle.m88_parse.specs.Language.Names.{IsMark, IsNumber, IsNamed, IsRegister}

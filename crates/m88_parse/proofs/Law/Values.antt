@@ -1,6 +1,6 @@
 -- Operands of several tokens, each walked once with whatever stands behind it: numbers with a sign, symbols with what is added
 -- to them, and values.
-use Rattle.std.proofs.Common.{◌≡◌, ◌↔◌, ℕ, suc, ◌≤◌, ◌<◌, Bool, true, false, ◌==◌, nat_le, if◌then◌else◌, ◌⊎◌, inl, inr, List, [], ◌∷◌, ◌++◌, length, Option, Some, Ok, Err, Result, refl, sym, ap, ◌∙◌, arith, subst, leb-true, le-leb}
+use Rattle.std.proofs.Common.{◌≡◌, ◌↔◌, ℕ, ◌≤◌, ◌<◌, Bool, true, false, nat_le, if◌then◌else◌, ◌⊎◌, inl, inr, List, [], ◌∷◌, ◌++◌, length, Some, Ok, Err, Result, refl, sym, ap, ◌∙◌, arith, subst, leb-true, le-leb}
 use Rattle.m88_base.specs.declared.fixup.Kind.{Kind}
 use Rattle.m88_base.specs.declared.fixup.Fixup.{Fixup}
 use Rattle.m88_parse.specs.declared.fault.ParseKind.TheVariants.{Syntax, OutOfRange}
@@ -185,10 +185,17 @@ fixup_added kind Next b ps (s ∷ m ∷ p ∷ []) rest f t h k =
     let i = h.0 in
     let a = h.1 in
     let l = a.2 in
-    record { value = (f.symbol, f.col); piece = s; rest = m ∷ p ∷ rest; tokens = t; is = (i.1, i.2); next = elim a.3 [
-      | inl j ↦ inl (m, p ∷ rest, refl, j.0, record { value = a.0; piece = p; rest = rest; tokens = refl; is = (a.1, omega (arith, l)); next = subst (λ (g : Fixup). Next g rest b) (same_fixup kind f a.0 i.0 j.1) k })
-      | inr j ↦ inr (inl (m, p ∷ rest, refl, j.0, record { value = a.0; piece = p; rest = rest; tokens = refl; is = (a.1, omega (arith, l)); next = subst (λ (g : Fixup). Next g rest b) (same_fixup kind f (negated a.0) i.0 j.1) k }))
-    ] }
+    record {
+      value = (f.symbol, f.col);
+      piece = s;
+      rest = m ∷ p ∷ rest;
+      tokens = t;
+      is = (i.1, i.2);
+      next = elim a.3 [
+        | inl j ↦ inl (m, p ∷ rest, refl, j.0, record { value = a.0; piece = p; rest = rest; tokens = refl; is = (a.1, omega (arith, l)); next = subst (λ (g : Fixup). Next g rest b) (same_fixup kind f a.0 i.0 j.1) k })
+        | inr j ↦ inr (inl (m, p ∷ rest, refl, j.0, record { value = a.0; piece = p; rest = rest; tokens = refl; is = (a.1, omega (arith, l)); next = subst (λ (g : Fixup). Next g rest b) (same_fixup kind f (negated a.0) i.0 j.1) k }))
+      ];
+    }
 fixup_added kind Next b ps (s ∷ m ∷ p ∷ q ∷ front) rest f t h k = absurd h
 
 fixup_steps : {B : Type 0} (kind : Kind) (s : ReaderState) (next : Fixup → ReaderState → Result B ParseFault) → (fixup_at kind s >>= λ (x : Fixup × ReaderState). next x.0 x.1) ≡ (symbol_at s >>= λ (name : (List ℕ × ℕ) × ReaderState). addend_then kind next name.0 name.1)

@@ -175,7 +175,7 @@ pub lead_start : {B : Type 0} {few : ℕ} {num : Bool} {nam : Naming} {line e : 
 lead_start {B = B} {few = few} {num = num} {nam = nam} {line = line} {e = e} {Next = Next} {other = other} {Other = Other} m all h goes leading marked plain at_end go unmarked = record {
   law = λ ps b l. (reads ps b l, meets ps b l);
   node = or_lead few num nam line e m (λ ps. fault_in (all (st line e ps))) (λ ps. fault_in (other (st line e ps))) h goes leading
-    (λ p ps t. ap (λ (r : Result B ParseFault). fault_in r) (plain p ps t)) (ap (λ (r : Result B ParseFault). fault_in r) at_end) go.node;
+      (λ p ps t. ap (λ (r : Result B ParseFault). fault_in r) (plain p ps t)) (ap (λ (r : Result B ParseFault). fault_in r) at_end) go.node;
 }
   where
     reads : (ps : List Piece) (b : B) → length ps < suc few → all (st line e ps) ≡ Ok b → AfterMark m (λ qs. Next qs b) ps ⊎ Other ps b
@@ -262,8 +262,8 @@ pub named_start : {A B : Type 0} {Is : A → Piece → Type 0} {nam : Naming} {f
 named_start {A = A} {B = B} {Is = Is} {nam = nam} {few = few} {line = line} {e = e} {slot = slot} {other = other} {Other = Other} o all next Next text_of named plain at_end go rest unnamed_other = record {
   law = λ ps b l. (reads ps b l, meets ps b l);
   node = or_name few nam line e (λ ps. fault_in (all (st line e ps))) (reader_of line e slot next) (λ ps. fault_in (other (st line e ps)))
-    (λ p ps text h. ap (λ (r : Result B ParseFault). fault_in r) (named p ps text h)) (λ p ps m h z. ap (λ (r : Result B ParseFault). fault_in r) (plain p ps m h z)) (ap (λ (r : Result B ParseFault). fault_in r) at_end)
-    names.node.wants.names (token_each few A B false true nam line e slot o next (λ x. (go x).faults)) rest.node;
+      (λ p ps text h. ap (λ (r : Result B ParseFault). fault_in r) (named p ps text h)) (λ p ps m h z. ap (λ (r : Result B ParseFault). fault_in r) (plain p ps m h z)) (ap (λ (r : Result B ParseFault). fault_in r) at_end)
+      names.node.wants.names (token_each few A B false true nam line e slot o next (λ x. (go x).faults)) rest.node;
 }
   where
     names : Start few false nam line e (λ s. slot s >>= λ (x : A × ReaderState). next x.0 x.1) (λ ps b. Then A Is (λ x qs. Next x qs b) ps)

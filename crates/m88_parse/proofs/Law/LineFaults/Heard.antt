@@ -13,7 +13,7 @@ use Rattle.m88_parse.specs.Reader.State.{ReaderState, first, place, ◌>>=◌}
 use Rattle.m88_parse.specs.Reader.Slots.{any_name_at, line_end_at}
 use Rattle.m88_parse.specs.Reader.Source.{operation_at, head_at, is_head_on, statement}
 use Rattle.m88_parse.proofs.Law.Steps.{chosen, take_then, take_else}
-use Rattle.m88_parse.proofs.Law.Slots.{st, bind_ok, bind_to, end_read, one_any_name, slot_again, slot_read}
+use Rattle.m88_parse.proofs.Law.Slots.{st, bind_ok, bind_to, one_any_name, slot_again}
 use Rattle.m88_parse.proofs.Law.Bodies.{operation_read, body_again}
 use Rattle.m88_parse.proofs.Law.Rows.{head_named, head_tokens, made_head, not_head}
 use Rattle.m88_parse.proofs.Law.LineFaults.Readers.{fault_in, row_or_head, heard, HeardLaw}

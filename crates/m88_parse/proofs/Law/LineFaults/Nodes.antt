@@ -220,7 +220,7 @@ node_as few num nam line e k r x n = record {
   each = λ p. each_as few num nam nam line e k r p (λ ps. x (p ∷ ps)) refl (n.each p);
 }
 
--- where a mark leads on by itself, and anything else as before
+-- where a mark leads on in its own way, and anything else as before
 
 pub data Unmarked (m : ℕ) : TokenValue → Type 0 where
   name_unmarked : {name : List ℕ} → Unmarked m (a_name name)
