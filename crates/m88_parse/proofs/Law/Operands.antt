@@ -49,25 +49,20 @@ half_names name kind h =
     ]
 
 half_is_of : (kind : Kind) (v : Value) → (kind ≡ Hi16) ⊎ (kind ≡ Lo16) → IsHalfOf kind v (half_immediate kind v).imm (half_immediate kind v).fixup
-half_is_of kind (Number n) (inl e) = subst (λ (k : Kind). IsHalfOf k (Number n) (half_immediate k (Number n)).imm (half_immediate k (Number n)).fixup) (sym e) (refl, refl)
-half_is_of kind (Number n) (inr e) = subst (λ (k : Kind). IsHalfOf k (Number n) (half_immediate k (Number n)).imm (half_immediate k (Number n)).fixup) (sym e) (refl, refl)
-half_is_of kind (Symbol f) (inl e) = subst (λ (k : Kind). IsHalfOf k (Symbol f) (half_immediate k (Symbol f)).imm (half_immediate k (Symbol f)).fixup) (sym e) (refl, refl)
-half_is_of kind (Symbol f) (inr e) = subst (λ (k : Kind). IsHalfOf k (Symbol f) (half_immediate k (Symbol f)).imm (half_immediate k (Symbol f)).fixup) (sym e) (refl, refl)
+half_is_of Hi16 (Number n) h = (refl, refl)
+half_is_of Lo16 (Number n) h = (refl, refl)
+half_is_of _ (Number n) (inl h) = absurd cc
+half_is_of _ (Number n) (inr h) = absurd cc
+half_is_of _ (Symbol f) h = (refl, refl)
 
 same_immediate : (a b : ℕ) (f g : Option Fixup) → a ≡ b → f ≡ g → ◌≡◌ {A = Immediate} (record { imm = a; fixup = f }) (record { imm = b; fixup = g })
 same_immediate a b f g h k = λ i. record { imm = h i; fixup = k i }
 
-half_of_is : (kind : Kind) (v : Value) (imm : ℕ) (fixup : Option Fixup) → (kind ≡ Hi16) ⊎ (kind ≡ Lo16) → IsHalfOf kind v imm fixup → half_immediate kind v ≡ record { imm = imm; fixup = fixup }
-half_of_is kind (Number n) imm fixup (inl e) h = ap (λ (k : Kind). half_immediate k (Number n)) e ∙ hi n imm fixup (subst (λ (k : Kind). IsHalfOf k (Number n) imm fixup) e h)
-  where
-    hi : (n imm : ℕ) (fixup : Option Fixup) → IsHalfOf Hi16 (Number n) imm fixup → half_immediate Hi16 (Number n) ≡ record { imm = imm; fixup = fixup }
-    hi n imm fixup h = same_immediate (n / 65536) imm None fixup (sym h.0) (sym h.1)
-half_of_is kind (Number n) imm fixup (inr e) h = ap (λ (k : Kind). half_immediate k (Number n)) e ∙ lo n imm fixup (subst (λ (k : Kind). IsHalfOf k (Number n) imm fixup) e h)
-  where
-    lo : (n imm : ℕ) (fixup : Option Fixup) → IsHalfOf Lo16 (Number n) imm fixup → half_immediate Lo16 (Number n) ≡ record { imm = imm; fixup = fixup }
-    lo n imm fixup h = same_immediate (n % 65536) imm None fixup (sym h.0) (sym h.1)
-half_of_is kind (Symbol f) imm fixup (inl e) h = let k : IsHalfOf Hi16 (Symbol f) imm fixup = subst (λ (k : Kind). IsHalfOf k (Symbol f) imm fixup) e h in same_immediate 0 imm (Some f) fixup (sym k.0) (sym k.1)
-half_of_is kind (Symbol f) imm fixup (inr e) h = let k : IsHalfOf Lo16 (Symbol f) imm fixup = subst (λ (k : Kind). IsHalfOf k (Symbol f) imm fixup) e h in same_immediate 0 imm (Some f) fixup (sym k.0) (sym k.1)
+half_of_is : (kind : Kind) (v : Value) (imm : ℕ) (fixup : Option Fixup) → IsHalfOf kind v imm fixup → half_immediate kind v ≡ record { imm = imm; fixup = fixup }
+half_of_is Hi16 (Number n) imm fixup h = same_immediate (n / 65536) imm None fixup (sym h.0) (sym h.1)
+half_of_is Lo16 (Number n) imm fixup h = same_immediate (n % 65536) imm None fixup (sym h.0) (sym h.1)
+half_of_is _ (Number n) imm fixup h = absurd h
+half_of_is _ (Symbol f) imm fixup h = same_immediate 0 imm (Some f) fixup (sym h.0) (sym h.1)
 
 kinds_only : (name : List ℕ) (kind : Kind) → half_named name ≡ Some kind → (kind ≡ Hi16) ⊎ (kind ≡ Lo16)
 kinds_only name kind h = elim (half_names name kind h) [ inl j ↦ inl j.1 | inr j ↦ inr j.1 ]
@@ -144,7 +139,7 @@ immediate_walk few line e made = record {
         ∙ (end_law line e (made (short_immediate imm)) [] b).1 (refl, w)
     meets ps b imm fixup (half {h = p} {o = o} {ps = qs} front c name kind v n k a t i d g) w =
         half_taken Body line e kind p o qs name (λ z. end_with (made z)) n k (next_again 40 line e o qs a)
-        ∙ (inside kind qs b).1 (v, front, c, t, i, d, ap made (half_of_is kind v imm fixup (kinds_only name kind k) g) ∙ w)
+        ∙ (inside kind qs b).1 (v, front, c, t, i, d, ap made (half_of_is kind v imm fixup g) ∙ w)
 
 -- a register or an immediate
 
