@@ -1,5 +1,5 @@
 -- The law of lines that can't be cut: a line breaks off at exactly one place for one reason.
-use Rattle.std.proofs.Common.{◌≡◌, ℕ, zero, suc, ◌+◌, ◌≤◌, Bool, true, ◌&&◌, List, [], ◌∷◌, ◌++◌, length, take, drop, Option, Some, None, Ok, Err, refl, sym, ap, ◌∙◌, arith, subst, Result, length-take, length-drop, take-append-drop}
+use Rattle.std.proofs.Common.{◌≡◌, ℕ, zero, suc, ◌+◌, ◌≤◌, Bool, true, ◌&&◌, List, [], ◌∷◌, ◌++◌, length, take, drop, Option, Some, None, Ok, Err, refl, sym, ap, ◌∙◌, arith, subst, Result, length-take, length-drop}
 use Rattle.std.specs.List.{list_all}
 use Rattle.std.proofs.Math.Seq.{drop-length}
 use Rattle.m88_parse.specs.declared.fault.ParseFault.{ParseFault}
@@ -11,7 +11,7 @@ use Rattle.m88_parse.specs.Language.Pieces.{TokenValue, Piece}
 use Rattle.m88_parse.specs.Language.FirstFaults.{IsFlaw, Breaks}
 use Rattle.m88_parse.proofs.Pieces.{cut_off, fault_front}
 use Rattle.m88_parse.proofs.Law.Fronts.{TokenAt, Stands, comment_stands, blank_stands, token_stands, front_stands}
-use Rattle.m88_parse.proofs.Law.Tokens.{gap_passed, token_passed, nothing_left, stands_some}
+use Rattle.m88_parse.proofs.Law.Tokens.{blank_begins, token_begins, gap_passed, token_passed, nothing_left, stands_some}
 use Rattle.m88_parse.proofs.Law.Flaws.{flaw_again, flaw_some, front_flawed}
 
 abbrev pub broken : ℕ → ℕ → ParseKind → Result (List Piece) ParseFault
@@ -55,19 +55,7 @@ blank_then col b bs [] at kind w h = record {
   flaw = h.flaw;
   place = omega (arith, h.place);
 }
-blank_then col b bs (p ∷ ps) at kind w h =
-    let x = h.1 in (
-      h.0,
-      record {
-        gap = b ∷ x.gap;
-        bytes_are = ap (λ (xs : List ℕ). b ∷ xs) x.bytes_are;
-        blank = ap (λ (t : Bool). t && list_all is_blank x.gap) w ∙ x.blank;
-        place = omega (arith, x.place);
-        token = x.token;
-        longest = x.longest;
-      },
-      h.2,
-    )
+blank_then col b bs (p ∷ ps) at kind w h = (h.0, blank_begins col b bs p h.0 w h.1, h.2)
 
 abbrev Broke : ℕ → ℕ → Type 0
 Broke fuel line = (col : ℕ) (bytes : List ℕ) (f : ParseFault) → length bytes ≤ fuel → pieces line 0 col bytes ≡ Err f → Broken line col bytes f
@@ -84,14 +72,7 @@ token_then fuel line col bytes c f ih s t h =
       tokens = record { text = take c.len bytes; col = col; says = t.meaning } ∷ after.tokens;
       breaks = (
         drop c.len bytes,
-        record {
-          gap = [];
-          bytes_are = sym (take-append-drop c.len bytes);
-          blank = refl;
-          place = omega arith;
-          token = t.token;
-          longest = t.longest;
-        },
+        token_begins col bytes c t,
         subst (λ (n : ℕ). Breaks (col + n) (drop c.len bytes) after.tokens f.col f.kind) (sym l) after.breaks,
       );
       same_line = after.same_line;

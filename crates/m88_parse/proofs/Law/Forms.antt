@@ -1,9 +1,8 @@
 -- The law of forms, in one walk over their slots: what is read by a form is what each of its slots is related to, the
 -- other way round, and each fault is the one of the language.
-use Rattle.std.proofs.Common.{◌≡◌, ◌↔◌, ℕ, Bool, true, List, [], Option, Ok, refl, sym, ap, ◌∙◌, append-nil}
+use Rattle.std.proofs.Common.{◌≡◌, ◌↔◌, ℕ, Bool, List, [], Ok, refl}
 use Rattle.m88_base.specs.declared.reg.Reg.{Reg}
 use Rattle.m88_base.specs.declared.fixup.Kind.TheVariants.{Abs32}
-use Rattle.m88_parse.specs.declared.fault.ParseFault.{ParseFault}
 use Rattle.m88_parse.specs.declared.unit.Body.{Body}
 use Rattle.m88_parse.specs.declared.unit.Value.{Value}
 use Rattle.m88_parse.specs.declared.operand.Immediate.{Immediate}
@@ -13,23 +12,18 @@ use Rattle.m88_parse.specs.declared.operand.Index.{Index}
 use Rattle.m88_parse.specs.declared.operand.Field.{Field}
 use Rattle.m88_parse.specs.declared.operand.Goal.{Goal}
 use Rattle.m88_parse.specs.Language.Pieces.{Piece}
-use Rattle.m88_parse.specs.Reader.State.{ReaderState}
-use Rattle.m88_parse.specs.Reader.Slots.{Read, signed_at}
-use Rattle.m88_parse.specs.Reader.Grammar.{Form, ends, comma_then, register_then, control_then, bit_then, mask_then, unsigned_then, alignment_then, symbol_then, bound_then, text_then, signed_ends, immediate_ends, operand_ends, scaled_ends, index_ends, user_index_ends, field_ends, goal_ends, words_end, parts_end, modulus_of, word_item_at, part_item_at, list_at, end_with, read}
+use Rattle.m88_parse.specs.Reader.Slots.{signed_at}
+use Rattle.m88_parse.specs.Reader.Grammar.{Form, ends, comma_then, register_then, control_then, bit_then, mask_then, unsigned_then, alignment_then, symbol_then, bound_then, text_then, signed_ends, immediate_ends, operand_ends, scaled_ends, index_ends, user_index_ends, field_ends, goal_ends, words_end, parts_end, modulus_of, end_with, read}
 use Rattle.m88_parse.specs.Language.Names.{IsRegister, IsControl, IsBit, IsCondition}
 use Rattle.m88_parse.specs.Language.Operands.{IsScaled, IsSigned, IsValue}
 use Rattle.m88_parse.specs.Language.Statements.{AreParted}
 use Rattle.m88_parse.proofs.Law.Goals.{IsGoalOf, goal_walk}
-use Rattle.m88_parse.proofs.Law.Lists.{list_read, list_again, word_reads, word_reads_all, part_reads, part_reads_all}
-use Rattle.m88_parse.proofs.Law.LineFaults.Lists.{words_good, parts_good}
-use Rattle.m88_parse.proofs.Law.Slots.{st, no_name, one_register, one_control, one_bit, one_mask, IsUpTo, one_number, IsSymbolAt, one_symbol, IsText, one_text, IsPower, one_alignment}
-use Rattle.m88_parse.proofs.Law.Values.{IsWhole, whole_read, whole_again}
+use Rattle.m88_parse.proofs.Law.Lists.{words_walk, parts_walk}
+use Rattle.m88_parse.proofs.Law.Slots.{st, one_register, one_control, one_bit, one_mask, IsUpTo, one_number, IsSymbolAt, one_symbol, IsText, one_text, IsPower, one_alignment}
+use Rattle.m88_parse.proofs.Law.Values.{IsWhole, signed_start}
 use Rattle.m88_parse.proofs.Law.Operands.{IsImmediateOf, immediate_walk, IsOperandOf, operand_walk, IsBoundOf, one_bound}
-use Rattle.m88_parse.proofs.Law.Walks.{Then, AfterComma, Last, Walk, end_good, end_walk, mark_walk, slot_walk, last_walk}
-use Rattle.m88_parse.proofs.Law.Indices.{scaled_walk, IsIndexOf, index_walk, IsUserIndexOf, user_index_walk, IsFieldOf, field_walk}
-use Rattle.m88_parse.proofs.Law.LineFaults.Nodes.{good}
-use Rattle.m88_parse.proofs.Law.LineFaults.Slots.{reader_of}
-use Rattle.m88_parse.proofs.Law.LineFaults.Values.{whole_node}
+use Rattle.m88_parse.proofs.Law.Walks.{Then, AfterComma, Last, Ends, Walk, begun, lawful, end_start, mark_start, slot_start, last_start}
+use Rattle.m88_parse.proofs.Law.Indices.{scaled_start, IsIndexOf, index_start, IsUserIndexOf, user_index_start, IsFieldOf, field_start}
 
 -- the tokens that each slot of a form is related to, and the body that they make
 abbrev pub Meets : Form → List Piece → Body → Type 0
@@ -55,48 +49,32 @@ Meets (goal_ends kind bits made) ps b = Last Goal (IsGoalOf kind bits) made ps b
 Meets (words_end made) ps b = Last (List Value) (AreParted (IsValue Abs32)) made ps b
 Meets (parts_end part made) ps b = Last (List ℕ) (AreParted (IsSigned (modulus_of part))) made ps b
 
--- operands of several tokens that stand last
-
-whole_last : (low most line e : ℕ) (ps : List Piece) (n : ℕ) → IsWhole low most ps n → signed_at low most (st line e ps) ≡ Ok (n, st line e [])
-whole_last low most line e ps n w = ap (λ (qs : List Piece). signed_at low most (st line e qs)) (sym (append-nil ps)) ∙ whole_again low most line e ps [] n w
-
 -- each form, walked once
 
-abbrev pub FormWalk : ℕ → ℕ → Form → Type 0
-FormWalk line e form = Walk line e (read form) (Meets form)
-
-abbrev last_read : {A : Type 0} → ℕ → ℕ → (ReaderState → Read A) → (A → Body) → List Piece → Option ParseFault
-last_read line e slot made = reader_of line e slot (λ x. end_with (made x))
-
-pub form_walk : (form : Form) (line e : ℕ) → FormWalk line e form
+pub form_walk : (form : Form) (few line e : ℕ) → Walk few line e (read form) (Meets form)
 unfolding read
-form_walk (ends made) line e = end_walk line e made
-form_walk (comma_then form) line e = mark_walk 44 line e (read form) (Meets form) refl refl (form_walk form line e)
-form_walk (register_then form) line e = slot_walk (one_register line e) (λ x. read (form x)) (λ x. Meets (form x)) (λ x. form_walk (form x) line e)
-form_walk (control_then float form) line e = slot_walk (one_control float line e) (λ x. read (form x)) (λ x. Meets (form x)) (λ x. form_walk (form x) line e)
-form_walk (bit_then form) line e = slot_walk (one_bit line e) (λ x. read (form x)) (λ x. Meets (form x)) (λ x. form_walk (form x) line e)
-form_walk (mask_then form) line e = slot_walk (one_mask line e) (λ x. read (form x)) (λ x. Meets (form x)) (λ x. form_walk (form x) line e)
-form_walk (unsigned_then most form) line e = slot_walk (one_number most line e) (λ x. read (form x)) (λ x. Meets (form x)) (λ x. form_walk (form x) line e)
-form_walk (alignment_then form) line e = slot_walk (one_alignment line e) (λ x. read (form x)) (λ x. Meets (form x)) (λ x. form_walk (form x) line e)
-form_walk (symbol_then form) line e = slot_walk (one_symbol line e) (λ x. read (form x.0 x.1)) (λ x. Meets (form x.0 x.1)) (λ x. form_walk (form x.0 x.1) line e)
-form_walk (bound_then form) line e = slot_walk (one_bound line e) (λ x. read (form x)) (λ x. Meets (form x)) (λ x. form_walk (form x) line e)
-form_walk (text_then form) line e = slot_walk (one_text line e) (λ x. read (form x)) (λ x. Meets (form x)) (λ x. form_walk (form x) line e)
-form_walk (signed_ends low most made) line e =
-    last_walk ℕ (IsWhole low most) made line e (signed_at low most) (whole_read low most line e) (whole_last low most line e)
-    (λ few. good few true no_name line e (last_read line e (signed_at low most) made) (whole_node few Body line e low most (λ x. end_with (made x)) (λ x. end_good few line e (made x))))
-form_walk (immediate_ends made) line e = immediate_walk line e made
-form_walk (operand_ends made) line e = operand_walk line e made
-form_walk (scaled_ends made) line e = scaled_walk line e made
-form_walk (index_ends made) line e = index_walk line e made
-form_walk (user_index_ends made) line e = user_index_walk line e (λ x. made x.0 x.1)
-form_walk (field_ends most made) line e = field_walk most line e made
-form_walk (goal_ends kind bits made) line e = goal_walk kind bits line e made
-form_walk (words_end made) line e =
-    last_walk (List Value) (AreParted (IsValue Abs32)) made line e (list_at word_item_at) (list_read Value (IsValue Abs32) word_item_at word_reads line e)
-    (list_again Value (IsValue Abs32) word_item_at word_reads_all line e) (λ few. words_good few line e made)
-form_walk (parts_end part made) line e =
-    last_walk (List ℕ) (AreParted (IsSigned (modulus_of part))) made line e (list_at (part_item_at part)) (list_read ℕ (IsSigned (modulus_of part)) (part_item_at part) (part_reads part) line e)
-    (list_again ℕ (IsSigned (modulus_of part)) (part_item_at part) (part_reads_all part) line e) (λ few. parts_good few line e part made)
+form_walk (ends made) few line e = begun (end_start few line e made)
+form_walk (comma_then form) few line e = begun (mark_start 44 refl refl (form_walk form few line e))
+form_walk (register_then form) few line e = begun (slot_start (one_register line e) (λ x. read (form x)) (λ x. Meets (form x)) (λ x. form_walk (form x) few line e))
+form_walk (control_then float form) few line e = begun (slot_start (one_control float line e) (λ x. read (form x)) (λ x. Meets (form x)) (λ x. form_walk (form x) few line e))
+form_walk (bit_then form) few line e = begun (slot_start (one_bit line e) (λ x. read (form x)) (λ x. Meets (form x)) (λ x. form_walk (form x) few line e))
+form_walk (mask_then form) few line e = begun (slot_start (one_mask line e) (λ x. read (form x)) (λ x. Meets (form x)) (λ x. form_walk (form x) few line e))
+form_walk (unsigned_then most form) few line e = begun (slot_start (one_number most line e) (λ x. read (form x)) (λ x. Meets (form x)) (λ x. form_walk (form x) few line e))
+form_walk (alignment_then form) few line e = begun (slot_start (one_alignment line e) (λ x. read (form x)) (λ x. Meets (form x)) (λ x. form_walk (form x) few line e))
+form_walk (symbol_then form) few line e = begun (slot_start (one_symbol line e) (λ x. read (form x.0 x.1)) (λ x. Meets (form x.0 x.1)) (λ x. form_walk (form x.0 x.1) few line e))
+form_walk (bound_then form) few line e = begun (slot_start (one_bound line e) (λ x. read (form x)) (λ x. Meets (form x)) (λ x. form_walk (form x) few line e))
+form_walk (text_then form) few line e = begun (slot_start (one_text line e) (λ x. read (form x)) (λ x. Meets (form x)) (λ x. form_walk (form x) few line e))
+form_walk (signed_ends low most made) few line e =
+    begun (last_start (IsWhole low most) (signed_at low most) made (signed_start low most (λ n. end_with (made n)) (Ends made) (λ n. begun (end_start few line e (made n)))))
+form_walk (immediate_ends made) few line e = immediate_walk few line e made
+form_walk (operand_ends made) few line e = operand_walk few line e made
+form_walk (scaled_ends made) few line e = begun (scaled_start few line e made)
+form_walk (index_ends made) few line e = begun (index_start few line e made)
+form_walk (user_index_ends made) few line e = begun (user_index_start few line e (λ x. made x.0 x.1))
+form_walk (field_ends most made) few line e = begun (field_start most few line e made)
+form_walk (goal_ends kind bits made) few line e = goal_walk kind bits few line e made
+form_walk (words_end made) few line e = words_walk few line e made
+form_walk (parts_end part made) few line e = parts_walk part few line e made
 
 pub form_law : (form : Form) (line e : ℕ) (ps : List Piece) (b : Body) → (read form (st line e ps) ≡ Ok b) ↔ Meets form ps b
-form_law form line e ps b = (form_walk form line e).0 ps b
+form_law form line e ps b = lawful (λ few. form_walk form few line e) ps b

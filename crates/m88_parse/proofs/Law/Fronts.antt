@@ -20,26 +20,11 @@ use Rattle.m88_parse.proofs.Law.Quotes.{holds_len, inside_fits, inside_again, cl
 
 -- classes of bytes
 
-word_no_comment : (b : ℕ) → continues_name b ≡ true → is_comment b ≡ false
-word_no_comment b h = grind (arith, nat_tests)
+word_byte : (b : ℕ) → continues_name b ≡ true → (is_comment b ≡ false) × (is_blank b ≡ false) × (is_plain b ≡ true)
+word_byte b h = (grind (arith, nat_tests), grind (arith, nat_tests), grind (arith, nat_tests))
 
-word_no_blank : (b : ℕ) → continues_name b ≡ true → is_blank b ≡ false
-word_no_blank b h = grind (arith, nat_tests)
-
-word_plain : (b : ℕ) → continues_name b ≡ true → is_plain b ≡ true
-word_plain b h = grind (arith, nat_tests)
-
-mark_no_comment : (b : ℕ) → is_mark b ≡ true → is_comment b ≡ false
-mark_no_comment b h = grind (arith, nat_tests)
-
-mark_no_blank : (b : ℕ) → is_mark b ≡ true → is_blank b ≡ false
-mark_no_blank b h = grind (arith, nat_tests)
-
-mark_plain : (b : ℕ) → is_mark b ≡ true → is_plain b ≡ true
-mark_plain b h = grind (arith, nat_tests)
-
-mark_no_word : (b : ℕ) → is_mark b ≡ true → continues_name b ≡ false
-mark_no_word b h = grind (arith, nat_tests)
+mark_byte : (b : ℕ) → is_mark b ≡ true → (is_comment b ≡ false) × (is_blank b ≡ false) × (is_plain b ≡ true) × (continues_name b ≡ false)
+mark_byte b h = (grind (arith, nat_tests), grind (arith, nat_tests), grind (arith, nat_tests), grind (arith, nat_tests))
 
 pub digit_word : (b : ℕ) → is_ascii_digit b ≡ true → continues_name b ≡ true
 digit_word b h = grind (arith, nat_tests)
@@ -54,19 +39,21 @@ run_at b bs h =
 front_word : (b : ℕ) (bs : List ℕ) → continues_name b ≡ true → front (b ∷ bs) ≡ word_front b (b ∷ take (prefix_len continues_name bs) bs)
 unfolding front
 front_word b bs h =
-    take_else (is_comment b) _ _ (word_no_comment b h)
-    ∙ take_else (is_blank b) _ _ (word_no_blank b h)
-    ∙ take_else (not (is_plain b)) _ _ (ap not (word_plain b h))
+    let w = word_byte b h in
+    take_else (is_comment b) _ _ w.0
+    ∙ take_else (is_blank b) _ _ w.1
+    ∙ take_else (not (is_plain b)) _ _ (ap not w.2)
     ∙ take_then (continues_name b) _ _ h
     ∙ ap (word_front b) (run_at b bs h)
 
 front_mark : (b : ℕ) (bs : List ℕ) → is_mark b ≡ true → front (b ∷ bs) ≡ token_cut 1 (a_mark b)
 unfolding front
 front_mark b bs h =
-    take_else (is_comment b) _ _ (mark_no_comment b h)
-    ∙ take_else (is_blank b) _ _ (mark_no_blank b h)
-    ∙ take_else (not (is_plain b)) _ _ (ap not (mark_plain b h))
-    ∙ take_else (continues_name b) _ _ (mark_no_word b h)
+    let w = mark_byte b h in
+    take_else (is_comment b) _ _ w.0
+    ∙ take_else (is_blank b) _ _ w.1
+    ∙ take_else (not (is_plain b)) _ _ (ap not w.2)
+    ∙ take_else (continues_name b) _ _ w.3
     ∙ take_then (is_mark b) _ _ h
 
 pub front_double : (bs : List ℕ) → front (34 ∷ bs) ≡ quoted 34 bs

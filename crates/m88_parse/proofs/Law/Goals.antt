@@ -1,5 +1,5 @@
 -- The law of where branches go, walked once.
-use Rattle.std.proofs.Common.{◌≡◌, ◌↔◌, ℕ, ◌-◌, ◌*◌, ◌/◌, ◌%◌, ◌^◌, ◌<◌, ◌≤◌, ℤ, pos, Bool, true, false, if◌then◌else◌, ◌&&◌, ◌==◌, nat_le, ◌⊎◌, inl, inr, List, [], ◌∷◌, Option, Some, None, Result, Ok, refl, sym, ap, ap₂, ◌∙◌, arith, subst, eqb-true, leb-true, le-leb, append-nil, codes}
+use Rattle.std.proofs.Common.{◌≡◌, ◌↔◌, ℕ, ◌-◌, ◌*◌, ◌/◌, ◌%◌, ◌^◌, ◌<◌, ◌≤◌, ℤ, pos, Bool, true, false, ◌&&◌, ◌==◌, nat_le, inl, inr, List, [], ◌∷◌, Option, Some, None, Result, Ok, refl, sym, ap, ap₂, ◌∙◌, arith, subst, eqb-true, leb-true, le-leb, codes}
 use Rattle.std.specs.Prelude.{neg_ℤ}
 use Rattle.std.proofs.Math.Pow.{suc_ones}
 use Rattle.std.proofs.lemmas.Slice.Eq.{bytes_eq-Decides}
@@ -10,7 +10,7 @@ use Rattle.m88_parse.specs.declared.fault.ParseKind.TheVariants.{OutOfRange}
 use Rattle.m88_parse.specs.declared.unit.Body.{Body}
 use Rattle.m88_parse.specs.declared.operand.Goal.{Goal}
 use Rattle.m88_parse.specs.Language.Pieces.{TokenValue, a_name, a_number, a_text, a_mark, Piece}
-use Rattle.m88_parse.specs.Reader.State.{ReaderState, first, past, is_mark_of, is_next_mark, ◌>>=◌}
+use Rattle.m88_parse.specs.Reader.State.{ReaderState, first, ◌>>=◌}
 use Rattle.m88_parse.specs.Reader.Slots.{Read, fixup_at}
 use Rattle.m88_parse.specs.Reader.Operands.{distance_on, distance_at, words_at, is_here_on, goal_at}
 use Rattle.m88_parse.specs.Reader.Grammar.{end_with}
@@ -19,12 +19,11 @@ use Rattle.m88_parse.specs.Language.Operands.{IsFixup, IsPlace, IsGoal, place as
 use Rattle.m88_parse.proofs.Law.Steps.{both, tested, take_then, take_else}
 use Rattle.m88_parse.proofs.Law.Names.{other_bytes}
 use Rattle.m88_parse.proofs.Law.Slots.{st, no_name, symbols, any, any_is_symbol, saying, OneToken, nothing, by_token, token_gives, token_is, only_if, tested_gives, tested_is}
-use Rattle.m88_parse.proofs.Law.Values.{fixup_read, fixup_again}
-use Rattle.m88_parse.proofs.Law.Walks.{Then, AfterMark, Last, Walk, marked_other, end_walk, one_end, ended, last_walk, or_walk}
+use Rattle.m88_parse.proofs.Law.Values.{fixup_start}
+use Rattle.m88_parse.proofs.Law.Walks.{Then, Last, Ends, Walk, Start, begun, lawful, start_as, end_start, one_end, ended, last_start, end_unsigned, AfterSign, sign_start}
 use Rattle.m88_parse.proofs.Law.LineFaults.Readers.{fault_in}
 use Rattle.m88_parse.proofs.Law.LineFaults.Nodes.{Node, leads, good, each_as}
-use Rattle.m88_parse.proofs.Law.LineFaults.Slots.{reader_of}
-use Rattle.m88_parse.proofs.Law.LineFaults.Values.{mapped, ends_node, fixup_node}
+use Rattle.m88_parse.proofs.Law.LineFaults.Slots.{mapped}
 
 -- a distance in words
 
@@ -74,49 +73,19 @@ one_distance most line e = record {
 abbrev OneEnd : (ℕ → Piece → Type 0) → (ℕ → Body) → List Piece → Body → Type 0
 OneEnd Is made ps b = Then ℕ Is (λ n qs. (qs ≡ []) × (made n ≡ b)) ps
 
-abbrev BackEnd : ℕ → (ℤ → Body) → List Piece → Body → Type 0
-BackEnd limit made ps b = AfterMark 45 (λ qs. OneEnd (IsFourfold limit) (λ n. made (neg_ℤ (pos n))) qs b) ps ⊎ ((ps ≡ []) × (made (pos 0) ≡ b))
-
 abbrev WordsEnd : ℕ → (ℤ → Body) → List Piece → Body → Type 0
-WordsEnd limit made ps b = AfterMark 43 (λ qs. OneEnd (IsFourfold (limit - 1)) (λ n. made (pos n)) qs b) ps ⊎ BackEnd limit made ps b
+WordsEnd limit made = AfterSign (OneEnd (IsFourfold (limit - 1)) (λ n. made (pos n))) (OneEnd (IsFourfold limit) (λ n. made (neg_ℤ (pos n)))) (λ ps b. (ps ≡ []) × (made (pos 0) ≡ b))
 
-words_both : (line e limit : ℕ) (made : ℤ → Body)
-    → ((ps : List Piece) (b : Body) → (ended (words_at limit) made (st line e ps) ≡ Ok b) ↔ WordsEnd limit made ps b) × ((few : ℕ) → Node few false no_name line e (λ ps. fault_in (ended (words_at limit) made (st line e ps))))
+words_start : (few line e limit : ℕ) (made : ℤ → Body) → Start few false no_name line e (ended (words_at limit) made) (WordsEnd limit made)
 unfolding words_at
-words_both line e limit made =
-    or_walk 43 false no_name line e (ended (words_at limit) made) (ended (distance_at (limit - 1)) (λ n. made (pos n))) no_plus (OneEnd (IsFourfold (limit - 1)) (λ n. made (pos n))) (BackEnd limit made) refl (inr refl) plus otherwise refl
-    (one_end (one_distance (limit - 1) line e) (λ n. made (pos n))) back.0 no_plus_first back.1
+words_start few line e limit made =
+    sign_start (λ s. distance_at (limit - 1) s >>= λ (d : ℕ × ReaderState). let y : Read ℤ = Ok (pos d.0, d.1) in y) (λ s. distance_at limit s >>= λ (d : ℕ × ReaderState). let y : Read ℤ = Ok (neg_ℤ (pos d.0), d.1) in y) (pos 0) (λ x. end_with (made x))
+    (distance (limit - 1) (λ n. pos n)) (distance limit (λ n. neg_ℤ (pos n))) (end_start few line e (made (pos 0))) (λ ps b w. end_unsigned ps w.0)
   where
-    no_plus : ReaderState → Result Body ParseFault
-    no_plus s = (if is_next_mark 45 s then (distance_at limit (past s) >>= λ (d : ℕ × ReaderState). let y : Read ℤ = Ok (neg_ℤ (pos d.0), d.1) in y) else Ok (pos 0, s)) >>= λ (x : ℤ × ReaderState). end_with (made x.0) x.1
-
-    plus : (p : Piece) (ps : List Piece) → is_mark_of 43 (Some p.says) ≡ true → ended (words_at limit) made (st line e (p ∷ ps)) ≡ ended (distance_at (limit - 1)) (λ n. made (pos n)) (st line e ps)
-    plus p ps t =
-        ap (λ (r : Read ℤ). r >>= λ (x : ℤ × ReaderState). end_with (made x.0) x.1) (take_then (is_mark_of 43 (Some p.says)) _ _ t)
-        ∙ mapped ℕ Body ℤ (distance_at (limit - 1) (st line e ps)) (λ d. pos d) (λ x. end_with (made x))
-
-    otherwise : (p : Piece) (ps : List Piece) → is_mark_of 43 (Some p.says) ≡ false → ended (words_at limit) made (st line e (p ∷ ps)) ≡ no_plus (st line e (p ∷ ps))
-    otherwise p ps t = ap (λ (r : Read ℤ). r >>= λ (x : ℤ × ReaderState). end_with (made x.0) x.1) (take_else (is_mark_of 43 (Some p.says)) _ _ t)
-
-    minus : (p : Piece) (ps : List Piece) → is_mark_of 45 (Some p.says) ≡ true → no_plus (st line e (p ∷ ps)) ≡ ended (distance_at limit) (λ n. made (neg_ℤ (pos n))) (st line e ps)
-    minus p ps t =
-        ap (λ (r : Read ℤ). r >>= λ (x : ℤ × ReaderState). end_with (made x.0) x.1) (take_then (is_mark_of 45 (Some p.says)) _ _ t)
-        ∙ mapped ℕ Body ℤ (distance_at limit (st line e ps)) (λ d. neg_ℤ (pos d)) (λ x. end_with (made x))
-
-    neither : (p : Piece) (ps : List Piece) → is_mark_of 45 (Some p.says) ≡ false → no_plus (st line e (p ∷ ps)) ≡ end_with (made (pos 0)) (st line e (p ∷ ps))
-    neither p ps t = ap (λ (r : Read ℤ). r >>= λ (x : ℤ × ReaderState). end_with (made x.0) x.1) (take_else (is_mark_of 45 (Some p.says)) _ _ t)
-
-    none_left : (p : Piece) (ps : List Piece) (b : Body) → (p ∷ ps ≡ []) × (made (pos 0) ≡ b) → is_mark_of 45 (Some p.says) ≡ false
-    none_left p ps b w = let h = w.0 in absurd cc
-
-    no_plus_first : (p : Piece) (ps : List Piece) (b : Body) → BackEnd limit made (p ∷ ps) b → is_mark_of 43 (Some p.says) ≡ false
-    no_plus_first p ps b (inl w) = marked_other 43 45 p ps w.0 w.1 w.2 w.3 refl
-    no_plus_first p ps b (inr w) = let h = w.0 in absurd cc
-
-    back : ((ps : List Piece) (b : Body) → (no_plus (st line e ps) ≡ Ok b) ↔ BackEnd limit made ps b) × ((few : ℕ) → Node few false no_name line e (λ ps. fault_in (no_plus (st line e ps))))
-    back =
-        or_walk 45 false no_name line e no_plus (ended (distance_at limit) (λ n. made (neg_ℤ (pos n)))) (end_with (made (pos 0))) (OneEnd (IsFourfold limit) (λ n. made (neg_ℤ (pos n)))) (λ ps b. (ps ≡ []) × (made (pos 0) ≡ b)) refl (inr refl) minus neither refl
-        (one_end (one_distance limit line e) (λ n. made (neg_ℤ (pos n)))) (end_walk line e (made (pos 0))).0 none_left (λ few. ends_node few Body line e (made (pos 0)))
+    distance : (most : ℕ) (f : ℕ → ℤ) → Walk few line e (λ s. (distance_at most s >>= λ (d : ℕ × ReaderState). let y : Read ℤ = Ok (f d.0, d.1) in y) >>= λ (x : ℤ × ReaderState). end_with (made x.0) x.1) (OneEnd (IsFourfold most) (λ n. made (f n)))
+    distance most f =
+        begun (start_as (λ s. (distance_at most s >>= λ (d : ℕ × ReaderState). let y : Read ℤ = Ok (f d.0, d.1) in y) >>= λ (x : ℤ × ReaderState). end_with (made x.0) x.1) (OneEnd (IsFourfold most) (λ n. made (f n)))
+        (λ ps. mapped ℕ Body ℤ (distance_at most (st line e ps)) f (λ x. end_with (made x))) (λ ps b. (λ w. w, λ w. w)) (one_end (one_distance most line e) (λ n. made (f n))))
 
 -- a place
 
@@ -171,14 +140,13 @@ not_here line e kind (s ∷ m ∷ []) f h = absurd h
 not_here line e kind (s ∷ m ∷ p ∷ []) f h = ap (λ (m : TokenValue). is_here_on (Some m)) h.0.1.0 ∙ other_bytes f.symbol (codes ".") h.0.1.1.no_place
 not_here line e kind (s ∷ m ∷ p ∷ q ∷ ps) f h = absurd h
 
-symbol_walk : (kind : Kind) (line e : ℕ) (made : Fixup → Body) → Walk line e (ended (fixup_at kind) made) (Last Fixup (IsFixup kind) made)
-symbol_walk kind line e made =
-    last_walk Fixup (IsFixup kind) made line e (fixup_at kind) (fixup_read kind line e) (λ ps f w. ap (λ (qs : List Piece). fixup_at kind (st line e qs)) (sym (append-nil ps)) ∙ fixup_again kind line e ps [] f w tt)
-    (λ few. good few false symbols line e (reader_of line e (fixup_at kind) (λ f. end_with (made f))) (fixup_node few Body kind line e (λ f. end_with (made f)) (λ f. ends_node few Body line e (made f))))
+symbol_start : (kind : Kind) (few line e : ℕ) (made : Fixup → Body) → Start few false symbols line e (ended (fixup_at kind) made) (Last Fixup (IsFixup kind) made)
+symbol_start kind few line e made =
+    last_start (IsFixup kind) (fixup_at kind) made (fixup_start kind (λ f. end_with (made f)) (Ends made) (λ f. end_start few line e (made f)) (λ f ps b w. end_unsigned ps w.0))
 
-pub goal_walk : (kind : Kind) (bits line e : ℕ) (made : Goal → Body) → Walk line e (ended (goal_at kind (2 ^ bits)) made) (Last Goal (IsGoalOf kind bits) made)
+pub goal_walk : (kind : Kind) (bits few line e : ℕ) (made : Goal → Body) → Walk few line e (ended (goal_at kind (2 ^ bits)) made) (Last Goal (IsGoalOf kind bits) made)
 unfolding goal_at
-goal_walk kind bits line e made = (λ ps b. (reads ps b, λ w. meets ps b w.0.words w.0.fixup w.1 w.2), λ few. good few false symbols line e (λ ps. fault_in (all (st line e ps))) (node few))
+goal_walk kind bits few line e made = record { law = λ ps b l. (reads ps b, λ w. meets ps b w.0.words w.0.fixup w.1 w.2); faults = good few false symbols line e (λ ps. fault_in (all (st line e ps))) node }
   where
     all : ReaderState → Result Body ParseFault
     all s = ended (goal_at kind (2 ^ bits)) made s
@@ -199,14 +167,20 @@ goal_walk kind bits line e made = (λ ps b. (reads ps b, λ w. meets ps b w.0.wo
         ap (λ (r : Read Goal). r >>= λ (x : Goal × ReaderState). end_with (made x.0) x.1) (take_else (is_here_on (first (st line e ps))) _ _ t)
         ∙ mapped Fixup Body Goal (fixup_at kind (st line e ps)) symbol_goal (λ x. end_with (made x))
 
+    words_law : (ps : List Piece) (b : Body) → (places (st line e ps) ≡ Ok b) ↔ WordsEnd (2 ^ bits) (λ n. made (place_goal n)) ps b
+    words_law = lawful (λ n. begun (words_start n line e (2 ^ bits) (λ z. made (place_goal z))))
+
+    symbol_law : (ps : List Piece) (b : Body) → (fixups (st line e ps) ≡ Ok b) ↔ Last Fixup (IsFixup kind) (λ f. made (symbol_goal f)) ps b
+    symbol_law = lawful (λ n. begun (symbol_start kind n line e (λ f. made (symbol_goal f))))
+
     is_symbol_here : (ps : List Piece) (b : Body) → fixups (st line e ps) ≡ Ok b → Last Goal (IsGoalOf kind bits) made ps b
-    is_symbol_here ps b x = let k = ((symbol_walk kind line e (λ f. made (symbol_goal f))).0 ps b).0 x in (symbol_goal k.0, a_symbol k.1, k.2)
+    is_symbol_here ps b x = let k = (symbol_law ps b).0 x in (symbol_goal k.0, a_symbol k.1, k.2)
 
     reads : (ps : List Piece) (b : Body) → all (st line e ps) ≡ Ok b → Last Goal (IsGoalOf kind bits) made ps b
     reads [] b x = is_symbol_here [] b (sym (by_fixup [] refl) ∙ x)
     reads (p ∷ ps) b x = elim (tested (is_here_on (Some p.says))) [
       | inl t ↦
-          let k = place_met bits (λ n. made (place_goal n)) p ps b (here_says p.says t) (((words_both line e (2 ^ bits) (λ n. made (place_goal n))).0 ps b).0 (sym (by_place p ps t) ∙ x)) in
+          let k = place_met bits (λ n. made (place_goal n)) p ps b (here_says p.says t) ((words_law ps b).0 (sym (by_place p ps t) ∙ x)) in
           (place_goal k.0, a_place k.1, k.2)
       | inr t ↦ is_symbol_here (p ∷ ps) b (sym (by_fixup (p ∷ ps) t) ∙ x)
     ]
@@ -220,14 +194,14 @@ goal_walk kind bits line e made = (λ ps b. (reads ps b, λ w. meets ps b w.0.wo
     place_again : (ps : List Piece) (b : Body) (n : ℤ) → IsPlace bits ps n → made (place_goal n) ≡ b → all (st line e ps) ≡ Ok b
     place_again [] b n h k = absurd h
     place_again (p ∷ ps) b n h k =
-        by_place p ps (named_here p ps n h) ∙ ((words_both line e (2 ^ bits) (λ z. made (place_goal z))).0 ps b).1 (met_place bits (λ z. made (place_goal z)) p ps b n h k)
+        by_place p ps (named_here p ps n h) ∙ (words_law ps b).1 (met_place bits (λ z. made (place_goal z)) p ps b n h k)
 
     meets : (ps : List Piece) (b : Body) (words : ℤ) (fixup : Option Fixup) → IsGoal kind bits ps words fixup → made (record { words = words; fixup = fixup }) ≡ b → all (st line e ps) ≡ Ok b
     meets ps b words fixup (a_place h) k = place_again ps b words h k
-    meets ps b words fixup (a_symbol {f = f} h) k = by_fixup ps (not_here line e kind ps f h) ∙ ((symbol_walk kind line e (λ g. made (symbol_goal g))).0 ps b).1 (f, h, k)
+    meets ps b words fixup (a_symbol {f = f} h) k = by_fixup ps (not_here line e kind ps f h) ∙ (symbol_law ps b).1 (f, h, k)
 
-    node : (few : ℕ) → Node few false symbols line e (λ ps. fault_in (all (st line e ps)))
-    node few = record {
+    node : Node few false symbols line e (λ ps. fault_in (all (st line e ps)))
+    node = record {
       wants = record {
         numbers = λ p v h ps x. sym_node.wants.numbers p v h ps (sym (same (p ∷ ps) (ap (λ (m : TokenValue). is_here_on (Some m)) h)) ∙ x);
         names = λ p name h. let y = sym_node.wants.names p name h in (y.0, same (p ∷ y.0) (ap (λ (m : TokenValue). is_here_on (Some m)) h.0 ∙ other_bytes name (codes ".") h.1.no_place) ∙ y.1);
@@ -236,14 +210,14 @@ goal_walk kind bits line e made = (λ ps b. (reads ps b, λ w. meets ps b w.0.wo
       goes = let y = sym_node.wants.names any (codes "x") any_is_symbol in (any ∷ y.0, same (any ∷ y.0) (ap (λ (m : TokenValue). is_here_on (Some m)) any_is_symbol.0) ∙ y.1);
       stop = elim (sym_node.stop) [ inl s ↦ inl (same [] refl ∙ s) | inr s ↦ inr (same [] refl ∙ s) ];
       each = λ p. elim (tested (is_here_on (Some p.says))) [
-        | inl t ↦ inl (leads few false line e (λ ps. fault_in (all (st line e ps))) (λ ps. fault_in (places (st line e ps))) p (good few false no_name line e (λ ps. fault_in (places (st line e ps))) ((words_both line e (2 ^ bits) (λ n. made (place_goal n))).1 few))
+        | inl t ↦ inl (leads few false line e (λ ps. fault_in (all (st line e ps))) (λ ps. fault_in (places (st line e ps))) p (begun (words_start few line e (2 ^ bits) (λ n. made (place_goal n)))).faults
             (λ ps. ap (λ (r : Result Body ParseFault). fault_in r) (by_place p ps t)) (inr refl))
         | inr t ↦ each_as few false symbols symbols line e (λ ps. fault_in (all (st line e ps))) (λ ps. fault_in (fixups (st line e ps))) p (λ ps. same (p ∷ ps) t) refl (sym_node.each p)
       ];
     }
       where
         sym_node : Node few false symbols line e (λ ps. fault_in (fixups (st line e ps)))
-        sym_node = fixup_node few Body kind line e (λ f. end_with (made (symbol_goal f))) (λ f. ends_node few Body line e (made (symbol_goal f)))
+        sym_node = (symbol_start kind few line e (λ f. made (symbol_goal f))).node
 
         same : (ps : List Piece) → is_here_on (first (st line e ps)) ≡ false → fault_in (all (st line e ps)) ≡ fault_in (fixups (st line e ps))
         same ps t = ap (λ (r : Result Body ParseFault). fault_in r) (by_fixup ps t)

@@ -8,10 +8,9 @@ use Rattle.m88_parse.specs.declared.operand.Index.{Index}
 use Rattle.m88_parse.specs.declared.operand.Index.TheVariants as index
 use Rattle.m88_parse.specs.declared.operand.Field.{Field}
 use Rattle.m88_parse.specs.declared.operand.Field.TheVariants as field
-use Rattle.m88_parse.specs.Language.Pieces.{TokenValue, a_name, a_number, a_text, a_mark, Piece}
+use Rattle.m88_parse.specs.Language.Pieces.{TokenValue, a_name, a_number, a_mark, Piece}
 use Rattle.m88_parse.specs.Language.Names.{IsMark, IsNumber, IsRegister}
 use Rattle.m88_parse.specs.Language.Operands.{IsScaled, IsLast, IsLiteral}
-use Rattle.m88_parse.specs.Reader.Names.{register_of}
 use Rattle.m88_parse.specs.Reader.State.{ReaderState, is_mark_of, is_next_mark, ◌>>=◌}
 use Rattle.m88_parse.specs.Reader.Slots.{Read, mark_at, unsigned_at, register_at}
 use Rattle.m88_parse.specs.Reader.Operands.{operand_at, scaled_at, indexed_at, index_at, user_index_at, width_at, literal_at, field_on, field_at}
@@ -19,26 +18,21 @@ use Rattle.m88_parse.specs.Reader.Grammar.{end_with}
 use Rattle.m88_parse.proofs.Law.Steps.{take_then, take_else}
 use Rattle.m88_parse.proofs.Law.Slots.{st, no_name, own_names, IsUpTo, one_register, one_number}
 use Rattle.m88_parse.proofs.Law.Operands.{IsOperandOf, operand_walk}
-use Rattle.m88_parse.proofs.Law.Walks.{Then, AfterMark, AfterComma, Last, Walk, end_good, mark_walk, slot_walk, ended, one_end, closed_end, ClosedEnd, closed_walk, walk_as, marked_other, or_walk}
-use Rattle.m88_parse.proofs.Law.LineFaults.Readers.{fault_in}
-use Rattle.m88_parse.proofs.Law.LineFaults.Nodes.{Node, good}
-use Rattle.m88_parse.proofs.Law.LineFaults.Slots.{one_token, mark_node, token_each, turns}
-use Rattle.m88_parse.proofs.Law.LineFaults.Values.{mapped, NoName, number_is, text_is, mark_is, or_name}
+use Rattle.m88_parse.proofs.Law.Walks.{Then, AfterMark, AfterComma, Last, Ends, Walk, Start, begun, end_start, mark_start, slot_start, start_as, ended, one_end, closed_end, ClosedEnd, closed_start, marked_other, unnamed, or_start, named_start}
+use Rattle.m88_parse.proofs.Law.LineFaults.Slots.{mapped, turns, NoName, number_is, text_is, mark_is}
 
 -- a register alone
 
-register_walk : (line e : ℕ) (made : Reg → Body) → Walk line e (ended register_at made) (Last Reg (λ ps r. IsLast r ps) made)
-register_walk line e made =
-    walk_as line e (ended register_at made) (ended register_at made) (Last Reg (λ ps r. IsLast r ps) made) (λ ps b. Then Reg IsRegister (λ r qs. (qs ≡ []) × (made r ≡ b)) ps) (λ ps. refl) (λ ps b. (to ps b, λ w. from ps b w.0 w.1 w.2))
-    (one_end (one_register line e) made)
-  where
-    to : (ps : List Piece) (b : Body) → Then Reg IsRegister (λ r qs. (qs ≡ []) × (made r ≡ b)) ps → Last Reg (λ qs r. IsLast r qs) made ps b
-    to ps b w = (w.value, subst (IsLast w.value) (sym (w.tokens ∙ ap (λ (qs : List Piece). w.piece ∷ qs) w.next.0)) w.is, w.next.1)
+last_register : (made : Reg → Body) (ps : List Piece) (b : Body) → Then Reg IsRegister (λ r qs. Ends made r qs b) ps → Last Reg (λ qs r. IsLast r qs) made ps b
+last_register made ps b w = (w.value, subst (IsLast w.value) (sym (w.tokens ∙ ap (λ (qs : List Piece). w.piece ∷ qs) w.next.0)) w.is, w.next.1)
 
-    from : (ps : List Piece) (b : Body) (r : Reg) → IsLast r ps → made r ≡ b → Then Reg IsRegister (λ x qs. (qs ≡ []) × (made x ≡ b)) ps
-    from [] b r h k = absurd h
-    from (p ∷ []) b r h k = record { value = r; piece = p; rest = []; tokens = refl; is = h; next = (refl, k) }
-    from (p ∷ q ∷ ps) b r h k = absurd h
+register_last : (made : Reg → Body) (ps : List Piece) (b : Body) (r : Reg) → IsLast r ps → made r ≡ b → Then Reg IsRegister (λ x qs. Ends made x qs b) ps
+register_last made [] b r h k = absurd h
+register_last made (p ∷ []) b r h k = record { value = r; piece = p; rest = []; tokens = refl; is = h; next = (refl, k) }
+register_last made (p ∷ q ∷ ps) b r h k = absurd h
+
+register_start : (few line e : ℕ) (made : Reg → Body) → Start few false own_names line e (ended register_at made) (Last Reg (λ ps r. IsLast r ps) made)
+register_start few line e made = start_as (ended register_at made) (Last Reg (λ ps r. IsLast r ps) made) (λ ps. refl) (λ ps b. (last_register made ps b, λ w. register_last made ps b w.0 w.1 w.2)) (one_end (one_register line e) made)
 
 -- [rS2]
 
@@ -63,13 +57,12 @@ scaled_steps : (B : Type 0) (s : ReaderState) (k : Reg → ReaderState → Resul
 unfolding scaled_at
 scaled_steps B s k = turns (mark_at 91 s) _ _ _ (λ opened. turns (register_at opened) _ _ _ (λ r. turns (mark_at 93 r.1) _ _ _ (λ closed. refl)))
 
-bracket_walk : (line e : ℕ) (made : Reg → Body) → Walk line e (closed_end register_at 93 made) (ClosedEnd Reg IsRegister 93 made)
-bracket_walk line e made = closed_walk (one_register line e) 93 made refl refl
+bracket_start : (few line e : ℕ) (made : Reg → Body) → Start few false own_names line e (closed_end register_at 93 made) (ClosedEnd Reg IsRegister 93 made)
+bracket_start few line e made = closed_start (one_register line e) 93 made refl refl
 
-pub scaled_walk : (line e : ℕ) (made : Reg → Body) → Walk line e (ended scaled_at made) (Last Reg (λ qs r. IsScaled r qs) made)
-scaled_walk line e made =
-    walk_as line e (ended scaled_at made) (λ s. mark_at 91 s >>= closed_end register_at 93 made) (Last Reg (λ qs r. IsScaled r qs) made) (ScaledEnd made) (λ ps. scaled_steps Body (st line e ps) (λ r. end_with (made r)))
-    (λ ps b. (scaled_met made ps b, λ w. met_scaled made ps b w.0 w.1 w.2)) (mark_walk 91 line e (closed_end register_at 93 made) (ClosedEnd Reg IsRegister 93 made) refl refl (bracket_walk line e made))
+pub scaled_start : (few line e : ℕ) (made : Reg → Body) → Start few false no_name line e (ended scaled_at made) (Last Reg (λ qs r. IsScaled r qs) made)
+scaled_start few line e made =
+    start_as (ended scaled_at made) (Last Reg (λ qs r. IsScaled r qs) made) (λ ps. scaled_steps Body (st line e ps) (λ r. end_with (made r))) (λ ps b. (scaled_met made ps b, λ w. met_scaled made ps b w.0 w.1 w.2)) (mark_start 91 refl refl (begun (bracket_start few line e made)))
 
 -- behind the base register: a scaled register, or a comma and more
 
@@ -80,12 +73,12 @@ PlainEnd X Is made ps b = AfterComma (λ qs. Last X Is made qs b) ps
 abbrev Indexed : (X C : Type 0) → (List Piece → X → Type 0) → (Reg → C) → (X → C) → List Piece → C → Type 0
 Indexed X C Is scaled plain ps y = ((r : Reg) × IsScaled r ps × (scaled r ≡ y)) ⊎ ((x : X) × AfterComma (λ qs. Is qs x) ps × (plain x ≡ y))
 
-indexed_walk : (X C : Type 0) (Is : List Piece → X → Type 0) (As : List Piece → C → Type 0) (slot : ReaderState → Read X) (scaled : Reg → C) (plain : X → C) (made : C → Body) (line e : ℕ)
-    → Walk line e (ended slot (λ x. made (plain x))) (Last X Is (λ x. made (plain x))) → ((ps : List Piece) (y : C) → Indexed X C Is scaled plain ps y ↔ As ps y)
-    → Walk line e (ended (indexed_at slot scaled plain) made) (Last C As made)
-indexed_walk X C Is As slot scaled plain made line e go alike =
-    walk_as line e all all (Last C As made) (λ ps b. ScaledEnd (λ r. made (scaled r)) ps b ⊎ PlainEnd X Is (λ x. made (plain x)) ps b) (λ ps. refl) (λ ps b. (to ps b, λ w. from ps b w.0 ((alike ps w.0).1 w.1) w.2))
-    (both.0, λ few. good few false no_name line e (λ ps. fault_in (all (st line e ps))) (both.1 few))
+indexed_start : (X C : Type 0) (Is : List Piece → X → Type 0) (As : List Piece → C → Type 0) (slot : ReaderState → Read X) (scaled : Reg → C) (plain : X → C) (made : C → Body) (few line e : ℕ)
+    → Walk few line e (ended slot (λ x. made (plain x))) (Last X Is (λ x. made (plain x))) → ((ps : List Piece) (y : C) → Indexed X C Is scaled plain ps y ↔ As ps y)
+    → Start few false no_name line e (ended (indexed_at slot scaled plain) made) (Last C As made)
+indexed_start X C Is As slot scaled plain made few line e go alike =
+    start_as all (Last C As made) (λ ps. refl) (λ ps b. (to ps b, λ w. from ps b w.0 ((alike ps w.0).1 w.1) w.2))
+    (or_start 91 all refl (inr refl) bracket otherwise refl (begun (bracket_start few line e (λ r. made (scaled r)))) (mark_start 44 refl refl go) (λ p ps b w. marked_other 91 44 p ps w.0 w.1 w.2 w.3 refl))
   where
     all : ReaderState → Result Body ParseFault
     all s = ended (indexed_at slot scaled plain) made s
@@ -105,16 +98,6 @@ indexed_walk X C Is As slot scaled plain made line e go alike =
         ap (λ (r : Read C). r >>= λ (z : C × ReaderState). end_with (made z.0) z.1) (take_else (is_mark_of 91 (Some p.says)) _ _ t)
         ∙ turns (mark_at 44 (st line e (p ∷ ps))) _ _ _ (λ u. mapped X Body C (slot u) plain (λ z. end_with (made z)))
 
-    no_bracket : (p : Piece) (ps : List Piece) (b : Body) → PlainEnd X Is (λ x. made (plain x)) (p ∷ ps) b → is_mark_of 91 (Some p.says) ≡ false
-    no_bracket p ps b w = marked_other 91 44 p ps w.0 w.1 w.2 w.3 refl
-
-    both : ((ps : List Piece) (b : Body) → (all (st line e ps) ≡ Ok b) ↔ (ScaledEnd (λ r. made (scaled r)) ps b ⊎ PlainEnd X Is (λ x. made (plain x)) ps b)) × ((few : ℕ) → Node few false no_name line e (λ ps. fault_in (all (st line e ps))))
-    both =
-        or_walk 91 false no_name line e all (closed_end register_at 93 (λ r. made (scaled r))) comma (ClosedEnd Reg IsRegister 93 (λ r. made (scaled r))) (PlainEnd X Is (λ x. made (plain x))) refl (inr refl) bracket otherwise refl
-        (bracket_walk line e (λ r. made (scaled r)))
-        (mark_walk 44 line e (ended slot (λ x. made (plain x))) (Last X Is (λ x. made (plain x))) refl refl go).0 no_bracket
-        (λ few. mark_node few Body 44 line e (ended slot (λ x. made (plain x))) refl refl (go.1 few))
-
     to : (ps : List Piece) (b : Body) → ScaledEnd (λ r. made (scaled r)) ps b ⊎ PlainEnd X Is (λ x. made (plain x)) ps b → Last C As made ps b
     to ps b (inl w) = let k = scaled_met (λ r. made (scaled r)) ps b w in (scaled k.0, (alike ps (scaled k.0)).0 (inl (k.0, k.1, refl)), k.2)
     to ps b (inr w) = let v = w.4 in (plain v.0, (alike ps (plain v.0)).0 (inr (v.0, (w.0, w.1, w.2, w.3, v.1), refl)), v.2)
@@ -127,10 +110,10 @@ abbrev pub IsIndexOf : List Piece → Index → Type 0
 IsIndexOf ps (index.Scaled r) = IsScaled r ps
 IsIndexOf ps (index.Offset x) = AfterComma (λ qs. IsOperandOf qs x) ps
 
-pub index_walk : (line e : ℕ) (made : Index → Body) → Walk line e (ended index_at made) (Last Index IsIndexOf made)
+pub index_start : (few line e : ℕ) (made : Index → Body) → Start few false no_name line e (ended index_at made) (Last Index IsIndexOf made)
 unfolding index_at
-index_walk line e made =
-    indexed_walk Operand Index IsOperandOf IsIndexOf operand_at (λ r. index.Scaled r) (λ x. index.Offset x) made line e (operand_walk line e (λ x. made (index.Offset x))) (λ ps y. (to ps y, from ps y))
+index_start few line e made =
+    indexed_start Operand Index IsOperandOf IsIndexOf operand_at (λ r. index.Scaled r) (λ x. index.Offset x) made few line e (operand_walk few line e (λ x. made (index.Offset x))) (λ ps y. (to ps y, from ps y))
   where
     to : (ps : List Piece) (y : Index) → Indexed Operand Index IsOperandOf (λ r. index.Scaled r) (λ x. index.Offset x) ps y → IsIndexOf ps y
     to ps y (inl u) = subst (IsIndexOf ps) u.2 u.1
@@ -147,10 +130,10 @@ UserIndex ps r false = AfterComma (IsLast r) ps
 abbrev pub IsUserIndexOf : List Piece → Reg × Bool → Type 0
 IsUserIndexOf ps x = UserIndex ps x.0 x.1
 
-pub user_index_walk : (line e : ℕ) (made : Reg × Bool → Body) → Walk line e (ended user_index_at made) (Last (Reg × Bool) IsUserIndexOf made)
+pub user_index_start : (few line e : ℕ) (made : Reg × Bool → Body) → Start few false no_name line e (ended user_index_at made) (Last (Reg × Bool) IsUserIndexOf made)
 unfolding user_index_at
-user_index_walk line e made =
-    indexed_walk Reg (Reg × Bool) (λ qs r. IsLast r qs) IsUserIndexOf register_at (λ r. (r, true)) (λ r. (r, false)) made line e (register_walk line e (λ r. made (r, false))) (λ ps y. (to ps y, from ps y.0 y.1))
+user_index_start few line e made =
+    indexed_start Reg (Reg × Bool) (λ qs r. IsLast r qs) IsUserIndexOf register_at (λ r. (r, true)) (λ r. (r, false)) made few line e (begun (register_start few line e (λ r. made (r, false)))) (λ ps y. (to ps y, from ps y.0 y.1))
   where
     to : (ps : List Piece) (y : Reg × Bool) → Indexed Reg (Reg × Bool) (λ qs r. IsLast r qs) (λ r. (r, true)) (λ r. (r, false)) ps y → IsUserIndexOf ps y
     to ps y (inl u) = subst (IsUserIndexOf ps) u.2 u.1
@@ -177,14 +160,10 @@ unfolding literal_at width_at
 literal_steps most s made =
     turns (if is_next_mark 60 s then Ok (0, s) else unsigned_at most s) _ _ _ (λ width. turns (mark_at 60 width.1) _ _ _ (λ opened. turns (unsigned_at 31 opened) _ _ _ (λ offset. turns (mark_at 62 offset.1) _ _ _ (λ closed. refl))))
 
-literal_both : (most line e : ℕ) (made : Field → Body)
-    → ((ps : List Piece) (b : Body) → (ended (literal_at most) made (st line e ps) ≡ Ok b) ↔ LiteralEnd most (λ w o. made (field.Literal w o)) ps b)
-    × ((few : ℕ) → Node few true no_name line e (λ ps. fault_in (ended (literal_at most) made (st line e ps))))
-literal_both most line e made =
-    or_walk 60 true no_name line e (ended (literal_at most) made) (closed_end (unsigned_at 31) 62 (literal 0)) number (ClosedEnd ℕ (IsUpTo 31) 62 (literal 0)) (λ ps b. Then ℕ (IsUpTo most) (λ width qs. OffsetEnd (literal width) qs b) ps)
-    refl (inl refl) opened numbered (literal_steps most (st line e []) made) (offset 0)
-    (slot_walk (one_number most line e) (after_width literal) (λ width qs b. OffsetEnd (literal width) qs b) behind).0 no_mark
-    (λ few. one_token few ℕ Body true no_name line e (unsigned_at most) (one_number most line e) (after_width literal) (λ width. (behind width).1 few))
+literal_start : (most few line e : ℕ) (made : Field → Body) → Start few true no_name line e (ended (literal_at most) made) (LiteralEnd most (λ w o. made (field.Literal w o)))
+literal_start most few line e made =
+    or_start 60 (ended (literal_at most) made) refl (inl refl) opened numbered (literal_steps most (st line e []) made) (begun (offset 0))
+    (slot_start (one_number most line e) (after_width literal) (λ width qs b. OffsetEnd (literal width) qs b) (λ width. begun (mark_start 60 refl refl (begun (offset width))))) no_mark
   where
     literal : ℕ → ℕ → Body
     literal width offset = made (field.Literal width offset)
@@ -192,11 +171,8 @@ literal_both most line e made =
     number : ReaderState → Result Body ParseFault
     number s = unsigned_at most s >>= λ (width : ℕ × ReaderState). after_width literal width.0 width.1
 
-    offset : (width : ℕ) → Walk line e (closed_end (unsigned_at 31) 62 (literal width)) (ClosedEnd ℕ (IsUpTo 31) 62 (literal width))
-    offset width = closed_walk (one_number 31 line e) 62 (literal width) refl refl
-
-    behind : (width : ℕ) → Walk line e (after_width literal width) (OffsetEnd (literal width))
-    behind width = mark_walk 60 line e (closed_end (unsigned_at 31) 62 (literal width)) (ClosedEnd ℕ (IsUpTo 31) 62 (literal width)) refl refl (offset width)
+    offset : (width : ℕ) → Start few true no_name line e (closed_end (unsigned_at 31) 62 (literal width)) (ClosedEnd ℕ (IsUpTo 31) 62 (literal width))
+    offset width = closed_start (one_number 31 line e) 62 (literal width) refl refl
 
     opened : (p : Piece) (ps : List Piece) → is_mark_of 60 (Some p.says) ≡ true → ended (literal_at most) made (st line e (p ∷ ps)) ≡ closed_end (unsigned_at 31) 62 (literal 0) (st line e ps)
     opened p ps t =
@@ -247,59 +223,39 @@ abbrev pub IsFieldOf : ℕ → List Piece → Field → Type 0
 IsFieldOf most ps (field.Register r) = IsLast r ps
 IsFieldOf most ps (field.Literal width offset) = IsLiteral most ps width offset
 
-pub field_walk : (most line e : ℕ) (made : Field → Body) → Walk line e (ended (field_at most) made) (Last Field (IsFieldOf most) made)
-unfolding field_at register_at register_of
-field_walk most line e made = (λ ps b. (reads ps b, λ w. meets ps b w.0 w.1 w.2), λ few. good few true own_names line e (λ ps. fault_in (all (st line e ps))) (node few))
+pub field_start : (most few line e : ℕ) (made : Field → Body) → Start few true own_names line e (ended (field_at most) made) (Last Field (IsFieldOf most) made)
+unfolding field_at
+field_start most few line e made =
+    start_as all (Last Field (IsFieldOf most) made) (λ ps. refl) (λ ps b. (to ps b, λ w. from ps b w.0 w.1 w.2))
+    (named_start (one_register line e) all (λ r. end_with (registers r)) (Ends registers) (λ r p i. (i.0, i.2)) as_register as_literal refl (λ r. begun (end_start few line e (registers r))) (literal_start most few line e made) no_name_first)
   where
     all : ReaderState → Result Body ParseFault
     all s = ended (field_at most) made s
 
-    literals : ReaderState → Result Body ParseFault
-    literals s = ended (literal_at most) made s
+    registers : Reg → Body
+    registers r = made (field.Register r)
 
-    registers : ReaderState → Result Body ParseFault
-    registers s = ended register_at (λ r. made (field.Register r)) s
+    literals : ℕ → ℕ → Body
+    literals width offset = made (field.Literal width offset)
 
-    as_literal : (p : Piece) (ps : List Piece) (m : TokenValue) → p.says ≡ m → NoName m → all (st line e (p ∷ ps)) ≡ literals (st line e (p ∷ ps))
+    as_literal : (p : Piece) (ps : List Piece) (m : TokenValue) → p.says ≡ m → NoName m → all (st line e (p ∷ ps)) ≡ ended (literal_at most) made (st line e (p ∷ ps))
     as_literal p ps m h number_is = ap (λ (o : TokenValue). field_on most (st line e (p ∷ ps)) (Some o) >>= λ (z : Field × ReaderState). end_with (made z.0) z.1) h
     as_literal p ps m h text_is = ap (λ (o : TokenValue). field_on most (st line e (p ∷ ps)) (Some o) >>= λ (z : Field × ReaderState). end_with (made z.0) z.1) h
     as_literal p ps m h mark_is = ap (λ (o : TokenValue). field_on most (st line e (p ∷ ps)) (Some o) >>= λ (z : Field × ReaderState). end_with (made z.0) z.1) h
 
-    as_register : (p : Piece) (ps : List Piece) (text : List ℕ) → p.says ≡ a_name text → all (st line e (p ∷ ps)) ≡ registers (st line e (p ∷ ps))
+    as_register : (p : Piece) (ps : List Piece) (text : List ℕ) → p.says ≡ a_name text → all (st line e (p ∷ ps)) ≡ ended register_at registers (st line e (p ∷ ps))
     as_register p ps text h =
         ap (λ (o : TokenValue). field_on most (st line e (p ∷ ps)) (Some o) >>= λ (z : Field × ReaderState). end_with (made z.0) z.1) h
         ∙ mapped Reg Body Field (register_at (st line e (p ∷ ps))) (λ r. field.Register r) (λ z. end_with (made z))
 
-    is_literal : (ps : List Piece) (b : Body) → literals (st line e ps) ≡ Ok b → Last Field (IsFieldOf most) made ps b
-    is_literal ps b x = let k = literal_met most (λ w o. made (field.Literal w o)) ps b (((literal_both most line e made).0 ps b).0 x) in (field.Literal k.0 k.1, k.2, k.3)
+    no_name_first : (p : Piece) (ps : List Piece) (b : Body) → LiteralEnd most literals (p ∷ ps) b → NoName p.says
+    no_name_first p ps b (inl w) = unnamed p w.0 ps w.1 (a_mark 60) w.2 w.3 mark_is
+    no_name_first p ps b (inr w) = unnamed p w.piece ps w.rest (a_number w.value) w.tokens w.is.0 number_is
 
-    by_says : (p : Piece) (ps : List Piece) (b : Body) (m : TokenValue) → p.says ≡ m → all (st line e (p ∷ ps)) ≡ Ok b → Last Field (IsFieldOf most) made (p ∷ ps) b
-    by_says p ps b (a_name text) h x = let k = ((register_walk line e (λ r. made (field.Register r))).0 (p ∷ ps) b).0 (sym (as_register p ps text h) ∙ x) in (field.Register k.0, k.1, k.2)
-    by_says p ps b (a_number n) h x = is_literal (p ∷ ps) b (sym (as_literal p ps (a_number n) h number_is) ∙ x)
-    by_says p ps b (a_text bytes) h x = is_literal (p ∷ ps) b (sym (as_literal p ps (a_text bytes) h text_is) ∙ x)
-    by_says p ps b (a_mark o) h x = is_literal (p ∷ ps) b (sym (as_literal p ps (a_mark o) h mark_is) ∙ x)
+    to : (ps : List Piece) (b : Body) → Then Reg IsRegister (λ r qs. Ends registers r qs b) ps ⊎ LiteralEnd most literals ps b → Last Field (IsFieldOf most) made ps b
+    to ps b (inl w) = let k = last_register registers ps b w in (field.Register k.0, k.1, k.2)
+    to ps b (inr w) = let k = literal_met most literals ps b w in (field.Literal k.0 k.1, k.2, k.3)
 
-    reads : (ps : List Piece) (b : Body) → all (st line e ps) ≡ Ok b → Last Field (IsFieldOf most) made ps b
-    reads [] b x = is_literal [] b x
-    reads (p ∷ ps) b x = by_says p ps b p.says refl x
-
-    literal_again : (ps : List Piece) (b : Body) (width offset : ℕ) → IsLiteral most ps width offset → made (field.Literal width offset) ≡ b → literals (st line e ps) ≡ Ok b
-    literal_again ps b width offset h k = ((literal_both most line e made).0 ps b).1 (met_literal most (λ w o. made (field.Literal w o)) ps b width offset h k)
-
-    meets : (ps : List Piece) (b : Body) (x : Field) → IsFieldOf most ps x → made x ≡ b → all (st line e ps) ≡ Ok b
-    meets [] b (field.Register r) h k = absurd h
-    meets (p ∷ []) b (field.Register r) h k = as_register p [] h.0 h.2 ∙ ((register_walk line e (λ x. made (field.Register x))).0 (p ∷ []) b).1 (r, h, k)
-    meets (p ∷ q ∷ ps) b (field.Register r) h k = absurd h
-    meets [] b (field.Literal width offset) h k = absurd h
-    meets (o ∷ []) b (field.Literal width offset) h k = absurd h
-    meets (o ∷ p ∷ []) b (field.Literal width offset) h k = absurd h
-    meets (o ∷ p ∷ c ∷ []) b (field.Literal width offset) h k = as_literal o (p ∷ c ∷ []) (a_mark 60) h.1 mark_is ∙ literal_again (o ∷ p ∷ c ∷ []) b width offset h k
-    meets (w ∷ o ∷ p ∷ c ∷ []) b (field.Literal width offset) h k = as_literal w (o ∷ p ∷ c ∷ []) (a_number width) h.0 number_is ∙ literal_again (w ∷ o ∷ p ∷ c ∷ []) b width offset h k
-    meets (w ∷ o ∷ p ∷ c ∷ q ∷ ps) b (field.Literal width offset) h k = absurd h
-
-    node : (few : ℕ) → Node few true own_names line e (λ ps. fault_in (all (st line e ps)))
-    node few =
-        or_name few own_names line e (λ ps. fault_in (all (st line e ps))) (λ ps. fault_in (registers (st line e ps))) (λ ps. fault_in (literals (st line e ps)))
-        (λ p ps text h. ap (λ (r : Result Body ParseFault). fault_in r) (as_register p ps text h)) (λ p ps m h z. ap (λ (r : Result Body ParseFault). fault_in r) (as_literal p ps m h z)) refl
-        (one_token few Reg Body false own_names line e register_at (one_register line e) (λ r. end_with (made (field.Register r))) (λ r. end_good few line e (made (field.Register r)))).wants.names
-        (token_each few Reg Body false true own_names line e register_at (one_register line e) (λ r. end_with (made (field.Register r))) (λ r. end_good few line e (made (field.Register r)))) ((literal_both most line e made).1 few)
+    from : (ps : List Piece) (b : Body) (x : Field) → IsFieldOf most ps x → made x ≡ b → Then Reg IsRegister (λ r qs. Ends registers r qs b) ps ⊎ LiteralEnd most literals ps b
+    from ps b (field.Register r) h k = inl (register_last registers ps b r h k)
+    from ps b (field.Literal width offset) h k = inr (met_literal most literals ps b width offset h k)

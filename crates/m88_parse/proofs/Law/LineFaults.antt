@@ -3,8 +3,7 @@ pub mod Readers
 pub mod Nodes
 pub mod One
 pub mod Slots
-pub mod Values
+pub mod Signs
 pub mod Operands
-pub mod Lists
 pub mod Heard
 pub mod Lines

@@ -20,16 +20,16 @@ use Rattle.m88_parse.specs.Reader.Names.{register_of}
 use Rattle.m88_parse.specs.Language.Words.{half_named}
 use Rattle.m88_parse.specs.Language.Pieces.{TokenValue, a_name, a_number, a_text, a_mark, Piece}
 use Rattle.m88_parse.specs.Reader.State.{ReaderState, says_first, first, is_mark_of, ◌>>=◌}
-use Rattle.m88_parse.specs.Reader.Slots.{Read, meaning_or_fault, mark_at, register_on, register_at, value_at}
+use Rattle.m88_parse.specs.Reader.Slots.{Read, meaning_or_fault, mark_at, register_on, register_at}
 use Rattle.m88_parse.specs.Reader.Operands.{half_immediate, half_on, short_on, immediate_at, register_in, operand_at, bound_on, bound_at}
 use Rattle.m88_parse.specs.Reader.Grammar.{end_with}
 use Rattle.m88_parse.specs.Language.Names.{IsMark, IsNumber, IsNamed, IsRegister}
 use Rattle.m88_parse.specs.Language.Operands.{IsValue, IsHalfOf, IsImmediate, short, half, IsLast}
 use Rattle.m88_parse.proofs.Law.Steps.{chosen, tested, take_then, take_else}
 use Rattle.m88_parse.proofs.Law.Names.{some_same, register_is, register_name_again}
-use Rattle.m88_parse.proofs.Law.Slots.{st, bind_ok, bind_to, mark_says, next_again, register_found, own_names, saying, any, any_is_symbol, gives, OneToken, nothing, by_token, token_gives, token_is, only_if, within, within_is, within_again}
-use Rattle.m88_parse.proofs.Law.Values.{IsUnsigned, value_read, value_again}
-use Rattle.m88_parse.proofs.Law.Walks.{AfterMark, Last, Walk, end_good, end_walk, mark_walk, ended}
+use Rattle.m88_parse.proofs.Law.Slots.{st, symbols, mark_says, next_again, register_found, own_names, saying, any, any_is_symbol, gives, OneToken, nothing, by_token, token_gives, token_is, only_if, within, within_is, within_again}
+use Rattle.m88_parse.proofs.Law.Values.{value_start}
+use Rattle.m88_parse.proofs.Law.Walks.{Several, AfterMark, Last, Ends, Walk, Start, begun, lawful, end_law, end_start, mark_start, start_as, ended, mark_unsigned}
 use Rattle.m88_parse.proofs.Law.LineFaults.Nodes.{good}
 use Rattle.m88_parse.proofs.Law.LineFaults.Slots.{reader_of}
 use Rattle.m88_parse.proofs.Law.LineFaults.Operands.{half_inside, half_taken, short_step, no_half_on, immediate_node, operand_immediate, operand_register, operand_node}
@@ -49,25 +49,20 @@ half_names name kind h =
     ]
 
 half_is_of : (kind : Kind) (v : Value) → (kind ≡ Hi16) ⊎ (kind ≡ Lo16) → IsHalfOf kind v (half_immediate kind v).imm (half_immediate kind v).fixup
-half_is_of kind (Number n) (inl e) = subst (λ (k : Kind). IsHalfOf k (Number n) (half_immediate k (Number n)).imm (half_immediate k (Number n)).fixup) (sym e) (refl, refl)
-half_is_of kind (Number n) (inr e) = subst (λ (k : Kind). IsHalfOf k (Number n) (half_immediate k (Number n)).imm (half_immediate k (Number n)).fixup) (sym e) (refl, refl)
-half_is_of kind (Symbol f) (inl e) = subst (λ (k : Kind). IsHalfOf k (Symbol f) (half_immediate k (Symbol f)).imm (half_immediate k (Symbol f)).fixup) (sym e) (refl, refl)
-half_is_of kind (Symbol f) (inr e) = subst (λ (k : Kind). IsHalfOf k (Symbol f) (half_immediate k (Symbol f)).imm (half_immediate k (Symbol f)).fixup) (sym e) (refl, refl)
+half_is_of Hi16 (Number n) h = (refl, refl)
+half_is_of Lo16 (Number n) h = (refl, refl)
+half_is_of _ (Number n) (inl h) = absurd cc
+half_is_of _ (Number n) (inr h) = absurd cc
+half_is_of _ (Symbol f) h = (refl, refl)
 
 same_immediate : (a b : ℕ) (f g : Option Fixup) → a ≡ b → f ≡ g → ◌≡◌ {A = Immediate} (record { imm = a; fixup = f }) (record { imm = b; fixup = g })
 same_immediate a b f g h k = λ i. record { imm = h i; fixup = k i }
 
-half_of_is : (kind : Kind) (v : Value) (imm : ℕ) (fixup : Option Fixup) → (kind ≡ Hi16) ⊎ (kind ≡ Lo16) → IsHalfOf kind v imm fixup → half_immediate kind v ≡ record { imm = imm; fixup = fixup }
-half_of_is kind (Number n) imm fixup (inl e) h = ap (λ (k : Kind). half_immediate k (Number n)) e ∙ hi n imm fixup (subst (λ (k : Kind). IsHalfOf k (Number n) imm fixup) e h)
-  where
-    hi : (n imm : ℕ) (fixup : Option Fixup) → IsHalfOf Hi16 (Number n) imm fixup → half_immediate Hi16 (Number n) ≡ record { imm = imm; fixup = fixup }
-    hi n imm fixup h = same_immediate (n / 65536) imm None fixup (sym h.0) (sym h.1)
-half_of_is kind (Number n) imm fixup (inr e) h = ap (λ (k : Kind). half_immediate k (Number n)) e ∙ lo n imm fixup (subst (λ (k : Kind). IsHalfOf k (Number n) imm fixup) e h)
-  where
-    lo : (n imm : ℕ) (fixup : Option Fixup) → IsHalfOf Lo16 (Number n) imm fixup → half_immediate Lo16 (Number n) ≡ record { imm = imm; fixup = fixup }
-    lo n imm fixup h = same_immediate (n % 65536) imm None fixup (sym h.0) (sym h.1)
-half_of_is kind (Symbol f) imm fixup (inl e) h = let k : IsHalfOf Hi16 (Symbol f) imm fixup = subst (λ (k : Kind). IsHalfOf k (Symbol f) imm fixup) e h in same_immediate 0 imm (Some f) fixup (sym k.0) (sym k.1)
-half_of_is kind (Symbol f) imm fixup (inr e) h = let k : IsHalfOf Lo16 (Symbol f) imm fixup = subst (λ (k : Kind). IsHalfOf k (Symbol f) imm fixup) e h in same_immediate 0 imm (Some f) fixup (sym k.0) (sym k.1)
+half_of_is : (kind : Kind) (v : Value) (imm : ℕ) (fixup : Option Fixup) → IsHalfOf kind v imm fixup → half_immediate kind v ≡ record { imm = imm; fixup = fixup }
+half_of_is Hi16 (Number n) imm fixup h = same_immediate (n / 65536) imm None fixup (sym h.0) (sym h.1)
+half_of_is Lo16 (Number n) imm fixup h = same_immediate (n % 65536) imm None fixup (sym h.0) (sym h.1)
+half_of_is _ (Number n) imm fixup h = absurd h
+half_of_is _ (Symbol f) imm fixup h = same_immediate 0 imm (Some f) fixup (sym h.0) (sym h.1)
 
 kinds_only : (name : List ℕ) (kind : Kind) → half_named name ≡ Some kind → (kind ≡ Hi16) ⊎ (kind ≡ Lo16)
 kinds_only name kind h = elim (half_names name kind h) [ inl j ↦ inl j.1 | inr j ↦ inr j.1 ]
@@ -79,35 +74,30 @@ IsImmediateOf ps x = IsImmediate ps x.imm x.fixup
 abbrev Inside : Kind → (Immediate → Body) → List Piece → Body → Type 0
 Inside kind made ps b = (v : Value) × (front : List Piece) × (c : Piece) × (ps ≡ front ++ c ∷ []) × IsValue kind front v × IsMark 41 c × (made (half_immediate kind v) ≡ b)
 
-closing : (line e : ℕ) (b : Body) → Walk line e (λ s. mark_at 41 s >>= end_with b) (λ ps c. AfterMark 41 (λ qs. (qs ≡ []) × (b ≡ c)) ps)
-closing line e b = mark_walk 41 line e (end_with b) (λ qs c. (qs ≡ []) × (b ≡ c)) refl refl (end_walk line e b)
+inside_start : (few line e : ℕ) (kind : Kind) (made : Immediate → Body) → Start few true symbols line e (half_inside kind (λ x. end_with (made x))) (Inside kind made)
+inside_start few line e kind made =
+    start_as (half_inside kind (λ x. end_with (made x))) (Inside kind made) (λ ps. refl) (λ ps b. (to ps b, λ w. record { value = w.0; front = w.1; rest = w.2 ∷ []; tokens = w.3; is = w.4; next = (w.2, [], refl, w.5, (refl, w.6)) }))
+    (value_start kind (λ v s. mark_at 41 s >>= end_with (made (half_immediate kind v))) Closed (λ v. mark_start 41 refl refl (begun (end_start few line e (made (half_immediate kind v))))) (λ v ps b w. mark_unsigned 41 w.0 ps w.1 w.2 w.3 refl refl))
+  where
+    Closed : Value → List Piece → Body → Type 0
+    Closed v ps b = AfterMark 41 (λ qs. Ends made (half_immediate kind v) qs b) ps
 
-inside_read : (kind : Kind) (line e : ℕ) (made : Immediate → Body) (ps : List Piece) (b : Body) → half_inside kind (λ x. end_with (made x)) (st line e ps) ≡ Ok b → Inside kind made ps b
-inside_read kind line e made ps b h =
-    let k = bind_ok (value_at kind (st line e ps)) (λ (v : Value × ReaderState). mark_at 41 v.1 >>= end_with (made (half_immediate kind v.0))) b h in
-    let w = value_read kind line e ps k.0 k.1 in
-    let m = ((closing line e (made (half_immediate kind k.0.0))).0 w.rest b).0 (ap (λ (t : ReaderState). mark_at 41 t >>= end_with (made (half_immediate kind k.0.0))) (sym w.after) ∙ k.2) in
-    (k.0.0, w.front, m.0, w.tokens ∙ ap (λ (qs : List Piece). w.front ++ qs) (m.2 ∙ ap (λ (qs : List Piece). m.0 ∷ qs) m.4.0), w.is, m.3, m.4.1)
-
-inside_again : (kind : Kind) (line e : ℕ) (made : Immediate → Body) (ps : List Piece) (b : Body) → Inside kind made ps b → half_inside kind (λ x. end_with (made x)) (st line e ps) ≡ Ok b
-inside_again kind line e made ps b w =
-    let front = w.1 in
-    let c = w.2 in
-    let u : IsUnsigned (c ∷ []) = (ap (λ (m : TokenValue). is_mark_of 43 (Some m)) w.5, ap (λ (m : TokenValue). is_mark_of 45 (Some m)) w.5) in
-    ap (λ (qs : List Piece). half_inside kind (λ x. end_with (made x)) (st line e qs)) w.3
-    ∙ bind_to (value_at kind (st line e (front ++ c ∷ []))) (λ (v : Value × ReaderState). mark_at 41 v.1 >>= end_with (made (half_immediate kind v.0))) (w.0, st line e (c ∷ [])) (Ok b) (value_again kind line e front (c ∷ []) w.0 w.4 u)
-    (((closing line e (made (half_immediate kind w.0))).0 (c ∷ []) b).1 (c, [], refl, w.5, (refl, w.6)))
+    to : (ps : List Piece) (b : Body) → Several Value (IsValue kind) (λ v qs. Closed v qs b) ps → Inside kind made ps b
+    to ps b w = let n = w.next in (w.value, w.front, n.0, w.tokens ∙ ap (λ (qs : List Piece). w.front ++ qs) (n.2 ∙ ap (λ (qs : List Piece). n.0 ∷ qs) n.4.0), w.is, n.3, n.4.1)
 
 abbrev short_immediate : ℕ → Immediate
 short_immediate n = record { imm = n; fixup = None }
 
-pub immediate_walk : (line e : ℕ) (made : Immediate → Body) → Walk line e (ended immediate_at made) (Last Immediate IsImmediateOf made)
+pub immediate_walk : (few line e : ℕ) (made : Immediate → Body) → Walk few line e (ended immediate_at made) (Last Immediate IsImmediateOf made)
 unfolding immediate_at
-immediate_walk line e made = (
-  λ ps b. (reads ps b, λ w. meets ps b w.0.imm w.0.fixup w.1 w.2),
-  λ few. good few true own_names line e (reader_of line e immediate_at (λ x. end_with (made x))) (immediate_node few Body line e (λ x. end_with (made x)) (λ x. end_good few line e (made x))),
-)
+immediate_walk few line e made = record {
+  law = λ ps b l. (reads ps b, λ w. meets ps b w.0.imm w.0.fixup w.1 w.2);
+  faults = good few true own_names line e (reader_of line e immediate_at (λ x. end_with (made x))) (immediate_node few Body line e (λ x. end_with (made x)) (λ x. (begun (end_start few line e (made x))).faults) (λ kind. (begun (inside_start few line e kind made)).faults));
+}
   where
+    inside : (kind : Kind) (ps : List Piece) (b : Body) → (half_inside kind (λ x. end_with (made x)) (st line e ps) ≡ Ok b) ↔ Inside kind made ps b
+    inside kind = lawful (λ n. begun (inside_start n line e kind made))
+
     shorter : (p : Piece) (ps : List Piece) (m : TokenValue) → p.says ≡ m → half_on (Some m) (says_first ps) ≡ None → ended immediate_at made (st line e (p ∷ ps)) ≡ (short_on (st line e (p ∷ ps)) (Some m) >>= λ (x : Immediate × ReaderState). end_with (made x.0) x.1)
     shorter p ps m h n = short_step Body line e (λ x. end_with (made x)) p ps m h n
 
@@ -115,7 +105,7 @@ immediate_walk line e made = (
     by_half p text kind h n [] b x = let y = sym (shorter p [] (a_name text) h refl) ∙ x in absurd cc
     by_half p text kind h n (q ∷ ps) b x = elim (tested (is_mark_of 40 (Some q.says))) [
       | inl t ↦
-          let w = inside_read kind line e made ps b (sym (half_taken Body line e kind p q ps text (λ z. end_with (made z)) h n t) ∙ x) in
+          let w = (inside kind ps b).0 (sym (half_taken Body line e kind p q ps text (λ z. end_with (made z)) h n t) ∙ x) in
           (half_immediate kind w.0, half w.1 w.2 text kind w.0 h n (mark_says 40 q.says t) w.3 w.4 w.5 (half_is_of kind w.0 (kinds_only text kind n)), w.6)
       | inr t ↦ let y = sym (shorter p (q ∷ ps) (a_name text) h (take_else (is_mark_of 40 (Some q.says)) _ _ t)) ∙ x in absurd cc
     ]
@@ -127,7 +117,7 @@ immediate_walk line e made = (
     by_number : (p : Piece) (ps : List Piece) (n : ℕ) (b : Body) (t : Bool) → nat_le n 65535 ≡ t → IsNumber n p
         → ((if t then Ok (short_immediate n, st line e ps) else Err (record { line = line; col = p.col; kind = OutOfRange })) >>= λ (x : Immediate × ReaderState). end_with (made x.0) x.1) ≡ Ok b → Last Immediate IsImmediateOf made (p ∷ ps) b
     by_number p ps n b true t h x =
-        let k = ((end_walk line e (made (short_immediate n))).0 ps b).0 x in
+        let k = (end_law line e (made (short_immediate n)) ps b).0 x in
         let l = leb-true n 65535 t in
         (short_immediate n, subst (λ (qs : List Piece). IsImmediate (p ∷ qs) n None) (sym k.0) (short h (omega arith)), k.1)
     by_number p ps n b false t h x = absurd cc
@@ -146,10 +136,10 @@ immediate_walk line e made = (
     meets ps b imm fixup (short {p = p} h l) w =
         shorter p [] (a_number imm) h refl
         ∙ ap (λ (r : Read Immediate). r >>= λ (x : Immediate × ReaderState). end_with (made x.0) x.1) (take_then (nat_le imm 65535) _ _ (le-leb imm 65535 (omega (arith, l))))
-        ∙ ((end_walk line e (made (short_immediate imm))).0 [] b).1 (refl, w)
-    meets ps b imm fixup (half {h = p} {o = o} {ps = qs} inside c name kind v n k a t i d g) w =
+        ∙ (end_law line e (made (short_immediate imm)) [] b).1 (refl, w)
+    meets ps b imm fixup (half {h = p} {o = o} {ps = qs} front c name kind v n k a t i d g) w =
         half_taken Body line e kind p o qs name (λ z. end_with (made z)) n k (next_again 40 line e o qs a)
-        ∙ inside_again kind line e made qs b (v, inside, c, t, i, d, ap made (half_of_is kind v imm fixup (kinds_only name kind k) g) ∙ w)
+        ∙ (inside kind qs b).1 (v, front, c, t, i, d, ap made (half_of_is kind v imm fixup g) ∙ w)
 
 -- a register or an immediate
 
@@ -165,15 +155,15 @@ no_register : (line e : ℕ) (ps : List Piece) (imm : ℕ) (fixup : Option Fixup
 no_register line e ps imm fixup (short {p = p} h l) = ap (λ (m : TokenValue). register_in (Some m)) h
 no_register line e ps imm fixup (half inside c name kind v n k a t b d h) = ap (λ (m : TokenValue). register_in (Some m)) n ∙ ap (option_map reg_of) (half_no_register name kind k)
 
-pub operand_walk : (line e : ℕ) (made : Operand → Body) → Walk line e (ended operand_at made) (Last Operand IsOperandOf made)
+pub operand_walk : (few line e : ℕ) (made : Operand → Body) → Walk few line e (ended operand_at made) (Last Operand IsOperandOf made)
 unfolding register_of
-operand_walk line e made = (
-  λ ps b. (reads ps b (register_in (first (st line e ps))) refl, λ w. meets ps b w.0 w.1 w.2),
-  λ few. good few true own_names line e (reader_of line e operand_at (λ x. end_with (made x))) (operand_node few Body line e (λ x. end_with (made x)) (λ x. end_good few line e (made x))),
-)
+operand_walk few line e made = record {
+  law = λ ps b l. (reads ps b (register_in (first (st line e ps))) refl, λ w. meets ps b w.0 w.1 w.2);
+  faults = good few true own_names line e (reader_of line e operand_at (λ x. end_with (made x))) (operand_node few Body line e (λ x. end_with (made x)) (λ x. (begun (end_start few line e (made x))).faults) (λ kind. (begun (inside_start few line e kind (λ x. made (operand.Immediate x)))).faults));
+}
   where
     immediates : (ps : List Piece) (b : Body) → (ended immediate_at (λ x. made (operand.Immediate x)) (st line e ps) ≡ Ok b) ↔ Last Immediate IsImmediateOf (λ x. made (operand.Immediate x)) ps b
-    immediates = (immediate_walk line e (λ x. made (operand.Immediate x))).0
+    immediates = lawful (λ n. immediate_walk n line e (λ x. made (operand.Immediate x)))
 
     named_register : (p : Piece) (r : Reg) (m : TokenValue) → p.says ≡ m → register_in (Some m) ≡ Some r → IsRegister r p
     named_register p r (a_name text) h k = register_found p text r h (register_of text) refl k
@@ -185,7 +175,7 @@ operand_walk line e made = (
     reads ps b None h x = let k = (immediates ps b).0 (sym (operand_immediate Body line e (λ z. end_with (made z)) ps h) ∙ x) in (operand.Immediate k.0, k.1, k.2)
     reads [] b (Some r) h x = absurd cc
     reads (p ∷ ps) b (Some r) h x =
-        let k = ((end_walk line e (made (operand.Register r))).0 ps b).0 (sym (operand_register Body line e (λ z. end_with (made z)) (p ∷ ps) r h) ∙ x) in
+        let k = (end_law line e (made (operand.Register r)) ps b).0 (sym (operand_register Body line e (λ z. end_with (made z)) (p ∷ ps) r h) ∙ x) in
         (operand.Register r, subst (λ (qs : List Piece). IsLast r (p ∷ qs)) (sym k.0) (named_register p r p.says refl h), k.1)
 
     meets : (ps : List Piece) (b : Body) (x : Operand) → IsOperandOf ps x → made x ≡ b → ended operand_at made (st line e ps) ≡ Ok b
@@ -193,7 +183,7 @@ operand_walk line e made = (
     meets (p ∷ []) b (operand.Register r) h k =
         operand_register Body line e (λ z. end_with (made z)) (p ∷ []) r
         (ap (λ (m : TokenValue). register_in (Some m)) h.2 ∙ ap (option_map reg_of) (register_name_again h.0 h.1 h.3) ∙ ap (λ (v : Reg). let y : Option Reg = Some v in y) (sym h.4))
-        ∙ ((end_walk line e (made (operand.Register r))).0 [] b).1 (refl, k)
+        ∙ (end_law line e (made (operand.Register r)) [] b).1 (refl, k)
     meets (p ∷ q ∷ ps) b (operand.Register r) h k = absurd h
     meets ps b (operand.Immediate x) h k = operand_immediate Body line e (λ z. end_with (made z)) ps (no_register line e ps x.imm x.fixup h) ∙ (immediates ps b).1 (x, h, k)
 

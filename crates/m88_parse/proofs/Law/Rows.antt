@@ -15,7 +15,7 @@ use Rattle.m88_parse.specs.Language.Names.{IsNamed, IsSymbol}
 use Rattle.m88_parse.specs.Language.Statements.{IsBody, text, data_section, at, word, half, byte, ascii, zeros, align, global, set, code, IsLabel, BeginsWithNoColon, IsStatement, unlabelled, labelled, label_alone, IsHead, head}
 use Rattle.m88_parse.specs.Language.Units.{Said, says_nothing, says, begins, LineSays, empty_line, statement_line, module_line}
 use Rattle.m88_parse.proofs.Law.Steps.{chosen, tested, take_then, take_else}
-use Rattle.m88_parse.proofs.Law.Slots.{st, ok_same, bind_ok, bind_to, mark_says, end_read, one_any_name, one_symbol, slot_again, slot_read}
+use Rattle.m88_parse.proofs.Law.Slots.{st, ok_same, bind_ok, bind_to, mark_says, end_read, IsAnyName, one_any_name, one_symbol, slot_again, slot_read}
 use Rattle.m88_parse.proofs.Law.Bodies.{operation_read, body_again}
 
 -- the row that says it
@@ -72,16 +72,19 @@ head_named (a_mark b) h = absurd cc
 abbrev pub made_head : ℕ → List ℕ × ReaderState → ReaderState → Result Row ParseFault
 made_head line name t = Ok (row.Head name.0 line)
 
-head_read : (line e : ℕ) (p : Piece) (ps : List Piece) (r : Row) → IsNamed (codes ".module") p → head_at (st line e (p ∷ ps)) ≡ Ok r → Stated line (p ∷ ps) r
+pub head_tokens : (line e : ℕ) (p : Piece) (ps : List Piece) (r : Row) → head_at (st line e (p ∷ ps)) ≡ Ok r → (q : Piece) × (name : List ℕ) × (ps ≡ q ∷ []) × IsAnyName name q × (row.Head name line ≡ r)
 unfolding head_at
-head_read line e p ps r n h =
+head_tokens line e p ps r h =
     let b = bind_ok (any_name_at (st line e ps)) (λ (name : List ℕ × ReaderState). line_end_at name.1 >>= made_head line name) r h in
     let o = slot_read (one_any_name line e) ps b.0 b.1 in
     let d = bind_ok (line_end_at b.0.1) (made_head line b.0) r b.2 in
     let z = end_read line e o.rest d.0 (ap line_end_at (sym o.after) ∙ d.1) in
-    let t : ps ≡ o.piece ∷ [] = o.tokens ∙ ap (λ (qs : List Piece). o.piece ∷ qs) z in
-    subst (λ (qs : List Piece). Stated line (p ∷ qs) r) (sym t)
-    (record { said = begins b.0.0; line_says = module_line (head n o.is.0 o.is.1); row_is = ap (λ (x : Row). let y : Option Row = Some x in y) (ok_same d.2) })
+    (o.piece, b.0.0, o.tokens ∙ ap (λ (qs : List Piece). o.piece ∷ qs) z, o.is, ok_same d.2)
+
+head_read : (line e : ℕ) (p : Piece) (ps : List Piece) (r : Row) → IsNamed (codes ".module") p → head_at (st line e (p ∷ ps)) ≡ Ok r → Stated line (p ∷ ps) r
+head_read line e p ps r n h =
+    let w = head_tokens line e p ps r h in
+    subst (λ (qs : List Piece). Stated line (p ∷ qs) r) (sym w.2) (record { said = begins w.1; line_says = module_line (head n w.3.0 w.3.1); row_is = ap (λ (x : Row). let y : Option Row = Some x in y) w.4 })
 
 -- a statement with no label
 

@@ -8,7 +8,7 @@ use Rattle.m88_parse.specs.Reader.Tokens.{Cut, front, prepend, fault_at, pieces,
 use Rattle.m88_parse.specs.Language.Bytes.{is_blank, is_comment}
 use Rattle.m88_parse.specs.Language.Pieces.{TokenValue, a_name, a_number, a_text, a_mark, Piece}
 use Rattle.m88_base.specs.Name.{IsName}
-use Rattle.m88_parse.specs.Language.Tokens.{IsNumeral, IsGap, IsTail, AreNameBytes, BeginsWithNoNameByte, IsToken, AreTokens, LineTokens}
+use Rattle.m88_parse.specs.Language.Tokens.{Begins, IsNumeral, IsGap, IsTail, AreNameBytes, BeginsWithNoNameByte, IsToken, AreTokens, LineTokens}
 use Rattle.m88_parse.proofs.Pieces.{cut_off, fault_front}
 use Rattle.m88_parse.proofs.Law.Steps.{both}
 use Rattle.m88_parse.proofs.Law.Fronts.{front_again, front_blank, front_comment, TokenAt, Stands, comment_stands, blank_stands, token_stands, front_stands}
@@ -73,6 +73,21 @@ prepended : (m : TokenValue) (col : ℕ) (text : List ℕ) (r : Result (List Pie
 prepended m col text (Ok qs) ps h = (qs, refl, cc)
 prepended m col text (Err f) ps h = absurd cc
 
+-- a blank more before a token, and a token at the very front
+
+pub blank_begins : (col b : ℕ) (bs : List ℕ) (p : Piece) (rest : List ℕ) → is_blank b ≡ true → Begins (col + 1) bs p rest → Begins col (b ∷ bs) p rest
+blank_begins col b bs p rest w x = record {
+  gap = b ∷ x.gap;
+  bytes_are = ap (λ (xs : List ℕ). b ∷ xs) x.bytes_are;
+  blank = ap (λ (t : Bool). t && list_all is_blank x.gap) w ∙ x.blank;
+  place = omega (arith, x.place);
+  token = x.token;
+  longest = x.longest;
+}
+
+pub token_begins : (col : ℕ) (bytes : List ℕ) (c : Cut) (t : TokenAt bytes c) → Begins col bytes (record { text = take c.len bytes; col = col; says = t.meaning }) (drop c.len bytes)
+token_begins col bytes c t = record { gap = []; bytes_are = sym (take-append-drop c.len bytes); blank = refl; place = omega arith; token = t.token; longest = t.longest }
+
 blank_before : (col b : ℕ) (bs : List ℕ) (ps : List Piece) → is_blank b ≡ true → AreTokens (col + 1) bs ps → AreTokens col (b ∷ bs) ps
 blank_before col b bs [] w h = record {
   gap = b ∷ h.gap;
@@ -81,19 +96,7 @@ blank_before col b bs [] w h = record {
   blank = ap (λ (t : Bool). t && list_all is_blank h.gap) w ∙ h.blank;
   comment = h.comment;
 }
-blank_before col b bs (p ∷ ps) w h =
-    let x = h.1 in (
-      h.0,
-      record {
-        gap = b ∷ x.gap;
-        bytes_are = ap (λ (xs : List ℕ). b ∷ xs) x.bytes_are;
-        blank = ap (λ (t : Bool). t && list_all is_blank x.gap) w ∙ x.blank;
-        place = omega (arith, x.place);
-        token = x.token;
-        longest = x.longest;
-      },
-      h.2,
-    )
+blank_before col b bs (p ∷ ps) w h = (h.0, blank_begins col b bs p h.0 w h.1, h.2)
 
 -- one step of a line that isn't empty
 abbrev Related : ℕ → ℕ → Type 0
@@ -114,14 +117,7 @@ token_first fuel line col bytes c ps ih s t h =
     let after = ih (col + c.len) (drop c.len bytes) q.0 shorter q.1 in
     subst (AreTokens col bytes) q.2 (
       drop c.len bytes,
-      record {
-        gap = [];
-        bytes_are = sym (take-append-drop c.len bytes);
-        blank = refl;
-        place = omega arith;
-        token = t.token;
-        longest = t.longest;
-      },
+      token_begins col bytes c t,
       subst (λ (n : ℕ). AreTokens (col + n) (drop c.len bytes) q.0) (sym l) after,
     )
 

@@ -1,35 +1,24 @@
--- The law of operands of several tokens: numbers with a sign, symbols with what is added to them, and halves of values.
-use Rattle.std.proofs.Common.{◌≡◌, ℕ, ◌≤◌, true, false, ◌==◌, nat_le, ◌⊎◌, inl, inr, List, [], ◌∷◌, ◌++◌, Option, Some, None, Ok, Err, refl, sym, ap, ◌∙◌, arith, subst, eqb-true, leb-true, le-leb}
+-- Operands of several tokens, each walked once with whatever stands behind it: numbers with a sign, symbols with what is added
+-- to them, and values.
+use Rattle.std.proofs.Common.{◌≡◌, ◌↔◌, ℕ, ◌≤◌, ◌<◌, Bool, true, false, nat_le, if◌then◌else◌, ◌⊎◌, inl, inr, List, [], ◌∷◌, ◌++◌, length, Some, Ok, Err, Result, refl, sym, ap, ◌∙◌, arith, subst, leb-true, le-leb}
 use Rattle.m88_base.specs.declared.fixup.Kind.{Kind}
 use Rattle.m88_base.specs.declared.fixup.Fixup.{Fixup}
+use Rattle.m88_parse.specs.declared.fault.ParseKind.TheVariants.{Syntax, OutOfRange}
+use Rattle.m88_parse.specs.declared.fault.ParseFault.{ParseFault}
 use Rattle.m88_parse.specs.declared.unit.Value.{Value}
 use Rattle.m88_parse.specs.declared.unit.Value.TheVariants.{Number, Symbol}
 use Rattle.m88_parse.specs.Language.Pieces.{TokenValue, a_name, a_number, a_text, a_mark, Piece}
-use Rattle.m88_parse.specs.Reader.State.{ReaderState, first, past, is_mark_of, is_next_mark, ◌>>=◌}
+use Rattle.m88_parse.specs.Reader.State.{ReaderState, first, is_mark_of, ◌>>=◌}
 use Rattle.m88_parse.specs.Reader.Slots.{Read, negated, negative_on, unsigned_at, signed_at, symbol_at, addend_at, fixup_at, value_on, value_at}
-use Rattle.m88_parse.specs.Language.Names.{IsMark, IsNumber}
-use Rattle.m88_parse.specs.Language.Operands.{minus, IsSigned, IsSymbolOf, IsAddend, IsFixup, IsValue}
-use Rattle.m88_parse.proofs.Law.Steps.{chosen, take_then, take_else}
-use Rattle.m88_parse.proofs.Law.Slots.{st, ok_same, bind_ok, bind_to, One, mark_says, next_is, next_again, IsUpTo, IsSymbolAt, one_number, one_symbol, slot_again, slot_read}
-
--- several tokens, what they give, and what is left
-pub record Several (A : Type 0) (Is : List Piece → A → Type 0) (line e : ℕ) (ps : List Piece) (x : A × ReaderState) : Type 0 where
-  pub front : List Piece
-  pub rest : List Piece
-  pub tokens : ps ≡ front ++ rest
-  pub is : Is front x.0
-  pub after : x.1 ≡ st line e rest
-
-pub several : (A : Type 0) (Is : List Piece → A → Type 0) (line e : ℕ) (ps front rest : List Piece) (v : A) (x : A × ReaderState) → ps ≡ front ++ rest → Is front v → (v, st line e rest) ≡ x → Several A Is line e ps x
-several A Is line e ps front rest v x t h k = subst (Several A Is line e ps) k (record { front = front; rest = rest; tokens = t; is = h; after = refl })
-
--- what is read by a slot and then changed
-pub several_as : (A C : Type 0) (Is : List Piece → A → Type 0) (As : List Piece → C → Type 0) (f : A → C) (line e : ℕ) (ps : List Piece) (r : Read A) (x : C × ReaderState) → ((y : A × ReaderState) → r ≡ Ok y → Several A Is line e ps y)
-    → ((front : List Piece) (v : A) → Is front v → As front (f v)) → (r >>= λ (y : A × ReaderState). let z : Read C = Ok (f y.0, y.1) in z) ≡ Ok x → Several C As line e ps x
-several_as A C Is As f line e ps (Ok y) x reads made h =
-    let w = reads y refl in
-    several C As line e ps w.front w.rest (f y.0) x w.tokens (made w.front y.0 w.is) (ap (λ (u : ReaderState). let z : C × ReaderState = (f y.0, u) in z) (sym w.after) ∙ ok_same h)
-several_as A C Is As f line e ps (Err k) x reads made h = absurd cc
+use Rattle.m88_parse.specs.Language.Names.{IsMark, IsNumber, IsNamed}
+use Rattle.m88_parse.specs.Language.Operands.{IsSigned, IsFixup, IsValue}
+use Rattle.m88_parse.proofs.Law.Steps.{take_then, take_else}
+use Rattle.m88_parse.proofs.Law.Slots.{st, no_name, symbols, saying, mark_says, IsUpTo, IsSymbolAt, one_number, one_symbol}
+use Rattle.m88_parse.proofs.Law.Walks.{Then, Several, AfterMark, Walk, Start, begun, slot_start, start_as, lead_start, IsUnsigned, AfterSign, sign_start, unnamed, named_start}
+use Rattle.m88_parse.proofs.Law.LineFaults.Readers.{fault_in, Goes}
+use Rattle.m88_parse.proofs.Law.LineFaults.Nodes.{Leads}
+use Rattle.m88_parse.proofs.Law.LineFaults.Slots.{mapped, turns, NoName, number_is, text_is, mark_is}
+use Rattle.m88_parse.proofs.Law.LineFaults.Signs.{sign_leads}
 
 -- a number with a sign of its own
 
@@ -38,52 +27,96 @@ IsWhole low most (p ∷ []) v = IsNumber v p × (v ≤ most)
 IsWhole low most (m ∷ p ∷ []) v = IsMark 45 m × ((n : ℕ) × IsNumber n p × (n ≤ low) × (v ≡ negated n))
 IsWhole low most ps v = ⊥
 
-negative_by : (low most line e : ℕ) (m p : Piece) (ps : List Piece) (o : TokenValue) (x : ℕ × ReaderState) → IsMark 45 m → p.says ≡ o
-    → negative_on low (st line e (m ∷ p ∷ ps)) (st line e (p ∷ ps)) (Some o) ≡ Ok x → Several ℕ (IsWhole low most) line e (m ∷ p ∷ ps) x
-negative_by low most line e m p ps (a_name text) x k l h = absurd cc
-negative_by low most line e m p ps (a_number n) x k l h =
-    elim (chosen (nat_le n low) _ _ _ h) [
-      | inl j ↦ several ℕ (IsWhole low most) line e (m ∷ p ∷ ps) (m ∷ p ∷ []) ps (negated n) x refl (k, (n, l, leb-true n low j.0, refl)) (ok_same j.1)
-      | inr j ↦ absurd cc
-    ]
-negative_by low most line e m p ps (a_text bytes) x k l h = absurd cc
-negative_by low most line e m p ps (a_mark b) x k l h = absurd cc
+-- by its first token: a - with a number behind it, or a number
+abbrev Signed : {B : Type 0} → ℕ → ℕ → (ℕ → List Piece → B → Type 0) → List Piece → B → Type 0
+Signed low most Next ps b = AfterMark 45 (λ qs. Then ℕ (IsUpTo low) (λ n us. Next (negated n) us b) qs) ps ⊎ Then ℕ (IsUpTo most) (λ n qs. Next n qs b) ps
 
-negative_read : (low most line e : ℕ) (m : Piece) (ps : List Piece) (x : ℕ × ReaderState) → IsMark 45 m
-    → negative_on low (st line e (m ∷ ps)) (st line e ps) (first (st line e ps)) ≡ Ok x → Several ℕ (IsWhole low most) line e (m ∷ ps) x
-negative_read low most line e m [] x k h = absurd cc
-negative_read low most line e m (p ∷ ps) x k h = negative_by low most line e m p ps p.says x k refl h
-
-whole_of_one : (low most line e : ℕ) (ps : List Piece) (x : ℕ × ReaderState) → One ℕ (IsUpTo most) line e ps x → Several ℕ (IsWhole low most) line e ps x
-whole_of_one low most line e ps x o = record { front = o.piece ∷ []; rest = o.rest; tokens = o.tokens; is = o.is; after = o.after }
-
-pub whole_read : (low most line e : ℕ) (ps : List Piece) (x : ℕ × ReaderState) → signed_at low most (st line e ps) ≡ Ok x → Several ℕ (IsWhole low most) line e ps x
-unfolding signed_at unsigned_at
-whole_read low most line e [] x h = absurd cc
-whole_read low most line e (p ∷ ps) x h =
-    elim (chosen (is_next_mark 45 (st line e (p ∷ ps))) _ _ _ h) [
-      | inl j ↦ negative_read low most line e p ps x (mark_of_next line e p ps j.0) j.1
-      | inr j ↦ whole_of_one low most line e (p ∷ ps) x (slot_read (one_number most line e) (p ∷ ps) x j.1)
-    ]
-  where
-    mark_of_next : (line e : ℕ) (p : Piece) (ps : List Piece) → is_next_mark 45 (st line e (p ∷ ps)) ≡ true → IsMark 45 p
-    mark_of_next line e p ps k = mark_says 45 p.says k
-
-pub whole_again : (low most line e : ℕ) (front rest : List Piece) (v : ℕ) → IsWhole low most front v → signed_at low most (st line e (front ++ rest)) ≡ Ok (v, st line e rest)
-unfolding signed_at unsigned_at
-whole_again low most line e [] rest v h = absurd h
-whole_again low most line e (p ∷ []) rest v h =
-    take_else (is_next_mark 45 (st line e (p ∷ rest))) _ _ (ap (λ (m : TokenValue). is_mark_of 45 (Some m)) h.0) ∙ slot_again (one_number most line e) v p rest h
-whole_again low most line e (m ∷ p ∷ []) rest v h =
-    let s = st line e (m ∷ p ∷ rest) in
+whole_signed : {B : Type 0} (low most : ℕ) (Next : ℕ → List Piece → B → Type 0) (b : B) (ps front rest : List Piece) (v : ℕ) → ps ≡ front ++ rest → IsWhole low most front v → Next v rest b → Signed low most Next ps b
+whole_signed low most Next b ps [] rest v t h k = absurd h
+whole_signed low most Next b ps (p ∷ []) rest v t h k = inr (record { value = v; piece = p; rest = rest; tokens = t; is = h; next = k })
+whole_signed low most Next b ps (m ∷ p ∷ []) rest v t h k =
     let n = h.1 in
-    take_then (is_next_mark 45 s) _ _ (next_again 45 line e m (p ∷ rest) h.0)
-    ∙ ap (λ (o : TokenValue). negative_on low s (past s) (Some o)) n.1
-    ∙ take_then (nat_le n.0 low) _ _ (le-leb n.0 low n.2)
-    ∙ ap (λ (k : ℕ). let y : Read ℕ = Ok (k, st line e rest) in y) (sym n.3)
-whole_again low most line e (p ∷ q ∷ r ∷ ps) rest v h = absurd h
+    inl (m, p ∷ rest, t, h.0, record { value = n.0; piece = p; rest = rest; tokens = refl; is = (n.1, n.2); next = subst (λ (z : ℕ). Next z rest b) n.3 k })
+whole_signed low most Next b ps (p ∷ q ∷ r ∷ front) rest v t h k = absurd h
 
--- a number with a sign, modulo 2^32, 2^16 and 2^8
+signed_whole : {B : Type 0} (low most : ℕ) (Next : ℕ → List Piece → B → Type 0) (b : B) (ps : List Piece) → Signed low most Next ps b → Several ℕ (IsWhole low most) (λ n qs. Next n qs b) ps
+signed_whole low most Next b ps (inl w) =
+    let n = w.4 in
+    record { value = negated n.value; front = w.0 ∷ n.piece ∷ []; rest = n.rest; tokens = w.2 ∙ ap (λ (qs : List Piece). w.0 ∷ qs) n.tokens; is = (w.3, (n.value, n.is.0, n.is.1, refl)); next = n.next }
+signed_whole low most Next b ps (inr n) = record { value = n.value; front = n.piece ∷ []; rest = n.rest; tokens = n.tokens; is = n.is; next = n.next }
+
+pub signed_start : {B : Type 0} {few line e : ℕ} (low most : ℕ) (next : ℕ → ReaderState → Result B ParseFault) (Next : ℕ → List Piece → B → Type 0) → ((n : ℕ) → Walk few line e (next n) (Next n))
+    → Start few true no_name line e (λ s. signed_at low most s >>= λ (x : ℕ × ReaderState). next x.0 x.1) (λ ps b. Several ℕ (IsWhole low most) (λ n qs. Next n qs b) ps)
+unfolding signed_at unsigned_at
+signed_start {B = B} {few = few} {line = line} {e = e} low most next Next go =
+    start_as all (λ ps b. Several ℕ (IsWhole low most) (λ n qs. Next n qs b) ps) (λ ps. refl) (λ ps b. (signed_whole low most Next b ps, λ w. whole_signed low most Next b ps w.front w.rest w.value w.tokens w.is w.next))
+    (lead_start 45 all refl begins by_sign turned (λ p ps t. bound (take_else (is_mark_of 45 (Some p.says)) _ _ t)) refl (slot_start (one_number most line e) next Next go)
+    (λ p ps b w. let h = w.tokens in let same : p ≡ w.piece = cc in ap (λ (q : Piece). is_mark_of 45 (Some q.says)) same ∙ ap (λ (m : TokenValue). is_mark_of 45 (Some m)) w.is.0))
+  where
+    all : ReaderState → Result B ParseFault
+    all s = signed_at low most s >>= λ (x : ℕ × ReaderState). next x.0 x.1
+
+    bound : {q r : Read ℕ} → q ≡ r → (q >>= λ (x : ℕ × ReaderState). next x.0 x.1) ≡ (r >>= λ (x : ℕ × ReaderState). next x.0 x.1)
+    bound h = ap (λ (r : Read ℕ). r >>= λ (x : ℕ × ReaderState). next x.0 x.1) h
+
+    behind : (m : Piece) (ps : List Piece) → is_mark_of 45 (Some m.says) ≡ true → all (st line e (m ∷ ps)) ≡ (negative_on low (st line e (m ∷ ps)) (st line e ps) (first (st line e ps)) >>= λ (x : ℕ × ReaderState). next x.0 x.1)
+    behind m ps t = bound (take_then (is_mark_of 45 (Some m.says)) _ _ t)
+
+    number : (m q : Piece) (ps : List Piece) (n : ℕ) → is_mark_of 45 (Some m.says) ≡ true → IsNumber n q
+        → all (st line e (m ∷ q ∷ ps)) ≡ ((if nat_le n low then Ok (negated n, st line e ps) else Err (record { line = line; col = m.col; kind = OutOfRange })) >>= λ (x : ℕ × ReaderState). next x.0 x.1)
+    number m q ps n t i = behind m (q ∷ ps) t ∙ ap (λ (o : TokenValue). negative_on low (st line e (m ∷ q ∷ ps)) (st line e (q ∷ ps)) (Some o) >>= λ (x : ℕ × ReaderState). next x.0 x.1) i
+
+    small : (m q : Piece) (ps : List Piece) (n : ℕ) → is_mark_of 45 (Some m.says) ≡ true → IsNumber n q → nat_le n low ≡ true → all (st line e (m ∷ q ∷ ps)) ≡ next (negated n) (st line e ps)
+    small m q ps n t i l = number m q ps n t i ∙ bound (take_then (nat_le n low) _ _ l)
+
+    large : (m q : Piece) (ps : List Piece) (n : ℕ) → is_mark_of 45 (Some m.says) ≡ true → IsNumber n q → nat_le n low ≡ false → all (st line e (m ∷ q ∷ ps)) ≡ Err (record { line = line; col = m.col; kind = OutOfRange })
+    large m q ps n t i l = number m q ps n t i ∙ bound (take_else (nat_le n low) _ _ l)
+
+    by_other : (m q : Piece) (ps : List Piece) (o : TokenValue) → q.says ≡ o → ((n : ℕ) → IsNumber n q → ⊥)
+        → (negative_on low (st line e (m ∷ q ∷ ps)) (st line e (q ∷ ps)) (Some o) >>= λ (x : ℕ × ReaderState). next x.0 x.1) ≡ Err (record { line = line; col = q.col; kind = Syntax })
+    by_other m q ps (a_name name) i n = refl
+    by_other m q ps (a_number v) i n = absurd (n v i)
+    by_other m q ps (a_text bytes) i n = refl
+    by_other m q ps (a_mark b) i n = refl
+
+    other : (m q : Piece) (ps : List Piece) → is_mark_of 45 (Some m.says) ≡ true → ((n : ℕ) → IsNumber n q → ⊥) → all (st line e (m ∷ q ∷ ps)) ≡ Err (record { line = line; col = q.col; kind = Syntax })
+    other m q ps t i = behind m (q ∷ ps) t ∙ by_other m q ps q.says refl i
+
+    by_sign : (m : Piece) → is_mark_of 45 (Some m.says) ≡ true → Leads few true line e (λ ps. fault_in (all (st line e ps))) m
+    by_sign m t =
+        sign_leads few line e low (λ ps. fault_in (all (st line e ps))) (λ n ps. fault_in (next (negated n) (st line e ps))) m (mark_says 45 m.says t) (ap (λ (r : Result B ParseFault). fault_in r) (behind m [] t))
+        (λ n q ps i l. ap (λ (r : Result B ParseFault). fault_in r) (small m q ps n t i l)) (λ n q ps i l. ap (λ (r : Result B ParseFault). fault_in r) (large m q ps n t i l))
+        (λ q ps i. ap (λ (r : Result B ParseFault). fault_in r) (other m q ps t i)) (λ n. (go (negated n)).faults)
+
+    begins : Goes (λ ps. fault_in (all (st line e ps)))
+    begins =
+        let y = (go (negated 0)).faults.0 in
+        (saying (a_mark 45) ∷ saying (a_number 0) ∷ y.0, ap (λ (r : Result B ParseFault). fault_in r) (small (saying (a_mark 45)) (saying (a_number 0)) y.0 0 refl refl (le-leb 0 low (omega arith))) ∙ y.1)
+
+    Turned : List Piece → B → Type 0
+    Turned ps b = Then ℕ (IsUpTo low) (λ n qs. Next (negated n) qs b) ps
+
+    by_test : (m q : Piece) (ps : List Piece) (b : B) (n : ℕ) (u : Bool) → is_mark_of 45 (Some m.says) ≡ true → IsNumber n q → nat_le n low ≡ u → length ps < few → all (st line e (m ∷ q ∷ ps)) ≡ Ok b → Turned (q ∷ ps) b
+    by_test m q ps b n true t i u l x = record { value = n; piece = q; rest = ps; tokens = refl; is = (i, leb-true n low u); next = ((go (negated n)).law ps b l).0 (sym (small m q ps n t i u) ∙ x) }
+    by_test m q ps b n false t i u l x = let y = sym (large m q ps n t i u) ∙ x in absurd cc
+
+    by_says : (m q : Piece) (ps : List Piece) (b : B) (o : TokenValue) → q.says ≡ o → is_mark_of 45 (Some m.says) ≡ true → length ps < few → all (st line e (m ∷ q ∷ ps)) ≡ Ok b → Turned (q ∷ ps) b
+    by_says m q ps b (a_name name) i t l x = let y = sym (other m q ps t (λ n h. let z = sym i ∙ h in cc)) ∙ x in absurd cc
+    by_says m q ps b (a_number n) i t l x = by_test m q ps b n (nat_le n low) t i refl l x
+    by_says m q ps b (a_text bytes) i t l x = let y = sym (other m q ps t (λ n h. let z = sym i ∙ h in cc)) ∙ x in absurd cc
+    by_says m q ps b (a_mark o) i t l x = let y = sym (other m q ps t (λ n h. let z = sym i ∙ h in cc)) ∙ x in absurd cc
+
+    reads : (m : Piece) (ps : List Piece) (b : B) → is_mark_of 45 (Some m.says) ≡ true → length ps < few → all (st line e (m ∷ ps)) ≡ Ok b → Turned ps b
+    reads m [] b t l x = let y = sym (behind m [] t) ∙ x in absurd cc
+    reads m (q ∷ ps) b t l x = by_says m q ps b q.says refl t (omega (arith, l)) x
+
+    turned : (m : Piece) (ps : List Piece) (b : B) → is_mark_of 45 (Some m.says) ≡ true → length ps < few → (all (st line e (m ∷ ps)) ≡ Ok b) ↔ Turned ps b
+    turned m ps b t l = (
+      reads m ps b t l,
+      λ w. ap (λ (qs : List Piece). all (st line e (m ∷ qs))) w.tokens ∙ small m w.piece w.rest w.value t w.is.0 (le-leb w.value low w.is.1) ∙ ((go (negated w.value)).law w.rest b (omega (arith, l, ap length w.tokens))).1 w.next,
+    )
+
+-- a number with a sign, modulo 2^32
 
 pub word_signed : (ps : List Piece) (v : ℕ) → IsWhole 2147483648 4294967295 ps v → IsSigned 4294967296 ps v
 word_signed [] v h = h
@@ -97,160 +130,130 @@ signed_word (p ∷ []) v h = (h.0, omega (arith, h.1))
 signed_word (m ∷ p ∷ []) v h = h
 signed_word (p ∷ q ∷ r ∷ ps) v h = h
 
--- what is added to a symbol
-
-pub data Added (line e : ℕ) (ps : List Piece) (x : ℕ × ReaderState) : Type 0 where
-  nothing_added : x.0 ≡ 0 → x.1 ≡ st line e ps → Added line e ps x
-  number_added : (m p : Piece) (rest : List Piece) → ps ≡ m ∷ p ∷ rest → IsAddend x.0 m p → x.1 ≡ st line e rest → Added line e ps x
-
-plus_added : (line e : ℕ) (ps : List Piece) (x : ℕ × ReaderState) → is_next_mark 43 (st line e ps) ≡ true → unsigned_at 2147483647 (past (st line e ps)) ≡ Ok x → Added line e ps x
-plus_added line e ps x k h =
-    let m = next_is 43 line e ps k in
-    let n = slot_read (one_number 2147483647 line e) m.rest x (ap (unsigned_at 2147483647) (sym m.after) ∙ h) in
-    number_added m.piece n.piece n.rest (m.tokens ∙ ap (λ (qs : List Piece). m.piece ∷ qs) n.tokens) (x.0, n.is.0, omega (arith, n.is.1), inl (m.is, refl)) n.after
-
-minus_added : (line e : ℕ) (ps : List Piece) (x : ℕ × ReaderState) → is_next_mark 45 (st line e ps) ≡ true → (unsigned_at 2147483647 (past (st line e ps)) >>= λ n. Ok (negated n.0, n.1)) ≡ Ok x → Added line e ps x
-minus_added line e ps x k h =
-    let m = next_is 45 line e ps k in
-    let b = bind_ok (unsigned_at 2147483647 (past (st line e ps))) (λ (n : ℕ × ReaderState). Ok (negated n.0, n.1)) x h in
-    let n = slot_read (one_number 2147483647 line e) m.rest b.0 (ap (unsigned_at 2147483647) (sym m.after) ∙ b.1) in
-    let same = ok_same b.2 in
-    number_added m.piece n.piece n.rest (m.tokens ∙ ap (λ (qs : List Piece). m.piece ∷ qs) n.tokens) (b.0.0, n.is.0, omega (arith, n.is.1), inr (m.is, sym (ap (λ (y : ℕ × ReaderState). y.0) same)))
-    (sym (ap (λ (y : ℕ × ReaderState). y.1) same) ∙ n.after)
-
-pub addend_read : (line e : ℕ) (ps : List Piece) (x : ℕ × ReaderState) → addend_at (st line e ps) ≡ Ok x → Added line e ps x
-unfolding addend_at
-addend_read line e ps x h =
-    elim (chosen (is_next_mark 43 (st line e ps)) _ _ _ h) [
-      | inl j ↦ plus_added line e ps x j.0 j.1
-      | inr j ↦
-          elim (chosen (is_next_mark 45 (st line e ps)) _ _ _ j.1) [
-            | inl k ↦ minus_added line e ps x k.0 k.1
-            | inr k ↦
-                let same = ok_same k.1 in
-                nothing_added (sym (ap (λ (y : ℕ × ReaderState). y.0) same)) (sym (ap (λ (y : ℕ × ReaderState). y.1) same))
-          ]
-    ]
-
--- no + or - comes first
-abbrev pub IsUnsigned : List Piece → Type 0
-IsUnsigned [] = Unit {0}
-IsUnsigned (p ∷ ps) = (is_mark_of 43 (Some p.says) ≡ false) × (is_mark_of 45 (Some p.says) ≡ false)
-
-pub no_addend : (line e : ℕ) (rest : List Piece) → IsUnsigned rest → addend_at (st line e rest) ≡ Ok (0, st line e rest)
-unfolding addend_at
-no_addend line e [] h = refl
-no_addend line e (p ∷ ps) h = take_else (is_next_mark 43 (st line e (p ∷ ps))) _ _ h.0 ∙ take_else (is_next_mark 45 (st line e (p ∷ ps))) _ _ h.1
-
-plus_no_minus : (o : TokenValue) → is_mark_of 45 (Some o) ≡ true → is_mark_of 43 (Some o) ≡ false
-plus_no_minus (a_name text) h = refl
-plus_no_minus (a_number n) h = refl
-plus_no_minus (a_text bytes) h = refl
-plus_no_minus (a_mark b) h = ap (λ (k : ℕ). k == 43) (eqb-true b 45 h)
-
-pub addend_again : (line e addend : ℕ) (m p : Piece) (rest : List Piece) → IsAddend addend m p → addend_at (st line e (m ∷ p ∷ rest)) ≡ Ok (addend, st line e rest)
-unfolding addend_at
-addend_again line e addend m p rest h = by_mark h.3
-  where
-    by_mark : (IsMark 43 m × (addend ≡ h.0)) ⊎ (IsMark 45 m × (addend ≡ minus 4294967296 h.0)) → addend_at (st line e (m ∷ p ∷ rest)) ≡ Ok (addend, st line e rest)
-    by_mark (inl k) =
-        take_then (is_next_mark 43 (st line e (m ∷ p ∷ rest))) _ _ (next_again 43 line e m (p ∷ rest) k.0)
-        ∙ slot_again (one_number 2147483647 line e) h.0 p rest (h.1, omega (arith, h.2))
-        ∙ ap (λ (n : ℕ). let y : Read ℕ = Ok (n, st line e rest) in y) (sym k.1)
-    by_mark (inr k) =
-        take_else (is_next_mark 43 (st line e (m ∷ p ∷ rest))) _ _ (plus_no_minus m.says (next_again 45 line e m (p ∷ rest) k.0))
-        ∙ take_then (is_next_mark 45 (st line e (m ∷ p ∷ rest))) _ _ (next_again 45 line e m (p ∷ rest) k.0)
-        ∙ bind_to (unsigned_at 2147483647 (st line e (p ∷ rest))) (λ (n : ℕ × ReaderState). Ok (negated n.0, n.1)) (h.0, st line e rest) (Ok (addend, st line e rest)) (slot_again (one_number 2147483647 line e) h.0 p rest (h.1, omega (arith, h.2)))
-        (ap (λ (n : ℕ). let y : Read ℕ = Ok (n, st line e rest) in y) (sym k.1))
-
 -- a symbol with what is added to it
 
-abbrev made_fixup : Kind → List ℕ → ℕ → ℕ → Fixup
-made_fixup kind name addend col = record { kind = kind; symbol = name; addend = addend; col = col }
+abbrev made_fixup : Kind → List ℕ × ℕ → ℕ → Fixup
+made_fixup kind name n = record { kind = kind; symbol = name.0; addend = n; col = name.1 }
 
-abbrev with_addend : Kind → (List ℕ × ℕ) × ReaderState → ℕ × ReaderState → Read Fixup
-with_addend kind name more = Ok (made_fixup kind name.0.0 more.0 name.0.1, more.1)
+-- behind the symbol
+abbrev addend_then : {B : Type 0} → Kind → (Fixup → ReaderState → Result B ParseFault) → List ℕ × ℕ → ReaderState → Result B ParseFault
+addend_then kind next name s = addend_at s >>= λ (more : ℕ × ReaderState). next (made_fixup kind name more.0) more.1
 
-fixup_added : (kind : Kind) (line e : ℕ) (ps : List Piece) (s : Piece) (rest : List Piece) (name : List ℕ × ℕ) (more : ℕ × ReaderState) (x : Fixup × ReaderState)
-    → ps ≡ s ∷ rest → IsSymbolAt name s → Added line e rest more → (made_fixup kind name.0 more.0 name.1, more.1) ≡ x → Several Fixup (IsFixup kind) line e ps x
-fixup_added kind line e ps s rest name more x t i (nothing_added z a) k =
-    several Fixup (IsFixup kind) line e ps (s ∷ []) rest (made_fixup kind name.0 more.0 name.1) x t ((refl, i.0, i.1), z) (ap (λ (u : ReaderState). let y : Fixup × ReaderState = (made_fixup kind name.0 more.0 name.1, u) in y) (sym a) ∙ k)
-fixup_added kind line e ps s rest name more x t i (number_added m p after u d a) k =
-    several Fixup (IsFixup kind) line e ps (s ∷ m ∷ p ∷ []) after (made_fixup kind name.0 more.0 name.1) x (t ∙ ap (λ (qs : List Piece). s ∷ qs) u) ((refl, i.0, i.1), d)
-    (ap (λ (u : ReaderState). let y : Fixup × ReaderState = (made_fixup kind name.0 more.0 name.1, u) in y) (sym a) ∙ k)
+abbrev Added : {B : Type 0} → Kind → (Fixup → List Piece → B → Type 0) → List ℕ × ℕ → List Piece → B → Type 0
+Added kind Next name =
+    AfterSign (λ ps b. Then ℕ (IsUpTo 2147483647) (λ n qs. Next (made_fixup kind name n) qs b) ps) (λ ps b. Then ℕ (IsUpTo 2147483647) (λ n qs. Next (made_fixup kind name (negated n)) qs b) ps) (Next (made_fixup kind name 0))
 
-pub fixup_read : (kind : Kind) (line e : ℕ) (ps : List Piece) (x : Fixup × ReaderState) → fixup_at kind (st line e ps) ≡ Ok x → Several Fixup (IsFixup kind) line e ps x
+added_start : {B : Type 0} {few line e : ℕ} (kind : Kind) (next : Fixup → ReaderState → Result B ParseFault) (Next : Fixup → List Piece → B → Type 0) → ((f : Fixup) → Start few false no_name line e (next f) (Next f))
+    → ((f : Fixup) (ps : List Piece) (b : B) → Next f ps b → IsUnsigned ps) → (name : List ℕ × ℕ) → Start few false no_name line e (addend_then kind next name) (Added kind Next name)
+unfolding addend_at
+added_start {B = B} {line = line} {e = e} kind next Next go unsigned name =
+    sign_start (unsigned_at 2147483647) (λ s. unsigned_at 2147483647 s >>= λ (n : ℕ × ReaderState). let y : Read ℕ = Ok (negated n.0, n.1) in y) 0 (λ n. next (made n))
+    (begun (slot_start (one_number 2147483647 line e) (λ n. next (made n)) (λ n. Next (made n)) (λ n. begun (go (made n)))))
+    (begun (start_as (λ s. (unsigned_at 2147483647 s >>= λ (n : ℕ × ReaderState). let y : Read ℕ = Ok (negated n.0, n.1) in y) >>= λ (x : ℕ × ReaderState). next (made x.0) x.1) (λ ps b. Then ℕ (IsUpTo 2147483647) (λ n qs. Next (made (negated n)) qs b) ps)
+    (λ ps. mapped ℕ B ℕ (unsigned_at 2147483647 (st line e ps)) negated (λ n. next (made n))) (λ ps b. (λ w. w, λ w. w))
+    (slot_start (one_number 2147483647 line e) (λ n. next (made (negated n))) (λ n. Next (made (negated n))) (λ n. begun (go (made (negated n)))))))
+    (go (made 0)) (unsigned (made 0))
+  where
+    made : ℕ → Fixup
+    made n = made_fixup kind name n
+
+abbrev SymbolThen : {B : Type 0} → Kind → (Fixup → List Piece → B → Type 0) → List Piece → B → Type 0
+SymbolThen kind Next ps b = Then (List ℕ × ℕ) IsSymbolAt (λ name qs. Added kind Next name qs b) ps
+
+added_fixup : {B : Type 0} (kind : Kind) (Next : Fixup → List Piece → B → Type 0) (b : B) (ps : List Piece) (s : Piece) (rest : List Piece) (name : List ℕ × ℕ) → ps ≡ s ∷ rest → IsSymbolAt name s → Added kind Next name rest b
+    → Several Fixup (IsFixup kind) (λ f qs. Next f qs b) ps
+added_fixup kind Next b ps s rest name t i (inl w) =
+    let n = w.4 in
+    let l = n.is.1 in
+    record { value = made_fixup kind name n.value; front = s ∷ w.0 ∷ n.piece ∷ []; rest = n.rest; tokens = t ∙ ap (λ (qs : List Piece). s ∷ qs) (w.2 ∙ ap (λ (qs : List Piece). w.0 ∷ qs) n.tokens); is = ((refl, i.0, i.1), (n.value, n.is.0, omega (arith, l), inl (w.3, refl))); next = n.next }
+added_fixup kind Next b ps s rest name t i (inr (inl w)) =
+    let n = w.4 in
+    let l = n.is.1 in
+    record { value = made_fixup kind name (negated n.value); front = s ∷ w.0 ∷ n.piece ∷ []; rest = n.rest; tokens = t ∙ ap (λ (qs : List Piece). s ∷ qs) (w.2 ∙ ap (λ (qs : List Piece). w.0 ∷ qs) n.tokens); is = ((refl, i.0, i.1), (n.value, n.is.0, omega (arith, l), inr (w.3, refl))); next = n.next }
+added_fixup kind Next b ps s rest name t i (inr (inr w)) = record { value = made_fixup kind name 0; front = s ∷ []; rest = rest; tokens = t; is = ((refl, i.0, i.1), refl); next = w }
+
+same_fixup : (kind : Kind) (f : Fixup) (n : ℕ) → f.kind ≡ kind → f.addend ≡ n → f ≡ made_fixup kind (f.symbol, f.col) n
+same_fixup kind f n h k = λ i. record { kind = h i; symbol = f.symbol; addend = k i; col = f.col }
+
+fixup_added : {B : Type 0} (kind : Kind) (Next : Fixup → List Piece → B → Type 0) (b : B) (ps front rest : List Piece) (f : Fixup) → ps ≡ front ++ rest → IsFixup kind front f → Next f rest b → SymbolThen kind Next ps b
+fixup_added kind Next b ps [] rest f t h k = absurd h
+fixup_added kind Next b ps (s ∷ []) rest f t h k =
+    let i = h.0 in
+    record { value = (f.symbol, f.col); piece = s; rest = rest; tokens = t; is = (i.1, i.2); next = inr (inr (subst (λ (g : Fixup). Next g rest b) (same_fixup kind f 0 i.0 h.1) k)) }
+fixup_added kind Next b ps (s ∷ m ∷ []) rest f t h k = absurd h
+fixup_added kind Next b ps (s ∷ m ∷ p ∷ []) rest f t h k =
+    let i = h.0 in
+    let a = h.1 in
+    let l = a.2 in
+    record {
+      value = (f.symbol, f.col);
+      piece = s;
+      rest = m ∷ p ∷ rest;
+      tokens = t;
+      is = (i.1, i.2);
+      next = elim a.3 [
+        | inl j ↦ inl (m, p ∷ rest, refl, j.0, record { value = a.0; piece = p; rest = rest; tokens = refl; is = (a.1, omega (arith, l)); next = subst (λ (g : Fixup). Next g rest b) (same_fixup kind f a.0 i.0 j.1) k })
+        | inr j ↦ inr (inl (m, p ∷ rest, refl, j.0, record { value = a.0; piece = p; rest = rest; tokens = refl; is = (a.1, omega (arith, l)); next = subst (λ (g : Fixup). Next g rest b) (same_fixup kind f (negated a.0) i.0 j.1) k }))
+      ];
+    }
+fixup_added kind Next b ps (s ∷ m ∷ p ∷ q ∷ front) rest f t h k = absurd h
+
+fixup_steps : {B : Type 0} (kind : Kind) (s : ReaderState) (next : Fixup → ReaderState → Result B ParseFault) → (fixup_at kind s >>= λ (x : Fixup × ReaderState). next x.0 x.1) ≡ (symbol_at s >>= λ (name : (List ℕ × ℕ) × ReaderState). addend_then kind next name.0 name.1)
 unfolding fixup_at
-fixup_read kind line e ps x h =
-    let b = bind_ok (symbol_at (st line e ps)) (λ (name : (List ℕ × ℕ) × ReaderState). addend_at name.1 >>= with_addend kind name) x h in
-    let s = slot_read (one_symbol line e) ps b.0 b.1 in
-    let c = bind_ok (addend_at b.0.1) (with_addend kind b.0) x b.2 in
-    let a = addend_read line e s.rest c.0 (ap addend_at (sym s.after) ∙ c.1) in
-    fixup_added kind line e ps s.piece s.rest b.0.0 c.0 x s.tokens s.is a (ok_same c.2)
+fixup_steps {B = B} kind s next = turns (symbol_at s) _ _ _ (λ name. mapped ℕ B Fixup (addend_at name.1) (λ n. made_fixup kind name.0 n) next)
 
-same_fixup : (kind : Kind) (f : Fixup) (addend col : ℕ) → f.kind ≡ kind → f.addend ≡ addend → f.col ≡ col → made_fixup kind f.symbol addend col ≡ f
-same_fixup kind f addend col a b c = λ i. record { kind = sym a i; symbol = f.symbol; addend = sym b i; col = sym c i }
+pub fixup_start : {B : Type 0} {few line e : ℕ} (kind : Kind) (next : Fixup → ReaderState → Result B ParseFault) (Next : Fixup → List Piece → B → Type 0) → ((f : Fixup) → Start few false no_name line e (next f) (Next f))
+    → ((f : Fixup) (ps : List Piece) (b : B) → Next f ps b → IsUnsigned ps) → Start few false symbols line e (λ s. fixup_at kind s >>= λ (x : Fixup × ReaderState). next x.0 x.1) (λ ps b. Several Fixup (IsFixup kind) (λ f qs. Next f qs b) ps)
+fixup_start {line = line} {e = e} kind next Next go unsigned =
+    start_as (λ s. fixup_at kind s >>= λ (x : Fixup × ReaderState). next x.0 x.1) (λ ps b. Several Fixup (IsFixup kind) (λ f qs. Next f qs b) ps) (λ ps. fixup_steps kind (st line e ps) next)
+    (λ ps b. (λ w. added_fixup kind Next b ps w.piece w.rest w.value w.tokens w.is w.next, λ w. fixup_added kind Next b ps w.front w.rest w.value w.tokens w.is w.next))
+    (slot_start (one_symbol line e) (addend_then kind next) (Added kind Next) (λ name. begun (added_start kind next Next go unsigned name)))
 
-fixup_from : (kind : Kind) (line e : ℕ) (s : Piece) (ps rest : List Piece) (f : Fixup) → IsSymbolOf kind f s → addend_at (st line e ps) ≡ Ok (f.addend, st line e rest) → fixup_at kind (st line e (s ∷ ps)) ≡ Ok (f, st line e rest)
-unfolding fixup_at
-fixup_from kind line e s ps rest f i a =
-    bind_to (symbol_at (st line e (s ∷ ps))) (λ (name : (List ℕ × ℕ) × ReaderState). addend_at name.1 >>= with_addend kind name) ((f.symbol, s.col), st line e ps) (Ok (f, st line e rest)) (slot_again (one_symbol line e) (f.symbol, s.col) s ps (i.1, refl))
-    (bind_to (addend_at (st line e ps)) (with_addend kind ((f.symbol, s.col), st line e ps)) (f.addend, st line e rest) (Ok (f, st line e rest)) a
-    (ap (λ (g : Fixup). let y : Read Fixup = Ok (g, st line e rest) in y) (same_fixup kind f f.addend s.col i.0 refl i.2)))
+-- a value: a number with a sign, or a symbol with what is added to it
 
-pub fixup_again : (kind : Kind) (line e : ℕ) (front rest : List Piece) (f : Fixup) → IsFixup kind front f → IsUnsigned rest → fixup_at kind (st line e (front ++ rest)) ≡ Ok (f, st line e rest)
-fixup_again kind line e [] rest f h u = absurd h
-fixup_again kind line e (s ∷ []) rest f h u = fixup_from kind line e s rest rest f h.0 (no_addend line e rest u ∙ ap (λ (n : ℕ). let y : Read ℕ = Ok (n, st line e rest) in y) (sym h.1))
-fixup_again kind line e (s ∷ m ∷ []) rest f h u = absurd h
-fixup_again kind line e (s ∷ m ∷ p ∷ []) rest f h u = fixup_from kind line e s (m ∷ p ∷ rest) rest f h.0 (addend_again line e f.addend m p rest h.1)
-fixup_again kind line e (s ∷ m ∷ p ∷ q ∷ ps) rest f h u = absurd h
+pub value_start : {B : Type 0} {few line e : ℕ} (kind : Kind) (next : Value → ReaderState → Result B ParseFault) (Next : Value → List Piece → B → Type 0) → ((v : Value) → Start few false no_name line e (next v) (Next v))
+    → ((v : Value) (ps : List Piece) (b : B) → Next v ps b → IsUnsigned ps) → Start few true symbols line e (λ s. value_at kind s >>= λ (x : Value × ReaderState). next x.0 x.1) (λ ps b. Several Value (IsValue kind) (λ v qs. Next v qs b) ps)
+unfolding value_at signed_at
+value_start {B = B} {line = line} {e = e} kind next Next go unsigned =
+    start_as all (λ ps b. Several Value (IsValue kind) (λ v qs. Next v qs b) ps) (λ ps. refl) (λ ps b. (to ps b, λ w. from ps b w.value w.front w.rest w.tokens w.is w.next))
+    (named_start (one_symbol line e) all (addend_then kind fixups) (Added kind Fixups) (λ x p i. (x.0, i.0.0)) named plain refl (λ name. begun (added_start kind fixups Fixups (λ f. go (Symbol f)) (λ f. unsigned (Symbol f)) name))
+    (signed_start 2147483648 4294967295 (λ n. next (Number n)) (λ n. Next (Number n)) (λ n. begun (go (Number n)))) (λ p ps b w. whole_unnamed p ps w.front w.rest w.value w.tokens w.is))
+  where
+    all : ReaderState → Result B ParseFault
+    all s = value_at kind s >>= λ (x : Value × ReaderState). next x.0 x.1
 
--- E
+    fixups : Fixup → ReaderState → Result B ParseFault
+    fixups f = next (Symbol f)
 
-abbrev pub number_value : ℕ × ReaderState → Read Value
-number_value n = Ok (Number n.0, n.1)
+    Fixups : Fixup → List Piece → B → Type 0
+    Fixups f = Next (Symbol f)
 
-abbrev pub symbol_value : Fixup × ReaderState → Read Value
-symbol_value f = Ok (Symbol f.0, f.1)
+    Numbers : List Piece → B → Type 0
+    Numbers ps b = Several ℕ (IsWhole 2147483648 4294967295) (λ n qs. Next (Number n) qs b) ps
 
-number_here : (kind : Kind) (line e : ℕ) (ps : List Piece) (x : Value × ReaderState) → (signed_at 2147483648 4294967295 (st line e ps) >>= number_value) ≡ Ok x → Several Value (IsValue kind) line e ps x
-number_here kind line e ps x h =
-    several_as ℕ Value (IsWhole 2147483648 4294967295) (IsValue kind) (λ n. Number n) line e ps (signed_at 2147483648 4294967295 (st line e ps)) x (whole_read 2147483648 4294967295 line e ps) word_signed h
+    said : (p : Piece) (ps : List Piece) (m : TokenValue) → p.says ≡ m → all (st line e (p ∷ ps)) ≡ (value_on kind (st line e (p ∷ ps)) (Some m) >>= λ (x : Value × ReaderState). next x.0 x.1)
+    said p ps m h = ap (λ (o : TokenValue). value_on kind (st line e (p ∷ ps)) (Some o) >>= λ (x : Value × ReaderState). next x.0 x.1) h
 
-symbol_here : (kind : Kind) (line e : ℕ) (ps : List Piece) (x : Value × ReaderState) → (fixup_at kind (st line e ps) >>= symbol_value) ≡ Ok x → Several Value (IsValue kind) line e ps x
-symbol_here kind line e ps x h = several_as Fixup Value (IsFixup kind) (IsValue kind) (λ f. Symbol f) line e ps (fixup_at kind (st line e ps)) x (fixup_read kind line e ps) (λ front f w. w) h
+    named : (p : Piece) (ps : List Piece) (text : List ℕ) → IsNamed text p → all (st line e (p ∷ ps)) ≡ (symbol_at (st line e (p ∷ ps)) >>= λ (name : (List ℕ × ℕ) × ReaderState). addend_then kind fixups name.0 name.1)
+    named p ps text h = said p ps (a_name text) h ∙ mapped Fixup B Value (fixup_at kind (st line e (p ∷ ps))) (λ f. Symbol f) next ∙ fixup_steps kind (st line e (p ∷ ps)) fixups
 
-value_by : (kind : Kind) (line e : ℕ) (ps : List Piece) (o : Option TokenValue) (x : Value × ReaderState) → value_on kind (st line e ps) o ≡ Ok x → Several Value (IsValue kind) line e ps x
-value_by kind line e ps None x h = number_here kind line e ps x h
-value_by kind line e ps (Some (a_name text)) x h = symbol_here kind line e ps x h
-value_by kind line e ps (Some (a_number n)) x h = number_here kind line e ps x h
-value_by kind line e ps (Some (a_text bytes)) x h = number_here kind line e ps x h
-value_by kind line e ps (Some (a_mark m)) x h = number_here kind line e ps x h
+    plain : (p : Piece) (ps : List Piece) (m : TokenValue) → p.says ≡ m → NoName m → all (st line e (p ∷ ps)) ≡ (signed_at 2147483648 4294967295 (st line e (p ∷ ps)) >>= λ (x : ℕ × ReaderState). next (Number x.0) x.1)
+    plain p ps m h number_is = said p ps m h ∙ mapped ℕ B Value (signed_at 2147483648 4294967295 (st line e (p ∷ ps))) (λ n. Number n) next
+    plain p ps m h text_is = said p ps m h ∙ mapped ℕ B Value (signed_at 2147483648 4294967295 (st line e (p ∷ ps))) (λ n. Number n) next
+    plain p ps m h mark_is = said p ps m h ∙ mapped ℕ B Value (signed_at 2147483648 4294967295 (st line e (p ∷ ps))) (λ n. Number n) next
 
-pub value_read : (kind : Kind) (line e : ℕ) (ps : List Piece) (x : Value × ReaderState) → value_at kind (st line e ps) ≡ Ok x → Several Value (IsValue kind) line e ps x
-unfolding value_at
-value_read kind line e ps x h = value_by kind line e ps (first (st line e ps)) x h
+    whole_unnamed : (p : Piece) (ps front rest : List Piece) (n : ℕ) → p ∷ ps ≡ front ++ rest → IsWhole 2147483648 4294967295 front n → NoName p.says
+    whole_unnamed p ps [] rest n t h = absurd h
+    whole_unnamed p ps (q ∷ []) rest n t h = unnamed p q ps rest (a_number n) t h.0 number_is
+    whole_unnamed p ps (m ∷ q ∷ []) rest n t h = unnamed p m ps (q ∷ rest) (a_mark 45) t h.0 mark_is
+    whole_unnamed p ps (m ∷ q ∷ r ∷ front) rest n t h = absurd h
 
-number_value_again : (kind : Kind) (line e n : ℕ) (front rest : List Piece) → IsSigned 4294967296 front n → (signed_at 2147483648 4294967295 (st line e (front ++ rest)) >>= number_value) ≡ Ok (Number n, st line e rest)
-number_value_again kind line e n front rest h =
-    bind_to (signed_at 2147483648 4294967295 (st line e (front ++ rest))) number_value (n, st line e rest) (Ok (Number n, st line e rest)) (whole_again 2147483648 4294967295 line e front rest n (signed_word front n h)) refl
+    to : (ps : List Piece) (b : B) → SymbolThen kind Fixups ps b ⊎ Numbers ps b → Several Value (IsValue kind) (λ v qs. Next v qs b) ps
+    to ps b (inl w) =
+        let f = added_fixup kind Fixups b ps w.piece w.rest w.value w.tokens w.is w.next in
+        record { value = Symbol f.value; front = f.front; rest = f.rest; tokens = f.tokens; is = f.is; next = f.next }
+    to ps b (inr w) = record { value = Number w.value; front = w.front; rest = w.rest; tokens = w.tokens; is = word_signed w.front w.value w.is; next = w.next }
 
-symbol_value_again : (kind : Kind) (line e : ℕ) (f : Fixup) (front rest : List Piece) → IsFixup kind front f → IsUnsigned rest → (fixup_at kind (st line e (front ++ rest)) >>= symbol_value) ≡ Ok (Symbol f, st line e rest)
-symbol_value_again kind line e f front rest h u =
-    bind_to (fixup_at kind (st line e (front ++ rest))) symbol_value (f, st line e rest) (Ok (Symbol f, st line e rest)) (fixup_again kind line e front rest f h u) refl
-
-pub value_again : (kind : Kind) (line e : ℕ) (front rest : List Piece) (v : Value) → IsValue kind front v → IsUnsigned rest → value_at kind (st line e (front ++ rest)) ≡ Ok (v, st line e rest)
-unfolding value_at
-value_again kind line e [] rest (Number n) h u = absurd h
-value_again kind line e (p ∷ []) rest (Number n) h u =
-    ap (λ (m : TokenValue). value_on kind (st line e (p ∷ rest)) (Some m)) h.0 ∙ number_value_again kind line e n (p ∷ []) rest h
-value_again kind line e (m ∷ p ∷ []) rest (Number n) h u =
-    ap (λ (o : TokenValue). value_on kind (st line e (m ∷ p ∷ rest)) (Some o)) h.0 ∙ number_value_again kind line e n (m ∷ p ∷ []) rest h
-value_again kind line e (p ∷ q ∷ r ∷ ps) rest (Number n) h u = absurd h
-value_again kind line e [] rest (Symbol f) h u = absurd h
-value_again kind line e (s ∷ []) rest (Symbol f) h u =
-    ap (λ (m : TokenValue). value_on kind (st line e (s ∷ rest)) (Some m)) h.0.1.0 ∙ symbol_value_again kind line e f (s ∷ []) rest h u
-value_again kind line e (s ∷ m ∷ []) rest (Symbol f) h u = absurd h
-value_again kind line e (s ∷ m ∷ p ∷ []) rest (Symbol f) h u =
-    ap (λ (o : TokenValue). value_on kind (st line e (s ∷ m ∷ p ∷ rest)) (Some o)) h.0.1.0 ∙ symbol_value_again kind line e f (s ∷ m ∷ p ∷ []) rest h u
-value_again kind line e (s ∷ m ∷ p ∷ q ∷ ps) rest (Symbol f) h u = absurd h
+    from : (ps : List Piece) (b : B) (v : Value) (front rest : List Piece) → ps ≡ front ++ rest → IsValue kind front v → Next v rest b → SymbolThen kind Fixups ps b ⊎ Numbers ps b
+    from ps b (Number n) front rest t h k = inr (record { value = n; front = front; rest = rest; tokens = t; is = signed_word front n h; next = k })
+    from ps b (Symbol f) front rest t h k = inl (fixup_added kind Fixups b ps front rest f t h k)

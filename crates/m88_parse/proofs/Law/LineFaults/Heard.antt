@@ -13,20 +13,13 @@ use Rattle.m88_parse.specs.Reader.State.{ReaderState, first, place, ◌>>=◌}
 use Rattle.m88_parse.specs.Reader.Slots.{any_name_at, line_end_at}
 use Rattle.m88_parse.specs.Reader.Source.{operation_at, head_at, is_head_on, statement}
 use Rattle.m88_parse.proofs.Law.Steps.{chosen, take_then, take_else}
-use Rattle.m88_parse.proofs.Law.Slots.{st, bind_ok, bind_to, end_read, one_any_name, slot_again, slot_read}
+use Rattle.m88_parse.proofs.Law.Slots.{st, bind_ok, bind_to, one_any_name, slot_again}
 use Rattle.m88_parse.proofs.Law.Bodies.{operation_read, body_again}
-use Rattle.m88_parse.proofs.Law.Rows.{head_named, made_head, not_head}
+use Rattle.m88_parse.proofs.Law.Rows.{head_named, head_tokens, made_head, not_head}
 use Rattle.m88_parse.proofs.Law.LineFaults.Readers.{fault_in, row_or_head, heard, HeardLaw}
 
 head_is : (line e : ℕ) (p : Piece) (ps : List Piece) (r : Row) → IsNamed (codes ".module") p → head_at (st line e (p ∷ ps)) ≡ Ok r → IsOperation (p ∷ ps)
-unfolding head_at
-head_is line e p ps r n h =
-    let b = bind_ok (any_name_at (st line e ps)) (λ (name : List ℕ × ReaderState). line_end_at name.1 >>= made_head line name) r h in
-    let o = slot_read (one_any_name line e) ps b.0 b.1 in
-    let d = bind_ok (line_end_at b.0.1) (made_head line b.0) r b.2 in
-    let z = end_read line e o.rest d.0 (ap line_end_at (sym o.after) ∙ d.1) in
-    let t : ps ≡ o.piece ∷ [] = o.tokens ∙ ap (λ (qs : List Piece). o.piece ∷ qs) z in
-    subst (λ (qs : List Piece). IsOperation (p ∷ qs)) (sym t) (head_of_module (head n o.is.0 o.is.1))
+head_is line e p ps r n h = let w = head_tokens line e p ps r h in subst (λ (qs : List Piece). IsOperation (p ∷ qs)) (sym w.2) (head_of_module (head n w.3.0 w.3.1))
 
 operation_is : (line e : ℕ) (ps : List Piece) (c : Body) → operation_at (st line e ps) ≡ Ok c → IsOperation ps
 unfolding operation_at

@@ -12,7 +12,7 @@ use Rattle.m88_parse.specs.declared.row.Row.TheVariants as row
 use Rattle.m88_parse.specs.Reader.Names.{is_module, is_symbol}
 use Rattle.m88_parse.specs.Language.Pieces.{TokenValue, a_name, a_number, a_text, a_mark, Piece}
 use Rattle.m88_parse.specs.Reader.State.{ReaderState, says_first, first, place, past, is_mark_of, ◌>>=◌}
-use Rattle.m88_parse.specs.Reader.Slots.{symbol_at, any_name_at, line_end_at}
+use Rattle.m88_parse.specs.Reader.Slots.{symbol_on, symbol_at, any_name_at, line_end_at}
 use Rattle.m88_parse.specs.Language.Shapes.{shape_of}
 use Rattle.m88_parse.specs.Reader.Directives.{directive_text, all_directives, directive_of}
 use Rattle.m88_parse.specs.Reader.Grammar.{Form, read, form_of, directive_form}
@@ -28,8 +28,7 @@ use Rattle.m88_parse.proofs.Law.Bodies.{body_again}
 use Rattle.m88_parse.proofs.Law.Rows.{label_marks, head_named, no_colon}
 use Rattle.m88_parse.proofs.Law.LineFaults.Readers.{fault_in, Reader, here, row_or_head, heard, EndsAt, Told, Good, Wanted}
 use Rattle.m88_parse.proofs.Law.LineFaults.Nodes.{fresh_behind, misplaced_by, told, good}
-use Rattle.m88_parse.proofs.Law.LineFaults.Slots.{reader_of, one_token}
-use Rattle.m88_parse.proofs.Law.LineFaults.Values.{ends_node, NoName, number_is, text_is, mark_is, symbol_step}
+use Rattle.m88_parse.proofs.Law.LineFaults.Slots.{reader_of, one_token, ends_node, NoName, number_is, text_is, mark_is}
 use Rattle.m88_parse.proofs.Law.Forms.{form_walk}
 use Rattle.m88_parse.proofs.Law.LineFaults.Heard.{heard_law}
 
@@ -122,9 +121,9 @@ form_told line e p ps f name form h n i g =
 named_told : (line e : ℕ) (p : Piece) (ps : List Piece) (f : ParseFault) (name : List ℕ) (m : Option Mnemonic) (d : Option Directive) → p.says ≡ a_name name → is_module name ≡ false → mnemonic_of name ≡ m → directive_of name ≡ d
     → EndsAt (p ∷ ps) e → heard line e (p ∷ ps) ≡ Some f → Told line (p ∷ ps) f
 named_told line e p ps f name (Some m) d h n i j =
-    form_told line e p ps f name (form_of (shape_of m)) h n (ap (λ (o : Option Mnemonic). form_in o (directive_of name)) i) ((form_walk (form_of (shape_of m)) line e).1 (suc (length ps)))
+    form_told line e p ps f name (form_of (shape_of m)) h n (ap (λ (o : Option Mnemonic). form_in o (directive_of name)) i) ((form_walk (form_of (shape_of m)) (suc (length ps)) line e).faults)
 named_told line e p ps f name None (Some d) h n i j =
-    form_told line e p ps f name (directive_form d) h n (ap₂ (λ (a : Option Mnemonic) (b : Option Directive). form_in a b) i j) ((form_walk (directive_form d) line e).1 (suc (length ps)))
+    form_told line e p ps f name (directive_form d) h n (ap₂ (λ (a : Option Mnemonic) (b : Option Directive). form_in a b) i j) ((form_walk (directive_form d) (suc (length ps)) line e).faults)
 named_told line e p ps f name None None h n i j =
     λ a. first_told line e p ps f
     (λ l c qs. heard_named l c p qs name h n ∙ ap₂ (λ (a : Option Mnemonic) (b : Option Directive). fault_in (by_form (st l c (p ∷ qs)) (form_in a b))) i j ∙ ap (λ (o : TokenValue). here l p.col (kind_for false own_names o)) (sym h))
@@ -209,6 +208,10 @@ behind_told line p c (q ∷ rs) name f l h =
           let b = operation_told line (end_of_line (q ∷ rs)) q rs f (end_of_is q rs) (heard_body line (end_of_line (q ∷ rs)) q rs t ∙ ap (λ (r : Result Body ParseFault). fault_in r) o) in
           (behind_label l no b.0, b.1)
     ]
+
+symbol_step : (line e : ℕ) (p : Piece) (ps : List Piece) (text : List ℕ) → p.says ≡ a_name text → symbol_at (st line e (p ∷ ps)) ≡ (if is_symbol text then Ok ((text, p.col), st line e ps) else Err (record { line = line; col = p.col; kind = Syntax }))
+unfolding symbol_at
+symbol_step line e p ps text h = ap (λ (m : TokenValue). symbol_on (st line e (p ∷ ps)) (Some m)) h
 
 label_told : (line : ℕ) (p c : Piece) (qs : List Piece) (text : List ℕ) (f : ParseFault) → p.says ≡ a_name text → IsMark 58 c → labelled_at (st line (end_of_line (p ∷ c ∷ qs)) (p ∷ c ∷ qs)) ≡ Err f → LineFaultBy line (p ∷ c ∷ qs) f
 unfolding labelled_at

@@ -1,6 +1,6 @@
 -- What stands behind a front, one token at a time: where each token either leads on or is a fault whatever follows it, each
 -- fault is the one of the language.
-use Rattle.std.proofs.Common.{◌≡◌, ℕ, suc, ◌+◌, ◌<◌, arith, Bool, true, false, ◌⊎◌, inl, inr, List, [], ◌∷◌, ◌++◌, length, Option, Some, None, refl, sym, ap, ◌∙◌, subst, append_assoc, append-nil, ◌==◌, eq-eqb, true≢false}
+use Rattle.std.proofs.Common.{◌≡◌, ℕ, suc, ◌+◌, ◌<◌, arith, Bool, true, false, ◌⊎◌, inl, inr, List, [], ◌∷◌, ◌++◌, length, Option, Some, None, refl, sym, ap, ◌∙◌, subst, append_assoc, append-nil, ◌==◌}
 use Rattle.m88_parse.specs.declared.fault.ParseKind.{ParseKind}
 use Rattle.m88_parse.specs.declared.fault.ParseKind.TheVariants.{Syntax}
 use Rattle.m88_parse.specs.declared.fault.ParseFault.{ParseFault}
@@ -220,7 +220,7 @@ node_as few num nam line e k r x n = record {
   each = λ p. each_as few num nam nam line e k r p (λ ps. x (p ∷ ps)) refl (n.each p);
 }
 
--- where a mark leads on by itself, and anything else as before
+-- where a mark leads on in its own way, and anything else as before
 
 pub data Unmarked (m : ℕ) : TokenValue → Type 0 where
   name_unmarked : {name : List ℕ} → Unmarked m (a_name name)
@@ -266,18 +266,3 @@ or_lead few num nam line e m all k o g x y z n = record {
         let b = h.1 in
         ((a.0, a.1, a.2, goes_on a.0 (other a.0 (a_name a.1) a.2 name_unmarked) a.3), (b.0, b.1, b.2, refuses b.0 (other b.0 (a_name b.1) b.2.0 name_unmarked) b.3))
     names symbols h = λ p i j. goes_on p (other p (a_name i) j.0 name_unmarked) (h p i j)
-
-pub or_mark : (few : ℕ) (num : Bool) (nam : Naming) (line e m : ℕ) (all k r : Reader) → (40 == m) ≡ false → ((45 == m) ≡ false) ⊎ (num ≡ false)
-    → ((p : Piece) (ps : List Piece) → is_mark_of m (Some p.says) ≡ true → all (p ∷ ps) ≡ r ps)
-    → ((p : Piece) (ps : List Piece) → is_mark_of m (Some p.says) ≡ false → all (p ∷ ps) ≡ k (p ∷ ps))
-    → all [] ≡ k [] → Good few line e r → Node few num nam line e k → Node few num nam line e all
-or_mark few num nam line e m all k r o s x y z g n = or_lead few num nam line e m all k o begun (λ p t. leads few num line e all r p g (λ ps. x p ps t) (fresh p t)) y z n
-  where
-    begun : Goes all
-    begun = (record { text = []; col = 0; says = a_mark m } ∷ g.0.0, x (record { text = []; col = 0; says = a_mark m }) g.0.0 (eq-eqb m m refl) ∙ g.0.1)
-
-    no_minus : (p : Piece) → is_mark_of m (Some p.says) ≡ true → (45 == m) ≡ false → IsMark 45 p → ⊥
-    no_minus p t d h = let w : is_mark_of m (Some p.says) ≡ (45 == m) = ap (λ (v : TokenValue). is_mark_of m (Some v)) h in true≢false (sym t ∙ w ∙ d)
-
-    fresh : (p : Piece) → is_mark_of m (Some p.says) ≡ true → (IsMark 45 p → ⊥) ⊎ (num ≡ false)
-    fresh p t = elim s [ inl d ↦ inl (no_minus p t d) | inr d ↦ inr d ]

@@ -19,11 +19,10 @@ use Rattle.m88_parse.specs.Reader.Operands.{half_immediate, half_at, half_on, sh
 use Rattle.m88_parse.specs.Language.Names.{IsMark, IsNamed}
 use Rattle.m88_parse.specs.Language.LineFaults.{IsOperation, half_alone, EndsInHalf}
 use Rattle.m88_parse.proofs.Law.Steps.{take_then, take_else}
-use Rattle.m88_parse.proofs.Law.Slots.{st, mark_says, own_names, symbols, kind_for, saying, any, any_is_symbol}
+use Rattle.m88_parse.proofs.Law.Slots.{st, mark_says, own_names, kind_for, saying, any, any_is_symbol}
 use Rattle.m88_parse.proofs.Law.LineFaults.Readers.{fault_in, here, Reader, heard, Goes, Reads, EndsAt, Told, Traced, Good}
-use Rattle.m88_parse.proofs.Law.LineFaults.Nodes.{Leads, Faults, Node, leads, good, reads_on, continues, follows, follows_not, told, moved, fresh_behind, each_as}
-use Rattle.m88_parse.proofs.Law.LineFaults.Slots.{reader_of, never, mark_node, turns}
-use Rattle.m88_parse.proofs.Law.LineFaults.Values.{mapped, value_node, NoName, number_is, text_is, mark_is}
+use Rattle.m88_parse.proofs.Law.LineFaults.Nodes.{Leads, Faults, Node, leads, reads_on, continues, follows, follows_not, told, moved, fresh_behind, each_as}
+use Rattle.m88_parse.proofs.Law.LineFaults.Slots.{reader_of, mapped, never, turns, NoName, number_is, text_is, mark_is}
 
 -- hi16 and lo16 where ( may follow
 
@@ -85,12 +84,6 @@ half_leads few num line e all r h text kind named is_half at_end taken other g l
 abbrev pub half_inside : {B : Type 0} → Kind → (Immediate → ReaderState → Result B ParseFault) → ReaderState → Result B ParseFault
 half_inside kind k s = value_at kind s >>= λ (v : Value × ReaderState). mark_at 41 v.1 >>= λ (closed : ReaderState). k (half_immediate kind v.0) closed
 
-behind_opening_good : (few : ℕ) (B : Type 0) (line e : ℕ) (kind : Kind) (k : Immediate → ReaderState → Result B ParseFault) → ((x : Immediate) → Good few line e (λ ps. fault_in (k x (st line e ps))))
-    → Good few line e (λ ps. fault_in (half_inside kind k (st line e ps)))
-behind_opening_good few B line e kind k g =
-    good few true symbols line e (reader_of line e (value_at kind) (λ v s. mark_at 41 s >>= λ (closed : ReaderState). k (half_immediate kind v) closed))
-    (value_node few B kind line e (λ v s. mark_at 41 s >>= λ (closed : ReaderState). k (half_immediate kind v) closed) (λ v. mark_node few B 41 line e (λ closed. k (half_immediate kind v) closed) refl refl (g (half_immediate kind v))))
-
 half_step : (B : Type 0) (line e : ℕ) (kind : Kind) (h q : Piece) (ps : List Piece) (k : Immediate → ReaderState → Result B ParseFault) → is_mark_of 40 (Some q.says) ≡ true
     → (half_at kind (st line e (h ∷ q ∷ ps)) >>= λ (x : Immediate × ReaderState). k x.0 x.1) ≡ half_inside kind k (st line e ps)
 unfolding half_at
@@ -131,9 +124,9 @@ unfolding half_named
 no_immediate B line e k = unknown_name B line e k any (codes "x") any_is_symbol.0 refl
 
 pub immediate_node : (few : ℕ) (B : Type 0) (line e : ℕ) (k : Immediate → ReaderState → Result B ParseFault) → ((x : Immediate) → Good few line e (λ ps. fault_in (k x (st line e ps))))
-    → Node few true own_names line e (reader_of line e immediate_at k)
+    → ((kind : Kind) → Good few line e (λ ps. fault_in (half_inside kind k (st line e ps)))) → Node few true own_names line e (reader_of line e immediate_at k)
 unfolding immediate_at half_named
-immediate_node few B line e k g = record {
+immediate_node few B line e k g inside = record {
   wants = record {
     numbers = (saying (a_number 0), 0, refl, ((g (short 0)).0.0, (g (short 0)).0.1));
     names = ((saying (a_name (codes "hi16")), codes "hi16", refl, hi16_goes), (any, codes "x", any_is_symbol, never true own_names line (reader_of line e immediate_at k) any (no_immediate B line e k)));
@@ -148,7 +141,7 @@ immediate_node few B line e k g = record {
     short n = record { imm = n; fixup = None }
 
     hi16_goes : Goes (λ ps. reader_of line e immediate_at k (saying (a_name (codes "hi16")) ∷ ps))
-    hi16_goes = let y = (behind_opening_good few B line e Hi16 k g).0 in (saying (a_mark 40) ∷ y.0, ap (λ (r : Result B ParseFault). fault_in r) (half_taken B line e Hi16 (saying (a_name (codes "hi16"))) (saying (a_mark 40)) y.0 (codes "hi16") k refl refl refl) ∙ y.1)
+    hi16_goes = let y = (inside Hi16).0 in (saying (a_mark 40) ∷ y.0, ap (λ (r : Result B ParseFault). fault_in r) (half_taken B line e Hi16 (saying (a_name (codes "hi16"))) (saying (a_mark 40)) y.0 (codes "hi16") k refl refl refl) ∙ y.1)
 
     other : (p : Piece) (m : TokenValue) → p.says ≡ m → NoName m → ((n : ℕ) → m ≡ a_number n → ⊥) → Faults true own_names line (reader_of line e immediate_at k) p
     other p m h number_is n ps = absurd (n _ refl)
@@ -160,7 +153,7 @@ immediate_node few B line e k g = record {
         half_leads few true line e (reader_of line e immediate_at k) (λ ps. fault_in (half_inside kind k (st line e ps))) p text kind h n (short_fault B line e k p [] (a_name text) h refl)
         (λ q ps t. ap (λ (r : Result B ParseFault). fault_in r) (half_taken B line e kind p q ps text k h n t))
         (λ q ps t. short_fault B line e k p (q ∷ ps) (a_name text) h (take_else (is_mark_of 40 (Some q.says)) _ _ t))
-        (behind_opening_good few B line e kind k g)
+        (inside kind)
 
     name_by : (p : Piece) (text : List ℕ) → p.says ≡ a_name text → (o : Option Kind) → half_named text ≡ o → Leads few true line e (reader_of line e immediate_at k) p ⊎ Faults true own_names line (reader_of line e immediate_at k) p
     name_by p text h (Some kind) n = inl (half_begins p text kind h n)
@@ -197,9 +190,9 @@ unfolding operand_at
 operand_register B line e k ps r h = ap (λ (o : Option Reg). operand_of (st line e ps) o >>= λ (x : Operand × ReaderState). k x.0 x.1) h
 
 pub operand_node : (few : ℕ) (B : Type 0) (line e : ℕ) (k : Operand → ReaderState → Result B ParseFault) → ((x : Operand) → Good few line e (λ ps. fault_in (k x (st line e ps))))
-    → Node few true own_names line e (reader_of line e operand_at k)
+    → ((kind : Kind) → Good few line e (λ ps. fault_in (half_inside kind (λ x. k (operand.Immediate x)) (st line e ps)))) → Node few true own_names line e (reader_of line e operand_at k)
 unfolding operand_at immediate_at register_of
-operand_node few B line e k g = record {
+operand_node few B line e k g inside = record {
   wants = record {
     numbers = let w = imm.wants.numbers in (w.0, w.1, w.2, (w.3.0, as_immediate w.0 w.3.0 (ap (λ (m : TokenValue). register_in (Some m)) w.2) ∙ w.3.1));
     names = ((saying (a_name (codes "r0")), codes "r0", refl, register_goes), (any, codes "x", any_is_symbol, never true own_names line (reader_of line e operand_at k) any no_operand));
@@ -211,7 +204,7 @@ operand_node few B line e k g = record {
 }
   where
     imm : Node few true own_names line e (reader_of line e immediate_at (λ x. k (operand.Immediate x)))
-    imm = immediate_node few B line e (λ x. k (operand.Immediate x)) (λ x. g (operand.Immediate x))
+    imm = immediate_node few B line e (λ x. k (operand.Immediate x)) (λ x. g (operand.Immediate x)) inside
 
     as_immediate : (p : Piece) (ps : List Piece) → register_in (Some p.says) ≡ None → reader_of line e operand_at k (p ∷ ps) ≡ reader_of line e immediate_at (λ x. k (operand.Immediate x)) (p ∷ ps)
     as_immediate p ps h = ap (λ (r : Result B ParseFault). fault_in r) (operand_immediate B line e k (p ∷ ps) h)
