@@ -9,6 +9,7 @@ use std::process::Abort;
 use std::test::Fail;
 
 mod ends;
+mod examples;
 mod failures;
 mod objects;
 mod pieces;
@@ -21,19 +22,33 @@ mod words;
 /// The words of a command, its input, and the text that it writes.
 pub type Row<'a> = (&'a str, &'a [u8], &'a [u8]);
 
-/// Ends the test unless each row's command answers by the status and by the row's text to the row's input, which comes in
-/// pieces of a length.
-pub fn expect_rows(
-    rt: &impl Abort,
-    alloc: Global,
-    piece: usize,
-    status: Status,
-    rows: &[Row],
-) -> Result<(), Fail> {
+/// An input, and the line that refuses it.
+pub type Refusal<'a> = (&'a [u8], &'a [u8]);
+
+/// Ends the test unless each row's command accepts the row's input, which comes in pieces of a length, and writes the row's
+/// text.
+pub fn expect_done(rt: &impl Abort, alloc: Global, piece: usize, rows: &[Row]) -> Result<(), Fail> {
     for (line, input, text) in rows {
         let (answer, held) = told(alloc, line, input, piece)?;
         assert!(rt;
-            answer == status && held.as_slice() == *text,
+            answer == Status::Done && held.as_slice() == *text,
+            "{line}: {held:?} in place of {text:?}"
+        );
+    }
+    Ok(())
+}
+
+/// Ends the test unless a command refuses the input of each row by the row's line.
+pub fn expect_refused(
+    rt: &impl Abort,
+    alloc: Global,
+    line: &str,
+    rows: &[Refusal],
+) -> Result<(), Fail> {
+    for (input, text) in rows {
+        let (answer, held) = told(alloc, line, input, 7)?;
+        assert!(rt;
+            answer == Status::Refused && held.as_slice() == *text,
             "{line}: {held:?} in place of {text:?}"
         );
     }
@@ -44,8 +59,8 @@ pub fn expect_rows(
 /// first call.
 pub fn expect_usage(rt: &impl Abort, alloc: Global, lines: &[&str]) -> Result<(), Fail> {
     for line in lines {
-        let source = MemSource::new(alloc, b"", 7, &[0]).map_err(|_| "memory")?;
-        let sink = MemSink::new(alloc, 1000, 7, &[0]).map_err(|_| "memory")?;
+        let source = MemSource::new(alloc, b"", 7, &[0])?;
+        let sink = MemSink::new(alloc, 1000, 7, &[0])?;
         let (answer, _) = run(alloc, line, source, sink)?;
         assert!(rt; answer == Status::Usage, "at {line}");
     }
@@ -60,8 +75,8 @@ pub fn told(
     piece: usize,
 ) -> Result<(Status, Vec<u8>), Fail> {
     let piece = if piece == 0 { 1 } else { piece };
-    let source = MemSource::new(alloc, input, piece, &[]).map_err(|_| "memory")?;
-    let sink = MemSink::new(alloc, 1000, piece, &[]).map_err(|_| "memory")?;
+    let source = MemSource::new(alloc, input, piece, &[])?;
+    let sink = MemSink::new(alloc, 2000, piece, &[])?;
     let said = run(alloc, line, source, sink)?;
     Ok(said)
 }

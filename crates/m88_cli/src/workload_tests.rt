@@ -1,7 +1,7 @@
 //! What no clause says of the generated workload: its first draws, a source whole, summaries, and words outside the
 //! grammar.
 
-use crate::tests::{expect_rows, expect_usage, run_watched};
+use crate::tests::{expect_done, expect_usage, run_watched};
 use crate::workload::Draws;
 use crate::*;
 use m88_base::{MemSink, MemSource};
@@ -22,20 +22,19 @@ fn the_first_draws_of_a_number(rt: HostRuntime) {
 #[test]
 fn a_number_makes_a_source_and_letters(rt: HostRuntime) -> Result<(), Fail> {
     let mut draws = Draws::new(0);
-    let source = draws.source(rt.alloc(), 2).map_err(|_| "memory")?;
+    let source = draws.source(rt.alloc(), 2)?;
     assert!(rt; source.as_slice() == b"st.b r6,r0,43768\nld r6,r0,41944\n".as_slice());
-    let letters = draws.letters(rt.alloc()).map_err(|_| "memory")?;
+    let letters = draws.letters(rt.alloc())?;
     assert!(rt; letters.len() == 4096 && letters.as_str().starts_with("riir"));
     Ok(())
 }
 
 #[test]
 fn a_workload_is_summed_up(rt: HostRuntime) -> Result<(), Fail> {
-    expect_rows(
+    expect_done(
         &rt,
         rt.alloc(),
         64,
-        Status::Done,
         &[
             (
                 "soak 0000000000 0000002",
@@ -67,8 +66,8 @@ fn a_workload_is_summed_up(rt: HostRuntime) -> Result<(), Fail> {
 
 #[test]
 fn a_watch_is_shown_each_event_of_a_workload(rt: HostRuntime) -> Result<(), Fail> {
-    let source = MemSource::new(rt.alloc(), b"", 64, &[0]).map_err(|_| "memory")?;
-    let sink = MemSink::new(rt.alloc(), 1000, 64, &[]).map_err(|_| "memory")?;
+    let source = MemSource::new(rt.alloc(), b"", 64, &[0])?;
+    let sink = MemSink::new(rt.alloc(), 1000, 64, &[])?;
     let mut watch = MemWatch::new();
     let (answer, _) = run_watched(rt.alloc(), "soak 0 2", source, sink, &mut watch)?;
     assert!(rt; answer == Status::Done && watch.seen().len() == 4);

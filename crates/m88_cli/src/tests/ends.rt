@@ -1,7 +1,6 @@
 //! How programs end: by vectors, and at their limit.
 
-use crate::Status;
-use crate::tests::expect_rows;
+use crate::tests::expect_done;
 use crate::tests::reports::FULL;
 use std::test::Fail;
 
@@ -64,11 +63,10 @@ const ANSWERED_REPORT: &[u8] = b"end limit\nretired 4\n\
 
 #[test]
 fn programs_end_by_vectors_and_at_their_limit(rt: HostRuntime) -> Result<(), Fail> {
-    expect_rows(
+    expect_done(
         &rt,
         rt.alloc(),
         64,
-        Status::Done,
         &[
             ("run 9 none -", SUM_TOO_LARGE, SUM_TOO_LARGE_REPORT),
             ("run 9 none -", NEGATIVE, NEGATIVE_REPORT),

@@ -1,7 +1,6 @@
 //! Objects: what `asm` writes, what `link` and `build` make of it, and the objects that `link` refuses.
 
-use crate::Status;
-use crate::tests::expect_rows;
+use crate::tests::{expect_done, expect_refused};
 use std::test::Fail;
 
 /// A branch and a load that wait for symbols, as `asm` reads them and as it writes their object.
@@ -34,11 +33,10 @@ const NO_RECORDS: &[u8] = b"S00600004D38383C\nS70500001000EA\n";
 
 #[test]
 fn a_source_is_assembled_and_linked(rt: HostRuntime) -> Result<(), Fail> {
-    expect_rows(
+    expect_done(
         &rt,
         rt.alloc(),
         7,
-        Status::Done,
         &[
             ("asm", WAITING, WAITING_OBJECT),
             ("asm", MODULES, MODULES_OBJECTS),
@@ -53,66 +51,52 @@ fn a_source_is_assembled_and_linked(rt: HostRuntime) -> Result<(), Fail> {
 
 #[test]
 fn objects_are_refused_at_their_first_fault(rt: HostRuntime) -> Result<(), Fail> {
-    expect_rows(
+    expect_refused(
         &rt,
         rt.alloc(),
-        7,
-        Status::Refused,
+        "link",
         &[
-            ("link", b"", b"refused 1:1 form\n"),
-            ("link", b"objekt main\n", b"refused 1:1 form\n"),
+            (b"", b"refused 1:1 form\n"),
+            (b"objekt main\n", b"refused 1:1 form\n"),
             (
-                "link",
                 b"object main\ntext 00000008 1\n=58400041\n",
                 b"refused 3:1 form\n",
             ),
+            (b"object main\ntext FFFFFFFF 1\n", b"refused 3:1 form\n"),
             (
-                "link",
-                b"object main\ntext FFFFFFFF 1\n",
-                b"refused 3:1 form\n",
-            ),
-            (
-                "link",
                 b"object a\ntext 00000000 1\ndata 00000000 1\nend",
                 b"refused 4:1 form\n",
             ),
             (
-                "link",
                 b"object a\ntext 00000000 1\ndata 00000000 1\nsymbol x l 0 00000001 1 1\nend\nobject 9\n",
                 b"refused 6:1 form\n",
             ),
             (
-                "link",
                 b"object main\ntext 00000004 1\n=58400041\ndata 00000000 1\n\
     reloc lo16 0 00000004 x 00000000 1 1\nend\n",
                 b"refused 5:1 range\n",
             ),
             (
-                "link",
                 b"object a\ntext 00000000 1\ndata 00000000 1\nend\n\
     object b\ntext 00000000 4\ndata 00000000 4\nsymbol _start l 0 00000000 4 1\nend\n",
                 b"refused 8:1 range\n",
             ),
             (
-                "link",
                 b"object a\ntext 00000000 1\ndata 00000000 1\nat 00002000 00000001 5\n=01\n\
     at 00002000 00000001 3\n=02\nend\n",
                 b"refused 3:1 overlap 00002000\n",
             ),
             (
-                "link",
                 b"object a\ntext 00000000 1\ndata 00000000 1\nsymbol f g 0 00000000 3 1\nend\n\
     object b\ntext 00000000 4\ndata 00000000 4\nsymbol f g 1 00000000 9 5\nend\n",
                 b"refused 9:5 duplicate f first at 3\n",
             ),
             (
-                "link",
                 b"object a\ntext 00000004 1\n=C0000000\ndata 00000000 1\n\
     reloc pc26 0 00000000 nowhere 00000000 7 4\nend\n",
                 b"refused 7:4 undefined nowhere\n",
             ),
             (
-                "link",
                 b"object a\ntext 00000000 1\ndata 00000000 1\nat 00100000 00000004 2\n=E8400000\n\
     symbol x l 0 00000000 1 1\nreloc pc16 2 00000000 x 00000000 3 14\nend\n",
                 b"refused 3:14 too far -1044480\n",

@@ -1,10 +1,9 @@
 //! Inputs and texts that come in pieces of any length.
 
-use crate::Status;
-use crate::tests::expect_rows;
 use crate::tests::objects::{WAITING, WAITING_OBJECT, WAITING_RECORDS};
 use crate::tests::records::{TWO_WORDS, TWO_WORDS_LISTING};
 use crate::tests::reports::{LOADS, LOADS_REPORT, SUM, SUM_REPORT};
+use crate::tests::{Row, expect_done};
 use std::test::Fail;
 
 /// Puts the letter A out and ends.
@@ -54,35 +53,20 @@ const TRAP_REPORT: &[u8] = b"end vector 245 at 00001018\nretired 6\n\
 #[test]
 fn an_input_in_any_pieces_is_answered_by_the_whole_text(rt: HostRuntime) -> Result<(), Fail> {
     for piece in [1, 2, 7] {
-        expect_rows(
-            &rt,
-            rt.alloc(),
-            piece,
-            Status::Done,
-            &[
-                ("run 0 none -", b"", NOTHING_ALLOWED),
-                ("run 1 none -", b"", NOTHING_THERE),
-                ("run 100 none -", LETTER, LETTER_REPORT),
-                ("run 2000 none -", TRAP, TRAP_REPORT),
-                ("run 3 5,6,7 iiir", LOADS, LOADS_REPORT),
-                ("run 1000 all iiirrr", SUM, SUM_REPORT),
-                ("build", WAITING, WAITING_RECORDS),
-                ("link", WAITING_OBJECT, WAITING_RECORDS),
-                ("exec 1 none -", TWO_WORDS, ONE_RETIRED),
-                ("dis", TWO_WORDS, TWO_WORDS_LISTING),
-            ],
-        )?;
-        expect_rows(
-            &rt,
-            rt.alloc(),
-            piece,
-            Status::Refused,
-            &[(
-                "run 1 none -",
-                b"br nowhere\n",
-                b"refused 1:4 undefined nowhere\n",
-            )],
-        )?;
+        expect_done(&rt, rt.alloc(), piece, ROWS)?;
     }
     Ok(())
 }
+
+const ROWS: &[Row] = &[
+    ("run 0 none -", b"", NOTHING_ALLOWED),
+    ("run 1 none -", b"", NOTHING_THERE),
+    ("run 100 none -", LETTER, LETTER_REPORT),
+    ("run 2000 none -", TRAP, TRAP_REPORT),
+    ("run 3 5,6,7 iiir", LOADS, LOADS_REPORT),
+    ("run 1000 all iiirrr", SUM, SUM_REPORT),
+    ("build", WAITING, WAITING_RECORDS),
+    ("link", WAITING_OBJECT, WAITING_RECORDS),
+    ("exec 1 none -", TWO_WORDS, ONE_RETIRED),
+    ("dis", TWO_WORDS, TWO_WORDS_LISTING),
+];

@@ -1,7 +1,6 @@
 //! S-records: what `build` writes and `dis` lists, and the records that `exec` and `dis` refuse.
 
-use crate::Status;
-use crate::tests::expect_rows;
+use crate::tests::{Refusal, expect_done, expect_refused};
 use std::test::Fail;
 
 pub const TWO_WORDS: &[u8] = b"S00600004D38383C\nS30D0000100058400041F000D1F058\nS70500001000EA\n";
@@ -28,11 +27,10 @@ const TWO_PARTS_LISTING: &[u8] =
 
 #[test]
 fn a_source_is_built(rt: HostRuntime) -> Result<(), Fail> {
-    expect_rows(
+    expect_done(
         &rt,
         rt.alloc(),
         7,
-        Status::Done,
         &[
             ("build", b"or r2,r0,65\ntb0 0,r0,496\n", TWO_WORDS),
             ("build", TWO_WORDS_LISTING, TWO_WORDS),
@@ -43,11 +41,10 @@ fn a_source_is_built(rt: HostRuntime) -> Result<(), Fail> {
 
 #[test]
 fn records_are_listed(rt: HostRuntime) -> Result<(), Fail> {
-    expect_rows(
+    expect_done(
         &rt,
         rt.alloc(),
         7,
-        Status::Done,
         &[
             ("dis", TWO_WORDS, TWO_WORDS_LISTING),
             ("dis", ODD_PART, ODD_PART_LISTING),
@@ -57,104 +54,38 @@ fn records_are_listed(rt: HostRuntime) -> Result<(), Fail> {
     )
 }
 
-#[test]
-fn records_are_refused_at_their_first_fault(rt: HostRuntime) -> Result<(), Fail> {
-    expect_rows(
-        &rt,
-        rt.alloc(),
-        7,
-        Status::Refused,
-        &[
-            (
-                "dis",
-                b"S00600004D38383C\nS30D0000100058400041F000D1F058\nS70500001000EB\n",
-                b"refused 3:1 sum written EB computed EA\n",
-            ),
-            (
-                "dis",
-                b"S00600004D38383C\nS30D0000100058400041F000D1F058\n",
-                b"refused 3:1 no end\n",
-            ),
-            (
-                "dis",
-                b"S00600004D38383C\nS30D0000100058400041F000D1F058\n\
+/// Records that have a fault.
+const FAULTS: &[Refusal] = &[
+    (
+        b"S00600004D38383C\nS30D0000100058400041F000D1F058\nS70500001000EB\n",
+        b"refused 3:1 sum written EB computed EA\n",
+    ),
+    (
+        b"S00600004D38383C\nS30D0000100058400041F000D1F058\n",
+        b"refused 3:1 no end\n",
+    ),
+    (
+        b"S00600004D38383C\nS30D0000100058400041F000D1F058\n\
     S30D0000100058400041F000D1F058\nS70500001000EA\n",
-                b"refused 3:1 overlap 00001000\n",
-            ),
-            (
-                "dis",
-                b"S309FFFFFFFE01020304F1\n",
-                b"refused 1:1 too large\n",
-            ),
-            ("dis", b"S307FFFFFFFE0102FA\n", b"refused 2:1 no end\n"),
-            (
-                "dis",
-                b"S30500001000\n",
-                b"refused 1:1 count written 5 found 4\n",
-            ),
-            (
-                "dis",
-                b"S5030002FA\n",
-                b"refused 1:1 count record written 2 found 0\n",
-            ),
-            (
-                "dis",
-                b"S70500001000EA\nS00600004D38383C\n",
-                b"refused 2:1 after end\n",
-            ),
-        ],
-    )
-}
+        b"refused 3:1 overlap 00001000\n",
+    ),
+    (b"S309FFFFFFFE01020304F1\n", b"refused 1:1 too large\n"),
+    (b"S307FFFFFFFE0102FA\n", b"refused 2:1 no end\n"),
+    (b"S30500001000\n", b"refused 1:1 count written 5 found 4\n"),
+    (
+        b"S5030002FA\n",
+        b"refused 1:1 count record written 2 found 0\n",
+    ),
+    (
+        b"S70500001000EA\nS00600004D38383C\n",
+        b"refused 2:1 after end\n",
+    ),
+];
 
 #[test]
-fn no_records_are_run_that_are_refused(rt: HostRuntime) -> Result<(), Fail> {
-    expect_rows(
-        &rt,
-        rt.alloc(),
-        7,
-        Status::Refused,
-        &[
-            (
-                "exec 1 none -",
-                b"S00600004D38383C\nS30D0000100058400041F000D1F058\nS70500001000EB\n",
-                b"refused 3:1 sum written EB computed EA\n",
-            ),
-            (
-                "exec 1 none -",
-                b"S00600004D38383C\nS30D0000100058400041F000D1F058\n",
-                b"refused 3:1 no end\n",
-            ),
-            (
-                "exec 1 none -",
-                b"S00600004D38383C\nS30D0000100058400041F000D1F058\n\
-    S30D0000100058400041F000D1F058\nS70500001000EA\n",
-                b"refused 3:1 overlap 00001000\n",
-            ),
-            (
-                "exec 1 none -",
-                b"S309FFFFFFFE01020304F1\n",
-                b"refused 1:1 too large\n",
-            ),
-            (
-                "exec 1 none -",
-                b"S307FFFFFFFE0102FA\n",
-                b"refused 2:1 no end\n",
-            ),
-            (
-                "exec 1 none -",
-                b"S30500001000\n",
-                b"refused 1:1 count written 5 found 4\n",
-            ),
-            (
-                "exec 1 none -",
-                b"S5030002FA\n",
-                b"refused 1:1 count record written 2 found 0\n",
-            ),
-            (
-                "exec 1 none -",
-                b"S70500001000EA\nS00600004D38383C\n",
-                b"refused 2:1 after end\n",
-            ),
-        ],
-    )
+fn records_are_refused_at_their_first_fault(rt: HostRuntime) -> Result<(), Fail> {
+    for line in ["exec 1 none -", "dis"] {
+        expect_refused(&rt, rt.alloc(), line, FAULTS)?;
+    }
+    Ok(())
 }

@@ -1,7 +1,6 @@
 //! Whole reports of runs in which memory answers late: faults, repairs, stores that keep their data.
 
-use crate::Status;
-use crate::tests::expect_rows;
+use crate::tests::expect_done;
 use std::test::Fail;
 
 /// Sums a table of ten words in a loop whose branch has a slot.
@@ -153,11 +152,10 @@ const FULL_REPORT: &[u8] = b"end limit\nretired 4\n\
 
 #[test]
 fn memory_answers_late_and_its_faults_are_reported(rt: HostRuntime) -> Result<(), Fail> {
-    expect_rows(
+    expect_done(
         &rt,
         rt.alloc(),
         64,
-        Status::Done,
         &[
             ("run 1000 all iiirrr", SUM, SUM_REPORT),
             ("run 3 5,6,7 iiir", LOADS, LOADS_REPORT),
