@@ -1,5 +1,5 @@
-//! What no clause says of the commands, one file a subject; here stand what the files share: the top call over a line of
-//! words, and the two ways in which a table of rows is tried.
+//! What no clause says of the commands, one file a subject. Here stands what the files share: the top call over a line of
+//! words, and what tries the rows of a table.
 
 use crate::*;
 use m88_base::{MemSink, MemSource};
@@ -55,16 +55,21 @@ pub fn expect_refused(
     Ok(())
 }
 
-/// Ends the test unless each line is no command: it is answered before a source and a sink are called that fail at their
-/// first call.
+/// Ends the test unless each line is no command.
 pub fn expect_usage(rt: &impl Abort, alloc: Global, lines: &[&str]) -> Result<(), Fail> {
     for line in lines {
-        let source = MemSource::new(alloc, b"", 7, &[0])?;
-        let sink = MemSink::new(alloc, 1000, 7, &[0])?;
-        let (answer, _) = run(alloc, line, source, sink)?;
-        assert!(rt; answer == Status::Usage, "at {line}");
+        let (answer, held) = uncalled(alloc, line)?;
+        assert!(rt; answer == Status::Usage && held.is_empty(), "at {line}");
     }
     Ok(())
+}
+
+/// What a line of words answers before it calls its source and its sink, which fail at their first call.
+fn uncalled(alloc: Global, line: &str) -> Result<(Status, Vec<u8>), Fail> {
+    let source = MemSource::new(alloc, b"", 7, &[0])?;
+    let sink = MemSink::new(alloc, 1000, 7, &[0])?;
+    let said = run(alloc, line, source, sink)?;
+    Ok(said)
 }
 
 /// What a line of words answers to an input that comes in pieces of a length, 1 where it is 0.

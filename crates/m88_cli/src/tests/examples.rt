@@ -94,20 +94,40 @@ fn each_example_has_one_report_in_three_ways(rt: HostRuntime) -> Result<(), Fail
     )
 }
 
-/// Ends the test unless the source of each row has one report by the words of `run` and, from the records that `build` and
-/// `link` make of it, by those of `exec`, and the row's line stands in it.
+/// Ends the test unless the source of each row has one report by the words of `run` and, from its records, by those of
+/// `exec`, and the row's line stands in it.
 fn expect_one_report(rt: &impl Abort, alloc: Global, rows: &[Example]) -> Result<(), Fail> {
     for (source, run, exec, line) in rows {
-        let report = written(rt, alloc, run, source)?;
-        let built = written(rt, alloc, "build", source)?;
-        let objects = written(rt, alloc, "asm", source)?;
-        let linked = written(rt, alloc, "link", objects.as_slice())?;
-        let loaded = written(rt, alloc, exec, linked.as_slice())?;
-        assert!(rt; linked == built && loaded == report, "{run}: {loaded:?}");
-        let text = String::from_utf8_lossy(alloc, report.as_slice())?;
-        assert!(rt; text.as_str().contains(*line), "{run}: {text}");
+        let records = records_of(rt, alloc, source)?;
+        let report = written(rt, alloc, exec, records.as_slice())?;
+        expect_text(rt, alloc, run, source, report.as_slice(), line)?;
     }
     Ok(())
+}
+
+/// Ends the test unless a command writes a text, and a line stands in it.
+fn expect_text(
+    rt: &impl Abort,
+    alloc: Global,
+    command: &str,
+    input: &[u8],
+    text: &[u8],
+    line: &str,
+) -> Result<(), Fail> {
+    let held = written(rt, alloc, command, input)?;
+    assert!(rt; held.as_slice() == text, "{command}: {held:?}");
+    let text = String::from_utf8_lossy(alloc, text)?;
+    assert!(rt; text.as_str().contains(line), "{command}: {text}");
+    Ok(())
+}
+
+/// The S-records of a source by way of its objects; ends the test where `build` writes others.
+fn records_of(rt: &impl Abort, alloc: Global, source: &[u8]) -> Result<Vec<u8>, Fail> {
+    let objects = written(rt, alloc, "asm", source)?;
+    let linked = written(rt, alloc, "link", objects.as_slice())?;
+    let built = written(rt, alloc, "build", source)?;
+    assert!(rt; linked == built, "{source:?}");
+    Ok(linked)
 }
 
 /// The text of a command that accepts its input; ends the test where it doesn't.

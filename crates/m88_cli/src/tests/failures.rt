@@ -18,15 +18,27 @@ type Failing<'a> = (&'a [u8], u32, u32, usize, Status, &'a [u8]);
 /// Ends the test unless a run of no instruction is answered as each row says.
 fn expect_answers(rt: &impl Abort, alloc: Global, rows: &[Failing]) -> Result<(), Fail> {
     for (input, reading, writing, room, status, text) in rows {
-        let source = MemSource::new(alloc, input, 4096, &[*reading])?;
-        let sink = MemSink::new(alloc, *room, 4, &[*writing])?;
-        let (answer, held) = run(alloc, "run 0 none -", source, sink)?;
+        let (answer, held) = answer_of(alloc, input, *reading, *writing, *room)?;
         assert!(rt;
             answer == *status && held.as_slice() == *text,
             "reading fails at {reading}, writing at {writing}, room {room}"
         );
     }
     Ok(())
+}
+
+/// The answer to a run of no instruction, and what the sink then holds.
+fn answer_of(
+    alloc: Global,
+    input: &[u8],
+    reading: u32,
+    writing: u32,
+    room: usize,
+) -> Result<(Status, Vec<u8>), Fail> {
+    let source = MemSource::new(alloc, input, 4096, &[reading])?;
+    let sink = MemSink::new(alloc, room, 4, &[writing])?;
+    let said = run(alloc, "run 0 none -", source, sink)?;
+    Ok(said)
 }
 
 #[test]

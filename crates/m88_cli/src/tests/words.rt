@@ -50,15 +50,17 @@ fn other_words_are_usage(rt: HostRuntime) -> Result<(), Fail> {
 
 #[test]
 fn each_status_has_its_number(rt: HostRuntime) {
-    for (status, number) in [
-        (Status::Done, 0),
-        (Status::Usage, 1),
-        (Status::SourceFault, 2),
-        (Status::SinkFault, 3),
-        (Status::Refused, 4),
-        (Status::Memory, 5),
-        (Status::TooLong, 6),
-    ] {
-        assert_eq!(rt; status.number(), number);
+    for (status, number) in NUMBERS {
+        assert_eq!(rt; status.number(), *number);
     }
 }
+
+const NUMBERS: &[(Status, u8)] = &[
+    (Status::Done, 0),
+    (Status::Usage, 1),
+    (Status::SourceFault, 2),
+    (Status::SinkFault, 3),
+    (Status::Refused, 4),
+    (Status::Memory, 5),
+    (Status::TooLong, 6),
+];
