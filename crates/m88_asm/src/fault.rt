@@ -50,6 +50,12 @@ pub struct AsmFault {
 }
 
 impl fmt::Display for AsmFault {
+    ghost use Rattle.std.specs.Prelude.{Some};
+    ghost use Rattle.m88_base.specs.Refused.{placed_reason};
+    ghost use Rattle.m88_asm.specs.Reasons.{asm_reason};
+
+    ghost output = { λ fault. Some (placed_reason fault.line fault.col (asm_reason fault.kind)) };
+
     fn fmt<W: fmt::Write>(&self, f: &mut fmt::Formatter<W>) -> fmt::Result {
         write!(f, "{}:{} {}", self.line, self.col, self.kind)
     }
@@ -89,6 +95,12 @@ pub enum UnitFault {
 }
 
 impl fmt::Display for UnitFault {
+    ghost use Rattle.std.specs.Prelude.{Some};
+    ghost use Rattle.m88_asm.specs.Reasons.{unit_fault_text};
+
+    ghost output = { λ fault. Some (unit_fault_text fault) };
+
+    #[tactic(auto, unfolding(crate::specs::Reasons::unit_fault_text))]
     fn fmt<W: fmt::Write>(&self, f: &mut fmt::Formatter<W>) -> fmt::Result {
         match self {
             UnitFault::Asm(fault) => write!(f, "{fault}"),

@@ -1,11 +1,14 @@
 //! The assembler: the objects of a unit.
 #![tactic(auto)]
 
+// The object of a module, statement by statement.
 mod assembly;
 mod exports;
 mod fault;
 mod filling;
 mod growing;
+
+// The objects and the image of a unit.
 mod image;
 mod objects;
 #[cfg(test)]

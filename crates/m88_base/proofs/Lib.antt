@@ -1,4 +1,5 @@
 pub mod Apart
+pub mod AsciiDigits
 pub mod Constants
 pub mod Copied
 pub mod Cuts

@@ -8,8 +8,8 @@ use std::alloc::AllocError;
 use std::fmt;
 use std::str::from_utf8;
 
-/// The digit of a number below 16.
-fn digit(d: u32) -> u8
+/// The digit of a number below 16, no letter of lower case.
+pub fn hex_digit(d: u32) -> u8
     requires { d < 16 }
     ensures { result ≡ hex_digit d }
 {
@@ -25,14 +25,14 @@ fn word_digits(n: u32) -> [u8; 8]
     ensures { result ≡ hex8 n }
 {
     [
-        digit(n >> 28),
-        digit(n >> 24 & 15),
-        digit(n >> 20 & 15),
-        digit(n >> 16 & 15),
-        digit(n >> 12 & 15),
-        digit(n >> 8 & 15),
-        digit(n >> 4 & 15),
-        digit(n & 15),
+        hex_digit(n >> 28),
+        hex_digit(n >> 24 & 15),
+        hex_digit(n >> 20 & 15),
+        hex_digit(n >> 16 & 15),
+        hex_digit(n >> 12 & 15),
+        hex_digit(n >> 8 & 15),
+        hex_digit(n >> 4 & 15),
+        hex_digit(n & 15),
     ]
 }
 
@@ -41,7 +41,7 @@ fn byte_digits(n: u8) -> [u8; 2]
     ensures { result ≡ hex2 n }
 {
     let n = u32::from(n);
-    [digit(n >> 4), digit(n & 15)]
+    [hex_digit(n >> 4), hex_digit(n & 15)]
 }
 
 /// Appends a word in eight digits.
@@ -70,6 +70,24 @@ impl fmt::Display for Hex8 {
 
     fn fmt<W: fmt::Write>(&self, f: &mut fmt::Formatter<W>) -> fmt::Result {
         match from_utf8(&word_digits(self.0)) {
+            Ok(text) => f.write_str(text),
+            Err(_) => unreachable!(),
+        }
+    }
+}
+
+/// A byte that is printed in two digits.
+#[derive(Clone, Copy, PartialEq, Eq, Debug)]
+pub struct Hex2(pub u8);
+
+impl fmt::Display for Hex2 {
+    ghost use Rattle.std.specs.Prelude.{Some};
+    ghost use Rattle.m88_base.specs.Hex.{hex2};
+
+    ghost output = { λ byte. Some (hex2 byte.0) };
+
+    fn fmt<W: fmt::Write>(&self, f: &mut fmt::Formatter<W>) -> fmt::Result {
+        match from_utf8(&byte_digits(self.0)) {
             Ok(text) => f.write_str(text),
             Err(_) => unreachable!(),
         }

@@ -39,7 +39,7 @@ mod tests;
 pub use absent::{Absent, PAGE_BYTES};
 pub use failing::{Failed, NoMemory};
 pub use fixup::{Fixup, Kind};
-pub use hex::{Hex8, hex8_of, push_hex2, push_hex8};
+pub use hex::{Hex2, Hex8, hex_digit, hex8_of, push_hex2, push_hex8};
 pub use image::{FIRST_TEXT, Image, ImageFault, MOST_BYTES};
 pub use line::first_line;
 pub use listed::Listed;

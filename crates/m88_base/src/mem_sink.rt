@@ -42,7 +42,7 @@ impl Model for MemSink {
 
 impl MemSink {
     /// An empty sink with room for `room` bytes, all taken here. It takes at most `piece` bytes a
-    /// call. Its calls are one_more from 0, and it fails in those that `failing` lists.
+    /// call. Its calls are counted from 0, and it fails in those that `failing` lists.
     pub fn new(
         alloc: Global,
         room: usize,

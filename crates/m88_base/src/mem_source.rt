@@ -40,7 +40,7 @@ impl Model for MemSource {
 }
 
 impl MemSource {
-    /// A source of `bytes` that gives at most `piece` bytes a call. Its calls are one_more from 0, and it
+    /// A source of `bytes` that gives at most `piece` bytes a call. Its calls are counted from 0, and it
     /// fails in those that `failing` lists.
     pub fn new(
         alloc: Global,

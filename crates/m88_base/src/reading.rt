@@ -1,5 +1,5 @@
 //! A whole source in memory.
-ghost use Rattle.std.specs.Prelude.{◌≡◌, ◌≢◌, ℕ, ◌+◌, ◌^◌, ◌<◌, ◌≤◌, Err, IfOk, vec_len};
+ghost use Rattle.std.specs.Prelude.{◌≡◌, ◌≢◌, ℕ, ◌+◌, ◌^◌, ◌<◌, ◌≤◌, Err, IfOk, OnOk, vec_len};
 ghost use Rattle.std.specs.Io.KnownBytes.{Consumes, IsAtEnd};
 ghost use Rattle.m88_base.specs.Causes.{Rose};
 ghost use Rattle.m88_base.specs.Outside.{TakesExactly, TakesAtMost};
@@ -45,6 +45,7 @@ pub fn read_all<S: Source>(alloc: Global, source: &mut S, max: usize) -> Result<
     ensures short { result ≢ Err ReadEnd.TooLong
         → TakesAtMost (S.left source.old) (S.left source.new) max }
     ensures grows { S.faults source.old ≤ S.faults source.new }
+    ensures clean { OnOk result (S.faults source.new ≡ S.faults source.old) }
     ensures fault { result ≡ Err ReadEnd.SourceFault
         → Rose (S.faults source.old) (S.faults source.new) }
 {

@@ -27,6 +27,7 @@ pub fn write_all<K: Sink>(sink: &mut K, bytes: &[u8]) -> Result<(), SinkFault>
     ensures part { OnErr result (AppendsPart (K.held sink.old) (K.held sink.new) bytes.now) }
 
     ensures grows { K.faults sink.old ≤ K.faults sink.new }
+    ensures clean { OnOk result (K.faults sink.new ≡ K.faults sink.old) }
     ensures fault { OnErr result (Rose (K.faults sink.old) (K.faults sink.new)) }
 {
     let mut written = 0;

@@ -3,9 +3,11 @@ use Rattle.std.specs.Prelude.{ℕ, Bool, false, List, [], ◌∷◌, ◌≡◌, 
 use Rattle.std.proofs.Common.{arith, refl, sym, ap, ◌∙◌, subst}
 use Rattle.std.proofs.lemmas.List.{length-drop}
 use Rattle.m88_event.proofs.Follows.{law, same_said, stays_within}
+use Rattle.m88_event.proofs.Past.{keeps_past}
 use Rattle.m88_event.proofs.Precise.{precise_by}
 use Rattle.m88_event.specs.Choice.{ServesOrEnds, answer_choice, faults, replies}
 use Rattle.m88_event.specs.Local.{Local, choice_by, move, record_by, said_by, situation_of, with_move_counted}
+use Rattle.m88_event.specs.Past.{HasPast}
 use Rattle.m88_event.specs.Timeline.{Moment, after_letter, said_at}
 use Rattle.m88_event.specs.declared.happened.Happened.{Happened}
 use Rattle.m88_event.specs.declared.letter.Letter.{Letter}
@@ -39,6 +41,8 @@ pub along : (p : Program) (named : ℕ → Bool) (m : Moment) (letter : Letter) 
 along p named m letter old h new is at moved = record {
   image = subst (λ image. IsProgramOf image p) (sym moved.same.image) at.image;
   within = stays_within p named old.limit letter m at.within;
+  past = subst (λ limit. HasPast p limit (after_letter p named old.limit letter m)) (sym moved.same.limit)
+      (keeps_past p named old.limit letter m at.within at.past);
   seen = moved.moved ∙ ap (move p old.limit letter) at.seen ∙ law p named old.limit letter m is at.within;
 }
 

@@ -5,6 +5,7 @@ use Rattle.std.proofs.lemmas.Bool.{eqb-false, eqb-true}
 use Rattle.m88_event.proofs.Over.{drained_seen, run_ends}
 use Rattle.m88_event.specs.Letters.{letter_at}
 use Rattle.m88_event.specs.Local.{Local}
+use Rattle.m88_event.specs.Past.{HasPast}
 use Rattle.m88_event.specs.Run.{IsDrain, IsDraining, IsRun, IsRunning, answered_after, moment_after}
 use Rattle.m88_event.specs.Timeline.{Moment, after_letter, is_drained, is_over, opening_moment}
 use Rattle.m88_event.specs.declared.letter.Letter.{Letter}
@@ -117,6 +118,7 @@ pub still_at : (p : Program) (named : ℕ → Bool) (m : Moment) (b c : BoardVie
 still_at p named m b c unmoved at = record {
   image = subst (λ image. IsProgramOf image p) (sym unmoved.image) at.image;
   within = at.within;
+  past = subst (λ (d : BoardView). HasPast p d.limit m) (sym unmoved.rest) at.past;
   seen = unmoved_seen b c unmoved ∙ at.seen;
 }
 

@@ -5,6 +5,7 @@ use Rattle.std.proofs.Math.Path.{fun_ext}
 use Rattle.std.proofs.lemmas.List.Elements.{All-nil}
 use Rattle.m88_base.specs.Image.{ProgramImage}
 use Rattle.m88_ctrl.specs.ControlRegisters.{ControlRegisters, at_start}
+use Rattle.m88_event.proofs.Past.{opens_with}
 use Rattle.m88_event.specs.Local.{Local, local_at}
 use Rattle.m88_event.specs.Shadow.{no_pointer}
 use Rattle.m88_event.specs.declared.record.Record.{Record}
@@ -150,6 +151,7 @@ unfolding transactions
 opens p named limit entry e0 e1 file memory numbers bus absent start of = record {
   image = of;
   within = omega arith;
+  past = opens_with p limit;
   seen = board_seen limit entry e0 e1 file memory
       ∙ ap (λ ns. seen_at ns (bus_of memory) (absent_of memory) entry) numbers
       ∙ ap (λ b. seen_at (replicate 32 0) b (absent_of memory) entry) (bus ∙ same_bytes p memory.image of)

@@ -2,6 +2,7 @@
 use Rattle.std.specs.Prelude.{ℕ, Bool, not, List, [], ◌∷◌, Option, ◌≡◌, if◌then◌else◌}
 use Rattle.m88_event.specs.Choice.{Choice, finishes, holds, said}
 use Rattle.m88_event.specs.Local.{local_at, move, move_by, said_by}
+use Rattle.m88_event.specs.Past.{HasPast}
 use Rattle.m88_event.specs.Shadow.{retired_pointer}
 use Rattle.m88_event.specs.Timeline.{DoneWereMade, Moment, after_letter}
 use Rattle.m88_event.specs.declared.happened.Happened.{Happened}
@@ -48,10 +49,11 @@ pub record IsMove (p : Program) (letter : Letter) (old : BoardView) (happened : 
   pub moved : local_of new ≡ move p old.limit letter (local_of old)
   pub same : IsSameRun old new
 
--- a board stands at a moment of a program that its image holds
+-- a board stands at a moment of a program that its image holds, with what lies behind each moment of a run
 pub record IsAt (p : Program) (named : ℕ → Bool) (m : Moment) (b : BoardView) : Type 0 where
   pub image : IsProgramOf b.memory.image p
   pub within : DoneWereMade p m
+  pub past : HasPast p b.limit m
   pub seen : local_of b ≡ local_at p named m
 
 -- a board made the event of a letter at a moment, and was shown

@@ -1,4 +1,4 @@
--- What the next instruction comes to in its turn.
+-- What the next instruction comes to in its turn: words for private contracts, and for what always holds of a board.
 use Rattle.std.specs.Prelude.{Option, ◌≡◌}
 use Rattle.m88_event.specs.Choice.{Choice, end_by, finishes, next_choice}
 use Rattle.m88_event.specs.Local.{choice_by}

@@ -25,9 +25,11 @@ ghost use Rattle.m88_board.specs.Shown.{IsRecordOf, ShowsFault};
 ghost use Rattle.m88_board.specs.Turns.{IssueComesTo, ComesToEnd};
 ghost use Rattle.m88_event.specs.declared.happened.Happened.{Happened as HappenedValue};
 
-use crate::unit::{advance, complete, lacks_word, prepare, put_in, serve_all, visit, write};
+use crate::accesses::{complete, prepare, put_in, write};
+use crate::serving::{serve_all, visit};
+use crate::slots::{advance, lacks_word};
 use m88_base::{Absent, Image, NoMemory, Reg};
-use m88_ctrl::{Control, Frame};
+use m88_ctrl::{Control, Frame, cr};
 use m88_dunit::DataUnit;
 use m88_event::{End, Happened, Record, Why};
 use m88_isa::{Access, Effect, Instr, uses, writes};
@@ -43,14 +45,8 @@ mod issue;
 mod reading;
 mod run;
 
-/// The number of PSR, the status of a program that runs.
-const PSR: u8 = 1;
-
-/// The number of EPSR, the status of a program that ended.
-const EPSR: u8 = 2;
-
 /// The board. It holds its image once, in its memory.
-#[derive(Drop)]
+#[derive(Debug, Drop)]
 pub struct Board {
     limit: u32,
     iunit: InstrUnit,
@@ -184,7 +180,11 @@ impl Board {
     fn status(&self) -> u32
         ensures { result ≡ epsr_of self.now }
     {
-        let number = if self.ended.is_some() { EPSR } else { PSR };
+        let number = if self.ended.is_some() {
+            cr::EPSR
+        } else {
+            cr::PSR
+        };
         match self.ctrl.ldcr(number) {
             Some(status) => status,
             None => unreachable!(),
@@ -373,7 +373,8 @@ impl Board {
     fn waits_on(&self, instr: &Instr, r: Reg) -> bool
         requires { IsValid instr.now }
         ensures { result
-            ≡ (involves (Some instr.now) (number_of r) && waits_for self.now.pending (number_of r)) }
+            ≡ (involves (Some instr.now) (number_of r)
+            && waits_for self.now.pending (number_of r)) }
     {
         if self.regs.get(r).is_ok() {
             return false;

@@ -5,7 +5,11 @@
 #![tactic(auto)]
 
 mod board;
-mod unit;
+
+// its parts at work together
+mod accesses;
+mod serving;
+mod slots;
 
 // who watches it
 mod glance;

@@ -1,13 +1,15 @@
 -- What `link` makes of the text of objects: the S-records of the image that the objects are linked into, or where and
 -- why the text is refused.
-use Rattle.std.specs.Prelude.{ℕ, ◌≡◌, ◌⊎◌, List, codes}
+use Rattle.std.specs.Prelude.{ℕ, ◌≡◌, ◌⊎◌, List}
 use Rattle.m88_base.specs.Image.{IsImage, ProgramImage}
 use Rattle.m88_link.specs.Layout.{layout_of}
 use Rattle.m88_link.specs.Linked.{IsLinked}
 use Rattle.m88_link.specs.ObjectRead.{IsFormLine, IsRangeLine, IsSoundText}
 use Rattle.m88_link.specs.Refusal.{IsLinkable, IsRefused}
 use Rattle.m88_link.specs.declared.fault.LinkFault.{LinkFault}
+use Rattle.m88_link.specs.Reasons.{object_reason}
 use Rattle.m88_link.specs.declared.object.Object.{Object}
+use Rattle.m88_link.specs.declared.object_fault.ObjectFault.TheVariants.{Form, Range}
 use Rattle.m88_srec.specs.Written.{srec_text}
 use Rattle.m88_cli.specs.Assembly.{link_refusal}
 use Rattle.m88_cli.specs.Refusal.{Refusal}
@@ -34,11 +36,11 @@ pub record IsLinkedText (text output : List ℕ) : Type 0 where
 
 -- the refusal at a line that the text of no objects continues
 abbrev pub form_refusal : ℕ → Refusal
-form_refusal line = record { line = line; column = 1; reason = codes "form" }
+form_refusal line = record { line = line; column = 1; reason = object_reason (Form line) }
 
 -- at a line by which an object isn't sound
 abbrev pub range_refusal : ℕ → Refusal
-range_refusal line = record { line = line; column = 1; reason = codes "range" }
+range_refusal line = record { line = line; column = 1; reason = object_reason (Range line) }
 
 -- a text that is none of objects is refused at the first line that no such text continues
 pub record IsNoObjects (text : List ℕ) (r : Refusal) : Type 0 where

@@ -37,8 +37,9 @@ fn refuse_objects(alloc: Global, fault: ObjectFault) -> Result<Reply, NoMemory>
     ensures { IfOk result (RefusesObjects fault) }
 {
     match fault {
-        ObjectFault::Form { line } => refusal(alloc, line, 1, b"form"),
-        ObjectFault::Range { line } => refusal(alloc, line, 1, b"range"),
+        ObjectFault::Form { line } | ObjectFault::Range { line } => {
+            refusal(alloc, line, 1, fault.reason().as_bytes())
+        }
         ObjectFault::Memory => Err(NoMemory),
     }
 }

@@ -18,7 +18,7 @@ pub fn refusal(alloc: Global, line: u32, column: u32, reason: &[u8]) -> Result<R
     ensures refused { IfOk result (λ r. r.accepted ≡ false) }
 {
     let mut text = Vec::new(alloc);
-    push_refused(&mut text, line, column, reason)?;
+    push_refused(&mut text, u64::from(line), column, reason)?;
     Ok(Reply {
         accepted: false,
         text,

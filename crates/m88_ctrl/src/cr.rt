@@ -16,29 +16,29 @@ pub const SNIP: u8 = 5;
 pub const SFIP: u8 = 6;
 /// The base of the addresses of the exceptions' handlers.
 pub const VBR: u8 = 7;
-/// The words of the youngest of three data transactions.
+/// The marks of the youngest of three data transactions.
 pub const DMT2: u8 = 8;
-
+/// The data of the youngest.
 pub const DMD2: u8 = 9;
-
+/// The address of the youngest.
 pub const DMA2: u8 = 10;
-/// The words of the transaction in the middle.
+/// The marks of the transaction in the middle.
 pub const DMT1: u8 = 11;
-
+/// The data of the one in the middle.
 pub const DMD1: u8 = 12;
-
+/// The address of the one in the middle.
 pub const DMA1: u8 = 13;
-/// The words of the oldest transaction.
+/// The marks of the oldest transaction.
 pub const DMT0: u8 = 14;
-
+/// The data of the oldest.
 pub const DMD0: u8 = 15;
-
+/// The address of the oldest.
 pub const DMA0: u8 = 16;
-/// The supervisor's storage.
+/// The supervisor's first storage register.
 pub const SR0: u8 = 17;
-
+/// The second one.
 pub const SR1: u8 = 18;
-
+/// The third one.
 pub const SR2: u8 = 19;
-
+/// The fourth one.
 pub const SR3: u8 = 20;

@@ -7,7 +7,7 @@ ghost use Rattle.m88_disasm.specs.Text.{condition, control, field, register_name
 
 use arrayvec::ArrayString;
 use itoa::Buffer;
-use m88_base::Reg;
+use m88_base::{Reg, hex_digit};
 use m88_isa::{BitOp, Mnemonic};
 
 /// A mnemonic and the blank behind it.
@@ -134,12 +134,7 @@ fn put_digit(text: &mut ArrayString<48>, d: u32)
     requires room { length text.old.bytes ≤ 44 }
     ensures { text.new.bytes ≡ text.old.bytes ++ hex_digit d ∷ [] }
 {
-    let code = if d < 10 {
-        b'0' + d as u8
-    } else {
-        b'A' + (d - 10) as u8
-    };
-    text.push(char::from(code));
+    text.push(char::from(hex_digit(d)));
 }
 
 /// Appends a word by itself.

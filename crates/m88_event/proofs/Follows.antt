@@ -87,14 +87,14 @@ by_oldest p m (x ∷ xs) absent h = by_page p m (absent (page_number x.addr)) (h
 some_left : (xs : List Access) (n : ℕ) → 1 ≤ length (drop n xs) → n < length xs
 some_left xs n h = let e = length-drop n xs in omega (arith, e)
 
-fits : (p : Program) (named : ℕ → Bool) (limit : ℕ) (letter : Letter) (m : Moment) →
+pub fits : (p : Program) (named : ℕ → Bool) (limit : ℕ) (letter : Letter) (m : Moment) →
     Fits p m (choice_of p letter (situation_at p named limit m))
 unfolding situation_at
 fits p named limit Issue m = by_issue p m _ _ _ _ refl (lives_of m.ended (m.retired == limit))
 fits p named limit Answer m = by_oldest p m _ _ (some_left (transactions p m.retired) m.done)
 
 -- the transactions behind one more step
-more_transactions : (p : Program) (n : ℕ) (turn : Turn) → turn_at p (state p n) ≡ turn →
+pub more_transactions : (p : Program) (n : ℕ) (turn : Turn) → turn_at p (state p n) ≡ turn →
     transactions p (n + 1) ≡ transactions p n ++ turn_accesses turn
 unfolding transactions
 more_transactions p n turn e = rw (add-one, e) refl

@@ -134,11 +134,17 @@ nothing_left done xs within none = by_left (drop done xs) (length-drop done xs) 
     by_left [] e none = omega (arith, e, within)
     by_left (x ∷ left) e none = absurd cc
 
+pub all_done : (p : Program) (named : ℕ → Bool) (limit : ℕ) (letter : Letter) (m : Moment) → DoneWereMade p m →
+    IsLastChoice (choice_of p letter (situation_at p named limit m)) →
+    m.done ≡ transaction_count p m.retired
+unfolding situation_at
+all_done p named limit letter m within last =
+    nothing_left m.done (transactions p m.retired) within (precise_choice p letter (situation_at p named limit m) last)
+
 pub precise_at : (p : Program) (named : ℕ → Bool) (limit : ℕ) (letter : Letter) (m : Moment) → DoneWereMade p m →
     ServesOrEnds (said_at p named limit letter m) →
     m.done ≡ transaction_count p m.retired
-unfolding said_at situation_at
+unfolding said_at
 precise_at p named limit letter m within h =
-    nothing_left m.done (transactions p m.retired) within
-    (precise_choice p letter (situation_at p named limit m)
-    (last_said (choice_of p letter (situation_at p named limit m)) (record_of p (situation_at p named limit m)) h))
+    all_done p named limit letter m within
+    (last_said (choice_of p letter (situation_at p named limit m)) (record_of p (situation_at p named limit m)) h)

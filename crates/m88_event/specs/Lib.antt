@@ -3,5 +3,6 @@ pub mod Shadow
 pub mod Situation
 pub mod Choice
 pub mod Timeline
+pub mod Past
 pub mod Local
 pub mod Run

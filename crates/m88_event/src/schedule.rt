@@ -1,7 +1,7 @@
 //! Schedules: the letters that a run begins with.
 
 ghost use Rattle.std.specs.Prelude.{[], ◌∷◌, ◌≡◌, ◌<◌, ◌≤◌, ◌↔◌, List, IfSome, IsTrue, Some, length, slice_get};
-ghost use Rattle.m88_event.specs.Letters.{HasLetters, IsSchedule, letter_of, most_letters};
+ghost use Rattle.m88_event.specs.Letters.{HasLetters, IsSchedule, letter_at, letter_of, most_letters};
 ghost use Rattle.m88_event.specs.declared.letter.Letter.{Letter as LetterValue};
 
 use crate::letter::Letter;
@@ -59,6 +59,20 @@ impl<'a> Schedule<'a> {
         ensures { slice_get self.now index ≡ Some result }
     {
         letter_of(self.letters[index])
+    }
+
+    /// The letter of an event of a run, from 0: the schedule's, and behind it `r` and `i` in turn.
+    pub fn letter_at(&self, k: usize) -> Letter
+        ensures { result ≡ letter_at self.now k }
+    {
+        if k < self.len() {
+            return self.letter(k);
+        }
+        if (k - self.len()) % 2 == 0 {
+            Letter::Answer
+        } else {
+            Letter::Issue
+        }
     }
 }
 

@@ -27,6 +27,24 @@ fn texts_that_are_schedules(rt: HostRuntime) {
 }
 
 #[test]
+fn letters_of_a_run(rt: HostRuntime) {
+    let read = Schedule::read("rri");
+    assert!(rt; read.is_some());
+    if let Some(schedule) = read {
+        for (k, letter) in [
+            (0, Letter::Answer),
+            (1, Letter::Answer),
+            (2, Letter::Issue),
+            (3, Letter::Answer),
+            (4, Letter::Issue),
+            (5, Letter::Answer),
+        ] {
+            assert_eq!(rt; schedule.letter_at(k), letter);
+        }
+    }
+}
+
+#[test]
 fn texts_that_are_none(rt: HostRuntime) {
     for text in [
         "", "--", "-i", "i-", "I", "R", "i r", " i", "i\n", "ix", "è",

@@ -126,10 +126,14 @@ row_step s (Define x) = within s (define_step x)
 row_step s (Patch r) = within s (patch_step r)
 row_step s End = end_step s
 
+-- the byte `=`, with which a line of bytes begins
+abbrev pub bytes_mark : ℕ
+bytes_mark = 61
+
 -- a line, without its LF
 unfoldable pub line_step : Progress → List ℕ → Option Progress
 line_step s [] = None
-line_step s (b ∷ bs) = if b == 61 then within s (bytes_step bs) else (row_in (b ∷ bs) >>= row_step s)
+line_step s (b ∷ bs) = if b == bytes_mark then within s (bytes_step bs) else (row_in (b ∷ bs) >>= row_step s)
 
 -- a line without the LF that is its last byte
 abbrev pub unended : List ℕ → Option (List ℕ)

@@ -180,7 +180,7 @@ abbrev pub bytes_by_digits : List ℕ → Option (List ℕ)
 bytes_by_digits [] = Some []
 bytes_by_digits (high ∷ []) = None
 bytes_by_digits (high ∷ low ∷ digits) =
-  byte_by_digits high low >>= λ b. option_map (λ bs. b ∷ bs) (bytes_by_digits digits)
+    byte_by_digits high low >>= λ b. option_map (λ bs. b ∷ bs) (bytes_by_digits digits)
 
 -- bytes with those behind them that digits write
 unfoldable pub bytes_behind : List ℕ → List ℕ → Option (List ℕ)

@@ -59,6 +59,12 @@ pub struct LinkFault {
 }
 
 impl fmt::Display for LinkFault {
+    ghost use Rattle.std.specs.Prelude.{Some};
+    ghost use Rattle.m88_base.specs.Refused.{placed_reason};
+    ghost use Rattle.m88_link.specs.Reasons.{link_reason};
+
+    ghost output = { λ fault. Some (placed_reason fault.line fault.col (link_reason fault.kind)) };
+
     fn fmt<W: fmt::Write>(&self, f: &mut fmt::Formatter<W>) -> fmt::Result {
         write!(f, "{}:{} {}", self.line, self.col, self.kind)
     }

@@ -5,12 +5,10 @@ ghost use Rattle.m88_link.specs.Drafts.{TakesOrRefuses, bytes_step, define_step,
 use crate::object::{Object, Place, Reloc, Section, Symbol};
 use crate::row::SectionHead;
 use crate::row_text::push_bytes;
+use crate::text::LINE_BYTES;
 use m88_base::{Listed, Name};
 use std::alloc::{AllocError, Global};
 use std::marker::Model;
-
-/// The most bytes of a byte line.
-const LINE_BYTES: u32 = 32;
 
 /// A section with the bytes that came, and how many are missing.
 #[derive(Drop)]
@@ -72,7 +70,7 @@ impl Filling {
     fn more(&mut self, digits: &[u8]) -> Result<bool, AllocError>
         ensures { TakesOrRefuses result self.new (more_bytes digits.now self.old) }
     {
-        let count = self.missing.min(LINE_BYTES);
+        let count = self.missing.min(LINE_BYTES as u32);
         if digits.len() != 2 * count as usize {
             return Ok(false);
         }

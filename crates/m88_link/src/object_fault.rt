@@ -1,6 +1,7 @@
 //! Why a text isn't that of sound objects.
 
 ghost use Rattle.std.specs.Prelude.{◌≡◌};
+ghost use Rattle.m88_link.specs.Reasons.{object_reason};
 ghost use Rattle.m88_link.specs.declared.object_fault.ObjectFault.TheVariants.{Memory as memory};
 
 use std::alloc::{AllocError, AllocFailed};
@@ -19,12 +20,33 @@ pub enum ObjectFault {
     Memory,
 }
 
+impl ObjectFault {
+    /// The reason in the words of a refused line.
+    #[tactic(auto, unfolding(crate::specs::Reasons::object_reason))]
+    pub fn reason(self) -> &'static str
+        ensures { result.now ≡ object_reason self }
+    {
+        match self {
+            ObjectFault::Form { .. } => "form",
+            ObjectFault::Range { .. } => "range",
+            ObjectFault::Memory => "out of memory",
+        }
+    }
+}
+
 impl fmt::Display for ObjectFault {
+    ghost use Rattle.std.specs.Prelude.{Some};
+    ghost use Rattle.m88_link.specs.Reasons.{object_fault_text};
+
+    ghost output = { λ fault. Some (object_fault_text fault) };
+
+    #[tactic(auto, unfolding(crate::specs::Reasons::object_fault_text))]
     fn fmt<W: fmt::Write>(&self, f: &mut fmt::Formatter<W>) -> fmt::Result {
         match self {
-            ObjectFault::Form { line } => write!(f, "{line}:1 form"),
-            ObjectFault::Range { line } => write!(f, "{line}:1 range"),
-            ObjectFault::Memory => f.write_str("out of memory"),
+            ObjectFault::Form { line } | ObjectFault::Range { line } => {
+                write!(f, "{line}:1 {}", self.reason())
+            }
+            ObjectFault::Memory => f.write_str(self.reason()),
         }
     }
 }

@@ -9,7 +9,7 @@ use std::alloc::{AllocError, Global};
 use std::marker::Model;
 
 /// Symbols in order of definition, no two of one name.
-#[derive(Drop)]
+#[derive(Debug, Drop)]
 pub struct SymbolTable {
     symbols: IndexMap<Name, Symbol>,
 }

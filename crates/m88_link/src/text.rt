@@ -9,7 +9,7 @@ use m88_base::{Kind, Name, NoMemory, push_decimal, push_hex2, push_hex8};
 use std::alloc::{AllocError, Global};
 
 /// The most bytes of a byte line.
-const LINE_BYTES: usize = 32;
+pub(crate) const LINE_BYTES: usize = 32;
 
 /// The text of objects: for each a line `object NAME`, its sections with their bytes, its symbols in
 /// order of definition, its relocations, and a line `end`.

@@ -6,7 +6,7 @@ use std::fmt;
 /// What a person is told where the words of the command can't be had.
 pub const NO_WORDS: &str = "m88: the words of the command can't be read";
 
-/// What a person is told of an answer, in one line.
+/// What a person is told of an answer: the usage in three lines, anything else in one.
 #[derive(Clone, Copy, PartialEq, Eq, Debug)]
 pub enum Advice {
     Usage,
@@ -36,7 +36,8 @@ impl fmt::Display for Advice {
                 "usage: m88 run LIMIT ABSENT SCHEDULE, m88 exec LIMIT ABSENT SCHEDULE, m88 mon ABSENT SCHEDULE, \
                  m88 soak NUMBER COUNT, m88 dis, m88 asm, m88 link or m88 build\n\
                  LIMIT is up to {MOST_LIMIT}; ABSENT is none, all or page numbers joined by commas;\n\
-                 SCHEDULE is - or letters i and r; COUNT is 1 to {MOST_STATEMENTS}; the input is standard input"
+                 SCHEDULE is - or letters i and r; NUMBER is below 4294967296; COUNT is 1 to {MOST_STATEMENTS}; \
+                 the input is standard input"
             ),
             Advice::SourceFault => write!(f, "m88: standard input can't be read"),
             Advice::SinkFault => write!(f, "m88: standard output can't be written"),

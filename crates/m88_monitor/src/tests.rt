@@ -14,8 +14,6 @@ const NONE: Triple = Triple {
 
 #[test]
 fn traps(rt: HostRuntime) {
-    let mut regs = RegFile::new();
-    regs.set(Reg::from_low_bits(2), 0x1234_5642);
     let rows = [
         (496, 0x20, Service::Out(0x42)),
         (496, 0x63, Service::End),

@@ -38,6 +38,11 @@ impl ParseKind {
 }
 
 impl fmt::Display for ParseKind {
+    ghost use Rattle.std.specs.Prelude.{Some};
+    ghost use Rattle.m88_parse.specs.Fault.{reason};
+
+    ghost output = { λ kind. Some (reason kind) };
+
     fn fmt<W: fmt::Write>(&self, f: &mut fmt::Formatter<W>) -> fmt::Result {
         f.write_str(self.reason())
     }
@@ -55,6 +60,12 @@ pub struct ParseFault {
 }
 
 impl fmt::Display for ParseFault {
+    ghost use Rattle.std.specs.Prelude.{Some};
+    ghost use Rattle.m88_base.specs.Refused.{placed_reason};
+    ghost use Rattle.m88_parse.specs.Fault.{reason};
+
+    ghost output = { λ fault. Some (placed_reason fault.line fault.col (reason fault.kind)) };
+
     fn fmt<W: fmt::Write>(&self, f: &mut fmt::Formatter<W>) -> fmt::Result {
         write!(f, "{}:{} {}", self.line, self.col, self.kind)
     }

@@ -2,23 +2,30 @@
 //! one first fault of a source that has no unit.
 #![tactic(auto)]
 
-mod directive;
-mod draft;
-mod fault;
-mod forms;
+// The tokens of a line.
 mod lexemes;
+mod scan;
+mod token;
+
+// Operands, from the tokens of a line.
 mod lists;
 mod names;
 mod operand;
 mod operands;
 mod parser;
-mod row;
-mod scan;
-mod shape;
 mod slots;
-mod source;
+
+// Statements.
+mod directive;
+mod forms;
+mod row;
+mod shape;
 mod statement;
-mod token;
+
+// The unit of a source, and why it has none.
+mod draft;
+mod fault;
+mod source;
 mod unit;
 
 pub use fault::{ParseFault, ParseKind};

@@ -8,4 +8,3 @@ pub mod Spelled
 pub mod Trip
 pub mod Turns
 pub mod Sizes
-pub mod AsciiDigits

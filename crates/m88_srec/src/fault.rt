@@ -1,7 +1,6 @@
 //! Why an S-record text is refused.
 
-use crate::printed::Hex2;
-use m88_base::Hex8;
+use m88_base::{Hex2, Hex8};
 use std::error::Error;
 use std::fmt;
 
@@ -16,6 +15,11 @@ pub struct SrecFault {
 }
 
 impl fmt::Display for SrecFault {
+    ghost use Rattle.std.specs.Prelude.{◌++◌, Some, codes, decimal};
+    ghost use Rattle.m88_srec.specs.Reasons.{srec_reason};
+
+    ghost output = { λ fault. Some (decimal fault.line ++ codes ":1 " ++ srec_reason fault.kind) };
+
     fn fmt<W: fmt::Write>(&self, f: &mut fmt::Formatter<W>) -> fmt::Result {
         write!(f, "{}:1 {}", self.line, self.kind)
     }

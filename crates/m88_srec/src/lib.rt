@@ -3,15 +3,19 @@
 //! What a text writes is said in `specs/` as a relation between its lines and the records.
 #![tactic(auto)]
 
+// Lines, and what has the form of a record.
 mod digits;
-mod fault;
 mod form;
 mod frame;
+mod record;
+
+// Texts read, and why they are refused.
+mod fault;
 mod loading;
-mod printed;
 mod purpose;
 mod reader;
-mod record;
+
+// Texts written.
 #[cfg(test)]
 mod tests;
 mod writer;

@@ -53,8 +53,8 @@ impl Board {
         ensures said { IfOk result (λ happened. (p : Program) (named : ℕ → Bool) (m : Moment)
             → IsAt p named m self.old
             → happened ≡ said_at p named self.old.limit letter m) }
-        ensures precise { IfOk result (λ happened. (p : Program) → IsProgramOf self.old.memory.image p
-            → ServesOrEnds happened → self.old.pending ≡ []) }
+        ensures precise { IfOk result (λ happened. (p : Program)
+            → IsProgramOf self.old.memory.image p → ServesOrEnds happened → self.old.pending ≡ []) }
         ensures counted { OnOk result (self.new.events ≡ self.old.events + 1) }
         ensures same { OnOk result (IsSameRun self.old self.new) }
         ensures still { IfOk result (λ happened. IsStill happened

@@ -1,7 +1,6 @@
 //! Whole runs, and draining.
 
 ghost use Rattle.std.specs.Prelude.{ℕ, Bool, List, [], ◌∷◌, ◌↔◌, ◌≡◌, ◌<◌, ◌≤◌, ◌+◌, ◌-◌, ◌*◌, ◌^◌, true, length, IfOk, OnErr, OnOk};
-ghost use Rattle.m88_event.specs.Letters.{letter_at};
 ghost use Rattle.m88_event.specs.Run.{IsDrain, IsDraining, IsOutcome, IsRun, IsRunning, answered_after, moment_after, outcome_at};
 ghost use Rattle.m88_event.specs.Timeline.{Moment, after_letter, is_over, opening_moment};
 ghost use Rattle.m88_event.specs.declared.happened.End.{End as EndValue};
@@ -57,6 +56,7 @@ impl Board {
             × IsAlong p named (answered_after p named self.old.limit m) events
             (W.seen watch.old) (W.seen watch.new) self.new) }
         ensures empty { OnOk result (self.new.pending ≡ []) }
+        ensures bounded { self.new.events ≤ self.old.events + length self.old.pending }
         ensures same { IsSameRun self.old self.new }
         ensures err { OnErr result ((p : Program) (named : ℕ → Bool) (m : Moment) → IsProgram p
             → IsAt p named m self.old
@@ -93,7 +93,7 @@ impl Board {
             if self.is_over() {
                 return Ok(());
             }
-            self.step(letter_at(schedule, k), watch)?;
+            self.step(schedule.letter_at(k), watch)?;
         }
         Ok(())
     }
@@ -130,7 +130,8 @@ impl Board {
     fn into_outcome(self) -> Result<Outcome, NoMemory>
         ensures events { IfOk result (λ o. o.events ≡ self.events) }
         ensures value { IfOk result (λ o. (p : Program) (named : ℕ → Bool) (m : Moment)
-            → IsProgram p → IsAt p named m self → is_over p self.limit m ≡ true → o ≡ outcome_at p m) }
+            → IsProgram p → IsAt p named m self → is_over p self.limit m ≡ true
+            → o ≡ outcome_at p m) }
         ensures limit_end { IfOk result (λ o. (p : Program) (named : ℕ → Bool) (m : Moment)
             → IsAt p named m self → is_over p self.limit m ≡ true
             → (o.end ≡ EndValue.Limit) ↔ (o.retired ≡ self.limit)) }
@@ -149,19 +150,5 @@ impl Board {
             answers: self.answers,
             records: Listed::new(self.records),
         })
-    }
-}
-
-/// The letter of an event of a run, from 0: that of the schedule, and behind it `r` and `i` in turn.
-fn letter_at(schedule: &Schedule, k: usize) -> Letter
-    ensures { result ≡ letter_at schedule.now k }
-{
-    if k < schedule.len() {
-        return schedule.letter(k);
-    }
-    if (k - schedule.len()) % 2 == 0 {
-        Letter::Answer
-    } else {
-        Letter::Issue
     }
 }

@@ -1,7 +1,6 @@
 //! Events, each of which the board is shown after.
 
 ghost use Rattle.std.specs.Prelude.{ℕ, Bool, ◌≡◌, ◌<◌, ◌≤◌, ◌+◌, ◌-◌, [], ◌∷◌, IfOk, OnErr, OnOk, length};
-ghost use Rattle.m88_event.specs.Letters.{letter_at};
 ghost use Rattle.m88_event.specs.Timeline.{Moment, said_at};
 ghost use Rattle.m88_event.specs.declared.letter.Letter.{Letter as LetterValue};
 ghost use Rattle.m88_isa.specs.Machine.{IsProgram, Program};
@@ -50,20 +49,6 @@ fn show<W: Watch>(board: &Board, watch: &mut W)
     watch.after(board);
 }
 
-/// The letter of an event of a run, from 0: that of the schedule, and behind it `r` and `i` in turn.
-pub(super) fn letter_at(schedule: &Schedule, k: usize) -> Letter
-    ensures { result ≡ letter_at schedule.now k }
-{
-    if k < schedule.len() {
-        return schedule.letter(k);
-    }
-    if (k - schedule.len()) % 2 == 0 {
-        Letter::Answer
-    } else {
-        Letter::Issue
-    }
-}
-
 impl Monitor {
     /// Makes the event of the next letter of the run, and shows the board.
     pub(super) fn make_next<W: Watch>(
@@ -81,7 +66,7 @@ impl Monitor {
         ensures taken { OnOk result (self.new.taken ≤ self.new.board.events) }
         ensures unseen { OnErr result (watch.new ≡ watch.old) }
     {
-        let letter = letter_at(schedule, self.taken);
+        let letter = schedule.letter_at(self.taken);
         let happened = make(&mut self.board, letter, watch)?;
         self.taken += 1;
         Ok(happened)

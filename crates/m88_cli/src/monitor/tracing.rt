@@ -15,7 +15,6 @@ ghost use Rattle.m88_cli.specs.SessionKept.{Broke, Carried, IsBefore, Stands, mo
 ghost use Rattle.m88_cli.specs.declared.script.MonitorCommand.TheVariants.{Trace};
 
 use super::Monitor;
-use super::making::letter_at;
 use m88_base::{NoMemory, push_decimal, push_hex2, push_hex8};
 use m88_board::{Board, Watch};
 use m88_codec::decode;
@@ -64,7 +63,7 @@ impl Monitor {
             if self.board.is_over() {
                 return Ok(());
             }
-            let letter = letter_at(schedule, self.taken);
+            let letter = schedule.letter_at(self.taken);
             let before = noted(&self.board, letter);
             let happened = self.make_next(schedule, watch)?;
             push_event(text, &before, happened)?;

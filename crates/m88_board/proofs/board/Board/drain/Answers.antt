@@ -1,6 +1,6 @@
 -- Each event answers one transaction at least, so that three are enough.
 use Rattle.std.specs.Prelude.{slice_get}
-use Rattle.std.proofs.Common.{arith, length, refl, suc, subst, sym, ◌≡◌, ◌≤◌, ◌∙◌}
+use Rattle.std.proofs.Common.{ap, arith, length, refl, suc, subst, sym, ◌≡◌, ◌≤◌, ◌∙◌}
 use Rattle.std.proofs.lemmas.Result.{err_from_is_err_and}
 use Rattle.m88_event.specs.Run.{answered_after}
 use Rattle.m88_board.proofs.Choosing.{none_pending, some_count, some_pending}
@@ -12,6 +12,7 @@ use Rattle.m88_board.proofs.board.Board.drain.Goals as goal
 pub loop-self-init : goal.loop-self-init
 loop-self-init g c = record {
   counted = omega arith;
+  bounded = omega arith;
   same = record { limit = refl; image = refl };
   drains = λ p named m is at. (0, drains_start p named m c.args.self.now (g.W.Watch.seen c.args.watch.now) at);
 }
@@ -24,8 +25,10 @@ loop-self-preserved g c =
     let counted = c.in_ok-step.ensures.counted in
     let shorter = c.in_ok-step.ensures.shorter refl in
     let before = c.loop-self.invariant.counted in
+    let bound = c.loop-self.invariant.bounded in
     record {
       counted = omega (arith, some, few, counted, shorter, before);
+      bounded = omega (arith, some, counted, shorter, bound);
       same = same_then c.args.self.now c.loop-self.self c.step.new.self c.loop-self.invariant.same c.in_ok-step.ensures.same;
       drains = λ p named m is at.
           let drains = c.loop-self.invariant.drains p named m is at in (
@@ -68,3 +71,12 @@ pub returns-in_err-step-clause-same : goal.returns-in_err-step-clause-same
 returns-in_err-step-clause-same g c =
     same_then c.args.self.now c.loop-self.self c.step.new.self c.loop-self.invariant.same
     (unmoved_same c.loop-self.self c.step.new.self c.in_err-step.ensures.err)
+
+pub returns-clause-bounded : goal.returns-clause-bounded
+returns-clause-bounded g c = let bound = c.loop-self.invariant.bounded in omega (arith, bound)
+
+pub returns-in_err-step-clause-bounded : goal.returns-in_err-step-clause-bounded
+returns-in_err-step-clause-bounded g c =
+    let bound = c.loop-self.invariant.bounded in
+    let still = ap (λ (b : BoardView). b.events) c.in_err-step.ensures.err.rest in
+    omega (arith, bound, still)

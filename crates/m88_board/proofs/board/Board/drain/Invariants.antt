@@ -9,6 +9,7 @@ use Rattle.m88_board.proofs.board.Board.drain.Given as goal
 abbrev pub invariant-loop-self : goal.invariant-loop-self
 invariant-loop-self g l = record {
   counted : l.self.events ≤ l.initial.self.events + (3 - length l.self.pending);
+  bounded : l.self.events + length l.self.pending ≤ l.initial.self.events + length l.initial.self.pending;
   same : IsSameRun l.initial.self l.self;
   drains : (p : Program) (named : ℕ → Bool) (m : Moment) → IsProgram p → IsAt p named m l.initial.self
       → (k : ℕ) × Drains p named m k l.initial.self (g.W.Watch.seen l.initial.watch) (g.W.Watch.seen l.watch) l.self;

@@ -1,6 +1,6 @@
 -- The slots behind the instruction that goes into execution.
 use Rattle.m88_board.proofs.Advancing.{agree_advanced}
-use Rattle.m88_board.proofs.unit.advance.Goals as goal
+use Rattle.m88_board.proofs.slots.advance.Goals as goal
 
 pub returns-clause-slots : goal.returns-clause-slots
 returns-clause-slots c =

@@ -1,32 +1,23 @@
-//! The data unit, the registers and memory at work together.
+//! Data accesses: their pages made ready, issued to the data unit, and answered.
 
-ghost use Rattle.std.specs.Prelude.{◌≡◌, ◌+◌, ◌≤◌, ◌%◌, ◌++◌, not, ◌&&◌, List, [], ◌∷◌, Some, true, false, drop, take, length, slice_get, IfSome, OnOk};
+ghost use Rattle.std.specs.Prelude.{◌≡◌, ◌+◌, ◌≤◌, ◌++◌, List, [], ◌∷◌, Some, true, false, drop, take, length, slice_get, IfSome, OnOk};
 ghost use Rattle.m88_base.specs.Reg.{number_of};
 ghost use Rattle.m88_base.specs.RegisterSet.{with_member};
-ghost use Rattle.std.specs.Int.{bit_at};
-ghost use Rattle.m88_event.specs.Choice.{touches_page};
 ghost use Rattle.m88_isa.specs.Bus.{page_number, after_accesses, bus_after_all, listed, loaded, stored, waits_for};
-ghost use Rattle.m88_isa.specs.Flow.{FlowFits};
 ghost use Rattle.m88_isa.specs.Held.{most_pending};
 ghost use Rattle.m88_isa.specs.Machine.{with_register, with_written};
 ghost use Rattle.m88_isa.specs.Memory.{IsWordAccess};
 ghost use Rattle.m88_isa.specs.declared.planned.Access.{Access as AccessValue};
 ghost use Rattle.m88_dunit.specs.Pending.{CanIssue};
 ghost use Rattle.m88_mem.specs.DataBus.{absent_of, bus_of, ready_of};
-ghost use Rattle.m88_scoreboard.specs.Registers.{none_waits, waiting_of};
+ghost use Rattle.m88_scoreboard.specs.Registers.{waiting_of};
 ghost use Rattle.m88_board.specs.Board.{cells_of};
-ghost use Rattle.m88_board.specs.Kept.{AreReady, HasReadyPage, PartsAgree, SlotsAgree, StaysReady, lacks_word};
-ghost use Rattle.m88_board.specs.Moves.{IsAdvanced};
-ghost use Rattle.m88_board.specs.Shown.{IsRecordOf, ShowsFault};
+ghost use Rattle.m88_board.specs.Kept.{AreReady, HasReadyPage, PartsAgree, StaysReady};
 
-use m88_base::{NoMemory, Reg, Triple};
-use m88_ctrl::{Control, Frame};
+use m88_base::{NoMemory, Reg};
 use m88_dunit::DataUnit;
-use m88_event::Record;
-use m88_isa::{Access, Accesses, DATA_ACCESS, MONITOR_TRAP, datum};
-use m88_iunit::InstrUnit;
+use m88_isa::{Access, Accesses, datum};
 use m88_mem::Memory;
-use m88_monitor::serve;
 use m88_scoreboard::RegFile;
 
 /// Makes the page of an access ready, if it is a store.
@@ -167,86 +158,4 @@ pub(crate) fn write(regs: &mut RegFile, written: Option<(Reg, u32)>)
 {
     let Some((r, value)) = written else { return };
     regs.set(r, value);
-}
-
-/// Whether the image lacks one of the four bytes at an address.
-pub(crate) fn lacks_word(memory: &Memory, addr: u32) -> bool
-    requires { addr % 4 ≡ 0 }
-    ensures { result ≡ lacks_word memory.now.image addr }
-{
-    memory.fetch(addr).is_none()
-}
-
-/// The next instruction, which could be fetched, goes into execution, and others follow it.
-pub(crate) fn advance(iunit: &mut InstrUnit, memory: &Memory, after: (u32, u32), bubble: bool)
-    requires valid { iunit.old.nip.v ≡ true }
-    requires fetched { iunit.old.nip.e ≡ false }
-    requires flow { FlowFits after bubble }
-    ensures advanced { IsAdvanced iunit.old iunit.new after.0 after.1 bubble }
-    ensures slots { SlotsAgree memory.now.image iunit.new }
-{
-    let (next, behind) = after;
-    let next_e = lacks_word(memory, next);
-    let behind_e = lacks_word(memory, behind);
-    iunit.advance(next, next_e, behind, behind_e, bubble);
-}
-
-/// The pending transactions leave the data unit for the control registers, an exception is entered, the monitor
-/// finishes them and returns. The answer is how many there were, and the words of NIP and FIP.
-pub(crate) fn serve_all(
-    fault: Record,
-    unit: &mut DataUnit,
-    ctrl: &mut Control,
-    regs: &mut RegFile,
-    memory: &mut Memory,
-) -> (u8, u32, u32)
-    requires ssbr { bit_at fault.ssbr 0 ≡ 0 }
-    requires agree { PartsAgree unit.old regs.old memory.old }
-    ensures pending { unit.new ≡ [] }
-    ensures cells { cells_of regs.new memory.new
-        ≡ after_accesses unit.old (cells_of regs.old memory.old) }
-    ensures waiting { waiting_of regs.new ≡ none_waits }
-    ensures absent { absent_of memory.new
-        ≡ (λ page. absent_of memory.old page && not (touches_page unit.old page)) }
-    ensures image { memory.new.image ≡ memory.old.image }
-    ensures psr { ctrl.new.psr ≡ ctrl.old.psr }
-    ensures done { result.0 ≡ length unit.old }
-    ensures snip { result.1 ≡ fault.snip }
-    ensures sfip { result.2 ≡ fault.sfip }
-    ensures shows { IsRecordOf fault unit.old ctrl.old → ShowsFault fault ctrl.new }
-{
-    let triples = unit.freeze();
-    let frame = Frame {
-        ssbr: fault.ssbr,
-        sxip: fault.sxip,
-        snip: fault.snip,
-        sfip: fault.sfip,
-        triples,
-    };
-    ctrl.enter(DATA_ACCESS, &frame);
-    regs.restore(0);
-    let served = serve(ctrl, regs, memory);
-    let restart = ctrl.rte();
-    (served.done, restart.snip, restart.sfip)
-}
-
-/// The monitor is entered by its trap, with nothing pending, and returns at once.
-pub(crate) fn visit(ctrl: &mut Control, iunit: &InstrUnit)
-    ensures { ctrl.new.psr ≡ ctrl.old.psr }
-{
-    let none = Triple {
-        dmt: 0,
-        dmd: 0,
-        dma: 0,
-    };
-    let (sxip, snip, sfip) = iunit.shadow();
-    let frame = Frame {
-        ssbr: 0,
-        sxip,
-        snip,
-        sfip,
-        triples: [none, none, none],
-    };
-    ctrl.enter(MONITOR_TRAP, &frame);
-    ctrl.rte();
 }

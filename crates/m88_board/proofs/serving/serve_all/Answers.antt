@@ -10,7 +10,7 @@ use Rattle.m88_monitor.specs.Serving.{Serving, serving_of}
 use Rattle.m88_board.proofs.Keeping.{no_members}
 use Rattle.m88_board.proofs.Recorded.{IsServed, served_control, shows_fault}
 use Rattle.m88_board.proofs.Service.{can_serve, served_absent, served_cells}
-use Rattle.m88_board.proofs.unit.serve_all.Goals as goal
+use Rattle.m88_board.proofs.serving.serve_all.Goals as goal
 
 pub serve-served-requires-clause-second : goal.serve-served-requires-clause-second
 serve-served-requires-clause-second c =

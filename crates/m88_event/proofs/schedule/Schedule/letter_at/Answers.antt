@@ -5,19 +5,19 @@ use Rattle.std.proofs.lemmas.Bool.Decides.{nat_tests}
 use Rattle.m88_event.proofs.Bound.{behind}
 use Rattle.m88_event.specs.Letters.{in_turn, letter_at}
 use Rattle.m88_event.specs.declared.letter.Letter.{Letter}
-use Rattle.m88_cli.proofs.monitor.making.letter_at.Goals as goal
+use Rattle.m88_event.proofs.schedule.Schedule.letter_at.Goals as goal
 
 pub returns-then-k-len : goal.returns-then-k-len
 unfolding letter_at
 returns-then-k-len c =
-    sym (ap (λ (letter : Option Letter). unwrap_or letter (in_turn (c.args.k - length c.args.schedule.now))) c.letter.ensures)
+    sym (ap (λ (letter : Option Letter). unwrap_or letter (in_turn (c.args.k - length c.args.self.now))) c.letter.ensures)
 
 pub returns-then-k-len-eq0 : goal.returns-then-k-len-eq0
 returns-then-k-len-eq0 c =
-    let even : ((c.args.k - length c.args.schedule.now) % 2 == 0) ≡ true = grind (arith, nat_tests) in
-    sym (behind c.args.schedule.now c.args.k true (omega arith) even)
+    let even : ((c.args.k - length c.args.self.now) % 2 == 0) ≡ true = grind (arith, nat_tests) in
+    sym (behind c.args.self.now c.args.k true (omega arith) even)
 
 pub returns-else-k-len-eq0 : goal.returns-else-k-len-eq0
 returns-else-k-len-eq0 c =
-    let odd : ((c.args.k - length c.args.schedule.now) % 2 == 0) ≡ false = grind (arith, nat_tests) in
-    sym (behind c.args.schedule.now c.args.k false (omega arith) odd)
+    let odd : ((c.args.k - length c.args.self.now) % 2 == 0) ≡ false = grind (arith, nat_tests) in
+    sym (behind c.args.self.now c.args.k false (omega arith) odd)

@@ -5,7 +5,7 @@ use Rattle.m88_isa.specs.Bus.{after_accesses}
 use Rattle.m88_isa.specs.declared.planned.Access.{Access}
 use Rattle.m88_board.specs.Board.{cells_of}
 use Rattle.m88_board.specs.Kept.{PartsAgree}
-use Rattle.m88_board.proofs.unit.complete.Goals as goal
+use Rattle.m88_board.proofs.accesses.complete.Goals as goal
 
 pub answer_store-requires-clause-made : goal.answer_store-requires-clause-made
 answer_store-requires-clause-made c =

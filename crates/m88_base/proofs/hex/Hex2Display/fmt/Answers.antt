@@ -2,8 +2,8 @@
 use Rattle.std.proofs.Common.{[], ◌∷◌, sym, subst}
 use Rattle.std.specs.Str.{IsAscii}
 use Rattle.std.proofs.lemmas.Str.{IsUtf8-from_ascii}
-use Rattle.m88_srec.proofs.AsciiDigits.{places_ascii}
-use Rattle.m88_srec.proofs.printed.Hex2Display.fmt.Goals as goal
+use Rattle.m88_base.proofs.AsciiDigits.{places_ascii}
+use Rattle.m88_base.proofs.hex.Hex2Display.fmt.Goals as goal
 
 pub unreachable-requires : goal.unreachable-requires
 unreachable-requires g c =

@@ -1,0 +1,81 @@
+//! The monitor's service: of a data fault, and of its trap.
+
+ghost use Rattle.std.specs.Prelude.{◌≡◌, not, ◌&&◌, [], length};
+ghost use Rattle.std.specs.Int.{bit_at};
+ghost use Rattle.m88_event.specs.Choice.{touches_page};
+ghost use Rattle.m88_isa.specs.Bus.{after_accesses};
+ghost use Rattle.m88_mem.specs.DataBus.{absent_of};
+ghost use Rattle.m88_scoreboard.specs.Registers.{none_waits, waiting_of};
+ghost use Rattle.m88_board.specs.Board.{cells_of};
+ghost use Rattle.m88_board.specs.Kept.{PartsAgree};
+ghost use Rattle.m88_board.specs.Shown.{IsRecordOf, ShowsFault};
+
+use m88_base::Triple;
+use m88_ctrl::{Control, Frame};
+use m88_dunit::DataUnit;
+use m88_event::Record;
+use m88_isa::{DATA_ACCESS, MONITOR_TRAP};
+use m88_iunit::InstrUnit;
+use m88_mem::Memory;
+use m88_monitor::serve;
+use m88_scoreboard::RegFile;
+
+/// The pending transactions leave the data unit for the control registers, an exception is entered, the monitor
+/// finishes them and returns. The answer is how many there were, and the words of NIP and FIP.
+pub(crate) fn serve_all(
+    fault: Record,
+    unit: &mut DataUnit,
+    ctrl: &mut Control,
+    regs: &mut RegFile,
+    memory: &mut Memory,
+) -> (u8, u32, u32)
+    requires ssbr { bit_at fault.ssbr 0 ≡ 0 }
+    requires agree { PartsAgree unit.old regs.old memory.old }
+    ensures pending { unit.new ≡ [] }
+    ensures cells { cells_of regs.new memory.new
+        ≡ after_accesses unit.old (cells_of regs.old memory.old) }
+    ensures waiting { waiting_of regs.new ≡ none_waits }
+    ensures absent { absent_of memory.new
+        ≡ (λ page. absent_of memory.old page && not (touches_page unit.old page)) }
+    ensures image { memory.new.image ≡ memory.old.image }
+    ensures psr { ctrl.new.psr ≡ ctrl.old.psr }
+    ensures done { result.0 ≡ length unit.old }
+    ensures snip { result.1 ≡ fault.snip }
+    ensures sfip { result.2 ≡ fault.sfip }
+    ensures shows { IsRecordOf fault unit.old ctrl.old → ShowsFault fault ctrl.new }
+{
+    let triples = unit.freeze();
+    let frame = Frame {
+        ssbr: fault.ssbr,
+        sxip: fault.sxip,
+        snip: fault.snip,
+        sfip: fault.sfip,
+        triples,
+    };
+    ctrl.enter(DATA_ACCESS, &frame);
+    regs.restore(0);
+    let served = serve(ctrl, regs, memory);
+    let restart = ctrl.rte();
+    (served.done, restart.snip, restart.sfip)
+}
+
+/// The monitor is entered by its trap, with nothing pending, and returns at once.
+pub(crate) fn visit(ctrl: &mut Control, iunit: &InstrUnit)
+    ensures { ctrl.new.psr ≡ ctrl.old.psr }
+{
+    let none = Triple {
+        dmt: 0,
+        dmd: 0,
+        dma: 0,
+    };
+    let (sxip, snip, sfip) = iunit.shadow();
+    let frame = Frame {
+        ssbr: 0,
+        sxip,
+        snip,
+        sfip,
+        triples: [none, none, none],
+    };
+    ctrl.enter(MONITOR_TRAP, &frame);
+    ctrl.rte();
+}

@@ -1,0 +1,31 @@
+//! The instruction pointers as an instruction goes into execution.
+
+ghost use Rattle.std.specs.Prelude.{◌≡◌, ◌%◌, true, false};
+ghost use Rattle.m88_isa.specs.Flow.{FlowFits};
+ghost use Rattle.m88_board.specs.Kept.{SlotsAgree, lacks_word};
+ghost use Rattle.m88_board.specs.Moves.{IsAdvanced};
+
+use m88_iunit::InstrUnit;
+use m88_mem::Memory;
+
+/// Whether the image lacks one of the four bytes at an address.
+pub(crate) fn lacks_word(memory: &Memory, addr: u32) -> bool
+    requires { addr % 4 ≡ 0 }
+    ensures { result ≡ lacks_word memory.now.image addr }
+{
+    memory.fetch(addr).is_none()
+}
+
+/// The next instruction, which could be fetched, goes into execution, and others follow it.
+pub(crate) fn advance(iunit: &mut InstrUnit, memory: &Memory, after: (u32, u32), bubble: bool)
+    requires valid { iunit.old.nip.v ≡ true }
+    requires fetched { iunit.old.nip.e ≡ false }
+    requires flow { FlowFits after bubble }
+    ensures advanced { IsAdvanced iunit.old iunit.new after.0 after.1 bubble }
+    ensures slots { SlotsAgree memory.now.image iunit.new }
+{
+    let (next, behind) = after;
+    let next_e = lacks_word(memory, next);
+    let behind_e = lacks_word(memory, behind);
+    iunit.advance(next, next_e, behind, behind_e, bubble);
+}

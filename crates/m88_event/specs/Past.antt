@@ -1,0 +1,35 @@
+-- What lies behind each moment that a run comes to: facts about the history up to it, and about the limit.
+use Rattle.std.specs.Prelude.{ℕ, true, false, ◌≡◌, ◌<◌, ◌≤◌, ◌+◌}
+use Rattle.m88_isa.specs.Effect.{Change}
+use Rattle.m88_isa.specs.Held.{is_stop, most_pending}
+use Rattle.m88_isa.specs.History.{transaction_count}
+use Rattle.m88_isa.specs.Machine.{Program, changes, state, turn_at}
+use Rattle.m88_event.specs.Timeline.{Moment}
+
+-- a history has so many instructions at least: the program ends by none of them
+abbrev pub HasInstructions : Program → ℕ → Type 0
+HasInstructions p count = (k : ℕ) → k < count → is_stop (turn_at p (state p k)) ≡ false
+
+-- the last of the first so many instructions of a history changed the flow at once, with no delay slot: the one that was
+-- fetched behind it is passed over
+pub record IsBehindBranch (p : Program) (count : ℕ) : Type 0 where
+  pub before : ℕ
+  pub change : Change
+  pub last : count ≡ before + 1
+  pub turn : turn_at p (state p before) ≡ changes change
+  pub flows : change.bubble ≡ true
+
+-- the program ends by the next instruction, fewer instructions are retired than the limit, and all transactions are done
+pub record IsAtEnd (p : Program) (limit : ℕ) (m : Moment) : Type 0 where
+  pub next : is_stop (turn_at p (state p m.retired)) ≡ true
+  pub early : m.retired < limit
+  pub drained : m.done ≡ transaction_count p m.retired
+
+-- what lies behind a moment: at most as many instructions are retired as the limit, all of them the history's; at most
+-- three transactions are pending; the mark of the end is there only at the end, that of a bubble only behind a branch
+pub record HasPast (p : Program) (limit : ℕ) (m : Moment) : Type 0 where
+  pub within : m.retired ≤ limit
+  pub retired : HasInstructions p m.retired
+  pub pending : transaction_count p m.retired ≤ m.done + most_pending
+  pub ended : m.ended ≡ true → IsAtEnd p limit m
+  pub bubbled : m.bubble ≡ true → IsBehindBranch p m.retired
