@@ -1,7 +1,7 @@
 //! What no clause says of the generated workload: its first draws, a source whole, summaries, and words outside the
 //! grammar.
 
-use crate::tests::{run, run_watched};
+use crate::tests::{expect_done, expect_usage, run_watched};
 use crate::workload::Draws;
 use crate::*;
 use m88_base::{MemSink, MemSource};
@@ -22,61 +22,52 @@ fn the_first_draws_of_a_number(rt: HostRuntime) {
 #[test]
 fn a_number_makes_a_source_and_letters(rt: HostRuntime) -> Result<(), Fail> {
     let mut draws = Draws::new(0);
-    let source = draws.source(rt.alloc(), 2).map_err(|_| "memory")?;
+    let source = draws.source(rt.alloc(), 2)?;
     assert!(rt; source.as_slice() == b"st.b r6,r0,43768\nld r6,r0,41944\n".as_slice());
-    let letters = draws.letters(rt.alloc()).map_err(|_| "memory")?;
+    let letters = draws.letters(rt.alloc())?;
     assert!(rt; letters.len() == 4096 && letters.as_str().starts_with("riir"));
     Ok(())
 }
 
-/// A source that fails at its first call.
-const UNREAD: &[u32] = &[0];
-
 #[test]
 fn a_workload_is_summed_up(rt: HostRuntime) -> Result<(), Fail> {
-    for (line, text) in [
-        (
-            "soak 0 2",
-            b"soak 0 2\nend limit\nretired 2\nevents 4\nanswers 0\nfaults 1\nregs 00000000\n\
-            mem 0 00000000\n"
-                .as_slice(),
-        ),
-        (
-            "soak 0000000000 0000002",
-            b"soak 0 2\nend limit\nretired 2\nevents 4\nanswers 0\nfaults 1\nregs 00000000\n\
+    expect_done(
+        &rt,
+        rt.alloc(),
+        64,
+        &[
+            (
+                "soak 0000000000 0000002",
+                b"",
+                b"soak 0 2\nend limit\nretired 2\nevents 4\nanswers 0\nfaults 1\nregs 00000000\n\
             mem 0 00000000\n",
-        ),
-        (
-            "soak 4294967295 10",
-            b"soak 4294967295 10\nend limit\nretired 10\nevents 25\nanswers 1\nfaults 4\nregs 0000D85C\n\
+            ),
+            (
+                "soak 4294967295 10",
+                b"",
+                b"soak 4294967295 10\nend limit\nretired 10\nevents 25\nanswers 1\nfaults 4\nregs 0000D85C\n\
             mem 0 00000000\n",
-        ),
-        (
-            "soak 2 100",
-            b"soak 2 100\nend limit\nretired 100\nevents 263\nanswers 55\nfaults 14\nregs 0000EDEE\n\
+            ),
+            (
+                "soak 2 100",
+                b"",
+                b"soak 2 100\nend limit\nretired 100\nevents 263\nanswers 55\nfaults 14\nregs 0000EDEE\n\
             mem 9 1B000FF5\n",
-        ),
-        (
-            "soak 007 1000",
-            b"soak 7 1000\nend limit\nretired 1000\nevents 2704\nanswers 729\nfaults 10\nregs 000003A2\n\
+            ),
+            (
+                "soak 007 1000",
+                b"",
+                b"soak 7 1000\nend limit\nretired 1000\nevents 2704\nanswers 729\nfaults 10\nregs 000003A2\n\
             mem 78 2AC42851\n",
-        ),
-    ] {
-        let source = MemSource::new(rt.alloc(), b"", 64, UNREAD).map_err(|_| "memory")?;
-        let sink = MemSink::new(rt.alloc(), 1000, 64, &[]).map_err(|_| "memory")?;
-        let (answer, held) = run(rt.alloc(), line, source, sink)?;
-        assert!(rt;
-            answer == Status::Done && held.as_slice() == text,
-            "at {line}: {text:?}"
-        );
-    }
-    Ok(())
+            ),
+        ],
+    )
 }
 
 #[test]
 fn a_watch_is_shown_each_event_of_a_workload(rt: HostRuntime) -> Result<(), Fail> {
-    let source = MemSource::new(rt.alloc(), b"", 64, UNREAD).map_err(|_| "memory")?;
-    let sink = MemSink::new(rt.alloc(), 1000, 64, &[]).map_err(|_| "memory")?;
+    let source = MemSource::new(rt.alloc(), b"", 64, &[0])?;
+    let sink = MemSink::new(rt.alloc(), 1000, 64, &[])?;
     let mut watch = MemWatch::new();
     let (answer, _) = run_watched(rt.alloc(), "soak 0 2", source, sink, &mut watch)?;
     assert!(rt; answer == Status::Done && watch.seen().len() == 4);
@@ -85,25 +76,23 @@ fn a_watch_is_shown_each_event_of_a_workload(rt: HostRuntime) -> Result<(), Fail
 
 #[test]
 fn a_workload_of_other_words_is_usage(rt: HostRuntime) -> Result<(), Fail> {
-    for line in [
-        "soak",
-        "soak 0",
-        "soak 0 0",
-        "soak 0 40001",
-        "soak 0 00000001",
-        "soak 4294967296 1",
-        "soak 00000000000 1",
-        "soak -1 1",
-        "soak 0x1 1",
-        "soak 1 x",
-        "soak 1 1 1",
-        "Soak 1 1",
-        "run 1 1",
-    ] {
-        let source = MemSource::new(rt.alloc(), b"", 64, UNREAD).map_err(|_| "memory")?;
-        let sink = MemSink::new(rt.alloc(), 1000, 7, &[0]).map_err(|_| "memory")?;
-        let (answer, held) = run(rt.alloc(), line, source, sink)?;
-        assert!(rt; answer == Status::Usage && held.is_empty(), "at {line}");
-    }
-    Ok(())
+    expect_usage(
+        &rt,
+        rt.alloc(),
+        &[
+            "soak",
+            "soak 0",
+            "soak 0 0",
+            "soak 0 40001",
+            "soak 0 00000001",
+            "soak 4294967296 1",
+            "soak 00000000000 1",
+            "soak -1 1",
+            "soak 0x1 1",
+            "soak 1 x",
+            "soak 1 1 1",
+            "Soak 1 1",
+            "run 1 1",
+        ],
+    )
 }

@@ -1,0 +1,82 @@
+//! Sources and sinks that fail, and inputs that are as long as one may be and longer.
+
+use crate::Status;
+use crate::tests::pieces::{LETTER, NOTHING_ALLOWED};
+use crate::tests::run;
+use m88_base::{MemSink, MemSource};
+use std::alloc::Global;
+use std::process::Abort;
+use std::test::Fail;
+
+/// A call number that is never reached.
+const NEVER: u32 = 4_000_000_000;
+
+/// An input, the call of the source and that of the sink that fails, the bytes that the sink has room for, the answer, and
+/// what the sink then holds.
+type Failing<'a> = (&'a [u8], u32, u32, usize, Status, &'a [u8]);
+
+/// Ends the test unless a run of no instruction is answered as each row says.
+fn expect_answers(rt: &impl Abort, alloc: Global, rows: &[Failing]) -> Result<(), Fail> {
+    for (input, reading, writing, room, status, text) in rows {
+        let (answer, held) = answer_of(alloc, input, *reading, *writing, *room)?;
+        assert!(rt;
+            answer == *status && held.as_slice() == *text,
+            "reading fails at {reading}, writing at {writing}, room {room}"
+        );
+    }
+    Ok(())
+}
+
+/// The answer to a run of no instruction, and what the sink then holds.
+fn answer_of(
+    alloc: Global,
+    input: &[u8],
+    reading: u32,
+    writing: u32,
+    room: usize,
+) -> Result<(Status, Vec<u8>), Fail> {
+    let source = MemSource::new(alloc, input, 4096, &[reading])?;
+    let sink = MemSink::new(alloc, room, 4, &[writing])?;
+    let said = run(alloc, "run 0 none -", source, sink)?;
+    Ok(said)
+}
+
+#[test]
+fn a_source_or_a_sink_that_fails_is_told(rt: HostRuntime) -> Result<(), Fail> {
+    expect_answers(
+        &rt,
+        rt.alloc(),
+        &[
+            (b"", 0, NEVER, 1000, Status::SourceFault, b""),
+            (LETTER, 0, NEVER, 1000, Status::SourceFault, b""),
+            (LETTER, 1, NEVER, 1000, Status::SourceFault, b""),
+            (LETTER, 2, NEVER, 1000, Status::Done, NOTHING_ALLOWED),
+            (b"", NEVER, 0, 1000, Status::SinkFault, b""),
+            (b"", NEVER, 1, 1000, Status::SinkFault, b"end "),
+            (b"", NEVER, NEVER, 6, Status::SinkFault, b"end li"),
+            (b"foo", NEVER, 2, 1000, Status::SinkFault, b"refused "),
+        ],
+    )
+}
+
+#[test]
+fn an_input_that_is_too_long_is_told(rt: HostRuntime) -> Result<(), Fail> {
+    let long = vec![in rt.alloc(); b'\n'; 1_048_577]?;
+    let input = long.as_slice();
+    expect_answers(
+        &rt,
+        rt.alloc(),
+        &[
+            (
+                &input[1..],
+                NEVER,
+                NEVER,
+                1000,
+                Status::Done,
+                NOTHING_ALLOWED,
+            ),
+            (input, NEVER, NEVER, 1000, Status::TooLong, b""),
+            (input, 1, NEVER, 1000, Status::SourceFault, b""),
+        ],
+    )
+}

@@ -1,0 +1,178 @@
+//! Whole reports of runs in which memory answers late: faults, repairs, stores that keep their data.
+
+use crate::tests::expect_done;
+use std::test::Fail;
+
+/// Sums a table of ten words in a loop whose branch has a slot.
+pub const SUM: &[u8] = b"_start: or.u r10,r0,hi16(tab)\n        or r10,r10,lo16(tab)\n\
+    \x20       or r11,r0,10\n        or r12,r0,0\nloop:   ld r13,r10,0\n        addu r10,r10,4\n\
+    \x20       subu r11,r11,1\n        bcnd.n ne0,r11,loop\n        addu r12,r12,r13\n\
+    \x20       or.u r14,r0,hi16(sum)\n        or r14,r14,lo16(sum)\n        st r12,r14,0\n\
+    \x20       or r9,r0,0x63\n        tb0 0,r0,496\n        .data\ntab:    .word 1,2,3,4,5,6,7,8,9,10\n\
+    sum:    .word 0\n";
+
+pub const SUM_REPORT: &[u8] = b"end exit at 00001034\nretired 58\n\
+    r0 00000000 00000000 00000000 00000000 00000000 00000000 00000000 00000000\n\
+    r8 00000000 00000063 00002028 00000000 00000037 0000000A 00002028 00000000\n\
+    r16 00000000 00000000 00000000 00000000 00000000 00000000 00000000 00000000\n\
+    r24 00000000 00000000 00000000 00000000 00000000 00000000 00000000 00000000\ncarry 0\nout -\n\
+    mem 00002028 00000037\nevents 118\nanswers 10\nfaults 1\nfault 1 event 11\n\
+    epsr 000003F8 sxip 00001012 snip 00001016 sfip 0000101A ssbr 00002000\nt0 000006BD 00000000 00002000\n\
+    t1 00000000 00000000 00000000\nt2 00000000 00000000 00000000\n";
+
+/// Three loads from three pages.
+pub const LOADS: &[u8] = b"ld r2,r0,0x5000\nld r3,r0,0x6000\nld r4,r0,0x7000\n";
+
+pub const LOADS_REPORT: &[u8] = b"end limit\nretired 3\n\
+    r0 00000000 00000000 00000000 00000000 00000000 00000000 00000000 00000000\n\
+    r8 00000000 00000000 00000000 00000000 00000000 00000000 00000000 00000000\n\
+    r16 00000000 00000000 00000000 00000000 00000000 00000000 00000000 00000000\n\
+    r24 00000000 00000000 00000000 00000000 00000000 00000000 00000000 00000000\ncarry 0\nout -\nevents 4\n\
+    answers 0\nfaults 1\nfault 1 event 4\n\
+    epsr 000003F8 sxip 0000100A snip 0000100F sfip 00001013 ssbr 0000001C\nt0 0000013D 00000000 00005000\n\
+    t1 000001BD 00000000 00006000\nt2 0000023D 00000000 00007000\n";
+
+/// The second instruction writes the register that the load before it waits for.
+const BUSY: &[u8] = b"ld r2,r0,0x5000\naddu r2,r5,1\n";
+
+const BUSY_REPORT: &[u8] = b"end limit\nretired 2\n\
+    r0 00000000 00000000 00000001 00000000 00000000 00000000 00000000 00000000\n\
+    r8 00000000 00000000 00000000 00000000 00000000 00000000 00000000 00000000\n\
+    r16 00000000 00000000 00000000 00000000 00000000 00000000 00000000 00000000\n\
+    r24 00000000 00000000 00000000 00000000 00000000 00000000 00000000 00000000\ncarry 0\nout -\nevents 4\n\
+    answers 0\nfaults 1\nfault 1 event 3\n\
+    epsr 000003F8 sxip 00001002 snip 00001006 sfip 0000100B ssbr 00000004\nt0 0000013D 00000000 00005000\n\
+    t1 00000000 00000000 00000000\nt2 00000000 00000000 00000000\n";
+
+/// A store, and an instruction that is carried out before it faults.
+const STORE: &[u8] = b"or r4,r0,7\nst r4,r0,0x5000\naddu r5,r5,1\n";
+
+const STORE_REPORT: &[u8] = b"end limit\nretired 3\n\
+    r0 00000000 00000000 00000000 00000000 00000007 00000001 00000000 00000000\n\
+    r8 00000000 00000000 00000000 00000000 00000000 00000000 00000000 00000000\n\
+    r16 00000000 00000000 00000000 00000000 00000000 00000000 00000000 00000000\n\
+    r24 00000000 00000000 00000000 00000000 00000000 00000000 00000000 00000000\ncarry 0\nout -\n\
+    mem 00005000 00000007\nevents 4\nanswers 0\nfaults 1\nfault 1 event 4\n\
+    epsr 000003F8 sxip 0000100A snip 0000100F sfip 00001013 ssbr 00000000\nt0 0000003F 00000007 00005000\n\
+    t1 00000000 00000000 00000000\nt2 00000000 00000000 00000000\n";
+
+/// A store keeps what its register held.
+const KEPT: &[u8] = b"or r4,r0,7\nst r4,r0,0x5000\naddu r4,r4,1\n";
+
+const KEPT_REPORT: &[u8] = b"end limit\nretired 3\n\
+    r0 00000000 00000000 00000000 00000000 00000008 00000000 00000000 00000000\n\
+    r8 00000000 00000000 00000000 00000000 00000000 00000000 00000000 00000000\n\
+    r16 00000000 00000000 00000000 00000000 00000000 00000000 00000000 00000000\n\
+    r24 00000000 00000000 00000000 00000000 00000000 00000000 00000000 00000000\ncarry 0\nout -\n\
+    mem 00005000 00000007\nevents 4\nanswers 1\nfaults 0\n";
+
+/// Two stores that fault where a branch is taken.
+const BUBBLE: &[u8] = b"or r4,r0,7\nst r4,r0,0x5000\nst r4,r0,0x6000\nbr over\nor r4,r0,9\n\
+    over: or r6,r0,1\n";
+
+const BUBBLE_REPORT: &[u8] = b"end limit\nretired 5\n\
+    r0 00000000 00000000 00000000 00000000 00000007 00000000 00000001 00000000\n\
+    r8 00000000 00000000 00000000 00000000 00000000 00000000 00000000 00000000\n\
+    r16 00000000 00000000 00000000 00000000 00000000 00000000 00000000 00000000\n\
+    r24 00000000 00000000 00000000 00000000 00000000 00000000 00000000 00000000\ncarry 0\nout -\n\
+    mem 00005000 00000007\nmem 00006000 00000007\nevents 8\nanswers 0\nfaults 1\nfault 1 event 5\n\
+    epsr 000003F8 sxip 0000100E snip 00001010 sfip 00001016 ssbr 00000000\nt0 0000003F 00000007 00005000\n\
+    t1 0000003F 00000007 00006000\nt2 00000000 00000000 00000000\n";
+
+/// A fault between a branch and its slot, which is a load too.
+const SLOT: &[u8] = b"ld r2,r0,0x5000\nbsr.n f\nld r3,r0,0x5004\nor r5,r0,5\nf: or r4,r0,4\n";
+
+const SLOT_REPORT: &[u8] = b"end limit\nretired 4\n\
+    r0 00000000 0000100C 00000000 00000000 00000004 00000000 00000000 00000000\n\
+    r8 00000000 00000000 00000000 00000000 00000000 00000000 00000000 00000000\n\
+    r16 00000000 00000000 00000000 00000000 00000000 00000000 00000000 00000000\n\
+    r24 00000000 00000000 00000000 00000000 00000000 00000000 00000000 00000000\ncarry 0\nout -\nevents 6\n\
+    answers 1\nfaults 1\nfault 1 event 3\n\
+    epsr 000003F8 sxip 00001006 snip 0000100A sfip 00001012 ssbr 00000004\nt0 0000013D 00000000 00005000\n\
+    t1 00000000 00000000 00000000\nt2 00000000 00000000 00000000\n";
+
+/// A word that is no instruction waits for the store before it.
+const LATE: &[u8] = b"or r4,r0,7\nst r4,r0,0x5000\n.word 0xF8200001\n";
+
+const LATE_REPORT: &[u8] = b"end vector 5 at 00001008\nretired 2\n\
+    r0 00000000 00000000 00000000 00000000 00000007 00000000 00000000 00000000\n\
+    r8 00000000 00000000 00000000 00000000 00000000 00000000 00000000 00000000\n\
+    r16 00000000 00000000 00000000 00000000 00000000 00000000 00000000 00000000\n\
+    r24 00000000 00000000 00000000 00000000 00000000 00000000 00000000 00000000\ncarry 0\nout -\n\
+    mem 00005000 00000007\nevents 5\nanswers 0\nfaults 1\nfault 1 event 4\n\
+    epsr 000003F8 sxip 00001006 snip 0000100A sfip 0000100F ssbr 00000000\nt0 0000003F 00000007 00005000\n\
+    t1 00000000 00000000 00000000\nt2 00000000 00000000 00000000\n";
+
+/// Two loads are answered before a letter is put out.
+const OUT: &[u8] = b"or r2,r0,66\nor r9,r0,0x20\nld r3,r0,0x5000\nld r4,r0,0x5004\n\
+    tb0 0,r0,496\nor r9,r0,0x63\ntb0 0,r0,496\n";
+
+const OUT_REPORT: &[u8] = b"end exit at 00001018\nretired 6\n\
+    r0 00000000 00000000 00000042 00000000 00000000 00000000 00000000 00000000\n\
+    r8 00000000 00000063 00000000 00000000 00000000 00000000 00000000 00000000\n\
+    r16 00000000 00000000 00000000 00000000 00000000 00000000 00000000 00000000\n\
+    r24 00000000 00000000 00000000 00000000 00000000 00000000 00000000 00000000\ncarry 0\nout 42\nevents 14\n\
+    answers 2\nfaults 0\n";
+
+/// A double load whose second register is r0.
+const DOUBLE: &[u8] = b"ld.d r31,r0,0x2000\n.data\n.word 0x11223344,0x55667788\n";
+
+const DOUBLE_REPORT: &[u8] = b"end limit\nretired 1\n\
+    r0 00000000 00000000 00000000 00000000 00000000 00000000 00000000 00000000\n\
+    r8 00000000 00000000 00000000 00000000 00000000 00000000 00000000 00000000\n\
+    r16 00000000 00000000 00000000 00000000 00000000 00000000 00000000 00000000\n\
+    r24 00000000 00000000 00000000 00000000 00000000 00000000 00000000 11223344\ncarry 0\nout -\nevents 2\n\
+    answers 0\nfaults 1\nfault 1 event 2\n\
+    epsr 000003F8 sxip 00001002 snip 00001007 sfip 0000100B ssbr 80000000\nt0 00002FBD 00000000 00002000\n\
+    t1 0000003D 00000000 00002004\nt2 00000000 00000000 00000000\n";
+
+/// An exchange with the memory, and an instruction that only the supervisor may use.
+const EXCHANGE: &[u8] = b"or r2,r0,5\nxmem r2,r0,0x5000\nldcr r2,cr1\n";
+
+const EXCHANGE_REPORT: &[u8] = b"end vector 6 at 00001008\nretired 2\n\
+    r0 00000000 00000000 00000000 00000000 00000000 00000000 00000000 00000000\n\
+    r8 00000000 00000000 00000000 00000000 00000000 00000000 00000000 00000000\n\
+    r16 00000000 00000000 00000000 00000000 00000000 00000000 00000000 00000000\n\
+    r24 00000000 00000000 00000000 00000000 00000000 00000000 00000000 00000000\ncarry 0\nout -\n\
+    mem 00005000 00000005\nevents 6\nanswers 0\nfaults 1\nfault 1 event 4\n\
+    epsr 000003F8 sxip 00001006 snip 0000100A sfip 0000100F ssbr 00000004\nt0 0000113D 00000000 00005000\n\
+    t1 0000103F 00000005 00005000\nt2 00000000 00000000 00000000\n";
+
+/// Four loads, of which three fill the data unit.
+pub const FULL: &[u8] = b"ld r2,r0,0x5000\nld r3,r0,0x5004\nld r4,r0,0x5008\nld r5,r0,0x6000\n";
+
+const FULL_REPORT: &[u8] = b"end limit\nretired 4\n\
+    r0 00000000 00000000 00000000 00000000 00000000 00000000 00000000 00000000\n\
+    r8 00000000 00000000 00000000 00000000 00000000 00000000 00000000 00000000\n\
+    r16 00000000 00000000 00000000 00000000 00000000 00000000 00000000 00000000\n\
+    r24 00000000 00000000 00000000 00000000 00000000 00000000 00000000 00000000\ncarry 0\nout -\nevents 57\n\
+    answers 3\nfaults 1\nfault 1 event 57\n\
+    epsr 000003F8 sxip 0000100E snip 00001013 sfip 00001017 ssbr 00000020\nt0 000002BD 00000000 00006000\n\
+    t1 00000000 00000000 00000000\nt2 00000000 00000000 00000000\n";
+
+#[test]
+fn memory_answers_late_and_its_faults_are_reported(rt: HostRuntime) -> Result<(), Fail> {
+    expect_done(
+        &rt,
+        rt.alloc(),
+        64,
+        &[
+            ("run 1000 all iiirrr", SUM, SUM_REPORT),
+            ("run 3 5,6,7 iiir", LOADS, LOADS_REPORT),
+            ("run 2 5 iiri", BUSY, BUSY_REPORT),
+            ("run 3 5 iiir", STORE, STORE_REPORT),
+            ("run 3 none iii", KEPT, KEPT_REPORT),
+            ("run 5 5 iiiiri", BUBBLE, BUBBLE_REPORT),
+            ("run 4 5 iirii", SLOT, SLOT_REPORT),
+            ("run 9 5 iii", LATE, LATE_REPORT),
+            ("run 9 none iiiiii", OUT, OUT_REPORT),
+            ("run 1 2 ir", DOUBLE, DOUBLE_REPORT),
+            ("run 9 5 iiir", EXCHANGE, EXCHANGE_REPORT),
+            (
+                "run 4 6 iiiiiiiiiiiiiiiiiiiiiiiiiiiiiiiiiiiiiiiiiiiiiiiiii",
+                FULL,
+                FULL_REPORT,
+            ),
+        ],
+    )
+}
