@@ -72,11 +72,11 @@ fn the_source_stands_behind_its_line(rt: HostRuntime) -> Result<(), Fail> {
             assert_eq!(rt; script.lines, 4);
             assert_eq!(rt; script.source, b"or r2,r0,1\r\nsource".as_slice());
             assert_eq!(rt; script.commands.len(), 2);
-            assert_eq!(rt; script.commands[0], MonitorCommand::Break(0x1004));
+            assert_eq!(rt; script.commands[0], MonitorCommand::Break(0x1007));
             assert_eq!(rt;
                 script.commands[1],
                 MonitorCommand::Memory {
-                    address: 0xFFFF_FFFC,
+                    address: 0xFFFF_FFFF,
                     count: 2
                 }
             );
