@@ -1,6 +1,6 @@
 -- Along the letters of the run, one event after the other.
-use Rattle.std.specs.Prelude.{ℕ, zero, suc, Bool, true, false, not, List, [], ◌∷◌, Option, ◌≡◌, ◌<◌, ◌≤◌, ◌+◌, ◌==◌}
-use Rattle.std.proofs.Common.{add-one, arith, refl, sym, ap, ap₂, ◌∙◌, subst}
+use Rattle.std.specs.Prelude.{ℕ, suc, Bool, true, List, [], ◌∷◌, Option, ◌≡◌, ◌+◌, ◌==◌}
+use Rattle.std.proofs.Common.{add-one, arith, sym, ap, ap₂, ◌∙◌, subst}
 use Rattle.std.proofs.lemmas.Bool.{eqb-false, eqb-true}
 use Rattle.m88_event.specs.Letters.{letter_at}
 use Rattle.m88_event.specs.Timeline.{Moment, after_letter, said_at}

@@ -1,18 +1,14 @@
 -- What a board that stands at a moment shows of it.
-use Rattle.std.specs.Prelude.{ℕ, Bool, false, List, Option, ◌≡◌, ◌≤◌, ◌+◌, length, map}
+use Rattle.std.specs.Prelude.{ℕ, Bool, ◌≡◌, ◌≤◌, map}
 use Rattle.std.specs.List.{range_with_len}
-use Rattle.std.proofs.Common.{refl, sym, ap, ap₂, ◌∙◌, subst}
+use Rattle.std.proofs.Common.{sym, ap, ap₂, ◌∙◌, subst}
 use Rattle.m88_event.proofs.Bound.{stays_in_limit}
 use Rattle.m88_event.proofs.Follows.{law}
-use Rattle.m88_event.specs.Letters.{letter_at}
 use Rattle.m88_event.specs.Local.{Local, local_at, register_seen}
-use Rattle.m88_event.specs.Shadow.{Pointer}
 use Rattle.m88_event.specs.Timeline.{DoneWereMade, Moment, after_letter}
 use Rattle.m88_event.specs.declared.letter.Letter.{Letter}
-use Rattle.m88_event.specs.declared.record.Record.{Record}
 use Rattle.m88_isa.specs.History.{bus_at, completed_state, pending_at}
 use Rattle.m88_isa.specs.Machine.{IsProgram, Program, state}
-use Rattle.m88_isa.specs.declared.planned.Access.{Access}
 use Rattle.m88_iunit.specs.declared.slot.Slot.{Slot}
 use Rattle.m88_mem.specs.DataBus.{bus_of}
 use Rattle.m88_board.specs.Board.{BoardView, completed_of, local_of, pointer_of}

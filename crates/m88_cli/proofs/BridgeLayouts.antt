@@ -60,6 +60,20 @@ refused_too u fault (inr (inr h)) = inr (inr (
   same_symbol_fault u ∙ h.2,
 ))
 
+-- and nothing else does
+pub refused_first : (u : Source) (fault : LinkFault) → IsRefused (layout_of (objects_of u)) fault
+    → IsRefused (unit_layout u) fault
+refused_first u fault (inl h) = inl (subst (λ es. is_too_large es ≡ true) (extents_law u) h.0, h.1)
+refused_first u fault (inr (inl h)) = inr (inl (
+  subst (λ es. is_too_large es ≡ false) (extents_law u) h.0,
+  subst (λ es. IsOverlap es fault) (extents_law u) h.1,
+))
+refused_first u fault (inr (inr h)) = inr (inr (
+  subst (λ es. is_too_large es ≡ false) (extents_law u) h.0,
+  subst AreDisjoint (extents_law u) h.1,
+  sym (same_symbol_fault u) ∙ h.2,
+))
+
 -- no address is in two sections of the objects
 sections_alone : (u : Source) → IsAcceptedUnit u → AreAlone (layout_of (objects_of u)).spots
 sections_alone u accepted =

@@ -18,13 +18,14 @@ use Rattle.m88_parse.proofs.Law.Faults.{one_answer}
 use Rattle.m88_parse.specs.Language.Units.{IsUnit}
 use Rattle.m88_parse.specs.declared.unit.Unit.{Unit as Source}
 use Rattle.m88_cli.specs.Answer.{IsAnswerToAccepted, IsAnswerToRefused}
-use Rattle.m88_cli.specs.Assembly.{IsRefusedProgram}
+use Rattle.m88_cli.specs.Assembly.{IsProgramSource, IsRefusedProgram}
 use Rattle.m88_cli.specs.Bridge.{AssembledLinksAlike, FitsInput}
 use Rattle.m88_cli.specs.Command.{asm, build, link}
 use Rattle.m88_cli.specs.Objects.{IsLinkableText, IsRefusedObjects}
 use Rattle.m88_cli.specs.Refusal.{Refusal}
+use Rattle.m88_cli.proofs.OneObjects.{no_form, no_range}
 use Rattle.m88_cli.proofs.OneSource.{one_refusal}
-use Rattle.m88_cli.proofs.BridgeLayouts.{linkable_too, linked_too, one_text, refused_too}
+use Rattle.m88_cli.proofs.BridgeLayouts.{linkable_too, linked_too, one_text, refused_first, refused_too}
 use Rattle.m88_cli.proofs.BridgeObjects.{objects_have_text}
 use Rattle.m88_cli.proofs.BridgeSound.{modules_sound}
 use Rattle.m88_cli.proofs.BridgeUnits.{unit_formed}
@@ -133,11 +134,46 @@ refused_link source objects text w h = record {
   line = h.line;
 }
 
+-- a line that refuses the objects refuses the layout of the source
+refusal_first : (source objects : List ℕ) (w : Written source objects) (r : Refusal) → IsRefusedObjects objects r
+    → IsRefusedProgram source r
+refusal_first source objects w r (inl form) = absurd (no_form objects (objects_of w.unit) form.line w.is_text form.is_first)
+refusal_first source objects w r (inr (inl range)) =
+    absurd (no_range objects (objects_of w.unit) range.line w.is_text range.is_first)
+refusal_first source objects w r (inr (inr unlinkable)) = inr (record {
+  unit = w.unit;
+  is_unit = w.is_unit;
+  is_assembled = w.assembled;
+  fault = unlinkable.fault;
+  is_refused =
+      refused_first w.unit unlinkable.fault
+      (subst (λ (os : List Object). IsRefused (layout_of os) unlinkable.fault)
+      (same_objects source objects w unlinkable.objects unlinkable.is_text) unlinkable.is_refused);
+  refusal = unlinkable.refusal;
+})
+
+linkable_text : (source objects : List ℕ) (w : Written source objects) → IsProgramSource source → IsLinkableText objects
+linkable_text source objects w h = record {
+  objects = objects_of w.unit;
+  is_text = w.is_text;
+  is_linkable = linkable_too w.unit (subst IsAcceptedUnit (same_unit source objects w h.unit h.is_unit) h.is_accepted).linkable;
+}
+
+refused_build : (source objects text : List ℕ) → Written source objects → IsAnswerToRefused link objects text
+    → IsAnswerToRefused build source text
+refused_build source objects text w h = record {
+  unaccepted = λ k. h.unaccepted (linkable_text source objects w k);
+  refusal = h.refusal;
+  refused = refusal_first source objects w h.refusal h.refused;
+  only = λ other also. one_refusal build source other h.refusal also (refusal_first source objects w h.refusal h.refused);
+  line = h.line;
+}
+
 -- what `asm` writes links as its source does
 pub assembled_links_alike : AssembledLinksAlike
 assembled_links_alike source objects short a =
     let w = written source objects short a in
     record {
       records = λ text. (to_link source objects text short w, from_link source objects text short w);
-      refusals = λ text. refused_link source objects text w;
+      refusals = λ text. (refused_link source objects text w, refused_build source objects text w);
     }

@@ -9,7 +9,7 @@ use Rattle.m88_isa.specs.declared.instr.BitOp.{BitOp}
 use Rattle.m88_isa.specs.declared.instr.BitOp.TheVariants as bits
 use Rattle.m88_isa.specs.declared.instr.Instr.{Instr}
 use Rattle.m88_parse.specs.Language.Names.{IsBit, IsCondition, IsControl, IsControlName}
-use Rattle.m88_parse.specs.Language.Operands.{AreOperands, IsDistance, IsFixup, IsGoal, IsHalfOf, IsImmediate, IsLiteral, IsPlace, IsSigned, IsValue, minus, most_width}
+use Rattle.m88_parse.specs.Language.Operands.{AreOperands, IsDistance, IsFixup, IsGoal, IsHalfOf, IsImmediate, IsLiteral, IsPlace, IsSigned, IsValue, most_width}
 use Rattle.m88_parse.specs.Language.Operands as operand
 use Rattle.m88_parse.specs.Language.Pieces.{Piece}
 use Rattle.m88_parse.specs.Language.Words.{bit_named, condition_named, half_named}

@@ -12,7 +12,7 @@ use Rattle.m88_base.specs.declared.fixup.Kind.TheVariants.{Hi16, Lo16, Pc26, Pc1
 use Rattle.m88_base.specs.declared.reg.Reg.{Reg}
 use Rattle.m88_isa.specs.declared.instr.Instr.{Instr}
 use Rattle.m88_link.proofs.Walks.{front_of}
-use Rattle.m88_parse.specs.Language.Operands.{AreOperands, Behind, IsAddend, IsFixup, IsGoal, IsHalfOf, IsImmediate, IsSigned, IsSymbolOf, IsValue, minus}
+use Rattle.m88_parse.specs.Language.Operands.{AreOperands, Behind, IsAddend, IsFixup, IsGoal, IsHalfOf, IsImmediate, IsSigned, IsSymbolOf, IsValue}
 use Rattle.m88_parse.specs.Language.Operands as operand
 use Rattle.m88_parse.specs.Language.Pieces.{Piece}
 use Rattle.m88_parse.specs.Language.Shapes.{shape_of}

@@ -12,7 +12,7 @@ use Rattle.m88_parse.specs.Language.Pieces.{Piece}
 use Rattle.m88_parse.specs.Language.Shapes.{shape_of}
 use Rattle.m88_parse.specs.Language.Statements.{AreParted, IsBody, IsStatement}
 use Rattle.m88_parse.specs.Language.Statements as statement
-use Rattle.m88_parse.specs.Language.Units.{AreModules, AreRows, IsUnit, LineSays, Said, says}
+use Rattle.m88_parse.specs.Language.Units.{AreModules, AreRows, IsUnit, LineSays, says}
 use Rattle.m88_parse.specs.Language.Units as units
 use Rattle.m88_parse.specs.WellFormed.{IsFormedBody, IsFormedModule, IsFormedStatement, IsOfKind, IsWellFormed}
 use Rattle.m88_parse.specs.declared.unit.Body.{Body}

@@ -1,9 +1,8 @@
 -- Commands, one after the other.
-use Rattle.std.specs.Prelude.{Result, Ok, Err, OnErr, OnOk, ℕ, zero, suc, Bool, true, false, List, [], ◌∷◌, ◌++◌, Option, Some, ◌≡◌, ◌⊎◌, ◌<◌, ◌≤◌, ◌+◌, drop, length, nat_lt}
+use Rattle.std.specs.Prelude.{Result, Ok, Err, OnOk, ℕ, Bool, true, false, List, [], ◌∷◌, ◌++◌, Option, ◌≡◌, ◌<◌, ◌≤◌, ◌+◌, drop, length, nat_lt}
 use Rattle.std.proofs.Common.{add-one, arith, append_assoc, append-nil, refl, sym, ap, ap₂, ◌∙◌, subst, inl, inr, drop-cons, get_or}
 use Rattle.std.proofs.lemmas.Bool.{ltb-false, ltb-true}
 use Rattle.std.proofs.lemmas.List.{drop_all}
-use Rattle.m88_event.specs.Letters.{letter_at}
 use Rattle.m88_event.specs.Timeline.{opening_moment}
 use Rattle.m88_event.specs.declared.letter.Letter.{Letter}
 use Rattle.m88_isa.proofs.Alone.{by_test}
@@ -11,24 +10,22 @@ use Rattle.m88_isa.specs.Address.{word_address}
 use Rattle.m88_isa.specs.Machine.{IsProgram, Program}
 use Rattle.m88_board.proofs.Seeing.{saw_none, saw_then}
 use Rattle.m88_board.specs.Board.{BoardView}
-use Rattle.m88_board.specs.Glances.{Saw, glances_along}
+use Rattle.m88_board.specs.Glances.{Saw}
 use Rattle.m88_board.specs.Moves.{IsAt}
 use Rattle.m88_board.specs.declared.glance.Glance.{Glance}
 use Rattle.m88_cli.proofs.Along.{each_none}
+use Rattle.m88_cli.proofs.Reporting.{no_glance}
 use Rattle.m88_cli.specs.Limits.{session_limit}
-use Rattle.m88_cli.specs.Session.{Course, HasOneSession, IsSession, IsSessionFront, IsThen, IsUnfinished, Makes, Session, after_command, course_of, glances_of, opening_session, text_of_command, wants_event}
-use Rattle.m88_cli.specs.SessionKept.{Broke, Carried, Stands, Went}
+use Rattle.m88_cli.specs.Session.{Course, IsSession, IsSessionFront, Makes, Session, after_command, course_of, glances_of, moments_of, opening_session, text_of_command, wants_event}
+use Rattle.m88_cli.specs.SessionKept.{Broke, Carried, Stands}
 use Rattle.m88_cli.specs.declared.monitor.Monitor.{Monitor}
 use Rattle.m88_cli.specs.declared.script.MonitorCommand.{MonitorCommand}
 use Rattle.m88_cli.specs.declared.script.MonitorCommand.TheVariants.{Break}
 
 -- a command that makes no event
-no_glance : (c : Course) (s : Session) (command : MonitorCommand) → glances_of c s command 0 ≡ []
-unfolding glances_along
-no_glance c s command = refl
-
 pub saw_nothing : (c : Course) (s : Session) (command : MonitorCommand) (seen : Option (List Glance)) → Saw seen seen (glances_of c s command 0)
-saw_nothing c s command seen = subst (λ glances. Saw seen seen glances) (sym (no_glance c s command)) (saw_none seen)
+saw_nothing c s command seen =
+    subst (λ glances. Saw seen seen glances) (sym (no_glance c.program (moments_of c s command))) (saw_none seen)
 
 pub still : (c : Course) (letters : List Letter) (s : Session) (command : MonitorCommand) (seen : Option (List Glance)) (old new : List ℕ)
     (monitor : Monitor) →
@@ -56,7 +53,12 @@ one_first f a b at_a before_a at_b before_b = by_test (nat_lt a b)
 one_count : (c : Course) (s : Session) (command : MonitorCommand) (a b : ℕ) → Makes c s command a → Makes c s command b → a ≡ b
 one_count c s command a b x y = one_first (wants_event c s command) a b x.done x.each y.done y.each
 
--- so commands write one text
+-- so commands write one text, and show the same glances
+abbrev pub HasOneSession : Course → List MonitorCommand → Session → Type 0
+HasOneSession c commands s =
+    (text other : List ℕ) (glances others : List Glance) → IsSession c commands s text glances
+    → IsSession c commands s other others → (text ≡ other) × (glances ≡ others)
+
 pub one_session : (c : Course) (commands : List MonitorCommand) (s : Session) → HasOneSession c commands s
 one_session c [] s text other glances others x y = (x.0 ∙ sym y.0, x.1 ∙ sym y.1)
 one_session c (command ∷ commands) s text other glances others x y =
@@ -213,7 +215,3 @@ set_stands c letters s a old new stands board taken set = record {
 pub both_ok : {T E P Q R : Type 0} (r : Result T E) → OnOk r P → OnOk r Q → (P → Q → R) → OnOk r R
 both_ok (Ok x) p q f = f p q
 both_ok (Err e) p q f = tt
-
-pub then_err : {T E P Q : Type 0} (r : Result T E) → OnErr r P → (P → Q) → OnErr r Q
-then_err (Ok x) p f = tt
-then_err (Err e) p f = f p

@@ -1,8 +1,8 @@
 -- Letters `r` until nothing is pending.
-use Rattle.std.specs.Prelude.{ℕ, zero, suc, Bool, true, false, not, List, [], ◌∷◌, Option, ◌≡◌, ◌≢◌, ◌<◌, ◌≤◌, ◌+◌, ◌==◌, length}
-use Rattle.std.proofs.Common.{add-one, arith, refl, sym, ap, ap₂, ◌∙◌, subst}
+use Rattle.std.specs.Prelude.{ℕ, suc, true, false, not, List, [], ◌∷◌, Option, ◌≡◌, ◌≢◌, ◌+◌, length}
+use Rattle.std.proofs.Common.{add-one, arith, refl, sym, ap, ◌∙◌, subst}
 use Rattle.m88_event.specs.Run.{answered_after}
-use Rattle.m88_event.specs.Timeline.{Moment, after_letter, is_drained}
+use Rattle.m88_event.specs.Timeline.{Moment, after_letter}
 use Rattle.m88_event.specs.declared.letter.Letter.{Letter}
 use Rattle.m88_event.specs.declared.letter.Letter.TheVariants.{Answer}
 use Rattle.m88_isa.specs.Held.{is_pending}

@@ -1,26 +1,26 @@
 -- Up to so many events, and up to a breakpoint.
-use Rattle.std.specs.Prelude.{ℕ, zero, suc, Bool, true, false, not, List, [], ◌∷◌, Option, ◌≡◌, ◌⊎◌, ◌<◌, ◌≤◌, ◌+◌, ◌-◌, ◌*◌, ◌%◌, ◌==◌, ◌&&◌, ◌||◌, is_some, length, nat_lt, if◌then◌else◌}
+use Rattle.std.specs.Prelude.{ℕ, zero, suc, Bool, true, false, not, List, Option, ◌≡◌, ◌⊎◌, ◌<◌, ◌≤◌, ◌+◌, ◌-◌, ◌*◌, ◌%◌, ◌==◌, ◌&&◌, ◌||◌, is_some, length, nat_lt, if◌then◌else◌}
 use Rattle.std.proofs.Common.{add-one, arith, refl, sym, ap, ap₂, ◌∙◌, subst, inl, inr}
-use Rattle.std.proofs.lemmas.Bool.{lt-ltb, ltb-false}
+use Rattle.std.proofs.lemmas.Bool.{lt-ltb}
 use Rattle.std.proofs.lemmas.Bool.Decides.{nat_tests}
 use Rattle.m88_event.proofs.Bound.{lessens, turns_left, weight, fuel}
 use Rattle.m88_event.proofs.Follows.{law}
 use Rattle.m88_event.proofs.Over.{same_over}
 use Rattle.m88_event.specs.Letters.{letter_at}
-use Rattle.m88_event.specs.Local.{Local, is_over_by, local_at, move}
+use Rattle.m88_event.specs.Local.{Local, local_at, move}
 use Rattle.m88_event.specs.Timeline.{Moment, is_over}
 use Rattle.m88_event.specs.declared.letter.Letter.{Letter}
 use Rattle.m88_isa.proofs.Alone.{by_test}
 use Rattle.m88_isa.specs.Held.{is_pending}
 use Rattle.m88_isa.specs.Machine.{Program}
-use Rattle.m88_board.specs.Board.{BoardView, local_of}
+use Rattle.m88_board.specs.Board.{local_of}
 use Rattle.m88_board.specs.Moves.{IsAt}
 use Rattle.m88_board.specs.declared.glance.Glance.{Glance}
-use Rattle.m88_cli.proofs.Along.{IsAlongOn, along_start, each_next, each_none}
-use Rattle.m88_cli.specs.Session.{Course, Makes, MakesEach, Session, is_at_breakpoint, is_over_on, moment_on, session_on, stops_on, wants_event}
+use Rattle.m88_cli.proofs.Along.{IsAlongOn}
+use Rattle.m88_cli.specs.Session.{Course, MakesEach, Session, is_at_breakpoint, is_over_on, moment_on, session_on, stops_on, wants_event}
 use Rattle.m88_cli.specs.SessionKept.{Stands, Went}
 use Rattle.m88_cli.specs.declared.monitor.Monitor.{Monitor}
-use Rattle.m88_cli.specs.declared.script.MonitorCommand.TheVariants.{Step, Go, Trace}
+use Rattle.m88_cli.specs.declared.script.MonitorCommand.TheVariants.{Step, Go}
 
 -- the run is over where the board says so
 pub over_on : (c : Course) (letters : List Letter) (s : Session) (k : ℕ) (monitor : Monitor) (result : Bool) →

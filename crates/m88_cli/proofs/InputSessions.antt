@@ -1,20 +1,21 @@
 -- An input of `mon` has one session: one script, one program of the source behind it, and one text.
-use Rattle.std.proofs.Common.{◌≡◌, ℕ, ◌<◌, Bool, List, [], ◌∷◌, Option, Some, None, true, inl, refl, sym, subst, arith, append-nil}
+use Rattle.std.proofs.Common.{◌≡◌, ℕ, Bool, List, [], ◌∷◌, Option, inl, refl, sym, subst, arith}
 use Rattle.m88_base.specs.Image.{IsImage, ProgramImage}
 use Rattle.m88_isa.specs.ImageProgram.{IsProgramOf}
 use Rattle.m88_isa.specs.Machine.{Program}
-use Rattle.m88_event.specs.Timeline.{Moment}
 use Rattle.m88_event.specs.declared.letter.Letter.{Letter}
-use Rattle.m88_board.specs.Glances.{Saw, glances_along}
+use Rattle.m88_board.specs.Glances.{Saw}
 use Rattle.m88_board.specs.declared.glance.Glance.{Glance}
 use Rattle.m88_cli.specs.Linking.{HoldsUnit}
 use Rattle.m88_cli.specs.Monitoring.{IsMonitorInput}
 use Rattle.m88_cli.specs.MonitorText.{IsInputSession, IsMonitorText, SawSession, SawSessionFront, Scripted}
 use Rattle.m88_cli.specs.Runs.{IsSourceProgram}
 use Rattle.m88_cli.specs.Script.{IsScript}
-use Rattle.m88_cli.specs.Session.{Course, HasOneSession, IsSession, IsSessionFront, Session, course_of, glances_of, moments_of, opening_session}
+use Rattle.m88_cli.specs.Session.{Course, IsSession, IsSessionFront, Session, course_of, moments_of, opening_session}
 use Rattle.m88_cli.specs.declared.script.MonitorCommand.{MonitorCommand}
-use Rattle.m88_cli.proofs.Programs.{held_by, one_source_program}
+use Rattle.m88_cli.proofs.Carrying.{one_session}
+use Rattle.m88_cli.proofs.Programs.{accepted_source, held_by, one_source_program}
+use Rattle.m88_cli.proofs.Reporting.{no_glance}
 use Rattle.m88_cli.proofs.Scripts.{one_script}
 
 -- the session of another script and program is that of these
@@ -25,31 +26,23 @@ moved absent schedule cs ds p q text glances e f h =
     subst (λ r. IsSession (course_of r absent schedule) ds opening_session text glances) f
     (subst (λ xs. IsSession (course_of p absent schedule) xs opening_session text glances) e h)
 
-pub one_text : (input : List ℕ) (absent : ℕ → Bool) (schedule : List Letter) (cs : List MonitorCommand) (p : Program) (text other : List ℕ)
+one_text : (input : List ℕ) (absent : ℕ → Bool) (schedule : List Letter) (cs : List MonitorCommand) (p : Program) (text other : List ℕ)
     (glances others : List Glance) → Scripted input cs p → IsSession (course_of p absent schedule) cs opening_session text glances
-    → HasOneSession (course_of p absent schedule) cs opening_session → IsInputSession input absent schedule other others → other ≡ text
-one_text input absent schedule cs p text other glances others own is one session =
+    → IsInputSession input absent schedule other others → other ≡ text
+one_text input absent schedule cs p text other glances others own is session =
     let script = one_script input session.commands cs session.scripted.lines own.lines session.scripted.source own.source session.scripted.is_script own.is_script in
     let program = one_source_program own.source session.program p (subst (λ s. IsSourceProgram s session.program) script.source session.scripted.is_program) own.is_program in
-    (one other text others glances
+    (one_session (course_of p absent schedule) cs opening_session other text others glances
     (moved absent schedule session.commands cs session.program p other others script.commands program session.is_session) is).0
 
 -- before the first event nothing was seen
-no_glance : (p : Program) (moments : ℕ → Moment) → [] ≡ glances_along p moments 0
-unfolding glances_along
-no_glance p moments = refl
-
 pub no_session_front : (c : Course) (commands : List MonitorCommand) (s : Session) → IsSessionFront c commands s []
 no_session_front c [] s = refl
 no_session_front c (command ∷ commands) s = inl (record {
   events = 0;
   each = λ k below. absurd (omega arith);
-  glances_are = no_glance c.program (moments_of c s command);
+  glances_are = sym (no_glance c.program (moments_of c s command));
 })
-
-pub saw_none : (seen : Option (List Glance)) → Saw seen seen []
-saw_none None = tt
-saw_none (Some glances) = sym (append-nil glances)
 
 -- the commands of a script by another name
 pub script_as : (input : List ℕ) (cs ds : List MonitorCommand) (n : ℕ) (source : List ℕ) → ds ≡ cs → IsScript input cs n source
@@ -64,7 +57,7 @@ accepted_input input cs n source image is holds = record {
   lines = n;
   source = source;
   is_script = is;
-  is_program = record { unit = holds.unit; is_unit = holds.is_unit; is_accepted = holds.is_accepted };
+  is_program = accepted_source source image holds;
 }
 
 -- what a session over that image writes and shows is the session of the input
@@ -72,16 +65,15 @@ pub session_of_input : (input : List ℕ) (absent : ℕ → Bool) (schedule : Li
     (image : ProgramImage) (text : List ℕ) (before after : Option (List Glance)) → IsScript input cs n source → HoldsUnit source image → IsImage image
     → ((p : Program) → IsProgramOf image p → (glances : List Glance)
     × IsSession (course_of p absent schedule) cs opening_session text glances × Saw before after glances)
-    → ((c : Course) (s : Session) → HasOneSession c cs s) → IsMonitorText input absent schedule text
-session_of_input input absent schedule cs n source image text before after is holds sound told one =
+    → IsMonitorText input absent schedule text
+session_of_input input absent schedule cs n source image text before after is holds sound told =
     let held = held_by source image holds sound in
     let own = told held.program held.of_image in
     let scripted : Scripted input cs held.program = record { lines = n; source = source; is_script = is; is_program = held.of_source } in
     record {
       glances = own.0;
       session = record { commands = cs; program = held.program; scripted = scripted; is_session = own.1 };
-      only = λ other others session. one_text input absent schedule cs held.program text other own.0 others scripted own.1
-          (one (course_of held.program absent schedule) opening_session) session;
+      only = λ other others session. one_text input absent schedule cs held.program text other own.0 others scripted own.1 session;
     }
 
 pub shown_to_end : (input : List ℕ) (absent : ℕ → Bool) (schedule : List Letter) (cs : List MonitorCommand) (n : ℕ) (source : List ℕ)

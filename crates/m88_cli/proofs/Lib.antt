@@ -34,6 +34,7 @@ pub mod PlainSources
 pub mod SoakReply
 pub mod BridgeLinks
 pub mod BridgeListings
+pub mod BridgeLaws
 pub mod AtMoment
 pub mod Lines
 pub mod Along

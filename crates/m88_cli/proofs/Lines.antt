@@ -1,10 +1,9 @@
 -- The lines of what a board shows are those of its moment.
-use Rattle.std.specs.Prelude.{ℕ, suc, Bool, List, [], ◌∷◌, ◌++◌, Option, ◌≡◌, ◌≤◌, ◌+◌, ◌-◌, length, map}
+use Rattle.std.specs.Prelude.{ℕ, suc, Bool, List, ◌++◌, ◌≡◌, length, map}
 use Rattle.std.specs.List.{flat_map, range_with_len}
-use Rattle.std.proofs.Common.{refl, sym, ap, ap₂, ◌∙◌, append_assoc, append-nil}
+use Rattle.std.proofs.Common.{sym, ap, ap₂, ◌∙◌, append_assoc, append-nil}
 use Rattle.m88_event.specs.Timeline.{Moment}
 use Rattle.m88_isa.specs.Address.{after_bytes}
-use Rattle.m88_isa.specs.History.{pending_at}
 use Rattle.m88_isa.specs.Machine.{Program}
 use Rattle.m88_board.specs.Board.{BoardView, completed_of}
 use Rattle.m88_board.specs.Moves.{IsAt}

@@ -13,7 +13,7 @@ use Rattle.m88_asm.specs.declared.fault.UnitFault.{UnitFault}
 use Rattle.m88_asm.specs.declared.fault.UnitFault.TheVariants as unit_kind
 use Rattle.m88_cli.specs.Assembly.{IsProgramSource, IsRefusedProgram, asm_refusal, link_refusal, parse_refusal}
 use Rattle.m88_cli.specs.Behind.{IsRefusedBehind, asm_fault_behind, link_fault_behind, parse_fault_behind, unassembled_behind, unlinked_behind, unread_behind}
-use Rattle.m88_cli.specs.MonitorFaults.{HasFaultBehind, IsMonitorFault, IsToldFault, monitor_refusal}
+use Rattle.m88_cli.specs.MonitorFaults.{IsMonitorFault, IsToldFault, monitor_refusal}
 use Rattle.m88_cli.specs.Monitoring.{IsMonitorInput, IsRefusedMonitor}
 use Rattle.m88_cli.specs.Refusal.{Refusal}
 use Rattle.m88_cli.specs.RefusalBehind.{refusal_behind}

@@ -28,10 +28,10 @@ one_list : (text : List ℕ) (os ps : List Object) → IsSoundText os text → I
 one_list text os ps a b = told_written (λ (l : List Object). l) text (read os) a ps b
 
 -- which no line refuses
-no_form : (text : List ℕ) (os : List Object) (n : ℕ) → IsSoundText os text → IsFormLine text n → ⊥
+pub no_form : (text : List ℕ) (os : List Object) (n : ℕ) → IsSoundText os text → IsFormLine text n → ⊥
 no_form text os n a form = told_form (λ (l : List Object). l) text (read os) a n form
 
-no_range : (text : List ℕ) (os : List Object) (n : ℕ) → IsSoundText os text → IsRangeLine text n → ⊥
+pub no_range : (text : List ℕ) (os : List Object) (n : ℕ) → IsSoundText os text → IsRangeLine text n → ⊥
 no_range text os n a range = told_range (λ (l : List Object). l) text (read os) a n range
 
 -- a fault names one line

@@ -19,6 +19,7 @@ use Rattle.m88_parse.specs.declared.unit.Unit.{Unit as Source}
 use Rattle.m88_asm.specs.Images.{IsUnitInstruction, IsUnitProgram, placed_instruction, unit_byte}
 use Rattle.m88_srec.proofs.Law.{verdict_takes}
 use Rattle.m88_srec.specs.Accepted.{Whole, whole_of}
+use Rattle.m88_cli.specs.Assembly.{IsProgramSource}
 use Rattle.m88_cli.specs.Linking.{HoldsUnit}
 use Rattle.m88_cli.specs.Runs.{IsLoadedProgram, IsSourceProgram}
 
@@ -93,6 +94,10 @@ in_unit : (u : Source) (a : ℕ) (o placed : Option Instr) → placed_instructio
     → IsUnitInstruction u a (option_or placed o)
 in_unit u a o None e there = inr (e, there)
 in_unit u a o (Some i) e there = inl (refl, e)
+
+-- a source whose unit an image holds can be assembled and linked
+pub accepted_source : (source : List ℕ) (image : ProgramImage) → HoldsUnit source image → IsProgramSource source
+accepted_source source image holds = record { unit = holds.unit; is_unit = holds.is_unit; is_accepted = holds.is_accepted }
 
 -- a program that is the source's and that the image holds
 pub record Held (source : List ℕ) (image : ProgramImage) : Type 0 where

@@ -1,8 +1,8 @@
 -- The instruction that is read at an address is the program's.
-use Rattle.std.specs.Prelude.{ℕ, Bool, List, Option, Some, None, Result, Ok, Err, MatchOption, IfOk, ◌≡◌, ◌<◌, ◌%◌, ◌^◌, option_map}
+use Rattle.std.specs.Prelude.{ℕ, List, Option, Some, None, Result, Ok, Err, MatchOption, IfOk, ◌≡◌, ◌<◌, ◌%◌, ◌^◌}
 use Rattle.std.specs.Int.{to_be_bytes, w32}
 use Rattle.std.specs.Result.{result_ok}
-use Rattle.std.proofs.Common.{refl, sym, ap, ◌∙◌, subst}
+use Rattle.std.proofs.Common.{refl, sym, ap, ◌∙◌}
 use Rattle.m88_base.specs.Image.{ProgramImage, byte_at}
 use Rattle.m88_isa.proofs.ImageProgram.{instruction_at_word}
 use Rattle.m88_isa.specs.Held.{fetched_instruction, instruction_at}

@@ -1,7 +1,11 @@
 -- A run of the one program of an input comes to one outcome, and its report answers the input.
-use Rattle.std.proofs.Common.{◌≡◌, ℕ, zero, suc, ◌+◌, Bool, List, [], Option, Some, None, Result, Ok, Err, add-one, refl, ap, sym, ◌∙◌, subst, arith, append-nil}
-use Rattle.std.specs.Prelude.{OnErr, OnOk}
+use Rattle.std.proofs.Common.{◌≡◌, ℕ, zero, suc, ◌+◌, Bool, List, [], Option, Result, Ok, Err, true, add-one, refl, ap, sym, ◌∙◌, subst, arith}
+use Rattle.std.specs.Prelude.{IfOk, MatchBool, OnErr, OnOk}
+use Rattle.m88_base.specs.Image.{ProgramImage}
+use Rattle.m88_base.specs.declared.failing.NoMemory.{NoMemory}
+use Rattle.m88_isa.specs.ImageProgram.{IsProgramOf}
 use Rattle.m88_isa.specs.Machine.{Program}
+use Rattle.m88_event.proofs.Over.{one_outcome}
 use Rattle.m88_event.specs.Choice.{Choice, faults, finishes, holds, idles, issues, passes, replies, serves}
 use Rattle.m88_event.specs.Letters.{letter_at}
 use Rattle.m88_event.specs.Run.{IsOutcome, IsRunning, moment_after, outcome_at}
@@ -9,10 +13,16 @@ use Rattle.m88_event.specs.Timeline.{Moment, after_choice, after_letter, choice_
 use Rattle.m88_event.specs.declared.letter.Letter.{Letter}
 use Rattle.m88_event.specs.declared.outcome.Outcome.{Outcome}
 use Rattle.m88_event.specs.declared.record.Record.{Record}
+use Rattle.m88_board.proofs.Seeing.{saw_none}
 use Rattle.m88_board.specs.Glances.{Saw, glances_along}
 use Rattle.m88_board.specs.declared.glance.Glance.{Glance}
+use Rattle.m88_report.specs.Report.{report_of}
+use Rattle.m88_cli.specs.Answer.{IsAnswerToAccepted, IsAnswerToRefused}
+use Rattle.m88_cli.specs.Command.{Command}
+use Rattle.m88_cli.specs.Reply.{Replies, WatchesReply}
 use Rattle.m88_cli.specs.Runs.{IsReport}
-use Rattle.m88_cli.specs.Watching.{SawFront, SawRun}
+use Rattle.m88_cli.specs.Watching.{SawFront, SawRun, Shown}
+use Rattle.m88_cli.specs.declared.reply.Reply.{Reply}
 
 -- a choice counts no event
 choice_counts_none : (p : Program) (c : Choice) (fault : Record) (m : Moment) → (after_choice p c fault m).events ≡ m.events
@@ -61,12 +71,8 @@ pub front_of_run : (p : Program) (limit : ℕ) (absent : ℕ → Bool) (schedule
     → SawRun p limit absent schedule before after → SawFront p limit absent schedule before after
 front_of_run p limit absent schedule before after seen = record { events = seen.events; is_running = seen.is_run.first; saw = seen.saw }
 
--- nothing that was seen is a front
-saw_nothing : (seen : Option (List Glance)) → Saw seen seen []
-saw_nothing None = tt
-saw_nothing (Some glances) = sym (append-nil glances)
-
-no_glance : (p : Program) (moments : ℕ → Moment) → glances_along p moments 0 ≡ []
+-- before the first event nothing was seen
+pub no_glance : (p : Program) (moments : ℕ → Moment) → glances_along p moments 0 ≡ []
 unfolding glances_along
 no_glance p moments = refl
 
@@ -74,22 +80,43 @@ pub no_front : (p : Program) (limit : ℕ) (absent : ℕ → Bool) (schedule : L
 no_front p limit absent schedule seen = record {
   events = 0;
   is_running = λ k below. absurd (omega arith);
-  saw = subst (λ glances. Saw seen seen glances) (sym (no_glance p (moment_after p absent limit schedule))) (saw_nothing seen);
+  saw = subst (λ glances. Saw seen seen glances) (sym (no_glance p (moment_after p absent limit schedule))) (saw_none seen);
 }
 
 -- what is told of a run of the one program of an input
 pub reported : {told_of : Outcome → List ℕ} (IsSuch : Program → Type 0) (p : Program) (limit : ℕ) (absent : ℕ → Bool) (schedule : List Letter) (text : List ℕ)
     → IsSuch p → ((q : Program) → IsSuch q → q ≡ p)
-    → ((o other : Outcome) → IsOutcome p absent limit schedule o → IsOutcome p absent limit schedule other → o ≡ other)
     → (o : Outcome) × IsOutcome p absent limit schedule o × (text ≡ told_of o) → IsReport told_of IsSuch limit absent schedule text
-reported IsSuch p limit absent schedule text is_such one only (o, is, report) = record {
+reported IsSuch p limit absent schedule text is_such one (o, is, report) = record {
   outcome = o;
   comes = record { program = p; is_such = is_such; is_outcome = is };
   only = λ other comes.
-      only other o
+      one_outcome p absent limit schedule other o
       (subst (λ q. IsOutcome q absent limit schedule other) (one comes.program comes.is_such) comes.is_outcome) is;
   is_text = report;
 }
+
+-- the text is the report of a run of the program of an image
+abbrev pub TellsOf : ProgramImage → ℕ → (ℕ → Bool) → List Letter → List ℕ → Type 0
+TellsOf image limit absent schedule text =
+    (p : Program) → IsProgramOf image p → (o : Outcome) × IsOutcome p absent limit schedule o × (text ≡ report_of o)
+
+-- a reply that accepts an input, with a text that answers it
+pub answering : (command : Command) (input : List ℕ) (IsTold : List ℕ → Type 0) (result : Result Reply NoMemory)
+    → ((text : List ℕ) → IsTold text → IsAnswerToAccepted command input text) → IfOk result (λ r. r.accepted ≡ true)
+    → IfOk result (λ r. IsTold r.text.items) → IfOk result (Replies command input)
+answering command input IsTold (Err e) answers accepted told = tt
+answering command input IsTold (Ok r) answers accepted told =
+    subst (λ t. MatchBool t (IsAnswerToAccepted command input r.text.items) (IsAnswerToRefused command input r.text.items)) (sym accepted)
+    (answers r.text.items told)
+
+-- and a watch that was shown all of it
+pub watching : {W P : Type 0} (seen : W → Option (List Glance)) (old new : W) (command : Command) (input : List ℕ) (result : Result Reply NoMemory)
+    → IfOk result (λ r. r.accepted ≡ true) → OnOk result P → (P → Shown command input (seen old) (seen new))
+    → IfOk result (WatchesReply seen old new command input)
+watching seen old new command input (Err e) accepted saw shown = tt
+watching seen old new command input (Ok r) accepted saw shown =
+    subst (λ t. MatchBool t (Shown command input (seen old) (seen new)) (new ≡ old)) (sym accepted) (shown saw)
 
 -- the same of a limit that is the board's
 pub front_by : (p : Program) (own limit : ℕ) (absent : ℕ → Bool) (schedule : List Letter) (before after : Option (List Glance)) → own ≡ limit

@@ -1,13 +1,11 @@
 -- A line writes one command of the monitor, and the line `source` none.
-use Rattle.std.proofs.Common.{◌≡◌, ℕ, ◌≤◌, ◌<◌, ◌^◌, Option, Some, None, List, [], ◌∷◌, ◌++◌, codes, get_or, length, append_assoc, refl, ap, sym, ◌∙◌, subst, arith}
+use Rattle.std.proofs.Common.{◌≡◌, ℕ, ◌≤◌, Option, Some, List, ◌∷◌, ◌++◌, codes, get_or, length, append_assoc, refl, ap, sym, ◌∙◌, subst, arith}
 use Rattle.std.specs.Option.{option_map}
-use Rattle.std.specs.Str.Parse.{digits_value}
 use Rattle.std.proofs.lemmas.List.{append_cancel_left}
 use Rattle.std.proofs.lemmas.Int.Digits.{digits_value-lt}
 use Rattle.std.proofs.Math.Nat.{pow-le-pow_right}
-use Rattle.m88_isa.specs.Address.{word_address}
 use Rattle.m88_cli.specs.Cutting.{HasNone}
-use Rattle.m88_cli.specs.Script.{HasOperand, IsCount, IsWordAddress, AreMemoryOperands, WritesCommand, most_steps, most_words, source_line}
+use Rattle.m88_cli.specs.Script.{HasOperand, IsCount, AreMemoryOperands, WritesAddress, WritesCommand, most_steps, most_words, source_line}
 use Rattle.m88_cli.specs.declared.script.MonitorCommand.{MonitorCommand}
 use Rattle.m88_cli.specs.declared.script.MonitorCommand.TheVariants.{Step, Go, Break, Regs, Pipe, Memory, Drain, Trace}
 use Rattle.m88_cli.proofs.Cuts.{cut_once, none_in_digits}
@@ -40,22 +38,22 @@ begins (Trace n) line h = ap first_of h.line_is
 same_count : (most m n : ℕ) (text : List ℕ) → IsCount most text m → IsCount most text n → m ≡ n
 same_count most m n text a b = a.number.value ∙ sym b.number.value
 
-same_place : (a b : ℕ) (text : List ℕ) → IsWordAddress text a → IsWordAddress text b → a ≡ b
-same_place a b text h k = h.cleared ∙ ap word_address (h.number.value ∙ sym k.number.value) ∙ sym k.cleared
+same_place : (a b : ℕ) (text : List ℕ) → WritesAddress text a → WritesAddress text b → a ≡ b
+same_place a b text h k = h.value ∙ sym k.value
 
 -- an address has at most eight digits
-pub place_is_small : (text : List ℕ) (address : ℕ) (h : IsWordAddress text address) → h.written ≤ 4294967295
+pub place_is_small : (text : List ℕ) (address : ℕ) → WritesAddress text address → address ≤ 4294967295
 place_is_small text address h =
-    let below = digits_value-lt 16 text h.number.numeral.1 in
-    let power = pow-le-pow_right {n = 16} (omega arith) {i = length text} {j = 8} h.number.short in
-    omega (arith, below, power, h.number.value)
+    let below = digits_value-lt 16 text h.numeral.1 in
+    let power = pow-le-pow_right {n = 16} (omega arith) {i = length text} {j = 8} h.short in
+    omega (arith, below, power, h.value)
 
 -- an address has no blank
-place_has_none : (text : List ℕ) (address : ℕ) → IsWordAddress text address → HasNone 32 text
-place_has_none text address h = none_in_digits 32 16 text (omega arith) h.number.numeral.1
+place_has_none : (text : List ℕ) (address : ℕ) → WritesAddress text address → HasNone 32 text
+place_has_none text address h = none_in_digits 32 16 text (omega arith) h.numeral.1
 
 pub record AreParts (place digits : List ℕ) (address count : ℕ) : Type 0 where
-  pub is_place : IsWordAddress place address
+  pub is_place : WritesAddress place address
   pub is_count : IsCount most_words digits count
 
 -- an address and a number of words stand before and behind the first blank
@@ -64,7 +62,7 @@ pub are_parts : (text place digits : List ℕ) (address count : ℕ) → text �
 are_parts text place digits address count e none h =
     let same = cut_once 32 h.place h.digits place digits (place_has_none h.place address h.is_place) none (sym (h.text_is ∙ append_assoc h.place (codes " ") h.digits) ∙ e) in
     record {
-      is_place = subst (λ t. IsWordAddress t address) same.0 h.is_place;
+      is_place = subst (λ t. WritesAddress t address) same.0 h.is_place;
       is_count = subst (λ t. IsCount most_words t count) same.1 h.is_count;
     }
 
@@ -88,9 +86,9 @@ pub only_trace : (line digits : List ℕ) (o : Option ℕ) → line ≡ codes "t
 only_trace line digits o e only (Trace n) h = ap (option_map (λ n. Trace n)) (only n (same_operand (codes "trace") (λ t. IsCount most_steps t n) line digits e h))
 only_trace line digits o e only c h = let k = others line (letter_of c) 116 (begins c line h) (ap first_of e) in absurd (omega (arith, k))
 
-pub only_break : (line text : List ℕ) (o : Option ℕ) → line ≡ codes "break " ++ text → ((n : ℕ) → IsWordAddress text n → o ≡ Some n)
+pub only_break : (line text : List ℕ) (o : Option ℕ) → line ≡ codes "break " ++ text → ((n : ℕ) → WritesAddress text n → o ≡ Some n)
     → (c : MonitorCommand) → WritesCommand c line → option_map (λ n. Break n) o ≡ Some c
-only_break line text o e only (Break address) h = ap (option_map (λ n. Break n)) (only address (same_operand (codes "break") (λ t. IsWordAddress t address) line text e h))
+only_break line text o e only (Break address) h = ap (option_map (λ n. Break n)) (only address (same_operand (codes "break") (λ t. WritesAddress t address) line text e h))
 only_break line text o e only c h = let k = others line (letter_of c) 98 (begins c line h) (ap first_of e) in absurd (omega (arith, k))
 
 pub only_memory : (line text : List ℕ) (o : Option (ℕ × ℕ)) → line ≡ codes "mem " ++ text → ((address count : ℕ) → AreMemoryOperands text address count → o ≡ Some (address, count))
@@ -105,7 +103,7 @@ same_command (Step m) (Step n) line a b =
     ap (λ k. Step k) (same_count most_steps m n a.operand a.is_such (same_operand (codes "step") (λ t. IsCount most_steps t n) line a.operand a.line_is b))
 same_command Go Go line a b = refl
 same_command (Break p) (Break q) line a b =
-    ap (λ k. Break k) (same_place p q a.operand a.is_such (same_operand (codes "break") (λ t. IsWordAddress t q) line a.operand a.line_is b))
+    ap (λ k. Break k) (same_place p q a.operand a.is_such (same_operand (codes "break") (λ t. WritesAddress t q) line a.operand a.line_is b))
 same_command Regs Regs line a b = refl
 same_command Pipe Pipe line a b = refl
 same_command (Memory p m) (Memory q n) line a b =

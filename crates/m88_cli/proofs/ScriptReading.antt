@@ -1,10 +1,9 @@
 -- A script read line by line.
-use Rattle.std.proofs.Common.{◌≡◌, ℕ, zero, suc, ◌≤◌, ◌<◌, ◌+◌, ◌==◌, ◌&&◌, Bool, true, false, cond, List, [], ◌∷◌, ◌++◌, length, length-append, append_assoc, refl, ap, sym, ◌∙◌, subst, arith}
+use Rattle.std.proofs.Common.{◌≡◌, ℕ, zero, suc, ◌+◌, ◌==◌, ◌&&◌, Bool, true, false, cond, List, [], ◌∷◌, ◌++◌, length, length-append, append_assoc, refl, ap, sym, ◌∙◌, arith}
 use Rattle.std.specs.Prelude.{◌≢◌}
 use Rattle.std.specs.Bool.{Decides}
-use Rattle.std.proofs.lemmas.List.{append-nil}
 use Rattle.m88_base.specs.Lines.{begins_with_lf, lines_of, on_first_line}
-use Rattle.m88_cli.specs.Script.{AreScriptLines, HasNoScript, IsScript, StopsScript, behind_lines, source_line}
+use Rattle.m88_cli.specs.Script.{AreScriptLines, HasNoScript, IsScript, behind_lines, source_line}
 use Rattle.m88_cli.specs.declared.script.MonitorCommand.{MonitorCommand}
 use Rattle.m88_cli.proofs.Scripts.{no_lines_yet}
 

@@ -100,14 +100,11 @@ made_by number count source image is holds is_image =
 
 -- the summary of its run answers
 pub summed_up : (number count : ℕ) (input text : List ℕ) (p : Program) (o : Outcome) → IsSourceProgram (workload_source number count) p
-    → IsOutcome p every_page count (workload_schedule number count) o
-    → ((o other : Outcome) → IsOutcome p every_page count (workload_schedule number count) o
-    → IsOutcome p every_page count (workload_schedule number count) other → o ≡ other)
-    → text ≡ summary_of number count o → IsAnswerToAccepted (soak number count) input text
-summed_up number count input text p o of_source is only text_is = record {
+    → IsOutcome p every_page count (workload_schedule number count) o → text ≡ summary_of number count o → IsAnswerToAccepted (soak number count) input text
+summed_up number count input text p o of_source is text_is = record {
   accepted = tt;
   output = reported (IsSourceProgram (workload_source number count)) p count every_page (workload_schedule number count) text of_source
-      (λ q is_too. one_source_program (workload_source number count) q p is_too of_source) only (o, is, text_is);
+      (λ q is_too. one_source_program (workload_source number count) q p is_too of_source) (o, is, text_is);
 }
 
 -- what the code has of the source and the letters
@@ -134,15 +131,10 @@ read_letters o schedule letters e f = cc
 -- the same over the schedule that the code has
 pub answer_of_run : (number count : ℕ) (input text : List ℕ) (image : ProgramImage) (schedule : List Letter) (o : Outcome)
     → Made number count image → schedule ≡ workload_schedule number count
-    → ((p : Program) → IsProgramOf image p → IsOutcome p every_page count schedule o)
-    → ((p : Program) (x other : Outcome) → IsOutcome p every_page count schedule x → IsOutcome p every_page count schedule other → x ≡ other)
-    → text ≡ summary_of number count o → IsAnswerToAccepted (soak number count) input text
-answer_of_run number count input text image schedule o made is comes only text_is =
+    → ((p : Program) → IsProgramOf image p → IsOutcome p every_page count schedule o) → text ≡ summary_of number count o → IsAnswerToAccepted (soak number count) input text
+answer_of_run number count input text image schedule o made is comes text_is =
     summed_up number count input text made.program o made.of_source
-    (subst (λ (s : List Letter). IsOutcome made.program every_page count s o) is (comes made.program made.of_image))
-    (subst (λ (s : List Letter). (x other : Outcome) → IsOutcome made.program every_page count s x
-    → IsOutcome made.program every_page count s other → x ≡ other) is (only made.program))
-    text_is
+    (subst (λ (s : List Letter). IsOutcome made.program every_page count s o) is (comes made.program made.of_image)) text_is
 
 pub run_shown : (number count : ℕ) (input : List ℕ) (image : ProgramImage) (schedule : List Letter) (before after : Option (List Glance))
     → Made number count image → schedule ≡ workload_schedule number count

@@ -32,11 +32,11 @@ abbrev pub BuiltRunsAlike : Type 0
 BuiltRunsAlike = (source records : List ℕ) → FitsInput source → IsAnswerToAccepted build source records
     → RunAlike source records
 
--- `link` of the objects answers as `build` does of the source: with the same records, or with the line that refuses the
--- layout
+-- `link` of the objects answers as `build` does of the source: with the same records, or with the same line, which
+-- refuses the layout
 pub record LinkAlike (source objects : List ℕ) : Type 0 where
   pub records : (text : List ℕ) → IsAnswerToAccepted build source text ↔ IsAnswerToAccepted link objects text
-  pub refusals : (text : List ℕ) → IsAnswerToRefused build source text → IsAnswerToRefused link objects text
+  pub refusals : (text : List ℕ) → IsAnswerToRefused build source text ↔ IsAnswerToRefused link objects text
 
 -- a source and the objects that `asm` writes of it link alike
 abbrev pub AssembledLinksAlike : Type 0

@@ -1,7 +1,6 @@
 -- The script of the monitor: lines that are commands or empty, then a line `source`, and a source behind that line.
 use Rattle.std.specs.Prelude.{ℕ, ◌≡◌, ◌≢◌, ◌+◌, ◌≤◌, ◌==◌, ◌++◌, Bool, true, false, List, [], ◌∷◌, codes, count_by, length, zero, suc, if◌then◌else◌}
 use Rattle.m88_base.specs.Lines.{line_feed, lines_of}
-use Rattle.m88_isa.specs.Address.{word_address}
 use Rattle.m88_cli.specs.Numbers.{IsShortNumber}
 use Rattle.m88_cli.specs.Refusal.{Refusal}
 use Rattle.m88_cli.specs.declared.script.MonitorCommand.{MonitorCommand}
@@ -29,18 +28,16 @@ pub record IsCount (most : ℕ) (text : List ℕ) (n : ℕ) : Type 0 where
   pub some : 1 ≤ n
   pub few : n ≤ most
 
--- a text writes an address in one to eight hexadecimal digits, whose two low bits are cleared
-pub record IsWordAddress (text : List ℕ) (address : ℕ) : Type 0 where
-  pub written : ℕ
-  pub number : IsShortNumber 16 8 text written
-  pub cleared : address ≡ word_address written
+-- a text writes an address in one to eight hexadecimal digits
+abbrev pub WritesAddress : List ℕ → ℕ → Type 0
+WritesAddress text address = IsShortNumber 16 8 text address
 
 -- a text writes an address, a blank, and a number of words
 pub record AreMemoryOperands (text : List ℕ) (address count : ℕ) : Type 0 where
   pub place : List ℕ
   pub digits : List ℕ
   pub text_is : text ≡ place ++ codes " " ++ digits
-  pub is_place : IsWordAddress place address
+  pub is_place : WritesAddress place address
   pub is_count : IsCount most_words digits count
 
 -- a line is a name, a blank, and an operand of some kind
@@ -53,7 +50,7 @@ pub record HasOperand (name : List ℕ) (IsSuch : List ℕ → Type 0) (line : L
 abbrev pub WritesCommand : MonitorCommand → List ℕ → Type 0
 WritesCommand (Step n) line = HasOperand (codes "step") (λ text. IsCount most_steps text n) line
 WritesCommand Go line = line ≡ codes "go"
-WritesCommand (Break address) line = HasOperand (codes "break") (λ text. IsWordAddress text address) line
+WritesCommand (Break address) line = HasOperand (codes "break") (λ text. WritesAddress text address) line
 WritesCommand Regs line = line ≡ codes "regs"
 WritesCommand Pipe line = line ≡ codes "pipe"
 WritesCommand (Memory address count) line = HasOperand (codes "mem") (λ text. AreMemoryOperands text address count) line

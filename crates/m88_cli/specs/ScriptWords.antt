@@ -1,6 +1,6 @@
 -- Words for the contracts of private functions; no promise of the program names them. Commands of the monitor without
 -- an operand, and whether there is room for a command.
-use Rattle.std.specs.Prelude.{ℕ, Bool, List, not, nat_lt, count_by, length, ◌&&◌, ◌||◌}
+use Rattle.std.specs.Prelude.{Bool, List, not, nat_lt, count_by, length, ◌&&◌, ◌||◌}
 use Rattle.m88_cli.specs.Script.{is_break, most_breaks, most_commands}
 use Rattle.m88_cli.specs.declared.script.MonitorCommand.{MonitorCommand}
 use Rattle.m88_cli.specs.declared.script.MonitorCommand.TheVariants.{Step, Go, Break, Regs, Pipe, Memory, Drain, Trace}

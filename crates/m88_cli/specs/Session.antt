@@ -157,9 +157,3 @@ abbrev pub IsSessionFront : Course → List MonitorCommand → Session → List 
 IsSessionFront c [] s glances = glances ≡ []
 IsSessionFront c (command ∷ commands) s glances =
     IsUnfinished c s command glances ⊎ IsThenFront (IsSessionFront c commands) c s command glances
-
--- two sessions of the same commands write one text, and show the same glances
-abbrev pub HasOneSession : Course → List MonitorCommand → Session → Type 0
-HasOneSession c commands s =
-    (text other : List ℕ) (glances others : List Glance) → IsSession c commands s text glances
-    → IsSession c commands s other others → (text ≡ other) × (glances ≡ others)

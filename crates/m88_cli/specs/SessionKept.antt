@@ -1,6 +1,6 @@
 -- Words for the contracts of private functions; no promise of the program names them. Where the code's session stands,
 -- and what a command made of it.
-use Rattle.std.specs.Prelude.{ℕ, suc, List, [], ◌∷◌, ◌++◌, ◌≡◌, ◌≤◌, ◌+◌, ◌*◌, ◌^◌, Option, length}
+use Rattle.std.specs.Prelude.{ℕ, List, [], ◌∷◌, ◌++◌, ◌≡◌, ◌≤◌, ◌+◌, ◌^◌, Option, length}
 use Rattle.m88_event.specs.Letters.{letter_at}
 use Rattle.m88_event.specs.Timeline.{Moment, after_letter, said_at}
 use Rattle.m88_event.specs.declared.happened.Happened.{Happened}

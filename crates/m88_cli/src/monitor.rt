@@ -8,7 +8,8 @@ ghost use Rattle.m88_board.specs.Moves.{IsAt};
 ghost use Rattle.m88_board.specs.declared.glance.Glance.{Glance};
 ghost use Rattle.m88_cli.specs.MonitorLines.{breakpoint_line};
 ghost use Rattle.m88_cli.specs.Limits.{session_limit};
-ghost use Rattle.m88_cli.specs.Session.{Course, HasOneSession, IsSession, IsSessionFront, Session, course_of, opening_session};
+ghost use Rattle.m88_cli.specs.Script.{most_commands};
+ghost use Rattle.m88_cli.specs.Session.{Course, IsSession, IsSessionFront, Session, course_of, opening_session};
 ghost use Rattle.m88_cli.specs.SessionKept.{Broke, Carried, Stands, most_counted, most_made};
 
 use crate::script::MonitorCommand;
@@ -45,7 +46,7 @@ pub fn carry_out<W: Watch>(
 ) -> Result<Vec<u8>, NoMemory>
     requires fresh { board.events ≡ 0 }
     requires limit { board.limit ≡ session_limit }
-    requires few { length commands.now ≤ 64 }
+    requires few { length commands.now ≤ most_commands }
     ensures ok { IfOk result (λ text. (p : Program) (named : ℕ → Bool) → IsProgram p
         → IsAt p named opening_moment board → (glances : List Glance)
         × IsSession (course_of p named schedule.now) commands.now opening_session text.items glances
@@ -54,7 +55,6 @@ pub fn carry_out<W: Watch>(
         → IsAt p named opening_moment board → (glances : List Glance)
         × IsSessionFront (course_of p named schedule.now) commands.now opening_session glances
         × Saw (W.seen watch.old) (W.seen watch.new) glances) }
-    ensures only { (c : Course) (s : Session) → HasOneSession c commands.now s }
 {
     let mut monitor = Monitor {
         board,

@@ -10,11 +10,10 @@ ghost use Rattle.m88_cli.specs.Command.{mon};
 ghost use Rattle.m88_cli.specs.Limits.{most_input};
 ghost use Rattle.m88_cli.specs.Linking.{HoldsUnit};
 ghost use Rattle.m88_cli.specs.MonitorFaults.{IsMonitorFault, IsToldFault, monitor_refusal};
-ghost use Rattle.m88_cli.specs.Refusal.{Refusal, refusal_line};
-ghost use Rattle.m88_cli.specs.Monitoring.{IsMonitorInput, IsRefusedMonitor};
+ghost use Rattle.m88_cli.specs.Refusal.{refusal_line};
 ghost use Rattle.m88_cli.specs.Reply.{Replies, WatchesFront, WatchesReply};
 ghost use Rattle.m88_cli.specs.Script.{IsScript, most_commands};
-ghost use Rattle.m88_cli.specs.Session.{Course, HasOneSession, IsSession, IsSessionFront, Session, course_of, opening_session};
+ghost use Rattle.m88_cli.specs.Session.{IsSession, IsSessionFront, course_of, opening_session};
 
 use crate::assembly::image_of_source;
 use crate::limits::SESSION_LIMIT;
@@ -68,14 +67,6 @@ pub fn refuse_monitor(alloc: Global, fault: MonitorFault) -> Result<Reply, NoMem
         (λ reply. reply.text.items ≡ refusal_line (monitor_refusal fault)) }
     ensures refused { IfOk result (λ reply. reply.accepted ≡ false) }
     ensures told { IfOk result (λ _. IsToldFault fault) }
-
-    // An input is accepted or refused for its first fault, in one way.
-    ensures refuses { (input : List ℕ) → IsMonitorFault input fault → IsToldFault fault
-        → IsRefusedMonitor input (monitor_refusal fault) }
-    ensures not_both { (input : List ℕ) (r : Refusal)
-        → IsMonitorInput input → ¬ IsRefusedMonitor input r }
-    ensures once { (input : List ℕ) (r s : Refusal)
-        → IsRefusedMonitor input r → IsRefusedMonitor input s → r ≡ s }
 {
     match fault {
         MonitorFault::Script(fault) => refusal(alloc, fault.line, 1, b"script"),
@@ -129,7 +120,6 @@ fn session_text<W: Watch>(
     ensures front { OnErr result ((p : Program) → IsProgramOf image.now p → (glances : List Glance)
         × IsSessionFront (course_of p (absent_in absent.now) schedule.now) commands.now opening_session glances
         × Saw (W.seen watch.old) (W.seen watch.new) glances) }
-    ensures only { (c : Course) (s : Session) → HasOneSession c commands.now s }
 {
     // What always holds of an image is told with its parts.
     let _ = image.part_count();

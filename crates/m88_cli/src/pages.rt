@@ -2,7 +2,7 @@
 ghost use Rattle.std.specs.Prelude.{ℕ, Bool, ◌≡◌, ◌≢◌, ◌<◌, ◌≤◌, ◌++◌, ◌∷◌, [], All, List, IfSome, MatchOption, None, OnSome, Some, codes, length};
 ghost use Rattle.m88_mem.specs.DataBus.{page_count};
 ghost use Rattle.m88_mem.specs.Marks.{NamesPages, absent_in};
-ghost use Rattle.m88_cli.specs.Pages.{ArePageNumbers, IsAbsent, IsPageNumber, comma, most_numbers};
+ghost use Rattle.m88_cli.specs.Pages.{ArePageNumbers, IsAbsent, IsPageNumber, most_numbers};
 
 use crate::cutting::cut_at;
 use crate::numbers::short_number;

@@ -1,5 +1,5 @@
 //! The top call.
-ghost use Rattle.std.specs.Prelude.{[], ◌≡◌, ◌≢◌, ◌↔◌, ◌⊎◌, ◌+◌, ◌≤◌, ℕ, List, IfErr, IfOk, OnErr, OnOk, Err, Some, false, length};
+ghost use Rattle.std.specs.Prelude.{[], ◌≡◌, ◌≢◌, ◌↔◌, ◌⊎◌, ◌+◌, ℕ, List, IfErr, IfOk, OnErr, OnOk, Err, Some, false};
 ghost use Rattle.std.specs.Io.KnownBytes.{Appends};
 ghost use Rattle.m88_base.specs.Causes.{Rose};
 ghost use Rattle.m88_base.specs.Outside.{AppendsPart, TakesAtMost, TakesExactly};
@@ -10,7 +10,7 @@ ghost use Rattle.m88_cli.specs.Command.{Command as Choice, SpellNoReader, SpellN
 ghost use Rattle.m88_cli.specs.Kept.{IsFit, command_of};
 ghost use Rattle.m88_cli.specs.Limits.{most_input};
 ghost use Rattle.m88_cli.specs.Refusal.{Refusal, refusal_line};
-ghost use Rattle.m88_cli.specs.Reply.{Replies, WatchesFront, WatchesReply};
+ghost use Rattle.m88_cli.specs.Reply.{Replies, WatchesReply};
 ghost use Rattle.m88_cli.specs.Runs.{WorkloadsAreAccepted};
 ghost use Rattle.m88_cli.specs.Status.{Answers, IsAnswered, IsOfReading, ShowsNothing, WritesNothing};
 ghost use Rattle.m88_cli.specs.Watching.{FrontOfAccepted, Shown, ShownIfAccepted};
@@ -29,6 +29,7 @@ use std::alloc::Global;
 /// The whole program between its words, a source, a sink and a watch: the command that the words spell reads
 /// the source to its end, its text is written to the sink, and the board of a run is shown to the watch after
 /// each event.
+#[tactic(auto, using(crate::proofs::BridgeLaws::laws))]
 pub fn m88<S: Source, K: Sink, W: Watch>(
     alloc: Global,
     words: &[String],

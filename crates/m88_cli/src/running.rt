@@ -1,5 +1,5 @@
 //! What `run` and `exec` make of their input: a run on the board, and its report.
-ghost use Rattle.std.specs.Prelude.{◌≡◌, ◌≤◌, IfOk, OnErr, OnOk, length};
+ghost use Rattle.std.specs.Prelude.{◌≡◌, ◌≤◌, IfOk, OnErr, OnOk, length, true};
 ghost use Rattle.m88_base.specs.Image.{IsImage};
 ghost use Rattle.m88_event.specs.Run.{IsOutcome};
 ghost use Rattle.m88_event.specs.declared.outcome.Outcome.{Outcome as OutcomeValue};
@@ -42,15 +42,10 @@ pub fn run_source<W: Watch>(
     ensures front { OnErr result (WatchesFront W.seen watch.old watch.new
         (run limit (absent_in absent.now) schedule.now) source.now) }
 {
-    let image = match image_of_source(alloc, source) {
-        Ok(image) => image,
-        Err(fault) => return refuse(alloc, fault),
-    };
-    let text = run_image(alloc, limit, absent, schedule, &image, watch)?;
-    Ok(Reply {
-        accepted: true,
-        text,
-    })
+    match image_of_source(alloc, source) {
+        Ok(image) => run_image(alloc, limit, absent, schedule, &image, watch),
+        Err(fault) => refuse(alloc, fault),
+    }
 }
 
 /// The reply of `exec` to S-records.
@@ -72,18 +67,14 @@ pub fn run_records<W: Watch>(
     ensures front { OnErr result (WatchesFront W.seen watch.old watch.new
         (exec limit (absent_in absent.now) schedule.now) records.now) }
 {
-    let image = match read_srec(alloc, records) {
-        Ok(image) => image,
-        Err(fault) => return unloaded(alloc, fault),
-    };
-    let text = run_image(alloc, limit, absent, schedule, &image, watch)?;
-    Ok(Reply {
-        accepted: true,
-        text,
-    })
+    match read_srec(alloc, records) {
+        Ok(image) => run_image(alloc, limit, absent, schedule, &image, watch),
+        Err(fault) => unloaded(alloc, fault),
+    }
 }
 
-/// The report of a run of the program that an image holds, on a board that is shown to the watch after each event.
+/// The reply that accepts an input whose program an image holds: the report of a run of it, on a board that is shown to
+/// the watch after each event.
 fn run_image<W: Watch>(
     alloc: Global,
     limit: u32,
@@ -91,23 +82,25 @@ fn run_image<W: Watch>(
     schedule: &Schedule,
     image: &Image,
     watch: &mut W,
-) -> Result<Vec<u8>, NoMemory>
+) -> Result<Reply, NoMemory>
     requires limit { limit ≤ most_limit }
     requires pages { NamesPages absent.now }
     ensures image { IsImage image.now }
-    ensures report { IfOk result (λ text. (p : Program) → IsProgramOf image.now p
+    ensures accepted { IfOk result (λ reply. reply.accepted ≡ true) }
+    ensures report { IfOk result (λ reply. (p : Program) → IsProgramOf image.now p
         → (o : OutcomeValue) × IsOutcome p (absent_in absent.now) limit schedule.now o
-        × (text.items ≡ report_of o)) }
-    ensures only { (p : Program) (o other : OutcomeValue)
-        → IsOutcome p (absent_in absent.now) limit schedule.now o
-        → IsOutcome p (absent_in absent.now) limit schedule.now other → o ≡ other }
+        × (reply.text.items ≡ report_of o)) }
     ensures watched { OnOk result ((p : Program) → IsProgramOf image.now p
         → SawRun p limit (absent_in absent.now) schedule.now (W.seen watch.old) (W.seen watch.new)) }
     ensures front { OnErr result ((p : Program) → IsProgramOf image.now p
         → SawFront p limit (absent_in absent.now) schedule.now (W.seen watch.old) (W.seen watch.new)) }
 {
     let outcome = outcome_of(alloc, limit, absent, schedule, image, watch)?;
-    report(alloc, &outcome)
+    let text = report(alloc, &outcome)?;
+    Ok(Reply {
+        accepted: true,
+        text,
+    })
 }
 
 /// What a run of the program that an image holds comes to, on a board that is shown to the watch after each event.
@@ -124,9 +117,6 @@ pub fn outcome_of<W: Watch>(
     ensures image { IsImage image.now }
     ensures outcome { IfOk result (λ o. (p : Program) → IsProgramOf image.now p
         → IsOutcome p (absent_in absent.now) limit schedule.now o) }
-    ensures only { (p : Program) (o other : OutcomeValue)
-        → IsOutcome p (absent_in absent.now) limit schedule.now o
-        → IsOutcome p (absent_in absent.now) limit schedule.now other → o ≡ other }
     ensures watched { OnOk result ((p : Program) → IsProgramOf image.now p
         → SawRun p limit (absent_in absent.now) schedule.now (W.seen watch.old) (W.seen watch.new)) }
     ensures front { OnErr result ((p : Program) → IsProgramOf image.now p

@@ -14,13 +14,13 @@ pub enum MonitorCommand {
     Step(u32),
     /// Events until the run is over or stands at a breakpoint.
     Go,
-    /// A breakpoint at this address, whose two low bits are clear.
+    /// A breakpoint at the word of this address.
     Break(u32),
     /// The registers and the carry.
     Regs,
     /// The words that a fault now would leave.
     Pipe,
-    /// That many words of memory, 1 to 1,024, from this address on, whose two low bits are clear.
+    /// That many words of memory, 1 to 1,024, from the word of this address on.
     Memory { address: u32, count: u32 },
     /// Events `r` until nothing is pending.
     Drain,

@@ -1,6 +1,6 @@
 //! A line of a script.
-ghost use Rattle.std.specs.Prelude.{ℕ, ◌≡◌, ◌≢◌, ◌^◌, ◌<◌, ◌≤◌, ◌++◌, IfSome, List, None, Some};
-ghost use Rattle.m88_cli.specs.Script.{IsCount, IsWordAddress, AreMemoryOperands, WritesCommand};
+ghost use Rattle.std.specs.Prelude.{ℕ, ◌≡◌, ◌≢◌, ◌++◌, IfSome, List, None, Some};
+ghost use Rattle.m88_cli.specs.Script.{IsCount, AreMemoryOperands, WritesAddress, WritesCommand};
 ghost use Rattle.m88_cli.specs.ScriptWords.{IsBare};
 ghost use Rattle.m88_cli.specs.declared.script.MonitorCommand.{MonitorCommand as CommandValue};
 
@@ -77,13 +77,12 @@ fn count_in(text: &[u8], most: u32) -> Option<u32>
     Some(n)
 }
 
-/// The address that a text writes in one to eight hexadecimal digits, with its two low bits cleared.
+/// The address that a text writes in one to eight hexadecimal digits.
 fn place_in(text: &[u8]) -> Option<u32>
-    ensures found { IfSome result (IsWordAddress text.now) }
-    ensures only { (address : ℕ) → IsWordAddress text.now address → result ≡ Some address }
+    ensures found { IfSome result (WritesAddress text.now) }
+    ensures only { (address : ℕ) → WritesAddress text.now address → result ≡ Some address }
 {
-    let written = short_number(16, 8, text, u32::MAX)?;
-    Some(written / 4 * 4)
+    short_number(16, 8, text, u32::MAX)
 }
 
 /// The address and the number of words that a text writes, with a blank between them.

@@ -97,9 +97,9 @@ fn the_source_stands_behind_its_line(rt: HostRuntime) -> Result<(), Fail> {
 }
 
 const COMMANDS: &[MonitorCommand] = &[
-    MonitorCommand::Break(0x1004),
+    MonitorCommand::Break(0x1007),
     MonitorCommand::Memory {
-        address: 0xFFFF_FFFC,
+        address: 0xFFFF_FFFF,
         count: 2,
     },
 ];

@@ -1,5 +1,5 @@
 //! The generated workload: its source and its schedule, both drawn from a number.
-ghost use Rattle.std.specs.Prelude.{ℕ, ◌≡◌, ◌<◌, ◌≤◌, ◌*◌, ◌++◌, IfOk, OnOk, map, string_bytes};
+ghost use Rattle.std.specs.Prelude.{◌≡◌, ◌<◌, ◌*◌, ◌++◌, IfOk, OnOk, map, string_bytes};
 ghost use Rattle.m88_event.specs.Letters.{letter_byte};
 ghost use Rattle.m88_base.specs.Lines.{line_end};
 ghost use Rattle.m88_base.specs.Reg.{reg_of};
@@ -7,8 +7,6 @@ ghost use Rattle.m88_disasm.specs.Text.{instr_text};
 ghost use Rattle.m88_isa.specs.Instr.{IsValid};
 ghost use Rattle.m88_isa.specs.declared.instr.Instr.TheVariants.{MemImm};
 ghost use Rattle.m88_cli.specs.Drawing.{after_four, statement_from, upper_half};
-ghost use Rattle.m88_cli.specs.Assembly.{IsProgramSource};
-ghost use Rattle.m88_cli.specs.Limits.{most_statements};
 ghost use Rattle.m88_cli.specs.Workload.{drawn_address, drawn_instruction, drawn_letter, drawn_letters, drawn_register, next_seed, seed_after, workload_letters, workload_source};
 
 use m88_base::{NoMemory, Reg};

@@ -1,6 +1,6 @@
 //! What a command shows of the board as it stands.
 
-ghost use Rattle.std.specs.Prelude.{ℕ, Bool, ◌≡◌, ◌++◌, ◌%◌, length, map, OnOk};
+ghost use Rattle.std.specs.Prelude.{ℕ, Bool, ◌≡◌, ◌++◌, map, OnOk};
 ghost use Rattle.std.specs.List.{flat_map, range_with_len};
 ghost use Rattle.m88_event.specs.Local.{register_seen};
 ghost use Rattle.m88_event.specs.Timeline.{Moment, record_at};

@@ -16,7 +16,7 @@ const WAITING_TEXT: &[u8] = b"1 i issue 00001000 ld r2,r0,20480\n2 i busy r2\n\
     t1 00000000 00000000 00000000\nt2 00000000 00000000 00000000\nevents 4 issued 2 done 1 pending 0\n";
 
 /// Two instructions, of which the second stands at a breakpoint.
-const TWO: &[u8] = b"break 1004\ngo\nmem 2000 1\ndrain\nsource\nor r2,r0,1\nor r3,r0,2\n";
+const TWO: &[u8] = b"break 1007\ngo\nmem 2003 1\ndrain\nsource\nor r2,r0,1\nor r3,r0,2\n";
 
 const TWO_TEXT: &[u8] =
     b"break 00001004\nevents 2 issued 1 done 0 pending 0\nmem 00002000 00000000\n\

@@ -4,7 +4,6 @@ ghost use Rattle.std.specs.Prelude.{ℕ, Bool, ◌≡◌, ◌≤◌, ◌+◌, �
 ghost use Rattle.m88_base.specs.Hex.{hex2, hex8};
 ghost use Rattle.m88_base.specs.Lines.{line_end};
 ghost use Rattle.m88_event.specs.Timeline.{Moment};
-ghost use Rattle.m88_event.specs.declared.letter.Letter.{Letter as LetterValue};
 ghost use Rattle.m88_isa.specs.Held.{instruction_at};
 ghost use Rattle.m88_isa.specs.Instr.{IsValid};
 ghost use Rattle.m88_isa.specs.Machine.{Program};

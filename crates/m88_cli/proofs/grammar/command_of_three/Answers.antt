@@ -1,6 +1,6 @@
 -- A name that is known is that of what it spells, and with any other name three words spell nothing.
 use Rattle.std.proofs.Common.{◌≡◌, codes, rules}
-use Rattle.m88_cli.proofs.SpellingThree.{named_found, named_only, spelled_by_no_three}
+use Rattle.m88_cli.proofs.SpellingThree.{named_found, named_only}
 use Rattle.m88_cli.proofs.grammar.command_of_three.Goals as goal
 
 pub returns-then-eq-clause-found : goal.returns-then-eq-clause-found

@@ -1,6 +1,6 @@
 -- One command after the other.
-use Rattle.std.proofs.Common.{arith, refl, sym, subst, ◌≡◌, ◌≤◌, ◌+◌, ◌*◌, ◌∙◌}
-use Rattle.m88_cli.proofs.Carrying.{IsCarrying, carry_broke, carry_end, carry_next, carry_start, one_session, stands_first}
+use Rattle.std.proofs.Common.{arith, refl, sym, subst, ◌∙◌}
+use Rattle.m88_cli.proofs.Carrying.{IsCarrying, carry_broke, carry_end, carry_next, carry_start, stands_first}
 use Rattle.m88_cli.proofs.Reporting.{on_err}
 use Rattle.m88_cli.specs.Session.{course_of, opening_session}
 use Rattle.m88_cli.specs.declared.monitor.Monitor.{Monitor}
@@ -46,14 +46,8 @@ returns-in_err-carry-clause-err g c = on_err c.from_residual.result (λ p named 
     c.loop-command.monitor c.loop-command-test.true carrying
     (c.in_err-carry.ensures.err (course_of p named c.args.schedule.now) carrying.session carrying.stands))
 
-pub returns-in_err-carry-clause-only : goal.returns-in_err-carry-clause-only
-returns-in_err-carry-clause-only g c = λ d s. one_session d c.args.commands.now s
-
 pub returns-clause-ok : goal.returns-clause-ok
 returns-clause-ok g c = λ p named is at.
     carry_end (course_of p named c.args.schedule.now) c.args.schedule.now c.args.commands.now opening_session c.loop-command.command-index
     (g.W.Watch.seen c.args.watch.now) (g.W.Watch.seen c.loop-command.watch) c.loop-command.text.items c.loop-command.monitor
     c.loop-command-test.false (c.loop-command.invariant.going p named is at)
-
-pub returns-clause-only : goal.returns-clause-only
-returns-clause-only g c = λ d s. one_session d c.args.commands.now s

@@ -34,7 +34,7 @@ returns-clause-reply g c =
       output = session_of_input c.args.input.now (absent_in c.args.absent.now) c.args.schedule.now c.as_slice.result.now found.0 found.1
           c.in-Ok.parts.1 c.in_ok-text.text.items (g.W.Watch.seen c.args.watch.now) (g.W.Watch.seen c.session_text.new.watch)
           (script_as c.args.input.now c.in-Ok.parts.0.items c.as_slice.result.now found.0 found.1 c.as_slice.ensures.value found.2)
-          found.3 c.session_text.ensures.image c.in_ok-text.ensures.session c.session_text.ensures.only;
+          found.3 c.session_text.ensures.image c.in_ok-text.ensures.session;
     }
 
 pub returns-clause-watched : goal.returns-clause-watched

@@ -1,6 +1,6 @@
 -- The board stands at the first moment of the program that the image holds, and its session is that of the program.
 use Rattle.std.proofs.Common.{[], ℕ, Bool, List}
-use Rattle.std.proofs.lemmas.Result.{IfOk-weaker}
+use Rattle.std.proofs.lemmas.Result.{IfOk-weaker, on_err_weaker}
 use Rattle.m88_isa.proofs.ImageProgram.{program_of_image}
 use Rattle.m88_isa.specs.ImageProgram.{IsProgramOf}
 use Rattle.m88_isa.specs.Machine.{IsProgram, Program}
@@ -10,8 +10,8 @@ use Rattle.m88_board.specs.Glances.{Saw}
 use Rattle.m88_board.specs.Moves.{IsAt}
 use Rattle.m88_board.specs.declared.glance.Glance.{Glance}
 use Rattle.m88_cli.specs.Session.{IsSession, course_of, opening_session}
-use Rattle.m88_cli.proofs.Carrying.{one_session, then_err}
-use Rattle.m88_cli.proofs.InputSessions.{no_session_front, saw_none}
+use Rattle.m88_board.proofs.Seeing.{saw_none}
+use Rattle.m88_cli.proofs.InputSessions.{no_session_front}
 use Rattle.m88_cli.proofs.Reporting.{on_err}
 use Rattle.m88_cli.proofs.monitoring.session_text.Goals as goal
 
@@ -38,8 +38,6 @@ returns-clause-session g c =
 
 pub returns-clause-front : goal.returns-clause-front
 returns-clause-front g c =
-    then_err c.carry_out.result c.carry_out.ensures.err (λ told p of.
+    on_err_weaker c.carry_out.result (λ told p of.
     told p (absent_in c.args.absent.now) (program_of_image c.args.image.now p c.part_count.ensures.image of) (c.in_ok-board.ensures.at p of))
-
-pub returns-in_err-board-clause-only : goal.returns-in_err-board-clause-only
-returns-in_err-board-clause-only g c = λ d s. one_session d c.args.commands.now s
+    c.carry_out.ensures.err

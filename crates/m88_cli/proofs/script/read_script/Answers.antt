@@ -1,10 +1,10 @@
 -- The lines so far are a script's, until the line `source` or one that stops them.
-use Rattle.std.proofs.Common.{◌≡◌, ◌≢◌, ◌+◌, ◌≤◌, List, ℕ, [], length, rules, sym, ◌∙◌, true, false, arith, subst}
+use Rattle.std.proofs.Common.{◌≡◌, ◌+◌, length, rules, sym, ◌∙◌, true, false, arith}
 use Rattle.std.proofs.lemmas.Bool.{eqb-true}
 use Rattle.std.proofs.lemmas.Bool.Decides.{Decides-eqb}
 use Rattle.std.proofs.lemmas.Slice.Eq.{slice_eq-Decides}
-use Rattle.m88_cli.specs.Script.{HasNoScript, IsScript, source_line}
-use Rattle.m88_cli.proofs.ScriptReading.{HasRead, empty_of, none_read, one_line_more, other_text, ran_out, script_read, stopped}
+use Rattle.m88_cli.specs.Script.{source_line}
+use Rattle.m88_cli.proofs.ScriptReading.{empty_of, one_line_more, other_text, ran_out, script_read, stopped}
 use Rattle.m88_cli.proofs.Scripts.{not_both, one_script, one_stop}
 use Rattle.m88_cli.proofs.script.read_script.Goals as goal
 

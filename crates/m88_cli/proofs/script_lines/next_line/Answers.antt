@@ -1,5 +1,5 @@
 -- The lines behind the first are those of the bytes behind it.
-use Rattle.std.proofs.Common.{◌≡◌, List, ℕ, ◌∷◌, ap, sym, ◌∙◌}
+use Rattle.std.proofs.Common.{List, ℕ, ◌∷◌, ap, sym, ◌∙◌}
 use Rattle.m88_base.specs.Lines.{lines_of}
 use Rattle.m88_cli.proofs.ScriptReading.{lines_behind}
 use Rattle.m88_cli.proofs.script_lines.next_line.Goals as goal

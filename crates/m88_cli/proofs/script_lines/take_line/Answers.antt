@@ -1,5 +1,5 @@
 -- A line goes on with the lines of a script, or is none of one.
-use Rattle.std.proofs.Common.{◌≡◌, ◌≢◌, List, ℕ, [], ◌∷◌, ◌++◌, length, rules, sym, subst, ap, ◌∙◌, true, false}
+use Rattle.std.proofs.Common.{◌≡◌, [], ◌∷◌, ◌++◌, length, rules, sym, subst, ◌∙◌, true, false}
 use Rattle.m88_cli.specs.Script.{AreScriptLines}
 use Rattle.m88_cli.specs.ScriptWords.{has_room}
 use Rattle.std.proofs.lemmas.Bool.{eqb-true}

@@ -69,7 +69,7 @@ returns-clause-reply g c = λ input.
     c.as_str.result.now _ c.new-draws.ensures c.in_ok-source.ensures.seed c.in_ok-letters.ensures c.as_str.ensures.value in
     let schedule = read_letters c.read.result c.in-Some.schedule _ c.in-Some.is (c.read.ensures.only _ letters) in
     answer_of_run c.args.number c.args.count input c.in_ok-text.text.items c.in-Ok.image c.in-Some.schedule c.in_ok-outcome.outcome made
-    schedule c.in_ok-outcome.ensures.outcome c.outcome_of.ensures.only c.in_ok-text.ensures
+    schedule c.in_ok-outcome.ensures.outcome c.in_ok-text.ensures
 
 pub returns-clause-watched : goal.returns-clause-watched
 returns-clause-watched g c = λ input.

@@ -1,5 +1,5 @@
 -- One letter after the other, until nothing is pending.
-use Rattle.std.proofs.Common.{arith, refl, sym, subst, ◌≡◌, ◌≢◌, ◌∙◌, length}
+use Rattle.std.proofs.Common.{arith, refl, sym, subst, ◌≢◌, ◌∙◌}
 use Rattle.m88_board.specs.Glances.{Saw}
 use Rattle.m88_event.specs.Run.{answered_after}
 use Rattle.m88_cli.proofs.Draining.{drain_next, drain_start, drain_step, drain_wants, drain_went}

@@ -1,12 +1,12 @@
 -- Each command by its own.
 use Rattle.std.proofs.Common.{ap, refl, subst, sym, ◌++◌, ◌∙◌}
-use Rattle.std.proofs.lemmas.Result.{on_ok_weaker}
+use Rattle.std.proofs.lemmas.Result.{on_err_weaker, on_ok_weaker}
 use Rattle.m88_event.specs.Timeline.{record_at}
 use Rattle.m88_report.specs.Report.{record_lines}
-use Rattle.m88_cli.proofs.Carrying.{both_ok, set_stands, still, still_broke, then_err}
+use Rattle.m88_cli.proofs.Carrying.{both_ok, set_stands, still, still_broke}
 use Rattle.m88_cli.proofs.Reporting.{on_err}
 use Rattle.m88_cli.specs.SessionKept.{Broke, Carried}
-use Rattle.m88_cli.specs.declared.script.MonitorCommand.TheVariants.{Break, Drain, Memory, Pipe, Regs}
+use Rattle.m88_cli.specs.declared.script.MonitorCommand.TheVariants.{Break, Memory, Pipe, Regs}
 use Rattle.m88_cli.proofs.monitor.Monitor.carry.Goals as goal
 
 pub returns-in-Step-clause-ok : goal.returns-in-Step-clause-ok
@@ -32,9 +32,10 @@ returns-in-Trace-clause-ok g c =
 
 pub returns-in-Drain-clause-err : goal.returns-in-Drain-clause-err
 returns-in-Drain-clause-err g c =
-    then_err c.drain.result c.drain.ensures.err (λ err d s stands.
+    on_err_weaker c.drain.result (λ err d s stands.
     subst (λ x. Broke d s x (g.W.Watch.seen c.args.watch.now) (g.W.Watch.seen c.drain.new.watch)) (sym c.in-Drain.is)
     (err d c.args.schedule.now s stands))
+    c.drain.ensures.err
 
 pub returns-in-Break-clause-err : goal.returns-in-Break-clause-err
 returns-in-Break-clause-err g c =

@@ -1,5 +1,5 @@
 -- One event after the other, to a breakpoint or to the end of the run, which comes within the bound.
-use Rattle.std.proofs.Common.{arith, refl, sym, subst, ap, add-one, ◌∙◌, ◌+◌, ◌*◌, ◌≡◌, length}
+use Rattle.std.proofs.Common.{arith, refl, sym, subst, ◌∙◌, ◌+◌, ◌*◌}
 use Rattle.m88_board.specs.Glances.{Saw}
 use Rattle.m88_cli.proofs.Along.{along_next, along_start, each_next, each_none, next_at}
 use Rattle.m88_cli.proofs.Going.{go_broken, go_over, go_wants, go_went, none_apart, over_on, still_apart, weight_begins, weight_falls, weight_out}

@@ -1,5 +1,5 @@
 -- One line after the other, to the last.
-use Rattle.std.proofs.Common.{ℕ, List, ◌++◌, ◌-◌, ◌+◌, ◌≡◌, ◌∙◌, ap, append-nil, arith, flat_map, sym}
+use Rattle.std.proofs.Common.{ℕ, List, ◌++◌, ◌-◌, ◌+◌, ◌≡◌, ◌∙◌, ap, arith, flat_map}
 use Rattle.m88_isa.specs.Address.{after_bytes, word_address}
 use Rattle.m88_mem.specs.DataBus.{bus_of}
 use Rattle.m88_report.specs.Report.{word_line}

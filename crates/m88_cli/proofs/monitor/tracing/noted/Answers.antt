@@ -1,5 +1,5 @@
 -- What is noted is so at the moment.
-use Rattle.std.specs.Prelude.{List, length}
+use Rattle.std.specs.Prelude.{length}
 use Rattle.std.proofs.Common.{ap, refl, ◌+◌, ◌∙◌}
 use Rattle.m88_event.specs.Shadow.{Pointer}
 use Rattle.m88_isa.specs.Held.{instruction_at}
