@@ -41,5 +41,5 @@ pub fn unloaded(alloc: Global, fault: SrecFault) -> Result<Reply, NoMemory>
         return Err(NoMemory);
     }
     let reason = fault.kind.to_string(alloc)?;
-    refusal(alloc, fault.line, 1, reason.as_bytes())
+    refusal(alloc, u64::from(fault.line), 1, reason.as_bytes())
 }

@@ -69,7 +69,7 @@ pub fn refuse_monitor(alloc: Global, fault: MonitorFault) -> Result<Reply, NoMem
     ensures told { IfOk result (λ _. IsToldFault fault) }
 {
     match fault {
-        MonitorFault::Script(fault) => refusal(alloc, fault.line, 1, b"script"),
+        MonitorFault::Script(fault) => refusal(alloc, u64::from(fault.line), 1, b"script"),
         MonitorFault::Source { lines, fault } => refuse_behind(alloc, lines, fault),
     }
 }

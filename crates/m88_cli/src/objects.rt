@@ -38,7 +38,7 @@ fn refuse_objects(alloc: Global, fault: ObjectFault) -> Result<Reply, NoMemory>
 {
     match fault {
         ObjectFault::Form { line } | ObjectFault::Range { line } => {
-            refusal(alloc, line, 1, fault.reason().as_bytes())
+            refusal(alloc, u64::from(line), 1, fault.reason().as_bytes())
         }
         ObjectFault::Memory => Err(NoMemory),
     }

@@ -13,12 +13,12 @@ pub struct Reply {
 }
 
 /// The reply that refuses an input at a line and a column, both from 1, for a reason.
-pub fn refusal(alloc: Global, line: u32, column: u32, reason: &[u8]) -> Result<Reply, NoMemory>
+pub fn refusal(alloc: Global, line: u64, column: u32, reason: &[u8]) -> Result<Reply, NoMemory>
     ensures line { IfOk result (λ r. r.text.items ≡ refused_line line column reason.now) }
     ensures refused { IfOk result (λ r. r.accepted ≡ false) }
 {
     let mut text = Vec::new(alloc);
-    push_refused(&mut text, u64::from(line), column, reason)?;
+    push_refused(&mut text, line, column, reason)?;
     Ok(Reply {
         accepted: false,
         text,

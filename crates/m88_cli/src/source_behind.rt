@@ -1,9 +1,8 @@
 //! The line that refuses a source which stands behind other lines of its input. They are counted in it, in 64 bits, so
 //! that no sum of two line numbers is too great.
-ghost use Rattle.std.specs.Prelude.{◌≡◌, ◌≢◌, ◌+◌, ◌++◌, IfOk, OnOk, false, string_bytes};
+ghost use Rattle.std.specs.Prelude.{◌≡◌, ◌≢◌, ◌+◌, IfOk, false, string_bytes};
 ghost use Rattle.m88_asm.specs.Fault.{memory_ran_out};
 ghost use Rattle.m88_asm.specs.Reasons.{asm_reason};
-ghost use Rattle.m88_base.specs.Refused.{refused_line};
 ghost use Rattle.m88_link.specs.Faults.{memory_fault};
 ghost use Rattle.m88_link.specs.Reasons.{duplicate_reason, link_reason};
 ghost use Rattle.m88_parse.specs.Fault.{out_of_memory};
@@ -13,13 +12,13 @@ ghost use Rattle.m88_cli.specs.Refusal.{refusal_line};
 ghost use Rattle.m88_cli.specs.RefusalBehind.{refusal_behind};
 ghost use Rattle.m88_cli.specs.SourceFault.{IsTold};
 
-use crate::reply::Reply;
+use crate::reply::{Reply, refusal};
 use crate::source_fault::SourceFault;
 use m88_asm::{AsmFault, AsmKind, UnitFault};
-use m88_base::{Name, NoMemory, push_decimal};
+use m88_base::{Name, NoMemory};
 use m88_link::{LinkFault, LinkKind};
 use m88_parse::{ParseFault, ParseKind};
-use std::alloc::{AllocError, Global};
+use std::alloc::Global;
 
 /// The reply that refuses a source behind so many lines, unless the fault is that memory ran out.
 pub fn refuse_behind(alloc: Global, lines: u32, fault: SourceFault) -> Result<Reply, NoMemory>
@@ -45,7 +44,7 @@ fn unread(alloc: Global, lines: u32, fault: ParseFault) -> Result<Reply, NoMemor
     if fault.kind == ParseKind::Memory {
         return Err(NoMemory);
     }
-    refusal_at(
+    refusal(
         alloc,
         line_in_input(lines, fault.line),
         fault.col,
@@ -64,7 +63,7 @@ fn unassembled(alloc: Global, lines: u32, fault: AsmFault) -> Result<Reply, NoMe
         return Err(NoMemory);
     }
     let reason = reason_of_asm(alloc, lines, fault.kind)?;
-    refusal_at(
+    refusal(
         alloc,
         line_in_input(lines, fault.line),
         fault.col,
@@ -83,7 +82,7 @@ fn unlinked(alloc: Global, lines: u32, fault: LinkFault) -> Result<Reply, NoMemo
         return Err(NoMemory);
     }
     let reason = reason_of_link(alloc, lines, fault.kind)?;
-    refusal_at(
+    refusal(
         alloc,
         line_in_input(lines, fault.line),
         fault.col,
@@ -127,31 +126,4 @@ fn duplicate(alloc: Global, name: &Name, first: u64) -> Result<String, NoMemory>
     ensures { IfOk result (λ reason. string_bytes reason ≡ duplicate_reason name.now first) }
 {
     Ok(format!(in alloc; "duplicate {name} first at {first}")?)
-}
-
-/// The reply that refuses an input at a line and a column, both from 1, for a reason.
-fn refusal_at(alloc: Global, line: u64, column: u32, reason: &[u8]) -> Result<Reply, NoMemory>
-    ensures line { IfOk result (λ r. r.text.items ≡ refused_line line column reason.now) }
-    ensures refused { IfOk result (λ r. r.accepted ≡ false) }
-{
-    let mut text = Vec::new(alloc);
-    push_refusal(&mut text, line, column, reason)?;
-    Ok(Reply {
-        accepted: false,
-        text,
-    })
-}
-
-/// Appends the line `refused LINE:COL REASON` with its line end.
-fn push_refusal(text: &mut Vec<u8>, line: u64, column: u32, reason: &[u8]) -> Result<(), AllocError>
-    ensures { OnOk result (text.new.items ≡ text.old.items ++ refused_line line column reason.now) }
-{
-    text.extend_from_slice(b"refused ")?;
-    push_decimal(text, line)?;
-    text.push(b':')?;
-    push_decimal(text, u64::from(column))?;
-    text.push(b' ')?;
-    text.extend_from_slice(reason)?;
-    text.push(b'\n')?;
-    Ok(())
 }

@@ -45,7 +45,12 @@ fn unread(alloc: Global, fault: ParseFault) -> Result<Reply, NoMemory>
     if fault.kind == ParseKind::Memory {
         return Err(NoMemory);
     }
-    refusal(alloc, fault.line, fault.col, fault.kind.reason().as_bytes())
+    refusal(
+        alloc,
+        u64::from(fault.line),
+        fault.col,
+        fault.kind.reason().as_bytes(),
+    )
 }
 
 /// The reply that refuses a source for a fault of its statements.
@@ -58,7 +63,7 @@ fn unassembled(alloc: Global, fault: AsmFault) -> Result<Reply, NoMemory>
         return Err(NoMemory);
     }
     let reason = fault.kind.to_string(alloc)?;
-    refusal(alloc, fault.line, fault.col, reason.as_bytes())
+    refusal(alloc, u64::from(fault.line), fault.col, reason.as_bytes())
 }
 
 /// The reply that refuses a source, or objects, for a fault of the layout.
@@ -71,5 +76,5 @@ pub fn unlinked(alloc: Global, fault: LinkFault) -> Result<Reply, NoMemory>
         return Err(NoMemory);
     }
     let reason = fault.kind.to_string(alloc)?;
-    refusal(alloc, fault.line, fault.col, reason.as_bytes())
+    refusal(alloc, u64::from(fault.line), fault.col, reason.as_bytes())
 }
