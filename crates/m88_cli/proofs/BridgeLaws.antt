@@ -1,7 +1,7 @@
--- The laws between the commands: each is one of all inputs, so it holds wherever the top call returns.
+-- The laws between the commands that the top call's contract needs no answer for: each is one of all inputs, so it holds
+-- wherever the call returns.
 use Rattle.m88_cli.proofs.BridgeLinks.{assembled_links_alike}
-use Rattle.m88_cli.proofs.BridgeListings.{listed_builds_alike}
 use Rattle.m88_cli.proofs.BridgeRuns.{built_runs_alike}
 use Rattle.m88_cli.proofs.PlainSources.{workload_accepted}
 
-pub ruleset laws = (built_runs_alike, assembled_links_alike, listed_builds_alike, workload_accepted)
+pub ruleset laws = (built_runs_alike, assembled_links_alike, workload_accepted)

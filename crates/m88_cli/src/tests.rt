@@ -1,5 +1,5 @@
-//! What no clause says of the commands, one file a subject. Here stands what the files share: the top call over a line of
-//! words, and what tries the rows of a table.
+//! What no clause says of the commands, one file a subject. Here stands what the files share: the top call over a
+//! line of words, and what tries the rows of a table.
 
 use crate::*;
 use m88_base::{MemSink, MemSource};
@@ -25,8 +25,8 @@ pub type Row<'a> = (&'a str, &'a [u8], &'a [u8]);
 /// An input, and the line that refuses it.
 pub type Refusal<'a> = (&'a [u8], &'a [u8]);
 
-/// Ends the test unless each row's command accepts the row's input, which comes in pieces of a length, and writes the row's
-/// text.
+/// Ends the test unless each row's command accepts the row's input, which comes in pieces of a length, and writes
+/// the row's text.
 pub fn expect_done(rt: &impl Abort, alloc: Global, piece: usize, rows: &[Row]) -> Result<(), Fail> {
     for (line, input, text) in rows {
         let (answer, held) = told(alloc, line, input, piece)?;

@@ -11,8 +11,8 @@ use std::test::Fail;
 /// A call number that is never reached.
 const NEVER: u32 = 4_000_000_000;
 
-/// An input, the call of the source and that of the sink that fails, the bytes that the sink has room for, the answer, and
-/// what the sink then holds.
+/// An input, the call of the source and that of the sink that fails, the bytes that the sink has room for, the
+/// answer, and what the sink then holds.
 type Failing<'a> = (&'a [u8], u32, u32, usize, Status, &'a [u8]);
 
 /// Ends the test unless a run of no instruction is answered as each row says.

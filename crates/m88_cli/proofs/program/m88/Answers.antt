@@ -5,6 +5,7 @@ use Rattle.m88_cli.specs.Answer.{Accepts}
 use Rattle.m88_cli.specs.Command.{reads_input}
 use Rattle.m88_cli.specs.Kept.{command_of}
 use Rattle.m88_cli.specs.Refusal.{refusal_line}
+use Rattle.m88_cli.proofs.BridgeListings.{listed_builds_alike}
 use Rattle.m88_cli.proofs.OneSource.{refused_not_accepted}
 use Rattle.m88_cli.proofs.Whole.{accepted_reply, answer_of, line_of_reply, not_part, not_whole, of_err, refusal_some, refused_reply, reply_given, reply_whole, shown_if, unanswered}
 use Rattle.m88_cli.proofs.program.m88.Goals as goal
@@ -68,3 +69,18 @@ returns-clause-complete g c = λ command input spelled holds sound unfailing.
     let replies = reply_given command (command_of c.in-Some.command) (g.S.Source.left c.args.source.now) (g.S.Source.left c.reply_from.new.source) input c.in-Ok.reply same
     holds (ok.0, ok.1, ok.2) in
     inr (inr ((refused_reply command input c.in-Ok.reply c.if-reply.false replies).unaccepted, refl))
+
+pub returns-in_default-clause-relisted : goal.returns-in_default-clause-relisted
+returns-in_default-clause-relisted g c = listed_builds_alike
+
+pub returns-in-Err-clause-relisted : goal.returns-in-Err-clause-relisted
+returns-in-Err-clause-relisted g c = listed_builds_alike
+
+pub returns-then-is_err-clause-relisted : goal.returns-then-is_err-clause-relisted
+returns-then-is_err-clause-relisted g c = listed_builds_alike
+
+pub returns-then-reply-clause-relisted : goal.returns-then-reply-clause-relisted
+returns-then-reply-clause-relisted g c = listed_builds_alike
+
+pub returns-clause-relisted : goal.returns-clause-relisted
+returns-clause-relisted g c = listed_builds_alike
