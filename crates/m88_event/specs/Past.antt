@@ -10,8 +10,7 @@ use Rattle.m88_event.specs.Timeline.{Moment}
 abbrev pub HasInstructions : Program → ℕ → Type 0
 HasInstructions p count = (k : ℕ) → k < count → is_stop (turn_at p (state p k)) ≡ false
 
--- the last of the first so many instructions of a history changed the flow at once, with no delay slot: the one
--- that was fetched behind it is passed over
+-- the last of so many instructions changed the flow with no delay slot, so that the one fetched behind it is passed over
 pub record IsBehindBranch (p : Program) (count : ℕ) : Type 0 where
   pub before : ℕ
   pub change : Change
@@ -19,15 +18,15 @@ pub record IsBehindBranch (p : Program) (count : ℕ) : Type 0 where
   pub turn : turn_at p (state p before) ≡ changes change
   pub flows : change.bubble ≡ true
 
--- the program ends by the next instruction, fewer instructions are retired than the limit, and all transactions
--- are done
+-- the program ends by the next instruction, the limit isn't reached, and all transactions are done
 pub record IsAtEnd (p : Program) (limit : ℕ) (m : Moment) : Type 0 where
   pub next : is_stop (turn_at p (state p m.retired)) ≡ true
   pub early : m.retired < limit
   pub drained : m.done ≡ transaction_count p m.retired
 
--- what lies behind a moment: at most as many instructions are retired as the limit, all of them the history's; at most
--- three transactions are pending; the mark of the end is there only at the end, that of a bubble only behind a branch
+-- what lies behind a moment: at most as many instructions are retired as the limit, and the program ends by none of
+-- them; at most three transactions are pending; the mark of the end is there only at the end, that of a bubble only
+-- behind a branch without a delay slot
 pub record HasPast (p : Program) (limit : ℕ) (m : Moment) : Type 0 where
   pub within : m.retired ≤ limit
   pub retired : HasInstructions p m.retired

@@ -41,57 +41,56 @@ const TWO_MODULES: &[u8] =
     b".module main\n_start: bsr.n put\nor r2,r0,'A'\nor r9,r0,0x63\ntb0 0,r0,496\n\
     .module output\n.global put\nput: or r9,r0,0x20\ntb0 0,r0,496\njmp r1\n";
 
+/// Each source with the words that run it and those that run its records, and a line of the report.
+const EXAMPLES: &[Example] = &[
+    (
+        DOUBLE,
+        "run 3 2 iir",
+        "exec 3 2 iir",
+        "\nt0 0000213D 00000000 00002000\n",
+    ),
+    (
+        EXCHANGE,
+        "run 100 2 iiir",
+        "exec 100 2 iiir",
+        "\nt1 0000103F 00000001 00002000\n",
+    ),
+    (
+        FOUR_LOADS,
+        "run 5 6 iiiirii",
+        "exec 5 6 iiiirii",
+        "\nfault 1 event 12\n",
+    ),
+    (
+        LATE_FAULT,
+        "run 100 5,6,7 iiiiiiir",
+        "exec 100 5,6,7 iiiiiiir",
+        "\nt2 000001D1 00000000 00007000\n",
+    ),
+    (
+        LOOP,
+        "run 100 none -",
+        "exec 100 none -",
+        "\nout 4142434445\n",
+    ),
+    (PRINT_A, "run 100 none -", "exec 100 none -", "\nout 41\n"),
+    (
+        SUM,
+        "run 1000 all iiirrr",
+        "exec 1000 all iiirrr",
+        "\nmem 00002028 00000037\n",
+    ),
+    (
+        TWO_MODULES,
+        "run 100 none -",
+        "exec 100 none -",
+        "\nout 41\n",
+    ),
+];
+
 #[test]
 fn each_example_has_one_report_in_three_ways(rt: HostRuntime) -> Result<(), Fail> {
-    expect_one_report(
-        &rt,
-        rt.alloc(),
-        &[
-            (
-                DOUBLE,
-                "run 3 2 iir",
-                "exec 3 2 iir",
-                "\nt0 0000213D 00000000 00002000\n",
-            ),
-            (
-                EXCHANGE,
-                "run 100 2 iiir",
-                "exec 100 2 iiir",
-                "\nt1 0000103F 00000001 00002000\n",
-            ),
-            (
-                FOUR_LOADS,
-                "run 5 6 iiiirii",
-                "exec 5 6 iiiirii",
-                "\nfault 1 event 12\n",
-            ),
-            (
-                LATE_FAULT,
-                "run 100 5,6,7 iiiiiiir",
-                "exec 100 5,6,7 iiiiiiir",
-                "\nt2 000001D1 00000000 00007000\n",
-            ),
-            (
-                LOOP,
-                "run 100 none -",
-                "exec 100 none -",
-                "\nout 4142434445\n",
-            ),
-            (PRINT_A, "run 100 none -", "exec 100 none -", "\nout 41\n"),
-            (
-                SUM,
-                "run 1000 all iiirrr",
-                "exec 1000 all iiirrr",
-                "\nmem 00002028 00000037\n",
-            ),
-            (
-                TWO_MODULES,
-                "run 100 none -",
-                "exec 100 none -",
-                "\nout 41\n",
-            ),
-        ],
-    )
+    expect_one_report(&rt, rt.alloc(), EXAMPLES)
 }
 
 /// Ends the test unless the source of each row has one report by the words of `run` and, from its records, by those of
