@@ -1,13 +1,14 @@
 -- The limits of the program, each once; the constants of the code are held to them by the clauses that cite these.
 use Rattle.std.specs.Prelude.{ℕ, ◌^◌}
+use Rattle.m88_board.specs.Kept.{most_retired}
 
 -- the most bytes that an input may have: one mebibyte
 abbrev pub most_input : ℕ
 most_input = 2 ^ 20
 
--- the most instructions that a run may be allowed
+-- the most instructions that a run may be allowed: as many as a board can retire
 abbrev pub most_limit : ℕ
-most_limit = 1000000
+most_limit = most_retired
 
 -- the most statements that a generated workload may have
 abbrev pub most_statements : ℕ
