@@ -10,7 +10,8 @@ use Rattle.m88_event.specs.Timeline.{Moment}
 abbrev pub HasInstructions : Program → ℕ → Type 0
 HasInstructions p count = (k : ℕ) → k < count → is_stop (turn_at p (state p k)) ≡ false
 
--- the last of so many instructions changed the flow with no delay slot, so that the one fetched behind it is passed over
+-- the last of so many instructions changed the flow with no delay slot, so that the one fetched behind it is
+-- passed over
 pub record IsBehindBranch (p : Program) (count : ℕ) : Type 0 where
   pub before : ℕ
   pub change : Change

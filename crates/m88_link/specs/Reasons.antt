@@ -1,5 +1,5 @@
--- The reasons of the linker's faults and of those of a text of objects, in the words of a refused line (formats: the line
--- that refuses an input).
+-- The reasons of the linker's faults and of those of a text of objects, in the words of a refused line (formats: the
+-- line that refuses an input).
 use Rattle.std.specs.Prelude.{ℕ, List, ◌++◌, codes, decimal}
 use Rattle.std.specs.Fmt.{signed_decimal}
 use Rattle.m88_base.specs.Hex.{hex8}
