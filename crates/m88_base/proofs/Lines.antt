@@ -1,7 +1,7 @@
 -- The first line of a source, found by its LF.
 use Rattle.std.proofs.Common.{◌≡◌, ℕ, suc, ◌+◌, ◌<◌, ◌≤◌, Bool, true, false, cond, not, ◌&&◌, ◌==◌, List, [], ◌∷◌, ◌++◌, length, take, drop, refl, sym, ap, ◌∙◌, arith}
 use Rattle.std.specs.List.{prefix_len}
-use Rattle.m88_base.specs.Lines.{lines_of, begins_with_lf, on_first_line}
+use Rattle.m88_base.specs.Lines.{lines_of, begins_with_lf, behind_line, on_first_line}
 use Rattle.m88_base.specs.LineEnd.{without_cr}
 
 abbrev pub is_inner : ℕ → Bool
@@ -117,3 +117,20 @@ source_ends rest line (c ∷ cs) n e f g some h = absurd (omega arith)
 source_ends rest line [] n e f g some h =
     ends_source rest some (ap (λ (k : ℕ). drop k rest) (sym e) ∙ sym g)
     ∙ ap (λ (xs : List ℕ). let ls : List (List ℕ) = xs ∷ lines_of [] in ls) (ap (λ (k : ℕ). take k rest) (sym e) ∙ sym f)
+
+-- what stands behind the first line
+
+behind_by : (b : ℕ) (bs : List ℕ) (v : Bool) → behind_line bs ≡ drop 1 (drop (lf_at bs) bs) → cond v bs (behind_line bs) ≡ drop 1 (drop (cond (not v) (suc (lf_at bs)) 0) (b ∷ bs))
+behind_by b bs true ih = refl
+behind_by b bs false ih = ih
+
+behind_at : (bs : List ℕ) → behind_line bs ≡ drop 1 (drop (lf_at bs) bs)
+behind_at [] = refl
+behind_at (b ∷ bs) = behind_by b bs (b == 10) (behind_at bs)
+
+pub stands_behind : (rest after : List ℕ) (n : ℕ) → n ≡ prefix_len is_inner rest → after ≡ drop n rest → drop 1 after ≡ behind_line rest
+stands_behind rest after n e g = ap (drop 1) (g ∙ ap (λ (k : ℕ). drop k rest) (e ∙ lf_at_is rest)) ∙ sym (behind_at rest)
+
+pub none_behind : (rest after : List ℕ) (n : ℕ) → n ≡ prefix_len is_inner rest → after ≡ drop n rest → length after < 1 → after ≡ behind_line rest
+none_behind rest [] n e g h = stands_behind rest [] n e g
+none_behind rest (c ∷ cs) n e g h = absurd (omega arith)

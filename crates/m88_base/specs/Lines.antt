@@ -23,6 +23,11 @@ abbrev pub begins_with_lf : List ℕ → Bool
 begins_with_lf [] = false
 begins_with_lf (b ∷ bs) = b == line_feed
 
+-- the bytes behind the first LF, none where there is none
+abbrev pub behind_line : List ℕ → List ℕ
+behind_line [] = []
+behind_line (b ∷ bs) = if b == line_feed then bs else behind_line bs
+
 -- the lines with one more byte in front of the first of them
 abbrev pub on_first_line : ℕ → List (List ℕ) → List (List ℕ)
 on_first_line b [] = (b ∷ []) ∷ []

@@ -1,7 +1,7 @@
 //! The lines of an input, one by one.
-ghost use Rattle.std.specs.Prelude.{◌≡◌, ◌+◌, ◌<◌, ◌≤◌, ◌∷◌, not, ◌==◌, length};
+ghost use Rattle.std.specs.Prelude.{◌≡◌, ◌<◌, ◌≤◌, ◌∷◌, not, ◌==◌, length};
 ghost use Rattle.std.specs.List.{prefix_len};
-ghost use Rattle.m88_base.specs.Lines.{lines_of};
+ghost use Rattle.m88_base.specs.Lines.{behind_line, lines_of};
 ghost use Rattle.m88_base.specs.LineEnd.{without_cr};
 
 /// A line without the CR that belongs to its line end.
@@ -27,6 +27,7 @@ fn len_to_lf(bytes: &[u8]) -> usize
 pub fn first_line(rest: &[u8]) -> (&[u8], &[u8])
     requires { 0 < length rest.now }
     ensures lines { lines_of rest.now ≡ result.0.now ∷ lines_of result.1.now }
+    ensures behind { result.1.now ≡ behind_line rest.now }
     ensures within { length result.0.now ≤ length rest.now }
     ensures shorter { length result.1.now < length rest.now }
 {

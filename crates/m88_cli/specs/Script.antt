@@ -1,6 +1,6 @@
 -- The script of the monitor: lines that are commands or empty, then a line `source`, and a source behind that line.
-use Rattle.std.specs.Prelude.{ℕ, ◌≡◌, ◌≢◌, ◌+◌, ◌≤◌, ◌==◌, ◌++◌, Bool, true, false, List, [], ◌∷◌, codes, count_by, length, zero, suc, if◌then◌else◌}
-use Rattle.m88_base.specs.Lines.{line_feed, lines_of}
+use Rattle.std.specs.Prelude.{ℕ, ◌≡◌, ◌≢◌, ◌+◌, ◌≤◌, ◌++◌, Bool, true, false, List, [], ◌∷◌, codes, count_by, length, zero, suc}
+use Rattle.m88_base.specs.Lines.{behind_line, lines_of}
 use Rattle.m88_cli.specs.Numbers.{IsShortNumber}
 use Rattle.m88_cli.specs.Refusal.{Refusal}
 use Rattle.m88_cli.specs.declared.script.MonitorCommand.{MonitorCommand}
@@ -88,8 +88,7 @@ source_line = codes "source"
 -- what stands behind so many lines of an input
 abbrev pub behind_lines : ℕ → List ℕ → List ℕ
 behind_lines zero input = input
-behind_lines (suc n) [] = []
-behind_lines (suc n) (b ∷ bs) = if b == line_feed then behind_lines n bs else behind_lines (suc n) bs
+behind_lines (suc n) input = behind_lines n (behind_line input)
 
 -- the input is a script with these commands and a source, before which so many lines stand; the last of these lines is
 -- the line `source`

@@ -27,35 +27,32 @@ pub record SawFront (p : Program) (limit : ℕ) (absent : ℕ → Bool) (schedul
   pub is_running : IsRunning p absent limit schedule events
   pub saw : Saw before after (glances_along p (moment_after p absent limit schedule) events)
 
--- a watch was shown the whole of a command over an input that it accepts
-abbrev pub Shown : Command → List ℕ → Option (List Glance) → Option (List Glance) → Type 0
-Shown (run limit absent schedule) source before after =
-    (p : Program) × IsSourceProgram source p × SawRun p limit absent schedule before after
-Shown (exec limit absent schedule) text before after =
-    (p : Program) × IsLoadedProgram text p × SawRun p limit absent schedule before after
-Shown dis text before after = Saw before after []
-Shown asm source before after = Saw before after []
-Shown link text before after = Saw before after []
-Shown build source before after = Saw before after []
-Shown (soak number count) input before after =
+-- what a watch was shown of a command over an input that it accepts, by what it was shown of a run of a program and of a
+-- session with the monitor
+abbrev pub ShownBy :
+    (Program → ℕ → (ℕ → Bool) → List Letter → Option (List Glance) → Option (List Glance) → Type 0)
+    → (List ℕ → (ℕ → Bool) → List Letter → Option (List Glance) → Option (List Glance) → Type 0)
+    → Command → List ℕ → Option (List Glance) → Option (List Glance) → Type 0
+ShownBy OfRun OfSession (run limit absent schedule) source before after =
+    (p : Program) × IsSourceProgram source p × OfRun p limit absent schedule before after
+ShownBy OfRun OfSession (exec limit absent schedule) text before after =
+    (p : Program) × IsLoadedProgram text p × OfRun p limit absent schedule before after
+ShownBy OfRun OfSession dis text before after = Saw before after []
+ShownBy OfRun OfSession asm source before after = Saw before after []
+ShownBy OfRun OfSession link text before after = Saw before after []
+ShownBy OfRun OfSession build source before after = Saw before after []
+ShownBy OfRun OfSession (soak number count) input before after =
     (p : Program) × IsSourceProgram (workload_source number count) p
-    × SawRun p count every_page (workload_schedule number count) before after
-Shown (mon absent schedule) input before after = SawSession input absent schedule before after
+    × OfRun p count every_page (workload_schedule number count) before after
+ShownBy OfRun OfSession (mon absent schedule) input before after = OfSession input absent schedule before after
+
+-- a watch was shown the whole of a command
+abbrev pub Shown : Command → List ℕ → Option (List Glance) → Option (List Glance) → Type 0
+Shown command input before after = ShownBy SawRun SawSession command input before after
 
 -- or a front of it
 abbrev pub ShownFront : Command → List ℕ → Option (List Glance) → Option (List Glance) → Type 0
-ShownFront (run limit absent schedule) source before after =
-    (p : Program) × IsSourceProgram source p × SawFront p limit absent schedule before after
-ShownFront (exec limit absent schedule) text before after =
-    (p : Program) × IsLoadedProgram text p × SawFront p limit absent schedule before after
-ShownFront dis text before after = Saw before after []
-ShownFront asm source before after = Saw before after []
-ShownFront link text before after = Saw before after []
-ShownFront build source before after = Saw before after []
-ShownFront (soak number count) input before after =
-    (p : Program) × IsSourceProgram (workload_source number count) p
-    × SawFront p count every_page (workload_schedule number count) before after
-ShownFront (mon absent schedule) input before after = SawSessionFront input absent schedule before after
+ShownFront command input before after = ShownBy SawFront SawSessionFront command input before after
 
 -- a watch was shown a front of a command over an input that the command accepts
 pub record FrontOfAccepted (command : Command) (input : List ℕ) (before after : Option (List Glance)) : Type 0 where

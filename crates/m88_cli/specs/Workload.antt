@@ -84,9 +84,9 @@ xor_of words = fold bit_xor 0 words
 abbrev pub workload_line : ℕ → ℕ → List ℕ
 workload_line number count = codes "soak " ++ decimal number ++ codes " " ++ decimal count ++ line_end
 
--- the line of all registers
-unfoldable pub registers_line : List ℕ → List ℕ
-registers_line regs = codes "regs " ++ hex8 (xor_of regs) ++ line_end
+-- the line of the exclusive or of all registers
+unfoldable pub registers_xor_line : List ℕ → List ℕ
+registers_xor_line regs = codes "regs " ++ hex8 (xor_of regs) ++ line_end
 
 -- the line of the words of memory that changed: how many, and their values
 unfoldable pub changes_line : List (ℕ × ℕ) → List ℕ
@@ -102,5 +102,5 @@ summary_of number count o =
     ++ count_line (codes "events") o.events
     ++ count_line (codes "answers") o.answers
     ++ count_line (codes "faults") (length o.records)
-    ++ registers_line o.regs
+    ++ registers_xor_line o.regs
     ++ changes_line o.changed

@@ -6,7 +6,7 @@ ghost use Rattle.m88_cli.specs.Words.{texts};
 
 use crate::commands::Command;
 use crate::limits::{MOST_LIMIT, MOST_STATEMENTS};
-use crate::numbers::short_number;
+use crate::numbers::decimal_number;
 use crate::pages::absent_of;
 use m88_event::Schedule;
 
@@ -85,8 +85,8 @@ fn workload_command<'a>(number: &str, count: &str) -> Option<Command<'a>>
         → MatchOption result ⊥ (λ c. command_of c ≡ choice) }
     ensures fit { IfSome result IsFit }
 {
-    let number = short_number(10, 10, number.as_bytes(), u32::MAX)?;
-    let count = short_number(10, 7, count.as_bytes(), MOST_STATEMENTS)?;
+    let number = decimal_number(10, number.as_bytes(), u32::MAX)?;
+    let count = decimal_number(7, count.as_bytes(), MOST_STATEMENTS)?;
     if count == 0 {
         return None;
     }
@@ -116,7 +116,7 @@ fn run_command<'a>(name: &str, limit: &str, absent: &str, schedule: &'a str) -> 
         → MatchOption result ⊥ (λ c. command_of c ≡ choice) }
     ensures fit { IfSome result IsFit }
 {
-    let limit = short_number(10, 7, limit.as_bytes(), MOST_LIMIT)?;
+    let limit = decimal_number(7, limit.as_bytes(), MOST_LIMIT)?;
     let absent = absent_of(absent)?;
     let schedule = Schedule::read(schedule)?;
     if name == "run" {

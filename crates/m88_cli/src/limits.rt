@@ -1,4 +1,5 @@
-//! The limits of the program, each once.
+//! The limits of inputs, runs, workloads and sessions; those of a script and of the words of a command stand where they
+//! are read.
 
 /// The most bytes that an input may have: one mebibyte.
 pub const MOST_INPUT: usize = 1_048_576;

@@ -5,7 +5,7 @@ ghost use Rattle.m88_mem.specs.Marks.{NamesPages, absent_in};
 ghost use Rattle.m88_cli.specs.Pages.{ArePageNumbers, IsAbsent, IsPageNumber, most_numbers};
 
 use crate::cutting::cut_at;
-use crate::numbers::short_number;
+use crate::numbers::{decimal_number, hexadecimal_number};
 use arrayvec::ArrayVec;
 use m88_base::Absent;
 
@@ -75,8 +75,8 @@ fn page_number(text: &[u8]) -> Option<u32>
     ensures only { (n : ℕ) → IsPageNumber text.now n → result ≡ Some n }
 {
     match after_0x(text) {
-        Some(digits) => short_number(16, 5, digits, LAST_PAGE),
-        None => short_number(10, 7, text, LAST_PAGE),
+        Some(digits) => hexadecimal_number(5, digits, LAST_PAGE),
+        None => decimal_number(7, text, LAST_PAGE),
     }
 }
 
@@ -85,9 +85,5 @@ fn after_0x(text: &[u8]) -> Option<&[u8]>
     ensures found { IfSome result (λ digits. text.now ≡ codes "0x" ++ digits.now) }
     ensures none { result ≡ None → (digits : List ℕ) → text.now ≢ codes "0x" ++ digits }
 {
-    if text.starts_with(b"0x") {
-        Some(&text[2..])
-    } else {
-        None
-    }
+    text.strip_prefix(b"0x".as_slice())
 }

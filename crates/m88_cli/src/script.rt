@@ -4,8 +4,9 @@ ghost use Rattle.m88_cli.specs.Limits.{most_input};
 ghost use Rattle.m88_cli.specs.Script.{HasNoScript, IsScript};
 ghost use Rattle.m88_cli.specs.declared.script.MonitorCommand.{MonitorCommand as CommandValue};
 
-use crate::script_lines::{MOST_COMMANDS, next_line, take_line};
+use crate::script_lines::{MOST_COMMANDS, take_line};
 use arrayvec::ArrayVec;
+use m88_base::first_line;
 
 /// A command of a script.
 #[derive(Clone, Copy, PartialEq, Eq, Debug)]
@@ -71,7 +72,7 @@ pub fn read_script(input: &[u8]) -> Result<Script<'_>, ScriptFault>
     let mut rest = input;
     let mut passed = 0;
     while !rest.is_empty() {
-        let (line, behind) = next_line(rest);
+        let (line, behind) = first_line(rest);
         passed += 1;
         if line == b"source".as_slice() {
             return Ok(Script {

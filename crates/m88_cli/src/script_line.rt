@@ -5,7 +5,7 @@ ghost use Rattle.m88_cli.specs.ScriptWords.{IsBare};
 ghost use Rattle.m88_cli.specs.declared.script.MonitorCommand.{MonitorCommand as CommandValue};
 
 use crate::cutting::cut_at;
-use crate::numbers::short_number;
+use crate::numbers::{decimal_number, hexadecimal_number};
 use crate::script::MonitorCommand;
 
 /// The most events that a command may ask for.
@@ -70,7 +70,7 @@ fn count_in(text: &[u8], most: u32) -> Option<u32>
     ensures found { IfSome result (IsCount most text.now) }
     ensures only { (n : ℕ) → IsCount most text.now n → result ≡ Some n }
 {
-    let n = short_number(10, 7, text, most)?;
+    let n = decimal_number(7, text, most)?;
     if n == 0 {
         return None;
     }
@@ -82,7 +82,7 @@ fn place_in(text: &[u8]) -> Option<u32>
     ensures found { IfSome result (WritesAddress text.now) }
     ensures only { (address : ℕ) → WritesAddress text.now address → result ≡ Some address }
 {
-    short_number(16, 8, text, u32::MAX)
+    hexadecimal_number(8, text, u32::MAX)
 }
 
 /// The address and the number of words that a text writes, with a blank between them.

@@ -1,47 +1,18 @@
-//! The lines of a script, one after the other.
-ghost use Rattle.std.specs.Prelude.{ℕ, ◌≡◌, ◌<◌, ◌∷◌, ◌++◌, [], List, count_by, false, length, true};
-ghost use Rattle.m88_base.specs.Lines.{lines_of};
-ghost use Rattle.m88_cli.specs.Script.{AreScriptLines, behind_lines, is_break};
+//! Which lines a script may have.
+ghost use Rattle.std.specs.Prelude.{ℕ, ◌≡◌, ◌<◌, ◌∷◌, ◌++◌, [], List, count_by, false, true};
+ghost use Rattle.m88_cli.specs.Script.{AreScriptLines, is_break};
 ghost use Rattle.m88_cli.specs.ScriptWords.{has_room};
 ghost use Rattle.m88_cli.specs.declared.script.MonitorCommand.{MonitorCommand as CommandValue};
 
 use crate::script::MonitorCommand;
 use crate::script_line::command_in;
 use arrayvec::ArrayVec;
-use m88_base::first_line;
 
 /// The most commands of a script.
 pub const MOST_COMMANDS: usize = 64;
 
 /// The most of them that set a breakpoint.
 const MOST_BREAKS: usize = 16;
-
-/// The first line of what is left of an input, without its line end, and the bytes behind that.
-pub fn next_line(rest: &[u8]) -> (&[u8], &[u8])
-    requires { 0 < length rest.now }
-    ensures lines { lines_of rest.now ≡ result.0.now ∷ lines_of result.1.now }
-    ensures behind { result.1.now ≡ behind_lines 1 rest.now }
-    ensures shorter { length result.1.now < length rest.now }
-{
-    let (line, _) = first_line(rest);
-    (line, behind_first(rest))
-}
-
-/// The bytes behind the first line.
-fn behind_first(rest: &[u8]) -> &[u8]
-    requires { 0 < length rest.now }
-    ensures behind { result.now ≡ behind_lines 1 rest.now }
-    ensures shorter { length result.now < length rest.now }
-{
-    let mut left = rest;
-    while let [byte, after @ ..] = left {
-        if *byte == b'\n' {
-            return after;
-        }
-        left = after;
-    }
-    left
-}
 
 /// Whether the lines of a script go on with one line more. Its command is added then.
 pub fn take_line(commands: &mut ArrayVec<MonitorCommand, MOST_COMMANDS>, line: &[u8]) -> bool

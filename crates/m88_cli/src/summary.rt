@@ -1,6 +1,6 @@
 //! The summary of the run of a workload.
 ghost use Rattle.std.specs.Prelude.{◌≡◌, ◌++◌, IfOk, OnOk, map};
-ghost use Rattle.m88_cli.specs.Workload.{changes_line, registers_line, summary_of, workload_line, xor_of};
+ghost use Rattle.m88_cli.specs.Workload.{changes_line, registers_xor_line, summary_of, workload_line, xor_of};
 
 use m88_base::{NoMemory, push_decimal, push_hex8};
 use m88_event::Outcome;
@@ -28,7 +28,7 @@ pub fn summary(
         b"faults",
         outcome.records.as_slice().len() as u64,
     )?;
-    push_xor(&mut text, &outcome.regs)?;
+    push_registers_xor(&mut text, &outcome.regs)?;
     push_changes(&mut text, outcome.changed.as_slice())?;
     Ok(text)
 }
@@ -45,9 +45,9 @@ fn push_workload(text: &mut Vec<u8>, number: u32, count: u32) -> Result<(), Allo
     Ok(())
 }
 
-/// Appends the line of all registers.
-fn push_xor(text: &mut Vec<u8>, registers: &[u32; 32]) -> Result<(), AllocError>
-    ensures { OnOk result (text.new.items ≡ text.old.items ++ registers_line registers.now) }
+/// Appends the line of the exclusive or of all registers.
+fn push_registers_xor(text: &mut Vec<u8>, registers: &[u32; 32]) -> Result<(), AllocError>
+    ensures { OnOk result (text.new.items ≡ text.old.items ++ registers_xor_line registers.now) }
 {
     text.extend_from_slice(b"regs ")?;
     push_hex8(text, xor_of(registers))?;

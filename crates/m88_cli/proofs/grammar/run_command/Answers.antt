@@ -16,9 +16,9 @@ returns-in_err-schedule-clause-only c = λ choice spelled.
 pub returns-then-eq-clause-only : goal.returns-then-eq-clause-only
 returns-then-eq-clause-only c = λ choice spelled.
     let name : c.args.name.now ≡ codes "run" = search rules in
-    let read = are_read c.as_bytes.result.now c.args.absent.now c.args.schedule.now c.short_number.result c.absent_of.result c.read.result
+    let read = are_read c.as_bytes.result.now c.args.absent.now c.args.schedule.now c.decimal_number.result c.absent_of.result c.read.result
     c.in_ok-limit.limit c.in_ok-absent.absent c.in_ok-schedule.schedule c.in_ok-limit.was c.in_ok-absent.was c.in_ok-schedule.was
-    c.short_number.ensures.found c.short_number.ensures.bound c.short_number.ensures.only
+    c.decimal_number.ensures.found c.decimal_number.ensures.bound c.decimal_number.ensures.only
     c.absent_of.ensures.found c.absent_of.ensures.only c.read.ensures.found c.read.ensures.only in
     only_run c.args.name.now c.args.limit.now c.args.absent.now c.args.schedule.now c.in_ok-limit.limit c.in_ok-absent.absent
     c.in_ok-schedule.schedule name
@@ -28,9 +28,9 @@ returns-then-eq-clause-only c = λ choice spelled.
 pub returns-then-eq-2-clause-only : goal.returns-then-eq-2-clause-only
 returns-then-eq-2-clause-only c = λ choice spelled.
     let name : c.args.name.now ≡ codes "exec" = search rules in
-    let read = are_read c.as_bytes.result.now c.args.absent.now c.args.schedule.now c.short_number.result c.absent_of.result c.read.result
+    let read = are_read c.as_bytes.result.now c.args.absent.now c.args.schedule.now c.decimal_number.result c.absent_of.result c.read.result
     c.in_ok-limit.limit c.in_ok-absent.absent c.in_ok-schedule.schedule c.in_ok-limit.was c.in_ok-absent.was c.in_ok-schedule.was
-    c.short_number.ensures.found c.short_number.ensures.bound c.short_number.ensures.only
+    c.decimal_number.ensures.found c.decimal_number.ensures.bound c.decimal_number.ensures.only
     c.absent_of.ensures.found c.absent_of.ensures.only c.read.ensures.found c.read.ensures.only in
     only_exec c.args.name.now c.args.limit.now c.args.absent.now c.args.schedule.now c.in_ok-limit.limit c.in_ok-absent.absent
     c.in_ok-schedule.schedule name

@@ -10,32 +10,32 @@ use Rattle.m88_cli.proofs.script.read_script.Goals as goal
 
 pub returns-then-eq-clause-script : goal.returns-then-eq-clause-script
 returns-then-eq-clause-script c =
-    let is : c.next_line.result.0.now ≡ source_line = search rules in
-    script_read c.args.input.now c.loop-rest.rest.now c.next_line.result.0.now c.next_line.result.1.now c.loop-rest.commands.items c.loop-rest.passed
-    c.loop-rest.invariant.read c.next_line.ensures.lines c.next_line.ensures.behind is
+    let is : c.first_line.result.0.now ≡ source_line = search rules in
+    script_read c.args.input.now c.loop-rest.rest.now c.first_line.result.0.now c.first_line.result.1.now c.loop-rest.commands.items c.loop-rest.passed
+    c.loop-rest.invariant.read c.first_line.ensures.lines c.first_line.ensures.behind is
 
 pub returns-then-eq-clause-only : goal.returns-then-eq-clause-only
 returns-then-eq-clause-only c = λ commands n source is_too.
-    let is : c.next_line.result.0.now ≡ source_line = search rules in
-    let own = script_read c.args.input.now c.loop-rest.rest.now c.next_line.result.0.now c.next_line.result.1.now c.loop-rest.commands.items c.loop-rest.passed
-    c.loop-rest.invariant.read c.next_line.ensures.lines c.next_line.ensures.behind is in
-    let same = one_script c.args.input.now c.loop-rest.commands.items commands (c.loop-rest.passed + 1) n c.next_line.result.1.now source own is_too in
+    let is : c.first_line.result.0.now ≡ source_line = search rules in
+    let own = script_read c.args.input.now c.loop-rest.rest.now c.first_line.result.0.now c.first_line.result.1.now c.loop-rest.commands.items c.loop-rest.passed
+    c.loop-rest.invariant.read c.first_line.ensures.lines c.first_line.ensures.behind is in
+    let same = one_script c.args.input.now c.loop-rest.commands.items commands (c.loop-rest.passed + 1) n c.first_line.result.1.now source own is_too in
     (same.commands, same.lines, same.source)
 
 pub returns-then-eq-clause-only_fault : goal.returns-then-eq-clause-only_fault
 returns-then-eq-clause-only_fault c = λ n none.
-    let is : c.next_line.result.0.now ≡ source_line = search rules in
-    not_both c.args.input.now c.loop-rest.commands.items (c.loop-rest.passed + 1) n c.next_line.result.1.now
-    (script_read c.args.input.now c.loop-rest.rest.now c.next_line.result.0.now c.next_line.result.1.now c.loop-rest.commands.items c.loop-rest.passed
-    c.loop-rest.invariant.read c.next_line.ensures.lines c.next_line.ensures.behind is) none
+    let is : c.first_line.result.0.now ≡ source_line = search rules in
+    not_both c.args.input.now c.loop-rest.commands.items (c.loop-rest.passed + 1) n c.first_line.result.1.now
+    (script_read c.args.input.now c.loop-rest.rest.now c.first_line.result.0.now c.first_line.result.1.now c.loop-rest.commands.items c.loop-rest.passed
+    c.loop-rest.invariant.read c.first_line.ensures.lines c.first_line.ensures.behind is) none
 
 pub returns-then-not-take_line-clause-fault : goal.returns-then-not-take_line-clause-fault
 returns-then-not-take_line-clause-fault c =
-    let other = other_text c.next_line.result.0.now c.as_slice.result.now source_line c.eq.result
-    (slice_eq-Decides Decides-eqb c.next_line.result.0.now c.as_slice.result.now c.eq.result c.eq.ensures) c.as_slice.ensures c.if-eq.false in
+    let other = other_text c.first_line.result.0.now c.as_slice.result.now source_line c.eq.result
+    (slice_eq-Decides Decides-eqb c.first_line.result.0.now c.as_slice.result.now c.eq.result c.eq.ensures) c.as_slice.ensures c.if-eq.false in
     let no : c.take_line.result ≡ false = search rules in
-    stopped c.args.input.now c.loop-rest.rest.now c.next_line.result.0.now c.next_line.result.1.now c.loop-rest.commands.items c.loop-rest.passed
-    c.loop-rest.invariant.read c.next_line.ensures.lines other (c.take_line.ensures.stops no)
+    stopped c.args.input.now c.loop-rest.rest.now c.first_line.result.0.now c.first_line.result.1.now c.loop-rest.commands.items c.loop-rest.passed
+    c.loop-rest.invariant.read c.first_line.ensures.lines other (c.take_line.ensures.stops no)
 
 pub returns-then-not-take_line-clause-only : goal.returns-then-not-take_line-clause-only
 returns-then-not-take_line-clause-only c = λ commands n source is.
@@ -49,10 +49,10 @@ pub loop-rest-preserved : goal.loop-rest-preserved
 loop-rest-preserved c =
     let yes : c.take_line.result ≡ true = search rules in
     record {
-      read = one_line_more c.args.input.now c.loop-rest.rest.now c.next_line.result.0.now c.next_line.result.1.now c.loop-rest.commands.items
-          c.take_line.new.commands.items c.loop-rest.passed c.loop-rest.invariant.read c.next_line.ensures.lines c.next_line.ensures.behind
+      read = one_line_more c.args.input.now c.loop-rest.rest.now c.first_line.result.0.now c.first_line.result.1.now c.loop-rest.commands.items
+          c.take_line.new.commands.items c.loop-rest.passed c.loop-rest.invariant.read c.first_line.ensures.lines c.first_line.ensures.behind
           (c.take_line.ensures.goes_on yes);
-      few = omega (arith, c.loop-rest.invariant.few, c.next_line.ensures.shorter);
+      few = omega (arith, c.loop-rest.invariant.few, c.first_line.ensures.shorter);
     }
 
 pub returns-clause-fault : goal.returns-clause-fault

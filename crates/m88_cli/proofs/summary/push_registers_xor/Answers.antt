@@ -2,8 +2,8 @@
 use Rattle.std.proofs.Common.{◌≡◌, ℕ, List, ◌++◌, codes, ap, ◌∙◌, append_assoc}
 use Rattle.m88_base.specs.Hex.{hex8}
 use Rattle.m88_base.specs.Lines.{line_end}
-use Rattle.m88_cli.specs.Workload.{registers_line, xor_of}
-use Rattle.m88_cli.proofs.summary.push_xor.Goals as goal
+use Rattle.m88_cli.specs.Workload.{registers_xor_line, xor_of}
+use Rattle.m88_cli.proofs.summary.push_registers_xor.Goals as goal
 
 three_parts : (t0 t1 t2 t3 : List ℕ) (n m : ℕ) → t1 ≡ t0 ++ codes "regs " → t2 ≡ t1 ++ hex8 n → n ≡ m → t3 ≡ t2 ++ line_end
     → t3 ≡ t0 ++ (codes "regs " ++ hex8 m ++ line_end)
@@ -12,7 +12,7 @@ three_parts t0 t1 t2 t3 n m e f g h =
     ∙ append_assoc (t0 ++ codes "regs ") (hex8 m) line_end ∙ append_assoc t0 (codes "regs ") (hex8 m ++ line_end)
 
 pub returns : goal.returns
-unfolding registers_line
+unfolding registers_xor_line
 returns c =
     three_parts c.args.text.now.items c.extend_from_slice.new.self.items c.push_hex8.new.text.items c.push.new.self.items
     c.xor_of.result (xor_of c.args.registers.now) c.in_ok-extend_from_slice.ensures.items c.in_ok-push_hex8.ensures
