@@ -1,8 +1,8 @@
 -- What was taken from a source, or given to a sink, by two calls in a row, where they tell their bytes.
-use Rattle.std.proofs.Common.{◌≡◌, ℕ, ◌+◌, ◌≤◌, List, ◌++◌, length, take, drop, sym, arith, append_assoc, length-append, length-take, Some, None}
+use Rattle.std.proofs.Common.{◌≡◌, ◌≢◌, ℕ, ◌+◌, ◌-◌, ◌≤◌, List, ◌++◌, length, take, drop, sym, arith, append_assoc, length-append, length-take, Some, None}
 use Rattle.std.specs.declared.option.Option.{Option}
 use Rattle.std.proofs.Math.Seq.{take-add}
-use Rattle.std.proofs.lemmas.List.{take-take}
+use Rattle.std.proofs.lemmas.List.{take-append-le, take-take}
 use Rattle.std.specs.Io.KnownBytes.{Appends, Consumes}
 use Rattle.m88_base.specs.Outside.{TakesExactly, TakesAtMost}
 
@@ -27,6 +27,22 @@ pub takes_at_most : (old middle new : Option (List ℕ)) (xs buf : List ℕ) (n 
     → n ≤ length buf → length xs + n ≤ m → TakesAtMost old new m
 takes_at_most old middle new xs buf n m p q short whole =
     (xs ++ take n buf, consumes_more old middle new xs (take n buf) p q, simp (length-append, length-take) (omega arith))
+
+-- the front of a buffer is no longer than what was read to it, whatever the buffer has behind that
+pub length_front : (buf rest : List ℕ) (n : ℕ) → n ≤ length buf → length (take n (buf ++ rest)) ≡ n
+length_front buf rest n short = rw (take-append-le n buf rest short) (simp length-take (omega arith))
+
+pub consumes_front : (old middle new : Option (List ℕ)) (xs buf rest : List ℕ) (n : ℕ) → Consumes old middle xs
+    → Consumes middle new (take n buf) → n ≤ length buf → Consumes old new (xs ++ take n (buf ++ rest))
+consumes_front old middle new xs buf rest n p q short = rw (take-append-le n buf rest short) (consumes_more old middle new xs (take n buf) p q)
+
+-- n more bytes fit where n is at most what is left
+pub kept_below : (kept all front n len most : ℕ) → all ≡ kept + front → front ≡ n → len ≡ kept → n ≤ most - len → kept ≤ most → all ≤ most
+kept_below kept all front n len most more size is room below = omega arith
+
+-- at least as many bytes as turns
+pub one_more_turn : (kept all front n turns : ℕ) → all ≡ kept + front → front ≡ n → n ≢ 0 → turns ≤ kept → turns + 1 ≤ all
+one_more_turn kept all front n turns more size some below = omega arith
 
 -- a front of the text was given, and then a front of the k bytes after it
 pub appends_next : (old middle new : Option (List ℕ)) (text : List ℕ) (n m k : ℕ) → Appends old middle (take n text)

@@ -8,5 +8,4 @@ placed_reason line col reason = decimal line ++ codes ":" ++ decimal col ++ code
 
 -- the line that refuses an input
 abbrev pub refused_line : ℕ → ℕ → List ℕ → List ℕ
-refused_line line col reason =
-    codes "refused " ++ decimal line ++ codes ":" ++ decimal col ++ codes " " ++ reason ++ line_end
+refused_line line col reason = codes "refused " ++ placed_reason line col reason ++ line_end

@@ -1,8 +1,7 @@
 //! A sink in memory that fails where it is told to.
-ghost use Rattle.std.specs.Prelude.{◌≡◌, ℕ, ◌-◌, ◌<◌, ◌≤◌, ◌↔◌, ◌⊎◌, Some, min, length, IfOk, IsErr, Contains, []};
+ghost use Rattle.std.specs.Prelude.{◌≡◌, ◌-◌, ◌<◌, ◌≤◌, ◌↔◌, ◌⊎◌, Some, min, length, IfOk, IsErr, Contains, []};
 ghost use Rattle.std.specs.Io.KnownBytes.{WriteAppends};
 ghost use Rattle.m88_base.specs.Causes.{FailsByFault, one_more, faults_after};
-ghost use Rattle.m88_base.specs.Memory.{MemoryOut};
 
 use crate::failing::{Failed, NoMemory};
 use crate::pieces::is_failing;

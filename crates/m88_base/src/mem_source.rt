@@ -1,9 +1,8 @@
 //! A source of bytes in memory that fails where it is told to.
-ghost use Rattle.std.specs.Prelude.{◌≡◌, ℕ, ◌+◌, ◌-◌, ◌<◌, ◌↔◌, Some, min, length, take, drop, IfOk, IsErr, Contains};
+ghost use Rattle.std.specs.Prelude.{◌≡◌, ◌<◌, ◌↔◌, Some, min, length, IfOk, IsErr, Contains};
 ghost use Rattle.std.specs.Io.{ReadsAtMost};
 ghost use Rattle.std.specs.Io.KnownBytes.{ReadConsumes};
 ghost use Rattle.m88_base.specs.Causes.{FailsByFault, one_more, faults_after};
-ghost use Rattle.m88_base.specs.Memory.{MemoryIn};
 
 use crate::failing::{Failed, NoMemory};
 use crate::pieces::{give, is_failing};

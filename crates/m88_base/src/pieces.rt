@@ -1,5 +1,5 @@
 //! What the source and the sink in memory share: which calls fail, and how a piece is copied.
-ghost use Rattle.std.specs.Prelude.{◌≡◌, ℕ, ◌+◌, ◌-◌, ◌<◌, ◌≤◌, ◌↔◌, ◌++◌, min, length, take, drop, IsTrue, Contains};
+ghost use Rattle.std.specs.Prelude.{◌≡◌, ◌+◌, ◌-◌, ◌≤◌, ◌↔◌, ◌++◌, min, length, take, drop, IsTrue, Contains};
 
 /// Whether a call's number, from 0, is among those that fail.
 pub fn is_failing(failing: &[u32], call: u64) -> bool

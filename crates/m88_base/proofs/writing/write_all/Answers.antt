@@ -1,4 +1,5 @@
 use Rattle.std.proofs.Common.{arith}
+use Rattle.std.proofs.lemmas.Grind.{common_steps}
 use Rattle.m88_base.proofs.Known.{appends_next}
 use Rattle.m88_base.proofs.writing.write_all.Goals as goal
 
@@ -9,3 +10,6 @@ loop-written-preserved g c = record {
   given = appends_next _ _ _ c.args.bytes.now c.loop-written.written c.in-Ok.count _ c.loop-written.invariant.given c.in-Ok.ensures.bytes
       c.in-Ok.ensures.bound.1;
 }
+
+pub returns-clause-ok : goal.returns-clause-ok
+returns-clause-ok g c = grind (arith, common_steps)

@@ -1,4 +1,5 @@
 use Rattle.std.proofs.Common.{◌≡◌, ◌<◌, ◌+◌, refl, sym, inl, inr, ◌^◌, length, arith}
+use Rattle.std.proofs.lemmas.Grind.{common_steps}
 use Rattle.m88_base.specs.Image.{byte_at, byte_count, most_bytes}
 use Rattle.m88_base.proofs.SameRuns.{puts_bytes}
 use Rattle.m88_base.proofs.image.Image.add.Goals.{In_ok-place}
@@ -43,3 +44,21 @@ returns-clause-len c = rw (← c.self.view_is) c.in_ok-place.ensures.ok.count
 pub returns-clause-free : goal.returns-clause-free
 unfolding byte_at
 returns-clause-free c = rw (← c.self.view_is) c.in_ok-place.ensures.free
+
+pub returns-then-is_too_large-clause-overlap : goal.returns-then-is_too_large-clause-overlap
+returns-then-is_too_large-clause-overlap c = grind (arith, common_steps)
+
+pub returns-then-is_empty-clause-overlap : goal.returns-then-is_empty-clause-overlap
+returns-then-is_empty-clause-overlap c = grind (arith, common_steps)
+
+pub returns-in_err-place-clause-too_large : goal.returns-in_err-place-clause-too_large
+returns-in_err-place-clause-too_large c = grind (arith, common_steps)
+
+pub returns-in_err-place-clause-overlap : goal.returns-in_err-place-clause-overlap
+returns-in_err-place-clause-overlap c = grind (arith, common_steps)
+
+pub returns-clause-too_large : goal.returns-clause-too_large
+returns-clause-too_large c = grind (arith, common_steps)
+
+pub returns-clause-overlap : goal.returns-clause-overlap
+returns-clause-overlap c = grind (arith, common_steps)

@@ -1,4 +1,5 @@
 use Rattle.std.proofs.Common.{◌≡◌, length, get_or, ap, arith}
+use Rattle.std.proofs.lemmas.Grind.{common_steps}
 use Rattle.m88_base.specs.Placing.{Places}
 use Rattle.m88_base.proofs.InBlocks.{put_back}
 use Rattle.m88_base.proofs.Edits.{bridged, gap, next_stands, set_again}
@@ -38,3 +39,18 @@ returns-in-Ok-clause-ok c = rw (← c.self.view_is) (placed ((goal.at.returns-in
 
 pub returns-in-Err-clause-err : goal.returns-in-Err-clause-err
 returns-in-Err-clause-err c = rw (← c.self.view_is) (restored ((goal.at.returns-in-Err-clause-err c).After-replace-in-Err))
+
+pub overflow_sub-index : goal.overflow_sub-index
+overflow_sub-index c = grind (arith, common_steps)
+
+pub overflow_sub-index-in-Ok : goal.overflow_sub-index-in-Ok
+overflow_sub-index-in-Ok c = grind (arith, common_steps)
+
+pub overflow_sub-index-in-Err : goal.overflow_sub-index-in-Err
+overflow_sub-index-in-Err c = grind (arith, common_steps)
+
+pub returns-in-Ok-clause-err : goal.returns-in-Ok-clause-err
+returns-in-Ok-clause-err c = grind (arith, common_steps)
+
+pub returns-in-Err-clause-ok : goal.returns-in-Err-clause-ok
+returns-in-Err-clause-ok c = grind (arith, common_steps)

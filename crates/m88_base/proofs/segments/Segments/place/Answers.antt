@@ -1,4 +1,5 @@
-use Rattle.std.proofs.Common.{length}
+use Rattle.std.proofs.Common.{arith, length}
+use Rattle.std.proofs.lemmas.Grind.{common_steps}
 use Rattle.m88_base.specs.Found.{IsFree}
 use Rattle.m88_base.specs.Placed.{byte_among}
 use Rattle.m88_base.proofs.Cuts.{free_between}
@@ -22,3 +23,27 @@ returns-then-ahead-2-clause-free c = free ((goal.at.returns-then-ahead-2-clause-
 
 pub returns-clause-free : goal.returns-clause-free
 returns-clause-free c = free ((goal.at.returns-clause-free c).After-begins_at-ahead)
+
+pub returns-then-ahead-clause-ok : goal.returns-then-ahead-clause-ok
+returns-then-ahead-clause-ok c = grind (arith, common_steps)
+
+pub returns-then-ahead-clause-err : goal.returns-then-ahead-clause-err
+returns-then-ahead-clause-err c = grind (arith, common_steps)
+
+pub returns-then-behind-clause-ok : goal.returns-then-behind-clause-ok
+returns-then-behind-clause-ok c = grind (arith, common_steps)
+
+pub returns-then-behind-clause-err : goal.returns-then-behind-clause-err
+returns-then-behind-clause-err c = grind (arith, common_steps)
+
+pub returns-then-ahead-2-clause-ok : goal.returns-then-ahead-2-clause-ok
+returns-then-ahead-2-clause-ok c = grind (arith, common_steps)
+
+pub returns-then-ahead-2-clause-err : goal.returns-then-ahead-2-clause-err
+returns-then-ahead-2-clause-err c = grind (arith, common_steps)
+
+pub returns-clause-ok : goal.returns-clause-ok
+returns-clause-ok c = grind (arith, common_steps)
+
+pub returns-clause-err : goal.returns-clause-err
+returns-clause-err c = grind (arith, common_steps)

@@ -1,3 +1,5 @@
+use Rattle.std.proofs.Common.{arith}
+use Rattle.std.proofs.lemmas.Grind.{common_steps}
 use Rattle.m88_base.specs.Placing.{Places}
 use Rattle.m88_base.proofs.Edits.{begun_earlier}
 use Rattle.m88_base.proofs.segments.Segments.place_ahead.Goals.{After-replace}
@@ -14,3 +16,18 @@ invariant_of-self c = (placed ((goal.at.invariant_of-self c).After-replace)).apa
 
 pub returns-clause-ok : goal.returns-clause-ok
 returns-clause-ok c = rw (← c.self.view_is) (placed ((goal.at.returns-clause-ok c).After-replace))
+
+pub returns-in_err-run-clause-ok : goal.returns-in_err-run-clause-ok
+returns-in_err-run-clause-ok c = grind (arith, common_steps)
+
+pub returns-in_err-run-clause-err : goal.returns-in_err-run-clause-err
+returns-in_err-run-clause-err c = grind (arith, common_steps)
+
+pub returns-in_err-append-clause-ok : goal.returns-in_err-append-clause-ok
+returns-in_err-append-clause-ok c = grind (arith, common_steps)
+
+pub returns-in_err-append-clause-err : goal.returns-in_err-append-clause-err
+returns-in_err-append-clause-err c = grind (arith, common_steps)
+
+pub returns-clause-err : goal.returns-clause-err
+returns-clause-err c = grind (arith, common_steps)
