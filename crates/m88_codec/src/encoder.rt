@@ -1,14 +1,15 @@
 //! The word of an instruction, form by form ("Instruction Set": the instruction formats).
 
-ghost use Rattle.std.specs.Prelude.{◌≡◌, ◌<◌, ◌≤◌, ◌+◌, ◌*◌, ◌^◌};
+ghost use Rattle.std.specs.Prelude.{◌≡◌, ◌<◌, ◌≤◌, ◌+◌, ◌*◌, ◌^◌, if◌then◌else◌};
 ghost use Rattle.m88_base.specs.Reg.{number_of};
 ghost use Rattle.m88_isa.specs.Compute.{weight_if};
-ghost use Rattle.m88_isa.specs.Instr.{IsValid};
-ghost use Rattle.m88_isa.specs.Word.{IsWord, at_cr, at_d, at_s1, first_byte, low16, mem_byte};
+ghost use Rattle.m88_isa.specs.Instr.{IsValid, IsWidth};
+ghost use Rattle.m88_isa.specs.Word.{IsWord, at_cr, at_d, at_s1, first_byte, low16, mem_byte, word_of};
+ghost use Rattle.m88_isa.specs.declared.instr.Instr.TheVariants as form;
 
 use super::codes::{byte_of_imm, byte_of_mem, code_of_bit, code_of_lda, code_of_reg};
 use m88_base::Reg;
-use m88_isa::{Instr, MemOp};
+use m88_isa::{BitOp, Instr, MemOp};
 
 const R0: Reg = Reg::ZERO;
 
@@ -31,11 +32,8 @@ pub fn encode(instr: &Instr) -> u32
         } => registers(code_of_mem(op, scaled, usr), d, s1, s2),
         Instr::Lda { size, d, s1, s2 } => registers(code_of_lda(size), d, s1, s2),
         Instr::BitReg { op, d, s1, s2 } => registers(code_of_bit(op), d, s1, s2),
-        Instr::Find { ones, d, s2 } => registers(if ones { 0xE800 } else { 0xEC00 }, d, R0, s2),
-        Instr::Jump { link, delayed, s2 } => {
-            let code = 0xC000 + weight_if(link, 0x800) + weight_if(delayed, 0x400);
-            registers(code, R0, R0, s2)
-        }
+        Instr::Find { ones, d, s2 } => registers(code_of_find(ones), d, R0, s2),
+        Instr::Jump { link, delayed, s2 } => jump(link, delayed, s2),
         Instr::BoundReg { s1, s2 } => registers(0xF800, R0, s1, s2),
         Instr::Rte => registers(0xFC00, R0, R0, R0),
         Instr::BitLit {
@@ -44,15 +42,12 @@ pub fn encode(instr: &Instr) -> u32
             s1,
             width,
             offset,
-        } => {
-            let code = code_of_bit(op) + ((width as u32) << 5) + offset as u32;
-            literal(code, d.number(), s1)
-        }
+        } => bit_literal(op, d, s1, width, offset),
         Instr::Branch {
             link,
             delayed,
             words,
-        } => branch_head(0xC000_0000, link, delayed) + words.cast_unsigned() % (1 << 26),
+        } => branch(link, delayed, words),
         Instr::BranchBit {
             set,
             delayed,
@@ -71,17 +66,13 @@ pub fn encode(instr: &Instr) -> u32
             bit,
             s1,
             vector,
-        } => literal(
-            0xD000 + weight_if(set, 0x800) + vector as u32,
-            bit as u32,
-            s1,
-        ),
-        Instr::TrapCond { mask, s1, vector } => literal(0xE800 + vector as u32, mask as u32, s1),
+        } => trap(0xD000, set, bit, s1, vector),
+        Instr::TrapCond { mask, s1, vector } => trap(0xE800, false, mask, s1, vector),
         Instr::BoundImm { s1, imm } => immediate(0xF8, R0, s1, imm),
         Instr::Ldcr { d, cr, float } => control(0x4000, float, cr, d, R0),
         Instr::Stcr { s1, cr, float } => control(0x8000, float, cr, R0, s1),
         Instr::Xcr { d, s1, cr, float } => control(0xC000, float, cr, d, s1),
-        Instr::Sfu { unit, rest } => 0x8000_0000 + ((unit as u32) << 26) + rest,
+        Instr::Sfu { unit, rest } => unit_word(unit, rest),
     }
 }
 
@@ -102,6 +93,34 @@ fn registers(code: u32, d: Reg, s1: Reg, s2: Reg) -> u32
     fields(0xF400_0000, d.number(), s1.number(), code + s2.number())
 }
 
+/// A jump: a register form with its two marks and S2 alone.
+fn jump(link: bool, delayed: bool, s2: Reg) -> u32
+    ensures { result ≡ word_of (form.Jump link delayed s2) }
+{
+    let code = 0xC000 + weight_if(link, 0x800) + weight_if(delayed, 0x400);
+    registers(code, R0, R0, s2)
+}
+
+/// A bit field with its literal width and offset.
+fn bit_literal(op: BitOp, d: Reg, s1: Reg, width: u8, offset: u8) -> u32
+    requires { IsWidth op width × (offset < 32) }
+    ensures { result ≡ word_of (form.BitLit op d s1 width offset) }
+{
+    let code = code_of_bit(op) + ((width as u32) << 5) + offset as u32;
+    literal(code, d.number(), s1)
+}
+
+/// A trap: its code with the mark of `tb1`, the number in the place of D, S1 and the vector.
+fn trap(code: u32, set: bool, d: u8, s1: Reg, vector: u16) -> u32
+    requires code_fits { code ≤ 0xE800 }
+    requires d_fits { d < 32 }
+    requires vector_fits { vector < 512 }
+    ensures { result ≡
+        first_byte 0xF0 + code + weight_if set 0x800 + at_d d + at_s1 (number_of s1) + vector }
+{
+    literal(code + weight_if(set, 0x800) + vector as u32, d as u32, s1)
+}
+
 /// A form with a literal or a vector: the low 16 bits, the number in the place of D, and S1.
 fn literal(low: u32, d: u32, s1: Reg) -> u32
     requires low_fits { low < 0x10000 }
@@ -109,6 +128,13 @@ fn literal(low: u32, d: u32, s1: Reg) -> u32
     ensures { result ≡ first_byte 0xF0 + at_d d + at_s1 (number_of s1) + low }
 {
     fields(0xF000_0000, d, s1.number(), low)
+}
+
+/// A branch: its two marks and the count of words.
+fn branch(link: bool, delayed: bool, words: i32) -> u32
+    ensures { result ≡ word_of (form.Branch link delayed words) }
+{
+    branch_head(0xC000_0000, link, delayed) + words.cast_unsigned() % (1 << 26)
 }
 
 /// A conditional branch: its opening bits, the number in the place of D, S1 and the count of words.
@@ -132,6 +158,15 @@ fn control(code: u32, float: bool, cr: u8, d: Reg, s1: Reg) -> u32
     fields(0x8000_0000, d.number(), s1.number(), low)
 }
 
+/// A word of a special function unit: its number and the other 26 bits.
+fn unit_word(unit: u8, rest: u32) -> u32
+    requires unit_fits { unit < 8 }
+    requires rest_fits { rest < 2 ^ 26 }
+    ensures { result ≡ word_of (form.Sfu unit rest) }
+{
+    0x8000_0000 + ((unit as u32) << 26) + rest
+}
+
 /// The sum of a word's opening bits, D, S1 and its low 16 bits.
 fn fields(head: u32, d: u32, s1: u32, low: u32) -> u32
     requires head_fits { head ≤ 0xFC000000 }
@@ -150,6 +185,14 @@ fn branch_head(base: u32, first: bool, delayed: bool) -> u32
     ensures bound { result ≤ base + 0x0C000000 }
 {
     base + weight_if(first, 1 << 27) + weight_if(delayed, 1 << 26)
+}
+
+/// The code of `ff1` (`ones`) or `ff0`, in bits 15 to 8.
+fn code_of_find(ones: bool) -> u32
+    ensures value { result ≡ (if ones then 0xE800 else 0xEC00) }
+    ensures bound { result ≤ 0xEC00 }
+{
+    if ones { 0xE800 } else { 0xEC00 }
 }
 
 /// The code of a memory mnemonic with its marks in a register form.

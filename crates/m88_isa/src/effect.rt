@@ -37,7 +37,6 @@ use m88_base::Reg;
 
 /// What an instruction does at the byte address `pc`, where `next` is the address of the one that follows. A change
 /// of flow in a taken delay slot, where that isn't `pc` + 4, raises before anything else.
-#[tactic(auto, using(crate::proofs::Alone::plan_alone, crate::proofs::Plans::touches_aligned))]
 pub fn plan(instr: &Instr, regs: &[u32; 32], carry: bool, pc: u32, next: u32) -> Plan
     requires { IsValid instr.now }
     ensures value { result ≡ plan_of instr.now regs.now carry pc next }

@@ -91,7 +91,7 @@ fn extract(s: u32, width: u32, offset: u32) -> u32
     if offset + width >= 32 {
         s >> offset
     } else {
-        (s >> offset) % (1 << width)
+        low_bits(s >> offset, width)
     }
 }
 
@@ -105,7 +105,7 @@ fn extract_signed(s: u32, width: u32, offset: u32) -> u32
     if offset + width >= 32 {
         (s.cast_signed() >> offset).cast_unsigned()
     } else {
-        sign_extend((s >> offset) % (1 << width), width)
+        sign_extend(low_bits(s >> offset, width), width)
     }
 }
 

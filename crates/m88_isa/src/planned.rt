@@ -59,7 +59,7 @@ pub struct Access {
 }
 
 /// What an arithmetic instruction computes: a word and the carry afterwards, or the vector that it raises.
-#[derive(Clone, Copy, Debug)]
+#[derive(Clone, Copy)]
 pub enum Computed {
     Gives { value: u32, carry: bool },
     Raises(u16),
@@ -67,7 +67,7 @@ pub enum Computed {
 
 /// What an instruction reads: registers in the places of S1, S2 and D and after D, the carry, and the byte addresses of
 /// the instruction and of the one that follows. A register that it doesn't read counts as 0.
-#[derive(Clone, Copy, Debug)]
+#[derive(Clone, Copy)]
 pub struct Inputs {
     pub s1: u32,
     pub s2: u32,
