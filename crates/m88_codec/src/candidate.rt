@@ -1,7 +1,6 @@
 //! The one instruction that can have a word, read off its bits.
 
 ghost use Rattle.std.specs.Prelude.{◌≡◌, ◌<◌};
-ghost use Rattle.m88_base.specs.Reg.{reg_of};
 ghost use Rattle.m88_codec.specs.Candidate.{
   bit_op_at,
   candidate_at,

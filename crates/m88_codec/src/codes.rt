@@ -1,6 +1,6 @@
 //! The codes of the mnemonics, as the word table gives them ("Instruction Set": the opcode of each mnemonic).
 
-ghost use Rattle.std.specs.Prelude.{◌≡◌, ◌<◌, ◌≤◌, ◌*◌};
+ghost use Rattle.std.specs.Prelude.{◌≡◌, ◌≤◌};
 ghost use Rattle.m88_isa.specs.Word.{bit_code, imm_byte, lda_code, mem_byte, reg_code};
 
 use m88_isa::{BitOp, ImmOp, LdaSize, MemOp, RegOp};

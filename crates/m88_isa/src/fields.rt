@@ -1,6 +1,6 @@
 //! Bit fields and the highest bit ("Instruction Set": bit-field instructions).
 
-ghost use Rattle.std.specs.Prelude.{◌≡◌, ◌≤◌, ◌<◌, ◌%◌, ◌^◌, ◌*◌};
+ghost use Rattle.std.specs.Prelude.{◌≡◌, ◌≤◌, ◌<◌, ◌%◌, ◌^◌};
 ghost use Rattle.m88_isa.specs.Fields.{
   bit_field,
   extract,

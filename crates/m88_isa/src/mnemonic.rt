@@ -4,10 +4,12 @@ ghost use Rattle.std.specs.Prelude.{◌≡◌, IfSome};
 ghost use Rattle.m88_isa.specs.Mnemonic.{mnemonic_of, text_of};
 ghost use Rattle.m88_isa.specs.declared.mnemonic.Mnemonic.{Mnemonic as AnyMnemonic};
 
+use std::fmt;
+
 /// The names of operations in the assembly language, one for each spelling ("Instruction Set": the
 /// assembler syntax of each instruction). One name can stand for several forms, as `or` does for the
 /// immediate and the register form; a word of a special function unit has none.
-#[derive(Clone, Copy, PartialEq, Eq, Debug)]
+#[derive(Clone, Copy, PartialEq, Eq)]
 pub enum Mnemonic {
     // load, store and exchange
     XmemBu,
@@ -320,5 +322,12 @@ impl Mnemonic {
             .iter()
             .copied()
             .find(|m| m.text().as_bytes() == name)
+    }
+}
+
+impl fmt::Debug for Mnemonic {
+    /// Prints the mnemonic as it is spelled.
+    fn fmt<W: fmt::Write>(&self, f: &mut fmt::Formatter<W>) -> fmt::Result {
+        f.write_str(self.text())
     }
 }

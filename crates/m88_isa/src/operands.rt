@@ -3,7 +3,6 @@
 
 ghost use Rattle.std.specs.Prelude.{◌≡◌, ◌<◌, ◌≤◌};
 ghost use Rattle.std.specs.Int.{bit_at};
-ghost use Rattle.m88_base.specs.Reg.{number_of};
 ghost use Rattle.m88_isa.specs.Instr.{IsValid};
 ghost use Rattle.m88_isa.specs.Operands.{
   access_count_of,
