@@ -4,6 +4,6 @@ pub mod Nodes
 pub mod One
 pub mod Slots
 pub mod Signs
-pub mod Operands
+pub mod Halves
 pub mod Heard
 pub mod Lines

@@ -11,10 +11,10 @@ use Rattle.m88_parse.specs.declared.fault.ParseFault.{ParseFault}
 use Rattle.m88_parse.specs.Language.Pieces.{TokenValue, a_name, a_number, a_text, a_mark, Piece}
 use Rattle.m88_parse.specs.Reader.Names.{register_of, control_of, float_control_of, control_in, is_valid_name, is_symbol}
 use Rattle.m88_parse.specs.Language.Words.{bit_named, condition_named}
-use Rattle.m88_parse.specs.Reader.State.{ReaderState, first, past, is_mark_of, is_next_mark, ◌>>=◌}
+use Rattle.m88_parse.specs.Reader.State.{ReaderState, first, is_mark_of, is_next_mark, ◌>>=◌}
 use Rattle.m88_parse.specs.Reader.Slots.{Read, meaning_or_fault, mark_at, line_end_at, unsigned_on, unsigned_at, register_on, register_at, control_on, control_at, tabled_on, bit_at, mask_at, symbol_on, symbol_at, text_on, text_at, any_name_on, any_name_at, alignment_on, alignment_at}
 use Rattle.m88_parse.specs.Language.Names.{IsMark, IsNumber, IsNamed, IsRegister, IsControl, IsBit, IsCondition, IsSymbol}
-use Rattle.m88_parse.proofs.Law.Steps.{either, chosen, take_then, take_else}
+use Rattle.m88_parse.proofs.Law.Steps.{either, take_then, take_else}
 use Rattle.m88_parse.proofs.Law.Names.{some_same, register_is, register_name_again, control_name_is, control_name_again, symbol_is, symbol_name_again, name_is, name_spelled_again}
 
 -- where a reading stands
@@ -41,35 +41,14 @@ pub record One (A : Type 0) (Is : A → Piece → Type 0) (line e : ℕ) (ps : L
 
 -- a mark
 
-pub record OneMark (m line e : ℕ) (ps : List Piece) (t : ReaderState) : Type 0 where
-  pub piece : Piece
-  pub rest : List Piece
-  pub tokens : ps ≡ piece ∷ rest
-  pub is : IsMark m piece
-  pub after : t ≡ st line e rest
-
 pub mark_says : (m : ℕ) (o : TokenValue) → is_mark_of m (Some o) ≡ true → o ≡ a_mark m
 mark_says m (a_name text) h = absurd cc
 mark_says m (a_number n) h = absurd cc
 mark_says m (a_text bytes) h = absurd cc
 mark_says m (a_mark b) h = ap a_mark (eqb-true b m h)
 
-pub next_is : (m line e : ℕ) (ps : List Piece) → is_next_mark m (st line e ps) ≡ true → OneMark m line e ps (past (st line e ps))
-next_is m line e [] h = absurd cc
-next_is m line e (p ∷ ps) h = record { piece = p; rest = ps; tokens = refl; is = mark_says m p.says h; after = refl }
-
 pub next_again : (m line e : ℕ) (p : Piece) (ps : List Piece) → IsMark m p → is_next_mark m (st line e (p ∷ ps)) ≡ true
 next_again m line e p ps h = ap (λ (o : TokenValue). is_mark_of m (Some o)) h ∙ eq-eqb m m refl
-
-pub mark_read : (m line e : ℕ) (ps : List Piece) (t : ReaderState) → mark_at m (st line e ps) ≡ Ok t → OneMark m line e ps t
-mark_read m line e ps t h =
-    elim (chosen (is_next_mark m (st line e ps)) _ _ _ h) [
-      | inl j ↦ subst (OneMark m line e ps) (ok_same j.1) (next_is m line e ps j.0)
-      | inr j ↦ absurd cc
-    ]
-
-pub mark_again : (m line e : ℕ) (p : Piece) (ps : List Piece) → IsMark m p → mark_at m (st line e (p ∷ ps)) ≡ Ok (st line e ps)
-mark_again m line e p ps h = take_then (is_next_mark m (st line e (p ∷ ps))) _ _ (next_again m line e p ps h)
 
 -- the end of the line
 

@@ -1,13 +1,12 @@
 -- Operands of one token and the end of a line: each token either leads on or is a fault whatever follows it.
-use Rattle.std.proofs.Common.{◌≡◌, ℕ, Bool, true, false, ◌==◌, ◌⊎◌, inl, inr, List, [], ◌∷◌, Option, Some, None, Result, Ok, Err, refl, sym, ap, ◌∙◌}
+use Rattle.std.proofs.Common.{◌≡◌, ℕ, Bool, true, false, ◌⊎◌, inl, inr, List, [], ◌∷◌, Option, Some, None, Result, Ok, Err, refl, sym, ap, ◌∙◌}
 use Rattle.m88_parse.specs.declared.fault.ParseFault.{ParseFault}
 use Rattle.m88_parse.specs.Language.Pieces.{TokenValue, a_name, a_number, a_text, a_mark, Piece}
-use Rattle.m88_parse.specs.Language.Names.{IsNamed}
 use Rattle.m88_parse.specs.Reader.State.{ReaderState, ◌>>=◌}
-use Rattle.m88_parse.specs.Reader.Slots.{Read, mark_at, line_end_at}
-use Rattle.m88_parse.proofs.Law.Slots.{st, Naming, no_name, own_names, symbols, kind_for, gives, GivesNumbers, GivesNames, OneToken, mark_slot, one_mark, plain_kind}
+use Rattle.m88_parse.specs.Reader.Slots.{Read, line_end_at}
+use Rattle.m88_parse.proofs.Law.Slots.{st, Naming, no_name, own_names, symbols, kind_for, gives, GivesNumbers, GivesNames, OneToken, plain_kind}
 use Rattle.m88_parse.proofs.Law.LineFaults.Readers.{fault_in, here, Reader, Goes, Refuses, Good, WantsNumbers, WantsNames}
-use Rattle.m88_parse.proofs.Law.LineFaults.Nodes.{Leads, Faults, Node, leads, node_as, each_as}
+use Rattle.m88_parse.proofs.Law.LineFaults.Nodes.{Leads, Faults, Node, leads}
 
 -- a slot and what is read behind it
 abbrev pub reader_of : {A B : Type 0} → ℕ → ℕ → (ReaderState → Read A) → (A → ReaderState → Result B ParseFault) → Reader
@@ -68,18 +67,6 @@ one_token few A B num nam line e slot o k g = record { wants = record { numbers 
     begun : Goes (reader_of line e slot k)
     begun = let s = o.some in let y = goes_on s.0 s.1 s.2 in (s.0 ∷ y.0, y.1)
 
--- marks
-
-pub mark_node : (few : ℕ) (B : Type 0) (m line e : ℕ) (k : ReaderState → Result B ParseFault) → (40 == m) ≡ false → (45 == m) ≡ false
-    → Good few line e (λ ps. fault_in (k (st line e ps))) → Node few false no_name line e (λ ps. fault_in (mark_at m (st line e ps) >>= k))
-mark_node few B m line e k h i g =
-    node_as few false no_name line e (λ ps. fault_in (mark_at m (st line e ps) >>= k)) (reader_of line e (mark_slot m) (λ u t. k t)) (λ ps. same (mark_at m (st line e ps)))
-    (one_token few (Unit {0}) B false no_name line e (mark_slot m) (one_mark m line e h i) (λ u t. k t) (λ u. g))
-  where
-    same : (r : Result ReaderState ParseFault) → fault_in (r >>= k) ≡ fault_in ((r >>= λ (t : ReaderState). let y : Read (Unit {0}) = Ok (tt, t) in y) >>= λ (x : Unit {0} × ReaderState). k x.1)
-    same (Ok t) = refl
-    same (Err f) = refl
-
 -- the end of a statement
 
 pub ends_node : (few : ℕ) (B : Type 0) (line e : ℕ) (b : B) → Node few false no_name line e (λ ps. fault_in (line_end_at (st line e ps) >>= λ (t : ReaderState). let y : Result B ParseFault = Ok b in y))
@@ -96,40 +83,13 @@ pub data NoName : TokenValue → Type 0 where
   text_is : {bytes : List ℕ} → NoName (a_text bytes)
   mark_is : {b : ℕ} → NoName (a_mark b)
 
--- where names are read in one way, and all else in another
+pub no_named : (m : TokenValue) (text : List ℕ) → NoName m → m ≡ a_name text → ⊥
+no_named m text number_is h = cc
+no_named m text text_is h = cc
+no_named m text mark_is h = cc
 
-same_kind : (nam : Naming) (m : TokenValue) → NoName m → kind_for true no_name m ≡ kind_for true nam m
-same_kind nam m number_is = refl
-same_kind nam m text_is = refl
-same_kind nam m mark_is = refl
-
-pub or_name : (few : ℕ) (nam : Naming) (line e : ℕ) (all names others : Reader) → ((p : Piece) (ps : List Piece) (text : List ℕ) → IsNamed text p → all (p ∷ ps) ≡ names (p ∷ ps))
-    → ((p : Piece) (ps : List Piece) (m : TokenValue) → p.says ≡ m → NoName m → all (p ∷ ps) ≡ others (p ∷ ps)) → all [] ≡ others [] → WantsNames nam names
-    → ((p : Piece) → kind_for false nam p.says ≡ kind_for true nam p.says → Leads few true line e names p ⊎ Faults true nam line names p) → Node few true no_name line e others → Node few true nam line e all
-or_name few nam line e all names others named plain at_end wanted each n = record {
-  wants = record {
-    numbers = let w = n.wants.numbers in (w.0, w.1, w.2, (w.3.0, plain w.0 w.3.0 (a_number w.1) w.2 number_is ∙ w.3.1));
-    names = all_names nam wanted;
-    opening = λ o h ps x. n.wants.opening o h ps (sym (plain o ps (a_mark 40) h mark_is) ∙ x);
-  };
-  goes = let w = n.wants.numbers in (w.0 ∷ w.3.0, plain w.0 w.3.0 (a_number w.1) w.2 number_is ∙ w.3.1);
-  stop = elim (n.stop) [ inl s ↦ inl (at_end ∙ s) | inr s ↦ inr (at_end ∙ s) ];
-  each = λ p. by_says p p.says refl;
-}
-  where
-    all_names : (b : Naming) → WantsNames b names → WantsNames b all
-    all_names no_name h = λ p text i ps x. h p text i ps (sym (named p ps text i) ∙ x)
-    all_names own_names h =
-        let a = h.0 in
-        let b = h.1 in
-        ((a.0, a.1, a.2, (a.3.0, named a.0 a.3.0 a.1 a.2 ∙ a.3.1)), (b.0, b.1, b.2, λ ps x. b.3 ps (sym (named b.0 ps b.1 b.2.0) ∙ x)))
-    all_names symbols h = λ p text i. let y = h p text i in (y.0, named p y.0 text i.0 ∙ y.1)
-
-    plain_by : (p : Piece) (m : TokenValue) → p.says ≡ m → NoName m → Leads few true line e all p ⊎ Faults true nam line all p
-    plain_by p m h z = each_as few true nam no_name line e all others p (λ ps. plain p ps m h z) (ap (kind_for true no_name) h ∙ same_kind nam m z ∙ sym (ap (kind_for true nam) h)) (n.each p)
-
-    by_says : (p : Piece) (m : TokenValue) → p.says ≡ m → Leads few true line e all p ⊎ Faults true nam line all p
-    by_says p (a_name text) h = each_as few true nam nam line e all names p (λ ps. named p ps text h) refl (each p (ap (kind_for false nam) h ∙ sym (ap (kind_for true nam) h)))
-    by_says p (a_number v) h = plain_by p (a_number v) h number_is
-    by_says p (a_text bytes) h = plain_by p (a_text bytes) h text_is
-    by_says p (a_mark b) h = plain_by p (a_mark b) h mark_is
+-- whichever names are wanted, their fault is of one kind
+pub same_kind : (num : Bool) (mine other : Naming) (m : TokenValue) → NoName m → kind_for num other m ≡ kind_for num mine m
+same_kind num mine other m number_is = refl
+same_kind num mine other m text_is = refl
+same_kind num mine other m mark_is = refl
