@@ -2,7 +2,6 @@
 pub mod Readers
 pub mod Nodes
 pub mod One
-pub mod Slots
 pub mod Signs
 pub mod Halves
 pub mod Heard

@@ -28,11 +28,10 @@ use Rattle.m88_parse.specs.Language.Names.{IsMark, IsNumber, IsNamed, IsRegister
 use Rattle.m88_parse.specs.Language.Operands.{IsValue, IsHalfOf, IsImmediate, short, half, IsLast}
 use Rattle.m88_parse.proofs.Law.Steps.{chosen, tested, take_then, take_else}
 use Rattle.m88_parse.proofs.Law.Names.{some_same, register_is, register_name_again}
-use Rattle.m88_parse.proofs.Law.Slots.{st, symbols, mark_says, register_found, own_names, kind_for, IsUpTo, one_number, saying, any, any_is_symbol, gives, OneToken, nothing, by_token, token_gives, token_is, only_if, within, within_is, within_again}
+use Rattle.m88_parse.proofs.Law.Slots.{st, symbols, mark_says, register_found, own_names, kind_for, IsUpTo, one_number, saying, any, any_is_symbol, gives, OneToken, nothing, by_token, token_gives, token_is, only_if, within, within_is, within_again, mapped, turns, NoName, number_is, text_is, mark_is, no_named}
 use Rattle.m88_parse.proofs.Law.Values.{value_start}
-use Rattle.m88_parse.proofs.Law.Walks.{Reading, Relation, Then, Several, AfterMark, Last, Ends, Walk, Start, Turn, begun, faults_of, law_as, end_start, mark_start, start_as, ended, one_end, mark_unsigned, mark_first, after_marked, Nameless, refused, turn, turn_leads, turn_stops, turn_as, turns_start, names_start}
+use Rattle.m88_parse.proofs.Law.Walks.{Reading, Relation, Then, Several, AfterMark, Last, Ends, Walk, Start, Turn, begun, fault_at, faults_of, law_as, end_start, mark_start, start_as, ended, one_end, mark_unsigned, mark_first, after_marked, Nameless, refused, turn, turn_leads, turn_stops, turn_as, turns_start, names_start}
 use Rattle.m88_parse.proofs.Law.LineFaults.Readers.{Goes, same_fault}
-use Rattle.m88_parse.proofs.Law.LineFaults.Slots.{mapped, turns, NoName, number_is, text_is, mark_is, no_named}
 use Rattle.m88_parse.proofs.Law.LineFaults.Halves.{half_leads}
 
 -- hi16 and lo16
@@ -151,7 +150,7 @@ no_half_on text true n = n
 no_half_on text false n = refl
 
 unknown : (line e : ℕ) (made : Immediate → Body) (p : Piece) (text : List ℕ) → IsNamed text p → half_named text ≡ None → (ps : List Piece)
-    → ended immediate_at made (st line e (p ∷ ps)) ≡ Err (record { line = line; col = p.col; kind = NoSuchName })
+    → ended immediate_at made (st line e (p ∷ ps)) ≡ fault_at line p NoSuchName
 unknown line e made p text h n ps = shorter line e made p ps (a_name text) h (no_half_on text (is_mark_of 40 (says_first ps)) n)
 
 number_step : (made : Immediate → Body) (s : ReaderState) (f : ParseFault) (n : ℕ) (t : Bool)
@@ -176,7 +175,7 @@ half_turn few line e made p text kind h n = record {
     go : Walk few line e (half_inside kind made) (Inside kind made)
     go = begun (inside_start few line e kind made)
 
-    alone : (ps : List Piece) → is_mark_of 40 (says_first ps) ≡ false → ended immediate_at made (st line e (p ∷ ps)) ≡ Err (record { line = line; col = p.col; kind = NoSuchName })
+    alone : (ps : List Piece) → is_mark_of 40 (says_first ps) ≡ false → ended immediate_at made (st line e (p ∷ ps)) ≡ fault_at line p NoSuchName
     alone ps t = shorter line e made p ps (a_name text) h (take_else (is_mark_of 40 (says_first ps)) _ _ t)
 
     met : (ps : List Piece) (b : Body) → ImmediateEnd made (p ∷ ps) b → (k : Kind) × (half_named text ≡ Some k) × AfterMark 40 (λ qs. Inside k made qs b) ps
@@ -211,11 +210,8 @@ immediate_start few line e made =
     by_name : (p : Piece) (text : List ℕ) → IsNamed text p → (o : Option Kind) → half_named text ≡ o → Turn few true own_names line e (ended immediate_at made) (ImmediateEnd made) p
     by_name p text h (Some kind) n = half_turn few line e made p text kind h n
     by_name p text h None n =
-        turn_stops (ended immediate_at made) (ImmediateEnd made) p (λ ps. unknown line e made p text h n ps ∙ ap kind_here (sym h))
+        turn_stops (ended immediate_at made) (ImmediateEnd made) p (λ ps. unknown line e made p text h n ps ∙ ap (λ (m : TokenValue). fault_at line p (kind_for true own_names m)) (sym h))
         (λ ps b w. let m = half_met made p ps b text w.0.imm w.0.fixup h w.1 w.2 in let y : ◌≡◌ {A = Option Kind} (Some m.0) None = sym m.1 ∙ n in cc)
-      where
-        kind_here : TokenValue → Result Body ParseFault
-        kind_here m = Err (record { line = line; col = p.col; kind = kind_for true own_names m })
 
     number_on : (p : Piece) (ps : List Piece) → TokenValue → Result Body ParseFault
     number_on p ps m = unsigned_on 65535 (st line e (p ∷ ps)) (Some m) >>= λ (x : ℕ × ReaderState). end_with (made (short_immediate x.0)) x.1

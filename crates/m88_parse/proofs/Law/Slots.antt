@@ -31,6 +31,16 @@ bind_ok (Err e) f y h = absurd cc
 pub bind_to : {A B : Type 0} (r : Result A ParseFault) (f : A → Result B ParseFault) (x : A) (z : Result B ParseFault) → r ≡ Ok x → f x ≡ z → (r >>= f) ≡ z
 bind_to r f x z h k = ap (λ (y : Result _ ParseFault). y >>= f) h ∙ k
 
+-- readings in turn, the last of which is read on from
+pub turns : {A B C : Type 0} (r : Result A ParseFault) (f : A → Result B ParseFault) (g : B → Result C ParseFault) (h : A → Result C ParseFault) → ((x : A) → (f x >>= g) ≡ h x) → ((r >>= f) >>= g) ≡ (r >>= h)
+turns (Ok x) f g h same = same x
+turns (Err y) f g h same = refl
+
+-- what is read by a slot and then changed
+pub mapped : (A B C : Type 0) (r : Read A) (f : A → C) (k : C → ReaderState → Result B ParseFault) → ((r >>= λ (x : A × ReaderState). let y : Read C = Ok (f x.0, x.1) in y) >>= λ (y : C × ReaderState). k y.0 y.1) ≡ (r >>= λ (x : A × ReaderState). k (f x.0) x.1)
+mapped A B C (Ok x) f k = refl
+mapped A B C (Err g) f k = refl
+
 -- one token, what it gives, and what is left
 pub record One (A : Type 0) (Is : A → Piece → Type 0) (line e : ℕ) (ps : List Piece) (x : A × ReaderState) : Type 0 where
   pub piece : Piece
@@ -83,6 +93,23 @@ plain_kind (a_name name) = refl
 plain_kind (a_number n) = refl
 plain_kind (a_text bytes) = refl
 plain_kind (a_mark m) = refl
+
+-- tokens that are no names
+pub data NoName : TokenValue → Type 0 where
+  number_is : {n : ℕ} → NoName (a_number n)
+  text_is : {bytes : List ℕ} → NoName (a_text bytes)
+  mark_is : {b : ℕ} → NoName (a_mark b)
+
+pub no_named : (m : TokenValue) (text : List ℕ) → NoName m → m ≡ a_name text → ⊥
+no_named m text number_is h = cc
+no_named m text text_is h = cc
+no_named m text mark_is h = cc
+
+-- whichever names are wanted, their fault is of one kind
+pub same_kind : (num : Bool) (mine other : Naming) (m : TokenValue) → NoName m → kind_for num other m ≡ kind_for num mine m
+same_kind num mine other m number_is = refl
+same_kind num mine other m text_is = refl
+same_kind num mine other m mark_is = refl
 
 -- a token that says this
 abbrev pub saying : TokenValue → Piece

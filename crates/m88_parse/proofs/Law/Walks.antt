@@ -1,6 +1,7 @@
 -- Readings walked once: what is read is what is related, the other way round, and each fault is the one of the language. The
 -- slots of one token, marks and the end of a line, and ways to put them together, whatever stands behind them.
 use Rattle.std.proofs.Common.{◌≡◌, ◌↔◌, ℕ, suc, ◌<◌, Bool, true, false, ◌==◌, ◌⊎◌, inl, inr, List, [], ◌∷◌, ◌++◌, length, Option, Some, None, Ok, Err, Result, refl, sym, ap, ◌∙◌, arith, subst, append-nil, eq-eqb, true≢false, if◌then◌else◌}
+use Rattle.m88_parse.specs.declared.fault.ParseKind.{ParseKind}
 use Rattle.m88_parse.specs.declared.fault.ParseFault.{ParseFault}
 use Rattle.m88_parse.specs.declared.unit.Body.{Body}
 use Rattle.m88_parse.specs.Language.Pieces.{TokenValue, a_name, a_number, a_text, a_mark, Piece}
@@ -9,10 +10,10 @@ use Rattle.m88_parse.specs.Reader.State.{ReaderState, past, says_first, is_mark_
 use Rattle.m88_parse.specs.Reader.Slots.{Read, mark_at, line_end_at}
 use Rattle.m88_parse.specs.Reader.Grammar.{end_with}
 use Rattle.m88_parse.proofs.Law.Steps.{tested, take_then, take_else}
-use Rattle.m88_parse.proofs.Law.Slots.{st, no_name, kind_for, ok_same, bind_ok, bind_to, mark_says, next_again, end_read, Naming, OneToken, one_mark, slot_read, slot_again, saying}
-use Rattle.m88_parse.proofs.Law.LineFaults.Readers.{fault_in, Reader, Goes, Good, WantsNames, same_fault}
+use Rattle.m88_parse.proofs.Law.Names.{some_same}
+use Rattle.m88_parse.proofs.Law.Slots.{st, Naming, no_name, own_names, symbols, kind_for, plain_kind, ok_same, mark_says, next_again, gives, GivesNumbers, GivesNames, OneToken, one_mark, saying, NoName, number_is, text_is, mark_is, no_named, same_kind}
+use Rattle.m88_parse.proofs.Law.LineFaults.Readers.{fault_in, same_fault, Reader, here, Goes, Refuses, Good, WantsNumbers, WantsNames}
 use Rattle.m88_parse.proofs.Law.LineFaults.Nodes.{Leads, Faults, Node, refuses_as, numbers_as, names_as, each_as, node_as, leads, good, good_node}
-use Rattle.m88_parse.proofs.Law.LineFaults.Slots.{reader_of, one_token, token_each, ends_node, NoName, number_is, text_is, mark_is, no_named, same_kind}
 
 -- what reads tokens, and what tells of them
 abbrev pub Reading : Type 0 → Type 0
@@ -54,6 +55,13 @@ Last A Is made ps b = (x : A) × Is ps x × (made x ≡ b)
 abbrev pub Ends : {A : Type 0} → (A → Body) → A → Relation Body
 Ends made x ps b = (ps ≡ []) × (made x ≡ b)
 
+-- a slot, and by what it gives what stands behind it
+abbrev pub followed : {A B : Type 0} → (ReaderState → Read A) → (A → Reading B) → Reading B
+followed slot next s = slot s >>= λ x. next x.0 x.1
+
+abbrev pub Followed : {A B : Type 0} → (A → Piece → Type 0) → (A → Relation B) → Relation B
+Followed {A = A} Is Next ps b = Then A Is (λ x qs. Next x qs b) ps
+
 -- of fewer tokens than so many, what is read is what is related
 abbrev pub Law : {B : Type 0} → ℕ → ℕ → ℕ → Reading B → Relation B → Type 0
 Law {B = B} few line e reads Is = (ps : List Piece) (b : B) → length ps < few → (reads (st line e ps) ≡ Ok b) ↔ Is ps b
@@ -83,36 +91,6 @@ begun {few = few} {num = num} {nam = nam} {line = line} {e = e} {reads = reads} 
 pub lawful : {B : Type 0} {line e : ℕ} {reads : Reading B} {Is : Relation B} → ((few : ℕ) → Walk few line e reads Is) → (ps : List Piece) (b : B) → (reads (st line e ps) ≡ Ok b) ↔ Is ps b
 lawful go ps b = (go (suc (length ps))).law ps b (omega arith)
 
--- one slot
-
-pub end_law : (line e : ℕ) (b : Body) (ps : List Piece) (c : Body) → (end_with b (st line e ps) ≡ Ok c) ↔ ((ps ≡ []) × (b ≡ c))
-end_law line e b ps c = (reads, λ w. ap (λ (qs : List Piece). end_with b (st line e qs)) w.0 ∙ ap (λ (x : Body). let y : Result Body ParseFault = Ok x in y) w.1)
-  where
-    reads : end_with b (st line e ps) ≡ Ok c → (ps ≡ []) × (b ≡ c)
-    reads h =
-        let k = bind_ok (line_end_at (st line e ps)) (λ (t : ReaderState). let y : Result Body ParseFault = Ok b in y) c h in
-        (end_read line e ps k.0 k.1, ok_same k.2)
-
-pub end_start : (few line e : ℕ) (b : Body) → Start few false no_name line e (end_with b) (λ ps c. (ps ≡ []) × (b ≡ c))
-end_start few line e b = record { law = λ ps c l. end_law line e b ps c; node = ends_node few Body line e b }
-
-pub slot_start : {A B : Type 0} {Is : A → Piece → Type 0} {num : Bool} {nam : Naming} {few line e : ℕ} {slot : ReaderState → Read A} (o : OneToken A Is num nam line e slot) (next : A → Reading B)
-    (Next : A → Relation B) → ((x : A) → Walk few line e (next x) (Next x)) → Start few num nam line e (λ s. slot s >>= λ (x : A × ReaderState). next x.0 x.1) (λ ps b. Then A Is (λ x qs. Next x qs b) ps)
-slot_start {A = A} {B = B} {Is = Is} {num = num} {nam = nam} {few = few} {line = line} {e = e} {slot = slot} o next Next go =
-    record { law = λ ps b l. (reads ps b l, meets ps b l); node = one_token few A B num nam line e slot o next (λ x. (go x).faults) }
-  where
-    reads : (ps : List Piece) (b : B) → length ps < suc few → (slot (st line e ps) >>= λ (x : A × ReaderState). next x.0 x.1) ≡ Ok b → Then A Is (λ x qs. Next x qs b) ps
-    reads ps b l h =
-        let k = bind_ok (slot (st line e ps)) (λ (x : A × ReaderState). next x.0 x.1) b h in
-        let r = slot_read o ps k.0 k.1 in
-        record { value = k.0.0; piece = r.piece; rest = r.rest; tokens = r.tokens; is = r.is; next = ((go k.0.0).law r.rest b (omega (arith, l, ap length r.tokens))).0 (ap (next k.0.0) (sym r.after) ∙ k.2) }
-
-    meets : (ps : List Piece) (b : B) → length ps < suc few → Then A Is (λ x qs. Next x qs b) ps → (slot (st line e ps) >>= λ (x : A × ReaderState). next x.0 x.1) ≡ Ok b
-    meets ps b l w =
-        ap (λ (qs : List Piece). slot (st line e qs) >>= λ (x : A × ReaderState). next x.0 x.1) w.tokens
-        ∙ bind_to (slot (st line e (w.piece ∷ w.rest))) (λ (x : A × ReaderState). next x.0 x.1) (w.value, st line e w.rest) (Ok b) (slot_again o w.value w.piece w.rest w.is)
-        (((go w.value).law w.rest b (omega (arith, l, ap length w.tokens))).1 w.next)
-
 -- what is read alike and related alike
 
 pub law_as : {B : Type 0} {q r : Result B ParseFault} {b : B} {Is As : Type 0} → q ≡ r → Is ↔ As → (r ≡ Ok b) ↔ Is → (q ≡ Ok b) ↔ As
@@ -127,50 +105,9 @@ start_as {B = B} {few = few} {num = num} {nam = nam} {line = line} {e = e} {othe
   node = node_as few num nam line e (faults_of line e reads) (faults_of line e other) (λ ps. same_fault (same ps)) go.node;
 }
 
--- a mark
-
-pub mark_start : {B : Type 0} {few line e : ℕ} {next : Reading B} {Next : Relation B} (m : ℕ)
-    → (40 == m) ≡ false → (45 == m) ≡ false → Walk few line e next Next
-    → Start few false no_name line e (λ s. mark_at m s >>= next) (λ ps b. AfterMark m (λ qs. Next qs b) ps)
-mark_start {B = B} {line = line} {e = e} {next = next} {Next = Next} m h i go =
-    start_as (λ s. mark_at m s >>= next) (λ ps b. AfterMark m (λ qs. Next qs b) ps) (λ ps. same (mark_at m (st line e ps)))
-    (λ ps b. (λ w. (w.piece, w.rest, w.tokens, w.is, w.next), λ w. record { value = tt; piece = w.0; rest = w.1; tokens = w.2; is = w.3; next = w.4 }))
-    (slot_start (one_mark m line e h i) (λ u. next) (λ u. Next) (λ u. go))
-  where
-    same : (r : Result ReaderState ParseFault) → (r >>= next) ≡ ((r >>= λ (t : ReaderState). let y : Read (Unit {0}) = Ok (tt, t) in y) >>= λ (x : Unit {0} × ReaderState). next x.1)
-    same (Ok t) = refl
-    same (Err f) = refl
-
--- what is read by a slot and the end behind it
-abbrev pub ended : {A : Type 0} → (ReaderState → Read A) → (A → Body) → Reading Body
-ended slot made s = slot s >>= λ x. end_with (made x.0) x.1
-
--- several tokens that stand last
-pub last_start : {A : Type 0} {few : ℕ} {num : Bool} {nam : Naming} {line e : ℕ} (Is : List Piece → A → Type 0) (slot : ReaderState → Read A) (made : A → Body)
-    → Start few num nam line e (ended slot made) (λ ps b. Several A Is (λ x qs. Ends made x qs b) ps) → Start few num nam line e (ended slot made) (Last A Is made)
-last_start {A = A} Is slot made go = start_as (ended slot made) (Last A Is made) (λ ps. refl) (λ ps b. (to ps b, λ w. record { value = w.0; front = ps; rest = []; tokens = sym (append-nil ps); is = w.1; next = (refl, w.2) })) go
-  where
-    to : (ps : List Piece) (b : Body) → Several A Is (λ x qs. Ends made x qs b) ps → Last A Is made ps b
-    to ps b w = (w.value, subst (λ (qs : List Piece). Is qs w.value) (sym (w.tokens ∙ ap (λ (qs : List Piece). w.front ++ qs) w.next.0 ∙ append-nil w.front)) w.is, w.next.1)
-
--- a slot of one token and the end
-
-pub one_end : {A : Type 0} {Is : A → Piece → Type 0} {num : Bool} {nam : Naming} {few line e : ℕ} {slot : ReaderState → Read A} → OneToken A Is num nam line e slot → (made : A → Body)
-    → Start few num nam line e (ended slot made) (λ ps b. Then A Is (λ x qs. Ends made x qs b) ps)
-one_end {few = few} {line = line} {e = e} o made = slot_start o (λ x. end_with (made x)) (Ends made) (λ x. begun (end_start few line e (made x)))
-
--- a slot that a token closes, and the end
-
-abbrev pub closed_end : {A : Type 0} → (ReaderState → Read A) → ℕ → (A → Body) → Reading Body
-closed_end slot m made s = slot s >>= λ x. mark_at m x.1 >>= end_with (made x.0)
-
-abbrev pub ClosedEnd : (A : Type 0) → (A → Piece → Type 0) → ℕ → (A → Body) → Relation Body
-ClosedEnd A Is m made ps b = Then A Is (λ x qs. AfterMark m (λ us. Ends made x us b) qs) ps
-
-pub closed_start : {A : Type 0} {Is : A → Piece → Type 0} {num : Bool} {nam : Naming} {few line e : ℕ} {slot : ReaderState → Read A} (o : OneToken A Is num nam line e slot) (m : ℕ) (made : A → Body) → (40 == m) ≡ false → (45 == m) ≡ false
-    → Start few num nam line e (closed_end slot m made) (ClosedEnd A Is m made)
-closed_start {few = few} {line = line} {e = e} o m made h i =
-    slot_start o (λ x s. mark_at m s >>= end_with (made x)) (λ x qs b. AfterMark m (λ us. Ends made x us b) qs) (λ x. begun (mark_start m h i (begun (end_start few line e (made x)))))
+-- the fault of a token
+abbrev pub fault_at : {B : Type 0} → ℕ → Piece → ParseKind → Result B ParseFault
+fault_at line p kind = Err (record { line = line; col = p.col; kind = kind })
 
 -- one first token: behind it what is read is what is related, and it leads on or is a fault whatever follows
 pub record Turn {B : Type 0} (few : ℕ) (num : Bool) (nam : Naming) (line e : ℕ) (reads : Reading B) (Is : Relation B) (p : Piece) : Type 0 where
@@ -195,7 +132,7 @@ refused {f = f} h x = let y : ◌≡◌ {A = Option ParseFault} (Some f) None = 
 
 -- the token can't stand there
 pub turn_stops : {B : Type 0} {few : ℕ} {num : Bool} {nam : Naming} {line e : ℕ} (all : Reading B) (All : Relation B) (p : Piece)
-    → ((ps : List Piece) → all (st line e (p ∷ ps)) ≡ Err (record { line = line; col = p.col; kind = kind_for num nam p.says }))
+    → ((ps : List Piece) → all (st line e (p ∷ ps)) ≡ fault_at line p (kind_for num nam p.says))
     → ((ps : List Piece) (b : B) → All (p ∷ ps) b → ⊥) → Turn few num nam line e all All p
 turn_stops {B = B} all All p same none = record {
   law = λ ps b l. (λ h. let y = sym (same ps) ∙ h in absurd cc, λ w. absurd (none ps b w));
@@ -237,6 +174,142 @@ turns_start {B = B} {few = few} {num = num} {line = line} {e = e} {other = other
     law : Law (suc few) line e all All
     law [] b l = law_as at_end (alike b) (rest.law [] b l)
     law (p ∷ ps) b l = (turn_of p).law ps b (omega (arith, l))
+
+-- one slot
+
+-- the end of a line, and what it makes
+abbrev pub end_as : {B : Type 0} → B → Reading B
+end_as {B = B} b s = line_end_at s >>= λ (t : ReaderState). let y : Result B ParseFault = Ok b in y
+
+pub end_start : {B : Type 0} (few line e : ℕ) (b : B) → Start few false no_name line e (end_as b) (λ ps c. (ps ≡ []) × (b ≡ c))
+end_start {B = B} few line e b = record {
+  law = λ ps c l. law ps c;
+  node = record {
+    wants = record { numbers = λ p n i ps h. absurd cc; names = λ p name i ps h. absurd cc; opening = λ o i ps h. absurd cc };
+    goes = ([], refl);
+    stop = inl refl;
+    each = λ p. inr (λ ps. ap (here line p.col) (plain_kind p.says));
+  };
+}
+  where
+    law : (ps : List Piece) (c : B) → (end_as b (st line e ps) ≡ Ok c) ↔ ((ps ≡ []) × (b ≡ c))
+    law [] c = (λ h. (refl, ok_same h), λ w. ap (λ (x : B). let y : Result B ParseFault = Ok x in y) w.1)
+    law (p ∷ ps) c = (λ h. absurd cc, λ w. let t = w.0 in absurd cc)
+
+-- what a token gives in a slot, and what is read behind it, where more or fewer numbers may stand there
+pub slot_turn : {A B : Type 0} {Is : A → Piece → Type 0} {num : Bool} {nam : Naming} {few line e : ℕ} {slot : ReaderState → Read A}
+    (o : OneToken A Is num nam line e slot) (next : A → Reading B) (Next : A → Relation B) → ((x : A) → Walk few line e (next x) (Next x))
+    → (more : Bool) (p : Piece) → kind_for num nam p.says ≡ kind_for more nam p.says
+    → Turn few more nam line e (followed slot next) (Followed Is Next) p
+slot_turn {A = A} {B = B} {Is = Is} {num = num} {nam = nam} {few = few} {line = line} {e = e} {slot = slot} o next Next go more p kinds =
+    by_given (o.given p) refl
+  where
+    said : (ps : List Piece) (y : Option A) → o.given p ≡ y
+        → followed slot next (st line e (p ∷ ps)) ≡ (gives line e p ps (kind_for num nam p.says) y >>= λ (x : A × ReaderState). next x.0 x.1)
+    said ps y h = ap (λ (r : Read A). r >>= λ (x : A × ReaderState). next x.0 x.1) (o.each p ps ∙ ap (gives line e p ps (kind_for num nam p.says)) h)
+
+    given_again : (ps : List Piece) (b : B) (w : Followed Is Next (p ∷ ps) b) → (o.given p ≡ Some w.value) × Next w.value ps b
+    given_again ps b w =
+        let t = w.tokens in
+        let first : w.piece ≡ p = cc in
+        let behind : w.rest ≡ ps = cc in
+        (o.again p w.value (subst (Is w.value) first w.is), subst (λ (qs : List Piece). Next w.value qs b) behind w.next)
+
+    by_given : (y : Option A) → o.given p ≡ y → Turn few more nam line e (followed slot next) (Followed Is Next) p
+    by_given (Some x) h =
+        turn_leads (followed slot next) (Followed Is Next) p (λ ps. said ps (Some x) h)
+        (λ ps b. (
+          λ w. record { value = x; piece = p; rest = ps; tokens = refl; is = o.is p x h; next = w },
+          λ w. let g = given_again ps b w in subst (λ (v : A). Next v ps b) (some_same (sym g.0 ∙ h)) g.1,
+        ))
+        (inl (λ m. let y : ◌≡◌ {A = Option A} (Some x) None = sym h ∙ o.marks p 45 (inr refl) m in cc)) (go x)
+    by_given None h =
+        turn_stops (followed slot next) (Followed Is Next) p (λ ps. said ps None h ∙ ap (fault_at line p) kinds)
+        (λ ps b w. let y : ◌≡◌ {A = Option A} (Some w.value) None = sym (given_again ps b w).0 ∙ h in cc)
+
+pub slot_start : {A B : Type 0} {Is : A → Piece → Type 0} {num : Bool} {nam : Naming} {few line e : ℕ} {slot : ReaderState → Read A}
+    (o : OneToken A Is num nam line e slot) (next : A → Reading B) (Next : A → Relation B) → ((x : A) → Walk few line e (next x) (Next x))
+    → Start few num nam line e (followed slot next) (Followed Is Next)
+slot_start {A = A} {B = B} {Is = Is} {num = num} {nam = nam} {few = few} {line = line} {e = e} {slot = slot} o next Next go = record {
+  law = law;
+  node = record {
+    wants = record { numbers = numbers num o.numbers; names = names nam o.names; opening = λ p h. refuses p (o.marks p 40 (inl refl) h) };
+    goes = let s = o.some in let y = goes_on s.0 s.1 s.2 in (s.0 ∷ y.0, y.1);
+    stop = inr (same_fault (bound o.empty));
+    each = λ p. (slot_turn o next Next go num p refl).each;
+  };
+}
+  where
+    bound : {q r : Read A} → q ≡ r → (q >>= λ (x : A × ReaderState). next x.0 x.1) ≡ (r >>= λ (x : A × ReaderState). next x.0 x.1)
+    bound h = ap (λ (r : Read A). r >>= λ (x : A × ReaderState). next x.0 x.1) h
+
+    law : Law (suc few) line e (followed slot next) (Followed Is Next)
+    law [] b l = (λ h. let y = sym (bound o.empty) ∙ h in absurd cc, λ w. let t = w.tokens in absurd cc)
+    law (p ∷ ps) b l = (slot_turn o next Next go num p refl).law ps b (omega (arith, l))
+
+    said : (p : Piece) (y : Option A) → o.given p ≡ y → (ps : List Piece)
+        → faults_of line e (followed slot next) (p ∷ ps) ≡ fault_in (gives line e p ps (kind_for num nam p.says) y >>= λ (x : A × ReaderState). next x.0 x.1)
+    said p y h ps = same_fault (bound (o.each p ps ∙ ap (gives line e p ps (kind_for num nam p.says)) h))
+
+    goes_on : (p : Piece) (x : A) → o.given p ≡ Some x → Goes (λ ps. faults_of line e (followed slot next) (p ∷ ps))
+    goes_on p x h = let y = (go x).faults.0 in (y.0, said p (Some x) h y.0 ∙ y.1)
+
+    refuses : (p : Piece) → o.given p ≡ None → Refuses (faults_of line e (followed slot next)) p
+    refuses p h ps x = let y = sym (said p None h ps) ∙ x in cc
+
+    numbers : (b : Bool) → GivesNumbers b o.given → WantsNumbers b (faults_of line e (followed slot next))
+    numbers true h = (h.0, h.1, h.3, goes_on h.0 h.2 h.4)
+    numbers false h = λ p n i. refuses p (h p n i)
+
+    names : (b : Naming) → GivesNames b o.given → WantsNames b (faults_of line e (followed slot next))
+    names no_name h = λ p name i. refuses p (h p name i)
+    names own_names h = let a = h.0 in let b = h.1 in ((a.0, a.1, a.3, goes_on a.0 a.2 a.4), (b.0, b.1, b.2, refuses b.0 b.3))
+    names symbols h = λ p name i. let x = h p name i in goes_on p x.0 x.1
+
+-- a mark
+
+pub mark_start : {B : Type 0} {few line e : ℕ} {next : Reading B} {Next : Relation B} (m : ℕ)
+    → (40 == m) ≡ false → (45 == m) ≡ false → Walk few line e next Next
+    → Start few false no_name line e (λ s. mark_at m s >>= next) (λ ps b. AfterMark m (λ qs. Next qs b) ps)
+mark_start {B = B} {line = line} {e = e} {next = next} {Next = Next} m h i go =
+    start_as (λ s. mark_at m s >>= next) (λ ps b. AfterMark m (λ qs. Next qs b) ps) (λ ps. same (mark_at m (st line e ps)))
+    (λ ps b. (λ w. (w.piece, w.rest, w.tokens, w.is, w.next), λ w. record { value = tt; piece = w.0; rest = w.1; tokens = w.2; is = w.3; next = w.4 }))
+    (slot_start (one_mark m line e h i) (λ u. next) (λ u. Next) (λ u. go))
+  where
+    same : (r : Result ReaderState ParseFault) → (r >>= next) ≡ ((r >>= λ (t : ReaderState). let y : Read (Unit {0}) = Ok (tt, t) in y) >>= λ (x : Unit {0} × ReaderState). next x.1)
+    same (Ok t) = refl
+    same (Err f) = refl
+
+-- what is read by a slot and the end behind it
+abbrev pub ended : {A : Type 0} → (ReaderState → Read A) → (A → Body) → Reading Body
+ended slot made s = followed slot (λ x. end_with (made x)) s
+
+-- several tokens that stand last
+pub last_start : {A : Type 0} {few : ℕ} {num : Bool} {nam : Naming} {line e : ℕ} (Is : List Piece → A → Type 0) (slot : ReaderState → Read A) (made : A → Body)
+    → Start few num nam line e (ended slot made) (λ ps b. Several A Is (λ x qs. Ends made x qs b) ps) → Start few num nam line e (ended slot made) (Last A Is made)
+last_start {A = A} Is slot made go = start_as (ended slot made) (Last A Is made) (λ ps. refl) (λ ps b. (to ps b, λ w. record { value = w.0; front = ps; rest = []; tokens = sym (append-nil ps); is = w.1; next = (refl, w.2) })) go
+  where
+    to : (ps : List Piece) (b : Body) → Several A Is (λ x qs. Ends made x qs b) ps → Last A Is made ps b
+    to ps b w = (w.value, subst (λ (qs : List Piece). Is qs w.value) (sym (w.tokens ∙ ap (λ (qs : List Piece). w.front ++ qs) w.next.0 ∙ append-nil w.front)) w.is, w.next.1)
+
+-- a slot of one token and the end
+
+pub one_end : {A : Type 0} {Is : A → Piece → Type 0} {num : Bool} {nam : Naming} {few line e : ℕ} {slot : ReaderState → Read A} → OneToken A Is num nam line e slot → (made : A → Body)
+    → Start few num nam line e (ended slot made) (λ ps b. Then A Is (λ x qs. Ends made x qs b) ps)
+one_end {few = few} {line = line} {e = e} o made = slot_start o (λ x. end_with (made x)) (Ends made) (λ x. begun (end_start few line e (made x)))
+
+-- a slot that a token closes, and the end
+
+abbrev pub closed_end : {A : Type 0} → (ReaderState → Read A) → ℕ → (A → Body) → Reading Body
+closed_end slot m made s = slot s >>= λ x. mark_at m x.1 >>= end_with (made x.0)
+
+abbrev pub ClosedEnd : (A : Type 0) → (A → Piece → Type 0) → ℕ → (A → Body) → Relation Body
+ClosedEnd A Is m made ps b = Then A Is (λ x qs. AfterMark m (λ us. Ends made x us b) qs) ps
+
+pub closed_start : {A : Type 0} {Is : A → Piece → Type 0} {num : Bool} {nam : Naming} {few line e : ℕ} {slot : ReaderState → Read A} (o : OneToken A Is num nam line e slot) (m : ℕ) (made : A → Body) → (40 == m) ≡ false → (45 == m) ≡ false
+    → Start few num nam line e (closed_end slot m made) (ClosedEnd A Is m made)
+closed_start {few = few} {line = line} {e = e} o m made h i =
+    slot_start o (λ x s. mark_at m s >>= end_with (made x)) (λ x qs b. AfterMark m (λ us. Ends made x us b) qs) (λ x. begun (mark_start m h i (begun (end_start few line e (made x)))))
 
 -- where a mark leads on in its own way, and anything else as before
 
@@ -333,11 +406,11 @@ abbrev sign_at : {A : Type 0} → (ReaderState → Read A) → (ReaderState → 
 sign_at plus minus none s = if is_next_mark 43 s then plus (past s) else (if is_next_mark 45 s then minus (past s) else Ok (none, s))
 
 pub sign_start : {A B : Type 0} {few line e : ℕ} {Plus Minus Neither : Relation B} (plus minus : ReaderState → Read A) (none : A) (next : A → Reading B)
-    → Walk few line e (λ s. plus s >>= λ (x : A × ReaderState). next x.0 x.1) Plus → Walk few line e (λ s. minus s >>= λ (x : A × ReaderState). next x.0 x.1) Minus
+    → Walk few line e (followed plus next) Plus → Walk few line e (followed minus next) Minus
     → Start few false no_name line e (next none) Neither → ((ps : List Piece) (b : B) → Neither ps b → IsUnsigned ps)
-    → Start few false no_name line e (λ s. sign_at plus minus none s >>= λ (x : A × ReaderState). next x.0 x.1) (AfterSign Plus Minus Neither)
+    → Start few false no_name line e (followed (sign_at plus minus none) next) (AfterSign Plus Minus Neither)
 sign_start {A = A} {B = B} {line = line} {e = e} {Minus = Minus} {Neither = Neither} plus minus none next go back stay unsigned =
-    or_start 43 (λ s. sign_at plus minus none s >>= λ (x : A × ReaderState). next x.0 x.1) refl (inr refl) (λ p ps t. bound (take_then (is_mark_of 43 (Some p.says)) _ _ t)) (λ p ps t. bound (take_else (is_mark_of 43 (Some p.says)) _ _ t)) refl go
+    or_start 43 (followed (sign_at plus minus none) next) refl (inr refl) (λ p ps t. bound (take_then (is_mark_of 43 (Some p.says)) _ _ t)) (λ p ps t. bound (take_else (is_mark_of 43 (Some p.says)) _ _ t)) refl go
     (or_start 45 unplussed refl (inr refl) (λ p ps t. bound (take_then (is_mark_of 45 (Some p.says)) _ _ t)) (λ p ps t. bound (take_else (is_mark_of 45 (Some p.says)) _ _ t)) refl back stay (λ p ps b w. (unsigned (p ∷ ps) b w).1)) no_plus
   where
     unplussed : Reading B
@@ -380,28 +453,17 @@ names_start {few = few} {num = num} {nam = nam} {more = more} {line = line} {e =
 pub named_start : {A B : Type 0} {Is : A → Piece → Type 0} {nam : Naming} {few line e : ℕ} {slot : ReaderState → Read A} {other : Reading B} {Other : Relation B}
     (o : OneToken A Is false nam line e slot) (all : Reading B) (next : A → Reading B) (Next : A → Relation B)
     → ((x : A) (p : Piece) → Is x p → (text : List ℕ) × IsNamed text p)
-    → ((p : Piece) (ps : List Piece) (text : List ℕ) → IsNamed text p → all (st line e (p ∷ ps)) ≡ (slot (st line e (p ∷ ps)) >>= λ (x : A × ReaderState). next x.0 x.1))
+    → ((p : Piece) (ps : List Piece) (text : List ℕ) → IsNamed text p → all (st line e (p ∷ ps)) ≡ followed slot next (st line e (p ∷ ps)))
     → ((p : Piece) (ps : List Piece) (m : TokenValue) → p.says ≡ m → NoName m → all (st line e (p ∷ ps)) ≡ other (st line e (p ∷ ps))) → all (st line e []) ≡ other (st line e [])
     → ((x : A) → Walk few line e (next x) (Next x)) → Start few true no_name line e other Other → ((p : Piece) (ps : List Piece) (b : B) → Other (p ∷ ps) b → NoName p.says)
-    → Start few true nam line e all (λ ps b. Then A Is (λ x qs. Next x qs b) ps ⊎ Other ps b)
+    → Start few true nam line e all (λ ps b. Followed Is Next ps b ⊎ Other ps b)
 named_start {A = A} {B = B} {Is = Is} {nam = nam} {few = few} {line = line} {e = e} {slot = slot} {other = other} {Other = Other} o all next Next text_of named plain at_end go rest unnamed_other =
     names_start all Either
-    (names_as nam (faults_of line e all) (reader_of line e slot next) (λ p text h ps. same_fault (named p ps text h)) names.node.wants.names)
+    (names_as nam (faults_of line e all) (faults_of line e (followed slot next)) (λ p text h ps. same_fault (named p ps text h)) (slot_start o next Next go).node.wants.names)
     (let w = rest.node.wants.numbers in (w.0 ∷ w.3.0, same_fault (plain w.0 w.3.0 (a_number w.1) w.2 number_is) ∙ w.3.1))
-    (λ p text h. turn_as all Either p (λ ps. named p ps text h) (λ ps b. (λ w. inl w, λ w. elim w [ inl v ↦ v | inr v ↦ absurd (no_named p.says text (unnamed_other p ps b v) h) ])) refl (by_name p text h))
+    (λ p text h. turn_as all Either p (λ ps. named p ps text h) (λ ps b. (λ w. inl w, λ w. elim w [ inl v ↦ v | inr v ↦ absurd (no_named p.says text (unnamed_other p ps b v) h) ])) refl
+    (slot_turn o next Next go true p (ap (kind_for false nam) h ∙ sym (ap (kind_for true nam) h))))
     plain at_end (λ ps b z. (λ w. inr w, λ w. elim w [ inl v ↦ absurd (let n = text_of v.value v.piece v.is in no_named v.piece.says n.0 (subst Nameless v.tokens z) n.1) | inr v ↦ v ])) rest
   where
-    Names : Relation B
-    Names ps b = Then A Is (λ x qs. Next x qs b) ps
-
     Either : Relation B
-    Either ps b = Names ps b ⊎ Other ps b
-
-    names : Start few false nam line e (λ s. slot s >>= λ (x : A × ReaderState). next x.0 x.1) Names
-    names = slot_start o next Next go
-
-    by_name : (p : Piece) (text : List ℕ) → IsNamed text p → Turn few true nam line e (λ s. slot s >>= λ (x : A × ReaderState). next x.0 x.1) Names p
-    by_name p text h = record {
-      law = (turn names p).law;
-      each = token_each few A B false true nam line e slot o next (λ x. (go x).faults) p (ap (kind_for false nam) h ∙ sym (ap (kind_for true nam) h));
-    }
+    Either ps b = Followed Is Next ps b ⊎ Other ps b
