@@ -49,14 +49,17 @@ distance_given : (most n : ℕ) → n ≤ most → distance_here most (4 * n) �
 distance_given most n l =
     let m : (4 * n) % 4 ≡ 0 = omega arith in
     let d : (4 * n) / 4 ≡ n = omega arith in
-    take_then (is_distance most (4 * n)) _ _ (ap₂ (λ (a b : ℕ). a == 0 && nat_le b most) m d ∙ le-leb n most l) ∙ ap (λ (k : ℕ). let y : Option ℕ = Some k in y) d
+    take_then (is_distance most (4 * n)) _ _ (ap₂ (λ (a b : ℕ). a == 0 && nat_le b most) m d ∙ le-leb n most l)
+    ∙ ap (λ (k : ℕ). let y : Option ℕ = Some k in y) d
 
 pub one_distance : (most line e : ℕ) → OneToken ℕ (IsFourfold most) true no_name line e (distance_at most)
 unfolding distance_at
 one_distance most line e = record {
   given = λ p. distance_by most p.says;
   empty = refl;
-  each = λ p ps. token_gives true no_name line e p ps (λ o. distance_on most (st line e (p ∷ ps)) (Some o)) (distance_by most) (λ name i. refl) (λ n. tested_gives (is_distance most n) (n / 4) OutOfRange line e p ps) (λ bytes. refl) (λ m. refl) p.says refl;
+  each =
+      λ p ps. token_gives true no_name line e p ps (λ o. distance_on most (st line e (p ∷ ps)) (Some o)) (distance_by most) (λ name i. refl)
+      (λ n. tested_gives (is_distance most n) (n / 4) OutOfRange line e p ps) (λ bytes. refl) (λ m. refl) p.says refl;
   is = λ p x. token_is (IsFourfold most) nothing (distance_here most) p x (λ name i k. absurd cc) (λ n. distance_found most p n x) p.says refl;
   again = λ p x h. ap (distance_by most) h.0 ∙ distance_given most x h.1;
   numbers = (saying (a_number 0), 0, 0, refl, distance_given most 0 (omega arith));
@@ -71,18 +74,24 @@ abbrev OneEnd : (ℕ → Piece → Type 0) → (ℕ → Body) → Relation Body
 OneEnd Is made ps b = Then ℕ Is (λ n qs. (qs ≡ []) × (made n ≡ b)) ps
 
 abbrev WordsEnd : ℕ → (ℤ → Body) → Relation Body
-WordsEnd limit made = AfterSign (OneEnd (IsFourfold (limit - 1)) (λ n. made (pos n))) (OneEnd (IsFourfold limit) (λ n. made (neg_ℤ (pos n)))) (λ ps b. (ps ≡ []) × (made (pos 0) ≡ b))
+WordsEnd limit made =
+    AfterSign (OneEnd (IsFourfold (limit - 1)) (λ n. made (pos n))) (OneEnd (IsFourfold limit) (λ n. made (neg_ℤ (pos n))))
+    (λ ps b. (ps ≡ []) × (made (pos 0) ≡ b))
 
 words_start : (few line e limit : ℕ) (made : ℤ → Body) → Start few false no_name line e (ended (words_at limit) made) (WordsEnd limit made)
 unfolding words_at
 words_start few line e limit made =
-    sign_start (λ s. distance_at (limit - 1) s >>= λ (d : ℕ × ReaderState). let y : Read ℤ = Ok (pos d.0, d.1) in y) (λ s. distance_at limit s >>= λ (d : ℕ × ReaderState). let y : Read ℤ = Ok (neg_ℤ (pos d.0), d.1) in y) (pos 0) (λ x. end_with (made x))
+    sign_start (λ s. distance_at (limit - 1) s >>= λ (d : ℕ × ReaderState). let y : Read ℤ = Ok (pos d.0, d.1) in y)
+    (λ s. distance_at limit s >>= λ (d : ℕ × ReaderState). let y : Read ℤ = Ok (neg_ℤ (pos d.0), d.1) in y) (pos 0) (λ x. end_with (made x))
     (distance (limit - 1) (λ n. pos n)) (distance limit (λ n. neg_ℤ (pos n))) (end_start few line e (made (pos 0))) (λ ps b w. end_unsigned ps w.0)
   where
-    distance : (most : ℕ) (f : ℕ → ℤ) → Walk few line e (λ s. (distance_at most s >>= λ (d : ℕ × ReaderState). let y : Read ℤ = Ok (f d.0, d.1) in y) >>= λ (x : ℤ × ReaderState). end_with (made x.0) x.1) (OneEnd (IsFourfold most) (λ n. made (f n)))
+    distance : (most : ℕ) (f : ℕ → ℤ) → Walk few line e
+        (λ s. (distance_at most s >>= λ (d : ℕ × ReaderState). let y : Read ℤ = Ok (f d.0, d.1) in y) >>= λ (x : ℤ × ReaderState). end_with (made x.0) x.1)
+        (OneEnd (IsFourfold most) (λ n. made (f n)))
     distance most f =
         begun (start_as (λ s. (distance_at most s >>= λ (d : ℕ × ReaderState). let y : Read ℤ = Ok (f d.0, d.1) in y) >>= λ (x : ℤ × ReaderState). end_with (made x.0) x.1) (OneEnd (IsFourfold most) (λ n. made (f n)))
-        (λ ps. mapped ℕ Body ℤ (distance_at most (st line e ps)) f (λ x. end_with (made x))) (λ ps b. (λ w. w, λ w. w)) (one_end (one_distance most line e) (λ n. made (f n))))
+        (λ ps. mapped ℕ Body ℤ (distance_at most (st line e ps)) f (λ x. end_with (made x))) (λ ps b. (λ w. w, λ w. w))
+        (one_end (one_distance most line e) (λ n. made (f n))))
 
 -- a place
 
@@ -92,7 +101,8 @@ some_words bits = subst (λ (n : ℕ). 0 < n) (suc_ones bits) (omega arith)
 two_tokens : (ps : List Piece) (m p : Piece) (qs rest : List Piece) → ps ≡ m ∷ qs → qs ≡ p ∷ rest → rest ≡ [] → ps ≡ m ∷ p ∷ []
 two_tokens ps m p qs rest t u v = t ∙ ap (λ (xs : List Piece). m ∷ xs) (u ∙ ap (λ (xs : List Piece). p ∷ xs) v)
 
-place_met : (bits : ℕ) (made : ℤ → Body) (h : Piece) (ps : List Piece) (b : Body) → IsNamed (codes ".") h → WordsEnd (2 ^ bits) made ps b → Last ℤ (λ qs n. IsPlace bits (h ∷ qs) n) made ps b
+place_met : (bits : ℕ) (made : ℤ → Body) (h : Piece) (ps : List Piece) (b : Body) → IsNamed (codes ".") h → WordsEnd (2 ^ bits) made ps b
+    → Last ℤ (λ qs n. IsPlace bits (h ∷ qs) n) made ps b
 place_met bits made h ps b i (inl w) =
     let t = w.4 in
     let l = t.is.1 in
@@ -144,14 +154,18 @@ named_here bits (p ∷ m ∷ []) n h = absurd h
 named_here bits (p ∷ m ∷ q ∷ []) n h = ap (λ (o : TokenValue). is_here_on (Some o)) h.0
 named_here bits (p ∷ m ∷ q ∷ r ∷ ps) n h = absurd h
 
-symbol_start : (kind : Kind) (few line e : ℕ) (made : Fixup → Body) → Start few false symbols line e (ended (fixup_at kind) made) (Last Fixup (IsFixup kind) made)
+symbol_start : (kind : Kind) (few line e : ℕ) (made : Fixup → Body)
+    → Start few false symbols line e (ended (fixup_at kind) made) (Last Fixup (IsFixup kind) made)
 symbol_start kind few line e made =
-    last_start (IsFixup kind) (fixup_at kind) made (fixup_start kind (λ f. end_with (made f)) (Ends made) (λ f. end_start few line e (made f)) (λ f ps b w. end_unsigned ps w.0))
+    last_start (IsFixup kind) (fixup_at kind) made
+    (fixup_start kind (λ f. end_with (made f)) (Ends made) (λ f. end_start few line e (made f)) (λ f ps b w. end_unsigned ps w.0))
 
-pub goal_start : (kind : Kind) (bits few line e : ℕ) (made : Goal → Body) → Start few false symbols line e (ended (goal_at kind (2 ^ bits)) made) (Last Goal (IsGoalOf kind bits) made)
+pub goal_start : (kind : Kind) (bits few line e : ℕ) (made : Goal → Body)
+    → Start few false symbols line e (ended (goal_at kind (2 ^ bits)) made) (Last Goal (IsGoalOf kind bits) made)
 unfolding goal_at
 goal_start kind bits few line e made =
-    turns_start all All rest names (let y = names any (codes "x") any_is_symbol in (any ∷ y.0, y.1)) (λ p n i ps. by_fixup (p ∷ ps) (says p (a_number n) i)) (λ p i ps. by_fixup (p ∷ ps) (says p (a_mark 40) i))
+    turns_start all All rest names (let y = names any (codes "x") any_is_symbol in (any ∷ y.0, y.1)) (λ p n i ps. by_fixup (p ∷ ps) (says p (a_number n) i))
+    (λ p i ps. by_fixup (p ∷ ps) (says p (a_mark 40) i))
     (by_fixup [] refl) (λ b. alike [] b refl) (λ p. elim (tested (is_here_on (Some p.says))) [
       | inl t ↦ turn_leads all All p (λ ps. by_place p ps t) (λ ps b. placed p ps b t) (inr refl) (begun (words_start few line e (2 ^ bits) places))
       | inr t ↦ turn_as all All p (λ ps. by_fixup (p ∷ ps) t) (λ ps b. alike (p ∷ ps) b t) refl (turn rest p)
@@ -196,13 +210,15 @@ goal_start kind bits few line e made =
       λ w. from w.0.words w.0.fixup w.1 w.2,
     )
       where
-        from : (words : ℤ) (fixup : Option Fixup) → IsGoal kind bits (p ∷ ps) words fixup → made (record { words = words; fixup = fixup }) ≡ b → WordsEnd (2 ^ bits) places ps b
+        from : (words : ℤ) (fixup : Option Fixup) → IsGoal kind bits (p ∷ ps) words fixup → made (record { words = words; fixup = fixup }) ≡ b
+            → WordsEnd (2 ^ bits) places ps b
         from words fixup (a_place h) k = met_place bits places p ps b words h k
         from words fixup (a_symbol {f = f} h) k = absurd (true≢false (sym t ∙ not_here kind (p ∷ ps) f h))
 
     alike : (ps : List Piece) (b : Body) → is_here_on (says_first ps) ≡ false → Last Fixup (IsFixup kind) fixups ps b ↔ All ps b
     alike ps b t = (λ k. (symbol_goal k.0, a_symbol k.1, k.2), λ w. from w.0.words w.0.fixup w.1 w.2)
       where
-        from : (words : ℤ) (fixup : Option Fixup) → IsGoal kind bits ps words fixup → made (record { words = words; fixup = fixup }) ≡ b → Last Fixup (IsFixup kind) fixups ps b
+        from : (words : ℤ) (fixup : Option Fixup) → IsGoal kind bits ps words fixup → made (record { words = words; fixup = fixup }) ≡ b
+            → Last Fixup (IsFixup kind) fixups ps b
         from words fixup (a_place h) k = absurd (true≢false (sym (named_here bits ps words h) ∙ t))
         from words fixup (a_symbol {f = f} h) k = (f, h, k)

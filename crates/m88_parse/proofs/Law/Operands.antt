@@ -1,5 +1,5 @@
 -- The law of immediates, and of what may stand in their place: a register, or the bound of tbnd. Each is walked once.
-use Rattle.std.proofs.Common.{◌≡◌, ◌↔◌, ℕ, ◌/◌, ◌%◌, ◌<◌, Bool, true, false, nat_le, ◌⊎◌, inl, inr, List, [], ◌∷◌, ◌++◌, length, Option, Some, None, Result, Ok, Err, refl, sym, ap, ◌∙◌, arith, subst, if◌then◌else◌, codes, bytes_eq, true≢false}
+use Rattle.std.proofs.Common.{◌≡◌, ◌↔◌, ℕ, ◌<◌, Bool, true, false, nat_le, ◌⊎◌, inl, inr, List, [], ◌∷◌, ◌++◌, length, Option, Some, None, Result, Ok, Err, refl, sym, ap, ◌∙◌, arith, subst, if◌then◌else◌, codes, bytes_eq, true≢false}
 use Rattle.std.specs.Option.{option_map}
 use Rattle.std.proofs.lemmas.Slice.Eq.{bytes_eq-Decides}
 use Rattle.m88_base.specs.Reg.{reg_of}
@@ -31,12 +31,12 @@ use Rattle.m88_parse.proofs.Law.Names.{some_same, register_is, register_name_aga
 use Rattle.m88_parse.proofs.Law.Slots.{st, symbols, mark_says, register_found, own_names, kind_for, IsUpTo, one_number, saying, any, any_is_symbol, gives, OneToken, nothing, by_token, token_gives, token_is, only_if, within, within_is, within_again, mapped, turns, NoName, number_is, text_is, mark_is, no_named}
 use Rattle.m88_parse.proofs.Law.Values.{value_start}
 use Rattle.m88_parse.proofs.Law.Walks.{Reading, Relation, Then, Several, AfterMark, Last, Ends, Walk, Start, Turn, begun, fault_at, faults_of, law_as, end_start, mark_start, start_as, ended, one_end, mark_unsigned, mark_first, after_marked, Nameless, refused, turn, turn_leads, turn_stops, turn_as, turns_start, names_start}
-use Rattle.m88_parse.proofs.Law.LineFaults.Readers.{Goes, same_fault}
+use Rattle.m88_parse.proofs.Law.LineFaults.Readers.{Goes, Refuses, same_fault}
 use Rattle.m88_parse.proofs.Law.LineFaults.Halves.{half_leads}
 
 -- hi16 and lo16
 
-pub half_names : (name : List ℕ) (kind : Kind) → half_named name ≡ Some kind → ((name ≡ codes "hi16") × (kind ≡ Hi16)) ⊎ ((name ≡ codes "lo16") × (kind ≡ Lo16))
+half_names : (name : List ℕ) (kind : Kind) → half_named name ≡ Some kind → ((name ≡ codes "hi16") × (kind ≡ Hi16)) ⊎ ((name ≡ codes "lo16") × (kind ≡ Lo16))
 unfolding half_named
 half_names name kind h =
     elim (chosen (bytes_eq name (codes "hi16")) _ _ _ h) [
@@ -55,14 +55,12 @@ half_is_of _ (Number n) (inl h) = absurd cc
 half_is_of _ (Number n) (inr h) = absurd cc
 half_is_of _ (Symbol f) h = (refl, refl)
 
-same_immediate : (a b : ℕ) (f g : Option Fixup) → a ≡ b → f ≡ g → ◌≡◌ {A = Immediate} (record { imm = a; fixup = f }) (record { imm = b; fixup = g })
-same_immediate a b f g h k = λ i. record { imm = h i; fixup = k i }
-
-half_of_is : (kind : Kind) (v : Value) (imm : ℕ) (fixup : Option Fixup) → IsHalfOf kind v imm fixup → half_immediate kind v ≡ record { imm = imm; fixup = fixup }
-half_of_is Hi16 (Number n) imm fixup h = same_immediate (n / 65536) imm None fixup (sym h.0) (sym h.1)
-half_of_is Lo16 (Number n) imm fixup h = same_immediate (n % 65536) imm None fixup (sym h.0) (sym h.1)
+half_of_is : (kind : Kind) (v : Value) (imm : ℕ) (fixup : Option Fixup) → IsHalfOf kind v imm fixup
+    → half_immediate kind v ≡ record { imm = imm; fixup = fixup }
+half_of_is Hi16 (Number n) imm fixup h = λ i. record { imm = sym h.0 i; fixup = sym h.1 i }
+half_of_is Lo16 (Number n) imm fixup h = λ i. record { imm = sym h.0 i; fixup = sym h.1 i }
 half_of_is _ (Number n) imm fixup h = absurd h
-half_of_is _ (Symbol f) imm fixup h = same_immediate 0 imm (Some f) fixup (sym h.0) (sym h.1)
+half_of_is _ (Symbol f) imm fixup h = λ i. record { imm = sym h.0 i; fixup = sym h.1 i }
 
 kinds_only : (name : List ℕ) (kind : Kind) → half_named name ≡ Some kind → (kind ≡ Hi16) ⊎ (kind ≡ Lo16)
 kinds_only name kind h = elim (half_names name kind h) [ inl j ↦ inl j.1 | inr j ↦ inr j.1 ]
@@ -72,21 +70,24 @@ IsImmediateOf ps x = IsImmediate ps x.imm x.fixup
 
 -- what stands behind the ( of a half
 abbrev Inside : Kind → (Immediate → Body) → Relation Body
-Inside kind made ps b = (v : Value) × (front : List Piece) × (c : Piece) × (ps ≡ front ++ c ∷ []) × IsValue kind front v × IsMark 41 c × (made (half_immediate kind v) ≡ b)
+Inside kind made ps b =
+    (v : Value) × (front : List Piece) × (c : Piece) × (ps ≡ front ++ c ∷ []) × IsValue kind front v × IsMark 41 c × (made (half_immediate kind v) ≡ b)
 
 abbrev half_inside : Kind → (Immediate → Body) → Reading Body
 half_inside kind made s = value_at kind s >>= λ (v : Value × ReaderState). mark_at 41 v.1 >>= end_with (made (half_immediate kind v.0))
 
 inside_start : (few line e : ℕ) (kind : Kind) (made : Immediate → Body) → Start few true symbols line e (half_inside kind made) (Inside kind made)
 inside_start few line e kind made =
-    start_as (half_inside kind made) (Inside kind made) (λ ps. refl) (λ ps b. (to ps b, λ w. record { value = w.0; front = w.1; rest = w.2 ∷ []; tokens = w.3; is = w.4; next = (w.2, [], refl, w.5, (refl, w.6)) }))
+    start_as (half_inside kind made) (Inside kind made) (λ ps. refl)
+    (λ ps b. (to ps b, λ w. record { value = w.0; front = w.1; rest = w.2 ∷ []; tokens = w.3; is = w.4; next = (w.2, [], refl, w.5, (refl, w.6)) }))
     (value_start kind (λ v s. mark_at 41 s >>= end_with (made (half_immediate kind v))) Closed (λ v. mark_start 41 refl refl (begun (end_start few line e (made (half_immediate kind v))))) (λ v ps b w. mark_unsigned 41 w.0 ps w.1 w.2 w.3 refl refl))
   where
     Closed : Value → Relation Body
     Closed v ps b = AfterMark 41 (λ qs. Ends made (half_immediate kind v) qs b) ps
 
     to : (ps : List Piece) (b : Body) → Several Value (IsValue kind) (λ v qs. Closed v qs b) ps → Inside kind made ps b
-    to ps b w = let n = w.next in (w.value, w.front, n.0, w.tokens ∙ ap (λ (qs : List Piece). w.front ++ qs) (n.2 ∙ ap (λ (qs : List Piece). n.0 ∷ qs) n.4.0), w.is, n.3, n.4.1)
+    to ps b w =
+        let n = w.next in (w.value, w.front, n.0, w.tokens ∙ ap (λ (qs : List Piece). w.front ++ qs) (n.2 ∙ ap (λ (qs : List Piece). n.0 ∷ qs) n.4.0), w.is, n.3, n.4.1)
 
 -- an immediate that stands last
 
@@ -189,9 +190,11 @@ half_turn few line e made p text kind h n = record {
         let m = met (q ∷ ps) b w in
         subst (λ (k : Kind). Inside k made ps b) (some_same (sym m.1 ∙ n)) (mark_first 40 (λ qs. Inside m.0 made qs b) q ps m.2).1
 
-    opened : (ps : List Piece) (b : Body) → is_mark_of 40 (says_first ps) ≡ true → length ps < few → (ended immediate_at made (st line e (p ∷ ps)) ≡ Ok b) ↔ ImmediateEnd made (p ∷ ps) b
+    opened : (ps : List Piece) (b : Body) → is_mark_of 40 (says_first ps) ≡ true → length ps < few
+        → (ended immediate_at made (st line e (p ∷ ps)) ≡ Ok b) ↔ ImmediateEnd made (p ∷ ps) b
     opened [] b t l = absurd cc
-    opened (q ∷ ps) b t l = law_as (half_taken line e made p q ps text kind h n t) (to q ps b (mark_says 40 q.says t), from q ps b) (go.law ps b (omega (arith, l)))
+    opened (q ∷ ps) b t l =
+        law_as (half_taken line e made p q ps text kind h n t) (to q ps b (mark_says 40 q.says t), from q ps b) (go.law ps b (omega (arith, l)))
 
 pub immediate_start : (few line e : ℕ) (made : Immediate → Body) → Start few true own_names line e (ended immediate_at made) (ImmediateEnd made)
 unfolding immediate_at half_at value_at signed_at half_named unsigned_at
@@ -207,10 +210,12 @@ immediate_start few line e made =
     hi16_goes : Goes (λ ps. faults_of line e (ended immediate_at made) (hi16 ∷ ps))
     hi16_goes = (saying (a_mark 40) ∷ saying (a_number 0) ∷ saying (a_mark 41) ∷ [], refl)
 
-    by_name : (p : Piece) (text : List ℕ) → IsNamed text p → (o : Option Kind) → half_named text ≡ o → Turn few true own_names line e (ended immediate_at made) (ImmediateEnd made) p
+    by_name : (p : Piece) (text : List ℕ) → IsNamed text p → (o : Option Kind) → half_named text ≡ o
+        → Turn few true own_names line e (ended immediate_at made) (ImmediateEnd made) p
     by_name p text h (Some kind) n = half_turn few line e made p text kind h n
     by_name p text h None n =
-        turn_stops (ended immediate_at made) (ImmediateEnd made) p (λ ps. unknown line e made p text h n ps ∙ ap (λ (m : TokenValue). fault_at line p (kind_for true own_names m)) (sym h))
+        turn_stops (ended immediate_at made) (ImmediateEnd made) p
+        (λ ps. unknown line e made p text h n ps ∙ ap (λ (m : TokenValue). fault_at line p (kind_for true own_names m)) (sym h))
         (λ ps b w. let m = half_met made p ps b text w.0.imm w.0.fixup h w.1 w.2 in let y : ◌≡◌ {A = Option Kind} (Some m.0) None = sym m.1 ∙ n in cc)
 
     number_on : (p : Piece) (ps : List Piece) → TokenValue → Result Body ParseFault
@@ -234,12 +239,14 @@ half_no_register name kind h = elim (half_names name kind h) [ inl j ↦ ap regi
 
 no_register : (ps : List Piece) (imm : ℕ) (fixup : Option Fixup) → IsImmediate ps imm fixup → register_in (says_first ps) ≡ None
 no_register ps imm fixup (short {p = p} h l) = ap (λ (m : TokenValue). register_in (Some m)) h
-no_register ps imm fixup (half inside c name kind v n k a t b d h) = ap (λ (m : TokenValue). register_in (Some m)) n ∙ ap (option_map reg_of) (half_no_register name kind k)
+no_register ps imm fixup (half inside c name kind v n k a t b d h) =
+    ap (λ (m : TokenValue). register_in (Some m)) n ∙ ap (option_map reg_of) (half_no_register name kind k)
 
 register_again : (ps : List Piece) (r : Reg) → IsLast r ps → register_in (says_first ps) ≡ Some r
 register_again [] r h = absurd h
 register_again (p ∷ []) r h =
-    ap (λ (m : TokenValue). register_in (Some m)) h.2 ∙ ap (option_map reg_of) (register_name_again h.0 h.1 h.3) ∙ ap (λ (v : Reg). let y : Option Reg = Some v in y) (sym h.4)
+    ap (λ (m : TokenValue). register_in (Some m)) h.2 ∙ ap (option_map reg_of) (register_name_again h.0 h.1 h.3)
+    ∙ ap (λ (v : Reg). let y : Option Reg = Some v in y) (sym h.4)
 register_again (p ∷ q ∷ ps) r h = absurd h
 
 named_register : (p : Piece) (r : Reg) (m : TokenValue) → p.says ≡ m → register_in (Some m) ≡ Some r → IsRegister r p
@@ -252,8 +259,9 @@ pub operand_start : (few line e : ℕ) (made : Operand → Body) → Start few t
 unfolding operand_at register_of half_named
 operand_start few line e made =
     turns_start all All (immediate_start few line e immediates)
-    ((r0, codes "r0", refl, ([], refl)), (any, codes "x", any_is_symbol, λ ps x. refused (by_immediate (any ∷ ps) (says any (a_name (codes "x")) any_is_symbol.0) ∙ unknown line e immediates any (codes "x") any_is_symbol.0 refl ps) x))
-    (r0 ∷ [], refl) (λ p n i ps. by_immediate (p ∷ ps) (says p (a_number n) i)) (λ p i ps. by_immediate (p ∷ ps) (says p (a_mark 40) i)) (by_immediate [] refl) (λ b. alike [] b refl)
+    ((r0, codes "r0", refl, ([], refl)), (any, codes "x", any_is_symbol, no_operand))
+    (r0 ∷ [], refl) (λ p n i ps. by_immediate (p ∷ ps) (says p (a_number n) i)) (λ p i ps. by_immediate (p ∷ ps) (says p (a_mark 40) i)) (by_immediate [] refl)
+    (λ b. alike [] b refl)
     (λ p. by_register p (register_in (Some p.says)) refl)
   where
     all : Reading Body
@@ -276,6 +284,10 @@ operand_start few line e made =
         ap (λ (o : Option Reg). operand_of (st line e ps) o >>= λ (x : Operand × ReaderState). end_with (made x.0) x.1) h
         ∙ mapped Immediate Body Operand (immediate_at (st line e ps)) (λ x. operand.Immediate x) (λ x. end_with (made x))
 
+    no_operand : Refuses (faults_of line e all) any
+    no_operand ps x =
+        refused (by_immediate (any ∷ ps) (says any (a_name (codes "x")) any_is_symbol.0) ∙ unknown line e immediates any (codes "x") any_is_symbol.0 refl ps) x
+
     alike : (ps : List Piece) (b : Body) → register_in (says_first ps) ≡ None → ImmediateEnd immediates ps b ↔ All ps b
     alike ps b h = (λ w. (operand.Immediate w.0, w.1, w.2), λ w. from w.0 w.1 w.2)
       where
@@ -283,7 +295,8 @@ operand_start few line e made =
         from (operand.Immediate x) i k = (x, i, k)
         from (operand.Register r) i k = let y : ◌≡◌ {A = Option Reg} None (Some r) = sym h ∙ register_again ps r i in absurd cc
 
-    last : (p : Piece) (ps : List Piece) (b : Body) (r : Reg) (x : Operand) → register_in (Some p.says) ≡ Some r → IsOperandOf (p ∷ ps) x → made x ≡ b → (ps ≡ []) × (made (operand.Register r) ≡ b)
+    last : (p : Piece) (ps : List Piece) (b : Body) (r : Reg) (x : Operand) → register_in (Some p.says) ≡ Some r → IsOperandOf (p ∷ ps) x → made x ≡ b
+        → (ps ≡ []) × (made (operand.Register r) ≡ b)
     last p ps b r (operand.Immediate x) h i k = let y : ◌≡◌ {A = Option Reg} (Some r) None = sym h ∙ no_register (p ∷ ps) x.imm x.fixup i in absurd cc
     last p [] b r (operand.Register s) h i k = (refl, ap (λ (v : Reg). made (operand.Register v)) (some_same (sym h ∙ register_again (p ∷ []) s i)) ∙ k)
     last p (q ∷ ps) b r (operand.Register s) h i k = absurd i
@@ -310,26 +323,33 @@ bound_on_number n = option_map (λ (k : ℕ). bound.Number k) (within 65535 n)
 abbrev bound_by : TokenValue → Option Bound
 bound_by = by_token bound_on_name bound_on_number nothing
 
-bound_name : (line e : ℕ) (p : Piece) (ps : List Piece) (o : Option ℕ) → (meaning_or_fault (st line e (p ∷ ps)) (option_map reg_of o) >>= λ (r : Reg × ReaderState). let y : Read Bound = Ok (bound.Register r.0, r.1) in y)
+bound_name : (line e : ℕ) (p : Piece) (ps : List Piece) (o : Option ℕ)
+    → (meaning_or_fault (st line e (p ∷ ps)) (option_map reg_of o) >>= λ (r : Reg × ReaderState). let y : Read Bound = Ok (bound.Register r.0, r.1) in y)
     ≡ gives line e p ps NoSuchName (option_map (λ (r : Reg). bound.Register r) (option_map reg_of o))
 bound_name line e p ps (Some n) = refl
 bound_name line e p ps None = refl
 
-bound_number : (line e n : ℕ) (p : Piece) (ps : List Piece) (t : Bool) → (if t then Ok (bound.Number n, st line e ps) else Err (record { line = line; col = p.col; kind = OutOfRange })) ≡ gives line e p ps OutOfRange (option_map (λ (k : ℕ). bound.Number k) (only_if t n))
+bound_number : (line e n : ℕ) (p : Piece) (ps : List Piece) (t : Bool)
+    → (if t then Ok (bound.Number n, st line e ps) else Err (record { line = line; col = p.col; kind = OutOfRange }))
+    ≡ gives line e p ps OutOfRange (option_map (λ (k : ℕ). bound.Number k) (only_if t n))
 bound_number line e n p ps true = refl
 bound_number line e n p ps false = refl
 
-register_bounds : (p : Piece) (name : List ℕ) (x : Bound) → IsNamed name p → (o : Option ℕ) → register_of name ≡ o → option_map (λ (r : Reg). bound.Register r) (option_map reg_of o) ≡ Some x → IsBoundOf x p
+register_bounds : (p : Piece) (name : List ℕ) (x : Bound) → IsNamed name p → (o : Option ℕ) → register_of name ≡ o
+    → option_map (λ (r : Reg). bound.Register r) (option_map reg_of o) ≡ Some x → IsBoundOf x p
 register_bounds p name x i (Some n) j k = subst (λ (y : Bound). IsBoundOf y p) (some_same k) (name, n, i, register_is name n j, refl)
 register_bounds p name x i None j k = absurd cc
 
-number_bounds : (p : Piece) (n : ℕ) (x : Bound) → IsNumber n p → (o : Option ℕ) → within 65535 n ≡ o → option_map (λ (k : ℕ). bound.Number k) o ≡ Some x → IsBoundOf x p
-number_bounds p n x i (Some m) j k = let w = within_is 65535 n m j in subst (λ (y : Bound). IsBoundOf y p) (some_same k) (i ∙ ap a_number w.0, omega (arith, w.1))
+number_bounds : (p : Piece) (n : ℕ) (x : Bound) → IsNumber n p → (o : Option ℕ) → within 65535 n ≡ o → option_map (λ (k : ℕ). bound.Number k) o ≡ Some x
+    → IsBoundOf x p
+number_bounds p n x i (Some m) j k =
+    let w = within_is 65535 n m j in subst (λ (y : Bound). IsBoundOf y p) (some_same k) (i ∙ ap a_number w.0, omega (arith, w.1))
 number_bounds p n x i None j k = absurd cc
 
 bound_given : (p : Piece) (x : Bound) → IsBoundOf x p → bound_by p.says ≡ Some x
 bound_given p (bound.Register r) h =
-    ap bound_by h.2 ∙ ap (λ (o : Option ℕ). option_map (λ (r : Reg). bound.Register r) (option_map reg_of o)) (register_name_again h.0 h.1 h.3) ∙ ap (λ (r : Reg). let y : Option Bound = Some (bound.Register r) in y) (sym h.4)
+    ap bound_by h.2 ∙ ap (λ (o : Option ℕ). option_map (λ (r : Reg). bound.Register r) (option_map reg_of o)) (register_name_again h.0 h.1 h.3)
+    ∙ ap (λ (r : Reg). let y : Option Bound = Some (bound.Register r) in y) (sym h.4)
 bound_given p (bound.Number n) h = ap bound_by h.0 ∙ ap (option_map (λ (k : ℕ). bound.Number k)) (within_again 65535 n (omega (arith, h.1)))
 
 pub one_bound : (line e : ℕ) → OneToken Bound IsBoundOf true own_names line e bound_at
@@ -337,8 +357,12 @@ unfolding bound_at register_at register_of any
 one_bound line e = record {
   given = λ p. bound_by p.says;
   empty = refl;
-  each = λ p ps. token_gives true own_names line e p ps (λ o. bound_on (st line e (p ∷ ps)) (Some o)) bound_by (λ name i. by_name p ps name i) (λ n. bound_number line e n p ps (nat_le n 65535)) (λ bytes. refl) (λ m. refl) p.says refl;
-  is = λ p x. token_is IsBoundOf bound_on_name bound_on_number p x (λ name i. register_bounds p name x i (register_of name) refl) (λ n i. number_bounds p n x i (within 65535 n) refl) p.says refl;
+  each =
+      λ p ps. token_gives true own_names line e p ps (λ o. bound_on (st line e (p ∷ ps)) (Some o)) bound_by (λ name i. by_name p ps name i)
+      (λ n. bound_number line e n p ps (nat_le n 65535)) (λ bytes. refl) (λ m. refl) p.says refl;
+  is =
+      λ p x. token_is IsBoundOf bound_on_name bound_on_number p x (λ name i. register_bounds p name x i (register_of name) refl)
+      (λ n i. number_bounds p n x i (within 65535 n) refl) p.says refl;
   again = bound_given;
   numbers = (saying (a_number 0), 0, bound.Number 0, refl, refl);
   names = ((saying (a_name (codes "r0")), codes "r0", bound.Register (reg_of 0), refl, refl), (any, codes "x", any_is_symbol, refl));
@@ -346,5 +370,7 @@ one_bound line e = record {
   some = (saying (a_number 0), bound.Number 0, refl);
 }
   where
-    by_name : (p : Piece) (ps : List Piece) (name : List ℕ) → IsNamed name p → bound_on (st line e (p ∷ ps)) (Some (a_name name)) ≡ gives line e p ps NoSuchName (bound_on_name name)
-    by_name p ps name i = ap (λ (m : TokenValue). register_on (st line e (p ∷ ps)) (Some m) >>= λ (r : Reg × ReaderState). let y : Read Bound = Ok (bound.Register r.0, r.1) in y) i ∙ bound_name line e p ps (register_of name)
+    by_name : (p : Piece) (ps : List Piece) (name : List ℕ) → IsNamed name p
+        → bound_on (st line e (p ∷ ps)) (Some (a_name name)) ≡ gives line e p ps NoSuchName (bound_on_name name)
+    by_name p ps name i =
+        ap (λ (m : TokenValue). register_on (st line e (p ∷ ps)) (Some m) >>= λ (r : Reg × ReaderState). let y : Read Bound = Ok (bound.Register r.0, r.1) in y) i ∙ bound_name line e p ps (register_of name)

@@ -80,15 +80,18 @@ pub record Start {B : Type 0} (few : ℕ) (num : Bool) (nam : Naming) (line e : 
   pub law : Law (suc few) line e reads Is
   pub node : Node few num nam line e (faults_of line e reads)
 
-pub begun_more : {B : Type 0} {few : ℕ} {num : Bool} {nam : Naming} {line e : ℕ} {reads : Reading B} {Is : Relation B} → Start few num nam line e reads Is → Walk (suc few) line e reads Is
+pub begun_more : {B : Type 0} {few : ℕ} {num : Bool} {nam : Naming} {line e : ℕ} {reads : Reading B} {Is : Relation B} → Start few num nam line e reads Is
+    → Walk (suc few) line e reads Is
 begun_more {few = few} {num = num} {nam = nam} {line = line} {e = e} {reads = reads} s = record { law = s.law; faults = good_node few num nam line e (faults_of line e reads) s.node }
 
-pub begun : {B : Type 0} {few : ℕ} {num : Bool} {nam : Naming} {line e : ℕ} {reads : Reading B} {Is : Relation B} → Start few num nam line e reads Is → Walk few line e reads Is
+pub begun : {B : Type 0} {few : ℕ} {num : Bool} {nam : Naming} {line e : ℕ} {reads : Reading B} {Is : Relation B} → Start few num nam line e reads Is
+    → Walk few line e reads Is
 begun {few = few} {num = num} {nam = nam} {line = line} {e = e} {reads = reads} s =
     record { law = λ ps b l. s.law ps b (omega (arith, l)); faults = good few num nam line e (faults_of line e reads) s.node }
 
 -- what holds of so many tokens, whatever their number, holds of all
-pub lawful : {B : Type 0} {line e : ℕ} {reads : Reading B} {Is : Relation B} → ((few : ℕ) → Walk few line e reads Is) → (ps : List Piece) (b : B) → (reads (st line e ps) ≡ Ok b) ↔ Is ps b
+pub lawful : {B : Type 0} {line e : ℕ} {reads : Reading B} {Is : Relation B} → ((few : ℕ) → Walk few line e reads Is) → (ps : List Piece) (b : B)
+    → (reads (st line e ps) ≡ Ok b) ↔ Is ps b
 lawful go ps b = (go (suc (length ps))).law ps b (omega arith)
 
 -- what is read alike and related alike
@@ -121,7 +124,8 @@ turn s p = record { law = λ ps b l. s.law (p ∷ ps) b (omega (arith, l)); each
 -- the token leads on to another reading
 pub turn_leads : {B : Type 0} {few : ℕ} {num : Bool} {nam : Naming} {line e : ℕ} {next : Reading B} {Next : Relation B}
     (all : Reading B) (All : Relation B) (p : Piece) → ((ps : List Piece) → all (st line e (p ∷ ps)) ≡ next (st line e ps))
-    → ((ps : List Piece) (b : B) → Next ps b ↔ All (p ∷ ps) b) → (IsMark 45 p → ⊥) ⊎ (num ≡ false) → Walk few line e next Next → Turn few num nam line e all All p
+    → ((ps : List Piece) (b : B) → Next ps b ↔ All (p ∷ ps) b) → (IsMark 45 p → ⊥) ⊎ (num ≡ false) → Walk few line e next Next
+    → Turn few num nam line e all All p
 turn_leads {B = B} {few = few} {num = num} {line = line} {e = e} {next = next} all All p same alike fresh go = record {
   law = λ ps b l. law_as (same ps) (alike ps b) (go.law ps b l);
   each = inl (leads few num line e (faults_of line e all) (faults_of line e next) p go.faults (λ ps. same_fault (same ps)) fresh);
@@ -276,7 +280,8 @@ mark_start {B = B} {line = line} {e = e} {next = next} {Next = Next} m h i go =
     (λ ps b. (λ w. (w.piece, w.rest, w.tokens, w.is, w.next), λ w. record { value = tt; piece = w.0; rest = w.1; tokens = w.2; is = w.3; next = w.4 }))
     (slot_start (one_mark m line e h i) (λ u. next) (λ u. Next) (λ u. go))
   where
-    same : (r : Result ReaderState ParseFault) → (r >>= next) ≡ ((r >>= λ (t : ReaderState). let y : Read (Unit {0}) = Ok (tt, t) in y) >>= λ (x : Unit {0} × ReaderState). next x.1)
+    same : (r : Result ReaderState ParseFault) → (r >>= next)
+        ≡ ((r >>= λ (t : ReaderState). let y : Read (Unit {0}) = Ok (tt, t) in y) >>= λ (x : Unit {0} × ReaderState). next x.1)
     same (Ok t) = refl
     same (Err f) = refl
 
@@ -286,15 +291,20 @@ ended slot made s = followed slot (λ x. end_with (made x)) s
 
 -- several tokens that stand last
 pub last_start : {A : Type 0} {few : ℕ} {num : Bool} {nam : Naming} {line e : ℕ} (Is : List Piece → A → Type 0) (slot : ReaderState → Read A) (made : A → Body)
-    → Start few num nam line e (ended slot made) (λ ps b. Several A Is (λ x qs. Ends made x qs b) ps) → Start few num nam line e (ended slot made) (Last A Is made)
-last_start {A = A} Is slot made go = start_as (ended slot made) (Last A Is made) (λ ps. refl) (λ ps b. (to ps b, λ w. record { value = w.0; front = ps; rest = []; tokens = sym (append-nil ps); is = w.1; next = (refl, w.2) })) go
+    → Start few num nam line e (ended slot made) (λ ps b. Several A Is (λ x qs. Ends made x qs b) ps)
+    → Start few num nam line e (ended slot made) (Last A Is made)
+last_start {A = A} Is slot made go =
+    start_as (ended slot made) (Last A Is made) (λ ps. refl)
+    (λ ps b. (to ps b, λ w. record { value = w.0; front = ps; rest = []; tokens = sym (append-nil ps); is = w.1; next = (refl, w.2) })) go
   where
     to : (ps : List Piece) (b : Body) → Several A Is (λ x qs. Ends made x qs b) ps → Last A Is made ps b
-    to ps b w = (w.value, subst (λ (qs : List Piece). Is qs w.value) (sym (w.tokens ∙ ap (λ (qs : List Piece). w.front ++ qs) w.next.0 ∙ append-nil w.front)) w.is, w.next.1)
+    to ps b w =
+        (w.value, subst (λ (qs : List Piece). Is qs w.value) (sym (w.tokens ∙ ap (λ (qs : List Piece). w.front ++ qs) w.next.0 ∙ append-nil w.front)) w.is, w.next.1)
 
 -- a slot of one token and the end
 
-pub one_end : {A : Type 0} {Is : A → Piece → Type 0} {num : Bool} {nam : Naming} {few line e : ℕ} {slot : ReaderState → Read A} → OneToken A Is num nam line e slot → (made : A → Body)
+pub one_end : {A : Type 0} {Is : A → Piece → Type 0} {num : Bool} {nam : Naming} {few line e : ℕ} {slot : ReaderState → Read A}
+    → OneToken A Is num nam line e slot → (made : A → Body)
     → Start few num nam line e (ended slot made) (λ ps b. Then A Is (λ x qs. Ends made x qs b) ps)
 one_end {few = few} {line = line} {e = e} o made = slot_start o (λ x. end_with (made x)) (Ends made) (λ x. begun (end_start few line e (made x)))
 
@@ -306,10 +316,12 @@ closed_end slot m made s = slot s >>= λ x. mark_at m x.1 >>= end_with (made x.0
 abbrev pub ClosedEnd : (A : Type 0) → (A → Piece → Type 0) → ℕ → (A → Body) → Relation Body
 ClosedEnd A Is m made ps b = Then A Is (λ x qs. AfterMark m (λ us. Ends made x us b) qs) ps
 
-pub closed_start : {A : Type 0} {Is : A → Piece → Type 0} {num : Bool} {nam : Naming} {few line e : ℕ} {slot : ReaderState → Read A} (o : OneToken A Is num nam line e slot) (m : ℕ) (made : A → Body) → (40 == m) ≡ false → (45 == m) ≡ false
+pub closed_start : {A : Type 0} {Is : A → Piece → Type 0} {num : Bool} {nam : Naming} {few line e : ℕ} {slot : ReaderState → Read A}
+    (o : OneToken A Is num nam line e slot) (m : ℕ) (made : A → Body) → (40 == m) ≡ false → (45 == m) ≡ false
     → Start few num nam line e (closed_end slot m made) (ClosedEnd A Is m made)
 closed_start {few = few} {line = line} {e = e} o m made h i =
-    slot_start o (λ x s. mark_at m s >>= end_with (made x)) (λ x qs b. AfterMark m (λ us. Ends made x us b) qs) (λ x. begun (mark_start m h i (begun (end_start few line e (made x)))))
+    slot_start o (λ x s. mark_at m s >>= end_with (made x)) (λ x qs b. AfterMark m (λ us. Ends made x us b) qs)
+    (λ x. begun (mark_start m h i (begun (end_start few line e (made x)))))
 
 -- where a mark leads on in its own way, and anything else as before
 
@@ -323,8 +335,10 @@ mark_first m Next p ps w =
 pub after_marked : (m : ℕ) (Next : List Piece → Type 0) (ps : List Piece) → AfterMark m Next ps → is_mark_of m (says_first ps) ≡ true
 after_marked m Next ps w = ap (λ (qs : List Piece). is_mark_of m (says_first qs)) w.2 ∙ next_again m 0 0 w.0 w.1 w.3
 
-pub marked_other : (m n : ℕ) (p : Piece) (ps : List Piece) (c : Piece) (rest : List Piece) → p ∷ ps ≡ c ∷ rest → IsMark n c → (n == m) ≡ false → is_mark_of m (Some p.says) ≡ false
-marked_other m n p ps c rest h k i = let same : p ≡ c = cc in ap (λ (q : Piece). is_mark_of m (Some q.says)) same ∙ ap (λ (o : TokenValue). is_mark_of m (Some o)) k ∙ i
+pub marked_other : (m n : ℕ) (p : Piece) (ps : List Piece) (c : Piece) (rest : List Piece) → p ∷ ps ≡ c ∷ rest → IsMark n c → (n == m) ≡ false
+    → is_mark_of m (Some p.says) ≡ false
+marked_other m n p ps c rest h k i =
+    let same : p ≡ c = cc in ap (λ (q : Piece). is_mark_of m (Some q.says)) same ∙ ap (λ (o : TokenValue). is_mark_of m (Some o)) k ∙ i
 
 pub unnamed : (p q : Piece) (ps qs : List Piece) (m : TokenValue) → p ∷ ps ≡ q ∷ qs → q.says ≡ m → NoName m → NoName p.says
 unnamed p q ps qs m t h z = let same : p ≡ q = cc in subst NoName (sym (ap (λ (o : Piece). o.says) same ∙ h)) z
@@ -334,12 +348,14 @@ pub lead_start : {B : Type 0} {few : ℕ} {num : Bool} {nam : Naming} {line e : 
     → ((p : Piece) → is_mark_of m (Some p.says) ≡ true → Leads few num line e (faults_of line e all) p)
     → ((p : Piece) (ps : List Piece) (b : B) → is_mark_of m (Some p.says) ≡ true → length ps < few → (all (st line e (p ∷ ps)) ≡ Ok b) ↔ Next ps b)
     → ((p : Piece) (ps : List Piece) → is_mark_of m (Some p.says) ≡ false → all (st line e (p ∷ ps)) ≡ other (st line e (p ∷ ps)))
-    → all (st line e []) ≡ other (st line e []) → Start few num nam line e other Other → ((p : Piece) (ps : List Piece) (b : B) → Other (p ∷ ps) b → is_mark_of m (Some p.says) ≡ false)
+    → all (st line e []) ≡ other (st line e []) → Start few num nam line e other Other
+    → ((p : Piece) (ps : List Piece) (b : B) → Other (p ∷ ps) b → is_mark_of m (Some p.says) ≡ false)
     → Start few num nam line e all (λ ps b. AfterMark m (λ qs. Next qs b) ps ⊎ Other ps b)
 lead_start {B = B} {nam = nam} {line = line} {e = e} {Next = Next} {other = other} {Other = Other} m all h goes leading marked plain at_end rest unmarked =
     turns_start all Either rest
     (names_as nam (faults_of line e all) (faults_of line e other) (λ p name i ps. same_fault (plain p ps (says p (a_name name) i))) rest.node.wants.names)
-    goes (λ p n i ps. plain p ps (says p (a_number n) i)) (λ p i ps. plain p ps (says p (a_mark 40) i ∙ h)) at_end (λ b. before [] b refl) (λ p. elim (tested (is_mark_of m (Some p.says))) [
+    goes (λ p n i ps. plain p ps (says p (a_number n) i)) (λ p i ps. plain p ps (says p (a_mark 40) i ∙ h)) at_end (λ b. before [] b refl)
+    (λ p. elim (tested (is_mark_of m (Some p.says))) [
       | inl t ↦ record { law = λ ps b l. law_as refl (behind p ps b t) (marked p ps b t l); each = inl (leading p t) }
       | inr t ↦ turn_as all Either p (λ ps. plain p ps t) (λ ps b. before (p ∷ ps) b t) refl (turn rest p)
     ])
@@ -364,21 +380,20 @@ lead_start {B = B} {nam = nam} {line = line} {e = e} {Next = Next} {other = othe
 
 -- where it leads on by itself
 
-pub or_start : {B : Type 0} {few : ℕ} {num : Bool} {nam : Naming} {line e : ℕ} {next : Reading B} {Next : Relation B} {other : Reading B} {Other : Relation B} (m : ℕ)
+pub or_start : {B : Type 0} {few : ℕ} {num : Bool} {nam : Naming} {line e : ℕ} {next : Reading B} {Next : Relation B} {other : Reading B} {Other : Relation B}
+    (m : ℕ)
     (all : Reading B) → (40 == m) ≡ false → ((45 == m) ≡ false) ⊎ (num ≡ false)
     → ((p : Piece) (ps : List Piece) → is_mark_of m (Some p.says) ≡ true → all (st line e (p ∷ ps)) ≡ next (st line e ps))
     → ((p : Piece) (ps : List Piece) → is_mark_of m (Some p.says) ≡ false → all (st line e (p ∷ ps)) ≡ other (st line e (p ∷ ps)))
-    → all (st line e []) ≡ other (st line e []) → Walk few line e next Next → Start few num nam line e other Other → ((p : Piece) (ps : List Piece) (b : B) → Other (p ∷ ps) b → is_mark_of m (Some p.says) ≡ false)
+    → all (st line e []) ≡ other (st line e []) → Walk few line e next Next → Start few num nam line e other Other
+    → ((p : Piece) (ps : List Piece) (b : B) → Other (p ∷ ps) b → is_mark_of m (Some p.says) ≡ false)
     → Start few num nam line e all (λ ps b. AfterMark m (λ qs. Next qs b) ps ⊎ Other ps b)
 or_start {B = B} {few = few} {num = num} {line = line} {e = e} {next = next} m all h i marked plain at_end go rest unmarked =
-    lead_start m all h goes (λ p t. leads few num line e (faults_of line e all) (faults_of line e next) p go.faults (λ ps. faulted p ps t) (fresh p t))
+    lead_start m all h goes (λ p t. leads few num line e (faults_of line e all) (faults_of line e next) p go.faults (λ ps. same_fault (marked p ps t)) (fresh p t))
     (λ p ps b t l. law_as (marked p ps t) (λ w. w, λ w. w) (go.law ps b l)) plain at_end rest unmarked
   where
-    faulted : (p : Piece) (ps : List Piece) → is_mark_of m (Some p.says) ≡ true → fault_in (all (st line e (p ∷ ps))) ≡ fault_in (next (st line e ps))
-    faulted p ps t = same_fault (marked p ps t)
-
     goes : Goes (faults_of line e all)
-    goes = (saying (a_mark m) ∷ go.faults.0.0, faulted (saying (a_mark m)) go.faults.0.0 (eq-eqb m m refl) ∙ go.faults.0.1)
+    goes = (saying (a_mark m) ∷ go.faults.0.0, same_fault (marked (saying (a_mark m)) go.faults.0.0 (eq-eqb m m refl)) ∙ go.faults.0.1)
 
     no_minus : (p : Piece) → is_mark_of m (Some p.says) ≡ true → (45 == m) ≡ false → IsMark 45 p → ⊥
     no_minus p t d k = let w : is_mark_of m (Some p.says) ≡ (45 == m) = ap (λ (v : TokenValue). is_mark_of m (Some v)) k in true≢false (sym t ∙ w ∙ d)
@@ -392,7 +407,8 @@ IsUnsigned [] = Unit {0}
 IsUnsigned (p ∷ ps) = (is_mark_of 43 (Some p.says) ≡ false) × (is_mark_of 45 (Some p.says) ≡ false)
 
 pub mark_unsigned : (m : ℕ) (c : Piece) (ps rest : List Piece) → ps ≡ c ∷ rest → IsMark m c → (m == 43) ≡ false → (m == 45) ≡ false → IsUnsigned ps
-mark_unsigned m c ps rest t h i j = subst IsUnsigned (sym t) (ap (λ (o : TokenValue). is_mark_of 43 (Some o)) h ∙ i, ap (λ (o : TokenValue). is_mark_of 45 (Some o)) h ∙ j)
+mark_unsigned m c ps rest t h i j =
+    subst IsUnsigned (sym t) (ap (λ (o : TokenValue). is_mark_of 43 (Some o)) h ∙ i, ap (λ (o : TokenValue). is_mark_of 45 (Some o)) h ∙ j)
 
 pub end_unsigned : (ps : List Piece) → ps ≡ [] → IsUnsigned ps
 end_unsigned ps h = subst IsUnsigned (sym h) tt
@@ -410,7 +426,8 @@ pub sign_start : {A B : Type 0} {few line e : ℕ} {Plus Minus Neither : Relatio
     → Start few false no_name line e (next none) Neither → ((ps : List Piece) (b : B) → Neither ps b → IsUnsigned ps)
     → Start few false no_name line e (followed (sign_at plus minus none) next) (AfterSign Plus Minus Neither)
 sign_start {A = A} {B = B} {line = line} {e = e} {Minus = Minus} {Neither = Neither} plus minus none next go back stay unsigned =
-    or_start 43 (followed (sign_at plus minus none) next) refl (inr refl) (λ p ps t. bound (take_then (is_mark_of 43 (Some p.says)) _ _ t)) (λ p ps t. bound (take_else (is_mark_of 43 (Some p.says)) _ _ t)) refl go
+    or_start 43 (followed (sign_at plus minus none) next) refl (inr refl) (λ p ps t. bound (take_then (is_mark_of 43 (Some p.says)) _ _ t))
+    (λ p ps t. bound (take_else (is_mark_of 43 (Some p.says)) _ _ t)) refl go
     (or_start 45 unplussed refl (inr refl) (λ p ps t. bound (take_then (is_mark_of 45 (Some p.says)) _ _ t)) (λ p ps t. bound (take_else (is_mark_of 45 (Some p.says)) _ _ t)) refl back stay (λ p ps b w. (unsigned (p ∷ ps) b w).1)) no_plus
   where
     unplussed : Reading B
@@ -437,11 +454,13 @@ pub names_start : {B : Type 0} {few : ℕ} {num : Bool} {nam more : Naming} {lin
     → all (st line e []) ≡ other (st line e []) → ((ps : List Piece) (b : B) → Nameless ps → Other ps b ↔ All ps b) → Start few num more line e other Other
     → Start few num nam line e all All
 names_start {few = few} {num = num} {nam = nam} {more = more} {line = line} {e = e} all All names goes named plain at_end alike rest =
-    turns_start all All rest names goes (λ p n i ps. plain p ps (a_number n) i number_is) (λ p i ps. plain p ps (a_mark 40) i mark_is) at_end (λ b. alike [] b tt) (λ p. by_says p p.says refl)
+    turns_start all All rest names goes (λ p n i ps. plain p ps (a_number n) i number_is) (λ p i ps. plain p ps (a_mark 40) i mark_is) at_end
+    (λ b. alike [] b tt) (λ p. by_says p p.says refl)
   where
     others : (p : Piece) (m : TokenValue) → p.says ≡ m → NoName m → Turn few num nam line e all All p
     others p m h z =
-        turn_as all All p (λ ps. plain p ps m h z) (λ ps b. alike (p ∷ ps) b (subst NoName (sym h) z)) (same_kind num nam more p.says (subst NoName (sym h) z)) (turn rest p)
+        turn_as all All p (λ ps. plain p ps m h z) (λ ps b. alike (p ∷ ps) b (subst NoName (sym h) z)) (same_kind num nam more p.says (subst NoName (sym h) z))
+        (turn rest p)
 
     by_says : (p : Piece) (m : TokenValue) → p.says ≡ m → Turn few num nam line e all All p
     by_says p (a_name text) h = named p text h
@@ -450,12 +469,15 @@ names_start {few = few} {num = num} {nam = nam} {more = more} {line = line} {e =
     by_says p (a_mark m) h = others p (a_mark m) h mark_is
 
 -- where names are read by a slot of one token
-pub named_start : {A B : Type 0} {Is : A → Piece → Type 0} {nam : Naming} {few line e : ℕ} {slot : ReaderState → Read A} {other : Reading B} {Other : Relation B}
+pub named_start : {A B : Type 0} {Is : A → Piece → Type 0} {nam : Naming} {few line e : ℕ} {slot : ReaderState → Read A} {other : Reading B}
+    {Other : Relation B}
     (o : OneToken A Is false nam line e slot) (all : Reading B) (next : A → Reading B) (Next : A → Relation B)
     → ((x : A) (p : Piece) → Is x p → (text : List ℕ) × IsNamed text p)
     → ((p : Piece) (ps : List Piece) (text : List ℕ) → IsNamed text p → all (st line e (p ∷ ps)) ≡ followed slot next (st line e (p ∷ ps)))
-    → ((p : Piece) (ps : List Piece) (m : TokenValue) → p.says ≡ m → NoName m → all (st line e (p ∷ ps)) ≡ other (st line e (p ∷ ps))) → all (st line e []) ≡ other (st line e [])
-    → ((x : A) → Walk few line e (next x) (Next x)) → Start few true no_name line e other Other → ((p : Piece) (ps : List Piece) (b : B) → Other (p ∷ ps) b → NoName p.says)
+    → ((p : Piece) (ps : List Piece) (m : TokenValue) → p.says ≡ m → NoName m → all (st line e (p ∷ ps)) ≡ other (st line e (p ∷ ps)))
+    → all (st line e []) ≡ other (st line e [])
+    → ((x : A) → Walk few line e (next x) (Next x)) → Start few true no_name line e other Other
+    → ((p : Piece) (ps : List Piece) (b : B) → Other (p ∷ ps) b → NoName p.says)
     → Start few true nam line e all (λ ps b. Followed Is Next ps b ⊎ Other ps b)
 named_start {A = A} {B = B} {Is = Is} {nam = nam} {few = few} {line = line} {e = e} {slot = slot} {other = other} {Other = Other} o all next Next text_of named plain at_end go rest unnamed_other =
     names_start all Either

@@ -56,9 +56,11 @@ half_leads few num line e all r h text kind named is_half taken alone g law fron
     no_minus : (q : Piece) → is_mark_of 40 (Some q.says) ≡ true → IsMark 45 q → ⊥
     no_minus q t m = let y = sym (mark_says 40 q.says t) ∙ m in cc
 
-    by_alone : (ps : List Piece) (f : ParseFault) → is_mark_of 40 (says_first ps) ≡ false → heard line e (half_front ++ ps) ≡ Some f → Told line (half_front ++ ps) f
+    by_alone : (ps : List Piece) (f : ParseFault) → is_mark_of 40 (says_first ps) ≡ false → heard line e (half_front ++ ps) ≡ Some f
+        → Told line (half_front ++ ps) f
     by_alone ps f t x =
-        told line half_front ps h.col NoSuchName f (continues line e law half_front behind reads (opening_piece ∷ opened.0, opened.1)) (stops ps t) (half_alone half_here)
+        told line half_front ps h.col NoSuchName f (continues line e law half_front behind reads (opening_piece ∷ opened.0, opened.1)) (stops ps t)
+        (half_alone half_here)
         (sym x ∙ reads ps ∙ alone ps t)
 
     by_rest : Traced few line e half_front
