@@ -8,16 +8,16 @@ use Rattle.m88_parse.specs.declared.row.Row.{Row}
 use Rattle.m88_parse.specs.declared.row.Row.TheVariants as row
 use Rattle.m88_parse.specs.Reader.Names.{is_module}
 use Rattle.m88_parse.specs.Language.Pieces.{TokenValue, a_name, a_number, a_text, a_mark, Piece}
-use Rattle.m88_parse.specs.Reader.State.{ReaderState, says_first, first, past, is_mark_of}
-use Rattle.m88_parse.specs.Reader.Slots.{symbol_at, any_name_at}
+use Rattle.m88_parse.specs.Reader.State.{says_first, first, past, is_mark_of}
+use Rattle.m88_parse.specs.Reader.Slots.{any_name_at}
 use Rattle.m88_parse.specs.Reader.Source.{operation_on, operation_at, statement, labelled_on, labelled_at, unlabelled_at, head_at, is_label_on, is_head_on, row_at, end_of_line, row_of_pieces}
-use Rattle.m88_parse.specs.Language.Names.{IsNamed, IsSymbol}
+use Rattle.m88_parse.specs.Language.Names.{IsNamed}
 use Rattle.m88_parse.specs.Language.Statements.{IsBody, text, data_section, at, word, half, byte, ascii, zeros, align, global, set, code, IsLabel, BeginsWithNoColon, IsStatement, unlabelled, labelled, label_alone, IsHead, head}
 use Rattle.m88_parse.specs.Language.Units.{Said, says_nothing, says, begins, LineSays, empty_line, statement_line, module_line}
 use Rattle.m88_parse.proofs.Law.Steps.{chosen, tested, take_then, take_else}
-use Rattle.m88_parse.proofs.Law.Slots.{st, symbols, ok_same, bind_ok, bind_to, mark_says, IsAnyName, one_any_name, one_symbol, slot_again, slot_read}
+use Rattle.m88_parse.proofs.Law.Slots.{st, symbols, ok_same, bind_ok, bind_to, mark_says, IsAnyName, one_any_name, IsSymbolAt, one_symbol}
 use Rattle.m88_parse.proofs.Law.Bodies.{operation_read, body_again}
-use Rattle.m88_parse.proofs.Law.Walks.{Reading, followed, Followed, Start, begun, lawful, end_as, end_start, slot_start}
+use Rattle.m88_parse.proofs.Law.Walks.{Reading, followed, Followed, Start, begun, lawful, end_as, end_start, slot_law, slot_start}
 
 -- the row that says it
 abbrev pub row_for : ℕ → Said → Option Row
@@ -46,21 +46,22 @@ labelled_rest line e p c (q ∷ qs) name r k h =
     let b = bind_ok (operation_at (st line e (q ∷ qs))) (λ (x : Body). Ok (statement (st line e (q ∷ qs)) (Some (name, p.col)) q.col x)) r h in
     record { said = _; line_says = statement_line (labelled k (operation_read line e q qs b.0 b.1)); row_is = ap (λ (x : Row). let y : Option Row = Some x in y) (ok_same b.2) }
 
+-- behind the label
+abbrev label_then : List ℕ × ℕ → Reading Row
+label_then label s = labelled_on (past s) label (first (past s))
+
 label_read : (line e : ℕ) (p : Piece) (ps : List Piece) (r : Row) → is_mark_of 58 (says_first ps) ≡ true → labelled_at (st line e (p ∷ ps)) ≡ Ok r → Stated line (p ∷ ps) r
 unfolding labelled_at
 label_read line e p [] r m h = absurd cc
 label_read line e p (c ∷ ps) r m h =
-    let s = st line e (p ∷ c ∷ ps) in
-    let b = bind_ok (symbol_at s) (λ (label : (List ℕ × ℕ) × ReaderState). labelled_on (past label.1) label.0 (first (past label.1))) r h in
-    let o = slot_read (one_symbol line e) (p ∷ c ∷ ps) b.0 b.1 in
-    let same_piece : p ≡ o.piece = cc (o.tokens) in
-    let same_rest : c ∷ ps ≡ o.rest = cc (o.tokens) in
-    let after : b.0.1 ≡ st line e (c ∷ ps) = o.after ∙ ap (st line e) (sym same_rest) in
-    let col : b.0.0.1 ≡ p.col = o.is.1 ∙ ap (λ (q : Piece). q.col) (sym same_piece) in
-    let named : IsSymbol b.0.0.0 p = subst (IsSymbol b.0.0.0) (sym same_piece) o.is.0 in
-    let k : labelled_on (st line e ps) (b.0.0.0, p.col) (first (st line e ps)) ≡ Ok r =
-    ap₂ (λ (n : ℕ) (t : ReaderState). labelled_on (past t) (b.0.0.0, n) (first (past t))) (sym col) (sym after) ∙ b.2 in
-    labelled_rest line e p c ps b.0.0.0 r (record { symbol = named; colon = mark_says 58 c.says m }) k
+    let w = (slot_law (one_symbol line e) label_then (p ∷ c ∷ ps) r).0 h in
+    let t = w.tokens in
+    let same_piece : w.piece ≡ p = cc in
+    let same_rest : w.rest ≡ c ∷ ps = cc in
+    let label : IsSymbolAt w.value p = subst (IsSymbolAt w.value) same_piece w.is in
+    let k : label_then w.value (st line e (c ∷ ps)) ≡ Ok r = ap (λ (qs : List Piece). label_then w.value (st line e qs)) (sym same_rest) ∙ w.next in
+    labelled_rest line e p c ps w.value.0 r (record { symbol = label.0; colon = mark_says 58 c.says m })
+    (ap (λ (col : ℕ). label_then (w.value.0, col) (st line e (c ∷ ps))) (sym label.1) ∙ k)
 
 -- heads of modules
 
@@ -139,12 +140,13 @@ row_read line e p ps r h =
 
 -- what is related is read
 
-label_again : (line e : ℕ) (p c : Piece) (ps : List Piece) (name : List ℕ) (z : Result Row ParseFault) → IsLabel p c name → labelled_on (st line e ps) (name, p.col) (first (st line e ps)) ≡ z → row_at (st line e (p ∷ c ∷ ps)) ≡ z
+label_again : (line e : ℕ) (p c : Piece) (ps : List Piece) (name : List ℕ) (r : Row) → IsLabel p c name
+    → labelled_on (st line e ps) (name, p.col) (first (st line e ps)) ≡ Ok r → row_at (st line e (p ∷ c ∷ ps)) ≡ Ok r
 unfolding row_at labelled_at
-label_again line e p c ps name z k h =
-    let s = st line e (p ∷ c ∷ ps) in
+label_again line e p c ps name r k h =
     take_then (is_label_on (Some p.says) (Some c.says)) _ _ (ap₂ (λ (a b : TokenValue). is_label_on (Some a) (Some b)) k.symbol.0 k.colon)
-    ∙ bind_to (symbol_at s) (λ (label : (List ℕ × ℕ) × ReaderState). labelled_on (past label.1) label.0 (first (past label.1))) ((name, p.col), st line e (c ∷ ps)) z (slot_again (one_symbol line e) (name, p.col) p (c ∷ ps) (k.symbol, refl)) h
+    ∙ (slot_law (one_symbol line e) label_then (p ∷ c ∷ ps) r).1
+    (record { value = (name, p.col); piece = p; rest = c ∷ ps; tokens = refl; is = (k.symbol, refl); next = h })
 
 colon_free : (m : TokenValue) (ps : List Piece) → BeginsWithNoColon ps → is_label_on (Some m) (says_first ps) ≡ false
 colon_free (a_name name) [] h = refl
@@ -192,9 +194,9 @@ plain_again line e p ps c h k =
 statement_again : (line e : ℕ) (ps : List Piece) (s : Statement) → IsStatement line ps s → row_at (st line e ps) ≡ Ok (row.Statement s)
 statement_again line e ps s (unlabelled {p = p} {ps = qs} {said = c} h k) = plain_again line e p qs c h k
 statement_again line e ps s (labelled {l = l} {c = c} {p = p} {ps = qs} {name = name} {said = said} k h) =
-    label_again line e l c (p ∷ qs) name (Ok (row.Statement s)) k
+    label_again line e l c (p ∷ qs) name (row.Statement s) k
     (bind_to (operation_at (st line e (p ∷ qs))) (λ (x : Body). Ok (statement (st line e (p ∷ qs)) (Some (name, l.col)) p.col x)) said (Ok (row.Statement s)) (body_again line e (p ∷ qs) said h) refl)
-statement_again line e ps s (label_alone {l = l} {c = c} {name = name} k) = label_again line e l c [] name (Ok (row.Statement s)) k refl
+statement_again line e ps s (label_alone {l = l} {c = c} {name = name} k) = label_again line e l c [] name (row.Statement s) k refl
 
 -- a line's tokens
 

@@ -12,7 +12,7 @@ use Rattle.m88_parse.specs.Language.Pieces.{TokenValue, a_name, a_number, a_text
 use Rattle.m88_parse.specs.Reader.Names.{register_of, control_of, float_control_of, control_in, is_valid_name, is_symbol}
 use Rattle.m88_parse.specs.Language.Words.{bit_named, condition_named}
 use Rattle.m88_parse.specs.Reader.State.{ReaderState, first, is_mark_of, is_next_mark, ◌>>=◌}
-use Rattle.m88_parse.specs.Reader.Slots.{Read, meaning_or_fault, mark_at, line_end_at, unsigned_on, unsigned_at, register_on, register_at, control_on, control_at, tabled_on, bit_at, mask_at, symbol_on, symbol_at, text_on, text_at, any_name_on, any_name_at, alignment_on, alignment_at}
+use Rattle.m88_parse.specs.Reader.Slots.{Read, meaning_or_fault, mark_at, unsigned_on, unsigned_at, register_on, register_at, control_on, control_at, tabled_on, bit_at, mask_at, symbol_on, symbol_at, text_on, text_at, any_name_on, any_name_at, alignment_on, alignment_at}
 use Rattle.m88_parse.specs.Language.Names.{IsMark, IsNumber, IsNamed, IsRegister, IsControl, IsBit, IsCondition, IsSymbol}
 use Rattle.m88_parse.proofs.Law.Steps.{either, take_then, take_else}
 use Rattle.m88_parse.proofs.Law.Names.{some_same, register_is, register_name_again, control_name_is, control_name_again, symbol_is, symbol_name_again, name_is, name_spelled_again}
@@ -41,14 +41,6 @@ pub mapped : (A B C : Type 0) (r : Read A) (f : A → C) (k : C → ReaderState 
 mapped A B C (Ok x) f k = refl
 mapped A B C (Err g) f k = refl
 
--- one token, what it gives, and what is left
-pub record One (A : Type 0) (Is : A → Piece → Type 0) (line e : ℕ) (ps : List Piece) (x : A × ReaderState) : Type 0 where
-  pub piece : Piece
-  pub rest : List Piece
-  pub tokens : ps ≡ piece ∷ rest
-  pub is : Is x.0 piece
-  pub after : x.1 ≡ st line e rest
-
 -- a mark
 
 pub mark_says : (m : ℕ) (o : TokenValue) → is_mark_of m (Some o) ≡ true → o ≡ a_mark m
@@ -59,12 +51,6 @@ mark_says m (a_mark b) h = ap a_mark (eqb-true b m h)
 
 pub next_again : (m line e : ℕ) (p : Piece) (ps : List Piece) → IsMark m p → is_next_mark m (st line e (p ∷ ps)) ≡ true
 next_again m line e p ps h = ap (λ (o : TokenValue). is_mark_of m (Some o)) h ∙ eq-eqb m m refl
-
--- the end of the line
-
-pub end_read : (line e : ℕ) (ps : List Piece) (t : ReaderState) → line_end_at (st line e ps) ≡ Ok t → ps ≡ []
-end_read line e [] t h = refl
-end_read line e (p ∷ ps) t h = absurd cc
 
 -- which names are wanted: none, those with a meaning of their own, or symbols
 pub data Naming : Type 0 where
@@ -149,19 +135,6 @@ pub record OneToken (A : Type 0) (Is : A → Piece → Type 0) (num : Bool) (nam
   pub names : GivesNames nam given
   pub marks : (p : Piece) (m : ℕ) → (m ≡ 40) ⊎ (m ≡ 45) → IsMark m p → given p ≡ None
   pub some : (p : Piece) × (x : A) × (given p ≡ Some x)
-
--- what is read in such a slot is what the token is
-
-pub slot_read : {A : Type 0} {Is : A → Piece → Type 0} {num : Bool} {nam : Naming} {line e : ℕ} {slot : ReaderState → Read A} (o : OneToken A Is num nam line e slot) (ps : List Piece) (x : A × ReaderState) → slot (st line e ps) ≡ Ok x → One A Is line e ps x
-slot_read o [] x h = let y = sym o.empty ∙ h in absurd cc
-slot_read {A = A} {Is = Is} {num = num} {nam = nam} {line = line} {e = e} o (p ∷ ps) x h = by_given (o.given p) refl (sym (o.each p ps) ∙ h)
-  where
-    by_given : (y : Option A) → o.given p ≡ y → gives line e p ps (kind_for num nam p.says) y ≡ Ok x → One A Is line e (p ∷ ps) x
-    by_given (Some v) j k = subst (One A Is line e (p ∷ ps)) (ok_same k) (record { piece = p; rest = ps; tokens = refl; is = o.is p v j; after = refl })
-    by_given None j k = absurd cc
-
-pub slot_again : {A : Type 0} {Is : A → Piece → Type 0} {num : Bool} {nam : Naming} {line e : ℕ} {slot : ReaderState → Read A} (o : OneToken A Is num nam line e slot) (x : A) (p : Piece) (ps : List Piece) → Is x p → slot (st line e (p ∷ ps)) ≡ Ok (x, st line e ps)
-slot_again {num = num} {nam = nam} {line = line} {e = e} o x p ps h = o.each p ps ∙ ap (gives line e p ps (kind_for num nam p.says)) (o.again p x h)
 
 -- a token by what it says
 

@@ -2,6 +2,7 @@
 -- slots of one token, marks and the end of a line, and ways to put them together, whatever stands behind them.
 use Rattle.std.proofs.Common.{◌≡◌, ◌↔◌, ℕ, suc, ◌<◌, Bool, true, false, ◌==◌, ◌⊎◌, inl, inr, List, [], ◌∷◌, ◌++◌, length, Option, Some, None, Ok, Err, Result, refl, sym, ap, ◌∙◌, arith, subst, append-nil, eq-eqb, true≢false, if◌then◌else◌}
 use Rattle.m88_parse.specs.declared.fault.ParseKind.{ParseKind}
+use Rattle.m88_parse.specs.declared.fault.ParseKind.TheVariants.{Syntax}
 use Rattle.m88_parse.specs.declared.fault.ParseFault.{ParseFault}
 use Rattle.m88_parse.specs.declared.unit.Body.{Body}
 use Rattle.m88_parse.specs.Language.Pieces.{TokenValue, a_name, a_number, a_text, a_mark, Piece}
@@ -10,7 +11,6 @@ use Rattle.m88_parse.specs.Reader.State.{ReaderState, past, says_first, is_mark_
 use Rattle.m88_parse.specs.Reader.Slots.{Read, mark_at, line_end_at}
 use Rattle.m88_parse.specs.Reader.Grammar.{end_with}
 use Rattle.m88_parse.proofs.Law.Steps.{tested, take_then, take_else}
-use Rattle.m88_parse.proofs.Law.Names.{some_same}
 use Rattle.m88_parse.proofs.Law.Slots.{st, Naming, no_name, own_names, symbols, kind_for, plain_kind, ok_same, mark_says, next_again, gives, GivesNumbers, GivesNames, OneToken, one_mark, saying, NoName, number_is, text_is, mark_is, no_named, same_kind}
 use Rattle.m88_parse.proofs.Law.LineFaults.Readers.{fault_in, same_fault, Reader, here, Goes, Refuses, Good, WantsNumbers, WantsNames}
 use Rattle.m88_parse.proofs.Law.LineFaults.Nodes.{Leads, Faults, Node, refuses_as, numbers_as, names_as, each_as, node_as, leads, good, good_node}
@@ -200,66 +200,75 @@ end_start {B = B} few line e b = record {
     law [] c = (λ h. (refl, ok_same h), λ w. ap (λ (x : B). let y : Result B ParseFault = Ok x in y) w.1)
     law (p ∷ ps) c = (λ h. absurd cc, λ w. let t = w.0 in absurd cc)
 
--- what a token gives in a slot, and what is read behind it, where more or fewer numbers may stand there
-pub slot_turn : {A B : Type 0} {Is : A → Piece → Type 0} {num : Bool} {nam : Naming} {few line e : ℕ} {slot : ReaderState → Read A}
-    (o : OneToken A Is num nam line e slot) (next : A → Reading B) (Next : A → Relation B) → ((x : A) → Walk few line e (next x) (Next x))
-    → (more : Bool) (p : Piece) → kind_for num nam p.says ≡ kind_for more nam p.says
-    → Turn few more nam line e (followed slot next) (Followed Is Next) p
-slot_turn {A = A} {B = B} {Is = Is} {num = num} {nam = nam} {few = few} {line = line} {e = e} {slot = slot} o next Next go more p kinds =
-    by_given (o.given p) refl
+-- what is read by a slot of one token, and what is read behind it
+
+slot_said : {A B : Type 0} {Is : A → Piece → Type 0} {num : Bool} {nam : Naming} {line e : ℕ} {slot : ReaderState → Read A}
+    (o : OneToken A Is num nam line e slot) (next : A → Reading B) (p : Piece) (y : Option A) → o.given p ≡ y → (ps : List Piece)
+    → followed slot next (st line e (p ∷ ps)) ≡ (gives line e p ps (kind_for num nam p.says) y >>= λ (x : A × ReaderState). next x.0 x.1)
+slot_said {A = A} {num = num} {nam = nam} {line = line} {e = e} o next p y h ps =
+    ap (λ (r : Read A). r >>= λ (x : A × ReaderState). next x.0 x.1) (o.each p ps ∙ ap (gives line e p ps (kind_for num nam p.says)) h)
+
+slot_ends : {A B : Type 0} {Is : A → Piece → Type 0} {num : Bool} {nam : Naming} {line e : ℕ} {slot : ReaderState → Read A}
+    (o : OneToken A Is num nam line e slot) (next : A → Reading B) → followed slot next (st line e []) ≡ Err (record { line = line; col = e; kind = Syntax })
+slot_ends {A = A} o next = ap (λ (r : Read A). r >>= λ (x : A × ReaderState). next x.0 x.1) o.empty
+
+pub slot_law : {A B : Type 0} {Is : A → Piece → Type 0} {num : Bool} {nam : Naming} {line e : ℕ} {slot : ReaderState → Read A}
+    (o : OneToken A Is num nam line e slot) (next : A → Reading B) (ps : List Piece) (b : B)
+    → (followed slot next (st line e ps) ≡ Ok b) ↔ Then A Is (λ x qs. next x (st line e qs) ≡ Ok b) ps
+slot_law {A = A} {Is = Is} {line = line} {e = e} {slot = slot} o next ps b = (
+  reads ps,
+  λ w. ap (λ (qs : List Piece). followed slot next (st line e qs)) w.tokens ∙ slot_said o next w.piece (Some w.value) (o.again w.piece w.value w.is) w.rest ∙ w.next,
+)
   where
-    said : (ps : List Piece) (y : Option A) → o.given p ≡ y
-        → followed slot next (st line e (p ∷ ps)) ≡ (gives line e p ps (kind_for num nam p.says) y >>= λ (x : A × ReaderState). next x.0 x.1)
-    said ps y h = ap (λ (r : Read A). r >>= λ (x : A × ReaderState). next x.0 x.1) (o.each p ps ∙ ap (gives line e p ps (kind_for num nam p.says)) h)
+    by_given : (p : Piece) (qs : List Piece) (y : Option A) → o.given p ≡ y → followed slot next (st line e (p ∷ qs)) ≡ Ok b
+        → Then A Is (λ x us. next x (st line e us) ≡ Ok b) (p ∷ qs)
+    by_given p qs (Some x) i h = record { value = x; piece = p; rest = qs; tokens = refl; is = o.is p x i; next = sym (slot_said o next p (Some x) i qs) ∙ h }
+    by_given p qs None i h = let y = sym (slot_said o next p None i qs) ∙ h in absurd cc
 
-    given_again : (ps : List Piece) (b : B) (w : Followed Is Next (p ∷ ps) b) → (o.given p ≡ Some w.value) × Next w.value ps b
-    given_again ps b w =
-        let t = w.tokens in
-        let first : w.piece ≡ p = cc in
-        let behind : w.rest ≡ ps = cc in
-        (o.again p w.value (subst (Is w.value) first w.is), subst (λ (qs : List Piece). Next w.value qs b) behind w.next)
+    reads : (qs : List Piece) → followed slot next (st line e qs) ≡ Ok b → Then A Is (λ x us. next x (st line e us) ≡ Ok b) qs
+    reads [] h = let y = sym (slot_ends o next) ∙ h in absurd cc
+    reads (p ∷ qs) h = by_given p qs (o.given p) refl h
 
-    by_given : (y : Option A) → o.given p ≡ y → Turn few more nam line e (followed slot next) (Followed Is Next) p
+-- where more or fewer numbers may stand there, a token leads on or is a fault all the same
+slot_each : {A B : Type 0} {Is : A → Piece → Type 0} {num : Bool} {nam : Naming} {few line e : ℕ} {slot : ReaderState → Read A}
+    (o : OneToken A Is num nam line e slot) (next : A → Reading B) → ((x : A) → Good few line e (faults_of line e (next x)))
+    → (more : Bool) (p : Piece) → kind_for num nam p.says ≡ kind_for more nam p.says
+    → Leads few more line e (faults_of line e (followed slot next)) p ⊎ Faults more nam line (faults_of line e (followed slot next)) p
+slot_each {A = A} {nam = nam} {few = few} {line = line} {e = e} {slot = slot} o next go more p kinds = by_given (o.given p) refl
+  where
+    by_given : (y : Option A) → o.given p ≡ y
+        → Leads few more line e (faults_of line e (followed slot next)) p ⊎ Faults more nam line (faults_of line e (followed slot next)) p
     by_given (Some x) h =
-        turn_leads (followed slot next) (Followed Is Next) p (λ ps. said ps (Some x) h)
-        (λ ps b. (
-          λ w. record { value = x; piece = p; rest = ps; tokens = refl; is = o.is p x h; next = w },
-          λ w. let g = given_again ps b w in subst (λ (v : A). Next v ps b) (some_same (sym g.0 ∙ h)) g.1,
-        ))
-        (inl (λ m. let y : ◌≡◌ {A = Option A} (Some x) None = sym h ∙ o.marks p 45 (inr refl) m in cc)) (go x)
-    by_given None h =
-        turn_stops (followed slot next) (Followed Is Next) p (λ ps. said ps None h ∙ ap (fault_at line p) kinds)
-        (λ ps b w. let y : ◌≡◌ {A = Option A} (Some w.value) None = sym (given_again ps b w).0 ∙ h in cc)
+        inl (leads few more line e (faults_of line e (followed slot next)) (faults_of line e (next x)) p (go x) (λ ps. same_fault (slot_said o next p (Some x) h ps))
+        (inl (λ m. let y : ◌≡◌ {A = Option A} (Some x) None = sym h ∙ o.marks p 45 (inr refl) m in cc)))
+    by_given None h = inr (λ ps. same_fault (slot_said o next p None h ps) ∙ ap (here line p.col) kinds)
 
 pub slot_start : {A B : Type 0} {Is : A → Piece → Type 0} {num : Bool} {nam : Naming} {few line e : ℕ} {slot : ReaderState → Read A}
     (o : OneToken A Is num nam line e slot) (next : A → Reading B) (Next : A → Relation B) → ((x : A) → Walk few line e (next x) (Next x))
     → Start few num nam line e (followed slot next) (Followed Is Next)
-slot_start {A = A} {B = B} {Is = Is} {num = num} {nam = nam} {few = few} {line = line} {e = e} {slot = slot} o next Next go = record {
-  law = law;
+slot_start {A = A} {num = num} {nam = nam} {line = line} {e = e} {slot = slot} o next Next go = record {
+  law = λ ps b l. (
+    λ h.
+        let w = (slot_law o next ps b).0 h in
+        let n = ((go w.value).law w.rest b (omega (arith, l, ap length w.tokens))).0 w.next in
+        record { value = w.value; piece = w.piece; rest = w.rest; tokens = w.tokens; is = w.is; next = n },
+    λ w.
+        let n = ((go w.value).law w.rest b (omega (arith, l, ap length w.tokens))).1 w.next in
+        (slot_law o next ps b).1 (record { value = w.value; piece = w.piece; rest = w.rest; tokens = w.tokens; is = w.is; next = n }),
+  );
   node = record {
     wants = record { numbers = numbers num o.numbers; names = names nam o.names; opening = λ p h. refuses p (o.marks p 40 (inl refl) h) };
     goes = let s = o.some in let y = goes_on s.0 s.1 s.2 in (s.0 ∷ y.0, y.1);
-    stop = inr (same_fault (bound o.empty));
-    each = λ p. (slot_turn o next Next go num p refl).each;
+    stop = inr (same_fault (slot_ends o next));
+    each = λ p. slot_each o next (λ x. (go x).faults) num p refl;
   };
 }
   where
-    bound : {q r : Read A} → q ≡ r → (q >>= λ (x : A × ReaderState). next x.0 x.1) ≡ (r >>= λ (x : A × ReaderState). next x.0 x.1)
-    bound h = ap (λ (r : Read A). r >>= λ (x : A × ReaderState). next x.0 x.1) h
-
-    law : Law (suc few) line e (followed slot next) (Followed Is Next)
-    law [] b l = (λ h. let y = sym (bound o.empty) ∙ h in absurd cc, λ w. let t = w.tokens in absurd cc)
-    law (p ∷ ps) b l = (slot_turn o next Next go num p refl).law ps b (omega (arith, l))
-
-    said : (p : Piece) (y : Option A) → o.given p ≡ y → (ps : List Piece)
-        → faults_of line e (followed slot next) (p ∷ ps) ≡ fault_in (gives line e p ps (kind_for num nam p.says) y >>= λ (x : A × ReaderState). next x.0 x.1)
-    said p y h ps = same_fault (bound (o.each p ps ∙ ap (gives line e p ps (kind_for num nam p.says)) h))
-
     goes_on : (p : Piece) (x : A) → o.given p ≡ Some x → Goes (λ ps. faults_of line e (followed slot next) (p ∷ ps))
-    goes_on p x h = let y = (go x).faults.0 in (y.0, said p (Some x) h y.0 ∙ y.1)
+    goes_on p x h = let y = (go x).faults.0 in (y.0, same_fault (slot_said o next p (Some x) h y.0) ∙ y.1)
 
     refuses : (p : Piece) → o.given p ≡ None → Refuses (faults_of line e (followed slot next)) p
-    refuses p h ps x = let y = sym (said p None h ps) ∙ x in cc
+    refuses p h ps x = refused (slot_said o next p None h ps) x
 
     numbers : (b : Bool) → GivesNumbers b o.given → WantsNumbers b (faults_of line e (followed slot next))
     numbers true h = (h.0, h.1, h.3, goes_on h.0 h.2 h.4)
@@ -481,11 +490,20 @@ pub named_start : {A B : Type 0} {Is : A → Piece → Type 0} {nam : Naming} {f
     → Start few true nam line e all (λ ps b. Followed Is Next ps b ⊎ Other ps b)
 named_start {A = A} {B = B} {Is = Is} {nam = nam} {few = few} {line = line} {e = e} {slot = slot} {other = other} {Other = Other} o all next Next text_of named plain at_end go rest unnamed_other =
     names_start all Either
-    (names_as nam (faults_of line e all) (faults_of line e (followed slot next)) (λ p text h ps. same_fault (named p ps text h)) (slot_start o next Next go).node.wants.names)
+    (names_as nam (faults_of line e all) (faults_of line e (followed slot next)) (λ p text h ps. same_fault (named p ps text h)) names.node.wants.names)
     (let w = rest.node.wants.numbers in (w.0 ∷ w.3.0, same_fault (plain w.0 w.3.0 (a_number w.1) w.2 number_is) ∙ w.3.1))
     (λ p text h. turn_as all Either p (λ ps. named p ps text h) (λ ps b. (λ w. inl w, λ w. elim w [ inl v ↦ v | inr v ↦ absurd (no_named p.says text (unnamed_other p ps b v) h) ])) refl
-    (slot_turn o next Next go true p (ap (kind_for false nam) h ∙ sym (ap (kind_for true nam) h))))
+    (by_name p text h))
     plain at_end (λ ps b z. (λ w. inr w, λ w. elim w [ inl v ↦ absurd (let n = text_of v.value v.piece v.is in no_named v.piece.says n.0 (subst Nameless v.tokens z) n.1) | inr v ↦ v ])) rest
   where
     Either : Relation B
     Either ps b = Followed Is Next ps b ⊎ Other ps b
+
+    names : Start few false nam line e (followed slot next) (Followed Is Next)
+    names = slot_start o next Next go
+
+    by_name : (p : Piece) (text : List ℕ) → IsNamed text p → Turn few true nam line e (followed slot next) (Followed Is Next) p
+    by_name p text h = record {
+      law = (turn names p).law;
+      each = slot_each o next (λ x. (go x).faults) true p (ap (kind_for false nam) h ∙ sym (ap (kind_for true nam) h));
+    }
