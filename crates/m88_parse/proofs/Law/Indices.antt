@@ -112,7 +112,8 @@ IsIndexOf ps (index.Offset x) = AfterComma (λ qs. IsOperandOf qs x) ps
 pub index_start : (few line e : ℕ) (made : Index → Body) → Start few false no_name line e (ended index_at made) (Last Index IsIndexOf made)
 unfolding index_at
 index_start few line e made =
-    indexed_start Operand Index IsOperandOf IsIndexOf operand_at (λ r. index.Scaled r) (λ x. index.Offset x) made few line e (begun (operand_start few line e (λ x. made (index.Offset x)))) (λ ps y. (to ps y, from ps y))
+    indexed_start Operand Index IsOperandOf IsIndexOf operand_at (λ r. index.Scaled r) (λ x. index.Offset x) made few line e
+    (begun (operand_start few line e (λ x. made (index.Offset x)))) (λ ps y. (to ps y, from ps y))
   where
     to : (ps : List Piece) (y : Index) → Indexed Operand Index IsOperandOf (λ r. index.Scaled r) (λ x. index.Offset x) ps y → IsIndexOf ps y
     to ps y (inl u) = subst (IsIndexOf ps) u.2 u.1

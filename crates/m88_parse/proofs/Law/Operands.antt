@@ -87,7 +87,9 @@ inside_start few line e kind made =
 
     to : (ps : List Piece) (b : Body) → Several Value (IsValue kind) (λ v qs. Closed v qs b) ps → Inside kind made ps b
     to ps b w =
-        let n = w.next in (w.value, w.front, n.0, w.tokens ∙ ap (λ (qs : List Piece). w.front ++ qs) (n.2 ∙ ap (λ (qs : List Piece). n.0 ∷ qs) n.4.0), w.is, n.3, n.4.1)
+        let n = w.next in
+        let same : ps ≡ w.front ++ n.0 ∷ [] = w.tokens ∙ ap (λ (qs : List Piece). w.front ++ qs) (n.2 ∙ ap (λ (qs : List Piece). n.0 ∷ qs) n.4.0) in
+        (w.value, w.front, n.0, same, w.is, n.3, n.4.1)
 
 -- an immediate that stands last
 
@@ -117,7 +119,8 @@ short_met made ps b w =
 
 met_short : (made : Immediate → Body) (ps : List Piece) (b : Body) (imm : ℕ) (fixup : Option Fixup) → Nameless ps → IsImmediate ps imm fixup
     → made (record { imm = imm; fixup = fixup }) ≡ b → ShortEnd made ps b
-met_short made ps b imm fixup z (short {p = p} n l) w = record { value = imm; piece = p; rest = []; tokens = refl; is = (n, omega (arith, l)); next = (refl, w) }
+met_short made ps b imm fixup z (short {p = p} n l) w =
+    record { value = imm; piece = p; rest = []; tokens = refl; is = (n, omega (arith, l)); next = (refl, w) }
 met_short made ps b imm fixup z (half {h = p} front c name kind v n k a t i d g) w = absurd (no_named p.says name z n)
 
 -- read where a half begins, and by its first token where none does
@@ -167,7 +170,7 @@ half_turn : (few line e : ℕ) (made : Immediate → Body) (p : Piece) (text : L
 half_turn few line e made p text kind h n = record {
   law = λ ps b l. elim (tested (is_mark_of 40 (says_first ps))) [
     | inl t ↦ opened ps b t l
-    | inr t ↦ (λ x. let y = sym (alone ps t) ∙ x in absurd cc, λ w. absurd (true≢false (sym (after_marked 40 (λ qs. Inside (met ps b w).0 made qs b) ps (met ps b w).2) ∙ t)))
+    | inr t ↦ (λ x. let y = sym (alone ps t) ∙ x in absurd cc, λ w. absurd (unopened ps b t w))
   ];
   each = inl (half_leads few true line e (faults_of line e (ended immediate_at made)) (faults_of line e (half_inside kind made)) p text kind h n
       (λ q ps t. same_fault (half_taken line e made p q ps text kind h n t)) (λ ps t. same_fault (alone ps t)) go.faults);
@@ -181,6 +184,9 @@ half_turn few line e made p text kind h n = record {
 
     met : (ps : List Piece) (b : Body) → ImmediateEnd made (p ∷ ps) b → (k : Kind) × (half_named text ≡ Some k) × AfterMark 40 (λ qs. Inside k made qs b) ps
     met ps b w = half_met made p ps b text w.0.imm w.0.fixup h w.1 w.2
+
+    unopened : (ps : List Piece) (b : Body) → is_mark_of 40 (says_first ps) ≡ false → ImmediateEnd made (p ∷ ps) b → ⊥
+    unopened ps b t w = let m = met ps b w in true≢false (sym (after_marked 40 (λ qs. Inside m.0 made qs b) ps m.2) ∙ t)
 
     to : (q : Piece) (ps : List Piece) (b : Body) → IsMark 40 q → Inside kind made ps b → ImmediateEnd made (p ∷ q ∷ ps) b
     to q ps b o w = (half_immediate kind w.0, half w.1 w.2 text kind w.0 h n o w.3 w.4 w.5 (half_is_of kind w.0 (kinds_only text kind n)), w.6)
@@ -303,8 +309,9 @@ operand_start few line e made =
 
     by_register : (p : Piece) (o : Option Reg) → register_in (Some p.says) ≡ o → Turn few true own_names line e all All p
     by_register p (Some r) h =
+        let is : IsRegister r p = named_register p r p.says refl h in
         turn_leads all All p (λ ps. ap (λ (o : Option Reg). operand_of (st line e (p ∷ ps)) o >>= λ (x : Operand × ReaderState). end_with (made x.0) x.1) h)
-        (λ ps b. (λ k. (operand.Register r, subst (λ (qs : List Piece). IsLast r (p ∷ qs)) (sym k.0) (named_register p r p.says refl h), k.1), λ w. last p ps b r w.0 h w.1 w.2))
+        (λ ps b. (λ k. (operand.Register r, subst (λ (qs : List Piece). IsLast r (p ∷ qs)) (sym k.0) is, k.1), λ w. last p ps b r w.0 h w.1 w.2))
         (inl (λ m. let y : ◌≡◌ {A = Option Reg} (Some r) None = sym h ∙ says p (a_mark 45) m in cc)) (begun (end_start few line e (made (operand.Register r))))
     by_register p None h = turn_as all All p (λ ps. by_immediate (p ∷ ps) h) (λ ps b. alike (p ∷ ps) b h) refl (turn (immediate_start few line e immediates) p)
 

@@ -32,12 +32,15 @@ pub bind_to : {A B : Type 0} (r : Result A ParseFault) (f : A → Result B Parse
 bind_to r f x z h k = ap (λ (y : Result _ ParseFault). y >>= f) h ∙ k
 
 -- readings in turn, the last of which is read on from
-pub turns : {A B C : Type 0} (r : Result A ParseFault) (f : A → Result B ParseFault) (g : B → Result C ParseFault) (h : A → Result C ParseFault) → ((x : A) → (f x >>= g) ≡ h x) → ((r >>= f) >>= g) ≡ (r >>= h)
+pub turns : {A B C : Type 0} (r : Result A ParseFault) (f : A → Result B ParseFault) (g : B → Result C ParseFault) (h : A → Result C ParseFault)
+    → ((x : A) → (f x >>= g) ≡ h x) → ((r >>= f) >>= g) ≡ (r >>= h)
 turns (Ok x) f g h same = same x
 turns (Err y) f g h same = refl
 
 -- what is read by a slot and then changed
-pub mapped : (A B C : Type 0) (r : Read A) (f : A → C) (k : C → ReaderState → Result B ParseFault) → ((r >>= λ (x : A × ReaderState). let y : Read C = Ok (f x.0, x.1) in y) >>= λ (y : C × ReaderState). k y.0 y.1) ≡ (r >>= λ (x : A × ReaderState). k (f x.0) x.1)
+pub mapped : (A B C : Type 0) (r : Read A) (f : A → C) (k : C → ReaderState → Result B ParseFault)
+    → ((r >>= λ (x : A × ReaderState). let y : Read C = Ok (f x.0, x.1) in y) >>= λ (y : C × ReaderState). k y.0 y.1)
+    ≡ (r >>= λ (x : A × ReaderState). k (f x.0) x.1)
 mapped A B C (Ok x) f k = refl
 mapped A B C (Err g) f k = refl
 

@@ -82,7 +82,8 @@ pub record Start {B : Type 0} (few : ℕ) (num : Bool) (nam : Naming) (line e : 
 
 pub begun_more : {B : Type 0} {few : ℕ} {num : Bool} {nam : Naming} {line e : ℕ} {reads : Reading B} {Is : Relation B} → Start few num nam line e reads Is
     → Walk (suc few) line e reads Is
-begun_more {few = few} {num = num} {nam = nam} {line = line} {e = e} {reads = reads} s = record { law = s.law; faults = good_node few num nam line e (faults_of line e reads) s.node }
+begun_more {few = few} {num = num} {nam = nam} {line = line} {e = e} {reads = reads} s =
+    record { law = s.law; faults = good_node few num nam line e (faults_of line e reads) s.node }
 
 pub begun : {B : Type 0} {few : ℕ} {num : Bool} {nam : Naming} {line e : ℕ} {reads : Reading B} {Is : Relation B} → Start few num nam line e reads Is
     → Walk few line e reads Is
@@ -217,7 +218,9 @@ pub slot_law : {A B : Type 0} {Is : A → Piece → Type 0} {num : Bool} {nam : 
     → (followed slot next (st line e ps) ≡ Ok b) ↔ Then A Is (λ x qs. next x (st line e qs) ≡ Ok b) ps
 slot_law {A = A} {Is = Is} {line = line} {e = e} {slot = slot} o next ps b = (
   reads ps,
-  λ w. ap (λ (qs : List Piece). followed slot next (st line e qs)) w.tokens ∙ slot_said o next w.piece (Some w.value) (o.again w.piece w.value w.is) w.rest ∙ w.next,
+  λ w.
+      ap (λ (qs : List Piece). followed slot next (st line e qs)) w.tokens ∙ slot_said o next w.piece (Some w.value) (o.again w.piece w.value w.is) w.rest
+      ∙ w.next,
 )
   where
     by_given : (p : Piece) (qs : List Piece) (y : Option A) → o.given p ≡ y → followed slot next (st line e (p ∷ qs)) ≡ Ok b
@@ -239,7 +242,8 @@ slot_each {A = A} {nam = nam} {few = few} {line = line} {e = e} {slot = slot} o 
     by_given : (y : Option A) → o.given p ≡ y
         → Leads few more line e (faults_of line e (followed slot next)) p ⊎ Faults more nam line (faults_of line e (followed slot next)) p
     by_given (Some x) h =
-        inl (leads few more line e (faults_of line e (followed slot next)) (faults_of line e (next x)) p (go x) (λ ps. same_fault (slot_said o next p (Some x) h ps))
+        inl (leads few more line e (faults_of line e (followed slot next)) (faults_of line e (next x)) p (go x)
+        (λ ps. same_fault (slot_said o next p (Some x) h ps))
         (inl (λ m. let y : ◌≡◌ {A = Option A} (Some x) None = sym h ∙ o.marks p 45 (inr refl) m in cc)))
     by_given None h = inr (λ ps. same_fault (slot_said o next p None h ps) ∙ ap (here line p.col) kinds)
 
@@ -308,7 +312,8 @@ last_start {A = A} Is slot made go =
   where
     to : (ps : List Piece) (b : Body) → Several A Is (λ x qs. Ends made x qs b) ps → Last A Is made ps b
     to ps b w =
-        (w.value, subst (λ (qs : List Piece). Is qs w.value) (sym (w.tokens ∙ ap (λ (qs : List Piece). w.front ++ qs) w.next.0 ∙ append-nil w.front)) w.is, w.next.1)
+        let same : ps ≡ w.front = w.tokens ∙ ap (λ (qs : List Piece). w.front ++ qs) w.next.0 ∙ append-nil w.front in
+        (w.value, subst (λ (qs : List Piece). Is qs w.value) (sym same) w.is, w.next.1)
 
 -- a slot of one token and the end
 
@@ -398,7 +403,8 @@ pub or_start : {B : Type 0} {few : ℕ} {num : Bool} {nam : Naming} {line e : �
     → ((p : Piece) (ps : List Piece) (b : B) → Other (p ∷ ps) b → is_mark_of m (Some p.says) ≡ false)
     → Start few num nam line e all (λ ps b. AfterMark m (λ qs. Next qs b) ps ⊎ Other ps b)
 or_start {B = B} {few = few} {num = num} {line = line} {e = e} {next = next} m all h i marked plain at_end go rest unmarked =
-    lead_start m all h goes (λ p t. leads few num line e (faults_of line e all) (faults_of line e next) p go.faults (λ ps. same_fault (marked p ps t)) (fresh p t))
+    lead_start m all h goes
+    (λ p t. leads few num line e (faults_of line e all) (faults_of line e next) p go.faults (λ ps. same_fault (marked p ps t)) (fresh p t))
     (λ p ps b t l. law_as (marked p ps t) (λ w. w, λ w. w) (go.law ps b l)) plain at_end rest unmarked
   where
     goes : Goes (faults_of line e all)
@@ -488,16 +494,23 @@ pub named_start : {A B : Type 0} {Is : A → Piece → Type 0} {nam : Naming} {f
     → ((x : A) → Walk few line e (next x) (Next x)) → Start few true no_name line e other Other
     → ((p : Piece) (ps : List Piece) (b : B) → Other (p ∷ ps) b → NoName p.says)
     → Start few true nam line e all (λ ps b. Followed Is Next ps b ⊎ Other ps b)
-named_start {A = A} {B = B} {Is = Is} {nam = nam} {few = few} {line = line} {e = e} {slot = slot} {other = other} {Other = Other} o all next Next text_of named plain at_end go rest unnamed_other =
+named_start {B = B} {Is = Is} {nam = nam} {few = few} {line = line} {e = e} {slot = slot} {Other = Other} o all next Next texts named plain ends go rest other =
     names_start all Either
     (names_as nam (faults_of line e all) (faults_of line e (followed slot next)) (λ p text h ps. same_fault (named p ps text h)) names.node.wants.names)
     (let w = rest.node.wants.numbers in (w.0 ∷ w.3.0, same_fault (plain w.0 w.3.0 (a_number w.1) w.2 number_is) ∙ w.3.1))
-    (λ p text h. turn_as all Either p (λ ps. named p ps text h) (λ ps b. (λ w. inl w, λ w. elim w [ inl v ↦ v | inr v ↦ absurd (no_named p.says text (unnamed_other p ps b v) h) ])) refl
-    (by_name p text h))
-    plain at_end (λ ps b z. (λ w. inr w, λ w. elim w [ inl v ↦ absurd (let n = text_of v.value v.piece v.is in no_named v.piece.says n.0 (subst Nameless v.tokens z) n.1) | inr v ↦ v ])) rest
+    (λ p text h. turn_as all Either p (λ ps. named p ps text h) (of_name p text h) refl (by_name p text h)) plain ends of_other rest
   where
     Either : Relation B
     Either ps b = Followed Is Next ps b ⊎ Other ps b
+
+    of_name : (p : Piece) (text : List ℕ) → IsNamed text p → (ps : List Piece) (b : B) → Followed Is Next (p ∷ ps) b ↔ Either (p ∷ ps) b
+    of_name p text h ps b = (λ w. inl w, λ w. elim w [ inl v ↦ v | inr v ↦ absurd (no_named p.says text (other p ps b v) h) ])
+
+    named_first : (ps : List Piece) (b : B) → Followed Is Next ps b → Nameless ps → ⊥
+    named_first ps b w z = let n = texts w.value w.piece w.is in no_named w.piece.says n.0 (subst Nameless w.tokens z) n.1
+
+    of_other : (ps : List Piece) (b : B) → Nameless ps → Other ps b ↔ Either ps b
+    of_other ps b z = (λ w. inr w, λ w. elim w [ inl v ↦ absurd (named_first ps b v z) | inr v ↦ v ])
 
     names : Start few false nam line e (followed slot next) (Followed Is Next)
     names = slot_start o next Next go

@@ -68,7 +68,8 @@ half_leads few num line e all r h text kind named is_half taken alone g law fron
     by_rest (q ∷ ps) f l a x = elim (tested (is_mark_of 40 (Some q.says))) [
       | inl t ↦
           moved few line e half_front q ps f
-          (g.1 law (half_front ++ q ∷ []) (fresh_behind half_front q (no_minus q t)) (λ qs. reads_on line e half_front behind q (λ us. reads (q ∷ us)) qs ∙ taken q qs t))
+          (g.1 law (half_front ++ q ∷ []) (fresh_behind half_front q (no_minus q t))
+          (λ qs. reads_on line e half_front behind q (λ us. reads (q ∷ us)) qs ∙ taken q qs t))
           (omega (arith, l)) a x
       | inr t ↦ by_alone (q ∷ ps) f t x
     ]

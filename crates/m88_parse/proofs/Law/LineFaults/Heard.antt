@@ -18,7 +18,8 @@ use Rattle.m88_parse.proofs.Law.Rows.{head_named, head_law, not_head}
 use Rattle.m88_parse.proofs.Law.LineFaults.Readers.{fault_in, same_fault, row_or_head, heard, HeardLaw}
 
 head_is : (line e : ℕ) (p : Piece) (ps : List Piece) (r : Row) → IsNamed (codes ".module") p → head_at (st line e (p ∷ ps)) ≡ Ok r → IsOperation (p ∷ ps)
-head_is line e p ps r n h = let w = (head_law line e p ps r).0 h in subst (λ (qs : List Piece). IsOperation (p ∷ qs)) (sym w.2) (head_of_module (head n w.3.0 w.3.1))
+head_is line e p ps r n h =
+    let w = (head_law line e p ps r).0 h in subst (λ (qs : List Piece). IsOperation (p ∷ qs)) (sym w.2) (head_of_module (head n w.3.0 w.3.1))
 
 operation_is : (line e : ℕ) (ps : List Piece) (c : Body) → operation_at (st line e ps) ≡ Ok c → IsOperation ps
 unfolding operation_at

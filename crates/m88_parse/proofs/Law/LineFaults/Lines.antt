@@ -130,13 +130,15 @@ named_told line e p ps f name None None h n i j =
 
 -- the head of a module
 
-head_reader : (line e : ℕ) (p : Piece) (ps : List Piece) (name : List ℕ) → p.says ≡ a_name name → is_module name ≡ true → heard line e (p ∷ ps) ≡ faults_of line e (head_then line) ps
+head_reader : (line e : ℕ) (p : Piece) (ps : List Piece) (name : List ℕ) → p.says ≡ a_name name → is_module name ≡ true
+    → heard line e (p ∷ ps) ≡ faults_of line e (head_then line) ps
 unfolding head_at
 head_reader line e p ps name h t = same_fault (take_then (is_head_on (Some p.says)) _ _ (ap (λ (o : TokenValue). is_head_on (Some o)) h ∙ t))
 
 module_told : (line e : ℕ) (p : Piece) (ps : List Piece) (f : ParseFault) (name : List ℕ) → p.says ≡ a_name name → is_module name ≡ true → EndsAt (p ∷ ps) e → heard line e (p ∷ ps) ≡ Some f → Told line (p ∷ ps) f
 module_told line e p ps f name h t a i =
-    by_good line e p ps f name (faults_of line e (head_then line)) h (λ qs. head_reader line e p qs name h t) (begun (head_start (suc (length ps)) line e)).faults a i
+    by_good line e p ps f name (faults_of line e (head_then line)) h (λ qs. head_reader line e p qs name h t)
+    (begun (head_start (suc (length ps)) line e)).faults a i
 
 other_told : (line e : ℕ) (p : Piece) (ps : List Piece) (f : ParseFault) (m : TokenValue) → p.says ≡ m → NoName m → heard line e (p ∷ ps) ≡ Some f → Told line (p ∷ ps) f
 other_told line e p ps f m h z = first_told line e p ps f (λ l c qs. heard_other l c p qs m h z ∙ same l m h z)
