@@ -17,11 +17,11 @@ use Rattle.m88_parse.specs.Reader.Grammar.{Form, ends, comma_then, register_then
 use Rattle.m88_parse.specs.Language.Names.{IsRegister, IsControl, IsBit, IsCondition}
 use Rattle.m88_parse.specs.Language.Operands.{IsScaled, IsSigned, IsValue}
 use Rattle.m88_parse.specs.Language.Statements.{AreParted}
-use Rattle.m88_parse.proofs.Law.Goals.{IsGoalOf, goal_walk}
+use Rattle.m88_parse.proofs.Law.Goals.{IsGoalOf, goal_start}
 use Rattle.m88_parse.proofs.Law.Lists.{words_walk, parts_walk}
 use Rattle.m88_parse.proofs.Law.Slots.{st, one_register, one_control, one_bit, one_mask, IsUpTo, one_number, IsSymbolAt, one_symbol, IsText, one_text, IsPower, one_alignment}
 use Rattle.m88_parse.proofs.Law.Values.{IsWhole, signed_start}
-use Rattle.m88_parse.proofs.Law.Operands.{IsImmediateOf, immediate_walk, IsOperandOf, operand_walk, IsBoundOf, one_bound}
+use Rattle.m88_parse.proofs.Law.Operands.{IsImmediateOf, immediate_start, IsOperandOf, operand_start, IsBoundOf, one_bound}
 use Rattle.m88_parse.proofs.Law.Walks.{Then, AfterComma, Last, Ends, Walk, begun, lawful, end_start, mark_start, slot_start, last_start}
 use Rattle.m88_parse.proofs.Law.Indices.{scaled_start, IsIndexOf, index_start, IsUserIndexOf, user_index_start, IsFieldOf, field_start}
 
@@ -66,13 +66,13 @@ form_walk (bound_then form) few line e = begun (slot_start (one_bound line e) (�
 form_walk (text_then form) few line e = begun (slot_start (one_text line e) (λ x. read (form x)) (λ x. Meets (form x)) (λ x. form_walk (form x) few line e))
 form_walk (signed_ends low most made) few line e =
     begun (last_start (IsWhole low most) (signed_at low most) made (signed_start low most (λ n. end_with (made n)) (Ends made) (λ n. begun (end_start few line e (made n)))))
-form_walk (immediate_ends made) few line e = immediate_walk few line e made
-form_walk (operand_ends made) few line e = operand_walk few line e made
+form_walk (immediate_ends made) few line e = begun (immediate_start few line e made)
+form_walk (operand_ends made) few line e = begun (operand_start few line e made)
 form_walk (scaled_ends made) few line e = begun (scaled_start few line e made)
 form_walk (index_ends made) few line e = begun (index_start few line e made)
 form_walk (user_index_ends made) few line e = begun (user_index_start few line e (λ x. made x.0 x.1))
 form_walk (field_ends most made) few line e = begun (field_start most few line e made)
-form_walk (goal_ends kind bits made) few line e = goal_walk kind bits few line e made
+form_walk (goal_ends kind bits made) few line e = begun (goal_start kind bits few line e made)
 form_walk (words_end made) few line e = words_walk few line e made
 form_walk (parts_end part made) few line e = parts_walk part few line e made
 

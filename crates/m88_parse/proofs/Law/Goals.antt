@@ -1,16 +1,15 @@
 -- The law of where branches go, walked once.
-use Rattle.std.proofs.Common.{◌≡◌, ◌↔◌, ℕ, ◌-◌, ◌*◌, ◌/◌, ◌%◌, ◌^◌, ◌<◌, ◌≤◌, ℤ, pos, Bool, true, false, ◌&&◌, ◌==◌, nat_le, inl, inr, List, [], ◌∷◌, Option, Some, None, Result, Ok, refl, sym, ap, ap₂, ◌∙◌, arith, subst, eqb-true, leb-true, le-leb, codes}
+use Rattle.std.proofs.Common.{◌≡◌, ◌↔◌, ℕ, ◌-◌, ◌*◌, ◌/◌, ◌%◌, ◌^◌, ◌<◌, ◌≤◌, ℤ, pos, Bool, true, false, ◌&&◌, ◌==◌, nat_le, inl, inr, List, [], ◌∷◌, Option, Some, None, Ok, refl, sym, ap, ap₂, ◌∙◌, arith, subst, eqb-true, leb-true, le-leb, codes, true≢false}
 use Rattle.std.specs.Prelude.{neg_ℤ}
 use Rattle.std.proofs.Math.Pow.{suc_ones}
 use Rattle.std.proofs.lemmas.Slice.Eq.{bytes_eq-Decides}
 use Rattle.m88_base.specs.declared.fixup.Kind.{Kind}
 use Rattle.m88_base.specs.declared.fixup.Fixup.{Fixup}
-use Rattle.m88_parse.specs.declared.fault.ParseFault.{ParseFault}
 use Rattle.m88_parse.specs.declared.fault.ParseKind.TheVariants.{OutOfRange}
 use Rattle.m88_parse.specs.declared.unit.Body.{Body}
 use Rattle.m88_parse.specs.declared.operand.Goal.{Goal}
 use Rattle.m88_parse.specs.Language.Pieces.{TokenValue, a_name, a_number, a_text, a_mark, Piece}
-use Rattle.m88_parse.specs.Reader.State.{ReaderState, first, ◌>>=◌}
+use Rattle.m88_parse.specs.Reader.State.{ReaderState, says_first, ◌>>=◌}
 use Rattle.m88_parse.specs.Reader.Slots.{Read, fixup_at}
 use Rattle.m88_parse.specs.Reader.Operands.{distance_on, distance_at, words_at, is_here_on, goal_at}
 use Rattle.m88_parse.specs.Reader.Grammar.{end_with}
@@ -18,12 +17,10 @@ use Rattle.m88_parse.specs.Language.Names.{IsNumber, IsNamed}
 use Rattle.m88_parse.specs.Language.Operands.{IsFixup, IsPlace, IsGoal, place as a_place, symbol as a_symbol}
 use Rattle.m88_parse.proofs.Law.Steps.{both, tested, take_then, take_else}
 use Rattle.m88_parse.proofs.Law.Names.{other_bytes}
-use Rattle.m88_parse.proofs.Law.Slots.{st, no_name, symbols, any, any_is_symbol, saying, OneToken, nothing, by_token, token_gives, token_is, only_if, tested_gives, tested_is}
+use Rattle.m88_parse.proofs.Law.Slots.{st, no_name, symbols, any, any_is_symbol, saying, OneToken, nothing, by_token, token_gives, token_is, only_if, tested_gives, tested_is, mapped}
 use Rattle.m88_parse.proofs.Law.Values.{fixup_start}
-use Rattle.m88_parse.proofs.Law.Walks.{Then, Last, Ends, Walk, Start, begun, lawful, start_as, end_start, one_end, ended, last_start, end_unsigned, AfterSign, sign_start}
-use Rattle.m88_parse.proofs.Law.LineFaults.Readers.{fault_in}
-use Rattle.m88_parse.proofs.Law.LineFaults.Nodes.{Node, leads, good, each_as}
-use Rattle.m88_parse.proofs.Law.LineFaults.Slots.{mapped}
+use Rattle.m88_parse.proofs.Law.Walks.{Reading, Relation, Then, Last, Ends, Walk, Start, begun, faults_of, turn, turn_leads, turn_as, turns_start, start_as, end_start, one_end, ended, last_start, end_unsigned, AfterSign, sign_start}
+use Rattle.m88_parse.proofs.Law.LineFaults.Readers.{WantsNames, same_fault}
 
 -- a distance in words
 
@@ -52,14 +49,17 @@ distance_given : (most n : ℕ) → n ≤ most → distance_here most (4 * n) �
 distance_given most n l =
     let m : (4 * n) % 4 ≡ 0 = omega arith in
     let d : (4 * n) / 4 ≡ n = omega arith in
-    take_then (is_distance most (4 * n)) _ _ (ap₂ (λ (a b : ℕ). a == 0 && nat_le b most) m d ∙ le-leb n most l) ∙ ap (λ (k : ℕ). let y : Option ℕ = Some k in y) d
+    take_then (is_distance most (4 * n)) _ _ (ap₂ (λ (a b : ℕ). a == 0 && nat_le b most) m d ∙ le-leb n most l)
+    ∙ ap (λ (k : ℕ). let y : Option ℕ = Some k in y) d
 
 pub one_distance : (most line e : ℕ) → OneToken ℕ (IsFourfold most) true no_name line e (distance_at most)
 unfolding distance_at
 one_distance most line e = record {
   given = λ p. distance_by most p.says;
   empty = refl;
-  each = λ p ps. token_gives true no_name line e p ps (λ o. distance_on most (st line e (p ∷ ps)) (Some o)) (distance_by most) (λ name i. refl) (λ n. tested_gives (is_distance most n) (n / 4) OutOfRange line e p ps) (λ bytes. refl) (λ m. refl) p.says refl;
+  each =
+      λ p ps. token_gives true no_name line e p ps (λ o. distance_on most (st line e (p ∷ ps)) (Some o)) (distance_by most) (λ name i. refl)
+      (λ n. tested_gives (is_distance most n) (n / 4) OutOfRange line e p ps) (λ bytes. refl) (λ m. refl) p.says refl;
   is = λ p x. token_is (IsFourfold most) nothing (distance_here most) p x (λ name i k. absurd cc) (λ n. distance_found most p n x) p.says refl;
   again = λ p x h. ap (distance_by most) h.0 ∙ distance_given most x h.1;
   numbers = (saying (a_number 0), 0, 0, refl, distance_given most 0 (omega arith));
@@ -70,22 +70,28 @@ one_distance most line e = record {
 
 -- what stands behind the . of a goal: nothing, or a distance forward or back
 
-abbrev OneEnd : (ℕ → Piece → Type 0) → (ℕ → Body) → List Piece → Body → Type 0
+abbrev OneEnd : (ℕ → Piece → Type 0) → (ℕ → Body) → Relation Body
 OneEnd Is made ps b = Then ℕ Is (λ n qs. (qs ≡ []) × (made n ≡ b)) ps
 
-abbrev WordsEnd : ℕ → (ℤ → Body) → List Piece → Body → Type 0
-WordsEnd limit made = AfterSign (OneEnd (IsFourfold (limit - 1)) (λ n. made (pos n))) (OneEnd (IsFourfold limit) (λ n. made (neg_ℤ (pos n)))) (λ ps b. (ps ≡ []) × (made (pos 0) ≡ b))
+abbrev WordsEnd : ℕ → (ℤ → Body) → Relation Body
+WordsEnd limit made =
+    AfterSign (OneEnd (IsFourfold (limit - 1)) (λ n. made (pos n))) (OneEnd (IsFourfold limit) (λ n. made (neg_ℤ (pos n))))
+    (λ ps b. (ps ≡ []) × (made (pos 0) ≡ b))
 
 words_start : (few line e limit : ℕ) (made : ℤ → Body) → Start few false no_name line e (ended (words_at limit) made) (WordsEnd limit made)
 unfolding words_at
 words_start few line e limit made =
-    sign_start (λ s. distance_at (limit - 1) s >>= λ (d : ℕ × ReaderState). let y : Read ℤ = Ok (pos d.0, d.1) in y) (λ s. distance_at limit s >>= λ (d : ℕ × ReaderState). let y : Read ℤ = Ok (neg_ℤ (pos d.0), d.1) in y) (pos 0) (λ x. end_with (made x))
+    sign_start (λ s. distance_at (limit - 1) s >>= λ (d : ℕ × ReaderState). let y : Read ℤ = Ok (pos d.0, d.1) in y)
+    (λ s. distance_at limit s >>= λ (d : ℕ × ReaderState). let y : Read ℤ = Ok (neg_ℤ (pos d.0), d.1) in y) (pos 0) (λ x. end_with (made x))
     (distance (limit - 1) (λ n. pos n)) (distance limit (λ n. neg_ℤ (pos n))) (end_start few line e (made (pos 0))) (λ ps b w. end_unsigned ps w.0)
   where
-    distance : (most : ℕ) (f : ℕ → ℤ) → Walk few line e (λ s. (distance_at most s >>= λ (d : ℕ × ReaderState). let y : Read ℤ = Ok (f d.0, d.1) in y) >>= λ (x : ℤ × ReaderState). end_with (made x.0) x.1) (OneEnd (IsFourfold most) (λ n. made (f n)))
+    distance : (most : ℕ) (f : ℕ → ℤ) → Walk few line e
+        (λ s. (distance_at most s >>= λ (d : ℕ × ReaderState). let y : Read ℤ = Ok (f d.0, d.1) in y) >>= λ (x : ℤ × ReaderState). end_with (made x.0) x.1)
+        (OneEnd (IsFourfold most) (λ n. made (f n)))
     distance most f =
         begun (start_as (λ s. (distance_at most s >>= λ (d : ℕ × ReaderState). let y : Read ℤ = Ok (f d.0, d.1) in y) >>= λ (x : ℤ × ReaderState). end_with (made x.0) x.1) (OneEnd (IsFourfold most) (λ n. made (f n)))
-        (λ ps. mapped ℕ Body ℤ (distance_at most (st line e ps)) f (λ x. end_with (made x))) (λ ps b. (λ w. w, λ w. w)) (one_end (one_distance most line e) (λ n. made (f n))))
+        (λ ps. mapped ℕ Body ℤ (distance_at most (st line e ps)) f (λ x. end_with (made x))) (λ ps b. (λ w. w, λ w. w))
+        (one_end (one_distance most line e) (λ n. made (f n))))
 
 -- a place
 
@@ -95,7 +101,8 @@ some_words bits = subst (λ (n : ℕ). 0 < n) (suc_ones bits) (omega arith)
 two_tokens : (ps : List Piece) (m p : Piece) (qs rest : List Piece) → ps ≡ m ∷ qs → qs ≡ p ∷ rest → rest ≡ [] → ps ≡ m ∷ p ∷ []
 two_tokens ps m p qs rest t u v = t ∙ ap (λ (xs : List Piece). m ∷ xs) (u ∙ ap (λ (xs : List Piece). p ∷ xs) v)
 
-place_met : (bits : ℕ) (made : ℤ → Body) (h : Piece) (ps : List Piece) (b : Body) → IsNamed (codes ".") h → WordsEnd (2 ^ bits) made ps b → Last ℤ (λ qs n. IsPlace bits (h ∷ qs) n) made ps b
+place_met : (bits : ℕ) (made : ℤ → Body) (h : Piece) (ps : List Piece) (b : Body) → IsNamed (codes ".") h → WordsEnd (2 ^ bits) made ps b
+    → Last ℤ (λ qs n. IsPlace bits (h ∷ qs) n) made ps b
 place_met bits made h ps b i (inl w) =
     let t = w.4 in
     let l = t.is.1 in
@@ -133,91 +140,85 @@ here_says (a_number n) h = absurd cc
 here_says (a_text bytes) h = absurd cc
 here_says (a_mark m) h = absurd cc
 
-not_here : (line e : ℕ) (kind : Kind) (ps : List Piece) (f : Fixup) → IsFixup kind ps f → is_here_on (first (st line e ps)) ≡ false
-not_here line e kind [] f h = absurd h
-not_here line e kind (s ∷ []) f h = ap (λ (m : TokenValue). is_here_on (Some m)) h.0.1.0 ∙ other_bytes f.symbol (codes ".") h.0.1.1.no_place
-not_here line e kind (s ∷ m ∷ []) f h = absurd h
-not_here line e kind (s ∷ m ∷ p ∷ []) f h = ap (λ (m : TokenValue). is_here_on (Some m)) h.0.1.0 ∙ other_bytes f.symbol (codes ".") h.0.1.1.no_place
-not_here line e kind (s ∷ m ∷ p ∷ q ∷ ps) f h = absurd h
+not_here : (kind : Kind) (ps : List Piece) (f : Fixup) → IsFixup kind ps f → is_here_on (says_first ps) ≡ false
+not_here kind [] f h = absurd h
+not_here kind (s ∷ []) f h = ap (λ (m : TokenValue). is_here_on (Some m)) h.0.1.0 ∙ other_bytes f.symbol (codes ".") h.0.1.1.no_place
+not_here kind (s ∷ m ∷ []) f h = absurd h
+not_here kind (s ∷ m ∷ p ∷ []) f h = ap (λ (m : TokenValue). is_here_on (Some m)) h.0.1.0 ∙ other_bytes f.symbol (codes ".") h.0.1.1.no_place
+not_here kind (s ∷ m ∷ p ∷ q ∷ ps) f h = absurd h
 
-symbol_start : (kind : Kind) (few line e : ℕ) (made : Fixup → Body) → Start few false symbols line e (ended (fixup_at kind) made) (Last Fixup (IsFixup kind) made)
+named_here : (bits : ℕ) (ps : List Piece) (n : ℤ) → IsPlace bits ps n → is_here_on (says_first ps) ≡ true
+named_here bits [] n h = absurd h
+named_here bits (p ∷ []) n h = ap (λ (m : TokenValue). is_here_on (Some m)) h.0
+named_here bits (p ∷ m ∷ []) n h = absurd h
+named_here bits (p ∷ m ∷ q ∷ []) n h = ap (λ (o : TokenValue). is_here_on (Some o)) h.0
+named_here bits (p ∷ m ∷ q ∷ r ∷ ps) n h = absurd h
+
+symbol_start : (kind : Kind) (few line e : ℕ) (made : Fixup → Body)
+    → Start few false symbols line e (ended (fixup_at kind) made) (Last Fixup (IsFixup kind) made)
 symbol_start kind few line e made =
-    last_start (IsFixup kind) (fixup_at kind) made (fixup_start kind (λ f. end_with (made f)) (Ends made) (λ f. end_start few line e (made f)) (λ f ps b w. end_unsigned ps w.0))
+    last_start (IsFixup kind) (fixup_at kind) made
+    (fixup_start kind (λ f. end_with (made f)) (Ends made) (λ f. end_start few line e (made f)) (λ f ps b w. end_unsigned ps w.0))
 
-pub goal_walk : (kind : Kind) (bits few line e : ℕ) (made : Goal → Body) → Walk few line e (ended (goal_at kind (2 ^ bits)) made) (Last Goal (IsGoalOf kind bits) made)
+pub goal_start : (kind : Kind) (bits few line e : ℕ) (made : Goal → Body)
+    → Start few false symbols line e (ended (goal_at kind (2 ^ bits)) made) (Last Goal (IsGoalOf kind bits) made)
 unfolding goal_at
-goal_walk kind bits few line e made = record { law = λ ps b l. (reads ps b, λ w. meets ps b w.0.words w.0.fixup w.1 w.2); faults = good few false symbols line e (λ ps. fault_in (all (st line e ps))) node }
+goal_start kind bits few line e made =
+    turns_start all All rest names (let y = names any (codes "x") any_is_symbol in (any ∷ y.0, y.1)) (λ p n i ps. by_fixup (p ∷ ps) (says p (a_number n) i))
+    (λ p i ps. by_fixup (p ∷ ps) (says p (a_mark 40) i))
+    (by_fixup [] refl) (λ b. alike [] b refl) (λ p. elim (tested (is_here_on (Some p.says))) [
+      | inl t ↦ turn_leads all All p (λ ps. by_place p ps t) (λ ps b. placed p ps b t) (inr refl) (begun (words_start few line e (2 ^ bits) places))
+      | inr t ↦ turn_as all All p (λ ps. by_fixup (p ∷ ps) t) (λ ps b. alike (p ∷ ps) b t) refl (turn rest p)
+    ])
   where
-    all : ReaderState → Result Body ParseFault
+    all : Reading Body
     all s = ended (goal_at kind (2 ^ bits)) made s
 
-    places : ReaderState → Result Body ParseFault
-    places s = ended (words_at (2 ^ bits)) (λ n. made (place_goal n)) s
+    All : Relation Body
+    All ps b = Last Goal (IsGoalOf kind bits) made ps b
 
-    fixups : ReaderState → Result Body ParseFault
-    fixups s = ended (fixup_at kind) (λ f. made (symbol_goal f)) s
+    places : ℤ → Body
+    places n = made (place_goal n)
 
-    by_place : (p : Piece) (ps : List Piece) → is_here_on (Some p.says) ≡ true → all (st line e (p ∷ ps)) ≡ places (st line e ps)
+    fixups : Fixup → Body
+    fixups f = made (symbol_goal f)
+
+    rest : Start few false symbols line e (ended (fixup_at kind) fixups) (Last Fixup (IsFixup kind) fixups)
+    rest = symbol_start kind few line e fixups
+
+    says : (p : Piece) (m : TokenValue) → p.says ≡ m → is_here_on (Some p.says) ≡ is_here_on (Some m)
+    says p m h = ap (λ (o : TokenValue). is_here_on (Some o)) h
+
+    by_place : (p : Piece) (ps : List Piece) → is_here_on (Some p.says) ≡ true → all (st line e (p ∷ ps)) ≡ ended (words_at (2 ^ bits)) places (st line e ps)
     by_place p ps t =
         ap (λ (r : Read Goal). r >>= λ (x : Goal × ReaderState). end_with (made x.0) x.1) (take_then (is_here_on (Some p.says)) _ _ t)
         ∙ mapped ℤ Body Goal (words_at (2 ^ bits) (st line e ps)) place_goal (λ x. end_with (made x))
 
-    by_fixup : (ps : List Piece) → is_here_on (first (st line e ps)) ≡ false → all (st line e ps) ≡ fixups (st line e ps)
+    by_fixup : (ps : List Piece) → is_here_on (says_first ps) ≡ false → all (st line e ps) ≡ ended (fixup_at kind) fixups (st line e ps)
     by_fixup ps t =
-        ap (λ (r : Read Goal). r >>= λ (x : Goal × ReaderState). end_with (made x.0) x.1) (take_else (is_here_on (first (st line e ps))) _ _ t)
+        ap (λ (r : Read Goal). r >>= λ (x : Goal × ReaderState). end_with (made x.0) x.1) (take_else (is_here_on (says_first ps)) _ _ t)
         ∙ mapped Fixup Body Goal (fixup_at kind (st line e ps)) symbol_goal (λ x. end_with (made x))
 
-    words_law : (ps : List Piece) (b : Body) → (places (st line e ps) ≡ Ok b) ↔ WordsEnd (2 ^ bits) (λ n. made (place_goal n)) ps b
-    words_law = lawful (λ n. begun (words_start n line e (2 ^ bits) (λ z. made (place_goal z))))
+    names : WantsNames symbols (faults_of line e all)
+    names p name h =
+        let y = rest.node.wants.names p name h in
+        (y.0, same_fault (by_fixup (p ∷ y.0) (says p (a_name name) h.0 ∙ other_bytes name (codes ".") h.1.no_place)) ∙ y.1)
 
-    symbol_law : (ps : List Piece) (b : Body) → (fixups (st line e ps) ≡ Ok b) ↔ Last Fixup (IsFixup kind) (λ f. made (symbol_goal f)) ps b
-    symbol_law = lawful (λ n. begun (symbol_start kind n line e (λ f. made (symbol_goal f))))
-
-    is_symbol_here : (ps : List Piece) (b : Body) → fixups (st line e ps) ≡ Ok b → Last Goal (IsGoalOf kind bits) made ps b
-    is_symbol_here ps b x = let k = (symbol_law ps b).0 x in (symbol_goal k.0, a_symbol k.1, k.2)
-
-    reads : (ps : List Piece) (b : Body) → all (st line e ps) ≡ Ok b → Last Goal (IsGoalOf kind bits) made ps b
-    reads [] b x = is_symbol_here [] b (sym (by_fixup [] refl) ∙ x)
-    reads (p ∷ ps) b x = elim (tested (is_here_on (Some p.says))) [
-      | inl t ↦
-          let k = place_met bits (λ n. made (place_goal n)) p ps b (here_says p.says t) ((words_law ps b).0 (sym (by_place p ps t) ∙ x)) in
-          (place_goal k.0, a_place k.1, k.2)
-      | inr t ↦ is_symbol_here (p ∷ ps) b (sym (by_fixup (p ∷ ps) t) ∙ x)
-    ]
-
-    named_here : (p : Piece) (ps : List Piece) (n : ℤ) → IsPlace bits (p ∷ ps) n → is_here_on (Some p.says) ≡ true
-    named_here p [] n h = ap (λ (m : TokenValue). is_here_on (Some m)) h.0
-    named_here p (m ∷ []) n h = absurd h
-    named_here p (m ∷ q ∷ []) n h = ap (λ (o : TokenValue). is_here_on (Some o)) h.0
-    named_here p (m ∷ q ∷ r ∷ ps) n h = absurd h
-
-    place_again : (ps : List Piece) (b : Body) (n : ℤ) → IsPlace bits ps n → made (place_goal n) ≡ b → all (st line e ps) ≡ Ok b
-    place_again [] b n h k = absurd h
-    place_again (p ∷ ps) b n h k =
-        by_place p ps (named_here p ps n h) ∙ (words_law ps b).1 (met_place bits (λ z. made (place_goal z)) p ps b n h k)
-
-    meets : (ps : List Piece) (b : Body) (words : ℤ) (fixup : Option Fixup) → IsGoal kind bits ps words fixup → made (record { words = words; fixup = fixup }) ≡ b → all (st line e ps) ≡ Ok b
-    meets ps b words fixup (a_place h) k = place_again ps b words h k
-    meets ps b words fixup (a_symbol {f = f} h) k = by_fixup ps (not_here line e kind ps f h) ∙ (symbol_law ps b).1 (f, h, k)
-
-    node : Node few false symbols line e (λ ps. fault_in (all (st line e ps)))
-    node = record {
-      wants = record {
-        numbers = λ p v h ps x. sym_node.wants.numbers p v h ps (sym (same (p ∷ ps) (ap (λ (m : TokenValue). is_here_on (Some m)) h)) ∙ x);
-        names = λ p name h. let y = sym_node.wants.names p name h in (y.0, same (p ∷ y.0) (ap (λ (m : TokenValue). is_here_on (Some m)) h.0 ∙ other_bytes name (codes ".") h.1.no_place) ∙ y.1);
-        opening = λ o h ps x. sym_node.wants.opening o h ps (sym (same (o ∷ ps) (ap (λ (m : TokenValue). is_here_on (Some m)) h)) ∙ x);
-      };
-      goes = let y = sym_node.wants.names any (codes "x") any_is_symbol in (any ∷ y.0, same (any ∷ y.0) (ap (λ (m : TokenValue). is_here_on (Some m)) any_is_symbol.0) ∙ y.1);
-      stop = elim (sym_node.stop) [ inl s ↦ inl (same [] refl ∙ s) | inr s ↦ inr (same [] refl ∙ s) ];
-      each = λ p. elim (tested (is_here_on (Some p.says))) [
-        | inl t ↦ inl (leads few false line e (λ ps. fault_in (all (st line e ps))) (λ ps. fault_in (places (st line e ps))) p (begun (words_start few line e (2 ^ bits) (λ n. made (place_goal n)))).faults
-            (λ ps. ap (λ (r : Result Body ParseFault). fault_in r) (by_place p ps t)) (inr refl))
-        | inr t ↦ each_as few false symbols symbols line e (λ ps. fault_in (all (st line e ps))) (λ ps. fault_in (fixups (st line e ps))) p (λ ps. same (p ∷ ps) t) refl (sym_node.each p)
-      ];
-    }
+    placed : (p : Piece) (ps : List Piece) (b : Body) → is_here_on (Some p.says) ≡ true → WordsEnd (2 ^ bits) places ps b ↔ All (p ∷ ps) b
+    placed p ps b t = (
+      λ w. let k = place_met bits places p ps b (here_says p.says t) w in (place_goal k.0, a_place k.1, k.2),
+      λ w. from w.0.words w.0.fixup w.1 w.2,
+    )
       where
-        sym_node : Node few false symbols line e (λ ps. fault_in (fixups (st line e ps)))
-        sym_node = (symbol_start kind few line e (λ f. made (symbol_goal f))).node
+        from : (words : ℤ) (fixup : Option Fixup) → IsGoal kind bits (p ∷ ps) words fixup → made (record { words = words; fixup = fixup }) ≡ b
+            → WordsEnd (2 ^ bits) places ps b
+        from words fixup (a_place h) k = met_place bits places p ps b words h k
+        from words fixup (a_symbol {f = f} h) k = absurd (true≢false (sym t ∙ not_here kind (p ∷ ps) f h))
 
-        same : (ps : List Piece) → is_here_on (first (st line e ps)) ≡ false → fault_in (all (st line e ps)) ≡ fault_in (fixups (st line e ps))
-        same ps t = ap (λ (r : Result Body ParseFault). fault_in r) (by_fixup ps t)
+    alike : (ps : List Piece) (b : Body) → is_here_on (says_first ps) ≡ false → Last Fixup (IsFixup kind) fixups ps b ↔ All ps b
+    alike ps b t = (λ k. (symbol_goal k.0, a_symbol k.1, k.2), λ w. from w.0.words w.0.fixup w.1 w.2)
+      where
+        from : (words : ℤ) (fixup : Option Fixup) → IsGoal kind bits ps words fixup → made (record { words = words; fixup = fixup }) ≡ b
+            → Last Fixup (IsFixup kind) fixups ps b
+        from words fixup (a_place h) k = absurd (true≢false (sym (named_here bits ps words h) ∙ t))
+        from words fixup (a_symbol {f = f} h) k = (f, h, k)

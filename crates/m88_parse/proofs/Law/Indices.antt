@@ -16,10 +16,9 @@ use Rattle.m88_parse.specs.Reader.Slots.{Read, mark_at, unsigned_at, register_at
 use Rattle.m88_parse.specs.Reader.Operands.{operand_at, scaled_at, indexed_at, index_at, user_index_at, width_at, literal_at, field_on, field_at}
 use Rattle.m88_parse.specs.Reader.Grammar.{end_with}
 use Rattle.m88_parse.proofs.Law.Steps.{take_then, take_else}
-use Rattle.m88_parse.proofs.Law.Slots.{st, no_name, own_names, IsUpTo, one_register, one_number}
-use Rattle.m88_parse.proofs.Law.Operands.{IsOperandOf, operand_walk}
+use Rattle.m88_parse.proofs.Law.Slots.{st, no_name, own_names, IsUpTo, one_register, one_number, mapped, turns, NoName, number_is, text_is, mark_is}
+use Rattle.m88_parse.proofs.Law.Operands.{IsOperandOf, operand_start}
 use Rattle.m88_parse.proofs.Law.Walks.{Then, AfterMark, AfterComma, Last, Ends, Walk, Start, begun, end_start, mark_start, slot_start, start_as, ended, one_end, closed_end, ClosedEnd, closed_start, marked_other, unnamed, or_start, named_start}
-use Rattle.m88_parse.proofs.Law.LineFaults.Slots.{mapped, turns, NoName, number_is, text_is, mark_is}
 
 -- a register alone
 
@@ -113,7 +112,8 @@ IsIndexOf ps (index.Offset x) = AfterComma (λ qs. IsOperandOf qs x) ps
 pub index_start : (few line e : ℕ) (made : Index → Body) → Start few false no_name line e (ended index_at made) (Last Index IsIndexOf made)
 unfolding index_at
 index_start few line e made =
-    indexed_start Operand Index IsOperandOf IsIndexOf operand_at (λ r. index.Scaled r) (λ x. index.Offset x) made few line e (operand_walk few line e (λ x. made (index.Offset x))) (λ ps y. (to ps y, from ps y))
+    indexed_start Operand Index IsOperandOf IsIndexOf operand_at (λ r. index.Scaled r) (λ x. index.Offset x) made few line e
+    (begun (operand_start few line e (λ x. made (index.Offset x)))) (λ ps y. (to ps y, from ps y))
   where
     to : (ps : List Piece) (y : Index) → Indexed Operand Index IsOperandOf (λ r. index.Scaled r) (λ x. index.Offset x) ps y → IsIndexOf ps y
     to ps y (inl u) = subst (IsIndexOf ps) u.2 u.1

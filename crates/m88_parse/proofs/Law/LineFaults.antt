@@ -2,8 +2,7 @@
 pub mod Readers
 pub mod Nodes
 pub mod One
-pub mod Slots
 pub mod Signs
-pub mod Operands
+pub mod Halves
 pub mod Heard
 pub mod Lines

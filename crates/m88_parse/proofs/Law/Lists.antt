@@ -11,11 +11,10 @@ use Rattle.m88_parse.specs.Reader.Grammar.{many, list_at, word_item_at, Part, a_
 use Rattle.m88_parse.specs.Language.Operands.{minus, IsSigned, IsValue}
 use Rattle.m88_parse.specs.Language.Statements.{AreParted, one as one_item, more as more_items}
 use Rattle.m88_parse.proofs.Law.Steps.{take_then, take_else}
-use Rattle.m88_parse.proofs.Law.Slots.{st, Naming, no_name, ok_same, bind_to, saying}
+use Rattle.m88_parse.proofs.Law.Slots.{st, Naming, no_name, ok_same, bind_to, saying, mapped}
 use Rattle.m88_parse.proofs.Law.Walks.{Several, AfterComma, Last, Ends, Walk, Start, begun, begun_more, end_start, mark_start, start_as, or_start, ended, IsUnsigned, mark_unsigned, end_unsigned}
 use Rattle.m88_parse.proofs.Law.Values.{IsWhole, signed_start, value_start}
 use Rattle.m88_parse.proofs.Law.LineFaults.Readers.{fault_in, Goes}
-use Rattle.m88_parse.proofs.Law.LineFaults.Slots.{mapped}
 
 -- fewer tokens are left behind an item and its comma
 

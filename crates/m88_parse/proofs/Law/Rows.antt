@@ -1,5 +1,5 @@
 -- The law of lines of tokens: a statement or the head of a module is read as what it is related to.
-use Rattle.std.proofs.Common.{◌≡◌, ℕ, true, false, List, [], ◌∷◌, Option, Some, None, Ok, Result, refl, sym, ap, ap₂, ◌∙◌, subst, codes, true≢false, inl, inr}
+use Rattle.std.proofs.Common.{◌≡◌, ◌↔◌, ℕ, true, false, List, [], ◌∷◌, Option, Some, None, Ok, Result, refl, sym, ap, ap₂, ◌∙◌, subst, codes, true≢false, inl, inr}
 use Rattle.std.proofs.lemmas.Slice.Eq.{bytes_eq-Decides}
 use Rattle.m88_parse.specs.declared.fault.ParseFault.{ParseFault}
 use Rattle.m88_parse.specs.declared.unit.Body.{Body}
@@ -8,15 +8,16 @@ use Rattle.m88_parse.specs.declared.row.Row.{Row}
 use Rattle.m88_parse.specs.declared.row.Row.TheVariants as row
 use Rattle.m88_parse.specs.Reader.Names.{is_module}
 use Rattle.m88_parse.specs.Language.Pieces.{TokenValue, a_name, a_number, a_text, a_mark, Piece}
-use Rattle.m88_parse.specs.Reader.State.{ReaderState, says_first, first, past, is_mark_of, ◌>>=◌}
-use Rattle.m88_parse.specs.Reader.Slots.{symbol_at, any_name_at, line_end_at}
+use Rattle.m88_parse.specs.Reader.State.{says_first, first, past, is_mark_of}
+use Rattle.m88_parse.specs.Reader.Slots.{any_name_at}
 use Rattle.m88_parse.specs.Reader.Source.{operation_on, operation_at, statement, labelled_on, labelled_at, unlabelled_at, head_at, is_label_on, is_head_on, row_at, end_of_line, row_of_pieces}
-use Rattle.m88_parse.specs.Language.Names.{IsNamed, IsSymbol}
+use Rattle.m88_parse.specs.Language.Names.{IsNamed}
 use Rattle.m88_parse.specs.Language.Statements.{IsBody, text, data_section, at, word, half, byte, ascii, zeros, align, global, set, code, IsLabel, BeginsWithNoColon, IsStatement, unlabelled, labelled, label_alone, IsHead, head}
 use Rattle.m88_parse.specs.Language.Units.{Said, says_nothing, says, begins, LineSays, empty_line, statement_line, module_line}
 use Rattle.m88_parse.proofs.Law.Steps.{chosen, tested, take_then, take_else}
-use Rattle.m88_parse.proofs.Law.Slots.{st, ok_same, bind_ok, bind_to, mark_says, end_read, IsAnyName, one_any_name, one_symbol, slot_again, slot_read}
+use Rattle.m88_parse.proofs.Law.Slots.{st, symbols, ok_same, bind_ok, bind_to, mark_says, IsAnyName, one_any_name, IsSymbolAt, one_symbol}
 use Rattle.m88_parse.proofs.Law.Bodies.{operation_read, body_again}
+use Rattle.m88_parse.proofs.Law.Walks.{Reading, followed, Followed, Start, begun, lawful, end_as, end_start, slot_law, slot_start}
 
 -- the row that says it
 abbrev pub row_for : ℕ → Said → Option Row
@@ -45,21 +46,22 @@ labelled_rest line e p c (q ∷ qs) name r k h =
     let b = bind_ok (operation_at (st line e (q ∷ qs))) (λ (x : Body). Ok (statement (st line e (q ∷ qs)) (Some (name, p.col)) q.col x)) r h in
     record { said = _; line_says = statement_line (labelled k (operation_read line e q qs b.0 b.1)); row_is = ap (λ (x : Row). let y : Option Row = Some x in y) (ok_same b.2) }
 
+-- behind the label
+abbrev label_then : List ℕ × ℕ → Reading Row
+label_then label s = labelled_on (past s) label (first (past s))
+
 label_read : (line e : ℕ) (p : Piece) (ps : List Piece) (r : Row) → is_mark_of 58 (says_first ps) ≡ true → labelled_at (st line e (p ∷ ps)) ≡ Ok r → Stated line (p ∷ ps) r
 unfolding labelled_at
 label_read line e p [] r m h = absurd cc
 label_read line e p (c ∷ ps) r m h =
-    let s = st line e (p ∷ c ∷ ps) in
-    let b = bind_ok (symbol_at s) (λ (label : (List ℕ × ℕ) × ReaderState). labelled_on (past label.1) label.0 (first (past label.1))) r h in
-    let o = slot_read (one_symbol line e) (p ∷ c ∷ ps) b.0 b.1 in
-    let same_piece : p ≡ o.piece = cc (o.tokens) in
-    let same_rest : c ∷ ps ≡ o.rest = cc (o.tokens) in
-    let after : b.0.1 ≡ st line e (c ∷ ps) = o.after ∙ ap (st line e) (sym same_rest) in
-    let col : b.0.0.1 ≡ p.col = o.is.1 ∙ ap (λ (q : Piece). q.col) (sym same_piece) in
-    let named : IsSymbol b.0.0.0 p = subst (IsSymbol b.0.0.0) (sym same_piece) o.is.0 in
-    let k : labelled_on (st line e ps) (b.0.0.0, p.col) (first (st line e ps)) ≡ Ok r =
-    ap₂ (λ (n : ℕ) (t : ReaderState). labelled_on (past t) (b.0.0.0, n) (first (past t))) (sym col) (sym after) ∙ b.2 in
-    labelled_rest line e p c ps b.0.0.0 r (record { symbol = named; colon = mark_says 58 c.says m }) k
+    let w = (slot_law (one_symbol line e) label_then (p ∷ c ∷ ps) r).0 h in
+    let t = w.tokens in
+    let same_piece : w.piece ≡ p = cc in
+    let same_rest : w.rest ≡ c ∷ ps = cc in
+    let label : IsSymbolAt w.value p = subst (IsSymbolAt w.value) same_piece w.is in
+    let k : label_then w.value (st line e (c ∷ ps)) ≡ Ok r = ap (λ (qs : List Piece). label_then w.value (st line e qs)) (sym same_rest) ∙ w.next in
+    labelled_rest line e p c ps w.value.0 r (record { symbol = label.0; colon = mark_says 58 c.says m })
+    (ap (λ (col : ℕ). label_then (w.value.0, col) (st line e (c ∷ ps))) (sym label.1) ∙ k)
 
 -- heads of modules
 
@@ -69,21 +71,29 @@ head_named (a_number n) h = absurd cc
 head_named (a_text bytes) h = absurd cc
 head_named (a_mark b) h = absurd cc
 
-abbrev pub made_head : ℕ → List ℕ × ReaderState → ReaderState → Result Row ParseFault
-made_head line name t = Ok (row.Head name.0 line)
+-- what stands behind the head's first token, walked once
+abbrev pub head_then : ℕ → Reading Row
+head_then line = followed any_name_at (λ name. end_as (row.Head name line))
 
-pub head_tokens : (line e : ℕ) (p : Piece) (ps : List Piece) (r : Row) → head_at (st line e (p ∷ ps)) ≡ Ok r → (q : Piece) × (name : List ℕ) × (ps ≡ q ∷ []) × IsAnyName name q × (row.Head name line ≡ r)
+pub head_start : (few line e : ℕ) → Start few false symbols line e (head_then line) (Followed IsAnyName (λ name ps r. (ps ≡ []) × (row.Head name line ≡ r)))
+head_start few line e =
+    slot_start (one_any_name line e) (λ name. end_as (row.Head name line)) (λ name ps r. (ps ≡ []) × (row.Head name line ≡ r))
+    (λ name. begun (end_start few line e (row.Head name line)))
+
+pub head_law : (line e : ℕ) (p : Piece) (ps : List Piece) (r : Row)
+    → (head_at (st line e (p ∷ ps)) ≡ Ok r) ↔ ((q : Piece) × (name : List ℕ) × (ps ≡ q ∷ []) × IsAnyName name q × (row.Head name line ≡ r))
 unfolding head_at
-head_tokens line e p ps r h =
-    let b = bind_ok (any_name_at (st line e ps)) (λ (name : List ℕ × ReaderState). line_end_at name.1 >>= made_head line name) r h in
-    let o = slot_read (one_any_name line e) ps b.0 b.1 in
-    let d = bind_ok (line_end_at b.0.1) (made_head line b.0) r b.2 in
-    let z = end_read line e o.rest d.0 (ap line_end_at (sym o.after) ∙ d.1) in
-    (o.piece, b.0.0, o.tokens ∙ ap (λ (qs : List Piece). o.piece ∷ qs) z, o.is, ok_same d.2)
+head_law line e p ps r = (
+  λ h. let w = law.0 h in (w.piece, w.value, w.tokens ∙ ap (λ (qs : List Piece). w.piece ∷ qs) w.next.0, w.is, w.next.1),
+  λ w. law.1 (record { value = w.1; piece = w.0; rest = []; tokens = w.2; is = w.3; next = (refl, w.4) }),
+)
+  where
+    law : (head_then line (st line e ps) ≡ Ok r) ↔ Followed IsAnyName (λ name qs x. (qs ≡ []) × (row.Head name line ≡ x)) ps r
+    law = lawful (λ few. begun (head_start few line e)) ps r
 
 head_read : (line e : ℕ) (p : Piece) (ps : List Piece) (r : Row) → IsNamed (codes ".module") p → head_at (st line e (p ∷ ps)) ≡ Ok r → Stated line (p ∷ ps) r
 head_read line e p ps r n h =
-    let w = head_tokens line e p ps r h in
+    let w = (head_law line e p ps r).0 h in
     subst (λ (qs : List Piece). Stated line (p ∷ qs) r) (sym w.2) (record { said = begins w.1; line_says = module_line (head n w.3.0 w.3.1); row_is = ap (λ (x : Row). let y : Option Row = Some x in y) w.4 })
 
 -- a statement with no label
@@ -130,12 +140,13 @@ row_read line e p ps r h =
 
 -- what is related is read
 
-label_again : (line e : ℕ) (p c : Piece) (ps : List Piece) (name : List ℕ) (z : Result Row ParseFault) → IsLabel p c name → labelled_on (st line e ps) (name, p.col) (first (st line e ps)) ≡ z → row_at (st line e (p ∷ c ∷ ps)) ≡ z
+label_again : (line e : ℕ) (p c : Piece) (ps : List Piece) (name : List ℕ) (r : Row) → IsLabel p c name
+    → labelled_on (st line e ps) (name, p.col) (first (st line e ps)) ≡ Ok r → row_at (st line e (p ∷ c ∷ ps)) ≡ Ok r
 unfolding row_at labelled_at
-label_again line e p c ps name z k h =
-    let s = st line e (p ∷ c ∷ ps) in
+label_again line e p c ps name r k h =
     take_then (is_label_on (Some p.says) (Some c.says)) _ _ (ap₂ (λ (a b : TokenValue). is_label_on (Some a) (Some b)) k.symbol.0 k.colon)
-    ∙ bind_to (symbol_at s) (λ (label : (List ℕ × ℕ) × ReaderState). labelled_on (past label.1) label.0 (first (past label.1))) ((name, p.col), st line e (c ∷ ps)) z (slot_again (one_symbol line e) (name, p.col) p (c ∷ ps) (k.symbol, refl)) h
+    ∙ (slot_law (one_symbol line e) label_then (p ∷ c ∷ ps) r).1
+    (record { value = (name, p.col); piece = p; rest = c ∷ ps; tokens = refl; is = (k.symbol, refl); next = h })
 
 colon_free : (m : TokenValue) (ps : List Piece) → BeginsWithNoColon ps → is_label_on (Some m) (says_first ps) ≡ false
 colon_free (a_name name) [] h = refl
@@ -152,7 +163,7 @@ unfolding row_at head_at
 head_again line e ps name (head {p = p} {q = q} n k v) =
     take_else (is_label_on (Some p.says) (Some q.says)) _ _ (head_no_label line e p q name n k)
     ∙ take_then (is_head_on (Some p.says)) _ _ (ap (λ (m : TokenValue). is_head_on (Some m)) n)
-    ∙ bind_to (any_name_at (st line e (q ∷ []))) (λ (x : List ℕ × ReaderState). line_end_at x.1 >>= made_head line x) (name, st line e []) (Ok (row.Head name line)) (slot_again (one_any_name line e) name q [] (k, v)) refl
+    ∙ (head_law line e p (q ∷ []) (row.Head name line)).1 (q, name, refl, (k, v), refl)
 
 -- an operation isn't the head of a module
 pub not_head : (line e : ℕ) (ps : List Piece) (c : Body) → operation_at (st line e ps) ≡ Ok c → is_head_on (first (st line e ps)) ≡ false
@@ -183,9 +194,9 @@ plain_again line e p ps c h k =
 statement_again : (line e : ℕ) (ps : List Piece) (s : Statement) → IsStatement line ps s → row_at (st line e ps) ≡ Ok (row.Statement s)
 statement_again line e ps s (unlabelled {p = p} {ps = qs} {said = c} h k) = plain_again line e p qs c h k
 statement_again line e ps s (labelled {l = l} {c = c} {p = p} {ps = qs} {name = name} {said = said} k h) =
-    label_again line e l c (p ∷ qs) name (Ok (row.Statement s)) k
+    label_again line e l c (p ∷ qs) name (row.Statement s) k
     (bind_to (operation_at (st line e (p ∷ qs))) (λ (x : Body). Ok (statement (st line e (p ∷ qs)) (Some (name, l.col)) p.col x)) said (Ok (row.Statement s)) (body_again line e (p ∷ qs) said h) refl)
-statement_again line e ps s (label_alone {l = l} {c = c} {name = name} k) = label_again line e l c [] name (Ok (row.Statement s)) k refl
+statement_again line e ps s (label_alone {l = l} {c = c} {name = name} k) = label_again line e l c [] name (row.Statement s) k refl
 
 -- a line's tokens
 

@@ -11,10 +11,10 @@ use Rattle.m88_parse.specs.declared.fault.ParseFault.{ParseFault}
 use Rattle.m88_parse.specs.Language.Pieces.{TokenValue, a_name, a_number, a_text, a_mark, Piece}
 use Rattle.m88_parse.specs.Reader.Names.{register_of, control_of, float_control_of, control_in, is_valid_name, is_symbol}
 use Rattle.m88_parse.specs.Language.Words.{bit_named, condition_named}
-use Rattle.m88_parse.specs.Reader.State.{ReaderState, first, past, is_mark_of, is_next_mark, ◌>>=◌}
-use Rattle.m88_parse.specs.Reader.Slots.{Read, meaning_or_fault, mark_at, line_end_at, unsigned_on, unsigned_at, register_on, register_at, control_on, control_at, tabled_on, bit_at, mask_at, symbol_on, symbol_at, text_on, text_at, any_name_on, any_name_at, alignment_on, alignment_at}
+use Rattle.m88_parse.specs.Reader.State.{ReaderState, first, is_mark_of, is_next_mark, ◌>>=◌}
+use Rattle.m88_parse.specs.Reader.Slots.{Read, meaning_or_fault, mark_at, unsigned_on, unsigned_at, register_on, register_at, control_on, control_at, tabled_on, bit_at, mask_at, symbol_on, symbol_at, text_on, text_at, any_name_on, any_name_at, alignment_on, alignment_at}
 use Rattle.m88_parse.specs.Language.Names.{IsMark, IsNumber, IsNamed, IsRegister, IsControl, IsBit, IsCondition, IsSymbol}
-use Rattle.m88_parse.proofs.Law.Steps.{either, chosen, take_then, take_else}
+use Rattle.m88_parse.proofs.Law.Steps.{either, take_then, take_else}
 use Rattle.m88_parse.proofs.Law.Names.{some_same, register_is, register_name_again, control_name_is, control_name_again, symbol_is, symbol_name_again, name_is, name_spelled_again}
 
 -- where a reading stands
@@ -31,22 +31,20 @@ bind_ok (Err e) f y h = absurd cc
 pub bind_to : {A B : Type 0} (r : Result A ParseFault) (f : A → Result B ParseFault) (x : A) (z : Result B ParseFault) → r ≡ Ok x → f x ≡ z → (r >>= f) ≡ z
 bind_to r f x z h k = ap (λ (y : Result _ ParseFault). y >>= f) h ∙ k
 
--- one token, what it gives, and what is left
-pub record One (A : Type 0) (Is : A → Piece → Type 0) (line e : ℕ) (ps : List Piece) (x : A × ReaderState) : Type 0 where
-  pub piece : Piece
-  pub rest : List Piece
-  pub tokens : ps ≡ piece ∷ rest
-  pub is : Is x.0 piece
-  pub after : x.1 ≡ st line e rest
+-- readings in turn, the last of which is read on from
+pub turns : {A B C : Type 0} (r : Result A ParseFault) (f : A → Result B ParseFault) (g : B → Result C ParseFault) (h : A → Result C ParseFault)
+    → ((x : A) → (f x >>= g) ≡ h x) → ((r >>= f) >>= g) ≡ (r >>= h)
+turns (Ok x) f g h same = same x
+turns (Err y) f g h same = refl
+
+-- what is read by a slot and then changed
+pub mapped : (A B C : Type 0) (r : Read A) (f : A → C) (k : C → ReaderState → Result B ParseFault)
+    → ((r >>= λ (x : A × ReaderState). let y : Read C = Ok (f x.0, x.1) in y) >>= λ (y : C × ReaderState). k y.0 y.1)
+    ≡ (r >>= λ (x : A × ReaderState). k (f x.0) x.1)
+mapped A B C (Ok x) f k = refl
+mapped A B C (Err g) f k = refl
 
 -- a mark
-
-pub record OneMark (m line e : ℕ) (ps : List Piece) (t : ReaderState) : Type 0 where
-  pub piece : Piece
-  pub rest : List Piece
-  pub tokens : ps ≡ piece ∷ rest
-  pub is : IsMark m piece
-  pub after : t ≡ st line e rest
 
 pub mark_says : (m : ℕ) (o : TokenValue) → is_mark_of m (Some o) ≡ true → o ≡ a_mark m
 mark_says m (a_name text) h = absurd cc
@@ -54,28 +52,8 @@ mark_says m (a_number n) h = absurd cc
 mark_says m (a_text bytes) h = absurd cc
 mark_says m (a_mark b) h = ap a_mark (eqb-true b m h)
 
-pub next_is : (m line e : ℕ) (ps : List Piece) → is_next_mark m (st line e ps) ≡ true → OneMark m line e ps (past (st line e ps))
-next_is m line e [] h = absurd cc
-next_is m line e (p ∷ ps) h = record { piece = p; rest = ps; tokens = refl; is = mark_says m p.says h; after = refl }
-
 pub next_again : (m line e : ℕ) (p : Piece) (ps : List Piece) → IsMark m p → is_next_mark m (st line e (p ∷ ps)) ≡ true
 next_again m line e p ps h = ap (λ (o : TokenValue). is_mark_of m (Some o)) h ∙ eq-eqb m m refl
-
-pub mark_read : (m line e : ℕ) (ps : List Piece) (t : ReaderState) → mark_at m (st line e ps) ≡ Ok t → OneMark m line e ps t
-mark_read m line e ps t h =
-    elim (chosen (is_next_mark m (st line e ps)) _ _ _ h) [
-      | inl j ↦ subst (OneMark m line e ps) (ok_same j.1) (next_is m line e ps j.0)
-      | inr j ↦ absurd cc
-    ]
-
-pub mark_again : (m line e : ℕ) (p : Piece) (ps : List Piece) → IsMark m p → mark_at m (st line e (p ∷ ps)) ≡ Ok (st line e ps)
-mark_again m line e p ps h = take_then (is_next_mark m (st line e (p ∷ ps))) _ _ (next_again m line e p ps h)
-
--- the end of the line
-
-pub end_read : (line e : ℕ) (ps : List Piece) (t : ReaderState) → line_end_at (st line e ps) ≡ Ok t → ps ≡ []
-end_read line e [] t h = refl
-end_read line e (p ∷ ps) t h = absurd cc
 
 -- which names are wanted: none, those with a meaning of their own, or symbols
 pub data Naming : Type 0 where
@@ -104,6 +82,23 @@ plain_kind (a_name name) = refl
 plain_kind (a_number n) = refl
 plain_kind (a_text bytes) = refl
 plain_kind (a_mark m) = refl
+
+-- tokens that are no names
+pub data NoName : TokenValue → Type 0 where
+  number_is : {n : ℕ} → NoName (a_number n)
+  text_is : {bytes : List ℕ} → NoName (a_text bytes)
+  mark_is : {b : ℕ} → NoName (a_mark b)
+
+pub no_named : (m : TokenValue) (text : List ℕ) → NoName m → m ≡ a_name text → ⊥
+no_named m text number_is h = cc
+no_named m text text_is h = cc
+no_named m text mark_is h = cc
+
+-- whichever names are wanted, their fault is of one kind
+pub same_kind : (num : Bool) (mine other : Naming) (m : TokenValue) → NoName m → kind_for num other m ≡ kind_for num mine m
+same_kind num mine other m number_is = refl
+same_kind num mine other m text_is = refl
+same_kind num mine other m mark_is = refl
 
 -- a token that says this
 abbrev pub saying : TokenValue → Piece
@@ -143,19 +138,6 @@ pub record OneToken (A : Type 0) (Is : A → Piece → Type 0) (num : Bool) (nam
   pub names : GivesNames nam given
   pub marks : (p : Piece) (m : ℕ) → (m ≡ 40) ⊎ (m ≡ 45) → IsMark m p → given p ≡ None
   pub some : (p : Piece) × (x : A) × (given p ≡ Some x)
-
--- what is read in such a slot is what the token is
-
-pub slot_read : {A : Type 0} {Is : A → Piece → Type 0} {num : Bool} {nam : Naming} {line e : ℕ} {slot : ReaderState → Read A} (o : OneToken A Is num nam line e slot) (ps : List Piece) (x : A × ReaderState) → slot (st line e ps) ≡ Ok x → One A Is line e ps x
-slot_read o [] x h = let y = sym o.empty ∙ h in absurd cc
-slot_read {A = A} {Is = Is} {num = num} {nam = nam} {line = line} {e = e} o (p ∷ ps) x h = by_given (o.given p) refl (sym (o.each p ps) ∙ h)
-  where
-    by_given : (y : Option A) → o.given p ≡ y → gives line e p ps (kind_for num nam p.says) y ≡ Ok x → One A Is line e (p ∷ ps) x
-    by_given (Some v) j k = subst (One A Is line e (p ∷ ps)) (ok_same k) (record { piece = p; rest = ps; tokens = refl; is = o.is p v j; after = refl })
-    by_given None j k = absurd cc
-
-pub slot_again : {A : Type 0} {Is : A → Piece → Type 0} {num : Bool} {nam : Naming} {line e : ℕ} {slot : ReaderState → Read A} (o : OneToken A Is num nam line e slot) (x : A) (p : Piece) (ps : List Piece) → Is x p → slot (st line e (p ∷ ps)) ≡ Ok (x, st line e ps)
-slot_again {num = num} {nam = nam} {line = line} {e = e} o x p ps h = o.each p ps ∙ ap (gives line e p ps (kind_for num nam p.says)) (o.again p x h)
 
 -- a token by what it says
 

@@ -1,10 +1,9 @@
 -- Operands of several tokens, each walked once with whatever stands behind it: numbers with a sign, symbols with what is added
 -- to them, and values.
-use Rattle.std.proofs.Common.{◌≡◌, ◌↔◌, ℕ, ◌≤◌, ◌<◌, Bool, true, false, nat_le, if◌then◌else◌, ◌⊎◌, inl, inr, List, [], ◌∷◌, ◌++◌, length, Some, Ok, Err, Result, refl, sym, ap, ◌∙◌, arith, subst, leb-true, le-leb}
+use Rattle.std.proofs.Common.{◌≡◌, ◌↔◌, ℕ, ◌≤◌, ◌<◌, Bool, true, false, nat_le, if◌then◌else◌, ◌⊎◌, inl, inr, List, [], ◌∷◌, ◌++◌, length, Some, Ok, Err, refl, sym, ap, ◌∙◌, arith, subst, leb-true, le-leb}
 use Rattle.m88_base.specs.declared.fixup.Kind.{Kind}
 use Rattle.m88_base.specs.declared.fixup.Fixup.{Fixup}
 use Rattle.m88_parse.specs.declared.fault.ParseKind.TheVariants.{Syntax, OutOfRange}
-use Rattle.m88_parse.specs.declared.fault.ParseFault.{ParseFault}
 use Rattle.m88_parse.specs.declared.unit.Value.{Value}
 use Rattle.m88_parse.specs.declared.unit.Value.TheVariants.{Number, Symbol}
 use Rattle.m88_parse.specs.Language.Pieces.{TokenValue, a_name, a_number, a_text, a_mark, Piece}
@@ -13,11 +12,10 @@ use Rattle.m88_parse.specs.Reader.Slots.{Read, negated, negative_on, unsigned_at
 use Rattle.m88_parse.specs.Language.Names.{IsMark, IsNumber, IsNamed}
 use Rattle.m88_parse.specs.Language.Operands.{IsSigned, IsFixup, IsValue}
 use Rattle.m88_parse.proofs.Law.Steps.{take_then, take_else}
-use Rattle.m88_parse.proofs.Law.Slots.{st, no_name, symbols, saying, mark_says, IsUpTo, IsSymbolAt, one_number, one_symbol}
-use Rattle.m88_parse.proofs.Law.Walks.{Then, Several, AfterMark, Walk, Start, begun, slot_start, start_as, lead_start, IsUnsigned, AfterSign, sign_start, unnamed, named_start}
-use Rattle.m88_parse.proofs.Law.LineFaults.Readers.{fault_in, Goes}
+use Rattle.m88_parse.proofs.Law.Slots.{st, no_name, symbols, saying, mark_says, IsUpTo, IsSymbolAt, one_number, one_symbol, mapped, turns, NoName, number_is, text_is, mark_is}
+use Rattle.m88_parse.proofs.Law.Walks.{Reading, Relation, faults_of, Then, Several, AfterMark, Walk, Start, begun, slot_start, start_as, lead_start, IsUnsigned, AfterSign, sign_start, unnamed, named_start}
+use Rattle.m88_parse.proofs.Law.LineFaults.Readers.{Goes, same_fault}
 use Rattle.m88_parse.proofs.Law.LineFaults.Nodes.{Leads}
-use Rattle.m88_parse.proofs.Law.LineFaults.Slots.{mapped, turns, NoName, number_is, text_is, mark_is}
 use Rattle.m88_parse.proofs.Law.LineFaults.Signs.{sign_leads}
 
 -- a number with a sign of its own
@@ -28,10 +26,11 @@ IsWhole low most (m ∷ p ∷ []) v = IsMark 45 m × ((n : ℕ) × IsNumber n p 
 IsWhole low most ps v = ⊥
 
 -- by its first token: a - with a number behind it, or a number
-abbrev Signed : {B : Type 0} → ℕ → ℕ → (ℕ → List Piece → B → Type 0) → List Piece → B → Type 0
+abbrev Signed : {B : Type 0} → ℕ → ℕ → (ℕ → Relation B) → Relation B
 Signed low most Next ps b = AfterMark 45 (λ qs. Then ℕ (IsUpTo low) (λ n us. Next (negated n) us b) qs) ps ⊎ Then ℕ (IsUpTo most) (λ n qs. Next n qs b) ps
 
-whole_signed : {B : Type 0} (low most : ℕ) (Next : ℕ → List Piece → B → Type 0) (b : B) (ps front rest : List Piece) (v : ℕ) → ps ≡ front ++ rest → IsWhole low most front v → Next v rest b → Signed low most Next ps b
+whole_signed : {B : Type 0} (low most : ℕ) (Next : ℕ → Relation B) (b : B) (ps front rest : List Piece) (v : ℕ) → ps ≡ front ++ rest → IsWhole low most front v
+    → Next v rest b → Signed low most Next ps b
 whole_signed low most Next b ps [] rest v t h k = absurd h
 whole_signed low most Next b ps (p ∷ []) rest v t h k = inr (record { value = v; piece = p; rest = rest; tokens = t; is = h; next = k })
 whole_signed low most Next b ps (m ∷ p ∷ []) rest v t h k =
@@ -39,13 +38,14 @@ whole_signed low most Next b ps (m ∷ p ∷ []) rest v t h k =
     inl (m, p ∷ rest, t, h.0, record { value = n.0; piece = p; rest = rest; tokens = refl; is = (n.1, n.2); next = subst (λ (z : ℕ). Next z rest b) n.3 k })
 whole_signed low most Next b ps (p ∷ q ∷ r ∷ front) rest v t h k = absurd h
 
-signed_whole : {B : Type 0} (low most : ℕ) (Next : ℕ → List Piece → B → Type 0) (b : B) (ps : List Piece) → Signed low most Next ps b → Several ℕ (IsWhole low most) (λ n qs. Next n qs b) ps
+signed_whole : {B : Type 0} (low most : ℕ) (Next : ℕ → Relation B) (b : B) (ps : List Piece) → Signed low most Next ps b
+    → Several ℕ (IsWhole low most) (λ n qs. Next n qs b) ps
 signed_whole low most Next b ps (inl w) =
     let n = w.4 in
     record { value = negated n.value; front = w.0 ∷ n.piece ∷ []; rest = n.rest; tokens = w.2 ∙ ap (λ (qs : List Piece). w.0 ∷ qs) n.tokens; is = (w.3, (n.value, n.is.0, n.is.1, refl)); next = n.next }
 signed_whole low most Next b ps (inr n) = record { value = n.value; front = n.piece ∷ []; rest = n.rest; tokens = n.tokens; is = n.is; next = n.next }
 
-pub signed_start : {B : Type 0} {few line e : ℕ} (low most : ℕ) (next : ℕ → ReaderState → Result B ParseFault) (Next : ℕ → List Piece → B → Type 0) → ((n : ℕ) → Walk few line e (next n) (Next n))
+pub signed_start : {B : Type 0} {few line e : ℕ} (low most : ℕ) (next : ℕ → Reading B) (Next : ℕ → Relation B) → ((n : ℕ) → Walk few line e (next n) (Next n))
     → Start few true no_name line e (λ s. signed_at low most s >>= λ (x : ℕ × ReaderState). next x.0 x.1) (λ ps b. Several ℕ (IsWhole low most) (λ n qs. Next n qs b) ps)
 unfolding signed_at unsigned_at
 signed_start {B = B} {few = few} {line = line} {e = e} low most next Next go =
@@ -53,7 +53,7 @@ signed_start {B = B} {few = few} {line = line} {e = e} low most next Next go =
     (lead_start 45 all refl begins by_sign turned (λ p ps t. bound (take_else (is_mark_of 45 (Some p.says)) _ _ t)) refl (slot_start (one_number most line e) next Next go)
     (λ p ps b w. let h = w.tokens in let same : p ≡ w.piece = cc in ap (λ (q : Piece). is_mark_of 45 (Some q.says)) same ∙ ap (λ (m : TokenValue). is_mark_of 45 (Some m)) w.is.0))
   where
-    all : ReaderState → Result B ParseFault
+    all : Reading B
     all s = signed_at low most s >>= λ (x : ℕ × ReaderState). next x.0 x.1
 
     bound : {q r : Read ℕ} → q ≡ r → (q >>= λ (x : ℕ × ReaderState). next x.0 x.1) ≡ (r >>= λ (x : ℕ × ReaderState). next x.0 x.1)
@@ -82,18 +82,20 @@ signed_start {B = B} {few = few} {line = line} {e = e} low most next Next go =
     other : (m q : Piece) (ps : List Piece) → is_mark_of 45 (Some m.says) ≡ true → ((n : ℕ) → IsNumber n q → ⊥) → all (st line e (m ∷ q ∷ ps)) ≡ Err (record { line = line; col = q.col; kind = Syntax })
     other m q ps t i = behind m (q ∷ ps) t ∙ by_other m q ps q.says refl i
 
-    by_sign : (m : Piece) → is_mark_of 45 (Some m.says) ≡ true → Leads few true line e (λ ps. fault_in (all (st line e ps))) m
+    by_sign : (m : Piece) → is_mark_of 45 (Some m.says) ≡ true → Leads few true line e (faults_of line e all) m
     by_sign m t =
-        sign_leads few line e low (λ ps. fault_in (all (st line e ps))) (λ n ps. fault_in (next (negated n) (st line e ps))) m (mark_says 45 m.says t) (ap (λ (r : Result B ParseFault). fault_in r) (behind m [] t))
-        (λ n q ps i l. ap (λ (r : Result B ParseFault). fault_in r) (small m q ps n t i l)) (λ n q ps i l. ap (λ (r : Result B ParseFault). fault_in r) (large m q ps n t i l))
-        (λ q ps i. ap (λ (r : Result B ParseFault). fault_in r) (other m q ps t i)) (λ n. (go (negated n)).faults)
+        sign_leads few line e low (faults_of line e all) (λ n. faults_of line e (next (negated n))) m (mark_says 45 m.says t) (same_fault (behind m [] t))
+        (λ n q ps i l. same_fault (small m q ps n t i l)) (λ n q ps i l. same_fault (large m q ps n t i l))
+        (λ q ps i. same_fault (other m q ps t i)) (λ n. (go (negated n)).faults)
 
-    begins : Goes (λ ps. fault_in (all (st line e ps)))
+    begins : Goes (faults_of line e all)
     begins =
+        let minus = saying (a_mark 45) in
+        let zero = saying (a_number 0) in
         let y = (go (negated 0)).faults.0 in
-        (saying (a_mark 45) ∷ saying (a_number 0) ∷ y.0, ap (λ (r : Result B ParseFault). fault_in r) (small (saying (a_mark 45)) (saying (a_number 0)) y.0 0 refl refl (le-leb 0 low (omega arith))) ∙ y.1)
+        (minus ∷ zero ∷ y.0, same_fault (small minus zero y.0 0 refl refl (le-leb 0 low (omega arith))) ∙ y.1)
 
-    Turned : List Piece → B → Type 0
+    Turned : Relation B
     Turned ps b = Then ℕ (IsUpTo low) (λ n qs. Next (negated n) qs b) ps
 
     by_test : (m q : Piece) (ps : List Piece) (b : B) (n : ℕ) (u : Bool) → is_mark_of 45 (Some m.says) ≡ true → IsNumber n q → nat_le n low ≡ u → length ps < few → all (st line e (m ∷ q ∷ ps)) ≡ Ok b → Turned (q ∷ ps) b
@@ -136,14 +138,15 @@ abbrev made_fixup : Kind → List ℕ × ℕ → ℕ → Fixup
 made_fixup kind name n = record { kind = kind; symbol = name.0; addend = n; col = name.1 }
 
 -- behind the symbol
-abbrev addend_then : {B : Type 0} → Kind → (Fixup → ReaderState → Result B ParseFault) → List ℕ × ℕ → ReaderState → Result B ParseFault
+abbrev addend_then : {B : Type 0} → Kind → (Fixup → Reading B) → List ℕ × ℕ → Reading B
 addend_then kind next name s = addend_at s >>= λ (more : ℕ × ReaderState). next (made_fixup kind name more.0) more.1
 
-abbrev Added : {B : Type 0} → Kind → (Fixup → List Piece → B → Type 0) → List ℕ × ℕ → List Piece → B → Type 0
+abbrev Added : {B : Type 0} → Kind → (Fixup → Relation B) → List ℕ × ℕ → Relation B
 Added kind Next name =
     AfterSign (λ ps b. Then ℕ (IsUpTo 2147483647) (λ n qs. Next (made_fixup kind name n) qs b) ps) (λ ps b. Then ℕ (IsUpTo 2147483647) (λ n qs. Next (made_fixup kind name (negated n)) qs b) ps) (Next (made_fixup kind name 0))
 
-added_start : {B : Type 0} {few line e : ℕ} (kind : Kind) (next : Fixup → ReaderState → Result B ParseFault) (Next : Fixup → List Piece → B → Type 0) → ((f : Fixup) → Start few false no_name line e (next f) (Next f))
+added_start : {B : Type 0} {few line e : ℕ} (kind : Kind) (next : Fixup → Reading B) (Next : Fixup → Relation B)
+    → ((f : Fixup) → Start few false no_name line e (next f) (Next f))
     → ((f : Fixup) (ps : List Piece) (b : B) → Next f ps b → IsUnsigned ps) → (name : List ℕ × ℕ) → Start few false no_name line e (addend_then kind next name) (Added kind Next name)
 unfolding addend_at
 added_start {B = B} {line = line} {e = e} kind next Next go unsigned name =
@@ -157,10 +160,11 @@ added_start {B = B} {line = line} {e = e} kind next Next go unsigned name =
     made : ℕ → Fixup
     made n = made_fixup kind name n
 
-abbrev SymbolThen : {B : Type 0} → Kind → (Fixup → List Piece → B → Type 0) → List Piece → B → Type 0
+abbrev SymbolThen : {B : Type 0} → Kind → (Fixup → Relation B) → Relation B
 SymbolThen kind Next ps b = Then (List ℕ × ℕ) IsSymbolAt (λ name qs. Added kind Next name qs b) ps
 
-added_fixup : {B : Type 0} (kind : Kind) (Next : Fixup → List Piece → B → Type 0) (b : B) (ps : List Piece) (s : Piece) (rest : List Piece) (name : List ℕ × ℕ) → ps ≡ s ∷ rest → IsSymbolAt name s → Added kind Next name rest b
+added_fixup : {B : Type 0} (kind : Kind) (Next : Fixup → Relation B) (b : B) (ps : List Piece) (s : Piece) (rest : List Piece) (name : List ℕ × ℕ)
+    → ps ≡ s ∷ rest → IsSymbolAt name s → Added kind Next name rest b
     → Several Fixup (IsFixup kind) (λ f qs. Next f qs b) ps
 added_fixup kind Next b ps s rest name t i (inl w) =
     let n = w.4 in
@@ -175,7 +179,8 @@ added_fixup kind Next b ps s rest name t i (inr (inr w)) = record { value = made
 same_fixup : (kind : Kind) (f : Fixup) (n : ℕ) → f.kind ≡ kind → f.addend ≡ n → f ≡ made_fixup kind (f.symbol, f.col) n
 same_fixup kind f n h k = λ i. record { kind = h i; symbol = f.symbol; addend = k i; col = f.col }
 
-fixup_added : {B : Type 0} (kind : Kind) (Next : Fixup → List Piece → B → Type 0) (b : B) (ps front rest : List Piece) (f : Fixup) → ps ≡ front ++ rest → IsFixup kind front f → Next f rest b → SymbolThen kind Next ps b
+fixup_added : {B : Type 0} (kind : Kind) (Next : Fixup → Relation B) (b : B) (ps front rest : List Piece) (f : Fixup) → ps ≡ front ++ rest
+    → IsFixup kind front f → Next f rest b → SymbolThen kind Next ps b
 fixup_added kind Next b ps [] rest f t h k = absurd h
 fixup_added kind Next b ps (s ∷ []) rest f t h k =
     let i = h.0 in
@@ -198,11 +203,14 @@ fixup_added kind Next b ps (s ∷ m ∷ p ∷ []) rest f t h k =
     }
 fixup_added kind Next b ps (s ∷ m ∷ p ∷ q ∷ front) rest f t h k = absurd h
 
-fixup_steps : {B : Type 0} (kind : Kind) (s : ReaderState) (next : Fixup → ReaderState → Result B ParseFault) → (fixup_at kind s >>= λ (x : Fixup × ReaderState). next x.0 x.1) ≡ (symbol_at s >>= λ (name : (List ℕ × ℕ) × ReaderState). addend_then kind next name.0 name.1)
+fixup_steps : {B : Type 0} (kind : Kind) (s : ReaderState) (next : Fixup → Reading B)
+    → (fixup_at kind s >>= λ (x : Fixup × ReaderState). next x.0 x.1)
+    ≡ (symbol_at s >>= λ (name : (List ℕ × ℕ) × ReaderState). addend_then kind next name.0 name.1)
 unfolding fixup_at
 fixup_steps {B = B} kind s next = turns (symbol_at s) _ _ _ (λ name. mapped ℕ B Fixup (addend_at name.1) (λ n. made_fixup kind name.0 n) next)
 
-pub fixup_start : {B : Type 0} {few line e : ℕ} (kind : Kind) (next : Fixup → ReaderState → Result B ParseFault) (Next : Fixup → List Piece → B → Type 0) → ((f : Fixup) → Start few false no_name line e (next f) (Next f))
+pub fixup_start : {B : Type 0} {few line e : ℕ} (kind : Kind) (next : Fixup → Reading B) (Next : Fixup → Relation B)
+    → ((f : Fixup) → Start few false no_name line e (next f) (Next f))
     → ((f : Fixup) (ps : List Piece) (b : B) → Next f ps b → IsUnsigned ps) → Start few false symbols line e (λ s. fixup_at kind s >>= λ (x : Fixup × ReaderState). next x.0 x.1) (λ ps b. Several Fixup (IsFixup kind) (λ f qs. Next f qs b) ps)
 fixup_start {line = line} {e = e} kind next Next go unsigned =
     start_as (λ s. fixup_at kind s >>= λ (x : Fixup × ReaderState). next x.0 x.1) (λ ps b. Several Fixup (IsFixup kind) (λ f qs. Next f qs b) ps) (λ ps. fixup_steps kind (st line e ps) next)
@@ -211,7 +219,8 @@ fixup_start {line = line} {e = e} kind next Next go unsigned =
 
 -- a value: a number with a sign, or a symbol with what is added to it
 
-pub value_start : {B : Type 0} {few line e : ℕ} (kind : Kind) (next : Value → ReaderState → Result B ParseFault) (Next : Value → List Piece → B → Type 0) → ((v : Value) → Start few false no_name line e (next v) (Next v))
+pub value_start : {B : Type 0} {few line e : ℕ} (kind : Kind) (next : Value → Reading B) (Next : Value → Relation B)
+    → ((v : Value) → Start few false no_name line e (next v) (Next v))
     → ((v : Value) (ps : List Piece) (b : B) → Next v ps b → IsUnsigned ps) → Start few true symbols line e (λ s. value_at kind s >>= λ (x : Value × ReaderState). next x.0 x.1) (λ ps b. Several Value (IsValue kind) (λ v qs. Next v qs b) ps)
 unfolding value_at signed_at
 value_start {B = B} {line = line} {e = e} kind next Next go unsigned =
@@ -219,16 +228,16 @@ value_start {B = B} {line = line} {e = e} kind next Next go unsigned =
     (named_start (one_symbol line e) all (addend_then kind fixups) (Added kind Fixups) (λ x p i. (x.0, i.0.0)) named plain refl (λ name. begun (added_start kind fixups Fixups (λ f. go (Symbol f)) (λ f. unsigned (Symbol f)) name))
     (signed_start 2147483648 4294967295 (λ n. next (Number n)) (λ n. Next (Number n)) (λ n. begun (go (Number n)))) (λ p ps b w. whole_unnamed p ps w.front w.rest w.value w.tokens w.is))
   where
-    all : ReaderState → Result B ParseFault
+    all : Reading B
     all s = value_at kind s >>= λ (x : Value × ReaderState). next x.0 x.1
 
-    fixups : Fixup → ReaderState → Result B ParseFault
+    fixups : Fixup → Reading B
     fixups f = next (Symbol f)
 
-    Fixups : Fixup → List Piece → B → Type 0
+    Fixups : Fixup → Relation B
     Fixups f = Next (Symbol f)
 
-    Numbers : List Piece → B → Type 0
+    Numbers : Relation B
     Numbers ps b = Several ℕ (IsWhole 2147483648 4294967295) (λ n qs. Next (Number n) qs b) ps
 
     said : (p : Piece) (ps : List Piece) (m : TokenValue) → p.says ≡ m → all (st line e (p ∷ ps)) ≡ (value_on kind (st line e (p ∷ ps)) (Some m) >>= λ (x : Value × ReaderState). next x.0 x.1)

@@ -9,17 +9,17 @@ use Rattle.m88_parse.specs.Language.Pieces.{TokenValue, Piece}
 use Rattle.m88_parse.specs.Language.Names.{IsNamed}
 use Rattle.m88_parse.specs.Language.Statements.{IsHead, head}
 use Rattle.m88_parse.specs.Language.LineFaults.{IsOperation, operation, head_of_module}
-use Rattle.m88_parse.specs.Reader.State.{ReaderState, first, place, ◌>>=◌}
-use Rattle.m88_parse.specs.Reader.Slots.{any_name_at, line_end_at}
+use Rattle.m88_parse.specs.Reader.State.{first, place}
 use Rattle.m88_parse.specs.Reader.Source.{operation_at, head_at, is_head_on, statement}
 use Rattle.m88_parse.proofs.Law.Steps.{chosen, take_then, take_else}
-use Rattle.m88_parse.proofs.Law.Slots.{st, bind_ok, bind_to, one_any_name, slot_again}
+use Rattle.m88_parse.proofs.Law.Slots.{st, bind_ok, bind_to}
 use Rattle.m88_parse.proofs.Law.Bodies.{operation_read, body_again}
-use Rattle.m88_parse.proofs.Law.Rows.{head_named, head_tokens, made_head, not_head}
-use Rattle.m88_parse.proofs.Law.LineFaults.Readers.{fault_in, row_or_head, heard, HeardLaw}
+use Rattle.m88_parse.proofs.Law.Rows.{head_named, head_law, not_head}
+use Rattle.m88_parse.proofs.Law.LineFaults.Readers.{fault_in, same_fault, row_or_head, heard, HeardLaw}
 
 head_is : (line e : ℕ) (p : Piece) (ps : List Piece) (r : Row) → IsNamed (codes ".module") p → head_at (st line e (p ∷ ps)) ≡ Ok r → IsOperation (p ∷ ps)
-head_is line e p ps r n h = let w = head_tokens line e p ps r h in subst (λ (qs : List Piece). IsOperation (p ∷ qs)) (sym w.2) (head_of_module (head n w.3.0 w.3.1))
+head_is line e p ps r n h =
+    let w = (head_law line e p ps r).0 h in subst (λ (qs : List Piece). IsOperation (p ∷ qs)) (sym w.2) (head_of_module (head n w.3.0 w.3.1))
 
 operation_is : (line e : ℕ) (ps : List Piece) (c : Body) → operation_at (st line e ps) ≡ Ok c → IsOperation ps
 unfolding operation_at
@@ -46,16 +46,16 @@ heard_is line e ps h = let b = fault_free (row_or_head (st line e ps)) h in row_
 operation_heard : (line e : ℕ) (ps : List Piece) (c : Body) → operation_at (st line e ps) ≡ Ok c → heard line e ps ≡ None
 operation_heard line e ps c h =
     let s = st line e ps in
-    ap (λ (r : Result Row ParseFault). fault_in r)
+    same_fault
     (take_else (is_head_on (first s)) _ _ (not_head line e ps c h)
     ∙ bind_to (operation_at s) (λ (x : Body). Ok (statement s None (place s) x)) c (Ok (statement s None (place s) c)) h refl)
 
 head_heard : (line e : ℕ) (ps : List Piece) (name : List ℕ) → IsHead ps name → heard line e ps ≡ None
 unfolding head_at
 head_heard line e ps name (head {p = p} {q = q} n k v) =
-    ap (λ (r : Result Row ParseFault). fault_in r)
+    same_fault
     (take_then (is_head_on (Some p.says)) _ _ (ap (λ (m : TokenValue). is_head_on (Some m)) n)
-    ∙ bind_to (any_name_at (st line e (q ∷ []))) (λ (x : List ℕ × ReaderState). line_end_at x.1 >>= made_head line x) (name, st line e []) (Ok (row.Head name line)) (slot_again (one_any_name line e) name q [] (k, v)) refl)
+    ∙ (head_law line e p (q ∷ []) (row.Head name line)).1 (q, name, refl, (k, v), refl))
 
 is_heard : (line e : ℕ) (ps : List Piece) → IsOperation ps → heard line e ps ≡ None
 is_heard line e ps (operation {said = said} h) = operation_heard line e ps said (body_again line e ps said h)

@@ -8,11 +8,10 @@ use Rattle.m88_parse.specs.declared.fault.ParseFault.{ParseFault}
 use Rattle.m88_parse.specs.declared.directive.Directive.{Directive}
 use Rattle.m88_parse.specs.declared.unit.Body.{Body}
 use Rattle.m88_parse.specs.declared.row.Row.{Row}
-use Rattle.m88_parse.specs.declared.row.Row.TheVariants as row
 use Rattle.m88_parse.specs.Reader.Names.{is_module, is_symbol}
 use Rattle.m88_parse.specs.Language.Pieces.{TokenValue, a_name, a_number, a_text, a_mark, Piece}
 use Rattle.m88_parse.specs.Reader.State.{ReaderState, says_first, first, place, past, is_mark_of, ◌>>=◌}
-use Rattle.m88_parse.specs.Reader.Slots.{symbol_on, symbol_at, any_name_at, line_end_at}
+use Rattle.m88_parse.specs.Reader.Slots.{symbol_on, symbol_at}
 use Rattle.m88_parse.specs.Language.Shapes.{shape_of}
 use Rattle.m88_parse.specs.Reader.Directives.{directive_text, all_directives, directive_of}
 use Rattle.m88_parse.specs.Reader.Grammar.{Form, read, form_of, directive_form}
@@ -23,12 +22,12 @@ use Rattle.m88_parse.specs.Language.Units.{Said, LineSays, empty_line, statement
 use Rattle.m88_parse.specs.Language.LineFaults.{IsOperation, operation, head_of_module, Continues, MayFollow, misplaced, Stops, IsBroken, IsLineFault, no_label, labelled_head, behind_label, without_label}
 use Rattle.m88_parse.proofs.Law.Steps.{chosen, tested, take_then, take_else}
 use Rattle.m88_parse.proofs.Law.Names.{symbol_is, symbol_name_again}
-use Rattle.m88_parse.proofs.Law.Slots.{st, mark_says, no_name, own_names, symbols, kind_for, saying, one_any_name, any, any_is_symbol}
+use Rattle.m88_parse.proofs.Law.Slots.{st, mark_says, own_names, kind_for, saying, any, any_is_symbol, NoName, number_is, text_is, mark_is}
 use Rattle.m88_parse.proofs.Law.Bodies.{body_again}
-use Rattle.m88_parse.proofs.Law.Rows.{label_marks, head_named, no_colon}
-use Rattle.m88_parse.proofs.Law.LineFaults.Readers.{fault_in, Reader, here, row_or_head, heard, EndsAt, Told, Good, Wanted}
-use Rattle.m88_parse.proofs.Law.LineFaults.Nodes.{fresh_behind, misplaced_by, told, good}
-use Rattle.m88_parse.proofs.Law.LineFaults.Slots.{reader_of, one_token, ends_node, NoName, number_is, text_is, mark_is}
+use Rattle.m88_parse.proofs.Law.Rows.{label_marks, head_named, head_then, head_start, no_colon}
+use Rattle.m88_parse.proofs.Law.LineFaults.Readers.{fault_in, Reader, here, row_or_head, heard, EndsAt, Told, Good, Wanted, same_fault}
+use Rattle.m88_parse.proofs.Law.LineFaults.Nodes.{fresh_behind, misplaced_by, told}
+use Rattle.m88_parse.proofs.Law.Walks.{faults_of, begun}
 use Rattle.m88_parse.proofs.Law.Forms.{form_walk}
 use Rattle.m88_parse.proofs.Law.LineFaults.Heard.{heard_law}
 
@@ -130,19 +129,15 @@ named_told line e p ps f name None None h n i j =
 
 -- the head of a module
 
-head_reader : (line e : ℕ) (p : Piece) (ps : List Piece) (name : List ℕ) → p.says ≡ a_name name → is_module name ≡ true → heard line e (p ∷ ps) ≡ reader_of line e any_name_at (λ x s. line_end_at s >>= λ (t : ReaderState). let y : Result Row ParseFault = Ok (row.Head x line) in y) ps
+head_reader : (line e : ℕ) (p : Piece) (ps : List Piece) (name : List ℕ) → p.says ≡ a_name name → is_module name ≡ true
+    → heard line e (p ∷ ps) ≡ faults_of line e (head_then line) ps
 unfolding head_at
-head_reader line e p ps name h t = ap (λ (r : Result Row ParseFault). fault_in r) (take_then (is_head_on (Some p.says)) _ _ (ap (λ (o : TokenValue). is_head_on (Some o)) h ∙ t))
-
-head_good : (few line e : ℕ) → Good few line e (reader_of line e any_name_at (λ x s. line_end_at s >>= λ (t : ReaderState). let y : Result Row ParseFault = Ok (row.Head x line) in y))
-head_good few line e =
-    good few false symbols line e (reader_of line e any_name_at (λ x s. line_end_at s >>= λ (t : ReaderState). let y : Result Row ParseFault = Ok (row.Head x line) in y))
-    (one_token few (List ℕ) Row false symbols line e any_name_at (one_any_name line e) (λ x s. line_end_at s >>= λ (t : ReaderState). let y : Result Row ParseFault = Ok (row.Head x line) in y)
-    (λ x. good few false no_name line e (λ ps. fault_in (line_end_at (st line e ps) >>= λ (t : ReaderState). let y : Result Row ParseFault = Ok (row.Head x line) in y)) (ends_node few Row line e (row.Head x line))))
+head_reader line e p ps name h t = same_fault (take_then (is_head_on (Some p.says)) _ _ (ap (λ (o : TokenValue). is_head_on (Some o)) h ∙ t))
 
 module_told : (line e : ℕ) (p : Piece) (ps : List Piece) (f : ParseFault) (name : List ℕ) → p.says ≡ a_name name → is_module name ≡ true → EndsAt (p ∷ ps) e → heard line e (p ∷ ps) ≡ Some f → Told line (p ∷ ps) f
 module_told line e p ps f name h t a i =
-    by_good line e p ps f name (reader_of line e any_name_at (λ x s. line_end_at s >>= λ (u : ReaderState). let y : Result Row ParseFault = Ok (row.Head x line) in y)) h (λ qs. head_reader line e p qs name h t) (head_good (suc (length ps)) line e) a i
+    by_good line e p ps f name (faults_of line e (head_then line)) h (λ qs. head_reader line e p qs name h t)
+    (begun (head_start (suc (length ps)) line e)).faults a i
 
 other_told : (line e : ℕ) (p : Piece) (ps : List Piece) (f : ParseFault) (m : TokenValue) → p.says ≡ m → NoName m → heard line e (p ∷ ps) ≡ Some f → Told line (p ∷ ps) f
 other_told line e p ps f m h z = first_told line e p ps f (λ l c qs. heard_other l c p qs m h z ∙ same l m h z)

@@ -1,5 +1,5 @@
 -- Readers of tokens, of which only the fault counts here, and what they say of the tokens behind a front.
-use Rattle.std.proofs.Common.{◌≡◌, ◌↔◌, ℕ, ◌+◌, ◌<◌, Bool, true, false, if◌then◌else◌, List, [], ◌∷◌, ◌++◌, length, Option, Some, None, Result, Ok, Err}
+use Rattle.std.proofs.Common.{◌≡◌, ◌↔◌, ℕ, ◌+◌, ◌<◌, Bool, true, false, if◌then◌else◌, List, [], ◌∷◌, ◌++◌, length, Option, Some, None, Result, Ok, Err, ap}
 use Rattle.m88_parse.specs.declared.fault.ParseKind.{ParseKind}
 use Rattle.m88_parse.specs.declared.fault.ParseFault.{ParseFault}
 use Rattle.m88_parse.specs.declared.row.Row.{Row}
@@ -14,6 +14,9 @@ use Rattle.m88_parse.proofs.Law.Slots.{st, Naming, no_name, own_names, symbols}
 abbrev pub fault_in : {A : Type 0} → Result A ParseFault → Option ParseFault
 fault_in (Ok x) = None
 fault_in (Err f) = Some f
+
+pub same_fault : {A : Type 0} {q r : Result A ParseFault} → q ≡ r → fault_in q ≡ fault_in r
+same_fault {A = A} h = ap (λ (x : Result A ParseFault). fault_in x) h
 
 abbrev pub Reader : Type 0
 Reader = List Piece → Option ParseFault
