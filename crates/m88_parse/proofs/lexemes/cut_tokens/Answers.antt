@@ -1,7 +1,8 @@
 -- A token more keeps what the loop of `cut_tokens` keeps; behind the last lexeme the tokens are those of the line.
-use Rattle.std.proofs.Common.{get_or, sym, subst}
+use Rattle.std.proofs.Common.{List, get_or, sym, subst}
 use Rattle.std.specs.List.{All}
 use Rattle.std.proofs.lemmas.List.Elements.{All-push}
+use Rattle.m88_parse.specs.declared.token.Token.{Token}
 use Rattle.m88_parse.specs.Reader.Places.{IsLexemeOf}
 use Rattle.m88_parse.specs.Language.Pieces.{IsTokenOf}
 use Rattle.m88_parse.proofs.Pieces.{token_placed, tokens_more, tokens_done}
@@ -16,7 +17,7 @@ loop-lexeme-preserved c =
     let placed = token_placed line (get_or items i _) c.token_of.result c.args.number c.token_of.ensures (slices i _ c.loop-lexeme-test.true) in
     record {
       cuts = tokens_more items c.loop-lexeme.out.items c.push.new.self.items c.token_of.result c.args.number i _ c.loop-lexeme-test.true c.in_ok-push.ensures.items c.token_of.ensures c.loop-lexeme.invariant.cuts;
-      slices = subst (All (IsTokenOf line)) (sym c.in_ok-push.ensures.items) (All-push (IsTokenOf line) c.loop-lexeme.out.items c.token_of.result c.loop-lexeme.invariant.slices placed);
+      slices = subst (All (IsTokenOf line)) (sym {A = List Token} c.in_ok-push.ensures.items) (All-push (IsTokenOf line) c.loop-lexeme.out.items c.token_of.result c.loop-lexeme.invariant.slices placed);
     }
 
 pub returns-clause-cuts : goal.returns-clause-cuts
