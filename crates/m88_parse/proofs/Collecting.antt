@@ -4,6 +4,7 @@ use Rattle.m88_parse.specs.declared.fault.ParseFault.{ParseFault}
 use Rattle.m88_parse.specs.Fault.{out_of_memory}
 use Rattle.m88_parse.specs.Reader.State.{ReaderState, is_next_mark, past, ◌>>=◌}
 use Rattle.m88_parse.specs.Reader.Slots.{Read}
+use Rattle.m88_parse.specs.Language.Bytes.{comma_mark}
 use Rattle.m88_parse.specs.Reader.Grammar.{many}
 
 -- what was collected before, and what is still read
@@ -18,7 +19,7 @@ Collects item false done s total = total ≡ Ok (done, s)
 
 -- what follows an item
 abbrev after : {A : Type 0} → (ReaderState → Read A) → ℕ → Read A → Read (List A)
-after item room r = r >>= λ x. cond (is_next_mark 44 x.1) (many item room (past x.1) >>= λ xs. Ok (x.0 ∷ xs.0, xs.1)) (Ok (x.0 ∷ [], x.1))
+after item room r = r >>= λ x. cond (is_next_mark comma_mark x.1) (many item room (past x.1) >>= λ xs. Ok (x.0 ∷ xs.0, xs.1)) (Ok (x.0 ∷ [], x.1))
 
 opens : {A : Type 0} (item : ReaderState → Read A) (room : ℕ) (s : ReaderState) (r : Read A) → item s ≡ r → many item (suc room) s ≡ after item room r
 unfolding many
@@ -39,14 +40,14 @@ by_comma item room done x t total false h so_far = sym so_far
 
 more_at : {A : Type 0} (item : ReaderState → Read A) (done : List A) (x : A) (s t : ReaderState) (total : Read (List A)) (room : ℕ)
     → item s ≡ Ok (x, t) → length t.rest < length s.rest → length s.rest < room → with_items done (many item room s) ≡ total
-    → Collects item (is_next_mark 44 t) (done ++ x ∷ []) (cond (is_next_mark 44 t) (past t) t) total
+    → Collects item (is_next_mark comma_mark t) (done ++ x ∷ []) (cond (is_next_mark comma_mark t) (past t) t) total
 more_at item done x s t total zero e shorter h so_far = absurd (omega arith)
 more_at item done x s t total (suc room) e shorter h so_far =
-    by_comma item room done x t total (is_next_mark 44 t) (omega arith) (ap (with_items done) (sym (opens item room s (Ok (x, t)) e)) ∙ so_far)
+    by_comma item room done x t total (is_next_mark comma_mark t) (omega arith) (ap (with_items done) (sym (opens item room s (Ok (x, t)) e)) ∙ so_far)
 
 pub collects_more : {A : Type 0} (item : ReaderState → Read A) (done : List A) (x : A) (s t : ReaderState) (total : Read (List A))
     → Collects item true done s total → item s ≡ Ok (x, t) → length t.rest < length s.rest
-    → Collects item (is_next_mark 44 t) (done ++ x ∷ []) (cond (is_next_mark 44 t) (past t) t) total
+    → Collects item (is_next_mark comma_mark t) (done ++ x ∷ []) (cond (is_next_mark comma_mark t) (past t) t) total
 collects_more item done x s t total h e shorter = more_at item done x s t total h.0 e shorter h.1 h.2
 
 fault_at : {A : Type 0} (item : ReaderState → Read A) (done : List A) (s : ReaderState) (f : ParseFault) (total : Read (List A)) (room : ℕ)

@@ -1,13 +1,13 @@
 -- Tokens cut off one after the other, as a loop does.
-use Rattle.std.proofs.Common.{◌≡◌, ℕ, zero, suc, ◌-◌, ◌+◌, ◌≤◌, ◌<◌, List, [], ◌∷◌, ◌++◌, length, take, drop, Some, None, Result, Ok, Err, refl, sym, ap, subst, ◌∙◌, append_assoc, arith}
-use Rattle.std.proofs.lemmas.List.{append-nil, drop-drop}
+use Rattle.std.proofs.Common.{◌≡◌, ℕ, zero, suc, ◌-◌, ◌+◌, ◌≤◌, ◌<◌, List, [], ◌∷◌, ◌++◌, length, map, get_or, take, drop, Some, None, Result, Ok, Err, refl, sym, ap, ap₂, subst, ◌∙◌, append_assoc, take_all, arith}
+use Rattle.std.proofs.lemmas.List.{append-nil, drop-drop, map_push, take_more}
 use Rattle.m88_parse.specs.declared.token.Lexeme.{Lexeme}
 use Rattle.m88_parse.specs.declared.token.Token.{Token}
 use Rattle.m88_parse.specs.Reader.Places.{IsLexemeOf}
 use Rattle.m88_parse.specs.Language.Pieces.{IsSlice, IsTokenOf, PlainToken, plain_token, token_of, TokenValue, Piece}
 use Rattle.m88_parse.specs.declared.fault.ParseFault.{ParseFault}
 use Rattle.m88_parse.specs.declared.scan.Flaw.{Flaw}
-use Rattle.m88_parse.specs.Reader.Tokens.{piece_of, Cut, front, pieces, prepend, fault_at}
+use Rattle.m88_parse.specs.Reader.Tokens.{piece_of, Cut, front, pieces, pieces_of, prepend, fault_at, tokens_from, tokens_of}
 
 -- what was cut off before, and what is still cut
 abbrev pub with_front : List Piece → Result (List Piece) ParseFault → Result (List Piece) ParseFault
@@ -85,3 +85,18 @@ token_placed line x t n h k =
     let e : t.text.now ≡ x.text.now = ap (λ (p : PlainToken). p.text) h in
     let f : t.col ≡ x.col = ap (λ (p : PlainToken). p.col) h in
     subst (λ (xs : List ℕ). IsSlice line xs t.col) (sym e) (subst (λ (m : ℕ). IsSlice line x.text.now m) (sym f) k)
+
+-- a token more for the lexeme that it was made of
+pub tokens_more : (xs : List Lexeme) (ts new : List Token) (t : Token) (n i : ℕ) (d : Lexeme) → i < length xs → new ≡ ts ++ t ∷ [] → plain_token t ≡ token_of n (piece_of (get_or xs i d))
+    → map plain_token ts ≡ map (token_of n) (map piece_of (take i xs)) → map plain_token new ≡ map (token_of n) (map piece_of (take (i + 1) xs))
+tokens_more xs ts new t n i d l e k so_far =
+    ap (map plain_token) e ∙ map_push plain_token ts t
+    ∙ ap₂ (λ (ps : List PlainToken) (p : PlainToken). ps ++ p ∷ []) so_far k
+    ∙ sym (ap (λ (ys : List Lexeme). map (token_of n) (map piece_of ys)) (take_more xs i d l) ∙ ap (map (token_of n)) (map_push piece_of (take i xs) (get_or xs i d)) ∙ map_push (token_of n) (map piece_of (take i xs)) (piece_of (get_or xs i d)))
+
+-- a token for each lexeme
+pub tokens_done : (n : ℕ) (line : List ℕ) (xs items : List Lexeme) (ts : List Token) (i : ℕ) → pieces_of n line ≡ Ok (map piece_of xs) → items ≡ xs → length items ≤ i
+    → map plain_token ts ≡ map (token_of n) (map piece_of (take i items)) → tokens_of n line ≡ Ok (map plain_token ts)
+tokens_done n line xs items ts i c e l so_far =
+    ap (tokens_from n) c
+    ∙ ap (λ (ps : List PlainToken). let r : Result (List PlainToken) ParseFault = Ok ps in r) (sym (so_far ∙ ap (λ (ys : List Lexeme). map (token_of n) (map piece_of ys)) (take_all i items l ∙ e)))

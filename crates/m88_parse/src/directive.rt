@@ -3,7 +3,7 @@ ghost use Rattle.std.specs.Prelude.{◌≡◌};
 ghost use Rattle.m88_parse.specs.Reader.Directives.{all_directives, directive_text, directive_of};
 
 /// A directive beside `.module`.
-#[derive(Clone, Copy, PartialEq, Eq)]
+#[derive(Clone, Copy)]
 pub(crate) enum Directive {
     Text,
     Data,

@@ -1,7 +1,7 @@
 //! The operands of an instruction, by the form of its mnemonic.
 ghost use Rattle.std.specs.Prelude.{◌≡◌, ◌≤◌, IfOk};
 ghost use Rattle.m88_parse.specs.Fault.{Gives};
-ghost use Rattle.m88_parse.specs.Reader.Grammar.{read, either_form, immediate_form, registers_form, memory_form, user_memory_form, address_form, bits_form, find_bit_form, branch_form, branch_bit_form, branch_cond_form, jump_form, trap_bit_form, trap_cond_form, bounds_form, ldcr_form, stcr_form, xcr_form, code_only, form_of};
+ghost use Rattle.m88_parse.specs.Reader.Grammar.{read, ends, either_form, immediate_form, registers_form, memory_form, user_memory_form, address_form, bits_form, find_bit_form, branch_form, branch_bit_form, branch_cond_form, jump_form, trap_bit_form, trap_cond_form, bounds_form, ldcr_form, stcr_form, xcr_form, code_only, form_of};
 ghost use Rattle.m88_parse.specs.Language.Operands.{most_width};
 ghost use Rattle.m88_isa.specs.declared.instr.Instr.TheVariants.{Rte};
 ghost use Rattle.m88_parse.specs.WellFormed.{IsFormedBody};
@@ -34,6 +34,17 @@ fn most_width(op: BitOp) -> u32
 }
 
 impl<'a> Parser<'a> {
+    /// What was read, where the line ends here.
+    #[tactic(auto, unfolding(crate::specs::Reader::Grammar::read))]
+    pub fn close(&mut self, body: Body) -> Result<Body, ParseFault>
+        requires { IsFormedBody body }
+        ensures value { Gives (λ b. b) result (read (ends body) self.old) }
+        ensures body { IfOk result IsFormedBody }
+    {
+        self.end()?;
+        Ok(body)
+    }
+
     #[tactic(auto, unfolding(crate::specs::Reader::Grammar::read))]
     fn either(&mut self, imm: ImmOp, reg: RegOp) -> Result<Body, ParseFault>
         ensures value { Gives (λ b. b) result (read (either_form imm reg) self.old) }
@@ -55,8 +66,7 @@ impl<'a> Parser<'a> {
                 x.fixup,
             ),
         };
-        self.end()?;
-        Ok(body)
+        self.close(body)
     }
 
     #[tactic(auto, unfolding(crate::specs::Reader::Grammar::read))]
@@ -69,8 +79,7 @@ impl<'a> Parser<'a> {
         let s1 = self.register()?;
         self.mark(b',')?;
         let x = self.immediate()?;
-        self.end()?;
-        Ok(Body::Code(
+        self.close(Body::Code(
             Instr::Imm {
                 op,
                 d,
@@ -91,8 +100,7 @@ impl<'a> Parser<'a> {
         let s1 = self.register()?;
         self.mark(b',')?;
         let s2 = self.register()?;
-        self.end()?;
-        Ok(Body::Code(Instr::Regs { op, d, s1, s2 }, None))
+        self.close(Body::Code(Instr::Regs { op, d, s1, s2 }, None))
     }
 
     #[tactic(auto, unfolding(crate::specs::Reader::Grammar::read))]
@@ -136,8 +144,7 @@ impl<'a> Parser<'a> {
                 x.fixup,
             ),
         };
-        self.end()?;
-        Ok(body)
+        self.close(body)
     }
 
     #[tactic(auto, unfolding(crate::specs::Reader::Grammar::read))]
@@ -149,8 +156,7 @@ impl<'a> Parser<'a> {
         self.mark(b',')?;
         let s1 = self.register()?;
         let (s2, scaled) = self.user_index()?;
-        self.end()?;
-        Ok(Body::Code(
+        self.close(Body::Code(
             Instr::MemReg {
                 op,
                 d,
@@ -172,8 +178,7 @@ impl<'a> Parser<'a> {
         self.mark(b',')?;
         let s1 = self.register()?;
         let s2 = self.scaled()?;
-        self.end()?;
-        Ok(Body::Code(Instr::Lda { size, d, s1, s2 }, None))
+        self.close(Body::Code(Instr::Lda { size, d, s1, s2 }, None))
     }
 
     #[tactic(auto, unfolding(crate::specs::Reader::Grammar::read))]
@@ -195,8 +200,7 @@ impl<'a> Parser<'a> {
                 offset,
             },
         };
-        self.end()?;
-        Ok(Body::Code(instr, None))
+        self.close(Body::Code(instr, None))
     }
 
     #[tactic(auto, unfolding(crate::specs::Reader::Grammar::read))]
@@ -207,8 +211,7 @@ impl<'a> Parser<'a> {
         let d = self.register()?;
         self.mark(b',')?;
         let s2 = self.register()?;
-        self.end()?;
-        Ok(Body::Code(Instr::Find { ones, d, s2 }, None))
+        self.close(Body::Code(Instr::Find { ones, d, s2 }, None))
     }
 
     #[tactic(auto, unfolding(crate::specs::Reader::Grammar::read))]
@@ -217,8 +220,7 @@ impl<'a> Parser<'a> {
         ensures body { IfOk result IsFormedBody }
     {
         let goal = self.goal(Kind::Pc26, FAR)?;
-        self.end()?;
-        Ok(Body::Code(
+        self.close(Body::Code(
             Instr::Branch {
                 link,
                 delayed,
@@ -238,8 +240,7 @@ impl<'a> Parser<'a> {
         let s1 = self.register()?;
         self.mark(b',')?;
         let goal = self.goal(Kind::Pc16, NEAR)?;
-        self.end()?;
-        Ok(Body::Code(
+        self.close(Body::Code(
             Instr::BranchBit {
                 set,
                 delayed,
@@ -261,8 +262,7 @@ impl<'a> Parser<'a> {
         let s1 = self.register()?;
         self.mark(b',')?;
         let goal = self.goal(Kind::Pc16, NEAR)?;
-        self.end()?;
-        Ok(Body::Code(
+        self.close(Body::Code(
             Instr::BranchCond {
                 delayed,
                 mask,
@@ -279,8 +279,7 @@ impl<'a> Parser<'a> {
         ensures body { IfOk result IsFormedBody }
     {
         let s2 = self.register()?;
-        self.end()?;
-        Ok(Body::Code(Instr::Jump { link, delayed, s2 }, None))
+        self.close(Body::Code(Instr::Jump { link, delayed, s2 }, None))
     }
 
     #[tactic(auto, unfolding(crate::specs::Reader::Grammar::read))]
@@ -293,8 +292,7 @@ impl<'a> Parser<'a> {
         let s1 = self.register()?;
         self.mark(b',')?;
         let vector = self.number(VECTORS)? as u16;
-        self.end()?;
-        Ok(Body::Code(
+        self.close(Body::Code(
             Instr::TrapBit {
                 set,
                 bit,
@@ -315,8 +313,7 @@ impl<'a> Parser<'a> {
         let s1 = self.register()?;
         self.mark(b',')?;
         let vector = self.number(VECTORS)? as u16;
-        self.end()?;
-        Ok(Body::Code(Instr::TrapCond { mask, s1, vector }, None))
+        self.close(Body::Code(Instr::TrapCond { mask, s1, vector }, None))
     }
 
     #[tactic(auto, unfolding(crate::specs::Reader::Grammar::read))]
@@ -330,8 +327,7 @@ impl<'a> Parser<'a> {
             Bound::Register(s2) => Instr::BoundReg { s1, s2 },
             Bound::Number(imm) => Instr::BoundImm { s1, imm },
         };
-        self.end()?;
-        Ok(Body::Code(instr, None))
+        self.close(Body::Code(instr, None))
     }
 
     #[tactic(auto, unfolding(crate::specs::Reader::Grammar::read))]
@@ -342,8 +338,7 @@ impl<'a> Parser<'a> {
         let d = self.register()?;
         self.mark(b',')?;
         let cr = self.control(float)?;
-        self.end()?;
-        Ok(Body::Code(Instr::Ldcr { d, cr, float }, None))
+        self.close(Body::Code(Instr::Ldcr { d, cr, float }, None))
     }
 
     #[tactic(auto, unfolding(crate::specs::Reader::Grammar::read))]
@@ -354,8 +349,7 @@ impl<'a> Parser<'a> {
         let s1 = self.register()?;
         self.mark(b',')?;
         let cr = self.control(float)?;
-        self.end()?;
-        Ok(Body::Code(Instr::Stcr { s1, cr, float }, None))
+        self.close(Body::Code(Instr::Stcr { s1, cr, float }, None))
     }
 
     #[tactic(auto, unfolding(crate::specs::Reader::Grammar::read))]
@@ -368,8 +362,7 @@ impl<'a> Parser<'a> {
         let s1 = self.register()?;
         self.mark(b',')?;
         let cr = self.control(float)?;
-        self.end()?;
-        Ok(Body::Code(Instr::Xcr { d, s1, cr, float }, None))
+        self.close(Body::Code(Instr::Xcr { d, s1, cr, float }, None))
     }
 
     #[tactic(auto, unfolding(crate::specs::Reader::Grammar::read))]
@@ -377,8 +370,7 @@ impl<'a> Parser<'a> {
         ensures value { Gives (λ b. b) result (read (code_only Rte) self.old) }
         ensures body { IfOk result IsFormedBody }
     {
-        self.end()?;
-        Ok(Body::Code(Instr::Rte, None))
+        self.close(Body::Code(Instr::Rte, None))
     }
 
     /// The operands of an instruction, to the end of the line.

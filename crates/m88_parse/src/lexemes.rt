@@ -66,7 +66,6 @@ fn token_of<'a>(lexeme: &Lexeme<'a>, line: u32) -> Token<'a>
 }
 
 /// The tokens of a line without what they say.
-#[tactic(auto, using(crate::proofs::Pieces::token_placed))]
 fn cut_tokens<'a>(alloc: Global, line: &'a [u8], number: u32) -> Result<Vec<Token<'a>>, ParseFault>
     requires short { length line.now < 2 ^ 31 }
     ensures cuts { Gives (λ v. map plain_token v.items) result (tokens_of number line.now) }

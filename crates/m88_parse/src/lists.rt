@@ -3,6 +3,7 @@ ghost use Rattle.std.specs.Prelude.{◌≡◌, ◌<◌, false, length, IfOk, OnO
 ghost use Rattle.std.specs.List.{All};
 ghost use Rattle.m88_base.specs.declared.fixup.Kind.TheVariants.{Abs32};
 ghost use Rattle.m88_parse.specs.Fault.{Gives, out_of_memory};
+ghost use Rattle.m88_parse.specs.Language.Bytes.{comma_mark};
 ghost use Rattle.m88_parse.specs.Reader.Grammar.{list_at, word_item_at, a_half, a_byte, part_item_at};
 ghost use Rattle.m88_parse.specs.Reader.Slots.{text_at};
 ghost use Rattle.m88_parse.specs.Reader.State.{is_next_mark, past};
@@ -109,8 +110,8 @@ impl<'a> Parser<'a> {
 
     /// Passes over a comma, and says whether there was one.
     fn comma(&mut self) -> bool
-        ensures value { result ≡ is_next_mark 44 self.old }
-        ensures after { self.new ≡ (if is_next_mark 44 self.old then past self.old else self.old) }
+        ensures value { result ≡ is_next_mark comma_mark self.old }
+        ensures after { self.new ≡ (if is_next_mark comma_mark self.old then past self.old else self.old) }
     {
         let comma = self.is_next(b',');
         if comma {

@@ -2,7 +2,7 @@
 ghost use Rattle.std.specs.Prelude.{◌≡◌, IfOk};
 ghost use Rattle.m88_parse.specs.declared.directive.Directive.TheVariants.{Set};
 ghost use Rattle.m88_parse.specs.Fault.{Gives};
-ghost use Rattle.m88_parse.specs.Reader.Grammar.{read, ends, directive_form};
+ghost use Rattle.m88_parse.specs.Reader.Grammar.{read, directive_form};
 ghost use Rattle.m88_parse.specs.Reader.Source.{operation_at, labelled_at, head_at, is_label_on, is_head_on, row_at};
 ghost use Rattle.m88_parse.specs.Reader.State.{first, second};
 ghost use Rattle.m88_parse.specs.WellFormed.{IsFormedBody};
@@ -24,17 +24,6 @@ use std::alloc::Global;
 const ANY: u32 = u32::MAX;
 
 impl<'a> Parser<'a> {
-    /// What was read, where the line ends here.
-    #[tactic(auto, unfolding(crate::specs::Reader::Grammar::read))]
-    fn close(&mut self, body: Body) -> Result<Body, ParseFault>
-        requires { IsFormedBody body }
-        ensures value { Gives (λ b. b) result (read (ends body) self.old) }
-        ensures body { IfOk result IsFormedBody }
-    {
-        self.end()?;
-        Ok(body)
-    }
-
     /// .set: a symbol and its number.
     #[tactic(auto, unfolding(crate::specs::Reader::Grammar::read, crate::specs::Reader::Grammar::directive_form))]
     fn set(&mut self) -> Result<Body, ParseFault>
@@ -44,8 +33,7 @@ impl<'a> Parser<'a> {
         let (name, col) = self.symbol()?;
         self.mark(b',')?;
         let value = self.whole(1 << 31, ANY)?;
-        self.end()?;
-        Ok(Body::Set { name, col, value })
+        self.close(Body::Set { name, col, value })
     }
 
     /// The operands of a directive, to the end of the line.
@@ -54,43 +42,20 @@ impl<'a> Parser<'a> {
         ensures value { Gives (λ b. b) result (read (directive_form directive) self.old) }
         ensures body { IfOk result IsFormedBody }
     {
-        match directive {
-            Directive::Text => self.close(Body::Text),
-            Directive::Data => self.close(Body::DataSection),
-            Directive::At => {
-                let at = self.number(ANY)?;
-                self.close(Body::At(at))
-            }
-            Directive::Word => {
-                let values = self.words_list(alloc)?;
-                self.close(Body::Word(Listed::new(values)))
-            }
-            Directive::Half => {
-                let halves = self.half_words(alloc)?;
-                self.close(Body::Half(Listed::new(halves)))
-            }
-            Directive::Byte => {
-                let bytes = self.bytes(alloc)?;
-                self.close(Body::Byte(Listed::new(bytes)))
-            }
-            Directive::Ascii => {
-                let text = self.text(alloc)?;
-                self.close(Body::Ascii(Listed::new(text)))
-            }
-            Directive::Zero => {
-                let count = self.number(ANY)?;
-                self.close(Body::Zero(count))
-            }
-            Directive::Align => {
-                let alignment = self.alignment()?;
-                self.close(Body::Align(alignment))
-            }
-            Directive::Global => {
-                let (name, _) = self.symbol()?;
-                self.close(Body::Global(name))
-            }
-            Directive::Set => self.set(),
-        }
+        let body = match directive {
+            Directive::Text => Body::Text,
+            Directive::Data => Body::DataSection,
+            Directive::At => Body::At(self.number(ANY)?),
+            Directive::Word => Body::Word(Listed::new(self.words_list(alloc)?)),
+            Directive::Half => Body::Half(Listed::new(self.half_words(alloc)?)),
+            Directive::Byte => Body::Byte(Listed::new(self.bytes(alloc)?)),
+            Directive::Ascii => Body::Ascii(Listed::new(self.text(alloc)?)),
+            Directive::Zero => Body::Zero(self.number(ANY)?),
+            Directive::Align => Body::Align(self.alignment()?),
+            Directive::Global => Body::Global(self.symbol()?.0),
+            Directive::Set => return self.set(),
+        };
+        self.close(body)
     }
 
     /// An operation and its operands, to the end of the line.

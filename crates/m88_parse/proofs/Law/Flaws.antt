@@ -5,12 +5,11 @@ use Rattle.std.specs.Char.{is_ascii_digit}
 use Rattle.std.specs.Str.Parse.{digits_value}
 use Rattle.std.proofs.lemmas.List.Sums.{prefix_len-le-length}
 use Rattle.std.proofs.lemmas.Bool.{eqb-false}
-use Rattle.std.proofs.lemmas.Bool.Decides.{nat_tests}
 use Rattle.m88_parse.specs.declared.fault.ParseKind.{ParseKind}
 use Rattle.m88_parse.specs.declared.fault.ParseKind.TheVariants.{NotAscii, Syntax, OutOfRange}
 use Rattle.m88_parse.specs.declared.scan.Flaw.{Flaw}
 use Rattle.m88_parse.specs.Reader.Tokens.{is_hexadecimal, is_decimal, bounded, inside_len, Cut, token_cut, flaw, token_or_flaw, name_front, number_front, quoted_value, quoted, word_front, front, numeral}
-use Rattle.m88_parse.specs.Language.Bytes.{is_blank, is_comment, is_plain, is_mark}
+use Rattle.m88_parse.specs.Language.Bytes.{space, tab, is_blank, is_comment, is_plain, is_mark}
 use Rattle.m88_base.specs.Name.{continues_name}
 use Rattle.m88_parse.specs.Language.Pieces.{TokenValue, a_name}
 use Rattle.m88_parse.specs.Language.Tokens.{AreNameBytes, BeginsWithNoNameByte, IsNumeral, IsToken}
@@ -18,10 +17,13 @@ use Rattle.m88_parse.specs.Language.FirstFaults.{Takes, line_ends, quote_closes,
 use Rattle.m88_parse.proofs.Law.Steps.{both, chosen, tested, not_true, not_false, take_then, take_else, Stops, prefix_all, all_of_prefix, stops_prefix, prefix_whole, whole_prefix}
 use Rattle.m88_parse.proofs.Law.Numbers.{read_decimal, hexadecimal_is, decimal_is, is_decimal_again, is_hexadecimal_again, number_is, bounded_above, at_decimal, at_hexadecimal}
 use Rattle.m88_parse.proofs.Law.Quotes.{inside_fits, inside_again, closed_by, not_lone}
-use Rattle.m88_parse.proofs.Law.Fronts.{front_again, front_run, Makes, makes_text, makes_character, decimal_first, run_at, front_double, front_single, between, is_quote}
+use Rattle.m88_parse.proofs.Law.Fronts.{no_such_byte, front_again, front_run, Makes, makes_text, makes_character, decimal_first, run_at, front_double, front_single, between, is_quote}
 
 flaw_same : {a b : Flaw} → ◌≡◌ {A = Result Cut Flaw} (Err a) (Err b) → a ≡ b
 flaw_same h = cc
+
+no_flaw : {c : Cut} {f : Flaw} → ◌≡◌ {A = Result Cut Flaw} (Ok c) (Err f) → ⊥
+no_flaw h = cc
 
 -- numerals that are none, or too large
 
@@ -151,10 +153,10 @@ unfolding front
 front_plain b bs c k h = take_else (is_comment b) _ _ c ∙ take_else (is_blank b) _ _ k ∙ take_then (not (is_plain b)) _ _ (ap not h)
 
 foreign_no_comment : (b : ℕ) → is_plain b ≡ false → is_comment b ≡ false
-foreign_no_comment b h = grind (arith, nat_tests)
+foreign_no_comment b h = no_such_byte is_plain 59 35 b refl refl h
 
 foreign_no_blank : (b : ℕ) → is_plain b ≡ false → is_blank b ≡ false
-foreign_no_blank b h = grind (arith, nat_tests)
+foreign_no_blank b h = no_such_byte is_plain space tab b refl refl h
 
 front_stray : (b : ℕ) (bs : List ℕ) → IsStray b → front (b ∷ bs) ≡ flaw Syntax 0
 unfolding front
@@ -268,12 +270,12 @@ word_flawed b t rest bytes f e r k h =
       | inr j ↦
           elim (chosen (nat_lt 64 (length (b ∷ t))) (flaw OutOfRange 0) (token_cut (length (b ∷ t)) (a_name (b ∷ t))) (Err f) j.1) [
             | inl i ↦ subst (Flawed bytes) (flaw_same i.1) (long_name (b ∷ t) rest e r k j.0 (ltb-true 64 (length (b ∷ t)) i.0))
-            | inr i ↦ absurd cc
+            | inr i ↦ absurd (no_flaw i.1)
           ]
     ]
   where
     by_numeral : (v : Result ℕ ParseKind) → numeral (b ∷ t) ≡ v → is_ascii_digit b ≡ true → number_front (length (b ∷ t)) v ≡ Err f → Flawed bytes f
-    by_numeral (Ok n) x d g = absurd cc
+    by_numeral (Ok n) x d g = absurd (no_flaw g)
     by_numeral (Err kind) x d g = subst (Flawed bytes) (flaw_same g) (no_number_is b t rest bytes kind e r k d (numeral_err (b ∷ t) kind (omega arith) x))
 
 run_flawed : (b : ℕ) (bs : List ℕ) (f : Flaw) → continues_name b ≡ true → word_front b (b ∷ take (prefix_len continues_name bs) bs) ≡ Err f → Flawed (b ∷ bs) f
@@ -295,7 +297,7 @@ split_at p xs h = by_rest (drop (prefix_len p xs) xs) refl (stops_prefix p xs)
     by_rest (y ∷ ys) e s = (y, ys, sym (take-append-drop (prefix_len p xs) xs) ∙ ap (λ (zs : List ℕ). take (prefix_len p xs) xs ++ zs) e, subst (Stops p) e s)
 
 no_meaning : (len : ℕ) (o : Option TokenValue) (f : Flaw) → token_or_flaw len o ≡ Err f → record { at = 0; kind = Syntax } ≡ f
-no_meaning len (Some m) f h = absurd cc
+no_meaning len (Some m) f h = absurd (no_flaw h)
 no_meaning len None f h = flaw_same h
 
 quote_no_word : (q : ℕ) → IsQuote q → continues_name q ≡ false
@@ -329,7 +331,7 @@ quoted_flawed q bs f i h =
         let c : front (q ∷ bs) ≡ token_cut (length (q ∷ inside ++ q ∷ [])) m =
         ap front (ap (λ (xs : List ℕ). q ∷ xs) b ∙ sym (between q inside rest)) ∙ front_again (q ∷ inside ++ q ∷ []) rest m x no_run in
         let e : ◌≡◌ {A = Result Cut Flaw} (Err f) (token_cut (length (q ∷ inside ++ q ∷ [])) m) = sym h ∙ sym (front_quote q bs i) ∙ c in
-        cc
+        no_flaw (sym e)
 
 stray_is : (b : ℕ) → is_plain b ≡ true → is_comment b ≡ false → is_blank b ≡ false → continues_name b ≡ false → is_mark b ≡ false → (b == 34 || b == 39) ≡ false → IsStray b
 stray_is b p c k w m q = record { valid = p; no_comment = c; no_blank = k; no_word = w; no_mark = m; no_quote = none }
@@ -342,10 +344,10 @@ pub front_flawed : (b : ℕ) (bs : List ℕ) (f : Flaw) → front (b ∷ bs) ≡
 unfolding front
 front_flawed b bs f h =
     elim (chosen (is_comment b) _ _ _ h) [
-      | inl i ↦ absurd cc
+      | inl i ↦ absurd (no_flaw i.1)
       | inr i ↦
           elim (chosen (is_blank b) _ _ _ i.1) [
-            | inl j ↦ absurd cc
+            | inl j ↦ absurd (no_flaw j.1)
             | inr j ↦
                 elim (chosen (not (is_plain b)) _ _ _ j.1) [
                   | inl k ↦ subst (Flawed (b ∷ bs)) (flaw_same k.1) (foreign_byte (not_true (is_plain b) k.0))
@@ -354,7 +356,7 @@ front_flawed b bs f h =
                         | inl l ↦ run_flawed b bs f l.0 (ap (word_front b) (sym (run_at b bs l.0)) ∙ l.1)
                         | inr l ↦
                             elim (chosen (is_mark b) _ _ _ l.1) [
-                              | inl m ↦ absurd cc
+                              | inl m ↦ absurd (no_flaw m.1)
                               | inr m ↦
                                   elim (chosen (b == 34 || b == 39) _ _ _ m.1) [
                                     | inl n ↦ quoted_flawed b bs f (is_quote b n.0) n.1

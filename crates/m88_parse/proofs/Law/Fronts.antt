@@ -1,6 +1,7 @@
 -- The law of the front of a line's rest: what is cut off is a gap, a comment or a token, and the other way round.
 use Rattle.std.proofs.Common.{◌≡◌, ◌≢◌, ℕ, suc, ◌+◌, ◌<◌, ◌≤◌, Bool, true, false, not, ◌&&◌, ◌||◌, ◌==◌, nat_lt, ◌⊎◌, inl, inr, List, [], ◌∷◌, ◌++◌, length, take, drop, Option, Some, None, Ok, Err, refl, sym, ap, ap₂, ◌∙◌, arith, subst, subst₂, take_at, drop_at, eqb-true, ne_eqb, ltb-false, le-ltb, Result, if◌then◌else◌, length-take, length-append, one-add, take-append-drop, append_assoc, true≢false}
-use Rattle.std.specs.List.{All, list_all, prefix_len}
+use Rattle.std.specs.List.{All, list_any, list_all, prefix_len}
+use Rattle.std.specs.Prelude.{codes}
 use Rattle.std.specs.Char.{is_ascii_digit, digit_value}
 use Rattle.std.proofs.Math.Seq.{take-append_seam}
 use Rattle.std.proofs.lemmas.List.Sums.{prefix_len-le-length, list_all-from_AllPass, AllPass-from_list_all}
@@ -11,23 +12,57 @@ use Rattle.m88_parse.specs.declared.fault.ParseKind.{ParseKind}
 use Rattle.m88_parse.specs.declared.fault.ParseKind.TheVariants.{NotAscii, OutOfRange}
 use Rattle.m88_parse.specs.declared.scan.Flaw.{Flaw}
 use Rattle.m88_parse.specs.Reader.Tokens.{inside_len, holds_escapes, text_bytes, character, Cut, gap, token_cut, flaw, token_or_flaw, name_front, number_front, as_number, quoted_value, quoted, word_front, front, numeral}
-use Rattle.m88_parse.specs.Language.Bytes.{is_blank, is_comment, is_plain, is_mark, are_digits}
+use Rattle.m88_parse.specs.Language.Bytes.{space, tab, is_blank, is_comment, is_plain, is_mark, are_digits}
 use Rattle.m88_parse.specs.Language.Pieces.{TokenValue, a_name, a_number, a_text, a_mark}
 use Rattle.m88_parse.specs.Language.Tokens.{AreNameBytes, BeginsWithNoNameByte, IsDecimal, IsNumeral, Holds, IsToken}
-use Rattle.m88_parse.proofs.Law.Steps.{both, either, chosen, take_then, take_else, Stops, prefix_all, all_of_prefix, stops_prefix, prefix_whole, whole_prefix}
+use Rattle.m88_parse.proofs.Law.Steps.{both, either, not_true, chosen, take_then, take_else, Stops, prefix_all, all_of_prefix, stops_prefix, prefix_whole, whole_prefix}
 use Rattle.m88_parse.proofs.Law.Numbers.{number_is, number_again}
 use Rattle.m88_parse.proofs.Law.Quotes.{holds_len, inside_fits, inside_again, closed_by, not_lone, holds_plain, holds_again, bytes_again, character_again, text_is, character_is}
 
 -- classes of bytes
 
+-- a byte that fails a test is not one that passes it
+other_byte : (p : ℕ → Bool) (x b : ℕ) → p x ≡ true → p b ≡ false → (b == x) ≡ false
+other_byte p x b h k = ne_eqb b x (λ (e : b ≡ x). true≢false (sym (ap p e ∙ h) ∙ k))
+
+pub no_such_byte : (p : ℕ → Bool) (x y b : ℕ) → p x ≡ true → p y ≡ true → p b ≡ false → (b == x || b == y) ≡ false
+no_such_byte p x y b h i k = ap₂ (λ (s t : Bool). s || t) (other_byte p x b h k) (other_byte p y b i k)
+
+-- one of some bytes passes a test that all of them pass
+one_of : (p : ℕ → Bool) (xs : List ℕ) (b : ℕ) → list_all p xs ≡ true → list_any (λ m. b == m) xs ≡ true → p b ≡ true
+one_of p [] b h k = absurd (true≢false (sym k))
+one_of p (x ∷ xs) b h k =
+    let j = both (p x) (list_all p xs) h in
+    elim (either (b == x) (list_any (λ m. b == m) xs) k) [ inl e ↦ ap p (eqb-true b x e) ∙ j.0 | inr e ↦ one_of p xs b j.1 e ]
+
+word_plain : (b : ℕ) → continues_name b ≡ true → is_plain b ≡ true
+word_plain b h = grind (arith, nat_tests)
+
 word_byte : (b : ℕ) → continues_name b ≡ true → (is_comment b ≡ false) × (is_blank b ≡ false) × (is_plain b ≡ true)
-word_byte b h = (grind (arith, nat_tests), grind (arith, nat_tests), grind (arith, nat_tests))
+word_byte b h =
+    let k : not (continues_name b) ≡ false = ap not h in
+    (no_such_byte (λ x. not (continues_name x)) 59 35 b refl refl k, no_such_byte (λ x. not (continues_name x)) space tab b refl refl k, word_plain b h)
 
 mark_byte : (b : ℕ) → is_mark b ≡ true → (is_comment b ≡ false) × (is_blank b ≡ false) × (is_plain b ≡ true) × (continues_name b ≡ false)
-mark_byte b h = (grind (arith, nat_tests), grind (arith, nat_tests), grind (arith, nat_tests), grind (arith, nat_tests))
+mark_byte b h = (
+  not_true (is_comment b) (one_of (λ x. not (is_comment x)) marks b refl h),
+  not_true (is_blank b) (one_of (λ x. not (is_blank x)) marks b refl h),
+  one_of is_plain marks b refl h,
+  not_true (continues_name b) (one_of (λ x. not (continues_name x)) marks b refl h),
+)
+  where
+    marks : List ℕ
+    marks = codes ",:[]<>()+-"
+
+or_first : (a b : Bool) → a ≡ true → (a || b) ≡ true
+or_first a b h = ap (λ (t : Bool). t || b) h
+
+or_second : (a b : Bool) → b ≡ true → (a || b) ≡ true
+or_second true b h = refl
+or_second false b h = h
 
 pub digit_word : (b : ℕ) → is_ascii_digit b ≡ true → continues_name b ≡ true
-digit_word b h = grind (arith, nat_tests)
+digit_word b h = or_second (begins_name b) (is_ascii_digit b) h
 
 -- the front by its first byte
 
@@ -109,19 +144,13 @@ front_run b t rest h k =
     stops (y ∷ ys) x = x
 
 begin_word : (b : ℕ) → begins_name b ≡ true → continues_name b ≡ true
-begin_word b h = grind (arith, nat_tests)
+begin_word b h = or_first (begins_name b) (is_ascii_digit b) h
 
 begin_no_digit : (b : ℕ) → begins_name b ≡ true → is_ascii_digit b ≡ false
 begin_no_digit b h = grind (arith, nat_tests)
 
-continue_word : (b : ℕ) → continues_name b ≡ true → continues_name b ≡ true
-continue_word b h = grind (arith, nat_tests)
-
 word_begin : (b : ℕ) → continues_name b ≡ true → is_ascii_digit b ≡ false → begins_name b ≡ true
-word_begin b h d = grind (arith, nat_tests)
-
-word_continue : (b : ℕ) → continues_name b ≡ true → continues_name b ≡ true
-word_continue b h = grind (arith, nat_tests)
+word_begin b h d = elim (either (begins_name b) (is_ascii_digit b) h) [ inl e ↦ e | inr e ↦ absurd (true≢false (sym e ∙ d)) ]
 
 all_here : (p : ℕ → Bool) (xs : List ℕ) → All (λ b. p b ≡ true) xs → list_all p xs ≡ true
 all_here p xs h = list_all-from_AllPass p xs h
@@ -132,7 +161,7 @@ all_there p xs h = AllPass-from_list_all p xs h
 name_again : (name rest : List ℕ) → IsName name → (AreNameBytes name → BeginsWithNoNameByte rest) → front (name ++ rest) ≡ token_cut (length name) (a_name name)
 name_again [] rest h k = absurd h
 name_again (b ∷ t) rest h k =
-    let r : AreNameBytes (b ∷ t) = ap (λ (u : Bool). u && list_all continues_name t) (begin_word b h.0) ∙ all_as continues_name continues_name continue_word t (all_here continues_name t h.1) in
+    let r : AreNameBytes (b ∷ t) = ap (λ (u : Bool). u && list_all continues_name t) (begin_word b h.0) ∙ all_here continues_name t h.1 in
     let l = h.2 in
     front_run b t rest r (k r)
     ∙ take_else (is_ascii_digit b) _ _ (begin_no_digit b h.0)
@@ -208,6 +237,15 @@ pub data Stands : List ℕ → Cut → Type 0 where
 ok_cut : {a b : Cut} → ◌≡◌ {A = Result Cut Flaw} (Ok a) (Ok b) → a ≡ b
 ok_cut h = cc
 
+no_cut : {f : Flaw} {c : Cut} → ◌≡◌ {A = Result Cut Flaw} (Err f) (Ok c) → ⊥
+no_cut h = cc
+
+no_value : {m : TokenValue} → ◌≡◌ {A = Option TokenValue} None (Some m) → ⊥
+no_value h = cc
+
+same_value : {m n : TokenValue} → ◌≡◌ {A = Option TokenValue} (Some m) (Some n) → m ≡ n
+same_value h = cc
+
 token_is : (bytes text rest : List ℕ) (m : TokenValue) (len : ℕ) → bytes ≡ text ++ rest → length text ≡ len → 0 < len → IsToken text m → (AreNameBytes text → BeginsWithNoNameByte rest) → TokenAt bytes (record { len = len; says = Some m })
 token_is bytes text rest m len e l s t k =
     let f : take len bytes ≡ text = ap (take len) e ∙ take_at text rest len l in
@@ -227,7 +265,7 @@ word_stands b t rest c r k h =
       | inl j ↦ number_stands (numeral (b ∷ t)) refl j.1
       | inr j ↦
           elim (chosen (nat_lt 64 (length (b ∷ t))) (flaw OutOfRange 0) (token_cut (length (b ∷ t)) (a_name (b ∷ t))) (Ok c) j.1) [
-            | inl i ↦ absurd cc
+            | inl i ↦ absurd (no_cut i.1)
             | inr i ↦ name_stands (ok_cut i.1) j.0 (ltb-false 64 (length (b ∷ t)) i.0)
           ]
     ]
@@ -237,12 +275,12 @@ word_stands b t rest c r k h =
 
     number_stands : (v : Result ℕ ParseKind) → numeral (b ∷ t) ≡ v → number_front (length (b ∷ t)) v ≡ Ok c → TokenAt (b ∷ (t ++ rest)) c
     number_stands (Ok n) e f = made (a_number n) (inl (number_is (b ∷ t) n (omega arith) e)) (ok_cut f)
-    number_stands (Err kind) e f = absurd cc
+    number_stands (Err kind) e f = absurd (no_cut f)
 
     name_stands : record { len = length (b ∷ t); says = Some (a_name (b ∷ t)) } ≡ c → is_ascii_digit b ≡ false → length (b ∷ t) ≤ 64 → TokenAt (b ∷ (t ++ rest)) c
     name_stands e d l =
         let k = both (continues_name b) (list_all continues_name t) r in
-        let x : IsName (b ∷ t) = (word_begin b k.0 d, all_there continues_name t (all_as continues_name continues_name word_continue t k.1), omega (arith, l)) in
+        let x : IsName (b ∷ t) = (word_begin b k.0 d, all_there continues_name t k.1, omega (arith, l)) in
         made (a_name (b ∷ t)) (refl, x) e
 
 -- what two quotes of a kind hold is a token of that kind
@@ -258,7 +296,7 @@ quoted_made q bs inside rest m c w b t l f =
 
 token_made : (len : ℕ) (o : Option TokenValue) (c : Cut) → token_or_flaw len o ≡ Ok c → (m : TokenValue) × (o ≡ Some m) × (token_cut len m ≡ Ok c)
 token_made len (Some m) c h = (m, refl, h)
-token_made len None c h = absurd cc
+token_made len None c h = absurd (no_cut h)
 
 quoted_closed : (q : ℕ) (bs : List ℕ) (c : Cut) → Makes q → continues_name q ≡ false → length (take (inside_len q false bs) bs) ≡ inside_len q false bs → inside_len q false bs ≤ length bs → list_all is_plain (take (inside_len q false bs) bs) ≡ true
     → token_or_flaw (inside_len q false bs + 2) (if inside_len q false bs == length bs then None else quoted_value q (take (inside_len q false bs) bs)) ≡ Ok c → TokenAt (q ∷ bs) c
@@ -266,7 +304,7 @@ quoted_closed q bs c tokens w size fits plain g =
     let inside = take (inside_len q false bs) bs in
     let t = token_made (inside_len q false bs + 2) (if inside_len q false bs == length bs then None else quoted_value q inside) c g in
     elim (chosen (inside_len q false bs == length bs) None (quoted_value q inside) (Some t.0) t.1) [
-      | inl j ↦ absurd cc
+      | inl j ↦ absurd (no_value j.1)
       | inr j ↦
           let d = eqb-false (inside_len q false bs) (length bs) j.0 in
           let below : inside_len q false bs < length bs = omega (arith, fits, d) in
@@ -282,7 +320,7 @@ quoted_stands q bs c tokens w h =
     let fits = inside_fits q false bs in
     let size : length inside ≡ len = omega (arith, length-take len bs, fits) in
     elim (chosen (nat_lt (prefix_len is_plain inside) len) (flaw NotAscii (prefix_len is_plain inside + 1)) (token_or_flaw (len + 2) (if len == length bs then None else quoted_value q inside)) (Ok c) h) [
-      | inl j ↦ absurd cc
+      | inl j ↦ absurd (no_cut j.1)
       | inr j ↦
           let plain : list_all is_plain inside ≡ true =
           whole_prefix is_plain inside (omega (arith, size, prefix_len-le-length is_plain inside, ltb-false (prefix_len is_plain inside) len j.0)) in
@@ -293,14 +331,14 @@ pub makes_text : Makes 34
 makes_text inside l p w m h =
     elim (chosen (holds_escapes false inside) (Some (a_text (text_bytes false inside))) None (Some m) h) [
       | inl j ↦
-          let e : a_text (text_bytes false inside) ≡ m = cc in
+          let e : a_text (text_bytes false inside) ≡ m = same_value j.1 in
           subst (IsToken (34 ∷ inside ++ 34 ∷ [])) e (record { inside = inside; text_is = refl; holds = text_is 34 inside l p j.0 })
-      | inr j ↦ absurd cc
+      | inr j ↦ absurd (no_value j.1)
     ]
 
 number_made : (o : Option ℕ) (m : TokenValue) → as_number o ≡ Some m → (n : ℕ) × (o ≡ Some n) × (a_number n ≡ m)
-number_made None m h = absurd cc
-number_made (Some n) m h = (n, refl, cc)
+number_made None m h = absurd (no_value h)
+number_made (Some n) m h = (n, refl, same_value h)
 
 pub makes_character : Makes 39
 makes_character inside l p w m h =
@@ -336,7 +374,7 @@ front_stands (b ∷ bs) c s h =
             | inl j ↦ subst (Stands (b ∷ bs)) (ok_cut j.1) (blank_stands j.0)
             | inr j ↦
                 elim (chosen (not (is_plain b)) _ _ _ j.1) [
-                  | inl k ↦ absurd cc
+                  | inl k ↦ absurd (no_cut k.1)
                   | inr k ↦
                       elim (chosen (continues_name b) _ _ _ k.1) [
                         | inl l ↦ token_stands (run_stands b bs c l.0 (ap (word_front b) (sym (run_at b bs l.0)) ∙ l.1))
@@ -349,7 +387,7 @@ front_stands (b ∷ bs) c s h =
                               | inr m ↦
                                   elim (chosen (b == 34 || b == 39) _ _ _ m.1) [
                                     | inl n ↦ token_stands (quote_stands b bs c (is_quote b n.0) n.1)
-                                    | inr n ↦ absurd cc
+                                    | inr n ↦ absurd (no_cut n.1)
                                   ]
                             ]
                       ]
@@ -362,7 +400,7 @@ unfolding front
 front_comment b bs h = take_then (is_comment b) _ _ h
 
 blank_no_comment : (b : ℕ) → is_blank b ≡ true → is_comment b ≡ false
-blank_no_comment b h = grind (arith, nat_tests)
+blank_no_comment b h = elim (either (b == space) (b == tab) h) [ inl e ↦ ap is_comment (eqb-true b space e) | inr e ↦ ap is_comment (eqb-true b tab e) ]
 
 pub front_blank : (b : ℕ) (bs : List ℕ) → is_blank b ≡ true → front (b ∷ bs) ≡ gap 1
 unfolding front
