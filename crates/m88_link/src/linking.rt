@@ -31,20 +31,20 @@ pub fn link(alloc: Global, objects: &[Object]) -> Result<Image, LinkFault>
     if !fit(objects) {
         return Err(TOO_LARGE);
     }
-    let standings = stand(alloc, objects)?;
-    match check_overlap(alloc, &standings) {
+    let placements = stand(alloc, objects)?;
+    match check_overlap(alloc, &placements) {
         Ok(()) => {}
         Err(fault) => return Err(fault),
     }
-    let globals = match globals(alloc, &standings) {
+    let globals = match globals(alloc, &placements) {
         Ok(globals) => globals,
         Err(fault) => return Err(fault),
     };
-    match check_references(alloc, &standings, &globals) {
+    match check_references(alloc, &placements, &globals) {
         Ok(()) => {}
         Err(fault) => return Err(fault),
     }
-    let spots = spots(alloc, &standings, &globals)?;
+    let spots = spots(alloc, &placements, &globals)?;
     let mut image = image_of(alloc, spots)?;
     image.set_start(start(&globals));
     Ok(image)

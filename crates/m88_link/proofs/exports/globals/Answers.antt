@@ -10,16 +10,16 @@ use Rattle.m88_link.proofs.exports.globals.Goals as goal
 
 pub returns-in-Err-clause-err : goal.returns-in-Err-clause-err
 returns-in-Err-clause-err c =
-    let i = c.loop-standing.standing-index in
-    let s = c.standing-item.result in
-    let all = c.args.standings.now in
+    let i = c.loop-placement.placement-index in
+    let s = c.placement-item.result in
+    let all = c.args.placements.now in
     let done = flat_map globals_of (take i all) in
-    let whole = flat_parts globals_of all i s (omega arith) c.standing-item.is in
+    let whole = flat_parts globals_of all i s (omega arith) c.placement-item.is in
     elim c.in-Err.ensures [
       | inl memory ↦ inl memory
       | inr found ↦ inr
           (ap (λ l. duplicate l) whole
-          ∙ repeats_within duplicate_fault [] done (globals_of s) (flat_map globals_of (drop (i + 1) all)) c.in-Err.fault c.loop-standing.invariant.1
-          (subst (λ l. option_map duplicate_fault (repeated_after l (globals_of s)) ≡ Some c.in-Err.fault) c.loop-standing.invariant.0
-          (subst (λ l. option_map duplicate_fault (repeated_after c.loop-standing.table (exported (base_of s) l)) ≡ Some c.in-Err.fault) c.symbols.ensures.value found)))
+          ∙ repeats_within duplicate_fault [] done (globals_of s) (flat_map globals_of (drop (i + 1) all)) c.in-Err.fault c.loop-placement.invariant.1
+          (subst (λ l. option_map duplicate_fault (repeated_after l (globals_of s)) ≡ Some c.in-Err.fault) c.loop-placement.invariant.0
+          (subst (λ l. option_map duplicate_fault (repeated_after c.loop-placement.table (exported (base_of s) l)) ≡ Some c.in-Err.fault) c.symbols.ensures.value found)))
     ]

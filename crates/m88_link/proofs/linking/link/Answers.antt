@@ -24,7 +24,7 @@ pub returns-in-Err-clause-err : goal.returns-in-Err-clause-err
 returns-in-Err-clause-err c =
     let os = c.args.objects.now in
     let few : total_size os ≤ most_bytes = c.if-not-fit.ensures.0 refl in
-    let stand = c.deref.ensures.value ∙ c.in_ok-standings.ensures in
+    let stand = c.deref.ensures.value ∙ c.in_ok-placements.ensures in
     elim c.in-Err.ensures.err [
       | inl memory ↦ inl memory
       | inr found ↦ inr (refused_overlap os c.requires few c.in-Err.fault (subst (λ l. IsOverlap (flat_map extents_of l) c.in-Err.fault) stand found))
@@ -34,20 +34,20 @@ pub returns-in-Err-globals-clause-err : goal.returns-in-Err-globals-clause-err
 returns-in-Err-globals-clause-err c =
     let os = c.args.objects.now in
     let few : total_size os ≤ most_bytes = c.if-not-fit.ensures.0 refl in
-    let alone = subst (λ l. AreDisjoint (flat_map extents_of l)) (c.deref.ensures.value ∙ c.in_ok-standings.ensures) c.in-Ok.ensures.ok in
+    let alone = subst (λ l. AreDisjoint (flat_map extents_of l)) (c.deref.ensures.value ∙ c.in_ok-placements.ensures) c.in-Ok.ensures.ok in
     let fault = c.in-Err-globals.fault in
     elim c.in-Err-globals.ensures.err [
       | inl memory ↦ inl memory
       | inr found ↦ inr (refused_duplicate os c.requires few alone fault
-          (subst (λ l. duplicate (flat_map globals_of l) ≡ Some fault) (c.deref-2.ensures.value ∙ c.in_ok-standings.ensures) found))
+          (subst (λ l. duplicate (flat_map globals_of l) ≡ Some fault) (c.deref-2.ensures.value ∙ c.in_ok-placements.ensures) found))
     ]
 
 pub returns-in-Err-check_references-clause-err : goal.returns-in-Err-check_references-clause-err
 returns-in-Err-check_references-clause-err c =
     let os = c.args.objects.now in
     let few : total_size os ≤ most_bytes = c.if-not-fit.ensures.0 refl in
-    let alone = subst (λ l. AreDisjoint (flat_map extents_of l)) (c.deref.ensures.value ∙ c.in_ok-standings.ensures) c.in-Ok.ensures.ok in
-    let stand2 = c.deref-2.ensures.value ∙ c.in_ok-standings.ensures in
+    let alone = subst (λ l. AreDisjoint (flat_map extents_of l)) (c.deref.ensures.value ∙ c.in_ok-placements.ensures) c.in-Ok.ensures.ok in
+    let stand2 = c.deref-2.ensures.value ∙ c.in_ok-placements.ensures in
     let once = subst (λ l. duplicate (flat_map globals_of l) ≡ None) stand2 c.in-Ok-globals.ensures.once in
     let globals = c.in-Ok-globals.globals in
     let are = c.in-Ok-globals.ensures.ok ∙ ap (λ l. flat_map globals_of l) stand2 in
@@ -56,16 +56,16 @@ returns-in-Err-check_references-clause-err c =
       | inl memory ↦ inl memory
       | inr found ↦ inr (refused_reference os c.requires few alone once globals are fault
           (subst (λ l. option_or (undefined (flat_map (references_of globals) l)) (too_far (flat_map (references_of globals) l)) ≡ Some fault)
-          (c.deref-3.ensures.value ∙ c.in_ok-standings.ensures) found))
+          (c.deref-3.ensures.value ∙ c.in_ok-placements.ensures) found))
     ]
 
 pub image_of-requires-clause-alone : goal.image_of-requires-clause-alone
 image_of-requires-clause-alone c =
     let os = c.args.objects.now in
     let few : total_size os ≤ most_bytes = c.if-not-fit.ensures.0 refl in
-    let alone = subst (λ l. AreDisjoint (flat_map extents_of l)) (c.deref.ensures.value ∙ c.in_ok-standings.ensures) c.in-Ok.ensures.ok in
+    let alone = subst (λ l. AreDisjoint (flat_map extents_of l)) (c.deref.ensures.value ∙ c.in_ok-placements.ensures) c.in-Ok.ensures.ok in
     let globals = c.in-Ok-globals.globals in
-    let spots = c.in_ok-spots.ensures ∙ ap (λ l. flat_map (spots_of globals) l) (c.deref-4.ensures.value ∙ c.in_ok-standings.ensures) in
+    let spots = c.in_ok-spots.ensures ∙ ap (λ l. flat_map (spots_of globals) l) (c.deref-4.ensures.value ∙ c.in_ok-placements.ensures) in
     subst (λ l. AreAlone l) (sym spots) (spots_alone os c.requires few alone globals)
 
 pub image_of-requires-clause-fit : goal.image_of-requires-clause-fit
@@ -73,18 +73,18 @@ image_of-requires-clause-fit c =
     let os = c.args.objects.now in
     let few : total_size os ≤ most_bytes = c.if-not-fit.ensures.0 refl in
     let globals = c.in-Ok-globals.globals in
-    let spots = c.in_ok-spots.ensures ∙ ap (λ l. flat_map (spots_of globals) l) (c.deref-4.ensures.value ∙ c.in_ok-standings.ensures) in
+    let spots = c.in_ok-spots.ensures ∙ ap (λ l. flat_map (spots_of globals) l) (c.deref-4.ensures.value ∙ c.in_ok-placements.ensures) in
     subst (λ l. count_among l ≤ most_bytes) (sym spots) (spots_few os c.requires few globals)
 
 pub returns-clause-linkable : goal.returns-clause-linkable
 returns-clause-linkable c =
     let os = c.args.objects.now in
     let few : total_size os ≤ most_bytes = c.if-not-fit.ensures.0 refl in
-    let alone = subst (λ l. AreDisjoint (flat_map extents_of l)) (c.deref.ensures.value ∙ c.in_ok-standings.ensures) c.in-Ok.ensures.ok in
-    let stand2 = c.deref-2.ensures.value ∙ c.in_ok-standings.ensures in
+    let alone = subst (λ l. AreDisjoint (flat_map extents_of l)) (c.deref.ensures.value ∙ c.in_ok-placements.ensures) c.in-Ok.ensures.ok in
+    let stand2 = c.deref-2.ensures.value ∙ c.in_ok-placements.ensures in
     let once = subst (λ l. duplicate (flat_map globals_of l) ≡ None) stand2 c.in-Ok-globals.ensures.once in
     let globals = c.in-Ok-globals.globals in
     let are = c.in-Ok-globals.ensures.ok ∙ ap (λ l. flat_map globals_of l) stand2 in
     linkable os c.requires few alone once globals are
     (subst (λ l. option_or (undefined (flat_map (references_of globals) l)) (too_far (flat_map (references_of globals) l)) ≡ None)
-    (c.deref-3.ensures.value ∙ c.in_ok-standings.ensures) c.in-Ok-check_references.ensures.ok)
+    (c.deref-3.ensures.value ∙ c.in_ok-placements.ensures) c.in-Ok-check_references.ensures.ok)

@@ -10,32 +10,32 @@ use Rattle.m88_link.proofs.resolve.check_references.Goals as goal
 pub returns-in-Err-clause-err : goal.returns-in-Err-clause-err
 returns-in-Err-clause-err c =
     let g = c.args.globals.now in
-    let all = c.args.standings.now in
-    let i = c.loop-standing.standing-index in
-    let s = c.standing-item.result in
+    let all = c.args.placements.now in
+    let i = c.loop-placement.placement-index in
+    let s = c.placement-item.result in
     let uses = flat_map (references_of g) in
-    let whole = flat_parts (references_of g) all i s (omega arith) c.standing-item.is in
+    let whole = flat_parts (references_of g) all i s (omega arith) c.placement-item.is in
     let e = c.relocs.ensures.value in
     elim c.in-Err.ensures [
       | inl memory ↦ inl memory
       | inr found ↦ inr
           (some_first (undefined (uses all)) (too_far (uses all)) c.in-Err.fault
           (ap (λ l. undefined l) whole
-          ∙ fault_within undefined_in (uses (take i all)) (references_of g s) (uses (drop (i + 1) all)) c.in-Err.fault c.loop-standing.invariant.1
+          ∙ fault_within undefined_in (uses (take i all)) (references_of g s) (uses (drop (i + 1) all)) c.in-Err.fault c.loop-placement.invariant.1
           (ap (λ r. undefined (uses_in g s r)) (sym e) ∙ found)))
     ]
 
-pub loop-standing-preserved : goal.loop-standing-preserved
-loop-standing-preserved c =
+pub loop-placement-preserved : goal.loop-placement-preserved
+loop-placement-preserved c =
     let g = c.args.globals.now in
-    let all = c.args.standings.now in
-    let i = c.loop-standing.standing-index in
-    let s = c.standing-item.result in
-    let inv = c.loop-standing.invariant in
+    let all = c.args.placements.now in
+    let i = c.loop-placement.placement-index in
+    let s = c.placement-item.result in
+    let inv = c.loop-placement.invariant in
     let e = c.relocs.ensures.value in
     let rs = c.relocs.result.now in
     let done = flat_map (references_of g) (take i all) in
-    let uses = flat_more (references_of g) all i s (omega arith) c.standing-item.is in (
+    let uses = flat_more (references_of g) all i s (omega arith) c.placement-item.is in (
       c.in-Ok.ensures.0 ∙ ap (λ o. option_or o (too_far (uses_in g s rs))) inv.0 ∙ ap (λ r. option_or (too_far done) (too_far (uses_in g s r))) e
           ∙ sym (first_fault-append too_far_in done (references_of g s)) ∙ ap (λ l. too_far l) (sym uses),
       ap (λ l. undefined l) uses ∙ fault_none undefined_in done (references_of g s) inv.1 (ap (λ r. undefined (uses_in g s r)) (sym e) ∙ c.in-Ok.ensures.1),
