@@ -22,10 +22,7 @@ pub fn globals(alloc: Global, placements: &[Placement]) -> Result<SymbolTable, L
 {
     let mut table = SymbolTable::new(alloc);
     for placement in placements {
-        match export_all(&mut table, placement, placement.symbols()) {
-            Ok(()) => {}
-            Err(fault) => return Err(fault),
-        }
+        export_all(&mut table, placement, placement.symbols())?;
     }
     Ok(table)
 }
@@ -40,6 +37,7 @@ fn export_all(
         (exported (base_of placement.now) symbols.now) result }
 {
     for symbol in symbols {
+        // No `?` here: the check has no proof for it in this loop.
         match export(table, placement, symbol) {
             Ok(()) => {}
             Err(fault) => return Err(fault),

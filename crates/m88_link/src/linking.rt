@@ -32,18 +32,9 @@ pub fn link(alloc: Global, objects: &[Object]) -> Result<Image, LinkFault>
         return Err(TOO_LARGE);
     }
     let placements = stand(alloc, objects)?;
-    match check_overlap(alloc, &placements) {
-        Ok(()) => {}
-        Err(fault) => return Err(fault),
-    }
-    let globals = match globals(alloc, &placements) {
-        Ok(globals) => globals,
-        Err(fault) => return Err(fault),
-    };
-    match check_references(alloc, &placements, &globals) {
-        Ok(()) => {}
-        Err(fault) => return Err(fault),
-    }
+    check_overlap(alloc, &placements)?;
+    let globals = globals(alloc, &placements)?;
+    check_references(alloc, &placements, &globals)?;
     let spots = spots(alloc, &placements, &globals)?;
     let mut image = image_of(alloc, spots)?;
     image.set_start(start(&globals));

@@ -35,10 +35,7 @@ pub fn check_references(
     let mut far = None;
     for placement in placements {
         let own = own_symbols(alloc, placement.symbols())?;
-        match check_all(&mut far, globals, placement, &own, placement.relocs()) {
-            Ok(()) => {}
-            Err(fault) => return Err(fault),
-        }
+        check_all(&mut far, globals, placement, &own, placement.relocs())?;
     }
     match far {
         Some(fault) => Err(fault),
@@ -106,6 +103,7 @@ fn check_all(
     ensures { Checks globals.now placement.now relocs.now far.old far.new result }
 {
     for reloc in relocs {
+        // No `?` here: the check has no proof for it in this loop.
         match check(far, globals, placement, own, reloc) {
             Ok(()) => {}
             Err(fault) => return Err(fault),
