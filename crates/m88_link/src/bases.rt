@@ -89,6 +89,7 @@ impl Placement<'_> {
         requires { IsPatchIn self.now.object.sections reloc.now }
         ensures { result ≡ base_of self.now reloc.now.section + reloc.now.offset }
     {
+        // By what every placement keeps, which a read of a field tells the proof, the sum fits.
         let _ = &self.object;
         self.base(reloc.section) + reloc.offset
     }
