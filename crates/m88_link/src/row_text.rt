@@ -84,7 +84,7 @@ fn reloc_in(text: &[u8]) -> Option<Reloc>
 fn keyword_of(word: &[u8]) -> Option<Keyword>
     ensures { result ≡ keyword_of word.now }
 {
-    // Two words by `==`: the check proves no pattern of six bytes.
+    // Two words by `==`: a pattern of six bytes would need a proof by hand.
     if word == b"object".as_slice() {
         return Some(Keyword::Object);
     }
