@@ -15,7 +15,7 @@ use Rattle.m88_link.specs.declared.object.Place.TheVariants.{Text, DataSection, 
 use Rattle.m88_link.specs.declared.object.Section.{Section}
 use Rattle.m88_link.specs.declared.object.Symbol.{Symbol}
 use Rattle.m88_base.specs.Pages.{page_bytes}
-use Rattle.m88_link.specs.Bases.{Standing, base_at, base_of, first_text, stood, stood_from, text_end, up_to_multiple}
+use Rattle.m88_link.specs.Bases.{Placement, base_at, base_of, first_text, stood, stood_from, text_end, up_to_multiple}
 use Rattle.m88_link.specs.Layout.{Extent, extent, extents_of, globals_of, layout_of, reference, references_of, spot, spots_of, value_of_name}
 use Rattle.m88_link.specs.Relocated.{relocated}
 use Rattle.m88_link.specs.Symbols.{exported, symbol_meaning}
@@ -41,14 +41,14 @@ length-section m k = length-flat_map (waiting_in k) (lines_in m) ∙ ap (λ f. s
 
 -- an object where its module stands
 
-abbrev pub standing : Based → Standing
-standing b = record { object = object_of b.source; text = b.text; datas = b.datas }
+abbrev pub placement : Based → Placement
+placement b = record { object = object_of b.source; text_at = b.text; data_at = b.datas }
 
-stood-objects : (text datas : ℕ) (ms : List Module) → stood_from text datas (map object_of ms) ≡ map standing (based_from text datas ms)
+stood-objects : (text datas : ℕ) (ms : List Module) → stood_from text datas (map object_of ms) ≡ map placement (based_from text datas ms)
 stood-objects text datas [] = refl
 stood-objects text datas (m ∷ ms) =
     let b : Based = record { source = m; text = up_to_multiple 8 text; datas = up_to_multiple 8 datas } in
-    ap (λ ss. standing b ∷ ss)
+    ap (λ ss. placement b ∷ ss)
     (ap (λ n. stood_from (up_to_multiple 8 text + n) (up_to_multiple 8 datas + length (section_bytes m 1)) (map object_of ms)) (length-section m 0)
     ∙ ap (λ n. stood_from (up_to_multiple 8 text + section_length 0 m) (up_to_multiple 8 datas + n) (map object_of ms)) (length-section m 1)
     ∙ stood-objects (up_to_multiple 8 text + section_length 0 m) (up_to_multiple 8 datas + section_length 1 m) ms)
@@ -58,14 +58,14 @@ text_end-objects text [] = refl
 text_end-objects text (m ∷ ms) =
     ap (λ n. text_end (up_to_multiple 8 text + n) (map object_of ms)) (length-section m 0) ∙ text_end-objects (up_to_multiple 8 text + section_length 0 m) ms
 
-all_stood : (u : Source) → stood (objects_of u) ≡ map standing (based u)
+all_stood : (u : Source) → stood (objects_of u) ≡ map placement (based u)
 all_stood u =
     ap (λ n. stood_from first_text (up_to_multiple page_bytes n) (objects_of u)) (text_end-objects first_text u.modules)
     ∙ stood-objects first_text (up_to_multiple page_bytes (end_of_text first_text u.modules)) u.modules
 
 -- the bases of its sections
 
-same_address : (b : Based) (p : Place) → base_at (standing b) p ≡ address_at b p
+same_address : (b : Based) (p : Place) → base_at (placement b) p ≡ address_at b p
 same_address b Text = refl
 same_address b DataSection = refl
 same_address b (At a) = refl
@@ -77,23 +77,23 @@ under_head m f n [] k = refl
 under_head m f n (h ∷ hs) zero = refl
 under_head m f n (h ∷ hs) (suc k) = under_head m f (n + 1) hs k
 
-same_base_at : (b : Based) (k : ℕ) → base_of (standing b) k ≡ base_in b k
+same_base_at : (b : Based) (k : ℕ) → base_of (placement b) k ≡ base_in b k
 same_base_at b k =
-    under_head b.source (base_at (standing b)) 0 (heads_in b.source) k
+    under_head b.source (base_at (placement b)) 0 (heads_in b.source) k
     ∙ ap (λ f. option_map_or (λ (h : Head). f h.place) (slice_get (heads_in b.source) k) 0) (fun_ext (same_address b))
 
-pub same_base : (b : Based) → base_of (standing b) ≡ base_in b
+pub same_base : (b : Based) → base_of (placement b) ≡ base_in b
 same_base b = fun_ext (same_base_at b)
 
 -- the parts of the layout
 
-same_globals : (b : Based) → globals_of (standing b) ≡ globals_in b
+same_globals : (b : Based) → globals_of (placement b) ≡ globals_in b
 same_globals b = ap (λ f. exported f (symbols_in b.source)) (same_base b)
 
-same_references : (globals : List Symbol) (b : Based) → references_of globals (standing b) ≡ references_in globals b
+same_references : (globals : List Symbol) (b : Based) → references_of globals (placement b) ≡ references_in globals b
 same_references globals b = ap (λ f. map (reference globals f (symbols_in b.source)) (flat_map symbol_uses (lines_in b.source))) (same_base b)
 
-same_extent : (b : Based) (e : ℕ × Head) → extent (standing b) (section_under b.source e) ≡ extent_under b e
+same_extent : (b : Based) (e : ℕ × Head) → extent (placement b) (section_under b.source e) ≡ extent_under b e
 same_extent b e =
     ap (λ n. let x : Extent = record { at = n; len = length (section_bytes b.source e.0); line = e.1.line } in x) (same_address b e.1.place)
     ∙ ap (λ n. let x : Extent = record { at = address_at b e.1.place; len = n; line = e.1.line } in x) (length-section b.source e.0)
@@ -102,15 +102,15 @@ map_twice : {A B C : Type 0} (f : B → C) (g : A → B) (h : A → C) (xs : Lis
 map_twice f g h [] e = refl
 map_twice f g h (x ∷ xs) e = ap (λ y. y ∷ map f (map g xs)) (e x) ∙ ap (λ ys. h x ∷ ys) (map_twice f g h xs e)
 
-same_extents : (b : Based) → extents_of (standing b) ≡ extents_in b
-same_extents b = map_twice (extent (standing b)) (section_under b.source) (extent_under b) (enumerate_from 0 (heads_in b.source)) (same_extent b)
+same_extents : (b : Based) → extents_of (placement b) ≡ extents_in b
+same_extents b = map_twice (extent (placement b)) (section_under b.source) (extent_under b) (enumerate_from 0 (heads_in b.source)) (same_extent b)
 
 numbered : (m : Module) (n : ℕ) (hs : List Head)
     → enumerate_from n (map (section_under m) (enumerate_from n hs)) ≡ map (λ (e : ℕ × Head). (e.0, section_under m e)) (enumerate_from n hs)
 numbered m n [] = refl
 numbered m n (h ∷ hs) = ap (λ es. (n, section_under m (n, h)) ∷ es) (numbered m (n + 1) hs)
 
-same_value : (globals : List Symbol) (b : Based) → value_of_name globals (standing b) ≡ value_in_module globals b
+same_value : (globals : List Symbol) (b : Based) → value_of_name globals (placement b) ≡ value_in_module globals b
 same_value globals b = ap (λ f. λ name. unwrap_or (symbol_meaning globals f (symbols_in b.source) name) 0) (same_base b)
 
 -- each symbol of a module can be replaced
@@ -122,37 +122,37 @@ formed [] h = tt
 formed (x ∷ xs) h = (h 0 x (omega arith), formed xs (λ k d l. h (suc k) d (omega arith)))
 
 same_spot : (globals : List Symbol) (b : Based) → IsFormedModule b.source → CanReach globals b → (e : ℕ × Head)
-    → spot globals (standing b) e.0 (section_under b.source e) ≡ spot_under globals b e
+    → spot globals (placement b) e.0 (section_under b.source e) ≡ spot_under globals b e
 same_spot globals b f r e =
     let uses = flat_map symbol_uses (lines_in b.source) in
-    ap (λ n. let x : Placed = record { at = n; bytes = relocated (value_of_name globals (standing b)) (base_of (standing b)) e.0 uses (section_bytes b.source e.0) } in x)
+    ap (λ n. let x : Placed = record { at = n; bytes = relocated (value_of_name globals (placement b)) (base_of (placement b)) e.0 uses (section_bytes b.source e.0) } in x)
     (same_address b e.1.place)
     ∙ ap (λ (bytes : List ℕ). let x : Placed = record { at = address_at b e.1.place; bytes = bytes } in x)
-    (ap (λ v. relocated v (base_of (standing b)) e.0 uses (section_bytes b.source e.0)) (same_value globals b)
+    (ap (λ v. relocated v (base_of (placement b)) e.0 uses (section_bytes b.source e.0)) (same_value globals b)
     ∙ ap (λ v. relocated (value_in_module globals b) v e.0 uses (section_bytes b.source e.0)) (same_base b)
     ∙ rows_law (value_in_module globals b) (base_in b) e.0 at_begin b.source.statements [] (formed b.source.statements f) refl r)
 
-same_spots : (globals : List Symbol) (b : Based) → IsFormedModule b.source → CanReach globals b → spots_of globals (standing b) ≡ spots_in globals b
+same_spots : (globals : List Symbol) (b : Based) → IsFormedModule b.source → CanReach globals b → spots_of globals (placement b) ≡ spots_in globals b
 same_spots globals b f r =
-    ap (map (λ (e : ℕ × Section). spot globals (standing b) e.0 e.1)) (numbered b.source 0 (heads_in b.source))
-    ∙ map_twice (λ (e : ℕ × Section). spot globals (standing b) e.0 e.1) (λ (e : ℕ × Head). (e.0, section_under b.source e)) (spot_under globals b)
+    ap (map (λ (e : ℕ × Section). spot globals (placement b) e.0 e.1)) (numbered b.source 0 (heads_in b.source))
+    ∙ map_twice (λ (e : ℕ × Section). spot globals (placement b) e.0 e.1) (λ (e : ℕ × Head). (e.0, section_under b.source e)) (spot_under globals b)
     (enumerate_from 0 (heads_in b.source)) (same_spot globals b f r)
 
 -- over all modules
 
-each_same : {A : Type 0} (f : Standing → List A) (g : Based → List A) (bs : List Based) → ((b : Based) → f (standing b) ≡ g b)
-    → flat_map f (map standing bs) ≡ flat_map g bs
+each_same : {A : Type 0} (f : Placement → List A) (g : Based → List A) (bs : List Based) → ((b : Based) → f (placement b) ≡ g b)
+    → flat_map f (map placement bs) ≡ flat_map g bs
 each_same f g [] e = refl
-each_same f g (b ∷ bs) e = ap (λ xs. xs ++ flat_map f (map standing bs)) (e b) ∙ ap (λ xs. g b ++ xs) (each_same f g bs e)
+each_same f g (b ∷ bs) e = ap (λ xs. xs ++ flat_map f (map placement bs)) (e b) ∙ ap (λ xs. g b ++ xs) (each_same f g bs e)
 
 abbrev pub EachBased : (Based → Type 0) → List Based → Type 0
 EachBased P [] = Unit {0}
 EachBased P (b ∷ bs) = P b × EachBased P bs
 
-each_same_where : {A : Type 0} (P : Based → Type 0) (f : Standing → List A) (g : Based → List A) (bs : List Based) → EachBased P bs
-    → ((b : Based) → P b → f (standing b) ≡ g b) → flat_map f (map standing bs) ≡ flat_map g bs
+each_same_where : {A : Type 0} (P : Based → Type 0) (f : Placement → List A) (g : Based → List A) (bs : List Based) → EachBased P bs
+    → ((b : Based) → P b → f (placement b) ≡ g b) → flat_map f (map placement bs) ≡ flat_map g bs
 each_same_where P f g [] h e = refl
-each_same_where P f g (b ∷ bs) h e = ap (λ xs. xs ++ flat_map f (map standing bs)) (e b h.0) ∙ ap (λ xs. g b ++ xs) (each_same_where P f g bs h.1 e)
+each_same_where P f g (b ∷ bs) h e = ap (λ xs. xs ++ flat_map f (map placement bs)) (e b h.0) ∙ ap (λ xs. g b ++ xs) (each_same_where P f g bs h.1 e)
 
 pub globals_law : (u : Source) → (layout_of (objects_of u)).globals ≡ (unit_layout u).globals
 globals_law u = ap (flat_map globals_of) (all_stood u) ∙ each_same globals_of globals_in (based u) same_globals
@@ -160,7 +160,7 @@ globals_law u = ap (flat_map globals_of) (all_stood u) ∙ each_same globals_of 
 pub references_law : (u : Source) → (layout_of (objects_of u)).references ≡ (unit_layout u).references
 references_law u =
     ap (λ ss. flat_map (references_of (flat_map globals_of ss)) ss) (all_stood u)
-    ∙ ap (λ gs. flat_map (references_of gs) (map standing (based u))) (each_same globals_of globals_in (based u) same_globals)
+    ∙ ap (λ gs. flat_map (references_of gs) (map placement (based u))) (each_same globals_of globals_in (based u) same_globals)
     ∙ each_same (references_of (unit_layout u).globals) (references_in (unit_layout u).globals) (based u) (same_references (unit_layout u).globals)
 
 pub extents_law : (u : Source) → (layout_of (objects_of u)).extents ≡ (unit_layout u).extents
@@ -173,6 +173,6 @@ CanFill globals b = IsFormedModule b.source × CanReach globals b
 pub spots_law : (u : Source) → EachBased (CanFill (unit_layout u).globals) (based u) → (layout_of (objects_of u)).spots ≡ (unit_layout u).spots
 spots_law u h =
     ap (λ ss. flat_map (spots_of (flat_map globals_of ss)) ss) (all_stood u)
-    ∙ ap (λ gs. flat_map (spots_of gs) (map standing (based u))) (each_same globals_of globals_in (based u) same_globals)
+    ∙ ap (λ gs. flat_map (spots_of gs) (map placement (based u))) (each_same globals_of globals_in (based u) same_globals)
     ∙ each_same_where (CanFill (unit_layout u).globals) (spots_of (unit_layout u).globals) (spots_in (unit_layout u).globals) (based u) h
     (λ b p. same_spots (unit_layout u).globals b p.0 p.1)

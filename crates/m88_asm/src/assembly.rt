@@ -158,7 +158,7 @@ impl Assembly {
         }
     }
 
-    /// What a statement doesn't fit in the section that stands: its alignment, or the room that is left.
+    /// The fault of a statement that the section that stands can't take: at its alignment, or in the room left.
     fn misfit(&self, x: &Statement) -> Option<AsmFault>
         requires { IsFormedStatement x.now }
         ensures { result ≡ misfit_at (offset_here (counters_of self.now.sections self.now.here))
@@ -197,7 +197,7 @@ impl Assembly {
         fill(section, &mut self.uses, number, line, body)
     }
 
-    /// Goes on with a statement, or tells the first that it meets.
+    /// Goes on with a statement, or answers the first fault that it has.
     pub fn add(&mut self, alloc: Global, x: &Statement) -> Result<(), AsmFault>
         requires formed { IsFormedStatement x.now }
         requires few { length self.old.sections < 2 ^ 32 - 1 }

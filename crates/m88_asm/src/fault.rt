@@ -44,8 +44,11 @@ impl Error for AsmKind {}
 /// and column 0.
 #[derive(Clone, Copy, PartialEq, Eq, Debug)]
 pub struct AsmFault {
+    /// The line, from 1.
     pub line: u32,
+    /// The column, from 1.
     pub col: u32,
+    /// The kind.
     pub kind: AsmKind,
 }
 
@@ -63,6 +66,7 @@ impl fmt::Display for AsmFault {
 
 impl Error for AsmFault {}
 
+/// Memory ran out.
 const OUT_OF_MEMORY: AsmFault = AsmFault {
     line: 0,
     col: 0,

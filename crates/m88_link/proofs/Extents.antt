@@ -7,7 +7,7 @@ use Rattle.std.specs.Prelude.{◌^◌, ◌||◌, flat_map, nat_lt}
 use Rattle.std.specs.List.{AllByRecursion, list_any}
 use Rattle.m88_link.specs.declared.object.Object.{Object}
 use Rattle.m88_link.specs.declared.object.Section.{Section}
-use Rattle.m88_link.specs.Bases.{Standing, base_at, first_data, first_text, section_size, stood, stood_from, text_end, up_to_multiple}
+use Rattle.m88_link.specs.Bases.{Placement, base_at, first_data, first_text, section_size, stood, stood_from, text_end, up_to_multiple}
 use Rattle.m88_link.specs.Layout.{Extent, extent, extents_of}
 use Rattle.m88_link.specs.Refusal.{is_too_large}
 use Rattle.m88_link.specs.Sizes.{object_size, sections_size, total_size}
@@ -18,7 +18,7 @@ use Rattle.m88_link.proofs.Stood.{sections_fit, sizes_fit}
 abbrev len_of : Extent → ℕ
 len_of e = e.len
 
-sections_len : (s : Standing) (xs : List Section) → sum_by len_of (map (extent s) xs) ≡ sections_size xs
+sections_len : (s : Placement) (xs : List Section) → sum_by len_of (map (extent s) xs) ≡ sections_size xs
 sections_len s [] = refl
 sections_len s (x ∷ xs) =
     sum_by-cons len_of (extent s x) (map (extent s) xs) ∙ ap (λ n. length x.bytes + n) (sections_len s xs)
@@ -28,7 +28,7 @@ sections_len s (x ∷ xs) =
 pub extents_len : (text datas : ℕ) (os : List Object) → sum_by len_of (flat_map extents_of (stood_from text datas os)) ≡ total_size os
 extents_len text datas [] = refl
 extents_len text datas (o ∷ os) =
-    let s : Standing = record { object = o; text = up_to_multiple 8 text; datas = up_to_multiple 8 datas } in
+    let s : Placement = record { object = o; text_at = up_to_multiple 8 text; data_at = up_to_multiple 8 datas } in
     let more = stood_from (up_to_multiple 8 text + section_size 0 o) (up_to_multiple 8 datas + section_size 1 o) os in
     sum_by-append len_of (extents_of s) (flat_map extents_of more)
     ∙ ap (λ n. n + sum_by len_of (flat_map extents_of more)) (sections_len s o.sections)
@@ -51,7 +51,7 @@ any_append p (x ∷ xs) ys h k = by (p x) h (any_append p xs ys)
 within_end : (n : ℕ) → n ≤ 2 ^ 32 → nat_lt (2 ^ 32) n ≡ false
 within_end n h = grind (arith, nat_tests)
 
-none_past : (s : Standing) (xs : List Section) → AllByRecursion (λ x. base_at s x.place + length x.bytes ≤ 2 ^ 32) xs → list_any is_past (map (extent s) xs) ≡ false
+none_past : (s : Placement) (xs : List Section) → AllByRecursion (λ x. base_at s x.place + length x.bytes ≤ 2 ^ 32) xs → list_any is_past (map (extent s) xs) ≡ false
 none_past s [] h = refl
 none_past s (x ∷ xs) h =
     ap (λ b. b || list_any is_past (map (extent s) xs)) (within_end (base_at s x.place + length x.bytes) h.0) ∙ none_past s xs h.1
@@ -62,7 +62,7 @@ pub ends_low : (text datas : ℕ) (os : List Object) → AllByRecursion IsSound 
     → list_any is_past (flat_map extents_of (stood_from text datas os)) ≡ false
 ends_low text datas [] sound t d = refl
 ends_low text datas (o ∷ os) sound t d =
-    let s : Standing = record { object = o; text = up_to_multiple 8 text; datas = up_to_multiple 8 datas } in
+    let s : Placement = record { object = o; text_at = up_to_multiple 8 text; data_at = up_to_multiple 8 datas } in
     let more0 = sum_by-cons (section_size 0) o os in
     let more1 = sum_by-cons (section_size 1) o os in
     any_append is_past (extents_of s) (flat_map extents_of (stood_from (up_to_multiple 8 text + section_size 0 o) (up_to_multiple 8 datas + section_size 1 o) os))

@@ -10,7 +10,7 @@ use Rattle.m88_link.specs.declared.object.Object.{Object}
 use Rattle.m88_link.specs.declared.object.Reloc.{Reloc}
 use Rattle.m88_link.specs.declared.object.Section.{Section}
 use Rattle.m88_link.specs.declared.object.Symbol.{Symbol}
-use Rattle.m88_link.specs.Bases.{Standing, base_of, section_size, stood_from, up_to_multiple}
+use Rattle.m88_link.specs.Bases.{Placement, base_of, section_size, stood_from, up_to_multiple}
 use Rattle.m88_link.specs.Carried.{AreAlone, holds}
 use Rattle.m88_link.specs.Layout.{Extent, extent, extents_of, spot, spots_of, value_of_name}
 use Rattle.m88_link.specs.Refusal.{AreDisjoint, hits}
@@ -53,7 +53,7 @@ spot_room p = (p.at, length p.bytes)
 abbrev extent_room : Extent → ℕ × ℕ
 extent_room e = (e.at, e.len)
 
-each_room : (globals : List Symbol) (s : Standing) (xs : List Section) (n : ℕ)
+each_room : (globals : List Symbol) (s : Placement) (xs : List Section) (n : ℕ)
     → ((j : ℕ) (x : Section) → slice_get xs j ≡ Some x → LieIn (n + j) (length x.bytes) s.object.relocs)
     → map spot_room (map (λ e. spot globals s e.0 e.1) (enumerate_from n xs)) ≡ map extent_room (map (extent s) xs)
 each_room globals s [] n h = refl
@@ -64,7 +64,7 @@ each_room globals s (x ∷ xs) n h =
     ∙ ap (λ l. extent_room (extent s x) ∷ l)
     (each_room globals s xs (n + 1) (λ j y e. let k : n + suc j ≡ n + 1 + j = omega arith in subst (λ m. LieIn m (length y.bytes) s.object.relocs) k (h (suc j) y e)))
 
-rooms_of : (globals : List Symbol) (s : Standing) → IsSound s.object → map spot_room (spots_of globals s) ≡ map extent_room (extents_of s)
+rooms_of : (globals : List Symbol) (s : Placement) → IsSound s.object → map spot_room (spots_of globals s) ≡ map extent_room (extents_of s)
 rooms_of globals s sound =
     each_room globals s s.object.sections 0
     (λ j x e.
@@ -73,7 +73,7 @@ rooms_of globals s sound =
     (lie_in s.object.sections j x s.object.relocs e (recursion_from_All (IsPatchIn s.object.sections) s.object.relocs sound.relocs)))
 
 -- the sections of all objects take the addresses of their rooms
-same_rooms : (globals : List Symbol) (ss : List Standing) → AllByRecursion (λ s. IsSound s.object) ss
+same_rooms : (globals : List Symbol) (ss : List Placement) → AllByRecursion (λ s. IsSound s.object) ss
     → map spot_room (flat_map (spots_of globals) ss) ≡ map extent_room (flat_map extents_of ss)
 same_rooms globals [] sound = refl
 same_rooms globals (s ∷ ss) sound =
@@ -91,7 +91,7 @@ sum_by-map f g (x ∷ xs) =
 abbrev room_at : ℕ → ℕ × ℕ → ℕ
 room_at a r = cond (nat_le r.0 a && nat_lt a (r.0 + r.1)) 1 0
 
-pub alone_is : (globals : List Symbol) (ss : List Standing) → AllByRecursion (λ s. IsSound s.object) ss
+pub alone_is : (globals : List Symbol) (ss : List Placement) → AllByRecursion (λ s. IsSound s.object) ss
     → AreDisjoint (flat_map extents_of ss) → AreAlone (flat_map (spots_of globals) ss)
 alone_is globals ss sound h = λ a.
     let spots = flat_map (spots_of globals) ss in
@@ -100,7 +100,7 @@ alone_is globals ss sound h = λ a.
     sym (sum_by-map (room_at a) spot_room spots) ∙ ap (λ l. sum_by (room_at a) l) (same_rooms globals ss sound) ∙ sum_by-map (room_at a) extent_room extents in
     omega (arith, same, h a)
 
-pub bytes_are : (globals : List Symbol) (ss : List Standing) → AllByRecursion (λ s. IsSound s.object) ss
+pub bytes_are : (globals : List Symbol) (ss : List Placement) → AllByRecursion (λ s. IsSound s.object) ss
     → count_among (flat_map (spots_of globals) ss) ≡ sum_by (λ (e : Extent). e.len) (flat_map extents_of ss)
 bytes_are globals ss sound =
     let count : ℕ × ℕ → ℕ = λ r. r.1 in

@@ -11,7 +11,7 @@ use Rattle.m88_link.specs.declared.object.Place.{Place}
 use Rattle.m88_link.specs.declared.object.Place.TheVariants.{Text, DataSection, At}
 use Rattle.m88_link.specs.declared.object.Reloc.{Reloc}
 use Rattle.m88_link.specs.declared.object.Section.{Section}
-use Rattle.m88_link.specs.Bases.{Standing, base_at, base_of, section_size, stood_from, text_end, up_to_multiple}
+use Rattle.m88_link.specs.Bases.{Placement, base_at, base_of, section_size, stood_from, text_end, up_to_multiple}
 use Rattle.m88_link.specs.Sizes.{object_size, sections_size, total_size}
 use Rattle.m88_base.specs.Image.{most_bytes}
 use Rattle.m88_link.specs.Sound.{AreSections, HasRoom, IsOwnAddress, IsPatchIn, IsSound, origin}
@@ -34,13 +34,13 @@ text_end_more end objects i o h e =
 -- the object at a place stands at the next multiples of 8, and those behind it from its ends on
 pub stood_more : (text datas : ℕ) (objects : List Object) (i : ℕ) (o : Object) → i < length objects → o ≡ get_or objects i o
     → stood_from text datas (drop i objects)
-    ≡ record { object = o; text = up_to_multiple 8 text; datas = up_to_multiple 8 datas }
+    ≡ record { object = o; text_at = up_to_multiple 8 text; data_at = up_to_multiple 8 datas }
     ∷ stood_from (up_to_multiple 8 text + section_size 0 o) (up_to_multiple 8 datas + section_size 1 o) (drop (i + 1) objects)
 stood_more text datas objects i o h e =
     ap (λ l. stood_from text datas l) (drop_more objects i o h ∙ ap (λ y. y ∷ drop (i + 1) objects) (sym e))
 
 -- each section of a sound object ends at or below 2 ^ 32, where its text and its data do
-pub sections_fit : (s : Standing) → IsSound s.object → s.text + section_size 0 s.object ≤ 2 ^ 32 → s.datas + section_size 1 s.object ≤ 2 ^ 32
+pub sections_fit : (s : Placement) → IsSound s.object → s.text_at + section_size 0 s.object ≤ 2 ^ 32 → s.data_at + section_size 1 s.object ≤ 2 ^ 32
     → All (λ x. base_at s x.place + length x.bytes ≤ 2 ^ 32) s.object.sections
 sections_fit s sound text datas = by s.object.sections sound.sections sound.room text datas
   where
@@ -58,8 +58,8 @@ sections_fit s sound text datas = by s.object.sections sound.sections sound.room
     others (x ∷ xs) here room = (own x here.0 room.0, others xs here.1 room.1)
 
     by : (xs : List Section) → AreSections xs → All HasRoom xs
-        → s.text + option_map_or (λ x. length x.bytes) (slice_get xs 0) 0 ≤ 2 ^ 32
-        → s.datas + option_map_or (λ x. length x.bytes) (slice_get xs 1) 0 ≤ 2 ^ 32
+        → s.text_at + option_map_or (λ x. length x.bytes) (slice_get xs 0) 0 ≤ 2 ^ 32
+        → s.data_at + option_map_or (λ x. length x.bytes) (slice_get xs 1) 0 ≤ 2 ^ 32
         → All (λ x. base_at s x.place + length x.bytes ≤ 2 ^ 32) xs
     by [] h r t d = absurd h
     by (x ∷ []) h r t d = absurd h
@@ -68,7 +68,7 @@ sections_fit s sound text datas = by s.object.sections sound.sections sound.room
         All-from_recursion (λ z. base_at s z.place + length z.bytes ≤ 2 ^ 32) (x ∷ y ∷ ys)
         (rw h.0 t, (rw h.1 d, others ys (recursion_from_All (λ z. IsOwnAddress z.place) ys h.2) rest.1.1))
 
-word_within : (s : Standing) (xs : List Section) (k offset : ℕ) → AllByRecursion (λ x. base_at s x.place + length x.bytes ≤ 2 ^ 32) xs
+word_within : (s : Placement) (xs : List Section) (k offset : ℕ) → AllByRecursion (λ x. base_at s x.place + length x.bytes ≤ 2 ^ 32) xs
     → IsSomeAnd (slice_get xs k) (λ x. (offset + 4 ≤ length x.bytes) × ((origin x.place + offset) % 4 ≡ 0))
     → option_map_or (λ x. base_at s x.place) (slice_get xs k) 0 + offset + 4 ≤ 2 ^ 32
 word_within s [] k offset all h = absurd h
@@ -76,7 +76,7 @@ word_within s (x ∷ xs) zero offset all h = omega (arith, all.0, h.0)
 word_within s (x ∷ xs) (suc k) offset all h = word_within s xs k offset all.1 h
 
 -- the word of a relocation of a sound object ends at or below 2 ^ 32
-pub word_fits : (s : Standing) (r : Reloc) → IsSound s.object → s.text + section_size 0 s.object ≤ 2 ^ 32 → s.datas + section_size 1 s.object ≤ 2 ^ 32
+pub word_fits : (s : Placement) (r : Reloc) → IsSound s.object → s.text_at + section_size 0 s.object ≤ 2 ^ 32 → s.data_at + section_size 1 s.object ≤ 2 ^ 32
     → IsPatchIn s.object.sections r → base_of s r.section + r.offset + 4 ≤ 2 ^ 32
 word_fits s r sound text datas h =
     word_within s s.object.sections r.section r.offset

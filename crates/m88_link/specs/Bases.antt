@@ -10,10 +10,10 @@ use Rattle.m88_link.specs.declared.object.Place.{Place}
 use Rattle.m88_link.specs.declared.object.Place.TheVariants.{Text, DataSection, At}
 
 -- an object, with the addresses of its text and its data
-pub record Standing : Type 0 where
+pub record Placement : Type 0 where
   pub object : Object
-  pub text : ℕ
-  pub datas : ℕ
+  pub text_at : ℕ
+  pub data_at : ℕ
 
 -- the least multiple of n that isn't below a number
 abbrev pub up_to_multiple : ℕ → ℕ → ℕ
@@ -24,10 +24,10 @@ abbrev pub section_size : ℕ → Object → ℕ
 section_size k object = option_map_or (λ s. length s.bytes) (slice_get object.sections k) 0
 
 -- the objects in order, the first text at the multiple of 8 from `text` on, the first data at the one from `datas` on
-abbrev pub stood_from : ℕ → ℕ → List Object → List Standing
+abbrev pub stood_from : ℕ → ℕ → List Object → List Placement
 stood_from text datas [] = []
 stood_from text datas (o ∷ os) =
-    record { object = o; text = up_to_multiple 8 text; datas = up_to_multiple 8 datas }
+    record { object = o; text_at = up_to_multiple 8 text; data_at = up_to_multiple 8 datas }
     ∷ stood_from (up_to_multiple 8 text + section_size 0 o) (up_to_multiple 8 datas + section_size 1 o) os
 
 -- the end of all text, of which the first stands at the multiple of 8 from `text` on
@@ -40,15 +40,15 @@ abbrev pub first_data : List Object → ℕ
 first_data objects = up_to_multiple page_bytes (text_end first_text objects)
 
 -- the objects where they are linked
-abbrev pub stood : List Object → List Standing
+abbrev pub stood : List Object → List Placement
 stood objects = stood_from first_text (first_data objects) objects
 
 -- the address of a section's first byte, by its place
-abbrev pub base_at : Standing → Place → ℕ
-base_at s Text = s.text
-base_at s DataSection = s.datas
+abbrev pub base_at : Placement → Place → ℕ
+base_at s Text = s.text_at
+base_at s DataSection = s.data_at
 base_at s (At a) = a
 
 -- the address of the first byte of an object's section
-abbrev pub base_of : Standing → ℕ → ℕ
+abbrev pub base_of : Placement → ℕ → ℕ
 base_of s k = option_map_or (λ x. base_at s x.place) (slice_get s.object.sections k) 0

@@ -3,11 +3,11 @@ use Rattle.std.specs.Prelude.{ℕ, ◌+◌, ◌≤◌, ◌<◌, ◌==◌, ◌&&�
 use Rattle.m88_base.specs.Placed.{Placed}
 use Rattle.m88_link.specs.declared.object.Reloc.{Reloc}
 use Rattle.m88_link.specs.declared.object.Section.{Section}
-use Rattle.m88_link.specs.Bases.{Standing, base_at}
+use Rattle.m88_link.specs.Bases.{Placement, base_at}
 use Rattle.m88_link.specs.Relocated.{patched}
 
 -- the bytes of a section as the object has them
-abbrev pub unpatched : Standing → Section → Placed
+abbrev pub unpatched : Placement → Section → Placed
 unpatched s x = record { at = base_at s x.place; bytes = x.bytes }
 
 -- the word of the relocation lies in its section

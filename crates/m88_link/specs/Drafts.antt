@@ -14,6 +14,8 @@ use Rattle.m88_link.specs.declared.object_fault.ObjectFault.TheVariants.{Form, M
 use Rattle.m88_link.specs.declared.row.Row.{Row}
 use Rattle.m88_link.specs.declared.row.Row.TheVariants.{Begin, Head, Define, Patch, End}
 use Rattle.m88_link.specs.declared.row.SectionHead.{SectionHead}
+use Rattle.m88_base.specs.Lines.{line_feed}
+use Rattle.m88_link.specs.ObjectText.{line_bytes}
 use Rattle.m88_link.specs.ObjectRead.{IsRefusedText, IsSoundText}
 use Rattle.m88_link.specs.Rows.{◌>>=◌, bytes_behind, split_at_byte, row_in}
 
@@ -81,12 +83,12 @@ is_whole d = is_none d.filling && nat_le 2 (length d.sections)
 unfoldable pub head_step : SectionHead → Begun → Option Begun
 head_step h d = if takes_head d h then Some (settled d (headed h)) else None
 
--- 32 bytes more, or what is missing
+-- the bytes of one line more: as many as a line has, or what is missing
 unfoldable pub more_bytes : List ℕ → Filled → Option Filled
 more_bytes digits f =
-    if length digits == 2 * min f.missing 32
+    if length digits == 2 * min f.missing line_bytes
     then (bytes_behind f.bytes digits >>= λ bs.
-    Some (record { place = f.place; line = f.line; bytes = bs; missing = f.missing - min f.missing 32 }))
+    Some (record { place = f.place; line = f.line; bytes = bs; missing = f.missing - min f.missing line_bytes }))
     else None
 
 -- bytes come
@@ -137,7 +139,7 @@ line_step s (b ∷ bs) = if b == bytes_mark then within s (bytes_step bs) else (
 
 -- a line without the LF that is its last byte
 abbrev pub unended : List ℕ → Option (List ℕ)
-unended line = split_at_byte 10 line >>= λ p. (if is_nil p.1 then Some p.0 else None)
+unended line = split_at_byte line_feed line >>= λ p. (if is_nil p.1 then Some p.0 else None)
 
 -- a line with its LF
 abbrev pub ended_step : Progress → List ℕ → Option Progress

@@ -10,7 +10,7 @@ use Rattle.m88_link.specs.declared.object.Object.{Object}
 use Rattle.m88_link.specs.declared.object.Reloc.{Reloc}
 use Rattle.m88_link.specs.declared.object.Section.{Section}
 use Rattle.m88_link.specs.declared.object.Symbol.{Symbol}
-use Rattle.m88_link.specs.Bases.{Standing, base_at, base_of, stood}
+use Rattle.m88_link.specs.Bases.{Placement, base_at, base_of, stood}
 use Rattle.m88_link.specs.Relocated.{relocated}
 use Rattle.m88_link.specs.Symbols.{exported, symbol_meaning}
 
@@ -53,43 +53,43 @@ reference globals base symbols r = record {
 }
 
 -- the global definitions of an object
-abbrev pub globals_of : Standing → List Symbol
+abbrev pub globals_of : Placement → List Symbol
 globals_of s = exported (base_of s) s.object.symbols
 
 -- the uses of symbols in an object
-abbrev pub references_of : List Symbol → Standing → List Reference
+abbrev pub references_of : List Symbol → Placement → List Reference
 references_of globals s = map (reference globals (base_of s) s.object.symbols) s.object.relocs
 
 -- the room of a section of an object
-abbrev pub extent : Standing → Section → Extent
+abbrev pub extent : Placement → Section → Extent
 extent s x = record { at = base_at s x.place; len = length x.bytes; line = x.line }
 
 -- the room of the sections of an object
-abbrev pub extents_of : Standing → List Extent
+abbrev pub extents_of : Placement → List Extent
 extents_of s = map (extent s) s.object.sections
 
 -- the value of a name in an object, 0 where it means nothing
-abbrev pub value_of_name : List Symbol → Standing → List ℕ → ℕ
+abbrev pub value_of_name : List Symbol → Placement → List ℕ → ℕ
 value_of_name globals s name = unwrap_or (symbol_meaning globals (base_of s) s.object.symbols name) 0
 
 -- the bytes of section k of an object
-abbrev pub spot : List Symbol → Standing → ℕ → Section → Placed
+abbrev pub spot : List Symbol → Placement → ℕ → Section → Placed
 spot globals s k x = record {
   at = base_at s x.place;
   bytes = relocated (value_of_name globals s) (base_of s) k s.object.relocs x.bytes;
 }
 
 -- the bytes of the sections of an object
-abbrev pub spots_of : List Symbol → Standing → List Placed
+abbrev pub spots_of : List Symbol → Placement → List Placed
 spots_of globals s = map (λ e. spot globals s e.0 e.1) (enumerate_from 0 s.object.sections)
 
 -- the layout of objects that stand somewhere
-abbrev pub layout_at : List Standing → Layout
-layout_at standings = record {
-  spots = flat_map (spots_of (flat_map globals_of standings)) standings;
-  globals = flat_map globals_of standings;
-  references = flat_map (references_of (flat_map globals_of standings)) standings;
-  extents = flat_map extents_of standings;
+abbrev pub layout_at : List Placement → Layout
+layout_at placements = record {
+  spots = flat_map (spots_of (flat_map globals_of placements)) placements;
+  globals = flat_map globals_of placements;
+  references = flat_map (references_of (flat_map globals_of placements)) placements;
+  extents = flat_map extents_of placements;
 }
 
 -- the layout of objects

@@ -1,6 +1,6 @@
 -- Object files as text (object file formats: sections, symbol table, relocation entries): lines that end with LF, of
 -- words parted by one blank.
-use Rattle.std.specs.Prelude.{ℕ, zero, suc, ◌+◌, ◌*◌, ◌/◌, List, [], ◌++◌, codes, decimal, drop, take, length, flat_map, Option, None, Some, if◌then◌else◌}
+use Rattle.std.specs.Prelude.{ℕ, zero, suc, ◌+◌, ◌-◌, ◌*◌, ◌/◌, List, [], ◌++◌, codes, decimal, drop, take, length, flat_map, Option, None, Some, if◌then◌else◌}
 use Rattle.m88_base.specs.Hex.{hex2, hex8}
 use Rattle.m88_base.specs.Lines.{line_end}
 use Rattle.m88_base.specs.declared.fixup.Kind.{Kind}
@@ -31,7 +31,7 @@ byte_lines_before bytes (suc n) = byte_lines_before bytes n ++ byte_line (take l
 
 -- the byte lines of a section, none where it has no bytes
 abbrev pub byte_lines : List ℕ → List ℕ
-byte_lines bytes = byte_lines_before bytes ((length bytes + 31) / line_bytes)
+byte_lines bytes = byte_lines_before bytes ((length bytes + (line_bytes - 1)) / line_bytes)
 
 -- the words for a section's place and its length
 abbrev pub place_words : Place → ℕ → List ℕ

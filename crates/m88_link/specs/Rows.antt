@@ -1,5 +1,5 @@
 -- Words for private contracts: what a line of an object text says, word by word.
-use Rattle.std.specs.Prelude.{ℕ, ◌+◌, ◌*◌, ◌==◌, ◌&&◌, Bool, true, false, List, [], ◌∷◌, ◌++◌, Option, None, Some, bytes_eq, codes, length, nat_lt, option_and_then, option_map, if◌then◌else◌}
+use Rattle.std.specs.Prelude.{ℕ, ◌+◌, ◌-◌, ◌*◌, ◌^◌, ◌==◌, ◌&&◌, Bool, true, false, List, [], ◌∷◌, ◌++◌, Option, None, Some, bytes_eq, codes, length, nat_lt, option_and_then, option_map, if◌then◌else◌}
 use Rattle.std.specs.Char.{digit_value}
 use Rattle.std.specs.List.{list_all}
 use Rattle.m88_base.specs.Hex.{hex8_of, is_hex_digit}
@@ -31,11 +31,15 @@ abbrev pub split_at_byte : ℕ → List ℕ → Option (List ℕ × List ℕ)
 split_at_byte at [] = None
 split_at_byte at (b ∷ bs) = if b == at then Some ([], bs) else option_map (with_first b) (split_at_byte at bs)
 
+-- the blank between two words of a line, as a byte
+abbrev pub blank_byte : ℕ
+blank_byte = 32
+
 -- the first word of a line and what stands behind its blank
 abbrev pub first_word : List ℕ → Option (List ℕ × List ℕ)
-first_word text = split_at_byte 32 text
+first_word text = split_at_byte blank_byte text
 
--- the bytes are one name
+-- the bytes are one name: the test that computes whether `IsName` holds of them
 abbrev pub is_name_text : List ℕ → Bool
 is_name_text [] = false
 is_name_text (b ∷ bs) = begins_name b && list_all continues_name bs && nat_lt (length bs) 64
@@ -46,7 +50,7 @@ name_of text = if is_name_text text then Some text else None
 
 -- the number below 2^32 that decimal digits write
 abbrev pub decimal_value : List ℕ → Option ℕ
-decimal_value text = decimal_in 4294967295 text
+decimal_value text = decimal_in (2 ^ 32 - 1) text
 
 -- a word that is read by `of`, and what stands behind its blank
 abbrev pub word_by : {A : Type 0} → (List ℕ → Option A) → List ℕ → Option (A × List ℕ)

@@ -1,6 +1,6 @@
 -- Words for private contracts: objects gone through part by part, to the first part by which one of them isn't sound,
 -- and the number of lines that stand before it in their text.
-use Rattle.std.specs.Prelude.{◌≡◌, ℕ, ◌+◌, ◌/◌, ◌⊎◌, List, [], ◌∷◌, ◌++◌, All, length, sum_by}
+use Rattle.std.specs.Prelude.{◌≡◌, ℕ, ◌+◌, ◌-◌, ◌/◌, ◌⊎◌, List, [], ◌∷◌, ◌++◌, All, length, sum_by}
 use Rattle.m88_link.specs.declared.object.Object.{Object}
 use Rattle.m88_link.specs.declared.object.Reloc.{Reloc}
 use Rattle.m88_link.specs.declared.object.Section.{Section}
@@ -8,11 +8,12 @@ use Rattle.m88_link.specs.declared.object.Symbol.{Symbol}
 use Rattle.m88_link.specs.declared.walk.Walked.{Walked}
 use Rattle.m88_link.specs.declared.walk.Walked.TheVariants.{Sound, Unsound}
 use Rattle.m88_link.specs.ObjectRead.{AreSoundSymbols}
+use Rattle.m88_link.specs.ObjectText.{line_bytes}
 use Rattle.m88_link.specs.Sound.{HasRoom, IsPatchIn}
 
 -- the number of lines of a section: its head and its byte lines
 abbrev pub section_count : Section → ℕ
-section_count s = 1 + (length s.bytes + 31) / 32
+section_count s = 1 + (length s.bytes + (line_bytes - 1)) / line_bytes
 
 -- of sections
 abbrev pub sections_count : List Section → ℕ

@@ -18,21 +18,21 @@ const PART: u32 = 8;
 #[derive(Drop)]
 pub struct Placement<'a> {
     object: &'a Object,
-    text: u32,
-    datas: u32,
+    text_at: u32,
+    data_at: u32,
 }
 
 impl<'a> Model for Placement<'a> {
     ghost use Rattle.std.specs.Prelude.{◌+◌, ◌^◌, ◌≤◌};
-    ghost use Rattle.m88_link.specs.Bases.{Standing, section_size};
+    ghost use Rattle.m88_link.specs.Bases.{Placement as PlacementValue, section_size};
     ghost use Rattle.m88_link.specs.Sound.{IsSound};
 
-    ghost Value = { Standing };
+    ghost Value = { PlacementValue };
 
-    ghost view = { λ p. record { object = p.object.now; text = p.text; datas = p.datas } };
+    ghost view = { λ p. record { object = p.object.now; text_at = p.text_at; data_at = p.data_at } };
 
-    ghost invariant = { λ p. IsSound p.object.now × (p.text + section_size 0 p.object.now ≤ 2 ^ 32)
-        × (p.datas + section_size 1 p.object.now ≤ 2 ^ 32) };
+    ghost invariant = { λ p. IsSound p.object.now × (p.text_at + section_size 0 p.object.now ≤ 2 ^ 32)
+        × (p.data_at + section_size 1 p.object.now ≤ 2 ^ 32) };
 }
 
 impl Placement<'_> {
@@ -67,8 +67,8 @@ impl Placement<'_> {
         ensures { result ≡ base_at self.now place }
     {
         match place {
-            Place::Text => self.text,
-            Place::DataSection => self.datas,
+            Place::Text => self.text_at,
+            Place::DataSection => self.data_at,
             Place::At(at) => at,
         }
     }
@@ -89,6 +89,7 @@ impl Placement<'_> {
         requires { IsPatchIn self.now.object.sections reloc.now }
         ensures { result ≡ base_of self.now reloc.now.section + reloc.now.offset }
     {
+        // By what every placement keeps, which a read of a field tells the proof, the sum fits.
         let _ = &self.object;
         self.base(reloc.section) + reloc.offset
     }
@@ -160,21 +161,21 @@ fn text_end(objects: &[Object]) -> u32
 pub fn stand<'a>(alloc: Global, objects: &'a [Object]) -> Result<Vec<Placement<'a>>, AllocError>
     requires sound { All IsSound objects.now }
     requires size { total_size objects.now ≤ most_bytes }
-    ensures { IfOk result (λ standings. standings.items ≡ stood objects.now) }
+    ensures { IfOk result (λ placements. placements.items ≡ stood objects.now) }
 {
-    let mut standings = Vec::new(alloc);
-    let mut text = FIRST_TEXT;
-    let mut datas = text_end(objects).next_multiple_of(PAGE_BYTES);
+    let mut placements = Vec::new(alloc);
+    let mut text_at = FIRST_TEXT;
+    let mut data_at = text_end(objects).next_multiple_of(PAGE_BYTES);
     for object in objects {
-        text = text.next_multiple_of(PART);
-        datas = datas.next_multiple_of(PART);
-        standings.push(Placement {
+        text_at = text_at.next_multiple_of(PART);
+        data_at = data_at.next_multiple_of(PART);
+        placements.push(Placement {
             object,
-            text,
-            datas,
+            text_at,
+            data_at,
         })?;
-        text += section_size(object, 0) as u32;
-        datas += section_size(object, 1) as u32;
+        text_at += section_size(object, 0) as u32;
+        data_at += section_size(object, 1) as u32;
     }
-    Ok(standings)
+    Ok(placements)
 }

@@ -14,18 +14,15 @@ use crate::table::SymbolTable;
 use std::alloc::Global;
 
 /// The global symbols of all objects with their values, or the first that repeats a name.
-pub fn globals(alloc: Global, standings: &[Placement]) -> Result<SymbolTable, LinkFault>
-    ensures ok { IfOk result (λ table. table ≡ flat_map globals_of standings.now) }
-    ensures once { OnOk result (duplicate (flat_map globals_of standings.now) ≡ None) }
+pub fn globals(alloc: Global, placements: &[Placement]) -> Result<SymbolTable, LinkFault>
+    ensures ok { IfOk result (λ table. table ≡ flat_map globals_of placements.now) }
+    ensures once { OnOk result (duplicate (flat_map globals_of placements.now) ≡ None) }
     ensures err { IfErr result (λ e. (e ≡ memory_fault)
-        ⊎ (duplicate (flat_map globals_of standings.now) ≡ Some e)) }
+        ⊎ (duplicate (flat_map globals_of placements.now) ≡ Some e)) }
 {
     let mut table = SymbolTable::new(alloc);
-    for standing in standings {
-        match export_all(&mut table, standing, standing.symbols()) {
-            Ok(()) => {}
-            Err(fault) => return Err(fault),
-        }
+    for placement in placements {
+        export_all(&mut table, placement, placement.symbols())?;
     }
     Ok(table)
 }
@@ -33,14 +30,15 @@ pub fn globals(alloc: Global, standings: &[Placement]) -> Result<SymbolTable, Li
 /// Adds the global ones among symbols of an object to a table.
 fn export_all(
     table: &mut SymbolTable,
-    standing: &Placement,
+    placement: &Placement,
     symbols: &[Symbol],
 ) -> Result<(), LinkFault>
     ensures { TakesSymbols table.old table.new
-        (exported (base_of standing.now) symbols.now) result }
+        (exported (base_of placement.now) symbols.now) result }
 {
     for symbol in symbols {
-        match export(table, standing, symbol) {
+        // No `?` here: the check has no proof for it in this loop.
+        match export(table, placement, symbol) {
             Ok(()) => {}
             Err(fault) => return Err(fault),
         }
@@ -49,9 +47,9 @@ fn export_all(
 }
 
 /// Adds a symbol of an object to a table where it is global.
-fn export(table: &mut SymbolTable, standing: &Placement, symbol: &Symbol) -> Result<(), LinkFault>
+fn export(table: &mut SymbolTable, placement: &Placement, symbol: &Symbol) -> Result<(), LinkFault>
     ensures { TakesSymbols table.old table.new
-        (exported (base_of standing.now) (symbol.now ∷ [])) result }
+        (exported (base_of placement.now) (symbol.now ∷ [])) result }
 {
     if !symbol.global {
         return Ok(());
@@ -68,7 +66,7 @@ fn export(table: &mut SymbolTable, standing: &Placement, symbol: &Symbol) -> Res
         None => {
             table.add(Symbol {
                 section: None,
-                value: standing.value(symbol),
+                value: placement.value(symbol),
                 ..*symbol
             })?;
             Ok(())

@@ -31,20 +31,11 @@ pub fn link(alloc: Global, objects: &[Object]) -> Result<Image, LinkFault>
     if !fit(objects) {
         return Err(TOO_LARGE);
     }
-    let standings = stand(alloc, objects)?;
-    match check_overlap(alloc, &standings) {
-        Ok(()) => {}
-        Err(fault) => return Err(fault),
-    }
-    let globals = match globals(alloc, &standings) {
-        Ok(globals) => globals,
-        Err(fault) => return Err(fault),
-    };
-    match check_references(alloc, &standings, &globals) {
-        Ok(()) => {}
-        Err(fault) => return Err(fault),
-    }
-    let spots = spots(alloc, &standings, &globals)?;
+    let placements = stand(alloc, objects)?;
+    check_overlap(alloc, &placements)?;
+    let globals = globals(alloc, &placements)?;
+    check_references(alloc, &placements, &globals)?;
+    let spots = spots(alloc, &placements, &globals)?;
     let mut image = image_of(alloc, spots)?;
     image.set_start(start(&globals));
     Ok(image)

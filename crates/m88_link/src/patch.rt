@@ -1,6 +1,6 @@
 //! The fields of words that take the value of a symbol.
-ghost use Rattle.std.specs.Prelude.{◌≡◌, ◌+◌, ◌-◌, ◌^◌, ◌%◌, ◌≤◌, ◌==◌, ◌&&◌, ◌||◌, nat_lt, nat_le, length};
-ghost use Rattle.m88_link.specs.Field.{distance, field_value, is_in_reach, patched_word};
+ghost use Rattle.std.specs.Prelude.{◌≡◌, ◌+◌, ◌-◌, ◌^◌, ◌%◌, ◌≤◌, ◌<◌, ◌==◌, ◌&&◌, ◌||◌, nat_lt, nat_le, length};
+ghost use Rattle.m88_link.specs.Field.{distance, field_value, is_in_reach, is_near, patched_word};
 ghost use Rattle.m88_link.specs.Relocated.{patched};
 
 use byteorder::{BigEndian, ByteOrder};
@@ -13,11 +13,13 @@ pub fn distance(target: u32, at: u32) -> u32
     target.wrapping_sub(at)
 }
 
-/// Whether a displacement is a multiple of 4 and less than `reach` bytes away, or `reach` bytes back.
-fn is_near(d: u32, reach: u32) -> bool
-    requires { reach ≤ 2 ^ 31 }
-    ensures { result ≡ (d % 4 == 0 && (nat_lt d reach || nat_le (2 ^ 32 - reach) d)) }
+/// Whether a displacement is a multiple of 4 that, in words, a signed field of `width` bits takes.
+fn is_near(width: u32, d: u32) -> bool
+    requires narrow { width < 32 }
+    requires reach { 2 ^ (width + 1) ≤ 2 ^ 31 }
+    ensures { result ≡ is_near width d }
 {
+    let reach = 2_u32.pow(width + 1);
     d % 4 == 0 && (d < reach || u32::MAX - reach < d)
 }
 
@@ -26,8 +28,8 @@ pub fn is_in_reach(kind: Kind, target: u32, at: u32) -> bool
     ensures { result ≡ is_in_reach kind target at }
 {
     match kind {
-        Kind::Pc26 => is_near(distance(target, at), 1 << 27),
-        Kind::Pc16 => is_near(distance(target, at), 1 << 17),
+        Kind::Pc26 => is_near(26, distance(target, at)),
+        Kind::Pc16 => is_near(16, distance(target, at)),
         Kind::Hi16 | Kind::Lo16 | Kind::Abs32 => true,
     }
 }

@@ -72,14 +72,14 @@ impl Spot {
 /// The bytes of the sections of all objects, in order, with their relocations carried out.
 pub fn spots(
     alloc: Global,
-    standings: &[Placement],
+    placements: &[Placement],
     globals: &SymbolTable,
 ) -> Result<Vec<Spot>, AllocError>
-    ensures { IfOk result (λ spots. spots.items ≡ flat_map (spots_of globals.now) standings.now) }
+    ensures { IfOk result (λ spots. spots.items ≡ flat_map (spots_of globals.now) placements.now) }
 {
     let mut spots = Vec::new(alloc);
-    for standing in standings {
-        let mut own = object_spots(alloc, standing, globals)?;
+    for placement in placements {
+        let mut own = object_spots(alloc, placement, globals)?;
         spots.append(&mut own)?;
     }
     Ok(spots)
@@ -88,30 +88,30 @@ pub fn spots(
 /// The bytes of the sections of an object with its relocations carried out.
 fn object_spots(
     alloc: Global,
-    standing: &Placement,
+    placement: &Placement,
     globals: &SymbolTable,
 ) -> Result<Vec<Spot>, AllocError>
-    ensures { IfOk result (λ spots. spots.items ≡ spots_of globals.now standing.now) }
+    ensures { IfOk result (λ spots. spots.items ≡ spots_of globals.now placement.now) }
 {
-    let mut spots = bare_spots(alloc, standing, standing.sections())?;
-    let own = own_symbols(alloc, standing.symbols())?;
-    carry_out(&mut spots, globals, standing, &own, standing.relocs());
+    let mut spots = bare_spots(alloc, placement, placement.sections())?;
+    let own = own_symbols(alloc, placement.symbols())?;
+    carry_out(&mut spots, globals, placement, &own, placement.relocs());
     Ok(spots)
 }
 
 /// The bytes of sections of an object as the object has them.
 fn bare_spots(
     alloc: Global,
-    standing: &Placement,
+    placement: &Placement,
     sections: &[Section],
 ) -> Result<Vec<Spot>, AllocError>
-    requires { All (λ x. base_at standing.now x.place + length x.bytes ≤ 2 ^ 32) sections.now }
-    ensures { IfOk result (λ spots. spots.items ≡ map (unpatched standing.now) sections.now) }
+    requires { All (λ x. base_at placement.now x.place + length x.bytes ≤ 2 ^ 32) sections.now }
+    ensures { IfOk result (λ spots. spots.items ≡ map (unpatched placement.now) sections.now) }
 {
     let mut spots = Vec::new(alloc);
     for section in sections {
         spots.push(Spot {
-            at: standing.base_at(section.place),
+            at: placement.base_at(section.place),
             bytes: Vec::from_slice(alloc, section.bytes.as_slice())?,
         })?;
     }
@@ -122,17 +122,17 @@ fn bare_spots(
 fn carry_out(
     spots: &mut Vec<Spot>,
     globals: &SymbolTable,
-    standing: &Placement,
+    placement: &Placement,
     own: &SymbolTable,
     relocs: &[Reloc],
 )
-    requires own { own.now ≡ standing.now.object.symbols }
+    requires own { own.now ≡ placement.now.object.symbols }
     requires words { All (HasWord spots.old.items) relocs.now }
     ensures { spots.new.items
-        ≡ carried (target_of (value_of_name globals.now standing.now)) relocs.now spots.old.items }
+        ≡ carried (target_of (value_of_name globals.now placement.now)) relocs.now spots.old.items }
 {
     for reloc in relocs {
-        let target = target(globals, standing, own, reloc).unwrap_or(reloc.addend);
+        let target = target(globals, placement, own, reloc).unwrap_or(reloc.addend);
         let spot = &mut spots[reloc.section as usize];
         spot.patch(reloc, target);
     }

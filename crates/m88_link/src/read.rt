@@ -16,10 +16,7 @@ fn read(alloc: Global, text: &[u8]) -> Result<Vec<Object>, ObjectFault>
     requires { length text.now < 2 ^ 31 }
     ensures { AnswersText (λ v. v.items) text.now result }
 {
-    let objects = match parse_objects(alloc, text) {
-        Ok(objects) => objects,
-        Err(fault) => return Err(fault),
-    };
+    let objects = parse_objects(alloc, text)?;
     match walk_objects(alloc, objects.as_slice())? {
         Walked::Sound(_) => Ok(objects),
         Walked::Unsound(lines) => Err(ObjectFault::Range {

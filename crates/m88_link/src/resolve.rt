@@ -22,23 +22,20 @@ use std::alloc::{AllocError, Global};
 /// field.
 pub fn check_references(
     alloc: Global,
-    standings: &[Placement],
+    placements: &[Placement],
     globals: &SymbolTable,
 ) -> Result<(), LinkFault>
     ensures ok { OnOk result
-        (option_or (undefined (flat_map (references_of globals.now) standings.now))
-        (too_far (flat_map (references_of globals.now) standings.now)) ≡ None) }
+        (option_or (undefined (flat_map (references_of globals.now) placements.now))
+        (too_far (flat_map (references_of globals.now) placements.now)) ≡ None) }
     ensures err { IfErr result (λ e. (e ≡ memory_fault)
-        ⊎ (option_or (undefined (flat_map (references_of globals.now) standings.now))
-        (too_far (flat_map (references_of globals.now) standings.now)) ≡ Some e)) }
+        ⊎ (option_or (undefined (flat_map (references_of globals.now) placements.now))
+        (too_far (flat_map (references_of globals.now) placements.now)) ≡ Some e)) }
 {
     let mut far = None;
-    for standing in standings {
-        let own = own_symbols(alloc, standing.symbols())?;
-        match check_all(&mut far, globals, standing, &own, standing.relocs()) {
-            Ok(()) => {}
-            Err(fault) => return Err(fault),
-        }
+    for placement in placements {
+        let own = own_symbols(alloc, placement.symbols())?;
+        check_all(&mut far, globals, placement, &own, placement.relocs())?;
     }
     match far {
         Some(fault) => Err(fault),
@@ -61,14 +58,14 @@ pub fn own_symbols(alloc: Global, symbols: &[Symbol]) -> Result<SymbolTable, All
 /// What a name means in an object: its definition there, or else the global one.
 fn meaning(
     globals: &SymbolTable,
-    standing: &Placement,
+    placement: &Placement,
     own: &SymbolTable,
     name: &Name,
 ) -> Option<u32>
-    ensures { result ≡ symbol_meaning globals.now (base_of standing.now) own.now name.now }
+    ensures { result ≡ symbol_meaning globals.now (base_of placement.now) own.now name.now }
 {
     match own.get(name) {
-        Some(symbol) => Some(standing.value(symbol)),
+        Some(symbol) => Some(placement.value(symbol)),
         None => globals.get(name).map(|symbol| symbol.value),
     }
 }
@@ -77,18 +74,18 @@ fn meaning(
 /// something.
 pub fn target(
     globals: &SymbolTable,
-    standing: &Placement,
+    placement: &Placement,
     own: &SymbolTable,
     reloc: &Reloc,
 ) -> Option<u32>
-    requires { own.now ≡ standing.now.object.symbols }
+    requires { own.now ≡ placement.now.object.symbols }
     ensures known { result
-        ≡ (reference globals.now (base_of standing.now) own.now reloc.now).target }
+        ≡ (reference globals.now (base_of placement.now) own.now reloc.now).target }
     ensures value { unwrap_or result reloc.now.addend
-        ≡ target_of (value_of_name globals.now standing.now) reloc.now }
+        ≡ target_of (value_of_name globals.now placement.now) reloc.now }
 {
     let addend = reloc.addend;
-    let value = meaning(globals, standing, own, &reloc.symbol)?;
+    let value = meaning(globals, placement, own, &reloc.symbol)?;
     Some(value.wrapping_add(addend))
 }
 
@@ -97,16 +94,17 @@ pub fn target(
 fn check_all(
     far: &mut Option<LinkFault>,
     globals: &SymbolTable,
-    standing: &Placement,
+    placement: &Placement,
     own: &SymbolTable,
     relocs: &[Reloc],
 ) -> Result<(), LinkFault>
-    requires own { own.now ≡ standing.now.object.symbols }
-    requires sound { All (IsPatchIn standing.now.object.sections) relocs.now }
-    ensures { Checks globals.now standing.now relocs.now far.old far.new result }
+    requires own { own.now ≡ placement.now.object.symbols }
+    requires sound { All (IsPatchIn placement.now.object.sections) relocs.now }
+    ensures { Checks globals.now placement.now relocs.now far.old far.new result }
 {
     for reloc in relocs {
-        match check(far, globals, standing, own, reloc) {
+        // No `?` here: the check has no proof for it in this loop.
+        match check(far, globals, placement, own, reloc) {
             Ok(()) => {}
             Err(fault) => return Err(fault),
         }
@@ -119,22 +117,22 @@ fn check_all(
 fn check(
     far: &mut Option<LinkFault>,
     globals: &SymbolTable,
-    standing: &Placement,
+    placement: &Placement,
     own: &SymbolTable,
     reloc: &Reloc,
 ) -> Result<(), LinkFault>
-    requires own { own.now ≡ standing.now.object.symbols }
-    requires sound { IsPatchIn standing.now.object.sections reloc.now }
-    ensures { Checks globals.now standing.now (reloc.now ∷ []) far.old far.new result }
+    requires own { own.now ≡ placement.now.object.symbols }
+    requires sound { IsPatchIn placement.now.object.sections reloc.now }
+    ensures { Checks globals.now placement.now (reloc.now ∷ []) far.old far.new result }
 {
-    let Some(target) = target(globals, standing, own, reloc) else {
+    let Some(target) = target(globals, placement, own, reloc) else {
         return Err(LinkFault {
             line: reloc.line,
             col: reloc.col,
             kind: LinkKind::Undefined(reloc.symbol),
         });
     };
-    let at = standing.address(reloc);
+    let at = placement.address(reloc);
     if far.is_none() && !is_in_reach(reloc.kind, target, at) {
         *far = Some(LinkFault {
             line: reloc.line,

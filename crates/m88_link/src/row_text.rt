@@ -35,6 +35,7 @@ fn at_of(text: &[u8]) -> Option<SectionHead>
 fn symbol_in(text: &[u8]) -> Option<Symbol>
     ensures { result ≡ symbol_in text.now }
 {
+    // No `?` here: it has no proof for a name beside a slice.
     let Some((name, rest)) = name_word(text) else {
         return None;
     };
@@ -61,6 +62,7 @@ fn reloc_in(text: &[u8]) -> Option<Reloc>
     let (kind, rest) = kind_word(text)?;
     let (section, rest) = number_word(rest)?;
     let (offset, rest) = hex8_word(rest)?;
+    // No `?` here: it has no proof for a name beside a slice.
     let Some((symbol, rest)) = name_word(rest) else {
         return None;
     };
@@ -82,6 +84,7 @@ fn reloc_in(text: &[u8]) -> Option<Reloc>
 fn keyword_of(word: &[u8]) -> Option<Keyword>
     ensures { result ≡ keyword_of word.now }
 {
+    // Two words by `==`: a pattern of six bytes would need a proof by hand.
     if word == b"object".as_slice() {
         return Some(Keyword::Object);
     }

@@ -71,12 +71,12 @@ impl Span {
 }
 
 /// The rooms of all sections, in the order of objects and section numbers.
-fn extents(alloc: Global, standings: &[Placement]) -> Result<Vec<Span>, AllocError>
-    ensures { IfOk result (λ spans. spans.items ≡ flat_map extents_of standings.now) }
+fn extents(alloc: Global, placements: &[Placement]) -> Result<Vec<Span>, AllocError>
+    ensures { IfOk result (λ spans. spans.items ≡ flat_map extents_of placements.now) }
 {
     let mut spans = Vec::new(alloc);
-    for standing in standings {
-        push_extents(&mut spans, standing, standing.sections())?;
+    for placement in placements {
+        push_extents(&mut spans, placement, placement.sections())?;
     }
     Ok(spans)
 }
@@ -84,16 +84,16 @@ fn extents(alloc: Global, standings: &[Placement]) -> Result<Vec<Span>, AllocErr
 /// Appends the rooms of sections of an object.
 fn push_extents(
     spans: &mut Vec<Span>,
-    standing: &Placement,
+    placement: &Placement,
     sections: &[Section],
 ) -> Result<(), AllocError>
-    requires { All (λ x. base_at standing.now x.place + length x.bytes ≤ 2 ^ 32) sections.now }
+    requires { All (λ x. base_at placement.now x.place + length x.bytes ≤ 2 ^ 32) sections.now }
     ensures { OnOk result
-        (spans.new.items ≡ spans.old.items ++ map (extent standing.now) sections.now) }
+        (spans.new.items ≡ spans.old.items ++ map (extent placement.now) sections.now) }
 {
     for section in sections {
         spans.push(Span {
-            at: standing.base_at(section.place),
+            at: placement.base_at(section.place),
             len: section.bytes.as_slice().len(),
             line: section.line,
         })?;
@@ -135,26 +135,26 @@ fn second_at(spans: &[Span], at: u32) -> Option<&Span>
 }
 
 /// Refuses sections of which two have one address.
-pub fn check_overlap(alloc: Global, standings: &[Placement]) -> Result<(), LinkFault>
-    ensures ok { OnOk result (AreDisjoint (flat_map extents_of standings.now)) }
+pub fn check_overlap(alloc: Global, placements: &[Placement]) -> Result<(), LinkFault>
+    ensures ok { OnOk result (AreDisjoint (flat_map extents_of placements.now)) }
     ensures err { IfErr result (λ e. (e ≡ memory_fault)
-        ⊎ IsOverlap (flat_map extents_of standings.now) e) }
+        ⊎ IsOverlap (flat_map extents_of placements.now) e) }
 {
-    let mut spans = extents(alloc, standings)?;
+    let mut spans = extents(alloc, placements)?;
     spans.sort_unstable_by_key(|span| span.at());
     match first_double(&spans) {
         None => Ok(()),
-        Some(at) => overlap(alloc, standings, at),
+        Some(at) => overlap(alloc, placements, at),
     }
 }
 
 /// Refuses sections whose least address with two bytes is known.
-fn overlap(alloc: Global, standings: &[Placement], at: u32) -> Result<(), LinkFault>
-    requires { IsLeastDouble (flat_map extents_of standings.now) at }
+fn overlap(alloc: Global, placements: &[Placement], at: u32) -> Result<(), LinkFault>
+    requires { IsLeastDouble (flat_map extents_of placements.now) at }
     ensures { MatchResult result (λ _. ⊥) (λ e. (e ≡ memory_fault)
-        ⊎ IsOverlap (flat_map extents_of standings.now) e) }
+        ⊎ IsOverlap (flat_map extents_of placements.now) e) }
 {
-    let spans = extents(alloc, standings)?;
+    let spans = extents(alloc, placements)?;
     match second_at(&spans, at) {
         Some(second) => Err(LinkFault {
             line: second.line(),

@@ -98,7 +98,7 @@ fn push_bytes(text: &mut Vec<u8>, bytes: &[u8]) -> Result<(), AllocError>
     requires { length bytes.now ≤ most_bytes }
     ensures { OnOk result (text.new.items ≡ text.old.items ++ byte_lines bytes.now) }
 {
-    for n in 0..(bytes.len() + 31) / LINE_BYTES {
+    for n in 0..bytes.len().div_ceil(LINE_BYTES) {
         let start = n * LINE_BYTES;
         let end = bytes.len().min(start + LINE_BYTES);
         push_byte_line(text, &bytes[start..end])?;

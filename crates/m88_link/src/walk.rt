@@ -8,6 +8,7 @@ ghost use Rattle.m88_link.specs.Walked.{ArePatches, AreSoundParts, HaveRoom, IsF
 use crate::object::{Object, Reloc, Section, Symbol};
 use crate::sound::{has_room, is_defined_in, is_global_if_start, is_patch_in};
 use crate::table::SymbolTable;
+use crate::text::LINE_BYTES;
 use std::alloc::{AllocError, Global};
 
 /// What going through parts of an object text comes to.
@@ -24,7 +25,7 @@ fn section_count(section: &Section) -> usize
     requires { HasRoom section.now }
     ensures { result ≡ section_count section.now }
 {
-    1 + (section.bytes.as_slice().len() + 31) / 32
+    1 + section.bytes.as_slice().len().div_ceil(LINE_BYTES)
 }
 
 /// Goes through sections.

@@ -9,7 +9,7 @@ use Rattle.m88_link.proofs.exports.export_all.Goals as goal
 
 pub returns-in-Err : goal.returns-in-Err
 returns-in-Err c =
-    let base = base_of c.args.standing.now in
+    let base = base_of c.args.placement.now in
     let i = c.loop-symbol.symbol-index in
     let x = c.symbol-item.result in
     let done = exported base (take i c.args.symbols.now) in
@@ -24,7 +24,7 @@ returns-in-Err c =
 
 pub loop-symbol-preserved : goal.loop-symbol-preserved
 loop-symbol-preserved c =
-    let base = base_of c.args.standing.now in
+    let base = base_of c.args.placement.now in
     let i = c.loop-symbol.symbol-index in
     let x = c.symbol-item.result in
     let old = c.args.table.now in

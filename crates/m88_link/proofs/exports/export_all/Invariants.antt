@@ -6,5 +6,5 @@ use Rattle.m88_link.proofs.exports.export_all.Given as goal
 
 abbrev pub invariant-loop-symbol : goal.invariant-loop-symbol
 invariant-loop-symbol l =
-    (l.table ≡ l.initial.table ++ exported (base_of l.standing) (take l.symbol-index l.symbols))
-    × (repeated_after l.initial.table (exported (base_of l.standing) (take l.symbol-index l.symbols)) ≡ None)
+    (l.table ≡ l.initial.table ++ exported (base_of l.placement) (take l.symbol-index l.symbols))
+    × (repeated_after l.initial.table (exported (base_of l.placement) (take l.symbol-index l.symbols)) ≡ None)

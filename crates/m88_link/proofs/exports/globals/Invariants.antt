@@ -4,7 +4,7 @@ use Rattle.m88_link.specs.Layout.{globals_of}
 use Rattle.m88_link.specs.Symbols.{first_repeated}
 use Rattle.m88_link.proofs.exports.globals.Given as goal
 
-abbrev pub invariant-loop-standing : goal.invariant-loop-standing
-invariant-loop-standing l =
-    (l.table ≡ flat_map globals_of (take l.standing-index l.standings))
-    × (first_repeated (flat_map globals_of (take l.standing-index l.standings)) ≡ None)
+abbrev pub invariant-loop-placement : goal.invariant-loop-placement
+invariant-loop-placement l =
+    (l.table ≡ flat_map globals_of (take l.placement-index l.placements))
+    × (first_repeated (flat_map globals_of (take l.placement-index l.placements)) ≡ None)

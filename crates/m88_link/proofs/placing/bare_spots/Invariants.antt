@@ -3,4 +3,4 @@ use Rattle.m88_link.specs.Carried.{unpatched}
 use Rattle.m88_link.proofs.placing.bare_spots.Given as goal
 
 abbrev pub invariant-loop-section : goal.invariant-loop-section
-invariant-loop-section l = l.spots.items ≡ map (unpatched l.standing) (take l.section-index l.sections)
+invariant-loop-section l = l.spots.items ≡ map (unpatched l.placement) (take l.section-index l.sections)

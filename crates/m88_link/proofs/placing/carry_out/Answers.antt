@@ -8,7 +8,7 @@ use Rattle.m88_link.proofs.placing.carry_out.Goals as goal
 
 pub loop-reloc-preserved : goal.loop-reloc-preserved
 loop-reloc-preserved c =
-    let t = target_of (value_of_name c.args.globals.now c.args.standing.now) in
+    let t = target_of (value_of_name c.args.globals.now c.args.placement.now) in
     let rs = c.args.relocs.now in
     let i = c.loop-reloc.reloc-index in
     let x = c.reloc-item.result in

@@ -7,6 +7,6 @@ use Rattle.m88_link.proofs.placing.carry_out.Given as goal
 
 abbrev pub invariant-loop-reloc : goal.invariant-loop-reloc
 invariant-loop-reloc l =
-    (carried (target_of (value_of_name l.globals l.standing)) (drop l.reloc-index l.relocs) l.spots.items
-    ≡ carried (target_of (value_of_name l.globals l.standing)) l.relocs l.initial.spots.items)
+    (carried (target_of (value_of_name l.globals l.placement)) (drop l.reloc-index l.relocs) l.spots.items
+    ≡ carried (target_of (value_of_name l.globals l.placement)) l.relocs l.initial.spots.items)
     × All (HasWord l.spots.items) l.relocs

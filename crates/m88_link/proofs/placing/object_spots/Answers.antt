@@ -8,7 +8,7 @@ use Rattle.m88_link.proofs.placing.object_spots.Goals as goal
 
 pub carry_out-requires-clause-words : goal.carry_out-requires-clause-words
 carry_out-requires-clause-words c =
-    let s = c.args.standing.now in
+    let s = c.args.placement.now in
     let items = c.in_ok-spots.ensures ∙ ap (λ l. map (unpatched s) l) c.sections.ensures.value in
     subst (λ l. All (HasWord l) c.relocs.result.now) (sym items)
     (subst (λ rs. All (HasWord (map (unpatched s) s.object.sections)) rs) (sym c.relocs.ensures.value)
@@ -17,7 +17,7 @@ carry_out-requires-clause-words c =
 pub returns : goal.returns
 returns c =
     let g = c.args.globals.now in
-    let s = c.args.standing.now in
+    let s = c.args.placement.now in
     let t = target_of (value_of_name g s) in
     let items = c.in_ok-spots.ensures ∙ ap (λ l. map (unpatched s) l) c.sections.ensures.value in
     c.carry_out.ensures

@@ -12,7 +12,7 @@ use Rattle.m88_link.proofs.resolve.check_all.Goals as goal
 pub returns-in-Err : goal.returns-in-Err
 returns-in-Err c =
     let g = c.args.globals.now in
-    let s = c.args.standing.now in
+    let s = c.args.placement.now in
     let rs = c.args.relocs.now in
     let i = c.loop-reloc.reloc-index in
     let x = c.reloc-item.result in
@@ -27,7 +27,7 @@ returns-in-Err c =
 pub loop-reloc-preserved : goal.loop-reloc-preserved
 loop-reloc-preserved c =
     let g = c.args.globals.now in
-    let s = c.args.standing.now in
+    let s = c.args.placement.now in
     let rs = c.args.relocs.now in
     let i = c.loop-reloc.reloc-index in
     let x = c.reloc-item.result in

@@ -7,5 +7,5 @@ use Rattle.m88_link.proofs.resolve.check_all.Given as goal
 
 abbrev pub invariant-loop-reloc : goal.invariant-loop-reloc
 invariant-loop-reloc l =
-    (l.far ≡ option_or l.initial.far (too_far (uses_in l.globals l.standing (take l.reloc-index l.relocs))))
-    × (undefined (uses_in l.globals l.standing (take l.reloc-index l.relocs)) ≡ None)
+    (l.far ≡ option_or l.initial.far (too_far (uses_in l.globals l.placement (take l.reloc-index l.relocs))))
+    × (undefined (uses_in l.globals l.placement (take l.reloc-index l.relocs)) ≡ None)

@@ -1,4 +1,5 @@
 use Rattle.std.proofs.Common.{◌+◌, ◌∙◌, take, drop, sym, ap, inl, inr, arith}
+use Rattle.std.proofs.lemmas.Result.{err_from_is_err_and}
 use Rattle.std.specs.Prelude.{flat_map}
 use Rattle.std.specs.Option.{option_or}
 use Rattle.m88_link.specs.Layout.{references_of}
@@ -7,36 +8,39 @@ use Rattle.m88_link.specs.Resolved.{uses_in}
 use Rattle.m88_link.proofs.Parts.{fault_none, fault_within, first_fault-append, flat_more, flat_parts, some_first}
 use Rattle.m88_link.proofs.resolve.check_references.Goals as goal
 
-pub returns-in-Err-clause-err : goal.returns-in-Err-clause-err
-returns-in-Err-clause-err c =
+pub returns-in_err-check_all-clause-err : goal.returns-in_err-check_all-clause-err
+returns-in_err-check_all-clause-err c =
     let g = c.args.globals.now in
-    let all = c.args.standings.now in
-    let i = c.loop-standing.standing-index in
-    let s = c.standing-item.result in
+    let all = c.args.placements.now in
+    let i = c.loop-placement.placement-index in
+    let s = c.placement-item.result in
     let uses = flat_map (references_of g) in
-    let whole = flat_parts (references_of g) all i s (omega arith) c.standing-item.is in
+    let whole = flat_parts (references_of g) all i s (omega arith) c.placement-item.is in
     let e = c.relocs.ensures.value in
-    elim c.in-Err.ensures [
+    let fault = c.in_err-check_all.field-0.0 in
+    let r = c.from_residual-in_err-check_all in
+    let p = err_from_is_err_and r.result r.ensures.1 in
+    rw (p.1, p.2) (elim c.in_err-check_all.ensures [
       | inl memory ↦ inl memory
       | inr found ↦ inr
-          (some_first (undefined (uses all)) (too_far (uses all)) c.in-Err.fault
+          (some_first (undefined (uses all)) (too_far (uses all)) fault
           (ap (λ l. undefined l) whole
-          ∙ fault_within undefined_in (uses (take i all)) (references_of g s) (uses (drop (i + 1) all)) c.in-Err.fault c.loop-standing.invariant.1
+          ∙ fault_within undefined_in (uses (take i all)) (references_of g s) (uses (drop (i + 1) all)) fault c.loop-placement.invariant.1
           (ap (λ r. undefined (uses_in g s r)) (sym e) ∙ found)))
-    ]
+    ])
 
-pub loop-standing-preserved : goal.loop-standing-preserved
-loop-standing-preserved c =
+pub loop-placement-preserved : goal.loop-placement-preserved
+loop-placement-preserved c =
     let g = c.args.globals.now in
-    let all = c.args.standings.now in
-    let i = c.loop-standing.standing-index in
-    let s = c.standing-item.result in
-    let inv = c.loop-standing.invariant in
+    let all = c.args.placements.now in
+    let i = c.loop-placement.placement-index in
+    let s = c.placement-item.result in
+    let inv = c.loop-placement.invariant in
     let e = c.relocs.ensures.value in
     let rs = c.relocs.result.now in
     let done = flat_map (references_of g) (take i all) in
-    let uses = flat_more (references_of g) all i s (omega arith) c.standing-item.is in (
-      c.in-Ok.ensures.0 ∙ ap (λ o. option_or o (too_far (uses_in g s rs))) inv.0 ∙ ap (λ r. option_or (too_far done) (too_far (uses_in g s r))) e
+    let uses = flat_more (references_of g) all i s (omega arith) c.placement-item.is in (
+      c.in_ok-check_all.ensures.0 ∙ ap (λ o. option_or o (too_far (uses_in g s rs))) inv.0 ∙ ap (λ r. option_or (too_far done) (too_far (uses_in g s r))) e
           ∙ sym (first_fault-append too_far_in done (references_of g s)) ∙ ap (λ l. too_far l) (sym uses),
-      ap (λ l. undefined l) uses ∙ fault_none undefined_in done (references_of g s) inv.1 (ap (λ r. undefined (uses_in g s r)) (sym e) ∙ c.in-Ok.ensures.1),
+      ap (λ l. undefined l) uses ∙ fault_none undefined_in done (references_of g s) inv.1 (ap (λ r. undefined (uses_in g s r)) (sym e) ∙ c.in_ok-check_all.ensures.1),
     )

@@ -4,7 +4,7 @@ use Rattle.m88_link.specs.Layout.{references_of}
 use Rattle.m88_link.specs.Refusal.{too_far, undefined}
 use Rattle.m88_link.proofs.resolve.check_references.Given as goal
 
-abbrev pub invariant-loop-standing : goal.invariant-loop-standing
-invariant-loop-standing l =
-    (l.far ≡ too_far (flat_map (references_of l.globals) (take l.standing-index l.standings)))
-    × (undefined (flat_map (references_of l.globals) (take l.standing-index l.standings)) ≡ None)
+abbrev pub invariant-loop-placement : goal.invariant-loop-placement
+invariant-loop-placement l =
+    (l.far ≡ too_far (flat_map (references_of l.globals) (take l.placement-index l.placements)))
+    × (undefined (flat_map (references_of l.globals) (take l.placement-index l.placements)) ≡ None)

@@ -16,13 +16,13 @@ first_double-requires c =
 pub returns-in-None-clause-ok : goal.returns-in-None-clause-ok
 returns-in-None-clause-ok c =
     let same = c.sort_unstable_by_key.ensures.permutation in
-    disjoint_in_order (flat_map extents_of c.args.standings.now) c.sort_unstable_by_key.new.self.items
+    disjoint_in_order (flat_map extents_of c.args.placements.now) c.sort_unstable_by_key.new.self.items
     (subst (λ l. IsPermutation l c.sort_unstable_by_key.new.self.items) c.in_ok-spans.ensures same)
     (subst (λ l. AreDisjoint l) c.deref.ensures.value c.in-None.ensures)
 
 pub overlap-requires : goal.overlap-requires
 overlap-requires c =
     let same = c.sort_unstable_by_key.ensures.permutation in
-    double_in_order (flat_map extents_of c.args.standings.now) c.sort_unstable_by_key.new.self.items c.in-Some.at
+    double_in_order (flat_map extents_of c.args.placements.now) c.sort_unstable_by_key.new.self.items c.in-Some.at
     (subst (λ l. IsPermutation l c.sort_unstable_by_key.new.self.items) c.in_ok-spans.ensures same)
     (subst (λ l. IsLeastDouble l c.in-Some.at) c.deref.ensures.value c.in-Some.ensures)

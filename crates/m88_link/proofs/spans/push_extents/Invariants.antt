@@ -3,4 +3,4 @@ use Rattle.m88_link.specs.Layout.{extent}
 use Rattle.m88_link.proofs.spans.push_extents.Given as goal
 
 abbrev pub invariant-loop-section : goal.invariant-loop-section
-invariant-loop-section l = l.spans.items ≡ l.initial.spans.items ++ map (extent l.standing) (take l.section-index l.sections)
+invariant-loop-section l = l.spans.items ≡ l.initial.spans.items ++ map (extent l.placement) (take l.section-index l.sections)
