@@ -9,9 +9,7 @@ ghost use Rattle.m88_srec.specs.Loads.{GivesLoad, load_seen};
 use crate::fault::{SrecFault, SrecKind};
 use crate::form::Form;
 use crate::purpose::Purpose;
-use crate::record::{
-    bytes_of, check_of, count, following, is_miscounted, number_of_bytes, record_form,
-};
+use crate::record::{address_of, bytes_of, check_of, count, following, is_miscounted, record_form};
 use m88_base::{Image, ImageFault};
 use std::alloc::Global;
 
@@ -97,7 +95,7 @@ impl Loading {
         let (_, behind_count) = bytes.split_at(1);
         let (address, _) = behind_count.split_at(width);
         let (_, given) = counted.split_at(width + 1);
-        self.carry_out(purpose, number_of_bytes(address), given)
+        self.carry_out(purpose, address_of(address), given)
     }
 
     /// Does what a record is for.

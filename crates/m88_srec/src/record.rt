@@ -1,7 +1,7 @@
 //! The form of a line: an `S`, a type digit and pairs of hexadecimal digits; and what stands in its bytes.
 ghost use Rattle.std.specs.Prelude.{◌≡◌, ◌+◌, ◌-◌, ◌*◌, ◌≤◌, ◌<◌, ◌%◌, ◌^◌, false, length, option_map, sum, IfSome};
 ghost use Rattle.m88_srec.specs.Records.{bytes_in, check_of, is_bare, type_of};
-ghost use Rattle.m88_srec.specs.Accepted.{number_of_bytes};
+ghost use Rattle.m88_srec.specs.Accepted.{address_of};
 ghost use Rattle.m88_srec.specs.Verdict.{following, record_form, is_miscounted, written_count};
 ghost use Rattle.m88_srec.specs.Forms.{form_seen, type_seen};
 
@@ -115,11 +115,11 @@ pub fn check_of(bytes: &[u8]) -> u8
     255 - (sum % 256) as u8
 }
 
-/// The number of the bytes of an address, the highest first.
-pub fn number_of_bytes(bytes: &[u8]) -> u32
+/// The address that bytes write, or the number in its place, the highest byte first.
+pub fn address_of(bytes: &[u8]) -> u32
     requires some { 2 ≤ length bytes.now }
     requires narrow { length bytes.now ≤ 4 }
-    ensures { result ≡ number_of_bytes bytes.now }
+    ensures { result ≡ address_of bytes.now }
 {
     match bytes {
         [a, b] => u32::from_be_bytes([0, 0, *a, *b]),
