@@ -1,5 +1,4 @@
 -- What only helps the proofs: code, then texts read, then listings read and laid out.
-pub mod Digits
 pub mod Names
 pub mod Lines
 pub mod Sizes

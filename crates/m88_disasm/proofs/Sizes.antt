@@ -8,11 +8,12 @@ use Rattle.m88_base.specs.Image.{IsImage, ProgramImage, byte_count, parts}
 use Rattle.m88_base.specs.Lines.{line_end}
 use Rattle.m88_base.specs.Placed.{Placed, count_among}
 use Rattle.m88_disasm.specs.Listing.{place_line, start_line}
+use Rattle.m88_disasm.specs.declared.lister.TheConstants.{MOST_LINE}
 
 -- one part more
 pub more_room : (runs : List Placed) (k : ℕ) (run : Placed) (t0 t1 t2 t3 : List ℕ) → slice_get runs k ≡ Some run
     → 0 < length run.bytes → length t1 ≤ length t0 + 64 * count_among (take k runs)
-    → t2 ≡ t1 ++ (place_line run.at ++ line_end) → length t3 ≤ length t2 + 49 * length run.bytes
+    → t2 ≡ t1 ++ (place_line run.at ++ line_end) → length t3 ≤ length t2 + MOST_LINE * length run.bytes
     → length t3 ≤ length t0 + 64 * count_among (take (k + 1) runs)
 more_room runs k run t0 t1 t2 t3 found some before place own =
     let more : take (k + 1) runs ≡ take k runs ++ run ∷ [] =

@@ -1,7 +1,7 @@
 -- The listing of an image: a source in the assembly language that writes the same bytes at the same addresses, and the
 -- same start. It names the start, and then each part of the image in order of address: the address of the part and a
 -- line for each of its words and of its bytes that belong to no whole word.
-use Rattle.std.specs.Prelude.{◌≡◌, ℕ, ◌+◌, ◌%◌, ◌≤◌, List, [], ◌∷◌, ◌++◌, codes, length, flat_map}
+use Rattle.std.specs.Prelude.{◌≡◌, ℕ, ◌+◌, ◌%◌, ◌≤◌, List, [], ◌∷◌, ◌++◌, codes, length}
 use Rattle.std.specs.Int.{from_be_bytes, w32}
 use Rattle.m88_base.specs.Hex.{hex2}
 use Rattle.m88_base.specs.Image.{ProgramImage, parts}

@@ -6,12 +6,16 @@ ghost use Rattle.m88_base.specs.Placed.{count_among};
 ghost use Rattle.m88_disasm.specs.Appended.{BytesAppended, LineAppended, LinesAppended};
 ghost use Rattle.m88_disasm.specs.Listing.{AreLines, ArePartLines, BeginsWord, IsListing, IsWordLine, lone_byte_line, place_line, start_line};
 ghost use Rattle.m88_disasm.specs.Read.{WritesImage};
-ghost use Rattle.m88_disasm.specs.Text.{hexadecimal, word_text};
+ghost use Rattle.m88_disasm.specs.Text.{hexadecimal};
 
+use crate::put::MOST_TEXT;
 use crate::text::text_of;
 use m88_base::{Image, NoMemory, push_hex2, push_hex8};
 use m88_codec::{BadWord, decode, word_at};
 use std::alloc::{AllocError, Global};
+
+/// The most bytes of the line of a word or a byte: a text and the line end.
+const MOST_LINE: usize = MOST_TEXT + 1;
 
 /// Appends 0x, a word in eight digits, and a line end.
 fn push_hexadecimal(text: &mut Vec<u8>, n: u32) -> Result<(), AllocError>
@@ -61,7 +65,7 @@ fn push_line(text: &mut Vec<u8>, line: &[u8]) -> Result<(), AllocError>
 /// Appends the line of a word.
 fn push_word(text: &mut Vec<u8>, word: u32) -> Result<(), AllocError>
     ensures line { OnOk result (LineAppended (IsWordLine word) text.old.items text.new.items) }
-    ensures room { OnOk result (length text.new.items ≤ length text.old.items + 49) }
+    ensures room { OnOk result (length text.new.items ≤ length text.old.items + MOST_LINE) }
 {
     match decode(word) {
         Ok(instr) => {
@@ -88,7 +92,7 @@ fn push_first(text: &mut Vec<u8>, at: u32, bytes: &[u8]) -> Result<usize, AllocE
     requires { 0 < length bytes.now }
     ensures appended { IfOk result
         (λ n. BytesAppended at bytes.now text.old.items text.new.items n) }
-    ensures room { IfOk result (λ n. length text.new.items ≤ length text.old.items + 49 * n) }
+    ensures room { IfOk result (λ n. length text.new.items ≤ length text.old.items + MOST_LINE * n) }
     ensures some { IfOk result (λ n. 0 < n) }
     ensures within { IfOk result (λ n. n ≤ length bytes.now) }
 {
@@ -107,7 +111,7 @@ fn push_bytes(text: &mut Vec<u8>, at: u32, bytes: &[u8]) -> Result<(), AllocErro
     ensures lines { OnOk result
         (LinesAppended (AreLines at bytes.now) text.old.items text.new.items) }
     ensures room { OnOk result
-        (length text.new.items ≤ length text.old.items + 49 * length bytes.now) }
+        (length text.new.items ≤ length text.old.items + MOST_LINE * length bytes.now) }
 {
     let mut done = 0;
     while done < bytes.len() {

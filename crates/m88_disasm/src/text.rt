@@ -10,16 +10,15 @@ use super::mnemonics::{
     of_ldcr, of_mem, of_reg, of_stcr, of_trap_bit, of_xcr,
 };
 use super::put::{
-    begun, put_condition, put_control, put_field, put_half, put_register, put_scaled, put_short,
-    put_target, put_word,
+    InstrText, begun, put_condition, put_control, put_field, put_number, put_register, put_scaled,
+    put_target,
 };
-use arrayvec::ArrayString;
-use m88_base::Reg;
+use m88_base::{Reg, hex_digit};
 use m88_codec::encode;
 use m88_isa::{BitOp, Instr, Mnemonic};
 
 /// rD,rS1 and a number.
-fn immediate(mnemonic: Mnemonic, d: Reg, s1: Reg, imm: u16) -> ArrayString<48>
+fn immediate(mnemonic: Mnemonic, d: Reg, s1: Reg, imm: u16) -> InstrText
     ensures { result.bytes ≡ spelled mnemonic
         (register_name d ∷ register_name s1 ∷ decimal imm ∷ []) }
 {
@@ -28,12 +27,12 @@ fn immediate(mnemonic: Mnemonic, d: Reg, s1: Reg, imm: u16) -> ArrayString<48>
     text.push_str(",");
     put_register(&mut text, s1);
     text.push_str(",");
-    put_half(&mut text, imm);
+    put_number(&mut text, imm);
     text
 }
 
 /// rD,rS1,rS2
-fn registers(mnemonic: Mnemonic, d: Reg, s1: Reg, s2: Reg) -> ArrayString<48>
+fn registers(mnemonic: Mnemonic, d: Reg, s1: Reg, s2: Reg) -> InstrText
     ensures { result.bytes ≡ spelled mnemonic
         (register_name d ∷ register_name s1 ∷ register_name s2 ∷ []) }
 {
@@ -47,7 +46,7 @@ fn registers(mnemonic: Mnemonic, d: Reg, s1: Reg, s2: Reg) -> ArrayString<48>
 }
 
 /// rD,rS1[rS2]
-fn scaled_index(mnemonic: Mnemonic, d: Reg, s1: Reg, s2: Reg) -> ArrayString<48>
+fn scaled_index(mnemonic: Mnemonic, d: Reg, s1: Reg, s2: Reg) -> InstrText
     ensures { result.bytes ≡ spelled mnemonic (register_name d ∷ scaled s1 s2 ∷ []) }
 {
     let mut text = begun(mnemonic);
@@ -58,7 +57,7 @@ fn scaled_index(mnemonic: Mnemonic, d: Reg, s1: Reg, s2: Reg) -> ArrayString<48>
 }
 
 /// rD,rS1[rS2] or rD,rS1,rS2.
-fn index(mnemonic: Mnemonic, d: Reg, s1: Reg, s2: Reg, is_scaled: bool) -> ArrayString<48>
+fn index(mnemonic: Mnemonic, d: Reg, s1: Reg, s2: Reg, is_scaled: bool) -> InstrText
     ensures { result.bytes ≡ spelled mnemonic (index_operands d s1 s2 is_scaled) }
 {
     if is_scaled {
@@ -69,7 +68,7 @@ fn index(mnemonic: Mnemonic, d: Reg, s1: Reg, s2: Reg, is_scaled: bool) -> Array
 }
 
 /// rD,rS1 and a literal bit field.
-fn literal(op: BitOp, d: Reg, s1: Reg, width: u8, offset: u8) -> ArrayString<48>
+fn literal(op: BitOp, d: Reg, s1: Reg, width: u8, offset: u8) -> InstrText
     ensures { result.bytes ≡ spelled (of_bits op)
         (register_name d ∷ register_name s1 ∷ field op width offset ∷ []) }
 {
@@ -83,7 +82,7 @@ fn literal(op: BitOp, d: Reg, s1: Reg, width: u8, offset: u8) -> ArrayString<48>
 }
 
 /// Two registers.
-fn pair(mnemonic: Mnemonic, first: Reg, second: Reg) -> ArrayString<48>
+fn pair(mnemonic: Mnemonic, first: Reg, second: Reg) -> InstrText
     ensures { result.bytes ≡ spelled mnemonic (register_name first ∷ register_name second ∷ []) }
 {
     let mut text = begun(mnemonic);
@@ -94,7 +93,7 @@ fn pair(mnemonic: Mnemonic, first: Reg, second: Reg) -> ArrayString<48>
 }
 
 /// A target.
-fn branch(mnemonic: Mnemonic, words: i32) -> ArrayString<48>
+fn branch(mnemonic: Mnemonic, words: i32) -> InstrText
     requires { FitsWords 25 words }
     ensures { result.bytes ≡ spelled mnemonic (target_operand words ∷ []) }
 {
@@ -104,21 +103,21 @@ fn branch(mnemonic: Mnemonic, words: i32) -> ArrayString<48>
 }
 
 /// A bit, rS1 and a target.
-fn branch_on_bit(mnemonic: Mnemonic, bit: u8, s1: Reg, words: i16) -> ArrayString<48>
+fn branch_on_bit(mnemonic: Mnemonic, bit: u8, s1: Reg, words: i16) -> InstrText
     ensures { result.bytes ≡ spelled mnemonic
         (decimal bit ∷ register_name s1 ∷ target_operand words ∷ []) }
 {
     let mut text = begun(mnemonic);
-    put_short(&mut text, bit);
+    put_number(&mut text, bit);
     text.push_str(",");
     put_register(&mut text, s1);
     text.push_str(",");
-    put_target(&mut text, words as i32);
+    put_target(&mut text, i32::from(words));
     text
 }
 
 /// A condition, rS1 and a target.
-fn branch_on_condition(mnemonic: Mnemonic, mask: u8, s1: Reg, words: i16) -> ArrayString<48>
+fn branch_on_condition(mnemonic: Mnemonic, mask: u8, s1: Reg, words: i16) -> InstrText
     ensures { result.bytes ≡ spelled mnemonic
         (condition mask ∷ register_name s1 ∷ target_operand words ∷ []) }
 {
@@ -127,12 +126,12 @@ fn branch_on_condition(mnemonic: Mnemonic, mask: u8, s1: Reg, words: i16) -> Arr
     text.push_str(",");
     put_register(&mut text, s1);
     text.push_str(",");
-    put_target(&mut text, words as i32);
+    put_target(&mut text, i32::from(words));
     text
 }
 
 /// One register.
-fn single(mnemonic: Mnemonic, r: Reg) -> ArrayString<48>
+fn single(mnemonic: Mnemonic, r: Reg) -> InstrText
     ensures { result.bytes ≡ spelled mnemonic (register_name r ∷ []) }
 {
     let mut text = begun(mnemonic);
@@ -141,21 +140,21 @@ fn single(mnemonic: Mnemonic, r: Reg) -> ArrayString<48>
 }
 
 /// A bit, rS1 and a vector.
-fn trap_on_bit(mnemonic: Mnemonic, bit: u8, s1: Reg, vector: u16) -> ArrayString<48>
+fn trap_on_bit(mnemonic: Mnemonic, bit: u8, s1: Reg, vector: u16) -> InstrText
     ensures { result.bytes ≡ spelled mnemonic
         (decimal bit ∷ register_name s1 ∷ decimal vector ∷ []) }
 {
     let mut text = begun(mnemonic);
-    put_short(&mut text, bit);
+    put_number(&mut text, bit);
     text.push_str(",");
     put_register(&mut text, s1);
     text.push_str(",");
-    put_half(&mut text, vector);
+    put_number(&mut text, vector);
     text
 }
 
 /// A condition, rS1 and a vector.
-fn trap_on_condition(mask: u8, s1: Reg, vector: u16) -> ArrayString<48>
+fn trap_on_condition(mask: u8, s1: Reg, vector: u16) -> InstrText
     ensures { result.bytes ≡ spelled Mnemonic.Tcnd
         (condition mask ∷ register_name s1 ∷ decimal vector ∷ []) }
 {
@@ -164,33 +163,33 @@ fn trap_on_condition(mask: u8, s1: Reg, vector: u16) -> ArrayString<48>
     text.push_str(",");
     put_register(&mut text, s1);
     text.push_str(",");
-    put_half(&mut text, vector);
+    put_number(&mut text, vector);
     text
 }
 
 /// rS1 and a number.
-fn bound(s1: Reg, imm: u16) -> ArrayString<48>
+fn bound(s1: Reg, imm: u16) -> InstrText
     ensures { result.bytes ≡ spelled Mnemonic.Tbnd (register_name s1 ∷ decimal imm ∷ []) }
 {
     let mut text = begun(Mnemonic::Tbnd);
     put_register(&mut text, s1);
     text.push_str(",");
-    put_half(&mut text, imm);
+    put_number(&mut text, imm);
     text
 }
 
 /// The mnemonic alone.
 #[tactic(auto, using(crate::proofs::Names::name_short))]
-fn alone(mnemonic: Mnemonic) -> ArrayString<48>
+fn alone(mnemonic: Mnemonic) -> InstrText
     ensures { result.bytes ≡ spelled mnemonic [] }
 {
-    let mut text = ArrayString::new();
+    let mut text = InstrText::new();
     text.push_str(mnemonic.text());
     text
 }
 
 /// A register and a control register.
-fn with_control(mnemonic: Mnemonic, r: Reg, float: bool, cr: u8) -> ArrayString<48>
+fn with_control(mnemonic: Mnemonic, r: Reg, float: bool, cr: u8) -> InstrText
     ensures { result.bytes ≡ spelled mnemonic (register_name r ∷ control float cr ∷ []) }
 {
     let mut text = begun(mnemonic);
@@ -201,7 +200,7 @@ fn with_control(mnemonic: Mnemonic, r: Reg, float: bool, cr: u8) -> ArrayString<
 }
 
 /// Two registers and a control register.
-fn exchange(d: Reg, s1: Reg, cr: u8, float: bool) -> ArrayString<48>
+fn exchange(d: Reg, s1: Reg, cr: u8, float: bool) -> InstrText
     ensures { result.bytes ≡ spelled (of_xcr float)
         (register_name d ∷ register_name s1 ∷ control float cr ∷ []) }
 {
@@ -215,17 +214,20 @@ fn exchange(d: Reg, s1: Reg, cr: u8, float: bool) -> ArrayString<48>
 }
 
 /// A word by itself.
-fn word(word: u32) -> ArrayString<48>
+fn word(word: u32) -> InstrText
     ensures { result.bytes ≡ word_text word }
 {
-    let mut text = ArrayString::new();
-    put_word(&mut text, word);
+    let mut text = InstrText::new();
+    text.push_str(".word 0x");
+    for shift in [28, 24, 20, 16, 12, 8, 4, 0] {
+        text.push(char::from(hex_digit((word >> shift) % 16)));
+    }
     text
 }
 
 /// The text of an instruction, by its form.
 #[tactic(auto, unfolding(crate::specs::Text::instr_text))]
-fn by_form(instr: &Instr) -> ArrayString<48>
+fn by_form(instr: &Instr) -> InstrText
     requires { IsValid instr.now }
     ensures { result.bytes ≡ instr_text instr.now }
 {
@@ -290,7 +292,7 @@ fn by_form(instr: &Instr) -> ArrayString<48>
 /// The text of an instruction in the assembly language: its mnemonic, a blank, and its operands with a comma between
 /// each two and no other blank ("Instruction Set": the assembler syntax of each instruction). A branch names its
 /// target by the distance in bytes from itself, and a word of a special function unit is written by itself.
-pub fn text_of(instr: &Instr) -> ArrayString<48>
+pub fn text_of(instr: &Instr) -> InstrText
     requires { IsValid instr.now }
     ensures value { result.bytes ≡ instr_text instr.now }
 

@@ -1,9 +1,9 @@
 -- Bytes cut into the lines of sixteen, and texts of lines put together.
-use Rattle.std.proofs.Common.{◌≡◌, ℕ, zero, suc, ◌+◌, ◌-◌, ◌<◌, ◌≤◌, min, List, [], ◌∷◌, ◌++◌, length, take, drop, sym, refl, ap, ◌∙◌, append_assoc, append-nil, arith, inl, inr}
+use Rattle.std.proofs.Common.{◌≡◌, ℕ, zero, suc, ◌+◌, ◌<◌, ◌≤◌, min, List, [], ◌∷◌, ◌++◌, length, take, drop, sym, refl, ap, ◌∙◌, append_assoc, append-nil, arith, inl, inr}
 use Rattle.std.proofs.lemmas.Bool.{cases_lt}
 use Rattle.std.specs.List.{flat_map}
 use Rattle.std.proofs.lemmas.List.Concat.{flat_map-append}
-use Rattle.std.proofs.lemmas.List.{take_all, drop_all, drop-drop, length-drop, take_more}
+use Rattle.std.proofs.lemmas.List.{take_all, drop_all, take_at, drop_at, nil_from_length, take_more}
 use Rattle.std.proofs.lemmas.Option.{get_or_from_slice_get, slice_get_within}
 use Rattle.std.specs.Prelude.{Some, slice_get}
 use Rattle.m88_base.specs.Image.{ProgramImage, parts}
@@ -69,25 +69,28 @@ more_text front now all at n bytes some e now_is before =
     ∙ ap (λ (ls : List (List ℕ)). front ++ text_of_lines ls) (sym (next_line at n bytes some e))
     ∙ before
 
-pub more_of_part : (front now all : List ℕ) (at done n : ℕ) (bytes : List ℕ) → done < length bytes → n ≡ min (length bytes - done) 16
-    → now ≡ front ++ (data_line (at + done) (take n (drop done bytes)) ++ line_end)
-    → front ++ text_of_lines (data_lines 0 (at + done) (drop done bytes)) ≡ all
-    → now ++ text_of_lines (data_lines 0 (at + (done + n)) (drop (done + n) bytes)) ≡ all
-more_of_part front now all at done n bytes some e now_is before =
-    let len = length-drop done bytes in
-    let size : n ≡ min (length (drop done bytes)) 16 = rw len e in
-    let next : at + done + n ≡ at + (done + n) = omega arith in
-    ap (λ (xs : List ℕ). now ++ text_of_lines (data_lines 0 (at + (done + n)) xs)) (sym (drop-drop n done bytes))
-    ∙ ap (λ (k : ℕ). now ++ text_of_lines (data_lines 0 k (drop n (drop done bytes)))) (sym next)
-    ∙ more_text front now all (at + done) n (drop done bytes) (omega (arith, len)) size now_is before
+-- one piece more of some bytes
+pub more_of_part : (front now all piece rest bytes : List ℕ) (at done : ℕ) → bytes ≡ piece ++ rest
+    → length piece ≡ min 16 (length bytes) → 0 < length bytes
+    → now ≡ front ++ (data_line (at + done) piece ++ line_end)
+    → front ++ text_of_lines (data_lines 0 (at + done) bytes) ≡ all
+    → now ++ text_of_lines (data_lines 0 (at + (done + length piece)) rest) ≡ all
+more_of_part front now all piece rest bytes at done parts size some now_is before =
+    let n : ℕ = length piece in
+    let taken : take n bytes ≡ piece = ap (take n) parts ∙ take_at piece rest n refl in
+    let left : drop n bytes ≡ rest = ap (drop n) parts ∙ drop_at piece rest n refl in
+    let next : at + (done + n) ≡ at + done + n = omega arith in
+    ap (λ (k : ℕ). now ++ text_of_lines (data_lines 0 k rest)) next
+    ∙ ap (λ (xs : List ℕ). now ++ text_of_lines (data_lines 0 (at + done + n) xs)) (sym left)
+    ∙ more_text front now all (at + done) n bytes some (omega (arith, size))
+    (now_is ∙ ap (λ (xs : List ℕ). front ++ (data_line (at + done) xs ++ line_end)) (sym taken)) before
 
--- the lines of all bytes
-pub end_of_part : (now all : List ℕ) (at done : ℕ) (bytes : List ℕ) → length bytes ≤ done
-    → now ++ text_of_lines (data_lines 0 (at + done) (drop done bytes)) ≡ all → now ≡ all
+-- no byte is left
+pub end_of_part : (now all rest : List ℕ) (at : ℕ) → length rest ≡ 0 → now ++ text_of_lines (data_lines 0 at rest) ≡ all
+    → now ≡ all
 unfolding data_lines
-end_of_part now all at done bytes h e =
-    let none : drop done bytes ≡ [] = drop_all done bytes h in
-    sym (append-nil now) ∙ ap (λ (xs : List ℕ). now ++ text_of_lines (data_lines 0 (at + done) xs)) (sym none) ∙ e
+end_of_part now all rest at none e =
+    sym (append-nil now) ∙ ap (λ (xs : List ℕ). now ++ text_of_lines (data_lines 0 at xs)) (sym (nil_from_length rest none)) ∙ e
 
 -- one part more
 pub more_parts : (old now later : List ℕ) (ps : List Placed) (i : ℕ) (p : Placed) → slice_get ps i ≡ Some p

@@ -4,7 +4,7 @@ use Rattle.std.specs.Prelude.{Option, Some, None, Result, Ok, Err, ◌^◌, ◌=
 use Rattle.std.proofs.lemmas.Bool.Decides.{nat_tests}
 use Rattle.m88_base.specs.Image.{most_bytes}
 use Rattle.m88_base.specs.Lines.{lines_of}
-use Rattle.m88_srec.specs.Accepted.{WriteEntries, ComeTo, Fits, IsAccepted, Whole, empty_line, ended, filled, headed, no_line, number_of_bytes, entry_line, tallied}
+use Rattle.m88_srec.specs.Accepted.{WriteEntries, ComeTo, Fits, IsAccepted, Whole, empty_line, ended, filled, headed, no_line, address_of, entry_line, tallied}
 use Rattle.m88_srec.specs.Placing.{Loaded, first_taken, is_beyond, nothing_loaded, with_data}
 use Rattle.m88_srec.specs.Records.{Entry, WritesEntry}
 use Rattle.m88_srec.specs.Verdict.{Load, acted, ended_on, go_on, judged, opening_load, placed, placed_on, verdict, verdict_from}
@@ -39,12 +39,12 @@ from_placed_on : (taken : Option ℕ) (load later : Load) (at : ℕ) (given : Li
 from_placed_on (Some a) load later at given e = absurd cc
 from_placed_on None load later at given e = (refl, cc)
 
-from_placed : (load later : Load) (entry : Entry) → placed load (number_of_bytes entry.address) entry.given ≡ Ok later
+from_placed : (load later : Load) (entry : Entry) → placed load (address_of entry.address) entry.given ≡ Ok later
     → Fits entry load.loaded
-    × (record { loaded = with_data (number_of_bytes entry.address) entry.given load.loaded; records = load.records + 1; start = load.start } ≡ later)
+    × (record { loaded = with_data (address_of entry.address) entry.given load.loaded; records = load.records + 1; start = load.start } ≡ later)
 unfolding placed
 from_placed load later entry e =
-    let at : ℕ = number_of_bytes entry.address in
+    let at : ℕ = address_of entry.address in
     let n : ℕ = length entry.given in
     let both = from_test (is_beyond at n load.loaded) TooLarge (placed_on (first_taken load.loaded.found at n) load at entry.given) later e in
     let small = both.0 in
@@ -66,7 +66,7 @@ from_placed load later entry e =
 -- the lines behind one that writes an entry, with that line
 taken_by : (loaded : Loaded) (n : ℕ) (later : Load) (entry : Entry) (line : List ℕ) (lines : List (List ℕ)) (whole : Whole) (p : Purpose)
     → entry.purpose ≡ p → WritesEntry entry line
-    → acted (open_load loaded n) p (number_of_bytes entry.address) entry.given ≡ Ok later
+    → acted (open_load loaded n) p (address_of entry.address) entry.given ≡ Ok later
     → Tells later.loaded later.records later.start lines whole
     → Tells loaded n None (line ∷ lines) whole
 unfolding acted
@@ -76,11 +76,11 @@ taken_by loaded n later entry line lines whole Header is written e t =
     (entry ∷ u.0, entry_line {entries = u.0} written u.1, (u.2.0, headed {whole = u.2.0} {entries = u.0} is u.2.1, u.2.2))
 taken_by loaded n later entry line lines whole Data is written e t =
     let on = from_placed (open_load loaded n) later entry e in
-    let u : Tells (with_data (number_of_bytes entry.address) entry.given loaded) (n + 1) None lines whole =
+    let u : Tells (with_data (address_of entry.address) entry.given loaded) (n + 1) None lines whole =
     subst (λ (l : Load). Tells l.loaded l.records l.start lines whole) (sym on.1) t in
     (entry ∷ u.0, entry_line {entries = u.0} written u.1, (u.2.0, filled {whole = u.2.0} {entries = u.0} is on.0 u.2.1, u.2.2))
 taken_by loaded n later entry line lines whole Tally is written e t =
-    let at : ℕ = number_of_bytes entry.address in
+    let at : ℕ = address_of entry.address in
     let test : Bool → Result Load SrecKind = λ b. if b then Ok (open_load loaded n) else Err (CountRecord at n) in
     by_bool (at == n)
     (λ yes.
@@ -90,7 +90,7 @@ taken_by loaded n later entry line lines whole Tally is written e t =
     (entry ∷ u.0, entry_line {entries = u.0} written u.1, (u.2.0, tallied {whole = u.2.0} {entries = u.0} is told u.2.1, u.2.2)))
     (λ no. absurd (let h : test false ≡ Ok later = subst (λ (b : Bool). test b ≡ Ok later) no e in cc))
 taken_by loaded n later entry line lines whole End is written e t =
-    let at : ℕ = number_of_bytes entry.address in
+    let at : ℕ = address_of entry.address in
     let closed : Load = record { loaded = loaded; records = n; start = Some at } in
     let same : closed ≡ later = cc in
     let u : Tells loaded n (Some at) lines whole = subst (λ (l : Load). Tells l.loaded l.records l.start lines whole) (sym same) t in
@@ -155,11 +155,11 @@ after_end number n loaded s ((b ∷ bs) ∷ lines) lines_of_none = elim lines_of
 
 -- data that fits is placed
 is_placed : (loaded : Loaded) (n : ℕ) (entry : Entry) → Fits entry loaded
-    → placed (open_load loaded n) (number_of_bytes entry.address) entry.given
-    ≡ Ok (open_load (with_data (number_of_bytes entry.address) entry.given loaded) (n + 1))
+    → placed (open_load loaded n) (address_of entry.address) entry.given
+    ≡ Ok (open_load (with_data (address_of entry.address) entry.given loaded) (n + 1))
 unfolding placed
 is_placed loaded n entry fits =
-    let at : ℕ = number_of_bytes entry.address in
+    let at : ℕ = address_of entry.address in
     let below = fits.below in
     let few = fits.few in
     let small : is_beyond at (length entry.given) loaded ≡ false = grind (arith, nat_tests) in
@@ -178,23 +178,23 @@ comes_true number loaded n entries ([] ∷ lines) last start (empty_line more) c
 comes_true number loaded n (entry ∷ entries) (line ∷ lines) last start (entry_line written more) (headed is rest) =
     goes number (open_load loaded n) (open_load loaded n) line lines (Ok (record { found = last.found; start = start }))
     (carried_by (open_load loaded n) entry line written refl
-    ∙ ap (λ p. acted (open_load loaded n) p (number_of_bytes entry.address) entry.given) is)
+    ∙ ap (λ p. acted (open_load loaded n) p (address_of entry.address) entry.given) is)
     (comes_true (number + 1) loaded n entries lines last start more rest)
 comes_true number loaded n (entry ∷ entries) (line ∷ lines) last start (entry_line written more) (filled is fits rest) =
-    goes number (open_load loaded n) (open_load (with_data (number_of_bytes entry.address) entry.given loaded) (n + 1)) line lines (Ok (record { found = last.found; start = start }))
+    goes number (open_load loaded n) (open_load (with_data (address_of entry.address) entry.given loaded) (n + 1)) line lines (Ok (record { found = last.found; start = start }))
     (carried_by (open_load loaded n) entry line written refl
-    ∙ ap (λ p. acted (open_load loaded n) p (number_of_bytes entry.address) entry.given) is
+    ∙ ap (λ p. acted (open_load loaded n) p (address_of entry.address) entry.given) is
     ∙ is_placed loaded n entry fits)
-    (comes_true (number + 1) (with_data (number_of_bytes entry.address) entry.given loaded) (n + 1) entries lines last start more rest)
+    (comes_true (number + 1) (with_data (address_of entry.address) entry.given loaded) (n + 1) entries lines last start more rest)
 comes_true number loaded n (entry ∷ entries) (line ∷ lines) last start (entry_line written more) (tallied is same rest) =
-    let at : ℕ = number_of_bytes entry.address in
+    let at : ℕ = address_of entry.address in
     goes number (open_load loaded n) (open_load loaded n) line lines (Ok (record { found = last.found; start = start }))
     (carried_by (open_load loaded n) entry line written refl
     ∙ ap (λ p. acted (open_load loaded n) p at entry.given) is
     ∙ ap (λ (b : Bool). if b then Ok (open_load loaded n) else Err (CountRecord at n)) (eq-eqb at n same))
     (comes_true (number + 1) loaded n entries lines last start more rest)
 comes_true number loaded n (entry ∷ []) (line ∷ lines) last start (entry_line written more) (ended is) =
-    let at : ℕ = number_of_bytes entry.address in
+    let at : ℕ = address_of entry.address in
     goes number (open_load loaded n) (record { loaded = loaded; records = n; start = Some at }) line lines (Ok (record { found = loaded.found; start = at }))
     (carried_by (open_load loaded n) entry line written refl
     ∙ ap (λ p. acted (open_load loaded n) p at entry.given) is)

@@ -3,7 +3,7 @@ use Rattle.std.proofs.Common.{◌≡◌, ℕ, ◌+◌, ◌≤◌, Bool, true, fa
 use Rattle.std.specs.Prelude.{Option, Some, None, Result, Ok, Err, ◌==◌, ◌&&◌, is_some, nat_lt, not, ◌||◌, slice_index, if◌then◌else◌}
 use Rattle.std.proofs.lemmas.Bool.Decides.{nat_tests}
 use Rattle.std.proofs.lemmas.List.{drop_all, length-drop, length-take-le}
-use Rattle.m88_srec.specs.Accepted.{number_of_bytes}
+use Rattle.m88_srec.specs.Accepted.{address_of}
 use Rattle.m88_srec.specs.Records.{Entry, WritesEntry, RecordType, are_pairs, bytes_in, check_of, counted, framed, is_bare, letter_s, record_type, type_of}
 use Rattle.m88_srec.specs.Verdict.{Formed, Load, record_address, acted, computed_sum, record_data, following, record_form, formed_as, formed_on, framed_on, is_miscounted, judged, summed, written_count, written_sum}
 use Rattle.m88_srec.specs.declared.fault.SrecKind.{SrecKind}
@@ -15,7 +15,7 @@ use Rattle.m88_srec.proofs.Framing.{address-framed, count_in_frame, data-framed,
 pub record TakesEntry (load later : Load) (line : List ℕ) : Type 0 where
   pub entry : Entry
   pub written : WritesEntry entry line
-  pub carried : acted load entry.purpose (number_of_bytes entry.address) entry.given ≡ Ok later
+  pub carried : acted load entry.purpose (address_of entry.address) entry.given ≡ Ok later
 
 -- what a count that is right says
 record RightCount (f : Formed) : Type 0 where
@@ -168,7 +168,7 @@ given_in_frame entry =
 
 -- a line that writes an entry is taken for it
 pub carried_by : (load : Load) (entry : Entry) (line : List ℕ) → WritesEntry entry line → is_some load.start ≡ false
-    → judged load line ≡ acted load entry.purpose (number_of_bytes entry.address) entry.given
+    → judged load line ≡ acted load entry.purpose (address_of entry.address) entry.given
 unfolding judged framed_on summed
 carried_by load entry line w open_end =
     let f : Formed = form_for entry in
@@ -177,5 +177,5 @@ carried_by load entry line w open_end =
     ∙ ap (formed_on load) (ap record_form (sym w.line_is) ∙ form_of_entry entry line w)
     ∙ ap (λ (b : Bool). if b then Err (Count (written_count f) (following f)) else summed load f) (is_counted entry w.bare)
     ∙ ap (λ (b : Bool). if b then acted load entry.purpose (record_address f) (record_data f) else Err (Sum (written_sum f) (computed_sum f))) (sum_is_right entry)
-    ∙ ap (λ (xs : List ℕ). acted load entry.purpose (number_of_bytes xs) (record_data f)) (address-framed entry.address entry.given)
-    ∙ ap (acted load entry.purpose (number_of_bytes entry.address)) (given_in_frame entry)
+    ∙ ap (λ (xs : List ℕ). acted load entry.purpose (address_of xs) (record_data f)) (address-framed entry.address entry.given)
+    ∙ ap (acted load entry.purpose (address_of entry.address)) (given_in_frame entry)

@@ -15,7 +15,7 @@ use Rattle.m88_base.specs.Placed.{AreApart, Placed, byte_among, byte_in, count_a
 use Rattle.m88_base.specs.Image.{most_bytes}
 use Rattle.m88_base.proofs.Lookup.{byte_in-join, byte_in_from, byte_in_above, byte_in_below, option_or-none, option_or_assoc}
 use Rattle.std.proofs.lemmas.Bool.{cases_lt}
-use Rattle.m88_srec.specs.Accepted.{WriteEntries, ComeTo, Fits, IsAccepted, empty_line, ended, entry_line, filled, headed, no_line, number_of_bytes, whole_of}
+use Rattle.m88_srec.specs.Accepted.{WriteEntries, ComeTo, Fits, IsAccepted, empty_line, ended, entry_line, filled, headed, no_line, address_of, whole_of}
 use Rattle.m88_base.specs.Hex.{hex2}
 use Rattle.m88_srec.specs.Placing.{Loaded, nothing_loaded, with_data}
 use Rattle.m88_srec.specs.Records.{Entry, WritesEntry, check_of, counted, framed, is_bare, record_type, type_of}
@@ -52,7 +52,7 @@ line_of_entry entry digit type_is bytes bare = record {
 address_bytes : (n : ℕ) → AreBytes (to_be_bytes w32 n)
 address_bytes n = (omega arith, (omega arith, (omega arith, (omega arith, tt))))
 
-address_number : (n : ℕ) → n < 2 ^ 32 → number_of_bytes (to_be_bytes w32 n) ≡ n
+address_number : (n : ℕ) → n < 2 ^ 32 → address_of (to_be_bytes w32 n) ≡ n
 address_number n h = omega arith
 
 -- the entries of a text
@@ -113,7 +113,7 @@ one_line : (at : ℕ) (given : List ℕ) (loaded : Loaded) → 0 < length given 
     → ((a : ℕ) → at ≤ a → loaded.found a ≡ None) → length given ≤ 16 → AreBytes given
     → Leads (data_line at given ∷ []) loaded (with_data at given loaded)
 one_line at given loaded some below few free small h =
-    let e : number_of_bytes (to_be_bytes w32 at) ≡ at = address_number at (omega arith) in
+    let e : address_of (to_be_bytes w32 at) ≡ at = address_number at (omega arith) in
     let fits : Fits (data_entry at given) loaded = record {
       below = subst (λ (k : ℕ). k + length given ≤ 2 ^ 32) (sym e) below;
       few = few;
@@ -272,7 +272,7 @@ unfolding srec_text byte_at
 text_is_accepted image apart pieces few start =
     let body = parts_lead 0 (parts image) nothing_loaded apart pieces (omega arith) (λ a h. refl) in
     let last : Loaded = with_parts (parts image) nothing_loaded in
-    let told : number_of_bytes (to_be_bytes w32 image.start) ≡ image.start = address_number image.start start in
+    let told : address_of (to_be_bytes w32 image.start) ≡ image.start = address_number image.start start in
     let end : (m : ℕ) → ComeTo last m (end_entry image.start ∷ []) last image.start =
     λ m. subst (ComeTo last m (end_entry image.start ∷ []) last) told (ended refl) in
     record {

@@ -9,9 +9,9 @@ use Rattle.m88_srec.specs.Placing.{Loaded, nothing_loaded, with_data}
 use Rattle.m88_srec.specs.Records.{Entry, WritesEntry}
 use Rattle.m88_srec.specs.declared.purpose.Purpose.TheVariants.{Header, Data, Tally, End}
 
--- the number of some bytes, the highest first
-abbrev pub number_of_bytes : List ℕ → ℕ
-number_of_bytes bytes = fold (λ n b. n * 2 ^ 8 + b) 0 bytes
+-- the address that bytes write, or the number in its place, the highest byte first
+abbrev pub address_of : List ℕ → ℕ
+address_of bytes = fold (λ n b. n * 2 ^ 8 + b) 0 bytes
 
 -- lines write entries: each is empty or writes the next of them
 pub data WriteEntries : List Entry → List (List ℕ) → Type 0 where
@@ -24,9 +24,9 @@ pub data WriteEntries : List Entry → List (List ℕ) → Type 0 where
 -- an entry's data fits behind what was loaded: no byte past the last address, not more than an image has, none given
 -- twice
 pub record Fits (entry : Entry) (loaded : Loaded) : Type 0 where
-  pub below : number_of_bytes entry.address + length entry.given ≤ 2 ^ 32
+  pub below : address_of entry.address + length entry.given ≤ 2 ^ 32
   pub few : loaded.count + length entry.given ≤ most_bytes
-  pub free : IsFree loaded.found (number_of_bytes entry.address) (length entry.given)
+  pub free : IsFree loaded.found (address_of entry.address) (length entry.given)
 
 -- behind what was loaded by a number of records, entries come to a whole and its start address: records that head the
 -- text say nothing, each that loads adds its data, each that counts tells the number of those before it that load,
@@ -36,13 +36,13 @@ pub data ComeTo : Loaded → ℕ → List Entry → Loaded → ℕ → Type 0 wh
       → entry.purpose ≡ Header → ComeTo loaded n entries whole start → ComeTo loaded n (entry ∷ entries) whole start
   filled : {loaded whole : Loaded} {n start : ℕ} {entry : Entry} {entries : List Entry}
       → entry.purpose ≡ Data → Fits entry loaded
-      → ComeTo (with_data (number_of_bytes entry.address) entry.given loaded) (n + 1) entries whole start
+      → ComeTo (with_data (address_of entry.address) entry.given loaded) (n + 1) entries whole start
       → ComeTo loaded n (entry ∷ entries) whole start
   tallied : {loaded whole : Loaded} {n start : ℕ} {entry : Entry} {entries : List Entry}
-      → entry.purpose ≡ Tally → number_of_bytes entry.address ≡ n
+      → entry.purpose ≡ Tally → address_of entry.address ≡ n
       → ComeTo loaded n entries whole start → ComeTo loaded n (entry ∷ entries) whole start
   ended : {loaded : Loaded} {n : ℕ} {entry : Entry}
-      → entry.purpose ≡ End → ComeTo loaded n (entry ∷ []) loaded (number_of_bytes entry.address)
+      → entry.purpose ≡ End → ComeTo loaded n (entry ∷ []) loaded (address_of entry.address)
 
 -- what a text writes: the byte at an address, where there is one, and the start address
 pub record Whole : Type 0 where

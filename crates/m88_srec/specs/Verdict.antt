@@ -2,7 +2,7 @@
 -- fault. Of the reasons that a line can be refused for, the first that applies counts.
 use Rattle.std.specs.Prelude.{ℕ, Bool, List, [], ◌∷◌, Option, Some, None, Result, Ok, Err, ◌+◌, ◌-◌, ◌==◌, ◌&&◌, ◌||◌, drop, is_some, length, nat_lt, not, slice_index, take, if◌then◌else◌}
 use Rattle.m88_base.specs.Lines.{lines_of}
-use Rattle.m88_srec.specs.Accepted.{Whole, number_of_bytes}
+use Rattle.m88_srec.specs.Accepted.{Whole, address_of}
 use Rattle.m88_srec.specs.Placing.{Loaded, first_taken, is_beyond, nothing_loaded, with_data}
 use Rattle.m88_srec.specs.Records.{RecordType, are_pairs, bytes_in, check_of, is_bare, letter_s, type_of}
 use Rattle.m88_srec.specs.declared.purpose.Purpose.{Purpose}
@@ -65,7 +65,7 @@ computed_sum f = check_of (take (following f) f.bytes)
 
 -- the address of a record
 abbrev pub record_address : Formed → ℕ
-record_address f = number_of_bytes (take f.width (drop 1 f.bytes))
+record_address f = address_of (take f.width (drop 1 f.bytes))
 
 -- its data
 abbrev pub record_data : Formed → List ℕ

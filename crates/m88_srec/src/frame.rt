@@ -12,9 +12,18 @@ use arrayvec::ArrayVec;
 use m88_base::push_hex2;
 use std::alloc::AllocError;
 
+/// The most bytes of data in a record that is written.
+pub const MOST_DATA: usize = 16;
+
+/// The most bytes of a body: an address and data.
+const MOST_BODY: usize = 4 + MOST_DATA;
+
+/// The most bytes of a record: the count, a body and the sum.
+const MOST_BYTES: usize = MOST_BODY + 2;
+
 /// The bytes of a record: the count, the body and the sum.
-fn framed(body: &[u8]) -> ArrayVec<u8, 22>
-    requires { length body.now ≤ 20 }
+fn framed(body: &[u8]) -> ArrayVec<u8, MOST_BYTES>
+    requires { length body.now ≤ MOST_BODY }
     ensures value { result.items ≡ framed body.now }
 {
     let mut bytes = ArrayVec::new();
@@ -38,8 +47,8 @@ fn push_digits(text: &mut Vec<u8>, bytes: &[u8]) -> Result<(), AllocError>
 }
 
 /// An address and the bytes from it on.
-fn data_body(at: u32, given: &[u8]) -> ArrayVec<u8, 20>
-    requires { length given.now ≤ 16 }
+fn data_body(at: u32, given: &[u8]) -> ArrayVec<u8, MOST_BODY>
+    requires { length given.now ≤ MOST_DATA }
     ensures { result.items ≡ to_be_bytes w32 at ++ given.now }
 {
     let mut body = ArrayVec::new();
@@ -55,7 +64,7 @@ fn data_body(at: u32, given: &[u8]) -> ArrayVec<u8, 20>
 /// Appends the line of a record with a type digit and a body.
 #[tactic(auto, unfolding(crate::specs::Written::record_line))]
 fn push_record(text: &mut Vec<u8>, digit: u8, body: &[u8]) -> Result<(), AllocError>
-    requires { length body.now ≤ 20 }
+    requires { length body.now ≤ MOST_BODY }
     ensures { OnOk result (text.new.items ≡ text.old.items ++ (record_line digit body.now
         ++ line_end)) }
 {
@@ -75,7 +84,7 @@ pub fn push_header(text: &mut Vec<u8>) -> Result<(), AllocError>
 
 /// Appends the line of some bytes from an address on.
 pub fn push_data(text: &mut Vec<u8>, at: u32, given: &[u8]) -> Result<(), AllocError>
-    requires { length given.now ≤ 16 }
+    requires { length given.now ≤ MOST_DATA }
     ensures { OnOk result (text.new.items ≡ text.old.items ++ (data_line at given.now
         ++ line_end)) }
 {

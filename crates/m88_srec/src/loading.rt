@@ -9,9 +9,7 @@ ghost use Rattle.m88_srec.specs.Loads.{GivesLoad, load_seen};
 use crate::fault::{SrecFault, SrecKind};
 use crate::form::Form;
 use crate::purpose::Purpose;
-use crate::record::{
-    bytes_of, check_of, count, following, is_miscounted, number_of_bytes, record_form,
-};
+use crate::record::{address_of, check_of, record_form};
 use m88_base::{Image, ImageFault};
 use std::alloc::Global;
 
@@ -65,13 +63,13 @@ impl Loading {
             (form_seen form.now)) }
         ensures records { self.new.records ≤ self.old.records + 1 }
     {
-        if is_miscounted(form) {
+        if form.is_miscounted() {
             return Err(SrecKind::Count {
-                written: count(form),
-                found: following(form) as u32,
+                written: form.count(),
+                found: form.following() as u32,
             });
         }
-        let bytes = bytes_of(form);
+        let bytes = form.bytes();
         self.bytes(form.purpose, form.width, bytes.as_slice())
     }
 
@@ -87,17 +85,14 @@ impl Loading {
             (summed (load_seen self.old) (record { purpose = purpose; width = width; bytes = bytes.now })) }
         ensures records { self.new.records ≤ self.old.records + 1 }
     {
-        let following = bytes.len() - 1;
-        let (counted, _) = bytes.split_at(following);
-        let written = bytes[following];
+        let last = bytes.len() - 1;
+        let (counted, written) = (&bytes[..last], bytes[last]);
         let computed = check_of(counted);
         if written != computed {
             return Err(SrecKind::Sum { written, computed });
         }
-        let (_, behind_count) = bytes.split_at(1);
-        let (address, _) = behind_count.split_at(width);
-        let (_, given) = counted.split_at(width + 1);
-        self.carry_out(purpose, number_of_bytes(address), given)
+        let (address, given) = (&bytes[1..][..width], &counted[width + 1..]);
+        self.carry_out(purpose, address_of(address), given)
     }
 
     /// Does what a record is for.

@@ -1,7 +1,7 @@
 //! The form of a line: an `S`, a type digit and pairs of hexadecimal digits; and what stands in its bytes.
 ghost use Rattle.std.specs.Prelude.{◌≡◌, ◌+◌, ◌-◌, ◌*◌, ◌≤◌, ◌<◌, ◌%◌, ◌^◌, false, length, option_map, sum, IfSome};
 ghost use Rattle.m88_srec.specs.Records.{bytes_in, check_of, is_bare, type_of};
-ghost use Rattle.m88_srec.specs.Accepted.{number_of_bytes};
+ghost use Rattle.m88_srec.specs.Accepted.{address_of};
 ghost use Rattle.m88_srec.specs.Verdict.{following, record_form, is_miscounted, written_count};
 ghost use Rattle.m88_srec.specs.Forms.{form_seen, type_seen};
 
@@ -61,49 +61,51 @@ pub fn record_form(line: &[u8]) -> Option<Form<'_>>
     })
 }
 
-/// The count that is written.
-pub fn count(form: &Form<'_>) -> u8
-    ensures { result ≡ written_count (form_seen form.now) }
-{
-    byte(form.digits[0], form.digits[1])
-}
-
-/// The number of bytes that follow the count.
-#[tactic(auto, using(crate::proofs::Framing::pairs_halved))]
-pub fn following(form: &Form<'_>) -> usize
-    ensures value { result ≡ following (form_seen form.now) }
-    ensures bound { result < 2 ^ 31 }
-{
-    form.digits.len() / 2 - 1
-}
-
-/// Whether the count is wrong, there are too few bytes, or a record that has no data has some.
-pub fn is_miscounted(form: &Form<'_>) -> bool
-    ensures value { result ≡ is_miscounted (form_seen form.now) }
-    ensures few { result ≡ false → following (form_seen form.now) ≤ 255 }
-    ensures enough { result ≡ false → form.now.width + 1 ≤ following (form_seen form.now) }
-{
-    let following = following(form);
-    usize::from(count(form)) != following
-        || following < form.width + 1
-        || is_bare(form.purpose) && following != form.width + 1
-}
-
-/// The bytes of a record whose count is right.
-pub fn bytes_of(form: &Form<'_>) -> ArrayVec<u8, 256>
-    requires few { following (form_seen form.now) ≤ 255 }
-    requires enough { form.now.width + 1 ≤ following (form_seen form.now) }
-    ensures bytes { result.items ≡ bytes_in form.now.digits.now }
-    ensures enough { form.now.width + 2 ≤ length result.items }
-    ensures few { length result.items ≤ 256 }
-{
-    let mut bytes = ArrayVec::new();
-    let mut rest = form.digits;
-    while let [high, low, left @ ..] = rest {
-        bytes.push(byte(*high, *low));
-        rest = left;
+impl Form<'_> {
+    /// The count that is written.
+    pub fn count(&self) -> u8
+        ensures { result ≡ written_count (form_seen self.now) }
+    {
+        byte(self.digits[0], self.digits[1])
     }
-    bytes
+
+    /// The number of bytes that follow the count.
+    #[tactic(auto, using(crate::proofs::Framing::pairs_halved))]
+    pub fn following(&self) -> usize
+        ensures value { result ≡ following (form_seen self.now) }
+        ensures bound { result < 2 ^ 31 }
+    {
+        self.digits.len() / 2 - 1
+    }
+
+    /// Whether the count is wrong, there are too few bytes, or a record that has no data has some.
+    pub fn is_miscounted(&self) -> bool
+        ensures value { result ≡ is_miscounted (form_seen self.now) }
+        ensures few { result ≡ false → following (form_seen self.now) ≤ 255 }
+        ensures enough { result ≡ false → self.now.width + 1 ≤ following (form_seen self.now) }
+    {
+        let following = self.following();
+        usize::from(self.count()) != following
+            || following < self.width + 1
+            || is_bare(self.purpose) && following != self.width + 1
+    }
+
+    /// The bytes of a record whose count is right.
+    pub fn bytes(&self) -> ArrayVec<u8, 256>
+        requires few { following (form_seen self.now) ≤ 255 }
+        requires enough { self.now.width + 1 ≤ following (form_seen self.now) }
+        ensures bytes { result.items ≡ bytes_in self.now.digits.now }
+        ensures enough { self.now.width + 2 ≤ length result.items }
+        ensures few { length result.items ≤ 256 }
+    {
+        let mut bytes = ArrayVec::new();
+        let mut rest = self.digits;
+        while let [high, low, left @ ..] = rest {
+            bytes.push(byte(*high, *low));
+            rest = left;
+        }
+        bytes
+    }
 }
 
 /// The sum of a record with these bytes before it.
@@ -115,11 +117,11 @@ pub fn check_of(bytes: &[u8]) -> u8
     255 - (sum % 256) as u8
 }
 
-/// The number of the bytes of an address, the highest first.
-pub fn number_of_bytes(bytes: &[u8]) -> u32
+/// The address that bytes write, or the number in its place, the highest byte first.
+pub fn address_of(bytes: &[u8]) -> u32
     requires some { 2 ≤ length bytes.now }
     requires narrow { length bytes.now ≤ 4 }
-    ensures { result ≡ number_of_bytes bytes.now }
+    ensures { result ≡ address_of bytes.now }
 {
     match bytes {
         [a, b] => u32::from_be_bytes([0, 0, *a, *b]),

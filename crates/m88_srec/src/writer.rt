@@ -6,23 +6,20 @@ ghost use Rattle.m88_base.specs.Image.{IsImage, parts};
 ghost use Rattle.m88_srec.specs.Accepted.{IsAccepted, whole_of};
 ghost use Rattle.m88_srec.specs.Written.{data_lines, part_lines, srec_text};
 
-use crate::frame::{push_data, push_end, push_header};
+use crate::frame::{MOST_DATA, push_data, push_end, push_header};
 use m88_base::{Image, NoMemory};
 use std::alloc::{AllocError, Global};
 
-/// Appends the lines of bytes from an address on, sixteen bytes in each.
+/// Appends the lines of bytes from an address on, sixteen bytes in each but the last.
 fn push_part(text: &mut Vec<u8>, at: u32, bytes: &[u8]) -> Result<(), AllocError>
     requires { at + length bytes.now ≤ 2 ^ 32 }
     ensures { OnOk result (text.new.items ≡ text.old.items ++ text_of_lines
         (data_lines 0 at bytes.now)) }
 {
     let mut done = 0;
-    while done < bytes.len() {
-        let count = (bytes.len() - done).min(16);
-        let (_, rest) = bytes.split_at(done);
-        let (piece, _) = rest.split_at(count);
+    for piece in bytes.chunks(MOST_DATA) {
         push_data(text, at + done as u32, piece)?;
-        done += count;
+        done += piece.len();
     }
     Ok(())
 }

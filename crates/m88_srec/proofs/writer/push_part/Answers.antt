@@ -1,22 +1,21 @@
-use Rattle.std.proofs.Common.{ap, ◌∙◌, ◌≡◌, ◌+◌, ◌++◌, List, ℕ, take, drop, arith}
-use Rattle.m88_base.specs.Lines.{line_end}
-use Rattle.m88_srec.specs.Written.{data_line}
+-- The line of one piece more, and no piece is left.
+use Rattle.std.proofs.Common.{ap, ◌∙◌, length, length-append, arith}
+use Rattle.std.specs.Slice.Iter.{chunks_rest}
 use Rattle.m88_srec.proofs.Cutting.{end_of_part, more_of_part}
 use Rattle.m88_srec.proofs.writer.push_part.Goals as goal
 
-pub loop-done-preserved : goal.loop-done-preserved
-loop-done-preserved c =
-    let at : ℕ = c.args.at in
-    let done : ℕ = c.loop-done.done in
-    let n : ℕ = c.min-count.result in
-    let front : List ℕ = c.loop-done.text.items in
-    let piece = c.split_at-in-loop-done.ensures.front ∙ ap (take n) c.split_at.ensures.back in
-    let line : c.push_data.new.text.items ≡ front ++ (data_line (at + done) (take n (drop done c.args.bytes.now)) ++ line_end) =
-    c.in_ok-push_data.ensures ∙ ap (λ (xs : List ℕ). front ++ (data_line (at + done) xs ++ line_end)) piece in
+pub loop-piece-preserved : goal.loop-piece-preserved
+loop-piece-preserved c =
+    let steps = c.in-Some.ensures.steps in
+    let size = rw c.loop-piece.invariant.size at steps.1.1 in
+    let count = ap length steps.1.0 ∙ length-append c.in-Some.piece.now (chunks_rest c.next.new.self) in
     record {
-      within = omega arith;
-      left = more_of_part front _ _ at done n c.args.bytes.now c.loop-done-test.true c.min-count.ensures line c.loop-done.invariant.left;
+      size = steps.0 ∙ c.loop-piece.invariant.size;
+      count = omega (arith, count);
+      left =
+          more_of_part _ _ _ _ _ _ c.args.at c.loop-piece.done steps.1.0 size steps.1.2 c.in_ok-push_data.ensures
+          c.loop-piece.invariant.left;
     }
 
 pub returns : goal.returns
-returns c = end_of_part _ _ c.args.at c.loop-done.done c.args.bytes.now (omega arith) c.loop-done.invariant.left
+returns c = end_of_part _ _ _ _ c.in-None.ensures.steps.1.0 c.loop-piece.invariant.left
