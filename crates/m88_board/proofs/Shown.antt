@@ -10,7 +10,7 @@ use Rattle.m88_event.proofs.Follows.{ended_is}
 use Rattle.m88_event.proofs.Over.{same_over}
 use Rattle.m88_event.specs.Local.{Local, is_over_by, local_at, register_seen}
 use Rattle.m88_event.specs.Shadow.{fip_of, nip_of, status_of}
-use Rattle.m88_event.specs.Timeline.{Moment, is_over, xip_at}
+use Rattle.m88_event.specs.Timeline.{Moment, is_over}
 use Rattle.m88_isa.proofs.Alone.{by_test}
 use Rattle.m88_isa.proofs.Late.{same_after_accesses}
 use Rattle.m88_isa.specs.Bus.{Cells, after_access, after_accesses, loaded, waits_for}
@@ -27,7 +27,7 @@ use Rattle.m88_board.specs.Board.{BoardView, cells_of, completed_of, is_idle_boa
 use Rattle.m88_board.specs.Glances.{glance_at, glance_of, slot_at}
 use Rattle.m88_board.specs.Kept.{AreReady, IsKept, SlotsAgree}
 use Rattle.m88_board.specs.Moves.{IsAt}
-use Rattle.m88_board.specs.Shown.{ArePointers, AreRegisters, IsDataBus, IsStatus}
+use Rattle.m88_board.specs.Shown.{ArePointers, AreRegisters, IsDataBus, IsStatus, nip_at, register_at}
 
 -- a run is over where nothing is pending and no more may be issued
 over_of : (b : BoardView) → (not (is_pending b.pending) && is_idle_board b) ≡ is_over_by b.limit (local_of b)
@@ -58,11 +58,11 @@ nip_shown p b of slots =
     nip_is (byte_at b.memory.image) p b.slots.xip b.slots.nip.addr b.slots.nip.v b.slots.nip.e b.slots.fip.addr of.bytes
     slots.nip
 
-pub nip_at : (p : Program) (named : ℕ → Bool) (m : Moment) (b : BoardView) → IsAt p named m b →
+pub nip_seen : (p : Program) (named : ℕ → Bool) (m : Moment) (b : BoardView) → IsAt p named m b →
     SlotsAgree b.memory.image b.slots →
-    pointer_of b.slots.nip ≡ nip_of p m.bubble (xip_at p m.retired) (state p m.retired).pc
+    pointer_of b.slots.nip ≡ nip_at p m
 unfolding local_at completed_state
-nip_at p named m b at slots =
+nip_seen p named m b at slots =
     nip_shown p b at.image slots ∙ ap (λ (l : Local). nip_of p l.bubble l.xip l.completed.pc) at.seen
 
 -- FIP
@@ -79,7 +79,7 @@ pub pointers_are : (p : Program) (named : ℕ → Bool) (m : Moment) (b : BoardV
 unfolding local_of local_at completed_state
 pointers_are p named m b at slots = record {
   xip = ap (λ (l : Local). l.xip) at.seen;
-  nip = nip_at p named m b at slots;
+  nip = nip_seen p named m b at slots;
   fip =
       fip_shown p b at.image slots
       ∙ ap (λ (l : Local). fip_of p l.bubble l.completed.pc l.completed.next) at.seen;
@@ -133,11 +133,11 @@ register_is b r (Ok value) o same is busy known =
 register_is b r (Err e) o same is busy known =
     is ∙ sym (by_waiting b.pending (completed_of b).regs r true (sym (ap (λ (set : ℕ → Bool). set r) same) ∙ busy.0 refl))
 
-pub register_at : (p : Program) (named : ℕ → Bool) (m : Moment) (b : BoardView) (r : ℕ) → IsAt p named m b →
+pub value_at : (p : Program) (named : ℕ → Bool) (m : Moment) (b : BoardView) (r : ℕ) → IsAt p named m b →
     register_seen b.pending (completed_of b).regs r
-    ≡ register_seen (pending_at p m.retired m.done) (state p m.retired).regs r
+    ≡ register_at p m r
 unfolding local_of local_at completed_state
-register_at p named m b r at = ap (λ (l : Local). register_seen l.pending l.completed.regs r) at.seen
+value_at p named m b r at = ap (λ (l : Local). register_seen l.pending l.completed.regs r) at.seen
 
 -- the register file
 pub registers_seen : (p : Program) (named : ℕ → Bool) (m : Moment) (b : BoardView) → IsAt p named m b → IsKept b →
@@ -203,5 +203,5 @@ glance_is p named m b at slots = λ i. record {
   events = (at.seen i).events;
   issued = (at.seen i).retired;
   done = (at.seen i).done;
-  next = slot_at (nip_at p named m b at slots i);
+  next = slot_at (nip_seen p named m b at slots i);
 }

@@ -1,10 +1,11 @@
 -- What a watch is shown of a board, and of the moments of a timeline.
 use Rattle.std.specs.Prelude.{ℕ, zero, suc, Bool, false, List, [], ◌∷◌, ◌++◌, Option, Some, None, ◌≡◌, length, nat_lt, if◌then◌else◌}
-use Rattle.m88_event.specs.Shadow.{Pointer, nip_of}
-use Rattle.m88_event.specs.Timeline.{Moment, xip_at}
-use Rattle.m88_isa.specs.Machine.{Program, state}
+use Rattle.m88_event.specs.Shadow.{Pointer}
+use Rattle.m88_event.specs.Timeline.{Moment}
+use Rattle.m88_isa.specs.Machine.{Program}
 use Rattle.m88_iunit.specs.declared.slot.Slot.{Slot}
 use Rattle.m88_board.specs.Board.{BoardView}
+use Rattle.m88_board.specs.Shown.{nip_at}
 use Rattle.m88_board.specs.declared.glance.Glance.{Glance}
 
 -- what is noted of a board: its events, the instructions that were retired, the transactions that were answered or
@@ -22,7 +23,7 @@ glance_at p m = record {
   events = m.events;
   issued = m.retired;
   done = m.done;
-  next = slot_at (nip_of p m.bubble (xip_at p m.retired) (state p m.retired).pc);
+  next = slot_at (nip_at p m);
 }
 
 -- of moments in order, each behind the first of so many

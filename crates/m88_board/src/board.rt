@@ -1,6 +1,7 @@
 //! The board: its parts, and what a choice makes of them.
 
 ghost use Rattle.std.specs.Prelude.{ℕ, Bool, ◌&&◌, option_map, ◌≡◌, ◌<◌, ◌≤◌, ◌+◌, ◌-◌, ◌*◌, ◌%◌, ◌++◌, [], Option, Some, None, true, false, is_some, length, slice_get, IfOk, IfSome, OnErr, OnOk};
+ghost use Rattle.m88_base.specs.Image.{IsImage};
 ghost use Rattle.m88_base.specs.Reg.{number_of};
 ghost use Rattle.m88_event.specs.Choice.{answer_choice, end_by, faults, finishes, issues, passes, replies, serves, turn_choice};
 ghost use Rattle.m88_event.specs.Local.{record_by};
@@ -26,10 +27,10 @@ ghost use Rattle.m88_board.specs.Turns.{IssueComesTo, ComesToEnd};
 ghost use Rattle.m88_event.specs.declared.happened.Happened.{Happened as HappenedValue};
 
 use crate::accesses::{complete, prepare, put_in, write};
-use crate::serving::{serve_all, visit};
+use crate::serving::{frame_of, serve_all, visit};
 use crate::slots::{advance, lacks_word};
 use m88_base::{Absent, Image, NoMemory, Reg};
-use m88_ctrl::{Control, Frame, cr};
+use m88_ctrl::{Control, cr};
 use m88_dunit::DataUnit;
 use m88_event::{End, Happened, Record, Why};
 use m88_isa::{Access, Effect, Instr, uses, writes};
@@ -111,9 +112,12 @@ impl Board {
         ensures limit { IfOk result (λ b. b.limit ≡ limit) }
         ensures image { IfOk result (λ b. b.memory.image ≡ image.now) }
         ensures events { IfOk result (λ b. b.events ≡ 0) }
+        ensures is_image { IsImage image.now }
         ensures at { IfOk result (λ b. (p : Program) → IsProgramOf image.now p
             → IsAt p (absent_in absent.now) opening_moment b) }
     {
+        // What always holds of an image is told with its parts.
+        let _ = image.part_count();
         let memory = Memory::new(alloc, image, absent)?;
         let entry = image.start() / 4 * 4;
         let e0 = lacks_word(&memory, entry);
@@ -215,17 +219,15 @@ impl Board {
         ensures err { OnErr result (IsUnmoved self.old self.new) }
     {
         let fault = self.pipe();
-        if self.records.push(fault).is_err() {
-            return Err(NoMemory);
-        }
-        let (done, snip, sfip) = serve_all(
+        self.records.push(fault).or(Err(NoMemory))?;
+        let (done, restart) = serve_all(
             fault,
             &mut self.dunit,
             &mut self.ctrl,
             &mut self.regs,
             &mut self.memory,
         );
-        self.iunit.resume(snip, sfip);
+        self.iunit.resume(restart.snip, restart.sfip);
         self.done += u32::from(done);
         Ok(fault)
     }
@@ -265,15 +267,7 @@ impl Board {
             → Did (finishes stop) fault self.old result self.new }
     {
         let fault = self.pipe();
-        let triples = fault.triples;
-        let frame = Frame {
-            ssbr: fault.ssbr,
-            sxip: fault.sxip,
-            snip: fault.snip,
-            sfip: fault.sfip,
-            triples,
-        };
-        self.ctrl.enter(vector, &frame);
+        self.ctrl.enter(vector, &frame_of(&fault));
         self.ended = Some(end);
         Happened::Ended(end)
     }
@@ -287,9 +281,7 @@ impl Board {
             → Did (serves byte) fault self.old happened self.new) }
         ensures err { OnErr result (IsUnmoved self.old self.new) }
     {
-        if self.out.push(byte).is_err() {
-            return Err(NoMemory);
-        }
+        self.out.push(byte).or(Err(NoMemory))?;
         let next = self.iunit.following().addr;
         advance(
             &mut self.iunit,

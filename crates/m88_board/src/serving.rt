@@ -11,7 +11,7 @@ ghost use Rattle.m88_board.specs.Kept.{PartsAgree};
 ghost use Rattle.m88_board.specs.Shown.{IsRecordOf, ShowsFault};
 
 use m88_base::Triple;
-use m88_ctrl::{Control, Frame};
+use m88_ctrl::{Control, Frame, Restart};
 use m88_dunit::DataUnit;
 use m88_event::Record;
 use m88_isa::{DATA_ACCESS, MONITOR_TRAP};
@@ -20,15 +20,34 @@ use m88_mem::Memory;
 use m88_monitor::serve;
 use m88_scoreboard::RegFile;
 
+/// What an exception saves of a record.
+pub(crate) fn frame_of(fault: &Record) -> Frame
+    ensures { result ≡ record {
+      ssbr = fault.now.ssbr;
+      sxip = fault.now.sxip;
+      snip = fault.now.snip;
+      sfip = fault.now.sfip;
+      triples = fault.now.triples;
+    } }
+{
+    Frame {
+        ssbr: fault.ssbr,
+        sxip: fault.sxip,
+        snip: fault.snip,
+        sfip: fault.sfip,
+        triples: fault.triples,
+    }
+}
+
 /// The pending transactions leave the data unit for the control registers, an exception is entered, the monitor
-/// finishes them and returns. The answer is how many there were, and the words of NIP and FIP.
+/// finishes them and returns. The answer is how many there were, and what execution goes on by.
 pub(crate) fn serve_all(
     fault: Record,
     unit: &mut DataUnit,
     ctrl: &mut Control,
     regs: &mut RegFile,
     memory: &mut Memory,
-) -> (u8, u32, u32)
+) -> (u8, Restart)
     requires ssbr { bit_at fault.ssbr 0 ≡ 0 }
     requires agree { PartsAgree unit.old regs.old memory.old }
     ensures pending { unit.new ≡ [] }
@@ -40,23 +59,20 @@ pub(crate) fn serve_all(
     ensures image { memory.new.image ≡ memory.old.image }
     ensures psr { ctrl.new.psr ≡ ctrl.old.psr }
     ensures done { result.0 ≡ length unit.old }
-    ensures snip { result.1 ≡ fault.snip }
-    ensures sfip { result.2 ≡ fault.sfip }
+    ensures snip { result.1.snip ≡ fault.snip }
+    ensures sfip { result.1.sfip ≡ fault.sfip }
     ensures shows { IsRecordOf fault unit.old ctrl.old → ShowsFault fault ctrl.new }
 {
     let triples = unit.freeze();
     let frame = Frame {
-        ssbr: fault.ssbr,
-        sxip: fault.sxip,
-        snip: fault.snip,
-        sfip: fault.sfip,
         triples,
+        ..frame_of(&fault)
     };
     ctrl.enter(DATA_ACCESS, &frame);
     regs.restore(0);
     let served = serve(ctrl, regs, memory);
     let restart = ctrl.rte();
-    (served.done, restart.snip, restart.sfip)
+    (served.done, restart)
 }
 
 /// The monitor is entered by its trap, with nothing pending, and returns at once.

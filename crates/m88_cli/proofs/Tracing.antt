@@ -8,9 +8,10 @@ use Rattle.m88_event.specs.declared.letter.Letter.{Letter}
 use Rattle.m88_isa.specs.Held.{instruction_at}
 use Rattle.m88_isa.specs.Machine.{Program}
 use Rattle.m88_board.specs.Moves.{IsAt}
+use Rattle.m88_board.specs.Shown.{nip_at}
 use Rattle.m88_board.specs.declared.glance.Glance.{Glance}
 use Rattle.m88_cli.proofs.Along.{IsAlongOn}
-use Rattle.m88_cli.specs.MonitorLines.{happened_line, letter_text, nip_at, trace_line}
+use Rattle.m88_cli.specs.MonitorLines.{happened_line, letter_text, trace_line}
 use Rattle.m88_cli.specs.Session.{Course, MakesEach, Session, moment_on, session_on, trace_lines, wants_event}
 use Rattle.m88_cli.specs.SessionKept.{Carried, IsBefore, IsNext, Stands, told_line}
 use Rattle.m88_cli.specs.declared.monitor.Monitor.{Monitor}

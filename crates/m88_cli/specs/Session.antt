@@ -10,9 +10,10 @@ use Rattle.m88_event.specs.Timeline.{Moment, after_letter, is_drained, is_over, 
 use Rattle.m88_event.specs.declared.letter.Letter.{Letter}
 use Rattle.m88_report.specs.Report.{record_lines}
 use Rattle.m88_board.specs.Glances.{glances_along}
+use Rattle.m88_board.specs.Shown.{nip_at}
 use Rattle.m88_board.specs.declared.glance.Glance.{Glance}
 use Rattle.m88_cli.specs.Limits.{session_limit}
-use Rattle.m88_cli.specs.MonitorLines.{breakpoint_line, counts_text, nip_at, registers_text, trace_line, words_text}
+use Rattle.m88_cli.specs.MonitorLines.{breakpoint_line, counts_text, registers_text, trace_line, words_text}
 use Rattle.m88_cli.specs.declared.script.MonitorCommand.{MonitorCommand}
 use Rattle.m88_cli.specs.declared.script.MonitorCommand.TheVariants.{Step, Go, Break, Regs, Pipe, Memory, Drain, Trace}
 

@@ -9,9 +9,10 @@ use Rattle.m88_isa.specs.Held.{instruction_at}
 use Rattle.m88_isa.specs.Machine.{IsProgram, Program}
 use Rattle.m88_board.specs.Glances.{Saw, glance_at}
 use Rattle.m88_board.specs.Moves.{IsAt}
+use Rattle.m88_board.specs.Shown.{nip_at}
 use Rattle.m88_board.specs.declared.glance.Glance.{Glance}
 use Rattle.m88_cli.specs.Session.{Course, Makes, MakesEach, Session, after_command, glances_of, text_of_command}
-use Rattle.m88_cli.specs.MonitorLines.{happened_line, letter_text, nip_at}
+use Rattle.m88_cli.specs.MonitorLines.{happened_line, letter_text}
 use Rattle.m88_cli.specs.declared.monitor.Monitor.{Monitor}
 use Rattle.m88_cli.specs.declared.monitor.tracing.Before.{Before}
 use Rattle.m88_cli.specs.declared.script.MonitorCommand.{MonitorCommand}

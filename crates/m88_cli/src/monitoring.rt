@@ -121,8 +121,6 @@ fn session_text<W: Watch>(
         × IsSessionFront (course_of p (absent_in absent.now) schedule.now) commands.now opening_session glances
         × Saw (W.seen watch.old) (W.seen watch.new) glances) }
 {
-    // What always holds of an image is told with its parts.
-    let _ = image.part_count();
     let board = Board::new(alloc, image, absent, SESSION_LIMIT)?;
     carry_out(alloc, board, schedule, commands, watch)
 }

@@ -122,8 +122,6 @@ pub fn outcome_of<W: Watch>(
     ensures front { OnErr result ((p : Program) → IsProgramOf image.now p
         → SawFront p limit (absent_in absent.now) schedule.now (W.seen watch.old) (W.seen watch.new)) }
 {
-    // What always holds of an image is told with its parts.
-    let _ = image.part_count();
     let board = Board::new(alloc, image, absent, limit)?;
     let outcome = board.run(schedule, watch)?;
     Ok(outcome)

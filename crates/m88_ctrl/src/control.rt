@@ -14,14 +14,16 @@ const PSR_AT_START: u32 = 0x3F8;
 /// The carry's bit of PSR.
 const CARRY: u32 = 1 << 28;
 
-/// PSR's bits of the supervisor's mode, of the first special function unit being off, of interrupts being off
-/// and of the shadow registers being frozen.
+/// PSR's bit of the supervisor's mode.
 const MODE: u32 = 1 << 31;
 
+/// PSR's bit of the first special function unit being off.
 const SFD1: u32 = 1 << 3;
 
+/// PSR's bit of interrupts being off.
 const IND: u32 = 1 << 1;
 
+/// PSR's bit of the shadow registers being frozen.
 const SFRZ: u32 = 1 << 0;
 
 /// The bits that an exception sets in PSR.
@@ -152,6 +154,7 @@ impl Control {
         true
     }
 
+    /// Stores a word into the control register of a number, which can be written.
     fn store(&mut self, n: u8, value: u32)
         requires writable { 0 < n }
         requires there { n ≤ 20 }
@@ -183,20 +186,24 @@ impl Control {
     }
 
     /// The carry, a bit of PSR.
+    #[tactic(auto, using(crate::proofs::Carry::tested))]
     pub fn carry(&self) -> bool
         ensures { result ≡ carry_of self.now }
     {
-        self.psr / CARRY % 2 == 1
+        self.psr & CARRY != 0
     }
 
     /// Sets or clears the carry.
+    #[tactic(auto, using(crate::proofs::Carry::set, crate::proofs::Carry::cleared, crate::proofs::Carry::shown))]
     pub fn set_carry(&mut self, c: bool)
         ensures state { self.new ≡ record self.old { psr = with_carry c self.old.psr } }
         ensures carry { carry_of self.new ≡ c }
     {
-        let above = self.psr / (2 * CARRY) * (2 * CARRY);
-        let below = self.psr % CARRY;
-        self.psr = above + below + if c { CARRY } else { 0 };
+        if c {
+            self.psr |= CARRY;
+        } else {
+            self.psr &= !CARRY;
+        }
     }
 
     /// Enters the exception of a vector: the status is saved, the frame fills its registers, and the

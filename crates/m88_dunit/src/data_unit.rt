@@ -20,7 +20,7 @@ pub const MOST_PENDING: usize = 3;
 /// The transactions that are pending, at most three, the oldest first.
 #[derive(Drop, Debug)]
 pub struct DataUnit {
-    stages: ArrayVec<Access, 3>,
+    stages: ArrayVec<Access, MOST_PENDING>,
 }
 
 impl Model for DataUnit {
@@ -128,6 +128,7 @@ impl DataUnit {
         triples
     }
 
+    /// The pending transactions, the oldest first.
     fn stages(&self) -> &[Access]
         ensures value { result.now ≡ self.now }
         ensures pending { ArePending self.now }

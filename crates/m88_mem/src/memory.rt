@@ -222,9 +222,7 @@ impl Memory {
         let mut changed = vec![in alloc]?;
         for (place, word) in &self.words {
             if is_changed(&self.image, *place, *word) {
-                if changed.push((4 * *place, *word)).is_err() {
-                    return Err(NoMemory);
-                }
+                changed.push((4 * *place, *word)).or(Err(NoMemory))?;
             }
         }
         Ok(changed)

@@ -1,7 +1,7 @@
 //! The word of the image at an address.
 #![tactic(auto, unfolding(crate::specs::DataBus::image_bytes, m88_isa::specs::Bus::in_words))]
 
-ghost use Rattle.std.specs.Prelude.{◌≡◌, ◌%◌, ◌<◌, ◌^◌, option_map};
+ghost use Rattle.std.specs.Prelude.{◌≡◌, ◌%◌, option_map};
 ghost use Rattle.std.specs.Int.{to_be_bytes, w32};
 ghost use Rattle.m88_base.specs.Image.{byte_at};
 ghost use Rattle.m88_isa.specs.Machine.{four_bytes};
@@ -30,17 +30,18 @@ pub(crate) fn image_word(image: &Image, addr: u32) -> u32
     requires { addr % 4 ≡ 0 }
     ensures { result ≡ image_bus image.now addr }
 {
-    let first = byte_or_zero(image, addr);
-    let second = byte_or_zero(image, addr + 1);
-    let third = byte_or_zero(image, addr + 2);
-    let fourth = byte_or_zero(image, addr + 3);
-    ((first * (1 << 8) + second) * (1 << 8) + third) * (1 << 8) + fourth
+    let bytes = [
+        byte_or_zero(image, addr),
+        byte_or_zero(image, addr + 1),
+        byte_or_zero(image, addr + 2),
+        byte_or_zero(image, addr + 3),
+    ];
+    BigEndian::read_u32(&bytes)
 }
 
 /// The byte at an address, or 0 where there is none.
-fn byte_or_zero(image: &Image, addr: u32) -> u32
-    ensures value { result ≡ image_bytes image.now addr }
-    ensures bound { result < 2 ^ 8 }
+fn byte_or_zero(image: &Image, addr: u32) -> u8
+    ensures { result ≡ image_bytes image.now addr }
 {
-    u32::from(image.byte(addr).unwrap_or(0))
+    image.byte(addr).unwrap_or(0)
 }

@@ -1,7 +1,8 @@
 -- One triple's service in parts.
-use Rattle.std.proofs.Common.{ℕ, ◌≡◌, Bool, true, false, List, if◌then◌else◌, refl, ap, sym, ◌∙◌}
+use Rattle.std.specs.Prelude.{slice_get}
+use Rattle.std.proofs.Common.{ℕ, zero, suc, ◌≡◌, ◌<◌, Bool, true, false, List, Some, if◌then◌else◌, refl, ap, arith, sym, ◌∙◌}
 use Rattle.m88_base.specs.declared.triple.Triple.{Triple}
-use Rattle.m88_ctrl.specs.ControlRegisters.{ControlRegisters}
+use Rattle.m88_ctrl.specs.ControlRegisters.{ControlRegisters, triples_by_age}
 use Rattle.m88_isa.proofs.Alone.{by_test}
 use Rattle.m88_isa.specs.Bus.{bus_after, loaded}
 use Rattle.m88_isa.specs.Machine.{with_register}
@@ -10,6 +11,14 @@ use Rattle.m88_isa.specs.declared.planned.Access.{Access}
 use Rattle.m88_mem.specs.DataBus.{page_number}
 use Rattle.m88_mem.specs.Marks.{with_page}
 use Rattle.m88_monitor.specs.Serving.{Serving, after_triple, triple_at, with_finished, with_loaded}
+
+-- a triple by its place
+pub by_place : (index : ℕ) (c : ControlRegisters) (t : Triple) → index < 3 → slice_get (triples_by_age c) index ≡ Some t →
+    t ≡ triple_at index c
+by_place zero c t within e = cc
+by_place (suc zero) c t within e = cc
+by_place (suc (suc zero)) c t within e = cc
+by_place (suc (suc (suc n))) c t within e = absurd (omega (arith, within))
 
 -- a load leaves the triples
 pub same_triple : (index : ℕ) (a : Access) (c : ControlRegisters) → triple_at index (with_loaded a c) ≡ triple_at index c

@@ -76,11 +76,7 @@ fn triple_at(ctrl: &Control, index: usize) -> Triple
     requires { index < 3 }
     ensures { result ≡ triple_at index ctrl.now }
 {
-    match index {
-        0 => ctrl.triple(0),
-        1 => ctrl.triple(1),
-        _ => ctrl.triple(2),
-    }
+    ctrl.triple(index)
 }
 
 /// Makes an access whose page is present.

@@ -6,14 +6,13 @@ ghost use Rattle.m88_base.specs.Image.{byte_at};
 ghost use Rattle.m88_base.specs.Reg.{number_of};
 ghost use Rattle.m88_ctrl.specs.ControlRegisters.{carry_of};
 ghost use Rattle.m88_event.specs.Local.{is_over_by, register_seen};
-ghost use Rattle.m88_event.specs.Shadow.{nip_of};
-ghost use Rattle.m88_event.specs.Timeline.{Moment, is_over, xip_at};
+ghost use Rattle.m88_event.specs.Timeline.{Moment, is_over};
 ghost use Rattle.m88_isa.specs.History.{bus_at, pending_at};
 ghost use Rattle.m88_isa.specs.Machine.{Program, four_bytes, state};
 ghost use Rattle.m88_mem.specs.DataBus.{bus_of};
 ghost use Rattle.m88_board.specs.Board.{completed_of, local_of, pointer_of};
 ghost use Rattle.m88_board.specs.Moves.{IsAt};
-ghost use Rattle.m88_board.specs.Shown.{ArePointers, AreRegisters, IsDataBus, IsStatus};
+ghost use Rattle.m88_board.specs.Shown.{ArePointers, AreRegisters, IsDataBus, IsStatus, nip_at, register_at};
 
 use super::Board;
 use m88_base::Reg;
@@ -72,7 +71,7 @@ impl Board {
     pub fn next_slot(&self) -> Slot
         ensures value { result ≡ self.now.slots.nip }
         ensures moment { (p : Program) (named : ℕ → Bool) (m : Moment) → IsAt p named m self.now
-            → pointer_of result ≡ nip_of p m.bubble (xip_at p m.retired) (state p m.retired).pc }
+            → pointer_of result ≡ nip_at p m }
     {
         self.iunit.candidate()
     }
@@ -82,8 +81,7 @@ impl Board {
         ensures value { result
             ≡ register_seen self.now.pending (completed_of self.now).regs (number_of r) }
         ensures moment { (p : Program) (named : ℕ → Bool) (m : Moment) → IsAt p named m self.now
-            → result
-            ≡ register_seen (pending_at p m.retired m.done) (state p m.retired).regs (number_of r) }
+            → result ≡ register_at p m (number_of r) }
     {
         self.regs.get(r).ok()
     }

@@ -1,11 +1,12 @@
 //! Whole runs, and draining.
 
-ghost use Rattle.std.specs.Prelude.{ℕ, Bool, List, [], ◌∷◌, ◌↔◌, ◌≡◌, ◌<◌, ◌≤◌, ◌+◌, ◌-◌, ◌*◌, ◌^◌, true, length, IfOk, OnErr, OnOk};
+ghost use Rattle.std.specs.Prelude.{ℕ, Bool, List, [], ◌∷◌, ◌↔◌, ◌≡◌, ◌<◌, ◌≤◌, ◌+◌, ◌-◌, ◌*◌, true, length, IfOk, OnErr, OnOk};
 ghost use Rattle.m88_event.specs.Run.{IsDrain, IsDraining, IsOutcome, IsRun, IsRunning, answered_after, moment_after, outcome_at};
-ghost use Rattle.m88_event.specs.Timeline.{Moment, after_letter, is_over, opening_moment};
+ghost use Rattle.m88_event.specs.Timeline.{Moment, is_over, opening_moment, said_at};
 ghost use Rattle.m88_event.specs.declared.happened.End.{End as EndValue};
 ghost use Rattle.m88_event.specs.declared.letter.Letter.{Letter as LetterValue};
 ghost use Rattle.m88_event.specs.declared.outcome.Outcome.{Outcome as OutcomeValue};
+ghost use Rattle.m88_isa.specs.Held.{most_pending};
 ghost use Rattle.m88_isa.specs.Machine.{IsProgram, Program};
 ghost use Rattle.m88_board.specs.Glances.{Saw, glance_at, glances_along};
 ghost use Rattle.m88_board.specs.Kept.{most_events};
@@ -14,7 +15,7 @@ ghost use Rattle.m88_board.specs.Moves.{IsAlong, IsAt, IsSameRun, IsStep, IsUnmo
 use super::Board;
 use crate::watch::Watch;
 use m88_base::{Listed, NoMemory};
-use m88_event::{End, Letter, Outcome, Schedule};
+use m88_event::{End, Happened, Letter, Outcome, Schedule};
 
 impl Board {
     /// Makes the events of the letters of a schedule, and then of `r` and `i` in turn, until nothing is pending and
@@ -49,7 +50,7 @@ impl Board {
     /// Makes `r` events until nothing is pending. The board is shown to the watch after each event. Where memory
     /// runs out, the board stands after whole events.
     pub fn drain<W: Watch>(&mut self, watch: &mut W) -> Result<(), NoMemory>
-        requires { self.old.events < 2 ^ 63 - 3 }
+        requires { self.old.events + most_pending < most_events }
         ensures ok { OnOk result ((p : Program) (named : ℕ → Bool) (m : Moment) → IsProgram p
             → IsAt p named m self.old
             → (events : ℕ) × IsDrain p named self.old.limit m events
@@ -87,7 +88,9 @@ impl Board {
             × Saw (W.seen watch.old) (W.seen watch.new)
             (glances_along p (moment_after p named self.old.limit schedule.now) events)) }
     {
-        // Every run is over within so many events.
+        // Every run is over within so many events. An instruction does four things at most: it is issued, makes two
+        // accesses, which are answered, and leaves a bubble. Behind the schedule, of two events one at least does a
+        // thing: so eight events for each instruction. The eight behind them hold the end of the program.
         let most = schedule.len() + 8 * self.limit as usize + 8;
         for k in 0..most {
             if self.is_over() {
@@ -98,12 +101,15 @@ impl Board {
         Ok(())
     }
 
-    /// Makes an event and shows the board.
-    fn step<W: Watch>(&mut self, letter: Letter, watch: &mut W) -> Result<(), NoMemory>
+    /// Makes the event of a letter, as `event` does; then the watch is shown the board.
+    pub fn step<W: Watch>(&mut self, letter: Letter, watch: &mut W) -> Result<Happened, NoMemory>
         requires { self.old.events < most_events }
         ensures ok { OnOk result ((p : Program) (named : ℕ → Bool) (m : Moment) → IsProgram p
             → IsAt p named m self.old
             → IsStep p named letter m (W.seen watch.old) (W.seen watch.new) self.old self.new) }
+        ensures said { IfOk result (λ happened. (p : Program) (named : ℕ → Bool) (m : Moment)
+            → IsAt p named m self.old
+            → happened ≡ said_at p named self.old.limit letter m) }
         ensures counted { OnOk result (self.new.events ≡ self.old.events + 1) }
         ensures same { OnOk result (IsSameRun self.old self.new) }
         ensures shorter { letter ≡ LetterValue.Answer
@@ -111,9 +117,9 @@ impl Board {
         ensures err { OnErr result (IsUnmoved self.old self.new) }
         ensures unseen { OnErr result (watch.new ≡ watch.old) }
     {
-        self.event(letter)?;
+        let happened = self.event(letter)?;
         self.show(watch);
-        Ok(())
+        Ok(happened)
     }
 
     /// Shows the board.

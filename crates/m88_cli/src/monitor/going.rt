@@ -9,7 +9,6 @@ ghost use Rattle.m88_cli.specs.SessionKept.{Broke, Carried, Stands, Went, most_c
 ghost use Rattle.m88_cli.specs.declared.script.MonitorCommand.TheVariants.{Step, Go, Drain};
 
 use super::Monitor;
-use super::making::make;
 use super::showing::push_counts;
 use crate::limits::SESSION_LIMIT;
 use m88_base::NoMemory;
@@ -173,7 +172,7 @@ impl Monitor {
             if self.board.pending() == 0 {
                 return Ok(());
             }
-            make(&mut self.board, Letter::Answer, watch)?;
+            self.board.step(Letter::Answer, watch)?;
         }
         Ok(())
     }

@@ -1,53 +1,14 @@
-//! Events, each of which the board is shown after.
+//! The event of the next letter of a run.
 
-ghost use Rattle.std.specs.Prelude.{ℕ, Bool, ◌≡◌, ◌<◌, ◌≤◌, ◌+◌, ◌-◌, [], ◌∷◌, IfOk, OnErr, OnOk, length};
-ghost use Rattle.m88_event.specs.Timeline.{Moment, said_at};
-ghost use Rattle.m88_event.specs.declared.letter.Letter.{Letter as LetterValue};
-ghost use Rattle.m88_isa.specs.Machine.{IsProgram, Program};
+ghost use Rattle.std.specs.Prelude.{◌≡◌, ◌<◌, ◌≤◌, ◌+◌, IfOk, OnErr, OnOk};
 ghost use Rattle.m88_board.specs.Kept.{most_events};
-ghost use Rattle.m88_board.specs.Moves.{IsAt, IsStep};
-ghost use Rattle.m88_board.specs.Glances.{Saw, glance_at};
 ghost use Rattle.m88_cli.specs.Session.{Course, Session};
 ghost use Rattle.m88_cli.specs.SessionKept.{IsNext, Stands};
 
 use super::Monitor;
 use m88_base::NoMemory;
-use m88_board::{Board, Watch};
-use m88_event::{Happened, Letter, Schedule};
-
-/// Makes the event of a letter, and shows the board.
-pub(super) fn make<W: Watch>(
-    board: &mut Board,
-    letter: Letter,
-    watch: &mut W,
-) -> Result<Happened, NoMemory>
-    requires { board.old.events < most_events }
-    ensures step { OnOk result ((p : Program) (named : ℕ → Bool) (m : Moment) → IsProgram p
-        → IsAt p named m board.old
-        → IsStep p named letter m (W.seen watch.old) (W.seen watch.new) board.old board.new) }
-    ensures said { IfOk result (λ happened. (p : Program) (named : ℕ → Bool) (m : Moment)
-        → IsAt p named m board.old
-        → happened ≡ said_at p named board.old.limit letter m) }
-    ensures counted { OnOk result (board.new.events ≡ board.old.events + 1) }
-    ensures limit { OnOk result (board.new.limit ≡ board.old.limit) }
-    ensures shorter { letter ≡ LetterValue.Answer
-        → OnOk result (length board.new.pending ≤ length board.old.pending - 1) }
-    ensures unseen { OnErr result (watch.new ≡ watch.old) }
-{
-    let happened = board.event(letter)?;
-    show(board, watch);
-    Ok(happened)
-}
-
-/// Shows the board.
-fn show<W: Watch>(board: &Board, watch: &mut W)
-    ensures { (p : Program) (named : ℕ → Bool) (m : Moment) → IsAt p named m board.now
-        → Saw (W.seen watch.old) (W.seen watch.new) (glance_at p m ∷ []) }
-{
-    // What NIP is at a moment is told with it.
-    let _ = board.next_slot();
-    watch.after(board);
-}
+use m88_board::Watch;
+use m88_event::{Happened, Schedule};
 
 impl Monitor {
     /// Makes the event of the next letter of the run, and shows the board.
@@ -67,7 +28,7 @@ impl Monitor {
         ensures unseen { OnErr result (watch.new ≡ watch.old) }
     {
         let letter = schedule.letter_at(self.taken);
-        let happened = make(&mut self.board, letter, watch)?;
+        let happened = self.board.step(letter, watch)?;
         self.taken += 1;
         Ok(happened)
     }

@@ -4,6 +4,7 @@ use Rattle.std.specs.Prelude.{slice_index_or}
 use Rattle.m88_base.specs.Triple.{no_triple}
 use Rattle.m88_base.specs.declared.triple.Triple.{Triple}
 use Rattle.m88_ctrl.specs.ControlRegisters.{ControlRegisters}
+use Rattle.m88_ctrl.specs.declared.frame.Frame.{Frame}
 use Rattle.m88_isa.specs.Bus.{after_accesses}
 use Rattle.m88_mem.specs.DataBus.{bus_of, ready_of}
 use Rattle.m88_monitor.specs.Serving.{Serving, serving_of}
@@ -53,12 +54,12 @@ returns-clause-shows c = λ of.
     let t2 = ap (λ (r : ControlRegisters). r.t2) c.enter.ensures.state ∙ ap (λ (ts : List Triple). slice_index_or ts 2 no_triple) c.freeze-triples.ensures.value in
     let served = served_control c.args.unit.now (serving_of c.enter.new.self c.restore.new.self c.args.memory.now) t0 t1 t2
     c.requires.agree.made c.requires.agree.few c.requires.agree.apart
-    (ap (λ (r : ControlRegisters). r.ssbr) c.enter.ensures.state ∙ of.ssbr) in
+    (ap (λ (r : ControlRegisters). r.ssbr) c.enter.ensures.state ∙ ap (λ (f : Frame). f.ssbr) c.frame_of.ensures ∙ of.ssbr) in
     shows_fault c.args.fault c.args.unit.now c.args.ctrl.now c.enter.new.self c.serve-served.new.ctrl c.rte-restart.new.self of
     (ap (λ (r : ControlRegisters). r.epsr) c.enter.ensures.state)
-    (ap (λ (r : ControlRegisters). r.sxip) c.enter.ensures.state)
-    (ap (λ (r : ControlRegisters). r.snip) c.enter.ensures.state)
-    (ap (λ (r : ControlRegisters). r.sfip) c.enter.ensures.state)
+    (ap (λ (r : ControlRegisters). r.sxip) c.enter.ensures.state ∙ ap (λ (f : Frame). f.sxip) c.frame_of.ensures)
+    (ap (λ (r : ControlRegisters). r.snip) c.enter.ensures.state ∙ ap (λ (f : Frame). f.snip) c.frame_of.ensures)
+    (ap (λ (r : ControlRegisters). r.sfip) c.enter.ensures.state ∙ ap (λ (f : Frame). f.sfip) c.frame_of.ensures)
     t0 t1 t2
     (subst (λ (s : Serving). IsServed c.enter.new.self s.control) (sym c.serve-served.ensures.served) served)
     c.rte-restart.ensures.state

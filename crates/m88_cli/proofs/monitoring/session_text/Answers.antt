@@ -33,11 +33,11 @@ returns-clause-session g c =
     × IsSession (course_of p (absent_in c.args.absent.now) c.args.schedule.now) c.args.commands.now opening_session text.items glances
     × Saw (g.W.Watch.seen c.args.watch.now) (g.W.Watch.seen c.carry_out.new.watch) glances)
     (λ text told p of.
-    told p (absent_in c.args.absent.now) (program_of_image c.args.image.now p c.part_count.ensures.image of) (c.in_ok-board.ensures.at p of))
+    told p (absent_in c.args.absent.now) (program_of_image c.args.image.now p c.new.ensures.is_image of) (c.in_ok-board.ensures.at p of))
     c.carry_out.ensures.ok
 
 pub returns-clause-front : goal.returns-clause-front
 returns-clause-front g c =
     on_err_weaker c.carry_out.result (λ told p of.
-    told p (absent_in c.args.absent.now) (program_of_image c.args.image.now p c.part_count.ensures.image of) (c.in_ok-board.ensures.at p of))
+    told p (absent_in c.args.absent.now) (program_of_image c.args.image.now p c.new.ensures.is_image of) (c.in_ok-board.ensures.at p of))
     c.carry_out.ensures.err

@@ -15,18 +15,18 @@ returns-in_err-outcome-clause-front g c =
     on_err c.from_residual-in_err-outcome.result (λ p of.
     front_by p c.in_ok-board.board.limit c.args.limit (absent_in c.args.absent.now) c.args.schedule.now (g.W.Watch.seen c.args.watch.now)
     (g.W.Watch.seen c.run.new.watch) c.in_ok-board.ensures.limit
-    (c.in_err-outcome.ensures.err p (absent_in c.args.absent.now) (program_of_image c.args.image.now p c.part_count.ensures.image of)
+    (c.in_err-outcome.ensures.err p (absent_in c.args.absent.now) (program_of_image c.args.image.now p c.new.ensures.is_image of)
     (c.in_ok-board.ensures.at p of)))
 
 pub returns-clause-outcome : goal.returns-clause-outcome
 returns-clause-outcome g c = λ p of.
     subst (λ n. IsOutcome p (absent_in c.args.absent.now) n c.args.schedule.now c.in_ok-outcome.outcome) c.in_ok-board.ensures.limit
-    (c.in_ok-outcome.ensures.outcome p (absent_in c.args.absent.now) (program_of_image c.args.image.now p c.part_count.ensures.image of)
+    (c.in_ok-outcome.ensures.outcome p (absent_in c.args.absent.now) (program_of_image c.args.image.now p c.new.ensures.is_image of)
     (c.in_ok-board.ensures.at p of))
 
 pub returns-clause-watched : goal.returns-clause-watched
 returns-clause-watched g c = λ p of.
-    let is = program_of_image c.args.image.now p c.part_count.ensures.image of in
+    let is = program_of_image c.args.image.now p c.new.ensures.is_image of in
     let at = c.in_ok-board.ensures.at p of in
     run_by p c.in_ok-board.board.limit c.args.limit (absent_in c.args.absent.now) c.args.schedule.now (g.W.Watch.seen c.args.watch.now)
     (g.W.Watch.seen c.run.new.watch) c.in_ok-outcome.outcome c.in_ok-board.ensures.limit

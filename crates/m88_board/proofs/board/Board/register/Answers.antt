@@ -1,7 +1,7 @@
 -- A register that waits has no value, every other its own.
 use Rattle.std.proofs.Common.{◌∙◌}
 use Rattle.m88_base.specs.Reg.{number_of}
-use Rattle.m88_board.proofs.Shown.{register_at, register_is}
+use Rattle.m88_board.proofs.Shown.{value_at, register_is}
 use Rattle.m88_board.specs.contracts.board.Board.{the_view}
 use Rattle.m88_board.proofs.board.Board.register.Goals as goal
 
@@ -14,4 +14,4 @@ pub returns-clause-moment : goal.returns-clause-moment
 returns-clause-moment c = λ p named m at.
     register_is (the_view c.self.inside) (number_of c.args.r) c.get.result c.ok.result c.self.invariant.parts.waiting
     c.ok.ensures.value c.get.ensures.busy c.get.ensures.value
-    ∙ register_at p named m (the_view c.self.inside) (number_of c.args.r) (rw (← c.self.view_is) at at)
+    ∙ value_at p named m (the_view c.self.inside) (number_of c.args.r) (rw (← c.self.view_is) at at)

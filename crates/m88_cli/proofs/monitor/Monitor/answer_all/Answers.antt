@@ -23,25 +23,25 @@ loop-made-init g c =
 pub loop-made-preserved : goal.loop-made-preserved
 loop-made-preserved g c =
     let inv = c.loop-made.invariant in
-    let more = c.in_ok-make.ensures.counted in
+    let more = c.in_ok-step.ensures.counted in
     let before = inv.counted in
     let left = inv.left in
-    let shorter = c.in_ok-make.ensures.shorter refl in
+    let shorter = c.in_ok-step.ensures.shorter refl in
     let some : c.pending.result ≢ 0 = c.if-pending-eq0.false in
     let pending = c.pending.ensures in
     let taken = inv.taken in
-    let new : Monitor = record { board = c.make.new.board; taken = c.loop-made.self.taken; breakpoints = c.loop-made.self.breakpoints } in
+    let new : Monitor = record { board = c.step.new.self; taken = c.loop-made.self.taken; breakpoints = c.loop-made.self.breakpoints } in
     record {
       counted = omega (arith, more, before);
       left = omega (arith, left, shorter, some, pending);
-      limit = c.in_ok-make.ensures.limit ∙ inv.limit;
+      limit = c.in_ok-step.ensures.same.limit ∙ inv.limit;
       taken = omega (arith, more, taken);
       going = λ d letters s stands.
           let drains = inv.going d letters s stands in
           drain_next d letters s c.loop-made._made (g.W.Watch.seen c.args.watch.now) (g.W.Watch.seen c.loop-made.watch)
-          (g.W.Watch.seen c.make.new.watch) c.loop-made.self new drains
+          (g.W.Watch.seen c.step.new.watch) c.loop-made.self new drains
           (drain_wants d letters s c.loop-made._made c.pending.result c.loop-made.self drains.stands c.pending.ensures some)
-          (c.in_ok-make.ensures.step d.program d.named (answered_after d.program d.named d.limit s.moment c.loop-made._made) stands.program
+          (c.in_ok-step.ensures.ok d.program d.named (answered_after d.program d.named d.limit s.moment c.loop-made._made) stands.program
           (drain_step d letters s c.loop-made._made c.loop-made.self drains.stands))
           refl;
     }
@@ -63,14 +63,14 @@ returns-then-pending-eq0-clause-limit g c = c.loop-made.invariant.limit
 pub returns-then-pending-eq0-clause-taken : goal.returns-then-pending-eq0-clause-taken
 returns-then-pending-eq0-clause-taken g c = c.loop-made.invariant.taken
 
-pub returns-in_err-make-clause-err : goal.returns-in_err-make-clause-err
-returns-in_err-make-clause-err g c = on_err c.from_residual.result (λ d letters s stands.
+pub returns-in_err-step-clause-err : goal.returns-in_err-step-clause-err
+returns-in_err-step-clause-err g c = on_err c.from_residual.result (λ d letters s stands.
     let drains = c.loop-made.invariant.going d letters s stands in
     record {
       events = c.loop-made._made;
       each = drains.each;
       saw = subst (λ w. Saw (g.W.Watch.seen c.args.watch.now) (g.W.Watch.seen w) (glances_of d s Drain c.loop-made._made))
-          (sym c.in_err-make.ensures.unseen) drains.saw;
+          (sym c.in_err-step.ensures.unseen) drains.saw;
     })
 
 pub returns-clause-ok : goal.returns-clause-ok
