@@ -1,11 +1,10 @@
 //! Events, each of which the board is shown after.
 
-ghost use Rattle.std.specs.Prelude.{ℕ, Bool, ◌≡◌, ◌<◌, ◌≤◌, ◌+◌, ◌-◌, [], ◌∷◌, IfOk, OnErr, OnOk, length};
-ghost use Rattle.m88_event.specs.Timeline.{Moment, said_at};
-ghost use Rattle.m88_event.specs.declared.letter.Letter.{Letter as LetterValue};
-ghost use Rattle.m88_isa.specs.Machine.{IsProgram, Program};
+ghost use Rattle.std.specs.Prelude.{ℕ, Bool, ◌≡◌, ◌<◌, ◌+◌, [], ◌∷◌, IfOk, OnErr, OnOk};
+ghost use Rattle.m88_event.specs.Timeline.{Moment};
+ghost use Rattle.m88_isa.specs.Machine.{Program};
 ghost use Rattle.m88_board.specs.Kept.{most_events};
-ghost use Rattle.m88_board.specs.Moves.{IsAt, IsStep};
+ghost use Rattle.m88_board.specs.Moves.{IsAt};
 ghost use Rattle.m88_board.specs.Glances.{Saw, glance_at};
 ghost use Rattle.m88_cli.specs.Session.{Course, Session};
 ghost use Rattle.m88_cli.specs.SessionKept.{IsNext, Stands};
@@ -13,30 +12,31 @@ ghost use Rattle.m88_cli.specs.SessionKept.{IsNext, Stands};
 use super::Monitor;
 use m88_base::NoMemory;
 use m88_board::{Board, Watch};
-use m88_event::{Happened, Letter, Schedule};
+use m88_event::{Happened, Schedule};
 
-/// Makes the event of a letter, and shows the board.
-pub(super) fn make<W: Watch>(
-    board: &mut Board,
-    letter: Letter,
-    watch: &mut W,
-) -> Result<Happened, NoMemory>
-    requires { board.old.events < most_events }
-    ensures step { OnOk result ((p : Program) (named : ℕ → Bool) (m : Moment) → IsProgram p
-        → IsAt p named m board.old
-        → IsStep p named letter m (W.seen watch.old) (W.seen watch.new) board.old board.new) }
-    ensures said { IfOk result (λ happened. (p : Program) (named : ℕ → Bool) (m : Moment)
-        → IsAt p named m board.old
-        → happened ≡ said_at p named board.old.limit letter m) }
-    ensures counted { OnOk result (board.new.events ≡ board.old.events + 1) }
-    ensures limit { OnOk result (board.new.limit ≡ board.old.limit) }
-    ensures shorter { letter ≡ LetterValue.Answer
-        → OnOk result (length board.new.pending ≤ length board.old.pending - 1) }
-    ensures unseen { OnErr result (watch.new ≡ watch.old) }
-{
-    let happened = board.event(letter)?;
-    show(board, watch);
-    Ok(happened)
+impl Monitor {
+    /// Makes the event of the next letter of the run, and shows the board.
+    pub(super) fn make_next<W: Watch>(
+        &mut self,
+        schedule: &Schedule,
+        watch: &mut W,
+    ) -> Result<Happened, NoMemory>
+        requires room { self.old.board.events < most_events }
+        requires taken { self.old.taken < most_events }
+        ensures next { IfOk result (λ happened. (c : Course) (s : Session)
+            → Stands c schedule.now s self.old
+            → IsNext c schedule.now s (W.seen watch.old) (W.seen watch.new) happened self.new) }
+        ensures counted { OnOk result (self.new.board.events ≡ self.old.board.events + 1) }
+        ensures limit { OnOk result (self.new.board.limit ≡ self.old.board.limit) }
+        ensures taken { OnOk result (self.new.taken ≡ self.old.taken + 1) }
+        ensures unseen { OnErr result (watch.new ≡ watch.old) }
+    {
+        let letter = schedule.letter_at(self.taken);
+        let happened = self.board.event(letter)?;
+        show(&self.board, watch);
+        self.taken += 1;
+        Ok(happened)
+    }
 }
 
 /// Shows the board.
@@ -47,28 +47,4 @@ fn show<W: Watch>(board: &Board, watch: &mut W)
     // What NIP is at a moment is told with it.
     let _ = board.next_slot();
     watch.after(board);
-}
-
-impl Monitor {
-    /// Makes the event of the next letter of the run, and shows the board.
-    pub(super) fn make_next<W: Watch>(
-        &mut self,
-        schedule: &Schedule,
-        watch: &mut W,
-    ) -> Result<Happened, NoMemory>
-        requires room { self.old.board.events < most_events }
-        requires taken { self.old.taken ≤ self.old.board.events }
-        ensures next { IfOk result (λ happened. (c : Course) (s : Session)
-            → Stands c schedule.now s self.old
-            → IsNext c schedule.now s (W.seen watch.old) (W.seen watch.new) happened self.new) }
-        ensures counted { OnOk result (self.new.board.events ≡ self.old.board.events + 1) }
-        ensures limit { OnOk result (self.new.board.limit ≡ self.old.board.limit) }
-        ensures taken { OnOk result (self.new.taken ≤ self.new.board.events) }
-        ensures unseen { OnErr result (watch.new ≡ watch.old) }
-    {
-        let letter = schedule.letter_at(self.taken);
-        let happened = make(&mut self.board, letter, watch)?;
-        self.taken += 1;
-        Ok(happened)
-    }
 }
