@@ -1,16 +1,15 @@
 //! The object of a module as it grows statement by statement.
-ghost use Rattle.std.specs.Prelude.{◌≡◌, ◌⊎◌, ◌+◌, ◌*◌, ◌^◌, ◌-◌, ◌<◌, ◌≤◌, ◌%◌, ◌==◌, [], None, Some, length, map, IfErr, OnOk, OnErr, IfOk, IsTrue, ◌∷◌, option_copied, if◌then◌else◌};
+ghost use Rattle.std.specs.Prelude.{◌≡◌, ◌⊎◌, ◌*◌, ◌^◌, ◌-◌, ◌<◌, ◌%◌, [], None, Some, length, map, IfErr, OnOk, IfOk, ◌∷◌};
 ghost use Rattle.std.specs.List.{All};
-ghost use Rattle.std.specs.Option.{option_map, option_or};
+ghost use Rattle.std.specs.Option.{option_map};
 ghost use Rattle.m88_parse.specs.WellFormed.{IsFormedBody, IsFormedStatement};
-ghost use Rattle.m88_link.specs.Sound.{HasRoom, origin};
-ghost use Rattle.m88_link.specs.Symbols.{first_repeated, repeated_after, repetition, symbol_of};
+ghost use Rattle.m88_link.specs.Sound.{HasRoom};
+ghost use Rattle.m88_link.specs.Symbols.{first_repeated, repeated_after, repetition};
 ghost use Rattle.m88_asm.specs.Counters.{offset_here, place_here};
 ghost use Rattle.m88_asm.specs.Drafts.{counters_of, empty_growth, here_bytes, next_row, nth, with_body, with_bytes, with_section, with_statement, with_symbols};
 ghost use Rattle.m88_asm.specs.Fault.{memory_ran_out};
 ghost use Rattle.m88_asm.specs.Faults.{duplicate_at, fault_in, misfit_at};
-ghost use Rattle.m88_asm.specs.Filled.{waiting_bytes};
-ghost use Rattle.m88_asm.specs.Objects.{labels_at, marked, sets_at, symbols_of};
+ghost use Rattle.m88_asm.specs.Objects.{labels_at, marked, sets_at};
 
 use crate::exports::marked;
 use crate::fault::{AsmFault, AsmKind};

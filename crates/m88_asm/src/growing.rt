@@ -1,5 +1,5 @@
 //! A section that still grows.
-ghost use Rattle.std.specs.Prelude.{◌≡◌, ◌+◌, ◌++◌, [], length, replicate, OnOk};
+ghost use Rattle.std.specs.Prelude.{◌≡◌, ◌+◌, [], length, replicate, OnOk};
 ghost use Rattle.m88_link.specs.Sound.{HasRoom, origin};
 ghost use Rattle.m88_asm.specs.Drafts.{with_bytes};
 

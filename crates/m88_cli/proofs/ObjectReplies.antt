@@ -15,12 +15,14 @@ use Rattle.m88_link.specs.declared.object_fault.ObjectFault.TheVariants.{Form, R
 use Rattle.m88_srec.specs.Written.{srec_text}
 use Rattle.m88_cli.specs.Answer.{IsAnswerToAccepted}
 use Rattle.m88_cli.specs.Assembly.{link_refusal}
+use Rattle.m88_cli.specs.Behind.{link_fault_behind}
 use Rattle.m88_cli.specs.Command.{link}
 use Rattle.m88_cli.specs.Linking.{RefusesObjects}
 use Rattle.m88_cli.specs.Objects.{IsImageOfObjects, IsRefusedObjects, form_refusal, range_refusal}
 use Rattle.m88_cli.specs.Reply.{Replies}
 use Rattle.m88_cli.specs.declared.reply.Reply.{Reply}
 use Rattle.m88_cli.proofs.OneObjects.{one_image_of}
+use Rattle.m88_cli.proofs.OneUnit.{link_first}
 use Rattle.m88_cli.proofs.Refusing.{refused_reply}
 
 -- what holds of objects that were given holds of the text's
@@ -59,8 +61,8 @@ objects_refused text Memory (Ok r) first told = absurd told
 
 -- and that of one whose layout is refused
 pub layout_refused : (text : List ℕ) (given objects : List Object) (fault : LinkFault) → given ≡ objects → IsSoundText objects text
-    → (fault ≡ memory_fault) ⊎ IsRefused (layout_of given) fault → fault ≢ memory_fault → IsRefusedObjects text (link_refusal fault)
+    → (fault ≡ memory_fault) ⊎ IsRefused (layout_of given) fault → fault ≢ memory_fault → IsRefusedObjects text (link_refusal (link_fault_behind 0 fault))
 layout_refused text given objects fault e is_text (inl memory) told = absurd (told memory)
 layout_refused text given objects fault e is_text (inr refused) told =
     let of_text = of_given (λ os. IsRefused (layout_of os) fault) given objects e refused in
-    inr (inr (record { objects = objects; is_text = is_text; fault = fault; is_refused = of_text; refusal = refl }))
+    inr (inr (record { objects = objects; is_text = is_text; fault = fault; is_refused = of_text; refusal = link_first fault }))

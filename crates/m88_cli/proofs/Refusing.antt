@@ -2,17 +2,13 @@
 use Rattle.std.proofs.Common.{◌≡◌, ◌≢◌, List, ℕ, Option, Result, Ok, Err, false, inl, inr, refl, ap, subst, sym, ◌∙◌}
 use Rattle.std.specs.Prelude.{IfOk, MatchBool}
 use Rattle.m88_base.specs.declared.failing.NoMemory.{NoMemory}
-use Rattle.m88_parse.specs.Language.Units.{IsUnit}
-use Rattle.m88_parse.specs.declared.unit.Unit.{Unit as Source}
-use Rattle.m88_asm.specs.Accepted.{IsUnitFault}
-use Rattle.m88_asm.specs.declared.fault.UnitFault.{UnitFault}
 use Rattle.m88_asm.specs.declared.fault.UnitFault.TheVariants as unit_kind
 use Rattle.m88_cli.specs.Answer.{IsAnswerToAccepted, IsAnswerToRefused, Refuses}
 use Rattle.m88_cli.specs.Assembly.{IsRefusedProgram, IsRefusedSource}
 use Rattle.m88_cli.specs.Command.{Command}
 use Rattle.m88_cli.specs.Loading.{IsRefusedRecords, srec_refusal}
 use Rattle.m88_cli.specs.Refusal.{Refusal, refusal_line}
-use Rattle.m88_cli.specs.SourceFault.{IsAssemblyFault, IsProgramFault, IsTold, refusal_of}
+use Rattle.m88_cli.specs.SourceFault.{IsAssemblyFault, IsProgramFault, IsTold, refusal_behind}
 use Rattle.m88_cli.specs.Reply.{Replies, WatchesReply}
 use Rattle.m88_cli.specs.Watching.{Shown}
 use Rattle.m88_base.specs.Image.{ProgramImage}
@@ -24,31 +20,24 @@ use Rattle.m88_srec.specs.declared.fault.SrecFault.{SrecFault}
 use Rattle.m88_cli.specs.declared.reply.Reply.{Reply}
 use Rattle.m88_cli.specs.declared.source_fault.SourceFault.{SourceFault}
 use Rattle.m88_cli.specs.declared.source_fault.SourceFault.TheVariants.{Parse, Unit}
+use Rattle.m88_cli.proofs.Monitored.{behind_refusal}
 use Rattle.m88_cli.proofs.OneSource.{one_refusal, refused_not_accepted}
+use Rattle.m88_cli.proofs.OneUnit.{asm_first, whole_input}
 
 -- of one that can't be assembled
-pub assembly_refusal : (source : List ℕ) (fault : SourceFault) → IsAssemblyFault source fault → IsTold fault → IsRefusedSource source (refusal_of fault)
+pub assembly_refusal : (source : List ℕ) (fault : SourceFault) → IsAssemblyFault source fault → IsTold fault
+    → IsRefusedSource source (refusal_behind 0 fault)
 assembly_refusal source (Parse fault) (inl memory) told = absurd (told memory)
 assembly_refusal source (Parse fault) (inr first) told = inl (record { fault = fault; is_first = first; refusal = refl })
 assembly_refusal source (Unit (unit_kind.Asm fault)) (inl memory) told = absurd (told memory)
 assembly_refusal source (Unit (unit_kind.Asm fault)) (inr (unit, is_unit, first)) told =
-    inr (record { unit = unit; is_unit = is_unit; fault = fault; is_first = first; refusal = refl })
+    inr (record { unit = unit; is_unit = is_unit; fault = fault; is_first = first; refusal = asm_first fault })
 assembly_refusal source (Unit (unit_kind.Link fault)) is told = absurd is
 
 -- of one that can't be assembled and linked
-of_unit : (source : List ℕ) (unit : Source) (fault : UnitFault) → IsUnit source unit → IsUnitFault unit fault → IsTold (Unit fault)
-    → IsRefusedProgram source (refusal_of (Unit fault))
-of_unit source unit (unit_kind.Asm fault) is_unit (inl memory) told = absurd (told memory)
-of_unit source unit (unit_kind.Asm fault) is_unit (inr first) told =
-    inl (inr (record { unit = unit; is_unit = is_unit; fault = fault; is_first = first; refusal = refl }))
-of_unit source unit (unit_kind.Link fault) is_unit (inl memory) told = absurd (told memory)
-of_unit source unit (unit_kind.Link fault) is_unit (inr (assembled, refused)) told =
-    inr (record { unit = unit; is_unit = is_unit; is_assembled = assembled; fault = fault; is_refused = refused; refusal = refl })
-
-pub program_refusal : (source : List ℕ) (fault : SourceFault) → IsProgramFault source fault → IsTold fault → IsRefusedProgram source (refusal_of fault)
-program_refusal source (Parse fault) (inl memory) told = absurd (told memory)
-program_refusal source (Parse fault) (inr first) told = inl (inl (record { fault = fault; is_first = first; refusal = refl }))
-program_refusal source (Unit fault) (unit, is_unit, first) told = of_unit source unit fault is_unit first told
+pub program_refusal : (source : List ℕ) (fault : SourceFault) → IsProgramFault source fault → IsTold fault
+    → IsRefusedProgram source (refusal_behind 0 fault)
+program_refusal source fault is told = whole_input source (refusal_behind 0 fault) (behind_refusal 0 source fault is told)
 
 -- S-records whose fault isn't that memory ran out
 pub records_refusal : (text : List ℕ) (r : Result ProgramImage SrecFault) (fault : SrecFault) → r ≡ Err fault

@@ -21,7 +21,7 @@ use Rattle.m88_cli.specs.Refusal.{refusal_line}
 use Rattle.m88_cli.specs.Reply.{Replies, WatchesReply}
 use Rattle.m88_cli.specs.Runs.{IsSourceProgram}
 use Rattle.m88_cli.specs.Limits.{most_input, most_statements}
-use Rattle.m88_cli.specs.SourceFault.{IsProgramFault, IsTold, refusal_of}
+use Rattle.m88_cli.specs.SourceFault.{IsProgramFault, IsTold, refusal_behind}
 use Rattle.m88_cli.specs.Watching.{SawFront, SawRun, Shown, ShownFront}
 use Rattle.m88_cli.specs.Workload.{drawn_letters, seed_after, summary_of, workload_letters, workload_schedule, workload_source}
 use Rattle.m88_cli.specs.declared.reply.Reply.{Reply}
@@ -66,16 +66,16 @@ letters_are number count text is =
 pub no_refusal : (number count : ℕ) (source : List ℕ) (fault : SourceFault) → count ≤ most_statements
     → source ≡ workload_source number count → IsProgramFault source fault → IsTold fault → ⊥
 no_refusal number count source fault few is faulty told =
-    not_linked (workload_source number count) (refusal_of fault) (workload_accepted number count few)
+    not_linked (workload_source number count) (refusal_behind 0 fault) (workload_accepted number count few)
     (program_refusal (workload_source number count) fault (subst (λ (s : List ℕ). IsProgramFault s fault) is faulty) told)
 
 -- so it is never refused
 pub never_refused : (number count : ℕ) (source : List ℕ) (fault : SourceFault) (result : Result Reply NoMemory) → count ≤ most_statements
     → source ≡ workload_source number count → IsProgramFault source fault
-    → IfOk result (λ r. r.text.items ≡ refusal_line (refusal_of fault)) → IfOk result (λ r. r.accepted ≡ false) → IfOk result (λ _. IsTold fault)
+    → IfOk result (λ r. r.text.items ≡ refusal_line (refusal_behind 0 fault)) → IfOk result (λ r. r.accepted ≡ false) → IfOk result (λ _. IsTold fault)
     → (input : List ℕ) → IfOk result (Replies (soak number count) input)
 never_refused number count source fault result few is faulty line refused told input =
-    refused_reply (soak number count) input (refusal_of fault) result
+    refused_reply (soak number count) input (refusal_behind 0 fault) result
     (λ is_told. no_refusal number count source fault few is faulty is_told) line refused told
 
 pub never_refused_watch : {W : Type 0} (seen : W → Option (List Glance)) (watch : W) (number count : ℕ) (result : Result Reply NoMemory)

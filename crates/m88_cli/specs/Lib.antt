@@ -25,7 +25,6 @@ pub mod Status
 pub mod Cutting
 pub mod Kept
 pub mod SourceFault
-pub mod RefusalBehind
 pub mod MonitorFaults
 pub mod ScriptWords
 pub mod Linking

@@ -2,9 +2,8 @@
 -- as the code keeps them.
 use Rattle.std.specs.Prelude.{ℕ, List}
 use Rattle.m88_cli.specs.Refusal.{Refusal}
-use Rattle.m88_cli.specs.RefusalBehind.{refusal_behind}
 use Rattle.m88_cli.specs.Script.{HasNoScript, IsScript, script_refusal}
-use Rattle.m88_cli.specs.SourceFault.{IsProgramFault, IsTold}
+use Rattle.m88_cli.specs.SourceFault.{IsProgramFault, IsTold, refusal_behind}
 use Rattle.m88_cli.specs.declared.monitoring.MonitorFault.{MonitorFault}
 use Rattle.m88_cli.specs.declared.monitoring.MonitorFault.TheVariants.{Script, Source}
 use Rattle.m88_cli.specs.declared.script.MonitorCommand.{MonitorCommand}

@@ -11,15 +11,16 @@ use Rattle.m88_asm.specs.Fault.{memory_ran_out}
 use Rattle.m88_asm.specs.Faults.{unit_fault}
 use Rattle.m88_asm.specs.declared.fault.UnitFault.TheVariants as unit_kind
 use Rattle.m88_cli.specs.Assembly.{asm_refusal, link_refusal, parse_refusal}
+use Rattle.m88_cli.specs.Behind.{asm_fault_behind, link_fault_behind, parse_fault_behind}
 use Rattle.m88_cli.specs.Refusal.{Refusal}
 use Rattle.m88_cli.specs.declared.source_fault.SourceFault.{SourceFault}
 use Rattle.m88_cli.specs.declared.source_fault.SourceFault.TheVariants.{Parse, Unit}
 
--- where and why a source is refused for a fault
-abbrev pub refusal_of : SourceFault → Refusal
-refusal_of (Parse fault) = parse_refusal fault
-refusal_of (Unit (unit_kind.Asm fault)) = asm_refusal fault
-refusal_of (Unit (unit_kind.Link fault)) = link_refusal fault
+-- where and why a source behind n lines is refused for a fault
+abbrev pub refusal_behind : ℕ → SourceFault → Refusal
+refusal_behind n (Parse fault) = parse_refusal (parse_fault_behind n fault)
+refusal_behind n (Unit (unit_kind.Asm fault)) = asm_refusal (asm_fault_behind n fault)
+refusal_behind n (Unit (unit_kind.Link fault)) = link_refusal (link_fault_behind n fault)
 
 -- the fault isn't that memory ran out
 abbrev pub IsTold : SourceFault → Type 0

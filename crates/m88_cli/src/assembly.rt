@@ -23,7 +23,7 @@ pub fn assemble_source(alloc: Global, source: &[u8]) -> Result<Reply, NoMemory>
 {
     let objects = match objects_of(alloc, source) {
         Ok(objects) => objects,
-        Err(fault) => return refuse(alloc, fault),
+        Err(fault) => return refuse(alloc, 0, fault),
     };
     let text = object_text(alloc, objects.as_slice())?;
     Ok(Reply {
@@ -39,7 +39,7 @@ pub fn build_source(alloc: Global, source: &[u8]) -> Result<Reply, NoMemory>
 {
     let image = match image_of_source(alloc, source) {
         Ok(image) => image,
-        Err(fault) => return refuse(alloc, fault),
+        Err(fault) => return refuse(alloc, 0, fault),
     };
     let text = write_srec(alloc, &image)?;
     Ok(Reply {

@@ -29,7 +29,6 @@ mod monitoring;
 mod objects;
 mod running;
 mod soaking;
-mod source_behind;
 mod source_fault;
 mod summary;
 mod workload;

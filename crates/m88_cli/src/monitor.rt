@@ -78,7 +78,7 @@ impl Monitor {
         text: &mut Vec<u8>,
     ) -> Result<(), NoMemory>
         requires room { self.old.board.events ≤ most_counted }
-        requires taken { self.old.taken ≤ self.old.board.events }
+        requires taken { self.old.taken ≤ most_counted }
         requires limit { self.old.board.limit ≡ session_limit }
         ensures ok { OnOk result ((c : Course) (s : Session) → Stands c schedule.now s self.old
             → Carried c schedule.now s command.now (W.seen watch.old) (W.seen watch.new)
@@ -87,7 +87,7 @@ impl Monitor {
             → Broke c s command.now (W.seen watch.old) (W.seen watch.new)) }
         ensures few { OnOk result (self.new.board.events ≤ self.old.board.events + most_made) }
         ensures limit { OnOk result (self.new.board.limit ≡ self.old.board.limit) }
-        ensures taken { OnOk result (self.new.taken ≤ self.new.board.events) }
+        ensures taken { OnOk result (self.new.taken ≤ self.old.taken + most_made) }
     {
         match command {
             MonitorCommand::Step(count) => self.step(schedule, *count, watch, text),

@@ -21,8 +21,7 @@ use crate::monitor::carry_out;
 use crate::reply::{Reply, refusal};
 use crate::script::{MonitorCommand, ScriptFault, read_script};
 use crate::script_lines::MOST_COMMANDS;
-use crate::source_behind::refuse_behind;
-use crate::source_fault::SourceFault;
+use crate::source_fault::{SourceFault, refuse};
 use arrayvec::ArrayVec;
 use m88_base::{Absent, Image, NoMemory};
 use m88_board::{Board, Watch};
@@ -70,7 +69,7 @@ pub fn refuse_monitor(alloc: Global, fault: MonitorFault) -> Result<Reply, NoMem
 {
     match fault {
         MonitorFault::Script(fault) => refusal(alloc, u64::from(fault.line), 1, b"script"),
-        MonitorFault::Source { lines, fault } => refuse_behind(alloc, lines, fault),
+        MonitorFault::Source { lines, fault } => refuse(alloc, lines, fault),
     }
 }
 

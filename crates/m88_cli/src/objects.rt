@@ -23,7 +23,7 @@ pub fn link_objects(alloc: Global, text: &[u8]) -> Result<Reply, NoMemory>
     };
     let image = match link(alloc, objects.as_slice()) {
         Ok(image) => image,
-        Err(fault) => return unlinked(alloc, fault),
+        Err(fault) => return unlinked(alloc, 0, fault),
     };
     let records = write_srec(alloc, &image)?;
     Ok(Reply {

@@ -8,12 +8,13 @@ use crate::cutting::cut_at;
 use crate::numbers::{decimal_number, hexadecimal_number};
 use arrayvec::ArrayVec;
 use m88_base::Absent;
+use m88_mem::PAGE_COUNT;
 
 /// The most page numbers that a text may have.
 const MOST_NUMBERS: usize = 64;
 
 /// The greatest number of a page.
-const LAST_PAGE: u32 = 0xFFFFF;
+const LAST_PAGE: u32 = PAGE_COUNT as u32 - 1;
 
 /// The absent pages that a text says: `none`, `all`, or 1 to 64 page numbers joined by commas. None for any other text.
 pub fn absent_of(text: &str) -> Option<Absent>

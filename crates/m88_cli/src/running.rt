@@ -44,7 +44,7 @@ pub fn run_source<W: Watch>(
 {
     match image_of_source(alloc, source) {
         Ok(image) => run_image(alloc, limit, absent, schedule, &image, watch),
-        Err(fault) => refuse(alloc, fault),
+        Err(fault) => refuse(alloc, 0, fault),
     }
 }
 

@@ -37,7 +37,7 @@ pub fn run_workload<W: Watch>(
     };
     let image = match image_of_source(alloc, source.as_slice()) {
         Ok(image) => image,
-        Err(fault) => return refuse(alloc, fault),
+        Err(fault) => return refuse(alloc, 0, fault),
     };
     let outcome = outcome_of(alloc, count, &Absent::All, &schedule, &image, watch)?;
     let text = summary(alloc, number, count, &outcome)?;

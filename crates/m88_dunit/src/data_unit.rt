@@ -1,5 +1,5 @@
 //! The stages of the data unit.
-ghost use Rattle.std.specs.Prelude.{◌≡◌, ◌+◌, ◌<◌, ◌≤◌, ◌↔◌, ◌++◌, [], drop, length, slice_get, IfSome, IsErr, OnErr, OnOk};
+ghost use Rattle.std.specs.Prelude.{◌≡◌, ◌+◌, ◌<◌, ◌↔◌, ◌++◌, [], drop, length, slice_get, IfSome, IsErr, OnErr, OnOk};
 ghost use Rattle.m88_base.specs.RegisterSet.{register_bits};
 ghost use Rattle.m88_isa.specs.Bus.{listed, waits_for};
 ghost use Rattle.m88_isa.specs.Held.{most_pending};

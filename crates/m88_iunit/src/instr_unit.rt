@@ -1,6 +1,6 @@
 //! The three instruction pointers and how they move.
 ghost use Rattle.std.specs.Prelude.{◌≡◌, ◌%◌, true, false};
-ghost use Rattle.m88_iunit.specs.Pointers.{AreWordSlots, IsWordSlot, advanced, at_entry, no_slot, resumed, slot_of, squashed_slot, valid_slot, word_behind, slot_word};
+ghost use Rattle.m88_iunit.specs.Pointers.{AreWordSlots, IsWordSlot, advanced, at_entry, resumed, slot_of, squashed_slot, valid_slot, word_behind, slot_word};
 
 use crate::slot::Slot;
 use std::marker::Model;

@@ -1,5 +1,5 @@
 //! The lines of an object text, one by one.
-ghost use Rattle.std.specs.Prelude.{◌≡◌, ◌<◌, ◌^◌, length};
+ghost use Rattle.std.specs.Prelude.{◌<◌, ◌^◌, length};
 ghost use Rattle.m88_link.specs.Drafts.{GivesObjects, nothing_read, read_from};
 ghost use Rattle.m88_link.specs.ObjectRead.{ended_lines};
 

@@ -1,6 +1,6 @@
 //! The fields of words that take the value of a symbol.
-ghost use Rattle.std.specs.Prelude.{◌≡◌, ◌+◌, ◌-◌, ◌^◌, ◌%◌, ◌≤◌, ◌<◌, ◌==◌, ◌&&◌, ◌||◌, nat_lt, nat_le, length};
-ghost use Rattle.m88_link.specs.Field.{distance, field_value, is_in_reach, is_near, patched_word};
+ghost use Rattle.std.specs.Prelude.{◌≡◌, ◌+◌, ◌-◌, ◌^◌, ◌%◌, ◌≤◌, ◌<◌, ◌==◌, ◌&&◌, ◌||◌, length};
+ghost use Rattle.m88_link.specs.Field.{distance, is_in_reach, is_near, patched_word};
 ghost use Rattle.m88_link.specs.Relocated.{patched};
 
 use byteorder::{BigEndian, ByteOrder};

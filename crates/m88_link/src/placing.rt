@@ -1,5 +1,5 @@
 //! The bytes of sections with their relocations carried out, and the image of them.
-ghost use Rattle.std.specs.Prelude.{◌≡◌, ℕ, [], ◌+◌, ◌^◌, ◌≤◌, ◌++◌, All, IfOk, OnOk, flat_map, length, map};
+ghost use Rattle.std.specs.Prelude.{◌≡◌, ℕ, [], ◌+◌, ◌^◌, ◌≤◌, All, IfOk, OnOk, flat_map, length, map};
 ghost use Rattle.m88_base.specs.Found.{IsFree, PutsBytes};
 ghost use Rattle.m88_base.specs.Image.{byte_at, byte_count};
 ghost use Rattle.m88_base.specs.Placed.{byte_among, count_among};

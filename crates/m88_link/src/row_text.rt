@@ -1,5 +1,5 @@
 //! Lines of an object text that give no bytes, read.
-ghost use Rattle.std.specs.Prelude.{◌≡◌, ◌*◌, ◌+◌, ◌<◌, ◌^◌, IfSome};
+ghost use Rattle.std.specs.Prelude.{◌≡◌, ◌*◌, ◌+◌, ◌<◌, IfSome};
 ghost use Rattle.m88_link.specs.Drafts.{TakesOrRefuses};
 ghost use Rattle.m88_link.specs.Rows.{at_of, byte_by_digits, bytes_behind, head_of, hex_value, reloc_in, keyword_of, row_by, row_in, symbol_in};
 

@@ -1,10 +1,10 @@
 //! The rooms that sections take, and the least address that two of them have.
-ghost use Rattle.std.specs.Prelude.{◌≡◌, ◌+◌, ◌^◌, ◌≤◌, ◌⊎◌, ◌++◌, All, IfErr, IfOk, IfSome, MatchOption, MatchResult, OnOk, Some, option_copied, flat_map, length, map, slice_get, filter};
+ghost use Rattle.std.specs.Prelude.{◌≡◌, ◌+◌, ◌^◌, ◌≤◌, ◌⊎◌, ◌++◌, All, IfErr, IfOk, MatchOption, MatchResult, OnOk, Some, option_copied, flat_map, length, map, slice_get, filter};
 ghost use Rattle.std.specs.List.Sorted.{IsNonDecreasingBy};
 ghost use Rattle.m88_link.specs.Bases.{base_at};
 ghost use Rattle.m88_link.specs.Faults.{memory_fault};
 ghost use Rattle.m88_link.specs.Layout.{extent, extents_of};
-ghost use Rattle.m88_link.specs.Refusal.{AreDisjoint, IsOverlap, covers, hits};
+ghost use Rattle.m88_link.specs.Refusal.{AreDisjoint, IsOverlap, covers};
 ghost use Rattle.m88_link.specs.Spans.{IsLeastDouble};
 
 use crate::bases::Placement;

@@ -8,7 +8,6 @@ ghost use Rattle.m88_isa.specs.Bus.{bus_after, loaded};
 ghost use Rattle.m88_isa.specs.Machine.{with_register};
 ghost use Rattle.m88_isa.specs.Triples.{access_in, is_valid_triple};
 ghost use Rattle.m88_mem.specs.DataBus.{absent_of, bus_of, page_number, ready_of};
-ghost use Rattle.m88_mem.specs.Marks.{with_page};
 ghost use Rattle.m88_scoreboard.specs.Registers.{none_waits, waiting_of};
 ghost use Rattle.m88_monitor.specs.Serving.{CanServe, CanServeTriple, after_service, after_triple, serving_of, triple_at, valid_count, with_finished, with_loaded, without_bit};
 

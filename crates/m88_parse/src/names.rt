@@ -1,5 +1,5 @@
 //! Names with a meaning of their own: registers, bits, conditions, halves, symbols.
-ghost use Rattle.std.specs.Prelude.{◌≡◌, ◌≤◌, ◌<◌, IfSome, SomeIff, true};
+ghost use Rattle.std.specs.Prelude.{◌≡◌, ◌<◌, IfSome, SomeIff, true};
 ghost use Rattle.m88_parse.specs.Reader.Names.{register_of, control_of, float_control_of, control_in, is_here, is_module, is_valid_name, is_symbol};
 ghost use Rattle.m88_parse.specs.Language.Words.{bit_named, condition_named, half_named};
 ghost use Rattle.m88_parse.specs.WellFormed.{IsHalf};

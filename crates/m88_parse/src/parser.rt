@@ -1,5 +1,5 @@
 //! The tokens of a line that are left, as a statement is read from them.
-ghost use Rattle.std.specs.Prelude.{◌≡◌, map, length, ◌-◌};
+ghost use Rattle.std.specs.Prelude.{◌≡◌, map, ◌-◌};
 ghost use Rattle.m88_parse.specs.Fault.{Gives};
 ghost use Rattle.m88_parse.specs.Reader.State.{ReaderState, first, second, place, past, fault, is_next_mark};
 ghost use Rattle.m88_parse.specs.Reader.Slots.{mark_at, line_end_at};

@@ -2,7 +2,7 @@
 
 ghost use Rattle.std.specs.Prelude.{ℕ, Bool, ◌≡◌, ◌<◌, ◌≤◌, ◌+◌, ◌-◌, [], length, IfOk, OnErr, OnOk};
 ghost use Rattle.m88_event.specs.Choice.{ServesOrEnds};
-ghost use Rattle.m88_event.specs.Local.{choice_by, record_by, local_at};
+ghost use Rattle.m88_event.specs.Local.{choice_by, record_by};
 ghost use Rattle.m88_event.specs.Timeline.{Moment, after_letter, said_at};
 ghost use Rattle.m88_event.specs.declared.letter.Letter.{Letter as LetterValue};
 ghost use Rattle.m88_isa.specs.Machine.{IsProgram, Program};

@@ -1,6 +1,6 @@
 //! Whole runs, and draining.
 
-ghost use Rattle.std.specs.Prelude.{ℕ, Bool, List, [], ◌∷◌, ◌↔◌, ◌≡◌, ◌<◌, ◌≤◌, ◌+◌, ◌-◌, ◌*◌, true, length, IfOk, OnErr, OnOk};
+ghost use Rattle.std.specs.Prelude.{ℕ, Bool, [], ◌∷◌, ◌↔◌, ◌≡◌, ◌<◌, ◌≤◌, ◌+◌, ◌-◌, ◌*◌, true, length, IfOk, OnErr, OnOk};
 ghost use Rattle.m88_event.specs.Run.{IsDrain, IsDraining, IsOutcome, IsRun, IsRunning, answered_after, moment_after, outcome_at};
 ghost use Rattle.m88_event.specs.Timeline.{Moment, is_over, opening_moment, said_at};
 ghost use Rattle.m88_event.specs.declared.happened.End.{End as EndValue};

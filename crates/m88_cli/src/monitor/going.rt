@@ -13,7 +13,7 @@ use super::showing::push_counts;
 use crate::limits::SESSION_LIMIT;
 use m88_base::NoMemory;
 use m88_board::Watch;
-use m88_event::{Letter, Schedule};
+use m88_event::Schedule;
 
 impl Monitor {
     /// `step`: up to so many events, fewer where the run is over; then the line of the counts.
@@ -25,7 +25,7 @@ impl Monitor {
         text: &mut Vec<u8>,
     ) -> Result<(), NoMemory>
         requires room { self.old.board.events ≤ most_counted }
-        requires taken { self.old.taken ≤ self.old.board.events }
+        requires taken { self.old.taken ≤ most_counted }
         ensures ok { OnOk result ((c : Course) (s : Session) → Stands c schedule.now s self.old
             → Carried c schedule.now s (Step count) (W.seen watch.old) (W.seen watch.new)
             text.old.items text.new.items self.new) }
@@ -33,7 +33,7 @@ impl Monitor {
             → Broke c s (Step count) (W.seen watch.old) (W.seen watch.new)) }
         ensures few { OnOk result (self.new.board.events ≤ self.old.board.events + most_made) }
         ensures limit { OnOk result (self.new.board.limit ≡ self.old.board.limit) }
-        ensures taken { OnOk result (self.new.taken ≤ self.new.board.events) }
+        ensures taken { OnOk result (self.new.taken ≤ self.old.taken + most_made) }
     {
         self.advance(schedule, count, watch)?;
         push_counts(text, &self.board)?;
@@ -48,14 +48,14 @@ impl Monitor {
         watch: &mut W,
     ) -> Result<(), NoMemory>
         requires room { self.old.board.events ≤ most_counted }
-        requires taken { self.old.taken ≤ self.old.board.events }
+        requires taken { self.old.taken ≤ most_counted }
         ensures ok { OnOk result ((c : Course) (s : Session) → Stands c schedule.now s self.old
             → Went c schedule.now s (Step count) (W.seen watch.old) (W.seen watch.new) self.new) }
         ensures err { OnErr result ((c : Course) (s : Session) → Stands c schedule.now s self.old
             → Broke c s (Step count) (W.seen watch.old) (W.seen watch.new)) }
         ensures few { OnOk result (self.new.board.events ≤ self.old.board.events + most_made) }
         ensures limit { OnOk result (self.new.board.limit ≡ self.old.board.limit) }
-        ensures taken { OnOk result (self.new.taken ≤ self.new.board.events) }
+        ensures taken { OnOk result (self.new.taken ≤ self.old.taken + most_made) }
     {
         for _made in 0..count {
             if self.board.is_over() {
@@ -75,7 +75,7 @@ impl Monitor {
         text: &mut Vec<u8>,
     ) -> Result<(), NoMemory>
         requires room { self.old.board.events ≤ most_counted }
-        requires taken { self.old.taken ≤ self.old.board.events }
+        requires taken { self.old.taken ≤ most_counted }
         requires limit { self.old.board.limit ≡ session_limit }
         ensures ok { OnOk result ((c : Course) (s : Session) → Stands c schedule.now s self.old
             → Carried c schedule.now s Go (W.seen watch.old) (W.seen watch.new)
@@ -84,7 +84,7 @@ impl Monitor {
             → Broke c s Go (W.seen watch.old) (W.seen watch.new)) }
         ensures few { OnOk result (self.new.board.events ≤ self.old.board.events + most_made) }
         ensures limit { OnOk result (self.new.board.limit ≡ self.old.board.limit) }
-        ensures taken { OnOk result (self.new.taken ≤ self.new.board.events) }
+        ensures taken { OnOk result (self.new.taken ≤ self.old.taken + most_made) }
     {
         self.run_on(schedule, watch)?;
         push_counts(text, &self.board)?;
@@ -94,7 +94,7 @@ impl Monitor {
     /// Makes the events of `go`.
     fn run_on<W: Watch>(&mut self, schedule: &Schedule, watch: &mut W) -> Result<(), NoMemory>
         requires room { self.old.board.events ≤ most_counted }
-        requires taken { self.old.taken ≤ self.old.board.events }
+        requires taken { self.old.taken ≤ most_counted }
         requires limit { self.old.board.limit ≡ session_limit }
         ensures ok { OnOk result ((c : Course) (s : Session) → Stands c schedule.now s self.old
             → Went c schedule.now s Go (W.seen watch.old) (W.seen watch.new) self.new) }
@@ -102,7 +102,7 @@ impl Monitor {
             → Broke c s Go (W.seen watch.old) (W.seen watch.new)) }
         ensures few { OnOk result (self.new.board.events ≤ self.old.board.events + most_made) }
         ensures limit { OnOk result (self.new.board.limit ≡ self.old.board.limit) }
-        ensures taken { OnOk result (self.new.taken ≤ self.new.board.events) }
+        ensures taken { OnOk result (self.new.taken ≤ self.old.taken + most_made) }
     {
         // Every run is over within so many events more.
         let pending = usize::from(self.board.pending());
@@ -136,7 +136,7 @@ impl Monitor {
         text: &mut Vec<u8>,
     ) -> Result<(), NoMemory>
         requires room { self.old.board.events ≤ most_counted }
-        requires taken { self.old.taken ≤ self.old.board.events }
+        requires taken { self.old.taken ≤ most_counted }
         ensures ok { OnOk result ((c : Course) (letters : List LetterValue) (s : Session)
             → Stands c letters s self.old
             → Carried c letters s Drain (W.seen watch.old) (W.seen watch.new)
@@ -146,34 +146,12 @@ impl Monitor {
             → Broke c s Drain (W.seen watch.old) (W.seen watch.new)) }
         ensures few { OnOk result (self.new.board.events ≤ self.old.board.events + most_made) }
         ensures limit { OnOk result (self.new.board.limit ≡ self.old.board.limit) }
-        ensures taken { OnOk result (self.new.taken ≤ self.new.board.events) }
+        ensures taken { OnOk result (self.new.taken ≤ self.old.taken + most_made) }
     {
-        self.answer_all(watch)?;
+        // That few are pending is told with their number.
+        let _ = self.board.pending();
+        self.board.drain(watch)?;
         push_counts(text, &self.board)?;
-        Ok(())
-    }
-
-    /// Makes the events of `drain`.
-    fn answer_all<W: Watch>(&mut self, watch: &mut W) -> Result<(), NoMemory>
-        requires room { self.old.board.events ≤ most_counted }
-        requires taken { self.old.taken ≤ self.old.board.events }
-        ensures ok { OnOk result ((c : Course) (letters : List LetterValue) (s : Session)
-            → Stands c letters s self.old
-            → Went c letters s Drain (W.seen watch.old) (W.seen watch.new) self.new) }
-        ensures err { OnErr result ((c : Course) (letters : List LetterValue) (s : Session)
-            → Stands c letters s self.old
-            → Broke c s Drain (W.seen watch.old) (W.seen watch.new)) }
-        ensures few { OnOk result (self.new.board.events ≤ self.old.board.events + most_made) }
-        ensures limit { OnOk result (self.new.board.limit ≡ self.old.board.limit) }
-        ensures taken { OnOk result (self.new.taken ≤ self.new.board.events) }
-    {
-        let most = self.board.pending();
-        for _made in 0..most {
-            if self.board.pending() == 0 {
-                return Ok(());
-            }
-            self.board.step(Letter::Answer, watch)?;
-        }
         Ok(())
     }
 }

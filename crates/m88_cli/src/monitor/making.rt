@@ -1,6 +1,6 @@
 //! The event of the next letter of a run.
 
-ghost use Rattle.std.specs.Prelude.{◌≡◌, ◌<◌, ◌≤◌, ◌+◌, IfOk, OnErr, OnOk};
+ghost use Rattle.std.specs.Prelude.{◌≡◌, ◌<◌, ◌+◌, IfOk, OnErr, OnOk};
 ghost use Rattle.m88_board.specs.Kept.{most_events};
 ghost use Rattle.m88_cli.specs.Session.{Course, Session};
 ghost use Rattle.m88_cli.specs.SessionKept.{IsNext, Stands};
@@ -18,13 +18,13 @@ impl Monitor {
         watch: &mut W,
     ) -> Result<Happened, NoMemory>
         requires room { self.old.board.events < most_events }
-        requires taken { self.old.taken ≤ self.old.board.events }
+        requires taken { self.old.taken < most_events }
         ensures next { IfOk result (λ happened. (c : Course) (s : Session)
             → Stands c schedule.now s self.old
             → IsNext c schedule.now s (W.seen watch.old) (W.seen watch.new) happened self.new) }
         ensures counted { OnOk result (self.new.board.events ≡ self.old.board.events + 1) }
         ensures limit { OnOk result (self.new.board.limit ≡ self.old.board.limit) }
-        ensures taken { OnOk result (self.new.taken ≤ self.new.board.events) }
+        ensures taken { OnOk result (self.new.taken ≡ self.old.taken + 1) }
         ensures unseen { OnErr result (watch.new ≡ watch.old) }
     {
         let letter = schedule.letter_at(self.taken);

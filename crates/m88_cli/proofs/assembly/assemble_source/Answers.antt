@@ -2,14 +2,14 @@
 use Rattle.std.proofs.Common.{ap, ◌∙◌}
 use Rattle.m88_link.specs.ObjectText.{objects_text}
 use Rattle.m88_cli.specs.Command.{asm}
-use Rattle.m88_cli.specs.SourceFault.{refusal_of}
+use Rattle.m88_cli.specs.SourceFault.{refusal_behind}
 use Rattle.m88_cli.proofs.Linked.{assembled}
 use Rattle.m88_cli.proofs.Refusing.{assembly_refusal, refused_reply}
 use Rattle.m88_cli.proofs.assembly.assemble_source.Goals as goal
 
 pub returns-in-Err : goal.returns-in-Err
 returns-in-Err c =
-    refused_reply asm c.args.source.now (refusal_of c.in-Err.fault) c.refuse.result
+    refused_reply asm c.args.source.now (refusal_behind 0 c.in-Err.fault) c.refuse.result
     (assembly_refusal c.args.source.now c.in-Err.fault c.in-Err.ensures.fault)
     c.refuse.ensures.line c.refuse.ensures.refused c.refuse.ensures.told
 

@@ -26,10 +26,12 @@ loop-command-preserved g c =
     let inv = c.loop-command.invariant in
     let before = inv.counted in
     let few = c.in_ok-carry.ensures.few in
+    let taken = inv.taken in
+    let next = c.in_ok-carry.ensures.taken in
     record {
       counted = omega (arith, before, few);
       limit = c.in_ok-carry.ensures.limit ∙ inv.limit;
-      taken = c.in_ok-carry.ensures.taken;
+      taken = omega (arith, taken, next);
       going = λ p named is at.
           let carrying = inv.going p named is at in
           carry_next (course_of p named c.args.schedule.now) c.args.schedule.now c.args.commands.now _ opening_session c.loop-command.command-index

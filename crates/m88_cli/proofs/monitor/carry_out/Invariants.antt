@@ -13,7 +13,7 @@ abbrev pub invariant-loop-command : goal.invariant-loop-command
 invariant-loop-command g l = record {
   counted : l.monitor.board.events ≤ l.command-index * most_made;
   limit : l.monitor.board.limit ≡ session_limit;
-  taken : l.monitor.taken ≤ l.monitor.board.events;
+  taken : l.monitor.taken ≤ l.command-index * most_made;
   going : (p : Program) (named : ℕ → Bool) → IsProgram p → IsAt p named opening_moment l.initial.monitor.board
       → IsCarrying (course_of p named l.schedule) l.schedule l.commands opening_session l.command-index (g.W.Watch.seen l.initial.watch)
       (g.W.Watch.seen l.watch) l.text.items l.monitor;

@@ -4,7 +4,7 @@ use Rattle.std.proofs.lemmas.Result.{on_err_weaker}
 use Rattle.m88_mem.specs.Marks.{absent_in}
 use Rattle.m88_cli.specs.Command.{run}
 use Rattle.m88_cli.specs.Runs.{IsSourceProgram}
-use Rattle.m88_cli.specs.SourceFault.{refusal_of}
+use Rattle.m88_cli.specs.SourceFault.{refusal_behind}
 use Rattle.m88_cli.proofs.Programs.{accepted_source, held_by, one_source_program}
 use Rattle.m88_cli.proofs.Refusing.{program_refusal, refused_reply}
 use Rattle.m88_cli.proofs.Reporting.{TellsOf, answering, reported, watching}
@@ -12,7 +12,7 @@ use Rattle.m88_cli.proofs.running.run_source.Goals as goal
 
 pub returns-in-Err-clause-reply : goal.returns-in-Err-clause-reply
 returns-in-Err-clause-reply g c =
-    refused_reply (run c.args.limit (absent_in c.args.absent.now) c.args.schedule.now) c.args.source.now (refusal_of c.in-Err.fault) c.refuse.result
+    refused_reply (run c.args.limit (absent_in c.args.absent.now) c.args.schedule.now) c.args.source.now (refusal_behind 0 c.in-Err.fault) c.refuse.result
     (program_refusal c.args.source.now c.in-Err.fault c.in-Err.ensures.fault)
     c.refuse.ensures.line c.refuse.ensures.refused c.refuse.ensures.told
 

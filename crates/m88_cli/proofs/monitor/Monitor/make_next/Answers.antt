@@ -1,5 +1,6 @@
 -- The letter is the run's next one.
 use Rattle.std.proofs.Common.{refl, ◌+◌}
+use Rattle.m88_event.specs.Timeline.{after_letter}
 use Rattle.m88_cli.proofs.Along.{next_is}
 use Rattle.m88_cli.specs.declared.monitor.Monitor.{Monitor}
 use Rattle.m88_cli.proofs.monitor.Monitor.make_next.Goals as goal

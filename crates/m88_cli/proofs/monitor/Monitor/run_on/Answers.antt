@@ -12,7 +12,7 @@ pub loop-made-init : goal.loop-made-init
 loop-made-init g c = record {
   counted = omega arith;
   limit = refl;
-  taken = c.requires.taken;
+  taken = omega arith;
   going = λ d s stands. record {
     along = along_start d c.args.schedule.now s (g.W.Watch.seen c.args.watch.now) c.args.self.now stands;
     each = each_none d s Go;
@@ -28,11 +28,13 @@ loop-made-preserved g c =
     let inv = c.loop-made.invariant in
     let more = c.in_ok-make_next.ensures.counted in
     let before = inv.counted in
+    let next = c.in_ok-make_next.ensures.taken in
+    let taken = inv.taken in
     let k = c.loop-made._made in
     record {
       counted = omega (arith, more, before);
       limit = c.in_ok-make_next.ensures.limit ∙ inv.limit;
-      taken = c.in_ok-make_next.ensures.taken;
+      taken = omega (arith, next, taken);
       going = λ d s stands.
           let goes = inv.going d s stands in
           let over = over_on d c.args.schedule.now s k c.loop-made.self c.is_over.result goes.along.stands c.is_over.ensures.moment ∙ c.if-is_over.false in
@@ -67,7 +69,11 @@ pub returns-then-is_over-clause-limit : goal.returns-then-is_over-clause-limit
 returns-then-is_over-clause-limit g c = c.loop-made.invariant.limit
 
 pub returns-then-is_over-clause-taken : goal.returns-then-is_over-clause-taken
-returns-then-is_over-clause-taken g c = c.loop-made.invariant.taken
+returns-then-is_over-clause-taken g c =
+    let taken = c.loop-made.invariant.taken in
+    let test = c.loop-made-test.true in
+    let bound = c.len.ensures.bound in
+    omega (arith, taken, test, bound)
 
 pub returns-in_err-make_next-clause-err : goal.returns-in_err-make_next-clause-err
 returns-in_err-make_next-clause-err g c = on_err c.from_residual.result (λ d s stands.

@@ -13,7 +13,7 @@ pub loop-made-init : goal.loop-made-init
 loop-made-init g c = record {
   counted = omega arith;
   limit = refl;
-  taken = c.requires.taken;
+  taken = omega arith;
   going = λ d s stands. record {
     along = along_start d c.args.schedule.now s (g.W.Watch.seen c.args.watch.now) c.args.self.now stands;
     each = each_none d s (Trace c.args.count);
@@ -26,11 +26,13 @@ loop-made-preserved g c =
     let inv = c.loop-made.invariant in
     let more = c.in_ok-happened.ensures.counted in
     let before = inv.counted in
+    let next = c.in_ok-happened.ensures.taken in
+    let taken = inv.taken in
     let k = c.loop-made._made in
     record {
       counted = omega (arith, more, before);
       limit = c.in_ok-happened.ensures.limit ∙ inv.limit;
-      taken = c.in_ok-happened.ensures.taken;
+      taken = omega (arith, next, taken);
       going = λ d s stands.
           let traces = inv.going d s stands in
           let over = over_on d c.args.schedule.now s k c.loop-made.self c.is_over.result traces.along.stands c.is_over.ensures.moment in
@@ -65,7 +67,10 @@ pub returns-then-is_over-clause-limit : goal.returns-then-is_over-clause-limit
 returns-then-is_over-clause-limit g c = c.loop-made.invariant.limit
 
 pub returns-then-is_over-clause-taken : goal.returns-then-is_over-clause-taken
-returns-then-is_over-clause-taken g c = c.loop-made.invariant.taken
+returns-then-is_over-clause-taken g c =
+    let taken = c.loop-made.invariant.taken in
+    let test = c.loop-made-test.true in
+    omega (arith, taken, test)
 
 pub returns-clause-ok : goal.returns-clause-ok
 returns-clause-ok g c = λ d s stands.

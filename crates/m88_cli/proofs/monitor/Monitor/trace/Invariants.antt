@@ -9,7 +9,7 @@ abbrev pub invariant-loop-made : goal.invariant-loop-made
 invariant-loop-made g l = record {
   counted : l.self.board.events ≡ l.initial.self.board.events + l._made;
   limit : l.self.board.limit ≡ l.initial.self.board.limit;
-  taken : l.self.taken ≤ l.self.board.events;
+  taken : l.self.taken ≡ l.initial.self.taken + l._made;
   going : (c : Course) (s : Session) → Stands c l.schedule s l.initial.self
       → IsTracing c l.schedule s l.count l._made (g.W.Watch.seen l.initial.watch) (g.W.Watch.seen l.watch) l.initial.text.items
       l.text.items l.self;
