@@ -18,7 +18,6 @@ use Rattle.m88_parse.specs.declared.shape.Shape.{Shape}
 use Rattle.m88_parse.specs.declared.unit.Value.{Value}
 use Rattle.m88_parse.specs.declared.unit.Value.TheVariants.{Number, Symbol}
 use Rattle.m88_parse.proofs.Law.Names.{some_same}
-use Rattle.m88_parse.proofs.Law.Operands.{half_names}
 use Rattle.m88_parse.proofs.Law.Steps.{chosen}
 
 -- a number with a sign is below its modulus
@@ -43,7 +42,15 @@ WaitsForHalf imm None = Unit {0}
 WaitsForHalf imm (Some f) = (imm ≡ 0) × IsHalf f.kind
 
 half_is : (name : List ℕ) (kind : Kind) → half_named name ≡ Some kind → IsHalf kind
-half_is name kind h = elim (half_names name kind h) [ inl j ↦ inl j.1 | inr j ↦ inr j.1 ]
+unfolding half_named
+half_is name kind h =
+    elim (chosen (bytes_eq name (codes "hi16")) _ _ _ h) [
+      | inl j ↦ inl (sym (some_same j.1))
+      | inr j ↦ elim (chosen (bytes_eq name (codes "lo16")) _ _ _ j.1) [
+        | inl k ↦ inr (sym (some_same k.1))
+        | inr k ↦ absurd cc
+      ]
+    ]
 
 no_fixup : (imm : ℕ) (fixup : Option Fixup) → fixup ≡ None → WaitsForHalf imm fixup
 no_fixup imm fixup e = subst (WaitsForHalf imm) (sym e) tt

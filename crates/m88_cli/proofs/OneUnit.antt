@@ -1,8 +1,9 @@
 -- A source of the assembly language has one unit or one first fault, and a unit is laid out or has one fault: so a
 -- command accepts a source or has one refusal of it, behind other lines of its input too.
-use Rattle.std.proofs.Common.{◌≡◌, List, ℕ, Option, None, Some, ap, inl, inr, refl, sym, subst, ◌∙◌}
+use Rattle.std.proofs.Common.{◌≡◌, ◌+◌, List, ℕ, Option, None, Some, ap, arith, inl, inr, refl, sym, subst, ◌∙◌}
 use Rattle.m88_parse.proofs.Law.Faults.{one_answer}
 use Rattle.m88_parse.specs.Language.Units.{IsUnit}
+use Rattle.m88_parse.specs.declared.fault.ParseFault.{ParseFault}
 use Rattle.m88_parse.specs.declared.unit.Unit.{Unit as Source}
 use Rattle.m88_link.proofs.OneRefusal.{not_both, one_refusal}
 use Rattle.m88_link.specs.Refusal.{IsLinkable, IsRefused}
@@ -43,8 +44,11 @@ not_linked source r accepted (inr unlinked) =
     (subst (λ (u : Source). IsLinkable (unit_layout u)) same accepted.is_accepted.linkable) unlinked.is_refused
 
 -- behind no lines a fault is told as it is
+none_before : (line : ℕ) → 0 + line ≡ line
+none_before line = omega arith
+
 asm_as_is : (kind : AsmKind) → asm_kind_behind 0 kind ≡ kind
-asm_as_is (asm.Duplicate name first) = refl
+asm_as_is (asm.Duplicate name first) = ap (λ (line : ℕ). asm.Duplicate name line) (none_before first)
 asm_as_is asm.Alignment = refl
 asm_as_is asm.TooLarge = refl
 asm_as_is asm.Memory = refl
@@ -52,26 +56,33 @@ asm_as_is asm.Memory = refl
 link_as_is : (kind : LinkKind) → link_kind_behind 0 kind ≡ kind
 link_as_is link.TooLarge = refl
 link_as_is (link.Overlap at) = refl
-link_as_is (link.Duplicate name first) = refl
+link_as_is (link.Duplicate name first) = ap (λ (line : ℕ). link.Duplicate name line) (none_before first)
 link_as_is (link.Undefined name) = refl
 link_as_is (link.TooFar distance) = refl
 link_as_is link.Memory = refl
 
+pub parse_first : (fault : ParseFault) → parse_refusal (parse_fault_behind 0 fault) ≡ parse_refusal fault
+parse_first fault = ap (λ (line : ℕ). parse_refusal (record fault { line = line })) (none_before fault.line)
+
 pub asm_first : (fault : AsmFault) → asm_refusal (asm_fault_behind 0 fault) ≡ asm_refusal fault
-asm_first fault = ap (λ (kind : AsmKind). asm_refusal (record fault { kind = kind })) (asm_as_is fault.kind)
+asm_first fault =
+    ap (λ (kind : AsmKind). asm_refusal (record fault { line = 0 + fault.line; kind = kind })) (asm_as_is fault.kind)
+    ∙ ap (λ (line : ℕ). asm_refusal (record fault { line = line })) (none_before fault.line)
 
 pub link_first : (fault : LinkFault) → link_refusal (link_fault_behind 0 fault) ≡ link_refusal fault
-link_first fault = ap (λ (kind : LinkKind). link_refusal (record fault { kind = kind })) (link_as_is fault.kind)
+link_first fault =
+    ap (λ (kind : LinkKind). link_refusal (record fault { line = 0 + fault.line; kind = kind })) (link_as_is fault.kind)
+    ∙ ap (λ (line : ℕ). link_refusal (record fault { line = line })) (none_before fault.line)
 
 -- so a source that is refused is refused behind no lines
 behind_none : (source : List ℕ) (r : Refusal) → IsRefusedProgram source r → IsRefusedBehind 0 source r
-behind_none source r (inl (inl a)) = unread_behind a.fault a.is_first a.refusal
+behind_none source r (inl (inl a)) = unread_behind a.fault a.is_first (a.refusal ∙ sym (parse_first a.fault))
 behind_none source r (inl (inr a)) = unassembled_behind a.unit a.fault a.is_unit a.is_first (a.refusal ∙ sym (asm_first a.fault))
 behind_none source r (inr a) =
     unlinked_behind a.unit a.fault a.is_unit a.is_assembled a.is_refused (a.refusal ∙ sym (link_first a.fault))
 
 pub whole_input : (source : List ℕ) (r : Refusal) → IsRefusedBehind 0 source r → IsRefusedProgram source r
-whole_input source r (unread_behind fault first e) = inl (inl (record { fault = fault; is_first = first; refusal = e }))
+whole_input source r (unread_behind fault first e) = inl (inl (record { fault = fault; is_first = first; refusal = e ∙ parse_first fault }))
 whole_input source r (unassembled_behind unit fault is_unit first e) =
     inl (inr (record { unit = unit; is_unit = is_unit; fault = fault; is_first = first; refusal = e ∙ asm_first fault }))
 whole_input source r (unlinked_behind unit fault is_unit assembled refused e) =

@@ -22,13 +22,13 @@ use Rattle.m88_cli.specs.declared.source_fault.SourceFault.{SourceFault}
 use Rattle.m88_cli.specs.declared.source_fault.SourceFault.TheVariants.{Parse, Unit}
 use Rattle.m88_cli.proofs.Monitored.{behind_refusal}
 use Rattle.m88_cli.proofs.OneSource.{one_refusal, refused_not_accepted}
-use Rattle.m88_cli.proofs.OneUnit.{asm_first, whole_input}
+use Rattle.m88_cli.proofs.OneUnit.{asm_first, parse_first, whole_input}
 
 -- of one that can't be assembled
 pub assembly_refusal : (source : List ℕ) (fault : SourceFault) → IsAssemblyFault source fault → IsTold fault
     → IsRefusedSource source (refusal_behind 0 fault)
 assembly_refusal source (Parse fault) (inl memory) told = absurd (told memory)
-assembly_refusal source (Parse fault) (inr first) told = inl (record { fault = fault; is_first = first; refusal = refl })
+assembly_refusal source (Parse fault) (inr first) told = inl (record { fault = fault; is_first = first; refusal = parse_first fault })
 assembly_refusal source (Unit (unit_kind.Asm fault)) (inl memory) told = absurd (told memory)
 assembly_refusal source (Unit (unit_kind.Asm fault)) (inr (unit, is_unit, first)) told =
     inr (record { unit = unit; is_unit = is_unit; fault = fault; is_first = first; refusal = asm_first fault })
