@@ -27,7 +27,7 @@ use Rattle.m88_board.specs.Board.{BoardView, cells_of, completed_of, is_idle_boa
 use Rattle.m88_board.specs.Glances.{glance_at, glance_of, slot_at}
 use Rattle.m88_board.specs.Kept.{AreReady, IsKept, SlotsAgree}
 use Rattle.m88_board.specs.Moves.{IsAt}
-use Rattle.m88_board.specs.Shown.{ArePointers, AreRegisters, IsDataBus, IsStatus, nip_at, register_at}
+use Rattle.m88_board.specs.Shown.{ArePointers, AreRegisters, IsDataBus, IsStatus, nip_at, register_shown}
 
 -- a run is over where nothing is pending and no more may be issued
 over_of : (b : BoardView) → (not (is_pending b.pending) && is_idle_board b) ≡ is_over_by b.limit (local_of b)
@@ -135,7 +135,7 @@ register_is b r (Err e) o same is busy known =
 
 pub value_at : (p : Program) (named : ℕ → Bool) (m : Moment) (b : BoardView) (r : ℕ) → IsAt p named m b →
     register_seen b.pending (completed_of b).regs r
-    ≡ register_at p m r
+    ≡ register_shown p m r
 unfolding local_of local_at completed_state
 value_at p named m b r at = ap (λ (l : Local). register_seen l.pending l.completed.regs r) at.seen
 

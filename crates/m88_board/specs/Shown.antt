@@ -24,8 +24,8 @@ abbrev pub nip_at : Program → Moment → Pointer
 nip_at p m = nip_of p m.bubble (xip_at p m.retired) (state p m.retired).pc
 
 -- a register of a moment: one that waits for a pending load has no value, every other that of the history
-abbrev pub register_at : Program → Moment → ℕ → Option ℕ
-register_at p m = register_seen (pending_at p m.retired m.done) (state p m.retired).regs
+abbrev pub register_shown : Program → Moment → ℕ → Option ℕ
+register_shown p m = register_seen (pending_at p m.retired m.done) (state p m.retired).regs
 
 -- XIP, NIP and FIP: the instruction retired last and the two behind it, or a bubble and its target
 pub record ArePointers (p : Program) (m : Moment) (slots : Pointers) : Type 0 where

@@ -12,7 +12,7 @@ use Rattle.m88_isa.specs.Machine.{IsProgram, Program}
 use Rattle.m88_mem.specs.DataBus.{bus_of}
 use Rattle.m88_board.specs.Board.{BoardView, completed_of, local_of}
 use Rattle.m88_board.specs.Moves.{IsAt}
-use Rattle.m88_board.specs.Shown.{register_at}
+use Rattle.m88_board.specs.Shown.{register_shown}
 
 -- its counts, pending transactions and memory
 pub events_at : (p : Program) (named : ℕ → Bool) (m : Moment) (b : BoardView) → IsAt p named m b → b.events ≡ m.events
@@ -44,7 +44,7 @@ bus_seen p named m b at = ap (λ (l : Local). l.bus) at.seen
 -- its registers
 pub registers_seen : (p : Program) (named : ℕ → Bool) (m : Moment) (b : BoardView) → IsAt p named m b →
     map (register_seen b.pending (completed_of b).regs) (range_with_len 0 32)
-    ≡ map (register_at p m) (range_with_len 0 32)
+    ≡ map (register_shown p m) (range_with_len 0 32)
 unfolding local_of local_at completed_state
 registers_seen p named m b at =
     ap (λ (l : Local). map (register_seen l.pending l.completed.regs) (range_with_len 0 32)) at.seen

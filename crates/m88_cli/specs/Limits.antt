@@ -1,5 +1,5 @@
--- The limits of inputs, runs, workloads and sessions; the constants of the code are held to them by the clauses that cite
--- these.
+-- The limits of inputs, runs, workloads and sessions; the constants of the code are held to them by the clauses that
+-- cite these.
 use Rattle.std.specs.Prelude.{ℕ, ◌^◌}
 use Rattle.m88_board.specs.Kept.{most_retired}
 

@@ -27,8 +27,8 @@ pub record SawFront (p : Program) (limit : ℕ) (absent : ℕ → Bool) (schedul
   pub is_running : IsRunning p absent limit schedule events
   pub saw : Saw before after (glances_along p (moment_after p absent limit schedule) events)
 
--- what a watch was shown of a command over an input that it accepts, by what it was shown of a run of a program and of a
--- session with the monitor
+-- what a watch was shown of a command over an input that it accepts, by what it was shown of a run of a program and
+-- of a session with the monitor
 abbrev pub ShownBy :
     (Program → ℕ → (ℕ → Bool) → List Letter → Option (List Glance) → Option (List Glance) → Type 0)
     → (List ℕ → (ℕ → Bool) → List Letter → Option (List Glance) → Option (List Glance) → Type 0)

@@ -92,7 +92,8 @@ fn push_first(text: &mut Vec<u8>, at: u32, bytes: &[u8]) -> Result<usize, AllocE
     requires { 0 < length bytes.now }
     ensures appended { IfOk result
         (λ n. BytesAppended at bytes.now text.old.items text.new.items n) }
-    ensures room { IfOk result (λ n. length text.new.items ≤ length text.old.items + MOST_LINE * n) }
+    ensures room { IfOk result
+        (λ n. length text.new.items ≤ length text.old.items + MOST_LINE * n) }
     ensures some { IfOk result (λ n. 0 < n) }
     ensures within { IfOk result (λ n. n ≤ length bytes.now) }
 {

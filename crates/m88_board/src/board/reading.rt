@@ -12,7 +12,7 @@ ghost use Rattle.m88_isa.specs.Machine.{Program, four_bytes, state};
 ghost use Rattle.m88_mem.specs.DataBus.{bus_of};
 ghost use Rattle.m88_board.specs.Board.{completed_of, local_of, pointer_of};
 ghost use Rattle.m88_board.specs.Moves.{IsAt};
-ghost use Rattle.m88_board.specs.Shown.{ArePointers, AreRegisters, IsDataBus, IsStatus, nip_at, register_at};
+ghost use Rattle.m88_board.specs.Shown.{ArePointers, AreRegisters, IsDataBus, IsStatus, nip_at, register_shown};
 
 use super::Board;
 use m88_base::Reg;
@@ -81,7 +81,7 @@ impl Board {
         ensures value { result
             ≡ register_seen self.now.pending (completed_of self.now).regs (number_of r) }
         ensures moment { (p : Program) (named : ℕ → Bool) (m : Moment) → IsAt p named m self.now
-            → result ≡ register_at p m (number_of r) }
+            → result ≡ register_shown p m (number_of r) }
     {
         self.regs.get(r).ok()
     }
