@@ -1,7 +1,7 @@
 -- Runs in ascending order, cut at an index: what is found in them, and where another run may begin.
 use Rattle.std.proofs.Common.{◌≡◌, ℕ, zero, suc, ◌+◌, ◌-◌, ◌<◌, ◌≤◌, List, [], ◌∷◌, ◌++◌, length, get_or, take, drop, refl, sym, arith, ◌∙◌, ap}
 use Rattle.std.specs.Prelude.{None, Some, IsSome, slice_get, All}
-use Rattle.std.proofs.Math.Seq.{drop-cons, take-suc, take-length}
+use Rattle.std.proofs.Math.Seq.{drop-cons, take-suc}
 use Rattle.std.proofs.lemmas.Option.{slice_get-get_or}
 use Rattle.std.proofs.lemmas.List.{take-append-drop, get_or-take, length-take}
 use Rattle.m88_base.specs.Found.{IsFree, IsLeastTaken, IsPart}
@@ -26,10 +26,6 @@ apart_drop xs i h = apart_back 0 (take i xs) (drop i xs) (rw take-append-drop h)
 pub next_start-take : (xs : List Placed) (i : ℕ) (d : Placed) → 0 < i → i ≤ length xs
     → next_start 0 (take i xs) ≡ (get_or xs (i - 1) d).at + length (get_or xs (i - 1) d).bytes + 1
 next_start-take xs i d p h = rw (take_last xs i d p h) (next_start-append 0 (take (i - 1) xs) (get_or xs (i - 1) d ∷ []))
-
-pub next_start_last : (xs : List Placed) (d : Placed) → 0 < length xs
-    → next_start 0 xs ≡ (get_or xs (length xs - 1) d).at + length (get_or xs (length xs - 1) d).bytes + 1
-next_start_last xs d p = ap (λ ys. next_start 0 ys) (sym (take-length xs)) ∙ next_start-take xs (length xs) d p (omega arith)
 
 -- no run begins below an earlier one
 from_least : (from : ℕ) (xs : List Placed) (j : ℕ) (d : Placed) → AreApart from xs → j < length xs → from ≤ (get_or xs j d).at

@@ -14,3 +14,4 @@ pub mod Placing
 pub mod RegisterBits
 pub mod Same
 pub mod SameRuns
+pub mod Splitting

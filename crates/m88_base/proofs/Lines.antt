@@ -3,6 +3,7 @@ use Rattle.std.proofs.Common.{◌≡◌, ℕ, suc, ◌+◌, ◌<◌, ◌≤◌, 
 use Rattle.std.specs.List.{prefix_len}
 use Rattle.m88_base.specs.Lines.{lines_of, begins_with_lf, behind_line, on_first_line}
 use Rattle.m88_base.specs.LineEnd.{without_cr}
+use Rattle.m88_base.proofs.Splitting.{len_to, len_to_is}
 
 abbrev pub is_inner : ℕ → Bool
 is_inner b = not (b == 10)
@@ -22,25 +23,13 @@ and_false : (x : Bool) → (x && false) ≡ false
 and_false true = refl
 and_false false = refl
 
--- how many bytes stand before the first LF
-abbrev lf_at : List ℕ → ℕ
-lf_at [] = 0
-lf_at (b ∷ bs) = cond (not (b == 10)) (suc (lf_at bs)) 0
-
-lf_at_is : (bs : List ℕ) → prefix_len is_inner bs ≡ lf_at bs
-lf_at_is [] = refl
-lf_at_is (b ∷ bs) =
-    let ih = lf_at_is bs in
-    let e : 1 + prefix_len is_inner bs ≡ suc (lf_at bs) = omega (arith, ih) in
-    ap (λ (n : ℕ). cond (not (b == 10)) n 0) e
-
 alone : (b : ℕ) (lines : List (List ℕ)) (x : Bool) → cond x ([] ∷ lines) (on_first_line b ([] ∷ lines)) ≡ cond x [] (b ∷ []) ∷ lines
 alone b lines true = refl
 alone b lines false = refl
 
 next : (b d : ℕ) (ds after : List ℕ) (u : Bool) → (d == 10) ≡ u → (b == 10) ≡ false
-    → lines_of (d ∷ ds) ≡ without_cr (take (cond (not u) (suc (lf_at ds)) 0) (d ∷ ds)) ∷ lines_of after
-    → lines_of (b ∷ d ∷ ds) ≡ without_cr (b ∷ take (cond (not u) (suc (lf_at ds)) 0) (d ∷ ds)) ∷ lines_of after
+    → lines_of (d ∷ ds) ≡ without_cr (take (cond (not u) (suc (len_to 10 ds)) 0) (d ∷ ds)) ∷ lines_of after
+    → lines_of (b ∷ d ∷ ds) ≡ without_cr (b ∷ take (cond (not u) (suc (len_to 10 ds)) 0) (d ∷ ds)) ∷ lines_of after
 next b d ds after true f e ih =
     front_by b (d ∷ ds) false (b == 13) e (ap (λ (y : Bool). b == 13 && y) f ∙ and_true (b == 13))
     ∙ ap (λ (ls : List (List ℕ)). cond (b == 13) ls (on_first_line b ls)) ih
@@ -49,27 +38,27 @@ next b d ds after false f e ih =
     front_by b (d ∷ ds) false false e (ap (λ (y : Bool). b == 13 && y) f ∙ and_false (b == 13)) ∙ ap (on_first_line b) ih
 
 lf_step : (b : ℕ) (bs : List ℕ) (c : ℕ) (after : List ℕ) (v : Bool) → (b == 10) ≡ v
-    → (drop (lf_at bs) bs ≡ c ∷ after → lines_of bs ≡ without_cr (take (lf_at bs) bs) ∷ lines_of after)
-    → drop (cond (not v) (suc (lf_at bs)) 0) (b ∷ bs) ≡ c ∷ after
-    → lines_of (b ∷ bs) ≡ without_cr (take (cond (not v) (suc (lf_at bs)) 0) (b ∷ bs)) ∷ lines_of after
+    → (drop (len_to 10 bs) bs ≡ c ∷ after → lines_of bs ≡ without_cr (take (len_to 10 bs) bs) ∷ lines_of after)
+    → drop (cond (not v) (suc (len_to 10 bs)) 0) (b ∷ bs) ≡ c ∷ after
+    → lines_of (b ∷ bs) ≡ without_cr (take (cond (not v) (suc (len_to 10 bs)) 0) (b ∷ bs)) ∷ lines_of after
 lf_step b bs c after true e ih h =
     let k : bs ≡ after = cc in
     front_by b bs true (b == 13 && begins_with_lf bs) e refl ∙ ap (λ (xs : List ℕ). let ls : List (List ℕ) = [] ∷ lines_of xs in ls) k
 lf_step b [] c after false e ih h = absurd cc
 lf_step b (d ∷ ds) c after false e ih h = next b d ds after (d == 10) refl e (ih h)
 
-by_lf : (bs : List ℕ) (c : ℕ) (after : List ℕ) → drop (lf_at bs) bs ≡ c ∷ after → lines_of bs ≡ without_cr (take (lf_at bs) bs) ∷ lines_of after
+by_lf : (bs : List ℕ) (c : ℕ) (after : List ℕ) → drop (len_to 10 bs) bs ≡ c ∷ after → lines_of bs ≡ without_cr (take (len_to 10 bs) bs) ∷ lines_of after
 by_lf [] c after h = absurd cc
 by_lf (b ∷ bs) c after h = lf_step b bs c after (b == 10) refl (by_lf bs c after) h
 
-is_other : (d : ℕ) (ds : List ℕ) (u : Bool) → drop (cond (not u) (suc (lf_at ds)) 0) (d ∷ ds) ≡ [] → u ≡ false
+is_other : (d : ℕ) (ds : List ℕ) (u : Bool) → drop (cond (not u) (suc (len_to 10 ds)) 0) (d ∷ ds) ≡ [] → u ≡ false
 is_other d ds true h = absurd cc
 is_other d ds false h = refl
 
 end_step : (b : ℕ) (bs : List ℕ) (v : Bool) → (b == 10) ≡ v
-    → (0 < length bs → drop (lf_at bs) bs ≡ [] → lines_of bs ≡ take (lf_at bs) bs ∷ [])
-    → drop (cond (not v) (suc (lf_at bs)) 0) (b ∷ bs) ≡ []
-    → lines_of (b ∷ bs) ≡ take (cond (not v) (suc (lf_at bs)) 0) (b ∷ bs) ∷ []
+    → (0 < length bs → drop (len_to 10 bs) bs ≡ [] → lines_of bs ≡ take (len_to 10 bs) bs ∷ [])
+    → drop (cond (not v) (suc (len_to 10 bs)) 0) (b ∷ bs) ≡ []
+    → lines_of (b ∷ bs) ≡ take (cond (not v) (suc (len_to 10 bs)) 0) (b ∷ bs) ∷ []
 unfolding lines_of
 end_step b bs true e ih h = absurd cc
 end_step b [] false e ih h = front_by b [] false false e (and_false (b == 13))
@@ -77,7 +66,7 @@ end_step b (d ∷ ds) false e ih h =
     let other : (d == 10) ≡ false = is_other d ds (d == 10) h in
     front_by b (d ∷ ds) false false e (ap (λ (y : Bool). b == 13 && y) other ∙ and_false (b == 13)) ∙ ap (on_first_line b) (ih (omega arith) h)
 
-by_end : (bs : List ℕ) → 0 < length bs → drop (lf_at bs) bs ≡ [] → lines_of bs ≡ take (lf_at bs) bs ∷ []
+by_end : (bs : List ℕ) → 0 < length bs → drop (len_to 10 bs) bs ≡ [] → lines_of bs ≡ take (len_to 10 bs) bs ∷ []
 by_end [] some h = absurd (omega arith)
 by_end (b ∷ bs) some h = end_step b bs (b == 10) refl (by_end bs) h
 
@@ -85,13 +74,13 @@ by_end (b ∷ bs) some h = end_step b bs (b == 10) refl (by_end bs) h
 pub ends_line : (bs : List ℕ) (c : ℕ) (after : List ℕ) → drop (prefix_len is_inner bs) bs ≡ c ∷ after
     → lines_of bs ≡ without_cr (take (prefix_len is_inner bs) bs) ∷ lines_of after
 ends_line bs c after h =
-    let e = lf_at_is bs in
+    let e = len_to_is 10 bs in
     by_lf bs c after (ap (λ (n : ℕ). drop n bs) (sym e) ∙ h) ∙ ap (λ (n : ℕ). let ls : List (List ℕ) = without_cr (take n bs) ∷ lines_of after in ls) (sym e)
 
 pub ends_source : (bs : List ℕ) → 0 < length bs → drop (prefix_len is_inner bs) bs ≡ [] → lines_of bs ≡ take (prefix_len is_inner bs) bs ∷ lines_of []
 unfolding lines_of
 ends_source bs some h =
-    let e = lf_at_is bs in
+    let e = len_to_is 10 bs in
     by_end bs some (ap (λ (n : ℕ). drop n bs) (sym e) ∙ h) ∙ ap (λ (n : ℕ). let ls : List (List ℕ) = take n bs ∷ [] in ls) (sym e)
 
 pushed : (b : ℕ) (x y : List ℕ) (v : Bool) → (b ∷ cond v x y) ≡ cond v (b ∷ x) (b ∷ y)
@@ -120,16 +109,16 @@ source_ends rest line [] n e f g some h =
 
 -- what stands behind the first line
 
-behind_by : (b : ℕ) (bs : List ℕ) (v : Bool) → behind_line bs ≡ drop 1 (drop (lf_at bs) bs) → cond v bs (behind_line bs) ≡ drop 1 (drop (cond (not v) (suc (lf_at bs)) 0) (b ∷ bs))
+behind_by : (b : ℕ) (bs : List ℕ) (v : Bool) → behind_line bs ≡ drop 1 (drop (len_to 10 bs) bs) → cond v bs (behind_line bs) ≡ drop 1 (drop (cond (not v) (suc (len_to 10 bs)) 0) (b ∷ bs))
 behind_by b bs true ih = refl
 behind_by b bs false ih = ih
 
-behind_at : (bs : List ℕ) → behind_line bs ≡ drop 1 (drop (lf_at bs) bs)
+behind_at : (bs : List ℕ) → behind_line bs ≡ drop 1 (drop (len_to 10 bs) bs)
 behind_at [] = refl
 behind_at (b ∷ bs) = behind_by b bs (b == 10) (behind_at bs)
 
 pub stands_behind : (rest after : List ℕ) (n : ℕ) → n ≡ prefix_len is_inner rest → after ≡ drop n rest → drop 1 after ≡ behind_line rest
-stands_behind rest after n e g = ap (drop 1) (g ∙ ap (λ (k : ℕ). drop k rest) (e ∙ lf_at_is rest)) ∙ sym (behind_at rest)
+stands_behind rest after n e g = ap (drop 1) (g ∙ ap (λ (k : ℕ). drop k rest) (e ∙ len_to_is 10 rest)) ∙ sym (behind_at rest)
 
 pub none_behind : (rest after : List ℕ) (n : ℕ) → n ≡ prefix_len is_inner rest → after ≡ drop n rest → length after < 1 → after ≡ behind_line rest
 none_behind rest [] n e g h = stands_behind rest [] n e g

@@ -3,6 +3,7 @@ pub mod RegisterSet
 pub mod Triple
 pub mod Name
 pub mod Padded
+pub mod Cut
 pub mod Lines
 pub mod LineEnd
 pub mod Numerals

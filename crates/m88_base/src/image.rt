@@ -1,7 +1,7 @@
 //! The bytes of a program at their addresses.
 ghost use Rattle.std.specs.Prelude.{◌≡◌, ◌+◌, ◌^◌, ◌<◌, ◌≤◌, ◌↔◌, ℕ, None, Some, Err, length, slice_get, IfErr, IfOk, IsTrue, OnOk, OnErr};
 ghost use Rattle.m88_base.specs.Found.{IsFree, IsLeastTaken, IsPart, PutsBytes};
-ghost use Rattle.m88_base.specs.Placed.{AreApart, byte_among};
+ghost use Rattle.m88_base.specs.Placed.{byte_among};
 ghost use Rattle.m88_base.specs.Image.{IsImage, IsTooLarge, ProgramImage, WhereOverlap, byte_at, byte_count, first_text, most_bytes, parts};
 
 use crate::failing::NoMemory;

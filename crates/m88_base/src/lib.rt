@@ -19,6 +19,7 @@ mod std_edge;
 mod writing;
 
 // Parts of texts.
+mod cut;
 mod fixup;
 mod hex;
 mod line;
@@ -37,6 +38,7 @@ mod segments;
 mod tests;
 
 pub use absent::{Absent, PAGE_BYTES};
+pub use cut::split_at_byte;
 pub use failing::{Failed, NoMemory};
 pub use fixup::{Fixup, Kind};
 pub use hex::{Hex2, Hex8, hex_digit, hex8_of, push_hex2, push_hex8};
@@ -53,5 +55,5 @@ pub use reg::Reg;
 pub use sink::Sink;
 pub use source::Source;
 pub use std_edge::{StdSink, StdSource};
-pub use triple::Triple;
+pub use triple::{NO_TRIPLE, Triple};
 pub use writing::{SinkFault, write_all};

@@ -1,8 +1,9 @@
 //! The lines of an input, one by one.
-ghost use Rattle.std.specs.Prelude.{◌≡◌, ◌<◌, ◌≤◌, ◌∷◌, not, ◌==◌, length};
-ghost use Rattle.std.specs.List.{prefix_len};
+ghost use Rattle.std.specs.Prelude.{◌≡◌, ◌<◌, ◌≤◌, ◌∷◌, length};
 ghost use Rattle.m88_base.specs.Lines.{behind_line, lines_of};
 ghost use Rattle.m88_base.specs.LineEnd.{without_cr};
+
+use crate::cut::len_before;
 
 /// A line without the CR that belongs to its line end.
 #[tactic(auto, using(crate::proofs::Lines::last_cr))]
@@ -16,13 +17,6 @@ fn without_cr(line: &[u8]) -> &[u8]
     }
 }
 
-/// How many bytes stand before the first LF.
-fn len_to_lf(bytes: &[u8]) -> usize
-    ensures { result ≡ prefix_len (λ b. not (b == 10)) bytes.now }
-{
-    bytes.iter().take_while(|b| **b != b'\n').count()
-}
-
 /// The first line of what is left of an input, without its line end, and what is left behind that.
 pub fn first_line(rest: &[u8]) -> (&[u8], &[u8])
     requires { 0 < length rest.now }
@@ -31,7 +25,7 @@ pub fn first_line(rest: &[u8]) -> (&[u8], &[u8])
     ensures within { length result.0.now ≤ length rest.now }
     ensures shorter { length result.1.now < length rest.now }
 {
-    let (line, after) = rest.split_at(len_to_lf(rest));
+    let (line, after) = rest.split_at(len_before(b'\n', rest));
     match after {
         [] => (line, after),
         [_, after @ ..] => (without_cr(line), after),

@@ -10,3 +10,10 @@ pub struct Triple {
     /// The byte address of the word.
     pub dma: u32,
 }
+
+/// The words where there is no transaction.
+pub const NO_TRIPLE: Triple = Triple {
+    dmt: 0,
+    dmd: 0,
+    dma: 0,
+};

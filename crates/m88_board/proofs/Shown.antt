@@ -8,9 +8,9 @@ use Rattle.m88_base.specs.Reg.{number_of}
 use Rattle.m88_ctrl.specs.ControlRegisters.{carry_of}
 use Rattle.m88_event.proofs.Follows.{ended_is}
 use Rattle.m88_event.proofs.Over.{same_over}
-use Rattle.m88_event.specs.Local.{Local, is_over_by, local_at, register_seen}
+use Rattle.m88_event.specs.Local.{Local, is_over_by, local_at, register_seen, register_shown}
 use Rattle.m88_event.specs.Shadow.{fip_of, nip_of, status_of}
-use Rattle.m88_event.specs.Timeline.{Moment, is_over}
+use Rattle.m88_event.specs.Timeline.{Moment, is_over, nip_at}
 use Rattle.m88_isa.proofs.Alone.{by_test}
 use Rattle.m88_isa.proofs.Late.{same_after_accesses}
 use Rattle.m88_isa.specs.Bus.{Cells, after_access, after_accesses, loaded, waits_for}
@@ -27,7 +27,7 @@ use Rattle.m88_board.specs.Board.{BoardView, cells_of, completed_of, is_idle_boa
 use Rattle.m88_board.specs.Glances.{glance_at, glance_of, slot_at}
 use Rattle.m88_board.specs.Kept.{AreReady, IsKept, SlotsAgree}
 use Rattle.m88_board.specs.Moves.{IsAt}
-use Rattle.m88_board.specs.Shown.{ArePointers, AreRegisters, IsDataBus, IsStatus, nip_at, register_shown}
+use Rattle.m88_board.specs.Shown.{ArePointers, AreRegisters, IsDataBus, IsStatus}
 
 -- a run is over where nothing is pending and no more may be issued
 over_of : (b : BoardView) → (not (is_pending b.pending) && is_idle_board b) ≡ is_over_by b.limit (local_of b)

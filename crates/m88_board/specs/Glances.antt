@@ -1,11 +1,10 @@
 -- What a watch is shown of a board, and of the moments of a timeline.
 use Rattle.std.specs.Prelude.{ℕ, zero, suc, Bool, false, List, [], ◌∷◌, ◌++◌, Option, Some, None, ◌≡◌, length, nat_lt, if◌then◌else◌}
 use Rattle.m88_event.specs.Shadow.{Pointer}
-use Rattle.m88_event.specs.Timeline.{Moment}
+use Rattle.m88_event.specs.Timeline.{Moment, nip_at}
 use Rattle.m88_isa.specs.Machine.{Program}
 use Rattle.m88_iunit.specs.declared.slot.Slot.{Slot}
 use Rattle.m88_board.specs.Board.{BoardView}
-use Rattle.m88_board.specs.Shown.{nip_at}
 use Rattle.m88_board.specs.declared.glance.Glance.{Glance}
 
 -- what is noted of a board: its events, the instructions that were retired, the transactions that were answered or
@@ -17,7 +16,7 @@ glance_of b = record { events = b.events; issued = b.retired; done = b.done; nex
 abbrev pub slot_at : Pointer → Slot
 slot_at pointer = record { addr = pointer.address; v = pointer.valid; e = pointer.failed }
 
--- the same of a moment
+-- what is noted of a moment
 abbrev pub glance_at : Program → Moment → Glance
 glance_at p m = record {
   events = m.events;

@@ -1,10 +1,9 @@
 -- What the parts of a board show at a moment of the timeline.
-use Rattle.std.specs.Prelude.{ℕ, Bool, false, List, Option, ◌≡◌, map, slice_index, if◌then◌else◌}
+use Rattle.std.specs.Prelude.{ℕ, Bool, false, List, ◌≡◌, map, slice_index, if◌then◌else◌}
 use Rattle.m88_base.specs.RegisterSet.{register_bits}
 use Rattle.m88_ctrl.specs.ControlRegisters.{ControlRegisters, carry_of, triples_by_age}
-use Rattle.m88_event.specs.Local.{register_seen}
-use Rattle.m88_event.specs.Shadow.{Pointer, fip_of, nip_of, status_of}
-use Rattle.m88_event.specs.Timeline.{Moment, absent_at, xip_at}
+use Rattle.m88_event.specs.Shadow.{fip_of, status_of}
+use Rattle.m88_event.specs.Timeline.{Moment, absent_at, nip_at, xip_at}
 use Rattle.m88_event.specs.declared.record.Record.{Record}
 use Rattle.m88_isa.specs.Bus.{waits_for}
 use Rattle.m88_isa.specs.History.{bus_at, pending_at}
@@ -18,14 +17,6 @@ use Rattle.m88_monitor.specs.Serving.{finished}
 use Rattle.m88_scoreboard.specs.Registers.{Registers, waiting_of}
 use Rattle.m88_board.specs.Board.{pointer_of}
 use Rattle.m88_board.specs.Kept.{AreReady}
-
--- NIP at a moment: the next instruction, or the one that is passed over
-abbrev pub nip_at : Program → Moment → Pointer
-nip_at p m = nip_of p m.bubble (xip_at p m.retired) (state p m.retired).pc
-
--- a register of a moment: one that waits for a pending load has no value, every other that of the history
-abbrev pub register_shown : Program → Moment → ℕ → Option ℕ
-register_shown p m = register_seen (pending_at p m.retired m.done) (state p m.retired).regs
 
 -- XIP, NIP and FIP: the instruction retired last and the two behind it, or a bubble and its target
 pub record ArePointers (p : Program) (m : Moment) (slots : Pointers) : Type 0 where

@@ -1,8 +1,7 @@
 //! The board: instruction unit, data unit, register file, memory, control registers and monitor as the parts of one
 //! machine, with its output, its counts and the records of its data faults. `Board::new` makes one over an image,
-//! `event` and `step` make the event of a letter, `run` those of a whole run and `drain` those that leave nothing
-//! pending; a `Watch` is shown the board after each event of `step`, `run` and `drain`. All else tells what the board
-//! shows.
+//! `event` makes the event of a letter, `run` those of a whole run and `drain` those that leave nothing pending; a
+//! `Watch` is shown the board after each event of `run` and `drain`. All else tells what the board shows.
 #![tactic(auto)]
 
 mod board;

@@ -10,7 +10,7 @@ ghost use Rattle.m88_board.specs.Board.{cells_of};
 ghost use Rattle.m88_board.specs.Kept.{PartsAgree};
 ghost use Rattle.m88_board.specs.Shown.{IsRecordOf, ShowsFault};
 
-use m88_base::Triple;
+use m88_base::NO_TRIPLE;
 use m88_ctrl::{Control, Frame, Restart};
 use m88_dunit::DataUnit;
 use m88_event::Record;
@@ -79,18 +79,13 @@ pub(crate) fn serve_all(
 pub(crate) fn visit(ctrl: &mut Control, iunit: &InstrUnit)
     ensures { ctrl.new.psr ≡ ctrl.old.psr }
 {
-    let none = Triple {
-        dmt: 0,
-        dmd: 0,
-        dma: 0,
-    };
     let (sxip, snip, sfip) = iunit.shadow();
     let frame = Frame {
         ssbr: 0,
         sxip,
         snip,
         sfip,
-        triples: [none, none, none],
+        triples: [NO_TRIPLE; 3],
     };
     ctrl.enter(MONITOR_TRAP, &frame);
     ctrl.rte();

@@ -136,14 +136,14 @@ fn loads_from_absent_pages_that_are_drained(rt: HostRuntime) -> Result<(), Image
     let Ok(mut board) = Board::new(rt.alloc(), &image, &Absent::All, 3) else {
         return Err(ImageFault::Memory);
     };
-    let mut watch = Unwatched::new();
     for _ in 0..3 {
         if board.events() < 100 {
-            assert!(rt; board.step(Letter::Issue, &mut watch) == Ok(Happened::Issued));
+            assert!(rt; board.event(Letter::Issue) == Ok(Happened::Issued));
         }
     }
     assert_eq!(rt; board.pipe().ssbr, 0x1C);
     assert_eq!(rt; board.register(Reg::from_low_bits(2)), None);
+    let mut watch = Unwatched::new();
     if board.events() < 100 {
         assert_eq!(rt; board.drain(&mut watch), Ok(()));
     }

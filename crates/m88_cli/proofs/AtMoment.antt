@@ -1,18 +1,20 @@
 -- What a board that stands at a moment shows of it.
 use Rattle.std.specs.Prelude.{ℕ, Bool, ◌≡◌, ◌≤◌, map}
 use Rattle.std.specs.List.{range_with_len}
-use Rattle.std.proofs.Common.{ap, subst}
+use Rattle.std.proofs.Common.{sym, ap, ap₂, ◌∙◌, subst}
 use Rattle.m88_event.proofs.Bound.{stays_in_limit}
 use Rattle.m88_event.proofs.Follows.{law}
-use Rattle.m88_event.specs.Local.{Local, local_at, register_seen}
-use Rattle.m88_event.specs.Timeline.{DoneWereMade, Moment, after_letter}
+use Rattle.m88_event.specs.Local.{Local, local_at, register_seen, register_shown}
+use Rattle.m88_event.specs.Timeline.{DoneWereMade, Moment, after_letter, nip_at}
 use Rattle.m88_event.specs.declared.letter.Letter.{Letter}
 use Rattle.m88_isa.specs.History.{bus_at, completed_state, pending_at}
 use Rattle.m88_isa.specs.Machine.{IsProgram, Program}
+use Rattle.m88_iunit.specs.declared.slot.Slot.{Slot}
 use Rattle.m88_mem.specs.DataBus.{bus_of}
-use Rattle.m88_board.specs.Board.{BoardView, completed_of, local_of}
+use Rattle.m88_board.specs.Board.{BoardView, completed_of, local_of, pointer_of}
+use Rattle.m88_board.specs.Glances.{glance_at, glance_of, slot_at}
 use Rattle.m88_board.specs.Moves.{IsAt}
-use Rattle.m88_board.specs.Shown.{register_shown}
+use Rattle.m88_board.specs.declared.glance.Glance.{Glance}
 
 -- its counts, pending transactions and memory
 pub events_at : (p : Program) (named : ℕ → Bool) (m : Moment) (b : BoardView) → IsAt p named m b → b.events ≡ m.events
@@ -48,6 +50,18 @@ pub registers_seen : (p : Program) (named : ℕ → Bool) (m : Moment) (b : Boar
 unfolding local_of local_at completed_state
 registers_seen p named m b at =
     ap (λ (l : Local). map (register_seen l.pending l.completed.regs) (range_with_len 0 32)) at.seen
+
+-- its glance, where NIP is known
+glance_by : Local → Slot → Glance
+glance_by l next = record { events = l.events; issued = l.retired; done = l.done; next = next }
+
+pub glance_seen : (p : Program) (named : ℕ → Bool) (m : Moment) (b : BoardView) (slot : Slot) → IsAt p named m b →
+    slot ≡ b.slots.nip →
+    pointer_of slot ≡ nip_at p m →
+    glance_of b ≡ glance_at p m
+unfolding local_of local_at glance_by
+glance_seen p named m b slot at e pointer =
+    ap₂ glance_by at.seen (sym e ∙ ap slot_at pointer)
 
 -- no letter retires more than the limit
 pub retired_within : (p : Program) (named : ℕ → Bool) (limit : ℕ) (letter : Letter) (m : Moment) → IsProgram p → DoneWereMade p m →

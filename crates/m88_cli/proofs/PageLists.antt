@@ -4,7 +4,7 @@ use Rattle.std.specs.Prelude.{IfSome}
 use Rattle.std.specs.Str.Parse.{AllDigits, IsNumeral, digits_value}
 use Rattle.std.specs.Char.{digit_value}
 use Rattle.std.proofs.lemmas.List.{append_cancel_left}
-use Rattle.m88_cli.specs.Cutting.{HasNone}
+use Rattle.m88_base.specs.Cut.{Lacks}
 use Rattle.m88_cli.specs.Numbers.{IsShortNumber}
 use Rattle.m88_mem.specs.Marks.{no_page}
 use Rattle.m88_cli.specs.Pages.{ArePageNumbers, IsAbsent, IsPageNumber, comma, every_page, in_decimal, in_hexadecimal, more_numbers, most_numbers, one_number}
@@ -23,9 +23,9 @@ page_first text n (in_hexadecimal digits is h below) =
     omega (arith, first)
 
 -- and has no comma
-pub page_no_comma : (text : List ℕ) (n : ℕ) → IsPageNumber text n → HasNone comma text
+pub page_no_comma : (text : List ℕ) (n : ℕ) → IsPageNumber text n → Lacks comma text
 page_no_comma text n (in_decimal h below) = none_in_digits comma 10 text (omega arith) h.numeral.1
-page_no_comma text n (in_hexadecimal digits is h below) = subst (HasNone comma) (sym is) (none_in_digits comma 16 digits (omega arith) h.numeral.1)
+page_no_comma text n (in_hexadecimal digits is h below) = subst (Lacks comma) (sym is) (none_in_digits comma 16 digits (omega arith) h.numeral.1)
 
 -- a text with digits behind `0x` is none of decimal digits
 not_decimal : (text digits : List ℕ) → text ≡ codes "0x" ++ digits → AllDigits 10 text → ⊥
@@ -87,10 +87,10 @@ not_all text ns is e =
     absurd (omega (arith, first, list_first text ns is))
 
 -- what a list of numbers is whose text has no comma: one number
-pub alone : (text ns : List ℕ) → HasNone comma text → ArePageNumbers text ns → (n : ℕ) × IsPageNumber text n × (ns ≡ n ∷ [])
+pub alone : (text ns : List ℕ) → Lacks comma text → ArePageNumbers text ns → (n : ℕ) × IsPageNumber text n × (ns ≡ n ∷ [])
 alone text [] none is = elim is [ ]
 alone text (n ∷ []) none (one_number is) = (n, is, refl)
-alone text (n ∷ ns) none (more_numbers first rest is more e) = absurd (not_cut comma first rest (subst (HasNone comma) e none))
+alone text (n ∷ ns) none (more_numbers first rest is more e) = absurd (not_cut comma first rest (subst (Lacks comma) e none))
 
 -- and of one whose text is cut at its first comma: the number before it, and those of the rest
 pub record Cut (first rest : List ℕ) (ns : List ℕ) : Type 0 where
@@ -100,9 +100,9 @@ pub record Cut (first rest : List ℕ) (ns : List ℕ) : Type 0 where
   pub are_numbers : ArePageNumbers rest numbers
   pub all_are : ns ≡ number ∷ numbers
 
-pub cut : (text first rest ns : List ℕ) → text ≡ first ++ comma ∷ rest → HasNone comma first → ArePageNumbers text ns → Cut first rest ns
+pub cut : (text first rest ns : List ℕ) → text ≡ first ++ comma ∷ rest → Lacks comma first → ArePageNumbers text ns → Cut first rest ns
 cut text first rest [] e none is = elim is [ ]
-cut text first rest (n ∷ []) e none (one_number is) = absurd (not_cut comma first rest (subst (HasNone comma) e (page_no_comma text n is)))
+cut text first rest (n ∷ []) e none (one_number is) = absurd (not_cut comma first rest (subst (Lacks comma) e (page_no_comma text n is)))
 cut text first rest (n ∷ ns) e none (more_numbers front others is more f) =
     let same = cut_once comma front others first rest (page_no_comma front n is) none (sym f ∙ e) in
     record {
@@ -123,7 +123,7 @@ pub at_first : (text : List ℕ) → Sofar text text []
 at_first text = record { ahead = λ ns is. is; back = λ ns is. (ns, is, refl) }
 
 -- one more
-pub one_more : (text rest first others sofar later : List ℕ) → Sofar text rest sofar → rest ≡ first ++ comma ∷ others → HasNone comma first
+pub one_more : (text rest first others sofar later : List ℕ) → Sofar text rest sofar → rest ≡ first ++ comma ∷ others → Lacks comma first
     → (n : ℕ) × IsPageNumber first n × (later ≡ sofar ++ n ∷ []) → Sofar text others later
 one_more text rest first others sofar later h e none (n, is, more) = record {
   ahead = λ ns are.
@@ -141,7 +141,7 @@ one_more text rest first others sofar later h e none (n, is, more) = record {
 }
 
 -- a number that can't be added before a comma: the text has no numbers, or too many
-pub none_before : (text rest first others sofar ns : List ℕ) → Sofar text rest sofar → rest ≡ first ++ comma ∷ others → HasNone comma first
+pub none_before : (text rest first others sofar ns : List ℕ) → Sofar text rest sofar → rest ≡ first ++ comma ∷ others → Lacks comma first
     → ((n : ℕ) → IsPageNumber first n → most_numbers ≤ length sofar) → ArePageNumbers text ns → length ns ≤ most_numbers → ⊥
 none_before text rest first others sofar ns h e none full are few =
     let old = h.back ns are in
@@ -156,7 +156,7 @@ pub last_found : (text rest sofar later : List ℕ) → Sofar text rest sofar �
     → ArePageNumbers text later
 last_found text rest sofar later h (n, is, more) = subst (ArePageNumbers text) (sym more) (h.ahead (n ∷ []) (one_number is))
 
-pub last_only : (text rest sofar later ns : List ℕ) → Sofar text rest sofar → HasNone comma rest → (n : ℕ) × IsPageNumber rest n × (later ≡ sofar ++ n ∷ [])
+pub last_only : (text rest sofar later ns : List ℕ) → Sofar text rest sofar → Lacks comma rest → (n : ℕ) × IsPageNumber rest n × (later ≡ sofar ++ n ∷ [])
     → ArePageNumbers text ns → later ≡ ns
 last_only text rest sofar later ns h none (n, is, more) are =
     let old = h.back ns are in
@@ -164,7 +164,7 @@ last_only text rest sofar later ns h none (n, is, more) are =
     let same : n ≡ own.0 = same_page rest n own.0 is own.1 in
     more ∙ ap (λ k. sofar ++ k ∷ []) same ∙ ap (λ xs. sofar ++ xs) (sym own.2) ∙ sym old.2
 
-pub none_last : (text rest sofar ns : List ℕ) → Sofar text rest sofar → HasNone comma rest
+pub none_last : (text rest sofar ns : List ℕ) → Sofar text rest sofar → Lacks comma rest
     → ((n : ℕ) → IsPageNumber rest n → most_numbers ≤ length sofar) → ArePageNumbers text ns → length ns ≤ most_numbers → ⊥
 none_last text rest sofar ns h none full are few =
     let old = h.back ns are in

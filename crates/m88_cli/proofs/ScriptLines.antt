@@ -4,7 +4,7 @@ use Rattle.std.specs.Option.{option_map}
 use Rattle.std.proofs.lemmas.List.{append_cancel_left}
 use Rattle.std.proofs.lemmas.Int.Digits.{digits_value-lt}
 use Rattle.std.proofs.Math.Nat.{pow-le-pow_right}
-use Rattle.m88_cli.specs.Cutting.{HasNone}
+use Rattle.m88_base.specs.Cut.{Lacks}
 use Rattle.m88_cli.specs.Script.{HasOperand, IsCount, AreMemoryOperands, WritesAddress, WritesCommand, most_steps, most_words, source_line}
 use Rattle.m88_cli.specs.declared.script.MonitorCommand.{MonitorCommand}
 use Rattle.m88_cli.specs.declared.script.MonitorCommand.TheVariants.{Step, Go, Break, Regs, Pipe, Memory, Drain, Trace}
@@ -49,7 +49,7 @@ place_is_small text address h =
     omega (arith, below, power, h.value)
 
 -- an address has no blank
-place_has_none : (text : List ℕ) (address : ℕ) → WritesAddress text address → HasNone 32 text
+place_has_none : (text : List ℕ) (address : ℕ) → WritesAddress text address → Lacks 32 text
 place_has_none text address h = none_in_digits 32 16 text (omega arith) h.numeral.1
 
 pub record AreParts (place digits : List ℕ) (address count : ℕ) : Type 0 where
@@ -57,7 +57,7 @@ pub record AreParts (place digits : List ℕ) (address count : ℕ) : Type 0 whe
   pub is_count : IsCount most_words digits count
 
 -- an address and a number of words stand before and behind the first blank
-pub are_parts : (text place digits : List ℕ) (address count : ℕ) → text ≡ place ++ 32 ∷ digits → HasNone 32 place
+pub are_parts : (text place digits : List ℕ) (address count : ℕ) → text ≡ place ++ 32 ∷ digits → Lacks 32 place
     → AreMemoryOperands text address count → AreParts place digits address count
 are_parts text place digits address count e none h =
     let same = cut_once 32 h.place h.digits place digits (place_has_none h.place address h.is_place) none (sym (h.text_is ∙ append_assoc h.place (codes " ") h.digits) ∙ e) in

@@ -2,13 +2,12 @@
 use Rattle.std.specs.Prelude.{ℕ, Bool, false, List, ◌++◌, Option, ◌≡◌, ◌+◌}
 use Rattle.std.proofs.Common.{add-one, append_assoc, append-nil, sym, ap, ap₂, ◌∙◌, subst}
 use Rattle.m88_event.specs.Letters.{letter_at}
-use Rattle.m88_event.specs.Timeline.{Moment, said_at}
+use Rattle.m88_event.specs.Timeline.{Moment, nip_at, said_at}
 use Rattle.m88_event.specs.declared.happened.Happened.{Happened}
 use Rattle.m88_event.specs.declared.letter.Letter.{Letter}
 use Rattle.m88_isa.specs.Held.{instruction_at}
 use Rattle.m88_isa.specs.Machine.{Program}
 use Rattle.m88_board.specs.Moves.{IsAt}
-use Rattle.m88_board.specs.Shown.{nip_at}
 use Rattle.m88_board.specs.declared.glance.Glance.{Glance}
 use Rattle.m88_cli.proofs.Along.{IsAlongOn}
 use Rattle.m88_cli.specs.MonitorLines.{happened_line, letter_text, trace_line}

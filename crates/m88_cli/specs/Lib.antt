@@ -22,7 +22,6 @@ pub mod Watching
 pub mod Bridge
 pub mod Status
 -- Words for the contracts of private functions.
-pub mod Cutting
 pub mod Kept
 pub mod SourceFault
 pub mod MonitorFaults

@@ -11,13 +11,13 @@ use Rattle.m88_isa.specs.Machine.{Program, state}
 use Rattle.m88_isa.specs.declared.instr.Instr.{Instr}
 use Rattle.m88_disasm.specs.Text.{instr_text}
 use Rattle.m88_event.specs.Letters.{letter_byte}
-use Rattle.m88_event.specs.Timeline.{Moment, said_at}
+use Rattle.m88_event.specs.Local.{register_shown}
+use Rattle.m88_event.specs.Timeline.{Moment, nip_at, said_at}
 use Rattle.m88_event.specs.declared.happened.Happened.{Happened}
 use Rattle.m88_event.specs.declared.happened.Happened.TheVariants as happened
 use Rattle.m88_event.specs.declared.happened.Why.{Why}
 use Rattle.m88_event.specs.declared.happened.Why.TheVariants as why
 use Rattle.m88_event.specs.declared.letter.Letter.{Letter}
-use Rattle.m88_board.specs.Shown.{nip_at, register_shown}
 use Rattle.m88_report.specs.Report.{carry_line, register_lines, run_end_line, word_line}
 
 -- the line of the counts: the events, the instructions retired, the transactions done and those that are pending
@@ -32,8 +32,7 @@ counts_text p m = counts_line m.events m.retired m.done (length (pending_at p m.
 
 -- r0 to r31 as they are shown: one that waits for a load has no value
 unfoldable pub registers_at : Program → Moment → List (Option ℕ)
-registers_at p m =
-    map (register_shown p m) (range_with_len 0 32)
+registers_at p m = map (register_shown p m) (range_with_len 0 32)
 
 -- the four lines of the registers and that of the carry
 unfoldable pub registers_text : Program → Moment → List ℕ

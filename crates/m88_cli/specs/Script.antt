@@ -22,7 +22,7 @@ most_steps = 1000000
 abbrev pub most_words : ℕ
 most_words = 1024
 
--- a text writes a number from 1 on, in one to seven decimal digits
+-- a text writes a number from 1 to `most`, in one to seven decimal digits
 pub record IsCount (most : ℕ) (text : List ℕ) (n : ℕ) : Type 0 where
   pub number : IsShortNumber 10 7 text n
   pub some : 1 ≤ n

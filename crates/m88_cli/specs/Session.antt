@@ -6,11 +6,10 @@ use Rattle.m88_isa.specs.Address.{word_address}
 use Rattle.m88_isa.specs.Machine.{Program}
 use Rattle.m88_event.specs.Letters.{letter_at}
 use Rattle.m88_event.specs.Run.{answered_after}
-use Rattle.m88_event.specs.Timeline.{Moment, after_letter, is_drained, is_over, opening_moment, record_at}
+use Rattle.m88_event.specs.Timeline.{Moment, after_letter, is_drained, is_over, nip_at, opening_moment, record_at}
 use Rattle.m88_event.specs.declared.letter.Letter.{Letter}
 use Rattle.m88_report.specs.Report.{record_lines}
 use Rattle.m88_board.specs.Glances.{glances_along}
-use Rattle.m88_board.specs.Shown.{nip_at}
 use Rattle.m88_board.specs.declared.glance.Glance.{Glance}
 use Rattle.m88_cli.specs.Limits.{session_limit}
 use Rattle.m88_cli.specs.MonitorLines.{breakpoint_line, counts_text, registers_text, trace_line, words_text}

@@ -2,14 +2,13 @@
 -- and what a command made of it.
 use Rattle.std.specs.Prelude.{ℕ, List, [], ◌∷◌, ◌++◌, ◌≡◌, ◌≤◌, ◌+◌, ◌^◌, Option, length}
 use Rattle.m88_event.specs.Letters.{letter_at}
-use Rattle.m88_event.specs.Timeline.{Moment, after_letter, said_at}
+use Rattle.m88_event.specs.Timeline.{Moment, after_letter, nip_at, said_at}
 use Rattle.m88_event.specs.declared.happened.Happened.{Happened}
 use Rattle.m88_event.specs.declared.letter.Letter.{Letter}
 use Rattle.m88_isa.specs.Held.{instruction_at}
 use Rattle.m88_isa.specs.Machine.{IsProgram, Program}
 use Rattle.m88_board.specs.Glances.{Saw, glance_at}
 use Rattle.m88_board.specs.Moves.{IsAt}
-use Rattle.m88_board.specs.Shown.{nip_at}
 use Rattle.m88_board.specs.declared.glance.Glance.{Glance}
 use Rattle.m88_cli.specs.Session.{Course, Makes, MakesEach, Session, after_command, glances_of, text_of_command}
 use Rattle.m88_cli.specs.MonitorLines.{happened_line, letter_text}

@@ -1,5 +1,5 @@
 -- Words for the contracts of private functions; no promise of the program names them. The faults of a source as the
--- code keeps them, among them that memory ran out.
+-- code keeps them, among them that memory ran out, and the refusal that each comes to behind so many other lines.
 use Rattle.std.specs.Prelude.{ℕ, ◌≡◌, ◌≢◌, ◌⊎◌, List, Some}
 use Rattle.m88_parse.specs.Fault.{out_of_memory}
 use Rattle.m88_parse.specs.Language.FirstFaults.{IsFirstFault}

@@ -1,5 +1,5 @@
--- What a watch is shown while a command is carried out: of a run, that of a workload too, its board after each event,
--- and of other commands nothing.
+-- What a watch is shown while a command is carried out: of a run, that of a workload too, and of a session with the
+-- monitor its board after each event, and of other commands nothing.
 use Rattle.std.specs.Prelude.{ℕ, Bool, ◌≡◌, ◌⊎◌, List, [], Option}
 use Rattle.m88_isa.specs.Machine.{Program}
 use Rattle.m88_event.specs.Run.{IsRun, IsRunning, moment_after}
@@ -46,11 +46,11 @@ ShownBy OfRun OfSession (soak number count) input before after =
     × OfRun p count every_page (workload_schedule number count) before after
 ShownBy OfRun OfSession (mon absent schedule) input before after = OfSession input absent schedule before after
 
--- a watch was shown the whole of a command
+-- a watch was shown the whole of a command over an input that it accepts
 abbrev pub Shown : Command → List ℕ → Option (List Glance) → Option (List Glance) → Type 0
 Shown command input before after = ShownBy SawRun SawSession command input before after
 
--- or a front of it
+-- or a front of it, over such an input
 abbrev pub ShownFront : Command → List ℕ → Option (List Glance) → Option (List Glance) → Type 0
 ShownFront command input before after = ShownBy SawFront SawSessionFront command input before after
 

@@ -4,7 +4,6 @@
 
 // The words of a command.
 mod commands;
-mod cutting;
 mod grammar;
 mod limits;
 mod numbers;

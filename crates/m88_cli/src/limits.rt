@@ -1,5 +1,5 @@
-//! The limits of inputs, runs, workloads and sessions; those of a script and of the words of a command stand where they
-//! are read.
+//! The limits of inputs, runs, workloads and sessions; those of a script, and of the pages and letters that a command
+//! names, stand where they are read.
 
 /// The most bytes that an input may have: one mebibyte.
 pub const MOST_INPUT: usize = 1_048_576;

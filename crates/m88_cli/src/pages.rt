@@ -4,10 +4,9 @@ ghost use Rattle.m88_mem.specs.DataBus.{page_count};
 ghost use Rattle.m88_mem.specs.Marks.{NamesPages, absent_in};
 ghost use Rattle.m88_cli.specs.Pages.{ArePageNumbers, IsAbsent, IsPageNumber, most_numbers};
 
-use crate::cutting::cut_at;
 use crate::numbers::{decimal_number, hexadecimal_number};
 use arrayvec::ArrayVec;
-use m88_base::Absent;
+use m88_base::{Absent, split_at_byte};
 use m88_mem::PAGE_COUNT;
 
 /// The most page numbers that a text may have.
@@ -44,7 +43,7 @@ fn page_numbers(text: &[u8]) -> Option<ArrayVec<u32, MOST_NUMBERS>>
 {
     let mut numbers = ArrayVec::new();
     let mut rest = text;
-    while let Some((first, others)) = cut_at(b',', rest) {
+    while let Some((first, others)) = split_at_byte(b',', rest) {
         add_number(&mut numbers, first)?;
         rest = others;
     }

@@ -4,9 +4,9 @@ ghost use Rattle.m88_cli.specs.Script.{IsCount, AreMemoryOperands, WritesAddress
 ghost use Rattle.m88_cli.specs.ScriptWords.{IsBare};
 ghost use Rattle.m88_cli.specs.declared.script.MonitorCommand.{MonitorCommand as CommandValue};
 
-use crate::cutting::cut_at;
 use crate::numbers::{decimal_number, hexadecimal_number};
 use crate::script::MonitorCommand;
+use m88_base::split_at_byte;
 
 /// The most events that a command may ask for.
 const MOST_STEPS: u32 = 1_000_000;
@@ -91,7 +91,7 @@ fn place_and_count(text: &[u8]) -> Option<(u32, u32)>
     ensures only { (address count : ℕ) → AreMemoryOperands text.now address count
         → result ≡ Some (address, count) }
 {
-    let (place, digits) = cut_at(b' ', text)?;
+    let (place, digits) = split_at_byte(b' ', text)?;
     let address = place_in(place)?;
     let count = count_in(digits, MOST_WORDS)?;
     Some((address, count))

@@ -5,7 +5,7 @@ ghost use Rattle.m88_ctrl.specs.ControlRegisters.{at_start, by_number, carry_of,
 
 use crate::cr;
 use crate::frame::{Frame, Restart};
-use m88_base::Triple;
+use m88_base::{NO_TRIPLE, Triple};
 use std::marker::Model;
 
 /// The status at the start: the user's mode, and the carry is clear.
@@ -28,13 +28,6 @@ const SFRZ: u32 = 1 << 0;
 
 /// The bits that an exception sets in PSR.
 const EXCEPTION_BITS: u32 = MODE | SFD1 | IND | SFRZ;
-
-/// The words of no data transaction.
-const NO_TRIPLE: Triple = Triple {
-    dmt: 0,
-    dmd: 0,
-    dma: 0,
-};
 
 /// The 21 control registers. Bit 0 of SSBR is never set.
 #[derive(Drop, Debug)]

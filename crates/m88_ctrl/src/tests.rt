@@ -1,13 +1,7 @@
 //! The control registers by their numbers, and an exception with its return, told by hand.
 
 use crate::{Control, Frame, Restart, cr};
-use m88_base::Triple;
-
-const NONE: Triple = Triple {
-    dmt: 0,
-    dmd: 0,
-    dma: 0,
-};
+use m88_base::{NO_TRIPLE, Triple};
 
 #[test]
 fn each_register_keeps_what_is_stored(rt: HostRuntime) {
@@ -51,7 +45,7 @@ fn a_data_fault_is_entered_and_returned_from(rt: HostRuntime) {
             dmd: 0,
             dma: 0x6000,
         },
-        NONE,
+        NO_TRIPLE,
     ];
     let handler = ctrl.enter(
         3,

@@ -11,5 +11,4 @@ mod tests;
 mod text;
 
 pub use lister::listing;
-pub use put::{InstrText, MOST_TEXT};
 pub use text::text_of;

@@ -13,6 +13,7 @@ use super::put::{
     InstrText, begun, put_condition, put_control, put_field, put_number, put_register, put_scaled,
     put_target,
 };
+use arrayvec::ArrayString;
 use m88_base::{Reg, hex_digit};
 use m88_codec::encode;
 use m88_isa::{BitOp, Instr, Mnemonic};
@@ -291,8 +292,9 @@ fn by_form(instr: &Instr) -> InstrText
 
 /// The text of an instruction in the assembly language: its mnemonic, a blank, and its operands with a comma between
 /// each two and no other blank ("Instruction Set": the assembler syntax of each instruction). A branch names its
-/// target by the distance in bytes from itself, and a word of a special function unit is written by itself.
-pub fn text_of(instr: &Instr) -> InstrText
+/// target by the distance in bytes from itself, and a word of a special function unit is written by itself. No text has
+/// more than 48 bytes.
+pub fn text_of(instr: &Instr) -> ArrayString<48>
     requires { IsValid instr.now }
     ensures value { result.bytes ≡ instr_text instr.now }
 

@@ -4,14 +4,8 @@ ghost use Rattle.m88_isa.specs.Memory.{IsWordAccess};
 ghost use Rattle.m88_dunit.specs.Pending.{CanIssue};
 
 use crate::{DataUnit, Full};
-use m88_base::{Reg, Triple};
+use m88_base::{NO_TRIPLE, Reg, Triple};
 use m88_isa::{Access, Accesses};
-
-const NONE: Triple = Triple {
-    dmt: 0,
-    dmd: 0,
-    dma: 0,
-};
 
 /// A load of a word.
 fn load(register: u32, addr: u32) -> Access
@@ -133,7 +127,7 @@ fn words_of_a_double(rt: HostRuntime) {
                 dmd: 0,
                 dma: 0x2004
             },
-            NONE,
+            NO_TRIPLE,
         ]
     );
     assert_eq!(rt; unit.room(), 3);
@@ -165,7 +159,7 @@ fn words_of_an_exchange(rt: HostRuntime) {
                 dmd: 5,
                 dma: 0x5000
             },
-            NONE,
+            NO_TRIPLE,
         ]
     );
 }

@@ -4,7 +4,7 @@ ghost use Rattle.m88_isa.specs.Compute.{weight_if};
 ghost use Rattle.m88_isa.specs.Triples.{dmt_of, triple_of, triple_or_none};
 ghost use Rattle.m88_dunit.specs.Pending.{loaded_set};
 
-use m88_base::{Reg, Triple};
+use m88_base::{NO_TRIPLE, Reg, Triple};
 use m88_isa::Access;
 
 /// The words of an access, if there is one.
@@ -13,11 +13,7 @@ pub(crate) fn triple_or_none(access: Option<Access>) -> Triple
 {
     match access {
         Some(access) => triple_of(access),
-        None => Triple {
-            dmt: 0,
-            dmd: 0,
-            dma: 0,
-        },
+        None => NO_TRIPLE,
     }
 }
 

@@ -109,6 +109,10 @@ is_over_by limit l = not (is_pending l.pending) && (is_some l.ended || l.retired
 abbrev pub register_seen : List Access → List ℕ → ℕ → Option ℕ
 register_seen pending regs register = if waits_for pending register then None else Some (slice_index regs register)
 
+-- the same of a register at a moment: one that waits has no value, every other that of the history
+abbrev pub register_shown : Program → Moment → ℕ → Option ℕ
+register_shown p m = register_seen (pending_at p m.retired m.done) (state p m.retired).regs
+
 -- what a moment looks like
 unfoldable pub local_at : Program → (ℕ → Bool) → Moment → Local
 local_at p named m = record {

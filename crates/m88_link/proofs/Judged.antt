@@ -14,12 +14,14 @@ use Rattle.m88_link.specs.declared.object_fault.ObjectFault.TheVariants.{Form}
 use Rattle.m88_link.specs.Drafts.{Begun, Progress, at_rest, ended_step, is_nil, line_step, nothing_read, read_from, read_on, unended}
 use Rattle.m88_link.specs.ObjectRead.{HasText, HaveText, IsContinued, IsFormLine, ended_lines}
 use Rattle.m88_link.specs.ObjectText.{objects_text}
-use Rattle.m88_link.specs.Rows.{◌>>=◌, split_at_byte}
+use Rattle.m88_base.specs.Cut.{split_at_byte}
+use Rattle.m88_link.specs.Rows.{◌>>=◌}
 use Rattle.m88_link.proofs.Completes.{continues}
 use Rattle.m88_link.proofs.Forward.{objects_taken, rested, run}
 use Rattle.m88_link.proofs.Goes.{line_went}
 use Rattle.m88_link.proofs.Kept.{IsProgress, bare_nil, if_some, none_is}
-use Rattle.m88_link.proofs.Lined.{cut_found, joined_lines}
+use Rattle.m88_base.proofs.Splitting.{cut_found}
+use Rattle.m88_link.proofs.Lined.{joined_lines}
 use Rattle.m88_link.proofs.LineTurns.{ended_is, first_read, none_read}
 use Rattle.m88_link.proofs.Texts.{Lack, ended, joined, lines_of_objects, objects_joined, objects_lack}
 use Rattle.m88_link.proofs.Written.{objects_rows, written}

@@ -8,8 +8,10 @@ use Rattle.m88_link.specs.declared.object_fault.ObjectFault.{ObjectFault}
 use Rattle.m88_link.specs.declared.object_fault.ObjectFault.TheVariants.{Form}
 use Rattle.m88_link.specs.Drafts.{GivesObjects, Progress, TakesOrRefuses, at_rest, ended_step, is_nil, line_step, read_from, read_on, unended}
 use Rattle.m88_link.specs.ObjectRead.{ended_lines}
-use Rattle.m88_link.specs.Rows.{◌>>=◌, split_at_byte}
-use Rattle.m88_link.proofs.Lined.{cut_at, cut_found, lacks, lines_at, lines_none, one_line, uncut}
+use Rattle.m88_base.specs.Cut.{lacks, split_at_byte}
+use Rattle.m88_link.specs.Rows.{◌>>=◌}
+use Rattle.m88_base.proofs.Splitting.{split_first, cut_found, uncut}
+use Rattle.m88_link.proofs.Lined.{lines_at, lines_none, one_line}
 
 -- the first line and what it comes to
 pub first_read : (n : ℕ) (s : Progress) (line : List ℕ) (lines : List (List ℕ)) (o : Option Progress) → ended_step s line ≡ o
@@ -23,7 +25,7 @@ none_read n s = refl
 
 -- a line with its LF is judged without it
 pub unended_is : (line : List ℕ) → lacks 10 line ≡ true → unended (line ++ 10 ∷ []) ≡ Some line
-unended_is line lacking = ap (λ o. o >>= λ p. (if is_nil p.1 then Some p.0 else None)) (cut_at 10 line [] lacking)
+unended_is line lacking = ap (λ o. o >>= λ p. (if is_nil p.1 then Some p.0 else None)) (split_first 10 line [] lacking)
 
 pub ended_is : (s : Progress) (line : List ℕ) → lacks 10 line ≡ true → ended_step s (line ++ 10 ∷ []) ≡ line_step s line
 ended_is s line lacking = ap (λ o. o >>= line_step s) (unended_is line lacking)

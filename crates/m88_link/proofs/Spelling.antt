@@ -18,8 +18,9 @@ use Rattle.m88_base.proofs.Digits.{both, decimal_found, decimal_needed, decimal_
 use Rattle.m88_base.proofs.Hexadecimal.{hex8_of-hex8, hex8-hex8_of, is_hex8-hex8}
 use Rattle.m88_link.specs.ObjectText.{kind_word, section_word}
 use Rattle.m88_link.specs.Rows.{◌>>=◌, first_word, hex8_word, is_name_text, field_kind_of, kind_word_of, name_of, name_word, decimal_value, number_word, scope_of, scope_word, symbol_section_of, section_word_of, word_by}
-use Rattle.m88_link.proofs.Divided.{is_named, is_other, name_is}
-use Rattle.m88_link.proofs.Lined.{cut_at, cut_found, lacks, lacks_by}
+use Rattle.m88_base.proofs.Splitting.{cut_found, is_other, lacks_by, split_first}
+use Rattle.m88_link.proofs.Divided.{is_named, name_is}
+use Rattle.m88_base.specs.Cut.{lacks}
 
 -- the bytes are no blank and no LF
 abbrev pub IsWord : List ℕ → Type 0
@@ -99,7 +100,7 @@ number_found text n e = by_test (has_no_needless_zero text) refl e
 pub word_read : {A : Type 0} (of : List ℕ → Option A) (word rest : List ℕ) (a : A) → lacks 32 word ≡ true → of word ≡ Some a
     → word_by of (word ++ 32 ∷ rest) ≡ Some (a, rest)
 word_read of word rest a lacking e =
-    ap (λ o. o >>= λ p. (of p.0 >>= λ a. Some (a, p.1))) (cut_at 32 word rest lacking)
+    ap (λ o. o >>= λ p. (of p.0 >>= λ a. Some (a, p.1))) (split_first 32 word rest lacking)
     ∙ ap (λ o. o >>= λ a. Some (a, rest)) e
 
 -- a word that was read, and the blank behind it

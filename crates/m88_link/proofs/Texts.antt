@@ -20,7 +20,9 @@ use Rattle.m88_link.specs.declared.row.SectionHead.{SectionHead}
 use Rattle.m88_link.specs.ObjectRead.{HasRelocText, HasSectionText, HasSymbolText, HasText, ended_lines}
 use Rattle.m88_link.specs.ObjectText.{byte_line, byte_lines, byte_lines_before, blank, end_line, field_words, kind_word, object_line, object_lines, objects_text, place_words, reloc_line, section_lines, section_word, source_words, symbol_line, target_words}
 use Rattle.m88_link.proofs.ByteTexts.{digits_lack}
-use Rattle.m88_link.proofs.Lined.{lacks, lacks-append, lines_at, lines_none}
+use Rattle.m88_base.specs.Cut.{lacks}
+use Rattle.m88_base.proofs.Splitting.{lacks-append}
+use Rattle.m88_link.proofs.Lined.{lines_at, lines_none}
 use Rattle.m88_link.proofs.RowTexts.{IsRow, head_text, place_text, row_text}
 use Rattle.m88_link.proofs.Spelling.{decimal_is_word, hex8_is_word, name_is_word, scope_text}
 use Rattle.m88_link.proofs.Written.{byte_row, head_row, object_rows, objects_rows, reloc_rows, rows_before, section_rows, sections_rows, symbol_rows}

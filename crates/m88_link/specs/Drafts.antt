@@ -17,7 +17,8 @@ use Rattle.m88_link.specs.declared.row.SectionHead.{SectionHead}
 use Rattle.m88_base.specs.Lines.{line_feed}
 use Rattle.m88_link.specs.ObjectText.{line_bytes}
 use Rattle.m88_link.specs.ObjectRead.{IsRefusedText, IsSoundText}
-use Rattle.m88_link.specs.Rows.{◌>>=◌, bytes_behind, split_at_byte, row_in}
+use Rattle.m88_base.specs.Cut.{split_at_byte}
+use Rattle.m88_link.specs.Rows.{◌>>=◌, bytes_behind, row_in}
 
 -- a section with the bytes that came, and how many are missing
 pub record Filled : Type 0 where
@@ -83,7 +84,7 @@ is_whole d = is_none d.filling && nat_le 2 (length d.sections)
 unfoldable pub head_step : SectionHead → Begun → Option Begun
 head_step h d = if takes_head d h then Some (settled d (headed h)) else None
 
--- the bytes of one line more: as many as a line has, or what is missing
+-- the bytes of one line more: as many as a line has, or the fewer that are missing
 unfoldable pub more_bytes : List ℕ → Filled → Option Filled
 more_bytes digits f =
     if length digits == 2 * min f.missing line_bytes

@@ -2,6 +2,7 @@
 use Rattle.std.specs.Prelude.{ℕ, ◌+◌, ◌-◌, ◌*◌, ◌^◌, ◌==◌, ◌&&◌, Bool, true, false, List, [], ◌∷◌, ◌++◌, Option, None, Some, bytes_eq, codes, length, nat_lt, option_and_then, option_map, if◌then◌else◌}
 use Rattle.std.specs.Char.{digit_value}
 use Rattle.std.specs.List.{list_all}
+use Rattle.m88_base.specs.Cut.{split_at_byte}
 use Rattle.m88_base.specs.Hex.{hex8_of, is_hex_digit}
 use Rattle.m88_base.specs.Name.{begins_name, continues_name}
 use Rattle.m88_base.specs.Numerals.{decimal_in}
@@ -22,15 +23,6 @@ infixl 10 ◌>>=◌
 abbrev pub ◌>>=◌ : {A B : Type 0} → Option A → (A → Option B) → Option B
 o >>= f = option_and_then f o
 
--- a byte in front of the first of two parts
-abbrev pub with_first : ℕ → List ℕ × List ℕ → List ℕ × List ℕ
-with_first b p = (b ∷ p.0, p.1)
-
--- what stands before the first byte of a value, and what stands behind it
-abbrev pub split_at_byte : ℕ → List ℕ → Option (List ℕ × List ℕ)
-split_at_byte at [] = None
-split_at_byte at (b ∷ bs) = if b == at then Some ([], bs) else option_map (with_first b) (split_at_byte at bs)
-
 -- the blank between two words of a line, as a byte
 abbrev pub blank_byte : ℕ
 blank_byte = 32
@@ -48,7 +40,7 @@ is_name_text (b ∷ bs) = begins_name b && list_all continues_name bs && nat_lt 
 abbrev pub name_of : List ℕ → Option (List ℕ)
 name_of text = if is_name_text text then Some text else None
 
--- the number below 2^32 that decimal digits write
+-- the number below 2^32 that decimal digits write without a needless zero
 abbrev pub decimal_value : List ℕ → Option ℕ
 decimal_value text = decimal_in (2 ^ 32 - 1) text
 

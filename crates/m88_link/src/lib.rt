@@ -22,7 +22,6 @@ mod tests;
 mod text;
 
 // Parts of reading object texts.
-mod cut;
 mod object_draft;
 mod object_lines;
 mod progress;

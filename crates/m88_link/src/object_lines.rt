@@ -3,10 +3,10 @@ ghost use Rattle.std.specs.Prelude.{◌<◌, ◌^◌, length};
 ghost use Rattle.m88_link.specs.Drafts.{GivesObjects, nothing_read, read_from};
 ghost use Rattle.m88_link.specs.ObjectRead.{ended_lines};
 
-use crate::cut::cut;
 use crate::object::Object;
 use crate::object_fault::ObjectFault;
 use crate::progress::Progress;
+use m88_base::split_at_byte;
 use std::alloc::Global;
 
 /// The objects whose text this is, sound or not, or the first line that the text of no objects
@@ -20,7 +20,7 @@ pub fn parse_objects(alloc: Global, text: &[u8]) -> Result<Vec<Object>, ObjectFa
     let mut rest = text;
     let mut number = 1;
     while !rest.is_empty() {
-        let Some((line, behind)) = cut(b'\n', rest) else {
+        let Some((line, behind)) = split_at_byte(b'\n', rest) else {
             return Err(ObjectFault::Form { line: number });
         };
         if !progress.line(line)? {

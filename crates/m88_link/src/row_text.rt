@@ -3,12 +3,12 @@ ghost use Rattle.std.specs.Prelude.{◌≡◌, ◌*◌, ◌+◌, ◌<◌, IfSome
 ghost use Rattle.m88_link.specs.Drafts.{TakesOrRefuses};
 ghost use Rattle.m88_link.specs.Rows.{at_of, byte_by_digits, bytes_behind, head_of, hex_value, reloc_in, keyword_of, row_by, row_in, symbol_in};
 
-use crate::cut::cut;
 use crate::object::{Place, Reloc, Symbol};
 use crate::row::{Keyword, Row, SectionHead};
 use crate::words::{
     hex8_word, kind_word, name_of, name_word, number_of, number_word, scope_word, section_word,
 };
+use m88_base::split_at_byte;
 use std::alloc::AllocError;
 
 /// A section's length and line.
@@ -122,7 +122,7 @@ pub fn row_of(line: &[u8]) -> Option<Row>
     if line == b"end".as_slice() {
         return Some(Row::End);
     }
-    let (word, rest) = cut(b' ', line)?;
+    let (word, rest) = split_at_byte(b' ', line)?;
     let keyword = keyword_of(word)?;
     row_by(keyword, rest)
 }

@@ -2,8 +2,7 @@
 ghost use Rattle.std.specs.Prelude.{◌≡◌, None, Some, MatchOption};
 ghost use Rattle.m88_link.specs.Rows.{hex8_word, field_kind_of, kind_word_of, name_of, name_word, decimal_value, number_word, scope_of, scope_word, symbol_section_of, section_word_of};
 
-use crate::cut::cut;
-use m88_base::{Kind, Name, decimal_in, hex8_of};
+use m88_base::{Kind, Name, decimal_in, hex8_of, split_at_byte};
 
 /// The name that the bytes are.
 pub fn name_of(text: &[u8]) -> Option<Name>
@@ -60,7 +59,7 @@ pub fn name_word(text: &[u8]) -> Option<(Name, &[u8])>
     ensures { MatchOption result (name_word text.now ≡ None)
         (λ p. name_word text.now ≡ Some (p.0, p.1.now)) }
 {
-    let (word, rest) = cut(b' ', text)?;
+    let (word, rest) = split_at_byte(b' ', text)?;
     Some((name_of(word)?, rest))
 }
 
@@ -70,7 +69,7 @@ pub fn hex8_word(text: &[u8]) -> Option<(u32, &[u8])>
     ensures { MatchOption result (hex8_word text.now ≡ None)
         (λ p. hex8_word text.now ≡ Some (p.0, p.1.now)) }
 {
-    let (word, rest) = cut(b' ', text)?;
+    let (word, rest) = split_at_byte(b' ', text)?;
     Some((hex8_of(word)?, rest))
 }
 
@@ -80,7 +79,7 @@ pub fn number_word(text: &[u8]) -> Option<(u32, &[u8])>
     ensures { MatchOption result (number_word text.now ≡ None)
         (λ p. number_word text.now ≡ Some (p.0, p.1.now)) }
 {
-    let (word, rest) = cut(b' ', text)?;
+    let (word, rest) = split_at_byte(b' ', text)?;
     Some((number_of(word)?, rest))
 }
 
@@ -90,7 +89,7 @@ pub fn scope_word(text: &[u8]) -> Option<(bool, &[u8])>
     ensures { MatchOption result (scope_word text.now ≡ None)
         (λ p. scope_word text.now ≡ Some (p.0, p.1.now)) }
 {
-    let (word, rest) = cut(b' ', text)?;
+    let (word, rest) = split_at_byte(b' ', text)?;
     Some((scope_of(word)?, rest))
 }
 
@@ -100,7 +99,7 @@ pub fn section_word(text: &[u8]) -> Option<(Option<u32>, &[u8])>
     ensures { MatchOption result (section_word_of text.now ≡ None)
         (λ p. section_word_of text.now ≡ Some (p.0, p.1.now)) }
 {
-    let (word, rest) = cut(b' ', text)?;
+    let (word, rest) = split_at_byte(b' ', text)?;
     Some((section_of(word)?, rest))
 }
 
@@ -110,6 +109,6 @@ pub fn kind_word(text: &[u8]) -> Option<(Kind, &[u8])>
     ensures { MatchOption result (kind_word_of text.now ≡ None)
         (λ p. kind_word_of text.now ≡ Some (p.0, p.1.now)) }
 {
-    let (word, rest) = cut(b' ', text)?;
+    let (word, rest) = split_at_byte(b' ', text)?;
     Some((kind_of(word)?, rest))
 }

@@ -1,16 +1,10 @@
 //! The service of faults and traps, told by hand.
 
 use crate::{Served, Service, serve, service};
-use m88_base::{Absent, Image, NoMemory, Reg, Triple};
+use m88_base::{Absent, Image, NO_TRIPLE, NoMemory, Reg, Triple};
 use m88_ctrl::{Control, Frame, cr};
 use m88_mem::Memory;
 use m88_scoreboard::RegFile;
-
-const NONE: Triple = Triple {
-    dmt: 0,
-    dmd: 0,
-    dma: 0,
-};
 
 #[test]
 fn traps(rt: HostRuntime) {
@@ -46,7 +40,7 @@ fn an_absent_load_is_finished(rt: HostRuntime) -> Result<(), NoMemory> {
             sxip: 0x1002,
             snip: 0x1006,
             sfip: 0x100B,
-            triples: [load, NONE, NONE],
+            triples: [load, NO_TRIPLE, NO_TRIPLE],
         },
     );
     assert_eq!(rt;

@@ -1,16 +1,9 @@
 //! Reports and lines of worked runs, and one text by hand; none was made by this program.
 
 use crate::{push_carry, push_end, push_record, push_registers, report};
-use m88_base::{Listed, NoMemory, Triple};
+use m88_base::{Listed, NO_TRIPLE, NoMemory, Triple};
 use m88_event::{End, Outcome, Record};
 use std::alloc::Global;
-
-/// No transaction.
-const NONE: Triple = Triple {
-    dmt: 0,
-    dmd: 0,
-    dma: 0,
-};
 
 /// What a run came to that met its limit: all registers are 0, and there is no output, no changed word and no fault.
 fn at_limit(alloc: Global, retired: u32, events: u64) -> Outcome {
@@ -123,8 +116,8 @@ fn a_table_is_summed(rt: HostRuntime) -> Result<(), NoMemory> {
                 dmd: 0,
                 dma: 0x2000,
             },
-            NONE,
-            NONE,
+            NO_TRIPLE,
+            NO_TRIPLE,
         ],
     }]
     .to_vec(rt.alloc())?);
@@ -187,7 +180,7 @@ fn all_lines_at_once(rt: HostRuntime) -> Result<(), NoMemory> {
                     dmd: 7,
                     dma: 0x2004,
                 },
-                NONE,
+                NO_TRIPLE,
             ],
         },
     ]
@@ -241,8 +234,8 @@ fn a_register_waits(rt: HostRuntime) -> Result<(), NoMemory> {
                 dmd: 0,
                 dma: 0x5000,
             },
-            NONE,
-            NONE,
+            NO_TRIPLE,
+            NO_TRIPLE,
         ],
     };
     push_record(&mut text, &now)?;

@@ -5,14 +5,14 @@ ghost use Rattle.std.specs.Int.{to_be_bytes, w32};
 ghost use Rattle.m88_base.specs.Image.{byte_at};
 ghost use Rattle.m88_base.specs.Reg.{number_of};
 ghost use Rattle.m88_ctrl.specs.ControlRegisters.{carry_of};
-ghost use Rattle.m88_event.specs.Local.{is_over_by, register_seen};
-ghost use Rattle.m88_event.specs.Timeline.{Moment, is_over};
+ghost use Rattle.m88_event.specs.Local.{is_over_by, register_seen, register_shown};
+ghost use Rattle.m88_event.specs.Timeline.{Moment, is_over, nip_at};
 ghost use Rattle.m88_isa.specs.History.{bus_at, pending_at};
 ghost use Rattle.m88_isa.specs.Machine.{Program, four_bytes, state};
 ghost use Rattle.m88_mem.specs.DataBus.{bus_of};
 ghost use Rattle.m88_board.specs.Board.{completed_of, local_of, pointer_of};
 ghost use Rattle.m88_board.specs.Moves.{IsAt};
-ghost use Rattle.m88_board.specs.Shown.{ArePointers, AreRegisters, IsDataBus, IsStatus, nip_at, register_shown};
+ghost use Rattle.m88_board.specs.Shown.{ArePointers, AreRegisters, IsDataBus, IsStatus};
 
 use super::Board;
 use m88_base::Reg;

@@ -2,7 +2,7 @@
 
 ghost use Rattle.std.specs.Prelude.{ℕ, Bool, [], ◌∷◌, ◌↔◌, ◌≡◌, ◌<◌, ◌≤◌, ◌+◌, ◌-◌, ◌*◌, true, length, IfOk, OnErr, OnOk};
 ghost use Rattle.m88_event.specs.Run.{IsDrain, IsDraining, IsOutcome, IsRun, IsRunning, answered_after, moment_after, outcome_at};
-ghost use Rattle.m88_event.specs.Timeline.{Moment, is_over, opening_moment, said_at};
+ghost use Rattle.m88_event.specs.Timeline.{Moment, is_over, opening_moment};
 ghost use Rattle.m88_event.specs.declared.happened.End.{End as EndValue};
 ghost use Rattle.m88_event.specs.declared.letter.Letter.{Letter as LetterValue};
 ghost use Rattle.m88_event.specs.declared.outcome.Outcome.{Outcome as OutcomeValue};
@@ -15,7 +15,7 @@ ghost use Rattle.m88_board.specs.Moves.{IsAlong, IsAt, IsSameRun, IsStep, IsUnmo
 use super::Board;
 use crate::watch::Watch;
 use m88_base::{Listed, NoMemory};
-use m88_event::{End, Happened, Letter, Outcome, Schedule};
+use m88_event::{End, Letter, Outcome, Schedule};
 
 impl Board {
     /// Makes the events of the letters of a schedule, and then of `r` and `i` in turn, until nothing is pending and
@@ -101,15 +101,12 @@ impl Board {
         Ok(())
     }
 
-    /// Makes the event of a letter, as `event` does; then the watch is shown the board.
-    pub fn step<W: Watch>(&mut self, letter: Letter, watch: &mut W) -> Result<Happened, NoMemory>
+    /// Makes the event of a letter; then the watch is shown the board.
+    fn step<W: Watch>(&mut self, letter: Letter, watch: &mut W) -> Result<(), NoMemory>
         requires { self.old.events < most_events }
         ensures ok { OnOk result ((p : Program) (named : ℕ → Bool) (m : Moment) → IsProgram p
             → IsAt p named m self.old
             → IsStep p named letter m (W.seen watch.old) (W.seen watch.new) self.old self.new) }
-        ensures said { IfOk result (λ happened. (p : Program) (named : ℕ → Bool) (m : Moment)
-            → IsAt p named m self.old
-            → happened ≡ said_at p named self.old.limit letter m) }
         ensures counted { OnOk result (self.new.events ≡ self.old.events + 1) }
         ensures same { OnOk result (IsSameRun self.old self.new) }
         ensures shorter { letter ≡ LetterValue.Answer
@@ -117,9 +114,9 @@ impl Board {
         ensures err { OnErr result (IsUnmoved self.old self.new) }
         ensures unseen { OnErr result (watch.new ≡ watch.old) }
     {
-        let happened = self.event(letter)?;
+        self.event(letter)?;
         self.show(watch);
-        Ok(happened)
+        Ok(())
     }
 
     /// Shows the board.

@@ -1,7 +1,11 @@
-//! The event of the next letter of a run.
+//! The event of the next letter of a run, which the board is shown after.
 
-ghost use Rattle.std.specs.Prelude.{◌≡◌, ◌<◌, ◌+◌, IfOk, OnErr, OnOk};
+ghost use Rattle.std.specs.Prelude.{ℕ, Bool, ◌≡◌, ◌<◌, ◌+◌, [], ◌∷◌, IfOk, OnErr, OnOk};
+ghost use Rattle.m88_event.specs.Timeline.{Moment};
+ghost use Rattle.m88_isa.specs.Machine.{Program};
+ghost use Rattle.m88_board.specs.Glances.{Saw, glance_at};
 ghost use Rattle.m88_board.specs.Kept.{most_events};
+ghost use Rattle.m88_board.specs.Moves.{IsAt};
 ghost use Rattle.m88_cli.specs.Session.{Course, Session};
 ghost use Rattle.m88_cli.specs.SessionKept.{IsNext, Stands};
 
@@ -28,8 +32,19 @@ impl Monitor {
         ensures unseen { OnErr result (watch.new ≡ watch.old) }
     {
         let letter = schedule.letter_at(self.taken);
-        let happened = self.board.step(letter, watch)?;
+        let happened = self.board.event(letter)?;
         self.taken += 1;
+        self.show(watch);
         Ok(happened)
+    }
+
+    /// Shows the board.
+    fn show<W: Watch>(&self, watch: &mut W)
+        ensures { (p : Program) (named : ℕ → Bool) (m : Moment) → IsAt p named m self.now.board
+            → Saw (W.seen watch.old) (W.seen watch.new) (glance_at p m ∷ []) }
+    {
+        // What NIP is at a moment is told with it.
+        let _ = self.board.next_slot();
+        watch.after(&self.board);
     }
 }
