@@ -37,13 +37,7 @@ unfolding waits_for
 waits_append [] ys r = refl
 waits_append (x ∷ xs) ys r = ap (λ b. loads x r || b) (waits_append xs ys r) ∙ or_assoc (loads x r) (waits_for xs r) (waits_for ys r)
 
--- a load and a store
-load_waits : (x : Access) (r : ℕ) → x.write ≡ false → (r == 0) ≡ false → loads x r ≡ (number_of x.reg == r)
-load_waits x r read there = rw (read, there) refl
-
-zero_loads_not : (x : Access) → loads x 0 ≡ false
-zero_loads_not x = by_test x.write (λ write. rw write refl) (λ read. rw read refl)
-
+-- a store loads nothing
 store_loads_not : (x : Access) (r : ℕ) → x.write ≡ true → loads x r ≡ false
 store_loads_not x r write = rw write refl
 

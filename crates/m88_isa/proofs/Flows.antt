@@ -1,17 +1,14 @@
 -- Where an instruction goes on: from words to words.
-use Rattle.std.specs.Prelude.{ℕ, ℤ, Bool, true, false, not, List, Option, Some, None, ◌≡◌, ◌%◌, ◌==◌, ◌&&◌, nat_lt, slice_index, if◌then◌else◌}
-use Rattle.std.proofs.Common.{arith, refl, subst}
+use Rattle.std.specs.Prelude.{ℕ, ℤ, Bool, true, false, List, ◌≡◌, ◌%◌, ◌==◌, nat_lt, if◌then◌else◌}
+use Rattle.std.proofs.Common.{arith, refl}
 use Rattle.std.proofs.lemmas.Bool.{false≢true}
 use Rattle.m88_base.specs.declared.reg.Reg.{Reg}
 use Rattle.m88_isa.proofs.Alone.{by_test}
 use Rattle.m88_isa.specs.Address.{address, after_bytes, word_address}
 use Rattle.m88_isa.specs.Compute.{immediate, registers}
-use Rattle.m88_isa.specs.Effect.{Change, Meaning, accesses, branches, checks, computes, controls, effect, flows, goes, indexed, inputs_of, meaning_of, plan_for, plan_of, raises, traps, traps_if, FlowsToWords}
+use Rattle.m88_isa.specs.Effect.{Meaning, accesses, branches, checks, computes, controls, effect, flows, goes, indexed, inputs_of, plan_for, raises, traps, traps_if, FlowsToWords}
 use Rattle.m88_isa.specs.Flow.{FlowFits, bit_is, class_in, words_away}
-use Rattle.m88_isa.specs.Machine.{Program, Turn, carried_out, changes, fetched, four_bytes, outputs, stops, trapped, turn}
 use Rattle.m88_isa.specs.Memory.{size_of}
-use Rattle.m88_isa.specs.Monitor.{exit_service, monitor_trap, put_service, service_register}
-use Rattle.m88_isa.specs.Operands.{is_flow}
 use Rattle.m88_isa.specs.Vector.{first_user_vector}
 use Rattle.m88_isa.specs.declared.instr.Instr.{Instr}
 use Rattle.m88_isa.specs.declared.instr.Instr.TheVariants as instr
@@ -25,12 +22,6 @@ abbrev pub MeaningFits : Meaning → Type 0
 MeaningFits (raises vector) = Unit {0}
 MeaningFits (traps vector) = Unit {0}
 MeaningFits (goes change) = FlowFits change.after change.bubble
-
--- and so does a turn
-abbrev pub TurnFlows : Turn → Type 0
-TurnFlows (changes change) = FlowFits change.after change.bubble
-TurnFlows (outputs byte) = Unit {0}
-TurnFlows (stops stop) = Unit {0}
 
 -- the address of an instruction and of the one that follows it are those of words
 pub record AtWords (x : Inputs) : Type 0 where
@@ -109,71 +100,15 @@ effect_fits (instr.Stcr s1 cr float) x at = controls_fits float
 effect_fits (instr.Xcr d s1 cr float) x at = controls_fits float
 effect_fits (instr.Sfu unit rest) x at = tt
 
--- what an instruction means goes on at words
-pub meaning_fits : (i : Instr) (regs : List ℕ) (carry : Bool) (pc next : ℕ) → pc % 4 ≡ 0 → next % 4 ≡ 0 →
-    MeaningFits (meaning_of i regs carry pc next)
-meaning_fits i regs carry pc next here behind = by_test (is_flow i && not (next == after_bytes pc 4))
-    (λ t. rw t tt)
-    (λ f. rw f (effect_fits i (inputs_of i regs carry pc next) (record { pc = here; next = behind })))
-
+-- and so does its plan
 of_plan : (m : Meaning) → MeaningFits m → FlowsToWords (plan_for m)
 of_plan (raises vector) h = tt
 of_plan (traps vector) h = tt
 of_plan (goes change) h = h
 
--- and so does its plan
-pub plan_flows : (i : Instr) (regs : List ℕ) (carry : Bool) (pc next : ℕ) → pc % 4 ≡ 0 → next % 4 ≡ 0 →
-    FlowsToWords (plan_of i regs carry pc next)
-plan_flows i regs carry pc next here behind =
-    of_plan (meaning_of i regs carry pc next) (meaning_fits i regs carry pc next here behind)
-
--- the same of what an instruction does, a change of flow in a taken delay slot aside
+-- the plan of what an instruction does, a change of flow in a taken delay slot aside, goes on at words
 pub effect_flows : (i : Instr) (regs : List ℕ) (carry : Bool) (pc next : ℕ) → pc % 4 ≡ 0 → next % 4 ≡ 0 →
     FlowsToWords (plan_for (effect i (inputs_of i regs carry pc next)))
 effect_flows i regs carry pc next here behind =
     let x = inputs_of i regs carry pc next in
     of_plan (effect i x) (effect_fits i x (record { pc = here; next = behind }))
-
--- a change that an instruction means
-pub change_flows : (i : Instr) (regs : List ℕ) (carry : Bool) (pc next : ℕ) (change : Change) → pc % 4 ≡ 0 →
-    next % 4 ≡ 0 →
-    meaning_of i regs carry pc next ≡ goes change →
-    FlowFits change.after change.bubble
-change_flows i regs carry pc next change here behind is =
-    subst MeaningFits is (meaning_fits i regs carry pc next here behind)
-
-trapped_flows : (vector : ℕ) (regs : List ℕ) (pc : ℕ) → TurnFlows (trapped vector regs pc)
-trapped_flows vector regs pc =
-    by_test (vector == monitor_trap && slice_index regs service_register == put_service)
-    (λ put. rw put tt)
-    (λ other. rw other (by_test (vector == monitor_trap && slice_index regs service_register == exit_service)
-    (λ exit. rw exit tt)
-    (λ none. rw none tt)))
-
-carried_out_flows : (m : Meaning) (regs : List ℕ) (pc : ℕ) → MeaningFits m → TurnFlows (carried_out m regs pc)
-carried_out_flows (raises vector) regs pc h = tt
-carried_out_flows (traps vector) regs pc h = trapped_flows vector regs pc
-carried_out_flows (goes change) regs pc h = h
-
-fetched_flows : (word : Option (List ℕ)) (i : Option Instr) (regs : List ℕ) (carry : Bool) (pc next : ℕ) →
-    pc % 4 ≡ 0 →
-    next % 4 ≡ 0 →
-    TurnFlows (fetched word i regs carry pc next)
-fetched_flows None i regs carry pc next here behind = tt
-fetched_flows (Some word) None regs carry pc next here behind = tt
-fetched_flows (Some word) (Some i) regs carry pc next here behind =
-    carried_out_flows (meaning_of i regs carry pc next) regs pc (meaning_fits i regs carry pc next here behind)
-
--- a program's turn at words goes on at words
-pub turn_flows : (p : Program) (regs : List ℕ) (carry : Bool) (pc next : ℕ) → pc % 4 ≡ 0 → next % 4 ≡ 0 →
-    TurnFlows (turn p regs carry pc next)
-turn_flows p regs carry pc next here behind =
-    fetched_flows (four_bytes p.byte pc) (p.instruction pc) regs carry pc next here behind
-
--- a change that it makes in its turn
-pub turned_flows : (p : Program) (regs : List ℕ) (carry : Bool) (pc next : ℕ) (change : Change) → pc % 4 ≡ 0 →
-    next % 4 ≡ 0 →
-    turn p regs carry pc next ≡ changes change →
-    FlowFits change.after change.bubble
-turned_flows p regs carry pc next change here behind is =
-    subst TurnFlows is (turn_flows p regs carry pc next here behind)

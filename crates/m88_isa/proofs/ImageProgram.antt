@@ -1,9 +1,8 @@
 -- The program of an image has bytes, and instructions that there are: at the four bytes of a word the one of that word.
-use Rattle.std.specs.Prelude.{ℕ, List, [], Option, Some, None, unwrap_or, IfSome, MatchOption, ◌≡◌, ◌≢◌, ◌<◌, ◌%◌, ◌^◌}
+use Rattle.std.specs.Prelude.{ℕ, List, [], Option, Some, None, unwrap_or, IfSome, MatchOption, ◌≡◌, ◌<◌, ◌%◌, ◌^◌}
 use Rattle.std.specs.Int.{from_be_bytes, to_be_bytes, w32}
-use Rattle.std.proofs.Common.{refl, sym, subst, ap, ◌∙◌}
+use Rattle.std.proofs.Common.{sym, subst, ap, ◌∙◌}
 use Rattle.std.proofs.lemmas.Nat.{from_be_bytes-to_be_bytes_4}
-use Rattle.std.proofs.lemmas.Option.{none-some}
 use Rattle.m88_base.specs.Image.{IsImage, ProgramImage, byte_at}
 use Rattle.m88_isa.proofs.Words.{word_small}
 use Rattle.m88_isa.specs.ImageProgram.{IsInstructionAt, IsProgramOf}
@@ -49,24 +48,3 @@ pub instruction_at_word : (image : ProgramImage) (p : Program) (a word : ℕ) �
     four_bytes (byte_at image) a ≡ Some (to_be_bytes w32 word) →
     MatchOption (p.instruction a) ((i : Instr) → ¬ IsWord i word) (λ i. IsWord i word)
 instruction_at_word image p a word of = matches_word (byte_at image) a word (p.instruction a) (of.instructions a)
-
--- there is no instruction where one of the four bytes is absent
-none_absent : (byte : ℕ → Option ℕ) (a : ℕ) (o : Option Instr) → IsInstructionAt byte a o →
-    four_bytes byte a ≡ None →
-    o ≡ None
-none_absent byte a None h absent = refl
-none_absent byte a (Some i) h absent = absurd (none-some (to_be_bytes w32 h.1.0) (sym absent ∙ h.1.1))
-
-pub none_at_absent : (image : ProgramImage) (p : Program) (a : ℕ) → IsProgramOf image p →
-    four_bytes (byte_at image) a ≡ None →
-    p.instruction a ≡ None
-none_at_absent image p a of = none_absent (byte_at image) a (p.instruction a) (of.instructions a)
-
--- and none at an address that is no multiple of 4
-none_off : (byte : ℕ → Option ℕ) (a : ℕ) (o : Option Instr) → IsInstructionAt byte a o → a % 4 ≢ 0 → o ≡ None
-none_off byte a None h off = refl
-none_off byte a (Some i) h off = absurd (off h.0)
-
-pub none_between : (image : ProgramImage) (p : Program) (a : ℕ) → IsProgramOf image p → a % 4 ≢ 0 →
-    p.instruction a ≡ None
-none_between image p a of = none_off (byte_at image) a (p.instruction a) (of.instructions a)

@@ -8,10 +8,10 @@ use Rattle.std.proofs.lemmas.Bool.Decides.{nat_tests}
 use Rattle.std.proofs.lemmas.List.{set_comm}
 use Rattle.m88_base.specs.declared.reg.Reg.{Reg}
 use Rattle.m88_base.specs.Reg.{number_of}
-use Rattle.m88_isa.proofs.Alone.{by_test, meaning_alone}
+use Rattle.m88_isa.proofs.Alone.{by_test}
 use Rattle.m88_isa.proofs.Sets.{uses_lack_r0}
 use Rattle.m88_isa.specs.Bus.{Cells, after_access, after_accesses, loaded, loads, waits_for}
-use Rattle.m88_isa.specs.Effect.{Change, meaning_of}
+use Rattle.m88_isa.specs.Effect.{Change}
 use Rattle.m88_isa.specs.History.{Completed, cells_after, change_accesses}
 use Rattle.m88_isa.specs.Machine.{with_register, with_written}
 use Rattle.m88_isa.specs.Operands.{uses_of}
@@ -116,16 +116,6 @@ never_zero i r is_zero used =
     let here : bit_at (uses_of i) 0 ≡ 1 = subst (λ k. bit_at (uses_of i) k ≡ 1) (eqb-true r 0 is_zero) used in
     let lacks = uses_lack_r0 i in
     omega (arith, here, lacks)
-
--- an instruction that uses no waiting register means the same before and after the pending accesses
-pub late_meaning : (i : Instr) (xs : List Access) (c : Cells) (carry : Bool) (pc next : ℕ) →
-    ((r : ℕ) → bit_at (uses_of i) r ≡ 1 → waits_for xs r ≡ false) →
-    meaning_of i (after_accesses xs c).regs carry pc next ≡ meaning_of i c.regs carry pc next
-late_meaning i xs c carry pc next none =
-    meaning_alone i c.regs (after_accesses xs c).regs carry pc next
-    (λ r used. by_test (r == 0)
-    (λ zero. absurd (never_zero i r zero used))
-    (λ there. sym (same_after_accesses xs c r there (none r used))))
 
 -- the same for the register that an instruction writes at once, if any
 pub late_written : (xs : List Access) (written : Option (Reg × ℕ)) (c : Cells) →

@@ -1,3 +1,4 @@
+-- What only helps the proofs: lemmas on single instructions, on programs, and on words and bytes of memory.
 pub mod Alone
 pub mod Apart
 pub mod Changed

@@ -1,3 +1,5 @@
+-- What a reader of the promises must believe of the chip and its programs.
+
 -- instructions and their words
 pub mod Instr
 pub mod Mnemonic

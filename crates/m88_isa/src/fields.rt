@@ -7,7 +7,6 @@ ghost use Rattle.m88_isa.specs.Fields.{
   extract_signed,
   find_bit,
   highest_one,
-  make,
   offset_in,
   ones,
   sign_extend,
