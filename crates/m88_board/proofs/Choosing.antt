@@ -21,27 +21,16 @@ use Rattle.m88_board.specs.Board.{BoardView, pc_of}
 use Rattle.m88_board.specs.Kept.{PartsAgree}
 use Rattle.m88_board.specs.Moves.{Did, stopping}
 
--- nothing is pending where there is no oldest
-pub none_pending : (xs : List Access) (o : Option Access) → o ≡ slice_get xs 0 → is_some o ≡ false → xs ≡ []
-none_pending [] o e h = refl
-none_pending (x ∷ xs) o e h = absurd (let no = ap is_some e in cc)
+-- whether something is pending, by the list
+pub none_pending : (xs : List Access) → is_pending xs ≡ false → xs ≡ []
+none_pending [] h = refl
+none_pending (x ∷ xs) h = absurd cc
 
-pub some_pending : (xs : List Access) (o : Option Access) → o ≡ slice_get xs 0 → is_some o ≡ true → is_pending xs ≡ true
-some_pending [] o e h = absurd (let no = ap is_some e in cc)
-some_pending (x ∷ xs) o e h = refl
+pub some_count : (xs : List Access) → is_pending xs ≡ true → 0 < length xs
+some_count [] h = absurd cc
+some_count (x ∷ xs) h = omega arith
 
-pub some_count : (xs : List Access) (o : Option Access) → o ≡ slice_get xs 0 → is_some o ≡ true → 0 < length xs
-some_count [] o e h = absurd (let no = ap is_some e in cc)
-some_count (x ∷ xs) o e h = omega arith
-
-pub some_length : (xs : List Access) (x : Access) → Some x ≡ slice_get xs 0 → 0 < length xs
-some_length [] x h = absurd cc
-some_length (y ∷ ys) x h = omega arith
-
--- what raises with something pending, and with nothing
-pub stopping_held : (stop : Stop) (xs : List Access) → is_pending xs ≡ true → stopping stop xs ≡ holds sync
-stopping_held stop xs h = ap (λ (t : Bool). if t then holds sync else finishes stop) h
-
+-- what raises with nothing pending
 pub stopping_ends : (stop : Stop) (xs : List Access) → xs ≡ [] → stopping stop xs ≡ finishes stop
 stopping_ends stop xs h = ap (λ (ys : List Access). stopping stop ys) h
 

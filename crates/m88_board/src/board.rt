@@ -105,7 +105,7 @@ impl Model for Board {
 
 impl Board {
     /// A board over an image, before its first event: the pages that are named are absent, and it retires at most
-    /// `limit` instructions.
+    /// `limit` instructions. The first is that of the word at the image's start, its two low bits cleared.
     pub fn new(alloc: Global, image: &Image, absent: &Absent, limit: u32) -> Result<Board, NoMemory>
         requires pages { NamesPages absent.now }
         requires small { limit ≤ most_retired }
@@ -153,7 +153,7 @@ impl Board {
         ensures { (fault : RecordValue) → Does passes fault self.old self.new }
     {
         let then = self.iunit.following().addr.wrapping_add(4);
-        let lacks = self.memory.fetch(then).is_none();
+        let lacks = lacks_word(&self.memory, then);
         self.iunit.pass_bubble(lacks);
     }
 
@@ -219,7 +219,7 @@ impl Board {
         ensures err { OnErr result (IsUnmoved self.old self.new) }
     {
         let fault = self.pipe();
-        self.records.push(fault).or(Err(NoMemory))?;
+        self.records.push(fault)?;
         let (done, restart) = serve_all(
             fault,
             &mut self.dunit,
@@ -281,7 +281,7 @@ impl Board {
             → Did (serves byte) fault self.old happened self.new) }
         ensures err { OnErr result (IsUnmoved self.old self.new) }
     {
-        self.out.push(byte).or(Err(NoMemory))?;
+        self.out.push(byte)?;
         let next = self.iunit.following().addr;
         advance(
             &mut self.iunit,
@@ -332,7 +332,7 @@ impl Board {
             fault self.old result self.new }
         ensures still { IsStill result → self.new ≡ self.old }
     {
-        if self.dunit.oldest().is_some() {
+        if self.is_pending() {
             return Happened::Stalled(Why::Sync);
         }
         let at = self.iunit.candidate().addr;

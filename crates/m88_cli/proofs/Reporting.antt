@@ -131,11 +131,7 @@ pub run_by : (p : Program) (own limit : ℕ) (absent : ℕ → Bool) (schedule :
 run_by p own limit absent schedule before after o e is saw =
     subst (λ n. SawRun p n absent schedule before after) e (saw_run p own absent schedule before after o is saw)
 
--- a fact holds where a call failed, and where it didn't
+-- a fact holds where a call failed
 pub on_err : {T E P : Type 0} (r : Result T E) → P → OnErr r P
 on_err (Ok x) h = tt
 on_err (Err e) h = h
-
-pub on_ok : {T E P : Type 0} (r : Result T E) → P → OnOk r P
-on_ok (Ok x) h = h
-on_ok (Err e) h = tt

@@ -76,16 +76,6 @@ others : (line : List ℕ) (a b : ℕ) → first_of line ≡ a → first_of line
 others line a b e f = sym e ∙ f
 
 -- what is read behind a name is the only command of the line
-pub only_step : (line digits : List ℕ) (o : Option ℕ) → line ≡ codes "step " ++ digits → ((n : ℕ) → IsCount most_steps digits n → o ≡ Some n)
-    → (c : MonitorCommand) → WritesCommand c line → option_map (λ n. Step n) o ≡ Some c
-only_step line digits o e only (Step n) h = ap (option_map (λ n. Step n)) (only n (same_operand (codes "step") (λ t. IsCount most_steps t n) line digits e h))
-only_step line digits o e only c h = let k = others line (letter_of c) 115 (begins c line h) (ap first_of e) in absurd (omega (arith, k))
-
-pub only_trace : (line digits : List ℕ) (o : Option ℕ) → line ≡ codes "trace " ++ digits → ((n : ℕ) → IsCount most_steps digits n → o ≡ Some n)
-    → (c : MonitorCommand) → WritesCommand c line → option_map (λ n. Trace n) o ≡ Some c
-only_trace line digits o e only (Trace n) h = ap (option_map (λ n. Trace n)) (only n (same_operand (codes "trace") (λ t. IsCount most_steps t n) line digits e h))
-only_trace line digits o e only c h = let k = others line (letter_of c) 116 (begins c line h) (ap first_of e) in absurd (omega (arith, k))
-
 pub only_break : (line text : List ℕ) (o : Option ℕ) → line ≡ codes "break " ++ text → ((n : ℕ) → WritesAddress text n → o ≡ Some n)
     → (c : MonitorCommand) → WritesCommand c line → option_map (λ n. Break n) o ≡ Some c
 only_break line text o e only (Break address) h = ap (option_map (λ n. Break n)) (only address (same_operand (codes "break") (λ t. WritesAddress t address) line text e h))

@@ -49,19 +49,6 @@ pub read_of : (u b c d : List ℕ) (limit : ℕ) (absent : Absent) (schedule : L
     → AreRead u c d limit absent schedule → AreRead b c d limit absent schedule
 read_of u b c d limit absent schedule e read = subst (λ (t : List ℕ). AreRead t c d limit absent schedule) e read
 
--- they spell a run of a source, or of S-records, by their name
-pub spells_run : (name b c d : List ℕ) (limit : ℕ) (absent : Absent) (schedule : List Letter) (a : List ℕ) → a ≡ name
-    → AreRead b c d limit absent schedule → SpellsRun name (a ∷ b ∷ c ∷ d ∷ []) limit (absent_in absent) schedule
-spells_run name b c d limit absent schedule a e read = record {
-  limit_text = b;
-  absent_text = c;
-  schedule_text = d;
-  words_are = ap (λ (n : List ℕ). n ∷ b ∷ c ∷ d ∷ []) e;
-  is_limit = read.is_limit;
-  is_absent = read.is_absent;
-  is_schedule = read.is_schedule;
-}
-
 -- the two names differ
 two_names : (a : List ℕ) → a ≡ codes "run" → a ≡ codes "exec" → ⊥
 two_names a e f = absurd cc

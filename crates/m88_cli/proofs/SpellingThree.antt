@@ -71,12 +71,6 @@ spelled_by_three P a b c (mon absent schedule) spelled workloads sessions =
 soak_or_mon : codes "soak" ≡ codes "mon" → ⊥
 soak_or_mon e = absurd cc
 
--- words that begin with neither spell nothing
-pub spelled_by_no_three : (a b c : List ℕ) → (a ≡ codes "soak" → ⊥) → (a ≡ codes "mon" → ⊥) → (command : Command)
-    → Spells (a ∷ b ∷ c ∷ []) command → ⊥
-spelled_by_no_three a b c no_soak no_mon command spelled =
-    spelled_by_three (λ other. ⊥) a b c command spelled (λ number count is. no_soak is.name_is) (λ pages letters is. no_mon is.name_is)
-
 -- what is known of the words with a name is known of those with an equal one
 pub named_found : (a name b c : List ℕ) (result : Option Kept) → a ≡ name → IfSome result (λ k. Spells (name ∷ b ∷ c ∷ []) (command_of k))
     → IfSome result (λ k. Spells (a ∷ b ∷ c ∷ []) (command_of k))

@@ -120,9 +120,7 @@ impl Monitor {
             ≡ text.old.items ++ breakpoint_line (word_address address)) }
     {
         let word = address / 4 * 4;
-        if self.breakpoints.push(word).is_err() {
-            return Err(NoMemory);
-        }
+        self.breakpoints.push(word)?;
         push_breakpoint(text, word)?;
         Ok(())
     }

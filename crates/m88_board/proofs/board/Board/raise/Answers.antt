@@ -1,6 +1,5 @@
 -- It waits, or the program ends.
 use Rattle.std.proofs.Common.{◌≡◌, ◌∙◌, ap, sym, subst}
-use Rattle.std.specs.Prelude.{slice_get}
 use Rattle.m88_board.specs.Board.{BoardView, pc_of}
 use Rattle.m88_event.specs.declared.happened.End.TheVariants.{Vector}
 use Rattle.m88_isa.specs.Machine.{by_vector}
@@ -10,13 +9,11 @@ use Rattle.m88_board.proofs.board.Board.raise.Goals as goal
 
 pub finish-requires-clause-empty : goal.finish-requires-clause-empty
 finish-requires-clause-empty c =
-    let oldest = subst (λ (b : BoardView). c.oldest.result ≡ slice_get b.pending 0) c.self.view_is c.oldest.ensures.value in
-    none_pending c.args.self.now.pending c.oldest.result oldest (sym c.is_some.ensures ∙ c.if-is_some.false)
+    none_pending c.args.self.now.pending (sym c.is_pending.ensures ∙ c.if-is_pending.false)
 
 pub returns-clause-does : goal.returns-clause-does
 returns-clause-does c = λ fault.
-    let oldest = subst (λ (b : BoardView). c.oldest.result ≡ slice_get b.pending 0) c.self.view_is c.oldest.ensures.value in
-    let empty = none_pending c.args.self.now.pending c.oldest.result oldest (sym c.is_some.ensures ∙ c.if-is_some.false) in
+    let empty = none_pending c.args.self.now.pending (sym c.is_pending.ensures ∙ c.if-is_pending.false) in
     did_by _ _ fault c.args.self.now c.finish.result c.finish.new.self
     (stopping_ends (by_vector c.args.vector (pc_of c.args.self.now.slots)) c.args.self.now.pending empty)
     (c.finish.ensures (by_vector c.args.vector (pc_of c.args.self.now.slots)) fault
@@ -36,8 +33,7 @@ returns-clause-still c =
 pub finish-requires-clause-comes : goal.finish-requires-clause-comes
 finish-requires-clause-comes c =
     let stop = by_vector c.args.vector (pc_of c.args.self.now.slots) in
-    let oldest = subst (λ (b : BoardView). c.oldest.result ≡ slice_get b.pending 0) c.self.view_is c.oldest.ensures.value in
-    let empty = none_pending c.args.self.now.pending c.oldest.result oldest (sym c.is_some.ensures ∙ c.if-is_some.false) in (
+    let empty = none_pending c.args.self.now.pending (sym c.is_pending.ensures ∙ c.if-is_pending.false) in (
       stop,
       ap (λ a. Vector c.args.vector a)
           (at_pc c.self.inside.iunit c.args.self.now.slots c.candidate-at.result c.candidate-at.ensures.value
