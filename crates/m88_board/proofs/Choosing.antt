@@ -1,5 +1,5 @@
 -- The choices that the paths of an event come to.
-use Rattle.std.specs.Prelude.{ℕ, Bool, true, false, List, [], ◌∷◌, Option, Some, ◌≡◌, ◌<◌, ◌==◌, ◌&&◌, is_some, length, slice_get, slice_index, if◌then◌else◌}
+use Rattle.std.specs.Prelude.{ℕ, Bool, true, false, List, [], ◌∷◌, Some, ◌≡◌, ◌<◌, ◌==◌, ◌&&◌, length, slice_get, slice_index, if◌then◌else◌}
 use Rattle.std.proofs.Common.{arith, refl, sym, ap, ◌∙◌, subst}
 use Rattle.m88_event.specs.Choice.{Choice, answer_choice, faults, finishes, holds, replies, serves, turn_choice}
 use Rattle.m88_event.specs.declared.happened.Happened.{Happened}
