@@ -1,5 +1,5 @@
 -- The choices that the paths of an event come to.
-use Rattle.std.specs.Prelude.{ℕ, Bool, true, false, List, [], ◌∷◌, Some, ◌≡◌, ◌<◌, ◌==◌, ◌&&◌, length, slice_get, slice_index, if◌then◌else◌}
+use Rattle.std.specs.Prelude.{ℕ, Bool, true, false, List, [], ◌∷◌, Option, Some, ◌≡◌, ◌<◌, ◌==◌, ◌&&◌, is_some, length, slice_get, slice_index, if◌then◌else◌}
 use Rattle.std.proofs.Common.{arith, refl, sym, ap, ◌∙◌, subst}
 use Rattle.m88_event.specs.Choice.{Choice, answer_choice, faults, finishes, holds, replies, serves, turn_choice}
 use Rattle.m88_event.specs.declared.happened.Happened.{Happened}
@@ -21,7 +21,11 @@ use Rattle.m88_board.specs.Board.{BoardView, pc_of}
 use Rattle.m88_board.specs.Kept.{PartsAgree}
 use Rattle.m88_board.specs.Moves.{Did, stopping}
 
--- whether something is pending, by the list
+-- whether something is pending, by the oldest and by the list
+pub pending_by : (xs : List Access) (o : Option Access) → o ≡ slice_get xs 0 → is_some o ≡ is_pending xs
+pending_by [] o e = ap is_some e
+pending_by (x ∷ xs) o e = ap is_some e
+
 pub none_pending : (xs : List Access) → is_pending xs ≡ false → xs ≡ []
 none_pending [] h = refl
 none_pending (x ∷ xs) h = absurd cc

@@ -219,7 +219,7 @@ impl Board {
         ensures err { OnErr result (IsUnmoved self.old self.new) }
     {
         let fault = self.pipe();
-        self.records.push(fault)?;
+        self.records.push(fault).or(Err(NoMemory))?;
         let (done, restart) = serve_all(
             fault,
             &mut self.dunit,
@@ -281,7 +281,7 @@ impl Board {
             → Did (serves byte) fault self.old happened self.new) }
         ensures err { OnErr result (IsUnmoved self.old self.new) }
     {
-        self.out.push(byte)?;
+        self.out.push(byte).or(Err(NoMemory))?;
         let next = self.iunit.following().addr;
         advance(
             &mut self.iunit,

@@ -1,4 +1,4 @@
--- Numbers in the words of a command.
+-- Numbers in the words of a command and in the lines of a script.
 use Rattle.std.specs.Prelude.{ℕ, ◌≡◌, ◌≤◌, List, length}
 use Rattle.std.specs.Str.Parse.{IsNumeral, digits_value}
 

@@ -120,7 +120,7 @@ impl Monitor {
             ≡ text.old.items ++ breakpoint_line (word_address address)) }
     {
         let word = address / 4 * 4;
-        self.breakpoints.push(word)?;
+        self.breakpoints.push(word).or(Err(NoMemory))?;
         push_breakpoint(text, word)?;
         Ok(())
     }

@@ -114,10 +114,12 @@ fn session_text<W: Watch>(
     ensures image { IsImage image.now }
     ensures session { IfOk result (λ text. (p : Program) → IsProgramOf image.now p
         → (glances : List Glance)
-        × IsSession (course_of p (absent_in absent.now) schedule.now) commands.now opening_session text.items glances
+        × IsSession (course_of p (absent_in absent.now) schedule.now) commands.now opening_session
+        text.items glances
         × Saw (W.seen watch.old) (W.seen watch.new) glances) }
     ensures front { OnErr result ((p : Program) → IsProgramOf image.now p → (glances : List Glance)
-        × IsSessionFront (course_of p (absent_in absent.now) schedule.now) commands.now opening_session glances
+        × IsSessionFront (course_of p (absent_in absent.now) schedule.now) commands.now opening_session
+        glances
         × Saw (W.seen watch.old) (W.seen watch.new) glances) }
 {
     let board = Board::new(alloc, image, absent, SESSION_LIMIT)?;

@@ -1,4 +1,4 @@
-//! Numbers in the words of a command.
+//! Numbers in the words of a command and in the lines of a script.
 ghost use Rattle.std.specs.Prelude.{ℕ, ◌≡◌, ◌≤◌, IfSome, Some};
 ghost use Rattle.m88_cli.specs.Numbers.{IsShortNumber};
 

@@ -66,7 +66,8 @@ pub fn m88<S: Source, K: Sink, W: Watch>(
     ensures refusal { (command : Choice) (input : List ℕ) (refusal : Refusal)
         → Spells (texts words.now) command → Refuses command input refusal
         → S.left source.old ≡ Some input → S.left source.new ≡ Some []
-        → IsWhole (K.held sink.old) (K.held sink.new) (refusal_line refusal) → result ≡ Status.Refused }
+        → IsWhole (K.held sink.old) (K.held sink.new) (refusal_line refusal)
+        → result ≡ Status.Refused }
 
     // The sink failed, and was given a front of the text that lacks at least one byte.
     ensures sink_fault { result ≡ Status.SinkFault
@@ -84,7 +85,8 @@ pub fn m88<S: Source, K: Sink, W: Watch>(
     // it is not, or Memory.
     ensures complete { (command : Choice) (input : List ℕ) → Spells (texts words.now) command
         → HasInput command (S.left source.old) input
-        → ¬ Rose (S.faults source.old) (S.faults source.new) → ¬ Rose (K.faults sink.old) (K.faults sink.new)
+        → ¬ Rose (S.faults source.old) (S.faults source.new)
+        → ¬ Rose (K.faults sink.old) (K.faults sink.new)
         → Answers (Accepts command input) result }
 
     // With every other answer nothing is written, and where memory ran out the watch was shown nothing, or a

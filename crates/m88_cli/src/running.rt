@@ -91,9 +91,11 @@ fn run_image<W: Watch>(
         → (o : OutcomeValue) × IsOutcome p (absent_in absent.now) limit schedule.now o
         × (reply.text.items ≡ report_of o)) }
     ensures watched { OnOk result ((p : Program) → IsProgramOf image.now p
-        → SawRun p limit (absent_in absent.now) schedule.now (W.seen watch.old) (W.seen watch.new)) }
+        → SawRun p limit (absent_in absent.now) schedule.now
+        (W.seen watch.old) (W.seen watch.new)) }
     ensures front { OnErr result ((p : Program) → IsProgramOf image.now p
-        → SawFront p limit (absent_in absent.now) schedule.now (W.seen watch.old) (W.seen watch.new)) }
+        → SawFront p limit (absent_in absent.now) schedule.now
+        (W.seen watch.old) (W.seen watch.new)) }
 {
     let outcome = outcome_of(alloc, limit, absent, schedule, image, watch)?;
     let text = report(alloc, &outcome)?;
@@ -118,9 +120,11 @@ pub fn outcome_of<W: Watch>(
     ensures outcome { IfOk result (λ o. (p : Program) → IsProgramOf image.now p
         → IsOutcome p (absent_in absent.now) limit schedule.now o) }
     ensures watched { OnOk result ((p : Program) → IsProgramOf image.now p
-        → SawRun p limit (absent_in absent.now) schedule.now (W.seen watch.old) (W.seen watch.new)) }
+        → SawRun p limit (absent_in absent.now) schedule.now
+        (W.seen watch.old) (W.seen watch.new)) }
     ensures front { OnErr result ((p : Program) → IsProgramOf image.now p
-        → SawFront p limit (absent_in absent.now) schedule.now (W.seen watch.old) (W.seen watch.new)) }
+        → SawFront p limit (absent_in absent.now) schedule.now
+        (W.seen watch.old) (W.seen watch.new)) }
 {
     let board = Board::new(alloc, image, absent, limit)?;
     let outcome = board.run(schedule, watch)?;

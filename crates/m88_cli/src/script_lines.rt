@@ -17,7 +17,8 @@ const MOST_BREAKS: usize = 16;
 /// Whether the lines of a script go on with one line more. Its command is added then.
 pub fn take_line(commands: &mut ArrayVec<MonitorCommand, MOST_COMMANDS>, line: &[u8]) -> bool
     ensures goes_on { result ≡ true → (lines : List (List ℕ))
-        → AreScriptLines lines commands.old.items → AreScriptLines (lines ++ line.now ∷ []) commands.new.items }
+        → AreScriptLines lines commands.old.items
+        → AreScriptLines (lines ++ line.now ∷ []) commands.new.items }
     ensures stops { result ≡ false → (lines : List (List ℕ))
         → AreScriptLines lines commands.old.items
         → (others : List CommandValue) → ¬ AreScriptLines (lines ++ line.now ∷ []) others }

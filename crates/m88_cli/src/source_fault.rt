@@ -45,7 +45,8 @@ pub fn refuse(alloc: Global, lines: u32, fault: SourceFault) -> Result<Reply, No
 /// The same for a fault of the source's lines.
 fn unread(alloc: Global, lines: u32, fault: ParseFault) -> Result<Reply, NoMemory>
     ensures line { IfOk result
-        (λ reply. reply.text.items ≡ refusal_line (parse_refusal (parse_fault_behind lines fault))) }
+        (λ reply. reply.text.items
+            ≡ refusal_line (parse_refusal (parse_fault_behind lines fault))) }
     ensures refused { IfOk result (λ reply. reply.accepted ≡ false) }
     ensures told { IfOk result (λ _. fault ≢ out_of_memory) }
 {
@@ -79,7 +80,8 @@ fn unassembled(alloc: Global, lines: u32, fault: AsmFault) -> Result<Reply, NoMe
     )
 }
 
-/// The same for a fault of its layout, or of that of objects.
+/// The reply that refuses a source behind so many lines, or objects behind none, for a fault of the layout, unless the
+/// fault is that memory ran out.
 pub fn unlinked(alloc: Global, lines: u32, fault: LinkFault) -> Result<Reply, NoMemory>
     ensures line { IfOk result
         (λ reply. reply.text.items ≡ refusal_line (link_refusal (link_fault_behind lines fault))) }

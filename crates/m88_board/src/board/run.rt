@@ -65,7 +65,7 @@ impl Board {
             × IsAlong p named (answered_after p named self.old.limit m) events
             (W.seen watch.old) (W.seen watch.new) self.new) }
     {
-        while self.is_pending() {
+        while self.dunit.oldest().is_some() {
             self.step(Letter::Answer, watch)?;
         }
         Ok(())

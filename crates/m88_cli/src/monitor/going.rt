@@ -122,7 +122,8 @@ impl Monitor {
     /// Whether NIP is valid and has the address of a breakpoint.
     fn is_at_breakpoint(&self) -> bool
         ensures { (c : Course) (letters : List LetterValue) (s : Session)
-            → Stands c letters s self.now → result ≡ is_at_breakpoint c.program s.breakpoints s.moment }
+            → Stands c letters s self.now
+            → result ≡ is_at_breakpoint c.program s.breakpoints s.moment }
     {
         let next = self.board.next_slot();
         next.v && is_among(&self.breakpoints, next.addr)

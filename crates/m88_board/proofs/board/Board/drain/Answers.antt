@@ -1,8 +1,9 @@
 -- Each event answers one transaction at least, so that three are enough.
+use Rattle.std.specs.Prelude.{slice_get}
 use Rattle.std.proofs.Common.{ap, arith, length, refl, suc, subst, sym, ◌≡◌, ◌≤◌, ◌∙◌}
 use Rattle.std.proofs.lemmas.Result.{err_from_is_err_and}
 use Rattle.m88_event.specs.Run.{answered_after}
-use Rattle.m88_board.proofs.Choosing.{none_pending, some_count}
+use Rattle.m88_board.proofs.Choosing.{none_pending, pending_by, some_count}
 use Rattle.m88_board.proofs.Running.{drains_end, drains_start, drains_step, still_at}
 use Rattle.m88_board.proofs.Still.{same_then, unmoved_same}
 use Rattle.m88_board.specs.Board.{BoardView}
@@ -18,7 +19,8 @@ loop-self-init g c = record {
 
 pub loop-self-preserved : goal.loop-self-preserved
 loop-self-preserved g c =
-    let pending = sym c.is_pending.ensures ∙ c.loop-self-test.true in
+    let oldest = subst (λ (b : BoardView). c.oldest.result ≡ slice_get b.pending 0) c.self.view_is c.oldest.ensures.value in
+    let pending = sym (pending_by c.loop-self.self.pending c.oldest.result oldest) ∙ sym c.is_some.ensures ∙ c.loop-self-test.true in
     let some = some_count c.loop-self.self.pending pending in
     let few = subst (λ (b : BoardView). length b.pending ≤ 3) c.self.view_is c.self.invariant.parts.few in
     let counted = c.in_ok-step.ensures.counted in
@@ -40,12 +42,16 @@ loop-self-preserved g c =
 
 pub returns-clause-empty : goal.returns-clause-empty
 returns-clause-empty g c =
-    none_pending c.loop-self.self.pending (sym c.is_pending.ensures ∙ c.loop-self-test.false)
+    none_pending c.loop-self.self.pending (sym (pending_by c.loop-self.self.pending c.oldest.result
+    (subst (λ (b : BoardView). c.oldest.result ≡ slice_get b.pending 0) c.self.view_is c.oldest.ensures.value))
+    ∙ sym c.is_some.ensures ∙ c.loop-self-test.false)
 
 pub returns-clause-ok : goal.returns-clause-ok
 returns-clause-ok g c = λ p named m is at.
     let drains = c.loop-self.invariant.drains p named m is at in
-    let none = none_pending c.loop-self.self.pending (sym c.is_pending.ensures ∙ c.loop-self-test.false) in
+    let none = none_pending c.loop-self.self.pending (sym (pending_by c.loop-self.self.pending c.oldest.result
+    (subst (λ (b : BoardView). c.oldest.result ≡ slice_get b.pending 0) c.self.view_is c.oldest.ensures.value))
+    ∙ sym c.is_some.ensures ∙ c.loop-self-test.false) in
     (drains.0, drains_end p named m drains.0 c.args.self.now c.loop-self.self _ _ drains.1 none, drains.1.along)
 
 pub returns-in_err-step-clause-err : goal.returns-in_err-step-clause-err

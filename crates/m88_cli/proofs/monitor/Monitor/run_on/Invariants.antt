@@ -1,5 +1,5 @@
 -- Some events were made, each before the run was over, and the next instruction stands at no breakpoint.
-use Rattle.std.proofs.Common.{◌≡◌, ◌≤◌, ◌+◌}
+use Rattle.std.proofs.Common.{◌≡◌, ◌+◌}
 use Rattle.m88_cli.proofs.Going.{IsGoing}
 use Rattle.m88_cli.specs.Session.{Course, Session}
 use Rattle.m88_cli.specs.SessionKept.{Stands}

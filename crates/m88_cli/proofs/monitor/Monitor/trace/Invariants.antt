@@ -1,5 +1,5 @@
 -- Some events were made and told, each before the run was over.
-use Rattle.std.proofs.Common.{◌≡◌, ◌≤◌, ◌+◌}
+use Rattle.std.proofs.Common.{◌≡◌, ◌+◌}
 use Rattle.m88_cli.proofs.Tracing.{IsTracing}
 use Rattle.m88_cli.specs.Session.{Course, Session}
 use Rattle.m88_cli.specs.SessionKept.{Stands}
