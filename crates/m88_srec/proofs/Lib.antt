@@ -1,3 +1,4 @@
+-- What only helps the proofs: a record written and read, then texts.
 pub mod Cases
 pub mod Framing
 pub mod Free

@@ -1,3 +1,4 @@
+-- The records of a text, what it loads or why it is refused, and the text that is written.
 pub mod Records
 pub mod Placing
 pub mod Accepted

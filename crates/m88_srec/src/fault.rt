@@ -4,6 +4,9 @@ use m88_base::{Hex2, Hex8};
 use std::error::Error;
 use std::fmt;
 
+/// The column that each fault is told at.
+const FIRST_COLUMN: u32 = 1;
+
 /// The first line that can't be taken, and why.
 #[derive(Clone, Copy, PartialEq, Eq, Debug)]
 pub struct SrecFault {
@@ -15,13 +18,14 @@ pub struct SrecFault {
 }
 
 impl fmt::Display for SrecFault {
-    ghost use Rattle.std.specs.Prelude.{◌++◌, Some, codes, decimal};
+    ghost use Rattle.std.specs.Prelude.{Some};
+    ghost use Rattle.m88_base.specs.Refused.{placed_reason};
     ghost use Rattle.m88_srec.specs.Reasons.{srec_reason};
 
-    ghost output = { λ fault. Some (decimal fault.line ++ codes ":1 " ++ srec_reason fault.kind) };
+    ghost output = { λ fault. Some (placed_reason fault.line 1 (srec_reason fault.kind)) };
 
     fn fmt<W: fmt::Write>(&self, f: &mut fmt::Formatter<W>) -> fmt::Result {
-        write!(f, "{}:1 {}", self.line, self.kind)
+        write!(f, "{}:{} {}", self.line, FIRST_COLUMN, self.kind)
     }
 }
 

@@ -15,14 +15,14 @@ use std::alloc::AllocError;
 /// The most bytes of data in a record that is written.
 pub const MOST_DATA: usize = 16;
 
-/// The most bytes of a body: an address and data.
+/// The most bytes of the body of a record that is written: an address and data.
 const MOST_BODY: usize = 4 + MOST_DATA;
 
-/// The most bytes of a record: the count, a body and the sum.
-const MOST_BYTES: usize = MOST_BODY + 2;
+/// The most bytes of a record that is written: the count, a body and the sum.
+const MOST_RECORD: usize = MOST_BODY + 2;
 
 /// The bytes of a record: the count, the body and the sum.
-fn framed(body: &[u8]) -> ArrayVec<u8, MOST_BYTES>
+fn framed(body: &[u8]) -> ArrayVec<u8, MOST_RECORD>
     requires { length body.now ≤ MOST_BODY }
     ensures value { result.items ≡ framed body.now }
 {

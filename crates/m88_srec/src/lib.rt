@@ -6,7 +6,6 @@
 // Lines, and what has the form of a record.
 mod digits;
 mod form;
-mod frame;
 mod record;
 
 // Texts read, and why they are refused.
@@ -16,9 +15,12 @@ mod purpose;
 mod reader;
 
 // Texts written.
+mod frame;
+mod writer;
+
+// Values from outside.
 #[cfg(test)]
 mod tests;
-mod writer;
 
 pub use fault::{SrecFault, SrecKind};
 pub use reader::read_srec;

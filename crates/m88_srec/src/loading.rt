@@ -1,5 +1,5 @@
 //! What the lines so far load, and one line more.
-ghost use Rattle.std.specs.Prelude.{◌≡◌, ◌+◌, ◌≤◌, ◌<◌, ◌^◌, length, Ok, Err};
+ghost use Rattle.std.specs.Prelude.{◌≡◌, ◌+◌, ◌≤◌, ◌<◌, ◌^◌, length};
 ghost use Rattle.m88_srec.specs.Accepted.{whole_of};
 ghost use Rattle.m88_srec.specs.Verdict.{acted, ended_on, framed_on, judged, opening_load, placed, summed};
 ghost use Rattle.m88_srec.specs.Forms.{form_seen};
@@ -81,8 +81,8 @@ impl Loading {
         requires narrow { width ≤ 4 }
         requires enough { width + 2 ≤ length bytes.now }
         requires few { length bytes.now ≤ 256 }
-        ensures value { GivesLoad (load_seen self.new) result
-            (summed (load_seen self.old) (record { purpose = purpose; width = width; bytes = bytes.now })) }
+        ensures value { GivesLoad (load_seen self.new) result (summed (load_seen self.old)
+            (record { purpose = purpose; width = width; bytes = bytes.now })) }
         ensures records { self.new.records ≤ self.old.records + 1 }
     {
         let last = bytes.len() - 1;
@@ -91,7 +91,7 @@ impl Loading {
         if written != computed {
             return Err(SrecKind::Sum { written, computed });
         }
-        let (address, given) = (&bytes[1..][..width], &counted[width + 1..]);
+        let (address, given) = (&bytes[1..width + 1], &counted[width + 1..]);
         self.carry_out(purpose, address_of(address), given)
     }
 

@@ -1,5 +1,5 @@
 //! The form of a line: an `S`, a type digit and pairs of hexadecimal digits; and what stands in its bytes.
-ghost use Rattle.std.specs.Prelude.{◌≡◌, ◌+◌, ◌-◌, ◌*◌, ◌≤◌, ◌<◌, ◌%◌, ◌^◌, false, length, option_map, sum, IfSome};
+ghost use Rattle.std.specs.Prelude.{◌≡◌, ◌+◌, ◌-◌, ◌*◌, ◌≤◌, ◌<◌, ◌%◌, ◌^◌, false, length, option_map, IfSome};
 ghost use Rattle.m88_srec.specs.Records.{bytes_in, check_of, is_bare, type_of};
 ghost use Rattle.m88_srec.specs.Accepted.{address_of};
 ghost use Rattle.m88_srec.specs.Verdict.{following, record_form, is_miscounted, written_count};

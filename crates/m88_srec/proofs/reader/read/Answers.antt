@@ -1,3 +1,4 @@
+-- One line more, its fault, and the end of the text.
 use Rattle.std.proofs.Common.{◌≡◌, length, sym, arith}
 use borrow.Author.Tests.{eqb-true}
 use Rattle.m88_srec.specs.Loads.{load_seen}

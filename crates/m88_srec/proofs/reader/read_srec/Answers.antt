@@ -1,3 +1,4 @@
+-- What is read is what the format accepts.
 use Rattle.m88_srec.proofs.Turns.{reads_accepted, reads_only}
 use Rattle.m88_srec.proofs.reader.read_srec.Goals as goal
 

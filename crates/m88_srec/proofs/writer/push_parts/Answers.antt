@@ -1,3 +1,4 @@
+-- The lines of one part more.
 use Rattle.m88_srec.proofs.Cutting.{more_parts}
 use Rattle.m88_srec.proofs.writer.push_parts.Goals as goal
 

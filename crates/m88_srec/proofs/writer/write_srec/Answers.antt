@@ -1,3 +1,4 @@
+-- What is written is accepted again, and short enough to be read.
 use Rattle.m88_srec.proofs.Sizes.{image_text_short}
 use Rattle.m88_srec.proofs.Trip.{image_is_accepted}
 use Rattle.m88_srec.proofs.writer.write_srec.Goals as goal

@@ -1,3 +1,4 @@
+-- The header, the parts and the end are the whole text.
 use Rattle.m88_srec.proofs.Cutting.{whole_text}
 use Rattle.m88_srec.proofs.writer.written.Goals as goal
 
