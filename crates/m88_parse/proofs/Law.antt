@@ -9,7 +9,7 @@ pub mod Slots
 pub mod Values
 pub mod Operands
 pub mod Indices
-pub mod Goals
+pub mod Targets
 pub mod Lists
 pub mod Forms
 pub mod Codes

@@ -3,7 +3,6 @@ pub mod Runs
 pub mod Pieces
 pub mod Law
 pub mod Collecting
-pub mod Texts
 pub mod Naming
 pub mod Drafts
 pub mod Ending

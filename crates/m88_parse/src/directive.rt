@@ -18,6 +18,7 @@ pub(crate) enum Directive {
     Set,
 }
 
+/// All directives.
 const DIRECTIVES: [Directive; 11] = [
     Directive::Text,
     Directive::Data,
@@ -32,6 +33,7 @@ const DIRECTIVES: [Directive; 11] = [
     Directive::Set,
 ];
 
+/// The name of a directive.
 #[tactic(auto, unfolding(crate::specs::Reader::Directives::directive_text))]
 fn text_of(directive: Directive) -> &'static str
     ensures { result.now ≡ directive_text directive }

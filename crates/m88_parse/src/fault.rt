@@ -50,8 +50,8 @@ impl fmt::Display for ParseKind {
 
 impl Error for ParseKind {}
 
-/// The first fault of a source: its line and column, both from 1, and its kind. Want of memory has
-/// line 0 and column 0.
+/// The first fault of a source: its line and column, both from 1, and its kind. Memory that ran out
+/// has line 0 and column 0.
 #[derive(Clone, Copy, PartialEq, Eq, Debug)]
 pub struct ParseFault {
     pub line: u32,
@@ -73,6 +73,7 @@ impl fmt::Display for ParseFault {
 
 impl Error for ParseFault {}
 
+/// Memory ran out, which has no place in a source.
 const OUT_OF_MEMORY: ParseFault = ParseFault {
     line: 0,
     col: 0,

@@ -1,7 +1,7 @@
 //! The operands of an instruction, by the form of its mnemonic.
 ghost use Rattle.std.specs.Prelude.{◌≡◌, ◌≤◌, IfOk};
 ghost use Rattle.m88_parse.specs.Fault.{Gives};
-ghost use Rattle.m88_parse.specs.Reader.Grammar.{read, ends, either_form, immediate_form, registers_form, memory_form, user_memory_form, address_form, bits_form, find_bit_form, branch_form, branch_bit_form, branch_cond_form, jump_form, trap_bit_form, trap_cond_form, bounds_form, ldcr_form, stcr_form, xcr_form, code_only, form_of};
+ghost use Rattle.m88_parse.specs.Reader.Grammar.{read, either_form, immediate_form, registers_form, memory_form, user_memory_form, address_form, bits_form, find_bit_form, branch_form, branch_bit_form, branch_cond_form, jump_form, trap_bit_form, trap_cond_form, bounds_form, ldcr_form, stcr_form, xcr_form, code_only, form_of};
 ghost use Rattle.m88_parse.specs.Language.Operands.{most_width};
 ghost use Rattle.m88_isa.specs.declared.instr.Instr.TheVariants.{Rte};
 ghost use Rattle.m88_parse.specs.WellFormed.{IsFormedBody};
@@ -11,12 +11,13 @@ use crate::operand::{Bound, Field, Index, Operand};
 use crate::parser::Parser;
 use crate::shape::Shape;
 use crate::unit::Body;
-use m88_base::{Kind, Reg};
+use m88_base::Kind;
 use m88_isa::{BitOp, ImmOp, Instr, LdaSize, MemOp, RegOp};
 
-/// The limits of a goal, in words: the bits of its field without the sign.
+/// The reach of a target in 26 bits: words forward, one less than back.
 const FAR: u32 = 1 << 25;
 
+/// The same in 16 bits.
 const NEAR: u32 = 1 << 15;
 
 /// The most that a vector can be.
@@ -34,17 +35,7 @@ fn most_width(op: BitOp) -> u32
 }
 
 impl<'a> Parser<'a> {
-    /// What was read, where the line ends here.
-    #[tactic(auto, unfolding(crate::specs::Reader::Grammar::read))]
-    pub fn close(&mut self, body: Body) -> Result<Body, ParseFault>
-        requires { IsFormedBody body }
-        ensures value { Gives (λ b. b) result (read (ends body) self.old) }
-        ensures body { IfOk result IsFormedBody }
-    {
-        self.end()?;
-        Ok(body)
-    }
-
+    /// rD,rS1 and an immediate or a register.
     #[tactic(auto, unfolding(crate::specs::Reader::Grammar::read))]
     fn either(&mut self, imm: ImmOp, reg: RegOp) -> Result<Body, ParseFault>
         ensures value { Gives (λ b. b) result (read (either_form imm reg) self.old) }
@@ -69,6 +60,7 @@ impl<'a> Parser<'a> {
         self.close(body)
     }
 
+    /// rD,rS1 and an immediate.
     #[tactic(auto, unfolding(crate::specs::Reader::Grammar::read))]
     fn immediate_form(&mut self, op: ImmOp) -> Result<Body, ParseFault>
         ensures value { Gives (λ b. b) result (read (immediate_form op) self.old) }
@@ -90,6 +82,7 @@ impl<'a> Parser<'a> {
         ))
     }
 
+    /// rD,rS1,rS2
     #[tactic(auto, unfolding(crate::specs::Reader::Grammar::read))]
     fn registers(&mut self, op: RegOp) -> Result<Body, ParseFault>
         ensures value { Gives (λ b. b) result (read (registers_form op) self.old) }
@@ -103,6 +96,7 @@ impl<'a> Parser<'a> {
         self.close(Body::Code(Instr::Regs { op, d, s1, s2 }, None))
     }
 
+    /// rD,rS1 and an immediate, a register, or a scaled register.
     #[tactic(auto, unfolding(crate::specs::Reader::Grammar::read))]
     fn memory(&mut self, op: MemOp) -> Result<Body, ParseFault>
         ensures value { Gives (λ b. b) result (read (memory_form op) self.old) }
@@ -147,6 +141,7 @@ impl<'a> Parser<'a> {
         self.close(body)
     }
 
+    /// rD,rS1 and a register or a scaled register, in the user's address space.
     #[tactic(auto, unfolding(crate::specs::Reader::Grammar::read))]
     fn user_memory(&mut self, op: MemOp) -> Result<Body, ParseFault>
         ensures value { Gives (λ b. b) result (read (user_memory_form op) self.old) }
@@ -169,6 +164,7 @@ impl<'a> Parser<'a> {
         ))
     }
 
+    /// rD,rS1[rS2]
     #[tactic(auto, unfolding(crate::specs::Reader::Grammar::read))]
     fn address(&mut self, size: LdaSize) -> Result<Body, ParseFault>
         ensures value { Gives (λ b. b) result (read (address_form size) self.old) }
@@ -181,6 +177,7 @@ impl<'a> Parser<'a> {
         self.close(Body::Code(Instr::Lda { size, d, s1, s2 }, None))
     }
 
+    /// rD,rS1 and a width and an offset, or a register.
     #[tactic(auto, unfolding(crate::specs::Reader::Grammar::read))]
     fn bits(&mut self, op: BitOp) -> Result<Body, ParseFault>
         ensures value { Gives (λ b. b) result (read (bits_form op) self.old) }
@@ -203,6 +200,7 @@ impl<'a> Parser<'a> {
         self.close(Body::Code(instr, None))
     }
 
+    /// rD,rS2
     #[tactic(auto, unfolding(crate::specs::Reader::Grammar::read))]
     fn find_bit(&mut self, ones: bool) -> Result<Body, ParseFault>
         ensures value { Gives (λ b. b) result (read (find_bit_form ones) self.old) }
@@ -214,22 +212,24 @@ impl<'a> Parser<'a> {
         self.close(Body::Code(Instr::Find { ones, d, s2 }, None))
     }
 
+    /// A target.
     #[tactic(auto, unfolding(crate::specs::Reader::Grammar::read))]
     fn branch(&mut self, link: bool, delayed: bool) -> Result<Body, ParseFault>
         ensures value { Gives (λ b. b) result (read (branch_form link delayed) self.old) }
         ensures body { IfOk result IsFormedBody }
     {
-        let goal = self.goal(Kind::Pc26, FAR)?;
+        let target = self.target(Kind::Pc26, FAR)?;
         self.close(Body::Code(
             Instr::Branch {
                 link,
                 delayed,
-                words: goal.words,
+                words: target.words,
             },
-            goal.fixup,
+            target.fixup,
         ))
     }
 
+    /// A bit, rS1 and a target.
     #[tactic(auto, unfolding(crate::specs::Reader::Grammar::read))]
     fn branch_bit(&mut self, set: bool, delayed: bool) -> Result<Body, ParseFault>
         ensures value { Gives (λ b. b) result (read (branch_bit_form set delayed) self.old) }
@@ -239,19 +239,20 @@ impl<'a> Parser<'a> {
         self.mark(b',')?;
         let s1 = self.register()?;
         self.mark(b',')?;
-        let goal = self.goal(Kind::Pc16, NEAR)?;
+        let target = self.target(Kind::Pc16, NEAR)?;
         self.close(Body::Code(
             Instr::BranchBit {
                 set,
                 delayed,
                 bit,
                 s1,
-                words: goal.words as i16,
+                words: target.words as i16,
             },
-            goal.fixup,
+            target.fixup,
         ))
     }
 
+    /// A condition, rS1 and a target.
     #[tactic(auto, unfolding(crate::specs::Reader::Grammar::read))]
     fn branch_cond(&mut self, delayed: bool) -> Result<Body, ParseFault>
         ensures value { Gives (λ b. b) result (read (branch_cond_form delayed) self.old) }
@@ -261,18 +262,19 @@ impl<'a> Parser<'a> {
         self.mark(b',')?;
         let s1 = self.register()?;
         self.mark(b',')?;
-        let goal = self.goal(Kind::Pc16, NEAR)?;
+        let target = self.target(Kind::Pc16, NEAR)?;
         self.close(Body::Code(
             Instr::BranchCond {
                 delayed,
                 mask,
                 s1,
-                words: goal.words as i16,
+                words: target.words as i16,
             },
-            goal.fixup,
+            target.fixup,
         ))
     }
 
+    /// rS2
     #[tactic(auto, unfolding(crate::specs::Reader::Grammar::read))]
     fn jump(&mut self, link: bool, delayed: bool) -> Result<Body, ParseFault>
         ensures value { Gives (λ b. b) result (read (jump_form link delayed) self.old) }
@@ -282,6 +284,7 @@ impl<'a> Parser<'a> {
         self.close(Body::Code(Instr::Jump { link, delayed, s2 }, None))
     }
 
+    /// A bit, rS1 and a vector.
     #[tactic(auto, unfolding(crate::specs::Reader::Grammar::read))]
     fn trap_bit(&mut self, set: bool) -> Result<Body, ParseFault>
         ensures value { Gives (λ b. b) result (read (trap_bit_form set) self.old) }
@@ -303,9 +306,10 @@ impl<'a> Parser<'a> {
         ))
     }
 
+    /// A condition, rS1 and a vector.
     #[tactic(auto, unfolding(crate::specs::Reader::Grammar::read))]
     fn trap_cond(&mut self) -> Result<Body, ParseFault>
-        ensures value { Gives (λ b. b) result (read (trap_cond_form) self.old) }
+        ensures value { Gives (λ b. b) result (read trap_cond_form self.old) }
         ensures body { IfOk result IsFormedBody }
     {
         let mask = self.mask()?;
@@ -316,9 +320,10 @@ impl<'a> Parser<'a> {
         self.close(Body::Code(Instr::TrapCond { mask, s1, vector }, None))
     }
 
+    /// rS1 and a number or a register.
     #[tactic(auto, unfolding(crate::specs::Reader::Grammar::read))]
     fn bounds(&mut self) -> Result<Body, ParseFault>
-        ensures value { Gives (λ b. b) result (read (bounds_form) self.old) }
+        ensures value { Gives (λ b. b) result (read bounds_form self.old) }
         ensures body { IfOk result IsFormedBody }
     {
         let s1 = self.register()?;
@@ -330,6 +335,7 @@ impl<'a> Parser<'a> {
         self.close(Body::Code(instr, None))
     }
 
+    /// rD and a control register.
     #[tactic(auto, unfolding(crate::specs::Reader::Grammar::read))]
     fn ldcr(&mut self, float: bool) -> Result<Body, ParseFault>
         ensures value { Gives (λ b. b) result (read (ldcr_form float) self.old) }
@@ -341,6 +347,7 @@ impl<'a> Parser<'a> {
         self.close(Body::Code(Instr::Ldcr { d, cr, float }, None))
     }
 
+    /// rS1 and a control register.
     #[tactic(auto, unfolding(crate::specs::Reader::Grammar::read))]
     fn stcr(&mut self, float: bool) -> Result<Body, ParseFault>
         ensures value { Gives (λ b. b) result (read (stcr_form float) self.old) }
@@ -352,6 +359,7 @@ impl<'a> Parser<'a> {
         self.close(Body::Code(Instr::Stcr { s1, cr, float }, None))
     }
 
+    /// rD,rS1 and a control register.
     #[tactic(auto, unfolding(crate::specs::Reader::Grammar::read))]
     fn xcr(&mut self, float: bool) -> Result<Body, ParseFault>
         ensures value { Gives (λ b. b) result (read (xcr_form float) self.old) }
@@ -365,6 +373,7 @@ impl<'a> Parser<'a> {
         self.close(Body::Code(Instr::Xcr { d, s1, cr, float }, None))
     }
 
+    /// Nothing.
     #[tactic(auto, unfolding(crate::specs::Reader::Grammar::read))]
     fn nothing(&mut self) -> Result<Body, ParseFault>
         ensures value { Gives (λ b. b) result (read (code_only Rte) self.old) }

@@ -49,6 +49,7 @@ pub(crate) fn lexemes<'a>(
     Ok(out)
 }
 
+/// A token without what it says.
 fn token_of<'a>(lexeme: &Lexeme<'a>, line: u32) -> Token<'a>
     ensures { plain_token result ≡ token_of line (piece_of lexeme.now) }
 {

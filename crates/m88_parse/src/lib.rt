@@ -30,7 +30,6 @@ mod unit;
 
 pub use fault::{ParseFault, ParseKind};
 pub use lexemes::tokens;
-pub use m88_base::{Fixup, Kind, Name};
 pub use shape::{Shape, shape_of};
 pub use source::parse;
 pub use token::{Token, TokenKind};

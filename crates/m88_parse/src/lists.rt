@@ -111,7 +111,8 @@ impl<'a> Parser<'a> {
     /// Passes over a comma, and says whether there was one.
     fn comma(&mut self) -> bool
         ensures value { result ≡ is_next_mark comma_mark self.old }
-        ensures after { self.new ≡ (if is_next_mark comma_mark self.old then past self.old else self.old) }
+        ensures after { self.new
+            ≡ (if is_next_mark comma_mark self.old then past self.old else self.old) }
     {
         let comma = self.is_next(b',');
         if comma {

@@ -18,6 +18,7 @@ pub(crate) fn register_of(name: &[u8]) -> Option<u32>
     }
 }
 
+/// The number of a control register of the integer unit, crN.
 #[tactic(auto, unfolding(crate::specs::Reader::Names::control_of))]
 fn control_of(name: &[u8]) -> Option<u32>
     ensures value { result ≡ control_of name.now }
@@ -29,6 +30,7 @@ fn control_of(name: &[u8]) -> Option<u32>
     }
 }
 
+/// The number of a control register of the floating-point unit, fcrN.
 #[tactic(auto, unfolding(crate::specs::Reader::Names::float_control_of))]
 fn float_control_of(name: &[u8]) -> Option<u32>
     ensures value { result ≡ float_control_of name.now }
@@ -110,6 +112,7 @@ pub(crate) fn is_here(name: &[u8]) -> bool
     name == b".".as_slice()
 }
 
+/// Whether a name is `.module`, which begins a module.
 pub(crate) fn is_module(name: &[u8]) -> bool
     ensures { result ≡ is_module name.now }
 {

@@ -39,7 +39,7 @@ pub(crate) enum Field {
 
 /// Where a branch goes: a count of words, or 0 and the fixup of a symbol.
 #[derive(Drop)]
-pub(crate) struct Goal {
+pub(crate) struct Target {
     pub words: i32,
     pub fixup: Option<Fixup>,
 }

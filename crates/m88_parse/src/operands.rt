@@ -1,14 +1,14 @@
 //! Operands of several tokens, each from the place where it is wanted.
 ghost use Rattle.std.specs.Prelude.{◌≡◌, ◌≤◌, ◌<◌, ◌^◌, IfOk, IfSome};
 ghost use Rattle.m88_parse.specs.Fault.{Gives};
-ghost use Rattle.m88_parse.specs.Reader.Operands.{half, half_immediate, half_on, half_at, immediate_at, register_in, operand_at, bound_at, scaled_at, index_at, user_index_at, width_at, literal_at, field_at, distance_at, words_at, is_here_on, goal_at};
+ghost use Rattle.m88_parse.specs.Reader.Operands.{half, half_immediate, half_on, half_at, immediate_at, register_in, operand_at, bound_at, scaled_at, index_at, user_index_at, width_at, literal_at, field_at, distance_at, words_at, is_here_on, target_at};
 ghost use Rattle.m88_parse.specs.Reader.State.{first, second};
 ghost use Rattle.m88_parse.specs.WellFormed.{IsHalf};
-ghost use Rattle.m88_parse.specs.Reader.Kept.{IsFormedImmediate, IsFormedOperand, IsFormedIndex, IsFormedField, AreWords, IsFormedGoal};
+ghost use Rattle.m88_parse.specs.Reader.Kept.{IsFormedImmediate, IsFormedOperand, IsFormedIndex, IsFormedField, AreWords, IsFormedTarget};
 
 use crate::fault::{ParseFault, ParseKind};
 use crate::names::{half_named, is_here, register_of};
-use crate::operand::{Bound, Field, Goal, Immediate, Index, Operand};
+use crate::operand::{Bound, Field, Immediate, Index, Operand, Target};
 use crate::parser::Parser;
 use crate::token::What;
 use crate::unit::Value;
@@ -28,6 +28,7 @@ fn half(kind: Kind, n: u32) -> u16
     }
 }
 
+/// Half of a number, or 0 with the fixup that waits for half of a symbol.
 fn half_immediate(kind: Kind, value: Value) -> Immediate
     ensures { result ≡ half_immediate kind value }
 {
@@ -223,7 +224,7 @@ impl<'a> Parser<'a> {
         }
     }
 
-    /// Words forward or back behind the `.` of a goal, in a sign and the bits below `limit`.
+    /// Words forward or back behind the `.` of a target, in a sign and the bits below `limit`.
     #[tactic(auto, unfolding(crate::specs::Reader::Operands::words_at))]
     fn words(&mut self, limit: u32) -> Result<i32, ParseFault>
         requires least { 0 < limit }
@@ -242,6 +243,7 @@ impl<'a> Parser<'a> {
         }
     }
 
+    /// Whether the next token is `.`, the place of the statement.
     fn is_here(&self) -> bool
         ensures { result ≡ is_here_on (first self.now) }
     {
@@ -252,21 +254,21 @@ impl<'a> Parser<'a> {
     }
 
     /// Where a branch goes; a distance fits a sign and the bits below `limit`.
-    #[tactic(auto, unfolding(crate::specs::Reader::Operands::goal_at))]
-    pub fn goal(&mut self, kind: Kind, limit: u32) -> Result<Goal, ParseFault>
+    #[tactic(auto, unfolding(crate::specs::Reader::Operands::target_at))]
+    pub fn target(&mut self, kind: Kind, limit: u32) -> Result<Target, ParseFault>
         requires least { 0 < limit }
         requires most { limit ≤ 2 ^ 25 }
-        ensures value { Gives (λ x. (x, self.new)) result (goal_at kind limit self.old) }
-        ensures fits { IfOk result (IsFormedGoal kind limit) }
+        ensures value { Gives (λ x. (x, self.new)) result (target_at kind limit self.old) }
+        ensures fits { IfOk result (IsFormedTarget kind limit) }
     {
         if self.is_here() {
             self.skip();
-            Ok(Goal {
+            Ok(Target {
                 words: self.words(limit)?,
                 fixup: None,
             })
         } else {
-            Ok(Goal {
+            Ok(Target {
                 words: 0,
                 fixup: Some(self.fixup(kind)?),
             })

@@ -1,12 +1,15 @@
 //! The tokens of a line that are left, as a statement is read from them.
-ghost use Rattle.std.specs.Prelude.{◌≡◌, map, ◌-◌};
+ghost use Rattle.std.specs.Prelude.{◌≡◌, map, ◌-◌, IfOk};
 ghost use Rattle.m88_parse.specs.Fault.{Gives};
+ghost use Rattle.m88_parse.specs.Reader.Grammar.{read, ends};
 ghost use Rattle.m88_parse.specs.Reader.State.{ReaderState, first, second, place, past, fault, is_next_mark};
 ghost use Rattle.m88_parse.specs.Reader.Slots.{mark_at, line_end_at};
 ghost use Rattle.m88_parse.specs.Reader.Tokens.{piece_of, token_value_in};
+ghost use Rattle.m88_parse.specs.WellFormed.{IsFormedBody};
 
 use crate::fault::{ParseFault, ParseKind};
 use crate::token::{Lexeme, What};
+use crate::unit::Body;
 use std::marker::Model;
 
 /// Reads a statement from the tokens of its line: those that are left, the line's number, and the
@@ -21,10 +24,12 @@ pub(crate) struct Parser<'a> {
 impl<'a> Model for Parser<'a> {
     ghost Value = { ReaderState };
 
-    ghost view = { λ p. record { line = p.line; end_col = p.end_col; rest = map piece_of p.rest.now } };
+    ghost view = { λ p. record
+        { line = p.line; end_col = p.end_col; rest = map piece_of p.rest.now } };
 }
 
 impl<'a> Parser<'a> {
+    /// At the first of the tokens of a line; `end_col` is the column just after the last one.
     pub fn new(lexemes: &'a [Lexeme<'a>], line: u32, end_col: u32) -> Parser<'a>
         ensures { result
             ≡ record { line = line; end_col = end_col; rest = map piece_of lexemes.now } }
@@ -103,6 +108,7 @@ impl<'a> Parser<'a> {
         }
     }
 
+    /// This mark.
     pub fn mark(&mut self, mark: u8) -> Result<(), ParseFault>
         ensures { Gives (λ _. self.new) result (mark_at mark self.old) }
     {
@@ -122,5 +128,16 @@ impl<'a> Parser<'a> {
             None => Ok(()),
             Some(_) => Err(self.fault(ParseKind::Syntax)),
         }
+    }
+
+    /// What was read, where the line ends here.
+    #[tactic(auto, unfolding(crate::specs::Reader::Grammar::read))]
+    pub fn close(&mut self, body: Body) -> Result<Body, ParseFault>
+        requires { IsFormedBody body }
+        ensures value { Gives (λ b. b) result (read (ends body) self.old) }
+        ensures body { IfOk result IsFormedBody }
+    {
+        self.end()?;
+        Ok(body)
     }
 }

@@ -27,30 +27,35 @@ pub(crate) struct Flaw {
     pub kind: ParseKind,
 }
 
+/// A space or a tab.
 fn is_blank(b: u8) -> bool
     ensures { result ≡ is_blank b }
 {
     matches!(b, b' ' | b'\t')
 }
 
+/// `;` or `#`, behind which the rest of the line is a comment.
 fn is_comment(b: u8) -> bool
     ensures { result ≡ is_comment b }
 {
     matches!(b, b';' | b'#')
 }
 
+/// A byte that may stand outside comments: 32 to 126 or a tab.
 fn is_plain(b: u8) -> bool
     ensures { result ≡ is_plain b }
 {
     matches!(b, b' '..=b'~' | b'\t')
 }
 
+/// A letter, a digit, `_`, `.` or `$`.
 fn continues_name(b: u8) -> bool
     ensures { result ≡ continues_name b }
 {
     b.is_ascii_alphanumeric() || matches!(b, b'_' | b'.' | b'$')
 }
 
+/// One of the marks `,` `:` `[` `]` `<` `>` `(` `)` `+` `-`.
 fn is_mark(b: u8) -> bool
     ensures { result ≡ is_mark b }
 {
@@ -60,6 +65,7 @@ fn is_mark(b: u8) -> bool
     )
 }
 
+/// A byte that may stand behind a backslash: `n` `t` `0` `\` `"` or `'`.
 fn is_escape(b: u8) -> bool
     ensures { result ≡ is_escape b }
 {
@@ -85,6 +91,7 @@ pub(crate) fn begins_escape(escaped: bool, b: u8) -> bool
     !escaped && b == b'\\'
 }
 
+/// Whether a byte is the closing quote.
 fn closes(quote: u8, escaped: bool, b: u8) -> bool
     ensures { result ≡ closes quote escaped b }
 {
@@ -104,12 +111,14 @@ fn digit_of(b: u8) -> u64
     }
 }
 
+/// Whether each byte is a digit in a base.
 fn are_digits(base: u64, digits: &[u8]) -> bool
     ensures { result ≡ are_digits base digits.now }
 {
     digits.iter().all(|d| digit_of(*d) < base)
 }
 
+/// Whether a run is 0x and hexadecimal digits.
 fn is_hexadecimal(run: &[u8]) -> bool
     ensures { result ≡ is_hexadecimal run.now }
 {
@@ -119,6 +128,7 @@ fn is_hexadecimal(run: &[u8]) -> bool
     }
 }
 
+/// Whether a run is decimal digits without a needless 0 in front.
 fn is_decimal(run: &[u8]) -> bool
     ensures { result ≡ is_decimal run.now }
 {
@@ -146,6 +156,7 @@ fn value_of(base: u64, digits: &[u8]) -> Result<u32, ParseKind>
     }
 }
 
+/// The number of a run that begins with a digit.
 fn numeral(run: &[u8]) -> Result<u32, ParseKind>
     ensures value { result ≡ numeral run.now }
 {
@@ -173,6 +184,7 @@ fn inside_len(quote: u8, bytes: &[u8]) -> usize
     bytes.len()
 }
 
+/// Whether each backslash begins an escape.
 fn holds_escapes(inside: &[u8]) -> bool
     ensures { result ≡ holds_escapes false inside.now }
 {
@@ -186,6 +198,7 @@ fn holds_escapes(inside: &[u8]) -> bool
     !escaped
 }
 
+/// What a character stands for, which is exactly one byte or escape.
 fn character(inside: &[u8]) -> Option<u8>
     ensures { result ≡ character inside.now }
 {
@@ -196,12 +209,14 @@ fn character(inside: &[u8]) -> Option<u8>
     }
 }
 
+/// How many bytes at the front may stand outside comments.
 fn plain_len(bytes: &[u8]) -> usize
     ensures { result ≡ prefix_len is_plain bytes.now }
 {
     bytes.iter().take_while(|b| is_plain(**b)).count()
 }
 
+/// How many bytes at the front are those of a name.
 fn word_len(bytes: &[u8]) -> usize
     ensures { result ≡ prefix_len continues_name bytes.now }
 {

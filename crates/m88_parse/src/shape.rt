@@ -24,11 +24,11 @@ pub enum Shape {
     Bits(BitOp),
     /// rD,rS2
     Find { ones: bool },
-    /// A goal.
+    /// A target.
     Branch { link: bool, delayed: bool },
-    /// A bit, rS1 and a goal.
+    /// A bit, rS1 and a target.
     BranchBit { set: bool, delayed: bool },
-    /// A condition, rS1 and a goal.
+    /// A condition, rS1 and a target.
     BranchCond { delayed: bool },
     /// rS2
     Jump { link: bool, delayed: bool },

@@ -18,6 +18,7 @@ fn negated(n: u32) -> u32
     0u32.wrapping_sub(n)
 }
 
+/// Whether a number is an alignment: 1, 2, 4 or 8.
 fn is_alignment(n: u32) -> bool
     ensures { result ≡ (n == 1 || n == 2 || n == 4 || n == 8) }
 {

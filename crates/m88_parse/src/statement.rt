@@ -124,6 +124,7 @@ impl<'a> Parser<'a> {
         Ok(Row::Head(name, line))
     }
 
+    /// Whether a name and a colon come next.
     fn is_label(&self) -> bool
         ensures { result ≡ is_label_on (first self.now) (second self.now) }
     {
@@ -133,6 +134,7 @@ impl<'a> Parser<'a> {
         }
     }
 
+    /// Whether `.module` comes next.
     fn is_head(&self) -> bool
         ensures { result ≡ is_head_on (first self.now) }
     {

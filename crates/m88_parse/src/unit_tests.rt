@@ -2,6 +2,7 @@
 ghost use Rattle.std.specs.Prelude.{◌<◌, ◌^◌, length};
 
 use super::*;
+use m88_base::{Fixup, Kind};
 use std::alloc::Global;
 use std::test::Fail;
 

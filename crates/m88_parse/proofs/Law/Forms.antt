@@ -10,14 +10,14 @@ use Rattle.m88_parse.specs.declared.operand.Operand.{Operand}
 use Rattle.m88_parse.specs.declared.operand.Bound.{Bound}
 use Rattle.m88_parse.specs.declared.operand.Index.{Index}
 use Rattle.m88_parse.specs.declared.operand.Field.{Field}
-use Rattle.m88_parse.specs.declared.operand.Goal.{Goal}
+use Rattle.m88_parse.specs.declared.operand.Target.{Target}
 use Rattle.m88_parse.specs.Language.Pieces.{Piece}
 use Rattle.m88_parse.specs.Reader.Slots.{signed_at}
-use Rattle.m88_parse.specs.Reader.Grammar.{Form, ends, comma_then, register_then, control_then, bit_then, mask_then, unsigned_then, alignment_then, symbol_then, bound_then, text_then, signed_ends, immediate_ends, operand_ends, scaled_ends, index_ends, user_index_ends, field_ends, goal_ends, words_end, parts_end, modulus_of, end_with, read}
+use Rattle.m88_parse.specs.Reader.Grammar.{Form, ends, comma_then, register_then, control_then, bit_then, mask_then, unsigned_then, alignment_then, symbol_then, bound_then, text_then, signed_ends, immediate_ends, operand_ends, scaled_ends, index_ends, user_index_ends, field_ends, target_ends, words_end, parts_end, modulus_of, end_with, read}
 use Rattle.m88_parse.specs.Language.Names.{IsRegister, IsControl, IsBit, IsCondition}
 use Rattle.m88_parse.specs.Language.Operands.{IsScaled, IsSigned, IsValue}
 use Rattle.m88_parse.specs.Language.Statements.{AreParted}
-use Rattle.m88_parse.proofs.Law.Goals.{IsGoalOf, goal_start}
+use Rattle.m88_parse.proofs.Law.Targets.{IsTargetOf, target_start}
 use Rattle.m88_parse.proofs.Law.Lists.{words_walk, parts_walk}
 use Rattle.m88_parse.proofs.Law.Slots.{st, one_register, one_control, one_bit, one_mask, IsUpTo, one_number, IsSymbolAt, one_symbol, IsText, one_text, IsPower, one_alignment}
 use Rattle.m88_parse.proofs.Law.Values.{IsWhole, signed_start}
@@ -45,7 +45,7 @@ Meets (scaled_ends made) ps b = Last Reg (λ qs r. IsScaled r qs) made ps b
 Meets (index_ends made) ps b = Last Index IsIndexOf made ps b
 Meets (user_index_ends made) ps b = Last (Reg × Bool) IsUserIndexOf (λ x. made x.0 x.1) ps b
 Meets (field_ends most made) ps b = Last Field (IsFieldOf most) made ps b
-Meets (goal_ends kind bits made) ps b = Last Goal (IsGoalOf kind bits) made ps b
+Meets (target_ends kind bits made) ps b = Last Target (IsTargetOf kind bits) made ps b
 Meets (words_end made) ps b = Last (List Value) (AreParted (IsValue Abs32)) made ps b
 Meets (parts_end part made) ps b = Last (List ℕ) (AreParted (IsSigned (modulus_of part))) made ps b
 
@@ -72,7 +72,7 @@ form_walk (scaled_ends made) few line e = begun (scaled_start few line e made)
 form_walk (index_ends made) few line e = begun (index_start few line e made)
 form_walk (user_index_ends made) few line e = begun (user_index_start few line e (λ x. made x.0 x.1))
 form_walk (field_ends most made) few line e = begun (field_start most few line e made)
-form_walk (goal_ends kind bits made) few line e = begun (goal_start kind bits few line e made)
+form_walk (target_ends kind bits made) few line e = begun (target_start kind bits few line e made)
 form_walk (words_end made) few line e = words_walk few line e made
 form_walk (parts_end part made) few line e = parts_walk part few line e made
 

@@ -36,7 +36,7 @@ use Rattle.m88_parse.proofs.Law.LineFaults.Halves.{half_leads}
 
 -- hi16 and lo16
 
-half_names : (name : List ℕ) (kind : Kind) → half_named name ≡ Some kind → ((name ≡ codes "hi16") × (kind ≡ Hi16)) ⊎ ((name ≡ codes "lo16") × (kind ≡ Lo16))
+pub half_names : (name : List ℕ) (kind : Kind) → half_named name ≡ Some kind → ((name ≡ codes "hi16") × (kind ≡ Hi16)) ⊎ ((name ≡ codes "lo16") × (kind ≡ Lo16))
 unfolding half_named
 half_names name kind h =
     elim (chosen (bytes_eq name (codes "hi16")) _ _ _ h) [

@@ -26,7 +26,7 @@ use Rattle.m88_parse.specs.declared.operand.Index.{Index}
 use Rattle.m88_parse.specs.declared.operand.Index.TheVariants as index
 use Rattle.m88_parse.specs.declared.operand.Field.{Field}
 use Rattle.m88_parse.specs.declared.operand.Field.TheVariants as field
-use Rattle.m88_parse.specs.declared.operand.Goal.{Goal}
+use Rattle.m88_parse.specs.declared.operand.Target.{Target}
 use Rattle.m88_parse.specs.declared.shape.Shape.{Shape}
 use Rattle.m88_parse.specs.declared.shape.Shape.TheVariants as shape
 use Rattle.m88_parse.specs.declared.directive.Directive.{Directive}
@@ -35,7 +35,7 @@ use Rattle.m88_parse.specs.Language.Bytes.{comma_mark}
 use Rattle.m88_parse.specs.Language.Operands.{most_width}
 use Rattle.m88_parse.specs.Reader.State.{ReaderState, trouble, past, is_next_mark, ◌>>=◌}
 use Rattle.m88_parse.specs.Reader.Slots.{Read, mark_at, line_end_at, unsigned_at, signed_at, register_at, control_at, bit_at, mask_at, symbol_at, value_at, text_at, alignment_at}
-use Rattle.m88_parse.specs.Reader.Operands.{immediate_at, operand_at, bound_at, scaled_at, index_at, user_index_at, field_at, goal_at}
+use Rattle.m88_parse.specs.Reader.Operands.{immediate_at, operand_at, bound_at, scaled_at, index_at, user_index_at, field_at, target_at}
 
 -- one or more items with commas between them, at most so many
 unfoldable pub many : {A : Type 0} → (ReaderState → Read A) → ℕ → ReaderState → Read (List A)
@@ -87,7 +87,7 @@ pub data Form : Type 0 where
   index_ends : (Index → Body) → Form
   user_index_ends : (Reg → Bool → Body) → Form
   field_ends : ℕ → (Field → Body) → Form
-  goal_ends : Kind → ℕ → (Goal → Body) → Form
+  target_ends : Kind → ℕ → (Target → Body) → Form
   words_end : (List Value → Body) → Form
   parts_end : Part → (List ℕ → Body) → Form
 
@@ -115,7 +115,7 @@ read (scaled_ends made) s = scaled_at s >>= λ x. end_with (made x.0) x.1
 read (index_ends made) s = index_at s >>= λ x. end_with (made x.0) x.1
 read (user_index_ends made) s = user_index_at s >>= λ x. end_with (made x.0.0 x.0.1) x.1
 read (field_ends most made) s = field_at most s >>= λ x. end_with (made x.0) x.1
-read (goal_ends kind bits made) s = goal_at kind (2 ^ bits) s >>= λ x. end_with (made x.0) x.1
+read (target_ends kind bits made) s = target_at kind (2 ^ bits) s >>= λ x. end_with (made x.0) x.1
 read (words_end made) s = list_at word_item_at s >>= λ x. end_with (made x.0) x.1
 read (parts_end part made) s = list_at (part_item_at part) s >>= λ x. end_with (made x.0) x.1
 
@@ -182,21 +182,21 @@ bits_form op = two_registers (λ d s1. comma_then (field_ends (most_width op) (�
 abbrev pub find_bit_form : Bool → Form
 find_bit_form ones = two_registers (λ d s2. code_only (instr.Find ones d s2))
 
--- a goal in a field of 26 bits
+-- a target in a field of 26 bits
 abbrev pub branch_form : Bool → Bool → Form
-branch_form link delayed = goal_ends Pc26 25 (λ g. body.Code (instr.Branch link delayed g.words) g.fixup)
+branch_form link delayed = target_ends Pc26 25 (λ g. body.Code (instr.Branch link delayed g.words) g.fixup)
 
--- a bit, rS1 and a goal in a field of 16 bits
+-- a bit, rS1 and a target in a field of 16 bits
 abbrev pub branch_bit_form : Bool → Bool → Form
 branch_bit_form on delayed =
     bit_then (λ b. comma_then (register_then (λ s1. comma_then
-    (goal_ends Pc16 15 (λ g. body.Code (instr.BranchBit on delayed b s1 g.words) g.fixup)))))
+    (target_ends Pc16 15 (λ g. body.Code (instr.BranchBit on delayed b s1 g.words) g.fixup)))))
 
--- a condition, rS1 and a goal in a field of 16 bits
+-- a condition, rS1 and a target in a field of 16 bits
 abbrev pub branch_cond_form : Bool → Form
 branch_cond_form delayed =
     mask_then (λ m. comma_then (register_then (λ s1. comma_then
-    (goal_ends Pc16 15 (λ g. body.Code (instr.BranchCond delayed m s1 g.words) g.fixup)))))
+    (target_ends Pc16 15 (λ g. body.Code (instr.BranchCond delayed m s1 g.words) g.fixup)))))
 
 -- rS2
 abbrev pub jump_form : Bool → Bool → Form

@@ -10,7 +10,7 @@ use Rattle.m88_parse.specs.declared.operand.Index.{Index}
 use Rattle.m88_parse.specs.declared.operand.Index.TheVariants as index
 use Rattle.m88_parse.specs.declared.operand.Field.{Field}
 use Rattle.m88_parse.specs.declared.operand.Field.TheVariants as field
-use Rattle.m88_parse.specs.declared.operand.Goal.{Goal}
+use Rattle.m88_parse.specs.declared.operand.Target.{Target}
 use Rattle.m88_parse.specs.declared.row.Row.{Row}
 use Rattle.m88_parse.specs.declared.row.Row.TheVariants as row
 use Rattle.m88_parse.specs.WellFormed.{IsHalf, IsFormedStatement}
@@ -44,9 +44,9 @@ abbrev pub AreWords : ℕ → ℤ → Type 0
 AreWords limit (pos n) = n < limit
 AreWords limit (negsuc n) = n < limit
 
--- a goal has such words, or a symbol of this kind
-abbrev pub IsFormedGoal : Kind → ℕ → Goal → Type 0
-IsFormedGoal kind limit x = AreWords limit x.words × WaitsFor (λ k. k ≡ kind) (x.words ≡ pos 0) x.fixup
+-- a target has such words, or a symbol of this kind
+abbrev pub IsFormedTarget : Kind → ℕ → Target → Type 0
+IsFormedTarget kind limit x = AreWords limit x.words × WaitsFor (λ k. k ≡ kind) (x.words ≡ pos 0) x.fixup
 
 -- a row's statement can be laid out
 abbrev pub IsFormedRow : Row → Type 0

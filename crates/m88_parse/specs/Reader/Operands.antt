@@ -18,7 +18,7 @@ use Rattle.m88_parse.specs.declared.operand.Index.{Index}
 use Rattle.m88_parse.specs.declared.operand.Index.TheVariants as index
 use Rattle.m88_parse.specs.declared.operand.Field.{Field}
 use Rattle.m88_parse.specs.declared.operand.Field.TheVariants as field
-use Rattle.m88_parse.specs.declared.operand.Goal.{Goal}
+use Rattle.m88_parse.specs.declared.operand.Target.{Target}
 use Rattle.m88_parse.specs.Reader.Names.{register_of, is_here}
 use Rattle.m88_parse.specs.Language.Bytes.{opening_parenthesis, closing_parenthesis, opening_bracket, closing_bracket, opening_angle, closing_angle, plus_mark, comma_mark, minus_mark}
 use Rattle.m88_parse.specs.Language.Words.{half_named}
@@ -143,7 +143,7 @@ distance_on most s _ = trouble Syntax s
 unfoldable pub distance_at : ℕ → ReaderState → Read ℕ
 distance_at most s = distance_on most s (first s)
 
--- behind the . of a goal: words forward or back, which fit a sign and the bits below limit
+-- behind the . of a target: words forward or back, which fit a sign and the bits below limit
 unfoldable pub words_at : ℕ → ReaderState → Read ℤ
 words_at limit s =
     if is_next_mark plus_mark s then (distance_at (limit - 1) (past s) >>= λ n. Ok (pos n.0, n.1))
@@ -156,7 +156,7 @@ is_here_on (Some (a_name text)) = is_here text
 is_here_on _ = false
 
 -- where a branch goes: a symbol with what is added to it, or . with a distance
-unfoldable pub goal_at : Kind → ℕ → ReaderState → Read Goal
-goal_at kind limit s =
+unfoldable pub target_at : Kind → ℕ → ReaderState → Read Target
+target_at kind limit s =
     if is_here_on (first s) then (words_at limit (past s) >>= λ n. Ok (record { words = n.0; fixup = None }, n.1))
     else (fixup_at kind s >>= λ x. Ok (record { words = pos 0; fixup = Some x.0 }, x.1))

@@ -7,11 +7,11 @@ use Rattle.m88_base.specs.declared.fixup.Kind.{Kind}
 use Rattle.m88_base.specs.declared.fixup.Fixup.{Fixup}
 use Rattle.m88_parse.specs.declared.fault.ParseKind.TheVariants.{OutOfRange}
 use Rattle.m88_parse.specs.declared.unit.Body.{Body}
-use Rattle.m88_parse.specs.declared.operand.Goal.{Goal}
+use Rattle.m88_parse.specs.declared.operand.Target.{Target}
 use Rattle.m88_parse.specs.Language.Pieces.{TokenValue, a_name, a_number, a_text, a_mark, Piece}
 use Rattle.m88_parse.specs.Reader.State.{ReaderState, says_first, ◌>>=◌}
 use Rattle.m88_parse.specs.Reader.Slots.{Read, fixup_at}
-use Rattle.m88_parse.specs.Reader.Operands.{distance_on, distance_at, words_at, is_here_on, goal_at}
+use Rattle.m88_parse.specs.Reader.Operands.{distance_on, distance_at, words_at, is_here_on, target_at}
 use Rattle.m88_parse.specs.Reader.Grammar.{end_with}
 use Rattle.m88_parse.specs.Language.Names.{IsNumber, IsNamed}
 use Rattle.m88_parse.specs.Language.Operands.{IsFixup, IsPlace, IsGoal, place as a_place, symbol as a_symbol}
@@ -68,7 +68,7 @@ one_distance most line e = record {
   some = (saying (a_number 0), 0, distance_given most 0 (omega arith));
 }
 
--- what stands behind the . of a goal: nothing, or a distance forward or back
+-- what stands behind the . of a target: nothing, or a distance forward or back
 
 abbrev OneEnd : (ℕ → Piece → Type 0) → (ℕ → Body) → Relation Body
 OneEnd Is made ps b = Then ℕ Is (λ n qs. (qs ≡ []) × (made n ≡ b)) ps
@@ -125,14 +125,14 @@ met_place bits made h (m ∷ p ∷ q ∷ ps) b n w k = absurd w
 
 -- where a branch goes
 
-abbrev pub IsGoalOf : Kind → ℕ → List Piece → Goal → Type 0
-IsGoalOf kind bits ps x = IsGoal kind bits ps x.words x.fixup
+abbrev pub IsTargetOf : Kind → ℕ → List Piece → Target → Type 0
+IsTargetOf kind bits ps x = IsGoal kind bits ps x.words x.fixup
 
-abbrev place_goal : ℤ → Goal
-place_goal n = record { words = n; fixup = None }
+abbrev place_target : ℤ → Target
+place_target n = record { words = n; fixup = None }
 
-abbrev symbol_goal : Fixup → Goal
-symbol_goal f = record { words = pos 0; fixup = Some f }
+abbrev symbol_target : Fixup → Target
+symbol_target f = record { words = pos 0; fixup = Some f }
 
 here_says : (o : TokenValue) → is_here_on (Some o) ≡ true → o ≡ a_name (codes ".")
 here_says (a_name text) h = ap a_name ((bytes_eq-Decides text (codes ".")).0 h)
@@ -160,10 +160,10 @@ symbol_start kind few line e made =
     last_start (IsFixup kind) (fixup_at kind) made
     (fixup_start kind (λ f. end_with (made f)) (Ends made) (λ f. end_start few line e (made f)) (λ f ps b w. end_unsigned ps w.0))
 
-pub goal_start : (kind : Kind) (bits few line e : ℕ) (made : Goal → Body)
-    → Start few false symbols line e (ended (goal_at kind (2 ^ bits)) made) (Last Goal (IsGoalOf kind bits) made)
-unfolding goal_at
-goal_start kind bits few line e made =
+pub target_start : (kind : Kind) (bits few line e : ℕ) (made : Target → Body)
+    → Start few false symbols line e (ended (target_at kind (2 ^ bits)) made) (Last Target (IsTargetOf kind bits) made)
+unfolding target_at
+target_start kind bits few line e made =
     turns_start all All rest names (let y = names any (codes "x") any_is_symbol in (any ∷ y.0, y.1)) (λ p n i ps. by_fixup (p ∷ ps) (says p (a_number n) i))
     (λ p i ps. by_fixup (p ∷ ps) (says p (a_mark 40) i))
     (by_fixup [] refl) (λ b. alike [] b refl) (λ p. elim (tested (is_here_on (Some p.says))) [
@@ -172,16 +172,16 @@ goal_start kind bits few line e made =
     ])
   where
     all : Reading Body
-    all s = ended (goal_at kind (2 ^ bits)) made s
+    all s = ended (target_at kind (2 ^ bits)) made s
 
     All : Relation Body
-    All ps b = Last Goal (IsGoalOf kind bits) made ps b
+    All ps b = Last Target (IsTargetOf kind bits) made ps b
 
     places : ℤ → Body
-    places n = made (place_goal n)
+    places n = made (place_target n)
 
     fixups : Fixup → Body
-    fixups f = made (symbol_goal f)
+    fixups f = made (symbol_target f)
 
     rest : Start few false symbols line e (ended (fixup_at kind) fixups) (Last Fixup (IsFixup kind) fixups)
     rest = symbol_start kind few line e fixups
@@ -191,13 +191,13 @@ goal_start kind bits few line e made =
 
     by_place : (p : Piece) (ps : List Piece) → is_here_on (Some p.says) ≡ true → all (st line e (p ∷ ps)) ≡ ended (words_at (2 ^ bits)) places (st line e ps)
     by_place p ps t =
-        ap (λ (r : Read Goal). r >>= λ (x : Goal × ReaderState). end_with (made x.0) x.1) (take_then (is_here_on (Some p.says)) _ _ t)
-        ∙ mapped ℤ Body Goal (words_at (2 ^ bits) (st line e ps)) place_goal (λ x. end_with (made x))
+        ap (λ (r : Read Target). r >>= λ (x : Target × ReaderState). end_with (made x.0) x.1) (take_then (is_here_on (Some p.says)) _ _ t)
+        ∙ mapped ℤ Body Target (words_at (2 ^ bits) (st line e ps)) place_target (λ x. end_with (made x))
 
     by_fixup : (ps : List Piece) → is_here_on (says_first ps) ≡ false → all (st line e ps) ≡ ended (fixup_at kind) fixups (st line e ps)
     by_fixup ps t =
-        ap (λ (r : Read Goal). r >>= λ (x : Goal × ReaderState). end_with (made x.0) x.1) (take_else (is_here_on (says_first ps)) _ _ t)
-        ∙ mapped Fixup Body Goal (fixup_at kind (st line e ps)) symbol_goal (λ x. end_with (made x))
+        ap (λ (r : Read Target). r >>= λ (x : Target × ReaderState). end_with (made x.0) x.1) (take_else (is_here_on (says_first ps)) _ _ t)
+        ∙ mapped Fixup Body Target (fixup_at kind (st line e ps)) symbol_target (λ x. end_with (made x))
 
     names : WantsNames symbols (faults_of line e all)
     names p name h =
@@ -206,7 +206,7 @@ goal_start kind bits few line e made =
 
     placed : (p : Piece) (ps : List Piece) (b : Body) → is_here_on (Some p.says) ≡ true → WordsEnd (2 ^ bits) places ps b ↔ All (p ∷ ps) b
     placed p ps b t = (
-      λ w. let k = place_met bits places p ps b (here_says p.says t) w in (place_goal k.0, a_place k.1, k.2),
+      λ w. let k = place_met bits places p ps b (here_says p.says t) w in (place_target k.0, a_place k.1, k.2),
       λ w. from w.0.words w.0.fixup w.1 w.2,
     )
       where
@@ -216,7 +216,7 @@ goal_start kind bits few line e made =
         from words fixup (a_symbol {f = f} h) k = absurd (true≢false (sym t ∙ not_here kind (p ∷ ps) f h))
 
     alike : (ps : List Piece) (b : Body) → is_here_on (says_first ps) ≡ false → Last Fixup (IsFixup kind) fixups ps b ↔ All ps b
-    alike ps b t = (λ k. (symbol_goal k.0, a_symbol k.1, k.2), λ w. from w.0.words w.0.fixup w.1 w.2)
+    alike ps b t = (λ k. (symbol_target k.0, a_symbol k.1, k.2), λ w. from w.0.words w.0.fixup w.1 w.2)
       where
         from : (words : ℤ) (fixup : Option Fixup) → IsGoal kind bits ps words fixup → made (record { words = words; fixup = fixup }) ≡ b
             → Last Fixup (IsFixup kind) fixups ps b
