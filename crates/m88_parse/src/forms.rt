@@ -41,10 +41,8 @@ impl<'a> Parser<'a> {
         ensures value { Gives (λ b. b) result (read (either_form imm reg) self.old) }
         ensures body { IfOk result IsFormedBody }
     {
-        let d = self.register()?;
-        self.mark(b',')?;
-        let s1 = self.register()?;
-        self.mark(b',')?;
+        let d = self.register_comma()?;
+        let s1 = self.register_comma()?;
         let body = match self.operand()? {
             Operand::Register(s2) => Body::Code(Instr::Regs { op: reg, d, s1, s2 }, None),
             Operand::Immediate(x) => Body::Code(
@@ -66,10 +64,8 @@ impl<'a> Parser<'a> {
         ensures value { Gives (λ b. b) result (read (immediate_form op) self.old) }
         ensures body { IfOk result IsFormedBody }
     {
-        let d = self.register()?;
-        self.mark(b',')?;
-        let s1 = self.register()?;
-        self.mark(b',')?;
+        let d = self.register_comma()?;
+        let s1 = self.register_comma()?;
         let x = self.immediate()?;
         self.close(Body::Code(
             Instr::Imm {
@@ -88,10 +84,8 @@ impl<'a> Parser<'a> {
         ensures value { Gives (λ b. b) result (read (registers_form op) self.old) }
         ensures body { IfOk result IsFormedBody }
     {
-        let d = self.register()?;
-        self.mark(b',')?;
-        let s1 = self.register()?;
-        self.mark(b',')?;
+        let d = self.register_comma()?;
+        let s1 = self.register_comma()?;
         let s2 = self.register()?;
         self.close(Body::Code(Instr::Regs { op, d, s1, s2 }, None))
     }
@@ -102,8 +96,7 @@ impl<'a> Parser<'a> {
         ensures value { Gives (λ b. b) result (read (memory_form op) self.old) }
         ensures body { IfOk result IsFormedBody }
     {
-        let d = self.register()?;
-        self.mark(b',')?;
+        let d = self.register_comma()?;
         let s1 = self.register()?;
         let body = match self.index()? {
             Index::Scaled(s2) => Body::Code(
@@ -147,8 +140,7 @@ impl<'a> Parser<'a> {
         ensures value { Gives (λ b. b) result (read (user_memory_form op) self.old) }
         ensures body { IfOk result IsFormedBody }
     {
-        let d = self.register()?;
-        self.mark(b',')?;
+        let d = self.register_comma()?;
         let s1 = self.register()?;
         let (s2, scaled) = self.user_index()?;
         self.close(Body::Code(
@@ -170,8 +162,7 @@ impl<'a> Parser<'a> {
         ensures value { Gives (λ b. b) result (read (address_form size) self.old) }
         ensures body { IfOk result IsFormedBody }
     {
-        let d = self.register()?;
-        self.mark(b',')?;
+        let d = self.register_comma()?;
         let s1 = self.register()?;
         let s2 = self.scaled()?;
         self.close(Body::Code(Instr::Lda { size, d, s1, s2 }, None))
@@ -183,10 +174,8 @@ impl<'a> Parser<'a> {
         ensures value { Gives (λ b. b) result (read (bits_form op) self.old) }
         ensures body { IfOk result IsFormedBody }
     {
-        let d = self.register()?;
-        self.mark(b',')?;
-        let s1 = self.register()?;
-        self.mark(b',')?;
+        let d = self.register_comma()?;
+        let s1 = self.register_comma()?;
         let instr = match self.field(most_width(op))? {
             Field::Register(s2) => Instr::BitReg { op, d, s1, s2 },
             Field::Literal { width, offset } => Instr::BitLit {
@@ -206,8 +195,7 @@ impl<'a> Parser<'a> {
         ensures value { Gives (λ b. b) result (read (find_bit_form ones) self.old) }
         ensures body { IfOk result IsFormedBody }
     {
-        let d = self.register()?;
-        self.mark(b',')?;
+        let d = self.register_comma()?;
         let s2 = self.register()?;
         self.close(Body::Code(Instr::Find { ones, d, s2 }, None))
     }
@@ -237,8 +225,7 @@ impl<'a> Parser<'a> {
     {
         let bit = self.bit()?;
         self.mark(b',')?;
-        let s1 = self.register()?;
-        self.mark(b',')?;
+        let s1 = self.register_comma()?;
         let target = self.target(Kind::Pc16, NEAR)?;
         self.close(Body::Code(
             Instr::BranchBit {
@@ -260,8 +247,7 @@ impl<'a> Parser<'a> {
     {
         let mask = self.mask()?;
         self.mark(b',')?;
-        let s1 = self.register()?;
-        self.mark(b',')?;
+        let s1 = self.register_comma()?;
         let target = self.target(Kind::Pc16, NEAR)?;
         self.close(Body::Code(
             Instr::BranchCond {
@@ -292,8 +278,7 @@ impl<'a> Parser<'a> {
     {
         let bit = self.bit()?;
         self.mark(b',')?;
-        let s1 = self.register()?;
-        self.mark(b',')?;
+        let s1 = self.register_comma()?;
         let vector = self.number(VECTORS)? as u16;
         self.close(Body::Code(
             Instr::TrapBit {
@@ -314,8 +299,7 @@ impl<'a> Parser<'a> {
     {
         let mask = self.mask()?;
         self.mark(b',')?;
-        let s1 = self.register()?;
-        self.mark(b',')?;
+        let s1 = self.register_comma()?;
         let vector = self.number(VECTORS)? as u16;
         self.close(Body::Code(Instr::TrapCond { mask, s1, vector }, None))
     }
@@ -326,8 +310,7 @@ impl<'a> Parser<'a> {
         ensures value { Gives (λ b. b) result (read bounds_form self.old) }
         ensures body { IfOk result IsFormedBody }
     {
-        let s1 = self.register()?;
-        self.mark(b',')?;
+        let s1 = self.register_comma()?;
         let instr = match self.bound()? {
             Bound::Register(s2) => Instr::BoundReg { s1, s2 },
             Bound::Number(imm) => Instr::BoundImm { s1, imm },
@@ -341,8 +324,7 @@ impl<'a> Parser<'a> {
         ensures value { Gives (λ b. b) result (read (ldcr_form float) self.old) }
         ensures body { IfOk result IsFormedBody }
     {
-        let d = self.register()?;
-        self.mark(b',')?;
+        let d = self.register_comma()?;
         let cr = self.control(float)?;
         self.close(Body::Code(Instr::Ldcr { d, cr, float }, None))
     }
@@ -353,8 +335,7 @@ impl<'a> Parser<'a> {
         ensures value { Gives (λ b. b) result (read (stcr_form float) self.old) }
         ensures body { IfOk result IsFormedBody }
     {
-        let s1 = self.register()?;
-        self.mark(b',')?;
+        let s1 = self.register_comma()?;
         let cr = self.control(float)?;
         self.close(Body::Code(Instr::Stcr { s1, cr, float }, None))
     }
@@ -365,10 +346,8 @@ impl<'a> Parser<'a> {
         ensures value { Gives (λ b. b) result (read (xcr_form float) self.old) }
         ensures body { IfOk result IsFormedBody }
     {
-        let d = self.register()?;
-        self.mark(b',')?;
-        let s1 = self.register()?;
-        self.mark(b',')?;
+        let d = self.register_comma()?;
+        let s1 = self.register_comma()?;
         let cr = self.control(float)?;
         self.close(Body::Code(Instr::Xcr { d, s1, cr, float }, None))
     }

@@ -1,7 +1,7 @@
 //! Operands of one or a few tokens, each from the place where it is wanted.
 ghost use Rattle.std.specs.Prelude.{◌≡◌, ◌≤◌, ◌<◌, ◌==◌, ◌||◌, length, IfOk, OnOk};
 ghost use Rattle.m88_parse.specs.Fault.{Gives};
-ghost use Rattle.m88_parse.specs.Reader.Slots.{unsigned_at, negated, signed_at, register_at, control_at, bit_at, mask_at, symbol_at, addend_at, fixup_at, value_at, any_name_at, alignment_at};
+ghost use Rattle.m88_parse.specs.Reader.Slots.{unsigned_at, negated, signed_at, register_at, register_comma_at, control_at, bit_at, mask_at, symbol_at, addend_at, fixup_at, value_at, any_name_at, alignment_at};
 ghost use Rattle.m88_parse.specs.WellFormed.{IsOfKind, IsAlignment};
 
 use crate::fault::{ParseFault, ParseKind};
@@ -79,6 +79,16 @@ impl<'a> Parser<'a> {
             }
             None => Err(self.fault(ParseKind::NoSuchName)),
         }
+    }
+
+    /// The number of a general register, and the comma behind it.
+    #[tactic(auto, unfolding(crate::specs::Reader::Slots::register_comma_at))]
+    pub fn register_comma(&mut self) -> Result<Reg, ParseFault>
+        ensures { Gives (λ r. (r, self.new)) result (register_comma_at self.old) }
+    {
+        let r = self.register()?;
+        self.mark(b',')?;
+        Ok(r)
     }
 
     /// The number of a control register, of the floating-point unit where `float`.

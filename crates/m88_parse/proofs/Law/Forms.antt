@@ -1,8 +1,9 @@
 -- The law of forms, in one walk over their slots: what is read by a form is what each of its slots is related to, the
 -- other way round, and each fault is the one of the language.
-use Rattle.std.proofs.Common.{◌≡◌, ◌↔◌, ℕ, Bool, List, [], Ok, refl}
+use Rattle.std.proofs.Common.{◌≡◌, ◌↔◌, ℕ, Bool, List, [], Result, Ok, Err, refl}
 use Rattle.m88_base.specs.declared.reg.Reg.{Reg}
 use Rattle.m88_base.specs.declared.fixup.Kind.TheVariants.{Abs32}
+use Rattle.m88_parse.specs.declared.fault.ParseFault.{ParseFault}
 use Rattle.m88_parse.specs.declared.unit.Body.{Body}
 use Rattle.m88_parse.specs.declared.unit.Value.{Value}
 use Rattle.m88_parse.specs.declared.operand.Immediate.{Immediate}
@@ -12,8 +13,9 @@ use Rattle.m88_parse.specs.declared.operand.Index.{Index}
 use Rattle.m88_parse.specs.declared.operand.Field.{Field}
 use Rattle.m88_parse.specs.declared.operand.Target.{Target}
 use Rattle.m88_parse.specs.Language.Pieces.{Piece}
-use Rattle.m88_parse.specs.Reader.Slots.{signed_at}
-use Rattle.m88_parse.specs.Reader.Grammar.{Form, ends, comma_then, register_then, control_then, bit_then, mask_then, unsigned_then, alignment_then, symbol_then, bound_then, text_then, signed_ends, immediate_ends, operand_ends, scaled_ends, index_ends, user_index_ends, field_ends, target_ends, words_end, parts_end, modulus_of, end_with, read}
+use Rattle.m88_parse.specs.Reader.State.{ReaderState, ◌>>=◌}
+use Rattle.m88_parse.specs.Reader.Slots.{Read, mark_at, register_at, register_comma_at, signed_at}
+use Rattle.m88_parse.specs.Reader.Grammar.{Form, ends, comma_then, register_then, register_comma_then, control_then, bit_then, mask_then, unsigned_then, alignment_then, symbol_then, bound_then, text_then, signed_ends, immediate_ends, operand_ends, scaled_ends, index_ends, user_index_ends, field_ends, target_ends, words_end, parts_end, modulus_of, end_with, read}
 use Rattle.m88_parse.specs.Language.Names.{IsRegister, IsControl, IsBit, IsCondition}
 use Rattle.m88_parse.specs.Language.Operands.{IsScaled, IsSigned, IsValue}
 use Rattle.m88_parse.specs.Language.Statements.{AreParted}
@@ -22,7 +24,7 @@ use Rattle.m88_parse.proofs.Law.Lists.{words_walk, parts_walk}
 use Rattle.m88_parse.proofs.Law.Slots.{st, one_register, one_control, one_bit, one_mask, IsUpTo, one_number, IsSymbolAt, one_symbol, IsText, one_text, IsPower, one_alignment}
 use Rattle.m88_parse.proofs.Law.Values.{IsWhole, signed_start}
 use Rattle.m88_parse.proofs.Law.Operands.{IsImmediateOf, immediate_start, IsOperandOf, operand_start, IsBoundOf, one_bound}
-use Rattle.m88_parse.proofs.Law.Walks.{Then, AfterComma, Last, Ends, Walk, begun, lawful, end_start, mark_start, slot_start, last_start}
+use Rattle.m88_parse.proofs.Law.Walks.{Then, AfterComma, Last, Ends, Walk, begun, lawful, start_as, end_start, mark_start, slot_start, last_start}
 use Rattle.m88_parse.proofs.Law.Indices.{scaled_start, IsIndexOf, index_start, IsUserIndexOf, user_index_start, IsFieldOf, field_start}
 
 -- the tokens that each slot of a form is related to, and the body that they make
@@ -30,6 +32,7 @@ abbrev pub Meets : Form → List Piece → Body → Type 0
 Meets (ends made) ps b = (ps ≡ []) × (made ≡ b)
 Meets (comma_then form) ps b = AfterComma (λ qs. Meets form qs b) ps
 Meets (register_then form) ps b = Then Reg IsRegister (λ x qs. Meets (form x) qs b) ps
+Meets (register_comma_then form) ps b = Then Reg IsRegister (λ x qs. AfterComma (λ rs. Meets (form x) rs b) qs) ps
 Meets (control_then float form) ps b = Then ℕ (IsControl float) (λ x qs. Meets (form x) qs b) ps
 Meets (bit_then form) ps b = Then ℕ IsBit (λ x qs. Meets (form x) qs b) ps
 Meets (mask_then form) ps b = Then ℕ IsCondition (λ x qs. Meets (form x) qs b) ps
@@ -49,6 +52,24 @@ Meets (target_ends kind bits made) ps b = Last Target (IsTargetOf kind bits) mad
 Meets (words_end made) ps b = Last (List Value) (AreParted (IsValue Abs32)) made ps b
 Meets (parts_end part made) ps b = Last (List ℕ) (AreParted (IsSigned (modulus_of part))) made ps b
 
+-- a register and the comma behind it, one after the other
+
+parted : (form : Reg → Form) (s : ReaderState) → (register_comma_at s >>= λ (x : Reg × ReaderState). read (form x.0) x.1)
+    ≡ (register_at s >>= λ (x : Reg × ReaderState). mark_at 44 x.1 >>= read (form x.0))
+unfolding register_comma_at
+parted form s = by_register (register_at s)
+  where
+    by_mark : (r : Reg) (m : Result ReaderState ParseFault)
+        → ((m >>= λ (t : ReaderState). let y : Read Reg = Ok (r, t) in y) >>= λ (x : Reg × ReaderState). read (form x.0) x.1) ≡ (m >>= read (form r))
+    by_mark r (Ok t) = refl
+    by_mark r (Err f) = refl
+
+    by_register : (r : Read Reg)
+        → ((r >>= λ (x : Reg × ReaderState). mark_at 44 x.1 >>= λ (t : ReaderState). let y : Read Reg = Ok (x.0, t) in y) >>= λ (x : Reg × ReaderState). read (form x.0) x.1)
+        ≡ (r >>= λ (x : Reg × ReaderState). mark_at 44 x.1 >>= read (form x.0))
+    by_register (Ok x) = by_mark x.0 (mark_at 44 x.1)
+    by_register (Err f) = refl
+
 -- each form, walked once
 
 pub form_walk : (form : Form) (few line e : ℕ) → Walk few line e (read form) (Meets form)
@@ -56,6 +77,10 @@ unfolding read
 form_walk (ends made) few line e = begun (end_start few line e made)
 form_walk (comma_then form) few line e = begun (mark_start 44 refl refl (form_walk form few line e))
 form_walk (register_then form) few line e = begun (slot_start (one_register line e) (λ x. read (form x)) (λ x. Meets (form x)) (λ x. form_walk (form x) few line e))
+form_walk (register_comma_then form) few line e =
+    begun (start_as (read (register_comma_then form)) (Meets (register_comma_then form)) (λ ps. parted form (st line e ps)) (λ ps b. (λ w. w, λ w. w))
+    (slot_start (one_register line e) (λ x s. mark_at 44 s >>= read (form x)) (λ x qs b. AfterComma (λ rs. Meets (form x) rs b) qs)
+    (λ x. begun (mark_start 44 refl refl (form_walk (form x) few line e)))))
 form_walk (control_then float form) few line e = begun (slot_start (one_control float line e) (λ x. read (form x)) (λ x. Meets (form x)) (λ x. form_walk (form x) few line e))
 form_walk (bit_then form) few line e = begun (slot_start (one_bit line e) (λ x. read (form x)) (λ x. Meets (form x)) (λ x. form_walk (form x) few line e))
 form_walk (mask_then form) few line e = begun (slot_start (one_mask line e) (λ x. read (form x)) (λ x. Meets (form x)) (λ x. form_walk (form x) few line e))

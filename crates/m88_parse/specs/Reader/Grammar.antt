@@ -34,7 +34,7 @@ use Rattle.m88_parse.specs.declared.directive.Directive.TheVariants as directive
 use Rattle.m88_parse.specs.Language.Bytes.{comma_mark}
 use Rattle.m88_parse.specs.Language.Operands.{most_width}
 use Rattle.m88_parse.specs.Reader.State.{ReaderState, trouble, past, is_next_mark, ◌>>=◌}
-use Rattle.m88_parse.specs.Reader.Slots.{Read, mark_at, line_end_at, unsigned_at, signed_at, register_at, control_at, bit_at, mask_at, symbol_at, value_at, text_at, alignment_at}
+use Rattle.m88_parse.specs.Reader.Slots.{Read, mark_at, line_end_at, unsigned_at, signed_at, register_at, register_comma_at, control_at, bit_at, mask_at, symbol_at, value_at, text_at, alignment_at}
 use Rattle.m88_parse.specs.Reader.Operands.{immediate_at, operand_at, bound_at, scaled_at, index_at, user_index_at, field_at, target_at}
 
 -- one or more items with commas between them, at most so many
@@ -72,6 +72,7 @@ pub data Form : Type 0 where
   ends : Body → Form
   comma_then : Form → Form
   register_then : (Reg → Form) → Form
+  register_comma_then : (Reg → Form) → Form
   control_then : Bool → (ℕ → Form) → Form
   bit_then : (ℕ → Form) → Form
   mask_then : (ℕ → Form) → Form
@@ -100,6 +101,7 @@ unfoldable pub read : Form → ReaderState → Result Body ParseFault
 read (ends b) s = end_with b s
 read (comma_then form) s = mark_at comma_mark s >>= λ t. read form t
 read (register_then form) s = register_at s >>= λ x. read (form x.0) x.1
+read (register_comma_then form) s = register_comma_at s >>= λ x. read (form x.0) x.1
 read (control_then float form) s = control_at float s >>= λ x. read (form x.0) x.1
 read (bit_then form) s = bit_at s >>= λ x. read (form x.0) x.1
 read (mask_then form) s = mask_at s >>= λ x. read (form x.0) x.1
@@ -125,7 +127,11 @@ code_only i = ends (body.Code i None)
 
 -- rD,rS1 and what follows
 abbrev pub two_registers : (Reg → Reg → Form) → Form
-two_registers form = register_then (λ d. comma_then (register_then (λ s1. form d s1)))
+two_registers form = register_comma_then (λ d. register_then (λ s1. form d s1))
+
+-- rD,rS1 and what follows behind a comma
+abbrev pub two_parted : (Reg → Reg → Form) → Form
+two_parted form = register_comma_then (λ d. register_comma_then (λ s1. form d s1))
 
 -- the instruction of that operand
 abbrev pub either_body : ImmOp → RegOp → Reg → Reg → Operand → Body
@@ -150,16 +156,16 @@ bounds_body s1 (bound.Number imm) = body.Code (instr.BoundImm s1 imm) None
 
 -- rD,rS1 and an immediate or a register
 abbrev pub either_form : ImmOp → RegOp → Form
-either_form i r = two_registers (λ d s1. comma_then (operand_ends (λ x. either_body i r d s1 x)))
+either_form i r = two_parted (λ d s1. operand_ends (λ x. either_body i r d s1 x))
 
 -- rD,rS1 and an immediate
 abbrev pub immediate_form : ImmOp → Form
 immediate_form i =
-    two_registers (λ d s1. comma_then (immediate_ends (λ x. body.Code (instr.Imm i d s1 x.imm) x.fixup)))
+    two_parted (λ d s1. immediate_ends (λ x. body.Code (instr.Imm i d s1 x.imm) x.fixup))
 
 -- rD,rS1,rS2
 abbrev pub registers_form : RegOp → Form
-registers_form r = two_registers (λ d s1. comma_then (register_then (λ s2. code_only (instr.Regs r d s1 s2))))
+registers_form r = two_parted (λ d s1. register_then (λ s2. code_only (instr.Regs r d s1 s2)))
 
 -- rD,rS1 and an immediate, a register, or a scaled register
 abbrev pub memory_form : MemOp → Form
@@ -176,7 +182,7 @@ address_form size = two_registers (λ d s1. scaled_ends (λ s2. body.Code (instr
 
 -- rD,rS1 and a width and an offset, or a register
 abbrev pub bits_form : BitOp → Form
-bits_form op = two_registers (λ d s1. comma_then (field_ends (most_width op) (λ x. bits_body op d s1 x)))
+bits_form op = two_parted (λ d s1. field_ends (most_width op) (λ x. bits_body op d s1 x))
 
 -- rD,rS2
 abbrev pub find_bit_form : Bool → Form
@@ -189,14 +195,14 @@ branch_form link delayed = target_ends Pc26 25 (λ g. body.Code (instr.Branch li
 -- a bit, rS1 and a target in a field of 16 bits
 abbrev pub branch_bit_form : Bool → Bool → Form
 branch_bit_form on delayed =
-    bit_then (λ b. comma_then (register_then (λ s1. comma_then
-    (target_ends Pc16 15 (λ g. body.Code (instr.BranchBit on delayed b s1 g.words) g.fixup)))))
+    bit_then (λ b. comma_then (register_comma_then (λ s1.
+    target_ends Pc16 15 (λ g. body.Code (instr.BranchBit on delayed b s1 g.words) g.fixup))))
 
 -- a condition, rS1 and a target in a field of 16 bits
 abbrev pub branch_cond_form : Bool → Form
 branch_cond_form delayed =
-    mask_then (λ m. comma_then (register_then (λ s1. comma_then
-    (target_ends Pc16 15 (λ g. body.Code (instr.BranchCond delayed m s1 g.words) g.fixup)))))
+    mask_then (λ m. comma_then (register_comma_then (λ s1.
+    target_ends Pc16 15 (λ g. body.Code (instr.BranchCond delayed m s1 g.words) g.fixup))))
 
 -- rS2
 abbrev pub jump_form : Bool → Bool → Form
@@ -205,30 +211,30 @@ jump_form link delayed = register_then (λ s2. code_only (instr.Jump link delaye
 -- a bit, rS1 and a vector
 abbrev pub trap_bit_form : Bool → Form
 trap_bit_form on =
-    bit_then (λ b. comma_then (register_then (λ s1. comma_then
-    (unsigned_then 511 (λ v. code_only (instr.TrapBit on b s1 v))))))
+    bit_then (λ b. comma_then (register_comma_then (λ s1.
+    unsigned_then 511 (λ v. code_only (instr.TrapBit on b s1 v)))))
 
 -- a condition, rS1 and a vector
 abbrev pub trap_cond_form : Form
 trap_cond_form =
-    mask_then (λ m. comma_then (register_then (λ s1. comma_then
-    (unsigned_then 511 (λ v. code_only (instr.TrapCond m s1 v))))))
+    mask_then (λ m. comma_then (register_comma_then (λ s1.
+    unsigned_then 511 (λ v. code_only (instr.TrapCond m s1 v)))))
 
 -- rS1 and a number or a register
 abbrev pub bounds_form : Form
-bounds_form = register_then (λ s1. comma_then (bound_then (λ x. ends (bounds_body s1 x))))
+bounds_form = register_comma_then (λ s1. bound_then (λ x. ends (bounds_body s1 x)))
 
 -- rD and a control register
 abbrev pub ldcr_form : Bool → Form
-ldcr_form float = register_then (λ d. comma_then (control_then float (λ cr. code_only (instr.Ldcr d cr float))))
+ldcr_form float = register_comma_then (λ d. control_then float (λ cr. code_only (instr.Ldcr d cr float)))
 
 -- rS1 and a control register
 abbrev pub stcr_form : Bool → Form
-stcr_form float = register_then (λ s1. comma_then (control_then float (λ cr. code_only (instr.Stcr s1 cr float))))
+stcr_form float = register_comma_then (λ s1. control_then float (λ cr. code_only (instr.Stcr s1 cr float)))
 
 -- rD,rS1 and a control register
 abbrev pub xcr_form : Bool → Form
-xcr_form float = two_registers (λ d s1. comma_then (control_then float (λ cr. code_only (instr.Xcr d s1 cr float))))
+xcr_form float = two_parted (λ d s1. control_then float (λ cr. code_only (instr.Xcr d s1 cr float)))
 
 -- the form of an instruction
 unfoldable pub form_of : Shape → Form

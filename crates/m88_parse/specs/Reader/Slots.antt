@@ -12,7 +12,7 @@ use Rattle.m88_parse.specs.declared.fault.ParseKind.TheVariants.{Syntax, NoSuchN
 use Rattle.m88_parse.specs.declared.unit.Value.{Value}
 use Rattle.m88_parse.specs.declared.unit.Value.TheVariants as value
 use Rattle.m88_parse.specs.Reader.Names.{register_of, control_in, is_valid_name, is_symbol}
-use Rattle.m88_parse.specs.Language.Bytes.{plus_mark, minus_mark}
+use Rattle.m88_parse.specs.Language.Bytes.{comma_mark, plus_mark, minus_mark}
 use Rattle.m88_parse.specs.Language.Operands.{minus}
 use Rattle.m88_parse.specs.Language.Words.{bit_named, condition_named}
 use Rattle.m88_parse.specs.Language.Pieces.{TokenValue, a_name, a_number, a_text}
@@ -75,6 +75,10 @@ register_on s _ = trouble Syntax s
 -- a general register
 unfoldable pub register_at : ReaderState → Read Reg
 register_at s = register_on s (first s)
+
+-- rN and a comma
+unfoldable pub register_comma_at : ReaderState → Read Reg
+register_comma_at s = register_at s >>= λ r. mark_at comma_mark r.1 >>= λ t. Ok (r.0, t)
 
 -- a control register, by what stands there
 abbrev pub control_on : Bool → ReaderState → Option TokenValue → Read ℕ
