@@ -1,1 +1,2 @@
+-- What contracts cite: the instruction pointers.
 pub mod Pointers

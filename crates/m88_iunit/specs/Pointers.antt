@@ -1,5 +1,5 @@
--- The instruction pointers ("Exception Processing": XIP, NIP and FIP, the addresses of the instructions that are in
--- execution, next and being fetched).
+-- The instruction pointers ("Exception Processing": XIP, NIP and FIP, the addresses of the instruction retired last,
+-- the next one and the one being fetched).
 use Rattle.std.specs.Prelude.{ℕ, Bool, true, false, ◌≡◌, ◌+◌, ◌*◌, ◌/◌, ◌%◌, ◌^◌, ◌==◌, if◌then◌else◌}
 use Rattle.std.specs.Int.{bit_at}
 use Rattle.m88_iunit.specs.declared.slot.Slot.{Slot}
@@ -48,15 +48,15 @@ pub record AreWordSlots (pointers : Pointers) : Type 0 where
   pub nip : IsWordSlot pointers.nip
   pub fip : IsWordSlot pointers.fip
 
--- the pointers at the start of a program, when nothing is in execution
+-- the pointers at the start of a program, when no instruction is retired yet
 abbrev pub at_entry : ℕ → Bool → Bool → Pointers
-at_entry entry e0 e1 = record {
+at_entry entry entry_e behind_e = record {
   xip = no_slot;
-  nip = valid_slot entry e0;
-  fip = valid_slot (word_behind entry) e1;
+  nip = valid_slot entry entry_e;
+  fip = valid_slot (word_behind entry) behind_e;
 }
 
--- the pointers after the next instruction went into execution and nothing fetched is passed over
+-- the pointers after the next instruction was retired, with NIP and FIP as they are given
 abbrev pub advanced : Pointers → Slot → Slot → Pointers
 advanced p nip fip = record { xip = p.nip; nip = nip; fip = fip }
 

@@ -20,15 +20,16 @@ impl Model for InstrUnit {
 
     ghost view = { λ unit. record { xip = unit.xip; nip = unit.nip; fip = unit.fip } };
 
-    ghost invariant = { λ unit. AreWordSlots (record { xip = unit.xip; nip = unit.nip; fip = unit.fip }) };
+    ghost invariant = { λ unit. AreWordSlots
+        (record { xip = unit.xip; nip = unit.nip; fip = unit.fip }) };
 }
 
 impl InstrUnit {
-    /// The pointers at the start of a program: nothing is in execution, the instruction at `entry` is next
-    /// and the one behind it is being fetched. `e0` and `e1` say that these can't be fetched.
-    pub fn new(entry: u32, e0: bool, e1: bool) -> InstrUnit
+    /// The pointers at the start of a program: no instruction is retired yet, the one at `entry` is next and the
+    /// one behind it is being fetched. `entry_e` and `behind_e` say that these can't be fetched.
+    pub fn new(entry: u32, entry_e: bool, behind_e: bool) -> InstrUnit
         requires { entry % 4 ≡ 0 }
-        ensures { result ≡ at_entry entry e0 e1 }
+        ensures { result ≡ at_entry entry entry_e behind_e }
     {
         InstrUnit {
             xip: Slot {
@@ -36,8 +37,8 @@ impl InstrUnit {
                 v: false,
                 e: false,
             },
-            nip: fetched(entry, e0),
-            fip: fetched(entry.wrapping_add(4), e1),
+            nip: fetched(entry, entry_e),
+            fip: fetched(entry.wrapping_add(4), behind_e),
         }
     }
 
@@ -51,7 +52,7 @@ impl InstrUnit {
         InstrUnit { xip, nip, fip }
     }
 
-    /// The instruction in execution, XIP.
+    /// The instruction retired last, XIP.
     pub fn xip(&self) -> Slot
         ensures value { result ≡ self.now.xip }
         ensures word { IsWordSlot result }
@@ -75,16 +76,16 @@ impl InstrUnit {
         self.fip
     }
 
-    /// The next instruction goes into execution, and those at `next` and at `then` follow it. With a
-    /// bubble the one behind it was fetched already and is passed over before them.
-    pub fn advance(&mut self, next: u32, next_e: bool, then: u32, then_e: bool, bubble: bool)
+    /// The next instruction is retired, and those at `next` and at `behind` follow it. With a bubble the one
+    /// behind it was fetched already and is passed over before them.
+    pub fn advance(&mut self, next: u32, next_e: bool, behind: u32, behind_e: bool, bubble: bool)
         requires valid { self.old.nip.v ≡ true }
         requires next { next % 4 ≡ 0 }
-        requires further { «then» % 4 ≡ 0 }
+        requires further { behind % 4 ≡ 0 }
         ensures straight { bubble ≡ false →
-            self.new ≡ advanced self.old (valid_slot next next_e) (valid_slot «then» then_e) }
-        ensures bubble { bubble ≡ true →
-            self.new ≡ advanced self.old (squashed_slot (word_behind self.old.nip.addr)) (valid_slot next next_e) }
+            self.new ≡ advanced self.old (valid_slot next next_e) (valid_slot behind behind_e) }
+        ensures bubble { bubble ≡ true → self.new ≡ advanced self.old
+            (squashed_slot (word_behind self.old.nip.addr)) (valid_slot next next_e) }
     {
         self.xip = self.nip;
         if bubble {
@@ -92,22 +93,22 @@ impl InstrUnit {
             self.fip = fetched(next, next_e);
         } else {
             self.nip = fetched(next, next_e);
-            self.fip = fetched(then, then_e);
+            self.fip = fetched(behind, behind_e);
         }
     }
 
-    /// Passes the next instruction over, and the one that was being fetched is next. `then_e` says that the
+    /// Passes the next instruction over, and the one that was being fetched is next. `behind_e` says that the
     /// one behind that can't be fetched.
-    pub fn pass_bubble(&mut self, then_e: bool)
+    pub fn pass_bubble(&mut self, behind_e: bool)
         requires { self.old.nip.v ≡ false }
         ensures { self.new ≡ record {
           xip = self.old.xip;
           nip = self.old.fip;
-          fip = valid_slot (word_behind self.old.fip.addr) then_e;
+          fip = valid_slot (word_behind self.old.fip.addr) behind_e;
         } }
     {
         self.nip = self.fip;
-        self.fip = fetched(self.nip.addr.wrapping_add(4), then_e);
+        self.fip = fetched(self.nip.addr.wrapping_add(4), behind_e);
     }
 
     /// The words of XIP, NIP and FIP, which an exception saves. Resuming by the last two of them leaves the

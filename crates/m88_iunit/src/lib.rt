@@ -1,4 +1,4 @@
-//! The instruction unit's pointers: the instruction in execution (XIP), the next one (NIP) and the one
+//! The instruction unit's pointers: the instruction retired last (XIP), the next one (NIP) and the one
 //! that is being fetched (FIP), with the marks that exception processing saves and restores.
 #![tactic(auto)]
 
