@@ -1,1 +1,2 @@
+-- What only helps the proofs: the scoreboard as a function.
 pub mod Waits

@@ -1,1 +1,2 @@
+-- What contracts cite: the register file and its scoreboard.
 pub mod Registers

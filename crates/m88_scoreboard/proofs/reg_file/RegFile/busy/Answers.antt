@@ -1,3 +1,4 @@
+-- The bits of the registers that wait make the word of their set, which names them again.
 use Rattle.std.proofs.Common.{◌≡◌, false, refl, arith, slice_index_or, ◌∙◌, ap, sym}
 use Rattle.std.proofs.Math.ListN.{get_or-eq_default}
 use Rattle.m88_scoreboard.specs.Registers.{waiting_of}

@@ -1,3 +1,4 @@
+-- The bits of the registers so far.
 use Rattle.std.proofs.Common.{◌≡◌}
 use Rattle.m88_base.specs.RegisterSet.{bits_below}
 use Rattle.m88_scoreboard.specs.Registers.{waiting_of}

@@ -1,3 +1,4 @@
+-- Of 32 marks that are unset none is set.
 use Rattle.std.proofs.Math.Path.{fun_ext}
 use Rattle.m88_scoreboard.specs.Registers.{waiting_of}
 use Rattle.m88_scoreboard.proofs.Waits.{none_set}

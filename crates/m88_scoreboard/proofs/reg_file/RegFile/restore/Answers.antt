@@ -1,3 +1,4 @@
+-- The marks are those of the word where each of the 32 is.
 use Rattle.std.proofs.Common.{◌≡◌, arith}
 use Rattle.m88_scoreboard.specs.Registers.{waiting_of}
 use Rattle.m88_scoreboard.proofs.Waits.{marks_of_word}

@@ -1,3 +1,4 @@
+-- The marks of the registers so far are those of the word.
 use Rattle.std.proofs.Common.{◌≡◌, ◌<◌, ℕ, List, Bool, false, length, slice_index_or}
 use Rattle.m88_base.specs.RegisterSet.{registers_in}
 use Rattle.m88_scoreboard.proofs.reg_file.RegFile.restore.Given as goal

@@ -1,3 +1,4 @@
+-- Where no register waits, the values that are shown are the numbers.
 use Rattle.m88_scoreboard.specs.Registers.{waiting_of}
 use Rattle.m88_scoreboard.proofs.Waits.{all_shown}
 use Rattle.m88_scoreboard.proofs.reg_file.RegFile.values.Goals as goal

@@ -1,3 +1,4 @@
+-- The values of the registers so far are those that are shown.
 use Rattle.std.proofs.Common.{◌≡◌, ◌<◌, ℕ, List, Bool, true, false, length, slice_index, slice_index_or}
 use Rattle.m88_scoreboard.proofs.reg_file.RegFile.values.Given as goal
 
