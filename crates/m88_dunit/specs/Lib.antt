@@ -1,1 +1,2 @@
+-- What contracts cite: the accesses that are pending.
 pub mod Pending

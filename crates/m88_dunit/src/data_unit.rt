@@ -14,7 +14,7 @@ use m88_base::Triple;
 use m88_isa::{Access, Accesses};
 use std::marker::Model;
 
-/// The transactions that may be pending.
+/// The most transactions that may be pending.
 pub const MOST_PENDING: usize = 3;
 
 /// The transactions that are pending, at most three, the oldest first.

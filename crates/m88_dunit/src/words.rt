@@ -7,6 +7,27 @@ ghost use Rattle.m88_dunit.specs.Pending.{loaded_set};
 use m88_base::{NO_TRIPLE, Reg, Triple};
 use m88_isa::Access;
 
+/// DMT's bit of the first half of a double word.
+const DOUB1: u32 = 1 << 13;
+
+/// DMT's bit of both halves of an exchange.
+const LOCKBAR: u32 = 1 << 12;
+
+/// The lowest bit of DREG in DMT, bits 11 to 7: the register that a load writes.
+const DREG: u32 = 1 << 7;
+
+/// DMT's bit of a load that asks for the sign.
+const SIGNED: u32 = 1 << 6;
+
+/// The lowest bit of EN in DMT, bits 5 to 2: the bytes that it touches, bit 5 for the one at offset 0.
+const EN: u32 = 1 << 2;
+
+/// DMT's bit of a store.
+const WRITE: u32 = 1 << 1;
+
+/// DMT's bit of there being an access.
+const VALID: u32 = 1 << 0;
+
 /// The words of an access, if there is one.
 pub(crate) fn triple_or_none(access: Option<Access>) -> Triple
     ensures { result ≡ triple_or_none access }
@@ -33,13 +54,13 @@ fn dmt_of(access: Access) -> u32
     ensures { result ≡ dmt_of access }
 {
     let en = u32::from(access.en);
-    flag(access.doub1, 1 << 13)
-        + flag(access.lock, 1 << 12)
-        + access.reg.number() * (1 << 7)
-        + flag(access.signed, 1 << 6)
-        + en * (1 << 2)
-        + flag(access.write, 1 << 1)
-        + 1
+    flag(access.doub1, DOUB1)
+        + flag(access.lock, LOCKBAR)
+        + access.reg.number() * DREG
+        + flag(access.signed, SIGNED)
+        + en * EN
+        + flag(access.write, WRITE)
+        + VALID
 }
 
 /// The weight of a bit where it is set.

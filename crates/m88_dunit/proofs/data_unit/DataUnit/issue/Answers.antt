@@ -1,3 +1,4 @@
+-- Two accesses more are among those that may be pending.
 use Rattle.std.proofs.Common.{arith, length-append}
 use Rattle.std.proofs.lemmas.List.Elements.{All-push}
 use Rattle.m88_isa.specs.Memory.{IsWordAccess}

@@ -1,3 +1,4 @@
+-- The word of the registers that wait, from the accesses by their places.
 use Rattle.std.proofs.Common.{◌≡◌, bit_or, slice_get}
 use Rattle.m88_base.specs.RegisterSet.{register_bits}
 use Rattle.m88_isa.specs.Bus.{waits_for}

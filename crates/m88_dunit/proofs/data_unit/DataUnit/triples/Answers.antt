@@ -1,3 +1,4 @@
+-- The words of the pending accesses tell them.
 use Rattle.std.proofs.Common.{◌∙◌, ap}
 use Rattle.m88_isa.specs.Triples.{accesses_in}
 use Rattle.m88_dunit.proofs.Told.{told_all}
