@@ -1,3 +1,4 @@
+-- What only helps the proofs: letters, then the moves of a board, the end of a run and what lies behind a moment.
 pub mod Letters
 pub mod Follows
 pub mod Bound

@@ -13,7 +13,7 @@ use Rattle.m88_isa.specs.declared.instr.Instr.{Instr}
 use Rattle.m88_isa.specs.declared.planned.Access.{Access}
 use Rattle.m88_event.specs.Choice.{Choice, ServesOrEnds, answer_choice, choice_of, faults, finishes, holds, idles, issue_choice, issues, next_choice, next_turn, passes, replies, said, serves, turn_choice}
 use Rattle.m88_event.specs.Local.{Local, said_by, situation_of}
-use Rattle.m88_event.specs.Timeline.{DoneWereMade, Moment, said_at, situation_at}
+use Rattle.m88_event.specs.Timeline.{DoneWereMade, Moment, situation_at}
 use Rattle.m88_event.specs.Situation.{Situation, record_of}
 use Rattle.m88_event.specs.declared.letter.Letter.{Letter}
 use Rattle.m88_event.specs.declared.letter.Letter.TheVariants.{Issue, Answer}
@@ -140,11 +140,3 @@ pub all_done : (p : Program) (named : ℕ → Bool) (limit : ℕ) (letter : Lett
 unfolding situation_at
 all_done p named limit letter m within last =
     nothing_left m.done (transactions p m.retired) within (precise_choice p letter (situation_at p named limit m) last)
-
-pub precise_at : (p : Program) (named : ℕ → Bool) (limit : ℕ) (letter : Letter) (m : Moment) → DoneWereMade p m →
-    ServesOrEnds (said_at p named limit letter m) →
-    m.done ≡ transaction_count p m.retired
-unfolding said_at
-precise_at p named limit letter m within h =
-    all_done p named limit letter m within
-    (last_said (choice_of p letter (situation_at p named limit m)) (record_of p (situation_at p named limit m)) h)

@@ -1,3 +1,4 @@
+-- What contracts cite: letters, what an event does, the timeline, and what a whole run comes to.
 pub mod Letters
 pub mod Shadow
 pub mod Situation

@@ -10,7 +10,7 @@ pub enum Why {
     Busy(Reg),
     /// The data unit has no room for its accesses.
     Full,
-    /// It waits until the data unit is empty: it raises, or is a conditional trap.
+    /// It waits until the data unit is empty: it can't be fetched, is no instruction, raises, or is a conditional trap.
     Sync,
 }
 

@@ -1,7 +1,7 @@
 //! The timeline of a run on the board: schedules of letters, the events that they make, and what a run comes to.
 //! The definitions in `specs/` say it over the history of the sequential machine, with a count of the instructions
-//! that are retired and one of the transactions that are done. That what moves as a board looks goes the same way, and
-//! that every run is over, stands in `proofs/`; the calls of a board promise it.
+//! that are retired and one of the transactions that are done. That what a board looks like moves along them, and that
+//! every run is over, stands in `proofs/`; the calls of a board promise both.
 #![tactic(auto)]
 
 // the letters of a run

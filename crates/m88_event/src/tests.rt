@@ -1,7 +1,7 @@
 //! Schedules as they are written.
 
 use crate::{Letter, Schedule};
-use std::alloc::{AllocError, Global};
+use std::alloc::AllocError;
 
 #[test]
 fn texts_that_are_schedules(rt: HostRuntime) {
