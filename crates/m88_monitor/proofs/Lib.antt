@@ -1,2 +1,2 @@
-pub mod Control
+-- What only helps the proofs: one triple's service in parts.
 pub mod Steps

@@ -49,12 +49,6 @@ served_valid index s t a c1 c2 numbers bus absent et ev ea e1 e2 en eb eabs =
     eabs ∙ ap (λ (x : Access). with_page (page_number x.addr) false s.absent) access in
     rw valid (λ i. record { control = control i; numbers = put i; bus = words i; absent = pages i })
 
-pub served_none : (index : ℕ) (s : Serving) (t : Triple) → t ≡ triple_at index s.control → is_valid_triple t ≡ false →
-    s ≡ after_triple index s
-served_none index s t et ev =
-    let none : is_valid_triple (triple_at index s.control) ≡ false = ap is_valid_triple (sym et) ∙ ev in
-    rw none refl
-
 -- a triple's service leaves the others
 pub second_kept : (s : Serving) → (after_triple 0 s).control.t1 ≡ s.control.t1
 second_kept s = by_test (is_valid_triple s.control.t0)

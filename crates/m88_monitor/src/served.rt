@@ -85,7 +85,8 @@ fn make(ctrl: &mut Control, regs: &mut RegFile, memory: &mut Memory, access: &Ac
     requires waiting { waiting_of regs.old ≡ none_waits }
     ensures control { ctrl.new ≡ with_loaded access.now ctrl.old }
     ensures numbers { regs.new.numbers ≡ (if access.now.write then regs.old.numbers
-        else with_register access.now.reg (loaded access.now (bus_of memory.old)) regs.old.numbers) }
+        else with_register access.now.reg (loaded access.now (bus_of memory.old))
+        regs.old.numbers) }
     ensures bus { bus_of memory.new ≡ bus_after access.now (bus_of memory.old) }
     ensures waiting { waiting_of regs.new ≡ waiting_of regs.old }
     ensures image { memory.new.image ≡ memory.old.image }

@@ -1,3 +1,4 @@
+-- The triples are served in order, and as many are counted as were valid before the first.
 use Rattle.std.proofs.Common.{◌≡◌, ◌∙◌, ap, refl}
 use Rattle.m88_monitor.proofs.Steps.{second_kept, third_kept, third_kept_again}
 use Rattle.m88_monitor.specs.Serving.{Serving, after_triple, serving_of, valid_count_of}

@@ -1,3 +1,4 @@
+-- The parts of a valid triple's service make the whole.
 use Rattle.std.proofs.Common.{ℕ, ◌≡◌, ◌∙◌, true, if◌then◌else◌, ap, sym, arith}
 use Rattle.std.proofs.lemmas.Bool.Decides.{nat_tests}
 use Rattle.m88_isa.specs.Bus.{bus_after, loaded}

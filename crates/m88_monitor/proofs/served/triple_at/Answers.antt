@@ -1,3 +1,4 @@
+-- The triple of the control registers is the one by its place.
 use Rattle.m88_monitor.proofs.Steps.{by_place}
 use Rattle.m88_monitor.proofs.served.triple_at.Goals as goal
 
