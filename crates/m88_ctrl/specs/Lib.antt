@@ -1,1 +1,2 @@
+-- What contracts cite: the control registers.
 pub mod ControlRegisters

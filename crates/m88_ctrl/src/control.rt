@@ -187,7 +187,9 @@ impl Control {
     }
 
     /// Sets or clears the carry.
-    #[tactic(auto, using(crate::proofs::Carry::set, crate::proofs::Carry::cleared, crate::proofs::Carry::shown))]
+    #[tactic(auto, using(
+    // the carry that is set, that is cleared, and that is read back
+    crate::proofs::Carry::set, crate::proofs::Carry::cleared, crate::proofs::Carry::shown))]
     pub fn set_carry(&mut self, c: bool)
         ensures state { self.new ≡ record self.old { psr = with_carry c self.old.psr } }
         ensures carry { carry_of self.new ≡ c }

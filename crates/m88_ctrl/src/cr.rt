@@ -8,7 +8,7 @@ pub const PSR: u8 = 1;
 pub const EPSR: u8 = 2;
 /// The scoreboard that an exception saves: bit n says that register n waits, and bit 0 is never set.
 pub const SSBR: u8 = 3;
-/// The pointer to the instruction in execution that an exception saves.
+/// The pointer to the instruction retired last that an exception saves.
 pub const SXIP: u8 = 4;
 /// The pointer to the next instruction that an exception saves.
 pub const SNIP: u8 = 5;

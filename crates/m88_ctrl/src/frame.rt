@@ -7,7 +7,7 @@ use m88_base::Triple;
 pub struct Frame {
     /// The registers that wait, a bit for each.
     pub ssbr: u32,
-    /// The word of the pointer to the instruction in execution.
+    /// The word of the pointer to the instruction retired last.
     pub sxip: u32,
     /// The word of the pointer to the next instruction.
     pub snip: u32,

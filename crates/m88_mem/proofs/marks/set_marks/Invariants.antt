@@ -1,3 +1,4 @@
+-- The marks of the pages so far are set.
 use Rattle.std.proofs.Common.{ℕ, ◌≡◌, ◌==◌, ◌||◌, false, take, slice_index_or}
 use Rattle.std.specs.List.{list_any}
 use Rattle.m88_mem.proofs.marks.set_marks.Given as goal

@@ -1,3 +1,4 @@
+-- What the walk over all words finds is what changed.
 use Rattle.std.proofs.Common.{[], ◌++◌, ◌≡◌, ◌^◌, ◌∙◌, ap, append-nil, nat_cmp, subst, sym}
 use Rattle.std.proofs.lemmas.Map.Iter.{rest_all}
 use Rattle.std.specs.List.Sorted.{IsStrictlySortedBy}

@@ -1,3 +1,4 @@
+-- The words found so far, and behind them those that the rest of the walk finds, are those of the whole walk.
 use Rattle.std.proofs.Common.{◌≡◌, ◌++◌, ◌^◌}
 use Rattle.m88_mem.proofs.Walk.{walk}
 use Rattle.m88_mem.specs.DataBus.{image_bus}

@@ -1,3 +1,4 @@
+-- A word that gets a place of its own keeps its value.
 use Rattle.std.proofs.Common.{◌/◌, ◌∙◌, ap, sym, unwrap_or}
 use Rattle.std.proofs.Math.Path.{fun_ext}
 use Rattle.std.specs.BTreeMap.{is_at}

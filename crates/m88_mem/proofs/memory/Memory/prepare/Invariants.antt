@@ -1,3 +1,4 @@
+-- The words of the page so far have places.
 use Rattle.std.proofs.Common.{ℕ, ◌≡◌, ◌<◌, ◌+◌, ◌*◌, true}
 use Rattle.m88_mem.specs.DataBus.{MemoryView, absent_of, bus_of, has_place, ready_of}
 use Rattle.m88_mem.proofs.memory.Memory.prepare.Given as goal
