@@ -1,3 +1,4 @@
+-- What only helps the proofs: fields and uses, a module's statements, its object, and the image of a unit.
 pub mod FieldLaw
 pub mod Relocating
 pub mod Rooms

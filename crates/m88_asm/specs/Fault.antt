@@ -1,4 +1,4 @@
--- Want of memory as a fault of the assembler: line 0 and column 0.
+-- Memory that ran out as a fault of the assembler: line 0 and column 0.
 use Rattle.m88_asm.specs.declared.fault.AsmFault.{AsmFault}
 use Rattle.m88_asm.specs.declared.fault.AsmKind.TheVariants.{Memory}
 

@@ -8,7 +8,7 @@ use std::alloc::{AllocError, AllocFailed};
 use std::error::Error;
 use std::fmt;
 
-/// What a statement meets that can't be laid out.
+/// Why a statement can't be laid out.
 #[derive(Clone, Copy, PartialEq, Eq, Debug)]
 pub enum AsmKind {
     /// A name that its module has defined before, with the line of the first definition.
@@ -40,15 +40,14 @@ impl fmt::Display for AsmKind {
 
 impl Error for AsmKind {}
 
-/// The first fault of a unit: its line and column, both from 1, and its kind. Want of memory has line 0
-/// and column 0.
+/// The first fault of a unit. Where memory ran out, line and column are 0.
 #[derive(Clone, Copy, PartialEq, Eq, Debug)]
 pub struct AsmFault {
     /// The line, from 1.
     pub line: u32,
     /// The column, from 1.
     pub col: u32,
-    /// The kind.
+    /// The reason.
     pub kind: AsmKind,
 }
 
