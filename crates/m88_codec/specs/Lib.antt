@@ -1,1 +1,2 @@
+-- Words for the contracts of private functions; the word table itself is a definition of m88_isa.
 pub mod Candidate

@@ -98,67 +98,43 @@ fn changes_of_flow_and_what_waits(rt: HostRuntime) {
 #[test]
 fn data_of_loads(rt: HostRuntime) {
     let word = 0x81C2_A3F4;
-    let loaded = [
-        datum(15, false, word),
-        datum(12, false, word),
-        datum(3, false, word),
-        datum(8, false, word),
-        datum(4, false, word),
-        datum(2, false, word),
-        datum(1, false, word),
-        datum(12, true, word),
-        datum(3, true, word),
-        datum(8, true, word),
-        datum(4, true, word),
-        datum(2, true, word),
-        datum(1, true, word),
-        datum(12, true, 0x7FFF_8000),
-        datum(3, true, 0x7FFF_8000),
-        datum(8, true, 0x7FFF_8000),
-        datum(2, true, 0x7FFF_8000),
+    let rows = [
+        (datum(15, false, word), 0x81C2_A3F4),
+        (datum(12, false, word), 0x81C2),
+        (datum(3, false, word), 0xA3F4),
+        (datum(8, false, word), 0x81),
+        (datum(4, false, word), 0xC2),
+        (datum(2, false, word), 0xA3),
+        (datum(1, false, word), 0xF4),
+        (datum(12, true, word), 0xFFFF_81C2),
+        (datum(3, true, word), 0xFFFF_A3F4),
+        (datum(8, true, word), 0xFFFF_FF81),
+        (datum(4, true, word), 0xFFFF_FFC2),
+        (datum(2, true, word), 0xFFFF_FFA3),
+        (datum(1, true, word), 0xFFFF_FFF4),
+        (datum(12, true, 0x7FFF_8000), 0x7FFF),
+        (datum(3, true, 0x7FFF_8000), 0xFFFF_8000),
+        (datum(8, true, 0x7FFF_8000), 0x7F),
+        (datum(2, true, 0x7FFF_8000), 0xFFFF_FF80),
     ];
-    let expected = [
-        0x81C2_A3F4,
-        0x81C2,
-        0xA3F4,
-        0x81,
-        0xC2,
-        0xA3,
-        0xF4,
-        0xFFFF_81C2,
-        0xFFFF_A3F4,
-        0xFFFF_FF81,
-        0xFFFF_FFC2,
-        0xFFFF_FFA3,
-        0xFFFF_FFF4,
-        0x7FFF,
-        0xFFFF_8000,
-        0x7F,
-        0xFFFF_FF80,
-    ];
-    assert_eq!(rt; loaded, expected);
+    for (given, expected) in rows {
+        assert!(rt; given == expected, "{given:08X} in place of {expected:08X}");
+    }
 }
 
 #[test]
 fn words_after_stores(rt: HostRuntime) {
     let (value, word) = (0x1122_3344, 0xAABB_CCDD);
-    let merged = [
-        merge(15, value, word),
-        merge(12, value, word),
-        merge(3, value, word),
-        merge(8, value, word),
-        merge(4, value, word),
-        merge(2, value, word),
-        merge(1, value, word),
+    let rows = [
+        (merge(15, value, word), 0x1122_3344),
+        (merge(12, value, word), 0x3344_CCDD),
+        (merge(3, value, word), 0xAABB_3344),
+        (merge(8, value, word), 0x44BB_CCDD),
+        (merge(4, value, word), 0xAA44_CCDD),
+        (merge(2, value, word), 0xAABB_44DD),
+        (merge(1, value, word), 0xAABB_CC44),
     ];
-    let expected = [
-        0x1122_3344,
-        0x3344_CCDD,
-        0xAABB_3344,
-        0x44BB_CCDD,
-        0xAA44_CCDD,
-        0xAABB_44DD,
-        0xAABB_CC44,
-    ];
-    assert_eq!(rt; merged, expected);
+    for (given, expected) in rows {
+        assert!(rt; given == expected, "{given:08X} in place of {expected:08X}");
+    }
 }

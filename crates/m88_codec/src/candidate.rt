@@ -181,6 +181,7 @@ fn control(d: Reg, s1: Reg, low: u32) -> Instr
     }
 }
 
+/// Whether a number is odd.
 fn odd(n: u32) -> bool
     ensures { result ≡ is_odd n }
 {
@@ -199,6 +200,7 @@ fn signed26(field: u32) -> i32
     }
 }
 
+/// The memory mnemonic of bits 31 to 26, or of bits 15 to 10 of a register form; `st.b` where there is none.
 #[tactic(auto, unfolding(crate::specs::Candidate::mem_op_at))]
 fn mem_op(code: u32) -> MemOp
     ensures { result ≡ mem_op_at code }
@@ -219,6 +221,7 @@ fn mem_op(code: u32) -> MemOp
     }
 }
 
+/// The immediate mnemonic of bits 31 to 26; `cmp` where there is none.
 #[tactic(auto, unfolding(crate::specs::Candidate::imm_op_at))]
 fn imm_op(code: u32) -> ImmOp
     ensures { result ≡ imm_op_at code }
@@ -243,6 +246,7 @@ fn imm_op(code: u32) -> ImmOp
     }
 }
 
+/// The mnemonic on three registers of bits 15 to 8; `cmp` where there is none.
 #[tactic(auto, unfolding(crate::specs::Candidate::reg_op_at))]
 fn reg_op(code: u32) -> RegOp
     ensures { result ≡ reg_op_at code }
@@ -277,6 +281,7 @@ fn reg_op(code: u32) -> RegOp
     }
 }
 
+/// The scale of a load of an address, of bits 15 to 8; `lda.h` where there is none.
 #[tactic(auto, unfolding(crate::specs::Candidate::lda_size_at))]
 fn lda_size(code: u32) -> LdaSize
     ensures { result ≡ lda_size_at code }
@@ -288,6 +293,7 @@ fn lda_size(code: u32) -> LdaSize
     }
 }
 
+/// The bit-field mnemonic of bits 15 to 11; `rot` where there is none.
 #[tactic(auto, unfolding(crate::specs::Candidate::bit_op_at))]
 fn bit_op(code: u32) -> BitOp
     ensures { result ≡ bit_op_at code }

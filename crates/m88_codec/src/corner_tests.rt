@@ -8,6 +8,7 @@ use m88_isa::{Effect, Plan};
 /// What a register holds that a row doesn't name.
 const ELSE: u32 = 0xDEAD_BEEF;
 
+/// The address of the instruction behind.
 const NEXT: u32 = 0x1004;
 
 /// r4, which is D in every row, takes a value; the carry stays set.

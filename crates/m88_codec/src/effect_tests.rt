@@ -6,14 +6,18 @@ use m88_base::Reg;
 use m88_isa::{Access, Accesses, Effect, Plan, plan};
 use std::process::Abort;
 
+/// The address of the instruction.
 const PC: u32 = 0x1000;
 
+/// The address of the instruction behind.
 const NEXT: u32 = 0x1004;
 
+/// The register in the place of D.
 fn d_of(word: u32) -> Reg {
     Reg::from_low_bits(word >> 21)
 }
 
+/// The register after D.
 fn after_d_of(word: u32) -> Reg {
     Reg::from_low_bits((word >> 21 & 31) + 1)
 }
@@ -28,11 +32,13 @@ pub(crate) fn registers(word: u32, s1: u32, s2: u32, d: u32, after_d: u32) -> [u
     regs
 }
 
+/// The plan of a word at these registers, where `next` is the address of the instruction that follows.
 pub(crate) fn planned(rt: &impl Abort, word: u32, regs: [u32; 32], carry: bool, next: u32) -> Plan {
     let instr = decode(word).ok().expect(rt, "a word of the table");
     plan(&instr, &regs, carry, PC, next)
 }
 
+/// An access that isn't there.
 pub(crate) fn no_access() -> Access {
     Access {
         write: false,
@@ -74,6 +80,7 @@ fn enable(place: u32, size: u32) -> u8 {
     }
 }
 
+/// A load of 1, 2 or 4 bytes, unsigned and neither half of a double word nor of an exchange.
 pub(crate) fn load(place: u32, size: u32, reg: Reg) -> Access {
     Access {
         addr: place - place % 4,
@@ -83,6 +90,7 @@ pub(crate) fn load(place: u32, size: u32, reg: Reg) -> Access {
     }
 }
 
+/// A store of the low 1, 2 or 4 bytes of a value.
 pub(crate) fn store(place: u32, size: u32, value: u32) -> Access {
     Access {
         write: true,

@@ -11,6 +11,7 @@ use super::codes::{byte_of_imm, byte_of_mem, code_of_bit, code_of_lda, code_of_r
 use m88_base::Reg;
 use m88_isa::{BitOp, Instr, MemOp};
 
+/// r0, in the place of a register that a form lacks.
 const R0: Reg = Reg::ZERO;
 
 /// The word of an instruction, as the word table adds up its fields.
@@ -110,7 +111,7 @@ fn bit_literal(op: BitOp, d: Reg, s1: Reg, width: u8, offset: u8) -> u32
     literal(code, d.number(), s1)
 }
 
-/// A trap: its code with the mark of `tb1`, the number in the place of D, S1 and the vector.
+/// A trap: its code, with the mark of `tb1` where `set`, the number in the place of D, S1 and the vector.
 fn trap(code: u32, set: bool, d: u8, s1: Reg, vector: u16) -> u32
     requires code_fits { code ≤ 0xE800 }
     requires d_fits { d < 32 }

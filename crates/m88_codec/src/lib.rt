@@ -13,6 +13,8 @@ mod decoder;
 
 // the word of four bytes
 mod bytes;
+
+// tests
 #[cfg(test)]
 mod call_tests;
 #[cfg(test)]
