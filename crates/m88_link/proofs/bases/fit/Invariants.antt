@@ -1,3 +1,4 @@
+-- The room that is left and the bytes of the objects so far are the whole room.
 use Rattle.std.proofs.Common.{◌≡◌, ◌+◌, take}
 use Rattle.m88_link.specs.Sizes.{total_size}
 use Rattle.m88_base.specs.Image.{most_bytes}

@@ -1,3 +1,4 @@
+-- The objects so far with those that are left are all where they are linked, and no end of those that are left is high.
 use Rattle.std.proofs.Common.{◌≡◌, ◌+◌, ◌*◌, ◌≤◌, ◌++◌, drop, sum_by}
 use Rattle.m88_link.specs.Bases.{first_text, section_size, stood, stood_from, up_to_multiple}
 use Rattle.m88_base.specs.Image.{most_bytes}

@@ -1,3 +1,4 @@
+-- From the end so far the objects that are left end where all objects do, and that isn't high.
 use Rattle.std.proofs.Common.{◌≡◌, ◌+◌, ◌*◌, ◌≤◌, drop, sum_by}
 use Rattle.m88_link.specs.Bases.{first_text, section_size, text_end, up_to_multiple}
 use Rattle.m88_base.specs.Image.{most_bytes}

@@ -1,3 +1,4 @@
+-- A symbol that repeats a name is the first of all that does, and one that doesn't is one more in the table.
 use Rattle.std.proofs.Common.{◌≡◌, ◌+◌, ◌∷◌, [], ◌++◌, ◌∙◌, take, drop, sym, ap, subst, inl, inr, arith, append_assoc}
 use Rattle.std.specs.Prelude.{Some}
 use Rattle.std.specs.Option.{option_map}

@@ -1,3 +1,4 @@
+-- The table has the global ones of the symbols so far behind those it had, and none repeats a name.
 use Rattle.std.proofs.Common.{◌≡◌, ◌++◌, take}
 use Rattle.std.specs.Prelude.{None}
 use Rattle.m88_link.specs.Bases.{base_of}

@@ -1,3 +1,4 @@
+-- The first of an object's symbols that repeats a name is the first of all objects that does.
 use Rattle.std.proofs.Common.{◌≡◌, ◌+◌, [], ◌∙◌, take, drop, ap, subst, inl, inr, arith}
 use Rattle.std.proofs.lemmas.Result.{err_from_is_err_and}
 use Rattle.std.specs.Prelude.{Some, flat_map}

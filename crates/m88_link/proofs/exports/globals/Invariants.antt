@@ -1,3 +1,4 @@
+-- The table has the global symbols of the objects so far, and none repeats a name.
 use Rattle.std.proofs.Common.{◌≡◌, take}
 use Rattle.std.specs.Prelude.{flat_map, None}
 use Rattle.m88_link.specs.Layout.{globals_of}

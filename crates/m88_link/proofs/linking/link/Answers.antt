@@ -1,3 +1,4 @@
+-- Each fault is the layout's first, and where there is none the sections are apart, few enough, and linkable.
 use Rattle.std.proofs.Common.{◌≡◌, ◌<◌, ◌≤◌, ◌∙◌, false, true, refl, sym, ap, subst, inl, inr}
 use Rattle.std.proofs.lemmas.Bool.Decides.{leb_tells}
 use Rattle.std.proofs.lemmas.Result.{err_from_is_err_and}

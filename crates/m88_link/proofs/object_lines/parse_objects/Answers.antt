@@ -1,3 +1,4 @@
+-- A line without its LF and one that is refused are of the wrong form; one that is taken leaves the rest to read.
 use Rattle.std.proofs.Common.{inr, arith, length}
 use Rattle.m88_link.proofs.LineTurns.{given_objects, has_refused, has_taken, left_none, left_over, line_refused, line_taken, line_unended, lines_ended}
 use Rattle.m88_link.proofs.object_lines.parse_objects.Goals as goal

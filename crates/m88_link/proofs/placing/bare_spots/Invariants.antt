@@ -1,3 +1,4 @@
+-- The sections so far, as the object has them.
 use Rattle.std.proofs.Common.{◌≡◌, take, map}
 use Rattle.m88_link.specs.Carried.{unpatched}
 use Rattle.m88_link.proofs.placing.bare_spots.Given as goal

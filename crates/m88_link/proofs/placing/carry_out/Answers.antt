@@ -1,3 +1,4 @@
+-- One relocation carried out leaves the others to carry out, and its section as long as it was.
 use Rattle.std.proofs.Common.{◌+◌, ◌∙◌, drop, get_or, sym, ap, subst, arith}
 use Rattle.std.specs.Prelude.{slice_set}
 use Rattle.m88_link.specs.Carried.{HasWord, carried, patched_spot}

@@ -1,3 +1,4 @@
+-- The relocations that are left come to what all come to, and each word lies in its section.
 use Rattle.std.proofs.Common.{◌≡◌, drop}
 use Rattle.std.specs.Prelude.{All}
 use Rattle.m88_link.specs.Carried.{HasWord, carried}

@@ -1,3 +1,4 @@
+-- The bytes at an address and their number are the same in whatever order the sections are put.
 use Rattle.std.proofs.Common.{◌≤◌, ◌∙◌, sym, ap, subst, arith, length}
 use Rattle.std.proofs.lemmas.List.Sorted.{sum_by-IsPermutation}
 use Rattle.m88_base.specs.Image.{most_bytes}

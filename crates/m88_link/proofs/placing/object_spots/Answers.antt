@@ -1,3 +1,4 @@
+-- The word of each relocation lies in its section, and carried out section by section the bytes are the same.
 use Rattle.std.proofs.Common.{◌∙◌, map, sym, ap, subst}
 use Rattle.std.specs.Prelude.{All}
 use Rattle.m88_link.specs.Carried.{HasWord, unpatched, carried}

@@ -1,3 +1,4 @@
+-- The addresses of a section are free before it is put, and the image has its bytes then.
 use Rattle.std.proofs.Common.{◌∙◌, ap, arith, length}
 use Rattle.std.proofs.lemmas.List.Sums.{sum_by_more}
 use Rattle.m88_base.specs.Image.{byte_at}

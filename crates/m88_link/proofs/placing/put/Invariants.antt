@@ -1,3 +1,4 @@
+-- The image has the bytes of the sections so far and the start it had.
 use Rattle.std.proofs.Common.{◌≡◌, ℕ, take}
 use Rattle.m88_base.specs.Image.{byte_at, byte_count}
 use Rattle.m88_base.specs.Placed.{byte_among, count_among}

@@ -1,3 +1,4 @@
+-- Each clause by what one call of `read` answers.
 use Rattle.m88_link.proofs.Told.{told_form, told_range, told_read, told_refused, told_written}
 use Rattle.m88_link.proofs.read.read_objects.Goals as goal
 

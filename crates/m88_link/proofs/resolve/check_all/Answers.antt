@@ -1,3 +1,4 @@
+-- A symbol that means nothing is the first of all, and the first that is too far stays the first.
 use Rattle.std.proofs.Common.{◌+◌, ◌∷◌, [], ◌∙◌, take, drop, sym, ap, inl, inr, arith}
 use Rattle.std.proofs.lemmas.List.{map-append}
 use Rattle.std.specs.Option.{option_or}

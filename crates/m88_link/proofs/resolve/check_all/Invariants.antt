@@ -1,3 +1,4 @@
+-- The first that is too far so far is kept, and each symbol so far means something.
 use Rattle.std.proofs.Common.{◌≡◌, take}
 use Rattle.std.specs.Prelude.{None}
 use Rattle.std.specs.Option.{option_or}

@@ -1,3 +1,4 @@
+-- The first of an object's symbols that means nothing is the first of all objects', and so for one that is too far.
 use Rattle.std.proofs.Common.{◌+◌, ◌∙◌, take, drop, sym, ap, inl, inr, arith}
 use Rattle.std.proofs.lemmas.Result.{err_from_is_err_and}
 use Rattle.std.specs.Prelude.{flat_map}

@@ -1,3 +1,4 @@
+-- The first that is too far in the objects so far is kept, and each symbol in them means something.
 use Rattle.std.proofs.Common.{◌≡◌, take}
 use Rattle.std.specs.Prelude.{flat_map, None}
 use Rattle.m88_link.specs.Layout.{references_of}

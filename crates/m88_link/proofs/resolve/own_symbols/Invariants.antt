@@ -1,3 +1,4 @@
+-- The table has the symbols so far, and none of those that are left repeats a name.
 use Rattle.std.proofs.Common.{◌≡◌, take, drop}
 use Rattle.std.specs.Prelude.{None}
 use Rattle.m88_link.specs.Symbols.{repeated_after}

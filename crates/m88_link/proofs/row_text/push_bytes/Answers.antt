@@ -1,3 +1,4 @@
+-- Two digits that write no byte refuse them all, and two that write one leave the rest; at the end none is left over.
 use Rattle.std.proofs.Common.{◌∙◌, sym, refl}
 use Rattle.m88_link.proofs.Pairs.{last_turn, turn_more, turn_none}
 use Rattle.m88_link.proofs.row_text.push_bytes.Goals as goal

@@ -1,3 +1,4 @@
+-- The order in which the sections are gone through changes neither whether two have one address nor the least such one.
 use Rattle.std.proofs.Common.{subst, sym, rules}
 use Rattle.std.proofs.lemmas.List.Sorted.{IsNonDecreasingBy-from_sort_by_key}
 use Rattle.std.specs.List.Sorted.{IsNonDecreasingBy, IsPermutation}

@@ -1,3 +1,4 @@
+-- A section that begins below the end so far has the least double address; each other one moves the end or has no byte.
 use Rattle.std.proofs.Common.{◌+◌, ◌∙◌, take, subst, sym, arith}
 use Rattle.m88_link.specs.Spans.{IsSwept, IsLeastDouble}
 use Rattle.m88_link.proofs.Swept.{first_double_at, swept_all, swept_empty_at, swept_more_at}

@@ -1,3 +1,4 @@
+-- Where an address has two bytes, there is a second section that has it.
 use Rattle.std.proofs.Common.{◌∙◌, ◌≤◌, subst, sym, ap}
 use Rattle.std.specs.Prelude.{option_copied}
 use Rattle.m88_link.specs.Refusal.{hits}

@@ -1,3 +1,4 @@
+-- The rooms of the sections so far behind those before.
 use Rattle.std.proofs.Common.{◌≡◌, ◌++◌, take, map}
 use Rattle.m88_link.specs.Layout.{extent}
 use Rattle.m88_link.proofs.spans.push_extents.Given as goal

@@ -1,3 +1,4 @@
+-- The second one that has the address is the next of those that are left, or the one behind it while none was found.
 use Rattle.std.proofs.Common.{◌≡◌, drop, filter, slice_get, if◌then◌else◌}
 use Rattle.m88_link.specs.Refusal.{covers}
 use Rattle.m88_link.proofs.spans.second_at.Given as goal

@@ -1,3 +1,4 @@
+-- The lines of the objects so far.
 use Rattle.std.proofs.Common.{◌≡◌, take}
 use Rattle.std.specs.Prelude.{flat_map}
 use Rattle.m88_link.specs.ObjectText.{object_lines}

@@ -1,3 +1,4 @@
+-- The digits of the bytes so far behind the text before.
 use Rattle.std.proofs.Common.{◌≡◌, ◌++◌, take}
 use Rattle.std.specs.Prelude.{flat_map}
 use Rattle.m88_base.specs.Hex.{hex2}

@@ -1,3 +1,4 @@
+-- One byte line more, with as many bytes as a line has or those that are left.
 use Rattle.std.proofs.Common.{◌++◌, ◌∙◌, ◌-◌, ◌*◌, take, drop, sym, ap, append_assoc}
 use Rattle.m88_link.specs.ObjectText.{byte_line, byte_lines_before}
 use Rattle.m88_link.proofs.Chunks.{cut_line, one_more_line}

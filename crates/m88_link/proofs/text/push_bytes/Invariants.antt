@@ -1,3 +1,4 @@
+-- The byte lines so far behind the text before.
 use Rattle.std.proofs.Common.{◌≡◌, ◌++◌}
 use Rattle.m88_link.specs.ObjectText.{byte_lines_before}
 use Rattle.m88_link.proofs.text.push_bytes.Given as goal

@@ -1,3 +1,4 @@
+-- A relocation that patches no word is the first, and where none is found all patch words.
 use Rattle.std.proofs.Common.{arith, length, refl}
 use Rattle.m88_link.specs.Sound.{IsPatchIn}
 use Rattle.m88_link.proofs.Walks.{all_of, all_one, found_one, len_taken}

@@ -1,3 +1,4 @@
+-- A symbol that isn't sound behind the others is the first, and one that is sound is one more in the table.
 use Rattle.m88_link.proofs.Walks.{name_more, symbol_fails, symbol_holds}
 use Rattle.m88_link.proofs.walk.walk_symbols.Goals as goal
 

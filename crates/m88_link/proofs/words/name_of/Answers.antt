@@ -1,3 +1,4 @@
+-- `Name::new` takes the bytes just where they are one name.
 use Rattle.m88_link.proofs.Divided.{told_name}
 use Rattle.m88_link.proofs.words.name_of.Goals as goal
 

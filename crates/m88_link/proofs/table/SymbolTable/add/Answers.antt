@@ -1,3 +1,4 @@
+-- One symbol more stands behind the others under its own name, and no two have one name.
 use Rattle.std.proofs.Common.{◌∙◌, ap, ◌++◌, ◌∷◌, []}
 use Rattle.m88_link.specs.Symbols.{symbol_of}
 use Rattle.m88_link.proofs.Tabled.{grown}
