@@ -45,11 +45,6 @@ run_then s t u xs ys e f = run-append s xs ys ∙ ap (λ o. o >>= λ t. run t ys
 run_one : (s t : Progress) (line : List ℕ) → line_step s line ≡ Some t → run s (line ∷ []) ≡ Some t
 run_one s t line e = ap (λ o. o >>= λ t. run t []) e
 
--- a line that gives no bytes begins otherwise than one that gives some
-other_line : (s : Progress) (b : ℕ) (bs : List ℕ) → (b == 61) ≡ false → line_step s (b ∷ bs) ≡ (row_in (b ∷ bs) >>= row_step s)
-unfolding line_step
-other_line s b bs e = ap (λ (v : Bool). if v then within s (bytes_step bs) else (row_in (b ∷ bs) >>= row_step s)) e
-
 head_line : (s : Progress) (p : Place) (h : SectionHead) → line_step s (place_text p h) ≡ (row_in (place_text p h) >>= row_step s)
 unfolding line_step
 head_line s Text h = refl

@@ -1,9 +1,9 @@
 -- A layout is linkable or has one refusal, never both.
-use Rattle.std.proofs.Common.{◌≡◌, ℕ, ◌<◌, ◌≤◌, true, false, Some, None, List, inl, inr, ap, sym, ◌∙◌, subst, arith}
+use Rattle.std.proofs.Common.{◌≡◌, true, false, Some, List, inl, inr, ap, sym, ◌∙◌, arith}
 use Rattle.std.specs.Prelude.{filter, slice_get}
 use Rattle.std.proofs.lemmas.Bool.{cases_lt}
 use Rattle.m88_link.specs.Layout.{Extent, Layout}
-use Rattle.m88_link.specs.Refusal.{AreDisjoint, IsLinkable, IsOverlap, IsRefused, covers, hits, is_too_large, symbol_fault}
+use Rattle.m88_link.specs.Refusal.{AreDisjoint, IsLinkable, IsOverlap, IsRefused, covers}
 use Rattle.m88_link.specs.declared.fault.LinkFault.{LinkFault}
 use Rattle.m88_link.specs.declared.fault.LinkKind.TheVariants as kind
 

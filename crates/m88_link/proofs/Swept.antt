@@ -11,7 +11,13 @@ use Rattle.std.specs.List.{AllByRecursion}
 use Rattle.std.specs.List.Sorted.{IsNonDecreasingBy}
 use Rattle.m88_link.specs.Layout.{Extent}
 use Rattle.m88_link.specs.Refusal.{covers, hits, AreDisjoint}
-use Rattle.m88_link.specs.Spans.{IsLeastDouble, IsSwept}
+use Rattle.m88_link.specs.Spans.{IsLeastDouble}
+
+-- sections in ascending order without an address that two of them have, the last byte just below `reach`
+pub record IsSwept (reach : ℕ) (extents : List Extent) : Type 0 where
+  pub once : (a : ℕ) → hits extents a ≤ 1
+  pub past : (a : ℕ) → reach ≤ a → hits extents a ≡ 0
+  pub within : (a : ℕ) → AllByRecursion (λ e. e.at ≤ a) extents → a < reach → 1 ≤ hits extents a
 
 -- how many bytes one section has at an address
 abbrev one : ℕ → Extent → ℕ
@@ -45,9 +51,6 @@ all_front P (x ∷ xs) ys h = (h.0, all_front P xs ys h.1)
 all_last : (P : Extent → Type 0) (xs : List Extent) (y : Extent) → AllByRecursion P (xs ++ y ∷ []) → P y
 all_last P [] y h = h.0
 all_last P (x ∷ xs) y h = all_last P xs y h.1
-
-pub swept_none : IsSwept 0 []
-swept_none = record { once = λ a. omega arith; past = λ a h. refl; within = λ a h k. absurd (omega arith) }
 
 pub swept_empty : (reach : ℕ) (es : List Extent) (e : Extent) → IsSwept reach es → e.len ≡ 0 → IsSwept reach (es ++ e ∷ [])
 swept_empty reach es e s h = record {

@@ -113,9 +113,6 @@ module _ (sections : List Section) (ss : List Symbol) (s : Symbol) where
     All-last IsGlobalIfStart ss s h.start,
   )
 
-pub no_symbols : (sections : List Section) → AreSoundSymbols sections []
-no_symbols sections = record { defined = λ k d h. absurd (omega arith); names = refl; start = λ k d h. absurd (omega arith) }
-
 -- a symbol that isn't sound behind those before it
 module _ (sections : List Section) (xs : List Symbol) (i : ℕ) (x : Symbol) (within : i < length xs) (is : x ≡ get_or xs i x)
     (names : List Symbol) (b : Bool) (named : names ≡ take i xs)

@@ -1,4 +1,4 @@
--- Want of memory as a fault of the linker, which no layout has: line 0 and column 0.
+-- Memory that ran out as a fault of the linker, which no layout has: line 0 and column 0.
 use Rattle.m88_link.specs.declared.fault.LinkFault.{LinkFault}
 use Rattle.m88_link.specs.declared.fault.LinkKind.TheVariants.{Memory}
 

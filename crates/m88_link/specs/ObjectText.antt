@@ -1,6 +1,6 @@
 -- Object files as text (object file formats: sections, symbol table, relocation entries): lines that end with LF, of
 -- words parted by one blank.
-use Rattle.std.specs.Prelude.{ℕ, zero, suc, ◌+◌, ◌-◌, ◌*◌, ◌/◌, List, [], ◌++◌, codes, decimal, drop, take, length, flat_map, Option, None, Some, if◌then◌else◌}
+use Rattle.std.specs.Prelude.{ℕ, zero, suc, ◌+◌, ◌-◌, ◌*◌, ◌/◌, List, [], ◌∷◌, ◌++◌, codes, decimal, drop, take, length, flat_map, Option, None, Some, if◌then◌else◌}
 use Rattle.m88_base.specs.Hex.{hex2, hex8}
 use Rattle.m88_base.specs.Lines.{line_end}
 use Rattle.m88_base.specs.declared.fixup.Kind.{Kind}
@@ -12,9 +12,13 @@ use Rattle.m88_link.specs.declared.object.Reloc.{Reloc}
 use Rattle.m88_link.specs.declared.object.Section.{Section}
 use Rattle.m88_link.specs.declared.object.Symbol.{Symbol}
 
+-- the byte between two words
+abbrev pub blank_byte : ℕ
+blank_byte = 32
+
 -- the blank between two words
 abbrev pub blank : List ℕ
-blank = codes " "
+blank = blank_byte ∷ []
 
 -- a line with bytes, two digits each
 abbrev pub byte_line : List ℕ → List ℕ

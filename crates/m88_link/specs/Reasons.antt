@@ -3,6 +3,7 @@
 use Rattle.std.specs.Prelude.{ℕ, List, ◌++◌, codes, decimal}
 use Rattle.std.specs.Fmt.{signed_decimal}
 use Rattle.m88_base.specs.Hex.{hex8}
+use Rattle.m88_base.specs.Refused.{placed_reason}
 use Rattle.m88_link.specs.declared.fault.LinkKind.{LinkKind}
 use Rattle.m88_link.specs.declared.fault.LinkKind.TheVariants as kind
 use Rattle.m88_link.specs.declared.object_fault.ObjectFault.{ObjectFault}
@@ -29,6 +30,6 @@ object_reason object.Memory = codes "out of memory"
 
 -- a fault of a text of objects, behind the line that it is told at if it has one, and column 1
 unfoldable pub object_fault_text : ObjectFault → List ℕ
-object_fault_text (object.Form line) = decimal line ++ codes ":1 " ++ object_reason (object.Form line)
-object_fault_text (object.Range line) = decimal line ++ codes ":1 " ++ object_reason (object.Range line)
+object_fault_text (object.Form line) = placed_reason line 1 (object_reason (object.Form line))
+object_fault_text (object.Range line) = placed_reason line 1 (object_reason (object.Range line))
 object_fault_text object.Memory = object_reason object.Memory

@@ -17,15 +17,12 @@ use Rattle.m88_link.specs.declared.row.Keyword.TheVariants as word
 use Rattle.m88_link.specs.declared.row.Row.{Row}
 use Rattle.m88_link.specs.declared.row.Row.TheVariants.{Begin, Head, Define, Patch, End}
 use Rattle.m88_link.specs.declared.row.SectionHead.{SectionHead}
+use Rattle.m88_link.specs.ObjectText.{blank_byte}
 
 infixl 10 ◌>>=◌
 -- one step and then another, where the first has a result
 abbrev pub ◌>>=◌ : {A B : Type 0} → Option A → (A → Option B) → Option B
 o >>= f = option_and_then f o
-
--- the blank between two words of a line, as a byte
-abbrev pub blank_byte : ℕ
-blank_byte = 32
 
 -- the first word of a line and what stands behind its blank
 abbrev pub first_word : List ℕ → Option (List ℕ × List ℕ)

@@ -29,9 +29,14 @@ impl<'a> Model for Placement<'a> {
 
     ghost Value = { PlacementValue };
 
-    ghost view = { λ p. record { object = p.object.now; text_at = p.text_at; data_at = p.data_at } };
+    ghost view = { λ p. record {
+      object = p.object.now;
+      text_at = p.text_at;
+      data_at = p.data_at;
+    } };
 
-    ghost invariant = { λ p. IsSound p.object.now × (p.text_at + section_size 0 p.object.now ≤ 2 ^ 32)
+    ghost invariant = { λ p. IsSound p.object.now
+        × (p.text_at + section_size 0 p.object.now ≤ 2 ^ 32)
         × (p.data_at + section_size 1 p.object.now ≤ 2 ^ 32) };
 }
 
@@ -89,7 +94,7 @@ impl Placement<'_> {
         requires { IsPatchIn self.now.object.sections reloc.now }
         ensures { result ≡ base_of self.now reloc.now.section + reloc.now.offset }
     {
-        // By what every placement keeps, which a read of a field tells the proof, the sum fits.
+        // Reading a field brings what every placement keeps to the proof: the sum fits.
         let _ = &self.object;
         self.base(reloc.section) + reloc.offset
     }

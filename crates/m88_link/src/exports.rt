@@ -37,7 +37,7 @@ fn export_all(
         (exported (base_of placement.now) symbols.now) result }
 {
     for symbol in symbols {
-        // No `?` here: the check has no proof for it in this loop.
+        // No `?`: the proof of this loop isn't found with it.
         match export(table, placement, symbol) {
             Ok(()) => {}
             Err(fault) => return Err(fault),

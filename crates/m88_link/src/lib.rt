@@ -6,6 +6,8 @@
 mod fault;
 mod object;
 mod object_fault;
+mod sound;
+mod table;
 
 // Parts of linking.
 mod bases;
@@ -14,14 +16,11 @@ mod linking;
 mod patch;
 mod placing;
 mod resolve;
-mod sound;
 mod spans;
-mod table;
 #[cfg(test)]
 mod tests;
-mod text;
 
-// Parts of reading object texts.
+// Object texts, written and read.
 mod object_draft;
 mod object_lines;
 mod progress;
@@ -30,6 +29,7 @@ mod read;
 mod read_tests;
 mod row;
 mod row_text;
+mod text;
 mod walk;
 mod words;
 

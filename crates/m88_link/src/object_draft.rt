@@ -24,7 +24,12 @@ impl Model for Filling {
 
     ghost Value = { Filled };
 
-    ghost view = { λ f. record { place = f.place; line = f.line; bytes = f.bytes.items; missing = f.missing } };
+    ghost view = { λ f. record {
+      place = f.place;
+      line = f.line;
+      bytes = f.bytes.items;
+      missing = f.missing;
+    } };
 }
 
 /// An object of which not all lines came: its whole sections, the one whose bytes come, its symbols
@@ -65,7 +70,7 @@ impl Filling {
         }
     }
 
-    /// Takes the digits of 32 bytes more, or of those that are missing.
+    /// Takes the digits of one line more: as many bytes as a line has, or those that are missing.
     #[tactic(auto, unfolding(crate::specs::Drafts::more_bytes))]
     fn more(&mut self, digits: &[u8]) -> Result<bool, AllocError>
         ensures { TakesOrRefuses result self.new (more_bytes digits.now self.old) }

@@ -15,8 +15,7 @@ pub fn distance(target: u32, at: u32) -> u32
 
 /// Whether a displacement is a multiple of 4 that, in words, a signed field of `width` bits takes.
 fn is_near(width: u32, d: u32) -> bool
-    requires narrow { width < 32 }
-    requires reach { 2 ^ (width + 1) ≤ 2 ^ 31 }
+    requires { 2 ^ (width + 1) ≤ 2 ^ 31 }
     ensures { result ≡ is_near width d }
 {
     let reach = 2_u32.pow(width + 1);

@@ -138,7 +138,7 @@ fn carry_out(
     }
 }
 
-/// The image of sections, no two of which have one address; it starts at 0x00001000.
+/// The image of sections, no two of which have one address.
 pub fn image_of(alloc: Global, mut spots: Vec<Spot>) -> Result<Image, AllocError>
     requires alone { AreAlone spots.items }
     requires fit { count_among spots.items ≤ most_bytes }

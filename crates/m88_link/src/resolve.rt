@@ -103,7 +103,7 @@ fn check_all(
     ensures { Checks globals.now placement.now relocs.now far.old far.new result }
 {
     for reloc in relocs {
-        // No `?` here: the check has no proof for it in this loop.
+        // No `?`: the proof of this loop isn't found with it.
         match check(far, globals, placement, own, reloc) {
             Ok(()) => {}
             Err(fault) => return Err(fault),

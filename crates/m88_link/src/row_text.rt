@@ -6,7 +6,7 @@ ghost use Rattle.m88_link.specs.Rows.{at_of, byte_by_digits, bytes_behind, head_
 use crate::object::{Place, Reloc, Symbol};
 use crate::row::{Keyword, Row, SectionHead};
 use crate::words::{
-    hex8_word, kind_word, name_of, name_word, number_of, number_word, scope_word, section_word,
+    hex8_word, kind_word_of, name_of, name_word, number_of, number_word, scope_word, section_word_of,
 };
 use m88_base::split_at_byte;
 use std::alloc::AllocError;
@@ -35,12 +35,12 @@ fn at_of(text: &[u8]) -> Option<SectionHead>
 fn symbol_in(text: &[u8]) -> Option<Symbol>
     ensures { result ≡ symbol_in text.now }
 {
-    // No `?` here: it has no proof for a name beside a slice.
+    // No `?`: no proof is found for it where a name comes with a slice.
     let Some((name, rest)) = name_word(text) else {
         return None;
     };
     let (global, rest) = scope_word(rest)?;
-    let (section, rest) = section_word(rest)?;
+    let (section, rest) = section_word_of(rest)?;
     let (value, rest) = hex8_word(rest)?;
     let (line, rest) = number_word(rest)?;
     let col = number_of(rest)?;
@@ -59,10 +59,10 @@ fn symbol_in(text: &[u8]) -> Option<Symbol>
 fn reloc_in(text: &[u8]) -> Option<Reloc>
     ensures { result ≡ reloc_in text.now }
 {
-    let (kind, rest) = kind_word(text)?;
+    let (kind, rest) = kind_word_of(text)?;
     let (section, rest) = number_word(rest)?;
     let (offset, rest) = hex8_word(rest)?;
-    // No `?` here: it has no proof for a name beside a slice.
+    // No `?`: no proof is found for it where a name comes with a slice.
     let Some((symbol, rest)) = name_word(rest) else {
         return None;
     };

@@ -1,4 +1,4 @@
-//! Whether an object keeps what every object keeps.
+//! Whether an object is sound.
 ghost use Rattle.std.specs.Prelude.{◌≡◌, ◌↔◌, None, IsTrue, option_copied};
 ghost use Rattle.m88_link.specs.Sound.{AreSections, HasRoom, IsDefinedIn, IsPatchIn, IsGlobalIfStart, IsSound, origin};
 ghost use Rattle.m88_link.specs.Symbols.{first_repeated, symbol_of};
@@ -9,8 +9,8 @@ use m88_base::{MOST_BYTES, Name};
 /// Whether an object is sound. It has text and data as sections 0 and 1, and each other section has
 /// an address of its own; a section has at most 1,048,576 bytes, none past 0xFFFFFFFF; the sections of
 /// symbols and relocations exist, offsets lie in them, and each patched word at a multiple of 4; no
-/// two symbols have one name, and `_start` is global. It takes no memory; its time grows with the square of
-/// the number of symbols.
+/// two symbols have one name, and `_start` is global. It takes no memory; its time grows with the
+/// square of the number of symbols.
 pub fn is_sound(object: &Object) -> bool
     ensures { IsTrue result ↔ IsSound object.now }
 {

@@ -1,5 +1,5 @@
 //! The rooms that sections take, and the least address that two of them have.
-ghost use Rattle.std.specs.Prelude.{◌≡◌, ◌+◌, ◌^◌, ◌≤◌, ◌⊎◌, ◌++◌, All, IfErr, IfOk, MatchOption, MatchResult, OnOk, Some, option_copied, flat_map, length, map, slice_get, filter};
+ghost use Rattle.std.specs.Prelude.{◌≡◌, ◌+◌, ◌^◌, ◌≤◌, ◌⊎◌, ◌++◌, All, IfErr, IfOk, MatchOption, MatchResult, OnOk, option_copied, flat_map, length, map, slice_get, filter};
 ghost use Rattle.std.specs.List.Sorted.{IsNonDecreasingBy};
 ghost use Rattle.m88_link.specs.Bases.{base_at};
 ghost use Rattle.m88_link.specs.Faults.{memory_fault};

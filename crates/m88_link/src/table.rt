@@ -24,7 +24,8 @@ impl Model for SymbolTable {
 
     ghost view = { λ table. map (λ e. e.1) table.symbols.entries };
 
-    ghost invariant = { λ table. (table.symbols.entries ≡ map under_name (map (λ e. e.1) table.symbols.entries))
+    ghost invariant = { λ table.
+        (table.symbols.entries ≡ map under_name (map (λ e. e.1) table.symbols.entries))
         × (first_repeated (map (λ e. e.1) table.symbols.entries) ≡ None) };
 }
 

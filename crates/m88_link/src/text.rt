@@ -68,7 +68,7 @@ fn push_section(text: &mut Vec<u8>, section: &Section) -> Result<(), AllocError>
     text.push(b' ')?;
     push_decimal(text, u64::from(section.line))?;
     text.push(b'\n')?;
-    push_bytes(text, bytes)
+    push_byte_lines(text, bytes)
 }
 
 /// Appends the words for a section's place and its length.
@@ -94,7 +94,7 @@ fn push_place(text: &mut Vec<u8>, place: Place, len: u32) -> Result<(), AllocErr
 }
 
 /// Appends the byte lines of a section.
-fn push_bytes(text: &mut Vec<u8>, bytes: &[u8]) -> Result<(), AllocError>
+fn push_byte_lines(text: &mut Vec<u8>, bytes: &[u8]) -> Result<(), AllocError>
     requires { length bytes.now ≤ most_bytes }
     ensures { OnOk result (text.new.items ≡ text.old.items ++ byte_lines bytes.now) }
 {

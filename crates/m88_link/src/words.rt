@@ -95,7 +95,7 @@ pub fn scope_word(text: &[u8]) -> Option<(bool, &[u8])>
 
 /// The section of a symbol and what stands behind the word's blank.
 #[tactic(auto, unfolding(crate::specs::Rows::section_word_of))]
-pub fn section_word(text: &[u8]) -> Option<(Option<u32>, &[u8])>
+pub fn section_word_of(text: &[u8]) -> Option<(Option<u32>, &[u8])>
     ensures { MatchOption result (section_word_of text.now ≡ None)
         (λ p. section_word_of text.now ≡ Some (p.0, p.1.now)) }
 {
@@ -105,7 +105,7 @@ pub fn section_word(text: &[u8]) -> Option<(Option<u32>, &[u8])>
 
 /// The kind of a field and what stands behind the word's blank.
 #[tactic(auto, unfolding(crate::specs::Rows::kind_word_of))]
-pub fn kind_word(text: &[u8]) -> Option<(Kind, &[u8])>
+pub fn kind_word_of(text: &[u8]) -> Option<(Kind, &[u8])>
     ensures { MatchOption result (kind_word_of text.now ≡ None)
         (λ p. kind_word_of text.now ≡ Some (p.0, p.1.now)) }
 {

@@ -2,7 +2,7 @@
 use Rattle.std.proofs.Common.{◌++◌, ◌∙◌, ◌-◌, ◌*◌, take, drop, sym, ap, append_assoc}
 use Rattle.m88_link.specs.ObjectText.{byte_line, byte_lines_before}
 use Rattle.m88_link.proofs.Chunks.{cut_line, one_more_line}
-use Rattle.m88_link.proofs.text.push_bytes.Goals as goal
+use Rattle.m88_link.proofs.text.push_byte_lines.Goals as goal
 
 pub loop-n-preserved : goal.loop-n-preserved
 loop-n-preserved c =
