@@ -1,6 +1,5 @@
 //! The text of objects.
-ghost use Rattle.std.specs.Prelude.{◌≡◌, ◌≤◌, ◌++◌, All, IfOk, OnOk, flat_map, length};
-ghost use Rattle.m88_base.specs.Image.{most_bytes};
+ghost use Rattle.std.specs.Prelude.{◌≡◌, ◌++◌, All, IfOk, OnOk, flat_map};
 ghost use Rattle.m88_link.specs.ObjectText.{byte_line, byte_lines, field_words, kind_word, object_line, object_lines, objects_text, place_words, reloc_line, section_lines, section_word, source_words, symbol_line, target_words};
 ghost use Rattle.m88_link.specs.Sound.{HasRoom, IsSound};
 
@@ -95,13 +94,10 @@ fn push_place(text: &mut Vec<u8>, place: Place, len: u32) -> Result<(), AllocErr
 
 /// Appends the byte lines of a section.
 fn push_byte_lines(text: &mut Vec<u8>, bytes: &[u8]) -> Result<(), AllocError>
-    requires { length bytes.now ≤ most_bytes }
     ensures { OnOk result (text.new.items ≡ text.old.items ++ byte_lines bytes.now) }
 {
-    for n in 0..bytes.len().div_ceil(LINE_BYTES) {
-        let start = n * LINE_BYTES;
-        let end = bytes.len().min(start + LINE_BYTES);
-        push_byte_line(text, &bytes[start..end])?;
+    for line in bytes.chunks(LINE_BYTES) {
+        push_byte_line(text, line)?;
     }
     Ok(())
 }

@@ -1,16 +1,16 @@
--- One byte line more, with as many bytes as a line has or those that are left.
-use Rattle.std.proofs.Common.{◌++◌, ◌∙◌, ◌-◌, ◌*◌, take, drop, sym, ap, append_assoc}
-use Rattle.m88_link.specs.ObjectText.{byte_line, byte_lines_before}
-use Rattle.m88_link.proofs.Chunks.{cut_line, one_more_line}
+-- One byte line more, and no byte is left behind the last one.
+use Rattle.std.proofs.Common.{◌∙◌}
+use Rattle.m88_link.proofs.Chunks.{all_lines, one_line_more}
 use Rattle.m88_link.proofs.text.push_byte_lines.Goals as goal
 
-pub loop-n-preserved : goal.loop-n-preserved
-loop-n-preserved c =
-    let bytes = c.args.bytes.now in
-    let n = c.loop-n.n in
-    let line = byte_line (take 32 (drop (n * 32) bytes)) in
-    c.in_ok-push_byte_line.ensures
-    ∙ ap (λ l. c.loop-n.text.items ++ byte_line l) (ap (λ e. take (e - n * 32) (drop (n * 32) bytes)) c.min-end.ensures ∙ cut_line bytes n)
-    ∙ ap (λ l. l ++ line) c.loop-n.invariant
-    ∙ append_assoc c.args.text.now.items (byte_lines_before bytes n) line
-    ∙ ap (λ l. c.args.text.now.items ++ l) (sym (one_more_line bytes n))
+pub loop-line-preserved : goal.loop-line-preserved
+loop-line-preserved c =
+    let steps = c.in-Some.ensures.steps in
+    let size = rw c.loop-line.invariant.size at steps.1.1 in
+    record {
+      size = steps.0 ∙ c.loop-line.invariant.size;
+      lines = one_line_more _ _ _ _ _ _ _ c.loop-line.invariant.lines steps.1.0 size steps.1.2 c.in_ok-push_byte_line.ensures;
+    }
+
+pub returns : goal.returns
+returns c = all_lines _ _ _ _ c.loop-line.invariant.lines c.in-None.ensures.steps.1.0
