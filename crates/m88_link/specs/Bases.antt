@@ -45,10 +45,10 @@ stood objects = stood_from first_text (first_data objects) objects
 
 -- the address of a section's first byte, by its place
 abbrev pub base_at : Placement → Place → ℕ
-base_at s Text = s.text_at
-base_at s DataSection = s.data_at
-base_at s (At a) = a
+base_at p Text = p.text_at
+base_at p DataSection = p.data_at
+base_at p (At a) = a
 
 -- the address of the first byte of an object's section
 abbrev pub base_of : Placement → ℕ → ℕ
-base_of s k = option_map_or (λ x. base_at s x.place) (slice_get s.object.sections k) 0
+base_of p k = option_map_or (λ x. base_at p x.place) (slice_get p.object.sections k) 0

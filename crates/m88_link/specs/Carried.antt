@@ -8,7 +8,7 @@ use Rattle.m88_link.specs.Relocated.{patched}
 
 -- the bytes of a section as the object has them
 abbrev pub unpatched : Placement → Section → Placed
-unpatched s x = record { at = base_at s x.place; bytes = x.bytes }
+unpatched p x = record { at = base_at p x.place; bytes = x.bytes }
 
 -- the word of the relocation lies in its section
 abbrev pub HasWord : List Placed → Reloc → Type 0

@@ -54,34 +54,34 @@ reference globals base symbols r = record {
 
 -- the global definitions of an object
 abbrev pub globals_of : Placement → List Symbol
-globals_of s = exported (base_of s) s.object.symbols
+globals_of p = exported (base_of p) p.object.symbols
 
 -- the uses of symbols in an object
 abbrev pub references_of : List Symbol → Placement → List Reference
-references_of globals s = map (reference globals (base_of s) s.object.symbols) s.object.relocs
+references_of globals p = map (reference globals (base_of p) p.object.symbols) p.object.relocs
 
 -- the room of a section of an object
 abbrev pub extent : Placement → Section → Extent
-extent s x = record { at = base_at s x.place; len = length x.bytes; line = x.line }
+extent p x = record { at = base_at p x.place; len = length x.bytes; line = x.line }
 
 -- the room of the sections of an object
 abbrev pub extents_of : Placement → List Extent
-extents_of s = map (extent s) s.object.sections
+extents_of p = map (extent p) p.object.sections
 
 -- the value of a name in an object, 0 where it means nothing
 abbrev pub value_of_name : List Symbol → Placement → List ℕ → ℕ
-value_of_name globals s name = unwrap_or (symbol_meaning globals (base_of s) s.object.symbols name) 0
+value_of_name globals p name = unwrap_or (symbol_meaning globals (base_of p) p.object.symbols name) 0
 
 -- the bytes of section k of an object
 abbrev pub spot : List Symbol → Placement → ℕ → Section → Placed
-spot globals s k x = record {
-  at = base_at s x.place;
-  bytes = relocated (value_of_name globals s) (base_of s) k s.object.relocs x.bytes;
+spot globals p k x = record {
+  at = base_at p x.place;
+  bytes = relocated (value_of_name globals p) (base_of p) k p.object.relocs x.bytes;
 }
 
 -- the bytes of the sections of an object
 abbrev pub spots_of : List Symbol → Placement → List Placed
-spots_of globals s = map (λ e. spot globals s e.0 e.1) (enumerate_from 0 s.object.sections)
+spots_of globals p = map (λ e. spot globals p e.0 e.1) (enumerate_from 0 p.object.sections)
 
 -- the layout of objects that stand somewhere
 abbrev pub layout_at : List Placement → Layout

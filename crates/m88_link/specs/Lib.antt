@@ -14,7 +14,7 @@ pub mod ObjectText
 pub mod ObjectRead
 pub mod Tables
 pub mod Sizes
-pub mod Spans
+pub mod Overlap
 pub mod Exports
 pub mod Resolved
 pub mod Carried

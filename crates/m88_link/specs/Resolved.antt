@@ -11,12 +11,12 @@ use Rattle.m88_link.specs.Refusal.{too_far, undefined}
 
 -- relocations of an object as uses of their symbols
 abbrev pub uses_in : List Symbol → Placement → List Reloc → List Reference
-uses_in globals s relocs = map (reference globals (base_of s) s.object.symbols) relocs
+uses_in globals p relocs = map (reference globals (base_of p) p.object.symbols) relocs
 
 -- each symbol means something and the first that is too far is kept, or the first that means nothing is the fault
 abbrev pub Checks : List Symbol → Placement → List Reloc → Option LinkFault → Option LinkFault
     → Result (Unit {0}) LinkFault → Type 0
-Checks globals s relocs old new result =
+Checks globals p relocs old new result =
     MatchResult result
-    (λ _. (new ≡ option_or old (too_far (uses_in globals s relocs))) × (undefined (uses_in globals s relocs) ≡ None))
-    (λ e. (e ≡ memory_fault) ⊎ (undefined (uses_in globals s relocs) ≡ Some e))
+    (λ _. (new ≡ option_or old (too_far (uses_in globals p relocs))) × (undefined (uses_in globals p relocs) ≡ None))
+    (λ e. (e ≡ memory_fault) ⊎ (undefined (uses_in globals p relocs) ≡ Some e))

@@ -13,10 +13,10 @@ mod table;
 mod bases;
 mod exports;
 mod linking;
+mod overlap;
 mod patch;
 mod placing;
 mod resolve;
-mod spans;
 #[cfg(test)]
 mod tests;
 

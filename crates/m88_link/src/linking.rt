@@ -12,7 +12,7 @@ use crate::fault::{LinkFault, TOO_LARGE};
 use crate::object::Object;
 use crate::placing::{image_of, spots};
 use crate::resolve::check_references;
-use crate::spans::check_overlap;
+use crate::overlap::check_overlap;
 use crate::table::SymbolTable;
 use m88_base::{FIRST_TEXT, Image, Name};
 use std::alloc::Global;

@@ -4,8 +4,8 @@ ghost use Rattle.std.specs.List.Sorted.{IsNonDecreasingBy};
 ghost use Rattle.m88_link.specs.Bases.{base_at};
 ghost use Rattle.m88_link.specs.Faults.{memory_fault};
 ghost use Rattle.m88_link.specs.Layout.{extent, extents_of};
+ghost use Rattle.m88_link.specs.Overlap.{IsLeastDouble};
 ghost use Rattle.m88_link.specs.Refusal.{AreDisjoint, IsOverlap, covers};
-ghost use Rattle.m88_link.specs.Spans.{IsLeastDouble};
 
 use crate::bases::Placement;
 use crate::fault::{LinkFault, LinkKind};
@@ -15,24 +15,24 @@ use std::marker::Model;
 
 /// The addresses that a section takes, none past 0xFFFFFFFF, and the line that opened it.
 #[derive(Drop)]
-struct Span {
+struct Extent {
     at: u32,
     len: usize,
     line: u32,
 }
 
-impl Model for Span {
+impl Model for Extent {
     ghost use Rattle.std.specs.Prelude.{◌+◌, ◌^◌, ◌≤◌};
-    ghost use Rattle.m88_link.specs.Layout.{Extent};
+    ghost use Rattle.m88_link.specs.Layout.{Extent as ExtentValue};
 
-    ghost Value = { Extent };
+    ghost Value = { ExtentValue };
 
-    ghost view = { λ span. record { at = span.at; len = span.len; line = span.line } };
+    ghost view = { λ extent. record { at = extent.at; len = extent.len; line = extent.line } };
 
-    ghost invariant = { λ span. span.at + span.len ≤ 2 ^ 32 };
+    ghost invariant = { λ extent. extent.at + extent.len ≤ 2 ^ 32 };
 }
 
-impl Span {
+impl Extent {
     /// The first address.
     fn at(&self) -> u32
         ensures { result ≡ self.now.at }
@@ -71,28 +71,28 @@ impl Span {
 }
 
 /// The rooms of all sections, in the order of objects and section numbers.
-fn extents(alloc: Global, placements: &[Placement]) -> Result<Vec<Span>, AllocError>
-    ensures { IfOk result (λ spans. spans.items ≡ flat_map extents_of placements.now) }
+fn extents(alloc: Global, placements: &[Placement]) -> Result<Vec<Extent>, AllocError>
+    ensures { IfOk result (λ extents. extents.items ≡ flat_map extents_of placements.now) }
 {
-    let mut spans = Vec::new(alloc);
+    let mut extents = Vec::new(alloc);
     for placement in placements {
-        push_extents(&mut spans, placement, placement.sections())?;
+        push_extents(&mut extents, placement, placement.sections())?;
     }
-    Ok(spans)
+    Ok(extents)
 }
 
 /// Appends the rooms of sections of an object.
 fn push_extents(
-    spans: &mut Vec<Span>,
+    extents: &mut Vec<Extent>,
     placement: &Placement,
     sections: &[Section],
 ) -> Result<(), AllocError>
     requires { All (λ x. base_at placement.now x.place + length x.bytes ≤ 2 ^ 32) sections.now }
     ensures { OnOk result
-        (spans.new.items ≡ spans.old.items ++ map (extent placement.now) sections.now) }
+        (extents.new.items ≡ extents.old.items ++ map (extent placement.now) sections.now) }
 {
     for section in sections {
-        spans.push(Span {
+        extents.push(Extent {
             at: placement.base_at(section.place),
             len: section.bytes.as_slice().len(),
             line: section.line,
@@ -102,31 +102,31 @@ fn push_extents(
 }
 
 /// The least address that two of the sections have, which are in ascending order.
-fn first_double(spans: &[Span]) -> Option<u32>
-    requires { IsNonDecreasingBy (λ e. e.at) spans.now }
-    ensures { MatchOption result (AreDisjoint spans.now) (IsLeastDouble spans.now) }
+fn first_double(extents: &[Extent]) -> Option<u32>
+    requires { IsNonDecreasingBy (λ e. e.at) extents.now }
+    ensures { MatchOption result (AreDisjoint extents.now) (IsLeastDouble extents.now) }
 {
     let mut reach = 0;
-    for span in spans {
-        if span.len() > 0 {
-            if (span.at() as usize) < reach {
-                return Some(span.at());
+    for extent in extents {
+        if extent.len() > 0 {
+            if (extent.at() as usize) < reach {
+                return Some(extent.at());
             }
-            reach = span.end();
+            reach = extent.end();
         }
     }
     None
 }
 
 /// The second section that has an address.
-fn second_at(spans: &[Span], at: u32) -> Option<&Span>
-    ensures { option_copied result ≡ slice_get (filter (covers at) spans.now) 1 }
+fn second_at(extents: &[Extent], at: u32) -> Option<&Extent>
+    ensures { option_copied result ≡ slice_get (filter (covers at) extents.now) 1 }
 {
     let mut has_first = false;
-    for span in spans {
-        if span.covers(at) {
+    for extent in extents {
+        if extent.covers(at) {
             if has_first {
-                return Some(span);
+                return Some(extent);
             }
             has_first = true;
         }
@@ -140,9 +140,9 @@ pub fn check_overlap(alloc: Global, placements: &[Placement]) -> Result<(), Link
     ensures err { IfErr result (λ e. (e ≡ memory_fault)
         ⊎ IsOverlap (flat_map extents_of placements.now) e) }
 {
-    let mut spans = extents(alloc, placements)?;
-    spans.sort_unstable_by_key(|span| span.at());
-    match first_double(&spans) {
+    let mut extents = extents(alloc, placements)?;
+    extents.sort_unstable_by_key(|extent| extent.at());
+    match first_double(&extents) {
         None => Ok(()),
         Some(at) => overlap(alloc, placements, at),
     }
@@ -154,8 +154,8 @@ fn overlap(alloc: Global, placements: &[Placement], at: u32) -> Result<(), LinkF
     ensures { MatchResult result (λ _. ⊥) (λ e. (e ≡ memory_fault)
         ⊎ IsOverlap (flat_map extents_of placements.now) e) }
 {
-    let spans = extents(alloc, placements)?;
-    match second_at(&spans, at) {
+    let extents = extents(alloc, placements)?;
+    match second_at(&extents, at) {
         Some(second) => Err(LinkFault {
             line: second.line(),
             col: 1,
