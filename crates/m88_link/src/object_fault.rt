@@ -44,7 +44,8 @@ impl fmt::Display for ObjectFault {
     fn fmt<W: fmt::Write>(&self, f: &mut fmt::Formatter<W>) -> fmt::Result {
         match self {
             ObjectFault::Form { line } | ObjectFault::Range { line } => {
-                write!(f, "{line}:1 {}", self.reason())
+                let col = 1_u32;
+                write!(f, "{line}:{col} {}", self.reason())
             }
             ObjectFault::Memory => f.write_str(self.reason()),
         }
