@@ -6,7 +6,8 @@ ghost use Rattle.m88_link.specs.Rows.{at_of, byte_by_digits, bytes_behind, head_
 use crate::object::{Place, Reloc, Symbol};
 use crate::row::{Keyword, Row, SectionHead};
 use crate::words::{
-    hex8_word, kind_word_of, name_of, name_word, number_of, number_word, scope_word, section_word_of,
+    hex8_word, kind_word_of, name_of, name_word, number_of, number_word, scope_word,
+    section_word_of,
 };
 use m88_base::split_at_byte;
 use std::alloc::AllocError;
