@@ -1,12 +1,12 @@
 -- The choices that the paths of an event come to.
 use Rattle.std.specs.Prelude.{ℕ, Bool, true, false, List, [], ◌∷◌, Option, Some, ◌≡◌, ◌<◌, ◌==◌, ◌&&◌, is_some, length, slice_get, slice_index, if◌then◌else◌}
 use Rattle.std.proofs.Common.{arith, refl, sym, ap, ◌∙◌, subst}
-use Rattle.m88_event.specs.Choice.{Choice, answer_choice, faults, finishes, holds, replies, serves, turn_choice}
+use Rattle.m88_event.specs.Choice.{Choice, answer_choice, faults, finishes, replies, serves, turn_choice}
 use Rattle.m88_event.specs.declared.happened.Happened.{Happened}
 use Rattle.m88_event.specs.declared.record.Record.{Record}
 use Rattle.m88_isa.proofs.Alone.{by_test}
 use Rattle.m88_isa.specs.Bus.{page_number, waits_for}
-use Rattle.m88_isa.specs.Held.{is_pending, sync}
+use Rattle.m88_isa.specs.Held.{is_pending}
 use Rattle.m88_isa.specs.Machine.{Stop, by_vector, exits, trapped}
 use Rattle.m88_isa.specs.Monitor.{exit_service, monitor_trap, put_service, service_register}
 use Rattle.m88_isa.specs.declared.planned.Access.{Access}

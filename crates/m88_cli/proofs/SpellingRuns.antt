@@ -5,7 +5,7 @@ use Rattle.m88_base.specs.declared.absent.Absent.{Absent}
 use Rattle.m88_event.specs.Letters.{IsSchedule}
 use Rattle.m88_event.specs.declared.letter.Letter.{Letter}
 use Rattle.m88_mem.specs.Marks.{absent_in}
-use Rattle.m88_cli.specs.Command.{Command, IsLimit, Spells, SpellsRun, run, exec}
+use Rattle.m88_cli.specs.Command.{Command, IsLimit, Spells, run, exec}
 use Rattle.m88_cli.specs.Limits.{most_limit}
 use Rattle.m88_cli.specs.Numbers.{IsShortNumber}
 use Rattle.m88_cli.specs.Pages.{IsAbsent}

@@ -1,5 +1,5 @@
 -- It waits, or the program ends.
-use Rattle.std.proofs.Common.{◌≡◌, ◌∙◌, ap, sym, subst}
+use Rattle.std.proofs.Common.{◌∙◌, ap, sym}
 use Rattle.m88_board.specs.Board.{BoardView, pc_of}
 use Rattle.m88_event.specs.declared.happened.End.TheVariants.{Vector}
 use Rattle.m88_isa.specs.Machine.{by_vector}
