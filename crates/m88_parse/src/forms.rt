@@ -1,9 +1,8 @@
 //! The operands of an instruction, by the form of its mnemonic.
 ghost use Rattle.std.specs.Prelude.{◌≡◌, ◌≤◌, IfOk};
 ghost use Rattle.m88_parse.specs.Fault.{Gives};
-ghost use Rattle.m88_parse.specs.Reader.Grammar.{read, either_form, immediate_form, registers_form, memory_form, user_memory_form, address_form, bits_form, find_bit_form, branch_form, branch_bit_form, branch_cond_form, jump_form, trap_bit_form, trap_cond_form, bounds_form, ldcr_form, stcr_form, xcr_form, code_only, form_of};
+ghost use Rattle.m88_parse.specs.Reader.Grammar.{read, either_form, immediate_form, registers_form, memory_form, user_memory_form, address_form, bits_form, find_bit_form, branch_form, branch_bit_form, branch_cond_form, jump_form, trap_bit_form, trap_cond_form, bounds_form, ldcr_form, stcr_form, xcr_form, form_of};
 ghost use Rattle.m88_parse.specs.Language.Operands.{most_width};
-ghost use Rattle.m88_isa.specs.declared.instr.Instr.TheVariants.{Rte};
 ghost use Rattle.m88_parse.specs.WellFormed.{IsFormedBody};
 
 use crate::fault::ParseFault;
@@ -41,8 +40,7 @@ impl<'a> Parser<'a> {
         ensures value { Gives (λ b. b) result (read (either_form imm reg) self.old) }
         ensures body { IfOk result IsFormedBody }
     {
-        let d = self.register_comma()?;
-        let s1 = self.register_comma()?;
+        let (d, s1) = self.two_registers_comma()?;
         let body = match self.operand()? {
             Operand::Register(s2) => Body::Code(Instr::Regs { op: reg, d, s1, s2 }, None),
             Operand::Immediate(x) => Body::Code(
@@ -64,8 +62,7 @@ impl<'a> Parser<'a> {
         ensures value { Gives (λ b. b) result (read (immediate_form op) self.old) }
         ensures body { IfOk result IsFormedBody }
     {
-        let d = self.register_comma()?;
-        let s1 = self.register_comma()?;
+        let (d, s1) = self.two_registers_comma()?;
         let x = self.immediate()?;
         self.close(Body::Code(
             Instr::Imm {
@@ -84,8 +81,7 @@ impl<'a> Parser<'a> {
         ensures value { Gives (λ b. b) result (read (registers_form op) self.old) }
         ensures body { IfOk result IsFormedBody }
     {
-        let d = self.register_comma()?;
-        let s1 = self.register_comma()?;
+        let (d, s1) = self.two_registers_comma()?;
         let s2 = self.register()?;
         self.close(Body::Code(Instr::Regs { op, d, s1, s2 }, None))
     }
@@ -96,8 +92,7 @@ impl<'a> Parser<'a> {
         ensures value { Gives (λ b. b) result (read (memory_form op) self.old) }
         ensures body { IfOk result IsFormedBody }
     {
-        let d = self.register_comma()?;
-        let s1 = self.register()?;
+        let (d, s1) = self.two_registers()?;
         let body = match self.index()? {
             Index::Scaled(s2) => Body::Code(
                 Instr::MemReg {
@@ -140,8 +135,7 @@ impl<'a> Parser<'a> {
         ensures value { Gives (λ b. b) result (read (user_memory_form op) self.old) }
         ensures body { IfOk result IsFormedBody }
     {
-        let d = self.register_comma()?;
-        let s1 = self.register()?;
+        let (d, s1) = self.two_registers()?;
         let (s2, scaled) = self.user_index()?;
         self.close(Body::Code(
             Instr::MemReg {
@@ -162,8 +156,7 @@ impl<'a> Parser<'a> {
         ensures value { Gives (λ b. b) result (read (address_form size) self.old) }
         ensures body { IfOk result IsFormedBody }
     {
-        let d = self.register_comma()?;
-        let s1 = self.register()?;
+        let (d, s1) = self.two_registers()?;
         let s2 = self.scaled()?;
         self.close(Body::Code(Instr::Lda { size, d, s1, s2 }, None))
     }
@@ -174,8 +167,7 @@ impl<'a> Parser<'a> {
         ensures value { Gives (λ b. b) result (read (bits_form op) self.old) }
         ensures body { IfOk result IsFormedBody }
     {
-        let d = self.register_comma()?;
-        let s1 = self.register_comma()?;
+        let (d, s1) = self.two_registers_comma()?;
         let instr = match self.field(most_width(op))? {
             Field::Register(s2) => Instr::BitReg { op, d, s1, s2 },
             Field::Literal { width, offset } => Instr::BitLit {
@@ -195,8 +187,7 @@ impl<'a> Parser<'a> {
         ensures value { Gives (λ b. b) result (read (find_bit_form ones) self.old) }
         ensures body { IfOk result IsFormedBody }
     {
-        let d = self.register_comma()?;
-        let s2 = self.register()?;
+        let (d, s2) = self.two_registers()?;
         self.close(Body::Code(Instr::Find { ones, d, s2 }, None))
     }
 
@@ -346,19 +337,9 @@ impl<'a> Parser<'a> {
         ensures value { Gives (λ b. b) result (read (xcr_form float) self.old) }
         ensures body { IfOk result IsFormedBody }
     {
-        let d = self.register_comma()?;
-        let s1 = self.register_comma()?;
+        let (d, s1) = self.two_registers_comma()?;
         let cr = self.control(float)?;
         self.close(Body::Code(Instr::Xcr { d, s1, cr, float }, None))
-    }
-
-    /// Nothing.
-    #[tactic(auto, unfolding(crate::specs::Reader::Grammar::read))]
-    fn nothing(&mut self) -> Result<Body, ParseFault>
-        ensures value { Gives (λ b. b) result (read (code_only Rte) self.old) }
-        ensures body { IfOk result IsFormedBody }
-    {
-        self.close(Body::Code(Instr::Rte, None))
     }
 
     /// The operands of an instruction, to the end of the line.
@@ -383,7 +364,7 @@ impl<'a> Parser<'a> {
             Shape::TrapBit { set } => self.trap_bit(set),
             Shape::TrapCond => self.trap_cond(),
             Shape::Bounds => self.bounds(),
-            Shape::Return => self.nothing(),
+            Shape::Return => self.close(Body::Code(Instr::Rte, None)),
             Shape::Ldcr { float } => self.ldcr(float),
             Shape::Stcr { float } => self.stcr(float),
             Shape::Xcr { float } => self.xcr(float),

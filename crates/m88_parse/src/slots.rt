@@ -1,7 +1,7 @@
 //! Operands of one or a few tokens, each from the place where it is wanted.
 ghost use Rattle.std.specs.Prelude.{◌≡◌, ◌≤◌, ◌<◌, ◌==◌, ◌||◌, length, IfOk, OnOk};
 ghost use Rattle.m88_parse.specs.Fault.{Gives};
-ghost use Rattle.m88_parse.specs.Reader.Slots.{unsigned_at, negated, signed_at, register_at, register_comma_at, control_at, bit_at, mask_at, symbol_at, addend_at, fixup_at, value_at, any_name_at, alignment_at};
+ghost use Rattle.m88_parse.specs.Reader.Slots.{unsigned_at, negated, signed_at, register_at, register_comma_at, two_registers_at, two_registers_comma_at, control_at, bit_at, mask_at, symbol_at, addend_at, fixup_at, value_at, any_name_at, alignment_at};
 ghost use Rattle.m88_parse.specs.WellFormed.{IsOfKind, IsAlignment};
 
 use crate::fault::{ParseFault, ParseKind};
@@ -89,6 +89,26 @@ impl<'a> Parser<'a> {
         let r = self.register()?;
         self.mark(b',')?;
         Ok(r)
+    }
+
+    /// The numbers of two general registers with a comma between them.
+    #[tactic(auto, unfolding(crate::specs::Reader::Slots::two_registers_at))]
+    pub fn two_registers(&mut self) -> Result<(Reg, Reg), ParseFault>
+        ensures { Gives (λ x. (x, self.new)) result (two_registers_at self.old) }
+    {
+        let d = self.register_comma()?;
+        let s1 = self.register()?;
+        Ok((d, s1))
+    }
+
+    /// The same, and the comma behind them.
+    #[tactic(auto, unfolding(crate::specs::Reader::Slots::two_registers_comma_at))]
+    pub fn two_registers_comma(&mut self) -> Result<(Reg, Reg), ParseFault>
+        ensures { Gives (λ x. (x, self.new)) result (two_registers_comma_at self.old) }
+    {
+        let d = self.register_comma()?;
+        let s1 = self.register_comma()?;
+        Ok((d, s1))
     }
 
     /// The number of a control register, of the floating-point unit where `float`.

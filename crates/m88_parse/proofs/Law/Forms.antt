@@ -1,6 +1,6 @@
 -- The law of forms, in one walk over their slots: what is read by a form is what each of its slots is related to, the
 -- other way round, and each fault is the one of the language.
-use Rattle.std.proofs.Common.{◌≡◌, ◌↔◌, ℕ, Bool, List, [], Result, Ok, Err, refl}
+use Rattle.std.proofs.Common.{◌≡◌, ◌↔◌, ℕ, Bool, false, List, [], Result, Ok, Err, refl}
 use Rattle.m88_base.specs.declared.reg.Reg.{Reg}
 use Rattle.m88_base.specs.declared.fixup.Kind.TheVariants.{Abs32}
 use Rattle.m88_parse.specs.declared.fault.ParseFault.{ParseFault}
@@ -14,17 +14,17 @@ use Rattle.m88_parse.specs.declared.operand.Field.{Field}
 use Rattle.m88_parse.specs.declared.operand.Target.{Target}
 use Rattle.m88_parse.specs.Language.Pieces.{Piece}
 use Rattle.m88_parse.specs.Reader.State.{ReaderState, ◌>>=◌}
-use Rattle.m88_parse.specs.Reader.Slots.{Read, mark_at, register_at, register_comma_at, signed_at}
-use Rattle.m88_parse.specs.Reader.Grammar.{Form, ends, comma_then, register_then, register_comma_then, control_then, bit_then, mask_then, unsigned_then, alignment_then, symbol_then, bound_then, text_then, signed_ends, immediate_ends, operand_ends, scaled_ends, index_ends, user_index_ends, field_ends, target_ends, words_end, parts_end, modulus_of, end_with, read}
+use Rattle.m88_parse.specs.Reader.Slots.{Read, mark_at, register_at, register_comma_at, two_registers_at, two_registers_comma_at, signed_at}
+use Rattle.m88_parse.specs.Reader.Grammar.{Form, ends, comma_then, register_then, register_comma_then, two_registers_then, two_registers_comma_then, control_then, bit_then, mask_then, unsigned_then, alignment_then, symbol_then, bound_then, text_then, signed_ends, immediate_ends, operand_ends, scaled_ends, index_ends, user_index_ends, field_ends, target_ends, words_end, parts_end, modulus_of, end_with, read}
 use Rattle.m88_parse.specs.Language.Names.{IsRegister, IsControl, IsBit, IsCondition}
 use Rattle.m88_parse.specs.Language.Operands.{IsScaled, IsSigned, IsValue}
 use Rattle.m88_parse.specs.Language.Statements.{AreParted}
 use Rattle.m88_parse.proofs.Law.Targets.{IsTargetOf, target_start}
 use Rattle.m88_parse.proofs.Law.Lists.{words_walk, parts_walk}
-use Rattle.m88_parse.proofs.Law.Slots.{st, one_register, one_control, one_bit, one_mask, IsUpTo, one_number, IsSymbolAt, one_symbol, IsText, one_text, IsPower, one_alignment}
+use Rattle.m88_parse.proofs.Law.Slots.{st, own_names, one_register, one_control, one_bit, one_mask, IsUpTo, one_number, IsSymbolAt, one_symbol, IsText, one_text, IsPower, one_alignment}
 use Rattle.m88_parse.proofs.Law.Values.{IsWhole, signed_start}
 use Rattle.m88_parse.proofs.Law.Operands.{IsImmediateOf, immediate_start, IsOperandOf, operand_start, IsBoundOf, one_bound}
-use Rattle.m88_parse.proofs.Law.Walks.{Then, AfterComma, Last, Ends, Walk, begun, lawful, start_as, end_start, mark_start, slot_start, last_start}
+use Rattle.m88_parse.proofs.Law.Walks.{Reading, Relation, followed, Followed, Then, AfterComma, Last, Ends, Walk, Start, begun, lawful, start_as, end_start, mark_start, slot_start, last_start}
 use Rattle.m88_parse.proofs.Law.Indices.{scaled_start, IsIndexOf, index_start, IsUserIndexOf, user_index_start, IsFieldOf, field_start}
 
 -- the tokens that each slot of a form is related to, and the body that they make
@@ -32,7 +32,9 @@ abbrev pub Meets : Form → List Piece → Body → Type 0
 Meets (ends made) ps b = (ps ≡ []) × (made ≡ b)
 Meets (comma_then form) ps b = AfterComma (λ qs. Meets form qs b) ps
 Meets (register_then form) ps b = Then Reg IsRegister (λ x qs. Meets (form x) qs b) ps
-Meets (register_comma_then form) ps b = Then Reg IsRegister (λ x qs. AfterComma (λ rs. Meets (form x) rs b) qs) ps
+Meets (register_comma_then form) ps b = Then Reg IsRegister (λ x. AfterComma (λ qs. Meets (form x) qs b)) ps
+Meets (two_registers_then form) ps b = Then Reg IsRegister (λ d. AfterComma (λ qs. Then Reg IsRegister (λ s1 rs. Meets (form d s1) rs b) qs)) ps
+Meets (two_registers_comma_then form) ps b = Then Reg IsRegister (λ d. AfterComma (λ qs. Then Reg IsRegister (λ s1. AfterComma (λ rs. Meets (form d s1) rs b)) qs)) ps
 Meets (control_then float form) ps b = Then ℕ (IsControl float) (λ x qs. Meets (form x) qs b) ps
 Meets (bit_then form) ps b = Then ℕ IsBit (λ x qs. Meets (form x) qs b) ps
 Meets (mask_then form) ps b = Then ℕ IsCondition (λ x qs. Meets (form x) qs b) ps
@@ -54,33 +56,67 @@ Meets (parts_end part made) ps b = Last (List ℕ) (AreParted (IsSigned (modulus
 
 -- a register and the comma behind it, one after the other
 
-parted : (form : Reg → Form) (s : ReaderState) → (register_comma_at s >>= λ (x : Reg × ReaderState). read (form x.0) x.1)
-    ≡ (register_at s >>= λ (x : Reg × ReaderState). mark_at 44 x.1 >>= read (form x.0))
+parted : (next : Reg → Reading Body) (s : ReaderState) → followed register_comma_at next s
+    ≡ (register_at s >>= λ (x : Reg × ReaderState). mark_at 44 x.1 >>= next x.0)
 unfolding register_comma_at
-parted form s = by_register (register_at s)
+parted next s = by_register (register_at s)
   where
     by_mark : (r : Reg) (m : Result ReaderState ParseFault)
-        → ((m >>= λ (t : ReaderState). let y : Read Reg = Ok (r, t) in y) >>= λ (x : Reg × ReaderState). read (form x.0) x.1) ≡ (m >>= read (form r))
+        → ((m >>= λ (t : ReaderState). let y : Read Reg = Ok (r, t) in y) >>= λ (x : Reg × ReaderState). next x.0 x.1) ≡ (m >>= next r)
     by_mark r (Ok t) = refl
     by_mark r (Err f) = refl
 
     by_register : (r : Read Reg)
-        → ((r >>= λ (x : Reg × ReaderState). mark_at 44 x.1 >>= λ (t : ReaderState). let y : Read Reg = Ok (x.0, t) in y) >>= λ (x : Reg × ReaderState). read (form x.0) x.1)
-        ≡ (r >>= λ (x : Reg × ReaderState). mark_at 44 x.1 >>= read (form x.0))
+        → ((r >>= λ (x : Reg × ReaderState). mark_at 44 x.1 >>= λ (t : ReaderState). let y : Read Reg = Ok (x.0, t) in y) >>= λ (x : Reg × ReaderState). next x.0 x.1)
+        ≡ (r >>= λ (x : Reg × ReaderState). mark_at 44 x.1 >>= next x.0)
     by_register (Ok x) = by_mark x.0 (mark_at 44 x.1)
     by_register (Err f) = refl
+
+-- what stands behind a register and its comma
+abbrev Behind : (Reg → Relation Body) → Relation Body
+Behind Next ps b = Then Reg IsRegister (λ x. AfterComma (λ qs. Next x qs b)) ps
+
+register_comma_start : {few line e : ℕ} (next : Reg → Reading Body) (Next : Reg → Relation Body) → ((x : Reg) → Walk few line e (next x) (Next x))
+    → Start few false own_names line e (followed register_comma_at next) (Behind Next)
+register_comma_start {line = line} {e = e} next Next go =
+    start_as (followed register_comma_at next) (Behind Next) (λ ps. parted next (st line e ps)) (λ ps b. (λ w. w, λ w. w))
+    (slot_start (one_register line e) (λ x s. mark_at 44 s >>= next x) (λ x qs b. AfterComma (λ rs. Next x rs b) qs) (λ x. begun (mark_start 44 refl refl (go x))))
+
+-- two registers, one after the other
+
+paired : (slot : ReaderState → Read Reg) (next : Reg → Reg → Reading Body) (s : ReaderState)
+    → ((register_comma_at s >>= λ (d : Reg × ReaderState). slot d.1 >>= λ (s1 : Reg × ReaderState). let y : Read (Reg × Reg) = Ok ((d.0, s1.0), s1.1) in y) >>= λ (x : (Reg × Reg) × ReaderState). next x.0.0 x.0.1 x.1)
+    ≡ followed register_comma_at (λ d. followed slot (next d)) s
+paired slot next s = by_first (register_comma_at s)
+  where
+    by_second : (d : Reg) (r : Read Reg)
+        → ((r >>= λ (s1 : Reg × ReaderState). let y : Read (Reg × Reg) = Ok ((d, s1.0), s1.1) in y) >>= λ (x : (Reg × Reg) × ReaderState). next x.0.0 x.0.1 x.1)
+        ≡ (r >>= λ (s1 : Reg × ReaderState). next d s1.0 s1.1)
+    by_second d (Ok x) = refl
+    by_second d (Err f) = refl
+
+    by_first : (r : Read Reg)
+        → ((r >>= λ (d : Reg × ReaderState). slot d.1 >>= λ (s1 : Reg × ReaderState). let y : Read (Reg × Reg) = Ok ((d.0, s1.0), s1.1) in y) >>= λ (x : (Reg × Reg) × ReaderState). next x.0.0 x.0.1 x.1)
+        ≡ (r >>= λ (d : Reg × ReaderState). followed slot (next d.0) d.1)
+    by_first (Ok x) = by_second x.0 (slot x.1)
+    by_first (Err f) = refl
 
 -- each form, walked once
 
 pub form_walk : (form : Form) (few line e : ℕ) → Walk few line e (read form) (Meets form)
-unfolding read
+unfolding read two_registers_at two_registers_comma_at
 form_walk (ends made) few line e = begun (end_start few line e made)
 form_walk (comma_then form) few line e = begun (mark_start 44 refl refl (form_walk form few line e))
 form_walk (register_then form) few line e = begun (slot_start (one_register line e) (λ x. read (form x)) (λ x. Meets (form x)) (λ x. form_walk (form x) few line e))
-form_walk (register_comma_then form) few line e =
-    begun (start_as (read (register_comma_then form)) (Meets (register_comma_then form)) (λ ps. parted form (st line e ps)) (λ ps b. (λ w. w, λ w. w))
-    (slot_start (one_register line e) (λ x s. mark_at 44 s >>= read (form x)) (λ x qs b. AfterComma (λ rs. Meets (form x) rs b) qs)
-    (λ x. begun (mark_start 44 refl refl (form_walk (form x) few line e)))))
+form_walk (register_comma_then form) few line e = begun (register_comma_start (λ x. read (form x)) (λ x. Meets (form x)) (λ x. form_walk (form x) few line e))
+form_walk (two_registers_then form) few line e =
+    begun (start_as (read (two_registers_then form)) (Meets (two_registers_then form)) (λ ps. paired register_at (λ d s1. read (form d s1)) (st line e ps)) (λ ps b. (λ w. w, λ w. w))
+    (register_comma_start (λ d. followed register_at (λ s1. read (form d s1))) (λ d. Followed IsRegister (λ s1. Meets (form d s1)))
+    (λ d. begun (slot_start (one_register line e) (λ s1. read (form d s1)) (λ s1. Meets (form d s1)) (λ s1. form_walk (form d s1) few line e)))))
+form_walk (two_registers_comma_then form) few line e =
+    begun (start_as (read (two_registers_comma_then form)) (Meets (two_registers_comma_then form)) (λ ps. paired register_comma_at (λ d s1. read (form d s1)) (st line e ps)) (λ ps b. (λ w. w, λ w. w))
+    (register_comma_start (λ d. followed register_comma_at (λ s1. read (form d s1))) (λ d. Behind (λ s1. Meets (form d s1)))
+    (λ d. begun (register_comma_start (λ s1. read (form d s1)) (λ s1. Meets (form d s1)) (λ s1. form_walk (form d s1) few line e)))))
 form_walk (control_then float form) few line e = begun (slot_start (one_control float line e) (λ x. read (form x)) (λ x. Meets (form x)) (λ x. form_walk (form x) few line e))
 form_walk (bit_then form) few line e = begun (slot_start (one_bit line e) (λ x. read (form x)) (λ x. Meets (form x)) (λ x. form_walk (form x) few line e))
 form_walk (mask_then form) few line e = begun (slot_start (one_mask line e) (λ x. read (form x)) (λ x. Meets (form x)) (λ x. form_walk (form x) few line e))

@@ -34,7 +34,7 @@ use Rattle.m88_parse.specs.declared.directive.Directive.TheVariants as directive
 use Rattle.m88_parse.specs.Language.Bytes.{comma_mark}
 use Rattle.m88_parse.specs.Language.Operands.{most_width}
 use Rattle.m88_parse.specs.Reader.State.{ReaderState, trouble, past, is_next_mark, ◌>>=◌}
-use Rattle.m88_parse.specs.Reader.Slots.{Read, mark_at, line_end_at, unsigned_at, signed_at, register_at, register_comma_at, control_at, bit_at, mask_at, symbol_at, value_at, text_at, alignment_at}
+use Rattle.m88_parse.specs.Reader.Slots.{Read, mark_at, line_end_at, unsigned_at, signed_at, register_at, register_comma_at, two_registers_at, two_registers_comma_at, control_at, bit_at, mask_at, symbol_at, value_at, text_at, alignment_at}
 use Rattle.m88_parse.specs.Reader.Operands.{immediate_at, operand_at, bound_at, scaled_at, index_at, user_index_at, field_at, target_at}
 
 -- one or more items with commas between them, at most so many
@@ -73,6 +73,8 @@ pub data Form : Type 0 where
   comma_then : Form → Form
   register_then : (Reg → Form) → Form
   register_comma_then : (Reg → Form) → Form
+  two_registers_then : (Reg → Reg → Form) → Form
+  two_registers_comma_then : (Reg → Reg → Form) → Form
   control_then : Bool → (ℕ → Form) → Form
   bit_then : (ℕ → Form) → Form
   mask_then : (ℕ → Form) → Form
@@ -102,6 +104,8 @@ read (ends b) s = end_with b s
 read (comma_then form) s = mark_at comma_mark s >>= λ t. read form t
 read (register_then form) s = register_at s >>= λ x. read (form x.0) x.1
 read (register_comma_then form) s = register_comma_at s >>= λ x. read (form x.0) x.1
+read (two_registers_then form) s = two_registers_at s >>= λ x. read (form x.0.0 x.0.1) x.1
+read (two_registers_comma_then form) s = two_registers_comma_at s >>= λ x. read (form x.0.0 x.0.1) x.1
 read (control_then float form) s = control_at float s >>= λ x. read (form x.0) x.1
 read (bit_then form) s = bit_at s >>= λ x. read (form x.0) x.1
 read (mask_then form) s = mask_at s >>= λ x. read (form x.0) x.1
@@ -124,14 +128,6 @@ read (parts_end part made) s = list_at (part_item_at part) s >>= λ x. end_with 
 -- an instruction with no fixup
 abbrev pub code_only : Instr → Form
 code_only i = ends (body.Code i None)
-
--- rD,rS1 and what follows
-abbrev pub two_registers : (Reg → Reg → Form) → Form
-two_registers form = register_comma_then (λ d. register_then (λ s1. form d s1))
-
--- rD,rS1 and what follows behind a comma
-abbrev pub two_parted : (Reg → Reg → Form) → Form
-two_parted form = register_comma_then (λ d. register_comma_then (λ s1. form d s1))
 
 -- the instruction of that operand
 abbrev pub either_body : ImmOp → RegOp → Reg → Reg → Operand → Body
@@ -156,37 +152,37 @@ bounds_body s1 (bound.Number imm) = body.Code (instr.BoundImm s1 imm) None
 
 -- rD,rS1 and an immediate or a register
 abbrev pub either_form : ImmOp → RegOp → Form
-either_form i r = two_parted (λ d s1. operand_ends (λ x. either_body i r d s1 x))
+either_form i r = two_registers_comma_then (λ d s1. operand_ends (λ x. either_body i r d s1 x))
 
 -- rD,rS1 and an immediate
 abbrev pub immediate_form : ImmOp → Form
 immediate_form i =
-    two_parted (λ d s1. immediate_ends (λ x. body.Code (instr.Imm i d s1 x.imm) x.fixup))
+    two_registers_comma_then (λ d s1. immediate_ends (λ x. body.Code (instr.Imm i d s1 x.imm) x.fixup))
 
 -- rD,rS1,rS2
 abbrev pub registers_form : RegOp → Form
-registers_form r = two_parted (λ d s1. register_then (λ s2. code_only (instr.Regs r d s1 s2)))
+registers_form r = two_registers_comma_then (λ d s1. register_then (λ s2. code_only (instr.Regs r d s1 s2)))
 
 -- rD,rS1 and an immediate, a register, or a scaled register
 abbrev pub memory_form : MemOp → Form
-memory_form op = two_registers (λ d s1. index_ends (λ x. memory_body op d s1 x))
+memory_form op = two_registers_then (λ d s1. index_ends (λ x. memory_body op d s1 x))
 
 -- rD,rS1 and a register or a scaled register, in the user's address space
 abbrev pub user_memory_form : MemOp → Form
 user_memory_form op =
-    two_registers (λ d s1. user_index_ends (λ s2 scaled. body.Code (instr.MemReg op d s1 s2 scaled true) None))
+    two_registers_then (λ d s1. user_index_ends (λ s2 scaled. body.Code (instr.MemReg op d s1 s2 scaled true) None))
 
 -- rD,rS1[rS2]
 abbrev pub address_form : LdaSize → Form
-address_form size = two_registers (λ d s1. scaled_ends (λ s2. body.Code (instr.Lda size d s1 s2) None))
+address_form size = two_registers_then (λ d s1. scaled_ends (λ s2. body.Code (instr.Lda size d s1 s2) None))
 
 -- rD,rS1 and a width and an offset, or a register
 abbrev pub bits_form : BitOp → Form
-bits_form op = two_parted (λ d s1. field_ends (most_width op) (λ x. bits_body op d s1 x))
+bits_form op = two_registers_comma_then (λ d s1. field_ends (most_width op) (λ x. bits_body op d s1 x))
 
 -- rD,rS2
 abbrev pub find_bit_form : Bool → Form
-find_bit_form ones = two_registers (λ d s2. code_only (instr.Find ones d s2))
+find_bit_form ones = two_registers_then (λ d s2. code_only (instr.Find ones d s2))
 
 -- a target in a field of 26 bits
 abbrev pub branch_form : Bool → Bool → Form
@@ -234,7 +230,7 @@ stcr_form float = register_comma_then (λ s1. control_then float (λ cr. code_on
 
 -- rD,rS1 and a control register
 abbrev pub xcr_form : Bool → Form
-xcr_form float = two_parted (λ d s1. control_then float (λ cr. code_only (instr.Xcr d s1 cr float)))
+xcr_form float = two_registers_comma_then (λ d s1. control_then float (λ cr. code_only (instr.Xcr d s1 cr float)))
 
 -- the form of an instruction
 unfoldable pub form_of : Shape → Form

@@ -80,6 +80,14 @@ register_at s = register_on s (first s)
 unfoldable pub register_comma_at : ReaderState → Read Reg
 register_comma_at s = register_at s >>= λ r. mark_at comma_mark r.1 >>= λ t. Ok (r.0, t)
 
+-- rD,rS1
+unfoldable pub two_registers_at : ReaderState → Read (Reg × Reg)
+two_registers_at s = register_comma_at s >>= λ d. register_at d.1 >>= λ s1. Ok ((d.0, s1.0), s1.1)
+
+-- rD,rS1 and a comma
+unfoldable pub two_registers_comma_at : ReaderState → Read (Reg × Reg)
+two_registers_comma_at s = register_comma_at s >>= λ d. register_comma_at d.1 >>= λ s1. Ok ((d.0, s1.0), s1.1)
+
 -- a control register, by what stands there
 abbrev pub control_on : Bool → ReaderState → Option TokenValue → Read ℕ
 control_on float s (Some (a_name text)) = meaning_or_fault s (control_in float text)
