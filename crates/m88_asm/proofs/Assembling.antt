@@ -4,7 +4,6 @@ use Rattle.std.specs.Prelude.{flat_map, ◌==◌, nat_lt, if◌then◌else◌, s
 use Rattle.std.specs.List.{enumerate_from}
 use Rattle.std.specs.Option.{option_or}
 use Rattle.std.proofs.Math.Path.{fun_ext}
-use Rattle.std.proofs.Math.ListN.{set}
 use Rattle.std.proofs.Math.Seq.{get_or-append_seam, map-set_same}
 use Rattle.std.proofs.lemmas.Bool.{cases_Bool, cases_order, cond-true, cond-false, eqb-true, eqb-false, eq-eqb, ne_eqb, or_parts, ltb-false}
 use Rattle.std.proofs.lemmas.Grind.{get_or-set_at}

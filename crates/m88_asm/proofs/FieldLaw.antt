@@ -21,9 +21,6 @@ use Rattle.m88_link.specs.Field.{distance, is_in_reach, is_near, patched_word}
 use Rattle.m88_asm.specs.Filled.{filled, half_of, words_of}
 
 -- a field of 16 bits behind a head
-half_filled : (head field : ℕ) → head % 2 ^ 16 ≡ 0 → head + field ≡ (head + 0) / 2 ^ 16 * 2 ^ 16 + field
-half_filled head field e = omega arith
-
 half_law : (kind : Kind) (head t p imm : ℕ) → (kind ≡ Hi16) ⊎ (kind ≡ Lo16) → head % 2 ^ 16 ≡ 0 → imm ≡ 0
     → head + half_of kind t ≡ patched_word kind (head + imm) t p
 half_law Hi16 head t p imm h e z = omega arith

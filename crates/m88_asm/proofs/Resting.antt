@@ -12,7 +12,7 @@ use Rattle.m88_asm.specs.Counters.{after, at_begin, located, place_here}
 use Rattle.m88_asm.specs.Drafts.{Growth, IsOpen, counters_of, empty_growth, next_row, nth, section_at, sections_at, with_bytes, with_statement, with_statements}
 use Rattle.m88_asm.specs.Faults.{fault_in, statements_fault}
 use Rattle.m88_asm.specs.Filled.{waiting_bytes}
-use Rattle.m88_asm.proofs.Assembling.{counters_empty, counters_next, open_next}
+use Rattle.m88_asm.proofs.Assembling.{counters_next, open_next}
 
 -- the statements that are still to come, where one comes next
 pub next_of : {X : Type 0} (xs : List X) (i : ℕ) (x d : X) → i < length xs → x ≡ get_or xs i d → drop i xs ≡ x ∷ drop (i + 1) xs
@@ -55,14 +55,6 @@ pub record Rest (line : ℕ) (all : List Statement) (i : ℕ) (g : Growth) : Typ
   pub faults : fault_from g (drop i all) ≡ statements_fault [] (located at_begin all)
   pub opened : IsOpen g.sections g.here
   pub few : length g.sections ≤ i + 2
-
-pub rest_begins : (line : ℕ) (all : List Statement) → Rest line all 0 (empty_growth line)
-rest_begins line all = record {
-  whole = refl;
-  faults = ap (λ c. statements_fault [] (located c all)) (counters_empty line);
-  opened = record { both = omega arith; stands = omega arith };
-  few = omega arith;
-}
 
 pub rest_goes_on : (line : ℕ) (all : List Statement) (i : ℕ) (g new : Growth) (x d : Statement) → i < length all → x ≡ get_or all i d → Rest line all i g
     → new ≡ with_statement g x → fault_in g.symbols (next_row g x) ≡ None → Rest line all (i + 1) new

@@ -1,15 +1,10 @@
 -- Sections that grow piece by piece.
 use Rattle.std.proofs.Common.{ℕ, suc, ◌≡◌, ◌+◌, ◌<◌, ◌≤◌, List, [], ◌++◌, length, drop, get_or, sym, ◌∙◌, ap, subst, append_assoc, arith, length-append, add-one, drop-cons, drop_of_length-le}
 use Rattle.std.specs.Prelude.{flat_map}
-use Rattle.std.specs.Int.{to_be_bytes, w32}
 use Rattle.std.proofs.lemmas.List.{append-nil}
-use Rattle.m88_parse.specs.declared.unit.Value.{Value}
-use Rattle.m88_link.specs.declared.object.Reloc.{Reloc}
 use Rattle.m88_link.specs.declared.object.Section.{Section}
 use Rattle.m88_link.specs.Sound.{HasRoom}
 use Rattle.m88_asm.specs.Drafts.{with_bytes}
-use Rattle.m88_asm.specs.Filled.{waiting_word}
-use Rattle.m88_asm.specs.Objects.{use_in_value, uses_in_values}
 
 pub room_front : (s : Section) (a b : List ℕ) → HasRoom (with_bytes s (a ++ b)) → HasRoom (with_bytes s a)
 room_front s a b h =
@@ -46,29 +41,3 @@ pub pieces_put : {X : Type 0} (f : X → List ℕ) (xs : List X) (i : ℕ) (s to
     → with_bytes s (flat_map f (drop i xs)) ≡ total → s ≡ total
 pieces_put f xs i s total h so_far =
     sym (no_bytes s) ∙ ap (λ ys. with_bytes s (flat_map f ys)) (sym (drop_of_length-le xs h)) ∙ so_far
-
--- the uses that are still to come
-values_left : (number offset line : ℕ) (vs : List Value) (i : ℕ) (v : Value) → i < length vs → v ≡ get_or vs i v
-    → uses_in_values number offset line (drop i vs)
-    ≡ use_in_value number offset line v ++ uses_in_values number (offset + 4) line (drop (i + 1) vs)
-values_left number offset line vs i v h e =
-    ap (uses_in_values number offset line) (drop-cons vs i v h)
-    ∙ ap (λ y. use_in_value number offset line y ++ uses_in_values number (offset + 4) line (drop (suc i) vs)) (sym e)
-    ∙ ap (λ n. use_in_value number offset line v ++ uses_in_values number (offset + 4) line (drop n vs)) (sym (add-one i))
-
-pub use_put : (number line : ℕ) (vs : List Value) (i : ℕ) (v : Value) (uses new total : List Reloc) (s after : Section) → i < length vs → v ≡ get_or vs i v
-    → uses ++ uses_in_values number (length s.bytes) line (drop i vs) ≡ total
-    → new ≡ uses ++ use_in_value number (length s.bytes) line v → after ≡ with_bytes s (to_be_bytes w32 (waiting_word v))
-    → new ++ uses_in_values number (length after.bytes) line (drop (i + 1) vs) ≡ total
-use_put number line vs i v uses new total s after h e so_far put grown =
-    let first = use_in_value number (length s.bytes) line v in
-    let n : length after.bytes ≡ length s.bytes + 4 = ap (λ (t : Section). length t.bytes) grown ∙ length-append s.bytes (to_be_bytes w32 (waiting_word v)) in
-    ap (λ m. new ++ uses_in_values number m line (drop (i + 1) vs)) n
-    ∙ ap (λ xs. xs ++ uses_in_values number (length s.bytes + 4) line (drop (i + 1) vs)) put
-    ∙ append_assoc uses first _
-    ∙ ap (λ xs. uses ++ xs) (sym (values_left number (length s.bytes) line vs i v h e)) ∙ so_far
-
-pub uses_put : (number line : ℕ) (vs : List Value) (i : ℕ) (uses total : List Reloc) (s : Section) → length vs ≤ i
-    → uses ++ uses_in_values number (length s.bytes) line (drop i vs) ≡ total → uses ≡ total
-uses_put number line vs i uses total s h so_far =
-    sym (append-nil uses) ∙ ap (λ ys. uses ++ uses_in_values number (length s.bytes) line ys) (sym (drop_of_length-le vs h)) ∙ so_far

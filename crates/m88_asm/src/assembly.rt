@@ -115,7 +115,8 @@ impl Assembly {
         ensures fresh { OnOk result
             (repeated_after self.old.symbols (sets_at line body.now) ≡ None) }
         ensures fault { IfErr result (λ e. (e ≡ memory_ran_out)
-            ⊎ (option_map duplicate_at (repeated_after self.old.symbols (sets_at line body.now)) ≡ Some e)) }
+            ⊎ (option_map duplicate_at
+            (repeated_after self.old.symbols (sets_at line body.now)) ≡ Some e)) }
     {
         match body {
             Body::Set { name, col, value } => {
@@ -157,7 +158,8 @@ impl Assembly {
         }
     }
 
-    /// The fault of a statement that the section that stands can't take: at its alignment, or in the room left.
+    /// The fault of a statement that the section that stands can't take: for its alignment, or for the
+    /// room left.
     fn misfit(&self, x: &Statement) -> Option<AsmFault>
         requires { IsFormedStatement x.now }
         ensures { result ≡ misfit_at (offset_here (counters_of self.now.sections self.now.here))

@@ -14,7 +14,8 @@ use std::alloc::{AllocError, Global};
 /// Notes the name of a `.global`.
 fn note(names: &mut IndexSet<Name>, body: &Body) -> Result<(), AllocError>
     ensures { OnOk result ((name : List ℕ)
-        → contains bytes_eq names.new name ≡ (contains bytes_eq names.old name || body_declares name body.now)) }
+        → contains bytes_eq names.new name
+        ≡ (contains bytes_eq names.old name || body_declares name body.now)) }
 {
     match body {
         Body::Global(name) => {

@@ -24,7 +24,8 @@ impl Model for Growing {
 
     ghost view = { λ g. record { place = g.place; bytes = g.bytes.items; line = g.line } };
 
-    ghost invariant = { λ g. HasRoom (record { place = g.place; bytes = g.bytes.items; line = g.line }) };
+    ghost invariant = { λ g. HasRoom
+        (record { place = g.place; bytes = g.bytes.items; line = g.line }) };
 }
 
 impl Growing {

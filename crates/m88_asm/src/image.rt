@@ -27,7 +27,8 @@ pub fn image_of(alloc: Global, unit: &Unit) -> Result<Image, UnitFault>
     // The instruction at an address of the unit, placed there or read from its bytes, is what the image's
     // bytes are the word of.
     ensures instructions { IfOk result (λ image. (a : ℕ) (instruction : Option Instruction)
-        → IsUnitInstruction unit.now a instruction → IsInstructionAt (byte_at image) a instruction) }
+        → IsUnitInstruction unit.now a instruction
+        → IsInstructionAt (byte_at image) a instruction) }
     // By sections: the image is that of the unit's layout.
     ensures linked { IfOk result (IsLinked (unit_layout unit.now)) }
     ensures accepted { OnOk result (IsAcceptedUnit unit.now) }
