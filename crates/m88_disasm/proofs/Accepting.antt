@@ -51,12 +51,6 @@ data_fault defined c n _ _ (a_code i) = refl
 data_fault defined c n _ _ (a_word w) = refl
 data_fault defined c n _ _ (a_byte b) = refl
 
-data_symbols : (c : Counters) (n : ℕ) (b : Body) (given : List ℕ) → Gives b given
-    → symbols_of (record { before = c; statement = unlabelled n b }) ≡ []
-data_symbols c n _ _ (a_code i) = refl
-data_symbols c n _ _ (a_word w) = refl
-data_symbols c n _ _ (a_byte b) = refl
-
 pub faults_cons : (defined : List Symbol) (r : Located) (rs : List Located) → fault_in defined r ≡ None
     → statements_fault (defined ++ symbols_of r) rs ≡ None → statements_fault defined (r ∷ rs) ≡ None
 unfolding statements_fault

@@ -1,21 +1,20 @@
 -- Lines appended one by one are the lines of all.
-use Rattle.std.proofs.Common.{◌≡◌, ℕ, ◌+◌, ◌<◌, ◌≤◌, List, [], ◌∷◌, ◌++◌, length, take, drop, get_or, sym, refl, ap, subst, ◌∙◌, append_assoc, append-nil, arith}
+use Rattle.std.proofs.Common.{◌≡◌, ℕ, ◌+◌, ◌<◌, ◌≤◌, List, [], ◌∷◌, ◌++◌, length, take, drop, get_or, sym, ap, subst, ◌∙◌, append_assoc, append-nil, arith}
 use Rattle.std.specs.Prelude.{Some, slice_get}
 use Rattle.std.specs.Int.{from_be_bytes, w32}
 use Rattle.std.proofs.lemmas.List.{at_drop_more, drop-drop, drop_all}
 use Rattle.std.proofs.lemmas.Option.{get_or_from_slice_get, slice_get_within}
 use Rattle.std.proofs.lemmas.List.Concat.{flat_map-append}
-use Rattle.m88_base.specs.Image.{ProgramImage, parts}
 use Rattle.m88_base.specs.Lines.{line_end, text_of_lines}
 use Rattle.m88_base.specs.Placed.{Placed}
 use Rattle.m88_isa.specs.Word.{IsWord}
 use Rattle.m88_isa.specs.declared.instr.Instr.{Instr}
 use Rattle.m88_disasm.specs.Text.{instr_text, word_text}
-use Rattle.m88_disasm.specs.Listing.{AreLines, ArePartLines, BeginsWord, IsListing, IsWordLine, lone_byte_line, place_line, start_line}
+use Rattle.m88_disasm.specs.Listing.{AreLines, ArePartLines, BeginsWord, IsWordLine, lone_byte_line, place_line}
 use Rattle.m88_disasm.specs.Listing.IsWordLine.{instruction, no_instruction}
 use Rattle.m88_disasm.specs.Listing.AreLines.{no_line, word, byte}
 use Rattle.m88_disasm.specs.Listing.ArePartLines.{no_part, part}
-use Rattle.m88_disasm.specs.Appended.{BytesAppended, LineAppended, LinesAppended, PartsAppended}
+use Rattle.m88_disasm.specs.Appended.{BytesAppended, LineAppended, LinesAppended}
 
 -- the line of a word that an instruction has
 pub said_instruction : (i : Instr) (w : ℕ) (old new : List ℕ) → IsWord i w → new ≡ old ++ (instr_text i ++ line_end)
@@ -63,12 +62,6 @@ retold : (Are : List (List ℕ) → Type 0) (old new same : List ℕ) → same �
     → LinesAppended Are old same
 retold Are old new same e l = record { lines = l.lines; are = l.are; text_is = e ∙ l.text_is }
 
--- nothing is appended yet
-pub none_yet : (at : ℕ) (bytes old : List ℕ) → BytesAppended at bytes old old 0
-none_yet at bytes old =
-    λ lines are. let e : at + 0 ≡ at = omega arith in
-    record { lines = lines; are = subst (λ (n : ℕ). AreLines n bytes lines) e are; text_is = refl }
-
 -- more lines behind those of the first m bytes
 pub more_bytes : (at m n : ℕ) (bytes rest t0 t1 t2 : List ℕ) → rest ≡ drop m bytes → BytesAppended at bytes t0 t1 m
     → BytesAppended (at + m) rest t1 t2 n → BytesAppended at bytes t0 t2 (m + n)
@@ -92,9 +85,11 @@ all_bytes at n bytes old new past so_far =
     subst (λ (xs : List ℕ). AreLines (at + n) xs []) (sym (drop_all n bytes past)) no_line in
     retold (AreLines at bytes) old (new ++ []) new (sym (append-nil new)) (so_far [] none_left)
 
--- no part is appended yet
-pub no_parts_yet : (runs : List Placed) (old : List ℕ) → PartsAppended runs old old 0
-no_parts_yet runs old = λ lines are. record { lines = lines; are = are; text_is = refl }
+-- the lines of the first n parts
+abbrev pub PartsAppended : List Placed → List ℕ → List ℕ → ℕ → Type 0
+PartsAppended runs old new n =
+    (lines : List (List ℕ)) → ArePartLines (drop n runs) lines
+    → LinesAppended (ArePartLines runs) old (new ++ text_of_lines lines)
 
 -- what is left begins with the part of that index
 part_next : (runs : List Placed) (k : ℕ) (run : Placed) → slice_get runs k ≡ Some run
@@ -133,18 +128,3 @@ all_parts runs n old new past so_far =
     let none_left : ArePartLines (drop n runs) [] =
     subst (λ (rs : List Placed). ArePartLines rs []) (sym (drop_all n runs past)) no_part in
     retold (ArePartLines runs) old (new ++ []) new (sym (append-nil new)) (so_far [] none_left)
-
--- the start and the parts are the listing
-pub start_and_parts : (image : ProgramImage) (start : ℕ) (t0 t1 t2 : List ℕ) → start ≡ image.start → t0 ≡ []
-    → t1 ≡ t0 ++ (start_line start ++ line_end) → LinesAppended (ArePartLines (parts image)) t1 t2
-    → IsListing image t2
-start_and_parts image start t0 t1 t2 start_is none first l =
-    record {
-      lines = l.lines;
-      are_lines = l.are;
-      text_is =
-          l.text_is
-          ∙ ap (λ (xs : List ℕ). xs ++ text_of_lines l.lines) first
-          ∙ ap (λ (xs : List ℕ). (xs ++ (start_line start ++ line_end)) ++ text_of_lines l.lines) none
-          ∙ ap (λ (n : ℕ). (start_line n ++ line_end) ++ text_of_lines l.lines) start_is;
-    }

@@ -8,13 +8,13 @@ use Rattle.m88_base.specs.Image.{IsImage, ProgramImage, byte_count, parts}
 use Rattle.m88_base.specs.Lines.{line_end}
 use Rattle.m88_base.specs.Placed.{Placed, count_among}
 use Rattle.m88_disasm.specs.Listing.{place_line, start_line}
-use Rattle.m88_disasm.specs.declared.lister.TheConstants.{MOST_LINE}
+use Rattle.m88_disasm.specs.declared.lister.TheConstants.{MOST_LINE, MOST_PER_BYTE}
 
 -- one part more
 pub more_room : (runs : List Placed) (k : ℕ) (run : Placed) (t0 t1 t2 t3 : List ℕ) → slice_get runs k ≡ Some run
-    → 0 < length run.bytes → length t1 ≤ length t0 + 64 * count_among (take k runs)
+    → 0 < length run.bytes → length t1 ≤ length t0 + MOST_PER_BYTE * count_among (take k runs)
     → t2 ≡ t1 ++ (place_line run.at ++ line_end) → length t3 ≤ length t2 + MOST_LINE * length run.bytes
-    → length t3 ≤ length t0 + 64 * count_among (take (k + 1) runs)
+    → length t3 ≤ length t0 + MOST_PER_BYTE * count_among (take (k + 1) runs)
 more_room runs k run t0 t1 t2 t3 found some before place own =
     let more : take (k + 1) runs ≡ take k runs ++ run ∷ [] =
     take_more runs k run (slice_get_within runs k run found)
@@ -26,7 +26,7 @@ more_room runs k run t0 t1 t2 t3 found some before place own =
 
 -- the start and all parts
 pub short_text : (image : ProgramImage) (start : ℕ) (t0 t1 t2 : List ℕ) → IsImage image → t0 ≡ []
-    → t1 ≡ t0 ++ (start_line start ++ line_end) → length t2 ≤ length t1 + 64 * count_among (parts image)
+    → t1 ≡ t0 ++ (start_line start ++ line_end) → length t2 ≤ length t1 + MOST_PER_BYTE * count_among (parts image)
     → length t2 < 2 ^ 31
 unfolding byte_count
 short_text image start t0 t1 t2 is none first room =

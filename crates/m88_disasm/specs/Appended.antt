@@ -1,8 +1,7 @@
 -- Words for the contracts of private functions; no promise of the program names them. What was appended to a text.
 use Rattle.std.specs.Prelude.{◌≡◌, ◌+◌, ℕ, List, ◌++◌, drop}
 use Rattle.m88_base.specs.Lines.{line_end, text_of_lines}
-use Rattle.m88_base.specs.Placed.{Placed}
-use Rattle.m88_disasm.specs.Listing.{AreLines, ArePartLines}
+use Rattle.m88_disasm.specs.Listing.{AreLines}
 
 -- a line of this kind
 pub record LineAppended (Is : List ℕ → Type 0) (old new : List ℕ) : Type 0 where
@@ -21,9 +20,3 @@ abbrev pub BytesAppended : ℕ → List ℕ → List ℕ → List ℕ → ℕ �
 BytesAppended at bytes old new n =
     (lines : List (List ℕ)) → AreLines (at + n) (drop n bytes) lines
     → LinesAppended (AreLines at bytes) old (new ++ text_of_lines lines)
-
--- the lines of the first n parts
-abbrev pub PartsAppended : List Placed → List ℕ → List ℕ → ℕ → Type 0
-PartsAppended runs old new n =
-    (lines : List (List ℕ)) → ArePartLines (drop n runs) lines
-    → LinesAppended (ArePartLines runs) old (new ++ text_of_lines lines)

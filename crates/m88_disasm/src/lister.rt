@@ -17,6 +17,9 @@ use std::alloc::{AllocError, Global};
 /// The most bytes of the line of a word or a byte: a text and the line end.
 const MOST_LINE: usize = MOST_TEXT + 1;
 
+/// The most bytes of a part's lines for each of its bytes: the line of a byte, and that of its address.
+const MOST_PER_BYTE: usize = MOST_LINE + 15;
+
 /// Appends 0x, a word in eight digits, and a line end.
 fn push_hexadecimal(text: &mut Vec<u8>, n: u32) -> Result<(), AllocError>
     ensures { OnOk result (text.new.items ≡ text.old.items ++ (hexadecimal n ++ line_end)) }
@@ -126,8 +129,8 @@ fn push_bytes(text: &mut Vec<u8>, at: u32, bytes: &[u8]) -> Result<(), AllocErro
 fn push_parts(text: &mut Vec<u8>, image: &Image) -> Result<(), AllocError>
     ensures lines { OnOk result
         (LinesAppended (ArePartLines (parts image.now)) text.old.items text.new.items) }
-    ensures room { OnOk result
-        (length text.new.items ≤ length text.old.items + 64 * count_among (parts image.now)) }
+    ensures room { OnOk result (length text.new.items
+        ≤ length text.old.items + MOST_PER_BYTE * count_among (parts image.now)) }
     ensures image { IsImage image.now }
 {
     for index in 0..image.part_count() {

@@ -39,7 +39,7 @@ pub fn put_number<N: Integer>(text: &mut InstrText, n: N)
 
 /// Appends a register.
 pub fn put_register(text: &mut InstrText, r: Reg)
-    requires { length text.old.bytes ≤ 44 }
+    requires { length text.old.bytes + 4 ≤ MOST_TEXT }
     ensures bytes { text.new.bytes ≡ text.old.bytes ++ register_name r }
     ensures room { length text.new.bytes ≤ length text.old.bytes + 4 }
 {
@@ -49,7 +49,7 @@ pub fn put_register(text: &mut InstrText, r: Reg)
 
 /// Appends a register and the one that is scaled.
 pub fn put_scaled(text: &mut InstrText, s1: Reg, s2: Reg)
-    requires { length text.old.bytes ≤ 38 }
+    requires { length text.old.bytes + 10 ≤ MOST_TEXT }
     ensures { text.new.bytes ≡ text.old.bytes ++ scaled s1 s2 }
 {
     put_register(text, s1);
@@ -60,7 +60,7 @@ pub fn put_scaled(text: &mut InstrText, s1: Reg, s2: Reg)
 
 /// Appends a control register.
 pub fn put_control(text: &mut InstrText, float: bool, cr: u8)
-    requires { length text.old.bytes ≤ 42 }
+    requires { length text.old.bytes + 6 ≤ MOST_TEXT }
     ensures { text.new.bytes ≡ text.old.bytes ++ control float cr }
 {
     text.push_str(if float { "fcr" } else { "cr" });
@@ -69,7 +69,7 @@ pub fn put_control(text: &mut InstrText, float: bool, cr: u8)
 
 /// Appends a bit field.
 pub fn put_field(text: &mut InstrText, op: BitOp, width: u8, offset: u8)
-    requires { length text.old.bytes ≤ 40 }
+    requires { length text.old.bytes + 8 ≤ MOST_TEXT }
     ensures { text.new.bytes ≡ text.old.bytes ++ field op width offset }
 {
     if op != BitOp::Rot {
@@ -83,7 +83,7 @@ pub fn put_field(text: &mut InstrText, op: BitOp, width: u8, offset: u8)
 /// Appends the mask of a condition.
 #[tactic(auto, unfolding(crate::specs::Text::condition))]
 pub fn put_condition(text: &mut InstrText, mask: u8)
-    requires { length text.old.bytes ≤ 45 }
+    requires { length text.old.bytes + 3 ≤ MOST_TEXT }
     ensures bytes { text.new.bytes ≡ text.old.bytes ++ condition mask }
     ensures room { length text.new.bytes ≤ length text.old.bytes + 3 }
 {
@@ -101,7 +101,7 @@ pub fn put_condition(text: &mut InstrText, mask: u8)
 /// Appends the target that is so many words on or back.
 pub fn put_target(text: &mut InstrText, words: i32)
     requires fits { FitsWords 25 words }
-    requires room { length text.old.bytes ≤ 36 }
+    requires room { length text.old.bytes + 12 ≤ MOST_TEXT }
     ensures { text.new.bytes ≡ text.old.bytes ++ target_operand words }
 {
     text.push_str(if words < 0 { ".-" } else { ".+" });
