@@ -14,10 +14,9 @@ mod slots;
 // who watches it
 mod glance;
 mod mem_watch;
-mod watch;
-
 #[cfg(test)]
 mod tests;
+mod watch;
 
 pub use board::Board;
 pub use glance::Glance;

@@ -1,6 +1,6 @@
 -- A text is cut at its first mark, in one way.
 use Rattle.std.proofs.Common.{◌≡◌, ℕ, ◌≤◌, ◌<◌, ◌==◌, List, [], ◌∷◌, ◌++◌, Bool, true, false, not, ◌&&◌, refl, ap, sym, ◌∙◌, arith}
-use Rattle.std.specs.Prelude.{Some}
+use Rattle.std.specs.Prelude.{Option, Some}
 use Rattle.std.specs.Str.Parse.{AllDigits}
 use Rattle.std.specs.Char.{digit_value}
 use Rattle.std.specs.List.{list_all}
@@ -36,10 +36,13 @@ pub not_cut : (mark : ℕ) (a b : List ℕ) → Lacks mark (a ++ mark ∷ b) →
 not_cut mark [] b none = absurd (let k = parts mark mark b none in let same : not true ≡ true = sym (ap not (eq-eqb mark mark refl)) ∙ k.0 in cc)
 not_cut mark (c ∷ a) b none = not_cut mark a b (parts mark c (a ++ mark ∷ b) none).1
 
+-- a cut has one answer
+one_cut : (p q : List ℕ × List ℕ) (o : Option (List ℕ × List ℕ)) → o ≡ Some p → o ≡ Some q → p ≡ q
+one_cut p q o e f = cc
+
 -- a text is cut at its first mark in one way
 pub cut_once : (mark : ℕ) (a b c d : List ℕ) → Lacks mark a → Lacks mark c → a ++ mark ∷ b ≡ c ++ mark ∷ d → (a ≡ c) × (b ≡ d)
 cut_once mark a b c d none nor e =
-    let one : Some (a, b) ≡ Some (c, d) =
-    sym (split_first mark a b none) ∙ ap (split_at_byte mark) e ∙ split_first mark c d nor in
-    let same : (a, b) ≡ (c, d) = cc in
-    (ap (λ p. p.0) same, ap (λ p. p.1) same)
+    let same = one_cut (a, b) (c, d) (split_at_byte mark (a ++ mark ∷ b)) (split_first mark a b none)
+    (ap (split_at_byte mark) e ∙ split_first mark c d nor) in
+    (ap (λ (p : List ℕ × List ℕ). p.0) same, ap (λ (p : List ℕ × List ℕ). p.1) same)

@@ -46,7 +46,7 @@ pub fn refuse(alloc: Global, lines: u32, fault: SourceFault) -> Result<Reply, No
 fn unread(alloc: Global, lines: u32, fault: ParseFault) -> Result<Reply, NoMemory>
     ensures line { IfOk result
         (λ reply. reply.text.items
-            ≡ refusal_line (parse_refusal (parse_fault_behind lines fault))) }
+        ≡ refusal_line (parse_refusal (parse_fault_behind lines fault))) }
     ensures refused { IfOk result (λ reply. reply.accepted ≡ false) }
     ensures told { IfOk result (λ _. fault ≢ out_of_memory) }
 {
