@@ -150,7 +150,7 @@ fn memory(op: MemOp, b: Reg, v: u16) -> Instr
     Instr::MemImm {
         op,
         d: b,
-        s1: Reg::ZERO,
+        s1: Reg::from_low_bits(0),
         imm: v / 8 * 8,
     }
 }
