@@ -1,5 +1,6 @@
 pub mod Apart
 pub mod AsciiDigits
+pub mod Calls
 pub mod Constants
 pub mod Copied
 pub mod Cuts

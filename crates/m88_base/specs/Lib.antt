@@ -10,6 +10,7 @@ pub mod Numerals
 pub mod Hex
 pub mod Refused
 pub mod Causes
+pub mod Calls
 pub mod Outside
 pub mod Memory
 pub mod Found

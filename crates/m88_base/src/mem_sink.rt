@@ -1,6 +1,7 @@
 //! A sink in memory that fails where it is told to.
 ghost use Rattle.std.specs.Prelude.{◌≡◌, ◌-◌, ◌<◌, ◌≤◌, ◌↔◌, ◌⊎◌, Some, min, length, IfOk, IsErr, Contains, []};
 ghost use Rattle.std.specs.Io.KnownBytes.{WriteAppends};
+ghost use Rattle.m88_base.specs.Calls.{CountsCall};
 ghost use Rattle.m88_base.specs.Causes.{FailsByFault, one_more, faults_after};
 
 use crate::failing::{Failed, NoMemory};
@@ -76,6 +77,13 @@ impl MemSink {
     {
         self.bytes.as_slice()
     }
+
+    /// How many calls of `write` were made, those that failed too; at its greatest number the count stays.
+    pub fn calls(&self) -> u64
+        ensures { result ≡ self.now.calls }
+    {
+        self.calls
+    }
 }
 
 impl Sink for MemSink {
@@ -83,10 +91,13 @@ impl Sink for MemSink {
 
     ghost faults = { λ s. s.faults };
 
+    ghost calls = { λ s. Some s.calls };
+
     fn write(&mut self, buf: &[u8]) -> Result<usize, Failed>
         requires { 0 < length buf.now }
         ensures bound { IfOk result (λ count. (0 < count) × (count ≤ length buf.now)) }
         ensures bytes { WriteAppends (Some self.old.held) (Some self.new.held) result buf.now }
+        ensures counted { CountsCall (Some self.old.calls) (Some self.new.calls) }
         ensures cause { FailsByFault self.old.faults self.new.faults result }
         ensures fails { IsErr result
             ↔ (Contains self.old.failing self.old.calls ⊎ (length self.old.held ≡ self.old.room)) }

@@ -2,6 +2,7 @@
 ghost use Rattle.std.specs.Prelude.{◌≡◌, ◌<◌, ◌↔◌, Some, min, length, IfOk, IsErr, Contains};
 ghost use Rattle.std.specs.Io.{ReadsAtMost};
 ghost use Rattle.std.specs.Io.KnownBytes.{ReadConsumes};
+ghost use Rattle.m88_base.specs.Calls.{CountsCall};
 ghost use Rattle.m88_base.specs.Causes.{FailsByFault, one_more, faults_after};
 
 use crate::failing::{Failed, NoMemory};
@@ -67,6 +68,13 @@ impl MemSource {
             faults: 0,
         })
     }
+
+    /// How many calls of `read` were made, those that failed too; at its greatest number the count stays.
+    pub fn calls(&self) -> u64
+        ensures { result ≡ self.now.calls }
+    {
+        self.calls
+    }
 }
 
 impl Source for MemSource {
@@ -74,10 +82,13 @@ impl Source for MemSource {
 
     ghost faults = { λ s. s.faults };
 
+    ghost calls = { λ s. Some s.calls };
+
     fn read(&mut self, buf: &mut [u8]) -> Result<usize, Failed>
         requires { 0 < length buf.old }
         ensures bound { ReadsAtMost result buf.new }
         ensures bytes { ReadConsumes (Some self.old.left) (Some self.new.left) result buf.new }
+        ensures counted { CountsCall (Some self.old.calls) (Some self.new.calls) }
         ensures cause { FailsByFault self.old.faults self.new.faults result }
         ensures fails { IsErr result ↔ Contains self.old.failing self.old.calls }
         ensures gives { IfOk result (λ count. count

@@ -1,6 +1,7 @@
 //! A whole source in memory.
 ghost use Rattle.std.specs.Prelude.{◌≡◌, ◌≢◌, ◌+◌, ◌^◌, ◌<◌, ◌≤◌, Err, IfOk, OnOk, vec_len};
 ghost use Rattle.std.specs.Io.KnownBytes.{Consumes, IsAtEnd};
+ghost use Rattle.m88_base.specs.Calls.{CallsWithin};
 ghost use Rattle.m88_base.specs.Causes.{Rose};
 ghost use Rattle.m88_base.specs.Outside.{TakesExactly, TakesAtMost};
 
@@ -36,6 +37,7 @@ impl From<AllocError> for ReadEnd {
 
 /// All bytes of a source up to its end, `max` at most; one more is taken to find out that there
 /// are too many.
+#[tactic(auto, using(crate::proofs::Calls::calls_more, crate::proofs::Calls::calls_none))]
 pub fn read_all<S: Source>(alloc: Global, source: &mut S, max: usize) -> Result<Vec<u8>, ReadEnd>
     requires { max < 2 ^ 31 }
     ensures ok { IfOk result (λ bytes. Consumes (S.left source.old) (S.left source.new) bytes.items
@@ -45,6 +47,7 @@ pub fn read_all<S: Source>(alloc: Global, source: &mut S, max: usize) -> Result<
     ensures short { result ≢ Err ReadEnd.TooLong
         → TakesAtMost (S.left source.old) (S.left source.new) max }
     ensures grows { S.faults source.old ≤ S.faults source.new }
+    ensures calls { CallsWithin (max + 2) (S.calls source.old) (S.calls source.new) }
     ensures clean { OnOk result (S.faults source.new ≡ S.faults source.old) }
     ensures fault { result ≡ Err ReadEnd.SourceFault
         → Rose (S.faults source.old) (S.faults source.new) }

@@ -1,5 +1,5 @@
 //! Sources and sinks over std's readers and writers, the edge to the world outside.
-ghost use Rattle.std.specs.Prelude.{◌≡◌};
+ghost use Rattle.std.specs.Prelude.{◌≡◌, None};
 
 use crate::failing::Failed;
 use crate::sink::Sink;
@@ -27,6 +27,8 @@ impl<R: Read> Source for StdSource<R> {
     ghost left = { λ s. R.remaining s.inner };
 
     ghost faults = { λ s. s.faults };
+
+    ghost calls = { λ s. None };
 
     fn read(&mut self, buf: &mut [u8]) -> Result<usize, Failed> {
         match self.inner.read(buf) {
@@ -61,6 +63,8 @@ impl<W: Write> Sink for StdSink<W> {
     ghost held = { λ s. W.contents s.inner };
 
     ghost faults = { λ s. s.faults };
+
+    ghost calls = { λ s. None };
 
     fn write(&mut self, buf: &[u8]) -> Result<usize, Failed> {
         match self.inner.write(buf) {

@@ -20,7 +20,11 @@ fn a_source_in_memory_fails_in_the_named_call_alone(rt: HostRuntime) -> Result<(
                 Ok(bytes) => call == reads && bytes.as_slice() == TEXT,
                 Err(end) => call < reads && end == ReadEnd::SourceFault,
             };
-            assert!(rt; fine, "pieces of {piece}, call {call}");
+            let calls = u64::from(reads.min(call + 1));
+            assert!(rt;
+                fine && source.calls() == calls,
+                "pieces of {piece}, call {call}"
+            );
         }
     }
     Ok(())
@@ -49,8 +53,9 @@ fn a_sink_in_memory_holds_what_was_written_before_it_failed(rt: HostRuntime) -> 
                 Ok(()) => call == writes,
                 Err(fault) => call < writes && fault.written == held.len(),
             };
+            let calls = u64::from(writes.min(call + 1));
             assert!(rt;
-                fine && sink.bytes() == held,
+                fine && sink.bytes() == held && sink.calls() == calls,
                 "pieces of {piece}, call {call}"
             );
         }

@@ -1,6 +1,7 @@
 //! Bytes handed to a sink whole.
 ghost use Rattle.std.specs.Prelude.{◌≡◌, ◌<◌, ◌≤◌, take, length, OnOk, OnErr, IfErr};
 ghost use Rattle.std.specs.Io.KnownBytes.{Appends};
+ghost use Rattle.m88_base.specs.Calls.{CallsWithin};
 ghost use Rattle.m88_base.specs.Causes.{Rose};
 ghost use Rattle.m88_base.specs.Outside.{AppendsPart};
 
@@ -17,6 +18,7 @@ pub struct SinkFault {
 }
 
 /// Hands all bytes to a sink, piece by piece.
+#[tactic(auto, using(crate::proofs::Calls::calls_more, crate::proofs::Calls::calls_none))]
 pub fn write_all<K: Sink>(sink: &mut K, bytes: &[u8]) -> Result<(), SinkFault>
     ensures ok { OnOk result (Appends (K.held sink.old) (K.held sink.new) bytes.now) }
     ensures prefix { IfErr result (λ fault.
@@ -27,6 +29,7 @@ pub fn write_all<K: Sink>(sink: &mut K, bytes: &[u8]) -> Result<(), SinkFault>
     ensures part { OnErr result (AppendsPart (K.held sink.old) (K.held sink.new) bytes.now) }
 
     ensures grows { K.faults sink.old ≤ K.faults sink.new }
+    ensures calls { CallsWithin (length bytes.now) (K.calls sink.old) (K.calls sink.new) }
     ensures clean { OnOk result (K.faults sink.new ≡ K.faults sink.old) }
     ensures fault { OnErr result (Rose (K.faults sink.old) (K.faults sink.new)) }
 {

@@ -1,4 +1,5 @@
 use Rattle.std.proofs.Common.{◌∙◌, ℕ, List, length-take, drop, arith}
+use Rattle.m88_base.proofs.Calls.{calls_more}
 use Rattle.m88_base.proofs.Known.{consumes_front, kept_below, length_front, one_more_turn, takes_exactly, takes_at_most}
 use Rattle.m88_base.proofs.reading.read_all.Goals as goal
 
@@ -22,5 +23,6 @@ loop-preserved g c =
       short = kept_below _ _ _ _ _ _ more.len size c.len-in-Ok.ensures c.if-count-max.false c.loop.invariant.short;
       turns = one_more_turn _ _ _ _ _ more.len size c.in-Ok.count-test.1 c.loop.invariant.turns;
       grows = read.cause ∙ c.loop.invariant.grows;
+      calls = calls_more c.loop.counter _ _ _ _ (omega arith) c.loop.invariant.calls read.counted;
       taken = rw more.items (consumes_front _ _ _ c.loop.bytes.items c.read.new.buf rest c.in-Ok.count c.loop.invariant.taken read.bytes.0 read.bound.0);
     }
