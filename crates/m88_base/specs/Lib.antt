@@ -1,6 +1,7 @@
 pub mod Reg
 pub mod RegisterSet
 pub mod Triple
+pub mod Slot
 pub mod Name
 pub mod Padded
 pub mod Cut

@@ -1,9 +1,13 @@
 //! Pages of memory, and which of them are absent.
+ghost use Rattle.std.specs.Prelude.{◌≡◌};
 
 use arrayvec::ArrayVec;
 
 /// The bytes of a page.
 pub const PAGE_BYTES: u32 = 4096;
+
+/// How many pages there are.
+pub const PAGE_COUNT: usize = 1 << 20;
 
 /// The pages that are absent for the data bus as a run begins.
 #[derive(Drop, Debug)]
@@ -14,4 +18,27 @@ pub enum Absent {
     All,
     /// The pages of these numbers, each at most 0xFFFFF.
     Pages(ArrayVec<u32, 64>),
+}
+
+impl Absent {
+    /// The same choice once more. It takes no memory.
+    pub fn copy(&self) -> Absent
+        ensures { result ≡ self.now }
+    {
+        match self {
+            Absent::None => Absent::None,
+            Absent::All => Absent::All,
+            Absent::Pages(pages) => Absent::Pages(copied(pages)),
+        }
+    }
+}
+
+/// The same numbers once more.
+fn copied(pages: &ArrayVec<u32, 64>) -> ArrayVec<u32, 64>
+    ensures { result ≡ pages.now }
+{
+    match ArrayVec::try_from(pages.as_slice()) {
+        Ok(pages) => pages,
+        Err(_) => unreachable!(),
+    }
 }

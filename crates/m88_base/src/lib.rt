@@ -2,9 +2,10 @@
 //! and the image that a program is linked into.
 #![tactic(auto)]
 
-// Registers, and what the data unit is asked for.
+// Registers, instruction pointers, and what the data unit is asked for.
 mod absent;
 mod reg;
+mod slot;
 mod triple;
 
 // Where bytes come from and go to.
@@ -37,7 +38,7 @@ mod segments;
 #[cfg(test)]
 mod tests;
 
-pub use absent::{Absent, PAGE_BYTES};
+pub use absent::{Absent, PAGE_BYTES, PAGE_COUNT};
 pub use cut::split_at_byte;
 pub use failing::{Failed, NoMemory};
 pub use fixup::{Fixup, Kind};
@@ -53,6 +54,7 @@ pub use reading::{ReadEnd, read_all};
 pub use refused::push_refused;
 pub use reg::Reg;
 pub use sink::Sink;
+pub use slot::Slot;
 pub use source::Source;
 pub use std_edge::{StdSink, StdSource};
 pub use triple::{NO_TRIPLE, Triple};

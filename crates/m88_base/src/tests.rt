@@ -4,6 +4,7 @@
 ghost use Rattle.std.specs.Prelude.{◌≤◌, IfOk};
 
 use super::*;
+use arrayvec::ArrayVec;
 use std::io::{self, ErrorKind, Read, Write};
 use std::test::Fail;
 
@@ -301,4 +302,21 @@ fn names_are_1_to_64_letters_digits_and_marks(rt: HostRuntime) {
             assert_eq!(rt; name.bytes(), bytes);
         }
     }
+}
+
+#[test]
+fn a_choice_of_absent_pages_is_copied(rt: HostRuntime) {
+    let mut pages = ArrayVec::new();
+    for page in [5, 0xF_FFFF, 5] {
+        if !pages.is_full() {
+            pages.push(page);
+        }
+    }
+    let copied = match Absent::Pages(pages).copy() {
+        Absent::Pages(pages) => pages.as_slice() == [5, 0xF_FFFF, 5].as_slice(),
+        _ => false,
+    };
+    assert!(rt; copied);
+    assert!(rt; matches!(Absent::None.copy(), Absent::None));
+    assert!(rt; matches!(Absent::All.copy(), Absent::All));
 }
