@@ -3,6 +3,7 @@ use Rattle.std.specs.Prelude.{ℕ, zero, suc, List, [], ◌∷◌, Option, Some,
 use Rattle.std.proofs.Common.{arith, refl, sym, ap, ◌∙◌}
 use Rattle.std.proofs.Math.Path.{fun_ext}
 use Rattle.std.proofs.lemmas.Bool.{eqb-true, eqb-false}
+use Rattle.m88_base.specs.Reg.{with_register}
 use Rattle.m88_isa.proofs.Alone.{by_test}
 use Rattle.m88_isa.proofs.TouchedBytes.{loads_bytes, stores_bytes}
 use Rattle.m88_isa.proofs.Turns.{TurnFits, turn_fits}
@@ -11,7 +12,7 @@ use Rattle.m88_isa.specs.Bus.{Cells, after_access, after_accesses, bus_after, bu
 use Rattle.m88_isa.specs.Effect.{AreAligned, Change}
 use Rattle.m88_isa.specs.History.{Completed, after_turn, change_accesses, completed_state, transactions, turn_accesses}
 use Rattle.m88_isa.specs.Lanes.{AreBytes, IsAligned, enable_of, number_at, stored_at, widened}
-use Rattle.m88_isa.specs.Machine.{IsProgram, Program, State, Turn, after_change, after_touch, after_touches, changes, opening, outputs, state, state_after, stepped, stops, turn_at, with_register, with_written}
+use Rattle.m88_isa.specs.Machine.{IsProgram, Program, State, Turn, after_change, after_touch, after_touches, changes, opening, outputs, state, state_after, stepped, stops, turn_at, with_written}
 use Rattle.m88_isa.specs.Memory.{Touch, access_of}
 use Rattle.m88_isa.specs.declared.planned.Access.{Access}
 

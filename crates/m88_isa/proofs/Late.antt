@@ -7,13 +7,13 @@ use Rattle.std.proofs.lemmas.Bool.{eqb-true, eqb-false}
 use Rattle.std.proofs.lemmas.Bool.Decides.{nat_tests}
 use Rattle.std.proofs.lemmas.List.{set_comm}
 use Rattle.m88_base.specs.declared.reg.Reg.{Reg}
-use Rattle.m88_base.specs.Reg.{number_of}
+use Rattle.m88_base.specs.Reg.{number_of, with_register}
 use Rattle.m88_isa.proofs.Alone.{by_test}
 use Rattle.m88_isa.proofs.Sets.{uses_lack_r0}
 use Rattle.m88_isa.specs.Bus.{Cells, after_access, after_accesses, loaded, loads, waits_for}
 use Rattle.m88_isa.specs.Effect.{Change}
 use Rattle.m88_isa.specs.History.{Completed, cells_after, change_accesses}
-use Rattle.m88_isa.specs.Machine.{with_register, with_written}
+use Rattle.m88_isa.specs.Machine.{with_written}
 use Rattle.m88_isa.specs.Operands.{uses_of}
 use Rattle.m88_isa.specs.declared.instr.Instr.{Instr}
 use Rattle.m88_isa.specs.declared.planned.Access.{Access}

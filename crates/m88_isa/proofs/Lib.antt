@@ -1,8 +1,10 @@
 -- What only helps the proofs: lemmas on single instructions, on programs, and on words and bytes of memory.
 pub mod Alone
 pub mod Apart
+pub mod AtWords
 pub mod Changed
 pub mod Constants
+pub mod Counted
 pub mod Flows
 pub mod Held
 pub mod ImageProgram
@@ -11,6 +13,7 @@ pub mod Late
 pub mod Plans
 pub mod Sets
 pub mod Spelling
+pub mod Told
 pub mod TouchedBytes
 pub mod Turns
 pub mod Words

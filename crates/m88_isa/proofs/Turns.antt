@@ -1,6 +1,6 @@
 -- What a program does in a turn: at most two accesses, each aligned, all of which the data unit gets; only a conditional
 -- trap is a taken trap.
-use Rattle.std.specs.Prelude.{ℕ, ℤ, Bool, true, false, not, List, [], ◌∷◌, Option, Some, None, IfSome, ◌≡◌, ◌≤◌, ◌%◌, ◌==◌, ◌&&◌, length, map, nat_lt, if◌then◌else◌, slice_index}
+use Rattle.std.specs.Prelude.{ℕ, ℤ, Bool, true, false, not, List, [], ◌∷◌, Option, Some, None, IfSome, ◌≡◌, ◌≤◌, ◌%◌, ◌==◌, ◌&&◌, length, map, nat_lt, if◌then◌else◌}
 use Rattle.std.proofs.Common.{arith, refl}
 use Rattle.m88_base.specs.declared.reg.Reg.{Reg}
 use Rattle.m88_isa.proofs.Alone.{by_test}
@@ -11,13 +11,15 @@ use Rattle.m88_isa.specs.Compute.{immediate, registers}
 use Rattle.m88_isa.specs.Effect.{AreAligned, Meaning, accesses, branches, checks, computes, controls, effect, goes, indexed, inputs_of, meaning_of, raises, traps}
 use Rattle.m88_isa.specs.Flow.{bit_is, class_in}
 use Rattle.m88_isa.specs.Instr.{IsValid}
-use Rattle.m88_isa.specs.Machine.{IsProgram, Program, Turn, carried_out, changes, fetched, four_bytes, outputs, stops, trapped, turn}
+use Rattle.m88_isa.specs.Machine.{IsProgram, Program, Turn, carried_out, changes, fetched, four_bytes, outputs, stops, turn, turn_of_service}
 use Rattle.m88_isa.specs.Memory.{Touch, access_of, recorded, size_of}
-use Rattle.m88_isa.specs.Monitor.{exit_service, monitor_trap, put_service, service_register}
+use Rattle.m88_isa.specs.Monitor.{service_of}
 use Rattle.m88_isa.specs.Operands.{access_count_of, is_flow, waits_for_empty, writes_of}
 use Rattle.m88_isa.specs.declared.instr.Instr.{Instr}
 use Rattle.m88_isa.specs.declared.instr.Instr.TheVariants as instr
 use Rattle.m88_isa.specs.declared.instr.MemOp.{MemOp}
+use Rattle.m88_isa.specs.declared.monitor.Service.{Service}
+use Rattle.m88_isa.specs.declared.monitor.Service.TheVariants.{End, Out, Unserved}
 use Rattle.m88_isa.specs.declared.planned.Computed.{Computed}
 use Rattle.m88_isa.specs.declared.planned.Computed.TheVariants.{Gives, Raises}
 use Rattle.m88_isa.specs.declared.planned.Inputs.{Inputs}
@@ -32,18 +34,15 @@ TurnFits (changes change) = FitsUnit change.touches
 TurnFits (outputs byte) = Unit {0}
 TurnFits (stops stop) = Unit {0}
 
-trapped_fits : (vector : ℕ) (regs : List ℕ) (pc : ℕ) → TurnFits (trapped vector regs pc)
-trapped_fits vector regs pc =
-    by_test (vector == monitor_trap && slice_index regs service_register == put_service)
-    (λ put. rw put tt)
-    (λ other. rw other (by_test (vector == monitor_trap && slice_index regs service_register == exit_service)
-    (λ exit. rw exit tt)
-    (λ none. rw none tt)))
+service_fits : (service : Service) (vector pc : ℕ) → TurnFits (turn_of_service service vector pc)
+service_fits (Out byte) vector pc = tt
+service_fits End vector pc = tt
+service_fits Unserved vector pc = tt
 
 carried_out_fits : (count set : ℕ) (m : Meaning) (regs : List ℕ) (pc : ℕ) → count ≤ 2 → IsLawful count set m →
     TurnFits (carried_out m regs pc)
 carried_out_fits count set (raises vector) regs pc most h = tt
-carried_out_fits count set (traps vector) regs pc most h = trapped_fits vector regs pc
+carried_out_fits count set (traps vector) regs pc most h = service_fits (service_of vector regs) vector pc
 carried_out_fits count set (goes change) regs pc most h =
     let counted = h.0.counted in
     record { aligned = h.0.aligned; short = omega (arith, counted, most) }

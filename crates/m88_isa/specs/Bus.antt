@@ -1,16 +1,10 @@
 -- Data memory as the data unit sees it: words, and the accesses that load and store their bytes ("Data Unit").
-use Rattle.std.specs.Prelude.{ℕ, zero, suc, Bool, true, false, not, List, [], ◌∷◌, ◌++◌, ◌≡◌, ◌*◌, ◌/◌, ◌^◌, ◌==◌, ◌&&◌, ◌||◌, if◌then◌else◌}
-use Rattle.m88_base.specs.Pages.{page_bytes}
-use Rattle.m88_base.specs.Reg.{number_of}
+use Rattle.std.specs.Prelude.{ℕ, zero, suc, Bool, true, false, not, List, [], ◌∷◌, ◌++◌, ◌≡◌, ◌*◌, ◌^◌, ◌==◌, ◌&&◌, ◌||◌, if◌then◌else◌}
+use Rattle.m88_base.specs.Reg.{number_of, with_register}
 use Rattle.m88_isa.specs.Address.{word_address}
 use Rattle.m88_isa.specs.Lanes.{datum_of, merged, number_at}
-use Rattle.m88_isa.specs.Machine.{with_register}
 use Rattle.m88_isa.specs.declared.planned.Access.{Access}
 use Rattle.m88_isa.specs.declared.planned.Accesses.{Accesses}
-
--- the number of the page of an address
-abbrev pub page_number : ℕ → ℕ
-page_number address = address / page_bytes
 
 -- memory by words: at each address the big-endian word that the address lies in
 unfoldable pub in_words : (ℕ → ℕ) → ℕ → ℕ

@@ -1,16 +1,18 @@
 -- The sequential machine: a program's instructions one after the other, each finished before the next begins, with all
 -- of memory there ("Exception Processing" for how a program ends). It knows no pipeline and no page.
-use Rattle.std.specs.Prelude.{ℕ, zero, suc, Bool, false, List, [], ◌∷◌, ◌++◌, Option, Some, None, IfSome, ◌<◌, ◌+◌, ◌%◌, ◌^◌, ◌==◌, ◌&&◌, unwrap_or, replicate, slice_index, slice_set, if◌then◌else◌}
+use Rattle.std.specs.Prelude.{ℕ, zero, suc, Bool, false, List, [], ◌∷◌, ◌++◌, Option, Some, None, IfSome, ◌<◌, ◌+◌, ◌^◌, unwrap_or, replicate, if◌then◌else◌}
 use Rattle.m88_base.specs.declared.reg.Reg.{Reg}
-use Rattle.m88_base.specs.Reg.{number_of}
+use Rattle.m88_base.specs.Reg.{with_register}
 use Rattle.m88_isa.specs.Address.{after_bytes, word_address}
 use Rattle.m88_isa.specs.Effect.{Change, Meaning, goes, meaning_of, raises, traps}
 use Rattle.m88_isa.specs.Instr.{IsValid}
 use Rattle.m88_isa.specs.Lanes.{number_at, stored_at, widened}
 use Rattle.m88_isa.specs.Memory.{Touch}
-use Rattle.m88_isa.specs.Monitor.{exit_service, monitor_trap, output_register, put_service, service_register}
+use Rattle.m88_isa.specs.Monitor.{service_of}
 use Rattle.m88_isa.specs.Vector.{instruction_access, unimplemented}
 use Rattle.m88_isa.specs.declared.instr.Instr.{Instr}
+use Rattle.m88_isa.specs.declared.monitor.Service.{Service}
+use Rattle.m88_isa.specs.declared.monitor.Service.TheVariants.{Out, End, Unserved}
 
 -- what is run: a start address, the byte that stands at an address, if one does, and the instruction of the word at an
 -- address, if its word is one. A source or an image says which these are.
@@ -54,10 +56,6 @@ word_bytes _ _ _ _ = None
 abbrev pub four_bytes : (ℕ → Option ℕ) → ℕ → Option (List ℕ)
 four_bytes byte a = word_bytes (byte a) (byte (a + 1)) (byte (a + 2)) (byte (a + 3))
 
--- the registers after one is written; r0 stays 0
-abbrev pub with_register : Reg → ℕ → List ℕ → List ℕ
-with_register r value regs = if number_of r == 0 then regs else slice_set regs (number_of r) value
-
 -- the registers after the one that an instruction writes at once, if any
 abbrev pub with_written : Option (Reg × ℕ) → List ℕ → List ℕ
 with_written None regs = regs
@@ -100,13 +98,15 @@ pub data Turn : Type 0 where
   outputs : ℕ → Turn
   stops : Stop → Turn
 
+-- what comes of a taken trap of a vector by the service that it gets: a trap that isn't served ends the program
+abbrev pub turn_of_service : Service → ℕ → ℕ → Turn
+turn_of_service (Out byte) vector pc = outputs byte
+turn_of_service End vector pc = stops (exits pc)
+turn_of_service Unserved vector pc = stops (by_vector vector pc)
+
 -- what a taken trap does: the monitor serves its two services, any other trap ends the program
 abbrev pub trapped : ℕ → List ℕ → ℕ → Turn
-trapped vector regs pc =
-    if vector == monitor_trap && slice_index regs service_register == put_service
-    then outputs (slice_index regs output_register % 2 ^ 8)
-    else if vector == monitor_trap && slice_index regs service_register == exit_service then stops (exits pc)
-    else stops (by_vector vector pc)
+trapped vector regs pc = turn_of_service (service_of vector regs) vector pc
 
 -- what comes of what an instruction means
 abbrev pub carried_out : Meaning → List ℕ → ℕ → Turn

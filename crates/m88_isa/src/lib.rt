@@ -21,6 +21,9 @@ mod memory;
 mod planned;
 mod vector;
 
+// what the data unit keeps of an access
+mod triples;
+
 // what a program asks of the monitor
 mod monitor;
 
@@ -28,9 +31,12 @@ pub use effect::plan;
 pub use instr::{BitOp, ImmOp, Instr, LdaSize, MemOp, RegOp, is_valid};
 pub use lanes::{datum, merge};
 pub use mnemonic::{MNEMONICS, Mnemonic};
-pub use monitor::{EXIT_SERVICE, MONITOR_TRAP, OUTPUT_REGISTER, PUT_SERVICE, SERVICE_REGISTER};
+pub use monitor::{
+    EXIT_SERVICE, MONITOR_TRAP, OUTPUT_REGISTER, PUT_SERVICE, SERVICE_REGISTER, Service,
+};
 pub use operands::{access_count, is_flow, uses, waits_for_empty, writes};
 pub use planned::{Access, Accesses, Effect, Plan};
+pub use triples::{access_in, is_valid_triple, triple_of};
 pub use vector::{
     BAD_DIVISION, DATA_ACCESS, FIRST_USER_VECTOR, INSTRUCTION_ACCESS, MISALIGNED, OUT_OF_BOUNDS,
     OVERFLOW, PRIVILEGE, UNIMPLEMENTED,

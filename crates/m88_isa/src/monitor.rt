@@ -1,6 +1,17 @@
 //! The monitor's trap and what a program asks of it: the service is the number in r9, and the low byte of r2 is
 //! what is put out.
 
+/// What the monitor does for a program that traps.
+#[derive(Clone, Copy, PartialEq, Eq, Debug)]
+pub enum Service {
+    /// It puts this byte out.
+    Out(u8),
+    /// It ends the program.
+    End,
+    /// Nothing: the trap isn't one that it serves.
+    Unserved,
+}
+
 /// The vector of the trap that asks the monitor for a service.
 pub const MONITOR_TRAP: u16 = 496;
 
