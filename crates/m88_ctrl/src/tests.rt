@@ -31,6 +31,71 @@ fn each_register_keeps_what_is_stored(rt: HostRuntime) {
 }
 
 #[test]
+fn each_number_is_of_its_register(rt: HostRuntime) {
+    let mut ctrl = Control::new();
+    for (n, word) in [
+        (7, 0x0001_0000),
+        (17, 0x51),
+        (18, 0x52),
+        (19, 0x53),
+        (20, 0x54),
+    ] {
+        assert!(rt; ctrl.stcr(n, word), "cr{n} stored");
+    }
+    let oldest = Triple {
+        dmt: 0x3F,
+        dmd: 0x0A0B_0C0D,
+        dma: 0x5000,
+    };
+    let middle = Triple {
+        dmt: 0x33,
+        dmd: 0x1A1B_1C1D,
+        dma: 0x6000,
+    };
+    let youngest = Triple {
+        dmt: 0x13D,
+        dmd: 0,
+        dma: 0x7004,
+    };
+    let handler = ctrl.enter(
+        3,
+        &Frame {
+            ssbr: 4,
+            sxip: 0x100A,
+            snip: 0x100E,
+            sfip: 0x1013,
+            triples: [oldest, middle, youngest],
+        },
+    );
+    assert_eq!(rt; handler, 0x0001_0018);
+    for (n, word) in [
+        (0, 0),
+        (1, 0x8000_03FB),
+        (2, 0x3F8),
+        (3, 4),
+        (4, 0x100A),
+        (5, 0x100E),
+        (6, 0x1013),
+        (7, 0x0001_0000),
+        (8, 0x13D),
+        (9, 0),
+        (10, 0x7004),
+        (11, 0x33),
+        (12, 0x1A1B_1C1D),
+        (13, 0x6000),
+        (14, 0x3F),
+        (15, 0x0A0B_0C0D),
+        (16, 0x5000),
+        (17, 0x51),
+        (18, 0x52),
+        (19, 0x53),
+        (20, 0x54),
+    ] {
+        assert_eq!(rt; ctrl.ldcr(n), Some(word), "cr{n}");
+    }
+}
+
+#[test]
 fn a_data_fault_is_entered_and_returned_from(rt: HostRuntime) {
     let mut ctrl = Control::new();
     ctrl.set_carry(true);

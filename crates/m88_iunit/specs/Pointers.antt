@@ -1,8 +1,8 @@
 -- The instruction pointers ("Exception Processing": XIP, NIP and FIP, the addresses of the instruction retired last,
 -- the next one and the one being fetched).
-use Rattle.std.specs.Prelude.{ℕ, Bool, true, false, ◌≡◌, ◌+◌, ◌*◌, ◌/◌, ◌%◌, ◌^◌, ◌==◌, if◌then◌else◌}
-use Rattle.std.specs.Int.{bit_at}
-use Rattle.m88_iunit.specs.declared.slot.Slot.{Slot}
+use Rattle.std.specs.Prelude.{ℕ, Bool, ◌+◌, ◌%◌, ◌^◌}
+use Rattle.m88_base.specs.Slot.{IsWordSlot, no_slot, slot_of, valid_slot}
+use Rattle.m88_base.specs.declared.slot.Slot.{Slot}
 
 -- the three pointers
 pub record Pointers : Type 0 where
@@ -10,37 +10,9 @@ pub record Pointers : Type 0 where
   pub nip : Slot
   pub fip : Slot
 
--- the pointer to nothing
-abbrev pub no_slot : Slot
-no_slot = record { addr = 0; v = false; e = false }
-
--- the pointer to an instruction that is to be carried out; E says that it can't be fetched
-abbrev pub valid_slot : ℕ → Bool → Slot
-valid_slot address e = record { addr = address; v = true; e = e }
-
--- the pointer to an instruction that is passed over
-abbrev pub squashed_slot : ℕ → Slot
-squashed_slot address = record { addr = address; v = false; e = false }
-
 -- the address of the word behind one, modulo 2^32
 abbrev pub word_behind : ℕ → ℕ
 word_behind address = (address + 4) % 2 ^ 32
-
--- the number of a mark: 1 where it is set
-abbrev pub mark_bit : Bool → ℕ
-mark_bit mark = if mark then 1 else 0
-
--- the word of a pointer: the address in bits 31 to 2, V in bit 1, E in bit 0
-abbrev pub slot_word : Slot → ℕ
-slot_word slot = slot.addr + 2 * mark_bit slot.v + mark_bit slot.e
-
--- the pointer of a word
-abbrev pub slot_of : ℕ → Slot
-slot_of word = record { addr = word / 4 * 4; v = bit_at word 1 == 1; e = bit_at word 0 == 1 }
-
--- a pointer has the address of a word
-abbrev pub IsWordSlot : Slot → Type 0
-IsWordSlot slot = slot.addr % 4 ≡ 0
 
 -- each of the pointers has the address of a word
 pub record AreWordSlots (pointers : Pointers) : Type 0 where

@@ -1,8 +1,9 @@
 //! The three instruction pointers and how they move.
 ghost use Rattle.std.specs.Prelude.{◌≡◌, ◌%◌, true, false};
-ghost use Rattle.m88_iunit.specs.Pointers.{AreWordSlots, IsWordSlot, advanced, at_entry, resumed, slot_of, squashed_slot, valid_slot, word_behind, slot_word};
+ghost use Rattle.m88_base.specs.Slot.{IsWordSlot, slot_of, slot_word, squashed_slot, valid_slot};
+ghost use Rattle.m88_iunit.specs.Pointers.{AreWordSlots, advanced, at_entry, resumed, word_behind};
 
-use crate::slot::Slot;
+use m88_base::Slot;
 use std::marker::Model;
 
 /// The instruction pointers XIP, NIP and FIP. Each has the address of a word.
@@ -50,6 +51,17 @@ impl InstrUnit {
         ensures { result ≡ record { xip = xip; nip = nip; fip = fip } }
     {
         InstrUnit { xip, nip, fip }
+    }
+
+    /// The pointers of the words of XIP, NIP and FIP, as an exception saves them.
+    pub fn from_words(sxip: u32, snip: u32, sfip: u32) -> InstrUnit
+        ensures { result ≡ record {
+          xip = slot_of sxip;
+          nip = slot_of snip;
+          fip = slot_of sfip;
+        } }
+    {
+        InstrUnit::at(slot_of(sxip), slot_of(snip), slot_of(sfip))
     }
 
     /// The instruction retired last, XIP.

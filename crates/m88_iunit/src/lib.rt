@@ -3,9 +3,8 @@
 #![tactic(auto)]
 
 mod instr_unit;
-mod slot;
 #[cfg(test)]
 mod tests;
 
 pub use instr_unit::InstrUnit;
-pub use slot::Slot;
+pub use m88_base::Slot;

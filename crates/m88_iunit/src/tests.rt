@@ -76,4 +76,14 @@ fn a_fault_in_a_bubble(rt: HostRuntime) {
     );
     unit.pass_bubble(true);
     assert_eq!(rt; unit.shadow(), (0x100E, 0x1016, 0x101B));
+    let unit = InstrUnit::from_words(0x100E, 0x1010, 0x1017);
+    assert_eq!(rt;
+        unit.candidate(),
+        Slot {
+            addr: 0x1010,
+            v: false,
+            e: false
+        }
+    );
+    assert_eq!(rt; unit.shadow(), (0x100E, 0x1010, 0x1017));
 }

@@ -1,16 +1,12 @@
 -- Memory over two buses ("Data Unit"; "Instruction Unit"): the instruction bus fetches the image as it was linked, and
 -- the data bus starts with the same bytes and zeros elsewhere. Pages and their absence are for the data bus alone.
-use Rattle.std.specs.Prelude.{ℕ, Bool, false, ◌≡◌, ◌/◌, ◌^◌, List, true, unwrap_or, is_some, length, slice_index_or}
+use Rattle.std.specs.Prelude.{ℕ, Bool, false, ◌≡◌, ◌/◌, List, true, unwrap_or, is_some, length, slice_index_or}
 use Rattle.std.specs.BTreeMap.{is_at}
 use Rattle.std.specs.Map.{lookup}
 use Rattle.std.specs.Ordering.{nat_cmp}
 use Rattle.m88_base.specs.Image.{ProgramImage, byte_at}
+use Rattle.m88_base.specs.Pages.{page_count, page_number}
 use Rattle.m88_isa.specs.Bus.{in_words}
-pub use Rattle.m88_isa.specs.Bus.{page_number}
-
--- how many pages there are
-abbrev pub page_count : ℕ
-page_count = 2 ^ 20
 
 -- the image, the words that have a place of their own, each by its address / 4, and a mark for each page: it is ready,
 -- it is absent. Where memory is refused while a page is made ready, some of its words may have got places, each with

@@ -10,5 +10,5 @@ mod places;
 mod tests;
 
 pub use absent_page::AbsentPage;
-pub use m88_base::PAGE_BYTES;
-pub use memory::{Memory, PAGE_COUNT};
+pub use m88_base::{PAGE_BYTES, PAGE_COUNT};
+pub use memory::Memory;

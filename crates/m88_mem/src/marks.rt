@@ -1,11 +1,10 @@
 //! A mark for each of some pages.
 ghost use Rattle.std.specs.Prelude.{◌≡◌, ◌<◌, ◌||◌, ◌&&◌, ℕ, All, false, length, nat_lt, slice_index_or, vec_len, IfOk, ◌==◌};
 ghost use Rattle.std.specs.List.{list_any};
-ghost use Rattle.m88_mem.specs.DataBus.{page_count};
+ghost use Rattle.m88_base.specs.Pages.{page_count};
 ghost use Rattle.m88_mem.specs.Marks.{NamesPages, absent_in};
 
-use crate::memory::PAGE_COUNT;
-use m88_base::{Absent, NoMemory};
+use m88_base::{Absent, NoMemory, PAGE_COUNT};
 use std::alloc::Global;
 
 /// Marks that are all the same.

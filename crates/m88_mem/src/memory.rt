@@ -8,24 +8,22 @@ crate::specs::DataBus::has_place, m88_isa::specs::Bus::with_word))]
 ghost use Rattle.std.specs.Prelude.{◌≡◌, ◌%◌, ◌^◌, ◌<◌, ◌↔◌, ℕ, true, false, option_map, IfOk, IsErr, IsTrue, OnErr, OnOk};
 ghost use Rattle.std.specs.Int.{to_be_bytes, w32};
 ghost use Rattle.m88_base.specs.Image.{byte_at};
+ghost use Rattle.m88_base.specs.Pages.{IsPage, no_page, page_number};
 ghost use Rattle.m88_isa.specs.Bus.{changed_words, with_word};
 ghost use Rattle.m88_isa.specs.Lanes.{IsEnable, merged};
 ghost use Rattle.m88_isa.specs.Machine.{four_bytes};
-ghost use Rattle.m88_mem.specs.DataBus.{absent_of, bus_of, has_place, image_bus, page_count, page_number, ready_of};
-ghost use Rattle.m88_mem.specs.Marks.{NamesPages, absent_in, no_page, with_page};
+ghost use Rattle.m88_mem.specs.DataBus.{absent_of, bus_of, has_place, image_bus, ready_of};
+ghost use Rattle.m88_mem.specs.Marks.{NamesPages, absent_in, with_page};
 ghost use Rattle.m88_mem.specs.Walk.{is_other};
 
 use crate::absent_page::AbsentPage;
 use crate::marks::{absent_marks, marks};
 use crate::places::{fetched, image_word};
-use m88_base::{Absent, Image, NoMemory, PAGE_BYTES};
+use m88_base::{Absent, Image, NoMemory, PAGE_BYTES, PAGE_COUNT};
 use m88_isa::merge;
 use std::alloc::Global;
 use std::collections::BTreeMap;
 use std::marker::Model;
-
-/// How many pages there are.
-pub const PAGE_COUNT: usize = 1 << 20;
 
 /// The words of a page.
 const PAGE_WORDS: u32 = PAGE_BYTES / 4;
@@ -92,7 +90,7 @@ impl Memory {
 
     /// Whether a page, by its number, is absent.
     pub fn is_absent(&self, page: u32) -> bool
-        requires { page < page_count }
+        requires { IsPage page }
         ensures { result ≡ absent_of self.now page }
     {
         self.absent[page as usize]
@@ -205,7 +203,7 @@ impl Memory {
 
     /// A page, by its number, is present from now on.
     pub fn supply(&mut self, page: u32)
-        requires { page < page_count }
+        requires { IsPage page }
         ensures absent { absent_of self.new ≡ with_page page false (absent_of self.old) }
         ensures image { self.new.image ≡ self.old.image }
         ensures bus { bus_of self.new ≡ bus_of self.old }

@@ -1,14 +1,14 @@
 -- One triple's service in parts.
 use Rattle.std.specs.Prelude.{slice_get}
 use Rattle.std.proofs.Common.{ℕ, zero, suc, ◌≡◌, ◌<◌, Bool, true, false, List, Some, if◌then◌else◌, refl, ap, arith, sym, ◌∙◌}
+use Rattle.m88_base.specs.Pages.{page_number}
+use Rattle.m88_base.specs.Reg.{with_register}
 use Rattle.m88_base.specs.declared.triple.Triple.{Triple}
 use Rattle.m88_ctrl.specs.ControlRegisters.{ControlRegisters, triples_by_age}
 use Rattle.m88_isa.proofs.Alone.{by_test}
 use Rattle.m88_isa.specs.Bus.{bus_after, loaded}
-use Rattle.m88_isa.specs.Machine.{with_register}
 use Rattle.m88_isa.specs.Triples.{access_in, is_valid_triple}
 use Rattle.m88_isa.specs.declared.planned.Access.{Access}
-use Rattle.m88_mem.specs.DataBus.{page_number}
 use Rattle.m88_mem.specs.Marks.{with_page}
 use Rattle.m88_monitor.specs.Serving.{Serving, after_triple, triple_at, with_finished, with_loaded}
 

@@ -1,3 +1,2 @@
--- What contracts cite: the service of a trap, and that of the transactions that a fault left.
-pub mod Service
+-- What contracts cite: the service of the transactions that a fault left.
 pub mod Serving

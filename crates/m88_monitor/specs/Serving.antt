@@ -1,15 +1,15 @@
 -- How the monitor finishes the data transactions that a fault left ("Exception Processing": data access exception).
 use Rattle.std.specs.Prelude.{ℕ, Bool, true, false, List, ◌≡◌, ◌+◌, ◌-◌, ◌*◌, ◌/◌, ◌%◌, ◌^◌, ◌==◌, if◌then◌else◌}
 use Rattle.std.specs.Int.{bit_at}
-use Rattle.m88_base.specs.Reg.{number_of}
+use Rattle.m88_base.specs.Pages.{page_number}
+use Rattle.m88_base.specs.Reg.{number_of, with_register}
 use Rattle.m88_base.specs.declared.triple.Triple.{Triple}
-use Rattle.m88_ctrl.specs.ControlRegisters.{ControlRegisters, kept_of}
+use Rattle.m88_ctrl.specs.ControlRegisters.{ControlRegisters}
 use Rattle.m88_isa.specs.Bus.{bus_after, loaded}
 use Rattle.m88_isa.specs.Lanes.{IsEnable}
-use Rattle.m88_isa.specs.Machine.{with_register}
 use Rattle.m88_isa.specs.Triples.{access_in, is_valid_triple}
 use Rattle.m88_isa.specs.declared.planned.Access.{Access}
-use Rattle.m88_mem.specs.DataBus.{MemoryView, absent_of, bus_of, page_number}
+use Rattle.m88_mem.specs.DataBus.{MemoryView, absent_of, bus_of}
 use Rattle.m88_mem.specs.Marks.{with_page}
 use Rattle.m88_scoreboard.specs.Registers.{Registers}
 
@@ -42,7 +42,7 @@ without_bit n word = word - bit_at word n * 2 ^ n
 
 -- the control registers once the bit of a load's register in SSBR is cleared
 abbrev pub with_loaded : Access → ControlRegisters → ControlRegisters
-with_loaded a c = if a.write then c else record c { ssbr = kept_of 3 (without_bit (number_of a.reg) c.ssbr) }
+with_loaded a c = if a.write then c else record c { ssbr = without_bit (number_of a.reg) c.ssbr }
 
 -- an access is made with its page supplied, and its triple is finished
 abbrev pub after_access_at : ℕ → Access → Serving → Serving

@@ -2,18 +2,18 @@
 #![tactic(auto, unfolding(m88_isa::specs::Bus::loaded, m88_isa::specs::Bus::stored))]
 
 ghost use Rattle.std.specs.Prelude.{◌≡◌, ◌<◌, ◌≤◌, true, false, slice_set, if◌then◌else◌};
-ghost use Rattle.m88_base.specs.Reg.{number_of};
+ghost use Rattle.m88_base.specs.Pages.{page_number};
+ghost use Rattle.m88_base.specs.Reg.{number_of, with_register};
 ghost use Rattle.m88_ctrl.specs.ControlRegisters.{by_number, kept_of};
 ghost use Rattle.m88_isa.specs.Bus.{bus_after, loaded};
-ghost use Rattle.m88_isa.specs.Machine.{with_register};
-ghost use Rattle.m88_isa.specs.Triples.{access_in, is_valid_triple};
-ghost use Rattle.m88_mem.specs.DataBus.{absent_of, bus_of, page_number, ready_of};
+ghost use Rattle.m88_isa.specs.Triples.{is_valid_triple};
+ghost use Rattle.m88_mem.specs.DataBus.{absent_of, bus_of, ready_of};
 ghost use Rattle.m88_scoreboard.specs.Registers.{none_waits, waiting_of};
 ghost use Rattle.m88_monitor.specs.Serving.{CanServe, CanServeTriple, after_service, after_triple, serving_of, triple_at, valid_count, with_finished, with_loaded, without_bit};
 
 use m88_base::{Reg, Triple};
 use m88_ctrl::{Control, cr};
-use m88_isa::{Access, datum};
+use m88_isa::{Access, access_in, datum, is_valid_triple};
 use m88_mem::{Memory, PAGE_BYTES};
 use m88_scoreboard::RegFile;
 
@@ -60,7 +60,7 @@ fn serve_triple(ctrl: &mut Control, regs: &mut RegFile, memory: &mut Memory, ind
     ensures ready { ready_of memory.new ≡ ready_of memory.old }
 {
     let triple = triple_at(ctrl, index);
-    if triple.dmt % 2 == 0 {
+    if !is_valid_triple(&triple) {
         return 0;
     }
     let access = access_in(&triple);
@@ -100,23 +100,6 @@ fn make(ctrl: &mut Control, regs: &mut RegFile, memory: &mut Memory, access: &Ac
     load(ctrl, regs, memory, access);
 }
 
-/// The access of a triple, field by field.
-fn access_in(triple: &Triple) -> Access
-    ensures { result ≡ access_in triple.now }
-{
-    let dmt = triple.dmt;
-    Access {
-        write: dmt / (1 << 1) % 2 == 1,
-        addr: triple.dma,
-        en: (dmt / (1 << 2) % (1 << 4)) as u8,
-        reg: Reg::from_low_bits(dmt / (1 << 7)),
-        signed: dmt / (1 << 6) % 2 == 1,
-        doub1: dmt / (1 << 13) % 2 == 1,
-        lock: dmt / (1 << 12) % 2 == 1,
-        value: triple.dmd,
-    }
-}
-
 /// Makes a store to a page that is ready and present.
 fn store(memory: &mut Memory, access: &Access)
     requires serve { CanServe (ready_of memory.old) access.now }
@@ -153,7 +136,7 @@ fn load(ctrl: &mut Control, regs: &mut RegFile, memory: &Memory, access: &Access
 /// Clears the bit of a register in SSBR.
 fn end_wait(ctrl: &mut Control, r: Reg)
     ensures { ctrl.new
-        ≡ record ctrl.old { ssbr = kept_of 3 (without_bit (number_of r) ctrl.old.ssbr) } }
+        ≡ record ctrl.old { ssbr = without_bit (number_of r) ctrl.old.ssbr } }
 {
     let Some(waiting) = ctrl.ldcr(cr::SSBR) else {
         unreachable!();

@@ -1,11 +1,12 @@
 //! The traps that ask the monitor for a service.
 ghost use Rattle.std.specs.Prelude.{◌≡◌, ◌<◌, false, slice_index};
+ghost use Rattle.m88_isa.specs.Monitor.{service_of};
 ghost use Rattle.m88_scoreboard.specs.Registers.{waiting_of};
-ghost use Rattle.m88_monitor.specs.Service.{service_of};
 
-use crate::answer::Service;
 use m88_base::Reg;
-use m88_isa::{EXIT_SERVICE, MONITOR_TRAP, OUTPUT_REGISTER, PUT_SERVICE, SERVICE_REGISTER};
+use m88_isa::{
+    EXIT_SERVICE, MONITOR_TRAP, OUTPUT_REGISTER, PUT_SERVICE, SERVICE_REGISTER, Service,
+};
 use m88_scoreboard::RegFile;
 
 /// What the monitor does at a taken trap of a vector, by the number in r9 and the low byte of r2.

@@ -1,8 +1,6 @@
 -- The register file and its scoreboard ("Register Model": general registers; "Exception Processing": the scoreboard
 -- holds an instruction that touches a register with a load under way).
-use Rattle.std.specs.Prelude.{ℕ, Bool, false, ◌≡◌, ◌==◌, List, length, slice_index, slice_index_or, slice_set, if◌then◌else◌}
-use Rattle.m88_base.specs.declared.reg.Reg.{Reg}
-use Rattle.m88_base.specs.Reg.{number_of}
+use Rattle.std.specs.Prelude.{ℕ, Bool, false, ◌≡◌, List, length, slice_index, slice_index_or, if◌then◌else◌}
 
 -- the number in each of the 32 registers, and which of them wait for a load
 pub record Registers : Type 0 where
@@ -16,10 +14,6 @@ waiting_of file r = slice_index_or file.waits r false
 -- the value that a register shows: 0 while it waits
 abbrev pub shown_at : Registers → ℕ → ℕ
 shown_at file r = if waiting_of file r then 0 else slice_index file.numbers r
-
--- the numbers after one register is written; r0 stays as it is
-abbrev pub with_number : Reg → ℕ → List ℕ → List ℕ
-with_number r value numbers = if number_of r == 0 then numbers else slice_set numbers (number_of r) value
 
 -- no register waits
 abbrev pub none_waits : ℕ → Bool

@@ -2,9 +2,9 @@
 #![tactic(auto, unfolding(crate::specs::Registers::waiting_of))]
 
 ghost use Rattle.std.specs.Prelude.{◌≡◌, ◌<◌, ◌↔◌, ℕ, true, false, replicate, slice_index, IsErr, IsTrue, IfOk};
-ghost use Rattle.m88_base.specs.Reg.{number_of};
+ghost use Rattle.m88_base.specs.Reg.{number_of, with_register};
 ghost use Rattle.m88_base.specs.RegisterSet.{register_bits, registers_in, with_member};
-ghost use Rattle.m88_scoreboard.specs.Registers.{none_waits, shown_at, waiting_of, with_number};
+ghost use Rattle.m88_scoreboard.specs.Registers.{none_waits, shown_at, waiting_of};
 
 use crate::busy::Busy;
 use m88_base::Reg;
@@ -35,6 +35,18 @@ impl RegFile {
     {
         RegFile {
             numbers: [0; 32],
+            waits: [false; 32],
+        }
+    }
+
+    /// All registers with these values, of which r0 has 0, and none waits.
+    pub fn of(values: [u32; 32]) -> RegFile
+        requires { slice_index values 0 ≡ 0 }
+        ensures numbers { result.numbers ≡ values }
+        ensures waiting { waiting_of result ≡ none_waits }
+    {
+        RegFile {
+            numbers: values,
             waits: [false; 32],
         }
     }
@@ -71,7 +83,7 @@ impl RegFile {
     /// Writes a register that doesn't wait; nothing happens to r0.
     pub fn set(&mut self, r: Reg, value: u32)
         requires { waiting_of self.old (number_of r) ≡ false }
-        ensures numbers { self.new.numbers ≡ with_number r value self.old.numbers }
+        ensures numbers { self.new.numbers ≡ with_register r value self.old.numbers }
         ensures waiting { waiting_of self.new ≡ waiting_of self.old }
     {
         if r != Reg::ZERO {

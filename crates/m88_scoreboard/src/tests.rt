@@ -40,4 +40,5 @@ fn a_register_that_waits_shows_nothing(rt: HostRuntime) {
     assert_eq!(rt; regs.values(), [0; 32]);
     regs.clear(r2);
     assert_eq!(rt; regs.values(), want);
+    assert_eq!(rt; RegFile::of(want).values(), want);
 }

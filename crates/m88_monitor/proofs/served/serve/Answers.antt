@@ -9,6 +9,18 @@ returns-clause-served c =
     c.serve_triple-third.ensures.served
     ∙ ap (after_triple 2) (c.serve_triple-second.ensures.served ∙ ap (after_triple 1) c.serve_triple-first.ensures.served)
 
+pub serve_triple-third-requires-clause-triple : goal.serve_triple-third-requires-clause-triple
+serve_triple-third-requires-clause-triple c =
+    let before : Serving = serving_of c.args.ctrl.now c.args.regs.now c.args.memory.now in
+    let between : Serving =
+    serving_of c.serve_triple-first.new.ctrl c.serve_triple-first.new.regs c.serve_triple-first.new.memory in
+    let third : c.serve_triple-second.new.ctrl.t2 ≡ c.args.ctrl.now.t2 =
+    ap (λ (s : Serving). s.control.t2) c.serve_triple-second.ensures.served
+    ∙ third_kept_again between
+    ∙ ap (λ (s : Serving). s.control.t2) c.serve_triple-first.ensures.served
+    ∙ third_kept before in
+    rw (third, c.serve_triple-second.ensures.ready ∙ c.serve_triple-first.ensures.ready) c.requires.third
+
 pub returns-clause-done : goal.returns-clause-done
 returns-clause-done c =
     let before : Serving = serving_of c.args.ctrl.now c.args.regs.now c.args.memory.now in

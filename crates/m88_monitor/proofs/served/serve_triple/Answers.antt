@@ -1,8 +1,8 @@
 -- The parts of a valid triple's service make the whole.
 use Rattle.std.proofs.Common.{ℕ, ◌≡◌, ◌∙◌, true, if◌then◌else◌, ap, sym, arith}
 use Rattle.std.proofs.lemmas.Bool.Decides.{nat_tests}
+use Rattle.m88_base.specs.Reg.{with_register}
 use Rattle.m88_isa.specs.Bus.{bus_after, loaded}
-use Rattle.m88_isa.specs.Machine.{with_register}
 use Rattle.m88_isa.specs.Triples.{is_valid_triple}
 use Rattle.m88_monitor.proofs.Steps.{same_triple, served_valid}
 use Rattle.m88_monitor.specs.Serving.{serving_of, triple_at}

@@ -2,8 +2,9 @@
 use Rattle.std.proofs.Common.{◌+◌, ◌*◌, ◌/◌, ◌%◌, ◌∙◌, true, false, ap, sym, arith, inl, inr}
 use Rattle.std.proofs.lemmas.Bool.{cases_eq}
 use Rattle.std.proofs.lemmas.List.{get_or-set_other, length-set}
+use Rattle.m88_base.specs.Pages.{page_number}
 use Rattle.m88_mem.proofs.Pages.{marked, same_place}
-use Rattle.m88_mem.specs.DataBus.{MemoryView, absent_of, bus_of, has_place, page_number, ready_of}
+use Rattle.m88_mem.specs.DataBus.{MemoryView, absent_of, bus_of, has_place, ready_of}
 use Rattle.m88_mem.specs.Marks.{with_page}
 use Rattle.m88_mem.proofs.memory.Memory.prepare.Goals as goal
 
