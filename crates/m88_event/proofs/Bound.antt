@@ -7,7 +7,7 @@ use Rattle.std.proofs.lemmas.Option.{slice_get_past}
 use Rattle.m88_isa.proofs.Alone.{by_test}
 use Rattle.m88_isa.proofs.Held.{nothing_held}
 use Rattle.m88_isa.proofs.Turns.{TurnFits, turn_fits}
-use Rattle.m88_isa.specs.Bus.{page_number}
+use Rattle.m88_base.specs.Pages.{page_number}
 use Rattle.m88_isa.specs.Held.{Hold, held, instruction_at, is_pending}
 use Rattle.m88_isa.specs.History.{change_accesses}
 use Rattle.m88_isa.specs.Machine.{IsProgram, Program, Turn, changes, outputs, stops}
@@ -221,7 +221,7 @@ same_fuel : (p : Program) (limit : ℕ) (letter : Letter) (l : Local) → fuel l
 unfolding fuel move after
 same_fuel p limit letter l = refl
 
-fuel_stays : (p : Program) (limit : ℕ) (letter : Letter) (l : Local) → IsProgram p → l.retired ≤ limit →
+pub fuel_stays : (p : Program) (limit : ℕ) (letter : Letter) (l : Local) → IsProgram p → l.retired ≤ limit →
     fuel limit (move p limit letter l) ≤ fuel limit l
 unfolding after
 fuel_stays p limit letter l is within =

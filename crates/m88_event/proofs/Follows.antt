@@ -4,7 +4,8 @@ use Rattle.std.proofs.Common.{arith, add-one, length-append, refl, sym, ap, â—Œâ
 use Rattle.std.proofs.Math.Path.{fun_ext}
 use Rattle.std.proofs.lemmas.List.{append-nil, drop-append-le, drop_all, length-drop, take-append-drop, take-append-le, take_all}
 use Rattle.m88_isa.proofs.InWords.{bus_of_append, state_agrees}
-use Rattle.m88_isa.specs.Bus.{page_number, bus_after_all, in_words}
+use Rattle.m88_base.specs.Pages.{page_number}
+use Rattle.m88_isa.specs.Bus.{bus_after_all, in_words}
 use Rattle.m88_isa.specs.Held.{Hold}
 use Rattle.m88_isa.specs.History.{after_turn, bus_at, change_accesses, completed_state, pending_at, transaction_count, transactions, turn_accesses}
 use Rattle.m88_isa.specs.Machine.{IsProgram, Program, Turn, changes, opening, outputs, state, stops, turn_at}

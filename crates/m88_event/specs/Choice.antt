@@ -1,7 +1,7 @@
 -- What a letter makes the board do: the first that applies.
 use Rattle.std.specs.Prelude.{ℕ, Bool, List, [], ◌∷◌, Option, Some, None, ◌==◌, ◌||◌, false, if◌then◌else◌}
 use Rattle.m88_base.specs.Reg.{reg_of}
-use Rattle.m88_isa.specs.Bus.{page_number}
+use Rattle.m88_base.specs.Pages.{page_number}
 use Rattle.m88_isa.specs.Effect.{Change}
 use Rattle.m88_isa.specs.Held.{Hold, busy, full, held, instruction_at, sync}
 use Rattle.m88_isa.specs.Machine.{Program, Stop, Turn, by_vector, changes, exits, outputs, stops, turn}

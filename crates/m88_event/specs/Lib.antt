@@ -7,3 +7,4 @@ pub mod Timeline
 pub mod Past
 pub mod Local
 pub mod Run
+pub mod EndText

@@ -2,13 +2,14 @@
 -- transactions lead to, memory as it is now, these transactions, marks, absent pages, counts and records; and what a
 -- letter makes of it.
 use Rattle.std.specs.Prelude.{ℕ, Bool, false, not, List, [], ◌∷◌, ◌++◌, Option, Some, None, ◌+◌, ◌==◌, ◌&&◌, ◌||◌, drop, is_some, length, slice_index, take, if◌then◌else◌}
+use Rattle.m88_base.specs.declared.slot.Slot.{Slot}
 use Rattle.m88_isa.specs.Bus.{bus_after_all, waits_for}
 use Rattle.m88_isa.specs.History.{Completed, after_turn, bus_at, change_accesses, completed_state, pending_at}
 use Rattle.m88_isa.specs.Held.{is_pending}
 use Rattle.m88_isa.specs.Machine.{Program, changes, outputs, state}
 use Rattle.m88_isa.specs.declared.planned.Access.{Access}
 use Rattle.m88_event.specs.Choice.{Choice, choice_of, end_by, faults, finishes, holds, idles, issues, passes, replies, said, serves, touches_page}
-use Rattle.m88_event.specs.Shadow.{Pointer, retired_pointer}
+use Rattle.m88_event.specs.Shadow.{retired_pointer}
 use Rattle.m88_event.specs.Situation.{Situation, record_of}
 use Rattle.m88_event.specs.Timeline.{Moment, absent_at, end_at, xip_at}
 use Rattle.m88_event.specs.declared.happened.End.{End}
@@ -23,7 +24,7 @@ pub record Local : Type 0 where
   pub completed : Completed
   pub bus : ℕ → ℕ
   pub pending : List Access
-  pub xip : Pointer
+  pub xip : Slot
   pub bubble : Bool
   pub ended : Option End
   pub absent : ℕ → Bool

@@ -2,11 +2,13 @@
 -- exception).
 use Rattle.std.specs.Prelude.{ℕ, Bool, List}
 use Rattle.m88_base.specs.RegisterSet.{register_bits}
+use Rattle.m88_base.specs.Slot.{slot_word}
+use Rattle.m88_base.specs.declared.slot.Slot.{Slot}
 use Rattle.m88_isa.specs.Bus.{waits_for}
 use Rattle.m88_isa.specs.Machine.{Program}
 use Rattle.m88_isa.specs.Triples.{triples_of}
 use Rattle.m88_isa.specs.declared.planned.Access.{Access}
-use Rattle.m88_event.specs.Shadow.{Pointer, fip_of, nip_of, pointer_word, status_of}
+use Rattle.m88_event.specs.Shadow.{fip_of, nip_of, status_of}
 use Rattle.m88_event.specs.declared.record.Record.{Record}
 
 -- registers, carry and the two addresses after the instructions that are retired, XIP, the mark that a fetched
@@ -17,7 +19,7 @@ pub record Situation : Type 0 where
   pub carry : Bool
   pub pc : ℕ
   pub next : ℕ
-  pub xip : Pointer
+  pub xip : Slot
   pub bubble : Bool
   pub idle : Bool
   pub pending : List Access
@@ -29,9 +31,9 @@ unfoldable pub record_of : Program → Situation → Record
 record_of p s = record {
   event = s.event;
   epsr = status_of s.carry;
-  sxip = pointer_word s.xip;
-  snip = pointer_word (nip_of p s.bubble s.xip s.pc);
-  sfip = pointer_word (fip_of p s.bubble s.pc s.next);
+  sxip = slot_word s.xip;
+  snip = slot_word (nip_of p s.bubble s.xip s.pc);
+  sfip = slot_word (fip_of p s.bubble s.pc s.next);
   ssbr = register_bits (waits_for s.pending);
   triples = triples_of s.pending;
 }

@@ -1,10 +1,12 @@
 -- The timeline of a run: its moments, each a count of the instructions that are retired and one of the transactions
 -- that are done along the history of the sequential machine, and what a letter makes of one.
 use Rattle.std.specs.Prelude.{ℕ, zero, suc, Bool, true, false, not, List, [], ◌∷◌, ◌++◌, Option, Some, None, ◌+◌, ◌≤◌, ◌==◌, ◌&&◌, ◌||◌, if◌then◌else◌}
+use Rattle.m88_base.specs.Slot.{no_slot}
+use Rattle.m88_base.specs.declared.slot.Slot.{Slot}
 use Rattle.m88_isa.specs.History.{pending_at, transaction_count}
 use Rattle.m88_isa.specs.Machine.{Program, Turn, changes, outputs, state, stops, turn_at}
 use Rattle.m88_event.specs.Choice.{Choice, choice_of, end_by, faults, finishes, holds, idles, issues, passes, replies, said, serves, touches_page}
-use Rattle.m88_event.specs.Shadow.{Pointer, nip_of, no_pointer, retired_pointer}
+use Rattle.m88_event.specs.Shadow.{nip_of, retired_pointer}
 use Rattle.m88_event.specs.Situation.{Situation, record_of}
 use Rattle.m88_event.specs.declared.happened.End.{End}
 use Rattle.m88_event.specs.declared.happened.End.TheVariants.{Limit}
@@ -39,12 +41,12 @@ opening_moment = record {
 }
 
 -- the instruction retired last
-unfoldable pub xip_at : Program → ℕ → Pointer
-xip_at p zero = no_pointer
+unfoldable pub xip_at : Program → ℕ → Slot
+xip_at p zero = no_slot
 xip_at p (suc n) = retired_pointer (state p n).pc
 
 -- NIP at a moment: the next instruction, or the one that is passed over
-abbrev pub nip_at : Program → Moment → Pointer
+abbrev pub nip_at : Program → Moment → Slot
 nip_at p m = nip_of p m.bubble (xip_at p m.retired) (state p m.retired).pc
 
 -- the pages that are absent: those that are named and weren't supplied

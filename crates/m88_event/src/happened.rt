@@ -1,7 +1,8 @@
 //! What an event did.
 
 use crate::record::Record;
-use m88_base::Reg;
+use m88_base::{Hex8, Reg};
+use std::fmt;
 
 /// Why the next instruction isn't issued yet: the first of these that holds.
 #[derive(Clone, Copy, PartialEq, Eq, Debug)]
@@ -24,6 +25,22 @@ pub enum End {
     /// What stands at this byte address can't be fetched or is no instruction, or the instruction there raised
     /// this vector or is a taken trap of it that the monitor doesn't serve.
     Vector { vector: u16, at: u32 },
+}
+
+impl fmt::Display for End {
+    ghost use Rattle.std.specs.Prelude.{Some};
+    ghost use Rattle.m88_event.specs.EndText.{end_text};
+
+    ghost output = { λ end. Some (end_text end) };
+
+    #[tactic(auto, unfolding(crate::specs::EndText::end_text))]
+    fn fmt<W: fmt::Write>(&self, f: &mut fmt::Formatter<W>) -> fmt::Result {
+        match self {
+            End::Limit => f.write_str("limit"),
+            End::Exit { at } => write!(f, "exit at {}", Hex8(*at)),
+            End::Vector { vector, at } => write!(f, "vector {vector} at {}", Hex8(*at)),
+        }
+    }
 }
 
 /// What one event did. `Issued`, `Bubble`, `Stalled`, `Served` and `Ended` come only at `i`, `Answered` and `Faulted`

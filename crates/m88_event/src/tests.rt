@@ -1,6 +1,6 @@
 //! Schedules as they are written.
 
-use crate::{Letter, Schedule};
+use crate::{End, Letter, Schedule};
 use std::alloc::AllocError;
 
 #[test]
@@ -75,5 +75,24 @@ fn schedules_of_the_most_letters(rt: HostRuntime) -> Result<(), AllocError> {
     }
     text.push('i')?;
     assert!(rt; Schedule::read(text.as_str()).is_none());
+    Ok(())
+}
+
+#[test]
+fn ends_in_words(rt: HostRuntime) -> Result<(), AllocError> {
+    for (end, words) in [
+        (End::Limit, "limit"),
+        (End::Exit { at: 0x100C }, "exit at 0000100C"),
+        (
+            End::Vector {
+                vector: 496,
+                at: 0xFFFF_FFFC,
+            },
+            "vector 496 at FFFFFFFC",
+        ),
+    ] {
+        let text = end.to_string(rt.alloc())?;
+        assert_eq!(rt; text.as_str(), words);
+    }
     Ok(())
 }

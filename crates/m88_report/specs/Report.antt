@@ -4,20 +4,9 @@ use Rattle.std.specs.List.{enumerate_from, flat_map}
 use Rattle.m88_base.specs.Hex.{hex2, hex8}
 use Rattle.m88_base.specs.Lines.{line_end}
 use Rattle.m88_base.specs.declared.triple.Triple.{Triple}
-use Rattle.m88_event.specs.declared.happened.End.{End}
-use Rattle.m88_event.specs.declared.happened.End.TheVariants.{Limit, Exit, Vector}
+use Rattle.m88_event.specs.EndText.{run_end_line}
 use Rattle.m88_event.specs.declared.outcome.Outcome.{Outcome}
 use Rattle.m88_event.specs.declared.record.Record.{Record}
-
--- how a run ended, in words: at its limit, or by its own exit or a vector at an address
-abbrev pub end_text : End → List ℕ
-end_text Limit = codes "limit"
-end_text (Exit at) = codes "exit at " ++ hex8 at
-end_text (Vector vector at) = codes "vector " ++ decimal vector ++ codes " at " ++ hex8 at
-
--- the line that says how a run ended
-abbrev pub run_end_line : End → List ℕ
-run_end_line end = codes "end " ++ end_text end ++ line_end
 
 -- a line with a name and a count
 abbrev pub count_line : List ℕ → ℕ → List ℕ

@@ -3,7 +3,8 @@
 
 ghost use Rattle.std.specs.Prelude.{◌≡◌, ◌++◌, OnOk};
 ghost use Rattle.std.specs.List.{enumerate_from, flat_map};
-ghost use Rattle.m88_report.specs.Report.{carry_line, count_line, run_end_line, end_text, fault_lines, named_word, out_line, out_text, record_lines, register_line, register_lines, register_text, status_line, triple_line, word_line};
+ghost use Rattle.m88_event.specs.EndText.{run_end_line};
+ghost use Rattle.m88_report.specs.Report.{carry_line, count_line, fault_lines, named_word, out_line, out_text, record_lines, register_line, register_lines, register_text, status_line, triple_line, word_line};
 
 use m88_base::{Triple, push_decimal, push_hex2, push_hex8};
 use m88_event::{End, Record};
@@ -13,29 +14,10 @@ use std::alloc::AllocError;
 pub fn push_end(text: &mut Vec<u8>, end: End) -> Result<(), AllocError>
     ensures { OnOk result (text.new.items ≡ text.old.items ++ run_end_line end) }
 {
+    let words = end.to_string(*text.allocator())?;
     text.extend_from_slice(b"end ")?;
-    push_end_words(text, end)?;
+    text.extend_from_slice(words.as_bytes())?;
     text.push(b'\n')?;
-    Ok(())
-}
-
-/// Appends how a run ended.
-fn push_end_words(text: &mut Vec<u8>, end: End) -> Result<(), AllocError>
-    ensures { OnOk result (text.new.items ≡ text.old.items ++ end_text end) }
-{
-    match end {
-        End::Limit => text.extend_from_slice(b"limit")?,
-        End::Exit { at } => {
-            text.extend_from_slice(b"exit at ")?;
-            push_hex8(text, at)?;
-        }
-        End::Vector { vector, at } => {
-            text.extend_from_slice(b"vector ")?;
-            push_decimal(text, u64::from(vector))?;
-            text.extend_from_slice(b" at ")?;
-            push_hex8(text, at)?;
-        }
-    }
     Ok(())
 }
 
