@@ -2,7 +2,8 @@
 use Rattle.std.specs.Prelude.{ℕ, Bool, true, false, ◌≡◌}
 use Rattle.std.proofs.Common.{ap, refl, subst, sym}
 use Rattle.m88_base.specs.Image.{ProgramImage}
-use Rattle.m88_iunit.specs.Pointers.{Pointers, advanced, squashed_slot, valid_slot, word_behind}
+use Rattle.m88_base.specs.Slot.{squashed_slot, valid_slot}
+use Rattle.m88_iunit.specs.Pointers.{Pointers, advanced, word_behind}
 use Rattle.m88_board.specs.Kept.{SlotsAgree, lacks_word}
 
 -- with a bubble, or without one

@@ -1,20 +1,18 @@
 -- The choices that the paths of an event come to.
-use Rattle.std.specs.Prelude.{ℕ, Bool, true, false, List, [], ◌∷◌, Option, Some, ◌≡◌, ◌<◌, ◌==◌, ◌&&◌, is_some, length, slice_get, slice_index, if◌then◌else◌}
+use Rattle.std.specs.Prelude.{ℕ, Bool, true, false, List, [], ◌∷◌, Option, Some, ◌≡◌, ◌<◌, is_some, length, slice_get, if◌then◌else◌}
 use Rattle.std.proofs.Common.{arith, refl, sym, ap, ◌∙◌, subst}
-use Rattle.m88_event.specs.Choice.{Choice, answer_choice, faults, finishes, replies, serves, turn_choice}
+use Rattle.m88_base.specs.Pages.{page_number}
+use Rattle.m88_base.specs.declared.slot.Slot.{Slot}
+use Rattle.m88_event.specs.Choice.{Choice, answer_choice, faults, finishes, replies, turn_choice}
 use Rattle.m88_event.specs.declared.happened.Happened.{Happened}
 use Rattle.m88_event.specs.declared.record.Record.{Record}
-use Rattle.m88_isa.proofs.Alone.{by_test}
-use Rattle.m88_isa.specs.Bus.{page_number, waits_for}
+use Rattle.m88_isa.specs.Bus.{waits_for}
 use Rattle.m88_isa.specs.Held.{is_pending}
-use Rattle.m88_isa.specs.Machine.{Stop, by_vector, exits, trapped}
-use Rattle.m88_isa.specs.Monitor.{exit_service, monitor_trap, put_service, service_register}
+use Rattle.m88_isa.specs.Machine.{Stop, trapped, turn_of_service}
+use Rattle.m88_isa.specs.Monitor.{service_of}
+use Rattle.m88_isa.specs.declared.monitor.Service.{Service}
 use Rattle.m88_isa.specs.declared.planned.Access.{Access}
 use Rattle.m88_iunit.specs.Pointers.{Pointers}
-use Rattle.m88_iunit.specs.declared.slot.Slot.{Slot}
-use Rattle.m88_monitor.specs.Service.{service_of}
-use Rattle.m88_monitor.specs.declared.answer.Service.{Service}
-use Rattle.m88_monitor.specs.declared.answer.Service.TheVariants.{Out, End, Unserved}
 use Rattle.m88_scoreboard.specs.Registers.{Registers, waiting_of}
 use Rattle.m88_mem.specs.DataBus.{MemoryView}
 use Rattle.m88_board.specs.Board.{BoardView, pc_of}
@@ -58,27 +56,13 @@ pub nothing_waits : (xs : List Access) (file : Registers) (memory : MemoryView) 
 unfolding waits_for
 nothing_waits xs file memory r agree none = ap (λ set. set r) (agree.waiting ∙ ap waits_for none)
 
--- the turn of a taken trap by what the monitor does
-abbrev pub turn_of_service : Service → ℕ → ℕ → Choice
-turn_of_service (Out byte) vector pc = serves byte
-turn_of_service End vector pc = finishes (exits pc)
-turn_of_service Unserved vector pc = finishes (by_vector vector pc)
-
-pub trapped_is : (vector : ℕ) (numbers : List ℕ) (pc : ℕ) →
-    turn_choice (trapped vector numbers pc) ≡ turn_of_service (service_of vector numbers) vector pc
-trapped_is vector numbers pc = by_test (vector == monitor_trap && slice_index numbers service_register == put_service)
-    (λ put. rw put refl)
-    (λ other. by_test (vector == monitor_trap && slice_index numbers service_register == exit_service)
-    (λ exit. rw (other, exit) refl)
-    (λ none. rw (other, none) refl))
-
+-- the choice of a taken trap by what the monitor does
 pub trap_choice : (vector pc : ℕ) (numbers seen : List ℕ) (result s : Service) → result ≡ service_of vector numbers →
     numbers ≡ seen →
     result ≡ s →
-    turn_choice (trapped vector seen pc) ≡ turn_of_service s vector pc
+    turn_choice (trapped vector seen pc) ≡ turn_choice (turn_of_service s vector pc)
 trap_choice vector pc numbers seen result s is same found =
-    trapped_is vector seen pc
-    ∙ ap (λ (u : Service). turn_of_service u vector pc) (ap (service_of vector) (sym same) ∙ sym is ∙ found)
+    ap (λ (u : Service). turn_choice (turn_of_service u vector pc)) (ap (service_of vector) (sym same) ∙ sym is ∙ found)
 
 -- the next instruction, where it isn't passed over, is at NIP
 pub at_pc : (slots seen : Pointers) (slot : Slot) → slot ≡ slots.nip → slots ≡ seen → seen.nip.v ≡ true → slot.addr ≡ pc_of seen

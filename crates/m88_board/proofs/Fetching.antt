@@ -3,6 +3,7 @@ use Rattle.std.specs.Prelude.{ℕ, Bool, true, false, not, List, [], ◌∷◌, 
 use Rattle.std.specs.Int.{to_be_bytes, w32}
 use Rattle.std.proofs.Common.{refl, sym, ap, ap₂, ◌∙◌, subst}
 use Rattle.m88_base.specs.Image.{ProgramImage, byte_at}
+use Rattle.m88_base.specs.declared.slot.Slot.{Slot}
 use Rattle.m88_event.specs.Choice.{Choice, idles, issue_choice, next_choice, passes}
 use Rattle.m88_event.specs.Local.{choice_by, situation_of}
 use Rattle.m88_event.specs.declared.letter.Letter.TheVariants.{Issue}
@@ -17,7 +18,6 @@ use Rattle.m88_isa.specs.Vector.{instruction_access, unimplemented}
 use Rattle.m88_isa.specs.Word.{IsWord}
 use Rattle.m88_isa.specs.declared.instr.Instr.{Instr}
 use Rattle.m88_isa.specs.declared.planned.Access.{Access}
-use Rattle.m88_iunit.specs.declared.slot.Slot.{Slot}
 use Rattle.m88_board.proofs.Choosing.{at_pc}
 use Rattle.m88_board.specs.Board.{BoardView, completed_of, is_idle_board, local_of, pc_of}
 use Rattle.m88_board.specs.Moves.{stopping}

@@ -6,6 +6,7 @@ use Rattle.std.proofs.Math.Path.{fun_ext}
 use Rattle.std.proofs.lemmas.Bool.{eqb-false, eqb-true}
 use Rattle.std.proofs.lemmas.Nat.Bits.{bit_at-zero, bit_at_or}
 use Rattle.std.proofs.lemmas.List.Elements.{All-append, All-cons, All-nil, All-weaker}
+use Rattle.m88_base.specs.Pages.{page_number}
 use Rattle.m88_base.specs.Reg.{number_of}
 use Rattle.m88_base.specs.RegisterSet.{registers_in}
 use Rattle.m88_ctrl.specs.ControlRegisters.{ControlRegisters, carry_of, exception_bits, with_carry}
@@ -20,7 +21,7 @@ use Rattle.m88_isa.specs.Address.{after_bytes}
 use Rattle.m88_isa.proofs.InWords.{cells_bus}
 use Rattle.m88_isa.proofs.Late.{late_change}
 use Rattle.m88_isa.proofs.Turns.{listed_recorded}
-use Rattle.m88_isa.specs.Bus.{page_number, LoadApart, Cells, after_accesses, listed, waits_for}
+use Rattle.m88_isa.specs.Bus.{LoadApart, Cells, after_accesses, listed, waits_for}
 use Rattle.m88_isa.specs.Effect.{Change, recorded_change}
 use Rattle.m88_isa.specs.Held.{most_pending}
 use Rattle.m88_isa.specs.History.{change_accesses}

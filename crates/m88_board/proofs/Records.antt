@@ -7,20 +7,21 @@ use Rattle.std.proofs.lemmas.Nat.Bits.{bit_at-lt}
 use Rattle.m88_base.proofs.RegisterBits.{bit_of_member}
 use Rattle.m88_base.specs.Image.{byte_at}
 use Rattle.m88_base.specs.RegisterSet.{register_bits}
+use Rattle.m88_base.specs.Slot.{squashed_slot, valid_slot, slot_word}
+use Rattle.m88_base.specs.declared.slot.Slot.{Slot}
 use Rattle.m88_base.specs.declared.triple.Triple.{Triple}
 use Rattle.m88_event.proofs.Follows.{same_situation}
 use Rattle.m88_event.specs.Local.{Local, record_by, situation_of}
-use Rattle.m88_event.specs.Shadow.{fip_of, nip_of, pointer_word}
+use Rattle.m88_event.specs.Shadow.{fip_of, nip_of}
 use Rattle.m88_event.specs.Situation.{record_of}
 use Rattle.m88_event.specs.Timeline.{Moment, record_at}
 use Rattle.m88_event.specs.declared.record.Record.{Record}
 use Rattle.m88_isa.specs.Address.{after_bytes}
 use Rattle.m88_isa.specs.Machine.{Program, four_bytes}
 use Rattle.m88_isa.specs.Triples.{triples_of}
-use Rattle.m88_iunit.specs.Pointers.{squashed_slot, valid_slot, word_behind, slot_word}
-use Rattle.m88_iunit.specs.declared.slot.Slot.{Slot}
+use Rattle.m88_iunit.specs.Pointers.{word_behind}
 use Rattle.m88_scoreboard.specs.Registers.{waiting_of}
-use Rattle.m88_board.specs.Board.{BoardView, completed_of, local_of, pointer_of}
+use Rattle.m88_board.specs.Board.{BoardView, completed_of, local_of}
 use Rattle.m88_isa.specs.ImageProgram.{IsProgramOf}
 use Rattle.m88_board.specs.Kept.{IsKept, epsr_of}
 use Rattle.m88_board.specs.Moves.{IsAt}
@@ -30,22 +31,22 @@ use Rattle.m88_board.proofs.Agree.{zero_waits_not}
 pub nip_is : (byte : ℕ → Option ℕ) (p : Program) (xip : Slot) (a : ℕ) (v e : Bool) (f : ℕ) → p.byte ≡ byte →
     record { addr = a; v = v; e = e }
     ≡ (if v then valid_slot a (is_none (four_bytes byte a)) else squashed_slot (word_behind xip.addr)) →
-    pointer_of (record { addr = a; v = v; e = e }) ≡ nip_of p (not v) (pointer_of xip) (if v then a else f)
+    (record { addr = a; v = v; e = e }) ≡ nip_of p (not v) xip (if v then a else f)
 nip_is byte p xip a true e f of h =
-    ap pointer_of h ∙ ap (λ (b : ℕ → Option ℕ). record { address = a; valid = true; failed = is_none (four_bytes b a) }) (sym of)
-nip_is byte p xip a false e f of h = ap pointer_of h
+    h ∙ ap (λ (b : ℕ → Option ℕ). valid_slot a (is_none (four_bytes b a))) (sym of)
+nip_is byte p xip a false e f of h = h
 
 -- FIP is behind it
 pub fip_is : (byte : ℕ → Option ℕ) (p : Program) (fip : Slot) (a : ℕ) (v : Bool) → p.byte ≡ byte →
     fip ≡ valid_slot fip.addr (is_none (four_bytes byte fip.addr)) →
-    pointer_of fip
+    fip
     ≡ fip_of p (not v) (if v then a else fip.addr) (if v then fip.addr else after_bytes fip.addr 4)
 fip_is byte p fip a true of h =
-    ap pointer_of h
-    ∙ ap (λ (b : ℕ → Option ℕ). record { address = fip.addr; valid = true; failed = is_none (four_bytes b fip.addr) }) (sym of)
+    h
+    ∙ ap (λ (b : ℕ → Option ℕ). valid_slot fip.addr (is_none (four_bytes b fip.addr))) (sym of)
 fip_is byte p fip a false of h =
-    ap pointer_of h
-    ∙ ap (λ (b : ℕ → Option ℕ). record { address = fip.addr; valid = true; failed = is_none (four_bytes b fip.addr) }) (sym of)
+    h
+    ∙ ap (λ (b : ℕ → Option ℕ). valid_slot fip.addr (is_none (four_bytes b fip.addr))) (sym of)
 
 pub piped : (p : Program) (b : BoardView) → IsProgramOf b.memory.image p → IsKept b →
     record {
@@ -65,8 +66,8 @@ piped p b of kept =
       event = b.events + 1;
       epsr = kept.status i;
       sxip = slot_word b.slots.xip;
-      snip = pointer_word (nip i);
-      sfip = pointer_word (fip i);
+      snip = slot_word (nip i);
+      sfip = slot_word (fip i);
       ssbr = register_bits (kept.parts.waiting i);
       triples = triples_of b.pending;
     }

@@ -5,13 +5,14 @@ use Rattle.std.proofs.Math.Path.{fun_ext}
 use Rattle.std.proofs.lemmas.Bool.{eqb-true, eqb-false}
 use Rattle.std.proofs.lemmas.Bool.Decides.{nat_tests}
 use Rattle.std.proofs.lemmas.List.Elements.{All-head, All-tail}
+use Rattle.m88_base.specs.Pages.{page_number}
 use Rattle.m88_base.specs.Triple.{no_triple}
 use Rattle.m88_base.specs.declared.triple.Triple.{Triple}
 use Rattle.m88_ctrl.specs.ControlRegisters.{ControlRegisters}
 use Rattle.m88_dunit.proofs.Told.{told_of, valid_of}
 use Rattle.m88_event.specs.Choice.{touches_page}
 use Rattle.m88_isa.proofs.Alone.{by_test}
-use Rattle.m88_isa.specs.Bus.{Cells, after_accesses, page_number}
+use Rattle.m88_isa.specs.Bus.{Cells, after_accesses}
 use Rattle.m88_isa.specs.Memory.{IsWordAccess}
 use Rattle.m88_isa.specs.Triples.{access_in, is_valid_triple, triple_of, triple_or_none}
 use Rattle.m88_isa.specs.declared.planned.Access.{Access}

@@ -23,8 +23,8 @@ use Rattle.m88_mem.specs.DataBus.{bus_of, ready_of}
 use Rattle.m88_scoreboard.specs.Registers.{waiting_of}
 use Rattle.m88_scoreboard.specs.declared.busy.Busy.{Busy}
 use Rattle.m88_board.proofs.Records.{fip_is, nip_is}
-use Rattle.m88_board.specs.Board.{BoardView, cells_of, completed_of, is_idle_board, local_of, pointer_of}
-use Rattle.m88_board.specs.Glances.{glance_at, glance_of, slot_at}
+use Rattle.m88_board.specs.Board.{BoardView, cells_of, completed_of, is_idle_board, local_of}
+use Rattle.m88_board.specs.Glances.{glance_at, glance_of}
 use Rattle.m88_board.specs.Kept.{AreReady, IsKept, SlotsAgree}
 use Rattle.m88_board.specs.Moves.{IsAt}
 use Rattle.m88_board.specs.Shown.{ArePointers, AreRegisters, IsDataBus, IsStatus}
@@ -52,7 +52,7 @@ over_at p named m b at = ap (is_over_by b.limit) at.seen ∙ same_over p named b
 
 -- NIP
 nip_shown : (p : Program) (b : BoardView) → IsProgramOf b.memory.image p → SlotsAgree b.memory.image b.slots →
-    pointer_of b.slots.nip ≡ nip_of p (local_of b).bubble (local_of b).xip (local_of b).completed.pc
+    b.slots.nip ≡ nip_of p (local_of b).bubble (local_of b).xip (local_of b).completed.pc
 unfolding local_of completed_of
 nip_shown p b of slots =
     nip_is (byte_at b.memory.image) p b.slots.xip b.slots.nip.addr b.slots.nip.v b.slots.nip.e b.slots.fip.addr of.bytes
@@ -60,14 +60,14 @@ nip_shown p b of slots =
 
 pub nip_seen : (p : Program) (named : ℕ → Bool) (m : Moment) (b : BoardView) → IsAt p named m b →
     SlotsAgree b.memory.image b.slots →
-    pointer_of b.slots.nip ≡ nip_at p m
+    b.slots.nip ≡ nip_at p m
 unfolding local_at completed_state
 nip_seen p named m b at slots =
     nip_shown p b at.image slots ∙ ap (λ (l : Local). nip_of p l.bubble l.xip l.completed.pc) at.seen
 
 -- FIP
 fip_shown : (p : Program) (b : BoardView) → IsProgramOf b.memory.image p → SlotsAgree b.memory.image b.slots →
-    pointer_of b.slots.fip ≡ fip_of p (local_of b).bubble (local_of b).completed.pc (local_of b).completed.next
+    b.slots.fip ≡ fip_of p (local_of b).bubble (local_of b).completed.pc (local_of b).completed.next
 unfolding local_of completed_of
 fip_shown p b of slots =
     fip_is (byte_at b.memory.image) p b.slots.fip b.slots.nip.addr b.slots.nip.v of.bytes slots.fip
@@ -203,5 +203,5 @@ glance_is p named m b at slots = λ i. record {
   events = (at.seen i).events;
   issued = (at.seen i).retired;
   done = (at.seen i).done;
-  next = slot_at (nip_seen p named m b at slots i);
+  next = nip_seen p named m b at slots i;
 }

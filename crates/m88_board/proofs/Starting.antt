@@ -4,10 +4,10 @@ use Rattle.std.proofs.Common.{arith, refl, sym, ap, ◌∙◌}
 use Rattle.std.proofs.Math.Path.{fun_ext}
 use Rattle.std.proofs.lemmas.List.Elements.{All-nil}
 use Rattle.m88_base.specs.Image.{ProgramImage}
+use Rattle.m88_base.specs.Slot.{no_slot}
 use Rattle.m88_ctrl.specs.ControlRegisters.{ControlRegisters, at_start}
 use Rattle.m88_event.proofs.Past.{opens_with}
 use Rattle.m88_event.specs.Local.{Local, local_at}
-use Rattle.m88_event.specs.Shadow.{no_pointer}
 use Rattle.m88_event.specs.declared.record.Record.{Record}
 use Rattle.m88_isa.specs.declared.planned.Access.{Access}
 use Rattle.m88_event.specs.Timeline.{opening_moment, xip_at}
@@ -104,7 +104,7 @@ seen_at numbers bus absent entry = record {
   completed = record { regs = numbers; carry = false; pc = entry; next = after_bytes entry 4; bus = bus; out = [] };
   bus = bus;
   pending = [];
-  xip = no_pointer;
+  xip = no_slot;
   bubble = false;
   ended = None;
   absent = absent;

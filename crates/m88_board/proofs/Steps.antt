@@ -1,6 +1,7 @@
 -- What a board looks like after its parts have moved, choice by choice.
 use Rattle.std.specs.Prelude.{ℕ, Bool, true, false, not, List, [], ◌∷◌, ◌++◌, Some, ◌≡◌, ◌+◌, ◌&&◌, drop, take, length, if◌then◌else◌}
 use Rattle.std.proofs.Common.{refl, sym, ap, ◌∙◌}
+use Rattle.m88_base.specs.Slot.{valid_slot}
 use Rattle.m88_ctrl.specs.ControlRegisters.{ControlRegisters, carry_of}
 use Rattle.m88_event.specs.Choice.{end_by, faults, finishes, issues, passes, replies, serves, touches_page}
 use Rattle.m88_event.specs.declared.happened.End.{End}
@@ -11,10 +12,10 @@ use Rattle.m88_isa.specs.Effect.{Change}
 use Rattle.m88_isa.specs.History.{after_turn, cells_after, change_accesses}
 use Rattle.m88_isa.specs.Machine.{Stop}
 use Rattle.m88_isa.specs.declared.planned.Access.{Access}
-use Rattle.m88_iunit.specs.Pointers.{Pointers, valid_slot, word_behind}
+use Rattle.m88_iunit.specs.Pointers.{Pointers, word_behind}
 use Rattle.m88_mem.specs.DataBus.{MemoryView, absent_of, bus_of}
 use Rattle.m88_scoreboard.specs.Registers.{Registers}
-use Rattle.m88_board.specs.Board.{BoardView, cells_of, completed_of, local_of, next_of, pc_of, pointer_of}
+use Rattle.m88_board.specs.Board.{BoardView, cells_of, completed_of, local_of, next_of, pc_of}
 use Rattle.m88_board.specs.Moves.{Does, IsAdvanced}
 
 -- FIP, which is always valid, is next where a bubble is passed over
@@ -48,7 +49,7 @@ passed fault b slots e bubble valid is = record {
     };
     bus = bus_of b.memory;
     pending = b.pending;
-    xip = ap (λ (s : Pointers). pointer_of s.xip) is i;
+    xip = ap (λ (s : Pointers). s.xip) is i;
     bubble = (ap (λ (s : Pointers). not s.nip.v) is ∙ ap not valid) i;
     ended = b.ended;
     absent = absent_of b.memory;
@@ -88,7 +89,7 @@ replied fault b pending file memory left cells bus absent image = record {
     };
     bus = bus i;
     pending = left i;
-    xip = pointer_of b.slots.xip;
+    xip = b.slots.xip;
     bubble = not b.slots.nip.v;
     ended = b.ended;
     absent = absent i;
@@ -133,7 +134,7 @@ faulted fault b file memory control slots done cells bus absent image carry same
     };
     bus = bus i;
     pending = [];
-    xip = pointer_of (same i).xip;
+    xip = (same i).xip;
     bubble = not (same i).nip.v;
     ended = b.ended;
     absent = absent i;
@@ -164,7 +165,7 @@ finished fault stop b control end by carry = record {
     };
     bus = bus_of b.memory;
     pending = b.pending;
-    xip = pointer_of b.slots.xip;
+    xip = b.slots.xip;
     bubble = not b.slots.nip.v;
     ended = Some (by i);
     absent = absent_of b.memory;

@@ -1,9 +1,9 @@
 -- A board as contracts see it, and what it looks like from outside: the state that its pending transactions lead to is
 -- computed from them.
 use Rattle.std.specs.Prelude.{ℕ, Bool, not, List, Option, ◌==◌, ◌||◌, is_some, if◌then◌else◌}
+use Rattle.m88_base.specs.declared.slot.Slot.{Slot}
 use Rattle.m88_ctrl.specs.ControlRegisters.{ControlRegisters, carry_of}
 use Rattle.m88_event.specs.Local.{Local}
-use Rattle.m88_event.specs.Shadow.{Pointer}
 use Rattle.m88_event.specs.declared.happened.End.{End}
 use Rattle.m88_event.specs.declared.record.Record.{Record}
 use Rattle.m88_isa.specs.Address.{after_bytes}
@@ -11,7 +11,6 @@ use Rattle.m88_isa.specs.Bus.{Cells, after_accesses}
 use Rattle.m88_isa.specs.History.{Completed}
 use Rattle.m88_isa.specs.declared.planned.Access.{Access}
 use Rattle.m88_iunit.specs.Pointers.{Pointers}
-use Rattle.m88_iunit.specs.declared.slot.Slot.{Slot}
 use Rattle.m88_mem.specs.DataBus.{MemoryView, absent_of, bus_of}
 use Rattle.m88_scoreboard.specs.Registers.{Registers}
 
@@ -45,10 +44,6 @@ pc_of slots = if slots.nip.v then slots.nip.addr else slots.fip.addr
 abbrev pub next_of : Pointers → ℕ
 next_of slots = if slots.nip.v then slots.fip.addr else after_bytes slots.fip.addr 4
 
--- a slot as the timeline has it
-abbrev pub pointer_of : Slot → Pointer
-pointer_of slot = record { address = slot.addr; valid = slot.v; failed = slot.e }
-
 -- the state once the pending transactions are done
 unfoldable pub completed_of : BoardView → Completed
 completed_of b = record {
@@ -66,7 +61,7 @@ local_of b = record {
   completed = completed_of b;
   bus = bus_of b.memory;
   pending = b.pending;
-  xip = pointer_of b.slots.xip;
+  xip = b.slots.xip;
   bubble = not b.slots.nip.v;
   ended = b.ended;
   absent = absent_of b.memory;

@@ -1,9 +1,8 @@
 -- What a watch is shown of a board, and of the moments of a timeline.
 use Rattle.std.specs.Prelude.{ℕ, zero, suc, Bool, false, List, [], ◌∷◌, ◌++◌, Option, Some, None, ◌≡◌, length, nat_lt, if◌then◌else◌}
-use Rattle.m88_event.specs.Shadow.{Pointer}
+use Rattle.m88_base.specs.declared.slot.Slot.{Slot}
 use Rattle.m88_event.specs.Timeline.{Moment, nip_at}
 use Rattle.m88_isa.specs.Machine.{Program}
-use Rattle.m88_iunit.specs.declared.slot.Slot.{Slot}
 use Rattle.m88_board.specs.Board.{BoardView}
 use Rattle.m88_board.specs.declared.glance.Glance.{Glance}
 
@@ -12,17 +11,13 @@ use Rattle.m88_board.specs.declared.glance.Glance.{Glance}
 abbrev pub glance_of : BoardView → Glance
 glance_of b = record { events = b.events; issued = b.retired; done = b.done; next = b.slots.nip }
 
--- a pointer as a slot
-abbrev pub slot_at : Pointer → Slot
-slot_at pointer = record { addr = pointer.address; v = pointer.valid; e = pointer.failed }
-
 -- what is noted of a moment
 abbrev pub glance_at : Program → Moment → Glance
 glance_at p m = record {
   events = m.events;
   issued = m.retired;
   done = m.done;
-  next = slot_at (nip_at p m);
+  next = nip_at p m;
 }
 
 -- of moments in order, each behind the first of so many

@@ -1,18 +1,20 @@
 -- What always holds of a board.
 use Rattle.std.specs.Prelude.{ℕ, Bool, true, false, List, [], All, IfSome, ◌≡◌, ◌<◌, ◌≤◌, ◌+◌, ◌*◌, ◌^◌, is_none, is_some, length, if◌then◌else◌}
 use Rattle.m88_base.specs.Image.{ProgramImage, byte_at}
+use Rattle.m88_base.specs.Pages.{page_number}
+use Rattle.m88_base.specs.Slot.{squashed_slot, valid_slot}
 use Rattle.m88_ctrl.specs.ControlRegisters.{carry_of}
 use Rattle.m88_event.specs.Shadow.{status_of}
 use Rattle.m88_event.specs.Timeline.{end_of_turn}
 use Rattle.m88_event.specs.declared.happened.End.{End}
 use Rattle.m88_event.specs.declared.happened.End.TheVariants.{Limit}
-use Rattle.m88_isa.specs.Bus.{page_number, LoadApart, waits_for}
+use Rattle.m88_isa.specs.Bus.{LoadApart, waits_for}
 use Rattle.m88_isa.specs.Held.{most_pending}
 use Rattle.m88_isa.specs.ImageProgram.{IsProgramOf}
 use Rattle.m88_isa.specs.Machine.{Program, four_bytes}
 use Rattle.m88_isa.specs.Memory.{IsWordAccess}
 use Rattle.m88_isa.specs.declared.planned.Access.{Access}
-use Rattle.m88_iunit.specs.Pointers.{Pointers, squashed_slot, valid_slot, word_behind}
+use Rattle.m88_iunit.specs.Pointers.{Pointers, word_behind}
 use Rattle.m88_mem.specs.DataBus.{MemoryView, ready_of}
 use Rattle.m88_scoreboard.specs.Registers.{Registers, waiting_of}
 use Rattle.m88_board.specs.Board.{BoardView, completed_of}

@@ -14,14 +14,14 @@ use Rattle.m88_iunit.specs.Pointers.{Pointers}
 use Rattle.m88_mem.specs.DataBus.{absent_of, bus_of}
 use Rattle.m88_isa.specs.Machine.{Program, Stop}
 use Rattle.m88_isa.specs.declared.planned.Access.{Access}
-use Rattle.m88_board.specs.Board.{BoardView, local_of, next_of, pc_of, pointer_of}
+use Rattle.m88_board.specs.Board.{BoardView, local_of, next_of, pc_of}
 use Rattle.m88_board.specs.Glances.{Saw, glance_at, glances_along}
 use Rattle.m88_board.specs.declared.glance.Glance.{Glance}
 use Rattle.m88_isa.specs.ImageProgram.{IsProgramOf}
 
 -- the slots after an instruction that goes on: it is XIP, and these are next
 pub record IsAdvanced (old new : Pointers) (pc next : ℕ) (bubble : Bool) : Type 0 where
-  pub xip : pointer_of new.xip ≡ retired_pointer (pc_of old)
+  pub xip : new.xip ≡ retired_pointer (pc_of old)
   pub here : pc_of new ≡ pc
   pub behind : next_of new ≡ next
   pub bubble_is : not new.nip.v ≡ bubble

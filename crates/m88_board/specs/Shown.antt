@@ -15,14 +15,13 @@ use Rattle.m88_iunit.specs.Pointers.{Pointers}
 use Rattle.m88_mem.specs.DataBus.{MemoryView, absent_of, bus_of, ready_of}
 use Rattle.m88_monitor.specs.Serving.{finished}
 use Rattle.m88_scoreboard.specs.Registers.{Registers, waiting_of}
-use Rattle.m88_board.specs.Board.{pointer_of}
 use Rattle.m88_board.specs.Kept.{AreReady}
 
 -- XIP, NIP and FIP: the instruction retired last and the two behind it, or a bubble and its target
 pub record ArePointers (p : Program) (m : Moment) (slots : Pointers) : Type 0 where
-  pub xip : pointer_of slots.xip ≡ xip_at p m.retired
-  pub nip : pointer_of slots.nip ≡ nip_at p m
-  pub fip : pointer_of slots.fip ≡ fip_of p m.bubble (state p m.retired).pc (state p m.retired).next
+  pub xip : slots.xip ≡ xip_at p m.retired
+  pub nip : slots.nip ≡ nip_at p m
+  pub fip : slots.fip ≡ fip_of p m.bubble (state p m.retired).pc (state p m.retired).next
 
 -- the registers: those wait that a pending load is to fill, and every other has its value of the history
 pub record AreRegisters (p : Program) (m : Moment) (file : Registers) : Type 0 where

@@ -1,11 +1,12 @@
 //! Data accesses: their pages made ready, issued to the data unit, and answered.
 
 ghost use Rattle.std.specs.Prelude.{◌≡◌, ◌+◌, ◌≤◌, ◌++◌, List, [], ◌∷◌, Some, true, false, drop, take, length, slice_get, IfSome, OnOk};
-ghost use Rattle.m88_base.specs.Reg.{number_of};
+ghost use Rattle.m88_base.specs.Pages.{page_number};
+ghost use Rattle.m88_base.specs.Reg.{number_of, with_register};
 ghost use Rattle.m88_base.specs.RegisterSet.{with_member};
-ghost use Rattle.m88_isa.specs.Bus.{page_number, after_accesses, bus_after_all, listed, loaded, stored, waits_for};
+ghost use Rattle.m88_isa.specs.Bus.{after_accesses, bus_after_all, listed, loaded, stored, waits_for};
 ghost use Rattle.m88_isa.specs.Held.{most_pending};
-ghost use Rattle.m88_isa.specs.Machine.{with_register, with_written};
+ghost use Rattle.m88_isa.specs.Machine.{with_written};
 ghost use Rattle.m88_isa.specs.Memory.{IsWordAccess};
 ghost use Rattle.m88_isa.specs.declared.planned.Access.{Access as AccessValue};
 ghost use Rattle.m88_dunit.specs.Pending.{CanIssue};

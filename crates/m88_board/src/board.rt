@@ -2,12 +2,13 @@
 
 ghost use Rattle.std.specs.Prelude.{ℕ, Bool, ◌&&◌, option_map, ◌≡◌, ◌<◌, ◌≤◌, ◌+◌, ◌-◌, ◌*◌, ◌%◌, ◌++◌, [], Option, Some, None, true, false, is_some, length, slice_get, IfOk, IfSome, OnErr, OnOk};
 ghost use Rattle.m88_base.specs.Image.{IsImage};
+ghost use Rattle.m88_base.specs.Pages.{page_number};
 ghost use Rattle.m88_base.specs.Reg.{number_of};
 ghost use Rattle.m88_event.specs.Choice.{answer_choice, end_by, faults, finishes, issues, passes, replies, serves, turn_choice};
 ghost use Rattle.m88_event.specs.Local.{record_by};
 ghost use Rattle.m88_event.specs.Timeline.{Moment, opening_moment, record_at};
 ghost use Rattle.m88_event.specs.declared.record.Record.{Record as RecordValue};
-ghost use Rattle.m88_isa.specs.Bus.{page_number, LoadApart, listed, waits_for};
+ghost use Rattle.m88_isa.specs.Bus.{LoadApart, listed, waits_for};
 ghost use Rattle.m88_mem.specs.DataBus.{absent_of};
 ghost use Rattle.m88_mem.specs.Marks.{NamesPages, absent_in};
 ghost use Rattle.m88_isa.specs.Effect.{Change, recorded_change};

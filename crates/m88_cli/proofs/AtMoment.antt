@@ -2,6 +2,7 @@
 use Rattle.std.specs.Prelude.{ℕ, Bool, ◌≡◌, ◌≤◌, map}
 use Rattle.std.specs.List.{range_with_len}
 use Rattle.std.proofs.Common.{sym, ap, ap₂, ◌∙◌, subst}
+use Rattle.m88_base.specs.declared.slot.Slot.{Slot}
 use Rattle.m88_event.proofs.Bound.{stays_in_limit}
 use Rattle.m88_event.proofs.Follows.{law}
 use Rattle.m88_event.specs.Local.{Local, local_at, register_seen, register_shown}
@@ -9,10 +10,9 @@ use Rattle.m88_event.specs.Timeline.{DoneWereMade, Moment, after_letter, nip_at}
 use Rattle.m88_event.specs.declared.letter.Letter.{Letter}
 use Rattle.m88_isa.specs.History.{bus_at, completed_state, pending_at}
 use Rattle.m88_isa.specs.Machine.{IsProgram, Program}
-use Rattle.m88_iunit.specs.declared.slot.Slot.{Slot}
 use Rattle.m88_mem.specs.DataBus.{bus_of}
-use Rattle.m88_board.specs.Board.{BoardView, completed_of, local_of, pointer_of}
-use Rattle.m88_board.specs.Glances.{glance_at, glance_of, slot_at}
+use Rattle.m88_board.specs.Board.{BoardView, completed_of, local_of}
+use Rattle.m88_board.specs.Glances.{glance_at, glance_of}
 use Rattle.m88_board.specs.Moves.{IsAt}
 use Rattle.m88_board.specs.declared.glance.Glance.{Glance}
 
@@ -57,11 +57,11 @@ glance_by l next = record { events = l.events; issued = l.retired; done = l.done
 
 pub glance_seen : (p : Program) (named : ℕ → Bool) (m : Moment) (b : BoardView) (slot : Slot) → IsAt p named m b →
     slot ≡ b.slots.nip →
-    pointer_of slot ≡ nip_at p m →
+    slot ≡ nip_at p m →
     glance_of b ≡ glance_at p m
 unfolding local_of local_at glance_by
 glance_seen p named m b slot at e pointer =
-    ap₂ glance_by at.seen (sym e ∙ ap slot_at pointer)
+    ap₂ glance_by at.seen (sym e ∙ pointer)
 
 -- no letter retires more than the limit
 pub retired_within : (p : Program) (named : ℕ → Bool) (limit : ℕ) (letter : Letter) (m : Moment) → IsProgram p → DoneWereMade p m →

@@ -5,9 +5,9 @@ use Rattle.std.specs.Str.Parse.{AllDigits, IsNumeral, digits_value}
 use Rattle.std.specs.Char.{digit_value}
 use Rattle.std.proofs.lemmas.List.{append_cancel_left}
 use Rattle.m88_base.specs.Cut.{Lacks}
+use Rattle.m88_base.specs.Pages.{no_page, every_page}
 use Rattle.m88_cli.specs.Numbers.{IsShortNumber}
-use Rattle.m88_mem.specs.Marks.{no_page}
-use Rattle.m88_cli.specs.Pages.{ArePageNumbers, IsAbsent, IsPageNumber, comma, every_page, in_decimal, in_hexadecimal, more_numbers, most_numbers, one_number}
+use Rattle.m88_cli.specs.Pages.{ArePageNumbers, IsAbsent, IsPageNumber, comma, in_decimal, in_hexadecimal, more_numbers, most_numbers, one_number}
 use Rattle.m88_cli.proofs.Cuts.{cut_once, none_in_digits, not_cut}
 
 -- the first digit

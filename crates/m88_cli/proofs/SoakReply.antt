@@ -5,6 +5,7 @@ use Rattle.std.specs.List.{range_with_len}
 use Rattle.std.proofs.lemmas.List.{length-map}
 use Rattle.std.proofs.lemmas.List.FromFn.{length-range_with_len}
 use Rattle.m88_base.specs.Image.{IsImage, ProgramImage}
+use Rattle.m88_base.specs.Pages.{every_page}
 use Rattle.m88_base.specs.declared.failing.NoMemory.{NoMemory}
 use Rattle.m88_isa.specs.ImageProgram.{IsProgramOf}
 use Rattle.m88_isa.specs.Machine.{Program}
@@ -16,7 +17,6 @@ use Rattle.m88_event.specs.declared.letter.Letter.{Letter}
 use Rattle.m88_cli.specs.Answer.{IsAnswerToAccepted}
 use Rattle.m88_cli.specs.Command.{soak}
 use Rattle.m88_cli.specs.Linking.{HoldsUnit}
-use Rattle.m88_cli.specs.Pages.{every_page}
 use Rattle.m88_cli.specs.Refusal.{refusal_line}
 use Rattle.m88_cli.specs.Reply.{Replies, WatchesReply}
 use Rattle.m88_cli.specs.Runs.{IsSourceProgram}

@@ -26,7 +26,7 @@ unfolding trace_line
 told_is p named limit letter m before happened is says =
     ap₂ (λ n l. letter_text n l ++ happened_line before.address before.instruction before.fault happened) is.number is.letter_is
     ∙ ap₂ (λ a i. letter_text (m.events + 1) letter ++ happened_line a i before.fault happened) is.address is.instruction
-    ∙ ap₂ (λ f h. letter_text (m.events + 1) letter ++ happened_line (nip_at p m).address (instruction_at p (nip_at p m).address) f h) is.fault says
+    ∙ ap₂ (λ f h. letter_text (m.events + 1) letter ++ happened_line (nip_at p m).addr (instruction_at p (nip_at p m).addr) f h) is.fault says
 
 -- the letter of the next event
 pub letter_here : (c : Course) (letters : List Letter) (s : Session) (k : ℕ) (monitor : Monitor) (letter : Letter) →

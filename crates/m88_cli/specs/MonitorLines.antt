@@ -10,6 +10,7 @@ use Rattle.m88_isa.specs.History.{bus_at, pending_at}
 use Rattle.m88_isa.specs.Machine.{Program, state}
 use Rattle.m88_isa.specs.declared.instr.Instr.{Instr}
 use Rattle.m88_disasm.specs.Text.{instr_text}
+use Rattle.m88_event.specs.EndText.{run_end_line}
 use Rattle.m88_event.specs.Letters.{letter_byte}
 use Rattle.m88_event.specs.Local.{register_shown}
 use Rattle.m88_event.specs.Timeline.{Moment, nip_at, said_at}
@@ -18,7 +19,7 @@ use Rattle.m88_event.specs.declared.happened.Happened.TheVariants as happened
 use Rattle.m88_event.specs.declared.happened.Why.{Why}
 use Rattle.m88_event.specs.declared.happened.Why.TheVariants as why
 use Rattle.m88_event.specs.declared.letter.Letter.{Letter}
-use Rattle.m88_report.specs.Report.{carry_line, register_lines, run_end_line, word_line}
+use Rattle.m88_report.specs.Report.{carry_line, register_lines, word_line}
 
 -- the line of the counts: the events, the instructions retired, the transactions done and those that are pending
 unfoldable pub counts_line : ℕ → ℕ → ℕ → ℕ → List ℕ
@@ -89,5 +90,5 @@ letter_text number letter = decimal number ++ codes " " ++ letter_byte letter �
 unfoldable pub trace_line : Program → (ℕ → Bool) → ℕ → Letter → Moment → List ℕ
 trace_line p named limit letter m =
     letter_text (m.events + 1) letter
-    ++ happened_line (nip_at p m).address (instruction_at p (nip_at p m).address) (length m.records + 1)
+    ++ happened_line (nip_at p m).addr (instruction_at p (nip_at p m).addr) (length m.records + 1)
     (said_at p named limit letter m)

@@ -2,6 +2,7 @@
 -- workload.
 use Rattle.std.specs.Prelude.{ℕ, Bool, ◌≡◌, ◌≤◌, List}
 use Rattle.m88_base.specs.Image.{ProgramImage}
+use Rattle.m88_base.specs.Pages.{every_page}
 use Rattle.m88_isa.specs.ImageProgram.{IsProgramOf}
 use Rattle.m88_isa.specs.Machine.{Program}
 use Rattle.m88_parse.specs.Language.Units.{IsUnit}
@@ -13,7 +14,6 @@ use Rattle.m88_event.specs.declared.letter.Letter.{Letter}
 use Rattle.m88_event.specs.declared.outcome.Outcome.{Outcome}
 use Rattle.m88_cli.specs.Assembly.{IsProgramSource}
 use Rattle.m88_cli.specs.Limits.{most_statements}
-use Rattle.m88_cli.specs.Pages.{every_page}
 use Rattle.m88_cli.specs.Workload.{summary_of, workload_schedule, workload_source}
 
 -- the program is that of the source's unit: its bytes, its start, and its instructions where they are placed

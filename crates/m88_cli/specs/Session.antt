@@ -53,7 +53,7 @@ is_over_on c s k = is_over c.program c.limit (moment_on c s k)
 -- NIP is valid with the address of a breakpoint
 abbrev pub is_at_breakpoint : Program → List ℕ → Moment → Bool
 is_at_breakpoint p breakpoints m =
-    (nip_at p m).valid && list_any (λ a. a == (nip_at p m).address) breakpoints
+    (nip_at p m).v && list_any (λ a. a == (nip_at p m).addr) breakpoints
 
 -- after so many events `go` stops: the run is over, or at least one event was made and the next instruction stands at a
 -- breakpoint

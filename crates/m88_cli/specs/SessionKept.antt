@@ -73,8 +73,8 @@ pub record Broke (c : Course) (s : Session) (command : MonitorCommand) (before a
 pub record IsBefore (p : Program) (letter : Letter) (m : Moment) (before : Before) : Type 0 where
   pub number : before.number ≡ m.events + 1
   pub letter_is : before.letter ≡ letter
-  pub address : before.address ≡ (nip_at p m).address
-  pub instruction : before.instruction ≡ instruction_at p (nip_at p m).address
+  pub address : before.address ≡ (nip_at p m).addr
+  pub instruction : before.instruction ≡ instruction_at p (nip_at p m).addr
   pub fault : before.fault ≡ length m.records + 1
 
 -- the line of an event before which this was noted

@@ -1,6 +1,7 @@
 -- What a watch is shown while a command is carried out: of a run, that of a workload too, and of a session with the
 -- monitor its board after each event, and of other commands nothing.
 use Rattle.std.specs.Prelude.{ℕ, Bool, ◌≡◌, ◌⊎◌, List, [], Option}
+use Rattle.m88_base.specs.Pages.{every_page}
 use Rattle.m88_isa.specs.Machine.{Program}
 use Rattle.m88_event.specs.Run.{IsRun, IsRunning, moment_after}
 use Rattle.m88_event.specs.declared.letter.Letter.{Letter}
@@ -8,7 +9,6 @@ use Rattle.m88_board.specs.Glances.{Saw, glances_along}
 use Rattle.m88_board.specs.declared.glance.Glance.{Glance}
 use Rattle.m88_cli.specs.Answer.{Accepts}
 use Rattle.m88_cli.specs.Command.{Command, run, exec, dis, asm, link, build, soak, mon}
-use Rattle.m88_cli.specs.Pages.{every_page}
 use Rattle.m88_cli.specs.MonitorText.{SawSession, SawSessionFront}
 use Rattle.m88_cli.specs.Runs.{IsLoadedProgram, IsSourceProgram}
 use Rattle.m88_cli.specs.Workload.{workload_schedule, workload_source}

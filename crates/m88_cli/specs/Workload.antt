@@ -12,10 +12,11 @@ use Rattle.m88_isa.specs.declared.instr.Instr.TheVariants.{Imm, MemImm, Regs}
 use Rattle.m88_isa.specs.declared.instr.MemOp.TheVariants.{Ld, LdD, St, StB}
 use Rattle.m88_isa.specs.declared.instr.RegOp.TheVariants.{Subu, Xor}
 use Rattle.m88_disasm.specs.Text.{instr_text}
+use Rattle.m88_event.specs.EndText.{run_end_line}
 use Rattle.m88_event.specs.declared.letter.Letter.{Letter}
 use Rattle.m88_event.specs.declared.letter.Letter.TheVariants.{Issue, Answer}
 use Rattle.m88_event.specs.declared.outcome.Outcome.{Outcome}
-use Rattle.m88_report.specs.Report.{count_line, run_end_line}
+use Rattle.m88_report.specs.Report.{count_line}
 
 -- what the generator makes of its 32-bit number with each draw
 abbrev pub next_seed : ℕ → ℕ

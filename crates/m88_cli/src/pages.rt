@@ -1,13 +1,12 @@
 //! The word of a command that says which pages are absent.
-ghost use Rattle.std.specs.Prelude.{ℕ, Bool, ◌≡◌, ◌≢◌, ◌<◌, ◌≤◌, ◌++◌, ◌∷◌, [], All, List, IfSome, MatchOption, None, OnSome, Some, codes, length};
-ghost use Rattle.m88_mem.specs.DataBus.{page_count};
+ghost use Rattle.std.specs.Prelude.{ℕ, Bool, ◌≡◌, ◌≢◌, ◌≤◌, ◌++◌, ◌∷◌, [], All, List, IfSome, MatchOption, None, OnSome, Some, codes, length};
+ghost use Rattle.m88_base.specs.Pages.{IsPage};
 ghost use Rattle.m88_mem.specs.Marks.{NamesPages, absent_in};
 ghost use Rattle.m88_cli.specs.Pages.{ArePageNumbers, IsAbsent, IsPageNumber, most_numbers};
 
 use crate::numbers::{decimal_number, hexadecimal_number};
 use arrayvec::ArrayVec;
-use m88_base::{Absent, split_at_byte};
-use m88_mem::PAGE_COUNT;
+use m88_base::{Absent, PAGE_COUNT, split_at_byte};
 
 /// The most page numbers that a text may have.
 const MOST_NUMBERS: usize = 64;
@@ -36,7 +35,7 @@ pub fn absent_of(text: &str) -> Option<Absent>
 fn page_numbers(text: &[u8]) -> Option<ArrayVec<u32, MOST_NUMBERS>>
     ensures found { IfSome result (λ numbers. ArePageNumbers text.now numbers.items) }
     ensures few { IfSome result (λ numbers. length numbers.items ≤ most_numbers) }
-    ensures below { IfSome result (λ numbers. All (λ n. n < page_count) numbers.items) }
+    ensures below { IfSome result (λ numbers. All IsPage numbers.items) }
     ensures only { (numbers : List ℕ) → ArePageNumbers text.now numbers
         → length numbers ≤ most_numbers
         → MatchOption result ⊥ (λ found. found.items ≡ numbers) }
@@ -56,8 +55,8 @@ fn add_number(numbers: &mut ArrayVec<u32, MOST_NUMBERS>, text: &[u8]) -> Option<
     ensures added { OnSome result ((n : ℕ) × IsPageNumber text.now n
         × (numbers.new.items ≡ numbers.old.items ++ n ∷ [])) }
     ensures room { OnSome result (length numbers.new.items ≤ most_numbers) }
-    ensures below { OnSome result (All (λ n. n < page_count) numbers.old.items
-        → All (λ n. n < page_count) numbers.new.items) }
+    ensures below { OnSome result (All IsPage numbers.old.items
+        → All IsPage numbers.new.items) }
     ensures full { result ≡ None → (n : ℕ) → IsPageNumber text.now n
         → most_numbers ≤ length numbers.old.items }
 {

@@ -10,7 +10,7 @@ ghost use Rattle.m88_event.specs.Timeline.{Moment, is_over, nip_at};
 ghost use Rattle.m88_isa.specs.History.{bus_at, pending_at};
 ghost use Rattle.m88_isa.specs.Machine.{Program, four_bytes, state};
 ghost use Rattle.m88_mem.specs.DataBus.{bus_of};
-ghost use Rattle.m88_board.specs.Board.{completed_of, local_of, pointer_of};
+ghost use Rattle.m88_board.specs.Board.{completed_of, local_of};
 ghost use Rattle.m88_board.specs.Moves.{IsAt};
 ghost use Rattle.m88_board.specs.Shown.{ArePointers, AreRegisters, IsDataBus, IsStatus};
 
@@ -71,7 +71,7 @@ impl Board {
     pub fn next_slot(&self) -> Slot
         ensures value { result ≡ self.now.slots.nip }
         ensures moment { (p : Program) (named : ℕ → Bool) (m : Moment) → IsAt p named m self.now
-            → pointer_of result ≡ nip_at p m }
+            → result ≡ nip_at p m }
     {
         self.iunit.candidate()
     }

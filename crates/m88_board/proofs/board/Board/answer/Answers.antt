@@ -1,8 +1,8 @@
 -- The oldest transaction is answered or finished with all others.
 use Rattle.std.proofs.Common.{◌≡◌, ◌∙◌, sym, subst, refl, Some, false}
 use Rattle.std.specs.Prelude.{None, slice_get}
+use Rattle.m88_base.specs.Pages.{page_number}
 use Rattle.m88_event.specs.Local.{record_by}
-use Rattle.m88_isa.specs.Bus.{page_number}
 use Rattle.m88_mem.specs.DataBus.{absent_of}
 use Rattle.m88_board.specs.Board.{BoardView, local_of}
 use Rattle.m88_board.proofs.Choosing.{answer_is, did_by}

@@ -1,7 +1,7 @@
 -- The instruction is issued, or memory ran out before.
 use Rattle.std.proofs.Common.{◌∙◌, ap, rules}
 use Rattle.std.proofs.lemmas.Result.{err_from_is_err_and}
-use Rattle.m88_event.specs.Shadow.{Pointer}
+use Rattle.m88_base.specs.declared.slot.Slot.{Slot}
 use Rattle.m88_board.proofs.Keeping.{issued_by, kept_issued, unmoved}
 use Rattle.m88_board.specs.contracts.board.Board.{the_view}
 use Rattle.m88_board.proofs.board.Board.go.Goals as goal
@@ -20,7 +20,7 @@ invariant_of-self-2 c =
     kept_issued (the_view c.self.inside) c.args.effect.now.accesses c.advance.new.iunit c.put_in.new.unit c.put_in.new.regs
     c.prepare.new.memory c.set_carry.new.self c.args.effect.now.carry c.self.invariant goes c.requires.can room apart
     c.put_in.ensures.pending c.put_in.ensures.waiting c.prepare.ensures.stays (search rules) c.advance.ensures.slots
-    (ap (λ (a : Pointer). a.valid) c.advance.ensures.advanced.xip) c.set_carry.ensures.state c.set_carry.ensures.carry
+    (ap (λ (a : Slot). a.v) c.advance.ensures.advanced.xip) c.set_carry.ensures.state c.set_carry.ensures.carry
 
 pub returns-clause-ok : goal.returns-clause-ok
 returns-clause-ok c = λ change fault is few.

@@ -3,6 +3,7 @@ use Rattle.std.proofs.Common.{◌≡◌, ◌∙◌, ℕ, Some, None, Option, Boo
 use Rattle.std.specs.Prelude.{option_map}
 use Rattle.std.specs.Int.{to_be_bytes, w32}
 use Rattle.std.proofs.lemmas.Result.{IfOk-weaker}
+use Rattle.m88_base.specs.declared.slot.Slot.{Slot}
 use Rattle.m88_event.specs.Choice.{idles, passes}
 use Rattle.m88_event.specs.Local.{choice_by}
 use Rattle.m88_event.specs.declared.happened.Happened.TheVariants.{Bubble, Idle}
@@ -11,7 +12,6 @@ use Rattle.m88_event.specs.declared.record.Record.{Record}
 use Rattle.m88_isa.specs.ImageProgram.{IsProgramOf}
 use Rattle.m88_isa.specs.Machine.{Program, by_vector}
 use Rattle.m88_isa.specs.Vector.{instruction_access, unimplemented}
-use Rattle.m88_iunit.specs.declared.slot.Slot.{Slot}
 use Rattle.m88_board.proofs.Choosing.{did_by}
 use Rattle.m88_board.proofs.Counting.{did_events, events_kept, no_record, same_events}
 use Rattle.m88_board.proofs.Fetching.{idles_by, lacks_by, next_at, passes_by, turns_by, unimplemented_by}

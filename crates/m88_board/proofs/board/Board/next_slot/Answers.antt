@@ -1,11 +1,10 @@
 -- NIP at a moment.
 use Rattle.std.proofs.Common.{ap, ◌∙◌}
 use Rattle.m88_board.proofs.Shown.{nip_seen}
-use Rattle.m88_board.specs.Board.{pointer_of}
 use Rattle.m88_board.specs.contracts.board.Board.{the_view}
 use Rattle.m88_board.proofs.board.Board.next_slot.Goals as goal
 
 pub returns-clause-moment : goal.returns-clause-moment
 returns-clause-moment c = λ p named m at.
-    ap pointer_of c.candidate.ensures.value
+    c.candidate.ensures.value
     ∙ nip_seen p named m (the_view c.self.inside) (rw (← c.self.view_is) at at) c.self.invariant.slots

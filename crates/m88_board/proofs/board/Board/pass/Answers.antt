@@ -1,8 +1,8 @@
 -- FIP is next.
 use Rattle.std.proofs.Common.{ap}
+use Rattle.m88_base.specs.declared.slot.Slot.{Slot}
 use Rattle.m88_board.proofs.Steps.{passed}
 use Rattle.m88_board.specs.contracts.board.Board.{the_view}
-use Rattle.m88_iunit.specs.declared.slot.Slot.{Slot}
 use Rattle.m88_board.proofs.board.Board.pass.Goals as goal
 
 pub returns : goal.returns

@@ -1,7 +1,7 @@
 -- The parts show what the instruction needs.
 use Rattle.std.proofs.Common.{◌∙◌, ap}
+use Rattle.m88_base.specs.declared.slot.Slot.{Slot}
 use Rattle.m88_isa.specs.Effect.{plan_for}
-use Rattle.m88_iunit.specs.declared.slot.Slot.{Slot}
 use Rattle.m88_board.proofs.Issuing.{meant}
 use Rattle.m88_board.specs.contracts.board.Board.{the_view}
 use Rattle.m88_board.proofs.board.Board.planned.Goals as goal
