@@ -43,6 +43,10 @@ triples_of pending =
 abbrev pub is_valid_triple : Triple → Bool
 is_valid_triple t = bit_at t.dmt 0 == 1
 
+-- a triple whose access is done: VALID is cleared
+abbrev pub finished : Triple → Triple
+finished t = record t { dmt = t.dmt / 2 * 2 }
+
 -- the access of a triple, field by field
 abbrev pub access_in : Triple → Access
 access_in t = record {

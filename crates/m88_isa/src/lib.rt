@@ -36,7 +36,7 @@ pub use monitor::{
 };
 pub use operands::{access_count, is_flow, uses, waits_for_empty, writes};
 pub use planned::{Access, Accesses, Effect, Plan};
-pub use triples::{access_in, is_valid_triple, triple_of};
+pub use triples::{access_in, finished, is_valid_triple, triple_of};
 pub use vector::{
     BAD_DIVISION, DATA_ACCESS, FIRST_USER_VECTOR, INSTRUCTION_ACCESS, MISALIGNED, OUT_OF_BOUNDS,
     OVERFLOW, PRIVILEGE, UNIMPLEMENTED,

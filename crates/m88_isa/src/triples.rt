@@ -3,7 +3,7 @@
 ghost use Rattle.std.specs.Prelude.{◌≡◌, ◌≤◌, true};
 ghost use Rattle.m88_isa.specs.Compute.{weight_if};
 ghost use Rattle.m88_isa.specs.Memory.{IsWordAccess};
-ghost use Rattle.m88_isa.specs.Triples.{access_in, dmt_of, is_valid_triple, triple_of};
+ghost use Rattle.m88_isa.specs.Triples.{access_in, dmt_of, finished, is_valid_triple, triple_of};
 
 use crate::planned::Access;
 use m88_base::{Reg, Triple};
@@ -73,6 +73,17 @@ pub fn is_valid_triple(triple: &Triple) -> bool
     ensures { result ≡ is_valid_triple triple.now }
 {
     triple.dmt / VALID % 2 == 1
+}
+
+/// A triple once its access is done: VALID is cleared.
+pub fn finished(triple: &Triple) -> Triple
+    ensures { result ≡ finished triple.now }
+{
+    Triple {
+        dmt: triple.dmt - triple.dmt / VALID % 2 * VALID,
+        dmd: triple.dmd,
+        dma: triple.dma,
+    }
 }
 
 /// The access of a triple, field by field, whatever its words are.

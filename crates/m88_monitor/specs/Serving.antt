@@ -7,7 +7,7 @@ use Rattle.m88_base.specs.declared.triple.Triple.{Triple}
 use Rattle.m88_ctrl.specs.ControlRegisters.{ControlRegisters}
 use Rattle.m88_isa.specs.Bus.{bus_after, loaded}
 use Rattle.m88_isa.specs.Lanes.{IsEnable}
-use Rattle.m88_isa.specs.Triples.{access_in, is_valid_triple}
+use Rattle.m88_isa.specs.Triples.{access_in, finished, is_valid_triple}
 use Rattle.m88_isa.specs.declared.planned.Access.{Access}
 use Rattle.m88_mem.specs.DataBus.{MemoryView, absent_of, bus_of}
 use Rattle.m88_mem.specs.Marks.{with_page}
@@ -24,10 +24,6 @@ pub record Serving : Type 0 where
 -- the words of a transaction by its place, 0 the oldest
 abbrev pub triple_at : ℕ → ControlRegisters → Triple
 triple_at index c = if index == 0 then c.t0 else if index == 1 then c.t1 else c.t2
-
--- a triple whose VALID is cleared
-abbrev pub finished : Triple → Triple
-finished t = record t { dmt = t.dmt / 2 * 2 }
 
 -- the control registers with VALID of one triple cleared, by its place
 abbrev pub with_finished : ℕ → ControlRegisters → ControlRegisters

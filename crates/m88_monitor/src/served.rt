@@ -13,7 +13,7 @@ ghost use Rattle.m88_monitor.specs.Serving.{CanServe, CanServeTriple, after_serv
 
 use m88_base::{Reg, Triple};
 use m88_ctrl::{Control, cr};
-use m88_isa::{Access, access_in, datum, is_valid_triple};
+use m88_isa::{Access, access_in, datum, finished, is_valid_triple};
 use m88_mem::{Memory, PAGE_BYTES};
 use m88_scoreboard::RegFile;
 
@@ -66,7 +66,7 @@ fn serve_triple(ctrl: &mut Control, regs: &mut RegFile, memory: &mut Memory, ind
     let access = access_in(&triple);
     memory.supply(access.addr / PAGE_BYTES);
     make(ctrl, regs, memory, &access);
-    finish(ctrl, index, triple.dmt);
+    finish(ctrl, index, &triple);
     1
 }
 
@@ -148,16 +148,17 @@ fn end_wait(ctrl: &mut Control, r: Reg)
     );
 }
 
-/// Clears VALID of a triple with this DMT.
-fn finish(ctrl: &mut Control, index: usize, dmt: u32)
+/// Clears VALID of the triple at a place, which has these words.
+fn finish(ctrl: &mut Control, index: usize, triple: &Triple)
     requires index { index < 3 }
-    requires dmt { (triple_at index ctrl.old).dmt ≡ dmt }
+    requires words { triple_at index ctrl.old ≡ triple.now }
     ensures { ctrl.new ≡ with_finished index ctrl.old }
 {
+    let dmt = finished(triple).dmt;
     match index {
-        0 => put(ctrl, cr::DMT0, dmt / 2 * 2),
-        1 => put(ctrl, cr::DMT1, dmt / 2 * 2),
-        _ => put(ctrl, cr::DMT2, dmt / 2 * 2),
+        0 => put(ctrl, cr::DMT0, dmt),
+        1 => put(ctrl, cr::DMT1, dmt),
+        _ => put(ctrl, cr::DMT2, dmt),
     }
 }
 

@@ -8,10 +8,11 @@ use Rattle.m88_monitor.proofs.Steps.{same_triple, served_valid}
 use Rattle.m88_monitor.specs.Serving.{serving_of, triple_at}
 use Rattle.m88_monitor.proofs.served.serve_triple.Goals as goal
 
-pub finish-requires-clause-dmt : goal.finish-requires-clause-dmt
-finish-requires-clause-dmt c =
-    ap (λ control. (triple_at c.args.index control).dmt) c.make.ensures.control
-    ∙ ap (λ t. t.dmt) (same_triple c.args.index c.access_in-access.result c.args.ctrl.now ∙ sym c.triple_at-triple.ensures)
+pub finish-requires-clause-words : goal.finish-requires-clause-words
+finish-requires-clause-words c =
+    ap (triple_at c.args.index) c.make.ensures.control
+    ∙ same_triple c.args.index c.access_in-access.result c.args.ctrl.now
+    ∙ sym c.triple_at-triple.ensures
 
 pub returns-clause-served : goal.returns-clause-served
 returns-clause-served c =
