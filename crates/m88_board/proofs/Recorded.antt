@@ -1,27 +1,27 @@
 -- The control registers after a data fault was served: they show its record.
-use Rattle.std.specs.Prelude.{ℕ, zero, suc, Bool, true, false, not, List, [], ◌∷◌, All, ◌≡◌, ◌≢◌, ◌<◌, ◌≤◌, ◌+◌, ◌%◌, ◌^◌, ◌==◌, ◌&&◌, length, map, slice_get, if◌then◌else◌}
+use Rattle.std.specs.Prelude.{ℕ, zero, suc, Bool, true, false, not, List, [], ◌∷◌, All, ◌≡◌, ◌≢◌, ◌<◌, ◌≤◌, ◌+◌, ◌^◌, ◌==◌, ◌&&◌, length, map, slice_get, if◌then◌else◌}
 use Rattle.std.specs.Int.{bit_at}
 use Rattle.std.proofs.Common.{arith, refl, sym, ap, ◌∙◌, subst}
 use Rattle.std.proofs.Math.Path.{fun_ext}
 use Rattle.std.proofs.lemmas.Bool.{eqb-false, eqb-true}
 use Rattle.std.proofs.lemmas.Bool.Decides.{nat_tests}
-use Rattle.std.proofs.lemmas.Nat.Bits.{bit_at-lt, bit_at_lowest}
+use Rattle.std.proofs.lemmas.Nat.Bits.{bit_at-lt}
 use Rattle.m88_base.proofs.RegisterBits.{bit_of_member}
 use Rattle.m88_base.specs.Reg.{number_of}
 use Rattle.m88_base.specs.RegisterSet.{bits_below, register_bits, with_member}
 use Rattle.m88_base.specs.Triple.{no_triple}
 use Rattle.m88_base.specs.declared.triple.Triple.{Triple}
-use Rattle.m88_ctrl.specs.ControlRegisters.{ControlRegisters, kept_of, returned}
+use Rattle.m88_ctrl.specs.ControlRegisters.{ControlRegisters, returned}
 use Rattle.m88_event.specs.declared.record.Record.{Record}
 use Rattle.m88_isa.proofs.Alone.{by_test}
 use Rattle.m88_isa.proofs.Apart.{loaded_first, stored_first}
 use Rattle.m88_isa.proofs.Late.{r0_waits_not}
 use Rattle.m88_isa.specs.Bus.{LoadApart, waits_for}
 use Rattle.m88_isa.specs.Memory.{IsWordAccess}
-use Rattle.m88_isa.specs.Triples.{triple_or_none}
+use Rattle.m88_isa.specs.Triples.{finished, triple_or_none}
 use Rattle.m88_isa.specs.declared.planned.Access.{Access}
 use Rattle.m88_monitor.proofs.Steps.{same_triple}
-use Rattle.m88_monitor.specs.Serving.{Serving, after_service, finished, with_finished, with_loaded, without_bit}
+use Rattle.m88_monitor.specs.Serving.{Serving, after_service, with_finished, with_loaded, without_bit}
 use Rattle.m88_board.proofs.Service.{steps_of, three_steps}
 use Rattle.m88_board.specs.Shown.{IsRecordOf, ShowsFault}
 
@@ -84,34 +84,28 @@ without_member set n low there =
 zero_clear : (set : ℕ → Bool) → set 0 ≡ false → bit_at (register_bits set) 0 ≡ 0
 zero_clear set none = bit_as_number (register_bits set) 0 false (bit_of_member set 32 0 (omega arith) ∙ none)
 
-kept_whole : (word : ℕ) → bit_at word 0 ≡ 0 → kept_of 3 word ≡ word
-kept_whole word clear = let low : word % 2 ≡ 0 = sym (bit_at_lowest word) ∙ clear in omega (arith, low)
-
 without_zero : (word : ℕ) → bit_at word 0 ≡ 0 → without_bit 0 word ≡ word
 without_zero word clear = rw clear (omega arith)
 
 -- SSBR once a load is served
 pub load_served : (a : Access) (xs : List Access) → a.write ≡ false → LoadApart (a ∷ xs) →
-    kept_of 3 (without_bit (number_of a.reg) (register_bits (waits_for (a ∷ xs)))) ≡ register_bits (waits_for xs)
+    without_bit (number_of a.reg) (register_bits (waits_for (a ∷ xs))) ≡ register_bits (waits_for xs)
 load_served a xs read apart =
     let rest : register_bits (with_member (number_of a.reg) false (waits_for (a ∷ xs))) ≡ register_bits (waits_for xs) =
     ap register_bits (loaded_first a xs read apart) in
-    let clear = zero_clear (waits_for xs) (r0_waits_not xs) in
     by_test (number_of a.reg == 0)
     (λ is_zero.
     let none : number_of a.reg ≡ 0 = eqb-true (number_of a.reg) 0 is_zero in
     let all = zero_clear (waits_for (a ∷ xs)) (r0_waits_not (a ∷ xs)) in
     let same : with_member (number_of a.reg) false (waits_for (a ∷ xs)) ≡ waits_for (a ∷ xs) =
     fun_ext (λ r. zero_in (number_of a.reg) r (waits_for (a ∷ xs)) is_zero) in
-    ap (λ (n : ℕ). kept_of 3 (without_bit n (register_bits (waits_for (a ∷ xs))))) none
-    ∙ ap (kept_of 3) (without_zero (register_bits (waits_for (a ∷ xs))) all)
-    ∙ kept_whole (register_bits (waits_for (a ∷ xs))) all
+    ap (λ (n : ℕ). without_bit n (register_bits (waits_for (a ∷ xs)))) none
+    ∙ without_zero (register_bits (waits_for (a ∷ xs))) all
     ∙ sym (ap register_bits same)
     ∙ rest)
     (λ there.
     let some = eqb-false (number_of a.reg) 0 there in
-    let whole = without_member (waits_for (a ∷ xs)) (number_of a.reg) a.reg.in_range some ∙ rest in
-    ap (kept_of 3) whole ∙ kept_whole (register_bits (waits_for xs)) clear)
+    without_member (waits_for (a ∷ xs)) (number_of a.reg) a.reg.in_range some ∙ rest)
   where
     nowhere : (t there w : Bool) → there ≡ true → (if t && not there then false else w) ≡ w
     nowhere true true w e = refl
@@ -152,7 +146,7 @@ ssbr_on : (a : Access) (xs : List Access) (c : ControlRegisters) → LoadApart (
 ssbr_on a xs c apart e = by_test a.write
     (λ write. rw write (e ∙ ap register_bits (stored_first a xs write)))
     (λ read. rw read
-    (ap (λ (word : ℕ). kept_of 3 (without_bit (number_of a.reg) word)) e ∙ load_served a xs read apart))
+    (ap (λ (word : ℕ). without_bit (number_of a.reg) word) e ∙ load_served a xs read apart))
 
 -- what serving the triples of the pending transactions does to the control registers
 pub record IsServed (old new : ControlRegisters) : Type 0 where

@@ -9,7 +9,7 @@ use Rattle.m88_base.specs.Pages.{page_number}
 use Rattle.m88_base.specs.Triple.{no_triple}
 use Rattle.m88_base.specs.declared.triple.Triple.{Triple}
 use Rattle.m88_ctrl.specs.ControlRegisters.{ControlRegisters}
-use Rattle.m88_dunit.proofs.Told.{told_of, valid_of}
+use Rattle.m88_isa.proofs.Told.{told_of, valid_of}
 use Rattle.m88_event.specs.Choice.{touches_page}
 use Rattle.m88_isa.proofs.Alone.{by_test}
 use Rattle.m88_isa.specs.Bus.{Cells, after_accesses}

@@ -9,11 +9,10 @@ use Rattle.m88_isa.specs.Bus.{waits_for}
 use Rattle.m88_isa.specs.History.{bus_at, pending_at}
 use Rattle.m88_isa.specs.ImageProgram.{IsProgramOf}
 use Rattle.m88_isa.specs.Machine.{Program, state}
-use Rattle.m88_isa.specs.Triples.{triples_of}
+use Rattle.m88_isa.specs.Triples.{finished, triples_of}
 use Rattle.m88_isa.specs.declared.planned.Access.{Access}
 use Rattle.m88_iunit.specs.Pointers.{Pointers}
 use Rattle.m88_mem.specs.DataBus.{MemoryView, absent_of, bus_of, ready_of}
-use Rattle.m88_monitor.specs.Serving.{finished}
 use Rattle.m88_scoreboard.specs.Registers.{Registers, waiting_of}
 use Rattle.m88_board.specs.Kept.{AreReady}
 
