@@ -11,6 +11,7 @@ pub mod InBlocks
 pub mod Known
 pub mod Lines
 pub mod Lookup
+pub mod Marks
 pub mod Placing
 pub mod RegisterBits
 pub mod Same

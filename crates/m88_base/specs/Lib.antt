@@ -13,6 +13,7 @@ pub mod Refused
 pub mod Causes
 pub mod Calls
 pub mod Outside
+pub mod OneVerdict
 pub mod Memory
 pub mod Found
 pub mod Placed
