@@ -1,13 +1,14 @@
 -- The verdict on a text and the relation of the texts that are accepted say the same.
-use Rattle.std.proofs.Common.{◌≡◌, ℕ, ◌+◌, ◌≤◌, Bool, true, false, List, [], ◌∷◌, length, sym, refl, ap, ◌∙◌, subst, eq-eqb, arith}
-use Rattle.std.specs.Prelude.{Option, Some, None, Result, Ok, Err, ◌^◌, ◌==◌, if◌then◌else◌}
+use Rattle.std.proofs.Common.{◌≡◌, ℕ, ◌+◌, ◌≤◌, Bool, true, false, List, [], ◌∷◌, length, inl, inr, sym, refl, ap, ◌∙◌, subst, eq-eqb, arith}
+use Rattle.std.specs.Prelude.{Option, Some, None, Result, Ok, Err, ◌^◌, ◌==◌, ◌⊎◌, ◌↔◌, if◌then◌else◌}
 use Rattle.std.proofs.lemmas.Bool.Decides.{nat_tests}
 use Rattle.m88_base.specs.Image.{most_bytes}
 use Rattle.m88_base.specs.Lines.{lines_of}
+use Rattle.m88_base.specs.OneVerdict.{HasOneVerdict}
 use Rattle.m88_srec.specs.Accepted.{WriteEntries, ComeTo, Fits, IsAccepted, Whole, empty_line, ended, filled, headed, no_line, address_of, entry_line, tallied}
 use Rattle.m88_srec.specs.Placing.{Loaded, first_taken, is_beyond, nothing_loaded, with_data}
 use Rattle.m88_srec.specs.Records.{Entry, WritesEntry}
-use Rattle.m88_srec.specs.Verdict.{Load, acted, ended_on, go_on, judged, opening_load, placed, placed_on, verdict, verdict_from}
+use Rattle.m88_srec.specs.Verdict.{IsFirstFault, Load, acted, ended_on, go_on, judged, opening_load, placed, placed_on, verdict, verdict_from}
 use Rattle.m88_srec.specs.declared.fault.SrecFault.{SrecFault}
 use Rattle.m88_srec.specs.declared.fault.SrecKind.{SrecKind}
 use Rattle.m88_srec.specs.declared.fault.SrecKind.TheVariants.{CountRecord, TooLarge}
@@ -205,3 +206,25 @@ pub verdict_takes : (text : List ℕ) (whole : Whole) → IsAccepted text whole 
 verdict_takes text whole a =
     comes_true 1 nothing_loaded 0 a.entries (lines_of text) a.loaded whole.start a.lines a.comes
     ∙ ap (λ f. Ok (record { found = f; start = whole.start })) a.found
+
+-- so the texts that are accepted are those whose verdict is what they write
+pub takes_exactly : (text : List ℕ) (whole : Whole) → IsAccepted text whole ↔ (verdict text ≡ Ok whole)
+takes_exactly text whole = (verdict_takes text whole, is_accepted text whole)
+
+-- and a text is accepted or has a first fault
+pub one_verdict : (text : List ℕ) → HasOneVerdict (IsAccepted text) (IsFirstFault text)
+one_verdict text = record { some = by_verdict (verdict text) refl; not_both = not_both; one_value = one_whole; one_fault = one_fault }
+  where
+    by_verdict : (r : Result Whole SrecFault) → verdict text ≡ r
+        → ((whole : Whole) × IsAccepted text whole) ⊎ ((fault : SrecFault) × IsFirstFault text fault)
+    by_verdict (Ok whole) e = inl (whole, is_accepted text whole e)
+    by_verdict (Err fault) e = inr (fault, e)
+
+    not_both : (whole : Whole) (fault : SrecFault) → IsAccepted text whole → IsFirstFault text fault → ⊥
+    not_both whole fault a e = let both : Ok whole ≡ Err fault = sym (verdict_takes text whole a) ∙ e in absurd cc
+
+    one_whole : (a b : Whole) → IsAccepted text a → IsAccepted text b → a ≡ b
+    one_whole a b h k = let both : Ok a ≡ Ok b = sym (verdict_takes text a h) ∙ verdict_takes text b k in cc
+
+    one_fault : (a b : SrecFault) → IsFirstFault text a → IsFirstFault text b → a ≡ b
+    one_fault a b h k = let both : Err a ≡ Err b = sym h ∙ k in cc

@@ -1,6 +1,6 @@
 -- The verdict on an S-record text (Motorola S-record format), line by line: what the lines so far write, or the first
 -- fault. Of the reasons that a line can be refused for, the first that applies counts.
-use Rattle.std.specs.Prelude.{ℕ, Bool, List, [], ◌∷◌, Option, Some, None, Result, Ok, Err, ◌+◌, ◌-◌, ◌==◌, ◌&&◌, ◌||◌, drop, is_some, length, nat_lt, not, slice_index, take, if◌then◌else◌}
+use Rattle.std.specs.Prelude.{ℕ, Bool, List, [], ◌∷◌, Option, Some, None, Result, Ok, Err, ◌≡◌, ◌+◌, ◌-◌, ◌==◌, ◌&&◌, ◌||◌, drop, is_some, length, nat_lt, not, slice_index, take, if◌then◌else◌}
 use Rattle.m88_base.specs.Lines.{lines_of}
 use Rattle.m88_srec.specs.Accepted.{Whole, address_of}
 use Rattle.m88_srec.specs.Placing.{Loaded, first_taken, is_beyond, nothing_loaded, with_data}
@@ -129,3 +129,7 @@ verdict_from number load (line ∷ lines) =
 -- the verdict on a text: what it writes, or its first fault
 abbrev pub verdict : List ℕ → Result Whole SrecFault
 verdict text = verdict_from 1 opening_load (lines_of text)
+
+-- the text's first fault
+abbrev pub IsFirstFault : List ℕ → SrecFault → Type 0
+IsFirstFault text fault = verdict text ≡ Err fault

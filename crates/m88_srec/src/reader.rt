@@ -1,9 +1,10 @@
 //! S-record texts read.
-ghost use Rattle.std.specs.Prelude.{◌≡◌, ◌<◌, ◌^◌, length, IfOk, MatchResult};
+ghost use Rattle.std.specs.Prelude.{◌≡◌, ◌<◌, ◌^◌, ◌↔◌, length, IfOk, MatchResult, Ok};
+ghost use Rattle.m88_base.specs.OneVerdict.{HasOneVerdict};
 ghost use Rattle.m88_srec.specs.Accepted.{IsAccepted, Whole, whole_of};
 ghost use Rattle.m88_srec.specs.GivesVerdict.{GivesVerdict, no_memory};
 ghost use Rattle.m88_srec.specs.Loads.{fault_of_line};
-ghost use Rattle.m88_srec.specs.Verdict.{verdict};
+ghost use Rattle.m88_srec.specs.Verdict.{IsFirstFault, verdict};
 
 use crate::fault::{SrecFault, SrecKind};
 use crate::loading::Loading;
@@ -50,6 +51,11 @@ pub fn read_srec(alloc: Global, text: &[u8]) -> Result<Image, SrecFault>
     ensures accepted { IfOk result (λ image. IsAccepted text.now (whole_of image)) }
     ensures only { (whole : Whole) → IsAccepted text.now whole
         → MatchResult result (λ image. whole_of image ≡ whole) (λ fault. fault ≡ no_memory) }
+
+    // A text is accepted or has a first fault, never both, and one at most; it is accepted where its verdict
+    // is what it writes.
+    ensures one_verdict { HasOneVerdict (IsAccepted text.now) (IsFirstFault text.now) }
+    ensures law { (whole : Whole) → IsAccepted text.now whole ↔ (verdict text.now ≡ Ok whole) }
 {
     read(alloc, text)
 }
