@@ -4,6 +4,7 @@ pub mod Calls
 pub mod Constants
 pub mod Copied
 pub mod Cuts
+pub mod Decided
 pub mod Edits
 pub mod Digits
 pub mod Hexadecimal

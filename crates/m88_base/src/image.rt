@@ -53,7 +53,7 @@ pub struct Image {
 impl Model for Image {
     ghost use Rattle.std.specs.Prelude.{◌≡◌, ◌≤◌, ◌<◌, ◌^◌};
     ghost use Rattle.m88_base.specs.Found.{FindsBytes};
-    ghost use Rattle.m88_base.specs.Placed.{byte_among, count_among};
+    ghost use Rattle.m88_base.specs.Placed.{AreApart, byte_among, count_among};
     ghost use Rattle.m88_base.specs.Image.{ProgramImage, most_bytes};
 
     ghost Value = { ProgramImage };
@@ -61,7 +61,7 @@ impl Model for Image {
     ghost view = { λ image. record { runs = image.runs; start = image.start } };
 
     ghost invariant = { λ image. (image.len ≡ count_among image.runs) × (image.len ≤ most_bytes)
-        × FindsBytes (byte_among image.runs) × (image.start < 2 ^ 32) };
+        × FindsBytes (byte_among image.runs) × (image.start < 2 ^ 32) × AreApart 0 image.runs };
 }
 
 impl Image {
@@ -134,6 +134,7 @@ impl Image {
         ensures start { self.new.start ≡ at }
         ensures bytes { (a : ℕ) → byte_at self.new a ≡ byte_at self.old a }
         ensures len { byte_count self.new ≡ byte_count self.old }
+        ensures image { IsImage self.new }
     {
         self.start = at;
     }

@@ -30,8 +30,13 @@ invariant_of-self-2 c =
     let placed = c.in_ok-place.ensures.ok in
     let far : 2 ^ 32 < c.args.at + length c.args.bytes.now → ⊥ =
     λ p. absurd (let f = c.if-is_too_large.ensures.1 (inl p) in cc) in
-    let bytes = puts_bytes _ _ c.args.at c.args.bytes.now c.self.invariant.2 (omega (arith, far)) (λ k p. (c.type_inv.bytes k).fits) placed.puts in
-    (omega (arith, placed.count, c.self.invariant.0), omega (arith, many, counted_bytes ((goal.at.invariant_of-self-2 c).In_ok-place)), bytes, c.self.invariant.3)
+    let bytes = puts_bytes _ _ c.args.at c.args.bytes.now c.self.invariant.2 (omega (arith, far)) (λ k p. (c.type_inv.bytes k).fits) placed.puts in (
+      omega (arith, placed.count, c.self.invariant.0),
+      omega (arith, many, counted_bytes ((goal.at.invariant_of-self-2 c).In_ok-place)),
+      bytes,
+      c.self.invariant.3,
+      placed.apart,
+    )
 
 pub returns-clause-ok : goal.returns-clause-ok
 unfolding byte_at
