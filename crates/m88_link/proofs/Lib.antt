@@ -10,6 +10,7 @@ pub mod Imaged
 pub mod Extents
 pub mod Rooms
 pub mod Linkage
+pub mod Counted
 pub mod Chunks
 pub mod OneRefusal
 pub mod Divided
@@ -29,3 +30,5 @@ pub mod Texts
 pub mod Judged
 pub mod Ranged
 pub mod Told
+pub mod Soundness
+pub mod OneText

@@ -5,7 +5,7 @@ use Rattle.m88_link.specs.declared.object.Object.{Object}
 use Rattle.m88_link.specs.declared.object_fault.ObjectFault.{ObjectFault}
 use Rattle.m88_link.specs.declared.object_fault.ObjectFault.TheVariants.{Form, Range, Memory}
 use Rattle.m88_link.specs.Drafts.{AnswersText, nothing_read, read_from}
-use Rattle.m88_link.specs.ObjectRead.{IsFirstUnsound, IsFormLine, IsRangeLine, IsRefusedText, IsSoundText, RefusesText, ended_lines}
+use Rattle.m88_link.specs.ObjectRead.{IsFirstUnsound, IsFormLine, IsRangeLine, IsSoundText, IsTextFault, RefusesText, ended_lines}
 use Rattle.m88_link.specs.Sound.{IsSound}
 use Rattle.m88_link.specs.Walked.{AreSoundParts, IsFoundObject, objects_count}
 use Rattle.m88_link.proofs.Judged.{no_form_line, one_form_line, read_refused, read_written, written_read}
@@ -13,11 +13,12 @@ use Rattle.m88_link.proofs.Ranged.{all_sound_objects, count_within, found_below,
 
 module _ (text : List ℕ) where
   -- a text that is no text of objects
-  pub form_told : (e : ObjectFault) → (e ≡ Memory) ⊎ (read_from 1 nothing_read (ended_lines text) ≡ Err e) → IsRefusedText text e
-  form_told e (inl memory) = subst (IsRefusedText text) (sym memory) tt
+  pub form_told : (e : ObjectFault) → (e ≡ Memory) ⊎ (read_from 1 nothing_read (ended_lines text) ≡ Err e)
+      → (e ≡ Memory) ⊎ IsTextFault text e
+  form_told e (inl memory) = inl memory
   form_told e (inr h) =
       let k = read_refused text e h in
-      subst (IsRefusedText text) (sym k.1) k.2
+      inr (subst (IsTextFault text) (sym k.1) k.2)
 
   module _ (os : List Object) (e : read_from 1 nothing_read (ended_lines text) ≡ Ok os) where
     -- the lines of objects are no more than the bytes of their text
@@ -54,35 +55,38 @@ module _ {X : Type 0} (seen : X → List Object) (text : List ℕ) where
       → MatchResult r (λ x. seen x ≡ os) (λ e. e ≡ Memory)
   told_written (Ok x) h os k =
       same_objects text (seen x) os (written_read text (seen x) h.have h.text_is) (written_read text os k.have k.text_is)
-  told_written (Err (Form n)) h os k = absurd (no_form_line text n os k.have k.text_is h)
-  told_written (Err (Range n)) h os k =
+  told_written (Err e) (inl memory) os k = memory
+  told_written (Err (Form n)) (inr h) os k = absurd (no_form_line text n os k.have k.text_is h)
+  told_written (Err (Range n)) (inr h) os k =
       let same : h.objects ≡ os = same_objects text h.objects os (written_read text h.objects h.have h.text_is) (written_read text os k.have k.text_is) in
       absurd (not_sound h.objects n h.first (subst (All IsSound) (sym same) k.sound))
-  told_written (Err Memory) h os k = refl
+  told_written (Err Memory) (inr h) os k = absurd h
 
   -- a line that no text continues is told
   pub told_form : (r : Result X ObjectFault) → AnswersText seen text r → (n : ℕ) → IsFormLine text n → RefusesText r (Form n)
   told_form (Ok x) h n k = no_form_line text n (seen x) h.have h.text_is k
-  told_form (Err (Form m)) h n k = inl (ap Form (one_form_line text m n h k))
-  told_form (Err (Range m)) h n k = absurd (no_form_line text n h.objects h.have h.text_is k)
-  told_form (Err Memory) h n k = inr refl
+  told_form (Err e) (inl memory) n k = inr memory
+  told_form (Err (Form m)) (inr h) n k = inl (ap Form (one_form_line text m n h k))
+  told_form (Err (Range m)) (inr h) n k = absurd (no_form_line text n h.objects h.have h.text_is k)
+  told_form (Err Memory) (inr h) n k = absurd h
 
   -- a line by which an object isn't sound is told
   pub told_range : (r : Result X ObjectFault) → AnswersText seen text r → (n : ℕ) → IsRangeLine text n → RefusesText r (Range n)
   told_range (Ok x) h n k =
       let same : k.objects ≡ seen x = same_objects text k.objects (seen x) (written_read text k.objects k.have k.text_is) (written_read text (seen x) h.have h.text_is) in
       not_sound k.objects n k.first (subst (All IsSound) (sym same) h.sound)
-  told_range (Err (Form m)) h n k = absurd (no_form_line text m k.objects k.have k.text_is h)
-  told_range (Err (Range m)) h n k =
+  told_range (Err e) (inl memory) n k = inr memory
+  told_range (Err (Form m)) (inr h) n k = absurd (no_form_line text m k.objects k.have k.text_is h)
+  told_range (Err (Range m)) (inr h) n k =
       let same : h.objects ≡ k.objects = same_objects text h.objects k.objects (written_read text h.objects h.have h.text_is) (written_read text k.objects k.have k.text_is) in
       inl (ap Range (one_unsound_line k.objects m n (subst (λ l. IsFirstUnsound l m) same h.first) k.first))
-  told_range (Err Memory) h n k = inr refl
+  told_range (Err Memory) (inr h) n k = absurd h
 
   -- what is read, and what is refused
   pub told_read : (r : Result X ObjectFault) → AnswersText seen text r → IfOk r (λ x. IsSoundText (seen x) text)
   told_read (Ok x) h = h
   told_read (Err e) h = tt
 
-  pub told_refused : (r : Result X ObjectFault) → AnswersText seen text r → IfErr r (λ e. IsRefusedText text e)
+  pub told_refused : (r : Result X ObjectFault) → AnswersText seen text r → IfErr r (λ e. (e ≡ Memory) ⊎ IsTextFault text e)
   told_refused (Ok x) h = tt
   told_refused (Err e) h = h

@@ -1,9 +1,9 @@
 -- Going through parts: the first that fails, and one part more.
 use Rattle.std.proofs.Common.{◌≡◌, ℕ, ◌+◌, ◌<◌, ◌≤◌, Bool, true, false, List, [], ◌∷◌, ◌++◌, length, take, drop, get_or, refl, sym, ap, ◌∙◌, subst, arith}
-use Rattle.std.specs.Prelude.{All, Option, None, Some, sum_by, ◌↔◌, IsTrue}
+use Rattle.std.specs.Prelude.{All, Option, None, Some, flat_map, sum_by, ◌↔◌, IsTrue}
 use Rattle.std.specs.List.{AllByRecursion}
 use Rattle.std.specs.Option.{option_map, option_or}
-use Rattle.std.proofs.lemmas.List.{length-take-le, drop_more, take-append-drop, take_more, take_all}
+use Rattle.std.proofs.lemmas.List.{length-take-le, drop_more, flat_map_more, take-append-drop, take_more, take_all}
 use Rattle.std.proofs.lemmas.List.Elements.{All-from_recursion, All-push, recursion_from_All}
 use Rattle.std.proofs.lemmas.List.Sums.{sum_by_more, sum_by-take-le}
 use Rattle.m88_link.specs.declared.object.Object.{Object}
@@ -42,6 +42,12 @@ module _ {A : Type 0} (xs : List A) (i : ℕ) (x : A) (within : i < length xs) (
   -- one good part more
   pub all_one : (P : A → Type 0) → All P (take i xs) → P x → All P (take (i + 1) xs)
   all_one P h k = subst (All P) (sym take_one) (All-push P (take i xs) x h k)
+
+  -- the text of one part more
+  pub text_one : (f : A → List ℕ) (old now new : List ℕ) → now ≡ old ++ flat_map f (take i xs) → new ≡ now ++ f x
+      → new ≡ old ++ flat_map f (take (i + 1) xs)
+  text_one f old now new before written =
+      written ∙ ap (λ l. l ++ f x) before ∙ flat_map_more f old (take i xs) x ∙ ap (λ l. old ++ flat_map f l) (sym take_one)
 
   -- the first part that fails
   pub found_at : (Good : List A → Type 0) (count : List A → ℕ) (n : ℕ) → Good (take i xs) → (Good (take i xs ++ x ∷ []) → ⊥)

@@ -16,7 +16,7 @@ use Rattle.m88_link.specs.declared.row.Row.TheVariants.{Begin, Head, Define, Pat
 use Rattle.m88_link.specs.declared.row.SectionHead.{SectionHead}
 use Rattle.m88_base.specs.Lines.{line_feed}
 use Rattle.m88_link.specs.ObjectText.{line_bytes}
-use Rattle.m88_link.specs.ObjectRead.{IsRefusedText, IsSoundText}
+use Rattle.m88_link.specs.ObjectRead.{IsSoundText, IsTextFault}
 use Rattle.m88_base.specs.Cut.{split_at_byte}
 use Rattle.m88_link.specs.Rows.{◌>>=◌, bytes_behind, row_in}
 
@@ -173,7 +173,7 @@ abbrev pub GivesObjects
 GivesObjects seen (Ok x) said = said ≡ Ok (seen x)
 GivesObjects seen (Err e) said = (e ≡ Memory) ⊎ (said ≡ Err e)
 
--- what a call gives is the text's: its sound objects, seen by `seen`, or its fault
+-- what a call gives is the text's: its sound objects, seen by `seen`, or its fault; or memory ran out
 abbrev pub AnswersText : {X : Type 0} → (X → List Object) → List ℕ → Result X ObjectFault → Type 0
 AnswersText seen text (Ok x) = IsSoundText (seen x) text
-AnswersText seen text (Err e) = IsRefusedText text e
+AnswersText seen text (Err e) = (e ≡ Memory) ⊎ IsTextFault text e

@@ -141,11 +141,11 @@ pub record IsRangeLine (text : List ℕ) (n : ℕ) : Type 0 where
   pub text_is : text ≡ objects_text objects
   pub first : IsFirstUnsound objects n
 
--- the fault is the text's; want of memory is nobody's
-abbrev pub IsRefusedText : List ℕ → ObjectFault → Type 0
-IsRefusedText text (Form n) = IsFormLine text n
-IsRefusedText text (Range n) = IsRangeLine text n
-IsRefusedText text Memory = Unit {0}
+-- the fault is the text's first one: Range is looked for only where no line is Form; want of memory is no text's
+abbrev pub IsTextFault : List ℕ → ObjectFault → Type 0
+IsTextFault text (Form n) = IsFormLine text n
+IsTextFault text (Range n) = IsRangeLine text n
+IsTextFault text Memory = ⊥
 
 -- a call refuses with this fault, or memory ran out
 abbrev pub RefusesText : {X : Type 0} → Result X ObjectFault → ObjectFault → Type 0

@@ -1,5 +1,9 @@
 //! The linker: the image of a list of objects.
 ghost use Rattle.std.specs.Prelude.{◌≡◌, ◌⊎◌, All, IfErr, IfOk, OnOk};
+ghost use Rattle.std.specs.Result.{IsErrAnd};
+ghost use Rattle.m88_base.specs.Image.{IsImage};
+ghost use Rattle.m88_base.specs.OneVerdict.{HasOneFaultUnless};
+ghost use Rattle.m88_link.specs.declared.fault.LinkFault.{LinkFault as Refusal};
 ghost use Rattle.m88_link.specs.Faults.{memory_fault};
 ghost use Rattle.m88_link.specs.Layout.{layout_of};
 ghost use Rattle.m88_link.specs.Linked.{IsLinked, start_address};
@@ -23,7 +27,30 @@ use std::alloc::Global;
 /// starts at `_start`, or at 0x00001000 where that isn't defined.
 pub fn link(alloc: Global, objects: &[Object]) -> Result<Image, LinkFault>
     requires { All IsSound objects.now }
+    // What is linked is linkable, and its image is the layout's; what is linkable is linked, unless
+    // memory runs out.
     ensures image { IfOk result (IsLinked (layout_of objects.now)) }
+    ensures is_image { IfOk result IsImage }
+    ensures linkable { OnOk result (IsLinkable (layout_of objects.now)) }
+    ensures linked { IsLinkable (layout_of objects.now)
+        → IfErr result (λ fault. fault ≡ memory_fault) }
+    // A fault is the layout's refusal, or memory ran out; and a refusal of the layout is answered.
+    ensures err { IfErr result (λ fault. (fault ≡ memory_fault)
+        ⊎ IsRefused (layout_of objects.now) fault) }
+    ensures refused { (e : Refusal) → IsRefused (layout_of objects.now) e
+        → IsErrAnd result (λ fault. (fault ≡ memory_fault) ⊎ (fault ≡ e)) }
+    // The layout is linkable or has a refusal, never both, and one at most.
+    ensures one_verdict { HasOneFaultUnless (IsLinkable (layout_of objects.now))
+        (IsRefused (layout_of objects.now)) }
+{
+    image_or_refusal(alloc, objects)
+}
+
+/// The image of objects, or the first reason why they have none.
+fn image_or_refusal(alloc: Global, objects: &[Object]) -> Result<Image, LinkFault>
+    requires { All IsSound objects.now }
+    ensures image { IfOk result (IsLinked (layout_of objects.now)) }
+    ensures is_image { IfOk result IsImage }
     ensures linkable { OnOk result (IsLinkable (layout_of objects.now)) }
     ensures err { IfErr result (λ fault. (fault ≡ memory_fault)
         ⊎ IsRefused (layout_of objects.now) fault) }

@@ -1,8 +1,9 @@
 //! Object texts read.
-ghost use Rattle.std.specs.Prelude.{◌≡◌, ◌<◌, ◌^◌, ℕ, IfErr, IfOk, List, MatchResult, length};
+ghost use Rattle.std.specs.Prelude.{◌≡◌, ◌<◌, ◌^◌, ◌⊎◌, ℕ, IfErr, IfOk, List, MatchResult, length};
+ghost use Rattle.m88_base.specs.OneVerdict.{HasOneVerdict};
 ghost use Rattle.m88_link.specs.declared.object.Object.{Object as ObjectValue};
 ghost use Rattle.m88_link.specs.Drafts.{AnswersText};
-ghost use Rattle.m88_link.specs.ObjectRead.{IsFormLine, IsRangeLine, IsRefusedText, IsSoundText, RefusesText};
+ghost use Rattle.m88_link.specs.ObjectRead.{IsFormLine, IsRangeLine, IsSoundText, IsTextFault, RefusesText};
 ghost use Rattle.m88_link.specs.declared.object_fault.ObjectFault.TheVariants as fault;
 
 use crate::object::Object;
@@ -39,9 +40,13 @@ pub fn read_objects(alloc: Global, text: &[u8]) -> Result<Vec<Object>, ObjectFau
         → MatchResult result (λ v. v.items ≡ objects) (λ e. e ≡ fault.Memory) }
 
     // What is refused is refused at its line, and each line at which it is to be refused is told.
-    ensures refused { IfErr result (λ e. IsRefusedText text.now e) }
+    ensures refused { IfErr result (λ e. (e ≡ fault.Memory) ⊎ IsTextFault text.now e) }
     ensures form { (n : ℕ) → IsFormLine text.now n → RefusesText result (fault.Form n) }
     ensures range { (n : ℕ) → IsRangeLine text.now n → RefusesText result (fault.Range n) }
+
+    // A text is that of sound objects or has a first fault, never both, and one at most.
+    ensures one_verdict { HasOneVerdict (λ objects. IsSoundText objects text.now)
+        (IsTextFault text.now) }
 {
     read(alloc, text)
 }

@@ -162,6 +162,14 @@ fn a_line_behind_the_sections_is_told(rt: HostRuntime) -> Result<(), Fail> {
             b"symbol x l 0 00000001 1 1\nend\nobject 9\n",
             ObjectFault::Form { line: 6 },
         ),
+        (
+            b"symbol x k 0 00000000 1 1\nsymbol y l 0 00000001 1 1\nend\n",
+            ObjectFault::Form { line: 4 },
+        ),
+        (
+            b"symbol x l 0 00000001 1 1\nreloc hi16 0 00000000 x 00000000 1 1\nend\n",
+            ObjectFault::Range { line: 4 },
+        ),
     ] {
         let mut whole = Vec::from_slice(
             rt.alloc(),

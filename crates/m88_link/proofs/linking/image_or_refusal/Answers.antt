@@ -11,7 +11,7 @@ use Rattle.m88_link.specs.Refusal.{AreDisjoint, IsOverlap, duplicate, too_far, u
 use Rattle.m88_link.specs.Sizes.{total_size}
 use Rattle.m88_base.specs.Image.{most_bytes}
 use Rattle.m88_link.proofs.Linkage.{linkable, refused_duplicate, refused_overlap, refused_reference, refused_too_large, spots_alone, spots_few}
-use Rattle.m88_link.proofs.linking.link.Goals as goal
+use Rattle.m88_link.proofs.linking.image_or_refusal.Goals as goal
 
 pub returns-then-not-fit-clause-err : goal.returns-then-not-fit-clause-err
 returns-then-not-fit-clause-err c =

@@ -1,5 +1,5 @@
 -- The objects whose text it is are gone through, whose lines are no more than the text has bytes.
-use Rattle.std.proofs.Common.{◌<◌, ◌^◌, List, sym, subst, arith}
+use Rattle.std.proofs.Common.{◌<◌, ◌^◌, List, inr, sym, subst, arith}
 use Rattle.std.proofs.lemmas.Result.{err_from_is_err_and}
 use Rattle.std.specs.Prelude.{All}
 use Rattle.m88_link.specs.declared.object.Object.{Object}
@@ -40,5 +40,5 @@ returns-in-Sound c =
 pub returns-in-Unsound : goal.returns-in-Unsound
 returns-in-Unsound c =
     let found = walked_unsound c.in_ok-walk_objects.field-0 _ _ c.in-Unsound.lines c.in-Unsound.is c.in_ok-walk_objects.ensures in
-    range_told c.args.text.now c.in_ok-objects.objects.items c.in_ok-objects.ensures c.in-Unsound.lines
-    (subst (λ (l : List Object). IsFoundObject l c.in-Unsound.lines) c.as_slice.ensures.value found)
+    inr (range_told c.args.text.now c.in_ok-objects.objects.items c.in_ok-objects.ensures c.in-Unsound.lines
+    (subst (λ (l : List Object). IsFoundObject l c.in-Unsound.lines) c.as_slice.ensures.value found))

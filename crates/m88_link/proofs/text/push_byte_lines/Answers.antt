@@ -12,5 +12,5 @@ loop-line-preserved c =
       lines = one_line_more _ _ _ _ _ _ _ c.loop-line.invariant.lines steps.1.0 size steps.1.2 c.in_ok-push_byte_line.ensures;
     }
 
-pub returns : goal.returns
-returns c = all_lines _ _ _ _ c.loop-line.invariant.lines c.in-None.ensures.steps.1.0
+pub returns-clause-text : goal.returns-clause-text
+returns-clause-text c = all_lines _ _ _ _ c.loop-line.invariant.lines c.in-None.ensures.steps.1.0
