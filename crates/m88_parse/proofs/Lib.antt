@@ -6,3 +6,6 @@ pub mod Collecting
 pub mod Naming
 pub mod Drafts
 pub mod Ending
+pub mod InLines
+pub mod FormedOperands
+pub mod FormedUnits

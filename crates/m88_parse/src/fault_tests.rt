@@ -49,6 +49,21 @@ fn refused_at_the_first_fault(rt: HostRuntime) {
 }
 
 #[test]
+fn a_fault_of_a_later_line_does_not_count(rt: HostRuntime) {
+    let rows: [(&[u8], u32, u32, ParseKind); 4] = [
+        (b"\xE9\nfoo", 1, 1, ParseKind::NotAscii),
+        (b"or r2,r0\n\xE9", 1, 9, ParseKind::Syntax),
+        (b"foo r2\nor r2,r0", 1, 1, ParseKind::NoSuchName),
+        (b"or r2,r0,65536\nfoo r2", 1, 10, ParseKind::OutOfRange),
+    ];
+    for (source, line, col, kind) in rows {
+        assert!(rt; source.len() < 100);
+        let wanted = ParseFault { line, col, kind };
+        assert_eq!(rt; parse(rt.alloc(), source).err(), Some(wanted));
+    }
+}
+
+#[test]
 fn refused_at_a_doubtful_place(rt: HostRuntime) {
     let rows: [(&[u8], u32, u32, ParseKind); 48] = [
         (b"rte\r", 1, 4, ParseKind::NotAscii),

@@ -2,7 +2,8 @@
 ghost use Rattle.std.specs.Prelude.{◌≡◌, ◌<◌, ◌≤◌, ◌+◌, ◌^◌, ◌⊎◌, Ok, Err, length, map, IfOk, IfErr, IfSome, MatchResult};
 ghost use Rattle.std.specs.List.{All};
 ghost use Rattle.m88_parse.specs.declared.unit.Unit.{Unit as SourceUnit};
-ghost use Rattle.m88_parse.specs.Language.FirstFaults.{IsFirstFault, HasOneAnswer};
+ghost use Rattle.m88_base.specs.OneVerdict.{HasOneVerdict};
+ghost use Rattle.m88_parse.specs.Language.FirstFaults.{IsFirstFault};
 ghost use Rattle.m88_parse.specs.Language.Units.{IsUnit};
 ghost use Rattle.m88_parse.specs.declared.fault.ParseFault.{ParseFault as FaultValue};
 ghost use Rattle.m88_parse.specs.Fault.{Gives, out_of_memory, IsSourceKind};
@@ -96,7 +97,7 @@ pub fn parse(alloc: Global, source: &[u8]) -> Result<Unit, ParseFault>
     // The first fault of a source is answered, unless memory runs out.
     ensures refused { (e : FaultValue) → IsFirstFault source.now e → Gives (λ v. v) result (Err e) }
     // The source has a unit or a first fault, never both, and one at most.
-    ensures one_answer { HasOneAnswer source.now }
+    ensures one_verdict { HasOneVerdict (IsUnit source.now) (IsFirstFault source.now) }
     // What is read can be laid out.
     ensures formed { IfOk result IsWellFormed }
     ensures kind { IfErr result (λ e. (e ≡ out_of_memory) ⊎ IsSourceKind e.kind) }

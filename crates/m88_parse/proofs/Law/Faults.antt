@@ -13,7 +13,8 @@ use Rattle.m88_parse.specs.Reader.Source.{row_of_pieces, row_of_line, with_row, 
 use Rattle.m88_parse.specs.Language.Tokens.{LineTokens}
 use Rattle.m88_parse.specs.Language.Units.{IsUnit}
 use Rattle.m88_parse.specs.Language.LineFaults.{IsLineFault}
-use Rattle.m88_parse.specs.Language.FirstFaults.{FirstOf, uncut_line, faulty_line, later_line, IsFirstFault, HasOneAnswer}
+use Rattle.m88_base.specs.OneVerdict.{HasOneVerdict}
+use Rattle.m88_parse.specs.Language.FirstFaults.{FirstOf, uncut_line, faulty_line, later_line, IsFirstFault}
 use Rattle.m88_parse.proofs.Law.Slots.{bind_to}
 use Rattle.m88_parse.proofs.Law.Tokens.{line_is_cut, line_is_read}
 use Rattle.m88_parse.proofs.Law.Breaks.{breaks_read, Broken, line_breaks}
@@ -136,5 +137,10 @@ found_fault source (Err e) (inr h) = inr (fault_is_related source e h)
 pub only_fault : (source : List ℕ) (r : Result Source ParseFault) → Gives (λ (u : Source). u) r (unit_of source) → (e : ParseFault) → IsFirstFault source e → Gives (λ (v : Source). v) r (Err e)
 only_fault source r h e k = subst (λ (x : Result Source ParseFault). Gives (λ (v : Source). v) r x) (related_fault_is_read source e k) h
 
-pub one_answer : (source : List ℕ) → HasOneAnswer source
-one_answer source = record { some = unit_or_fault source; not_both = not_both source; one_unit = single_unit source; one_fault = single_fault source }
+pub one_verdict : (source : List ℕ) → HasOneVerdict (IsUnit source) (IsFirstFault source)
+one_verdict source = record {
+  some = unit_or_fault source;
+  not_both = not_both source;
+  one_value = single_unit source;
+  one_fault = single_fault source;
+}

@@ -11,8 +11,7 @@ use Rattle.m88_base.specs.Name.{continues_name}
 use Rattle.m88_parse.specs.Language.Bytes.{single_quote, double_quote, backslash, is_blank, is_comment, is_plain, is_mark}
 use Rattle.m88_parse.specs.Language.Pieces.{TokenValue, Piece}
 use Rattle.m88_parse.specs.Language.Tokens.{IsGap, AreNameBytes, BeginsWithNoNameByte, IsNumeral, IsToken, Begins, LineTokens}
-use Rattle.m88_parse.specs.declared.unit.Unit.{Unit as Source}
-use Rattle.m88_parse.specs.Language.Units.{Said, LineSays, IsUnit}
+use Rattle.m88_parse.specs.Language.Units.{Said, LineSays}
 use Rattle.m88_parse.specs.Language.LineFaults.{IsLineFault}
 
 -- what an opening quote takes of the bytes behind it: up to a closing quote, or to the end of the line; a backslash
@@ -97,10 +96,3 @@ pub data FirstOf : ℕ → List (List ℕ) → ParseFault → Type 0 where
 -- the first fault of a source
 abbrev pub IsFirstFault : List ℕ → ParseFault → Type 0
 IsFirstFault source fault = FirstOf 1 (lines_of source) fault
-
--- a source has a unit or a first fault, never both, and one at most
-pub record HasOneAnswer (source : List ℕ) : Type 0 where
-  pub some : ((unit : Source) × IsUnit source unit) ⊎ ((fault : ParseFault) × IsFirstFault source fault)
-  pub not_both : (unit : Source) (fault : ParseFault) → IsUnit source unit → IsFirstFault source fault → ⊥
-  pub one_unit : (a b : Source) → IsUnit source a → IsUnit source b → a ≡ b
-  pub one_fault : (a b : ParseFault) → IsFirstFault source a → IsFirstFault source b → a ≡ b

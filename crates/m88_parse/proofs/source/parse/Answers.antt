@@ -1,5 +1,5 @@
 -- What was read is the unit of the source, and a fault is its first fault.
-use Rattle.m88_parse.proofs.Law.Faults.{found_fault, only_fault, one_answer}
+use Rattle.m88_parse.proofs.Law.Faults.{found_fault, only_fault, one_verdict}
 use Rattle.m88_parse.proofs.Law.Kinds.{source_kinds}
 use Rattle.m88_parse.proofs.Law.Units.{found_unit, only_unit}
 use Rattle.m88_parse.proofs.source.parse.Goals as goal
@@ -16,8 +16,8 @@ returns-clause-fault c = found_fault c.args.source.now c.read_unit.result c.read
 pub returns-clause-refused : goal.returns-clause-refused
 returns-clause-refused c = only_fault c.args.source.now c.read_unit.result c.read_unit.ensures.value
 
-pub returns-clause-one_answer : goal.returns-clause-one_answer
-returns-clause-one_answer c = one_answer c.args.source.now
+pub returns-clause-one_verdict : goal.returns-clause-one_verdict
+returns-clause-one_verdict c = one_verdict c.args.source.now
 
 pub returns-clause-kind : goal.returns-clause-kind
 returns-clause-kind c =

@@ -1,5 +1,5 @@
--- A source that is not too long for an input has a well-formed unit.
-use Rattle.std.proofs.Common.{◌≡◌, ℕ, suc, ◌+◌, ◌<◌, ◌≤◌, ◌==◌, ◌&&◌, Bool, true, false, cond, List, [], ◌∷◌, length, arith}
+-- The unit of a source shorter than 2^31 bytes is well-formed.
+use Rattle.std.proofs.Common.{◌≡◌, ℕ, suc, ◌+◌, ◌<◌, ◌≤◌, ◌^◌, ◌==◌, ◌&&◌, Bool, true, false, cond, List, [], ◌∷◌, length, arith}
 use Rattle.std.specs.Prelude.{codes}
 use Rattle.std.specs.List.{All, sum_by}
 use Rattle.std.proofs.lemmas.List.Elements.{All-cons, All-nil}
@@ -21,8 +21,7 @@ use Rattle.m88_parse.specs.declared.unit.Statement.{Statement}
 use Rattle.m88_parse.specs.declared.unit.Unit.{Unit as Source}
 use Rattle.m88_parse.specs.declared.unit.Value.{Value}
 use Rattle.m88_parse.specs.declared.unit.Value.TheVariants.{Number, Symbol}
-use Rattle.m88_cli.specs.Limits.{most_input}
-use Rattle.m88_cli.proofs.BridgeOperands.{fixup_kind, operands_formed}
+use Rattle.m88_parse.proofs.FormedOperands.{fixup_kind, operands_formed}
 
 -- values of a kind
 value_kind : (kind : Kind) (ps : List Piece) (v : Value) → IsValue kind ps v → IsOfKind kind v
@@ -143,8 +142,8 @@ lines_few (b ∷ bs) =
     (on_first_line b (lines_of bs)) (suc (length bs)) (omega (arith, rest))
     (omega (arith, rest, on_first b (lines_of bs))))
 
--- the unit of an input can be laid out
-pub unit_formed : (source : List ℕ) (u : Source) → length source ≤ most_input → IsUnit source u → IsWellFormed u
+-- the unit of a source can be laid out
+pub unit_formed : (source : List ℕ) (u : Source) → length source < 2 ^ 31 → IsUnit source u → IsWellFormed u
 unit_formed source u short is =
     let rows = rows_formed 1 (lines_of source) is.statements is.modules is.are_rows in
     let all = modules_formed (length (lines_of source)) is.statements is.modules u.modules is.are_modules rows in

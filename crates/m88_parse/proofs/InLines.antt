@@ -69,7 +69,7 @@ tokens_in_line col line (p ∷ ps) short (rest, begins, more) =
       tokens_in_line (p.col + length p.text) rest ps (omega (arith, size, place, short)) more,
     )
 
--- the lines of an input are no longer than it
+-- the lines of a text are no longer than it
 abbrev pub AreShort : ℕ → List (List ℕ) → Type 0
 AreShort n lines = AllByRecursion (λ (line : List ℕ). length line ≤ n) lines
 
