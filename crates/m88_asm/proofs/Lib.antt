@@ -9,4 +9,9 @@ pub mod Composing
 pub mod Reaching
 pub mod Imaging
 pub mod Instructions
+pub mod OneUnit
 pub mod Aligned
+pub mod UnitRanges
+pub mod UnitSound
+pub mod ObjectTexts
+pub mod Layouts

@@ -14,7 +14,16 @@ pub record IsAcceptedUnit (u : Source) : Type 0 where
   pub assembled : IsAssembled u
   pub linkable : IsLinkable (unit_layout u)
 
--- the first fault of a unit: that of its statements, else the refusal of its layout, unless memory ran out
+-- the first fault of a unit: that of its statements, else the refusal of its layout
+abbrev pub IsFirstUnitFault : Source → UnitFault → Type 0
+IsFirstUnitFault u (Asm fault) = unit_fault u ≡ Some fault
+IsFirstUnitFault u (Link fault) = IsAssembled u × IsRefused (unit_layout u) fault
+
+-- memory ran out, in assembling or in linking
+abbrev pub IsOutOfMemory : UnitFault → Type 0
+IsOutOfMemory (Asm fault) = fault ≡ memory_ran_out
+IsOutOfMemory (Link fault) = fault ≡ memory_fault
+
+-- what a call answers for a unit without an image: the unit's first fault, unless memory ran out
 abbrev pub IsUnitFault : Source → UnitFault → Type 0
-IsUnitFault u (Asm fault) = (fault ≡ memory_ran_out) ⊎ (unit_fault u ≡ Some fault)
-IsUnitFault u (Link fault) = (fault ≡ memory_fault) ⊎ (IsAssembled u × IsRefused (unit_layout u) fault)
+IsUnitFault u fault = IsOutOfMemory fault ⊎ IsFirstUnitFault u fault

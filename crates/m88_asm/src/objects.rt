@@ -3,7 +3,9 @@ ghost use Rattle.std.specs.Prelude.{◌≡◌, ◌⊎◌, ◌^◌, ◌<◌, ℕ,
 ghost use Rattle.std.specs.List.{All, sum_by};
 ghost use Rattle.m88_parse.specs.WellFormed.{IsFormedModule, IsFormedStatement, IsWellFormed};
 ghost use Rattle.m88_link.specs.Sound.{IsSound};
+ghost use Rattle.m88_base.specs.Image.{IsImage, ProgramImage};
 ghost use Rattle.m88_link.specs.Layout.{layout_of};
+ghost use Rattle.m88_link.specs.Linked.{IsLinked};
 ghost use Rattle.m88_link.specs.Refusal.{IsLinkable, IsRefused};
 ghost use Rattle.m88_link.specs.declared.fault.LinkFault.{LinkFault as Refusal};
 ghost use Rattle.m88_parse.specs.declared.unit.Module.{Module as Part};
@@ -11,6 +13,7 @@ ghost use Rattle.m88_asm.specs.Counters.{Located, at_begin, located, offset_of, 
 ghost use Rattle.m88_asm.specs.Drafts.{empty_growth, with_statements};
 ghost use Rattle.m88_asm.specs.Fault.{memory_ran_out};
 ghost use Rattle.m88_asm.specs.Faults.{IsAssembled, statements_fault, module_fault, modules_fault, unit_fault};
+ghost use Rattle.m88_asm.specs.Images.{IsUnitImage};
 ghost use Rattle.m88_asm.specs.Objects.{lines_in, object_of, objects_of};
 ghost use Rattle.m88_asm.specs.Units.{length_in, unit_layout};
 
@@ -94,6 +97,10 @@ pub fn assemble(alloc: Global, unit: &Unit) -> Result<Vec<Object>, AsmFault>
         → layout_of v.items ≡ unit_layout unit.now) }
     ensures refusal { IfOk result (λ v. (e : Refusal) → IsRefused (layout_of v.items) e
         → IsRefused (unit_layout unit.now) e) }
+    // An image that the objects are linked into is the unit's.
+    ensures linked { IfOk result (λ v. (image : ProgramImage) → IsImage image
+        → IsLinkable (layout_of v.items) → IsLinked (layout_of v.items) image
+        → IsUnitImage unit.now image) }
     // A statement of a module stands in its section behind the statements before it there.
     ensures offsets { OnOk result ((m : Part) (i : ℕ) (r : Located) → Contains unit.now.modules m
         → slice_get (lines_in m) i ≡ Some r

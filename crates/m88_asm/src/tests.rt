@@ -190,8 +190,13 @@ fn starts(rt: HostRuntime) {
 
 #[test]
 fn refusals(rt: HostRuntime) -> Result<(), Fail> {
-    let rows: [(&[u8], &str); 11] = [
+    let rows: [(&[u8], &str); 15] = [
         (b"br nowhere\n", "1:4 undefined nowhere"),
+        // A later statement has a kind that is tried before, and then one that is tried before linking.
+        (b".byte 1\n.half 1\na:\na:\n", "2:1 alignment"),
+        (b".zero 1048577\n.data\n.byte 1\n.half 1\n", "1:1 too large"),
+        (b"a:\na:\n.byte 1\n.half 1\n", "2:1 duplicate a first at 1"),
+        (b"br nowhere\na:\na:\n", "3:1 duplicate a first at 2"),
         (b"a:\na:\n", "2:1 duplicate a first at 1"),
         (b"a: .set a,1\n", "1:9 duplicate a first at 1"),
         (b".byte 1\nor r2,r0,1\n", "2:1 alignment"),

@@ -5,10 +5,11 @@ use Rattle.m88_link.specs.Linked.{IsLinked}
 use Rattle.m88_link.specs.Refusal.{IsLinkable, IsRefused}
 use Rattle.m88_asm.specs.Objects.{objects_of}
 use Rattle.m88_asm.specs.Units.{unit_layout}
-use Rattle.m88_asm.proofs.Instructions.{bytes_law, instructions_law}
+use Rattle.m88_asm.proofs.Instructions.{instructions_law}
+use Rattle.m88_asm.proofs.OneUnit.{image_law}
 use Rattle.m88_asm.proofs.Reaching.{linkable_law, linked_law, refused_law}
-use Rattle.m88_asm.proofs.image.image_of.Goals as goal
-use Rattle.m88_asm.proofs.image.image_of.Goals.{After-drop-objects}
+use Rattle.m88_asm.proofs.image.image_or_fault.Goals as goal
+use Rattle.m88_asm.proofs.image.image_or_fault.Goals.{After-drop-objects}
 
 objects_are : (c : After-drop-objects) → c.deref.result.now ≡ objects_of c.args.unit.now
 objects_are c = c.deref.ensures.value ∙ c.in-Ok.ensures.objects
@@ -24,11 +25,10 @@ is_linked c =
 pub returns-in-Ok-link-clause-linked : goal.returns-in-Ok-link-clause-linked
 returns-in-Ok-link-clause-linked c = is_linked c
 
-pub returns-in-Ok-link-clause-bytes : goal.returns-in-Ok-link-clause-bytes
-returns-in-Ok-link-clause-bytes c = bytes_law c.args.unit.now c.in-Ok-link.image (linkable_law c.args.unit.now (can_link c)) (is_linked c)
-
-pub returns-in-Ok-link-clause-start : goal.returns-in-Ok-link-clause-start
-returns-in-Ok-link-clause-start c = (is_linked c).start
+pub returns-in-Ok-link-clause-image : goal.returns-in-Ok-link-clause-image
+returns-in-Ok-link-clause-image c =
+    image_law c.args.unit.now c.in-Ok-link.image c.requires c.in-Ok-link.ensures.is_image (can_link c)
+    (subst (λ os. IsLinked (layout_of os) c.in-Ok-link.image) (objects_are c) c.in-Ok-link.ensures.image)
 
 pub returns-in-Ok-link-clause-instructions : goal.returns-in-Ok-link-clause-instructions
 returns-in-Ok-link-clause-instructions c =

@@ -3,13 +3,17 @@ use Rattle.std.proofs.Common.{ℕ, Some, ◌≡◌, ◌∙◌, ap, map, subst, s
 use Rattle.std.specs.Prelude.{Contains, slice_get, sum_by, take}
 use Rattle.std.proofs.lemmas.Result.{IfOk-weaker}
 use Rattle.m88_link.specs.declared.fault.LinkFault.{LinkFault}
+use Rattle.m88_base.specs.Image.{IsImage, ProgramImage}
 use Rattle.m88_link.specs.Layout.{layout_of}
+use Rattle.m88_link.specs.Linked.{IsLinked}
 use Rattle.m88_link.specs.Refusal.{IsLinkable, IsRefused}
 use Rattle.m88_parse.specs.declared.unit.Module.{Module}
 use Rattle.m88_asm.specs.Counters.{Located, offset_of, section_of}
+use Rattle.m88_asm.specs.Images.{IsUnitImage}
 use Rattle.m88_asm.specs.Objects.{lines_in, object_of}
 use Rattle.m88_asm.specs.Units.{length_in, unit_layout}
 use Rattle.m88_asm.proofs.Instructions.{offsets_law}
+use Rattle.m88_asm.proofs.OneUnit.{image_law}
 use Rattle.m88_asm.proofs.Reaching.{layout_law, refused_law}
 use Rattle.m88_asm.proofs.objects.assemble.Goals as goal
 
@@ -29,6 +33,15 @@ returns-clause-refusal c =
     (λ v. (e : LinkFault) → IsRefused (layout_of v.items) e → IsRefused (unit_layout u) e)
     (λ v is. subst (λ os. (e : LinkFault) → IsRefused (layout_of os) e → IsRefused (unit_layout u) e)
     (sym (is ∙ ap (map object_of) c.as_slice.ensures)) (refused_law u))
+    c.objects.ensures.objects
+
+pub returns-clause-linked : goal.returns-clause-linked
+returns-clause-linked c =
+    let u = c.args.unit.now in
+    IfOk-weaker c.objects.result (λ v. v.items ≡ map object_of c.as_slice.result.now)
+    (λ v. (image : ProgramImage) → IsImage image → IsLinkable (layout_of v.items) → IsLinked (layout_of v.items) image → IsUnitImage u image)
+    (λ v is image is_image. subst (λ os. IsLinkable (layout_of os) → IsLinked (layout_of os) image → IsUnitImage u image)
+    (sym (is ∙ ap (map object_of) c.as_slice.ensures)) (image_law u image c.requires is_image))
     c.objects.ensures.objects
 
 pub returns-clause-offsets : goal.returns-clause-offsets

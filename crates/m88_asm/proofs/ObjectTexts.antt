@@ -28,11 +28,10 @@ use Rattle.m88_parse.specs.declared.unit.Statement.{Statement}
 use Rattle.m88_parse.specs.declared.unit.Unit.{Unit as Source}
 use Rattle.m88_parse.specs.declared.unit.Value.{Value}
 use Rattle.m88_parse.specs.declared.unit.Value.TheVariants as word
-use Rattle.m88_cli.specs.Limits.{most_input}
-use Rattle.m88_cli.proofs.BridgeRanges.{IsRangedBody, IsRangedFixup, IsRangedModule, IsRangedStatement, IsRangedValue, unit_ranged}
-use Rattle.m88_cli.proofs.BridgeSound.{modules_sound}
-use Rattle.m88_cli.proofs.BridgeTokens.{AreSmall}
-use Rattle.m88_cli.proofs.BridgeUnits.{unit_formed}
+use Rattle.m88_asm.proofs.UnitRanges.{IsRangedBody, IsRangedFixup, IsRangedModule, IsRangedStatement, IsRangedValue, unit_ranged}
+use Rattle.m88_asm.proofs.UnitSound.{modules_sound}
+use Rattle.m88_parse.proofs.InLines.{AreSmall}
+use Rattle.m88_parse.proofs.FormedUnits.{unit_formed}
 
 -- lists by parts
 all_append : {A : Type 0} (P : A → Type 0) (xs ys : List A) → AllByRecursion P xs → AllByRecursion P ys
@@ -285,7 +284,7 @@ some_objects [] h = absurd (omega (arith, h))
 some_objects (m ∷ ms) h = omega arith
 
 -- the objects of a unit
-pub objects_have_text : (source : List ℕ) (u : Source) → length source ≤ most_input → IsUnit source u → IsAssembled u
+pub objects_have_text : (source : List ℕ) (u : Source) → length source < 2 ^ 31 → IsUnit source u → IsAssembled u
     → HaveText (objects_of u)
 objects_have_text source u short is assembled =
     let formed = unit_formed source u short is in

@@ -27,8 +27,8 @@ use Rattle.m88_asm.specs.Objects.{objects_of}
 use Rattle.m88_asm.specs.Units.{based, unit_layout}
 use Rattle.m88_parse.specs.WellFormed.{IsWellFormed}
 use Rattle.m88_parse.specs.declared.unit.Unit.{Unit as Source}
-use Rattle.m88_cli.proofs.BridgeCounts.{alone_apart, same_count}
-use Rattle.m88_cli.proofs.BridgeSound.{modules_sound}
+use Rattle.m88_link.proofs.Counted.{alone_apart, same_count}
+use Rattle.m88_asm.proofs.UnitSound.{modules_sound}
 
 -- the faults that name a symbol are those of the unit
 same_symbol_fault : (u : Source) → symbol_fault (layout_of (objects_of u)) ≡ symbol_fault (unit_layout u)

@@ -29,10 +29,9 @@ use Rattle.m88_parse.specs.declared.unit.Statement.{Statement}
 use Rattle.m88_parse.specs.declared.unit.Unit.{Unit as Source}
 use Rattle.m88_parse.specs.declared.unit.Value.{Value}
 use Rattle.m88_parse.specs.declared.unit.Value.TheVariants.{Number, Symbol}
-use Rattle.m88_cli.specs.Limits.{most_input}
-use Rattle.m88_cli.proofs.BridgeOperands.{signed_small}
-use Rattle.m88_cli.proofs.BridgeTokens.{AreShort, AreSmall, IsInLine, lines_short, tokens_in_line}
-use Rattle.m88_cli.proofs.BridgeUnits.{lines_few}
+use Rattle.m88_parse.proofs.FormedOperands.{signed_small}
+use Rattle.m88_parse.proofs.InLines.{AreShort, AreSmall, IsInLine, lines_short, tokens_in_line}
+use Rattle.m88_parse.proofs.FormedUnits.{lines_few}
 
 -- a fixup whose parts are in range
 pub record IsRangedFixup (f : Fixup) : Type 0 where
@@ -214,10 +213,10 @@ record AreRangedRows (ss : List Statement) (ms : List Module) : Type 0 where
   front : AllByRecursion IsRangedStatement ss
   modules : AllByRecursion IsRangedModule ms
 
-in_line : (n : ℕ) (line : List ℕ) (ps : List Piece) → n ≤ most_input → length line ≤ n → LineTokens line ps → InLine ps
+in_line : (n : ℕ) (line : List ℕ) (ps : List Piece) → n < 2 ^ 31 → length line ≤ n → LineTokens line ps → InLine ps
 in_line n line ps short here tokens = tokens_in_line 1 line ps (omega (arith, short, here)) tokens
 
-rows_ranged : (n number : ℕ) (lines : List (List ℕ)) (ss : List Statement) (ms : List Module) → n ≤ most_input
+rows_ranged : (n number : ℕ) (lines : List (List ℕ)) (ss : List Statement) (ms : List Module) → n < 2 ^ 31
     → number + length lines < 2 ^ 32
     → AreShort n lines → AreRows number lines ss ms → AreRangedRows ss ms
 rows_ranged n number _ _ _ short low each units.no_row = record { front = tt; modules = tt }
@@ -249,7 +248,7 @@ modules_ranged _ _ _ units.first_main r =
     (record { name = main_name; line = omega arith; statements = r.front }, r.modules)
 modules_ranged _ _ _ units.no_main r = r.modules
 
-pub unit_ranged : (source : List ℕ) (u : Source) → length source ≤ most_input → IsUnit source u
+pub unit_ranged : (source : List ℕ) (u : Source) → length source < 2 ^ 31 → IsUnit source u
     → AllByRecursion IsRangedModule u.modules
 unit_ranged source u short is =
     let lines = lines_of source in
