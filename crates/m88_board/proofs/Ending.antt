@@ -1,19 +1,21 @@
--- What a run came to, from the parts of a board that is over.
-use Rattle.std.specs.Prelude.{ℕ, Bool, true, false, not, List, [], Option, Some, None, IfSome, ◌≡◌, ◌↔◌, ◌<◌, ◌==◌, ◌&&◌, ◌||◌, is_some, unwrap_or}
+-- What a run came to, from the parts of a board that is over; and the state of the history that a board shows where
+-- nothing is pending.
+use Rattle.std.specs.Prelude.{ℕ, Bool, true, false, not, List, [], Option, Some, None, IfSome, ◌≡◌, ◌↔◌, ◌<◌, ◌==◌, ◌&&◌, ◌||◌, is_some, unwrap_or, if◌then◌else◌}
 use Rattle.std.proofs.Common.{arith, refl, sym, ap, ap₂, ◌∙◌, subst}
 use Rattle.std.proofs.lemmas.Bool.{eqb-true}
 use Rattle.m88_ctrl.specs.ControlRegisters.{carry_of}
-use Rattle.m88_event.proofs.Over.{drained_bus}
+use Rattle.m88_event.proofs.Over.{drained_bus, issued_of, outcome_seen}
 use Rattle.m88_event.specs.Local.{Local, local_at}
-use Rattle.m88_event.specs.Run.{outcome_at}
-use Rattle.m88_event.specs.Timeline.{Moment, is_drained, is_idle, is_over}
+use Rattle.m88_event.specs.Run.{outcome_at, outcome_by}
+use Rattle.m88_event.specs.Timeline.{Moment, end_of_turn, is_drained, is_idle, is_over}
 use Rattle.m88_event.specs.declared.happened.End.{End}
 use Rattle.m88_event.specs.declared.happened.End.TheVariants.{Limit}
+use Rattle.m88_event.specs.declared.outcome.Outcome.{Outcome}
 use Rattle.m88_event.specs.declared.record.Record.{Record}
 use Rattle.m88_isa.specs.Bus.{after_accesses, changed_words, in_words, waits_for}
 use Rattle.m88_isa.specs.Held.{is_pending}
 use Rattle.m88_isa.specs.History.{completed_state, transaction_count}
-use Rattle.m88_isa.specs.Machine.{IsProgram, Program, opening, state}
+use Rattle.m88_isa.specs.Machine.{IsProgram, Program, opening, state, turn_at}
 use Rattle.m88_isa.specs.declared.planned.Access.{Access}
 use Rattle.m88_mem.specs.DataBus.{bus_of, image_bus}
 use Rattle.m88_scoreboard.specs.Registers.{none_waits, waiting_of}
@@ -24,6 +26,7 @@ use Rattle.m88_board.proofs.Starting.{same_bytes}
 use Rattle.m88_board.specs.Board.{BoardView, cells_of, completed_of, is_idle_board, local_of}
 use Rattle.m88_board.specs.Kept.{IsKept, IsProgramEnd}
 use Rattle.m88_board.specs.Moves.{IsAt}
+use Rattle.m88_board.specs.Shown.{IsSettled}
 
 -- both of two tests hold
 first_of : (a b : Bool) → (a && b) ≡ true → a ≡ true
@@ -38,7 +41,7 @@ not_pending false h = refl
 all_done : (p : Program) (limit : ℕ) (m : Moment) → is_over p limit m ≡ true → is_drained p m ≡ true
 all_done p limit m over = first_of (is_drained p m) (is_idle limit m) over
 
-none_left : (p : Program) (named : ℕ → Bool) (m : Moment) (b : BoardView) → IsAt p named m b → is_over p b.limit m ≡ true →
+pub none_left : (p : Program) (named : ℕ → Bool) (m : Moment) (b : BoardView) → IsAt p named m b → is_over p b.limit m ≡ true →
     b.pending ≡ []
 none_left p named m b at over =
     empty_of b.pending
@@ -57,7 +60,7 @@ registers_are p named m b at none =
     ∙ ap (λ (l : Local). l.completed.regs) at.seen
 
 -- and so is memory
-memory_is : (p : Program) (named : ℕ → Bool) (m : Moment) (b : BoardView) → IsProgram p → IsAt p named m b →
+pub memory_is : (p : Program) (named : ℕ → Bool) (m : Moment) (b : BoardView) → IsProgram p → IsAt p named m b →
     is_drained p m ≡ true →
     bus_of b.memory ≡ in_words (state p m.retired).memory
 unfolding local_of local_at
@@ -65,21 +68,20 @@ memory_is p named m b is at drained =
     ap (λ (l : Local). l.bus) at.seen
     ∙ drained_bus p m.retired m.done is (eqb-true m.done (transaction_count p m.retired) drained)
 
-changed_are : (p : Program) (named : ℕ → Bool) (m : Moment) (b : BoardView) → IsProgram p → IsAt p named m b →
-    is_drained p m ≡ true →
-    changed_words (image_bus b.memory.image) (bus_of b.memory)
-    ≡ changed_words (in_words (opening p).memory) (in_words (state p m.retired).memory)
-unfolding opening
-changed_are p named m b is at drained =
-    ap₂ changed_words (same_bytes p b.memory.image at.image) (memory_is p named m b is at drained)
+-- what is seen of a board with nothing pending has its registers and its words
+registers_seen : (b : BoardView) → b.pending ≡ [] → b.file.numbers ≡ (completed_of b).regs
+unfolding completed_of after_accesses
+registers_seen b none = sym (ap (λ (xs : List Access). (after_accesses xs (cells_of b.file b.memory)).regs) none)
 
--- the whole
-pub came_to : (p : Program) (named : ℕ → Bool) (m : Moment) (b : BoardView) (end : End) (regs : List ℕ) (carry : Bool)
-    (out : List ℕ) (changed : List (ℕ × ℕ)) (records : List Record) →
-    IsProgram p →
+words_seen : (b : BoardView) → b.pending ≡ [] → bus_of b.memory ≡ (completed_of b).bus
+unfolding completed_of after_accesses
+words_seen b none = sym (ap (λ (xs : List Access). (after_accesses xs (cells_of b.file b.memory)).bus) none)
+
+-- the whole, as it is seen
+pub came_to : (b : BoardView) (end : End) (regs : List ℕ) (carry : Bool) (out : List ℕ) (changed : List (ℕ × ℕ))
+    (records : List Record) →
     IsKept b →
-    IsAt p named m b →
-    is_over p b.limit m ≡ true →
+    b.pending ≡ [] →
     end ≡ unwrap_or b.ended Limit →
     (waiting_of b.file ≡ none_waits → regs ≡ b.file.numbers) →
     carry ≡ carry_of b.control →
@@ -96,28 +98,69 @@ pub came_to : (p : Program) (named : ℕ → Bool) (m : Moment) (b : BoardView) 
       events = b.events;
       answers = b.answers;
       records = records;
-    } ≡ outcome_at p m
-unfolding outcome_at local_of completed_of local_at completed_state
-came_to p named m b end regs carry out changed records is kept at over ends values carries puts changes faults =
-    let none = none_left p named m b at over in
-    let drained = all_done p b.limit m over in
-    let end_is = ends ∙ ap (λ (l : Local). unwrap_or l.ended Limit) at.seen in
-    let regs_are = values (none_wait b kept none) ∙ registers_are p named m b at none in
-    let carry_is = carries ∙ ap (λ (l : Local). l.completed.carry) at.seen in
-    let out_is = puts ∙ ap (λ (l : Local). l.completed.out) at.seen in
-    let changed_is = changes ∙ changed_are p named m b is at drained in
-    let records_are = faults ∙ ap (λ (l : Local). l.records) at.seen in
+    } ≡ outcome_by (image_bus b.memory.image) (local_of b)
+unfolding outcome_by local_of completed_of
+came_to b end regs carry out changed records kept none ends values carries puts changes faults =
+    let regs_are = values (none_wait b kept none) ∙ registers_seen b none in
+    let changed_is = changes ∙ ap (changed_words (image_bus b.memory.image)) (words_seen b none) in
     λ i. record {
-      end = end_is i;
-      retired = (at.seen i).retired;
+      end = ends i;
+      retired = b.retired;
       regs = regs_are i;
-      carry = carry_is i;
-      out = out_is i;
+      carry = carries i;
+      out = puts i;
       changed = changed_is i;
-      events = (at.seen i).events;
-      answers = (at.seen i).answers;
-      records = records_are i;
+      events = b.events;
+      answers = b.answers;
+      records = faults i;
     }
+
+-- and that of a moment
+pub came_to_at : (p : Program) (named : ℕ → Bool) (m : Moment) (b : BoardView) (o : Outcome) →
+    IsAt p named m b →
+    is_over p b.limit m ≡ true →
+    o ≡ outcome_by (image_bus b.memory.image) (local_of b) →
+    o ≡ outcome_at p m
+unfolding opening
+came_to_at p named m b o at over is =
+    is
+    ∙ ap₂ outcome_by (same_bytes p b.memory.image at.image) at.seen
+    ∙ outcome_seen p named m
+
+-- with nothing pending it shows the state of the history
+pub settled : (p : Program) (named : ℕ → Bool) (m : Moment) (b : BoardView) →
+    IsProgram p →
+    IsKept b →
+    IsAt p named m b →
+    is_drained p m ≡ true →
+    b.pending ≡ [] →
+    IsSettled p m b
+unfolding local_of completed_of local_at completed_state
+settled p named m b is kept at drained none = record {
+  retired = ap (λ (l : Local). l.retired) at.seen;
+  bubble = ap (λ (l : Local). l.bubble) at.seen;
+  ended = ap (λ (l : Local). l.ended) at.seen;
+  waiting = none_wait b kept none;
+  registers = registers_are p named m b at none;
+  carry = ap (λ (l : Local). l.completed.carry) at.seen;
+  out = ap (λ (l : Local). l.completed.out) at.seen;
+  words = memory_is p named m b is at drained;
+}
+
+-- and so at the moment before it was drained
+pub settled_before : (p : Program) (before after : Moment) (b : BoardView) → issued_of after ≡ issued_of before →
+    IsSettled p after b →
+    IsSettled p before b
+settled_before p before after b same seen = record {
+  retired = seen.retired ∙ ap (λ (t : ℕ × Bool × Bool). t.0) same;
+  bubble = seen.bubble ∙ ap (λ (t : ℕ × Bool × Bool). t.1) same;
+  ended = seen.ended ∙ ap (λ (t : ℕ × Bool × Bool). if t.2 then Some (end_of_turn (turn_at p (state p t.0))) else None) same;
+  waiting = seen.waiting;
+  registers = seen.registers ∙ ap (λ (t : ℕ × Bool × Bool). (state p t.0).regs) same;
+  carry = seen.carry ∙ ap (λ (t : ℕ × Bool × Bool). (state p t.0).carry) same;
+  out = seen.out ∙ ap (λ (t : ℕ × Bool × Bool). (state p t.0).out) same;
+  words = seen.words ∙ ap (λ (t : ℕ × Bool × Bool). in_words (state p t.0).memory) same;
+}
 
 -- a run that is over ended by its limit exactly where it retired as many
 limited_by : (ended : Option End) (retired limit : ℕ) (end : End) →

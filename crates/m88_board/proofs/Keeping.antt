@@ -6,6 +6,7 @@ use Rattle.std.proofs.Math.Path.{fun_ext}
 use Rattle.std.proofs.lemmas.Bool.{eqb-false, eqb-true}
 use Rattle.std.proofs.lemmas.Nat.Bits.{bit_at-zero, bit_at_or}
 use Rattle.std.proofs.lemmas.List.Elements.{All-append, All-cons, All-nil, All-weaker}
+use Rattle.m88_base.specs.Image.{IsImage}
 use Rattle.m88_base.specs.Pages.{page_number}
 use Rattle.m88_base.specs.Reg.{number_of}
 use Rattle.m88_base.specs.RegisterSet.{registers_in}
@@ -102,6 +103,7 @@ pub kept_issued : (b : BoardView) (accesses : Accesses) (slots : Pointers) (pend
     AreReady (ready_of memory) (listed accesses) →
     SlotsAgree memory.image slots →
     slots.xip.v ≡ true →
+    memory.image ≡ b.memory.image →
     control ≡ record b.control { psr = with_carry carry b.control.psr } →
     carry_of control ≡ carry →
     IsKept (record b {
@@ -113,13 +115,13 @@ pub kept_issued : (b : BoardView) (accesses : Accesses) (slots : Pointers) (pend
       retired = b.retired + 1;
     })
 kept_issued b accesses slots pending file memory control carry kept goes can room apart joined waiting stays ready agree
-    behind changed carries =
+    behind image changed carries =
     let more = length-append b.pending (listed accesses) in
     let count = listed_count accesses can.count in
     let all = ap length joined in
     let most = can.count in
     let made = kept.made in
-    let answered = kept.answered in
+    let puts = kept.put_out in
     let going = not_ended b goes in
     record {
       parts = record {
@@ -134,8 +136,10 @@ kept_issued b accesses slots pending file memory control carry kept goes can roo
             (λ a h write. stays (page_number a.addr) (h write)) b.pending kept.parts.ready)
             ready);
       };
+      image = subst IsImage (sym image) kept.image;
       slots = agree;
       bubbled = λ bubble. record { some = omega arith; xip = behind };
+      unbubbled = λ ended. absurd (let no = going in cc);
       status = ap (λ (t : Bool). if t then control.epsr else control.psr) going
           ∙ ap (λ (c : ControlRegisters). c.psr) changed
           ∙ ap (with_carry carry) (sym (ap (λ (t : Bool). if t then b.control.epsr else b.control.psr) going) ∙ kept.status)
@@ -143,8 +147,8 @@ kept_issued b accesses slots pending file memory control carry kept goes can roo
           ∙ ap status_of (sym carries);
       drained = λ ended. absurd (let no = going in cc);
       made = omega (arith, all, more, count, most, made);
-      answered = kept.answered;
-      faulted = kept.faulted;
+      told = kept.told;
+      put_out = omega (arith, puts);
       within = one_more b goes kept.within;
       early = λ ended. absurd (let no = going in cc);
       ends = kept.ends;
@@ -195,8 +199,10 @@ pub unmoved : (b : BoardView) (memory : MemoryView) →
     bus_of memory ≡ bus_of b.memory →
     absent_of memory ≡ absent_of b.memory →
     memory.image ≡ b.memory.image →
+    ready_of memory ≡ ready_of b.memory →
     IsUnmoved b (record b { memory = memory })
-unmoved b memory bus absent image = record { rest = refl; image = image; bus = bus; absent = absent }
+unmoved b memory bus absent image ready =
+    record { rest = refl; image = image; bus = bus; absent = absent; ready = ready }
 
 -- what is seen of it stays
 seen_with : (b : BoardView) (memory : MemoryView) →
@@ -309,8 +315,7 @@ kept_faulted b file memory control slots pending done records fault kept some em
     let more = ap length joined in
     let longer = length-append b.records (fault ∷ []) in
     let made = kept.made in
-    let answered = kept.answered in
-    let faulted = kept.faulted in
+    let told = kept.told in
     record {
       parts = record {
         few = omega (arith, none);
@@ -321,7 +326,9 @@ kept_faulted b file memory control slots pending done records fault kept some em
       };
       slots = subst (λ (s : Pointers). SlotsAgree memory.image s) (sym same)
           (subst (λ i. SlotsAgree i b.slots) (sym image) kept.slots);
+      image = subst IsImage (sym image) kept.image;
       bubbled = subst (λ (s : Pointers). s.nip.v ≡ false → IsBehind b.retired s) (sym same) kept.bubbled;
+      unbubbled = subst (λ (s : Pointers). is_some b.ended ≡ true → s.nip.v ≡ true) (sym same) kept.unbubbled;
       status = ap (λ (t : Bool). if t then control.epsr else control.psr) going
           ∙ psr
           ∙ sym (ap (λ (t : Bool). if t then b.control.epsr else b.control.psr) going)
@@ -329,8 +336,8 @@ kept_faulted b file memory control slots pending done records fault kept some em
           ∙ ap status_of (sym (carry_by b control psr));
       drained = λ ended. empty;
       made = omega (arith, none, count, made);
-      answered = omega (arith, count, answered);
-      faulted = omega (arith, more, longer, some, count, faulted);
+      told = omega (arith, more, longer, some, count, told);
+      put_out = kept.put_out;
       within = kept.within;
       early = kept.early;
       ends = kept.ends;
@@ -353,27 +360,30 @@ carry_entered control control' psr =
 pub kept_finished : (b : BoardView) (control : ControlRegisters) (end : End) →
     IsKept b →
     is_idle_board b ≡ false →
+    b.slots.nip.v ≡ true →
     b.pending ≡ [] →
     IsProgramEnd end →
     ComesToEnd end b →
     control.psr ≡ bit_or b.control.psr exception_bits →
     control.epsr ≡ b.control.psr →
     IsKept (record b { control = control; ended = Some end })
-kept_finished b control end kept goes none ends comes psr epsr =
+kept_finished b control end kept goes valid none ends comes psr epsr =
     let carry = carry_entered b.control control psr in
     let more = one_more b goes kept.within in
     record {
       parts = kept.parts;
+      image = kept.image;
       slots = kept.slots;
       bubbled = kept.bubbled;
+      unbubbled = λ ended. valid;
       status = epsr
           ∙ sym (ap (λ (t : Bool). if t then b.control.epsr else b.control.psr) (not_ended b goes))
           ∙ kept.status
           ∙ ap status_of (sym carry);
       drained = λ ended. none;
       made = kept.made;
-      answered = kept.answered;
-      faulted = kept.faulted;
+      told = kept.told;
+      put_out = kept.put_out;
       within = kept.within;
       early = λ ended. omega (arith, more);
       ends = ends;

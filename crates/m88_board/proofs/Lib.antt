@@ -18,3 +18,6 @@ pub mod Running
 pub mod Ending
 pub mod Recorded
 pub mod Advancing
+pub mod AtMoment
+pub mod Leaving
+pub mod OnePage

@@ -3,7 +3,7 @@ use Rattle.std.specs.Prelude.{ℕ, Bool, true, false, not, List, [], None, ◌�
 use Rattle.std.proofs.Common.{arith, refl, sym, ap, ◌∙◌}
 use Rattle.std.proofs.Math.Path.{fun_ext}
 use Rattle.std.proofs.lemmas.List.Elements.{All-nil}
-use Rattle.m88_base.specs.Image.{ProgramImage}
+use Rattle.m88_base.specs.Image.{IsImage, ProgramImage}
 use Rattle.m88_base.specs.Slot.{no_slot}
 use Rattle.m88_ctrl.specs.ControlRegisters.{ControlRegisters, at_start}
 use Rattle.m88_event.proofs.Past.{opens_with}
@@ -71,11 +71,12 @@ made P limit slots seen pending file memory control out records s p c o r known 
 
 -- what always holds
 pub kept : (limit entry : ℕ) (e0 e1 : Bool) (file : Registers) (memory : MemoryView) → limit ≤ most_retired →
+    IsImage memory.image →
     waiting_of file ≡ none_waits →
     e0 ≡ lacks_word memory.image entry →
     e1 ≡ lacks_word memory.image (word_behind entry) →
     IsKept (starting limit (at_entry entry e0 e1) file memory)
-kept limit entry e0 e1 file memory small none first second = record {
+kept limit entry e0 e1 file memory small image none first second = record {
   parts = record {
     few = omega arith;
     made = All-nil IsWordAccess;
@@ -83,13 +84,15 @@ kept limit entry e0 e1 file memory small none first second = record {
     waiting = none ∙ none_wait_for_none;
     ready = All-nil (HasReadyPage (ready_of memory));
   };
+  image = image;
   slots = record { nip = rw first refl; fip = rw second refl };
   bubbled = λ h. absurd cc;
+  unbubbled = λ h. refl;
   status = refl;
   drained = λ h. refl;
   made = omega arith;
-  answered = omega arith;
-  faulted = omega arith;
+  told = omega arith;
+  put_out = omega arith;
   within = omega arith;
   early = λ h. absurd cc;
   ends = tt;

@@ -1,6 +1,6 @@
 -- What always holds of a board.
 use Rattle.std.specs.Prelude.{ℕ, Bool, true, false, List, [], All, IfSome, ◌≡◌, ◌<◌, ◌≤◌, ◌+◌, ◌*◌, ◌^◌, is_none, is_some, length, if◌then◌else◌}
-use Rattle.m88_base.specs.Image.{ProgramImage, byte_at}
+use Rattle.m88_base.specs.Image.{IsImage, ProgramImage, byte_at}
 use Rattle.m88_base.specs.Pages.{page_number}
 use Rattle.m88_base.specs.Slot.{squashed_slot, valid_slot}
 use Rattle.m88_ctrl.specs.ControlRegisters.{carry_of}
@@ -82,13 +82,15 @@ EndsSo b end = (p : Program) → IsProgramOf b.memory.image p → end_of_turn (t
 -- what always holds of a board
 pub record IsKept (b : BoardView) : Type 0 where
   pub parts : PartsAgree b.pending b.file b.memory
+  pub image : IsImage b.memory.image
   pub slots : SlotsAgree b.memory.image b.slots
   pub bubbled : b.slots.nip.v ≡ false → IsBehind b.retired b.slots
+  pub unbubbled : is_some b.ended ≡ true → b.slots.nip.v ≡ true
   pub status : epsr_of b ≡ status_of (carry_of b.control)
   pub drained : is_some b.ended ≡ true → b.pending ≡ []
   pub made : b.done + length b.pending ≤ 2 * b.retired
-  pub answered : b.answers ≤ b.done
-  pub faulted : length b.records ≤ b.done
+  pub told : b.answers + length b.records ≤ b.done
+  pub put_out : length b.out ≤ b.retired
   pub within : b.retired ≤ b.limit
   pub early : is_some b.ended ≡ true → b.retired < b.limit
   pub ends : IfSome b.ended IsProgramEnd

@@ -11,7 +11,7 @@ use Rattle.m88_event.specs.declared.letter.Letter.{Letter}
 use Rattle.m88_event.specs.declared.record.Record.{Record}
 use Rattle.m88_isa.specs.Held.{is_pending, sync}
 use Rattle.m88_iunit.specs.Pointers.{Pointers}
-use Rattle.m88_mem.specs.DataBus.{absent_of, bus_of}
+use Rattle.m88_mem.specs.DataBus.{absent_of, bus_of, ready_of}
 use Rattle.m88_isa.specs.Machine.{Program, Stop}
 use Rattle.m88_isa.specs.declared.planned.Access.{Access}
 use Rattle.m88_board.specs.Board.{BoardView, local_of, next_of, pc_of}
@@ -69,12 +69,14 @@ pub record IsAlong (p : Program) (named : ℕ → Bool) (moments : ℕ → Momen
   pub at : IsAt p named (moments events) b
   pub saw : Saw before after (glances_along p moments events)
 
--- memory ran out: at most pages were made ready, and all else stays
+-- memory ran out: all is as before, of memory what can be seen of it: its words, the absent pages and those that are
+-- ready
 pub record IsUnmoved (old new : BoardView) : Type 0 where
   pub rest : new ≡ record old { memory = new.memory }
   pub image : new.memory.image ≡ old.memory.image
   pub bus : bus_of new.memory ≡ bus_of old.memory
   pub absent : absent_of new.memory ≡ absent_of old.memory
+  pub ready : ready_of new.memory ≡ ready_of old.memory
 
 -- what an event says that changes nothing but the count of events: there was nothing to do, or the next instruction is
 -- held

@@ -1,11 +1,16 @@
 -- What the parts of a board show at a moment of the timeline.
-use Rattle.std.specs.Prelude.{ℕ, Bool, false, List, ◌≡◌, map, slice_index, if◌then◌else◌}
+use Rattle.std.specs.Prelude.{ℕ, Bool, false, not, List, [], ◌∷◌, ◌≡◌, map, slice_index, if◌then◌else◌}
 use Rattle.m88_base.specs.RegisterSet.{register_bits}
-use Rattle.m88_ctrl.specs.ControlRegisters.{ControlRegisters, carry_of, triples_by_age}
+use Rattle.m88_base.specs.Slot.{slot_word}
+use Rattle.m88_base.specs.Triple.{no_triple}
+use Rattle.m88_ctrl.specs.ControlRegisters.{ControlRegisters, carry_of, entered, returned, triples_by_age}
+use Rattle.m88_ctrl.specs.declared.frame.Frame.{Frame}
 use Rattle.m88_event.specs.Shadow.{fip_of, status_of}
-use Rattle.m88_event.specs.Timeline.{Moment, absent_at, nip_at, xip_at}
+use Rattle.m88_event.specs.Timeline.{Moment, absent_at, end_at, nip_at, xip_at}
+use Rattle.m88_event.specs.declared.happened.Happened.{Happened}
+use Rattle.m88_event.specs.declared.happened.Happened.TheVariants as happened
 use Rattle.m88_event.specs.declared.record.Record.{Record}
-use Rattle.m88_isa.specs.Bus.{waits_for}
+use Rattle.m88_isa.specs.Bus.{in_words, waits_for}
 use Rattle.m88_isa.specs.History.{bus_at, pending_at}
 use Rattle.m88_isa.specs.ImageProgram.{IsProgramOf}
 use Rattle.m88_isa.specs.Machine.{Program, state}
@@ -13,7 +18,8 @@ use Rattle.m88_isa.specs.Triples.{finished, triples_of}
 use Rattle.m88_isa.specs.declared.planned.Access.{Access}
 use Rattle.m88_iunit.specs.Pointers.{Pointers}
 use Rattle.m88_mem.specs.DataBus.{MemoryView, absent_of, bus_of, ready_of}
-use Rattle.m88_scoreboard.specs.Registers.{Registers, waiting_of}
+use Rattle.m88_scoreboard.specs.Registers.{Registers, none_waits, waiting_of}
+use Rattle.m88_board.specs.Board.{BoardView}
 use Rattle.m88_board.specs.Kept.{AreReady}
 
 -- XIP, NIP and FIP: the instruction retired last and the two behind it, or a bubble and its target
@@ -57,3 +63,34 @@ pub record ShowsFault (fault : Record) (control : ControlRegisters) : Type 0 whe
 pub record IsStatus (p : Program) (m : Moment) (control : ControlRegisters) : Type 0 where
   pub status : (if m.ended then control.epsr else control.psr) ≡ status_of (state p m.retired).carry
   pub carry : carry_of control ≡ (state p m.retired).carry
+
+-- what an exception saves where nothing is pending: the words of the instruction pointers
+abbrev pub pointer_frame : Pointers → Frame
+pointer_frame slots = record {
+  ssbr = 0;
+  sxip = slot_word slots.xip;
+  snip = slot_word slots.nip;
+  sfip = slot_word slots.fip;
+  triples = no_triple ∷ no_triple ∷ no_triple ∷ [];
+}
+
+-- the control registers after an event, by what it says. A data fault leaves its record. The end of a program leaves
+-- its exception entered, and an output trap, which is retired first, the monitor's entered and returned from. Any other
+-- event changes no register but PSR.
+abbrev pub Leaves : Happened → BoardView → BoardView → Type 0
+Leaves (happened.Faulted fault) old new = ShowsFault fault new.control
+Leaves (happened.Ended end) old new = new.control ≡ entered (pointer_frame old.slots) old.control
+Leaves (happened.Served byte) old new = new.control ≡ returned (entered (pointer_frame new.slots) old.control)
+Leaves _ old new = new.control ≡ record old.control { psr = new.control.psr }
+
+-- nothing is pending at a moment, and all shows the state of the history: the instructions retired, the marks, the
+-- registers, of which none waits, the carry, the output and the words of memory
+pub record IsSettled (p : Program) (m : Moment) (b : BoardView) : Type 0 where
+  pub retired : b.retired ≡ m.retired
+  pub bubble : not b.slots.nip.v ≡ m.bubble
+  pub ended : b.ended ≡ end_at p m
+  pub waiting : waiting_of b.file ≡ none_waits
+  pub registers : b.file.numbers ≡ (state p m.retired).regs
+  pub carry : carry_of b.control ≡ (state p m.retired).carry
+  pub out : b.out ≡ (state p m.retired).out
+  pub words : bus_of b.memory ≡ in_words (state p m.retired).memory

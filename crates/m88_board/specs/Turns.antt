@@ -1,15 +1,18 @@
 -- What the next instruction comes to in its turn: words for private contracts, and for what always holds of a board.
-use Rattle.std.specs.Prelude.{Option, ◌≡◌}
+use Rattle.std.specs.Prelude.{true, Option, ◌≡◌, ◌<◌}
+use Rattle.m88_base.specs.Pages.{page_number}
 use Rattle.m88_event.specs.Choice.{Choice, end_by, finishes, next_choice}
 use Rattle.m88_event.specs.Local.{choice_by}
 use Rattle.m88_event.specs.declared.happened.End.{End}
 use Rattle.m88_event.specs.declared.letter.Letter.TheVariants.{Issue}
 use Rattle.m88_isa.specs.Held.{held}
 use Rattle.m88_isa.specs.History.{Completed}
-use Rattle.m88_isa.specs.Effect.{Meaning, meaning_of}
+use Rattle.m88_isa.specs.Effect.{IfGo, Meaning, meaning_of}
 use Rattle.m88_isa.specs.ImageProgram.{IsProgramOf}
 use Rattle.m88_isa.specs.Machine.{Program, Stop, Turn, executed, turn}
 use Rattle.m88_isa.specs.declared.instr.Instr.{Instr}
+use Rattle.m88_isa.specs.declared.planned.Accesses.{Accesses}
+use Rattle.m88_isa.specs.declared.planned.Plan.{Plan}
 use Rattle.m88_board.specs.Board.{BoardView, completed_of, local_of}
 
 -- what an instruction means at a state
@@ -36,3 +39,13 @@ IssueComesTo choice b =
 -- it comes to an end of the program
 abbrev pub ComesToEnd : End → BoardView → Type 0
 ComesToEnd end b = (stop : Stop) × (end ≡ end_by stop) × IssueComesTo (finishes stop) b
+
+-- of two accesses, where the first is a store, the second is one to the same page
+abbrev pub StoreOnOnePage : Accesses → Type 0
+StoreOnOnePage a =
+    1 < a.count → a.first.write ≡ true
+    → (a.second.write ≡ true) × (page_number a.second.addr ≡ page_number a.first.addr)
+
+-- and so do those of a plan that goes on
+abbrev pub PlansOnePage : Plan → Type 0
+PlansOnePage plan = IfGo plan (λ changes. StoreOnOnePage changes.accesses)

@@ -1,6 +1,6 @@
 //! Data accesses: their pages made ready, issued to the data unit, and answered.
 
-ghost use Rattle.std.specs.Prelude.{◌≡◌, ◌+◌, ◌≤◌, ◌++◌, List, [], ◌∷◌, Some, true, false, drop, take, length, slice_get, IfSome, OnOk};
+ghost use Rattle.std.specs.Prelude.{◌≡◌, ◌+◌, ◌≤◌, ◌++◌, List, [], ◌∷◌, Some, true, false, drop, take, length, slice_get, IfSome, OnErr, OnOk};
 ghost use Rattle.m88_base.specs.Pages.{page_number};
 ghost use Rattle.m88_base.specs.Reg.{number_of, with_register};
 ghost use Rattle.m88_base.specs.RegisterSet.{with_member};
@@ -14,6 +14,7 @@ ghost use Rattle.m88_mem.specs.DataBus.{absent_of, bus_of, ready_of};
 ghost use Rattle.m88_scoreboard.specs.Registers.{waiting_of};
 ghost use Rattle.m88_board.specs.Board.{cells_of};
 ghost use Rattle.m88_board.specs.Kept.{AreReady, HasReadyPage, PartsAgree, StaysReady};
+ghost use Rattle.m88_board.specs.Turns.{StoreOnOnePage};
 
 use m88_base::{NoMemory, Reg};
 use m88_dunit::DataUnit;
@@ -28,6 +29,7 @@ pub(crate) fn prepare_one(memory: &mut Memory, access: &Access) -> Result<(), No
     ensures absent { absent_of memory.new ≡ absent_of memory.old }
     ensures stays { StaysReady memory.old memory.new }
     ensures ready { OnOk result (HasReadyPage (ready_of memory.new) access.now) }
+    ensures err { OnErr result (ready_of memory.new ≡ ready_of memory.old) }
 {
     if !access.write {
         return Ok(());
@@ -35,21 +37,24 @@ pub(crate) fn prepare_one(memory: &mut Memory, access: &Access) -> Result<(), No
     memory.prepare(access.addr)
 }
 
-/// Makes the pages of the stores among some accesses ready, before any of them is issued.
+/// Makes the page of the stores among some accesses ready, before any of them is issued. Where memory is refused, no
+/// page becomes so.
 pub(crate) fn prepare(memory: &mut Memory, accesses: &Accesses) -> Result<(), NoMemory>
+    requires { StoreOnOnePage accesses.now }
     ensures image { memory.new.image ≡ memory.old.image }
     ensures bus { bus_of memory.new ≡ bus_of memory.old }
     ensures absent { absent_of memory.new ≡ absent_of memory.old }
     ensures stays { StaysReady memory.old memory.new }
     ensures ready { OnOk result (AreReady (ready_of memory.new) (listed accesses.now)) }
+    ensures err { OnErr result (ready_of memory.new ≡ ready_of memory.old) }
 {
     if accesses.count == 0 {
         return Ok(());
     }
-    prepare_one(memory, &accesses.first)?;
     if accesses.count == 1 {
-        return Ok(());
+        return prepare_one(memory, &accesses.first);
     }
+    // Two stores are to one page.
     prepare_one(memory, &accesses.second)
 }
 

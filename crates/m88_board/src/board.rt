@@ -4,6 +4,7 @@ ghost use Rattle.std.specs.Prelude.{ℕ, Bool, ◌&&◌, option_map, ◌≡◌, 
 ghost use Rattle.m88_base.specs.Image.{IsImage};
 ghost use Rattle.m88_base.specs.Pages.{page_number};
 ghost use Rattle.m88_base.specs.Reg.{number_of};
+ghost use Rattle.m88_base.specs.Slot.{slot_word};
 ghost use Rattle.m88_event.specs.Choice.{answer_choice, end_by, faults, finishes, issues, passes, replies, serves, turn_choice};
 ghost use Rattle.m88_event.specs.Local.{record_by};
 ghost use Rattle.m88_event.specs.Timeline.{Moment, opening_moment, record_at};
@@ -23,12 +24,11 @@ ghost use Rattle.m88_dunit.specs.Pending.{CanIssue};
 ghost use Rattle.m88_iunit.specs.Pointers.{resumed};
 ghost use Rattle.m88_board.specs.Kept.{IsProgramEnd, epsr_of, most_events, most_retired};
 ghost use Rattle.m88_board.specs.Moves.{Did, Does, IsAt, IsSameRun, IsStill, IsUnmoved, stopping};
-ghost use Rattle.m88_board.specs.Shown.{IsRecordOf, ShowsFault};
-ghost use Rattle.m88_board.specs.Turns.{IssueComesTo, ComesToEnd};
-ghost use Rattle.m88_event.specs.declared.happened.Happened.{Happened as HappenedValue};
+ghost use Rattle.m88_board.specs.Shown.{IsRecordOf, Leaves, ShowsFault};
+ghost use Rattle.m88_board.specs.Turns.{ComesToEnd, IssueComesTo, StoreOnOnePage};
 
 use crate::accesses::{complete, prepare, put_in, write};
-use crate::serving::{frame_of, serve_all, visit};
+use crate::serving::{enter, serve_all, visit};
 use crate::slots::{advance, lacks_word};
 use m88_base::{Absent, Image, NoMemory, Reg};
 use m88_ctrl::{Control, cr};
@@ -114,6 +114,7 @@ impl Board {
         ensures image { IfOk result (λ b. b.memory.image ≡ image.now) }
         ensures events { IfOk result (λ b. b.events ≡ 0) }
         ensures is_image { IsImage image.now }
+        ensures program { (p : Program) × IsProgramOf image.now p }
         ensures at { IfOk result (λ b. (p : Program) → IsProgramOf image.now p
             → IsAt p (absent_in absent.now) opening_moment b) }
     {
@@ -151,7 +152,8 @@ impl Board {
     fn pass(&mut self)
         requires going { is_idle_board self.old ≡ false }
         requires bubble { self.old.slots.nip.v ≡ false }
-        ensures { (fault : RecordValue) → Does passes fault self.old self.new }
+        ensures does { (fault : RecordValue) → Does passes fault self.old self.new }
+        ensures control { self.new.control ≡ self.old.control }
     {
         let then = self.iunit.following().addr.wrapping_add(4);
         let lacks = lacks_word(&self.memory, then);
@@ -164,6 +166,9 @@ impl Board {
             → result ≡ record_by p self.now.limit (local_of self.now) }
         ensures moment { (p : Program) (named : ℕ → Bool) (m : Moment) → IsAt p named m self.now
             → result ≡ record_at p named self.now.limit m }
+        ensures sxip { result.sxip ≡ slot_word self.now.slots.xip }
+        ensures snip { result.snip ≡ slot_word self.now.slots.nip }
+        ensures sfip { result.sfip ≡ slot_word self.now.slots.fip }
         ensures resumes { resumed self.now.slots result.snip result.sfip ≡ self.now.slots }
         ensures words { is_some self.now.ended ≡ false
             → IsRecordOf result self.now.pending self.now.control }
@@ -202,6 +207,7 @@ impl Board {
         requires present { absent_of self.old.memory (page_number oldest.now.addr) ≡ false }
         ensures does { (fault : RecordValue) → Does replies fault self.old self.new }
         ensures events { self.new.events ≡ self.old.events }
+        ensures control { self.new.control ≡ self.old.control }
     {
         complete(oldest, &mut self.dunit, &mut self.memory, &mut self.regs);
         self.done += 1;
@@ -242,8 +248,7 @@ impl Board {
         ensures same { OnOk result (IsSameRun self.old self.new) }
         ensures still { IfOk result (λ happened. IsStill happened → self.new ≡ self.old) }
         ensures shorter { OnOk result (length self.new.pending ≤ length self.old.pending - 1) }
-        ensures shows { IfOk result (λ happened. (fault : RecordValue)
-            → happened ≡ HappenedValue.Faulted fault → ShowsFault fault self.new.control) }
+        ensures leaves { IfOk result (λ happened. Leaves happened self.old self.new) }
         ensures err { OnErr result (IsUnmoved self.old self.new) }
     {
         let Some(oldest) = self.dunit.oldest() else {
@@ -261,14 +266,15 @@ impl Board {
     fn finish(&mut self, vector: u16, end: End) -> Happened
         requires vector { vector < 512 }
         requires going { is_idle_board self.old ≡ false }
+        requires valid { self.old.slots.nip.v ≡ true }
         requires empty { self.old.pending ≡ [] }
         requires ends { IsProgramEnd end }
         requires comes { ComesToEnd end self.old }
-        ensures { (stop : Stop) (fault : RecordValue) → end ≡ end_by stop
+        ensures does { (stop : Stop) (fault : RecordValue) → end ≡ end_by stop
             → Did (finishes stop) fault self.old result self.new }
+        ensures leaves { Leaves result self.old self.new }
     {
-        let fault = self.pipe();
-        self.ctrl.enter(vector, &frame_of(&fault));
+        enter(&mut self.ctrl, &self.iunit, vector);
         self.ended = Some(end);
         Happened::Ended(end)
     }
@@ -280,6 +286,7 @@ impl Board {
         requires fetched { self.old.slots.nip.e ≡ false }
         ensures ok { IfOk result (λ happened. (fault : RecordValue)
             → Did (serves byte) fault self.old happened self.new) }
+        ensures leaves { IfOk result (λ happened. Leaves happened self.old self.new) }
         ensures err { OnErr result (IsUnmoved self.old self.new) }
     {
         self.out.push(byte).or(Err(NoMemory))?;
@@ -306,9 +313,12 @@ impl Board {
         requires free { IfSome effect.now.reg
             (λ w. waits_for self.old.pending (number_of w.0) ≡ false) }
         requires apart { LoadApart (self.old.pending ++ listed effect.now.accesses) }
+        requires page { StoreOnOnePage effect.now.accesses }
         ensures ok { OnOk result ((change : Change) (fault : RecordValue)
             → effect.now ≡ recorded_change change → length change.touches ≤ 2
             → Does (issues change) fault self.old self.new) }
+        ensures control { OnOk result
+            (self.new.control ≡ record self.old.control { psr = self.new.control.psr }) }
         ensures err { OnErr result (IsUnmoved self.old self.new) }
     {
         prepare(&mut self.memory, &effect.accesses)?;
@@ -332,6 +342,7 @@ impl Board {
             (stopping (by_vector vector (pc_of self.old.slots)) self.old.pending)
             fault self.old result self.new }
         ensures still { IsStill result → self.new ≡ self.old }
+        ensures leaves { Leaves result self.old self.new }
     {
         if self.is_pending() {
             return Happened::Stalled(Why::Sync);
@@ -352,6 +363,7 @@ impl Board {
         ensures ok { IfOk result (λ happened. (fault : RecordValue) → Did
             (turn_choice (trapped vector self.old.file.numbers (pc_of self.old.slots)))
             fault self.old happened self.new) }
+        ensures leaves { IfOk result (λ happened. Leaves happened self.old self.new) }
         ensures err { OnErr result (IsUnmoved self.old self.new) }
     {
         let at = self.iunit.candidate().addr;
@@ -394,7 +406,8 @@ impl Board {
     #[tactic(auto, unfolding(crate::specs::Board::completed_of))]
     fn count(&mut self)
         requires { self.old.events < most_events }
-        ensures { self.new ≡ record self.old { events = self.old.events + 1 } }
+        ensures counted { self.new ≡ record self.old { events = self.old.events + 1 } }
+        ensures is_image { IsImage self.old.memory.image }
     {
         self.events += 1;
     }

@@ -1,14 +1,15 @@
 //! The monitor's service: of a data fault, and of its trap.
 
-ghost use Rattle.std.specs.Prelude.{◌≡◌, not, ◌&&◌, [], length};
+ghost use Rattle.std.specs.Prelude.{◌≡◌, ◌<◌, not, ◌&&◌, [], length};
 ghost use Rattle.std.specs.Int.{bit_at};
+ghost use Rattle.m88_ctrl.specs.ControlRegisters.{entered, returned};
 ghost use Rattle.m88_event.specs.Choice.{touches_page};
 ghost use Rattle.m88_isa.specs.Bus.{after_accesses};
 ghost use Rattle.m88_mem.specs.DataBus.{absent_of};
 ghost use Rattle.m88_scoreboard.specs.Registers.{none_waits, waiting_of};
 ghost use Rattle.m88_board.specs.Board.{cells_of};
 ghost use Rattle.m88_board.specs.Kept.{PartsAgree};
-ghost use Rattle.m88_board.specs.Shown.{IsRecordOf, ShowsFault};
+ghost use Rattle.m88_board.specs.Shown.{IsRecordOf, ShowsFault, pointer_frame};
 
 use m88_base::NO_TRIPLE;
 use m88_ctrl::{Control, Frame, Restart};
@@ -75,9 +76,10 @@ pub(crate) fn serve_all(
     (served.done, restart)
 }
 
-/// The monitor is entered by its trap, with nothing pending, and returns at once.
-pub(crate) fn visit(ctrl: &mut Control, iunit: &InstrUnit)
-    ensures { ctrl.new.psr ≡ ctrl.old.psr }
+/// The exception of a vector is entered with nothing pending: it saves the instruction pointers.
+pub(crate) fn enter(ctrl: &mut Control, iunit: &InstrUnit, vector: u16)
+    requires { vector < 512 }
+    ensures { ctrl.new ≡ entered (pointer_frame iunit.now) ctrl.old }
 {
     let (sxip, snip, sfip) = iunit.shadow();
     let frame = Frame {
@@ -87,6 +89,13 @@ pub(crate) fn visit(ctrl: &mut Control, iunit: &InstrUnit)
         sfip,
         triples: [NO_TRIPLE; 3],
     };
-    ctrl.enter(MONITOR_TRAP, &frame);
+    ctrl.enter(vector, &frame);
+}
+
+/// The monitor is entered by its trap, with nothing pending, and returns at once.
+pub(crate) fn visit(ctrl: &mut Control, iunit: &InstrUnit)
+    ensures { ctrl.new ≡ returned (entered (pointer_frame iunit.now) ctrl.old) }
+{
+    enter(ctrl, iunit, MONITOR_TRAP);
     ctrl.rte();
 }

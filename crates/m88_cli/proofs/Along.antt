@@ -11,7 +11,7 @@ use Rattle.m88_board.proofs.Seeing.{saw_none, saw_then}
 use Rattle.m88_board.specs.Glances.{Saw, glance_at, glances_along}
 use Rattle.m88_board.specs.Moves.{IsAt, IsStep}
 use Rattle.m88_board.specs.declared.glance.Glance.{Glance}
-use Rattle.m88_cli.proofs.AtMoment.{retired_within}
+use Rattle.m88_event.proofs.Over.{retired_within}
 use Rattle.m88_cli.specs.Session.{Course, MakesEach, Session, is_at_breakpoint, moment_on, session_on, wants_event}
 use Rattle.m88_cli.specs.SessionKept.{IsNext, Stands, next_session}
 use Rattle.m88_cli.specs.declared.monitor.Monitor.{Monitor}

@@ -10,7 +10,7 @@ use Rattle.m88_isa.specs.Machine.{IsProgram}
 use Rattle.m88_board.specs.Board.{BoardView}
 use Rattle.m88_board.specs.Moves.{IsAlong}
 use Rattle.m88_board.specs.declared.glance.Glance.{Glance}
-use Rattle.m88_cli.proofs.AtMoment.{retired_within}
+use Rattle.m88_event.proofs.Over.{retired_within}
 use Rattle.m88_cli.specs.Session.{Course, Session}
 use Rattle.m88_cli.specs.SessionKept.{Broke, Stands, Went}
 use Rattle.m88_cli.specs.declared.monitor.Monitor.{Monitor}

@@ -34,7 +34,6 @@ pub mod SoakReply
 pub mod BridgeLinks
 pub mod BridgeListings
 pub mod BridgeLaws
-pub mod AtMoment
 pub mod Lines
 pub mod Along
 pub mod Going

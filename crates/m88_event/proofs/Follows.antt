@@ -47,7 +47,7 @@ Fits p m (issues change) = (turn_at p (state p m.retired) ≡ changes change) ×
 Fits p m (serves byte) = (turn_at p (state p m.retired) ≡ outputs byte) × (m.ended ≡ false)
 Fits p m (finishes stop) = turn_at p (state p m.retired) ≡ stops stop
 Fits p m replies = m.done < transaction_count p m.retired
-Fits p m faults = Unit {0}
+Fits p m faults = m.done < transaction_count p m.retired
 
 by_turn : (p : Program) (m : Moment) (turn : Turn) → turn_at p (state p m.retired) ≡ turn → m.ended ≡ false →
     Fits p m (turn_choice turn)
@@ -76,7 +76,7 @@ lives_of false reached h = refl
 
 by_page : (p : Program) (m : Moment) (absent : Bool) → m.done < transaction_count p m.retired →
     Fits p m (if absent then faults else replies)
-by_page p m true h = tt
+by_page p m true h = h
 by_page p m false h = h
 
 by_oldest : (p : Program) (m : Moment) (pending : List Access) (absent : ℕ → Bool) →

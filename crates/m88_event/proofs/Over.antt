@@ -6,19 +6,23 @@ use Rattle.std.proofs.lemmas.Bool.Decides.{nat_tests}
 use Rattle.std.proofs.lemmas.List.{length-drop, take_all}
 use Rattle.m88_isa.proofs.Alone.{by_test}
 use Rattle.m88_isa.proofs.InWords.{state_bus}
+use Rattle.m88_base.specs.Pages.{page_number}
 use Rattle.m88_isa.specs.Bus.{bus_after_all, in_words}
 use Rattle.m88_isa.specs.Held.{is_pending}
-use Rattle.m88_isa.specs.History.{bus_at, transaction_count, transactions}
+use Rattle.m88_isa.specs.History.{bus_at, completed_state, pending_at, transaction_count, transactions}
 use Rattle.m88_isa.specs.Machine.{IsProgram, Program, opening, state}
 use Rattle.m88_isa.specs.declared.planned.Access.{Access}
 use Rattle.m88_event.proofs.Bound.{lessens, stays_in_limit, weight, weight_at_start}
 use Rattle.m88_event.proofs.Follows.{ended_is, law, reached_within}
+use Rattle.m88_event.specs.Choice.{answer_choice}
 use Rattle.m88_event.specs.Letters.{letter_at}
 use Rattle.m88_event.specs.Local.{Local, is_over_by, local_at, move}
-use Rattle.m88_event.specs.Run.{IsOutcome, IsRun, moment_after, outcome_at}
-use Rattle.m88_event.specs.Timeline.{DoneWereMade, Moment, is_drained, is_over}
+use Rattle.m88_event.specs.Run.{IsOutcome, IsRun, answered_after, moment_after, outcome_at, outcome_by}
+use Rattle.m88_event.specs.Timeline.{DoneWereMade, Moment, absent_at, after_choice, after_letter, is_drained, is_over, situation_at}
+use Rattle.m88_event.specs.Situation.{record_of}
 use Rattle.m88_event.specs.declared.letter.Letter.{Letter}
 use Rattle.m88_event.specs.declared.outcome.Outcome.{Outcome}
+use Rattle.m88_event.specs.declared.record.Record.{Record}
 
 -- nothing is pending exactly where all transactions are done
 none_left : (done : ℕ) (xs : List Access) → done ≤ length xs → not (is_pending (drop done xs)) ≡ (done == length xs)
@@ -45,6 +49,32 @@ pub drained_bus : (p : Program) (n done : ℕ) → IsProgram p → done ≡ tran
 drained_bus p n done bytes e =
     ap (λ xs. bus_after_all xs (in_words (opening p).memory)) (take_all done (transactions p n) (omega (arith, e)))
     ∙ sym (state_bus p n bytes)
+
+-- what is seen of a moment comes to what the moment does
+pub outcome_seen : (p : Program) (named : ℕ → Bool) (m : Moment) →
+    outcome_by (in_words (opening p).memory) (local_at p named m) ≡ outcome_at p m
+unfolding outcome_by outcome_at local_at completed_state
+outcome_seen p named m = refl
+
+-- letters `r` retire no instruction, and leave the marks of a bubble and of the end
+abbrev pub issued_of : Moment → ℕ × Bool × Bool
+issued_of m = (m.retired, m.bubble, m.ended)
+
+answer_issues_none : (p : Program) (fault : Record) (m : Moment) (pending : List Access) (absent : ℕ → Bool) →
+    issued_of (after_choice p (answer_choice pending absent) fault m) ≡ issued_of m
+answer_issues_none p fault m [] absent = refl
+answer_issues_none p fault m (x ∷ xs) absent =
+    by_test (absent (page_number x.addr)) (λ gone. rw gone refl) (λ there. rw there refl)
+
+pub answered_issues_none : (p : Program) (named : ℕ → Bool) (limit : ℕ) (m : Moment) (events : ℕ) →
+    issued_of (answered_after p named limit m events) ≡ issued_of m
+unfolding answered_after after_letter situation_at
+answered_issues_none p named limit m zero = refl
+answered_issues_none p named limit m (suc k) =
+    let before = answered_after p named limit m k in
+    answer_issues_none p (record_of p (situation_at p named limit before)) before
+    (pending_at p before.retired before.done) (absent_at named before)
+    ∙ answered_issues_none p named limit m k
 
 -- a run has one number of events
 first_is : (f : ℕ → Bool) (a b : ℕ) → f a ≡ true → ((k : ℕ) → k < a → f k ≡ false) → f b ≡ true →
@@ -143,3 +173,12 @@ run_ends p named limit schedule is =
       | inl found ↦ let low = found.1 in (found.0, omega (arith, low), record { over = found.2; first = found.3 })
       | inr none ↦ let most = weighed p named limit schedule (length schedule + 8 * limit + 8 + 1) is none in absurd (omega (arith, most))
     ]
+
+-- no letter retires more than the limit
+pub retired_within : (p : Program) (named : ℕ → Bool) (limit : ℕ) (letter : Letter) (m : Moment) → IsProgram p → DoneWereMade p m →
+    m.retired ≤ limit →
+    (after_letter p named limit letter m).retired ≤ limit
+unfolding local_at
+retired_within p named limit letter m is made within =
+    subst (λ (l : Local). l.retired ≤ limit) (law p named limit letter m is made)
+    (stays_in_limit p limit letter (local_at p named m) is within)

@@ -1,5 +1,5 @@
 -- What lies behind a moment stays so: it holds of the first moment, and each letter keeps it.
-use Rattle.std.specs.Prelude.{ℕ, Bool, true, false, List, [], ◌∷◌, Option, Some, None, ◌≡◌, ◌≢◌, ◌<◌, ◌≤◌, ◌+◌, ◌==◌, ◌&&◌, ◌||◌, length, if◌then◌else◌}
+use Rattle.std.specs.Prelude.{ℕ, zero, suc, Bool, true, false, List, [], ◌∷◌, Option, Some, None, ◌≡◌, ◌≢◌, ◌<◌, ◌≤◌, ◌+◌, ◌==◌, ◌&&◌, ◌||◌, length, if◌then◌else◌}
 use Rattle.std.proofs.Common.{arith, refl, sym, ap, subst, length-append}
 use Rattle.std.proofs.lemmas.Bool.{eqb-false, eqb-true, ltb-false}
 use Rattle.std.proofs.lemmas.List.{length-drop, length-map}
@@ -7,8 +7,9 @@ use Rattle.m88_isa.proofs.Alone.{by_test}
 use Rattle.m88_base.specs.Pages.{page_number}
 use Rattle.m88_isa.specs.Held.{Hold, busy_register, exceeds, first_reason, held, instruction_at, is_pending, is_stop, most_pending, needs_empty}
 use Rattle.m88_isa.specs.History.{pending_at, transaction_count, transactions, turn_accesses}
-use Rattle.m88_isa.specs.Machine.{Program, Turn, changes, outputs, state, stops, turn_at}
-use Rattle.m88_isa.specs.Memory.{access_of}
+use Rattle.m88_isa.specs.Effect.{Change}
+use Rattle.m88_isa.specs.Machine.{Program, State, Turn, after_change, after_touch, after_touches, changes, opening, outputs, state, state_after, stepped, stops, turn_at, with_written}
+use Rattle.m88_isa.specs.Memory.{Touch, access_of}
 use Rattle.m88_isa.specs.declared.instr.Instr.{Instr}
 use Rattle.m88_isa.specs.declared.planned.Access.{Access}
 use Rattle.m88_event.proofs.Follows.{Fits, fits, more_transactions}
@@ -21,21 +22,47 @@ use Rattle.m88_event.specs.declared.letter.Letter.{Letter}
 use Rattle.m88_event.specs.declared.letter.Letter.TheVariants.{Issue, Answer}
 use Rattle.m88_event.specs.declared.record.Record.{Record}
 
--- an instruction is issued, served or ended by only where more may be issued, and its accesses have room
+-- a history has put out at most as many bytes as it made steps
+touches_out : (ts : List Touch) (s : State) → (after_touches ts s).out ≡ s.out
+touches_out [] s = refl
+touches_out (t ∷ ts) s = touches_out ts (after_touch t s)
+
+change_out : (c : Change) (s : State) → (after_change c s).out ≡ s.out
+change_out c s =
+    touches_out c.touches (record s {
+      regs = with_written c.register s.regs;
+      carry = c.carry;
+      pc = c.after.0;
+      next = c.after.1;
+    })
+
+turn_out : (turn : Turn) (s : State) (n : ℕ) → length s.out ≤ n → length (state_after (stepped turn s) s).out ≤ suc n
+turn_out (changes change) s n h = let same = ap length (change_out change s) in omega (arith, h, same)
+turn_out (outputs byte) s n h = let more = length-append s.out (byte ∷ []) in omega (arith, h, more)
+turn_out (stops stop) s n h = omega (arith, h)
+
+pub out_within : (p : Program) (n : ℕ) → length (state p n).out ≤ n
+unfolding state opening
+out_within p zero = omega arith
+out_within p (suc n) = turn_out (turn_at p (state p n)) (state p n) n (out_within p n)
+
+-- an instruction is issued, served or ended by only where more may be issued, and its accesses have room; the program
+-- ends by none that is passed over
 abbrev HasRoom : Program → ℕ → Moment → Choice → Type 0
 HasRoom p limit m (issues change) =
     (is_idle limit m ≡ false) × (length (pending_at p m.retired m.done) + length change.touches ≤ most_pending)
 HasRoom p limit m (serves byte) = is_idle limit m ≡ false
-HasRoom p limit m (finishes stop) = is_idle limit m ≡ false
+HasRoom p limit m (finishes stop) = (is_idle limit m ≡ false) × (m.bubble ≡ false)
 HasRoom p limit m _ = Unit {0}
 
 room_of_turn : (p : Program) (limit : ℕ) (m : Moment) (turn : Turn) → is_idle limit m ≡ false →
+    m.bubble ≡ false →
     exceeds turn (length (pending_at p m.retired m.done)) ≡ false →
     HasRoom p limit m (turn_choice turn)
-room_of_turn p limit m (changes change) goes room =
+room_of_turn p limit m (changes change) goes straight room =
     (goes, ltb-false most_pending (length (pending_at p m.retired m.done) + length change.touches) room)
-room_of_turn p limit m (outputs byte) goes room = goes
-room_of_turn p limit m (stops stop) goes room = goes
+room_of_turn p limit m (outputs byte) goes straight room = goes
+room_of_turn p limit m (stops stop) goes straight room = (goes, straight)
 
 -- where nothing holds it, its accesses aren't too many
 not_full : (least : Option ℕ) (no_room some : Bool) → first_reason least no_room some ≡ None → no_room ≡ false
@@ -45,20 +72,22 @@ not_full None false some h = refl
 
 room_of_next : (p : Program) (limit : ℕ) (m : Moment) (i : Option Instr) (turn : Turn) (why : Option Hold) →
     held i turn (pending_at p m.retired m.done) ≡ why → is_idle limit m ≡ false →
+    m.bubble ≡ false →
     HasRoom p limit m (next_choice why turn)
-room_of_next p limit m i turn None free goes =
+room_of_next p limit m i turn None free goes straight =
     let pending : List Access = pending_at p m.retired m.done in
-    room_of_turn p limit m turn goes
+    room_of_turn p limit m turn goes straight
     (not_full (busy_register i pending) (exceeds turn (length pending)) (is_pending pending && needs_empty i turn) free)
-room_of_next p limit m i turn (Some why) free goes = tt
+room_of_next p limit m i turn (Some why) free goes straight = tt
 
 room_of_issue : (p : Program) (limit : ℕ) (m : Moment) (i : Option Instr) (turn : Turn) (idle bubble : Bool) →
     is_idle limit m ≡ idle →
+    m.bubble ≡ bubble →
     HasRoom p limit m (issue_choice idle bubble (held i turn (pending_at p m.retired m.done)) turn)
-room_of_issue p limit m i turn true bubble goes = tt
-room_of_issue p limit m i turn false true goes = tt
-room_of_issue p limit m i turn false false goes =
-    room_of_next p limit m i turn (held i turn (pending_at p m.retired m.done)) refl goes
+room_of_issue p limit m i turn true bubble goes passed = tt
+room_of_issue p limit m i turn false true goes passed = tt
+room_of_issue p limit m i turn false false goes straight =
+    room_of_next p limit m i turn (held i turn (pending_at p m.retired m.done)) refl goes straight
 
 room_of_page : (p : Program) (limit : ℕ) (m : Moment) (absent : Bool) → HasRoom p limit m (if absent then faults else replies)
 room_of_page p limit m true = tt
@@ -73,7 +102,7 @@ has_room : (p : Program) (named : ℕ → Bool) (limit : ℕ) (letter : Letter) 
     HasRoom p limit m (choice_of p letter (situation_at p named limit m))
 unfolding situation_at
 has_room p named limit Issue m =
-    room_of_issue p limit m (instruction_at p (state p m.retired).pc) (turn_at p (state p m.retired)) (is_idle limit m) m.bubble refl
+    room_of_issue p limit m (instruction_at p (state p m.retired).pc) (turn_at p (state p m.retired)) (is_idle limit m) m.bubble refl refl
 has_room p named limit Answer m = room_of_answer p limit m (pending_at p m.retired m.done) (absent_at named m)
 
 -- where more may be issued, fewer instructions are retired than the limit
@@ -116,6 +145,9 @@ by_choice p limit m passes fault past fit room drained = record {
   pending = past.pending;
   ended = λ ended. let end = past.ended ended in record { next = end.next; early = end.early; drained = end.drained };
   bubbled = λ bubble. absurd cc;
+  unbubbled = λ ended. refl;
+  counted = past.counted;
+  put_out = past.put_out;
 }
 by_choice p limit m (holds why) fault past fit room drained = past
 by_choice p limit m (issues change) fault past fit room drained =
@@ -128,6 +160,9 @@ by_choice p limit m (issues change) fault past fit room drained =
       pending = more_pending p m (changes change) fit.0 (omega (arith, accesses, most));
       ended = λ ended. absurd (let lives = fit.1 in cc);
       bubbled = λ bubble. record { before = m.retired; change = change; last = refl; turn = fit.0; flows = bubble };
+      unbubbled = λ ended. absurd (let lives = fit.1 in cc);
+      counted = past.counted;
+      put_out = out_within p (m.retired + 1);
     }
 by_choice p limit m (serves byte) fault past fit room drained =
     let less = fewer limit m past.within room in
@@ -139,30 +174,46 @@ by_choice p limit m (serves byte) fault past fit room drained =
       pending = more_pending p m (outputs byte) fit.0 (omega (arith, left, most));
       ended = λ ended. absurd (let lives = fit.1 in cc);
       bubbled = λ bubble. absurd cc;
+      unbubbled = λ ended. refl;
+      counted = past.counted;
+      put_out = out_within p (m.retired + 1);
     }
 by_choice p limit m (finishes stop) fault past fit room drained = record {
   within = past.within;
   retired = past.retired;
   pending = past.pending;
-  ended = λ ended. record { next = ap is_stop fit; early = fewer limit m past.within room; drained = drained tt };
+  ended = λ ended. record { next = ap is_stop fit; early = fewer limit m past.within room.0; drained = drained tt };
   bubbled = past.bubbled;
+  unbubbled = λ ended. room.1;
+  counted = past.counted;
+  put_out = past.put_out;
 }
 by_choice p limit m replies fault past fit room drained =
     let most = past.pending in
+    let told = past.counted in
     record {
       within = past.within;
       retired = past.retired;
       pending = omega (arith, most);
       ended = λ ended. absurd (let all = (past.ended ended).drained in omega (arith, all, fit));
       bubbled = past.bubbled;
+      unbubbled = past.unbubbled;
+      counted = omega (arith, told);
+      put_out = past.put_out;
     }
-by_choice p limit m faults fault past fit room drained = record {
-  within = past.within;
-  retired = past.retired;
-  pending = omega arith;
-  ended = λ ended. let end = past.ended ended in record { next = end.next; early = end.early; drained = refl };
-  bubbled = past.bubbled;
-}
+by_choice p limit m faults fault past fit room drained =
+    let told = past.counted in
+    let more = length-append m.records (fault ∷ []) in
+    record {
+      within = past.within;
+      retired = past.retired;
+      pending = omega arith;
+      ended = λ ended. let end = past.ended ended in record { next = end.next; early = end.early; drained = refl };
+      bubbled = past.bubbled;
+      unbubbled = past.unbubbled;
+      counted = omega (arith, told, more, fit);
+      put_out = past.put_out;
+    }
 
 pub keeps_past : (p : Program) (named : ℕ → Bool) (limit : ℕ) (letter : Letter) (m : Moment) →
     DoneWereMade p m →
@@ -180,6 +231,9 @@ keeps_past p named limit letter m made past =
       pending = next.pending;
       ended = λ ended. let end = next.ended ended in record { next = end.next; early = end.early; drained = end.drained };
       bubbled = next.bubbled;
+      unbubbled = next.unbubbled;
+      counted = next.counted;
+      put_out = next.put_out;
     }
 
 pub opens_with : (p : Program) (limit : ℕ) → HasPast p limit opening_moment
@@ -190,4 +244,7 @@ opens_with p limit = record {
   pending = omega arith;
   ended = λ ended. absurd cc;
   bubbled = λ bubble. absurd cc;
+  unbubbled = λ ended. refl;
+  counted = omega arith;
+  put_out = out_within p 0;
 }

@@ -1,5 +1,5 @@
 -- What lies behind each moment that a run comes to: facts about the history up to it, and about the limit.
-use Rattle.std.specs.Prelude.{ℕ, true, false, ◌≡◌, ◌<◌, ◌≤◌, ◌+◌}
+use Rattle.std.specs.Prelude.{ℕ, true, false, ◌≡◌, ◌<◌, ◌≤◌, ◌+◌, length}
 use Rattle.m88_isa.specs.Effect.{Change}
 use Rattle.m88_isa.specs.Held.{is_stop, most_pending}
 use Rattle.m88_isa.specs.History.{transaction_count}
@@ -27,10 +27,14 @@ pub record IsAtEnd (p : Program) (limit : ℕ) (m : Moment) : Type 0 where
 
 -- what lies behind a moment: at most as many instructions are retired as the limit, and the program ends by none of
 -- them; at most three transactions are pending; the mark of the end is there only at the end, that of a bubble only
--- behind a branch without a delay slot
+-- behind a branch without a delay slot, and never both; as many transactions are done at least as were answered with
+-- data and as data faults have records; at most as many bytes were put out as instructions are retired
 pub record HasPast (p : Program) (limit : ℕ) (m : Moment) : Type 0 where
   pub within : m.retired ≤ limit
   pub retired : HasInstructions p m.retired
   pub pending : transaction_count p m.retired ≤ m.done + most_pending
   pub ended : m.ended ≡ true → IsAtEnd p limit m
   pub bubbled : m.bubble ≡ true → IsBehindBranch p m.retired
+  pub unbubbled : m.ended ≡ true → m.bubble ≡ false
+  pub counted : m.answers + length m.records ≤ m.done
+  pub put_out : length (state p m.retired).out ≤ m.retired

@@ -4,6 +4,7 @@ use Rattle.std.specs.Prelude.{ℕ, zero, suc, Bool, true, false, List, ◌≡◌
 use Rattle.m88_isa.specs.Bus.{changed_words, in_words}
 use Rattle.m88_isa.specs.Machine.{Program, opening, state}
 use Rattle.m88_event.specs.Letters.{letter_at}
+use Rattle.m88_event.specs.Local.{Local}
 use Rattle.m88_event.specs.Timeline.{Moment, after_letter, end_at, is_drained, is_over, opening_moment}
 use Rattle.m88_event.specs.declared.happened.End.TheVariants.{Limit}
 use Rattle.m88_event.specs.declared.letter.Letter.{Letter}
@@ -39,6 +40,20 @@ outcome_at p m = record {
   events = m.events;
   answers = m.answers;
   records = m.records;
+}
+
+-- what is seen of a board that is over comes to, against the words of memory at first
+unfoldable pub outcome_by : (ℕ → ℕ) → Local → Outcome
+outcome_by before l = record {
+  end = unwrap_or l.ended Limit;
+  retired = l.retired;
+  regs = l.completed.regs;
+  carry = l.completed.carry;
+  out = l.completed.out;
+  changed = changed_words before l.completed.bus;
+  events = l.events;
+  answers = l.answers;
+  records = l.records;
 }
 
 -- what a run comes to

@@ -5,14 +5,12 @@ ghost use Rattle.m88_event.specs.Choice.{ServesOrEnds};
 ghost use Rattle.m88_event.specs.Local.{choice_by, record_by};
 ghost use Rattle.m88_event.specs.Timeline.{Moment, after_letter, said_at};
 ghost use Rattle.m88_event.specs.declared.letter.Letter.{Letter as LetterValue};
-ghost use Rattle.m88_isa.specs.Machine.{IsProgram, Program};
+ghost use Rattle.m88_isa.specs.Machine.{Program};
 ghost use Rattle.m88_board.specs.Board.{local_of};
 ghost use Rattle.m88_isa.specs.ImageProgram.{IsProgramOf};
 ghost use Rattle.m88_board.specs.Kept.{most_events};
 ghost use Rattle.m88_board.specs.Moves.{Did, IsAt, IsMove, IsSameRun, IsStill, IsUnmoved};
-ghost use Rattle.m88_board.specs.Shown.{ShowsFault};
-ghost use Rattle.m88_event.specs.declared.happened.Happened.{Happened as HappenedValue};
-ghost use Rattle.m88_event.specs.declared.record.Record.{Record as RecordValue};
+ghost use Rattle.m88_board.specs.Shown.{Leaves};
 
 use super::Board;
 use m88_base::NoMemory;
@@ -29,8 +27,7 @@ impl Board {
         ensures still { IfOk result (λ happened. IsStill happened → self.new ≡ self.old) }
         ensures shorter { letter ≡ LetterValue.Answer
             → OnOk result (length self.new.pending ≤ length self.old.pending - 1) }
-        ensures shows { letter ≡ LetterValue.Answer → IfOk result (λ happened. (fault : RecordValue)
-            → happened ≡ HappenedValue.Faulted fault → ShowsFault fault self.new.control) }
+        ensures leaves { IfOk result (λ happened. Leaves happened self.old self.new) }
         ensures err { OnErr result (IsUnmoved self.old self.new) }
     {
         match letter {
@@ -41,28 +38,27 @@ impl Board {
 
     /// Makes the event of a letter: of `i` the next instruction is issued, or a bubble passed, or nothing where
     /// it must wait; of `r` the oldest transaction is answered, or meets its fault. Memory is taken before
-    /// anything changes: where it runs out, the board is as before but for pages made ready, and no event is counted.
+    /// anything changes: where it runs out, the board is as before, and no event is counted.
     pub fn event(&mut self, letter: Letter) -> Result<Happened, NoMemory>
         requires { self.old.events < most_events }
         ensures moved { IfOk result (λ happened. (p : Program)
             → IsProgramOf self.old.memory.image p
             → IsMove p letter self.old happened self.new) }
-        ensures timeline { OnOk result ((p : Program) (named : ℕ → Bool) (m : Moment) → IsProgram p
+        ensures timeline { OnOk result ((p : Program) (named : ℕ → Bool) (m : Moment)
             → IsAt p named m self.old
             → IsAt p named (after_letter p named self.old.limit letter m) self.new) }
         ensures said { IfOk result (λ happened. (p : Program) (named : ℕ → Bool) (m : Moment)
             → IsAt p named m self.old
             → happened ≡ said_at p named self.old.limit letter m) }
-        ensures precise { IfOk result (λ happened. (p : Program)
-            → IsProgramOf self.old.memory.image p → ServesOrEnds happened → self.old.pending ≡ []) }
+        ensures precise { IfOk result (λ happened. ServesOrEnds happened
+            → self.old.pending ≡ []) }
         ensures counted { OnOk result (self.new.events ≡ self.old.events + 1) }
         ensures same { OnOk result (IsSameRun self.old self.new) }
         ensures still { IfOk result (λ happened. IsStill happened
             → self.new ≡ record self.old { events = self.old.events + 1 }) }
         ensures shorter { letter ≡ LetterValue.Answer
             → OnOk result (length self.new.pending ≤ length self.old.pending - 1) }
-        ensures shows { letter ≡ LetterValue.Answer → IfOk result (λ happened. (fault : RecordValue)
-            → happened ≡ HappenedValue.Faulted fault → ShowsFault fault self.new.control) }
+        ensures leaves { IfOk result (λ happened. Leaves happened self.old self.new) }
         ensures err { OnErr result (IsUnmoved self.old self.new) }
     {
         let happened = self.take(letter)?;

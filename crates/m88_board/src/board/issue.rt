@@ -12,7 +12,8 @@ ghost use Rattle.m88_isa.specs.Operands.{access_count_of, writes_of};
 ghost use Rattle.m88_board.specs.Board.{completed_of, is_idle_board, local_of};
 ghost use Rattle.m88_isa.specs.ImageProgram.{IsProgramOf};
 ghost use Rattle.m88_board.specs.Moves.{Did, IsSameRun, IsStill, IsUnmoved};
-ghost use Rattle.m88_board.specs.Turns.{IssueComesTo, choice_for, meaning_at};
+ghost use Rattle.m88_board.specs.Shown.{Leaves};
+ghost use Rattle.m88_board.specs.Turns.{IssueComesTo, PlansOnePage, choice_for, meaning_at};
 
 use crate::board::Board;
 use m88_base::NoMemory;
@@ -31,6 +32,7 @@ impl Board {
         ensures events { self.new.events ≡ self.old.events }
         ensures same { OnOk result (IsSameRun self.old self.new) }
         ensures still { IfOk result (λ happened. IsStill happened → self.new ≡ self.old) }
+        ensures leaves { IfOk result (λ happened. Leaves happened self.old self.new) }
         ensures err { OnErr result (IsUnmoved self.old self.new) }
     {
         if self.is_idle() {
@@ -60,6 +62,7 @@ impl Board {
         ensures ok { IfOk result (λ happened. (fault : RecordValue)
             → Did (choice_for (Some instr.now) self.old) fault self.old happened self.new) }
         ensures still { IfOk result (λ happened. IsStill happened → self.new ≡ self.old) }
+        ensures leaves { IfOk result (λ happened. Leaves happened self.old self.new) }
         ensures err { OnErr result (IsUnmoved self.old self.new) }
     {
         if let Some(r) = self.busy_register(instr) {
@@ -79,6 +82,7 @@ impl Board {
         ensures ok { IfOk result (λ happened. (fault : RecordValue)
             → Did (choice_for (Some instr.now) self.old) fault self.old happened self.new) }
         ensures still { IfOk result (λ happened. IsStill happened → self.new ≡ self.old) }
+        ensures leaves { IfOk result (λ happened. Leaves happened self.old self.new) }
         ensures err { OnErr result (IsUnmoved self.old self.new) }
     {
         match self.planned(instr) {
@@ -121,6 +125,7 @@ impl Board {
         ensures trap { TrapsForUser result }
         ensures raise { RaisesListed result }
         ensures flow { FlowsToWords result }
+        ensures pages { PlansOnePage result }
     {
         plan(
             instr,

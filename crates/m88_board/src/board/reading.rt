@@ -1,13 +1,15 @@
 //! What a board shows of itself. None of these calls takes memory.
 
-ghost use Rattle.std.specs.Prelude.{ℕ, Bool, ◌≡◌, ◌%◌, length, option_map};
+ghost use Rattle.std.specs.Prelude.{ℕ, Bool, true, ◌≡◌, ◌%◌, length, option_map};
 ghost use Rattle.std.specs.Int.{to_be_bytes, w32};
 ghost use Rattle.m88_base.specs.Image.{byte_at};
 ghost use Rattle.m88_base.specs.Reg.{number_of};
 ghost use Rattle.m88_ctrl.specs.ControlRegisters.{carry_of};
 ghost use Rattle.m88_event.specs.Local.{is_over_by, register_seen, register_shown};
-ghost use Rattle.m88_event.specs.Timeline.{Moment, is_over, nip_at};
+ghost use Rattle.m88_event.specs.Timeline.{Moment, is_drained, is_over, nip_at};
+ghost use Rattle.m88_isa.specs.Bus.{in_words};
 ghost use Rattle.m88_isa.specs.History.{bus_at, pending_at};
+ghost use Rattle.m88_isa.specs.ImageProgram.{IsProgramOf};
 ghost use Rattle.m88_isa.specs.Machine.{Program, four_bytes, state};
 ghost use Rattle.m88_mem.specs.DataBus.{bus_of};
 ghost use Rattle.m88_board.specs.Board.{completed_of, local_of};
@@ -34,35 +36,45 @@ impl Board {
 
     /// The events so far.
     pub fn events(&self) -> u64
-        ensures { result ≡ self.now.events }
+        ensures value { result ≡ self.now.events }
+        ensures moment { (p : Program) (named : ℕ → Bool) (m : Moment) → IsAt p named m self.now
+            → result ≡ m.events }
     {
         self.events
     }
 
     /// The instructions that were retired.
     pub fn issued(&self) -> u32
-        ensures { result ≡ self.now.retired }
+        ensures value { result ≡ self.now.retired }
+        ensures moment { (p : Program) (named : ℕ → Bool) (m : Moment) → IsAt p named m self.now
+            → result ≡ m.retired }
     {
         self.retired
     }
 
     /// The transactions that were answered or finished.
     pub fn done(&self) -> u32
-        ensures { result ≡ self.now.done }
+        ensures value { result ≡ self.now.done }
+        ensures moment { (p : Program) (named : ℕ → Bool) (m : Moment) → IsAt p named m self.now
+            → result ≡ m.done }
     {
         self.done
     }
 
     /// The records of data faults so far.
     pub fn faults(&self) -> u32
-        ensures { result ≡ length self.now.records }
+        ensures value { result ≡ length self.now.records }
+        ensures moment { (p : Program) (named : ℕ → Bool) (m : Moment) → IsAt p named m self.now
+            → result ≡ length m.records }
     {
         self.records.len() as u32
     }
 
     /// The transactions that are pending, at most three.
     pub fn pending(&self) -> u8
-        ensures { result ≡ length self.now.pending }
+        ensures value { result ≡ length self.now.pending }
+        ensures moment { (p : Program) (named : ℕ → Bool) (m : Moment) → IsAt p named m self.now
+            → result ≡ length (pending_at p m.retired m.done) }
     {
         MOST_PENDING as u8 - self.dunit.room()
     }
@@ -101,6 +113,9 @@ impl Board {
         ensures value { result ≡ bus_of self.now.memory addr }
         ensures moment { (p : Program) (named : ℕ → Bool) (m : Moment) → IsAt p named m self.now
             → result ≡ bus_at p m.retired m.done addr }
+        ensures drained { (p : Program) (named : ℕ → Bool) (m : Moment) → IsAt p named m self.now
+            → is_drained p m ≡ true
+            → result ≡ in_words (state p m.retired).memory addr }
     {
         self.memory.word(addr)
     }
@@ -149,6 +164,7 @@ impl Board {
         ensures value { result.now ≡ self.now.memory }
         ensures moment { (p : Program) (named : ℕ → Bool) (m : Moment) → IsAt p named m self.now
             → IsDataBus p named m result.now }
+        ensures program { (p : Program) × IsProgramOf result.now.image p }
     {
         &self.memory
     }

@@ -1,16 +1,21 @@
 //! Whole runs, and draining.
 
 ghost use Rattle.std.specs.Prelude.{ℕ, Bool, [], ◌∷◌, ◌↔◌, ◌≡◌, ◌<◌, ◌≤◌, ◌+◌, ◌-◌, ◌*◌, true, length, IfOk, OnErr, OnOk};
-ghost use Rattle.m88_event.specs.Run.{IsDrain, IsDraining, IsOutcome, IsRun, IsRunning, answered_after, moment_after, outcome_at};
+ghost use Rattle.m88_event.specs.Run.{IsDrain, IsDraining, IsOutcome, IsRun, IsRunning, answered_after, moment_after, outcome_at, outcome_by};
 ghost use Rattle.m88_event.specs.Timeline.{Moment, is_over, opening_moment};
 ghost use Rattle.m88_event.specs.declared.happened.End.{End as EndValue};
 ghost use Rattle.m88_event.specs.declared.letter.Letter.{Letter as LetterValue};
 ghost use Rattle.m88_event.specs.declared.outcome.Outcome.{Outcome as OutcomeValue};
+ghost use Rattle.m88_isa.specs.Bus.{in_words};
 ghost use Rattle.m88_isa.specs.Held.{most_pending};
-ghost use Rattle.m88_isa.specs.Machine.{IsProgram, Program};
+ghost use Rattle.m88_isa.specs.History.{bus_at, transaction_count};
+ghost use Rattle.m88_isa.specs.Machine.{IsProgram, Program, state};
+ghost use Rattle.m88_mem.specs.DataBus.{image_bus};
+ghost use Rattle.m88_board.specs.Board.{local_of};
 ghost use Rattle.m88_board.specs.Glances.{Saw, glance_at, glances_along};
 ghost use Rattle.m88_board.specs.Kept.{most_events};
 ghost use Rattle.m88_board.specs.Moves.{IsAlong, IsAt, IsSameRun, IsStep, IsUnmoved};
+ghost use Rattle.m88_board.specs.Shown.{IsSettled};
 
 use super::Board;
 use crate::watch::Watch;
@@ -33,6 +38,10 @@ impl Board {
             → IsAt p named opening_moment self
             → (o.end ≡ EndValue.Limit) ↔ (o.retired ≡ self.limit)) }
         ensures within { IfOk result (λ o. o.events ≤ length schedule.now + 8 * self.limit + 8) }
+
+        // Once all transactions of some instructions are done, memory is that of the history.
+        ensures words { (p : Program) (n : ℕ) → IsProgram p
+            → bus_at p n (transaction_count p n) ≡ in_words (state p n).memory }
         ensures watched { IfOk result (λ o. (p : Program) (named : ℕ → Bool) → IsProgram p
             → IsAt p named opening_moment self
             → Saw (W.seen watch.old) (W.seen watch.new)
@@ -44,7 +53,7 @@ impl Board {
             (glances_along p (moment_after p named self.limit schedule.now) events)) }
     {
         self.go_on(schedule, watch)?;
-        self.into_outcome()
+        self.outcome()
     }
 
     /// Makes `r` events until nothing is pending. The board is shown to the watch after each event. Where memory
@@ -57,6 +66,9 @@ impl Board {
             × IsAlong p named (answered_after p named self.old.limit m) events
             (W.seen watch.old) (W.seen watch.new) self.new) }
         ensures empty { OnOk result (self.new.pending ≡ []) }
+        ensures settled { OnOk result ((p : Program) (named : ℕ → Bool) (m : Moment) → IsProgram p
+            → IsAt p named m self.old
+            → IsSettled p m self.new) }
         ensures bounded { self.new.events ≤ self.old.events + length self.old.pending }
         ensures same { IsSameRun self.old self.new }
         ensures err { OnErr result ((p : Program) (named : ℕ → Bool) (m : Moment) → IsProgram p
@@ -129,11 +141,13 @@ impl Board {
         watch.after(self);
     }
 
-    /// What a run came to that is over.
-    fn into_outcome(self) -> Result<Outcome, NoMemory>
+    /// What a run came to that is over. Where memory runs out, the board is gone.
+    pub fn outcome(self) -> Result<Outcome, NoMemory>
         ensures events { IfOk result (λ o. o.events ≡ self.events) }
-        ensures value { IfOk result (λ o. (p : Program) (named : ℕ → Bool) (m : Moment)
-            → IsProgram p → IsAt p named m self → is_over p self.limit m ≡ true
+        ensures value { IfOk result (λ o. self.pending ≡ []
+            → o ≡ outcome_by (image_bus self.memory.image) (local_of self)) }
+        ensures moment { IfOk result (λ o. (p : Program) (named : ℕ → Bool) (m : Moment)
+            → IsAt p named m self → is_over p self.limit m ≡ true
             → o ≡ outcome_at p m) }
         ensures limit_end { IfOk result (λ o. (p : Program) (named : ℕ → Bool) (m : Moment)
             → IsAt p named m self → is_over p self.limit m ≡ true

@@ -2,11 +2,14 @@
 use Rattle.std.specs.Prelude.{slice_get}
 use Rattle.std.proofs.Common.{ap, arith, length, refl, suc, subst, sym, ◌≡◌, ◌≤◌, ◌∙◌}
 use Rattle.std.proofs.lemmas.Result.{err_from_is_err_and}
+use Rattle.m88_event.proofs.Over.{answered_issues_none}
 use Rattle.m88_event.specs.Run.{answered_after}
 use Rattle.m88_board.proofs.Choosing.{none_pending, pending_by, some_count}
+use Rattle.m88_board.proofs.Ending.{settled, settled_before}
 use Rattle.m88_board.proofs.Running.{drains_end, drains_start, drains_step, still_at}
 use Rattle.m88_board.proofs.Still.{same_then, unmoved_same}
 use Rattle.m88_board.specs.Board.{BoardView}
+use Rattle.m88_board.specs.Kept.{IsKept}
 use Rattle.m88_board.proofs.board.Board.drain.Goals as goal
 
 pub loop-self-init : goal.loop-self-init
@@ -53,6 +56,15 @@ returns-clause-ok g c = λ p named m is at.
     (subst (λ (b : BoardView). c.oldest.result ≡ slice_get b.pending 0) c.self.view_is c.oldest.ensures.value))
     ∙ sym c.is_some.ensures ∙ c.loop-self-test.false) in
     (drains.0, drains_end p named m drains.0 c.args.self.now c.loop-self.self _ _ drains.1 none, drains.1.along)
+
+pub returns-clause-settled : goal.returns-clause-settled
+returns-clause-settled g c = λ p named m is at.
+    let drains = c.loop-self.invariant.drains p named m is at in
+    let after = answered_after p named c.args.self.now.limit m drains.0 in
+    let none = returns-clause-empty g c in
+    let drained = (drains_end p named m drains.0 c.args.self.now c.loop-self.self _ _ drains.1 none).drained in
+    settled_before p m after c.loop-self.self (answered_issues_none p named c.args.self.now.limit m drains.0)
+    (settled p named after c.loop-self.self is (subst IsKept c.self.view_is c.self.invariant) drains.1.along.at drained none)
 
 pub returns-in_err-step-clause-err : goal.returns-in_err-step-clause-err
 returns-in_err-step-clause-err g c =

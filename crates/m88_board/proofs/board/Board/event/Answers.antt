@@ -1,45 +1,53 @@
 -- The event is the move of what is seen, and so goes along the timeline.
-use Rattle.std.proofs.Common.{ap, subst, sym, ◌+◌, ◌∙◌}
+use Rattle.std.proofs.Common.{ap, subst, ◌+◌, ◌∙◌}
+use Rattle.m88_base.specs.Image.{IsImage}
+use Rattle.m88_codec.proofs.ImagePrograms.{program_in, program_in_holds}
+use Rattle.m88_isa.proofs.ImageProgram.{program_of_image}
+use Rattle.m88_board.proofs.Leaving.{leaves_counted}
 use Rattle.m88_board.proofs.Moving.{along, moved_by, precise_on, says_so}
 use Rattle.m88_board.specs.Board.{BoardView}
-use Rattle.m88_board.specs.Shown.{ShowsFault}
 use Rattle.m88_board.proofs.board.Board.event.Goals as goal
 
 pub returns-clause-moved : goal.returns-clause-moved
 returns-clause-moved c = λ p of.
-    moved_by p c.args.letter c.args.self.now c.take.new.self c.in_ok-happened.happened c.count.new.self c.count.ensures
+    moved_by p c.args.letter c.args.self.now c.take.new.self c.in_ok-happened.happened c.count.new.self c.count.ensures.counted
     (c.in_ok-happened.ensures.ok p of)
 
 pub returns-clause-timeline : goal.returns-clause-timeline
-returns-clause-timeline c = λ p named m is at.
-    along p named m c.args.letter c.args.self.now c.in_ok-happened.happened c.count.new.self is at
-    (moved_by p c.args.letter c.args.self.now c.take.new.self c.in_ok-happened.happened c.count.new.self c.count.ensures
+returns-clause-timeline c = λ p named m at.
+    let image = subst IsImage c.in_ok-happened.ensures.same.image c.count.ensures.is_image in
+    along p named m c.args.letter c.args.self.now c.in_ok-happened.happened c.count.new.self
+    (program_of_image c.args.self.now.memory.image p image at.image) at
+    (moved_by p c.args.letter c.args.self.now c.take.new.self c.in_ok-happened.happened c.count.new.self c.count.ensures.counted
     (c.in_ok-happened.ensures.ok p at.image))
 
 pub returns-clause-said : goal.returns-clause-said
 returns-clause-said c = λ p named m at.
     says_so p named m c.args.letter c.args.self.now c.in_ok-happened.happened c.count.new.self at
-    (moved_by p c.args.letter c.args.self.now c.take.new.self c.in_ok-happened.happened c.count.new.self c.count.ensures
+    (moved_by p c.args.letter c.args.self.now c.take.new.self c.in_ok-happened.happened c.count.new.self c.count.ensures.counted
     (c.in_ok-happened.ensures.ok p at.image))
 
 pub returns-clause-precise : goal.returns-clause-precise
-returns-clause-precise c = λ p of last.
+returns-clause-precise c = λ last.
+    let image = subst IsImage c.in_ok-happened.ensures.same.image c.count.ensures.is_image in
+    let p = program_in c.args.self.now.memory.image image in
+    let of = program_in_holds c.args.self.now.memory.image image in
     precise_on p c.args.letter c.args.self.now c.in_ok-happened.happened c.count.new.self
-    (moved_by p c.args.letter c.args.self.now c.take.new.self c.in_ok-happened.happened c.count.new.self c.count.ensures
+    (moved_by p c.args.letter c.args.self.now c.take.new.self c.in_ok-happened.happened c.count.new.self c.count.ensures.counted
     (c.in_ok-happened.ensures.ok p of)) last
 
-pub returns-clause-shows : goal.returns-clause-shows
-returns-clause-shows c = λ answers fault says.
-    subst (λ (b : BoardView). ShowsFault fault b.control) (sym c.count.ensures)
-    (c.in_ok-happened.ensures.shows answers fault says)
+pub returns-clause-leaves : goal.returns-clause-leaves
+returns-clause-leaves c =
+    leaves_counted c.args.self.now c.in_ok-happened.happened c.take.new.self c.count.new.self c.count.ensures.counted
+    c.in_ok-happened.ensures.leaves
 
 pub returns-clause-same : goal.returns-clause-same
 returns-clause-same c = record {
-  limit = ap (λ (b : BoardView). b.limit) c.count.ensures ∙ c.in_ok-happened.ensures.same.limit;
-  image = ap (λ (b : BoardView). b.memory.image) c.count.ensures ∙ c.in_ok-happened.ensures.same.image;
+  limit = ap (λ (b : BoardView). b.limit) c.count.ensures.counted ∙ c.in_ok-happened.ensures.same.limit;
+  image = ap (λ (b : BoardView). b.memory.image) c.count.ensures.counted ∙ c.in_ok-happened.ensures.same.image;
 }
 
 pub returns-clause-still : goal.returns-clause-still
 returns-clause-still c = λ still.
-    c.count.ensures
+    c.count.ensures.counted
     ∙ ap (λ (b : BoardView). record b { events = b.events + 1 }) (c.in_ok-happened.ensures.still still)

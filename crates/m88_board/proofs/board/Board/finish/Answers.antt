@@ -10,14 +10,15 @@ use Rattle.m88_board.proofs.board.Board.finish.Goals as goal
 pub invariant_of-self : goal.invariant_of-self
 invariant_of-self c =
     let goes = rw (← c.self.view_is) at c.requires.going in
+    let valid = rw (← c.self.view_is) at c.requires.valid in
     let empty = rw (← c.self.view_is) at c.requires.empty in
     let comes = rw (← c.self.view_is) at c.requires.comes in
-    kept_finished (the_view c.self.inside) c.enter.new.self c.args.end c.self.invariant goes empty c.requires.ends comes
-    (ap (λ (r : ControlRegisters). r.psr) c.enter.ensures.state) (ap (λ (r : ControlRegisters). r.epsr) c.enter.ensures.state)
+    kept_finished (the_view c.self.inside) c.enter.new.ctrl c.args.end c.self.invariant goes valid empty c.requires.ends comes
+    (ap (λ (r : ControlRegisters). r.psr) c.enter.ensures) (ap (λ (r : ControlRegisters). r.epsr) c.enter.ensures)
 
-pub returns : goal.returns
-returns c = λ stop fault is. rw (← c.self.view_is) (record {
+pub returns-clause-does : goal.returns-clause-does
+returns-clause-does c = λ stop fault is. rw (← c.self.view_is) (record {
   says = ap happened.Ended is;
-  does = finished fault stop (the_view c.self.inside) c.enter.new.self c.args.end is
-      (carry_entered c.self.inside.ctrl c.enter.new.self (ap (λ (r : ControlRegisters). r.psr) c.enter.ensures.state));
+  does = finished fault stop (the_view c.self.inside) c.enter.new.ctrl c.args.end is
+      (carry_entered c.self.inside.ctrl c.enter.new.ctrl (ap (λ (r : ControlRegisters). r.psr) c.enter.ensures));
 })

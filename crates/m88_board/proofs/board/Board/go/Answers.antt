@@ -10,7 +10,8 @@ pub returns-in_err-prepare-clause-err : goal.returns-in_err-prepare-clause-err
 returns-in_err-prepare-clause-err c =
     let p = err_from_is_err_and c.from_residual.result c.from_residual.ensures.1 in
     rw (p.1, ← c.self.view_is)
-    (unmoved (the_view c.self.inside) c.prepare.new.memory c.prepare.ensures.bus c.prepare.ensures.absent c.prepare.ensures.image)
+    (unmoved (the_view c.self.inside) c.prepare.new.memory c.prepare.ensures.bus c.prepare.ensures.absent c.prepare.ensures.image
+    (search rules))
 
 pub invariant_of-self-2 : goal.invariant_of-self-2
 invariant_of-self-2 c =
@@ -20,7 +21,7 @@ invariant_of-self-2 c =
     kept_issued (the_view c.self.inside) c.args.effect.now.accesses c.advance.new.iunit c.put_in.new.unit c.put_in.new.regs
     c.prepare.new.memory c.set_carry.new.self c.args.effect.now.carry c.self.invariant goes c.requires.can room apart
     c.put_in.ensures.pending c.put_in.ensures.waiting c.prepare.ensures.stays (search rules) c.advance.ensures.slots
-    (ap (λ (a : Slot). a.v) c.advance.ensures.advanced.xip) c.set_carry.ensures.state c.set_carry.ensures.carry
+    (ap (λ (a : Slot). a.v) c.advance.ensures.advanced.xip) c.prepare.ensures.image c.set_carry.ensures.state c.set_carry.ensures.carry
 
 pub returns-clause-ok : goal.returns-clause-ok
 returns-clause-ok c = λ change fault is few.

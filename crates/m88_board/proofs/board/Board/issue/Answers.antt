@@ -37,10 +37,10 @@ returns-then-not-nip-clause-ok c = λ p fault of.
     did_by (choice_by p b.limit Issue (local_of b)) passes fault b Bubble c.pass.new.self
     (passes_by p b (sym c.is_idle.ensures ∙ c.if-is_idle.false)
     (subst (λ (v : Bool). not v ≡ true) seen c.if-not-nip.true))
-    (record { says = refl; does = c.pass.ensures fault })
+    (record { says = refl; does = c.pass.ensures.does fault })
 
 pub returns-then-not-nip-clause-events : goal.returns-then-not-nip-clause-events
-returns-then-not-nip-clause-events c = same_events passes c.args.self.now c.pass.new.self c.pass.ensures
+returns-then-not-nip-clause-events c = same_events passes c.args.self.now c.pass.new.self c.pass.ensures.does
 
 pub returns-in_default-clause-ok : goal.returns-in_default-clause-ok
 returns-in_default-clause-ok c = λ p fault of.
@@ -103,7 +103,7 @@ returns-in-Ok-clause-events c =
     c.issue_instr.ensures.ok c.issue_instr.ensures.err
 
 pub returns-then-not-nip-clause-same : goal.returns-then-not-nip-clause-same
-returns-then-not-nip-clause-same c = (c.pass.ensures no_record).same
+returns-then-not-nip-clause-same c = (c.pass.ensures.does no_record).same
 
 pub returns-in_default-clause-same : goal.returns-in_default-clause-same
 returns-in_default-clause-same c = (c.raise.ensures.does no_record).does.same

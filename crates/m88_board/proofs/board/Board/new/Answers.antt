@@ -1,6 +1,7 @@
 -- A board at its start.
 use Rattle.std.proofs.Common.{◌∙◌, ◌*◌, ◌/◌, ℕ, ap, sym, subst}
-use Rattle.m88_base.specs.Image.{ProgramImage}
+use Rattle.m88_base.specs.Image.{IsImage, ProgramImage}
+use Rattle.m88_codec.proofs.ImagePrograms.{some_program}
 use Rattle.m88_event.specs.Timeline.{opening_moment}
 use Rattle.m88_isa.specs.Address.{word_address}
 use Rattle.m88_mem.specs.DataBus.{image_bus}
@@ -17,7 +18,14 @@ invariant_of-result c =
     c.new-6.result.items c.new-7.result.items c.new-2.ensures c.new-3.ensures c.new-5.ensures c.new-6.ensures.items
     c.new-7.ensures.items
     (kept c.args.limit _ _ _ c.new-4.result
-    c.in_ok-memory.memory c.requires.small c.new-4.ensures.waiting c.lacks_word-e0.ensures c.lacks_word-e1.ensures)
+    c.in_ok-memory.memory c.requires.small
+    (subst IsImage (sym c.in_ok-memory.ensures.image) c.part_count.ensures.image) c.new-4.ensures.waiting c.lacks_word-e0.ensures c.lacks_word-e1.ensures)
+
+pub returns-in_err-memory-clause-program : goal.returns-in_err-memory-clause-program
+returns-in_err-memory-clause-program c = some_program c.args.image.now c.part_count.ensures.image
+
+pub returns-clause-program : goal.returns-clause-program
+returns-clause-program c = some_program c.args.image.now c.part_count.ensures.image
 
 pub returns-clause-at : goal.returns-clause-at
 returns-clause-at c = λ p of.

@@ -5,8 +5,8 @@ use Rattle.m88_board.proofs.Steps.{passed}
 use Rattle.m88_board.specs.contracts.board.Board.{the_view}
 use Rattle.m88_board.proofs.board.Board.pass.Goals as goal
 
-pub returns : goal.returns
-returns c =
+pub returns-clause-does : goal.returns-clause-does
+returns-clause-does c =
     let bubble = rw (← c.self.view_is) at c.requires.bubble in
     λ fault. rw (← c.self.view_is)
     (passed fault (the_view c.self.inside) c.pass_bubble.new.self c.lacks_word-lacks.result bubble

@@ -1,8 +1,10 @@
 -- The parts show what the instruction needs.
-use Rattle.std.proofs.Common.{◌∙◌, ap}
+use Rattle.std.proofs.Common.{◌∙◌, ap, subst, sym}
 use Rattle.m88_base.specs.declared.slot.Slot.{Slot}
 use Rattle.m88_isa.specs.Effect.{plan_for}
 use Rattle.m88_board.proofs.Issuing.{meant}
+use Rattle.m88_board.proofs.OnePage.{one_page}
+use Rattle.m88_board.specs.Turns.{PlansOnePage}
 use Rattle.m88_board.specs.contracts.board.Board.{the_view}
 use Rattle.m88_board.proofs.board.Board.planned.Goals as goal
 
@@ -13,3 +15,8 @@ returns-clause-value c =
     c.candidate.result.addr c.following.result.addr c.self.view_is c.self.invariant c.requires.valid c.requires.free
     c.values.ensures.each c.carry.ensures (ap (λ (s : Slot). s.addr) c.candidate.ensures.value)
     (ap (λ (s : Slot). s.addr) c.following.ensures.value))
+
+pub returns-clause-pages : goal.returns-clause-pages
+returns-clause-pages c =
+    subst PlansOnePage (sym c.plan.ensures.value)
+    (one_page c.args.instr.now c.values.result c.carry.result c.candidate.result.addr c.following.result.addr)

@@ -16,7 +16,7 @@ returns-clause-does c = λ fault.
     let empty = none_pending c.args.self.now.pending (sym c.is_pending.ensures ∙ c.if-is_pending.false) in
     did_by _ _ fault c.args.self.now c.finish.result c.finish.new.self
     (stopping_ends (by_vector c.args.vector (pc_of c.args.self.now.slots)) c.args.self.now.pending empty)
-    (c.finish.ensures (by_vector c.args.vector (pc_of c.args.self.now.slots)) fault
+    (c.finish.ensures.does (by_vector c.args.vector (pc_of c.args.self.now.slots)) fault
     (ap (λ a. Vector c.args.vector a)
     (at_pc c.self.inside.iunit c.args.self.now.slots c.candidate-at.result c.candidate-at.ensures.value
     (ap (λ (b : BoardView). b.slots) c.self.view_is) c.requires.valid)))
@@ -25,7 +25,7 @@ pub returns-clause-still : goal.returns-clause-still
 returns-clause-still c =
     let stop = by_vector c.args.vector (pc_of c.args.self.now.slots) in
     still_by_stop stop c.args.self.now c.finish.result c.finish.new.self
-    (λ fault. c.finish.ensures stop fault
+    (λ fault. c.finish.ensures.does stop fault
     (ap (λ a. Vector c.args.vector a)
     (at_pc c.self.inside.iunit c.args.self.now.slots c.candidate-at.result c.candidate-at.ensures.value
     (ap (λ (b : BoardView). b.slots) c.self.view_is) c.requires.valid)))

@@ -4,7 +4,7 @@ use Rattle.m88_event.specs.Timeline.{after_letter}
 
 pub returns-clause-ok : goal.returns-clause-ok
 returns-clause-ok g c = λ p named m is at.
-    let next = c.in_ok-event.ensures.timeline p named m is at in
+    let next = c.in_ok-event.ensures.timeline p named m at in
     record {
       at = next;
       limit = (c.in_ok-event.ensures.moved p at.image).same.limit;

@@ -38,7 +38,7 @@ returns-in-End-clause-ok c = λ fault.
     did_by (turn_choice (trapped c.args.vector old.file.numbers (pc_of old.slots))) (finishes (exits (pc_of old.slots))) fault old c.finish.result c.finish.new.self
     (trap_choice c.args.vector (pc_of old.slots) c.self.inside.regs.numbers old.file.numbers c.service.result _ c.service.ensures
     (ap (λ (b : BoardView). b.file.numbers) c.self.view_is) c.in-End.is)
-    (c.finish.ensures (exits (pc_of old.slots)) fault
+    (c.finish.ensures.does (exits (pc_of old.slots)) fault
     (ap (λ a. Exit a)
     (at_pc c.self.inside.iunit old.slots c.candidate-at.result c.candidate-at.ensures.value
     (ap (λ (b : BoardView). b.slots) c.self.view_is) c.requires.valid)))
@@ -50,7 +50,7 @@ returns-in-Unserved-clause-ok c = λ fault.
     c.finish-in-Unserved.result c.finish-in-Unserved.new.self
     (trap_choice c.args.vector (pc_of old.slots) c.self.inside.regs.numbers old.file.numbers c.service.result _ c.service.ensures
     (ap (λ (b : BoardView). b.file.numbers) c.self.view_is) c.in-Unserved.is)
-    (c.finish-in-Unserved.ensures (by_vector c.args.vector (pc_of old.slots)) fault
+    (c.finish-in-Unserved.ensures.does (by_vector c.args.vector (pc_of old.slots)) fault
     (ap (λ a. Vector c.args.vector a)
     (at_pc c.self.inside.iunit old.slots c.candidate-at.result c.candidate-at.ensures.value
     (ap (λ (b : BoardView). b.slots) c.self.view_is) c.requires.valid)))

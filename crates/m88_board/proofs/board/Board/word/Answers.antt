@@ -1,5 +1,7 @@
 -- A word at a moment.
 use Rattle.std.proofs.Common.{ap, ◌∙◌, ℕ}
+use Rattle.m88_isa.proofs.ImageProgram.{program_of_image}
+use Rattle.m88_board.proofs.Ending.{memory_is}
 use Rattle.m88_board.proofs.Shown.{words_seen}
 use Rattle.m88_board.specs.contracts.board.Board.{the_view}
 use Rattle.m88_board.proofs.board.Board.word.Goals as goal
@@ -8,3 +10,10 @@ pub returns-clause-moment : goal.returns-clause-moment
 returns-clause-moment c = λ p named m at.
     c.word.ensures
     ∙ ap (λ (bus : ℕ → ℕ). bus c.args.addr) (words_seen p named m (the_view c.self.inside) (rw (← c.self.view_is) at at))
+
+pub returns-clause-drained : goal.returns-clause-drained
+returns-clause-drained c = λ p named m at drained.
+    let stands = rw (← c.self.view_is) at at in
+    let is = program_of_image c.self.inside.memory.image p c.self.invariant.image stands.image in
+    c.word.ensures
+    ∙ ap (λ (bus : ℕ → ℕ). bus c.args.addr) (memory_is p named m (the_view c.self.inside) is stands drained)

@@ -28,5 +28,5 @@ returns-clause-ok g c = λ d letters s stands.
 pub returns-clause-few : goal.returns-clause-few
 returns-clause-few g c =
     let bounded = c.drain.ensures.bounded in
-    let pending = c.pending.ensures in
+    let pending = c.pending.ensures.value in
     omega (arith, bounded, pending)

@@ -18,7 +18,7 @@ loop-made-init g c = record {
     each = each_none d s Go;
     apart = none_apart d s;
     weighs = weight_begins d c.args.schedule.now s c.args.self.now c.pending.result 100000 (c.len.result + 800000 + 2 * c.from-pending.result + 8)
-        stands c.pending.ensures c.requires.limit
+        stands c.pending.ensures.value c.requires.limit
         (let len = c.len.ensures.value in let from = c.from-pending.ensures in omega (arith, len, from));
   };
 }

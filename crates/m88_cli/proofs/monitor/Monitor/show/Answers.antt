@@ -4,7 +4,7 @@ use Rattle.std.proofs.Common.{ap}
 use Rattle.m88_board.proofs.Seeing.{saw_same}
 use Rattle.m88_board.specs.Glances.{glance_at, glance_of}
 use Rattle.m88_board.specs.declared.glance.Glance.{Glance}
-use Rattle.m88_cli.proofs.AtMoment.{glance_seen}
+use Rattle.m88_board.proofs.AtMoment.{glance_seen}
 use Rattle.m88_cli.proofs.monitor.Monitor.show.Goals as goal
 
 pub returns : goal.returns

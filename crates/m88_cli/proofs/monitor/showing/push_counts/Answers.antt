@@ -9,6 +9,6 @@ returns c =
     on_ok_weaker c.push_count_line.result (λ said p named m at.
     said
     ∙ ap (λ line. c.args.text.now.items ++ line)
-    (counts_seen p named m c.args.board.now c.events.result c.issued.result c.done.result c.pending.result at c.events.ensures
-    c.issued.ensures c.done.ensures c.pending.ensures))
+    (counts_seen p named m c.args.board.now c.events.result c.issued.result c.done.result c.pending.result at c.events.ensures.value
+    c.issued.ensures.value c.done.ensures.value c.pending.ensures.value))
     c.push_count_line.ensures

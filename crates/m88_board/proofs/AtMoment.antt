@@ -1,22 +1,18 @@
 -- What a board that stands at a moment shows of it.
-use Rattle.std.specs.Prelude.{ℕ, Bool, ◌≡◌, ◌≤◌, map}
+use Rattle.std.specs.Prelude.{ℕ, Bool, ◌≡◌, map}
 use Rattle.std.specs.List.{range_with_len}
-use Rattle.std.proofs.Common.{sym, ap, ap₂, ◌∙◌, subst}
+use Rattle.std.proofs.Common.{sym, ap, ap₂, ◌∙◌}
 use Rattle.m88_base.specs.declared.slot.Slot.{Slot}
-use Rattle.m88_event.proofs.Bound.{stays_in_limit}
-use Rattle.m88_event.proofs.Follows.{law}
 use Rattle.m88_event.specs.Local.{Local, local_at, register_seen, register_shown}
-use Rattle.m88_event.specs.Timeline.{DoneWereMade, Moment, after_letter, nip_at}
-use Rattle.m88_event.specs.declared.letter.Letter.{Letter}
-use Rattle.m88_isa.specs.History.{bus_at, completed_state, pending_at}
-use Rattle.m88_isa.specs.Machine.{IsProgram, Program}
-use Rattle.m88_mem.specs.DataBus.{bus_of}
+use Rattle.m88_event.specs.Timeline.{Moment, nip_at}
+use Rattle.m88_isa.specs.History.{completed_state}
+use Rattle.m88_isa.specs.Machine.{Program}
 use Rattle.m88_board.specs.Board.{BoardView, completed_of, local_of}
 use Rattle.m88_board.specs.Glances.{glance_at, glance_of}
 use Rattle.m88_board.specs.Moves.{IsAt}
 use Rattle.m88_board.specs.declared.glance.Glance.{Glance}
 
--- its counts, pending transactions and memory
+-- its counts, and the records
 pub events_at : (p : Program) (named : ℕ → Bool) (m : Moment) (b : BoardView) → IsAt p named m b → b.events ≡ m.events
 unfolding local_of local_at
 events_at p named m b at = ap (λ (l : Local). l.events) at.seen
@@ -29,19 +25,9 @@ pub done_at : (p : Program) (named : ℕ → Bool) (m : Moment) (b : BoardView) 
 unfolding local_of local_at
 done_at p named m b at = ap (λ (l : Local). l.done) at.seen
 
-pub pending_seen : (p : Program) (named : ℕ → Bool) (m : Moment) (b : BoardView) → IsAt p named m b →
-    b.pending ≡ pending_at p m.retired m.done
-unfolding local_of local_at
-pending_seen p named m b at = ap (λ (l : Local). l.pending) at.seen
-
 pub records_at : (p : Program) (named : ℕ → Bool) (m : Moment) (b : BoardView) → IsAt p named m b → b.records ≡ m.records
 unfolding local_of local_at
 records_at p named m b at = ap (λ (l : Local). l.records) at.seen
-
-pub bus_seen : (p : Program) (named : ℕ → Bool) (m : Moment) (b : BoardView) → IsAt p named m b →
-    bus_of b.memory ≡ bus_at p m.retired m.done
-unfolding local_of local_at
-bus_seen p named m b at = ap (λ (l : Local). l.bus) at.seen
 
 -- its registers
 pub registers_seen : (p : Program) (named : ℕ → Bool) (m : Moment) (b : BoardView) → IsAt p named m b →
@@ -62,12 +48,3 @@ pub glance_seen : (p : Program) (named : ℕ → Bool) (m : Moment) (b : BoardVi
 unfolding local_of local_at glance_by
 glance_seen p named m b slot at e pointer =
     ap₂ glance_by at.seen (sym e ∙ pointer)
-
--- no letter retires more than the limit
-pub retired_within : (p : Program) (named : ℕ → Bool) (limit : ℕ) (letter : Letter) (m : Moment) → IsProgram p → DoneWereMade p m →
-    m.retired ≤ limit →
-    (after_letter p named limit letter m).retired ≤ limit
-unfolding local_at
-retired_within p named limit letter m is made within =
-    subst (λ (l : Local). l.retired ≤ limit) (law p named limit letter m is made)
-    (stays_in_limit p limit letter (local_at p named m) is within)

@@ -1,0 +1,26 @@
+-- The control registers that an event leaves.
+use Rattle.std.specs.Prelude.{◌≡◌, ◌+◌}
+use Rattle.std.proofs.Common.{subst, sym}
+use Rattle.m88_event.specs.declared.happened.Happened.{Happened}
+use Rattle.m88_event.specs.declared.happened.Happened.TheVariants.{Issued, Bubble, Stalled, Answered, Faulted, Idle, Served, Ended}
+use Rattle.m88_board.specs.Board.{BoardView}
+use Rattle.m88_board.specs.Shown.{Leaves}
+
+-- the count of events is no register
+same_left : (old : BoardView) (h : Happened) (new : BoardView) → Leaves h old new →
+    Leaves h old (record new { events = new.events + 1 })
+same_left old Issued new left = left
+same_left old Bubble new left = left
+same_left old (Stalled why) new left = left
+same_left old Answered new left = left
+same_left old (Faulted fault) new left = left
+same_left old Idle new left = left
+same_left old (Served byte) new left = left
+same_left old (Ended end) new left = left
+
+pub leaves_counted : (old : BoardView) (h : Happened) (middle new : BoardView) →
+    new ≡ record middle { events = middle.events + 1 } →
+    Leaves h old middle →
+    Leaves h old new
+leaves_counted old h middle new is left =
+    subst (λ (b : BoardView). Leaves h old b) (sym is) (same_left old h middle left)

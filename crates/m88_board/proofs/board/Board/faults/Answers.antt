@@ -1,0 +1,11 @@
+-- The records of a moment.
+use Rattle.std.proofs.Common.{◌∙◌, ap, length, rules}
+use Rattle.m88_board.proofs.AtMoment.{records_at}
+use Rattle.m88_board.proofs.board.Board.faults.Goals as goal
+
+pub returns-clause-value : goal.returns-clause-value
+returns-clause-value c = search rules
+
+pub returns-clause-moment : goal.returns-clause-moment
+returns-clause-moment c = λ p named m at.
+    returns-clause-value c ∙ ap length (records_at p named m c.args.self.now at)

@@ -1,0 +1,7 @@
+-- The instructions retired of a moment.
+use Rattle.m88_board.proofs.AtMoment.{retired_at}
+use Rattle.m88_board.specs.contracts.board.Board.{the_view}
+use Rattle.m88_board.proofs.board.Board.issued.Goals as goal
+
+pub returns-clause-moment : goal.returns-clause-moment
+returns-clause-moment c = λ p named m at. retired_at p named m (the_view c.self.inside) (rw (← c.self.view_is) at at)
