@@ -3,7 +3,14 @@ pub mod Choosing
 pub mod Steps
 pub mod Stopping
 pub mod Records
-pub mod Keeping
+pub mod Waiting
+pub mod Carry
+pub mod Going
+pub mod Issued
+pub mod Unmoved
+pub mod Faulted
+pub mod Finished
+pub mod PutOut
 pub mod Service
 pub mod Moving
 pub mod Searching

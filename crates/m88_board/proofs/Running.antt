@@ -14,7 +14,7 @@ use Rattle.m88_isa.proofs.Alone.{by_test}
 use Rattle.m88_isa.specs.Held.{is_pending}
 use Rattle.m88_isa.specs.Machine.{IsProgram, Program}
 use Rattle.m88_isa.specs.declared.planned.Access.{Access}
-use Rattle.m88_board.proofs.Keeping.{unmoved_seen}
+use Rattle.m88_board.proofs.Unmoved.{unmoved_seen}
 use Rattle.m88_board.proofs.Seeing.{saw_none, saw_then}
 use Rattle.m88_board.specs.Board.{BoardView, local_of}
 use Rattle.m88_board.specs.Glances.{Saw, glance_at, glances_along}

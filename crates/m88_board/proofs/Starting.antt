@@ -19,7 +19,7 @@ use Rattle.m88_isa.specs.Memory.{IsWordAccess}
 use Rattle.m88_iunit.specs.Pointers.{Pointers, at_entry, word_behind}
 use Rattle.m88_mem.specs.DataBus.{MemoryView, absent_of, bus_of, image_bus, image_bytes, ready_of}
 use Rattle.m88_scoreboard.specs.Registers.{Registers, none_waits, waiting_of}
-use Rattle.m88_board.proofs.Keeping.{none_wait_for_none}
+use Rattle.m88_board.proofs.Waiting.{none_wait_for_none}
 use Rattle.m88_board.specs.Board.{BoardView, completed_of, local_of}
 use Rattle.m88_isa.specs.ImageProgram.{IsProgramOf}
 use Rattle.m88_board.specs.Kept.{HasReadyPage, IsKept, lacks_word, most_retired}

@@ -1,7 +1,7 @@
 -- The record stays, and the pending transactions are finished.
 use Rattle.std.proofs.Common.{◌+◌, ◌∙◌, ap, ap₂, rules}
 use Rattle.m88_iunit.specs.Pointers.{resumed}
-use Rattle.m88_board.proofs.Keeping.{does_fault, kept_faulted}
+use Rattle.m88_board.proofs.Faulted.{does_fault, kept_faulted}
 use Rattle.m88_board.specs.contracts.board.Board.{the_view}
 use Rattle.m88_board.proofs.board.Board.fault.Goals as goal
 

@@ -2,7 +2,8 @@
 use Rattle.std.proofs.Common.{ap}
 use Rattle.m88_ctrl.specs.ControlRegisters.{ControlRegisters}
 use Rattle.m88_event.specs.declared.happened.Happened.TheVariants as happened
-use Rattle.m88_board.proofs.Keeping.{carry_entered, kept_finished}
+use Rattle.m88_board.proofs.Carry.{carry_entered}
+use Rattle.m88_board.proofs.Finished.{kept_finished}
 use Rattle.m88_board.proofs.Steps.{finished}
 use Rattle.m88_board.specs.contracts.board.Board.{the_view}
 use Rattle.m88_board.proofs.board.Board.finish.Goals as goal

@@ -2,7 +2,8 @@
 use Rattle.std.proofs.Common.{◌∙◌, ap, rules}
 use Rattle.std.proofs.lemmas.Result.{err_from_is_err_and}
 use Rattle.m88_base.specs.declared.slot.Slot.{Slot}
-use Rattle.m88_board.proofs.Keeping.{issued_by, kept_issued, unmoved}
+use Rattle.m88_board.proofs.Issued.{issued_by, kept_issued}
+use Rattle.m88_board.proofs.Unmoved.{unmoved}
 use Rattle.m88_board.specs.contracts.board.Board.{the_view}
 use Rattle.m88_board.proofs.board.Board.go.Goals as goal
 

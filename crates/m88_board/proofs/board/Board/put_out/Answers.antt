@@ -1,7 +1,7 @@
 -- A byte is put out.
 use Rattle.std.proofs.Common.{ap, rules}
 use Rattle.m88_ctrl.specs.ControlRegisters.{ControlRegisters}
-use Rattle.m88_board.proofs.Keeping.{said_and_done}
+use Rattle.m88_board.proofs.PutOut.{said_and_done}
 use Rattle.m88_board.specs.contracts.board.Board.{the_view}
 use Rattle.m88_board.proofs.board.Board.put_out.Goals as goal
 
