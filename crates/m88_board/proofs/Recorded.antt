@@ -23,7 +23,7 @@ use Rattle.m88_isa.specs.declared.planned.Access.{Access}
 use Rattle.m88_monitor.proofs.Steps.{same_triple}
 use Rattle.m88_monitor.specs.Serving.{Serving, after_service, with_finished, with_loaded, without_bit}
 use Rattle.m88_board.proofs.Service.{steps_of, three_steps}
-use Rattle.m88_board.specs.Shown.{IsRecordOf, ShowsFault}
+use Rattle.m88_board.specs.Shown.{IsRecordOf, ShowsFault, rest_of}
 
 -- a set without one register, bit by bit: below the register nothing changes, above it its weight is gone
 lower_bits : (set : ℕ → Bool) (n count : ℕ) → count ≤ n →
@@ -123,21 +123,22 @@ record Serves (a : Access) (old new : ControlRegisters) : Type 0 where
   snip : new.snip ≡ old.snip
   sfip : new.sfip ≡ old.sfip
   ssbr : new.ssbr ≡ (with_loaded a old).ssbr
+  rest : rest_of new ≡ rest_of old
 
 serves_0 : (a : Access) (c : ControlRegisters) → Serves a c (with_finished 0 (with_loaded a c))
 serves_0 a c = by_test a.write
-    (λ w. rw w (record { psr = refl; epsr = refl; sxip = refl; snip = refl; sfip = refl; ssbr = refl }))
-    (λ r. rw r (record { psr = refl; epsr = refl; sxip = refl; snip = refl; sfip = refl; ssbr = refl }))
+    (λ w. rw w (record { psr = refl; epsr = refl; sxip = refl; snip = refl; sfip = refl; ssbr = refl; rest = refl }))
+    (λ r. rw r (record { psr = refl; epsr = refl; sxip = refl; snip = refl; sfip = refl; ssbr = refl; rest = refl }))
 
 serves_1 : (a : Access) (c : ControlRegisters) → Serves a c (with_finished 1 (with_loaded a c))
 serves_1 a c = by_test a.write
-    (λ w. rw w (record { psr = refl; epsr = refl; sxip = refl; snip = refl; sfip = refl; ssbr = refl }))
-    (λ r. rw r (record { psr = refl; epsr = refl; sxip = refl; snip = refl; sfip = refl; ssbr = refl }))
+    (λ w. rw w (record { psr = refl; epsr = refl; sxip = refl; snip = refl; sfip = refl; ssbr = refl; rest = refl }))
+    (λ r. rw r (record { psr = refl; epsr = refl; sxip = refl; snip = refl; sfip = refl; ssbr = refl; rest = refl }))
 
 serves_2 : (a : Access) (c : ControlRegisters) → Serves a c (with_finished 2 (with_loaded a c))
 serves_2 a c = by_test a.write
-    (λ w. rw w (record { psr = refl; epsr = refl; sxip = refl; snip = refl; sfip = refl; ssbr = refl }))
-    (λ r. rw r (record { psr = refl; epsr = refl; sxip = refl; snip = refl; sfip = refl; ssbr = refl }))
+    (λ w. rw w (record { psr = refl; epsr = refl; sxip = refl; snip = refl; sfip = refl; ssbr = refl; rest = refl }))
+    (λ r. rw r (record { psr = refl; epsr = refl; sxip = refl; snip = refl; sfip = refl; ssbr = refl; rest = refl }))
 
 -- SSBR goes on as the pending transactions do
 ssbr_on : (a : Access) (xs : List Access) (c : ControlRegisters) → LoadApart (a ∷ xs) →
@@ -253,6 +254,29 @@ pub served_control : (xs : List Access) (s : Serving) →
 served_control xs s e0 e1 e2 made few apart waits =
     subst (λ (u : Serving). IsServed s.control u.control) (sym (three_steps xs s e0 e1 e2 made))
     (steps_served xs s e0 e1 e2 few apart waits)
+
+-- no other register changes
+rest_stays : (xs : List Access) (s : Serving) → length xs ≤ 3 → rest_of (steps_of xs s).control ≡ rest_of s.control
+unfolding steps_of
+rest_stays [] s few = refl
+rest_stays (a ∷ []) s few = (serves_0 a s.control).rest
+rest_stays (a ∷ b ∷ []) s few =
+    let c1 = with_finished 0 (with_loaded a s.control) in (serves_1 b c1).rest ∙ (serves_0 a s.control).rest
+rest_stays (a ∷ b ∷ c ∷ []) s few =
+    let c1 = with_finished 0 (with_loaded a s.control) in
+    let c2 = with_finished 1 (with_loaded b c1) in
+    (serves_2 c c2).rest ∙ (serves_1 b c1).rest ∙ (serves_0 a s.control).rest
+rest_stays (a ∷ b ∷ c ∷ d ∷ xs) s few = absurd (omega (arith, few))
+
+pub rest_served : (xs : List Access) (s : Serving) →
+    s.control.t0 ≡ triple_or_none (slice_get xs 0) →
+    s.control.t1 ≡ triple_or_none (slice_get xs 1) →
+    s.control.t2 ≡ triple_or_none (slice_get xs 2) →
+    All IsWordAccess xs →
+    length xs ≤ 3 →
+    rest_of (after_service s).control ≡ rest_of s.control
+rest_served xs s e0 e1 e2 made few =
+    subst (λ (u : Serving). rest_of u.control ≡ rest_of s.control) (sym (three_steps xs s e0 e1 e2 made)) (rest_stays xs s few)
 
 -- and so they show the record
 pub shows_fault : (fault : Record) (pending : List Access) (old entered served new : ControlRegisters) →

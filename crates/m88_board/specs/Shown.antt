@@ -59,6 +59,10 @@ pub record ShowsFault (fault : Record) (control : ControlRegisters) : Type 0 whe
   pub ssbr : control.ssbr ≡ 0
   pub triples : triples_by_age control ≡ map finished fault.triples
 
+-- the registers that no exception fills
+abbrev pub rest_of : ControlRegisters → List ℕ
+rest_of c = c.pid ∷ c.vbr ∷ c.sr0 ∷ c.sr1 ∷ c.sr2 ∷ c.sr3 ∷ []
+
 -- the status: PSR is a user's with the carry of the history; from the program's end on EPSR is, and PSR has that carry
 pub record IsStatus (p : Program) (m : Moment) (control : ControlRegisters) : Type 0 where
   pub status : (if m.ended then control.epsr else control.psr) ≡ status_of (state p m.retired).carry
@@ -74,11 +78,13 @@ pointer_frame slots = record {
   triples = no_triple ∷ no_triple ∷ no_triple ∷ [];
 }
 
--- the control registers after an event, by what it says. A data fault leaves its record. The end of a program leaves
+-- the control registers after an event, by what it says. A data fault leaves its record and no other register changes.
+-- The end of a program leaves
 -- its exception entered, and an output trap, which is retired first, the monitor's entered and returned from. Any other
 -- event changes no register but PSR.
 abbrev pub Leaves : Happened → BoardView → BoardView → Type 0
-Leaves (happened.Faulted fault) old new = ShowsFault fault new.control
+Leaves (happened.Faulted fault) old new =
+    ShowsFault fault new.control × (rest_of new.control ≡ rest_of old.control)
 Leaves (happened.Ended end) old new = new.control ≡ entered (pointer_frame old.slots) old.control
 Leaves (happened.Served byte) old new = new.control ≡ returned (entered (pointer_frame new.slots) old.control)
 Leaves _ old new = new.control ≡ record old.control { psr = new.control.psr }

@@ -24,7 +24,7 @@ ghost use Rattle.m88_dunit.specs.Pending.{CanIssue};
 ghost use Rattle.m88_iunit.specs.Pointers.{resumed};
 ghost use Rattle.m88_board.specs.Kept.{IsProgramEnd, epsr_of, most_events, most_retired};
 ghost use Rattle.m88_board.specs.Moves.{Did, Does, IsAt, IsSameRun, IsStill, IsUnmoved, stopping};
-ghost use Rattle.m88_board.specs.Shown.{IsRecordOf, Leaves, ShowsFault};
+ghost use Rattle.m88_board.specs.Shown.{IsRecordOf, Leaves, ShowsFault, rest_of};
 ghost use Rattle.m88_board.specs.Turns.{ComesToEnd, IssueComesTo, StoreOnOnePage};
 
 use crate::accesses::{complete, prepare, put_in, write};
@@ -221,7 +221,8 @@ impl Board {
         ensures record { IfOk result (λ fault. (p : Program) → IsProgramOf self.old.memory.image p
             → fault ≡ record_by p self.old.limit (local_of self.old)) }
         ensures does { IfOk result (λ fault. Does faults fault self.old self.new) }
-        ensures shows { IfOk result (λ fault. ShowsFault fault self.new.control) }
+        ensures leaves { IfOk result (λ fault. ShowsFault fault self.new.control
+            × (rest_of self.new.control ≡ rest_of self.old.control)) }
         ensures events { self.new.events ≡ self.old.events }
         ensures err { OnErr result (IsUnmoved self.old self.new) }
     {

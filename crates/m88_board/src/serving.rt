@@ -9,7 +9,7 @@ ghost use Rattle.m88_mem.specs.DataBus.{absent_of};
 ghost use Rattle.m88_scoreboard.specs.Registers.{none_waits, waiting_of};
 ghost use Rattle.m88_board.specs.Board.{cells_of};
 ghost use Rattle.m88_board.specs.Kept.{PartsAgree};
-ghost use Rattle.m88_board.specs.Shown.{IsRecordOf, ShowsFault, pointer_frame};
+ghost use Rattle.m88_board.specs.Shown.{IsRecordOf, ShowsFault, pointer_frame, rest_of};
 
 use m88_base::NO_TRIPLE;
 use m88_ctrl::{Control, Frame, Restart};
@@ -63,6 +63,7 @@ pub(crate) fn serve_all(
     ensures snip { result.1.snip ≡ fault.snip }
     ensures sfip { result.1.sfip ≡ fault.sfip }
     ensures shows { IsRecordOf fault unit.old ctrl.old → ShowsFault fault ctrl.new }
+    ensures rest { rest_of ctrl.new ≡ rest_of ctrl.old }
 {
     let triples = unit.freeze();
     let frame = Frame {

@@ -9,8 +9,9 @@ use Rattle.m88_isa.specs.Bus.{after_accesses}
 use Rattle.m88_mem.specs.DataBus.{bus_of, ready_of}
 use Rattle.m88_monitor.specs.Serving.{Serving, serving_of}
 use Rattle.m88_board.proofs.Waiting.{no_members}
-use Rattle.m88_board.proofs.Recorded.{IsServed, served_control, shows_fault}
+use Rattle.m88_board.proofs.Recorded.{IsServed, rest_served, served_control, shows_fault}
 use Rattle.m88_board.proofs.Service.{can_serve, served_absent, served_cells}
+use Rattle.m88_board.specs.Shown.{rest_of}
 use Rattle.m88_board.proofs.serving.serve_all.Goals as goal
 
 pub serve-served-requires-clause-second : goal.serve-served-requires-clause-second
@@ -63,3 +64,14 @@ returns-clause-shows c = λ of.
     t0 t1 t2
     (subst (λ (s : Serving). IsServed c.enter.new.self s.control) (sym c.serve-served.ensures.served) served)
     c.rte-restart.ensures.state
+
+pub returns-clause-rest : goal.returns-clause-rest
+returns-clause-rest c =
+    ap rest_of c.rte-restart.ensures.state
+    ∙ ap (λ (s : Serving). rest_of s.control) c.serve-served.ensures.served
+    ∙ rest_served c.args.unit.now (serving_of c.enter.new.self c.restore.new.self c.args.memory.now)
+    (ap (λ (r : ControlRegisters). r.t0) c.enter.ensures.state ∙ ap (λ (ts : List Triple). slice_index_or ts 0 no_triple) c.freeze-triples.ensures.value)
+    (ap (λ (r : ControlRegisters). r.t1) c.enter.ensures.state ∙ ap (λ (ts : List Triple). slice_index_or ts 1 no_triple) c.freeze-triples.ensures.value)
+    (ap (λ (r : ControlRegisters). r.t2) c.enter.ensures.state ∙ ap (λ (ts : List Triple). slice_index_or ts 2 no_triple) c.freeze-triples.ensures.value)
+    c.requires.agree.made c.requires.agree.few
+    ∙ ap rest_of c.enter.ensures.state
