@@ -14,7 +14,7 @@ use Rattle.m88_isa.specs.declared.planned.Access.{Access}
 use Rattle.m88_iunit.specs.Pointers.{Pointers}
 use Rattle.m88_mem.specs.DataBus.{MemoryView, absent_of, ready_of}
 use Rattle.m88_scoreboard.specs.Registers.{Registers, none_waits, waiting_of}
-use Rattle.m88_board.proofs.Steps.{faulted, put_out}
+use Rattle.m88_board.proofs.Steps.{faulted}
 use Rattle.m88_board.proofs.Stopping.{no_end}
 use Rattle.m88_board.specs.Board.{BoardView, cells_of}
 use Rattle.m88_board.specs.Kept.{AreReady, HasReadyPage, IsBehind, IsKept, SlotsAgree}

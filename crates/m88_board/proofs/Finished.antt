@@ -4,7 +4,6 @@ use Rattle.std.proofs.Common.{arith, sym, ap, ◌∙◌}
 use Rattle.m88_ctrl.specs.ControlRegisters.{ControlRegisters, exception_bits}
 use Rattle.m88_event.specs.Shadow.{status_of}
 use Rattle.m88_event.specs.declared.happened.End.{End}
-use Rattle.m88_board.proofs.Steps.{put_out}
 use Rattle.m88_board.proofs.Stopping.{ends_now}
 use Rattle.m88_board.specs.Board.{BoardView, is_idle_board}
 use Rattle.m88_board.specs.Kept.{IsKept, IsProgramEnd}

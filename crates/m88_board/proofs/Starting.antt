@@ -5,6 +5,7 @@ use Rattle.std.proofs.Math.Path.{fun_ext}
 use Rattle.std.proofs.lemmas.List.Elements.{All-nil}
 use Rattle.m88_base.specs.Image.{IsImage, ProgramImage}
 use Rattle.m88_base.specs.Slot.{no_slot}
+use Rattle.m88_base.specs.declared.absent.Absent.{Absent}
 use Rattle.m88_ctrl.specs.ControlRegisters.{ControlRegisters, at_start}
 use Rattle.m88_event.proofs.Past.{opens_with}
 use Rattle.m88_event.specs.Local.{Local, local_at}
@@ -26,9 +27,10 @@ use Rattle.m88_board.specs.Kept.{HasReadyPage, IsKept, lacks_word, most_retired}
 use Rattle.m88_board.specs.Moves.{IsAt}
 
 -- such a board by its parts
-abbrev pub starting : ℕ → Pointers → Registers → MemoryView → BoardView
-starting limit slots file memory = record {
+abbrev pub starting : ℕ → Absent → Pointers → Registers → MemoryView → BoardView
+starting limit named slots file memory = record {
   limit = limit;
+  named = named;
   slots = slots;
   pending = [];
   file = file;
@@ -44,16 +46,18 @@ starting limit slots file memory = record {
 }
 
 -- what holds of it holds of any board whose parts are these
-pub made : (P : BoardView → Type 0) (limit : ℕ) (slots seen : Pointers) (pending : List Access) (file : Registers)
+pub made : (P : BoardView → Type 0) (limit : ℕ) (chosen named : Absent) (slots seen : Pointers) (pending : List Access) (file : Registers)
     (memory : MemoryView) (control : ControlRegisters) (out : List ℕ) (records : List Record) →
+    chosen ≡ named →
     slots ≡ seen →
     pending ≡ [] →
     control ≡ at_start →
     out ≡ [] →
     records ≡ [] →
-    P (starting limit seen file memory) →
+    P (starting limit named seen file memory) →
     P (record {
       limit = limit;
+      named = chosen;
       slots = slots;
       pending = pending;
       file = file;
@@ -67,16 +71,16 @@ pub made : (P : BoardView → Type 0) (limit : ℕ) (slots seen : Pointers) (pen
       ended = None;
       records = records;
     })
-made P limit slots seen pending file memory control out records s p c o r known = rw (s, p, c, o, r) known
+made P limit chosen named slots seen pending file memory control out records n s p c o r known = rw (n, s, p, c, o, r) known
 
 -- what always holds
-pub kept : (limit entry : ℕ) (e0 e1 : Bool) (file : Registers) (memory : MemoryView) → limit ≤ most_retired →
+pub kept : (limit : ℕ) (named : Absent) (entry : ℕ) (e0 e1 : Bool) (file : Registers) (memory : MemoryView) → limit ≤ most_retired →
     IsImage memory.image →
     waiting_of file ≡ none_waits →
     e0 ≡ lacks_word memory.image entry →
     e1 ≡ lacks_word memory.image (word_behind entry) →
-    IsKept (starting limit (at_entry entry e0 e1) file memory)
-kept limit entry e0 e1 file memory small image none first second = record {
+    IsKept (starting limit named (at_entry entry e0 e1) file memory)
+kept limit named entry e0 e1 file memory small image none first second = record {
   parts = record {
     few = omega arith;
     made = All-nil IsWordAccess;
@@ -129,11 +133,11 @@ pub same_bytes : (p : Program) (image : ProgramImage) → IsProgramOf image p �
 unfolding image_bytes
 same_bytes p image of = ap in_words (fun_ext (λ a. ap (λ (byte : ℕ → Option ℕ). unwrap_or (byte a) 0) (sym of.bytes)))
 
-board_seen : (limit entry : ℕ) (e0 e1 : Bool) (file : Registers) (memory : MemoryView) →
-    local_of (starting limit (at_entry entry e0 e1) file memory)
+board_seen : (limit : ℕ) (chosen : Absent) (entry : ℕ) (e0 e1 : Bool) (file : Registers) (memory : MemoryView) →
+    local_of (starting limit chosen (at_entry entry e0 e1) file memory)
     ≡ seen_at file.numbers (bus_of memory) (absent_of memory) entry
 unfolding local_of completed_of after_accesses bus_of
-board_seen limit entry e0 e1 file memory = refl
+board_seen limit chosen entry e0 e1 file memory = refl
 
 moment_seen : (p : Program) (named : ℕ → Bool) →
     local_at p named opening_moment
@@ -143,19 +147,19 @@ unfolding local_at completed_state state opening transactions xip_at bus_after_a
 moment_seen p named = refl
 
 -- it stands at the first moment
-pub opens : (p : Program) (named : ℕ → Bool) (limit entry : ℕ) (e0 e1 : Bool) (file : Registers) (memory : MemoryView) →
+pub opens : (p : Program) (named : ℕ → Bool) (limit : ℕ) (chosen : Absent) (entry : ℕ) (e0 e1 : Bool) (file : Registers) (memory : MemoryView) →
     file.numbers ≡ replicate 32 0 →
     bus_of memory ≡ image_bus memory.image →
     absent_of memory ≡ named →
     entry ≡ word_address memory.image.start →
     IsProgramOf memory.image p →
-    IsAt p named opening_moment (starting limit (at_entry entry e0 e1) file memory)
+    IsAt p named opening_moment (starting limit chosen (at_entry entry e0 e1) file memory)
 unfolding transactions
-opens p named limit entry e0 e1 file memory numbers bus absent start of = record {
+opens p named limit chosen entry e0 e1 file memory numbers bus absent start of = record {
   image = of;
   within = omega arith;
   past = opens_with p limit;
-  seen = board_seen limit entry e0 e1 file memory
+  seen = board_seen limit chosen entry e0 e1 file memory
       ∙ ap (λ ns. seen_at ns (bus_of memory) (absent_of memory) entry) numbers
       ∙ ap (λ b. seen_at (replicate 32 0) b (absent_of memory) entry) (bus ∙ same_bytes p memory.image of)
       ∙ ap (λ t. seen_at (replicate 32 0) (in_words (λ a. unwrap_or (p.byte a) 0)) t entry)

@@ -59,7 +59,7 @@ passed fault b slots e bubble valid is = record {
     answers = b.answers;
     records = b.records;
   };
-  same = record { limit = refl; image = refl };
+  same = record { limit = refl; named = refl; image = refl };
 }
 
 -- the oldest transaction is answered
@@ -99,7 +99,7 @@ replied fault b pending file memory left cells bus absent image = record {
     answers = b.answers + 1;
     records = b.records;
   };
-  same = record { limit = refl; image = image };
+  same = record { limit = refl; named = refl; image = image };
 }
 
 -- the pending transactions are finished by the monitor, and the record stays
@@ -144,7 +144,7 @@ faulted fault b file memory control slots done cells bus absent image carry same
     answers = b.answers;
     records = b.records ++ fault ∷ [];
   };
-  same = record { limit = refl; image = image };
+  same = record { limit = refl; named = refl; image = image };
 }
 
 -- the program ends
@@ -175,7 +175,7 @@ finished fault stop b control end by carry = record {
     answers = b.answers;
     records = b.records;
   };
-  same = record { limit = refl; image = refl };
+  same = record { limit = refl; named = refl; image = refl };
 }
 
 -- a byte is put out
@@ -211,7 +211,7 @@ put_out fault byte b slots control on carry = record {
     answers = b.answers;
     records = b.records;
   };
-  same = record { limit = refl; image = refl };
+  same = record { limit = refl; named = refl; image = refl };
 }
 
 -- an instruction is issued: what it writes at once is written, and its accesses are pending
@@ -258,5 +258,5 @@ issued fault change b slots pending file memory control on joined cells bus abse
         answers = b.answers;
         records = b.records;
       };
-      same = record { limit = refl; image = image };
+      same = record { limit = refl; named = refl; image = image };
     }

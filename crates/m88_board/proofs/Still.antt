@@ -47,7 +47,11 @@ same_if choice (Err e) old new did = tt
 
 -- one run after the other, and where memory runs out
 pub same_then : (a b c : BoardView) → IsSameRun a b → IsSameRun b c → IsSameRun a c
-same_then a b c first second = record { limit = second.limit ∙ first.limit; image = second.image ∙ first.image }
+same_then a b c first second = record { limit = second.limit ∙ first.limit; named = second.named ∙ first.named; image = second.image ∙ first.image }
 
 pub unmoved_same : (old new : BoardView) → IsUnmoved old new → IsSameRun old new
-unmoved_same old new still = record { limit = ap (λ (b : BoardView). b.limit) still.rest; image = still.image }
+unmoved_same old new still = record {
+  limit = ap (λ (b : BoardView). b.limit) still.rest;
+  named = ap (λ (b : BoardView). b.named) still.rest;
+  image = still.image;
+}

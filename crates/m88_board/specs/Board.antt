@@ -1,7 +1,7 @@
 -- A board as contracts see it, and what it looks like from outside: the state that its pending transactions lead to is
 -- computed from them.
 use Rattle.std.specs.Prelude.{ℕ, Bool, not, List, Option, ◌==◌, ◌||◌, is_some, if◌then◌else◌}
-use Rattle.m88_base.specs.declared.slot.Slot.{Slot}
+use Rattle.m88_base.specs.declared.absent.Absent.{Absent}
 use Rattle.m88_ctrl.specs.ControlRegisters.{ControlRegisters, carry_of}
 use Rattle.m88_event.specs.Local.{Local}
 use Rattle.m88_event.specs.declared.happened.End.{End}
@@ -14,11 +14,12 @@ use Rattle.m88_iunit.specs.Pointers.{Pointers}
 use Rattle.m88_mem.specs.DataBus.{MemoryView, absent_of, bus_of}
 use Rattle.m88_scoreboard.specs.Registers.{Registers}
 
--- the most instructions that it may retire, its parts, the output, the counts of instructions retired, transactions
--- answered or finished, events, and transactions answered with data, how the program ended, if it has, and the records
--- of the data faults
+-- the most instructions that it may retire, the pages that were absent at first, its parts, the output, the counts of
+-- instructions retired, transactions answered or finished, events, and transactions answered with data, how the program
+-- ended, if it has, and the records of the data faults
 pub record BoardView : Type 0 where
   pub limit : ℕ
+  pub named : Absent
   pub slots : Pointers
   pub pending : List Access
   pub file : Registers

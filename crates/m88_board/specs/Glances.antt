@@ -1,6 +1,5 @@
 -- What a watch is shown of a board, and of the moments of a timeline.
 use Rattle.std.specs.Prelude.{ℕ, zero, suc, Bool, false, List, [], ◌∷◌, ◌++◌, Option, Some, None, ◌≡◌, length, nat_lt, if◌then◌else◌}
-use Rattle.m88_base.specs.declared.slot.Slot.{Slot}
 use Rattle.m88_event.specs.Timeline.{Moment, nip_at}
 use Rattle.m88_isa.specs.Machine.{Program}
 use Rattle.m88_board.specs.Board.{BoardView}

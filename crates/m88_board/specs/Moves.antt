@@ -26,9 +26,10 @@ pub record IsAdvanced (old new : Pointers) (pc next : ℕ) (bubble : Bool) : Typ
   pub behind : next_of new ≡ next
   pub bubble_is : not new.nip.v ≡ bubble
 
--- the same image and the same limit
+-- the same limit, the same choice of absent pages and the same image
 pub record IsSameRun (old new : BoardView) : Type 0 where
   pub limit : new.limit ≡ old.limit
+  pub named : new.named ≡ old.named
   pub image : new.memory.image ≡ old.memory.image
 
 -- a board did what a choice makes of it, but for the count of events

@@ -78,15 +78,15 @@ pointer_frame slots = record {
   triples = no_triple ∷ no_triple ∷ no_triple ∷ [];
 }
 
--- the control registers after an event, by what it says. A data fault leaves its record and no other register changes.
--- The end of a program leaves
--- its exception entered, and an output trap, which is retired first, the monitor's entered and returned from. Any other
--- event changes no register but PSR.
+-- the control registers after an event, by what it says. A data fault leaves its record, and no other register changes.
+-- The end of a program leaves its exception entered, and an output trap, which is retired first, the monitor's entered
+-- and returned from. Any other event changes no register but PSR.
 abbrev pub Leaves : Happened → BoardView → BoardView → Type 0
 Leaves (happened.Faulted fault) old new =
     ShowsFault fault new.control × (rest_of new.control ≡ rest_of old.control)
 Leaves (happened.Ended end) old new = new.control ≡ entered (pointer_frame old.slots) old.control
-Leaves (happened.Served byte) old new = new.control ≡ returned (entered (pointer_frame new.slots) old.control)
+Leaves (happened.Served byte) old new =
+    new.control ≡ returned (entered (pointer_frame new.slots) old.control)
 Leaves _ old new = new.control ≡ record old.control { psr = new.control.psr }
 
 -- nothing is pending at a moment, and all shows the state of the history: the instructions retired, the marks, the

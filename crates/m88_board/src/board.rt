@@ -51,6 +51,7 @@ mod run;
 #[derive(Debug, Drop)]
 pub struct Board {
     limit: u32,
+    absent: Absent,
     iunit: InstrUnit,
     dunit: DataUnit,
     regs: RegFile,
@@ -73,6 +74,7 @@ impl Model for Board {
 
     ghost view = { λ b. record {
       limit = b.limit;
+      named = b.absent;
       slots = b.iunit;
       pending = b.dunit;
       file = b.regs;
@@ -89,6 +91,7 @@ impl Model for Board {
 
     ghost invariant = { λ b. IsKept (record {
       limit = b.limit;
+      named = b.absent;
       slots = b.iunit;
       pending = b.dunit;
       file = b.regs;
@@ -111,6 +114,7 @@ impl Board {
         requires pages { NamesPages absent.now }
         requires small { limit ≤ most_retired }
         ensures limit { IfOk result (λ b. b.limit ≡ limit) }
+        ensures named { IfOk result (λ b. b.named ≡ absent.now) }
         ensures image { IfOk result (λ b. b.memory.image ≡ image.now) }
         ensures events { IfOk result (λ b. b.events ≡ 0) }
         ensures is_image { IsImage image.now }
@@ -126,6 +130,7 @@ impl Board {
         let e1 = lacks_word(&memory, entry.wrapping_add(4));
         Ok(Board {
             limit,
+            absent: absent.copy(),
             iunit: InstrUnit::new(entry, e0, e1),
             dunit: DataUnit::new(),
             regs: RegFile::new(),

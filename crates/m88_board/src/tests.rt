@@ -127,6 +127,12 @@ fn four_loads_that_are_drained(rt: HostRuntime) -> Result<(), ImageFault> {
     assert_eq!(rt; board.faults(), 0);
     assert_eq!(rt; board.pending(), 0);
     assert_eq!(rt; board.word(0x1000), 0x1440_5000);
+    let Ok(outcome) = board.outcome() else {
+        return Err(ImageFault::Memory);
+    };
+    assert_eq!(rt; outcome.retired, 4);
+    assert_eq!(rt; outcome.events, 9);
+    assert_eq!(rt; outcome.answers, 4);
     Ok(())
 }
 

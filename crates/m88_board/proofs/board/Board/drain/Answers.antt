@@ -16,7 +16,7 @@ pub loop-self-init : goal.loop-self-init
 loop-self-init g c = record {
   counted = omega arith;
   bounded = omega arith;
-  same = record { limit = refl; image = refl };
+  same = record { limit = refl; named = refl; image = refl };
   drains = λ p named m is at. (0, drains_start p named m c.args.self.now (g.W.Watch.seen c.args.watch.now) at);
 }
 

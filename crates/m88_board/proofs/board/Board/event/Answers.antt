@@ -44,6 +44,7 @@ returns-clause-leaves c =
 pub returns-clause-same : goal.returns-clause-same
 returns-clause-same c = record {
   limit = ap (λ (b : BoardView). b.limit) c.count.ensures.counted ∙ c.in_ok-happened.ensures.same.limit;
+  named = ap (λ (b : BoardView). b.named) c.count.ensures.counted ∙ c.in_ok-happened.ensures.same.named;
   image = ap (λ (b : BoardView). b.memory.image) c.count.ensures.counted ∙ c.in_ok-happened.ensures.same.image;
 }
 

@@ -14,10 +14,10 @@ use Rattle.m88_board.proofs.board.Board.new.Goals as goal
 
 pub invariant_of-result : goal.invariant_of-result
 invariant_of-result c =
-    made IsKept c.args.limit c.new-2.result _ c.new-3.result c.new-4.result c.in_ok-memory.memory c.new-5.result
-    c.new-6.result.items c.new-7.result.items c.new-2.ensures c.new-3.ensures c.new-5.ensures c.new-6.ensures.items
+    made IsKept c.args.limit c.copy.result c.args.absent.now c.new-2.result _ c.new-3.result c.new-4.result c.in_ok-memory.memory c.new-5.result
+    c.new-6.result.items c.new-7.result.items c.copy.ensures c.new-2.ensures c.new-3.ensures c.new-5.ensures c.new-6.ensures.items
     c.new-7.ensures.items
-    (kept c.args.limit _ _ _ c.new-4.result
+    (kept c.args.limit c.args.absent.now _ _ _ c.new-4.result
     c.in_ok-memory.memory c.requires.small
     (subst IsImage (sym c.in_ok-memory.ensures.image) c.part_count.ensures.image) c.new-4.ensures.waiting c.lacks_word-e0.ensures c.lacks_word-e1.ensures)
 
@@ -30,10 +30,10 @@ returns-clause-program c = some_program c.args.image.now c.part_count.ensures.im
 pub returns-clause-at : goal.returns-clause-at
 returns-clause-at c = λ p of.
     let image = sym c.in_ok-memory.ensures.image in
-    made (IsAt p (absent_in c.args.absent.now) opening_moment) c.args.limit c.new-2.result _ c.new-3.result c.new-4.result
-    c.in_ok-memory.memory c.new-5.result c.new-6.result.items c.new-7.result.items c.new-2.ensures c.new-3.ensures
+    made (IsAt p (absent_in c.args.absent.now) opening_moment) c.args.limit c.copy.result c.args.absent.now c.new-2.result _ c.new-3.result c.new-4.result
+    c.in_ok-memory.memory c.new-5.result c.new-6.result.items c.new-7.result.items c.copy.ensures c.new-2.ensures c.new-3.ensures
     c.new-5.ensures c.new-6.ensures.items c.new-7.ensures.items
-    (opens p (absent_in c.args.absent.now) c.args.limit (c.start.result / 4 * 4) c.lacks_word-e0.result
+    (opens p (absent_in c.args.absent.now) c.args.limit c.args.absent.now (c.start.result / 4 * 4) c.lacks_word-e0.result
     c.lacks_word-e1.result c.new-4.result c.in_ok-memory.memory c.new-4.ensures.numbers
     (c.in_ok-memory.ensures.bus ∙ ap image_bus image) c.in_ok-memory.ensures.absent
     (ap (λ (n : ℕ). n / 4 * 4) c.start.ensures ∙ ap (λ (i : ProgramImage). word_address i.start) image)

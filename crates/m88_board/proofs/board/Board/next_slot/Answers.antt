@@ -1,5 +1,5 @@
 -- NIP at a moment.
-use Rattle.std.proofs.Common.{ap, ◌∙◌}
+use Rattle.std.proofs.Common.{◌∙◌}
 use Rattle.m88_board.proofs.Shown.{nip_seen}
 use Rattle.m88_board.specs.contracts.board.Board.{the_view}
 use Rattle.m88_board.proofs.board.Board.next_slot.Goals as goal
