@@ -10,7 +10,7 @@ use Rattle.m88_board.specs.declared.glance.Glance.{Glance}
 use Rattle.m88_cli.specs.Reply.{Replies, WatchesReply}
 use Rattle.m88_cli.specs.Watching.{Shown, ShownIfAccepted}
 use Rattle.m88_cli.specs.declared.reply.Reply.{Reply}
-use Rattle.m88_cli.specs.Status.{Answers, IsOfReading}
+use Rattle.m88_cli.specs.Status.{Answers, IsOfReading, WritesNothing}
 use Rattle.m88_cli.specs.declared.status.Status.{Status}
 use Rattle.m88_cli.specs.declared.status.Status.TheVariants.{Done, Usage, SourceFault, SinkFault, Refused, Memory, TooLong}
 use Rattle.m88_cli.specs.Calls.{GivesInput, HasInput, IsWhole}
@@ -168,3 +168,13 @@ by_reply false seen old new command input text replies watches = inr (replies.un
 pub shown_if : {W : Type 0} (seen : W → Option (List Glance)) (old new : W) (command : Command) (input : List ℕ) (r : Reply) → Replies command input r
     → WatchesReply seen old new command input r → ShownIfAccepted seen old new command input
 shown_if seen old new command input r replies watches = by_reply r.accepted seen old new command input r.text.items replies watches
+
+-- with an answer that comes before a command has its text nothing was written
+pub wrote_nothing : (s : Status) → IsOfReading s → WritesNothing s
+wrote_nothing Done h = h
+wrote_nothing Usage h = tt
+wrote_nothing SourceFault h = tt
+wrote_nothing SinkFault h = h
+wrote_nothing Refused h = h
+wrote_nothing Memory h = tt
+wrote_nothing TooLong h = tt

@@ -1,5 +1,6 @@
 //! The input that a command reads.
 ghost use Rattle.std.specs.Prelude.{◌≡◌, ◌≢◌, ◌+◌, ◌≤◌, Err, IfErr, IfOk, OnOk, false, true, length};
+ghost use Rattle.m88_base.specs.Calls.{CallsWithin};
 ghost use Rattle.m88_base.specs.Causes.{Rose};
 ghost use Rattle.m88_base.specs.Outside.{TakesAtMost, TakesExactly};
 ghost use Rattle.m88_cli.specs.Calls.{GivesInput};
@@ -13,6 +14,7 @@ use m88_base::{ReadEnd, Source, read_all};
 use std::alloc::Global;
 
 /// The whole input of a command; a command that reads none leaves the source alone.
+#[tactic(auto, using(m88_base::proofs::Calls::calls_none))]
 pub fn input_of<S: Source>(
     alloc: Global,
     command: &Command,
@@ -22,6 +24,7 @@ pub fn input_of<S: Source>(
         GivesInput (command_of command.now) (S.left source.old) (S.left source.new) input.items) }
     ensures short { IfOk result (λ input. length input.items ≤ most_input) }
     ensures unread { reads_input (command_of command.now) ≡ false → source.new ≡ source.old }
+    ensures calls { CallsWithin (most_input + 2) (S.calls source.old) (S.calls source.new) }
     ensures clean { OnOk result (S.faults source.new ≡ S.faults source.old) }
     ensures reader { IfErr result (λ _. reads_input (command_of command.now) ≡ true) }
     ensures fault { result ≡ Err ReadEnd.SourceFault

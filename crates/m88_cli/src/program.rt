@@ -1,6 +1,7 @@
 //! The top call.
-ghost use Rattle.std.specs.Prelude.{[], ◌≡◌, ◌≢◌, ◌↔◌, ◌⊎◌, ◌+◌, ℕ, List, IfErr, IfOk, OnErr, OnOk, Err, Some, false};
+ghost use Rattle.std.specs.Prelude.{[], ◌≡◌, ◌≢◌, ◌↔◌, ◌⊎◌, ◌+◌, ℕ, List, IfErr, IfOk, OnErr, OnOk, Err, Some, false, length};
 ghost use Rattle.std.specs.Io.KnownBytes.{Appends};
+ghost use Rattle.m88_base.specs.Calls.{CallsWithin};
 ghost use Rattle.m88_base.specs.Causes.{Rose};
 ghost use Rattle.m88_base.specs.Outside.{AppendsPart, TakesAtMost, TakesExactly};
 ghost use Rattle.m88_cli.specs.Answer.{Accepts, IsAnswer, IsAnswerToAccepted, IsAnswerToRefused, Refuses};
@@ -40,6 +41,14 @@ pub fn m88<S: Source, K: Sink, W: Watch>(
     // Words outside the grammar, exactly. Then nothing is read, nor for a command that has no input.
     ensures usage { (result ≡ Status.Usage) ↔ SpellNothing (texts words.now) }
     ensures unread { SpellNoReader (texts words.now) → source.new ≡ source.old }
+
+    // The calls that are made of a source and of a sink that tell them: of the source at most two more than an
+    // input may have bytes, of the sink at most as many as the text has bytes.
+    ensures reads { CallsWithin (most_input + 2) (S.calls source.old) (S.calls source.new) }
+    ensures writes { ¬ WritesNothing result
+        → CarriedOut (texts words.now) (S.left source.old) (S.left source.new) IsAnswer
+        (λ text. CallsWithin (length text) (K.calls sink.old) (K.calls sink.new))
+        (λ _ _. Unit {0}) }
 
     // The source failed, or it has a byte too many.
     ensures source_fault { result ≡ Status.SourceFault
@@ -139,6 +148,7 @@ fn reply_from<S: Source, W: Watch>(
         × WatchesReply W.seen watch.old watch.new (command_of command.now) input reply) }
     ensures unread { reads_input (command_of command.now) ≡ false → source.new ≡ source.old }
     ensures unshown_by { makes_events (command_of command.now) ≡ false → watch.new ≡ watch.old }
+    ensures calls { CallsWithin (most_input + 2) (S.calls source.old) (S.calls source.new) }
     ensures clean { OnOk result (S.faults source.new ≡ S.faults source.old) }
     ensures status { IfErr result IsOfReading }
     ensures memory { IfErr result (λ status. reads_input (command_of command.now) ≡ false

@@ -1,5 +1,8 @@
 -- A refusal stands whole only where it was written whole; where the sink failed a part of the text was written.
 use Rattle.std.proofs.Common.{◌≡◌, Err, inl, inr, refl, ap, sym, ◌∙◌, subst}
+use Rattle.std.specs.Prelude.{length}
+use Rattle.m88_base.proofs.Calls.{calls_none}
+use Rattle.m88_base.specs.Calls.{CallsWithin}
 use Rattle.m88_base.specs.Outside.{AppendsPart}
 use Rattle.m88_cli.specs.Answer.{Accepts}
 use Rattle.m88_cli.specs.Command.{reads_input}
@@ -7,7 +10,7 @@ use Rattle.m88_cli.specs.Kept.{command_of}
 use Rattle.m88_cli.specs.Refusal.{refusal_line}
 use Rattle.m88_cli.proofs.BridgeListings.{listed_builds_alike}
 use Rattle.m88_cli.proofs.OneSource.{refused_not_accepted}
-use Rattle.m88_cli.proofs.Whole.{accepted_reply, answer_of, line_of_reply, not_part, not_whole, of_err, refusal_some, refused_reply, reply_given, reply_whole, shown_if, unanswered}
+use Rattle.m88_cli.proofs.Whole.{accepted_reply, answer_of, line_of_reply, not_part, not_whole, of_err, refusal_some, refused_reply, reply_given, reply_whole, shown_if, unanswered, wrote_nothing}
 use Rattle.m88_cli.proofs.program.m88.Goals as goal
 
 pub returns-in-Err-clause-refusal : goal.returns-in-Err-clause-refusal
@@ -84,3 +87,57 @@ returns-then-reply-clause-relisted g c = listed_builds_alike
 
 pub returns-clause-relisted : goal.returns-clause-relisted
 returns-clause-relisted g c = listed_builds_alike
+
+pub returns-in_default-clause-reads : goal.returns-in_default-clause-reads
+returns-in_default-clause-reads g c = calls_none _ _
+
+pub returns-in_default-clause-writes : goal.returns-in_default-clause-writes
+returns-in_default-clause-writes g c = λ wrote. absurd (wrote tt)
+
+pub returns-in-Err-clause-writes : goal.returns-in-Err-clause-writes
+returns-in-Err-clause-writes g c = λ wrote. absurd (wrote (wrote_nothing _ c.in-Err.ensures.status))
+
+pub returns-then-is_err-clause-writes : goal.returns-then-is_err-clause-writes
+returns-then-is_err-clause-writes g c = λ wrote.
+    let ok = c.in-Ok.ensures.ok in
+    record {
+      command = command_of c.in-Some.command;
+      spelled = c.in-Some.ensures.found;
+      input = ok.0;
+      given = ok.1;
+      text = c.in-Ok.reply.text.items;
+      is_text = answer_of (command_of c.in-Some.command) ok.0 c.in-Ok.reply ok.2;
+      written = subst (λ t. CallsWithin (length t) (g.K.Sink.calls c.args.sink.now) (g.K.Sink.calls c.write_all.new.sink))
+          c.as_slice.ensures.value c.write_all.ensures.calls;
+      watched = tt;
+    }
+
+pub returns-then-reply-clause-writes : goal.returns-then-reply-clause-writes
+returns-then-reply-clause-writes g c = λ wrote.
+    let ok = c.in-Ok.ensures.ok in
+    record {
+      command = command_of c.in-Some.command;
+      spelled = c.in-Some.ensures.found;
+      input = ok.0;
+      given = ok.1;
+      text = c.in-Ok.reply.text.items;
+      is_text = answer_of (command_of c.in-Some.command) ok.0 c.in-Ok.reply ok.2;
+      written = subst (λ t. CallsWithin (length t) (g.K.Sink.calls c.args.sink.now) (g.K.Sink.calls c.write_all.new.sink))
+          c.as_slice.ensures.value c.write_all.ensures.calls;
+      watched = tt;
+    }
+
+pub returns-clause-writes : goal.returns-clause-writes
+returns-clause-writes g c = λ wrote.
+    let ok = c.in-Ok.ensures.ok in
+    record {
+      command = command_of c.in-Some.command;
+      spelled = c.in-Some.ensures.found;
+      input = ok.0;
+      given = ok.1;
+      text = c.in-Ok.reply.text.items;
+      is_text = answer_of (command_of c.in-Some.command) ok.0 c.in-Ok.reply ok.2;
+      written = subst (λ t. CallsWithin (length t) (g.K.Sink.calls c.args.sink.now) (g.K.Sink.calls c.write_all.new.sink))
+          c.as_slice.ensures.value c.write_all.ensures.calls;
+      watched = tt;
+    }
