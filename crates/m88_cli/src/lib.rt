@@ -34,12 +34,6 @@ mod workload;
 
 // What the monitor makes of the commands of a script.
 mod monitor;
-#[cfg(test)]
-mod script_tests;
-#[cfg(test)]
-mod tests;
-#[cfg(test)]
-mod workload_tests;
 
 pub use commands::Command;
 pub use grammar::command;

@@ -22,8 +22,6 @@ use std::alloc::Global;
 mod going;
 mod making;
 mod showing;
-#[cfg(test)]
-mod tests;
 mod tracing;
 
 /// A session with the monitor: the board, how many letters of the run were taken, and the breakpoints, which are byte

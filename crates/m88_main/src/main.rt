@@ -3,6 +3,8 @@
 #![tactic(auto)]
 
 mod advice;
+#[cfg(test)]
+mod tests;
 
 use crate::advice::{NO_WORDS, advice_on};
 use m88_base::{StdSink, StdSource};

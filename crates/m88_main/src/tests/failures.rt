@@ -1,9 +1,9 @@
 //! Sources and sinks that fail, and inputs that are as long as one may be and longer.
 
-use crate::Status;
 use crate::tests::pieces::{LETTER, NOTHING_ALLOWED};
 use crate::tests::run;
 use m88_base::{MemSink, MemSource};
+use m88_cli::Status;
 use std::alloc::Global;
 use std::process::Abort;
 use std::test::Fail;

@@ -1,33 +1,7 @@
-//! What no clause says of the generated workload: its first draws, a source whole, summaries, and words outside the
-//! grammar.
+//! The generated workload: summaries, and words outside the grammar.
 
-use crate::tests::{expect_done, expect_usage, run_watched};
-use crate::workload::Draws;
-use crate::*;
-use m88_base::{MemSink, MemSource};
-use m88_board::MemWatch;
+use crate::tests::{expect_done, expect_usage};
 use std::test::Fail;
-
-#[test]
-fn the_first_draws_of_a_number(rt: HostRuntime) {
-    let mut draws = Draws::new(0);
-    for draw in [
-        0x3C6E, 0x4750, 0xD1CC, 0xAAF9, 0x6252, 0x9F2E, 0x57FE, 0xA3D9, 0x81FD, 0x94F0, 0xCBF6,
-        0xBCD1,
-    ] {
-        assert_eq!(rt; draws.draw(), draw);
-    }
-}
-
-#[test]
-fn a_number_makes_a_source_and_letters(rt: HostRuntime) -> Result<(), Fail> {
-    let mut draws = Draws::new(0);
-    let source = draws.source(rt.alloc(), 2)?;
-    assert!(rt; source.as_slice() == b"st.b r6,r0,43768\nld r6,r0,41944\n".as_slice());
-    let letters = draws.letters(rt.alloc())?;
-    assert!(rt; letters.len() == 4096 && letters.as_str().starts_with("riir"));
-    Ok(())
-}
 
 #[test]
 fn a_workload_is_summed_up(rt: HostRuntime) -> Result<(), Fail> {
@@ -62,16 +36,6 @@ fn a_workload_is_summed_up(rt: HostRuntime) -> Result<(), Fail> {
             ),
         ],
     )
-}
-
-#[test]
-fn a_watch_is_shown_each_event_of_a_workload(rt: HostRuntime) -> Result<(), Fail> {
-    let source = MemSource::new(rt.alloc(), b"", 64, &[0])?;
-    let sink = MemSink::new(rt.alloc(), 1000, 64, &[])?;
-    let mut watch = MemWatch::new();
-    let (answer, _) = run_watched(rt.alloc(), "soak 0 2", source, sink, &mut watch)?;
-    assert!(rt; answer == Status::Done && watch.seen().len() == 4);
-    Ok(())
 }
 
 #[test]

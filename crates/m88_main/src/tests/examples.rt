@@ -1,8 +1,8 @@
 //! The programs of the folder examples, without their comments: each runs from its source, from its records and by way
 //! of its objects, with one report in which a line stands that docs/BOARD.md or the README shows.
 
-use crate::Status;
 use crate::tests::told;
+use m88_cli::Status;
 use std::alloc::Global;
 use std::process::Abort;
 use std::test::Fail;

@@ -1,7 +1,7 @@
 //! Words outside the grammar, and the numbers of the answers.
 
-use crate::Status;
 use crate::tests::expect_usage;
+use m88_cli::Status;
 use std::test::Fail;
 
 #[test]

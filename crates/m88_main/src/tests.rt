@@ -1,26 +1,44 @@
 //! What no clause says of the commands, one file a subject. Here stands what the files share: the top call over a
 //! line of words, and what tries the rows of a table.
 
-use crate::*;
 use m88_base::{MemSink, MemSource};
 use m88_board::{Unwatched, Watch};
+use m88_cli::{Status, m88};
 use std::alloc::{AllocError, Global};
 use std::process::Abort;
 use std::test::Fail;
 
+mod effects;
 mod ends;
 mod examples;
 mod failures;
+mod faults;
+mod holds;
+mod images;
+mod limits;
+mod monitor;
+mod object_texts;
 mod objects;
 mod pieces;
+mod record_texts;
 mod records;
 mod reports;
+mod schedules;
+mod scripts;
+mod sessions;
 mod sources;
 mod watching;
 mod words;
+mod workloads;
 
 /// The words of a command, its input, and the text that it writes.
 pub type Row<'a> = (&'a str, &'a [u8], &'a [u8]);
+
+/// The words of a command, its input, and a part of the text that it writes.
+pub type Part<'a> = (&'a str, &'a str, &'a str);
+
+/// An input, and a part of the text that a command writes.
+pub type Pair<'a> = (&'a str, &'a str);
 
 /// An input, and the line that refuses it.
 pub type Refusal<'a> = (&'a [u8], &'a [u8]);
@@ -36,6 +54,32 @@ pub fn expect_done(rt: &impl Abort, alloc: Global, piece: usize, rows: &[Row]) -
         );
     }
     Ok(())
+}
+
+/// Ends the test unless each row's command accepts the row's input and the row's part stands in the text.
+pub fn expect_parts(rt: &impl Abort, alloc: Global, rows: &[Part]) -> Result<(), Fail> {
+    for (line, input, part) in rows {
+        let text = written(rt, alloc, line, input.as_bytes())?;
+        assert!(rt; text.as_str().contains(part), "{line} of {input}: {text}");
+    }
+    Ok(())
+}
+
+/// The same of rows with one command.
+pub fn expect_pairs(rt: &impl Abort, alloc: Global, line: &str, rows: &[Pair]) -> Result<(), Fail> {
+    for (input, part) in rows {
+        let text = written(rt, alloc, line, input.as_bytes())?;
+        assert!(rt; text.as_str().contains(part), "{line} of {input}: {text}");
+    }
+    Ok(())
+}
+
+/// The text of a command that accepts its input; ends the test where it doesn't.
+pub fn written(rt: &impl Abort, alloc: Global, line: &str, input: &[u8]) -> Result<String, Fail> {
+    let (answer, held) = told(alloc, line, input, 64)?;
+    assert!(rt; answer == Status::Done, "{line} is answered {answer:?}");
+    let text = String::from_utf8_lossy(alloc, held.as_slice())?;
+    Ok(text)
 }
 
 /// Ends the test unless a command refuses the input of each row by the row's line.
@@ -81,7 +125,7 @@ pub fn told(
 ) -> Result<(Status, Vec<u8>), Fail> {
     let piece = if piece == 0 { 1 } else { piece };
     let source = MemSource::new(alloc, input, piece, &[])?;
-    let sink = MemSink::new(alloc, 2000, piece, &[])?;
+    let sink = MemSink::new(alloc, 30_000, piece, &[])?;
     let said = run(alloc, line, source, sink)?;
     Ok(said)
 }
@@ -110,5 +154,18 @@ pub fn run_watched<W: Watch>(
         words.push(String::from_str(alloc, word)?)?;
     }
     let status = m88(alloc, words.as_slice(), &mut source, &mut sink, watch);
+    Ok((status, Vec::from_slice(alloc, sink.bytes())?))
+}
+
+/// What words answer before they call a source and a sink, which fail at their first call.
+pub fn told_words(alloc: Global, words: &[&str]) -> Result<(Status, Vec<u8>), Fail> {
+    let mut source = MemSource::new(alloc, b"", 7, &[0])?;
+    let mut sink = MemSink::new(alloc, 1000, 7, &[0])?;
+    let mut owned = Vec::new(alloc);
+    for word in words {
+        owned.push(String::from_str(alloc, word)?)?;
+    }
+    let mut watch = Unwatched::new();
+    let status = m88(alloc, owned.as_slice(), &mut source, &mut sink, &mut watch);
     Ok((status, Vec::from_slice(alloc, sink.bytes())?))
 }
