@@ -1,12 +1,18 @@
 //! The program `m88`: the top call between standard input and standard output. This is the trusted edge:
-//! what a file, a pipe or a terminal gave or took is outside every promise.
+//! what a file, a pipe or a terminal gave or took is outside every promise, and so is what stands on standard error.
 #![tactic(auto)]
 
 mod advice;
+mod keeping;
+mod refusal;
 #[cfg(test)]
 mod tests;
+mod usage;
 
 use crate::advice::{NO_WORDS, advice_on};
+use crate::keeping::{Keeping, Showing};
+use crate::refusal::Refused;
+use crate::usage::Usage;
 use m88_base::{StdSink, StdSource};
 use m88_board::Unwatched;
 use m88_cli::{Status, m88};
@@ -22,22 +28,40 @@ fn main(rt: HostRuntime) -> ExitCode {
         return ExitCode::from(NO_WORDS_STATUS);
     };
     let status = match arguments.skip(1).collect::<Vec<String>>(rt.alloc()) {
-        Ok(words) => {
-            let mut source = StdSource::new(rt.reader());
-            let mut sink = StdSink::new(rt.stdout());
-            let mut watch = Unwatched::new();
-            m88(
-                rt.alloc(),
-                words.as_slice(),
-                &mut source,
-                &mut sink,
-                &mut watch,
-            )
-        }
+        Ok(words) => carry_out(&rt, words.as_slice()),
         Err(_) => Status::Memory,
     };
     if let Some(advice) = advice_on(status) {
         let _ = eprintln!(rt; "{advice}");
     }
     ExitCode::from(status.number())
+}
+
+/// The answer of the top call between standard input and standard output. Of words that are no command and of an
+/// input that is refused a person is told on standard error what was wrong with them.
+fn carry_out(rt: &HostRuntime, words: &[String]) -> Status {
+    let name = match words.first() {
+        Some(name) => name.as_str(),
+        None => "",
+    };
+    let mut source = Keeping::new(rt.alloc(), StdSource::new(rt.reader()), reads_lines(name));
+    let mut sink = Showing::new(rt.alloc(), StdSink::new(rt.stdout()));
+    let mut watch = Unwatched::new();
+    let status = m88(rt.alloc(), words, &mut source, &mut sink, &mut watch);
+    if let Status::Usage = status {
+        let usage = Usage::of(rt.alloc(), words);
+        let _ = eprintln!(rt; "{usage}");
+    }
+    if let Status::Refused = status {
+        let refused = Refused::of(name, sink.front().unwrap_or(b""), source.kept());
+        if let Some(refused) = refused {
+            let _ = eprintln!(rt; "{refused}");
+        }
+    }
+    status
+}
+
+/// Whether a command reads a source or a script, whose lines a person writes.
+fn reads_lines(name: &str) -> bool {
+    name == "asm" || name == "build" || name == "run" || name == "mon"
 }

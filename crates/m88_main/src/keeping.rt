@@ -1,0 +1,100 @@
+//! A source and a sink that remember what went through them, for what a person is told of a refusal.
+
+use m88_base::{Failed, Sink, Source};
+use std::alloc::Global;
+
+/// How many bytes of what was written are remembered, more than a refusal has.
+const FRONT: usize = 512;
+
+/// A source that remembers the bytes that it gave, where that is wanted and as long as there is memory for them.
+#[derive(Drop)]
+pub struct Keeping<S> {
+    inner: S,
+    kept: Option<Vec<u8>>,
+}
+
+impl<S: Source> Keeping<S> {
+    /// A source of what another has left.
+    pub fn new(alloc: Global, inner: S, is_wanted: bool) -> Keeping<S> {
+        let kept = if is_wanted {
+            Some(Vec::new(alloc))
+        } else {
+            None
+        };
+        Keeping { inner, kept }
+    }
+
+    /// The bytes that were given, in order; None where they were not remembered.
+    pub fn kept(&self) -> Option<&[u8]> {
+        match &self.kept {
+            Some(bytes) => Some(bytes.as_slice()),
+            None => None,
+        }
+    }
+}
+
+impl<S: Source> Source for Keeping<S> {
+    ghost left = { λ s. S.left s.inner };
+
+    ghost faults = { λ s. S.faults s.inner };
+
+    ghost calls = { λ s. S.calls s.inner };
+
+    fn read(&mut self, buf: &mut [u8]) -> Result<usize, Failed> {
+        let count = self.inner.read(buf)?;
+        keep(&mut self.kept, &buf[..count]);
+        Ok(count)
+    }
+}
+
+/// A sink that remembers the front of what it took, as long as there is memory for it.
+#[derive(Drop)]
+pub struct Showing<K> {
+    inner: K,
+    front: Option<Vec<u8>>,
+}
+
+impl<K: Sink> Showing<K> {
+    /// A sink that hands its bytes to another.
+    pub fn new(alloc: Global, inner: K) -> Showing<K> {
+        Showing {
+            inner,
+            front: Some(Vec::new(alloc)),
+        }
+    }
+
+    /// The front of what was taken, up to twice 512 bytes; None where it was not remembered.
+    pub fn front(&self) -> Option<&[u8]> {
+        match &self.front {
+            Some(bytes) => Some(bytes.as_slice()),
+            None => None,
+        }
+    }
+}
+
+impl<K: Sink> Sink for Showing<K> {
+    ghost held = { λ s. K.held s.inner };
+
+    ghost faults = { λ s. K.faults s.inner };
+
+    ghost calls = { λ s. K.calls s.inner };
+
+    fn write(&mut self, buf: &[u8]) -> Result<usize, Failed> {
+        let count = self.inner.write(buf)?;
+        if self.front().map_or(0, |front| front.len()) < FRONT {
+            keep(&mut self.front, &buf[..count.min(FRONT)]);
+        }
+        Ok(count)
+    }
+}
+
+/// Adds bytes to those that are remembered; where there is no memory for them, nothing is remembered any more.
+fn keep(kept: &mut Option<Vec<u8>>, bytes: &[u8]) {
+    let is_lost = match kept {
+        Some(vec) => vec.extend_from_slice(bytes).is_err(),
+        None => false,
+    };
+    if is_lost {
+        *kept = None;
+    }
+}

@@ -1,0 +1,234 @@
+//! What a person is told where the words are no command: which of them was not understood, and what is wanted.
+
+use crate::refusal::put_shown;
+use m88_cli::{MOST_LIMIT, MOST_STATEMENTS, command};
+use std::alloc::{AllocError, Global};
+use std::fmt;
+
+/// A word behind the name of a command.
+#[derive(Clone, Copy)]
+enum Place {
+    Limit,
+    Absent,
+    Schedule,
+    Number,
+    Count,
+}
+
+impl Place {
+    fn name(self) -> &'static str {
+        match self {
+            Place::Limit => "LIMIT",
+            Place::Absent => "ABSENT",
+            Place::Schedule => "SCHEDULE",
+            Place::Number => "NUMBER",
+            Place::Count => "COUNT",
+        }
+    }
+
+    /// A word that is understood there.
+    fn sample(self) -> &'static str {
+        match self {
+            Place::Limit | Place::Number => "0",
+            Place::Absent => "none",
+            Place::Schedule => "-",
+            Place::Count => "1",
+        }
+    }
+}
+
+impl fmt::Display for Place {
+    fn fmt<W: fmt::Write>(&self, f: &mut fmt::Formatter<W>) -> fmt::Result {
+        match self {
+            Place::Limit => write!(f, "LIMIT is a decimal number from 0 to {MOST_LIMIT}"),
+            Place::Absent => write!(
+                f,
+                "ABSENT is none, all, or 1 to 64 page numbers up to 1048575 (0xFFFFF), joined by commas"
+            ),
+            Place::Schedule => write!(f, "SCHEDULE is - or 1 to 65536 letters i and r"),
+            Place::Number => write!(f, "NUMBER is a decimal number from 0 to 4294967295"),
+            Place::Count => write!(f, "COUNT is a decimal number from 1 to {MOST_STATEMENTS}"),
+        }
+    }
+}
+
+/// How a command is called: its name, the words behind it, and what it reads.
+#[derive(Clone, Copy)]
+struct Form {
+    name: &'static str,
+    places: &'static [Place],
+    reads: &'static str,
+}
+
+const RUN: [Place; 3] = [Place::Limit, Place::Absent, Place::Schedule];
+
+const SESSION: [Place; 2] = [Place::Absent, Place::Schedule];
+
+const WORKLOAD: [Place; 2] = [Place::Number, Place::Count];
+
+const FORMS: [Form; 8] = [
+    Form {
+        name: "run",
+        places: &RUN,
+        reads: " < SOURCE",
+    },
+    Form {
+        name: "exec",
+        places: &RUN,
+        reads: " < RECORDS",
+    },
+    Form {
+        name: "mon",
+        places: &SESSION,
+        reads: " < SCRIPT-AND-SOURCE",
+    },
+    Form {
+        name: "asm",
+        places: &[],
+        reads: " < SOURCE",
+    },
+    Form {
+        name: "link",
+        places: &[],
+        reads: " < OBJECTS",
+    },
+    Form {
+        name: "build",
+        places: &[],
+        reads: " < SOURCE",
+    },
+    Form {
+        name: "dis",
+        places: &[],
+        reads: " < RECORDS",
+    },
+    Form {
+        name: "soak",
+        places: &WORKLOAD,
+        reads: "",
+    },
+];
+
+impl fmt::Display for Form {
+    fn fmt<W: fmt::Write>(&self, f: &mut fmt::Formatter<W>) -> fmt::Result {
+        write!(f, "m88 {}", self.name)?;
+        for place in self.places {
+            write!(f, " {}", place.name())?;
+        }
+        f.write_str(self.reads)
+    }
+}
+
+/// What is wrong with words that are no command.
+#[derive(Drop)]
+pub enum Usage<'a> {
+    /// There are none, or help is asked for: how each command is called.
+    All,
+    /// The first is no command's name.
+    Name(&'a str),
+    /// Behind the name of a command stand too many words or too few.
+    Count(usize, usize),
+    /// A word behind the name of a command is not understood there.
+    Word(usize, usize, &'a str),
+}
+
+impl<'a> Usage<'a> {
+    pub fn of(alloc: Global, words: &'a [String]) -> Usage<'a> {
+        let Some((name, behind)) = words.split_first() else {
+            return Usage::All;
+        };
+        if name.as_str().starts_with("-") || name.as_str() == "help" {
+            return Usage::All;
+        }
+        let Some(form) = form_of(name.as_str()) else {
+            return Usage::Name(name.as_str());
+        };
+        let count = FORMS[form].places.len();
+        if behind.len() != count {
+            return Usage::Count(form, behind.len());
+        }
+        for at in 0..count {
+            let word = behind[at].as_str();
+            if !matches!(is_understood(alloc, FORMS[form], at, word), Ok(true)) {
+                return Usage::Word(form, at, word);
+            }
+        }
+        Usage::All
+    }
+}
+
+/// The form of a command's name.
+fn form_of(name: &str) -> Option<usize> {
+    FORMS.iter().position(|form| form.name == name)
+}
+
+/// Whether a word is understood in one of a form's places: whether there is a command with it and words that are
+/// understood in the others.
+fn is_understood(alloc: Global, form: Form, at: usize, word: &str) -> Result<bool, AllocError> {
+    let mut words: Vec<String> = Vec::new(alloc);
+    words.push(String::from_str(alloc, form.name)?)?;
+    for (k, place) in form.places.iter().enumerate() {
+        let text = if k == at { word } else { place.sample() };
+        words.push(String::from_str(alloc, text)?)?;
+    }
+    Ok(command(words.as_slice()).is_some())
+}
+
+impl<'a> fmt::Display for Usage<'a> {
+    fn fmt<W: fmt::Write>(&self, f: &mut fmt::Formatter<W>) -> fmt::Result {
+        match self {
+            Usage::All => put_all(f),
+            Usage::Name(name) => {
+                f.write_str("m88: no command is named ")?;
+                put_word(f, name)?;
+                f.write_str("\n")?;
+                put_all(f)
+            }
+            Usage::Count(form, count) => {
+                let form = FORMS[*form];
+                write!(
+                    f,
+                    "m88 {}: {} words are wanted behind the name, and {count} are there\nusage: {form}",
+                    form.name,
+                    form.places.len()
+                )
+            }
+            Usage::Word(form, at, word) => {
+                let form = FORMS[*form];
+                let place = form.places[*at];
+                write!(f, "m88 {}: {} can't be ", form.name, place.name())?;
+                put_word(f, word)?;
+                write!(f, "\n{place}\nusage: {form}")
+            }
+        }
+    }
+}
+
+/// How every command is called, a command a line, and what its words are.
+fn put_all<W: fmt::Write>(f: &mut fmt::Formatter<W>) -> fmt::Result {
+    f.write_str("usage:")?;
+    for form in &FORMS {
+        write!(f, "\n  {form}")?;
+    }
+    for place in [
+        Place::Limit,
+        Place::Absent,
+        Place::Schedule,
+        Place::Number,
+        Place::Count,
+    ] {
+        write!(f, "\n{place}")?;
+    }
+    Ok(())
+}
+
+/// How many bytes of a word are shown.
+const WIDTH: usize = 40;
+
+/// A word in quotes as a terminal can show it; of a long one the front.
+fn put_word<W: fmt::Write>(f: &mut fmt::Formatter<W>, word: &str) -> fmt::Result {
+    let bytes = word.as_bytes();
+    f.write_str("'")?;
+    put_shown(f, &bytes[..bytes.len().min(WIDTH)])?;
+    f.write_str(if bytes.len() > WIDTH { "..'" } else { "'" })
+}
