@@ -1,0 +1,27 @@
+# Completion of the words of m88 for bash: read it in a session, as . contrib/m88.bash, or copy it to the folder of
+# completions, as /usr/share/bash-completion/completions/m88.
+_m88() {
+  local word=${COMP_WORDS[COMP_CWORD]} places place choices
+  if [ "$COMP_CWORD" -eq 1 ]; then
+    choices="run exec mon asm link build dis soak"
+  else
+    case ${COMP_WORDS[1]} in
+      run | exec) places="LIMIT ABSENT SCHEDULE" ;;
+      mon) places="ABSENT SCHEDULE" ;;
+      soak) places="NUMBER COUNT" ;;
+      *) places="" ;;
+    esac
+    place=$(set -- $places; shift "$((COMP_CWORD - 2))" 2>/dev/null && echo "${1:-}")
+    case $place in
+      LIMIT) choices="100 1000 1000000" ;;
+      ABSENT) choices="none all" ;;
+      SCHEDULE) choices="- i r" ;;
+      NUMBER) choices="0 1" ;;
+      COUNT) choices="100 1000 40000" ;;
+      *) choices="" ;;
+    esac
+  fi
+  # What a redirection names is a file, which bash completes itself.
+  COMPREPLY=($(compgen -W "$choices" -- "$word"))
+}
+complete -o default -F _m88 m88 ./m88
