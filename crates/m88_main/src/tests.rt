@@ -15,6 +15,7 @@ mod failures;
 mod faults;
 mod holds;
 mod images;
+mod language;
 mod limits;
 mod monitor;
 mod object_texts;

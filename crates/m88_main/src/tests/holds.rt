@@ -163,6 +163,51 @@ const HELD: &[Part] = &[
         "trace 2\nsource\nld r2,r0,0x5000\ntb0 0,r2,496\n",
         "2 i busy r2\n",
     ),
+    (
+        "mon none ii",
+        "trace 2\nsource\nld r2,r0,0x5000\nadd.ci r3,r0,r0\n",
+        "2 i issue 00001004 add.ci r3,r0,r0\n",
+    ),
+    (
+        "mon none iiii",
+        "trace 4\nsource\nor.u r2,r0,0x7FFF\nor r2,r2,0xFFFF\nld r3,r0,0x5000\nadd r4,r2,r2\n",
+        "4 i sync\n",
+    ),
+    (
+        "mon none ii",
+        "trace 2\nsource\nld r2,r0,0x5000\ndivu r3,r0,r0\n",
+        "2 i sync\n",
+    ),
+    (
+        "mon none ii",
+        "trace 2\nsource\nld r2,r0,0x5000\nst.h r0,r0,0x5001\n",
+        "2 i sync\n",
+    ),
+    (
+        "mon none ii",
+        "trace 2\nsource\nld r2,r0,0x5000\ntb0 0,r0,5\n",
+        "2 i sync\n",
+    ),
+    (
+        "mon none iii",
+        "trace 3\nsource\nor r9,r0,0x63\nld r2,r0,0x5000\ntb0 0,r0,496\n",
+        "3 i sync\n",
+    ),
+    (
+        "mon none iii",
+        "trace 3\nsource\nor r9,r0,0x20\nst r0,r0,0x5000\ntb0 0,r0,496\n",
+        "3 i sync\n",
+    ),
+    (
+        "mon none ii",
+        "trace 2\nsource\nld.d r6,r0,0x5000\nor r8,r7,0\n",
+        "2 i busy r7\n",
+    ),
+    (
+        "mon none ii",
+        "trace 2\nsource\nld r2,r0,0x5000\njmp r0\n",
+        "2 i issue 00001004 jmp r0\n",
+    ),
 ];
 
 #[test]

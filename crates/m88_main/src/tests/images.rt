@@ -103,6 +103,22 @@ const BUILT: &[Row] = &[
         b".module b\n_start: .byte 1\n.module a\n.word _start\n",
         b"S00600004D38383C\nS3060000100001E8\nS3090000100800001000CE\nS70500001000EA\n",
     ),
+    (
+        "build",
+        b".at 0x200F\n.byte 1,2,3\n",
+        b"S00600004D38383C\nS3080000200F010203C2\nS70500001000EA\n",
+    ),
+    ("build", b"", b"S00600004D38383C\nS70500001000EA\n"),
+    (
+        "build",
+        b".module a\n.data\n.byte 1\n.module b\n.byte 2\n",
+        b"S00600004D38383C\nS3060000100002E7\nS3060000200001D8\nS70500001000EA\n",
+    ),
+    (
+        "build",
+        b".module a\n.at 0x3000\n.module b\n.byte 2\n",
+        b"S00600004D38383C\nS3060000100002E7\nS70500001000EA\n",
+    ),
 ];
 
 #[test]
@@ -198,6 +214,10 @@ const UNLINKED: &[Refusal] = &[
     (
         b".at 0xFFFFFFFD\n.align 8\nx: .word x\n",
         b"refused 3:4 too large\n",
+    ),
+    (
+        b"a: .word b\nb: .module m\na: .word a\nb:\n",
+        b"refused 2:4 syntax\n",
     ),
 ];
 

@@ -150,6 +150,22 @@ const SESSIONS: &[Row] = &[
         b"1 i issue 00001000 ld r2,r0,20480\n2 r fault 1\n3 r idle\n\
             4 i issue 00001004 ld r3,r0,20480\n",
     ),
+    (
+        "mon none i",
+        b"step 1\nregs\nsource\nld.d r6,r0,0x5000\n",
+        b"events 1 issued 1 done 0 pending 2\n\
+            r0 00000000 00000000 00000000 00000000 00000000 00000000 -------- --------\n\
+            r8 00000000 00000000 00000000 00000000 00000000 00000000 00000000 00000000\n\
+            r16 00000000 00000000 00000000 00000000 00000000 00000000 00000000 00000000\n\
+            r24 00000000 00000000 00000000 00000000 00000000 00000000 00000000 00000000\n\
+            carry 0\n",
+    ),
+    (
+        "mon none i",
+        b"step 1\ndrain\ndrain\ntrace 1\nsource\nld.d r6,r0,0x5000\nor r2,r0,1\n",
+        b"events 1 issued 1 done 0 pending 2\nevents 3 issued 1 done 2 pending 0\n\
+            events 3 issued 1 done 2 pending 0\n4 r idle\n",
+    ),
 ];
 
 #[test]

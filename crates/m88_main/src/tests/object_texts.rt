@@ -102,6 +102,30 @@ const TEXTS: &[Row] = &[
             reloc pc26 0 00000000 a 00000FFE 9 9\nend\n",
         b"S00600004D38383C\nS30900001000C000000026\nS70500001000EA\n",
     ),
+    (
+        "asm",
+        b"_start:\n.module b\n_start:\n",
+        b"object main\ntext 00000000 1\ndata 00000000 1\nsymbol _start g 0 00000000 1 1\nend\n\
+            object b\ntext 00000000 2\ndata 00000000 2\nsymbol _start g 0 00000000 3 1\nend\n",
+    ),
+    (
+        "asm",
+        b".module .x\na:\n.module .x\na:\n",
+        b"object .x\ntext 00000000 1\ndata 00000000 1\nsymbol a l 0 00000000 2 1\nend\n\
+            object .x\ntext 00000000 3\ndata 00000000 3\nsymbol a l 0 00000000 4 1\nend\n",
+    ),
+    (
+        "asm",
+        b".module a\n.module r1\n",
+        b"object a\ntext 00000000 1\ndata 00000000 1\nend\nobject r1\ntext 00000000 2\n\
+            data 00000000 2\nend\n",
+    ),
+    (
+        "link",
+        b"object .\ntext 00000000 0\ndata 00000000 1\nend\nobject .\ntext 00000000 1\n\
+            data 00000000 1\nend\n",
+        b"S00600004D38383C\nS70500001000EA\n",
+    ),
 ];
 
 #[test]
@@ -291,6 +315,22 @@ const REFUSED: &[Refusal] = &[
         b"object a\ntext 00000004 1\n=C3FFFFFF\ndata 00000000 1\nsymbol a l abs 00000002 1 1\n\
             reloc pc26 0 00000000 a 00000FFF 9 9\nend\n",
         b"refused 9:9 too far 1\n",
+    ),
+    (
+        b"object aaaaaaaaaaaaaaaaaaaaaaaaaaaaaaaaaaaaaaaaaaaaaaaaaaaaaaaaaaaaaaaaa\n",
+        b"refused 1:1 form\n",
+    ),
+    (
+        b"object a\ntext 00000000 1\ndata 00000000 1\nend \n",
+        b"refused 4:1 form\n",
+    ),
+    (
+        b"object a\ntext 00000000 1 \ndata 00000000 1\nend\n",
+        b"refused 2:1 form\n",
+    ),
+    (
+        b"object a\ntext 00000000 -1\ndata 00000000 1\nend\n",
+        b"refused 2:1 form\n",
     ),
 ];
 

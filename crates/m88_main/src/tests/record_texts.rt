@@ -42,6 +42,14 @@ const LISTED: &[Row] = &[
         b".set _start,0x00001000\n.at 0x00001000\nor r2,r0,65\n.at 0x00001006\n.byte 0x58\n\
             .byte 0x40\n.byte 0x00\n.byte 0x41\n",
     ),
+    (
+        "dis",
+        b"S12B10005858585858585858585858585858585858585858585858585858585858585858585858585858585804\n\
+            S9031000EC\n",
+        b".set _start,0x00001000\n.at 0x00001000\nor r2,r24,22616\nor r2,r24,22616\n\
+            or r2,r24,22616\nor r2,r24,22616\nor r2,r24,22616\nor r2,r24,22616\n\
+            or r2,r24,22616\nor r2,r24,22616\nor r2,r24,22616\nor r2,r24,22616\n",
+    ),
 ];
 
 #[test]
@@ -145,6 +153,18 @@ const REFUSED: &[Refusal] = &[
         b"S1071000584000410F\nS10610042C4A0073\nS1051007FFFFE5\nS9031000EC\n",
         b"refused 2:1 sum written 73 computed 6F\n",
     ),
+    (b"S9031002EA\r\r\n", b"refused 1:1 form\n"),
+    (b"S1130000\n", b"refused 1:1 count written 19 found 2\n"),
+    (
+        b"S503000CF0\n",
+        b"refused 1:1 count record written 12 found 0\n",
+    ),
+    (b"S40600001000E9\nS70500001000EA\n", b"refused 1:1 form\n"),
+    (b"S40500001000EA\nS70500001000EA\n", b"refused 1:1 form\n"),
+    (b"S606000000F9\nS70500001000EA\n", b"refused 1:1 form\n"),
+    (b"  \nS70500001000EA\n", b"refused 1:1 form\n"),
+    (b"S70500001000EA\t\n", b"refused 1:1 form\n"),
+    (b"S9031002EA\nS5030000FC\n", b"refused 2:1 after end\n"),
 ];
 
 #[test]

@@ -55,6 +55,17 @@ const COUNTED: &[Part] = &[
         "or r2,r0,1\nst r2,r0,0x5000\nst r0,r0,0x5000\nst r2,r0,0x4FFC\n",
         "out -\nmem 00004FFC 00000001\n",
     ),
+    ("run 1 none -", "or r2,r0,1\n", "end limit\nretired 1\n"),
+    (
+        "run 1 none -",
+        "or r2,r0,1\nrte\n",
+        "end limit\nretired 1\n",
+    ),
+    (
+        "run 3 none -",
+        "or r9,r0,0x20\nor r2,r0,65\ntb0 0,r0,496\n",
+        "end limit\nretired 3\n",
+    ),
 ];
 
 #[test]
