@@ -14,7 +14,7 @@ use Rattle.m88_asm.specs.Faults.{IsAssembled}
 use Rattle.m88_asm.specs.Images.{IsUnitImage}
 use Rattle.m88_asm.specs.Objects.{objects_of}
 use Rattle.m88_asm.specs.Units.{unit_layout}
-use Rattle.m88_parse.proofs.Law.Faults.{one_answer}
+use Rattle.m88_parse.proofs.Law.Faults.{one_verdict}
 use Rattle.m88_parse.specs.Language.Units.{IsUnit}
 use Rattle.m88_parse.specs.declared.unit.Unit.{Unit as Source}
 use Rattle.m88_cli.specs.Answer.{IsAnswerToAccepted, IsAnswerToRefused}
@@ -25,11 +25,11 @@ use Rattle.m88_cli.specs.Objects.{IsLinkableText, IsRefusedObjects}
 use Rattle.m88_cli.specs.Refusal.{Refusal}
 use Rattle.m88_cli.proofs.OneObjects.{no_form, no_range}
 use Rattle.m88_cli.proofs.OneSource.{one_refusal}
-use Rattle.m88_cli.proofs.BridgeLayouts.{linkable_too, linked_too, one_text, refused_first, refused_too}
-use Rattle.m88_cli.proofs.BridgeObjects.{objects_have_text}
-use Rattle.m88_cli.proofs.BridgeSound.{modules_sound}
-use Rattle.m88_cli.proofs.BridgeUnits.{unit_formed}
-use Rattle.m88_cli.proofs.Linked.{recorded}
+use Rattle.m88_asm.proofs.Layouts.{linkable_too, linked_too, one_text, refused_first, refused_too}
+use Rattle.m88_asm.proofs.ObjectTexts.{objects_have_text}
+use Rattle.m88_asm.proofs.UnitSound.{modules_sound}
+use Rattle.m88_parse.proofs.FormedUnits.{unit_formed}
+use Rattle.m88_cli.proofs.Linked.{readable, recorded}
 use Rattle.m88_cli.proofs.ObjectReplies.{linked_text}
 use Rattle.m88_cli.proofs.OneUnit.{not_assembled}
 
@@ -50,14 +50,14 @@ written source objects short a =
       is_unit = a.output.is_unit;
       assembled = assembled;
       is_text = record {
-        have = objects_have_text source u short a.output.is_unit assembled;
+        have = objects_have_text source u (readable source short) a.output.is_unit assembled;
         sound = All-from_recursion IsSound (objects_of u) (modules_sound u.modules assembled);
         text_is = a.output.is_text;
       };
     }
 
 same_unit : (source objects : List ℕ) (w : Written source objects) (u : Source) → IsUnit source u → u ≡ w.unit
-same_unit source objects w u is = (one_answer source).one_unit u w.unit is w.is_unit
+same_unit source objects w u is = (one_verdict source).one_value u w.unit is w.is_unit
 
 same_objects : (source objects : List ℕ) (w : Written source objects) (os : List Object) → IsSoundText os objects
     → os ≡ objects_of w.unit
@@ -77,7 +77,7 @@ to_link source objects text short w h =
     let of : IsUnitImage u image =
     subst (λ (v : Source). IsUnitImage v image) (same_unit source objects w own.unit own.is_unit) own.is_image in
     linked_text objects text (objects_of u) (objects_of u) image refl w.is_text (linkable_too u accepted.linkable)
-    (linked_too u image (unit_formed source u short w.is_unit) accepted of) of.is_image h.output.is_text
+    (linked_too u image (unit_formed source u (readable source short) w.is_unit) accepted of) of.is_image h.output.is_text
 
 -- what `link` accepts can be linked of the source
 can_link : (source objects : List ℕ) (w : Written source objects) → IsLinkableText objects
@@ -102,7 +102,7 @@ from_link source objects text short w h =
     subst (λ (os : List Object). IsLinked (layout_of os) image)
     (same_objects source objects w own.objects own.is_text) own.is_linked in
     let here : IsLinked (unit_layout u) image =
-    linked_law u image (unit_formed source u short w.is_unit) (can_link source objects w h.accepted) there in
+    linked_law u image (unit_formed source u (readable source short) w.is_unit) (can_link source objects w h.accepted) there in
     let bytes = bytes_law u image accepted.linkable here in
     let of : IsUnitImage u image = record { is_image = own.is_image; bytes = bytes; start = here.start } in
     recorded source text u image w.is_unit accepted of h.output.is_output

@@ -4,7 +4,7 @@ use Rattle.std.proofs.Math.Path.{fun_ext}
 use Rattle.m88_base.specs.Image.{ProgramImage, byte_at, byte_count}
 use Rattle.m88_isa.specs.ImageProgram.{IsInstructionAt}
 use Rattle.m88_isa.specs.Machine.{Program}
-use Rattle.m88_parse.proofs.Law.Faults.{one_answer}
+use Rattle.m88_parse.proofs.Law.Faults.{one_verdict}
 use Rattle.m88_parse.specs.Language.Units.{IsUnit}
 use Rattle.m88_parse.specs.declared.unit.Unit.{Unit as Source}
 use Rattle.m88_link.specs.Layout.{Layout}
@@ -23,7 +23,8 @@ use Rattle.m88_cli.specs.Bridge.{BuiltRunsAlike, FitsInput}
 use Rattle.m88_cli.specs.Command.{build}
 use Rattle.m88_cli.specs.Linking.{HoldsUnit}
 use Rattle.m88_cli.specs.Runs.{ComesTo, IsLoadedProgram, IsReport, IsSourceProgram}
-use Rattle.m88_cli.proofs.BridgeUnits.{unit_formed}
+use Rattle.m88_parse.proofs.FormedUnits.{unit_formed}
+use Rattle.m88_cli.proofs.Linked.{readable}
 use Rattle.m88_cli.proofs.Programs.{Held, held_by, one_loaded_program, one_source_program}
 
 -- the sections of a layout, taken for an image
@@ -39,7 +40,7 @@ holds_unit : (source : List ℕ) (u : Source) (image : ProgramImage) → FitsInp
     → IsAcceptedUnit u
     → IsUnitImage u image → HoldsUnit source image
 holds_unit source u image short is accepted of =
-    let formed = unit_formed source u short is in
+    let formed = unit_formed source u (readable source short) is in
     let spots = spots_of (unit_layout u) image.start in
     let linked : IsLinked (unit_layout u) spots = spots_linked (unit_layout u) image.start of.start in
     let same : (a : ℕ) → byte_at spots a ≡ byte_at image a =
@@ -48,8 +49,7 @@ holds_unit source u image short is accepted of =
       unit = u;
       is_unit = is;
       is_accepted = accepted;
-      bytes = of.bytes;
-      start = of.start;
+      is_image = of;
       instructions = λ a o there.
           subst (λ found. IsInstructionAt found a o) (fun_ext same)
           (instructions_law u spots formed accepted.assembled accepted.linkable linked a o there);
@@ -66,7 +66,7 @@ built source records short answer =
     let own = answer.output.of_source in
     let image = answer.output.image in
     let same : own.unit ≡ answer.accepted.unit =
-    (one_answer source).one_unit own.unit answer.accepted.unit own.is_unit answer.accepted.is_unit in
+    (one_verdict source).one_value own.unit answer.accepted.unit own.is_unit answer.accepted.is_unit in
     let accepted : IsAcceptedUnit own.unit = subst IsAcceptedUnit (sym same) answer.accepted.is_accepted in
     record {
       image = image;

@@ -3,6 +3,8 @@ pub mod PageLists
 pub mod ScriptLines
 pub mod Scripts
 pub mod ScriptReading
+pub mod ScriptTold
+pub mod OneScript
 pub mod Spelling
 pub mod SpellingRuns
 pub mod SpellingThree
@@ -18,15 +20,7 @@ pub mod Listed
 pub mod ObjectReplies
 pub mod InputSessions
 pub mod Whole
-pub mod BridgeOperands
-pub mod BridgeUnits
 pub mod BridgeRuns
-pub mod BridgeTokens
-pub mod BridgeRanges
-pub mod BridgeSound
-pub mod BridgeObjects
-pub mod BridgeCounts
-pub mod BridgeLayouts
 pub mod Drawing
 pub mod Statements
 pub mod PlainSources

@@ -1,18 +1,23 @@
 -- What a source is assembled and linked into answers it.
-use Rattle.std.proofs.Common.{◌≡◌, List, ℕ, ap, sym, ◌∙◌, subst}
-use Rattle.m88_base.specs.Image.{IsImage, ProgramImage}
+use Rattle.std.proofs.Common.{◌≡◌, ◌<◌, ◌≤◌, ◌^◌, List, ℕ, length, ap, arith, sym, ◌∙◌, subst}
+use Rattle.m88_base.specs.Image.{ProgramImage}
 use Rattle.m88_base.proofs.SameRuns.{same_images}
 use Rattle.m88_link.specs.ObjectText.{objects_text}
 use Rattle.m88_link.specs.declared.object.Object.{Object}
 use Rattle.m88_asm.specs.Accepted.{IsAcceptedUnit}
 use Rattle.m88_asm.specs.Images.{IsUnitImage}
 use Rattle.m88_parse.specs.Language.Units.{IsUnit}
-use Rattle.m88_parse.proofs.Law.Faults.{one_answer}
+use Rattle.m88_parse.proofs.Law.Faults.{one_verdict}
 use Rattle.m88_srec.specs.Written.{srec_text}
 use Rattle.m88_parse.specs.declared.unit.Unit.{Unit as Source}
 use Rattle.m88_cli.specs.Answer.{IsAnswerToAccepted}
 use Rattle.m88_cli.specs.Linking.{HoldsUnit, IsObjectsOf}
 use Rattle.m88_cli.specs.Command.{asm, build}
+use Rattle.m88_cli.specs.Limits.{most_input}
+
+-- an input is short enough for the assembler
+pub readable : (source : List ℕ) → length source ≤ most_input → length source < 2 ^ 31
+readable source short = omega (arith, short)
 
 -- the text of its objects
 pub assembled : (source text : List ℕ) (objects : List Object) → IsObjectsOf source objects → text ≡ objects_text objects
@@ -22,7 +27,7 @@ assembled source text objects of_source is = record {
   output = record {
     unit = of_source.unit;
     is_unit = of_source.is_unit;
-    only = λ other is_too. (one_answer source).one_unit other of_source.unit is_too of_source.is_unit;
+    only = λ other is_too. (one_verdict source).one_value other of_source.unit is_too of_source.is_unit;
     is_text = is ∙ ap objects_text of_source.objects_are;
   };
 }
@@ -41,14 +46,12 @@ recorded source text u image is_unit is_accepted own is = record {
     image = image;
     of_source = record { unit = u; is_unit = is_unit; is_image = own };
     only = λ other is_too.
-        let unit = (one_answer source).one_unit is_too.unit u is_too.is_unit is_unit in
+        let unit = (one_verdict source).one_value is_too.unit u is_too.is_unit is_unit in
         one_image u other image (subst (λ v. IsUnitImage v other) unit is_too.is_image) own;
     is_text = is;
   };
 }
 
-pub linked : (source text : List ℕ) (image : ProgramImage) → HoldsUnit source image → IsImage image → text ≡ srec_text image
+pub linked : (source text : List ℕ) (image : ProgramImage) → HoldsUnit source image → text ≡ srec_text image
     → IsAnswerToAccepted build source text
-linked source text image holds is_image is =
-    recorded source text holds.unit image holds.is_unit holds.is_accepted
-    (record { is_image = is_image; bytes = holds.bytes; start = holds.start }) is
+linked source text image holds is = recorded source text holds.unit image holds.is_unit holds.is_accepted holds.is_image is

@@ -6,7 +6,7 @@ use Rattle.m88_base.specs.declared.failing.NoMemory.{NoMemory}
 use Rattle.m88_link.specs.Faults.{memory_fault}
 use Rattle.m88_link.specs.Layout.{layout_of}
 use Rattle.m88_link.specs.Linked.{IsLinked}
-use Rattle.m88_link.specs.ObjectRead.{IsRefusedText, IsSoundText}
+use Rattle.m88_link.specs.ObjectRead.{IsSoundText, IsTextFault}
 use Rattle.m88_link.specs.Refusal.{IsLinkable, IsRefused}
 use Rattle.m88_link.specs.declared.fault.LinkFault.{LinkFault}
 use Rattle.m88_link.specs.declared.object.Object.{Object}
@@ -48,13 +48,15 @@ linked_text text output given objects image e is_text is_linkable is_linked is_i
     }
 
 -- the refusal of a text that is none of sound objects
-pub objects_refused : (text : List ℕ) (fault : ObjectFault) (result : Result Reply NoMemory) → IsRefusedText text fault
-    → IfOk result (RefusesObjects fault) → IfOk result (Replies link text)
+pub objects_refused : (text : List ℕ) (fault : ObjectFault) (result : Result Reply NoMemory)
+    → (fault ≡ Memory) ⊎ IsTextFault text fault → IfOk result (RefusesObjects fault) → IfOk result (Replies link text)
 objects_refused text fault (Err e) first told = tt
-objects_refused text (Form n) (Ok r) first told =
+objects_refused text (Form n) (Ok r) (inl memory) told = absurd cc
+objects_refused text (Form n) (Ok r) (inr first) told =
     refused_reply {Told = Unit {0}} link text (form_refusal n) (Ok r)
     (λ _. inl (record { line = n; is_first = first; refusal = refl })) told.line told.refused tt
-objects_refused text (Range n) (Ok r) first told =
+objects_refused text (Range n) (Ok r) (inl memory) told = absurd cc
+objects_refused text (Range n) (Ok r) (inr first) told =
     refused_reply {Told = Unit {0}} link text (range_refusal n) (Ok r)
     (λ _. inr (inl (record { line = n; is_first = first; refusal = refl }))) told.line told.refused tt
 objects_refused text Memory (Ok r) first told = absurd told

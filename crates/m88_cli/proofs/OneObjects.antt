@@ -1,61 +1,39 @@
 -- A text of objects can be linked or has one refusal, and is linked into one image.
-use Rattle.std.proofs.Common.{◌≡◌, ℕ, List, Result, Ok, Err, inl, inr, ap, sym, ◌∙◌, subst}
-use Rattle.std.specs.Prelude.{◌⊎◌}
+use Rattle.std.proofs.Common.{◌≡◌, ℕ, List, inl, inr, ap, sym, ◌∙◌, subst}
 use Rattle.m88_base.specs.Image.{ProgramImage}
 use Rattle.m88_base.proofs.SameRuns.{same_images}
 use Rattle.m88_link.proofs.OneRefusal.{not_both, one_refusal}
-use Rattle.m88_link.proofs.Told.{told_form, told_range, told_written}
+use Rattle.m88_link.proofs.OneText.{one_verdict}
 use Rattle.m88_link.specs.Layout.{layout_of}
 use Rattle.m88_link.specs.Linked.{IsLinked}
 use Rattle.m88_link.specs.ObjectRead.{IsFormLine, IsRangeLine, IsSoundText}
 use Rattle.m88_link.specs.Refusal.{IsLinkable, IsRefused}
 use Rattle.m88_link.specs.declared.object.Object.{Object}
-use Rattle.m88_link.specs.declared.object_fault.ObjectFault.{ObjectFault}
-use Rattle.m88_link.specs.declared.object_fault.ObjectFault.TheVariants.{Form, Range, Memory}
+use Rattle.m88_link.specs.declared.object_fault.ObjectFault.TheVariants.{Form, Range}
 use Rattle.m88_cli.specs.Assembly.{link_refusal}
 use Rattle.m88_cli.specs.Objects.{IsImageOfObjects, IsLinkableText, IsRefusedObjects, IsUnlinkable, form_refusal, range_refusal}
 use Rattle.m88_cli.specs.Refusal.{Refusal}
 
--- objects as an answer to their text, and a fault as one
-abbrev read : List Object → Result (List Object) ObjectFault
-read objects = Ok objects
-
-abbrev failed : ObjectFault → Result (List Object) ObjectFault
-failed fault = Err fault
-
 -- a text is that of one list of sound objects
 one_list : (text : List ℕ) (os ps : List Object) → IsSoundText os text → IsSoundText ps text → os ≡ ps
-one_list text os ps a b = told_written (λ (l : List Object). l) text (read os) a ps b
+one_list text os ps a b = (one_verdict text).one_value os ps a b
 
 -- which no line refuses
 pub no_form : (text : List ℕ) (os : List Object) (n : ℕ) → IsSoundText os text → IsFormLine text n → ⊥
-no_form text os n a form = told_form (λ (l : List Object). l) text (read os) a n form
+no_form text os n a form = (one_verdict text).not_both os (Form n) a form
 
 pub no_range : (text : List ℕ) (os : List Object) (n : ℕ) → IsSoundText os text → IsRangeLine text n → ⊥
-no_range text os n a range = told_range (λ (l : List Object). l) text (read os) a n range
-
--- a fault names one line
-form_line : (m n : ℕ) → (Form m ≡ Form n) ⊎ (Form m ≡ Memory) → m ≡ n
-form_line m n (inl same) = cc
-form_line m n (inr memory) = absurd cc
-
-range_line : (m n : ℕ) → (Range m ≡ Range n) ⊎ (Range m ≡ Memory) → m ≡ n
-range_line m n (inl same) = cc
-range_line m n (inr memory) = absurd cc
-
-not_form : (m n : ℕ) → (Range m ≡ Form n) ⊎ (Range m ≡ Memory) → ⊥
-not_form m n (inl same) = absurd cc
-not_form m n (inr memory) = absurd cc
+no_range text os n a range = (one_verdict text).not_both os (Range n) a range
 
 -- so one line is the first of its kind, and there are no lines of both kinds
 one_form : (text : List ℕ) (m n : ℕ) → IsFormLine text m → IsFormLine text n → m ≡ n
-one_form text m n a b = form_line m n (told_form (λ (l : List Object). l) text (failed (Form m)) a n b)
+one_form text m n a b = let same = (one_verdict text).one_fault (Form m) (Form n) a b in cc
 
 one_range : (text : List ℕ) (m n : ℕ) → IsRangeLine text m → IsRangeLine text n → m ≡ n
-one_range text m n a b = range_line m n (told_range (λ (l : List Object). l) text (failed (Range m)) a n b)
+one_range text m n a b = let same = (one_verdict text).one_fault (Range m) (Range n) a b in cc
 
 one_kind : (text : List ℕ) (m n : ℕ) → IsRangeLine text m → IsFormLine text n → ⊥
-one_kind text m n a b = not_form m n (told_form (λ (l : List Object). l) text (failed (Range m)) a n b)
+one_kind text m n a b = let same = (one_verdict text).one_fault (Range m) (Form n) a b in absurd cc
 
 -- a text that is refused can't be linked
 pub not_linkable : (text : List ℕ) (r : Refusal) → IsLinkableText text → IsRefusedObjects text r → ⊥

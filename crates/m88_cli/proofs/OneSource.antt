@@ -1,27 +1,45 @@
--- An input that a command refuses isn't accepted, and has one refusal.
-use Rattle.std.proofs.Common.{◌≡◌, ℕ, List, ap, sym, ◌∙◌}
-use Rattle.m88_srec.proofs.Law.{verdict_takes}
+-- An input is accepted by a command or has one refusal, never both.
+use Rattle.std.proofs.Common.{◌≡◌, ℕ, List, Option, None, Some, ap, inl, inr, refl, sym, ◌∙◌}
+use Rattle.std.specs.Prelude.{◌⊎◌}
+use Rattle.m88_base.specs.OneVerdict.{HasOneFaultUnless}
+use Rattle.m88_parse.proofs.Law.Faults as sources
+use Rattle.m88_parse.specs.Language.Units.{IsUnit}
+use Rattle.m88_parse.specs.declared.unit.Unit.{Unit as Source}
+use Rattle.m88_link.proofs.OneRefusal as layouts
+use Rattle.m88_link.proofs.OneText as texts
+use Rattle.m88_link.specs.Layout.{layout_of}
+use Rattle.m88_link.specs.ObjectRead.{IsSoundText, IsTextFault}
+use Rattle.m88_link.specs.declared.object.Object.{Object}
+use Rattle.m88_link.specs.declared.object_fault.ObjectFault.{ObjectFault}
+use Rattle.m88_link.specs.declared.object_fault.ObjectFault.TheVariants.{Form, Range, Memory}
+use Rattle.m88_asm.proofs.OneUnit as units
+use Rattle.m88_asm.specs.Accepted.{IsFirstUnitFault}
+use Rattle.m88_asm.specs.Faults.{unit_fault}
+use Rattle.m88_asm.specs.declared.fault.AsmFault.{AsmFault}
+use Rattle.m88_asm.specs.declared.fault.UnitFault.{UnitFault}
+use Rattle.m88_asm.specs.declared.fault.UnitFault.TheVariants as unit_kind
+use Rattle.m88_srec.proofs.Law as records
 use Rattle.m88_cli.specs.Answer.{Accepts, Refuses}
+use Rattle.m88_cli.specs.Assembly.{IsAssemblySource, IsProgramSource, IsRefusedProgram, IsRefusedSource}
+use Rattle.m88_cli.specs.Behind.{IsRefusedBehind, unassembled_behind, unlinked_behind, unread_behind}
 use Rattle.m88_cli.specs.Command.{Command, run, exec, dis, asm, link, build, soak, mon}
 use Rattle.m88_cli.specs.Loading.{IsRecords, IsRefusedRecords, srec_refusal}
+use Rattle.m88_cli.specs.Monitoring.{IsMonitorInput, IsRefusedMonitor}
+use Rattle.m88_cli.specs.Objects.{IsLinkableText, IsRefusedObjects}
 use Rattle.m88_cli.specs.Refusal.{Refusal}
 use Rattle.m88_cli.proofs.OneObjects.{not_linkable, same_objects_refusal}
 use Rattle.m88_cli.proofs.Monitored.{not_accepted, refused_once}
-use Rattle.m88_cli.proofs.OneUnit.{not_assembled, not_linked, same_program_refusal, same_refusal}
+use Rattle.m88_cli.proofs.OneScript as scripts
+use Rattle.m88_cli.proofs.OneUnit.{not_assembled, not_linked, same_program_refusal, same_refusal, whole_input}
 
 -- S-records that are refused are none that are accepted
 not_loaded : (text : List ℕ) (r : Refusal) → IsRecords text → IsRefusedRecords text r → ⊥
-not_loaded text r accepted refused =
-    let takes = verdict_takes text accepted.0 accepted.1 in
-    let fails = refused.is_first in
-    absurd cc
+not_loaded text r accepted refused = (records.one_verdict text).not_both accepted.0 refused.fault accepted.1 refused.is_first
 
 -- they have one refusal
 same_records : (text : List ℕ) (r s : Refusal) → IsRefusedRecords text r → IsRefusedRecords text s → r ≡ s
 same_records text r s a b =
-    let one = a.is_first in
-    let other = b.is_first in
-    let fault : a.fault ≡ b.fault = cc in
+    let fault = (records.one_verdict text).one_fault a.fault b.fault a.is_first b.is_first in
     a.refusal ∙ ap srec_refusal fault ∙ sym b.refusal
 
 pub refused_not_accepted : (command : Command) (input : List ℕ) (r : Refusal) → Refuses command input r → ¬ Accepts command input
@@ -43,3 +61,109 @@ one_refusal link input r s a b = same_objects_refusal input r s a b
 one_refusal build input r s a b = same_program_refusal input r s a b
 one_refusal (soak number count) input r s a b = absurd a
 one_refusal (mon absent schedule) input r s a b = refused_once input r s a b
+
+-- a source is assembled or refused
+assembly_or_refusal : (source : List ℕ) → IsAssemblySource source ⊎ ((r : Refusal) × IsRefusedSource source r)
+assembly_or_refusal source = elim (sources.one_verdict source).some [
+  | inl unit ↦ by_statements unit.0 unit.1 (unit_fault unit.0) refl
+  | inr fault ↦ inr (_, inl (record { fault = fault.0; is_first = fault.1; refusal = refl }))
+]
+  where
+    by_statements : (u : Source) → IsUnit source u → (o : Option AsmFault) → unit_fault u ≡ o
+        → IsAssemblySource source ⊎ ((r : Refusal) × IsRefusedSource source r)
+    by_statements u is_unit None none = inl (record { unit = u; is_unit = is_unit; is_assembled = none })
+    by_statements u is_unit (Some fault) first =
+        inr (_, inr (record { unit = u; is_unit = is_unit; fault = fault; is_first = first; refusal = refl }))
+
+-- and assembled and linked, or refused, behind other lines of its input too
+program_or_refusal : (n : ℕ) (source : List ℕ) → IsProgramSource source ⊎ ((r : Refusal) × IsRefusedBehind n source r)
+program_or_refusal n source = elim (sources.one_verdict source).some [
+  | inr fault ↦ inr (_, unread_behind fault.0 fault.1 refl)
+  | inl unit ↦ elim (units.one_verdict unit.0).some [
+    | inl accepted ↦ inl (record { unit = unit.0; is_unit = unit.1; is_accepted = accepted.1 })
+    | inr fault ↦ inr (by_fault unit.0 unit.1 fault.0 fault.1)
+  ]
+]
+  where
+    by_fault : (u : Source) → IsUnit source u → (fault : UnitFault) → IsFirstUnitFault u fault → (r : Refusal) × IsRefusedBehind n source r
+    by_fault u is_unit (unit_kind.Asm fault) first = (_, unassembled_behind u fault is_unit first refl)
+    by_fault u is_unit (unit_kind.Link fault) (assembled, refused) = (_, unlinked_behind u fault is_unit assembled refused refl)
+
+-- a source that is the whole of an input
+as_whole : (source : List ℕ) → IsProgramSource source ⊎ ((r : Refusal) × IsRefusedProgram source r)
+as_whole source = elim (program_or_refusal 0 source) [
+  | inl program ↦ inl program
+  | inr refused ↦ inr (refused.0, whole_input source refused.0 refused.1)
+]
+
+-- S-records are accepted or refused
+records_or_refusal : (text : List ℕ) → IsRecords text ⊎ ((r : Refusal) × IsRefusedRecords text r)
+records_or_refusal text = elim (records.one_verdict text).some [
+  | inl accepted ↦ inl accepted
+  | inr fault ↦ inr (_, record { fault = fault.0; is_first = fault.1; refusal = refl })
+]
+
+-- object texts are linked or refused
+objects_or_refusal : (text : List ℕ) → IsLinkableText text ⊎ ((r : Refusal) × IsRefusedObjects text r)
+objects_or_refusal text = elim (texts.one_verdict text).some [
+  | inl sound ↦ by_layout sound.0 sound.1
+  | inr fault ↦ inr (by_fault fault.0 fault.1)
+]
+  where
+    by_layout : (os : List Object) → IsSoundText os text → IsLinkableText text ⊎ ((r : Refusal) × IsRefusedObjects text r)
+    by_layout os is_text = elim (layouts.one_verdict (layout_of os)).some [
+      | inl links ↦ inl (record { objects = os; is_text = is_text; is_linkable = links.1 })
+      | inr fault ↦ inr (_, inr (inr (record { objects = os; is_text = is_text; fault = fault.0; is_refused = fault.1; refusal = refl })))
+    ]
+
+    by_fault : (fault : ObjectFault) → IsTextFault text fault → (r : Refusal) × IsRefusedObjects text r
+    by_fault (Form n) first = (_, inl (record { line = n; is_first = first; refusal = refl }))
+    by_fault (Range n) first = (_, inr (inl (record { line = n; is_first = first; refusal = refl })))
+    by_fault Memory first = absurd first
+
+-- inputs of the monitor
+monitor_or_refusal : (input : List ℕ) → IsMonitorInput input ⊎ ((r : Refusal) × IsRefusedMonitor input r)
+monitor_or_refusal input = elim (scripts.one_verdict input).some [
+  | inr none ↦ inr (_, inl (record { line = none.0; has_none = none.1; refusal = refl }))
+  | inl script ↦ elim (program_or_refusal script.0.lines script.0.source) [
+    | inl program ↦ inl (record {
+      commands = script.0.commands;
+      lines = script.0.lines;
+      source = script.0.source;
+      is_script = script.1;
+      is_program = program;
+    })
+    | inr refused ↦ inr (
+      refused.0,
+      inr (record {
+        commands = script.0.commands;
+        lines = script.0.lines;
+        source = script.0.source;
+        is_script = script.1;
+        is_refused = refused.1;
+      }),
+    )
+  ]
+]
+
+-- inputs of all commands
+accepted_or_refused : (command : Command) (input : List ℕ) → Accepts command input ⊎ ((r : Refusal) × Refuses command input r)
+accepted_or_refused (run limit absent schedule) input = as_whole input
+accepted_or_refused (exec limit absent schedule) input = records_or_refusal input
+accepted_or_refused dis input = records_or_refusal input
+accepted_or_refused asm input = assembly_or_refusal input
+accepted_or_refused link input = objects_or_refusal input
+accepted_or_refused build input = as_whole input
+accepted_or_refused (soak number count) input = inl tt
+accepted_or_refused (mon absent schedule) input = monitor_or_refusal input
+
+pub one_verdict : (command : Command) (input : List ℕ) → HasOneFaultUnless (Accepts command input) (Refuses command input)
+one_verdict command input = record {
+  some = elim (accepted_or_refused command input) [
+    | inl accepted ↦ inl (tt, accepted)
+    | inr refused ↦ inr refused
+  ];
+  not_both = λ value r accepted refused. refused_not_accepted command input r refused accepted;
+  one_value = λ a b h k. refl;
+  one_fault = one_refusal command input;
+}

@@ -1,7 +1,7 @@
 -- A source of the assembly language has one unit or one first fault, and a unit is laid out or has one fault: so a
 -- command accepts a source or has one refusal of it, behind other lines of its input too.
 use Rattle.std.proofs.Common.{◌≡◌, ◌+◌, List, ℕ, Option, None, Some, ap, arith, inl, inr, refl, sym, subst, ◌∙◌}
-use Rattle.m88_parse.proofs.Law.Faults.{one_answer}
+use Rattle.m88_parse.proofs.Law.Faults.{one_verdict}
 use Rattle.m88_parse.specs.Language.Units.{IsUnit}
 use Rattle.m88_parse.specs.declared.fault.ParseFault.{ParseFault}
 use Rattle.m88_parse.specs.declared.unit.Unit.{Unit as Source}
@@ -26,9 +26,9 @@ none_some o fault none some = absurd cc
 -- a source that is refused can't be assembled
 pub not_assembled : (source : List ℕ) (r : Refusal) → IsAssemblySource source → IsRefusedSource source r → ⊥
 not_assembled source r accepted (inl unread) =
-    (one_answer source).not_both accepted.unit unread.fault accepted.is_unit unread.is_first
+    (one_verdict source).not_both accepted.unit unread.fault accepted.is_unit unread.is_first
 not_assembled source r accepted (inr unassembled) =
-    let same = (one_answer source).one_unit accepted.unit unassembled.unit accepted.is_unit unassembled.is_unit in
+    let same = (one_verdict source).one_value accepted.unit unassembled.unit accepted.is_unit unassembled.is_unit in
     none_some (unit_fault unassembled.unit) unassembled.fault (subst IsAssembled same accepted.is_assembled) unassembled.is_first
 
 -- a source that is accepted for linking can be assembled
@@ -39,7 +39,7 @@ assembled source accepted = record { unit = accepted.unit; is_unit = accepted.is
 pub not_linked : (source : List ℕ) (r : Refusal) → IsProgramSource source → IsRefusedProgram source r → ⊥
 not_linked source r accepted (inl refused) = not_assembled source r (assembled source accepted) refused
 not_linked source r accepted (inr unlinked) =
-    let same = (one_answer source).one_unit accepted.unit unlinked.unit accepted.is_unit unlinked.is_unit in
+    let same = (one_verdict source).one_value accepted.unit unlinked.unit accepted.is_unit unlinked.is_unit in
     not_both (unit_layout unlinked.unit) unlinked.fault
     (subst (λ (u : Source). IsLinkable (unit_layout u)) same accepted.is_accepted.linkable) unlinked.is_refused
 
@@ -98,27 +98,27 @@ alone n source r (unlinked_behind unit fault is_unit assembled refused e) =
 -- behind so many lines it is refused in one way
 no_fault : (source : List ℕ) (u v : Source) (fault : AsmFault) → IsUnit source u → IsUnit source v → unit_fault u ≡ Some fault → IsAssembled v → ⊥
 no_fault source u v fault is is_too first assembled =
-    let unit = (one_answer source).one_unit v u is_too is in
+    let unit = (one_verdict source).one_value v u is_too is in
     none_some (unit_fault u) fault (subst IsAssembled unit assembled) first
 
 pub same_behind : (n : ℕ) (source : List ℕ) (r s : Refusal) → IsRefusedBehind n source r → IsRefusedBehind n source s → r ≡ s
 same_behind n source r s (unread_behind f first e) (unread_behind g other d) =
-    e ∙ ap (λ x. parse_refusal (parse_fault_behind n x)) ((one_answer source).one_fault f g first other) ∙ sym d
-same_behind n source r s (unread_behind f first e) (unassembled_behind unit g is_unit other d) = absurd ((one_answer source).not_both unit f is_unit first)
-same_behind n source r s (unread_behind f first e) (unlinked_behind unit g is_unit assembled other d) = absurd ((one_answer source).not_both unit f is_unit first)
-same_behind n source r s (unassembled_behind unit f is_unit first e) (unread_behind g other d) = absurd ((one_answer source).not_both unit g is_unit other)
+    e ∙ ap (λ x. parse_refusal (parse_fault_behind n x)) ((one_verdict source).one_fault f g first other) ∙ sym d
+same_behind n source r s (unread_behind f first e) (unassembled_behind unit g is_unit other d) = absurd ((one_verdict source).not_both unit f is_unit first)
+same_behind n source r s (unread_behind f first e) (unlinked_behind unit g is_unit assembled other d) = absurd ((one_verdict source).not_both unit f is_unit first)
+same_behind n source r s (unassembled_behind unit f is_unit first e) (unread_behind g other d) = absurd ((one_verdict source).not_both unit g is_unit other)
 same_behind n source r s (unassembled_behind u f is_unit first e) (unassembled_behind v g is_too other d) =
-    let unit = (one_answer source).one_unit u v is_unit is_too in
+    let unit = (one_verdict source).one_value u v is_unit is_too in
     let both : Some f ≡ Some g = sym first ∙ ap unit_fault unit ∙ other in
     let fault : f ≡ g = cc in
     e ∙ ap (λ x. asm_refusal (asm_fault_behind n x)) fault ∙ sym d
 same_behind n source r s (unassembled_behind u f is_unit first e) (unlinked_behind v g is_too assembled other d) =
     absurd (no_fault source u v f is_unit is_too first assembled)
-same_behind n source r s (unlinked_behind unit f is_unit assembled first e) (unread_behind g other d) = absurd ((one_answer source).not_both unit g is_unit other)
+same_behind n source r s (unlinked_behind unit f is_unit assembled first e) (unread_behind g other d) = absurd ((one_verdict source).not_both unit g is_unit other)
 same_behind n source r s (unlinked_behind u f is_unit assembled first e) (unassembled_behind v g is_too other d) =
     absurd (no_fault source v u g is_too is_unit other assembled)
 same_behind n source r s (unlinked_behind u f is_unit assembled first e) (unlinked_behind v g is_too too other d) =
-    let unit = (one_answer source).one_unit u v is_unit is_too in
+    let unit = (one_verdict source).one_value u v is_unit is_too in
     let fault = one_refusal (unit_layout v) f g (subst (λ (w : Source). IsRefused (unit_layout w) f) unit first) other in
     e ∙ ap (λ x. link_refusal (link_fault_behind n x)) fault ∙ sym d
 

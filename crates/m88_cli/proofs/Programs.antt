@@ -14,7 +14,7 @@ use Rattle.m88_isa.specs.declared.instr.Instr.{Instr}
 use Rattle.m88_codec.proofs.ImagePrograms.{program_in, program_in_holds}
 use Rattle.m88_codec.proofs.Law.{candidate_law}
 use Rattle.m88_codec.specs.Candidate.{candidate_of}
-use Rattle.m88_parse.proofs.Law.Faults.{one_answer}
+use Rattle.m88_parse.proofs.Law.Faults.{one_verdict}
 use Rattle.m88_parse.specs.declared.unit.Unit.{Unit as Source}
 use Rattle.m88_asm.specs.Images.{IsUnitInstruction, IsUnitProgram, placed_instruction, unit_byte}
 use Rattle.m88_srec.proofs.Law.{verdict_takes}
@@ -71,7 +71,7 @@ same_program p q start bytes instructions =
 -- a source has one program
 pub one_source_program : (source : List ℕ) (p q : Program) → IsSourceProgram source p → IsSourceProgram source q → p ≡ q
 one_source_program source p q a b =
-    let unit = (one_answer source).one_unit a.unit b.unit a.is_unit b.is_unit in
+    let unit = (one_verdict source).one_value a.unit b.unit a.is_unit b.is_unit in
     let own = subst (λ u. IsUnitProgram u p) unit a.is_program in
     same_program p q (own.start ∙ sym b.is_program.start) (λ n. own.bytes n ∙ sym (b.is_program.bytes n))
     (λ n. one_in_unit b.unit n (p.instruction n) (q.instruction n) (own.instructions n) (b.is_program.instructions n))
@@ -110,7 +110,7 @@ held_by source image holds is =
     let u = holds.unit in
     let q = program_in image is in
     let of = program_in_holds image is in
-    let bytes : byte_at image ≡ unit_byte u = fun_ext holds.bytes in
+    let bytes : byte_at image ≡ unit_byte u = fun_ext holds.is_image.bytes in
     let own : Program = record {
       start = image.start;
       byte = byte_at image;
@@ -124,7 +124,7 @@ held_by source image holds is =
       of_source = record {
         unit = u;
         is_unit = holds.is_unit;
-        is_program = record { start = holds.start; bytes = holds.bytes; instructions = there };
+        is_program = record { start = holds.is_image.start; bytes = holds.is_image.bytes; instructions = there };
       };
       of_image = record { start = refl; bytes = refl; instructions = λ a. holds.instructions a (own.instruction a) (there a) };
     }

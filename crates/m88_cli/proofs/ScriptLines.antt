@@ -49,7 +49,7 @@ place_is_small text address h =
     omega (arith, below, power, h.value)
 
 -- an address has no blank
-place_has_none : (text : List ℕ) (address : ℕ) → WritesAddress text address → Lacks 32 text
+pub place_has_none : (text : List ℕ) (address : ℕ) → WritesAddress text address → Lacks 32 text
 place_has_none text address h = none_in_digits 32 16 text (omega arith) h.numeral.1
 
 pub record AreParts (place digits : List ℕ) (address count : ℕ) : Type 0 where
@@ -67,7 +67,7 @@ are_parts text place digits address count e none h =
     }
 
 -- the operand behind a name is the one
-same_operand : (name : List ℕ) (IsSuch : List ℕ → Type 0) (line text : List ℕ) → line ≡ name ++ codes " " ++ text → HasOperand name IsSuch line → IsSuch text
+pub same_operand : (name : List ℕ) (IsSuch : List ℕ → Type 0) (line text : List ℕ) → line ≡ name ++ codes " " ++ text → HasOperand name IsSuch line → IsSuch text
 same_operand name IsSuch line text e h =
     subst IsSuch (append_cancel_left (name ++ codes " ") h.operand text (sym h.line_is ∙ e)) h.is_such
 

@@ -1,6 +1,6 @@
 -- Where a text stands whole behind what a sink held, it was written whole.
 use Rattle.std.proofs.Common.{◌≡◌, ℕ, ◌<◌, ◌≤◌, ◌+◌, List, [], Option, Some, None, Bool, true, false, inl, inr, refl, Result, Ok, Err, length, length-append, take, ap, sym, ◌∙◌, subst, arith}
-use Rattle.std.specs.Prelude.{MatchBool, OnErr, is_err}
+use Rattle.std.specs.Prelude.{◌≢◌, MatchBool, OnErr, is_err}
 use Rattle.std.specs.Io.KnownBytes.{Consumes, IsAtEnd}
 use Rattle.std.proofs.lemmas.List.{append-nil, length-take-le}
 use Rattle.m88_base.specs.Outside.{AppendsPart, TakesExactly}
@@ -22,6 +22,11 @@ use Rattle.m88_cli.proofs.OneSource.{one_refusal, refused_not_accepted}
 pub of_err : {T E P : Type 0} (r : Result T E) → is_err r ≡ true → OnErr r P → P
 of_err (Ok x) e h = absurd cc
 of_err (Err x) e h = h
+
+-- want of memory is no fault of a source, nor a byte too many
+pub only_memory : (status : Status) → status ≡ Memory → (status ≢ SourceFault) × (status ≢ TooLong)
+only_memory status e =
+    (λ other. absurd (let clash : Memory ≡ SourceFault = sym e ∙ other in cc), λ other. absurd (let clash : Memory ≡ TooLong = sym e ∙ other in cc))
 
 -- a line that refuses has bytes
 pub refusal_some : (r : Refusal) → 0 < length (refusal_line r)

@@ -11,7 +11,7 @@ use Rattle.m88_link.specs.declared.object_fault.ObjectFault.{ObjectFault}
 use Rattle.m88_link.specs.declared.object_fault.ObjectFault.TheVariants.{Form, Range, Memory}
 use Rattle.m88_asm.specs.Accepted.{IsAcceptedUnit}
 use Rattle.m88_asm.specs.Faults.{IsAssembled}
-use Rattle.m88_asm.specs.Images.{IsUnitInstruction, unit_byte, unit_start}
+use Rattle.m88_asm.specs.Images.{IsUnitImage, IsUnitInstruction}
 use Rattle.m88_asm.specs.Objects.{objects_of}
 use Rattle.m88_cli.specs.Objects.{form_refusal, range_refusal}
 use Rattle.m88_cli.specs.Refusal.{Refusal, refusal_line}
@@ -24,14 +24,13 @@ pub record IsObjectsOf (source : List ℕ) (objects : List Object) : Type 0 wher
   pub is_assembled : IsAssembled unit
   pub objects_are : objects ≡ objects_of unit
 
--- the image holds the source's unit, which is accepted: its bytes, its start, and where the unit has an instruction,
--- the word of that one
+-- the image is that of the source's unit, which is accepted, and where the unit has an instruction it has the word of
+-- that one
 pub record HoldsUnit (source : List ℕ) (image : ProgramImage) : Type 0 where
   pub unit : Source
   pub is_unit : IsUnit source unit
   pub is_accepted : IsAcceptedUnit unit
-  pub bytes : (a : ℕ) → byte_at image a ≡ unit_byte unit a
-  pub start : image.start ≡ unit_start unit
+  pub is_image : IsUnitImage unit image
   pub instructions : (a : ℕ) (instruction : Option Instr) → IsUnitInstruction unit a instruction
       → IsInstructionAt (byte_at image) a instruction
 

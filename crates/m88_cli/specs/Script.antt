@@ -100,6 +100,16 @@ pub record IsScript (input : List ℕ) (commands : List MonitorCommand) (n : ℕ
   pub number : n ≡ length lines + 1
   pub source_is : source ≡ behind_lines n input
 
+-- what an input with a script says: its commands, how many lines stand before the source, and the source
+pub record ScriptParts : Type 0 where
+  pub commands : List MonitorCommand
+  pub lines : ℕ
+  pub source : List ℕ
+
+-- the input says that
+abbrev pub IsScriptOf : List ℕ → ScriptParts → Type 0
+IsScriptOf input s = IsScript input s.commands s.lines s.source
+
 -- behind the lines of a script stands a line that isn't `source`, and with it they are none of a script; or no line
 abbrev pub StopsScript : List (List ℕ) → List (List ℕ) → Type 0
 StopsScript lines [] = Unit {0}

@@ -3,6 +3,7 @@ ghost use Rattle.std.specs.Prelude.{[], ◌≡◌, ◌≢◌, ◌↔◌, ◌⊎�
 ghost use Rattle.std.specs.Io.KnownBytes.{Appends};
 ghost use Rattle.m88_base.specs.Calls.{CallsWithin};
 ghost use Rattle.m88_base.specs.Causes.{Rose};
+ghost use Rattle.m88_base.specs.OneVerdict.{HasOneFaultUnless, HasOneVerdict};
 ghost use Rattle.m88_base.specs.Outside.{AppendsPart, TakesAtMost, TakesExactly};
 ghost use Rattle.m88_cli.specs.Answer.{Accepts, IsAnswer, IsAnswerToAccepted, IsAnswerToRefused, Refuses};
 ghost use Rattle.m88_cli.specs.Bridge.{AssembledLinksAlike, BuiltRunsAlike, ListedBuildsAlike};
@@ -13,6 +14,7 @@ ghost use Rattle.m88_cli.specs.Limits.{most_input};
 ghost use Rattle.m88_cli.specs.Refusal.{Refusal, refusal_line};
 ghost use Rattle.m88_cli.specs.Reply.{Replies, WatchesReply};
 ghost use Rattle.m88_cli.specs.Runs.{WorkloadsAreAccepted};
+ghost use Rattle.m88_cli.specs.Script.{HasNoScript, IsScriptOf};
 ghost use Rattle.m88_cli.specs.Status.{Answers, IsAnswered, IsOfReading, ShowsNothing, WritesNothing};
 ghost use Rattle.m88_cli.specs.Watching.{FrontOfAccepted, Shown, ShownIfAccepted};
 ghost use Rattle.m88_cli.specs.Words.{texts};
@@ -49,6 +51,10 @@ pub fn m88<S: Source, K: Sink, W: Watch>(
         → CarriedOut (texts words.now) (S.left source.old) (S.left source.new) IsAnswer
         (λ text. CallsWithin (length text) (K.calls sink.old) (K.calls sink.new))
         (λ _ _. Unit {0}) }
+
+    // A command that has no input isn't answered by what a source does.
+    ensures no_reader { SpellNoReader (texts words.now)
+        → (result ≢ Status.SourceFault) × (result ≢ Status.TooLong) }
 
     // The source failed, or it has a byte too many.
     ensures source_fault { result ≡ Status.SourceFault
@@ -106,6 +112,13 @@ pub fn m88<S: Source, K: Sink, W: Watch>(
     ensures front { result ≡ Status.Memory → (watch.new ≡ watch.old)
         ⊎ Given (texts words.now) (S.left source.old) (S.left source.new)
         (λ command input. FrontOfAccepted command input (W.seen watch.old) (W.seen watch.new)) }
+
+    // A command accepts an input or refuses it for one reason, never both; and an input is a script with a
+    // source behind it, or there is one line at which it isn't.
+    ensures one_verdict { (command : Choice) (input : List ℕ)
+        → HasOneFaultUnless (Accepts command input) (Refuses command input) }
+    ensures one_script { (input : List ℕ)
+        → HasOneVerdict (IsScriptOf input) (HasNoScript input) }
 
     // Between the commands: what `build` writes of a source runs by `exec` as the source does by `run`, what
     // `asm` writes of it links by `link` as the source does by `build`, and what `dis` writes of S-records is

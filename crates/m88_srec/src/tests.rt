@@ -109,6 +109,61 @@ fn a_text_is_refused_at_its_first_fault(rt: HostRuntime) -> Result<(), Fail> {
 }
 
 #[test]
+fn a_fault_of_a_later_line_does_not_count(rt: HostRuntime) -> Result<(), Fail> {
+    for (text, line, kind) in [
+        (
+            b"S70500001000EA\nS00600004D38383C\nx".as_slice(),
+            2,
+            SrecKind::AfterEnd,
+        ),
+        (b"S70500001000EA\nx", 2, SrecKind::AfterEnd),
+        (b"x\nS70500001000EA\nS00600004D38383C", 1, SrecKind::Form),
+        (
+            b"S30500001000\nx",
+            1,
+            SrecKind::Count {
+                written: 5,
+                found: 4,
+            },
+        ),
+        (
+            b"S00600004D38383D\nS30500001000",
+            1,
+            SrecKind::Sum {
+                written: 0x3D,
+                computed: 0x3C,
+            },
+        ),
+        (
+            b"S5030002FA\nS00600004D38383D",
+            1,
+            SrecKind::CountRecord {
+                written: 2,
+                found: 0,
+            },
+        ),
+        (
+            b"S309FFFFFFFE01020304F1\nS5030002FA",
+            1,
+            SrecKind::TooLarge,
+        ),
+        (
+            b"S1051000ABCD72\nS1041001EEFC\nS309FFFFFFFE01020304F1",
+            2,
+            SrecKind::Overlap(0x1001),
+        ),
+    ] {
+        let wanted = SrecFault { line, kind };
+        let told = match read_srec(rt.alloc(), text) {
+            Ok(_) => false,
+            Err(fault) => fault == wanted,
+        };
+        assert!(rt; told, "{wanted:?}");
+    }
+    Ok(())
+}
+
+#[test]
 fn every_type_and_either_case_are_taken(rt: HostRuntime) -> Result<(), Fail> {
     for (text, start, len) in [
         (

@@ -12,6 +12,8 @@ const FAULTS: &[Refusal] = &[
     (b"a:\na:\n", b"refused 2:1 duplicate a first at 1\n"),
     (b".byte 1\nor r2,r0,1\n", b"refused 2:1 alignment\n"),
     (b".zero 1048577\n", b"refused 1:1 too large\n"),
+    // The lines of a source come before its statements.
+    (b"a:\na:\nfoo r2\n", b"refused 3:1 no such name\n"),
 ];
 
 /// Sources whose objects can't be linked.

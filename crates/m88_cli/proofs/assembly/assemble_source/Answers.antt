@@ -16,4 +16,4 @@ returns-in-Err c =
 pub returns : goal.returns
 returns c =
     assembled c.args.source.now c.in_ok-text.text.items c.in-Ok.objects.items c.in-Ok.ensures.objects
-    (c.in_ok-text.ensures ∙ ap objects_text c.as_slice.ensures.value)
+    (c.in_ok-text.ensures.text ∙ ap objects_text c.as_slice.ensures.value)

@@ -13,5 +13,4 @@ returns-in-Err c =
 
 pub returns : goal.returns
 returns c =
-    linked c.args.source.now c.in_ok-text.text.items c.in-Ok.image c.in-Ok.ensures.image
-    c.in_ok-text.ensures.image c.in_ok-text.ensures.value
+    linked c.args.source.now c.in_ok-text.text.items c.in-Ok.image c.in-Ok.ensures.image c.in_ok-text.ensures.value

@@ -9,8 +9,9 @@ use Rattle.m88_cli.specs.Command.{reads_input}
 use Rattle.m88_cli.specs.Kept.{command_of}
 use Rattle.m88_cli.specs.Refusal.{refusal_line}
 use Rattle.m88_cli.proofs.BridgeListings.{listed_builds_alike}
-use Rattle.m88_cli.proofs.OneSource.{refused_not_accepted}
-use Rattle.m88_cli.proofs.Whole.{accepted_reply, answer_of, line_of_reply, not_part, not_whole, of_err, refusal_some, refused_reply, reply_given, reply_whole, shown_if, unanswered, wrote_nothing}
+use Rattle.m88_cli.proofs.OneScript as scripts
+use Rattle.m88_cli.proofs.OneSource.{one_verdict, refused_not_accepted}
+use Rattle.m88_cli.proofs.Whole.{accepted_reply, answer_of, line_of_reply, not_part, not_whole, of_err, only_memory, refusal_some, refused_reply, reply_given, reply_whole, shown_if, unanswered, wrote_nothing}
 use Rattle.m88_cli.proofs.program.m88.Goals as goal
 
 pub returns-in-Err-clause-refusal : goal.returns-in-Err-clause-refusal
@@ -141,3 +142,50 @@ returns-clause-writes g c = λ wrote.
           c.as_slice.ensures.value c.write_all.ensures.calls;
       watched = tt;
     }
+
+pub returns-in_default-clause-one_verdict : goal.returns-in_default-clause-one_verdict
+returns-in_default-clause-one_verdict g c = one_verdict
+
+pub returns-in_default-clause-one_script : goal.returns-in_default-clause-one_script
+returns-in_default-clause-one_script g c = scripts.one_verdict
+
+pub returns-in-Err-clause-one_verdict : goal.returns-in-Err-clause-one_verdict
+returns-in-Err-clause-one_verdict g c = one_verdict
+
+pub returns-in-Err-clause-one_script : goal.returns-in-Err-clause-one_script
+returns-in-Err-clause-one_script g c = scripts.one_verdict
+
+pub returns-then-is_err-clause-one_verdict : goal.returns-then-is_err-clause-one_verdict
+returns-then-is_err-clause-one_verdict g c = one_verdict
+
+pub returns-then-is_err-clause-one_script : goal.returns-then-is_err-clause-one_script
+returns-then-is_err-clause-one_script g c = scripts.one_verdict
+
+pub returns-then-reply-clause-one_verdict : goal.returns-then-reply-clause-one_verdict
+returns-then-reply-clause-one_verdict g c = one_verdict
+
+pub returns-then-reply-clause-one_script : goal.returns-then-reply-clause-one_script
+returns-then-reply-clause-one_script g c = scripts.one_verdict
+
+pub returns-clause-one_verdict : goal.returns-clause-one_verdict
+returns-clause-one_verdict g c = one_verdict
+
+pub returns-clause-one_script : goal.returns-clause-one_script
+returns-clause-one_script g c = scripts.one_verdict
+
+pub returns-in-Err-clause-no_reader : goal.returns-in-Err-clause-no_reader
+returns-in-Err-clause-no_reader g c = λ none.
+    let memory = c.in-Err.ensures.memory (none (command_of c.in-Some.command) c.in-Some.ensures.found) in
+    only_memory c.in-Err.status memory
+
+pub returns-in_default-clause-no_reader : goal.returns-in_default-clause-no_reader
+returns-in_default-clause-no_reader g c = λ none. (λ e. absurd cc, λ e. absurd cc)
+
+pub returns-then-is_err-clause-no_reader : goal.returns-then-is_err-clause-no_reader
+returns-then-is_err-clause-no_reader g c = λ none. (λ e. absurd cc, λ e. absurd cc)
+
+pub returns-then-reply-clause-no_reader : goal.returns-then-reply-clause-no_reader
+returns-then-reply-clause-no_reader g c = λ none. (λ e. absurd cc, λ e. absurd cc)
+
+pub returns-clause-no_reader : goal.returns-clause-no_reader
+returns-clause-no_reader g c = λ none. (λ e. absurd cc, λ e. absurd cc)

@@ -9,7 +9,7 @@ pub returns-clause-next : goal.returns-clause-next
 returns-clause-next g c = λ d s stands.
     let letter = c.letter_at-letter.result in
     let new : Monitor = record { board = c.event.new.self; taken = c.args.self.now.taken + 1; breakpoints = c.args.self.now.breakpoints } in
-    let next = c.in_ok-happened.ensures.timeline d.program d.named s.moment stands.program stands.at in
+    let next = c.in_ok-happened.ensures.timeline d.program d.named s.moment stands.at in
     next_is d c.args.schedule.now s (g.W.Watch.seen c.args.watch.now) (g.W.Watch.seen c.show.new.watch) letter
     c.in_ok-happened.happened c.args.self.now new stands c.letter_at-letter.ensures
     (record {
