@@ -48,17 +48,33 @@ fn carry_out(rt: &HostRuntime, words: &[String]) -> Status {
     let mut sink = Showing::new(rt.alloc(), StdSink::new(rt.stdout()));
     let mut watch = Unwatched::new();
     let status = m88(rt.alloc(), words, &mut source, &mut sink, &mut watch);
-    if let Status::Usage = status {
-        let usage = Usage::of(rt.alloc(), words);
-        let _ = eprintln!(rt; "{usage}");
-    }
-    if let Status::Refused = status {
-        let refused = Refused::of(name, sink.front().unwrap_or(b""), source.kept());
-        if let Some(refused) = refused {
-            let _ = eprintln!(rt; "{refused}");
-        }
+    match status {
+        Status::Usage => tell_usage(rt, words),
+        Status::Refused => tell_refusal(rt, name, sink.front(), source.kept()),
+        _ => {}
     }
     status
+}
+
+/// Tells what is wrong with words that are no command.
+fn tell_usage(rt: &HostRuntime, words: &[String]) {
+    let usage = Usage::of(rt.alloc(), words);
+    let _ = eprintln!(rt; "{usage}");
+}
+
+/// Tells where and why a command refused its input, by the line that it wrote, and shows the line of the input.
+fn tell_refusal<'a>(
+    rt: &HostRuntime,
+    command: &'a str,
+    written: Option<&'a [u8]>,
+    input: Option<&'a [u8]>,
+) {
+    let Some(written) = written else {
+        return;
+    };
+    if let Some(refused) = Refused::of(command, written, input) {
+        let _ = eprintln!(rt; "{refused}");
+    }
 }
 
 /// Whether a command reads a source or a script, whose lines a person writes.

@@ -7,7 +7,7 @@ use std::fmt;
 
 /// A word behind the name of a command.
 #[derive(Clone, Copy)]
-enum Place {
+pub enum Place {
     Limit,
     Absent,
     Schedule,
@@ -54,7 +54,7 @@ impl fmt::Display for Place {
 
 /// How a command is called: its name, the words behind it, and what it reads.
 #[derive(Clone, Copy)]
-struct Form {
+pub struct Form {
     name: &'static str,
     places: &'static [Place],
     reads: &'static str,
@@ -126,10 +126,10 @@ pub enum Usage<'a> {
     All,
     /// The first is no command's name.
     Name(&'a str),
-    /// Behind the name of a command stand too many words or too few.
-    Count(usize, usize),
+    /// Behind the name of a command stand too many words or too few: how many there are.
+    Count(Form, usize),
     /// A word behind the name of a command is not understood there.
-    Word(usize, usize, &'a str),
+    Word(Form, Place, &'a str),
 }
 
 impl<'a> Usage<'a> {
@@ -143,14 +143,12 @@ impl<'a> Usage<'a> {
         let Some(form) = form_of(name.as_str()) else {
             return Usage::Name(name.as_str());
         };
-        let count = FORMS[form].places.len();
-        if behind.len() != count {
+        if behind.len() != form.places.len() {
             return Usage::Count(form, behind.len());
         }
-        for at in 0..count {
-            let word = behind[at].as_str();
-            if !matches!(is_understood(alloc, FORMS[form], at, word), Ok(true)) {
-                return Usage::Word(form, at, word);
+        for (at, (place, word)) in form.places.iter().zip(behind).enumerate() {
+            if !matches!(is_understood(alloc, form, at, word.as_str()), Ok(true)) {
+                return Usage::Word(form, *place, word.as_str());
             }
         }
         Usage::All
@@ -158,8 +156,8 @@ impl<'a> Usage<'a> {
 }
 
 /// The form of a command's name.
-fn form_of(name: &str) -> Option<usize> {
-    FORMS.iter().position(|form| form.name == name)
+fn form_of(name: &str) -> Option<Form> {
+    FORMS.iter().find(|form| form.name == name).copied()
 }
 
 /// Whether a word is understood in one of a form's places: whether there is a command with it and words that are
@@ -184,18 +182,13 @@ impl<'a> fmt::Display for Usage<'a> {
                 f.write_str("\n")?;
                 put_all(f)
             }
-            Usage::Count(form, count) => {
-                let form = FORMS[*form];
-                write!(
-                    f,
-                    "m88 {}: {} words are wanted behind the name, and {count} are there\nusage: {form}",
-                    form.name,
-                    form.places.len()
-                )
-            }
-            Usage::Word(form, at, word) => {
-                let form = FORMS[*form];
-                let place = form.places[*at];
+            Usage::Count(form, count) => write!(
+                f,
+                "m88 {}: {} words are wanted behind the name, and {count} are there\nusage: {form}",
+                form.name,
+                form.places.len()
+            ),
+            Usage::Word(form, place, word) => {
                 write!(f, "m88 {}: {} can't be ", form.name, place.name())?;
                 put_word(f, word)?;
                 write!(f, "\n{place}\nusage: {form}")
