@@ -17,11 +17,8 @@ mod holds;
 mod images;
 mod language;
 mod limits;
-mod monitor;
-mod object_texts;
 mod objects;
 mod pieces;
-mod record_texts;
 mod records;
 mod reports;
 mod schedules;
@@ -49,9 +46,10 @@ pub type Refusal<'a> = (&'a [u8], &'a [u8]);
 pub fn expect_done(rt: &impl Abort, alloc: Global, piece: usize, rows: &[Row]) -> Result<(), Fail> {
     for (line, input, text) in rows {
         let (answer, held) = told(alloc, line, input, piece)?;
+        let wrong = String::from_utf8_lossy(alloc, held.as_slice())?;
         assert!(rt;
             answer == Status::Done && held.as_slice() == *text,
-            "{line}: {held:?} in place of {text:?}"
+            "{line} answers {answer:?} with {wrong}"
         );
     }
     Ok(())
@@ -92,9 +90,11 @@ pub fn expect_refused(
 ) -> Result<(), Fail> {
     for (input, text) in rows {
         let (answer, held) = told(alloc, line, input, 7)?;
+        let wrong = String::from_utf8_lossy(alloc, held.as_slice())?;
+        let source = String::from_utf8_lossy(alloc, input)?;
         assert!(rt;
             answer == Status::Refused && held.as_slice() == *text,
-            "{line}: {held:?} in place of {text:?}"
+            "{line} of {source} answers {answer:?} with {wrong}"
         );
     }
     Ok(())

@@ -179,6 +179,22 @@ const VALUES: &[Pair] = &[
         "or r9,r0,0x20\ntb0 0,r0,496\nor r2,r0,0x10A\ntb0 0,r0,496\n.word 0\n",
         "out 000A\n",
     ),
+    (
+        "br.n x\ntbnd r0,0\ny: or r2,r0,1\nx: or r3,r0,1\n",
+        "r0 00000000 00000000 00000000 00000001 00000000 00000000 00000000 00000000\n",
+    ),
+    (
+        "or r2,r0,0x1010\njsr.n r2\nor r3,r1,0\nrte\nor r4,r1,0\n",
+        "r0 00000000 0000100C 00001010 0000100C 0000100C 00000000 00000000 00000000\n",
+    ),
+    (
+        "or r2,r0,1\nxmem r0,r0,0x5000\n.at 0x5000\n.word 7\n",
+        "out -\nmem 00005000 00000000\n",
+    ),
+    (
+        "or r1,r0,1\nxmem r1,r0,0x5000\n.at 0x5000\n.word 7\n",
+        "r0 00000000 00000007 00000000 00000000 00000000 00000000 00000000 00000000\n",
+    ),
 ];
 
 #[test]
@@ -343,6 +359,22 @@ const ENDS: &[Pair] = &[
     (
         ".at 0x1000\n.byte 0x58\n",
         "end vector 2 at 00001000\nretired 0\n",
+    ),
+    (
+        "br.n x\nbcnd ne0,r0,x\ny: or r2,r0,1\nx:\n",
+        "end vector 5 at 00001004\nretired 1\n",
+    ),
+    (
+        "br.n x\nbb1 0,r0,x\ny: or r2,r0,1\nx:\n",
+        "end vector 5 at 00001004\nretired 1\n",
+    ),
+    (
+        "br.n x\nbsr.n x\ny: or r2,r0,1\nx:\n",
+        "end vector 5 at 00001004\nretired 1\n",
+    ),
+    (
+        "bcnd.n ne0,r0,x\nbr y\nx: rte\ny:\n",
+        "end vector 2 at 0000100C\nretired 2\n",
     ),
 ];
 

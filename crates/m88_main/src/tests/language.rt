@@ -145,6 +145,7 @@ const REFUSED: &[Refusal] = &[
         b"refused 2:7 out of range\n",
     ),
     (b".half 65536\n", b"refused 1:7 out of range\n"),
+    (b".half +1\n", b"refused 1:7 syntax\n"),
     (
         b".byte 255,-128\n.byte - 129\n",
         b"refused 2:7 out of range\n",

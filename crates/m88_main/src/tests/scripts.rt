@@ -1,10 +1,14 @@
-//! Scripts that are none, and sources behind a script that are refused at their lines in the input.
+//! Inputs of the monitor without a script, and sources behind a script that are refused at their lines in the input.
 
 use crate::tests::{Refusal, expect_refused};
 use std::test::Fail;
 
 /// Inputs without a script.
 const NO_SCRIPTS: &[Refusal] = &[
+    (b"stop\n", b"refused 1:1 script\n"),
+    (b"", b"refused 1:1 script\n"),
+    (b"go\nregs\n", b"refused 3:1 script\n"),
+    (b"go\nstop\nsource\nfoo r3\n", b"refused 2:1 script\n"),
     (b"go \nsource\n", b"refused 1:1 script\n"),
     (b"\tgo\nsource\n", b"refused 1:1 script\n"),
     (b"step\nsource\n", b"refused 1:1 script\n"),
@@ -52,6 +56,17 @@ const SOURCES: &[Refusal] = &[
         b"go\n\nsource\nor r2,r0,1\nfoo r3\n",
         b"refused 5:1 no such name\n",
     ),
+    (b"go\nsource\nsource\n", b"refused 3:1 no such name\n"),
+    (
+        b"go\nsource\nor r2,r0,1\nor r2,r0,65536\n",
+        b"refused 4:10 out of range\n",
+    ),
+    (
+        b"go\nsource\na:\na:\n",
+        b"refused 4:1 duplicate a first at 3\n",
+    ),
+    (b"source\n.zero 1048577\n", b"refused 2:1 too large\n"),
+    (b"source\nbr nowhere\n", b"refused 2:4 undefined nowhere\n"),
     (
         b"source\n.module a\n.global f\nf:\n.module b\n.global f\nf:\n",
         b"refused 7:1 duplicate f first at 4\n",
@@ -81,6 +96,8 @@ const SOURCES: &[Refusal] = &[
 ];
 
 #[test]
-fn a_source_behind_a_script_is_refused_at_its_line(rt: HostRuntime) -> Result<(), Fail> {
+fn a_source_behind_a_script_is_refused_at_its_line_in_the_input(
+    rt: HostRuntime,
+) -> Result<(), Fail> {
     expect_refused(&rt, rt.alloc(), "mon none -", SOURCES)
 }
