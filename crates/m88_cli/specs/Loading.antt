@@ -5,7 +5,7 @@ use Rattle.m88_base.specs.Image.{IsImage, ProgramImage}
 use Rattle.m88_disasm.specs.Listing.{IsListing}
 use Rattle.m88_srec.specs.Accepted.{IsAccepted, Whole, whole_of}
 use Rattle.m88_srec.specs.Reasons.{srec_reason}
-use Rattle.m88_srec.specs.Verdict.{IsFirstFault}
+use Rattle.m88_srec.specs.Verdict.{IsFirstSrecFault}
 use Rattle.m88_srec.specs.declared.fault.SrecFault.{SrecFault}
 use Rattle.m88_cli.specs.Refusal.{Refusal}
 
@@ -32,5 +32,5 @@ srec_refusal fault = record { line = fault.line; column = 1; reason = srec_reaso
 -- S-records are refused at their first fault
 pub record IsRefusedRecords (text : List ℕ) (r : Refusal) : Type 0 where
   pub fault : SrecFault
-  pub is_first : IsFirstFault text fault
+  pub is_first : IsFirstSrecFault text fault
   pub refusal : r ≡ srec_refusal fault

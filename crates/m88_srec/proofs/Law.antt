@@ -8,7 +8,7 @@ use Rattle.m88_base.specs.OneVerdict.{HasOneVerdict}
 use Rattle.m88_srec.specs.Accepted.{WriteEntries, ComeTo, Fits, IsAccepted, Whole, empty_line, ended, filled, headed, no_line, address_of, entry_line, tallied}
 use Rattle.m88_srec.specs.Placing.{Loaded, first_taken, is_beyond, nothing_loaded, with_data}
 use Rattle.m88_srec.specs.Records.{Entry, WritesEntry}
-use Rattle.m88_srec.specs.Verdict.{IsFirstFault, Load, acted, ended_on, go_on, judged, opening_load, placed, placed_on, verdict, verdict_from}
+use Rattle.m88_srec.specs.Verdict.{IsFirstSrecFault, Load, acted, ended_on, go_on, judged, opening_load, placed, placed_on, verdict, verdict_from}
 use Rattle.m88_srec.specs.declared.fault.SrecFault.{SrecFault}
 use Rattle.m88_srec.specs.declared.fault.SrecKind.{SrecKind}
 use Rattle.m88_srec.specs.declared.fault.SrecKind.TheVariants.{CountRecord, TooLarge}
@@ -212,19 +212,19 @@ pub takes_exactly : (text : List ℕ) (whole : Whole) → IsAccepted text whole 
 takes_exactly text whole = (verdict_takes text whole, is_accepted text whole)
 
 -- and a text is accepted or has a first fault
-pub one_verdict : (text : List ℕ) → HasOneVerdict (IsAccepted text) (IsFirstFault text)
+pub one_verdict : (text : List ℕ) → HasOneVerdict (IsAccepted text) (IsFirstSrecFault text)
 one_verdict text = record { some = by_verdict (verdict text) refl; not_both = not_both; one_value = one_whole; one_fault = one_fault }
   where
     by_verdict : (r : Result Whole SrecFault) → verdict text ≡ r
-        → ((whole : Whole) × IsAccepted text whole) ⊎ ((fault : SrecFault) × IsFirstFault text fault)
+        → ((whole : Whole) × IsAccepted text whole) ⊎ ((fault : SrecFault) × IsFirstSrecFault text fault)
     by_verdict (Ok whole) e = inl (whole, is_accepted text whole e)
     by_verdict (Err fault) e = inr (fault, e)
 
-    not_both : (whole : Whole) (fault : SrecFault) → IsAccepted text whole → IsFirstFault text fault → ⊥
+    not_both : (whole : Whole) (fault : SrecFault) → IsAccepted text whole → IsFirstSrecFault text fault → ⊥
     not_both whole fault a e = let both : Ok whole ≡ Err fault = sym (verdict_takes text whole a) ∙ e in absurd cc
 
     one_whole : (a b : Whole) → IsAccepted text a → IsAccepted text b → a ≡ b
     one_whole a b h k = let both : Ok a ≡ Ok b = sym (verdict_takes text a h) ∙ verdict_takes text b k in cc
 
-    one_fault : (a b : SrecFault) → IsFirstFault text a → IsFirstFault text b → a ≡ b
+    one_fault : (a b : SrecFault) → IsFirstSrecFault text a → IsFirstSrecFault text b → a ≡ b
     one_fault a b h k = let both : Err a ≡ Err b = sym h ∙ k in cc

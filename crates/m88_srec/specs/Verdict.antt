@@ -130,6 +130,6 @@ verdict_from number load (line ∷ lines) =
 abbrev pub verdict : List ℕ → Result Whole SrecFault
 verdict text = verdict_from 1 opening_load (lines_of text)
 
--- the text's first fault
-abbrev pub IsFirstFault : List ℕ → SrecFault → Type 0
-IsFirstFault text fault = verdict text ≡ Err fault
+-- the first fault of a text of S-records
+abbrev pub IsFirstSrecFault : List ℕ → SrecFault → Type 0
+IsFirstSrecFault text fault = verdict text ≡ Err fault

@@ -4,7 +4,7 @@ ghost use Rattle.m88_base.specs.OneVerdict.{HasOneVerdict};
 ghost use Rattle.m88_srec.specs.Accepted.{IsAccepted, Whole, whole_of};
 ghost use Rattle.m88_srec.specs.GivesVerdict.{GivesVerdict, no_memory};
 ghost use Rattle.m88_srec.specs.Loads.{fault_of_line};
-ghost use Rattle.m88_srec.specs.Verdict.{IsFirstFault, verdict};
+ghost use Rattle.m88_srec.specs.Verdict.{IsFirstSrecFault, verdict};
 
 use crate::fault::{SrecFault, SrecKind};
 use crate::loading::Loading;
@@ -54,7 +54,7 @@ pub fn read_srec(alloc: Global, text: &[u8]) -> Result<Image, SrecFault>
 
     // A text is accepted or has a first fault, never both, and one at most; it is accepted where its verdict
     // is what it writes.
-    ensures one_verdict { HasOneVerdict (IsAccepted text.now) (IsFirstFault text.now) }
+    ensures one_verdict { HasOneVerdict (IsAccepted text.now) (IsFirstSrecFault text.now) }
     ensures law { (whole : Whole) → IsAccepted text.now whole ↔ (verdict text.now ≡ Ok whole) }
 {
     read(alloc, text)

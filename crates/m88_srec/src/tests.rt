@@ -142,11 +142,7 @@ fn a_fault_of_a_later_line_does_not_count(rt: HostRuntime) -> Result<(), Fail> {
                 found: 0,
             },
         ),
-        (
-            b"S309FFFFFFFE01020304F1\nS5030002FA",
-            1,
-            SrecKind::TooLarge,
-        ),
+        (b"S309FFFFFFFE01020304F1\nS5030002FA", 1, SrecKind::TooLarge),
         (
             b"S1051000ABCD72\nS1041001EEFC\nS309FFFFFFFE01020304F1",
             2,
