@@ -21,7 +21,7 @@ fn a_source_in_memory_fails_in_the_named_call_alone(rt: HostRuntime) -> Result<(
                 Ok(bytes) => call == reads && bytes.as_slice() == TEXT,
                 Err(end) => call < reads && end == ReadEnd::SourceFault,
             };
-            let calls = u64::from(reads.min(call + 1));
+            let calls = u64::from(reads.min(call.saturating_add(1)));
             assert!(rt;
                 fine && source.calls() == calls,
                 "pieces of {piece}, call {call}"
@@ -54,7 +54,7 @@ fn a_sink_in_memory_holds_what_was_written_before_it_failed(rt: HostRuntime) -> 
                 Ok(()) => call == writes,
                 Err(fault) => call < writes && fault.written == held.len(),
             };
-            let calls = u64::from(writes.min(call + 1));
+            let calls = u64::from(writes.min(call.saturating_add(1)));
             assert!(rt;
                 fine && sink.bytes() == held && sink.calls() == calls,
                 "pieces of {piece}, call {call}"
