@@ -77,8 +77,8 @@ fn sources_have_their_words_and_bytes(rt: HostRuntime) -> Result<(), Fail> {
     expect_done(&rt, rt.alloc(), 64, BUILT)
 }
 
-/// Sources that are refused.
-const REFUSED: &[Refusal] = &[
+/// Lines of which a token is refused, or that end too early.
+const TOKENS: &[Refusal] = &[
     (
         b"# x\n; x \xE9\n\tor r2,r0,\xE9\n",
         b"refused 3:11 not ascii\n",
@@ -111,6 +111,15 @@ const REFUSED: &[Refusal] = &[
     (b"or r2,=1\n", b"refused 1:7 syntax\n"),
     (b"or r2,r0 \t; c\n", b"refused 1:9 syntax\n"),
     (b"or r2,r0,\n", b"refused 1:10 syntax\n"),
+];
+
+#[test]
+fn a_token_is_refused(rt: HostRuntime) -> Result<(), Fail> {
+    expect_refused(&rt, rt.alloc(), "asm", TOKENS)
+}
+
+/// Labels, operations and numbers that are refused.
+const LABELS: &[Refusal] = &[
     (b"r1: or r2,r0,1\n", b"refused 1:1 syntax\n"),
     (b".: .byte 1\n", b"refused 1:1 syntax\n"),
     (b"cr5:\n", b"refused 1:1 syntax\n"),
@@ -155,6 +164,15 @@ const REFUSED: &[Refusal] = &[
     (b".ascii 'a'\n", b"refused 1:8 syntax\n"),
     (b".ascii\n", b"refused 1:7 syntax\n"),
     (b".ascii \"a\",\"b\"\n", b"refused 1:11 syntax\n"),
+];
+
+#[test]
+fn a_label_or_a_number_is_refused(rt: HostRuntime) -> Result<(), Fail> {
+    expect_refused(&rt, rt.alloc(), "asm", LABELS)
+}
+
+/// Directives that are refused.
+const DIRECTIVES: &[Refusal] = &[
     (b".zero -1\n", b"refused 1:7 syntax\n"),
     (b".zero a\n", b"refused 1:7 syntax\n"),
     (b".align 3\n", b"refused 1:8 out of range\n"),
@@ -175,6 +193,15 @@ const REFUSED: &[Refusal] = &[
     (b".text 1\n", b"refused 1:7 syntax\n"),
     (b".data x\n", b"refused 1:7 syntax\n"),
     (b".Text\n", b"refused 1:1 no such name\n"),
+];
+
+#[test]
+fn a_directive_is_refused(rt: HostRuntime) -> Result<(), Fail> {
+    expect_refused(&rt, rt.alloc(), "asm", DIRECTIVES)
+}
+
+/// Instructions of which an operand is refused.
+const OPERANDS: &[Refusal] = &[
     (b"OR r2,r0,1\n", b"refused 1:1 no such name\n"),
     (b"or R2,r0,1\n", b"refused 1:4 no such name\n"),
     (b"or r2,r01,1\n", b"refused 1:7 no such name\n"),
@@ -202,6 +229,15 @@ const REFUSED: &[Refusal] = &[
     (b"lda r2,r3,r4\n", b"refused 1:10 syntax\n"),
     (b"lda.b r2,r3[r4]\n", b"refused 1:1 no such name\n"),
     (b"lda r2,r3[4]\n", b"refused 1:11 syntax\n"),
+];
+
+#[test]
+fn an_operand_is_refused(rt: HostRuntime) -> Result<(), Fail> {
+    expect_refused(&rt, rt.alloc(), "asm", OPERANDS)
+}
+
+/// Bit fields, traps and conditions that are refused.
+const FIELDS: &[Refusal] = &[
     (b"ext r2,r3,32<0>\n", b"refused 1:11 out of range\n"),
     (b"ext r2,r3,0<32>\n", b"refused 1:13 out of range\n"),
     (b"ext r2,r3,5\n", b"refused 1:12 syntax\n"),
@@ -222,6 +258,15 @@ const REFUSED: &[Refusal] = &[
     (b"bb0 gt,r2,5\n", b"refused 1:11 syntax\n"),
     (b"bcnd ne0,r2,.+131072\n", b"refused 1:15 out of range\n"),
     (b"bcnd ne0,r2,.-131076\n", b"refused 1:15 out of range\n"),
+];
+
+#[test]
+fn a_field_is_refused(rt: HostRuntime) -> Result<(), Fail> {
+    expect_refused(&rt, rt.alloc(), "asm", FIELDS)
+}
+
+/// Targets, control registers and forms that are refused.
+const TARGETS: &[Refusal] = &[
     (b"br .+6\n", b"refused 1:6 out of range\n"),
     (b"br .+134217728\n", b"refused 1:6 out of range\n"),
     (b"br .-134217732\n", b"refused 1:6 out of range\n"),
@@ -253,8 +298,6 @@ const REFUSED: &[Refusal] = &[
 ];
 
 #[test]
-fn a_source_is_refused_at_its_first_token_that_no_statement_continues(
-    rt: HostRuntime,
-) -> Result<(), Fail> {
-    expect_refused(&rt, rt.alloc(), "asm", REFUSED)
+fn a_target_or_a_control_register_is_refused(rt: HostRuntime) -> Result<(), Fail> {
+    expect_refused(&rt, rt.alloc(), "asm", TARGETS)
 }
