@@ -1,6 +1,6 @@
 //! Sources and sinks that fail, and inputs that are as long as one may be and longer.
 
-use crate::tests::pieces::{LETTER, NOTHING_ALLOWED};
+use crate::tests::pieces::{LETTER, LETTER_REPORT, NOTHING_ALLOWED};
 use crate::tests::run;
 use m88_base::{MemSink, MemSource};
 use m88_cli::Status;
@@ -79,4 +79,50 @@ fn an_input_that_is_too_long_is_told(rt: HostRuntime) -> Result<(), Fail> {
             (input, 1, NEVER, 1000, Status::SourceFault, b""),
         ],
     )
+}
+
+/// How many reads of at most seven bytes the 66 bytes of a source take, the one that finds its end among them, and how
+/// many writes the 377 bytes of its report.
+const READS: u32 = 11;
+
+const WRITES: u32 = 54;
+
+#[test]
+fn each_read_that_fails_is_told(rt: HostRuntime) -> Result<(), Fail> {
+    for call in 0..=READS {
+        let source = MemSource::new(rt.alloc(), LETTER, 7, &[call])?;
+        let sink = MemSink::new(rt.alloc(), 1000, 7, &[])?;
+        let (answer, held) = run(rt.alloc(), "run 100 none -", source, sink)?;
+        let fine = if call < READS {
+            answer == Status::SourceFault && held.is_empty()
+        } else {
+            answer == Status::Done && held.as_slice() == LETTER_REPORT
+        };
+        assert!(rt; fine, "read {call}");
+    }
+    Ok(())
+}
+
+#[test]
+fn each_write_that_fails_is_told(rt: HostRuntime) -> Result<(), Fail> {
+    for call in 0..=WRITES {
+        let source = MemSource::new(rt.alloc(), LETTER, 7, &[])?;
+        let sink = MemSink::new(rt.alloc(), 1000, 7, &[call])?;
+        let (answer, held) = run(rt.alloc(), "run 100 none -", source, sink)?;
+        let front = (call as usize * 7).min(LETTER_REPORT.len());
+        let fine = if call < WRITES {
+            answer == Status::SinkFault
+        } else {
+            answer == Status::Done
+        };
+        assert!(rt;
+            fine && held.as_slice() == &LETTER_REPORT[..front],
+            "write {call}"
+        );
+    }
+    let source = MemSource::new(rt.alloc(), LETTER, 7, &[])?;
+    let sink = MemSink::new(rt.alloc(), 10, 100, &[])?;
+    let (answer, held) = run(rt.alloc(), "run 100 none -", source, sink)?;
+    assert!(rt; answer == Status::SinkFault && held.as_slice() == b"end exit a".as_slice());
+    Ok(())
 }

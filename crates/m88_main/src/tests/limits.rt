@@ -203,3 +203,32 @@ fn the_monitor_shows_at_most_1024_words(rt: HostRuntime) -> Result<(), Fail> {
     assert!(rt; text.len() == 22_528 && text.as_str().ends_with("\nmem 000007FC 00000000\n"));
     Ok(())
 }
+
+/// Four loads, of which the data unit has room for three; the page of the last is absent in these runs.
+const FOUR_LOADS: &str = "ld r2,r0,0x5000\nld r3,r0,0x5004\nld r4,r0,0x5008\nld r5,r0,0x6000\n";
+
+/// Runs by as many letters as there may be, and the end of their reports.
+const LONGEST: &[(Pieces, &str)] = &[
+    (
+        &[("run 4 6 ", 1), ("i", 65_536)],
+        "\nevents 65543\nanswers 3\nfaults 1\nfault 1 event 65543\n\
+        epsr 000003F8 sxip 0000100E snip 00001013 sfip 00001017 ssbr 00000020\n\
+        t0 000002BD 00000000 00006000\nt1 00000000 00000000 00000000\nt2 00000000 00000000 00000000\n",
+    ),
+    (
+        &[("run 4 6 ", 1), ("r", 65_536)],
+        "\nevents 65545\nanswers 3\nfaults 1\nfault 1 event 65545\n\
+        epsr 000003F8 sxip 0000100E snip 00001013 sfip 00001017 ssbr 00000020\n\
+        t0 000002BD 00000000 00006000\nt1 00000000 00000000 00000000\nt2 00000000 00000000 00000000\n",
+    ),
+];
+
+#[test]
+fn letters_without_work_are_counted(rt: HostRuntime) -> Result<(), Fail> {
+    for (pieces, end) in LONGEST {
+        let words = joined(rt.alloc(), pieces)?;
+        let text = written(&rt, rt.alloc(), words.as_str(), FOUR_LOADS.as_bytes())?;
+        assert!(rt; text.as_str().ends_with(end), "{text}");
+    }
+    Ok(())
+}
