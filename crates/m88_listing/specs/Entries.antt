@@ -1,0 +1,58 @@
+-- The symbols of a unit as they are listed: the labels in order of address, and apart from them the names of `.set`.
+use Rattle.std.specs.Prelude.{◌≡◌, ℕ, ◌==◌, Bool, if◌then◌else◌, List, [], ◌++◌, codes, decimal, filter, flat_map, is_none, is_some, map}
+use Rattle.std.specs.List.Sorted.{IsNonDecreasingBy}
+use Rattle.m88_base.specs.Hex.{hex8}
+use Rattle.m88_parse.specs.declared.unit.Unit.{Unit as Source}
+use Rattle.m88_link.specs.Symbols.{value_in}
+use Rattle.m88_link.specs.declared.object.Symbol.{Symbol}
+use Rattle.m88_asm.specs.Objects.{symbols_in}
+use Rattle.m88_asm.specs.Units.{Based, base_in, based}
+
+-- a symbol with the value that linking gives it, the name of its module, the line of its definition, and whether other
+-- modules see it
+pub record Entry : Type 0 where
+  pub value : ℕ
+  pub name : List ℕ
+  pub owner : List ℕ
+  pub line : ℕ
+  pub global : Bool
+
+-- a symbol of a module that stands somewhere
+abbrev pub entry_of : Based → Symbol → Entry
+entry_of b s = record {
+  value = value_in (base_in b) s;
+  name = s.name;
+  owner = b.source.name;
+  line = s.line;
+  global = s.global;
+}
+
+-- the symbols of a module of which this holds
+abbrev pub entries_in : (Symbol → Bool) → Based → List Entry
+entries_in holds b = map (entry_of b) (filter holds (symbols_in b.source))
+
+-- the labels of a unit, in order of definition
+abbrev pub labels_of : Source → List Entry
+labels_of u = flat_map (entries_in (λ s. is_some s.section)) (based u)
+
+-- the names of `.set` of a unit, in order of definition
+abbrev pub numbers_of : Source → List Entry
+numbers_of u = flat_map (entries_in (λ s. is_none s.section)) (based u)
+
+-- the entry has this value
+abbrev pub has_value : ℕ → Entry → Bool
+has_value value e = e.value == value
+
+-- the same entries in order of their values, those of one value in the order that they had
+pub record AreInOrder (entries ordered : List Entry) : Type 0 where
+  pub ascend : IsNonDecreasingBy (λ e. e.value) ordered
+  pub same : (value : ℕ) → filter (has_value value) ordered ≡ filter (has_value value) entries
+
+-- a mark behind a symbol that other modules see
+abbrev pub global_mark : Bool → List ℕ
+global_mark global = if global then codes " global" else []
+
+-- the line of a symbol: value, name, module and line, parted by one blank, and the mark
+abbrev pub entry_line : Entry → List ℕ
+entry_line e =
+    hex8 e.value ++ codes " " ++ e.name ++ codes " " ++ e.owner ++ codes " " ++ decimal e.line ++ global_mark e.global

@@ -1,0 +1,10 @@
+-- What a reader of the promises must believe.
+pub mod Columns
+pub mod Rows
+pub mod Entries
+pub mod Listing
+pub mod Refused
+pub mod Status
+pub mod Answer
+pub mod Calls
+pub mod Laws

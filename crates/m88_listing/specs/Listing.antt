@@ -1,0 +1,34 @@
+-- The listing of a source that is accepted: its lines with what they put where, then its labels, then its numbers.
+use Rattle.std.specs.Prelude.{◌≡◌, ℕ, List, [], ◌∷◌, ◌++◌, codes, map}
+use Rattle.m88_base.specs.Lines.{text_of_lines}
+use Rattle.m88_parse.specs.Language.Units.{IsUnit}
+use Rattle.m88_parse.specs.declared.unit.Unit.{Unit as Source}
+use Rattle.m88_asm.specs.Accepted.{IsAcceptedUnit}
+use Rattle.m88_listing.specs.Entries.{AreInOrder, Entry, entry_line, labels_of, numbers_of}
+use Rattle.m88_listing.specs.Rows.{rows_of, source_lines}
+
+-- an empty line, a line with a title, and the lines of entries
+abbrev pub entry_lines : List ℕ → List Entry → List (List ℕ)
+entry_lines title entries = [] ∷ title ∷ map entry_line entries
+
+-- the lines of a listing, for the source's unit and the unit's labels in order
+abbrev pub listing_lines : List ℕ → Source → List Entry → List (List ℕ)
+listing_lines source u labels =
+    source_lines (rows_of u) source
+    ++ entry_lines (codes "labels") labels
+    ++ entry_lines (codes "numbers") (numbers_of u)
+
+-- the source is accepted for linking: it has a unit, and that is accepted
+pub record IsProgramSource (source : List ℕ) : Type 0 where
+  pub unit : Source
+  pub is_unit : IsUnit source unit
+  pub is_accepted : IsAcceptedUnit unit
+
+-- the text is the listing of a source that is accepted
+pub record IsListing (source text : List ℕ) : Type 0 where
+  pub unit : Source
+  pub is_unit : IsUnit source unit
+  pub is_accepted : IsAcceptedUnit unit
+  pub labels : List Entry
+  pub in_order : AreInOrder (labels_of unit) labels
+  pub is_text : text ≡ text_of_lines (listing_lines source unit labels)

@@ -1,0 +1,67 @@
+-- The listing of a source that is refused: its lines behind their numbers, and below the line that is at fault a mark and
+-- the line that refuses the source.
+use Rattle.std.specs.Prelude.{◌≡◌, ◌⊎◌, ℕ, ◌-◌, ◌==◌, if◌then◌else◌, List, [], ◌∷◌, ◌++◌, codes, drop, map, slice_index_or, take}
+use Rattle.m88_base.specs.Lines.{line_end, lines_of, text_of_lines}
+use Rattle.m88_base.specs.Refused.{refused_line}
+use Rattle.m88_parse.specs.Fault.{reason}
+use Rattle.m88_parse.specs.Language.FirstFaults.{IsFirstFault}
+use Rattle.m88_parse.specs.Language.Units.{IsUnit}
+use Rattle.m88_parse.specs.declared.fault.ParseFault.{ParseFault}
+use Rattle.m88_parse.specs.declared.unit.Unit.{Unit as Source}
+use Rattle.m88_link.specs.Reasons.{link_reason}
+use Rattle.m88_asm.specs.Accepted.{IsFirstUnitFault}
+use Rattle.m88_asm.specs.Reasons.{asm_reason}
+use Rattle.m88_asm.specs.declared.fault.UnitFault.{UnitFault}
+use Rattle.m88_asm.specs.declared.fault.UnitFault.TheVariants.{Asm, Link}
+use Rattle.m88_listing.specs.Columns.{bare_line, before_source, blank, blanks}
+use Rattle.m88_listing.specs.Rows.{numbered}
+
+-- where and why a source is refused: line and column, both from 1, and the reason as it is written
+pub record Refusal : Type 0 where
+  pub line : ℕ
+  pub column : ℕ
+  pub reason : List ℕ
+
+-- the refusal for a fault of a source's lines
+abbrev pub parse_refusal : ParseFault → Refusal
+parse_refusal fault = record { line = fault.line; column = fault.col; reason = reason fault.kind }
+
+-- the refusal for a fault of a unit's statements, or of its layout
+abbrev pub unit_refusal : UnitFault → Refusal
+unit_refusal (Asm fault) = record { line = fault.line; column = fault.col; reason = asm_reason fault.kind }
+unit_refusal (Link fault) = record { line = fault.line; column = fault.col; reason = link_reason fault.kind }
+
+-- a source is refused at the first fault of its lines, or where it has a unit at the first fault of that
+pub data IsRefusedAt (source : List ℕ) (r : Refusal) : Type 0 where
+  unread : (fault : ParseFault) → IsFirstFault source fault → r ≡ parse_refusal fault → IsRefusedAt source r
+  unlinked : (unit : Source) (fault : UnitFault) → IsUnit source unit → IsFirstUnitFault unit fault
+      → r ≡ unit_refusal fault → IsRefusedAt source r
+
+-- the byte that goes to the next stop of a tabulator
+abbrev pub tab : ℕ
+tab = 9
+
+-- what stands below a byte before the mark: a tab below a tab, and a blank below any other byte
+abbrev pub below : ℕ → ℕ
+below b = if b == tab then tab else blank
+
+-- the line with a mark below a column, from 1, of a line of the source
+abbrev pub mark_line : ℕ → List ℕ → List ℕ
+mark_line column line = blanks before_source ++ map below (take (column - 1) line) ++ codes "^"
+
+-- a line by its number, from 1; empty where there is none
+abbrev pub line_at : List ℕ → ℕ → List ℕ
+line_at source number = slice_index_or (lines_of source) (number - 1) []
+
+-- the text of lines behind their numbers
+abbrev pub bare_text : List (ℕ × List ℕ) → List ℕ
+bare_text lines = text_of_lines (map (λ e. bare_line e.0 e.1) lines)
+
+-- the text of a source that is refused: the lines up to the one at fault, the mark, the line of the refusal, and the
+-- other lines
+abbrev pub refused_text : List ℕ → Refusal → List ℕ
+refused_text source r =
+    bare_text (take r.line (numbered source))
+    ++ (mark_line r.column (line_at source r.line) ++ line_end)
+    ++ refused_line r.line r.column r.reason
+    ++ bare_text (drop r.line (numbered source))
