@@ -25,7 +25,11 @@ most_shown = 8
 -- the columns before the line of the source: seven for its number, eight for an address, sixteen for bytes
 abbrev pub columns : ℕ → List ℕ → List ℕ → List ℕ
 columns number address bytes =
-    at_right 7 (decimal number) ++ blanks 2 ++ at_left 8 address ++ blanks 2 ++ at_left 16 bytes ++ blanks 2
+    at_right 7 (decimal number) ++ blanks 2 ++ address ++ blanks 2 ++ at_left 16 bytes ++ blanks 2
+
+-- a column without an address
+abbrev pub no_address : List ℕ
+no_address = blanks 8
 
 -- the width of these columns, for a number of at most seven digits
 abbrev pub before_source : ℕ
@@ -33,7 +37,7 @@ before_source = 37
 
 -- a line of the source behind its number, without address and bytes
 abbrev pub bare_line : ℕ → List ℕ → List ℕ
-bare_line number line = columns number [] [] ++ line
+bare_line number line = columns number no_address [] ++ line
 
 -- the columns of a further line of bytes, behind the line of the source
 abbrev pub further_columns : List ℕ → List ℕ → List ℕ

@@ -7,17 +7,10 @@ use Rattle.m88_link.specs.Symbols.{value_in}
 use Rattle.m88_link.specs.declared.object.Symbol.{Symbol}
 use Rattle.m88_asm.specs.Objects.{symbols_in}
 use Rattle.m88_asm.specs.Units.{Based, base_in, based}
+use Rattle.m88_listing.specs.declared.entries.Entry.{Entry}
 
--- a symbol with the value that linking gives it, the name of its module, the line of its definition, and whether other
--- modules see it
-pub record Entry : Type 0 where
-  pub value : ℕ
-  pub name : List ℕ
-  pub owner : List ℕ
-  pub line : ℕ
-  pub global : Bool
-
--- a symbol of a module that stands somewhere
+-- a symbol of a module that stands somewhere: the value that linking gives it, its name, the name of its module, the line
+-- of its definition, and whether other modules see it
 abbrev pub entry_of : Based → Symbol → Entry
 entry_of b s = record {
   value = value_in (base_in b) s;
@@ -50,7 +43,7 @@ pub record AreInOrder (entries ordered : List Entry) : Type 0 where
 
 -- a mark behind a symbol that other modules see
 abbrev pub global_mark : Bool → List ℕ
-global_mark global = if global then codes " global" else []
+global_mark seen = if seen then codes " global" else []
 
 -- the line of a symbol: value, name, module and line, parted by one blank, and the mark
 abbrev pub entry_line : Entry → List ℕ

@@ -8,3 +8,6 @@ pub mod Status
 pub mod Answer
 pub mod Calls
 pub mod Laws
+-- Words for the contracts of private functions.
+pub mod Parts
+pub mod Slots

@@ -4,7 +4,8 @@ use Rattle.m88_base.specs.Lines.{text_of_lines}
 use Rattle.m88_parse.specs.Language.Units.{IsUnit}
 use Rattle.m88_parse.specs.declared.unit.Unit.{Unit as Source}
 use Rattle.m88_asm.specs.Accepted.{IsAcceptedUnit}
-use Rattle.m88_listing.specs.Entries.{AreInOrder, Entry, entry_line, labels_of, numbers_of}
+use Rattle.m88_listing.specs.declared.entries.Entry.{Entry}
+use Rattle.m88_listing.specs.Entries.{AreInOrder, entry_line, labels_of, numbers_of}
 use Rattle.m88_listing.specs.Rows.{rows_of, source_lines}
 
 -- an empty line, a line with a title, and the lines of entries

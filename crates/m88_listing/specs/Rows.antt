@@ -1,5 +1,5 @@
 -- What each statement of a unit puts where, and the lines of the listing that show it.
-use Rattle.std.specs.Prelude.{ℕ, ◌+◌, ◌-◌, ◌*◌, ◌/◌, ◌==◌, Bool, true, false, if◌then◌else◌, List, [], ◌∷◌, ◌++◌, codes, decimal, drop, find, flat_map, length, map, take, Option}
+use Rattle.std.specs.Prelude.{ℕ, ◌+◌, ◌-◌, ◌*◌, ◌/◌, ◌==◌, Bool, true, false, if◌then◌else◌, List, [], ◌∷◌, ◌++◌, codes, decimal, drop, filter, find, flat_map, length, map, nat_lt, take, Option}
 use Rattle.std.specs.List.{enumerate_from, range_with_len}
 use Rattle.std.specs.Option.{option_map_or}
 use Rattle.m88_base.specs.Hex.{hex2, hex8}
@@ -33,15 +33,19 @@ abbrev pub row_of : List Symbol → Based → Located → Row
 row_of globals b r =
     record { line = r.statement.line; run = run_of globals b r; counted = is_counted r.statement.body }
 
--- the rows of the statements of a module
-abbrev pub rows_in : List Symbol → Based → List Row
-rows_in globals b = map (row_of globals b) (lines_in b.source)
+-- a row with at least one byte
+abbrev pub has_bytes : Row → Bool
+has_bytes row = nat_lt 0 (length row.run.bytes)
 
--- the rows of the statements of a unit
+-- the rows of the statements of a module that give bytes
+abbrev pub rows_in : List Symbol → Based → List Row
+rows_in globals b = filter has_bytes (map (row_of globals b) (lines_in b.source))
+
+-- the rows of the statements of a unit that give bytes
 abbrev pub rows_of : Source → List Row
 rows_of u = flat_map (rows_in (unit_layout u).globals) (based u)
 
--- the row of the statement in a line, where the line has one
+-- the row of the statement in a line, where the line has one that gives bytes
 abbrev pub row_at : List Row → ℕ → Option Row
 row_at rows number = find (λ row. row.line == number) rows
 
@@ -65,11 +69,9 @@ further_lines row =
     if row.counted then [] else map (further_line row.run) (range_with_len 1 ((length row.run.bytes - 1) / most_shown))
 
 -- the lines of the listing for a line of the source with a row: the line behind its number, the address and the bytes of
--- the row, and the further lines of its bytes; a row without bytes shows nothing
+-- the row, and the further lines of its bytes
 abbrev pub row_lines : ℕ → List ℕ → Row → List (List ℕ)
-row_lines number line row =
-    if length row.run.bytes == 0 then bare_line number line ∷ []
-    else (columns number (hex8 row.run.at) (first_bytes row) ++ line) ∷ further_lines row
+row_lines number line row = (columns number (hex8 row.run.at) (first_bytes row) ++ line) ∷ further_lines row
 
 -- the lines of the listing for a line of the source, by its number
 abbrev pub lines_with : List Row → ℕ × List ℕ → List (List ℕ)

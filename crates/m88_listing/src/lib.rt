@@ -2,6 +2,19 @@
 //! its line.
 #![tactic(auto)]
 
+// What statements put where, and what symbols mean.
+mod cursor;
+mod entries;
+mod layout;
+mod slots;
+mod standing;
+
+// The text.
+mod columns;
+mod refused;
+mod rows;
+
+// The top call.
 mod status;
 
 pub use status::ListStatus;

@@ -1,0 +1,167 @@
+-- Lines appended to a text, and the lines of a row.
+use Rattle.std.proofs.Common.{◌≡◌, ℕ, zero, suc, ◌+◌, ◌-◌, ◌*◌, ◌/◌, ◌<◌, ◌≤◌, Bool, true, false, List, [], ◌∷◌, ◌++◌, length, map, take, drop, min, refl, sym, ap, ◌∙◌, append_assoc, arith, length-append, Option, Some, None}
+use Rattle.std.specs.Prelude.{codes, decimal, if◌then◌else◌, flat_map, ◌==◌, slice_get}
+use Rattle.std.specs.List.{range_with_len}
+use Rattle.std.proofs.lemmas.Grind.{common_steps}
+use Rattle.std.proofs.lemmas.List.{append-nil, take_min}
+use Rattle.std.proofs.lemmas.List.FromFn.{length-map-range_with_len, map-range_with_len_more}
+use Rattle.m88_base.specs.Hex.{hex8}
+use Rattle.m88_base.specs.Lines.{line_end, text_of_lines}
+use Rattle.m88_base.specs.Placed.{Placed}
+use Rattle.m88_listing.specs.Columns.{at_left, at_right, bare_line, blanks, columns, further_columns}
+use Rattle.m88_listing.specs.Refused.{below, mark_line}
+use Rattle.m88_listing.specs.Rows.{digits, further_line, row_lines}
+use Rattle.m88_listing.specs.Slots.{found_bytes, row_in, walked}
+use Rattle.m88_listing.specs.declared.slots.Slot.{Slot}
+
+-- the text of lines behind lines
+pub text_append : (xs ys : List (List ℕ)) → text_of_lines (xs ++ ys) ≡ text_of_lines xs ++ text_of_lines ys
+text_append [] ys = refl
+text_append (x ∷ xs) ys =
+    ap (λ t. (x ++ line_end) ++ t) (text_append xs ys) ∙ sym (append_assoc (x ++ line_end) (text_of_lines xs) (text_of_lines ys))
+
+pub text_more : (xs : List (List ℕ)) (y : List ℕ) → text_of_lines (xs ++ y ∷ []) ≡ text_of_lines xs ++ (y ++ line_end)
+text_more xs y = text_append xs (y ∷ []) ∙ ap (λ t. text_of_lines xs ++ t) (append-nil (y ++ line_end))
+
+-- the columns before a line of the source, filled from where the bytes' column begins
+regroup : (old r two a content rest line end : List ℕ)
+    → ((old ++ (r ++ two ++ a ++ two)) ++ content) ++ (rest ++ two ++ line ++ end) ≡ old ++ (r ++ two ++ a ++ two ++ (content ++ rest) ++ two ++ line ++ end)
+regroup old r two a content rest line end = grind (arith, common_steps)
+
+pub filled : (old r a content line t1 t2 new : List ℕ) (begin : ℕ)
+    → t1 ≡ old ++ (r ++ blanks 2 ++ a ++ blanks 2) → begin ≡ length t1 → t2 ≡ t1 ++ content
+    → new ≡ t2 ++ (blanks (16 - (length t2 - begin)) ++ blanks 2 ++ line ++ line_end)
+    → new ≡ old ++ ((r ++ blanks 2 ++ a ++ blanks 2 ++ at_left 16 content ++ blanks 2) ++ line ++ line_end)
+filled old r a content line t1 t2 new begin e1 e2 e3 e4 =
+    let long : length t2 ≡ length t1 + length content = ap length e3 ∙ length-append t1 content in
+    let width : length t2 - begin ≡ length content = omega (arith, long, e2) in
+    e4
+    ∙ ap (λ n. t2 ++ (blanks (16 - n) ++ blanks 2 ++ line ++ line_end)) width
+    ∙ ap (λ t. t ++ (blanks (16 - length content) ++ blanks 2 ++ line ++ line_end)) (e3 ∙ ap (λ t. t ++ content) e1)
+    ∙ regroup old r (blanks 2) a content (blanks (16 - length content)) line line_end
+
+-- one further line more
+pub further_more : (old t new bytes piece rest : List ℕ) (at eights : ℕ)
+    → t ≡ old ++ text_of_lines (map (further_line (record { at = at; bytes = bytes })) (range_with_len 1 eights))
+    → rest ≡ drop (8 * (eights + 1)) bytes → piece ≡ take (min (length rest) 8) rest
+    → new ≡ t ++ (further_columns (hex8 (at + 8 * (eights + 1))) (digits piece) ++ line_end)
+    → new ≡ old ++ text_of_lines (map (further_line (record { at = at; bytes = bytes })) (range_with_len 1 (eights + 1)))
+further_more old t new bytes piece rest at eights e1 e2 e3 e4 =
+    let run : Placed = record { at = at; bytes = bytes } in
+    let f = further_line run in
+    let eight : piece ≡ take 8 (drop (8 * (eights + 1)) bytes) =
+    e3 ∙ ap (λ n. take n rest) (omega arith) ∙ take_min 8 rest ∙ ap (take 8) e2 in
+    let one : further_columns (hex8 (at + 8 * (eights + 1))) (digits piece) ≡ f (eights + 1) =
+    ap (λ p. further_columns (hex8 (at + 8 * (eights + 1))) (digits p)) eight in
+    e4
+    ∙ ap (λ y. t ++ (y ++ line_end)) one
+    ∙ ap (λ s. s ++ (f (eights + 1) ++ line_end)) e1
+    ∙ append_assoc old (text_of_lines (map f (range_with_len 1 eights))) (f (eights + 1) ++ line_end)
+    ∙ ap (λ s. old ++ s) (sym (text_more (map f (range_with_len 1 eights)) (f (eights + 1))))
+    ∙ ap (λ ys. old ++ text_of_lines ys) (sym (map-range_with_len_more f 1 eights (eights + 1) (omega arith)))
+
+-- the lines of a row whose bytes are told as a count
+pub counted_row : (found : ℕ → Option ℕ) (number : ℕ) (line old new : List ℕ) (s : Slot) → s.counted ≡ true
+    → new ≡ old ++ (columns number (hex8 s.at) (codes "00 x " ++ decimal s.len) ++ line ++ line_end)
+    → new ≡ old ++ text_of_lines (row_lines number line (row_in found s))
+counted_row found number line old new s is e = e ∙ ap (λ t. old ++ t) (whole ∙ by s.counted is)
+  where
+    bytes : List ℕ
+    bytes = found_bytes found s.at s.len
+
+    shape : Bool → List (List ℕ)
+    shape b = (columns number (hex8 s.at) (if b then codes "00 x " ++ decimal (length bytes) else digits (take 8 bytes)) ++ line)
+        ∷ (if b then [] else map (further_line (record { at = s.at; bytes = bytes })) (range_with_len 1 ((length bytes - 1) / 8)))
+
+    count : length bytes ≡ s.len
+    count = length-map-range_with_len _ 0 s.len
+
+    whole : columns number (hex8 s.at) (codes "00 x " ++ decimal s.len) ++ line ++ line_end ≡ text_of_lines (shape true)
+    whole =
+        ap (λ n. columns number (hex8 s.at) (codes "00 x " ++ decimal n) ++ line ++ line_end)
+        (sym count)
+        ∙ sym (append-nil ((columns number (hex8 s.at) (codes "00 x " ++ decimal (length bytes)) ++ line) ++ line_end))
+
+    by : (b : Bool) → b ≡ true → text_of_lines (shape true) ≡ text_of_lines (shape b)
+    by true is = refl
+    by false is = cc
+
+-- the lines of a row whose bytes are shown
+pub shown_row : (found : ℕ → Option ℕ) (number : ℕ) (line old mid new bytes shown : List ℕ) (s : Slot) → s.counted ≡ false
+    → bytes ≡ found_bytes found s.at s.len → shown ≡ take (min s.len 8) bytes
+    → mid ≡ old ++ (columns number (hex8 s.at) (digits shown) ++ line ++ line_end)
+    → new ≡ mid ++ text_of_lines (map (further_line (record { at = s.at; bytes = bytes })) (range_with_len 1 ((length bytes - 1) / 8)))
+    → new ≡ old ++ text_of_lines (row_lines number line (row_in found s))
+shown_row found number line old mid new bytes shown s is all first e1 e2 =
+    e2 ∙ ap (λ t. t ++ further bytes) e1 ∙ append_assoc old _ _ ∙ ap (λ t. old ++ t) (whole ∙ by s.counted is)
+  where
+    further : List ℕ → List ℕ
+    further bs = text_of_lines (map (further_line (record { at = s.at; bytes = bs })) (range_with_len 1 ((length bs - 1) / 8)))
+
+    own : List ℕ
+    own = found_bytes found s.at s.len
+
+    shape : Bool → List (List ℕ)
+    shape b = (columns number (hex8 s.at) (if b then codes "00 x " ++ decimal (length own) else digits (take 8 own)) ++ line)
+        ∷ (if b then [] else map (further_line (record { at = s.at; bytes = own })) (range_with_len 1 ((length own - 1) / 8)))
+
+    count : length bytes ≡ s.len
+    count = ap length all ∙ length-map-range_with_len _ 0 s.len
+
+    eight : shown ≡ take 8 own
+    eight = first ∙ ap (λ n. take n bytes) (omega (arith, count)) ∙ take_min 8 bytes ∙ ap (take 8) all
+
+    whole : (columns number (hex8 s.at) (digits shown) ++ line ++ line_end) ++ further bytes ≡ text_of_lines (shape false)
+    whole =
+        ap (λ p. (columns number (hex8 s.at) (digits p) ++ line ++ line_end) ++ further bytes) eight
+        ∙ ap (λ bs. (columns number (hex8 s.at) (digits (take 8 own)) ++ line ++ line_end) ++ further bs) all
+
+    by : (b : Bool) → b ≡ false → text_of_lines (shape false) ≡ text_of_lines (shape b)
+    by true is = cc
+    by false is = refl
+
+-- the lines for the next line of a source, where the next slot is that of it
+pub row_next : (found : ℕ → Option ℕ) (number : ℕ) (line old new : List ℕ) (s : Slot) (slots : List Slot) (lines : List (List ℕ))
+    → slice_get slots 0 ≡ Some s → s.line ≡ number → new ≡ old ++ text_of_lines (row_lines number line (row_in found s))
+    → new ++ text_of_lines (walked found (number + 1) lines (drop 1 slots)) ≡ old ++ text_of_lines (walked found number (line ∷ lines) slots)
+row_next found number line old new s [] lines first is e = cc
+row_next found number line old new s (t ∷ ss) lines first is e =
+    let same : t ≡ s = cc in
+    let own : row_lines number line (row_in found s) ≡ row_lines number line (row_in found t) = ap (λ x. row_lines number line (row_in found x)) (sym same) in
+    let rest = walked found (number + 1) lines ss in
+    ap (λ x. x ++ text_of_lines rest) (e ∙ ap (λ ls. old ++ text_of_lines ls) own)
+    ∙ append_assoc old (text_of_lines (row_lines number line (row_in found t))) (text_of_lines rest)
+    ∙ ap (λ x. old ++ x) (sym (text_append (row_lines number line (row_in found t)) rest))
+    ∙ ap (λ ls. old ++ text_of_lines ls) (by (t.line == number) (ap (λ n. n == number) (ap (λ (x : Slot). x.line) same ∙ is) ∙ same_number number))
+  where
+    same_number : (n : ℕ) → (n == n) ≡ true
+    same_number n = grind (arith, common_steps)
+
+    by : (b : Bool) → b ≡ true
+        → row_lines number line (row_in found t) ++ walked found (number + 1) lines ss
+        ≡ (if b then row_lines number line (row_in found t) ++ walked found (number + 1) lines ss
+        else bare_line number line ∷ walked found (number + 1) lines (t ∷ ss))
+    by true is = refl
+    by false is = cc
+
+-- the line of a symbol
+grow : (old xs ys t u : List ℕ) → t ≡ old ++ xs → u ≡ t ++ ys → u ≡ old ++ (xs ++ ys)
+grow old xs ys t u e f = f ∙ ap (λ s. s ++ ys) e ∙ append_assoc old xs ys
+
+pub entry_whole : (old value name owner number mark t1 t2 t3 t4 t5 t6 t7 t8 new : List ℕ)
+    → t1 ≡ old ++ value → t2 ≡ t1 ++ 32 ∷ [] → t3 ≡ t2 ++ name → t4 ≡ t3 ++ 32 ∷ [] → t5 ≡ t4 ++ owner → t6 ≡ t5 ++ 32 ∷ []
+    → t7 ≡ t6 ++ number → t8 ≡ t7 ++ mark → new ≡ t8 ++ 10 ∷ []
+    → new ≡ old ++ ((value ++ codes " " ++ name ++ codes " " ++ owner ++ codes " " ++ number ++ mark) ++ line_end)
+entry_whole old value name owner number mark t1 t2 t3 t4 t5 t6 t7 t8 new e1 e2 e3 e4 e5 e6 e7 e8 e9 =
+    grow old _ _ _ _ (grow old _ _ _ _ (grow old _ _ _ _ (grow old _ _ _ _ (grow old _ _ _ _ (grow old _ _ _ _ (grow old _ _ _ _
+    (grow old _ _ _ _ e1 e2) e3) e4) e5) e6) e7) e8) e9
+
+-- the line with the mark
+pub mark_whole : (old line before t1 t2 new : List ℕ) (column at : ℕ) → at ≡ min (length line) (column - 1) → before ≡ take at line
+    → t1 ≡ old ++ blanks 37 → t2 ≡ t1 ++ map below before → new ≡ t2 ++ 94 ∷ 10 ∷ []
+    → new ≡ old ++ (mark_line column line ++ line_end)
+mark_whole old line before t1 t2 new column at here front e1 e2 e3 =
+    let all : before ≡ take (column - 1) line = front ∙ ap (λ n. take n line) (here ∙ omega arith) ∙ take_min (column - 1) line in
+    grow old _ _ _ _ (grow old _ _ _ _ e1 e2) e3
+    ∙ ap (λ b. old ++ ((blanks 37 ++ map below b) ++ 94 ∷ 10 ∷ [])) all
+    ∙ ap (λ t. old ++ t) (sym (append_assoc (blanks 37 ++ map below (take (column - 1) line)) (94 ∷ []) (10 ∷ [])))

@@ -1,0 +1,101 @@
+//! What the statements of a unit put where.
+ghost use Rattle.std.specs.Prelude.{◌≡◌, ◌++◌, IfOk, OnOk};
+ghost use Rattle.std.specs.List.{All};
+ghost use Rattle.m88_parse.specs.WellFormed.{IsAlignment, IsFormedBody};
+ghost use Rattle.m88_asm.specs.Counters.{after, at_begin, length_at, padding};
+ghost use Rattle.m88_listing.specs.Rows.{is_counted};
+ghost use Rattle.m88_listing.specs.Slots.{Fits, ModuleFits, counters_in, slots_at, slots_from, slots_of};
+
+use crate::cursor::Cursor;
+use crate::slots::Slot;
+use crate::standing::Standing;
+use m88_parse::{Body, Statement};
+use std::alloc::{AllocError, Global};
+
+/// The number of zero bytes from a place up to a multiple of n.
+fn padding(n: usize, place: usize) -> usize
+    requires { IsAlignment n }
+    ensures { result ≡ padding n place }
+{
+    (n - place % n) % n
+}
+
+/// The number of bytes that a body gives at a place.
+fn length_at(place: usize, body: &Body) -> usize
+    requires { IsFormedBody body.now }
+    ensures { result ≡ length_at place body.now }
+{
+    match body {
+        Body::Word(values) => 4 * values.as_slice().len(),
+        Body::Half(numbers) => 2 * numbers.as_slice().len(),
+        Body::Byte(bytes) => bytes.as_slice().len(),
+        Body::Ascii(bytes) => bytes.as_slice().len(),
+        Body::Zero(n) => *n as usize,
+        Body::Align(n) => padding(*n as usize, place),
+        Body::Code(_, _) => 4,
+        _ => 0,
+    }
+}
+
+/// Whether the bytes of a body are told as a count.
+fn is_counted(body: &Body) -> bool
+    ensures { result ≡ is_counted body.now }
+{
+    matches!(body, Body::Zero(_) | Body::Align(_))
+}
+
+/// Appends what is kept of a statement, and goes on behind it.
+fn push_slot(
+    slots: &mut Vec<Slot>,
+    cursor: &mut Cursor,
+    standing: &Standing<'_>,
+    x: &Statement,
+) -> Result<(), AllocError>
+    requires { Fits standing.now (record { before = counters_in cursor.old; statement = x.now }) }
+    ensures cursor { OnOk result
+        (counters_in cursor.new ≡ after (counters_in cursor.old) x.now.body) }
+    ensures slots { OnOk result (slots.new.items ≡ slots.old.items
+        ++ slots_at standing.now (record { before = counters_in cursor.old; statement = x.now })) }
+{
+    cursor.enter(&x.body)?;
+    let len = length_at(cursor.place(), &x.body);
+    if len > 0 {
+        slots.push(Slot {
+            line: x.line,
+            at: standing.base(cursor.here()) + cursor.offset() as u32,
+            len,
+            counted: is_counted(&x.body),
+        })?;
+    }
+    cursor.advance(len);
+    Ok(())
+}
+
+/// Appends what is kept of the statements of a module.
+fn push_slots(
+    slots: &mut Vec<Slot>,
+    alloc: Global,
+    standing: &Standing<'_>,
+) -> Result<(), AllocError>
+    requires { ModuleFits standing.now }
+    ensures { OnOk result (slots.new.items ≡ slots.old.items
+        ++ slots_from standing.now at_begin standing.now.source.statements) }
+{
+    let mut cursor = Cursor::new(alloc)?;
+    for x in standing.statements() {
+        push_slot(slots, &mut cursor, standing, x)?;
+    }
+    Ok(())
+}
+
+/// What is kept of the statements of modules.
+pub(crate) fn slots(alloc: Global, standings: &[Standing<'_>]) -> Result<Vec<Slot>, AllocError>
+    requires { All ModuleFits standings.now }
+    ensures { IfOk result (λ v. v.items ≡ slots_of standings.now) }
+{
+    let mut slots = Vec::new(alloc);
+    for standing in standings {
+        push_slots(&mut slots, alloc, standing)?;
+    }
+    Ok(slots)
+}

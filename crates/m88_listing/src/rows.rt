@@ -1,0 +1,125 @@
+//! The lines of a source with what they put where.
+ghost use Rattle.std.specs.Prelude.{◌≡◌, ◌+◌, ◌-◌, ◌*◌, ◌≤◌, ◌<◌, ◌^◌, ◌/◌, ◌∷◌, ◌++◌, ℕ, List, drop, length, map, IfOk, OnOk};
+ghost use Rattle.std.specs.List.{All, range_with_len};
+ghost use Rattle.m88_base.specs.Image.{byte_at};
+ghost use Rattle.m88_base.specs.Lines.{lines_of, text_of_lines};
+ghost use Rattle.m88_base.specs.Placed.{Placed};
+ghost use Rattle.m88_listing.specs.Rows.{further_line, row_lines};
+ghost use Rattle.m88_listing.specs.Slots.{IsSlot, found_bytes, row_in, walked};
+
+use crate::columns::{MOST_SHOWN, push_bare, push_counted, push_further, push_shown};
+use crate::slots::Slot;
+use m88_base::{Image, first_line};
+use std::alloc::{AllocError, Global};
+
+/// Appends the lines of the bytes behind those that the first line shows.
+fn push_further_lines(text: &mut Vec<u8>, at: u32, bytes: &[u8]) -> Result<(), AllocError>
+    requires some { 0 < length bytes.now }
+    requires fits { at + length bytes.now ≤ 2 ^ 32 }
+    ensures { OnOk result (text.new.items ≡ text.old.items ++ text_of_lines
+        (map (further_line (record { at = at; bytes = bytes.now }))
+        (range_with_len 1 ((length bytes.now - 1) / 8)))) }
+{
+    for eights in 0..(bytes.len() - 1) / MOST_SHOWN {
+        let begin = MOST_SHOWN * (eights + 1);
+        let (_, rest) = bytes.split_at(begin);
+        let (piece, _) = rest.split_at(rest.len().min(MOST_SHOWN));
+        push_further(text, at + begin as u32, piece)?;
+    }
+    Ok(())
+}
+
+/// The bytes of an image from an address on, 0 where it has none.
+fn bytes_at(alloc: Global, image: &Image, at: u32, len: usize) -> Result<Vec<u8>, AllocError>
+    requires { at + len ≤ 2 ^ 32 }
+    ensures { IfOk result (λ v. v.items ≡ found_bytes (byte_at image.now) at len) }
+{
+    let mut bytes = Vec::new(alloc);
+    for k in 0..len {
+        bytes.push(image.byte(at + k as u32).unwrap_or(0))?;
+    }
+    Ok(bytes)
+}
+
+/// Appends the lines for a line of a source with what is kept of its row.
+fn push_row(
+    text: &mut Vec<u8>,
+    alloc: Global,
+    number: u64,
+    line: &[u8],
+    slot: &Slot,
+    image: &Image,
+) -> Result<(), AllocError>
+    requires { IsSlot slot.now }
+    ensures { OnOk result (text.new.items ≡ text.old.items
+        ++ text_of_lines (row_lines number line.now (row_in (byte_at image.now) slot.now))) }
+{
+    if slot.counted {
+        push_counted(text, number, slot.at, slot.len, line)?;
+        return Ok(());
+    }
+    let bytes = bytes_at(alloc, image, slot.at, slot.len)?;
+    let (shown, _) = bytes.split_at(slot.len.min(MOST_SHOWN));
+    push_shown(text, number, slot.at, shown, line)?;
+    push_further_lines(text, slot.at, bytes.as_slice())?;
+    Ok(())
+}
+
+/// Appends the lines for a line of a source, and answers for how many of the slots that are left: the first, where it is
+/// that of this line.
+fn push_next(
+    text: &mut Vec<u8>,
+    alloc: Global,
+    number: u64,
+    line: &[u8],
+    slots: &[Slot],
+    image: &Image,
+) -> Result<usize, AllocError>
+    requires { All IsSlot slots.now }
+    ensures within { IfOk result (λ n. n ≤ length slots.now) }
+    ensures lines { IfOk result (λ n. (lines : List (List ℕ)) → text.new.items
+        ++ text_of_lines (walked (byte_at image.now) (number + 1) lines (drop n slots.now))
+        ≡ text.old.items
+        ++ text_of_lines (walked (byte_at image.now) number (line.now ∷ lines) slots.now)) }
+{
+    match slots.first() {
+        Some(slot) => {
+            if u64::from(slot.line) == number {
+                push_row(text, alloc, number, line, slot, image)?;
+                return Ok(1);
+            }
+            push_bare(text, number, line)?;
+            Ok(0)
+        }
+        None => {
+            push_bare(text, number, line)?;
+            Ok(0)
+        }
+    }
+}
+
+/// Appends the lines for all lines of a source, with what is kept of the rows of its image.
+pub(crate) fn push_source(
+    text: &mut Vec<u8>,
+    alloc: Global,
+    source: &[u8],
+    slots: &[Slot],
+    image: &Image,
+) -> Result<(), AllocError>
+    requires short { length source.now < 2 ^ 31 }
+    requires each { All IsSlot slots.now }
+    ensures { OnOk result (text.new.items ≡ text.old.items
+        ++ text_of_lines (walked (byte_at image.now) 1 (lines_of source.now) slots.now)) }
+{
+    let mut rest = source;
+    let mut number: u64 = 1;
+    let mut next = 0;
+    while !rest.is_empty() {
+        let (line, behind) = first_line(rest);
+        let (_, left) = slots.split_at(next);
+        next += push_next(text, alloc, number, line, left, image)?;
+        rest = behind;
+        number += 1;
+    }
+    Ok(())
+}
