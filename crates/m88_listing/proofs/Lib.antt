@@ -4,3 +4,8 @@ pub mod Lines
 pub mod Bases
 pub mod Keeping
 pub mod Ordered
+pub mod Fitting
+pub mod Climbing
+pub mod Showing
+pub mod Verdict
+pub mod Whole

@@ -1,11 +1,11 @@
 -- The lines of a source that are left behind some of them.
-use Rattle.std.proofs.Common.{◌≡◌, ℕ, zero, suc, ◌+◌, ◌-◌, ◌<◌, ◌≤◌, List, [], ◌∷◌, ◌++◌, length, map, take, drop, refl, sym, ap, ◌∙◌, append_assoc, arith, add-one, take_all, drop_of_length-le}
+use Rattle.std.proofs.Common.{◌≡◌, ℕ, zero, suc, ◌+◌, ◌-◌, ◌<◌, ◌≤◌, List, [], ◌∷◌, ◌++◌, length, take, drop, refl, sym, ap, ◌∙◌, append_assoc, arith, add-one, take_all, drop_of_length-le}
 use Rattle.std.specs.Prelude.{flat_map, slice_index_or}
 use Rattle.std.specs.List.{enumerate_from}
 use Rattle.std.proofs.lemmas.List.{append-nil}
 use Rattle.std.proofs.lemmas.List.FromFn.{length-enumerate_from}
 use Rattle.m88_base.specs.Refused.{refused_line}
-use Rattle.m88_base.specs.Lines.{line_end, lines_of, text_of_lines}
+use Rattle.m88_base.specs.Lines.{line_end, lines_of}
 use Rattle.m88_listing.specs.Columns.{bare_line}
 use Rattle.m88_listing.specs.Refused.{bare_text, mark_line, refused_text}
 

@@ -1,6 +1,6 @@
 -- Lines appended to a text, and the lines of a row.
-use Rattle.std.proofs.Common.{◌≡◌, ℕ, zero, suc, ◌+◌, ◌-◌, ◌*◌, ◌/◌, ◌<◌, ◌≤◌, Bool, true, false, List, [], ◌∷◌, ◌++◌, length, map, take, drop, min, refl, sym, ap, ◌∙◌, append_assoc, arith, length-append, Option, Some, None}
-use Rattle.std.specs.Prelude.{codes, decimal, if◌then◌else◌, flat_map, ◌==◌, slice_get}
+use Rattle.std.proofs.Common.{◌≡◌, ℕ, ◌+◌, ◌-◌, ◌*◌, ◌/◌, Bool, true, false, List, [], ◌∷◌, ◌++◌, length, map, take, drop, min, refl, sym, ap, ◌∙◌, append_assoc, arith, length-append, Option, Some}
+use Rattle.std.specs.Prelude.{codes, decimal, if◌then◌else◌, ◌==◌, slice_get}
 use Rattle.std.specs.List.{range_with_len}
 use Rattle.std.proofs.lemmas.Grind.{common_steps}
 use Rattle.std.proofs.lemmas.List.{append-nil, take_min}
@@ -8,7 +8,7 @@ use Rattle.std.proofs.lemmas.List.FromFn.{length-map-range_with_len, map-range_w
 use Rattle.m88_base.specs.Hex.{hex8}
 use Rattle.m88_base.specs.Lines.{line_end, text_of_lines}
 use Rattle.m88_base.specs.Placed.{Placed}
-use Rattle.m88_listing.specs.Columns.{at_left, at_right, bare_line, blanks, columns, further_columns}
+use Rattle.m88_listing.specs.Columns.{at_left, bare_line, blanks, columns, further_columns}
 use Rattle.m88_listing.specs.Refused.{below, mark_line}
 use Rattle.m88_listing.specs.Rows.{digits, further_line, row_lines}
 use Rattle.m88_listing.specs.Slots.{found_bytes, row_in, walked}

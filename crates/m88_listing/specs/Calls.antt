@@ -12,7 +12,7 @@ abbrev pub GivesAll : Option (List ℕ) → Option (List ℕ) → List ℕ → T
 GivesAll before after bytes = Consumes before after bytes × IsAtEnd after
 
 -- a call listed a source: it was read to its end, the text is as told for it, and the sink was given the text as told
-pub record Listed (before after : Option (List ℕ)) (IsText : List ℕ → List ℕ → Type 0)
+pub record IsListed (before after : Option (List ℕ)) (IsText : List ℕ → List ℕ → Type 0)
     (SinkIsGiven : List ℕ → Type 0) : Type 0 where
   pub source : List ℕ
   pub given : GivesAll before after source

@@ -1,9 +1,9 @@
 -- What holds of every listing: its lines show the image that `build` makes, and each line of the source once.
-use Rattle.std.specs.Prelude.{◌≡◌, ℕ, ◌==◌, ◌≤◌, Bool, not, List, [], ◌∷◌, drop, filter, flat_map, length, map, slice_index_or}
+use Rattle.std.specs.Prelude.{◌≡◌, ◌↔◌, ◌⊎◌, ℕ, ◌==◌, ◌≤◌, Bool, Some, not, List, [], ◌∷◌, drop, filter, flat_map, length, map, slice_index_or}
 use Rattle.std.specs.Option.{option_map_or}
-use Rattle.m88_base.specs.Image.{ProgramImage, byte_at, byte_count}
+use Rattle.m88_base.specs.Image.{ProgramImage, byte_at}
 use Rattle.m88_base.specs.Lines.{lines_of}
-use Rattle.m88_base.specs.Placed.{Placed, byte_among, count_among}
+use Rattle.m88_base.specs.Placed.{Placed, byte_in}
 use Rattle.m88_parse.specs.Language.Units.{IsUnit}
 use Rattle.m88_parse.specs.declared.unit.Unit.{Unit as Source}
 use Rattle.m88_asm.specs.Accepted.{IsAcceptedUnit}
@@ -16,17 +16,16 @@ use Rattle.m88_listing.specs.Rows.{Row, numbered, row_at, rows_of, source_lines}
 abbrev pub shown_runs : List Row → List ℕ → List Placed
 shown_runs rows source = flat_map (λ e. option_map_or (λ row. row.run ∷ []) (row_at rows e.0) []) (numbered source)
 
--- the bytes that the lines of a source show are those of its image, at their addresses: each line shows what the image
--- has, and the lines show as many bytes as the image has
-pub record ShowsImage (source : List ℕ) (u : Source) (image : ProgramImage) : Type 0 where
-  pub bytes : (a : ℕ) → byte_among (shown_runs (rows_of u) source) a ≡ byte_at image a
-  pub count : count_among (shown_runs (rows_of u) source) ≡ byte_count image
+-- some run has this byte at the address
+abbrev pub Shows : List Placed → ℕ → ℕ → Type 0
+Shows [] a b = ⊥
+Shows (run ∷ runs) a b = (byte_in run a ≡ Some b) ⊎ Shows runs a b
 
--- so it is of every source that is accepted
+-- the lines of a source that is accepted show a byte at an address exactly where the image of the source has it
 abbrev pub EachShowsItsImage : Type 0
 EachShowsItsImage =
     (source : List ℕ) (u : Source) (image : ProgramImage) → IsUnit source u → IsAcceptedUnit u → IsUnitImage u image
-    → ShowsImage source u image
+    → (a b : ℕ) → Shows (shown_runs (rows_of u) source) a b ↔ (byte_at image a ≡ Some b)
 
 -- a line of a listing has the number of a line of the source: the last place of the first column isn't blank
 abbrev pub has_number : List ℕ → Bool

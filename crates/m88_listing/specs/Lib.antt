@@ -10,4 +10,5 @@ pub mod Calls
 pub mod Laws
 -- Words for the contracts of private functions.
 pub mod Parts
+pub mod Replies
 pub mod Slots

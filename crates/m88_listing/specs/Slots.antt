@@ -5,7 +5,7 @@ use Rattle.std.specs.List.{range_with_len}
 use Rattle.m88_base.specs.Image.{most_bytes}
 use Rattle.m88_parse.specs.WellFormed.{IsFormedBody}
 use Rattle.m88_parse.specs.declared.unit.Statement.{Statement}
-use Rattle.m88_asm.specs.Counters.{Counters, Located, after, at_begin, length_of, offset_of, section_of}
+use Rattle.m88_asm.specs.Counters.{Counters, Located, after, at_begin, length_of, offset_of}
 use Rattle.m88_asm.specs.Units.{Based, address_in}
 use Rattle.m88_listing.specs.Columns.{bare_line}
 use Rattle.m88_listing.specs.Parts.{Parts}

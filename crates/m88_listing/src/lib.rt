@@ -11,10 +11,13 @@ mod standing;
 
 // The text.
 mod columns;
+mod listing;
 mod refused;
 mod rows;
 
 // The top call.
+mod program;
 mod status;
 
+pub use program::{MOST_SOURCE, m88list};
 pub use status::ListStatus;

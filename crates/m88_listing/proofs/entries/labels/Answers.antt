@@ -1,8 +1,7 @@
 -- The labels are sorted by their values.
-use Rattle.std.proofs.Common.{◌≡◌, ◌∙◌, ap, subst, List, rules, arith, flat_map}
+use Rattle.std.proofs.Common.{◌≡◌, subst, rules, flat_map}
 use Rattle.std.specs.Prelude.{is_some}
 use Rattle.std.proofs.lemmas.Fn.{always_returns_same}
-use Rattle.std.proofs.lemmas.Grind.{common_steps}
 use Rattle.std.proofs.lemmas.List.Sorted.{IsNonDecreasingBy-from_sort_by_key}
 use Rattle.m88_listing.specs.declared.entries.Entry.{Entry}
 use Rattle.m88_listing.specs.Entries.{AreInOrder, entries_in}

@@ -1,5 +1,5 @@
 -- The lines so far, with those of the entries that are left, are all lines.
-use Rattle.std.proofs.Common.{◌≡◌, ◌++◌, [], ◌∷◌, drop, map}
+use Rattle.std.proofs.Common.{◌≡◌, ◌++◌, drop, map}
 use Rattle.m88_base.specs.Lines.{text_of_lines}
 use Rattle.m88_listing.specs.Entries.{entry_line}
 use Rattle.m88_listing.specs.Listing.{entry_lines}

@@ -1,5 +1,5 @@
 -- The parts of the line one after the other.
-use Rattle.std.proofs.Common.{◌≡◌, ◌∙◌, ◌++◌, ap, List, ℕ}
+use Rattle.std.proofs.Common.{◌∙◌, ◌++◌, ap, List, ℕ}
 use Rattle.std.specs.Prelude.{decimal}
 use Rattle.m88_base.specs.Hex.{hex8}
 use Rattle.m88_listing.specs.Entries.{global_mark}

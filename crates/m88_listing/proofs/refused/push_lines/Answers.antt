@@ -1,5 +1,5 @@
 -- One line more; behind the last none is left.
-use Rattle.std.proofs.Common.{◌≡◌, ◌∙◌, ◌+◌, ◌-◌, ap, sym, arith, length, drop, List, ℕ}
+use Rattle.std.proofs.Common.{◌≡◌, ◌∙◌, ap, sym, arith, length, drop, ℕ}
 use Rattle.std.proofs.lemmas.Grind.{common_steps}
 use Rattle.m88_base.specs.Lines.{lines_of}
 use Rattle.m88_listing.proofs.Lines.{bare_done, bare_full, bare_more, drop_line, no_lines, none_left}

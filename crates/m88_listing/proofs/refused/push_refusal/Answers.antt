@@ -1,11 +1,10 @@
 -- The parts of the text one after the other.
-use Rattle.std.proofs.Common.{◌≡◌, ◌∙◌, ◌+◌, ◌-◌, ◌≤◌, ◌++◌, [], List, ℕ, ap, sym, arith, length, drop, take}
-use Rattle.std.specs.Prelude.{slice_index_or}
+use Rattle.std.proofs.Common.{◌∙◌, ◌+◌, ◌-◌, ◌++◌, ℕ, ap, arith, drop, take}
 use Rattle.std.specs.List.{enumerate_from}
-use Rattle.m88_base.specs.Lines.{line_end, lines_of}
+use Rattle.m88_base.specs.Lines.{lines_of}
 use Rattle.m88_base.specs.Refused.{refused_line}
 use Rattle.m88_parse.proofs.FormedUnits.{lines_few}
-use Rattle.m88_listing.specs.Refused.{bare_text, mark_line}
+use Rattle.m88_listing.specs.Refused.{bare_text}
 use Rattle.m88_listing.proofs.Lines.{refused_whole}
 use Rattle.m88_listing.proofs.refused.push_refusal.Goals as goal
 

@@ -1,5 +1,5 @@
 -- The lines of a row whose bytes are told as a count, or shown.
-use Rattle.std.proofs.Common.{◌≡◌, ℕ, ◌∙◌, ◌≤◌, ◌+◌, ◌^◌, arith, ap, length, take, sym, List, min}
+use Rattle.std.proofs.Common.{ℕ, ◌∙◌, arith, ap, length, take, sym, List, min}
 use Rattle.std.proofs.lemmas.List.FromFn.{length-map-range_with_len}
 use Rattle.m88_base.specs.Image.{byte_at}
 use Rattle.m88_listing.proofs.Texts.{counted_row, shown_row}

@@ -1,6 +1,5 @@
 -- The address is that of the section of the object.
 use Rattle.std.proofs.Common.{◌≡◌, ◌∙◌, ◌<◌, ◌≤◌, List, get_or, ap, sym, length, arith}
-use Rattle.m88_link.specs.declared.object.Place.{Place}
 use Rattle.m88_link.specs.declared.object.Section.{Section}
 use Rattle.m88_asm.specs.Objects.{object_of}
 use Rattle.m88_asm.specs.Units.{Based, address_at, base_in}

@@ -1,0 +1,239 @@
+-- The statements of a unit that is accepted fit, and what is kept of them is what they put into the unit's image.
+use Rattle.std.proofs.Common.{◌≡◌, ℕ, zero, suc, ◌+◌, ◌-◌, ◌<◌, ◌≤◌, ◌^◌, Bool, true, false, inl, inr, List, [], ◌∷◌, ◌++◌, length, map, filter, get_or, refl, sym, ap, ◌∙◌, arith, Option, Some, None}
+use Rattle.std.specs.Prelude.{◌==◌, IfSome, flat_map, nat_lt, slice_get, unwrap_or, if◌then◌else◌}
+use Rattle.std.specs.List.{AllByRecursion, range_with_len}
+use Rattle.std.specs.Option.{option_map}
+use Rattle.std.proofs.lemmas.Bool.{cases_Bool, cond-true, cond-false, eqb-true, eqb-false, ltb-false, or_parts, lt-ltb, le-ltb}
+use Rattle.std.proofs.lemmas.List.{map-append}
+use Rattle.std.proofs.lemmas.Option.{slice_get-get_or}
+use Rattle.m88_base.proofs.Lookup.{byte_in_from}
+use Rattle.m88_base.specs.Image.{IsImage, ProgramImage, byte_at, most_bytes}
+use Rattle.m88_base.specs.Placed.{Placed}
+use Rattle.m88_parse.specs.declared.unit.Module.{Module}
+use Rattle.m88_parse.specs.declared.unit.Statement.{Statement}
+use Rattle.m88_parse.specs.declared.unit.Unit.{Unit as Source}
+use Rattle.m88_parse.specs.WellFormed.{IsWellFormed}
+use Rattle.m88_link.specs.declared.object.Symbol.{Symbol}
+use Rattle.m88_link.specs.Symbols.{repeated_after}
+use Rattle.m88_link.specs.Bases.{up_to_multiple}
+use Rattle.m88_asm.specs.Accepted.{IsAcceptedUnit}
+use Rattle.m88_asm.specs.Counters.{Counters, Located, after, at_begin, length_of, located, offset_of, place_of}
+use Rattle.m88_asm.specs.Faults.{duplicate_at, misfit_at, misplaced_at, module_fault, modules_fault, statements_fault, too_large_at}
+use Rattle.m88_asm.specs.Images.{IsUnitImage, run_of, runs_in}
+use Rattle.m88_asm.specs.Objects.{symbols_of}
+use Rattle.m88_asm.specs.Units.{Based, address_in, based, based_from, bytes_of, section_length, unit_layout, value_in_module}
+use Rattle.m88_asm.proofs.Composing.{CanFill, EachBased, formed}
+use Rattle.m88_asm.proofs.Imaging.{Has, has_left, has_right, run_found, runs_law}
+use Rattle.m88_asm.proofs.Reaching.{each_fills}
+use Rattle.m88_asm.proofs.Relocating.{AllFormed, length-filled_bytes}
+use Rattle.m88_asm.proofs.Sounding.{first_parts, option_or-none}
+use Rattle.m88_listing.specs.Rows.{Row, has_bytes, is_counted, row_of, rows_in, rows_of}
+use Rattle.m88_listing.specs.Slots.{AllFit, Fits, IsSlot, ModuleFits, found_bytes, row_in, slots_at, slots_from, slots_of}
+use Rattle.m88_listing.specs.declared.slots.Slot.{Slot}
+
+-- the bytes of a statement are found at their addresses
+abbrev pub IsFound : List Symbol → Based → (ℕ → Option ℕ) → Located → Type 0
+IsFound globals b found r = (k v : ℕ) → slice_get (bytes_of globals b r) k ≡ Some v → found (address_in b r + k) ≡ Some v
+
+-- those of statements are, from counters on
+abbrev pub AreFound : List Symbol → Based → (ℕ → Option ℕ) → Counters → List Statement → Type 0
+AreFound globals b found c [] = Unit {0}
+AreFound globals b found c (x ∷ xs) =
+    IsFound globals b found (record { before = c; statement = x }) × AreFound globals b found (after c x.body) xs
+
+rows_found : (globals : List Symbol) (b : Based) (found : ℕ → Option ℕ) (c : Counters) (xs : List Statement)
+    → ((a v : ℕ) → Has (map (run_of globals b) (located c xs)) a v → found a ≡ Some v) → AreFound globals b found c xs
+unfolding Has located
+rows_found globals b found c [] into = tt
+rows_found globals b found c (x ∷ xs) into =
+    let r : Located = record { before = c; statement = x } in (
+      (λ k v e. into (address_in b r + k) v (inl (byte_in_from (address_in b r) (bytes_of globals b r) k ∙ e))),
+      rows_found globals b found (after c x.body) xs (λ a v h. into a v (inr h)),
+    )
+
+modules_found : (globals : List Symbol) (found : ℕ → Option ℕ) (bs : List Based)
+    → ((a v : ℕ) → Has (flat_map (runs_in globals) bs) a v → found a ≡ Some v)
+    → EachBased (λ b. AreFound globals b found at_begin b.source.statements) bs
+modules_found globals found [] into = tt
+modules_found globals found (b ∷ bs) into = (
+  rows_found globals b found at_begin b.source.statements
+      (λ a v h. into a v (has_left (runs_in globals b) (flat_map (runs_in globals) bs) a v h)),
+  modules_found globals found bs (λ a v h. into a v (has_right (runs_in globals b) (flat_map (runs_in globals) bs) a v h)),
+)
+
+-- a byte of a statement is that of the image
+pub found_in : (u : Source) (image : ProgramImage) → IsAcceptedUnit u → IsUnitImage u image
+    → (a v : ℕ) → Has (flat_map (runs_in (unit_layout u).globals) (based u)) a v → byte_at image a ≡ Some v
+found_in u image accepted own a v h =
+    let globals = (unit_layout u).globals in
+    own.bytes a ∙ sym (runs_law globals (based u) a accepted.linkable.disjoint)
+    ∙ run_found globals (based u) a v accepted.linkable.disjoint h
+
+pub all_found : (u : Source) (image : ProgramImage) → IsAcceptedUnit u → IsUnitImage u image
+    → EachBased (λ b. AreFound (unit_layout u).globals b (byte_at image) at_begin b.source.statements) (based u)
+all_found u image accepted own = modules_found (unit_layout u).globals (byte_at image) (based u) (found_in u image accepted own)
+
+-- a statement that meets no fault has room
+no_fault : {A : Type 0} (b : Bool) (x : A) → (if b then Some x else None) ≡ None → b ≡ false
+no_fault true x h = cc
+no_fault false x h = refl
+
+room_of : (r : Located) → misfit_at (offset_of r) (place_of r) r.statement ≡ None → offset_of r + length_of r ≤ most_bytes
+room_of r h =
+    let none = (option_or-none (misplaced_at (place_of r) r.statement) (too_large_at (offset_of r) (place_of r) r.statement) h).1 in
+    let parts = or_parts (nat_lt most_bytes (offset_of r + length_of r)) (nat_lt (2 ^ 32) (place_of r + length_of r)) (no_fault _ _ none) in
+    ltb-false most_bytes (offset_of r + length_of r) parts.0
+
+-- bytes that are found lie among the addresses
+below : (o : Option ℕ) (a v : ℕ) → o ≡ Some v → IfSome o (λ b. (a < 2 ^ 32) × (b < 256)) → a < 2 ^ 32
+below (Some b) a v e h = h.0
+below None a v e h = cc
+
+within_of : (globals : List Symbol) (b : Based) (image : ProgramImage) (r : Located) → IsImage image → IsFound globals b (byte_at image) r
+    → 0 < length_of r → address_in b r + length_of r ≤ 2 ^ 32
+within_of globals b image r is found some =
+    let bytes = bytes_of globals b r in
+    let long : length bytes ≡ length_of r = length-filled_bytes (value_in_module globals b) (address_in b r) (place_of r) r.statement.body in
+    let k = length_of r - 1 in
+    let there = found k (get_or bytes k 0) (slice_get-get_or bytes k 0 (omega (arith, long, some))) in
+    let low : address_in b r + k < 2 ^ 32 = below (byte_at image (address_in b r + k)) (address_in b r + k) _ there (is.bytes (address_in b r + k)) in
+    omega (arith, low, some)
+
+rows_fit : (globals defined : List Symbol) (b : Based) (image : ProgramImage) (c : Counters) (xs : List Statement) → IsImage image → AllFormed xs
+    → statements_fault defined (located c xs) ≡ None → AreFound globals b (byte_at image) c xs → AllFit b c xs
+rows_fit globals defined b image c [] is formed clean found = tt
+rows_fit globals defined b image c (x ∷ xs) is formed clean found =
+    let r : Located = record { before = c; statement = x } in
+    let parts = first_parts defined c x xs clean in
+    let misfit = (option_or-none (option_map duplicate_at (repeated_after defined (symbols_of r))) (misfit_at (offset_of r) (place_of r) x) parts.0).1 in (
+      record { formed = formed.0; room = room_of r misfit; within = within_of globals b image r is found.0 },
+      rows_fit globals (defined ++ symbols_of r) b image (after c x.body) xs is formed.1 parts.1 found.1,
+    )
+
+each_clean : (text datas : ℕ) (ms : List Module) → modules_fault ms ≡ None → EachBased (λ b. module_fault b.source ≡ None) (based_from text datas ms)
+each_clean text datas [] h = tt
+each_clean text datas (m ∷ ms) h =
+    let p = option_or-none (module_fault m) (modules_fault ms) h in
+    (p.0, each_clean (up_to_multiple 8 text + section_length 0 m) (up_to_multiple 8 datas + section_length 1 m) ms p.1)
+
+modules_fit : (globals : List Symbol) (image : ProgramImage) (bs : List Based) → IsImage image → EachBased (CanFill globals) bs
+    → EachBased (λ b. module_fault b.source ≡ None) bs → EachBased (λ b. AreFound globals b (byte_at image) at_begin b.source.statements) bs
+    → AllByRecursion ModuleFits bs
+modules_fit globals image [] is fills clean found = tt
+modules_fit globals image (b ∷ bs) is fills clean found = (
+  rows_fit globals [] b image at_begin b.source.statements is (formed b.source.statements fills.0.0) clean.0 found.0,
+  modules_fit globals image bs is fills.1 clean.1 found.1,
+)
+
+-- so the modules of a unit with an image fit
+pub unit_fits : (u : Source) (image : ProgramImage) → IsWellFormed u → IsAcceptedUnit u → IsUnitImage u image → AllByRecursion ModuleFits (based u)
+unit_fits u image well accepted own =
+    modules_fit (unit_layout u).globals image (based u) own.is_image (each_fills u well accepted.linkable)
+    (each_clean _ _ u.modules accepted.assembled) (all_found u image accepted own)
+
+-- and what is kept of them lies among the addresses
+one_slot : (b : Based) (r : Located) → Fits b r → AllByRecursion IsSlot (slots_at b r)
+one_slot b r fits = by (length_of r == 0) refl
+  where
+    by : (t : Bool) → (length_of r == 0) ≡ t
+        → AllByRecursion IsSlot (if t then [] else record { line = r.statement.line; at = address_in b r; len = length_of r; counted = is_counted r.statement.body } ∷ [])
+    by true e = tt
+    by false e =
+        let not : (length_of r ≡ 0 → ⊥) = eqb-false (length_of r) 0 e in
+        let some : 0 < length_of r = some_of (length_of r) not in
+        ((some, fits.within some), tt)
+      where
+        some_of : (n : ℕ) → (n ≡ 0 → ⊥) → 0 < n
+        some_of zero differs = absurd (differs refl)
+        some_of (suc n) differs = omega arith
+
+both_slots : (xs ys : List Slot) → AllByRecursion IsSlot xs → AllByRecursion IsSlot ys → AllByRecursion IsSlot (xs ++ ys)
+both_slots [] ys p q = q
+both_slots (x ∷ xs) ys p q = (p.0, both_slots xs ys p.1 q)
+
+rows_slots : (b : Based) (c : Counters) (xs : List Statement) → AllFit b c xs → AllByRecursion IsSlot (slots_from b c xs)
+rows_slots b c [] fit = tt
+rows_slots b c (x ∷ xs) fit = both_slots (slots_at b (record { before = c; statement = x })) (slots_from b (after c x.body) xs)
+    (one_slot b (record { before = c; statement = x }) fit.0) (rows_slots b (after c x.body) xs fit.1)
+
+pub are_slots : (bs : List Based) → AllByRecursion ModuleFits bs → AllByRecursion IsSlot (slots_of bs)
+are_slots [] fit = tt
+are_slots (b ∷ bs) fit = both_slots (slots_from b at_begin b.source.statements) (slots_of bs) (rows_slots b at_begin b.source.statements fit.0) (are_slots bs fit.1)
+
+-- the rows of a unit are what is kept, with the bytes that are found
+found_same : (found : ℕ → Option ℕ) (at n : ℕ) (bytes : List ℕ) → ((k v : ℕ) → slice_get bytes k ≡ Some v → found (at + (n + k)) ≡ Some v)
+    → map (λ k. unwrap_or (found (at + k)) 0) (range_with_len n (length bytes)) ≡ bytes
+found_same found at n [] h = refl
+found_same found at n (x ∷ bytes) h =
+    let here : found (at + n) ≡ Some x = ap found (omega arith) ∙ h 0 x refl in
+    ap (λ o. unwrap_or o 0 ∷ map (λ k. unwrap_or (found (at + k)) 0) (range_with_len (n + 1) (length bytes))) here
+    ∙ ap (λ xs. x ∷ xs) (found_same found at (n + 1) bytes (λ k v e. ap found (omega arith) ∙ h (suc k) v e))
+
+same_row : (globals : List Symbol) (b : Based) (found : ℕ → Option ℕ) (r : Located) → IsFound globals b found r
+    → found_bytes found (address_in b r) (length_of r) ≡ bytes_of globals b r
+same_row globals b found r h =
+    let bytes = bytes_of globals b r in
+    let long : length bytes ≡ length_of r = length-filled_bytes (value_in_module globals b) (address_in b r) (place_of r) r.statement.body in
+    ap (λ n. found_bytes found (address_in b r) n) (sym long)
+    ∙ found_same found (address_in b r) 0 bytes (λ k v e. ap found (omega arith) ∙ h k v e)
+
+one_row : (globals : List Symbol) (b : Based) (found : ℕ → Option ℕ) (r : Located) → IsFound globals b found r
+    → filter has_bytes (row_of globals b r ∷ []) ≡ map (row_in found) (slots_at b r)
+one_row globals b found r h = elim (cases_Bool (length_of r == 0)) [
+  | inl t ↦
+      let none : length_of r ≡ 0 = eqb-true (length_of r) 0 t in
+      cond-false (has_bytes (row_of globals b r)) (row_of globals b r ∷ []) [] (le-ltb 0 (length bytes) (omega (arith, long, none)))
+      ∙ ap (map (row_in found)) (sym (cond-true (length_of r == 0) [] (slot ∷ []) t))
+  | inr t ↦
+      let some : 0 < length_of r = some_of (length_of r) (eqb-false (length_of r) 0 t) in
+      cond-true (has_bytes (row_of globals b r)) (row_of globals b r ∷ []) [] (lt-ltb 0 (length bytes) (omega (arith, long, some)))
+      ∙ ap (λ bs. let run : Placed = record { at = address_in b r; bytes = bs } in
+      let row : Row = record { line = r.statement.line; run = run; counted = is_counted r.statement.body } in row ∷ []) (sym (same_row globals b found r h))
+      ∙ ap (map (row_in found)) (sym (cond-false (length_of r == 0) [] (slot ∷ []) t))
+]
+  where
+    bytes : List ℕ
+    bytes = bytes_of globals b r
+
+    long : length bytes ≡ length_of r
+    long = length-filled_bytes (value_in_module globals b) (address_in b r) (place_of r) r.statement.body
+
+    slot : Slot
+    slot = record { line = r.statement.line; at = address_in b r; len = length_of r; counted = is_counted r.statement.body }
+
+    some_of : (n : ℕ) → (n ≡ 0 → ⊥) → 0 < n
+    some_of zero differs = absurd (differs refl)
+    some_of (suc n) differs = omega arith
+
+filter-first : (row : Row) (rows : List Row) → filter has_bytes (row ∷ rows) ≡ filter has_bytes (row ∷ []) ++ filter has_bytes rows
+filter-first row rows = by (has_bytes row) refl
+  where
+    by : (t : Bool) → has_bytes row ≡ t → filter has_bytes (row ∷ rows) ≡ filter has_bytes (row ∷ []) ++ filter has_bytes rows
+    by true e = cond-true (has_bytes row) (row ∷ filter has_bytes rows) (filter has_bytes rows) e
+        ∙ ap (λ xs. xs ++ filter has_bytes rows) (sym (cond-true (has_bytes row) (row ∷ []) [] e))
+    by false e = cond-false (has_bytes row) (row ∷ filter has_bytes rows) (filter has_bytes rows) e
+        ∙ ap (λ xs. xs ++ filter has_bytes rows) (sym (cond-false (has_bytes row) (row ∷ []) [] e))
+
+rows_kept : (globals : List Symbol) (b : Based) (found : ℕ → Option ℕ) (c : Counters) (xs : List Statement) → AreFound globals b found c xs
+    → filter has_bytes (map (row_of globals b) (located c xs)) ≡ map (row_in found) (slots_from b c xs)
+unfolding located
+rows_kept globals b found c [] h = refl
+rows_kept globals b found c (x ∷ xs) h =
+    let r : Located = record { before = c; statement = x } in
+    let rest = map (row_of globals b) (located (after c x.body) xs) in
+    filter-first (row_of globals b r) rest
+    ∙ ap (λ rows. rows ++ filter has_bytes rest) (one_row globals b found r h.0)
+    ∙ ap (λ rows. map (row_in found) (slots_at b r) ++ rows) (rows_kept globals b found (after c x.body) xs h.1)
+    ∙ sym (map-append (row_in found) (slots_at b r) (slots_from b (after c x.body) xs))
+
+modules_kept : (globals : List Symbol) (found : ℕ → Option ℕ) (bs : List Based) → EachBased (λ b. AreFound globals b found at_begin b.source.statements) bs
+    → flat_map (rows_in globals) bs ≡ map (row_in found) (slots_of bs)
+modules_kept globals found [] h = refl
+modules_kept globals found (b ∷ bs) h =
+    ap (λ rows. rows ++ flat_map (rows_in globals) bs) (rows_kept globals b found at_begin b.source.statements h.0)
+    ∙ ap (λ rows. map (row_in found) (slots_from b at_begin b.source.statements) ++ rows) (modules_kept globals found bs h.1)
+    ∙ sym (map-append (row_in found) (slots_from b at_begin b.source.statements) (slots_of bs))
+
+pub unit_kept : (u : Source) (image : ProgramImage) → IsAcceptedUnit u → IsUnitImage u image
+    → rows_of u ≡ map (row_in (byte_at image)) (slots_of (based u))
+unit_kept u image accepted own = modules_kept (unit_layout u).globals (byte_at image) (based u) (all_found u image accepted own)

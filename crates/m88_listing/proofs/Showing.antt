@@ -1,0 +1,161 @@
+-- The lines of a source show the bytes of its image.
+use Rattle.std.proofs.Common.{◌≡◌, ℕ, ◌≤◌, Bool, true, false, inl, inr, List, [], ◌∷◌, ◌++◌, length, map, filter, refl, sym, ap, ◌∙◌, subst, arith, Option, Some, None}
+use Rattle.std.specs.Prelude.{◌⊎◌, flat_map, nat_lt}
+use Rattle.std.specs.Option.{option_or}
+use Rattle.std.proofs.lemmas.Bool.{cases_Bool, cond-true, cond-false, ltb-false}
+use Rattle.std.proofs.lemmas.Bool.Decides.{nat_tests}
+use Rattle.m88_base.proofs.Lookup.{byte_among-append, byte_in_above, byte_in_below}
+use Rattle.m88_base.specs.Image.{byte_at}
+use Rattle.m88_base.specs.Lines.{lines_of}
+use Rattle.m88_base.specs.Placed.{Placed, byte_among, byte_in}
+use Rattle.m88_link.specs.declared.object.Symbol.{Symbol}
+use Rattle.m88_asm.specs.Counters.{Located}
+use Rattle.m88_asm.specs.Images.{run_of, runs_in}
+use Rattle.m88_asm.specs.Objects.{lines_in}
+use Rattle.m88_asm.specs.Units.{Based, based, unit_layout}
+use Rattle.m88_asm.proofs.Imaging.{Has, has_left, has_right}
+use Rattle.m88_listing.specs.Laws.{EachShowsItsImage, Shows, shown_runs}
+use Rattle.m88_listing.specs.Rows.{Row, has_bytes, row_of, rows_in, rows_of}
+use Rattle.m88_listing.specs.Slots.{row_in, slots_of}
+use Rattle.m88_listing.proofs.Climbing.{shown_all, unit_climbs}
+use Rattle.m88_listing.proofs.Fitting.{found_in, unit_kept}
+
+-- the runs of rows
+abbrev runs : List Row → List Placed
+runs rows = map (λ (row : Row). row.run) rows
+
+shows_left : (ps qs : List Placed) (a b : ℕ) → Shows ps a b → Shows (ps ++ qs) a b
+shows_left [] qs a b h = absurd h
+shows_left (p ∷ ps) qs a b (inl h) = inl h
+shows_left (p ∷ ps) qs a b (inr h) = inr (shows_left ps qs a b h)
+
+shows_right : (ps qs : List Placed) (a b : ℕ) → Shows qs a b → Shows (ps ++ qs) a b
+shows_right [] qs a b h = h
+shows_right (p ∷ ps) qs a b h = inr (shows_right ps qs a b h)
+
+shows_either : (ps qs : List Placed) (a b : ℕ) → Shows (ps ++ qs) a b → Shows ps a b ⊎ Shows qs a b
+shows_either [] qs a b h = inr h
+shows_either (p ∷ ps) qs a b (inl h) = inl (inl h)
+shows_either (p ∷ ps) qs a b (inr h) = elim (shows_either ps qs a b h) [ inl l ↦ inl (inr l) | inr r ↦ inr r ]
+
+runs-append : (xs ys : List Row) → runs (xs ++ ys) ≡ runs xs ++ runs ys
+runs-append [] ys = refl
+runs-append (x ∷ xs) ys = ap (λ rs. x.run ∷ rs) (runs-append xs ys)
+
+-- a run that has a byte has some
+some_none : (o : Option ℕ) (v : ℕ) → o ≡ None → o ≡ Some v → ⊥
+some_none o v n h = cc
+
+has_some : (row : Row) (a b : ℕ) → byte_in row.run a ≡ Some b → has_bytes row ≡ true
+has_some row a b h = elim (cases_Bool (has_bytes row)) [
+  | inl t ↦ t
+  | inr t ↦
+      let none : length row.run.bytes ≤ 0 = ltb-false 0 (length row.run.bytes) t in
+      absurd (some_none (byte_in row.run a) b (empty none) h)
+]
+  where
+    empty : length row.run.bytes ≤ 0 → byte_in row.run a ≡ None
+    empty none = by (nat_lt a row.run.at) refl
+      where
+        by : (t : Bool) → nat_lt a row.run.at ≡ t → byte_in row.run a ≡ None
+        by true t = byte_in_below row.run a (grind (arith, nat_tests))
+        by false t = byte_in_above row.run a (omega (arith, none, ltb-false a row.run.at t))
+
+-- what rows with bytes show is what all rows show
+kept_shows : (globals : List Symbol) (bs : Based) (rs : List Located) (a b : ℕ)
+    → Shows (runs (filter has_bytes (map (row_of globals bs) rs))) a b → Has (map (run_of globals bs) rs) a b
+unfolding Has
+kept_shows globals bs [] a b h = h
+kept_shows globals bs (r ∷ rs) a b h = by (has_bytes (row_of globals bs r)) refl (kept_shows globals bs rs a b)
+  where
+    row : Row
+    row = row_of globals bs r
+
+    rest : List Row
+    rest = filter has_bytes (map (row_of globals bs) rs)
+
+    by : (t : Bool) → has_bytes row ≡ t → (Shows (runs rest) a b → Has (map (run_of globals bs) rs) a b)
+        → (byte_in row.run a ≡ Some b) ⊎ Has (map (run_of globals bs) rs) a b
+    by true t next =
+        pick (subst (λ (xs : List Row). Shows (runs xs) a b) (cond-true (has_bytes row) (row ∷ rest) rest t) h)
+      where
+        pick : (byte_in row.run a ≡ Some b) ⊎ Shows (runs rest) a b → (byte_in row.run a ≡ Some b) ⊎ Has (map (run_of globals bs) rs) a b
+        pick (inl e) = inl e
+        pick (inr e) = inr (next e)
+    by false t next = inr (next (subst (λ (xs : List Row). Shows (runs xs) a b) (cond-false (has_bytes row) (row ∷ rest) rest t) h))
+
+has_append : (ps qs : List Placed) (a b : ℕ) → Has ps a b ⊎ Has qs a b → Has (ps ++ qs) a b
+has_append ps qs a b (inl h) = has_left ps qs a b h
+has_append ps qs a b (inr h) = has_right ps qs a b h
+
+both : {A B C D : Type 0} → (A → C) → (B → D) → A ⊎ B → C ⊎ D
+both f g (inl x) = inl (f x)
+both f g (inr x) = inr (g x)
+
+modules_show : (globals : List Symbol) (bs : List Based) (a b : ℕ)
+    → Shows (runs (flat_map (rows_in globals) bs)) a b → Has (flat_map (runs_in globals) bs) a b
+unfolding Has
+modules_show globals [] a b h = h
+modules_show globals (x ∷ bs) a b h =
+    has_append (runs_in globals x) (flat_map (runs_in globals) bs) a b
+    (both (kept_shows globals x (lines_in x.source) a b) (modules_show globals bs a b)
+    (shows_either (runs (rows_in globals x)) (runs (flat_map (rows_in globals) bs)) a b
+    (subst (λ ps. Shows ps a b) (runs-append (rows_in globals x) (flat_map (rows_in globals) bs)) h)))
+
+-- and the other way round
+found_row : (globals : List Symbol) (bs : Based) (rs : List Located) (a b : ℕ) → byte_among (map (run_of globals bs) rs) a ≡ Some b
+    → Shows (runs (filter has_bytes (map (row_of globals bs) rs))) a b
+found_row globals bs [] a b h = cc
+found_row globals bs (r ∷ rs) a b h =
+    by (byte_in row.run a) refl (has_bytes row) refl (found_row globals bs rs a b)
+  where
+    row : Row
+    row = row_of globals bs r
+
+    rest : List Row
+    rest = filter has_bytes (map (row_of globals bs) rs)
+
+    by : (o : Option ℕ) → byte_in row.run a ≡ o → (t : Bool) → has_bytes row ≡ t
+        → (byte_among (map (run_of globals bs) rs) a ≡ Some b → Shows (runs rest) a b) → Shows (runs (filter has_bytes (row ∷ map (row_of globals bs) rs))) a b
+    by (Some v) e true t next =
+        let value : Some v ≡ Some b = ap (λ o. option_or o (byte_among (map (run_of globals bs) rs) a)) (sym e) ∙ h in
+        subst (λ (xs : List Row). Shows (runs xs) a b) (sym (cond-true (has_bytes row) (row ∷ rest) rest t)) (inl (e ∙ value))
+    by (Some v) e false t next = absurd (true_false (has_bytes row) (has_some row a v e) t)
+      where
+        true_false : (t : Bool) → t ≡ true → t ≡ false → ⊥
+        true_false t a b = cc
+    by None e true t next =
+        let later = ap (λ o. option_or o (byte_among (map (run_of globals bs) rs) a)) (sym e) ∙ h in
+        subst (λ (xs : List Row). Shows (runs xs) a b) (sym (cond-true (has_bytes row) (row ∷ rest) rest t)) (inr (next later))
+    by None e false t next =
+        let later = ap (λ o. option_or o (byte_among (map (run_of globals bs) rs) a)) (sym e) ∙ h in
+        subst (λ (xs : List Row). Shows (runs xs) a b) (sym (cond-false (has_bytes row) (row ∷ rest) rest t)) (next later)
+
+either_some : (o q : Option ℕ) (v : ℕ) → option_or o q ≡ Some v → (o ≡ Some v) ⊎ (q ≡ Some v)
+either_some (Some x) q v h = inl h
+either_some None q v h = inr h
+
+shown_kept : (globals : List Symbol) (bs : List Based) (a b : ℕ)
+    → byte_among (flat_map (runs_in globals) bs) a ≡ Some b → Shows (runs (flat_map (rows_in globals) bs)) a b
+shown_kept globals [] a b h = cc
+shown_kept globals (x ∷ bs) a b h =
+    subst (λ ps. Shows ps a b) (sym (runs-append (rows_in globals x) (flat_map (rows_in globals) bs)))
+    (joined (either_some (byte_among (runs_in globals x) a) (byte_among (flat_map (runs_in globals) bs) a) b
+    (sym (byte_among-append (runs_in globals x) (flat_map (runs_in globals) bs) a) ∙ h)) (shown_kept globals bs a b))
+  where
+    joined : (byte_among (runs_in globals x) a ≡ Some b) ⊎ (byte_among (flat_map (runs_in globals) bs) a ≡ Some b)
+        → (byte_among (flat_map (runs_in globals) bs) a ≡ Some b → Shows (runs (flat_map (rows_in globals) bs)) a b)
+        → Shows (runs (rows_in globals x) ++ runs (flat_map (rows_in globals) bs)) a b
+    joined (inl e) next = shows_left _ _ a b (found_row globals x (lines_in x.source) a b e)
+    joined (inr e) next = shows_right (runs (rows_in globals x)) _ a b (next e)
+
+pub each_shows_its_image : EachShowsItsImage
+each_shows_its_image = λ source u image is accepted own a b.
+    let found = byte_at image in
+    let ss = slots_of (based u) in
+    let kept : rows_of u ≡ map (row_in found) ss = unit_kept u image accepted own in
+    let all : shown_runs (rows_of u) source ≡ runs (rows_of u) =
+    ap (λ rows. shown_runs rows source) kept ∙ shown_all found 1 (lines_of source) ss (unit_climbs source u is) ∙ ap runs (sym kept) in (
+      λ h. found_in u image accepted own a b (modules_show (unit_layout u).globals (based u) a b (subst (λ ps. Shows ps a b) all h)),
+      λ h. subst (λ ps. Shows ps a b) (sym all) (shown_kept (unit_layout u).globals (based u) a b (sym (own.bytes a) ∙ h)),
+    )

@@ -1,0 +1,77 @@
+-- The modules fit, and the parts of the text are the listing.
+use Rattle.std.proofs.Common.{◌≡◌, ◌≤◌, ◌∙◌, ◌++◌, List, ℕ, ap, sym, subst, flat_map}
+use Rattle.std.specs.List.{All}
+use Rattle.std.specs.Prelude.{is_none, is_some}
+use Rattle.std.proofs.lemmas.List.Elements.{All-from_recursion}
+use Rattle.m88_base.specs.Image.{byte_at, most_bytes}
+use Rattle.m88_base.specs.Lines.{lines_of, text_of_lines}
+use Rattle.m88_base.specs.Pages.{page_bytes}
+use Rattle.m88_parse.specs.declared.unit.Module.{Module}
+use Rattle.m88_link.specs.Bases.{first_text, up_to_multiple}
+use Rattle.m88_link.specs.Sizes.{total_size}
+use Rattle.m88_link.specs.declared.object.Object.{Object}
+use Rattle.m88_asm.specs.Units.{Based, based, based_from, end_of_text}
+use Rattle.m88_listing.specs.Entries.{AreInOrder, entries_in, labels_of, numbers_of}
+use Rattle.m88_listing.specs.Slots.{IsSlot, ModuleFits, slots_of, walked}
+use Rattle.m88_listing.specs.declared.entries.Entry.{Entry}
+use Rattle.m88_listing.specs.declared.slots.Slot.{Slot}
+use Rattle.m88_listing.proofs.Fitting.{are_slots, unit_fits}
+use Rattle.m88_listing.proofs.Whole.{listing_whole, size_fits}
+use Rattle.m88_listing.proofs.listing.listing.Goals as goal
+
+pub stand-requires-clause-size : goal.stand-requires-clause-size
+stand-requires-clause-size c =
+    subst (λ (os : List Object). total_size os ≤ most_bytes) (sym (c.as_slice-2.ensures.value ∙ c.in-Ok.ensures.objects))
+    (size_fits c.args.unit.now c.requires.accepted)
+
+pub slots-requires : goal.slots-requires
+slots-requires c =
+    let u = c.args.unit.now in
+    let all : c.as_slice-3.result.now ≡ based u =
+    c.as_slice-3.ensures.value ∙ c.in_ok-standings.ensures
+    ∙ ap (λ (ms : List Module). based_from first_text (up_to_multiple page_bytes (end_of_text first_text ms)) ms) c.as_slice.ensures in
+    subst (λ (bs : List Based). All ModuleFits bs) (sym all)
+    (All-from_recursion ModuleFits (based u) (unit_fits u c.args.image.now c.requires.formed c.requires.accepted c.requires.image))
+
+pub push_source-requires-clause-each : goal.push_source-requires-clause-each
+push_source-requires-clause-each c =
+    let u = c.args.unit.now in
+    let all : c.as_slice-3.result.now ≡ based u =
+    c.as_slice-3.ensures.value ∙ c.in_ok-standings.ensures
+    ∙ ap (λ (ms : List Module). based_from first_text (up_to_multiple page_bytes (end_of_text first_text ms)) ms) c.as_slice.ensures in
+    let kept : c.as_slice-6.result.now ≡ slots_of (based u) =
+    c.as_slice-6.ensures.value ∙ c.in_ok-slots.ensures ∙ ap slots_of all in
+    subst (λ (ss : List Slot). All IsSlot ss) (sym kept)
+    (All-from_recursion IsSlot (slots_of (based u))
+    (are_slots (based u) (unit_fits u c.args.image.now c.requires.formed c.requires.accepted c.requires.image)))
+
+pub returns : goal.returns
+returns c =
+    let u = c.args.unit.now in
+    let source = c.args.source.now in
+    let found = byte_at c.args.image.now in
+    let stand : c.in_ok-standings.standings.items ≡ based u =
+    c.in_ok-standings.ensures
+    ∙ ap (λ (ms : List Module). based_from first_text (up_to_multiple page_bytes (end_of_text first_text ms)) ms) c.as_slice.ensures in
+    let kept : c.as_slice-6.result.now ≡ slots_of (based u) =
+    c.as_slice-6.ensures.value ∙ c.in_ok-slots.ensures ∙ ap slots_of (c.as_slice-3.ensures.value ∙ stand) in
+    let named : c.as_slice-8.result.now ≡ numbers_of u =
+    c.as_slice-8.ensures.value ∙ c.in_ok-numbers.ensures
+    ∙ ap (flat_map (entries_in (λ s. is_none s.section))) (c.as_slice-5.ensures.value ∙ stand) in
+    let ordered : AreInOrder (labels_of u) c.as_slice-7.result.now =
+    subst (λ (es : List Entry). AreInOrder (labels_of u) es) (sym c.as_slice-7.ensures.value)
+    (subst (λ (bs : List Based). AreInOrder (flat_map (entries_in (λ s. is_some s.section)) bs) c.in_ok-labels.labels.items)
+    (c.as_slice-4.ensures.value ∙ stand) c.in_ok-labels.ensures) in
+    record {
+      unit = u;
+      is_unit = c.requires.is_unit;
+      is_accepted = c.requires.accepted;
+      labels = c.as_slice-7.result.now;
+      in_order = ordered;
+      is_text =
+          listing_whole source c.push_source.new.text.items c.push_entries.new.text.items c.push_entries-2.new.text.items u c.args.image.now
+          c.as_slice-6.result.now c.as_slice-7.result.now c.as_slice-8.result.now c.requires.is_unit c.requires.accepted c.requires.image kept named
+          (c.in_ok-push_source.ensures
+          ∙ ap (λ (t : List ℕ). t ++ text_of_lines (walked found 1 (lines_of source) c.as_slice-6.result.now)) c.new-text.ensures.items)
+          c.in_ok-push_entries.ensures c.in_ok-push_entries-2.ensures;
+    }

@@ -1,0 +1,150 @@
+//! The text for a source: its listing, or the text that refuses it.
+ghost use Rattle.std.specs.Prelude.{◌≡◌, ◌≢◌, ◌<◌, ◌≤◌, ◌^◌, IfOk, false, length};
+ghost use Rattle.m88_parse.specs.Fault.{out_of_memory};
+ghost use Rattle.m88_parse.specs.Language.Units.{IsUnit};
+ghost use Rattle.m88_parse.specs.WellFormed.{IsWellFormed};
+ghost use Rattle.m88_link.specs.Faults.{memory_fault};
+ghost use Rattle.m88_asm.specs.Accepted.{IsAcceptedUnit};
+ghost use Rattle.m88_asm.specs.Fault.{memory_ran_out};
+ghost use Rattle.m88_asm.specs.Images.{IsUnitImage};
+ghost use Rattle.m88_asm.specs.declared.fault.UnitFault.TheVariants as unit_kind;
+ghost use Rattle.m88_listing.specs.Calls.{most_source};
+ghost use Rattle.m88_listing.specs.Listing.{IsListing};
+ghost use Rattle.m88_listing.specs.Refused.{parse_refusal, refused_text, unit_refusal};
+ghost use Rattle.m88_listing.specs.Replies.{Replies};
+
+use crate::entries::{labels, numbers, push_entries};
+use crate::layout::slots;
+use crate::refused::push_refusal;
+use crate::rows::push_source;
+use crate::standing::stand;
+use m88_asm::{AsmFault, AsmKind, UnitFault, assemble, image_of};
+use m88_base::{Image, NoMemory};
+use m88_link::{LinkFault, LinkKind};
+use m88_parse::{ParseFault, ParseKind, Unit, parse};
+use std::alloc::Global;
+
+/// What is written for a source, and whether the source is accepted.
+#[derive(Debug, Drop)]
+pub(crate) struct Reply {
+    pub accepted: bool,
+    pub text: Vec<u8>,
+}
+
+/// The reply that refuses a source at a line and a column, both from 1, for a reason.
+fn refuse(
+    alloc: Global,
+    source: &[u8],
+    line: u32,
+    column: u32,
+    reason: &[u8],
+) -> Result<Reply, NoMemory>
+    requires { length source.now ≤ most_source }
+    ensures text { IfOk result (λ r. r.text.items ≡ refused_text source.now
+        (record { line = line; column = column; reason = reason.now })) }
+    ensures refused { IfOk result (λ r. r.accepted ≡ false) }
+{
+    let mut text = Vec::new(alloc);
+    push_refusal(&mut text, source, line, column, reason)?;
+    Ok(Reply {
+        accepted: false,
+        text,
+    })
+}
+
+/// The reply for a fault of the source's lines, unless the fault is that memory ran out.
+fn unread(alloc: Global, source: &[u8], fault: ParseFault) -> Result<Reply, NoMemory>
+    requires { length source.now ≤ most_source }
+    ensures text { IfOk result
+        (λ r. r.text.items ≡ refused_text source.now (parse_refusal fault)) }
+    ensures refused { IfOk result (λ r. r.accepted ≡ false) }
+    ensures told { IfOk result (λ _. fault ≢ out_of_memory) }
+{
+    if fault.kind == ParseKind::Memory {
+        return Err(NoMemory);
+    }
+    refuse(
+        alloc,
+        source,
+        fault.line,
+        fault.col,
+        fault.kind.reason().as_bytes(),
+    )
+}
+
+/// The reply for a fault of the unit's statements, unless the fault is that memory ran out.
+fn unassembled(alloc: Global, source: &[u8], fault: AsmFault) -> Result<Reply, NoMemory>
+    requires { length source.now ≤ most_source }
+    ensures text { IfOk result
+        (λ r. r.text.items ≡ refused_text source.now (unit_refusal (unit_kind.Asm fault))) }
+    ensures refused { IfOk result (λ r. r.accepted ≡ false) }
+    ensures told { IfOk result (λ _. fault ≢ memory_ran_out) }
+{
+    if fault.kind == AsmKind::Memory {
+        return Err(NoMemory);
+    }
+    let reason = fault.kind.to_string(alloc)?;
+    refuse(alloc, source, fault.line, fault.col, reason.as_bytes())
+}
+
+/// The reply for a fault of the unit's layout, unless the fault is that memory ran out.
+fn unlinked(alloc: Global, source: &[u8], fault: LinkFault) -> Result<Reply, NoMemory>
+    requires { length source.now ≤ most_source }
+    ensures text { IfOk result
+        (λ r. r.text.items ≡ refused_text source.now (unit_refusal (unit_kind.Link fault))) }
+    ensures refused { IfOk result (λ r. r.accepted ≡ false) }
+    ensures told { IfOk result (λ _. fault ≢ memory_fault) }
+{
+    if fault.kind == LinkKind::Memory {
+        return Err(NoMemory);
+    }
+    let reason = fault.kind.to_string(alloc)?;
+    refuse(alloc, source, fault.line, fault.col, reason.as_bytes())
+}
+
+/// The listing of a source that is accepted, by its unit and the image of that.
+fn listing(alloc: Global, source: &[u8], unit: &Unit, image: &Image) -> Result<Vec<u8>, NoMemory>
+    requires short { length source.now ≤ most_source }
+    requires is_unit { IsUnit source.now unit.now }
+    requires formed { IsWellFormed unit.now }
+    requires accepted { IsAcceptedUnit unit.now }
+    requires image { IsUnitImage unit.now image.now }
+    ensures { IfOk result (λ text. IsListing source.now text.items) }
+{
+    // The unit has an image, so it can be assembled: all that can be wanting is memory.
+    let objects = match assemble(alloc, unit) {
+        Ok(objects) => objects,
+        Err(_) => return Err(NoMemory),
+    };
+    let standings = stand(alloc, unit.modules.as_slice(), objects.as_slice())?;
+    let slots = slots(alloc, standings.as_slice())?;
+    let labels = labels(alloc, standings.as_slice())?;
+    let numbers = numbers(alloc, standings.as_slice())?;
+    let mut text = Vec::new(alloc);
+    push_source(&mut text, alloc, source, slots.as_slice(), image)?;
+    push_entries(&mut text, b"labels", labels.as_slice())?;
+    push_entries(&mut text, b"numbers", numbers.as_slice())?;
+    Ok(text)
+}
+
+/// The reply to a source.
+pub(crate) fn reply_to(alloc: Global, source: &[u8]) -> Result<Reply, NoMemory>
+    requires { length source.now ≤ most_source }
+    ensures { IfOk result (Replies source.now) }
+{
+    let unit = match parse(alloc, source) {
+        Ok(unit) => unit,
+        Err(fault) => return unread(alloc, source, fault),
+    };
+    match image_of(alloc, &unit) {
+        Ok(image) => {
+            let text = listing(alloc, source, &unit, &image)?;
+            Ok(Reply {
+                accepted: true,
+                text,
+            })
+        }
+        Err(UnitFault::Asm(fault)) => unassembled(alloc, source, fault),
+        Err(UnitFault::Link(fault)) => unlinked(alloc, source, fault),
+    }
+}
