@@ -1,4 +1,4 @@
--- What holds of every listing: its lines show the image that `build` makes, and each line of the source once.
+-- What holds of every listing: its lines show the image that `build` makes.
 use Rattle.std.specs.Prelude.{◌≡◌, ◌↔◌, ◌⊎◌, ℕ, ◌==◌, ◌≤◌, Bool, Some, not, List, [], ◌∷◌, drop, filter, flat_map, length, map, slice_index_or}
 use Rattle.std.specs.Option.{option_map_or}
 use Rattle.m88_base.specs.Image.{ProgramImage, byte_at}
@@ -26,13 +26,3 @@ abbrev pub EachShowsItsImage : Type 0
 EachShowsItsImage =
     (source : List ℕ) (u : Source) (image : ProgramImage) → IsUnit source u → IsAcceptedUnit u → IsUnitImage u image
     → (a b : ℕ) → Shows (shown_runs (rows_of u) source) a b ↔ (byte_at image a ≡ Some b)
-
--- a line of a listing has the number of a line of the source: the last place of the first column isn't blank
-abbrev pub has_number : List ℕ → Bool
-has_number line = not (slice_index_or line 6 blank == blank)
-
--- the lines of a listing that have a number are, without their columns, the lines of the source, each once and in order
-abbrev pub EachLineStandsOnce : Type 0
-EachLineStandsOnce =
-    (source : List ℕ) (rows : List Row) → length source ≤ most_source
-    → map (drop before_source) (filter has_number (source_lines rows source)) ≡ lines_of source
