@@ -1,16 +1,13 @@
 -- What holds of every listing: its lines show the image that `build` makes.
-use Rattle.std.specs.Prelude.{◌≡◌, ◌↔◌, ◌⊎◌, ℕ, ◌==◌, ◌≤◌, Bool, Some, not, List, [], ◌∷◌, drop, filter, flat_map, length, map, slice_index_or}
+use Rattle.std.specs.Prelude.{◌≡◌, ◌↔◌, ◌⊎◌, ℕ, Some, List, [], ◌∷◌, flat_map}
 use Rattle.std.specs.Option.{option_map_or}
 use Rattle.m88_base.specs.Image.{ProgramImage, byte_at}
-use Rattle.m88_base.specs.Lines.{lines_of}
 use Rattle.m88_base.specs.Placed.{Placed, byte_in}
 use Rattle.m88_parse.specs.Language.Units.{IsUnit}
 use Rattle.m88_parse.specs.declared.unit.Unit.{Unit as Source}
 use Rattle.m88_asm.specs.Accepted.{IsAcceptedUnit}
 use Rattle.m88_asm.specs.Images.{IsUnitImage}
-use Rattle.m88_listing.specs.Calls.{most_source}
-use Rattle.m88_listing.specs.Columns.{before_source, blank}
-use Rattle.m88_listing.specs.Rows.{Row, numbered, row_at, rows_of, source_lines}
+use Rattle.m88_listing.specs.Rows.{Row, numbered, row_at, rows_of}
 
 -- the bytes that the lines of a source show, in order of the lines
 abbrev pub shown_runs : List Row → List ℕ → List Placed
