@@ -1,5 +1,5 @@
-//! The program `m88list`: the top call between standard input and standard output. This is the trusted edge: what a file,
-//! a pipe or a terminal gave or took is outside every promise, and so is what stands on standard error.
+//! The program `m88list`: the top call between standard input and standard output. This is the trusted edge: what a
+//! file, a pipe or a terminal gave or took is outside every promise, and so is what stands on standard error.
 #![tactic(auto)]
 
 #[cfg(test)]

@@ -78,7 +78,7 @@ no_fault : {A : Type 0} (b : Bool) (x : A) → (if b then Some x else None) ≡ 
 no_fault true x h = cc
 no_fault false x h = refl
 
-room_of : (r : Located) → misfit_at (offset_of r) (place_of r) r.statement ≡ None → offset_of r + length_of r ≤ most_bytes
+pub room_of : (r : Located) → misfit_at (offset_of r) (place_of r) r.statement ≡ None → offset_of r + length_of r ≤ most_bytes
 room_of r h =
     let none = (option_or-none (misplaced_at (place_of r) r.statement) (too_large_at (offset_of r) (place_of r) r.statement) h).1 in
     let parts = or_parts (nat_lt most_bytes (offset_of r + length_of r)) (nat_lt (2 ^ 32) (place_of r + length_of r)) (no_fault _ _ none) in
@@ -110,7 +110,7 @@ rows_fit globals defined b image c (x ∷ xs) is formed clean found =
       rows_fit globals (defined ++ symbols_of r) b image (after c x.body) xs is formed.1 parts.1 found.1,
     )
 
-each_clean : (text datas : ℕ) (ms : List Module) → modules_fault ms ≡ None → EachBased (λ b. module_fault b.source ≡ None) (based_from text datas ms)
+pub each_clean : (text datas : ℕ) (ms : List Module) → modules_fault ms ≡ None → EachBased (λ b. module_fault b.source ≡ None) (based_from text datas ms)
 each_clean text datas [] h = tt
 each_clean text datas (m ∷ ms) h =
     let p = option_or-none (module_fault m) (modules_fault ms) h in

@@ -9,3 +9,4 @@ pub mod Climbing
 pub mod Showing
 pub mod Verdict
 pub mod Whole
+pub mod Numbering

@@ -1,5 +1,5 @@
--- What a call of the program did between its source and its sink. Of a source or sink that doesn't tell its bytes nothing
--- is said.
+-- What a call of the program did between its source and its sink. Of a source or sink that doesn't tell its bytes
+-- nothing is said.
 use Rattle.std.specs.Prelude.{ℕ, ◌≡◌, ◌≤◌, ◌^◌, ◌++◌, List, Option, Some, None, length}
 use Rattle.std.specs.Io.KnownBytes.{Consumes, IsAtEnd}
 

@@ -1,5 +1,5 @@
--- The lines of a listing as text. Four columns with two blanks between each two: the number of the line, an address, bytes
--- or their count, and the line of the source as it stands.
+-- The lines of a listing as text. Four columns with two blanks between each two: the number of the line, an address,
+-- bytes or their count, and the line of the source as it stands.
 use Rattle.std.specs.Prelude.{ℕ, ◌-◌, List, [], ◌++◌, length, replicate, decimal}
 
 -- the byte between columns and words

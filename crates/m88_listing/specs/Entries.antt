@@ -9,8 +9,8 @@ use Rattle.m88_asm.specs.Objects.{symbols_in}
 use Rattle.m88_asm.specs.Units.{Based, base_in, based}
 use Rattle.m88_listing.specs.declared.entries.Entry.{Entry}
 
--- a symbol of a module that stands somewhere: the value that linking gives it, its name, the name of its module, the line
--- of its definition, and whether other modules see it
+-- a symbol of a module that stands somewhere: the value that linking gives it, its name, the name of its module, the
+-- line of its definition, and whether other modules see it
 abbrev pub entry_of : Based → Symbol → Entry
 entry_of b s = record {
   value = value_in (base_in b) s;

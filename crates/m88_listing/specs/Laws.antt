@@ -1,13 +1,16 @@
--- What holds of every listing: its lines show the image that `build` makes.
-use Rattle.std.specs.Prelude.{◌≡◌, ◌↔◌, ◌⊎◌, ℕ, Some, List, [], ◌∷◌, flat_map}
+-- What holds of every listing: its lines show the image that `build` makes, and each line of the source once.
+use Rattle.std.specs.Prelude.{◌==◌, ◌≤◌, Bool, not, drop, filter, length, slice_index_or, map, ◌≡◌, ◌↔◌, ◌⊎◌, ℕ, Some, List, [], ◌∷◌, flat_map}
 use Rattle.std.specs.Option.{option_map_or}
 use Rattle.m88_base.specs.Image.{ProgramImage, byte_at}
+use Rattle.m88_base.specs.Lines.{lines_of}
 use Rattle.m88_base.specs.Placed.{Placed, byte_in}
 use Rattle.m88_parse.specs.Language.Units.{IsUnit}
 use Rattle.m88_parse.specs.declared.unit.Unit.{Unit as Source}
 use Rattle.m88_asm.specs.Accepted.{IsAcceptedUnit}
 use Rattle.m88_asm.specs.Images.{IsUnitImage}
-use Rattle.m88_listing.specs.Rows.{Row, numbered, row_at, rows_of}
+use Rattle.m88_listing.specs.Calls.{most_source}
+use Rattle.m88_listing.specs.Columns.{before_source, blank}
+use Rattle.m88_listing.specs.Rows.{Row, numbered, row_at, rows_of, source_lines}
 
 -- the bytes that the lines of a source show, in order of the lines
 abbrev pub shown_runs : List Row → List ℕ → List Placed
@@ -23,3 +26,13 @@ abbrev pub EachShowsItsImage : Type 0
 EachShowsItsImage =
     (source : List ℕ) (u : Source) (image : ProgramImage) → IsUnit source u → IsAcceptedUnit u → IsUnitImage u image
     → (a b : ℕ) → Shows (shown_runs (rows_of u) source) a b ↔ (byte_at image a ≡ Some b)
+
+-- a line of a listing has the number of a line of the source: the last place of the first column isn't blank
+abbrev pub has_number : List ℕ → Bool
+has_number line = not (slice_index_or line 6 blank == blank)
+
+-- the lines of a listing that have a number are, without their columns, the lines of the source, each once and in order
+abbrev pub EachLineStandsOnce : Type 0
+EachLineStandsOnce =
+    (source : List ℕ) (u : Source) → length source ≤ most_source → IsAcceptedUnit u
+    → map (drop before_source) (filter has_number (source_lines (rows_of u) source)) ≡ lines_of source

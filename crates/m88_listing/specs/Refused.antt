@@ -1,5 +1,5 @@
--- The listing of a source that is refused: its lines behind their numbers, and below the line that is at fault a mark and
--- the line that refuses the source.
+-- The listing of a source that is refused: its lines behind their numbers, and below the line that is at fault a mark
+-- and the line that refuses the source.
 use Rattle.std.specs.Prelude.{◌≡◌, ℕ, ◌-◌, ◌==◌, if◌then◌else◌, List, [], ◌++◌, codes, drop, map, slice_index_or, take}
 use Rattle.m88_base.specs.Lines.{line_end, lines_of, text_of_lines}
 use Rattle.m88_base.specs.Refused.{refused_line}

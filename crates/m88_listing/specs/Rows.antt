@@ -15,8 +15,8 @@ use Rattle.m88_asm.specs.Objects.{lines_in}
 use Rattle.m88_asm.specs.Units.{Based, based, unit_layout}
 use Rattle.m88_listing.specs.Columns.{bare_line, columns, further_columns, most_shown}
 
--- what a statement puts into the image: the line that it stands in, its bytes from their address on, and whether they are
--- zeros that are told as a count
+-- what a statement puts into the image: the line that it stands in, its bytes from their address on, and whether they
+-- are zeros that are told as a count
 pub record Row : Type 0 where
   pub line : ℕ
   pub run : Placed
@@ -68,8 +68,8 @@ abbrev pub further_lines : Row → List (List ℕ)
 further_lines row =
     if row.counted then [] else map (further_line row.run) (range_with_len 1 ((length row.run.bytes - 1) / most_shown))
 
--- the lines of the listing for a line of the source with a row: the line behind its number, the address and the bytes of
--- the row, and the further lines of its bytes
+-- the lines of the listing for a line of the source with a row: the line behind its number, the address and the bytes
+-- of the row, and the further lines of its bytes
 abbrev pub row_lines : ℕ → List ℕ → Row → List (List ℕ)
 row_lines number line row = (columns number (hex8 row.run.at) (first_bytes row) ++ line) ∷ further_lines row
 

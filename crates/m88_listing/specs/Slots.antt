@@ -1,5 +1,5 @@
--- Words for the contracts of private functions; no promise of the program names them. What is kept of a row while the image
--- has its bytes, and the lines as they are written from the first on.
+-- Words for the contracts of private functions; no promise of the program names them. What is kept of a row while the
+-- image has its bytes, and the lines as they are written from the first on.
 use Rattle.std.specs.Prelude.{ℕ, ◌+◌, ◌<◌, ◌≤◌, ◌^◌, ◌==◌, if◌then◌else◌, List, [], ◌∷◌, ◌++◌, flat_map, length, map, Option, slice_index_or, unwrap_or}
 use Rattle.std.specs.List.{range_with_len}
 use Rattle.m88_base.specs.Image.{most_bytes}

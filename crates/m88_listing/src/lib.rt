@@ -1,5 +1,5 @@
-//! An assembler's listing of a source: each line with the bytes that it puts where, then the symbols; or the refusal below
-//! its line.
+//! An assembler's listing of a source: each line with the bytes that it puts where, then the symbols; or the refusal
+//! below its line.
 #![tactic(auto)]
 
 // What statements put where, and what symbols mean.

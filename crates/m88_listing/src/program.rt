@@ -6,7 +6,7 @@ ghost use Rattle.m88_base.specs.Causes.{Rose};
 ghost use Rattle.m88_base.specs.Outside.{AppendsPart, TakesAtMost, TakesExactly};
 ghost use Rattle.m88_listing.specs.Answer.{IsAnswer, IsAnswerToAccepted, IsAnswerToRefused};
 ghost use Rattle.m88_listing.specs.Calls.{GivesAll, HasSource, IsListed, IsWhole, most_source};
-ghost use Rattle.m88_listing.specs.Laws.{EachShowsItsImage};
+ghost use Rattle.m88_listing.specs.Laws.{EachLineStandsOnce, EachShowsItsImage};
 ghost use Rattle.m88_listing.specs.Listing.{IsProgramSource};
 ghost use Rattle.m88_listing.specs.Refused.{IsRefusedAt, Refusal, refused_text};
 ghost use Rattle.m88_listing.specs.Replies.{Replies};
@@ -20,8 +20,8 @@ use std::alloc::Global;
 /// The most bytes that a source may have.
 pub const MOST_SOURCE: usize = 1_048_576;
 
-/// The whole program between its words, of which none are taken, a source and a sink: the source is read to its end, and
-/// the sink is given its listing, or the text that refuses it.
+/// The whole program between its words, of which none are taken, a source and a sink: the source is read to its end,
+/// and the sink is given its listing, or the text that refuses it.
 pub fn m88list<S: Source, K: Sink>(
     alloc: Global,
     words: &[String],
@@ -83,8 +83,10 @@ pub fn m88list<S: Source, K: Sink>(
     // With every other answer nothing is written.
     ensures unwritten { WritesNothing result → sink.new ≡ sink.old }
 
-    // The lines of every listing show a byte at an address exactly where the image of the source has it.
+    // The lines of every listing show a byte at an address exactly where the image of the source has it, and each
+    // line of the source stands there once, in order.
     ensures image { EachShowsItsImage }
+    ensures lines { EachLineStandsOnce }
 {
     if !words.is_empty() {
         return ListStatus::Usage;

@@ -65,8 +65,8 @@ fn push_row(
     Ok(())
 }
 
-/// Appends the lines for a line of a source, and answers for how many of the slots that are left: the first, where it is
-/// that of this line.
+/// Appends the lines for a line of a source, and answers for how many of the slots that are left: the first, where it
+/// is that of this line.
 fn push_next(
     text: &mut Vec<u8>,
     alloc: Global,

@@ -2,6 +2,7 @@
 use Rattle.std.proofs.Common.{◌≡◌, ◌∙◌, sym, subst}
 use Rattle.m88_base.specs.Outside.{AppendsPart}
 use Rattle.m88_listing.specs.Refused.{refused_text}
+use Rattle.m88_listing.proofs.Numbering.{each_line_stands_once}
 use Rattle.m88_listing.proofs.Showing.{each_shows_its_image}
 use Rattle.m88_listing.proofs.Whole.{not_part, not_taken, not_whole, of_err, refusal_some, reply_whole, text_of_reply}
 use Rattle.m88_listing.proofs.program.m88list.Goals as goal
@@ -42,3 +43,18 @@ returns-then-reply-clause-image g c = each_shows_its_image
 
 pub returns-clause-image : goal.returns-clause-image
 returns-clause-image g c = each_shows_its_image
+
+pub returns-then-not-is_empty-clause-lines : goal.returns-then-not-is_empty-clause-lines
+returns-then-not-is_empty-clause-lines g c = each_line_stands_once
+
+pub returns-in-Err-clause-lines : goal.returns-in-Err-clause-lines
+returns-in-Err-clause-lines g c = each_line_stands_once
+
+pub returns-then-is_err-clause-lines : goal.returns-then-is_err-clause-lines
+returns-then-is_err-clause-lines g c = each_line_stands_once
+
+pub returns-then-reply-clause-lines : goal.returns-then-reply-clause-lines
+returns-then-reply-clause-lines g c = each_line_stands_once
+
+pub returns-clause-lines : goal.returns-clause-lines
+returns-clause-lines g c = each_line_stands_once

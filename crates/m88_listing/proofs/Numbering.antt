@@ -1,0 +1,226 @@
+-- The lines of a listing that have a number are, without their columns, the lines of the source.
+use Rattle.std.proofs.Common.{◌≡◌, ℕ, zero, suc, ◌+◌, ◌-◌, ◌*◌, ◌/◌, ◌^◌, ◌<◌, ◌≤◌, Bool, true, false, inl, inr, List, [], ◌∷◌, ◌++◌, length, length-append, map, filter, take, drop, get_or, refl, sym, ap, ◌∙◌, subst, arith, Option, Some, None}
+use Rattle.std.specs.Prelude.{◌==◌, codes, decimal, flat_map, if◌then◌else◌, not, slice_index_or}
+use Rattle.std.specs.List.{AllByRecursion, enumerate_from, range_with_len}
+use Rattle.std.specs.Option.{option_map, option_map_or}
+use Rattle.std.specs.Int.Digits.{digits_of}
+use Rattle.std.proofs.lemmas.Bool.{cases_Bool, cond-true, cond-false, ne_eqb}
+use Rattle.std.proofs.lemmas.Fmt.{decimal-digits_of, decimal_digit, decimal_nonempty, length-decimal-le}
+use Rattle.std.proofs.lemmas.Grind.{common_steps}
+use Rattle.std.proofs.lemmas.List.{get_or-append-add, get_or-map, get_or_append_left, length-replicate, length-take}
+use Rattle.m88_base.specs.Hex.{hex2, hex8}
+use Rattle.m88_base.specs.Image.{most_bytes}
+use Rattle.m88_base.specs.Lines.{lines_of}
+use Rattle.m88_parse.proofs.FormedUnits.{lines_few}
+use Rattle.m88_parse.specs.declared.unit.Statement.{Statement}
+use Rattle.m88_link.specs.Symbols.{repeated_after}
+use Rattle.m88_link.specs.declared.object.Symbol.{Symbol}
+use Rattle.m88_asm.specs.Counters.{Counters, Located, after, at_begin, length_of, located, offset_of, place_of}
+use Rattle.m88_asm.specs.Faults.{duplicate_at, misfit_at, module_fault, statements_fault}
+use Rattle.m88_asm.specs.Objects.{lines_in, symbols_of}
+use Rattle.m88_asm.specs.Units.{Based, address_in, based, bytes_of, unit_layout, value_in_module}
+use Rattle.m88_asm.proofs.Composing.{EachBased}
+use Rattle.m88_asm.proofs.Relocating.{length-filled_bytes}
+use Rattle.m88_asm.proofs.Sounding.{first_parts, option_or-none}
+use Rattle.m88_listing.specs.Columns.{at_left, at_right, bare_line, blank, blanks, columns, further_columns, no_address}
+use Rattle.m88_listing.specs.Laws.{EachLineStandsOnce, has_number}
+use Rattle.m88_listing.proofs.Fitting.{each_clean, room_of}
+use Rattle.m88_listing.specs.Rows.{Row, digits, first_bytes, further_line, further_lines, has_bytes, lines_with, row_at, row_lines, row_of, rows_in, rows_of}
+
+-- the lines of which this law speaks
+abbrev picked : List (List ℕ) → List (List ℕ)
+picked lines = map (drop 37) (filter has_number lines)
+
+pick-first : (x : List ℕ) (xs : List (List ℕ)) → has_number x ≡ true → picked (x ∷ xs) ≡ drop 37 x ∷ picked xs
+pick-first x xs e = ap (map (drop 37)) (cond-true (has_number x) (x ∷ filter has_number xs) (filter has_number xs) e)
+
+pick-none : (x : List ℕ) (xs : List (List ℕ)) → has_number x ≡ false → picked (x ∷ xs) ≡ picked xs
+pick-none x xs e = ap (map (drop 37)) (cond-false (has_number x) (x ∷ filter has_number xs) (filter has_number xs) e)
+
+picked-append : (xs ys : List (List ℕ)) → picked (xs ++ ys) ≡ picked xs ++ picked ys
+picked-append [] ys = refl
+picked-append (x ∷ xs) ys = elim (cases_Bool (has_number x)) [
+  | inl t ↦ pick-first x (xs ++ ys) t ∙ ap (λ ls. drop 37 x ∷ ls) (picked-append xs ys) ∙ ap (λ ls. ls ++ picked ys) (sym (pick-first x xs t))
+  | inr t ↦ pick-none x (xs ++ ys) t ∙ picked-append xs ys ∙ ap (λ ls. ls ++ picked ys) (sym (pick-none x xs t))
+]
+
+-- behind columns of a known width stands the line
+behind : (xs ys : List ℕ) (n : ℕ) → length xs ≡ n → drop n (xs ++ ys) ≡ ys
+behind xs ys n e = ap (λ k. drop k (xs ++ ys)) (sym e) ∙ all xs
+  where
+    all : (xs : List ℕ) → drop (length xs) (xs ++ ys) ≡ ys
+    all [] = refl
+    all (x ∷ xs) = all xs
+
+-- a digit of a number isn't blank
+digit_high : (n i d : ℕ) → n < 2 ^ 64 → i < length (decimal n) → 48 ≤ get_or (decimal n) i d
+digit_high zero i d l k = subst (λ ds. i < length ds → 48 ≤ get_or ds i d) (sym (decimal_digit 0 (omega arith))) (one i) k
+  where
+    own : List ℕ
+    own = 48 ∷ []
+
+    one : (i : ℕ) → i < length own → 48 ≤ get_or own i d
+    one zero k = omega arith
+    one (suc i) k = absurd (omega (arith, k))
+digit_high (suc m) i d l k =
+    let ds = digits_of 10 (suc m) in
+    let is : decimal (suc m) ≡ map (λ (x : ℕ). 48 + x) ds = decimal-digits_of (suc m) (omega arith) l in
+    let low : i < length ds = omega (arith, k, ap length is, length_map ds) in
+    let here : get_or (decimal (suc m)) i d ≡ 48 + get_or ds i 0 =
+    ap (λ xs. get_or xs i d) is ∙ get_or-map (λ (x : ℕ). 48 + x) ds i 0 d low in
+    omega (arith, here)
+  where
+    length_map : (xs : List ℕ) → length (map (λ (x : ℕ). 48 + x) xs) ≡ length xs
+    length_map [] = refl
+    length_map (x ∷ xs) = ap suc (length_map xs)
+
+-- the first line for a line of the source
+wide : (n : ℕ) (address bytes : List ℕ) → n < 10 ^ 7 → length address ≡ 8 → length bytes ≤ 16 → length (columns n address bytes) ≡ 37
+wide n address bytes l a b =
+    let d = length-decimal-le 7 n (omega arith) l (omega (arith, l)) in
+    let r = at_right 7 (decimal n) in
+    let e1 = length-append (blanks (7 - length (decimal n))) (decimal n) in
+    let e2 = length-replicate (7 - length (decimal n)) blank in
+    let e3 = length-append bytes (blanks (16 - length bytes)) in
+    let e4 = length-replicate (16 - length bytes) blank in
+    let two = blanks 2 in
+    let left = at_left 16 bytes in
+    omega (
+      arith,
+      a,
+      b,
+      d,
+      e1,
+      e2,
+      e3,
+      e4,
+      length-append r two,
+      length-append (r ++ two) address,
+      length-append (r ++ two ++ address) two,
+      length-append (r ++ two ++ address ++ two) left,
+      length-append (r ++ two ++ address ++ two ++ left) two,
+    )
+
+numbered_line : (n : ℕ) (address bytes line : List ℕ) → n < 10 ^ 7 → has_number (columns n address bytes ++ line) ≡ true
+numbered_line n address bytes line l =
+    let ds = decimal n in
+    let front = blanks (7 - length ds) in
+    let rest = blanks 2 ++ address ++ blanks 2 ++ at_left 16 bytes ++ blanks 2 ++ line in
+    let some = decimal_nonempty n (omega (arith, l)) in
+    let few = length-decimal-le 7 n (omega arith) l (omega (arith, l)) in
+    let long : length front ≡ 7 - length ds = length-replicate (7 - length ds) blank in
+    let all : columns n address bytes ++ line ≡ front ++ (ds ++ rest) = regroup front ds (blanks 2) address (at_left 16 bytes) line in
+    let last = length ds - 1 in
+    let sum : length front + last ≡ 6 = omega (arith, long, some, few) in
+    let here : slice_index_or (columns n address bytes ++ line) 6 blank ≡ get_or ds last blank =
+    ap (λ xs. slice_index_or xs 6 blank) all
+    ∙ ap (λ k. get_or (front ++ (ds ++ rest)) k blank) (sym sum)
+    ∙ get_or-append-add front (ds ++ rest) last blank
+    ∙ get_or_append_left ds rest blank last (omega (arith, some)) in
+    let high = digit_high n last blank (omega (arith, l)) (omega (arith, some)) in
+    ap (λ v. not (v == blank)) here ∙ ap not (ne_eqb (get_or ds last blank) blank (λ e. absurd (omega (arith, high, e))))
+  where
+    regroup : (a b two c d e : List ℕ) → ((a ++ b) ++ two ++ c ++ two ++ d ++ two) ++ e ≡ a ++ (b ++ (two ++ c ++ two ++ d ++ two ++ e))
+    regroup a b two c d e = grind (arith, common_steps)
+
+first_picked : (n : ℕ) (address bytes line : List ℕ) (more : List (List ℕ)) → n < 10 ^ 7 → length address ≡ 8 → length bytes ≤ 16
+    → picked ((columns n address bytes ++ line) ∷ more) ≡ line ∷ picked more
+first_picked n address bytes line more l a b =
+    pick-first (columns n address bytes ++ line) more (numbered_line n address bytes line l)
+    ∙ ap (λ x. x ∷ picked more) (behind (columns n address bytes) line 37 (wide n address bytes l a b))
+
+-- no further line has a number
+further_none : (address bytes : List ℕ) → has_number (further_columns address bytes) ≡ false
+further_none address bytes = refl
+
+further_picked : (row : Row) (ns : List ℕ) → picked (map (further_line row.run) ns) ≡ []
+further_picked row [] = refl
+further_picked row (n ∷ ns) =
+    pick-none (further_line row.run n) (map (further_line row.run) ns)
+    (further_none (hex8 (row.run.at + 8 * n)) (digits (take 8 (drop (8 * n) row.run.bytes)))) ∙ further_picked row ns
+
+-- what is shown of a row isn't wide
+length-digits : (bytes : List ℕ) → length (digits bytes) ≡ 2 * length bytes
+length-digits [] = refl
+length-digits (b ∷ bs) = omega (arith, length-append (hex2 b) (digits bs), length-digits bs)
+
+narrow : (row : Row) → length row.run.bytes ≤ most_bytes → length (first_bytes row) ≤ 16
+narrow row few = by row.counted
+  where
+    by : (t : Bool) → length (if t then codes "00 x " ++ decimal (length row.run.bytes) else digits (take 8 row.run.bytes)) ≤ 16
+    by true =
+        let d = length-decimal-le 7 (length row.run.bytes) (omega arith) (omega (arith, few)) (omega (arith, few)) in
+        omega (arith, d, length-append (codes "00 x ") (decimal (length row.run.bytes)))
+    by false = omega (arith, length-digits (take 8 row.run.bytes), length-take 8 row.run.bytes)
+
+AreFew : List Row → Type 0
+AreFew rows = AllByRecursion (λ row. length row.run.bytes ≤ most_bytes) rows
+
+-- each line of the source has one line with its number
+further_all : (row : Row) → picked (further_lines row) ≡ []
+further_all row = by row.counted
+  where
+    by : (t : Bool) → picked (if t then [] else map (further_line row.run) (range_with_len 1 ((length row.run.bytes - 1) / 8))) ≡ []
+    by true = refl
+    by false = further_picked row (range_with_len 1 ((length row.run.bytes - 1) / 8))
+
+one_block : (rows : List Row) (n : ℕ) (line : List ℕ) → AreFew rows → n < 10 ^ 7 → picked (lines_with rows (n, line)) ≡ line ∷ []
+unfolding AreFew
+one_block [] n line few l = first_picked n no_address [] line [] l refl (omega arith)
+one_block (row ∷ rows) n line few l = elim (cases_Bool (row.line == n)) [
+  | inl t ↦
+      ap (λ (o : Option Row). picked (option_map_or (row_lines n line) o (bare_line n line ∷ []))) (cond-true (row.line == n) (Some row) (row_at rows n) t)
+      ∙ first_picked n (hex8 row.run.at) (first_bytes row) line (further_lines row) l refl (narrow row few.0)
+      ∙ ap (λ ls. line ∷ ls) (further_all row)
+  | inr t ↦
+      ap (λ (o : Option Row). picked (option_map_or (row_lines n line) o (bare_line n line ∷ []))) (cond-false (row.line == n) (Some row) (row_at rows n) t)
+      ∙ one_block rows n line few.1 l
+]
+
+all_blocks : (rows : List Row) (n : ℕ) (lines : List (List ℕ)) → AreFew rows → n + length lines ≤ 10 ^ 7
+    → picked (flat_map (lines_with rows) (enumerate_from n lines)) ≡ lines
+all_blocks rows n [] few l = refl
+all_blocks rows n (line ∷ lines) few l =
+    picked-append (lines_with rows (n, line)) (flat_map (lines_with rows) (enumerate_from (n + 1) lines))
+    ∙ ap (λ ls. ls ++ picked (flat_map (lines_with rows) (enumerate_from (n + 1) lines))) (one_block rows n line few (omega (arith, l)))
+    ∙ ap (λ ls. line ∷ ls) (all_blocks rows (n + 1) lines few (omega (arith, l)))
+
+-- no row of a unit that is accepted has more bytes than a section may have
+kept_few : (rows : List Row) → AreFew rows → AreFew (filter has_bytes rows)
+unfolding AreFew
+kept_few [] few = tt
+kept_few (row ∷ rows) few = elim (cases_Bool (has_bytes row)) [
+  | inl t ↦ subst AreFew (sym (cond-true (has_bytes row) (row ∷ filter has_bytes rows) (filter has_bytes rows) t)) (few.0, kept_few rows few.1)
+  | inr t ↦ subst AreFew (sym (cond-false (has_bytes row) (row ∷ filter has_bytes rows) (filter has_bytes rows) t)) (kept_few rows few.1)
+]
+
+both_few : (xs ys : List Row) → AreFew xs → AreFew ys → AreFew (xs ++ ys)
+unfolding AreFew
+both_few [] ys p q = q
+both_few (x ∷ xs) ys p q = (p.0, both_few xs ys p.1 q)
+
+rows_few : (globals defined : List Symbol) (b : Based) (c : Counters) (xs : List Statement) → statements_fault defined (located c xs) ≡ None
+    → AreFew (map (row_of globals b) (located c xs))
+unfolding AreFew located
+rows_few globals defined b c [] clean = tt
+rows_few globals defined b c (x ∷ xs) clean =
+    let r : Located = record { before = c; statement = x } in
+    let parts = first_parts defined c x xs clean in
+    let misfit = (option_or-none (option_map duplicate_at (repeated_after defined (symbols_of r))) (misfit_at (offset_of r) (place_of r) x) parts.0).1 in
+    let long : length (bytes_of globals b r) ≡ length_of r = length-filled_bytes (value_in_module globals b) (address_in b r) (place_of r) x.body in (
+      omega (arith, long, room_of r misfit),
+      rows_few globals (defined ++ symbols_of r) b (after c x.body) xs parts.1,
+    )
+
+modules_few : (globals : List Symbol) (bs : List Based) → EachBased (λ b. module_fault b.source ≡ None) bs → AreFew (flat_map (rows_in globals) bs)
+unfolding AreFew
+modules_few globals [] clean = tt
+modules_few globals (b ∷ bs) clean =
+    both_few (rows_in globals b) (flat_map (rows_in globals) bs)
+    (kept_few (map (row_of globals b) (lines_in b.source)) (rows_few globals [] b at_begin b.source.statements clean.0)) (modules_few globals bs clean.1)
+
+pub each_line_stands_once : EachLineStandsOnce
+each_line_stands_once = λ source u short accepted.
+    all_blocks (rows_of u) 1 (lines_of source)
+    (modules_few (unit_layout u).globals (based u) (each_clean _ _ u.modules accepted.assembled))
+    (omega (arith, short, lines_few source))
