@@ -115,30 +115,35 @@ numbers\n\
 00000005 z main 3\n\
 00000004 y main 4\n";
 
-/// Eight bytes, nine, and none.
+/// Eight bytes, nine, and none, and lines that are empty but for their ends.
 const EIGHTS: &[u8] = b".byte 1,2,3,4,5,6,7,8\n\
 .byte 1,2,3,4,5,6,7,8,9\n\
 .zero 0\n\
+\n\
+\r\n\
 .align 1\n";
 
 const EIGHTS_LISTED: &[u8] = b"      1  00001000  0102030405060708  .byte 1,2,3,4,5,6,7,8\n\
 \x20     2  00001008  0102030405060708  .byte 1,2,3,4,5,6,7,8,9\n\
 \x20        00001010  09\n\
 \x20     3                              .zero 0\n\
-\x20     4                              .align 1\n\
+\x20     4\n\
+\x20     5\n\
+\x20     6                              .align 1\n\
 \n\
 labels\n\
 \n\
 numbers\n";
 
 /// A name that is no operation, behind a tab.
-const NO_NAME: &[u8] = b"rte\n\tfoo r2 ; no operation\nrte\n";
+const NO_NAME: &[u8] = b"rte\n\tfoo r2 ; no operation\n\nrte\n";
 
 const NO_NAME_LISTED: &[u8] = b"      1                              rte\n\
 \x20     2                              \tfoo r2 ; no operation\n\
 \x20                                    \t^\n\
 refused 2:2 no such name\n\
-\x20     3                              rte\n";
+\x20     3\n\
+\x20     4                              rte\n";
 
 /// A line that ends too early.
 const SHORT_LINE: &[u8] = b"or r2,r0";

@@ -18,8 +18,8 @@ use Rattle.m88_link.specs.Bases.{up_to_multiple}
 use Rattle.m88_asm.specs.Counters.{Counters, Located, after, at_begin, length_of}
 use Rattle.m88_asm.specs.Units.{Based, address_in, based, based_from, section_length}
 use Rattle.m88_listing.specs.Columns.{bare_line}
-use Rattle.m88_listing.specs.Rows.{Row, is_counted, lines_with, row_at, row_lines}
-use Rattle.m88_listing.specs.Slots.{row_in, slots_from, slots_of, walked}
+use Rattle.m88_listing.specs.Rows.{Row, is_counted, lines_with, row_on, row_lines}
+use Rattle.m88_listing.specs.Slots.{kept_row, slots_from, slots_of, walked}
 use Rattle.m88_listing.specs.declared.slots.Slot.{Slot}
 
 -- numbers climb from one on, and stay below another
@@ -114,27 +114,27 @@ unit_climbs source u is =
     (rows_climb 1 (lines_of source) is.statements is.modules is.are_rows))
 
 -- what is looked for by its line
-not_here : (row : Row) (rows : List Row) (n : ℕ) → (row.line ≡ n → ⊥) → row_at (row ∷ rows) n ≡ row_at rows n
-not_here row rows n differs = cond-false (row.line == n) (Some row) (row_at rows n) (ne_eqb row.line n differs)
+not_here : (row : Row) (rows : List Row) (n : ℕ) → (row.line ≡ n → ⊥) → row_on (row ∷ rows) n ≡ row_on rows n
+not_here row rows n differs = cond-false (row.line == n) (Some row) (row_on rows n) (ne_eqb row.line n differs)
 
-just_here : (row : Row) (rows : List Row) (n : ℕ) → (row.line == n) ≡ true → row_at (row ∷ rows) n ≡ Some row
-just_here row rows n e = cond-true (row.line == n) (Some row) (row_at rows n) e
+just_here : (row : Row) (rows : List Row) (n : ℕ) → (row.line == n) ≡ true → row_on (row ∷ rows) n ≡ Some row
+just_here row rows n e = cond-true (row.line == n) (Some row) (row_on rows n) e
 
-none_below : (found : ℕ → Option ℕ) (from to n : ℕ) (ss : List Slot) → SlotsClimb from to ss → n < from → row_at (map (row_in found) ss) n ≡ None
+none_below : (found : ℕ → Option ℕ) (from to n : ℕ) (ss : List Slot) → SlotsClimb from to ss → n < from → row_on (map (kept_row found) ss) n ≡ None
 none_below found from to n [] h l = refl
 none_below found from to n (s ∷ ss) h l =
-    not_here (row_in found s) (map (row_in found) ss) n (λ e. absurd (omega (arith, e, h.0, l)))
+    not_here (kept_row found s) (map (kept_row found) ss) n (λ e. absurd (omega (arith, e, h.0, l)))
     ∙ none_below found (s.line + 1) to n ss h.2 (omega (arith, h.0, l))
 
 -- what is done for each line by its row doesn't look at a row of an earlier line
 passed_row : {A : Type 0} (f : ℕ × List ℕ → Option Row → List A) (row : Row) (rows : List Row) (n : ℕ) (lines : List (List ℕ)) → row.line < n
-    → flat_map (λ (e : ℕ × List ℕ). f e (row_at (row ∷ rows) e.0)) (enumerate_from n lines)
-    ≡ flat_map (λ (e : ℕ × List ℕ). f e (row_at rows e.0)) (enumerate_from n lines)
+    → flat_map (λ (e : ℕ × List ℕ). f e (row_on (row ∷ rows) e.0)) (enumerate_from n lines)
+    ≡ flat_map (λ (e : ℕ × List ℕ). f e (row_on rows e.0)) (enumerate_from n lines)
 passed_row f row rows n [] l = refl
 passed_row f row rows n (line ∷ lines) l =
-    ap (λ o. f (n, line) o ++ flat_map (λ (e : ℕ × List ℕ). f e (row_at (row ∷ rows) e.0)) (enumerate_from (n + 1) lines))
+    ap (λ o. f (n, line) o ++ flat_map (λ (e : ℕ × List ℕ). f e (row_on (row ∷ rows) e.0)) (enumerate_from (n + 1) lines))
     (not_here row rows n (λ e. absurd (omega (arith, e, l))))
-    ∙ ap (λ xs. f (n, line) (row_at rows n) ++ xs) (passed_row f row rows (n + 1) lines (omega (arith, l)))
+    ∙ ap (λ xs. f (n, line) (row_on rows n) ++ xs) (passed_row f row rows (n + 1) lines (omega (arith, l)))
 
 above : (n m : ℕ) → n ≤ m → (m ≡ n → ⊥) → n + 1 ≤ m
 above n m l other = elim (cases_order m n) [
@@ -148,25 +148,25 @@ abbrev pub lined : ℕ × List ℕ → Option Row → List (List ℕ)
 lined e o = option_map_or (row_lines e.0 e.1) o (bare_line e.0 e.1 ∷ [])
 
 walked_from : (found : ℕ → Option ℕ) (n to : ℕ) (lines : List (List ℕ)) (ss : List Slot) → SlotsClimb n to ss
-    → walked found n lines ss ≡ flat_map (λ (e : ℕ × List ℕ). lined e (row_at (map (row_in found) ss) e.0)) (enumerate_from n lines)
+    → walked found n lines ss ≡ flat_map (λ (e : ℕ × List ℕ). lined e (row_on (map (kept_row found) ss) e.0)) (enumerate_from n lines)
 walked_from found n to [] ss h = refl
 walked_from found n to (line ∷ lines) [] h = ap (λ ls. bare_line n line ∷ ls) (walked_from found (n + 1) to lines [] tt)
 walked_from found n to (line ∷ lines) (s ∷ ss) h =
     by (s.line == n) refl (λ k. walked_from found (n + 1) to lines ss k) (λ k. walked_from found (n + 1) to lines (s ∷ ss) k)
   where
     row : Row
-    row = row_in found s
+    row = kept_row found s
 
     rows : List Row
-    rows = map (row_in found) ss
+    rows = map (kept_row found) ss
 
     rest : List Row → List (List ℕ)
-    rest rs = flat_map (λ (e : ℕ × List ℕ). lined e (row_at rs e.0)) (enumerate_from (n + 1) lines)
+    rest rs = flat_map (λ (e : ℕ × List ℕ). lined e (row_on rs e.0)) (enumerate_from (n + 1) lines)
 
     by : (t : Bool) → (s.line == n) ≡ t → (SlotsClimb (n + 1) to ss → walked found (n + 1) lines ss ≡ rest rows)
         → (SlotsClimb (n + 1) to (s ∷ ss) → walked found (n + 1) lines (s ∷ ss) ≡ rest (row ∷ rows))
         → (if t then row_lines n line row ++ walked found (n + 1) lines ss else bare_line n line ∷ walked found (n + 1) lines (s ∷ ss))
-        ≡ lined (n, line) (row_at (row ∷ rows) n) ++ rest (row ∷ rows)
+        ≡ lined (n, line) (row_on (row ∷ rows) n) ++ rest (row ∷ rows)
     by true e taken kept =
         let same : s.line ≡ n = eqb-true s.line n e in
         ap (λ ls. row_lines n line row ++ ls)
@@ -180,7 +180,7 @@ walked_from found n to (line ∷ lines) (s ∷ ss) h =
         (sym (not_here row rows n other ∙ none_below found (s.line + 1) to n ss h.2 (omega (arith, h.0))))
 
 pub walked_lines : (found : ℕ → Option ℕ) (to : ℕ) (source : List ℕ) (ss : List Slot) → SlotsClimb 1 to ss
-    → walked found 1 (lines_of source) ss ≡ flat_map (lines_with (map (row_in found) ss)) (enumerate_from 1 (lines_of source))
+    → walked found 1 (lines_of source) ss ≡ flat_map (lines_with (map (kept_row found) ss)) (enumerate_from 1 (lines_of source))
 walked_lines found to source ss h = walked_from found 1 to (lines_of source) ss h
 
 -- each row is shown by one line
@@ -188,7 +188,7 @@ abbrev pub shown : Option Row → List Placed
 shown o = option_map_or (λ (row : Row). row.run ∷ []) o []
 
 pub shown_all : (found : ℕ → Option ℕ) (n : ℕ) (lines : List (List ℕ)) (ss : List Slot) → SlotsClimb n (n + length lines) ss
-    → flat_map (λ (e : ℕ × List ℕ). shown (row_at (map (row_in found) ss) e.0)) (enumerate_from n lines) ≡ map (λ (row : Row). row.run) (map (row_in found) ss)
+    → flat_map (λ (e : ℕ × List ℕ). shown (row_on (map (kept_row found) ss) e.0)) (enumerate_from n lines) ≡ map (λ (row : Row). row.run) (map (kept_row found) ss)
 shown_all found n [] [] h = refl
 shown_all found n [] (s ∷ ss) h = absurd (omega (arith, h.0, h.1))
 shown_all found n (line ∷ lines) [] h = shown_all found (n + 1) lines [] tt
@@ -196,20 +196,20 @@ shown_all found n (line ∷ lines) (s ∷ ss) h =
     by (s.line == n) refl (λ k. shown_all found (n + 1) lines ss k) (λ k. shown_all found (n + 1) lines (s ∷ ss) k)
   where
     row : Row
-    row = row_in found s
+    row = kept_row found s
 
     rows : List Row
-    rows = map (row_in found) ss
+    rows = map (kept_row found) ss
 
     rest : List Row → List Placed
-    rest rs = flat_map (λ (e : ℕ × List ℕ). shown (row_at rs e.0)) (enumerate_from (n + 1) lines)
+    rest rs = flat_map (λ (e : ℕ × List ℕ). shown (row_on rs e.0)) (enumerate_from (n + 1) lines)
 
     runs : List Row → List Placed
     runs rs = map (λ (x : Row). x.run) rs
 
     by : (t : Bool) → (s.line == n) ≡ t → (SlotsClimb (n + 1) (n + 1 + length lines) ss → rest rows ≡ runs rows)
         → (SlotsClimb (n + 1) (n + 1 + length lines) (s ∷ ss) → rest (row ∷ rows) ≡ row.run ∷ runs rows)
-        → shown (row_at (row ∷ rows) n) ++ rest (row ∷ rows) ≡ row.run ∷ runs rows
+        → shown (row_on (row ∷ rows) n) ++ rest (row ∷ rows) ≡ row.run ∷ runs rows
     by true e taken kept =
         let same : s.line ≡ n = eqb-true s.line n e in
         ap (λ o. shown o ++ rest (row ∷ rows)) (just_here row rows n e)

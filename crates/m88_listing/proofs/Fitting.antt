@@ -27,8 +27,8 @@ use Rattle.m88_asm.proofs.Imaging.{Has, has_left, has_right, run_found, runs_law
 use Rattle.m88_asm.proofs.Reaching.{each_fills}
 use Rattle.m88_asm.proofs.Relocating.{AllFormed, length-filled_bytes}
 use Rattle.m88_asm.proofs.Sounding.{first_parts, option_or-none}
-use Rattle.m88_listing.specs.Rows.{Row, has_bytes, is_counted, row_of, rows_in, rows_of}
-use Rattle.m88_listing.specs.Slots.{AllFit, Fits, IsSlot, ModuleFits, found_bytes, row_in, slots_at, slots_from, slots_of}
+use Rattle.m88_listing.specs.Rows.{Row, has_bytes, is_counted, row_of, rows_in, rows_of_unit}
+use Rattle.m88_listing.specs.Slots.{AllFit, StandsWithin, IsSlot, ModuleFits, found_bytes, kept_row, slots_at, slots_from, slots_of}
 use Rattle.m88_listing.specs.declared.slots.Slot.{Slot}
 
 -- the bytes of a statement are found at their addresses
@@ -132,7 +132,7 @@ unit_fits u image well accepted own =
     (each_clean _ _ u.modules accepted.assembled) (all_found u image accepted own)
 
 -- and what is kept of them lies among the addresses
-one_slot : (b : Based) (r : Located) → Fits b r → AllByRecursion IsSlot (slots_at b r)
+one_slot : (b : Based) (r : Located) → StandsWithin b r → AllByRecursion IsSlot (slots_at b r)
 one_slot b r fits = by (length_of r == 0) refl
   where
     by : (t : Bool) → (length_of r == 0) ≡ t
@@ -178,18 +178,18 @@ same_row globals b found r h =
     ∙ found_same found (address_in b r) 0 bytes (λ k v e. ap found (omega arith) ∙ h k v e)
 
 one_row : (globals : List Symbol) (b : Based) (found : ℕ → Option ℕ) (r : Located) → IsFound globals b found r
-    → filter has_bytes (row_of globals b r ∷ []) ≡ map (row_in found) (slots_at b r)
+    → filter has_bytes (row_of globals b r ∷ []) ≡ map (kept_row found) (slots_at b r)
 one_row globals b found r h = elim (cases_Bool (length_of r == 0)) [
   | inl t ↦
       let none : length_of r ≡ 0 = eqb-true (length_of r) 0 t in
       cond-false (has_bytes (row_of globals b r)) (row_of globals b r ∷ []) [] (le-ltb 0 (length bytes) (omega (arith, long, none)))
-      ∙ ap (map (row_in found)) (sym (cond-true (length_of r == 0) [] (slot ∷ []) t))
+      ∙ ap (map (kept_row found)) (sym (cond-true (length_of r == 0) [] (slot ∷ []) t))
   | inr t ↦
       let some : 0 < length_of r = some_of (length_of r) (eqb-false (length_of r) 0 t) in
       cond-true (has_bytes (row_of globals b r)) (row_of globals b r ∷ []) [] (lt-ltb 0 (length bytes) (omega (arith, long, some)))
       ∙ ap (λ bs. let run : Placed = record { at = address_in b r; bytes = bs } in
       let row : Row = record { line = r.statement.line; run = run; counted = is_counted r.statement.body } in row ∷ []) (sym (same_row globals b found r h))
-      ∙ ap (map (row_in found)) (sym (cond-false (length_of r == 0) [] (slot ∷ []) t))
+      ∙ ap (map (kept_row found)) (sym (cond-false (length_of r == 0) [] (slot ∷ []) t))
 ]
   where
     bytes : List ℕ
@@ -215,7 +215,7 @@ filter-first row rows = by (has_bytes row) refl
         ∙ ap (λ xs. xs ++ filter has_bytes rows) (sym (cond-false (has_bytes row) (row ∷ []) [] e))
 
 rows_kept : (globals : List Symbol) (b : Based) (found : ℕ → Option ℕ) (c : Counters) (xs : List Statement) → AreFound globals b found c xs
-    → filter has_bytes (map (row_of globals b) (located c xs)) ≡ map (row_in found) (slots_from b c xs)
+    → filter has_bytes (map (row_of globals b) (located c xs)) ≡ map (kept_row found) (slots_from b c xs)
 unfolding located
 rows_kept globals b found c [] h = refl
 rows_kept globals b found c (x ∷ xs) h =
@@ -223,17 +223,17 @@ rows_kept globals b found c (x ∷ xs) h =
     let rest = map (row_of globals b) (located (after c x.body) xs) in
     filter-first (row_of globals b r) rest
     ∙ ap (λ rows. rows ++ filter has_bytes rest) (one_row globals b found r h.0)
-    ∙ ap (λ rows. map (row_in found) (slots_at b r) ++ rows) (rows_kept globals b found (after c x.body) xs h.1)
-    ∙ sym (map-append (row_in found) (slots_at b r) (slots_from b (after c x.body) xs))
+    ∙ ap (λ rows. map (kept_row found) (slots_at b r) ++ rows) (rows_kept globals b found (after c x.body) xs h.1)
+    ∙ sym (map-append (kept_row found) (slots_at b r) (slots_from b (after c x.body) xs))
 
 modules_kept : (globals : List Symbol) (found : ℕ → Option ℕ) (bs : List Based) → EachBased (λ b. AreFound globals b found at_begin b.source.statements) bs
-    → flat_map (rows_in globals) bs ≡ map (row_in found) (slots_of bs)
+    → flat_map (rows_in globals) bs ≡ map (kept_row found) (slots_of bs)
 modules_kept globals found [] h = refl
 modules_kept globals found (b ∷ bs) h =
     ap (λ rows. rows ++ flat_map (rows_in globals) bs) (rows_kept globals b found at_begin b.source.statements h.0)
-    ∙ ap (λ rows. map (row_in found) (slots_from b at_begin b.source.statements) ++ rows) (modules_kept globals found bs h.1)
-    ∙ sym (map-append (row_in found) (slots_from b at_begin b.source.statements) (slots_of bs))
+    ∙ ap (λ rows. map (kept_row found) (slots_from b at_begin b.source.statements) ++ rows) (modules_kept globals found bs h.1)
+    ∙ sym (map-append (kept_row found) (slots_from b at_begin b.source.statements) (slots_of bs))
 
 pub unit_kept : (u : Source) (image : ProgramImage) → IsAcceptedUnit u → IsUnitImage u image
-    → rows_of u ≡ map (row_in (byte_at image)) (slots_of (based u))
+    → rows_of_unit u ≡ map (kept_row (byte_at image)) (slots_of (based u))
 unit_kept u image accepted own = modules_kept (unit_layout u).globals (byte_at image) (based u) (all_found u image accepted own)

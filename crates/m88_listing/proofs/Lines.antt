@@ -1,12 +1,13 @@
 -- The lines of a source that are left behind some of them.
 use Rattle.std.proofs.Common.{◌≡◌, ℕ, zero, suc, ◌+◌, ◌-◌, ◌<◌, ◌≤◌, List, [], ◌∷◌, ◌++◌, length, take, drop, refl, sym, ap, ◌∙◌, append_assoc, arith, add-one, take_all, drop_of_length-le}
-use Rattle.std.specs.Prelude.{flat_map, slice_index_or}
+use Rattle.std.specs.Prelude.{◌==◌, false, decimal, flat_map, slice_index_or}
 use Rattle.std.specs.List.{enumerate_from}
+use Rattle.std.proofs.lemmas.Grind.{common_steps}
 use Rattle.std.proofs.lemmas.List.{append-nil}
 use Rattle.std.proofs.lemmas.List.FromFn.{length-enumerate_from}
 use Rattle.m88_base.specs.Refused.{refused_line}
 use Rattle.m88_base.specs.Lines.{line_end, lines_of}
-use Rattle.m88_listing.specs.Columns.{bare_line}
+use Rattle.m88_listing.specs.Columns.{at_right, bare_line, blanks}
 use Rattle.m88_listing.specs.Refused.{bare_text, mark_line, refused_text}
 
 -- one line more is dropped
@@ -38,7 +39,7 @@ drop_numbered zero n xs = ap (λ m. enumerate_from m xs) (omega arith)
 drop_numbered (suc k) n [] = refl
 drop_numbered (suc k) n (x ∷ xs) = drop_numbered k (n + 1) xs ∙ ap (λ m. enumerate_from m (drop k xs)) (omega arith)
 
--- one numbered line more
+-- one numbered_lines line more
 one_more : (t new line old end : List ℕ) (more first : ℕ) (lines rest : List (List ℕ)) → lines ≡ line ∷ rest
     → t ++ bare_text (take (suc more) (enumerate_from first lines)) ≡ end → new ≡ t ++ (bare_line first line ++ line_end)
     → new ++ bare_text (take more (enumerate_from (first + 1) rest)) ≡ end
@@ -58,7 +59,7 @@ bare_more t new line end count passed first lines rest some is so_far one =
     ∙ one_more t new line t end (count - (passed + 1)) (first + passed) lines rest is
     (ap (λ n. t ++ bare_text (take n (enumerate_from (first + passed) lines))) (sym left) ∙ so_far) one
 
--- no numbered line more
+-- no numbered_lines line more
 none_taken : (n first : ℕ) → take n (enumerate_from {X = List ℕ} first []) ≡ []
 none_taken zero first = refl
 none_taken (suc n) first = refl
@@ -116,3 +117,20 @@ refused_whole old source rest t1 t2 t3 new marked reason line index column most 
     let f2 : t3 ≡ old ++ ((a ++ mark) ++ told) = e3 ∙ ap (λ t. t ++ told) f1 ∙ append_assoc old (a ++ mark) told in
     e4 ∙ ap (λ ls. t3 ++ bare_text ls) last ∙ ap (λ t. t ++ bare_text (drop line (enumerate_from 1 lines))) f2
     ∙ append_assoc old ((a ++ mark) ++ told) (bare_text (drop line (enumerate_from 1 lines)))
+
+-- a line without address and bytes, empty and not
+pub bare_empty : (number : ℕ) (line : List ℕ) → length line ≡ 0 → bare_line number line ≡ at_right 7 (decimal number)
+bare_empty number [] e = refl
+bare_empty number (byte ∷ line) e = absurd (omega (arith, e))
+
+pub bare_written : (n : ℕ) (line old a b c new : List ℕ) → (length line == 0) ≡ false → a ≡ old ++ at_right 7 (decimal n) → b ≡ a ++ blanks 30
+    → c ≡ b ++ line → new ≡ c ++ line_end → new ≡ old ++ (bare_line n line ++ line_end)
+bare_written n [] old a b c new some e1 e2 e3 e4 = absurd (cc)
+bare_written n (byte ∷ line) old a b c new some e1 e2 e3 e4 =
+    e4
+    ∙ ap (λ xs. xs ++ line_end) (e3 ∙ ap (λ xs. xs ++ byte ∷ line) (e2 ∙ ap (λ xs. xs ++ blanks 30) e1))
+    ∙ regroup old (at_right 7 (decimal n)) (blanks 2) (blanks 8) (blanks 16) (byte ∷ line) line_end
+  where
+    regroup : (a b two eight wide d e : List ℕ)
+        → (((a ++ b) ++ (two ++ eight ++ two ++ wide ++ two)) ++ d) ++ e ≡ a ++ (((b ++ two ++ eight ++ two ++ wide ++ two) ++ d) ++ e)
+    regroup a b two eight wide d e = grind (arith, common_steps)

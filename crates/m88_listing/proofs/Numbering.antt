@@ -7,7 +7,7 @@ use Rattle.std.specs.Int.Digits.{digits_of}
 use Rattle.std.proofs.lemmas.Bool.{cases_Bool, cond-true, cond-false, ne_eqb}
 use Rattle.std.proofs.lemmas.Fmt.{decimal-digits_of, decimal_digit, decimal_nonempty, length-decimal-le}
 use Rattle.std.proofs.lemmas.Grind.{common_steps}
-use Rattle.std.proofs.lemmas.List.{get_or-append-add, get_or-map, get_or_append_left, length-replicate, length-take}
+use Rattle.std.proofs.lemmas.List.{append-nil, drop_all, get_or-append-add, get_or-map, get_or_append_left, length-replicate, length-take}
 use Rattle.m88_base.specs.Hex.{hex2, hex8}
 use Rattle.m88_base.specs.Image.{most_bytes}
 use Rattle.m88_base.specs.Lines.{lines_of}
@@ -25,7 +25,7 @@ use Rattle.m88_asm.proofs.Sounding.{first_parts, option_or-none}
 use Rattle.m88_listing.specs.Columns.{at_left, at_right, bare_line, blank, blanks, columns, further_columns, no_address}
 use Rattle.m88_listing.specs.Laws.{EachLineStandsOnce, has_number}
 use Rattle.m88_listing.proofs.Fitting.{each_clean, room_of}
-use Rattle.m88_listing.specs.Rows.{Row, digits, first_bytes, further_line, further_lines, has_bytes, lines_with, row_at, row_lines, row_of, rows_in, rows_of}
+use Rattle.m88_listing.specs.Rows.{Row, digits, first_bytes, further_line, further_lines, has_bytes, lines_with, row_on, row_lines, row_of, rows_in, rows_of_unit}
 
 -- the lines of which this law speaks
 abbrev picked : List (List ℕ) → List (List ℕ)
@@ -101,27 +101,44 @@ wide n address bytes l a b =
       length-append (r ++ two ++ address ++ two ++ left) two,
     )
 
+numbered_front : (n : ℕ) (rest : List ℕ) → n < 10 ^ 7 → has_number (blanks (7 - length (decimal n)) ++ (decimal n ++ rest)) ≡ true
+numbered_front n rest l =
+    let ds = decimal n in
+    let front = blanks (7 - length ds) in
+    let some = decimal_nonempty n (omega (arith, l)) in
+    let few = length-decimal-le 7 n (omega arith) l (omega (arith, l)) in
+    let long : length front ≡ 7 - length ds = length-replicate (7 - length ds) blank in
+    let last = length ds - 1 in
+    let sum : length front + last ≡ 6 = omega (arith, long, some, few) in
+    let here : slice_index_or (front ++ (ds ++ rest)) 6 blank ≡ get_or ds last blank =
+    ap (λ k. get_or (front ++ (ds ++ rest)) k blank) (sym sum)
+    ∙ get_or-append-add front (ds ++ rest) last blank
+    ∙ get_or_append_left ds rest blank last (omega (arith, some)) in
+    let high = digit_high n last blank (omega (arith, l)) (omega (arith, some)) in
+    ap (λ v. not (v == blank)) here ∙ ap not (ne_eqb (get_or ds last blank) blank (λ e. absurd (omega (arith, high, e))))
+
 numbered_line : (n : ℕ) (address bytes line : List ℕ) → n < 10 ^ 7 → has_number (columns n address bytes ++ line) ≡ true
 numbered_line n address bytes line l =
     let ds = decimal n in
     let front = blanks (7 - length ds) in
     let rest = blanks 2 ++ address ++ blanks 2 ++ at_left 16 bytes ++ blanks 2 ++ line in
-    let some = decimal_nonempty n (omega (arith, l)) in
-    let few = length-decimal-le 7 n (omega arith) l (omega (arith, l)) in
-    let long : length front ≡ 7 - length ds = length-replicate (7 - length ds) blank in
     let all : columns n address bytes ++ line ≡ front ++ (ds ++ rest) = regroup front ds (blanks 2) address (at_left 16 bytes) line in
-    let last = length ds - 1 in
-    let sum : length front + last ≡ 6 = omega (arith, long, some, few) in
-    let here : slice_index_or (columns n address bytes ++ line) 6 blank ≡ get_or ds last blank =
-    ap (λ xs. slice_index_or xs 6 blank) all
-    ∙ ap (λ k. get_or (front ++ (ds ++ rest)) k blank) (sym sum)
-    ∙ get_or-append-add front (ds ++ rest) last blank
-    ∙ get_or_append_left ds rest blank last (omega (arith, some)) in
-    let high = digit_high n last blank (omega (arith, l)) (omega (arith, some)) in
-    ap (λ v. not (v == blank)) here ∙ ap not (ne_eqb (get_or ds last blank) blank (λ e. absurd (omega (arith, high, e))))
+    ap has_number all ∙ numbered_front n rest l
   where
     regroup : (a b two c d e : List ℕ) → ((a ++ b) ++ two ++ c ++ two ++ d ++ two) ++ e ≡ a ++ (b ++ (two ++ c ++ two ++ d ++ two ++ e))
     regroup a b two c d e = grind (arith, common_steps)
+
+-- of an empty line that puts nothing anywhere there is the number alone
+alone_picked : (n : ℕ) → n < 10 ^ 7 → picked (at_right 7 (decimal n) ∷ []) ≡ [] ∷ []
+alone_picked n l =
+    let ds = decimal n in
+    let front = blanks (7 - length ds) in
+    let few = length-decimal-le 7 n (omega arith) l (omega (arith, l)) in
+    let has : has_number (front ++ ds) ≡ true =
+    ap (λ xs. has_number (front ++ xs)) (sym (append-nil ds)) ∙ numbered_front n [] l in
+    let narrow : length (front ++ ds) ≤ 37 =
+    omega (arith, few, length-append front ds, length-replicate (7 - length ds) blank) in
+    pick-first (front ++ ds) [] has ∙ ap (λ x. x ∷ []) (drop_all 37 (front ++ ds) narrow)
 
 first_picked : (n : ℕ) (address bytes line : List ℕ) (more : List (List ℕ)) → n < 10 ^ 7 → length address ≡ 8 → length bytes ≤ 16
     → picked ((columns n address bytes ++ line) ∷ more) ≡ line ∷ picked more
@@ -166,14 +183,15 @@ further_all row = by row.counted
 
 one_block : (rows : List Row) (n : ℕ) (line : List ℕ) → AreFew rows → n < 10 ^ 7 → picked (lines_with rows (n, line)) ≡ line ∷ []
 unfolding AreFew
-one_block [] n line few l = first_picked n no_address [] line [] l refl (omega arith)
+one_block [] n [] few l = alone_picked n l
+one_block [] n (byte ∷ line) few l = first_picked n no_address [] (byte ∷ line) [] l refl (omega arith)
 one_block (row ∷ rows) n line few l = elim (cases_Bool (row.line == n)) [
   | inl t ↦
-      ap (λ (o : Option Row). picked (option_map_or (row_lines n line) o (bare_line n line ∷ []))) (cond-true (row.line == n) (Some row) (row_at rows n) t)
+      ap (λ (o : Option Row). picked (option_map_or (row_lines n line) o (bare_line n line ∷ []))) (cond-true (row.line == n) (Some row) (row_on rows n) t)
       ∙ first_picked n (hex8 row.run.at) (first_bytes row) line (further_lines row) l refl (narrow row few.0)
       ∙ ap (λ ls. line ∷ ls) (further_all row)
   | inr t ↦
-      ap (λ (o : Option Row). picked (option_map_or (row_lines n line) o (bare_line n line ∷ []))) (cond-false (row.line == n) (Some row) (row_at rows n) t)
+      ap (λ (o : Option Row). picked (option_map_or (row_lines n line) o (bare_line n line ∷ []))) (cond-false (row.line == n) (Some row) (row_on rows n) t)
       ∙ one_block rows n line few.1 l
 ]
 
@@ -221,6 +239,6 @@ modules_few globals (b ∷ bs) clean =
 
 pub each_line_stands_once : EachLineStandsOnce
 each_line_stands_once = λ source u short accepted.
-    all_blocks (rows_of u) 1 (lines_of source)
+    all_blocks (rows_of_unit u) 1 (lines_of source)
     (modules_few (unit_layout u).globals (based u) (each_clean _ _ u.modules accepted.assembled))
     (omega (arith, short, lines_few source))

@@ -15,8 +15,8 @@ use Rattle.m88_asm.specs.Objects.{lines_in}
 use Rattle.m88_asm.specs.Units.{Based, based, unit_layout}
 use Rattle.m88_asm.proofs.Imaging.{Has, has_left, has_right}
 use Rattle.m88_listing.specs.Laws.{EachShowsItsImage, Shows, shown_runs}
-use Rattle.m88_listing.specs.Rows.{Row, has_bytes, row_of, rows_in, rows_of}
-use Rattle.m88_listing.specs.Slots.{row_in, slots_of}
+use Rattle.m88_listing.specs.Rows.{Row, has_bytes, row_of, rows_in, rows_of_unit}
+use Rattle.m88_listing.specs.Slots.{kept_row, slots_of}
 use Rattle.m88_listing.proofs.Climbing.{shown_all, unit_climbs}
 use Rattle.m88_listing.proofs.Fitting.{found_in, unit_kept}
 
@@ -153,8 +153,8 @@ pub each_shows_its_image : EachShowsItsImage
 each_shows_its_image = λ source u image is accepted own a b.
     let found = byte_at image in
     let ss = slots_of (based u) in
-    let kept : rows_of u ≡ map (row_in found) ss = unit_kept u image accepted own in
-    let all : shown_runs (rows_of u) source ≡ runs (rows_of u) =
+    let kept : rows_of_unit u ≡ map (kept_row found) ss = unit_kept u image accepted own in
+    let all : shown_runs (rows_of_unit u) source ≡ runs (rows_of_unit u) =
     ap (λ rows. shown_runs rows source) kept ∙ shown_all found 1 (lines_of source) ss (unit_climbs source u is) ∙ ap runs (sym kept) in (
       λ h. found_in u image accepted own a b (modules_show (unit_layout u).globals (based u) a b (subst (λ ps. Shows ps a b) all h)),
       λ h. subst (λ ps. Shows ps a b) (sym all) (shown_kept (unit_layout u).globals (based u) a b (sym (own.bytes a) ∙ h)),

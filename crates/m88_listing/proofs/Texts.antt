@@ -11,7 +11,7 @@ use Rattle.m88_base.specs.Placed.{Placed}
 use Rattle.m88_listing.specs.Columns.{at_left, bare_line, blanks, columns, further_columns}
 use Rattle.m88_listing.specs.Refused.{below, mark_line}
 use Rattle.m88_listing.specs.Rows.{digits, further_line, row_lines}
-use Rattle.m88_listing.specs.Slots.{found_bytes, row_in, walked}
+use Rattle.m88_listing.specs.Slots.{found_bytes, kept_row, walked}
 use Rattle.m88_listing.specs.declared.slots.Slot.{Slot}
 
 -- the text of lines behind lines
@@ -63,7 +63,7 @@ further_more old t new bytes piece rest at eights e1 e2 e3 e4 =
 -- the lines of a row whose bytes are told as a count
 pub counted_row : (found : ℕ → Option ℕ) (number : ℕ) (line old new : List ℕ) (s : Slot) → s.counted ≡ true
     → new ≡ old ++ (columns number (hex8 s.at) (codes "00 x " ++ decimal s.len) ++ line ++ line_end)
-    → new ≡ old ++ text_of_lines (row_lines number line (row_in found s))
+    → new ≡ old ++ text_of_lines (row_lines number line (kept_row found s))
 counted_row found number line old new s is e = e ∙ ap (λ t. old ++ t) (whole ∙ by s.counted is)
   where
     bytes : List ℕ
@@ -91,7 +91,7 @@ pub shown_row : (found : ℕ → Option ℕ) (number : ℕ) (line old mid new by
     → bytes ≡ found_bytes found s.at s.len → shown ≡ take (min s.len 8) bytes
     → mid ≡ old ++ (columns number (hex8 s.at) (digits shown) ++ line ++ line_end)
     → new ≡ mid ++ text_of_lines (map (further_line (record { at = s.at; bytes = bytes })) (range_with_len 1 ((length bytes - 1) / 8)))
-    → new ≡ old ++ text_of_lines (row_lines number line (row_in found s))
+    → new ≡ old ++ text_of_lines (row_lines number line (kept_row found s))
 shown_row found number line old mid new bytes shown s is all first e1 e2 =
     e2 ∙ ap (λ t. t ++ further bytes) e1 ∙ append_assoc old _ _ ∙ ap (λ t. old ++ t) (whole ∙ by s.counted is)
   where
@@ -122,24 +122,24 @@ shown_row found number line old mid new bytes shown s is all first e1 e2 =
 
 -- the lines for the next line of a source, where the next slot is that of it
 pub row_next : (found : ℕ → Option ℕ) (number : ℕ) (line old new : List ℕ) (s : Slot) (slots : List Slot) (lines : List (List ℕ))
-    → slice_get slots 0 ≡ Some s → s.line ≡ number → new ≡ old ++ text_of_lines (row_lines number line (row_in found s))
+    → slice_get slots 0 ≡ Some s → s.line ≡ number → new ≡ old ++ text_of_lines (row_lines number line (kept_row found s))
     → new ++ text_of_lines (walked found (number + 1) lines (drop 1 slots)) ≡ old ++ text_of_lines (walked found number (line ∷ lines) slots)
 row_next found number line old new s [] lines first is e = cc
 row_next found number line old new s (t ∷ ss) lines first is e =
     let same : t ≡ s = cc in
-    let own : row_lines number line (row_in found s) ≡ row_lines number line (row_in found t) = ap (λ x. row_lines number line (row_in found x)) (sym same) in
+    let own : row_lines number line (kept_row found s) ≡ row_lines number line (kept_row found t) = ap (λ x. row_lines number line (kept_row found x)) (sym same) in
     let rest = walked found (number + 1) lines ss in
     ap (λ x. x ++ text_of_lines rest) (e ∙ ap (λ ls. old ++ text_of_lines ls) own)
-    ∙ append_assoc old (text_of_lines (row_lines number line (row_in found t))) (text_of_lines rest)
-    ∙ ap (λ x. old ++ x) (sym (text_append (row_lines number line (row_in found t)) rest))
+    ∙ append_assoc old (text_of_lines (row_lines number line (kept_row found t))) (text_of_lines rest)
+    ∙ ap (λ x. old ++ x) (sym (text_append (row_lines number line (kept_row found t)) rest))
     ∙ ap (λ ls. old ++ text_of_lines ls) (by (t.line == number) (ap (λ n. n == number) (ap (λ (x : Slot). x.line) same ∙ is) ∙ same_number number))
   where
     same_number : (n : ℕ) → (n == n) ≡ true
     same_number n = grind (arith, common_steps)
 
     by : (b : Bool) → b ≡ true
-        → row_lines number line (row_in found t) ++ walked found (number + 1) lines ss
-        ≡ (if b then row_lines number line (row_in found t) ++ walked found (number + 1) lines ss
+        → row_lines number line (kept_row found t) ++ walked found (number + 1) lines ss
+        ≡ (if b then row_lines number line (kept_row found t) ++ walked found (number + 1) lines ss
         else bare_line number line ∷ walked found (number + 1) lines (t ∷ ss))
     by true is = refl
     by false is = cc

@@ -30,7 +30,7 @@ use Rattle.m88_listing.specs.Entries.{numbers_of}
 use Rattle.m88_listing.specs.Listing.{entry_lines, listing_lines}
 use Rattle.m88_listing.specs.Refused.{IsRefusedAt, Refusal, bare_text, line_at, mark_line, parse_refusal, refused_text, unit_refusal, unlinked, unread}
 use Rattle.m88_listing.specs.Replies.{Replies}
-use Rattle.m88_listing.specs.Rows.{numbered, rows_of, source_lines}
+use Rattle.m88_listing.specs.Rows.{numbered_lines, rows_of_unit, source_lines}
 use Rattle.m88_listing.specs.Slots.{slots_of, walked}
 use Rattle.m88_listing.specs.declared.entries.Entry.{Entry}
 use Rattle.m88_listing.specs.declared.listing.Reply.{Reply}
@@ -56,7 +56,7 @@ pub listing_whole : (source t1 t2 t3 : List ℕ) (u : Source) (image : ProgramIm
 listing_whole source t1 t2 t3 u image slots labels numbers is accepted own kept named e1 e2 e3 =
     let found = byte_at image in
     let ss = slots_of (based u) in
-    let a = source_lines (rows_of u) source in
+    let a = source_lines (rows_of_unit u) source in
     let b = entry_lines (codes "labels") labels in
     let c = entry_lines (codes "numbers") (numbers_of u) in
     let lines : walked found 1 (lines_of source) slots ≡ a =
@@ -97,7 +97,7 @@ of_err (Err x) e h = h
 -- a text that refuses a source has bytes
 pub refusal_some : (source : List ℕ) (r : Refusal) → 0 < length (refused_text source r)
 refusal_some source r =
-    let a = bare_text (take r.line (numbered source)) in
+    let a = bare_text (take r.line (numbered_lines source)) in
     let mark = mark_line r.column (line_at source r.line) in
     let told = refused_line r.line r.column r.reason in
     omega (
@@ -105,7 +105,7 @@ refusal_some source r =
       length-append mark line_end,
       length-append a (mark ++ line_end),
       length-append (a ++ (mark ++ line_end)) told,
-      length-append ((a ++ (mark ++ line_end)) ++ told) (bare_text (drop r.line (numbered source))),
+      length-append ((a ++ (mark ++ line_end)) ++ told) (bare_text (drop r.line (numbered_lines source))),
     )
 
 -- where nothing was written, no text stands whole

@@ -1,6 +1,6 @@
 -- The lines of a listing as text. Four columns with two blanks between each two: the number of the line, an address,
 -- bytes or their count, and the line of the source as it stands.
-use Rattle.std.specs.Prelude.{ℕ, ◌-◌, List, [], ◌++◌, length, replicate, decimal}
+use Rattle.std.specs.Prelude.{ℕ, ◌-◌, List, [], ◌∷◌, ◌++◌, length, replicate, decimal}
 
 -- the byte between columns and words
 abbrev pub blank : ℕ
@@ -35,9 +35,10 @@ no_address = blanks 8
 abbrev pub before_source : ℕ
 before_source = 37
 
--- a line of the source behind its number, without address and bytes
+-- a line of the source behind its number, without address and bytes; of an empty line there is the number alone
 abbrev pub bare_line : ℕ → List ℕ → List ℕ
-bare_line number line = columns number no_address [] ++ line
+bare_line number [] = at_right 7 (decimal number)
+bare_line number (byte ∷ line) = columns number no_address [] ++ byte ∷ line
 
 -- the columns of a further line of bytes, behind the line of the source
 abbrev pub further_columns : List ℕ → List ℕ → List ℕ

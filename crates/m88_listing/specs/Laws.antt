@@ -10,11 +10,11 @@ use Rattle.m88_asm.specs.Accepted.{IsAcceptedUnit}
 use Rattle.m88_asm.specs.Images.{IsUnitImage}
 use Rattle.m88_listing.specs.Calls.{most_source}
 use Rattle.m88_listing.specs.Columns.{before_source, blank}
-use Rattle.m88_listing.specs.Rows.{Row, numbered, row_at, rows_of, source_lines}
+use Rattle.m88_listing.specs.Rows.{Row, numbered_lines, row_on, rows_of_unit, source_lines}
 
 -- the bytes that the lines of a source show, in order of the lines
 abbrev pub shown_runs : List Row → List ℕ → List Placed
-shown_runs rows source = flat_map (λ e. option_map_or (λ row. row.run ∷ []) (row_at rows e.0) []) (numbered source)
+shown_runs rows source = flat_map (λ e. option_map_or (λ row. row.run ∷ []) (row_on rows e.0) []) (numbered_lines source)
 
 -- some run has this byte at the address
 abbrev pub Shows : List Placed → ℕ → ℕ → Type 0
@@ -25,7 +25,7 @@ Shows (run ∷ runs) a b = (byte_in run a ≡ Some b) ⊎ Shows runs a b
 abbrev pub EachShowsItsImage : Type 0
 EachShowsItsImage =
     (source : List ℕ) (u : Source) (image : ProgramImage) → IsUnit source u → IsAcceptedUnit u → IsUnitImage u image
-    → (a b : ℕ) → Shows (shown_runs (rows_of u) source) a b ↔ (byte_at image a ≡ Some b)
+    → (a b : ℕ) → Shows (shown_runs (rows_of_unit u) source) a b ↔ (byte_at image a ≡ Some b)
 
 -- a line of a listing has the number of a line of the source: the last place of the first column isn't blank
 abbrev pub has_number : List ℕ → Bool
@@ -35,4 +35,4 @@ has_number line = not (slice_index_or line 6 blank == blank)
 abbrev pub EachLineStandsOnce : Type 0
 EachLineStandsOnce =
     (source : List ℕ) (u : Source) → length source ≤ most_source → IsAcceptedUnit u
-    → map (drop before_source) (filter has_number (source_lines (rows_of u) source)) ≡ lines_of source
+    → map (drop before_source) (filter has_number (source_lines (rows_of_unit u) source)) ≡ lines_of source

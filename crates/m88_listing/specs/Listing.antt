@@ -6,7 +6,7 @@ use Rattle.m88_parse.specs.declared.unit.Unit.{Unit as Source}
 use Rattle.m88_asm.specs.Accepted.{IsAcceptedUnit}
 use Rattle.m88_listing.specs.declared.entries.Entry.{Entry}
 use Rattle.m88_listing.specs.Entries.{AreInOrder, entry_line, labels_of, numbers_of}
-use Rattle.m88_listing.specs.Rows.{rows_of, source_lines}
+use Rattle.m88_listing.specs.Rows.{rows_of_unit, source_lines}
 
 -- an empty line, a line with a title, and the lines of entries
 abbrev pub entry_lines : List ℕ → List Entry → List (List ℕ)
@@ -15,7 +15,7 @@ entry_lines title entries = [] ∷ title ∷ map entry_line entries
 -- the lines of a listing, for the source's unit and the unit's labels in order
 abbrev pub listing_lines : List ℕ → Source → List Entry → List (List ℕ)
 listing_lines source u labels =
-    source_lines (rows_of u) source
+    source_lines (rows_of_unit u) source
     ++ entry_lines (codes "labels") labels
     ++ entry_lines (codes "numbers") (numbers_of u)
 

@@ -4,6 +4,7 @@ use Rattle.std.specs.Prelude.{◌≡◌, ℕ, ◌-◌, ◌==◌, if◌then◌els
 use Rattle.m88_base.specs.Lines.{line_end, lines_of, text_of_lines}
 use Rattle.m88_base.specs.Refused.{refused_line}
 use Rattle.m88_parse.specs.Fault.{reason}
+use Rattle.m88_parse.specs.Language.Bytes.{tab}
 use Rattle.m88_parse.specs.Language.FirstFaults.{IsFirstFault}
 use Rattle.m88_parse.specs.Language.Units.{IsUnit}
 use Rattle.m88_parse.specs.declared.fault.ParseFault.{ParseFault}
@@ -14,7 +15,7 @@ use Rattle.m88_asm.specs.Reasons.{asm_reason}
 use Rattle.m88_asm.specs.declared.fault.UnitFault.{UnitFault}
 use Rattle.m88_asm.specs.declared.fault.UnitFault.TheVariants.{Asm, Link}
 use Rattle.m88_listing.specs.Columns.{bare_line, before_source, blank, blanks}
-use Rattle.m88_listing.specs.Rows.{numbered}
+use Rattle.m88_listing.specs.Rows.{numbered_lines}
 
 -- where and why a source is refused: line and column, both from 1, and the reason as it is written
 pub record Refusal : Type 0 where
@@ -37,10 +38,6 @@ pub data IsRefusedAt (source : List ℕ) (r : Refusal) : Type 0 where
   unlinked : (unit : Source) (fault : UnitFault) → IsUnit source unit → IsFirstUnitFault unit fault
       → r ≡ unit_refusal fault → IsRefusedAt source r
 
--- the byte that goes to the next stop of a tabulator
-abbrev pub tab : ℕ
-tab = 9
-
 -- what stands below a byte before the mark: a tab below a tab, and a blank below any other byte
 abbrev pub below : ℕ → ℕ
 below b = if b == tab then tab else blank
@@ -61,7 +58,7 @@ bare_text lines = text_of_lines (map (λ e. bare_line e.0 e.1) lines)
 -- other lines
 abbrev pub refused_text : List ℕ → Refusal → List ℕ
 refused_text source r =
-    bare_text (take r.line (numbered source))
+    bare_text (take r.line (numbered_lines source))
     ++ (mark_line r.column (line_at source r.line) ++ line_end)
     ++ refused_line r.line r.column r.reason
-    ++ bare_text (drop r.line (numbered source))
+    ++ bare_text (drop r.line (numbered_lines source))

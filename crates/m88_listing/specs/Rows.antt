@@ -42,12 +42,12 @@ abbrev pub rows_in : List Symbol → Based → List Row
 rows_in globals b = filter has_bytes (map (row_of globals b) (lines_in b.source))
 
 -- the rows of the statements of a unit that give bytes
-abbrev pub rows_of : Source → List Row
-rows_of u = flat_map (rows_in (unit_layout u).globals) (based u)
+abbrev pub rows_of_unit : Source → List Row
+rows_of_unit u = flat_map (rows_in (unit_layout u).globals) (based u)
 
 -- the row of the statement in a line, where the line has one that gives bytes
-abbrev pub row_at : List Row → ℕ → Option Row
-row_at rows number = find (λ row. row.line == number) rows
+abbrev pub row_on : List Row → ℕ → Option Row
+row_on rows number = find (λ row. row.line == number) rows
 
 -- bytes in two digits each
 abbrev pub digits : List ℕ → List ℕ
@@ -61,7 +61,8 @@ first_bytes row =
 -- the line that shows eight bytes of a run, or what is left of it, behind so many eights
 abbrev pub further_line : Placed → ℕ → List ℕ
 further_line run eights =
-    further_columns (hex8 (run.at + most_shown * eights)) (digits (take most_shown (drop (most_shown * eights) run.bytes)))
+    further_columns (hex8 (run.at + most_shown * eights))
+    (digits (take most_shown (drop (most_shown * eights) run.bytes)))
 
 -- the lines that show the bytes behind the first eight, where they aren't told as a count
 abbrev pub further_lines : Row → List (List ℕ)
@@ -75,12 +76,12 @@ row_lines number line row = (columns number (hex8 row.run.at) (first_bytes row) 
 
 -- the lines of the listing for a line of the source, by its number
 abbrev pub lines_with : List Row → ℕ × List ℕ → List (List ℕ)
-lines_with rows e = option_map_or (row_lines e.0 e.1) (row_at rows e.0) (bare_line e.0 e.1 ∷ [])
+lines_with rows e = option_map_or (row_lines e.0 e.1) (row_on rows e.0) (bare_line e.0 e.1 ∷ [])
 
 -- the lines of a source by their numbers, from 1
-abbrev pub numbered : List ℕ → List (ℕ × List ℕ)
-numbered source = enumerate_from 1 (lines_of source)
+abbrev pub numbered_lines : List ℕ → List (ℕ × List ℕ)
+numbered_lines source = enumerate_from 1 (lines_of source)
 
 -- the lines of the listing for all lines of a source
 abbrev pub source_lines : List Row → List ℕ → List (List ℕ)
-source_lines rows source = flat_map (lines_with rows) (numbered source)
+source_lines rows source = flat_map (lines_with rows) (numbered_lines source)

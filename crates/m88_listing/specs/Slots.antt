@@ -18,16 +18,16 @@ abbrev pub no_part : Part
 no_part = record { start = 0; len = 0 }
 
 -- a section by its number
-abbrev pub nth : List Part → ℕ → Part
-nth parts k = slice_index_or parts k no_part
+abbrev pub part_at : List Part → ℕ → Part
+part_at parts k = slice_index_or parts k no_part
 
 -- the counters that the sections so far show
 abbrev pub counters_in : Parts → Counters
 counters_in p = record {
   here = p.here;
   count = length p.parts;
-  starts = λ k. (nth p.parts k).start;
-  lengths = λ k. (nth p.parts k).len;
+  starts = λ k. (part_at p.parts k).start;
+  lengths = λ k. (part_at p.parts k).len;
 }
 
 -- what a slot keeps lies among the addresses
@@ -39,8 +39,8 @@ abbrev pub found_bytes : (ℕ → Option ℕ) → ℕ → ℕ → List ℕ
 found_bytes found at n = map (λ k. unwrap_or (found (at + k)) 0) (range_with_len 0 n)
 
 -- the row that is kept so, where these bytes are found
-abbrev pub row_in : (ℕ → Option ℕ) → Slot → Row
-row_in found s = record {
+abbrev pub kept_row : (ℕ → Option ℕ) → Slot → Row
+kept_row found s = record {
   line = s.line;
   run = record { at = s.at; bytes = found_bytes found s.at s.len };
   counted = s.counted;
@@ -71,11 +71,11 @@ abbrev pub walked : (ℕ → Option ℕ) → ℕ → List (List ℕ) → List Sl
 walked found number [] slots = []
 walked found number (line ∷ lines) [] = bare_line number line ∷ walked found (number + 1) lines []
 walked found number (line ∷ lines) (s ∷ ss) =
-    if s.line == number then row_lines number line (row_in found s) ++ walked found (number + 1) lines ss
+    if s.line == number then row_lines number line (kept_row found s) ++ walked found (number + 1) lines ss
     else bare_line number line ∷ walked found (number + 1) lines (s ∷ ss)
 
 -- a statement can be laid out, its section has room for its bytes, and these lie among the addresses
-pub record Fits (b : Based) (r : Located) : Type 0 where
+pub record StandsWithin (b : Based) (r : Located) : Type 0 where
   pub formed : IsFormedBody r.statement.body
   pub room : offset_of r + length_of r ≤ most_bytes
   pub within : 0 < length_of r → address_in b r + length_of r ≤ 2 ^ 32
@@ -83,7 +83,7 @@ pub record Fits (b : Based) (r : Located) : Type 0 where
 -- each of the statements does, from counters on
 abbrev pub AllFit : Based → Counters → List Statement → Type 0
 AllFit b c [] = Unit {0}
-AllFit b c (x ∷ xs) = Fits b (record { before = c; statement = x }) × AllFit b (after c x.body) xs
+AllFit b c (x ∷ xs) = StandsWithin b (record { before = c; statement = x }) × AllFit b (after c x.body) xs
 
 -- and those of a module that stands somewhere
 abbrev pub ModuleFits : Based → Type 0

@@ -26,24 +26,27 @@ fn push_blanks(text: &mut Vec<u8>, count: usize) -> Result<(), AllocError>
 
 /// Appends a number at the right of its column.
 fn push_number(text: &mut Vec<u8>, number: u64) -> Result<(), AllocError>
-    ensures { OnOk result
-        (text.new.items ≡ text.old.items ++ (at_right 7 (decimal number) ++ blanks 2)) }
+    ensures { OnOk result (text.new.items ≡ text.old.items ++ at_right 7 (decimal number)) }
 {
     let mut buffer = Buffer::new();
     let digits = buffer.format(number).as_bytes();
     push_blanks(text, 7usize.saturating_sub(digits.len()))?;
     text.extend_from_slice(digits)?;
-    text.extend_from_slice(b"  ")?;
     Ok(())
 }
 
 /// Appends a line of the source without address and bytes.
+#[tactic(auto, using(crate::proofs::Lines::bare_empty))]
 pub(crate) fn push_bare(text: &mut Vec<u8>, number: u64, line: &[u8]) -> Result<(), AllocError>
     ensures { OnOk result
         (text.new.items ≡ text.old.items ++ (bare_line number line.now ++ line_end)) }
 {
     push_number(text, number)?;
-    text.extend_from_slice(b"                            ")?;
+    if line.is_empty() {
+        text.push(b'\n')?;
+        return Ok(());
+    }
+    text.extend_from_slice(b"                              ")?;
     text.extend_from_slice(line)?;
     text.push(b'\n')?;
     Ok(())
@@ -65,6 +68,7 @@ fn push_place(text: &mut Vec<u8>, number: u64, at: u32) -> Result<(), AllocError
         ++ (at_right 7 (decimal number) ++ blanks 2 ++ hex8 at ++ blanks 2)) }
 {
     push_number(text, number)?;
+    text.extend_from_slice(b"  ")?;
     push_hex8(text, at)?;
     text.extend_from_slice(b"  ")?;
     Ok(())

@@ -4,7 +4,7 @@ ghost use Rattle.std.specs.List.{All};
 ghost use Rattle.m88_parse.specs.WellFormed.{IsAlignment, IsFormedBody};
 ghost use Rattle.m88_asm.specs.Counters.{after, at_begin, length_at, padding};
 ghost use Rattle.m88_listing.specs.Rows.{is_counted};
-ghost use Rattle.m88_listing.specs.Slots.{Fits, ModuleFits, counters_in, slots_at, slots_from, slots_of};
+ghost use Rattle.m88_listing.specs.Slots.{StandsWithin, ModuleFits, counters_in, slots_at, slots_from, slots_of};
 
 use crate::cursor::Cursor;
 use crate::slots::Slot;
@@ -51,7 +51,7 @@ fn push_slot(
     standing: &Standing<'_>,
     x: &Statement,
 ) -> Result<(), AllocError>
-    requires { Fits standing.now (record { before = counters_in cursor.old; statement = x.now }) }
+    requires { StandsWithin standing.now (record { before = counters_in cursor.old; statement = x.now }) }
     ensures cursor { OnOk result
         (counters_in cursor.new ≡ after (counters_in cursor.old) x.now.body) }
     ensures slots { OnOk result (slots.new.items ≡ slots.old.items

@@ -5,7 +5,7 @@ ghost use Rattle.m88_base.specs.Image.{byte_at};
 ghost use Rattle.m88_base.specs.Lines.{lines_of, text_of_lines};
 ghost use Rattle.m88_base.specs.Placed.{Placed};
 ghost use Rattle.m88_listing.specs.Rows.{further_line, row_lines};
-ghost use Rattle.m88_listing.specs.Slots.{IsSlot, found_bytes, row_in, walked};
+ghost use Rattle.m88_listing.specs.Slots.{IsSlot, found_bytes, kept_row, walked};
 
 use crate::columns::{MOST_SHOWN, push_bare, push_counted, push_further, push_shown};
 use crate::slots::Slot;
@@ -52,7 +52,7 @@ fn push_row(
 ) -> Result<(), AllocError>
     requires { IsSlot slot.now }
     ensures { OnOk result (text.new.items ≡ text.old.items
-        ++ text_of_lines (row_lines number line.now (row_in (byte_at image.now) slot.now))) }
+        ++ text_of_lines (row_lines number line.now (kept_row (byte_at image.now) slot.now))) }
 {
     if slot.counted {
         push_counted(text, number, slot.at, slot.len, line)?;
