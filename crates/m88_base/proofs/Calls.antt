@@ -1,5 +1,5 @@
 -- Calls that are counted one after another.
-use Rattle.std.proofs.Common.{◌≡◌, ℕ, ◌+◌, ◌≤◌, Option, Some, None, arith, inl, inr, subst, sym}
+use Rattle.std.proofs.Common.{ℕ, ◌+◌, ◌≤◌, Option, Some, None, arith, inl, inr, subst, sym}
 use Rattle.m88_base.specs.Calls.{CallsWithin, CountsCall}
 
 -- no call was made

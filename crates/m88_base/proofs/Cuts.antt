@@ -3,7 +3,7 @@ use Rattle.std.proofs.Common.{◌≡◌, ℕ, zero, suc, ◌+◌, ◌-◌, ◌<�
 use Rattle.std.specs.Prelude.{None, Some, IsSome, slice_get, All}
 use Rattle.std.proofs.Math.Seq.{drop-cons, take-suc}
 use Rattle.std.proofs.lemmas.Option.{slice_get-get_or}
-use Rattle.std.proofs.lemmas.List.{take-append-drop, get_or-take, length-take}
+use Rattle.std.proofs.lemmas.List.{take-append-drop, get_or-take, length-drop, length-take}
 use Rattle.m88_base.specs.Found.{IsFree, IsLeastTaken, IsPart}
 use Rattle.m88_base.specs.Placed.{Placed, byte_in, byte_among, AreApart}
 use Rattle.m88_base.specs.Placing.{next_start}
@@ -61,6 +61,31 @@ found_in_last xs (suc i) a d h p l s above =
     let whole : byte_among (take i xs ++ run ∷ drop (suc i) xs) a ≡ byte_in run a =
     byte_among-append (take i xs) (run ∷ drop (suc i) xs) a ∙ rw (front, back) (option_or-none (byte_in run a)) in
     rw e (ap (λ ys. byte_among ys a) cut ∙ (whole ∙ byte_in_at run a last))
+
+slice_get-drop : (n : ℕ) (xs : List ℕ) (k : ℕ) → slice_get (drop n xs) k ≡ slice_get xs (n + k)
+slice_get-drop zero xs k = let e : 0 + k ≡ k = omega arith in ap (λ n. slice_get xs n) (sym e)
+slice_get-drop (suc n) [] k = refl
+slice_get-drop (suc n) (x ∷ xs) k =
+    let e : suc n + k ≡ suc (n + k) = omega arith in slice_get-drop n xs k ∙ ap (λ m. slice_get (x ∷ xs) m) (sym e)
+
+-- what is behind an address in the last run that begins at or below it is all that is there, up to the run's end
+pub rest_in_last : (xs : List Placed) (i a : ℕ) (run : Placed) → AreApart 0 xs → 0 < i → i ≤ length xs → run ≡ get_or xs (i - 1) run → run.at ≤ a
+    → AreApart (a + 1) (drop i xs) → (k : ℕ) → k ≤ length (drop (a - run.at) run.bytes)
+    → byte_among xs (a + k) ≡ slice_get (drop (a - run.at) run.bytes) k
+rest_in_last xs i a run h p l is s above k few =
+    let left = length-drop (a - run.at) run.bytes in
+    let e : a + k - run.at ≡ a - run.at + k = omega (arith, s) in
+    let start : (get_or xs (i - 1) run).at ≤ a + k = rw (← is) (omega (arith, s)) in
+    let found = found_in_last xs i (a + k) run h p l start (beyond k few left) in
+    rw (← is, e) at found ∙ sym (slice_get-drop (a - run.at) run.bytes k)
+  where
+    end : next_start 0 (take i xs) ≡ run.at + length run.bytes + 1
+    end = rw (← is) at (next_start-take xs i run p l)
+
+    beyond : (k : ℕ) → k ≤ length (drop (a - run.at) run.bytes) → length (drop (a - run.at) run.bytes) ≡ length run.bytes - (a - run.at)
+        → AreApart (a + k + 1) (drop i xs)
+    beyond zero few left = let e : a + 0 + 1 ≡ a + 1 = omega arith in rw e above
+    beyond (suc k) few left = apart_lower _ _ (drop i xs) (omega (arith, s, few, left)) (rw end at (apart_drop xs i h))
 
 pub some_within : (xs : List ℕ) (k : ℕ) → k < length xs → IsSome (slice_get xs k)
 some_within [] k h = absurd (omega arith)

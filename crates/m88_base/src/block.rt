@@ -118,5 +118,12 @@ fn locate(runs: &[Segment], at: u32) -> usize
     ensures below { All (λ run. run.at ≤ at) (take result runs.now) }
     ensures above { AreApart (at + 1) (drop result runs.now) }
 {
+    // A block that lies below the address is passed by one comparison.
+    if !runs.is_empty() {
+        let last = &runs[runs.len() - 1];
+        if last.at() <= at {
+            return runs.len();
+        }
+    }
     runs.partition_point(|run| run.at() <= at)
 }

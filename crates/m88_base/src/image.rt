@@ -1,5 +1,5 @@
 //! The bytes of a program at their addresses.
-ghost use Rattle.std.specs.Prelude.{◌≡◌, ◌+◌, ◌^◌, ◌<◌, ◌≤◌, ◌↔◌, ℕ, None, Some, Err, length, slice_get, IfErr, IfOk, IsTrue, OnOk, OnErr};
+ghost use Rattle.std.specs.Prelude.{◌≡◌, ◌+◌, ◌^◌, ◌<◌, ◌≤◌, ◌↔◌, ℕ, None, Some, Err, length, slice_get, IfErr, IfNone, IfOk, IfSome, IsTrue, OnOk, OnErr};
 ghost use Rattle.m88_base.specs.Found.{IsFree, IsLeastTaken, IsPart, PutsBytes};
 ghost use Rattle.m88_base.specs.Placed.{byte_among};
 ghost use Rattle.m88_base.specs.Image.{IsImage, IsTooLarge, ProgramImage, WhereOverlap, byte_at, byte_count, first_text, most_bytes, parts};
@@ -167,6 +167,28 @@ impl Image {
         ensures { result ≡ byte_at self.now at }
     {
         self.runs.find(at)
+    }
+
+    /// The bytes from an address on, up to the first address without one.
+    #[tactic(auto, unfolding(crate::specs::Image::byte_at))]
+    pub fn rest(&self, at: u32) -> &[u8]
+        ensures there { (k : ℕ) → k < length result.now
+            → byte_at self.now (at + k) ≡ slice_get result.now k }
+        ensures end { byte_at self.now (at + length result.now) ≡ None }
+    {
+        self.runs.rest(at)
+    }
+
+    /// The least of `count` addresses from `at` on that has a byte, None where none of them has one.
+    #[tactic(auto, unfolding(crate::specs::Image::byte_at))]
+    pub fn first_taken(&self, at: u32, count: usize) -> Option<u32>
+        requires some { 0 < count }
+        requires fits { at + count ≤ 2 ^ 32 }
+        ensures taken { IfSome result (IsLeastTaken (byte_at self.now) at count) }
+        ensures free { IfNone result (IsFree (byte_at self.now) at count) }
+    {
+        let index = self.runs.locate(at);
+        self.runs.first_taken(index, at, count)
     }
 
     /// The number of parts, the runs of consecutive addresses that are as long as they can be.

@@ -1,5 +1,5 @@
 //! A run of bytes at consecutive addresses.
-ghost use Rattle.std.specs.Prelude.{◌≡◌, ◌+◌, ◌-◌, ◌^◌, ◌≤◌, ◌++◌, [], length, slice_get, IfOk, OnOk, OnErr};
+ghost use Rattle.std.specs.Prelude.{◌≡◌, ◌+◌, ◌-◌, ◌^◌, ◌≤◌, ◌++◌, [], drop, length, slice_get, IfOk, OnOk, OnErr};
 
 use std::alloc::{AllocError, Global};
 use std::marker::Model;
@@ -78,6 +78,16 @@ impl Segment {
         ensures { result ≡ slice_get self.now.bytes (at - self.now.at) }
     {
         self.bytes.get((at - self.at) as usize).copied()
+    }
+
+    /// The bytes from an address on that does not lie below the run, none where it lies behind it.
+    pub fn bytes_from(&self, at: u32) -> &[u8]
+        requires { self.now.at ≤ at }
+        ensures { result.now ≡ drop (at - self.now.at) self.now.bytes }
+    {
+        let passed = self.bytes.len().min((at - self.at) as usize);
+        let (_, rest) = self.bytes.as_slice().split_at(passed);
+        rest
     }
 
     /// Puts copies of two lists of bytes at the end, both or none.

@@ -1,5 +1,5 @@
 //! Runs in ascending order, with an address without a byte between each two.
-ghost use Rattle.std.specs.Prelude.{◌≡◌, ◌+◌, ◌^◌, ◌<◌, ◌≤◌, ◌↔◌, [], take, drop, length, slice_get, IfOk, OnOk, OnErr, IfNone, IfSome, IsTrue, Some};
+ghost use Rattle.std.specs.Prelude.{◌≡◌, ◌+◌, ◌^◌, ◌<◌, ◌≤◌, ◌↔◌, ℕ, [], take, drop, length, slice_get, IfOk, OnOk, OnErr, IfNone, IfSome, IsTrue, None, Some};
 ghost use Rattle.m88_base.specs.Found.{IsFree, IsLeastTaken, IsPart};
 ghost use Rattle.m88_base.specs.Placed.{AreApart, byte_among};
 ghost use Rattle.m88_base.specs.Placing.{BeginsAt, IsCut, Places, next_start};
@@ -73,6 +73,20 @@ impl Segments {
         run.byte(at)
     }
 
+    /// The bytes from an address on, up to the first address without one.
+    pub fn rest(&self, at: u32) -> &[u8]
+        ensures there { (k : ℕ) → k < length result.now
+            → byte_among self.now (at + k) ≡ slice_get result.now k }
+        ensures end { byte_among self.now (at + length result.now) ≡ None }
+    {
+        let index = self.runs.locate(at);
+        if index == 0 {
+            return &[];
+        }
+        let run = self.runs.get(index - 1);
+        run.bytes_from(at)
+    }
+
     /// The number of runs that begin at or below an address.
     pub fn locate(&self, at: u32) -> usize
         ensures { IsCut self.now result at }
@@ -87,6 +101,7 @@ impl Segments {
         requires some { 0 < count }
         requires fits { at + count ≤ 2 ^ 32 }
         ensures taken { IfSome result (λ a. IsLeastTaken (byte_among self.now) at count a) }
+        ensures free { IfNone result (IsFree (byte_among self.now) at count) }
         ensures free_above { IfNone result (next_start 0 (take index self.now) ≤ at + 1) }
         ensures free_below { IfNone result (AreApart (at + count) (drop index self.now)) }
     {
