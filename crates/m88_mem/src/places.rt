@@ -16,13 +16,12 @@ pub(crate) fn fetched(image: &Image, addr: u32) -> Option<u32>
     ensures { option_map (λ word. to_be_bytes w32 word) result
         ≡ four_bytes (byte_at image.now) addr }
 {
-    let bytes = [
-        image.byte(addr)?,
-        image.byte(addr + 1)?,
-        image.byte(addr + 2)?,
-        image.byte(addr + 3)?,
-    ];
-    Some(BigEndian::read_u32(&bytes))
+    match image.rest(addr) {
+        [first, second, third, fourth, ..] => {
+            Some(BigEndian::read_u32(&[*first, *second, *third, *fourth]))
+        }
+        _ => None,
+    }
 }
 
 /// The word at an address, with zeros for the bytes that are missing.
@@ -30,13 +29,17 @@ pub(crate) fn image_word(image: &Image, addr: u32) -> u32
     requires { addr % 4 ≡ 0 }
     ensures { result ≡ image_bus image.now addr }
 {
-    let bytes = [
-        byte_or_zero(image, addr),
-        byte_or_zero(image, addr + 1),
-        byte_or_zero(image, addr + 2),
-        byte_or_zero(image, addr + 3),
-    ];
-    BigEndian::read_u32(&bytes)
+    match image.rest(addr) {
+        [first, second, third, fourth, ..] => {
+            BigEndian::read_u32(&[*first, *second, *third, *fourth])
+        }
+        _ => BigEndian::read_u32(&[
+            byte_or_zero(image, addr),
+            byte_or_zero(image, addr + 1),
+            byte_or_zero(image, addr + 2),
+            byte_or_zero(image, addr + 3),
+        ]),
+    }
 }
 
 /// The byte at an address, or 0 where there is none.
