@@ -48,13 +48,14 @@ lengthened xs (suc i) at bytes run h l is above below =
 
 pub begun_earlier : (xs : List Placed) (i at : ℕ) (bytes : List ℕ) (next : Placed) → AreApart 0 xs → next ≡ get_or xs i next → next_start 0 (take i xs) ≤ at
     → BeginsAt (drop i xs) (at + length bytes) → 0 < length bytes
-    → Places xs (set xs i (record { at = at; bytes = bytes ++ (next.bytes ++ []) })) at bytes
+    → Places xs (set xs i (record { at = next.at - length bytes; bytes = bytes ++ next.bytes })) at bytes
 begun_earlier xs i at bytes next h is above below some =
     let l : i < length xs = begins_within xs i (at + length bytes) below in
     let cut : xs ≡ take i xs ++ next ∷ drop (suc i) xs = rw (← is) at (cut_at xs i next l) in
     let touch : at + length bytes ≡ next.at = sym (begins_next xs i (at + length bytes) next is below) in
+    let begin : next.at - length bytes ≡ at = omega (arith, touch) in
     let placed = places_ahead (take i xs) (drop (suc i) xs) at next.at bytes next.bytes touch above some (rw cut at h) in
-    rw (append-nil, set_split xs i (record { at = at; bytes = bytes ++ next.bytes }) l) (rw (← cut) at placed)
+    rw (begin, set_split xs i (record { at = at; bytes = bytes ++ next.bytes }) l) (rw (← cut) at placed)
 
 drop_past : (xs ys : List Placed) (x : Placed) → drop (suc (length xs)) (xs ++ x ∷ ys) ≡ ys
 drop_past [] ys x = refl

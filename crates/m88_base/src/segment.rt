@@ -1,25 +1,28 @@
 //! A run of bytes at consecutive addresses.
-ghost use Rattle.std.specs.Prelude.{◌≡◌, ◌+◌, ◌-◌, ◌^◌, ◌≤◌, ◌++◌, [], drop, length, slice_get, IfOk, OnOk, OnErr};
+ghost use Rattle.std.specs.Prelude.{◌≡◌, ◌+◌, ◌-◌, ◌^◌, ◌≤◌, ◌++◌, [], drop, length, replicate, slice_get, IfOk, OnOk, OnErr};
 
 use std::alloc::{AllocError, Global};
 use std::marker::Model;
 
-/// Bytes at consecutive addresses, none past 0xFFFFFFFF.
+/// Bytes at consecutive addresses, none past 0xFFFFFFFF. Ahead of them may be room for more, so that bytes which come
+/// in descending order of their addresses are moved few times.
 #[derive(Drop, Debug)]
 pub struct Segment {
     at: u32,
-    bytes: Vec<u8>,
+    room: usize,
+    kept: Vec<u8>,
 }
 
 impl Model for Segment {
-    ghost use Rattle.std.specs.Prelude.{◌+◌, ◌^◌, ◌≤◌, vec_len};
+    ghost use Rattle.std.specs.Prelude.{◌+◌, ◌^◌, ◌≤◌, drop, length};
     ghost use Rattle.m88_base.specs.Placed.{Placed};
 
     ghost Value = { Placed };
 
-    ghost view = { λ run. record { at = run.at; bytes = run.bytes.items } };
+    ghost view = { λ run. record { at = run.at; bytes = drop run.room run.kept.items } };
 
-    ghost invariant = { λ run. run.at + vec_len run.bytes ≤ 2 ^ 32 };
+    ghost invariant = { λ run. (run.room ≤ length run.kept.items)
+        × (run.at + length (drop run.room run.kept.items) ≤ 2 ^ 32) };
 }
 
 impl Segment {
@@ -28,8 +31,8 @@ impl Segment {
         requires { at + length bytes.now ≤ 2 ^ 32 }
         ensures { IfOk result (λ run. run ≡ record { at = at; bytes = bytes.now }) }
     {
-        let bytes = Vec::from_slice(alloc, bytes)?;
-        Ok(Segment { at, bytes })
+        let kept = Vec::from_slice(alloc, bytes)?;
+        Ok(Segment { at, room: 0, kept })
     }
 
     /// The same run with bytes of its own.
@@ -45,7 +48,8 @@ impl Segment {
     {
         Segment {
             at: 0,
-            bytes: Vec::new(alloc),
+            room: 0,
+            kept: Vec::new(alloc),
         }
     }
 
@@ -61,7 +65,8 @@ impl Segment {
         ensures value { result.now ≡ self.now.bytes }
         ensures fits { self.now.at + length self.now.bytes ≤ 2 ^ 32 }
     {
-        self.bytes.as_slice()
+        let (_, bytes) = self.kept.as_slice().split_at(self.room);
+        bytes
     }
 
     /// The address just after the last byte.
@@ -69,7 +74,7 @@ impl Segment {
         ensures value { result ≡ self.now.at + length self.now.bytes }
         ensures bound { result ≤ 2 ^ 32 }
     {
-        u64::from(self.at) + self.bytes.len() as u64
+        u64::from(self.at) + self.bytes().len() as u64
     }
 
     /// The byte at an address that does not lie below the run, where there is one.
@@ -77,7 +82,7 @@ impl Segment {
         requires { self.now.at ≤ at }
         ensures { result ≡ slice_get self.now.bytes (at - self.now.at) }
     {
-        self.bytes.get((at - self.at) as usize).copied()
+        self.bytes().get((at - self.at) as usize).copied()
     }
 
     /// The bytes from an address on that does not lie below the run, none where it lies behind it.
@@ -85,8 +90,8 @@ impl Segment {
         requires { self.now.at ≤ at }
         ensures { result.now ≡ drop (at - self.now.at) self.now.bytes }
     {
-        let passed = self.bytes.len().min((at - self.at) as usize);
-        let (_, rest) = self.bytes.as_slice().split_at(passed);
+        let bytes = self.bytes();
+        let (_, rest) = bytes.split_at(bytes.len().min((at - self.at) as usize));
         rest
     }
 
@@ -98,13 +103,51 @@ impl Segment {
             ≡ record self.old { bytes = self.old.bytes ++ (first.now ++ second.now) }) }
         ensures err { OnErr result (self.new ≡ self.old) }
     {
-        self.bytes.reserve(first.len() + second.len())?;
-        if self.bytes.extend_from_slice(first).is_err() {
+        self.kept.reserve(first.len() + second.len())?;
+        if self.kept.extend_from_slice(first).is_err() {
             unreachable!();
         }
-        if self.bytes.extend_from_slice(second).is_err() {
+        if self.kept.extend_from_slice(second).is_err() {
             unreachable!();
         }
         Ok(())
     }
+
+    /// Puts copies of bytes ahead of the others.
+    pub fn prepend(&mut self, alloc: Global, bytes: &[u8]) -> Result<(), AllocError>
+        requires { length bytes.now ≤ self.old.at }
+        ensures ok { OnOk result (self.new ≡ record {
+          at = self.old.at - length bytes.now;
+          bytes = bytes.now ++ self.old.bytes;
+        }) }
+        ensures err { OnErr result (self.new ≡ self.old) }
+    {
+        if self.room < bytes.len() {
+            let room = bytes.len() + self.bytes().len();
+            self.kept = behind_room(alloc, room, bytes, self.bytes())?;
+            self.room = room;
+            self.at -= bytes.len() as u32;
+            return Ok(());
+        }
+        let room = self.room - bytes.len();
+        self.kept[room..self.room].copy_from_slice(bytes);
+        self.room = room;
+        self.at -= bytes.len() as u32;
+        Ok(())
+    }
+}
+
+/// Copies of two lists of bytes behind room for so many others.
+fn behind_room(
+    alloc: Global,
+    room: usize,
+    first: &[u8],
+    second: &[u8],
+) -> Result<Vec<u8>, AllocError>
+    ensures { IfOk result (λ kept. kept.items ≡ replicate room 0 ++ (first.now ++ second.now)) }
+{
+    let mut kept = vec![in alloc; 0u8; room]?;
+    kept.extend_from_slice(first)?;
+    kept.extend_from_slice(second)?;
+    Ok(kept)
 }

@@ -212,11 +212,17 @@ impl Segments {
         ensures ok { OnOk result (Places self.old self.new at bytes.now) }
         ensures err { OnErr result (self.new ≡ self.old) }
     {
-        let next = self.runs.get(index);
-        let mut run = Segment::new(alloc, at, bytes)?;
-        run.append(next.bytes(), &[])?;
-        let _ = self.runs.replace(index, run);
-        Ok(())
+        let mut run = self.runs.replace(index, Segment::empty(alloc));
+        match run.prepend(alloc, bytes) {
+            Ok(()) => {
+                let _ = self.runs.replace(index, run);
+                Ok(())
+            }
+            Err(fault) => {
+                let _ = self.runs.replace(index, run);
+                Err(fault)
+            }
+        }
     }
 
     /// Places bytes that fill the gap between the run below `index` and the one at it.

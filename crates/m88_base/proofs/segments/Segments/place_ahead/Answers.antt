@@ -1,33 +1,29 @@
-use Rattle.std.proofs.Common.{arith}
-use Rattle.std.proofs.lemmas.Grind.{common_steps}
+use Rattle.std.proofs.Common.{◌≡◌}
 use Rattle.m88_base.specs.Placing.{Places}
-use Rattle.m88_base.proofs.Edits.{begun_earlier}
-use Rattle.m88_base.proofs.segments.Segments.place_ahead.Goals.{After-replace}
+use Rattle.m88_base.proofs.InBlocks.{put_back}
+use Rattle.m88_base.proofs.Edits.{begun_earlier, set_again}
+use Rattle.m88_base.proofs.segments.Segments.place_ahead.Goals.{After-replace, After-replace-in-Err}
 use Rattle.m88_base.proofs.segments.Segments.place_ahead.Goals as goal
 
 placed : (c : After-replace) → Places c.self.inside.runs c.replace.new.self c.args.at c.args.bytes.now
 placed c =
-    rw (c.replace.ensures.now, c.in_ok-append.ensures.ok, c.in_ok-run.ensures, c.bytes.ensures.value)
-    (begun_earlier c.self.inside.runs c.args.index c.args.at c.args.bytes.now c.get-next.result.now c.self.invariant c.get-next.ensures
+    rw (c.replace.ensures.now, c.replace-run.ensures.now, set_again, c.in-Ok.ensures.ok)
+    (begun_earlier c.self.inside.runs c.args.index c.args.at c.args.bytes.now c.replace-run.result c.self.invariant c.replace-run.ensures.was
     (rw (← c.self.view_is) at c.requires.above) (rw (← c.self.view_is) at c.requires.below) c.requires.some)
+
+restored : (c : After-replace-in-Err) → c.replace-in-Err.new.self ≡ c.self.inside.runs
+restored c =
+    rw (c.replace-in-Err.ensures.now, c.replace-run.ensures.now, set_again, c.in-Err.ensures.err)
+    (put_back c.self.inside.runs _ c.replace-run.result c.replace-run.ensures.was)
 
 pub invariant_of-self : goal.invariant_of-self
 invariant_of-self c = (placed ((goal.at.invariant_of-self c).After-replace)).apart
 
-pub returns-clause-ok : goal.returns-clause-ok
-returns-clause-ok c = rw (← c.self.view_is) (placed ((goal.at.returns-clause-ok c).After-replace))
+pub invariant_of-self-in-Err : goal.invariant_of-self-in-Err
+invariant_of-self-in-Err c = rw (restored ((goal.at.invariant_of-self-in-Err c).After-replace-in-Err)) c.self.invariant
 
-pub returns-in_err-run-clause-ok : goal.returns-in_err-run-clause-ok
-returns-in_err-run-clause-ok c = grind (arith, common_steps)
+pub returns-in-Ok-clause-ok : goal.returns-in-Ok-clause-ok
+returns-in-Ok-clause-ok c = rw (← c.self.view_is) (placed ((goal.at.returns-in-Ok-clause-ok c).After-replace))
 
-pub returns-in_err-run-clause-err : goal.returns-in_err-run-clause-err
-returns-in_err-run-clause-err c = grind (arith, common_steps)
-
-pub returns-in_err-append-clause-ok : goal.returns-in_err-append-clause-ok
-returns-in_err-append-clause-ok c = grind (arith, common_steps)
-
-pub returns-in_err-append-clause-err : goal.returns-in_err-append-clause-err
-returns-in_err-append-clause-err c = grind (arith, common_steps)
-
-pub returns-clause-err : goal.returns-clause-err
-returns-clause-err c = grind (arith, common_steps)
+pub returns-in-Err-clause-err : goal.returns-in-Err-clause-err
+returns-in-Err-clause-err c = rw (← c.self.view_is) (restored ((goal.at.returns-in-Err-clause-err c).After-replace-in-Err))
