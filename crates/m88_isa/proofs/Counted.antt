@@ -1,6 +1,6 @@
 -- An instruction makes at most two transactions.
-use Rattle.std.specs.Prelude.{ℕ, zero, suc, List, [], ◌∷◌, ◌≤◌, ◌*◌, ◌≡◌, length, map}
-use Rattle.std.proofs.Common.{arith, length-append, refl, ap}
+use Rattle.std.specs.Prelude.{ℕ, zero, suc, ◌≤◌, ◌*◌, length}
+use Rattle.std.proofs.Common.{arith, length-append}
 use Rattle.std.proofs.lemmas.List.{length-map}
 use Rattle.m88_isa.proofs.Turns.{TurnFits, turn_fits}
 use Rattle.m88_isa.specs.History.{transaction_count, transactions, turn_accesses}
