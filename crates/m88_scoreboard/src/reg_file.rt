@@ -1,4 +1,4 @@
-//! The registers with their waiting marks.
+//! The registers with the word of those that wait.
 #![tactic(auto, unfolding(crate::specs::Registers::waiting_of))]
 
 ghost use Rattle.std.specs.Prelude.{◌≡◌, ◌<◌, ◌↔◌, ℕ, true, false, replicate, slice_index, IsErr, IsTrue, IfOk};
@@ -10,11 +10,11 @@ use crate::busy::Busy;
 use m88_base::Reg;
 use std::marker::Model;
 
-/// The 32 general registers and the set of those that wait for a load. r0 is 0 and never waits.
+/// The 32 general registers and the set of those that wait for a load, a bit for each. r0 is 0 and never waits.
 #[derive(Drop, Debug)]
 pub struct RegFile {
     numbers: [u32; 32],
-    waits: [bool; 32],
+    waits: u32,
 }
 
 impl Model for RegFile {
@@ -35,7 +35,7 @@ impl RegFile {
     {
         RegFile {
             numbers: [0; 32],
-            waits: [false; 32],
+            waits: 0,
         }
     }
 
@@ -47,7 +47,7 @@ impl RegFile {
     {
         RegFile {
             numbers: values,
-            waits: [false; 32],
+            waits: 0,
         }
     }
 
@@ -58,11 +58,19 @@ impl RegFile {
         ensures zero { number_of r ≡ 0 → IfOk result (λ value. value ≡ 0) }
         ensures zero_ready { number_of r ≡ 0 → waiting_of self.now 0 ≡ false }
     {
-        if self.waits[r.index()] {
+        if self.waits(r.index()) {
             Err(Busy)
         } else {
             Ok(self.numbers[r.index()])
         }
+    }
+
+    /// Whether a register waits, by its number.
+    fn waits(&self, r: usize) -> bool
+        requires { r < 32 }
+        ensures { result ≡ waiting_of self.now r }
+    {
+        (self.waits >> r) % 2 == 1
     }
 
     /// The values of all registers. One that waits shows 0.
@@ -73,7 +81,7 @@ impl RegFile {
     {
         let mut values = self.numbers;
         for r in 0..32 {
-            if self.waits[r] {
+            if self.waits(r) {
                 values[r] = 0;
             }
         }
@@ -98,7 +106,7 @@ impl RegFile {
             ≡ with_member (number_of r) true (waiting_of self.old) }
     {
         if r != Reg::ZERO {
-            self.waits[r.index()] = true;
+            self.waits |= 1 << r.number();
         }
     }
 
@@ -108,7 +116,7 @@ impl RegFile {
         ensures waiting { waiting_of self.new
             ≡ with_member (number_of r) false (waiting_of self.old) }
     {
-        self.waits[r.index()] = false;
+        self.waits &= !(1 << r.number());
     }
 
     /// The set of the registers that wait, a bit for each.
@@ -116,13 +124,7 @@ impl RegFile {
         ensures value { result ≡ register_bits (waiting_of self.now) }
         ensures back { registers_in result ≡ waiting_of self.now }
     {
-        let mut bits = 0;
-        for r in 0..32 {
-            if self.waits[r] {
-                bits += 1 << r;
-            }
-        }
-        bits
+        self.waits
     }
 
     /// Makes the registers wait that a set has, and no others. Bit 0 of the set counts for nothing.
@@ -130,8 +132,6 @@ impl RegFile {
         ensures numbers { self.new.numbers ≡ self.old.numbers }
         ensures waiting { waiting_of self.new ≡ registers_in bits }
     {
-        for r in 1..32 {
-            self.waits[r] = (bits >> r) % 2 == 1;
-        }
+        self.waits = bits / 2 * 2;
     }
 }
