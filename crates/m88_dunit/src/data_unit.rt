@@ -1,38 +1,39 @@
 //! The stages of the data unit.
-ghost use Rattle.std.specs.Prelude.{◌≡◌, ◌+◌, ◌<◌, ◌↔◌, ◌++◌, [], drop, length, slice_get, IfSome, IsErr, OnErr, OnOk};
+ghost use Rattle.std.specs.Prelude.{◌≡◌, ◌+◌, ◌<◌, ◌↔◌, ◌++◌, [], ◌∷◌, drop, length, slice_get, IfSome, IsErr, OnErr, OnOk};
 ghost use Rattle.m88_base.specs.RegisterSet.{register_bits};
 ghost use Rattle.m88_isa.specs.Bus.{listed, waits_for};
 ghost use Rattle.m88_isa.specs.Held.{most_pending};
 ghost use Rattle.m88_isa.specs.Memory.{IsWordAccess};
-ghost use Rattle.m88_isa.specs.Triples.{accesses_in, triples_of};
+ghost use Rattle.m88_isa.specs.Triples.{accesses_in, triple_or_none, triples_of};
 ghost use Rattle.m88_dunit.specs.Pending.{ArePending, CanIssue};
 
 use crate::full::Full;
-use crate::words::{loaded_set, triple_or_none};
+use crate::stage::Stage;
+use crate::words::loaded_set;
 use arrayvec::ArrayVec;
-use m88_base::Triple;
-use m88_isa::{Access, Accesses};
+use m88_base::{NO_TRIPLE, Triple};
+use m88_isa::{Access, Accesses, access_in, triple_of};
 use std::marker::Model;
 
 /// The most transactions that may be pending.
 pub const MOST_PENDING: usize = 3;
 
-/// The transactions that are pending, at most three, the oldest first.
+/// The transactions that are pending, at most three, the oldest first, each by its words.
 #[derive(Drop, Debug)]
 pub struct DataUnit {
-    stages: ArrayVec<Access, MOST_PENDING>,
+    stages: ArrayVec<Stage, MOST_PENDING>,
 }
 
 impl Model for DataUnit {
     ghost use Rattle.std.specs.Prelude.{List};
     ghost use Rattle.m88_isa.specs.declared.planned.Access.{Access};
-    ghost use Rattle.m88_dunit.specs.Pending.{ArePending};
+    ghost use Rattle.m88_dunit.specs.Pending.{AreStages, staged};
 
     ghost Value = { List Access };
 
-    ghost view = { λ unit. unit.stages.items };
+    ghost view = { λ unit. staged unit.stages.items };
 
-    ghost invariant = { λ unit. ArePending unit.stages.items };
+    ghost invariant = { λ unit. AreStages unit.stages.items };
 }
 
 impl DataUnit {
@@ -57,17 +58,16 @@ impl DataUnit {
         ensures value { result ≡ slice_get self.now 0 }
         ensures made { IfSome result IsWordAccess }
     {
-        self.stages.as_slice().first().copied()
+        self.stage(0)
     }
 
     /// The registers other than r0 that the pending transactions load, a bit for each.
     pub fn pending_regs(&self) -> u32
         ensures { result ≡ register_bits (waits_for self.now) }
     {
-        let stages = self.stages();
-        let first = loaded_set(stage(stages, 0));
-        let second = loaded_set(stage(stages, 1));
-        let third = loaded_set(stage(stages, 2));
+        let first = loaded_set(self.stage(0));
+        let second = loaded_set(self.stage(1));
+        let third = loaded_set(self.stage(2));
         first | (second | third)
     }
 
@@ -84,12 +84,12 @@ impl DataUnit {
         match accesses.count {
             0 => Ok(()),
             1 => {
-                self.stages.push(accesses.first);
+                self.put(&accesses.first);
                 Ok(())
             }
             _ => {
-                self.stages.push(accesses.first);
-                self.stages.push(accesses.second);
+                self.put(&accesses.first);
+                self.put(&accesses.second);
                 Ok(())
             }
         }
@@ -109,12 +109,7 @@ impl DataUnit {
         ensures value { result ≡ triples_of self.now }
         ensures told { accesses_in result ≡ self.now }
     {
-        let stages = self.stages();
-        [
-            triple_or_none(stage(stages, 0)),
-            triple_or_none(stage(stages, 1)),
-            triple_or_none(stage(stages, 2)),
-        ]
+        [self.words(0), self.words(1), self.words(2)]
     }
 
     /// Hands the words of the pending transactions on, and nothing is pending any more.
@@ -128,18 +123,36 @@ impl DataUnit {
         triples
     }
 
-    /// The pending transactions, the oldest first.
-    fn stages(&self) -> &[Access]
-        ensures value { result.now ≡ self.now }
+    /// A transaction by its place, 0 the oldest.
+    fn stage(&self, place: usize) -> Option<Access>
+        ensures value { result ≡ slice_get self.now place }
+        ensures made { IfSome result IsWordAccess }
         ensures pending { ArePending self.now }
     {
-        self.stages.as_slice()
+        match self.stages.as_slice().get(place) {
+            Some(stage) => Some(access_in(&stage.words)),
+            None => None,
+        }
     }
-}
 
-/// A transaction by its place, 0 the oldest.
-fn stage(stages: &[Access], place: usize) -> Option<Access>
-    ensures { result ≡ slice_get stages.now place }
-{
-    stages.get(place).copied()
+    /// The words of a transaction by its place, and 0 where there is none.
+    fn words(&self, place: usize) -> Triple
+        ensures value { result ≡ triple_or_none (slice_get self.now place) }
+        ensures pending { ArePending self.now }
+    {
+        match self.stages.as_slice().get(place) {
+            Some(stage) => stage.words,
+            None => NO_TRIPLE,
+        }
+    }
+
+    /// Appends one access.
+    fn put(&mut self, access: &Access)
+        requires made { IsWordAccess access.now }
+        requires room { length self.old < most_pending }
+        ensures { self.new ≡ self.old ++ access.now ∷ [] }
+    {
+        let words = triple_of(access);
+        self.stages.push(Stage { words });
+    }
 }

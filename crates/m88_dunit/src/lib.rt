@@ -3,9 +3,12 @@
 
 mod data_unit;
 mod full;
+mod stage;
 #[cfg(test)]
 mod tests;
 mod words;
 
 pub use data_unit::{DataUnit, MOST_PENDING};
 pub use full::Full;
+pub use m88_isa::triple_of;
+pub use words::access_of;

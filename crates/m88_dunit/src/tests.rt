@@ -3,7 +3,7 @@ ghost use Rattle.std.specs.Prelude.{◌≡◌, ◌%◌};
 ghost use Rattle.m88_isa.specs.Memory.{IsWordAccess};
 ghost use Rattle.m88_dunit.specs.Pending.{CanIssue};
 
-use crate::{DataUnit, Full};
+use crate::{DataUnit, Full, access_of, triple_of};
 use m88_base::{NO_TRIPLE, Reg, Triple};
 use m88_isa::{Access, Accesses};
 
@@ -162,4 +162,72 @@ fn words_of_an_exchange(rt: HostRuntime) {
             NO_TRIPLE,
         ]
     );
+}
+
+/// The words of worked programs with the accesses that they tell: three loads, both halves of a double, and an
+/// exchange.
+#[test]
+fn accesses_of_words(rt: HostRuntime) {
+    let rows = [
+        ((0x13D, 0, 0x5000), load(2, 0x5000)),
+        ((0x1BD, 0, 0x6000), load(3, 0x6000)),
+        ((0x23D, 0, 0x7000), load(4, 0x7000)),
+        (
+            (0x2FBD, 0, 0x2000),
+            Access {
+                doub1: true,
+                ..load(31, 0x2000)
+            },
+        ),
+        ((0x3D, 0, 0x2004), load(0, 0x2004)),
+        (
+            (0x113D, 0, 0x5000),
+            Access {
+                lock: true,
+                ..load(2, 0x5000)
+            },
+        ),
+        (
+            (0x103F, 5, 0x5000),
+            Access {
+                lock: true,
+                ..store(5, 0x5000)
+            },
+        ),
+    ];
+    for ((dmt, dmd, dma), access) in rows {
+        let words = Triple { dmt, dmd, dma };
+        assert_eq!(rt; access_of(&words), Some(access));
+        assert_eq!(rt; triple_of(&access), words);
+    }
+}
+
+/// Words that no access has, each with one bad field in the words of a load or of a store.
+#[test]
+fn words_without_an_access(rt: HostRuntime) {
+    let rows = [
+        // VALID
+        (0x13C, 0, 0x5000),
+        (0, 0, 0),
+        // BO, DAS, and a bit above them
+        (0x813D, 0, 0x5000),
+        (0x413D, 0, 0x5000),
+        (0x1_013D, 0, 0x5000),
+        // no bytes, bytes apart, three bytes, the two in the middle
+        (0x101, 0, 0x5000),
+        (0x129, 0, 0x5000),
+        (0x13D - 0x20, 0, 0x5000),
+        (0x119, 0, 0x5000),
+        // a load with a value
+        (0x13D, 1, 0x5000),
+        // an address inside a word
+        (0x13D, 0, 0x5002),
+        (0x3F, 7, 0x5001),
+        // a store with a register, and one with a sign
+        (0xBF, 7, 0x5000),
+        (0x7F, 7, 0x5000),
+    ];
+    for (dmt, dmd, dma) in rows {
+        assert_eq!(rt; access_of(&Triple { dmt, dmd, dma }), None);
+    }
 }

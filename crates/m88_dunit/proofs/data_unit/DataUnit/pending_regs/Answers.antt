@@ -11,5 +11,5 @@ returns c =
     let places : bit_or (loaded_set (slice_get c.args.self.now 0))
     (bit_or (loaded_set (slice_get c.args.self.now 1)) (loaded_set (slice_get c.args.self.now 2)))
     ≡ register_bits (waits_for c.args.self.now) =
-    loads_by_place c.args.self.now c.stages-stages.ensures.pending in
+    loads_by_place c.args.self.now c.stage.ensures.pending in
     cc

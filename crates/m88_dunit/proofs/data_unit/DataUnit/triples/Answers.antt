@@ -8,4 +8,4 @@ pub returns-clause-value : goal.returns-clause-value
 returns-clause-value c = cc
 
 pub returns-clause-told : goal.returns-clause-told
-returns-clause-told c = ap accesses_in (returns-clause-value c) ∙ told_all c.args.self.now c.stages-stages.ensures.pending
+returns-clause-told c = ap accesses_in (returns-clause-value c) ∙ told_all c.args.self.now c.words.ensures.pending
