@@ -1,3 +1,6 @@
--- What only helps the proofs: words by their places, then the walk over those that changed.
-pub mod Pages
+-- What only helps the proofs: the frames behind two levels of tables, then words by their places and the bits of pages,
+-- then how both are seen, then the walk over the words that changed.
+pub mod Levels
+pub mod Words
+pub mod Seen
 pub mod Walk

@@ -1,20 +1,18 @@
 -- Memory over two buses ("Data Unit"; "Instruction Unit"): the instruction bus fetches the image as it was linked, and
 -- the data bus starts with the same bytes and zeros elsewhere. Pages and their absence are for the data bus alone.
-use Rattle.std.specs.Prelude.{ℕ, Bool, false, ◌≡◌, ◌/◌, List, true, unwrap_or, is_some, length, slice_index_or}
-use Rattle.std.specs.BTreeMap.{is_at}
-use Rattle.std.specs.Map.{lookup}
-use Rattle.std.specs.Ordering.{nat_cmp}
+use Rattle.std.specs.Prelude.{ℕ, Bool, false, ◌/◌, ◌%◌, List, Option, Some, None, is_some, slice_get, slice_index_or, unwrap_or}
 use Rattle.m88_base.specs.Image.{ProgramImage, byte_at}
-use Rattle.m88_base.specs.Pages.{page_count, page_number}
+use Rattle.m88_base.specs.Pages.{page_number}
 use Rattle.m88_isa.specs.Bus.{in_words}
 
--- the image, the words that have a place of their own, each by its address / 4, and a mark for each page: it is ready,
--- it is absent. Where memory is refused while a page is made ready, some of its words may have got places, each with
--- the value that it had: no word of the data bus changes.
+-- how many words a page has
+abbrev pub page_words : ℕ
+page_words = 1024
+
+-- the image, and by the numbers of the pages: the words of a page where it is ready, and whether it is absent
 pub record MemoryView : Type 0 where
   pub image : ProgramImage
-  pub words : List (ℕ × ℕ)
-  pub ready : List Bool
+  pub pages : List (Option (List ℕ))
   pub absent : List Bool
 
 -- the bytes of an image, and 0 where it has none
@@ -25,24 +23,20 @@ image_bytes image a = unwrap_or (byte_at image a) 0
 abbrev pub image_bus : ProgramImage → ℕ → ℕ
 image_bus image = in_words (image_bytes image)
 
+-- a word of a page by its place, where the page is ready
+abbrev pub word_of : Option (List ℕ) → ℕ → Option ℕ
+word_of None place = None
+word_of (Some words) place = slice_get words place
+
 -- the data bus: at each address the word that the address lies in
 unfoldable pub bus_of : MemoryView → ℕ → ℕ
-bus_of m a = unwrap_or (lookup (is_at (nat_cmp (a / 4))) m.words) (image_bus m.image a)
+bus_of m a =
+    unwrap_or (word_of (slice_index_or m.pages (page_number a) None) (a / 4 % page_words)) (image_bus m.image a)
 
 -- a page is ready: no store to it needs memory
 unfoldable pub ready_of : MemoryView → ℕ → Bool
-ready_of m page = slice_index_or m.ready page false
+ready_of m page = is_some (slice_index_or m.pages page None)
 
 -- a page is absent for the data bus
 unfoldable pub absent_of : MemoryView → ℕ → Bool
 absent_of m page = slice_index_or m.absent page false
-
--- the word of an address has a place of its own
-unfoldable pub has_place : MemoryView → ℕ → Bool
-has_place m a = is_some (lookup (is_at (nat_cmp (a / 4))) m.words)
-
--- what holds of every memory: there is a mark for each page, and each word of a ready page has a place
-pub record IsMemory (m : MemoryView) : Type 0 where
-  pub ready : length m.ready ≡ page_count
-  pub absent : length m.absent ≡ page_count
-  pub places : (a : ℕ) → ready_of m (page_number a) ≡ true → has_place m a ≡ true

@@ -3,6 +3,7 @@
 #![tactic(auto)]
 
 mod absent_page;
+mod frames;
 mod marks;
 mod memory;
 mod places;

@@ -1,60 +1,52 @@
 //! Memory, as the instruction bus and the data bus see it.
 #![tactic(auto, unfolding(
-// the words of the data bus, and the marks of its pages
+// the words of the data bus, and the pages that are ready and absent
 crate::specs::DataBus::bus_of, crate::specs::DataBus::ready_of, crate::specs::DataBus::absent_of,
-// the places of words, and a word that changes
-crate::specs::DataBus::has_place, m88_isa::specs::Bus::with_word))]
+// a word that changes
+m88_isa::specs::Bus::with_word))]
 
-ghost use Rattle.std.specs.Prelude.{◌≡◌, ◌%◌, ◌^◌, ◌<◌, ◌↔◌, ℕ, true, false, option_map, IfOk, IsErr, IsTrue, OnErr, OnOk};
+ghost use Rattle.std.specs.Prelude.{◌≡◌, ◌++◌, ◌∷◌, [], ◌+◌, ◌*◌, ◌/◌, ◌%◌, ◌<◌, ◌↔◌, ℕ, true, false, Some, length, slice_get, option_map, IfOk, IsErr, IsTrue, OnErr, OnOk};
 ghost use Rattle.std.specs.Int.{to_be_bytes, w32};
 ghost use Rattle.m88_base.specs.Image.{byte_at};
 ghost use Rattle.m88_base.specs.Pages.{IsPage, no_page, page_number};
-ghost use Rattle.m88_isa.specs.Bus.{changed_words, with_word};
+ghost use Rattle.m88_isa.specs.Bus.{changed_among, changed_words, with_word};
 ghost use Rattle.m88_isa.specs.Lanes.{IsEnable, merged};
 ghost use Rattle.m88_isa.specs.Machine.{four_bytes};
-ghost use Rattle.m88_mem.specs.DataBus.{absent_of, bus_of, has_place, image_bus, ready_of};
+ghost use Rattle.m88_mem.specs.DataBus.{absent_of, bus_of, image_bus, page_words, ready_of};
+ghost use Rattle.m88_mem.specs.Frames.{table_entries};
 ghost use Rattle.m88_mem.specs.Marks.{NamesPages, absent_in, with_page};
-ghost use Rattle.m88_mem.specs.Walk.{is_other};
 
 use crate::absent_page::AbsentPage;
-use crate::marks::{absent_marks, marks};
+use crate::frames::{ENTRIES, PageFrame, PageFrames};
+use crate::marks::{absent_marks, clear_mark, is_marked};
 use crate::places::{fetched, image_word};
-use m88_base::{Absent, Image, NoMemory, PAGE_BYTES, PAGE_COUNT};
+use m88_base::{Absent, Image, NoMemory, PAGE_BYTES};
 use m88_isa::merge;
 use std::alloc::Global;
-use std::collections::BTreeMap;
 use std::marker::Model;
 
 /// The words of a page.
 const PAGE_WORDS: u32 = PAGE_BYTES / 4;
 
-/// The image as it was linked, the data bus over it, and the pages that are ready and those that are absent.
+/// The image as it was linked, the data bus over it in a frame for each page that is ready, and a bit for each page,
+/// set where it is absent.
 #[derive(Drop, Debug)]
 pub struct Memory {
+    alloc: Global,
     image: Image,
-    words: BTreeMap<u32, u32>,
-    ready: Vec<bool>,
-    absent: Vec<bool>,
+    frames: PageFrames,
+    absent: Vec<u32>,
 }
 
 impl Model for Memory {
-    ghost use Rattle.m88_mem.specs.DataBus.{IsMemory, MemoryView};
+    ghost use Rattle.m88_mem.specs.DataBus.{MemoryView};
+    ghost use Rattle.m88_mem.specs.Frames.{IsMemory, seen_as};
 
     ghost Value = { MemoryView };
 
-    ghost view = { λ m. record {
-      image = m.image;
-      words = m.words.entries;
-      ready = m.ready.items;
-      absent = m.absent.items;
-    } };
+    ghost view = { λ m. seen_as m.image m.frames m.absent.items };
 
-    ghost invariant = { λ m. IsMemory (record {
-      image = m.image;
-      words = m.words.entries;
-      ready = m.ready.items;
-      absent = m.absent.items;
-    }) };
+    ghost invariant = { λ m. IsMemory m.frames m.absent.items };
 }
 
 impl Memory {
@@ -68,12 +60,12 @@ impl Memory {
         ensures absent { IfOk result (λ m. absent_of m ≡ absent_in absent.now) }
     {
         let image = image.copy(alloc)?;
-        let ready = marks(alloc, PAGE_COUNT, false)?;
+        let frames = PageFrames::new(alloc)?;
         let absent = absent_marks(alloc, absent)?;
         Ok(Memory {
+            alloc,
             image,
-            words: BTreeMap::new(alloc),
-            ready,
+            frames,
             absent,
         })
     }
@@ -93,14 +85,14 @@ impl Memory {
         requires { IsPage page }
         ensures { result ≡ absent_of self.now page }
     {
-        self.absent[page as usize]
+        is_marked(&self.absent, page)
     }
 
     /// Whether the page of a byte address is ready: no store to it needs memory.
     pub fn is_ready(&self, addr: u32) -> bool
         ensures { result ≡ ready_of self.now (page_number addr) }
     {
-        self.ready[(addr / PAGE_BYTES) as usize]
+        self.frames.is_ready(addr / PAGE_BYTES)
     }
 
     /// The word of the data bus at the byte address of a word, whether its page is absent or not.
@@ -108,8 +100,8 @@ impl Memory {
         requires { addr % 4 ≡ 0 }
         ensures { result ≡ bus_of self.now addr }
     {
-        match self.words.get(&(addr / 4)) {
-            Some(word) => *word,
+        match self.frames.word(addr / PAGE_BYTES, place_of(addr)) {
+            Some(word) => word,
             None => image_word(&self.image, addr),
         }
     }
@@ -123,33 +115,16 @@ impl Memory {
         ensures ready { OnOk result
             (ready_of self.new ≡ with_page (page_number addr) true (ready_of self.old)) }
         ensures err { OnErr result (ready_of self.new ≡ ready_of self.old) }
+        ensures unchanged { OnErr result (self.new ≡ self.old) }
     {
-        if self.is_ready(addr) {
+        let page = addr / PAGE_BYTES;
+        if self.frames.is_ready(page) {
             return Ok(());
         }
-        let page = addr / PAGE_BYTES;
-        for place in 0..PAGE_WORDS {
-            self.give_place(page * PAGE_BYTES + place * 4)?;
-        }
-        self.ready[page as usize] = true;
+        let frame = image_frame(self.alloc, &self.image, page)?;
+        self.frames.give_table(self.alloc, page)?;
+        self.frames.set_frame(page, frame);
         Ok(())
-    }
-
-    /// Gives the word at a byte address a place of its own, with the value that it has.
-    fn give_place(&mut self, addr: u32) -> Result<(), NoMemory>
-        requires { addr % 4 ≡ 0 }
-        ensures image { self.new.image ≡ self.old.image }
-        ensures bus { bus_of self.new ≡ bus_of self.old }
-        ensures absent { absent_of self.new ≡ absent_of self.old }
-        ensures ready { ready_of self.new ≡ ready_of self.old }
-        ensures given { OnOk result (has_place self.new addr ≡ true) }
-        ensures kept { (a : ℕ) → has_place self.old a ≡ true → has_place self.new a ≡ true }
-    {
-        let word = self.word(addr);
-        match self.words.insert(addr / 4, word) {
-            Ok(_) => Ok(()),
-            Err(_) => Err(NoMemory),
-        }
     }
 
     /// The word of the data bus at the byte address of a word, or `AbsentPage` where its page is absent.
@@ -196,9 +171,7 @@ impl Memory {
         ensures absent { absent_of self.new ≡ absent_of self.old }
         ensures ready { ready_of self.new ≡ ready_of self.old }
     {
-        if self.words.insert(addr / 4, word).is_err() {
-            unreachable!();
-        }
+        self.frames.put(addr / PAGE_BYTES, place_of(addr), word);
     }
 
     /// A page, by its number, is present from now on.
@@ -209,7 +182,7 @@ impl Memory {
         ensures bus { bus_of self.new ≡ bus_of self.old }
         ensures ready { ready_of self.new ≡ ready_of self.old }
     {
-        self.absent[page as usize] = false;
+        clear_mark(&mut self.absent, page);
     }
 
     /// The words of the data bus that differ from the image's, each with its address, in order of address.
@@ -218,18 +191,76 @@ impl Memory {
             words.items ≡ changed_words (image_bus self.now.image) (bus_of self.now)) }
     {
         let mut changed = vec![in alloc]?;
-        for (place, word) in &self.words {
-            if is_changed(&self.image, *place, *word) {
-                changed.push((4 * *place, *word)).or(Err(NoMemory))?;
+        for high in 0..ENTRIES as u32 {
+            if self.frames.has_table(high * ENTRIES as u32) {
+                self.changed_in_table(high, &mut changed)?;
             }
         }
         Ok(changed)
     }
+
+    /// Appends the words that differ from the image's in the pages of one table.
+    fn changed_in_table(&self, high: u32, changed: &mut Vec<(u32, u32)>) -> Result<(), NoMemory>
+        requires table { high < table_entries }
+        requires before { changed.old.items
+            ≡ changed_among (high * table_entries * page_words) (image_bus self.now.image) (bus_of self.now) }
+        ensures { OnOk result (changed.new.items
+            ≡ changed_among ((high + 1) * table_entries * page_words) (image_bus self.now.image) (bus_of self.now)) }
+    {
+        for low in 0..ENTRIES as u32 {
+            let page = high * ENTRIES as u32 + low;
+            if self.frames.is_ready(page) {
+                self.changed_in_page(page, changed)?;
+            }
+        }
+        Ok(())
+    }
+
+    /// Appends the words of a page that differ from the image's.
+    fn changed_in_page(&self, page: u32, changed: &mut Vec<(u32, u32)>) -> Result<(), NoMemory>
+        requires page { IsPage page }
+        requires before { changed.old.items
+            ≡ changed_among (page * page_words) (image_bus self.now.image) (bus_of self.now) }
+        ensures { OnOk result (changed.new.items
+            ≡ changed_among ((page + 1) * page_words) (image_bus self.now.image) (bus_of self.now)) }
+    {
+        for place in 0..PAGE_WORDS {
+            let addr = page * PAGE_BYTES + place * 4;
+            let word = self.word(addr);
+            if word != image_word(&self.image, addr) {
+                note(changed, addr, word)?;
+            }
+        }
+        Ok(())
+    }
 }
 
-/// Whether the word at a place is there and isn't the image's.
-fn is_changed(image: &Image, place: u32, word: u32) -> bool
-    ensures { result ≡ is_other (2 ^ 30) (image_bus image.now) (place, word) }
+/// Appends a word with its address.
+fn note(changed: &mut Vec<(u32, u32)>, addr: u32, word: u32) -> Result<(), NoMemory>
+    ensures { OnOk result (changed.new.items ≡ changed.old.items ++ (addr, word) ∷ []) }
 {
-    place < 1 << 30 && word != image_word(image, 4 * place)
+    changed.push((addr, word)).or(Err(NoMemory))
+}
+
+/// The place of the word at a byte address among the words of its page.
+fn place_of(addr: u32) -> usize
+    ensures value { result ≡ addr / 4 % page_words }
+    ensures bound { result < page_words }
+{
+    (addr / 4 % PAGE_WORDS) as usize
+}
+
+/// A frame with the words that the image has at a page, and 0 where it has none.
+fn image_frame(alloc: Global, image: &Image, page: u32) -> Result<PageFrame, NoMemory>
+    requires { IsPage page }
+    ensures long { IfOk result (λ f. length f.words.items ≡ page_words) }
+    ensures each { IfOk result (λ f. (k : ℕ) → k < page_words
+        → slice_get f.words.items k ≡ Some (image_bus image.now (page * 4096 + k * 4))) }
+{
+    let mut words = vec![in alloc]?;
+    for place in 0..PAGE_WORDS {
+        let word = image_word(image, page * PAGE_BYTES + place * 4);
+        words.push(word).or(Err(NoMemory))?;
+    }
+    Ok(PageFrame { words })
 }

@@ -1,9 +1,10 @@
--- The words found so far, and behind them those that the rest of the walk finds, are those of the whole walk.
-use Rattle.std.proofs.Common.{◌≡◌, ◌++◌, ◌^◌}
-use Rattle.m88_mem.proofs.Walk.{walk}
-use Rattle.m88_mem.specs.DataBus.{image_bus}
+-- The words of the tables so far.
+use Rattle.std.proofs.Common.{◌≡◌, ◌*◌}
+use Rattle.m88_isa.specs.Bus.{changed_among}
+use Rattle.m88_mem.specs.DataBus.{bus_of, image_bus, page_words}
+use Rattle.m88_mem.specs.Frames.{table_entries}
 use Rattle.m88_mem.proofs.memory.Memory.changed.Given as goal
 
-abbrev pub invariant-loop-place : goal.invariant-loop-place
-invariant-loop-place l =
-    l.changed.items ++ walk (2 ^ 30) (image_bus l.self.image) l.place-iterator ≡ walk (2 ^ 30) (image_bus l.self.image) l.self.words
+abbrev pub invariant-loop-high : goal.invariant-loop-high
+invariant-loop-high l =
+    l.changed.items ≡ changed_among (l.high * table_entries * page_words) (image_bus l.self.image) (bus_of l.self)

@@ -1,0 +1,96 @@
+-- Frames and bits as they are seen: page by page.
+use Rattle.std.proofs.Common.{◌≡◌, ℕ, zero, suc, ◌<◌, ◌≤◌, ◌/◌, ◌%◌, Bool, ◌==◌, true, false, List, Option, Some, None, is_some, unwrap_or, length, slice_index_or, refl, arith, ap, sym, ◌∙◌, inl, inr}
+use Rattle.std.proofs.Math.ListN.{get_or-eq_default}
+use Rattle.std.proofs.Math.Path.{fun_ext}
+use Rattle.std.proofs.lemmas.Bool.{cases_eq, cases_lt}
+use Rattle.std.proofs.lemmas.Bool.Decides.{nat_tests}
+use Rattle.std.proofs.lemmas.Nat.Bits.{bit_at-zero}
+use Rattle.m88_base.specs.Image.{ProgramImage}
+use Rattle.m88_base.specs.Pages.{page_count, page_number}
+use Rattle.m88_mem.proofs.Words.{bus_by}
+use Rattle.m88_mem.specs.DataBus.{absent_of, bus_of, image_bus, page_words, ready_of, word_of}
+use Rattle.m88_mem.specs.Frames.{by_page, frame_at, frame_in, is_marked, mark_words, seen_as, table_entries, tabulated, with_frame, word_at, word_in, words_in}
+use Rattle.m88_mem.specs.Marks.{with_page}
+use Rattle.m88_mem.specs.declared.frames.FrameTable.{FrameTable}
+use Rattle.m88_mem.specs.declared.frames.PageFrame.{PageFrame}
+
+at_tabulated : {X : Type 0} (n : ℕ) (f : ℕ → X) (d : X) (i : ℕ) → i < n → slice_index_or (tabulated n f) i d ≡ f i
+unfolding tabulated
+at_tabulated zero f d i h = absurd (omega arith)
+at_tabulated (suc n) f d zero h = refl
+at_tabulated (suc n) f d (suc i) h = at_tabulated n (λ k. f (suc k)) d i (omega arith)
+
+past_tabulated : {X : Type 0} (n : ℕ) (f : ℕ → X) (d : X) (i : ℕ) → n ≤ i → slice_index_or (tabulated n f) i d ≡ d
+unfolding tabulated
+past_tabulated zero f d i h = refl
+past_tabulated (suc n) f d zero h = absurd (omega arith)
+past_tabulated (suc n) f d (suc i) h = past_tabulated n (λ k. f (suc k)) d i (omega arith)
+
+-- the value of a page, where one that is none has the value that stands for it
+at_page : {X : Type 0} (f : ℕ → X) (d : X) → ((p : ℕ) → page_count ≤ p → f p ≡ d) → (p : ℕ) → slice_index_or (by_page f) p d ≡ f p
+unfolding by_page
+at_page f d past p = elim (cases_lt p page_count) [
+  | inl below ↦ at_tabulated page_count f d p below
+  | inr above ↦ past_tabulated page_count f d p above ∙ sym (past p above)
+]
+
+-- a page is at most the last one
+no_frame_past : (tables : List (Option FrameTable)) → length tables ≡ table_entries → (p : ℕ) → page_count ≤ p → frame_at tables p ≡ None
+unfolding frame_in
+no_frame_past tables long p past =
+    let none : slice_index_or tables (p / table_entries) None ≡ None = get_or-eq_default tables None (omega (arith, long, past)) in
+    rw none refl
+
+no_mark_past : (words : List ℕ) → length words ≡ mark_words → (p : ℕ) → page_count ≤ p → is_marked words p ≡ false
+no_mark_past words long p past =
+    let none : slice_index_or words (p / 32) 0 ≡ 0 = get_or-eq_default words 0 (omega (arith, long, past)) in
+    rw none (ap (λ n. n == 1) (bit_at-zero (p % 32)))
+
+-- the words of a frame
+same_word : (frame : Option PageFrame) (place : ℕ) → word_of (words_in frame) place ≡ word_in frame place
+unfolding word_in
+same_word None place = refl
+same_word (Some frame) place = refl
+
+same_there : (frame : Option PageFrame) → is_some (words_in frame) ≡ is_some frame
+same_there None = refl
+same_there (Some frame) = refl
+
+seen_page : (tables : List (Option FrameTable)) → length tables ≡ table_entries → (p : ℕ) →
+    slice_index_or (by_page (λ page. words_in (frame_at tables page))) p None ≡ words_in (frame_at tables p)
+seen_page tables long p =
+    at_page (λ page. words_in (frame_at tables page)) None (λ q past. ap words_in (no_frame_past tables long q past)) p
+
+-- the data bus, and the pages that are ready and absent
+pub seen_bus : (image : ProgramImage) (tables : List (Option FrameTable)) (words : List ℕ) → length tables ≡ table_entries →
+    bus_of (seen_as image tables words) ≡ bus_by (word_at tables) (image_bus image)
+unfolding bus_of
+seen_bus image tables words long = fun_ext (λ a.
+    ap (λ page. unwrap_or (word_of page (a / 4 % page_words)) (image_bus image a)) (seen_page tables long (page_number a))
+    ∙ ap (λ word. unwrap_or word (image_bus image a)) (same_word (frame_at tables (page_number a)) (a / 4 % page_words)))
+
+pub seen_ready : (image : ProgramImage) (tables : List (Option FrameTable)) (words : List ℕ) → length tables ≡ table_entries →
+    (p : ℕ) → ready_of (seen_as image tables words) p ≡ is_some (frame_at tables p)
+unfolding ready_of
+seen_ready image tables words long p =
+    ap is_some (seen_page tables long p) ∙ same_there (frame_at tables p)
+
+pub seen_absent : (image : ProgramImage) (tables : List (Option FrameTable)) (words : List ℕ) → length words ≡ mark_words →
+    (p : ℕ) → absent_of (seen_as image tables words) p ≡ is_marked words p
+unfolding absent_of
+seen_absent image tables words long p = at_page (is_marked words) false (no_mark_past words long) p
+
+-- a set with a page put in that is in it
+pub still_there : (set : ℕ → Bool) (page : ℕ) → set page ≡ true → (p : ℕ) → set p ≡ with_page page true set p
+still_there set page there p = elim (cases_eq p page) [
+  | inl e ↦ let test : (p == page) ≡ true = grind (arith, nat_tests) in rw test (ap set e ∙ there)
+  | inr ne ↦ let test : (p == page) ≡ false = grind (arith, nat_tests) in rw test refl
+]
+
+-- the pages that are ready once one has a frame
+pub now_ready : (frames : ℕ → Option PageFrame) (page : ℕ) (frame : PageFrame) (set : ℕ → Bool) → ((p : ℕ) → set p ≡ is_some (frames p)) →
+    (p : ℕ) → is_some (with_frame page (Some frame) frames p) ≡ with_page page true set p
+now_ready frames page frame set before p = elim (cases_eq p page) [
+  | inl e ↦ let test : (p == page) ≡ true = grind (arith, nat_tests) in rw test refl
+  | inr ne ↦ let test : (p == page) ≡ false = grind (arith, nat_tests) in rw test (sym (before p))
+]

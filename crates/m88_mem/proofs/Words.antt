@@ -1,0 +1,173 @@
+-- The words of the data bus by frames, and the bits of pages.
+use Rattle.std.proofs.Common.{◌≡◌, ◌≢◌, ℕ, ◌<◌, ◌+◌, ◌*◌, ◌/◌, ◌%◌, ◌^◌, ◌==◌, ◌&&◌, ◌||◌, ◌⊎◌, true, false, List, Option, Some, None, nat_lt, bit_or, bit_and, replicate, is_some, unwrap_or, length, slice_get, slice_index_or, slice_set, if◌then◌else◌, refl, arith, ap, sym, ◌∙◌, inl, inr}
+use Rattle.std.proofs.lemmas.Bool.{cases_eq, cases_lt}
+use Rattle.std.proofs.lemmas.Bool.Decides.{nat_tests}
+use Rattle.std.proofs.lemmas.List.{get_or-set_same, get_or-replicate, get_or-set_other, length-replicate}
+use Rattle.std.proofs.Math.ListN.{get_or-eq_default}
+use Rattle.std.proofs.lemmas.Nat.Bits.{bit_at-zero, bit_at_clear_other, bit_at_clear_same, bit_at_ones, bit_at_set_other, bit_at_set_same}
+use Rattle.std.specs.Int.{bit_at, bit_not, w32}
+use Rattle.m88_base.specs.Image.{ProgramImage}
+use Rattle.m88_isa.specs.Address.{word_address}
+use Rattle.m88_base.specs.Pages.{page_count, page_number}
+use Rattle.m88_isa.specs.Bus.{in_words, with_word}
+use Rattle.m88_isa.specs.Lanes.{number_at}
+use Rattle.m88_mem.proofs.Levels.{not_some}
+use Rattle.m88_mem.specs.DataBus.{image_bus, image_bytes, page_words}
+use Rattle.m88_mem.specs.Frames.{is_marked, mark_words, with_frame, word_in}
+use Rattle.m88_mem.specs.Marks.{with_page}
+use Rattle.m88_mem.specs.declared.frames.PageFrame.{PageFrame}
+
+-- the word of the image is that of each address of the word
+pub same_image_word : (image : ProgramImage) (a b : ℕ) → a / 4 ≡ b / 4 → image_bus image a ≡ image_bus image b
+unfolding in_words
+same_image_word image a b e = ap (λ place. number_at (image_bytes image) (place * 4) 4) e
+
+-- a data bus whose words stand at places of pages, and the image's where a place has none
+abbrev pub bus_by : (ℕ → ℕ → Option ℕ) → (ℕ → ℕ) → ℕ → ℕ
+bus_by words image a = unwrap_or (words (page_number a) (a / 4 % page_words)) (image a)
+
+-- the data bus once a word at a place of a page changes
+pub put_word : (old new : ℕ → ℕ → Option ℕ) (image : ℕ → ℕ) (addr word : ℕ) → addr % 4 ≡ 0 →
+    ((p k : ℕ) → new p k ≡ (if p == page_number addr && k == addr / 4 % page_words then Some word else old p k)) →
+    (a : ℕ) → bus_by new image a ≡ with_word (bus_by old image) addr word a
+unfolding with_word
+put_word old new image addr word place change a = elim (cases_eq (word_address a) addr) [
+  | inl e ↦
+      let page : (page_number a == page_number addr) ≡ true = grind (arith, nat_tests) in
+      let at : (a / 4 % page_words == addr / 4 % page_words) ≡ true = grind (arith, nat_tests) in
+      let same : (word_address a == addr) ≡ true = grind (arith, nat_tests) in
+      rw (change (page_number a) (a / 4 % page_words), page, at, same) refl
+  | inr ne ↦
+      let other : (word_address a == addr) ≡ false = grind (arith, nat_tests) in
+      let apart : (page_number a == page_number addr && a / 4 % page_words == addr / 4 % page_words) ≡ false =
+      not_both (page_number a) (page_number addr) (a / 4 % page_words) (addr / 4 % page_words)
+      (λ p k. ne (omega (arith, p, k, place))) in
+      rw (change (page_number a) (a / 4 % page_words), apart, other) refl
+]
+  where
+    not_both : (p q k l : ℕ) → (p ≡ q → k ≡ l → ⊥) → (p == q && k == l) ≡ false
+    not_both p q k l h = elim (cases_eq p q) [
+      | inl e ↦
+          elim (cases_eq k l) [
+            | inl f ↦ absurd (h e f)
+            | inr nf ↦
+                let test : (p == q) ≡ true = grind (arith, nat_tests) in
+                let last : (k == l) ≡ false = grind (arith, nat_tests) in
+                rw (test, last) refl
+          ]
+      | inr ne ↦ let test : (p == q) ≡ false = grind (arith, nat_tests) in rw test refl
+    ]
+
+-- the data bus once a page has a frame with the words of the image
+pub framed_word : (image : ProgramImage) (before now : ℕ → Option PageFrame) (page : ℕ) (frame : PageFrame) →
+    is_some (before page) ≡ false →
+    ((p : ℕ) → now p ≡ with_frame page (Some frame) before p) →
+    ((k : ℕ) → k < page_words → slice_get frame.words.items k ≡ Some (image_bus image (page * 4096 + k * 4))) →
+    (a : ℕ) → bus_by (λ p. word_in (now p)) (image_bus image) a ≡ bus_by (λ p. word_in (before p)) (image_bus image) a
+unfolding word_in
+framed_word image before now page frame none frames words a = elim (cases_eq (page_number a) page) [
+  | inl e ↦
+      let test : (page_number a == page) ≡ true = grind (arith, nat_tests) in
+      let here : now (page_number a) ≡ Some frame = frames (page_number a) ∙ rw test refl in
+      let earlier : before (page_number a) ≡ None = ap before e ∙ not_some (before page) none in
+      let word : slice_get frame.words.items (a / 4 % page_words) ≡ Some (image_bus image (page * 4096 + a / 4 % page_words * 4)) =
+      words (a / 4 % page_words) (omega arith) in
+      rw (here, earlier, word) (same_image_word image (page * 4096 + a / 4 % page_words * 4) a (omega (arith, e)))
+  | inr ne ↦
+      let test : (page_number a == page) ≡ false = grind (arith, nat_tests) in
+      let there : now (page_number a) ≡ before (page_number a) = frames (page_number a) ∙ rw test refl in
+      rw there refl
+]
+
+-- the bits of pages once a word changes
+marked_set : (words : List ℕ) (page word p : ℕ) → page < length words * 32 →
+    is_marked (slice_set words (page / 32) word) p ≡ (if p / 32 == page / 32 then bit_at word (p % 32) == 1 else is_marked words p)
+marked_set words page word p within = elim (cases_eq (p / 32) (page / 32)) [
+  | inl e ↦
+      let test : (p / 32 == page / 32) ≡ true = grind (arith, nat_tests) in
+      let here : slice_index_or (slice_set words (page / 32) word) (p / 32) 0 ≡ word =
+      ap (λ i. slice_index_or (slice_set words (page / 32) word) i 0) e
+      ∙ get_or-set_same words (page / 32) word 0 (omega (arith, within)) in
+      rw (test, here) refl
+  | inr ne ↦
+      let test : (p / 32 == page / 32) ≡ false = grind (arith, nat_tests) in
+      rw (test, get_or-set_other words (page / 32) (p / 32) word 0 ne) refl
+]
+
+-- a page's bit is set
+pub marked_with : (words : List ℕ) (page p : ℕ) → page < length words * 32 →
+    is_marked (slice_set words (page / 32) (bit_or (slice_index_or words (page / 32) 0) (1 * 2 ^ (page % 32) % 2 ^ 32))) p
+    ≡ (page == p || is_marked words p)
+marked_with words page p within = marked_set words page _ p within ∙ by_word (cases_eq (p / 32) (page / 32)) (cases_eq (p % 32) (page % 32))
+  where
+    by_word : (p / 32 ≡ page / 32) ⊎ (p / 32 ≢ page / 32) → (p % 32 ≡ page % 32) ⊎ (p % 32 ≢ page % 32) →
+        (if p / 32 == page / 32 then bit_at (bit_or (slice_index_or words (page / 32) 0) (1 * 2 ^ (page % 32) % 2 ^ 32)) (p % 32) == 1
+        else is_marked words p) ≡ (page == p || is_marked words p)
+    by_word (inl e) (inl f) =
+        let test : (p / 32 == page / 32) ≡ true = grind (arith, nat_tests) in
+        let same : (page == p) ≡ true = grind (arith, nat_tests) in
+        rw (test, same, f) (ap (λ n. n == 1) (bit_at_set_same w32 (slice_index_or words (page / 32) 0) (page % 32) (omega arith)))
+    by_word (inl e) (inr ne) =
+        let test : (p / 32 == page / 32) ≡ true = grind (arith, nat_tests) in
+        let apart : (page == p) ≡ false = grind (arith, nat_tests) in
+        rw (test, apart)
+        (ap (λ n. n == 1) (bit_at_set_other w32 (slice_index_or words (page / 32) 0) (page % 32) (omega arith) (p % 32) ne)
+        ∙ ap (λ i. bit_at (slice_index_or words i 0) (p % 32) == 1) (sym e))
+    by_word (inr ne) _ =
+        let test : (p / 32 == page / 32) ≡ false = grind (arith, nat_tests) in
+        let apart : (page == p) ≡ false = grind (arith, nat_tests) in
+        rw (test, apart) refl
+
+-- a page's bit is cleared
+pub marked_without : (words : List ℕ) (page p : ℕ) → page < length words * 32 →
+    is_marked (slice_set words (page / 32) (bit_and (slice_index_or words (page / 32) 0) (bit_not w32 (1 * 2 ^ (page % 32) % 2 ^ 32)))) p
+    ≡ with_page page false (is_marked words) p
+marked_without words page p within = marked_set words page _ p within ∙ by_word (cases_eq (p / 32) (page / 32)) (cases_eq (p % 32) (page % 32))
+  where
+    by_word : (p / 32 ≡ page / 32) ⊎ (p / 32 ≢ page / 32) → (p % 32 ≡ page % 32) ⊎ (p % 32 ≢ page % 32) →
+        (if p / 32 == page / 32
+        then bit_at (bit_and (slice_index_or words (page / 32) 0) (bit_not w32 (1 * 2 ^ (page % 32) % 2 ^ 32))) (p % 32) == 1
+        else is_marked words p) ≡ with_page page false (is_marked words) p
+    by_word (inl e) (inl f) =
+        let test : (p / 32 == page / 32) ≡ true = grind (arith, nat_tests) in
+        let same : (p == page) ≡ true = grind (arith, nat_tests) in
+        rw (test, same, f) (ap (λ n. n == 1) (bit_at_clear_same w32 (slice_index_or words (page / 32) 0) (page % 32) (omega arith)))
+    by_word (inl e) (inr ne) =
+        let test : (p / 32 == page / 32) ≡ true = grind (arith, nat_tests) in
+        let apart : (p == page) ≡ false = grind (arith, nat_tests) in
+        rw (test, apart)
+        (ap (λ n. n == 1) (bit_at_clear_other w32 (slice_index_or words (page / 32) 0) (page % 32) (omega arith) (p % 32) (omega arith) ne)
+        ∙ ap (λ i. bit_at (slice_index_or words i 0) (p % 32) == 1) (sym e))
+    by_word (inr ne) _ =
+        let test : (p / 32 == page / 32) ≡ false = grind (arith, nat_tests) in
+        let apart : (p == page) ≡ false = grind (arith, nat_tests) in
+        rw (test, apart) refl
+
+-- words that are all 0 name no page
+pub none_marked : (words : List ℕ) → ((i : ℕ) → slice_index_or words i 0 ≡ 0) → (p : ℕ) → is_marked words p ≡ false
+none_marked words zeros p = rw (zeros (p / 32)) (ap (λ n. n == 1) (bit_at-zero (p % 32)))
+
+-- words that are all ones name all pages
+pub all_marked : (words : List ℕ) →
+    ((i : ℕ) → slice_index_or words i 0 ≡ (if nat_lt i mark_words then 4294967295 else 0)) →
+    (p : ℕ) → is_marked words p ≡ nat_lt p page_count
+all_marked words ones p = elim (cases_lt p page_count) [
+  | inl below ↦
+      let test : nat_lt p page_count ≡ true = grind (arith, nat_tests) in
+      let word : nat_lt (p / 32) mark_words ≡ true = grind (arith, nat_tests) in
+      rw (ones (p / 32), word, test) (ap (λ n. n == 1) (bit_at_ones 32 (p % 32) (omega arith)))
+  | inr past ↦
+      let test : nat_lt p page_count ≡ false = grind (arith, nat_tests) in
+      let word : nat_lt (p / 32) mark_words ≡ false = grind (arith, nat_tests) in
+      rw (ones (p / 32), word, test) (ap (λ n. n == 1) (bit_at-zero (p % 32)))
+]
+
+-- so many words that are the same
+pub all_same : (count word : ℕ) (words : List ℕ) → words ≡ replicate count word →
+    (i : ℕ) → slice_index_or words i 0 ≡ (if nat_lt i count then word else 0)
+all_same count word words e i = ap (λ xs. slice_index_or xs i 0) e ∙ elim (cases_lt i count) [
+  | inl below ↦ let test : nat_lt i count ≡ true = grind (arith, nat_tests) in rw test (get_or-replicate count i word 0 below)
+  | inr past ↦
+      let test : nat_lt i count ≡ false = grind (arith, nat_tests) in
+      rw test (get_or-eq_default (replicate count word) 0 (omega (arith, past, length-replicate count word)))
+]

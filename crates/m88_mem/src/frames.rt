@@ -1,0 +1,176 @@
+//! The pages that are ready, each a frame of its own behind a table of two levels.
+#![tactic(auto, unfolding(
+// a frame, a word and a table, where they are there
+crate::specs::Frames::frame_in, crate::specs::Frames::word_in, crate::specs::Frames::has_table))]
+
+ghost use Rattle.std.specs.Prelude.{◌≡◌, ◌<◌, ◌==◌, ◌&&◌, ℕ, true, None, Some, is_some, replicate, length, if◌then◌else◌, IfOk, OnErr, OnOk};
+ghost use Rattle.m88_base.specs.Pages.{page_count};
+ghost use Rattle.m88_mem.specs.DataBus.{page_words};
+ghost use Rattle.m88_mem.specs.Frames.{frame_at, has_table, table_entries, with_frame, word_at};
+
+use m88_base::NoMemory;
+use std::alloc::Global;
+use std::marker::Model;
+
+/// The entries of a table of either level.
+pub(crate) const ENTRIES: usize = 1024;
+
+/// The words of a frame.
+pub(crate) const FRAME_WORDS: usize = 1024;
+
+/// The 4,096 bytes of a page that is ready, as 1,024 words.
+#[derive(Drop, Debug)]
+pub(crate) struct PageFrame {
+    pub words: Vec<u32>,
+}
+
+/// The frames of 1,024 pages that follow one another, as far as they are ready.
+#[derive(Drop, Debug)]
+pub(crate) struct FrameTable {
+    pub frames: Vec<Option<PageFrame>>,
+}
+
+/// The frames of all pages that are ready.
+#[derive(Drop, Debug)]
+pub(crate) struct PageFrames {
+    tables: Vec<Option<FrameTable>>,
+}
+
+impl Model for PageFrames {
+    ghost use Rattle.std.specs.Prelude.{List, Option};
+    ghost use Rattle.m88_mem.specs.Frames.{AreFrames};
+    ghost use Rattle.m88_mem.specs.declared.frames.FrameTable.{FrameTable};
+
+    ghost Value = { List (Option FrameTable) };
+
+    ghost view = { λ f. f.tables.items };
+
+    ghost invariant = { λ f. AreFrames f.tables.items };
+}
+
+impl PageFrames {
+    /// No page is ready.
+    pub fn new(alloc: Global) -> Result<PageFrames, NoMemory>
+        ensures none { IfOk result (λ f. (page : ℕ) → frame_at f page ≡ None) }
+        ensures entries { IfOk result (λ f. length f ≡ table_entries) }
+    {
+        let mut tables = vec![in alloc]?;
+        for _ in 0..ENTRIES {
+            tables.push(None).or(Err(NoMemory))?;
+        }
+        Ok(PageFrames { tables })
+    }
+
+    /// Whether a page is ready.
+    pub fn is_ready(&self, page: u32) -> bool
+        ensures { result ≡ is_some (frame_at self.now page) }
+    {
+        let Some(Some(table)) = self.tables.get(page as usize / ENTRIES) else {
+            return false;
+        };
+        matches!(table.frames.get(page as usize % ENTRIES), Some(Some(_)))
+    }
+
+    /// Whether there is a table for a page.
+    pub fn has_table(&self, page: u32) -> bool
+        ensures { result ≡ has_table self.now page }
+    {
+        matches!(self.tables.get(page as usize / ENTRIES), Some(Some(_)))
+    }
+
+    /// A word of a page by its place, where the page is ready.
+    pub fn word(&self, page: u32, place: usize) -> Option<u32>
+        ensures { result ≡ word_at self.now page place }
+    {
+        let Some(Some(table)) = self.tables.get(page as usize / ENTRIES) else {
+            return None;
+        };
+        let Some(Some(frame)) = table.frames.get(page as usize % ENTRIES) else {
+            return None;
+        };
+        frame.words.get(place).copied()
+    }
+
+    /// Gives the page's part of the upper level a table. The frames stay as they are.
+    pub fn give_table(&mut self, alloc: Global, page: u32) -> Result<(), NoMemory>
+        requires { page < page_count }
+        ensures same { (p : ℕ) → frame_at self.new p ≡ frame_at self.old p }
+        ensures entries { length self.new ≡ length self.old }
+        ensures err { OnErr result (self.new ≡ self.old) }
+        ensures there { OnOk result (has_table self.new page ≡ true) }
+    {
+        let high = page as usize / ENTRIES;
+        if self.tables[high].is_some() {
+            return Ok(());
+        }
+        let table = FrameTable::new(alloc)?;
+        self.tables[high] = Some(table);
+        Ok(())
+    }
+
+    /// Puts a page's frame in its place.
+    pub fn set_frame(&mut self, page: u32, frame: PageFrame)
+        requires page { page < page_count }
+        requires there { has_table self.old page ≡ true }
+        requires words { length frame.words.items ≡ page_words }
+        ensures frames { (p : ℕ) → frame_at self.new p
+            ≡ with_frame page (Some frame) (frame_at self.old) p }
+        ensures entries { length self.new ≡ length self.old }
+    {
+        let high = page as usize / ENTRIES;
+        let Some(mut table) = self.tables[high].take() else {
+            unreachable!();
+        };
+        table.frames[page as usize % ENTRIES] = Some(frame);
+        self.tables[high] = Some(table);
+    }
+
+    /// Takes a page's frame out.
+    fn take_frame(&mut self, page: u32) -> PageFrame
+        requires page { page < page_count }
+        requires ready { is_some (frame_at self.old page) ≡ true }
+        ensures frame { frame_at self.old page ≡ Some result }
+        ensures words { length result.words.items ≡ page_words }
+        ensures frames { (p : ℕ) → frame_at self.new p ≡ with_frame page None (frame_at self.old) p }
+        ensures there { has_table self.new page ≡ true }
+        ensures entries { length self.new ≡ length self.old }
+    {
+        let high = page as usize / ENTRIES;
+        let Some(mut table) = self.tables[high].take() else {
+            unreachable!();
+        };
+        let Some(frame) = table.frames[page as usize % ENTRIES].take() else {
+            unreachable!();
+        };
+        self.tables[high] = Some(table);
+        frame
+    }
+
+    /// Changes a word of a page that is ready.
+    pub fn put(&mut self, page: u32, place: usize, word: u32)
+        requires page { page < page_count }
+        requires place { place < page_words }
+        requires ready { is_some (frame_at self.old page) ≡ true }
+        ensures word { (p k : ℕ) → word_at self.new p k
+            ≡ (if p == page && k == place then Some word else word_at self.old p k) }
+        ensures ready { (p : ℕ) → is_some (frame_at self.new p) ≡ is_some (frame_at self.old p) }
+        ensures entries { length self.new ≡ length self.old }
+    {
+        let mut frame = self.take_frame(page);
+        frame.words[place] = word;
+        self.set_frame(page, frame);
+    }
+}
+
+impl FrameTable {
+    /// No page is ready.
+    fn new(alloc: Global) -> Result<FrameTable, NoMemory>
+        ensures { IfOk result (λ t. t.frames.items ≡ replicate table_entries None) }
+    {
+        let mut frames = vec![in alloc]?;
+        for _ in 0..ENTRIES {
+            frames.push(None).or(Err(NoMemory))?;
+        }
+        Ok(FrameTable { frames })
+    }
+}
