@@ -1,12 +1,13 @@
 -- The words of the data bus by frames, and the bits of pages.
-use Rattle.std.proofs.Common.{◌≡◌, ◌≢◌, ℕ, ◌<◌, ◌+◌, ◌*◌, ◌/◌, ◌%◌, ◌^◌, ◌==◌, ◌&&◌, ◌||◌, ◌⊎◌, true, false, List, Option, Some, None, nat_lt, bit_or, bit_and, replicate, is_some, unwrap_or, length, slice_get, slice_index_or, slice_set, if◌then◌else◌, refl, arith, ap, sym, ◌∙◌, inl, inr}
+use Rattle.std.proofs.Common.{◌≡◌, ◌≢◌, ℕ, zero, suc, ◌<◌, ◌≤◌, ◌+◌, ◌*◌, ◌/◌, ◌%◌, ◌^◌, ◌==◌, ◌&&◌, ◌||◌, ◌⊎◌, true, false, List, Option, Some, None, nat_lt, bit_or, bit_and, replicate, is_some, unwrap_or, length, slice_get, slice_index_or, slice_set, if◌then◌else◌, refl, arith, ap, sym, ◌∙◌, inl, inr}
 use Rattle.std.proofs.lemmas.Bool.{cases_eq, cases_lt}
 use Rattle.std.proofs.lemmas.Bool.Decides.{nat_tests}
 use Rattle.std.proofs.lemmas.List.{get_or-set_same, get_or-replicate, get_or-set_other, length-replicate}
 use Rattle.std.proofs.Math.ListN.{get_or-eq_default}
 use Rattle.std.proofs.lemmas.Nat.Bits.{bit_at-zero, bit_at_clear_other, bit_at_clear_same, bit_at_ones, bit_at_set_other, bit_at_set_same}
 use Rattle.std.specs.Int.{bit_at, bit_not, w32}
-use Rattle.m88_base.specs.Image.{ProgramImage}
+use Rattle.m88_base.specs.Found.{IsFree}
+use Rattle.m88_base.specs.Image.{ProgramImage, byte_at}
 use Rattle.m88_isa.specs.Address.{word_address}
 use Rattle.m88_base.specs.Pages.{page_count, page_number}
 use Rattle.m88_isa.specs.Bus.{in_words, with_word}
@@ -171,3 +172,30 @@ all_same count word words e i = ap (λ xs. slice_index_or xs i 0) e ∙ elim (ca
       let test : nat_lt i count ≡ false = grind (arith, nat_tests) in
       rw test (get_or-eq_default (replicate count word) 0 (omega (arith, past, length-replicate count word)))
 ]
+
+-- where the image has no byte the words of its data bus are 0
+blank_byte : (image : ProgramImage) (at n a : ℕ) → IsFree (byte_at image) at n → at ≤ a → a < at + n → image_bytes image a ≡ 0
+unfolding image_bytes
+blank_byte image at n a free low high = rw (free a (low, high)) refl
+
+zeros_at : (memory : ℕ → ℕ) (place n : ℕ) → ((i : ℕ) → i < n → memory (place + i) ≡ 0) → number_at memory place n ≡ 0
+zeros_at memory place zero z = refl
+zeros_at memory place (suc n) z = rw (zeros_at memory place n (λ i h. z i (omega arith)), z n (omega arith)) refl
+
+pub blank_word : (image : ProgramImage) (page k : ℕ) → IsFree (byte_at image) (page * 4096) 4096 → k < 1024 → image_bus image (page * 4096 + k * 4) ≡ 0
+unfolding in_words
+blank_word image page k free few =
+    let at : word_address (page * 4096 + k * 4) ≡ page * 4096 + k * 4 = omega arith in
+    let byte = λ (i : ℕ) (h : i < 4). blank_byte image (page * 4096) 4096 (page * 4096 + k * 4 + i) free (omega arith) (omega (arith, few, h)) in
+    rw at (zeros_at (image_bytes image) (page * 4096 + k * 4) 4 byte)
+
+-- and so a frame of zeros has the words that the image has there
+zero_among : (n k : ℕ) → k < n → slice_get {X = ℕ} (replicate n 0) k ≡ Some 0
+zero_among zero k few = absurd (omega (arith, few))
+zero_among (suc n) zero few = refl
+zero_among (suc n) (suc k) few = zero_among n k (omega (arith, few))
+
+pub blank_frame : (image : ProgramImage) (page : ℕ) (words : List ℕ) (n : ℕ) → n ≡ 1024 → words ≡ replicate n 0
+    → IsFree (byte_at image) (page * 4096) 4096 → (k : ℕ) → k < 1024 → slice_get words k ≡ Some (image_bus image (page * 4096 + k * 4))
+blank_frame image page words n e is free k few =
+    ap (λ ws. slice_get ws k) is ∙ zero_among n k (omega (arith, e, few)) ∙ ap (λ w. Some w) (sym (blank_word image page k free few))

@@ -5,7 +5,7 @@ crate::specs::DataBus::bus_of, crate::specs::DataBus::ready_of, crate::specs::Da
 // a word that changes
 m88_isa::specs::Bus::with_word))]
 
-ghost use Rattle.std.specs.Prelude.{◌≡◌, ◌++◌, ◌∷◌, [], ◌+◌, ◌*◌, ◌/◌, ◌%◌, ◌<◌, ◌↔◌, ℕ, true, false, Some, length, slice_get, option_map, IfOk, IsErr, IsTrue, OnErr, OnOk};
+ghost use Rattle.std.specs.Prelude.{◌≡◌, ◌++◌, ◌∷◌, [], ◌+◌, ◌*◌, ◌/◌, ◌%◌, ◌<◌, ◌↔◌, ℕ, true, false, Some, length, replicate, slice_get, option_map, IfOk, IsErr, IsTrue, OnErr, OnOk};
 ghost use Rattle.std.specs.Int.{to_be_bytes, w32};
 ghost use Rattle.m88_base.specs.Image.{byte_at};
 ghost use Rattle.m88_base.specs.Pages.{IsPage, no_page, page_number};
@@ -17,9 +17,9 @@ ghost use Rattle.m88_mem.specs.Frames.{table_entries};
 ghost use Rattle.m88_mem.specs.Marks.{NamesPages, absent_in, with_page};
 
 use crate::absent_page::AbsentPage;
-use crate::frames::{ENTRIES, PageFrame, PageFrames};
+use crate::frames::{ENTRIES, FRAME_WORDS, PageFrame, PageFrames};
 use crate::marks::{absent_marks, clear_mark, is_marked};
-use crate::places::{fetched, image_word};
+use crate::places::{fetched, image_word, page_word};
 use m88_base::{Absent, Image, NoMemory, PAGE_BYTES};
 use m88_isa::merge;
 use std::alloc::Global;
@@ -224,10 +224,14 @@ impl Memory {
         ensures { OnOk result (changed.new.items
             ≡ changed_among ((page + 1) * page_words) (image_bus self.now.image) (bus_of self.now)) }
     {
+        let taken = self
+            .image
+            .first_taken(page * PAGE_BYTES, PAGE_BYTES as usize);
+        let is_blank = taken.is_none();
         for place in 0..PAGE_WORDS {
             let addr = page * PAGE_BYTES + place * 4;
             let word = self.word(addr);
-            if word != image_word(&self.image, addr) {
+            if word != page_word(&self.image, is_blank, addr) {
                 note(changed, addr, word)?;
             }
         }
@@ -257,10 +261,33 @@ fn image_frame(alloc: Global, image: &Image, page: u32) -> Result<PageFrame, NoM
     ensures each { IfOk result (λ f. (k : ℕ) → k < page_words
         → slice_get f.words.items k ≡ Some (image_bus image.now (page * 4096 + k * 4))) }
 {
+    match image.first_taken(page * PAGE_BYTES, PAGE_BYTES as usize) {
+        Some(_) => copied_frame(alloc, image, page),
+        None => {
+            let words = zeros(alloc, FRAME_WORDS)?;
+            Ok(PageFrame { words })
+        }
+    }
+}
+
+/// The same, word by word.
+fn copied_frame(alloc: Global, image: &Image, page: u32) -> Result<PageFrame, NoMemory>
+    requires { IsPage page }
+    ensures long { IfOk result (λ f. length f.words.items ≡ page_words) }
+    ensures each { IfOk result (λ f. (k : ℕ) → k < page_words
+        → slice_get f.words.items k ≡ Some (image_bus image.now (page * 4096 + k * 4))) }
+{
     let mut words = vec![in alloc]?;
     for place in 0..PAGE_WORDS {
         let word = image_word(image, page * PAGE_BYTES + place * 4);
         words.push(word).or(Err(NoMemory))?;
     }
     Ok(PageFrame { words })
+}
+
+/// So many words, each 0.
+fn zeros(alloc: Global, count: usize) -> Result<Vec<u32>, NoMemory>
+    ensures { IfOk result (λ words. words.items ≡ replicate count 0) }
+{
+    Ok(vec![in alloc; 0u32; count]?)
 }

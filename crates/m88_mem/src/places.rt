@@ -1,9 +1,11 @@
 //! The word of the image at an address.
 #![tactic(auto, unfolding(crate::specs::DataBus::image_bytes, m88_isa::specs::Bus::in_words))]
 
-ghost use Rattle.std.specs.Prelude.{◌≡◌, ◌%◌, option_map};
+ghost use Rattle.std.specs.Prelude.{◌≡◌, ◌*◌, ◌%◌, option_map, true};
 ghost use Rattle.std.specs.Int.{to_be_bytes, w32};
+ghost use Rattle.m88_base.specs.Found.{IsFree};
 ghost use Rattle.m88_base.specs.Image.{byte_at};
+ghost use Rattle.m88_base.specs.Pages.{page_number};
 ghost use Rattle.m88_isa.specs.Machine.{four_bytes};
 ghost use Rattle.m88_mem.specs.DataBus.{image_bus, image_bytes};
 
@@ -40,6 +42,16 @@ pub(crate) fn image_word(image: &Image, addr: u32) -> u32
             byte_or_zero(image, addr + 3),
         ]),
     }
+}
+
+/// The same, where it is known whether the image has no byte in the page of the address.
+pub(crate) fn page_word(image: &Image, is_blank: bool, addr: u32) -> u32
+    requires word { addr % 4 ≡ 0 }
+    requires blank { is_blank ≡ true
+        → IsFree (byte_at image.now) (page_number addr * 4096) 4096 }
+    ensures { result ≡ image_bus image.now addr }
+{
+    if is_blank { 0 } else { image_word(image, addr) }
 }
 
 /// The byte at an address, or 0 where there is none.

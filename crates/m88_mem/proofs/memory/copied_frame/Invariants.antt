@@ -1,7 +1,7 @@
 -- The words so far are those of the image.
 use Rattle.std.proofs.Common.{◌≡◌, ◌<◌, ◌+◌, ◌*◌, ℕ, List, Some, length, slice_get}
 use Rattle.m88_mem.specs.DataBus.{image_bus}
-use Rattle.m88_mem.proofs.memory.image_frame.Given as goal
+use Rattle.m88_mem.proofs.memory.copied_frame.Given as goal
 
 -- the first so many words of a page
 pub record Copied (image : ℕ → ℕ) (words : List ℕ) (page count : ℕ) : Type 0 where
