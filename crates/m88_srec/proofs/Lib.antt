@@ -9,3 +9,6 @@ pub mod Spelled
 pub mod Trip
 pub mod Turns
 pub mod Sizes
+pub mod Fronts
+pub mod Feeding
+pub mod Fed

@@ -24,7 +24,7 @@ pub taken : (number : ℕ) (load later : Load) (line : List ℕ) (lines all : Li
     → all ≡ line ∷ lines → judged load line ≡ Ok later → verdict_from number load all ≡ r → verdict_from (number + 1) later lines ≡ r
 taken number load later line lines all r all_is e h = first_judged number load line lines all r (Ok later) all_is e h
 
-not_memory : (number : ℕ) (kind : SrecKind)
+pub not_memory : (number : ℕ) (kind : SrecKind)
     → (fault_of_line number kind ≡ no_memory) ⊎ (fault_of_line number kind ≡ record { line = number; kind = kind })
 not_memory number Memory = inl refl
 not_memory number _ = inr refl

@@ -8,3 +8,7 @@ pub mod Reasons
 pub mod GivesVerdict
 pub mod Forms
 pub mod Loads
+pub mod Front
+pub mod Begun
+pub mod Fed
+pub mod Taking

@@ -1,7 +1,7 @@
 -- Words for the contracts of private functions; no promise of the crate names them. What a loading stands for, and
 -- what a call that may run out of memory gives.
 use Rattle.std.specs.Prelude.{ℕ, Result, Ok, Err, ◌≡◌, ◌⊎◌}
-use Rattle.m88_base.specs.Image.{byte_at, byte_count}
+use Rattle.m88_srec.specs.Begun.{load_in}
 use Rattle.m88_srec.specs.Verdict.{Load}
 use Rattle.m88_srec.specs.declared.fault.SrecFault.{SrecFault}
 use Rattle.m88_srec.specs.declared.fault.SrecKind.{SrecKind}
@@ -10,14 +10,10 @@ use Rattle.m88_srec.specs.declared.loading.Loading.{Loading}
 
 -- what the lines of a loading write
 abbrev pub load_seen : Loading → Load
-load_seen x = record {
-  loaded = record { found = byte_at x.image; count = byte_count x.image };
-  records = x.records;
-  start = x.start;
-}
+load_seen x = load_in x.image x.records x.start
 
--- a call left the load that is said, or answered the kind that is said, or memory ran out
-abbrev pub GivesLoad : {T : Type 0} → Load → Result T SrecKind → Result Load SrecKind → Type 0
+-- a call left what is said, or answered the kind that is said, or memory ran out
+abbrev pub GivesLoad : {L T : Type 0} → L → Result T SrecKind → Result L SrecKind → Type 0
 GivesLoad load (Ok u) said = said ≡ Ok load
 GivesLoad load (Err kind) said = (kind ≡ Memory) ⊎ (said ≡ Err kind)
 

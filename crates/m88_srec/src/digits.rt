@@ -25,7 +25,7 @@ fn are_more_pairs(digits: &[u8]) -> bool
 }
 
 /// Whether a byte is a hexadecimal digit of either case.
-fn is_hexadecimal(digit: u8) -> bool
+pub fn is_hexadecimal(digit: u8) -> bool
     ensures { result ≡ is_digit digit 16 }
 {
     char::from(digit).is_digit(16)

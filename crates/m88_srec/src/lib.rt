@@ -10,9 +10,12 @@ mod record;
 
 // Texts read, and why they are refused.
 mod fault;
+mod front;
+mod loader;
 mod loading;
 mod purpose;
 mod reader;
+mod so_far;
 
 // Texts written.
 mod frame;
@@ -23,5 +26,6 @@ mod writer;
 mod tests;
 
 pub use fault::{SrecFault, SrecKind};
+pub use loader::Loader;
 pub use reader::read_srec;
 pub use writer::write_srec;

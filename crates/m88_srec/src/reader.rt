@@ -3,41 +3,21 @@ ghost use Rattle.std.specs.Prelude.{◌≡◌, ◌<◌, ◌^◌, ◌↔◌, leng
 ghost use Rattle.m88_base.specs.OneVerdict.{HasOneVerdict};
 ghost use Rattle.m88_srec.specs.Accepted.{IsAccepted, Whole, whole_of};
 ghost use Rattle.m88_srec.specs.GivesVerdict.{GivesVerdict, no_memory};
-ghost use Rattle.m88_srec.specs.Loads.{fault_of_line};
 ghost use Rattle.m88_srec.specs.Verdict.{IsFirstSrecFault, verdict};
 
-use crate::fault::{SrecFault, SrecKind};
-use crate::loading::Loading;
-use m88_base::{Image, first_line};
+use crate::fault::SrecFault;
+use crate::loader::Loader;
+use m88_base::Image;
 use std::alloc::Global;
 
-/// The fault of a line; memory that ran out has no line.
-fn fault_at(line: u32, kind: SrecKind) -> SrecFault
-    ensures { result ≡ fault_of_line line kind }
-{
-    match kind {
-        SrecKind::Memory => SrecFault { line: 0, kind },
-        kind => SrecFault { line, kind },
-    }
-}
-
-/// The image that the lines of a text write, or the first fault.
+/// What a loader makes of a text in one piece.
 fn read(alloc: Global, text: &[u8]) -> Result<Image, SrecFault>
     requires { length text.now < 2 ^ 31 }
     ensures { GivesVerdict whole_of result (verdict text.now) }
 {
-    let mut loading = Loading::new(alloc);
-    let mut rest = text;
-    let mut number = 1;
-    while !rest.is_empty() {
-        let (line, behind) = first_line(rest);
-        if let Err(kind) = loading.line(line) {
-            return Err(fault_at(number, kind));
-        }
-        rest = behind;
-        number += 1;
-    }
-    loading.finish(number)
+    let mut loader = Loader::new(alloc);
+    loader.feed(text)?;
+    loader.finish()
 }
 
 /// The image that an S-record text writes, with its start address, or the first fault of the text.
