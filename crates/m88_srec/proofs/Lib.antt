@@ -12,3 +12,4 @@ pub mod Sizes
 pub mod Fronts
 pub mod Feeding
 pub mod Fed
+pub mod Streamed

@@ -12,3 +12,4 @@ pub mod Front
 pub mod Begun
 pub mod Fed
 pub mod Taking
+pub mod Streamed

@@ -11,11 +11,13 @@ mod record;
 // Texts read, and why they are refused.
 mod fault;
 mod front;
+mod load_end;
 mod loader;
 mod loading;
 mod purpose;
 mod reader;
 mod so_far;
+mod stream;
 
 // Texts written.
 mod frame;
@@ -26,6 +28,8 @@ mod writer;
 mod tests;
 
 pub use fault::{SrecFault, SrecKind};
+pub use load_end::LoadEnd;
 pub use loader::Loader;
 pub use reader::read_srec;
+pub use stream::read_image;
 pub use writer::write_srec;
