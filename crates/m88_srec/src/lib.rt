@@ -25,6 +25,8 @@ mod writer;
 
 // Values from outside.
 #[cfg(test)]
+mod stream_tests;
+#[cfg(test)]
 mod tests;
 
 pub use fault::{SrecFault, SrecKind};
