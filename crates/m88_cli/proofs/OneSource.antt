@@ -22,7 +22,8 @@ use Rattle.m88_srec.proofs.Law as records
 use Rattle.m88_cli.specs.Answer.{Accepts, Refuses}
 use Rattle.m88_cli.specs.Assembly.{IsAssemblySource, IsProgramSource, IsRefusedProgram, IsRefusedSource}
 use Rattle.m88_cli.specs.Behind.{IsRefusedBehind, unassembled_behind, unlinked_behind, unread_behind}
-use Rattle.m88_cli.specs.Command.{Command, run, exec, dis, asm, link, build, soak, mon}
+use Rattle.m88_cli.specs.Command.{Command, InputKind, no_input, source_to_assemble, source_to_link, object_text, record_text, scripted_source, kind_of}
+use Rattle.m88_cli.specs.Kinds.{IsAcceptedAs, IsRefusedAs}
 use Rattle.m88_cli.specs.Loading.{IsRecords, IsRefusedRecords, srec_refusal}
 use Rattle.m88_cli.specs.Monitoring.{IsMonitorInput, IsRefusedMonitor}
 use Rattle.m88_cli.specs.Objects.{IsLinkableText, IsRefusedObjects}
@@ -41,26 +42,6 @@ same_records : (text : List ℕ) (r s : Refusal) → IsRefusedRecords text r →
 same_records text r s a b =
     let fault = (records.one_verdict text).one_fault a.fault b.fault a.is_first b.is_first in
     a.refusal ∙ ap srec_refusal fault ∙ sym b.refusal
-
-pub refused_not_accepted : (command : Command) (input : List ℕ) (r : Refusal) → Refuses command input r → ¬ Accepts command input
-refused_not_accepted (run limit absent schedule) input r refused = λ accepted. not_linked input r accepted refused
-refused_not_accepted (exec limit absent schedule) input r refused = λ accepted. not_loaded input r accepted refused
-refused_not_accepted dis input r refused = λ accepted. not_loaded input r accepted refused
-refused_not_accepted asm input r refused = λ accepted. not_assembled input r accepted refused
-refused_not_accepted link input r refused = λ accepted. not_linkable input r accepted refused
-refused_not_accepted build input r refused = λ accepted. not_linked input r accepted refused
-refused_not_accepted (soak number count) input r refused = absurd refused
-refused_not_accepted (mon absent schedule) input r refused = λ accepted. not_accepted input r accepted refused
-
-pub one_refusal : (command : Command) (input : List ℕ) (r s : Refusal) → Refuses command input r → Refuses command input s → r ≡ s
-one_refusal (run limit absent schedule) input r s a b = same_program_refusal input r s a b
-one_refusal (exec limit absent schedule) input r s a b = same_records input r s a b
-one_refusal dis input r s a b = same_records input r s a b
-one_refusal asm input r s a b = same_refusal input r s a b
-one_refusal link input r s a b = same_objects_refusal input r s a b
-one_refusal build input r s a b = same_program_refusal input r s a b
-one_refusal (soak number count) input r s a b = absurd a
-one_refusal (mon absent schedule) input r s a b = refused_once input r s a b
 
 -- a source is assembled or refused
 assembly_or_refusal : (source : List ℕ) → IsAssemblySource source ⊎ ((r : Refusal) × IsRefusedSource source r)
@@ -146,24 +127,39 @@ monitor_or_refusal input = elim (scripts.one_verdict input).some [
   ]
 ]
 
--- inputs of all commands
-accepted_or_refused : (command : Command) (input : List ℕ) → Accepts command input ⊎ ((r : Refusal) × Refuses command input r)
-accepted_or_refused (run limit absent schedule) input = as_whole input
-accepted_or_refused (exec limit absent schedule) input = records_or_refusal input
-accepted_or_refused dis input = records_or_refusal input
-accepted_or_refused asm input = assembly_or_refusal input
-accepted_or_refused link input = objects_or_refusal input
-accepted_or_refused build input = as_whole input
-accepted_or_refused (soak number count) input = inl tt
-accepted_or_refused (mon absent schedule) input = monitor_or_refusal input
-
-pub one_verdict : (command : Command) (input : List ℕ) → HasOneFaultUnless (Accepts command input) (Refuses command input)
-one_verdict command input = record {
-  some = elim (accepted_or_refused command input) [
+-- what is accepted or refused, never both, and refused for one reason
+told_once : {Accepted : Type 0} (IsReason : Refusal → Type 0) → Accepted ⊎ ((r : Refusal) × IsReason r)
+    → ((r : Refusal) → Accepted → IsReason r → ⊥) → ((r s : Refusal) → IsReason r → IsReason s → r ≡ s)
+    → HasOneFaultUnless Accepted IsReason
+told_once IsReason either not_both one = record {
+  some = elim either [
     | inl accepted ↦ inl (tt, accepted)
     | inr refused ↦ inr refused
   ];
-  not_both = λ value r accepted refused. refused_not_accepted command input r refused accepted;
+  not_both = λ value r accepted refused. not_both r accepted refused;
   one_value = λ a b h k. refl;
-  one_fault = one_refusal command input;
+  one_fault = one;
 }
+
+-- so is an input of each kind
+of_kind : (kind : InputKind) (input : List ℕ) → HasOneFaultUnless (IsAcceptedAs kind input) (IsRefusedAs kind input)
+of_kind no_input input = told_once (IsRefusedAs no_input input) (inl tt) (λ r accepted refused. refused) (λ r s a b. absurd a)
+of_kind source_to_assemble source =
+    told_once (IsRefusedSource source) (assembly_or_refusal source) (not_assembled source) (same_refusal source)
+of_kind source_to_link source =
+    told_once (IsRefusedProgram source) (as_whole source) (not_linked source) (same_program_refusal source)
+of_kind object_text text =
+    told_once (IsRefusedObjects text) (objects_or_refusal text) (not_linkable text) (same_objects_refusal text)
+of_kind record_text text =
+    told_once (IsRefusedRecords text) (records_or_refusal text) (not_loaded text) (same_records text)
+of_kind scripted_source input =
+    told_once (IsRefusedMonitor input) (monitor_or_refusal input) (not_accepted input) (refused_once input)
+
+pub one_verdict : (command : Command) (input : List ℕ) → HasOneFaultUnless (Accepts command input) (Refuses command input)
+one_verdict command input = of_kind (kind_of command) input
+
+pub refused_not_accepted : (command : Command) (input : List ℕ) (r : Refusal) → Refuses command input r → ¬ Accepts command input
+refused_not_accepted command input r refused = λ accepted. (one_verdict command input).not_both tt r accepted refused
+
+pub one_refusal : (command : Command) (input : List ℕ) (r s : Refusal) → Refuses command input r → Refuses command input s → r ≡ s
+one_refusal command input = (one_verdict command input).one_fault

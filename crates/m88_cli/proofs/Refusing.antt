@@ -6,17 +6,11 @@ use Rattle.m88_asm.specs.declared.fault.UnitFault.TheVariants as unit_kind
 use Rattle.m88_cli.specs.Answer.{IsAnswerToAccepted, IsAnswerToRefused, Refuses}
 use Rattle.m88_cli.specs.Assembly.{IsRefusedProgram, IsRefusedSource}
 use Rattle.m88_cli.specs.Command.{Command}
-use Rattle.m88_cli.specs.Loading.{IsRefusedRecords, srec_refusal}
 use Rattle.m88_cli.specs.Refusal.{Refusal, refusal_line}
 use Rattle.m88_cli.specs.SourceFault.{IsAssemblyFault, IsProgramFault, IsTold, refusal_behind}
 use Rattle.m88_cli.specs.Reply.{Replies, WatchesReply}
 use Rattle.m88_cli.specs.Watching.{Shown}
-use Rattle.m88_base.specs.Image.{ProgramImage}
 use Rattle.m88_board.specs.declared.glance.Glance.{Glance}
-use Rattle.m88_srec.specs.Accepted.{whole_of}
-use Rattle.m88_srec.specs.GivesVerdict.{GivesVerdict, no_memory}
-use Rattle.m88_srec.specs.Verdict.{verdict}
-use Rattle.m88_srec.specs.declared.fault.SrecFault.{SrecFault}
 use Rattle.m88_cli.specs.declared.reply.Reply.{Reply}
 use Rattle.m88_cli.specs.declared.source_fault.SourceFault.{SourceFault}
 use Rattle.m88_cli.specs.declared.source_fault.SourceFault.TheVariants.{Parse, Unit}
@@ -39,15 +33,6 @@ pub program_refusal : (source : List ℕ) (fault : SourceFault) → IsProgramFau
     → IsRefusedProgram source (refusal_behind 0 fault)
 program_refusal source fault is told = whole_input source (refusal_behind 0 fault) (behind_refusal 0 source fault is told)
 
--- S-records whose fault isn't that memory ran out
-pub records_refusal : (text : List ℕ) (r : Result ProgramImage SrecFault) (fault : SrecFault) → r ≡ Err fault
-    → GivesVerdict whole_of r (verdict text) → fault ≢ no_memory → IsRefusedRecords text (srec_refusal fault)
-records_refusal text (Ok image) fault e gives told = absurd cc
-records_refusal text (Err own) fault e (inl memory) told = absurd (told (let same : own ≡ fault = cc in sym same ∙ memory))
-records_refusal text (Err own) fault e (inr first) told =
-    let same : own ≡ fault = cc in
-    record { fault = fault; is_first = first ∙ ap Err same; refusal = refl }
-
 -- the reply that refuses an input answers it
 pub refused_reply : {Told : Type 0} (command : Command) (input : List ℕ) (refusal : Refusal) (result : Result Reply NoMemory)
     → (Told → Refuses command input refusal) → IfOk result (λ r. r.text.items ≡ refusal_line refusal)
@@ -62,6 +47,13 @@ refused_reply command input refusal (Ok r) refuses line refused told =
       only = λ other also. one_refusal command input other refusal also (refuses told);
       line = line;
     })
+
+pub plainly_refused : (command : Command) (input : List ℕ) (refusal : Refusal) (result : Result Reply NoMemory)
+    → Refuses command input refusal → IfOk result (λ r. r.text.items ≡ refusal_line refusal)
+    → IfOk result (λ r. r.accepted ≡ false) → IfOk result (Replies command input)
+plainly_refused command input refusal (Err e) refuses line refused = tt
+plainly_refused command input refusal (Ok r) refuses line refused =
+    refused_reply {Told = refusal ≡ refusal} command input refusal (Ok r) (λ _. refuses) line refused refl
 
 -- and leaves a watch as it was
 pub refused_watch : {W : Type 0} (seen : W → Option (List Glance)) (watch : W) (command : Command) (input : List ℕ) (result : Result Reply NoMemory)

@@ -14,7 +14,8 @@ use Rattle.m88_cli.specs.Status.{Answers, IsOfReading, WritesNothing}
 use Rattle.m88_cli.specs.declared.status.Status.{Status}
 use Rattle.m88_cli.specs.declared.status.Status.TheVariants.{Done, Usage, SourceFault, SinkFault, Refused, Memory, TooLong}
 use Rattle.m88_cli.specs.Calls.{GivesInput, HasInput, IsWhole}
-use Rattle.m88_cli.specs.Command.{Command, run, exec, dis, asm, link, build, reads_input, soak, mon}
+use Rattle.m88_cli.specs.Command.{Command, InputKind, no_input, is_read, kind_of, reads_input}
+use Rattle.m88_cli.specs.Kinds.{IsRefusedAs}
 use Rattle.m88_cli.specs.Limits.{most_input}
 use Rattle.m88_cli.proofs.OneSource.{one_refusal, refused_not_accepted}
 
@@ -106,17 +107,18 @@ unanswered Accepted command before after input Memory holds of sound long none =
 unanswered Accepted command before after input TooLong holds of sound long none =
     absurd (not_longer (reads_input command) before after input holds (long refl) none)
 
+-- an input that is refused was read
+refused_is_read : (kind : InputKind) (input : List ℕ) (r : Refusal) → IsRefusedAs kind input r → is_read kind ≡ true
+refused_is_read no_input input r refused = absurd refused
+refused_is_read _ input r refused = refl
+
 -- an input that a command refuses is what the source gave it
 pub given_whole : (command : Command) (before after : Option (List ℕ)) (input given : List ℕ) (r : Refusal) → Refuses command input r
     → before ≡ Some input → after ≡ Some [] → GivesInput command before after given → given ≡ input
-given_whole (run limit absent schedule) before after input given r refused had left gives = same_input before after input given had left gives.0
-given_whole (exec limit absent schedule) before after input given r refused had left gives = same_input before after input given had left gives.0
-given_whole dis before after input given r refused had left gives = same_input before after input given had left gives.0
-given_whole asm before after input given r refused had left gives = same_input before after input given had left gives.0
-given_whole link before after input given r refused had left gives = same_input before after input given had left gives.0
-given_whole build before after input given r refused had left gives = same_input before after input given had left gives.0
-given_whole (soak number count) before after input given r refused had left gives = absurd refused
-given_whole (mon absent schedule) before after input given r refused had left gives = same_input before after input given had left gives.0
+given_whole command before after input given r refused had left gives =
+    let read = refused_is_read (kind_of command) input r refused in
+    let gave = subst (λ reads. MatchBool reads (Consumes before after given × IsAtEnd after) (given ≡ [])) read gives in
+    same_input before after input given had left gave.0
 
 -- a reply to what a command was given, where command and input are known
 abbrev pub RepliesToGiven : Command → Option (List ℕ) → Option (List ℕ) → Reply → Type 0

@@ -1,55 +1,38 @@
--- What a command does with an input. A command has a case in each of three definitions: which inputs it accepts
--- (`Accepts`), what it writes for one that it accepts (`IsOutput`), and where and why it refuses any other (`Refuses`).
+-- What a command does with an input: which inputs it accepts and where and why it refuses any other goes by the kind of
+-- its input, and what it writes for one that it accepts has a case for each command.
 use Rattle.std.specs.Prelude.{ℕ, ◌≡◌, ◌⊎◌, List}
-use Rattle.m88_cli.specs.Assembly.{IsAssemblySource, IsObjectText, IsProgramSource, IsRecordText, IsRefusedProgram, IsRefusedSource}
-use Rattle.m88_cli.specs.Command.{Command, run, exec, dis, asm, link, build, soak, mon}
-use Rattle.m88_cli.specs.Loading.{IsListingText, IsRecords, IsRefusedRecords}
-use Rattle.m88_cli.specs.Objects.{IsLinkableText, IsLinkedText, IsRefusedObjects}
+use Rattle.m88_cli.specs.Assembly.{IsObjectText, IsRecordText}
+use Rattle.m88_cli.specs.Command.{Command, run, exec, asm, link, build, dis, mon, soak, kind_of}
+use Rattle.m88_cli.specs.Kinds.{IsAcceptedAs, IsRefusedAs}
+use Rattle.m88_cli.specs.Loading.{IsListingText}
 use Rattle.m88_cli.specs.MonitorText.{IsMonitorText}
-use Rattle.m88_cli.specs.Monitoring.{IsMonitorInput, IsRefusedMonitor}
+use Rattle.m88_cli.specs.Objects.{IsLinkedText}
 use Rattle.m88_cli.specs.Refusal.{Refusal, refusal_line}
 use Rattle.m88_cli.specs.Runs.{IsLoadedProgram, IsReport, IsSourceProgram, IsSummary}
 use Rattle.m88_report.specs.Report.{report_of}
 
--- a command accepts an input: `asm` a source that can be assembled, `run` and `build` one that can be linked too,
--- `exec` and `dis` the text of S-records, `link` that of objects that can be linked, `mon` a script with a source
--- behind it that can be linked; `soak` reads none and has nothing to accept
+-- a command accepts an input that is accepted as one of its kind
 abbrev pub Accepts : Command → List ℕ → Type 0
-Accepts (run limit absent schedule) source = IsProgramSource source
-Accepts (exec limit absent schedule) text = IsRecords text
-Accepts dis text = IsRecords text
-Accepts asm source = IsAssemblySource source
-Accepts link text = IsLinkableText text
-Accepts build source = IsProgramSource source
-Accepts (soak number count) input = Unit {0}
-Accepts (mon absent schedule) input = IsMonitorInput input
+Accepts command input = IsAcceptedAs (kind_of command) input
+
+-- and refuses any other as one of its kind is refused
+abbrev pub Refuses : Command → List ℕ → Refusal → Type 0
+Refuses command input r = IsRefusedAs (kind_of command) input r
 
 -- the text is what a command writes for an input that it accepts: `run` and `exec` the report of a run, `asm` the text
--- of the objects, `build` and `link` the S-records of the image, `dis` the listing of the image, `soak` the summary of
--- the run of a workload, `mon` what a session with the monitor writes
+-- of the objects, `link` and `build` the S-records of the image, `dis` the listing of the image, `mon` what a session
+-- with the monitor writes, `soak` the summary of the run of a workload
 abbrev pub IsOutput : Command → List ℕ → List ℕ → Type 0
 IsOutput (run limit absent schedule) source text =
     IsReport report_of (IsSourceProgram source) limit absent schedule text
 IsOutput (exec limit absent schedule) records text =
     IsReport report_of (IsLoadedProgram records) limit absent schedule text
-IsOutput dis records text = IsListingText records text
 IsOutput asm source text = IsObjectText source text
 IsOutput link objects text = IsLinkedText objects text
 IsOutput build source text = IsRecordText source text
-IsOutput (soak number count) input text = IsSummary number count text
+IsOutput dis records text = IsListingText records text
 IsOutput (mon absent schedule) input text = IsMonitorText input absent schedule text
-
--- a command refuses an input so: at the first fault of a source, of S-records, of objects, or of a script and the
--- source behind it; `soak` never
-abbrev pub Refuses : Command → List ℕ → Refusal → Type 0
-Refuses (run limit absent schedule) source r = IsRefusedProgram source r
-Refuses (exec limit absent schedule) text r = IsRefusedRecords text r
-Refuses dis text r = IsRefusedRecords text r
-Refuses asm source r = IsRefusedSource source r
-Refuses link text r = IsRefusedObjects text r
-Refuses build source r = IsRefusedProgram source r
-Refuses (soak number count) input r = ⊥
-Refuses (mon absent schedule) input r = IsRefusedMonitor input r
+IsOutput (soak number count) input text = IsSummary number count text
 
 -- the text answers an input that the command accepts
 pub record IsAnswerToAccepted (command : Command) (input text : List ℕ) : Type 0 where

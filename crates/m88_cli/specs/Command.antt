@@ -1,4 +1,4 @@
--- The commands, what words spell each of them, and which commands read an input.
+-- The commands: what words spell each of them, the kind of its input, and which of them show boards.
 use Rattle.std.specs.Prelude.{ℕ, Bool, true, false, ◌≡◌, ◌<◌, ◌≤◌, ◌^◌, List, [], ◌∷◌, codes}
 use Rattle.m88_event.specs.Letters.{IsSchedule}
 use Rattle.m88_event.specs.declared.letter.Letter.{Letter}
@@ -13,18 +13,18 @@ pub data Command : Type 0 where
   run : (limit : ℕ) (absent : ℕ → Bool) (schedule : List Letter) → Command
   -- the report of a run of S-records
   exec : (limit : ℕ) (absent : ℕ → Bool) (schedule : List Letter) → Command
-  -- the listing of S-records
-  dis : Command
   -- the text of the objects of a source
   asm : Command
   -- the S-records of the text of objects
   link : Command
   -- the S-records of a source
   build : Command
-  -- the summary of the workload of a number, with so many statements
-  soak : (number count : ℕ) → Command
+  -- the listing of S-records
+  dis : Command
   -- what the monitor writes for a script over a source
   mon : (absent : ℕ → Bool) (schedule : List Letter) → Command
+  -- the summary of the workload of a number, with so many statements
+  soak : (number count : ℕ) → Command
 
 -- a text writes a limit in one to seven decimal digits, which may begin with zeros
 abbrev pub IsLimit : List ℕ → ℕ → Type 0
@@ -70,43 +70,64 @@ pub record SpellsSession (name : List ℕ) (words : List (List ℕ)) (absent : �
 abbrev pub Spells : List (List ℕ) → Command → Type 0
 Spells words (run limit absent schedule) = SpellsRun (codes "run") words limit absent schedule
 Spells words (exec limit absent schedule) = SpellsRun (codes "exec") words limit absent schedule
-Spells words dis = words ≡ codes "dis" ∷ []
 Spells words asm = words ≡ codes "asm" ∷ []
 Spells words link = words ≡ codes "link" ∷ []
 Spells words build = words ≡ codes "build" ∷ []
-Spells words (soak number count) = SpellsWorkload (codes "soak") words number count
+Spells words dis = words ≡ codes "dis" ∷ []
 Spells words (mon absent schedule) = SpellsSession (codes "mon") words absent schedule
+Spells words (soak number count) = SpellsWorkload (codes "soak") words number count
 
 -- the words spell no command
 abbrev pub SpellNothing : List (List ℕ) → Type 0
 SpellNothing words = (command : Command) → ¬ Spells words command
 
+-- the kinds of input
+pub data InputKind : Type 0 where
+  -- there is none
+  no_input : InputKind
+  -- a source to be assembled
+  source_to_assemble : InputKind
+  -- a source to be assembled and linked
+  source_to_link : InputKind
+  -- the text of objects
+  object_text : InputKind
+  -- S-records
+  record_text : InputKind
+  -- a script, and a source behind it to be assembled and linked
+  scripted_source : InputKind
+
+-- the kind of input of a command
+abbrev pub kind_of : Command → InputKind
+kind_of (run limit absent schedule) = source_to_link
+kind_of (exec limit absent schedule) = record_text
+kind_of asm = source_to_assemble
+kind_of link = object_text
+kind_of build = source_to_link
+kind_of dis = record_text
+kind_of (mon absent schedule) = scripted_source
+kind_of (soak number count) = no_input
+
+-- whether there is an input of a kind to read
+abbrev pub is_read : InputKind → Bool
+is_read no_input = false
+is_read _ = true
+
 -- whether a command reads an input
 abbrev pub reads_input : Command → Bool
-reads_input (run limit absent schedule) = true
-reads_input (exec limit absent schedule) = true
-reads_input dis = true
-reads_input asm = true
-reads_input link = true
-reads_input build = true
-reads_input (soak number count) = false
-reads_input (mon absent schedule) = true
+reads_input command = is_read (kind_of command)
 
 -- the words spell no command that reads an input
 abbrev pub SpellNoReader : List (List ℕ) → Type 0
 SpellNoReader words = (command : Command) → Spells words command → reads_input command ≡ false
 
--- whether a command carries a program out, on a board
-abbrev pub makes_events : Command → Bool
-makes_events (run limit absent schedule) = true
-makes_events (exec limit absent schedule) = true
-makes_events dis = false
-makes_events asm = false
-makes_events link = false
-makes_events build = false
-makes_events (soak number count) = true
-makes_events (mon absent schedule) = true
+-- whether a command shows a watch boards
+abbrev pub shows_boards : Command → Bool
+shows_boards (run limit absent schedule) = true
+shows_boards (exec limit absent schedule) = true
+shows_boards (mon absent schedule) = true
+shows_boards (soak number count) = true
+shows_boards _ = false
 
 -- the words spell no command that does
 abbrev pub SpellNoRun : List (List ℕ) → Type 0
-SpellNoRun words = (command : Command) → Spells words command → makes_events command ≡ false
+SpellNoRun words = (command : Command) → Spells words command → shows_boards command ≡ false

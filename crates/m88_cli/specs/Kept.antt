@@ -1,30 +1,27 @@
 -- Words for the contracts of private functions; no promise of the program names them. A command as the code keeps it.
 use Rattle.std.specs.Prelude.{◌≤◌}
 use Rattle.m88_mem.specs.Marks.{NamesPages, absent_in}
-use Rattle.m88_cli.specs.Command.{Command as Choice, run, exec, dis, asm, link, build, soak, mon}
+use Rattle.m88_cli.specs.Command.{Command as Choice, run, exec, asm, link, build, dis, mon, soak}
 use Rattle.m88_cli.specs.Limits.{most_limit, most_statements}
 use Rattle.m88_cli.specs.declared.commands.Command.{Command}
-use Rattle.m88_cli.specs.declared.commands.Command.TheVariants.{Run, Exec, Dis, Asm, Link, Build, Soak, Mon}
+use Rattle.m88_cli.specs.declared.commands.Command.TheVariants.{Run, Exec, Asm, Link, Build, Dis, Mon, Soak}
 
 -- the command that it is
 abbrev pub command_of : Command → Choice
 command_of (Run limit absent schedule) = run limit (absent_in absent) schedule
 command_of (Exec limit absent schedule) = exec limit (absent_in absent) schedule
-command_of Dis = dis
 command_of Asm = asm
 command_of Link = link
 command_of Build = build
-command_of (Soak number count) = soak number count
+command_of Dis = dis
 command_of (Mon absent schedule) = mon (absent_in absent) schedule
+command_of (Soak number count) = soak number count
 
 -- its limit is one that a run may have, and it names pages that there are; a workload has no more statements than it
 -- may
 abbrev pub IsFit : Command → Type 0
 IsFit (Run limit absent schedule) = (limit ≤ most_limit) × NamesPages absent
 IsFit (Exec limit absent schedule) = (limit ≤ most_limit) × NamesPages absent
-IsFit Dis = Unit {0}
-IsFit Asm = Unit {0}
-IsFit Link = Unit {0}
-IsFit Build = Unit {0}
-IsFit (Soak number count) = count ≤ most_statements
 IsFit (Mon absent schedule) = NamesPages absent
+IsFit (Soak number count) = count ≤ most_statements
+IsFit _ = Unit {0}

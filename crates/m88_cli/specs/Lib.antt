@@ -17,12 +17,14 @@ pub mod Monitoring
 pub mod MonitorLines
 pub mod Session
 pub mod MonitorText
+pub mod Kinds
 pub mod Answer
 pub mod Watching
 pub mod Bridge
 pub mod Status
 -- Words for the contracts of private functions.
 pub mod Kept
+pub mod Inputs
 pub mod SourceFault
 pub mod MonitorFaults
 pub mod ScriptWords

@@ -8,7 +8,7 @@ use Rattle.m88_event.specs.declared.letter.Letter.{Letter}
 use Rattle.m88_board.specs.Glances.{Saw, glances_along}
 use Rattle.m88_board.specs.declared.glance.Glance.{Glance}
 use Rattle.m88_cli.specs.Answer.{Accepts}
-use Rattle.m88_cli.specs.Command.{Command, run, exec, dis, asm, link, build, soak, mon}
+use Rattle.m88_cli.specs.Command.{Command, run, exec, mon, soak}
 use Rattle.m88_cli.specs.MonitorText.{SawSession, SawSessionFront}
 use Rattle.m88_cli.specs.Runs.{IsLoadedProgram, IsSourceProgram}
 use Rattle.m88_cli.specs.Workload.{workload_schedule, workload_source}
@@ -37,14 +37,11 @@ ShownBy OfRun OfSession (run limit absent schedule) source before after =
     (p : Program) × IsSourceProgram source p × OfRun p limit absent schedule before after
 ShownBy OfRun OfSession (exec limit absent schedule) text before after =
     (p : Program) × IsLoadedProgram text p × OfRun p limit absent schedule before after
-ShownBy OfRun OfSession dis text before after = Saw before after []
-ShownBy OfRun OfSession asm source before after = Saw before after []
-ShownBy OfRun OfSession link text before after = Saw before after []
-ShownBy OfRun OfSession build source before after = Saw before after []
+ShownBy OfRun OfSession (mon absent schedule) input before after = OfSession input absent schedule before after
 ShownBy OfRun OfSession (soak number count) input before after =
     (p : Program) × IsSourceProgram (workload_source number count) p
     × OfRun p count every_page (workload_schedule number count) before after
-ShownBy OfRun OfSession (mon absent schedule) input before after = OfSession input absent schedule before after
+ShownBy OfRun OfSession _ input before after = Saw before after []
 
 -- a watch was shown the whole of a command over an input that it accepts
 abbrev pub Shown : Command → List ℕ → Option (List Glance) → Option (List Glance) → Type 0

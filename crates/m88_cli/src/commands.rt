@@ -19,23 +19,23 @@ pub enum Command<'a> {
         absent: Absent,
         schedule: Schedule<'a>,
     },
-    /// The listing of the image that S-records write.
-    Dis,
     /// The text of the objects of a source.
     Asm,
     /// The S-records of the image that objects, read as text, are linked into.
     Link,
     /// The S-records of the image of a source.
     Build,
-    /// The summary of the run of the workload that a number makes, with `count` statements.
-    Soak {
-        number: u32,
-        count: u32,
-    },
+    /// The listing of the image that S-records write.
+    Dis,
     /// What the monitor writes for a script over a source, with pages absent at first and the letters that the events
     /// begin with.
     Mon {
         absent: Absent,
         schedule: Schedule<'a>,
+    },
+    /// The summary of the run of the workload that a number makes, with `count` statements.
+    Soak {
+        number: u32,
+        count: u32,
     },
 }

@@ -1,28 +1,66 @@
-//! The input that a command reads.
-ghost use Rattle.std.specs.Prelude.{◌≡◌, ◌≢◌, ◌+◌, ◌≤◌, Err, IfErr, IfOk, OnOk, false, true, length};
+//! The input that a command reads, as it wants it.
+ghost use Rattle.std.specs.Prelude.{ℕ, ◌≡◌, ◌≢◌, ◌+◌, ◌≤◌, Err, IfErr, IfOk, List, OnOk, false, true, length};
+ghost use Rattle.std.specs.Io.KnownBytes.{Consumes, IsAtEnd};
 ghost use Rattle.m88_base.specs.Calls.{CallsWithin};
 ghost use Rattle.m88_base.specs.Causes.{Rose};
 ghost use Rattle.m88_base.specs.Outside.{TakesAtMost, TakesExactly};
-ghost use Rattle.m88_cli.specs.Calls.{GivesInput};
-ghost use Rattle.m88_cli.specs.Command.{reads_input};
+ghost use Rattle.m88_cli.specs.Command.{kind_of, reads_input};
+ghost use Rattle.m88_cli.specs.Inputs.{AreRecordsOf, IsKeptAs, IsMadeOf, IsReadFrom, IsRecordsRead, IsText};
 ghost use Rattle.m88_cli.specs.Kept.{command_of};
 ghost use Rattle.m88_cli.specs.Limits.{most_input};
 
 use crate::commands::Command;
 use crate::limits::MOST_INPUT;
-use m88_base::{ReadEnd, Source, read_all};
+use m88_base::{Image, ReadEnd, Source, read_all};
+use m88_srec::{SrecFault, SrecKind, read_srec};
 use std::alloc::Global;
 
-/// The whole input of a command; a command that reads none leaves the source alone.
+/// The whole input of a command.
+#[derive(Drop, Debug)]
+pub enum Input {
+    /// None: the command reads nothing.
+    Nothing,
+    /// Its text.
+    Text(Vec<u8>),
+    /// The image that it writes as S-records, or its first fault as such.
+    Records(Result<Image, SrecFault>),
+}
+
+impl Input {
+    /// The text of an input that was read as one.
+    pub fn text(&self) -> &[u8]
+        requires { IsText self.now }
+        ensures made { (input : List ℕ) → IsMadeOf self.now input → result.now ≡ input }
+        ensures short { length result.now ≤ most_input }
+    {
+        match self {
+            Input::Text(text) => text.as_slice(),
+            Input::Nothing | Input::Records(_) => unreachable!(),
+        }
+    }
+
+    /// What an input that was read as S-records came to.
+    pub fn records(&self) -> &Result<Image, SrecFault>
+        requires { IsRecordsRead self.now }
+        ensures { (input : List ℕ) → IsMadeOf self.now input → AreRecordsOf result.now input }
+    {
+        match self {
+            Input::Records(records) => records,
+            Input::Nothing | Input::Text(_) => unreachable!(),
+        }
+    }
+}
+
+/// The whole input of a command; one that reads none leaves the source alone.
 #[tactic(auto, using(m88_base::proofs::Calls::calls_none))]
 pub fn input_of<S: Source>(
     alloc: Global,
     command: &Command,
     source: &mut S,
-) -> Result<Vec<u8>, ReadEnd>
-    ensures ok { IfOk result (λ input.
-        GivesInput (command_of command.now) (S.left source.old) (S.left source.new) input.items) }
-    ensures short { IfOk result (λ input. length input.items ≤ most_input) }
+) -> Result<Input, ReadEnd>
+    ensures ok { IfOk result
+        (IsReadFrom (command_of command.now) (S.left source.old) (S.left source.new)) }
+    ensures kept { IfOk result (IsKeptAs (kind_of (command_of command.now))) }
     ensures unread { reads_input (command_of command.now) ≡ false → source.new ≡ source.old }
     ensures calls { CallsWithin (most_input + 2) (S.calls source.old) (S.calls source.new) }
     ensures clean { OnOk result (S.faults source.new ≡ S.faults source.old) }
@@ -35,13 +73,44 @@ pub fn input_of<S: Source>(
         → TakesAtMost (S.left source.old) (S.left source.new) most_input }
 {
     match command {
-        Command::Run { .. }
-        | Command::Exec { .. }
-        | Command::Dis
-        | Command::Asm
-        | Command::Link
-        | Command::Build
-        | Command::Mon { .. } => read_all(alloc, source, MOST_INPUT),
-        Command::Soak { .. } => Ok(Vec::new(alloc)),
+        Command::Soak { .. } => Ok(Input::Nothing),
+        Command::Exec { .. } | Command::Dis => {
+            let records = read_records(alloc, source)?;
+            Ok(Input::Records(records))
+        }
+        Command::Run { .. } | Command::Asm | Command::Link | Command::Build | Command::Mon { .. } =>
+            {
+                let text = read_all(alloc, source, MOST_INPUT)?;
+                Ok(Input::Text(text))
+            }
+    }
+}
+
+/// The image that a source writes as S-records, or their first fault.
+fn read_records<S: Source>(
+    alloc: Global,
+    source: &mut S,
+) -> Result<Result<Image, SrecFault>, ReadEnd>
+    ensures ok { IfOk result (λ records. (text : List ℕ)
+        × Consumes (S.left source.old) (S.left source.new) text
+        × IsAtEnd (S.left source.new) × AreRecordsOf records text) }
+    ensures too_long { result ≡ Err ReadEnd.TooLong
+        → TakesExactly (S.left source.old) (S.left source.new) (most_input + 1) }
+    ensures short { result ≢ Err ReadEnd.TooLong
+        → TakesAtMost (S.left source.old) (S.left source.new) most_input }
+    ensures calls { CallsWithin (most_input + 2) (S.calls source.old) (S.calls source.new) }
+    ensures clean { OnOk result (S.faults source.new ≡ S.faults source.old) }
+    ensures fault { result ≡ Err ReadEnd.SourceFault
+        → Rose (S.faults source.old) (S.faults source.new) }
+{
+    let text = read_all(alloc, source, MOST_INPUT)?;
+    match read_srec(alloc, text.as_slice()) {
+        Ok(image) => Ok(Ok(image)),
+        Err(fault) => {
+            if fault.kind == SrecKind::Memory {
+                return Err(ReadEnd::Memory);
+            }
+            Ok(Err(fault))
+        }
     }
 }

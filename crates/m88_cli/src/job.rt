@@ -1,12 +1,13 @@
 //! What a command makes of its whole input.
-ghost use Rattle.std.specs.Prelude.{◌≡◌, ◌≤◌, IfOk, OnErr, false, length};
-ghost use Rattle.m88_cli.specs.Command.{makes_events};
+ghost use Rattle.std.specs.Prelude.{ℕ, ◌≡◌, IfOk, List, OnErr, false};
+ghost use Rattle.m88_cli.specs.Command.{kind_of, shows_boards};
+ghost use Rattle.m88_cli.specs.Inputs.{IsKeptAs, IsMadeOf};
 ghost use Rattle.m88_cli.specs.Kept.{IsFit, command_of};
-ghost use Rattle.m88_cli.specs.Limits.{most_input};
 ghost use Rattle.m88_cli.specs.Reply.{Replies, WatchesFront, WatchesReply};
 
 use crate::assembly::{assemble_source, build_source};
 use crate::commands::Command;
+use crate::input::Input;
 use crate::loading::list_records;
 use crate::monitoring::run_monitor;
 use crate::objects::link_objects;
@@ -21,34 +22,37 @@ use std::alloc::Global;
 pub fn reply_to<W: Watch>(
     alloc: Global,
     command: &Command,
-    input: &[u8],
+    input: &Input,
     watch: &mut W,
 ) -> Result<Reply, NoMemory>
     requires fit { IsFit command.now }
-    requires size { length input.now ≤ most_input }
-    ensures reply { IfOk result (Replies (command_of command.now) input.now) }
-    ensures watched { IfOk result
-        (WatchesReply W.seen watch.old watch.new (command_of command.now) input.now) }
-    ensures front { OnErr result
-        (WatchesFront W.seen watch.old watch.new (command_of command.now) input.now) }
-    ensures unshown { makes_events (command_of command.now) ≡ false → watch.new ≡ watch.old }
+    requires kept { IsKeptAs (kind_of (command_of command.now)) input.now }
+    ensures reply { (bytes : List ℕ) → IsMadeOf input.now bytes
+        → IfOk result (Replies (command_of command.now) bytes) }
+    ensures watched { (bytes : List ℕ) → IsMadeOf input.now bytes
+        → IfOk result (WatchesReply W.seen watch.old watch.new (command_of command.now) bytes) }
+    ensures front { (bytes : List ℕ) → IsMadeOf input.now bytes
+        → OnErr result (WatchesFront W.seen watch.old watch.new (command_of command.now) bytes) }
+    ensures unshown { shows_boards (command_of command.now) ≡ false → watch.new ≡ watch.old }
 {
     match command {
         Command::Run {
             limit,
             absent,
             schedule,
-        } => run_source(alloc, *limit, absent, schedule, input, watch),
+        } => run_source(alloc, *limit, absent, schedule, input.text(), watch),
         Command::Exec {
             limit,
             absent,
             schedule,
-        } => run_records(alloc, *limit, absent, schedule, input, watch),
-        Command::Dis => list_records(alloc, input),
-        Command::Asm => assemble_source(alloc, input),
-        Command::Link => link_objects(alloc, input),
-        Command::Build => build_source(alloc, input),
+        } => run_records(alloc, *limit, absent, schedule, input.records(), watch),
+        Command::Asm => assemble_source(alloc, input.text()),
+        Command::Link => link_objects(alloc, input.text()),
+        Command::Build => build_source(alloc, input.text()),
+        Command::Dis => list_records(alloc, input.records()),
+        Command::Mon { absent, schedule } => {
+            run_monitor(alloc, absent, schedule, input.text(), watch)
+        }
         Command::Soak { number, count } => run_workload(alloc, *number, *count, watch),
-        Command::Mon { absent, schedule } => run_monitor(alloc, absent, schedule, input, watch),
     }
 }

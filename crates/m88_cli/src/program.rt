@@ -8,7 +8,7 @@ ghost use Rattle.m88_base.specs.Outside.{AppendsPart, TakesAtMost, TakesExactly}
 ghost use Rattle.m88_cli.specs.Answer.{Accepts, IsAnswer, IsAnswerToAccepted, IsAnswerToRefused, Refuses};
 ghost use Rattle.m88_cli.specs.Bridge.{AssembledLinksAlike, BuiltRunsAlike, ListedBuildsAlike};
 ghost use Rattle.m88_cli.specs.Calls.{CarriedOut, GivesInput, Given, HasInput, IsWhole};
-ghost use Rattle.m88_cli.specs.Command.{Command as Choice, SpellNoReader, SpellNoRun, SpellNothing, Spells, makes_events, reads_input};
+ghost use Rattle.m88_cli.specs.Command.{Command as Choice, SpellNoReader, SpellNoRun, SpellNothing, Spells, reads_input, shows_boards};
 ghost use Rattle.m88_cli.specs.Kept.{IsFit, command_of};
 ghost use Rattle.m88_cli.specs.Limits.{most_input};
 ghost use Rattle.m88_cli.specs.Refusal.{Refusal, refusal_line};
@@ -160,7 +160,7 @@ fn reply_from<S: Source, W: Watch>(
         × Replies (command_of command.now) input reply
         × WatchesReply W.seen watch.old watch.new (command_of command.now) input reply) }
     ensures unread { reads_input (command_of command.now) ≡ false → source.new ≡ source.old }
-    ensures unshown_by { makes_events (command_of command.now) ≡ false → watch.new ≡ watch.old }
+    ensures unshown_by { shows_boards (command_of command.now) ≡ false → watch.new ≡ watch.old }
     ensures calls { CallsWithin (most_input + 2) (S.calls source.old) (S.calls source.new) }
     ensures clean { OnOk result (S.faults source.new ≡ S.faults source.old) }
     ensures status { IfErr result IsOfReading }
@@ -178,6 +178,6 @@ fn reply_from<S: Source, W: Watch>(
         → TakesAtMost (S.left source.old) (S.left source.new) most_input }
 {
     let input = input_of(alloc, command, source)?;
-    let reply = reply_to(alloc, command, input.as_slice(), watch)?;
+    let reply = reply_to(alloc, command, &input, watch)?;
     Ok(reply)
 }

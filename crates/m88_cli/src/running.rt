@@ -1,5 +1,5 @@
 //! What `run` and `exec` make of their input: a run on the board, and its report.
-ghost use Rattle.std.specs.Prelude.{◌≡◌, ◌≤◌, IfOk, OnErr, OnOk, length, true};
+ghost use Rattle.std.specs.Prelude.{ℕ, ◌≡◌, ◌≤◌, IfOk, List, OnErr, OnOk, length, true};
 ghost use Rattle.m88_base.specs.Image.{IsImage};
 ghost use Rattle.m88_event.specs.Run.{IsOutcome};
 ghost use Rattle.m88_event.specs.declared.outcome.Outcome.{Outcome as OutcomeValue};
@@ -7,6 +7,7 @@ ghost use Rattle.m88_isa.specs.ImageProgram.{IsProgramOf};
 ghost use Rattle.m88_isa.specs.Machine.{Program};
 ghost use Rattle.m88_mem.specs.Marks.{NamesPages, absent_in};
 ghost use Rattle.m88_cli.specs.Command.{exec, run};
+ghost use Rattle.m88_cli.specs.Inputs.{AreRecordsOf};
 ghost use Rattle.m88_cli.specs.Limits.{most_input, most_limit};
 ghost use Rattle.m88_cli.specs.Reply.{Replies, WatchesFront, WatchesReply};
 ghost use Rattle.m88_cli.specs.Watching.{SawFront, SawRun};
@@ -20,7 +21,7 @@ use m88_base::{Absent, Image, NoMemory};
 use m88_board::{Board, Watch};
 use m88_event::{Outcome, Schedule};
 use m88_report::report;
-use m88_srec::read_srec;
+use m88_srec::SrecFault;
 use std::alloc::Global;
 
 /// The reply of `run` to a source.
@@ -48,27 +49,28 @@ pub fn run_source<W: Watch>(
     }
 }
 
-/// The reply of `exec` to S-records.
+/// The reply of `exec` to S-records, from the image that they write or their first fault.
 pub fn run_records<W: Watch>(
     alloc: Global,
     limit: u32,
     absent: &Absent,
     schedule: &Schedule,
-    records: &[u8],
+    records: &Result<Image, SrecFault>,
     watch: &mut W,
 ) -> Result<Reply, NoMemory>
-    requires size { length records.now ≤ most_input }
     requires limit { limit ≤ most_limit }
     requires pages { NamesPages absent.now }
-    ensures reply { IfOk result
-        (Replies (exec limit (absent_in absent.now) schedule.now) records.now) }
-    ensures watched { IfOk result (WatchesReply W.seen watch.old watch.new
-        (exec limit (absent_in absent.now) schedule.now) records.now) }
-    ensures front { OnErr result (WatchesFront W.seen watch.old watch.new
-        (exec limit (absent_in absent.now) schedule.now) records.now) }
+    ensures reply { (text : List ℕ) → AreRecordsOf records.now text → IfOk result
+        (Replies (exec limit (absent_in absent.now) schedule.now) text) }
+    ensures watched { (text : List ℕ) → AreRecordsOf records.now text → IfOk result
+        (WatchesReply W.seen watch.old watch.new
+        (exec limit (absent_in absent.now) schedule.now) text) }
+    ensures front { (text : List ℕ) → AreRecordsOf records.now text → OnErr result
+        (WatchesFront W.seen watch.old watch.new
+        (exec limit (absent_in absent.now) schedule.now) text) }
 {
-    match read_srec(alloc, records) {
-        Ok(image) => run_image(alloc, limit, absent, schedule, &image, watch),
+    match records {
+        Ok(image) => run_image(alloc, limit, absent, schedule, image, watch),
         Err(fault) => unloaded(alloc, fault),
     }
 }

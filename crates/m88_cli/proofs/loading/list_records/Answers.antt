@@ -1,17 +1,21 @@
 -- The listing of the image answers the records, and so does the line that refuses them.
+use Rattle.std.proofs.Common.{refl, subst}
 use Rattle.m88_cli.specs.Command.{dis}
+use Rattle.m88_cli.specs.Inputs.{AreRecordsOf}
 use Rattle.m88_cli.specs.Loading.{srec_refusal}
 use Rattle.m88_cli.proofs.Listed.{listed}
-use Rattle.m88_cli.proofs.Refusing.{records_refusal, refused_reply}
+use Rattle.m88_cli.proofs.Refusing.{plainly_refused}
 use Rattle.m88_cli.proofs.loading.list_records.Goals as goal
 
 pub returns-in-Err : goal.returns-in-Err
-returns-in-Err c =
-    refused_reply dis c.args.records.now (srec_refusal c.in-Err.fault) c.unloaded.result
-    (records_refusal c.args.records.now c.read_srec.result c.in-Err.fault c.in-Err.is c.read_srec.ensures.value)
-    c.unloaded.ensures.line c.unloaded.ensures.refused c.unloaded.ensures.told
+returns-in-Err c = λ text are.
+    let first = subst (λ records. AreRecordsOf records text) c.in-Err.is are in
+    plainly_refused dis text (srec_refusal c.in-Err.fault) c.unloaded.result
+    (record { fault = c.in-Err.fault; is_first = first; refusal = refl })
+    c.unloaded.ensures.line c.unloaded.ensures.refused
 
 pub returns : goal.returns
-returns c =
-    listed c.args.records.now c.in_ok-text.text.items c.in-Ok.image c.part_count.ensures.image c.in-Ok.ensures.accepted
+returns c = λ text are.
+    let written = subst (λ records. AreRecordsOf records text) c.in-Ok.is are in
+    listed text c.in_ok-text.text.items c.in-Ok.image c.part_count.ensures.image written
     c.in_ok-text.ensures.value c.in_ok-text.ensures.only

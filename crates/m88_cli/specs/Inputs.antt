@@ -1,0 +1,44 @@
+-- Words for the contracts of private functions; no promise of the program names them. An input as the code keeps it.
+use Rattle.std.specs.Prelude.{ℕ, ◌≡◌, ◌≤◌, List, [], Option, Result, Ok, Err, length}
+use Rattle.m88_base.specs.Image.{ProgramImage}
+use Rattle.m88_srec.specs.Accepted.{IsAccepted, whole_of}
+use Rattle.m88_srec.specs.Verdict.{IsFirstSrecFault}
+use Rattle.m88_srec.specs.declared.fault.SrecFault.{SrecFault}
+use Rattle.m88_cli.specs.Calls.{GivesInput}
+use Rattle.m88_cli.specs.Command.{Command, InputKind, no_input, record_text}
+use Rattle.m88_cli.specs.Limits.{most_input}
+use Rattle.m88_cli.specs.declared.input.Input.{Input}
+use Rattle.m88_cli.specs.declared.input.Input.TheVariants.{Nothing, Text, Records}
+
+-- as S-records the text writes the image, or has the fault as its first
+abbrev pub AreRecordsOf : Result ProgramImage SrecFault → List ℕ → Type 0
+AreRecordsOf (Ok image) text = IsAccepted text (whole_of image)
+AreRecordsOf (Err fault) text = IsFirstSrecFault text fault
+
+-- it was made of these bytes
+abbrev pub IsMadeOf : Input → List ℕ → Type 0
+IsMadeOf Nothing input = input ≡ []
+IsMadeOf (Text text) input = text.items ≡ input
+IsMadeOf (Records records) input = AreRecordsOf records input
+
+-- it is a text, which isn't too long
+abbrev pub IsText : Input → Type 0
+IsText (Text text) = length text.items ≤ most_input
+IsText _ = ⊥
+
+-- it is what was made of S-records
+abbrev pub IsRecordsRead : Input → Type 0
+IsRecordsRead (Records records) = Unit {0}
+IsRecordsRead _ = ⊥
+
+-- it is kept as inputs of the kind are: S-records as what they write, and any other as its text
+abbrev pub IsKeptAs : InputKind → Input → Type 0
+IsKeptAs no_input input = Unit {0}
+IsKeptAs record_text input = IsRecordsRead input
+IsKeptAs _ input = IsText input
+
+-- the source gave a command its input, and it was made of that
+pub record IsReadFrom (command : Command) (before after : Option (List ℕ)) (input : Input) : Type 0 where
+  pub bytes : List ℕ
+  pub given : GivesInput command before after bytes
+  pub is_made : IsMadeOf input bytes
