@@ -20,7 +20,7 @@ use Rattle.m88_isa.specs.declared.planned.Access.{Access}
 use Rattle.m88_mem.specs.DataBus.{bus_of, image_bus}
 use Rattle.m88_scoreboard.specs.Registers.{none_waits, waiting_of}
 use Rattle.m88_board.proofs.Moving.{empty_of}
-use Rattle.m88_board.proofs.Running.{drained_by}
+use Rattle.m88_board.proofs.Walking.{drained_by}
 use Rattle.m88_board.proofs.Shown.{over_at}
 use Rattle.m88_board.proofs.Starting.{same_bytes}
 use Rattle.m88_board.specs.Board.{BoardView, cells_of, completed_of, is_idle_board, local_of}

@@ -21,7 +21,8 @@ pub mod Counting
 pub mod Still
 pub mod Seeing
 pub mod Shown
-pub mod Running
+pub mod Walking
+pub mod Weighing
 pub mod Ending
 pub mod Recorded
 pub mod Advancing

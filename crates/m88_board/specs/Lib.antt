@@ -4,3 +4,4 @@ pub mod Glances
 pub mod Moves
 pub mod Turns
 pub mod Shown
+pub mod Walks

@@ -22,7 +22,7 @@ ghost use Rattle.m88_isa.specs.ImageProgram.{IsProgramOf};
 ghost use Rattle.std.specs.Int.{bit_at};
 ghost use Rattle.m88_dunit.specs.Pending.{CanIssue};
 ghost use Rattle.m88_iunit.specs.Pointers.{resumed};
-ghost use Rattle.m88_board.specs.Kept.{IsProgramEnd, epsr_of, most_events, most_retired};
+ghost use Rattle.m88_board.specs.Kept.{IsKept, IsProgramEnd, epsr_of, most_events, most_retired};
 ghost use Rattle.m88_board.specs.Moves.{Did, Does, IsAt, IsSameRun, IsStill, IsUnmoved, stopping};
 ghost use Rattle.m88_board.specs.Shown.{IsRecordOf, Leaves, ShowsFault, rest_of};
 ghost use Rattle.m88_board.specs.Turns.{ComesToEnd, IssueComesTo, StoreOnOnePage};
@@ -413,7 +413,7 @@ impl Board {
     fn count(&mut self)
         requires { self.old.events < most_events }
         ensures counted { self.new ≡ record self.old { events = self.old.events + 1 } }
-        ensures is_image { IsImage self.old.memory.image }
+        ensures kept { IsKept self.new }
     {
         self.events += 1;
     }

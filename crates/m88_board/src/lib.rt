@@ -1,10 +1,15 @@
 //! The board: instruction unit, data unit, register file, memory, control registers and monitor as the parts of one
 //! machine, with its output, its counts and the records of its data faults. `Board::new` makes one over an image,
-//! `event` makes the event of a letter, `run` those of a whole run and `drain` those that leave nothing pending; a
-//! `Watch` is shown the board after each event of `run` and `drain`. All else tells what the board shows.
+//! `event` makes the event of a letter, and a `Walk` those of the letters of a run, one by one or until it is to stop;
+//! `run` is a walk to the end of a run, and `drain` makes the events that leave nothing pending. A `Watch` is shown the
+//! board after each event of these. All else tells what the board shows.
 #![tactic(auto)]
 
 mod board;
+
+// along the letters of a run
+mod until;
+mod walk;
 
 // its parts at work together
 mod accesses;
@@ -22,4 +27,6 @@ pub use board::Board;
 pub use glance::Glance;
 pub use m88_event::{End, Happened, Letter, Outcome, Record, Schedule, Why};
 pub use mem_watch::MemWatch;
+pub use until::Until;
+pub use walk::Walk;
 pub use watch::{Unwatched, Watch};

@@ -1,11 +1,10 @@
 -- Commands, one after the other.
-use Rattle.std.specs.Prelude.{Result, Ok, Err, OnOk, ℕ, Bool, true, false, List, [], ◌∷◌, ◌++◌, Option, ◌≡◌, ◌<◌, ◌≤◌, ◌+◌, drop, length, nat_lt}
-use Rattle.std.proofs.Common.{add-one, arith, append_assoc, append-nil, refl, sym, ap, ap₂, ◌∙◌, subst, inl, inr, drop-cons, get_or}
-use Rattle.std.proofs.lemmas.Bool.{ltb-false, ltb-true}
+use Rattle.std.specs.Prelude.{Result, Ok, Err, OnOk, ℕ, Bool, true, List, [], ◌∷◌, ◌++◌, Option, ◌≡◌, ◌<◌, ◌≤◌, ◌+◌, drop, length}
+use Rattle.std.proofs.Common.{add-one, append_assoc, append-nil, refl, sym, ap, ap₂, ◌∙◌, subst, inl, inr, drop-cons, get_or}
 use Rattle.std.proofs.lemmas.List.{drop_all}
+use Rattle.m88_event.proofs.Over.{one_first}
 use Rattle.m88_event.specs.Timeline.{opening_moment}
 use Rattle.m88_event.specs.declared.letter.Letter.{Letter}
-use Rattle.m88_isa.proofs.Alone.{by_test}
 use Rattle.m88_isa.specs.Address.{word_address}
 use Rattle.m88_isa.specs.Machine.{IsProgram, Program}
 use Rattle.m88_board.proofs.Seeing.{saw_none, saw_then}
@@ -13,10 +12,11 @@ use Rattle.m88_board.specs.Board.{BoardView}
 use Rattle.m88_board.specs.Glances.{Saw}
 use Rattle.m88_board.specs.Moves.{IsAt}
 use Rattle.m88_board.specs.declared.glance.Glance.{Glance}
-use Rattle.m88_cli.proofs.Along.{each_none}
+use Rattle.m88_board.specs.declared.walk.Walk.{Walk}
+use Rattle.m88_cli.proofs.MonitorWalks.{each_none}
 use Rattle.m88_cli.proofs.Reporting.{no_glance}
 use Rattle.m88_cli.specs.Limits.{session_limit}
-use Rattle.m88_cli.specs.Session.{Course, IsSession, IsSessionFront, Makes, Session, after_command, course_of, glances_of, moments_of, opening_session, text_of_command, wants_event}
+use Rattle.m88_cli.specs.Session.{Course, IsSession, IsSessionFront, Session, after_command, course_of, glances_of, moments_of, opening_session, stops_command, text_of_command}
 use Rattle.m88_cli.specs.SessionKept.{Broke, Carried, Stands}
 use Rattle.m88_cli.specs.declared.monitor.Monitor.{Monitor}
 use Rattle.m88_cli.specs.declared.script.MonitorCommand.{MonitorCommand}
@@ -27,31 +27,19 @@ pub saw_nothing : (c : Course) (s : Session) (command : MonitorCommand) (seen : 
 saw_nothing c s command seen =
     subst (λ glances. Saw seen seen glances) (sym (no_glance c.program (moments_of c s command))) (saw_none seen)
 
-pub still : (c : Course) (letters : List Letter) (s : Session) (command : MonitorCommand) (seen : Option (List Glance)) (old new : List ℕ)
+pub still : (c : Course) (s : Session) (command : MonitorCommand) (seen : Option (List Glance)) (old new : List ℕ)
     (monitor : Monitor) →
-    wants_event c s command 0 ≡ false →
-    Stands c letters (after_command c s command 0) monitor →
+    stops_command c s command 0 ≡ true →
+    Stands c (after_command c s command 0) monitor →
     new ≡ old ++ text_of_command c s command 0 →
-    Carried c letters s command seen seen old new monitor
-still c letters s command seen old new monitor none stands text = record {
-  went = record { events = 0; makes = record { each = each_none c s command; done = none }; stands = stands; saw = saw_nothing c s command seen };
+    Carried c s command seen seen old new monitor
+still c s command seen old new monitor none stands text = record {
+  went = record { events = 0; makes = record { here = none; first = each_none c s command }; stands = stands; saw = saw_nothing c s command seen };
   text = text;
 }
 
 pub still_broke : (c : Course) (s : Session) (command : MonitorCommand) (seen : Option (List Glance)) → Broke c s command seen seen
 still_broke c s command seen = record { events = 0; each = each_none c s command; saw = saw_nothing c s command seen }
-
--- a command makes one number of events
-one_first : (f : ℕ → Bool) (a b : ℕ) → f a ≡ false → ((k : ℕ) → k < a → f k ≡ true) → f b ≡ false →
-    ((k : ℕ) → k < b → f k ≡ true) → a ≡ b
-one_first f a b at_a before_a at_b before_b = by_test (nat_lt a b)
-    (λ less. absurd (let no = before_b a (ltb-true a b less) in cc))
-    (λ more. by_test (nat_lt b a)
-    (λ less. absurd (let no = before_a b (ltb-true b a less) in cc))
-    (λ most. omega (arith, ltb-false a b more, ltb-false b a most)))
-
-one_count : (c : Course) (s : Session) (command : MonitorCommand) (a b : ℕ) → Makes c s command a → Makes c s command b → a ≡ b
-one_count c s command a b x y = one_first (wants_event c s command) a b x.done x.each y.done y.each
 
 -- so commands write one text, and show the same glances
 abbrev pub HasOneSession : Course → List MonitorCommand → Session → Type 0
@@ -62,7 +50,7 @@ HasOneSession c commands s =
 pub one_session : (c : Course) (commands : List MonitorCommand) (s : Session) → HasOneSession c commands s
 one_session c [] s text other glances others x y = (x.0 ∙ sym y.0, x.1 ∙ sym y.1)
 one_session c (command ∷ commands) s text other glances others x y =
-    let same = one_count c s command x.events y.events x.makes y.makes in
+    let same = one_first (stops_command c s command) x.events y.events x.makes y.makes in
     let rest = one_session c commands (after_command c s command x.events) x.rest y.rest x.others y.others x.is_rest
     (subst (λ n. IsSession c commands (after_command c s command n) y.rest y.others) (sym same) y.is_rest) in (
       x.text_is ∙ ap₂ (λ n t. text_of_command c s command n ++ t) same rest.0 ∙ sym y.text_is,
@@ -70,22 +58,22 @@ one_session c (command ∷ commands) s text other glances others x y =
     )
 
 -- some commands are carried out, and where the others stand then
-pub record IsCarrying (c : Course) (letters : List Letter) (commands : List MonitorCommand) (start : Session) (i : ℕ)
+pub record IsCarrying (c : Course) (commands : List MonitorCommand) (start : Session) (i : ℕ)
     (before after : Option (List Glance)) (told : List ℕ) (monitor : Monitor) : Type 0 where
   pub session : Session
   pub glances : List Glance
-  pub stands : Stands c letters session monitor
+  pub stands : Stands c session monitor
   pub saw : Saw before after glances
   pub whole : (rest : List ℕ) (others : List Glance) → IsSession c (drop i commands) session rest others
       → IsSession c commands start (told ++ rest) (glances ++ others)
   pub front : (others : List Glance) → IsSessionFront c (drop i commands) session others
       → IsSessionFront c commands start (glances ++ others)
 
-pub carry_start : (c : Course) (letters : List Letter) (commands : List MonitorCommand) (start : Session) (seen : Option (List Glance))
+pub carry_start : (c : Course) (commands : List MonitorCommand) (start : Session) (seen : Option (List Glance))
     (monitor : Monitor) →
-    Stands c letters start monitor →
-    IsCarrying c letters commands start 0 seen seen [] monitor
-carry_start c letters commands start seen monitor stands = record {
+    Stands c start monitor →
+    IsCarrying c commands start 0 seen seen [] monitor
+carry_start c commands start seen monitor stands = record {
   session = start;
   glances = [];
   stands = stands;
@@ -95,14 +83,14 @@ carry_start c letters commands start seen monitor stands = record {
 }
 
 -- one more
-carry_one : (c : Course) (letters : List Letter) (commands left : List MonitorCommand) (command : MonitorCommand) (start : Session) (i : ℕ)
+carry_one : (c : Course) (commands left : List MonitorCommand) (command : MonitorCommand) (start : Session) (i : ℕ)
     (before here after : Option (List Glance)) (old new : List ℕ) (monitor next : Monitor) →
     drop i commands ≡ command ∷ left →
     drop (i + 1) commands ≡ left →
-    (carrying : IsCarrying c letters commands start i before here old monitor) →
-    Carried c letters carrying.session command here after old new next →
-    IsCarrying c letters commands start (i + 1) before after new next
-carry_one c letters commands left command start i before here after old new monitor next e f carrying carried =
+    (carrying : IsCarrying c commands start i before here old monitor) →
+    Carried c carrying.session command here after old new next →
+    IsCarrying c commands start (i + 1) before after new next
+carry_one c commands left command start i before here after old new monitor next e f carrying carried =
     let s : Session = carrying.session in
     let n : ℕ = carried.went.events in
     let told : List ℕ = text_of_command c s command n in
@@ -135,23 +123,23 @@ here_is : (commands : List MonitorCommand) (i : ℕ) (d : MonitorCommand) → i 
     drop i commands ≡ get_or commands i d ∷ drop (i + 1) commands
 here_is commands i d h = drop-cons commands i d h ∙ ap (λ n. get_or commands i d ∷ drop n commands) (sym (add-one i))
 
-pub carry_next : (c : Course) (letters : List Letter) (commands : List MonitorCommand) (d : MonitorCommand) (start : Session) (i : ℕ)
+pub carry_next : (c : Course) (commands : List MonitorCommand) (d : MonitorCommand) (start : Session) (i : ℕ)
     (before here after : Option (List Glance)) (old new : List ℕ) (monitor next : Monitor) →
     i < length commands →
-    (carrying : IsCarrying c letters commands start i before here old monitor) →
-    Carried c letters carrying.session (get_or commands i d) here after old new next →
-    IsCarrying c letters commands start (i + 1) before after new next
-carry_next c letters commands d start i before here after old new monitor next below carrying carried =
-    carry_one c letters commands (drop (i + 1) commands) (get_or commands i d) start i before here after old new monitor next
+    (carrying : IsCarrying c commands start i before here old monitor) →
+    Carried c carrying.session (get_or commands i d) here after old new next →
+    IsCarrying c commands start (i + 1) before after new next
+carry_next c commands d start i before here after old new monitor next below carrying carried =
+    carry_one c commands (drop (i + 1) commands) (get_or commands i d) start i before here after old new monitor next
     (here_is commands i d below) refl carrying carried
 
 -- to the last
-pub carry_end : (c : Course) (letters : List Letter) (commands : List MonitorCommand) (start : Session) (i : ℕ)
+pub carry_end : (c : Course) (commands : List MonitorCommand) (start : Session) (i : ℕ)
     (before after : Option (List Glance)) (told : List ℕ) (monitor : Monitor) →
     length commands ≤ i →
-    IsCarrying c letters commands start i before after told monitor →
+    IsCarrying c commands start i before after told monitor →
     (glances : List Glance) × IsSession c commands start told glances × Saw before after glances
-carry_end c letters commands start i before after told monitor past carrying =
+carry_end c commands start i before after told monitor past carrying =
     let none : drop i commands ≡ [] = drop_all i commands past in
     let whole = carrying.whole [] [] (subst (λ xs. IsSession c xs carrying.session [] []) (sym none) (refl, refl)) in (
       carrying.glances,
@@ -161,13 +149,13 @@ carry_end c letters commands start i before after told monitor past carrying =
     )
 
 -- or to where memory ran out
-pub carry_broke : (c : Course) (letters : List Letter) (commands : List MonitorCommand) (d : MonitorCommand) (start : Session) (i : ℕ)
+pub carry_broke : (c : Course) (commands : List MonitorCommand) (d : MonitorCommand) (start : Session) (i : ℕ)
     (before here after : Option (List Glance)) (told : List ℕ) (monitor : Monitor) →
     i < length commands →
-    (carrying : IsCarrying c letters commands start i before here told monitor) →
+    (carrying : IsCarrying c commands start i before here told monitor) →
     Broke c carrying.session (get_or commands i d) here after →
     (glances : List Glance) × IsSessionFront c commands start glances × Saw before after glances
-carry_broke c letters commands d start i before here after told monitor below carrying broke =
+carry_broke c commands d start i before here after told monitor below carrying broke =
     let s : Session = carrying.session in
     let command : MonitorCommand = get_or commands i d in
     let shown : List Glance = glances_of c s command broke.events in (
@@ -178,36 +166,35 @@ carry_broke c letters commands d start i before here after told monitor below ca
     )
 
 -- where a session begins
-pub stands_first : (p : Program) (named : ℕ → Bool) (letters : List Letter) (monitor : Monitor) → IsProgram p →
-    IsAt p named opening_moment monitor.board →
-    monitor.board.limit ≡ session_limit →
-    monitor.taken ≡ 0 →
+pub stands_first : (p : Program) (named : ℕ → Bool) (letters : List Letter) (board : BoardView) (monitor : Monitor) → IsProgram p →
+    IsAt p named opening_moment board →
+    board.limit ≡ session_limit →
+    monitor.walk.board.now ≡ board →
+    monitor.walk.schedule.now ≡ letters →
+    monitor.walk.taken ≡ 0 →
     monitor.breakpoints.items ≡ [] →
-    Stands (course_of p named letters) letters opening_session monitor
-stands_first p named letters monitor is at limit taken none = record {
+    Stands (course_of p named letters) opening_session monitor
+stands_first p named letters board monitor is at limit same schedule taken none = record {
   program = is;
-  schedule = refl;
-  limit = limit;
-  within = omega arith;
-  at = at;
+  schedule = schedule;
+  limit = ap (λ (b : BoardView). b.limit) same ∙ limit;
+  at = subst (λ (b : BoardView). IsAt p named opening_moment b) (sym same) at;
   taken = taken;
   breakpoints = none;
 }
 
 -- a breakpoint is set
-pub set_stands : (c : Course) (letters : List Letter) (s : Session) (a : ℕ) (old new : Monitor) →
-    Stands c letters s old →
-    new.board ≡ old.board →
-    new.taken ≡ old.taken →
+pub set_stands : (c : Course) (s : Session) (a : ℕ) (old new : Monitor) →
+    Stands c s old →
+    new.walk ≡ old.walk →
     new.breakpoints.items ≡ old.breakpoints.items ++ word_address a ∷ [] →
-    Stands c letters (after_command c s (Break a) 0) new
-set_stands c letters s a old new stands board taken set = record {
+    Stands c (after_command c s (Break a) 0) new
+set_stands c s a old new stands walk set = record {
   program = stands.program;
-  schedule = stands.schedule;
-  limit = ap (λ (b : BoardView). b.limit) board ∙ stands.limit;
-  within = stands.within;
-  at = subst (λ (b : BoardView). IsAt c.program c.named s.moment b) (sym board) stands.at;
-  taken = taken ∙ stands.taken;
+  schedule = ap (λ (w : Walk). w.schedule.now) walk ∙ stands.schedule;
+  limit = ap (λ (w : Walk). w.board.now.limit) walk ∙ stands.limit;
+  at = subst (λ (w : Walk). IsAt c.program c.named s.moment w.board.now) (sym walk) stands.at;
+  taken = ap (λ (w : Walk). w.taken) walk ∙ stands.taken;
   breakpoints = set ∙ ap (λ (xs : List ℕ). xs ++ word_address a ∷ []) stands.breakpoints;
 }
 

@@ -29,9 +29,7 @@ pub mod BridgeLinks
 pub mod BridgeListings
 pub mod BridgeLaws
 pub mod Lines
-pub mod Along
-pub mod Going
-pub mod Draining
+pub mod MonitorWalks
 pub mod Tracing
 pub mod Reading
 pub mod Carrying

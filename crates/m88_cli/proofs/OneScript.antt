@@ -1,5 +1,5 @@
 -- An input is a script with a source behind it, or has none at one line.
-use Rattle.std.proofs.Common.{◌≡◌, ℕ, ◌+◌, List, [], ◌∷◌, ◌++◌, Bool, true, false, length, append_assoc, inl, inr, refl, ap, sym, ◌∙◌, subst}
+use Rattle.std.proofs.Common.{◌≡◌, ℕ, ◌+◌, List, [], ◌∷◌, ◌++◌, Bool, true, false, length, append_assoc, inl, inr, refl, ap, sym, ◌∙◌}
 use Rattle.std.specs.Prelude.{◌≢◌, ◌⊎◌}
 use Rattle.m88_base.proofs.Decided.{same_text}
 use Rattle.m88_base.specs.Lines.{lines_of}

@@ -8,7 +8,7 @@ use Rattle.m88_isa.specs.Machine.{Program}
 use Rattle.m88_event.proofs.Over.{one_outcome}
 use Rattle.m88_event.specs.Choice.{Choice, faults, finishes, holds, idles, issues, passes, replies, serves}
 use Rattle.m88_event.specs.Letters.{letter_at}
-use Rattle.m88_event.specs.Run.{IsOutcome, IsRunning, moment_after, outcome_at}
+use Rattle.m88_event.specs.Run.{IsOutcome, IsRunning, moment_after, moment_along, outcome_at}
 use Rattle.m88_event.specs.Timeline.{Moment, after_choice, after_letter, choice_at, record_at}
 use Rattle.m88_event.specs.declared.letter.Letter.{Letter}
 use Rattle.m88_event.specs.declared.outcome.Outcome.{Outcome}
@@ -41,7 +41,7 @@ unfolding after_letter
 letter_counts p named limit letter m = ap (λ n. n + 1) (choice_counts_none p (choice_at p named limit letter m) (record_at p named limit m) m)
 
 pub counts : (p : Program) (named : ℕ → Bool) (limit : ℕ) (schedule : List Letter) (k : ℕ) → (moment_after p named limit schedule k).events ≡ k
-unfolding moment_after
+unfolding moment_along
 counts p named limit schedule zero = refl
 counts p named limit schedule (suc k) =
     letter_counts p named limit (letter_at schedule k) (moment_after p named limit schedule k)

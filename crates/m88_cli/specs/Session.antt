@@ -1,15 +1,14 @@
 -- A session with the monitor: commands that are carried out one after the other on one board, over one timeline. What
 -- each writes, and what a watch is shown.
-use Rattle.std.specs.Prelude.{ℕ, zero, suc, Bool, true, false, not, List, [], ◌∷◌, ◌++◌, ◌≡◌, ◌<◌, ◌⊎◌, ◌+◌, ◌==◌, ◌&&◌, ◌||◌, nat_lt}
-use Rattle.std.specs.List.{list_any}
+use Rattle.std.specs.Prelude.{ℕ, zero, suc, Bool, true, List, [], ◌∷◌, ◌++◌, ◌≡◌, ◌⊎◌, ◌+◌}
 use Rattle.m88_isa.specs.Address.{word_address}
 use Rattle.m88_isa.specs.Machine.{Program}
-use Rattle.m88_event.specs.Letters.{letter_at}
-use Rattle.m88_event.specs.Run.{answered_after}
-use Rattle.m88_event.specs.Timeline.{Moment, after_letter, is_drained, is_over, nip_at, opening_moment, record_at}
+use Rattle.m88_event.specs.Run.{IsFirst, NotBefore, answered_after, letters_from}
+use Rattle.m88_event.specs.Timeline.{Moment, is_drained, opening_moment, record_at}
 use Rattle.m88_event.specs.declared.letter.Letter.{Letter}
 use Rattle.m88_report.specs.Report.{record_lines}
 use Rattle.m88_board.specs.Glances.{glances_along}
+use Rattle.m88_board.specs.Walks.{is_break, is_made, moments_from, stops_after}
 use Rattle.m88_board.specs.declared.glance.Glance.{Glance}
 use Rattle.m88_cli.specs.Limits.{session_limit}
 use Rattle.m88_cli.specs.MonitorLines.{breakpoint_line, counts_text, registers_text, trace_line, words_text}
@@ -41,55 +40,41 @@ abbrev pub opening_session : Session
 opening_session = record { moment = opening_moment; taken = 0; breakpoints = [] }
 
 -- the moment after so many events of the letters that come next
-unfoldable pub moment_on : Course → Session → ℕ → Moment
-moment_on c s zero = s.moment
-moment_on c s (suc k) =
-    after_letter c.program c.named c.limit (letter_at c.schedule (s.taken + k)) (moment_on c s k)
+abbrev pub moment_on : Course → Session → ℕ → Moment
+moment_on c s = moments_from c.program c.named c.limit c.schedule s.taken s.moment
 
--- the run is over there
-abbrev pub is_over_on : Course → Session → ℕ → Bool
-is_over_on c s k = is_over c.program c.limit (moment_on c s k)
-
--- NIP is valid with the address of a breakpoint
-abbrev pub is_at_breakpoint : Program → List ℕ → Moment → Bool
-is_at_breakpoint p breakpoints m =
-    (nip_at p m).v && list_any (λ a. a == (nip_at p m).addr) breakpoints
-
--- after so many events `go` stops: the run is over, or at least one event was made and the next instruction stands at a
--- breakpoint
-abbrev pub stops_on : Course → Session → ℕ → Bool
-stops_on c s zero = is_over_on c s zero
-stops_on c s (suc k) = is_over_on c s (suc k) || is_at_breakpoint c.program s.breakpoints (moment_on c s (suc k))
+-- whether a walk from there stops after so many events, by when it is to go no further
+abbrev pub stops_on : Course → Session → (Program → ℕ → Moment → Bool) → ℕ → Bool
+stops_on c s enough = stops_after enough c.program c.named c.limit c.schedule s.taken s.moment
 
 -- the moments that a command goes along: `drain` makes `r` events and takes no letter of the run, the others take these
 abbrev pub moments_of : Course → Session → MonitorCommand → ℕ → Moment
 moments_of c s Drain = answered_after c.program c.named c.limit s.moment
 moments_of c s _ = moment_on c s
 
--- after so many events a command makes another one: `step` and `trace` as long as they made fewer than they are asked
--- for and the run isn't over, `go` until it stops, `drain` as long as something is pending, and the others none
-abbrev pub wants_event : Course → Session → MonitorCommand → ℕ → Bool
-wants_event c s (Step most) k = nat_lt k most && not (is_over_on c s k)
-wants_event c s (Trace most) k = nat_lt k most && not (is_over_on c s k)
-wants_event c s Go k = not (stops_on c s k)
-wants_event c s Drain k = not (is_drained c.program (answered_after c.program c.named c.limit s.moment k))
-wants_event c s _ k = false
+-- a command makes no more than so many events: `step` and `trace` as many as they are asked for, `go` up to a
+-- breakpoint, all three none behind the end of the run; `drain` until nothing is pending; the others none
+abbrev pub stops_command : Course → Session → MonitorCommand → ℕ → Bool
+stops_command c s (Step most) = stops_on c s (is_made most)
+stops_command c s (Trace most) = stops_on c s (is_made most)
+stops_command c s Go = stops_on c s (is_break s.breakpoints)
+stops_command c s Drain = λ k. is_drained c.program (answered_after c.program c.named c.limit s.moment k)
+stops_command c s _ = λ k. true
 
--- a command made so many events, each while it went on
+-- a command makes so many events at least
 abbrev pub MakesEach : Course → Session → MonitorCommand → ℕ → Type 0
-MakesEach c s command events = (k : ℕ) → k < events → wants_event c s command k ≡ true
+MakesEach c s command = NotBefore (stops_command c s command)
 
--- a command makes so many events: it goes on before each of them, and not behind them
-pub record Makes (c : Course) (s : Session) (command : MonitorCommand) (events : ℕ) : Type 0 where
-  pub each : MakesEach c s command events
-  pub done : wants_event c s command events ≡ false
+-- a command makes so many events: it stops behind them, and not before
+abbrev pub Makes : Course → Session → MonitorCommand → ℕ → Type 0
+Makes c s command = IsFirst (stops_command c s command)
 
 -- the lines of so many events
 unfoldable pub trace_lines : Course → Session → ℕ → List ℕ
 trace_lines c s zero = []
 trace_lines c s (suc k) =
     trace_lines c s k
-    ++ trace_line c.program c.named c.limit (letter_at c.schedule (s.taken + k)) (moment_on c s k)
+    ++ trace_line c.program c.named c.limit (letters_from c.schedule s.taken k) (moment_on c s k)
 
 -- what a command writes that makes so many events
 abbrev pub text_of_command : Course → Session → MonitorCommand → ℕ → List ℕ

@@ -1,13 +1,12 @@
--- Words for the contracts of private functions; no promise of the program names them. Where the code's session stands,
+-- Words for the contracts of private functions; no promise of the program names them. Where the monitor stands,
 -- and what a command made of it.
-use Rattle.std.specs.Prelude.{ℕ, List, [], ◌∷◌, ◌++◌, ◌≡◌, ◌≤◌, ◌+◌, ◌^◌, Option, length}
-use Rattle.m88_event.specs.Letters.{letter_at}
-use Rattle.m88_event.specs.Timeline.{Moment, after_letter, nip_at, said_at}
+use Rattle.std.specs.Prelude.{ℕ, List, ◌++◌, ◌≡◌, ◌+◌, Option, length}
+use Rattle.m88_event.specs.Timeline.{Moment, nip_at}
 use Rattle.m88_event.specs.declared.happened.Happened.{Happened}
 use Rattle.m88_event.specs.declared.letter.Letter.{Letter}
 use Rattle.m88_isa.specs.Held.{instruction_at}
 use Rattle.m88_isa.specs.Machine.{IsProgram, Program}
-use Rattle.m88_board.specs.Glances.{Saw, glance_at}
+use Rattle.m88_board.specs.Glances.{Saw}
 use Rattle.m88_board.specs.Moves.{IsAt}
 use Rattle.m88_board.specs.declared.glance.Glance.{Glance}
 use Rattle.m88_cli.specs.Session.{Course, Makes, MakesEach, Session, after_command, glances_of, text_of_command}
@@ -16,50 +15,27 @@ use Rattle.m88_cli.specs.declared.monitor.Monitor.{Monitor}
 use Rattle.m88_cli.specs.declared.monitor.tracing.Before.{Before}
 use Rattle.m88_cli.specs.declared.script.MonitorCommand.{MonitorCommand}
 
--- the most events that a command makes
-abbrev pub most_made : ℕ
-most_made = 2 ^ 32
-
--- the most events before a command
-abbrev pub most_counted : ℕ
-most_counted = 2 ^ 62
-
--- the code's session stands where a session of a course stands
-pub record Stands (c : Course) (letters : List Letter) (s : Session) (monitor : Monitor) : Type 0 where
+-- the monitor stands where a session of a course stands
+pub record Stands (c : Course) (s : Session) (monitor : Monitor) : Type 0 where
   pub program : IsProgram c.program
-  pub schedule : letters ≡ c.schedule
-  pub limit : monitor.board.limit ≡ c.limit
-  pub within : s.moment.retired ≤ c.limit
-  pub at : IsAt c.program c.named s.moment monitor.board
-  pub taken : monitor.taken ≡ s.taken
+  pub schedule : monitor.walk.schedule.now ≡ c.schedule
+  pub limit : monitor.walk.board.now.limit ≡ c.limit
+  pub at : IsAt c.program c.named s.moment monitor.walk.board.now
+  pub taken : monitor.walk.taken ≡ s.taken
   pub breakpoints : monitor.breakpoints.items ≡ s.breakpoints
 
--- where it stands after the next letter of the run
-unfoldable pub next_session : Course → Session → Session
-next_session c s = record s {
-  moment = after_letter c.program c.named c.limit (letter_at c.schedule s.taken) s.moment;
-  taken = s.taken + 1;
-}
-
--- it made the event of the next letter, and was shown
-pub record IsNext (c : Course) (letters : List Letter) (s : Session) (before after : Option (List Glance))
-    (happened : Happened) (monitor : Monitor) : Type 0 where
-  pub stands : Stands c letters (next_session c s) monitor
-  pub saw : Saw before after (glance_at c.program (next_session c s).moment ∷ [])
-  pub says : happened ≡ said_at c.program c.named c.limit (letter_at c.schedule s.taken) s.moment
-
 -- it made the events of a command
-pub record Went (c : Course) (letters : List Letter) (s : Session) (command : MonitorCommand)
+pub record Went (c : Course) (s : Session) (command : MonitorCommand)
     (before after : Option (List Glance)) (monitor : Monitor) : Type 0 where
   pub events : ℕ
   pub makes : Makes c s command events
-  pub stands : Stands c letters (after_command c s command events) monitor
+  pub stands : Stands c (after_command c s command events) monitor
   pub saw : Saw before after (glances_of c s command events)
 
 -- and wrote its text
-pub record Carried (c : Course) (letters : List Letter) (s : Session) (command : MonitorCommand)
+pub record Carried (c : Course) (s : Session) (command : MonitorCommand)
     (before after : Option (List Glance)) (old new : List ℕ) (monitor : Monitor) : Type 0 where
-  pub went : Went c letters s command before after monitor
+  pub went : Went c s command before after monitor
   pub text : new ≡ old ++ text_of_command c s command went.events
 
 -- memory ran out behind the first events of a command

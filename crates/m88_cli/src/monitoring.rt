@@ -109,8 +109,7 @@ fn session_text<W: Watch>(
     image: &Image,
     watch: &mut W,
 ) -> Result<Vec<u8>, NoMemory>
-    requires pages { NamesPages absent.now }
-    requires few { length commands.now ≤ most_commands }
+    requires { NamesPages absent.now }
     ensures image { IsImage image.now }
     ensures session { IfOk result (λ text. (p : Program) → IsProgramOf image.now p
         → (glances : List Glance)

@@ -13,6 +13,7 @@ use Rattle.m88_isa.specs.History.{change_accesses}
 use Rattle.m88_isa.specs.Machine.{IsProgram, Program, Turn, changes, outputs, stops}
 use Rattle.m88_isa.specs.Memory.{Touch, access_of}
 use Rattle.m88_isa.specs.declared.planned.Access.{Access}
+use Rattle.m88_event.specs.Bound.{fuel, one_if, phase, turns_left, weight}
 use Rattle.m88_event.specs.Choice.{Choice, answer_choice, choice_of, faults, finishes, holds, idles, issue_choice, issues, next_choice, next_turn, passes, replies, serves, turn_choice}
 use Rattle.m88_event.specs.Letters.{letter_at}
 use Rattle.m88_event.specs.Local.{Local, is_over_by, move, move_by, situation_of}
@@ -20,25 +21,6 @@ use Rattle.m88_event.specs.Situation.{record_of}
 use Rattle.m88_event.specs.declared.letter.Letter.{Letter}
 use Rattle.m88_event.specs.declared.letter.Letter.TheVariants.{Issue, Answer}
 use Rattle.m88_event.specs.declared.record.Record.{Record}
-
--- 1 where a mark is set
-abbrev pub one_if : Bool → ℕ
-one_if mark = if mark then 1 else 0
-
--- what may still happen but idling and holding: an instruction counts as four, for itself, two accesses and a bubble
-unfoldable pub fuel : ℕ → Local → ℕ
-fuel limit l = 4 * (limit - l.retired) + length l.pending + one_if l.bubble + one_if (not (is_some l.ended))
-
--- the events that may yet pass before the next that makes the fuel less
-abbrev pub turns_left : Bool → Bool → Bool → ℕ
-turns_left inside answer pending = if inside || answer then 1 else if pending then 2 else 0
-
-abbrev pub phase : List Letter → ℕ → Local → ℕ
-phase schedule k l = turns_left (nat_lt k (length schedule)) ((k - length schedule) % 2 == 0) (is_pending l.pending)
-
--- a bound on the events that are left after as many events
-unfoldable pub weight : List Letter → ℕ → ℕ → Local → ℕ
-weight schedule limit k l = (length schedule - k) + 2 * fuel limit l + phase schedule k l
 
 -- a choice that makes the fuel less, and why it does; or, where it may, one that leaves the fuel as it is
 abbrev pub Spends : Bool → ℕ → Local → Choice → Type 0
@@ -326,6 +308,36 @@ lessens p limit schedule k l is within goes = by_test (nat_lt k (length schedule
     (answer_lessens p limit schedule k l (is_pending l.pending) (is_pending (move p limit Answer l).pending) is within h answer refl refl))
     (λ issue. rw (behind schedule k false h issue)
     (issue_lessens p limit schedule k l (is_pending l.pending) is within h issue refl goes)))
+
+-- an answer beside the run's letters takes some off as well, where something is pending
+no_later : (inside answer pending : Bool) → turns_left inside answer pending ≤ turns_left inside answer true
+no_later true answer pending = omega arith
+no_later false true pending = omega arith
+no_later false false true = omega arith
+no_later false false false = omega arith
+
+pub answered_lessens : (p : Program) (limit : ℕ) (schedule : List Letter) (k : ℕ) (l : Local) → is_pending l.pending ≡ true →
+    weight schedule limit k (move p limit Answer l) < weight schedule limit k l
+unfolding weight
+answered_lessens p limit schedule k l some =
+    let fuels = fuel_answered p limit l some in
+    let phases = no_later (nat_lt k (length schedule)) ((k - length schedule) % 2 == 0) (is_pending (move p limit Answer l).pending) in
+    rw some (omega (arith, fuels, phases))
+
+-- the weight of what is seen of any board
+least_of : (mark : Bool) (n : ℕ) → (mark ≡ true → 1 ≤ n) → one_if mark ≤ n
+least_of true n h = h refl
+least_of false n h = omega arith
+
+pub weight_most : (limit : ℕ) (schedule : List Letter) (k : ℕ) (l : Local) → l.retired ≤ limit → length l.pending ≤ 2 * l.retired →
+    (l.bubble ≡ true → 1 ≤ l.retired) →
+    weight schedule limit k l ≤ length schedule + 8 * limit + 8
+unfolding weight fuel
+weight_most limit schedule k l within made bubbled =
+    let bubble = least_of l.bubble l.retired bubbled in
+    let ended = one_at_most (not (is_some l.ended)) in
+    let most = at_most_two (nat_lt k (length schedule)) ((k - length schedule) % 2 == 0) (is_pending l.pending) in
+    omega (arith, within, made, bubble, ended, most)
 
 -- the weight at the start
 pub weight_at_start : (limit : ℕ) (schedule : List Letter) (l : Local) → l.pending ≡ [] →

@@ -14,7 +14,7 @@ use Rattle.m88_event.specs.Choice.{Choice, answer_choice, choice_of, faults, fin
 use Rattle.m88_event.specs.Local.{with_move_counted, local_at, move, move_by, said_by, situation_of}
 use Rattle.m88_event.specs.Shadow.{retired_pointer}
 use Rattle.m88_event.specs.Letters.{letter_at}
-use Rattle.m88_event.specs.Run.{moment_after}
+use Rattle.m88_event.specs.Run.{moment_after, moment_along}
 use Rattle.m88_event.specs.Situation.{record_of}
 use Rattle.m88_event.specs.Timeline.{DoneWereMade, Moment, opening_moment, absent_at, after_choice, after_letter, end_at, end_of_turn, with_event, said_at, situation_at, xip_at}
 use Rattle.m88_event.specs.declared.happened.End.{End}
@@ -305,7 +305,7 @@ begins_within p = omega arith
 
 pub reached_within : (p : Program) (named : ℕ → Bool) (limit : ℕ) (schedule : List Letter) (k : ℕ) →
     DoneWereMade p (moment_after p named limit schedule k)
-unfolding moment_after
+unfolding moment_along
 reached_within p named limit schedule zero = begins_within p
 reached_within p named limit schedule (suc k) =
     stays_within p named limit (letter_at schedule k) (moment_after p named limit schedule k) (reached_within p named limit schedule k)

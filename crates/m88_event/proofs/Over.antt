@@ -12,12 +12,13 @@ use Rattle.m88_isa.specs.Held.{is_pending}
 use Rattle.m88_isa.specs.History.{bus_at, completed_state, pending_at, transaction_count, transactions}
 use Rattle.m88_isa.specs.Machine.{IsProgram, Program, opening, state}
 use Rattle.m88_isa.specs.declared.planned.Access.{Access}
-use Rattle.m88_event.proofs.Bound.{lessens, stays_in_limit, weight, weight_at_start}
+use Rattle.m88_event.proofs.Bound.{lessens, stays_in_limit, weight_at_start}
 use Rattle.m88_event.proofs.Follows.{ended_is, law, reached_within}
+use Rattle.m88_event.specs.Bound.{weight}
 use Rattle.m88_event.specs.Choice.{answer_choice}
 use Rattle.m88_event.specs.Letters.{letter_at}
 use Rattle.m88_event.specs.Local.{Local, is_over_by, local_at, move}
-use Rattle.m88_event.specs.Run.{IsOutcome, IsRun, answered_after, moment_after, outcome_at, outcome_by}
+use Rattle.m88_event.specs.Run.{IsFirst, IsOutcome, IsRun, answered_after, moment_after, moment_along, outcome_at, outcome_by}
 use Rattle.m88_event.specs.Timeline.{DoneWereMade, Moment, absent_at, after_choice, after_letter, is_drained, is_over, situation_at}
 use Rattle.m88_event.specs.Situation.{record_of}
 use Rattle.m88_event.specs.declared.letter.Letter.{Letter}
@@ -68,7 +69,7 @@ answer_issues_none p fault m (x ∷ xs) absent =
 
 pub answered_issues_none : (p : Program) (named : ℕ → Bool) (limit : ℕ) (m : Moment) (events : ℕ) →
     issued_of (answered_after p named limit m events) ≡ issued_of m
-unfolding answered_after after_letter situation_at
+unfolding moment_along after_letter situation_at
 answered_issues_none p named limit m zero = refl
 answered_issues_none p named limit m (suc k) =
     let before = answered_after p named limit m k in
@@ -76,21 +77,13 @@ answered_issues_none p named limit m (suc k) =
     (pending_at p before.retired before.done) (absent_at named before)
     ∙ answered_issues_none p named limit m k
 
--- a run has one number of events
-first_is : (f : ℕ → Bool) (a b : ℕ) → f a ≡ true → ((k : ℕ) → k < a → f k ≡ false) → f b ≡ true →
-    ((k : ℕ) → k < b → f k ≡ false) → a ≡ b
-first_is f a b at_a before_a at_b before_b = by_test (nat_lt a b)
-    (λ less. absurd (let no = before_b a (ltb-true a b less) in cc))
+-- there is one first time
+pub one_first : (holds : ℕ → Bool) (a b : ℕ) → IsFirst holds a → IsFirst holds b → a ≡ b
+one_first holds a b x y = by_test (nat_lt a b)
+    (λ less. absurd (let here = x.here in let no = y.first a (ltb-true a b less) in cc))
     (λ more. by_test (nat_lt b a)
-    (λ less. absurd (let no = before_a b (ltb-true b a less) in cc))
+    (λ less. absurd (let here = y.here in let no = x.first b (ltb-true b a less) in cc))
     (λ most. omega (arith, ltb-false a b more, ltb-false b a most)))
-
-pub one_run : (p : Program) (named : ℕ → Bool) (limit : ℕ) (schedule : List Letter) (a b : ℕ) →
-    IsRun p named limit schedule a →
-    IsRun p named limit schedule b →
-    a ≡ b
-one_run p named limit schedule a b x y =
-    first_is (λ k. is_over p limit (moment_after p named limit schedule k)) a b x.over x.first y.over y.first
 
 -- a run comes to one outcome
 pub one_outcome : (p : Program) (named : ℕ → Bool) (limit : ℕ) (schedule : List Letter) (a b : Outcome) →
@@ -98,7 +91,7 @@ pub one_outcome : (p : Program) (named : ℕ → Bool) (limit : ℕ) (schedule :
     IsOutcome p named limit schedule b →
     a ≡ b
 one_outcome p named limit schedule a b x y =
-    let same = one_run p named limit schedule x.events y.events x.run y.run in
+    let same = one_first (λ k. is_over p limit (moment_after p named limit schedule k)) x.events y.events x.run y.run in
     x.value ∙ ap (λ k. outcome_at p (moment_after p named limit schedule k)) same ∙ sym y.value
 
 -- the moment after as many events, as it is seen
@@ -107,18 +100,18 @@ seen_after p named limit schedule k = local_at p named (moment_after p named lim
 
 next_seen : (p : Program) (named : ℕ → Bool) (limit : ℕ) (schedule : List Letter) (k : ℕ) → IsProgram p →
     seen_after p named limit schedule (suc k) ≡ move p limit (letter_at schedule k) (seen_after p named limit schedule k)
-unfolding moment_after seen_after
+unfolding moment_along seen_after
 next_seen p named limit schedule k is =
     sym (law p named limit (letter_at schedule k) (moment_after p named limit schedule k) is (reached_within p named limit schedule k))
 
 starts_unretired : (p : Program) (named : ℕ → Bool) (limit : ℕ) (schedule : List Letter) →
     (seen_after p named limit schedule 0).retired ≡ 0
-unfolding moment_after seen_after local_at
+unfolding moment_along seen_after local_at
 starts_unretired p named limit schedule = refl
 
 starts_empty : (p : Program) (named : ℕ → Bool) (limit : ℕ) (schedule : List Letter) →
     (seen_after p named limit schedule 0).pending ≡ []
-unfolding moment_after seen_after local_at transactions
+unfolding moment_along seen_after local_at transactions
 starts_empty p named limit schedule = refl
 
 seen_in_limit : (p : Program) (named : ℕ → Bool) (limit : ℕ) (schedule : List Letter) (k : ℕ) → IsProgram p →
@@ -170,7 +163,7 @@ pub run_ends : (p : Program) (named : ℕ → Bool) (limit : ℕ) (schedule : Li
     (events : ℕ) × (events ≤ length schedule + 8 * limit + 8) × IsRun p named limit schedule events
 run_ends p named limit schedule is =
     elim (search_over (λ k. is_over p limit (moment_after p named limit schedule k)) (length schedule + 8 * limit + 8 + 1)) [
-      | inl found ↦ let low = found.1 in (found.0, omega (arith, low), record { over = found.2; first = found.3 })
+      | inl found ↦ let low = found.1 in (found.0, omega (arith, low), record { here = found.2; first = found.3 })
       | inr none ↦ let most = weighed p named limit schedule (length schedule + 8 * limit + 8 + 1) is none in absurd (omega (arith, most))
     ]
 

@@ -8,3 +8,4 @@ pub mod Past
 pub mod Local
 pub mod Run
 pub mod EndText
+pub mod Bound

@@ -1,6 +1,7 @@
--- Whole runs: the moments of a schedule up to the first that is over, and what the run comes to there; and draining, by
--- letters `r` alone.
-use Rattle.std.specs.Prelude.{ℕ, zero, suc, Bool, true, false, List, ◌≡◌, ◌<◌, unwrap_or}
+-- Going along letters, one event after the other: from a moment to the first at which a condition holds. A whole run
+-- goes along the letters of a schedule to the first moment that is over, and comes to an outcome there; draining goes
+-- along letters `r` to the first at which nothing is pending.
+use Rattle.std.specs.Prelude.{ℕ, zero, suc, Bool, true, false, List, ◌≡◌, ◌<◌, ◌+◌, unwrap_or}
 use Rattle.m88_isa.specs.Bus.{changed_words, in_words}
 use Rattle.m88_isa.specs.Machine.{Program, opening, state}
 use Rattle.m88_event.specs.Letters.{letter_at}
@@ -11,21 +12,36 @@ use Rattle.m88_event.specs.declared.letter.Letter.{Letter}
 use Rattle.m88_event.specs.declared.letter.Letter.TheVariants.{Answer}
 use Rattle.m88_event.specs.declared.outcome.Outcome.{Outcome}
 
--- the moment after as many events
-unfoldable pub moment_after : Program → (ℕ → Bool) → ℕ → List Letter → ℕ → Moment
-moment_after p named limit schedule zero = opening_moment
-moment_after p named limit schedule (suc k) =
-    after_letter p named limit (letter_at schedule k) (moment_after p named limit schedule k)
+-- the moment after as many of some letters, from a moment on
+unfoldable pub moment_along : Program → (ℕ → Bool) → ℕ → (ℕ → Letter) → Moment → ℕ → Moment
+moment_along p named limit letters m zero = m
+moment_along p named limit letters m (suc k) =
+    after_letter p named limit (letters k) (moment_along p named limit letters m k)
+
+-- a condition doesn't hold after fewer events than these
+abbrev pub NotBefore : (ℕ → Bool) → ℕ → Type 0
+NotBefore holds events = (k : ℕ) → k < events → holds k ≡ false
+
+-- it holds after so many events, and not before
+pub record IsFirst (holds : ℕ → Bool) (events : ℕ) : Type 0 where
+  pub here : holds events ≡ true
+  pub first : NotBefore holds events
+
+-- the letters of a run behind the first of so many
+abbrev pub letters_from : List Letter → ℕ → ℕ → Letter
+letters_from schedule taken k = letter_at schedule (taken + k)
+
+-- the moment of a run after as many events
+abbrev pub moment_after : Program → (ℕ → Bool) → ℕ → List Letter → ℕ → Moment
+moment_after p named limit schedule = moment_along p named limit (letter_at schedule) opening_moment
 
 -- before each of so many events the run wasn't over
 abbrev pub IsRunning : Program → (ℕ → Bool) → ℕ → List Letter → ℕ → Type 0
-IsRunning p named limit schedule events =
-    (k : ℕ) → k < events → is_over p limit (moment_after p named limit schedule k) ≡ false
+IsRunning p named limit schedule = NotBefore (λ k. is_over p limit (moment_after p named limit schedule k))
 
 -- the run has this many events: it is over then, and not before
-pub record IsRun (p : Program) (named : ℕ → Bool) (limit : ℕ) (schedule : List Letter) (events : ℕ) : Type 0 where
-  pub over : is_over p limit (moment_after p named limit schedule events) ≡ true
-  pub first : IsRunning p named limit schedule events
+abbrev pub IsRun : Program → (ℕ → Bool) → ℕ → List Letter → ℕ → Type 0
+IsRun p named limit schedule = IsFirst (λ k. is_over p limit (moment_after p named limit schedule k))
 
 -- what a run comes to that is over at a moment: the end of the history where the program ended, and else the limit;
 -- registers, carry, output and memory of the history after as many instructions; the counts and records of the moment
@@ -63,16 +79,13 @@ pub record IsOutcome (p : Program) (named : ℕ → Bool) (limit : ℕ) (schedul
   pub value : o ≡ outcome_at p (moment_after p named limit schedule events)
 
 -- the moment after as many letters `r`
-unfoldable pub answered_after : Program → (ℕ → Bool) → ℕ → Moment → ℕ → Moment
-answered_after p named limit m zero = m
-answered_after p named limit m (suc k) = after_letter p named limit Answer (answered_after p named limit m k)
+abbrev pub answered_after : Program → (ℕ → Bool) → ℕ → Moment → ℕ → Moment
+answered_after p named limit = moment_along p named limit (λ k. Answer)
 
 -- before each of so many letters `r` something was pending
 abbrev pub IsDraining : Program → (ℕ → Bool) → ℕ → Moment → ℕ → Type 0
-IsDraining p named limit m events =
-    (k : ℕ) → k < events → is_drained p (answered_after p named limit m k) ≡ false
+IsDraining p named limit m = NotBefore (λ k. is_drained p (answered_after p named limit m k))
 
 -- so many letters `r` drain a moment: nothing is pending then, and not before
-pub record IsDrain (p : Program) (named : ℕ → Bool) (limit : ℕ) (m : Moment) (events : ℕ) : Type 0 where
-  pub drained : is_drained p (answered_after p named limit m events) ≡ true
-  pub first : IsDraining p named limit m events
+abbrev pub IsDrain : Program → (ℕ → Bool) → ℕ → Moment → ℕ → Type 0
+IsDrain p named limit m = IsFirst (λ k. is_drained p (answered_after p named limit m k))

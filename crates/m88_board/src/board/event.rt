@@ -8,7 +8,7 @@ ghost use Rattle.m88_event.specs.declared.letter.Letter.{Letter as LetterValue};
 ghost use Rattle.m88_isa.specs.Machine.{Program};
 ghost use Rattle.m88_board.specs.Board.{local_of};
 ghost use Rattle.m88_isa.specs.ImageProgram.{IsProgramOf};
-ghost use Rattle.m88_board.specs.Kept.{most_events};
+ghost use Rattle.m88_board.specs.Kept.{IsKept, most_events};
 ghost use Rattle.m88_board.specs.Moves.{Did, IsAt, IsMove, IsSameRun, IsStill, IsUnmoved};
 ghost use Rattle.m88_board.specs.Shown.{Leaves};
 
@@ -59,6 +59,7 @@ impl Board {
         ensures shorter { letter ≡ LetterValue.Answer
             → OnOk result (length self.new.pending ≤ length self.old.pending - 1) }
         ensures leaves { IfOk result (λ happened. Leaves happened self.old self.new) }
+        ensures kept { OnOk result (IsKept self.new) }
         ensures err { OnErr result (IsUnmoved self.old self.new) }
     {
         let happened = self.take(letter)?;

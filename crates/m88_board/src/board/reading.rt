@@ -13,6 +13,7 @@ ghost use Rattle.m88_isa.specs.ImageProgram.{IsProgramOf};
 ghost use Rattle.m88_isa.specs.Machine.{Program, four_bytes, state};
 ghost use Rattle.m88_mem.specs.DataBus.{bus_of};
 ghost use Rattle.m88_board.specs.Board.{completed_of, local_of};
+ghost use Rattle.m88_board.specs.Kept.{IsKept};
 ghost use Rattle.m88_board.specs.Moves.{IsAt};
 ghost use Rattle.m88_board.specs.Shown.{ArePointers, AreRegisters, IsDataBus, IsStatus};
 
@@ -39,6 +40,7 @@ impl Board {
         ensures value { result ≡ self.now.events }
         ensures moment { (p : Program) (named : ℕ → Bool) (m : Moment) → IsAt p named m self.now
             → result ≡ m.events }
+        ensures kept { IsKept self.now }
     {
         self.events
     }

@@ -2,25 +2,30 @@
 
 ghost use Rattle.std.specs.Prelude.{ℕ, Bool, [], ◌∷◌, ◌↔◌, ◌≡◌, ◌<◌, ◌≤◌, ◌+◌, ◌-◌, ◌*◌, true, length, IfOk, OnErr, OnOk};
 ghost use Rattle.m88_event.specs.Run.{IsDrain, IsDraining, IsOutcome, IsRun, IsRunning, answered_after, moment_after, outcome_at, outcome_by};
-ghost use Rattle.m88_event.specs.Timeline.{Moment, is_over, opening_moment};
+ghost use Rattle.m88_event.specs.Local.{move};
+ghost use Rattle.m88_event.specs.Timeline.{Moment, is_over, opening_moment, said_at};
 ghost use Rattle.m88_event.specs.declared.happened.End.{End as EndValue};
 ghost use Rattle.m88_event.specs.declared.letter.Letter.{Letter as LetterValue};
 ghost use Rattle.m88_event.specs.declared.outcome.Outcome.{Outcome as OutcomeValue};
 ghost use Rattle.m88_isa.specs.Bus.{in_words};
 ghost use Rattle.m88_isa.specs.Held.{most_pending};
 ghost use Rattle.m88_isa.specs.History.{bus_at, transaction_count};
+ghost use Rattle.m88_isa.specs.ImageProgram.{IsProgramOf};
 ghost use Rattle.m88_isa.specs.Machine.{IsProgram, Program, state};
 ghost use Rattle.m88_mem.specs.DataBus.{image_bus};
 ghost use Rattle.m88_board.specs.Board.{local_of};
-ghost use Rattle.m88_board.specs.Glances.{Saw, glance_at, glances_along};
-ghost use Rattle.m88_board.specs.Kept.{most_events};
+ghost use Rattle.m88_board.specs.Glances.{Saw, glances_along};
+ghost use Rattle.m88_board.specs.Kept.{IsKept, most_events};
 ghost use Rattle.m88_board.specs.Moves.{IsAlong, IsAt, IsSameRun, IsStep, IsUnmoved};
 ghost use Rattle.m88_board.specs.Shown.{IsSettled};
+ghost use Rattle.m88_board.specs.Walks.{IsNoHeavier};
 
 use super::Board;
+use crate::until::Until;
+use crate::walk::Walk;
 use crate::watch::Watch;
 use m88_base::{Listed, NoMemory};
-use m88_event::{End, Letter, Outcome, Schedule};
+use m88_event::{End, Happened, Letter, Outcome, Schedule};
 
 impl Board {
     /// Makes the events of the letters of a schedule, and then of `r` and `i` in turn, until nothing is pending and
@@ -52,7 +57,8 @@ impl Board {
             × Saw (W.seen watch.old) (W.seen watch.new)
             (glances_along p (moment_after p named self.limit schedule.now) events)) }
     {
-        self.go_on(schedule, watch)?;
+        let mut walk = Walk::new(&mut self, schedule);
+        walk.go_until(Until::Over, watch)?;
         self.outcome()
     }
 
@@ -70,6 +76,7 @@ impl Board {
             → IsAt p named m self.old
             → IsSettled p m self.new) }
         ensures bounded { self.new.events ≤ self.old.events + length self.old.pending }
+        ensures lighter { IsNoHeavier self.old self.new }
         ensures same { IsSameRun self.old self.new }
         ensures err { OnErr result ((p : Program) (named : ℕ → Bool) (m : Moment) → IsProgram p
             → IsAt p named m self.old
@@ -83,62 +90,32 @@ impl Board {
         Ok(())
     }
 
-    /// Makes the events of a run.
-    fn go_on<W: Watch>(&mut self, schedule: &Schedule, watch: &mut W) -> Result<(), NoMemory>
-        requires { self.old.events ≡ 0 }
-        ensures ok { OnOk result ((p : Program) (named : ℕ → Bool) → IsProgram p
-            → IsAt p named opening_moment self.old
-            → IsRun p named self.old.limit schedule.now self.new.events
-            × IsAlong p named (moment_after p named self.old.limit schedule.now) self.new.events
-            (W.seen watch.old) (W.seen watch.new) self.new
-            × (self.new.limit ≡ self.old.limit)) }
-        ensures within { OnOk result
-            (self.new.events ≤ length schedule.now + 8 * self.old.limit + 8) }
-        ensures err { OnErr result ((p : Program) (named : ℕ → Bool) → IsProgram p
-            → IsAt p named opening_moment self.old
-            → (events : ℕ) × IsRunning p named self.old.limit schedule.now events
-            × Saw (W.seen watch.old) (W.seen watch.new)
-            (glances_along p (moment_after p named self.old.limit schedule.now) events)) }
-    {
-        // Every run is over within so many events. An instruction does four things at most: it is issued, makes two
-        // accesses, which are answered, and leaves a bubble. Behind the schedule, of two events one at least does a
-        // thing: so eight events for each instruction. The eight behind them hold the end of the program.
-        let most = schedule.len() + 8 * self.limit as usize + 8;
-        for k in 0..most {
-            if self.is_over() {
-                return Ok(());
-            }
-            self.step(schedule.letter_at(k), watch)?;
-        }
-        Ok(())
-    }
-
     /// Makes the event of a letter; then the watch is shown the board.
-    fn step<W: Watch>(&mut self, letter: Letter, watch: &mut W) -> Result<(), NoMemory>
+    pub(crate) fn step<W: Watch>(
+        &mut self,
+        letter: Letter,
+        watch: &mut W,
+    ) -> Result<Happened, NoMemory>
         requires { self.old.events < most_events }
-        ensures ok { OnOk result ((p : Program) (named : ℕ → Bool) (m : Moment) → IsProgram p
+        ensures ok { OnOk result ((p : Program) (named : ℕ → Bool) (m : Moment)
             → IsAt p named m self.old
             → IsStep p named letter m (W.seen watch.old) (W.seen watch.new) self.old self.new) }
+        ensures said { IfOk result (λ happened. (p : Program) (named : ℕ → Bool) (m : Moment)
+            → IsAt p named m self.old
+            → happened ≡ said_at p named self.old.limit letter m) }
+        ensures moved { OnOk result ((p : Program) → IsProgramOf self.old.memory.image p
+            → local_of self.new ≡ move p self.old.limit letter (local_of self.old)) }
         ensures counted { OnOk result (self.new.events ≡ self.old.events + 1) }
         ensures same { OnOk result (IsSameRun self.old self.new) }
         ensures shorter { letter ≡ LetterValue.Answer
             → OnOk result (length self.new.pending ≤ length self.old.pending - 1) }
+        ensures kept { OnOk result (IsKept self.new) }
         ensures err { OnErr result (IsUnmoved self.old self.new) }
         ensures unseen { OnErr result (watch.new ≡ watch.old) }
     {
-        self.event(letter)?;
-        self.show(watch);
-        Ok(())
-    }
-
-    /// Shows the board.
-    fn show<W: Watch>(&self, watch: &mut W)
-        ensures { (p : Program) (named : ℕ → Bool) (m : Moment) → IsAt p named m self.now
-            → Saw (W.seen watch.old) (W.seen watch.new) (glance_at p m ∷ []) }
-    {
-        // What always holds of a board is known where a field of it is read.
-        let _ = &self.iunit;
+        let happened = self.event(letter)?;
         watch.after(self);
+        Ok(happened)
     }
 
     /// What a run came to that is over. Where memory runs out, the board is gone.

@@ -1,6 +1,6 @@
 //! The command `trace`, which tells events one by one.
 
-ghost use Rattle.std.specs.Prelude.{ℕ, Bool, ◌≡◌, ◌≤◌, ◌+◌, ◌++◌, ◌%◌, Option, IfSome, OnErr, OnOk, codes, decimal};
+ghost use Rattle.std.specs.Prelude.{ℕ, Bool, ◌≡◌, ◌++◌, ◌%◌, Option, IfSome, OnErr, OnOk, codes, decimal};
 ghost use Rattle.m88_base.specs.Hex.{hex2, hex8};
 ghost use Rattle.m88_base.specs.Lines.{line_end};
 ghost use Rattle.m88_event.specs.Timeline.{Moment};
@@ -10,7 +10,7 @@ ghost use Rattle.m88_isa.specs.Machine.{Program};
 ghost use Rattle.m88_board.specs.Moves.{IsAt};
 ghost use Rattle.m88_cli.specs.MonitorLines.{happened_line, issue_line, letter_text, text_of_any, why_line};
 ghost use Rattle.m88_cli.specs.Session.{Course, Session};
-ghost use Rattle.m88_cli.specs.SessionKept.{Broke, Carried, IsBefore, Stands, most_counted, most_made, told_line};
+ghost use Rattle.m88_cli.specs.SessionKept.{Broke, Carried, IsBefore, Stands, told_line};
 ghost use Rattle.m88_cli.specs.declared.script.MonitorCommand.TheVariants.{Trace};
 
 use super::Monitor;
@@ -18,7 +18,7 @@ use m88_base::{NoMemory, push_decimal, push_hex2, push_hex8};
 use m88_board::{Board, Watch};
 use m88_codec::decode;
 use m88_disasm::text_of;
-use m88_event::{Happened, Letter, Schedule, Why};
+use m88_event::{Happened, Letter, Why};
 use m88_isa::Instr;
 use m88_report::push_end;
 use std::alloc::AllocError;
@@ -38,33 +38,27 @@ struct Before {
     fault: u64,
 }
 
-impl Monitor {
+impl<'a> Monitor<'a> {
     /// `trace`: up to so many events, fewer where the run is over, and a line for each.
     pub(super) fn trace<W: Watch>(
         &mut self,
-        schedule: &Schedule,
         count: u32,
         watch: &mut W,
         text: &mut Vec<u8>,
     ) -> Result<(), NoMemory>
-        requires room { self.old.board.events ≤ most_counted }
-        requires taken { self.old.taken ≤ most_counted }
-        ensures ok { OnOk result ((c : Course) (s : Session) → Stands c schedule.now s self.old
-            → Carried c schedule.now s (Trace count) (W.seen watch.old) (W.seen watch.new)
+        ensures ok { OnOk result ((c : Course) (s : Session) → Stands c s self.old
+            → Carried c s (Trace count) (W.seen watch.old) (W.seen watch.new)
             text.old.items text.new.items self.new) }
-        ensures err { OnErr result ((c : Course) (s : Session) → Stands c schedule.now s self.old
+        ensures err { OnErr result ((c : Course) (s : Session) → Stands c s self.old
             → Broke c s (Trace count) (W.seen watch.old) (W.seen watch.new)) }
-        ensures few { OnOk result (self.new.board.events ≤ self.old.board.events + most_made) }
-        ensures limit { OnOk result (self.new.board.limit ≡ self.old.board.limit) }
-        ensures taken { OnOk result (self.new.taken ≤ self.old.taken + most_made) }
     {
         for _made in 0..count {
-            if self.board.is_over() {
+            if self.walk.board().is_over() {
                 return Ok(());
             }
-            let letter = schedule.letter_at(self.taken);
-            let before = noted(&self.board, letter);
-            let happened = self.make_next(schedule, watch)?;
+            let letter = self.walk.letter();
+            let before = noted(self.walk.board(), letter);
+            let happened = self.walk.next(watch)?;
             push_event(text, &before, happened)?;
         }
         Ok(())
@@ -73,7 +67,6 @@ impl Monitor {
 
 /// What the line of the event of a letter wants to know of the board.
 fn noted(board: &Board, letter: Letter) -> Before
-    requires { board.now.events ≤ most_counted + most_made }
     ensures before { (p : Program) (named : ℕ → Bool) (m : Moment) → IsAt p named m board.now
         → IsBefore p letter m result }
     ensures valid { IfSome result.instruction IsValid }

@@ -1,13 +1,18 @@
 -- Each event answers one transaction at least, so that three are enough.
-use Rattle.std.specs.Prelude.{slice_get}
+use Rattle.std.specs.Prelude.{List, not, slice_get}
 use Rattle.std.proofs.Common.{ap, arith, length, refl, suc, subst, sym, ◌≡◌, ◌≤◌, ◌∙◌}
 use Rattle.std.proofs.lemmas.Result.{err_from_is_err_and}
 use Rattle.m88_event.proofs.Over.{answered_issues_none}
 use Rattle.m88_event.specs.Run.{answered_after}
+use Rattle.m88_event.specs.Timeline.{is_drained}
+use Rattle.m88_event.specs.declared.letter.Letter.TheVariants.{Answer}
+use Rattle.m88_isa.specs.Held.{is_pending}
+use Rattle.m88_isa.specs.declared.planned.Access.{Access}
 use Rattle.m88_board.proofs.Choosing.{none_pending, pending_by, some_count}
 use Rattle.m88_board.proofs.Ending.{settled, settled_before}
-use Rattle.m88_board.proofs.Running.{drains_end, drains_start, drains_step, still_at}
 use Rattle.m88_board.proofs.Still.{same_then, unmoved_same}
+use Rattle.m88_board.proofs.Walking.{drained_by, goes_start, goes_step, still_at}
+use Rattle.m88_board.proofs.Weighing.{answered_no_heavier, no_heavier_same, no_heavier_then, unmoved_no_heavier}
 use Rattle.m88_board.specs.Board.{BoardView}
 use Rattle.m88_board.specs.Kept.{IsKept}
 use Rattle.m88_board.proofs.board.Board.drain.Goals as goal
@@ -17,7 +22,12 @@ loop-self-init g c = record {
   counted = omega arith;
   bounded = omega arith;
   same = record { limit = refl; named = refl; image = refl };
-  drains = λ p named m is at. (0, drains_start p named m c.args.self.now (g.W.Watch.seen c.args.watch.now) at);
+  lighter = no_heavier_same c.args.self.now;
+  drains = λ p named m is at. (
+    0,
+    goes_start p named c.args.self.now.limit (λ k. Answer) m (λ k. is_drained p (answered_after p named c.args.self.now.limit m k))
+        (g.W.Watch.seen c.args.watch.now) c.args.self.now at,
+  );
 }
 
 pub loop-self-preserved : goal.loop-self-preserved
@@ -34,12 +44,18 @@ loop-self-preserved g c =
       counted = omega (arith, some, few, counted, shorter, before);
       bounded = omega (arith, some, counted, shorter, bound);
       same = same_then c.args.self.now c.loop-self.self c.step.new.self c.loop-self.invariant.same c.in_ok-step.ensures.same;
+      lighter = no_heavier_then c.args.self.now c.loop-self.self c.step.new.self c.loop-self.invariant.lighter
+          (answered_no_heavier c.loop-self.self c.step.new.self (subst (λ (b : BoardView). IsKept b) c.self.view_is c.self.invariant).image
+          pending c.in_ok-step.ensures.same counted c.in_ok-step.ensures.moved);
       drains = λ p named m is at.
-          let drains = c.loop-self.invariant.drains p named m is at in (
+          let drains = c.loop-self.invariant.drains p named m is at in
+          let here = answered_after p named c.args.self.now.limit m drains.0 in (
             suc drains.0,
-            drains_step p named m drains.0 c.args.self.now c.loop-self.self c.step.new.self _ _ _ drains.1
-                pending
-                (c.in_ok-step.ensures.ok p named (answered_after p named c.args.self.now.limit m drains.0) is drains.1.along.at),
+            goes_step p named c.args.self.now.limit (λ k. Answer) m
+                (λ k. is_drained p (answered_after p named c.args.self.now.limit m k)) drains.0 _ _ _ c.loop-self.self c.step.new.self
+                c.loop-self.invariant.same.limit drains.1
+                (sym (drained_by p named here c.loop-self.self drains.1.along.at) ∙ ap not pending)
+                (c.in_ok-step.ensures.ok p named here drains.1.along.at),
           );
     }
 
@@ -55,14 +71,18 @@ returns-clause-ok g c = λ p named m is at.
     let none = none_pending c.loop-self.self.pending (sym (pending_by c.loop-self.self.pending c.oldest.result
     (subst (λ (b : BoardView). c.oldest.result ≡ slice_get b.pending 0) c.self.view_is c.oldest.ensures.value))
     ∙ sym c.is_some.ensures ∙ c.loop-self-test.false) in
-    (drains.0, drains_end p named m drains.0 c.args.self.now c.loop-self.self _ _ drains.1 none, drains.1.along)
+    let here = answered_after p named c.args.self.now.limit m drains.0 in
+    let drained = sym (drained_by p named here c.loop-self.self drains.1.along.at)
+    ∙ ap (λ (xs : List Access). not (is_pending xs)) none in
+    (drains.0, record { here = drained; first = drains.1.first }, drains.1.along)
 
 pub returns-clause-settled : goal.returns-clause-settled
 returns-clause-settled g c = λ p named m is at.
     let drains = c.loop-self.invariant.drains p named m is at in
     let after = answered_after p named c.args.self.now.limit m drains.0 in
     let none = returns-clause-empty g c in
-    let drained = (drains_end p named m drains.0 c.args.self.now c.loop-self.self _ _ drains.1 none).drained in
+    let drained = sym (drained_by p named after c.loop-self.self drains.1.along.at)
+    ∙ ap (λ (xs : List Access). not (is_pending xs)) none in
     settled_before p m after c.loop-self.self (answered_issues_none p named c.args.self.now.limit m drains.0)
     (settled p named after c.loop-self.self is (subst IsKept c.self.view_is c.self.invariant) drains.1.along.at drained none)
 
@@ -72,7 +92,7 @@ returns-in_err-step-clause-err g c =
     rw (p.1) (λ p named m is at.
     let drains = c.loop-self.invariant.drains p named m is at in (
       drains.0,
-      drains.1.draining,
+      drains.1.first,
       record {
         at = still_at p named (answered_after p named c.args.self.now.limit m drains.0) c.loop-self.self c.step.new.self
             c.in_err-step.ensures.err drains.1.along.at;
@@ -93,3 +113,8 @@ returns-in_err-step-clause-bounded g c =
     let bound = c.loop-self.invariant.bounded in
     let still = ap (λ (b : BoardView). b.events) c.in_err-step.ensures.err.rest in
     omega (arith, bound, still)
+
+pub returns-in_err-step-clause-lighter : goal.returns-in_err-step-clause-lighter
+returns-in_err-step-clause-lighter g c =
+    no_heavier_then c.args.self.now c.loop-self.self c.step.new.self c.loop-self.invariant.lighter
+    (unmoved_no_heavier c.loop-self.self c.step.new.self c.in_err-step.ensures.err)

@@ -15,7 +15,8 @@ returns-clause-moved c = λ p of.
 
 pub returns-clause-timeline : goal.returns-clause-timeline
 returns-clause-timeline c = λ p named m at.
-    let image = subst IsImage c.in_ok-happened.ensures.same.image c.count.ensures.is_image in
+    let image = subst IsImage (ap (λ (b : BoardView). b.memory.image) c.count.ensures.counted ∙ c.in_ok-happened.ensures.same.image)
+    c.count.ensures.kept.image in
     along p named m c.args.letter c.args.self.now c.in_ok-happened.happened c.count.new.self
     (program_of_image c.args.self.now.memory.image p image at.image) at
     (moved_by p c.args.letter c.args.self.now c.take.new.self c.in_ok-happened.happened c.count.new.self c.count.ensures.counted
@@ -29,7 +30,8 @@ returns-clause-said c = λ p named m at.
 
 pub returns-clause-precise : goal.returns-clause-precise
 returns-clause-precise c = λ last.
-    let image = subst IsImage c.in_ok-happened.ensures.same.image c.count.ensures.is_image in
+    let image = subst IsImage (ap (λ (b : BoardView). b.memory.image) c.count.ensures.counted ∙ c.in_ok-happened.ensures.same.image)
+    c.count.ensures.kept.image in
     let p = program_in c.args.self.now.memory.image image in
     let of = program_in_holds c.args.self.now.memory.image image in
     precise_on p c.args.letter c.args.self.now c.in_ok-happened.happened c.count.new.self

@@ -1,0 +1,214 @@
+-- What a walk of the monitor's, an event of it and draining make of a session.
+use Rattle.std.specs.Prelude.{ℕ, Bool, true, false, not, List, [], ◌∷◌, Option, ◌≡◌, ◌<◌, ◌≤◌, ◌+◌, ◌||◌, nat_lt}
+use Rattle.std.proofs.Common.{add-one, arith, refl, sym, ap, ap₂, ◌∙◌, subst}
+use Rattle.std.proofs.lemmas.Bool.{le-ltb, lt-ltb}
+use Rattle.m88_event.specs.Letters.{letter_at}
+use Rattle.m88_event.specs.Run.{IsDrain, IsDraining, IsFirst, NotBefore, answered_after, letters_from, moment_along}
+use Rattle.m88_event.specs.Timeline.{Moment, after_letter, is_over}
+use Rattle.m88_event.specs.declared.letter.Letter.{Letter}
+use Rattle.m88_isa.specs.Machine.{Program}
+use Rattle.m88_board.proofs.Seeing.{saw_none, saw_then}
+use Rattle.m88_board.proofs.Walking.{not_yet}
+use Rattle.m88_board.specs.Board.{BoardView}
+use Rattle.m88_board.specs.Glances.{Saw, glance_at, glances_along}
+use Rattle.m88_board.specs.Moves.{IsAlong, IsAt, IsSameRun, IsStep}
+use Rattle.m88_board.specs.Walks.{is_made, moments_from, stops_after}
+use Rattle.m88_board.specs.declared.glance.Glance.{Glance}
+use Rattle.m88_cli.specs.Session.{Course, MakesEach, Session, moment_on, session_on, stops_command, stops_on}
+use Rattle.m88_cli.specs.SessionKept.{Broke, Stands, Went}
+use Rattle.m88_cli.specs.declared.monitor.Monitor.{Monitor}
+use Rattle.m88_cli.specs.declared.script.MonitorCommand.{MonitorCommand}
+use Rattle.m88_cli.specs.declared.script.MonitorCommand.TheVariants.{Drain}
+
+-- the walk goes along the moments of the session
+same_moments : (c : Course) (s : Session) (limit : ℕ) (schedule : List Letter) (taken : ℕ) → limit ≡ c.limit →
+    schedule ≡ c.schedule → taken ≡ s.taken →
+    moments_from c.program c.named limit schedule taken s.moment ≡ moment_on c s
+same_moments c s limit schedule taken limits same place =
+    ap (λ (n : ℕ). moments_from c.program c.named n schedule taken s.moment) limits
+    ∙ ap₂ (λ (ls : List Letter) (n : ℕ). moments_from c.program c.named c.limit ls n s.moment) same place
+
+-- what it made so far is what the session makes
+pub walk_before : (c : Course) (s : Session) (enough : Program → ℕ → Moment → Bool) (limit : ℕ) (schedule : List Letter) (taken events : ℕ)
+    (before after : Option (List Glance)) → limit ≡ c.limit → schedule ≡ c.schedule → taken ≡ s.taken →
+    NotBefore (stops_after enough c.program c.named limit schedule taken s.moment) events →
+    Saw before after (glances_along c.program (moments_from c.program c.named limit schedule taken s.moment) events) →
+    NotBefore (stops_on c s enough) events × Saw before after (glances_along c.program (moment_on c s) events)
+walk_before c s enough limit schedule taken events before after limits same place first saw =
+    let moments = same_moments c s limit schedule taken limits same place in (
+      subst (λ (ms : ℕ → Moment). NotBefore (λ k. enough c.program k (ms k) || is_over c.program c.limit (ms k)) events) moments
+          (subst (λ (n : ℕ). NotBefore (λ k. enough c.program k (moments_from c.program c.named limit schedule taken s.moment k)
+          || is_over c.program n (moments_from c.program c.named limit schedule taken s.moment k)) events) limits first),
+      subst (λ (ms : ℕ → Moment). Saw before after (glances_along c.program ms events)) moments saw,
+    )
+
+pub walk_stops : (c : Course) (s : Session) (enough : Program → ℕ → Moment → Bool) (limit : ℕ) (schedule : List Letter) (taken events : ℕ) →
+    limit ≡ c.limit → schedule ≡ c.schedule → taken ≡ s.taken →
+    IsFirst (stops_after enough c.program c.named limit schedule taken s.moment) events →
+    IsFirst (stops_on c s enough) events
+walk_stops c s enough limit schedule taken events limits same place first =
+    let moments = same_moments c s limit schedule taken limits same place in
+    subst (λ (ms : ℕ → Moment). IsFirst (λ k. enough c.program k (ms k) || is_over c.program c.limit (ms k)) events) moments
+    (subst (λ (n : ℕ). IsFirst (λ k. enough c.program k (moments_from c.program c.named limit schedule taken s.moment k)
+    || is_over c.program n (moments_from c.program c.named limit schedule taken s.moment k)) events) limits first)
+
+-- a command is carried out by a walk that stops where the command does
+pub walk_went : (c : Course) (s : Session) (command : MonitorCommand) (enough : Program → ℕ → Moment → Bool) (old new : Monitor) (events : ℕ)
+    (before after : Option (List Glance)) → Stands c s old →
+    (IsFirst (stops_on c s enough) events → Saw before after (glances_along c.program (moment_on c s) events)
+    → Stands c (session_on c s events) new → Went c s command before after new) →
+    new.breakpoints.items ≡ old.breakpoints.items → IsSameRun old.walk.board.now new.walk.board.now →
+    new.walk.schedule.now ≡ old.walk.schedule.now →
+    IsFirst (stops_after enough c.program c.named old.walk.board.now.limit old.walk.schedule.now old.walk.taken s.moment) events →
+    IsAlong c.program c.named (moments_from c.program c.named old.walk.board.now.limit old.walk.schedule.now old.walk.taken s.moment)
+    events before after new.walk.board.now →
+    new.walk.taken ≡ old.walk.taken + events →
+    Went c s command before after new
+unfolding session_on
+walk_went c s command enough old new events before after stands made breakpoints run letters first along taken =
+    let moments = same_moments c s old.walk.board.now.limit old.walk.schedule.now old.walk.taken stands.limit stands.schedule stands.taken in
+    made
+    (walk_stops c s enough old.walk.board.now.limit old.walk.schedule.now old.walk.taken events stands.limit stands.schedule stands.taken first)
+    (subst (λ (ms : ℕ → Moment). Saw before after (glances_along c.program ms events)) moments along.saw)
+    (record {
+      program = stands.program;
+      schedule = letters ∙ stands.schedule;
+      limit = run.limit ∙ stands.limit;
+      at = subst (λ (ms : ℕ → Moment). IsAt c.program c.named (ms events) new.walk.board.now) moments along.at;
+      taken = taken ∙ ap (λ (n : ℕ). n + events) stands.taken;
+      breakpoints = breakpoints ∙ stands.breakpoints;
+    })
+
+-- `drain` is
+pub drain_went : (c : Course) (s : Session) (old new : Monitor) (events : ℕ) (before after : Option (List Glance)) → Stands c s old →
+    new.breakpoints.items ≡ old.breakpoints.items → IsSameRun old.walk.board.now new.walk.board.now →
+    new.walk.schedule.now ≡ old.walk.schedule.now → new.walk.taken ≡ old.walk.taken →
+    IsDrain c.program c.named old.walk.board.now.limit s.moment events →
+    IsAlong c.program c.named (answered_after c.program c.named old.walk.board.now.limit s.moment) events before after new.walk.board.now →
+    Went c s Drain before after new
+drain_went c s old new events before after stands breakpoints run letters taken drains along =
+    let here = subst (λ (n : ℕ). IsAlong c.program c.named (answered_after c.program c.named n s.moment) events before after
+    new.walk.board.now) stands.limit along in
+    record {
+      events = events;
+      makes = subst (λ (n : ℕ). IsDrain c.program c.named n s.moment events) stands.limit drains;
+      stands = record {
+        program = stands.program;
+        schedule = letters ∙ stands.schedule;
+        limit = run.limit ∙ stands.limit;
+        at = here.at;
+        taken = taken ∙ stands.taken;
+        breakpoints = breakpoints ∙ stands.breakpoints;
+      };
+      saw = here.saw;
+    }
+
+pub drain_broke : (c : Course) (s : Session) (old : Monitor) (board : BoardView) (events : ℕ) (before after : Option (List Glance)) →
+    Stands c s old →
+    IsDraining c.program c.named old.walk.board.now.limit s.moment events →
+    IsAlong c.program c.named (answered_after c.program c.named old.walk.board.now.limit s.moment) events before after board →
+    Broke c s Drain before after
+drain_broke c s old board events before after stands drains along = record {
+  events = events;
+  each = subst (λ (n : ℕ). IsDraining c.program c.named n s.moment events) stands.limit drains;
+  saw = (subst (λ (n : ℕ). IsAlong c.program c.named (answered_after c.program c.named n s.moment) events before after board)
+      stands.limit along).saw;
+}
+
+-- what holds after some events of the run's letters
+pub record IsAlongOn (c : Course) (s : Session) (k : ℕ) (before after : Option (List Glance)) (monitor : Monitor) : Type 0 where
+  pub stands : Stands c (session_on c s k) monitor
+  pub saw : Saw before after (glances_along c.program (moment_on c s) k)
+
+-- a session by how many letters were taken
+with_taken : Session → ℕ → Session
+with_taken s n = record s { taken = n }
+
+same_session : (c : Course) (s : Session) → session_on c s 0 ≡ s
+unfolding session_on moment_along with_taken
+same_session c s = let none : s.taken + 0 ≡ s.taken = omega arith in ap (with_taken s) none
+
+-- at first
+pub along_start : (c : Course) (s : Session) (seen : Option (List Glance)) (monitor : Monitor) → Stands c s monitor →
+    IsAlongOn c s 0 seen seen monitor
+unfolding glances_along
+along_start c s seen monitor stands = record {
+  stands = subst (λ t. Stands c t monitor) (sym (same_session c s)) stands;
+  saw = saw_none seen;
+}
+
+-- and after one more
+pub along_next : (c : Course) (s : Session) (k : ℕ) (before here after : Option (List Glance)) (old new : Monitor) →
+    IsAlongOn c s k before here old →
+    IsStep c.program c.named (letter_at old.walk.schedule.now old.walk.taken) (moment_on c s k) here after old.walk.board.now
+    new.walk.board.now →
+    IsSameRun old.walk.board.now new.walk.board.now →
+    new.walk.schedule.now ≡ old.walk.schedule.now →
+    new.walk.taken ≡ old.walk.taken + 1 →
+    new.breakpoints.items ≡ old.breakpoints.items →
+    IsAlongOn c s (k + 1) before after new
+unfolding session_on moment_along glances_along
+along_next c s k before here after old new along step run letters taken breakpoints =
+    let stands = along.stands in
+    let last : Moment = moment_on c s k in
+    let letter : letter_at old.walk.schedule.now old.walk.taken ≡ letters_from c.schedule s.taken k =
+    ap₂ letter_at stands.schedule stands.taken in
+    let next : after_letter c.program c.named old.walk.board.now.limit (letter_at old.walk.schedule.now old.walk.taken) last
+    ≡ after_letter c.program c.named c.limit (letters_from c.schedule s.taken k) last =
+    ap₂ (λ (n : ℕ) (l : Letter). after_letter c.program c.named n l last) stands.limit letter in
+    let place = stands.taken in
+    subst (λ n. IsAlongOn c s n before after new) (sym (add-one k)) (record {
+      stands = record {
+        program = stands.program;
+        schedule = letters ∙ stands.schedule;
+        limit = run.limit ∙ stands.limit;
+        at = subst (λ (m : Moment). IsAt c.program c.named m new.walk.board.now) next step.at;
+        taken = omega (arith, taken, place);
+        breakpoints = breakpoints ∙ stands.breakpoints;
+      };
+      saw = saw_then before here after (glances_along c.program (moment_on c s) k)
+          (glance_at c.program (after_letter c.program c.named c.limit (letters_from c.schedule s.taken k) last) ∷ []) along.saw
+          (subst (λ (m : Moment). Saw here after (glance_at c.program m ∷ [])) next step.saw);
+    })
+
+-- the board stands at the session's moment
+pub at_on : (c : Course) (s : Session) (k : ℕ) (monitor : Monitor) → Stands c (session_on c s k) monitor →
+    IsAt c.program c.named (moment_on c s k) monitor.walk.board.now
+unfolding session_on
+at_on c s k monitor stands = stands.at
+
+-- the run is over where the board says so
+pub over_on : (c : Course) (s : Session) (k : ℕ) (monitor : Monitor) (result : Bool) →
+    Stands c (session_on c s k) monitor →
+    ((p : Program) (named : ℕ → Bool) (m : Moment) → IsAt p named m monitor.walk.board.now
+    → result ≡ is_over p monitor.walk.board.now.limit m) →
+    is_over c.program c.limit (moment_on c s k) ≡ result
+unfolding session_on
+over_on c s k monitor result stands says =
+    ap (λ n. is_over c.program n (moment_on c s k)) (sym stands.limit) ∙ sym (says c.program c.named (moment_on c s k) stands.at)
+
+-- one event more is wanted before all are made, where the run isn't over; and none else
+pub wants_more : (c : Course) (s : Session) (most k : ℕ) → k < most → is_over c.program c.limit (moment_on c s k) ≡ false →
+    stops_on c s (is_made most) k ≡ false
+wants_more c s most k h goes = ap₂ (λ a b. not a || b) (lt-ltb k most h) goes
+
+any_true : (a : Bool) → (a || true) ≡ true
+any_true true = refl
+any_true false = refl
+
+pub wants_none : (c : Course) (s : Session) (most k : ℕ) → is_over c.program c.limit (moment_on c s k) ≡ true →
+    stops_on c s (is_made most) k ≡ true
+wants_none c s most k over = ap (λ b. not (nat_lt k most) || b) over ∙ any_true (not (nat_lt k most))
+
+pub made_all : (c : Course) (s : Session) (most k : ℕ) → most ≤ k → stops_on c s (is_made most) k ≡ true
+made_all c s most k h = ap (λ a. not a || is_over c.program c.limit (moment_on c s k)) (le-ltb k most h)
+
+-- a command went on before one event more
+pub each_next : (c : Course) (s : Session) (command : MonitorCommand) (k : ℕ) → MakesEach c s command k →
+    stops_command c s command k ≡ false →
+    MakesEach c s command (k + 1)
+each_next c s command k each more =
+    subst (λ n. MakesEach c s command n) (sym (add-one k)) (not_yet (stops_command c s command) k each more)
+
+pub each_none : (c : Course) (s : Session) (command : MonitorCommand) → MakesEach c s command 0
+each_none c s command = λ k h. absurd (omega (arith, h))
