@@ -12,7 +12,7 @@ ghost use Rattle.m88_cli.specs.Limits.{most_input};
 use crate::commands::Command;
 use crate::limits::MOST_INPUT;
 use m88_base::{Image, ReadEnd, Source, read_all};
-use m88_srec::{SrecFault, SrecKind, read_srec};
+use m88_srec::{LoadEnd, SrecFault, read_image};
 use std::alloc::Global;
 
 /// The whole input of a command.
@@ -86,7 +86,7 @@ pub fn input_of<S: Source>(
     }
 }
 
-/// The image that a source writes as S-records, or their first fault.
+/// The image that a source writes as S-records, or their first fault. Their text is not kept.
 fn read_records<S: Source>(
     alloc: Global,
     source: &mut S,
@@ -103,14 +103,11 @@ fn read_records<S: Source>(
     ensures fault { result ≡ Err ReadEnd.SourceFault
         → Rose (S.faults source.old) (S.faults source.new) }
 {
-    let text = read_all(alloc, source, MOST_INPUT)?;
-    match read_srec(alloc, text.as_slice()) {
+    match read_image(alloc, source, MOST_INPUT) {
         Ok(image) => Ok(Ok(image)),
-        Err(fault) => {
-            if fault.kind == SrecKind::Memory {
-                return Err(ReadEnd::Memory);
-            }
-            Ok(Err(fault))
-        }
+        Err(LoadEnd::Refused(fault)) => Ok(Err(fault)),
+        Err(LoadEnd::SourceFault) => Err(ReadEnd::SourceFault),
+        Err(LoadEnd::TooLong) => Err(ReadEnd::TooLong),
+        Err(LoadEnd::Memory) => Err(ReadEnd::Memory),
     }
 }
