@@ -15,9 +15,6 @@ use std::marker::Model;
 /// The entries of a table of either level.
 pub(crate) const ENTRIES: usize = 1024;
 
-/// The words of a frame.
-pub(crate) const FRAME_WORDS: usize = 1024;
-
 /// The 4,096 bytes of a page that is ready, as 1,024 words.
 #[derive(Drop, Debug)]
 pub(crate) struct PageFrame {

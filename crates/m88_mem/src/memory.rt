@@ -17,7 +17,7 @@ ghost use Rattle.m88_mem.specs.Frames.{table_entries};
 ghost use Rattle.m88_mem.specs.Marks.{NamesPages, absent_in, with_page};
 
 use crate::absent_page::AbsentPage;
-use crate::frames::{ENTRIES, FRAME_WORDS, PageFrame, PageFrames};
+use crate::frames::{ENTRIES, PageFrame, PageFrames};
 use crate::marks::{absent_marks, clear_mark, is_marked};
 use crate::places::{fetched, image_word, page_word};
 use m88_base::{Absent, Image, NoMemory, PAGE_BYTES};
@@ -106,8 +106,8 @@ impl Memory {
         }
     }
 
-    /// Makes the page of a byte address ready. The data bus stays as it is, and so do the pages that are ready
-    /// where memory is refused.
+    /// Makes the page of a byte address ready. The data bus stays as it is, and where memory is refused nothing
+    /// changes.
     pub fn prepare(&mut self, addr: u32) -> Result<(), NoMemory>
         ensures image { self.new.image ≡ self.old.image }
         ensures bus { bus_of self.new ≡ bus_of self.old }
@@ -264,7 +264,7 @@ fn image_frame(alloc: Global, image: &Image, page: u32) -> Result<PageFrame, NoM
     match image.first_taken(page * PAGE_BYTES, PAGE_BYTES as usize) {
         Some(_) => copied_frame(alloc, image, page),
         None => {
-            let words = zeros(alloc, FRAME_WORDS)?;
+            let words = zeros(alloc, PAGE_WORDS as usize)?;
             Ok(PageFrame { words })
         }
     }
