@@ -1,5 +1,5 @@
 -- A source and the S-records that `build` writes of it have one program, so they run alike.
-use Rattle.std.proofs.Common.{◌≡◌, ℕ, Bool, List, refl, sym, ◌∙◌, subst}
+use Rattle.std.proofs.Common.{◌≡◌, ℕ, List, refl, sym, ◌∙◌, subst}
 use Rattle.std.proofs.Math.Path.{fun_ext}
 use Rattle.m88_base.specs.Image.{ProgramImage, byte_at, byte_count}
 use Rattle.m88_isa.specs.ImageProgram.{IsInstructionAt}
@@ -15,7 +15,6 @@ use Rattle.m88_asm.specs.Images.{IsUnitImage}
 use Rattle.m88_asm.specs.Units.{unit_layout}
 use Rattle.m88_srec.proofs.Trip.{image_is_accepted}
 use Rattle.m88_srec.specs.Accepted.{IsAccepted, whole_of}
-use Rattle.m88_event.specs.declared.letter.Letter.{Letter}
 use Rattle.m88_event.specs.declared.outcome.Outcome.{Outcome}
 use Rattle.m88_report.specs.Report.{report_of}
 use Rattle.m88_cli.specs.Answer.{IsAnswerToAccepted}
@@ -23,6 +22,7 @@ use Rattle.m88_cli.specs.Bridge.{BuiltRunsAlike, FitsInput}
 use Rattle.m88_cli.specs.Command.{build}
 use Rattle.m88_cli.specs.Linking.{HoldsUnit}
 use Rattle.m88_cli.specs.Runs.{ComesTo, IsLoadedProgram, IsReport, IsSourceProgram}
+use Rattle.m88_cli.specs.Settings.{Settings}
 use Rattle.m88_parse.proofs.FormedUnits.{unit_formed}
 use Rattle.m88_cli.proofs.Linked.{readable}
 use Rattle.m88_cli.proofs.Programs.{Held, held_by, one_loaded_program, one_source_program}
@@ -92,18 +92,18 @@ from_loaded source records b p is =
     (sym (one_loaded_program records p b.held.program is (loaded source records b))) b.held.of_source
 
 -- the reports of programs that are the same
-comes_by : (A B : Program → Type 0) (limit : ℕ) (absent : ℕ → Bool) (schedule : List Letter) (o : Outcome)
-    → ((p : Program) → A p → B p) → ComesTo A limit absent schedule o → ComesTo B limit absent schedule o
-comes_by A B limit absent schedule o to c =
+comes_by : (A B : Program → Type 0) (s : Settings) (o : Outcome)
+    → ((p : Program) → A p → B p) → ComesTo A s o → ComesTo B s o
+comes_by A B s o to c =
     record { program = c.program; is_such = to c.program c.is_such; is_outcome = c.is_outcome }
 
-report_by : (A B : Program → Type 0) (limit : ℕ) (absent : ℕ → Bool) (schedule : List Letter) (text : List ℕ)
-    → ((p : Program) → A p → B p) → ((p : Program) → B p → A p) → IsReport report_of A limit absent schedule text
-    → IsReport report_of B limit absent schedule text
-report_by A B limit absent schedule text to from r = record {
+report_by : (A B : Program → Type 0) (s : Settings) (text : List ℕ)
+    → ((p : Program) → A p → B p) → ((p : Program) → B p → A p) → IsReport report_of A s text
+    → IsReport report_of B s text
+report_by A B s text to from r = record {
   outcome = r.outcome;
-  comes = comes_by A B limit absent schedule r.outcome to r.comes;
-  only = λ other comes. r.only other (comes_by B A limit absent schedule other from comes);
+  comes = comes_by A B s r.outcome to r.comes;
+  only = λ other comes. r.only other (comes_by B A s other from comes);
   is_text = r.is_text;
 }
 
@@ -115,19 +115,19 @@ built_runs_alike source records short answer =
     let from = from_loaded source records b in
     record {
       programs = λ p. (to p, from p);
-      reports = λ limit absent schedule report. (
+      reports = λ s report. (
         λ h. record {
           accepted = (whole_of b.image, b.written);
           output = report_by (IsSourceProgram source)
-              (IsLoadedProgram records) limit absent schedule report to from h.output;
+              (IsLoadedProgram records) s report to from h.output;
         },
         λ h. record {
           accepted = answer.accepted;
           output = report_by (IsLoadedProgram records)
-              (IsSourceProgram source) limit absent schedule report from to h.output;
+              (IsSourceProgram source) s report from to h.output;
         },
       );
-      watched = λ limit absent schedule before after. (
+      watched = λ s before after. (
         λ h. (h.0, to h.0 h.1, h.2),
         λ h. (h.0, from h.0 h.1, h.2),
       );

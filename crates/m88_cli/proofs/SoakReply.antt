@@ -19,7 +19,7 @@ use Rattle.m88_cli.specs.Command.{soak}
 use Rattle.m88_cli.specs.Linking.{HoldsUnit}
 use Rattle.m88_cli.specs.Refusal.{refusal_line}
 use Rattle.m88_cli.specs.Reply.{Replies, WatchesReply}
-use Rattle.m88_cli.specs.Runs.{IsSourceProgram}
+use Rattle.m88_cli.specs.Runs.{IsSourceProgram, workload_settings}
 use Rattle.m88_cli.specs.Limits.{most_input, most_statements}
 use Rattle.m88_cli.specs.SourceFault.{IsProgramFault, IsTold, refusal_behind}
 use Rattle.m88_cli.specs.Watching.{SawFront, SawRun, Shown, ShownFront}
@@ -103,7 +103,7 @@ pub summed_up : (number count : ℕ) (input text : List ℕ) (p : Program) (o : 
     → IsOutcome p every_page count (workload_schedule number count) o → text ≡ summary_of number count o → IsAnswerToAccepted (soak number count) input text
 summed_up number count input text p o of_source is text_is = record {
   accepted = tt;
-  output = reported (IsSourceProgram (workload_source number count)) p count every_page (workload_schedule number count) text of_source
+  output = reported (IsSourceProgram (workload_source number count)) p (workload_settings number count) text of_source
       (λ q is_too. one_source_program (workload_source number count) q p is_too of_source) (o, is, text_is);
 }
 
@@ -138,27 +138,27 @@ answer_of_run number count input text image schedule o made is comes text_is =
 
 pub run_shown : (number count : ℕ) (input : List ℕ) (image : ProgramImage) (schedule : List Letter) (before after : Option (List Glance))
     → Made number count image → schedule ≡ workload_schedule number count
-    → ((p : Program) → IsProgramOf image p → SawRun p count every_page schedule before after) → Shown (soak number count) input before after
+    → ((p : Program) → IsProgramOf image p → SawRun p (record (workload_settings number count) { schedule = schedule }) before after) → Shown (soak number count) input before after
 run_shown number count input image schedule before after made is saw = (
   made.program,
   made.of_source,
-  subst (λ (s : List Letter). SawRun made.program count every_page s before after) is (saw made.program made.of_image),
+  subst (λ (s : List Letter). SawRun made.program (record (workload_settings number count) { schedule = s }) before after) is (saw made.program made.of_image),
 )
 
 pub front_shown : (number count : ℕ) (input : List ℕ) (image : ProgramImage) (schedule : List Letter) (before after : Option (List Glance))
     → Made number count image → schedule ≡ workload_schedule number count
-    → ((p : Program) → IsProgramOf image p → SawFront p count every_page schedule before after)
+    → ((p : Program) → IsProgramOf image p → SawFront p (record (workload_settings number count) { schedule = schedule }) before after)
     → ShownFront (soak number count) input before after
 front_shown number count input image schedule before after made is saw = (
   made.program,
   made.of_source,
-  subst (λ (s : List Letter). SawFront made.program count every_page s before after) is (saw made.program made.of_image),
+  subst (λ (s : List Letter). SawFront made.program (record (workload_settings number count) { schedule = s }) before after) is (saw made.program made.of_image),
 )
 
 pub run_front_shown : (number count : ℕ) (input : List ℕ) (image : ProgramImage) (schedule : List Letter) (before after : Option (List Glance))
     → Made number count image → schedule ≡ workload_schedule number count
-    → ((p : Program) → IsProgramOf image p → SawRun p count every_page schedule before after)
+    → ((p : Program) → IsProgramOf image p → SawRun p (record (workload_settings number count) { schedule = schedule }) before after)
     → ShownFront (soak number count) input before after
 run_front_shown number count input image schedule before after made is saw =
     front_shown number count input image schedule before after made is
-    (λ p of. front_of_run p count every_page schedule before after (saw p of))
+    (λ p of. front_of_run p (record (workload_settings number count) { schedule = schedule }) before after (saw p of))

@@ -5,10 +5,12 @@ use Rattle.m88_base.specs.declared.absent.Absent.{Absent}
 use Rattle.m88_event.specs.Letters.{IsSchedule}
 use Rattle.m88_event.specs.declared.letter.Letter.{Letter}
 use Rattle.m88_mem.specs.Marks.{absent_in}
-use Rattle.m88_cli.specs.Command.{Command, IsLimit, Spells, run, exec}
+use Rattle.m88_cli.specs.Command.{Command, Spells, run, exec}
+use Rattle.m88_cli.specs.Kept.{settings_of}
 use Rattle.m88_cli.specs.Limits.{most_limit}
 use Rattle.m88_cli.specs.Numbers.{IsShortNumber}
 use Rattle.m88_cli.specs.Pages.{IsAbsent}
+use Rattle.m88_cli.specs.Settings.{IsLimit, Settings}
 use Rattle.m88_cli.proofs.Spelling.{AreOfRun, spelled_by_four}
 
 -- what is read of the limit, the absent pages and the schedule, where all three are read
@@ -53,27 +55,27 @@ read_of u b c d limit absent schedule e read = subst (λ (t : List ℕ). AreRead
 two_names : (a : List ℕ) → a ≡ codes "run" → a ≡ codes "exec" → ⊥
 two_names a e f = absurd cc
 
-same_of : (make : ℕ → (ℕ → Bool) → List Letter → Command) (a b c d name : List ℕ) (limit n : ℕ) (absent : Absent) (pages : ℕ → Bool) (schedule letters : List Letter)
-    → AreRead b c d limit absent schedule → AreOfRun name a b c d n pages letters → make limit (absent_in absent) schedule ≡ make n pages letters
-same_of make a b c d name limit n absent pages schedule letters read is =
-    ap (λ m. make m (absent_in absent) schedule) (read.one_limit n is.is_limit)
-    ∙ ap (λ p. make n p schedule) (read.one_absent pages is.is_absent)
-    ∙ ap (λ s. make n pages s) (read.one_schedule letters is.is_schedule)
+same_of : (make : Settings → Command) (a b c d name : List ℕ) (limit : ℕ) (absent : Absent) (schedule : List Letter) (s : Settings)
+    → AreRead b c d limit absent schedule → AreOfRun name a b c d s → make (settings_of limit absent schedule) ≡ make s
+same_of make a b c d name limit absent schedule s read is =
+    ap (λ n. make (record { limit = n; absent = absent_in absent; schedule = schedule })) (read.one_limit s.limit is.is_limit)
+    ∙ ap (λ p. make (record { limit = s.limit; absent = p; schedule = schedule })) (read.one_absent s.absent is.is_absent)
+    ∙ ap (λ x. make (record { limit = s.limit; absent = s.absent; schedule = x })) (read.one_schedule s.schedule is.is_schedule)
 
 -- and nothing else
 pub only_run : (a b c d : List ℕ) (limit : ℕ) (absent : Absent) (schedule : List Letter) → a ≡ codes "run" → AreRead b c d limit absent schedule
-    → (choice : Command) → Spells (a ∷ b ∷ c ∷ d ∷ []) choice → run limit (absent_in absent) schedule ≡ choice
+    → (choice : Command) → Spells (a ∷ b ∷ c ∷ d ∷ []) choice → run (settings_of limit absent schedule) ≡ choice
 only_run a b c d limit absent schedule e read choice spelled =
-    spelled_by_four (λ other. run limit (absent_in absent) schedule ≡ other) a b c d choice spelled
-    (λ n pages letters is. same_of (λ m p s. run m p s) a b c d (codes "run") limit n absent pages schedule letters read is)
-    (λ n pages letters is. absurd (two_names a e is.name_is))
+    spelled_by_four (λ other. run (settings_of limit absent schedule) ≡ other) a b c d choice spelled
+    (λ s is. same_of (λ x. run x) a b c d (codes "run") limit absent schedule s read is)
+    (λ s is. absurd (two_names a e is.name_is))
 
 pub only_exec : (a b c d : List ℕ) (limit : ℕ) (absent : Absent) (schedule : List Letter) → a ≡ codes "exec" → AreRead b c d limit absent schedule
-    → (choice : Command) → Spells (a ∷ b ∷ c ∷ d ∷ []) choice → exec limit (absent_in absent) schedule ≡ choice
+    → (choice : Command) → Spells (a ∷ b ∷ c ∷ d ∷ []) choice → exec (settings_of limit absent schedule) ≡ choice
 only_exec a b c d limit absent schedule e read choice spelled =
-    spelled_by_four (λ other. exec limit (absent_in absent) schedule ≡ other) a b c d choice spelled
-    (λ n pages letters is. absurd (two_names a is.name_is e))
-    (λ n pages letters is. same_of (λ m p s. exec m p s) a b c d (codes "exec") limit n absent pages schedule letters read is)
+    spelled_by_four (λ other. exec (settings_of limit absent schedule) ≡ other) a b c d choice spelled
+    (λ s is. absurd (two_names a is.name_is e))
+    (λ s is. same_of (λ x. exec x) a b c d (codes "exec") limit absent schedule s read is)
 
 -- words that spell nothing: where one of the three isn't read
 not_some : {A : Type 0} (o : Option A) (x : A) → o ≡ None → o ≡ Some x → ⊥
@@ -86,13 +88,13 @@ no_absent a b c d p e only choice spelled =
     let none : (pages : ℕ → Bool) → IsAbsent c pages → ⊥ =
     λ pages is. subst (λ (x : Option Absent). MatchOption x ⊥ (λ choice. absent_in choice ≡ pages)) e (only pages is) in
     spelled_by_four (λ other. ⊥) a b c d choice spelled
-    (λ n pages letters is. none pages is.is_absent)
-    (λ n pages letters is. none pages is.is_absent)
+    (λ s is. none s.absent is.is_absent)
+    (λ s is. none s.absent is.is_absent)
 
 pub no_schedule : (a b c d : List ℕ) (q : Option (List Letter)) → q ≡ None
     → ((letters : List Letter) → IsSchedule d letters → q ≡ Some letters)
     → (choice : Command) → Spells (a ∷ b ∷ c ∷ d ∷ []) choice → ⊥
 no_schedule a b c d q e only choice spelled =
     spelled_by_four (λ other. ⊥) a b c d choice spelled
-    (λ n pages letters is. not_some q letters e (only letters is.is_schedule))
-    (λ n pages letters is. not_some q letters e (only letters is.is_schedule))
+    (λ s is. not_some q s.schedule e (only s.schedule is.is_schedule))
+    (λ s is. not_some q s.schedule e (only s.schedule is.is_schedule))

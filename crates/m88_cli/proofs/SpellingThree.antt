@@ -54,9 +54,9 @@ pub spelled_by_three : (P : Command → Type 0) (a b c : List ℕ) (command : Co
     → ((number count : ℕ) → AreOfWorkload (codes "soak") a b c number count → P (soak number count))
     → ((absent : ℕ → Bool) (schedule : List Letter) → AreOfSession (codes "mon") a b c absent schedule → P (mon absent schedule))
     → P command
-spelled_by_three P a b c (run limit absent schedule) spelled workloads sessions =
+spelled_by_three P a b c (run settings) spelled workloads sessions =
     absurd (shorter a b c (codes "run") spelled.limit_text spelled.absent_text spelled.schedule_text spelled.words_are)
-spelled_by_three P a b c (exec limit absent schedule) spelled workloads sessions =
+spelled_by_three P a b c (exec settings) spelled workloads sessions =
     absurd (shorter a b c (codes "exec") spelled.limit_text spelled.absent_text spelled.schedule_text spelled.words_are)
 spelled_by_three P a b c dis spelled workloads sessions = absurd (longer_than_one a b c (codes "dis") spelled)
 spelled_by_three P a b c asm spelled workloads sessions = absurd (longer_than_one a b c (codes "asm") spelled)

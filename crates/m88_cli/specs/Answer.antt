@@ -23,10 +23,8 @@ Refuses command input r = IsRefusedAs (kind_of command) input r
 -- of the objects, `link` and `build` the S-records of the image, `dis` the listing of the image, `mon` what a session
 -- with the monitor writes, `soak` the summary of the run of a workload
 abbrev pub IsOutput : Command → List ℕ → List ℕ → Type 0
-IsOutput (run limit absent schedule) source text =
-    IsReport report_of (IsSourceProgram source) limit absent schedule text
-IsOutput (exec limit absent schedule) records text =
-    IsReport report_of (IsLoadedProgram records) limit absent schedule text
+IsOutput (run settings) source text = IsReport report_of (IsSourceProgram source) settings text
+IsOutput (exec settings) records text = IsReport report_of (IsLoadedProgram records) settings text
 IsOutput asm source text = IsObjectText source text
 IsOutput link objects text = IsLinkedText objects text
 IsOutput build source text = IsRecordText source text

@@ -1,8 +1,7 @@
 -- What a command makes of what another one wrote: laws between the commands, of every input.
-use Rattle.std.specs.Prelude.{ℕ, Bool, ◌↔◌, ◌≤◌, List, Option, length}
+use Rattle.std.specs.Prelude.{ℕ, ◌↔◌, ◌≤◌, List, Option, length}
 use Rattle.m88_base.specs.Image.{IsImage, ProgramImage}
 use Rattle.m88_isa.specs.Machine.{Program}
-use Rattle.m88_event.specs.declared.letter.Letter.{Letter}
 use Rattle.m88_srec.specs.Accepted.{IsAccepted, whole_of}
 use Rattle.m88_srec.specs.Written.{srec_text}
 use Rattle.m88_board.specs.declared.glance.Glance.{Glance}
@@ -10,6 +9,7 @@ use Rattle.m88_cli.specs.Answer.{IsAnswerToAccepted, IsAnswerToRefused}
 use Rattle.m88_cli.specs.Command.{asm, build, exec, link, run, dis}
 use Rattle.m88_cli.specs.Limits.{most_input}
 use Rattle.m88_cli.specs.Runs.{IsLoadedProgram, IsSourceProgram}
+use Rattle.m88_cli.specs.Settings.{Settings}
 use Rattle.m88_cli.specs.Watching.{Shown}
 
 -- a text is short enough to be an input
@@ -20,12 +20,12 @@ FitsInput text = length text ≤ most_input
 -- show a watch the same
 pub record RunAlike (source records : List ℕ) : Type 0 where
   pub programs : (p : Program) → IsSourceProgram source p ↔ IsLoadedProgram records p
-  pub reports : (limit : ℕ) (absent : ℕ → Bool) (schedule : List Letter) (report : List ℕ)
-      → IsAnswerToAccepted (run limit absent schedule) source report
-      ↔ IsAnswerToAccepted (exec limit absent schedule) records report
-  pub watched : (limit : ℕ) (absent : ℕ → Bool) (schedule : List Letter) (before after : Option (List Glance))
-      → Shown (run limit absent schedule) source before after
-      ↔ Shown (exec limit absent schedule) records before after
+  pub reports : (settings : Settings) (report : List ℕ)
+      → IsAnswerToAccepted (run settings) source report
+      ↔ IsAnswerToAccepted (exec settings) records report
+  pub watched : (settings : Settings) (before after : Option (List Glance))
+      → Shown (run settings) source before after
+      ↔ Shown (exec settings) records before after
 
 -- a source and the records that `build` writes of it run alike
 abbrev pub BuiltRunsAlike : Type 0

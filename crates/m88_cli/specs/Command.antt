@@ -2,17 +2,17 @@
 use Rattle.std.specs.Prelude.{ℕ, Bool, true, false, ◌≡◌, ◌<◌, ◌≤◌, ◌^◌, List, [], ◌∷◌, codes}
 use Rattle.m88_event.specs.Letters.{IsSchedule}
 use Rattle.m88_event.specs.declared.letter.Letter.{Letter}
-use Rattle.m88_cli.specs.Limits.{most_limit, most_statements}
+use Rattle.m88_cli.specs.Limits.{most_statements}
 use Rattle.m88_cli.specs.Numbers.{IsShortNumber}
 use Rattle.m88_cli.specs.Pages.{IsAbsent}
+use Rattle.m88_cli.specs.Settings.{Settings, SpellsRun}
 
--- the commands; a run retires at most so many instructions, these pages are absent at first, and its events begin with
--- these letters
+-- the commands
 pub data Command : Type 0 where
   -- the report of a run of a source
-  run : (limit : ℕ) (absent : ℕ → Bool) (schedule : List Letter) → Command
+  run : Settings → Command
   -- the report of a run of S-records
-  exec : (limit : ℕ) (absent : ℕ → Bool) (schedule : List Letter) → Command
+  exec : Settings → Command
   -- the text of the objects of a source
   asm : Command
   -- the S-records of the text of objects
@@ -25,21 +25,6 @@ pub data Command : Type 0 where
   mon : (absent : ℕ → Bool) (schedule : List Letter) → Command
   -- the summary of the workload of a number, with so many statements
   soak : (number count : ℕ) → Command
-
--- a text writes a limit in one to seven decimal digits, which may begin with zeros
-abbrev pub IsLimit : List ℕ → ℕ → Type 0
-IsLimit text n = IsShortNumber 10 7 text n × (n ≤ most_limit)
-
--- the words are a name and the limit, the absent pages and the schedule of a run
-pub record SpellsRun (name : List ℕ) (words : List (List ℕ)) (limit : ℕ) (absent : ℕ → Bool)
-    (schedule : List Letter) : Type 0 where
-  pub limit_text : List ℕ
-  pub absent_text : List ℕ
-  pub schedule_text : List ℕ
-  pub words_are : words ≡ name ∷ limit_text ∷ absent_text ∷ schedule_text ∷ []
-  pub is_limit : IsLimit limit_text limit
-  pub is_absent : IsAbsent absent_text absent
-  pub is_schedule : IsSchedule schedule_text schedule
 
 -- a text writes the number of a workload in one to ten decimal digits, which may begin with zeros
 abbrev pub IsWorkloadNumber : List ℕ → ℕ → Type 0
@@ -68,8 +53,8 @@ pub record SpellsSession (name : List ℕ) (words : List (List ℕ)) (absent : �
 
 -- the words spell the command
 abbrev pub Spells : List (List ℕ) → Command → Type 0
-Spells words (run limit absent schedule) = SpellsRun (codes "run") words limit absent schedule
-Spells words (exec limit absent schedule) = SpellsRun (codes "exec") words limit absent schedule
+Spells words (run settings) = SpellsRun (codes "run") words settings
+Spells words (exec settings) = SpellsRun (codes "exec") words settings
 Spells words asm = words ≡ codes "asm" ∷ []
 Spells words link = words ≡ codes "link" ∷ []
 Spells words build = words ≡ codes "build" ∷ []
@@ -98,8 +83,8 @@ pub data InputKind : Type 0 where
 
 -- the kind of input of a command
 abbrev pub kind_of : Command → InputKind
-kind_of (run limit absent schedule) = source_to_link
-kind_of (exec limit absent schedule) = record_text
+kind_of (run settings) = source_to_link
+kind_of (exec settings) = record_text
 kind_of asm = source_to_assemble
 kind_of link = object_text
 kind_of build = source_to_link
@@ -122,8 +107,8 @@ SpellNoReader words = (command : Command) → Spells words command → reads_inp
 
 -- whether a command shows a watch boards
 abbrev pub shows_boards : Command → Bool
-shows_boards (run limit absent schedule) = true
-shows_boards (exec limit absent schedule) = true
+shows_boards (run settings) = true
+shows_boards (exec settings) = true
 shows_boards (mon absent schedule) = true
 shows_boards (soak number count) = true
 shows_boards _ = false

@@ -1,15 +1,23 @@
 -- Words for the contracts of private functions; no promise of the program names them. A command as the code keeps it.
-use Rattle.std.specs.Prelude.{◌≤◌}
+use Rattle.std.specs.Prelude.{ℕ, ◌≤◌, List}
+use Rattle.m88_base.specs.declared.absent.Absent.{Absent}
+use Rattle.m88_event.specs.declared.letter.Letter.{Letter}
 use Rattle.m88_mem.specs.Marks.{NamesPages, absent_in}
 use Rattle.m88_cli.specs.Command.{Command as Choice, run, exec, asm, link, build, dis, mon, soak}
 use Rattle.m88_cli.specs.Limits.{most_limit, most_statements}
+use Rattle.m88_cli.specs.Settings.{Settings}
 use Rattle.m88_cli.specs.declared.commands.Command.{Command}
+use Rattle.m88_cli.specs.Settings.{Settings}
 use Rattle.m88_cli.specs.declared.commands.Command.TheVariants.{Run, Exec, Asm, Link, Build, Dis, Mon, Soak}
+
+-- the settings of a run as its words are kept
+abbrev pub settings_of : ℕ → Absent → List Letter → Settings
+settings_of limit absent schedule = record { limit = limit; absent = absent_in absent; schedule = schedule }
 
 -- the command that it is
 abbrev pub command_of : Command → Choice
-command_of (Run limit absent schedule) = run limit (absent_in absent) schedule
-command_of (Exec limit absent schedule) = exec limit (absent_in absent) schedule
+command_of (Run limit absent schedule) = run (settings_of limit absent schedule)
+command_of (Exec limit absent schedule) = exec (settings_of limit absent schedule)
 command_of Asm = asm
 command_of Link = link
 command_of Build = build

@@ -3,6 +3,7 @@ pub mod Limits
 pub mod Words
 pub mod Numbers
 pub mod Pages
+pub mod Settings
 pub mod Command
 pub mod Calls
 pub mod Refusal

@@ -1,6 +1,6 @@
 -- What a run reports: what the sequential machine comes to over the program of a source, of S-records, or of a
 -- workload.
-use Rattle.std.specs.Prelude.{ℕ, Bool, ◌≡◌, ◌≤◌, List}
+use Rattle.std.specs.Prelude.{ℕ, ◌≡◌, ◌≤◌, List}
 use Rattle.m88_base.specs.Image.{ProgramImage}
 use Rattle.m88_base.specs.Pages.{every_page}
 use Rattle.m88_isa.specs.ImageProgram.{IsProgramOf}
@@ -10,10 +10,10 @@ use Rattle.m88_parse.specs.declared.unit.Unit.{Unit as Source}
 use Rattle.m88_asm.specs.Images.{IsUnitProgram}
 use Rattle.m88_srec.specs.Accepted.{IsAccepted, whole_of}
 use Rattle.m88_event.specs.Run.{IsOutcome}
-use Rattle.m88_event.specs.declared.letter.Letter.{Letter}
 use Rattle.m88_event.specs.declared.outcome.Outcome.{Outcome}
 use Rattle.m88_cli.specs.Assembly.{IsProgramSource}
 use Rattle.m88_cli.specs.Limits.{most_statements}
+use Rattle.m88_cli.specs.Settings.{Settings}
 use Rattle.m88_cli.specs.Workload.{summary_of, workload_schedule, workload_source}
 
 -- the program is that of the source's unit: its bytes, its start, and its instructions where they are placed
@@ -29,26 +29,30 @@ pub record IsLoadedProgram (text : List ℕ) (p : Program) : Type 0 where
   pub is_program : IsProgramOf image p
 
 -- a run of such a program comes to the outcome
-pub record ComesTo (IsSuch : Program → Type 0) (limit : ℕ) (absent : ℕ → Bool) (schedule : List Letter)
-    (o : Outcome) : Type 0 where
+pub record ComesTo (IsSuch : Program → Type 0) (settings : Settings) (o : Outcome) : Type 0 where
   pub program : Program
   pub is_such : IsSuch program
-  pub is_outcome : IsOutcome program absent limit schedule o
+  pub is_outcome : IsOutcome program settings.absent settings.limit settings.schedule o
 
 -- the text is what is told of the outcome that a run of such a program comes to, and it comes to no other
-pub record IsReport (told_of : Outcome → List ℕ) (IsSuch : Program → Type 0) (limit : ℕ) (absent : ℕ → Bool)
-    (schedule : List Letter) (text : List ℕ) : Type 0 where
+pub record IsReport (told_of : Outcome → List ℕ) (IsSuch : Program → Type 0) (settings : Settings)
+    (text : List ℕ) : Type 0 where
   pub outcome : Outcome
-  pub comes : ComesTo IsSuch limit absent schedule outcome
-  pub only : (other : Outcome) → ComesTo IsSuch limit absent schedule other → other ≡ outcome
+  pub comes : ComesTo IsSuch settings outcome
+  pub only : (other : Outcome) → ComesTo IsSuch settings other → other ≡ outcome
   pub is_text : text ≡ told_of outcome
 
--- the text is the summary of the run of a workload: over its source, with each page absent at first, its schedule, and
--- as many instructions as it has statements
+-- the settings of the run of a workload: as many instructions as it has statements, each page absent at first, and its
+-- schedule
+abbrev pub workload_settings : ℕ → ℕ → Settings
+workload_settings number count =
+    record { limit = count; absent = every_page; schedule = workload_schedule number count }
+
+-- the text is the summary of that run, over the workload's source
 abbrev pub IsSummary : ℕ → ℕ → List ℕ → Type 0
 IsSummary number count text =
-    IsReport (summary_of number count) (IsSourceProgram (workload_source number count)) count every_page
-    (workload_schedule number count) text
+    IsReport (summary_of number count) (IsSourceProgram (workload_source number count))
+    (workload_settings number count) text
 
 -- the source of each workload is accepted
 abbrev pub WorkloadsAreAccepted : Type 0

@@ -1,7 +1,6 @@
 -- What a watch is shown while a command is carried out: of a run, that of a workload too, and of a session with the
 -- monitor its board after each event, and of other commands nothing.
 use Rattle.std.specs.Prelude.{ℕ, Bool, ◌≡◌, ◌⊎◌, List, [], Option}
-use Rattle.m88_base.specs.Pages.{every_page}
 use Rattle.m88_isa.specs.Machine.{Program}
 use Rattle.m88_event.specs.Run.{IsRun, IsRunning, moment_after}
 use Rattle.m88_event.specs.declared.letter.Letter.{Letter}
@@ -10,37 +9,36 @@ use Rattle.m88_board.specs.declared.glance.Glance.{Glance}
 use Rattle.m88_cli.specs.Answer.{Accepts}
 use Rattle.m88_cli.specs.Command.{Command, run, exec, mon, soak}
 use Rattle.m88_cli.specs.MonitorText.{SawSession, SawSessionFront}
-use Rattle.m88_cli.specs.Runs.{IsLoadedProgram, IsSourceProgram}
-use Rattle.m88_cli.specs.Workload.{workload_schedule, workload_source}
+use Rattle.m88_cli.specs.Runs.{IsLoadedProgram, IsSourceProgram, workload_settings}
+use Rattle.m88_cli.specs.Settings.{Settings}
+use Rattle.m88_cli.specs.Workload.{workload_source}
 
 -- a watch was shown a board at each moment of a whole run of a program
-pub record SawRun (p : Program) (limit : ℕ) (absent : ℕ → Bool) (schedule : List Letter)
-    (before after : Option (List Glance)) : Type 0 where
+pub record SawRun (p : Program) (s : Settings) (before after : Option (List Glance)) : Type 0 where
   pub events : ℕ
-  pub is_run : IsRun p absent limit schedule events
-  pub saw : Saw before after (glances_along p (moment_after p absent limit schedule) events)
+  pub is_run : IsRun p s.absent s.limit s.schedule events
+  pub saw : Saw before after (glances_along p (moment_after p s.absent s.limit s.schedule) events)
 
 -- or at its first moments
-pub record SawFront (p : Program) (limit : ℕ) (absent : ℕ → Bool) (schedule : List Letter)
-    (before after : Option (List Glance)) : Type 0 where
+pub record SawFront (p : Program) (s : Settings) (before after : Option (List Glance)) : Type 0 where
   pub events : ℕ
-  pub is_running : IsRunning p absent limit schedule events
-  pub saw : Saw before after (glances_along p (moment_after p absent limit schedule) events)
+  pub is_running : IsRunning p s.absent s.limit s.schedule events
+  pub saw : Saw before after (glances_along p (moment_after p s.absent s.limit s.schedule) events)
 
 -- what a watch was shown of a command over an input that it accepts, by what it was shown of a run of a program and
 -- of a session with the monitor
 abbrev pub ShownBy :
-    (Program → ℕ → (ℕ → Bool) → List Letter → Option (List Glance) → Option (List Glance) → Type 0)
+    (Program → Settings → Option (List Glance) → Option (List Glance) → Type 0)
     → (List ℕ → (ℕ → Bool) → List Letter → Option (List Glance) → Option (List Glance) → Type 0)
     → Command → List ℕ → Option (List Glance) → Option (List Glance) → Type 0
-ShownBy OfRun OfSession (run limit absent schedule) source before after =
-    (p : Program) × IsSourceProgram source p × OfRun p limit absent schedule before after
-ShownBy OfRun OfSession (exec limit absent schedule) text before after =
-    (p : Program) × IsLoadedProgram text p × OfRun p limit absent schedule before after
+ShownBy OfRun OfSession (run settings) source before after =
+    (p : Program) × IsSourceProgram source p × OfRun p settings before after
+ShownBy OfRun OfSession (exec settings) text before after =
+    (p : Program) × IsLoadedProgram text p × OfRun p settings before after
 ShownBy OfRun OfSession (mon absent schedule) input before after = OfSession input absent schedule before after
 ShownBy OfRun OfSession (soak number count) input before after =
     (p : Program) × IsSourceProgram (workload_source number count) p
-    × OfRun p count every_page (workload_schedule number count) before after
+    × OfRun p (workload_settings number count) before after
 ShownBy OfRun OfSession _ input before after = Saw before after []
 
 -- a watch was shown the whole of a command over an input that it accepts

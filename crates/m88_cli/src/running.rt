@@ -8,6 +8,7 @@ ghost use Rattle.m88_isa.specs.Machine.{Program};
 ghost use Rattle.m88_mem.specs.Marks.{NamesPages, absent_in};
 ghost use Rattle.m88_cli.specs.Command.{exec, run};
 ghost use Rattle.m88_cli.specs.Inputs.{AreRecordsOf};
+ghost use Rattle.m88_cli.specs.Kept.{settings_of};
 ghost use Rattle.m88_cli.specs.Limits.{most_input, most_limit};
 ghost use Rattle.m88_cli.specs.Reply.{Replies, WatchesFront, WatchesReply};
 ghost use Rattle.m88_cli.specs.Watching.{SawFront, SawRun};
@@ -37,11 +38,11 @@ pub fn run_source<W: Watch>(
     requires limit { limit ≤ most_limit }
     requires pages { NamesPages absent.now }
     ensures reply { IfOk result
-        (Replies (run limit (absent_in absent.now) schedule.now) source.now) }
+        (Replies (run (settings_of limit absent.now schedule.now)) source.now) }
     ensures watched { IfOk result (WatchesReply W.seen watch.old watch.new
-        (run limit (absent_in absent.now) schedule.now) source.now) }
+        (run (settings_of limit absent.now schedule.now)) source.now) }
     ensures front { OnErr result (WatchesFront W.seen watch.old watch.new
-        (run limit (absent_in absent.now) schedule.now) source.now) }
+        (run (settings_of limit absent.now schedule.now)) source.now) }
 {
     match image_of_source(alloc, source) {
         Ok(image) => run_image(alloc, limit, absent, schedule, &image, watch),
@@ -61,13 +62,13 @@ pub fn run_records<W: Watch>(
     requires limit { limit ≤ most_limit }
     requires pages { NamesPages absent.now }
     ensures reply { (text : List ℕ) → AreRecordsOf records.now text → IfOk result
-        (Replies (exec limit (absent_in absent.now) schedule.now) text) }
+        (Replies (exec (settings_of limit absent.now schedule.now)) text) }
     ensures watched { (text : List ℕ) → AreRecordsOf records.now text → IfOk result
         (WatchesReply W.seen watch.old watch.new
-        (exec limit (absent_in absent.now) schedule.now) text) }
+        (exec (settings_of limit absent.now schedule.now)) text) }
     ensures front { (text : List ℕ) → AreRecordsOf records.now text → OnErr result
         (WatchesFront W.seen watch.old watch.new
-        (exec limit (absent_in absent.now) schedule.now) text) }
+        (exec (settings_of limit absent.now schedule.now)) text) }
 {
     match records {
         Ok(image) => run_image(alloc, limit, absent, schedule, image, watch),
@@ -93,10 +94,10 @@ fn run_image<W: Watch>(
         → (o : OutcomeValue) × IsOutcome p (absent_in absent.now) limit schedule.now o
         × (reply.text.items ≡ report_of o)) }
     ensures watched { OnOk result ((p : Program) → IsProgramOf image.now p
-        → SawRun p limit (absent_in absent.now) schedule.now
+        → SawRun p (settings_of limit absent.now schedule.now)
         (W.seen watch.old) (W.seen watch.new)) }
     ensures front { OnErr result ((p : Program) → IsProgramOf image.now p
-        → SawFront p limit (absent_in absent.now) schedule.now
+        → SawFront p (settings_of limit absent.now schedule.now)
         (W.seen watch.old) (W.seen watch.new)) }
 {
     let outcome = outcome_of(alloc, limit, absent, schedule, image, watch)?;
@@ -122,10 +123,10 @@ pub fn outcome_of<W: Watch>(
     ensures outcome { IfOk result (λ o. (p : Program) → IsProgramOf image.now p
         → IsOutcome p (absent_in absent.now) limit schedule.now o) }
     ensures watched { OnOk result ((p : Program) → IsProgramOf image.now p
-        → SawRun p limit (absent_in absent.now) schedule.now
+        → SawRun p (settings_of limit absent.now schedule.now)
         (W.seen watch.old) (W.seen watch.new)) }
     ensures front { OnErr result ((p : Program) → IsProgramOf image.now p
-        → SawFront p limit (absent_in absent.now) schedule.now
+        → SawFront p (settings_of limit absent.now schedule.now)
         (W.seen watch.old) (W.seen watch.new)) }
 {
     let board = Board::new(alloc, image, absent, limit)?;

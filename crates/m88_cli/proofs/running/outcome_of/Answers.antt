@@ -3,17 +3,18 @@ use Rattle.std.proofs.Common.{subst}
 use Rattle.m88_event.specs.Run.{IsOutcome}
 use Rattle.m88_isa.proofs.ImageProgram.{program_of_image}
 use Rattle.m88_mem.specs.Marks.{absent_in}
+use Rattle.m88_cli.specs.Kept.{settings_of}
 use Rattle.m88_cli.proofs.Reporting.{front_by, no_front, on_err, run_by}
 use Rattle.m88_cli.proofs.running.outcome_of.Goals as goal
 
 pub returns-in_err-board-clause-front : goal.returns-in_err-board-clause-front
 returns-in_err-board-clause-front g c =
-    on_err c.from_residual.result (λ p of. no_front p c.args.limit (absent_in c.args.absent.now) c.args.schedule.now (g.W.Watch.seen c.args.watch.now))
+    on_err c.from_residual.result (λ p of. no_front p (settings_of c.args.limit c.args.absent.now c.args.schedule.now) (g.W.Watch.seen c.args.watch.now))
 
 pub returns-in_err-outcome-clause-front : goal.returns-in_err-outcome-clause-front
 returns-in_err-outcome-clause-front g c =
     on_err c.from_residual-in_err-outcome.result (λ p of.
-    front_by p c.in_ok-board.board.limit c.args.limit (absent_in c.args.absent.now) c.args.schedule.now (g.W.Watch.seen c.args.watch.now)
+    front_by p c.in_ok-board.board.limit (settings_of c.args.limit c.args.absent.now c.args.schedule.now) (g.W.Watch.seen c.args.watch.now)
     (g.W.Watch.seen c.run.new.watch) c.in_ok-board.ensures.limit
     (c.in_err-outcome.ensures.err p (absent_in c.args.absent.now) (program_of_image c.args.image.now p c.new.ensures.is_image of)
     (c.in_ok-board.ensures.at p of)))
@@ -28,6 +29,6 @@ pub returns-clause-watched : goal.returns-clause-watched
 returns-clause-watched g c = λ p of.
     let is = program_of_image c.args.image.now p c.new.ensures.is_image of in
     let at = c.in_ok-board.ensures.at p of in
-    run_by p c.in_ok-board.board.limit c.args.limit (absent_in c.args.absent.now) c.args.schedule.now (g.W.Watch.seen c.args.watch.now)
+    run_by p c.in_ok-board.board.limit (settings_of c.args.limit c.args.absent.now c.args.schedule.now) (g.W.Watch.seen c.args.watch.now)
     (g.W.Watch.seen c.run.new.watch) c.in_ok-outcome.outcome c.in_ok-board.ensures.limit
     (c.in_ok-outcome.ensures.outcome p (absent_in c.args.absent.now) is at) (c.in_ok-outcome.ensures.watched p (absent_in c.args.absent.now) is at)

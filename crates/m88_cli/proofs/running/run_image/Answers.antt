@@ -1,5 +1,5 @@
 -- The report is that of what the run comes to.
-use Rattle.m88_mem.specs.Marks.{absent_in}
+use Rattle.m88_cli.specs.Kept.{settings_of}
 use Rattle.m88_cli.proofs.Reporting.{front_of_run, on_err}
 use Rattle.m88_cli.proofs.running.run_image.Goals as goal
 
@@ -9,7 +9,7 @@ returns-in_err-outcome-clause-front g c = on_err c.from_residual.result c.in_err
 pub returns-in_err-text-clause-front : goal.returns-in_err-text-clause-front
 returns-in_err-text-clause-front g c =
     on_err c.from_residual-in_err-text.result (λ p of.
-    front_of_run p c.args.limit (absent_in c.args.absent.now) c.args.schedule.now (g.W.Watch.seen c.args.watch.now)
+    front_of_run p (settings_of c.args.limit c.args.absent.now c.args.schedule.now) (g.W.Watch.seen c.args.watch.now)
     (g.W.Watch.seen c.outcome_of.new.watch) (c.in_ok-outcome.ensures.watched p of))
 
 pub returns-clause-report : goal.returns-clause-report

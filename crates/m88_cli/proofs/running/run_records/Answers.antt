@@ -2,9 +2,9 @@
 use Rattle.std.proofs.Common.{inl, inr, refl, subst}
 use Rattle.std.proofs.lemmas.Result.{on_err_weaker}
 use Rattle.m88_codec.proofs.ImagePrograms.{program_in, program_in_holds}
-use Rattle.m88_mem.specs.Marks.{absent_in}
 use Rattle.m88_srec.specs.Accepted.{whole_of}
 use Rattle.m88_cli.specs.Command.{exec}
+use Rattle.m88_cli.specs.Kept.{settings_of}
 use Rattle.m88_cli.specs.Inputs.{AreRecordsOf}
 use Rattle.m88_cli.specs.Loading.{srec_refusal}
 use Rattle.m88_cli.specs.Runs.{IsLoadedProgram}
@@ -16,7 +16,7 @@ use Rattle.m88_cli.proofs.running.run_records.Goals as goal
 pub returns-in-Err-clause-reply : goal.returns-in-Err-clause-reply
 returns-in-Err-clause-reply g c = λ text are.
     let first = subst (λ records. AreRecordsOf records text) c.in-Err.is are in
-    plainly_refused (exec c.args.limit (absent_in c.args.absent.now) c.args.schedule.now) text (srec_refusal c.in-Err.fault)
+    plainly_refused (exec (settings_of c.args.limit c.args.absent.now c.args.schedule.now)) text (srec_refusal c.in-Err.fault)
     c.unloaded.result (record { fault = c.in-Err.fault; is_first = first; refusal = refl })
     c.unloaded.ensures.line c.unloaded.ensures.refused
 
@@ -27,11 +27,11 @@ returns-in-Ok-clause-reply g c = λ text are.
     let p = program_in image c.run_image.ensures.image in
     let of = program_in_holds image c.run_image.ensures.image in
     let own : IsLoadedProgram text p = record { image = image; is_written = written; is_program = of } in
-    answering (exec c.args.limit (absent_in c.args.absent.now) c.args.schedule.now) text
-    (TellsOf image c.args.limit (absent_in c.args.absent.now) c.args.schedule.now) c.run_image.result
+    answering (exec (settings_of c.args.limit c.args.absent.now c.args.schedule.now)) text
+    (TellsOf image (settings_of c.args.limit c.args.absent.now c.args.schedule.now)) c.run_image.result
     (λ report tells. record {
       accepted = (whole_of image, written);
-      output = reported (IsLoadedProgram text) p c.args.limit (absent_in c.args.absent.now) c.args.schedule.now
+      output = reported (IsLoadedProgram text) p (settings_of c.args.limit c.args.absent.now c.args.schedule.now)
           report own (λ q is. one_loaded_program text q p is own) (tells p of);
     })
     c.run_image.ensures.accepted c.run_image.ensures.report
@@ -43,7 +43,7 @@ returns-in-Ok-clause-watched g c = λ text are.
     let p = program_in image c.run_image.ensures.image in
     let of = program_in_holds image c.run_image.ensures.image in
     let own : IsLoadedProgram text p = record { image = image; is_written = written; is_program = of } in
-    watching g.W.Watch.seen c.args.watch.now c.run_image.new.watch (exec c.args.limit (absent_in c.args.absent.now) c.args.schedule.now)
+    watching g.W.Watch.seen c.args.watch.now c.run_image.new.watch (exec (settings_of c.args.limit c.args.absent.now c.args.schedule.now))
     text c.run_image.result c.run_image.ensures.accepted c.run_image.ensures.watched (λ saw. (p, own, saw p of))
 
 pub returns-in-Ok-clause-front : goal.returns-in-Ok-clause-front
