@@ -1,5 +1,5 @@
 -- A fault of a source, other than that memory ran out, is a refusal of it.
-use Rattle.std.proofs.Common.{◌≡◌, ◌≢◌, List, ℕ, Option, Result, Ok, Err, false, inl, inr, refl, ap, subst, sym, ◌∙◌}
+use Rattle.std.proofs.Common.{◌≡◌, List, ℕ, Option, Result, Ok, Err, false, inl, inr, refl, subst, sym}
 use Rattle.std.specs.Prelude.{IfOk, MatchBool}
 use Rattle.m88_base.specs.declared.failing.NoMemory.{NoMemory}
 use Rattle.m88_asm.specs.declared.fault.UnitFault.TheVariants as unit_kind

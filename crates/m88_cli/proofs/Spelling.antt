@@ -1,7 +1,6 @@
 -- The four words of a run.
-use Rattle.std.proofs.Common.{◌≡◌, ℕ, Bool, List, codes, [], ◌∷◌, get_or, sym, ap, subst}
+use Rattle.std.proofs.Common.{◌≡◌, ℕ, List, codes, [], ◌∷◌, get_or, sym, ap, subst}
 use Rattle.m88_event.specs.Letters.{IsSchedule}
-use Rattle.m88_event.specs.declared.letter.Letter.{Letter}
 use Rattle.m88_cli.specs.Command.{Command, Spells, run, exec, dis, asm, link, build, soak, mon}
 use Rattle.m88_cli.specs.Pages.{IsAbsent}
 use Rattle.m88_cli.specs.Settings.{IsLimit, Settings, SpellsRun}

@@ -1,5 +1,5 @@
 -- The image that the records write holds their program, and the report of its run answers them.
-use Rattle.std.proofs.Common.{inl, inr, refl, subst}
+use Rattle.std.proofs.Common.{inr, refl, subst}
 use Rattle.std.proofs.lemmas.Result.{on_err_weaker}
 use Rattle.m88_codec.proofs.ImagePrograms.{program_in, program_in_holds}
 use Rattle.m88_srec.specs.Accepted.{whole_of}
@@ -9,8 +9,8 @@ use Rattle.m88_cli.specs.Inputs.{AreRecordsOf}
 use Rattle.m88_cli.specs.Loading.{srec_refusal}
 use Rattle.m88_cli.specs.Runs.{IsLoadedProgram}
 use Rattle.m88_cli.proofs.Programs.{one_loaded_program}
-use Rattle.m88_cli.proofs.Refusing.{plainly_refused, refused_watch}
-use Rattle.m88_cli.proofs.Reporting.{TellsOf, answering, on_err, reported, watching}
+use Rattle.m88_cli.proofs.Refusing.{plainly_refused}
+use Rattle.m88_cli.proofs.Reporting.{TellsOf, answering, reported, watching}
 use Rattle.m88_cli.proofs.running.run_records.Goals as goal
 
 pub returns-in-Err-clause-reply : goal.returns-in-Err-clause-reply
