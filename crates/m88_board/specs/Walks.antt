@@ -16,21 +16,23 @@ use Rattle.m88_board.specs.declared.until.Until.TheVariants.{Over, Made, Breakpo
 abbrev pub is_at_breakpoint : Program → List ℕ → Moment → Bool
 is_at_breakpoint p addresses m = (nip_at p m).v && list_any (λ a. a == (nip_at p m).addr) addresses
 
--- when a walk is to go no further than a moment after so many events: never, after as many as it was asked for, or
--- behind one at least where the next instruction stands at a breakpoint
+-- a walk isn't to stop at a moment after so many events
 abbrev pub never : Program → ℕ → Moment → Bool
 never p made m = false
 
+-- it is to stop after as many as it was asked for
 abbrev pub is_made : ℕ → Program → ℕ → Moment → Bool
 is_made most p made m = not (nat_lt made most)
 
-abbrev pub is_break : List ℕ → Program → ℕ → Moment → Bool
-is_break addresses p made m = nat_lt 0 made && is_at_breakpoint p addresses m
+-- it is to stop behind one at least where the next instruction stands at a breakpoint
+abbrev pub is_halt : List ℕ → Program → ℕ → Moment → Bool
+is_halt addresses p made m = nat_lt 0 made && is_at_breakpoint p addresses m
 
+-- it is to go no further, by when it stops
 abbrev pub is_enough : Until → Program → ℕ → Moment → Bool
 is_enough Over = never
 is_enough (Made most) = is_made most
-is_enough (Breakpoint addresses) = is_break addresses.now
+is_enough (Breakpoint addresses) = is_halt addresses.now
 
 -- the moments of a walk from a moment on, along the letters of a run behind those that are taken
 abbrev pub moments_from : Program → (ℕ → Bool) → ℕ → List Letter → ℕ → Moment → ℕ → Moment
@@ -56,8 +58,8 @@ pub record IsBounded (schedule : List Letter) (taken : ℕ) (b : BoardView) : Ty
   pub made : taken ≤ b.events
   pub room : b.events + weight schedule b.limit taken (local_of b) ≤ most_events_of schedule b.limit
 
--- some events more or none: by any letters of a run, the events so far and those that it may still have are no more than
--- before; and no more instructions are retired than the limit, if they weren't before
+-- some events more or none: by any letters of a run, the events so far and those that it may still have are no more
+-- than before; and no more instructions are retired than the limit, if they weren't before
 pub record IsNoHeavier (old new : BoardView) : Type 0 where
   pub counted : old.events ≤ new.events
   pub within : old.retired ≤ old.limit → new.retired ≤ new.limit

@@ -7,7 +7,6 @@ use Rattle.m88_cli.specs.Command.{Command as Choice, run, exec, asm, link, build
 use Rattle.m88_cli.specs.Limits.{most_limit, most_statements}
 use Rattle.m88_cli.specs.Settings.{Settings}
 use Rattle.m88_cli.specs.declared.commands.Command.{Command}
-use Rattle.m88_cli.specs.Settings.{Settings}
 use Rattle.m88_cli.specs.declared.commands.Command.TheVariants.{Run, Exec, Asm, Link, Build, Dis, Mon, Soak}
 
 -- the settings of a run as its words are kept

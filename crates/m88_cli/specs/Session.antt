@@ -8,7 +8,7 @@ use Rattle.m88_event.specs.Timeline.{Moment, is_drained, opening_moment, record_
 use Rattle.m88_event.specs.declared.letter.Letter.{Letter}
 use Rattle.m88_report.specs.Report.{record_lines}
 use Rattle.m88_board.specs.Glances.{glances_along}
-use Rattle.m88_board.specs.Walks.{is_break, is_made, moments_from, stops_after}
+use Rattle.m88_board.specs.Walks.{is_halt, is_made, moments_from, stops_after}
 use Rattle.m88_board.specs.declared.glance.Glance.{Glance}
 use Rattle.m88_cli.specs.Limits.{session_limit}
 use Rattle.m88_cli.specs.MonitorLines.{breakpoint_line, counts_text, registers_text, trace_line, words_text}
@@ -57,7 +57,7 @@ moments_of c s _ = moment_on c s
 abbrev pub stops_command : Course → Session → MonitorCommand → ℕ → Bool
 stops_command c s (Step most) = stops_on c s (is_made most)
 stops_command c s (Trace most) = stops_on c s (is_made most)
-stops_command c s Go = stops_on c s (is_break s.breakpoints)
+stops_command c s Go = stops_on c s (is_halt s.breakpoints)
 stops_command c s Drain = λ k. is_drained c.program (answered_after c.program c.named c.limit s.moment k)
 stops_command c s _ = λ k. true
 

@@ -16,6 +16,7 @@ fuel limit l = 4 * (limit - l.retired) + length l.pending + one_if l.bubble + on
 abbrev pub turns_left : Bool → Bool → Bool → ℕ
 turns_left inside answer pending = if inside || answer then 1 else if pending then 2 else 0
 
+-- the same after so many events, by what is seen of a board
 abbrev pub phase : List Letter → ℕ → Local → ℕ
 phase schedule k l = turns_left (nat_lt k (length schedule)) ((k - length schedule) % 2 == 0) (is_pending l.pending)
 

@@ -14,7 +14,8 @@ use Rattle.m88_listing.specs.Rows.{Row, numbered_lines, row_on, rows_of_unit, so
 
 -- the bytes that the lines of a source show, in order of the lines
 abbrev pub shown_runs : List Row → List ℕ → List Placed
-shown_runs rows source = flat_map (λ e. option_map_or (λ row. row.run ∷ []) (row_on rows e.0) []) (numbered_lines source)
+shown_runs rows source =
+    flat_map (λ e. option_map_or (λ row. row.run ∷ []) (row_on rows e.0) []) (numbered_lines source)
 
 -- some run has this byte at the address
 abbrev pub Shows : List Placed → ℕ → ℕ → Type 0
