@@ -2,7 +2,7 @@
 use Rattle.std.specs.Prelude.{[], Result, Ok, Err, IfOk, OnErr, ◌≡◌}
 use Rattle.std.proofs.Common.{refl, ap, ◌∙◌}
 use Rattle.m88_base.specs.declared.failing.NoMemory.{NoMemory}
-use Rattle.m88_event.specs.Choice.{Choice, faults, finishes, holds, idles, issues, passes, replies, serves}
+use Rattle.m88_event.specs.Choice.{Choice, evicts, faults, finishes, holds, idles, issues, passes, replies, serves}
 use Rattle.m88_event.specs.Local.{Local, move_by}
 use Rattle.m88_event.specs.declared.happened.Happened.{Happened}
 use Rattle.m88_event.specs.declared.record.Record.{Record}
@@ -19,6 +19,7 @@ moved_events (serves byte) fault l = refl
 moved_events (finishes stop) fault l = refl
 moved_events replies fault l = refl
 moved_events faults fault l = refl
+moved_events evicts fault l = refl
 
 -- and so does the count
 does_events : (choice : Choice) (fault : Record) (old new : BoardView) → Does choice fault old new →

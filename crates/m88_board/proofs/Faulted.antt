@@ -1,6 +1,6 @@
 -- The pending transactions are finished: what is seen of it, and what always holds of a board goes on to hold.
 use Rattle.std.specs.Prelude.{ℕ, Bool, true, false, not, List, [], ◌∷◌, ◌++◌, All, ◌≡◌, ◌<◌, ◌+◌, ◌&&◌, is_some, length, if◌then◌else◌}
-use Rattle.std.proofs.Common.{arith, sym, ap, ◌∙◌, subst, length-append}
+use Rattle.std.proofs.Common.{arith, sym, ap, ap₂, ◌∙◌, subst, length-append}
 use Rattle.std.proofs.lemmas.List.Elements.{All-nil}
 use Rattle.m88_base.specs.Image.{IsImage}
 use Rattle.m88_ctrl.specs.ControlRegisters.{ControlRegisters}
@@ -19,7 +19,7 @@ use Rattle.m88_board.proofs.Stopping.{no_end}
 use Rattle.m88_board.specs.Board.{BoardView, cells_of}
 use Rattle.m88_board.specs.Kept.{AreReady, HasReadyPage, IsBehind, IsKept, SlotsAgree}
 use Rattle.m88_board.specs.Moves.{Does}
-use Rattle.m88_board.proofs.Carry.{carry_by}
+use Rattle.m88_board.proofs.Carry.{carry_by, mxm_by}
 use Rattle.m88_board.proofs.Going.{still_going}
 use Rattle.m88_board.proofs.Waiting.{none_wait_for_none}
 
@@ -64,7 +64,7 @@ does_fault b file memory control slots pending done records fault empty cells ab
     })) (sym joined)
     (faulted fault b file memory control slots done cells
     (ap (λ (c : Cells). c.bus) cells ∙ cells_bus b.pending (cells_of b.file b.memory))
-    absent image (carry_by b control psr) same count))
+    absent image (carry_by b control psr) (mxm_by b control psr) same count))
 
 -- the pending transactions were finished
 pub kept_faulted : (b : BoardView) (file : Registers) (memory : MemoryView) (control : ControlRegisters) (slots : Pointers)
@@ -111,7 +111,7 @@ kept_faulted b file memory control slots pending done records fault kept some em
           ∙ psr
           ∙ sym (ap (λ (t : Bool). if t then b.control.epsr else b.control.psr) going)
           ∙ kept.status
-          ∙ ap status_of (sym (carry_by b control psr));
+          ∙ ap₂ status_of (sym (mxm_by b control psr)) (sym (carry_by b control psr));
       drained = λ ended. empty;
       made = omega (arith, none, count, made);
       told = omega (arith, more, longer, some, count, told);

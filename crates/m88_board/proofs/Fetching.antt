@@ -43,8 +43,8 @@ passes_by p b goes bubble = passed_over (is_idle_board b) (not b.slots.nip.v) _ 
 -- the choice by the four bytes that are fetched and the instruction that the program has there
 abbrev choice_fetched : Option (List ℕ) → Option Instr → Completed → List Access → Choice
 choice_fetched word i c pending =
-    next_choice (held (fetched_instruction word i) (fetched word i c.regs c.carry c.pc c.next) pending)
-    (fetched word i c.regs c.carry c.pc c.next)
+    next_choice (held (fetched_instruction word i) (fetched word i c.regs c.carry c.mxm c.pc c.next) pending)
+    (fetched word i c.regs c.carry c.mxm c.pc c.next)
 
 -- the choice where the next instruction has its turn
 goes_next : (idle bubble : Bool) (why : Option Hold) (turn : Turn) → idle ≡ false → bubble ≡ false →

@@ -1,7 +1,7 @@
 -- The program ends with nothing pending: what always holds of a board goes on to hold.
 use Rattle.std.specs.Prelude.{Bool, true, false, [], Some, ◌≡◌, bit_or, if◌then◌else◌}
-use Rattle.std.proofs.Common.{arith, sym, ap, ◌∙◌}
-use Rattle.m88_ctrl.specs.ControlRegisters.{ControlRegisters, exception_bits}
+use Rattle.std.proofs.Common.{arith, sym, ap, ap₂, ◌∙◌}
+use Rattle.m88_ctrl.specs.ControlRegisters.{ControlRegisters, exception_bits, mxm_of}
 use Rattle.m88_event.specs.Shadow.{status_of}
 use Rattle.m88_event.specs.declared.happened.End.{End}
 use Rattle.m88_board.proofs.Stopping.{ends_now}
@@ -21,8 +21,9 @@ pub kept_finished : (b : BoardView) (control : ControlRegisters) (end : End) →
     ComesToEnd end b →
     control.psr ≡ bit_or b.control.psr exception_bits →
     control.epsr ≡ b.control.psr →
+    mxm_of control ≡ mxm_of b.control →
     IsKept (record b { control = control; ended = Some end })
-kept_finished b control end kept goes valid none ends comes psr epsr =
+kept_finished b control end kept goes valid none ends comes psr epsr same_mxm =
     let carry = carry_entered b.control control psr in
     let more = one_more b goes kept.within in
     record {
@@ -34,7 +35,7 @@ kept_finished b control end kept goes valid none ends comes psr epsr =
       status = epsr
           ∙ sym (ap (λ (t : Bool). if t then b.control.epsr else b.control.psr) (not_ended b goes))
           ∙ kept.status
-          ∙ ap status_of (sym carry);
+          ∙ ap₂ status_of (sym same_mxm) (sym carry);
       drained = λ ended. none;
       made = kept.made;
       told = kept.told;
@@ -42,7 +43,7 @@ kept_finished b control end kept goes valid none ends comes psr epsr =
       within = kept.within;
       early = λ ended. omega (arith, more);
       ends = ends;
-      ends_so = ends_now b control end comes carry;
+      ends_so = ends_now b control end comes carry same_mxm;
       small = kept.small;
       counted = kept.counted;
     }

@@ -6,7 +6,7 @@ use Rattle.std.proofs.lemmas.List.Elements.{All-append, All-cons, All-nil, All-w
 use Rattle.m88_base.specs.Image.{IsImage}
 use Rattle.m88_base.specs.Pages.{page_number}
 use Rattle.m88_base.specs.Reg.{number_of}
-use Rattle.m88_ctrl.specs.ControlRegisters.{ControlRegisters, carry_of, with_carry}
+use Rattle.m88_ctrl.specs.ControlRegisters.{ControlRegisters, carry_of, mxm_of, with_carry}
 use Rattle.m88_dunit.specs.Pending.{CanIssue}
 use Rattle.m88_event.specs.Choice.{issues}
 use Rattle.m88_event.specs.Shadow.{status_of}
@@ -70,6 +70,7 @@ pub kept_issued : (b : BoardView) (accesses : Accesses) (slots : Pointers) (pend
     memory.image ≡ b.memory.image →
     control ≡ record b.control { psr = with_carry carry b.control.psr } →
     carry_of control ≡ carry →
+    mxm_of control ≡ mxm_of b.control →
     IsKept (record b {
       slots = slots;
       pending = pending;
@@ -79,7 +80,7 @@ pub kept_issued : (b : BoardView) (accesses : Accesses) (slots : Pointers) (pend
       retired = b.retired + 1;
     })
 kept_issued b accesses slots pending file memory control carry kept goes can room apart joined waiting stays ready agree
-    behind image changed carries =
+    behind image changed carries same_mxm =
     let more = length-append b.pending (listed accesses) in
     let count = listed_count accesses can.count in
     let all = ap length joined in
@@ -107,8 +108,8 @@ kept_issued b accesses slots pending file memory control carry kept goes can roo
       status = ap (λ (t : Bool). if t then control.epsr else control.psr) going
           ∙ ap (λ (c : ControlRegisters). c.psr) changed
           ∙ ap (with_carry carry) (sym (ap (λ (t : Bool). if t then b.control.epsr else b.control.psr) going) ∙ kept.status)
-          ∙ carried (carry_of b.control) carry
-          ∙ ap status_of (sym carries);
+          ∙ carried (mxm_of b.control) (carry_of b.control) carry
+          ∙ ap₂ status_of (sym same_mxm) (sym carries);
       drained = λ ended. absurd (let no = going in cc);
       made = omega (arith, all, more, count, most, made);
       told = kept.told;
@@ -133,6 +134,7 @@ pub issued_by : (fault : Record) (change : Change) (effect : Effect) (b : BoardV
     absent_of memory ≡ absent_of b.memory →
     memory.image ≡ b.memory.image →
     carry_of control ≡ effect.carry →
+    mxm_of control ≡ mxm_of b.control →
     Does (issues change) fault b (record b {
       slots = slots;
       pending = pending;
@@ -142,7 +144,7 @@ pub issued_by : (fault : Record) (change : Change) (effect : Effect) (b : BoardV
       retired = b.retired + 1;
     })
 unfolding completed_of
-issued_by fault change effect b slots pending file memory control is few free on joined numbers bus absent image carries =
+issued_by fault change effect b slots pending file memory control is few free on joined numbers bus absent image carries same_mxm =
     let seen : listed effect.accesses ≡ change_accesses change =
     ap (λ (e : Effect). listed e.accesses) is ∙ listed_recorded change.touches few in
     let register = ap (λ (e : Effect). e.reg) is in
@@ -156,4 +158,4 @@ issued_by fault change effect b slots pending file memory control is few free on
     ∙ late_change b.pending change (cells_of b.file b.memory) (completed_of b) refl refl
     (subst (λ w. IfSome w (λ w. waits_for b.pending (number_of w.0) ≡ false)) register free))
     bus absent image
-    (carries ∙ ap (λ (e : Effect). e.carry) is)
+    (carries ∙ ap (λ (e : Effect). e.carry) is) same_mxm

@@ -5,7 +5,7 @@ use Rattle.std.proofs.lemmas.Bool.Decides.{nat_tests}
 use Rattle.m88_base.proofs.Same.{same_reg}
 use Rattle.m88_base.specs.Reg.{number_of, reg_of}
 use Rattle.m88_base.specs.declared.reg.Reg.{Reg}
-use Rattle.m88_ctrl.specs.ControlRegisters.{carry_of}
+use Rattle.m88_ctrl.specs.ControlRegisters.{carry_of, mxm_of}
 use Rattle.m88_event.specs.Choice.{Choice, holds, issues, next_choice, turn_choice, why_of}
 use Rattle.m88_event.specs.declared.happened.Happened.TheVariants as happened
 use Rattle.m88_event.specs.declared.happened.Why.TheVariants.{Busy}
@@ -74,31 +74,34 @@ next_valid : (b : BoardView) → b.slots.nip.v ≡ true → b.slots.fip.addr ≡
 next_valid b valid = rw valid refl
 
 -- by what the parts show, an instruction means what it means at the state that the pending transactions lead to
-pub meant : (i : Instr) (inside b : BoardView) (shown : List ℕ) (carry : Bool) (pc next : ℕ) →
+pub meant : (i : Instr) (inside b : BoardView) (shown : List ℕ) (carry mxm : Bool) (pc next : ℕ) →
     inside ≡ b →
     IsKept inside →
     b.slots.nip.v ≡ true →
     busy_register (Some i) b.pending ≡ None →
     ((r : ℕ) → r < 32 → slice_index shown r ≡ shown_at inside.file r) →
     carry ≡ carry_of inside.control →
+    mxm ≡ mxm_of inside.control →
     pc ≡ inside.slots.nip.addr →
     next ≡ inside.slots.fip.addr →
-    meaning_of i shown carry pc next ≡ meaning_at i (completed_of b)
+    meaning_of i shown carry mxm pc next ≡ meaning_at i (completed_of b)
 unfolding completed_of
-meant i inside b shown carry pc next same kept valid free each carries here behind =
+meant i inside b shown carry mxm pc next same kept valid free each carries modes here behind =
     let kept : IsKept b = subst IsKept same kept in
     let each : ((r : ℕ) → r < 32 → slice_index shown r ≡ shown_at b.file r) =
     subst (λ (x : BoardView). (r : ℕ) → r < 32 → slice_index shown r ≡ shown_at x.file r) same each in
     let carries : carry ≡ carry_of b.control = carries ∙ ap (λ (x : BoardView). carry_of x.control) same in
+    let modes : mxm ≡ mxm_of b.control = modes ∙ ap (λ (x : BoardView). mxm_of x.control) same in
     let here : pc ≡ pc_of b.slots =
     here ∙ ap (λ (x : BoardView). x.slots.nip.addr) same ∙ pc_valid b valid in
     let behind : next ≡ next_of b.slots =
     behind ∙ ap (λ (x : BoardView). x.slots.fip.addr) same ∙ next_valid b valid in
     let regs : List ℕ = (after_accesses b.pending (cells_of b.file b.memory)).regs in
-    meaning_seen i b.pending (cells_of b.file b.memory) shown carry pc next free (shown_right b shown kept each)
-    ∙ ap (λ (k : Bool). meaning_of i regs k pc next) carries
-    ∙ ap (λ (k : ℕ). meaning_of i regs (carry_of b.control) k next) here
-    ∙ ap (meaning_of i regs (carry_of b.control) (pc_of b.slots)) behind
+    meaning_seen i b.pending (cells_of b.file b.memory) shown carry mxm pc next free (shown_right b shown kept each)
+    ∙ ap (λ (k : Bool). meaning_of i regs k mxm pc next) carries
+    ∙ ap (λ (k : Bool). meaning_of i regs (carry_of b.control) k pc next) modes
+    ∙ ap (λ (k : ℕ). meaning_of i regs (carry_of b.control) (mxm_of b.control) k next) here
+    ∙ ap (meaning_of i regs (carry_of b.control) (mxm_of b.control) (pc_of b.slots)) behind
 
 -- an instruction with a plan that raises means that
 pub raise_is : (m : Meaning) (vector : ℕ) → Raise vector ≡ plan_for m → m ≡ raises vector
@@ -177,7 +180,7 @@ trap_held i b vector free means some =
     let c = completed_of b in
     by_meaning i b (traps vector) means
     ∙ held_sync i (trapped vector c.regs c.pc) b.pending free (trap_room vector c.regs c.pc (length b.pending))
-    (traps_wait i c.regs c.carry c.pc c.next vector means) some
+    (traps_wait i c.regs c.carry c.mxm c.pc c.next vector means) some
 
 -- and then has its turn
 pub trap_turn : (i : Instr) (b : BoardView) (vector : ℕ) → busy_register (Some i) b.pending ≡ None →
@@ -215,7 +218,7 @@ count_is : (i : Instr) (b : BoardView) (effect : Effect) (going : IsGoing i b ef
     length going.on.change.touches ≡ effect.accesses.count
 count_is i b effect going =
     let c = completed_of b in
-    touches_counted i c.regs c.carry c.pc c.next going.on.change going.valid going.on.means ∙ sym going.made.0
+    touches_counted i c.regs c.carry c.mxm c.pc c.next going.on.change going.valid going.on.means ∙ sym going.made.0
 
 -- which are at most two
 pub at_most : (i : Instr) (b : BoardView) (effect : Effect) (going : IsGoing i b effect) →
@@ -236,7 +239,7 @@ stays_apart i b effect going apart =
     let seen : listed effect.accesses ≡ change_accesses change =
     ap (λ (e : Effect). listed e.accesses) going.on.same ∙ listed_recorded change.touches few in
     subst (λ (xs : List Access). LoadApart (b.pending ++ xs)) (sym seen)
-    (issue_stays_apart i b.pending c.regs c.carry c.pc c.next change going.valid going.on.means going.free apart)
+    (issue_stays_apart i b.pending c.regs c.carry c.mxm c.pc c.next change going.valid going.on.means going.free apart)
 
 -- it is held where there is no room for them
 pub go_full : (i : Instr) (b : BoardView) (effect : Effect) → IsGoing i b effect →

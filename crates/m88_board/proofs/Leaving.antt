@@ -2,7 +2,7 @@
 use Rattle.std.specs.Prelude.{◌≡◌, ◌+◌}
 use Rattle.std.proofs.Common.{subst, sym}
 use Rattle.m88_event.specs.declared.happened.Happened.{Happened}
-use Rattle.m88_event.specs.declared.happened.Happened.TheVariants.{Issued, Bubble, Stalled, Answered, Faulted, Idle, Served, Ended}
+use Rattle.m88_event.specs.declared.happened.Happened.TheVariants.{Issued, Bubble, Stalled, Answered, Faulted, Idle, Served, Ended, Evicted}
 use Rattle.m88_board.specs.Board.{BoardView}
 use Rattle.m88_board.specs.Shown.{Leaves}
 
@@ -17,6 +17,7 @@ same_left old (Faulted fault) new left = left
 same_left old Idle new left = left
 same_left old (Served byte) new left = left
 same_left old (Ended end) new left = left
+same_left old Evicted new left = left
 
 pub leaves_counted : (old : BoardView) (h : Happened) (middle new : BoardView) →
     new ≡ record middle { events = middle.events + 1 } →

@@ -9,6 +9,7 @@ pub mod Going
 pub mod Issued
 pub mod Unmoved
 pub mod Faulted
+pub mod Evicted
 pub mod Finished
 pub mod PutOut
 pub mod Service

@@ -1,14 +1,15 @@
--- Two stores of an instruction are to one page: they are the halves of a double word, which is aligned.
+-- Two stores of an instruction are to one page: they are the halves of a double word, which is aligned or rounded down.
 use Rattle.std.specs.Prelude.{ℕ, ℤ, Bool, true, false, not, [], ◌≡◌, ◌<◌, ◌%◌, ◌^◌, ◌==◌, ◌&&◌, List, nat_lt, if◌then◌else◌}
 use Rattle.std.proofs.Common.{arith, refl}
 use Rattle.std.proofs.lemmas.Bool.{eqb-true}
 use Rattle.m88_base.specs.declared.reg.Reg.{Reg}
 use Rattle.m88_isa.proofs.Alone.{by_test}
+use Rattle.m88_isa.proofs.Plans.{rounded_fits}
 use Rattle.m88_isa.specs.Address.{address, after_bytes}
 use Rattle.m88_isa.specs.Compute.{immediate, registers}
 use Rattle.m88_isa.specs.Effect.{accesses, branches, checks, computes, controls, effect, indexed, inputs_of, meaning_of, plan_for, traps_if}
 use Rattle.m88_isa.specs.Flow.{bit_is, class_in}
-use Rattle.m88_isa.specs.Memory.{recorded, size_of, touches_of}
+use Rattle.m88_isa.specs.Memory.{recorded, rounded, size_of, touches_of}
 use Rattle.m88_isa.specs.Operands.{is_flow}
 use Rattle.m88_isa.specs.Vector.{first_user_vector}
 use Rattle.m88_isa.specs.declared.instr.Instr.{Instr}
@@ -47,9 +48,13 @@ computes_page d (Raises vector) x = tt
 accesses_page : (op : MemOp) (d : Reg) (place : ℕ) (x : Inputs) → place < 2 ^ 32 →
     PlansOnePage (plan_for (accesses op d place x))
 accesses_page op d place x low =
-    by_test (place % size_of op == 0)
+    let fits = rounded_fits op place in
+    let lower = fits.1 in
+    by_test x.mxm
+    (λ on. rw on (touches_page op d x.d x.after_d (rounded op place) (omega (arith, low, lower)) fits.0))
+    (λ off. rw off (by_test (place % size_of op == 0)
     (λ t. rw t (touches_page op d x.d x.after_d place low (eqb-true (place % size_of op) 0 t)))
-    (λ f. rw f tt)
+    (λ f. rw f tt)))
 
 indexed_page : (op : MemOp) (d : Reg) (scaled usr : Bool) (x : Inputs) → PlansOnePage (plan_for (indexed op d scaled usr x))
 indexed_page op d scaled true x = tt
@@ -94,9 +99,9 @@ effect_page (instr.Stcr s1 cr float) x = controls_page float
 effect_page (instr.Xcr d s1 cr float) x = controls_page float
 effect_page (instr.Sfu unit rest) x = tt
 
-pub one_page : (i : Instr) (regs : List ℕ) (carry : Bool) (pc next : ℕ) →
-    PlansOnePage (plan_for (meaning_of i regs carry pc next))
-one_page i regs carry pc next =
+pub one_page : (i : Instr) (regs : List ℕ) (carry mxm : Bool) (pc next : ℕ) →
+    PlansOnePage (plan_for (meaning_of i regs carry mxm pc next))
+one_page i regs carry mxm pc next =
     by_test (is_flow i && not (next == after_bytes pc 4))
     (λ t. rw t tt)
-    (λ f. rw f (effect_page i (inputs_of i regs carry pc next)))
+    (λ f. rw f (effect_page i (inputs_of i regs carry mxm pc next)))

@@ -10,7 +10,7 @@ use Rattle.m88_iunit.specs.Pointers.{Pointers}
 use Rattle.m88_board.proofs.Steps.{put_out}
 use Rattle.m88_board.specs.Board.{BoardView, next_of}
 use Rattle.m88_board.specs.Moves.{Did, Does, IsAdvanced}
-use Rattle.m88_board.proofs.Carry.{carry_by}
+use Rattle.m88_board.proofs.Carry.{carry_by, mxm_by}
 
 -- a byte is put out for a trap
 pub said_and_done : (fault : Record) (byte : ℕ) (b : BoardView) (slots : Pointers) (control : ControlRegisters) (out : List ℕ)
@@ -38,5 +38,5 @@ said_and_done fault byte b slots control out next valid is on psr joined =
       })) (sym joined)
           (put_out fault byte b slots control
           (subst (λ n. IsAdvanced b.slots slots n (after_bytes n 4) false) (sym behind) on)
-          (carry_by b control psr));
+          (carry_by b control psr) (mxm_by b control psr));
     }

@@ -1,11 +1,11 @@
 -- What a board shows at a moment.
 use Rattle.std.specs.Prelude.{ℕ, Bool, true, false, not, List, [], ◌∷◌, Option, Some, None, Result, Ok, Err, ◌≡◌, ◌↔◌, ◌&&◌, ◌==◌, IfOk, IsErr, IsTrue, is_some, slice_index, if◌then◌else◌}
 use Rattle.std.specs.Result.{result_ok}
-use Rattle.std.proofs.Common.{get_or-set_other, refl, sym, ap, ◌∙◌, subst}
+use Rattle.std.proofs.Common.{get_or-set_other, refl, sym, ap, ap₂, ◌∙◌, subst}
 use Rattle.std.proofs.lemmas.Bool.{eqb-false, eqb-true}
 use Rattle.m88_base.specs.Image.{byte_at}
 use Rattle.m88_base.specs.Reg.{number_of}
-use Rattle.m88_ctrl.specs.ControlRegisters.{carry_of}
+use Rattle.m88_ctrl.specs.ControlRegisters.{carry_of, mxm_of}
 use Rattle.m88_event.proofs.Follows.{ended_is}
 use Rattle.m88_event.proofs.Over.{same_over}
 use Rattle.m88_event.specs.Local.{Local, is_over_by, local_at, register_seen, register_shown}
@@ -180,6 +180,12 @@ pub carry_seen : (p : Program) (named : ℕ → Bool) (m : Moment) (b : BoardVie
 unfolding local_of completed_of local_at completed_state
 carry_seen p named m b at = ap (λ (l : Local). l.completed.carry) at.seen
 
+-- and MXM
+mxm_seen : (p : Program) (named : ℕ → Bool) (m : Moment) (b : BoardView) → IsAt p named m b →
+    mxm_of b.control ≡ (state p m.retired).mxm
+unfolding local_of completed_of local_at completed_state
+mxm_seen p named m b at = ap (λ (l : Local). l.completed.mxm) at.seen
+
 ended_seen : (p : Program) (named : ℕ → Bool) (m : Moment) (b : BoardView) → IsAt p named m b → is_some b.ended ≡ m.ended
 unfolding local_of local_at
 ended_seen p named m b at = ap (λ (l : Local). is_some l.ended) at.seen ∙ ended_is p m
@@ -190,7 +196,7 @@ status_seen p named m b at kept = record {
   status =
       sym (ap (λ (t : Bool). if t then b.control.epsr else b.control.psr) (ended_seen p named m b at))
       ∙ kept.status
-      ∙ ap status_of (carry_seen p named m b at);
+      ∙ ap₂ status_of (mxm_seen p named m b at) (carry_seen p named m b at);
   carry = carry_seen p named m b at;
 }
 

@@ -6,11 +6,12 @@ use Rattle.std.proofs.lemmas.List.Elements.{All-nil}
 use Rattle.m88_base.specs.Image.{IsImage, ProgramImage}
 use Rattle.m88_base.specs.Slot.{no_slot}
 use Rattle.m88_base.specs.declared.absent.Absent.{Absent}
-use Rattle.m88_ctrl.specs.ControlRegisters.{ControlRegisters, at_start}
+use Rattle.m88_ctrl.specs.ControlRegisters.{ControlRegisters, at_start, carry_of, mxm_of}
 use Rattle.m88_event.proofs.Past.{opens_with}
 use Rattle.m88_event.specs.Local.{Local, local_at}
 use Rattle.m88_event.specs.declared.record.Record.{Record}
 use Rattle.m88_isa.specs.declared.planned.Access.{Access}
+use Rattle.m88_event.specs.Shadow.{status_of}
 use Rattle.m88_event.specs.Timeline.{opening_moment, xip_at}
 use Rattle.m88_isa.specs.Address.{after_bytes, word_address}
 use Rattle.m88_isa.specs.Bus.{after_accesses, bus_after_all, in_words}
@@ -27,15 +28,15 @@ use Rattle.m88_board.specs.Kept.{HasReadyPage, IsKept, lacks_word, most_retired}
 use Rattle.m88_board.specs.Moves.{IsAt}
 
 -- such a board by its parts
-abbrev pub starting : ℕ → Absent → Pointers → Registers → MemoryView → BoardView
-starting limit named slots file memory = record {
+abbrev pub starting : Bool → ℕ → Absent → Pointers → Registers → MemoryView → BoardView
+starting mxm limit named slots file memory = record {
   limit = limit;
   named = named;
   slots = slots;
   pending = [];
   file = file;
   memory = memory;
-  control = at_start;
+  control = at_start mxm;
   out = [];
   retired = 0;
   done = 0;
@@ -46,15 +47,15 @@ starting limit named slots file memory = record {
 }
 
 -- what holds of it holds of any board whose parts are these
-pub made : (P : BoardView → Type 0) (limit : ℕ) (chosen named : Absent) (slots seen : Pointers) (pending : List Access) (file : Registers)
+pub made : (P : BoardView → Type 0) (mxm : Bool) (limit : ℕ) (chosen named : Absent) (slots seen : Pointers) (pending : List Access) (file : Registers)
     (memory : MemoryView) (control : ControlRegisters) (out : List ℕ) (records : List Record) →
     chosen ≡ named →
     slots ≡ seen →
     pending ≡ [] →
-    control ≡ at_start →
+    control ≡ at_start mxm →
     out ≡ [] →
     records ≡ [] →
-    P (starting limit named seen file memory) →
+    P (starting mxm limit named seen file memory) →
     P (record {
       limit = limit;
       named = chosen;
@@ -71,16 +72,21 @@ pub made : (P : BoardView → Type 0) (limit : ℕ) (chosen named : Absent) (slo
       ended = None;
       records = records;
     })
-made P limit chosen named slots seen pending file memory control out records n s p c o r known = rw (n, s, p, c, o, r) known
+made P mxm limit chosen named slots seen pending file memory control out records n s p c o r known = rw (n, s, p, c, o, r) known
+
+-- the status at first
+status_at : (mxm : Bool) → (at_start mxm).psr ≡ status_of (mxm_of (at_start mxm)) (carry_of (at_start mxm))
+status_at true = refl
+status_at false = refl
 
 -- what always holds
-pub kept : (limit : ℕ) (named : Absent) (entry : ℕ) (e0 e1 : Bool) (file : Registers) (memory : MemoryView) → limit ≤ most_retired →
+pub kept : (mxm : Bool) (limit : ℕ) (named : Absent) (entry : ℕ) (e0 e1 : Bool) (file : Registers) (memory : MemoryView) → limit ≤ most_retired →
     IsImage memory.image →
     waiting_of file ≡ none_waits →
     e0 ≡ lacks_word memory.image entry →
     e1 ≡ lacks_word memory.image (word_behind entry) →
-    IsKept (starting limit named (at_entry entry e0 e1) file memory)
-kept limit named entry e0 e1 file memory small image none first second = record {
+    IsKept (starting mxm limit named (at_entry entry e0 e1) file memory)
+kept mxm limit named entry e0 e1 file memory small image none first second = record {
   parts = record {
     few = omega arith;
     made = All-nil IsWordAccess;
@@ -92,7 +98,7 @@ kept limit named entry e0 e1 file memory small image none first second = record 
   slots = record { nip = rw first refl; fip = rw second refl };
   bubbled = λ h. absurd cc;
   unbubbled = λ h. refl;
-  status = refl;
+  status = status_at mxm;
   drained = λ h. refl;
   made = omega arith;
   told = omega arith;
@@ -106,9 +112,9 @@ kept limit named entry e0 e1 file memory small image none first second = record 
 }
 
 -- what is seen of it by its registers, words, absent pages and start
-abbrev seen_at : List ℕ → (ℕ → ℕ) → (ℕ → Bool) → ℕ → Local
-seen_at numbers bus absent entry = record {
-  completed = record { regs = numbers; carry = false; pc = entry; next = after_bytes entry 4; bus = bus; out = [] };
+abbrev seen_at : Bool → List ℕ → (ℕ → ℕ) → (ℕ → Bool) → ℕ → Local
+seen_at mxm numbers bus absent entry = record {
+  completed = record { regs = numbers; carry = false; mxm = mxm; pc = entry; next = after_bytes entry 4; bus = bus; out = [] };
   bus = bus;
   pending = [];
   xip = no_slot;
@@ -133,38 +139,42 @@ pub same_bytes : (p : Program) (image : ProgramImage) → IsProgramOf image p �
 unfolding image_bytes
 same_bytes p image of = ap in_words (fun_ext (λ a. ap (λ (byte : ℕ → Option ℕ). unwrap_or (byte a) 0) (sym of.bytes)))
 
-board_seen : (limit : ℕ) (chosen : Absent) (entry : ℕ) (e0 e1 : Bool) (file : Registers) (memory : MemoryView) →
-    local_of (starting limit chosen (at_entry entry e0 e1) file memory)
-    ≡ seen_at file.numbers (bus_of memory) (absent_of memory) entry
+board_seen : (mxm : Bool) (limit : ℕ) (chosen : Absent) (entry : ℕ) (e0 e1 : Bool) (file : Registers) (memory : MemoryView) →
+    local_of (starting mxm limit chosen (at_entry entry e0 e1) file memory)
+    ≡ seen_at mxm file.numbers (bus_of memory) (absent_of memory) entry
 unfolding local_of completed_of after_accesses bus_of
-board_seen limit chosen entry e0 e1 file memory = refl
+board_seen true limit chosen entry e0 e1 file memory = refl
+board_seen false limit chosen entry e0 e1 file memory = refl
 
 moment_seen : (p : Program) (named : ℕ → Bool) →
     local_at p named opening_moment
-    ≡ seen_at (replicate 32 0) (in_words (λ a. unwrap_or (p.byte a) 0)) (λ page. named page && not false)
+    ≡ seen_at p.mxm (replicate 32 0) (in_words (λ a. unwrap_or (p.byte a) 0)) (λ page. named page && not false)
     (word_address p.start)
 unfolding local_at completed_state state opening transactions xip_at bus_after_all
 moment_seen p named = refl
 
 -- it stands at the first moment
-pub opens : (p : Program) (named : ℕ → Bool) (limit : ℕ) (chosen : Absent) (entry : ℕ) (e0 e1 : Bool) (file : Registers) (memory : MemoryView) →
+pub opens : (p : Program) (named : ℕ → Bool) (mxm : Bool) (limit : ℕ) (chosen : Absent) (entry : ℕ) (e0 e1 : Bool) (file : Registers) (memory : MemoryView) →
     file.numbers ≡ replicate 32 0 →
     bus_of memory ≡ image_bus memory.image →
     absent_of memory ≡ named →
     entry ≡ word_address memory.image.start →
     IsProgramOf memory.image p →
-    IsAt p named opening_moment (starting limit chosen (at_entry entry e0 e1) file memory)
+    p.mxm ≡ mxm →
+    IsAt p named opening_moment (starting mxm limit chosen (at_entry entry e0 e1) file memory)
 unfolding transactions
-opens p named limit chosen entry e0 e1 file memory numbers bus absent start of = record {
+opens p named mxm limit chosen entry e0 e1 file memory numbers bus absent start of mode = record {
   image = of;
   within = omega arith;
   past = opens_with p limit;
-  seen = board_seen limit chosen entry e0 e1 file memory
-      ∙ ap (λ ns. seen_at ns (bus_of memory) (absent_of memory) entry) numbers
-      ∙ ap (λ b. seen_at (replicate 32 0) b (absent_of memory) entry) (bus ∙ same_bytes p memory.image of)
-      ∙ ap (λ t. seen_at (replicate 32 0) (in_words (λ a. unwrap_or (p.byte a) 0)) t entry)
+  seen = board_seen mxm limit chosen entry e0 e1 file memory
+      ∙ ap (λ ns. seen_at mxm ns (bus_of memory) (absent_of memory) entry) numbers
+      ∙ ap (λ b. seen_at mxm (replicate 32 0) b (absent_of memory) entry) (bus ∙ same_bytes p memory.image of)
+      ∙ ap (λ t. seen_at mxm (replicate 32 0) (in_words (λ a. unwrap_or (p.byte a) 0)) t entry)
       (absent ∙ fun_ext (λ page. still_absent (named page)))
-      ∙ ap (λ e. seen_at (replicate 32 0) (in_words (λ a. unwrap_or (p.byte a) 0)) (λ page. named page && not false) e)
+      ∙ ap (λ e. seen_at mxm (replicate 32 0) (in_words (λ a. unwrap_or (p.byte a) 0)) (λ page. named page && not false) e)
       (start ∙ ap word_address (sym of.start))
+      ∙ ap (λ (m : Bool). seen_at m (replicate 32 0) (in_words (λ a. unwrap_or (p.byte a) 0)) (λ page. named page && not false)
+      (word_address p.start)) (sym mode)
       ∙ sym (moment_seen p named);
 }

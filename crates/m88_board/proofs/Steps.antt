@@ -1,9 +1,10 @@
 -- What a board looks like after its parts have moved, choice by choice.
 use Rattle.std.specs.Prelude.{ℕ, Bool, true, false, not, List, [], ◌∷◌, ◌++◌, Some, ◌≡◌, ◌+◌, ◌&&◌, drop, take, length, if◌then◌else◌}
 use Rattle.std.proofs.Common.{refl, sym, ap, ◌∙◌}
+use Rattle.m88_base.specs.Pages.{every_page}
 use Rattle.m88_base.specs.Slot.{valid_slot}
-use Rattle.m88_ctrl.specs.ControlRegisters.{ControlRegisters, carry_of}
-use Rattle.m88_event.specs.Choice.{end_by, faults, finishes, issues, passes, replies, serves, touches_page}
+use Rattle.m88_ctrl.specs.ControlRegisters.{ControlRegisters, carry_of, mxm_of}
+use Rattle.m88_event.specs.Choice.{end_by, evicts, faults, finishes, issues, passes, replies, serves, touches_page}
 use Rattle.m88_event.specs.declared.happened.End.{End}
 use Rattle.m88_event.specs.declared.record.Record.{Record}
 use Rattle.m88_isa.specs.Address.{after_bytes}
@@ -42,6 +43,7 @@ passed fault b slots e bubble valid is = record {
     completed = record {
       regs = (after_accesses b.pending (cells_of b.file b.memory)).regs;
       carry = carry_of b.control;
+      mxm = mxm_of b.control;
       pc = (ap pc_of is ∙ pc_passed b.slots e bubble valid) i;
       next = (ap next_of is ∙ next_passed b.slots e bubble valid) i;
       bus = (after_accesses b.pending (cells_of b.file b.memory)).bus;
@@ -82,6 +84,7 @@ replied fault b pending file memory left cells bus absent image = record {
     completed = record {
       regs = (cells i).regs;
       carry = carry_of b.control;
+      mxm = mxm_of b.control;
       pc = pc_of b.slots;
       next = next_of b.slots;
       bus = (cells i).bus;
@@ -110,6 +113,7 @@ pub faulted : (fault : Record) (b : BoardView) (file : Registers) (memory : Memo
     absent_of memory ≡ (λ page. absent_of b.memory page && not (touches_page b.pending page)) →
     memory.image ≡ b.memory.image →
     carry_of control ≡ carry_of b.control →
+    mxm_of control ≡ mxm_of b.control →
     slots ≡ b.slots →
     done ≡ b.done + length b.pending →
     Does faults fault b (record b {
@@ -122,11 +126,12 @@ pub faulted : (fault : Record) (b : BoardView) (file : Registers) (memory : Memo
       records = b.records ++ fault ∷ [];
     })
 unfolding local_of completed_of after_accesses
-faulted fault b file memory control slots done cells bus absent image carry same count = record {
+faulted fault b file memory control slots done cells bus absent image carry mxm same count = record {
   moved = λ i. record {
     completed = record {
       regs = (cells i).regs;
       carry = carry i;
+      mxm = mxm i;
       pc = pc_of (same i);
       next = next_of (same i);
       bus = (cells i).bus;
@@ -147,17 +152,52 @@ faulted fault b file memory control slots done cells bus absent image carry same
   same = record { limit = refl; named = refl; image = image };
 }
 
+-- every page is absent
+pub evicted : (fault : Record) (b : BoardView) (memory : MemoryView) →
+    bus_of memory ≡ bus_of b.memory →
+    absent_of memory ≡ every_page →
+    memory.image ≡ b.memory.image →
+    Does evicts fault b (record b { memory = memory })
+unfolding local_of completed_of
+evicted fault b memory bus absent image = record {
+  moved = λ i. record {
+    completed = record {
+      regs = (after_accesses b.pending (record { regs = b.file.numbers; bus = bus i })).regs;
+      carry = carry_of b.control;
+      mxm = mxm_of b.control;
+      pc = pc_of b.slots;
+      next = next_of b.slots;
+      bus = (after_accesses b.pending (record { regs = b.file.numbers; bus = bus i })).bus;
+      out = b.out;
+    };
+    bus = bus i;
+    pending = b.pending;
+    xip = b.slots.xip;
+    bubble = not b.slots.nip.v;
+    ended = b.ended;
+    absent = absent i;
+    retired = b.retired;
+    done = b.done;
+    events = b.events;
+    answers = b.answers;
+    records = b.records;
+  };
+  same = record { limit = refl; named = refl; image = image };
+}
+
 -- the program ends
 pub finished : (fault : Record) (stop : Stop) (b : BoardView) (control : ControlRegisters) (end : End) →
     end ≡ end_by stop →
     carry_of control ≡ carry_of b.control →
+    mxm_of control ≡ mxm_of b.control →
     Does (finishes stop) fault b (record b { control = control; ended = Some end })
 unfolding local_of completed_of
-finished fault stop b control end by carry = record {
+finished fault stop b control end by carry mxm = record {
   moved = λ i. record {
     completed = record {
       regs = (after_accesses b.pending (cells_of b.file b.memory)).regs;
       carry = carry i;
+      mxm = mxm i;
       pc = pc_of b.slots;
       next = next_of b.slots;
       bus = (after_accesses b.pending (cells_of b.file b.memory)).bus;
@@ -182,6 +222,7 @@ finished fault stop b control end by carry = record {
 pub put_out : (fault : Record) (byte : ℕ) (b : BoardView) (slots : Pointers) (control : ControlRegisters) →
     IsAdvanced b.slots slots (next_of b.slots) (after_bytes (next_of b.slots) 4) false →
     carry_of control ≡ carry_of b.control →
+    mxm_of control ≡ mxm_of b.control →
     Does (serves byte) fault b (record b {
       slots = slots;
       control = control;
@@ -189,11 +230,12 @@ pub put_out : (fault : Record) (byte : ℕ) (b : BoardView) (slots : Pointers) (
       retired = b.retired + 1;
     })
 unfolding local_of completed_of after_turn
-put_out fault byte b slots control on carry = record {
+put_out fault byte b slots control on carry mxm = record {
   moved = λ i. record {
     completed = record {
       regs = (after_accesses b.pending (cells_of b.file b.memory)).regs;
       carry = carry i;
+      mxm = mxm i;
       pc = on.here i;
       next = on.behind i;
       bus = (after_accesses b.pending (cells_of b.file b.memory)).bus;
@@ -224,6 +266,7 @@ pub issued : (fault : Record) (change : Change) (b : BoardView) (slots : Pointer
     absent_of memory ≡ absent_of b.memory →
     memory.image ≡ b.memory.image →
     carry_of control ≡ change.carry →
+    mxm_of control ≡ mxm_of b.control →
     Does (issues change) fault b (record b {
       slots = slots;
       pending = pending;
@@ -233,7 +276,7 @@ pub issued : (fault : Record) (change : Change) (b : BoardView) (slots : Pointer
       retired = b.retired + 1;
     })
 unfolding local_of completed_of after_turn
-issued fault change b slots pending file memory control on joined cells bus absent image carry =
+issued fault change b slots pending file memory control on joined cells bus absent image carry mxm =
     let all : after_accesses pending (cells_of file memory) ≡ cells_after change (completed_of b) =
     ap (λ (xs : List Access). after_accesses xs (cells_of file memory)) joined ∙ cells in
     record {
@@ -241,6 +284,7 @@ issued fault change b slots pending file memory control on joined cells bus abse
         completed = record {
           regs = (all i).regs;
           carry = carry i;
+          mxm = mxm i;
           pc = on.here i;
           next = on.behind i;
           bus = (all i).bus;

@@ -1,7 +1,7 @@
 -- Memory ran out before anything changed: what is seen stays.
 use Rattle.std.specs.Prelude.{not, ◌≡◌}
 use Rattle.std.proofs.Common.{refl, ap, ◌∙◌}
-use Rattle.m88_ctrl.specs.ControlRegisters.{carry_of}
+use Rattle.m88_ctrl.specs.ControlRegisters.{carry_of, mxm_of}
 use Rattle.m88_isa.specs.Bus.{after_accesses}
 use Rattle.m88_mem.specs.DataBus.{MemoryView, absent_of, bus_of, ready_of}
 use Rattle.m88_board.specs.Board.{BoardView, completed_of, local_of}
@@ -27,6 +27,7 @@ seen_with b memory bus absent = λ i. record {
   completed = record {
     regs = (after_accesses b.pending (record { regs = b.file.numbers; bus = bus i })).regs;
     carry = carry_of b.control;
+    mxm = mxm_of b.control;
     pc = (local_of b).completed.pc;
     next = (local_of b).completed.next;
     bus = (after_accesses b.pending (record { regs = b.file.numbers; bus = bus i })).bus;

@@ -4,7 +4,7 @@ use Rattle.std.proofs.Common.{add-one, arith, refl, sym, ap, ap₂, ◌∙◌, s
 use Rattle.std.proofs.Math.Path.{fun_ext}
 use Rattle.std.proofs.lemmas.Bool.{eqb-false, eqb-true}
 use Rattle.m88_event.proofs.Over.{drained_seen}
-use Rattle.m88_event.specs.Choice.{Choice, faults, finishes, holds, idles, issues, passes, replies, serves}
+use Rattle.m88_event.specs.Choice.{Choice, evicts, faults, finishes, holds, idles, issues, passes, replies, serves}
 use Rattle.m88_event.specs.Letters.{letter_at}
 use Rattle.m88_event.specs.Local.{Local}
 use Rattle.m88_event.specs.Past.{HasPast}
@@ -144,6 +144,7 @@ choice_events p (serves byte) fault m = refl
 choice_events p (finishes stop) fault m = refl
 choice_events p replies fault m = refl
 choice_events p faults fault m = refl
+choice_events p evicts fault m = refl
 
 letter_events : (p : Program) (named : ℕ → Bool) (limit : ℕ) (letter : Letter) (m : Moment) →
     (after_letter p named limit letter m).events ≡ m.events + 1

@@ -48,8 +48,8 @@ pub lighter_next : (schedule : List Letter) (taken : ℕ) (letter : Letter) (old
 unfolding local_of
 lighter_next schedule taken letter old new bounded goes next kept same moved =
     let image : IsImage old.memory.image = subst IsImage same.image kept.image in
-    let p : Program = program_in old.memory.image image in
-    let of = program_in_holds old.memory.image image in
+    let p : Program = program_in false old.memory.image image in
+    let of = program_in_holds false old.memory.image image in
     let is = program_of_image old.memory.image p image of in
     let less = lessens p old.limit schedule taken (local_of old) is bounded.within goes in
     let here : weight schedule new.limit (taken + 1) (local_of new)
@@ -94,8 +94,8 @@ pub answered_no_heavier : (old new : BoardView) → IsImage old.memory.image →
     IsNoHeavier old new
 unfolding local_of
 answered_no_heavier old new image some same counted moved =
-    let p : Program = program_in old.memory.image image in
-    let of = program_in_holds old.memory.image image in
+    let p : Program = program_in false old.memory.image image in
+    let of = program_in_holds false old.memory.image image in
     let is = program_of_image old.memory.image p image of in
     let limit = same.limit in
     record {

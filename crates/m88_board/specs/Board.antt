@@ -2,7 +2,7 @@
 -- computed from them.
 use Rattle.std.specs.Prelude.{ℕ, Bool, not, List, Option, ◌==◌, ◌||◌, is_some, if◌then◌else◌}
 use Rattle.m88_base.specs.declared.absent.Absent.{Absent}
-use Rattle.m88_ctrl.specs.ControlRegisters.{ControlRegisters, carry_of}
+use Rattle.m88_ctrl.specs.ControlRegisters.{ControlRegisters, carry_of, mxm_of}
 use Rattle.m88_event.specs.Local.{Local}
 use Rattle.m88_event.specs.declared.happened.End.{End}
 use Rattle.m88_event.specs.declared.record.Record.{Record}
@@ -50,6 +50,7 @@ unfoldable pub completed_of : BoardView → Completed
 completed_of b = record {
   regs = (after_accesses b.pending (cells_of b.file b.memory)).regs;
   carry = carry_of b.control;
+  mxm = mxm_of b.control;
   pc = pc_of b.slots;
   next = next_of b.slots;
   bus = (after_accesses b.pending (cells_of b.file b.memory)).bus;

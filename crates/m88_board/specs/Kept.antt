@@ -3,7 +3,7 @@ use Rattle.std.specs.Prelude.{ℕ, Bool, true, false, List, [], All, IfSome, ◌
 use Rattle.m88_base.specs.Image.{IsImage, ProgramImage, byte_at}
 use Rattle.m88_base.specs.Pages.{page_number}
 use Rattle.m88_base.specs.Slot.{squashed_slot, valid_slot}
-use Rattle.m88_ctrl.specs.ControlRegisters.{carry_of}
+use Rattle.m88_ctrl.specs.ControlRegisters.{carry_of, mxm_of}
 use Rattle.m88_event.specs.Shadow.{status_of}
 use Rattle.m88_event.specs.Timeline.{end_of_turn}
 use Rattle.m88_event.specs.declared.happened.End.{End}
@@ -66,7 +66,7 @@ pub record IsBehind (retired : ℕ) (slots : Pointers) : Type 0 where
   pub some : 1 ≤ retired
   pub xip : slots.xip.v ≡ true
 
--- the status: until the program has ended PSR is a user's with the carry, afterwards EPSR has that
+-- the status: until the program has ended PSR is a user's with MXM and the carry, afterwards EPSR has that
 abbrev pub epsr_of : BoardView → ℕ
 epsr_of b = if is_some b.ended then b.control.epsr else b.control.psr
 
@@ -86,7 +86,7 @@ pub record IsKept (b : BoardView) : Type 0 where
   pub slots : SlotsAgree b.memory.image b.slots
   pub bubbled : b.slots.nip.v ≡ false → IsBehind b.retired b.slots
   pub unbubbled : is_some b.ended ≡ true → b.slots.nip.v ≡ true
-  pub status : epsr_of b ≡ status_of (carry_of b.control)
+  pub status : epsr_of b ≡ status_of (mxm_of b.control) (carry_of b.control)
   pub drained : is_some b.ended ≡ true → b.pending ≡ []
   pub made : b.done + length b.pending ≤ 2 * b.retired
   pub told : b.answers + length b.records ≤ b.done

@@ -17,15 +17,15 @@ use Rattle.m88_board.specs.Board.{BoardView, completed_of, local_of}
 
 -- what an instruction means at a state
 abbrev pub meaning_at : Instr → Completed → Meaning
-meaning_at i c = meaning_of i c.regs c.carry c.pc c.next
+meaning_at i c = meaning_of i c.regs c.carry c.mxm c.pc c.next
 
 -- the turn of the next instruction of a program
 abbrev pub turn_by : Program → Completed → Turn
-turn_by p c = turn p c.regs c.carry c.pc c.next
+turn_by p c = turn p c.regs c.carry c.mxm c.pc c.next
 
 -- the turn of an instruction that was fetched and read, or of a word that is none
 abbrev pub turn_of : Option Instr → Completed → Turn
-turn_of i c = executed i c.regs c.carry c.pc c.next
+turn_of i c = executed i c.regs c.carry c.mxm c.pc c.next
 
 -- the choice that it comes to in its turn on a board: the pending transactions hold it, or nothing does
 abbrev pub choice_for : Option Instr → BoardView → Choice

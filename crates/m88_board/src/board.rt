@@ -5,9 +5,10 @@ ghost use Rattle.m88_base.specs.Image.{IsImage};
 ghost use Rattle.m88_base.specs.Pages.{page_number};
 ghost use Rattle.m88_base.specs.Reg.{number_of};
 ghost use Rattle.m88_base.specs.Slot.{slot_word};
-ghost use Rattle.m88_event.specs.Choice.{answer_choice, end_by, faults, finishes, issues, passes, replies, serves, turn_choice};
+ghost use Rattle.m88_event.specs.Choice.{answer_choice, end_by, evicts, faults, finishes, issues, passes, replies, serves, turn_choice};
 ghost use Rattle.m88_event.specs.Local.{record_by};
 ghost use Rattle.m88_event.specs.Timeline.{Moment, opening_moment, record_at};
+ghost use Rattle.m88_event.specs.declared.happened.Happened.{Happened as HappenedValue};
 ghost use Rattle.m88_event.specs.declared.record.Record.{Record as RecordValue};
 ghost use Rattle.m88_isa.specs.Bus.{LoadApart, listed, waits_for};
 ghost use Rattle.m88_mem.specs.DataBus.{absent_of};
@@ -109,8 +110,15 @@ impl Model for Board {
 
 impl Board {
     /// A board over an image, before its first event: the pages that are named are absent, and it retires at most
-    /// `limit` instructions. The first is that of the word at the image's start, its two low bits cleared.
-    pub fn new(alloc: Global, image: &Image, absent: &Absent, limit: u32) -> Result<Board, NoMemory>
+    /// `limit` instructions, with MXM set or clear. The first is that of the word at the image's start, its two low bits
+    /// cleared.
+    pub fn new(
+        alloc: Global,
+        image: &Image,
+        absent: &Absent,
+        limit: u32,
+        mxm: bool,
+    ) -> Result<Board, NoMemory>
         requires pages { NamesPages absent.now }
         requires small { limit ≤ most_retired }
         ensures limit { IfOk result (λ b. b.limit ≡ limit) }
@@ -118,8 +126,8 @@ impl Board {
         ensures image { IfOk result (λ b. b.memory.image ≡ image.now) }
         ensures events { IfOk result (λ b. b.events ≡ 0) }
         ensures is_image { IsImage image.now }
-        ensures program { (p : Program) × IsProgramOf image.now p }
-        ensures at { IfOk result (λ b. (p : Program) → IsProgramOf image.now p
+        ensures program { (p : Program) × IsProgramOf image.now p × (p.mxm ≡ mxm) }
+        ensures at { IfOk result (λ b. (p : Program) → IsProgramOf image.now p → p.mxm ≡ mxm
             → IsAt p (absent_in absent.now) opening_moment b) }
     {
         // What always holds of an image is told with its parts.
@@ -135,7 +143,7 @@ impl Board {
             dunit: DataUnit::new(),
             regs: RegFile::new(),
             memory,
-            ctrl: Control::new(),
+            ctrl: Control::new(mxm),
             out: Vec::new(alloc),
             retired: 0,
             done: 0,
@@ -266,6 +274,17 @@ impl Board {
         }
         self.reply(&oldest);
         Ok(Happened::Answered)
+    }
+
+    /// The letter `e`: every page is absent from now on.
+    fn evict(&mut self) -> Happened
+        ensures did { (fault : RecordValue) → Did evicts fault self.old result self.new }
+        ensures events { self.new.events ≡ self.old.events }
+        ensures says { result ≡ HappenedValue.Evicted }
+        ensures leaves { Leaves result self.old self.new }
+    {
+        self.memory.evict_all();
+        Happened::Evicted
     }
 
     /// The program ends by a vector, with nothing pending.

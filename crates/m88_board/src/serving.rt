@@ -2,7 +2,7 @@
 
 ghost use Rattle.std.specs.Prelude.{◌≡◌, ◌<◌, not, ◌&&◌, [], length};
 ghost use Rattle.std.specs.Int.{bit_at};
-ghost use Rattle.m88_ctrl.specs.ControlRegisters.{entered, returned};
+ghost use Rattle.m88_ctrl.specs.ControlRegisters.{entered, mxm_of, returned};
 ghost use Rattle.m88_event.specs.Choice.{touches_page};
 ghost use Rattle.m88_isa.specs.Bus.{after_accesses};
 ghost use Rattle.m88_mem.specs.DataBus.{absent_of};
@@ -80,7 +80,8 @@ pub(crate) fn serve_all(
 /// The exception of a vector is entered with nothing pending: it saves the instruction pointers.
 pub(crate) fn enter(ctrl: &mut Control, iunit: &InstrUnit, vector: u16)
     requires { vector < 512 }
-    ensures { ctrl.new ≡ entered (pointer_frame iunit.now) ctrl.old }
+    ensures state { ctrl.new ≡ entered (pointer_frame iunit.now) ctrl.old }
+    ensures mxm { mxm_of ctrl.new ≡ mxm_of ctrl.old }
 {
     let (sxip, snip, sfip) = iunit.shadow();
     let frame = Frame {

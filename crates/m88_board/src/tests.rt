@@ -27,7 +27,7 @@ fn output_and_exit(rt: HostRuntime) -> Result<(), ImageFault> {
             0xF000_D1F0,
         ],
     )?;
-    let Ok(board) = Board::new(rt.alloc(), &image, &Absent::None, 100) else {
+    let Ok(board) = Board::new(rt.alloc(), &image, &Absent::None, 100, false) else {
         return Err(ImageFault::Memory);
     };
     let Some(schedule) = Schedule::read("-") else {
@@ -61,7 +61,7 @@ fn output_and_exit(rt: HostRuntime) -> Result<(), ImageFault> {
 #[test]
 fn three_loads_from_absent_pages(rt: HostRuntime) -> Result<(), ImageFault> {
     let image = image_of(rt.alloc(), &[0x1440_5000, 0x1460_6000, 0x1480_7000])?;
-    let Ok(board) = Board::new(rt.alloc(), &image, &Absent::All, 3) else {
+    let Ok(board) = Board::new(rt.alloc(), &image, &Absent::All, 3, false) else {
         return Err(ImageFault::Memory);
     };
     let Some(schedule) = Schedule::read("iiir") else {
@@ -98,7 +98,7 @@ fn four_loads_that_are_drained(rt: HostRuntime) -> Result<(), ImageFault> {
         rt.alloc(),
         &[0x1440_5000, 0x1460_5004, 0x1480_5008, 0x14A0_6000],
     )?;
-    let Ok(mut board) = Board::new(rt.alloc(), &image, &Absent::None, 4) else {
+    let Ok(mut board) = Board::new(rt.alloc(), &image, &Absent::None, 4, false) else {
         return Err(ImageFault::Memory);
     };
     for (letter, did) in [
@@ -139,7 +139,7 @@ fn four_loads_that_are_drained(rt: HostRuntime) -> Result<(), ImageFault> {
 #[test]
 fn loads_from_absent_pages_that_are_drained(rt: HostRuntime) -> Result<(), ImageFault> {
     let image = image_of(rt.alloc(), &[0x1440_5000, 0x1460_6000, 0x1480_7000])?;
-    let Ok(mut board) = Board::new(rt.alloc(), &image, &Absent::All, 3) else {
+    let Ok(mut board) = Board::new(rt.alloc(), &image, &Absent::All, 3, false) else {
         return Err(ImageFault::Memory);
     };
     for _ in 0..3 {

@@ -6,7 +6,7 @@ use Rattle.m88_base.specs.declared.failing.NoMemory.{NoMemory}
 use Rattle.m88_isa.specs.ImageProgram.{IsProgramOf}
 use Rattle.m88_isa.specs.Machine.{Program}
 use Rattle.m88_event.proofs.Over.{one_outcome}
-use Rattle.m88_event.specs.Choice.{Choice, faults, finishes, holds, idles, issues, passes, replies, serves}
+use Rattle.m88_event.specs.Choice.{Choice, evicts, faults, finishes, holds, idles, issues, passes, replies, serves}
 use Rattle.m88_event.specs.Letters.{letter_at}
 use Rattle.m88_event.specs.Run.{IsOutcome, IsRunning, moment_after, moment_along, outcome_at}
 use Rattle.m88_event.specs.Timeline.{Moment, after_choice, after_letter, choice_at, record_at}
@@ -35,6 +35,7 @@ choice_counts_none p (serves byte) fault m = refl
 choice_counts_none p (finishes stop) fault m = refl
 choice_counts_none p replies fault m = refl
 choice_counts_none p faults fault m = refl
+choice_counts_none p evicts fault m = refl
 
 -- so a moment has as many events as letters led to it
 letter_counts : (p : Program) (named : ℕ → Bool) (limit : ℕ) (letter : Letter) (m : Moment) → (after_letter p named limit letter m).events ≡ m.events + 1

@@ -78,6 +78,7 @@ happened_line address instruction fault happened.Bubble = codes "bubble" ++ line
 happened_line address instruction fault (happened.Stalled why) = why_line why
 happened_line address instruction fault happened.Answered = codes "answer" ++ line_end
 happened_line address instruction fault (happened.Faulted record') = codes "fault " ++ decimal fault ++ line_end
+happened_line address instruction fault happened.Evicted = codes "evict" ++ line_end
 happened_line address instruction fault happened.Idle = codes "idle" ++ line_end
 happened_line address instruction fault (happened.Ended end) = run_end_line end
 

@@ -1,5 +1,5 @@
 -- Every image holds a program: at each address the instruction of the word there, where there is one.
-use Rattle.std.specs.Prelude.{ℕ, ℤ, pos, negsuc, zero, suc, List, [], ◌∷◌, Option, Some, None, IfSome, MatchOption, ◌≡◌, ◌⊎◌, ◌≤◌, ◌<◌, ◌+◌, ◌%◌, ◌^◌, ◌==◌, nat_lt, get_or, unwrap_or}
+use Rattle.std.specs.Prelude.{ℕ, ℤ, Bool, pos, negsuc, zero, suc, List, [], ◌∷◌, Option, Some, None, IfSome, MatchOption, ◌≡◌, ◌⊎◌, ◌≤◌, ◌<◌, ◌+◌, ◌%◌, ◌^◌, ◌==◌, nat_lt, get_or, unwrap_or}
 use Rattle.std.specs.Int.{from_be_bytes, to_be_bytes, w32}
 use Rattle.std.proofs.Common.{arith, refl, sym, subst, ap, ◌∙◌, inl, inr}
 use Rattle.std.proofs.lemmas.Bool.Decides.{nat_tests}
@@ -142,15 +142,19 @@ read_at image is a =
     (is.bytes (a + 1)) (is.bytes (a + 2)) (is.bytes (a + 3))
 
 -- every image holds a program
-pub some_program : (image : ProgramImage) → IsImage image → (p : Program) × IsProgramOf image p
-some_program image is = (
-  record { start = image.start; byte = byte_at image; instruction = λ a. (read_at image is a).0 },
+pub some_program : (mxm : Bool) (image : ProgramImage) → IsImage image → (p : Program) × IsProgramOf image p
+some_program mxm image is = (
+  record { mxm = mxm; start = image.start; byte = byte_at image; instruction = λ a. (read_at image is a).0 },
   record { start = refl; bytes = refl; instructions = λ a. (read_at image is a).1 },
 )
 
 -- one that it holds
-abbrev pub program_in : (image : ProgramImage) → IsImage image → Program
-program_in image is = (some_program image is).0
+abbrev pub program_in : (mxm : Bool) (image : ProgramImage) → IsImage image → Program
+program_in mxm image is = (some_program mxm image is).0
 
-pub program_in_holds : (image : ProgramImage) (is : IsImage image) → IsProgramOf image (program_in image is)
-program_in_holds image is = (some_program image is).1
+pub program_in_holds : (mxm : Bool) (image : ProgramImage) (is : IsImage image) → IsProgramOf image (program_in mxm image is)
+program_in_holds mxm image is = (some_program mxm image is).1
+
+pub program_in_mode : (mxm : Bool) (image : ProgramImage) (is : IsImage image) → (program_in mxm image is).mxm ≡ mxm
+unfolding some_program
+program_in_mode mxm image is = refl

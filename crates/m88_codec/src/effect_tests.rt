@@ -35,7 +35,7 @@ pub(crate) fn registers(word: u32, s1: u32, s2: u32, d: u32, after_d: u32) -> [u
 /// The plan of a word at these registers, where `next` is the address of the instruction that follows.
 pub(crate) fn planned(rt: &impl Abort, word: u32, regs: [u32; 32], carry: bool, next: u32) -> Plan {
     let instr = decode(word).ok().expect(rt, "a word of the table");
-    plan(&instr, &regs, carry, PC, next)
+    plan(&instr, &regs, carry, false, PC, next)
 }
 
 /// An access that isn't there.

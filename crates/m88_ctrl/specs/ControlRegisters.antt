@@ -70,6 +70,10 @@ carry_place = 28
 abbrev pub sfd1_bit : ℕ
 sfd1_bit = 2 ^ 3
 
+-- the place of MXM, counted from bit 0: accesses that aren't aligned are rounded down
+abbrev pub mxm_place : ℕ
+mxm_place = 2
+
 -- IND: interrupts are off
 abbrev pub ind_bit : ℕ
 ind_bit = 2 ^ 1
@@ -82,11 +86,11 @@ sfrz_bit = 2 ^ 0
 abbrev pub exception_bits : ℕ
 exception_bits = mode_bit + sfd1_bit + ind_bit + sfrz_bit
 
--- at the start PSR is 0x3F8: the user's mode, carry clear
-abbrev pub at_start : ControlRegisters
-at_start = record {
+-- at the start PSR is 0x3F8, or 0x3FC with MXM set: the user's mode, carry clear
+abbrev pub at_start : Bool → ControlRegisters
+at_start mxm = record {
   pid = 0;
-  psr = 0x3F8;
+  psr = 0x3F8 + (if mxm then 2 ^ mxm_place else 0);
   epsr = 0;
   ssbr = 0;
   sxip = 0;
@@ -105,6 +109,10 @@ at_start = record {
 -- the carry, a bit of PSR
 abbrev pub carry_of : ControlRegisters → Bool
 carry_of c = bit_at c.psr carry_place == 1
+
+-- MXM, a bit of PSR
+abbrev pub mxm_of : ControlRegisters → Bool
+mxm_of c = bit_at c.psr mxm_place == 1
 
 -- a status word with the carry set or cleared, and its other bits as they are
 abbrev pub with_carry : Bool → ℕ → ℕ

@@ -1,7 +1,7 @@
 //! The control registers and how an exception and a return from it change them.
 ghost use Rattle.std.specs.Prelude.{◌≡◌, ◌<◌, ◌≤◌, ◌↔◌, Some, false, slice_get, slice_set, IsTrue, IfSome};
 ghost use Rattle.std.specs.Int.{bit_at};
-ghost use Rattle.m88_ctrl.specs.ControlRegisters.{at_start, by_number, carry_of, entered, handler_of, kept_of, restart_of, returned, triples_by_age, with_carry};
+ghost use Rattle.m88_ctrl.specs.ControlRegisters.{at_start, by_number, carry_of, entered, handler_of, kept_of, mxm_of, restart_of, returned, triples_by_age, with_carry};
 
 use crate::cr;
 use crate::frame::{Frame, Restart};
@@ -13,6 +13,9 @@ const PSR_AT_START: u32 = 0x3F8;
 
 /// The carry's bit of PSR.
 const CARRY: u32 = 1 << 28;
+
+/// MXM, PSR's bit for misaligned accesses: they are rounded down where it is set, and raise where it is clear.
+const MXM: u32 = 1 << 2;
 
 /// PSR's bit of the supervisor's mode.
 const MODE: u32 = 1 << 31;
@@ -78,13 +81,17 @@ impl Model for Control {
 }
 
 impl Control {
-    /// The registers at the start: all but PSR are 0.
-    pub fn new() -> Control
-        ensures { result ≡ at_start }
+    /// The registers at the start: all but PSR are 0, and MXM is set or clear.
+    pub fn new(mxm: bool) -> Control
+        ensures { result ≡ at_start mxm }
     {
         Control {
             pid: 0,
-            psr: PSR_AT_START,
+            psr: if mxm {
+                PSR_AT_START + MXM
+            } else {
+                PSR_AT_START
+            },
             epsr: 0,
             ssbr: 0,
             sxip: 0,
@@ -186,13 +193,22 @@ impl Control {
         self.psr & CARRY != 0
     }
 
+    /// MXM, a bit of PSR: set where misaligned accesses are rounded down.
+    #[tactic(auto, using(crate::proofs::Carry::mxm_tested))]
+    pub fn mxm(&self) -> bool
+        ensures { result ≡ mxm_of self.now }
+    {
+        self.psr & MXM != 0
+    }
+
     /// Sets or clears the carry.
     #[tactic(auto, using(
-    // the carry that is set, that is cleared, and that is read back
-    crate::proofs::Carry::set, crate::proofs::Carry::cleared, crate::proofs::Carry::shown))]
+    // the carry that is set, that is cleared, and that is read back, and MXM that stays
+    crate::proofs::Carry::set, crate::proofs::Carry::cleared, crate::proofs::Carry::shown, crate::proofs::Carry::mxm_kept))]
     pub fn set_carry(&mut self, c: bool)
         ensures state { self.new ≡ record self.old { psr = with_carry c self.old.psr } }
         ensures carry { carry_of self.new ≡ c }
+        ensures mxm { mxm_of self.new ≡ mxm_of self.old }
     {
         if c {
             self.psr |= CARRY;
@@ -204,9 +220,11 @@ impl Control {
     /// Enters the exception of a vector: the status is saved, the frame fills its registers, and the
     /// supervisor's mode begins. The answer is the byte address of the vector's handler. A return with nothing
     /// between puts the status back, and hands the frame's scoreboard and pointers back.
+    #[tactic(auto, using(crate::proofs::Carry::mxm_entered))]
     pub fn enter(&mut self, vector: u16, frame: &Frame) -> u32
         requires vector { vector < 512 }
         requires ssbr { bit_at frame.now.ssbr 0 ≡ 0 }
+        ensures mxm { mxm_of self.new ≡ mxm_of self.old }
         ensures handler { result ≡ handler_of self.old.vbr vector }
         ensures state { self.new ≡ entered frame.now self.old }
         ensures returning { (returned self.new).psr ≡ self.old.psr }

@@ -5,7 +5,7 @@ use m88_base::{NO_TRIPLE, Triple};
 
 #[test]
 fn each_register_keeps_what_is_stored(rt: HostRuntime) {
-    let mut ctrl = Control::new();
+    let mut ctrl = Control::new(false);
     for n in 0..=21 {
         let start = if n == cr::PSR { 0x3F8 } else { 0 };
         assert_eq!(rt;
@@ -32,7 +32,7 @@ fn each_register_keeps_what_is_stored(rt: HostRuntime) {
 
 #[test]
 fn each_number_is_of_its_register(rt: HostRuntime) {
-    let mut ctrl = Control::new();
+    let mut ctrl = Control::new(false);
     for (n, word) in [
         (7, 0x0001_0000),
         (17, 0x51),
@@ -97,7 +97,7 @@ fn each_number_is_of_its_register(rt: HostRuntime) {
 
 #[test]
 fn a_data_fault_is_entered_and_returned_from(rt: HostRuntime) {
-    let mut ctrl = Control::new();
+    let mut ctrl = Control::new(false);
     ctrl.set_carry(true);
     let loads = [
         Triple {

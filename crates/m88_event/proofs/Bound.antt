@@ -14,12 +14,12 @@ use Rattle.m88_isa.specs.Machine.{IsProgram, Program, Turn, changes, outputs, st
 use Rattle.m88_isa.specs.Memory.{Touch, access_of}
 use Rattle.m88_isa.specs.declared.planned.Access.{Access}
 use Rattle.m88_event.specs.Bound.{fuel, one_if, phase, turns_left, weight}
-use Rattle.m88_event.specs.Choice.{Choice, answer_choice, choice_of, faults, finishes, holds, idles, issue_choice, issues, next_choice, next_turn, passes, replies, serves, turn_choice}
+use Rattle.m88_event.specs.Choice.{Choice, answer_choice, choice_of, evicts, faults, finishes, holds, idles, issue_choice, issues, next_choice, next_turn, passes, replies, serves, turn_choice}
 use Rattle.m88_event.specs.Letters.{letter_at}
 use Rattle.m88_event.specs.Local.{Local, is_over_by, move, move_by, situation_of}
 use Rattle.m88_event.specs.Situation.{record_of}
 use Rattle.m88_event.specs.declared.letter.Letter.{Letter}
-use Rattle.m88_event.specs.declared.letter.Letter.TheVariants.{Issue, Answer}
+use Rattle.m88_event.specs.declared.letter.Letter.TheVariants.{Issue, Answer, Evict}
 use Rattle.m88_event.specs.declared.record.Record.{Record}
 
 -- a choice that makes the fuel less, and why it does; or, where it may, one that leaves the fuel as it is
@@ -32,6 +32,7 @@ Spends may_stay limit l (serves byte) = l.retired < limit
 Spends may_stay limit l (finishes stop) = is_some l.ended ≡ false
 Spends may_stay limit l replies = 1 ≤ length l.pending
 Spends may_stay limit l faults = 1 ≤ length l.pending
+Spends may_stay limit l evicts = may_stay ≡ true
 
 one_at_most : (mark : Bool) → one_if mark ≤ 1
 one_at_most true = omega arith
@@ -68,6 +69,8 @@ spent may_stay limit l replies fault h =
     let most = one_at_most (not may_stay) in
     omega (arith, left, h, most)
 spent may_stay limit l faults fault h = let most = one_at_most (not may_stay) in omega (arith, h, most)
+spent true limit l evicts fault h = omega arith
+spent false limit l evicts fault h = never h
 
 -- the letter `i`: what it does is the turn of the next instruction, unless something holds it
 turn_spends : (may_stay : Bool) (limit : ℕ) (l : Local) (turn : Turn) → l.retired < limit → is_some l.ended ≡ false → TurnFits turn →
@@ -139,9 +142,10 @@ letter_stays : (p : Program) (limit : ℕ) (letter : Letter) (l : Local) → IsP
     Spends true limit l (choice_of p letter (situation_of limit l))
 unfolding situation_of
 letter_stays p limit Issue l is within =
-    issue_spends true limit l _ _ _ _ within refl refl (turn_fits p l.completed.regs l.completed.carry l.completed.pc l.completed.next is)
+    issue_spends true limit l _ _ _ _ within refl refl (turn_fits p l.completed.regs l.completed.carry l.completed.mxm l.completed.pc l.completed.next is)
     (λ e. refl) (always_may _)
 letter_stays p limit Answer l is within = answer_spends true limit l l.pending l.absent refl (λ e. refl)
+letter_stays p limit Evict l is within = refl
 
 -- `r` makes it less where something is pending
 answer_less : (p : Program) (limit : ℕ) (l : Local) → is_pending l.pending ≡ true →
@@ -155,7 +159,7 @@ issue_less : (p : Program) (limit : ℕ) (l : Local) → IsProgram p → l.retir
     Spends false limit l (choice_of p Issue (situation_of limit l))
 unfolding situation_of
 issue_less p limit l is within none lives =
-    let short = turn_fits p l.completed.regs l.completed.carry l.completed.pc l.completed.next is in
+    let short = turn_fits p l.completed.regs l.completed.carry l.completed.mxm l.completed.pc l.completed.next is in
     let turn : Turn = next_turn p (situation_of limit l) in
     issue_spends false limit l _ _ _ _ within refl refl short
     (λ idle. absurd cc)
@@ -361,6 +365,7 @@ retired_by limit l (serves byte) fault within h = omega (arith, h)
 retired_by limit l (finishes stop) fault within h = within
 retired_by limit l replies fault within h = within
 retired_by limit l faults fault within h = within
+retired_by limit l evicts fault within h = within
 
 pub stays_in_limit : (p : Program) (limit : ℕ) (letter : Letter) (l : Local) → IsProgram p → l.retired ≤ limit →
     (move p limit letter l).retired ≤ limit

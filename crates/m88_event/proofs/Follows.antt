@@ -4,13 +4,13 @@ use Rattle.std.proofs.Common.{arith, add-one, length-append, refl, sym, ap, ◌�
 use Rattle.std.proofs.Math.Path.{fun_ext}
 use Rattle.std.proofs.lemmas.List.{append-nil, drop-append-le, drop_all, length-drop, take-append-drop, take-append-le, take_all}
 use Rattle.m88_isa.proofs.InWords.{bus_of_append, state_agrees}
-use Rattle.m88_base.specs.Pages.{page_number}
+use Rattle.m88_base.specs.Pages.{every_page, page_number}
 use Rattle.m88_isa.specs.Bus.{bus_after_all, in_words}
 use Rattle.m88_isa.specs.Held.{Hold}
 use Rattle.m88_isa.specs.History.{after_turn, bus_at, change_accesses, completed_state, pending_at, transaction_count, transactions, turn_accesses}
 use Rattle.m88_isa.specs.Machine.{IsProgram, Program, Turn, changes, opening, outputs, state, stops, turn_at}
 use Rattle.m88_isa.specs.declared.planned.Access.{Access}
-use Rattle.m88_event.specs.Choice.{Choice, answer_choice, choice_of, faults, finishes, holds, idles, issue_choice, issues, next_choice, passes, replies, said, serves, touches_page, turn_choice}
+use Rattle.m88_event.specs.Choice.{Choice, answer_choice, choice_of, evicts, faults, finishes, holds, idles, issue_choice, issues, next_choice, passes, replies, said, serves, touches_page, turn_choice}
 use Rattle.m88_event.specs.Local.{with_move_counted, local_at, move, move_by, said_by, situation_of}
 use Rattle.m88_event.specs.Shadow.{retired_pointer}
 use Rattle.m88_event.specs.Letters.{letter_at}
@@ -19,7 +19,7 @@ use Rattle.m88_event.specs.Situation.{record_of}
 use Rattle.m88_event.specs.Timeline.{DoneWereMade, Moment, opening_moment, absent_at, after_choice, after_letter, end_at, end_of_turn, with_event, said_at, situation_at, xip_at}
 use Rattle.m88_event.specs.declared.happened.End.{End}
 use Rattle.m88_event.specs.declared.letter.Letter.{Letter}
-use Rattle.m88_event.specs.declared.letter.Letter.TheVariants.{Issue, Answer}
+use Rattle.m88_event.specs.declared.letter.Letter.TheVariants.{Issue, Answer, Evict}
 use Rattle.m88_event.specs.declared.record.Record.{Record}
 
 -- whether the program has ended is seen
@@ -48,6 +48,7 @@ Fits p m (serves byte) = (turn_at p (state p m.retired) ≡ outputs byte) × (m.
 Fits p m (finishes stop) = turn_at p (state p m.retired) ≡ stops stop
 Fits p m replies = m.done < transaction_count p m.retired
 Fits p m faults = m.done < transaction_count p m.retired
+Fits p m evicts = Unit {0}
 
 by_turn : (p : Program) (m : Moment) (turn : Turn) → turn_at p (state p m.retired) ≡ turn → m.ended ≡ false →
     Fits p m (turn_choice turn)
@@ -93,6 +94,7 @@ pub fits : (p : Program) (named : ℕ → Bool) (limit : ℕ) (letter : Letter) 
 unfolding situation_at
 fits p named limit Issue m = by_issue p m _ _ _ _ refl (lives_of m.ended (m.retired == limit))
 fits p named limit Answer m = by_oldest p m _ _ (some_left (transactions p m.retired) m.done)
+fits p named limit Evict m = tt
 
 -- the transactions behind one more step
 pub more_transactions : (p : Program) (n : ℕ) (turn : Turn) → turn_at p (state p n) ≡ turn →
@@ -148,6 +150,11 @@ finished_absent true true touched = refl
 finished_absent true false touched = refl
 finished_absent false true touched = refl
 finished_absent false false touched = refl
+
+-- every page is absent where none was supplied
+all_absent : (page : Bool) → page ≡ page && not false
+all_absent true = refl
+all_absent false = refl
 
 -- as long as the program goes on, it has no end, and where it ends, that is its history's
 no_end : (ended : Bool) (here next : End) → ended ≡ false →
@@ -234,8 +241,8 @@ by_choice p named m faults fault bytes kept fit =
     let left = length-drop m.done (transactions p m.retired) in
     let done : m.done + length (pending_at p m.retired m.done) ≡ transaction_count p m.retired = omega (arith, left, kept) in
     let absent : (λ page. absent_at named m page && not (touches_page (pending_at p m.retired m.done) page))
-    ≡ (λ page. named page && not (m.supplied page || touches_page (pending_at p m.retired m.done) page)) =
-    fun_ext (λ page. finished_absent (named page) (m.supplied page) (touches_page (pending_at p m.retired m.done) page)) in
+    ≡ (λ page. (if m.evicted then every_page page else named page) && not (m.supplied page || touches_page (pending_at p m.retired m.done) page)) =
+    fun_ext (λ page. finished_absent (if m.evicted then every_page page else named page) (m.supplied page) (touches_page (pending_at p m.retired m.done) page)) in
     λ i. record {
       completed = completed_state (state p m.retired);
       bus = bus i;
@@ -250,6 +257,8 @@ by_choice p named m faults fault bytes kept fit =
       answers = m.answers;
       records = m.records ++ (fault ∷ []);
     }
+by_choice p named m evicts fault bytes kept fit =
+    ap (λ (absent : ℕ → Bool). record (local_at p named m) { absent = absent }) (fun_ext (λ page. all_absent (every_page page)))
 
 same_count : (p : Program) (named : ℕ → Bool) (m : Moment) → with_move_counted (local_at p named m) ≡ local_at p named (with_event m)
 unfolding local_at
@@ -291,6 +300,7 @@ kept_by_choice p m (serves byte) fault kept fit =
 kept_by_choice p m (finishes stop) fault kept fit = kept
 kept_by_choice p m replies fault kept fit = omega (arith, fit)
 kept_by_choice p m faults fault kept fit = omega arith
+kept_by_choice p m evicts fault kept fit = kept
 
 pub stays_within : (p : Program) (named : ℕ → Bool) (limit : ℕ) (letter : Letter) (m : Moment) →
     DoneWereMade p m →

@@ -5,30 +5,33 @@ use Rattle.std.proofs.lemmas.Bool.Decides.{nat_tests}
 use Rattle.std.proofs.lemmas.List.Elements.{All-cons, All-head, All-nil, All-tail}
 use Rattle.m88_event.specs.Letters.{AreLetters, HasLetters, IsSchedule, is_letter, letter_byte, letter_of}
 use Rattle.m88_event.specs.declared.letter.Letter.{Letter}
-use Rattle.m88_event.specs.declared.letter.Letter.TheVariants.{Issue, Answer}
+use Rattle.m88_event.specs.declared.letter.Letter.TheVariants.{Issue, Answer, Evict}
 
-byte_there : (byte : ℕ) (i r : Bool) → (byte == 0x69) ≡ i → (byte == 0x72) ≡ r → (i || r) ≡ true →
-    byte ≡ letter_byte (if i then Issue else Answer)
-byte_there byte true r is_i is_r h = grind (arith, nat_tests)
-byte_there byte false true is_i is_r h = grind (arith, nat_tests)
-byte_there byte false false is_i is_r h = absurd cc
+byte_there : (byte : ℕ) (i e r : Bool) → (byte == 0x69) ≡ i → (byte == 0x65) ≡ e → (byte == 0x72) ≡ r → (i || (e || r)) ≡ true →
+    byte ≡ letter_byte (if i then Issue else if e then Evict else Answer)
+byte_there byte true e r is_i is_e is_r h = grind (arith, nat_tests)
+byte_there byte false true r is_i is_e is_r h = grind (arith, nat_tests)
+byte_there byte false false true is_i is_e is_r h = grind (arith, nat_tests)
+byte_there byte false false false is_i is_e is_r h = absurd cc
 
 there : (bytes : List ℕ) → AreLetters bytes → bytes ≡ map letter_byte (map letter_of bytes)
 there [] h = refl
 there (byte ∷ bytes) h =
     ap₂ (λ x xs. x ∷ xs)
-    (byte_there byte (byte == 0x69) (byte == 0x72) refl refl (All-head (λ b. is_letter b ≡ true) byte bytes h))
+    (byte_there byte (byte == 0x69) (byte == 0x65) (byte == 0x72) refl refl refl (All-head (λ b. is_letter b ≡ true) byte bytes h))
     (there bytes (All-tail (λ b. is_letter b ≡ true) byte bytes h))
 
 back : (letters : List Letter) → map letter_of (map letter_byte letters) ≡ letters
 back [] = refl
 back (Issue ∷ letters) = ap (λ xs. Issue ∷ xs) (back letters)
 back (Answer ∷ letters) = ap (λ xs. Answer ∷ xs) (back letters)
+back (Evict ∷ letters) = ap (λ xs. Evict ∷ xs) (back letters)
 
 all_letters : (letters : List Letter) → AreLetters (map letter_byte letters)
 all_letters [] = All-nil (λ b. is_letter b ≡ true)
 all_letters (Issue ∷ letters) = All-cons (λ b. is_letter b ≡ true) 0x69 (map letter_byte letters) refl (all_letters letters)
 all_letters (Answer ∷ letters) = All-cons (λ b. is_letter b ≡ true) 0x72 (map letter_byte letters) refl (all_letters letters)
+all_letters (Evict ∷ letters) = All-cons (λ b. is_letter b ≡ true) 0x65 (map letter_byte letters) refl (all_letters letters)
 
 length_kept : (letters : List Letter) → length (map letter_byte letters) ≡ length letters
 length_kept [] = refl

@@ -14,12 +14,12 @@ use Rattle.m88_isa.specs.declared.instr.Instr.{Instr}
 use Rattle.m88_isa.specs.declared.planned.Access.{Access}
 use Rattle.m88_event.proofs.Follows.{Fits, fits, more_transactions}
 use Rattle.m88_event.proofs.Precise.{IsLastChoice, all_done}
-use Rattle.m88_event.specs.Choice.{Choice, answer_choice, choice_of, faults, finishes, holds, idles, issue_choice, issues, next_choice, passes, replies, serves, turn_choice}
+use Rattle.m88_event.specs.Choice.{Choice, answer_choice, choice_of, evicts, faults, finishes, holds, idles, issue_choice, issues, next_choice, passes, replies, serves, turn_choice}
 use Rattle.m88_event.specs.Past.{HasInstructions, HasPast}
 use Rattle.m88_event.specs.Situation.{record_of}
 use Rattle.m88_event.specs.Timeline.{DoneWereMade, Moment, absent_at, after_choice, after_letter, is_idle, opening_moment, situation_at}
 use Rattle.m88_event.specs.declared.letter.Letter.{Letter}
-use Rattle.m88_event.specs.declared.letter.Letter.TheVariants.{Issue, Answer}
+use Rattle.m88_event.specs.declared.letter.Letter.TheVariants.{Issue, Answer, Evict}
 use Rattle.m88_event.specs.declared.record.Record.{Record}
 
 -- a history has put out at most as many bytes as it made steps
@@ -104,6 +104,7 @@ unfolding situation_at
 has_room p named limit Issue m =
     room_of_issue p limit m (instruction_at p (state p m.retired).pc) (turn_at p (state p m.retired)) (is_idle limit m) m.bubble refl refl
 has_room p named limit Answer m = room_of_answer p limit m (pending_at p m.retired m.done) (absent_at named m)
+has_room p named limit Evict m = tt
 
 -- where more may be issued, fewer instructions are retired than the limit
 not_reached : (ended reached : Bool) → (ended || reached) ≡ false → reached ≡ false
@@ -212,6 +213,17 @@ by_choice p limit m faults fault past fit room drained =
       bubbled = past.bubbled;
       unbubbled = past.unbubbled;
       counted = omega (arith, told, more, fit);
+      put_out = past.put_out;
+    }
+by_choice p limit m evicts fault past fit room drained =
+    record {
+      within = past.within;
+      retired = past.retired;
+      pending = past.pending;
+      ended = λ ended. let end = past.ended ended in record { next = end.next; early = end.early; drained = end.drained };
+      bubbled = past.bubbled;
+      unbubbled = past.unbubbled;
+      counted = past.counted;
       put_out = past.put_out;
     }
 

@@ -11,12 +11,12 @@ use Rattle.m88_isa.specs.Machine.{Program, Turn, carried_out, changes, fetched, 
 use Rattle.m88_isa.specs.Operands.{waits_for_empty}
 use Rattle.m88_isa.specs.declared.instr.Instr.{Instr}
 use Rattle.m88_isa.specs.declared.planned.Access.{Access}
-use Rattle.m88_event.specs.Choice.{Choice, ServesOrEnds, answer_choice, choice_of, faults, finishes, holds, idles, issue_choice, issues, next_choice, next_turn, passes, replies, said, serves, turn_choice}
+use Rattle.m88_event.specs.Choice.{Choice, ServesOrEnds, answer_choice, choice_of, evicts, faults, finishes, holds, idles, issue_choice, issues, next_choice, next_turn, passes, replies, said, serves, turn_choice}
 use Rattle.m88_event.specs.Local.{Local, said_by, situation_of}
 use Rattle.m88_event.specs.Timeline.{DoneWereMade, Moment, situation_at}
 use Rattle.m88_event.specs.Situation.{Situation, record_of}
 use Rattle.m88_event.specs.declared.letter.Letter.{Letter}
-use Rattle.m88_event.specs.declared.letter.Letter.TheVariants.{Issue, Answer}
+use Rattle.m88_event.specs.declared.letter.Letter.TheVariants.{Issue, Answer, Evict}
 use Rattle.m88_event.specs.declared.record.Record.{Record}
 
 -- a turn that is served or ends the program
@@ -30,26 +30,26 @@ last_is_true true = refl
 last_is_true false = refl
 
 -- an instruction whose turn is one of these waits for an empty data unit
-by_meaning : (i : Instr) (regs : List ℕ) (carry : Bool) (pc next : ℕ) (m : Meaning) →
-    meaning_of i regs carry pc next ≡ m →
+by_meaning : (i : Instr) (regs : List ℕ) (carry mxm : Bool) (pc next : ℕ) (m : Meaning) →
+    meaning_of i regs carry mxm pc next ≡ m →
     IsLast (carried_out m regs pc) →
     needs_empty (Some i) (carried_out m regs pc) ≡ true
-by_meaning i regs carry pc next (raises vector) e last = last_is_true (waits_for_empty i)
-by_meaning i regs carry pc next (traps vector) e last = rw (traps_wait i regs carry pc next vector e) refl
-by_meaning i regs carry pc next (goes change) e last = absurd last
+by_meaning i regs carry mxm pc next (raises vector) e last = last_is_true (waits_for_empty i)
+by_meaning i regs carry mxm pc next (traps vector) e last = rw (traps_wait i regs carry mxm pc next vector e) refl
+by_meaning i regs carry mxm pc next (goes change) e last = absurd last
 
-by_fetch : (word : Option (List ℕ)) (i : Option Instr) (regs : List ℕ) (carry : Bool) (pc next : ℕ) →
-    IsLast (fetched word i regs carry pc next) →
-    needs_empty (fetched_instruction word i) (fetched word i regs carry pc next) ≡ true
-by_fetch None i regs carry pc next last = refl
-by_fetch (Some word) None regs carry pc next last = refl
-by_fetch (Some word) (Some i) regs carry pc next last =
-    by_meaning i regs carry pc next (meaning_of i regs carry pc next) refl last
+by_fetch : (word : Option (List ℕ)) (i : Option Instr) (regs : List ℕ) (carry mxm : Bool) (pc next : ℕ) →
+    IsLast (fetched word i regs carry mxm pc next) →
+    needs_empty (fetched_instruction word i) (fetched word i regs carry mxm pc next) ≡ true
+by_fetch None i regs carry mxm pc next last = refl
+by_fetch (Some word) None regs carry mxm pc next last = refl
+by_fetch (Some word) (Some i) regs carry mxm pc next last =
+    by_meaning i regs carry mxm pc next (meaning_of i regs carry mxm pc next) refl last
 
-waits_alone : (p : Program) (regs : List ℕ) (carry : Bool) (pc next : ℕ) →
-    IsLast (turn p regs carry pc next) →
-    needs_empty (instruction_at p pc) (turn p regs carry pc next) ≡ true
-waits_alone p regs carry pc next = by_fetch (four_bytes p.byte pc) (p.instruction pc) regs carry pc next
+waits_alone : (p : Program) (regs : List ℕ) (carry mxm : Bool) (pc next : ℕ) →
+    IsLast (turn p regs carry mxm pc next) →
+    needs_empty (instruction_at p pc) (turn p regs carry mxm pc next) ≡ true
+waits_alone p regs carry mxm pc next = by_fetch (four_bytes p.byte pc) (p.instruction pc) regs carry mxm pc next
 
 -- where nothing holds it, nothing is pending
 no_reason : (least : Option ℕ) (no_room some : Bool) → first_reason least no_room some ≡ None → some ≡ false
@@ -72,6 +72,7 @@ IsLastChoice (serves byte) = Unit {0}
 IsLastChoice (finishes stop) = Unit {0}
 IsLastChoice replies = ⊥
 IsLastChoice faults = ⊥
+IsLastChoice evicts = ⊥
 
 by_turn : (t : Turn) → IsLastChoice (turn_choice t) → IsLast t
 by_turn (changes change) last = last
@@ -94,7 +95,7 @@ by_mark p s true bubble last = absurd last
 by_mark p s false true last = absurd last
 by_mark p s false false last =
     by_hold (instruction_at p s.pc) (next_turn p s) s.pending (held (instruction_at p s.pc) (next_turn p s) s.pending) refl
-    (waits_alone p s.regs s.carry s.pc s.next) last
+    (waits_alone p s.regs s.carry s.mxm s.pc s.next) last
 
 by_page : (absent : Bool) → IsLastChoice (if absent then faults else replies) → ⊥
 by_page true last = last
@@ -107,6 +108,7 @@ by_answer (x ∷ xs) absent last = by_page (absent (page_number x.addr)) last
 pub precise_choice : (p : Program) (letter : Letter) (s : Situation) → IsLastChoice (choice_of p letter s) → is_pending s.pending ≡ false
 precise_choice p Issue s last = by_mark p s s.idle s.bubble last
 precise_choice p Answer s last = absurd (by_answer s.pending s.absent last)
+precise_choice p Evict s last = absurd last
 
 last_said : (choice : Choice) (fault : Record) → ServesOrEnds (said choice fault) → IsLastChoice choice
 last_said idles fault h = h
@@ -117,6 +119,7 @@ last_said (serves byte) fault h = h
 last_said (finishes stop) fault h = h
 last_said replies fault h = h
 last_said faults fault h = h
+last_said evicts fault h = h
 
 -- on a board
 pub precise_by : (p : Program) (limit : ℕ) (letter : Letter) (l : Local) → ServesOrEnds (said_by p limit letter l) →

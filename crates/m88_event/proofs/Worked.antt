@@ -24,7 +24,7 @@ use Rattle.m88_event.specs.Timeline.{Moment, after_letter, end_at, is_over, open
 use Rattle.m88_event.specs.declared.happened.End.{End}
 use Rattle.m88_event.specs.declared.happened.End.TheVariants.{Limit, Exit, Vector}
 use Rattle.m88_event.specs.declared.letter.Letter.{Letter}
-use Rattle.m88_event.specs.declared.letter.Letter.TheVariants.{Issue as i, Answer as r}
+use Rattle.m88_event.specs.declared.letter.Letter.TheVariants.{Issue as i, Answer as r, Evict as e}
 use Rattle.m88_event.specs.declared.record.Record.{Record}
 
 -- the instruction at an address, of words from a start on; a word may be none
@@ -38,8 +38,9 @@ bytes_of [] = 0
 bytes_of (word ∷ words) = 4 + bytes_of words
 
 -- a program with its words from 0x1000 on, whose bytes are told by their instructions alone, and data from 0x2000 on
-abbrev program : List (Option Instr) → List ℕ → Program
-program words bytes = record {
+abbrev program : Bool → List (Option Instr) → List ℕ → Program
+program mxm words bytes = record {
+  mxm = mxm;
   start = 0x1000;
   byte = λ a.
       if nat_le 0x1000 a && nat_lt a (0x1000 + bytes_of words) then Some 0
@@ -71,6 +72,7 @@ record Came : Type 0 where
 
 -- a run: the program's words and data, the absent pages, the limit, the schedule, and what the run comes to by hand
 record Worked : Type 0 where
+  mxm : Bool
   code : List (Option Instr)
   bytes : List ℕ
   pages : List ℕ
@@ -105,7 +107,7 @@ came_after p w events =
 
 abbrev came : Worked → Came
 came w =
-    came_after (program w.code w.bytes) w (events_from (program w.code w.bytes) w 100 0 opening_moment)
+    came_after (program w.mxm w.code w.bytes) w (events_from (program w.mxm w.code w.bytes) w 100 0 opening_moment)
 
 -- instructions and words in short
 abbrev im : ImmOp → ℕ → ℕ → ℕ → Option Instr
@@ -138,6 +140,7 @@ worked : List Worked
 worked =
     -- no word to fetch
     record {
+      mxm = false;
       code = [];
       bytes = [];
       pages = [];
@@ -156,6 +159,7 @@ worked =
     }
     -- an output and an exit
     ∷ record {
+      mxm = false;
       code = im immop.Or 2 0 65 ∷ im immop.Or 9 0 0x20 ∷ trap ∷ im immop.Or 9 0 0x63 ∷ trap ∷ [];
       bytes = [];
       pages = [];
@@ -174,6 +178,7 @@ worked =
     }
     -- three loads from absent pages
     ∷ record {
+      mxm = false;
       code = mem memop.Ld 2 0x5000 ∷ mem memop.Ld 3 0x6000 ∷ mem memop.Ld 4 0x7000 ∷ [];
       bytes = [];
       pages = 5 ∷ 6 ∷ 7 ∷ [];
@@ -193,6 +198,7 @@ worked =
     }
     -- an instruction that is held as it writes a register that waits
     ∷ record {
+      mxm = false;
       code = mem memop.Ld 2 0x5000 ∷ im immop.Addu 2 5 1 ∷ [];
       bytes = [];
       pages = 5 ∷ [];
@@ -211,6 +217,7 @@ worked =
     }
     -- a store to an absent page, with an instruction behind it
     ∷ record {
+      mxm = false;
       code = im immop.Or 4 0 7 ∷ mem memop.St 4 0x5000 ∷ im immop.Addu 5 5 1 ∷ [];
       bytes = [];
       pages = 5 ∷ [];
@@ -229,6 +236,7 @@ worked =
     }
     -- a store keeps the datum that its register had
     ∷ record {
+      mxm = false;
       code = im immop.Or 4 0 7 ∷ mem memop.St 4 0x5000 ∷ im immop.Addu 4 4 1 ∷ [];
       bytes = [];
       pages = [];
@@ -247,6 +255,7 @@ worked =
     }
     -- a fault while a bubble stands
     ∷ record {
+      mxm = false;
       code =
           im immop.Or 4 0 7 ∷ mem memop.St 4 0x5000 ∷ mem memop.St 4 0x6000 ∷ branch false false 2
           ∷ im immop.Or 4 0 9 ∷ im immop.Or 6 0 1 ∷ [];
@@ -267,6 +276,7 @@ worked =
     }
     -- a fault between a branch and its delay slot
     ∷ record {
+      mxm = false;
       code =
           mem memop.Ld 2 0x5000 ∷ branch true true 3 ∷ mem memop.Ld 3 0x5004 ∷ im immop.Or 5 0 5 ∷ im immop.Or 4 0 4 ∷ [];
       bytes = [];
@@ -286,6 +296,7 @@ worked =
     }
     -- a word that is no instruction waits for an empty data unit
     ∷ record {
+      mxm = false;
       code = im immop.Or 4 0 7 ∷ mem memop.St 4 0x5000 ∷ None ∷ [];
       bytes = [];
       pages = 5 ∷ [];
@@ -304,6 +315,7 @@ worked =
     }
     -- a load that isn't aligned
     ∷ record {
+      mxm = false;
       code = mem memop.Ld 2 2 ∷ [];
       bytes = [];
       pages = [];
@@ -322,6 +334,7 @@ worked =
     }
     -- traps wait for two loads
     ∷ record {
+      mxm = false;
       code =
           im immop.Or 2 0 66 ∷ im immop.Or 9 0 0x20 ∷ mem memop.Ld 3 0x5000 ∷ mem memop.Ld 4 0x5004 ∷ trap
           ∷ im immop.Or 9 0 0x63 ∷ trap ∷ [];
@@ -342,6 +355,7 @@ worked =
     }
     -- a signed sum that doesn't fit, and a division of a negative number
     ∷ record {
+      mxm = false;
       code = im immop.OrU 2 0 0x7FFF ∷ im immop.Or 2 2 0xFFFF ∷ im immop.Add 3 2 1 ∷ [];
       bytes = [];
       pages = [];
@@ -359,6 +373,7 @@ worked =
       };
     }
     ∷ record {
+      mxm = false;
       code = im immop.Subu 2 0 1 ∷ im immop.Div 3 2 2 ∷ [];
       bytes = [];
       pages = [];
@@ -377,6 +392,7 @@ worked =
     }
     -- a double word into r31 and r0
     ∷ record {
+      mxm = false;
       code = mem memop.LdD 31 0x2000 ∷ [];
       bytes = 0x11 ∷ 0x22 ∷ 0x33 ∷ 0x44 ∷ 0x55 ∷ 0x66 ∷ 0x77 ∷ 0x88 ∷ [];
       pages = 2 ∷ [];
@@ -395,6 +411,7 @@ worked =
     }
     -- an exchange on an absent page, and a privileged instruction that is held as busy
     ∷ record {
+      mxm = false;
       code = im immop.Or 2 0 5 ∷ mem memop.Xmem 2 0x5000 ∷ Some (instr.Ldcr (reg_of 2) 1 false) ∷ [];
       bytes = [];
       pages = 5 ∷ [];
@@ -413,6 +430,7 @@ worked =
     }
     -- a change of flow in a taken delay slot, and in one whose target is the word behind it
     ∷ record {
+      mxm = false;
       code = branch false true 3 ∷ branch false false 2 ∷ im immop.Or 2 0 1 ∷ im immop.Or 3 0 1 ∷ [];
       bytes = [];
       pages = [];
@@ -430,6 +448,7 @@ worked =
       };
     }
     ∷ record {
+      mxm = false;
       code = branch false true 2 ∷ branch false false 2 ∷ im immop.Or 2 0 1 ∷ im immop.Or 3 0 1 ∷ [];
       bytes = [];
       pages = [];
@@ -448,6 +467,7 @@ worked =
     }
     -- a fourth load, for which there is no room
     ∷ record {
+      mxm = false;
       code = mem memop.Ld 2 0x5000 ∷ mem memop.Ld 3 0x5004 ∷ mem memop.Ld 4 0x5008 ∷ mem memop.Ld 5 0x6000 ∷ [];
       bytes = [];
       pages = 6 ∷ [];
@@ -462,6 +482,80 @@ worked =
         out = [];
         answers = 3;
         records = fault 57 0x100E 0x1013 0x1017 0x20 (triple 0x2BD 0 0x6000 ∷ no_triple ∷ no_triple ∷ []) ∷ [];
+      };
+    }
+    -- a load that isn't aligned, rounded down, and the same as its page is absent
+    ∷ record {
+      mxm = true;
+      code = mem memop.Ld 2 0x2002 ∷ [];
+      bytes = 0x11 ∷ 0x22 ∷ 0x33 ∷ 0x44 ∷ [];
+      pages = [];
+      limit = 1;
+      schedule = [];
+      comes = record {
+        events = 3;
+        end = Limit;
+        retired = 1;
+        registers = (2, 0x11223344) ∷ [];
+        words = [];
+        out = [];
+        answers = 1;
+        records = [];
+      };
+    }
+    ∷ record {
+      mxm = true;
+      code = mem memop.Ld 2 0x2002 ∷ [];
+      bytes = 0x11 ∷ 0x22 ∷ 0x33 ∷ 0x44 ∷ [];
+      pages = 2 ∷ [];
+      limit = 1;
+      schedule = i ∷ r ∷ [];
+      comes = record {
+        events = 2;
+        end = Limit;
+        retired = 1;
+        registers = (2, 0x11223344) ∷ [];
+        words = [];
+        out = [];
+        answers = 0;
+        records = record (fault 2 0x1002 0x1007 0x100B 4 (triple 0x13D 0 0x2000 ∷ no_triple ∷ no_triple ∷ [])) { epsr = 0x3FC } ∷ [];
+      };
+    }
+    -- the second half of a double, and of an exchange, alone meets an absent page
+    ∷ record {
+      mxm = false;
+      code = mem memop.LdD 2 0x2000 ∷ [];
+      bytes = 0x11 ∷ 0x22 ∷ 0x33 ∷ 0x44 ∷ 0x55 ∷ 0x66 ∷ 0x77 ∷ 0x88 ∷ [];
+      pages = [];
+      limit = 1;
+      schedule = i ∷ r ∷ e ∷ r ∷ [];
+      comes = record {
+        events = 4;
+        end = Limit;
+        retired = 1;
+        registers = (2, 0x11223344) ∷ (3, 0x55667788) ∷ [];
+        words = [];
+        out = [];
+        answers = 1;
+        records = fault 4 0x1002 0x1007 0x100B 8 (triple 0x1BD 0 0x2004 ∷ no_triple ∷ no_triple ∷ []) ∷ [];
+      };
+    }
+    ∷ record {
+      mxm = false;
+      code = im immop.Or 2 0 5 ∷ mem memop.Xmem 2 0x5000 ∷ [];
+      bytes = [];
+      pages = [];
+      limit = 2;
+      schedule = i ∷ i ∷ r ∷ e ∷ r ∷ [];
+      comes = record {
+        events = 5;
+        end = Limit;
+        retired = 2;
+        registers = [];
+        words = (0x5000, 5) ∷ [];
+        out = [];
+        answers = 1;
+        records = fault 5 0x1006 0x100B 0x100F 0 (triple 0x103F 5 0x5000 ∷ no_triple ∷ no_triple ∷ []) ∷ [];
       };
     }
     ∷ []

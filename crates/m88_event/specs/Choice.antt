@@ -14,11 +14,12 @@ use Rattle.m88_event.specs.declared.happened.Happened.TheVariants as happened
 use Rattle.m88_event.specs.declared.happened.Why.{Why}
 use Rattle.m88_event.specs.declared.happened.Why.TheVariants as why
 use Rattle.m88_event.specs.declared.letter.Letter.{Letter}
-use Rattle.m88_event.specs.declared.letter.Letter.TheVariants.{Issue, Answer}
+use Rattle.m88_event.specs.declared.letter.Letter.TheVariants.{Issue, Answer, Evict}
 use Rattle.m88_event.specs.declared.record.Record.{Record}
 
 -- nothing; it passes a bubble; it holds the next instruction; it retires the next instruction, with its changes or
--- with a byte that is put out for it; it ends the program; it answers the oldest transaction, or that one faults
+-- with a byte that is put out for it; it ends the program; it answers the oldest transaction, or that one faults;
+-- it makes every page absent
 pub data Choice : Type 0 where
   idles : Choice
   passes : Choice
@@ -28,6 +29,7 @@ pub data Choice : Type 0 where
   finishes : Stop → Choice
   replies : Choice
   faults : Choice
+  evicts : Choice
 
 -- the next instruction in its turn, which nothing holds
 abbrev pub turn_choice : Turn → Choice
@@ -51,13 +53,14 @@ answer_choice (a ∷ pending) absent = if absent (page_number a.addr) then fault
 
 -- the turn of the next instruction
 abbrev pub next_turn : Program → Situation → Turn
-next_turn p s = turn p s.regs s.carry s.pc s.next
+next_turn p s = turn p s.regs s.carry s.mxm s.pc s.next
 
 -- what a letter makes of a situation
 abbrev pub choice_of : Program → Letter → Situation → Choice
 choice_of p Issue s =
     issue_choice s.idle s.bubble (held (instruction_at p s.pc) (next_turn p s) s.pending) (next_turn p s)
 choice_of p Answer s = answer_choice s.pending s.absent
+choice_of p Evict s = evicts
 
 -- a page is that of one of some accesses
 abbrev pub touches_page : List Access → ℕ → Bool
@@ -85,6 +88,7 @@ said (serves byte) fault = happened.Served byte
 said (finishes stop) fault = happened.Ended (end_by stop)
 said replies fault = happened.Answered
 said faults fault = happened.Faulted fault
+said evicts fault = happened.Evicted
 
 -- an event that serves a trap or ends the program
 abbrev pub ServesOrEnds : Happened → Type 0

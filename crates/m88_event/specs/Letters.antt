@@ -1,16 +1,17 @@
 -- The letters of a run: those of its schedule, and then `r` and `i` in turn.
 use Rattle.std.specs.Prelude.{ℕ, Bool, All, List, [], ◌∷◌, ◌≡◌, ◌⊎◌, ◌≤◌, ◌-◌, ◌%◌, ◌==◌, ◌||◌, map, length, slice_get, unwrap_or, if◌then◌else◌, true}
 use Rattle.m88_event.specs.declared.letter.Letter.{Letter}
-use Rattle.m88_event.specs.declared.letter.Letter.TheVariants.{Issue, Answer}
+use Rattle.m88_event.specs.declared.letter.Letter.TheVariants.{Issue, Answer, Evict}
 
 -- the most letters of a schedule
 abbrev pub most_letters : ℕ
 most_letters = 65536
 
--- `i` and `r`
+-- `i`, `r` and `e`
 abbrev pub letter_byte : Letter → ℕ
 letter_byte Issue = 0x69
 letter_byte Answer = 0x72
+letter_byte Evict = 0x65
 
 -- the schedule of a text: none for `-`, else its letters, of which there are 1 to 65,536
 abbrev pub IsSchedule : List ℕ → List Letter → Type 0
@@ -26,13 +27,13 @@ in_turn n = if n % 2 == 0 then Answer else Issue
 unfoldable pub letter_at : List Letter → ℕ → Letter
 letter_at schedule k = unwrap_or (slice_get schedule k) (in_turn (k - length schedule))
 
--- the letter of a byte, for the view of a schedule alone: `i`, and `r` for any other
+-- the letter of a byte, for the view of a schedule alone: `i`, `e`, and `r` for any other
 abbrev pub letter_of : ℕ → Letter
-letter_of byte = if byte == 0x69 then Issue else Answer
+letter_of byte = if byte == 0x69 then Issue else if byte == 0x65 then Evict else Answer
 
 -- a byte that is a letter
 abbrev pub is_letter : ℕ → Bool
-is_letter byte = byte == 0x69 || byte == 0x72
+is_letter byte = byte == 0x69 || (byte == 0x65 || byte == 0x72)
 
 -- each of some bytes is one
 abbrev pub AreLetters : List ℕ → Type 0

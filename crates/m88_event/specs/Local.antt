@@ -2,13 +2,14 @@
 -- transactions lead to, memory as it is now, these transactions, marks, absent pages, counts and records; and what a
 -- letter makes of it.
 use Rattle.std.specs.Prelude.{ℕ, Bool, false, not, List, [], ◌∷◌, ◌++◌, Option, Some, None, ◌+◌, ◌==◌, ◌&&◌, ◌||◌, drop, is_some, length, slice_index, take, if◌then◌else◌}
+use Rattle.m88_base.specs.Pages.{every_page}
 use Rattle.m88_base.specs.declared.slot.Slot.{Slot}
 use Rattle.m88_isa.specs.Bus.{bus_after_all, waits_for}
 use Rattle.m88_isa.specs.History.{Completed, after_turn, bus_at, change_accesses, completed_state, pending_at}
 use Rattle.m88_isa.specs.Held.{is_pending}
 use Rattle.m88_isa.specs.Machine.{Program, changes, outputs, state}
 use Rattle.m88_isa.specs.declared.planned.Access.{Access}
-use Rattle.m88_event.specs.Choice.{Choice, choice_of, end_by, faults, finishes, holds, idles, issues, passes, replies, said, serves, touches_page}
+use Rattle.m88_event.specs.Choice.{Choice, choice_of, end_by, evicts, faults, finishes, holds, idles, issues, passes, replies, said, serves, touches_page}
 use Rattle.m88_event.specs.Shadow.{retired_pointer}
 use Rattle.m88_event.specs.Situation.{Situation, record_of}
 use Rattle.m88_event.specs.Timeline.{Moment, absent_at, end_at, xip_at}
@@ -39,6 +40,7 @@ unfoldable pub situation_of : ℕ → Local → Situation
 situation_of limit l = record {
   regs = l.completed.regs;
   carry = l.completed.carry;
+  mxm = l.completed.mxm;
   pc = l.completed.pc;
   next = l.completed.next;
   xip = l.xip;
@@ -81,6 +83,7 @@ move_by faults fault l = record l {
   done = l.done + length l.pending;
   records = l.records ++ (fault ∷ []);
 }
+move_by evicts fault l = record l { absent = every_page }
 
 -- one more event is counted
 abbrev pub with_move_counted : Local → Local

@@ -11,12 +11,13 @@ use Rattle.m88_isa.specs.declared.planned.Access.{Access}
 use Rattle.m88_event.specs.Shadow.{fip_of, nip_of, status_of}
 use Rattle.m88_event.specs.declared.record.Record.{Record}
 
--- registers, carry and the two addresses after the instructions that are retired, XIP, the mark that a fetched
+-- registers, carry, MXM and the two addresses after the instructions that are retired, XIP, the mark that a fetched
 -- instruction is passed over, the mark that no more may be issued, the pending transactions, the absent pages, and
 -- the event's number
 pub record Situation : Type 0 where
   pub regs : List ℕ
   pub carry : Bool
+  pub mxm : Bool
   pub pc : ℕ
   pub next : ℕ
   pub xip : Slot
@@ -30,7 +31,7 @@ pub record Situation : Type 0 where
 unfoldable pub record_of : Program → Situation → Record
 record_of p s = record {
   event = s.event;
-  epsr = status_of s.carry;
+  epsr = status_of s.mxm s.carry;
   sxip = slot_word s.xip;
   snip = slot_word (nip_of p s.bubble s.xip s.pc);
   sfip = slot_word (fip_of p s.bubble s.pc s.next);

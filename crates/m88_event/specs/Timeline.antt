@@ -1,11 +1,12 @@
 -- The timeline of a run: its moments, each a count of the instructions that are retired and one of the transactions
 -- that are done along the history of the sequential machine, and what a letter makes of one.
 use Rattle.std.specs.Prelude.{ℕ, zero, suc, Bool, true, false, not, List, [], ◌∷◌, ◌++◌, Option, Some, None, ◌+◌, ◌≤◌, ◌==◌, ◌&&◌, ◌||◌, if◌then◌else◌}
+use Rattle.m88_base.specs.Pages.{every_page}
 use Rattle.m88_base.specs.Slot.{no_slot}
 use Rattle.m88_base.specs.declared.slot.Slot.{Slot}
 use Rattle.m88_isa.specs.History.{pending_at, transaction_count}
 use Rattle.m88_isa.specs.Machine.{Program, Turn, changes, outputs, state, stops, turn_at}
-use Rattle.m88_event.specs.Choice.{Choice, choice_of, end_by, faults, finishes, holds, idles, issues, passes, replies, said, serves, touches_page}
+use Rattle.m88_event.specs.Choice.{Choice, choice_of, end_by, evicts, faults, finishes, holds, idles, issues, passes, replies, said, serves, touches_page}
 use Rattle.m88_event.specs.Shadow.{nip_of, retired_pointer}
 use Rattle.m88_event.specs.Situation.{Situation, record_of}
 use Rattle.m88_event.specs.declared.happened.End.{End}
@@ -15,13 +16,14 @@ use Rattle.m88_event.specs.declared.letter.Letter.{Letter}
 use Rattle.m88_event.specs.declared.record.Record.{Record}
 
 -- the instructions retired, the transactions answered or finished, the mark that the next fetched instruction is
--- passed over, the mark that the program has ended, the pages supplied, the events, the transactions answered with
--- data, and the records of the data faults
+-- passed over, the mark that the program has ended, the mark that every page was made absent, the pages supplied since,
+-- the events, the transactions answered with data, and the records of the data faults
 pub record Moment : Type 0 where
   pub retired : ℕ
   pub done : ℕ
   pub bubble : Bool
   pub ended : Bool
+  pub evicted : Bool
   pub supplied : ℕ → Bool
   pub events : ℕ
   pub answers : ℕ
@@ -34,6 +36,7 @@ opening_moment = record {
   done = 0;
   bubble = false;
   ended = false;
+  evicted = false;
   supplied = λ page. false;
   events = 0;
   answers = 0;
@@ -49,9 +52,9 @@ xip_at p (suc n) = retired_pointer (state p n).pc
 abbrev pub nip_at : Program → Moment → Slot
 nip_at p m = nip_of p m.bubble (xip_at p m.retired) (state p m.retired).pc
 
--- the pages that are absent: those that are named and weren't supplied
+-- the pages that are absent: those that are named, or every page once all were made absent, but those supplied
 abbrev pub absent_at : (ℕ → Bool) → Moment → ℕ → Bool
-absent_at named m page = named page && not (m.supplied page)
+absent_at named m page = (if m.evicted then every_page page else named page) && not (m.supplied page)
 
 -- how a turn ends a history; of one that goes on it is the limit, which no moment with the mark of the end asks for
 abbrev pub end_of_turn : Turn → End
@@ -72,6 +75,7 @@ unfoldable pub situation_at : Program → (ℕ → Bool) → ℕ → Moment → 
 situation_at p named limit m = record {
   regs = (state p m.retired).regs;
   carry = (state p m.retired).carry;
+  mxm = (state p m.retired).mxm;
   pc = (state p m.retired).pc;
   next = (state p m.retired).next;
   xip = xip_at p m.retired;
@@ -97,6 +101,7 @@ after_choice p faults fault m = record m {
   supplied = λ page. m.supplied page || touches_page (pending_at p m.retired m.done) page;
   done = transaction_count p m.retired;
 }
+after_choice p evicts fault m = record m { evicted = true; supplied = λ page. false }
 
 -- one more event is counted
 abbrev pub with_event : Moment → Moment

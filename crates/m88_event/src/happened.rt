@@ -44,7 +44,7 @@ impl fmt::Display for End {
 }
 
 /// What one event did. `Issued`, `Bubble`, `Stalled`, `Served` and `Ended` come only at `i`, `Answered` and `Faulted`
-/// only at `r`.
+/// only at `r`, `Evicted` only at `e`.
 #[derive(Clone, Copy, PartialEq, Eq, Debug)]
 pub enum Happened {
     /// An instruction was retired.
@@ -57,6 +57,8 @@ pub enum Happened {
     Answered,
     /// The oldest transaction met an absent page. The record was taken before the pending transactions were finished.
     Faulted(Record),
+    /// Every page is absent from now on.
+    Evicted,
     /// There was nothing to answer or to issue.
     Idle,
     /// The monitor put this byte into the output for a trap, which was retired.

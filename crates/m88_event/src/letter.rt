@@ -7,4 +7,6 @@ pub enum Letter {
     Issue,
     /// `r`: to answer the oldest transaction that is pending.
     Answer,
+    /// `e`: to make every page absent.
+    Evict,
 }

@@ -29,7 +29,7 @@ impl<'a> Model for Schedule<'a> {
 }
 
 impl<'a> Schedule<'a> {
-    /// The schedule of a text: no letter for `-`, else 1 to 65,536 letters `i` and `r`. None for any other text.
+    /// The schedule of a text: no letter for `-`, else 1 to 65,536 letters `i`, `r` and `e`. None for any other text.
     pub fn read(text: &'a str) -> Option<Schedule<'a>>
         ensures found { IfSome result (IsSchedule text.now) }
         ensures only { (letters : List LetterValue)
@@ -83,21 +83,25 @@ fn is_dash(bytes: &[u8]) -> bool
     if let [b'-'] = bytes { true } else { false }
 }
 
-/// Whether it is 1 to 65,536 bytes `i` and `r`.
+/// Whether it is 1 to 65,536 bytes `i`, `r` and `e`.
 fn are_letters(bytes: &[u8]) -> bool
     ensures { IsTrue result ↔ HasLetters bytes.now }
 {
     1 <= bytes.len()
         && bytes.len() <= MOST_LETTERS
-        && bytes.iter().all(|byte| *byte == b'i' || *byte == b'r')
+        && bytes
+            .iter()
+            .all(|byte| *byte == b'i' || *byte == b'r' || *byte == b'e')
 }
 
-/// The letter of a byte, `r` for any but `i`.
+/// The letter of a byte, `r` for any but `i` and `e`.
 fn letter_of(byte: u8) -> Letter
     ensures { result ≡ letter_of byte }
 {
     if byte == b'i' {
         Letter::Issue
+    } else if byte == b'e' {
+        Letter::Evict
     } else {
         Letter::Answer
     }

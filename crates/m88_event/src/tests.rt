@@ -9,6 +9,7 @@ fn texts_that_are_schedules(rt: HostRuntime) {
         ("-", [].as_slice()),
         ("i", [Letter::Issue].as_slice()),
         ("r", [Letter::Answer].as_slice()),
+        ("e", [Letter::Evict].as_slice()),
         (
             "iiir",
             [Letter::Issue, Letter::Issue, Letter::Issue, Letter::Answer].as_slice(),
@@ -47,7 +48,7 @@ fn letters_of_a_run(rt: HostRuntime) {
 #[test]
 fn texts_that_are_none(rt: HostRuntime) {
     for text in [
-        "", "--", "-i", "i-", "I", "R", "i r", " i", "i\n", "ix", "è",
+        "", "--", "-i", "i-", "I", "R", "E", "-e", "i r", " i", "i\n", "ix", "è",
     ] {
         assert!(rt; Schedule::read(text).is_none());
     }

@@ -33,16 +33,16 @@ same_value regs other set n agree inside =
     by_test (n == 0) (λ zero. rw zero refl) (λ not_zero. rw not_zero (sym (agree n (inside not_zero))))
 
 -- what an instruction means, and so its plan, is the same at every list that agrees on its registers
-pub meaning_alone : (i : Instr) (regs other : List ℕ) (carry : Bool) (pc next : ℕ) →
+pub meaning_alone : (i : Instr) (regs other : List ℕ) (carry mxm : Bool) (pc next : ℕ) →
     AgreesOn (uses_of i) regs other →
-    meaning_of i other carry pc next ≡ meaning_of i regs carry pc next
+    meaning_of i other carry mxm pc next ≡ meaning_of i regs carry mxm pc next
 unfolding uses_of
-meaning_alone i regs other carry pc next agree =
+meaning_alone i regs other carry mxm pc next agree =
     let s1 = same_value regs other (uses_of i) (number_of (s1_of i)) agree (λ h. in_left _ _ _ (in_left _ _ _ (in_own _ h))) in
     let s2 = same_value regs other (uses_of i) (number_of (s2_of i)) agree (λ h. in_left _ _ _ (in_right _ _ _ (in_own _ h))) in
     let d = same_value regs other (uses_of i) (number_of (d_of i)) agree (λ h. in_right _ _ _ (in_left _ _ _ (in_own _ h))) in
     let after_d = same_value regs other (uses_of i) (number_of (after_d_of i)) agree (λ h. in_right _ _ _ (in_right _ _ _ (in_own _ h))) in
     rw (s1, s2, d, after_d) refl
 
-pub plan_alone : (i : Instr) (regs : List ℕ) (carry : Bool) (pc next : ℕ) → IgnoresUnused i regs carry pc next
-plan_alone i regs carry pc next other agree = ap plan_for (meaning_alone i regs other carry pc next agree)
+pub plan_alone : (i : Instr) (regs : List ℕ) (carry mxm : Bool) (pc next : ℕ) → IgnoresUnused i regs carry mxm pc next
+plan_alone i regs carry mxm pc next other agree = ap plan_for (meaning_alone i regs other carry mxm pc next agree)

@@ -18,7 +18,7 @@ use Rattle.m88_isa.specs.Held.{busy_register}
 use Rattle.m88_isa.specs.Effect.{Change, Meaning, accesses, goes, inputs_of, meaning_of, raises, traps}
 use Rattle.m88_isa.specs.History.{change_accesses}
 use Rattle.m88_isa.specs.Instr.{IsValid}
-use Rattle.m88_isa.specs.Memory.{Touch, access_of, first_half, load, locked, size_of, store, touches_of}
+use Rattle.m88_isa.specs.Memory.{Touch, access_of, first_half, load, locked, rounded, size_of, store, touches_of}
 use Rattle.m88_isa.specs.Operands.{bit_of, no_register, pair_of, register_after, register_if, loads_double, writes_d, writes_of}
 use Rattle.m88_isa.specs.declared.instr.Instr.{Instr}
 use Rattle.m88_isa.specs.declared.instr.Instr.TheVariants as instr
@@ -230,33 +230,36 @@ touches_of_meaning (goes change) = change.touches
 
 -- what an access to memory at a place means
 issue_of_accesses : (set : ℕ) (op : MemOp) (d : Reg) (place : ℕ) (x : Inputs) (change : Change) →
-    IsIssue set (map access_of (touches_of op d x.d x.after_d place)) →
+    ((at : ℕ) → IsIssue set (map access_of (touches_of op d x.d x.after_d at))) →
     accesses op d place x ≡ goes change →
     IsIssue set (change_accesses change)
 unfolding touches_of_meaning
-issue_of_accesses set op d place x change issue is = by_test (place % size_of op == 0)
-    (λ t. let same : touches_of op d x.d x.after_d place ≡ change.touches = ap touches_of_meaning (rw t at is) in
-    subst (λ ts. IsIssue set (map access_of ts)) same issue)
-    (λ f. let no = rw f at is in absurd cc)
+issue_of_accesses set op d place x change issue is = by_test x.mxm
+    (λ on. let same : touches_of op d x.d x.after_d (rounded op place) ≡ change.touches = ap touches_of_meaning (rw on at is) in
+    subst (λ ts. IsIssue set (map access_of ts)) same (issue (rounded op place)))
+    (λ off. by_test (place % size_of op == 0)
+    (λ t. let same : touches_of op d x.d x.after_d place ≡ change.touches = ap touches_of_meaning (rw (off, t) at is) in
+    subst (λ ts. IsIssue set (map access_of ts)) same (issue place))
+    (λ f. let no = rw (off, f) at is in absurd cc))
 
 no_touches : (set : ℕ) (ts : List Touch) → length ts ≡ 0 → IsIssue set (map access_of ts)
 no_touches set [] h = none_issue set
 no_touches set (t ∷ ts) h = absurd (omega (arith, h))
 
 -- the accesses of an instruction load registers that it writes, and no register twice
-pub issued_apart : (i : Instr) (regs : List ℕ) (carry : Bool) (pc next : ℕ) (change : Change) → IsValid i →
-    meaning_of i regs carry pc next ≡ goes change →
+pub issued_apart : (i : Instr) (regs : List ℕ) (carry mxm : Bool) (pc next : ℕ) (change : Change) → IsValid i →
+    meaning_of i regs carry mxm pc next ≡ goes change →
     IsIssue (writes_of i) (change_accesses change)
 unfolding writes_of
-issued_apart (instr.MemImm op d s1 imm) regs carry pc next change valid is =
-    issue_of_accesses (writes_of (instr.MemImm op d s1 imm)) op d _ (inputs_of (instr.MemImm op d s1 imm) regs carry pc next) change
-    (issue_of_op op d _ _ _) is
-issued_apart (instr.MemReg op d s1 s2 scaled true) regs carry pc next change valid is = absurd cc
-issued_apart (instr.MemReg op d s1 s2 scaled false) regs carry pc next change valid is =
-    issue_of_accesses (writes_of (instr.MemReg op d s1 s2 scaled false)) op d _ (inputs_of (instr.MemReg op d s1 s2 scaled false) regs carry pc next)
-    change (issue_of_op op d _ _ _) is
-issued_apart i regs carry pc next change valid is =
-    no_touches (writes_of i) change.touches (touches_counted i regs carry pc next change valid is)
+issued_apart (instr.MemImm op d s1 imm) regs carry mxm pc next change valid is =
+    issue_of_accesses (writes_of (instr.MemImm op d s1 imm)) op d _ (inputs_of (instr.MemImm op d s1 imm) regs carry mxm pc next) change
+    (λ at. issue_of_op op d _ _ at) is
+issued_apart (instr.MemReg op d s1 s2 scaled true) regs carry mxm pc next change valid is = absurd cc
+issued_apart (instr.MemReg op d s1 s2 scaled false) regs carry mxm pc next change valid is =
+    issue_of_accesses (writes_of (instr.MemReg op d s1 s2 scaled false)) op d _ (inputs_of (instr.MemReg op d s1 s2 scaled false) regs carry mxm pc next)
+    change (λ at. issue_of_op op d _ _ at) is
+issued_apart i regs carry mxm pc next change valid is =
+    no_touches (writes_of i) change.touches (touches_counted i regs carry mxm pc next change valid is)
 
 -- accesses that load other registers than those that wait
 later_not : (a b : Bool) → (a || b) ≡ false → b ≡ false
@@ -283,12 +286,12 @@ apart_append (x ∷ xs) ys apart others new = (
 )
 
 -- where nothing holds an instruction, its accesses join the pending ones, and no two load one register
-pub issue_stays_apart : (i : Instr) (pending : List Access) (regs : List ℕ) (carry : Bool) (pc next : ℕ) (change : Change) → IsValid i →
-    meaning_of i regs carry pc next ≡ goes change →
+pub issue_stays_apart : (i : Instr) (pending : List Access) (regs : List ℕ) (carry mxm : Bool) (pc next : ℕ) (change : Change) → IsValid i →
+    meaning_of i regs carry mxm pc next ≡ goes change →
     busy_register (Some i) pending ≡ None →
     LoadApart pending →
     LoadApart (pending ++ change_accesses change)
-issue_stays_apart i pending regs carry pc next change valid is free apart =
-    let issue = issued_apart i regs carry pc next change valid is in
+issue_stays_apart i pending regs carry mxm pc next change valid is free apart =
+    let issue = issued_apart i regs carry mxm pc next change valid is in
     apart_append pending (change_accesses change) apart issue.apart
     (λ r new. none_busy (Some i) pending r free (writes_it i r (issue.within r new)))

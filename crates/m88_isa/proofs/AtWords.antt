@@ -41,19 +41,19 @@ slot_flows : (raised : Bool) (m : Meaning) → FlowsToWords (plan_for m) →
 slot_flows true m h = tt
 slot_flows false m h = h
 
-fetched_flows : (word : Option (List ℕ)) (i : Option Instr) (regs : List ℕ) (carry : Bool) (pc next : ℕ) →
-    pc % 4 ≡ 0 → next % 4 ≡ 0 → TurnFlows (fetched word i regs carry pc next)
-fetched_flows None i regs carry pc next here behind = tt
-fetched_flows (Some word) None regs carry pc next here behind = tt
-fetched_flows (Some word) (Some i) regs carry pc next here behind =
-    meaning_flows (meaning_of i regs carry pc next) regs pc
-    (slot_flows (is_flow i && not (next == after_bytes pc 4)) (effect i (inputs_of i regs carry pc next))
-    (effect_flows i regs carry pc next here behind))
+fetched_flows : (word : Option (List ℕ)) (i : Option Instr) (regs : List ℕ) (carry mxm : Bool) (pc next : ℕ) →
+    pc % 4 ≡ 0 → next % 4 ≡ 0 → TurnFlows (fetched word i regs carry mxm pc next)
+fetched_flows None i regs carry mxm pc next here behind = tt
+fetched_flows (Some word) None regs carry mxm pc next here behind = tt
+fetched_flows (Some word) (Some i) regs carry mxm pc next here behind =
+    meaning_flows (meaning_of i regs carry mxm pc next) regs pc
+    (slot_flows (is_flow i && not (next == after_bytes pc 4)) (effect i (inputs_of i regs carry mxm pc next))
+    (effect_flows i regs carry mxm pc next here behind))
 
 -- a program's turn at words goes on at words
-pub turn_flows : (p : Program) (regs : List ℕ) (carry : Bool) (pc next : ℕ) → pc % 4 ≡ 0 → next % 4 ≡ 0 →
-    TurnFlows (turn p regs carry pc next)
-turn_flows p regs carry pc next = fetched_flows (four_bytes p.byte pc) (p.instruction pc) regs carry pc next
+pub turn_flows : (p : Program) (regs : List ℕ) (carry mxm : Bool) (pc next : ℕ) → pc % 4 ≡ 0 → next % 4 ≡ 0 →
+    TurnFlows (turn p regs carry mxm pc next)
+turn_flows p regs carry mxm pc next = fetched_flows (four_bytes p.byte pc) (p.instruction pc) regs carry mxm pc next
 
 -- accesses leave both addresses
 touches_stay : (ts : List Touch) (s : State) →
@@ -75,7 +75,7 @@ state_words p zero = record { here = omega arith; behind = omega arith }
 state_words p (suc n) =
     let at = state_words p n in
     after_turn_words (turn_at p (state p n)) (state p n)
-    (turn_flows p (state p n).regs (state p n).carry (state p n).pc (state p n).next at.here at.behind) at
+    (turn_flows p (state p n).regs (state p n).carry (state p n).mxm (state p n).pc (state p n).next at.here at.behind) at
 
 -- behind a branch without a delay slot the next two instructions follow one another
 pub state_straight : (p : Program) (n : ℕ) (change : Change) → turn_at p (state p n) ≡ changes change →
@@ -85,6 +85,6 @@ state_straight p n change e flows =
     let at = state_words p n in
     let fits : FlowFits change.after change.bubble =
     subst TurnFlows e
-    (turn_flows p (state p n).regs (state p n).carry (state p n).pc (state p n).next at.here at.behind) in
+    (turn_flows p (state p n).regs (state p n).carry (state p n).mxm (state p n).pc (state p n).next at.here at.behind) in
     let same = touches_stay change.touches _ in
     rw (add-one, e) (same.1 ∙ fits.straight flows ∙ ap (λ a. after_bytes a 4) (sym same.0))

@@ -22,6 +22,6 @@ twice_at_most p zero is = omega arith
 twice_at_most p (suc n) is =
     let before = twice_at_most p n is in
     let s = state p n in
-    let two = two_at_most (turn_at p s) (turn_fits p s.regs s.carry s.pc s.next is) in
+    let two = two_at_most (turn_at p s) (turn_fits p s.regs s.carry s.mxm s.pc s.next is) in
     let sum = length-append (transactions p n) (turn_accesses (turn_at p s)) in
     omega (arith, before, two, sum)

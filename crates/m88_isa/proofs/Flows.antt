@@ -39,7 +39,9 @@ computes_fits d (Gives value carry) x at = straight_on x at
 computes_fits d (Raises vector) x at = tt
 
 accesses_fits : (op : MemOp) (d : Reg) (place : ℕ) (x : Inputs) → AtWords x → MeaningFits (accesses op d place x)
-accesses_fits op d place x at = by_test (place % size_of op == 0) (λ t. rw t (straight_on x at)) (λ f. rw f tt)
+accesses_fits op d place x at = by_test x.mxm
+    (λ on. rw on (straight_on x at))
+    (λ off. rw off (by_test (place % size_of op == 0) (λ t. rw t (straight_on x at)) (λ f. rw f tt)))
 
 indexed_fits : (op : MemOp) (d : Reg) (scaled usr : Bool) (x : Inputs) → AtWords x →
     MeaningFits (indexed op d scaled usr x)
@@ -107,8 +109,8 @@ of_plan (traps vector) h = tt
 of_plan (goes change) h = h
 
 -- the plan of what an instruction does, a change of flow in a taken delay slot aside, goes on at words
-pub effect_flows : (i : Instr) (regs : List ℕ) (carry : Bool) (pc next : ℕ) → pc % 4 ≡ 0 → next % 4 ≡ 0 →
-    FlowsToWords (plan_for (effect i (inputs_of i regs carry pc next)))
-effect_flows i regs carry pc next here behind =
-    let x = inputs_of i regs carry pc next in
+pub effect_flows : (i : Instr) (regs : List ℕ) (carry mxm : Bool) (pc next : ℕ) → pc % 4 ≡ 0 → next % 4 ≡ 0 →
+    FlowsToWords (plan_for (effect i (inputs_of i regs carry mxm pc next)))
+effect_flows i regs carry mxm pc next here behind =
+    let x = inputs_of i regs carry mxm pc next in
     of_plan (effect i x) (effect_fits i x (record { pc = here; next = behind }))

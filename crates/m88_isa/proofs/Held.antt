@@ -135,12 +135,12 @@ uses_below i r h =
 
 -- an instruction that nothing holds means after the pending accesses what it means of values that are right where nothing
 -- waits
-pub meaning_seen : (i : Instr) (pending : List Access) (c : Cells) (shown : List ℕ) (carry : Bool) (pc next : ℕ) →
+pub meaning_seen : (i : Instr) (pending : List Access) (c : Cells) (shown : List ℕ) (carry mxm : Bool) (pc next : ℕ) →
     busy_register (Some i) pending ≡ None →
     ((r : ℕ) → r < 32 → waits_for pending r ≡ false → slice_index shown r ≡ slice_index c.regs r) →
-    meaning_of i shown carry pc next ≡ meaning_of i (after_accesses pending c).regs carry pc next
-meaning_seen i pending c shown carry pc next free right =
-    meaning_alone i (after_accesses pending c).regs shown carry pc next
+    meaning_of i shown carry mxm pc next ≡ meaning_of i (after_accesses pending c).regs carry mxm pc next
+meaning_seen i pending c shown carry mxm pc next free right =
+    meaning_alone i (after_accesses pending c).regs shown carry mxm pc next
     (λ r used. let ready : waits_for pending r ≡ false = none_busy (Some i) pending r free (uses_it i r used) in
     by_test (r == 0)
     (λ is_zero. absurd (never_zero i r is_zero used))

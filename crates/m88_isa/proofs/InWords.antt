@@ -103,6 +103,7 @@ change_agrees change s bytes aligned =
     ∙ ap (λ (c : Cells). record {
       regs = c.regs;
       carry = change.carry;
+      mxm = s.mxm;
       pc = change.after.0;
       next = change.after.1;
       bus = c.bus;
@@ -141,7 +142,7 @@ pub state_agrees : (p : Program) (n : ℕ) → IsProgram p →
 unfolding state
 state_agrees p n is =
     turn_agrees (turn_at p (state p n)) (state p n) (state_bytes p n is)
-    (turn_fits p (state p n).regs (state p n).carry (state p n).pc (state p n).next is)
+    (turn_fits p (state p n).regs (state p n).carry (state p n).mxm (state p n).pc (state p n).next is)
 
 -- memory in words after the transactions of some steps
 pub bus_of_append : (xs ys : List Access) (bus : ℕ → ℕ) →

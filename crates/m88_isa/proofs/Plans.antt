@@ -15,7 +15,7 @@ use Rattle.m88_isa.specs.Fields.{bit_field, find_bit, offset_in, width_in, width
 use Rattle.m88_isa.specs.Flow.{bit_is, class_in, words_away}
 use Rattle.m88_isa.specs.Instr.{IsValid}
 use Rattle.m88_isa.specs.Lanes.{IsAligned, IsEnable, enable_of}
-use Rattle.m88_isa.specs.Memory.{AreWordAccesses, IsWordAccess, Touch, access_of, first_half, load, locked, recorded, size_of, store, touches_of}
+use Rattle.m88_isa.specs.Memory.{AreWordAccesses, IsWordAccess, Touch, access_of, first_half, load, locked, recorded, rounded, size_of, store, touches_of}
 use Rattle.m88_isa.specs.Operands.{access_count_of, accesses_of, bit_of, is_flow, link_register, no_register, pair_of, register_after, register_if, writes_of}
 use Rattle.m88_isa.specs.Vector.{IsRaised, first_user_vector, misaligned, overflow, unit_vector}
 use Rattle.m88_isa.specs.declared.planned.Computed.{Computed}
@@ -181,6 +181,21 @@ touches_fit memop.StH d value second place h =
     one_fits (store 2 value place) (store_fits 2 value place (inr (inl (refl, h))))
 touches_fit memop.StB d value second place h = one_fits (store 1 value place) (store_fits 1 value place (inl refl))
 
+-- a place that is rounded down is such a multiple, and no higher
+pub rounded_fits : (op : MemOp) (place : ℕ) → (rounded op place % size_of op ≡ 0) × (rounded op place ≤ place)
+rounded_fits memop.XmemBu place = (omega arith, omega arith)
+rounded_fits memop.Xmem place = (omega arith, omega arith)
+rounded_fits memop.LdHu place = (omega arith, omega arith)
+rounded_fits memop.LdBu place = (omega arith, omega arith)
+rounded_fits memop.LdD place = (omega arith, omega arith)
+rounded_fits memop.Ld place = (omega arith, omega arith)
+rounded_fits memop.LdH place = (omega arith, omega arith)
+rounded_fits memop.LdB place = (omega arith, omega arith)
+rounded_fits memop.StD place = (omega arith, omega arith)
+rounded_fits memop.St place = (omega arith, omega arith)
+rounded_fits memop.StH place = (omega arith, omega arith)
+rounded_fits memop.StB place = (omega arith, omega arith)
+
 -- the law of each kind of meaning
 written_within : (d after : Reg) (value : ℕ)
     → IfSome (written d value) (λ write. bit_at (pair_of d after) (number_of write.0) ≡ 1)
@@ -201,9 +216,11 @@ computes_lawful d (Raises vector) x listed = listed
 
 accesses_lawful : (set : ℕ) (op : MemOp) (d : Reg) (place : ℕ) (x : Inputs)
     → IsLawful (accesses_of op) set (accesses op d place x)
-accesses_lawful set op d place x = by_test (place % size_of op == 0)
+accesses_lawful set op d place x = by_test x.mxm
+    (λ on. rw on (touches_fit op d x.d x.after_d (rounded op place) (rounded_fits op place).0, tt))
+    (λ off. rw off (by_test (place % size_of op == 0)
     (λ t. let fit = touches_fit op d x.d x.after_d place (eqb-true (place % size_of op) 0 t) in rw t (fit, tt))
-    (λ f. rw f (early 4 (omega arith) (omega arith)))
+    (λ f. rw f (early 4 (omega arith) (omega arith)))))
 
 indexed_lawful : (set : ℕ) (op : MemOp) (d : Reg) (scaled usr : Bool) (x : Inputs)
     → IsLawful (if usr then 0 else accesses_of op) set (indexed op d scaled usr x)
@@ -273,11 +290,11 @@ effect_lawful (instr.Xcr d s1 cr float) x valid = controls_lawful 0 (writes_of (
 effect_lawful (instr.Sfu unit rest) x valid = unit_listed unit valid.0 valid.1
 
 -- the law of what an instruction means, in a taken delay slot too
-pub lawful : (i : Instr) (regs : List ℕ) (carry : Bool) (pc next : ℕ) → IsValid i
-    → IsLawful (access_count_of i) (writes_of i) (meaning_of i regs carry pc next)
-lawful i regs carry pc next valid = by_test (is_flow i && not (next == after_bytes pc 4))
+pub lawful : (i : Instr) (regs : List ℕ) (carry mxm : Bool) (pc next : ℕ) → IsValid i
+    → IsLawful (access_count_of i) (writes_of i) (meaning_of i regs carry mxm pc next)
+lawful i regs carry mxm pc next valid = by_test (is_flow i && not (next == after_bytes pc 4))
     (λ t. rw t (early 5 (omega arith) (omega arith)))
-    (λ f. rw f (effect_lawful i (inputs_of i regs carry pc next) valid))
+    (λ f. rw f (effect_lawful i (inputs_of i regs carry mxm pc next) valid))
 
 -- what the law says of a plan
 pub made_of : (count set : ℕ) (m : Meaning) → IsLawful count set m → MakesAccesses count (plan_for m)
@@ -305,16 +322,16 @@ aligned_of count set (raises vector) h = tt
 aligned_of count set (traps vector) h = tt
 aligned_of count set (goes change) h = h.0.aligned
 
-pub touches_aligned : (i : Instr) (regs : List ℕ) (carry : Bool) (pc next : ℕ) → IsValid i
-    → TouchesAligned (meaning_of i regs carry pc next)
-touches_aligned i regs carry pc next valid =
-    aligned_of (access_count_of i) (writes_of i) (meaning_of i regs carry pc next) (lawful i regs carry pc next valid)
+pub touches_aligned : (i : Instr) (regs : List ℕ) (carry mxm : Bool) (pc next : ℕ) → IsValid i
+    → TouchesAligned (meaning_of i regs carry mxm pc next)
+touches_aligned i regs carry mxm pc next valid =
+    aligned_of (access_count_of i) (writes_of i) (meaning_of i regs carry mxm pc next) (lawful i regs carry mxm pc next valid)
 
 -- for the crates above: an instruction that goes on makes exactly its count of accesses, which is at most two
-pub touches_counted : (i : Instr) (regs : List ℕ) (carry : Bool) (pc next : ℕ) (change : Change) → IsValid i
-    → meaning_of i regs carry pc next ≡ goes change → length change.touches ≡ access_count_of i
-touches_counted i regs carry pc next change valid is =
-    let law = subst (IsLawful (access_count_of i) (writes_of i)) is (lawful i regs carry pc next valid) in law.0.counted
+pub touches_counted : (i : Instr) (regs : List ℕ) (carry mxm : Bool) (pc next : ℕ) (change : Change) → IsValid i
+    → meaning_of i regs carry mxm pc next ≡ goes change → length change.touches ≡ access_count_of i
+touches_counted i regs carry mxm pc next change valid is =
+    let law = subst (IsLawful (access_count_of i) (writes_of i)) is (lawful i regs carry mxm pc next valid) in law.0.counted
 
 most_of : (op : MemOp) → accesses_of op ≤ 2
 most_of op = grind arith

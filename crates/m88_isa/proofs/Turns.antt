@@ -47,17 +47,17 @@ carried_out_fits count set (goes change) regs pc most h =
     let counted = h.0.counted in
     record { aligned = h.0.aligned; short = omega (arith, counted, most) }
 
-fetched_fits : (word : Option (List ℕ)) (i : Option Instr) (regs : List ℕ) (carry : Bool) (pc next : ℕ) → IfSome i IsValid →
-    TurnFits (fetched word i regs carry pc next)
-fetched_fits None i regs carry pc next valid = tt
-fetched_fits (Some word) None regs carry pc next valid = tt
-fetched_fits (Some word) (Some i) regs carry pc next valid =
-    carried_out_fits (access_count_of i) (writes_of i) (meaning_of i regs carry pc next) regs pc (at_most_two i)
-    (lawful i regs carry pc next valid)
+fetched_fits : (word : Option (List ℕ)) (i : Option Instr) (regs : List ℕ) (carry mxm : Bool) (pc next : ℕ) → IfSome i IsValid →
+    TurnFits (fetched word i regs carry mxm pc next)
+fetched_fits None i regs carry mxm pc next valid = tt
+fetched_fits (Some word) None regs carry mxm pc next valid = tt
+fetched_fits (Some word) (Some i) regs carry mxm pc next valid =
+    carried_out_fits (access_count_of i) (writes_of i) (meaning_of i regs carry mxm pc next) regs pc (at_most_two i)
+    (lawful i regs carry mxm pc next valid)
 
-pub turn_fits : (p : Program) (regs : List ℕ) (carry : Bool) (pc next : ℕ) → IsProgram p → TurnFits (turn p regs carry pc next)
-turn_fits p regs carry pc next is =
-    fetched_fits (four_bytes p.byte pc) (p.instruction pc) regs carry pc next (is.instructions pc)
+pub turn_fits : (p : Program) (regs : List ℕ) (carry mxm : Bool) (pc next : ℕ) → IsProgram p → TurnFits (turn p regs carry mxm pc next)
+turn_fits p regs carry mxm pc next is =
+    fetched_fits (four_bytes p.byte pc) (p.instruction pc) regs carry mxm pc next (is.instructions pc)
 
 -- what the data unit gets of at most two accesses is all of them
 pub listed_recorded : (ts : List Touch) → length ts ≤ 2 → listed (recorded ts) ≡ map access_of ts
@@ -77,7 +77,9 @@ computes_not d (Gives value carry) x h = h
 computes_not d (Raises vector) x h = h
 
 accesses_not : (op : MemOp) (d : Reg) (place : ℕ) (x : Inputs) → IsTaken (accesses op d place x) → ⊥
-accesses_not op d place x = by_test (place % size_of op == 0) (λ t. rw t (λ h. h)) (λ f. rw f (λ h. h))
+accesses_not op d place x = by_test x.mxm
+    (λ on. rw on (λ h. h))
+    (λ off. rw off (by_test (place % size_of op == 0) (λ t. rw t (λ h. h)) (λ f. rw f (λ h. h))))
 
 indexed_not : (op : MemOp) (d : Reg) (scaled usr : Bool) (x : Inputs) → IsTaken (indexed op d scaled usr x) → ⊥
 indexed_not op d scaled true x h = h
@@ -118,11 +120,11 @@ effect_taken (instr.Xcr d s1 cr float) x h = absurd (controls_not float h)
 effect_taken (instr.Sfu unit rest) x h = absurd h
 
 -- an instruction that means a taken trap waits for an empty data unit
-pub traps_wait : (i : Instr) (regs : List ℕ) (carry : Bool) (pc next vector : ℕ) →
-    meaning_of i regs carry pc next ≡ traps vector →
+pub traps_wait : (i : Instr) (regs : List ℕ) (carry mxm : Bool) (pc next vector : ℕ) →
+    meaning_of i regs carry mxm pc next ≡ traps vector →
     waits_for_empty i ≡ true
-traps_wait i regs carry pc next vector e =
-    let taken : IsTaken (meaning_of i regs carry pc next) = rw e tt in
+traps_wait i regs carry mxm pc next vector e =
+    let taken : IsTaken (meaning_of i regs carry mxm pc next) = rw e tt in
     by_test (is_flow i && not (next == after_bytes pc 4))
     (λ t. absurd (rw t at taken))
-    (λ f. effect_taken i (inputs_of i regs carry pc next) (rw f at taken))
+    (λ f. effect_taken i (inputs_of i regs carry mxm pc next) (rw f at taken))

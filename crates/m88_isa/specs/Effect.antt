@@ -11,7 +11,7 @@ use Rattle.m88_isa.specs.Compute.{immediate, registers}
 use Rattle.m88_isa.specs.Fields.{bit_field, find_bit, offset_in, width_in, width_of}
 use Rattle.m88_isa.specs.Flow.{FlowFits, bit_is, class_in, words_away}
 use Rattle.m88_isa.specs.Lanes.{IsAligned}
-use Rattle.m88_isa.specs.Memory.{AreWordAccesses, Touch, recorded, size_of, touches_of}
+use Rattle.m88_isa.specs.Memory.{AreWordAccesses, Touch, recorded, rounded, size_of, touches_of}
 use Rattle.m88_isa.specs.Operands.{after_d_of, d_of, is_flow, link_register, s1_of, s2_of, uses_of}
 use Rattle.m88_isa.specs.Vector.{IsRaised, first_user_vector, misaligned, out_of_bounds, privilege, unimplemented, unit_vector}
 use Rattle.m88_isa.specs.declared.planned.Computed.{Computed}
@@ -62,10 +62,15 @@ abbrev pub computes : Reg → Computed → Inputs → Meaning
 computes d (Gives value carry) x = goes (record (goes_on x) { register = written d value; carry = carry })
 computes d (Raises vector) x = raises vector
 
--- an access to memory at an address: a multiple of the size of the datum
+-- the accesses to memory at an address
+abbrev pub makes : MemOp → Reg → ℕ → Inputs → Meaning
+makes op d place x = goes (record (goes_on x) { touches = touches_of op d x.d x.after_d place })
+
+-- the same at an address that must be a multiple of the size of the datum, or with MXM set is rounded down to one
 abbrev pub accesses : MemOp → Reg → ℕ → Inputs → Meaning
 accesses op d place x =
-    if place % size_of op == 0 then goes (record (goes_on x) { touches = touches_of op d x.d x.after_d place })
+    if x.mxm then makes op d (rounded op place) x
+    else if place % size_of op == 0 then makes op d place x
     else raises misaligned
 
 -- the same with an index, which counts data of that size where it is scaled; the forms for the user's address space
@@ -131,24 +136,25 @@ effect (instr.Sfu unit rest) x = raises (unit_vector unit)
 abbrev pub register : List ℕ → Reg → ℕ
 register regs r = if number_of r == 0 then 0 else slice_index regs (number_of r)
 
--- what an instruction has to go by: the registers that it reads, the carry, its address and the following one
-abbrev pub inputs_of : Instr → List ℕ → Bool → ℕ → ℕ → Inputs
-inputs_of i regs carry pc next = record {
+-- what an instruction has to go by: the registers that it reads, the carry, MXM, its address and the following one
+abbrev pub inputs_of : Instr → List ℕ → Bool → Bool → ℕ → ℕ → Inputs
+inputs_of i regs carry mxm pc next = record {
   s1 = register regs (s1_of i);
   s2 = register regs (s2_of i);
   d = register regs (d_of i);
   after_d = register regs (after_d_of i);
   carry = carry;
+  mxm = mxm;
   pc = pc;
   next = next;
 }
 
 -- what an instruction does: in a taken delay slot, where the next address isn't the one behind it, a change of flow is
 -- unimplemented before it raises anything else
-abbrev pub meaning_of : Instr → List ℕ → Bool → ℕ → ℕ → Meaning
-meaning_of i regs carry pc next =
+abbrev pub meaning_of : Instr → List ℕ → Bool → Bool → ℕ → ℕ → Meaning
+meaning_of i regs carry mxm pc next =
     if is_flow i && not (next == after_bytes pc 4) then raises unimplemented
-    else effect i (inputs_of i regs carry pc next)
+    else effect i (inputs_of i regs carry mxm pc next)
 
 -- the meaning with its accesses as the data unit records them
 abbrev pub recorded_change : Change → Effect
@@ -166,9 +172,9 @@ plan_for (raises vector) = Raise vector
 plan_for (traps vector) = Trap vector
 plan_for (goes c) = Go (recorded_change c)
 
--- the plan of an instruction: of the registers and the carry, at an address, with the address that follows
-abbrev pub plan_of : Instr → List ℕ → Bool → ℕ → ℕ → Plan
-plan_of i regs carry pc next = plan_for (meaning_of i regs carry pc next)
+-- the plan of an instruction: of the registers, the carry and MXM, at an address, with the address that follows
+abbrev pub plan_of : Instr → List ℕ → Bool → Bool → ℕ → ℕ → Plan
+plan_of i regs carry mxm pc next = plan_for (meaning_of i regs carry mxm pc next)
 
 -- a fact about the changes of a plan that goes on
 abbrev pub IfGo : Plan → (Effect → Type 0) → Type 0
@@ -222,6 +228,6 @@ AgreesOn registers regs other =
     (r : ℕ) → bit_at registers r ≡ 1 → slice_index regs r ≡ slice_index other r
 
 -- the plan looks at no register outside those that the instruction uses
-abbrev pub IgnoresUnused : Instr → List ℕ → Bool → ℕ → ℕ → Type 0
-IgnoresUnused i regs carry pc next =
-    (other : List ℕ) → AgreesOn (uses_of i) regs other → plan_of i other carry pc next ≡ plan_of i regs carry pc next
+abbrev pub IgnoresUnused : Instr → List ℕ → Bool → Bool → ℕ → ℕ → Type 0
+IgnoresUnused i regs carry mxm pc next =
+    (other : List ℕ) → AgreesOn (uses_of i) regs other → plan_of i other carry mxm pc next ≡ plan_of i regs carry mxm pc next

@@ -40,6 +40,7 @@ bus_at p n done = bus_after_all (take done (transactions p n)) (in_words (openin
 pub record Completed : Type 0 where
   pub regs : List ℕ
   pub carry : Bool
+  pub mxm : Bool
   pub pc : ℕ
   pub next : ℕ
   pub bus : ℕ → ℕ
@@ -50,6 +51,7 @@ unfoldable pub completed_state : State → Completed
 completed_state s = record {
   regs = s.regs;
   carry = s.carry;
+  mxm = s.mxm;
   pc = s.pc;
   next = s.next;
   bus = in_words s.memory;
@@ -66,6 +68,7 @@ unfoldable pub after_turn : Turn → Completed → Completed
 after_turn (changes change) c = record {
   regs = (cells_after change c).regs;
   carry = change.carry;
+  mxm = c.mxm;
   pc = change.after.0;
   next = change.after.1;
   bus = (cells_after change c).bus;

@@ -15,8 +15,10 @@ use Rattle.m88_isa.specs.declared.monitor.Service.{Service}
 use Rattle.m88_isa.specs.declared.monitor.Service.TheVariants.{Out, End, Unserved}
 
 -- what is run: a start address, the byte that stands at an address, if one does, and the instruction of the word at an
--- address, if its word is one. A source or an image says which these are.
+-- address, if its word is one: a source or an image says which these are; and the mode that it is run in, with MXM set
+-- where accesses that aren't aligned are rounded down.
 pub record Program : Type 0 where
+  pub mxm : Bool
   pub start : ℕ
   pub byte : ℕ → Option ℕ
   pub instruction : ℕ → Option Instr
@@ -26,11 +28,12 @@ pub record IsProgram (p : Program) : Type 0 where
   pub bytes : (a : ℕ) → IfSome (p.byte a) (λ byte. byte < 2 ^ 8)
   pub instructions : (a : ℕ) → IfSome (p.instruction a) IsValid
 
--- the 32 registers, the carry, the address of the instruction that is carried out next and of the one that follows it,
--- the data memory byte by byte, and the output so far
+-- the 32 registers, the carry, MXM, which no step changes, the address of the instruction that is carried out next and of
+-- the one that follows it, the data memory byte by byte, and the output so far
 pub record State : Type 0 where
   pub regs : List ℕ
   pub carry : Bool
+  pub mxm : Bool
   pub pc : ℕ
   pub next : ℕ
   pub memory : ℕ → ℕ
@@ -41,6 +44,7 @@ unfoldable pub opening : Program → State
 opening p = record {
   regs = replicate 32 0;
   carry = false;
+  mxm = p.mxm;
   pc = word_address p.start;
   next = after_bytes (word_address p.start) 4;
   memory = λ a. unwrap_or (p.byte a) 0;
@@ -115,22 +119,22 @@ carried_out (traps vector) regs pc = trapped vector regs pc
 carried_out (goes change) regs pc = changes change
 
 -- the same by the instruction; a word that is none is unimplemented
-abbrev pub executed : Option Instr → List ℕ → Bool → ℕ → ℕ → Turn
-executed None regs carry pc next = stops (by_vector unimplemented pc)
-executed (Some i) regs carry pc next = carried_out (meaning_of i regs carry pc next) regs pc
+abbrev pub executed : Option Instr → List ℕ → Bool → Bool → ℕ → ℕ → Turn
+executed None regs carry mxm pc next = stops (by_vector unimplemented pc)
+executed (Some i) regs carry mxm pc next = carried_out (meaning_of i regs carry mxm pc next) regs pc
 
 -- the same by the word that was fetched, if it could be
-abbrev pub fetched : Option (List ℕ) → Option Instr → List ℕ → Bool → ℕ → ℕ → Turn
-fetched None i regs carry pc next = stops (by_vector instruction_access pc)
-fetched (Some word) i regs carry pc next = executed i regs carry pc next
+abbrev pub fetched : Option (List ℕ) → Option Instr → List ℕ → Bool → Bool → ℕ → ℕ → Turn
+fetched None i regs carry mxm pc next = stops (by_vector instruction_access pc)
+fetched (Some word) i regs carry mxm pc next = executed i regs carry mxm pc next
 
--- the turn of a program at an address, of the registers and the carry, with the address that follows
-abbrev pub turn : Program → List ℕ → Bool → ℕ → ℕ → Turn
-turn p regs carry pc next = fetched (four_bytes p.byte pc) (p.instruction pc) regs carry pc next
+-- the turn of a program at an address, of the registers, the carry and MXM, with the address that follows
+abbrev pub turn : Program → List ℕ → Bool → Bool → ℕ → ℕ → Turn
+turn p regs carry mxm pc next = fetched (four_bytes p.byte pc) (p.instruction pc) regs carry mxm pc next
 
 -- the turn at a state
 abbrev pub turn_at : Program → State → Turn
-turn_at p s = turn p s.regs s.carry s.pc s.next
+turn_at p s = turn p s.regs s.carry s.mxm s.pc s.next
 
 -- one step: on to the next state, with the mark that a fetched instruction is passed over, or the end
 pub data Step : Type 0 where

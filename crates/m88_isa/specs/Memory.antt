@@ -1,6 +1,6 @@
 -- The accesses of the load, store and exchange instructions ("Instruction Set": load, store and exchange instructions;
 -- "Control Registers": the registers of a data transaction).
-use Rattle.std.specs.Prelude.{ℕ, Bool, true, false, List, [], ◌∷◌, ◌%◌, ◌≡◌, ◌<◌}
+use Rattle.std.specs.Prelude.{ℕ, Bool, true, false, List, [], ◌∷◌, ◌*◌, ◌/◌, ◌%◌, ◌≡◌, ◌<◌}
 use Rattle.m88_base.specs.declared.reg.Reg.{Reg}
 use Rattle.m88_isa.specs.Address.{after_bytes, word_address}
 use Rattle.m88_isa.specs.Lanes.{IsEnable, enable_of}
@@ -69,6 +69,10 @@ size_of memop.StD = 8
 size_of memop.St = 4
 size_of memop.StH = 2
 size_of memop.StB = 1
+
+-- an address rounded down to a multiple of that size
+abbrev pub rounded : MemOp → ℕ → ℕ
+rounded op place = place / size_of op * size_of op
 
 -- the accesses of a memory mnemonic at a place, in order; `value` is what D holds and `second` what the register after
 -- D holds

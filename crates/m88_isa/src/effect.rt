@@ -35,29 +35,30 @@ use crate::planned::{Computed, Effect, Inputs, Plan};
 use crate::vector::{PRIVILEGE, UNIMPLEMENTED, unit_vector};
 use m88_base::Reg;
 
-/// What an instruction does at the byte address `pc`, where `next` is the address of the one that follows. A change
-/// of flow in a taken delay slot, where that isn't `pc` + 4, raises before anything else.
-pub fn plan(instr: &Instr, regs: &[u32; 32], carry: bool, pc: u32, next: u32) -> Plan
+/// What an instruction does at the byte address `pc`, where `next` is the address of the one that follows. With `mxm`, the
+/// bit MXM of PSR, the address of an access is rounded down to a multiple of its size; without it one that isn't such a
+/// multiple raises. A change of flow in a taken delay slot, where `next` isn't `pc` + 4, raises before anything else.
+pub fn plan(instr: &Instr, regs: &[u32; 32], carry: bool, mxm: bool, pc: u32, next: u32) -> Plan
     requires { IsValid instr.now }
-    ensures value { result ≡ plan_of instr.now regs.now carry pc next }
+    ensures value { result ≡ plan_of instr.now regs.now carry mxm pc next }
     ensures accesses { MakesAccesses (access_count_of instr.now) result }
     ensures register { WritesWithin (writes_of instr.now) result }
     ensures trap { TrapsForUser result }
     ensures raise { RaisesListed result }
-    ensures aligned { TouchesAligned (meaning_of instr.now regs.now carry pc next) }
+    ensures aligned { TouchesAligned (meaning_of instr.now regs.now carry mxm pc next) }
     ensures flow { pc % 4 ≡ 0 → next % 4 ≡ 0 → FlowsToWords result }
-    ensures alone { IgnoresUnused instr.now regs.now carry pc next }
+    ensures alone { IgnoresUnused instr.now regs.now carry mxm pc next }
 {
     if is_flow(instr) && next != pc.wrapping_add(4) {
         Plan::Raise(UNIMPLEMENTED)
     } else {
-        effect(instr, inputs_of(instr, regs, carry, pc, next))
+        effect(instr, inputs_of(instr, regs, carry, mxm, pc, next))
     }
 }
 
 /// What an instruction reads.
-fn inputs_of(instr: &Instr, regs: &[u32; 32], carry: bool, pc: u32, next: u32) -> Inputs
-    ensures { result ≡ inputs_of instr.now regs.now carry pc next }
+fn inputs_of(instr: &Instr, regs: &[u32; 32], carry: bool, mxm: bool, pc: u32, next: u32) -> Inputs
+    ensures { result ≡ inputs_of instr.now regs.now carry mxm pc next }
 {
     Inputs {
         s1: register(regs, s1_of(instr)),
@@ -65,6 +66,7 @@ fn inputs_of(instr: &Instr, regs: &[u32; 32], carry: bool, pc: u32, next: u32) -
         d: register(regs, d_of(instr)),
         after_d: register(regs, after_d_of(instr)),
         carry,
+        mxm,
         pc,
         next,
     }

@@ -1,7 +1,7 @@
 //! The accesses of loads, stores and exchanges ("Instruction Set": load, store and exchange instructions).
 
 ghost use Rattle.std.specs.Prelude.{◌≡◌, ◌≤◌, [], true};
-ghost use Rattle.m88_isa.specs.Effect.{accesses, plan_for};
+ghost use Rattle.m88_isa.specs.Effect.{accesses, makes, plan_for};
 ghost use Rattle.m88_isa.specs.Memory.{access_of, load, no_access, recorded, size_of, store, touches_of};
 
 use crate::address::word_address;
@@ -17,14 +17,24 @@ use m88_base::Reg;
 pub(crate) fn accesses(op: MemOp, d: Reg, place: u32, x: Inputs) -> Plan
     ensures { result ≡ plan_for (accesses op d place x) }
 {
-    if place % size_of(op) == 0 {
-        Plan::Go(Effect {
-            accesses: touches_of(op, d, x.d, x.after_d, place),
-            ..goes_on(x)
-        })
+    let size = size_of(op);
+    if x.mxm {
+        makes(op, d, place / size * size, x)
+    } else if place % size == 0 {
+        makes(op, d, place, x)
     } else {
         Plan::Raise(MISALIGNED)
     }
+}
+
+/// The accesses of a memory instruction at an aligned byte address.
+fn makes(op: MemOp, d: Reg, place: u32, x: Inputs) -> Plan
+    ensures { result ≡ plan_for (makes op d place x) }
+{
+    Plan::Go(Effect {
+        accesses: touches_of(op, d, x.d, x.after_d, place),
+        ..goes_on(x)
+    })
 }
 
 /// The bytes of a datum, of which its address is a multiple.

@@ -1,6 +1,7 @@
 //! A bit for each of the pages, 32 to a word.
 ghost use Rattle.std.specs.Prelude.{◌≡◌, ◌<◌, ◌*◌, ◌||◌, ◌==◌, ℕ, All, false, length, nat_lt, slice_index_or, if◌then◌else◌, IfOk};
 ghost use Rattle.std.specs.List.{list_any};
+ghost use Rattle.m88_base.specs.Pages.{every_page};
 ghost use Rattle.m88_mem.specs.Frames.{is_marked, mark_words};
 ghost use Rattle.m88_mem.specs.Marks.{NamesPages, absent_in, with_page};
 
@@ -80,4 +81,13 @@ pub(crate) fn is_marked(words: &[u32], page: u32) -> bool
     ensures { result ≡ is_marked words.now page }
 {
     (words[(page / PAGES) as usize] >> (page % PAGES)) % 2 == 1
+}
+
+/// Sets the bit of every page.
+pub(crate) fn mark_all(words: &mut Vec<u32>)
+    requires { length words.old.items ≡ mark_words }
+    ensures long { length words.new.items ≡ length words.old.items }
+    ensures each { (p : ℕ) → is_marked words.new.items p ≡ every_page p }
+{
+    words.fill(u32::MAX);
 }

@@ -8,7 +8,7 @@ m88_isa::specs::Bus::with_word))]
 ghost use Rattle.std.specs.Prelude.{◌≡◌, ◌++◌, ◌∷◌, [], ◌+◌, ◌*◌, ◌/◌, ◌%◌, ◌<◌, ◌↔◌, ℕ, true, false, Some, length, replicate, slice_get, option_map, IfOk, IsErr, IsTrue, OnErr, OnOk};
 ghost use Rattle.std.specs.Int.{to_be_bytes, w32};
 ghost use Rattle.m88_base.specs.Image.{byte_at};
-ghost use Rattle.m88_base.specs.Pages.{IsPage, no_page, page_number};
+ghost use Rattle.m88_base.specs.Pages.{IsPage, every_page, no_page, page_number};
 ghost use Rattle.m88_isa.specs.Bus.{changed_among, changed_words, with_word};
 ghost use Rattle.m88_isa.specs.Lanes.{IsEnable, merged};
 ghost use Rattle.m88_isa.specs.Machine.{four_bytes};
@@ -18,7 +18,7 @@ ghost use Rattle.m88_mem.specs.Marks.{NamesPages, absent_in, with_page};
 
 use crate::absent_page::AbsentPage;
 use crate::frames::{ENTRIES, PageFrame, PageFrames};
-use crate::marks::{absent_marks, clear_mark, is_marked};
+use crate::marks::{absent_marks, clear_mark, is_marked, mark_all};
 use crate::places::{fetched, image_word, page_word};
 use m88_base::{Absent, Image, NoMemory, PAGE_BYTES};
 use m88_isa::merge;
@@ -183,6 +183,16 @@ impl Memory {
         ensures ready { ready_of self.new ≡ ready_of self.old }
     {
         clear_mark(&mut self.absent, page);
+    }
+
+    /// Every page is absent from now on, also those that are ready.
+    pub fn evict_all(&mut self)
+        ensures absent { absent_of self.new ≡ every_page }
+        ensures image { self.new.image ≡ self.old.image }
+        ensures bus { bus_of self.new ≡ bus_of self.old }
+        ensures ready { ready_of self.new ≡ ready_of self.old }
+    {
+        mark_all(&mut self.absent);
     }
 
     /// The words of the data bus that differ from the image's, each with its address, in order of address.

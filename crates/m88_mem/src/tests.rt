@@ -41,6 +41,9 @@ fn absent_pages(rt: HostRuntime) -> Result<(), ImageFault> {
     memory.supply(5);
     assert_eq!(rt; memory.read_word(0x5000), Ok(0));
     assert_eq!(rt; memory.read_word(0x6000), Err(AbsentPage));
+    memory.evict_all();
+    assert_eq!(rt; memory.read_word(0x5000), Err(AbsentPage));
+    assert_eq!(rt; memory.word(0x5000), 0);
     Ok(())
 }
 

@@ -27,7 +27,7 @@ fn an_absent_load_is_finished(rt: HostRuntime) -> Result<(), NoMemory> {
     let image = Image::new(rt.alloc());
     let mut memory = Memory::new(rt.alloc(), &image, &Absent::All)?;
     let mut regs = RegFile::new();
-    let mut ctrl = Control::new();
+    let mut ctrl = Control::new(false);
     let load = Triple {
         dmt: 0x13D,
         dmd: 0,

@@ -1,9 +1,10 @@
 //! The event of a letter.
 
-ghost use Rattle.std.specs.Prelude.{ℕ, Bool, ◌≡◌, ◌<◌, ◌≤◌, ◌+◌, ◌-◌, [], length, IfOk, OnErr, OnOk};
+ghost use Rattle.std.specs.Prelude.{ℕ, Bool, ◌≡◌, ◌<◌, ◌≤◌, ◌+◌, ◌-◌, [], Ok, length, IfOk, OnErr, OnOk};
 ghost use Rattle.m88_event.specs.Choice.{ServesOrEnds};
 ghost use Rattle.m88_event.specs.Local.{choice_by, record_by};
 ghost use Rattle.m88_event.specs.Timeline.{Moment, after_letter, said_at};
+ghost use Rattle.m88_event.specs.declared.happened.Happened.{Happened as HappenedValue};
 ghost use Rattle.m88_event.specs.declared.letter.Letter.{Letter as LetterValue};
 ghost use Rattle.m88_isa.specs.Machine.{Program};
 ghost use Rattle.m88_board.specs.Board.{local_of};
@@ -28,17 +29,20 @@ impl Board {
         ensures shorter { letter ≡ LetterValue.Answer
             → OnOk result (length self.new.pending ≤ length self.old.pending - 1) }
         ensures leaves { IfOk result (λ happened. Leaves happened self.old self.new) }
+        ensures evicts { letter ≡ LetterValue.Evict → result ≡ Ok HappenedValue.Evicted }
         ensures err { OnErr result (IsUnmoved self.old self.new) }
     {
         match letter {
             Letter::Issue => self.issue(),
             Letter::Answer => self.answer(),
+            Letter::Evict => Ok(self.evict()),
         }
     }
 
     /// Makes the event of a letter: of `i` the next instruction is issued, or a bubble passed, or nothing where
-    /// it must wait; of `r` the oldest transaction is answered, or meets its fault. Memory is taken before
-    /// anything changes: where it runs out, the board is as before, and no event is counted.
+    /// it must wait; of `r` the oldest transaction is answered, or meets its fault; of `e` every page is made absent,
+    /// which takes no memory. Memory is taken before anything changes: where it runs out, the board is as before, and no
+    /// event is counted.
     pub fn event(&mut self, letter: Letter) -> Result<Happened, NoMemory>
         requires { self.old.events < most_events }
         ensures moved { IfOk result (λ happened. (p : Program)
@@ -60,6 +64,7 @@ impl Board {
             → OnOk result (length self.new.pending ≤ length self.old.pending - 1) }
         ensures leaves { IfOk result (λ happened. Leaves happened self.old self.new) }
         ensures kept { OnOk result (IsKept self.new) }
+        ensures evicts { letter ≡ LetterValue.Evict → result ≡ Ok HappenedValue.Evicted }
         ensures err { OnErr result (IsUnmoved self.old self.new) }
     {
         let happened = self.take(letter)?;

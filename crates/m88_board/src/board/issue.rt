@@ -131,6 +131,7 @@ impl Board {
             instr,
             &self.regs.values(),
             self.ctrl.carry(),
+            self.ctrl.mxm(),
             self.iunit.candidate().addr,
             self.iunit.following().addr,
         )

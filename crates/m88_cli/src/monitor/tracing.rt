@@ -110,6 +110,7 @@ fn push_letter(text: &mut Vec<u8>, number: u64, letter: Letter) -> Result<(), Al
     match letter {
         Letter::Issue => text.extend_from_slice(b" i "),
         Letter::Answer => text.extend_from_slice(b" r "),
+        Letter::Evict => text.extend_from_slice(b" e "),
     }
 }
 
@@ -126,6 +127,7 @@ fn push_happened(text: &mut Vec<u8>, before: &Before, happened: Happened) -> Res
         Happened::Stalled(why) => push_why(text, why),
         Happened::Answered => text.extend_from_slice(b"answer\n"),
         Happened::Faulted(_) => push_fault(text, before.fault),
+        Happened::Evicted => text.extend_from_slice(b"evict\n"),
         Happened::Idle => text.extend_from_slice(b"idle\n"),
         Happened::Served(byte) => push_output(text, before.address, byte),
         Happened::Ended(end) => push_end(text, end),

@@ -39,16 +39,16 @@ pub returns-else-is_flow-clause-flow : goal.returns-else-is_flow-clause-flow
 returns-else-is_flow-clause-flow c = λ here behind.
     let i = c.args.instr.now in
     subst FlowsToWords (sym (c.effect.ensures ∙ ap (λ x. plan_for (effect i x)) c.inputs_of.ensures))
-    (effect_flows i c.args.regs.now c.args.carry c.args.pc c.args.next here behind)
+    (effect_flows i c.args.regs.now c.args.carry c.args.mxm c.args.pc c.args.next here behind)
 
 pub returns-then-next-pc-clause-aligned : goal.returns-then-next-pc-clause-aligned
-returns-then-next-pc-clause-aligned c = touches_aligned c.args.instr.now c.args.regs.now c.args.carry c.args.pc c.args.next c.requires
+returns-then-next-pc-clause-aligned c = touches_aligned c.args.instr.now c.args.regs.now c.args.carry c.args.mxm c.args.pc c.args.next c.requires
 
 pub returns-then-next-pc-clause-alone : goal.returns-then-next-pc-clause-alone
-returns-then-next-pc-clause-alone c = plan_alone c.args.instr.now c.args.regs.now c.args.carry c.args.pc c.args.next
+returns-then-next-pc-clause-alone c = plan_alone c.args.instr.now c.args.regs.now c.args.carry c.args.mxm c.args.pc c.args.next
 
 pub returns-else-is_flow-clause-aligned : goal.returns-else-is_flow-clause-aligned
-returns-else-is_flow-clause-aligned c = touches_aligned c.args.instr.now c.args.regs.now c.args.carry c.args.pc c.args.next c.requires
+returns-else-is_flow-clause-aligned c = touches_aligned c.args.instr.now c.args.regs.now c.args.carry c.args.mxm c.args.pc c.args.next c.requires
 
 pub returns-else-is_flow-clause-alone : goal.returns-else-is_flow-clause-alone
-returns-else-is_flow-clause-alone c = plan_alone c.args.instr.now c.args.regs.now c.args.carry c.args.pc c.args.next
+returns-else-is_flow-clause-alone c = plan_alone c.args.instr.now c.args.regs.now c.args.carry c.args.mxm c.args.pc c.args.next

@@ -24,7 +24,7 @@ returns-then-is_absent-clause-shorter c =
 
 pub returns-clause-shorter : goal.returns-clause-shorter
 returns-clause-shorter c =
-    let fault = record_by (record { start = 0; byte = λ a. None; instruction = λ a. None }) c.args.self.now.limit (local_of c.args.self.now) in
+    let fault = record_by (record { mxm = false; start = 0; byte = λ a. None; instruction = λ a. None }) c.args.self.now.limit (local_of c.args.self.now) in
     fewer_replied fault c.args.self.now c.reply.new.self (c.reply.ensures.does fault)
 
 pub returns-clause-same : goal.returns-clause-same

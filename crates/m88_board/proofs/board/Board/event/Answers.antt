@@ -1,5 +1,5 @@
 -- The event is the move of what is seen, and so goes along the timeline.
-use Rattle.std.proofs.Common.{ap, subst, ◌+◌, ◌∙◌}
+use Rattle.std.proofs.Common.{false, ap, subst, ◌+◌, ◌∙◌}
 use Rattle.m88_base.specs.Image.{IsImage}
 use Rattle.m88_codec.proofs.ImagePrograms.{program_in, program_in_holds}
 use Rattle.m88_isa.proofs.ImageProgram.{program_of_image}
@@ -32,8 +32,8 @@ pub returns-clause-precise : goal.returns-clause-precise
 returns-clause-precise c = λ last.
     let image = subst IsImage (ap (λ (b : BoardView). b.memory.image) c.count.ensures.counted ∙ c.in_ok-happened.ensures.same.image)
     c.count.ensures.kept.image in
-    let p = program_in c.args.self.now.memory.image image in
-    let of = program_in_holds c.args.self.now.memory.image image in
+    let p = program_in false c.args.self.now.memory.image image in
+    let of = program_in_holds false c.args.self.now.memory.image image in
     precise_on p c.args.letter c.args.self.now c.in_ok-happened.happened c.count.new.self
     (moved_by p c.args.letter c.args.self.now c.take.new.self c.in_ok-happened.happened c.count.new.self c.count.ensures.counted
     (c.in_ok-happened.ensures.ok p of)) last

@@ -15,11 +15,12 @@ invariant_of-self c =
     let empty = rw (← c.self.view_is) at c.requires.empty in
     let comes = rw (← c.self.view_is) at c.requires.comes in
     kept_finished (the_view c.self.inside) c.enter.new.ctrl c.args.end c.self.invariant goes valid empty c.requires.ends comes
-    (ap (λ (r : ControlRegisters). r.psr) c.enter.ensures) (ap (λ (r : ControlRegisters). r.epsr) c.enter.ensures)
+    (ap (λ (r : ControlRegisters). r.psr) c.enter.ensures.state) (ap (λ (r : ControlRegisters). r.epsr) c.enter.ensures.state)
+    c.enter.ensures.mxm
 
 pub returns-clause-does : goal.returns-clause-does
 returns-clause-does c = λ stop fault is. rw (← c.self.view_is) (record {
   says = ap happened.Ended is;
   does = finished fault stop (the_view c.self.inside) c.enter.new.ctrl c.args.end is
-      (carry_entered c.self.inside.ctrl c.enter.new.ctrl (ap (λ (r : ControlRegisters). r.psr) c.enter.ensures));
+      (carry_entered c.self.inside.ctrl c.enter.new.ctrl (ap (λ (r : ControlRegisters). r.psr) c.enter.ensures.state)) c.enter.ensures.mxm;
 })

@@ -22,7 +22,7 @@ invariant_of-self-2 c =
     kept_issued (the_view c.self.inside) c.args.effect.now.accesses c.advance.new.iunit c.put_in.new.unit c.put_in.new.regs
     c.prepare.new.memory c.set_carry.new.self c.args.effect.now.carry c.self.invariant goes c.requires.can room apart
     c.put_in.ensures.pending c.put_in.ensures.waiting c.prepare.ensures.stays (search rules) c.advance.ensures.slots
-    (ap (λ (a : Slot). a.v) c.advance.ensures.advanced.xip) c.prepare.ensures.image c.set_carry.ensures.state c.set_carry.ensures.carry
+    (ap (λ (a : Slot). a.v) c.advance.ensures.advanced.xip) c.prepare.ensures.image c.set_carry.ensures.state c.set_carry.ensures.carry c.set_carry.ensures.mxm
 
 pub returns-clause-ok : goal.returns-clause-ok
 returns-clause-ok c = λ change fault is few.
@@ -31,4 +31,4 @@ returns-clause-ok c = λ change fault is few.
     (issued_by fault change c.args.effect.now (the_view c.self.inside) c.advance.new.iunit c.put_in.new.unit c.put_in.new.regs
     c.prepare.new.memory c.set_carry.new.self is few free c.advance.ensures.advanced c.put_in.ensures.pending
     (c.put_in.ensures.numbers ∙ c.write.ensures.numbers) c.prepare.ensures.bus c.prepare.ensures.absent c.prepare.ensures.image
-    c.set_carry.ensures.carry)
+    c.set_carry.ensures.carry c.set_carry.ensures.mxm)

@@ -1,4 +1,5 @@
 -- Memory at a moment.
+use Rattle.std.specs.Prelude.{false}
 use Rattle.m88_codec.proofs.ImagePrograms.{some_program}
 use Rattle.m88_board.proofs.Shown.{memory_seen}
 use Rattle.m88_board.specs.contracts.board.Board.{the_view}
@@ -9,4 +10,4 @@ returns-clause-moment c = λ p named m at.
     memory_seen p named m (the_view c.self.inside) (rw (← c.self.view_is) at at) c.self.invariant
 
 pub returns-clause-program : goal.returns-clause-program
-returns-clause-program c = some_program c.self.inside.memory.image c.self.invariant.image
+returns-clause-program c = some_program false c.self.inside.memory.image c.self.invariant.image

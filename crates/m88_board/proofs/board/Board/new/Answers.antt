@@ -1,40 +1,45 @@
 -- A board at its start.
-use Rattle.std.proofs.Common.{◌∙◌, ◌*◌, ◌/◌, ℕ, ap, sym, subst}
+use Rattle.std.proofs.Common.{◌≡◌, ◌∙◌, ◌*◌, ◌/◌, ℕ, Bool, ap, sym, subst}
 use Rattle.m88_base.specs.Image.{IsImage, ProgramImage}
-use Rattle.m88_codec.proofs.ImagePrograms.{some_program}
+use Rattle.m88_codec.proofs.ImagePrograms.{program_in, program_in_holds, program_in_mode}
 use Rattle.m88_event.specs.Timeline.{opening_moment}
 use Rattle.m88_isa.specs.Address.{word_address}
 use Rattle.m88_mem.specs.DataBus.{image_bus}
 use Rattle.m88_mem.specs.Marks.{absent_in}
 use Rattle.m88_board.proofs.Starting.{kept, made, opens}
 use Rattle.m88_isa.specs.ImageProgram.{IsProgramOf}
+use Rattle.m88_isa.specs.Machine.{Program}
 use Rattle.m88_board.specs.Kept.{IsKept}
 use Rattle.m88_board.specs.Moves.{IsAt}
 use Rattle.m88_board.proofs.board.Board.new.Goals as goal
 
 pub invariant_of-result : goal.invariant_of-result
 invariant_of-result c =
-    made IsKept c.args.limit c.copy.result c.args.absent.now c.new-2.result _ c.new-3.result c.new-4.result c.in_ok-memory.memory c.new-5.result
+    made IsKept c.args.mxm c.args.limit c.copy.result c.args.absent.now c.new-2.result _ c.new-3.result c.new-4.result c.in_ok-memory.memory c.new-5.result
     c.new-6.result.items c.new-7.result.items c.copy.ensures c.new-2.ensures c.new-3.ensures c.new-5.ensures c.new-6.ensures.items
     c.new-7.ensures.items
-    (kept c.args.limit c.args.absent.now _ _ _ c.new-4.result
+    (kept c.args.mxm c.args.limit c.args.absent.now _ _ _ c.new-4.result
     c.in_ok-memory.memory c.requires.small
     (subst IsImage (sym c.in_ok-memory.ensures.image) c.part_count.ensures.image) c.new-4.ensures.waiting c.lacks_word-e0.ensures c.lacks_word-e1.ensures)
 
+-- an image holds a program that is run in either mode
+in_mode : (mxm : Bool) (image : ProgramImage) → IsImage image → (p : Program) × IsProgramOf image p × (p.mxm ≡ mxm)
+in_mode mxm image is = (program_in mxm image is, program_in_holds mxm image is, program_in_mode mxm image is)
+
 pub returns-in_err-memory-clause-program : goal.returns-in_err-memory-clause-program
-returns-in_err-memory-clause-program c = some_program c.args.image.now c.part_count.ensures.image
+returns-in_err-memory-clause-program c = in_mode c.args.mxm c.args.image.now c.part_count.ensures.image
 
 pub returns-clause-program : goal.returns-clause-program
-returns-clause-program c = some_program c.args.image.now c.part_count.ensures.image
+returns-clause-program c = in_mode c.args.mxm c.args.image.now c.part_count.ensures.image
 
 pub returns-clause-at : goal.returns-clause-at
-returns-clause-at c = λ p of.
+returns-clause-at c = λ p of mode.
     let image = sym c.in_ok-memory.ensures.image in
-    made (IsAt p (absent_in c.args.absent.now) opening_moment) c.args.limit c.copy.result c.args.absent.now c.new-2.result _ c.new-3.result c.new-4.result
+    made (IsAt p (absent_in c.args.absent.now) opening_moment) c.args.mxm c.args.limit c.copy.result c.args.absent.now c.new-2.result _ c.new-3.result c.new-4.result
     c.in_ok-memory.memory c.new-5.result c.new-6.result.items c.new-7.result.items c.copy.ensures c.new-2.ensures c.new-3.ensures
     c.new-5.ensures c.new-6.ensures.items c.new-7.ensures.items
-    (opens p (absent_in c.args.absent.now) c.args.limit c.args.absent.now (c.start.result / 4 * 4) c.lacks_word-e0.result
+    (opens p (absent_in c.args.absent.now) c.args.mxm c.args.limit c.args.absent.now (c.start.result / 4 * 4) c.lacks_word-e0.result
     c.lacks_word-e1.result c.new-4.result c.in_ok-memory.memory c.new-4.ensures.numbers
     (c.in_ok-memory.ensures.bus ∙ ap image_bus image) c.in_ok-memory.ensures.absent
     (ap (λ (n : ℕ). n / 4 * 4) c.start.ensures ∙ ap (λ (i : ProgramImage). word_address i.start) image)
-    (subst (λ (i : ProgramImage). IsProgramOf i p) image of))
+    (subst (λ (i : ProgramImage). IsProgramOf i p) image of) mode)

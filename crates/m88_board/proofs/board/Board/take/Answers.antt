@@ -9,6 +9,7 @@ use Rattle.m88_event.specs.declared.record.Record.{Record}
 use Rattle.m88_isa.specs.Machine.{Program}
 use Rattle.m88_mem.specs.DataBus.{absent_of}
 use Rattle.m88_board.proofs.Choosing.{did_by}
+use Rattle.m88_board.proofs.Counting.{no_record}
 use Rattle.m88_board.proofs.Moving.{answer_chosen}
 use Rattle.m88_board.specs.Board.{local_of}
 use Rattle.m88_isa.specs.ImageProgram.{IsProgramOf}
@@ -40,3 +41,13 @@ returns-in-Answer-clause-ok c =
     (ap (λ (letter : Letter). choice_by p old.limit letter (local_of old)) c.in-Answer.is ∙ answer_chosen p old)
     (did p of))
     c.answer.ensures.ok
+
+pub returns-in-Evict-clause-ok : goal.returns-in-Evict-clause-ok
+returns-in-Evict-clause-ok c = λ p of.
+    let old = c.args.self.now in
+    did_by _ _ (record_by p old.limit (local_of old)) old c.evict.result c.evict.new.self
+    (ap (λ (letter : Letter). choice_by p old.limit letter (local_of old)) c.in-Evict.is)
+    (c.evict.ensures.did (record_by p old.limit (local_of old)))
+
+pub returns-in-Evict-clause-same : goal.returns-in-Evict-clause-same
+returns-in-Evict-clause-same c = (c.evict.ensures.did no_record).does.same
