@@ -8,7 +8,7 @@ use Rattle.m88_event.specs.Shadow.{status_of}
 use Rattle.m88_board.specs.Board.{BoardView}
 
 -- a status with another carry
-pub carried : (mxm old new : Bool) → with_carry new (status_of mxm old) ≡ status_of mxm new
+pub carried : (mxm old new : Bool) → with_carry new (status_of old mxm) ≡ status_of new mxm
 carried true true true = refl
 carried true true false = refl
 carried true false true = refl

@@ -1,11 +1,12 @@
--- Every page is made absent: what always holds of a board goes on to hold.
-use Rattle.std.specs.Prelude.{ℕ, Bool, ◌≡◌}
-use Rattle.std.proofs.Common.{sym, subst}
+-- Every page is made absent: what always holds of a board goes on to hold, and nothing else changes.
+use Rattle.std.specs.Prelude.{ℕ, Bool, ◌≡◌, ◌+◌}
+use Rattle.std.proofs.Common.{ap, sym, subst}
 use Rattle.m88_base.specs.Image.{IsImage}
 use Rattle.m88_mem.specs.DataBus.{MemoryView, bus_of, ready_of}
 use Rattle.m88_board.proofs.Stopping.{still_ends}
 use Rattle.m88_board.specs.Board.{BoardView}
 use Rattle.m88_board.specs.Kept.{AreReady, IsKept, SlotsAgree}
+use Rattle.m88_board.specs.Moves.{IsEvicted}
 
 -- the words, the pages that are ready and the image stay
 pub kept_evicted : (b : BoardView) (memory : MemoryView) →
@@ -38,3 +39,14 @@ kept_evicted b memory kept bus ready image = record {
   small = kept.small;
   counted = kept.counted;
 }
+
+-- the count of events is no page
+pub evicted_counted : (old middle new : BoardView) → new ≡ record middle { events = middle.events + 1 } → IsEvicted old middle →
+    IsEvicted old new
+evicted_counted old middle new is evicted = subst (λ (b : BoardView). IsEvicted old b) (sym is) (record {
+  rest = ap (λ (b : BoardView). record b { events = middle.events + 1 }) evicted.rest;
+  image = evicted.image;
+  bus = evicted.bus;
+  ready = evicted.ready;
+  absent = evicted.absent;
+})

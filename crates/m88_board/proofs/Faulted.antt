@@ -111,7 +111,7 @@ kept_faulted b file memory control slots pending done records fault kept some em
           ∙ psr
           ∙ sym (ap (λ (t : Bool). if t then b.control.epsr else b.control.psr) going)
           ∙ kept.status
-          ∙ ap₂ status_of (sym (mxm_by b control psr)) (sym (carry_by b control psr));
+          ∙ ap₂ status_of (sym (carry_by b control psr)) (sym (mxm_by b control psr));
       drained = λ ended. empty;
       made = omega (arith, none, count, made);
       told = omega (arith, more, longer, some, count, told);

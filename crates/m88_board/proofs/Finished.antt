@@ -35,7 +35,7 @@ kept_finished b control end kept goes valid none ends comes psr epsr same_mxm =
       status = epsr
           ∙ sym (ap (λ (t : Bool). if t then b.control.epsr else b.control.psr) (not_ended b goes))
           ∙ kept.status
-          ∙ ap₂ status_of (sym same_mxm) (sym carry);
+          ∙ ap₂ status_of (sym carry) (sym same_mxm);
       drained = λ ended. none;
       made = kept.made;
       told = kept.told;

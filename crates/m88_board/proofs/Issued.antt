@@ -109,7 +109,7 @@ kept_issued b accesses slots pending file memory control carry kept goes can roo
           ∙ ap (λ (c : ControlRegisters). c.psr) changed
           ∙ ap (with_carry carry) (sym (ap (λ (t : Bool). if t then b.control.epsr else b.control.psr) going) ∙ kept.status)
           ∙ carried (mxm_of b.control) (carry_of b.control) carry
-          ∙ ap₂ status_of (sym same_mxm) (sym carries);
+          ∙ ap₂ status_of (sym carries) (sym same_mxm);
       drained = λ ended. absurd (let no = going in cc);
       made = omega (arith, all, more, count, most, made);
       told = kept.told;

@@ -29,7 +29,12 @@ unfolding move said_by local_of completed_of
 counted p letter old middle h did = record {
   says = did.says;
   moved = ap with_move_counted did.does.moved;
-  same = record { limit = did.does.same.limit; named = did.does.same.named; image = did.does.same.image };
+  same = record {
+    limit = did.does.same.limit;
+    mxm = did.does.same.mxm;
+    named = did.does.same.named;
+    image = did.does.same.image;
+  };
 }
 
 -- and a board that stands at a moment stands at the next

@@ -196,7 +196,7 @@ status_seen p named m b at kept = record {
   status =
       sym (ap (λ (t : Bool). if t then b.control.epsr else b.control.psr) (ended_seen p named m b at))
       ∙ kept.status
-      ∙ ap₂ status_of (mxm_seen p named m b at) (carry_seen p named m b at);
+      ∙ ap₂ status_of (carry_seen p named m b at) (mxm_seen p named m b at);
   carry = carry_seen p named m b at;
 }
 

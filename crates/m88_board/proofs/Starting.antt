@@ -75,9 +75,14 @@ pub made : (P : BoardView → Type 0) (mxm : Bool) (limit : ℕ) (chosen named :
 made P mxm limit chosen named slots seen pending file memory control out records n s p c o r known = rw (n, s, p, c, o, r) known
 
 -- the status at first
-status_at : (mxm : Bool) → (at_start mxm).psr ≡ status_of (mxm_of (at_start mxm)) (carry_of (at_start mxm))
+status_at : (mxm : Bool) → (at_start mxm).psr ≡ status_of (carry_of (at_start mxm)) (mxm_of (at_start mxm))
 status_at true = refl
 status_at false = refl
+
+-- and its MXM
+pub mxm_at : (mxm : Bool) → mxm_of (at_start mxm) ≡ mxm
+mxm_at true = refl
+mxm_at false = refl
 
 -- what always holds
 pub kept : (mxm : Bool) (limit : ℕ) (named : Absent) (entry : ℕ) (e0 e1 : Bool) (file : Registers) (memory : MemoryView) → limit ≤ most_retired →

@@ -3,6 +3,7 @@ use Rattle.std.specs.Prelude.{Result, Ok, Err, IfOk, OnOk, ◌≡◌}
 use Rattle.std.proofs.Common.{ap, ◌∙◌, subst}
 use Rattle.std.proofs.lemmas.Result.{IfOk-weaker}
 use Rattle.m88_base.specs.declared.failing.NoMemory.{NoMemory}
+use Rattle.m88_ctrl.specs.ControlRegisters.{mxm_of}
 use Rattle.m88_event.specs.Choice.{Choice, finishes, said, turn_choice}
 use Rattle.m88_event.specs.declared.happened.Happened.{Happened}
 use Rattle.m88_event.specs.declared.record.Record.{Record}
@@ -47,11 +48,17 @@ same_if choice (Err e) old new did = tt
 
 -- one run after the other, and where memory runs out
 pub same_then : (a b c : BoardView) → IsSameRun a b → IsSameRun b c → IsSameRun a c
-same_then a b c first second = record { limit = second.limit ∙ first.limit; named = second.named ∙ first.named; image = second.image ∙ first.image }
+same_then a b c first second = record {
+  limit = second.limit ∙ first.limit;
+  mxm = second.mxm ∙ first.mxm;
+  named = second.named ∙ first.named;
+  image = second.image ∙ first.image;
+}
 
 pub unmoved_same : (old new : BoardView) → IsUnmoved old new → IsSameRun old new
 unmoved_same old new still = record {
   limit = ap (λ (b : BoardView). b.limit) still.rest;
+  mxm = ap (λ (b : BoardView). mxm_of b.control) still.rest;
   named = ap (λ (b : BoardView). b.named) still.rest;
   image = still.image;
 }

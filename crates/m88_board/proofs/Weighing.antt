@@ -14,6 +14,7 @@ use Rattle.m88_isa.specs.Held.{is_pending}
 use Rattle.m88_isa.specs.ImageProgram.{IsProgramOf}
 use Rattle.m88_isa.specs.Machine.{Program}
 use Rattle.m88_board.proofs.Unmoved.{unmoved_seen}
+use Rattle.m88_board.proofs.Still.{unmoved_same}
 use Rattle.m88_board.specs.Board.{BoardView, local_of}
 use Rattle.m88_board.specs.Kept.{IsKept}
 use Rattle.m88_board.specs.Moves.{IsSameRun, IsUnmoved}
@@ -150,5 +151,5 @@ pub bounded_unmoved : (schedule : List Letter) (taken : ℕ) (old new : BoardVie
     IsBounded schedule taken new
 bounded_unmoved schedule taken old new bounded still =
     bounded_lighter schedule taken old new bounded
-    (record { limit = ap (λ (b : BoardView). b.limit) still.rest; named = ap (λ (b : BoardView). b.named) still.rest; image = still.image })
+    (unmoved_same old new still)
     (unmoved_no_heavier old new still)

@@ -66,7 +66,7 @@ pub record IsBehind (retired : ℕ) (slots : Pointers) : Type 0 where
   pub some : 1 ≤ retired
   pub xip : slots.xip.v ≡ true
 
--- the status: until the program has ended PSR is a user's with MXM and the carry, afterwards EPSR has that
+-- the status: until the program has ended PSR is a user's with the carry and MXM, afterwards EPSR has that
 abbrev pub epsr_of : BoardView → ℕ
 epsr_of b = if is_some b.ended then b.control.epsr else b.control.psr
 
@@ -86,7 +86,7 @@ pub record IsKept (b : BoardView) : Type 0 where
   pub slots : SlotsAgree b.memory.image b.slots
   pub bubbled : b.slots.nip.v ≡ false → IsBehind b.retired b.slots
   pub unbubbled : is_some b.ended ≡ true → b.slots.nip.v ≡ true
-  pub status : epsr_of b ≡ status_of (mxm_of b.control) (carry_of b.control)
+  pub status : epsr_of b ≡ status_of (carry_of b.control) (mxm_of b.control)
   pub drained : is_some b.ended ≡ true → b.pending ≡ []
   pub made : b.done + length b.pending ≤ 2 * b.retired
   pub told : b.answers + length b.records ≤ b.done

@@ -1,5 +1,7 @@
 -- What an event makes of a board.
 use Rattle.std.specs.Prelude.{ℕ, Bool, not, List, [], ◌∷◌, Option, ◌≡◌, if◌then◌else◌}
+use Rattle.m88_base.specs.Pages.{every_page}
+use Rattle.m88_ctrl.specs.ControlRegisters.{mxm_of}
 use Rattle.m88_event.specs.Choice.{Choice, finishes, holds, said}
 use Rattle.m88_event.specs.Local.{local_at, move, move_by, said_by}
 use Rattle.m88_event.specs.Past.{HasPast}
@@ -26,9 +28,10 @@ pub record IsAdvanced (old new : Pointers) (pc next : ℕ) (bubble : Bool) : Typ
   pub behind : next_of new ≡ next
   pub bubble_is : not new.nip.v ≡ bubble
 
--- the same limit, the same choice of absent pages and the same image
+-- the same limit, MXM, choice of absent pages and image
 pub record IsSameRun (old new : BoardView) : Type 0 where
   pub limit : new.limit ≡ old.limit
+  pub mxm : mxm_of new.control ≡ mxm_of old.control
   pub named : new.named ≡ old.named
   pub image : new.memory.image ≡ old.memory.image
 
@@ -78,6 +81,14 @@ pub record IsUnmoved (old new : BoardView) : Type 0 where
   pub bus : bus_of new.memory ≡ bus_of old.memory
   pub absent : absent_of new.memory ≡ absent_of old.memory
   pub ready : ready_of new.memory ≡ ready_of old.memory
+
+-- every page is absent, and nothing else changed but the count of events: the words and the pages that are ready stay
+pub record IsEvicted (old new : BoardView) : Type 0 where
+  pub rest : new ≡ record old { memory = new.memory; events = new.events }
+  pub image : new.memory.image ≡ old.memory.image
+  pub bus : bus_of new.memory ≡ bus_of old.memory
+  pub ready : ready_of new.memory ≡ ready_of old.memory
+  pub absent : absent_of new.memory ≡ every_page
 
 -- what an event says that changes nothing but the count of events: there was nothing to do, or the next instruction is
 -- held

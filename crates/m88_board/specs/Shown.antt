@@ -63,10 +63,11 @@ pub record ShowsFault (fault : Record) (control : ControlRegisters) : Type 0 whe
 abbrev pub rest_of : ControlRegisters → List ℕ
 rest_of c = c.pid ∷ c.vbr ∷ c.sr0 ∷ c.sr1 ∷ c.sr2 ∷ c.sr3 ∷ []
 
--- the status: PSR is a user's with MXM and the carry of the history; from the program's end on EPSR is, and PSR has that
--- carry
+-- the status: PSR is a user's with the carry and MXM of the history; from the program's end on EPSR is, and PSR has
+-- that carry
 pub record IsStatus (p : Program) (m : Moment) (control : ControlRegisters) : Type 0 where
-  pub status : (if m.ended then control.epsr else control.psr) ≡ status_of (state p m.retired).mxm (state p m.retired).carry
+  pub status : (if m.ended then control.epsr else control.psr)
+      ≡ status_of (state p m.retired).carry (state p m.retired).mxm
   pub carry : carry_of control ≡ (state p m.retired).carry
 
 -- what an exception saves where nothing is pending: the words of the instruction pointers

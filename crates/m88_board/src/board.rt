@@ -5,6 +5,7 @@ ghost use Rattle.m88_base.specs.Image.{IsImage};
 ghost use Rattle.m88_base.specs.Pages.{page_number};
 ghost use Rattle.m88_base.specs.Reg.{number_of};
 ghost use Rattle.m88_base.specs.Slot.{slot_word};
+ghost use Rattle.m88_ctrl.specs.ControlRegisters.{mxm_of};
 ghost use Rattle.m88_event.specs.Choice.{answer_choice, end_by, evicts, faults, finishes, issues, passes, replies, serves, turn_choice};
 ghost use Rattle.m88_event.specs.Local.{record_by};
 ghost use Rattle.m88_event.specs.Timeline.{Moment, opening_moment, record_at};
@@ -24,7 +25,7 @@ ghost use Rattle.std.specs.Int.{bit_at};
 ghost use Rattle.m88_dunit.specs.Pending.{CanIssue};
 ghost use Rattle.m88_iunit.specs.Pointers.{resumed};
 ghost use Rattle.m88_board.specs.Kept.{IsKept, IsProgramEnd, epsr_of, most_events, most_retired};
-ghost use Rattle.m88_board.specs.Moves.{Did, Does, IsAt, IsSameRun, IsStill, IsUnmoved, stopping};
+ghost use Rattle.m88_board.specs.Moves.{Did, Does, IsAt, IsEvicted, IsSameRun, IsStill, IsUnmoved, stopping};
 ghost use Rattle.m88_board.specs.Shown.{IsRecordOf, Leaves, ShowsFault, rest_of};
 ghost use Rattle.m88_board.specs.Turns.{ComesToEnd, IssueComesTo, StoreOnOnePage};
 
@@ -110,8 +111,8 @@ impl Model for Board {
 
 impl Board {
     /// A board over an image, before its first event: the pages that are named are absent, and it retires at most
-    /// `limit` instructions, with MXM set or clear. The first is that of the word at the image's start, its two low bits
-    /// cleared.
+    /// `limit` instructions. `mxm` is the bit MXM of its PSR, set where misaligned accesses are rounded down. The first
+    /// instruction is that of the word at the image's start, its two low bits cleared.
     pub fn new(
         alloc: Global,
         image: &Image,
@@ -124,6 +125,7 @@ impl Board {
         ensures limit { IfOk result (λ b. b.limit ≡ limit) }
         ensures named { IfOk result (λ b. b.named ≡ absent.now) }
         ensures image { IfOk result (λ b. b.memory.image ≡ image.now) }
+        ensures mxm { IfOk result (λ b. mxm_of b.control ≡ mxm) }
         ensures events { IfOk result (λ b. b.events ≡ 0) }
         ensures is_image { IsImage image.now }
         ensures program { (p : Program) × IsProgramOf image.now p × (p.mxm ≡ mxm) }
@@ -276,11 +278,12 @@ impl Board {
         Ok(Happened::Answered)
     }
 
-    /// The letter `e`: every page is absent from now on.
+    /// The letter `e`: every page is absent until it is supplied.
     fn evict(&mut self) -> Happened
         ensures did { (fault : RecordValue) → Did evicts fault self.old result self.new }
         ensures events { self.new.events ≡ self.old.events }
         ensures says { result ≡ HappenedValue.Evicted }
+        ensures evicted { IsEvicted self.old self.new }
         ensures leaves { Leaves result self.old self.new }
     {
         self.memory.evict_all();

@@ -139,21 +139,27 @@ fn four_loads_that_are_drained(rt: HostRuntime) -> Result<(), ImageFault> {
 #[test]
 fn loads_from_absent_pages_that_are_drained(rt: HostRuntime) -> Result<(), ImageFault> {
     let image = image_of(rt.alloc(), &[0x1440_5000, 0x1460_6000, 0x1480_7000])?;
-    let Ok(mut board) = Board::new(rt.alloc(), &image, &Absent::All, 3, false) else {
+    let Ok(mut board) = Board::new(rt.alloc(), &image, &Absent::None, 3, true) else {
         return Err(ImageFault::Memory);
     };
-    for _ in 0..3 {
+    for (letter, did) in [
+        (Letter::Issue, Happened::Issued),
+        (Letter::Issue, Happened::Issued),
+        (Letter::Issue, Happened::Issued),
+        (Letter::Evict, Happened::Evicted),
+    ] {
         if board.events() < 100 {
-            assert!(rt; board.event(Letter::Issue) == Ok(Happened::Issued));
+            assert!(rt; board.event(letter) == Ok(did));
         }
     }
+    assert_eq!(rt; board.pipe().epsr, 0x3FC);
     assert_eq!(rt; board.pipe().ssbr, 0x1C);
     assert_eq!(rt; board.register(Reg::from_low_bits(2)), None);
     let mut watch = Unwatched::new();
     if board.events() < 100 {
         assert_eq!(rt; board.drain(&mut watch), Ok(()));
     }
-    assert_eq!(rt; board.events(), 4);
+    assert_eq!(rt; board.events(), 5);
     assert_eq!(rt; board.done(), 3);
     assert_eq!(rt; board.faults(), 1);
     assert_eq!(rt; board.pipe().ssbr, 0);

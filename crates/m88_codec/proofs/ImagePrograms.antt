@@ -155,6 +155,6 @@ program_in mxm image is = (some_program mxm image is).0
 pub program_in_holds : (mxm : Bool) (image : ProgramImage) (is : IsImage image) → IsProgramOf image (program_in mxm image is)
 program_in_holds mxm image is = (some_program mxm image is).1
 
-pub program_in_mode : (mxm : Bool) (image : ProgramImage) (is : IsImage image) → (program_in mxm image is).mxm ≡ mxm
+pub program_in_mxm : (mxm : Bool) (image : ProgramImage) (is : IsImage image) → (program_in mxm image is).mxm ≡ mxm
 unfolding some_program
-program_in_mode mxm image is = refl
+program_in_mxm mxm image is = refl

@@ -1,9 +1,9 @@
 //! Corners of the effects, from outside: each row tells apart a definition that is wrong in one place alone. D is r4
 //! where there is one; a register that a row doesn't name holds another value, r0 too, which reads as 0.
 
-use super::effect_tests::{changes, load, one, planned, registers, two};
+use super::effect_tests::{changes, load, one, planned, planned_with_mxm, registers, store, two};
 use m88_base::Reg;
-use m88_isa::{Effect, Plan};
+use m88_isa::{Access, Effect, Plan};
 
 /// What a register holds that a row doesn't name.
 const ELSE: u32 = 0xDEAD_BEEF;
@@ -23,6 +23,22 @@ fn goes(first: u32, second: u32, bubble: bool) -> Plan {
         bubble,
         ..changes(None, true)
     })
+}
+
+/// The first half of a double.
+fn half(access: Access) -> Access {
+    Access {
+        doub1: true,
+        ..access
+    }
+}
+
+/// Half of an exchange.
+fn locked(access: Access) -> Access {
+    Access {
+        lock: true,
+        ..access
+    }
 }
 
 #[test]
@@ -68,6 +84,55 @@ fn corners_of_accesses(rt: HostRuntime) {
     ];
     for (word, s1, s2, expected) in rows {
         let given = planned(&rt, word, registers(word, s1, s2, ELSE, ELSE), true, NEXT);
+        assert!(rt; given == expected, "{word:08X}: {given:?}");
+    }
+}
+
+#[test]
+fn misaligned_accesses_with_mxm(rt: HostRuntime) {
+    let [r4, r5] = [4, 5].map(Reg::from_low_bits);
+    let rows = [
+        (0x08860001, 0x5002, ELSE, one(load(0x5002, 2, r4))), // ld.hu r4,r6,1
+        (0x14860003, 0x5000, ELSE, one(load(0x5000, 4, r4))), // ld r4,r6,3
+        (0x14860001, 0xFFFFFFFE, ELSE, one(load(0xFFFFFFFC, 4, r4))), // ld r4,r6,1
+        (0x24860002, 0x5000, ELSE, one(store(0x5000, 4, ELSE))), // st r4,r6,2
+        (0x28860001, 0x5000, ELSE, one(store(0x5000, 2, ELSE))), // st.h r4,r6,1
+        (0x2C860003, 0x5000, ELSE, one(store(0x5003, 1, ELSE))), // st.b r4,r6,3
+        (
+            0x10860007,
+            0x5008,
+            ELSE,
+            two(half(load(0x5008, 4, r4)), load(0x500C, 4, r5)),
+        ), // ld.d r4,r6,7
+        (
+            0x20860004,
+            0x5000,
+            ELSE,
+            two(half(store(0x5000, 4, ELSE)), store(0x5004, 4, ELSE)),
+        ), // st.d r4,r6,4
+        (
+            0x04860002,
+            0x5000,
+            ELSE,
+            two(locked(load(0x5000, 4, r4)), locked(store(0x5000, 4, ELSE))),
+        ), // xmem r4,r6,2
+        (
+            0x00860003,
+            0x5000,
+            ELSE,
+            two(locked(load(0x5003, 1, r4)), locked(store(0x5003, 1, ELSE))),
+        ), // xmem.bu r4,r6,3
+        (0xF4861607, 0x5001, 1, one(load(0x5004, 4, r4))), // ld r4,r6[r7]
+        (
+            0xF4861207,
+            0x5004,
+            1,
+            two(half(load(0x5008, 4, r4)), load(0x500C, 4, r5)),
+        ), // ld.d r4,r6[r7]
+        (0xF4861507, 0x5001, 1, Plan::Raise(6)), // ld.usr r4,r6,r7
+    ];
+    for (word, s1, s2, expected) in rows {
+        let given = planned_with_mxm(&rt, word, registers(word, s1, s2, ELSE, ELSE));
         assert!(rt; given == expected, "{word:08X}: {given:?}");
     }
 }

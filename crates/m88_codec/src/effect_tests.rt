@@ -38,6 +38,12 @@ pub(crate) fn planned(rt: &impl Abort, word: u32, regs: [u32; 32], carry: bool, 
     plan(&instr, &regs, carry, false, PC, next)
 }
 
+/// The same with MXM set.
+pub(crate) fn planned_with_mxm(rt: &impl Abort, word: u32, regs: [u32; 32]) -> Plan {
+    let instr = decode(word).ok().expect(rt, "a word of the table");
+    plan(&instr, &regs, true, true, PC, NEXT)
+}
+
 /// An access that isn't there.
 pub(crate) fn no_access() -> Access {
     Access {

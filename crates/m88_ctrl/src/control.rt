@@ -8,7 +8,7 @@ use crate::frame::{Frame, Restart};
 use m88_base::{NO_TRIPLE, Triple};
 use std::marker::Model;
 
-/// The status at the start: the user's mode, and the carry is clear.
+/// The status at the start: the user's mode, and the carry and MXM are clear.
 const PSR_AT_START: u32 = 0x3F8;
 
 /// The carry's bit of PSR.

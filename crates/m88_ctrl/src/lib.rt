@@ -1,5 +1,5 @@
 //! The control registers: what an exception saves, what a return from it hands back, and the processor's
-//! status with the carry.
+//! status with the carry and MXM.
 #![tactic(auto)]
 
 mod control;

@@ -97,7 +97,7 @@ fn each_number_is_of_its_register(rt: HostRuntime) {
 
 #[test]
 fn a_data_fault_is_entered_and_returned_from(rt: HostRuntime) {
-    let mut ctrl = Control::new(false);
+    let mut ctrl = Control::new(true);
     ctrl.set_carry(true);
     let loads = [
         Triple {
@@ -124,8 +124,8 @@ fn a_data_fault_is_entered_and_returned_from(rt: HostRuntime) {
     );
     assert_eq!(rt; handler, 24);
     let words = [
-        (cr::PSR, 0x9000_03FB),
-        (cr::EPSR, 0x1000_03F8),
+        (cr::PSR, 0x9000_03FF),
+        (cr::EPSR, 0x1000_03FC),
         (cr::SSBR, 0xC),
         (cr::SXIP, 0x1006),
         (cr::SNIP, 0x100A),
@@ -148,6 +148,8 @@ fn a_data_fault_is_entered_and_returned_from(rt: HostRuntime) {
             sfip: 0x100F
         }
     );
-    assert_eq!(rt; ctrl.ldcr(cr::PSR), Some(0x1000_03F8));
+    assert_eq!(rt; ctrl.ldcr(cr::PSR), Some(0x1000_03FC));
     assert!(rt; ctrl.carry());
+    assert!(rt; ctrl.mxm());
+    assert!(rt; !Control::new(false).mxm());
 }

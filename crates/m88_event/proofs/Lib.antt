@@ -6,3 +6,4 @@ pub mod Over
 pub mod Precise
 pub mod Past
 pub mod Worked
+pub mod Vanishing

@@ -24,7 +24,7 @@ use Rattle.m88_event.specs.Timeline.{Moment, after_letter, end_at, is_over, open
 use Rattle.m88_event.specs.declared.happened.End.{End}
 use Rattle.m88_event.specs.declared.happened.End.TheVariants.{Limit, Exit, Vector}
 use Rattle.m88_event.specs.declared.letter.Letter.{Letter}
-use Rattle.m88_event.specs.declared.letter.Letter.TheVariants.{Issue as i, Answer as r, Evict as e}
+use Rattle.m88_event.specs.declared.letter.Letter.TheVariants.{Issue as i, Answer as r}
 use Rattle.m88_event.specs.declared.record.Record.{Record}
 
 -- the instruction at an address, of words from a start on; a word may be none
@@ -60,25 +60,25 @@ set_from n (value ∷ values) = if value == 0 then set_from (n + 1) values else 
 
 -- what a run comes to: its events, its end, the instructions retired, the registers that aren't 0, some words of memory, the
 -- output, the transactions answered, and the records
-record Came : Type 0 where
-  events : ℕ
-  end : End
-  retired : ℕ
-  registers : List (ℕ × ℕ)
-  words : List (ℕ × ℕ)
-  out : List ℕ
-  answers : ℕ
-  records : List Record
+pub record Came : Type 0 where
+  pub events : ℕ
+  pub end : End
+  pub retired : ℕ
+  pub registers : List (ℕ × ℕ)
+  pub words : List (ℕ × ℕ)
+  pub out : List ℕ
+  pub answers : ℕ
+  pub records : List Record
 
 -- a run: the program's words and data, the absent pages, the limit, the schedule, and what the run comes to by hand
-record Worked : Type 0 where
-  mxm : Bool
-  code : List (Option Instr)
-  bytes : List ℕ
-  pages : List ℕ
-  limit : ℕ
-  schedule : List Letter
-  comes : Came
+pub record Worked : Type 0 where
+  pub mxm : Bool
+  pub code : List (Option Instr)
+  pub bytes : List ℕ
+  pub pages : List ℕ
+  pub limit : ℕ
+  pub schedule : List Letter
+  pub comes : Came
 
 -- the events up to the first moment that is over, from a moment after some events on
 abbrev events_from : Program → Worked → ℕ → ℕ → Moment → ℕ
@@ -105,15 +105,15 @@ abbrev came_after : Program → Worked → ℕ → Came
 came_after p w events =
     came_at p w.comes.words events (moment_after p (named w.pages) w.limit w.schedule events)
 
-abbrev came : Worked → Came
+abbrev pub came : Worked → Came
 came w =
     came_after (program w.mxm w.code w.bytes) w (events_from (program w.mxm w.code w.bytes) w 100 0 opening_moment)
 
 -- instructions and words in short
-abbrev im : ImmOp → ℕ → ℕ → ℕ → Option Instr
+abbrev pub im : ImmOp → ℕ → ℕ → ℕ → Option Instr
 im op d s1 imm = Some (instr.Imm op (reg_of d) (reg_of s1) imm)
 
-abbrev mem : MemOp → ℕ → ℕ → Option Instr
+abbrev pub mem : MemOp → ℕ → ℕ → Option Instr
 mem op d imm = Some (instr.MemImm op (reg_of d) (reg_of 0) imm)
 
 abbrev branch : Bool → Bool → ℕ → Option Instr
@@ -122,10 +122,10 @@ branch link delayed words = Some (instr.Branch link delayed (pos words))
 abbrev trap : Option Instr
 trap = Some (instr.TrapBit false 0 (reg_of 0) 496)
 
-abbrev triple : ℕ → ℕ → ℕ → Triple
+abbrev pub triple : ℕ → ℕ → ℕ → Triple
 triple dmt dmd dma = record { dmt = dmt; dmd = dmd; dma = dma }
 
-abbrev fault : ℕ → ℕ → ℕ → ℕ → ℕ → List Triple → Record
+abbrev pub fault : ℕ → ℕ → ℕ → ℕ → ℕ → List Triple → Record
 fault event sxip snip sfip ssbr triples = record {
   event = event;
   epsr = 0x3F8;
@@ -482,80 +482,6 @@ worked =
         out = [];
         answers = 3;
         records = fault 57 0x100E 0x1013 0x1017 0x20 (triple 0x2BD 0 0x6000 ∷ no_triple ∷ no_triple ∷ []) ∷ [];
-      };
-    }
-    -- a load that isn't aligned, rounded down, and the same as its page is absent
-    ∷ record {
-      mxm = true;
-      code = mem memop.Ld 2 0x2002 ∷ [];
-      bytes = 0x11 ∷ 0x22 ∷ 0x33 ∷ 0x44 ∷ [];
-      pages = [];
-      limit = 1;
-      schedule = [];
-      comes = record {
-        events = 3;
-        end = Limit;
-        retired = 1;
-        registers = (2, 0x11223344) ∷ [];
-        words = [];
-        out = [];
-        answers = 1;
-        records = [];
-      };
-    }
-    ∷ record {
-      mxm = true;
-      code = mem memop.Ld 2 0x2002 ∷ [];
-      bytes = 0x11 ∷ 0x22 ∷ 0x33 ∷ 0x44 ∷ [];
-      pages = 2 ∷ [];
-      limit = 1;
-      schedule = i ∷ r ∷ [];
-      comes = record {
-        events = 2;
-        end = Limit;
-        retired = 1;
-        registers = (2, 0x11223344) ∷ [];
-        words = [];
-        out = [];
-        answers = 0;
-        records = record (fault 2 0x1002 0x1007 0x100B 4 (triple 0x13D 0 0x2000 ∷ no_triple ∷ no_triple ∷ [])) { epsr = 0x3FC } ∷ [];
-      };
-    }
-    -- the second half of a double, and of an exchange, alone meets an absent page
-    ∷ record {
-      mxm = false;
-      code = mem memop.LdD 2 0x2000 ∷ [];
-      bytes = 0x11 ∷ 0x22 ∷ 0x33 ∷ 0x44 ∷ 0x55 ∷ 0x66 ∷ 0x77 ∷ 0x88 ∷ [];
-      pages = [];
-      limit = 1;
-      schedule = i ∷ r ∷ e ∷ r ∷ [];
-      comes = record {
-        events = 4;
-        end = Limit;
-        retired = 1;
-        registers = (2, 0x11223344) ∷ (3, 0x55667788) ∷ [];
-        words = [];
-        out = [];
-        answers = 1;
-        records = fault 4 0x1002 0x1007 0x100B 8 (triple 0x1BD 0 0x2004 ∷ no_triple ∷ no_triple ∷ []) ∷ [];
-      };
-    }
-    ∷ record {
-      mxm = false;
-      code = im immop.Or 2 0 5 ∷ mem memop.Xmem 2 0x5000 ∷ [];
-      bytes = [];
-      pages = [];
-      limit = 2;
-      schedule = i ∷ i ∷ r ∷ e ∷ r ∷ [];
-      comes = record {
-        events = 5;
-        end = Limit;
-        retired = 2;
-        registers = [];
-        words = (0x5000, 5) ∷ [];
-        out = [];
-        answers = 1;
-        records = fault 5 0x1006 0x100B 0x100F 0 (triple 0x103F 5 0x5000 ∷ no_triple ∷ no_triple ∷ []) ∷ [];
       };
     }
     ∷ []

@@ -22,6 +22,6 @@ nip_of p bubble xip pc = if bubble then squashed_slot (after_bytes xip.addr 4) e
 abbrev pub fip_of : Program → Bool → ℕ → ℕ → Slot
 fip_of p bubble pc next = fetched_pointer p (if bubble then pc else next)
 
--- the processor status: a user's program, MXM in bit 2, and the carry in bit 28
+-- the processor status: a user's program, the carry in bit 28 and MXM in bit 2
 abbrev pub status_of : Bool → Bool → ℕ
-status_of mxm carry = 0x3F8 + weight_if mxm (2 ^ 2) + weight_if carry (2 ^ 28)
+status_of carry mxm = 0x3F8 + weight_if carry (2 ^ 28) + weight_if mxm (2 ^ 2)

@@ -31,7 +31,7 @@ pub record Situation : Type 0 where
 unfoldable pub record_of : Program → Situation → Record
 record_of p s = record {
   event = s.event;
-  epsr = status_of s.mxm s.carry;
+  epsr = status_of s.carry s.mxm;
   sxip = slot_word s.xip;
   snip = slot_word (nip_of p s.bubble s.xip s.pc);
   sfip = slot_word (fip_of p s.bubble s.pc s.next);

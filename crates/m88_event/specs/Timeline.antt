@@ -16,8 +16,8 @@ use Rattle.m88_event.specs.declared.letter.Letter.{Letter}
 use Rattle.m88_event.specs.declared.record.Record.{Record}
 
 -- the instructions retired, the transactions answered or finished, the mark that the next fetched instruction is
--- passed over, the mark that the program has ended, the mark that every page was made absent, the pages supplied since,
--- the events, the transactions answered with data, and the records of the data faults
+-- passed over, the mark that the program has ended, the mark that every page was made absent, the pages supplied since
+-- then or else since the start, the events, the transactions answered with data, and the records of the data faults
 pub record Moment : Type 0 where
   pub retired : ℕ
   pub done : ℕ
@@ -52,7 +52,8 @@ xip_at p (suc n) = retired_pointer (state p n).pc
 abbrev pub nip_at : Program → Moment → Slot
 nip_at p m = nip_of p m.bubble (xip_at p m.retired) (state p m.retired).pc
 
--- the pages that are absent: those that are named, or every page once all were made absent, but those supplied
+-- the pages that are absent: those that are named, or every page once all were made absent, but for those that were
+-- supplied since
 abbrev pub absent_at : (ℕ → Bool) → Moment → ℕ → Bool
 absent_at named m page = (if m.evicted then every_page page else named page) && not (m.supplied page)
 

@@ -44,7 +44,7 @@ impl fmt::Display for End {
 }
 
 /// What one event did. `Issued`, `Bubble`, `Stalled`, `Served` and `Ended` come only at `i`, `Answered` and `Faulted`
-/// only at `r`, `Evicted` only at `e`.
+/// only at `r`, `Idle` at either, and `Evicted` at `e`, where nothing else comes.
 #[derive(Clone, Copy, PartialEq, Eq, Debug)]
 pub enum Happened {
     /// An instruction was retired.
@@ -57,7 +57,7 @@ pub enum Happened {
     Answered,
     /// The oldest transaction met an absent page. The record was taken before the pending transactions were finished.
     Faulted(Record),
-    /// Every page is absent from now on.
+    /// Every page is absent until it is supplied.
     Evicted,
     /// There was nothing to answer or to issue.
     Idle,

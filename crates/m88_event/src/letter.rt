@@ -1,6 +1,6 @@
 //! The letters of a schedule.
 
-/// What one event of a run tries.
+/// What one event of a run tries, or does.
 #[derive(Clone, Copy, PartialEq, Eq, Debug)]
 pub enum Letter {
     /// `i`: to issue the next instruction.

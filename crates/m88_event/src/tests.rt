@@ -9,7 +9,10 @@ fn texts_that_are_schedules(rt: HostRuntime) {
         ("-", [].as_slice()),
         ("i", [Letter::Issue].as_slice()),
         ("r", [Letter::Answer].as_slice()),
-        ("e", [Letter::Evict].as_slice()),
+        (
+            "eri",
+            [Letter::Evict, Letter::Answer, Letter::Issue].as_slice(),
+        ),
         (
             "iiir",
             [Letter::Issue, Letter::Issue, Letter::Issue, Letter::Answer].as_slice(),

@@ -62,7 +62,7 @@ abbrev pub computes : Reg → Computed → Inputs → Meaning
 computes d (Gives value carry) x = goes (record (goes_on x) { register = written d value; carry = carry })
 computes d (Raises vector) x = raises vector
 
--- the accesses to memory at an address
+-- the accesses to memory at an address, as they stand
 abbrev pub makes : MemOp → Reg → ℕ → Inputs → Meaning
 makes op d place x = goes (record (goes_on x) { touches = touches_of op d x.d x.after_d place })
 
@@ -230,4 +230,5 @@ AgreesOn registers regs other =
 -- the plan looks at no register outside those that the instruction uses
 abbrev pub IgnoresUnused : Instr → List ℕ → Bool → Bool → ℕ → ℕ → Type 0
 IgnoresUnused i regs carry mxm pc next =
-    (other : List ℕ) → AgreesOn (uses_of i) regs other → plan_of i other carry mxm pc next ≡ plan_of i regs carry mxm pc next
+    (other : List ℕ) → AgreesOn (uses_of i) regs other
+    → plan_of i other carry mxm pc next ≡ plan_of i regs carry mxm pc next

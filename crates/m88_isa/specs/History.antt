@@ -35,8 +35,8 @@ pending_at p n done = drop done (transactions p n)
 abbrev pub bus_at : Program → ℕ → ℕ → ℕ → ℕ
 bus_at p n done = bus_after_all (take done (transactions p n)) (in_words (opening p).memory)
 
--- a state with memory by words: registers, carry, the address of the next instruction and of the one that follows it,
--- the words, the output
+-- a state with memory by words: registers, carry, MXM, the address of the next instruction and of the one that follows
+-- it, the words, the output
 pub record Completed : Type 0 where
   pub regs : List ℕ
   pub carry : Bool

@@ -15,8 +15,8 @@ use Rattle.m88_isa.specs.declared.monitor.Service.{Service}
 use Rattle.m88_isa.specs.declared.monitor.Service.TheVariants.{Out, End, Unserved}
 
 -- what is run: a start address, the byte that stands at an address, if one does, and the instruction of the word at an
--- address, if its word is one: a source or an image says which these are; and the mode that it is run in, with MXM set
--- where accesses that aren't aligned are rounded down.
+-- address, if its word is one: a source or an image says which these are; and MXM, the bit of the status that is set
+-- where the addresses of accesses are rounded down in place of raising.
 pub record Program : Type 0 where
   pub mxm : Bool
   pub start : ℕ
@@ -28,8 +28,8 @@ pub record IsProgram (p : Program) : Type 0 where
   pub bytes : (a : ℕ) → IfSome (p.byte a) (λ byte. byte < 2 ^ 8)
   pub instructions : (a : ℕ) → IfSome (p.instruction a) IsValid
 
--- the 32 registers, the carry, MXM, which no step changes, the address of the instruction that is carried out next and of
--- the one that follows it, the data memory byte by byte, and the output so far
+-- the 32 registers, the carry, MXM, which no step changes, the address of the instruction that is carried out next and
+-- of the one that follows it, the data memory byte by byte, and the output so far
 pub record State : Type 0 where
   pub regs : List ℕ
   pub carry : Bool

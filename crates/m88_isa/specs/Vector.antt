@@ -9,7 +9,7 @@ instruction_access = 2
 abbrev pub data_access : ℕ
 data_access = 3
 
--- an access to memory that isn't aligned to its size
+-- an access to memory that isn't aligned to its size, with MXM clear
 abbrev pub misaligned : ℕ
 misaligned = 4
 

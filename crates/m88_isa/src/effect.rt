@@ -35,9 +35,10 @@ use crate::planned::{Computed, Effect, Inputs, Plan};
 use crate::vector::{PRIVILEGE, UNIMPLEMENTED, unit_vector};
 use m88_base::Reg;
 
-/// What an instruction does at the byte address `pc`, where `next` is the address of the one that follows. With `mxm`, the
-/// bit MXM of PSR, the address of an access is rounded down to a multiple of its size; without it one that isn't such a
-/// multiple raises. A change of flow in a taken delay slot, where `next` isn't `pc` + 4, raises before anything else.
+/// What an instruction does at the byte address `pc`, where `next` is the address of the one that follows. With `mxm`,
+/// the bit MXM of PSR, the address of an access is rounded down to a multiple of its size; without it one that isn't
+/// such a multiple raises. A change of flow in a taken delay slot, where `next` isn't `pc` + 4, raises before anything
+/// else.
 pub fn plan(instr: &Instr, regs: &[u32; 32], carry: bool, mxm: bool, pc: u32, next: u32) -> Plan
     requires { IsValid instr.now }
     ensures value { result ≡ plan_of instr.now regs.now carry mxm pc next }

@@ -27,7 +27,7 @@ pub(crate) fn accesses(op: MemOp, d: Reg, place: u32, x: Inputs) -> Plan
     }
 }
 
-/// The accesses of a memory instruction at an aligned byte address.
+/// The accesses of a memory instruction at a byte address.
 fn makes(op: MemOp, d: Reg, place: u32, x: Inputs) -> Plan
     ensures { result ≡ plan_for (makes op d place x) }
 {
@@ -37,7 +37,7 @@ fn makes(op: MemOp, d: Reg, place: u32, x: Inputs) -> Plan
     })
 }
 
-/// The bytes of a datum, of which its address is a multiple.
+/// The bytes of a datum, of which its address is a multiple or is rounded down to one.
 pub(crate) fn size_of(op: MemOp) -> u32
     ensures value { result ≡ size_of op }
     ensures least { 1 ≤ result }

@@ -9,7 +9,7 @@ pub const INSTRUCTION_ACCESS: u16 = 2;
 /// An access to data memory that can't be made.
 pub const DATA_ACCESS: u16 = 3;
 
-/// An access to memory that isn't aligned to its size.
+/// An access to memory that isn't aligned to its size, with MXM clear.
 pub const MISALIGNED: u16 = 4;
 
 /// An instruction that isn't implemented.

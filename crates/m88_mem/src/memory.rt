@@ -174,7 +174,7 @@ impl Memory {
         self.frames.put(addr / PAGE_BYTES, place_of(addr), word);
     }
 
-    /// A page, by its number, is present from now on.
+    /// A page, by its number, is present until all are made absent.
     pub fn supply(&mut self, page: u32)
         requires { IsPage page }
         ensures absent { absent_of self.new ≡ with_page page false (absent_of self.old) }
@@ -185,7 +185,7 @@ impl Memory {
         clear_mark(&mut self.absent, page);
     }
 
-    /// Every page is absent from now on, also those that are ready.
+    /// Every page is absent until it is supplied, also one that is ready. The words stay, and the pages that are ready.
     pub fn evict_all(&mut self)
         ensures absent { absent_of self.new ≡ every_page }
         ensures image { self.new.image ≡ self.old.image }

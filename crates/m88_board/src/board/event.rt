@@ -10,7 +10,7 @@ ghost use Rattle.m88_isa.specs.Machine.{Program};
 ghost use Rattle.m88_board.specs.Board.{local_of};
 ghost use Rattle.m88_isa.specs.ImageProgram.{IsProgramOf};
 ghost use Rattle.m88_board.specs.Kept.{IsKept, most_events};
-ghost use Rattle.m88_board.specs.Moves.{Did, IsAt, IsMove, IsSameRun, IsStill, IsUnmoved};
+ghost use Rattle.m88_board.specs.Moves.{Did, IsAt, IsEvicted, IsMove, IsSameRun, IsStill, IsUnmoved};
 ghost use Rattle.m88_board.specs.Shown.{Leaves};
 
 use super::Board;
@@ -30,6 +30,7 @@ impl Board {
             → OnOk result (length self.new.pending ≤ length self.old.pending - 1) }
         ensures leaves { IfOk result (λ happened. Leaves happened self.old self.new) }
         ensures evicts { letter ≡ LetterValue.Evict → result ≡ Ok HappenedValue.Evicted }
+        ensures evicted { letter ≡ LetterValue.Evict → IsEvicted self.old self.new }
         ensures err { OnErr result (IsUnmoved self.old self.new) }
     {
         match letter {
@@ -41,8 +42,8 @@ impl Board {
 
     /// Makes the event of a letter: of `i` the next instruction is issued, or a bubble passed, or nothing where
     /// it must wait; of `r` the oldest transaction is answered, or meets its fault; of `e` every page is made absent,
-    /// which takes no memory. Memory is taken before anything changes: where it runs out, the board is as before, and no
-    /// event is counted.
+    /// which takes no memory and changes nothing else. Memory is taken before anything changes: where it runs out, the
+    /// board is as before, and no event is counted.
     pub fn event(&mut self, letter: Letter) -> Result<Happened, NoMemory>
         requires { self.old.events < most_events }
         ensures moved { IfOk result (λ happened. (p : Program)
@@ -65,6 +66,7 @@ impl Board {
         ensures leaves { IfOk result (λ happened. Leaves happened self.old self.new) }
         ensures kept { OnOk result (IsKept self.new) }
         ensures evicts { letter ≡ LetterValue.Evict → result ≡ Ok HappenedValue.Evicted }
+        ensures evicted { letter ≡ LetterValue.Evict → IsEvicted self.old self.new }
         ensures err { OnErr result (IsUnmoved self.old self.new) }
     {
         let happened = self.take(letter)?;

@@ -2,7 +2,9 @@
 use Rattle.std.proofs.Common.{false, ap, subst, ◌+◌, ◌∙◌}
 use Rattle.m88_base.specs.Image.{IsImage}
 use Rattle.m88_codec.proofs.ImagePrograms.{program_in, program_in_holds}
+use Rattle.m88_ctrl.specs.ControlRegisters.{mxm_of}
 use Rattle.m88_isa.proofs.ImageProgram.{program_of_image}
+use Rattle.m88_board.proofs.Evicted.{evicted_counted}
 use Rattle.m88_board.proofs.Leaving.{leaves_counted}
 use Rattle.m88_board.proofs.Moving.{along, moved_by, precise_on, says_so}
 use Rattle.m88_board.specs.Board.{BoardView}
@@ -43,9 +45,14 @@ returns-clause-leaves c =
     leaves_counted c.args.self.now c.in_ok-happened.happened c.take.new.self c.count.new.self c.count.ensures.counted
     c.in_ok-happened.ensures.leaves
 
+pub returns-clause-evicted : goal.returns-clause-evicted
+returns-clause-evicted c = λ letter.
+    evicted_counted c.args.self.now c.take.new.self c.count.new.self c.count.ensures.counted (c.take.ensures.evicted letter)
+
 pub returns-clause-same : goal.returns-clause-same
 returns-clause-same c = record {
   limit = ap (λ (b : BoardView). b.limit) c.count.ensures.counted ∙ c.in_ok-happened.ensures.same.limit;
+  mxm = ap (λ (b : BoardView). mxm_of b.control) c.count.ensures.counted ∙ c.in_ok-happened.ensures.same.mxm;
   named = ap (λ (b : BoardView). b.named) c.count.ensures.counted ∙ c.in_ok-happened.ensures.same.named;
   image = ap (λ (b : BoardView). b.memory.image) c.count.ensures.counted ∙ c.in_ok-happened.ensures.same.image;
 }

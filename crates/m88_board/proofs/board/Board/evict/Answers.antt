@@ -16,3 +16,12 @@ returns-clause-did c = λ fault. rw (← c.self.view_is) (record {
   does = evicted fault (the_view c.self.inside) c.evict_all.new.self c.evict_all.ensures.bus c.evict_all.ensures.absent
       c.evict_all.ensures.image;
 })
+
+pub returns-clause-evicted : goal.returns-clause-evicted
+returns-clause-evicted c = rw (← c.self.view_is) (record {
+  rest = refl;
+  image = c.evict_all.ensures.image;
+  bus = c.evict_all.ensures.bus;
+  ready = c.evict_all.ensures.ready;
+  absent = c.evict_all.ensures.absent;
+})
