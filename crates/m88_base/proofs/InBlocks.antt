@@ -3,7 +3,7 @@ use Rattle.std.proofs.Common.{◌≡◌, ℕ, zero, suc, ◌+◌, ◌-◌, ◌<�
 use Rattle.std.specs.Prelude.{insert, remove, All}
 use Rattle.std.proofs.Math.Seq.{drop-cons, take-suc, take-append-add, drop-append-add}
 use Rattle.std.proofs.lemmas.List.{take-append-drop, take-append-le, drop-append-le, take_all, set_split, get_or_default, set-append_left, set-append_right, get_or-append_right}
-use Rattle.std.proofs.lemmas.List.Edits.{insert-append_left, insert-append_right, remove-append_left, remove-append_right, length-insert, get_or-insert_at}
+use Rattle.std.proofs.lemmas.List.Edits.{insert-append_left, insert-append_right, remove-append_left, remove-append_right}
 use Rattle.std.proofs.lemmas.List.Elements.{All-append}
 use Rattle.std.proofs.Math.ListN.{get_or-append}
 use Rattle.m88_base.specs.Placed.{Placed, AreApart}
@@ -103,34 +103,20 @@ put_back [] i x is = refl
 put_back (y ∷ xs) zero x is = ap (λ z. z ∷ xs) is
 put_back (y ∷ xs) (suc i) x is = ap (λ zs. y ∷ zs) (put_back xs i x is)
 
--- one more empty block
-pub with_empty : (bs : List (List Placed)) (b : ℕ) → all_runs (insert bs b []) ≡ all_runs bs
-with_empty bs b =
-    all_runs-append (take b bs) ([] ∷ drop b bs) ∙ (sym (all_runs-append (take b bs) (drop b bs)) ∙ ap all_runs (take-append-drop b bs))
+-- a block in two
+pub halved : (bs : List (List Placed)) (b : ℕ) (lower upper : List Placed) → b < length bs → lower ++ upper ≡ get_or bs b []
+    → all_runs (insert (set bs b lower) (suc b) upper) ≡ all_runs bs
+halved [] b lower upper l whole = absurd (omega arith)
+halved (x ∷ bs) zero lower upper l whole = sym (append_assoc lower upper (all_runs bs)) ∙ ap (λ w. w ++ all_runs bs) whole
+halved (x ∷ bs) (suc b) lower upper l whole = ap (λ r. x ++ r) (halved bs b lower upper (omega arith) whole)
 
--- a block in two, where the next one was empty
-cut_in_two : (bs : List (List Placed)) (b : ℕ) (lower upper : List Placed) → suc b < length bs → get_or bs (suc b) [] ≡ [] → lower ++ upper ≡ get_or bs b []
-    → all_runs (set (set bs b lower) (suc b) upper) ≡ all_runs bs
-cut_in_two [] b lower upper l none whole = absurd (omega arith)
-cut_in_two (x ∷ []) b lower upper l none whole = absurd (omega arith)
-cut_in_two (x ∷ y ∷ bs) zero lower upper l none whole =
-    sym (append_assoc lower upper (all_runs bs)) ∙ (ap (λ w. w ++ all_runs bs) whole ∙ ap (λ v. x ++ (v ++ all_runs bs)) (sym none))
-cut_in_two (x ∷ y ∷ bs) (suc b) lower upper l none whole =
-    ap (λ r. x ++ r) (cut_in_two (y ∷ bs) b lower upper (omega arith) none whole)
-
-pub halved : (bs new : List (List Placed)) (b : ℕ) (block lower upper : List Placed) → b < length bs → new ≡ insert bs (suc b) [] → block ≡ get_or new b block
-    → lower ++ upper ≡ block → all_runs (set (set new b lower) (suc b) upper) ≡ all_runs bs
-halved bs new b block lower upper l e is whole =
-    let room : suc b ≤ length bs = omega arith in
-    let long : length new ≡ length bs + 1 = ap length e ∙ length-insert bs (suc b) [] room in
-    let none : get_or new (suc b) [] ≡ [] = rw e (get_or-insert_at bs (suc b) [] [] room) in
-    cut_in_two new b lower upper (omega arith) none (whole ∙ sym (block_length new b block (omega arith) is)) ∙ (ap all_runs e ∙ with_empty bs (suc b))
-
-pub kept : (bs new : List (List Placed)) (b : ℕ) (block back : List Placed) → new ≡ insert bs (suc b) [] → block ≡ get_or new b block → back ≡ block
-    → all_runs (set new b back) ≡ all_runs bs
-kept bs new b block back e is same =
-    let as_it_was : set new b back ≡ new = rw same (put_back new b block is) in
-    ap all_runs as_it_was ∙ (ap all_runs e ∙ with_empty bs (suc b))
+-- a block without runs taken out
+pub emptied : (bs : List (List Placed)) (b : ℕ) (block : List Placed) → b < length bs → length block ≡ 0
+    → all_runs (remove (set bs b block) b) ≡ all_runs (set bs b block)
+emptied [] b block l none = absurd (omega arith)
+emptied (x ∷ bs) zero [] l none = refl
+emptied (x ∷ bs) zero (y ∷ ys) l none = absurd (omega arith)
+emptied (x ∷ bs) (suc b) block l none = ap (λ r. x ++ r) (emptied bs b block (omega arith) none)
 
 pub block_apart : (bs : List (List Placed)) (b : ℕ) (block : List Placed) → b < length bs → block ≡ get_or bs b block → AreApart 0 (all_runs bs) → AreApart 0 block
 block_apart bs b block l is h =

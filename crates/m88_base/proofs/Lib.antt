@@ -3,6 +3,7 @@ pub mod AsciiDigits
 pub mod Calls
 pub mod Constants
 pub mod Copied
+pub mod Counting
 pub mod Cuts
 pub mod Decided
 pub mod Edits

@@ -1,6 +1,6 @@
 -- Words for the contracts of private functions; no promise of the program names them. Runs in a row that are kept in
 -- blocks, and where in the blocks a run stands.
-use Rattle.std.specs.Prelude.{◌≡◌, ℕ, ◌+◌, ◌<◌, ◌≤◌, List, [], ◌∷◌, ◌++◌, length, take, slice_index_or}
+use Rattle.std.specs.Prelude.{◌≡◌, ℕ, ◌+◌, ◌<◌, ◌≤◌, List, [], ◌∷◌, ◌++◌, All, length, take, slice_index_or}
 use Rattle.m88_base.specs.Placed.{Placed}
 
 -- the runs of all blocks
@@ -13,3 +13,21 @@ pub record IsPlaceInBlocks (blocks : List (List Placed)) (at inside index : ℕ)
   pub within : at < length blocks
   pub room : inside ≤ length (slice_index_or blocks at [])
   pub sum : length (all_runs (take at blocks)) + inside ≡ index
+
+-- no block is empty
+abbrev pub AreFilled : List (List Placed) → Type 0
+AreFilled blocks = All (λ block. 0 < length block) blocks
+
+-- the first n numbers are those of the runs ahead of each block
+abbrev pub CountsTo : ℕ → List ℕ → List (List Placed) → Type 0
+CountsTo n starts blocks = (k : ℕ) → k < n → slice_index_or starts k 0 ≡ length (all_runs (take k blocks))
+
+-- there is a number for each block, that of the runs ahead of it
+pub record IsCounted (starts : List ℕ) (blocks : List (List Placed)) : Type 0 where
+  pub long : length starts ≡ length blocks
+  pub each : CountsTo (length blocks) starts blocks
+
+-- the address at which the first run begins, 0 where there is none
+abbrev pub first_start : List Placed → ℕ
+first_start [] = 0
+first_start (run ∷ runs) = run.at

@@ -1,5 +1,6 @@
 //! A few runs in a row.
-ghost use Rattle.std.specs.Prelude.{◌≡◌, ◌+◌, ◌<◌, ◌≤◌, [], ◌++◌, All, take, drop, length, insert, remove, slice_index_or, slice_set, IfOk, OnOk, OnErr};
+ghost use Rattle.std.specs.Prelude.{◌≡◌, ◌+◌, ◌/◌, ◌<◌, ◌≤◌, [], ◌∷◌, ◌++◌, All, leb, take, drop, length, insert, remove, slice_index_or, slice_set, IfOk, OnOk, OnErr};
+ghost use Rattle.m88_base.specs.Blocks.{first_start};
 ghost use Rattle.m88_base.specs.Placed.{AreApart};
 
 use crate::segment::Segment;
@@ -23,13 +24,13 @@ impl Model for Block {
 }
 
 impl Block {
-    /// A block without runs.
-    pub fn new(alloc: Global) -> Block
-        ensures { result ≡ [] }
+    /// A block of one run.
+    pub fn of(alloc: Global, run: Segment) -> Result<Block, AllocError>
+        ensures { IfOk result (λ block. block ≡ run ∷ []) }
     {
-        Block {
-            runs: Vec::new(alloc),
-        }
+        let mut runs = Vec::new(alloc);
+        runs.push(run)?;
+        Ok(Block { runs })
     }
 
     /// The same runs, each with bytes of its own.
@@ -53,6 +54,16 @@ impl Block {
         ensures { result.now ≡ slice_index_or self.now index result.now }
     {
         &self.runs[index]
+    }
+
+    /// Whether the first run begins at or below an address.
+    pub fn begins_by(&self, at: u32) -> bool
+        ensures { result ≡ leb (first_start self.now) at }
+    {
+        match self.runs.as_slice() {
+            [first, ..] => first.at() <= at,
+            _ => true,
+        }
     }
 
     /// The number of runs that begin at or below an address.
@@ -95,6 +106,7 @@ impl Block {
     /// Takes the upper half of the runs out, as a block of its own.
     pub fn split_off(&mut self) -> Result<Block, AllocError>
         ensures ok { IfOk result (λ upper. self.new ++ upper ≡ self.old) }
+        ensures len { OnOk result (length self.new ≡ length self.old / 2) }
         ensures err { OnErr result (self.new ≡ self.old) }
     {
         let runs = self.runs.split_off(self.runs.len() / 2)?;
@@ -118,12 +130,5 @@ fn locate(runs: &[Segment], at: u32) -> usize
     ensures below { All (λ run. run.at ≤ at) (take result runs.now) }
     ensures above { AreApart (at + 1) (drop result runs.now) }
 {
-    // A block that lies below the address is passed by one comparison.
-    if !runs.is_empty() {
-        let last = &runs[runs.len() - 1];
-        if last.at() <= at {
-            return runs.len();
-        }
-    }
     runs.partition_point(|run| run.at() <= at)
 }

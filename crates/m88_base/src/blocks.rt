@@ -1,7 +1,7 @@
 //! Runs in a row, in blocks, so that few others move when one more is put between them.
-ghost use Rattle.std.specs.Prelude.{◌≡◌, ◌+◌, ◌<◌, ◌≤◌, [], All, take, drop, length, insert, remove, slice_index_or, slice_set, IfOk, OnOk, OnErr};
+ghost use Rattle.std.specs.Prelude.{◌≡◌, ◌+◌, ◌^◌, ◌<◌, ◌≤◌, [], ◌∷◌, All, take, drop, length, insert, remove, slice_index_or, slice_set, IfOk, OnOk, OnErr};
 ghost use Rattle.m88_base.specs.Placed.{AreApart};
-ghost use Rattle.m88_base.specs.Blocks.{IsPlaceInBlocks, all_runs};
+ghost use Rattle.m88_base.specs.Blocks.{AreFilled, CountsTo, IsCounted, IsPlaceInBlocks, all_runs};
 
 use crate::block::Block;
 use crate::segment::Segment;
@@ -11,23 +11,26 @@ use std::marker::Model;
 /// The most runs of a block, where there is memory for one more block.
 const MOST_RUNS: usize = 1024;
 
-/// Runs in a row.
+/// Runs in a row. No block is empty; of each is kept how many runs stand ahead of it, so that an index and an address
+/// are both found by halving.
 #[derive(Drop, Debug)]
 pub struct Blocks {
     blocks: Vec<Block>,
+    starts: Vec<usize>,
     len: usize,
 }
 
 impl Model for Blocks {
     ghost use Rattle.std.specs.Prelude.{◌≡◌, List, length};
     ghost use Rattle.m88_base.specs.Placed.{Placed};
-    ghost use Rattle.m88_base.specs.Blocks.{all_runs};
+    ghost use Rattle.m88_base.specs.Blocks.{AreFilled, IsCounted, all_runs};
 
     ghost Value = { List Placed };
 
     ghost view = { λ runs. all_runs runs.blocks.items };
 
-    ghost invariant = { λ runs. runs.len ≡ length (all_runs runs.blocks.items) };
+    ghost invariant = { λ runs. (runs.len ≡ length (all_runs runs.blocks.items))
+        × AreFilled runs.blocks.items × IsCounted runs.starts.items runs.blocks.items };
 }
 
 impl Blocks {
@@ -37,6 +40,7 @@ impl Blocks {
     {
         Blocks {
             blocks: Vec::new(alloc),
+            starts: Vec::new(alloc),
             len: 0,
         }
     }
@@ -46,8 +50,10 @@ impl Blocks {
         ensures { IfOk result (λ copy. copy ≡ self.now) }
     {
         let blocks = copied(alloc, &self.blocks)?;
+        let starts = Vec::from_slice(alloc, &self.starts)?;
         Ok(Blocks {
             blocks,
+            starts,
             len: self.len,
         })
     }
@@ -64,7 +70,7 @@ impl Blocks {
         requires { index < length self.now }
         ensures { result.now ≡ slice_index_or self.now index result.now }
     {
-        let (at, inside) = place_of(&self.blocks, index);
+        let (at, inside) = place_of(&self.blocks, &self.starts, index);
         let block = &self.blocks[at];
         block.get(inside)
     }
@@ -76,7 +82,10 @@ impl Blocks {
         ensures below { All (λ run. run.at ≤ at) (take result self.now) }
         ensures above { AreApart (at + 1) (drop result self.now) }
     {
-        locate(&self.blocks, self.len, at)
+        if self.len == 0 {
+            return 0;
+        }
+        locate(&self.blocks, &self.starts, at)
     }
 
     /// Puts a run in ahead of the one at an index.
@@ -86,7 +95,7 @@ impl Blocks {
         ensures err { OnErr result (self.new ≡ self.old) }
     {
         let len = self.len.checked_add(1).ok_or(AllocError)?;
-        insert(alloc, &mut self.blocks, index, run)?;
+        insert(alloc, &mut self.blocks, &mut self.starts, index, run)?;
         self.len = len;
         Ok(())
     }
@@ -97,7 +106,7 @@ impl Blocks {
         ensures was { result ≡ slice_index_or self.old index result }
         ensures now { self.new ≡ slice_set self.old index run }
     {
-        let (at, inside) = place_of(&self.blocks, index);
+        let (at, inside) = place_of(&self.blocks, &self.starts, index);
         let block = &mut self.blocks[at];
         block.replace(inside, run)
     }
@@ -107,9 +116,7 @@ impl Blocks {
         requires { index < length self.old }
         ensures { self.new ≡ remove self.old index }
     {
-        let (at, inside) = place_of(&self.blocks, index);
-        let block = &mut self.blocks[at];
-        block.remove(inside);
+        remove(&mut self.blocks, &mut self.starts, index);
         self.len -= 1;
     }
 }
@@ -125,23 +132,22 @@ fn copied(alloc: Global, blocks: &[Block]) -> Result<Vec<Block>, AllocError>
 }
 
 /// The block that has the run at an index, and where the run stands in it.
-fn place_of(blocks: &[Block], index: usize) -> (usize, usize)
-    requires { index < length (all_runs blocks.now) }
+fn place_of(blocks: &[Block], starts: &[usize], index: usize) -> (usize, usize)
+    requires counted { IsCounted starts.now blocks.now }
+    requires index { index < length (all_runs blocks.now) }
     ensures place { IsPlaceInBlocks blocks.now result.0 result.1 index }
     ensures inside { result.1 < length (slice_index_or blocks.now result.0 []) }
 {
-    let mut left = index;
-    for (at, block) in blocks.iter().enumerate() {
-        if left < block.len() {
-            return (at, left);
-        }
-        left -= block.len();
+    let passed = starts.partition_point(|start| *start <= index);
+    if passed == 0 {
+        unreachable!();
     }
-    unreachable!()
+    (passed - 1, index - starts[passed - 1])
 }
 
 /// The block into which a run is put for an index, and where.
-fn place_before(blocks: &[Block], index: usize) -> (usize, usize)
+fn place_before(blocks: &[Block], starts: &[usize], index: usize) -> (usize, usize)
+    requires counted { IsCounted starts.now blocks.now }
     requires some { 0 < length blocks.now }
     requires index { index ≤ length (all_runs blocks.now) }
     ensures { IsPlaceInBlocks blocks.now result.0 result.1 index }
@@ -149,68 +155,151 @@ fn place_before(blocks: &[Block], index: usize) -> (usize, usize)
     if index == 0 {
         return (0, 0);
     }
-    let (at, inside) = place_of(blocks, index - 1);
+    let (at, inside) = place_of(blocks, starts, index - 1);
     (at, inside + 1)
 }
 
-fn locate(blocks: &[Block], len: usize, at: u32) -> usize
-    requires len { len ≡ length (all_runs blocks.now) }
+fn locate(blocks: &[Block], starts: &[usize], at: u32) -> usize
+    requires filled { AreFilled blocks.now }
+    requires counted { IsCounted starts.now blocks.now }
     requires apart { AreApart 0 (all_runs blocks.now) }
+    requires room { length (all_runs blocks.now) < 2 ^ 64 }
     ensures bound { result ≤ length (all_runs blocks.now) }
     ensures below { All (λ run. run.at ≤ at) (take result (all_runs blocks.now)) }
     ensures above { AreApart (at + 1) (drop result (all_runs blocks.now)) }
 {
-    let mut index = 0;
-    for block in blocks {
-        let inside = block.locate(at);
-        index += inside;
-        if inside < block.len() {
-            return index;
-        }
+    let passed = blocks.partition_point(|block| block.begins_by(at));
+    if passed == 0 {
+        return 0;
     }
-    index
+    let block = &blocks[passed - 1];
+    starts[passed - 1] + block.locate(at)
 }
 
 fn insert(
     alloc: Global,
     blocks: &mut Vec<Block>,
+    starts: &mut Vec<usize>,
     index: usize,
     run: Segment,
 ) -> Result<(), AllocError>
-    requires { index ≤ length (all_runs blocks.old.items) }
+    requires filled { AreFilled blocks.old.items }
+    requires counted { IsCounted starts.old.items blocks.old.items }
+    requires index { index ≤ length (all_runs blocks.old.items) }
+    requires room { length (all_runs blocks.old.items) + 1 < 2 ^ 64 }
     ensures ok { OnOk result
         (all_runs blocks.new.items ≡ insert (all_runs blocks.old.items) index run) }
     ensures err { OnErr result (all_runs blocks.new.items ≡ all_runs blocks.old.items) }
+    ensures filled { AreFilled blocks.new.items }
+    ensures counted { IsCounted starts.new.items blocks.new.items }
 {
-    have_block(alloc, blocks)?;
-    let (at, inside) = place_before(blocks, index);
+    if blocks.is_empty() {
+        return begin(alloc, blocks, starts, run);
+    }
+    let (at, inside) = place_before(blocks, starts, index);
     let block = &mut blocks[at];
     block.insert(inside, run)?;
-    if block.len() > MOST_RUNS {
-        let _ = split(alloc, blocks, at);
+    let long = block.len() > MOST_RUNS;
+    count(starts, blocks, at + 1);
+    if long {
+        let _ = split(blocks, starts, at);
     }
     Ok(())
 }
 
-/// Sees to it that there is a block.
-fn have_block(alloc: Global, blocks: &mut Vec<Block>) -> Result<(), AllocError>
-    ensures some { OnOk result (0 < length blocks.new.items) }
-    ensures same { all_runs blocks.new.items ≡ all_runs blocks.old.items }
+/// Puts the first run in.
+fn begin(
+    alloc: Global,
+    blocks: &mut Vec<Block>,
+    starts: &mut Vec<usize>,
+    run: Segment,
+) -> Result<(), AllocError>
+    requires none { blocks.old.items ≡ [] }
+    requires counted { IsCounted starts.old.items blocks.old.items }
+    ensures ok { OnOk result (all_runs blocks.new.items ≡ run ∷ []) }
+    ensures err { OnErr result (blocks.new.items ≡ []) }
+    ensures filled { AreFilled blocks.new.items }
+    ensures counted { IsCounted starts.new.items blocks.new.items }
 {
-    if blocks.is_empty() {
-        blocks.push(Block::new(alloc))?;
+    let block = Block::of(alloc, run)?;
+    starts.reserve(1)?;
+    blocks.push(block)?;
+    if starts.push(0).is_err() {
+        unreachable!();
     }
     Ok(())
+}
+
+/// Takes the run at an index out.
+fn remove(blocks: &mut Vec<Block>, starts: &mut Vec<usize>, index: usize)
+    requires filled { AreFilled blocks.old.items }
+    requires counted { IsCounted starts.old.items blocks.old.items }
+    requires index { index < length (all_runs blocks.old.items) }
+    requires room { length (all_runs blocks.old.items) < 2 ^ 64 }
+    ensures value { all_runs blocks.new.items ≡ remove (all_runs blocks.old.items) index }
+    ensures filled { AreFilled blocks.new.items }
+    ensures counted { IsCounted starts.new.items blocks.new.items }
+{
+    let (at, inside) = place_of(blocks, starts, index);
+    let block = &mut blocks[at];
+    block.remove(inside);
+    if block.len() == 0 {
+        blocks.remove(at);
+        starts.pop();
+    }
+    count(starts, blocks, at);
 }
 
 /// Cuts a block in two. Where there is no memory for it the block stays as long as it is.
-fn split(alloc: Global, blocks: &mut Vec<Block>, at: usize) -> Result<(), AllocError>
-    requires { at < length blocks.old.items }
-    ensures { all_runs blocks.new.items ≡ all_runs blocks.old.items }
+fn split(blocks: &mut Vec<Block>, starts: &mut Vec<usize>, at: usize) -> Result<(), AllocError>
+    requires at { at < length blocks.old.items }
+    requires long { 1 < length (slice_index_or blocks.old.items at []) }
+    requires filled { AreFilled blocks.old.items }
+    requires counted { IsCounted starts.old.items blocks.old.items }
+    requires room { length (all_runs blocks.old.items) < 2 ^ 64 }
+    ensures same { all_runs blocks.new.items ≡ all_runs blocks.old.items }
+    ensures filled { AreFilled blocks.new.items }
+    ensures counted { IsCounted starts.new.items blocks.new.items }
 {
-    blocks.insert(at + 1, Block::new(alloc))?;
+    starts.reserve(1)?;
+    blocks.reserve(1)?;
     let block = &mut blocks[at];
     let upper = block.split_off()?;
-    blocks[at + 1] = upper;
+    if blocks.insert(at + 1, upper).is_err() {
+        unreachable!();
+    }
+    if starts.push(0).is_err() {
+        unreachable!();
+    }
+    count(starts, blocks, at + 1);
     Ok(())
+}
+
+/// Counts the runs ahead of each block anew, where those ahead of the first `from` are counted.
+fn count(starts: &mut [usize], blocks: &[Block], from: usize)
+    requires long { length starts.old ≡ length blocks.now }
+    requires from { from ≤ length blocks.now }
+    requires counted { CountsTo from starts.old blocks.now }
+    requires room { length (all_runs blocks.now) < 2 ^ 64 }
+    ensures { IsCounted starts.new blocks.now }
+{
+    let mut total = ahead(starts, blocks, from);
+    for at in from..blocks.len() {
+        starts[at] = total;
+        total += blocks[at].len();
+    }
+}
+
+/// The number of runs ahead of a block, or in all of them, where those ahead of the blocks before it are counted.
+fn ahead(starts: &[usize], blocks: &[Block], from: usize) -> usize
+    requires long { length starts.now ≡ length blocks.now }
+    requires from { from ≤ length blocks.now }
+    requires counted { CountsTo from starts.now blocks.now }
+    requires room { length (all_runs blocks.now) < 2 ^ 64 }
+    ensures { result ≡ length (all_runs (take from blocks.now)) }
+{
+    if from == 0 {
+        return 0;
+    }
+    starts[from - 1] + blocks[from - 1].len()
 }

@@ -1,7 +1,7 @@
-use Rattle.std.proofs.Common.{◌≡◌, ◌<◌, ◌-◌, length, add-zero, arith, rules, true, false}
+use Rattle.std.proofs.Common.{◌≡◌, ◌<◌, length, add-zero, arith, rules, true, false}
 use Rattle.std.specs.Prelude.{leb}
 use Rattle.std.proofs.lemmas.Bool.{leb-true, leb-false}
-use Rattle.std.proofs.lemmas.List.{get_or-take, get_or-drop, get_or_default, length-take, length-drop}
+use Rattle.std.proofs.lemmas.List.{get_or-take, get_or-drop, length-take, length-drop}
 use Rattle.std.proofs.lemmas.List.Sorted.{IsPartitionPoint-from_clause, IsPartitionedBy-leb}
 use Rattle.std.specs.List.Sorted.{IsPartitionPoint}
 use Rattle.m88_base.specs.Placed.{Placed}
@@ -14,15 +14,6 @@ point c =
     IsPartitionPoint-from_clause (λ (run : Placed). leb run.at c.args.at) c.args.runs.now c.partition_point.result c.partition_point.ensures.partitioned
     (IsPartitionedBy-leb (λ (run : Placed). run.at) c.args.runs.now c.args.at (λ i j d p l. starts_rise 0 c.args.runs.now i j d c.requires p l))
     (λ a r f k. search rules)
-
-pub returns-then-at-clause-below : goal.returns-then-at-clause-below
-returns-then-at-clause-below c = λ k d h.
-    let runs = c.args.runs.now in
-    let within : k < length runs = omega (arith, simp length-take at h) in
-    let last : Placed = c.index-runs-runs.result in
-    let rise = starts_rise 0 runs k (length runs - 1) last c.requires (omega (arith, within)) (omega (arith, within)) in
-    rw (get_or-take (length runs) runs k d within, get_or_default runs k d last within)
-    (omega (arith, rw (← c.index-runs-runs.is) at rise, c.at.ensures))
 
 pub returns-clause-below : goal.returns-clause-below
 returns-clause-below c = λ k d h.

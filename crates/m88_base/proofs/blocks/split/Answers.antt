@@ -1,14 +1,42 @@
-use Rattle.std.proofs.Common.{add-one}
-use Rattle.m88_base.proofs.InBlocks.{halved, kept}
+use Rattle.std.proofs.Common.{◌≡◌, ◌+◌, ◌<◌, ◌∙◌, ◌/◌, refl, suc, [], List, ap, sym, length, get_or, set, add-one, arith, length-append}
+use Rattle.std.specs.Prelude.{insert}
+use Rattle.std.proofs.lemmas.List.Elements.{All-set}
+use Rattle.m88_base.specs.Placed.{Placed}
+use Rattle.m88_base.specs.Blocks.{all_runs}
+use Rattle.m88_base.proofs.InBlocks.{block_length, halved}
+use Rattle.m88_base.proofs.Counting.{filled_with}
+use Rattle.m88_base.proofs.blocks.split.Goals.{In_ok-upper, After-push}
 use Rattle.m88_base.proofs.blocks.split.Goals as goal
 
-pub returns-in_err-upper : goal.returns-in_err-upper
-returns-in_err-upper c =
-    kept c.args.blocks.now.items c.insert.new.self.items c.args.at c.index_mut-block.result.now c.split_off.new.self
-    (rw (c.new.ensures, add-one) at c.in_ok-insert.ensures.items) c.index_mut-block.ensures.value c.in_err-upper.ensures.err
+block : (c : In_ok-upper) → get_or c.args.blocks.now.items c.args.at [] ≡ c.index_mut-block.result.now
+block c =
+    block_length c.args.blocks.now.items c.args.at c.index_mut-block.result.now c.requires.at
+    (rw (c.in_ok-reserve-2.ensures.items) at c.index_mut-block.ensures.value)
 
-pub returns : goal.returns
-returns c =
-    rw add-one
-    (halved c.args.blocks.now.items c.insert.new.self.items c.args.at c.index_mut-block.result.now c.split_off.new.self c.in_ok-upper.upper c.requires
-    (rw (c.new.ensures, add-one) at c.in_ok-insert.ensures.items) c.index_mut-block.ensures.value c.in_ok-upper.ensures.ok)
+cut : (c : In_ok-upper) → all_runs (insert (set c.args.blocks.now.items c.args.at c.split_off.new.self) (suc c.args.at) c.in_ok-upper.upper) ≡ all_runs c.args.blocks.now.items
+cut c = halved c.args.blocks.now.items c.args.at c.split_off.new.self c.in_ok-upper.upper c.requires.at (c.in_ok-upper.ensures.ok ∙ sym (block c))
+
+now : (c : After-push) → c.insert.new.self.items ≡ insert (set c.args.blocks.now.items c.args.at c.split_off.new.self) (suc c.args.at) c.in_ok-upper.upper
+now c = rw (c.insert.ensures.items, c.if-is_err.ensures.negation, c.in_ok-reserve-2.ensures.items, add-one) refl
+
+pub count-requires-clause-room : goal.count-requires-clause-room
+count-requires-clause-room c =
+    let k = goal.at.count-requires-clause-room c in
+    rw (c.deref.ensures.value, now k.After-push, cut k.In_ok-upper) c.requires.room
+
+pub returns-clause-same : goal.returns-clause-same
+returns-clause-same c = let k = goal.at.returns-clause-same c in rw (now k.After-push) (cut k.In_ok-upper)
+
+pub returns-clause-filled : goal.returns-clause-filled
+returns-clause-filled c =
+    let k = goal.at.returns-clause-filled c in
+    let bs = c.args.blocks.now.items in
+    let lower : List Placed = c.split_off.new.self in
+    let upper : List Placed = c.in_ok-upper.upper in
+    let whole : length (get_or bs c.args.at []) ≡ length lower + length upper =
+    omega (arith, ap length (c.in_ok-upper.ensures.ok ∙ sym (block k.In_ok-upper)), length-append lower upper) in
+    let half : length lower ≡ length (get_or bs c.args.at []) / 2 = rw (block k.In_ok-upper) c.in_ok-upper.ensures.len in
+    let some : 0 < length lower = omega (arith, half, c.requires.long) in
+    let more : 0 < length upper = omega (arith, half, whole, c.requires.long) in
+    rw (now k.After-push)
+    (filled_with (set bs c.args.at lower) (suc c.args.at) upper more (All-set (λ runs. 0 < length runs) bs c.args.at lower some c.requires.filled))

@@ -1,6 +1,8 @@
-use Rattle.std.proofs.Common.{◌≡◌, length-set, set}
+use Rattle.std.proofs.Common.{◌≡◌, ◌<◌, [], get_or, length, length-set, set, refl, arith}
+use Rattle.std.proofs.lemmas.List.Elements.{All-set}
 use Rattle.m88_base.specs.Blocks.{all_runs}
-use Rattle.m88_base.proofs.InBlocks.{get_at, set_at}
+use Rattle.m88_base.proofs.InBlocks.{block_length, get_at, set_at}
+use Rattle.m88_base.proofs.Counting.{counts_kept}
 use Rattle.m88_base.proofs.blocks.Blocks.replace.Goals.{After-replace}
 use Rattle.m88_base.proofs.blocks.Blocks.replace.Goals as goal
 
@@ -11,7 +13,20 @@ changed c =
     (rw c.deref.ensures.value at c.place_of-at.ensures.place) (rw c.deref.ensures.value at c.place_of-at.ensures.inside) c.index_mut-block.ensures.value)
 
 pub invariant_of-self : goal.invariant_of-self
-invariant_of-self c = rw (changed ((goal.at.invariant_of-self c).After-replace), length-set) c.self.invariant
+invariant_of-self c =
+    let bs = c.self.inside.blocks.items in
+    let b = c.place_of-at.result.0 in
+    let within : b < length bs = rw c.deref.ensures.value at c.place_of-at.ensures.place.within in
+    let block : get_or bs b [] ≡ c.index_mut-block.result.now = block_length bs b c.index_mut-block.result.now within c.index_mut-block.ensures.value in
+    let long : length c.replace.new.self ≡ length (get_or bs b []) = rw (block, c.replace.ensures.now, length-set) refl in
+    let some : 0 < length c.replace.new.self = omega (arith, long, c.self.invariant.1 b [] within) in (
+      rw (changed ((goal.at.invariant_of-self c).After-replace), length-set) c.self.invariant.0,
+      All-set (λ runs. 0 < length runs) bs b c.replace.new.self some c.self.invariant.1,
+      record {
+        long = rw length-set c.self.invariant.2.long;
+        each = rw length-set (counts_kept (length bs) c.self.inside.starts.items bs b c.replace.new.self within long c.self.invariant.2.each);
+      },
+    )
 
 pub returns-clause-was : goal.returns-clause-was
 returns-clause-was c =
