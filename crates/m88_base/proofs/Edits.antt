@@ -107,3 +107,30 @@ bridged xs (suc i) at bytes run next h is js above below =
     let ends = gap xs (suc i) at (length bytes) run next is js above below in
     let placed = places_across (take i xs) more run.at at next.at run.bytes bytes next.bytes ends.0 (sym ends.1) (rw cut at h) in
     rw (e, set_split xs i whole here, back, gone) (rw (← cut) at placed)
+
+-- two runs as one, in the place of the upper one or of the lower one
+same_removed : (xs : List Placed) (j : ℕ) (whole : Placed) → suc j < length xs → remove (set xs (suc j) whole) j ≡ remove (set xs j whole) (suc j)
+same_removed [] j whole l = absurd (omega arith)
+same_removed (x ∷ []) j whole l = absurd (omega arith)
+same_removed (x ∷ y ∷ xs) zero whole l = refl
+same_removed (x ∷ y ∷ xs) (suc j) whole l = ap (λ zs. x ∷ zs) (same_removed (y ∷ xs) j whole (omega arith))
+
+pub bridged_down : (xs : List Placed) (i at : ℕ) (bytes front : List ℕ) (run next : Placed) → AreApart 0 xs → run ≡ get_or xs (i - 1) run
+    → next ≡ get_or xs i next → next_start 0 (take i xs) ≡ at + 1 → BeginsAt (drop i xs) (at + length bytes) → front ≡ run.bytes ++ bytes
+    → Places xs (remove (set xs i (record { at = next.at - length front; bytes = front ++ next.bytes })) (i - 1)) at bytes
+bridged_down xs zero at bytes front run next h is js above below f = absurd (omega arith)
+bridged_down xs (suc i) at bytes front run next h is js above below f =
+    let e : suc i - 1 ≡ i = omega arith in
+    let l : suc i < length xs = begins_within xs (suc i) (at + length bytes) below in
+    let ends = gap xs (suc i) at (length bytes) run next is js above below in
+    let begin : next.at - length front ≡ run.at = omega (arith, ends.0, ends.1, ap length f, length-append run.bytes bytes) in
+    let bytes_as : front ++ next.bytes ≡ run.bytes ++ (bytes ++ next.bytes) = ap (λ ys. ys ++ next.bytes) f ∙ append_assoc run.bytes bytes next.bytes in
+    rw (begin, bytes_as, e, same_removed xs i (record { at = run.at; bytes = run.bytes ++ (bytes ++ next.bytes) }) l)
+    (rw e at (bridged xs (suc i) at bytes run next h is js above below))
+
+-- the bytes that go ahead of the run at the index have room below it
+pub short_front : (xs : List Placed) (i at : ℕ) (bytes front : List ℕ) (run next : Placed) → run ≡ get_or xs (i - 1) run → next ≡ get_or xs i next
+    → next_start 0 (take i xs) ≡ at + 1 → BeginsAt (drop i xs) (at + length bytes) → front ≡ run.bytes ++ bytes → length front ≤ next.at
+short_front xs i at bytes front run next is js above below f =
+    let ends = gap xs i at (length bytes) run next is js above below in
+    omega (arith, ends.0, ends.1, ap length f, length-append run.bytes bytes)

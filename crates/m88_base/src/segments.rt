@@ -1,5 +1,5 @@
 //! Runs in ascending order, with an address without a byte between each two.
-ghost use Rattle.std.specs.Prelude.{◌≡◌, ◌+◌, ◌^◌, ◌<◌, ◌≤◌, ◌↔◌, ℕ, [], take, drop, length, slice_get, IfOk, OnOk, OnErr, IfNone, IfSome, IsTrue, None, Some};
+ghost use Rattle.std.specs.Prelude.{◌≡◌, ◌+◌, ◌^◌, ◌<◌, ◌≤◌, ◌↔◌, ℕ, [], ◌++◌, take, drop, length, slice_get, IfOk, OnOk, OnErr, IfNone, IfSome, IsTrue, None, Some};
 ghost use Rattle.m88_base.specs.Found.{IsFree, IsLeastTaken, IsPart};
 ghost use Rattle.m88_base.specs.Placed.{AreApart, byte_among};
 ghost use Rattle.m88_base.specs.Placing.{BeginsAt, IsCut, Places, next_start};
@@ -225,8 +225,30 @@ impl Segments {
         }
     }
 
-    /// Places bytes that fill the gap between the run below `index` and the one at it.
+    /// Places bytes that fill the gap between the run below `index` and the one at it. The shorter run moves, so that
+    /// no byte moves often, in whatever order the gaps are filled.
     fn bridge(
+        &mut self,
+        alloc: Global,
+        index: usize,
+        at: u32,
+        bytes: &[u8],
+    ) -> Result<(), AllocError>
+        requires above { next_start 0 (take index self.old) ≡ at + 1 }
+        requires below { BeginsAt (drop index self.old) (at + length bytes.now) }
+        ensures ok { OnOk result (Places self.old self.new at bytes.now) }
+        ensures err { OnErr result (self.new ≡ self.old) }
+    {
+        let below = self.runs.get(index - 1).bytes().len();
+        let above = self.runs.get(index).bytes().len();
+        if below < above {
+            return self.bridge_down(alloc, index, at, bytes);
+        }
+        self.bridge_up(alloc, index, at, bytes)
+    }
+
+    /// Places bytes that fill such a gap, with the run above it behind the one below it.
+    fn bridge_up(
         &mut self,
         alloc: Global,
         index: usize,
@@ -252,6 +274,43 @@ impl Segments {
             }
         }
     }
+    /// Places bytes that fill such a gap, with the run below it ahead of the one above it.
+    fn bridge_down(
+        &mut self,
+        alloc: Global,
+        index: usize,
+        at: u32,
+        bytes: &[u8],
+    ) -> Result<(), AllocError>
+        requires above { next_start 0 (take index self.old) ≡ at + 1 }
+        requires below { BeginsAt (drop index self.old) (at + length bytes.now) }
+        ensures ok { OnOk result (Places self.old self.new at bytes.now) }
+        ensures err { OnErr result (self.new ≡ self.old) }
+    {
+        let below = self.runs.get(index - 1);
+        let front = joined(alloc, below.bytes(), bytes)?;
+        let mut run = self.runs.replace(index, Segment::empty(alloc));
+        match run.prepend(alloc, &front) {
+            Ok(()) => {
+                let _ = self.runs.replace(index, run);
+                self.runs.remove(index - 1);
+                Ok(())
+            }
+            Err(fault) => {
+                let _ = self.runs.replace(index, run);
+                Err(fault)
+            }
+        }
+    }
+}
+
+/// Copies of two lists of bytes in a row.
+fn joined(alloc: Global, first: &[u8], second: &[u8]) -> Result<Vec<u8>, AllocError>
+    ensures { IfOk result (λ both. both.items ≡ first.now ++ second.now) }
+{
+    let mut both = Vec::from_slice(alloc, first)?;
+    both.extend_from_slice(second)?;
+    Ok(both)
 }
 
 /// The first address at which one more run may begin behind the runs below `index`.

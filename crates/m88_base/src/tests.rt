@@ -281,6 +281,25 @@ fn an_image_joins_what_touches_and_refuses_what_overlaps(rt: HostRuntime) {
 }
 
 #[test]
+fn parts_of_many_blocks_become_one_in_either_order(rt: HostRuntime) {
+    for falling in [false, true] {
+        let mut image = Image::new(rt.alloc());
+        for (first, parts, gap) in [(0u32, 3000, None), (1, 1, Some(b'm'))] {
+            for turn in 0..3000u32 {
+                let place = if falling { 2999 - turn } else { turn };
+                assert_eq!(rt;
+                    image.add(0x1000 + first + 2 * place, b"m"),
+                    Ok(()),
+                    "{first} {place}"
+                );
+            }
+            assert_eq!(rt; image.part_count(), parts, "{falling}");
+            assert_eq!(rt; (image.byte(0x1D48), image.byte(0x1D49)), (Some(b'm'), gap));
+        }
+    }
+}
+
+#[test]
 fn names_are_1_to_64_letters_digits_and_marks(rt: HostRuntime) {
     let long = [b'a'; 65];
     for (bytes, fine) in [

@@ -3,8 +3,8 @@ use Rattle.std.proofs.lemmas.Grind.{common_steps}
 use Rattle.m88_base.specs.Placing.{Places}
 use Rattle.m88_base.proofs.InBlocks.{put_back}
 use Rattle.m88_base.proofs.Edits.{bridged, gap, next_stands, set_again}
-use Rattle.m88_base.proofs.segments.Segments.bridge.Goals.{After-bytes, After-remove, After-replace-in-Err}
-use Rattle.m88_base.proofs.segments.Segments.bridge.Goals as goal
+use Rattle.m88_base.proofs.segments.Segments.bridge_up.Goals.{After-bytes, After-remove, After-replace-in-Err}
+use Rattle.m88_base.proofs.segments.Segments.bridge_up.Goals as goal
 
 next : (c : After-bytes) → c.get-next.result.now ≡ get_or c.self.inside.runs c.args.index c.get-next.result.now
 next c =
