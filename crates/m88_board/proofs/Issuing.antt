@@ -15,7 +15,7 @@ use Rattle.m88_isa.proofs.Apart.{issue_stays_apart}
 use Rattle.m88_isa.proofs.Held.{meaning_seen}
 use Rattle.m88_isa.proofs.Plans.{at_most_two, touches_counted}
 use Rattle.m88_isa.proofs.Turns.{listed_recorded, traps_wait}
-use Rattle.m88_isa.specs.Bus.{LoadApart, after_accesses, listed, waits_for}
+use Rattle.m88_isa.specs.Bus.{LoadApart, after_accesses, listed}
 use Rattle.m88_isa.specs.Effect.{Change, Meaning, goes, meaning_of, plan_for, raises, recorded_change, traps}
 use Rattle.m88_isa.specs.Held.{Hold, busy, busy_register, exceeds, full, held, is_pending, most_pending, needs_empty, sync}
 use Rattle.m88_isa.specs.History.{change_accesses}
@@ -28,7 +28,6 @@ use Rattle.m88_isa.specs.declared.instr.Instr.{Instr}
 use Rattle.m88_isa.specs.declared.planned.Access.{Access}
 use Rattle.m88_isa.specs.declared.planned.Effect.{Effect}
 use Rattle.m88_isa.specs.declared.planned.Plan.TheVariants.{Go, Raise, Trap}
-use Rattle.m88_scoreboard.specs.Registers.{shown_at}
 use Rattle.m88_board.specs.Board.{BoardView, cells_of, completed_of, pc_of, next_of}
 use Rattle.m88_board.specs.Kept.{IsKept}
 use Rattle.m88_board.proofs.Choosing.{did_by}
@@ -56,15 +55,6 @@ by_meaning : (i : Instr) (b : BoardView) (m : Meaning) → meaning_at i (complet
     choice_for (Some i) b ≡ choice_meant i b m
 by_meaning i b m means = ap (choice_meant i b) means
 
--- the registers show what they hold where nothing waits
-shown_right : (b : BoardView) (shown : List ℕ) → IsKept b →
-    ((r : ℕ) → r < 32 → slice_index shown r ≡ shown_at b.file r) →
-    (r : ℕ) → r < 32 → waits_for b.pending r ≡ false → slice_index shown r ≡ slice_index b.file.numbers r
-shown_right b shown kept each r low ready =
-    each r low
-    ∙ ap (λ (w : Bool). if w then 0 else slice_index b.file.numbers r)
-    (ap (λ set. set r) kept.parts.waiting ∙ ready)
-
 -- NIP is the next instruction where it is to be carried out
 pc_valid : (b : BoardView) → b.slots.nip.v ≡ true → b.slots.nip.addr ≡ pc_of b.slots
 pc_valid b valid = sym (ap (λ (v : Bool). if v then b.slots.nip.addr else b.slots.fip.addr) valid)
@@ -79,17 +69,15 @@ pub meant : (i : Instr) (inside b : BoardView) (shown : List ℕ) (carry mxm : B
     IsKept inside →
     b.slots.nip.v ≡ true →
     busy_register (Some i) b.pending ≡ None →
-    ((r : ℕ) → r < 32 → slice_index shown r ≡ shown_at inside.file r) →
+    shown ≡ inside.file.numbers →
     carry ≡ carry_of inside.control →
     mxm ≡ mxm_of inside.control →
     pc ≡ inside.slots.nip.addr →
     next ≡ inside.slots.fip.addr →
     meaning_of i shown carry mxm pc next ≡ meaning_at i (completed_of b)
 unfolding completed_of
-meant i inside b shown carry mxm pc next same kept valid free each carries modes here behind =
-    let kept : IsKept b = subst IsKept same kept in
-    let each : ((r : ℕ) → r < 32 → slice_index shown r ≡ shown_at b.file r) =
-    subst (λ (x : BoardView). (r : ℕ) → r < 32 → slice_index shown r ≡ shown_at x.file r) same each in
+meant i inside b shown carry mxm pc next same kept valid free numbers carries modes here behind =
+    let numbers : shown ≡ b.file.numbers = numbers ∙ ap (λ (x : BoardView). x.file.numbers) same in
     let carries : carry ≡ carry_of b.control = carries ∙ ap (λ (x : BoardView). carry_of x.control) same in
     let modes : mxm ≡ mxm_of b.control = modes ∙ ap (λ (x : BoardView). mxm_of x.control) same in
     let here : pc ≡ pc_of b.slots =
@@ -97,7 +85,8 @@ meant i inside b shown carry mxm pc next same kept valid free each carries modes
     let behind : next ≡ next_of b.slots =
     behind ∙ ap (λ (x : BoardView). x.slots.fip.addr) same ∙ next_valid b valid in
     let regs : List ℕ = (after_accesses b.pending (cells_of b.file b.memory)).regs in
-    meaning_seen i b.pending (cells_of b.file b.memory) shown carry mxm pc next free (shown_right b shown kept each)
+    meaning_seen i b.pending (cells_of b.file b.memory) shown carry mxm pc next free
+    (λ r low ready. ap (λ (xs : List ℕ). slice_index xs r) numbers)
     ∙ ap (λ (k : Bool). meaning_of i regs k mxm pc next) carries
     ∙ ap (λ (k : Bool). meaning_of i regs (carry_of b.control) k pc next) modes
     ∙ ap (λ (k : ℕ). meaning_of i regs (carry_of b.control) (mxm_of b.control) k next) here

@@ -88,6 +88,13 @@ impl RegFile {
         values
     }
 
+    /// What the registers hold, also those that wait.
+    pub fn numbers(&self) -> &[u32; 32]
+        ensures { result.now ≡ self.now.numbers }
+    {
+        &self.numbers
+    }
+
     /// Writes a register that doesn't wait; nothing happens to r0.
     pub fn set(&mut self, r: Reg, value: u32)
         requires { waiting_of self.old (number_of r) ≡ false }

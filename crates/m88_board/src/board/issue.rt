@@ -129,7 +129,7 @@ impl Board {
     {
         plan(
             instr,
-            &self.regs.values(),
+            self.regs.numbers(),
             self.ctrl.carry(),
             self.ctrl.mxm(),
             self.iunit.candidate().addr,

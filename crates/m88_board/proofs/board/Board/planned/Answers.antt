@@ -11,12 +11,12 @@ use Rattle.m88_board.proofs.board.Board.planned.Goals as goal
 pub returns-clause-value : goal.returns-clause-value
 returns-clause-value c =
     c.plan.ensures.value
-    ∙ ap plan_for (meant c.args.instr.now (the_view c.self.inside) c.args.self.now c.values.result c.carry.result c.mxm.result
+    ∙ ap plan_for (meant c.args.instr.now (the_view c.self.inside) c.args.self.now c.numbers.result.now c.carry.result c.mxm.result
     c.candidate.result.addr c.following.result.addr c.self.view_is c.self.invariant c.requires.valid c.requires.free
-    c.values.ensures.each c.carry.ensures c.mxm.ensures (ap (λ (s : Slot). s.addr) c.candidate.ensures.value)
+    c.numbers.ensures c.carry.ensures c.mxm.ensures (ap (λ (s : Slot). s.addr) c.candidate.ensures.value)
     (ap (λ (s : Slot). s.addr) c.following.ensures.value))
 
 pub returns-clause-pages : goal.returns-clause-pages
 returns-clause-pages c =
     subst PlansOnePage (sym c.plan.ensures.value)
-    (one_page c.args.instr.now c.values.result c.carry.result c.mxm.result c.candidate.result.addr c.following.result.addr)
+    (one_page c.args.instr.now c.numbers.result.now c.carry.result c.mxm.result c.candidate.result.addr c.following.result.addr)
