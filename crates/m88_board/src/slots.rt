@@ -16,16 +16,30 @@ pub(crate) fn lacks_word(memory: &Memory, addr: u32) -> bool
     memory.fetch(addr).is_none()
 }
 
+/// Whether the image lacks a byte of the word at an address, which FIP knows where that is its own.
+fn lacks_next(iunit: &InstrUnit, memory: &Memory, next: u32) -> bool
+    requires slots { SlotsAgree memory.now.image iunit.now }
+    requires word { next % 4 ≡ 0 }
+    ensures { result ≡ lacks_word memory.now.image next }
+{
+    let fip = iunit.following();
+    if next == fip.addr {
+        return fip.e;
+    }
+    lacks_word(memory, next)
+}
+
 /// The next instruction, which could be fetched, goes into execution, and others follow it.
 pub(crate) fn advance(iunit: &mut InstrUnit, memory: &Memory, after: (u32, u32), bubble: bool)
     requires valid { iunit.old.nip.v ≡ true }
     requires fetched { iunit.old.nip.e ≡ false }
     requires flow { FlowFits after bubble }
+    requires agree { SlotsAgree memory.now.image iunit.old }
     ensures advanced { IsAdvanced iunit.old iunit.new after.0 after.1 bubble }
     ensures slots { SlotsAgree memory.now.image iunit.new }
 {
     let (next, behind) = after;
-    let next_e = lacks_word(memory, next);
+    let next_e = lacks_next(iunit, memory, next);
     let behind_e = lacks_word(memory, behind);
     iunit.advance(next, next_e, behind, behind_e, bubble);
 }
