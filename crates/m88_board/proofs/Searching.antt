@@ -1,7 +1,18 @@
 -- The least number that passes a test, a number at a time.
 use Rattle.std.specs.Prelude.{ℕ, zero, suc, Bool, true, false, Some, None, ◌≡◌, ◌<◌, ◌≤◌, ◌+◌, ◌-◌}
 use Rattle.std.proofs.Common.{arith, refl, sym, ap, ◌∙◌}
-use Rattle.m88_isa.specs.Held.{first_from}
+use Rattle.std.specs.Prelude.{List, min, max, not, ◌==◌, ◌&&◌, ◌||◌, bit_and, bit_or}
+use Rattle.std.specs.Int.{bit_at}
+use Rattle.std.specs.Int.Bits.{and_zero_l}
+use Rattle.std.proofs.lemmas.Bool.{eqb-true}
+use Rattle.std.proofs.lemmas.Nat.Bits.{bit_at_and, bit_at_or, bit_at-zero}
+use Rattle.m88_base.specs.RegisterSet.{registers_in}
+use Rattle.m88_isa.proofs.Held.{none_passes}
+use Rattle.m88_isa.specs.Bus.{waits_for}
+use Rattle.m88_isa.specs.Held.{busy_register, first_from, involves}
+use Rattle.m88_isa.specs.Operands.{uses_of, writes_of}
+use Rattle.m88_isa.specs.declared.instr.Instr.{Instr}
+use Rattle.m88_isa.specs.declared.planned.Access.{Access}
 
 first_passes : (n count : ℕ) (p : ℕ → Bool) → p n ≡ true → first_from n (suc count) p ≡ Some n
 unfolding first_from
@@ -28,3 +39,43 @@ not_here n p low h =
 
 pub nowhere : (n : ℕ) (p : ℕ → Bool) → 32 ≤ n → first_from n (32 - n) p ≡ None
 nowhere n p high = ap (λ k. first_from n k p) (let none : 32 - n ≡ 0 = omega (arith, high) in none) ∙ first_none n p
+
+no_second : (a : Bool) → (a && false) ≡ false
+no_second true = refl
+no_second false = refl
+
+-- of two words without a bit in common, the one has none that the other has
+apart_bits : (u w b : ℕ) → min b (max u w) ≡ 0 → ((u == 1 || w == 1) && (b == 1)) ≡ false
+apart_bits u w zero h = no_second (u == 1 || w == 1)
+apart_bits zero zero (suc b) h = refl
+apart_bits (suc u) w (suc b) h = absurd (omega (arith, h))
+apart_bits zero (suc w) (suc b) h = absurd (omega (arith, h))
+
+set_where_not_unset : (v : Bool) → not v ≡ false → v ≡ true
+set_where_not_unset true h = refl
+set_where_not_unset false h = absurd cc
+
+-- a word that isn't other than 0 is 0
+pub no_bits : (word : ℕ) → not (word == 0) ≡ false → word ≡ 0
+no_bits word h = eqb-true word 0 (set_where_not_unset (word == 0) h)
+
+-- no register waits that an instruction uses or writes, where the words have no bit in common
+pub none_waits_for : (i : Instr) (pending : List Access) (waiting touched : ℕ) → registers_in waiting ≡ waits_for pending
+    → touched ≡ bit_or (uses_of i) (writes_of i) → bit_and waiting touched ≡ 0 → busy_register (Some i) pending ≡ None
+unfolding busy_register
+none_waits_for i pending waiting touched names word apart =
+    none_passes 1 31 (λ register. involves (Some i) register && waits_for pending register) each
+  where
+    each : (k : ℕ) → (involves (Some i) k && waits_for pending k) ≡ false
+    each zero = rw (← names) (no_second (involves (Some i) 0))
+    each (suc k) =
+        let both : min (bit_at waiting (suc k)) (max (bit_at (uses_of i) (suc k)) (bit_at (writes_of i) (suc k))) ≡ 0 =
+        sym (bit_at_and waiting touched (suc k) ∙ ap (λ n. min (bit_at waiting (suc k)) n) (ap (λ n. bit_at n (suc k)) word ∙ bit_at_or (uses_of i) (writes_of i) (suc k)))
+        ∙ ap (λ n. bit_at n (suc k)) apart ∙ bit_at-zero (suc k) in
+        rw (← names) (apart_bits (bit_at (uses_of i) (suc k)) (bit_at (writes_of i) (suc k)) (bit_at waiting (suc k)) both)
+
+-- nor where no register waits
+pub none_waits_at_all : (i : Instr) (pending : List Access) (waiting : ℕ) → registers_in waiting ≡ waits_for pending → waiting ≡ 0
+    → busy_register (Some i) pending ≡ None
+none_waits_at_all i pending waiting names none =
+    none_waits_for i pending waiting (bit_or (uses_of i) (writes_of i)) names refl (rw none (and_zero_l (bit_or (uses_of i) (writes_of i))))

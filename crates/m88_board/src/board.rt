@@ -416,11 +416,26 @@ impl Board {
         (uses(instr) >> n) % 2 == 1 || (writes(instr) >> n) % 2 == 1
     }
 
+    /// Whether a register may wait that an instruction uses or writes: those that do have a bit in common.
+    fn may_wait(&self, instr: &Instr) -> bool
+        requires { IsValid instr.now }
+        ensures { result ≡ false → busy_register (Some instr.now) self.now.pending ≡ None }
+    {
+        let waiting = self.regs.busy();
+        if waiting == 0 {
+            return false;
+        }
+        waiting & (uses(instr) | writes(instr)) != 0
+    }
+
     /// The register with the least number, other than r0, that an instruction uses or writes and that waits.
     fn busy_register(&self, instr: &Instr) -> Option<Reg>
         requires { IsValid instr.now }
         ensures { option_map number_of result ≡ busy_register (Some instr.now) self.now.pending }
     {
+        if !self.may_wait(instr) {
+            return None;
+        }
         for n in 1..32 {
             let r = Reg::from_low_bits(n);
             if self.waits_on(instr, r) {
