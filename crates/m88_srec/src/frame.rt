@@ -1,15 +1,15 @@
 //! Records as lines: their bytes framed by count and sum, and written in digits.
-ghost use Rattle.std.specs.Prelude.{◌≡◌, ◌+◌, ◌≤◌, ◌++◌, length, OnOk};
+ghost use Rattle.std.specs.Prelude.{◌≡◌, ◌+◌, ◌*◌, ◌≤◌, ◌∷◌, ◌++◌, length, OnOk};
 ghost use Rattle.std.specs.Int.{to_be_bytes, w32};
 ghost use Rattle.std.specs.List.{flat_map};
 ghost use Rattle.m88_base.specs.Hex.{hex2};
 ghost use Rattle.m88_base.specs.Lines.{line_end};
-ghost use Rattle.m88_srec.specs.Records.{framed};
+ghost use Rattle.m88_srec.specs.Records.{framed, letter_s};
 ghost use Rattle.m88_srec.specs.Written.{data_line, last_line, header_line, record_line};
 
 use crate::record::check_of;
 use arrayvec::ArrayVec;
-use m88_base::push_hex2;
+use m88_base::hex_digit;
 use std::alloc::AllocError;
 
 /// The most bytes of data in a record that is written.
@@ -20,6 +20,9 @@ const MOST_BODY: usize = 4 + MOST_DATA;
 
 /// The most bytes of a record that is written: the count, a body and the sum.
 const MOST_RECORD: usize = MOST_BODY + 2;
+
+/// The most bytes of the line of a record that is written: the letter, a digit, two for each byte, and its end.
+const MOST_LINE: usize = 2 + 2 * MOST_RECORD + 1;
 
 /// The bytes of a record: the count, the body and the sum.
 fn framed(body: &[u8]) -> ArrayVec<u8, MOST_RECORD>
@@ -36,14 +39,29 @@ fn framed(body: &[u8]) -> ArrayVec<u8, MOST_RECORD>
     bytes
 }
 
-/// Appends bytes in digits.
-fn push_digits(text: &mut Vec<u8>, bytes: &[u8]) -> Result<(), AllocError>
-    ensures { OnOk result (text.new.items ≡ text.old.items ++ flat_map hex2 bytes.now) }
+/// Appends a byte in two digits.
+fn push_pair(line: &mut ArrayVec<u8, MOST_LINE>, byte: u8)
+    requires { length line.old.items + 2 ≤ MOST_LINE }
+    ensures items { line.new.items ≡ line.old.items ++ hex2 byte }
+    ensures len { length line.new.items ≡ length line.old.items + 2 }
 {
+    line.push(hex_digit(u32::from(byte >> 4)));
+    line.push(hex_digit(u32::from(byte & 15)));
+}
+
+/// The line of a record with a type digit, from its bytes.
+fn line_of(digit: u8, bytes: &[u8]) -> ArrayVec<u8, MOST_LINE>
+    requires { length bytes.now ≤ MOST_RECORD }
+    ensures { result.items ≡ (letter_s ∷ digit ∷ flat_map hex2 bytes.now) ++ line_end }
+{
+    let mut line = ArrayVec::new();
+    line.push(b'S');
+    line.push(digit);
     for byte in bytes {
-        push_hex2(text, *byte)?;
+        push_pair(&mut line, *byte);
     }
-    Ok(())
+    line.push(b'\n');
+    line
 }
 
 /// An address and the bytes from it on.
@@ -68,10 +86,8 @@ fn push_record(text: &mut Vec<u8>, digit: u8, body: &[u8]) -> Result<(), AllocEr
     ensures { OnOk result (text.new.items ≡ text.old.items ++ (record_line digit body.now
         ++ line_end)) }
 {
-    text.push(b'S')?;
-    text.push(digit)?;
-    push_digits(text, framed(body).as_slice())?;
-    text.push(b'\n')?;
+    let bytes = framed(body);
+    text.extend_from_slice(line_of(digit, bytes.as_slice()).as_slice())?;
     Ok(())
 }
 
