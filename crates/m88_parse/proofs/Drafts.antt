@@ -1,10 +1,7 @@
 -- The modules of a source as they grow, row by row.
-use Rattle.std.proofs.Common.{◌≡◌, ℕ, ◌+◌, ◌<◌, ◌≤◌, ◌⊎◌, inl, inr, List, [], ◌∷◌, ◌++◌, length, Option, Some, None, Result, Ok, Err, refl, sym, ap, subst, ◌∙◌, append_assoc, length-append, arith}
-use Rattle.std.specs.Prelude.{IfOk, IfErr, IfSome, OnErr, MatchResult}
-use Rattle.std.specs.List.{All, sum_by}
+use Rattle.std.proofs.Common.{◌≡◌, ℕ, ◌+◌, ◌⊎◌, inl, inr, List, [], ◌∷◌, ◌++◌, length, Option, Some, None, Result, Ok, Err, refl, sym, ap, ◌∙◌, append_assoc, arith}
+use Rattle.std.specs.Prelude.{IfOk, IfErr, MatchResult}
 use Rattle.std.proofs.lemmas.List.{append-nil}
-use Rattle.std.proofs.lemmas.List.Sums.{sum_by_push}
-use Rattle.std.proofs.lemmas.List.Elements.{All-nil, All-push}
 use Rattle.m88_parse.specs.declared.fault.ParseFault.{ParseFault}
 use Rattle.m88_parse.specs.declared.unit.Statement.{Statement}
 use Rattle.m88_parse.specs.declared.unit.Module.{Module}
@@ -15,8 +12,7 @@ use Rattle.m88_parse.specs.Fault.{out_of_memory}
 use Rattle.m88_parse.specs.Reader.State.{◌>>=◌}
 use Rattle.m88_base.specs.Lines.{lines_of}
 use Rattle.m88_parse.specs.Reader.Source.{grouped, row_of_line, rows_of, with_row, unit_of_rows, unit_of}
-use Rattle.m88_parse.specs.Reader.Drafts.{Drafted, nothing_yet, with_more, modules_with, modules_after, begun, open_count, count_in, AreFormed, leads, Follows, LeadsOn, EndsWith}
-use Rattle.m88_parse.specs.WellFormed.{IsFormedStatement, IsFormedModule}
+use Rattle.m88_parse.specs.Reader.Drafts.{Drafted, nothing_yet, with_more, modules_with, modules_after, begun, leads, Follows, LeadsOn, EndsWith}
 
 more_first : (closed : List Module) (m : Module) (x : Statement) (g : List Statement) (ms : List Module)
     → closed ++ with_more (with_more m (x ∷ [])) g ∷ ms ≡ closed ++ with_more m (x ∷ g) ∷ ms
@@ -67,64 +63,6 @@ head_follows closed new_closed m next d n h e rows =
 pub first_head_follows : (closed : List Module) (next : Module) (d : Drafted) → next.statements ≡ [] → record { closed = closed; current = None } ≡ d
     → Follows (record { closed = closed; current = Some next }) d (Some (row.Head next.name next.line))
 first_head_follows closed next d n e rows = after_first_head closed next rows n ∙ ap (λ (k : Drafted). modules_after k (row.Head next.name next.line ∷ rows)) e
-
--- what the modules at the end hold
-pub end_some : (closed all : List Module) (m : Module) → all ≡ closed ++ m ∷ [] → 0 < length all
-end_some closed all m e = omega (arith, ap length e, length-append closed (m ∷ []))
-
--- the statements of modules
-abbrev statements_in : List Module → ℕ
-statements_in ms = sum_by (λ m. length m.statements) ms
-
-begun_count : (current : Option Module) → length (begun current).statements ≡ open_count current
-begun_count None = refl
-begun_count (Some m) = refl
-
-pub end_count : (closed all : List Module) (current : Option Module) (d : Drafted) → all ≡ closed ++ begun current ∷ [] → record { closed = closed; current = current } ≡ d → statements_in all ≡ count_in d
-end_count closed all current d e h =
-    ap statements_in e ∙ sum_by_push (λ m. length m.statements) closed (begun current)
-    ∙ ap (λ (n : ℕ). statements_in closed + n) (begun_count current) ∙ ap count_in h
-
-begun_formed : (current : Option Module) → IfSome current IsFormedModule → IsFormedModule (begun current)
-begun_formed None h = All-nil IsFormedStatement
-begun_formed (Some m) h = h
-
-pub end_formed : (closed all : List Module) (current : Option Module) → all ≡ closed ++ begun current ∷ [] → AreFormed closed current → All IsFormedModule all
-end_formed closed all current e h = subst (All IsFormedModule) (sym e) (All-push IsFormedModule closed (begun current) h.0 (begun_formed current h.1))
-
--- what a row more does to the count and to what is formed
-pub statement_count : (closed : List Module) (current : Option Module) (next : Module) (d : Drafted) (x : Statement) → next ≡ with_more (begun current) (x ∷ []) → record { closed = closed; current = current } ≡ d
-    → count_in (record { closed = closed; current = Some next }) ≤ count_in d + 1
-statement_count closed current next d x h e =
-    omega (arith, ap (λ (m : Module). length m.statements) h, length-append (begun current).statements (x ∷ []), begun_count current, ap count_in e)
-
-pub pushed_count : {X : Type 0} (r : Result X ParseFault) (closed : List Module) (m next : Module) (d : Drafted) (x : Statement) → IfOk r (λ y. next ≡ with_more m (x ∷ []))
-    → record { closed = closed; current = Some m } ≡ d → IfOk r (λ y. count_in (record { closed = closed; current = Some next }) ≤ count_in d + 1)
-pushed_count (Ok y) closed m next d x h e = statement_count closed (Some m) next d x h e
-pushed_count (Err f) closed m next d x h e = tt
-
-pub pushed_formed : {X : Type 0} (r : Result X ParseFault) (m next : Module) (x : Statement) → IfOk r (λ y. next ≡ with_more m (x ∷ [])) → OnErr r (next ≡ m) → IsFormedStatement x → IsFormedModule m → IsFormedModule next
-pushed_formed (Ok y) m next x h k s f = subst IsFormedModule (sym h) (All-push IsFormedStatement m.statements x f s)
-pushed_formed (Err e) m next x h k s f = subst IsFormedModule (sym k) f
-
-pub begun_with : (current : Option Module) (next : Module) (x : Statement) → next ≡ with_more (begun current) (x ∷ []) → IsFormedStatement x → IfSome current IsFormedModule → IsFormedModule next
-begun_with current next x h s f = subst IsFormedModule (sym h) (All-push IsFormedStatement (begun current).statements x (begun_formed current f) s)
-
-pub head_count : (closed new_closed : List Module) (m next : Module) (o : Option Module) (d : Drafted) → o ≡ Some next → next.statements ≡ [] → new_closed ≡ closed ++ m ∷ [] → record { closed = closed; current = Some m } ≡ d
-    → count_in (record { closed = new_closed; current = o }) ≤ count_in d + 1
-head_count closed new_closed m next o d k n h e =
-    omega (arith, ap open_count k, ap (λ (xs : List Statement). length xs) n, ap statements_in h, sum_by_push (λ m. length m.statements) closed m, ap count_in e)
-
-pub first_head_count : (closed : List Module) (next : Module) (o : Option Module) (d : Drafted) → o ≡ Some next → next.statements ≡ [] → record { closed = closed; current = None } ≡ d
-    → count_in (record { closed = closed; current = o }) ≤ count_in d + 1
-first_head_count closed next o d k n e = omega (arith, ap open_count k, ap (λ (xs : List Statement). length xs) n, ap count_in e)
-
-pub head_formed : (closed : List Module) (next : Module) (o : Option Module) → o ≡ Some next → next.statements ≡ [] → All IsFormedModule closed → AreFormed closed o
-head_formed closed next o k n f = (f, subst (λ (p : Option Module). IfSome p IsFormedModule) (sym k) (subst (All IsFormedStatement) (sym n) (All-nil IsFormedStatement)))
-
-pub closed_formed : (closed new_closed : List Module) (m : Module) (current : Option Module) → current ≡ Some m → new_closed ≡ closed ++ m ∷ [] → AreFormed closed current → All IsFormedModule new_closed
-closed_formed closed new_closed m current k h f =
-    subst (All IsFormedModule) (sym h) (All-push IsFormedModule closed m f.0 (subst (λ (p : Option Module). IfSome p IsFormedModule) k f.1))
 
 leads_on : (after before : Drafted) (r : Option Row) (read : Result (List Row) ParseFault)
     → Follows after before r → leads after read ≡ leads before (read >>= λ rows. Ok (with_row r rows))

@@ -6,7 +6,6 @@ pub mod Names
 pub mod State
 pub mod Slots
 pub mod Operands
-pub mod Kept
 pub mod Directives
 pub mod Grammar
 pub mod Source

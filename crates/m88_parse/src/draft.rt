@@ -1,13 +1,10 @@
 //! The modules of a source as they grow, row by row.
-ghost use Rattle.std.specs.Prelude.{◌≡◌, ◌<◌, ◌≤◌, ◌+◌, ◌∷◌, Some, [], length, IfOk, IfErr, OnErr, MatchResult};
-ghost use Rattle.std.specs.List.{All, sum_by};
+ghost use Rattle.std.specs.Prelude.{◌≡◌, ◌∷◌, Some, [], IfOk, IfErr, OnErr, MatchResult};
 ghost use lib.Chars.{codes};
 ghost use Rattle.m88_parse.specs.Fault.{out_of_memory};
-ghost use Rattle.m88_parse.specs.WellFormed.{IsFormedStatement, IsFormedModule};
 ghost use Rattle.m88_parse.specs.declared.row.Row.TheVariants as row;
-ghost use Rattle.m88_parse.specs.Reader.Kept.{IsFormedRow};
 ghost use Rattle.m88_parse.specs.Reader.Source.{main_with};
-ghost use Rattle.m88_parse.specs.Reader.Drafts.{nothing_yet, with_more, begun, modules_after, count_in, Follows};
+ghost use Rattle.m88_parse.specs.Reader.Drafts.{nothing_yet, with_more, begun, modules_after, Follows};
 
 use crate::fault::ParseFault;
 use crate::names::name_of;
@@ -34,7 +31,7 @@ impl Model for Open {
 }
 
 /// The modules of the lines so far: those that are closed, and the one that is open, if one has
-/// begun. Each of their statements can be laid out.
+/// begun.
 #[derive(Drop)]
 pub(crate) struct Draft {
     closed: Vec<Module>,
@@ -42,13 +39,11 @@ pub(crate) struct Draft {
 }
 
 impl Model for Draft {
-    ghost use Rattle.m88_parse.specs.Reader.Drafts.{Drafted, AreFormed};
+    ghost use Rattle.m88_parse.specs.Reader.Drafts.{Drafted};
 
     ghost Value = { Drafted };
 
     ghost view = { λ d. record { closed = d.closed.items; current = d.current } };
-
-    ghost invariant = { λ d. AreFormed d.closed.items d.current };
 }
 
 /// The name of the module of statements that stand before the first `.module`.
@@ -121,10 +116,8 @@ impl Draft {
 
     /// One row more.
     pub fn add(&mut self, alloc: Global, row: Row) -> Result<(), ParseFault>
-        requires { IsFormedRow row }
         ensures after { IfOk result (λ _. Follows self.new self.old (Some row)) }
         ensures memory { IfErr result (λ e. e ≡ out_of_memory) }
-        ensures count { IfOk result (λ _. count_in self.new ≤ count_in self.old + 1) }
     {
         match row {
             Row::Statement(statement) => self.push(alloc, statement),
@@ -134,11 +127,9 @@ impl Draft {
 
     /// A statement more in the open module, or in the module main where none has begun.
     fn push(&mut self, alloc: Global, statement: Statement) -> Result<(), ParseFault>
-        requires { IsFormedStatement statement }
         ensures after { IfOk result (λ _. Follows self.new self.old
             (Some (row.Statement statement))) }
         ensures memory { IfErr result (λ e. e ≡ out_of_memory) }
-        ensures count { IfOk result (λ _. count_in self.new ≤ count_in self.old + 1) }
     {
         match &mut self.current {
             Some(open) => open.push(statement),
@@ -155,7 +146,6 @@ impl Draft {
     fn begin(&mut self, alloc: Global, name: Name, line: u32) -> Result<(), ParseFault>
         ensures after { IfOk result (λ _. Follows self.new self.old (Some (row.Head name line))) }
         ensures memory { IfErr result (λ e. e ≡ out_of_memory) }
-        ensures count { IfOk result (λ _. count_in self.new ≤ count_in self.old + 1) }
     {
         let next = Open {
             name,
@@ -173,12 +163,8 @@ impl Draft {
 
     /// The modules at the end of the source.
     pub fn finish(self, alloc: Global) -> Result<Vec<Module>, ParseFault>
-        ensures value { MatchResult result (λ v. v.items ≡ modules_after self [])
+        ensures { MatchResult result (λ v. v.items ≡ modules_after self [])
             (λ e. e ≡ out_of_memory) }
-        ensures some { IfOk result (λ v. 0 < length v.items) }
-        ensures count { IfOk result
-            (λ v. sum_by (λ m. length m.statements) v.items ≡ count_in self) }
-        ensures formed { IfOk result (λ v. All IsFormedModule v.items) }
     {
         let Draft {
             mut closed,

@@ -1,9 +1,8 @@
 //! The operands of an instruction, by the form of its mnemonic.
-ghost use Rattle.std.specs.Prelude.{◌≡◌, ◌≤◌, IfOk};
+ghost use Rattle.std.specs.Prelude.{◌≡◌, ◌≤◌};
 ghost use Rattle.m88_parse.specs.Fault.{Gives};
 ghost use Rattle.m88_parse.specs.Reader.Grammar.{read, either_form, immediate_form, registers_form, memory_form, user_memory_form, address_form, bits_form, find_bit_form, branch_form, branch_bit_form, branch_cond_form, jump_form, trap_bit_form, trap_cond_form, bounds_form, ldcr_form, stcr_form, xcr_form, form_of};
 ghost use Rattle.m88_parse.specs.Language.Operands.{most_width};
-ghost use Rattle.m88_parse.specs.WellFormed.{IsFormedBody};
 
 use crate::fault::ParseFault;
 use crate::operand::{Bound, Field, Index, Operand};
@@ -37,8 +36,7 @@ impl<'a> Parser<'a> {
     /// rD,rS1 and an immediate or a register.
     #[tactic(auto, unfolding(crate::specs::Reader::Grammar::read))]
     fn either(&mut self, imm: ImmOp, reg: RegOp) -> Result<Body, ParseFault>
-        ensures value { Gives (λ b. b) result (read (either_form imm reg) self.old) }
-        ensures body { IfOk result IsFormedBody }
+        ensures { Gives (λ b. b) result (read (either_form imm reg) self.old) }
     {
         let (d, s1) = self.two_registers_comma()?;
         let body = match self.operand()? {
@@ -59,8 +57,7 @@ impl<'a> Parser<'a> {
     /// rD,rS1 and an immediate.
     #[tactic(auto, unfolding(crate::specs::Reader::Grammar::read))]
     fn immediate_form(&mut self, op: ImmOp) -> Result<Body, ParseFault>
-        ensures value { Gives (λ b. b) result (read (immediate_form op) self.old) }
-        ensures body { IfOk result IsFormedBody }
+        ensures { Gives (λ b. b) result (read (immediate_form op) self.old) }
     {
         let (d, s1) = self.two_registers_comma()?;
         let x = self.immediate()?;
@@ -78,8 +75,7 @@ impl<'a> Parser<'a> {
     /// rD,rS1,rS2
     #[tactic(auto, unfolding(crate::specs::Reader::Grammar::read))]
     fn registers(&mut self, op: RegOp) -> Result<Body, ParseFault>
-        ensures value { Gives (λ b. b) result (read (registers_form op) self.old) }
-        ensures body { IfOk result IsFormedBody }
+        ensures { Gives (λ b. b) result (read (registers_form op) self.old) }
     {
         let (d, s1) = self.two_registers_comma()?;
         let s2 = self.register()?;
@@ -89,8 +85,7 @@ impl<'a> Parser<'a> {
     /// rD,rS1 and an immediate, a register, or a scaled register.
     #[tactic(auto, unfolding(crate::specs::Reader::Grammar::read))]
     fn memory(&mut self, op: MemOp) -> Result<Body, ParseFault>
-        ensures value { Gives (λ b. b) result (read (memory_form op) self.old) }
-        ensures body { IfOk result IsFormedBody }
+        ensures { Gives (λ b. b) result (read (memory_form op) self.old) }
     {
         let (d, s1) = self.two_registers()?;
         let body = match self.index()? {
@@ -132,8 +127,7 @@ impl<'a> Parser<'a> {
     /// rD,rS1 and a register or a scaled register, in the user's address space.
     #[tactic(auto, unfolding(crate::specs::Reader::Grammar::read))]
     fn user_memory(&mut self, op: MemOp) -> Result<Body, ParseFault>
-        ensures value { Gives (λ b. b) result (read (user_memory_form op) self.old) }
-        ensures body { IfOk result IsFormedBody }
+        ensures { Gives (λ b. b) result (read (user_memory_form op) self.old) }
     {
         let (d, s1) = self.two_registers()?;
         let (s2, scaled) = self.user_index()?;
@@ -153,8 +147,7 @@ impl<'a> Parser<'a> {
     /// rD,rS1[rS2]
     #[tactic(auto, unfolding(crate::specs::Reader::Grammar::read))]
     fn address(&mut self, size: LdaSize) -> Result<Body, ParseFault>
-        ensures value { Gives (λ b. b) result (read (address_form size) self.old) }
-        ensures body { IfOk result IsFormedBody }
+        ensures { Gives (λ b. b) result (read (address_form size) self.old) }
     {
         let (d, s1) = self.two_registers()?;
         let s2 = self.scaled()?;
@@ -164,8 +157,7 @@ impl<'a> Parser<'a> {
     /// rD,rS1 and a width and an offset, or a register.
     #[tactic(auto, unfolding(crate::specs::Reader::Grammar::read))]
     fn bits(&mut self, op: BitOp) -> Result<Body, ParseFault>
-        ensures value { Gives (λ b. b) result (read (bits_form op) self.old) }
-        ensures body { IfOk result IsFormedBody }
+        ensures { Gives (λ b. b) result (read (bits_form op) self.old) }
     {
         let (d, s1) = self.two_registers_comma()?;
         let instr = match self.field(most_width(op))? {
@@ -184,8 +176,7 @@ impl<'a> Parser<'a> {
     /// rD,rS2
     #[tactic(auto, unfolding(crate::specs::Reader::Grammar::read))]
     fn find_bit(&mut self, ones: bool) -> Result<Body, ParseFault>
-        ensures value { Gives (λ b. b) result (read (find_bit_form ones) self.old) }
-        ensures body { IfOk result IsFormedBody }
+        ensures { Gives (λ b. b) result (read (find_bit_form ones) self.old) }
     {
         let (d, s2) = self.two_registers()?;
         self.close(Body::Code(Instr::Find { ones, d, s2 }, None))
@@ -194,8 +185,7 @@ impl<'a> Parser<'a> {
     /// A target.
     #[tactic(auto, unfolding(crate::specs::Reader::Grammar::read))]
     fn branch(&mut self, link: bool, delayed: bool) -> Result<Body, ParseFault>
-        ensures value { Gives (λ b. b) result (read (branch_form link delayed) self.old) }
-        ensures body { IfOk result IsFormedBody }
+        ensures { Gives (λ b. b) result (read (branch_form link delayed) self.old) }
     {
         let target = self.target(Kind::Pc26, FAR)?;
         self.close(Body::Code(
@@ -211,8 +201,7 @@ impl<'a> Parser<'a> {
     /// A bit, rS1 and a target.
     #[tactic(auto, unfolding(crate::specs::Reader::Grammar::read))]
     fn branch_bit(&mut self, set: bool, delayed: bool) -> Result<Body, ParseFault>
-        ensures value { Gives (λ b. b) result (read (branch_bit_form set delayed) self.old) }
-        ensures body { IfOk result IsFormedBody }
+        ensures { Gives (λ b. b) result (read (branch_bit_form set delayed) self.old) }
     {
         let bit = self.bit()?;
         self.mark(b',')?;
@@ -233,8 +222,7 @@ impl<'a> Parser<'a> {
     /// A condition, rS1 and a target.
     #[tactic(auto, unfolding(crate::specs::Reader::Grammar::read))]
     fn branch_cond(&mut self, delayed: bool) -> Result<Body, ParseFault>
-        ensures value { Gives (λ b. b) result (read (branch_cond_form delayed) self.old) }
-        ensures body { IfOk result IsFormedBody }
+        ensures { Gives (λ b. b) result (read (branch_cond_form delayed) self.old) }
     {
         let mask = self.mask()?;
         self.mark(b',')?;
@@ -254,8 +242,7 @@ impl<'a> Parser<'a> {
     /// rS2
     #[tactic(auto, unfolding(crate::specs::Reader::Grammar::read))]
     fn jump(&mut self, link: bool, delayed: bool) -> Result<Body, ParseFault>
-        ensures value { Gives (λ b. b) result (read (jump_form link delayed) self.old) }
-        ensures body { IfOk result IsFormedBody }
+        ensures { Gives (λ b. b) result (read (jump_form link delayed) self.old) }
     {
         let s2 = self.register()?;
         self.close(Body::Code(Instr::Jump { link, delayed, s2 }, None))
@@ -264,8 +251,7 @@ impl<'a> Parser<'a> {
     /// A bit, rS1 and a vector.
     #[tactic(auto, unfolding(crate::specs::Reader::Grammar::read))]
     fn trap_bit(&mut self, set: bool) -> Result<Body, ParseFault>
-        ensures value { Gives (λ b. b) result (read (trap_bit_form set) self.old) }
-        ensures body { IfOk result IsFormedBody }
+        ensures { Gives (λ b. b) result (read (trap_bit_form set) self.old) }
     {
         let bit = self.bit()?;
         self.mark(b',')?;
@@ -285,8 +271,7 @@ impl<'a> Parser<'a> {
     /// A condition, rS1 and a vector.
     #[tactic(auto, unfolding(crate::specs::Reader::Grammar::read))]
     fn trap_cond(&mut self) -> Result<Body, ParseFault>
-        ensures value { Gives (λ b. b) result (read trap_cond_form self.old) }
-        ensures body { IfOk result IsFormedBody }
+        ensures { Gives (λ b. b) result (read trap_cond_form self.old) }
     {
         let mask = self.mask()?;
         self.mark(b',')?;
@@ -298,8 +283,7 @@ impl<'a> Parser<'a> {
     /// rS1 and a number or a register.
     #[tactic(auto, unfolding(crate::specs::Reader::Grammar::read))]
     fn bounds(&mut self) -> Result<Body, ParseFault>
-        ensures value { Gives (λ b. b) result (read bounds_form self.old) }
-        ensures body { IfOk result IsFormedBody }
+        ensures { Gives (λ b. b) result (read bounds_form self.old) }
     {
         let s1 = self.register_comma()?;
         let instr = match self.bound()? {
@@ -312,8 +296,7 @@ impl<'a> Parser<'a> {
     /// rD and a control register.
     #[tactic(auto, unfolding(crate::specs::Reader::Grammar::read))]
     fn ldcr(&mut self, float: bool) -> Result<Body, ParseFault>
-        ensures value { Gives (λ b. b) result (read (ldcr_form float) self.old) }
-        ensures body { IfOk result IsFormedBody }
+        ensures { Gives (λ b. b) result (read (ldcr_form float) self.old) }
     {
         let d = self.register_comma()?;
         let cr = self.control(float)?;
@@ -323,8 +306,7 @@ impl<'a> Parser<'a> {
     /// rS1 and a control register.
     #[tactic(auto, unfolding(crate::specs::Reader::Grammar::read))]
     fn stcr(&mut self, float: bool) -> Result<Body, ParseFault>
-        ensures value { Gives (λ b. b) result (read (stcr_form float) self.old) }
-        ensures body { IfOk result IsFormedBody }
+        ensures { Gives (λ b. b) result (read (stcr_form float) self.old) }
     {
         let s1 = self.register_comma()?;
         let cr = self.control(float)?;
@@ -334,8 +316,7 @@ impl<'a> Parser<'a> {
     /// rD,rS1 and a control register.
     #[tactic(auto, unfolding(crate::specs::Reader::Grammar::read))]
     fn xcr(&mut self, float: bool) -> Result<Body, ParseFault>
-        ensures value { Gives (λ b. b) result (read (xcr_form float) self.old) }
-        ensures body { IfOk result IsFormedBody }
+        ensures { Gives (λ b. b) result (read (xcr_form float) self.old) }
     {
         let (d, s1) = self.two_registers_comma()?;
         let cr = self.control(float)?;
@@ -345,8 +326,7 @@ impl<'a> Parser<'a> {
     /// The operands of an instruction, to the end of the line.
     #[tactic(auto, unfolding(crate::specs::Reader::Grammar::form_of))]
     pub fn instruction(&mut self, shape: Shape) -> Result<Body, ParseFault>
-        ensures value { Gives (λ b. b) result (read (form_of shape) self.old) }
-        ensures body { IfOk result IsFormedBody }
+        ensures { Gives (λ b. b) result (read (form_of shape) self.old) }
     {
         match shape {
             Shape::Either(imm, reg) => self.either(imm, reg),

@@ -1,14 +1,11 @@
 //! Texts, and lists of operands with commas between them.
-ghost use Rattle.std.specs.Prelude.{◌≡◌, ◌<◌, false, length, IfOk, OnOk, MatchResult, if◌then◌else◌};
-ghost use Rattle.std.specs.List.{All};
-ghost use Rattle.m88_base.specs.declared.fixup.Kind.TheVariants.{Abs32};
+ghost use Rattle.std.specs.Prelude.{◌≡◌, ◌<◌, false, length, OnOk, MatchResult, if◌then◌else◌};
 ghost use Rattle.m88_parse.specs.Fault.{Gives, out_of_memory};
 ghost use Rattle.m88_parse.specs.Language.Bytes.{comma_mark};
 ghost use Rattle.m88_parse.specs.Reader.Grammar.{list_at, word_item_at, a_half, a_byte, part_item_at};
 ghost use Rattle.m88_parse.specs.Reader.Slots.{text_at};
 ghost use Rattle.m88_parse.specs.Reader.State.{is_next_mark, past};
 ghost use Rattle.m88_parse.specs.Reader.Tokens.{text_bytes};
-ghost use Rattle.m88_parse.specs.WellFormed.{IsOfKind};
 
 use crate::fault::{ParseFault, ParseKind};
 use crate::parser::Parser;
@@ -67,8 +64,7 @@ impl<'a> Parser<'a> {
 
     /// The items of `.word`.
     pub fn words_list(&mut self, alloc: Global) -> Result<Vec<Value>, ParseFault>
-        ensures value { Gives (λ v. (v.items, self.new)) result (list_at word_item_at self.old) }
-        ensures kind { IfOk result (λ v. All (IsOfKind Abs32) v.items) }
+        ensures { Gives (λ v. (v.items, self.new)) result (list_at word_item_at self.old) }
     {
         let mut out = Vec::new(alloc);
         let mut more = true;

@@ -2,7 +2,6 @@
 ghost use Rattle.std.specs.Prelude.{◌≡◌, ◌<◌, IfSome, SomeIff, true};
 ghost use Rattle.m88_parse.specs.Reader.Names.{register_of, control_of, float_control_of, control_in, is_here, is_module, is_valid_name, is_symbol};
 ghost use Rattle.m88_parse.specs.Language.Words.{bit_named, condition_named, half_named};
-ghost use Rattle.m88_parse.specs.WellFormed.{IsHalf};
 
 use m88_base::{Kind, Name, decimal_in};
 
@@ -95,8 +94,7 @@ pub(crate) fn condition_named(name: &[u8]) -> Option<u32>
 /// Which half of a value `hi16` and `lo16` name.
 #[tactic(auto, unfolding(crate::specs::Language::Words::half_named))]
 pub(crate) fn half_named(name: &[u8]) -> Option<Kind>
-    ensures value { result ≡ half_named name.now }
-    ensures kind { IfSome result IsHalf }
+    ensures { result ≡ half_named name.now }
 {
     match name {
         b"hi16" => Some(Kind::Hi16),

@@ -1,10 +1,8 @@
 //! Operands of several tokens, each from the place where it is wanted.
-ghost use Rattle.std.specs.Prelude.{◌≡◌, ◌≤◌, ◌<◌, ◌^◌, IfOk, IfSome};
+ghost use Rattle.std.specs.Prelude.{◌≡◌, ◌≤◌, ◌<◌, ◌^◌, IfOk};
 ghost use Rattle.m88_parse.specs.Fault.{Gives};
-ghost use Rattle.m88_parse.specs.Reader.Operands.{half, half_immediate, half_on, half_at, immediate_at, register_in, operand_at, bound_at, scaled_at, index_at, user_index_at, width_at, literal_at, field_at, distance_at, words_at, is_here_on, target_at};
+ghost use Rattle.m88_parse.specs.Reader.Operands.{AreWords, half, half_immediate, half_on, half_at, immediate_at, register_in, operand_at, bound_at, scaled_at, index_at, user_index_at, width_at, literal_at, field_at, distance_at, words_at, is_here_on, target_at};
 ghost use Rattle.m88_parse.specs.Reader.State.{first, second};
-ghost use Rattle.m88_parse.specs.WellFormed.{IsHalf};
-ghost use Rattle.m88_parse.specs.Reader.Kept.{IsFormedImmediate, IsFormedOperand, IsFormedIndex, IsFormedField, AreWords, IsFormedTarget};
 
 use crate::fault::{ParseFault, ParseKind};
 use crate::names::{half_named, is_here, register_of};
@@ -47,8 +45,7 @@ fn half_immediate(kind: Kind, value: Value) -> Immediate
 impl<'a> Parser<'a> {
     /// Which half the next two tokens begin, if they are hi16 or lo16 and an opening parenthesis.
     fn half_next(&self) -> Option<Kind>
-        ensures value { result ≡ half_on (first self.now) (second self.now) }
-        ensures kind { IfSome result IsHalf }
+        ensures { result ≡ half_on (first self.now) (second self.now) }
     {
         match (self.first(), self.second()) {
             (Some(What::Name(text)), Some(What::Mark(b'('))) => half_named(text),
@@ -59,8 +56,7 @@ impl<'a> Parser<'a> {
     /// hi16 or lo16 of a value in parentheses; the next token is the name.
     #[tactic(auto, unfolding(crate::specs::Reader::Operands::half_at))]
     fn half(&mut self, kind: Kind) -> Result<Immediate, ParseFault>
-        ensures value { Gives (λ x. (x, self.new)) result (half_at kind self.old) }
-        ensures fixed { IsHalf kind → IfOk result IsFormedImmediate }
+        ensures { Gives (λ x. (x, self.new)) result (half_at kind self.old) }
     {
         self.skip();
         self.mark(b'(')?;
@@ -72,8 +68,7 @@ impl<'a> Parser<'a> {
     /// A number of 16 bits, or half of a value.
     #[tactic(auto, unfolding(crate::specs::Reader::Operands::immediate_at))]
     pub fn immediate(&mut self) -> Result<Immediate, ParseFault>
-        ensures value { Gives (λ x. (x, self.new)) result (immediate_at self.old) }
-        ensures fixed { IfOk result IsFormedImmediate }
+        ensures { Gives (λ x. (x, self.new)) result (immediate_at self.old) }
     {
         if let Some(kind) = self.half_next() {
             return self.half(kind);
@@ -105,8 +100,7 @@ impl<'a> Parser<'a> {
     /// A register, a number of 16 bits, or half of a value.
     #[tactic(auto, unfolding(crate::specs::Reader::Operands::operand_at))]
     pub fn operand(&mut self) -> Result<Operand, ParseFault>
-        ensures value { Gives (λ x. (x, self.new)) result (operand_at self.old) }
-        ensures fixed { IfOk result IsFormedOperand }
+        ensures { Gives (λ x. (x, self.new)) result (operand_at self.old) }
     {
         if let Some(r) = self.register_next() {
             self.skip();
@@ -145,8 +139,7 @@ impl<'a> Parser<'a> {
     /// What stands behind the base register of a memory operand.
     #[tactic(auto, unfolding(crate::specs::Reader::Operands::index_at))]
     pub fn index(&mut self) -> Result<Index, ParseFault>
-        ensures value { Gives (λ x. (x, self.new)) result (index_at self.old) }
-        ensures fixed { IfOk result IsFormedIndex }
+        ensures { Gives (λ x. (x, self.new)) result (index_at self.old) }
     {
         if self.is_next(b'[') {
             return Ok(Index::Scaled(self.scaled()?));
@@ -184,8 +177,7 @@ impl<'a> Parser<'a> {
     #[tactic(auto, unfolding(crate::specs::Reader::Operands::literal_at))]
     fn literal(&mut self, most: u32) -> Result<Field, ParseFault>
         requires { most ≤ 31 }
-        ensures value { Gives (λ x. (x, self.new)) result (literal_at most self.old) }
-        ensures fits { IfOk result (IsFormedField most) }
+        ensures { Gives (λ x. (x, self.new)) result (literal_at most self.old) }
     {
         let width = self.width(most)? as u8;
         self.mark(b'<')?;
@@ -198,8 +190,7 @@ impl<'a> Parser<'a> {
     #[tactic(auto, unfolding(crate::specs::Reader::Operands::field_at))]
     pub fn field(&mut self, most: u32) -> Result<Field, ParseFault>
         requires { most ≤ 31 }
-        ensures value { Gives (λ x. (x, self.new)) result (field_at most self.old) }
-        ensures fits { IfOk result (IsFormedField most) }
+        ensures { Gives (λ x. (x, self.new)) result (field_at most self.old) }
     {
         if let Some(What::Name(_)) = self.first() {
             Ok(Field::Register(self.register()?))
@@ -259,7 +250,7 @@ impl<'a> Parser<'a> {
         requires least { 0 < limit }
         requires most { limit ≤ 2 ^ 25 }
         ensures value { Gives (λ x. (x, self.new)) result (target_at kind limit self.old) }
-        ensures fits { IfOk result (IsFormedTarget kind limit) }
+        ensures fits { IfOk result (λ x. AreWords limit x.words) }
     {
         if self.is_here() {
             self.skip();

@@ -2,7 +2,6 @@
 ghost use Rattle.std.specs.Prelude.{◌≡◌, ◌≤◌, ◌<◌, ◌==◌, ◌||◌, length, IfOk, OnOk};
 ghost use Rattle.m88_parse.specs.Fault.{Gives};
 ghost use Rattle.m88_parse.specs.Reader.Slots.{unsigned_at, negated, signed_at, register_at, register_comma_at, two_registers_at, two_registers_comma_at, control_at, bit_at, mask_at, symbol_at, addend_at, fixup_at, value_at, any_name_at, alignment_at};
-ghost use Rattle.m88_parse.specs.WellFormed.{IsOfKind, IsAlignment};
 
 use crate::fault::{ParseFault, ParseKind};
 use crate::names::{bit_named, condition_named, control_in, name_of, register_of, symbol_of};
@@ -114,8 +113,7 @@ impl<'a> Parser<'a> {
     /// The number of a control register, of the floating-point unit where `float`.
     #[tactic(auto, unfolding(crate::specs::Reader::Slots::control_at))]
     pub fn control(&mut self, float: bool) -> Result<u8, ParseFault>
-        ensures value { Gives (λ n. (n, self.new)) result (control_at float self.old) }
-        ensures bound { IfOk result (λ n. n < 64) }
+        ensures { Gives (λ n. (n, self.new)) result (control_at float self.old) }
     {
         let Some(What::Name(name)) = self.first() else {
             return Err(self.fault(ParseKind::Syntax));
@@ -132,8 +130,7 @@ impl<'a> Parser<'a> {
     /// The number of a bit.
     #[tactic(auto, unfolding(crate::specs::Reader::Slots::bit_at, crate::specs::Reader::Slots::unsigned_at))]
     pub fn bit(&mut self) -> Result<u8, ParseFault>
-        ensures value { Gives (λ n. (n, self.new)) result (bit_at self.old) }
-        ensures bound { IfOk result (λ n. n < 32) }
+        ensures { Gives (λ n. (n, self.new)) result (bit_at self.old) }
     {
         let Some(What::Name(name)) = self.first() else {
             return Ok(self.number(31)? as u8);
@@ -150,8 +147,7 @@ impl<'a> Parser<'a> {
     /// The mask of a condition.
     #[tactic(auto, unfolding(crate::specs::Reader::Slots::mask_at, crate::specs::Reader::Slots::unsigned_at))]
     pub fn mask(&mut self) -> Result<u8, ParseFault>
-        ensures value { Gives (λ n. (n, self.new)) result (mask_at self.old) }
-        ensures bound { IfOk result (λ n. n < 16) }
+        ensures { Gives (λ n. (n, self.new)) result (mask_at self.old) }
     {
         let Some(What::Name(name)) = self.first() else {
             return Ok(self.number(15)? as u8);
@@ -223,7 +219,6 @@ impl<'a> Parser<'a> {
     #[tactic(auto, unfolding(crate::specs::Reader::Slots::fixup_at))]
     pub fn fixup(&mut self, kind: Kind) -> Result<Fixup, ParseFault>
         ensures value { Gives (λ x. (x, self.new)) result (fixup_at kind self.old) }
-        ensures kind { IfOk result (λ x. x.kind ≡ kind) }
         ensures shorter { OnOk result (length self.new.rest < length self.old.rest) }
     {
         let (symbol, col) = self.symbol()?;
@@ -240,7 +235,6 @@ impl<'a> Parser<'a> {
     #[tactic(auto, unfolding(crate::specs::Reader::Slots::value_at))]
     pub fn value(&mut self, kind: Kind) -> Result<Value, ParseFault>
         ensures value { Gives (λ x. (x, self.new)) result (value_at kind self.old) }
-        ensures kind { IfOk result (IsOfKind kind) }
         ensures shorter { OnOk result (length self.new.rest < length self.old.rest) }
     {
         if let Some(What::Name(_)) = self.first() {
@@ -253,8 +247,7 @@ impl<'a> Parser<'a> {
     /// An alignment: 1, 2, 4 or 8.
     #[tactic(auto, unfolding(crate::specs::Reader::Slots::alignment_at))]
     pub fn alignment(&mut self) -> Result<u32, ParseFault>
-        ensures value { Gives (λ n. (n, self.new)) result (alignment_at self.old) }
-        ensures aligns { IfOk result IsAlignment }
+        ensures { Gives (λ n. (n, self.new)) result (alignment_at self.old) }
     {
         match self.first() {
             Some(What::Number(n)) if is_alignment(n) => {

@@ -1,5 +1,5 @@
 //! A source as its unit, line by line.
-ghost use Rattle.std.specs.Prelude.{◌≡◌, ◌<◌, ◌≤◌, ◌+◌, ◌^◌, ◌⊎◌, Ok, Err, length, map, IfOk, IfErr, IfSome, MatchResult};
+ghost use Rattle.std.specs.Prelude.{◌≡◌, ◌<◌, ◌+◌, ◌^◌, ◌⊎◌, Ok, Err, length, map, IfOk, IfErr, MatchResult};
 ghost use Rattle.std.specs.List.{All};
 ghost use Rattle.m88_parse.specs.declared.unit.Unit.{Unit as SourceUnit};
 ghost use Rattle.m88_base.specs.OneVerdict.{HasOneVerdict};
@@ -11,8 +11,7 @@ ghost use Rattle.m88_parse.specs.Reader.Places.{IsNear};
 ghost use Rattle.m88_parse.specs.Reader.Source.{end_of_line, row_of_line, unit_of};
 ghost use Rattle.m88_parse.specs.Reader.Tokens.{piece_of};
 ghost use Rattle.m88_parse.specs.WellFormed.{IsWellFormed};
-ghost use Rattle.m88_parse.specs.Reader.Kept.{IsFormedRow};
-ghost use Rattle.m88_parse.specs.Reader.Drafts.{count_in, LeadsOn, EndsWith};
+ghost use Rattle.m88_parse.specs.Reader.Drafts.{LeadsOn, EndsWith};
 
 use crate::draft::Draft;
 use crate::fault::ParseFault;
@@ -38,8 +37,7 @@ fn end_of_line(lexemes: &[Lexeme<'_>]) -> u32
 #[tactic(auto, unfolding(crate::specs::Reader::Source::row_of_line))]
 fn row_of(alloc: Global, line: &[u8], number: u32) -> Result<Option<Row>, ParseFault>
     requires { length line.now < 2 ^ 31 }
-    ensures value { Gives (λ r. r) result (row_of_line number line.now) }
-    ensures row { IfOk result (λ r. IfSome r IsFormedRow) }
+    ensures { Gives (λ r. r) result (row_of_line number line.now) }
 {
     let lexemes = lexemes(alloc, line, number)?;
     if lexemes.is_empty() {
@@ -53,9 +51,8 @@ fn row_of(alloc: Global, line: &[u8], number: u32) -> Result<Option<Row>, ParseF
 /// One line more in the draft.
 fn read_line(draft: &mut Draft, alloc: Global, line: &[u8], number: u32) -> Result<(), ParseFault>
     requires { length line.now < 2 ^ 31 }
-    ensures value { MatchResult result (λ _. LeadsOn number line.now draft.new draft.old)
+    ensures { MatchResult result (λ _. LeadsOn number line.now draft.new draft.old)
         (λ e. (e ≡ out_of_memory) ⊎ EndsWith number line.now draft.old e) }
-    ensures count { IfOk result (λ _. count_in draft.new ≤ count_in draft.old + 1) }
 {
     match row_of(alloc, line, number)? {
         None => Ok(()),
@@ -66,8 +63,7 @@ fn read_line(draft: &mut Draft, alloc: Global, line: &[u8], number: u32) -> Resu
 /// The modules, line by line.
 fn read_unit(alloc: Global, source: &[u8]) -> Result<Unit, ParseFault>
     requires { length source.now < 2 ^ 31 }
-    ensures value { Gives (λ u. u) result (unit_of source.now) }
-    ensures formed { IfOk result IsWellFormed }
+    ensures { Gives (λ u. u) result (unit_of source.now) }
 {
     let mut draft = Draft::new(alloc);
     let mut rest = source;

@@ -1,12 +1,10 @@
 //! Directives, operations, labels and heads of modules.
-ghost use Rattle.std.specs.Prelude.{◌≡◌, IfOk};
+ghost use Rattle.std.specs.Prelude.{◌≡◌};
 ghost use Rattle.m88_parse.specs.declared.directive.Directive.TheVariants.{Set};
 ghost use Rattle.m88_parse.specs.Fault.{Gives};
 ghost use Rattle.m88_parse.specs.Reader.Grammar.{read, directive_form};
 ghost use Rattle.m88_parse.specs.Reader.Source.{operation_at, labelled_at, head_at, is_label_on, is_head_on, row_at};
 ghost use Rattle.m88_parse.specs.Reader.State.{first, second};
-ghost use Rattle.m88_parse.specs.WellFormed.{IsFormedBody};
-ghost use Rattle.m88_parse.specs.Reader.Kept.{IsFormedRow};
 
 use crate::directive::{Directive, directive_of};
 use crate::fault::{ParseFault, ParseKind};
@@ -27,8 +25,7 @@ impl<'a> Parser<'a> {
     /// .set: a symbol and its number.
     #[tactic(auto, unfolding(crate::specs::Reader::Grammar::read, crate::specs::Reader::Grammar::directive_form))]
     fn set(&mut self) -> Result<Body, ParseFault>
-        ensures value { Gives (λ b. b) result (read (directive_form Set) self.old) }
-        ensures body { IfOk result IsFormedBody }
+        ensures { Gives (λ b. b) result (read (directive_form Set) self.old) }
     {
         let (name, col) = self.symbol()?;
         self.mark(b',')?;
@@ -39,8 +36,7 @@ impl<'a> Parser<'a> {
     /// The operands of a directive, to the end of the line.
     #[tactic(auto, unfolding(crate::specs::Reader::Grammar::read, crate::specs::Reader::Grammar::directive_form))]
     fn directive(&mut self, alloc: Global, directive: Directive) -> Result<Body, ParseFault>
-        ensures value { Gives (λ b. b) result (read (directive_form directive) self.old) }
-        ensures body { IfOk result IsFormedBody }
+        ensures { Gives (λ b. b) result (read (directive_form directive) self.old) }
     {
         let body = match directive {
             Directive::Text => Body::Text,
@@ -61,8 +57,7 @@ impl<'a> Parser<'a> {
     /// An operation and its operands, to the end of the line.
     #[tactic(auto, unfolding(crate::specs::Reader::Source::operation_at))]
     fn operation(&mut self, alloc: Global) -> Result<Body, ParseFault>
-        ensures value { Gives (λ b. b) result (operation_at self.old) }
-        ensures body { IfOk result IsFormedBody }
+        ensures { Gives (λ b. b) result (operation_at self.old) }
     {
         let Some(What::Name(name)) = self.first() else {
             return Err(self.fault(ParseKind::Syntax));
@@ -86,8 +81,7 @@ impl<'a> Parser<'a> {
     /// A label, and the operation behind it if there is one.
     #[tactic(auto, unfolding(crate::specs::Reader::Source::labelled_at))]
     fn labelled(&mut self, alloc: Global) -> Result<Row, ParseFault>
-        ensures value { Gives (λ r. r) result (labelled_at self.old) }
-        ensures row { IfOk result IsFormedRow }
+        ensures { Gives (λ r. r) result (labelled_at self.old) }
     {
         let label = self.symbol()?;
         self.skip();
@@ -114,8 +108,7 @@ impl<'a> Parser<'a> {
     /// The head of a module, from its `.module` on.
     #[tactic(auto, unfolding(crate::specs::Reader::Source::head_at))]
     fn head(&mut self) -> Result<Row, ParseFault>
-        ensures value { Gives (λ r. r) result (head_at self.old) }
-        ensures row { IfOk result IsFormedRow }
+        ensures { Gives (λ r. r) result (head_at self.old) }
     {
         let line = self.line();
         self.skip();
@@ -147,8 +140,7 @@ impl<'a> Parser<'a> {
     /// What a line with a token says.
     #[tactic(auto, unfolding(crate::specs::Reader::Source::row_at))]
     pub fn row(&mut self, alloc: Global) -> Result<Row, ParseFault>
-        ensures value { Gives (λ r. r) result (row_at self.old) }
-        ensures row { IfOk result IsFormedRow }
+        ensures { Gives (λ r. r) result (row_at self.old) }
     {
         if self.is_label() {
             return self.labelled(alloc);

@@ -1,7 +1,6 @@
 -- Words for the contracts of private functions; no promise of the crate names them. The modules of a
 -- source as they grow row by row: what a part of the source has come to, and how the rest goes on from there.
-use Rattle.std.specs.Prelude.{◌≡◌, ℕ, ◌+◌, List, [], ◌∷◌, ◌++◌, length, Option, Some, None, Result, Ok, Err, IfSome}
-use Rattle.std.specs.List.{All, sum_by}
+use Rattle.std.specs.Prelude.{◌≡◌, ℕ, ◌+◌, List, [], ◌∷◌, ◌++◌, Option, Some, None, Result, Ok, Err}
 use Rattle.std.specs.Option.{unwrap_or}
 use Rattle.m88_parse.specs.declared.fault.ParseFault.{ParseFault}
 use Rattle.m88_parse.specs.declared.unit.Statement.{Statement}
@@ -9,7 +8,6 @@ use Rattle.m88_parse.specs.declared.unit.Module.{Module}
 use Rattle.m88_parse.specs.declared.unit.Unit.{Unit as Source}
 use Rattle.m88_parse.specs.declared.row.Row.{Row}
 use Rattle.m88_parse.specs.Reader.Source.{grouped, main_with, modules_in, rows_of, with_row}
-use Rattle.m88_parse.specs.WellFormed.{IsFormedModule}
 
 -- the modules that are closed, and the one that is open, if one has begun
 pub record Drafted : Type 0 where
@@ -36,19 +34,6 @@ modules_after d rows = modules_with d.closed d.current rows
 -- what is open where a statement comes
 abbrev pub begun : Option Module → Module
 begun current = unwrap_or current (main_with [])
-
--- the statements of the open module
-abbrev pub open_count : Option Module → ℕ
-open_count None = 0
-open_count (Some m) = length m.statements
-
--- the statements so far
-abbrev pub count_in : Drafted → ℕ
-count_in d = sum_by (λ m. length m.statements) d.closed + open_count d.current
-
--- what is read so far can be laid out
-abbrev pub AreFormed : List Module → Option Module → Type 0
-AreFormed closed current = All IsFormedModule closed × IfSome current IsFormedModule
 
 -- the unit of a source whose rest was read so
 abbrev pub leads : Drafted → Result (List Row) ParseFault → Result Source ParseFault

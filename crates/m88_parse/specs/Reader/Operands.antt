@@ -1,6 +1,6 @@
 -- Words for the contracts of private functions; no promise of the crate names them. The operands of
 -- instructions, by what stands where one is wanted.
-use Rattle.std.specs.Prelude.{ℕ, ◌-◌, ◌/◌, ◌%◌, ℤ, pos, neg_ℤ, Bool, true, false, ◌==◌, ◌&&◌, nat_le, if◌then◌else◌, Option, Some, None, Ok}
+use Rattle.std.specs.Prelude.{ℕ, ◌-◌, ◌<◌, ◌/◌, ◌%◌, ℤ, pos, negsuc, neg_ℤ, Bool, true, false, ◌==◌, ◌&&◌, nat_le, if◌then◌else◌, Option, Some, None, Ok}
 use Rattle.std.specs.Option.{option_map}
 use Rattle.m88_base.specs.Reg.{reg_of}
 use Rattle.m88_base.specs.declared.reg.Reg.{Reg}
@@ -149,6 +149,11 @@ words_at limit s =
     if is_next_mark plus_mark s then (distance_at (limit - 1) (past s) >>= λ n. Ok (pos n.0, n.1))
     else (if is_next_mark minus_mark s then (distance_at limit (past s) >>= λ n. Ok (neg_ℤ (pos n.0), n.1))
     else Ok (pos 0, s))
+
+-- words that fit a sign and the bits below the limit
+abbrev pub AreWords : ℕ → ℤ → Type 0
+AreWords limit (pos n) = n < limit
+AreWords limit (negsuc n) = n < limit
 
 -- whether what a token says is the place of the statement
 abbrev pub is_here_on : Option TokenValue → Bool

@@ -6,17 +6,17 @@ use Rattle.m88_parse.specs.declared.row.Row.{Row}
 use Rattle.m88_parse.proofs.Drafts.{line_leads_on, line_fault, line_added}
 use Rattle.m88_parse.proofs.source.read_line.Goals as goal
 
-pub returns-in_err-row_of-clause-value : goal.returns-in_err-row_of-clause-value
-returns-in_err-row_of-clause-value c =
+pub returns-in_err-row_of : goal.returns-in_err-row_of
+returns-in_err-row_of c =
     let p = err_from_is_err_and c.from_residual.result c.from_residual.ensures.1 in
-    rw (p.1, p.2) (line_fault c.args.number c.args.line.now c.args.draft.now c.in_err-row_of.field-0.0 c.in_err-row_of.ensures.value)
+    rw (p.1, p.2) (line_fault c.args.number c.args.line.now c.args.draft.now c.in_err-row_of.field-0.0 c.in_err-row_of.ensures)
 
-pub returns-in-None-clause-value : goal.returns-in-None-clause-value
-returns-in-None-clause-value c =
+pub returns-in-None : goal.returns-in-None
+returns-in-None c =
     line_leads_on c.args.number c.args.line.now c.args.draft.now c.args.draft.now None
-    (c.in_ok-row_of.ensures.value ∙ ap (λ (o : Option Row). let r : Result (Option Row) ParseFault = Ok o in r) c.in-None.is) (λ rows. refl)
+    (c.in_ok-row_of.ensures ∙ ap (λ (o : Option Row). let r : Result (Option Row) ParseFault = Ok o in r) c.in-None.is) (λ rows. refl)
 
-pub returns-in-Some-clause-value : goal.returns-in-Some-clause-value
-returns-in-Some-clause-value c =
+pub returns-in-Some : goal.returns-in-Some
+returns-in-Some c =
     line_added c.add.result c.args.number c.args.line.now c.add.new.self c.args.draft.now c.in-Some.row
-    (c.in_ok-row_of.ensures.value ∙ ap (λ (o : Option Row). let r : Result (Option Row) ParseFault = Ok o in r) c.in-Some.is) c.add.ensures.after c.add.ensures.memory
+    (c.in_ok-row_of.ensures ∙ ap (λ (o : Option Row). let r : Result (Option Row) ParseFault = Ok o in r) c.in-Some.is) c.add.ensures.after c.add.ensures.memory

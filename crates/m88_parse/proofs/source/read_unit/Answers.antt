@@ -9,10 +9,10 @@ use Rattle.m88_parse.proofs.Drafts.{starts, ends_all}
 use Rattle.m88_parse.proofs.source.read_unit.Goals as goal
 
 pub loop-rest-init : goal.loop-rest-init
-loop-rest-init c = rw c.new-draft.ensures (record { leads = starts c.args.source.now; place = omega arith; count = omega arith })
+loop-rest-init c = rw c.new-draft.ensures (record { leads = starts c.args.source.now; place = omega arith; from_one = omega arith })
 
-pub returns-clause-value : goal.returns-clause-value
-returns-clause-value c =
+pub returns : goal.returns
+returns c =
     let none : length c.loop-rest.rest.now ≡ 0 = grind (arith, common_steps) in
     ends_all c.loop-rest.number c.loop-rest.rest.now c.loop-rest.draft (unit_of c.args.source.now) none c.loop-rest.invariant.leads
-    ∙ ap (λ (ms : List Module). let u : Result Source ParseFault = Ok (record { modules = ms }) in u) (sym (c.new.ensures ∙ c.in_ok-modules.ensures.value))
+    ∙ ap (λ (ms : List Module). let u : Result Source ParseFault = Ok (record { modules = ms }) in u) (sym (c.new.ensures ∙ c.in_ok-modules.ensures))

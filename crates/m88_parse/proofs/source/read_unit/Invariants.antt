@@ -2,14 +2,14 @@
 use Rattle.std.proofs.Common.{◌≡◌, ◌+◌, ◌≤◌, length}
 use Rattle.m88_base.specs.Lines.{lines_of}
 use Rattle.m88_parse.specs.Reader.Source.{rows_of, unit_of}
-use Rattle.m88_parse.specs.Reader.Drafts.{leads, count_in}
+use Rattle.m88_parse.specs.Reader.Drafts.{leads}
 use Rattle.m88_parse.proofs.source.read_unit.Given as goal
 
 abbrev pub invariant-loop-rest : goal.invariant-loop-rest
 invariant-loop-rest l = record {
   leads : leads l.draft (rows_of l.number (lines_of l.rest)) ≡ unit_of l.source;
   place : l.number + length l.rest ≤ 1 + length l.source;
-  count : count_in l.draft + 1 ≤ l.number;
+  from_one : 1 ≤ l.number;
 }
 
 abbrev pub decreases-loop-rest : goal.decreases-loop-rest

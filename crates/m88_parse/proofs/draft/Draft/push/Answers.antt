@@ -1,10 +1,8 @@
 -- A statement goes to the end of the open module, or of the module main where none has begun.
-use Rattle.std.proofs.Common.{◌≡◌, Option, [], ◌∷◌, sym, ap, subst, ◌∙◌}
-use Rattle.std.specs.Prelude.{IfSome}
+use Rattle.std.proofs.Common.{◌≡◌, Option, [], ◌∷◌, sym, ap, ◌∙◌}
 use Rattle.m88_parse.specs.declared.unit.Module.{Module}
-use Rattle.m88_parse.specs.WellFormed.{IsFormedModule}
 use Rattle.m88_parse.specs.Reader.Drafts.{Drafted, with_more, begun}
-use Rattle.m88_parse.proofs.Drafts.{follows_statement, pushed_follows, statement_count, pushed_count, pushed_formed, begun_with}
+use Rattle.m88_parse.proofs.Drafts.{follows_statement, pushed_follows}
 use Rattle.m88_parse.proofs.draft.Draft.push.Goals as goal
 
 pub returns-in-Some-clause-after : goal.returns-in-Some-clause-after
@@ -21,22 +19,3 @@ returns-in_ok-push-in-None-clause-after c =
     let closed = c.self.inside.closed.items in
     follows_statement closed c.self.inside.current c.push-in-None.new.self c.args.self.now c.args.statement
     (pushed_to_main c) c.self.view_is
-
-pub returns-in-Some-clause-count : goal.returns-in-Some-clause-count
-returns-in-Some-clause-count c =
-    let closed = c.self.inside.closed.items in
-    pushed_count c.push.result closed c.in-Some.open c.push.new.self c.args.self.now c.args.statement c.push.ensures.value
-    (ap (λ (o : Option Module). let d : Drafted = record { closed = closed; current = o } in d) (sym c.in-Some.is) ∙ c.self.view_is)
-
-pub returns-in_ok-push-in-None-clause-count : goal.returns-in_ok-push-in-None-clause-count
-returns-in_ok-push-in-None-clause-count c =
-    statement_count c.self.inside.closed.items c.self.inside.current c.push-in-None.new.self c.args.self.now c.args.statement
-    (pushed_to_main c) c.self.view_is
-
-pub invariant_of-self : goal.invariant_of-self
-invariant_of-self c =
-    (c.self.invariant.0, pushed_formed c.push.result c.in-Some.open c.push.new.self c.args.statement c.push.ensures.value c.push.ensures.kept c.requires (subst (λ (o : Option Module). IfSome o IsFormedModule) c.in-Some.is c.self.invariant.1))
-
-pub invariant_of-self-in-None : goal.invariant_of-self-in-None
-invariant_of-self-in-None c =
-    (c.self.invariant.0, begun_with c.self.inside.current c.push-in-None.new.self c.args.statement (pushed_to_main c) c.requires c.self.invariant.1)

@@ -1,19 +1,13 @@
 -- One value more keeps what the loop of `words_list` keeps; a fault in a value is the fault of the list.
-use Rattle.std.proofs.lemmas.List.Elements.{All-push}
-use Rattle.m88_base.specs.declared.fixup.Kind.TheVariants.{Abs32}
-use Rattle.m88_parse.specs.WellFormed.{IsOfKind}
 use Rattle.std.proofs.lemmas.Result.{err_from_is_err_and}
 use Rattle.m88_parse.specs.Reader.Grammar.{list_at, word_item_at}
 use Rattle.m88_parse.proofs.Collecting.{collects_more, collects_fault}
 use Rattle.m88_parse.proofs.parser.Parser.words_list.Goals as goal
 
-pub returns-in_err-value-clause-value : goal.returns-in_err-value-clause-value
-returns-in_err-value-clause-value c =
+pub returns-in_err-value : goal.returns-in_err-value
+returns-in_err-value c =
     let p = err_from_is_err_and c.from_residual.result c.from_residual.ensures.1 in
-    rw (p.1, p.2) (collects_fault word_item_at c.loop-more.out.items c.loop-more.self c.in_err-value.field-0.0 (list_at word_item_at c.args.self.now) (rw c.loop-more-test.true at c.loop-more.invariant.collects) c.in_err-value.ensures.value)
+    rw (p.1, p.2) (collects_fault word_item_at c.loop-more.out.items c.loop-more.self c.in_err-value.field-0.0 (list_at word_item_at c.args.self.now) (rw c.loop-more-test.true at c.loop-more.invariant) c.in_err-value.ensures.value)
 
 pub loop-more-preserved : goal.loop-more-preserved
-loop-more-preserved c = record {
-  collects = rw (c.in_ok-push.ensures.items, c.comma-more.ensures.value, c.comma-more.ensures.after) (collects_more word_item_at c.loop-more.out.items c.in_ok-value.value c.loop-more.self c.value.new.self (list_at word_item_at c.args.self.now) (rw c.loop-more-test.true at c.loop-more.invariant.collects) c.in_ok-value.ensures.value c.in_ok-value.ensures.shorter);
-  kind = rw c.in_ok-push.ensures.items (All-push (IsOfKind Abs32) c.loop-more.out.items c.in_ok-value.value c.loop-more.invariant.kind c.in_ok-value.ensures.kind);
-}
+loop-more-preserved c = rw (c.in_ok-push.ensures.items, c.comma-more.ensures.value, c.comma-more.ensures.after) (collects_more word_item_at c.loop-more.out.items c.in_ok-value.value c.loop-more.self c.value.new.self (list_at word_item_at c.args.self.now) (rw c.loop-more-test.true at c.loop-more.invariant) c.in_ok-value.ensures.value c.in_ok-value.ensures.shorter)

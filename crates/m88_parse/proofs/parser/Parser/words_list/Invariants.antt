@@ -1,17 +1,11 @@
--- What is collected and what is left are the whole list of `.word`; each item waits for 32 bits.
+-- What is collected and what is left are the whole list of `.word`.
 use Rattle.std.proofs.Common.{◌+◌, cond, length}
-use Rattle.std.specs.List.{All}
-use Rattle.m88_base.specs.declared.fixup.Kind.TheVariants.{Abs32}
-use Rattle.m88_parse.specs.WellFormed.{IsOfKind}
 use Rattle.m88_parse.specs.Reader.Grammar.{list_at, word_item_at}
 use Rattle.m88_parse.proofs.Collecting.{Collects}
 use Rattle.m88_parse.proofs.parser.Parser.words_list.Given as goal
 
 abbrev pub invariant-loop-more : goal.invariant-loop-more
-invariant-loop-more l = record {
-  collects : Collects word_item_at l.more l.out.items l.self (list_at word_item_at l.fn.self);
-  kind : All (IsOfKind Abs32) l.out.items;
-}
+invariant-loop-more l = Collects word_item_at l.more l.out.items l.self (list_at word_item_at l.fn.self)
 
 abbrev pub decreases-loop-more : goal.decreases-loop-more
 decreases-loop-more l = length l.self.rest + cond l.more 1 0
