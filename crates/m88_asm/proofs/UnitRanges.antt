@@ -15,13 +15,11 @@ use Rattle.m88_link.proofs.Walks.{front_of}
 use Rattle.m88_parse.specs.Language.Operands.{AreOperands, Behind, IsAddend, IsFixup, IsGoal, IsHalfOf, IsImmediate, IsSigned, IsSymbolOf, IsValue}
 use Rattle.m88_parse.specs.Language.Operands as operand
 use Rattle.m88_parse.specs.Language.Pieces.{Piece}
-use Rattle.m88_parse.specs.Language.Shapes.{shape_of}
 use Rattle.m88_parse.specs.Language.Statements.{AreParted, IsBody, IsHead, IsStatement}
 use Rattle.m88_parse.specs.Language.Statements as statement
 use Rattle.m88_parse.specs.Language.Tokens.{LineTokens}
 use Rattle.m88_parse.specs.Language.Units.{AreModules, AreRows, IsUnit, LineSays, begins, says}
 use Rattle.m88_parse.specs.Language.Units as units
-use Rattle.m88_parse.specs.declared.shape.Shape.{Shape}
 use Rattle.m88_parse.specs.declared.unit.Body.{Body}
 use Rattle.m88_parse.specs.declared.unit.Body.TheVariants as body
 use Rattle.m88_parse.specs.declared.unit.Module.{Module}
@@ -139,38 +137,33 @@ goal_ranged kind width ps _ _ line (operand.symbol {f = f} h) = fixup_ranged kin
 behind : (r : Reg) (ps rest : List Piece) → Behind r ps rest → InLine ps → InLine rest
 behind r ps rest b line = (subst InLine b.tokens line).1.1
 
-operands_ranged : (s : Shape) (ps : List Piece) (i : Instr) (fixup : Option Fixup) → InLine ps
-    → AreOperands s ps i fixup → Waiting fixup
-operands_ranged s ps i fixup line (operand.either_immediate {d = d} {s1 = s1} {qs = qs} {rest = rest} {imm = imm} a b h) =
+operands_ranged : (ps : List Piece) (i : Instr) (fixup : Option Fixup) → InLine ps
+    → AreOperands ps i fixup → Waiting fixup
+operands_ranged ps i fixup line (operand.immediate {d = d} {s1 = s1} {qs = qs} {rest = rest} {imm = imm} a b h) =
     immediate_ranged rest imm fixup (behind s1 qs rest b (behind d ps qs a line)) h
-operands_ranged s ps i fixup line (operand.either_register a b h) = tt
-operands_ranged s ps i fixup line (operand.immediate {d = d} {s1 = s1} {qs = qs} {rest = rest} {imm = imm} a b h) =
+operands_ranged ps i fixup line (operand.registers a b h) = tt
+operands_ranged ps i fixup line (operand.offset {d = d} {s1 = s1} {qs = qs} {rest = rest} {imm = imm} a b h) =
     immediate_ranged rest imm fixup (behind s1 qs rest b (behind d ps qs a line)) h
-operands_ranged s ps i fixup line (operand.registers a b h) = tt
-operands_ranged s ps i fixup line (operand.offset {d = d} {s1 = s1} {qs = qs} {rest = rest} {imm = imm} a b h) =
-    immediate_ranged rest imm fixup (behind s1 qs rest b (behind d ps qs a line)) h
-operands_ranged s ps i fixup line (operand.index a b h) = tt
-operands_ranged s ps i fixup line (operand.scaled a b h) = tt
-operands_ranged s ps i fixup line (operand.user_index a b h) = tt
-operands_ranged s ps i fixup line (operand.user_scaled a b h) = tt
-operands_ranged s ps i fixup line (operand.address a b h) = tt
-operands_ranged s ps i fixup line (operand.literal a b h) = tt
-operands_ranged s ps i fixup line (operand.field a b h) = tt
-operands_ranged s ps i fixup line (operand.find a h) = tt
-operands_ranged s ps i fixup line (operand.branch {words = words} h) = goal_ranged Pc26 25 ps words fixup line h
-operands_ranged s _ i fixup line (operand.branch_bit {s1 = s1} {ps = ps} {rest = rest} {words = words} is comma b h) =
+operands_ranged ps i fixup line (operand.index a b h) = tt
+operands_ranged ps i fixup line (operand.scaled a b h) = tt
+operands_ranged ps i fixup line (operand.address a b h) = tt
+operands_ranged ps i fixup line (operand.literal a b h) = tt
+operands_ranged ps i fixup line (operand.field a b h) = tt
+operands_ranged ps i fixup line (operand.find a h) = tt
+operands_ranged ps i fixup line (operand.branch {words = words} h) = goal_ranged Pc26 25 ps words fixup line h
+operands_ranged _ i fixup line (operand.branch_bit {s1 = s1} {ps = ps} {rest = rest} {words = words} is comma b h) =
     goal_ranged Pc16 15 rest words fixup (behind s1 ps rest b line.1.1) h
-operands_ranged s _ i fixup line (operand.branch_condition {s1 = s1} {ps = ps} {rest = rest} {words = words} is comma b h) =
+operands_ranged _ i fixup line (operand.branch_condition {s1 = s1} {ps = ps} {rest = rest} {words = words} is comma b h) =
     goal_ranged Pc16 15 rest words fixup (behind s1 ps rest b line.1.1) h
-operands_ranged s ps i fixup line (operand.jump h) = tt
-operands_ranged s ps i fixup line (operand.trap_bit is comma b number small) = tt
-operands_ranged s ps i fixup line (operand.trap_condition is comma b number small) = tt
-operands_ranged s ps i fixup line (operand.bound_number b number small) = tt
-operands_ranged s ps i fixup line (operand.bound_register b h) = tt
-operands_ranged s ps i fixup line operand.return = tt
-operands_ranged s ps i fixup line (operand.control_load b h) = tt
-operands_ranged s ps i fixup line (operand.control_store b h) = tt
-operands_ranged s ps i fixup line (operand.control_exchange a b h) = tt
+operands_ranged ps i fixup line (operand.jump h) = tt
+operands_ranged ps i fixup line (operand.trap_bit is comma b number small) = tt
+operands_ranged ps i fixup line (operand.trap_condition is comma b number small) = tt
+operands_ranged ps i fixup line (operand.bound_number b number small) = tt
+operands_ranged ps i fixup line (operand.bound_register b h) = tt
+operands_ranged ps i fixup line operand.return = tt
+operands_ranged ps i fixup line (operand.control_load b h) = tt
+operands_ranged ps i fixup line (operand.control_store b h) = tt
+operands_ranged ps i fixup line (operand.control_exchange a b h) = tt
 
 -- statements
 body_ranged : (ps : List Piece) (b : Body) → InLine ps → IsBody ps b → IsRangedBody b
@@ -186,8 +179,8 @@ body_ranged _ _ line (statement.align named number one) = tt
 body_ranged _ _ line (statement.global named symbol) = tt
 body_ranged _ _ line (statement.set {ps = ps} {n = n} named symbol comma number) =
     (symbol.1.valid, line.1.0.col, signed_small (2 ^ 32) ps n (omega arith) number)
-body_ranged _ _ line (statement.code {ps = ps} mnemonic {instr = i} {fixup = fixup} named operands) =
-    operands_ranged (shape_of mnemonic) ps i fixup line.1 operands
+body_ranged _ _ line (statement.code {ps = ps} {instr = i} {fixup = fixup} named operands) =
+    operands_ranged ps i fixup line.1 operands
 
 statement_ranged : (number : ℕ) (ps : List Piece) (s : Statement) → number < 2 ^ 32 → InLine ps
     → IsStatement number ps s → IsRangedStatement s

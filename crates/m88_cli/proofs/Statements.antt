@@ -5,19 +5,17 @@ use Rattle.std.proofs.lemmas.Fmt.{length-decimal-le}
 use Rattle.m88_base.specs.Reg.{number_of, reg_of}
 use Rattle.m88_base.specs.declared.reg.Reg.{Reg}
 use Rattle.m88_isa.specs.Instr.{IsValid}
-use Rattle.m88_isa.specs.Mnemonic.{text_of}
 use Rattle.m88_isa.specs.declared.instr.ImmOp.TheVariants.{Addu}
 use Rattle.m88_isa.specs.declared.instr.Instr.{Instr}
 use Rattle.m88_isa.specs.declared.instr.Instr.TheVariants.{Imm, MemImm, Regs}
 use Rattle.m88_isa.specs.declared.instr.MemOp.{MemOp}
 use Rattle.m88_isa.specs.declared.instr.MemOp.TheVariants.{Ld, LdD, St, StB}
 use Rattle.m88_isa.specs.declared.instr.RegOp.TheVariants.{Subu, Xor}
-use Rattle.m88_isa.specs.declared.mnemonic.Mnemonic.{Mnemonic}
 use Rattle.m88_parse.specs.declared.unit.Body.TheVariants.{Code}
-use Rattle.m88_disasm.specs.Mnemonics.{of_imm, of_mem, of_reg}
+use Rattle.m88_parse.specs.Language.Mnemonics.{imm_name, mem_name, reg_name}
 use Rattle.m88_disasm.specs.Read.{said_body}
 use Rattle.m88_disasm.specs.Text.{instr_text, register_name, spelled}
-use Rattle.m88_disasm.proofs.Names.{name_short}
+use Rattle.m88_disasm.proofs.Names.{imm_short, mem_short, reg_short}
 use Rattle.m88_cli.proofs.Drawing.{seed_next, source_more}
 use Rattle.m88_cli.specs.Workload.{draw, drawn_address, drawn_instruction, drawn_register, drawn_statement, seed_after, workload_source}
 use Rattle.m88_base.specs.Lines.{line_end}
@@ -37,35 +35,34 @@ register_short r =
 number_short : (n : ℕ) → n < 2 ^ 16 → length (decimal n) ≤ 5
 number_short n below = length-decimal-le 5 n (omega arith) (omega arith) (omega arith)
 
-line_short : (mnemonic : Mnemonic) (d s : Reg) (last : List ℕ) → length last ≤ 5
-    → length (spelled mnemonic (register_name d ∷ register_name s ∷ last ∷ [])) ≤ 25
-line_short mnemonic d s last few =
+line_short : (name : List ℕ) (d s : Reg) (last : List ℕ) → length name ≤ 11 → length last ≤ 5
+    → length (spelled name (register_name d ∷ register_name s ∷ last ∷ [])) ≤ 25
+line_short name d s last named few =
     let four = length-append last [] in
     let three = length-append (register_name s) (44 ∷ (last ++ [])) in
     let two = length-append (register_name d) (44 ∷ (register_name s ++ 44 ∷ (last ++ []))) in
-    let one = length-append (text_of mnemonic) (32 ∷ (register_name d ++ 44 ∷ (register_name s ++ 44 ∷ (last ++ [])))) in
-    let name = name_short mnemonic in
+    let one = length-append name (32 ∷ (register_name d ++ 44 ∷ (register_name s ++ 44 ∷ (last ++ [])))) in
     let first = register_short d in
     let second = register_short s in
-    omega (arith, one, two, three, four, name, first, second)
+    omega (arith, one, two, three, four, named, first, second)
 
 -- the four forms of statements
 plain_immediate : (b c : Reg) (v : ℕ) → v < 2 ^ 16 → IsPlain (Imm Addu b c v)
 unfolding instr_text
 plain_immediate b c v below =
-    record { valid = below; said = refl; short = line_short (of_imm Addu) b c (decimal v) (number_short v below) }
+    record { valid = below; said = refl; short = line_short (imm_name Addu) b c (decimal v) (imm_short Addu) (number_short v below) }
 
 plain_difference : (b c : Reg) → IsPlain (Regs Subu b c b)
 unfolding instr_text
 plain_difference b c =
     let few = register_short b in
-    record { valid = tt; said = refl; short = line_short (of_reg Subu) b c (register_name b) (omega (arith, few)) }
+    record { valid = tt; said = refl; short = line_short (reg_name Subu) b c (register_name b) (reg_short Subu) (omega (arith, few)) }
 
 plain_exclusive : (b c : Reg) → IsPlain (Regs Xor b b c)
 unfolding instr_text
 plain_exclusive b c =
     let few = register_short c in
-    record { valid = tt; said = refl; short = line_short (of_reg Xor) b b (register_name c) (omega (arith, few)) }
+    record { valid = tt; said = refl; short = line_short (reg_name Xor) b b (register_name c) (reg_short Xor) (omega (arith, few)) }
 
 plain_memory : (op : MemOp) (b : Reg) (v : ℕ) → v < 2 ^ 16 → IsPlain (MemImm op b (reg_of 0) (drawn_address v))
 unfolding instr_text
@@ -74,7 +71,7 @@ plain_memory op b v below =
     record {
       valid = few;
       said = refl;
-      short = line_short (of_mem op) b (reg_of 0) (decimal (drawn_address v)) (number_short (drawn_address v) few);
+      short = line_short (mem_name op) b (reg_of 0) (decimal (drawn_address v)) (mem_short op) (number_short (drawn_address v) few);
     }
 
 -- what holds of each form holds of the one that tests choose

@@ -11,9 +11,19 @@ use Rattle.std.proofs.lemmas.List.Sums.{AllPass-from_list_all, list_all-from_All
 use Rattle.m88_base.specs.Hex.{hex_digit, hex2, hex8}
 use Rattle.m88_base.specs.Name.{IsName, begins_name, continues_name}
 use Rattle.m88_base.proofs.Hexadecimal.{value_of_hex8}
-use Rattle.m88_isa.specs.Mnemonic.{text_of}
-use Rattle.m88_isa.specs.declared.mnemonic.Mnemonic.{Mnemonic}
-use Rattle.m88_isa.specs.declared.mnemonic.Mnemonic.TheVariants as m
+use Rattle.m88_isa.specs.declared.instr.ImmOp.{ImmOp}
+use Rattle.m88_isa.specs.declared.instr.ImmOp.TheVariants as imm
+use Rattle.m88_isa.specs.declared.instr.RegOp.{RegOp}
+use Rattle.m88_isa.specs.declared.instr.RegOp.TheVariants as reg
+use Rattle.m88_isa.specs.declared.instr.MemOp.{MemOp}
+use Rattle.m88_isa.specs.declared.instr.MemOp.TheVariants as mem
+use Rattle.m88_isa.specs.declared.instr.LdaSize.{LdaSize}
+use Rattle.m88_isa.specs.declared.instr.LdaSize.TheVariants as lda
+use Rattle.m88_isa.specs.declared.instr.BitOp.{BitOp}
+use Rattle.m88_isa.specs.declared.instr.BitOp.TheVariants as bits
+use Rattle.m88_isa.specs.declared.instr.Instr.{Instr}
+use Rattle.m88_isa.specs.declared.instr.Instr.TheVariants as instr
+use Rattle.m88_parse.specs.Language.Mnemonics.{imm_name, reg_name, mem_name, index_name, lda_name, bits_name, find_name, branch_name, branch_bit_name, branch_cond_name, jump_name, trap_bit_name, ldcr_name, stcr_name, xcr_name, operation_name}
 use Rattle.m88_parse.specs.Language.Bytes.{are_digits, is_mark}
 use Rattle.m88_parse.specs.Language.Pieces.{Piece, TokenValue, a_name, a_number, a_mark}
 use Rattle.m88_parse.specs.Language.Tokens.{AreNameBytes, AreTokens, BeginsWithNoNameByte, HasNoNeedlessZero, IsDecimal, IsToken, LineTokens}
@@ -213,13 +223,70 @@ name_passes (b ∷ bs) e =
 pub word_name : (text : List ℕ) → is_name_text text ≡ true → IsName text
 word_name text e = name_passes text e
 
-mnemonic_passes : (mnemonic : Mnemonic) → is_name_text (text_of mnemonic) ≡ true
-unfolding text_of
-mnemonic_passes m.XmemBu = refl
-mnemonic_passes _ = refl
+imm_passes : (op : ImmOp) → is_name_text (imm_name op) ≡ true
+unfolding imm_name
+imm_passes imm.And = refl
+imm_passes _ = refl
 
-pub mnemonic_name : (mnemonic : Mnemonic) → IsName (text_of mnemonic)
-mnemonic_name mnemonic = name_passes (text_of mnemonic) (mnemonic_passes mnemonic)
+reg_passes : (op : RegOp) → is_name_text (reg_name op) ≡ true
+unfolding reg_name
+reg_passes reg.And = refl
+reg_passes _ = refl
+
+index_passes : (op : MemOp) (usr : Bool) → is_name_text (index_name op usr) ≡ true
+unfolding mem_name
+index_passes mem.XmemBu true = refl
+index_passes mem.XmemBu false = refl
+index_passes _ true = refl
+index_passes _ false = refl
+
+lda_passes : (size : LdaSize) → is_name_text (lda_name size) ≡ true
+unfolding lda_name
+lda_passes lda.Double = refl
+lda_passes _ = refl
+
+bits_passes : (op : BitOp) → is_name_text (bits_name op) ≡ true
+unfolding bits_name
+bits_passes bits.Clr = refl
+bits_passes _ = refl
+
+-- a name by one mark, and by two
+by_mark : (name : Bool → List ℕ) → is_name_text (name true) ≡ true → is_name_text (name false) ≡ true → (b : Bool)
+    → is_name_text (name b) ≡ true
+by_mark name t f true = t
+by_mark name t f false = f
+
+by_marks : (name : Bool → Bool → List ℕ) → is_name_text (name true true) ≡ true → is_name_text (name true false) ≡ true
+    → is_name_text (name false true) ≡ true → is_name_text (name false false) ≡ true → (a b : Bool)
+    → is_name_text (name a b) ≡ true
+by_marks name both tf ft ff true b = by_mark (name true) both tf b
+by_marks name both tf ft ff false b = by_mark (name false) ft ff b
+
+operation_passes : (i : Instr) → is_name_text (operation_name i) ≡ true
+operation_passes (instr.Imm op d s1 n) = imm_passes op
+operation_passes (instr.Regs op d s1 s2) = reg_passes op
+operation_passes (instr.MemImm op d s1 n) = index_passes op false
+operation_passes (instr.MemReg op d s1 s2 scaled usr) = index_passes op usr
+operation_passes (instr.Lda size d s1 s2) = lda_passes size
+operation_passes (instr.BitLit op d s1 width offset) = bits_passes op
+operation_passes (instr.BitReg op d s1 s2) = bits_passes op
+operation_passes (instr.Find ones d s2) = by_mark find_name refl refl ones
+operation_passes (instr.Branch link delayed words) = by_marks branch_name refl refl refl refl link delayed
+operation_passes (instr.BranchBit set delayed bit s1 words) = by_marks branch_bit_name refl refl refl refl set delayed
+operation_passes (instr.BranchCond delayed mask s1 words) = by_mark branch_cond_name refl refl delayed
+operation_passes (instr.Jump link delayed s2) = by_marks jump_name refl refl refl refl link delayed
+operation_passes (instr.TrapBit set bit s1 vector) = by_mark trap_bit_name refl refl set
+operation_passes (instr.TrapCond mask s1 vector) = refl
+operation_passes (instr.BoundImm s1 n) = refl
+operation_passes (instr.BoundReg s1 s2) = refl
+operation_passes instr.Rte = refl
+operation_passes (instr.Ldcr d cr float) = by_mark ldcr_name refl refl float
+operation_passes (instr.Stcr s1 cr float) = by_mark stcr_name refl refl float
+operation_passes (instr.Xcr d s1 cr float) = by_mark xcr_name refl refl float
+operation_passes (instr.Sfu unit rest) = refl
+
+pub operation_named : (i : Instr) → IsName (operation_name i)
+operation_named i = name_passes (operation_name i) (operation_passes i)
 
 -- digits go on with a name
 digit_continues : (d : ℕ) → digit_value d < 10 → continues_name d ≡ true

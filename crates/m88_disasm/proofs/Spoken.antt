@@ -5,28 +5,24 @@ use Rattle.m88_base.specs.Hex.{hex2, hex8}
 use Rattle.m88_base.specs.Reg.{number_of}
 use Rattle.m88_base.specs.declared.reg.Reg.{Reg}
 use Rattle.m88_isa.specs.Instr.{FitsWords, IsValid, IsWidth}
-use Rattle.m88_isa.specs.Mnemonic.{text_of}
 use Rattle.m88_isa.specs.Word.{word_of}
 use Rattle.m88_isa.specs.declared.instr.BitOp.{BitOp}
 use Rattle.m88_isa.specs.declared.instr.BitOp.TheVariants as bits
 use Rattle.m88_isa.specs.declared.instr.Instr.{Instr}
 use Rattle.m88_isa.specs.declared.instr.Instr.TheVariants as instr
-use Rattle.m88_isa.specs.declared.mnemonic.Mnemonic.{Mnemonic}
-use Rattle.m88_isa.specs.declared.mnemonic.Mnemonic.TheVariants as m
 use Rattle.m88_parse.specs.Language.Names.{IsCondition, IsControlName, IsSymbolName}
 use Rattle.m88_parse.specs.Language.Operands.{AreOperands}
 use Rattle.m88_parse.specs.Language.Pieces.{Piece}
-use Rattle.m88_parse.specs.Language.Shapes.{shape_of}
+use Rattle.m88_parse.specs.Language.Mnemonics.{bits_name, branch_bit_name, branch_cond_name, branch_name, operation_name, trap_bit_name, xcr_name}
 use Rattle.m88_parse.specs.Language.Statements.{BeginsWithNoColon, IsBody, at, byte, code, one, set as set_symbol, unlabelled, word}
 use Rattle.m88_parse.specs.declared.unit.Value.TheVariants.{Number}
 use Rattle.m88_parse.specs.Language.Words.{condition_named}
 use Rattle.m88_parse.specs.declared.unit.Body.{Body}
 use Rattle.m88_parse.specs.declared.unit.Body.TheVariants as body
 use Rattle.m88_disasm.specs.Listing.{lone_byte_line, place_line, start_line}
-use Rattle.m88_disasm.specs.Mnemonics.{of_imm, of_reg, of_mem, of_index, of_lda, of_bits, of_find, of_branch, of_branch_bit, of_branch_cond, of_jump, of_trap_bit, of_ldcr, of_stcr, of_xcr}
 use Rattle.m88_disasm.specs.Read.{IsReadAs, said_body}
 use Rattle.m88_disasm.specs.Text.{condition, control, field, instr_text, register_name, scaled, spelled, target_operand, word_text}
-use Rattle.m88_disasm.proofs.Parts.{AreGood, IsGood, Part, are_parted, are_printed, byte_part_good, is_mark_part, is_name_text, line_pieces, line_printed, line_tokens, name_is_printed, mnemonic_name, name_token, numbered_name, part_hex, part_mark, part_name, part_number, part_says, part_text, parts_text, piece_of, pieces, word_name, word_part_good}
+use Rattle.m88_disasm.proofs.Parts.{AreGood, IsGood, Part, are_parted, are_printed, byte_part_good, is_mark_part, is_name_text, line_pieces, line_printed, line_tokens, name_is_printed, operation_named, name_token, numbered_name, part_hex, part_mark, part_name, part_number, part_says, part_text, parts_text, piece_of, pieces, word_name, word_part_good}
 use Rattle.m88_disasm.proofs.Forms.{bits_register_form, bound_number_form, bound_register_form, branch_bit_form, branch_cond_form, branch_form, distance_of, field_form, find_form, imm_form, jump_form, lda_form, ldcr_form, mem_imm_form, mem_index_form, mem_scaled_form, reg_form, return_form, rotation_form, sign_of, stcr_form, trap_bit_form, trap_cond_form, xcr_form}
 
 -- a line that ends nowhere within and is read as a statement
@@ -40,21 +36,21 @@ no_colon col (part_mark b) ps e = absurd cc
 no_colon col _ ps e = λ h. cc
 
 -- a mnemonic and operands that are an instruction's
-says_code : (mnemonic : Mnemonic) (p : Part) (ps : List Part) (i : Instr) (number : ℕ) (text : List ℕ)
-    → text ≡ text_of mnemonic ++ 32 ∷ parts_text (p ∷ ps) → AreGood (p ∷ ps) → are_parted (p ∷ ps) ≡ true
+says_code : (p : Part) (ps : List Part) (i : Instr) (number : ℕ) (text : List ℕ)
+    → text ≡ operation_name i ++ 32 ∷ parts_text (p ∷ ps) → AreGood (p ∷ ps) → are_parted (p ∷ ps) ≡ true
     → is_mark_part p ≡ false
-    → AreOperands (shape_of mnemonic) (pieces (1 + length (text_of mnemonic) + 1) (p ∷ ps)) i None
+    → AreOperands (pieces (1 + length (operation_name i) + 1) (p ∷ ps)) i None
     → Spoken number text (body.Code i None)
-says_code mnemonic p ps i number text text_is goods parted first operands =
-    let line : List ℕ = text_of mnemonic ++ 32 ∷ parts_text (p ∷ ps) in
+says_code p ps i number text text_is goods parted first operands =
+    let line : List ℕ = operation_name i ++ 32 ∷ parts_text (p ∷ ps) in
     let said : Spoken number line (body.Code i None) = record {
       read = record {
-        tokens = line_pieces (text_of mnemonic) (p ∷ ps);
-        are_tokens = line_tokens (text_of mnemonic) p ps (mnemonic_name mnemonic) goods parted;
+        tokens = line_pieces (operation_name i) (p ∷ ps);
+        are_tokens = line_tokens (operation_name i) p ps (operation_named i) goods parted;
         statement =
-            unlabelled (code mnemonic refl operands) (no_colon (1 + length (text_of mnemonic) + 1) p ps first);
+            unlabelled (code refl operands) (no_colon (1 + length (operation_name i) + 1) p ps first);
       };
-      printed = line_printed (text_of mnemonic) (p ∷ ps) (mnemonic_name mnemonic) goods;
+      printed = line_printed (operation_name i) (p ∷ ps) (operation_named i) goods;
     } in
     subst (λ (l : List ℕ). Spoken number l (body.Code i None)) (sym text_is) said
 
@@ -136,21 +132,21 @@ condition_part mask small = by1 (mask == 1) refl
     by1 false e = by2 (mask == 2) e refl
 
 -- rD,rS1 and a number
-said_imm : (number : ℕ) (mnemonic : Mnemonic) (d s1 : Reg) (n : ℕ) (i : Instr) → n < 2 ^ 16
-    → AreOperands (shape_of mnemonic)
-    (pieces (1 + length (text_of mnemonic) + 1) (reg_part d ∷ comma ∷ reg_part s1 ∷ comma ∷ part_number n ∷ [])) i None
-    → Spoken number (spelled mnemonic (register_name d ∷ register_name s1 ∷ decimal n ∷ [])) (body.Code i None)
-said_imm number mnemonic d s1 n i small operands =
-    says_code mnemonic (reg_part d) (comma ∷ reg_part s1 ∷ comma ∷ part_number n ∷ []) i number _ refl
+said_imm : (number : ℕ) (d s1 : Reg) (n : ℕ) (i : Instr) → n < 2 ^ 16
+    → AreOperands
+    (pieces (1 + length (operation_name i) + 1) (reg_part d ∷ comma ∷ reg_part s1 ∷ comma ∷ part_number n ∷ [])) i None
+    → Spoken number (spelled (operation_name i) (register_name d ∷ register_name s1 ∷ decimal n ∷ [])) (body.Code i None)
+said_imm number d s1 n i small operands =
+    says_code (reg_part d) (comma ∷ reg_part s1 ∷ comma ∷ part_number n ∷ []) i number _ refl
     (reg_good d, (comma_good, (reg_good s1, (comma_good, (omega arith, tt))))) refl refl operands
 
 -- rD,rS1,rS2
-said_regs : (number : ℕ) (mnemonic : Mnemonic) (d s1 s2 : Reg) (i : Instr)
-    → AreOperands (shape_of mnemonic)
-    (pieces (1 + length (text_of mnemonic) + 1) (reg_part d ∷ comma ∷ reg_part s1 ∷ comma ∷ reg_part s2 ∷ [])) i None
-    → Spoken number (spelled mnemonic (register_name d ∷ register_name s1 ∷ register_name s2 ∷ [])) (body.Code i None)
-said_regs number mnemonic d s1 s2 i operands =
-    says_code mnemonic (reg_part d) (comma ∷ reg_part s1 ∷ comma ∷ reg_part s2 ∷ []) i number _ refl
+said_regs : (number : ℕ) (d s1 s2 : Reg) (i : Instr)
+    → AreOperands
+    (pieces (1 + length (operation_name i) + 1) (reg_part d ∷ comma ∷ reg_part s1 ∷ comma ∷ reg_part s2 ∷ [])) i None
+    → Spoken number (spelled (operation_name i) (register_name d ∷ register_name s1 ∷ register_name s2 ∷ [])) (body.Code i None)
+said_regs number d s1 s2 i operands =
+    says_code (reg_part d) (comma ∷ reg_part s1 ∷ comma ∷ reg_part s2 ∷ []) i number _ refl
     (reg_good d, (comma_good, (reg_good s1, (comma_good, (reg_good s2, tt))))) refl refl operands
 
 -- two texts, each with a mark behind it
@@ -158,32 +154,32 @@ marked_twice : (x y : ℕ) (a b : List ℕ) → (((a ++ x ∷ []) ++ b) ++ y ∷
 marked_twice x y a b = append-nil (((a ++ x ∷ []) ++ b) ++ y ∷ []) ∙ simp append_assoc
 
 -- rD,rS1[rS2]
-said_scaled : (number : ℕ) (mnemonic : Mnemonic) (d s1 s2 : Reg) (i : Instr)
-    → AreOperands (shape_of mnemonic)
-    (pieces (1 + length (text_of mnemonic) + 1)
+said_scaled : (number : ℕ) (d s1 s2 : Reg) (i : Instr)
+    → AreOperands
+    (pieces (1 + length (operation_name i) + 1)
     (reg_part d ∷ comma ∷ reg_part s1 ∷ part_mark 91 ∷ reg_part s2 ∷ part_mark 93 ∷ [])) i None
-    → Spoken number (spelled mnemonic (register_name d ∷ scaled s1 s2 ∷ [])) (body.Code i None)
-said_scaled number mnemonic d s1 s2 i operands =
-    says_code mnemonic (reg_part d) (comma ∷ reg_part s1 ∷ part_mark 91 ∷ reg_part s2 ∷ part_mark 93 ∷ []) i number _
-    (ap (λ (xs : List ℕ). text_of mnemonic ++ 32 ∷ (register_name d ++ 44 ∷ xs))
+    → Spoken number (spelled (operation_name i) (register_name d ∷ scaled s1 s2 ∷ [])) (body.Code i None)
+said_scaled number d s1 s2 i operands =
+    says_code (reg_part d) (comma ∷ reg_part s1 ∷ part_mark 91 ∷ reg_part s2 ∷ part_mark 93 ∷ []) i number _
+    (ap (λ (xs : List ℕ). operation_name i ++ 32 ∷ (register_name d ++ 44 ∷ xs))
     (marked_twice 91 93 (register_name s1) (register_name s2)))
     (reg_good d, (comma_good, (reg_good s1, ((refl, refl, refl), (reg_good s2, ((refl, refl, refl), tt)))))) refl
     refl operands
 
 -- rD,rS1,W<O>
-said_field : (number : ℕ) (mnemonic : Mnemonic) (d s1 : Reg) (width offset : ℕ) (i : Instr) → width < 32 → offset < 32
-    → AreOperands (shape_of mnemonic)
-    (pieces (1 + length (text_of mnemonic) + 1)
+said_field : (number : ℕ) (d s1 : Reg) (width offset : ℕ) (i : Instr) → width < 32 → offset < 32
+    → AreOperands
+    (pieces (1 + length (operation_name i) + 1)
     (reg_part d ∷ comma ∷ reg_part s1 ∷ comma ∷ part_number width ∷ part_mark 60 ∷ part_number offset ∷ part_mark 62
     ∷ []))
     i None
     → Spoken number
-    (spelled mnemonic (register_name d ∷ register_name s1 ∷ (decimal width ++ codes "<" ++ decimal offset ++ codes ">") ∷ []))
+    (spelled (operation_name i) (register_name d ∷ register_name s1 ∷ (decimal width ++ codes "<" ++ decimal offset ++ codes ">") ∷ []))
     (body.Code i None)
-said_field number mnemonic d s1 width offset i wide small operands =
-    says_code mnemonic (reg_part d)
+said_field number d s1 width offset i wide small operands =
+    says_code (reg_part d)
     (comma ∷ reg_part s1 ∷ comma ∷ part_number width ∷ part_mark 60 ∷ part_number offset ∷ part_mark 62 ∷ []) i number _
-    (ap (λ (xs : List ℕ). text_of mnemonic ++ 32 ∷ (register_name d ++ 44 ∷ (register_name s1 ++ 44 ∷ xs)))
+    (ap (λ (xs : List ℕ). operation_name i ++ 32 ∷ (register_name d ++ 44 ∷ (register_name s1 ++ 44 ∷ xs)))
     (marked_twice 60 62 (decimal width) (decimal offset))) (
       reg_good d,
       (
@@ -196,17 +192,17 @@ said_field number mnemonic d s1 width offset i wide small operands =
     ) refl refl operands
 
 -- rD,rS1,<O>
-said_rotation : (number : ℕ) (mnemonic : Mnemonic) (d s1 : Reg) (offset : ℕ) (i : Instr) → offset < 32
-    → AreOperands (shape_of mnemonic)
-    (pieces (1 + length (text_of mnemonic) + 1)
+said_rotation : (number : ℕ) (d s1 : Reg) (offset : ℕ) (i : Instr) → offset < 32
+    → AreOperands
+    (pieces (1 + length (operation_name i) + 1)
     (reg_part d ∷ comma ∷ reg_part s1 ∷ comma ∷ part_mark 60 ∷ part_number offset ∷ part_mark 62 ∷ [])) i None
     → Spoken number
-    (spelled mnemonic (register_name d ∷ register_name s1 ∷ (codes "<" ++ decimal offset ++ codes ">") ∷ []))
+    (spelled (operation_name i) (register_name d ∷ register_name s1 ∷ (codes "<" ++ decimal offset ++ codes ">") ∷ []))
     (body.Code i None)
-said_rotation number mnemonic d s1 offset i small operands =
-    says_code mnemonic (reg_part d)
+said_rotation number d s1 offset i small operands =
+    says_code (reg_part d)
     (comma ∷ reg_part s1 ∷ comma ∷ part_mark 60 ∷ part_number offset ∷ part_mark 62 ∷ []) i number _
-    (ap (λ (xs : List ℕ). text_of mnemonic ++ 32 ∷ (register_name d ++ 44 ∷ (register_name s1 ++ 44 ∷ (60 ∷ xs))))
+    (ap (λ (xs : List ℕ). operation_name i ++ 32 ∷ (register_name d ++ 44 ∷ (register_name s1 ++ 44 ∷ (60 ∷ xs))))
     (append-nil (decimal offset ++ codes ">"))) (
       reg_good d,
       (
@@ -219,34 +215,34 @@ said_rotation number mnemonic d s1 offset i small operands =
     ) refl refl operands
 
 said_literal : (number : ℕ) (op : BitOp) (d s1 : Reg) (width offset : ℕ) → IsWidth op width → offset < 32
-    → Spoken number (spelled (of_bits op) (register_name d ∷ register_name s1 ∷ field op width offset ∷ []))
+    → Spoken number (spelled (bits_name op) (register_name d ∷ register_name s1 ∷ field op width offset ∷ []))
     (body.Code (instr.BitLit op d s1 width offset) None)
 said_literal number bits.Rot d s1 width offset wide small =
-    said_rotation number (of_bits bits.Rot) d s1 offset (instr.BitLit bits.Rot d s1 width offset) small
+    said_rotation number d s1 offset (instr.BitLit bits.Rot d s1 width offset) small
     (rotation_form d s1 width offset _ _ _ _ _ _ _ refl refl refl refl refl refl refl wide small)
 said_literal number op d s1 width offset wide small =
-    said_field number (of_bits op) d s1 width offset (instr.BitLit op d s1 width offset) wide small
+    said_field number d s1 width offset (instr.BitLit op d s1 width offset) wide small
     (field_form op d s1 width offset _ _ _ _ _ _ _ _ refl refl refl refl refl refl refl refl (omega arith) small)
 
 -- two registers
-said_pair : (number : ℕ) (mnemonic : Mnemonic) (r s : Reg) (i : Instr)
-    → AreOperands (shape_of mnemonic) (pieces (1 + length (text_of mnemonic) + 1)
+said_pair : (number : ℕ) (r s : Reg) (i : Instr)
+    → AreOperands (pieces (1 + length (operation_name i) + 1)
     (reg_part r ∷ comma ∷ reg_part s ∷ [])) i None
-    → Spoken number (spelled mnemonic (register_name r ∷ register_name s ∷ [])) (body.Code i None)
-said_pair number mnemonic r s i operands =
-    says_code mnemonic (reg_part r) (comma ∷ reg_part s ∷ []) i number _ refl
+    → Spoken number (spelled (operation_name i) (register_name r ∷ register_name s ∷ [])) (body.Code i None)
+said_pair number r s i operands =
+    says_code (reg_part r) (comma ∷ reg_part s ∷ []) i number _ refl
     (reg_good r, (comma_good, (reg_good s, tt))) refl refl operands
 
-said_single : (number : ℕ) (mnemonic : Mnemonic) (r : Reg) (i : Instr)
-    → AreOperands (shape_of mnemonic) (pieces (1 + length (text_of mnemonic) + 1) (reg_part r ∷ [])) i None
-    → Spoken number (spelled mnemonic (register_name r ∷ [])) (body.Code i None)
-said_single number mnemonic r i operands =
-    says_code mnemonic (reg_part r) [] i number _ refl (reg_good r, tt) refl refl operands
+said_single : (number : ℕ) (r : Reg) (i : Instr)
+    → AreOperands (pieces (1 + length (operation_name i) + 1) (reg_part r ∷ [])) i None
+    → Spoken number (spelled (operation_name i) (register_name r ∷ [])) (body.Code i None)
+said_single number r i operands =
+    says_code (reg_part r) [] i number _ refl (reg_good r, tt) refl refl operands
 
 said_bound : (number : ℕ) (s1 : Reg) (n : ℕ) → n < 2 ^ 16
-    → Spoken number (spelled m.Tbnd (register_name s1 ∷ decimal n ∷ [])) (body.Code (instr.BoundImm s1 n) None)
+    → Spoken number (spelled (codes "tbnd") (register_name s1 ∷ decimal n ∷ [])) (body.Code (instr.BoundImm s1 n) None)
 said_bound number s1 n small =
-    says_code m.Tbnd (reg_part s1) (comma ∷ part_number n ∷ []) (instr.BoundImm s1 n) number _ refl
+    says_code (reg_part s1) (comma ∷ part_number n ∷ []) (instr.BoundImm s1 n) number _ refl
     (reg_good s1, (comma_good, (omega arith, tt))) refl refl (bound_number_form s1 n _ _ _ refl refl refl small)
 
 -- targets
@@ -266,94 +262,94 @@ wider (pos n) fits = omega arith
 wider (negsuc n) fits = omega arith
 
 said_branch : (number : ℕ) (link delayed : Bool) (words : ℤ) → FitsWords 25 words
-    → Spoken number (spelled (of_branch link delayed) (target_operand words ∷ []))
+    → Spoken number (spelled (branch_name link delayed) (target_operand words ∷ []))
     (body.Code (instr.Branch link delayed words) None)
 said_branch number link delayed words fits =
-    says_code (of_branch link delayed) (part_name (codes "."))
+    says_code (part_name (codes "."))
     (part_mark (sign_of words) ∷ part_number (distance_of words) ∷ [])
     (instr.Branch link delayed words) number _
-    (ap (λ (xs : List ℕ). text_of (of_branch link delayed) ++ 32 ∷ xs) (target_text words)) (target_good words fits)
+    (ap (λ (xs : List ℕ). branch_name link delayed ++ 32 ∷ xs) (target_text words)) (target_good words fits)
     refl refl
     (branch_form link delayed words _ _ _ fits refl refl refl)
 
 said_branch_bit : (number : ℕ) (set delayed : Bool) (bit : ℕ) (s1 : Reg) (words : ℤ) → bit < 32 → FitsWords 15 words
-    → Spoken number (spelled (of_branch_bit set delayed) (decimal bit ∷ register_name s1 ∷ target_operand words ∷ []))
+    → Spoken number (spelled (branch_bit_name set delayed) (decimal bit ∷ register_name s1 ∷ target_operand words ∷ []))
     (body.Code (instr.BranchBit set delayed bit s1 words) None)
 said_branch_bit number set delayed bit s1 words small fits =
-    says_code (of_branch_bit set delayed) (part_number bit) (comma ∷ reg_part s1 ∷ comma ∷ target_parts words)
+    says_code (part_number bit) (comma ∷ reg_part s1 ∷ comma ∷ target_parts words)
     (instr.BranchBit set delayed bit s1 words) number _
-    (ap (λ (xs : List ℕ). text_of (of_branch_bit set delayed) ++ 32 ∷ (decimal bit ++ 44 ∷ (register_name s1 ++ 44 ∷ xs)))
+    (ap (λ (xs : List ℕ). branch_bit_name set delayed ++ 32 ∷ (decimal bit ++ 44 ∷ (register_name s1 ++ 44 ∷ xs)))
     (target_text words))
     (omega arith, (comma_good, (reg_good s1, (comma_good, target_good words (wider words fits))))) refl refl
     (branch_bit_form set delayed bit s1 words _ _ _ _ _ _ _ refl small refl refl refl fits refl refl refl)
 
 said_branch_cond : (number : ℕ) (delayed : Bool) (mask : ℕ) (s1 : Reg) (words : ℤ) → ConditionPart mask
     → FitsWords 15 words
-    → Spoken number (spelled (of_branch_cond delayed) (condition mask ∷ register_name s1 ∷ target_operand words ∷ []))
+    → Spoken number (spelled (branch_cond_name delayed) (condition mask ∷ register_name s1 ∷ target_operand words ∷ []))
     (body.Code (instr.BranchCond delayed mask s1 words) None)
 said_branch_cond number delayed mask s1 words c fits =
-    says_code (of_branch_cond delayed) c.part (comma ∷ reg_part s1 ∷ comma ∷ target_parts words)
+    says_code c.part (comma ∷ reg_part s1 ∷ comma ∷ target_parts words)
     (instr.BranchCond delayed mask s1 words) number _
-    (ap (λ (xs : List ℕ). text_of (of_branch_cond delayed) ++ 32 ∷ (condition mask ++ 44 ∷ (register_name s1 ++ 44 ∷ xs)))
+    (ap (λ (xs : List ℕ). branch_cond_name delayed ++ 32 ∷ (condition mask ++ 44 ∷ (register_name s1 ++ 44 ∷ xs)))
     (target_text words)
-    ∙ ap (λ (ys : List ℕ). text_of (of_branch_cond delayed) ++ 32 ∷
+    ∙ ap (λ (ys : List ℕ). branch_cond_name delayed ++ 32 ∷
     (ys ++ 44 ∷ (register_name s1 ++ 44 ∷ parts_text (target_parts words)))) c.text_is)
     (c.good, (comma_good, (reg_good s1, (comma_good, target_good words (wider words fits))))) refl c.plain
     (branch_cond_form delayed mask s1 words _ _ _ _ _ _ _
-    (c.read (piece_of (1 + length (text_of (of_branch_cond delayed)) + 1) c.part) refl) refl refl refl fits refl refl
+    (c.read (piece_of (1 + length (branch_cond_name delayed) + 1) c.part) refl) refl refl refl fits refl refl
     refl)
 
 -- traps
 said_trap_bit : (number : ℕ) (set : Bool) (bit : ℕ) (s1 : Reg) (vector : ℕ) → bit < 32 → vector < 512
-    → Spoken number (spelled (of_trap_bit set) (decimal bit ∷ register_name s1 ∷ decimal vector ∷ []))
+    → Spoken number (spelled (trap_bit_name set) (decimal bit ∷ register_name s1 ∷ decimal vector ∷ []))
     (body.Code (instr.TrapBit set bit s1 vector) None)
 said_trap_bit number set bit s1 vector small few =
-    says_code (of_trap_bit set) (part_number bit) (comma ∷ reg_part s1 ∷ comma ∷ part_number vector ∷ [])
+    says_code (part_number bit) (comma ∷ reg_part s1 ∷ comma ∷ part_number vector ∷ [])
     (instr.TrapBit set bit s1 vector) number _ refl
     (omega arith, (comma_good, (reg_good s1, (comma_good, (omega arith, tt))))) refl refl
     (trap_bit_form set bit s1 vector _ _ _ _ _ refl small refl refl refl refl few)
 
 said_trap_cond : (number : ℕ) (mask : ℕ) (s1 : Reg) (vector : ℕ) → ConditionPart mask → vector < 512
-    → Spoken number (spelled m.Tcnd (condition mask ∷ register_name s1 ∷ decimal vector ∷ []))
+    → Spoken number (spelled (codes "tcnd") (condition mask ∷ register_name s1 ∷ decimal vector ∷ []))
     (body.Code (instr.TrapCond mask s1 vector) None)
 said_trap_cond number mask s1 vector c few =
-    says_code m.Tcnd c.part (comma ∷ reg_part s1 ∷ comma ∷ part_number vector ∷ [])
+    says_code c.part (comma ∷ reg_part s1 ∷ comma ∷ part_number vector ∷ [])
     (instr.TrapCond mask s1 vector) number _
-    (ap (λ (ys : List ℕ). text_of m.Tcnd ++ 32 ∷ (ys ++ 44 ∷ (register_name s1 ++ 44 ∷ (decimal vector ++ [])))) c.text_is)
+    (ap (λ (ys : List ℕ). codes "tcnd" ++ 32 ∷ (ys ++ 44 ∷ (register_name s1 ++ 44 ∷ (decimal vector ++ [])))) c.text_is)
     (c.good, (comma_good, (reg_good s1, (comma_good, (omega arith, tt))))) refl c.plain
-    (trap_cond_form mask s1 vector _ _ _ _ _ (c.read (piece_of (1 + length (text_of m.Tcnd) + 1) c.part) refl) refl
+    (trap_cond_form mask s1 vector _ _ _ _ _ (c.read (piece_of (1 + length (codes "tcnd") + 1) c.part) refl) refl
     refl refl refl few)
 
 -- control registers
-said_control : (number : ℕ) (mnemonic : Mnemonic) (r : Reg) (float : Bool) (cr : ℕ) (i : Instr) → cr < 64
-    → AreOperands (shape_of mnemonic)
-    (pieces (1 + length (text_of mnemonic) + 1) (reg_part r ∷ comma ∷ part_name (control float cr) ∷ [])) i None
-    → Spoken number (spelled mnemonic (register_name r ∷ control float cr ∷ [])) (body.Code i None)
-said_control number mnemonic r float cr i small operands =
-    says_code mnemonic (reg_part r) (comma ∷ part_name (control float cr) ∷ []) i number _ refl
+said_control : (number : ℕ) (r : Reg) (float : Bool) (cr : ℕ) (i : Instr) → cr < 64
+    → AreOperands
+    (pieces (1 + length (operation_name i) + 1) (reg_part r ∷ comma ∷ part_name (control float cr) ∷ [])) i None
+    → Spoken number (spelled (operation_name i) (register_name r ∷ control float cr ∷ [])) (body.Code i None)
+said_control number r float cr i small operands =
+    says_code (reg_part r) (comma ∷ part_name (control float cr) ∷ []) i number _ refl
     (reg_good r, (comma_good, (control_good float cr small, tt))) refl refl operands
 
 said_exchange : (number : ℕ) (d s1 : Reg) (float : Bool) (cr : ℕ) → cr < 64
-    → Spoken number (spelled (of_xcr float) (register_name d ∷ register_name s1 ∷ control float cr ∷ []))
+    → Spoken number (spelled (xcr_name float) (register_name d ∷ register_name s1 ∷ control float cr ∷ []))
     (body.Code (instr.Xcr d s1 cr float) None)
 said_exchange number d s1 float cr small =
-    says_code (of_xcr float) (reg_part d) (comma ∷ reg_part s1 ∷ comma ∷ part_name (control float cr) ∷ [])
+    says_code (reg_part d) (comma ∷ reg_part s1 ∷ comma ∷ part_name (control float cr) ∷ [])
     (instr.Xcr d s1 cr float) number _ refl
     (reg_good d, (comma_good, (reg_good s1, (comma_good, (control_good float cr small, tt))))) refl refl
     (xcr_form float d s1 cr _ _ _ _ _ refl refl refl refl refl small)
 
 -- the mnemonic alone
-said_return : (number : ℕ) → Spoken number (spelled m.Rte []) (body.Code instr.Rte None)
+said_return : (number : ℕ) → Spoken number (spelled (codes "rte") []) (body.Code instr.Rte None)
 said_return number =
-    let alone : Spoken number (text_of m.Rte) (body.Code instr.Rte None) = record {
+    let alone : Spoken number (codes "rte") (body.Code instr.Rte None) = record {
       read = record {
-        tokens = line_pieces (text_of m.Rte) [];
-        are_tokens = name_token (text_of m.Rte) (mnemonic_name m.Rte);
-        statement = unlabelled (code m.Rte refl return_form) tt;
+        tokens = line_pieces (codes "rte") [];
+        are_tokens = name_token (codes "rte") (operation_named instr.Rte);
+        statement = unlabelled (code refl return_form) tt;
       };
-      printed = name_is_printed (text_of m.Rte) (mnemonic_name m.Rte);
+      printed = name_is_printed (codes "rte") (operation_named instr.Rte);
     } in
-    subst (λ (l : List ℕ). Spoken number l (body.Code instr.Rte None)) (sym (append-nil (text_of m.Rte))) alone
+    subst (λ (l : List ℕ). Spoken number l (body.Code instr.Rte None)) (sym (append-nil (codes "rte"))) alone
 
 -- the operands of a directive behind its name
 says_body : (name : List ℕ) (p : Part) (ps : List Part) (number : ℕ) (said : Body) → is_name_text name ≡ true
@@ -413,39 +409,39 @@ said_start number a small =
 pub said_instr : (number : ℕ) (i : Instr) → IsValid i → Spoken number (instr_text i) (said_body i)
 unfolding instr_text
 said_instr number (instr.Imm op d s1 n) v =
-    said_imm number (of_imm op) d s1 n _ v (imm_form op d s1 n _ _ _ _ _ refl refl refl refl refl v)
+    said_imm number d s1 n _ v (imm_form op d s1 n _ _ _ _ _ refl refl refl refl refl v)
 said_instr number (instr.MemImm op d s1 n) v =
-    said_imm number (of_mem op) d s1 n _ v (mem_imm_form op d s1 n _ _ _ _ _ refl refl refl refl refl v)
+    said_imm number d s1 n _ v (mem_imm_form op d s1 n _ _ _ _ _ refl refl refl refl refl v)
 said_instr number (instr.MemReg op d s1 s2 true usr) v =
-    said_scaled number (of_index op usr) d s1 s2 _
+    said_scaled number d s1 s2 _
     (mem_scaled_form op usr d s1 s2 _ _ _ _ _ _ refl refl refl refl refl refl)
 said_instr number (instr.MemReg op d s1 s2 false usr) v =
-    said_regs number (of_index op usr) d s1 s2 _ (mem_index_form op usr d s1 s2 _ _ _ _ _ refl refl refl refl refl)
+    said_regs number d s1 s2 _ (mem_index_form op usr d s1 s2 _ _ _ _ _ refl refl refl refl refl)
 said_instr number (instr.Lda size d s1 s2) v =
-    said_scaled number (of_lda size) d s1 s2 _ (lda_form size d s1 s2 _ _ _ _ _ _ refl refl refl refl refl refl)
+    said_scaled number d s1 s2 _ (lda_form size d s1 s2 _ _ _ _ _ _ refl refl refl refl refl refl)
 said_instr number (instr.Regs op d s1 s2) v =
-    said_regs number (of_reg op) d s1 s2 _ (reg_form op d s1 s2 _ _ _ _ _ refl refl refl refl refl)
+    said_regs number d s1 s2 _ (reg_form op d s1 s2 _ _ _ _ _ refl refl refl refl refl)
 said_instr number (instr.BitLit op d s1 width offset) v = said_literal number op d s1 width offset v.0 v.1
 said_instr number (instr.BitReg op d s1 s2) v =
-    said_regs number (of_bits op) d s1 s2 _ (bits_register_form op d s1 s2 _ _ _ _ _ refl refl refl refl refl)
+    said_regs number d s1 s2 _ (bits_register_form op d s1 s2 _ _ _ _ _ refl refl refl refl refl)
 said_instr number (instr.Find ones d s2) v =
-    said_pair number (of_find ones) d s2 _ (find_form ones d s2 _ _ _ refl refl refl)
+    said_pair number d s2 _ (find_form ones d s2 _ _ _ refl refl refl)
 said_instr number (instr.Branch link delayed words) v = said_branch number link delayed words v
 said_instr number (instr.BranchBit set delayed bit s1 words) v =
     said_branch_bit number set delayed bit s1 words v.0 v.1
 said_instr number (instr.BranchCond delayed mask s1 words) v =
     said_branch_cond number delayed mask s1 words (condition_part mask v.0) v.1
 said_instr number (instr.Jump link delayed s2) v =
-    said_single number (of_jump link delayed) s2 _ (jump_form link delayed s2 _ refl)
+    said_single number s2 _ (jump_form link delayed s2 _ refl)
 said_instr number (instr.TrapBit set bit s1 vector) v = said_trap_bit number set bit s1 vector v.0 v.1
 said_instr number (instr.TrapCond mask s1 vector) v = said_trap_cond number mask s1 vector (condition_part mask v.0) v.1
 said_instr number (instr.BoundImm s1 n) v = said_bound number s1 n v
 said_instr number (instr.BoundReg s1 s2) v =
-    said_pair number m.Tbnd s1 s2 _ (bound_register_form s1 s2 _ _ _ refl refl refl)
+    said_pair number s1 s2 _ (bound_register_form s1 s2 _ _ _ refl refl refl)
 said_instr number instr.Rte v = said_return number
 said_instr number (instr.Ldcr d cr float) v =
-    said_control number (of_ldcr float) d float cr _ v (ldcr_form float d cr _ _ _ refl refl refl v)
+    said_control number d float cr _ v (ldcr_form float d cr _ _ _ refl refl refl v)
 said_instr number (instr.Stcr s1 cr float) v =
-    said_control number (of_stcr float) s1 float cr _ v (stcr_form float s1 cr _ _ _ refl refl refl v)
+    said_control number s1 float cr _ v (stcr_form float s1 cr _ _ _ refl refl refl v)
 said_instr number (instr.Xcr d s1 cr float) v = said_exchange number d s1 float cr v
 said_instr number (instr.Sfu unit rest) v = said_word number (word_of (instr.Sfu unit rest)) (omega arith)

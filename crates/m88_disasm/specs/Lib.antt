@@ -1,5 +1,4 @@
 -- The texts of instructions, the listing of an image, and what the assembly language makes of them.
-pub mod Mnemonics
 pub mod Text
 pub mod Listing
 pub mod Read

@@ -5,15 +5,12 @@ use Rattle.std.specs.Prelude.{ℕ, ℤ, pos, negsuc, Bool, true, false, ◌+◌,
 use Rattle.m88_base.specs.Hex.{hex8}
 use Rattle.m88_base.specs.Reg.{number_of}
 use Rattle.m88_base.specs.declared.reg.Reg.{Reg}
-use Rattle.m88_isa.specs.Mnemonic.{text_of}
 use Rattle.m88_isa.specs.Word.{word_of}
 use Rattle.m88_isa.specs.declared.instr.BitOp.{BitOp}
 use Rattle.m88_isa.specs.declared.instr.BitOp.TheVariants.{Rot}
 use Rattle.m88_isa.specs.declared.instr.Instr.{Instr}
 use Rattle.m88_isa.specs.declared.instr.Instr.TheVariants as instr
-use Rattle.m88_isa.specs.declared.mnemonic.Mnemonic.{Mnemonic}
-use Rattle.m88_isa.specs.declared.mnemonic.Mnemonic.TheVariants as m
-use Rattle.m88_disasm.specs.Mnemonics.{of_imm, of_reg, of_mem, of_index, of_lda, of_bits, of_find, of_branch, of_branch_bit, of_branch_cond, of_jump, of_trap_bit, of_ldcr, of_stcr, of_xcr}
+use Rattle.m88_parse.specs.Language.Mnemonics.{imm_name, reg_name, mem_name, index_name, lda_name, bits_name, find_name, branch_name, branch_bit_name, branch_cond_name, jump_name, trap_bit_name, ldcr_name, stcr_name, xcr_name}
 
 -- a register: r and its number
 abbrev pub register_name : Reg → List ℕ
@@ -55,9 +52,9 @@ abbrev pub operands_text : List (List ℕ) → List ℕ
 operands_text [] = []
 operands_text (first ∷ others) = codes " " ++ first ++ flat_map (λ operand. codes "," ++ operand) others
 
--- a mnemonic and its operands
-abbrev pub spelled : Mnemonic → List (List ℕ) → List ℕ
-spelled mnemonic operands = text_of mnemonic ++ operands_text operands
+-- the name of an operation and its operands
+abbrev pub spelled : List ℕ → List (List ℕ) → List ℕ
+spelled name operands = name ++ operands_text operands
 
 -- 0x and the eight digits of a word
 abbrev pub hexadecimal : ℕ → List ℕ
@@ -70,29 +67,29 @@ word_text word = codes ".word " ++ hexadecimal word
 -- the text of an instruction: immediates, memory, three registers, bit fields, flow, traps, control registers; a word
 -- of a special function unit has no mnemonic
 unfoldable pub instr_text : Instr → List ℕ
-instr_text (instr.Imm op d s1 imm) = spelled (of_imm op) (register_name d ∷ register_name s1 ∷ decimal imm ∷ [])
-instr_text (instr.MemImm op d s1 imm) = spelled (of_mem op) (register_name d ∷ register_name s1 ∷ decimal imm ∷ [])
-instr_text (instr.MemReg op d s1 s2 scaled usr) = spelled (of_index op usr) (index_operands d s1 s2 scaled)
-instr_text (instr.Lda size d s1 s2) = spelled (of_lda size) (register_name d ∷ scaled s1 s2 ∷ [])
-instr_text (instr.Regs op d s1 s2) = spelled (of_reg op) (register_name d ∷ register_name s1 ∷ register_name s2 ∷ [])
+instr_text (instr.Imm op d s1 imm) = spelled (imm_name op) (register_name d ∷ register_name s1 ∷ decimal imm ∷ [])
+instr_text (instr.MemImm op d s1 imm) = spelled (mem_name op) (register_name d ∷ register_name s1 ∷ decimal imm ∷ [])
+instr_text (instr.MemReg op d s1 s2 scaled usr) = spelled (index_name op usr) (index_operands d s1 s2 scaled)
+instr_text (instr.Lda size d s1 s2) = spelled (lda_name size) (register_name d ∷ scaled s1 s2 ∷ [])
+instr_text (instr.Regs op d s1 s2) = spelled (reg_name op) (register_name d ∷ register_name s1 ∷ register_name s2 ∷ [])
 instr_text (instr.BitLit op d s1 width offset) =
-    spelled (of_bits op) (register_name d ∷ register_name s1 ∷ field op width offset ∷ [])
-instr_text (instr.BitReg op d s1 s2) = spelled (of_bits op) (register_name d ∷ register_name s1 ∷ register_name s2 ∷ [])
-instr_text (instr.Find ones d s2) = spelled (of_find ones) (register_name d ∷ register_name s2 ∷ [])
-instr_text (instr.Branch link delayed words) = spelled (of_branch link delayed) (target_operand words ∷ [])
+    spelled (bits_name op) (register_name d ∷ register_name s1 ∷ field op width offset ∷ [])
+instr_text (instr.BitReg op d s1 s2) = spelled (bits_name op) (register_name d ∷ register_name s1 ∷ register_name s2 ∷ [])
+instr_text (instr.Find ones d s2) = spelled (find_name ones) (register_name d ∷ register_name s2 ∷ [])
+instr_text (instr.Branch link delayed words) = spelled (branch_name link delayed) (target_operand words ∷ [])
 instr_text (instr.BranchBit set delayed bit s1 words) =
-    spelled (of_branch_bit set delayed) (decimal bit ∷ register_name s1 ∷ target_operand words ∷ [])
+    spelled (branch_bit_name set delayed) (decimal bit ∷ register_name s1 ∷ target_operand words ∷ [])
 instr_text (instr.BranchCond delayed mask s1 words) =
-    spelled (of_branch_cond delayed) (condition mask ∷ register_name s1 ∷ target_operand words ∷ [])
-instr_text (instr.Jump link delayed s2) = spelled (of_jump link delayed) (register_name s2 ∷ [])
+    spelled (branch_cond_name delayed) (condition mask ∷ register_name s1 ∷ target_operand words ∷ [])
+instr_text (instr.Jump link delayed s2) = spelled (jump_name link delayed) (register_name s2 ∷ [])
 instr_text (instr.TrapBit set bit s1 vector) =
-    spelled (of_trap_bit set) (decimal bit ∷ register_name s1 ∷ decimal vector ∷ [])
-instr_text (instr.TrapCond mask s1 vector) = spelled m.Tcnd (condition mask ∷ register_name s1 ∷ decimal vector ∷ [])
-instr_text (instr.BoundImm s1 imm) = spelled m.Tbnd (register_name s1 ∷ decimal imm ∷ [])
-instr_text (instr.BoundReg s1 s2) = spelled m.Tbnd (register_name s1 ∷ register_name s2 ∷ [])
-instr_text instr.Rte = spelled m.Rte []
-instr_text (instr.Ldcr d cr float) = spelled (of_ldcr float) (register_name d ∷ control float cr ∷ [])
-instr_text (instr.Stcr s1 cr float) = spelled (of_stcr float) (register_name s1 ∷ control float cr ∷ [])
+    spelled (trap_bit_name set) (decimal bit ∷ register_name s1 ∷ decimal vector ∷ [])
+instr_text (instr.TrapCond mask s1 vector) = spelled (codes "tcnd") (condition mask ∷ register_name s1 ∷ decimal vector ∷ [])
+instr_text (instr.BoundImm s1 imm) = spelled (codes "tbnd") (register_name s1 ∷ decimal imm ∷ [])
+instr_text (instr.BoundReg s1 s2) = spelled (codes "tbnd") (register_name s1 ∷ register_name s2 ∷ [])
+instr_text instr.Rte = spelled (codes "rte") []
+instr_text (instr.Ldcr d cr float) = spelled (ldcr_name float) (register_name d ∷ control float cr ∷ [])
+instr_text (instr.Stcr s1 cr float) = spelled (stcr_name float) (register_name s1 ∷ control float cr ∷ [])
 instr_text (instr.Xcr d s1 cr float) =
-    spelled (of_xcr float) (register_name d ∷ register_name s1 ∷ control float cr ∷ [])
+    spelled (xcr_name float) (register_name d ∷ register_name s1 ∷ control float cr ∷ [])
 instr_text (instr.Sfu unit rest) = word_text (word_of (instr.Sfu unit rest))

@@ -1,31 +1,16 @@
 //! The mnemonic of each operation, in the order of the word table ("Instruction Set": the assembler syntax of
 //! each instruction).
-ghost use Rattle.std.specs.Prelude.{◌≡◌};
-ghost use Rattle.m88_disasm.specs.Mnemonics.{
-  of_bits,
-  of_branch,
-  of_branch_bit,
-  of_branch_cond,
-  of_find,
-  of_imm,
-  of_index,
-  of_jump,
-  of_lda,
-  of_ldcr,
-  of_mem,
-  of_reg,
-  of_stcr,
-  of_trap_bit,
-  of_user_mem,
-  of_xcr,
-};
+#![tactic(auto, unfolding(m88_isa::specs::Mnemonic::text_of, m88_parse::specs::Language::Mnemonics::imm_name, m88_parse::specs::Language::Mnemonics::reg_name, m88_parse::specs::Language::Mnemonics::mem_name, m88_parse::specs::Language::Mnemonics::lda_name, m88_parse::specs::Language::Mnemonics::bits_name))]
+
+ghost use Rattle.std.specs.Prelude.{◌≡◌, true};
+ghost use Rattle.m88_isa.specs.Mnemonic.{text_of};
+ghost use Rattle.m88_parse.specs.Language.Mnemonics.{imm_name, reg_name, mem_name, index_name, lda_name, bits_name, find_name, branch_name, branch_bit_name, branch_cond_name, jump_name, trap_bit_name, ldcr_name, stcr_name, xcr_name};
 
 use m88_isa::{BitOp, ImmOp, LdaSize, MemOp, Mnemonic, RegOp};
 
 /// The mnemonic of an operation with an immediate.
-#[tactic(auto, unfolding(crate::specs::Mnemonics::of_imm))]
 pub fn of_imm(op: ImmOp) -> Mnemonic
-    ensures { result ≡ of_imm op }
+    ensures { text_of result ≡ imm_name op }
 {
     match op {
         ImmOp::And => Mnemonic::And,
@@ -48,9 +33,8 @@ pub fn of_imm(op: ImmOp) -> Mnemonic
 }
 
 /// The mnemonic of an operation on three registers.
-#[tactic(auto, unfolding(crate::specs::Mnemonics::of_reg))]
 pub fn of_reg(op: RegOp) -> Mnemonic
-    ensures { result ≡ of_reg op }
+    ensures { text_of result ≡ reg_name op }
 {
     match op {
         RegOp::And => Mnemonic::And,
@@ -83,9 +67,8 @@ pub fn of_reg(op: RegOp) -> Mnemonic
 }
 
 /// The mnemonic of an operation on memory.
-#[tactic(auto, unfolding(crate::specs::Mnemonics::of_mem))]
 pub fn of_mem(op: MemOp) -> Mnemonic
-    ensures { result ≡ of_mem op }
+    ensures { text_of result ≡ mem_name op }
 {
     match op {
         MemOp::XmemBu => Mnemonic::XmemBu,
@@ -104,9 +87,8 @@ pub fn of_mem(op: MemOp) -> Mnemonic
 }
 
 /// The mnemonic of an operation on memory in the user's address space.
-#[tactic(auto, unfolding(crate::specs::Mnemonics::of_user_mem))]
 fn of_user_mem(op: MemOp) -> Mnemonic
-    ensures { result ≡ of_user_mem op }
+    ensures { text_of result ≡ index_name op true }
 {
     match op {
         MemOp::XmemBu => Mnemonic::XmemBuUsr,
@@ -126,15 +108,14 @@ fn of_user_mem(op: MemOp) -> Mnemonic
 
 /// The mnemonic of an operation on memory at a register's index, in the user's address space or not.
 pub fn of_index(op: MemOp, usr: bool) -> Mnemonic
-    ensures { result ≡ of_index op usr }
+    ensures { text_of result ≡ index_name op usr }
 {
     if usr { of_user_mem(op) } else { of_mem(op) }
 }
 
 /// The mnemonic of a load of an address.
-#[tactic(auto, unfolding(crate::specs::Mnemonics::of_lda))]
 pub fn of_lda(size: LdaSize) -> Mnemonic
-    ensures { result ≡ of_lda size }
+    ensures { text_of result ≡ lda_name size }
 {
     match size {
         LdaSize::Double => Mnemonic::LdaD,
@@ -144,9 +125,8 @@ pub fn of_lda(size: LdaSize) -> Mnemonic
 }
 
 /// The mnemonic of an operation on a bit field.
-#[tactic(auto, unfolding(crate::specs::Mnemonics::of_bits))]
 pub fn of_bits(op: BitOp) -> Mnemonic
-    ensures { result ≡ of_bits op }
+    ensures { text_of result ≡ bits_name op }
 {
     match op {
         BitOp::Clr => Mnemonic::Clr,
@@ -160,14 +140,14 @@ pub fn of_bits(op: BitOp) -> Mnemonic
 
 /// The mnemonic of the search for the highest 1, or else 0.
 pub fn of_find(ones: bool) -> Mnemonic
-    ensures { result ≡ of_find ones }
+    ensures { text_of result ≡ find_name ones }
 {
     if ones { Mnemonic::Ff1 } else { Mnemonic::Ff0 }
 }
 
 /// The mnemonic of a branch, with a link or not, with a delay slot or not.
 pub fn of_branch(link: bool, delayed: bool) -> Mnemonic
-    ensures { result ≡ of_branch link delayed }
+    ensures { text_of result ≡ branch_name link delayed }
 {
     match (link, delayed) {
         (false, false) => Mnemonic::Br,
@@ -179,7 +159,7 @@ pub fn of_branch(link: bool, delayed: bool) -> Mnemonic
 
 /// The mnemonic of a branch on a bit that is set or not, with a delay slot or not.
 pub fn of_branch_bit(set: bool, delayed: bool) -> Mnemonic
-    ensures { result ≡ of_branch_bit set delayed }
+    ensures { text_of result ≡ branch_bit_name set delayed }
 {
     match (set, delayed) {
         (false, false) => Mnemonic::Bb0,
@@ -191,7 +171,7 @@ pub fn of_branch_bit(set: bool, delayed: bool) -> Mnemonic
 
 /// The mnemonic of a branch on a condition, with a delay slot or not.
 pub fn of_branch_cond(delayed: bool) -> Mnemonic
-    ensures { result ≡ of_branch_cond delayed }
+    ensures { text_of result ≡ branch_cond_name delayed }
 {
     if delayed {
         Mnemonic::BcndN
@@ -202,7 +182,7 @@ pub fn of_branch_cond(delayed: bool) -> Mnemonic
 
 /// The mnemonic of a jump, with a link or not, with a delay slot or not.
 pub fn of_jump(link: bool, delayed: bool) -> Mnemonic
-    ensures { result ≡ of_jump link delayed }
+    ensures { text_of result ≡ jump_name link delayed }
 {
     match (link, delayed) {
         (false, false) => Mnemonic::Jmp,
@@ -214,14 +194,14 @@ pub fn of_jump(link: bool, delayed: bool) -> Mnemonic
 
 /// The mnemonic of a trap on a bit that is set or not.
 pub fn of_trap_bit(set: bool) -> Mnemonic
-    ensures { result ≡ of_trap_bit set }
+    ensures { text_of result ≡ trap_bit_name set }
 {
     if set { Mnemonic::Tb1 } else { Mnemonic::Tb0 }
 }
 
 /// The mnemonic of the read of a control register, of the floating-point unit or not.
 pub fn of_ldcr(float: bool) -> Mnemonic
-    ensures { result ≡ of_ldcr float }
+    ensures { text_of result ≡ ldcr_name float }
 {
     if float {
         Mnemonic::Fldcr
@@ -232,7 +212,7 @@ pub fn of_ldcr(float: bool) -> Mnemonic
 
 /// The mnemonic of the write of a control register, of the floating-point unit or not.
 pub fn of_stcr(float: bool) -> Mnemonic
-    ensures { result ≡ of_stcr float }
+    ensures { text_of result ≡ stcr_name float }
 {
     if float {
         Mnemonic::Fstcr
@@ -243,7 +223,7 @@ pub fn of_stcr(float: bool) -> Mnemonic
 
 /// The mnemonic of the exchange of a control register, of the floating-point unit or not.
 pub fn of_xcr(float: bool) -> Mnemonic
-    ensures { result ≡ of_xcr float }
+    ensures { text_of result ≡ xcr_name float }
 {
     if float { Mnemonic::Fxcr } else { Mnemonic::Xcr }
 }

@@ -1,8 +1,9 @@
 //! The text of an instruction, form by form.
-ghost use Rattle.std.specs.Prelude.{◌≡◌, ◌∷◌, [], ℕ, decimal};
+ghost use Rattle.std.specs.Prelude.{◌≡◌, ◌∷◌, [], ℕ, codes, decimal};
 ghost use Rattle.m88_isa.specs.Instr.{FitsWords, IsValid};
 ghost use Rattle.m88_disasm.specs.Read.{IsReadAs, said_body};
-ghost use Rattle.m88_disasm.specs.Mnemonics.{of_bits, of_xcr};
+ghost use Rattle.m88_isa.specs.Mnemonic.{text_of as spelling};
+ghost use Rattle.m88_parse.specs.Language.Mnemonics.{bits_name, xcr_name};
 ghost use Rattle.m88_disasm.specs.Text.{condition, control, field, index_operands, instr_text, register_name, scaled, spelled, target_operand, word_text};
 
 use super::mnemonics::{
@@ -20,7 +21,7 @@ use m88_isa::{BitOp, Instr, Mnemonic};
 
 /// rD,rS1 and a number.
 fn immediate(mnemonic: Mnemonic, d: Reg, s1: Reg, imm: u16) -> InstrText
-    ensures { result.bytes ≡ spelled mnemonic
+    ensures { result.bytes ≡ spelled (spelling mnemonic)
         (register_name d ∷ register_name s1 ∷ decimal imm ∷ []) }
 {
     let mut text = begun(mnemonic);
@@ -34,7 +35,7 @@ fn immediate(mnemonic: Mnemonic, d: Reg, s1: Reg, imm: u16) -> InstrText
 
 /// rD,rS1,rS2
 fn registers(mnemonic: Mnemonic, d: Reg, s1: Reg, s2: Reg) -> InstrText
-    ensures { result.bytes ≡ spelled mnemonic
+    ensures { result.bytes ≡ spelled (spelling mnemonic)
         (register_name d ∷ register_name s1 ∷ register_name s2 ∷ []) }
 {
     let mut text = begun(mnemonic);
@@ -48,7 +49,7 @@ fn registers(mnemonic: Mnemonic, d: Reg, s1: Reg, s2: Reg) -> InstrText
 
 /// rD,rS1[rS2]
 fn scaled_index(mnemonic: Mnemonic, d: Reg, s1: Reg, s2: Reg) -> InstrText
-    ensures { result.bytes ≡ spelled mnemonic (register_name d ∷ scaled s1 s2 ∷ []) }
+    ensures { result.bytes ≡ spelled (spelling mnemonic) (register_name d ∷ scaled s1 s2 ∷ []) }
 {
     let mut text = begun(mnemonic);
     put_register(&mut text, d);
@@ -59,7 +60,7 @@ fn scaled_index(mnemonic: Mnemonic, d: Reg, s1: Reg, s2: Reg) -> InstrText
 
 /// rD,rS1[rS2] or rD,rS1,rS2.
 fn index(mnemonic: Mnemonic, d: Reg, s1: Reg, s2: Reg, is_scaled: bool) -> InstrText
-    ensures { result.bytes ≡ spelled mnemonic (index_operands d s1 s2 is_scaled) }
+    ensures { result.bytes ≡ spelled (spelling mnemonic) (index_operands d s1 s2 is_scaled) }
 {
     if is_scaled {
         scaled_index(mnemonic, d, s1, s2)
@@ -70,7 +71,7 @@ fn index(mnemonic: Mnemonic, d: Reg, s1: Reg, s2: Reg, is_scaled: bool) -> Instr
 
 /// rD,rS1 and a literal bit field.
 fn literal(op: BitOp, d: Reg, s1: Reg, width: u8, offset: u8) -> InstrText
-    ensures { result.bytes ≡ spelled (of_bits op)
+    ensures { result.bytes ≡ spelled (bits_name op)
         (register_name d ∷ register_name s1 ∷ field op width offset ∷ []) }
 {
     let mut text = begun(of_bits(op));
@@ -84,7 +85,7 @@ fn literal(op: BitOp, d: Reg, s1: Reg, width: u8, offset: u8) -> InstrText
 
 /// Two registers.
 fn pair(mnemonic: Mnemonic, first: Reg, second: Reg) -> InstrText
-    ensures { result.bytes ≡ spelled mnemonic (register_name first ∷ register_name second ∷ []) }
+    ensures { result.bytes ≡ spelled (spelling mnemonic) (register_name first ∷ register_name second ∷ []) }
 {
     let mut text = begun(mnemonic);
     put_register(&mut text, first);
@@ -96,7 +97,7 @@ fn pair(mnemonic: Mnemonic, first: Reg, second: Reg) -> InstrText
 /// A target.
 fn branch(mnemonic: Mnemonic, words: i32) -> InstrText
     requires { FitsWords 25 words }
-    ensures { result.bytes ≡ spelled mnemonic (target_operand words ∷ []) }
+    ensures { result.bytes ≡ spelled (spelling mnemonic) (target_operand words ∷ []) }
 {
     let mut text = begun(mnemonic);
     put_target(&mut text, words);
@@ -105,7 +106,7 @@ fn branch(mnemonic: Mnemonic, words: i32) -> InstrText
 
 /// A bit, rS1 and a target.
 fn branch_on_bit(mnemonic: Mnemonic, bit: u8, s1: Reg, words: i16) -> InstrText
-    ensures { result.bytes ≡ spelled mnemonic
+    ensures { result.bytes ≡ spelled (spelling mnemonic)
         (decimal bit ∷ register_name s1 ∷ target_operand words ∷ []) }
 {
     let mut text = begun(mnemonic);
@@ -119,7 +120,7 @@ fn branch_on_bit(mnemonic: Mnemonic, bit: u8, s1: Reg, words: i16) -> InstrText
 
 /// A condition, rS1 and a target.
 fn branch_on_condition(mnemonic: Mnemonic, mask: u8, s1: Reg, words: i16) -> InstrText
-    ensures { result.bytes ≡ spelled mnemonic
+    ensures { result.bytes ≡ spelled (spelling mnemonic)
         (condition mask ∷ register_name s1 ∷ target_operand words ∷ []) }
 {
     let mut text = begun(mnemonic);
@@ -133,7 +134,7 @@ fn branch_on_condition(mnemonic: Mnemonic, mask: u8, s1: Reg, words: i16) -> Ins
 
 /// One register.
 fn single(mnemonic: Mnemonic, r: Reg) -> InstrText
-    ensures { result.bytes ≡ spelled mnemonic (register_name r ∷ []) }
+    ensures { result.bytes ≡ spelled (spelling mnemonic) (register_name r ∷ []) }
 {
     let mut text = begun(mnemonic);
     put_register(&mut text, r);
@@ -142,7 +143,7 @@ fn single(mnemonic: Mnemonic, r: Reg) -> InstrText
 
 /// A bit, rS1 and a vector.
 fn trap_on_bit(mnemonic: Mnemonic, bit: u8, s1: Reg, vector: u16) -> InstrText
-    ensures { result.bytes ≡ spelled mnemonic
+    ensures { result.bytes ≡ spelled (spelling mnemonic)
         (decimal bit ∷ register_name s1 ∷ decimal vector ∷ []) }
 {
     let mut text = begun(mnemonic);
@@ -155,8 +156,9 @@ fn trap_on_bit(mnemonic: Mnemonic, bit: u8, s1: Reg, vector: u16) -> InstrText
 }
 
 /// A condition, rS1 and a vector.
+#[tactic(auto, unfolding(m88_isa::specs::Mnemonic::text_of))]
 fn trap_on_condition(mask: u8, s1: Reg, vector: u16) -> InstrText
-    ensures { result.bytes ≡ spelled Mnemonic.Tcnd
+    ensures { result.bytes ≡ spelled (codes "tcnd")
         (condition mask ∷ register_name s1 ∷ decimal vector ∷ []) }
 {
     let mut text = begun(Mnemonic::Tcnd);
@@ -169,8 +171,9 @@ fn trap_on_condition(mask: u8, s1: Reg, vector: u16) -> InstrText
 }
 
 /// rS1 and a number.
+#[tactic(auto, unfolding(m88_isa::specs::Mnemonic::text_of))]
 fn bound(s1: Reg, imm: u16) -> InstrText
-    ensures { result.bytes ≡ spelled Mnemonic.Tbnd (register_name s1 ∷ decimal imm ∷ []) }
+    ensures { result.bytes ≡ spelled (codes "tbnd") (register_name s1 ∷ decimal imm ∷ []) }
 {
     let mut text = begun(Mnemonic::Tbnd);
     put_register(&mut text, s1);
@@ -182,7 +185,7 @@ fn bound(s1: Reg, imm: u16) -> InstrText
 /// The mnemonic alone.
 #[tactic(auto, using(crate::proofs::Names::name_short))]
 fn alone(mnemonic: Mnemonic) -> InstrText
-    ensures { result.bytes ≡ spelled mnemonic [] }
+    ensures { result.bytes ≡ spelled (spelling mnemonic) [] }
 {
     let mut text = InstrText::new();
     text.push_str(mnemonic.text());
@@ -191,7 +194,7 @@ fn alone(mnemonic: Mnemonic) -> InstrText
 
 /// A register and a control register.
 fn with_control(mnemonic: Mnemonic, r: Reg, float: bool, cr: u8) -> InstrText
-    ensures { result.bytes ≡ spelled mnemonic (register_name r ∷ control float cr ∷ []) }
+    ensures { result.bytes ≡ spelled (spelling mnemonic) (register_name r ∷ control float cr ∷ []) }
 {
     let mut text = begun(mnemonic);
     put_register(&mut text, r);
@@ -202,7 +205,7 @@ fn with_control(mnemonic: Mnemonic, r: Reg, float: bool, cr: u8) -> InstrText
 
 /// Two registers and a control register.
 fn exchange(d: Reg, s1: Reg, cr: u8, float: bool) -> InstrText
-    ensures { result.bytes ≡ spelled (of_xcr float)
+    ensures { result.bytes ≡ spelled (xcr_name float)
         (register_name d ∷ register_name s1 ∷ control float cr ∷ []) }
 {
     let mut text = begun(of_xcr(float));
@@ -227,7 +230,7 @@ fn word(word: u32) -> InstrText
 }
 
 /// The text of an instruction, by its form.
-#[tactic(auto, unfolding(crate::specs::Text::instr_text))]
+#[tactic(auto, unfolding(crate::specs::Text::instr_text, m88_isa::specs::Mnemonic::text_of))]
 fn by_form(instr: &Instr) -> InstrText
     requires { IsValid instr.now }
     ensures { result.bytes ≡ instr_text instr.now }

@@ -14,7 +14,6 @@ use Rattle.m88_parse.specs.Language.Operands as operand
 use Rattle.m88_parse.specs.Language.Pieces.{Piece}
 use Rattle.m88_parse.specs.Language.Words.{bit_named, condition_named, half_named}
 use Rattle.m88_parse.specs.WellFormed.{IsFixed, IsHalf}
-use Rattle.m88_parse.specs.declared.shape.Shape.{Shape}
 use Rattle.m88_parse.specs.declared.unit.Value.{Value}
 use Rattle.m88_parse.specs.declared.unit.Value.TheVariants.{Number, Symbol}
 use Rattle.m88_parse.proofs.Law.Names.{some_same}
@@ -188,44 +187,39 @@ fixed_words i kind words None on h = tt
 fixed_words i kind words (Some f) on h = on f h
 
 -- what operands make
-pub operands_formed : (s : Shape) (ps : List Piece) (i : Instr) (fixup : Option Fixup) → AreOperands s ps i fixup
+pub operands_formed : (ps : List Piece) (i : Instr) (fixup : Option Fixup) → AreOperands ps i fixup
     → IsValid i × IsFixed i fixup
-operands_formed s ps i fixup (operand.either_immediate {rest = rest} {imm = imm} a b h) =
+operands_formed ps i fixup (operand.immediate {rest = rest} {imm = imm} a b h) =
     let k = immediate_formed rest imm fixup h in (k.0, fixed_half i imm fixup (λ f w. w) k.1)
-operands_formed s ps i fixup (operand.either_register a b h) = (tt, tt)
-operands_formed s ps i fixup (operand.immediate {rest = rest} {imm = imm} a b h) =
+operands_formed ps i fixup (operand.registers a b h) = (tt, tt)
+operands_formed ps i fixup (operand.offset {rest = rest} {imm = imm} a b h) =
     let k = immediate_formed rest imm fixup h in (k.0, fixed_half i imm fixup (λ f w. w) k.1)
-operands_formed s ps i fixup (operand.registers a b h) = (tt, tt)
-operands_formed s ps i fixup (operand.offset {rest = rest} {imm = imm} a b h) =
-    let k = immediate_formed rest imm fixup h in (k.0, fixed_half i imm fixup (λ f w. w) k.1)
-operands_formed s ps i fixup (operand.index a b h) = (tt, tt)
-operands_formed s ps i fixup (operand.scaled a b h) = (tt, tt)
-operands_formed s ps i fixup (operand.user_index a b h) = (tt, tt)
-operands_formed s ps i fixup (operand.user_scaled a b h) = (tt, tt)
-operands_formed s ps i fixup (operand.address a b h) = (tt, tt)
-operands_formed s ps i fixup (operand.literal {op = op} {rest = rest} {width = width} {offset = offset} a b h) =
+operands_formed ps i fixup (operand.index a b h) = (tt, tt)
+operands_formed ps i fixup (operand.scaled a b h) = (tt, tt)
+operands_formed ps i fixup (operand.address a b h) = (tt, tt)
+operands_formed ps i fixup (operand.literal {op = op} {rest = rest} {width = width} {offset = offset} a b h) =
     (literal_formed op rest width offset h, tt)
-operands_formed s ps i fixup (operand.field a b h) = (tt, tt)
-operands_formed s ps i fixup (operand.find a h) = (tt, tt)
-operands_formed s ps i fixup (operand.branch {words = words} h) =
+operands_formed ps i fixup (operand.field a b h) = (tt, tt)
+operands_formed ps i fixup (operand.find a h) = (tt, tt)
+operands_formed ps i fixup (operand.branch {words = words} h) =
     let k = goal_formed Pc26 25 ps words fixup (omega arith) h in (k.0, fixed_words i Pc26 words fixup (λ f w. w) k.1)
-operands_formed s ps i fixup (operand.branch_bit {bit = bit} {b = b} {rest = rest} {words = words} is comma behind h) =
+operands_formed ps i fixup (operand.branch_bit {bit = bit} {b = b} {rest = rest} {words = words} is comma behind h) =
     let k = goal_formed Pc16 15 rest words fixup (omega arith) h in
     ((bit_small bit b is, k.0), fixed_words i Pc16 words fixup (λ f w. w) k.1)
-operands_formed s ps i fixup (operand.branch_condition {mask = mask} {m = m} {rest = rest} {words = words} is comma behind h) =
+operands_formed ps i fixup (operand.branch_condition {mask = mask} {m = m} {rest = rest} {words = words} is comma behind h) =
     let k = goal_formed Pc16 15 rest words fixup (omega arith) h in
     ((condition_small mask m is, k.0), fixed_words i Pc16 words fixup (λ f w. w) k.1)
-operands_formed s ps i fixup (operand.jump h) = (tt, tt)
-operands_formed s ps i fixup (operand.trap_bit {bit = bit} {b = b} is comma behind number small) =
+operands_formed ps i fixup (operand.jump h) = (tt, tt)
+operands_formed ps i fixup (operand.trap_bit {bit = bit} {b = b} is comma behind number small) =
     ((bit_small bit b is, small), tt)
-operands_formed s ps i fixup (operand.trap_condition {mask = mask} {m = m} is comma behind number small) =
+operands_formed ps i fixup (operand.trap_condition {mask = mask} {m = m} is comma behind number small) =
     ((condition_small mask m is, small), tt)
-operands_formed s ps i fixup (operand.bound_number behind number small) = (small, tt)
-operands_formed s ps i fixup (operand.bound_register behind h) = (tt, tt)
-operands_formed s ps i fixup operand.return = (tt, tt)
-operands_formed s ps i fixup (operand.control_load {float = float} {cr = cr} {c = c} behind h) =
+operands_formed ps i fixup (operand.bound_number behind number small) = (small, tt)
+operands_formed ps i fixup (operand.bound_register behind h) = (tt, tt)
+operands_formed ps i fixup operand.return = (tt, tt)
+operands_formed ps i fixup (operand.control_load {float = float} {cr = cr} {c = c} behind h) =
     (control_small float cr c h, tt)
-operands_formed s ps i fixup (operand.control_store {float = float} {cr = cr} {c = c} behind h) =
+operands_formed ps i fixup (operand.control_store {float = float} {cr = cr} {c = c} behind h) =
     (control_small float cr c h, tt)
-operands_formed s ps i fixup (operand.control_exchange {float = float} {cr = cr} {c = c} a behind h) =
+operands_formed ps i fixup (operand.control_exchange {float = float} {cr = cr} {c = c} a behind h) =
     (control_small float cr c h, tt)

@@ -9,7 +9,6 @@ use Rattle.m88_base.specs.declared.fixup.Kind.{Kind}
 use Rattle.m88_base.specs.declared.fixup.Kind.TheVariants.{Abs32}
 use Rattle.m88_parse.specs.Language.Operands.{IsValue}
 use Rattle.m88_parse.specs.Language.Pieces.{Piece}
-use Rattle.m88_parse.specs.Language.Shapes.{shape_of}
 use Rattle.m88_parse.specs.Language.Statements.{AreParted, IsBody, IsStatement}
 use Rattle.m88_parse.specs.Language.Statements as statement
 use Rattle.m88_parse.specs.Language.Units.{AreModules, AreRows, IsUnit, LineSays, says}
@@ -48,8 +47,7 @@ body_formed _ _ (statement.zeros named number small) = tt
 body_formed _ _ (statement.align named number one) = one
 body_formed _ _ (statement.global named symbol) = tt
 body_formed _ _ (statement.set named symbol comma number) = tt
-body_formed _ _ (statement.code {ps = ps} mnemonic {instr = i} {fixup = fixup} named operands) =
-    operands_formed (shape_of mnemonic) ps i fixup operands
+body_formed _ _ (statement.code {ps = ps} {instr = i} {fixup = fixup} named operands) = operands_formed ps i fixup operands
 
 statement_formed : (line : ℕ) (ps : List Piece) (s : Statement) → IsStatement line ps s → IsFormedStatement s
 statement_formed line _ _ (statement.unlabelled {p = p} {ps = ps} {said = said} body none) =

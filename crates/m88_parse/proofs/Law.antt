@@ -12,6 +12,7 @@ pub mod Indices
 pub mod Targets
 pub mod Lists
 pub mod Forms
+pub mod Mnemonics
 pub mod Codes
 pub mod Bodies
 pub mod Rows

@@ -4,7 +4,7 @@ pub mod Pieces
 pub mod Tokens
 pub mod Words
 pub mod Names
-pub mod Shapes
+pub mod Mnemonics
 pub mod Operands
 pub mod Statements
 pub mod Units

@@ -5,6 +5,7 @@ pub mod Places
 pub mod Names
 pub mod State
 pub mod Slots
+pub mod Shapes
 pub mod Operands
 pub mod Directives
 pub mod Grammar

@@ -30,7 +30,6 @@ mod unit;
 
 pub use fault::{ParseFault, ParseKind};
 pub use lexemes::tokens;
-pub use shape::{Shape, shape_of};
 pub use source::parse;
 pub use token::{Token, TokenKind};
 pub use unit::{Body, Module, Statement, Unit, Value};

@@ -1,13 +1,13 @@
 //! The operand form of each mnemonic.
 ghost use Rattle.std.specs.Prelude.{◌≡◌};
-ghost use Rattle.m88_parse.specs.Language.Shapes.{shape_of};
+ghost use Rattle.m88_parse.specs.Reader.Shapes.{shape_of};
 
 use m88_isa::{BitOp, ImmOp, LdaSize, MemOp, Mnemonic, RegOp};
 
 /// The operand form of a mnemonic, with what it says of the instruction ("Instruction Set": the
 /// assembler syntax of each instruction).
 #[derive(Clone, Copy, PartialEq, Eq, Debug)]
-pub enum Shape {
+pub(crate) enum Shape {
     /// rD,rS1 and an immediate or a register.
     Either(ImmOp, RegOp),
     /// rD,rS1 and an immediate.
@@ -180,8 +180,8 @@ const SHAPES: [Shape; 91] = [
 ];
 
 /// The operand form of a mnemonic.
-#[tactic(auto, unfolding(crate::specs::Language::Shapes::shape_of))]
-pub fn shape_of(mnemonic: Mnemonic) -> Shape
+#[tactic(auto, unfolding(crate::specs::Reader::Shapes::shape_of))]
+pub(crate) fn shape_of(mnemonic: Mnemonic) -> Shape
     ensures { result ≡ shape_of mnemonic }
 {
     SHAPES[mnemonic as usize]

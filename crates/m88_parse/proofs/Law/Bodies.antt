@@ -11,7 +11,7 @@ use Rattle.m88_parse.specs.declared.directive.Directive.{Directive}
 use Rattle.m88_parse.specs.declared.directive.Directive.TheVariants as directive
 use Rattle.m88_parse.specs.Reader.Names.{is_module}
 use Rattle.m88_parse.specs.Language.Pieces.{TokenValue, a_name, a_number, a_text, a_mark, Piece}
-use Rattle.m88_parse.specs.Language.Shapes.{shape_of}
+use Rattle.m88_parse.specs.Reader.Shapes.{shape_of}
 use Rattle.m88_parse.specs.Reader.Directives.{directive_text, all_directives, directive_of}
 use Rattle.m88_parse.specs.Reader.Grammar.{read, form_of, directive_form}
 use Rattle.m88_parse.specs.Reader.Source.{instruction_form, form_in, by_form, operation_on, operation_at}
@@ -22,6 +22,7 @@ use Rattle.m88_parse.proofs.Law.Names.{some_same}
 use Rattle.m88_parse.proofs.Law.Slots.{st}
 use Rattle.m88_parse.proofs.Law.Values.{word_signed, signed_word}
 use Rattle.m88_parse.proofs.Law.Forms.{Meets, form_law}
+use Rattle.m88_parse.proofs.Law.Mnemonics.{name_of_shape}
 use Rattle.m88_parse.proofs.Law.Codes.{first_met, only_met, met_one, met_first, operands_met, met_operands}
 
 -- the names of operations
@@ -82,7 +83,9 @@ directive_met directive.Set p ps c n h =
     moved p ps (k.piece ∷ k.comma ∷ k.rest) (body.Set k.value.0 k.piece.col v.0) c k.tokens (ap (λ (col : ℕ). body.Set k.value.0 col v.0) (sym k.is.1) ∙ v.2) (set n k.is.0 k.parted (word_signed k.rest v.0 v.1))
 
 instruction_read : (m : Mnemonic) (line e : ℕ) (p : Piece) (ps : List Piece) (c : Body) → IsNamed (text_of m) p → read (instruction_form m) (st line e ps) ≡ Ok c → IsBody (p ∷ ps) c
-instruction_read m line e p ps c n h = let k = operands_met (shape_of m) ps c ((form_law (form_of (shape_of m)) line e ps c).0 h) in subst (IsBody (p ∷ ps)) k.body_is (code m n k.operands)
+instruction_read m line e p ps c n h =
+    let k = operands_met (shape_of m) ps c ((form_law (form_of (shape_of m)) line e ps c).0 h) in
+    subst (IsBody (p ∷ ps)) k.body_is (code (n ∙ ap a_name (k.named (text_of m) (name_of_shape m))) k.operands)
 
 form_read : (line e : ℕ) (p : Piece) (ps : List Piece) (name : List ℕ) (m : Option Mnemonic) (d : Option Directive) (c : Body) → IsNamed name p → mnemonic_of name ≡ m → directive_of name ≡ d
     → by_form (st line e (p ∷ ps)) (form_in m d) ≡ Ok c → IsBody (p ∷ ps) c
@@ -137,4 +140,5 @@ body_again line e ps c (zeros {p = p} {q = q} {n = v} n h l) = by_directive dire
 body_again line e ps c (align {p = p} {q = q} {n = v} n h k) = by_directive directive.Align line e p (q ∷ []) c n (met_one v (h, k) (refl, refl))
 body_again line e ps c (global {p = p} {q = q} {name = name} n h) = by_directive directive.Global line e p (q ∷ []) c n (met_one (name, q.col) (h, refl) (refl, refl))
 body_again line e ps c (set {p = p} {q = q} {c = k} {ps = qs} {name = name} {n = v} n h t w) = by_directive directive.Set line e p (q ∷ k ∷ qs) c n (met_first (name, q.col) (h, refl) t (v, signed_word qs v w, refl))
-body_again line e ps c (code {p = p} {ps = qs} m {instr = i} {fixup = f} n h) = by_mnemonic m line e p qs c n (met_operands (shape_of m) qs i f h)
+body_again line e ps c (code {p = p} {ps = qs} {instr = i} {fixup = f} n h) =
+    let k = met_operands qs i f h in by_mnemonic k.mnemonic line e p qs c (n ∙ ap a_name (sym k.spelled)) k.meets

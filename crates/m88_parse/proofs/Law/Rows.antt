@@ -115,7 +115,7 @@ body_named ps c (zeros {p = p} {q = q} n h l) = (p, q ∷ [], codes ".zero", ref
 body_named ps c (align {p = p} {q = q} n h k) = (p, q ∷ [], codes ".align", refl, n)
 body_named ps c (global {p = p} {q = q} n h) = (p, q ∷ [], codes ".global", refl, n)
 body_named ps c (set {p = p} {q = q} {c = k} {ps = qs} n h t w) = (p, q ∷ k ∷ qs, codes ".set", refl, n)
-body_named ps c (code {p = p} {ps = qs} m n h) = (p, qs, _, refl, n)
+body_named ps c (code {p = p} {ps = qs} n h) = (p, qs, _, refl, n)
 
 plain_read : (line e : ℕ) (p : Piece) (ps : List Piece) (r : Row) → is_label_on (Some p.says) (says_first ps) ≡ false → unlabelled_at (st line e (p ∷ ps)) ≡ Ok r → Stated line (p ∷ ps) r
 plain_read line e p ps r l h =

@@ -5,14 +5,16 @@ use Rattle.m88_base.specs.declared.reg.Reg.{Reg}
 use Rattle.m88_base.specs.declared.fixup.Kind.{Kind}
 use Rattle.m88_base.specs.declared.fixup.Kind.TheVariants.{Hi16, Lo16, Pc26, Pc16}
 use Rattle.m88_base.specs.declared.fixup.Fixup.{Fixup}
+use Rattle.m88_isa.specs.declared.instr.ImmOp.{ImmOp}
+use Rattle.m88_isa.specs.declared.instr.RegOp.{RegOp}
+use Rattle.m88_isa.specs.declared.instr.MemOp.{MemOp}
+use Rattle.m88_isa.specs.declared.instr.LdaSize.{LdaSize}
 use Rattle.m88_isa.specs.declared.instr.BitOp.{BitOp}
 use Rattle.m88_isa.specs.declared.instr.BitOp.TheVariants.{Rot}
 use Rattle.m88_isa.specs.declared.instr.Instr.{Instr}
 use Rattle.m88_isa.specs.declared.instr.Instr.TheVariants as instr
 use Rattle.m88_parse.specs.declared.unit.Value.{Value}
 use Rattle.m88_parse.specs.declared.unit.Value.TheVariants.{Number, Symbol}
-use Rattle.m88_parse.specs.declared.shape.Shape.{Shape}
-use Rattle.m88_parse.specs.declared.shape.Shape.TheVariants as shape
 use Rattle.m88_parse.specs.Language.Words.{half_named}
 use Rattle.m88_parse.specs.Language.Pieces.{Piece}
 use Rattle.m88_parse.specs.Language.Names.{IsMark, IsComma, IsNumber, IsNamed, IsRegister, IsControl, IsBit, IsCondition, IsSymbol}
@@ -113,100 +115,84 @@ pub data IsGoal (kind : Kind) (bits : ℕ) : List Piece → ℤ → Option Fixup
   place : {ps : List Piece} {words : ℤ} → IsPlace bits ps words → IsGoal kind bits ps words None
   symbol : {ps : List Piece} {f : Fixup} → IsFixup kind ps f → IsGoal kind bits ps (pos 0) (Some f)
 
--- the operands of each form, the instruction that they make, and the fixup of its one field that waits for a symbol
-pub data AreOperands : Shape → List Piece → Instr → Option Fixup → Type 0 where
-  -- rD,rS1,X where X is an immediate
-  either_immediate : {iop : _} {rop : _} {d s1 : Reg} {ps qs rest : List Piece} {imm : ℕ} {fixup : Option Fixup}
+-- the operands of each form, an instruction that they make, and the fixup of its one field that waits for a symbol
+pub data AreOperands : List Piece → Instr → Option Fixup → Type 0 where
+  -- rD,rS1 and an immediate
+  immediate : {op : ImmOp} {d s1 : Reg} {ps qs rest : List Piece} {imm : ℕ} {fixup : Option Fixup}
       → Behind d ps qs → Behind s1 qs rest → IsImmediate rest imm fixup
-      → AreOperands (shape.Either iop rop) ps (instr.Imm iop d s1 imm) fixup
-  -- rD,rS1,X where X is a register
-  either_register : {iop : _} {rop : _} {d s1 s2 : Reg} {ps qs rest : List Piece}
-      → Behind d ps qs → Behind s1 qs rest → IsLast s2 rest
-      → AreOperands (shape.Either iop rop) ps (instr.Regs rop d s1 s2) None
-  -- rD,rS1,X of a mnemonic that takes no register
-  immediate : {op : _} {d s1 : Reg} {ps qs rest : List Piece} {imm : ℕ} {fixup : Option Fixup}
-      → Behind d ps qs → Behind s1 qs rest → IsImmediate rest imm fixup
-      → AreOperands (shape.Immediate op) ps (instr.Imm op d s1 imm) fixup
+      → AreOperands ps (instr.Imm op d s1 imm) fixup
   -- rD,rS1,rS2
-  registers : {op : _} {d s1 s2 : Reg} {ps qs rest : List Piece}
+  registers : {op : RegOp} {d s1 s2 : Reg} {ps qs rest : List Piece}
       → Behind d ps qs → Behind s1 qs rest → IsLast s2 rest
-      → AreOperands (shape.Registers op) ps (instr.Regs op d s1 s2) None
-  -- rD,rS1,X of memory
-  offset : {op : _} {d s1 : Reg} {ps qs rest : List Piece} {imm : ℕ} {fixup : Option Fixup}
+      → AreOperands ps (instr.Regs op d s1 s2) None
+  -- rD,rS1 and an immediate, of memory
+  offset : {op : MemOp} {d s1 : Reg} {ps qs rest : List Piece} {imm : ℕ} {fixup : Option Fixup}
       → Behind d ps qs → Behind s1 qs rest → IsImmediate rest imm fixup
-      → AreOperands (shape.Memory op) ps (instr.MemImm op d s1 imm) fixup
+      → AreOperands ps (instr.MemImm op d s1 imm) fixup
   -- rD,rS1,rS2 of memory
-  index : {op : _} {d s1 s2 : Reg} {ps qs rest : List Piece}
+  index : {op : MemOp} {usr : Bool} {d s1 s2 : Reg} {ps qs rest : List Piece}
       → Behind d ps qs → Behind s1 qs rest → IsLast s2 rest
-      → AreOperands (shape.Memory op) ps (instr.MemReg op d s1 s2 false false) None
+      → AreOperands ps (instr.MemReg op d s1 s2 false usr) None
   -- rD,rS1[rS2] of memory
-  scaled : {op : _} {d s1 s2 : Reg} {ps rest : List Piece} {p : Piece}
+  scaled : {op : MemOp} {usr : Bool} {d s1 s2 : Reg} {ps rest : List Piece} {p : Piece}
       → Behind d ps (p ∷ rest) → IsRegister s1 p → IsScaled s2 rest
-      → AreOperands (shape.Memory op) ps (instr.MemReg op d s1 s2 true false) None
-  -- rD,rS1,rS2 in the user's address space
-  user_index : {op : _} {d s1 s2 : Reg} {ps qs rest : List Piece}
-      → Behind d ps qs → Behind s1 qs rest → IsLast s2 rest
-      → AreOperands (shape.UserMemory op) ps (instr.MemReg op d s1 s2 false true) None
-  -- rD,rS1[rS2] in the user's address space
-  user_scaled : {op : _} {d s1 s2 : Reg} {ps rest : List Piece} {p : Piece}
-      → Behind d ps (p ∷ rest) → IsRegister s1 p → IsScaled s2 rest
-      → AreOperands (shape.UserMemory op) ps (instr.MemReg op d s1 s2 true true) None
+      → AreOperands ps (instr.MemReg op d s1 s2 true usr) None
   -- rD,rS1[rS2] of a load of an address
-  address : {size : _} {d s1 s2 : Reg} {ps rest : List Piece} {p : Piece}
+  address : {size : LdaSize} {d s1 s2 : Reg} {ps rest : List Piece} {p : Piece}
       → Behind d ps (p ∷ rest) → IsRegister s1 p → IsScaled s2 rest
-      → AreOperands (shape.Address size) ps (instr.Lda size d s1 s2) None
+      → AreOperands ps (instr.Lda size d s1 s2) None
   -- rD,rS1,W<O> or rD,rS1,<O>
   literal : {op : BitOp} {d s1 : Reg} {ps qs rest : List Piece} {width offset : ℕ}
       → Behind d ps qs → Behind s1 qs rest → IsLiteral (most_width op) rest width offset
-      → AreOperands (shape.Bits op) ps (instr.BitLit op d s1 width offset) None
+      → AreOperands ps (instr.BitLit op d s1 width offset) None
   -- rD,rS1,rS2 of a bit field
   field : {op : BitOp} {d s1 s2 : Reg} {ps qs rest : List Piece}
       → Behind d ps qs → Behind s1 qs rest → IsLast s2 rest
-      → AreOperands (shape.Bits op) ps (instr.BitReg op d s1 s2) None
+      → AreOperands ps (instr.BitReg op d s1 s2) None
   -- rD,rS2
   find : {ones : Bool} {d s2 : Reg} {ps rest : List Piece}
-      → Behind d ps rest → IsLast s2 rest → AreOperands (shape.Find ones) ps (instr.Find ones d s2) None
+      → Behind d ps rest → IsLast s2 rest → AreOperands ps (instr.Find ones d s2) None
   -- T, in a field of 26 bits
   branch : {link delayed : Bool} {ps : List Piece} {words : ℤ} {fixup : Option Fixup}
       → IsGoal Pc26 25 ps words fixup
-      → AreOperands (shape.Branch link delayed) ps (instr.Branch link delayed words) fixup
+      → AreOperands ps (instr.Branch link delayed words) fixup
   -- B,rS1,T, in a field of 16 bits
   branch_bit : {set delayed : Bool} {bit : ℕ} {s1 : Reg} {b c : Piece} {ps rest : List Piece} {words : ℤ}
       {fixup : Option Fixup}
       → IsBit bit b → IsComma c → Behind s1 ps rest → IsGoal Pc16 15 rest words fixup
-      → AreOperands (shape.BranchBit set delayed) (b ∷ c ∷ ps) (instr.BranchBit set delayed bit s1 words) fixup
+      → AreOperands (b ∷ c ∷ ps) (instr.BranchBit set delayed bit s1 words) fixup
   -- M,rS1,T, in a field of 16 bits
   branch_condition : {delayed : Bool} {mask : ℕ} {s1 : Reg} {m c : Piece} {ps rest : List Piece} {words : ℤ}
       {fixup : Option Fixup}
       → IsCondition mask m → IsComma c → Behind s1 ps rest → IsGoal Pc16 15 rest words fixup
-      → AreOperands (shape.BranchCond delayed) (m ∷ c ∷ ps) (instr.BranchCond delayed mask s1 words) fixup
+      → AreOperands (m ∷ c ∷ ps) (instr.BranchCond delayed mask s1 words) fixup
   -- rS2
   jump : {link delayed : Bool} {s2 : Reg} {ps : List Piece}
-      → IsLast s2 ps → AreOperands (shape.Jump link delayed) ps (instr.Jump link delayed s2) None
+      → IsLast s2 ps → AreOperands ps (instr.Jump link delayed s2) None
   -- B,rS1,N
   trap_bit : {set : Bool} {bit vector : ℕ} {s1 : Reg} {b c v : Piece} {ps : List Piece}
       → IsBit bit b → IsComma c → Behind s1 ps (v ∷ []) → IsNumber vector v → vector < 512
-      → AreOperands (shape.TrapBit set) (b ∷ c ∷ ps) (instr.TrapBit set bit s1 vector) None
+      → AreOperands (b ∷ c ∷ ps) (instr.TrapBit set bit s1 vector) None
   -- M,rS1,N
   trap_condition : {mask vector : ℕ} {s1 : Reg} {m c v : Piece} {ps : List Piece}
       → IsCondition mask m → IsComma c → Behind s1 ps (v ∷ []) → IsNumber vector v → vector < 512
-      → AreOperands shape.TrapCond (m ∷ c ∷ ps) (instr.TrapCond mask s1 vector) None
+      → AreOperands (m ∷ c ∷ ps) (instr.TrapCond mask s1 vector) None
   -- rS1 and a number
   bound_number : {s1 : Reg} {imm : ℕ} {ps : List Piece} {p : Piece}
       → Behind s1 ps (p ∷ []) → IsNumber imm p → imm < 2 ^ 16
-      → AreOperands shape.Bounds ps (instr.BoundImm s1 imm) None
+      → AreOperands ps (instr.BoundImm s1 imm) None
   -- rS1,rS2
   bound_register : {s1 s2 : Reg} {ps rest : List Piece}
-      → Behind s1 ps rest → IsLast s2 rest → AreOperands shape.Bounds ps (instr.BoundReg s1 s2) None
+      → Behind s1 ps rest → IsLast s2 rest → AreOperands ps (instr.BoundReg s1 s2) None
   -- nothing
-  return : AreOperands shape.Return [] instr.Rte None
+  return : AreOperands [] instr.Rte None
   -- rD and a control register
   control_load : {float : Bool} {d : Reg} {cr : ℕ} {ps : List Piece} {c : Piece}
-      → Behind d ps (c ∷ []) → IsControl float cr c → AreOperands (shape.Ldcr float) ps (instr.Ldcr d cr float) None
+      → Behind d ps (c ∷ []) → IsControl float cr c → AreOperands ps (instr.Ldcr d cr float) None
   -- rS1 and a control register
   control_store : {float : Bool} {s1 : Reg} {cr : ℕ} {ps : List Piece} {c : Piece}
-      → Behind s1 ps (c ∷ []) → IsControl float cr c → AreOperands (shape.Stcr float) ps (instr.Stcr s1 cr float) None
+      → Behind s1 ps (c ∷ []) → IsControl float cr c → AreOperands ps (instr.Stcr s1 cr float) None
   -- rD,rS1 and a control register
   control_exchange : {float : Bool} {d s1 : Reg} {cr : ℕ} {ps qs : List Piece} {c : Piece}
       → Behind d ps qs → Behind s1 qs (c ∷ []) → IsControl float cr c
-      → AreOperands (shape.Xcr float) ps (instr.Xcr d s1 cr float) None
+      → AreOperands ps (instr.Xcr d s1 cr float) None

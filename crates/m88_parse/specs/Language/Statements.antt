@@ -4,14 +4,12 @@ use Rattle.std.specs.Prelude.{ℕ, ◌≡◌, ◌≢◌, ◌⊎◌, ◌<◌, ◌
 use Rattle.m88_base.specs.Name.{IsName}
 use Rattle.m88_base.specs.declared.fixup.Kind.TheVariants.{Abs32}
 use Rattle.m88_base.specs.declared.fixup.Fixup.{Fixup}
-use Rattle.m88_isa.specs.declared.mnemonic.Mnemonic.{Mnemonic}
 use Rattle.m88_isa.specs.declared.instr.Instr.{Instr}
-use Rattle.m88_isa.specs.Mnemonic.{text_of}
 use Rattle.m88_parse.specs.declared.unit.Value.{Value}
 use Rattle.m88_parse.specs.declared.unit.Body.{Body}
 use Rattle.m88_parse.specs.declared.unit.Body.TheVariants as body
 use Rattle.m88_parse.specs.declared.unit.Statement.{Statement}
-use Rattle.m88_parse.specs.Language.Shapes.{shape_of}
+use Rattle.m88_parse.specs.Language.Mnemonics.{operation_name}
 use Rattle.m88_parse.specs.Language.Bytes.{colon_mark}
 use Rattle.m88_parse.specs.Language.Pieces.{a_text, a_mark, Piece}
 use Rattle.m88_parse.specs.Language.Names.{IsMark, IsComma, IsNumber, IsNamed, IsSymbol}
@@ -44,9 +42,8 @@ pub data IsBody : List Piece → Body → Type 0 where
       → IsBody (p ∷ q ∷ []) (body.Global name)
   set : {p q c : Piece} {ps : List Piece} {name : List ℕ} {n : ℕ} → IsNamed (codes ".set") p → IsSymbol name q
       → IsComma c → IsSigned (2 ^ 32) ps n → IsBody (p ∷ q ∷ c ∷ ps) (body.Set name q.col n)
-  code : {p : Piece} {ps : List Piece} (mnemonic : Mnemonic) {instr : Instr} {fixup : Option Fixup}
-      → IsNamed (text_of mnemonic) p → AreOperands (shape_of mnemonic) ps instr fixup
-      → IsBody (p ∷ ps) (body.Code instr fixup)
+  code : {p : Piece} {ps : List Piece} {instr : Instr} {fixup : Option Fixup}
+      → IsNamed (operation_name instr) p → AreOperands ps instr fixup → IsBody (p ∷ ps) (body.Code instr fixup)
 
 -- a label is a symbol with a colon behind it
 pub record IsLabel (l c : Piece) (name : List ℕ) : Type 0 where

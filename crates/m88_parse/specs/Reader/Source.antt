@@ -21,7 +21,7 @@ use Rattle.m88_parse.specs.Language.Bytes.{colon_mark}
 use Rattle.m88_parse.specs.Language.Pieces.{TokenValue, a_name, Piece}
 use Rattle.m88_parse.specs.Reader.State.{ReaderState, first, second, place, past, trouble, is_mark_of, ◌>>=◌}
 use Rattle.m88_parse.specs.Reader.Slots.{symbol_at, any_name_at, line_end_at}
-use Rattle.m88_parse.specs.Language.Shapes.{shape_of}
+use Rattle.m88_parse.specs.Reader.Shapes.{shape_of}
 use Rattle.m88_parse.specs.Reader.Directives.{directive_of}
 use Rattle.m88_parse.specs.Reader.Grammar.{Form, read, form_of, directive_form}
 

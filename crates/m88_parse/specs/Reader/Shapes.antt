@@ -1,4 +1,5 @@
--- The operand form of each mnemonic ("Instruction Set": the assembler syntax of each instruction).
+-- Words for the contracts of private functions; no promise of the crate names them. The operand form of each mnemonic
+-- ("Instruction Set": the assembler syntax of each instruction).
 use Rattle.std.specs.Prelude.{true, false}
 use Rattle.m88_isa.specs.declared.mnemonic.Mnemonic.{Mnemonic}
 use Rattle.m88_isa.specs.declared.mnemonic.Mnemonic.TheVariants as m
