@@ -20,7 +20,7 @@ use Rattle.m88_link.specs.Bases.{first_text, up_to_multiple}
 use Rattle.m88_link.specs.Sound.{origin}
 use Rattle.m88_link.specs.Symbols.{repeated_after}
 use Rattle.m88_asm.specs.Counters.{Counters, Located, after, at_begin, at_section, located, offset_here, place_here}
-use Rattle.m88_asm.specs.Drafts.{IsOpen, counters_of, empty_growth, no_section, with_statements}
+use Rattle.m88_asm.specs.Inside.Drafts.{IsOpen, counters_of, empty_growth, no_section, with_statements}
 use Rattle.m88_asm.specs.Faults.{IsAssembled, alignment_of, misfit_at, misplaced_at, statements_fault, module_fault, modules_fault, too_large_at}
 use Rattle.m88_asm.specs.Images.{code_at, code_in, first_of, module_code, placed_instruction}
 use Rattle.m88_asm.specs.Objects.{Head, heads_in, sections_in, symbols_of}

@@ -18,7 +18,7 @@ use Rattle.m88_link.specs.declared.object.Section.{Section}
 use Rattle.m88_base.specs.Image.{most_bytes}
 use Rattle.m88_link.specs.Sound.{HasRoom, origin}
 use Rattle.m88_asm.specs.Counters.{Counters, Located, with_length, after, at_begin, at_body, at_section, length_at, located, offset_here, place_here}
-use Rattle.m88_asm.specs.Drafts.{Growth, IsOpen, counters_of, empty_growth, next_row, no_section, nth, section_at, sections_at, with_bytes, with_statement, with_statements}
+use Rattle.m88_asm.specs.Inside.Drafts.{Growth, IsOpen, counters_of, empty_growth, next_row, no_section, nth, section_at, sections_at, with_bytes, with_statement, with_statements}
 use Rattle.m88_asm.specs.Faults.{misfit_at, misplaced_at, too_large_at}
 use Rattle.m88_asm.specs.Filled.{waiting_bytes}
 use Rattle.m88_asm.specs.Objects.{Head, heads_in, lines_in, marked, object_of, opens, opened_by, section_bytes, section_under, sections_in, symbols_in, symbols_of, uses_in_body, symbol_uses, waiting_in}

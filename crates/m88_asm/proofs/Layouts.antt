@@ -7,8 +7,8 @@ use Rattle.m88_base.specs.Placed.{byte_among, count_among}
 use Rattle.m88_link.proofs.Judged.{written_read}
 use Rattle.m88_link.proofs.Rooms.{all_sound, alone_is}
 use Rattle.m88_link.specs.Bases.{first_data, stood}
-use Rattle.m88_link.specs.Carried.{AreAlone}
-use Rattle.m88_link.specs.Drafts.{nothing_read, read_from}
+use Rattle.m88_link.specs.Inside.Carried.{AreAlone}
+use Rattle.m88_link.specs.Inside.Drafts.{nothing_read, read_from}
 use Rattle.m88_link.specs.Layout.{Layout, layout_of}
 use Rattle.m88_link.specs.Linked.{IsLinked}
 use Rattle.m88_link.specs.ObjectRead.{HaveText, ended_lines}

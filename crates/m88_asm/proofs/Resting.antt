@@ -9,7 +9,7 @@ use Rattle.m88_link.specs.declared.object.Place.TheVariants as place
 use Rattle.m88_link.specs.declared.object.Section.{Section}
 use Rattle.m88_asm.specs.declared.fault.AsmFault.{AsmFault}
 use Rattle.m88_asm.specs.Counters.{after, at_begin, located, place_here}
-use Rattle.m88_asm.specs.Drafts.{Growth, IsOpen, counters_of, empty_growth, next_row, nth, section_at, sections_at, with_bytes, with_statement, with_statements}
+use Rattle.m88_asm.specs.Inside.Drafts.{Growth, IsOpen, counters_of, empty_growth, next_row, nth, section_at, sections_at, with_bytes, with_statement, with_statements}
 use Rattle.m88_asm.specs.Faults.{fault_in, statements_fault}
 use Rattle.m88_asm.specs.Filled.{waiting_bytes}
 use Rattle.m88_asm.proofs.Assembling.{counters_next, open_next}

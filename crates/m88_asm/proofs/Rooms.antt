@@ -4,7 +4,7 @@ use Rattle.std.specs.Prelude.{flat_map}
 use Rattle.std.proofs.lemmas.List.{append-nil}
 use Rattle.m88_link.specs.declared.object.Section.{Section}
 use Rattle.m88_link.specs.Sound.{HasRoom}
-use Rattle.m88_asm.specs.Drafts.{with_bytes}
+use Rattle.m88_asm.specs.Inside.Drafts.{with_bytes}
 
 pub room_front : (s : Section) (a b : List ℕ) → HasRoom (with_bytes s (a ++ b)) → HasRoom (with_bytes s a)
 room_front s a b h =

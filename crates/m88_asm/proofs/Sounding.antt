@@ -21,7 +21,7 @@ use Rattle.m88_link.specs.declared.object.Symbol.{Symbol}
 use Rattle.m88_link.specs.Sound.{AreSections, HasRoom, IsDefinedIn, IsOwnAddress, IsPatchIn, IsGlobalIfStart, IsSound, origin, start_name}
 use Rattle.m88_link.specs.Symbols.{Repetition, first_repeated, repeated_after, repetition, symbol_of}
 use Rattle.m88_asm.specs.Counters.{Counters, Located, with_length, after, at_begin, at_section, length_at, located, offset_here, place_here}
-use Rattle.m88_asm.specs.Drafts.{Growth, IsOpen, counters_of, empty_growth, no_section, nth, with_statement, with_statements}
+use Rattle.m88_asm.specs.Inside.Drafts.{Growth, IsOpen, counters_of, empty_growth, no_section, nth, with_statement, with_statements}
 use Rattle.m88_asm.specs.Faults.{alignment_of, fault_in, statements_fault, misfit_at, misplaced_at, module_fault, too_large_at}
 use Rattle.m88_asm.specs.Objects.{Head, labels_at, lines_in, marked, object_of, opened_by, opens, section_under, sections_in, sets_at, symbols_of, uses_in_body, uses_in_values, symbol_uses}
 use Rattle.m88_asm.proofs.Assembling.{counters_empty, counters_next, grown_object, open_next}

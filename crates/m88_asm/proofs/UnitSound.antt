@@ -15,7 +15,7 @@ use Rattle.m88_link.specs.declared.object.Symbol.{Symbol}
 use Rattle.m88_asm.proofs.Assembling.{counters_empty, grown_object}
 use Rattle.m88_asm.proofs.Sounding.{counters_after, counters_grown, first_parts, option_or-none, sound_object}
 use Rattle.m88_asm.specs.Counters.{Counters, Located, after, at_begin, at_section, here_at, length_at, located, offset_here, place_here}
-use Rattle.m88_asm.specs.Drafts.{IsOpen, counters_of, empty_growth, no_section, with_statements}
+use Rattle.m88_asm.specs.Inside.Drafts.{IsOpen, counters_of, empty_growth, no_section, with_statements}
 use Rattle.m88_asm.specs.Faults.{duplicate_at, fault_in, misfit_at, misplaced_at, module_fault, modules_fault, statements_fault, too_large_at}
 use Rattle.m88_asm.specs.Objects.{object_of, sections_in, symbols_of}
 use Rattle.m88_asm.specs.declared.fault.AsmFault.{AsmFault}

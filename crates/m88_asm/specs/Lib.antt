@@ -8,5 +8,4 @@ pub mod Reasons
 pub mod Units
 pub mod Accepted
 pub mod Images
--- Words for the contracts of private functions.
-pub mod Drafts
+pub mod Inside

@@ -6,7 +6,7 @@ ghost use Rattle.m88_parse.specs.WellFormed.{IsFormedBody, IsFormedStatement};
 ghost use Rattle.m88_link.specs.Sound.{HasRoom};
 ghost use Rattle.m88_link.specs.Symbols.{first_repeated, repeated_after, repetition};
 ghost use Rattle.m88_asm.specs.Counters.{offset_here, place_here};
-ghost use Rattle.m88_asm.specs.Drafts.{counters_of, empty_growth, here_bytes, next_row, nth, with_body, with_bytes, with_section, with_statement, with_symbols};
+ghost use Rattle.m88_asm.specs.Inside.Drafts.{counters_of, empty_growth, here_bytes, next_row, nth, with_body, with_bytes, with_section, with_statement, with_symbols};
 ghost use Rattle.m88_asm.specs.Fault.{memory_ran_out};
 ghost use Rattle.m88_asm.specs.Faults.{duplicate_at, fault_in, misfit_at};
 ghost use Rattle.m88_asm.specs.Objects.{labels_at, marked, sets_at};
@@ -31,7 +31,7 @@ pub(crate) struct Assembly {
 }
 
 impl Model for Assembly {
-    ghost use Rattle.m88_asm.specs.Drafts.{Growth, IsOpen};
+    ghost use Rattle.m88_asm.specs.Inside.Drafts.{Growth, IsOpen};
 
     ghost Value = { Growth };
 

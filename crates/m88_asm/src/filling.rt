@@ -4,7 +4,7 @@ ghost use Rattle.std.specs.Int.{to_be_bytes, w16, w32};
 ghost use Rattle.m88_parse.specs.WellFormed.{IsAlignment, IsFormedBody};
 ghost use Rattle.m88_link.specs.Sound.{HasRoom, origin};
 ghost use Rattle.m88_asm.specs.Counters.{length_at, padding};
-ghost use Rattle.m88_asm.specs.Drafts.{with_bytes};
+ghost use Rattle.m88_asm.specs.Inside.Drafts.{with_bytes};
 ghost use Rattle.m88_asm.specs.Faults.{alignment_of};
 ghost use Rattle.m88_asm.specs.Filled.{waiting_bytes, waiting_word};
 ghost use Rattle.m88_asm.specs.Objects.{use_at, use_in_code, use_in_value, uses_in_body, uses_in_values};

@@ -1,7 +1,7 @@
 //! A section that still grows.
 ghost use Rattle.std.specs.Prelude.{◌≡◌, ◌+◌, [], length, replicate, OnOk};
 ghost use Rattle.m88_link.specs.Sound.{HasRoom, origin};
-ghost use Rattle.m88_asm.specs.Drafts.{with_bytes};
+ghost use Rattle.m88_asm.specs.Inside.Drafts.{with_bytes};
 
 use m88_base::Listed;
 use m88_link::{Place, Section};

@@ -10,7 +10,7 @@ ghost use Rattle.m88_link.specs.Refusal.{IsLinkable, IsRefused};
 ghost use Rattle.m88_link.specs.declared.fault.LinkFault.{LinkFault as Refusal};
 ghost use Rattle.m88_parse.specs.declared.unit.Module.{Module as Part};
 ghost use Rattle.m88_asm.specs.Counters.{Located, at_begin, located, offset_of, section_of};
-ghost use Rattle.m88_asm.specs.Drafts.{empty_growth, with_statements};
+ghost use Rattle.m88_asm.specs.Inside.Drafts.{empty_growth, with_statements};
 ghost use Rattle.m88_asm.specs.Fault.{memory_ran_out};
 ghost use Rattle.m88_asm.specs.Faults.{IsAssembled, statements_fault, module_fault, modules_fault, unit_fault};
 ghost use Rattle.m88_asm.specs.Images.{IsUnitImage};

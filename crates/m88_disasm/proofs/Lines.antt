@@ -14,7 +14,7 @@ use Rattle.m88_disasm.specs.Listing.{AreLines, ArePartLines, BeginsWord, IsWordL
 use Rattle.m88_disasm.specs.Listing.IsWordLine.{instruction, no_instruction}
 use Rattle.m88_disasm.specs.Listing.AreLines.{no_line, word, byte}
 use Rattle.m88_disasm.specs.Listing.ArePartLines.{no_part, part}
-use Rattle.m88_disasm.specs.Appended.{BytesAppended, LineAppended, LinesAppended}
+use Rattle.m88_disasm.specs.Inside.Appended.{BytesAppended, LineAppended, LinesAppended}
 
 -- the line of a word that an instruction has
 pub said_instruction : (i : Instr) (w : ℕ) (old new : List ℕ) → IsWord i w → new ≡ old ++ (instr_text i ++ line_end)

@@ -2,4 +2,4 @@
 pub mod Text
 pub mod Listing
 pub mod Read
-pub mod Appended
+pub mod Inside

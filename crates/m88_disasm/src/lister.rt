@@ -3,7 +3,7 @@ ghost use Rattle.std.specs.Prelude.{◌≡◌, ◌+◌, ◌*◌, ◌<◌, ◌≤
 ghost use Rattle.m88_base.specs.Image.{IsImage, parts};
 ghost use Rattle.m88_base.specs.Lines.{line_end};
 ghost use Rattle.m88_base.specs.Placed.{count_among};
-ghost use Rattle.m88_disasm.specs.Appended.{BytesAppended, LineAppended, LinesAppended};
+ghost use Rattle.m88_disasm.specs.Inside.Appended.{BytesAppended, LineAppended, LinesAppended};
 ghost use Rattle.m88_disasm.specs.Listing.{AreLines, ArePartLines, BeginsWord, IsListing, IsWordLine, lone_byte_line, place_line, start_line};
 ghost use Rattle.m88_disasm.specs.Read.{WritesImage};
 ghost use Rattle.m88_disasm.specs.Text.{hexadecimal};

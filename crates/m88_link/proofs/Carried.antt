@@ -13,7 +13,7 @@ use Rattle.m88_link.specs.declared.object.Reloc.{Reloc}
 use Rattle.m88_link.specs.declared.object.Section.{Section}
 use Rattle.m88_link.specs.declared.object.Symbol.{Symbol}
 use Rattle.m88_link.specs.Bases.{Placement, base_at, base_of}
-use Rattle.m88_link.specs.Carried.{HasWord, unpatched, carried, numbered, patched_in, patched_spot}
+use Rattle.m88_link.specs.Inside.Carried.{HasWord, unpatched, carried, numbered, patched_in, patched_spot}
 use Rattle.m88_link.specs.Field.{patched_word}
 use Rattle.m88_link.specs.Layout.{spot, spots_of, value_of_name}
 use Rattle.m88_link.specs.Sound.{IsPatchIn, origin}

@@ -10,7 +10,7 @@ use Rattle.m88_link.specs.declared.object.Place.{Place}
 use Rattle.m88_link.specs.declared.object.Place.TheVariants.{Text, DataSection}
 use Rattle.m88_link.specs.declared.object.Section.{Section}
 use Rattle.m88_link.specs.declared.row.Row.TheVariants.{Begin, End}
-use Rattle.m88_link.specs.Drafts.{Begun, Filled, Progress, may_stand, object_with}
+use Rattle.m88_link.specs.Inside.Drafts.{Begun, Filled, Progress, may_stand, object_with}
 use Rattle.m88_link.specs.ObjectRead.{HasSectionText, HasText, HaveText}
 use Rattle.m88_link.proofs.RowTexts.{row_text}
 use Rattle.m88_link.proofs.Written.{byte_rows, draft_rows, filled_rows, head_row, object_rows, objects_rows, open_rows, rows_prefix, section_rows, sections_rows, written}

@@ -6,7 +6,7 @@ use Rattle.std.proofs.lemmas.Bool.{lt-ltb, ltb-true}
 use Rattle.std.proofs.lemmas.List.Elements.{All-from_recursion, recursion_from_All}
 use Rattle.m88_base.specs.Name.{IsName, begins_name, continues_name}
 use Rattle.m88_base.proofs.Digits.{both}
-use Rattle.m88_link.specs.Rows.{is_name_text, name_of}
+use Rattle.m88_link.specs.Inside.Rows.{is_name_text, name_of}
 
 -- the test of names
 all_true : (p : ℕ → Bool) (bs : List ℕ) → AllByRecursion (λ b. IsTrue (p b)) bs → list_all p bs ≡ true

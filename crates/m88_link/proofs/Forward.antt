@@ -16,9 +16,9 @@ use Rattle.m88_link.specs.declared.object.Symbol.{Symbol}
 use Rattle.m88_link.specs.declared.row.Row.{Row}
 use Rattle.m88_link.specs.declared.row.Row.TheVariants.{Begin, Head, Define, Patch, End}
 use Rattle.m88_link.specs.declared.row.SectionHead.{SectionHead}
-use Rattle.m88_link.specs.Drafts.{Begun, Filled, Progress, bytes_step, define_step, end_step, begin_step, head_step, headed, may_stand, line_step, more_bytes, only_named, object_with, patch_step, row_step, settled, section_with, within}
+use Rattle.m88_link.specs.Inside.Drafts.{Begun, Filled, Progress, bytes_step, define_step, end_step, begin_step, head_step, headed, may_stand, line_step, more_bytes, only_named, object_with, patch_step, row_step, settled, section_with, within}
 use Rattle.m88_link.specs.ObjectRead.{HasRelocText, HasSectionText, HasSymbolText, HasText}
-use Rattle.m88_link.specs.Rows.{◌>>=◌, bytes_behind, row_in}
+use Rattle.m88_link.specs.Inside.Rows.{◌>>=◌, bytes_behind, row_in}
 use Rattle.m88_link.specs.Sound.{AreSections, IsOwnAddress}
 use Rattle.m88_link.proofs.ByteTexts.{bytes_read, length-digits}
 use Rattle.m88_link.proofs.RowTexts.{IsRow, place_text, row_read, row_text}

@@ -15,9 +15,9 @@ use Rattle.m88_link.specs.declared.object.Section.{Section}
 use Rattle.m88_link.specs.declared.object.Symbol.{Symbol}
 use Rattle.m88_link.specs.declared.row.Row.{Row}
 use Rattle.m88_link.specs.declared.row.Row.TheVariants.{Begin, Head, Define, Patch, End}
-use Rattle.m88_link.specs.Drafts.{Begun, Filled, Progress, bytes_step, define_step, end_step, begin_step, head_step, is_nil, is_whole, line_step, more_bytes, only_named, object_with, patch_step, row_step, settled, within}
+use Rattle.m88_link.specs.Inside.Drafts.{Begun, Filled, Progress, bytes_step, define_step, end_step, begin_step, head_step, is_nil, is_whole, line_step, more_bytes, only_named, object_with, patch_step, row_step, settled, within}
 use Rattle.m88_link.specs.ObjectRead.{HasRelocText, HasSymbolText, HasText}
-use Rattle.m88_link.specs.Rows.{◌>>=◌, bytes_behind, bytes_by_digits, row_in}
+use Rattle.m88_link.specs.Inside.Rows.{◌>>=◌, bytes_behind, bytes_by_digits, row_in}
 use Rattle.m88_link.proofs.ByteTexts.{bytes_back, length-digits}
 use Rattle.m88_link.proofs.RowTexts.{IsRow, mapped, row_back, row_text}
 use Rattle.m88_link.proofs.Written.{byte_rows, draft_rows, filled_rows, filling_rows, head_row, object_rows, objects_rows, one_row_more, open_rows, reloc_rows, sections_rows, symbol_rows, written}

@@ -10,7 +10,7 @@ use Rattle.std.specs.Option.{option_or}
 use Rattle.m88_base.proofs.Lookup.{byte_among-append, byte_in_above, byte_in_at, byte_in_below, option_or-none}
 use Rattle.m88_base.specs.Found.{PutsBytes}
 use Rattle.m88_base.specs.Placed.{Placed, byte_among, byte_in}
-use Rattle.m88_link.specs.Carried.{AreAlone, holds}
+use Rattle.m88_link.specs.Inside.Carried.{AreAlone, holds}
 
 -- how many bytes one section has at an address
 abbrev one : ℕ → Placed → ℕ

@@ -11,11 +11,11 @@ use Rattle.m88_base.proofs.Digits.{both}
 use Rattle.m88_link.specs.declared.object.Object.{Object}
 use Rattle.m88_link.specs.declared.object_fault.ObjectFault.{ObjectFault}
 use Rattle.m88_link.specs.declared.object_fault.ObjectFault.TheVariants.{Form}
-use Rattle.m88_link.specs.Drafts.{Begun, Progress, at_rest, ended_step, is_nil, line_step, nothing_read, read_from, read_on, unended}
+use Rattle.m88_link.specs.Inside.Drafts.{Begun, Progress, at_rest, ended_step, is_nil, line_step, nothing_read, read_from, read_on, unended}
 use Rattle.m88_link.specs.ObjectRead.{HasText, HaveText, IsContinued, IsFormLine, ended_lines}
 use Rattle.m88_link.specs.ObjectText.{objects_text}
 use Rattle.m88_base.specs.Cut.{split_at_byte}
-use Rattle.m88_link.specs.Rows.{◌>>=◌}
+use Rattle.m88_link.specs.Inside.Rows.{◌>>=◌}
 use Rattle.m88_link.proofs.Completes.{continues}
 use Rattle.m88_link.proofs.Forward.{objects_taken, rested, run}
 use Rattle.m88_link.proofs.Goes.{line_went}

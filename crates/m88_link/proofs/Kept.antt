@@ -17,7 +17,7 @@ use Rattle.m88_link.specs.declared.object.Section.{Section}
 use Rattle.m88_link.specs.declared.object.Symbol.{Symbol}
 use Rattle.m88_link.specs.declared.row.Row.TheVariants.{Begin, Head}
 use Rattle.m88_link.specs.declared.row.SectionHead.{SectionHead}
-use Rattle.m88_link.specs.Drafts.{Begun, Filled, Progress, head_step, headed, is_nil, may_stand, section_with, settled, takes_head}
+use Rattle.m88_link.specs.Inside.Drafts.{Begun, Filled, Progress, head_step, headed, is_nil, may_stand, section_with, settled, takes_head}
 use Rattle.m88_link.specs.ObjectRead.{HasRelocText, HasSectionText, HasSymbolText, HasText}
 use Rattle.m88_link.specs.Sound.{AreSections, IsOwnAddress, origin}
 use Rattle.m88_link.proofs.RowTexts.{IsHead, row_text}

@@ -6,10 +6,10 @@ use Rattle.std.proofs.lemmas.List.{nil_from_length}
 use Rattle.m88_link.specs.declared.object.Object.{Object}
 use Rattle.m88_link.specs.declared.object_fault.ObjectFault.{ObjectFault}
 use Rattle.m88_link.specs.declared.object_fault.ObjectFault.TheVariants.{Form}
-use Rattle.m88_link.specs.Drafts.{GivesObjects, Progress, TakesOrRefuses, at_rest, ended_step, is_nil, line_step, read_from, read_on, unended}
+use Rattle.m88_link.specs.Inside.Drafts.{GivesObjects, Progress, TakesOrRefuses, at_rest, ended_step, is_nil, line_step, read_from, read_on, unended}
 use Rattle.m88_link.specs.ObjectRead.{ended_lines}
 use Rattle.m88_base.specs.Cut.{lacks, split_at_byte}
-use Rattle.m88_link.specs.Rows.{◌>>=◌}
+use Rattle.m88_link.specs.Inside.Rows.{◌>>=◌}
 use Rattle.m88_base.proofs.Splitting.{split_first, cut_found, uncut}
 use Rattle.m88_link.proofs.Lined.{lines_at, lines_none, one_line}
 

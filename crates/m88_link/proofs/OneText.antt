@@ -5,7 +5,7 @@ use Rattle.m88_base.specs.OneVerdict.{HasOneVerdict}
 use Rattle.m88_link.specs.declared.object.Object.{Object}
 use Rattle.m88_link.specs.declared.object_fault.ObjectFault.{ObjectFault}
 use Rattle.m88_link.specs.declared.object_fault.ObjectFault.TheVariants.{Form, Range, Memory}
-use Rattle.m88_link.specs.Drafts.{nothing_read, read_from}
+use Rattle.m88_link.specs.Inside.Drafts.{nothing_read, read_from}
 use Rattle.m88_link.specs.ObjectRead.{IsSoundText, IsTextFault, ended_lines}
 use Rattle.m88_link.proofs.Judged.{read_refused}
 use Rattle.m88_link.proofs.Soundness.{sound_or_not}

@@ -3,8 +3,8 @@ use Rattle.std.proofs.Common.{◌≡◌, ℕ, ◌-◌, ◌<◌, ◌≤◌, Bool,
 use Rattle.std.specs.Prelude.{◌==◌, Option, None, Some, Ok, option_map}
 use Rattle.std.proofs.lemmas.Bool.Decides.{nat_tests}
 use Rattle.std.proofs.lemmas.List.{append-nil, take_rest}
-use Rattle.m88_link.specs.Drafts.{TakesOrRefuses}
-use Rattle.m88_link.specs.Rows.{◌>>=◌, byte_by_digits, bytes_behind, bytes_by_digits}
+use Rattle.m88_link.specs.Inside.Drafts.{TakesOrRefuses}
+use Rattle.m88_link.specs.Inside.Rows.{◌>>=◌, byte_by_digits, bytes_behind, bytes_by_digits}
 
 behind_more : (front : List ℕ) (b : ℕ) (o : Option (List ℕ))
     → option_map (λ bs. front ++ bs) (option_map (λ bs. b ∷ bs) o) ≡ option_map (λ bs. (front ++ b ∷ []) ++ bs) o

@@ -16,7 +16,7 @@ use Rattle.m88_link.specs.ObjectRead.{AreSoundSymbols, HasRelocText, HasSectionT
 use Rattle.m88_link.specs.ObjectText.{object_line, objects_text, reloc_line, section_lines, symbol_line}
 use Rattle.m88_link.specs.Sound.{HasRoom, IsDefinedIn, IsGlobalIfStart, IsPatchIn, IsSound}
 use Rattle.m88_link.specs.Symbols.{first_repeated, repeated_after}
-use Rattle.m88_link.specs.Walked.{AreSoundParts, HaveRoom, IsFoundObject, IsFoundPart, IsFoundReloc, IsFoundSection, IsFoundSymbol, object_count, objects_count, section_count, sections_count}
+use Rattle.m88_link.specs.Inside.Walked.{AreSoundParts, HaveRoom, IsFoundObject, IsFoundPart, IsFoundReloc, IsFoundSection, IsFoundSymbol, object_count, objects_count, section_count, sections_count}
 use Rattle.m88_link.proofs.Parts.{repeated_after-append}
 use Rattle.m88_link.proofs.RowTexts.{row_text}
 use Rattle.m88_link.proofs.Texts.{Lack, ended, joined, joined-append, lack_append, lines_of_objects, lines_of_rows, name_front, objects_joined, objects_lack, ones_lack, parts_lack, relocs_joined, row_lacks, section_lack, symbols_joined}

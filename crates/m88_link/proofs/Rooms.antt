@@ -11,7 +11,7 @@ use Rattle.m88_link.specs.declared.object.Reloc.{Reloc}
 use Rattle.m88_link.specs.declared.object.Section.{Section}
 use Rattle.m88_link.specs.declared.object.Symbol.{Symbol}
 use Rattle.m88_link.specs.Bases.{Placement, base_of, section_size, stood_from, up_to_multiple}
-use Rattle.m88_link.specs.Carried.{AreAlone, holds}
+use Rattle.m88_link.specs.Inside.Carried.{AreAlone, holds}
 use Rattle.m88_link.specs.Layout.{Extent, extent, extents_of, spot, spots_of, value_of_name}
 use Rattle.m88_link.specs.Refusal.{AreDisjoint, hits}
 use Rattle.m88_link.specs.Relocated.{patched, relocated, target_of}

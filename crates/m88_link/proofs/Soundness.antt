@@ -12,7 +12,7 @@ use Rattle.m88_link.specs.declared.object.Symbol.{Symbol}
 use Rattle.m88_link.specs.ObjectRead.{AreSoundSymbols}
 use Rattle.m88_link.specs.Sound.{HasRoom, IsDefinedIn, IsGlobalIfStart, IsPatchIn, origin, start_name}
 use Rattle.m88_link.specs.Symbols.{Repetition, first_repeated}
-use Rattle.m88_link.specs.Walked.{ArePatches, AreSoundParts, HaveRoom, IsFound, IsFoundObject, IsFoundPart, objects_count, sections_count}
+use Rattle.m88_link.specs.Inside.Walked.{ArePatches, AreSoundParts, HaveRoom, IsFound, IsFoundObject, IsFoundPart, objects_count, sections_count}
 use Rattle.m88_link.proofs.Walks.{All-last}
 
 -- parts one by one

@@ -17,7 +17,7 @@ use Rattle.m88_base.specs.declared.fixup.Kind.TheVariants.{Hi16, Lo16, Pc26, Pc1
 use Rattle.m88_base.proofs.Digits.{both, decimal_found, decimal_needed, decimal_told}
 use Rattle.m88_base.proofs.Hexadecimal.{hex8_of-hex8, hex8-hex8_of, is_hex8-hex8}
 use Rattle.m88_link.specs.ObjectText.{kind_word, section_word}
-use Rattle.m88_link.specs.Rows.{◌>>=◌, first_word, hex8_word, is_name_text, field_kind_of, kind_word_of, name_of, name_word, decimal_value, number_word, scope_of, scope_word, symbol_section_of, section_word_of, word_by}
+use Rattle.m88_link.specs.Inside.Rows.{◌>>=◌, first_word, hex8_word, is_name_text, field_kind_of, kind_word_of, name_of, name_word, decimal_value, number_word, scope_of, scope_word, symbol_section_of, section_word_of, word_by}
 use Rattle.m88_base.proofs.Splitting.{cut_found, is_other, lacks_by, split_first}
 use Rattle.m88_link.proofs.Divided.{is_named, name_is}
 use Rattle.m88_base.specs.Cut.{lacks}

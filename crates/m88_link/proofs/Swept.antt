@@ -11,7 +11,7 @@ use Rattle.std.specs.List.{AllByRecursion}
 use Rattle.std.specs.List.Sorted.{IsNonDecreasingBy}
 use Rattle.m88_link.specs.Layout.{Extent}
 use Rattle.m88_link.specs.Refusal.{covers, hits, AreDisjoint}
-use Rattle.m88_link.specs.Overlap.{IsLeastDouble}
+use Rattle.m88_link.specs.Inside.Overlap.{IsLeastDouble}
 
 -- sections in ascending order without an address that two of them have, the last byte just below `reach`
 pub record IsSwept (reach : ℕ) (extents : List Extent) : Type 0 where

@@ -8,7 +8,7 @@ use Rattle.indexmap.specs.IndexMap.{insert_entry}
 use Rattle.m88_base.proofs.Lookup.{option_or-none, option_or_assoc}
 use Rattle.m88_link.specs.declared.object.Symbol.{Symbol}
 use Rattle.m88_link.specs.Symbols.{repetition, repeated_after, first_repeated, symbol_of}
-use Rattle.m88_link.specs.Tables.{under_name}
+use Rattle.m88_link.specs.Inside.Tables.{under_name}
 
 under_name-lookup : (name : List ℕ) (ss : List Symbol) → lookup (bytes_eq name) (map under_name ss) ≡ symbol_of ss name
 under_name-lookup name [] = refl

@@ -4,10 +4,10 @@ use Rattle.std.specs.Prelude.{◌⊎◌, All, IfErr, IfOk, MatchResult, Result, 
 use Rattle.m88_link.specs.declared.object.Object.{Object}
 use Rattle.m88_link.specs.declared.object_fault.ObjectFault.{ObjectFault}
 use Rattle.m88_link.specs.declared.object_fault.ObjectFault.TheVariants.{Form, Range, Memory}
-use Rattle.m88_link.specs.Drafts.{AnswersText, nothing_read, read_from}
+use Rattle.m88_link.specs.Inside.Drafts.{AnswersText, nothing_read, read_from}
 use Rattle.m88_link.specs.ObjectRead.{IsFirstUnsound, IsFormLine, IsRangeLine, IsSoundText, IsTextFault, RefusesText, ended_lines}
 use Rattle.m88_link.specs.Sound.{IsSound}
-use Rattle.m88_link.specs.Walked.{AreSoundParts, IsFoundObject, objects_count}
+use Rattle.m88_link.specs.Inside.Walked.{AreSoundParts, IsFoundObject, objects_count}
 use Rattle.m88_link.proofs.Judged.{no_form_line, one_form_line, read_refused, read_written, written_read}
 use Rattle.m88_link.proofs.Ranged.{all_sound_objects, count_within, found_below, found_is_first, not_sound, one_unsound_line}
 

@@ -14,7 +14,7 @@ use Rattle.m88_link.specs.declared.walk.Walked.TheVariants.{Sound, Unsound}
 use Rattle.m88_link.specs.ObjectRead.{AreSoundSymbols}
 use Rattle.m88_link.specs.Sound.{IsDefinedIn, IsGlobalIfStart}
 use Rattle.m88_link.specs.Symbols.{Repetition, first_repeated, repetition, symbol_of}
-use Rattle.m88_link.specs.Walked.{AreSoundParts, Walks, IsFound, IsFoundObject, IsFoundPart, IsFoundSymbol, objects_count}
+use Rattle.m88_link.specs.Inside.Walked.{AreSoundParts, Walks, IsFound, IsFoundObject, IsFoundPart, IsFoundSymbol, objects_count}
 use Rattle.m88_link.proofs.Tabled.{repeated_after-push}
 
 last_of : {A : Type 0} (P : A → Type 0) (xs : List A) (x : A) → AllByRecursion P (xs ++ x ∷ []) → P x

@@ -9,7 +9,7 @@ use Rattle.m88_link.specs.declared.object.Reloc.{Reloc}
 use Rattle.m88_link.specs.declared.object.Section.{Section}
 use Rattle.m88_link.specs.declared.object.Symbol.{Symbol}
 use Rattle.m88_link.specs.declared.row.Row.TheVariants.{Begin, Head, Define, Patch, End}
-use Rattle.m88_link.specs.Drafts.{Begun, Filled, Progress}
+use Rattle.m88_link.specs.Inside.Drafts.{Begun, Filled, Progress}
 use Rattle.m88_link.proofs.RowTexts.{row_text}
 
 -- a line with bytes

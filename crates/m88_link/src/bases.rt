@@ -1,7 +1,7 @@
 //! Where the text and the data of each object stand.
 ghost use Rattle.std.specs.Prelude.{◌≡◌, ◌+◌, ◌*◌, ◌^◌, length, ◌<◌, ◌≤◌, ◌↔◌, All, IfOk, IsTrue, MatchOption};
 ghost use Rattle.m88_link.specs.Bases.{base_at, base_of, first_text, section_size, stood, text_end};
-ghost use Rattle.m88_link.specs.Sizes.{object_size, sections_size, total_size};
+ghost use Rattle.m88_link.specs.Inside.Sizes.{object_size, sections_size, total_size};
 ghost use Rattle.m88_base.specs.Image.{most_bytes};
 ghost use Rattle.m88_link.specs.Sound.{IsPatchIn, IsSound};
 ghost use Rattle.m88_link.specs.Symbols.{value_in};

@@ -1,7 +1,7 @@
 //! The global symbols of all objects, at their addresses.
 ghost use Rattle.std.specs.Prelude.{◌≡◌, ◌∷◌, ◌⊎◌, [], IfErr, IfOk, None, OnOk, Some, flat_map};
 ghost use Rattle.m88_link.specs.Bases.{base_of};
-ghost use Rattle.m88_link.specs.Exports.{TakesSymbols};
+ghost use Rattle.m88_link.specs.Inside.Exports.{TakesSymbols};
 ghost use Rattle.m88_link.specs.Faults.{memory_fault};
 ghost use Rattle.m88_link.specs.Layout.{globals_of};
 ghost use Rattle.m88_link.specs.Refusal.{duplicate};

@@ -1,6 +1,6 @@
 //! An object of which not all lines came.
 ghost use Rattle.std.specs.Prelude.{◌≡◌, ◌*◌, OnOk};
-ghost use Rattle.m88_link.specs.Drafts.{TakesOrRefuses, bytes_step, define_step, head_step, headed, may_stand, is_whole, more_bytes, only_named, object_with, patch_step, section_with, settled, takes_head};
+ghost use Rattle.m88_link.specs.Inside.Drafts.{TakesOrRefuses, bytes_step, define_step, head_step, headed, may_stand, is_whole, more_bytes, only_named, object_with, patch_step, section_with, settled, takes_head};
 
 use crate::object::{Object, Place, Reloc, Section, Symbol};
 use crate::row::SectionHead;
@@ -20,7 +20,7 @@ struct Filling {
 }
 
 impl Model for Filling {
-    ghost use Rattle.m88_link.specs.Drafts.{Filled};
+    ghost use Rattle.m88_link.specs.Inside.Drafts.{Filled};
 
     ghost Value = { Filled };
 
@@ -44,7 +44,7 @@ pub struct Draft {
 }
 
 impl Model for Draft {
-    ghost use Rattle.m88_link.specs.Drafts.{Begun};
+    ghost use Rattle.m88_link.specs.Inside.Drafts.{Begun};
 
     ghost Value = { Begun };
 
@@ -71,7 +71,7 @@ impl Filling {
     }
 
     /// Takes the digits of one line more: as many bytes as a line has, or those that are missing.
-    #[tactic(auto, unfolding(crate::specs::Drafts::more_bytes))]
+    #[tactic(auto, unfolding(crate::specs::Inside::Drafts::more_bytes))]
     fn more(&mut self, digits: &[u8]) -> Result<bool, AllocError>
         ensures { TakesOrRefuses result self.new (more_bytes digits.now self.old) }
     {
@@ -149,7 +149,7 @@ impl Draft {
     }
 
     /// The head of a section.
-    #[tactic(auto, unfolding(crate::specs::Drafts::head_step))]
+    #[tactic(auto, unfolding(crate::specs::Inside::Drafts::head_step))]
     pub fn head(&mut self, alloc: Global, head: SectionHead) -> Result<bool, AllocError>
         ensures { TakesOrRefuses result self.new (head_step head self.old) }
     {
@@ -161,7 +161,7 @@ impl Draft {
     }
 
     /// The digits of bytes of a section.
-    #[tactic(auto, unfolding(crate::specs::Drafts::bytes_step))]
+    #[tactic(auto, unfolding(crate::specs::Inside::Drafts::bytes_step))]
     pub fn bytes(&mut self, digits: &[u8]) -> Result<bool, AllocError>
         ensures { TakesOrRefuses result self.new (bytes_step digits.now self.old) }
     {
@@ -176,7 +176,7 @@ impl Draft {
     }
 
     /// A symbol.
-    #[tactic(auto, unfolding(crate::specs::Drafts::define_step))]
+    #[tactic(auto, unfolding(crate::specs::Inside::Drafts::define_step))]
     pub fn define(&mut self, symbol: Symbol) -> Result<bool, AllocError>
         ensures { TakesOrRefuses result self.new (define_step symbol self.old) }
     {
@@ -188,7 +188,7 @@ impl Draft {
     }
 
     /// A relocation.
-    #[tactic(auto, unfolding(crate::specs::Drafts::patch_step))]
+    #[tactic(auto, unfolding(crate::specs::Inside::Drafts::patch_step))]
     pub fn patch(&mut self, reloc: Reloc) -> Result<bool, AllocError>
         ensures { TakesOrRefuses result self.new (patch_step reloc self.old) }
     {

@@ -1,6 +1,6 @@
 //! The lines of an object text, one by one.
 ghost use Rattle.std.specs.Prelude.{◌<◌, ◌^◌, length};
-ghost use Rattle.m88_link.specs.Drafts.{GivesObjects, nothing_read, read_from};
+ghost use Rattle.m88_link.specs.Inside.Drafts.{GivesObjects, nothing_read, read_from};
 ghost use Rattle.m88_link.specs.ObjectRead.{ended_lines};
 
 use crate::object::Object;

@@ -4,7 +4,7 @@ ghost use Rattle.std.specs.List.Sorted.{IsNonDecreasingBy};
 ghost use Rattle.m88_link.specs.Bases.{base_at};
 ghost use Rattle.m88_link.specs.Faults.{memory_fault};
 ghost use Rattle.m88_link.specs.Layout.{extent, extents_of};
-ghost use Rattle.m88_link.specs.Overlap.{IsLeastDouble};
+ghost use Rattle.m88_link.specs.Inside.Overlap.{IsLeastDouble};
 ghost use Rattle.m88_link.specs.Refusal.{AreDisjoint, IsOverlap, covers};
 
 use crate::bases::Placement;

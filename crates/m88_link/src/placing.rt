@@ -4,7 +4,7 @@ ghost use Rattle.m88_base.specs.Found.{IsFree, PutsBytes};
 ghost use Rattle.m88_base.specs.Image.{byte_at, byte_count};
 ghost use Rattle.m88_base.specs.Placed.{byte_among, count_among};
 ghost use Rattle.m88_link.specs.Bases.{base_at};
-ghost use Rattle.m88_link.specs.Carried.{AreAlone, HasWord, unpatched, carried, patched_spot};
+ghost use Rattle.m88_link.specs.Inside.Carried.{AreAlone, HasWord, unpatched, carried, patched_spot};
 ghost use Rattle.m88_link.specs.Layout.{spots_of, value_of_name};
 ghost use Rattle.m88_link.specs.Relocated.{target_of};
 ghost use Rattle.m88_base.specs.Image.{most_bytes};

@@ -1,7 +1,7 @@
 //! An object text read line by line: the objects that are whole, and the one whose end hasn't come.
 ghost use Rattle.std.specs.Prelude.{◌≡◌};
 ghost use Rattle.m88_link.specs.declared.row.Row.TheVariants as row;
-ghost use Rattle.m88_link.specs.Drafts.{GivesObjects, TakesOrRefuses, at_rest, begin_step, bytes_step, end_step, line_step, nothing_read, row_step, within};
+ghost use Rattle.m88_link.specs.Inside.Drafts.{GivesObjects, TakesOrRefuses, at_rest, begin_step, bytes_step, end_step, line_step, nothing_read, row_step, within};
 
 use crate::object::{Object, Reloc, Symbol};
 use crate::object_draft::Draft;
@@ -21,7 +21,7 @@ pub struct Progress {
 }
 
 impl Model for Progress {
-    ghost use Rattle.m88_link.specs.Drafts.{Progress as ProgressValue};
+    ghost use Rattle.m88_link.specs.Inside.Drafts.{Progress as ProgressValue};
 
     ghost Value = { ProgressValue };
 
@@ -41,7 +41,7 @@ impl Progress {
     }
 
     /// One line more, without its LF; `false` where no objects' text continues the lines before with it.
-    #[tactic(auto, unfolding(crate::specs::Drafts::line_step))]
+    #[tactic(auto, unfolding(crate::specs::Inside::Drafts::line_step))]
     pub fn line(&mut self, line: &[u8]) -> Result<bool, AllocError>
         ensures { TakesOrRefuses result self.new (line_step self.old line.now) }
     {
@@ -79,7 +79,7 @@ impl Progress {
     }
 
     /// An object begins, where none has begun.
-    #[tactic(auto, unfolding(crate::specs::Drafts::begin_step))]
+    #[tactic(auto, unfolding(crate::specs::Inside::Drafts::begin_step))]
     fn begin(&mut self, name: Name) -> bool
         ensures { TakesOrRefuses (Ok result) self.new (begin_step name self.old) }
     {
@@ -121,7 +121,7 @@ impl Progress {
     }
 
     /// The end of an object, where it is whole.
-    #[tactic(auto, unfolding(crate::specs::Drafts::end_step))]
+    #[tactic(auto, unfolding(crate::specs::Inside::Drafts::end_step))]
     fn end(&mut self) -> Result<bool, AllocError>
         ensures { TakesOrRefuses result self.new (end_step self.old) }
     {

@@ -2,7 +2,7 @@
 ghost use Rattle.std.specs.Prelude.{◌≡◌, ◌<◌, ◌^◌, ◌⊎◌, ℕ, IfErr, IfOk, List, MatchResult, length};
 ghost use Rattle.m88_base.specs.OneVerdict.{HasOneVerdict};
 ghost use Rattle.m88_link.specs.declared.object.Object.{Object as ObjectValue};
-ghost use Rattle.m88_link.specs.Drafts.{AnswersText};
+ghost use Rattle.m88_link.specs.Inside.Drafts.{AnswersText};
 ghost use Rattle.m88_link.specs.ObjectRead.{IsFormLine, IsRangeLine, IsSoundText, IsTextFault, RefusesText};
 ghost use Rattle.m88_link.specs.declared.object_fault.ObjectFault.TheVariants as fault;
 

@@ -6,7 +6,7 @@ ghost use Rattle.m88_link.specs.Faults.{memory_fault};
 ghost use Rattle.m88_link.specs.Layout.{reference, references_of, value_of_name};
 ghost use Rattle.m88_link.specs.Refusal.{too_far, undefined};
 ghost use Rattle.m88_link.specs.Relocated.{target_of};
-ghost use Rattle.m88_link.specs.Resolved.{Checks};
+ghost use Rattle.m88_link.specs.Inside.Resolved.{Checks};
 ghost use Rattle.m88_link.specs.Sound.{IsPatchIn};
 ghost use Rattle.m88_link.specs.Symbols.{first_repeated, symbol_meaning};
 

@@ -1,7 +1,7 @@
 //! Lines of an object text that give no bytes, read.
 ghost use Rattle.std.specs.Prelude.{◌≡◌, ◌*◌, ◌+◌, ◌<◌, IfSome};
-ghost use Rattle.m88_link.specs.Drafts.{TakesOrRefuses};
-ghost use Rattle.m88_link.specs.Rows.{at_of, byte_by_digits, bytes_behind, head_of, hex_value, reloc_in, keyword_of, row_by, row_in, symbol_in};
+ghost use Rattle.m88_link.specs.Inside.Drafts.{TakesOrRefuses};
+ghost use Rattle.m88_link.specs.Inside.Rows.{at_of, byte_by_digits, bytes_behind, head_of, hex_value, reloc_in, keyword_of, row_by, row_in, symbol_in};
 
 use crate::object::{Place, Reloc, Symbol};
 use crate::row::{Keyword, Row, SectionHead};
@@ -13,7 +13,7 @@ use m88_base::split_at_byte;
 use std::alloc::AllocError;
 
 /// A section's length and line.
-#[tactic(auto, unfolding(crate::specs::Rows::head_of))]
+#[tactic(auto, unfolding(crate::specs::Inside::Rows::head_of))]
 fn head_of(place: Place, text: &[u8]) -> Option<SectionHead>
     ensures { result ≡ head_of place text.now }
 {
@@ -23,7 +23,7 @@ fn head_of(place: Place, text: &[u8]) -> Option<SectionHead>
 }
 
 /// A section's address, length and line.
-#[tactic(auto, unfolding(crate::specs::Rows::at_of))]
+#[tactic(auto, unfolding(crate::specs::Inside::Rows::at_of))]
 fn at_of(text: &[u8]) -> Option<SectionHead>
     ensures { result ≡ at_of text.now }
 {
@@ -32,7 +32,7 @@ fn at_of(text: &[u8]) -> Option<SectionHead>
 }
 
 /// A symbol: its name, whether it is global, its section, value, line and column.
-#[tactic(auto, unfolding(crate::specs::Rows::symbol_in))]
+#[tactic(auto, unfolding(crate::specs::Inside::Rows::symbol_in))]
 fn symbol_in(text: &[u8]) -> Option<Symbol>
     ensures { result ≡ symbol_in text.now }
 {
@@ -56,7 +56,7 @@ fn symbol_in(text: &[u8]) -> Option<Symbol>
 }
 
 /// A relocation: its kind, section, offset, symbol, addend, line and column.
-#[tactic(auto, unfolding(crate::specs::Rows::reloc_in))]
+#[tactic(auto, unfolding(crate::specs::Inside::Rows::reloc_in))]
 fn reloc_in(text: &[u8]) -> Option<Reloc>
     ensures { result ≡ reloc_in text.now }
 {
@@ -116,7 +116,7 @@ fn row_by(keyword: Keyword, rest: &[u8]) -> Option<Row>
 }
 
 /// What a line says that gives no bytes.
-#[tactic(auto, unfolding(crate::specs::Rows::row_in))]
+#[tactic(auto, unfolding(crate::specs::Inside::Rows::row_in))]
 pub fn row_of(line: &[u8]) -> Option<Row>
     ensures { result ≡ row_in line.now }
 {
@@ -141,7 +141,7 @@ fn hex_value(digit: u8) -> Option<u8>
 }
 
 /// The byte that two digits write.
-#[tactic(auto, unfolding(crate::specs::Rows::byte_by_digits))]
+#[tactic(auto, unfolding(crate::specs::Inside::Rows::byte_by_digits))]
 fn byte_of(high: u8, low: u8) -> Option<u8>
     ensures { result ≡ byte_by_digits high low }
 {

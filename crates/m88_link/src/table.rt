@@ -17,7 +17,7 @@ pub struct SymbolTable {
 impl Model for SymbolTable {
     ghost use Rattle.std.specs.Prelude.{List, ◌≡◌, map, None};
     ghost use Rattle.m88_link.specs.declared.object.Symbol.{Symbol as Defined};
-    ghost use Rattle.m88_link.specs.Tables.{under_name};
+    ghost use Rattle.m88_link.specs.Inside.Tables.{under_name};
     ghost use Rattle.m88_link.specs.Symbols.{first_repeated};
 
     ghost Value = { List Defined };

@@ -3,7 +3,7 @@ ghost use Rattle.std.specs.Prelude.{◌≡◌, ◌+◌, ◌<◌, ◌^◌, ◌↔
 ghost use Rattle.m88_link.specs.ObjectRead.{AreSoundSymbols};
 ghost use Rattle.m88_link.specs.Sound.{HasRoom, IsDefinedIn, IsGlobalIfStart};
 ghost use Rattle.m88_link.specs.Symbols.{symbol_of};
-ghost use Rattle.m88_link.specs.Walked.{ArePatches, AreSoundParts, HaveRoom, IsFoundObject, IsFoundPart, IsFoundReloc, IsFoundSection, IsFoundSymbol, Walks, object_count, objects_count, section_count, sections_count};
+ghost use Rattle.m88_link.specs.Inside.Walked.{ArePatches, AreSoundParts, HaveRoom, IsFoundObject, IsFoundPart, IsFoundReloc, IsFoundSection, IsFoundSymbol, Walks, object_count, objects_count, section_count, sections_count};
 
 use crate::object::{Object, Reloc, Section, Symbol};
 use crate::sound::{has_room, is_defined_in, is_global_if_start, is_patch_in};

@@ -1,6 +1,6 @@
 //! Words of a line of an object text, each read up to its blank.
 ghost use Rattle.std.specs.Prelude.{◌≡◌, None, Some, MatchOption};
-ghost use Rattle.m88_link.specs.Rows.{hex8_word, field_kind_of, kind_word_of, name_of, name_word, decimal_value, number_word, scope_of, scope_word, symbol_section_of, section_word_of};
+ghost use Rattle.m88_link.specs.Inside.Rows.{hex8_word, field_kind_of, kind_word_of, name_of, name_word, decimal_value, number_word, scope_of, scope_word, symbol_section_of, section_word_of};
 
 use m88_base::{Kind, Name, decimal_in, hex8_of, split_at_byte};
 
@@ -54,7 +54,7 @@ fn kind_of(text: &[u8]) -> Option<Kind>
 }
 
 /// A name and what stands behind its blank.
-#[tactic(auto, unfolding(crate::specs::Rows::name_word))]
+#[tactic(auto, unfolding(crate::specs::Inside::Rows::name_word))]
 pub fn name_word(text: &[u8]) -> Option<(Name, &[u8])>
     ensures { MatchOption result (name_word text.now ≡ None)
         (λ p. name_word text.now ≡ Some (p.0, p.1.now)) }
@@ -64,7 +64,7 @@ pub fn name_word(text: &[u8]) -> Option<(Name, &[u8])>
 }
 
 /// A number of eight digits and what stands behind its blank.
-#[tactic(auto, unfolding(crate::specs::Rows::hex8_word))]
+#[tactic(auto, unfolding(crate::specs::Inside::Rows::hex8_word))]
 pub fn hex8_word(text: &[u8]) -> Option<(u32, &[u8])>
     ensures { MatchOption result (hex8_word text.now ≡ None)
         (λ p. hex8_word text.now ≡ Some (p.0, p.1.now)) }
@@ -74,7 +74,7 @@ pub fn hex8_word(text: &[u8]) -> Option<(u32, &[u8])>
 }
 
 /// A decimal number and what stands behind its blank.
-#[tactic(auto, unfolding(crate::specs::Rows::number_word))]
+#[tactic(auto, unfolding(crate::specs::Inside::Rows::number_word))]
 pub fn number_word(text: &[u8]) -> Option<(u32, &[u8])>
     ensures { MatchOption result (number_word text.now ≡ None)
         (λ p. number_word text.now ≡ Some (p.0, p.1.now)) }
@@ -84,7 +84,7 @@ pub fn number_word(text: &[u8]) -> Option<(u32, &[u8])>
 }
 
 /// Whether a symbol is global, and what stands behind the word's blank.
-#[tactic(auto, unfolding(crate::specs::Rows::scope_word))]
+#[tactic(auto, unfolding(crate::specs::Inside::Rows::scope_word))]
 pub fn scope_word(text: &[u8]) -> Option<(bool, &[u8])>
     ensures { MatchOption result (scope_word text.now ≡ None)
         (λ p. scope_word text.now ≡ Some (p.0, p.1.now)) }
@@ -94,7 +94,7 @@ pub fn scope_word(text: &[u8]) -> Option<(bool, &[u8])>
 }
 
 /// The section of a symbol and what stands behind the word's blank.
-#[tactic(auto, unfolding(crate::specs::Rows::section_word_of))]
+#[tactic(auto, unfolding(crate::specs::Inside::Rows::section_word_of))]
 pub fn section_word_of(text: &[u8]) -> Option<(Option<u32>, &[u8])>
     ensures { MatchOption result (section_word_of text.now ≡ None)
         (λ p. section_word_of text.now ≡ Some (p.0, p.1.now)) }
@@ -104,7 +104,7 @@ pub fn section_word_of(text: &[u8]) -> Option<(Option<u32>, &[u8])>
 }
 
 /// The kind of a field and what stands behind the word's blank.
-#[tactic(auto, unfolding(crate::specs::Rows::kind_word_of))]
+#[tactic(auto, unfolding(crate::specs::Inside::Rows::kind_word_of))]
 pub fn kind_word_of(text: &[u8]) -> Option<(Kind, &[u8])>
     ensures { MatchOption result (kind_word_of text.now ≡ None)
         (λ p. kind_word_of text.now ≡ Some (p.0, p.1.now)) }

@@ -19,7 +19,7 @@ use Rattle.m88_asm.specs.Counters.{Counters, Located, after, at_begin, length_of
 use Rattle.m88_asm.specs.Units.{Based, address_in, based, based_from, section_length}
 use Rattle.m88_listing.specs.Columns.{bare_line}
 use Rattle.m88_listing.specs.Rows.{Row, is_counted, lines_with, row_on, row_lines}
-use Rattle.m88_listing.specs.Slots.{kept_row, slots_from, slots_of, walked}
+use Rattle.m88_listing.specs.Inside.Slots.{kept_row, slots_from, slots_of, walked}
 use Rattle.m88_listing.specs.declared.slots.Slot.{Slot}
 
 -- numbers climb from one on, and stay below another

@@ -28,7 +28,7 @@ use Rattle.m88_asm.proofs.Reaching.{each_fills}
 use Rattle.m88_asm.proofs.Relocating.{AllFormed, length-filled_bytes}
 use Rattle.m88_asm.proofs.Sounding.{first_parts, option_or-none}
 use Rattle.m88_listing.specs.Rows.{Row, has_bytes, is_counted, row_of, rows_in, rows_of_unit}
-use Rattle.m88_listing.specs.Slots.{AllFit, StandsWithin, IsSlot, ModuleFits, found_bytes, kept_row, slots_at, slots_from, slots_of}
+use Rattle.m88_listing.specs.Inside.Slots.{AllFit, StandsWithin, IsSlot, ModuleFits, found_bytes, kept_row, slots_at, slots_from, slots_of}
 use Rattle.m88_listing.specs.declared.slots.Slot.{Slot}
 
 -- the bytes of a statement are found at their addresses

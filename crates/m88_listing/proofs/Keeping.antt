@@ -5,7 +5,7 @@ use Rattle.std.proofs.lemmas.Bool.{cond-true, cond-false, eq-eqb, ne_eqb}
 use Rattle.m88_asm.specs.Counters.{Located, length_of}
 use Rattle.m88_asm.specs.Units.{Based, address_in}
 use Rattle.m88_listing.specs.Rows.{is_counted}
-use Rattle.m88_listing.specs.Slots.{slots_at}
+use Rattle.m88_listing.specs.Inside.Slots.{slots_at}
 use Rattle.m88_listing.specs.declared.slots.Slot.{Slot}
 
 same_slot : (line at other n m : ℕ) (counted kind : Bool) → at ≡ other → n ≡ m → counted ≡ kind

@@ -16,7 +16,7 @@ use Rattle.m88_asm.specs.Units.{Based, based, unit_layout}
 use Rattle.m88_asm.proofs.Imaging.{Has, has_left, has_right}
 use Rattle.m88_listing.specs.Laws.{EachShowsItsImage, Shows, shown_runs}
 use Rattle.m88_listing.specs.Rows.{Row, has_bytes, row_of, rows_in, rows_of_unit}
-use Rattle.m88_listing.specs.Slots.{kept_row, slots_of}
+use Rattle.m88_listing.specs.Inside.Slots.{kept_row, slots_of}
 use Rattle.m88_listing.proofs.Climbing.{shown_all, unit_climbs}
 use Rattle.m88_listing.proofs.Fitting.{found_in, unit_kept}
 

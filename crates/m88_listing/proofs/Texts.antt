@@ -11,7 +11,7 @@ use Rattle.m88_base.specs.Placed.{Placed}
 use Rattle.m88_listing.specs.Columns.{at_left, bare_line, blanks, columns, further_columns}
 use Rattle.m88_listing.specs.Refused.{below, mark_line}
 use Rattle.m88_listing.specs.Rows.{digits, further_line, row_lines}
-use Rattle.m88_listing.specs.Slots.{found_bytes, kept_row, walked}
+use Rattle.m88_listing.specs.Inside.Slots.{found_bytes, kept_row, walked}
 use Rattle.m88_listing.specs.declared.slots.Slot.{Slot}
 
 -- the text of lines behind lines

@@ -16,7 +16,7 @@ use Rattle.m88_parse.specs.declared.fault.ParseFault.{ParseFault}
 use Rattle.m88_parse.specs.declared.unit.Unit.{Unit as Source}
 use Rattle.m88_link.proofs.Extents.{too_large_is}
 use Rattle.m88_link.specs.Refusal.{is_too_large}
-use Rattle.m88_link.specs.Sizes.{total_size}
+use Rattle.m88_link.specs.Inside.Sizes.{total_size}
 use Rattle.m88_asm.proofs.Composing.{extents_law}
 use Rattle.m88_asm.proofs.UnitSound.{modules_sound}
 use Rattle.m88_asm.specs.Accepted.{IsAcceptedUnit, IsOutOfMemory, IsUnitFault}
@@ -29,9 +29,9 @@ use Rattle.m88_listing.specs.Calls.{GivesAll, IsWhole}
 use Rattle.m88_listing.specs.Entries.{numbers_of}
 use Rattle.m88_listing.specs.Listing.{entry_lines, listing_lines}
 use Rattle.m88_listing.specs.Refused.{IsRefusedAt, Refusal, bare_text, line_at, mark_line, parse_refusal, refused_text, unit_refusal, unlinked, unread}
-use Rattle.m88_listing.specs.Replies.{Replies}
+use Rattle.m88_listing.specs.Inside.Replies.{Replies}
 use Rattle.m88_listing.specs.Rows.{numbered_lines, rows_of_unit, source_lines}
-use Rattle.m88_listing.specs.Slots.{slots_of, walked}
+use Rattle.m88_listing.specs.Inside.Slots.{slots_of, walked}
 use Rattle.m88_listing.specs.declared.entries.Entry.{Entry}
 use Rattle.m88_listing.specs.declared.listing.Reply.{Reply}
 use Rattle.m88_listing.specs.declared.slots.Slot.{Slot}

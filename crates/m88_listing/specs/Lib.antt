@@ -8,7 +8,4 @@ pub mod Status
 pub mod Answer
 pub mod Calls
 pub mod Laws
--- Words for the contracts of private functions.
-pub mod Parts
-pub mod Replies
-pub mod Slots
+pub mod Inside

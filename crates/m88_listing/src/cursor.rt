@@ -2,7 +2,7 @@
 ghost use Rattle.std.specs.Prelude.{◌≡◌, ◌+◌, ◌≤◌, IfOk, OnOk};
 ghost use Rattle.m88_base.specs.Image.{most_bytes};
 ghost use Rattle.m88_asm.specs.Counters.{at_begin, at_section, offset_here, place_here, with_length};
-ghost use Rattle.m88_listing.specs.Slots.{counters_in};
+ghost use Rattle.m88_listing.specs.Inside.Slots.{counters_in};
 
 use m88_parse::Body;
 use std::alloc::{AllocError, Global};
@@ -24,7 +24,7 @@ pub(crate) struct Cursor {
 
 impl Model for Cursor {
     ghost use Rattle.std.specs.Prelude.{◌≤◌, ◌<◌, length};
-    ghost use Rattle.m88_listing.specs.Parts.{Parts};
+    ghost use Rattle.m88_listing.specs.Inside.Parts.{Parts};
 
     ghost Value = { Parts };
 

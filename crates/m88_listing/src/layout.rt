@@ -4,7 +4,7 @@ ghost use Rattle.std.specs.List.{All};
 ghost use Rattle.m88_parse.specs.WellFormed.{IsAlignment, IsFormedBody};
 ghost use Rattle.m88_asm.specs.Counters.{after, at_begin, length_at, padding};
 ghost use Rattle.m88_listing.specs.Rows.{is_counted};
-ghost use Rattle.m88_listing.specs.Slots.{StandsWithin, ModuleFits, counters_in, slots_at, slots_from, slots_of};
+ghost use Rattle.m88_listing.specs.Inside.Slots.{StandsWithin, ModuleFits, counters_in, slots_at, slots_from, slots_of};
 
 use crate::cursor::Cursor;
 use crate::slots::Slot;

@@ -11,7 +11,7 @@ ghost use Rattle.m88_asm.specs.declared.fault.UnitFault.TheVariants as unit_kind
 ghost use Rattle.m88_listing.specs.Calls.{most_source};
 ghost use Rattle.m88_listing.specs.Listing.{IsListing};
 ghost use Rattle.m88_listing.specs.Refused.{parse_refusal, refused_text, unit_refusal};
-ghost use Rattle.m88_listing.specs.Replies.{Replies};
+ghost use Rattle.m88_listing.specs.Inside.Replies.{Replies};
 
 use crate::entries::{labels, numbers, push_entries};
 use crate::layout::slots;

@@ -9,7 +9,7 @@ ghost use Rattle.m88_listing.specs.Calls.{GivesAll, HasSource, IsListed, IsWhole
 ghost use Rattle.m88_listing.specs.Laws.{EachLineStandsOnce, EachShowsItsImage};
 ghost use Rattle.m88_listing.specs.Listing.{IsProgramSource};
 ghost use Rattle.m88_listing.specs.Refused.{IsRefusedAt, Refusal, refused_text};
-ghost use Rattle.m88_listing.specs.Replies.{Replies};
+ghost use Rattle.m88_listing.specs.Inside.Replies.{Replies};
 ghost use Rattle.m88_listing.specs.Status.{Answers, IsAnswered, IsOfReading, WritesNothing};
 
 use crate::listing::{Reply, reply_to};

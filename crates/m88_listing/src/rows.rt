@@ -5,7 +5,7 @@ ghost use Rattle.m88_base.specs.Image.{byte_at};
 ghost use Rattle.m88_base.specs.Lines.{lines_of, text_of_lines};
 ghost use Rattle.m88_base.specs.Placed.{Placed};
 ghost use Rattle.m88_listing.specs.Rows.{further_line, row_lines};
-ghost use Rattle.m88_listing.specs.Slots.{IsSlot, found_bytes, kept_row, walked};
+ghost use Rattle.m88_listing.specs.Inside.Slots.{IsSlot, found_bytes, kept_row, walked};
 
 use crate::columns::{MOST_SHOWN, push_bare, push_counted, push_further, push_shown};
 use crate::slots::Slot;

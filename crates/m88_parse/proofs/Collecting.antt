@@ -2,10 +2,10 @@
 use Rattle.std.proofs.Common.{◌≡◌, ℕ, zero, suc, ◌<◌, ◌⊎◌, inl, inr, Bool, true, false, cond, List, [], ◌∷◌, ◌++◌, length, drop, Ok, Err, refl, sym, ap, ◌∙◌, append_assoc, arith, length-drop}
 use Rattle.m88_parse.specs.declared.fault.ParseFault.{ParseFault}
 use Rattle.m88_parse.specs.Fault.{out_of_memory}
-use Rattle.m88_parse.specs.Reader.State.{ReaderState, is_next_mark, past, ◌>>=◌}
-use Rattle.m88_parse.specs.Reader.Slots.{Read}
+use Rattle.m88_parse.specs.Inside.State.{ReaderState, is_next_mark, past, ◌>>=◌}
+use Rattle.m88_parse.specs.Inside.Slots.{Read}
 use Rattle.m88_parse.specs.Language.Bytes.{comma_mark}
-use Rattle.m88_parse.specs.Reader.Grammar.{many}
+use Rattle.m88_parse.specs.Inside.Grammar.{many}
 
 -- what was collected before, and what is still read
 abbrev pub with_items : {A : Type 0} → List A → Read (List A) → Read (List A)

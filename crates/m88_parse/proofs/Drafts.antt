@@ -9,10 +9,10 @@ use Rattle.m88_parse.specs.declared.unit.Unit.{Unit as Source}
 use Rattle.m88_parse.specs.declared.row.Row.{Row}
 use Rattle.m88_parse.specs.declared.row.Row.TheVariants as row
 use Rattle.m88_parse.specs.Fault.{out_of_memory}
-use Rattle.m88_parse.specs.Reader.State.{◌>>=◌}
+use Rattle.m88_parse.specs.Inside.State.{◌>>=◌}
 use Rattle.m88_base.specs.Lines.{lines_of}
-use Rattle.m88_parse.specs.Reader.Source.{grouped, row_of_line, rows_of, with_row, unit_of_rows, unit_of}
-use Rattle.m88_parse.specs.Reader.Drafts.{Drafted, nothing_yet, with_more, modules_with, modules_after, begun, leads, Follows, LeadsOn, EndsWith}
+use Rattle.m88_parse.specs.Inside.Source.{grouped, row_of_line, rows_of, with_row, unit_of_rows, unit_of}
+use Rattle.m88_parse.specs.Inside.Drafts.{Drafted, nothing_yet, with_more, modules_with, modules_after, begun, leads, Follows, LeadsOn, EndsWith}
 
 more_first : (closed : List Module) (m : Module) (x : Statement) (g : List Statement) (ms : List Module)
     → closed ++ with_more (with_more m (x ∷ [])) g ∷ ms ≡ closed ++ with_more m (x ∷ g) ∷ ms

@@ -2,7 +2,7 @@
 use Rattle.std.proofs.Common.{◌≡◌, ℕ, true, List, refl}
 use Rattle.std.specs.Prelude.{IsSome, IfSome, SomeIff, Option, Some, None, ◌↔◌}
 use Rattle.m88_base.specs.Name.{IsName}
-use Rattle.m88_parse.specs.Reader.Names.{is_valid_name}
+use Rattle.m88_parse.specs.Inside.Names.{is_valid_name}
 use Rattle.m88_parse.proofs.Law.Names.{name_is, name_spelled_again}
 
 pub some_iff : (found : Option (List ℕ)) (text : List ℕ) → (IsSome found ↔ IsName text) → IfSome found (λ n. n ≡ text) → SomeIff found (is_valid_name text ≡ true) text

@@ -3,11 +3,11 @@ use Rattle.std.proofs.Common.{◌≡◌, ℕ, zero, suc, ◌-◌, ◌+◌, ◌�
 use Rattle.std.proofs.lemmas.List.{append-nil, drop-drop, map_push, take_more}
 use Rattle.m88_parse.specs.declared.token.Lexeme.{Lexeme}
 use Rattle.m88_parse.specs.declared.token.Token.{Token}
-use Rattle.m88_parse.specs.Reader.Places.{IsLexemeOf}
+use Rattle.m88_parse.specs.Inside.Places.{IsLexemeOf}
 use Rattle.m88_parse.specs.Language.Pieces.{IsSlice, IsTokenOf, PlainToken, plain_token, token_of, TokenValue, Piece}
 use Rattle.m88_parse.specs.declared.fault.ParseFault.{ParseFault}
 use Rattle.m88_parse.specs.declared.scan.Flaw.{Flaw}
-use Rattle.m88_parse.specs.Reader.Tokens.{piece_of, Cut, front, pieces, pieces_of, prepend, fault_at, tokens_from, tokens_of}
+use Rattle.m88_parse.specs.Inside.Tokens.{piece_of, Cut, front, pieces, pieces_of, prepend, fault_at, tokens_from, tokens_of}
 
 -- what was cut off before, and what is still cut
 abbrev pub with_front : List Piece → Result (List Piece) ParseFault → Result (List Piece) ParseFault

@@ -1,6 +1,6 @@
--- What contracts cite: the language, what a call answers, what the assembler may rely on; Reader is for private
+-- What contracts cite: the language, what a call answers, what the assembler may rely on; Inside is for private
 -- contracts.
 pub mod Language
 pub mod Fault
 pub mod WellFormed
-pub mod Reader
+pub mod Inside

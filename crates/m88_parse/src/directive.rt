@@ -1,6 +1,6 @@
 //! The directives beside `.module`, by name.
 ghost use Rattle.std.specs.Prelude.{◌≡◌};
-ghost use Rattle.m88_parse.specs.Reader.Directives.{all_directives, directive_text, directive_of};
+ghost use Rattle.m88_parse.specs.Inside.Directives.{all_directives, directive_text, directive_of};
 
 /// A directive beside `.module`.
 #[derive(Clone, Copy)]
@@ -34,7 +34,7 @@ const DIRECTIVES: [Directive; 11] = [
 ];
 
 /// The name of a directive.
-#[tactic(auto, unfolding(crate::specs::Reader::Directives::directive_text))]
+#[tactic(auto, unfolding(crate::specs::Inside::Directives::directive_text))]
 fn text_of(directive: Directive) -> &'static str
     ensures { result.now ≡ directive_text directive }
 {
@@ -54,7 +54,7 @@ fn text_of(directive: Directive) -> &'static str
 }
 
 /// The directive of a name, if there is one.
-#[tactic(auto, unfolding(crate::specs::Reader::Directives::all_directives))]
+#[tactic(auto, unfolding(crate::specs::Inside::Directives::all_directives))]
 pub(crate) fn directive_of(name: &[u8]) -> Option<Directive>
     ensures { result ≡ directive_of name.now }
 {

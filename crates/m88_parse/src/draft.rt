@@ -3,8 +3,8 @@ ghost use Rattle.std.specs.Prelude.{◌≡◌, ◌∷◌, Some, [], IfOk, IfErr,
 ghost use lib.Chars.{codes};
 ghost use Rattle.m88_parse.specs.Fault.{out_of_memory};
 ghost use Rattle.m88_parse.specs.declared.row.Row.TheVariants as row;
-ghost use Rattle.m88_parse.specs.Reader.Source.{main_with};
-ghost use Rattle.m88_parse.specs.Reader.Drafts.{nothing_yet, with_more, begun, modules_after, Follows};
+ghost use Rattle.m88_parse.specs.Inside.Source.{main_with};
+ghost use Rattle.m88_parse.specs.Inside.Drafts.{nothing_yet, with_more, begun, modules_after, Follows};
 
 use crate::fault::ParseFault;
 use crate::names::name_of;
@@ -39,7 +39,7 @@ pub(crate) struct Draft {
 }
 
 impl Model for Draft {
-    ghost use Rattle.m88_parse.specs.Reader.Drafts.{Drafted};
+    ghost use Rattle.m88_parse.specs.Inside.Drafts.{Drafted};
 
     ghost Value = { Drafted };
 
@@ -47,7 +47,7 @@ impl Model for Draft {
 }
 
 /// The name of the module of statements that stand before the first `.module`.
-#[tactic(auto, unfolding(crate::specs::Reader::Names::is_valid_name))]
+#[tactic(auto, unfolding(crate::specs::Inside::Names::is_valid_name))]
 fn main_name() -> Name
     ensures { result ≡ codes "main" }
 {

@@ -1,7 +1,7 @@
 //! The operands of an instruction, by the form of its mnemonic.
 ghost use Rattle.std.specs.Prelude.{◌≡◌, ◌≤◌};
 ghost use Rattle.m88_parse.specs.Fault.{Gives};
-ghost use Rattle.m88_parse.specs.Reader.Grammar.{read, either_form, immediate_form, registers_form, memory_form, user_memory_form, address_form, bits_form, find_bit_form, branch_form, branch_bit_form, branch_cond_form, jump_form, trap_bit_form, trap_cond_form, bounds_form, ldcr_form, stcr_form, xcr_form, form_of};
+ghost use Rattle.m88_parse.specs.Inside.Grammar.{read, either_form, immediate_form, registers_form, memory_form, user_memory_form, address_form, bits_form, find_bit_form, branch_form, branch_bit_form, branch_cond_form, jump_form, trap_bit_form, trap_cond_form, bounds_form, ldcr_form, stcr_form, xcr_form, form_of};
 ghost use Rattle.m88_parse.specs.Language.Operands.{most_width};
 
 use crate::fault::ParseFault;
@@ -34,7 +34,7 @@ fn most_width(op: BitOp) -> u32
 
 impl<'a> Parser<'a> {
     /// rD,rS1 and an immediate or a register.
-    #[tactic(auto, unfolding(crate::specs::Reader::Grammar::read))]
+    #[tactic(auto, unfolding(crate::specs::Inside::Grammar::read))]
     fn either(&mut self, imm: ImmOp, reg: RegOp) -> Result<Body, ParseFault>
         ensures { Gives (λ b. b) result (read (either_form imm reg) self.old) }
     {
@@ -55,7 +55,7 @@ impl<'a> Parser<'a> {
     }
 
     /// rD,rS1 and an immediate.
-    #[tactic(auto, unfolding(crate::specs::Reader::Grammar::read))]
+    #[tactic(auto, unfolding(crate::specs::Inside::Grammar::read))]
     fn immediate_form(&mut self, op: ImmOp) -> Result<Body, ParseFault>
         ensures { Gives (λ b. b) result (read (immediate_form op) self.old) }
     {
@@ -73,7 +73,7 @@ impl<'a> Parser<'a> {
     }
 
     /// rD,rS1,rS2
-    #[tactic(auto, unfolding(crate::specs::Reader::Grammar::read))]
+    #[tactic(auto, unfolding(crate::specs::Inside::Grammar::read))]
     fn registers(&mut self, op: RegOp) -> Result<Body, ParseFault>
         ensures { Gives (λ b. b) result (read (registers_form op) self.old) }
     {
@@ -83,7 +83,7 @@ impl<'a> Parser<'a> {
     }
 
     /// rD,rS1 and an immediate, a register, or a scaled register.
-    #[tactic(auto, unfolding(crate::specs::Reader::Grammar::read))]
+    #[tactic(auto, unfolding(crate::specs::Inside::Grammar::read))]
     fn memory(&mut self, op: MemOp) -> Result<Body, ParseFault>
         ensures { Gives (λ b. b) result (read (memory_form op) self.old) }
     {
@@ -125,7 +125,7 @@ impl<'a> Parser<'a> {
     }
 
     /// rD,rS1 and a register or a scaled register, in the user's address space.
-    #[tactic(auto, unfolding(crate::specs::Reader::Grammar::read))]
+    #[tactic(auto, unfolding(crate::specs::Inside::Grammar::read))]
     fn user_memory(&mut self, op: MemOp) -> Result<Body, ParseFault>
         ensures { Gives (λ b. b) result (read (user_memory_form op) self.old) }
     {
@@ -145,7 +145,7 @@ impl<'a> Parser<'a> {
     }
 
     /// rD,rS1[rS2]
-    #[tactic(auto, unfolding(crate::specs::Reader::Grammar::read))]
+    #[tactic(auto, unfolding(crate::specs::Inside::Grammar::read))]
     fn address(&mut self, size: LdaSize) -> Result<Body, ParseFault>
         ensures { Gives (λ b. b) result (read (address_form size) self.old) }
     {
@@ -155,7 +155,7 @@ impl<'a> Parser<'a> {
     }
 
     /// rD,rS1 and a width and an offset, or a register.
-    #[tactic(auto, unfolding(crate::specs::Reader::Grammar::read))]
+    #[tactic(auto, unfolding(crate::specs::Inside::Grammar::read))]
     fn bits(&mut self, op: BitOp) -> Result<Body, ParseFault>
         ensures { Gives (λ b. b) result (read (bits_form op) self.old) }
     {
@@ -174,7 +174,7 @@ impl<'a> Parser<'a> {
     }
 
     /// rD,rS2
-    #[tactic(auto, unfolding(crate::specs::Reader::Grammar::read))]
+    #[tactic(auto, unfolding(crate::specs::Inside::Grammar::read))]
     fn find_bit(&mut self, ones: bool) -> Result<Body, ParseFault>
         ensures { Gives (λ b. b) result (read (find_bit_form ones) self.old) }
     {
@@ -183,7 +183,7 @@ impl<'a> Parser<'a> {
     }
 
     /// A target.
-    #[tactic(auto, unfolding(crate::specs::Reader::Grammar::read))]
+    #[tactic(auto, unfolding(crate::specs::Inside::Grammar::read))]
     fn branch(&mut self, link: bool, delayed: bool) -> Result<Body, ParseFault>
         ensures { Gives (λ b. b) result (read (branch_form link delayed) self.old) }
     {
@@ -199,7 +199,7 @@ impl<'a> Parser<'a> {
     }
 
     /// A bit, rS1 and a target.
-    #[tactic(auto, unfolding(crate::specs::Reader::Grammar::read))]
+    #[tactic(auto, unfolding(crate::specs::Inside::Grammar::read))]
     fn branch_bit(&mut self, set: bool, delayed: bool) -> Result<Body, ParseFault>
         ensures { Gives (λ b. b) result (read (branch_bit_form set delayed) self.old) }
     {
@@ -220,7 +220,7 @@ impl<'a> Parser<'a> {
     }
 
     /// A condition, rS1 and a target.
-    #[tactic(auto, unfolding(crate::specs::Reader::Grammar::read))]
+    #[tactic(auto, unfolding(crate::specs::Inside::Grammar::read))]
     fn branch_cond(&mut self, delayed: bool) -> Result<Body, ParseFault>
         ensures { Gives (λ b. b) result (read (branch_cond_form delayed) self.old) }
     {
@@ -240,7 +240,7 @@ impl<'a> Parser<'a> {
     }
 
     /// rS2
-    #[tactic(auto, unfolding(crate::specs::Reader::Grammar::read))]
+    #[tactic(auto, unfolding(crate::specs::Inside::Grammar::read))]
     fn jump(&mut self, link: bool, delayed: bool) -> Result<Body, ParseFault>
         ensures { Gives (λ b. b) result (read (jump_form link delayed) self.old) }
     {
@@ -249,7 +249,7 @@ impl<'a> Parser<'a> {
     }
 
     /// A bit, rS1 and a vector.
-    #[tactic(auto, unfolding(crate::specs::Reader::Grammar::read))]
+    #[tactic(auto, unfolding(crate::specs::Inside::Grammar::read))]
     fn trap_bit(&mut self, set: bool) -> Result<Body, ParseFault>
         ensures { Gives (λ b. b) result (read (trap_bit_form set) self.old) }
     {
@@ -269,7 +269,7 @@ impl<'a> Parser<'a> {
     }
 
     /// A condition, rS1 and a vector.
-    #[tactic(auto, unfolding(crate::specs::Reader::Grammar::read))]
+    #[tactic(auto, unfolding(crate::specs::Inside::Grammar::read))]
     fn trap_cond(&mut self) -> Result<Body, ParseFault>
         ensures { Gives (λ b. b) result (read trap_cond_form self.old) }
     {
@@ -281,7 +281,7 @@ impl<'a> Parser<'a> {
     }
 
     /// rS1 and a number or a register.
-    #[tactic(auto, unfolding(crate::specs::Reader::Grammar::read))]
+    #[tactic(auto, unfolding(crate::specs::Inside::Grammar::read))]
     fn bounds(&mut self) -> Result<Body, ParseFault>
         ensures { Gives (λ b. b) result (read bounds_form self.old) }
     {
@@ -294,7 +294,7 @@ impl<'a> Parser<'a> {
     }
 
     /// rD and a control register.
-    #[tactic(auto, unfolding(crate::specs::Reader::Grammar::read))]
+    #[tactic(auto, unfolding(crate::specs::Inside::Grammar::read))]
     fn ldcr(&mut self, float: bool) -> Result<Body, ParseFault>
         ensures { Gives (λ b. b) result (read (ldcr_form float) self.old) }
     {
@@ -304,7 +304,7 @@ impl<'a> Parser<'a> {
     }
 
     /// rS1 and a control register.
-    #[tactic(auto, unfolding(crate::specs::Reader::Grammar::read))]
+    #[tactic(auto, unfolding(crate::specs::Inside::Grammar::read))]
     fn stcr(&mut self, float: bool) -> Result<Body, ParseFault>
         ensures { Gives (λ b. b) result (read (stcr_form float) self.old) }
     {
@@ -314,7 +314,7 @@ impl<'a> Parser<'a> {
     }
 
     /// rD,rS1 and a control register.
-    #[tactic(auto, unfolding(crate::specs::Reader::Grammar::read))]
+    #[tactic(auto, unfolding(crate::specs::Inside::Grammar::read))]
     fn xcr(&mut self, float: bool) -> Result<Body, ParseFault>
         ensures { Gives (λ b. b) result (read (xcr_form float) self.old) }
     {
@@ -324,7 +324,7 @@ impl<'a> Parser<'a> {
     }
 
     /// The operands of an instruction, to the end of the line.
-    #[tactic(auto, unfolding(crate::specs::Reader::Grammar::form_of))]
+    #[tactic(auto, unfolding(crate::specs::Inside::Grammar::form_of))]
     pub fn instruction(&mut self, shape: Shape) -> Result<Body, ParseFault>
         ensures { Gives (λ b. b) result (read (form_of shape) self.old) }
     {

@@ -3,11 +3,11 @@ ghost use Rattle.std.specs.Prelude.{◌≡◌, ◌<◌, ◌^◌, ◌⊎◌, List
 ghost use Rattle.std.specs.List.{All};
 ghost use Rattle.m88_parse.specs.declared.fault.ParseFault.{ParseFault as FaultValue};
 ghost use Rattle.m88_parse.specs.Fault.{Gives, out_of_memory, IsCutKind};
-ghost use Rattle.m88_parse.specs.Reader.Places.{IsNear, IsLexemeOf};
+ghost use Rattle.m88_parse.specs.Inside.Places.{IsNear, IsLexemeOf};
 ghost use Rattle.m88_parse.specs.Language.Pieces.{IsTokenOf, Piece, PlainToken, plain_token, token_of};
 ghost use Rattle.m88_parse.specs.Language.FirstFaults.{IsTokenFault};
 ghost use Rattle.m88_parse.specs.Language.Tokens.{LineTokens, AreTokensOf};
-ghost use Rattle.m88_parse.specs.Reader.Tokens.{piece_of, pieces_of, tokens_of};
+ghost use Rattle.m88_parse.specs.Inside.Tokens.{piece_of, pieces_of, tokens_of};
 
 use crate::fault::ParseFault;
 use crate::scan::front;

@@ -2,10 +2,10 @@
 ghost use Rattle.std.specs.Prelude.{◌≡◌, ◌<◌, false, length, OnOk, MatchResult, if◌then◌else◌};
 ghost use Rattle.m88_parse.specs.Fault.{Gives, out_of_memory};
 ghost use Rattle.m88_parse.specs.Language.Bytes.{comma_mark};
-ghost use Rattle.m88_parse.specs.Reader.Grammar.{list_at, word_item_at, a_half, a_byte, part_item_at};
-ghost use Rattle.m88_parse.specs.Reader.Slots.{text_at};
-ghost use Rattle.m88_parse.specs.Reader.State.{is_next_mark, past};
-ghost use Rattle.m88_parse.specs.Reader.Tokens.{text_bytes};
+ghost use Rattle.m88_parse.specs.Inside.Grammar.{list_at, word_item_at, a_half, a_byte, part_item_at};
+ghost use Rattle.m88_parse.specs.Inside.Slots.{text_at};
+ghost use Rattle.m88_parse.specs.Inside.State.{is_next_mark, past};
+ghost use Rattle.m88_parse.specs.Inside.Tokens.{text_bytes};
 
 use crate::fault::{ParseFault, ParseKind};
 use crate::parser::Parser;
@@ -34,7 +34,7 @@ fn text_bytes(alloc: Global, inside: &[u8]) -> Result<Vec<u8>, ParseFault>
 
 impl<'a> Parser<'a> {
     /// The bytes of a text.
-    #[tactic(auto, unfolding(crate::specs::Reader::Slots::text_at))]
+    #[tactic(auto, unfolding(crate::specs::Inside::Slots::text_at))]
     pub fn text(&mut self, alloc: Global) -> Result<Vec<u8>, ParseFault>
         ensures { Gives (λ v. (v.items, self.new)) result (text_at self.old) }
     {

@@ -1,12 +1,12 @@
 //! Names with a meaning of their own: registers, bits, conditions, halves, symbols.
 ghost use Rattle.std.specs.Prelude.{◌≡◌, ◌<◌, IfSome, SomeIff, true};
-ghost use Rattle.m88_parse.specs.Reader.Names.{register_of, control_of, float_control_of, control_in, is_here, is_module, is_valid_name, is_symbol};
+ghost use Rattle.m88_parse.specs.Inside.Names.{register_of, control_of, float_control_of, control_in, is_here, is_module, is_valid_name, is_symbol};
 ghost use Rattle.m88_parse.specs.Language.Words.{bit_named, condition_named, half_named};
 
 use m88_base::{Kind, Name, decimal_in};
 
 /// The number of a general register.
-#[tactic(auto, unfolding(crate::specs::Reader::Names::register_of))]
+#[tactic(auto, unfolding(crate::specs::Inside::Names::register_of))]
 pub(crate) fn register_of(name: &[u8]) -> Option<u32>
     ensures value { result ≡ register_of name.now }
     ensures bound { IfSome result (λ n. n < 32) }
@@ -18,7 +18,7 @@ pub(crate) fn register_of(name: &[u8]) -> Option<u32>
 }
 
 /// The number of a control register of the integer unit, crN.
-#[tactic(auto, unfolding(crate::specs::Reader::Names::control_of))]
+#[tactic(auto, unfolding(crate::specs::Inside::Names::control_of))]
 fn control_of(name: &[u8]) -> Option<u32>
     ensures value { result ≡ control_of name.now }
     ensures bound { IfSome result (λ n. n < 64) }
@@ -30,7 +30,7 @@ fn control_of(name: &[u8]) -> Option<u32>
 }
 
 /// The number of a control register of the floating-point unit, fcrN.
-#[tactic(auto, unfolding(crate::specs::Reader::Names::float_control_of))]
+#[tactic(auto, unfolding(crate::specs::Inside::Names::float_control_of))]
 fn float_control_of(name: &[u8]) -> Option<u32>
     ensures value { result ≡ float_control_of name.now }
     ensures bound { IfSome result (λ n. n < 64) }
@@ -125,7 +125,7 @@ pub(crate) fn name_of(text: &[u8]) -> Option<Name>
 }
 
 /// The label or symbol of a name, or None where it has another meaning.
-#[tactic(auto, unfolding(crate::specs::Reader::Names::is_symbol))]
+#[tactic(auto, unfolding(crate::specs::Inside::Names::is_symbol))]
 pub(crate) fn symbol_of(name: &[u8]) -> Option<Name>
     ensures { SomeIff result (is_symbol name.now ≡ true) name.now }
 {

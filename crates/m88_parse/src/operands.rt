@@ -1,8 +1,8 @@
 //! Operands of several tokens, each from the place where it is wanted.
 ghost use Rattle.std.specs.Prelude.{◌≡◌, ◌≤◌, ◌<◌, ◌^◌, IfOk};
 ghost use Rattle.m88_parse.specs.Fault.{Gives};
-ghost use Rattle.m88_parse.specs.Reader.Operands.{AreWords, half, half_immediate, half_on, half_at, immediate_at, register_in, operand_at, bound_at, scaled_at, index_at, user_index_at, width_at, literal_at, field_at, distance_at, words_at, is_here_on, target_at};
-ghost use Rattle.m88_parse.specs.Reader.State.{first, second};
+ghost use Rattle.m88_parse.specs.Inside.Operands.{AreWords, half, half_immediate, half_on, half_at, immediate_at, register_in, operand_at, bound_at, scaled_at, index_at, user_index_at, width_at, literal_at, field_at, distance_at, words_at, is_here_on, target_at};
+ghost use Rattle.m88_parse.specs.Inside.State.{first, second};
 
 use crate::fault::{ParseFault, ParseKind};
 use crate::names::{half_named, is_here, register_of};
@@ -54,7 +54,7 @@ impl<'a> Parser<'a> {
     }
 
     /// hi16 or lo16 of a value in parentheses; the next token is the name.
-    #[tactic(auto, unfolding(crate::specs::Reader::Operands::half_at))]
+    #[tactic(auto, unfolding(crate::specs::Inside::Operands::half_at))]
     fn half(&mut self, kind: Kind) -> Result<Immediate, ParseFault>
         ensures { Gives (λ x. (x, self.new)) result (half_at kind self.old) }
     {
@@ -66,7 +66,7 @@ impl<'a> Parser<'a> {
     }
 
     /// A number of 16 bits, or half of a value.
-    #[tactic(auto, unfolding(crate::specs::Reader::Operands::immediate_at))]
+    #[tactic(auto, unfolding(crate::specs::Inside::Operands::immediate_at))]
     pub fn immediate(&mut self) -> Result<Immediate, ParseFault>
         ensures { Gives (λ x. (x, self.new)) result (immediate_at self.old) }
     {
@@ -98,7 +98,7 @@ impl<'a> Parser<'a> {
     }
 
     /// A register, a number of 16 bits, or half of a value.
-    #[tactic(auto, unfolding(crate::specs::Reader::Operands::operand_at))]
+    #[tactic(auto, unfolding(crate::specs::Inside::Operands::operand_at))]
     pub fn operand(&mut self) -> Result<Operand, ParseFault>
         ensures { Gives (λ x. (x, self.new)) result (operand_at self.old) }
     {
@@ -110,7 +110,7 @@ impl<'a> Parser<'a> {
     }
 
     /// A register, or a number of 16 bits.
-    #[tactic(auto, unfolding(crate::specs::Reader::Operands::bound_at))]
+    #[tactic(auto, unfolding(crate::specs::Inside::Operands::bound_at))]
     pub fn bound(&mut self) -> Result<Bound, ParseFault>
         ensures { Gives (λ x. (x, self.new)) result (bound_at self.old) }
     {
@@ -126,7 +126,7 @@ impl<'a> Parser<'a> {
     }
 
     /// A scaled register, in brackets.
-    #[tactic(auto, unfolding(crate::specs::Reader::Operands::scaled_at))]
+    #[tactic(auto, unfolding(crate::specs::Inside::Operands::scaled_at))]
     pub fn scaled(&mut self) -> Result<Reg, ParseFault>
         ensures { Gives (λ r. (r, self.new)) result (scaled_at self.old) }
     {
@@ -137,7 +137,7 @@ impl<'a> Parser<'a> {
     }
 
     /// What stands behind the base register of a memory operand.
-    #[tactic(auto, unfolding(crate::specs::Reader::Operands::index_at))]
+    #[tactic(auto, unfolding(crate::specs::Inside::Operands::index_at))]
     pub fn index(&mut self) -> Result<Index, ParseFault>
         ensures { Gives (λ x. (x, self.new)) result (index_at self.old) }
     {
@@ -149,7 +149,7 @@ impl<'a> Parser<'a> {
     }
 
     /// The same of a register alone, and whether it is scaled.
-    #[tactic(auto, unfolding(crate::specs::Reader::Operands::user_index_at))]
+    #[tactic(auto, unfolding(crate::specs::Inside::Operands::user_index_at))]
     pub fn user_index(&mut self) -> Result<(Reg, bool), ParseFault>
         ensures { Gives (λ x. (x, self.new)) result (user_index_at self.old) }
     {
@@ -161,7 +161,7 @@ impl<'a> Parser<'a> {
     }
 
     /// A width, 0 to `most`; none is 0.
-    #[tactic(auto, unfolding(crate::specs::Reader::Operands::width_at))]
+    #[tactic(auto, unfolding(crate::specs::Inside::Operands::width_at))]
     fn width(&mut self, most: u32) -> Result<u32, ParseFault>
         ensures value { Gives (λ n. (n, self.new)) result (width_at most self.old) }
         ensures bound { IfOk result (λ n. n ≤ most) }
@@ -174,7 +174,7 @@ impl<'a> Parser<'a> {
     }
 
     /// A width, 0 to `most`, and an offset.
-    #[tactic(auto, unfolding(crate::specs::Reader::Operands::literal_at))]
+    #[tactic(auto, unfolding(crate::specs::Inside::Operands::literal_at))]
     fn literal(&mut self, most: u32) -> Result<Field, ParseFault>
         requires { most ≤ 31 }
         ensures { Gives (λ x. (x, self.new)) result (literal_at most self.old) }
@@ -187,7 +187,7 @@ impl<'a> Parser<'a> {
     }
 
     /// A bit field with a width of 0 to `most`.
-    #[tactic(auto, unfolding(crate::specs::Reader::Operands::field_at))]
+    #[tactic(auto, unfolding(crate::specs::Inside::Operands::field_at))]
     pub fn field(&mut self, most: u32) -> Result<Field, ParseFault>
         requires { most ≤ 31 }
         ensures { Gives (λ x. (x, self.new)) result (field_at most self.old) }
@@ -200,7 +200,7 @@ impl<'a> Parser<'a> {
     }
 
     /// A distance in bytes, as words, `most` at the most.
-    #[tactic(auto, unfolding(crate::specs::Reader::Operands::distance_at))]
+    #[tactic(auto, unfolding(crate::specs::Inside::Operands::distance_at))]
     fn distance(&mut self, most: u32) -> Result<u32, ParseFault>
         ensures value { Gives (λ n. (n, self.new)) result (distance_at most self.old) }
         ensures bound { IfOk result (λ n. n ≤ most) }
@@ -216,7 +216,7 @@ impl<'a> Parser<'a> {
     }
 
     /// Words forward or back behind the `.` of a target, in a sign and the bits below `limit`.
-    #[tactic(auto, unfolding(crate::specs::Reader::Operands::words_at))]
+    #[tactic(auto, unfolding(crate::specs::Inside::Operands::words_at))]
     fn words(&mut self, limit: u32) -> Result<i32, ParseFault>
         requires least { 0 < limit }
         requires most { limit ≤ 2 ^ 25 }
@@ -245,7 +245,7 @@ impl<'a> Parser<'a> {
     }
 
     /// Where a branch goes; a distance fits a sign and the bits below `limit`.
-    #[tactic(auto, unfolding(crate::specs::Reader::Operands::target_at))]
+    #[tactic(auto, unfolding(crate::specs::Inside::Operands::target_at))]
     pub fn target(&mut self, kind: Kind, limit: u32) -> Result<Target, ParseFault>
         requires least { 0 < limit }
         requires most { limit ≤ 2 ^ 25 }

@@ -1,10 +1,10 @@
 //! The tokens of a line that are left, as a statement is read from them.
 ghost use Rattle.std.specs.Prelude.{◌≡◌, map, ◌-◌};
 ghost use Rattle.m88_parse.specs.Fault.{Gives};
-ghost use Rattle.m88_parse.specs.Reader.Grammar.{read, ends};
-ghost use Rattle.m88_parse.specs.Reader.State.{ReaderState, first, second, place, past, fault, is_next_mark};
-ghost use Rattle.m88_parse.specs.Reader.Slots.{mark_at, line_end_at};
-ghost use Rattle.m88_parse.specs.Reader.Tokens.{piece_of, token_value_in};
+ghost use Rattle.m88_parse.specs.Inside.Grammar.{read, ends};
+ghost use Rattle.m88_parse.specs.Inside.State.{ReaderState, first, second, place, past, fault, is_next_mark};
+ghost use Rattle.m88_parse.specs.Inside.Slots.{mark_at, line_end_at};
+ghost use Rattle.m88_parse.specs.Inside.Tokens.{piece_of, token_value_in};
 
 use crate::fault::{ParseFault, ParseKind};
 use crate::token::{Lexeme, What};
@@ -130,7 +130,7 @@ impl<'a> Parser<'a> {
     }
 
     /// What was read, where the line ends here.
-    #[tactic(auto, unfolding(crate::specs::Reader::Grammar::read))]
+    #[tactic(auto, unfolding(crate::specs::Inside::Grammar::read))]
     pub fn close(&mut self, body: Body) -> Result<Body, ParseFault>
         ensures { Gives (λ b. b) result (read (ends body) self.old) }
     {

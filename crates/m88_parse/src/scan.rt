@@ -3,7 +3,7 @@ ghost use Rattle.std.specs.Prelude.{◌≡◌, ◌+◌, ◌<◌, ◌≤◌, fals
 ghost use Rattle.std.specs.List.{prefix_len};
 ghost use Rattle.std.specs.Char.{digit_value};
 ghost use Rattle.std.specs.Str.Parse.{digits_value};
-ghost use Rattle.m88_parse.specs.Reader.Tokens.{is_hexadecimal, is_decimal, bounded, numeral, begins_escape, closes, inside_len, holds_escapes, character, cut_of, quoted, word_front, front};
+ghost use Rattle.m88_parse.specs.Inside.Tokens.{is_hexadecimal, is_decimal, bounded, numeral, begins_escape, closes, inside_len, holds_escapes, character, cut_of, quoted, word_front, front};
 ghost use Rattle.m88_parse.specs.Language.Bytes.{is_blank, is_comment, is_plain, is_mark, is_escape, escape_value, are_digits};
 ghost use Rattle.m88_base.specs.Name.{continues_name};
 
@@ -224,7 +224,7 @@ fn word_len(bytes: &[u8]) -> usize
 }
 
 /// The character or text behind an opening quote.
-#[tactic(auto, unfolding(crate::specs::Reader::Tokens::quoted))]
+#[tactic(auto, unfolding(crate::specs::Inside::Tokens::quoted))]
 fn quoted(quote: u8, bytes: &[u8]) -> Result<Cut<'_>, Flaw>
     ensures value { MatchResult result (λ c. quoted quote bytes.now ≡ Ok (cut_of c))
         (λ f. quoted quote bytes.now ≡ Err f) }
@@ -288,7 +288,7 @@ fn word(first: u8, run: &[u8]) -> Result<Cut<'_>, Flaw>
 }
 
 /// The front of the rest of a line: a token, a blank, or a comment to the end.
-#[tactic(auto, unfolding(crate::specs::Reader::Tokens::front))]
+#[tactic(auto, unfolding(crate::specs::Inside::Tokens::front))]
 pub(crate) fn front(bytes: &[u8]) -> Result<Cut<'_>, Flaw>
     requires { 0 < length bytes.now }
     ensures value { MatchResult result (λ c. front bytes.now ≡ Ok (cut_of c))

@@ -1,6 +1,6 @@
 //! The operand form of each mnemonic.
 ghost use Rattle.std.specs.Prelude.{◌≡◌};
-ghost use Rattle.m88_parse.specs.Reader.Shapes.{shape_of};
+ghost use Rattle.m88_parse.specs.Inside.Shapes.{shape_of};
 
 use m88_isa::{BitOp, ImmOp, LdaSize, MemOp, Mnemonic, RegOp};
 
@@ -180,7 +180,7 @@ const SHAPES: [Shape; 91] = [
 ];
 
 /// The operand form of a mnemonic.
-#[tactic(auto, unfolding(crate::specs::Reader::Shapes::shape_of))]
+#[tactic(auto, unfolding(crate::specs::Inside::Shapes::shape_of))]
 pub(crate) fn shape_of(mnemonic: Mnemonic) -> Shape
     ensures { result ≡ shape_of mnemonic }
 {

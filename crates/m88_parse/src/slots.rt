@@ -1,7 +1,7 @@
 //! Operands of one or a few tokens, each from the place where it is wanted.
 ghost use Rattle.std.specs.Prelude.{◌≡◌, ◌≤◌, ◌<◌, ◌==◌, ◌||◌, length, IfOk, OnOk};
 ghost use Rattle.m88_parse.specs.Fault.{Gives};
-ghost use Rattle.m88_parse.specs.Reader.Slots.{unsigned_at, negated, signed_at, register_at, register_comma_at, two_registers_at, two_registers_comma_at, control_at, bit_at, mask_at, symbol_at, addend_at, fixup_at, value_at, any_name_at, alignment_at};
+ghost use Rattle.m88_parse.specs.Inside.Slots.{unsigned_at, negated, signed_at, register_at, register_comma_at, two_registers_at, two_registers_comma_at, control_at, bit_at, mask_at, symbol_at, addend_at, fixup_at, value_at, any_name_at, alignment_at};
 
 use crate::fault::{ParseFault, ParseKind};
 use crate::names::{bit_named, condition_named, control_in, name_of, register_of, symbol_of};
@@ -26,7 +26,7 @@ fn is_alignment(n: u32) -> bool
 
 impl<'a> Parser<'a> {
     /// A number, 0 to `most`.
-    #[tactic(auto, unfolding(crate::specs::Reader::Slots::unsigned_at))]
+    #[tactic(auto, unfolding(crate::specs::Inside::Slots::unsigned_at))]
     pub fn number(&mut self, most: u32) -> Result<u32, ParseFault>
         ensures value { Gives (λ n. (n, self.new)) result (unsigned_at most self.old) }
         ensures bound { IfOk result (λ n. n ≤ most) }
@@ -43,7 +43,7 @@ impl<'a> Parser<'a> {
     }
 
     /// A number from -`low` to `most`, modulo 2^32.
-    #[tactic(auto, unfolding(crate::specs::Reader::Slots::signed_at, crate::specs::Reader::Slots::unsigned_at))]
+    #[tactic(auto, unfolding(crate::specs::Inside::Slots::signed_at, crate::specs::Inside::Slots::unsigned_at))]
     pub fn whole(&mut self, low: u32, most: u32) -> Result<u32, ParseFault>
         ensures value { Gives (λ n. (n, self.new)) result (signed_at low most self.old) }
         ensures shorter { OnOk result (length self.new.rest < length self.old.rest) }
@@ -64,7 +64,7 @@ impl<'a> Parser<'a> {
     }
 
     /// The number of a general register.
-    #[tactic(auto, unfolding(crate::specs::Reader::Slots::register_at))]
+    #[tactic(auto, unfolding(crate::specs::Inside::Slots::register_at))]
     pub fn register(&mut self) -> Result<Reg, ParseFault>
         ensures { Gives (λ r. (r, self.new)) result (register_at self.old) }
     {
@@ -81,7 +81,7 @@ impl<'a> Parser<'a> {
     }
 
     /// The number of a general register, and the comma behind it.
-    #[tactic(auto, unfolding(crate::specs::Reader::Slots::register_comma_at))]
+    #[tactic(auto, unfolding(crate::specs::Inside::Slots::register_comma_at))]
     pub fn register_comma(&mut self) -> Result<Reg, ParseFault>
         ensures { Gives (λ r. (r, self.new)) result (register_comma_at self.old) }
     {
@@ -91,7 +91,7 @@ impl<'a> Parser<'a> {
     }
 
     /// The numbers of two general registers with a comma between them.
-    #[tactic(auto, unfolding(crate::specs::Reader::Slots::two_registers_at))]
+    #[tactic(auto, unfolding(crate::specs::Inside::Slots::two_registers_at))]
     pub fn two_registers(&mut self) -> Result<(Reg, Reg), ParseFault>
         ensures { Gives (λ x. (x, self.new)) result (two_registers_at self.old) }
     {
@@ -101,7 +101,7 @@ impl<'a> Parser<'a> {
     }
 
     /// The same, and the comma behind them.
-    #[tactic(auto, unfolding(crate::specs::Reader::Slots::two_registers_comma_at))]
+    #[tactic(auto, unfolding(crate::specs::Inside::Slots::two_registers_comma_at))]
     pub fn two_registers_comma(&mut self) -> Result<(Reg, Reg), ParseFault>
         ensures { Gives (λ x. (x, self.new)) result (two_registers_comma_at self.old) }
     {
@@ -111,7 +111,7 @@ impl<'a> Parser<'a> {
     }
 
     /// The number of a control register, of the floating-point unit where `float`.
-    #[tactic(auto, unfolding(crate::specs::Reader::Slots::control_at))]
+    #[tactic(auto, unfolding(crate::specs::Inside::Slots::control_at))]
     pub fn control(&mut self, float: bool) -> Result<u8, ParseFault>
         ensures { Gives (λ n. (n, self.new)) result (control_at float self.old) }
     {
@@ -128,7 +128,7 @@ impl<'a> Parser<'a> {
     }
 
     /// The number of a bit.
-    #[tactic(auto, unfolding(crate::specs::Reader::Slots::bit_at, crate::specs::Reader::Slots::unsigned_at))]
+    #[tactic(auto, unfolding(crate::specs::Inside::Slots::bit_at, crate::specs::Inside::Slots::unsigned_at))]
     pub fn bit(&mut self) -> Result<u8, ParseFault>
         ensures { Gives (λ n. (n, self.new)) result (bit_at self.old) }
     {
@@ -145,7 +145,7 @@ impl<'a> Parser<'a> {
     }
 
     /// The mask of a condition.
-    #[tactic(auto, unfolding(crate::specs::Reader::Slots::mask_at, crate::specs::Reader::Slots::unsigned_at))]
+    #[tactic(auto, unfolding(crate::specs::Inside::Slots::mask_at, crate::specs::Inside::Slots::unsigned_at))]
     pub fn mask(&mut self) -> Result<u8, ParseFault>
         ensures { Gives (λ n. (n, self.new)) result (mask_at self.old) }
     {
@@ -162,7 +162,7 @@ impl<'a> Parser<'a> {
     }
 
     /// The name of a symbol with its column.
-    #[tactic(auto, unfolding(crate::specs::Reader::Slots::symbol_at))]
+    #[tactic(auto, unfolding(crate::specs::Inside::Slots::symbol_at))]
     pub fn symbol(&mut self) -> Result<(Name, u32), ParseFault>
         ensures value { Gives (λ x. (x, self.new)) result (symbol_at self.old) }
         ensures shorter { OnOk result (length self.new.rest < length self.old.rest) }
@@ -181,7 +181,7 @@ impl<'a> Parser<'a> {
     }
 
     /// Any name.
-    #[tactic(auto, unfolding(crate::specs::Reader::Slots::any_name_at))]
+    #[tactic(auto, unfolding(crate::specs::Inside::Slots::any_name_at))]
     pub fn any_name(&mut self) -> Result<Name, ParseFault>
         ensures { Gives (λ x. (x, self.new)) result (any_name_at self.old) }
     {
@@ -198,7 +198,7 @@ impl<'a> Parser<'a> {
     }
 
     /// What is added to a symbol, modulo 2^32.
-    #[tactic(auto, unfolding(crate::specs::Reader::Slots::addend_at))]
+    #[tactic(auto, unfolding(crate::specs::Inside::Slots::addend_at))]
     fn addend(&mut self) -> Result<u32, ParseFault>
         ensures value { Gives (λ n. (n, self.new)) result (addend_at self.old) }
         ensures not_longer { OnOk result (length self.new.rest ≤ length self.old.rest) }
@@ -216,7 +216,7 @@ impl<'a> Parser<'a> {
     }
 
     /// A symbol with what is added to it.
-    #[tactic(auto, unfolding(crate::specs::Reader::Slots::fixup_at))]
+    #[tactic(auto, unfolding(crate::specs::Inside::Slots::fixup_at))]
     pub fn fixup(&mut self, kind: Kind) -> Result<Fixup, ParseFault>
         ensures value { Gives (λ x. (x, self.new)) result (fixup_at kind self.old) }
         ensures shorter { OnOk result (length self.new.rest < length self.old.rest) }
@@ -232,7 +232,7 @@ impl<'a> Parser<'a> {
     }
 
     /// A number of 32 bits, or a symbol with what is added to it.
-    #[tactic(auto, unfolding(crate::specs::Reader::Slots::value_at))]
+    #[tactic(auto, unfolding(crate::specs::Inside::Slots::value_at))]
     pub fn value(&mut self, kind: Kind) -> Result<Value, ParseFault>
         ensures value { Gives (λ x. (x, self.new)) result (value_at kind self.old) }
         ensures shorter { OnOk result (length self.new.rest < length self.old.rest) }
@@ -245,7 +245,7 @@ impl<'a> Parser<'a> {
     }
 
     /// An alignment: 1, 2, 4 or 8.
-    #[tactic(auto, unfolding(crate::specs::Reader::Slots::alignment_at))]
+    #[tactic(auto, unfolding(crate::specs::Inside::Slots::alignment_at))]
     pub fn alignment(&mut self) -> Result<u32, ParseFault>
         ensures { Gives (λ n. (n, self.new)) result (alignment_at self.old) }
     {

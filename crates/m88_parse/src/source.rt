@@ -7,11 +7,11 @@ ghost use Rattle.m88_parse.specs.Language.FirstFaults.{IsFirstFault};
 ghost use Rattle.m88_parse.specs.Language.Units.{IsUnit};
 ghost use Rattle.m88_parse.specs.declared.fault.ParseFault.{ParseFault as FaultValue};
 ghost use Rattle.m88_parse.specs.Fault.{Gives, out_of_memory, IsSourceKind};
-ghost use Rattle.m88_parse.specs.Reader.Places.{IsNear};
-ghost use Rattle.m88_parse.specs.Reader.Source.{end_of_line, row_of_line, unit_of};
-ghost use Rattle.m88_parse.specs.Reader.Tokens.{piece_of};
+ghost use Rattle.m88_parse.specs.Inside.Places.{IsNear};
+ghost use Rattle.m88_parse.specs.Inside.Source.{end_of_line, row_of_line, unit_of};
+ghost use Rattle.m88_parse.specs.Inside.Tokens.{piece_of};
 ghost use Rattle.m88_parse.specs.WellFormed.{IsWellFormed};
-ghost use Rattle.m88_parse.specs.Reader.Drafts.{LeadsOn, EndsWith};
+ghost use Rattle.m88_parse.specs.Inside.Drafts.{LeadsOn, EndsWith};
 
 use crate::draft::Draft;
 use crate::fault::ParseFault;
@@ -34,7 +34,7 @@ fn end_of_line(lexemes: &[Lexeme<'_>]) -> u32
 }
 
 /// What a line says, if it has a token.
-#[tactic(auto, unfolding(crate::specs::Reader::Source::row_of_line))]
+#[tactic(auto, unfolding(crate::specs::Inside::Source::row_of_line))]
 fn row_of(alloc: Global, line: &[u8], number: u32) -> Result<Option<Row>, ParseFault>
     requires { length line.now < 2 ^ 31 }
     ensures { Gives (λ r. r) result (row_of_line number line.now) }

@@ -2,9 +2,9 @@
 ghost use Rattle.std.specs.Prelude.{◌≡◌};
 ghost use Rattle.m88_parse.specs.declared.directive.Directive.TheVariants.{Set};
 ghost use Rattle.m88_parse.specs.Fault.{Gives};
-ghost use Rattle.m88_parse.specs.Reader.Grammar.{read, directive_form};
-ghost use Rattle.m88_parse.specs.Reader.Source.{operation_at, labelled_at, head_at, is_label_on, is_head_on, row_at};
-ghost use Rattle.m88_parse.specs.Reader.State.{first, second};
+ghost use Rattle.m88_parse.specs.Inside.Grammar.{read, directive_form};
+ghost use Rattle.m88_parse.specs.Inside.Source.{operation_at, labelled_at, head_at, is_label_on, is_head_on, row_at};
+ghost use Rattle.m88_parse.specs.Inside.State.{first, second};
 
 use crate::directive::{Directive, directive_of};
 use crate::fault::{ParseFault, ParseKind};
@@ -23,7 +23,7 @@ const ANY: u32 = u32::MAX;
 
 impl<'a> Parser<'a> {
     /// .set: a symbol and its number.
-    #[tactic(auto, unfolding(crate::specs::Reader::Grammar::read, crate::specs::Reader::Grammar::directive_form))]
+    #[tactic(auto, unfolding(crate::specs::Inside::Grammar::read, crate::specs::Inside::Grammar::directive_form))]
     fn set(&mut self) -> Result<Body, ParseFault>
         ensures { Gives (λ b. b) result (read (directive_form Set) self.old) }
     {
@@ -34,7 +34,7 @@ impl<'a> Parser<'a> {
     }
 
     /// The operands of a directive, to the end of the line.
-    #[tactic(auto, unfolding(crate::specs::Reader::Grammar::read, crate::specs::Reader::Grammar::directive_form))]
+    #[tactic(auto, unfolding(crate::specs::Inside::Grammar::read, crate::specs::Inside::Grammar::directive_form))]
     fn directive(&mut self, alloc: Global, directive: Directive) -> Result<Body, ParseFault>
         ensures { Gives (λ b. b) result (read (directive_form directive) self.old) }
     {
@@ -55,7 +55,7 @@ impl<'a> Parser<'a> {
     }
 
     /// An operation and its operands, to the end of the line.
-    #[tactic(auto, unfolding(crate::specs::Reader::Source::operation_at))]
+    #[tactic(auto, unfolding(crate::specs::Inside::Source::operation_at))]
     fn operation(&mut self, alloc: Global) -> Result<Body, ParseFault>
         ensures { Gives (λ b. b) result (operation_at self.old) }
     {
@@ -79,7 +79,7 @@ impl<'a> Parser<'a> {
     }
 
     /// A label, and the operation behind it if there is one.
-    #[tactic(auto, unfolding(crate::specs::Reader::Source::labelled_at))]
+    #[tactic(auto, unfolding(crate::specs::Inside::Source::labelled_at))]
     fn labelled(&mut self, alloc: Global) -> Result<Row, ParseFault>
         ensures { Gives (λ r. r) result (labelled_at self.old) }
     {
@@ -106,7 +106,7 @@ impl<'a> Parser<'a> {
     }
 
     /// The head of a module, from its `.module` on.
-    #[tactic(auto, unfolding(crate::specs::Reader::Source::head_at))]
+    #[tactic(auto, unfolding(crate::specs::Inside::Source::head_at))]
     fn head(&mut self) -> Result<Row, ParseFault>
         ensures { Gives (λ r. r) result (head_at self.old) }
     {
@@ -138,7 +138,7 @@ impl<'a> Parser<'a> {
     }
 
     /// What a line with a token says.
-    #[tactic(auto, unfolding(crate::specs::Reader::Source::row_at))]
+    #[tactic(auto, unfolding(crate::specs::Inside::Source::row_at))]
     pub fn row(&mut self, alloc: Global) -> Result<Row, ParseFault>
         ensures { Gives (λ r. r) result (row_at self.old) }
     {

@@ -6,7 +6,7 @@ use Rattle.m88_srec.specs.Accepted.{whole_of}
 use Rattle.m88_srec.specs.Begun.{Begun, HoldsFault, LeadsTo, StaysRefused}
 use Rattle.m88_srec.specs.Fed.{IsFed, IsLedTo, LoaderView, begun_in}
 use Rattle.m88_srec.specs.GivesVerdict.{GivesVerdict, no_memory}
-use Rattle.m88_srec.specs.Taking.{finished}
+use Rattle.m88_srec.specs.Inside.Taking.{finished}
 use Rattle.m88_srec.specs.Verdict.{verdict}
 use Rattle.m88_srec.specs.declared.fault.SrecFault.{SrecFault}
 use Rattle.m88_srec.proofs.Feeding.{finished_is, is_held, stays_behind}

@@ -11,8 +11,8 @@ use Rattle.m88_base.proofs.Lines.{ends_line, ends_source, is_inner, last_cr}
 use Rattle.m88_srec.specs.Begun.{Begun, HoldsFault, LeadsTo, StaysRefused, held_cr, line_ends}
 use Rattle.m88_srec.specs.Front.{LineFront, front_of}
 use Rattle.m88_srec.specs.GivesVerdict.{no_memory}
-use Rattle.m88_srec.specs.Loads.{fault_of_line}
-use Rattle.m88_srec.specs.Taking.{byte_taken, ended_at, finished, holding, judged_front, last_line_on, with_byte, with_held}
+use Rattle.m88_srec.specs.Inside.Loads.{fault_of_line}
+use Rattle.m88_srec.specs.Inside.Taking.{byte_taken, ended_at, finished, holding, judged_front, last_line_on, with_byte, with_held}
 use Rattle.m88_srec.specs.Verdict.{Load, ended_on, go_on, judged, opening_load, verdict, verdict_from}
 use Rattle.m88_srec.specs.declared.fault.SrecFault.{SrecFault}
 use Rattle.m88_srec.specs.declared.fault.SrecKind.{SrecKind}

@@ -11,7 +11,7 @@ use Rattle.std.proofs.lemmas.List.Folds.{list_all-append}
 use Rattle.m88_srec.proofs.Cases.{by_bool}
 use Rattle.m88_srec.proofs.Framing.{pairs_halved}
 use Rattle.m88_srec.specs.Front.{front_of, is_hexadecimal}
-use Rattle.m88_srec.specs.Taking.{front_with, judged_front, overlong, overlong_fault}
+use Rattle.m88_srec.specs.Inside.Taking.{front_with, judged_front, overlong, overlong_fault}
 use Rattle.m88_srec.specs.Records.{RecordType, are_more_pairs, bytes_in, letter_s, type_of}
 use Rattle.m88_srec.specs.Verdict.{Load, formed_as, formed_on, framed_on, is_miscounted, judged, record_form}
 use Rattle.m88_srec.specs.declared.fault.SrecKind.TheVariants.{AfterEnd, Count, Form}

@@ -3,7 +3,7 @@ use Rattle.std.proofs.Common.{◌≡◌, ℕ, ◌+◌, List, [], ◌∷◌, leng
 use Rattle.std.specs.Prelude.{Result, Ok, Err, ◌⊎◌, IfOk, MatchResult}
 use Rattle.m88_srec.specs.Accepted.{IsAccepted, Whole, whole_of}
 use Rattle.m88_srec.specs.GivesVerdict.{GivesVerdict, no_memory}
-use Rattle.m88_srec.specs.Loads.{fault_of_line}
+use Rattle.m88_srec.specs.Inside.Loads.{fault_of_line}
 use Rattle.m88_srec.specs.Verdict.{Load, ended_on, go_on, judged, verdict, verdict_from}
 use Rattle.m88_base.specs.Image.{ProgramImage}
 use Rattle.m88_base.specs.Lines.{lines_of}

@@ -6,10 +6,8 @@ pub mod Verdict
 pub mod Written
 pub mod Reasons
 pub mod GivesVerdict
-pub mod Forms
-pub mod Loads
 pub mod Front
 pub mod Begun
 pub mod Fed
-pub mod Taking
 pub mod Streamed
+pub mod Inside

@@ -1,7 +1,7 @@
 //! What is kept of a line whose end has not come.
 ghost use Rattle.std.specs.Prelude.{◌≡◌, ◌+◌, ◌<◌, ◌^◌, []};
 ghost use Rattle.m88_srec.specs.Front.{front_of};
-ghost use Rattle.m88_srec.specs.Taking.{front_seen, front_with, overlong_fault};
+ghost use Rattle.m88_srec.specs.Inside.Taking.{front_seen, front_with, overlong_fault};
 
 use crate::digits::is_hexadecimal;
 use crate::fault::SrecKind;
@@ -49,7 +49,7 @@ impl Front {
 
     /// Why a line that is longer than all that is kept is refused: its count can't be right, where it has the form of
     /// a record.
-    #[tactic(auto, unfolding(crate::specs::Taking::overlong_fault))]
+    #[tactic(auto, unfolding(crate::specs::Inside::Taking::overlong_fault))]
     pub fn overlong_fault(&self) -> SrecKind
         requires long { MOST_KEPT < self.now.len }
         requires small { self.now.len < 2 ^ 31 }

@@ -23,7 +23,7 @@ pub struct Loader {
 
 impl Model for Loader {
     ghost use Rattle.m88_srec.specs.Fed.{LoaderView};
-    ghost use Rattle.m88_srec.specs.Taking.{IsWithin, front_seen};
+    ghost use Rattle.m88_srec.specs.Inside.Taking.{IsWithin, front_seen};
 
     ghost Value = { LoaderView };
 

@@ -2,9 +2,9 @@
 ghost use Rattle.std.specs.Prelude.{◌≡◌, ◌+◌, ◌≤◌, ◌<◌, ◌^◌, length};
 ghost use Rattle.m88_srec.specs.Accepted.{whole_of};
 ghost use Rattle.m88_srec.specs.Verdict.{acted, ended_on, framed_on, judged, opening_load, placed, summed};
-ghost use Rattle.m88_srec.specs.Forms.{form_seen};
+ghost use Rattle.m88_srec.specs.Inside.Forms.{form_seen};
 ghost use Rattle.m88_srec.specs.GivesVerdict.{GivesVerdict};
-ghost use Rattle.m88_srec.specs.Loads.{GivesLoad, load_seen};
+ghost use Rattle.m88_srec.specs.Inside.Loads.{GivesLoad, load_seen};
 
 use crate::fault::{SrecFault, SrecKind};
 use crate::form::Form;

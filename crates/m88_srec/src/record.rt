@@ -3,7 +3,7 @@ ghost use Rattle.std.specs.Prelude.{◌≡◌, ◌+◌, ◌-◌, ◌*◌, ◌≤
 ghost use Rattle.m88_srec.specs.Records.{bytes_in, check_of, is_bare, type_of};
 ghost use Rattle.m88_srec.specs.Accepted.{address_of};
 ghost use Rattle.m88_srec.specs.Verdict.{following, record_form, is_miscounted, written_count};
-ghost use Rattle.m88_srec.specs.Forms.{form_seen, type_seen};
+ghost use Rattle.m88_srec.specs.Inside.Forms.{form_seen, type_seen};
 
 use crate::digits::{are_pairs, byte};
 use crate::form::Form;

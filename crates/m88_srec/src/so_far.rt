@@ -4,8 +4,8 @@ ghost use Rattle.m88_srec.specs.Accepted.{whole_of};
 ghost use Rattle.m88_srec.specs.Begun.{LeadsTo, StaysRefused};
 ghost use Rattle.m88_srec.specs.Front.{front_of};
 ghost use Rattle.m88_srec.specs.GivesVerdict.{GivesVerdict, no_memory};
-ghost use Rattle.m88_srec.specs.Loads.{GivesLoad, fault_of_line, load_seen};
-ghost use Rattle.m88_srec.specs.Taking.{AreCounted, begun_seen, byte_taken, ended_at, finished, front_seen, judged_front, reach, with_byte, with_held};
+ghost use Rattle.m88_srec.specs.Inside.Loads.{GivesLoad, fault_of_line, load_seen};
+ghost use Rattle.m88_srec.specs.Inside.Taking.{AreCounted, begun_seen, byte_taken, ended_at, finished, front_seen, judged_front, reach, with_byte, with_held};
 ghost use Rattle.m88_srec.specs.Verdict.{opening_load};
 
 use crate::fault::{SrecFault, SrecKind};
@@ -78,7 +78,7 @@ impl TextSoFar {
     }
 
     /// Judges the line by what is kept of it.
-    #[tactic(auto, unfolding(crate::specs::Taking::judged_front))]
+    #[tactic(auto, unfolding(crate::specs::Inside::Taking::judged_front))]
     fn judge(&mut self) -> Result<(), SrecKind>
         requires records { self.old.loading.records < 2 ^ 31 }
         requires len { self.old.front.len < 2 ^ 31 }
@@ -113,7 +113,7 @@ impl TextSoFar {
     }
 
     /// Takes one byte more of the text.
-    #[tactic(auto, unfolding(crate::specs::Taking::byte_taken))]
+    #[tactic(auto, unfolding(crate::specs::Inside::Taking::byte_taken))]
     fn byte(&mut self, byte: u8) -> Result<(), SrecKind>
         requires reach { reach self.old < 2 ^ 31 }
         requires counted { AreCounted self.old }
@@ -154,7 +154,7 @@ impl TextSoFar {
     }
 
     /// The image behind the last line, or its fault.
-    #[tactic(auto, unfolding(crate::specs::Taking::finished))]
+    #[tactic(auto, unfolding(crate::specs::Inside::Taking::finished))]
     pub fn finish(self) -> Result<Image, SrecFault>
         requires reach { reach self ≤ 2 ^ 31 }
         requires counted { AreCounted self }

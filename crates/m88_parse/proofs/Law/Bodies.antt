@@ -9,12 +9,12 @@ use Rattle.m88_parse.specs.declared.unit.Body.{Body}
 use Rattle.m88_parse.specs.declared.unit.Body.TheVariants as body
 use Rattle.m88_parse.specs.declared.directive.Directive.{Directive}
 use Rattle.m88_parse.specs.declared.directive.Directive.TheVariants as directive
-use Rattle.m88_parse.specs.Reader.Names.{is_module}
+use Rattle.m88_parse.specs.Inside.Names.{is_module}
 use Rattle.m88_parse.specs.Language.Pieces.{TokenValue, a_name, a_number, a_text, a_mark, Piece}
-use Rattle.m88_parse.specs.Reader.Shapes.{shape_of}
-use Rattle.m88_parse.specs.Reader.Directives.{directive_text, all_directives, directive_of}
-use Rattle.m88_parse.specs.Reader.Grammar.{read, form_of, directive_form}
-use Rattle.m88_parse.specs.Reader.Source.{instruction_form, form_in, by_form, operation_on, operation_at}
+use Rattle.m88_parse.specs.Inside.Shapes.{shape_of}
+use Rattle.m88_parse.specs.Inside.Directives.{directive_text, all_directives, directive_of}
+use Rattle.m88_parse.specs.Inside.Grammar.{read, form_of, directive_form}
+use Rattle.m88_parse.specs.Inside.Source.{instruction_form, form_in, by_form, operation_on, operation_at}
 use Rattle.m88_parse.specs.Language.Names.{IsNamed}
 use Rattle.m88_parse.specs.Language.Statements.{IsBody, text, data_section, at, word, half, byte, ascii, zeros, align, global, set, code}
 use Rattle.m88_parse.proofs.Law.Steps.{chosen, take_else}

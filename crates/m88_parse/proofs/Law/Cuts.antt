@@ -2,7 +2,7 @@
 use Rattle.std.proofs.Common.{◌≡◌, ℕ, List, Ok, Err, Result, refl, sym, ap, ◌∙◌, subst, inl, inr, ◌⊎◌, IfOk, IfErr}
 use Rattle.m88_parse.specs.declared.fault.ParseFault.{ParseFault}
 use Rattle.m88_parse.specs.Fault.{Gives, out_of_memory}
-use Rattle.m88_parse.specs.Reader.Tokens.{pieces_of, tokens_from, tokens_of}
+use Rattle.m88_parse.specs.Inside.Tokens.{pieces_of, tokens_from, tokens_of}
 use Rattle.m88_parse.specs.Language.Pieces.{Piece, PlainToken}
 use Rattle.m88_parse.specs.Language.Tokens.{AreTokensOf}
 use Rattle.m88_parse.specs.Language.FirstFaults.{IsTokenFault}

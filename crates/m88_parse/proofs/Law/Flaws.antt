@@ -8,7 +8,7 @@ use Rattle.std.proofs.lemmas.Bool.{eqb-false}
 use Rattle.m88_parse.specs.declared.fault.ParseKind.{ParseKind}
 use Rattle.m88_parse.specs.declared.fault.ParseKind.TheVariants.{NotAscii, Syntax, OutOfRange}
 use Rattle.m88_parse.specs.declared.scan.Flaw.{Flaw}
-use Rattle.m88_parse.specs.Reader.Tokens.{is_hexadecimal, is_decimal, bounded, inside_len, Cut, token_cut, flaw, token_or_flaw, name_front, number_front, quoted_value, quoted, word_front, front, numeral}
+use Rattle.m88_parse.specs.Inside.Tokens.{is_hexadecimal, is_decimal, bounded, inside_len, Cut, token_cut, flaw, token_or_flaw, name_front, number_front, quoted_value, quoted, word_front, front, numeral}
 use Rattle.m88_parse.specs.Language.Bytes.{space, tab, is_blank, is_comment, is_plain, is_mark}
 use Rattle.m88_base.specs.Name.{continues_name}
 use Rattle.m88_parse.specs.Language.Pieces.{TokenValue, a_name}

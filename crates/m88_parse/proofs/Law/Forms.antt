@@ -13,9 +13,9 @@ use Rattle.m88_parse.specs.declared.operand.Index.{Index}
 use Rattle.m88_parse.specs.declared.operand.Field.{Field}
 use Rattle.m88_parse.specs.declared.operand.Target.{Target}
 use Rattle.m88_parse.specs.Language.Pieces.{Piece}
-use Rattle.m88_parse.specs.Reader.State.{ReaderState, ◌>>=◌}
-use Rattle.m88_parse.specs.Reader.Slots.{Read, mark_at, register_at, register_comma_at, two_registers_at, two_registers_comma_at, signed_at}
-use Rattle.m88_parse.specs.Reader.Grammar.{Form, ends, comma_then, register_then, register_comma_then, two_registers_then, two_registers_comma_then, control_then, bit_then, mask_then, unsigned_then, alignment_then, symbol_then, bound_then, text_then, signed_ends, immediate_ends, operand_ends, scaled_ends, index_ends, user_index_ends, field_ends, target_ends, words_end, parts_end, modulus_of, end_with, read}
+use Rattle.m88_parse.specs.Inside.State.{ReaderState, ◌>>=◌}
+use Rattle.m88_parse.specs.Inside.Slots.{Read, mark_at, register_at, register_comma_at, two_registers_at, two_registers_comma_at, signed_at}
+use Rattle.m88_parse.specs.Inside.Grammar.{Form, ends, comma_then, register_then, register_comma_then, two_registers_then, two_registers_comma_then, control_then, bit_then, mask_then, unsigned_then, alignment_then, symbol_then, bound_then, text_then, signed_ends, immediate_ends, operand_ends, scaled_ends, index_ends, user_index_ends, field_ends, target_ends, words_end, parts_end, modulus_of, end_with, read}
 use Rattle.m88_parse.specs.Language.Names.{IsRegister, IsControl, IsBit, IsCondition}
 use Rattle.m88_parse.specs.Language.Operands.{IsScaled, IsSigned, IsValue}
 use Rattle.m88_parse.specs.Language.Statements.{AreParted}

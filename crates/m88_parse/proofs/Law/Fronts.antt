@@ -11,7 +11,7 @@ use Rattle.m88_base.specs.Name.{IsName, begins_name, continues_name}
 use Rattle.m88_parse.specs.declared.fault.ParseKind.{ParseKind}
 use Rattle.m88_parse.specs.declared.fault.ParseKind.TheVariants.{NotAscii, OutOfRange}
 use Rattle.m88_parse.specs.declared.scan.Flaw.{Flaw}
-use Rattle.m88_parse.specs.Reader.Tokens.{inside_len, holds_escapes, text_bytes, character, Cut, gap, token_cut, flaw, token_or_flaw, name_front, number_front, as_number, quoted_value, quoted, word_front, front, numeral}
+use Rattle.m88_parse.specs.Inside.Tokens.{inside_len, holds_escapes, text_bytes, character, Cut, gap, token_cut, flaw, token_or_flaw, name_front, number_front, as_number, quoted_value, quoted, word_front, front, numeral}
 use Rattle.m88_parse.specs.Language.Bytes.{space, tab, is_blank, is_comment, is_plain, is_mark, are_digits}
 use Rattle.m88_parse.specs.Language.Pieces.{TokenValue, a_name, a_number, a_text, a_mark}
 use Rattle.m88_parse.specs.Language.Tokens.{AreNameBytes, BeginsWithNoNameByte, IsDecimal, IsNumeral, Holds, IsToken}

@@ -11,10 +11,10 @@ use Rattle.m88_parse.specs.declared.operand.Field.TheVariants as field
 use Rattle.m88_parse.specs.Language.Pieces.{TokenValue, a_name, a_number, a_mark, Piece}
 use Rattle.m88_parse.specs.Language.Names.{IsMark, IsNumber, IsRegister}
 use Rattle.m88_parse.specs.Language.Operands.{IsScaled, IsLast, IsLiteral}
-use Rattle.m88_parse.specs.Reader.State.{ReaderState, is_mark_of, is_next_mark, ◌>>=◌}
-use Rattle.m88_parse.specs.Reader.Slots.{Read, mark_at, unsigned_at, register_at}
-use Rattle.m88_parse.specs.Reader.Operands.{operand_at, scaled_at, indexed_at, index_at, user_index_at, width_at, literal_at, field_on, field_at}
-use Rattle.m88_parse.specs.Reader.Grammar.{end_with}
+use Rattle.m88_parse.specs.Inside.State.{ReaderState, is_mark_of, is_next_mark, ◌>>=◌}
+use Rattle.m88_parse.specs.Inside.Slots.{Read, mark_at, unsigned_at, register_at}
+use Rattle.m88_parse.specs.Inside.Operands.{operand_at, scaled_at, indexed_at, index_at, user_index_at, width_at, literal_at, field_on, field_at}
+use Rattle.m88_parse.specs.Inside.Grammar.{end_with}
 use Rattle.m88_parse.proofs.Law.Steps.{take_then, take_else}
 use Rattle.m88_parse.proofs.Law.Slots.{st, no_name, own_names, IsUpTo, one_register, one_number, mapped, turns, NoName, number_is, text_is, mark_is}
 use Rattle.m88_parse.proofs.Law.Operands.{IsOperandOf, operand_start}

@@ -5,9 +5,9 @@ use Rattle.m88_parse.specs.declared.fault.ParseFault.{ParseFault}
 use Rattle.m88_parse.specs.declared.unit.Body.{Body}
 use Rattle.m88_parse.specs.declared.unit.Value.{Value}
 use Rattle.m88_parse.specs.Language.Pieces.{a_number, Piece}
-use Rattle.m88_parse.specs.Reader.State.{ReaderState, past, is_mark_of, is_next_mark, ◌>>=◌}
-use Rattle.m88_parse.specs.Reader.Slots.{Read, mark_at, negated, signed_at, value_at}
-use Rattle.m88_parse.specs.Reader.Grammar.{many, list_at, word_item_at, Part, a_half, a_byte, modulus_of, part_item_at, end_with}
+use Rattle.m88_parse.specs.Inside.State.{ReaderState, past, is_mark_of, is_next_mark, ◌>>=◌}
+use Rattle.m88_parse.specs.Inside.Slots.{Read, mark_at, negated, signed_at, value_at}
+use Rattle.m88_parse.specs.Inside.Grammar.{many, list_at, word_item_at, Part, a_half, a_byte, modulus_of, part_item_at, end_with}
 use Rattle.m88_parse.specs.Language.Operands.{minus, IsSigned, IsValue}
 use Rattle.m88_parse.specs.Language.Statements.{AreParted, one as one_item, more as more_items}
 use Rattle.m88_parse.proofs.Law.Steps.{take_then, take_else}

@@ -18,7 +18,7 @@ use Rattle.m88_isa.specs.declared.instr.BitOp.TheVariants as bits
 use Rattle.m88_parse.specs.declared.shape.Shape.{Shape}
 use Rattle.m88_parse.specs.declared.shape.Shape.TheVariants as shape
 use Rattle.m88_parse.specs.Language.Mnemonics.{imm_name, reg_name, mem_name, index_name, lda_name, bits_name, find_name, branch_name, branch_bit_name, branch_cond_name, jump_name, trap_bit_name, ldcr_name, stcr_name, xcr_name}
-use Rattle.m88_parse.specs.Reader.Shapes.{shape_of}
+use Rattle.m88_parse.specs.Inside.Shapes.{shape_of}
 
 -- a name that each operation of a form has
 abbrev pub IsNameOf : Shape → List ℕ → Type 0

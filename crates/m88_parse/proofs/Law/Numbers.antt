@@ -3,7 +3,7 @@ use Rattle.std.proofs.Common.{◌≡◌, ℕ, ◌<◌, ◌≤◌, Bool, true, fa
 use Rattle.std.specs.Str.Parse.{digits_value}
 use Rattle.m88_parse.specs.declared.fault.ParseKind.{ParseKind}
 use Rattle.m88_parse.specs.declared.fault.ParseKind.TheVariants.{Syntax, OutOfRange}
-use Rattle.m88_parse.specs.Reader.Tokens.{is_hexadecimal, is_decimal, bounded, numeral}
+use Rattle.m88_parse.specs.Inside.Tokens.{is_hexadecimal, is_decimal, bounded, numeral}
 use Rattle.m88_parse.specs.Language.Bytes.{are_digits}
 use Rattle.m88_parse.specs.Language.Tokens.{IsDecimal, IsHexadecimal, IsNumeral}
 use Rattle.m88_parse.proofs.Law.Steps.{both, chosen, not_true, take_then, take_else}

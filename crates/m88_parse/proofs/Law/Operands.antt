@@ -17,13 +17,13 @@ use Rattle.m88_parse.specs.declared.operand.Operand.{Operand}
 use Rattle.m88_parse.specs.declared.operand.Operand.TheVariants as operand
 use Rattle.m88_parse.specs.declared.operand.Bound.{Bound}
 use Rattle.m88_parse.specs.declared.operand.Bound.TheVariants as bound
-use Rattle.m88_parse.specs.Reader.Names.{register_of}
+use Rattle.m88_parse.specs.Inside.Names.{register_of}
 use Rattle.m88_parse.specs.Language.Words.{half_named}
 use Rattle.m88_parse.specs.Language.Pieces.{TokenValue, a_name, a_number, a_text, a_mark, Piece}
-use Rattle.m88_parse.specs.Reader.State.{ReaderState, past, says_first, is_mark_of, ◌>>=◌}
-use Rattle.m88_parse.specs.Reader.Slots.{Read, meaning_or_fault, mark_at, unsigned_on, unsigned_at, signed_at, value_at, register_on, register_at}
-use Rattle.m88_parse.specs.Reader.Operands.{half_immediate, half_at, half_on, short_on, immediate_of, immediate_at, register_in, operand_of, operand_at, bound_on, bound_at}
-use Rattle.m88_parse.specs.Reader.Grammar.{end_with}
+use Rattle.m88_parse.specs.Inside.State.{ReaderState, past, says_first, is_mark_of, ◌>>=◌}
+use Rattle.m88_parse.specs.Inside.Slots.{Read, meaning_or_fault, mark_at, unsigned_on, unsigned_at, signed_at, value_at, register_on, register_at}
+use Rattle.m88_parse.specs.Inside.Operands.{half_immediate, half_at, half_on, short_on, immediate_of, immediate_at, register_in, operand_of, operand_at, bound_on, bound_at}
+use Rattle.m88_parse.specs.Inside.Grammar.{end_with}
 use Rattle.m88_parse.specs.Language.Names.{IsMark, IsNumber, IsNamed, IsRegister}
 use Rattle.m88_parse.specs.Language.Operands.{IsValue, IsHalfOf, IsImmediate, short, half, IsLast}
 use Rattle.m88_parse.proofs.Law.Steps.{chosen, tested, take_then, take_else}

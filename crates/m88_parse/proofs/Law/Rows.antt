@@ -6,11 +6,11 @@ use Rattle.m88_parse.specs.declared.unit.Body.{Body}
 use Rattle.m88_parse.specs.declared.unit.Statement.{Statement}
 use Rattle.m88_parse.specs.declared.row.Row.{Row}
 use Rattle.m88_parse.specs.declared.row.Row.TheVariants as row
-use Rattle.m88_parse.specs.Reader.Names.{is_module}
+use Rattle.m88_parse.specs.Inside.Names.{is_module}
 use Rattle.m88_parse.specs.Language.Pieces.{TokenValue, a_name, a_number, a_text, a_mark, Piece}
-use Rattle.m88_parse.specs.Reader.State.{says_first, first, past, is_mark_of}
-use Rattle.m88_parse.specs.Reader.Slots.{any_name_at}
-use Rattle.m88_parse.specs.Reader.Source.{operation_on, operation_at, statement, labelled_on, labelled_at, unlabelled_at, head_at, is_label_on, is_head_on, row_at, end_of_line, row_of_pieces}
+use Rattle.m88_parse.specs.Inside.State.{says_first, first, past, is_mark_of}
+use Rattle.m88_parse.specs.Inside.Slots.{any_name_at}
+use Rattle.m88_parse.specs.Inside.Source.{operation_on, operation_at, statement, labelled_on, labelled_at, unlabelled_at, head_at, is_label_on, is_head_on, row_at, end_of_line, row_of_pieces}
 use Rattle.m88_parse.specs.Language.Names.{IsNamed}
 use Rattle.m88_parse.specs.Language.Statements.{IsBody, text, data_section, at, word, half, byte, ascii, zeros, align, global, set, code, IsLabel, BeginsWithNoColon, IsStatement, unlabelled, labelled, label_alone, IsHead, head}
 use Rattle.m88_parse.specs.Language.Units.{Said, says_nothing, says, begins, LineSays, empty_line, statement_line, module_line}

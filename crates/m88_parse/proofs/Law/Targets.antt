@@ -9,10 +9,10 @@ use Rattle.m88_parse.specs.declared.fault.ParseKind.TheVariants.{OutOfRange}
 use Rattle.m88_parse.specs.declared.unit.Body.{Body}
 use Rattle.m88_parse.specs.declared.operand.Target.{Target}
 use Rattle.m88_parse.specs.Language.Pieces.{TokenValue, a_name, a_number, a_text, a_mark, Piece}
-use Rattle.m88_parse.specs.Reader.State.{ReaderState, says_first, ◌>>=◌}
-use Rattle.m88_parse.specs.Reader.Slots.{Read, fixup_at}
-use Rattle.m88_parse.specs.Reader.Operands.{distance_on, distance_at, words_at, is_here_on, target_at}
-use Rattle.m88_parse.specs.Reader.Grammar.{end_with}
+use Rattle.m88_parse.specs.Inside.State.{ReaderState, says_first, ◌>>=◌}
+use Rattle.m88_parse.specs.Inside.Slots.{Read, fixup_at}
+use Rattle.m88_parse.specs.Inside.Operands.{distance_on, distance_at, words_at, is_here_on, target_at}
+use Rattle.m88_parse.specs.Inside.Grammar.{end_with}
 use Rattle.m88_parse.specs.Language.Names.{IsNumber, IsNamed}
 use Rattle.m88_parse.specs.Language.Operands.{IsFixup, IsPlace, IsGoal, place as a_place, symbol as a_symbol}
 use Rattle.m88_parse.proofs.Law.Steps.{both, tested, take_then, take_else}

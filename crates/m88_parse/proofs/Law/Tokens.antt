@@ -4,7 +4,7 @@ use Rattle.std.specs.List.{list_all}
 use Rattle.std.proofs.Math.Seq.{take-append_seam, drop-append_seam, drop-length}
 use Rattle.m88_parse.specs.declared.fault.ParseFault.{ParseFault}
 use Rattle.m88_parse.specs.declared.scan.Flaw.{Flaw}
-use Rattle.m88_parse.specs.Reader.Tokens.{Cut, front, prepend, fault_at, pieces, pieces_of}
+use Rattle.m88_parse.specs.Inside.Tokens.{Cut, front, prepend, fault_at, pieces, pieces_of}
 use Rattle.m88_parse.specs.Language.Bytes.{is_blank, is_comment}
 use Rattle.m88_parse.specs.Language.Pieces.{TokenValue, a_name, a_number, a_text, a_mark, Piece}
 use Rattle.m88_base.specs.Name.{IsName}

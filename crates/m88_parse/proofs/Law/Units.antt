@@ -6,12 +6,12 @@ use Rattle.m88_parse.specs.declared.unit.Module.{Module}
 use Rattle.m88_parse.specs.declared.unit.Unit.{Unit as Source}
 use Rattle.m88_parse.specs.declared.row.Row.{Row}
 use Rattle.m88_parse.specs.declared.row.Row.TheVariants as row
-use Rattle.m88_parse.specs.Reader.Tokens.{pieces_of}
+use Rattle.m88_parse.specs.Inside.Tokens.{pieces_of}
 use Rattle.m88_parse.specs.Language.Pieces.{Piece}
 use Rattle.m88_parse.specs.Fault.{Gives}
-use Rattle.m88_parse.specs.Reader.State.{◌>>=◌}
+use Rattle.m88_parse.specs.Inside.State.{◌>>=◌}
 use Rattle.m88_base.specs.Lines.{lines_of}
-use Rattle.m88_parse.specs.Reader.Source.{row_of_pieces, row_of_line, with_row, rows_of, grouped, main_with, modules_in, unit_of_rows, unit_of}
+use Rattle.m88_parse.specs.Inside.Source.{row_of_pieces, row_of_line, with_row, rows_of, grouped, main_with, modules_in, unit_of_rows, unit_of}
 use Rattle.m88_parse.specs.Language.Tokens.{LineTokens}
 use Rattle.m88_parse.specs.Language.Units.{Said, says_nothing, says, begins, LineSays, AreRows, no_row, row_of_nothing, row_of_statement, row_of_module, AreModules, only_main, first_main, no_main, IsUnit}
 use Rattle.m88_parse.proofs.Law.Slots.{ok_same, bind_ok, bind_to}

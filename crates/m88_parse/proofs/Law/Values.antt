@@ -7,8 +7,8 @@ use Rattle.m88_parse.specs.declared.fault.ParseKind.TheVariants.{Syntax, OutOfRa
 use Rattle.m88_parse.specs.declared.unit.Value.{Value}
 use Rattle.m88_parse.specs.declared.unit.Value.TheVariants.{Number, Symbol}
 use Rattle.m88_parse.specs.Language.Pieces.{TokenValue, a_name, a_number, a_text, a_mark, Piece}
-use Rattle.m88_parse.specs.Reader.State.{ReaderState, first, is_mark_of, ◌>>=◌}
-use Rattle.m88_parse.specs.Reader.Slots.{Read, negated, negative_on, unsigned_at, signed_at, symbol_at, addend_at, fixup_at, value_on, value_at}
+use Rattle.m88_parse.specs.Inside.State.{ReaderState, first, is_mark_of, ◌>>=◌}
+use Rattle.m88_parse.specs.Inside.Slots.{Read, negated, negative_on, unsigned_at, signed_at, symbol_at, addend_at, fixup_at, value_on, value_at}
 use Rattle.m88_parse.specs.Language.Names.{IsMark, IsNumber, IsNamed}
 use Rattle.m88_parse.specs.Language.Operands.{IsSigned, IsFixup, IsValue}
 use Rattle.m88_parse.proofs.Law.Steps.{take_then, take_else}

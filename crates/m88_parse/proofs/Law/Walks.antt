@@ -7,9 +7,9 @@ use Rattle.m88_parse.specs.declared.fault.ParseFault.{ParseFault}
 use Rattle.m88_parse.specs.declared.unit.Body.{Body}
 use Rattle.m88_parse.specs.Language.Pieces.{TokenValue, a_name, a_number, a_text, a_mark, Piece}
 use Rattle.m88_parse.specs.Language.Names.{IsMark, IsNumber, IsNamed}
-use Rattle.m88_parse.specs.Reader.State.{ReaderState, past, says_first, is_mark_of, is_next_mark, ◌>>=◌}
-use Rattle.m88_parse.specs.Reader.Slots.{Read, mark_at, line_end_at}
-use Rattle.m88_parse.specs.Reader.Grammar.{end_with}
+use Rattle.m88_parse.specs.Inside.State.{ReaderState, past, says_first, is_mark_of, is_next_mark, ◌>>=◌}
+use Rattle.m88_parse.specs.Inside.Slots.{Read, mark_at, line_end_at}
+use Rattle.m88_parse.specs.Inside.Grammar.{end_with}
 use Rattle.m88_parse.proofs.Law.Steps.{tested, take_then, take_else}
 use Rattle.m88_parse.proofs.Law.Slots.{st, Naming, no_name, own_names, symbols, kind_for, plain_kind, ok_same, mark_says, next_again, gives, GivesNumbers, GivesNames, OneToken, one_mark, saying, NoName, number_is, text_is, mark_is, no_named, same_kind}
 use Rattle.m88_parse.proofs.Law.LineFaults.Readers.{fault_in, same_fault, Reader, here, Goes, Refuses, Good, WantsNumbers, WantsNames}

@@ -2,7 +2,7 @@
 use Rattle.std.proofs.Common.{sym, ap, ◌∙◌, refl, subst}
 use Rattle.std.specs.Int.{to_be_bytes, w16}
 use Rattle.m88_link.specs.Sound.{HasRoom}
-use Rattle.m88_asm.specs.Drafts.{with_bytes}
+use Rattle.m88_asm.specs.Inside.Drafts.{with_bytes}
 use Rattle.m88_asm.proofs.Rooms.{piece_room, piece_put, pieces_put}
 use Rattle.m88_asm.proofs.filling.halves.Goals as goal
 

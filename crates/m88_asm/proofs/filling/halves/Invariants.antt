@@ -1,7 +1,7 @@
 -- What the loop of `halves` keeps.
 use Rattle.std.proofs.Common.{◌≡◌, drop, flat_map}
 use Rattle.std.specs.Int.{to_be_bytes, w16}
-use Rattle.m88_asm.specs.Drafts.{with_bytes}
+use Rattle.m88_asm.specs.Inside.Drafts.{with_bytes}
 use Rattle.m88_asm.proofs.filling.halves.Given as goal
 
 -- the bytes so far, with those of the numbers to come, are all that there will be

@@ -1,7 +1,7 @@
 -- What the loop of `words` keeps.
 use Rattle.std.proofs.Common.{◌≡◌, ◌++◌, length, drop, flat_map}
 use Rattle.std.specs.Int.{to_be_bytes, w32}
-use Rattle.m88_asm.specs.Drafts.{with_bytes}
+use Rattle.m88_asm.specs.Inside.Drafts.{with_bytes}
 use Rattle.m88_asm.specs.Filled.{waiting_word}
 use Rattle.m88_asm.specs.Objects.{uses_in_values}
 use Rattle.m88_asm.proofs.filling.words.Given as goal

@@ -4,7 +4,7 @@ use Rattle.std.specs.List.{All}
 use Rattle.m88_link.specs.Sound.{HasRoom, IsSound}
 use Rattle.m88_link.specs.Symbols.{first_repeated}
 use Rattle.m88_link.specs.declared.object.Object.{Object}
-use Rattle.m88_asm.specs.Drafts.{Growth, empty_growth, with_statements}
+use Rattle.m88_asm.specs.Inside.Drafts.{Growth, empty_growth, with_statements}
 use Rattle.m88_asm.specs.Counters.{at_begin, located}
 use Rattle.m88_asm.specs.Faults.{statements_fault, module_fault}
 use Rattle.m88_asm.specs.Objects.{lines_in, marked, object_of, symbols_of}

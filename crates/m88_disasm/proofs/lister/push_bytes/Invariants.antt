@@ -1,6 +1,6 @@
 -- The lines of the bytes so far are there, at most a line's bytes for each.
 use Rattle.std.proofs.Common.{◌+◌, ◌*◌, ◌≤◌, ◌-◌, length}
-use Rattle.m88_disasm.specs.Appended.{BytesAppended}
+use Rattle.m88_disasm.specs.Inside.Appended.{BytesAppended}
 use Rattle.m88_disasm.specs.declared.lister.TheConstants.{MOST_LINE}
 use Rattle.m88_disasm.proofs.lister.push_bytes.Given as goal
 

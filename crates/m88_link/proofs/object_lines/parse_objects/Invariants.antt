@@ -1,6 +1,6 @@
 -- The lines that are left come to what all lines come to.
 use Rattle.std.proofs.Common.{◌≡◌, ◌+◌, ◌≤◌, length}
-use Rattle.m88_link.specs.Drafts.{nothing_read, read_from}
+use Rattle.m88_link.specs.Inside.Drafts.{nothing_read, read_from}
 use Rattle.m88_link.specs.ObjectRead.{ended_lines}
 use Rattle.m88_link.proofs.object_lines.parse_objects.Given as goal
 

@@ -5,7 +5,7 @@ use Rattle.std.specs.List.Sorted.{IsNonDecreasingBy, IsPermutation}
 use Rattle.std.specs.Prelude.{flat_map}
 use Rattle.m88_link.specs.Layout.{Extent, extents_of}
 use Rattle.m88_link.specs.Refusal.{AreDisjoint}
-use Rattle.m88_link.specs.Overlap.{IsLeastDouble}
+use Rattle.m88_link.specs.Inside.Overlap.{IsLeastDouble}
 use Rattle.m88_link.proofs.Swept.{disjoint_in_order, double_in_order}
 use Rattle.m88_link.proofs.overlap.check_overlap.Goals as goal
 

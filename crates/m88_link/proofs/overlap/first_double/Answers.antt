@@ -1,6 +1,6 @@
 -- A section that begins below the end so far has the least double address; each other one moves the end or has no byte.
 use Rattle.std.proofs.Common.{◌+◌, ◌∙◌, take, subst, sym, arith}
-use Rattle.m88_link.specs.Overlap.{IsLeastDouble}
+use Rattle.m88_link.specs.Inside.Overlap.{IsLeastDouble}
 use Rattle.m88_link.proofs.Swept.{IsSwept, first_double_at, swept_all, swept_empty_at, swept_more_at}
 use Rattle.m88_link.proofs.overlap.first_double.Goals as goal
 use Rattle.m88_link.proofs.overlap.first_double.Goals.{then-len-gt0+else-at-reach, else-len-gt0}

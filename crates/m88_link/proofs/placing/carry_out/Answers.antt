@@ -1,7 +1,7 @@
 -- One relocation carried out leaves the others to carry out, and its section as long as it was.
 use Rattle.std.proofs.Common.{◌+◌, ◌∙◌, drop, get_or, sym, ap, subst, arith}
 use Rattle.std.specs.Prelude.{slice_set}
-use Rattle.m88_link.specs.Carried.{HasWord, carried, patched_spot}
+use Rattle.m88_link.specs.Inside.Carried.{HasWord, carried, patched_spot}
 use Rattle.m88_link.specs.Layout.{value_of_name}
 use Rattle.m88_link.specs.Relocated.{target_of}
 use Rattle.m88_link.proofs.Carried.{carried_more, patched_at, word_here, word_kept}

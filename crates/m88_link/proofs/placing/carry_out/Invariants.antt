@@ -1,7 +1,7 @@
 -- The relocations that are left come to what all come to, and each word lies in its section.
 use Rattle.std.proofs.Common.{◌≡◌, drop}
 use Rattle.std.specs.Prelude.{All}
-use Rattle.m88_link.specs.Carried.{HasWord, carried}
+use Rattle.m88_link.specs.Inside.Carried.{HasWord, carried}
 use Rattle.m88_link.specs.Layout.{value_of_name}
 use Rattle.m88_link.specs.Relocated.{target_of}
 use Rattle.m88_link.proofs.placing.carry_out.Given as goal

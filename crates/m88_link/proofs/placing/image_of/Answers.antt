@@ -3,7 +3,7 @@ use Rattle.std.proofs.Common.{◌≤◌, ◌∙◌, sym, ap, subst, arith, lengt
 use Rattle.std.proofs.lemmas.List.Sorted.{sum_by-IsPermutation}
 use Rattle.m88_base.specs.Image.{most_bytes}
 use Rattle.m88_base.specs.Placed.{Placed, byte_among, count_among}
-use Rattle.m88_link.specs.Carried.{AreAlone}
+use Rattle.m88_link.specs.Inside.Carried.{AreAlone}
 use Rattle.m88_link.proofs.Imaged.{alone_in_order, found_in_order}
 use Rattle.m88_link.proofs.placing.image_of.Goals as goal
 

@@ -1,7 +1,7 @@
 -- The word of each relocation lies in its section, and carried out section by section the bytes are the same.
 use Rattle.std.proofs.Common.{◌∙◌, map, sym, ap, subst}
 use Rattle.std.specs.Prelude.{All}
-use Rattle.m88_link.specs.Carried.{HasWord, unpatched, carried}
+use Rattle.m88_link.specs.Inside.Carried.{HasWord, unpatched, carried}
 use Rattle.m88_link.specs.Layout.{value_of_name}
 use Rattle.m88_link.specs.Relocated.{target_of}
 use Rattle.m88_link.proofs.Carried.{carried_is, has_words}

@@ -3,7 +3,7 @@ use Rattle.std.proofs.Common.{◌<◌, ◌^◌, List, inr, sym, subst, arith}
 use Rattle.std.proofs.lemmas.Result.{err_from_is_err_and}
 use Rattle.std.specs.Prelude.{All}
 use Rattle.m88_link.specs.declared.object.Object.{Object}
-use Rattle.m88_link.specs.Walked.{AreSoundParts, IsFoundObject, objects_count}
+use Rattle.m88_link.specs.Inside.Walked.{AreSoundParts, IsFoundObject, objects_count}
 use Rattle.m88_link.proofs.Told.{few_enough, form_told, range_told, small_line, sound_told}
 use Rattle.m88_link.proofs.Walks.{walked_sound, walked_unsound}
 use Rattle.m88_link.proofs.read.read.Goals as goal

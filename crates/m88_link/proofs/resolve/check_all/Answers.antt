@@ -6,7 +6,7 @@ use Rattle.m88_base.proofs.Lookup.{option_or_assoc}
 use Rattle.m88_link.specs.Bases.{base_of}
 use Rattle.m88_link.specs.Layout.{reference}
 use Rattle.m88_link.specs.Refusal.{too_far, too_far_in, undefined, undefined_in}
-use Rattle.m88_link.specs.Resolved.{uses_in}
+use Rattle.m88_link.specs.Inside.Resolved.{uses_in}
 use Rattle.m88_link.proofs.Parts.{fault_none, fault_within, first_fault-append, one_more, parts_at}
 use Rattle.m88_link.proofs.resolve.check_all.Goals as goal
 

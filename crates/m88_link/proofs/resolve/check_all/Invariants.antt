@@ -3,7 +3,7 @@ use Rattle.std.proofs.Common.{◌≡◌, take}
 use Rattle.std.specs.Prelude.{None}
 use Rattle.std.specs.Option.{option_or}
 use Rattle.m88_link.specs.Refusal.{too_far, undefined}
-use Rattle.m88_link.specs.Resolved.{uses_in}
+use Rattle.m88_link.specs.Inside.Resolved.{uses_in}
 use Rattle.m88_link.proofs.resolve.check_all.Given as goal
 
 abbrev pub invariant-loop-reloc : goal.invariant-loop-reloc

@@ -5,7 +5,7 @@ use Rattle.std.specs.Prelude.{flat_map}
 use Rattle.std.specs.Option.{option_or}
 use Rattle.m88_link.specs.Layout.{references_of}
 use Rattle.m88_link.specs.Refusal.{too_far, too_far_in, undefined, undefined_in}
-use Rattle.m88_link.specs.Resolved.{uses_in}
+use Rattle.m88_link.specs.Inside.Resolved.{uses_in}
 use Rattle.m88_link.proofs.Parts.{fault_none, fault_within, first_fault-append, flat_more, flat_parts, some_first}
 use Rattle.m88_link.proofs.resolve.check_references.Goals as goal
 

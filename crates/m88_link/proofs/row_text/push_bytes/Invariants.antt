@@ -1,6 +1,6 @@
 -- The bytes so far and those of the digits that are left are those of all digits.
 use Rattle.std.proofs.Common.{◌≡◌, length}
-use Rattle.m88_link.specs.Rows.{bytes_behind}
+use Rattle.m88_link.specs.Inside.Rows.{bytes_behind}
 use Rattle.m88_link.proofs.row_text.push_bytes.Given as goal
 
 abbrev pub invariant-loop-rest : goal.invariant-loop-rest

@@ -1,5 +1,5 @@
 -- An object of which a part isn't sound is the first, and one that is sound in its parts has its lines counted.
-use Rattle.m88_link.specs.Walked.{AreSoundParts, object_count}
+use Rattle.m88_link.specs.Inside.Walked.{AreSoundParts, object_count}
 use Rattle.m88_link.proofs.Walks.{all_one, object_fails, summed_one, walked_sound, walked_unsound}
 use Rattle.m88_link.proofs.walk.walk_objects.Goals as goal
 

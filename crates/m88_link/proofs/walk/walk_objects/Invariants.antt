@@ -1,7 +1,7 @@
 -- The objects so far are sound in their parts, and their lines are counted.
 use Rattle.std.proofs.Common.{◌≡◌, take}
 use Rattle.std.specs.Prelude.{All}
-use Rattle.m88_link.specs.Walked.{AreSoundParts, objects_count}
+use Rattle.m88_link.specs.Inside.Walked.{AreSoundParts, objects_count}
 use Rattle.m88_link.proofs.walk.walk_objects.Given as goal
 
 abbrev pub invariant-loop-object : goal.invariant-loop-object

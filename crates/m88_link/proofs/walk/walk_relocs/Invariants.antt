@@ -1,6 +1,6 @@
 -- The relocations so far patch words.
 use Rattle.std.proofs.Common.{take}
-use Rattle.m88_link.specs.Walked.{ArePatches}
+use Rattle.m88_link.specs.Inside.Walked.{ArePatches}
 use Rattle.m88_link.proofs.walk.walk_relocs.Given as goal
 
 abbrev pub invariant-loop-index : goal.invariant-loop-index

@@ -1,6 +1,6 @@
 -- A section without room is the first, and one that has room has its lines counted.
 use Rattle.m88_link.specs.Sound.{HasRoom}
-use Rattle.m88_link.specs.Walked.{section_count, sections_count}
+use Rattle.m88_link.specs.Inside.Walked.{section_count, sections_count}
 use Rattle.m88_link.proofs.Walks.{all_one, found_one, summed_one}
 use Rattle.m88_link.proofs.walk.walk_sections.Goals as goal
 

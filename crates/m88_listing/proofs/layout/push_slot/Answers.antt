@@ -5,7 +5,7 @@ use Rattle.std.proofs.lemmas.List.{append-nil}
 use Rattle.m88_base.specs.Image.{most_bytes}
 use Rattle.m88_asm.specs.Counters.{Counters, Located, at_section, length_at, length_of, offset_here, place_here, with_length}
 use Rattle.m88_asm.specs.Units.{base_in}
-use Rattle.m88_listing.specs.Slots.{counters_in}
+use Rattle.m88_listing.specs.Inside.Slots.{counters_in}
 use Rattle.m88_listing.specs.declared.slots.Slot.{Slot}
 use Rattle.m88_listing.proofs.Keeping.{slots_none, slots_some}
 use Rattle.m88_listing.proofs.layout.push_slot.Goals.{then-len-gt0+in_ok-push, else-len-gt0}

@@ -1,7 +1,7 @@
 -- What is kept so far, with what is kept of the statements that are left, is all that is kept; these fit.
 use Rattle.std.proofs.Common.{◌≡◌, ◌++◌, drop}
 use Rattle.m88_asm.specs.Counters.{at_begin}
-use Rattle.m88_listing.specs.Slots.{AllFit, counters_in, slots_from}
+use Rattle.m88_listing.specs.Inside.Slots.{AllFit, counters_in, slots_from}
 use Rattle.m88_listing.proofs.layout.push_slots.Given as goal
 
 abbrev pub invariant-loop-x : goal.invariant-loop-x

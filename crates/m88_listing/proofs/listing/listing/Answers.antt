@@ -8,11 +8,11 @@ use Rattle.m88_base.specs.Lines.{lines_of, text_of_lines}
 use Rattle.m88_base.specs.Pages.{page_bytes}
 use Rattle.m88_parse.specs.declared.unit.Module.{Module}
 use Rattle.m88_link.specs.Bases.{first_text, up_to_multiple}
-use Rattle.m88_link.specs.Sizes.{total_size}
+use Rattle.m88_link.specs.Inside.Sizes.{total_size}
 use Rattle.m88_link.specs.declared.object.Object.{Object}
 use Rattle.m88_asm.specs.Units.{Based, based, based_from, end_of_text}
 use Rattle.m88_listing.specs.Entries.{AreInOrder, entries_in, labels_of, numbers_of}
-use Rattle.m88_listing.specs.Slots.{IsSlot, ModuleFits, slots_of, walked}
+use Rattle.m88_listing.specs.Inside.Slots.{IsSlot, ModuleFits, slots_of, walked}
 use Rattle.m88_listing.specs.declared.entries.Entry.{Entry}
 use Rattle.m88_listing.specs.declared.slots.Slot.{Slot}
 use Rattle.m88_listing.proofs.Fitting.{are_slots, unit_fits}

@@ -3,7 +3,7 @@ use Rattle.std.proofs.Common.{◌+◌, ◌∙◌, ◌++◌, ◌∷◌, [], ap, L
 use Rattle.std.specs.Prelude.{unwrap_or}
 use Rattle.std.proofs.lemmas.List.FromFn.{map-range_with_len_more}
 use Rattle.m88_base.specs.Image.{byte_at}
-use Rattle.m88_listing.specs.Slots.{found_bytes}
+use Rattle.m88_listing.specs.Inside.Slots.{found_bytes}
 use Rattle.m88_listing.proofs.rows.bytes_at.Goals as goal
 
 pub loop-k-preserved : goal.loop-k-preserved

@@ -4,7 +4,7 @@ use Rattle.std.proofs.lemmas.Grind.{common_steps}
 use Rattle.std.proofs.lemmas.List.{append-nil}
 use Rattle.m88_base.specs.Image.{byte_at}
 use Rattle.m88_base.specs.Lines.{text_of_lines}
-use Rattle.m88_listing.specs.Slots.{walked}
+use Rattle.m88_listing.specs.Inside.Slots.{walked}
 use Rattle.m88_listing.proofs.Lines.{no_lines}
 use Rattle.m88_listing.proofs.rows.push_source.Goals as goal
 

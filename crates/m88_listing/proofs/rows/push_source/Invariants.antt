@@ -2,7 +2,7 @@
 use Rattle.std.proofs.Common.{◌≡◌, ◌+◌, ◌≤◌, ◌++◌, drop, length}
 use Rattle.m88_base.specs.Image.{byte_at}
 use Rattle.m88_base.specs.Lines.{lines_of, text_of_lines}
-use Rattle.m88_listing.specs.Slots.{walked}
+use Rattle.m88_listing.specs.Inside.Slots.{walked}
 use Rattle.m88_listing.proofs.rows.push_source.Given as goal
 
 abbrev pub invariant-loop-rest : goal.invariant-loop-rest

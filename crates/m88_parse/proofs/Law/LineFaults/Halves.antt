@@ -5,7 +5,7 @@ use Rattle.m88_parse.specs.declared.fault.ParseKind.TheVariants.{NoSuchName}
 use Rattle.m88_parse.specs.declared.fault.ParseFault.{ParseFault}
 use Rattle.m88_parse.specs.Language.Words.{half_named}
 use Rattle.m88_parse.specs.Language.Pieces.{a_mark, Piece}
-use Rattle.m88_parse.specs.Reader.State.{says_first, is_mark_of}
+use Rattle.m88_parse.specs.Inside.State.{says_first, is_mark_of}
 use Rattle.m88_parse.specs.Language.Names.{IsMark, IsNamed}
 use Rattle.m88_parse.specs.Language.LineFaults.{IsOperation, Stops, half_alone, EndsInHalf}
 use Rattle.m88_parse.proofs.Law.Steps.{tested}

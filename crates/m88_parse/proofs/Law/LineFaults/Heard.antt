@@ -9,8 +9,8 @@ use Rattle.m88_parse.specs.Language.Pieces.{TokenValue, Piece}
 use Rattle.m88_parse.specs.Language.Names.{IsNamed}
 use Rattle.m88_parse.specs.Language.Statements.{IsHead, head}
 use Rattle.m88_parse.specs.Language.LineFaults.{IsOperation, operation, head_of_module}
-use Rattle.m88_parse.specs.Reader.State.{first, place}
-use Rattle.m88_parse.specs.Reader.Source.{operation_at, head_at, is_head_on, statement}
+use Rattle.m88_parse.specs.Inside.State.{first, place}
+use Rattle.m88_parse.specs.Inside.Source.{operation_at, head_at, is_head_on, statement}
 use Rattle.m88_parse.proofs.Law.Steps.{chosen, take_then, take_else}
 use Rattle.m88_parse.proofs.Law.Slots.{st, bind_ok, bind_to}
 use Rattle.m88_parse.proofs.Law.Bodies.{operation_read, body_again}

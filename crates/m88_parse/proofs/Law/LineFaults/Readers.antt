@@ -4,8 +4,8 @@ use Rattle.m88_parse.specs.declared.fault.ParseKind.{ParseKind}
 use Rattle.m88_parse.specs.declared.fault.ParseFault.{ParseFault}
 use Rattle.m88_parse.specs.declared.row.Row.{Row}
 use Rattle.m88_parse.specs.Language.Pieces.{Piece}
-use Rattle.m88_parse.specs.Reader.State.{ReaderState, first}
-use Rattle.m88_parse.specs.Reader.Source.{unlabelled_at, head_at, is_head_on}
+use Rattle.m88_parse.specs.Inside.State.{ReaderState, first}
+use Rattle.m88_parse.specs.Inside.Source.{unlabelled_at, head_at, is_head_on}
 use Rattle.m88_parse.specs.Language.Names.{IsMark, IsNumber, IsNamed, IsSymbol}
 use Rattle.m88_parse.specs.Language.LineFaults.{IsOperation, MayFollow, NumberMayFollow, NameMayFollow, EverySymbolMayFollow, EndsInSign, IsBroken}
 use Rattle.m88_parse.proofs.Law.Slots.{st, Naming, no_name, own_names, symbols}

@@ -2,7 +2,7 @@
 use Rattle.std.proofs.Common.{◌≡◌, map, take}
 use Rattle.std.specs.List.{All}
 use Rattle.m88_parse.specs.Language.Pieces.{IsTokenOf, plain_token, token_of}
-use Rattle.m88_parse.specs.Reader.Tokens.{piece_of}
+use Rattle.m88_parse.specs.Inside.Tokens.{piece_of}
 use Rattle.m88_parse.proofs.lexemes.cut_tokens.Given as goal
 
 abbrev pub invariant-loop-lexeme : goal.invariant-loop-lexeme

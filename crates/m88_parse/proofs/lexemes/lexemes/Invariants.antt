@@ -1,8 +1,8 @@
 -- The tokens so far, with those of the bytes that are left, are the tokens of the line.
 use Rattle.std.proofs.Common.{◌≡◌, ◌+◌, ◌-◌, ◌≤◌, drop, length, map}
 use Rattle.std.specs.List.{All}
-use Rattle.m88_parse.specs.Reader.Places.{IsNear, IsLexemeOf}
-use Rattle.m88_parse.specs.Reader.Tokens.{piece_of, pieces, pieces_of}
+use Rattle.m88_parse.specs.Inside.Places.{IsNear, IsLexemeOf}
+use Rattle.m88_parse.specs.Inside.Tokens.{piece_of, pieces, pieces_of}
 use Rattle.m88_parse.proofs.Pieces.{with_front}
 use Rattle.m88_parse.proofs.lexemes.lexemes.Given as goal
 

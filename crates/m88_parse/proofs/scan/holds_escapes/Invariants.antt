@@ -1,6 +1,6 @@
 -- What is left holds escapes alone exactly where the whole does.
 use Rattle.std.proofs.Common.{◌≡◌, drop, false}
-use Rattle.m88_parse.specs.Reader.Tokens.{holds_escapes}
+use Rattle.m88_parse.specs.Inside.Tokens.{holds_escapes}
 use Rattle.m88_parse.proofs.scan.holds_escapes.Given as goal
 
 abbrev pub invariant-loop-b : goal.invariant-loop-b

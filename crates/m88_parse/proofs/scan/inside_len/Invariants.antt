@@ -1,6 +1,6 @@
 -- The bytes passed, with those up to a closing quote of the rest, are those up to the closing quote.
 use Rattle.std.proofs.Common.{◌≡◌, ◌+◌, drop, false}
-use Rattle.m88_parse.specs.Reader.Tokens.{inside_len}
+use Rattle.m88_parse.specs.Inside.Tokens.{inside_len}
 use Rattle.m88_parse.proofs.scan.inside_len.Given as goal
 
 abbrev pub invariant-loop-i : goal.invariant-loop-i

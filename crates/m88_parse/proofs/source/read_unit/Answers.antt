@@ -4,7 +4,7 @@ use Rattle.std.proofs.lemmas.Grind.{common_steps}
 use Rattle.m88_parse.specs.declared.fault.ParseFault.{ParseFault}
 use Rattle.m88_parse.specs.declared.unit.Module.{Module}
 use Rattle.m88_parse.specs.declared.unit.Unit.{Unit as Source}
-use Rattle.m88_parse.specs.Reader.Source.{unit_of}
+use Rattle.m88_parse.specs.Inside.Source.{unit_of}
 use Rattle.m88_parse.proofs.Drafts.{starts, ends_all}
 use Rattle.m88_parse.proofs.source.read_unit.Goals as goal
 

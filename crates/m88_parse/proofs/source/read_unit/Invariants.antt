@@ -1,8 +1,8 @@
 -- The draft, with the rows of the lines that are left, leads to the unit of the source.
 use Rattle.std.proofs.Common.{◌≡◌, ◌+◌, ◌≤◌, length}
 use Rattle.m88_base.specs.Lines.{lines_of}
-use Rattle.m88_parse.specs.Reader.Source.{rows_of, unit_of}
-use Rattle.m88_parse.specs.Reader.Drafts.{leads}
+use Rattle.m88_parse.specs.Inside.Source.{rows_of, unit_of}
+use Rattle.m88_parse.specs.Inside.Drafts.{leads}
 use Rattle.m88_parse.proofs.source.read_unit.Given as goal
 
 abbrev pub invariant-loop-rest : goal.invariant-loop-rest

@@ -1,6 +1,6 @@
 -- A statement that fits leaves room for its bytes.
 use Rattle.std.proofs.Common.{sym, ◌∙◌}
-use Rattle.m88_asm.specs.Drafts.{nth}
+use Rattle.m88_asm.specs.Inside.Drafts.{nth}
 use Rattle.m88_asm.proofs.Assembling.{fits}
 use Rattle.m88_asm.proofs.assembly.Assembly.add.Goals as goal
 

@@ -1,7 +1,7 @@
 -- A module that begins closes the one that was open, if any was.
 use Rattle.std.proofs.Common.{Option, [], ◌∷◌, ◌++◌, sym, ap, ◌∙◌}
 use Rattle.m88_parse.specs.declared.unit.Module.{Module}
-use Rattle.m88_parse.specs.Reader.Drafts.{Drafted, modules_with}
+use Rattle.m88_parse.specs.Inside.Drafts.{Drafted, modules_with}
 use Rattle.m88_parse.proofs.Drafts.{head_follows, first_head_follows}
 use Rattle.m88_parse.proofs.draft.Draft.begin.Goals as goal
 

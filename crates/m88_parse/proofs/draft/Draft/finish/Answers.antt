@@ -1,7 +1,7 @@
 -- The modules at the end are those closed, and the open one, which is there even where no row was.
 use Rattle.std.proofs.Common.{◌≡◌, [], ◌∷◌, ◌++◌, sym, ap, ◌∙◌}
 use Rattle.m88_parse.specs.declared.unit.Module.{Module}
-use Rattle.m88_parse.specs.Reader.Drafts.{Drafted, modules_after, begun}
+use Rattle.m88_parse.specs.Inside.Drafts.{Drafted, modules_after, begun}
 use Rattle.m88_parse.proofs.Drafts.{at_end}
 use Rattle.m88_parse.proofs.draft.Draft.finish.Goals as goal
 

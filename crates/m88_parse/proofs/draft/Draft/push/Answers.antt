@@ -1,7 +1,7 @@
 -- A statement goes to the end of the open module, or of the module main where none has begun.
 use Rattle.std.proofs.Common.{◌≡◌, Option, [], ◌∷◌, sym, ap, ◌∙◌}
 use Rattle.m88_parse.specs.declared.unit.Module.{Module}
-use Rattle.m88_parse.specs.Reader.Drafts.{Drafted, with_more, begun}
+use Rattle.m88_parse.specs.Inside.Drafts.{Drafted, with_more, begun}
 use Rattle.m88_parse.proofs.Drafts.{follows_statement, pushed_follows}
 use Rattle.m88_parse.proofs.draft.Draft.push.Goals as goal
 

@@ -1,5 +1,5 @@
 -- The answer to one piece more.
-use Rattle.m88_srec.specs.Taking.{begun_seen}
+use Rattle.m88_srec.specs.Inside.Taking.{begun_seen}
 use Rattle.m88_srec.proofs.Fed.{answered, led, refused_now}
 use Rattle.m88_srec.proofs.Feeding.{none_held}
 use Rattle.m88_srec.proofs.loader.Loader.feed.Goals as goal

@@ -1,6 +1,6 @@
 -- One byte more.
 use Rattle.std.proofs.Common.{arith}
-use Rattle.m88_srec.specs.Taking.{begun_seen}
+use Rattle.m88_srec.specs.Inside.Taking.{begun_seen}
 use Rattle.m88_srec.proofs.Feeding.{goes_through, stops_there}
 use Rattle.m88_srec.proofs.so_far.TextSoFar.piece.Goals as goal
 

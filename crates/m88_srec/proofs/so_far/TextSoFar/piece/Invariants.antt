@@ -1,7 +1,7 @@
 -- The bytes so far lead on, and the numbers stay below theirs.
 use Rattle.std.proofs.Common.{◌+◌, ◌≤◌, ℕ, List, ◌++◌, take}
 use Rattle.m88_srec.specs.Begun.{LeadsTo}
-use Rattle.m88_srec.specs.Taking.{AreCounted, begun_seen, reach}
+use Rattle.m88_srec.specs.Inside.Taking.{AreCounted, begun_seen, reach}
 use Rattle.m88_srec.proofs.so_far.TextSoFar.piece.Given as goal
 
 abbrev pub invariant-loop-byte : goal.invariant-loop-byte

@@ -1,0 +1,10 @@
+-- Words for the contracts of private functions alone: no promise of the program names them.
+pub mod Tables
+pub mod Sizes
+pub mod Overlap
+pub mod Exports
+pub mod Resolved
+pub mod Carried
+pub mod Rows
+pub mod Drafts
+pub mod Walked

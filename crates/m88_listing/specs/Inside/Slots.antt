@@ -1,0 +1,89 @@
+-- What is kept of a row while the image has its bytes, and the lines as they are written from the first on.
+use Rattle.std.specs.Prelude.{ℕ, ◌+◌, ◌<◌, ◌≤◌, ◌^◌, ◌==◌, if◌then◌else◌, List, [], ◌∷◌, ◌++◌, flat_map, length, map, Option, slice_index_or, unwrap_or}
+use Rattle.std.specs.List.{range_with_len}
+use Rattle.m88_base.specs.Image.{most_bytes}
+use Rattle.m88_parse.specs.WellFormed.{IsFormedBody}
+use Rattle.m88_parse.specs.declared.unit.Statement.{Statement}
+use Rattle.m88_asm.specs.Counters.{Counters, Located, after, at_begin, length_of, offset_of}
+use Rattle.m88_asm.specs.Units.{Based, address_in}
+use Rattle.m88_listing.specs.Columns.{bare_line}
+use Rattle.m88_listing.specs.Inside.Parts.{Parts}
+use Rattle.m88_listing.specs.Rows.{Row, is_counted, row_lines}
+use Rattle.m88_listing.specs.declared.cursor.Part.{Part}
+use Rattle.m88_listing.specs.declared.slots.Slot.{Slot}
+
+-- a section that isn't there
+abbrev pub no_part : Part
+no_part = record { start = 0; len = 0 }
+
+-- a section by its number
+abbrev pub part_at : List Part → ℕ → Part
+part_at parts k = slice_index_or parts k no_part
+
+-- the counters that the sections so far show
+abbrev pub counters_in : Parts → Counters
+counters_in p = record {
+  here = p.here;
+  count = length p.parts;
+  starts = λ k. (part_at p.parts k).start;
+  lengths = λ k. (part_at p.parts k).len;
+}
+
+-- what a slot keeps lies among the addresses
+abbrev pub IsSlot : Slot → Type 0
+IsSlot s = (0 < s.len) × (s.at + s.len ≤ 2 ^ 32)
+
+-- so many bytes from an address on, 0 where there is none
+abbrev pub found_bytes : (ℕ → Option ℕ) → ℕ → ℕ → List ℕ
+found_bytes found at n = map (λ k. unwrap_or (found (at + k)) 0) (range_with_len 0 n)
+
+-- the row that is kept so, where these bytes are found
+abbrev pub kept_row : (ℕ → Option ℕ) → Slot → Row
+kept_row found s = record {
+  line = s.line;
+  run = record { at = s.at; bytes = found_bytes found s.at s.len };
+  counted = s.counted;
+}
+
+-- what is kept of a statement, where it gives bytes
+abbrev pub slots_at : Based → Located → List Slot
+slots_at b r =
+    if length_of r == 0 then []
+    else record {
+      line = r.statement.line;
+      at = address_in b r;
+      len = length_of r;
+      counted = is_counted r.statement.body;
+    } ∷ []
+
+-- what is kept of statements, from counters on
+abbrev pub slots_from : Based → Counters → List Statement → List Slot
+slots_from b c [] = []
+slots_from b c (x ∷ xs) = slots_at b (record { before = c; statement = x }) ++ slots_from b (after c x.body) xs
+
+-- what is kept of modules
+abbrev pub slots_of : List Based → List Slot
+slots_of bs = flat_map (λ b. slots_from b at_begin b.source.statements) bs
+
+-- the lines for lines of a source, from a number on, where the first of the slots is that of the next line that has one
+abbrev pub walked : (ℕ → Option ℕ) → ℕ → List (List ℕ) → List Slot → List (List ℕ)
+walked found number [] slots = []
+walked found number (line ∷ lines) [] = bare_line number line ∷ walked found (number + 1) lines []
+walked found number (line ∷ lines) (s ∷ ss) =
+    if s.line == number then row_lines number line (kept_row found s) ++ walked found (number + 1) lines ss
+    else bare_line number line ∷ walked found (number + 1) lines (s ∷ ss)
+
+-- a statement can be laid out, its section has room for its bytes, and these lie among the addresses
+pub record StandsWithin (b : Based) (r : Located) : Type 0 where
+  pub formed : IsFormedBody r.statement.body
+  pub room : offset_of r + length_of r ≤ most_bytes
+  pub within : 0 < length_of r → address_in b r + length_of r ≤ 2 ^ 32
+
+-- each of the statements does, from counters on
+abbrev pub AllFit : Based → Counters → List Statement → Type 0
+AllFit b c [] = Unit {0}
+AllFit b c (x ∷ xs) = StandsWithin b (record { before = c; statement = x }) × AllFit b (after c x.body) xs
+
+-- and those of a module that stands somewhere
+abbrev pub ModuleFits : Based → Type 0
+ModuleFits b = AllFit b at_begin b.source.statements
