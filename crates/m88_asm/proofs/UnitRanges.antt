@@ -28,7 +28,7 @@ use Rattle.m88_parse.specs.declared.unit.Unit.{Unit as Source}
 use Rattle.m88_parse.specs.declared.unit.Value.{Value}
 use Rattle.m88_parse.specs.declared.unit.Value.TheVariants.{Number, Symbol}
 use Rattle.m88_parse.proofs.FormedOperands.{signed_small}
-use Rattle.m88_parse.proofs.InLines.{AreShort, AreSmall, IsInLine, lines_short, tokens_in_line}
+use Rattle.m88_parse.proofs.TokenBounds.{AreShort, AreSmall, IsInLine, lines_short, tokens_in_line}
 use Rattle.m88_parse.proofs.FormedUnits.{lines_few}
 
 -- a fixup whose parts are in range

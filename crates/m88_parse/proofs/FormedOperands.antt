@@ -17,7 +17,7 @@ use Rattle.m88_parse.specs.WellFormed.{IsFixed, IsHalf}
 use Rattle.m88_parse.specs.declared.unit.Value.{Value}
 use Rattle.m88_parse.specs.declared.unit.Value.TheVariants.{Number, Symbol}
 use Rattle.m88_parse.proofs.Law.Names.{some_same}
-use Rattle.m88_parse.proofs.Law.Steps.{chosen}
+use Rattle.m88_parse.proofs.Law.TestsAndChoices.{chosen}
 
 -- a number with a sign is below its modulus
 pub signed_small : (modulus : ℕ) (ps : List Piece) (v : ℕ) → 0 < modulus → IsSigned modulus ps v → v < modulus

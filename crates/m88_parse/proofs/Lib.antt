@@ -1,11 +1,11 @@
 -- What only helps the proofs: tokens as they are cut, lists, drafts, then the laws between reader and language.
-pub mod Runs
-pub mod Pieces
+pub mod Saturating
+pub mod CuttingTokens
 pub mod Law
-pub mod Collecting
-pub mod Naming
-pub mod Drafts
-pub mod Ending
-pub mod InLines
+pub mod CollectingItems
+pub mod NameTest
+pub mod GrowingUnit
+pub mod LineEnd
+pub mod TokenBounds
 pub mod FormedOperands
 pub mod FormedUnits

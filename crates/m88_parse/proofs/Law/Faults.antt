@@ -15,13 +15,13 @@ use Rattle.m88_parse.specs.Language.Units.{IsUnit}
 use Rattle.m88_parse.specs.Language.LineFaults.{IsLineFault}
 use Rattle.m88_base.specs.OneVerdict.{HasOneVerdict}
 use Rattle.m88_parse.specs.Language.FirstFaults.{FirstOf, uncut_line, faulty_line, later_line, IsFirstFault}
-use Rattle.m88_parse.proofs.Law.Slots.{bind_to}
+use Rattle.m88_parse.proofs.Law.SingleTokens.{bind_to}
 use Rattle.m88_parse.proofs.Law.Tokens.{line_is_cut, line_is_read}
-use Rattle.m88_parse.proofs.Law.Breaks.{breaks_read, Broken, line_breaks}
-use Rattle.m88_parse.proofs.Law.LineFaults.One.{one_line_fault}
-use Rattle.m88_parse.proofs.Law.LineFaults.Lines.{LineFaultBy, line_fault_told, said_not_faulty}
+use Rattle.m88_parse.proofs.Law.UncutLines.{breaks_read, Broken, line_breaks}
+use Rattle.m88_parse.proofs.Law.LineFaults.OneFault.{one_line_fault}
+use Rattle.m88_parse.proofs.Law.LineFaults.WholeLines.{LineFaultBy, line_fault_told, said_not_faulty}
 use Rattle.m88_parse.proofs.Law.Units.{line_row, row_again, read_is_related, related_is_read, single_unit}
-use Rattle.m88_parse.proofs.Law.Rows.{row_for, line_read}
+use Rattle.m88_parse.proofs.Law.Statements.{row_for, line_read}
 
 pub err_same : {A : Type 0} {a b : ParseFault} → ◌≡◌ {A = Result A ParseFault} (Err a) (Err b) → a ≡ b
 err_same h = cc

@@ -1,8 +1,8 @@
 -- The laws of the faults of a line, from the readers of single tokens up to whole lines.
 pub mod Readers
-pub mod Nodes
-pub mod One
-pub mod Signs
+pub mod TokenByToken
+pub mod OneFault
+pub mod OwnSigns
 pub mod Halves
-pub mod Heard
-pub mod Lines
+pub mod WholeOperations
+pub mod WholeLines

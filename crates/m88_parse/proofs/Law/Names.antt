@@ -9,7 +9,7 @@ use Rattle.m88_base.proofs.Digits.{decimal_found, decimal_needed, decimal_told}
 use Rattle.m88_base.specs.Name.{IsName, begins_name, continues_name}
 use Rattle.m88_parse.specs.Inside.Names.{register_of, control_of, float_control_of, control_in, is_here, is_valid_name, is_symbol}
 use Rattle.m88_parse.specs.Language.Names.{IsRegisterName, IsControlName, IsSymbolName}
-use Rattle.m88_parse.proofs.Law.Steps.{both, neither, chosen, not_true, take_then, tested}
+use Rattle.m88_parse.proofs.Law.TestsAndChoices.{both, neither, chosen, not_true, take_then, tested}
 
 pub some_same : {A : Type 0} {a b : A} → Some a ≡ Some b → a ≡ b
 some_same h = cc

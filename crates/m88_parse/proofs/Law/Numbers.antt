@@ -6,7 +6,7 @@ use Rattle.m88_parse.specs.declared.fault.ParseKind.TheVariants.{Syntax, OutOfRa
 use Rattle.m88_parse.specs.Inside.Tokens.{is_hexadecimal, is_decimal, bounded, numeral}
 use Rattle.m88_parse.specs.Language.Bytes.{are_digits}
 use Rattle.m88_parse.specs.Language.Tokens.{IsDecimal, IsHexadecimal, IsNumeral}
-use Rattle.m88_parse.proofs.Law.Steps.{both, chosen, not_true, take_then, take_else}
+use Rattle.m88_parse.proofs.Law.TestsAndChoices.{both, chosen, not_true, take_then, take_else}
 use Rattle.std.proofs.lemmas.Bool.{eqb-false}
 
 pub hexadecimal_is : (run : List ℕ) → is_hexadecimal run ≡ true → IsHexadecimal run (digits_value 16 (drop 2 run))

@@ -6,7 +6,7 @@ use Rattle.std.proofs.lemmas.Bool.Decides.{nat_tests}
 use Rattle.m88_parse.specs.Inside.Tokens.{begins_escape, closes, inside_len, holds_escapes, text_bytes, character}
 use Rattle.m88_parse.specs.Language.Bytes.{is_plain, is_escape, escape_value}
 use Rattle.m88_parse.specs.Language.Tokens.{Holds, nothing, itself, escape}
-use Rattle.m88_parse.proofs.Law.Steps.{both, chosen, tested, take_then, take_else}
+use Rattle.m88_parse.proofs.Law.TestsAndChoices.{both, chosen, tested, take_then, take_else}
 
 pub escape_plain : (e : ℕ) → is_escape e ≡ true → is_plain e ≡ true
 escape_plain e h = grind (arith, nat_tests)

@@ -9,9 +9,9 @@ use Rattle.m88_parse.specs.Language.Bytes.{is_blank, is_comment}
 use Rattle.m88_parse.specs.Language.Pieces.{TokenValue, a_name, a_number, a_text, a_mark, Piece}
 use Rattle.m88_base.specs.Name.{IsName}
 use Rattle.m88_parse.specs.Language.Tokens.{Begins, IsNumeral, IsGap, IsTail, AreNameBytes, BeginsWithNoNameByte, IsToken, AreTokens, LineTokens}
-use Rattle.m88_parse.proofs.Pieces.{cut_off, fault_front}
-use Rattle.m88_parse.proofs.Law.Steps.{both}
-use Rattle.m88_parse.proofs.Law.Fronts.{front_again, front_blank, front_comment, TokenAt, Stands, comment_stands, blank_stands, token_stands, front_stands}
+use Rattle.m88_parse.proofs.CuttingTokens.{cut_off, fault_front}
+use Rattle.m88_parse.proofs.Law.TestsAndChoices.{both}
+use Rattle.m88_parse.proofs.Law.FirstToken.{front_again, front_blank, front_comment, TokenAt, Stands, comment_stands, blank_stands, token_stands, front_stands}
 
 -- what is related is read
 

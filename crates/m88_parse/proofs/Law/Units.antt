@@ -14,9 +14,9 @@ use Rattle.m88_base.specs.Lines.{lines_of}
 use Rattle.m88_parse.specs.Inside.Source.{row_of_pieces, row_of_line, with_row, rows_of, grouped, main_with, modules_in, unit_of_rows, unit_of}
 use Rattle.m88_parse.specs.Language.Tokens.{LineTokens}
 use Rattle.m88_parse.specs.Language.Units.{Said, says_nothing, says, begins, LineSays, AreRows, no_row, row_of_nothing, row_of_statement, row_of_module, AreModules, only_main, first_main, no_main, IsUnit}
-use Rattle.m88_parse.proofs.Law.Slots.{ok_same, bind_ok, bind_to}
+use Rattle.m88_parse.proofs.Law.SingleTokens.{ok_same, bind_ok, bind_to}
 use Rattle.m88_parse.proofs.Law.Tokens.{line_is_cut, line_is_read}
-use Rattle.m88_parse.proofs.Law.Rows.{row_for, line_read, line_again}
+use Rattle.m88_parse.proofs.Law.Statements.{row_for, line_read, line_again}
 
 -- one line
 

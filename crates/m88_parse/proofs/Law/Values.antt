@@ -11,12 +11,12 @@ use Rattle.m88_parse.specs.Inside.State.{ReaderState, first, is_mark_of, â—Œ>>=â
 use Rattle.m88_parse.specs.Inside.Slots.{Read, negated, negative_on, unsigned_at, signed_at, symbol_at, addend_at, fixup_at, value_on, value_at}
 use Rattle.m88_parse.specs.Language.Names.{IsMark, IsNumber, IsNamed}
 use Rattle.m88_parse.specs.Language.Operands.{IsSigned, IsFixup, IsValue}
-use Rattle.m88_parse.proofs.Law.Steps.{take_then, take_else}
-use Rattle.m88_parse.proofs.Law.Slots.{st, no_name, symbols, saying, mark_says, IsUpTo, IsSymbolAt, one_number, one_symbol, mapped, turns, NoName, number_is, text_is, mark_is}
-use Rattle.m88_parse.proofs.Law.Walks.{Reading, Relation, faults_of, Then, Several, AfterMark, Walk, Start, begun, slot_start, start_as, lead_start, IsUnsigned, AfterSign, sign_start, unnamed, named_start}
+use Rattle.m88_parse.proofs.Law.TestsAndChoices.{take_then, take_else}
+use Rattle.m88_parse.proofs.Law.SingleTokens.{st, no_name, symbols, saying, mark_says, IsUpTo, IsSymbolAt, one_number, one_symbol, mapped, turns, NoName, number_is, text_is, mark_is}
+use Rattle.m88_parse.proofs.Law.Readings.{Reading, Relation, faults_of, Then, Several, AfterMark, Walk, Start, begun, slot_start, start_as, lead_start, IsUnsigned, AfterSign, sign_start, unnamed, named_start}
 use Rattle.m88_parse.proofs.Law.LineFaults.Readers.{Goes, same_fault}
-use Rattle.m88_parse.proofs.Law.LineFaults.Nodes.{Leads}
-use Rattle.m88_parse.proofs.Law.LineFaults.Signs.{sign_leads}
+use Rattle.m88_parse.proofs.Law.LineFaults.TokenByToken.{Leads}
+use Rattle.m88_parse.proofs.Law.LineFaults.OwnSigns.{sign_leads}
 
 -- a number with a sign of its own
 

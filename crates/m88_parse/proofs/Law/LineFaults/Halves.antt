@@ -8,10 +8,10 @@ use Rattle.m88_parse.specs.Language.Pieces.{a_mark, Piece}
 use Rattle.m88_parse.specs.Inside.State.{says_first, is_mark_of}
 use Rattle.m88_parse.specs.Language.Names.{IsMark, IsNamed}
 use Rattle.m88_parse.specs.Language.LineFaults.{IsOperation, Stops, half_alone, EndsInHalf}
-use Rattle.m88_parse.proofs.Law.Steps.{tested}
-use Rattle.m88_parse.proofs.Law.Slots.{mark_says, saying}
+use Rattle.m88_parse.proofs.Law.TestsAndChoices.{tested}
+use Rattle.m88_parse.proofs.Law.SingleTokens.{mark_says, saying}
 use Rattle.m88_parse.proofs.Law.LineFaults.Readers.{here, Reader, heard, Goes, Reads, Told, Traced, Good}
-use Rattle.m88_parse.proofs.Law.LineFaults.Nodes.{Leads, reads_on, continues, follows, follows_not, told, moved, fresh_behind}
+use Rattle.m88_parse.proofs.Law.LineFaults.TokenByToken.{Leads, reads_on, continues, follows, follows_not, told, moved, fresh_behind}
 
 opening_piece : Piece
 opening_piece = saying (a_mark 40)

@@ -8,7 +8,7 @@ use Rattle.m88_parse.specs.Inside.State.{ReaderState, first}
 use Rattle.m88_parse.specs.Inside.Source.{unlabelled_at, head_at, is_head_on}
 use Rattle.m88_parse.specs.Language.Names.{IsMark, IsNumber, IsNamed, IsSymbol}
 use Rattle.m88_parse.specs.Language.LineFaults.{IsOperation, MayFollow, NumberMayFollow, NameMayFollow, EverySymbolMayFollow, EndsInSign, IsBroken}
-use Rattle.m88_parse.proofs.Law.Slots.{st, Naming, no_name, own_names, symbols}
+use Rattle.m88_parse.proofs.Law.SingleTokens.{st, Naming, no_name, own_names, symbols}
 
 -- what is read has this fault, or none
 abbrev pub fault_in : {A : Type 0} → Result A ParseFault → Option ParseFault

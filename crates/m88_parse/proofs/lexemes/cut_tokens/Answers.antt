@@ -5,7 +5,7 @@ use Rattle.std.proofs.lemmas.List.Elements.{All-push}
 use Rattle.m88_parse.specs.declared.token.Token.{Token}
 use Rattle.m88_parse.specs.Inside.Places.{IsLexemeOf}
 use Rattle.m88_parse.specs.Language.Pieces.{IsTokenOf}
-use Rattle.m88_parse.proofs.Pieces.{token_placed, tokens_more, tokens_done}
+use Rattle.m88_parse.proofs.CuttingTokens.{token_placed, tokens_more, tokens_done}
 use Rattle.m88_parse.proofs.lexemes.cut_tokens.Goals as goal
 
 pub loop-lexeme-preserved : goal.loop-lexeme-preserved

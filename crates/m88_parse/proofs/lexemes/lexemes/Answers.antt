@@ -6,7 +6,7 @@ use Rattle.std.proofs.lemmas.List.Elements.{All-push}
 use Rattle.m88_parse.specs.Inside.Places.{IsNear, IsLexemeOf}
 use Rattle.m88_parse.specs.Inside.Tokens.{Cut, front, token_value_in, piece_of, token_value, pieces_of}
 use Rattle.m88_parse.specs.declared.scan.Flaw.{Flaw}
-use Rattle.m88_parse.proofs.Pieces.{slice_goes_on, rest_goes_on, gap_goes_on, token_goes_on, ends, is_done}
+use Rattle.m88_parse.proofs.CuttingTokens.{slice_goes_on, rest_goes_on, gap_goes_on, token_goes_on, ends, is_done}
 use Rattle.m88_parse.proofs.lexemes.lexemes.Goals as goal
 use Rattle.m88_parse.proofs.lexemes.lexemes.Goals.{in-Some+in_ok-push, in_default}
 

@@ -1,8 +1,8 @@
 -- What was cut are the tokens of the line, and a fault is its first place that can't be cut.
 use Rattle.std.proofs.Common.{map}
 use Rattle.m88_parse.specs.Language.Pieces.{plain_token}
-use Rattle.m88_parse.proofs.Law.Cuts.{found_tokens, only_tokens, found_flaw, only_flaw}
-use Rattle.m88_parse.proofs.Law.Kinds.{cut_kinds}
+use Rattle.m88_parse.proofs.Law.TokensCall.{found_tokens, only_tokens, found_flaw, only_flaw}
+use Rattle.m88_parse.proofs.Law.FaultKinds.{cut_kinds}
 use Rattle.m88_parse.proofs.Law.Tokens.{one_cut}
 use Rattle.m88_parse.proofs.lexemes.tokens.Goals as goal
 

@@ -3,7 +3,7 @@ use Rattle.std.proofs.Common.{ℕ, ◌∙◌, ap, sym, min, ◌*◌, ◌+◌, ta
 use Rattle.std.specs.Char.{digit_value}
 use Rattle.std.specs.Str.Parse.{digits_value}
 use Rattle.std.proofs.lemmas.Int.Digits.{digits_value_more}
-use Rattle.m88_parse.proofs.Runs.{capped}
+use Rattle.m88_parse.proofs.Saturating.{capped}
 use Rattle.m88_parse.proofs.scan.value_of.Goals as goal
 
 pub loop-d-preserved : goal.loop-d-preserved

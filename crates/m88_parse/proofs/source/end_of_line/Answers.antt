@@ -1,6 +1,6 @@
 -- A line ends behind its last token.
 use Rattle.std.proofs.Common.{◌≡◌, ◌+◌, ◌-◌, length, arith}
-use Rattle.m88_parse.proofs.Ending.{by_last}
+use Rattle.m88_parse.proofs.LineEnd.{by_last}
 use Rattle.m88_parse.proofs.source.end_of_line.Goals as goal
 
 pub returns : goal.returns

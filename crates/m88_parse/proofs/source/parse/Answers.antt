@@ -4,7 +4,7 @@ use Rattle.m88_parse.specs.Language.Units.{IsUnit}
 use Rattle.m88_parse.specs.WellFormed.{IsWellFormed}
 use Rattle.m88_parse.proofs.FormedUnits.{unit_formed}
 use Rattle.m88_parse.proofs.Law.Faults.{found_fault, only_fault, one_verdict}
-use Rattle.m88_parse.proofs.Law.Kinds.{source_kinds}
+use Rattle.m88_parse.proofs.Law.FaultKinds.{source_kinds}
 use Rattle.m88_parse.proofs.Law.Units.{found_unit, only_unit}
 use Rattle.m88_parse.proofs.source.parse.Goals as goal
 

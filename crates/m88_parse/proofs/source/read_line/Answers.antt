@@ -3,7 +3,7 @@ use Rattle.std.proofs.Common.{Result, Ok, Option, None, refl, ap, ◌∙◌}
 use Rattle.std.proofs.lemmas.Result.{err_from_is_err_and}
 use Rattle.m88_parse.specs.declared.fault.ParseFault.{ParseFault}
 use Rattle.m88_parse.specs.declared.row.Row.{Row}
-use Rattle.m88_parse.proofs.Drafts.{line_leads_on, line_fault, line_added}
+use Rattle.m88_parse.proofs.GrowingUnit.{line_leads_on, line_fault, line_added}
 use Rattle.m88_parse.proofs.source.read_line.Goals as goal
 
 pub returns-in_err-row_of : goal.returns-in_err-row_of

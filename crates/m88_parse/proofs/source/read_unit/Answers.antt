@@ -5,7 +5,7 @@ use Rattle.m88_parse.specs.declared.fault.ParseFault.{ParseFault}
 use Rattle.m88_parse.specs.declared.unit.Module.{Module}
 use Rattle.m88_parse.specs.declared.unit.Unit.{Unit as Source}
 use Rattle.m88_parse.specs.Inside.Source.{unit_of}
-use Rattle.m88_parse.proofs.Drafts.{starts, ends_all}
+use Rattle.m88_parse.proofs.GrowingUnit.{starts, ends_all}
 use Rattle.m88_parse.proofs.source.read_unit.Goals as goal
 
 pub loop-rest-init : goal.loop-rest-init

@@ -2,7 +2,7 @@
 use Rattle.std.proofs.Common.{Option, [], ◌∷◌, ◌++◌, sym, ap, ◌∙◌}
 use Rattle.m88_parse.specs.declared.unit.Module.{Module}
 use Rattle.m88_parse.specs.Inside.Drafts.{Drafted, modules_with}
-use Rattle.m88_parse.proofs.Drafts.{head_follows, first_head_follows}
+use Rattle.m88_parse.proofs.GrowingUnit.{head_follows, first_head_follows}
 use Rattle.m88_parse.proofs.draft.Draft.begin.Goals as goal
 
 pub returns-in_ok-push-in-Some-clause-after : goal.returns-in_ok-push-in-Some-clause-after

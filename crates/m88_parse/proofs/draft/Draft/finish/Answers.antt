@@ -2,7 +2,7 @@
 use Rattle.std.proofs.Common.{◌≡◌, [], ◌∷◌, ◌++◌, sym, ap, ◌∙◌}
 use Rattle.m88_parse.specs.declared.unit.Module.{Module}
 use Rattle.m88_parse.specs.Inside.Drafts.{Drafted, modules_after, begun}
-use Rattle.m88_parse.proofs.Drafts.{at_end}
+use Rattle.m88_parse.proofs.GrowingUnit.{at_end}
 use Rattle.m88_parse.proofs.draft.Draft.finish.Goals as goal
 
 all_at_end : (c : goal.In_ok-push) → c.push.new.self.items ≡ c.self.inside.closed.items ++ begun c.self.inside.current ∷ []

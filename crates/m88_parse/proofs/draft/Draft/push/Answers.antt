@@ -2,7 +2,7 @@
 use Rattle.std.proofs.Common.{◌≡◌, Option, [], ◌∷◌, sym, ap, ◌∙◌}
 use Rattle.m88_parse.specs.declared.unit.Module.{Module}
 use Rattle.m88_parse.specs.Inside.Drafts.{Drafted, with_more, begun}
-use Rattle.m88_parse.proofs.Drafts.{follows_statement, pushed_follows}
+use Rattle.m88_parse.proofs.GrowingUnit.{follows_statement, pushed_follows}
 use Rattle.m88_parse.proofs.draft.Draft.push.Goals as goal
 
 pub returns-in-Some-clause-after : goal.returns-in-Some-clause-after

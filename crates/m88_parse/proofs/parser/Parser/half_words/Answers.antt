@@ -1,7 +1,7 @@
 -- One half word more keeps what the loop of `half_words` keeps; a fault in one is the fault of the list.
 use Rattle.std.proofs.lemmas.Result.{err_from_is_err_and}
 use Rattle.m88_parse.specs.Inside.Grammar.{list_at, a_half, part_item_at}
-use Rattle.m88_parse.proofs.Collecting.{collects_more, collects_fault}
+use Rattle.m88_parse.proofs.CollectingItems.{collects_more, collects_fault}
 use Rattle.m88_parse.proofs.parser.Parser.half_words.Goals as goal
 
 pub returns-in_err-value : goal.returns-in_err-value

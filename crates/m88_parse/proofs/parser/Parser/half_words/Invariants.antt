@@ -1,7 +1,7 @@
 -- What is collected and what is left are the whole list of `.half`.
 use Rattle.std.proofs.Common.{◌+◌, cond, length}
 use Rattle.m88_parse.specs.Inside.Grammar.{list_at, a_half, part_item_at}
-use Rattle.m88_parse.proofs.Collecting.{Collects}
+use Rattle.m88_parse.proofs.CollectingItems.{Collects}
 use Rattle.m88_parse.proofs.parser.Parser.half_words.Given as goal
 
 abbrev pub invariant-loop-more : goal.invariant-loop-more

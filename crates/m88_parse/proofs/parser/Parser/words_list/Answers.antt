@@ -1,7 +1,7 @@
 -- One value more keeps what the loop of `words_list` keeps; a fault in a value is the fault of the list.
 use Rattle.std.proofs.lemmas.Result.{err_from_is_err_and}
 use Rattle.m88_parse.specs.Inside.Grammar.{list_at, word_item_at}
-use Rattle.m88_parse.proofs.Collecting.{collects_more, collects_fault}
+use Rattle.m88_parse.proofs.CollectingItems.{collects_more, collects_fault}
 use Rattle.m88_parse.proofs.parser.Parser.words_list.Goals as goal
 
 pub returns-in_err-value : goal.returns-in_err-value

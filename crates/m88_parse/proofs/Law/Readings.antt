@@ -10,10 +10,10 @@ use Rattle.m88_parse.specs.Language.Names.{IsMark, IsNumber, IsNamed}
 use Rattle.m88_parse.specs.Inside.State.{ReaderState, past, says_first, is_mark_of, is_next_mark, ◌>>=◌}
 use Rattle.m88_parse.specs.Inside.Slots.{Read, mark_at, line_end_at}
 use Rattle.m88_parse.specs.Inside.Grammar.{end_with}
-use Rattle.m88_parse.proofs.Law.Steps.{tested, take_then, take_else}
-use Rattle.m88_parse.proofs.Law.Slots.{st, Naming, no_name, own_names, symbols, kind_for, plain_kind, ok_same, mark_says, next_again, gives, GivesNumbers, GivesNames, OneToken, one_mark, saying, NoName, number_is, text_is, mark_is, no_named, same_kind}
+use Rattle.m88_parse.proofs.Law.TestsAndChoices.{tested, take_then, take_else}
+use Rattle.m88_parse.proofs.Law.SingleTokens.{st, Naming, no_name, own_names, symbols, kind_for, plain_kind, ok_same, mark_says, next_again, gives, GivesNumbers, GivesNames, OneToken, one_mark, saying, NoName, number_is, text_is, mark_is, no_named, same_kind}
 use Rattle.m88_parse.proofs.Law.LineFaults.Readers.{fault_in, same_fault, Reader, here, Goes, Refuses, Good, WantsNumbers, WantsNames}
-use Rattle.m88_parse.proofs.Law.LineFaults.Nodes.{Leads, Faults, Node, refuses_as, numbers_as, names_as, each_as, node_as, leads, good, good_node}
+use Rattle.m88_parse.proofs.Law.LineFaults.TokenByToken.{Leads, Faults, Node, refuses_as, numbers_as, names_as, each_as, node_as, leads, good, good_node}
 
 -- what reads tokens, and what tells of them
 abbrev pub Reading : Type 0 → Type 0

@@ -19,13 +19,13 @@ use Rattle.m88_parse.specs.Inside.Grammar.{Form, ends, comma_then, register_then
 use Rattle.m88_parse.specs.Language.Names.{IsRegister, IsControl, IsBit, IsCondition}
 use Rattle.m88_parse.specs.Language.Operands.{IsScaled, IsSigned, IsValue}
 use Rattle.m88_parse.specs.Language.Statements.{AreParted}
-use Rattle.m88_parse.proofs.Law.Targets.{IsTargetOf, target_start}
-use Rattle.m88_parse.proofs.Law.Lists.{words_walk, parts_walk}
-use Rattle.m88_parse.proofs.Law.Slots.{st, own_names, one_register, one_control, one_bit, one_mask, IsUpTo, one_number, IsSymbolAt, one_symbol, IsText, one_text, IsPower, one_alignment}
+use Rattle.m88_parse.proofs.Law.BranchTargets.{IsTargetOf, target_start}
+use Rattle.m88_parse.proofs.Law.CommaLists.{words_walk, parts_walk}
+use Rattle.m88_parse.proofs.Law.SingleTokens.{st, own_names, one_register, one_control, one_bit, one_mask, IsUpTo, one_number, IsSymbolAt, one_symbol, IsText, one_text, IsPower, one_alignment}
 use Rattle.m88_parse.proofs.Law.Values.{IsWhole, signed_start}
-use Rattle.m88_parse.proofs.Law.Operands.{IsImmediateOf, immediate_start, IsOperandOf, operand_start, IsBoundOf, one_bound}
-use Rattle.m88_parse.proofs.Law.Walks.{Reading, Relation, followed, Followed, Then, AfterComma, Last, Ends, Walk, Start, begun, lawful, start_as, end_start, mark_start, slot_start, last_start}
-use Rattle.m88_parse.proofs.Law.Indices.{scaled_start, IsIndexOf, index_start, IsUserIndexOf, user_index_start, IsFieldOf, field_start}
+use Rattle.m88_parse.proofs.Law.Immediates.{IsImmediateOf, immediate_start, IsOperandOf, operand_start, IsBoundOf, one_bound}
+use Rattle.m88_parse.proofs.Law.Readings.{Reading, Relation, followed, Followed, Then, AfterComma, Last, Ends, Walk, Start, begun, lawful, start_as, end_start, mark_start, slot_start, last_start}
+use Rattle.m88_parse.proofs.Law.IndicesAndFields.{scaled_start, IsIndexOf, index_start, IsUserIndexOf, user_index_start, IsFieldOf, field_start}
 
 -- the tokens that each slot of a form is related to, and the body that they make
 abbrev pub Meets : Form → List Piece → Body → Type 0

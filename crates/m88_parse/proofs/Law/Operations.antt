@@ -17,13 +17,13 @@ use Rattle.m88_parse.specs.Inside.Grammar.{read, form_of, directive_form}
 use Rattle.m88_parse.specs.Inside.Source.{instruction_form, form_in, by_form, operation_on, operation_at}
 use Rattle.m88_parse.specs.Language.Names.{IsNamed}
 use Rattle.m88_parse.specs.Language.Statements.{IsBody, text, data_section, at, word, half, byte, ascii, zeros, align, global, set, code}
-use Rattle.m88_parse.proofs.Law.Steps.{chosen, take_else}
+use Rattle.m88_parse.proofs.Law.TestsAndChoices.{chosen, take_else}
 use Rattle.m88_parse.proofs.Law.Names.{some_same}
-use Rattle.m88_parse.proofs.Law.Slots.{st}
+use Rattle.m88_parse.proofs.Law.SingleTokens.{st}
 use Rattle.m88_parse.proofs.Law.Values.{word_signed, signed_word}
-use Rattle.m88_parse.proofs.Law.Forms.{Meets, form_law}
+use Rattle.m88_parse.proofs.Law.OperandForms.{Meets, form_law}
 use Rattle.m88_parse.proofs.Law.Mnemonics.{name_of_shape}
-use Rattle.m88_parse.proofs.Law.Codes.{first_met, only_met, met_one, met_first, operands_met, met_operands}
+use Rattle.m88_parse.proofs.Law.Instructions.{first_met, only_met, met_one, met_first, operands_met, met_operands}
 
 -- the names of operations
 

@@ -15,11 +15,11 @@ use Rattle.m88_parse.specs.Inside.Operands.{distance_on, distance_at, words_at, 
 use Rattle.m88_parse.specs.Inside.Grammar.{end_with}
 use Rattle.m88_parse.specs.Language.Names.{IsNumber, IsNamed}
 use Rattle.m88_parse.specs.Language.Operands.{IsFixup, IsPlace, IsGoal, place as a_place, symbol as a_symbol}
-use Rattle.m88_parse.proofs.Law.Steps.{both, tested, take_then, take_else}
+use Rattle.m88_parse.proofs.Law.TestsAndChoices.{both, tested, take_then, take_else}
 use Rattle.m88_parse.proofs.Law.Names.{other_bytes}
-use Rattle.m88_parse.proofs.Law.Slots.{st, no_name, symbols, any, any_is_symbol, saying, OneToken, nothing, by_token, token_gives, token_is, only_if, tested_gives, tested_is, mapped}
+use Rattle.m88_parse.proofs.Law.SingleTokens.{st, no_name, symbols, any, any_is_symbol, saying, OneToken, nothing, by_token, token_gives, token_is, only_if, tested_gives, tested_is, mapped}
 use Rattle.m88_parse.proofs.Law.Values.{fixup_start}
-use Rattle.m88_parse.proofs.Law.Walks.{Reading, Relation, Then, Last, Ends, Walk, Start, begun, faults_of, turn, turn_leads, turn_as, turns_start, start_as, end_start, one_end, ended, last_start, end_unsigned, AfterSign, sign_start}
+use Rattle.m88_parse.proofs.Law.Readings.{Reading, Relation, Then, Last, Ends, Walk, Start, begun, faults_of, turn, turn_leads, turn_as, turns_start, start_as, end_start, one_end, ended, last_start, end_unsigned, AfterSign, sign_start}
 use Rattle.m88_parse.proofs.Law.LineFaults.Readers.{WantsNames, same_fault}
 
 -- a distance in words

@@ -10,9 +10,9 @@ use Rattle.m88_parse.specs.Inside.Slots.{Read, mark_at, negated, signed_at, valu
 use Rattle.m88_parse.specs.Inside.Grammar.{many, list_at, word_item_at, Part, a_half, a_byte, modulus_of, part_item_at, end_with}
 use Rattle.m88_parse.specs.Language.Operands.{minus, IsSigned, IsValue}
 use Rattle.m88_parse.specs.Language.Statements.{AreParted, one as one_item, more as more_items}
-use Rattle.m88_parse.proofs.Law.Steps.{take_then, take_else}
-use Rattle.m88_parse.proofs.Law.Slots.{st, Naming, no_name, ok_same, bind_to, saying, mapped}
-use Rattle.m88_parse.proofs.Law.Walks.{Several, AfterComma, Last, Ends, Walk, Start, begun, begun_more, end_start, mark_start, start_as, or_start, ended, IsUnsigned, mark_unsigned, end_unsigned}
+use Rattle.m88_parse.proofs.Law.TestsAndChoices.{take_then, take_else}
+use Rattle.m88_parse.proofs.Law.SingleTokens.{st, Naming, no_name, ok_same, bind_to, saying, mapped}
+use Rattle.m88_parse.proofs.Law.Readings.{Several, AfterComma, Last, Ends, Walk, Start, begun, begun_more, end_start, mark_start, start_as, or_start, ended, IsUnsigned, mark_unsigned, end_unsigned}
 use Rattle.m88_parse.proofs.Law.Values.{IsWhole, signed_start, value_start}
 use Rattle.m88_parse.proofs.Law.LineFaults.Readers.{fault_in, Goes}
 

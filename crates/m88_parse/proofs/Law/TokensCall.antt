@@ -7,7 +7,7 @@ use Rattle.m88_parse.specs.Language.Pieces.{Piece, PlainToken}
 use Rattle.m88_parse.specs.Language.Tokens.{AreTokensOf}
 use Rattle.m88_parse.specs.Language.FirstFaults.{IsTokenFault}
 use Rattle.m88_parse.proofs.Law.Tokens.{line_is_cut, line_is_read}
-use Rattle.m88_parse.proofs.Law.Breaks.{breaks_read, line_breaks}
+use Rattle.m88_parse.proofs.Law.UncutLines.{breaks_read, line_breaks}
 
 ok_tokens : {a b : List PlainToken} → ◌≡◌ {A = Result (List PlainToken) ParseFault} (Ok a) (Ok b) → a ≡ b
 ok_tokens h = cc

@@ -11,10 +11,10 @@ use Rattle.m88_parse.specs.Language.Statements.{IsHead, head}
 use Rattle.m88_parse.specs.Language.LineFaults.{IsOperation, operation, head_of_module}
 use Rattle.m88_parse.specs.Inside.State.{first, place}
 use Rattle.m88_parse.specs.Inside.Source.{operation_at, head_at, is_head_on, statement}
-use Rattle.m88_parse.proofs.Law.Steps.{chosen, take_then, take_else}
-use Rattle.m88_parse.proofs.Law.Slots.{st, bind_ok, bind_to}
-use Rattle.m88_parse.proofs.Law.Bodies.{operation_read, body_again}
-use Rattle.m88_parse.proofs.Law.Rows.{head_named, head_law, not_head}
+use Rattle.m88_parse.proofs.Law.TestsAndChoices.{chosen, take_then, take_else}
+use Rattle.m88_parse.proofs.Law.SingleTokens.{st, bind_ok, bind_to}
+use Rattle.m88_parse.proofs.Law.Operations.{operation_read, body_again}
+use Rattle.m88_parse.proofs.Law.Statements.{head_named, head_law, not_head}
 use Rattle.m88_parse.proofs.Law.LineFaults.Readers.{fault_in, same_fault, row_or_head, heard, HeardLaw}
 
 head_is : (line e : ℕ) (p : Piece) (ps : List Piece) (r : Row) → IsNamed (codes ".module") p → head_at (st line e (p ∷ ps)) ≡ Ok r → IsOperation (p ∷ ps)

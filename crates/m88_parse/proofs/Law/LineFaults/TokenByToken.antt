@@ -7,7 +7,7 @@ use Rattle.m88_parse.specs.declared.fault.ParseFault.{ParseFault}
 use Rattle.m88_parse.specs.Language.Pieces.{TokenValue, a_name, a_number, a_text, a_mark, Piece}
 use Rattle.m88_parse.specs.Language.Names.{IsMark, IsNumber, IsNamed}
 use Rattle.m88_parse.specs.Language.LineFaults.{IsOperation, Continues, MayFollow, NumberMayFollow, EndsInHalf, IsMisplaced, number_out_of_range, no_such_name, other_token, IsFaultBehind, misplaced, line_ends, Stops}
-use Rattle.m88_parse.proofs.Law.Slots.{Naming, no_name, own_names, symbols, kind_for}
+use Rattle.m88_parse.proofs.Law.SingleTokens.{Naming, no_name, own_names, symbols, kind_for}
 use Rattle.m88_parse.proofs.Law.LineFaults.Readers.{here, some_same, Reader, heard, HeardLaw, Goes, Refuses, Reads, EndsAt, Told, Traced, Fresh, Good, WantsNumbers, WantsNames, Wants, NumbersWanted, NamesWanted, Wanted}
 
 -- from readers to the language

@@ -14,10 +14,10 @@ use Rattle.m88_parse.specs.Inside.Source.{operation_on, operation_at, statement,
 use Rattle.m88_parse.specs.Language.Names.{IsNamed}
 use Rattle.m88_parse.specs.Language.Statements.{IsBody, text, data_section, at, word, half, byte, ascii, zeros, align, global, set, code, IsLabel, BeginsWithNoColon, IsStatement, unlabelled, labelled, label_alone, IsHead, head}
 use Rattle.m88_parse.specs.Language.Units.{Said, says_nothing, says, begins, LineSays, empty_line, statement_line, module_line}
-use Rattle.m88_parse.proofs.Law.Steps.{chosen, tested, take_then, take_else}
-use Rattle.m88_parse.proofs.Law.Slots.{st, symbols, ok_same, bind_ok, bind_to, mark_says, IsAnyName, one_any_name, IsSymbolAt, one_symbol}
-use Rattle.m88_parse.proofs.Law.Bodies.{operation_read, body_again}
-use Rattle.m88_parse.proofs.Law.Walks.{Reading, followed, Followed, Start, begun, lawful, end_as, end_start, slot_law, slot_start}
+use Rattle.m88_parse.proofs.Law.TestsAndChoices.{chosen, tested, take_then, take_else}
+use Rattle.m88_parse.proofs.Law.SingleTokens.{st, symbols, ok_same, bind_ok, bind_to, mark_says, IsAnyName, one_any_name, IsSymbolAt, one_symbol}
+use Rattle.m88_parse.proofs.Law.Operations.{operation_read, body_again}
+use Rattle.m88_parse.proofs.Law.Readings.{Reading, followed, Followed, Start, begun, lawful, end_as, end_start, slot_law, slot_start}
 
 -- the row that says it
 abbrev pub row_for : ℕ → Said → Option Row

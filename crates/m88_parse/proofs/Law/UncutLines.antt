@@ -9,10 +9,10 @@ use Rattle.m88_parse.specs.Inside.Tokens.{Cut, front, prepend, fault_at, pieces,
 use Rattle.m88_parse.specs.Language.Bytes.{is_blank}
 use Rattle.m88_parse.specs.Language.Pieces.{TokenValue, Piece}
 use Rattle.m88_parse.specs.Language.FirstFaults.{IsFlaw, Breaks}
-use Rattle.m88_parse.proofs.Pieces.{cut_off, fault_front}
-use Rattle.m88_parse.proofs.Law.Fronts.{TokenAt, Stands, comment_stands, blank_stands, token_stands, front_stands}
+use Rattle.m88_parse.proofs.CuttingTokens.{cut_off, fault_front}
+use Rattle.m88_parse.proofs.Law.FirstToken.{TokenAt, Stands, comment_stands, blank_stands, token_stands, front_stands}
 use Rattle.m88_parse.proofs.Law.Tokens.{blank_begins, token_begins, gap_passed, token_passed, nothing_left, stands_some}
-use Rattle.m88_parse.proofs.Law.Flaws.{flaw_again, flaw_some, front_flawed}
+use Rattle.m88_parse.proofs.Law.FirstFlaw.{flaw_again, flaw_some, front_flawed}
 
 abbrev pub broken : ℕ → ℕ → ParseKind → Result (List Piece) ParseFault
 broken line at kind = Err (record { line = line; col = at; kind = kind })

@@ -20,16 +20,16 @@ use Rattle.m88_parse.specs.Language.Names.{IsMark, IsNamed, IsSymbol}
 use Rattle.m88_parse.specs.Language.Statements.{IsBody, text as text_body, IsLabel, IsStatement, unlabelled, labelled as labelled_body, label_alone, IsHead, head}
 use Rattle.m88_parse.specs.Language.Units.{Said, LineSays, empty_line, statement_line, module_line}
 use Rattle.m88_parse.specs.Language.LineFaults.{IsOperation, operation, head_of_module, Continues, MayFollow, misplaced, Stops, IsBroken, IsLineFault, no_label, labelled_head, behind_label, without_label}
-use Rattle.m88_parse.proofs.Law.Steps.{chosen, tested, take_then, take_else}
+use Rattle.m88_parse.proofs.Law.TestsAndChoices.{chosen, tested, take_then, take_else}
 use Rattle.m88_parse.proofs.Law.Names.{symbol_is, symbol_name_again}
-use Rattle.m88_parse.proofs.Law.Slots.{st, mark_says, own_names, kind_for, saying, any, any_is_symbol, NoName, number_is, text_is, mark_is}
-use Rattle.m88_parse.proofs.Law.Bodies.{body_again}
-use Rattle.m88_parse.proofs.Law.Rows.{label_marks, head_named, head_then, head_start, no_colon}
+use Rattle.m88_parse.proofs.Law.SingleTokens.{st, mark_says, own_names, kind_for, saying, any, any_is_symbol, NoName, number_is, text_is, mark_is}
+use Rattle.m88_parse.proofs.Law.Operations.{body_again}
+use Rattle.m88_parse.proofs.Law.Statements.{label_marks, head_named, head_then, head_start, no_colon}
 use Rattle.m88_parse.proofs.Law.LineFaults.Readers.{fault_in, Reader, here, row_or_head, heard, EndsAt, Told, Good, Wanted, same_fault}
-use Rattle.m88_parse.proofs.Law.LineFaults.Nodes.{fresh_behind, misplaced_by, told}
-use Rattle.m88_parse.proofs.Law.Walks.{faults_of, begun}
-use Rattle.m88_parse.proofs.Law.Forms.{form_walk}
-use Rattle.m88_parse.proofs.Law.LineFaults.Heard.{heard_law}
+use Rattle.m88_parse.proofs.Law.LineFaults.TokenByToken.{fresh_behind, misplaced_by, told}
+use Rattle.m88_parse.proofs.Law.Readings.{faults_of, begun}
+use Rattle.m88_parse.proofs.Law.OperandForms.{form_walk}
+use Rattle.m88_parse.proofs.Law.LineFaults.WholeOperations.{heard_law}
 
 -- the first token of an operation
 

@@ -5,9 +5,9 @@ use Rattle.m88_parse.specs.declared.fault.ParseFault.{ParseFault}
 use Rattle.m88_parse.specs.Language.Pieces.{TokenValue, a_name, a_number, a_text, a_mark, Piece}
 use Rattle.m88_parse.specs.Language.Names.{IsMark, IsNumber, IsNamed}
 use Rattle.m88_parse.specs.Language.LineFaults.{MayFollow, NumberMayFollow, NameMayFollow, signed_out_of_range, other_token, misplaced, EndsInSign, EndsInHalf}
-use Rattle.m88_parse.proofs.Law.Slots.{saying}
+use Rattle.m88_parse.proofs.Law.SingleTokens.{saying}
 use Rattle.m88_parse.proofs.Law.LineFaults.Readers.{here, Reader, heard, Goes, Reads, EndsAt, Told, Traced, Good}
-use Rattle.m88_parse.proofs.Law.LineFaults.Nodes.{Leads, reads_on, continues, follows, follows_not, told, ended, moved, same_last, fresh_behind}
+use Rattle.m88_parse.proofs.Law.LineFaults.TokenByToken.{Leads, reads_on, continues, follows, follows_not, told, ended, moved, same_last, fresh_behind}
 
 zero_piece : Piece
 zero_piece = saying (a_number 0)

@@ -15,7 +15,7 @@ use Rattle.m88_parse.specs.Inside.Tokens.{inside_len, holds_escapes, text_bytes,
 use Rattle.m88_parse.specs.Language.Bytes.{space, tab, is_blank, is_comment, is_plain, is_mark, are_digits}
 use Rattle.m88_parse.specs.Language.Pieces.{TokenValue, a_name, a_number, a_text, a_mark}
 use Rattle.m88_parse.specs.Language.Tokens.{AreNameBytes, BeginsWithNoNameByte, IsDecimal, IsNumeral, Holds, IsToken}
-use Rattle.m88_parse.proofs.Law.Steps.{both, either, not_true, chosen, take_then, take_else, Stops, prefix_all, all_of_prefix, stops_prefix, prefix_whole, whole_prefix}
+use Rattle.m88_parse.proofs.Law.TestsAndChoices.{both, either, not_true, chosen, take_then, take_else, Stops, prefix_all, all_of_prefix, stops_prefix, prefix_whole, whole_prefix}
 use Rattle.m88_parse.proofs.Law.Numbers.{number_is, number_again}
 use Rattle.m88_parse.proofs.Law.Quotes.{holds_len, inside_fits, inside_again, closed_by, not_lone, holds_plain, holds_again, bytes_again, character_again, text_is, character_is}
 

@@ -14,10 +14,10 @@ use Rattle.m88_base.specs.Name.{continues_name}
 use Rattle.m88_parse.specs.Language.Pieces.{TokenValue, a_name}
 use Rattle.m88_parse.specs.Language.Tokens.{AreNameBytes, BeginsWithNoNameByte, IsNumeral, IsToken}
 use Rattle.m88_parse.specs.Language.FirstFaults.{Takes, line_ends, quote_closes, byte_taken, pair_taken, last_taken, IsQuote, BeginsWithDigit, IsStray, IsFlaw, foreign_byte, foreign_in_quotes, no_quoted_token, long_name, no_number, large_number, stray_byte}
-use Rattle.m88_parse.proofs.Law.Steps.{both, chosen, tested, not_true, not_false, take_then, take_else, Stops, prefix_all, all_of_prefix, stops_prefix, prefix_whole, whole_prefix}
+use Rattle.m88_parse.proofs.Law.TestsAndChoices.{both, chosen, tested, not_true, not_false, take_then, take_else, Stops, prefix_all, all_of_prefix, stops_prefix, prefix_whole, whole_prefix}
 use Rattle.m88_parse.proofs.Law.Numbers.{read_decimal, hexadecimal_is, decimal_is, is_decimal_again, is_hexadecimal_again, number_is, bounded_above, at_decimal, at_hexadecimal}
 use Rattle.m88_parse.proofs.Law.Quotes.{inside_fits, inside_again, closed_by, not_lone}
-use Rattle.m88_parse.proofs.Law.Fronts.{no_such_byte, front_again, front_run, Makes, makes_text, makes_character, decimal_first, run_at, front_double, front_single, between, is_quote}
+use Rattle.m88_parse.proofs.Law.FirstToken.{no_such_byte, front_again, front_run, Makes, makes_text, makes_character, decimal_first, run_at, front_double, front_single, between, is_quote}
 
 flaw_same : {a b : Flaw} → ◌≡◌ {A = Result Cut Flaw} (Err a) (Err b) → a ≡ b
 flaw_same h = cc

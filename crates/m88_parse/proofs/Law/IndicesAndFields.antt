@@ -15,10 +15,10 @@ use Rattle.m88_parse.specs.Inside.State.{ReaderState, is_mark_of, is_next_mark, 
 use Rattle.m88_parse.specs.Inside.Slots.{Read, mark_at, unsigned_at, register_at}
 use Rattle.m88_parse.specs.Inside.Operands.{operand_at, scaled_at, indexed_at, index_at, user_index_at, width_at, literal_at, field_on, field_at}
 use Rattle.m88_parse.specs.Inside.Grammar.{end_with}
-use Rattle.m88_parse.proofs.Law.Steps.{take_then, take_else}
-use Rattle.m88_parse.proofs.Law.Slots.{st, no_name, own_names, IsUpTo, one_register, one_number, mapped, turns, NoName, number_is, text_is, mark_is}
-use Rattle.m88_parse.proofs.Law.Operands.{IsOperandOf, operand_start}
-use Rattle.m88_parse.proofs.Law.Walks.{Then, AfterMark, AfterComma, Last, Ends, Walk, Start, begun, end_start, mark_start, slot_start, start_as, ended, one_end, closed_end, ClosedEnd, closed_start, marked_other, unnamed, or_start, named_start}
+use Rattle.m88_parse.proofs.Law.TestsAndChoices.{take_then, take_else}
+use Rattle.m88_parse.proofs.Law.SingleTokens.{st, no_name, own_names, IsUpTo, one_register, one_number, mapped, turns, NoName, number_is, text_is, mark_is}
+use Rattle.m88_parse.proofs.Law.Immediates.{IsOperandOf, operand_start}
+use Rattle.m88_parse.proofs.Law.Readings.{Then, AfterMark, AfterComma, Last, Ends, Walk, Start, begun, end_start, mark_start, slot_start, start_as, ended, one_end, closed_end, ClosedEnd, closed_start, marked_other, unnamed, or_start, named_start}
 
 -- a register alone
 

@@ -29,10 +29,10 @@ use Rattle.m88_parse.specs.Inside.Shapes.{shape_of}
 use Rattle.m88_parse.specs.Inside.Grammar.{either_body, memory_body, bits_body, bounds_body, form_of}
 use Rattle.m88_parse.specs.Language.Operands.{most_width, Behind, IsImmediate, IsLast, IsScaled, AreOperands, immediate, registers, offset, index as plain_index, scaled, address, literal, field as register_field, find, branch, branch_bit, branch_condition, jump, trap_bit, trap_condition, bound_number, bound_register, return, control_load, control_store, control_exchange}
 use Rattle.m88_parse.specs.Language.Names.{IsComma, IsRegister}
-use Rattle.m88_parse.proofs.Law.Operands.{IsOperandOf, IsBoundOf}
-use Rattle.m88_parse.proofs.Law.Indices.{IsIndexOf, UserIndex, IsFieldOf}
-use Rattle.m88_parse.proofs.Law.Walks.{Then, AfterComma}
-use Rattle.m88_parse.proofs.Law.Forms.{Meets}
+use Rattle.m88_parse.proofs.Law.Immediates.{IsOperandOf, IsBoundOf}
+use Rattle.m88_parse.proofs.Law.IndicesAndFields.{IsIndexOf, UserIndex, IsFieldOf}
+use Rattle.m88_parse.proofs.Law.Readings.{Then, AfterComma}
+use Rattle.m88_parse.proofs.Law.OperandForms.{Meets}
 use Rattle.m88_parse.proofs.Law.Mnemonics.{IsNameOf, Spelled, imm_spelled, reg_spelled, mem_spelled, user_spelled, lda_spelled, bits_spelled, find_spelled, branch_spelled, branch_bit_spelled, branch_cond_spelled, jump_spelled, trap_bit_spelled, tcnd_spelled, tbnd_spelled, rte_spelled, ldcr_spelled, stcr_spelled, xcr_spelled}
 
 -- a token and a comma, a register and a comma, and a token that stands last

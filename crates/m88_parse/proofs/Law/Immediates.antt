@@ -26,11 +26,11 @@ use Rattle.m88_parse.specs.Inside.Operands.{half_immediate, half_at, half_on, sh
 use Rattle.m88_parse.specs.Inside.Grammar.{end_with}
 use Rattle.m88_parse.specs.Language.Names.{IsMark, IsNumber, IsNamed, IsRegister}
 use Rattle.m88_parse.specs.Language.Operands.{IsValue, IsHalfOf, IsImmediate, short, half, IsLast}
-use Rattle.m88_parse.proofs.Law.Steps.{chosen, tested, take_then, take_else}
+use Rattle.m88_parse.proofs.Law.TestsAndChoices.{chosen, tested, take_then, take_else}
 use Rattle.m88_parse.proofs.Law.Names.{some_same, register_is, register_name_again}
-use Rattle.m88_parse.proofs.Law.Slots.{st, symbols, mark_says, register_found, own_names, kind_for, IsUpTo, one_number, saying, any, any_is_symbol, gives, OneToken, nothing, by_token, token_gives, token_is, only_if, within, within_is, within_again, mapped, turns, NoName, number_is, text_is, mark_is, no_named}
+use Rattle.m88_parse.proofs.Law.SingleTokens.{st, symbols, mark_says, register_found, own_names, kind_for, IsUpTo, one_number, saying, any, any_is_symbol, gives, OneToken, nothing, by_token, token_gives, token_is, only_if, within, within_is, within_again, mapped, turns, NoName, number_is, text_is, mark_is, no_named}
 use Rattle.m88_parse.proofs.Law.Values.{value_start}
-use Rattle.m88_parse.proofs.Law.Walks.{Reading, Relation, Then, Several, AfterMark, Last, Ends, Walk, Start, Turn, begun, fault_at, faults_of, law_as, end_start, mark_start, start_as, ended, one_end, mark_unsigned, mark_first, after_marked, Nameless, refused, turn, turn_leads, turn_stops, turn_as, turns_start, names_start}
+use Rattle.m88_parse.proofs.Law.Readings.{Reading, Relation, Then, Several, AfterMark, Last, Ends, Walk, Start, Turn, begun, fault_at, faults_of, law_as, end_start, mark_start, start_as, ended, one_end, mark_unsigned, mark_first, after_marked, Nameless, refused, turn, turn_leads, turn_stops, turn_as, turns_start, names_start}
 use Rattle.m88_parse.proofs.Law.LineFaults.Readers.{Goes, Refuses, same_fault}
 use Rattle.m88_parse.proofs.Law.LineFaults.Halves.{half_leads}
 

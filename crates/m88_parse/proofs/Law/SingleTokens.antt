@@ -14,7 +14,7 @@ use Rattle.m88_parse.specs.Language.Words.{bit_named, condition_named}
 use Rattle.m88_parse.specs.Inside.State.{ReaderState, first, is_mark_of, is_next_mark, ◌>>=◌}
 use Rattle.m88_parse.specs.Inside.Slots.{Read, meaning_or_fault, mark_at, unsigned_on, unsigned_at, register_on, register_at, control_on, control_at, tabled_on, bit_at, mask_at, symbol_on, symbol_at, text_on, text_at, any_name_on, any_name_at, alignment_on, alignment_at}
 use Rattle.m88_parse.specs.Language.Names.{IsMark, IsNumber, IsNamed, IsRegister, IsControl, IsBit, IsCondition, IsSymbol}
-use Rattle.m88_parse.proofs.Law.Steps.{either, take_then, take_else}
+use Rattle.m88_parse.proofs.Law.TestsAndChoices.{either, take_then, take_else}
 use Rattle.m88_parse.proofs.Law.Names.{some_same, register_is, register_name_again, control_name_is, control_name_again, symbol_is, symbol_name_again, name_is, name_spelled_again}
 
 -- where a reading stands

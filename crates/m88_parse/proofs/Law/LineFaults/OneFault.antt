@@ -3,7 +3,7 @@ use Rattle.std.proofs.Common.{◌≡◌, ℕ, ◌+◌, List, [], ◌∷◌, ◌+
 use Rattle.m88_parse.specs.declared.fault.ParseKind.{ParseKind}
 use Rattle.m88_parse.specs.Language.Pieces.{Piece}
 use Rattle.m88_parse.specs.Language.LineFaults.{IsOperation, Continues, MayFollow, EndsInSign, EndsInHalf, IsNumberInPlace, IsNameInPlace, IsMisplaced, number_out_of_range, signed_out_of_range, no_such_name, other_token, IsFaultBehind, half_alone, misplaced, line_ends, Stops, IsBroken, IsLineFault, no_label, labelled_head, behind_label, without_label}
-use Rattle.m88_parse.proofs.Law.LineFaults.Nodes.{same_last}
+use Rattle.m88_parse.proofs.Law.LineFaults.TokenByToken.{same_last}
 
 abbrev Same : ℕ → ℕ → ParseKind → ParseKind → Type 0
 Same a b j k = (a ≡ b) × (j ≡ k)
