@@ -14,6 +14,7 @@ pub mod Known
 pub mod Lines
 pub mod Lookup
 pub mod Marks
+pub mod PartedLines
 pub mod Placing
 pub mod RegisterBits
 pub mod Same

@@ -9,7 +9,7 @@ abbrev pub is_inner : ℕ → Bool
 is_inner b = not (b == 10)
 
 -- a byte before a line end or before another byte
-front_by : (b : ℕ) (bs : List ℕ) (v w : Bool) → (b == 10) ≡ v → (b == 13 && begins_with_lf bs) ≡ w
+pub front_by : (b : ℕ) (bs : List ℕ) (v w : Bool) → (b == 10) ≡ v → (b == 13 && begins_with_lf bs) ≡ w
     → lines_of (b ∷ bs) ≡ cond v ([] ∷ lines_of bs) (cond w (lines_of bs) (on_first_line b (lines_of bs)))
 unfolding lines_of
 front_by b bs v w e f = ap (λ (x : Bool). cond x ([] ∷ lines_of bs) (cond (b == 13 && begins_with_lf bs) (lines_of bs) (on_first_line b (lines_of bs)))) e
@@ -19,7 +19,7 @@ and_true : (x : Bool) → (x && true) ≡ x
 and_true true = refl
 and_true false = refl
 
-and_false : (x : Bool) → (x && false) ≡ false
+pub and_false : (x : Bool) → (x && false) ≡ false
 and_false true = refl
 and_false false = refl
 

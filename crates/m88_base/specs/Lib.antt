@@ -7,6 +7,7 @@ pub mod Padded
 pub mod Cut
 pub mod Lines
 pub mod LineEnd
+pub mod Parted
 pub mod Numerals
 pub mod Hex
 pub mod Refused

@@ -27,6 +27,7 @@ mod line;
 mod listed;
 mod name;
 mod numerals;
+mod parting;
 mod refused;
 
 // The image of a program.
@@ -50,6 +51,7 @@ pub use mem_sink::MemSink;
 pub use mem_source::MemSource;
 pub use name::Name;
 pub use numerals::{decimal_in, number_in, push_decimal};
+pub use parting::{Parted, Unparted, parted_at};
 pub use reading::{ReadEnd, read_all};
 pub use refused::push_refused;
 pub use reg::Reg;

@@ -197,6 +197,37 @@ fn lines_end_by_lf_by_cr_lf_and_with_the_input(rt: HostRuntime) {
 }
 
 #[test]
+fn an_input_is_parted_at_its_first_line_of_a_word(rt: HostRuntime) {
+    let no_bytes: &[u8] = b"";
+    for (input, before, lines, behind) in [
+        (
+            b"go\nend\nor\n".as_slice(),
+            b"go\n".as_slice(),
+            2,
+            b"or\n".as_slice(),
+        ),
+        (b"go\r\n\nend\r\n\nend", b"go\r\n\n", 3, b"\nend"),
+        (b"end", no_bytes, 1, no_bytes),
+        (b"end \n end\nend\n", b"end \n end\n", 3, no_bytes),
+    ] {
+        let fine = match parted_at(input, b"end") {
+            Ok(parted) => (parted.before, parted.lines, parted.behind) == (before, lines, behind),
+            Err(_) => false,
+        };
+        assert!(rt; fine, "{lines}");
+    }
+    for (input, lines) in [
+        (no_bytes, 0),
+        (b"end\r", 1),
+        (b"go\n\nend\r\r\n", 3),
+        (b"\nEND", 2),
+    ] {
+        let fine = matches!(parted_at(input, b"end"), Err(unparted) if unparted.lines == lines);
+        assert!(rt; fine, "{lines}");
+    }
+}
+
+#[test]
 fn numbers_are_read_up_to_a_limit(rt: HostRuntime) {
     for (text, decimal, digits, hex, word) in [
         (b"0".as_slice(), Some(0), Some(0), Some(0), None),
