@@ -11,6 +11,7 @@ pub mod Parted
 pub mod Numerals
 pub mod Hex
 pub mod Refused
+pub mod Refusal
 pub mod Causes
 pub mod Calls
 pub mod Outside

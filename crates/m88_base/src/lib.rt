@@ -53,7 +53,7 @@ pub use name::Name;
 pub use numerals::{decimal_in, number_in, push_decimal};
 pub use parting::{Parted, Unparted, parted_at};
 pub use reading::{ReadEnd, read_all};
-pub use refused::push_refused;
+pub use refused::{Refusal, push_refused};
 pub use reg::Reg;
 pub use sink::Sink;
 pub use slot::Slot;
