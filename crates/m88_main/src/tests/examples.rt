@@ -20,6 +20,10 @@ const FOUR_LOADS: &[u8] =
     b"_start: ld r2,r0,0x5000\nld r3,r0,0x5004\nld r4,r0,0x5008\nld r5,r0,0x6000\n\
     addu r6,r2,r5\n.at 0x5000\n.word 1,2,3\n.at 0x6000\n.word 4\n";
 
+const HALF_FAULT: &[u8] =
+    b"_start: ld.d r2,r0,lo16(pair)\naddu r4,r2,r0\naddu r5,r2,r3\nst.d r4,r0,lo16(sums)\nor r9,r0,0x63\n\
+    tb0 0,r0,496\n.data\npair: .word 0x11223344,0x55667788\nsums: .word 0,0\n";
+
 const HEX_DUMP: &[u8] =
     b"_start: or.u r31,r0,hi16(stack)\nor r31,r31,lo16(stack)\nor.u r20,r0,hi16(bytes)\n\
     or r20,r20,lo16(bytes)\naddu r21,r20,32\nline: bsr.n word\nor r2,r20,r0\nor r22,r0,8\n\
@@ -79,6 +83,11 @@ const TWO_MODULES: &[u8] =
     b".module main\n_start: bsr.n put\nor r2,r0,'A'\nor r9,r0,0x63\ntb0 0,r0,496\n\
     .module output\n.global put\nput: or r9,r0,0x20\ntb0 0,r0,496\njmp r1\n";
 
+const TWO_MODES: &[u8] =
+    b"_start: or r10,r0,lo16(bytes+7)\nor r11,r0,1\nld.bu r2,r10,0\nld.hu r3,r10,0\nld r4,r10,0\nld r5,r10[r11]\n\
+    ld.d r6,r10,0\nst.h r2,r10,6\nor r9,r0,0x63\ntb0 0,r0,496\n.data\n\
+    bytes: .word 0x10111213,0x14151617,0x18191A1B,0\n";
+
 /// Each source with the words that run it and those that run its records, and a line of the report.
 const EXAMPLES: &[Example] = &[
     (
@@ -98,6 +107,12 @@ const EXAMPLES: &[Example] = &[
         "run 5 6 iiiirii",
         "exec 5 6 iiiirii",
         "\nfault 1 event 12\n",
+    ),
+    (
+        HALF_FAULT,
+        "run 100 none ireiiriirerii",
+        "exec 100 none ireiiriirerii",
+        "\nt0 0000003F 6688AACC 0000200C\n",
     ),
     (
         HEX_DUMP,
@@ -144,6 +159,18 @@ const EXAMPLES: &[Example] = &[
         "run 1000 all iiirrr",
         "exec 1000 all iiirrr",
         "\nmem 00002028 00000037\n",
+    ),
+    (
+        TWO_MODES,
+        "run 100 none -",
+        "exec 100 none -",
+        "end vector 4 at 0000100C\n",
+    ),
+    (
+        TWO_MODES,
+        "run 100 none - mxm",
+        "exec 100 none - mxm",
+        "\nr0 00000000 00000000 00000017 00001617 14151617 18191A1B 10111213 14151617\n",
     ),
     (
         TWO_MODULES,

@@ -21,7 +21,7 @@ fn other_words_are_usage(rt: HostRuntime) -> Result<(), Fail> {
             "run x none -",
             "run 1 none x",
             "run 1 none --",
-            "run 1 none ie",
+            "run 1 none iI",
             "run 1 5, -",
             "run 1 0x -",
             "run 1 0x100000 -",
