@@ -1,14 +1,16 @@
 -- An input is parted at a line, line by line.
-use Rattle.std.proofs.Common.{◌≡◌, ℕ, zero, suc, ◌+◌, ◌-◌, ◌<◌, Bool, true, false, cond, ◌&&◌, ◌==◌, List, [], ◌∷◌, ◌++◌, length, take, append_assoc, length-append, inl, inr, refl, sym, ap, ◌∙◌, subst, arith, eq-eqb}
+use Rattle.std.proofs.Common.{◌≡◌, ℕ, zero, suc, ◌+◌, ◌-◌, ◌<◌, ◌≤◌, Bool, true, false, cond, ◌&&◌, ◌==◌, List, [], ◌∷◌, ◌++◌, drop, length, take, append_assoc, length-append, inl, inr, refl, sym, ap, ◌∙◌, subst, arith, eq-eqb}
 use Rattle.std.specs.Prelude.{◌⊎◌, ◌≢◌}
-use Rattle.std.specs.List.{All}
+use Rattle.std.specs.List.{All, prefix_len}
 use Rattle.std.proofs.lemmas.Bool.{eqb-true}
 use Rattle.std.proofs.lemmas.List.{append-nil, append_cancel_right}
 use Rattle.std.proofs.lemmas.List.Elements.{All-head, All-nil, All-push, All-tail}
 use Rattle.std.proofs.Math.Seq.{take-append_seam}
 use Rattle.m88_base.specs.Lines.{begins_with_lf, behind_line, lines_of, on_first_line}
 use Rattle.m88_base.specs.Parted.{IsParted, IsUnparted, LacksLine, behind_lines}
-use Rattle.m88_base.proofs.Lines.{and_false, front_by}
+use Rattle.m88_base.specs.LineEnd.{without_cr}
+use Rattle.m88_base.proofs.Decided.{same_text}
+use Rattle.m88_base.proofs.Lines.{and_false, front_by, is_inner, line_ends, none_behind, source_ends, stands_behind}
 
 -- the text's last byte ends a line
 abbrev EndsLine : List ℕ → Type 0
@@ -214,3 +216,60 @@ module _ (word input before : List ℕ) (m : ℕ) (behind : List ℕ) (h : IsPar
   -- or it isn't parted
   pub parted_or_not : (n : ℕ) → IsUnparted word input n → ⊥
   parted_or_not n none = has_word word (lines_of before) (lines_of behind) (subst (All (λ l. l ≢ word)) h.lines_are none.has_none)
+
+-- the first line of an input that has one
+first_of : (rest : List ℕ) → 0 < length rest → (line : List ℕ) × (lines_of rest ≡ line ∷ lines_of (behind_line rest))
+first_of rest some = by_rest (drop (prefix_len is_inner rest) rest) refl
+  where
+    with_end : (line after : List ℕ) → after ≡ behind_line rest → lines_of rest ≡ line ∷ lines_of after → (l : List ℕ) × (lines_of rest ≡ l ∷ lines_of (behind_line rest))
+    with_end line after e f = (line, f ∙ ap (λ xs. let ls : List (List ℕ) = line ∷ lines_of xs in ls) e)
+
+    by_rest : (after : List ℕ) → drop (prefix_len is_inner rest) rest ≡ after → (l : List ℕ) × (lines_of rest ≡ l ∷ lines_of (behind_line rest))
+    by_rest [] e =
+        with_end (take (prefix_len is_inner rest) rest) [] (none_behind rest [] (prefix_len is_inner rest) refl (sym e) (omega arith))
+        (source_ends rest (take (prefix_len is_inner rest) rest) [] (prefix_len is_inner rest) refl refl (sym e) some (omega arith))
+    by_rest (c ∷ cs) e =
+        with_end (without_cr (take (prefix_len is_inner rest) rest)) cs (stands_behind rest (c ∷ cs) (prefix_len is_inner rest) refl (sym e))
+        (line_ends rest (take (prefix_len is_inner rest) rest) (c ∷ cs) (prefix_len is_inner rest) refl refl (sym e) (omega arith))
+
+no_longer : (bs : List ℕ) → length (behind_line bs) ≤ length bs
+no_longer [] = omega arith
+no_longer (b ∷ bs) = by_byte (b == 10) (no_longer bs)
+  where
+    by_byte : (v : Bool) → length (behind_line bs) ≤ length bs → length (cond v bs (behind_line bs)) ≤ length (b ∷ bs)
+    by_byte true ih = omega arith
+    by_byte false ih = omega (arith, ih)
+
+shorter : (b : ℕ) (bs : List ℕ) → length (behind_line (b ∷ bs)) ≤ length bs
+shorter b bs = by_byte (b == 10) (no_longer bs)
+  where
+    by_byte : (v : Bool) → length (behind_line bs) ≤ length bs → length (cond v bs (behind_line bs)) ≤ length bs
+    by_byte true ih = omega arith
+    by_byte false ih = ih
+
+-- each input is parted at a word, or not
+pub record Parting (word input : List ℕ) : Type 0 where
+  pub before : List ℕ
+  pub lines : ℕ
+  pub behind : List ℕ
+  pub is_parted : IsParted word input before lines behind
+
+pub parted_told : (word input : List ℕ) → Parting word input ⊎ ((n : ℕ) × IsUnparted word input n)
+parted_told word input = read_on (length input) input 0 (omega arith) (none_passed word input)
+  where
+    read_on : (most : ℕ) (rest : List ℕ) (n : ℕ) → length rest ≤ most → HasPassed word input rest n → Parting word input ⊎ ((m : ℕ) × IsUnparted word input m)
+    read_on most [] n few h = inr (n, none_parts word input [] n h refl)
+    read_on zero (b ∷ bs) n few h = absurd (omega arith)
+    read_on (suc most) (b ∷ bs) n few h =
+        let first = first_of (b ∷ bs) (omega arith) in
+        let less = shorter b bs in
+        elim (same_text first.0 word) [
+          | inl is ↦ inl (record {
+            before = take (length input - length (b ∷ bs)) input;
+            lines = n + 1;
+            behind = behind_line (b ∷ bs);
+            is_parted = parted_here word input (b ∷ bs) first.0 (behind_line (b ∷ bs)) n h first.1 refl _ refl is;
+          })
+          | inr other ↦ read_on most (behind_line (b ∷ bs)) (n + 1) (omega (arith, less))
+              (one_passed word input (b ∷ bs) first.0 (behind_line (b ∷ bs)) n h first.1 refl (omega arith) other)
+        ]
