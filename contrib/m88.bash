@@ -6,8 +6,8 @@ _m88() {
     choices="run exec mon asm link build dis soak"
   else
     case ${COMP_WORDS[1]} in
-      run | exec) places="LIMIT ABSENT SCHEDULE" ;;
-      mon) places="ABSENT SCHEDULE" ;;
+      run | exec) places="LIMIT ABSENT SCHEDULE MODE" ;;
+      mon) places="ABSENT SCHEDULE MODE" ;;
       soak) places="NUMBER COUNT" ;;
       *) places="" ;;
     esac
@@ -15,7 +15,8 @@ _m88() {
     case $place in
       LIMIT) choices="100 1000 1000000" ;;
       ABSENT) choices="none all" ;;
-      SCHEDULE) choices="- i r" ;;
+      SCHEDULE) choices="- i r e" ;;
+      MODE) choices="mxm" ;;
       NUMBER) choices="0 1" ;;
       COUNT) choices="100 1000 40000" ;;
       *) choices="" ;;

@@ -1,5 +1,5 @@
 -- A source and the S-records that `build` writes of it have one program, so they run alike.
-use Rattle.std.proofs.Common.{◌≡◌, ℕ, List, refl, sym, ◌∙◌, subst}
+use Rattle.std.proofs.Common.{◌≡◌, ℕ, Bool, List, refl, sym, ◌∙◌, subst}
 use Rattle.std.proofs.Math.Path.{fun_ext}
 use Rattle.m88_base.specs.Image.{ProgramImage, byte_at, byte_count}
 use Rattle.m88_isa.specs.ImageProgram.{IsInstructionAt}
@@ -55,11 +55,11 @@ holds_unit source u image short is accepted of =
           (instructions_law u spots formed accepted.assembled accepted.linkable linked a o there);
     }
 
--- the image that records hold, and its program, which is the source's
+-- the image that records hold, and its program in each mode, which is the source's
 record Built (source records : List ℕ) : Type 0 where
   image : ProgramImage
   written : IsAccepted records (whole_of image)
-  held : Held source image
+  held : (mxm : Bool) → Held mxm source image
 
 built : (source records : List ℕ) → FitsInput source → IsAnswerToAccepted build source records → Built source records
 built source records short answer =
@@ -71,31 +71,33 @@ built source records short answer =
     record {
       image = image;
       written = image_is_accepted image records own.is_image.is_image answer.output.is_text;
-      held = held_by source image
+      held = λ mxm. held_by mxm source image
           (holds_unit source own.unit image short own.is_unit accepted own.is_image) own.is_image.is_image;
     }
 
-loaded : (source records : List ℕ) (b : Built source records) → IsLoadedProgram records b.held.program
-loaded source records b = record { image = b.image; is_written = b.written; is_program = b.held.of_image }
+loaded : (source records : List ℕ) (b : Built source records) (mxm : Bool) → IsLoadedProgram records (b.held mxm).program
+loaded source records b mxm = record { image = b.image; is_written = b.written; is_program = (b.held mxm).of_image }
 
 -- a program of the one is a program of the other
 to_loaded : (source records : List ℕ) → Built source records → (p : Program) → IsSourceProgram source p
     → IsLoadedProgram records p
 to_loaded source records b p is =
-    subst (IsLoadedProgram records) (sym (one_source_program source p b.held.program is b.held.of_source))
-    (loaded source records b)
+    let own = b.held p.mxm in
+    subst (IsLoadedProgram records) (sym (one_source_program source p own.program is own.of_source (sym own.mode)))
+    (loaded source records b p.mxm)
 
 from_loaded : (source records : List ℕ) → Built source records → (p : Program) → IsLoadedProgram records p
     → IsSourceProgram source p
 from_loaded source records b p is =
+    let own = b.held p.mxm in
     subst (IsSourceProgram source)
-    (sym (one_loaded_program records p b.held.program is (loaded source records b))) b.held.of_source
+    (sym (one_loaded_program records p own.program is (loaded source records b p.mxm) (sym own.mode))) own.of_source
 
 -- the reports of programs that are the same
 comes_by : (A B : Program → Type 0) (s : Settings) (o : Outcome)
     → ((p : Program) → A p → B p) → ComesTo A s o → ComesTo B s o
 comes_by A B s o to c =
-    record { program = c.program; is_such = to c.program c.is_such; is_outcome = c.is_outcome }
+    record { program = c.program; is_such = to c.program c.is_such; mode = c.mode; is_outcome = c.is_outcome }
 
 report_by : (A B : Program → Type 0) (s : Settings) (text : List ℕ)
     → ((p : Program) → A p → B p) → ((p : Program) → B p → A p) → IsReport report_of A s text

@@ -1,5 +1,5 @@
 -- An input of `mon` has one session: one script, one program of the source behind it, and one text.
-use Rattle.std.proofs.Common.{◌≡◌, ℕ, Bool, List, [], ◌∷◌, Option, inl, refl, sym, subst, arith}
+use Rattle.std.proofs.Common.{◌≡◌, ℕ, Bool, List, [], ◌∷◌, Option, inl, refl, sym, ◌∙◌, subst, arith}
 use Rattle.m88_base.specs.Image.{IsImage, ProgramImage}
 use Rattle.m88_isa.specs.ImageProgram.{IsProgramOf}
 use Rattle.m88_isa.specs.Machine.{Program}
@@ -26,12 +26,13 @@ moved absent schedule cs ds p q text glances e f h =
     subst (λ r. IsSession (course_of r absent schedule) ds opening_session text glances) f
     (subst (λ xs. IsSession (course_of p absent schedule) xs opening_session text glances) e h)
 
-one_text : (input : List ℕ) (absent : ℕ → Bool) (schedule : List Letter) (cs : List MonitorCommand) (p : Program) (text other : List ℕ)
-    (glances others : List Glance) → Scripted input cs p → IsSession (course_of p absent schedule) cs opening_session text glances
-    → IsInputSession input absent schedule other others → other ≡ text
-one_text input absent schedule cs p text other glances others own is session =
+one_text : (input : List ℕ) (absent : ℕ → Bool) (schedule : List Letter) (mxm : Bool) (cs : List MonitorCommand) (p : Program) (text other : List ℕ)
+    (glances others : List Glance) → Scripted input mxm cs p → IsSession (course_of p absent schedule) cs opening_session text glances
+    → IsInputSession input absent schedule mxm other others → other ≡ text
+one_text input absent schedule mxm cs p text other glances others own is session =
     let script = one_script input session.commands cs session.scripted.lines own.lines session.scripted.source own.source session.scripted.is_script own.is_script in
-    let program = one_source_program own.source session.program p (subst (λ s. IsSourceProgram s session.program) script.source session.scripted.is_program) own.is_program in
+    let program = one_source_program own.source session.program p (subst (λ s. IsSourceProgram s session.program) script.source session.scripted.is_program) own.is_program
+    (session.scripted.mode ∙ sym own.mode) in
     (one_session (course_of p absent schedule) cs opening_session other text others glances
     (moved absent schedule session.commands cs session.program p other others script.commands program session.is_session) is).0
 
@@ -61,30 +62,30 @@ accepted_input input cs n source image is holds = record {
 }
 
 -- what a session over that image writes and shows is the session of the input
-pub session_of_input : (input : List ℕ) (absent : ℕ → Bool) (schedule : List Letter) (cs : List MonitorCommand) (n : ℕ) (source : List ℕ)
+pub session_of_input : (input : List ℕ) (absent : ℕ → Bool) (schedule : List Letter) (mxm : Bool) (cs : List MonitorCommand) (n : ℕ) (source : List ℕ)
     (image : ProgramImage) (text : List ℕ) (before after : Option (List Glance)) → IsScript input cs n source → HoldsUnit source image → IsImage image
-    → ((p : Program) → IsProgramOf image p → (glances : List Glance)
+    → ((p : Program) → IsProgramOf image p → p.mxm ≡ mxm → (glances : List Glance)
     × IsSession (course_of p absent schedule) cs opening_session text glances × Saw before after glances)
-    → IsMonitorText input absent schedule text
-session_of_input input absent schedule cs n source image text before after is holds sound told =
-    let held = held_by source image holds sound in
-    let own = told held.program held.of_image in
-    let scripted : Scripted input cs held.program = record { lines = n; source = source; is_script = is; is_program = held.of_source } in
+    → IsMonitorText input absent schedule mxm text
+session_of_input input absent schedule mxm cs n source image text before after is holds sound told =
+    let held = held_by mxm source image holds sound in
+    let own = told held.program held.of_image held.mode in
+    let scripted : Scripted input mxm cs held.program = record { lines = n; source = source; is_script = is; is_program = held.of_source; mode = held.mode } in
     record {
       glances = own.0;
       session = record { commands = cs; program = held.program; scripted = scripted; is_session = own.1 };
-      only = λ other others session. one_text input absent schedule cs held.program text other own.0 others scripted own.1 session;
+      only = λ other others session. one_text input absent schedule mxm cs held.program text other own.0 others scripted own.1 session;
     }
 
-pub shown_to_end : (input : List ℕ) (absent : ℕ → Bool) (schedule : List Letter) (cs : List MonitorCommand) (n : ℕ) (source : List ℕ)
+pub shown_to_end : (input : List ℕ) (absent : ℕ → Bool) (schedule : List Letter) (mxm : Bool) (cs : List MonitorCommand) (n : ℕ) (source : List ℕ)
     (image : ProgramImage) (text : List ℕ) (before after : Option (List Glance)) → IsScript input cs n source → HoldsUnit source image → IsImage image
-    → ((p : Program) → IsProgramOf image p → (glances : List Glance)
+    → ((p : Program) → IsProgramOf image p → p.mxm ≡ mxm → (glances : List Glance)
     × IsSession (course_of p absent schedule) cs opening_session text glances × Saw before after glances)
-    → SawSession input absent schedule before after
-shown_to_end input absent schedule cs n source image text before after is holds sound told =
-    let held = held_by source image holds sound in
-    let own = told held.program held.of_image in
-    let scripted : Scripted input cs held.program = record { lines = n; source = source; is_script = is; is_program = held.of_source } in
+    → SawSession input absent schedule mxm before after
+shown_to_end input absent schedule mxm cs n source image text before after is holds sound told =
+    let held = held_by mxm source image holds sound in
+    let own = told held.program held.of_image held.mode in
+    let scripted : Scripted input mxm cs held.program = record { lines = n; source = source; is_script = is; is_program = held.of_source; mode = held.mode } in
     record {
       text = text;
       glances = own.0;
@@ -93,18 +94,18 @@ shown_to_end input absent schedule cs n source image text before after is holds 
     }
 
 -- and where it broke off, a front of that
-pub front_of_input : (input : List ℕ) (absent : ℕ → Bool) (schedule : List Letter) (cs : List MonitorCommand) (n : ℕ) (source : List ℕ)
+pub front_of_input : (input : List ℕ) (absent : ℕ → Bool) (schedule : List Letter) (mxm : Bool) (cs : List MonitorCommand) (n : ℕ) (source : List ℕ)
     (image : ProgramImage) (before after : Option (List Glance)) → IsScript input cs n source → HoldsUnit source image → IsImage image
-    → ((p : Program) → IsProgramOf image p → (glances : List Glance)
+    → ((p : Program) → IsProgramOf image p → p.mxm ≡ mxm → (glances : List Glance)
     × IsSessionFront (course_of p absent schedule) cs opening_session glances × Saw before after glances)
-    → SawSessionFront input absent schedule before after
-front_of_input input absent schedule cs n source image before after is holds sound told =
-    let held = held_by source image holds sound in
-    let own = told held.program held.of_image in
+    → SawSessionFront input absent schedule mxm before after
+front_of_input input absent schedule mxm cs n source image before after is holds sound told =
+    let held = held_by mxm source image holds sound in
+    let own = told held.program held.of_image held.mode in
     record {
       commands = cs;
       program = held.program;
-      scripted = record { lines = n; source = source; is_script = is; is_program = held.of_source };
+      scripted = record { lines = n; source = source; is_script = is; is_program = held.of_source; mode = held.mode };
       glances = own.0;
       is_front = own.1;
       saw = own.2;

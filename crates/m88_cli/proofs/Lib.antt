@@ -5,9 +5,6 @@ pub mod Scripts
 pub mod ScriptReading
 pub mod ScriptTold
 pub mod OneScript
-pub mod Spelling
-pub mod SpellingRuns
-pub mod SpellingThree
 pub mod OneUnit
 pub mod OneObjects
 pub mod Monitored

@@ -1,5 +1,5 @@
 -- A source that is accepted has one program, and its image holds that; so have S-records.
-use Rattle.std.proofs.Common.{◌≡◌, ℕ, ◌<◌, ◌^◌, List, [], Option, Some, None, false, true, inl, inr, refl, ap, sym, ◌∙◌, subst}
+use Rattle.std.proofs.Common.{◌≡◌, ℕ, Bool, ◌<◌, ◌^◌, List, [], Option, Some, None, false, true, inl, inr, refl, ap, sym, ◌∙◌, subst}
 use Rattle.std.specs.Int.{from_be_bytes, to_be_bytes, w32}
 use Rattle.std.specs.Option.{option_or}
 use Rattle.std.specs.Prelude.{unwrap_or}
@@ -64,28 +64,28 @@ one_in_unit u a o (Some j) (inr h) (inl k) = absurd (some_none (placed_instructi
 one_in_unit u a o p (inr h) (inr k) = one_at (unit_byte u) a o p h.1 k.1
 
 -- programs that agree are one
-same_program : (p q : Program) → p.start ≡ q.start → ((a : ℕ) → p.byte a ≡ q.byte a) → ((a : ℕ) → p.instruction a ≡ q.instruction a) → p ≡ q
-same_program p q start bytes instructions =
-    λ i. record { start = start i; byte = λ a. bytes a i; instruction = λ a. instructions a i }
+same_program : (p q : Program) → p.mxm ≡ q.mxm → p.start ≡ q.start → ((a : ℕ) → p.byte a ≡ q.byte a) → ((a : ℕ) → p.instruction a ≡ q.instruction a) → p ≡ q
+same_program p q mode start bytes instructions =
+    λ i. record { mxm = mode i; start = start i; byte = λ a. bytes a i; instruction = λ a. instructions a i }
 
--- a source has one program
-pub one_source_program : (source : List ℕ) (p q : Program) → IsSourceProgram source p → IsSourceProgram source q → p ≡ q
-one_source_program source p q a b =
+-- a source has one program in a mode
+pub one_source_program : (source : List ℕ) (p q : Program) → IsSourceProgram source p → IsSourceProgram source q → p.mxm ≡ q.mxm → p ≡ q
+one_source_program source p q a b mode =
     let unit = (one_verdict source).one_value a.unit b.unit a.is_unit b.is_unit in
     let own = subst (λ u. IsUnitProgram u p) unit a.is_program in
-    same_program p q (own.start ∙ sym b.is_program.start) (λ n. own.bytes n ∙ sym (b.is_program.bytes n))
+    same_program p q mode (own.start ∙ sym b.is_program.start) (λ n. own.bytes n ∙ sym (b.is_program.bytes n))
     (λ n. one_in_unit b.unit n (p.instruction n) (q.instruction n) (own.instructions n) (b.is_program.instructions n))
 
--- S-records have one program
-pub one_loaded_program : (text : List ℕ) (p q : Program) → IsLoadedProgram text p → IsLoadedProgram text q → p ≡ q
-one_loaded_program text p q a b =
+-- S-records have one program in a mode
+pub one_loaded_program : (text : List ℕ) (p q : Program) → IsLoadedProgram text p → IsLoadedProgram text q → p.mxm ≡ q.mxm → p ≡ q
+one_loaded_program text p q a b mode =
     let one = verdict_takes text (whole_of a.image) a.is_written in
     let other = verdict_takes text (whole_of b.image) b.is_written in
     let whole : whole_of a.image ≡ whole_of b.image = cc in
     let found : byte_at a.image ≡ byte_at b.image = ap (λ (w : Whole). w.found) whole in
     let start : a.image.start ≡ b.image.start = ap (λ (w : Whole). w.start) whole in
     let bytes : p.byte ≡ q.byte = a.is_program.bytes ∙ found ∙ sym b.is_program.bytes in
-    same_program p q (a.is_program.start ∙ start ∙ sym b.is_program.start) (λ n. ap (λ (byte : ℕ → Option ℕ). byte n) bytes)
+    same_program p q mode (a.is_program.start ∙ start ∙ sym b.is_program.start) (λ n. ap (λ (byte : ℕ → Option ℕ). byte n) bytes)
     (λ n. one_at (byte_at b.image) n (p.instruction n) (q.instruction n)
     (subst (λ (byte : ℕ → Option ℕ). IsInstructionAt byte n (p.instruction n)) found (a.is_program.instructions n)) (b.is_program.instructions n))
 
@@ -99,19 +99,21 @@ in_unit u a o (Some i) e there = inl (refl, e)
 pub accepted_source : (source : List ℕ) (image : ProgramImage) → HoldsUnit source image → IsProgramSource source
 accepted_source source image holds = record { unit = holds.unit; is_unit = holds.is_unit; is_accepted = holds.is_accepted }
 
--- a program that is the source's and that the image holds
-pub record Held (source : List ℕ) (image : ProgramImage) : Type 0 where
+-- a program in a mode that is the source's and that the image holds
+pub record Held (mxm : Bool) (source : List ℕ) (image : ProgramImage) : Type 0 where
   pub program : Program
   pub of_source : IsSourceProgram source program
   pub of_image : IsProgramOf image program
+  pub mode : program.mxm ≡ mxm
 
-pub held_by : (source : List ℕ) (image : ProgramImage) → HoldsUnit source image → IsImage image → Held source image
-held_by source image holds is =
+pub held_by : (mxm : Bool) (source : List ℕ) (image : ProgramImage) → HoldsUnit source image → IsImage image → Held mxm source image
+held_by mxm source image holds is =
     let u = holds.unit in
-    let q = program_in image is in
-    let of = program_in_holds image is in
+    let q = program_in mxm image is in
+    let of = program_in_holds mxm image is in
     let bytes : byte_at image ≡ unit_byte u = fun_ext holds.is_image.bytes in
     let own : Program = record {
+      mxm = mxm;
       start = image.start;
       byte = byte_at image;
       instruction = λ a. option_or (placed_instruction u a) (q.instruction a);
@@ -127,4 +129,5 @@ held_by source image holds is =
         is_program = record { start = holds.is_image.start; bytes = holds.is_image.bytes; instructions = there };
       };
       of_image = record { start = refl; bytes = refl; instructions = λ a. holds.instructions a (own.instruction a) (there a) };
+      mode = refl;
     }

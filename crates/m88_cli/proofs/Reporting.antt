@@ -59,10 +59,11 @@ outcome_counts p named limit schedule o is =
     ap (λ (x : Outcome). x.events) is.value ∙ events_of p (moment_after p named limit schedule is.events) ∙ counts p named limit schedule is.events
 
 -- what was seen of as many events as the outcome has was seen of the run
-pub saw_run : (p : Program) (s : Settings) (before after : Option (List Glance)) (o : Outcome)
+pub saw_run : (p : Program) (s : Settings) (before after : Option (List Glance)) (o : Outcome) → p.mxm ≡ s.mxm
     → IsOutcome p s.absent s.limit s.schedule o → Saw before after (glances_along p (moment_after p s.absent s.limit s.schedule) o.events)
     → SawRun p s before after
-saw_run p s before after o is saw = record {
+saw_run p s before after o mode is saw = record {
+  mode = mode;
   events = is.events;
   is_run = is.run;
   saw = subst (λ k. Saw before after (glances_along p (moment_after p s.absent s.limit s.schedule) k)) (outcome_counts p s.absent s.limit s.schedule o is) saw;
@@ -71,15 +72,16 @@ saw_run p s before after o is saw = record {
 -- and of its front
 pub front_of_run : (p : Program) (s : Settings) (before after : Option (List Glance))
     → SawRun p s before after → SawFront p s before after
-front_of_run p s before after seen = record { events = seen.events; is_running = seen.is_run.first; saw = seen.saw }
+front_of_run p s before after seen = record { mode = seen.mode; events = seen.events; is_running = seen.is_run.first; saw = seen.saw }
 
 -- before the first event nothing was seen
 pub no_glance : (p : Program) (moments : ℕ → Moment) → glances_along p moments 0 ≡ []
 unfolding glances_along
 no_glance p moments = refl
 
-pub no_front : (p : Program) (s : Settings) (seen : Option (List Glance)) → SawFront p s seen seen
-no_front p s seen = record {
+pub no_front : (p : Program) (s : Settings) (seen : Option (List Glance)) → p.mxm ≡ s.mxm → SawFront p s seen seen
+no_front p s seen mode = record {
+  mode = mode;
   events = 0;
   is_running = λ k below. absurd (omega arith);
   saw = subst (λ glances. Saw seen seen glances) (sym (no_glance p (moment_after p s.absent s.limit s.schedule))) (saw_none seen);
@@ -87,21 +89,21 @@ no_front p s seen = record {
 
 -- what is told of a run of the one program of an input
 pub reported : {told_of : Outcome → List ℕ} (IsSuch : Program → Type 0) (p : Program) (s : Settings) (text : List ℕ)
-    → IsSuch p → ((q : Program) → IsSuch q → q ≡ p)
+    → IsSuch p → p.mxm ≡ s.mxm → ((q : Program) → IsSuch q → q.mxm ≡ s.mxm → q ≡ p)
     → (o : Outcome) × IsOutcome p s.absent s.limit s.schedule o × (text ≡ told_of o) → IsReport told_of IsSuch s text
-reported IsSuch p s text is_such one (o, is, report) = record {
+reported IsSuch p s text is_such mode one (o, is, report) = record {
   outcome = o;
-  comes = record { program = p; is_such = is_such; is_outcome = is };
+  comes = record { program = p; is_such = is_such; mode = mode; is_outcome = is };
   only = λ other comes.
       one_outcome p s.absent s.limit s.schedule other o
-      (subst (λ q. IsOutcome q s.absent s.limit s.schedule other) (one comes.program comes.is_such) comes.is_outcome) is;
+      (subst (λ q. IsOutcome q s.absent s.limit s.schedule other) (one comes.program comes.is_such comes.mode) comes.is_outcome) is;
   is_text = report;
 }
 
 -- the text is the report of a run of the program of an image
 abbrev pub TellsOf : ProgramImage → Settings → List ℕ → Type 0
 TellsOf image s text =
-    (p : Program) → IsProgramOf image p → (o : Outcome) × IsOutcome p s.absent s.limit s.schedule o × (text ≡ report_of o)
+    (p : Program) → IsProgramOf image p → p.mxm ≡ s.mxm → (o : Outcome) × IsOutcome p s.absent s.limit s.schedule o × (text ≡ report_of o)
 
 -- a reply that accepts an input, with a text that answers it
 pub answering : (command : Command) (input : List ℕ) (IsTold : List ℕ → Type 0) (result : Result Reply NoMemory)
@@ -121,17 +123,17 @@ watching seen old new command input (Ok r) accepted saw shown =
     subst (λ t. MatchBool t (Shown command input (seen old) (seen new)) (new ≡ old)) (sym accepted) (shown saw)
 
 -- the same of a limit that is the board's
-pub front_by : (p : Program) (own : ℕ) (s : Settings) (before after : Option (List Glance)) → own ≡ s.limit
+pub front_by : (p : Program) (own : ℕ) (s : Settings) (before after : Option (List Glance)) → own ≡ s.limit → p.mxm ≡ s.mxm
     → (events : ℕ) × IsRunning p s.absent own s.schedule events × Saw before after (glances_along p (moment_after p s.absent own s.schedule) events)
     → SawFront p s before after
-front_by p own s before after e (events, running, saw) =
-    subst (λ n. SawFront p (record s { limit = n }) before after) e (record { events = events; is_running = running; saw = saw })
+front_by p own s before after e mode (events, running, saw) =
+    subst (λ n. SawFront p (record s { limit = n }) before after) e (record { mode = mode; events = events; is_running = running; saw = saw })
 
-pub run_by : (p : Program) (own : ℕ) (s : Settings) (before after : Option (List Glance)) (o : Outcome) → own ≡ s.limit
+pub run_by : (p : Program) (own : ℕ) (s : Settings) (before after : Option (List Glance)) (o : Outcome) → own ≡ s.limit → p.mxm ≡ s.mxm
     → IsOutcome p s.absent own s.schedule o → Saw before after (glances_along p (moment_after p s.absent own s.schedule) o.events)
     → SawRun p s before after
-run_by p own s before after o e is saw =
-    subst (λ n. SawRun p (record s { limit = n }) before after) e (saw_run p (record s { limit = own }) before after o is saw)
+run_by p own s before after o e mode is saw =
+    subst (λ n. SawRun p (record s { limit = n }) before after) e (saw_run p (record s { limit = own }) before after o mode is saw)
 
 -- a fact holds where a call failed
 pub on_err : {T E P : Type 0} (r : Result T E) → P → OnErr r P

@@ -1,5 +1,5 @@
 -- The reply of `soak`: its source is accepted, so it isn't refused, and its letters are read as its schedule.
-use Rattle.std.proofs.Common.{◌≡◌, ℕ, zero, suc, ◌*◌, ◌≤◌, List, Option, None, Some, false, Result, length, add-one, ap, ◌∙◌, subst, inr, arith}
+use Rattle.std.proofs.Common.{◌≡◌, ℕ, zero, suc, ◌*◌, ◌≤◌, List, Option, None, Some, false, Result, length, add-one, ap, ◌∙◌, subst, inr, sym, arith}
 use Rattle.std.specs.Prelude.{IfOk, map}
 use Rattle.std.specs.List.{range_with_len}
 use Rattle.std.proofs.lemmas.List.{length-map}
@@ -87,24 +87,26 @@ pub record Made (number count : ℕ) (image : ProgramImage) : Type 0 where
   pub program : Program
   pub of_source : IsSourceProgram (workload_source number count) program
   pub of_image : IsProgramOf image program
+  pub mode : program.mxm ≡ false
 
 pub made_by : (number count : ℕ) (source : List ℕ) (image : ProgramImage) → source ≡ workload_source number count
     → HoldsUnit source image → IsImage image → Made number count image
 made_by number count source image is holds is_image =
-    let held = held_by source image holds is_image in
+    let held = held_by false source image holds is_image in
     record {
       program = held.program;
       of_source = subst (λ (s : List ℕ). IsSourceProgram s held.program) is held.of_source;
       of_image = held.of_image;
+      mode = held.mode;
     }
 
 -- the summary of its run answers
-pub summed_up : (number count : ℕ) (input text : List ℕ) (p : Program) (o : Outcome) → IsSourceProgram (workload_source number count) p
+pub summed_up : (number count : ℕ) (input text : List ℕ) (p : Program) (o : Outcome) → IsSourceProgram (workload_source number count) p → p.mxm ≡ false
     → IsOutcome p every_page count (workload_schedule number count) o → text ≡ summary_of number count o → IsAnswerToAccepted (soak number count) input text
-summed_up number count input text p o of_source is text_is = record {
+summed_up number count input text p o of_source mode is text_is = record {
   accepted = tt;
-  output = reported (IsSourceProgram (workload_source number count)) p (workload_settings number count) text of_source
-      (λ q is_too. one_source_program (workload_source number count) q p is_too of_source) (o, is, text_is);
+  output = reported (IsSourceProgram (workload_source number count)) p (workload_settings number count) text of_source mode
+      (λ q is_too same. one_source_program (workload_source number count) q p is_too of_source (same ∙ sym mode)) (o, is, text_is);
 }
 
 -- what the code has of the source and the letters
@@ -131,34 +133,34 @@ read_letters o schedule letters e f = cc
 -- the same over the schedule that the code has
 pub answer_of_run : (number count : ℕ) (input text : List ℕ) (image : ProgramImage) (schedule : List Letter) (o : Outcome)
     → Made number count image → schedule ≡ workload_schedule number count
-    → ((p : Program) → IsProgramOf image p → IsOutcome p every_page count schedule o) → text ≡ summary_of number count o → IsAnswerToAccepted (soak number count) input text
+    → ((p : Program) → IsProgramOf image p → p.mxm ≡ false → IsOutcome p every_page count schedule o) → text ≡ summary_of number count o → IsAnswerToAccepted (soak number count) input text
 answer_of_run number count input text image schedule o made is comes text_is =
-    summed_up number count input text made.program o made.of_source
-    (subst (λ (s : List Letter). IsOutcome made.program every_page count s o) is (comes made.program made.of_image)) text_is
+    summed_up number count input text made.program o made.of_source made.mode
+    (subst (λ (s : List Letter). IsOutcome made.program every_page count s o) is (comes made.program made.of_image made.mode)) text_is
 
 pub run_shown : (number count : ℕ) (input : List ℕ) (image : ProgramImage) (schedule : List Letter) (before after : Option (List Glance))
     → Made number count image → schedule ≡ workload_schedule number count
-    → ((p : Program) → IsProgramOf image p → SawRun p (record (workload_settings number count) { schedule = schedule }) before after) → Shown (soak number count) input before after
+    → ((p : Program) → IsProgramOf image p → p.mxm ≡ false → SawRun p (record (workload_settings number count) { schedule = schedule }) before after) → Shown (soak number count) input before after
 run_shown number count input image schedule before after made is saw = (
   made.program,
   made.of_source,
-  subst (λ (s : List Letter). SawRun made.program (record (workload_settings number count) { schedule = s }) before after) is (saw made.program made.of_image),
+  subst (λ (s : List Letter). SawRun made.program (record (workload_settings number count) { schedule = s }) before after) is (saw made.program made.of_image made.mode),
 )
 
 pub front_shown : (number count : ℕ) (input : List ℕ) (image : ProgramImage) (schedule : List Letter) (before after : Option (List Glance))
     → Made number count image → schedule ≡ workload_schedule number count
-    → ((p : Program) → IsProgramOf image p → SawFront p (record (workload_settings number count) { schedule = schedule }) before after)
+    → ((p : Program) → IsProgramOf image p → p.mxm ≡ false → SawFront p (record (workload_settings number count) { schedule = schedule }) before after)
     → ShownFront (soak number count) input before after
 front_shown number count input image schedule before after made is saw = (
   made.program,
   made.of_source,
-  subst (λ (s : List Letter). SawFront made.program (record (workload_settings number count) { schedule = s }) before after) is (saw made.program made.of_image),
+  subst (λ (s : List Letter). SawFront made.program (record (workload_settings number count) { schedule = s }) before after) is (saw made.program made.of_image made.mode),
 )
 
 pub run_front_shown : (number count : ℕ) (input : List ℕ) (image : ProgramImage) (schedule : List Letter) (before after : Option (List Glance))
     → Made number count image → schedule ≡ workload_schedule number count
-    → ((p : Program) → IsProgramOf image p → SawRun p (record (workload_settings number count) { schedule = schedule }) before after)
+    → ((p : Program) → IsProgramOf image p → p.mxm ≡ false → SawRun p (record (workload_settings number count) { schedule = schedule }) before after)
     → ShownFront (soak number count) input before after
 run_front_shown number count input image schedule before after made is saw =
     front_shown number count input image schedule before after made is
-    (λ p of. front_of_run p (record (workload_settings number count) { schedule = schedule }) before after (saw p of))
+    (λ p of mode. front_of_run p (record (workload_settings number count) { schedule = schedule }) before after (saw p of mode))

@@ -29,7 +29,7 @@ IsOutput asm source text = IsObjectText source text
 IsOutput link objects text = IsLinkedText objects text
 IsOutput build source text = IsRecordText source text
 IsOutput dis records text = IsListingText records text
-IsOutput (mon absent schedule) input text = IsMonitorText input absent schedule text
+IsOutput (mon absent schedule mxm) input text = IsMonitorText input absent schedule mxm text
 IsOutput (soak number count) input text = IsSummary number count text
 
 -- the text answers an input that the command accepts

@@ -1,11 +1,9 @@
 -- The commands: what words spell each of them, the kind of its input, and which of them show boards.
 use Rattle.std.specs.Prelude.{ℕ, Bool, true, false, ◌≡◌, ◌<◌, ◌≤◌, ◌^◌, List, [], ◌∷◌, codes}
-use Rattle.m88_event.specs.Letters.{IsSchedule}
 use Rattle.m88_event.specs.declared.letter.Letter.{Letter}
 use Rattle.m88_cli.specs.Limits.{most_statements}
 use Rattle.m88_cli.specs.Numbers.{IsShortNumber}
-use Rattle.m88_cli.specs.Pages.{IsAbsent}
-use Rattle.m88_cli.specs.Settings.{Settings, SpellsRun}
+use Rattle.m88_cli.specs.Settings.{SaySession, SaySettings, Settings}
 
 -- the commands
 pub data Command : Type 0 where
@@ -22,7 +20,7 @@ pub data Command : Type 0 where
   -- the listing of S-records
   dis : Command
   -- what the monitor writes for a script over a source
-  mon : (absent : ℕ → Bool) (schedule : List Letter) → Command
+  mon : (absent : ℕ → Bool) (schedule : List Letter) (mxm : Bool) → Command
   -- the summary of the workload of a number, with so many statements
   soak : (number count : ℕ) → Command
 
@@ -34,33 +32,38 @@ IsWorkloadNumber text n = IsShortNumber 10 10 text n × (n < 2 ^ 32)
 abbrev pub IsWorkloadCount : List ℕ → ℕ → Type 0
 IsWorkloadCount text n = IsShortNumber 10 7 text n × (1 ≤ n) × (n ≤ most_statements)
 
--- the words are a name and the number and the count of a workload
-pub record SpellsWorkload (name : List ℕ) (words : List (List ℕ)) (number count : ℕ) : Type 0 where
+-- the words are the number and the count of a workload
+pub record SayWorkload (words : List (List ℕ)) (number count : ℕ) : Type 0 where
   pub number_text : List ℕ
   pub count_text : List ℕ
-  pub words_are : words ≡ name ∷ number_text ∷ count_text ∷ []
+  pub words_are : words ≡ number_text ∷ count_text ∷ []
   pub is_number : IsWorkloadNumber number_text number
   pub is_count : IsWorkloadCount count_text count
 
--- the words are a name and the absent pages and the schedule of a session
-pub record SpellsSession (name : List ℕ) (words : List (List ℕ)) (absent : ℕ → Bool)
-    (schedule : List Letter) : Type 0 where
-  pub absent_text : List ℕ
-  pub schedule_text : List ℕ
-  pub words_are : words ≡ name ∷ absent_text ∷ schedule_text ∷ []
-  pub is_absent : IsAbsent absent_text absent
-  pub is_schedule : IsSchedule schedule_text schedule
+-- the name of a command
+abbrev pub name_of : Command → List ℕ
+name_of (run settings) = codes "run"
+name_of (exec settings) = codes "exec"
+name_of asm = codes "asm"
+name_of link = codes "link"
+name_of build = codes "build"
+name_of dis = codes "dis"
+name_of (mon absent schedule mxm) = codes "mon"
+name_of (soak number count) = codes "soak"
 
--- the words spell the command
-abbrev pub Spells : List (List ℕ) → Command → Type 0
-Spells words (run settings) = SpellsRun (codes "run") words settings
-Spells words (exec settings) = SpellsRun (codes "exec") words settings
-Spells words asm = words ≡ codes "asm" ∷ []
-Spells words link = words ≡ codes "link" ∷ []
-Spells words build = words ≡ codes "build" ∷ []
-Spells words dis = words ≡ codes "dis" ∷ []
-Spells words (mon absent schedule) = SpellsSession (codes "mon") words absent schedule
-Spells words (soak number count) = SpellsWorkload (codes "soak") words number count
+-- the words are those behind the name of a command; most commands have none
+abbrev pub SayRest : List (List ℕ) → Command → Type 0
+SayRest words (run settings) = SaySettings words settings
+SayRest words (exec settings) = SaySettings words settings
+SayRest words (mon absent schedule mxm) = SaySession words absent schedule mxm
+SayRest words (soak number count) = SayWorkload words number count
+SayRest words _ = words ≡ []
+
+-- the words spell the command: its name, and the words behind it
+pub record Spells (words : List (List ℕ)) (command : Command) : Type 0 where
+  pub rest : List (List ℕ)
+  pub words_are : words ≡ name_of command ∷ rest
+  pub say_rest : SayRest rest command
 
 -- the words spell no command
 abbrev pub SpellNothing : List (List ℕ) → Type 0
@@ -89,7 +92,7 @@ kind_of asm = source_to_assemble
 kind_of link = object_text
 kind_of build = source_to_link
 kind_of dis = record_text
-kind_of (mon absent schedule) = scripted_source
+kind_of (mon absent schedule mxm) = scripted_source
 kind_of (soak number count) = no_input
 
 -- whether there is an input of a kind to read
@@ -109,7 +112,7 @@ SpellNoReader words = (command : Command) → Spells words command → reads_inp
 abbrev pub shows_boards : Command → Bool
 shows_boards (run settings) = true
 shows_boards (exec settings) = true
-shows_boards (mon absent schedule) = true
+shows_boards (mon absent schedule mxm) = true
 shows_boards (soak number count) = true
 shows_boards _ = false
 

@@ -1,5 +1,5 @@
 -- Words for the contracts of private functions; no promise of the program names them. A command as the code keeps it.
-use Rattle.std.specs.Prelude.{ℕ, ◌≤◌, List}
+use Rattle.std.specs.Prelude.{ℕ, Bool, ◌≤◌, List}
 use Rattle.m88_base.specs.declared.absent.Absent.{Absent}
 use Rattle.m88_event.specs.declared.letter.Letter.{Letter}
 use Rattle.m88_mem.specs.Marks.{NamesPages, absent_in}
@@ -10,25 +10,26 @@ use Rattle.m88_cli.specs.declared.commands.Command.{Command}
 use Rattle.m88_cli.specs.declared.commands.Command.TheVariants.{Run, Exec, Asm, Link, Build, Dis, Mon, Soak}
 
 -- the settings of a run as its words are kept
-abbrev pub settings_of : ℕ → Absent → List Letter → Settings
-settings_of limit absent schedule = record { limit = limit; absent = absent_in absent; schedule = schedule }
+abbrev pub settings_of : ℕ → Absent → List Letter → Bool → Settings
+settings_of limit absent schedule mxm =
+    record { limit = limit; absent = absent_in absent; schedule = schedule; mxm = mxm }
 
 -- the command that it is
 abbrev pub command_of : Command → Choice
-command_of (Run limit absent schedule) = run (settings_of limit absent schedule)
-command_of (Exec limit absent schedule) = exec (settings_of limit absent schedule)
+command_of (Run limit absent schedule mxm) = run (settings_of limit absent schedule mxm)
+command_of (Exec limit absent schedule mxm) = exec (settings_of limit absent schedule mxm)
 command_of Asm = asm
 command_of Link = link
 command_of Build = build
 command_of Dis = dis
-command_of (Mon absent schedule) = mon (absent_in absent) schedule
+command_of (Mon absent schedule mxm) = mon (absent_in absent) schedule mxm
 command_of (Soak number count) = soak number count
 
 -- its limit is one that a run may have, and it names pages that there are; a workload has no more statements than it
 -- may
 abbrev pub IsFit : Command → Type 0
-IsFit (Run limit absent schedule) = (limit ≤ most_limit) × NamesPages absent
-IsFit (Exec limit absent schedule) = (limit ≤ most_limit) × NamesPages absent
-IsFit (Mon absent schedule) = NamesPages absent
+IsFit (Run limit absent schedule mxm) = (limit ≤ most_limit) × NamesPages absent
+IsFit (Exec limit absent schedule mxm) = (limit ≤ most_limit) × NamesPages absent
+IsFit (Mon absent schedule mxm) = NamesPages absent
 IsFit (Soak number count) = count ≤ most_statements
 IsFit _ = Unit {0}

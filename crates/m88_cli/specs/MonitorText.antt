@@ -9,41 +9,42 @@ use Rattle.m88_cli.specs.Script.{IsScript}
 use Rattle.m88_cli.specs.Session.{IsSession, IsSessionFront, course_of, opening_session}
 use Rattle.m88_cli.specs.declared.script.MonitorCommand.{MonitorCommand}
 
--- the commands of an input's script, and a program of the source behind it
-pub record Scripted (input : List ℕ) (commands : List MonitorCommand) (p : Program) : Type 0 where
+-- the commands of an input's script, and a program of the source behind it, in a mode
+pub record Scripted (input : List ℕ) (mxm : Bool) (commands : List MonitorCommand) (p : Program) : Type 0 where
   pub lines : ℕ
   pub source : List ℕ
   pub is_script : IsScript input commands lines source
   pub is_program : IsSourceProgram source p
+  pub mode : p.mxm ≡ mxm
 
 -- a session of the input's commands over such a program writes the text and shows the glances
-pub record IsInputSession (input : List ℕ) (absent : ℕ → Bool) (schedule : List Letter) (text : List ℕ)
+pub record IsInputSession (input : List ℕ) (absent : ℕ → Bool) (schedule : List Letter) (mxm : Bool) (text : List ℕ)
     (glances : List Glance) : Type 0 where
   pub commands : List MonitorCommand
   pub program : Program
-  pub scripted : Scripted input commands program
+  pub scripted : Scripted input mxm commands program
   pub is_session : IsSession (course_of program absent schedule) commands opening_session text glances
 
 -- the text is what a session writes, and no session writes another
-pub record IsMonitorText (input : List ℕ) (absent : ℕ → Bool) (schedule : List Letter) (text : List ℕ) : Type 0 where
+pub record IsMonitorText (input : List ℕ) (absent : ℕ → Bool) (schedule : List Letter) (mxm : Bool) (text : List ℕ) : Type 0 where
   pub glances : List Glance
-  pub session : IsInputSession input absent schedule text glances
-  pub only : (other : List ℕ) (others : List Glance) → IsInputSession input absent schedule other others → other ≡ text
+  pub session : IsInputSession input absent schedule mxm text glances
+  pub only : (other : List ℕ) (others : List Glance) → IsInputSession input absent schedule mxm other others → other ≡ text
 
 -- a watch was shown the glances of a whole session
-pub record SawSession (input : List ℕ) (absent : ℕ → Bool) (schedule : List Letter)
+pub record SawSession (input : List ℕ) (absent : ℕ → Bool) (schedule : List Letter) (mxm : Bool)
     (before after : Option (List Glance)) : Type 0 where
   pub text : List ℕ
   pub glances : List Glance
-  pub session : IsInputSession input absent schedule text glances
+  pub session : IsInputSession input absent schedule mxm text glances
   pub saw : Saw before after glances
 
 -- or of a front of one
-pub record SawSessionFront (input : List ℕ) (absent : ℕ → Bool) (schedule : List Letter)
+pub record SawSessionFront (input : List ℕ) (absent : ℕ → Bool) (schedule : List Letter) (mxm : Bool)
     (before after : Option (List Glance)) : Type 0 where
   pub commands : List MonitorCommand
   pub program : Program
-  pub scripted : Scripted input commands program
+  pub scripted : Scripted input mxm commands program
   pub glances : List Glance
   pub is_front : IsSessionFront (course_of program absent schedule) commands opening_session glances
   pub saw : Saw before after glances

@@ -1,6 +1,6 @@
 -- What a run reports: what the sequential machine comes to over the program of a source, of S-records, or of a
 -- workload.
-use Rattle.std.specs.Prelude.{ℕ, ◌≡◌, ◌≤◌, List}
+use Rattle.std.specs.Prelude.{ℕ, false, ◌≡◌, ◌≤◌, List}
 use Rattle.m88_base.specs.Image.{ProgramImage}
 use Rattle.m88_base.specs.Pages.{every_page}
 use Rattle.m88_isa.specs.ImageProgram.{IsProgramOf}
@@ -28,10 +28,11 @@ pub record IsLoadedProgram (text : List ℕ) (p : Program) : Type 0 where
   pub is_written : IsAccepted text (whole_of image)
   pub is_program : IsProgramOf image p
 
--- a run of such a program comes to the outcome
+-- a run of such a program, in the mode of the settings, comes to the outcome
 pub record ComesTo (IsSuch : Program → Type 0) (settings : Settings) (o : Outcome) : Type 0 where
   pub program : Program
   pub is_such : IsSuch program
+  pub mode : program.mxm ≡ settings.mxm
   pub is_outcome : IsOutcome program settings.absent settings.limit settings.schedule o
 
 -- the text is what is told of the outcome that a run of such a program comes to, and it comes to no other
@@ -42,11 +43,11 @@ pub record IsReport (told_of : Outcome → List ℕ) (IsSuch : Program → Type 
   pub only : (other : Outcome) → ComesTo IsSuch settings other → other ≡ outcome
   pub is_text : text ≡ told_of outcome
 
--- the settings of the run of a workload: as many instructions as it has statements, each page absent at first, and its
--- schedule
+-- the settings of the run of a workload: as many instructions as it has statements, each page absent at first, its
+-- schedule, and MXM clear
 abbrev pub workload_settings : ℕ → ℕ → Settings
 workload_settings number count =
-    record { limit = count; absent = every_page; schedule = workload_schedule number count }
+    record { limit = count; absent = every_page; schedule = workload_schedule number count; mxm = false }
 
 -- the text is the summary of that run, over the workload's source
 abbrev pub IsSummary : ℕ → ℕ → List ℕ → Type 0

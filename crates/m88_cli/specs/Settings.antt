@@ -1,28 +1,41 @@
 -- What a run is asked for besides its program, and the words that say so.
-use Rattle.std.specs.Prelude.{ℕ, Bool, ◌≡◌, ◌≤◌, List, [], ◌∷◌}
+use Rattle.std.specs.Prelude.{ℕ, Bool, true, false, ◌≡◌, ◌≤◌, List, [], ◌∷◌, codes}
 use Rattle.m88_event.specs.Letters.{IsSchedule}
 use Rattle.m88_event.specs.declared.letter.Letter.{Letter}
 use Rattle.m88_cli.specs.Limits.{most_limit}
 use Rattle.m88_cli.specs.Numbers.{IsShortNumber}
 use Rattle.m88_cli.specs.Pages.{IsAbsent}
 
--- the settings of a run: it retires at most so many instructions, these pages are absent at first, and its events begin
--- with these letters
+-- the settings of a run: it retires at most so many instructions, these pages are absent at first, its events begin with
+-- these letters, and its program is run in this mode
 pub record Settings : Type 0 where
   pub limit : ℕ
   pub absent : ℕ → Bool
   pub schedule : List Letter
+  pub mxm : Bool
 
 -- a text writes a limit in one to seven decimal digits, which may begin with zeros
 abbrev pub IsLimit : List ℕ → ℕ → Type 0
 IsLimit text n = IsShortNumber 10 7 text n × (n ≤ most_limit)
 
--- the words are a name and the limit, the absent pages and the schedule of a run
-pub record SpellsRun (name : List ℕ) (words : List (List ℕ)) (settings : Settings) : Type 0 where
-  pub limit_text : List ℕ
+-- the words that say a mode stand last: none, or the word `mxm`
+abbrev pub mode_words : Bool → List (List ℕ)
+mode_words false = []
+mode_words true = codes "mxm" ∷ []
+
+-- the words are the absent pages, the schedule and the mode of a session, and those of a run behind its limit
+pub record SaySession (words : List (List ℕ)) (absent : ℕ → Bool) (schedule : List Letter) (mxm : Bool)
+    : Type 0 where
   pub absent_text : List ℕ
   pub schedule_text : List ℕ
-  pub words_are : words ≡ name ∷ limit_text ∷ absent_text ∷ schedule_text ∷ []
+  pub words_are : words ≡ absent_text ∷ schedule_text ∷ mode_words mxm
+  pub is_absent : IsAbsent absent_text absent
+  pub is_schedule : IsSchedule schedule_text schedule
+
+-- the words are the limit, the absent pages, the schedule and the mode of a run
+pub record SaySettings (words : List (List ℕ)) (settings : Settings) : Type 0 where
+  pub limit_text : List ℕ
+  pub rest : List (List ℕ)
+  pub words_are : words ≡ limit_text ∷ rest
   pub is_limit : IsLimit limit_text settings.limit
-  pub is_absent : IsAbsent absent_text settings.absent
-  pub is_schedule : IsSchedule schedule_text settings.schedule
+  pub say_rest : SaySession rest settings.absent settings.schedule settings.mxm

@@ -13,14 +13,16 @@ use Rattle.m88_cli.specs.Runs.{IsLoadedProgram, IsSourceProgram, workload_settin
 use Rattle.m88_cli.specs.Settings.{Settings}
 use Rattle.m88_cli.specs.Workload.{workload_source}
 
--- a watch was shown a board at each moment of a whole run of a program
+-- a watch was shown a board at each moment of a whole run of a program, in the mode of the settings
 pub record SawRun (p : Program) (s : Settings) (before after : Option (List Glance)) : Type 0 where
+  pub mode : p.mxm ≡ s.mxm
   pub events : ℕ
   pub is_run : IsRun p s.absent s.limit s.schedule events
   pub saw : Saw before after (glances_along p (moment_after p s.absent s.limit s.schedule) events)
 
 -- or at its first moments
 pub record SawFront (p : Program) (s : Settings) (before after : Option (List Glance)) : Type 0 where
+  pub mode : p.mxm ≡ s.mxm
   pub events : ℕ
   pub is_running : IsRunning p s.absent s.limit s.schedule events
   pub saw : Saw before after (glances_along p (moment_after p s.absent s.limit s.schedule) events)
@@ -29,13 +31,14 @@ pub record SawFront (p : Program) (s : Settings) (before after : Option (List Gl
 -- of a session with the monitor
 abbrev pub ShownBy :
     (Program → Settings → Option (List Glance) → Option (List Glance) → Type 0)
-    → (List ℕ → (ℕ → Bool) → List Letter → Option (List Glance) → Option (List Glance) → Type 0)
+    → (List ℕ → (ℕ → Bool) → List Letter → Bool → Option (List Glance) → Option (List Glance) → Type 0)
     → Command → List ℕ → Option (List Glance) → Option (List Glance) → Type 0
 ShownBy OfRun OfSession (run settings) source before after =
     (p : Program) × IsSourceProgram source p × OfRun p settings before after
 ShownBy OfRun OfSession (exec settings) text before after =
     (p : Program) × IsLoadedProgram text p × OfRun p settings before after
-ShownBy OfRun OfSession (mon absent schedule) input before after = OfSession input absent schedule before after
+ShownBy OfRun OfSession (mon absent schedule mxm) input before after =
+    OfSession input absent schedule mxm before after
 ShownBy OfRun OfSession (soak number count) input before after =
     (p : Program) × IsSourceProgram (workload_source number count) p
     × OfRun p (workload_settings number count) before after

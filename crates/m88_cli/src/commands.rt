@@ -6,18 +6,20 @@ use m88_event::Schedule;
 /// What the words of the program ask for.
 #[derive(Drop, Debug)]
 pub enum Command<'a> {
-    /// The report of a run of a source that retires at most `limit` instructions, with pages absent at first and the
-    /// letters that its events begin with.
+    /// The report of a run of a source that retires at most `limit` instructions, with pages absent at first, the
+    /// letters that its events begin with, and MXM set at its start or clear.
     Run {
         limit: u32,
         absent: Absent,
         schedule: Schedule<'a>,
+        mxm: bool,
     },
     /// The same of the image that S-records write.
     Exec {
         limit: u32,
         absent: Absent,
         schedule: Schedule<'a>,
+        mxm: bool,
     },
     /// The text of the objects of a source.
     Asm,
@@ -27,11 +29,12 @@ pub enum Command<'a> {
     Build,
     /// The listing of the image that S-records write.
     Dis,
-    /// What the monitor writes for a script over a source, with pages absent at first and the letters that the events
-    /// begin with.
+    /// What the monitor writes for a script over a source, with pages absent at first, the letters that the events
+    /// begin with, and MXM set at the start or clear.
     Mon {
         absent: Absent,
         schedule: Schedule<'a>,
+        mxm: bool,
     },
     /// The summary of the run of the workload that a number makes, with `count` statements.
     Soak {

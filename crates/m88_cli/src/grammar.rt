@@ -1,137 +1,197 @@
-//! The grammar of the words of a command.
-ghost use Rattle.std.specs.Prelude.{◌≡◌, ◌∷◌, [], IfSome, MatchOption, codes};
+//! The grammar of the words of a command: its name, and behind that the words of its own.
+ghost use Rattle.std.specs.Prelude.{◌≡◌, ◌≤◌, ◌∷◌, [], ℕ, Bool, IfSome, List, MatchOption, None, OnSome, Some, codes};
+ghost use Rattle.m88_event.specs.declared.letter.Letter.{Letter as LetterValue};
 ghost use Rattle.m88_cli.specs.Command.{Command as Choice, Spells};
-ghost use Rattle.m88_cli.specs.Kept.{IsFit, command_of};
+ghost use Rattle.m88_cli.specs.Kept.{IsFit, command_of, settings_of};
+ghost use Rattle.m88_cli.specs.Limits.{most_limit};
+ghost use Rattle.m88_cli.specs.Settings.{SaySession, SaySettings, Settings as Asked, mode_words};
 ghost use Rattle.m88_cli.specs.Words.{texts};
+ghost use Rattle.m88_mem.specs.Marks.{NamesPages, absent_in};
 
 use crate::commands::Command;
 use crate::limits::{MOST_LIMIT, MOST_STATEMENTS};
 use crate::numbers::decimal_number;
 use crate::pages::absent_of;
+use m88_base::Absent;
 use m88_event::Schedule;
 
-/// The command that the words spell: its name, and for a run the limit (1 to 7 decimal digits, at most 1,000,000), the
-/// absent pages (`none`, `all`, or 1 to 64 page numbers joined by commas) and the schedule (`-`, or 1 to 65,536 letters
-/// `i` and `r`), for a session the last two, for a workload its number (1 to 10 decimal digits, below 2^32) and the
-/// count of its statements (1 to 7 decimal digits, 1 to 40,000). None for all other words.
+/// The command that the words spell. None for words that spell none.
 pub fn command<'a>(words: &'a [String]) -> Option<Command<'a>>
     ensures found { IfSome result (λ c. Spells (texts words.now) (command_of c)) }
     ensures only { (choice : Choice) → Spells (texts words.now) choice
         → MatchOption result ⊥ (λ c. command_of c ≡ choice) }
     ensures fit { IfSome result IsFit }
 {
-    if let [word] = words {
-        return bare_command(word.as_str());
+    let (name, rest) = first_word(words)?;
+    match name {
+        "run" => run_command(rest),
+        "exec" => exec_command(rest),
+        "asm" => bare_command(Command::Asm, rest),
+        "link" => bare_command(Command::Link, rest),
+        "build" => bare_command(Command::Build, rest),
+        "dis" => bare_command(Command::Dis, rest),
+        "mon" => session_command(rest),
+        "soak" => workload_command(rest),
+        _ => None,
     }
-    if let [name, first, second] = words {
-        return command_of_three(name.as_str(), first.as_str(), second.as_str());
-    }
-    let [name, limit, absent, schedule] = words else {
-        return None;
+}
+
+/// The first word, and those behind it.
+fn first_word<'a>(words: &'a [String]) -> Option<(&'a str, &'a [String])>
+    ensures found { IfSome result (λ parts. texts words.now ≡ parts.0.now ∷ texts parts.1.now) }
+    ensures none { result ≡ None → texts words.now ≡ [] }
+{
+    let (first, rest) = words.split_first()?;
+    Some((first.as_str(), rest))
+}
+
+/// Nothing, where there are no more words.
+fn no_more(words: &[String]) -> Option<()>
+    ensures found { OnSome result (texts words.now ≡ []) }
+    ensures only { texts words.now ≡ [] → result ≡ Some tt }
+{
+    if words.is_empty() { Some(()) } else { None }
+}
+
+/// The mode that the words behind a schedule say: `mxm` alone sets MXM, and without it MXM is clear.
+fn mode(words: &[String]) -> Option<bool>
+    ensures found { IfSome result (λ mxm. texts words.now ≡ mode_words mxm) }
+    ensures only { (mxm : Bool) → texts words.now ≡ mode_words mxm → result ≡ Some mxm }
+{
+    let Some((word, rest)) = first_word(words) else {
+        return Some(false);
     };
-    run_command(
-        name.as_str(),
-        limit.as_str(),
-        absent.as_str(),
-        schedule.as_str(),
-    )
-}
-
-/// The command that one word spells alone.
-fn bare_command<'a>(name: &str) -> Option<Command<'a>>
-    ensures found { IfSome result (λ c. Spells (name.now ∷ []) (command_of c)) }
-    ensures only { (choice : Choice) → Spells (name.now ∷ []) choice
-        → MatchOption result ⊥ (λ c. command_of c ≡ choice) }
-    ensures fit { IfSome result IsFit }
-{
-    if name == "dis" {
-        return Some(Command::Dis);
-    }
-    if name == "asm" {
-        return Some(Command::Asm);
-    }
-    if name == "link" {
-        return Some(Command::Link);
-    }
-    if name == "build" {
-        return Some(Command::Build);
+    if word == "mxm" {
+        no_more(rest)?;
+        return Some(true);
     }
     None
 }
 
-/// The workload or the session that three words spell.
-fn command_of_three<'a>(name: &str, first: &str, second: &'a str) -> Option<Command<'a>>
-    ensures found { IfSome result (λ c. Spells
-        (name.now ∷ first.now ∷ second.now ∷ []) (command_of c)) }
-    ensures only { (choice : Choice) → Spells (name.now ∷ first.now ∷ second.now ∷ []) choice
-        → MatchOption result ⊥ (λ c. command_of c ≡ choice) }
-    ensures fit { IfSome result IsFit }
-{
-    if name == "soak" {
-        return workload_command(first, second);
-    }
-    if name == "mon" {
-        return session_command(first, second);
-    }
-    None
+/// What a session is asked for, and a run besides its limit.
+#[derive(Drop)]
+struct Opening<'a> {
+    absent: Absent,
+    schedule: Schedule<'a>,
+    mxm: bool,
 }
 
-/// The workload that the word `soak` and these two spell.
-fn workload_command<'a>(number: &str, count: &str) -> Option<Command<'a>>
-    ensures found { IfSome result (λ c. Spells
-        (codes "soak" ∷ number.now ∷ count.now ∷ []) (command_of c)) }
-    ensures only { (choice : Choice)
-        → Spells (codes "soak" ∷ number.now ∷ count.now ∷ []) choice
+/// The absent pages (`none`, `all`, or 1 to 64 page numbers joined by commas), the schedule (`-`, or 1 to 65,536 letters
+/// `i`, `r` and `e`) and the mode of a session or a run.
+fn opening_of<'a>(words: &'a [String]) -> Option<Opening<'a>>
+    ensures found { IfSome result (λ o. SaySession (texts words.now)
+        (absent_in o.absent) o.schedule o.mxm) }
+    ensures only { (absent : ℕ → Bool) (schedule : List LetterValue) (mxm : Bool)
+        → SaySession (texts words.now) absent schedule mxm
+        → MatchOption result ⊥ (λ o. (absent_in o.absent ≡ absent)
+        × (o.schedule ≡ schedule) × (o.mxm ≡ mxm)) }
+    ensures pages { IfSome result (λ o. NamesPages o.absent) }
+{
+    let (absent, words) = first_word(words)?;
+    let (schedule, words) = first_word(words)?;
+    let mxm = mode(words)?;
+    let absent = absent_of(absent)?;
+    let schedule = Schedule::read(schedule)?;
+    Some(Opening {
+        absent,
+        schedule,
+        mxm,
+    })
+}
+
+/// What a run is asked for besides its program.
+#[derive(Drop)]
+struct RunSettings<'a> {
+    limit: u32,
+    opening: Opening<'a>,
+}
+
+/// The limit (1 to 7 decimal digits, at most 1,000,000) of a run, and what comes behind it.
+fn settings<'a>(words: &'a [String]) -> Option<RunSettings<'a>>
+    ensures found { IfSome result (λ s. SaySettings (texts words.now)
+        (settings_of s.limit s.opening.absent s.opening.schedule s.opening.mxm)) }
+    ensures only { (asked : Asked) → SaySettings (texts words.now) asked → MatchOption result ⊥
+        (λ s. settings_of s.limit s.opening.absent s.opening.schedule s.opening.mxm ≡ asked) }
+    ensures limit { IfSome result (λ s. s.limit ≤ most_limit) }
+    ensures pages { IfSome result (λ s. NamesPages s.opening.absent) }
+{
+    let (limit, words) = first_word(words)?;
+    let limit = decimal_number(7, limit.as_bytes(), MOST_LIMIT)?;
+    let opening = opening_of(words)?;
+    Some(RunSettings { limit, opening })
+}
+
+/// A command that its name spells alone.
+fn bare_command<'a>(command: Command<'a>, rest: &[String]) -> Option<Command<'a>>
+    ensures found { IfSome result (λ c. (c ≡ command.entry) × (texts rest.now ≡ [])) }
+    ensures only { texts rest.now ≡ [] → result ≡ Some command.entry }
+{
+    no_more(rest)?;
+    Some(command)
+}
+
+/// The run of a source that the words behind `run` ask for.
+fn run_command<'a>(words: &'a [String]) -> Option<Command<'a>>
+    ensures found { IfSome result (λ c. Spells (codes "run" ∷ texts words.now) (command_of c)) }
+    ensures only { (choice : Choice) → Spells (codes "run" ∷ texts words.now) choice
         → MatchOption result ⊥ (λ c. command_of c ≡ choice) }
     ensures fit { IfSome result IsFit }
 {
+    let RunSettings { limit, opening } = settings(words)?;
+    Some(Command::Run {
+        limit,
+        absent: opening.absent,
+        schedule: opening.schedule,
+        mxm: opening.mxm,
+    })
+}
+
+/// The run of S-records that the words behind `exec` ask for.
+fn exec_command<'a>(words: &'a [String]) -> Option<Command<'a>>
+    ensures found { IfSome result (λ c. Spells (codes "exec" ∷ texts words.now) (command_of c)) }
+    ensures only { (choice : Choice) → Spells (codes "exec" ∷ texts words.now) choice
+        → MatchOption result ⊥ (λ c. command_of c ≡ choice) }
+    ensures fit { IfSome result IsFit }
+{
+    let RunSettings { limit, opening } = settings(words)?;
+    Some(Command::Exec {
+        limit,
+        absent: opening.absent,
+        schedule: opening.schedule,
+        mxm: opening.mxm,
+    })
+}
+
+/// The session that the words behind `mon` ask for.
+fn session_command<'a>(words: &'a [String]) -> Option<Command<'a>>
+    ensures found { IfSome result (λ c. Spells (codes "mon" ∷ texts words.now) (command_of c)) }
+    ensures only { (choice : Choice) → Spells (codes "mon" ∷ texts words.now) choice
+        → MatchOption result ⊥ (λ c. command_of c ≡ choice) }
+    ensures fit { IfSome result IsFit }
+{
+    let opening = opening_of(words)?;
+    Some(Command::Mon {
+        absent: opening.absent,
+        schedule: opening.schedule,
+        mxm: opening.mxm,
+    })
+}
+
+/// The workload that the words behind `soak` ask for: its number (1 to 10 decimal digits, below 2^32) and the count of
+/// its statements (1 to 7 decimal digits, 1 to 40,000).
+fn workload_command<'a>(words: &[String]) -> Option<Command<'a>>
+    ensures found { IfSome result (λ c. Spells (codes "soak" ∷ texts words.now) (command_of c)) }
+    ensures only { (choice : Choice) → Spells (codes "soak" ∷ texts words.now) choice
+        → MatchOption result ⊥ (λ c. command_of c ≡ choice) }
+    ensures fit { IfSome result IsFit }
+{
+    let (number, words) = first_word(words)?;
+    let (count, words) = first_word(words)?;
+    no_more(words)?;
     let number = decimal_number(10, number.as_bytes(), u32::MAX)?;
     let count = decimal_number(7, count.as_bytes(), MOST_STATEMENTS)?;
     if count == 0 {
         return None;
     }
     Some(Command::Soak { number, count })
-}
-
-/// The session that the word `mon` and these two spell.
-fn session_command<'a>(absent: &str, schedule: &'a str) -> Option<Command<'a>>
-    ensures found { IfSome result (λ c. Spells
-        (codes "mon" ∷ absent.now ∷ schedule.now ∷ []) (command_of c)) }
-    ensures only { (choice : Choice)
-        → Spells (codes "mon" ∷ absent.now ∷ schedule.now ∷ []) choice
-        → MatchOption result ⊥ (λ c. command_of c ≡ choice) }
-    ensures fit { IfSome result IsFit }
-{
-    let absent = absent_of(absent)?;
-    let schedule = Schedule::read(schedule)?;
-    Some(Command::Mon { absent, schedule })
-}
-
-/// The run that four words spell.
-fn run_command<'a>(name: &str, limit: &str, absent: &str, schedule: &'a str) -> Option<Command<'a>>
-    ensures found { IfSome result (λ c. Spells
-        (name.now ∷ limit.now ∷ absent.now ∷ schedule.now ∷ []) (command_of c)) }
-    ensures only { (choice : Choice)
-        → Spells (name.now ∷ limit.now ∷ absent.now ∷ schedule.now ∷ []) choice
-        → MatchOption result ⊥ (λ c. command_of c ≡ choice) }
-    ensures fit { IfSome result IsFit }
-{
-    let limit = decimal_number(7, limit.as_bytes(), MOST_LIMIT)?;
-    let absent = absent_of(absent)?;
-    let schedule = Schedule::read(schedule)?;
-    if name == "run" {
-        return Some(Command::Run {
-            limit,
-            absent,
-            schedule,
-        });
-    }
-    if name == "exec" {
-        return Some(Command::Exec {
-            limit,
-            absent,
-            schedule,
-        });
-    }
-    None
 }

@@ -40,19 +40,31 @@ pub fn reply_to<W: Watch>(
             limit,
             absent,
             schedule,
-        } => run_source(alloc, *limit, absent, schedule, input.text(), watch),
+            mxm,
+        } => run_source(alloc, *limit, absent, schedule, *mxm, input.text(), watch),
         Command::Exec {
             limit,
             absent,
             schedule,
-        } => run_records(alloc, *limit, absent, schedule, input.records(), watch),
+            mxm,
+        } => run_records(
+            alloc,
+            *limit,
+            absent,
+            schedule,
+            *mxm,
+            input.records(),
+            watch,
+        ),
         Command::Asm => assemble_source(alloc, input.text()),
         Command::Link => link_objects(alloc, input.text()),
         Command::Build => build_source(alloc, input.text()),
         Command::Dis => list_records(alloc, input.records()),
-        Command::Mon { absent, schedule } => {
-            run_monitor(alloc, absent, schedule, input.text(), watch)
-        }
+        Command::Mon {
+            absent,
+            schedule,
+            mxm,
+        } => run_monitor(alloc, absent, schedule, *mxm, input.text(), watch),
         Command::Soak { number, count } => run_workload(alloc, *number, *count, watch),
     }
 }

@@ -78,22 +78,31 @@ pub fn run_monitor<W: Watch>(
     alloc: Global,
     absent: &Absent,
     schedule: &Schedule,
+    mxm: bool,
     input: &[u8],
     watch: &mut W,
 ) -> Result<Reply, NoMemory>
     requires size { length input.now ≤ most_input }
     requires pages { NamesPages absent.now }
-    ensures reply { IfOk result (Replies (mon (absent_in absent.now) schedule.now) input.now) }
+    ensures reply { IfOk result (Replies (mon (absent_in absent.now) schedule.now mxm) input.now) }
     ensures watched { IfOk result (WatchesReply W.seen watch.old watch.new
-        (mon (absent_in absent.now) schedule.now) input.now) }
+        (mon (absent_in absent.now) schedule.now mxm) input.now) }
     ensures front { OnErr result (WatchesFront W.seen watch.old watch.new
-        (mon (absent_in absent.now) schedule.now) input.now) }
+        (mon (absent_in absent.now) schedule.now mxm) input.now) }
 {
     let (commands, image) = match script_and_image(alloc, input) {
         Ok(parts) => parts,
         Err(fault) => return refuse_monitor(alloc, fault),
     };
-    let text = session_text(alloc, absent, schedule, commands.as_slice(), &image, watch)?;
+    let text = session_text(
+        alloc,
+        absent,
+        schedule,
+        mxm,
+        commands.as_slice(),
+        &image,
+        watch,
+    )?;
     Ok(Reply {
         accepted: true,
         text,
@@ -105,6 +114,7 @@ fn session_text<W: Watch>(
     alloc: Global,
     absent: &Absent,
     schedule: &Schedule,
+    mxm: bool,
     commands: &[MonitorCommand],
     image: &Image,
     watch: &mut W,
@@ -112,15 +122,15 @@ fn session_text<W: Watch>(
     requires { NamesPages absent.now }
     ensures image { IsImage image.now }
     ensures session { IfOk result (λ text. (p : Program) → IsProgramOf image.now p
-        → (glances : List Glance)
+        → p.mxm ≡ mxm → (glances : List Glance)
         × IsSession (course_of p (absent_in absent.now) schedule.now) commands.now opening_session
         text.items glances
         × Saw (W.seen watch.old) (W.seen watch.new) glances) }
-    ensures front { OnErr result ((p : Program) → IsProgramOf image.now p → (glances : List Glance)
+    ensures front { OnErr result ((p : Program) → IsProgramOf image.now p → p.mxm ≡ mxm → (glances : List Glance)
         × IsSessionFront (course_of p (absent_in absent.now) schedule.now) commands.now opening_session
         glances
         × Saw (W.seen watch.old) (W.seen watch.new) glances) }
 {
-    let board = Board::new(alloc, image, absent, SESSION_LIMIT)?;
+    let board = Board::new(alloc, image, absent, SESSION_LIMIT, mxm)?;
     carry_out(alloc, board, schedule, commands, watch)
 }

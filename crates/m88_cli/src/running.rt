@@ -31,6 +31,7 @@ pub fn run_source<W: Watch>(
     limit: u32,
     absent: &Absent,
     schedule: &Schedule,
+    mxm: bool,
     source: &[u8],
     watch: &mut W,
 ) -> Result<Reply, NoMemory>
@@ -38,14 +39,14 @@ pub fn run_source<W: Watch>(
     requires limit { limit ≤ most_limit }
     requires pages { NamesPages absent.now }
     ensures reply { IfOk result
-        (Replies (run (settings_of limit absent.now schedule.now)) source.now) }
+        (Replies (run (settings_of limit absent.now schedule.now mxm)) source.now) }
     ensures watched { IfOk result (WatchesReply W.seen watch.old watch.new
-        (run (settings_of limit absent.now schedule.now)) source.now) }
+        (run (settings_of limit absent.now schedule.now mxm)) source.now) }
     ensures front { OnErr result (WatchesFront W.seen watch.old watch.new
-        (run (settings_of limit absent.now schedule.now)) source.now) }
+        (run (settings_of limit absent.now schedule.now mxm)) source.now) }
 {
     match image_of_source(alloc, source) {
-        Ok(image) => run_image(alloc, limit, absent, schedule, &image, watch),
+        Ok(image) => run_image(alloc, limit, absent, schedule, mxm, &image, watch),
         Err(fault) => refuse(alloc, 0, fault),
     }
 }
@@ -56,22 +57,23 @@ pub fn run_records<W: Watch>(
     limit: u32,
     absent: &Absent,
     schedule: &Schedule,
+    mxm: bool,
     records: &Result<Image, SrecFault>,
     watch: &mut W,
 ) -> Result<Reply, NoMemory>
     requires limit { limit ≤ most_limit }
     requires pages { NamesPages absent.now }
     ensures reply { (text : List ℕ) → AreRecordsOf records.now text → IfOk result
-        (Replies (exec (settings_of limit absent.now schedule.now)) text) }
+        (Replies (exec (settings_of limit absent.now schedule.now mxm)) text) }
     ensures watched { (text : List ℕ) → AreRecordsOf records.now text → IfOk result
         (WatchesReply W.seen watch.old watch.new
-        (exec (settings_of limit absent.now schedule.now)) text) }
+        (exec (settings_of limit absent.now schedule.now mxm)) text) }
     ensures front { (text : List ℕ) → AreRecordsOf records.now text → OnErr result
         (WatchesFront W.seen watch.old watch.new
-        (exec (settings_of limit absent.now schedule.now)) text) }
+        (exec (settings_of limit absent.now schedule.now mxm)) text) }
 {
     match records {
-        Ok(image) => run_image(alloc, limit, absent, schedule, image, watch),
+        Ok(image) => run_image(alloc, limit, absent, schedule, mxm, image, watch),
         Err(fault) => unloaded(alloc, fault),
     }
 }
@@ -83,6 +85,7 @@ fn run_image<W: Watch>(
     limit: u32,
     absent: &Absent,
     schedule: &Schedule,
+    mxm: bool,
     image: &Image,
     watch: &mut W,
 ) -> Result<Reply, NoMemory>
@@ -91,16 +94,16 @@ fn run_image<W: Watch>(
     ensures image { IsImage image.now }
     ensures accepted { IfOk result (λ reply. reply.accepted ≡ true) }
     ensures report { IfOk result (λ reply. (p : Program) → IsProgramOf image.now p
-        → (o : OutcomeValue) × IsOutcome p (absent_in absent.now) limit schedule.now o
+        → p.mxm ≡ mxm → (o : OutcomeValue) × IsOutcome p (absent_in absent.now) limit schedule.now o
         × (reply.text.items ≡ report_of o)) }
     ensures watched { OnOk result ((p : Program) → IsProgramOf image.now p
-        → SawRun p (settings_of limit absent.now schedule.now)
+        → p.mxm ≡ mxm → SawRun p (settings_of limit absent.now schedule.now mxm)
         (W.seen watch.old) (W.seen watch.new)) }
     ensures front { OnErr result ((p : Program) → IsProgramOf image.now p
-        → SawFront p (settings_of limit absent.now schedule.now)
+        → p.mxm ≡ mxm → SawFront p (settings_of limit absent.now schedule.now mxm)
         (W.seen watch.old) (W.seen watch.new)) }
 {
-    let outcome = outcome_of(alloc, limit, absent, schedule, image, watch)?;
+    let outcome = outcome_of(alloc, limit, absent, schedule, mxm, image, watch)?;
     let text = report(alloc, &outcome)?;
     Ok(Reply {
         accepted: true,
@@ -114,6 +117,7 @@ pub fn outcome_of<W: Watch>(
     limit: u32,
     absent: &Absent,
     schedule: &Schedule,
+    mxm: bool,
     image: &Image,
     watch: &mut W,
 ) -> Result<Outcome, NoMemory>
@@ -121,15 +125,15 @@ pub fn outcome_of<W: Watch>(
     requires pages { NamesPages absent.now }
     ensures image { IsImage image.now }
     ensures outcome { IfOk result (λ o. (p : Program) → IsProgramOf image.now p
-        → IsOutcome p (absent_in absent.now) limit schedule.now o) }
+        → p.mxm ≡ mxm → IsOutcome p (absent_in absent.now) limit schedule.now o) }
     ensures watched { OnOk result ((p : Program) → IsProgramOf image.now p
-        → SawRun p (settings_of limit absent.now schedule.now)
+        → p.mxm ≡ mxm → SawRun p (settings_of limit absent.now schedule.now mxm)
         (W.seen watch.old) (W.seen watch.new)) }
     ensures front { OnErr result ((p : Program) → IsProgramOf image.now p
-        → SawFront p (settings_of limit absent.now schedule.now)
+        → p.mxm ≡ mxm → SawFront p (settings_of limit absent.now schedule.now mxm)
         (W.seen watch.old) (W.seen watch.new)) }
 {
-    let board = Board::new(alloc, image, absent, limit)?;
+    let board = Board::new(alloc, image, absent, limit, mxm)?;
     let outcome = board.run(schedule, watch)?;
     Ok(outcome)
 }

@@ -39,7 +39,7 @@ pub fn run_workload<W: Watch>(
         Ok(image) => image,
         Err(fault) => return refuse(alloc, 0, fault),
     };
-    let outcome = outcome_of(alloc, count, &Absent::All, &schedule, &image, watch)?;
+    let outcome = outcome_of(alloc, count, &Absent::All, &schedule, false, &image, watch)?;
     let text = summary(alloc, number, count, &outcome)?;
     Ok(Reply {
         accepted: true,

@@ -11,6 +11,8 @@ pub enum Place {
     Limit,
     Absent,
     Schedule,
+    /// It may be left out, and stands last.
+    Mode,
     Number,
     Count,
 }
@@ -21,6 +23,7 @@ impl Place {
             Place::Limit => "LIMIT",
             Place::Absent => "ABSENT",
             Place::Schedule => "SCHEDULE",
+            Place::Mode => "the word behind SCHEDULE",
             Place::Number => "NUMBER",
             Place::Count => "COUNT",
         }
@@ -32,6 +35,7 @@ impl Place {
             Place::Limit | Place::Number => "0",
             Place::Absent => "none",
             Place::Schedule => "-",
+            Place::Mode => "mxm",
             Place::Count => "1",
         }
     }
@@ -45,7 +49,8 @@ impl fmt::Display for Place {
                 f,
                 "ABSENT is none, all, or 1 to 64 page numbers up to 1048575 (0xFFFFF), joined by commas"
             ),
-            Place::Schedule => write!(f, "SCHEDULE is - or 1 to 65536 letters i and r"),
+            Place::Schedule => write!(f, "SCHEDULE is - or 1 to 65536 letters i, r and e"),
+            Place::Mode => write!(f, "mxm rounds misaligned addresses down"),
             Place::Number => write!(f, "NUMBER is a decimal number from 0 to 4294967295"),
             Place::Count => write!(f, "COUNT is a decimal number from 1 to {MOST_STATEMENTS}"),
         }
@@ -60,9 +65,9 @@ pub struct Form {
     reads: &'static str,
 }
 
-const RUN: [Place; 3] = [Place::Limit, Place::Absent, Place::Schedule];
+const RUN: [Place; 4] = [Place::Limit, Place::Absent, Place::Schedule, Place::Mode];
 
-const SESSION: [Place; 2] = [Place::Absent, Place::Schedule];
+const SESSION: [Place; 3] = [Place::Absent, Place::Schedule, Place::Mode];
 
 const WORKLOAD: [Place; 2] = [Place::Number, Place::Count];
 
@@ -109,11 +114,24 @@ const FORMS: [Form; 8] = [
     },
 ];
 
+impl Form {
+    /// How many words stand behind the name at least.
+    fn fewest(self) -> usize {
+        match self.places.split_last() {
+            Some((Place::Mode, others)) => others.len(),
+            _ => self.places.len(),
+        }
+    }
+}
+
 impl fmt::Display for Form {
     fn fmt<W: fmt::Write>(&self, f: &mut fmt::Formatter<W>) -> fmt::Result {
         write!(f, "m88 {}", self.name)?;
         for place in self.places {
-            write!(f, " {}", place.name())?;
+            match place {
+                Place::Mode => f.write_str(" [mxm]")?,
+                _ => write!(f, " {}", place.name())?,
+            }
         }
         f.write_str(self.reads)
     }
@@ -143,7 +161,7 @@ impl<'a> Usage<'a> {
         let Some(form) = form_of(name.as_str()) else {
             return Usage::Name(name.as_str());
         };
-        if behind.len() != form.places.len() {
+        if behind.len() < form.fewest() || behind.len() > form.places.len() {
             return Usage::Count(form, behind.len());
         }
         for (at, (place, word)) in form.places.iter().zip(behind).enumerate() {
@@ -182,12 +200,16 @@ impl<'a> fmt::Display for Usage<'a> {
                 f.write_str("\n")?;
                 put_all(f)
             }
-            Usage::Count(form, count) => write!(
-                f,
-                "m88 {}: {} words are wanted behind the name, and {count} are there\nusage: {form}",
-                form.name,
-                form.places.len()
-            ),
+            Usage::Count(form, count) => {
+                write!(f, "m88 {}: {}", form.name, form.fewest())?;
+                if form.fewest() < form.places.len() {
+                    write!(f, " or {}", form.places.len())?;
+                }
+                write!(
+                    f,
+                    " words are wanted behind the name, and {count} are there\nusage: {form}"
+                )
+            }
             Usage::Word(form, place, word) => {
                 write!(f, "m88 {}: {} can't be ", form.name, place.name())?;
                 put_word(f, word)?;
@@ -207,6 +229,7 @@ fn put_all<W: fmt::Write>(f: &mut fmt::Formatter<W>) -> fmt::Result {
         Place::Limit,
         Place::Absent,
         Place::Schedule,
+        Place::Mode,
         Place::Number,
         Place::Count,
     ] {

@@ -11,7 +11,7 @@ use Rattle.m88_cli.proofs.monitoring.run_monitor.Goals as goal
 
 pub returns-in-Err-clause-reply : goal.returns-in-Err-clause-reply
 returns-in-Err-clause-reply g c =
-    refused_reply (mon (absent_in c.args.absent.now) c.args.schedule.now) c.args.input.now (monitor_refusal c.in-Err.fault) c.refuse_monitor.result
+    refused_reply (mon (absent_in c.args.absent.now) c.args.schedule.now c.args.mxm) c.args.input.now (monitor_refusal c.in-Err.fault) c.refuse_monitor.result
     (is_refused_for c.args.input.now c.in-Err.fault c.in-Err.ensures.fault)
     c.refuse_monitor.ensures.line c.refuse_monitor.ensures.refused c.refuse_monitor.ensures.told
 
@@ -20,7 +20,7 @@ returns-in_err-text-clause-front g c =
     let found = c.in-Ok.ensures.found in
     on_err c.from_residual.result (inr (record {
       accepted = accepted_input c.args.input.now c.in-Ok.parts.0.items found.0 found.1 c.in-Ok.parts.1 found.2 found.3;
-      shown = front_of_input c.args.input.now (absent_in c.args.absent.now) c.args.schedule.now c.as_slice.result.now found.0 found.1 c.in-Ok.parts.1
+      shown = front_of_input c.args.input.now (absent_in c.args.absent.now) c.args.schedule.now c.args.mxm c.as_slice.result.now found.0 found.1 c.in-Ok.parts.1
           (g.W.Watch.seen c.args.watch.now) (g.W.Watch.seen c.session_text.new.watch)
           (script_as c.args.input.now c.in-Ok.parts.0.items c.as_slice.result.now found.0 found.1 c.as_slice.ensures.value found.2)
           found.3 c.session_text.ensures.image c.in_err-text.ensures.front;
@@ -31,7 +31,7 @@ returns-clause-reply g c =
     let found = c.in-Ok.ensures.found in
     record {
       accepted = accepted_input c.args.input.now c.in-Ok.parts.0.items found.0 found.1 c.in-Ok.parts.1 found.2 found.3;
-      output = session_of_input c.args.input.now (absent_in c.args.absent.now) c.args.schedule.now c.as_slice.result.now found.0 found.1
+      output = session_of_input c.args.input.now (absent_in c.args.absent.now) c.args.schedule.now c.args.mxm c.as_slice.result.now found.0 found.1
           c.in-Ok.parts.1 c.in_ok-text.text.items (g.W.Watch.seen c.args.watch.now) (g.W.Watch.seen c.session_text.new.watch)
           (script_as c.args.input.now c.in-Ok.parts.0.items c.as_slice.result.now found.0 found.1 c.as_slice.ensures.value found.2)
           found.3 c.session_text.ensures.image c.in_ok-text.ensures.session;
@@ -40,7 +40,7 @@ returns-clause-reply g c =
 pub returns-clause-watched : goal.returns-clause-watched
 returns-clause-watched g c =
     let found = c.in-Ok.ensures.found in
-    shown_to_end c.args.input.now (absent_in c.args.absent.now) c.args.schedule.now c.as_slice.result.now found.0 found.1
+    shown_to_end c.args.input.now (absent_in c.args.absent.now) c.args.schedule.now c.args.mxm c.as_slice.result.now found.0 found.1
     c.in-Ok.parts.1 c.in_ok-text.text.items (g.W.Watch.seen c.args.watch.now) (g.W.Watch.seen c.session_text.new.watch)
     (script_as c.args.input.now c.in-Ok.parts.0.items c.as_slice.result.now found.0 found.1 c.as_slice.ensures.value found.2)
     found.3 c.session_text.ensures.image c.in_ok-text.ensures.session

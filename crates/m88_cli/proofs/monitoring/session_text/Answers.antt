@@ -1,5 +1,5 @@
 -- The board stands at the first moment of the program that the image holds, and its session is that of the program.
-use Rattle.std.proofs.Common.{[], ℕ, Bool, List}
+use Rattle.std.proofs.Common.{◌≡◌, [], ℕ, Bool, List}
 use Rattle.std.proofs.lemmas.Result.{IfOk-weaker, on_err_weaker}
 use Rattle.m88_isa.proofs.ImageProgram.{program_of_image}
 use Rattle.m88_isa.specs.ImageProgram.{IsProgramOf}
@@ -17,7 +17,7 @@ use Rattle.m88_cli.proofs.monitoring.session_text.Goals as goal
 
 pub returns-in_err-board-clause-front : goal.returns-in_err-board-clause-front
 returns-in_err-board-clause-front g c =
-    on_err c.from_residual.result (λ p of. (
+    on_err c.from_residual.result (λ p of mode. (
       [],
       no_session_front (course_of p (absent_in c.args.absent.now) c.args.schedule.now) c.args.commands.now opening_session,
       saw_none (g.W.Watch.seen c.args.watch.now),
@@ -29,15 +29,15 @@ returns-clause-session g c =
     (λ text. (p : Program) (named : ℕ → Bool) → IsProgram p → IsAt p named opening_moment c.in_ok-board.board → (glances : List Glance)
     × IsSession (course_of p named c.args.schedule.now) c.args.commands.now opening_session text.items glances
     × Saw (g.W.Watch.seen c.args.watch.now) (g.W.Watch.seen c.carry_out.new.watch) glances)
-    (λ text. (p : Program) → IsProgramOf c.args.image.now p → (glances : List Glance)
+    (λ text. (p : Program) → IsProgramOf c.args.image.now p → p.mxm ≡ c.args.mxm → (glances : List Glance)
     × IsSession (course_of p (absent_in c.args.absent.now) c.args.schedule.now) c.args.commands.now opening_session text.items glances
     × Saw (g.W.Watch.seen c.args.watch.now) (g.W.Watch.seen c.carry_out.new.watch) glances)
-    (λ text told p of.
-    told p (absent_in c.args.absent.now) (program_of_image c.args.image.now p c.new.ensures.is_image of) (c.in_ok-board.ensures.at p of))
+    (λ text told p of mode.
+    told p (absent_in c.args.absent.now) (program_of_image c.args.image.now p c.new.ensures.is_image of) (c.in_ok-board.ensures.at p of mode))
     c.carry_out.ensures.ok
 
 pub returns-clause-front : goal.returns-clause-front
 returns-clause-front g c =
-    on_err_weaker c.carry_out.result (λ told p of.
-    told p (absent_in c.args.absent.now) (program_of_image c.args.image.now p c.new.ensures.is_image of) (c.in_ok-board.ensures.at p of))
+    on_err_weaker c.carry_out.result (λ told p of mode.
+    told p (absent_in c.args.absent.now) (program_of_image c.args.image.now p c.new.ensures.is_image of) (c.in_ok-board.ensures.at p of mode))
     c.carry_out.ensures.err

@@ -14,6 +14,14 @@ use Rattle.m88_cli.proofs.OneSource.{one_verdict, refused_not_accepted}
 use Rattle.m88_cli.proofs.Whole.{accepted_reply, answer_of, line_of_reply, not_part, not_whole, of_err, only_memory, refusal_some, refused_reply, reply_given, reply_whole, shown_if, unanswered, wrote_nothing}
 use Rattle.m88_cli.proofs.program.m88.Goals as goal
 
+pub returns-in_default-clause-refusal : goal.returns-in_default-clause-refusal
+returns-in_default-clause-refusal g c = λ command input refusal spelled refused had left whole.
+    absurd (c.in_default.ensures.only command spelled)
+
+pub returns-in_default-clause-complete : goal.returns-in_default-clause-complete
+returns-in_default-clause-complete g c = λ command input spelled holds sound unfailing.
+    absurd (c.in_default.ensures.only command spelled)
+
 pub returns-in-Err-clause-refusal : goal.returns-in-Err-clause-refusal
 returns-in-Err-clause-refusal g c = λ command input refusal spelled refused had left whole.
     absurd (not_whole _ (refusal_line refusal) (refusal_some refusal) whole)

@@ -9,26 +9,26 @@ use Rattle.m88_cli.proofs.running.outcome_of.Goals as goal
 
 pub returns-in_err-board-clause-front : goal.returns-in_err-board-clause-front
 returns-in_err-board-clause-front g c =
-    on_err c.from_residual.result (λ p of. no_front p (settings_of c.args.limit c.args.absent.now c.args.schedule.now) (g.W.Watch.seen c.args.watch.now))
+    on_err c.from_residual.result (λ p of mode. no_front p (settings_of c.args.limit c.args.absent.now c.args.schedule.now c.args.mxm) (g.W.Watch.seen c.args.watch.now) mode)
 
 pub returns-in_err-outcome-clause-front : goal.returns-in_err-outcome-clause-front
 returns-in_err-outcome-clause-front g c =
-    on_err c.from_residual-in_err-outcome.result (λ p of.
-    front_by p c.in_ok-board.board.limit (settings_of c.args.limit c.args.absent.now c.args.schedule.now) (g.W.Watch.seen c.args.watch.now)
-    (g.W.Watch.seen c.run.new.watch) c.in_ok-board.ensures.limit
+    on_err c.from_residual-in_err-outcome.result (λ p of mode.
+    front_by p c.in_ok-board.board.limit (settings_of c.args.limit c.args.absent.now c.args.schedule.now c.args.mxm) (g.W.Watch.seen c.args.watch.now)
+    (g.W.Watch.seen c.run.new.watch) c.in_ok-board.ensures.limit mode
     (c.in_err-outcome.ensures.err p (absent_in c.args.absent.now) (program_of_image c.args.image.now p c.new.ensures.is_image of)
-    (c.in_ok-board.ensures.at p of)))
+    (c.in_ok-board.ensures.at p of mode)))
 
 pub returns-clause-outcome : goal.returns-clause-outcome
-returns-clause-outcome g c = λ p of.
+returns-clause-outcome g c = λ p of mode.
     subst (λ n. IsOutcome p (absent_in c.args.absent.now) n c.args.schedule.now c.in_ok-outcome.outcome) c.in_ok-board.ensures.limit
     (c.in_ok-outcome.ensures.outcome p (absent_in c.args.absent.now) (program_of_image c.args.image.now p c.new.ensures.is_image of)
-    (c.in_ok-board.ensures.at p of))
+    (c.in_ok-board.ensures.at p of mode))
 
 pub returns-clause-watched : goal.returns-clause-watched
-returns-clause-watched g c = λ p of.
+returns-clause-watched g c = λ p of mode.
     let is = program_of_image c.args.image.now p c.new.ensures.is_image of in
-    let at = c.in_ok-board.ensures.at p of in
-    run_by p c.in_ok-board.board.limit (settings_of c.args.limit c.args.absent.now c.args.schedule.now) (g.W.Watch.seen c.args.watch.now)
-    (g.W.Watch.seen c.run.new.watch) c.in_ok-outcome.outcome c.in_ok-board.ensures.limit
+    let at = c.in_ok-board.ensures.at p of mode in
+    run_by p c.in_ok-board.board.limit (settings_of c.args.limit c.args.absent.now c.args.schedule.now c.args.mxm) (g.W.Watch.seen c.args.watch.now)
+    (g.W.Watch.seen c.run.new.watch) c.in_ok-outcome.outcome c.in_ok-board.ensures.limit mode
     (c.in_ok-outcome.ensures.outcome p (absent_in c.args.absent.now) is at) (c.in_ok-outcome.ensures.watched p (absent_in c.args.absent.now) is at)

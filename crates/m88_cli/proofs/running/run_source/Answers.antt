@@ -1,5 +1,5 @@
 -- The image holds the program of the source, and the report of its run answers the source.
-use Rattle.std.proofs.Common.{inr}
+use Rattle.std.proofs.Common.{inr, sym, ◌∙◌}
 use Rattle.std.proofs.lemmas.Result.{on_err_weaker}
 use Rattle.m88_cli.specs.Command.{run}
 use Rattle.m88_cli.specs.Kept.{settings_of}
@@ -12,34 +12,35 @@ use Rattle.m88_cli.proofs.running.run_source.Goals as goal
 
 pub returns-in-Err-clause-reply : goal.returns-in-Err-clause-reply
 returns-in-Err-clause-reply g c =
-    refused_reply (run (settings_of c.args.limit c.args.absent.now c.args.schedule.now)) c.args.source.now (refusal_behind 0 c.in-Err.fault) c.refuse.result
+    refused_reply (run (settings_of c.args.limit c.args.absent.now c.args.schedule.now c.args.mxm)) c.args.source.now (refusal_behind 0 c.in-Err.fault) c.refuse.result
     (program_refusal c.args.source.now c.in-Err.fault c.in-Err.ensures.fault)
     c.refuse.ensures.line c.refuse.ensures.refused c.refuse.ensures.told
 
 pub returns-in-Ok-clause-reply : goal.returns-in-Ok-clause-reply
 returns-in-Ok-clause-reply g c =
-    let held = held_by c.args.source.now c.in-Ok.image c.in-Ok.ensures.image c.run_image.ensures.image in
-    answering (run (settings_of c.args.limit c.args.absent.now c.args.schedule.now)) c.args.source.now
-    (TellsOf c.in-Ok.image (settings_of c.args.limit c.args.absent.now c.args.schedule.now)) c.run_image.result
+    let held = held_by c.args.mxm c.args.source.now c.in-Ok.image c.in-Ok.ensures.image c.run_image.ensures.image in
+    answering (run (settings_of c.args.limit c.args.absent.now c.args.schedule.now c.args.mxm)) c.args.source.now
+    (TellsOf c.in-Ok.image (settings_of c.args.limit c.args.absent.now c.args.schedule.now c.args.mxm)) c.run_image.result
     (λ text tells. record {
       accepted = accepted_source c.args.source.now c.in-Ok.image c.in-Ok.ensures.image;
-      output = reported (IsSourceProgram c.args.source.now) held.program (settings_of c.args.limit c.args.absent.now c.args.schedule.now)
-          text held.of_source (λ q is. one_source_program c.args.source.now q held.program is held.of_source)
-          (tells held.program held.of_image);
+      output = reported (IsSourceProgram c.args.source.now) held.program (settings_of c.args.limit c.args.absent.now c.args.schedule.now c.args.mxm)
+          text held.of_source held.mode
+          (λ q is mode. one_source_program c.args.source.now q held.program is held.of_source (mode ∙ sym held.mode))
+          (tells held.program held.of_image held.mode);
     })
     c.run_image.ensures.accepted c.run_image.ensures.report
 
 pub returns-in-Ok-clause-watched : goal.returns-in-Ok-clause-watched
 returns-in-Ok-clause-watched g c =
-    let held = held_by c.args.source.now c.in-Ok.image c.in-Ok.ensures.image c.run_image.ensures.image in
-    watching g.W.Watch.seen c.args.watch.now c.run_image.new.watch (run (settings_of c.args.limit c.args.absent.now c.args.schedule.now))
+    let held = held_by c.args.mxm c.args.source.now c.in-Ok.image c.in-Ok.ensures.image c.run_image.ensures.image in
+    watching g.W.Watch.seen c.args.watch.now c.run_image.new.watch (run (settings_of c.args.limit c.args.absent.now c.args.schedule.now c.args.mxm))
     c.args.source.now c.run_image.result c.run_image.ensures.accepted c.run_image.ensures.watched
-    (λ saw. (held.program, held.of_source, saw held.program held.of_image))
+    (λ saw. (held.program, held.of_source, saw held.program held.of_image held.mode))
 
 pub returns-in-Ok-clause-front : goal.returns-in-Ok-clause-front
 returns-in-Ok-clause-front g c =
-    let held = held_by c.args.source.now c.in-Ok.image c.in-Ok.ensures.image c.run_image.ensures.image in
+    let held = held_by c.args.mxm c.args.source.now c.in-Ok.image c.in-Ok.ensures.image c.run_image.ensures.image in
     on_err_weaker c.run_image.result (λ saw. inr (record {
       accepted = accepted_source c.args.source.now c.in-Ok.image c.in-Ok.ensures.image;
-      shown = (held.program, held.of_source, saw held.program held.of_image);
+      shown = (held.program, held.of_source, saw held.program held.of_image held.mode);
     })) c.run_image.ensures.front
