@@ -16,7 +16,7 @@ use Rattle.m88_link.specs.declared.object.Place.TheVariants.{Text, DataSection, 
 use Rattle.m88_link.specs.declared.object.Section.{Section}
 use Rattle.m88_link.specs.declared.object.Symbol.{Symbol}
 use Rattle.m88_base.specs.Pages.{page_bytes}
-use Rattle.m88_link.specs.Bases.{first_text, up_to_multiple}
+use Rattle.m88_link.specs.Bases.{Placement, base_at, first_text, stood_from, text_end, up_to_multiple}
 use Rattle.m88_link.specs.Sound.{origin}
 use Rattle.m88_link.specs.Symbols.{repeated_after}
 use Rattle.m88_asm.specs.Counters.{Counters, Located, after, at_begin, at_section, located, offset_here, place_here}
@@ -24,13 +24,13 @@ use Rattle.m88_asm.specs.Inside.Drafts.{IsOpen, counters_of, empty_growth, no_se
 use Rattle.m88_asm.specs.Faults.{IsAssembled, alignment_of, misfit_at, misplaced_at, statements_fault, module_fault, modules_fault, too_large_at}
 use Rattle.m88_asm.specs.Images.{code_at, code_in, first_of, module_code, placed_instruction}
 use Rattle.m88_asm.specs.Objects.{Head, heads_in, sections_in, symbols_of}
-use Rattle.m88_asm.specs.Units.{Based, address_at, address_in, base_in, based, based_from, end_of_text, section_length, unit_layout, value_in_module}
+use Rattle.m88_asm.specs.Units.{address_in, base_in, based, section_length, unit_layout, value_in_module}
 use Rattle.m88_asm.proofs.Assembling.{counters_empty, grown_object}
 use Rattle.m88_asm.proofs.Composing.{EachBased, under_head}
 use Rattle.m88_asm.proofs.Sounding.{Extends, Stands, after_all_extends, after_stands, counters_after, counters_grown, entered_stands, first_parts, no_fault_else, option_or-none}
 
 -- a statement's section and offset, with the counters that its module ends with
-record Spot (b : Based) (end : Counters) (a : ℕ) : Type 0 where
+record Spot (b : Placement Module) (end : Counters) (a : ℕ) : Type 0 where
   section : ℕ
   offset : ℕ
   there : section < end.count
@@ -45,7 +45,7 @@ either_code : {A : Type 0} (o q : Option A) (v : A) → option_or o q ≡ Some v
 either_code (Some x) q v h = inl h
 either_code None q v h = inr h
 
-row_spot : (globals : List Symbol) (b : Based) (a : ℕ) (i : Instr) (c end : Counters) (x : Statement) → Stands c → Extends (after c x.body) end
+row_spot : (globals : List Symbol) (b : Placement Module) (a : ℕ) (i : Instr) (c end : Counters) (x : Statement) → Stands c → Extends (after c x.body) end
     → misfit_at (offset_here (at_section c x.body)) (place_here (at_section c x.body)) x ≡ None
     → code_at globals b a (record { before = c; statement = x }) ≡ Some i → Spot b end a
 row_spot globals b a i c end x s e m h = by (address_in b r == a) refl h
@@ -69,7 +69,7 @@ row_spot globals b a i c end x s e m h = by (address_in b r == a) refl h
         }
     by false t h = cc
 
-rows_spot : (globals : List Symbol) (b : Based) (a : ℕ) (i : Instr) (defined : List Symbol) (c : Counters) (xs : List Statement) → Stands c
+rows_spot : (globals : List Symbol) (b : Placement Module) (a : ℕ) (i : Instr) (defined : List Symbol) (c : Counters) (xs : List Statement) → Stands c
     → statements_fault defined (located c xs) ≡ None → first_of (code_at globals b a) (located c xs) ≡ Some i → Spot b (counters_after c xs) a
 unfolding located counters_after
 rows_spot globals b a i defined c [] s f h = cc
@@ -84,13 +84,13 @@ rows_spot globals b a i defined c (x ∷ xs) s f h =
     ]
 
 -- an address counts as its section's number for alignment does
-address_even : (b : Based) (p : Place) → b.text % 4 ≡ 0 → b.datas % 4 ≡ 0 → address_at b p % 4 ≡ origin p % 4
+address_even : (b : Placement Module) (p : Place) → b.text_at % 4 ≡ 0 → b.data_at % 4 ≡ 0 → base_at b p % 4 ≡ origin p % 4
 address_even b Text t d = t
 address_even b DataSection t d = d
 address_even b (At a) t d = refl
 
-heads_even : (b : Based) (hs : List Head) (k : ℕ) → b.text % 4 ≡ 0 → b.datas % 4 ≡ 0
-    → option_map_or (λ (h : Head). address_at b h.place) (slice_get hs k) 0 % 4 ≡ option_map_or (λ (h : Head). origin h.place) (slice_get hs k) 0 % 4
+heads_even : (b : Placement Module) (hs : List Head) (k : ℕ) → b.text_at % 4 ≡ 0 → b.data_at % 4 ≡ 0
+    → option_map_or (λ (h : Head). base_at b h.place) (slice_get hs k) 0 % 4 ≡ option_map_or (λ (h : Head). origin h.place) (slice_get hs k) 0 % 4
 heads_even b [] k t d = refl
 heads_even b (h ∷ hs) zero t d = address_even b h.place t d
 heads_even b (h ∷ hs) (suc k) t d = heads_even b hs k t d
@@ -111,28 +111,28 @@ ends_with m k l =
     ∙ ap (λ xs. option_map_or (λ (s : Section). origin s.place) (slice_get xs k) 0) same
     ∙ under_head m origin 0 (heads_in m) k
 
-module_even : (globals : List Symbol) (b : Based) (a : ℕ) (i : Instr) → b.text % 4 ≡ 0 → b.datas % 4 ≡ 0 → module_fault b.source ≡ None
+module_even : (globals : List Symbol) (b : Placement Module) (a : ℕ) (i : Instr) → b.text_at % 4 ≡ 0 → b.data_at % 4 ≡ 0 → module_fault b.part ≡ None
     → module_code globals a b ≡ Some i → a % 4 ≡ 0
 module_even globals b a i t d f h =
-    let s = rows_spot globals b a i [] at_begin b.source.statements (record { both = omega arith; here = omega arith }) f h in
-    let starts = ends_with b.source s.section s.there in
-    let bases = heads_even b (heads_in b.source) s.section t d in
+    let s = rows_spot globals b a i [] at_begin b.part.statements (record { both = omega arith; here = omega arith }) f h in
+    let starts = ends_with b.part s.section s.there in
+    let bases = heads_even b (heads_in b.part) s.section t d in
     omega (arith, s.is, s.even, starts, bases)
 
 -- all modules
-abbrev EvenOn : Based → Type 0
-EvenOn b = (b.text % 4 ≡ 0) × (b.datas % 4 ≡ 0) × (module_fault b.source ≡ None)
+abbrev EvenOn : Placement Module → Type 0
+EvenOn b = (b.text_at % 4 ≡ 0) × (b.data_at % 4 ≡ 0) × (module_fault b.part ≡ None)
 
 up_even : (n : ℕ) → up_to_multiple 8 n % 4 ≡ 0
 up_even n = omega arith
 
-each_even : (text datas : ℕ) (ms : List Module) → modules_fault ms ≡ None → EachBased EvenOn (based_from text datas ms)
+each_even : (text datas : ℕ) (ms : List Module) → modules_fault ms ≡ None → EachBased EvenOn (stood_from section_length text datas ms)
 each_even text datas [] h = tt
 each_even text datas (m ∷ ms) h =
     let p = option_or-none (module_fault m) (modules_fault ms) h in
     ((up_even text, up_even datas, p.0), each_even (up_to_multiple 8 text + section_length 0 m) (up_to_multiple 8 datas + section_length 1 m) ms p.1)
 
-modules_even : (globals : List Symbol) (a : ℕ) (i : Instr) (bs : List Based) → EachBased EvenOn bs → first_of (module_code globals a) bs ≡ Some i → a % 4 ≡ 0
+modules_even : (globals : List Symbol) (a : ℕ) (i : Instr) (bs : List (Placement Module)) → EachBased EvenOn bs → first_of (module_code globals a) bs ≡ Some i → a % 4 ≡ 0
 modules_even globals a i [] f h = cc
 modules_even globals a i (b ∷ bs) f h = elim (either_code (module_code globals a b) (first_of (module_code globals a) bs) i h) [
   | inl e ↦ module_even globals b a i f.0.0 f.0.1 f.0.2 e
@@ -141,4 +141,4 @@ modules_even globals a i (b ∷ bs) f h = elim (either_code (module_code globals
 
 pub aligned_law : (u : Source) (a : ℕ) (i : Instr) → IsAssembled u → placed_instruction u a ≡ Some i → a % 4 ≡ 0
 aligned_law u a i f h =
-    modules_even (unit_layout u).globals a i (based u) (each_even first_text (up_to_multiple page_bytes (end_of_text first_text u.modules)) u.modules f) h
+    modules_even (unit_layout u).globals a i (based u) (each_even first_text (up_to_multiple page_bytes (text_end section_length first_text u.modules)) u.modules f) h

@@ -20,7 +20,9 @@ use Rattle.m88_link.specs.Refusal.{AreDisjoint, covers, hits}
 use Rattle.m88_asm.specs.Counters.{Counters, Located, after, at_begin, located, offset_of, place_of, section_of}
 use Rattle.m88_asm.specs.Images.{run_of, runs_in}
 use Rattle.m88_asm.specs.Objects.{Head, heads_in, lines_in, opened_by, opens}
-use Rattle.m88_asm.specs.Units.{Based, address_at, address_in, base_in, bytes_of, extent_under, extents_in, filled_in, filled_section, length_in, section_length, spot_under, spots_in, value_in_module}
+use Rattle.m88_link.specs.Bases.{Placement, base_at}
+use Rattle.m88_parse.specs.declared.unit.Module.{Module}
+use Rattle.m88_asm.specs.Units.{address_in, base_in, bytes_of, extent_under, extents_in, filled_in, filled_section, length_in, section_length, spot_under, spots_in, value_in_module}
 use Rattle.m88_asm.proofs.Relocating.{grows, length-filled_bytes}
 use Rattle.m88_asm.proofs.Sounding.{Stands, after_stands, entered_stands}
 
@@ -75,15 +77,15 @@ within : (p : Placed) (a v : ℕ) → byte_in p a ≡ Some v → a < p.at + leng
 within p a v h = elim (leb_tells (p.at + length p.bytes) a) [ inl l ↦ absurd (some_none (byte_in p a) v (byte_in_above p a l.1) h) | inr l ↦ l.1 ]
 
 -- the runs of section k
-abbrev run_in : List Symbol → Based → ℕ → Located → List Placed
+abbrev run_in : List Symbol → Placement Module → ℕ → Located → List Placed
 run_in globals b k r = if section_of r == k then run_of globals b r ∷ [] else []
 
-longer : (globals : List Symbol) (b : Based) (k : ℕ) (r : Located) (front : List ℕ) → r.before.lengths k ≡ length front
+longer : (globals : List Symbol) (b : Placement Module) (k : ℕ) (r : Located) (front : List ℕ) → r.before.lengths k ≡ length front
     → (after r.before r.statement.body).lengths k ≡ length (front ++ filled_in globals b k r)
 longer globals b k r front e =
     grows (value_in_module globals b) (base_in b) k r ∙ ap (λ n. n + length (filled_in globals b k r)) e ∙ sym (length-append front (filled_in globals b k r))
 
-one_found : (globals : List Symbol) (b : Based) (k a : ℕ) (r : Located) (front : List ℕ) → r.before.lengths k ≡ length front
+one_found : (globals : List Symbol) (b : Placement Module) (k a : ℕ) (r : Located) (front : List ℕ) → r.before.lengths k ≡ length front
     → byte_in (record { at = base_in b k; bytes = front ++ filled_in globals b k r }) a
     ≡ option_or (byte_in (record { at = base_in b k; bytes = front }) a) (byte_among (run_in globals b k r) a)
 one_found globals b k a r front e =
@@ -107,7 +109,7 @@ one_found globals b k a r front e =
     ]
 
 -- a section's bytes are those of its statements
-section_found : (globals : List Symbol) (b : Based) (k a : ℕ) (c : Counters) (xs : List Statement) (front : List ℕ) → c.lengths k ≡ length front
+section_found : (globals : List Symbol) (b : Placement Module) (k a : ℕ) (c : Counters) (xs : List Statement) (front : List ℕ) → c.lengths k ≡ length front
     → byte_in (record { at = base_in b k; bytes = front ++ flat_map (filled_in globals b k) (located c xs) }) a
     ≡ option_or (byte_in (record { at = base_in b k; bytes = front }) a) (byte_among (flat_map (run_in globals b k) (located c xs)) a)
 unfolding located
@@ -124,7 +126,7 @@ section_found globals b k a c (x ∷ xs) front e =
     ∙ option_or_assoc (byte_in (record { at = base_in b k; bytes = front }) a) (byte_among (run_in globals b k r) a) (byte_among (flat_map (run_in globals b k) rest) a)
     ∙ ap (λ o. option_or (byte_in (record { at = base_in b k; bytes = front }) a) o) (sym (byte_among-append (run_in globals b k r) (flat_map (run_in globals b k) rest) a))
 
-one_run : (globals : List Symbol) (b : Based) (k a v : ℕ) (r : Located) → Has (run_in globals b k r) a v
+one_run : (globals : List Symbol) (b : Placement Module) (k a v : ℕ) (r : Located) → Has (run_in globals b k r) a v
     → (section_of r ≡ k) × (byte_in (run_of globals b r) a ≡ Some v) × (run_in globals b k r ≡ run_of globals b r ∷ [])
 unfolding Has
 one_run globals b k a v r h = by (section_of r == k) refl h
@@ -136,7 +138,7 @@ one_run globals b k a v r h = by (section_of r == k) refl h
     by false t h = absurd h
 
 -- a statement's bytes stand in its section: behind those of the statements before it there
-has_section : (globals : List Symbol) (b : Based) (k a v : ℕ) (c : Counters) (xs : List Statement) (front : List ℕ) → c.lengths k ≡ length front
+has_section : (globals : List Symbol) (b : Placement Module) (k a v : ℕ) (c : Counters) (xs : List Statement) (front : List ℕ) → c.lengths k ≡ length front
     → Has (flat_map (run_in globals b k) (located c xs)) a v
     → byte_in (record { at = base_in b k; bytes = front ++ flat_map (filled_in globals b k) (located c xs) }) a ≡ Some v
 unfolding located Has
@@ -163,7 +165,7 @@ has_section globals b k a v c (x ∷ xs) front e h =
 
 -- a module: its sections have what its statements give
 
-run_in_all : (globals : List Symbol) (b : Based) (k a v : ℕ) (rs : List Located) → Has (flat_map (run_in globals b k) rs) a v → Has (map (run_of globals b) rs) a v
+run_in_all : (globals : List Symbol) (b : Placement Module) (k a v : ℕ) (rs : List Located) → Has (flat_map (run_in globals b k) rs) a v → Has (map (run_of globals b) rs) a v
 unfolding Has
 run_in_all globals b k a v [] h = h
 run_in_all globals b k a v (r ∷ rs) h = elim (has_either (run_in globals b k r) (flat_map (run_in globals b k) rs) a v h) [
@@ -179,7 +181,7 @@ counted : (c : Counters) (xs : List Statement) → c.count ≤ c.count + length 
 counted c xs = omega arith
 
 -- a statement stands in one of the sections
-run_section : (globals : List Symbol) (b : Based) (n a v : ℕ) (c : Counters) (xs : List Statement) → Stands c
+run_section : (globals : List Symbol) (b : Placement Module) (n a v : ℕ) (c : Counters) (xs : List Statement) → Stands c
     → c.count + length (flat_map opens (located c xs)) ≡ n → Has (map (run_of globals b) (located c xs)) a v
     → (k : ℕ) × (k < n) × Has (flat_map (run_in globals b k) (located c xs)) a v
 unfolding located Has
@@ -202,7 +204,7 @@ run_section globals b n a v c (x ∷ xs) s e h =
           (more.0, more.1, has_right (run_in globals b more.0 r) (flat_map (run_in globals b more.0) rest) a v more.2)
     ]
 
-abbrev section_at : List Symbol → Based → ℕ → Placed
+abbrev section_at : List Symbol → Placement Module → ℕ → Placed
 section_at globals b k = record { at = base_in b k; bytes = filled_section globals b k }
 
 nothing_before : (at a : ℕ) → byte_in (record { at = at; bytes = [] }) a ≡ None
@@ -211,24 +213,24 @@ nothing_before at a = elim (leb_tells at a) [
   | inr l ↦ byte_in_below (record { at = at; bytes = [] }) a l.1
 ]
 
-section_runs : (globals : List Symbol) (b : Based) (k a v : ℕ) → byte_in (section_at globals b k) a ≡ Some v → Has (map (run_of globals b) (lines_in b.source)) a v
+section_runs : (globals : List Symbol) (b : Placement Module) (k a v : ℕ) → byte_in (section_at globals b k) a ≡ Some v → Has (map (run_of globals b) (lines_in b.part)) a v
 section_runs globals b k a v h =
-    let f = section_found globals b k a at_begin b.source.statements [] refl in
-    run_in_all globals b k a v (lines_in b.source) (found_has _ a v
-    (sym (ap (λ o. option_or o (byte_among (flat_map (run_in globals b k) (lines_in b.source)) a)) (nothing_before (base_in b k) a)) ∙ sym f ∙ h))
+    let f = section_found globals b k a at_begin b.part.statements [] refl in
+    run_in_all globals b k a v (lines_in b.part) (found_has _ a v
+    (sym (ap (λ o. option_or o (byte_among (flat_map (run_in globals b k) (lines_in b.part)) a)) (nothing_before (base_in b k) a)) ∙ sym f ∙ h))
 
 -- sections by their heads
-abbrev AtBases : Based → ℕ → List Head → Type 0
-AtBases b n hs = (j : ℕ) → j < length hs → base_in b (n + j) ≡ option_map_or (λ (h : Head). address_at b h.place) (slice_get hs j) 0
+abbrev AtBases : Placement Module → ℕ → List Head → Type 0
+AtBases b n hs = (j : ℕ) → j < length hs → base_in b (n + j) ≡ option_map_or (λ (h : Head). base_at b h.place) (slice_get hs j) 0
 
-next_bases : (b : Based) (n : ℕ) (h : Head) (hs : List Head) → AtBases b n (h ∷ hs) → AtBases b (n + 1) hs
+next_bases : (b : Placement Module) (n : ℕ) (h : Head) (hs : List Head) → AtBases b n (h ∷ hs) → AtBases b (n + 1) hs
 next_bases b n h hs e = λ j l. ap (base_in b) (omega arith) ∙ e (suc j) (omega arith)
 
-first_base : (b : Based) (n : ℕ) (h : Head) (hs : List Head) → AtBases b n (h ∷ hs) → base_in b n ≡ address_at b h.place
+first_base : (b : Placement Module) (n : ℕ) (h : Head) (hs : List Head) → AtBases b n (h ∷ hs) → base_in b n ≡ base_at b h.place
 first_base b n h hs e = ap (base_in b) (sym (add-zero n)) ∙ e 0 (omega arith)
 
-spots_sections : (globals : List Symbol) (b : Based) (n a v : ℕ) (hs : List Head) → AtBases b n hs
-    → Has (map (spot_under globals b) (enumerate_from n hs)) a v → Has (map (run_of globals b) (lines_in b.source)) a v
+spots_sections : (globals : List Symbol) (b : Placement Module) (n a v : ℕ) (hs : List Head) → AtBases b n hs
+    → Has (map (spot_under globals b) (enumerate_from n hs)) a v → Has (map (run_of globals b) (lines_in b.part)) a v
 unfolding Has
 spots_sections globals b n a v [] e h = absurd h
 spots_sections globals b n a v (x ∷ hs) e (inl h) =
@@ -236,7 +238,7 @@ spots_sections globals b n a v (x ∷ hs) e (inl h) =
     (ap (λ at. let p : Placed = record { at = at; bytes = filled_section globals b n } in byte_in p a) (first_base b n x hs e) ∙ h)
 spots_sections globals b n a v (x ∷ hs) e (inr h) = spots_sections globals b (n + 1) a v hs (next_bases b n x hs e) h
 
-sections_spots : (globals : List Symbol) (b : Based) (n k a v : ℕ) (hs : List Head) → AtBases b n hs → k < length hs
+sections_spots : (globals : List Symbol) (b : Placement Module) (n k a v : ℕ) (hs : List Head) → AtBases b n hs → k < length hs
     → byte_in (section_at globals b (n + k)) a ≡ Some v → Has (map (spot_under globals b) (enumerate_from n hs)) a v
 unfolding Has
 sections_spots globals b n k a v [] e l h = absurd (omega arith)
@@ -246,20 +248,20 @@ sections_spots globals b n zero a v (x ∷ hs) e l h =
 sections_spots globals b n (suc k) a v (x ∷ hs) e l h =
     inr (sections_spots globals b (n + 1) k a v hs (next_bases b n x hs e) (omega arith) (ap (λ m. byte_in (section_at globals b m) a) (omega arith) ∙ h))
 
-all_bases : (b : Based) → AtBases b 0 (heads_in b.source)
+all_bases : (b : Placement Module) → AtBases b 0 (heads_in b.part)
 all_bases b j l = ap (base_in b) (zero-add j)
 
-spots_runs : (globals : List Symbol) (b : Based) (a v : ℕ) → Has (spots_in globals b) a v → Has (runs_in globals b) a v
-spots_runs globals b a v h = spots_sections globals b 0 a v (heads_in b.source) (all_bases b) h
+spots_runs : (globals : List Symbol) (b : Placement Module) (a v : ℕ) → Has (spots_in globals b) a v → Has (runs_in globals b) a v
+spots_runs globals b a v h = spots_sections globals b 0 a v (heads_in b.part) (all_bases b) h
 
-runs_spots : (globals : List Symbol) (b : Based) (a v : ℕ) → Has (runs_in globals b) a v → Has (spots_in globals b) a v
+runs_spots : (globals : List Symbol) (b : Placement Module) (a v : ℕ) → Has (runs_in globals b) a v → Has (spots_in globals b) a v
 runs_spots globals b a v h =
-    let k = run_section globals b (length (heads_in b.source)) a v at_begin b.source.statements (record { both = omega arith; here = omega arith }) (omega arith) h in
-    sections_spots globals b 0 k.0 a v (heads_in b.source) (all_bases b) k.1
-    (ap (λ m. byte_in (section_at globals b m) a) (zero-add k.0) ∙ has_section globals b k.0 a v at_begin b.source.statements [] refl k.2)
+    let k = run_section globals b (length (heads_in b.part)) a v at_begin b.part.statements (record { both = omega arith; here = omega arith }) (omega arith) h in
+    sections_spots globals b 0 k.0 a v (heads_in b.part) (all_bases b) k.1
+    (ap (λ m. byte_in (section_at globals b m) a) (zero-add k.0) ∙ has_section globals b k.0 a v at_begin b.part.statements [] refl k.2)
 
 -- all modules
-all_to : (f g : Based → List Placed) (a v : ℕ) (bs : List Based) → ((b : Based) → Has (f b) a v → Has (g b) a v) → Has (flat_map f bs) a v → Has (flat_map g bs) a v
+all_to : (f g : Placement Module → List Placed) (a v : ℕ) (bs : List (Placement Module)) → ((b : Placement Module) → Has (f b) a v → Has (g b) a v) → Has (flat_map f bs) a v → Has (flat_map g bs) a v
 all_to f g a v [] e h = h
 all_to f g a v (b ∷ bs) e h = elim (has_either (f b) (flat_map f bs) a v h) [
   | inl l ↦ has_left (g b) (flat_map g bs) a v (e b l)
@@ -279,10 +281,10 @@ paired-append (x ∷ ps) qs (e ∷ es) fs p q = (p.0, p.1, paired-append ps qs e
 paired-append [] qs (e ∷ es) fs p q = absurd p
 paired-append (x ∷ ps) qs [] fs p q = absurd p
 
-filled_length : (globals : List Symbol) (b : Based) (k : ℕ) → length (filled_section globals b k) ≡ section_length k b.source
+filled_length : (globals : List Symbol) (b : Placement Module) (k : ℕ) → length (filled_section globals b k) ≡ section_length k b.part
 filled_length globals b k =
-    length-flat_map (filled_in globals b k) (lines_in b.source)
-    ∙ ap (λ f. sum_by f (lines_in b.source)) (fun_ext (λ r. one r))
+    length-flat_map (filled_in globals b k) (lines_in b.part)
+    ∙ ap (λ f. sum_by f (lines_in b.part)) (fun_ext (λ r. one r))
   where
     through : {A B : Type 0} (f : A → B) (t : Bool) (x y : A) → f (if t then x else y) ≡ (if t then f x else f y)
     through f true x y = refl
@@ -292,18 +294,18 @@ filled_length globals b k =
     one r = through length (section_of r == k) (bytes_of globals b r) []
         ∙ ap (λ n. if section_of r == k then n else 0) (length-filled_bytes (value_in_module globals b) (address_in b r) (place_of r) r.statement.body)
 
-paired_sections : (globals : List Symbol) (b : Based) (n : ℕ) (hs : List Head)
+paired_sections : (globals : List Symbol) (b : Placement Module) (n : ℕ) (hs : List Head)
     → Paired (map (spot_under globals b) (enumerate_from n hs)) (map (extent_under b) (enumerate_from n hs))
 unfolding Paired
 paired_sections globals b n [] = tt
 paired_sections globals b n (h ∷ hs) = (refl, filled_length globals b n, paired_sections globals b (n + 1) hs)
 
-all_paired : (globals : List Symbol) (bs : List Based) → Paired (flat_map (spots_in globals) bs) (flat_map extents_in bs)
+all_paired : (globals : List Symbol) (bs : List (Placement Module)) → Paired (flat_map (spots_in globals) bs) (flat_map extents_in bs)
 unfolding Paired
 all_paired globals [] = tt
 all_paired globals (b ∷ bs) =
     paired-append (spots_in globals b) (flat_map (spots_in globals) bs) (extents_in b) (flat_map extents_in bs)
-    (paired_sections globals b 0 (heads_in b.source)) (all_paired globals bs)
+    (paired_sections globals b 0 (heads_in b.part)) (all_paired globals bs)
 
 one_hit : (a v : ℕ) (p : Placed) (e : Extent) → p.at ≡ e.at → length p.bytes ≡ e.len → byte_in p a ≡ Some v → ◌≡◌ {A = ℕ} (cond (covers a e) 1 0) 1
 one_hit a v p e at len h =
@@ -336,7 +338,7 @@ only_found a v [] (e ∷ es) p d h = absurd p
 only_found a v (x ∷ ps) [] p d h = absurd p
 
 -- the sections of the modules have at each address what their statements give
-pub runs_law : (globals : List Symbol) (bs : List Based) (a : ℕ) → AreDisjoint (flat_map extents_in bs)
+pub runs_law : (globals : List Symbol) (bs : List (Placement Module)) (a : ℕ) → AreDisjoint (flat_map extents_in bs)
     → byte_among (flat_map (spots_in globals) bs) a ≡ byte_among (flat_map (runs_in globals) bs) a
 runs_law globals bs a d = by (byte_among (flat_map (runs_in globals) bs) a) refl (byte_among (flat_map (spots_in globals) bs) a) refl
   where
@@ -354,7 +356,7 @@ runs_law globals bs a d = by (byte_among (flat_map (runs_in globals) bs) a) refl
         (all_to (spots_in globals) (runs_in globals) a v bs (λ b. spots_runs globals b a v) (found_has (flat_map (spots_in globals) bs) a v f)))
 
 -- a byte that a statement gives is found
-pub run_found : (globals : List Symbol) (bs : List Based) (a v : ℕ) → AreDisjoint (flat_map extents_in bs)
+pub run_found : (globals : List Symbol) (bs : List (Placement Module)) (a v : ℕ) → AreDisjoint (flat_map extents_in bs)
     → Has (flat_map (runs_in globals) bs) a v → byte_among (flat_map (spots_in globals) bs) a ≡ Some v
 run_found globals bs a v d h =
     only_found a v (flat_map (spots_in globals) bs) (flat_map extents_in bs) (all_paired globals bs) (d a)

@@ -31,7 +31,8 @@ use Rattle.m88_asm.specs.Counters.{Counters, Located, after, at_begin, located, 
 use Rattle.m88_asm.specs.Filled.{filled_bytes, resolved, target}
 use Rattle.m88_asm.specs.Images.{IsUnitInstruction, code_at, code_in, first_of, module_code, placed_instruction, run_of, runs_in, unit_byte}
 use Rattle.m88_asm.specs.Objects.{lines_in, uses_in_body, symbol_uses}
-use Rattle.m88_asm.specs.Units.{Based, address_in, base_in, based, bytes_of, length_in, unit_layout, value_in_module}
+use Rattle.m88_link.specs.Bases.{Placement}
+use Rattle.m88_asm.specs.Units.{address_in, base_in, based, bytes_of, length_in, unit_layout, value_in_module}
 use Rattle.m88_asm.specs.Faults.{IsAssembled}
 use Rattle.m88_asm.proofs.Aligned.{aligned_law}
 use Rattle.m88_asm.proofs.Composing.{CanFill, EachBased, formed}
@@ -52,7 +53,7 @@ resolved_valid value base section offset line address instr (Some x) f e r =
     subst (λ a. IsValid (resolved value a instr (Some x))) e
     (field_law instr x.kind (target value x) (base section + offset) f.0 f.1 (mod_below (value x.symbol + x.addend) (2 ^ 32) (lit< tt)) r.0).0
 
-body_stands : (globals : List Symbol) (b : Based) (line place : ℕ) (section offset : ℕ) (x : Body) (i : Instr) → IsFormedBody x
+body_stands : (globals : List Symbol) (b : Placement Module) (line place : ℕ) (section offset : ℕ) (x : Body) (i : Instr) → IsFormedBody x
     → AreInReach (value_in_module globals b) (base_in b) (uses_in_body section offset line x)
     → code_in (value_in_module globals b) (base_in b section + offset) x ≡ Some i
     → IsValid i × (filled_bytes (value_in_module globals b) (base_in b section + offset) place x ≡ to_be_bytes w32 (word_of i))
@@ -63,7 +64,7 @@ body_stands globals b line place section offset (body.Code instr fixup) i f r h 
     )
 body_stands globals b line place section offset _ i f r h = cc
 
-row_stands : (globals : List Symbol) (b : Based) (a : ℕ) (r : Located) (i : Instr) → IsFormedStatement r.statement
+row_stands : (globals : List Symbol) (b : Placement Module) (a : ℕ) (r : Located) (i : Instr) → IsFormedStatement r.statement
     → AreInReach (value_in_module globals b) (base_in b) (symbol_uses r) → code_at globals b a r ≡ Some i → Stood (run_of globals b r ∷ []) a i
 unfolding Has
 row_stands globals b a r i f n h = by (address_in b r == a) refl h
@@ -83,7 +84,7 @@ either_code : {A : Type 0} (o q : Option A) (v : A) → option_or o q ≡ Some v
 either_code (Some x) q v h = inl h
 either_code None q v h = inr h
 
-rows_stand : (globals : List Symbol) (b : Based) (a : ℕ) (i : Instr) (c : Counters) (xs : List Statement) → AllFormed xs
+rows_stand : (globals : List Symbol) (b : Placement Module) (a : ℕ) (i : Instr) (c : Counters) (xs : List Statement) → AllFormed xs
     → AreInReach (value_in_module globals b) (base_in b) (flat_map symbol_uses (located c xs))
     → first_of (code_at globals b a) (located c xs) ≡ Some i → Stood (map (run_of globals b) (located c xs)) a i
 unfolding located Has
@@ -100,12 +101,12 @@ rows_stand globals b a i c (x ∷ xs) f n h =
           (s.0, λ k v l g. inr (s.1 k v l g))
     ]
 
-modules_stand : (globals : List Symbol) (a : ℕ) (i : Instr) (bs : List Based) → EachBased (CanFill globals) bs
+modules_stand : (globals : List Symbol) (a : ℕ) (i : Instr) (bs : List (Placement Module)) → EachBased (CanFill globals) bs
     → first_of (module_code globals a) bs ≡ Some i → Stood (flat_map (runs_in globals) bs) a i
 modules_stand globals a i [] f h = cc
 modules_stand globals a i (b ∷ bs) f h = elim (either_code (module_code globals a b) (first_of (module_code globals a) bs) i h) [
   | inl e ↦
-      let s = rows_stand globals b a i at_begin b.source.statements (formed b.source.statements f.0.0) f.0.1 e in
+      let s = rows_stand globals b a i at_begin b.part.statements (formed b.part.statements f.0.0) f.0.1 e in
       (s.0, λ k v l g. has_left (runs_in globals b) (flat_map (runs_in globals) bs) (a + k) v (s.1 k v l g))
   | inr e ↦
       let s = modules_stand globals a i bs f.1 e in

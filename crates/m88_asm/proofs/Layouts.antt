@@ -6,7 +6,7 @@ use Rattle.m88_base.specs.Image.{IsImage, ProgramImage, byte_at, byte_count, fir
 use Rattle.m88_base.specs.Placed.{byte_among, count_among}
 use Rattle.m88_link.proofs.Judged.{written_read}
 use Rattle.m88_link.proofs.Rooms.{all_sound, alone_is}
-use Rattle.m88_link.specs.Bases.{first_data, stood}
+use Rattle.m88_link.specs.Bases.{first_data, section_size, stood}
 use Rattle.m88_link.specs.Inside.Carried.{AreAlone}
 use Rattle.m88_link.specs.Inside.Drafts.{nothing_read, read_from}
 use Rattle.m88_link.specs.Layout.{Layout, layout_of}
@@ -79,7 +79,7 @@ sections_alone : (u : Source) → IsAcceptedUnit u → AreAlone (layout_of (obje
 sections_alone u accepted =
     let os = objects_of u in
     let sound : AllByRecursion IsSound os = modules_sound u.modules accepted.assembled in
-    alone_is (layout_of os).globals (stood os) (all_sound first_text (first_data os) os sound)
+    alone_is (layout_of os).globals (stood section_size os) (all_sound first_text (first_data section_size os) os sound)
     (linkable_too u accepted.linkable).disjoint
 
 -- the image of a unit is that of its layout

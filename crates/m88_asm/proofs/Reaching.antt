@@ -12,14 +12,14 @@ use Rattle.m88_link.specs.declared.fault.LinkFault.{LinkFault}
 use Rattle.m88_link.specs.declared.object.Reloc.{Reloc}
 use Rattle.m88_link.specs.declared.object.Symbol.{Symbol}
 use Rattle.m88_base.specs.Pages.{page_bytes}
-use Rattle.m88_link.specs.Bases.{first_text, up_to_multiple}
+use Rattle.m88_link.specs.Bases.{Placement, first_text, stood_from, text_end, up_to_multiple}
 use Rattle.m88_link.specs.Field.{is_in_reach}
 use Rattle.m88_link.specs.Layout.{Extent, Layout, Reference, layout_of, reference}
 use Rattle.m88_link.specs.Linked.{IsLinked}
 use Rattle.m88_link.specs.Refusal.{IsLinkable, IsRefused, duplicate, first_fault, too_far, too_far_in, undefined, undefined_in}
 use Rattle.m88_link.specs.Symbols.{symbol_meaning}
 use Rattle.m88_asm.specs.Objects.{lines_in, objects_of, symbols_in, symbol_uses}
-use Rattle.m88_asm.specs.Units.{Based, base_in, based, based_from, end_of_text, references_in, section_length, unit_layout, value_in_module}
+use Rattle.m88_asm.specs.Units.{base_in, based, references_in, section_length, unit_layout, value_in_module}
 use Rattle.m88_asm.proofs.Composing.{CanFill, CanReach, EachBased, extents_law, globals_law, references_law, spots_law}
 use Rattle.m88_asm.proofs.Relocating.{AreInReach}
 
@@ -39,15 +39,15 @@ one_reaches : (base : ℕ → ℕ) (r : Reloc) (meaning : Option ℕ)
 one_reaches base r None u f = cc
 one_reaches base r (Some v) u f = no_fault_else _ _ f
 
-uses_reach : (globals : List Symbol) (b : Based) (us : List Reloc)
-    → undefined (map (reference globals (base_in b) (symbols_in b.source)) us) ≡ None
-    → too_far (map (reference globals (base_in b) (symbols_in b.source)) us) ≡ None
+uses_reach : (globals : List Symbol) (b : Placement Module) (us : List Reloc)
+    → undefined (map (reference globals (base_in b) (symbols_in b.part)) us) ≡ None
+    → too_far (map (reference globals (base_in b) (symbols_in b.part)) us) ≡ None
     → AreInReach (value_in_module globals b) (base_in b) us
 uses_reach globals b [] u f = tt
 uses_reach globals b (r ∷ us) u f =
     let p = option_or-none _ _ u in
     let q = option_or-none _ _ f in
-    (one_reaches (base_in b) r (symbol_meaning globals (base_in b) (symbols_in b.source) r.symbol) p.0 q.0, uses_reach globals b us p.1 q.1)
+    (one_reaches (base_in b) r (symbol_meaning globals (base_in b) (symbols_in b.part) r.symbol) p.0 q.0, uses_reach globals b us p.1 q.1)
 
 first_fault-append : {A : Type 0} (f : A → Option LinkFault) (xs ys : List A) → first_fault f (xs ++ ys) ≡ None → (first_fault f xs ≡ None) × (first_fault f ys ≡ None)
 first_fault-append f [] ys h = (refl, h)
@@ -56,20 +56,20 @@ first_fault-append f (x ∷ xs) ys h =
     let q = first_fault-append f xs ys p.1 in
     (ap (λ o. option_or o (first_fault f xs)) p.0 ∙ q.0, q.1)
 
-each_reaches : (globals : List Symbol) (bs : List Based) → undefined (flat_map (references_in globals) bs) ≡ None
+each_reaches : (globals : List Symbol) (bs : List (Placement Module)) → undefined (flat_map (references_in globals) bs) ≡ None
     → too_far (flat_map (references_in globals) bs) ≡ None → EachBased (CanReach globals) bs
 each_reaches globals [] u f = tt
 each_reaches globals (b ∷ bs) u f =
     let p = first_fault-append undefined_in (references_in globals b) (flat_map (references_in globals) bs) u in
     let q = first_fault-append too_far_in (references_in globals b) (flat_map (references_in globals) bs) f in
-    (uses_reach globals b (flat_map symbol_uses (lines_in b.source)) p.0 q.0, each_reaches globals bs p.1 q.1)
+    (uses_reach globals b (flat_map symbol_uses (lines_in b.part)) p.0 q.0, each_reaches globals bs p.1 q.1)
 
-each_formed : (text datas : ℕ) (ms : List Module) → All IsFormedModule ms → EachBased (λ b. IsFormedModule b.source) (based_from text datas ms)
+each_formed : (text datas : ℕ) (ms : List Module) → All IsFormedModule ms → EachBased (λ b. IsFormedModule b.part) (stood_from section_length text datas ms)
 each_formed text datas [] h = tt
 each_formed text datas (m ∷ ms) h =
     (h 0 m (omega arith), each_formed (up_to_multiple 8 text + section_length 0 m) (up_to_multiple 8 datas + section_length 1 m) ms (λ k d l. h (suc k) d (omega arith)))
 
-both_each : (P Q : Based → Type 0) (bs : List Based) → EachBased P bs → EachBased Q bs → EachBased (λ b. P b × Q b) bs
+both_each : (P Q : Placement Module → Type 0) (bs : List (Placement Module)) → EachBased P bs → EachBased Q bs → EachBased (λ b. P b × Q b) bs
 both_each P Q [] p q = tt
 both_each P Q (b ∷ bs) p q = ((p.0, q.0), both_each P Q bs p.1 q.1)
 
@@ -107,8 +107,8 @@ each_fills u w h =
     let l = unit_layout u in
     let p = option_or-none (duplicate l.globals) (option_or (undefined l.references) (too_far l.references)) h.named in
     let q = option_or-none (undefined l.references) (too_far l.references) p.1 in
-    both_each (λ b. IsFormedModule b.source) (CanReach l.globals) (based u)
-    (each_formed first_text (up_to_multiple page_bytes (end_of_text first_text u.modules)) u.modules w.each)
+    both_each (λ b. IsFormedModule b.part) (CanReach l.globals) (based u)
+    (each_formed first_text (up_to_multiple page_bytes (text_end section_length first_text u.modules)) u.modules w.each)
     (each_reaches l.globals (based u) q.0 q.1)
 
 pub layout_law : (u : Source) → IsWellFormed u → IsLinkable (layout_of (objects_of u)) → layout_of (objects_of u) ≡ unit_layout u

@@ -15,15 +15,17 @@ use Rattle.m88_link.specs.declared.object.Symbol.{Symbol}
 use Rattle.m88_asm.specs.Counters.{Located}
 use Rattle.m88_asm.specs.Filled.{resolved}
 use Rattle.m88_asm.specs.Objects.{lines_in}
-use Rattle.m88_asm.specs.Units.{Based, address_in, based, bytes_of, unit_layout, value_in_module}
+use Rattle.m88_link.specs.Bases.{Placement}
+use Rattle.m88_parse.specs.declared.unit.Module.{Module}
+use Rattle.m88_asm.specs.Units.{address_in, based, bytes_of, unit_layout, value_in_module}
 
 -- the bytes of a statement, its symbols replaced, from its address on
-abbrev pub run_of : List Symbol → Based → Located → Placed
+abbrev pub run_of : List Symbol → Placement Module → Located → Placed
 run_of globals b r = record { at = address_in b r; bytes = bytes_of globals b r }
 
 -- the bytes of the statements of a module
-abbrev pub runs_in : List Symbol → Based → List Placed
-runs_in globals b = map (run_of globals b) (lines_in b.source)
+abbrev pub runs_in : List Symbol → Placement Module → List Placed
+runs_in globals b = map (run_of globals b) (lines_in b.part)
 
 -- the byte that the statements of a unit give at an address
 abbrev pub unit_byte : Source → ℕ → Option ℕ
@@ -45,7 +47,7 @@ code_in value address (Code instr fixup) = Some (resolved value address instr fi
 code_in value address _ = None
 
 -- the instruction of a statement that stands at an address
-abbrev pub code_at : List Symbol → Based → ℕ → Located → Option Instr
+abbrev pub code_at : List Symbol → Placement Module → ℕ → Located → Option Instr
 code_at globals b address r =
     if address_in b r == address then code_in (value_in_module globals b) (address_in b r) r.statement.body else None
 
@@ -55,8 +57,8 @@ first_of find_in [] = None
 first_of find_in (x ∷ xs) = option_or (find_in x) (first_of find_in xs)
 
 -- the instruction of a statement of a module at an address
-abbrev pub module_code : List Symbol → ℕ → Based → Option Instr
-module_code globals address b = first_of (code_at globals b address) (lines_in b.source)
+abbrev pub module_code : List Symbol → ℕ → Placement Module → Option Instr
+module_code globals address b = first_of (code_at globals b address) (lines_in b.part)
 
 -- the instruction statement that is placed at an address, its symbol replaced
 abbrev pub placed_instruction : Source → ℕ → Option Instr

@@ -14,7 +14,7 @@ use Rattle.m88_parse.specs.declared.unit.Body.{Body}
 use Rattle.m88_parse.specs.declared.unit.Body.TheVariants.{Code}
 use Rattle.m88_parse.specs.declared.unit.Module.{Module}
 use Rattle.m88_parse.specs.declared.unit.Statement.{Statement}
-use Rattle.m88_link.specs.Bases.{first_text, up_to_multiple}
+use Rattle.m88_link.specs.Bases.{Placement, first_text, text_end, up_to_multiple}
 use Rattle.m88_link.specs.Layout.{Extent, Reference, reference}
 use Rattle.m88_link.specs.Refusal.{AreDisjoint, IsLinkable, covers, duplicate, hits, is_too_large, too_far, undefined}
 use Rattle.m88_link.specs.Symbols.{exported}
@@ -23,7 +23,7 @@ use Rattle.m88_link.specs.declared.object.Symbol.{Symbol}
 use Rattle.m88_asm.specs.Counters.{Counters, Located, after, at_begin, located}
 use Rattle.m88_asm.specs.Faults.{IsAssembled, fault_in, misfit_at, misplaced_at, module_fault, statements_fault, too_large_at}
 use Rattle.m88_asm.specs.Objects.{Head, first_heads, marked, symbol_uses, symbols_in, symbols_of}
-use Rattle.m88_asm.specs.Units.{Based, base_in, end_of_text, extents_in, extent_under, globals_in, references_in, section_length, unit_layout}
+use Rattle.m88_asm.specs.Units.{base_in, extent_under, extents_in, globals_in, references_in, section_length, unit_layout}
 use Rattle.m88_asm.specs.declared.fault.AsmFault.{AsmFault}
 use Rattle.m88_asm.specs.declared.fault.AsmKind.TheVariants as kind
 use Rattle.m88_disasm.specs.Read.{unlabelled}
@@ -158,11 +158,11 @@ none_used f c line (n ∷ ns) =
 abbrev main : (ℕ → Instr) → List ℕ → Module
 main f ns = record { name = codes "main"; line = 1; statements = numbered 1 (bodies_of f ns) }
 
-abbrev stood : (ℕ → Instr) → List ℕ → Based
+abbrev stood : (ℕ → Instr) → List ℕ → Placement Module
 stood f ns = record {
-  source = main f ns;
-  text = up_to_multiple 8 first_text;
-  datas = up_to_multiple 8 (up_to_multiple 4096 (end_of_text first_text (main f ns ∷ [])));
+  part = main f ns;
+  text_at = up_to_multiple 8 first_text;
+  data_at = up_to_multiple 8 (up_to_multiple 4096 (text_end section_length first_text (main f ns ∷ [])));
 }
 
 no_globals : (f : ℕ → Instr) (ns : List ℕ) → globals_in (stood f ns) ++ [] ≡ []
@@ -177,10 +177,10 @@ no_references f ns g =
 
 -- two sections, the second without bytes
 abbrev text_extent : (ℕ → Instr) → List ℕ → Extent
-text_extent f ns = record { at = (stood f ns).text; len = section_length 0 (main f ns); line = 1 }
+text_extent f ns = record { at = (stood f ns).text_at; len = section_length 0 (main f ns); line = 1 }
 
 abbrev data_extent : (ℕ → Instr) → List ℕ → Extent
-data_extent f ns = record { at = (stood f ns).datas; len = section_length 1 (main f ns); line = 1 }
+data_extent f ns = record { at = (stood f ns).data_at; len = section_length 1 (main f ns); line = 1 }
 
 two_extents : (f : ℕ → Instr) (ns : List ℕ)
     → extents_in (stood f ns) ++ [] ≡ text_extent f ns ∷ data_extent f ns ∷ []

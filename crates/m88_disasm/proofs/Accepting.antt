@@ -15,7 +15,8 @@ use Rattle.m88_asm.specs.declared.fault.AsmKind.TheVariants as kind
 use Rattle.m88_asm.specs.Counters.{Counters, Located, after, length_at, located, place_of}
 use Rattle.m88_asm.specs.Faults.{alignment_of, fault_in, misfit_at, misplaced_at, statements_fault, too_large_at}
 use Rattle.m88_asm.specs.Objects.{Head, heads_in, opened_by, opens, sets_at, symbols_of, symbol_uses}
-use Rattle.m88_asm.specs.Units.{Based, address_at}
+use Rattle.m88_link.specs.Bases.{Placement, base_at}
+use Rattle.m88_parse.specs.declared.unit.Module.{Module}
 use Rattle.m88_disasm.specs.Read.{unlabelled}
 use Rattle.m88_disasm.proofs.Bodies.{ArePieces, Data, Gives, PartsData, a_byte, a_code, a_word, more_data, more_parts, no_data, no_parts}
 use Rattle.m88_disasm.proofs.Rows.{numbered}
@@ -181,15 +182,15 @@ get_behind : (pre : List Head) (h : Head) (hs : List Head) → slice_get (pre ++
 get_behind [] h hs = refl
 get_behind (p ∷ pre) h hs = get_behind pre h hs
 
-pub bases_are : (d : Based) (n : ℕ) (pre hs : List Head) (runs : List Placed) → heads_in d.source ≡ pre ++ hs
+pub bases_are : (d : Placement Module) (n : ℕ) (pre hs : List Head) (runs : List Placed) → heads_in d.part ≡ pre ++ hs
     → length pre ≡ n
     → HeadsAre hs runs → Bases d n runs
 bases_are d n pre [] [] heads len are = tt
 bases_are d n pre (h ∷ hs) (run ∷ runs) heads len are =
-    let found : slice_get (heads_in d.source) n ≡ Some h =
-    ap (λ (k : ℕ). slice_get (heads_in d.source) k) (sym len)
+    let found : slice_get (heads_in d.part) n ≡ Some h =
+    ap (λ (k : ℕ). slice_get (heads_in d.part) k) (sym len)
     ∙ ap (λ (xs : List Head). slice_get xs (length pre)) heads ∙ get_behind pre h hs in (
-      ap (λ (o : Option Head). option_map_or (λ x. address_at d x.place) o 0) found ∙ ap (address_at d) are.0,
+      ap (λ (o : Option Head). option_map_or (λ x. base_at d x.place) o 0) found ∙ ap (base_at d) are.0,
       bases_are d (n + 1) (pre ++ h ∷ []) hs runs (heads ∙ sym (append_assoc pre (h ∷ []) hs))
           (length-append pre (h ∷ []) ∙ ap (λ (k : ℕ). k + 1) len) are.1,
     )

@@ -10,7 +10,7 @@ use Rattle.m88_base.specs.Placed.{AreApart, Placed, byte_among, count_among}
 use Rattle.m88_parse.specs.declared.unit.Body.{Body}
 use Rattle.m88_parse.specs.declared.unit.Body.TheVariants as body
 use Rattle.m88_parse.specs.declared.unit.Module.{Module}
-use Rattle.m88_link.specs.Bases.{first_text, up_to_multiple}
+use Rattle.m88_link.specs.Bases.{Placement, first_text, text_end, up_to_multiple}
 use Rattle.m88_link.specs.Layout.{Extent, Reference, reference}
 use Rattle.m88_link.specs.Linked.{start_address}
 use Rattle.m88_link.specs.Refusal.{AreDisjoint, IsLinkable, covers, duplicate, hits, is_too_large, too_far, undefined}
@@ -22,7 +22,7 @@ use Rattle.m88_asm.specs.Counters.{Counters, Located, after, at_begin, located}
 use Rattle.m88_asm.specs.Faults.{IsAssembled, module_fault, statements_fault}
 use Rattle.m88_asm.specs.Images.{run_of}
 use Rattle.m88_asm.specs.Objects.{Head, first_heads, heads_in, lines_in, marked, symbol_uses, symbols_in, symbols_of}
-use Rattle.m88_asm.specs.Units.{Based, base_in, end_of_text, extent_under, extents_in, globals_in, length_in, references_in, section_length, unit_layout}
+use Rattle.m88_asm.specs.Units.{base_in, extent_under, extents_in, globals_in, length_in, references_in, section_length, unit_layout}
 use Rattle.m88_disasm.specs.Listing.{IsListing, start_line}
 use Rattle.m88_disasm.specs.Read.{WritesImage, unlabelled}
 use Rattle.m88_disasm.proofs.Accepting.{AreFew, bases_are, defined_symbols, faults_cons, opened_in, opened_sections, parts_define, parts_faults, parts_heads, parts_use}
@@ -45,11 +45,11 @@ abbrev main : ℕ → List Body → Module
 main start bodies = record { name = codes "main"; line = 1; statements = numbered 1 (all_bodies start bodies) }
 
 -- where it stands
-abbrev stood : ℕ → List Body → Based
+abbrev stood : ℕ → List Body → Placement Module
 stood start bodies = record {
-  source = main start bodies;
-  text = up_to_multiple 8 first_text;
-  datas = up_to_multiple 8 (up_to_multiple 4096 (end_of_text first_text (main start bodies ∷ [])));
+  part = main start bodies;
+  text_at = up_to_multiple 8 first_text;
+  data_at = up_to_multiple 8 (up_to_multiple 4096 (text_end section_length first_text (main start bodies ∷ [])));
 }
 
 -- the counters behind the first statement
@@ -76,7 +76,7 @@ heads_are start bodies =
 bytes_are : (start : ℕ) (runs : List Placed) (bodies : List Body) (g : List Symbol) (a : ℕ) → PartsData runs bodies
     → byte_among (map (run_of g (stood start bodies)) (lines_in (main start bodies)) ++ []) a ≡ byte_among runs a
 bytes_are start runs bodies g a datas =
-    let d : Based = stood start bodies in
+    let d : Placement Module = stood start bodies in
     let bases : Bases d 2 runs = bases_are d 2 (first_heads 1) (opened_in 2 bodies) runs (heads_are start bodies)
     refl (parts_heads 2 runs bodies datas) in
     ap (λ (rs : List Placed). byte_among rs a) (append-nil (map (run_of g d) (lines_in (main start bodies))))
@@ -157,14 +157,14 @@ record Rooms (start : ℕ) (runs : List Placed) (bodies : List Body) : Type 0 wh
 
 rooms : (start : ℕ) (runs : List Placed) (bodies : List Body) → PartsData runs bodies → Rooms start runs bodies
 rooms start runs bodies datas =
-    let d : Based = stood start bodies in
+    let d : Placement Module = stood start bodies in
     let none : section_length 0 (main start bodies) ≡ 0 = lengths_are start 0 runs bodies datas
     ∙ no_room 2 0 runs (omega arith) in
-    let datas_at : d.datas ≡ 4096 =
+    let datas_at : d.data_at ≡ 4096 =
     ap (λ (n : ℕ). up_to_multiple 8 (up_to_multiple 4096 (up_to_multiple 8 first_text + n))) none in
     record {
-      first = record { at = d.text; len = section_length 0 (main start bodies); line = 1 };
-      second = record { at = d.datas; len = section_length 1 (main start bodies); line = 1 };
+      first = record { at = d.text_at; len = section_length 0 (main start bodies); line = 1 };
+      second = record { at = d.data_at; len = section_length 1 (main start bodies); line = 1 };
       others = map (extent_under d) (enumerate_from 2 (opened_in 2 bodies));
       extents =
           append-nil (extents_in d)
@@ -208,7 +208,7 @@ linkable : (start : ℕ) (runs : List Placed) (bodies : List Body) → ArePieces
     → count_among runs ≤ most_bytes
     → PartsData runs bodies → IsLinkable (unit_layout (unit_of_bodies (all_bodies start bodies)))
 linkable start runs bodies pieces apart few datas =
-    let d : Based = stood start bodies in
+    let d : Placement Module = stood start bodies in
     let g : List Symbol = globals_in d ++ [] in
     let r : Rooms start runs bodies = rooms start runs bodies datas in
     let uses : flat_map symbol_uses (lines_in (main start bodies)) ≡ [] =

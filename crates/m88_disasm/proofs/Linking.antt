@@ -12,7 +12,9 @@ use Rattle.m88_link.specs.Layout.{Extent}
 use Rattle.m88_link.specs.Refusal.{AreDisjoint, covers, hits}
 use Rattle.m88_asm.specs.Counters.{Counters, after, located}
 use Rattle.m88_asm.specs.Objects.{Head}
-use Rattle.m88_asm.specs.Units.{Based, address_at, extent_under, length_in, section_length}
+use Rattle.m88_link.specs.Bases.{Placement, base_at}
+use Rattle.m88_parse.specs.declared.unit.Module.{Module}
+use Rattle.m88_asm.specs.Units.{extent_under, length_in, section_length}
 use Rattle.m88_disasm.specs.Read.{unlabelled}
 use Rattle.m88_disasm.proofs.Accepting.{HeadsAre}
 use Rattle.m88_disasm.proofs.Bodies.{ArePieces, Data, Gives, PartsData, a_byte, a_code, a_word, more_data, more_parts, no_data, no_parts}
@@ -117,12 +119,12 @@ RoomsAre [] [] = Unit {0}
 RoomsAre (e ∷ es) (run ∷ runs) = (e.at ≡ run.at) × (e.len ≡ length run.bytes) × RoomsAre es runs
 RoomsAre _ _ = ⊥
 
-pub rooms_are : (d : Based) (n : ℕ) (hs : List Head) (runs : List Placed) → HeadsAre hs runs
-    → ((j : ℕ) → n ≤ j → section_length j d.source ≡ room n runs j)
+pub rooms_are : (d : Placement Module) (n : ℕ) (hs : List Head) (runs : List Placed) → HeadsAre hs runs
+    → ((j : ℕ) → n ≤ j → section_length j d.part ≡ room n runs j)
     → RoomsAre (map (extent_under d) (enumerate_from n hs)) runs
 rooms_are d n [] [] are lens = tt
 rooms_are d n (h ∷ hs) (run ∷ runs) are lens = (
-  ap (address_at d) are.0,
+  ap (base_at d) are.0,
   lens n (omega arith)
       ∙ ap (λ (t : Bool). where_same t (length run.bytes) + room (n + 1) runs n) (eq-eqb n n refl)
       ∙ (let e = no_room (n + 1) n runs (omega arith) in omega (arith, e)),

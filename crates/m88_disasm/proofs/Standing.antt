@@ -11,7 +11,9 @@ use Rattle.m88_parse.specs.declared.unit.Statement.{Statement}
 use Rattle.m88_link.specs.declared.object.Symbol.{Symbol}
 use Rattle.m88_asm.specs.Counters.{Counters, Located, after, located, put, with_length}
 use Rattle.m88_asm.specs.Images.{run_of}
-use Rattle.m88_asm.specs.Units.{Based, base_in}
+use Rattle.m88_link.specs.Bases.{Placement}
+use Rattle.m88_parse.specs.declared.unit.Module.{Module}
+use Rattle.m88_asm.specs.Units.{base_in}
 use Rattle.m88_disasm.specs.Read.{unlabelled}
 use Rattle.m88_disasm.proofs.Bodies.{Data, Gives, PartsData, a_byte, a_code, a_word, more_data, more_parts, no_data, no_parts}
 use Rattle.m88_disasm.proofs.Rows.{numbered}
@@ -92,7 +94,7 @@ pub fresh_behind : (c : Counters) (k at done : ℕ) → Stands c k at done → F
 fresh_behind c k at done s = record { count = s.count; empty = s.empty }
 
 -- bytes: what a statement gives is at the address of its section plus what that has
-run_is : (g : List Symbol) (d : Based) (c : Counters) (n : ℕ) (b : Body) (given : List ℕ) → Gives b given
+run_is : (g : List Symbol) (d : Placement Module) (c : Counters) (n : ℕ) (b : Body) (given : List ℕ) → Gives b given
     → run_of g d (record { before = c; statement = unlabelled n b })
     ≡ record { at = base_in d c.here + c.lengths c.here; bytes = given }
 run_is g d c n _ _ (a_code i) = refl
@@ -107,7 +109,7 @@ none_in at a =
     ]
 
 -- the bytes of a part, and what is found behind it
-data_bytes : (g : List Symbol) (d : Based) (a k at done : ℕ) (c : Counters) (n from : ℕ) (bytes : List ℕ)
+data_bytes : (g : List Symbol) (d : Placement Module) (a k at done : ℕ) (c : Counters) (n from : ℕ) (bytes : List ℕ)
     (own more : List Body)
     (found : Option ℕ) → base_in d k ≡ at → from ≡ at + done → Stands c k at done → Data from bytes own
     → ((e : Counters) (m : ℕ) → Stands e k at (done + length bytes)
@@ -143,11 +145,11 @@ data_bytes g d a k at done c n from bytes _ more found base begins s
     ∙ ap (λ (bs : List ℕ). option_or (byte_in (record { at = from; bytes = bs }) a) found) (sym bytes_are)
 
 -- sections from number n on begin where the parts do
-abbrev pub Bases : Based → ℕ → List Placed → Type 0
+abbrev pub Bases : Placement Module → ℕ → List Placed → Type 0
 Bases d n [] = Unit {0}
 Bases d n (run ∷ runs) = (base_in d n ≡ run.at) × Bases d (n + 1) runs
 
-pub parts_bytes : (g : List Symbol) (d : Based) (a : ℕ) (c : Counters) (n i : ℕ) (runs : List Placed)
+pub parts_bytes : (g : List Symbol) (d : Placement Module) (a : ℕ) (c : Counters) (n i : ℕ) (runs : List Placed)
     (bodies : List Body)
     → Bases d n runs → Fresh c n → PartsData runs bodies
     → byte_among (map (run_of g d) (located c (numbered i bodies))) a ≡ byte_among runs a

@@ -13,6 +13,7 @@ use Rattle.m88_link.specs.declared.object.Reloc.{Reloc}
 use Rattle.m88_link.specs.declared.object.Section.{Section}
 use Rattle.m88_link.specs.declared.object.Symbol.{Symbol}
 use Rattle.m88_link.specs.Bases.{Placement, base_at, base_of}
+use Rattle.m88_link.specs.declared.object.Object.{Object}
 use Rattle.m88_link.specs.Inside.Carried.{HasWord, unpatched, carried, numbered, patched_in, patched_spot}
 use Rattle.m88_link.specs.Field.{patched_word}
 use Rattle.m88_link.specs.Layout.{spot, spots_of, value_of_name}
@@ -94,24 +95,24 @@ after_is value base k at (r ∷ rs) bytes e = by (r.section == k) (λ changed. a
         ∙ ap (λ n. record { at = at; bytes = relocated value base k rs (patched r.kind bytes r.offset (target_of value r) (n + r.offset)) }) (sym e)
     by false rest = rest bytes
 
-each_spot : (globals : List Symbol) (s : Placement) (xs : List Section) (n : ℕ)
+each_spot : (globals : List Symbol) (s : Placement Object) (xs : List Section) (n : ℕ)
     → ((j : ℕ) (x : Section) → slice_get xs j ≡ Some x → base_of s (n + j) ≡ base_at s x.place)
-    → numbered (λ k p. after (target_of (value_of_name globals s)) k s.object.relocs p) n (map (unpatched s) xs)
+    → numbered (λ k p. after (target_of (value_of_name globals s)) k s.part.relocs p) n (map (unpatched s) xs)
     ≡ map (λ e. spot globals s e.0 e.1) (enumerate_from n xs)
 each_spot globals s [] n h = refl
 each_spot globals s (x ∷ xs) n h =
     let here : base_of s n ≡ base_at s x.place = ap (λ k. base_of s k) (sym (add-zero n)) ∙ h 0 x refl in
-    ap (λ p. p ∷ numbered (λ k p. after (target_of (value_of_name globals s)) k s.object.relocs p) (n + 1) (map (unpatched s) xs))
-    (after_is (value_of_name globals s) (base_of s) n (base_at s x.place) s.object.relocs x.bytes here)
+    ap (λ p. p ∷ numbered (λ k p. after (target_of (value_of_name globals s)) k s.part.relocs p) (n + 1) (map (unpatched s) xs))
+    (after_is (value_of_name globals s) (base_of s) n (base_at s x.place) s.part.relocs x.bytes here)
     ∙ ap (λ l. spot globals s n x ∷ l)
     (each_spot globals s xs (n + 1) (λ j y e. let k : n + 1 + j ≡ n + suc j = omega arith in ap (λ m. base_of s m) k ∙ h (suc j) y e))
 
 -- the sections of an object with its relocations carried out are those of its layout
-pub carried_is : (globals : List Symbol) (s : Placement)
-    → carried (target_of (value_of_name globals s)) s.object.relocs (map (unpatched s) s.object.sections) ≡ spots_of globals s
+pub carried_is : (globals : List Symbol) (s : Placement Object)
+    → carried (target_of (value_of_name globals s)) s.part.relocs (map (unpatched s) s.part.sections) ≡ spots_of globals s
 carried_is globals s =
-    carried_each (target_of (value_of_name globals s)) s.object.relocs (map (unpatched s) s.object.sections)
-    ∙ each_spot globals s s.object.sections 0
+    carried_each (target_of (value_of_name globals s)) s.part.relocs (map (unpatched s) s.part.sections)
+    ∙ each_spot globals s s.part.sections 0
     (λ j x e.
     let k : 0 + j ≡ j = omega arith in
     ap (λ m. base_of s m) k ∙ ap (λ o. option_map_or (λ (y : Section). base_at s y.place) o 0) e)
@@ -136,14 +137,14 @@ word_kept spots i target r own p e within h =
     kept spots i r.section r.offset p (patched_spot own target p) e
     (patched_length own.kind p.bytes own.offset target (p.at + own.offset) within) h
 
-bare_word : (s : Placement) (xs : List Section) (m offset : ℕ) → IsSomeAnd (slice_get xs m) (λ x. (offset + 4 ≤ length x.bytes) × ((origin x.place + offset) % 4 ≡ 0))
+bare_word : (s : Placement Object) (xs : List Section) (m offset : ℕ) → IsSomeAnd (slice_get xs m) (λ x. (offset + 4 ≤ length x.bytes) × ((origin x.place + offset) % 4 ≡ 0))
     → IsSomeAnd (slice_get (map (unpatched s) xs) m) (λ q. offset + 4 ≤ length q.bytes)
 bare_word s [] m offset h = h
 bare_word s (x ∷ xs) zero offset h = h.0
 bare_word s (x ∷ xs) (suc m) offset h = bare_word s xs m offset h
 
 -- the sections of an object have the words of its relocations
-pub has_words : (s : Placement) (xs : List Section) (rs : List Reloc) → All (IsPatchIn xs) rs → All (HasWord (map (unpatched s) xs)) rs
+pub has_words : (s : Placement Object) (xs : List Section) (rs : List Reloc) → All (IsPatchIn xs) rs → All (HasWord (map (unpatched s) xs)) rs
 has_words s xs rs h = All-weaker (IsPatchIn xs) (HasWord (map (unpatched s) xs)) (λ r k. bare_word s xs r.section r.offset k) rs h
 
 -- the relocation at a place is carried out before those behind it

@@ -53,27 +53,27 @@ spot_room p = (p.at, length p.bytes)
 abbrev extent_room : Extent → ℕ × ℕ
 extent_room e = (e.at, e.len)
 
-each_room : (globals : List Symbol) (s : Placement) (xs : List Section) (n : ℕ)
-    → ((j : ℕ) (x : Section) → slice_get xs j ≡ Some x → LieIn (n + j) (length x.bytes) s.object.relocs)
+each_room : (globals : List Symbol) (s : Placement Object) (xs : List Section) (n : ℕ)
+    → ((j : ℕ) (x : Section) → slice_get xs j ≡ Some x → LieIn (n + j) (length x.bytes) s.part.relocs)
     → map spot_room (map (λ e. spot globals s e.0 e.1) (enumerate_from n xs)) ≡ map extent_room (map (extent s) xs)
 each_room globals s [] n h = refl
 each_room globals s (x ∷ xs) n h =
-    let here : LieIn n (length x.bytes) s.object.relocs = subst (λ k. LieIn k (length x.bytes) s.object.relocs) (add-zero n) (h 0 x refl) in
-    let len = relocated_length (value_of_name globals s) (base_of s) n (length x.bytes) s.object.relocs x.bytes refl here in
+    let here : LieIn n (length x.bytes) s.part.relocs = subst (λ k. LieIn k (length x.bytes) s.part.relocs) (add-zero n) (h 0 x refl) in
+    let len = relocated_length (value_of_name globals s) (base_of s) n (length x.bytes) s.part.relocs x.bytes refl here in
     ap (λ m. ((spot globals s n x).at, m) ∷ map spot_room (map (λ e. spot globals s e.0 e.1) (enumerate_from (n + 1) xs))) len
     ∙ ap (λ l. extent_room (extent s x) ∷ l)
-    (each_room globals s xs (n + 1) (λ j y e. let k : n + suc j ≡ n + 1 + j = omega arith in subst (λ m. LieIn m (length y.bytes) s.object.relocs) k (h (suc j) y e)))
+    (each_room globals s xs (n + 1) (λ j y e. let k : n + suc j ≡ n + 1 + j = omega arith in subst (λ m. LieIn m (length y.bytes) s.part.relocs) k (h (suc j) y e)))
 
-rooms_of : (globals : List Symbol) (s : Placement) → IsSound s.object → map spot_room (spots_of globals s) ≡ map extent_room (extents_of s)
+rooms_of : (globals : List Symbol) (s : Placement Object) → IsSound s.part → map spot_room (spots_of globals s) ≡ map extent_room (extents_of s)
 rooms_of globals s sound =
-    each_room globals s s.object.sections 0
+    each_room globals s s.part.sections 0
     (λ j x e.
     let k : j ≡ 0 + j = omega arith in
-    subst (λ m. LieIn m (length x.bytes) s.object.relocs) k
-    (lie_in s.object.sections j x s.object.relocs e (recursion_from_All (IsPatchIn s.object.sections) s.object.relocs sound.relocs)))
+    subst (λ m. LieIn m (length x.bytes) s.part.relocs) k
+    (lie_in s.part.sections j x s.part.relocs e (recursion_from_All (IsPatchIn s.part.sections) s.part.relocs sound.relocs)))
 
 -- the sections of all objects take the addresses of their rooms
-same_rooms : (globals : List Symbol) (ss : List Placement) → AllByRecursion (λ s. IsSound s.object) ss
+same_rooms : (globals : List Symbol) (ss : List (Placement Object)) → AllByRecursion (λ s. IsSound s.part) ss
     → map spot_room (flat_map (spots_of globals) ss) ≡ map extent_room (flat_map extents_of ss)
 same_rooms globals [] sound = refl
 same_rooms globals (s ∷ ss) sound =
@@ -91,7 +91,7 @@ sum_by-map f g (x ∷ xs) =
 abbrev room_at : ℕ → ℕ × ℕ → ℕ
 room_at a r = cond (nat_le r.0 a && nat_lt a (r.0 + r.1)) 1 0
 
-pub alone_is : (globals : List Symbol) (ss : List Placement) → AllByRecursion (λ s. IsSound s.object) ss
+pub alone_is : (globals : List Symbol) (ss : List (Placement Object)) → AllByRecursion (λ s. IsSound s.part) ss
     → AreDisjoint (flat_map extents_of ss) → AreAlone (flat_map (spots_of globals) ss)
 alone_is globals ss sound h = λ a.
     let spots = flat_map (spots_of globals) ss in
@@ -100,14 +100,14 @@ alone_is globals ss sound h = λ a.
     sym (sum_by-map (room_at a) spot_room spots) ∙ ap (λ l. sum_by (room_at a) l) (same_rooms globals ss sound) ∙ sum_by-map (room_at a) extent_room extents in
     omega (arith, same, h a)
 
-pub bytes_are : (globals : List Symbol) (ss : List Placement) → AllByRecursion (λ s. IsSound s.object) ss
+pub bytes_are : (globals : List Symbol) (ss : List (Placement Object)) → AllByRecursion (λ s. IsSound s.part) ss
     → count_among (flat_map (spots_of globals) ss) ≡ sum_by (λ (e : Extent). e.len) (flat_map extents_of ss)
 bytes_are globals ss sound =
     let count : ℕ × ℕ → ℕ = λ r. r.1 in
     sym (sum_by-map count spot_room (flat_map (spots_of globals) ss)) ∙ ap (λ l. sum_by count l) (same_rooms globals ss sound)
     ∙ sum_by-map count extent_room (flat_map extents_of ss)
 
-pub all_sound : (text datas : ℕ) (os : List Object) → AllByRecursion IsSound os → AllByRecursion (λ s. IsSound s.object) (stood_from text datas os)
+pub all_sound : (text datas : ℕ) (os : List Object) → AllByRecursion IsSound os → AllByRecursion (λ s. IsSound s.part) (stood_from section_size text datas os)
 all_sound text datas [] h = tt
 all_sound text datas (o ∷ os) h =
     (h.0, all_sound (up_to_multiple 8 text + section_size 0 o) (up_to_multiple 8 datas + section_size 1 o) os h.1)

@@ -27,22 +27,22 @@ sizes_fit k objects h = omega (arith, sum_by-le-sum_by (section_size k) object_s
 
 -- the end of the text behind one more object
 pub text_end_more : (end : ℕ) (objects : List Object) (i : ℕ) (o : Object) → i < length objects → o ≡ get_or objects i o
-    → text_end end (drop i objects) ≡ text_end (up_to_multiple 8 end + section_size 0 o) (drop (i + 1) objects)
+    → text_end section_size end (drop i objects) ≡ text_end section_size (up_to_multiple 8 end + section_size 0 o) (drop (i + 1) objects)
 text_end_more end objects i o h e =
-    ap (λ l. text_end end l) (drop_more objects i o h ∙ ap (λ y. y ∷ drop (i + 1) objects) (sym e))
+    ap (λ l. text_end section_size end l) (drop_more objects i o h ∙ ap (λ y. y ∷ drop (i + 1) objects) (sym e))
 
 -- the object at a place stands at the next multiples of 8, and those behind it from its ends on
 pub stood_more : (text datas : ℕ) (objects : List Object) (i : ℕ) (o : Object) → i < length objects → o ≡ get_or objects i o
-    → stood_from text datas (drop i objects)
-    ≡ record { object = o; text_at = up_to_multiple 8 text; data_at = up_to_multiple 8 datas }
-    ∷ stood_from (up_to_multiple 8 text + section_size 0 o) (up_to_multiple 8 datas + section_size 1 o) (drop (i + 1) objects)
+    → stood_from section_size text datas (drop i objects)
+    ≡ record { part = o; text_at = up_to_multiple 8 text; data_at = up_to_multiple 8 datas }
+    ∷ stood_from section_size (up_to_multiple 8 text + section_size 0 o) (up_to_multiple 8 datas + section_size 1 o) (drop (i + 1) objects)
 stood_more text datas objects i o h e =
-    ap (λ l. stood_from text datas l) (drop_more objects i o h ∙ ap (λ y. y ∷ drop (i + 1) objects) (sym e))
+    ap (λ l. stood_from section_size text datas l) (drop_more objects i o h ∙ ap (λ y. y ∷ drop (i + 1) objects) (sym e))
 
 -- each section of a sound object ends at or below 2 ^ 32, where its text and its data do
-pub sections_fit : (s : Placement) → IsSound s.object → s.text_at + section_size 0 s.object ≤ 2 ^ 32 → s.data_at + section_size 1 s.object ≤ 2 ^ 32
-    → All (λ x. base_at s x.place + length x.bytes ≤ 2 ^ 32) s.object.sections
-sections_fit s sound text datas = by s.object.sections sound.sections sound.room text datas
+pub sections_fit : (s : Placement Object) → IsSound s.part → s.text_at + section_size 0 s.part ≤ 2 ^ 32 → s.data_at + section_size 1 s.part ≤ 2 ^ 32
+    → All (λ x. base_at s x.place + length x.bytes ≤ 2 ^ 32) s.part.sections
+sections_fit s sound text datas = by s.part.sections sound.sections sound.room text datas
   where
     own : (x : Section) → IsOwnAddress x.place → HasRoom x → base_at s x.place + length x.bytes ≤ 2 ^ 32
     own x here room = at x.place here room.1
@@ -68,7 +68,7 @@ sections_fit s sound text datas = by s.object.sections sound.sections sound.room
         All-from_recursion (λ z. base_at s z.place + length z.bytes ≤ 2 ^ 32) (x ∷ y ∷ ys)
         (rw h.0 t, (rw h.1 d, others ys (recursion_from_All (λ z. IsOwnAddress z.place) ys h.2) rest.1.1))
 
-word_within : (s : Placement) (xs : List Section) (k offset : ℕ) → AllByRecursion (λ x. base_at s x.place + length x.bytes ≤ 2 ^ 32) xs
+word_within : (s : Placement Object) (xs : List Section) (k offset : ℕ) → AllByRecursion (λ x. base_at s x.place + length x.bytes ≤ 2 ^ 32) xs
     → IsSomeAnd (slice_get xs k) (λ x. (offset + 4 ≤ length x.bytes) × ((origin x.place + offset) % 4 ≡ 0))
     → option_map_or (λ x. base_at s x.place) (slice_get xs k) 0 + offset + 4 ≤ 2 ^ 32
 word_within s [] k offset all h = absurd h
@@ -76,8 +76,8 @@ word_within s (x ∷ xs) zero offset all h = omega (arith, all.0, h.0)
 word_within s (x ∷ xs) (suc k) offset all h = word_within s xs k offset all.1 h
 
 -- the word of a relocation of a sound object ends at or below 2 ^ 32
-pub word_fits : (s : Placement) (r : Reloc) → IsSound s.object → s.text_at + section_size 0 s.object ≤ 2 ^ 32 → s.data_at + section_size 1 s.object ≤ 2 ^ 32
-    → IsPatchIn s.object.sections r → base_of s r.section + r.offset + 4 ≤ 2 ^ 32
+pub word_fits : (s : Placement Object) (r : Reloc) → IsSound s.part → s.text_at + section_size 0 s.part ≤ 2 ^ 32 → s.data_at + section_size 1 s.part ≤ 2 ^ 32
+    → IsPatchIn s.part.sections r → base_of s r.section + r.offset + 4 ≤ 2 ^ 32
 word_fits s r sound text datas h =
-    word_within s s.object.sections r.section r.offset
-    (recursion_from_All (λ x. base_at s x.place + length x.bytes ≤ 2 ^ 32) s.object.sections (sections_fit s sound text datas)) h
+    word_within s s.part.sections r.section r.offset
+    (recursion_from_All (λ x. base_at s x.place + length x.bytes ≤ 2 ^ 32) s.part.sections (sections_fit s sound text datas)) h

@@ -10,7 +10,7 @@ use Rattle.m88_link.specs.declared.object.Object.{Object}
 use Rattle.m88_link.specs.declared.object.Reloc.{Reloc}
 use Rattle.m88_link.specs.declared.object.Section.{Section}
 use Rattle.m88_link.specs.declared.object.Symbol.{Symbol}
-use Rattle.m88_link.specs.Bases.{Placement, base_at, base_of, stood}
+use Rattle.m88_link.specs.Bases.{Placement, base_at, base_of, section_size, stood}
 use Rattle.m88_link.specs.Relocated.{relocated}
 use Rattle.m88_link.specs.Symbols.{exported, symbol_meaning}
 
@@ -53,38 +53,38 @@ reference globals base symbols r = record {
 }
 
 -- the global definitions of an object
-abbrev pub globals_of : Placement → List Symbol
-globals_of p = exported (base_of p) p.object.symbols
+abbrev pub globals_of : Placement Object → List Symbol
+globals_of p = exported (base_of p) p.part.symbols
 
 -- the uses of symbols in an object
-abbrev pub references_of : List Symbol → Placement → List Reference
-references_of globals p = map (reference globals (base_of p) p.object.symbols) p.object.relocs
+abbrev pub references_of : List Symbol → Placement Object → List Reference
+references_of globals p = map (reference globals (base_of p) p.part.symbols) p.part.relocs
 
 -- the room of a section of an object
-abbrev pub extent : Placement → Section → Extent
+abbrev pub extent : Placement Object → Section → Extent
 extent p x = record { at = base_at p x.place; len = length x.bytes; line = x.line }
 
 -- the room of the sections of an object
-abbrev pub extents_of : Placement → List Extent
-extents_of p = map (extent p) p.object.sections
+abbrev pub extents_of : Placement Object → List Extent
+extents_of p = map (extent p) p.part.sections
 
 -- the value of a name in an object, 0 where it means nothing
-abbrev pub value_of_name : List Symbol → Placement → List ℕ → ℕ
-value_of_name globals p name = unwrap_or (symbol_meaning globals (base_of p) p.object.symbols name) 0
+abbrev pub value_of_name : List Symbol → Placement Object → List ℕ → ℕ
+value_of_name globals p name = unwrap_or (symbol_meaning globals (base_of p) p.part.symbols name) 0
 
 -- the bytes of section k of an object
-abbrev pub spot : List Symbol → Placement → ℕ → Section → Placed
+abbrev pub spot : List Symbol → Placement Object → ℕ → Section → Placed
 spot globals p k x = record {
   at = base_at p x.place;
-  bytes = relocated (value_of_name globals p) (base_of p) k p.object.relocs x.bytes;
+  bytes = relocated (value_of_name globals p) (base_of p) k p.part.relocs x.bytes;
 }
 
 -- the bytes of the sections of an object
-abbrev pub spots_of : List Symbol → Placement → List Placed
-spots_of globals p = map (λ e. spot globals p e.0 e.1) (enumerate_from 0 p.object.sections)
+abbrev pub spots_of : List Symbol → Placement Object → List Placed
+spots_of globals p = map (λ e. spot globals p e.0 e.1) (enumerate_from 0 p.part.sections)
 
 -- the layout of objects that stand somewhere
-abbrev pub layout_at : List Placement → Layout
+abbrev pub layout_at : List (Placement Object) → Layout
 layout_at placements = record {
   spots = flat_map (spots_of (flat_map globals_of placements)) placements;
   globals = flat_map globals_of placements;
@@ -94,4 +94,4 @@ layout_at placements = record {
 
 -- the layout of objects
 abbrev pub layout_of : List Object → Layout
-layout_of objects = layout_at (stood objects)
+layout_of objects = layout_at (stood section_size objects)

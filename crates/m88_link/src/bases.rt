@@ -26,11 +26,12 @@ impl<'a> Model for Placement<'a> {
     ghost use Rattle.std.specs.Prelude.{◌+◌, ◌^◌, ◌≤◌};
     ghost use Rattle.m88_link.specs.Bases.{Placement as PlacementValue, section_size};
     ghost use Rattle.m88_link.specs.Sound.{IsSound};
+    ghost use Rattle.m88_link.specs.declared.object.Object.{Object as ObjectValue};
 
-    ghost Value = { PlacementValue };
+    ghost Value = { PlacementValue ObjectValue };
 
     ghost view = { λ p. record {
-      object = p.object.now;
+      part = p.object.now;
       text_at = p.text_at;
       data_at = p.data_at;
     } };
@@ -44,8 +45,8 @@ impl Placement<'_> {
     /// The sections of the object.
     #[tactic(auto, using(crate::proofs::Stood::sections_fit))]
     pub fn sections(&self) -> &[Section]
-        ensures value { result.now ≡ self.now.object.sections }
-        ensures sound { IsSound self.now.object }
+        ensures value { result.now ≡ self.now.part.sections }
+        ensures sound { IsSound self.now.part }
         ensures fit { All (λ x. base_at self.now x.place + length x.bytes ≤ 2 ^ 32) result.now }
     {
         self.object.sections.as_slice()
@@ -53,16 +54,16 @@ impl Placement<'_> {
 
     /// The symbols of the object.
     pub fn symbols(&self) -> &[Symbol]
-        ensures value { result.now ≡ self.now.object.symbols }
-        ensures sound { IsSound self.now.object }
+        ensures value { result.now ≡ self.now.part.symbols }
+        ensures sound { IsSound self.now.part }
     {
         self.object.symbols.as_slice()
     }
 
     /// The relocations of the object.
     pub fn relocs(&self) -> &[Reloc]
-        ensures value { result.now ≡ self.now.object.relocs }
-        ensures sound { IsSound self.now.object }
+        ensures value { result.now ≡ self.now.part.relocs }
+        ensures sound { IsSound self.now.part }
     {
         self.object.relocs.as_slice()
     }
@@ -91,7 +92,7 @@ impl Placement<'_> {
     /// The address of the word of a relocation of the object.
     #[tactic(auto, using(crate::proofs::Stood::word_fits))]
     pub fn address(&self, reloc: &Reloc) -> u32
-        requires { IsPatchIn self.now.object.sections reloc.now }
+        requires { IsPatchIn self.now.part.sections reloc.now }
         ensures { result ≡ base_of self.now reloc.now.section + reloc.now.offset }
     {
         // Reading a field brings what every placement keeps to the proof: the sum fits.
@@ -151,7 +152,7 @@ fn section_size(object: &Object, index: usize) -> usize
 #[tactic(auto, using(crate::proofs::Stood::text_end_more, crate::proofs::Stood::sizes_fit))]
 fn text_end(objects: &[Object]) -> u32
     requires { total_size objects.now ≤ most_bytes }
-    ensures value { result ≡ text_end first_text objects.now }
+    ensures value { result ≡ text_end section_size first_text objects.now }
     ensures bound { result ≤ first_text + 8 * most_bytes }
 {
     let mut end = FIRST_TEXT;
@@ -166,7 +167,7 @@ fn text_end(objects: &[Object]) -> u32
 pub fn stand<'a>(alloc: Global, objects: &'a [Object]) -> Result<Vec<Placement<'a>>, AllocError>
     requires sound { All IsSound objects.now }
     requires size { total_size objects.now ≤ most_bytes }
-    ensures { IfOk result (λ placements. placements.items ≡ stood objects.now) }
+    ensures { IfOk result (λ placements. placements.items ≡ stood section_size objects.now) }
 {
     let mut placements = Vec::new(alloc);
     let mut text_at = FIRST_TEXT;

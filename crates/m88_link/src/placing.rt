@@ -126,7 +126,7 @@ fn carry_out(
     own: &SymbolTable,
     relocs: &[Reloc],
 )
-    requires own { own.now ≡ placement.now.object.symbols }
+    requires own { own.now ≡ placement.now.part.symbols }
     requires words { All (HasWord spots.old.items) relocs.now }
     ensures { spots.new.items
         ≡ carried (target_of (value_of_name globals.now placement.now)) relocs.now spots.old.items }

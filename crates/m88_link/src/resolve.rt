@@ -78,7 +78,7 @@ pub fn target(
     own: &SymbolTable,
     reloc: &Reloc,
 ) -> Option<u32>
-    requires { own.now ≡ placement.now.object.symbols }
+    requires { own.now ≡ placement.now.part.symbols }
     ensures known { result
         ≡ (reference globals.now (base_of placement.now) own.now reloc.now).target }
     ensures value { unwrap_or result reloc.now.addend
@@ -98,8 +98,8 @@ fn check_all(
     own: &SymbolTable,
     relocs: &[Reloc],
 ) -> Result<(), LinkFault>
-    requires own { own.now ≡ placement.now.object.symbols }
-    requires sound { All (IsPatchIn placement.now.object.sections) relocs.now }
+    requires own { own.now ≡ placement.now.part.symbols }
+    requires sound { All (IsPatchIn placement.now.part.sections) relocs.now }
     ensures { Checks globals.now placement.now relocs.now far.old far.new result }
 {
     for reloc in relocs {
@@ -121,8 +121,8 @@ fn check(
     own: &SymbolTable,
     reloc: &Reloc,
 ) -> Result<(), LinkFault>
-    requires own { own.now ≡ placement.now.object.symbols }
-    requires sound { IsPatchIn placement.now.object.sections reloc.now }
+    requires own { own.now ≡ placement.now.part.symbols }
+    requires sound { IsPatchIn placement.now.part.sections reloc.now }
     ensures { Checks globals.now placement.now (reloc.now ∷ []) far.old far.new result }
 {
     let Some(target) = target(globals, placement, own, reloc) else {

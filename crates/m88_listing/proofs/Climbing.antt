@@ -14,9 +14,9 @@ use Rattle.m88_parse.specs.Language.Units as units
 use Rattle.m88_parse.specs.declared.unit.Module.{Module}
 use Rattle.m88_parse.specs.declared.unit.Statement.{Statement}
 use Rattle.m88_parse.specs.declared.unit.Unit.{Unit as Source}
-use Rattle.m88_link.specs.Bases.{up_to_multiple}
+use Rattle.m88_link.specs.Bases.{Placement, stood_from, up_to_multiple}
 use Rattle.m88_asm.specs.Counters.{Counters, Located, after, at_begin, length_of}
-use Rattle.m88_asm.specs.Units.{Based, address_in, based, based_from, section_length}
+use Rattle.m88_asm.specs.Units.{address_in, based, section_length}
 use Rattle.m88_listing.specs.Columns.{bare_line}
 use Rattle.m88_listing.specs.Rows.{Row, is_counted, lines_with, row_on, row_lines}
 use Rattle.m88_listing.specs.Inside.Slots.{kept_row, slots_from, slots_of, walked}
@@ -81,7 +81,7 @@ lower_slots : (low from to : ℕ) (ss : List Slot) → low ≤ from → SlotsCli
 lower_slots low from to [] l h = tt
 lower_slots low from to (s ∷ ss) l h = (omega (arith, l, h.0), h.1, h.2)
 
-from_climb : (b : Based) (c : Counters) (xs : List Statement) (from to : ℕ) (rest : List ℕ) (more : List Slot)
+from_climb : (b : Placement Module) (c : Counters) (xs : List Statement) (from to : ℕ) (rest : List ℕ) (more : List Slot)
     → Climb from to (line_numbers xs ++ rest) → ((f : ℕ) → Climb f to rest → SlotsClimb f to more) → SlotsClimb from to (slots_from b c xs ++ more)
 unfolding line_numbers
 from_climb b c [] from to rest more h next = next from h
@@ -98,13 +98,13 @@ from_climb b c (x ∷ xs) from to rest more h next = by (length_of r == 0) (from
     by true left = lower_slots from (x.line + 1) to _ (omega (arith, h.0)) left
     by false left = (h.0, h.1, left)
 
-all_climb : (text datas from to : ℕ) (ms : List Module) → Climb from to (module_numbers ms) → SlotsClimb from to (slots_of (based_from text datas ms))
+all_climb : (text datas from to : ℕ) (ms : List Module) → Climb from to (module_numbers ms) → SlotsClimb from to (slots_of (stood_from section_length text datas ms))
 unfolding module_numbers
 all_climb text datas from to [] h = tt
 all_climb text datas from to (m ∷ ms) h =
-    let b : Based = record { source = m; text = up_to_multiple 8 text; datas = up_to_multiple 8 datas } in
+    let b : Placement Module = record { part = m; text_at = up_to_multiple 8 text; data_at = up_to_multiple 8 datas } in
     from_climb b at_begin m.statements from to (module_numbers ms)
-    (slots_of (based_from (up_to_multiple 8 text + section_length 0 m) (up_to_multiple 8 datas + section_length 1 m) ms)) h
+    (slots_of (stood_from section_length (up_to_multiple 8 text + section_length 0 m) (up_to_multiple 8 datas + section_length 1 m) ms)) h
     (λ f k. all_climb (up_to_multiple 8 text + section_length 0 m) (up_to_multiple 8 datas + section_length 1 m) f to ms k)
 
 pub unit_climbs : (source : List ℕ) (u : Source) → IsUnit source u → SlotsClimb 1 (1 + length (lines_of source)) (slots_of (based u))

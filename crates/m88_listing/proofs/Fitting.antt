@@ -15,13 +15,13 @@ use Rattle.m88_parse.specs.declared.unit.Unit.{Unit as Source}
 use Rattle.m88_parse.specs.WellFormed.{IsWellFormed}
 use Rattle.m88_link.specs.declared.object.Symbol.{Symbol}
 use Rattle.m88_link.specs.Symbols.{repeated_after}
-use Rattle.m88_link.specs.Bases.{up_to_multiple}
+use Rattle.m88_link.specs.Bases.{Placement, stood_from, up_to_multiple}
 use Rattle.m88_asm.specs.Accepted.{IsAcceptedUnit}
 use Rattle.m88_asm.specs.Counters.{Counters, Located, after, at_begin, length_of, located, offset_of, place_of}
 use Rattle.m88_asm.specs.Faults.{duplicate_at, misfit_at, misplaced_at, module_fault, modules_fault, statements_fault, too_large_at}
 use Rattle.m88_asm.specs.Images.{IsUnitImage, run_of, runs_in}
 use Rattle.m88_asm.specs.Objects.{symbols_of}
-use Rattle.m88_asm.specs.Units.{Based, address_in, based, based_from, bytes_of, section_length, unit_layout, value_in_module}
+use Rattle.m88_asm.specs.Units.{address_in, based, bytes_of, section_length, unit_layout, value_in_module}
 use Rattle.m88_asm.proofs.Composing.{CanFill, EachBased, formed}
 use Rattle.m88_asm.proofs.Imaging.{Has, has_left, has_right, run_found, runs_law}
 use Rattle.m88_asm.proofs.Reaching.{each_fills}
@@ -32,16 +32,16 @@ use Rattle.m88_listing.specs.Inside.Slots.{AllFit, StandsWithin, IsSlot, ModuleF
 use Rattle.m88_listing.specs.declared.slots.Slot.{Slot}
 
 -- the bytes of a statement are found at their addresses
-abbrev pub IsFound : List Symbol → Based → (ℕ → Option ℕ) → Located → Type 0
+abbrev pub IsFound : List Symbol → Placement Module → (ℕ → Option ℕ) → Located → Type 0
 IsFound globals b found r = (k v : ℕ) → slice_get (bytes_of globals b r) k ≡ Some v → found (address_in b r + k) ≡ Some v
 
 -- those of statements are, from counters on
-abbrev pub AreFound : List Symbol → Based → (ℕ → Option ℕ) → Counters → List Statement → Type 0
+abbrev pub AreFound : List Symbol → Placement Module → (ℕ → Option ℕ) → Counters → List Statement → Type 0
 AreFound globals b found c [] = Unit {0}
 AreFound globals b found c (x ∷ xs) =
     IsFound globals b found (record { before = c; statement = x }) × AreFound globals b found (after c x.body) xs
 
-rows_found : (globals : List Symbol) (b : Based) (found : ℕ → Option ℕ) (c : Counters) (xs : List Statement)
+rows_found : (globals : List Symbol) (b : Placement Module) (found : ℕ → Option ℕ) (c : Counters) (xs : List Statement)
     → ((a v : ℕ) → Has (map (run_of globals b) (located c xs)) a v → found a ≡ Some v) → AreFound globals b found c xs
 unfolding Has located
 rows_found globals b found c [] into = tt
@@ -51,12 +51,12 @@ rows_found globals b found c (x ∷ xs) into =
       rows_found globals b found (after c x.body) xs (λ a v h. into a v (inr h)),
     )
 
-modules_found : (globals : List Symbol) (found : ℕ → Option ℕ) (bs : List Based)
+modules_found : (globals : List Symbol) (found : ℕ → Option ℕ) (bs : List (Placement Module))
     → ((a v : ℕ) → Has (flat_map (runs_in globals) bs) a v → found a ≡ Some v)
-    → EachBased (λ b. AreFound globals b found at_begin b.source.statements) bs
+    → EachBased (λ b. AreFound globals b found at_begin b.part.statements) bs
 modules_found globals found [] into = tt
 modules_found globals found (b ∷ bs) into = (
-  rows_found globals b found at_begin b.source.statements
+  rows_found globals b found at_begin b.part.statements
       (λ a v h. into a v (has_left (runs_in globals b) (flat_map (runs_in globals) bs) a v h)),
   modules_found globals found bs (λ a v h. into a v (has_right (runs_in globals b) (flat_map (runs_in globals) bs) a v h)),
 )
@@ -70,7 +70,7 @@ found_in u image accepted own a v h =
     ∙ run_found globals (based u) a v accepted.linkable.disjoint h
 
 pub all_found : (u : Source) (image : ProgramImage) → IsAcceptedUnit u → IsUnitImage u image
-    → EachBased (λ b. AreFound (unit_layout u).globals b (byte_at image) at_begin b.source.statements) (based u)
+    → EachBased (λ b. AreFound (unit_layout u).globals b (byte_at image) at_begin b.part.statements) (based u)
 all_found u image accepted own = modules_found (unit_layout u).globals (byte_at image) (based u) (found_in u image accepted own)
 
 -- a statement that meets no fault has room
@@ -89,7 +89,7 @@ below : (o : Option ℕ) (a v : ℕ) → o ≡ Some v → IfSome o (λ b. (a < 2
 below (Some b) a v e h = h.0
 below None a v e h = cc
 
-within_of : (globals : List Symbol) (b : Based) (image : ProgramImage) (r : Located) → IsImage image → IsFound globals b (byte_at image) r
+within_of : (globals : List Symbol) (b : Placement Module) (image : ProgramImage) (r : Located) → IsImage image → IsFound globals b (byte_at image) r
     → 0 < length_of r → address_in b r + length_of r ≤ 2 ^ 32
 within_of globals b image r is found some =
     let bytes = bytes_of globals b r in
@@ -99,7 +99,7 @@ within_of globals b image r is found some =
     let low : address_in b r + k < 2 ^ 32 = below (byte_at image (address_in b r + k)) (address_in b r + k) _ there (is.bytes (address_in b r + k)) in
     omega (arith, low, some)
 
-rows_fit : (globals defined : List Symbol) (b : Based) (image : ProgramImage) (c : Counters) (xs : List Statement) → IsImage image → AllFormed xs
+rows_fit : (globals defined : List Symbol) (b : Placement Module) (image : ProgramImage) (c : Counters) (xs : List Statement) → IsImage image → AllFormed xs
     → statements_fault defined (located c xs) ≡ None → AreFound globals b (byte_at image) c xs → AllFit b c xs
 rows_fit globals defined b image c [] is formed clean found = tt
 rows_fit globals defined b image c (x ∷ xs) is formed clean found =
@@ -110,18 +110,18 @@ rows_fit globals defined b image c (x ∷ xs) is formed clean found =
       rows_fit globals (defined ++ symbols_of r) b image (after c x.body) xs is formed.1 parts.1 found.1,
     )
 
-pub each_clean : (text datas : ℕ) (ms : List Module) → modules_fault ms ≡ None → EachBased (λ b. module_fault b.source ≡ None) (based_from text datas ms)
+pub each_clean : (text datas : ℕ) (ms : List Module) → modules_fault ms ≡ None → EachBased (λ b. module_fault b.part ≡ None) (stood_from section_length text datas ms)
 each_clean text datas [] h = tt
 each_clean text datas (m ∷ ms) h =
     let p = option_or-none (module_fault m) (modules_fault ms) h in
     (p.0, each_clean (up_to_multiple 8 text + section_length 0 m) (up_to_multiple 8 datas + section_length 1 m) ms p.1)
 
-modules_fit : (globals : List Symbol) (image : ProgramImage) (bs : List Based) → IsImage image → EachBased (CanFill globals) bs
-    → EachBased (λ b. module_fault b.source ≡ None) bs → EachBased (λ b. AreFound globals b (byte_at image) at_begin b.source.statements) bs
+modules_fit : (globals : List Symbol) (image : ProgramImage) (bs : List (Placement Module)) → IsImage image → EachBased (CanFill globals) bs
+    → EachBased (λ b. module_fault b.part ≡ None) bs → EachBased (λ b. AreFound globals b (byte_at image) at_begin b.part.statements) bs
     → AllByRecursion ModuleFits bs
 modules_fit globals image [] is fills clean found = tt
 modules_fit globals image (b ∷ bs) is fills clean found = (
-  rows_fit globals [] b image at_begin b.source.statements is (formed b.source.statements fills.0.0) clean.0 found.0,
+  rows_fit globals [] b image at_begin b.part.statements is (formed b.part.statements fills.0.0) clean.0 found.0,
   modules_fit globals image bs is fills.1 clean.1 found.1,
 )
 
@@ -132,7 +132,7 @@ unit_fits u image well accepted own =
     (each_clean _ _ u.modules accepted.assembled) (all_found u image accepted own)
 
 -- and what is kept of them lies among the addresses
-one_slot : (b : Based) (r : Located) → StandsWithin b r → AllByRecursion IsSlot (slots_at b r)
+one_slot : (b : Placement Module) (r : Located) → StandsWithin b r → AllByRecursion IsSlot (slots_at b r)
 one_slot b r fits = by (length_of r == 0) refl
   where
     by : (t : Bool) → (length_of r == 0) ≡ t
@@ -151,14 +151,14 @@ both_slots : (xs ys : List Slot) → AllByRecursion IsSlot xs → AllByRecursion
 both_slots [] ys p q = q
 both_slots (x ∷ xs) ys p q = (p.0, both_slots xs ys p.1 q)
 
-rows_slots : (b : Based) (c : Counters) (xs : List Statement) → AllFit b c xs → AllByRecursion IsSlot (slots_from b c xs)
+rows_slots : (b : Placement Module) (c : Counters) (xs : List Statement) → AllFit b c xs → AllByRecursion IsSlot (slots_from b c xs)
 rows_slots b c [] fit = tt
 rows_slots b c (x ∷ xs) fit = both_slots (slots_at b (record { before = c; statement = x })) (slots_from b (after c x.body) xs)
     (one_slot b (record { before = c; statement = x }) fit.0) (rows_slots b (after c x.body) xs fit.1)
 
-pub are_slots : (bs : List Based) → AllByRecursion ModuleFits bs → AllByRecursion IsSlot (slots_of bs)
+pub are_slots : (bs : List (Placement Module)) → AllByRecursion ModuleFits bs → AllByRecursion IsSlot (slots_of bs)
 are_slots [] fit = tt
-are_slots (b ∷ bs) fit = both_slots (slots_from b at_begin b.source.statements) (slots_of bs) (rows_slots b at_begin b.source.statements fit.0) (are_slots bs fit.1)
+are_slots (b ∷ bs) fit = both_slots (slots_from b at_begin b.part.statements) (slots_of bs) (rows_slots b at_begin b.part.statements fit.0) (are_slots bs fit.1)
 
 -- the rows of a unit are what is kept, with the bytes that are found
 found_same : (found : ℕ → Option ℕ) (at n : ℕ) (bytes : List ℕ) → ((k v : ℕ) → slice_get bytes k ≡ Some v → found (at + (n + k)) ≡ Some v)
@@ -169,7 +169,7 @@ found_same found at n (x ∷ bytes) h =
     ap (λ o. unwrap_or o 0 ∷ map (λ k. unwrap_or (found (at + k)) 0) (range_with_len (n + 1) (length bytes))) here
     ∙ ap (λ xs. x ∷ xs) (found_same found at (n + 1) bytes (λ k v e. ap found (omega arith) ∙ h (suc k) v e))
 
-same_row : (globals : List Symbol) (b : Based) (found : ℕ → Option ℕ) (r : Located) → IsFound globals b found r
+same_row : (globals : List Symbol) (b : Placement Module) (found : ℕ → Option ℕ) (r : Located) → IsFound globals b found r
     → found_bytes found (address_in b r) (length_of r) ≡ bytes_of globals b r
 same_row globals b found r h =
     let bytes = bytes_of globals b r in
@@ -177,7 +177,7 @@ same_row globals b found r h =
     ap (λ n. found_bytes found (address_in b r) n) (sym long)
     ∙ found_same found (address_in b r) 0 bytes (λ k v e. ap found (omega arith) ∙ h k v e)
 
-one_row : (globals : List Symbol) (b : Based) (found : ℕ → Option ℕ) (r : Located) → IsFound globals b found r
+one_row : (globals : List Symbol) (b : Placement Module) (found : ℕ → Option ℕ) (r : Located) → IsFound globals b found r
     → filter has_bytes (row_of globals b r ∷ []) ≡ map (kept_row found) (slots_at b r)
 one_row globals b found r h = elim (cases_Bool (length_of r == 0)) [
   | inl t ↦
@@ -214,7 +214,7 @@ filter-first row rows = by (has_bytes row) refl
     by false e = cond-false (has_bytes row) (row ∷ filter has_bytes rows) (filter has_bytes rows) e
         ∙ ap (λ xs. xs ++ filter has_bytes rows) (sym (cond-false (has_bytes row) (row ∷ []) [] e))
 
-rows_kept : (globals : List Symbol) (b : Based) (found : ℕ → Option ℕ) (c : Counters) (xs : List Statement) → AreFound globals b found c xs
+rows_kept : (globals : List Symbol) (b : Placement Module) (found : ℕ → Option ℕ) (c : Counters) (xs : List Statement) → AreFound globals b found c xs
     → filter has_bytes (map (row_of globals b) (located c xs)) ≡ map (kept_row found) (slots_from b c xs)
 unfolding located
 rows_kept globals b found c [] h = refl
@@ -226,13 +226,13 @@ rows_kept globals b found c (x ∷ xs) h =
     ∙ ap (λ rows. map (kept_row found) (slots_at b r) ++ rows) (rows_kept globals b found (after c x.body) xs h.1)
     ∙ sym (map-append (kept_row found) (slots_at b r) (slots_from b (after c x.body) xs))
 
-modules_kept : (globals : List Symbol) (found : ℕ → Option ℕ) (bs : List Based) → EachBased (λ b. AreFound globals b found at_begin b.source.statements) bs
+modules_kept : (globals : List Symbol) (found : ℕ → Option ℕ) (bs : List (Placement Module)) → EachBased (λ b. AreFound globals b found at_begin b.part.statements) bs
     → flat_map (rows_in globals) bs ≡ map (kept_row found) (slots_of bs)
 modules_kept globals found [] h = refl
 modules_kept globals found (b ∷ bs) h =
-    ap (λ rows. rows ++ flat_map (rows_in globals) bs) (rows_kept globals b found at_begin b.source.statements h.0)
-    ∙ ap (λ rows. map (kept_row found) (slots_from b at_begin b.source.statements) ++ rows) (modules_kept globals found bs h.1)
-    ∙ sym (map-append (kept_row found) (slots_from b at_begin b.source.statements) (slots_of bs))
+    ap (λ rows. rows ++ flat_map (rows_in globals) bs) (rows_kept globals b found at_begin b.part.statements h.0)
+    ∙ ap (λ rows. map (kept_row found) (slots_from b at_begin b.part.statements) ++ rows) (modules_kept globals found bs h.1)
+    ∙ sym (map-append (kept_row found) (slots_from b at_begin b.part.statements) (slots_of bs))
 
 pub unit_kept : (u : Source) (image : ProgramImage) → IsAcceptedUnit u → IsUnitImage u image
     → rows_of_unit u ≡ map (kept_row (byte_at image)) (slots_of (based u))

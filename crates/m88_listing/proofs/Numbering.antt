@@ -18,7 +18,9 @@ use Rattle.m88_link.specs.declared.object.Symbol.{Symbol}
 use Rattle.m88_asm.specs.Counters.{Counters, Located, after, at_begin, length_of, located, offset_of, place_of}
 use Rattle.m88_asm.specs.Faults.{duplicate_at, misfit_at, module_fault, statements_fault}
 use Rattle.m88_asm.specs.Objects.{lines_in, symbols_of}
-use Rattle.m88_asm.specs.Units.{Based, address_in, based, bytes_of, unit_layout, value_in_module}
+use Rattle.m88_link.specs.Bases.{Placement}
+use Rattle.m88_parse.specs.declared.unit.Module.{Module}
+use Rattle.m88_asm.specs.Units.{address_in, based, bytes_of, unit_layout, value_in_module}
 use Rattle.m88_asm.proofs.Composing.{EachBased}
 use Rattle.m88_asm.proofs.Relocating.{length-filled_bytes}
 use Rattle.m88_asm.proofs.Sounding.{first_parts, option_or-none}
@@ -217,7 +219,7 @@ unfolding AreFew
 both_few [] ys p q = q
 both_few (x ∷ xs) ys p q = (p.0, both_few xs ys p.1 q)
 
-rows_few : (globals defined : List Symbol) (b : Based) (c : Counters) (xs : List Statement) → statements_fault defined (located c xs) ≡ None
+rows_few : (globals defined : List Symbol) (b : Placement Module) (c : Counters) (xs : List Statement) → statements_fault defined (located c xs) ≡ None
     → AreFew (map (row_of globals b) (located c xs))
 unfolding AreFew located
 rows_few globals defined b c [] clean = tt
@@ -230,12 +232,12 @@ rows_few globals defined b c (x ∷ xs) clean =
       rows_few globals (defined ++ symbols_of r) b (after c x.body) xs parts.1,
     )
 
-modules_few : (globals : List Symbol) (bs : List Based) → EachBased (λ b. module_fault b.source ≡ None) bs → AreFew (flat_map (rows_in globals) bs)
+modules_few : (globals : List Symbol) (bs : List (Placement Module)) → EachBased (λ b. module_fault b.part ≡ None) bs → AreFew (flat_map (rows_in globals) bs)
 unfolding AreFew
 modules_few globals [] clean = tt
 modules_few globals (b ∷ bs) clean =
     both_few (rows_in globals b) (flat_map (rows_in globals) bs)
-    (kept_few (map (row_of globals b) (lines_in b.source)) (rows_few globals [] b at_begin b.source.statements clean.0)) (modules_few globals bs clean.1)
+    (kept_few (map (row_of globals b) (lines_in b.part)) (rows_few globals [] b at_begin b.part.statements clean.0)) (modules_few globals bs clean.1)
 
 pub each_line_stands_once : EachLineStandsOnce
 each_line_stands_once = λ source u short accepted.

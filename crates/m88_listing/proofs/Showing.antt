@@ -12,7 +12,9 @@ use Rattle.m88_link.specs.declared.object.Symbol.{Symbol}
 use Rattle.m88_asm.specs.Counters.{Located}
 use Rattle.m88_asm.specs.Images.{run_of, runs_in}
 use Rattle.m88_asm.specs.Objects.{lines_in}
-use Rattle.m88_asm.specs.Units.{Based, based, unit_layout}
+use Rattle.m88_link.specs.Bases.{Placement}
+use Rattle.m88_parse.specs.declared.unit.Module.{Module}
+use Rattle.m88_asm.specs.Units.{based, unit_layout}
 use Rattle.m88_asm.proofs.Imaging.{Has, has_left, has_right}
 use Rattle.m88_listing.specs.Laws.{EachShowsItsImage, Shows, shown_runs}
 use Rattle.m88_listing.specs.Rows.{Row, has_bytes, row_of, rows_in, rows_of_unit}
@@ -62,7 +64,7 @@ has_some row a b h = elim (cases_Bool (has_bytes row)) [
         by false t = byte_in_above row.run a (omega (arith, none, ltb-false a row.run.at t))
 
 -- what rows with bytes show is what all rows show
-kept_shows : (globals : List Symbol) (bs : Based) (rs : List Located) (a b : ℕ)
+kept_shows : (globals : List Symbol) (bs : Placement Module) (rs : List Located) (a b : ℕ)
     → Shows (runs (filter has_bytes (map (row_of globals bs) rs))) a b → Has (map (run_of globals bs) rs) a b
 unfolding Has
 kept_shows globals bs [] a b h = h
@@ -92,18 +94,18 @@ both : {A B C D : Type 0} → (A → C) → (B → D) → A ⊎ B → C ⊎ D
 both f g (inl x) = inl (f x)
 both f g (inr x) = inr (g x)
 
-modules_show : (globals : List Symbol) (bs : List Based) (a b : ℕ)
+modules_show : (globals : List Symbol) (bs : List (Placement Module)) (a b : ℕ)
     → Shows (runs (flat_map (rows_in globals) bs)) a b → Has (flat_map (runs_in globals) bs) a b
 unfolding Has
 modules_show globals [] a b h = h
 modules_show globals (x ∷ bs) a b h =
     has_append (runs_in globals x) (flat_map (runs_in globals) bs) a b
-    (both (kept_shows globals x (lines_in x.source) a b) (modules_show globals bs a b)
+    (both (kept_shows globals x (lines_in x.part) a b) (modules_show globals bs a b)
     (shows_either (runs (rows_in globals x)) (runs (flat_map (rows_in globals) bs)) a b
     (subst (λ ps. Shows ps a b) (runs-append (rows_in globals x) (flat_map (rows_in globals) bs)) h)))
 
 -- and the other way round
-found_row : (globals : List Symbol) (bs : Based) (rs : List Located) (a b : ℕ) → byte_among (map (run_of globals bs) rs) a ≡ Some b
+found_row : (globals : List Symbol) (bs : Placement Module) (rs : List Located) (a b : ℕ) → byte_among (map (run_of globals bs) rs) a ≡ Some b
     → Shows (runs (filter has_bytes (map (row_of globals bs) rs))) a b
 found_row globals bs [] a b h = cc
 found_row globals bs (r ∷ rs) a b h =
@@ -135,7 +137,7 @@ either_some : (o q : Option ℕ) (v : ℕ) → option_or o q ≡ Some v → (o �
 either_some (Some x) q v h = inl h
 either_some None q v h = inr h
 
-shown_kept : (globals : List Symbol) (bs : List Based) (a b : ℕ)
+shown_kept : (globals : List Symbol) (bs : List (Placement Module)) (a b : ℕ)
     → byte_among (flat_map (runs_in globals) bs) a ≡ Some b → Shows (runs (flat_map (rows_in globals) bs)) a b
 shown_kept globals [] a b h = cc
 shown_kept globals (x ∷ bs) a b h =
@@ -146,7 +148,7 @@ shown_kept globals (x ∷ bs) a b h =
     joined : (byte_among (runs_in globals x) a ≡ Some b) ⊎ (byte_among (flat_map (runs_in globals) bs) a ≡ Some b)
         → (byte_among (flat_map (runs_in globals) bs) a ≡ Some b → Shows (runs (flat_map (rows_in globals) bs)) a b)
         → Shows (runs (rows_in globals x) ++ runs (flat_map (rows_in globals) bs)) a b
-    joined (inl e) next = shows_left _ _ a b (found_row globals x (lines_in x.source) a b e)
+    joined (inl e) next = shows_left _ _ a b (found_row globals x (lines_in x.part) a b e)
     joined (inr e) next = shows_right (runs (rows_in globals x)) _ a b (next e)
 
 pub each_shows_its_image : EachShowsItsImage

@@ -6,23 +6,25 @@ use Rattle.m88_parse.specs.declared.unit.Unit.{Unit as Source}
 use Rattle.m88_link.specs.Symbols.{value_in}
 use Rattle.m88_link.specs.declared.object.Symbol.{Symbol}
 use Rattle.m88_asm.specs.Objects.{symbols_in}
-use Rattle.m88_asm.specs.Units.{Based, base_in, based}
+use Rattle.m88_link.specs.Bases.{Placement}
+use Rattle.m88_parse.specs.declared.unit.Module.{Module}
+use Rattle.m88_asm.specs.Units.{base_in, based}
 use Rattle.m88_listing.specs.declared.entries.Entry.{Entry}
 
 -- a symbol of a module that stands somewhere: the value that linking gives it, its name, the name of its module, the
 -- line of its definition, and whether other modules see it
-abbrev pub entry_of : Based → Symbol → Entry
+abbrev pub entry_of : Placement Module → Symbol → Entry
 entry_of b s = record {
   value = value_in (base_in b) s;
   name = s.name;
-  owner = b.source.name;
+  owner = b.part.name;
   line = s.line;
   global = s.global;
 }
 
 -- the symbols of a module of which this holds
-abbrev pub entries_in : (Symbol → Bool) → Based → List Entry
-entries_in holds b = map (entry_of b) (filter holds (symbols_in b.source))
+abbrev pub entries_in : (Symbol → Bool) → Placement Module → List Entry
+entries_in holds b = map (entry_of b) (filter holds (symbols_in b.part))
 
 -- the labels of a unit, in order of definition
 abbrev pub labels_of : Source → List Entry

@@ -12,7 +12,9 @@ use Rattle.m88_link.specs.declared.object.Symbol.{Symbol}
 use Rattle.m88_asm.specs.Counters.{Located}
 use Rattle.m88_asm.specs.Images.{run_of}
 use Rattle.m88_asm.specs.Objects.{lines_in}
-use Rattle.m88_asm.specs.Units.{Based, based, unit_layout}
+use Rattle.m88_link.specs.Bases.{Placement}
+use Rattle.m88_parse.specs.declared.unit.Module.{Module}
+use Rattle.m88_asm.specs.Units.{based, unit_layout}
 use Rattle.m88_listing.specs.Columns.{bare_line, columns, further_columns, most_shown}
 
 -- what a statement puts into the image: the line that it stands in, its bytes from their address on, and whether they
@@ -29,7 +31,7 @@ is_counted (Align n) = true
 is_counted _ = false
 
 -- the row of a statement, its symbols replaced
-abbrev pub row_of : List Symbol → Based → Located → Row
+abbrev pub row_of : List Symbol → Placement Module → Located → Row
 row_of globals b r =
     record { line = r.statement.line; run = run_of globals b r; counted = is_counted r.statement.body }
 
@@ -38,8 +40,8 @@ abbrev pub has_bytes : Row → Bool
 has_bytes row = nat_lt 0 (length row.run.bytes)
 
 -- the rows of the statements of a module that give bytes
-abbrev pub rows_in : List Symbol → Based → List Row
-rows_in globals b = filter has_bytes (map (row_of globals b) (lines_in b.source))
+abbrev pub rows_in : List Symbol → Placement Module → List Row
+rows_in globals b = filter has_bytes (map (row_of globals b) (lines_in b.part))
 
 -- the rows of the statements of a unit that give bytes
 abbrev pub rows_of_unit : Source → List Row

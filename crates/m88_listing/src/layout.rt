@@ -79,7 +79,7 @@ fn push_slots(
 ) -> Result<(), AllocError>
     requires { ModuleFits standing.now }
     ensures { OnOk result (slots.new.items ≡ slots.old.items
-        ++ slots_from standing.now at_begin standing.now.source.statements) }
+        ++ slots_from standing.now at_begin standing.now.part.statements) }
 {
     let mut cursor = Cursor::new(alloc)?;
     for x in standing.statements() {

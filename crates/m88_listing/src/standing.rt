@@ -2,11 +2,11 @@
 ghost use Rattle.std.specs.Prelude.{◌≡◌, ◌+◌, ◌*◌, ◌≤◌, IfOk, map};
 ghost use Rattle.m88_base.specs.Image.{most_bytes};
 ghost use Rattle.m88_base.specs.Pages.{page_bytes};
-ghost use Rattle.m88_link.specs.Bases.{first_text, section_size, text_end, up_to_multiple};
+ghost use Rattle.m88_link.specs.Bases.{first_text, section_size, stood_from, text_end, up_to_multiple};
 ghost use Rattle.m88_link.specs.Inside.Sizes.{object_size, total_size};
 ghost use Rattle.m88_link.specs.Symbols.{value_in};
 ghost use Rattle.m88_asm.specs.Objects.{object_of, symbols_in};
-ghost use Rattle.m88_asm.specs.Units.{based_from, base_in, end_of_text};
+ghost use Rattle.m88_asm.specs.Units.{base_in, section_length};
 
 use m88_base::{FIRST_TEXT, Name, PAGE_BYTES};
 use m88_link::{Object, Place, Symbol};
@@ -29,14 +29,15 @@ pub(crate) struct Standing<'a> {
 impl<'a> Model for Standing<'a> {
     ghost use Rattle.std.specs.Prelude.{◌≡◌};
     ghost use Rattle.m88_asm.specs.Objects.{object_of};
-    ghost use Rattle.m88_asm.specs.Units.{Based};
+    ghost use Rattle.m88_link.specs.Bases.{Placement as PlacementValue};
+    ghost use Rattle.m88_parse.specs.declared.unit.Module.{Module as ModuleValue};
 
-    ghost Value = { Based };
+    ghost Value = { PlacementValue ModuleValue };
 
     ghost view = { λ s. record {
-      source = s.part.now;
-      text = s.text;
-      datas = s.datas;
+      part = s.part.now;
+      text_at = s.text;
+      data_at = s.datas;
     } };
 
     ghost invariant = { λ s. s.object.now ≡ object_of s.part.now };
@@ -45,21 +46,21 @@ impl<'a> Model for Standing<'a> {
 impl Standing<'_> {
     /// The name of the module.
     pub fn name(&self) -> Name
-        ensures { result ≡ self.now.source.name }
+        ensures { result ≡ self.now.part.name }
     {
         self.part.name
     }
 
     /// The statements of the module.
     pub fn statements(&self) -> &[Statement]
-        ensures { result.now ≡ self.now.source.statements }
+        ensures { result.now ≡ self.now.part.statements }
     {
         self.part.statements.as_slice()
     }
 
     /// The symbols of the module, in order of definition.
     pub fn symbols(&self) -> &[Symbol]
-        ensures { result.now ≡ symbols_in self.now.source }
+        ensures { result.now ≡ symbols_in self.now.part }
     {
         self.object.symbols.as_slice()
     }
@@ -104,7 +105,7 @@ fn section_size(object: &Object, index: usize) -> usize
 #[tactic(auto, using(m88_link::proofs::Stood::text_end_more, m88_link::proofs::Stood::sizes_fit))]
 fn text_end(objects: &[Object]) -> u32
     requires { total_size objects.now ≤ most_bytes }
-    ensures value { result ≡ text_end first_text objects.now }
+    ensures value { result ≡ text_end section_size first_text objects.now }
     ensures bound { result ≤ first_text + 8 * most_bytes }
 {
     let mut end = FIRST_TEXT;
@@ -122,8 +123,8 @@ pub(crate) fn stand<'a>(
 ) -> Result<Vec<Standing<'a>>, AllocError>
     requires made { objects.now ≡ map object_of parts.now }
     requires size { total_size objects.now ≤ most_bytes }
-    ensures { IfOk result (λ standings. standings.items ≡ based_from first_text
-        (up_to_multiple page_bytes (end_of_text first_text parts.now)) parts.now) }
+    ensures { IfOk result (λ standings. standings.items ≡ stood_from section_length first_text
+        (up_to_multiple page_bytes (text_end section_length first_text parts.now)) parts.now) }
 {
     let mut standings = Vec::new(alloc);
     let mut text = FIRST_TEXT;

@@ -4,10 +4,11 @@ use Rattle.m88_base.specs.Placed.{Placed}
 use Rattle.m88_link.specs.declared.object.Reloc.{Reloc}
 use Rattle.m88_link.specs.declared.object.Section.{Section}
 use Rattle.m88_link.specs.Bases.{Placement, base_at}
+use Rattle.m88_link.specs.declared.object.Object.{Object}
 use Rattle.m88_link.specs.Relocated.{patched}
 
 -- the bytes of a section as the object has them
-abbrev pub unpatched : Placement → Section → Placed
+abbrev pub unpatched : Placement Object → Section → Placed
 unpatched p x = record { at = base_at p x.place; bytes = x.bytes }
 
 -- the word of the relocation lies in its section

@@ -5,16 +5,17 @@ use Rattle.m88_link.specs.declared.fault.LinkFault.{LinkFault}
 use Rattle.m88_link.specs.declared.object.Reloc.{Reloc}
 use Rattle.m88_link.specs.declared.object.Symbol.{Symbol}
 use Rattle.m88_link.specs.Bases.{Placement, base_of}
+use Rattle.m88_link.specs.declared.object.Object.{Object}
 use Rattle.m88_link.specs.Faults.{memory_fault}
 use Rattle.m88_link.specs.Layout.{Reference, reference}
 use Rattle.m88_link.specs.Refusal.{too_far, undefined}
 
 -- relocations of an object as uses of their symbols
-abbrev pub uses_in : List Symbol → Placement → List Reloc → List Reference
-uses_in globals p relocs = map (reference globals (base_of p) p.object.symbols) relocs
+abbrev pub uses_in : List Symbol → Placement Object → List Reloc → List Reference
+uses_in globals p relocs = map (reference globals (base_of p) p.part.symbols) relocs
 
 -- each symbol means something and the first that is too far is kept, or the first that means nothing is the fault
-abbrev pub Checks : List Symbol → Placement → List Reloc → Option LinkFault → Option LinkFault
+abbrev pub Checks : List Symbol → Placement Object → List Reloc → Option LinkFault → Option LinkFault
     → Result (Unit {0}) LinkFault → Type 0
 Checks globals p relocs old new result =
     MatchResult result

@@ -5,7 +5,9 @@ use Rattle.m88_base.specs.Image.{most_bytes}
 use Rattle.m88_parse.specs.WellFormed.{IsFormedBody}
 use Rattle.m88_parse.specs.declared.unit.Statement.{Statement}
 use Rattle.m88_asm.specs.Counters.{Counters, Located, after, at_begin, length_of, offset_of}
-use Rattle.m88_asm.specs.Units.{Based, address_in}
+use Rattle.m88_link.specs.Bases.{Placement}
+use Rattle.m88_parse.specs.declared.unit.Module.{Module}
+use Rattle.m88_asm.specs.Units.{address_in}
 use Rattle.m88_listing.specs.Columns.{bare_line}
 use Rattle.m88_listing.specs.Inside.Parts.{Parts}
 use Rattle.m88_listing.specs.Rows.{Row, is_counted, row_lines}
@@ -46,7 +48,7 @@ kept_row found s = record {
 }
 
 -- what is kept of a statement, where it gives bytes
-abbrev pub slots_at : Based → Located → List Slot
+abbrev pub slots_at : Placement Module → Located → List Slot
 slots_at b r =
     if length_of r == 0 then []
     else record {
@@ -57,13 +59,13 @@ slots_at b r =
     } ∷ []
 
 -- what is kept of statements, from counters on
-abbrev pub slots_from : Based → Counters → List Statement → List Slot
+abbrev pub slots_from : Placement Module → Counters → List Statement → List Slot
 slots_from b c [] = []
 slots_from b c (x ∷ xs) = slots_at b (record { before = c; statement = x }) ++ slots_from b (after c x.body) xs
 
 -- what is kept of modules
-abbrev pub slots_of : List Based → List Slot
-slots_of bs = flat_map (λ b. slots_from b at_begin b.source.statements) bs
+abbrev pub slots_of : List (Placement Module) → List Slot
+slots_of bs = flat_map (λ b. slots_from b at_begin b.part.statements) bs
 
 -- the lines for lines of a source, from a number on, where the first of the slots is that of the next line that has one
 abbrev pub walked : (ℕ → Option ℕ) → ℕ → List (List ℕ) → List Slot → List (List ℕ)
@@ -74,16 +76,16 @@ walked found number (line ∷ lines) (s ∷ ss) =
     else bare_line number line ∷ walked found (number + 1) lines (s ∷ ss)
 
 -- a statement can be laid out, its section has room for its bytes, and these lie among the addresses
-pub record StandsWithin (b : Based) (r : Located) : Type 0 where
+pub record StandsWithin (b : Placement Module) (r : Located) : Type 0 where
   pub formed : IsFormedBody r.statement.body
   pub room : offset_of r + length_of r ≤ most_bytes
   pub within : 0 < length_of r → address_in b r + length_of r ≤ 2 ^ 32
 
 -- each of the statements does, from counters on
-abbrev pub AllFit : Based → Counters → List Statement → Type 0
+abbrev pub AllFit : Placement Module → Counters → List Statement → Type 0
 AllFit b c [] = Unit {0}
 AllFit b c (x ∷ xs) = StandsWithin b (record { before = c; statement = x }) × AllFit b (after c x.body) xs
 
 -- and those of a module that stands somewhere
-abbrev pub ModuleFits : Based → Type 0
-ModuleFits b = AllFit b at_begin b.source.statements
+abbrev pub ModuleFits : Placement Module → Type 0
+ModuleFits b = AllFit b at_begin b.part.statements

@@ -12,8 +12,8 @@ carry_out-requires-clause-words c =
     let s = c.args.placement.now in
     let items = c.in_ok-spots.ensures ∙ ap (λ l. map (unpatched s) l) c.sections.ensures.value in
     subst (λ l. All (HasWord l) c.relocs.result.now) (sym items)
-    (subst (λ rs. All (HasWord (map (unpatched s) s.object.sections)) rs) (sym c.relocs.ensures.value)
-    (has_words s s.object.sections s.object.relocs c.relocs.ensures.sound.relocs))
+    (subst (λ rs. All (HasWord (map (unpatched s) s.part.sections)) rs) (sym c.relocs.ensures.value)
+    (has_words s s.part.sections s.part.relocs c.relocs.ensures.sound.relocs))
 
 pub returns : goal.returns
 returns c =
@@ -23,5 +23,5 @@ returns c =
     let items = c.in_ok-spots.ensures ∙ ap (λ l. map (unpatched s) l) c.sections.ensures.value in
     c.carry_out.ensures
     ∙ ap (λ rs. carried t rs c.in_ok-spots.spots.items) c.relocs.ensures.value
-    ∙ ap (λ l. carried t s.object.relocs l) items
+    ∙ ap (λ l. carried t s.part.relocs l) items
     ∙ carried_is g s

@@ -17,7 +17,7 @@ returns-in-Err c =
     let rs = c.args.relocs.now in
     let i = c.loop-reloc.reloc-index in
     let x = c.reloc-item.result in
-    let whole = parts_at (uses_in g s) (map-append (reference g (base_of s) s.object.symbols)) rs i x (omega arith) c.reloc-item.is in
+    let whole = parts_at (uses_in g s) (map-append (reference g (base_of s) s.part.symbols)) rs i x (omega arith) c.reloc-item.is in
     elim c.in-Err.ensures [
       | inl memory ↦ inl memory
       | inr found ↦ inr
@@ -34,7 +34,7 @@ loop-reloc-preserved c =
     let x = c.reloc-item.result in
     let old = c.args.far.now in
     let inv = c.loop-reloc.invariant in
-    let uses = one_more (uses_in g s) (map-append (reference g (base_of s) s.object.symbols)) rs i x (omega arith) c.reloc-item.is in
+    let uses = one_more (uses_in g s) (map-append (reference g (base_of s) s.part.symbols)) rs i x (omega arith) c.reloc-item.is in
     let done = uses_in g s (take i rs) in
     let one = uses_in g s (x ∷ []) in (
       c.in-Ok.ensures.0 ∙ ap (λ o. option_or o (too_far one)) inv.0 ∙ option_or_assoc old (too_far done) (too_far one)

@@ -7,5 +7,5 @@ use Rattle.m88_listing.proofs.entries.push_labels.Given as goal
 
 abbrev pub invariant-loop-symbol : goal.invariant-loop-symbol
 invariant-loop-symbol l =
-    l.entries.items ++ map (entry_of l.standing) (filter (λ s. is_some s.section) (drop l.symbol-index (symbols_in l.standing.source)))
+    l.entries.items ++ map (entry_of l.standing) (filter (λ s. is_some s.section) (drop l.symbol-index (symbols_in l.standing.part)))
     ≡ l.initial.entries.items ++ entries_in (λ s. is_some s.section) l.standing

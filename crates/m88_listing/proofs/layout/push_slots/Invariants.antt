@@ -6,7 +6,7 @@ use Rattle.m88_listing.proofs.layout.push_slots.Given as goal
 
 abbrev pub invariant-loop-x : goal.invariant-loop-x
 invariant-loop-x l = record {
-  all : l.slots.items ++ slots_from l.standing (counters_in l.cursor) (drop l.x-index l.standing.source.statements)
-      ≡ l.initial.slots.items ++ slots_from l.standing at_begin l.standing.source.statements;
-  fit : AllFit l.standing (counters_in l.cursor) (drop l.x-index l.standing.source.statements);
+  all : l.slots.items ++ slots_from l.standing (counters_in l.cursor) (drop l.x-index l.standing.part.statements)
+      ≡ l.initial.slots.items ++ slots_from l.standing at_begin l.standing.part.statements;
+  fit : AllFit l.standing (counters_in l.cursor) (drop l.x-index l.standing.part.statements);
 }

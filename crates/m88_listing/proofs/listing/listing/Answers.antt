@@ -7,10 +7,10 @@ use Rattle.m88_base.specs.Image.{byte_at, most_bytes}
 use Rattle.m88_base.specs.Lines.{lines_of, text_of_lines}
 use Rattle.m88_base.specs.Pages.{page_bytes}
 use Rattle.m88_parse.specs.declared.unit.Module.{Module}
-use Rattle.m88_link.specs.Bases.{first_text, up_to_multiple}
+use Rattle.m88_link.specs.Bases.{Placement, first_text, stood_from, text_end, up_to_multiple}
 use Rattle.m88_link.specs.Inside.Sizes.{total_size}
 use Rattle.m88_link.specs.declared.object.Object.{Object}
-use Rattle.m88_asm.specs.Units.{Based, based, based_from, end_of_text}
+use Rattle.m88_asm.specs.Units.{based, section_length}
 use Rattle.m88_listing.specs.Entries.{AreInOrder, entries_in, labels_of, numbers_of}
 use Rattle.m88_listing.specs.Inside.Slots.{IsSlot, ModuleFits, slots_of, walked}
 use Rattle.m88_listing.specs.declared.entries.Entry.{Entry}
@@ -29,8 +29,8 @@ slots-requires c =
     let u = c.args.unit.now in
     let all : c.as_slice-3.result.now ≡ based u =
     c.as_slice-3.ensures.value ∙ c.in_ok-standings.ensures
-    ∙ ap (λ (ms : List Module). based_from first_text (up_to_multiple page_bytes (end_of_text first_text ms)) ms) c.as_slice.ensures in
-    subst (λ (bs : List Based). All ModuleFits bs) (sym all)
+    ∙ ap (λ (ms : List Module). stood_from section_length first_text (up_to_multiple page_bytes (text_end section_length first_text ms)) ms) c.as_slice.ensures in
+    subst (λ (bs : List (Placement Module)). All ModuleFits bs) (sym all)
     (All-from_recursion ModuleFits (based u) (unit_fits u c.args.image.now c.requires.formed c.requires.accepted c.requires.image))
 
 pub push_source-requires-clause-each : goal.push_source-requires-clause-each
@@ -38,7 +38,7 @@ push_source-requires-clause-each c =
     let u = c.args.unit.now in
     let all : c.as_slice-3.result.now ≡ based u =
     c.as_slice-3.ensures.value ∙ c.in_ok-standings.ensures
-    ∙ ap (λ (ms : List Module). based_from first_text (up_to_multiple page_bytes (end_of_text first_text ms)) ms) c.as_slice.ensures in
+    ∙ ap (λ (ms : List Module). stood_from section_length first_text (up_to_multiple page_bytes (text_end section_length first_text ms)) ms) c.as_slice.ensures in
     let kept : c.as_slice-6.result.now ≡ slots_of (based u) =
     c.as_slice-6.ensures.value ∙ c.in_ok-slots.ensures ∙ ap slots_of all in
     subst (λ (ss : List Slot). All IsSlot ss) (sym kept)
@@ -52,7 +52,7 @@ returns c =
     let found = byte_at c.args.image.now in
     let stand : c.in_ok-standings.standings.items ≡ based u =
     c.in_ok-standings.ensures
-    ∙ ap (λ (ms : List Module). based_from first_text (up_to_multiple page_bytes (end_of_text first_text ms)) ms) c.as_slice.ensures in
+    ∙ ap (λ (ms : List Module). stood_from section_length first_text (up_to_multiple page_bytes (text_end section_length first_text ms)) ms) c.as_slice.ensures in
     let kept : c.as_slice-6.result.now ≡ slots_of (based u) =
     c.as_slice-6.ensures.value ∙ c.in_ok-slots.ensures ∙ ap slots_of (c.as_slice-3.ensures.value ∙ stand) in
     let named : c.as_slice-8.result.now ≡ numbers_of u =
@@ -60,7 +60,7 @@ returns c =
     ∙ ap (flat_map (entries_in (λ s. is_none s.section))) (c.as_slice-5.ensures.value ∙ stand) in
     let ordered : AreInOrder (labels_of u) c.as_slice-7.result.now =
     subst (λ (es : List Entry). AreInOrder (labels_of u) es) (sym c.as_slice-7.ensures.value)
-    (subst (λ (bs : List Based). AreInOrder (flat_map (entries_in (λ s. is_some s.section)) bs) c.in_ok-labels.labels.items)
+    (subst (λ (bs : List (Placement Module)). AreInOrder (flat_map (entries_in (λ s. is_some s.section)) bs) c.in_ok-labels.labels.items)
     (c.as_slice-4.ensures.value ∙ stand) c.in_ok-labels.ensures) in
     record {
       unit = u;

@@ -6,5 +6,5 @@ use Rattle.m88_listing.proofs.standing.text_end.Given as goal
 
 abbrev pub invariant-loop-object : goal.invariant-loop-object
 invariant-loop-object l =
-    (text_end l.end (drop l.object-index l.objects) ≡ text_end first_text l.objects)
+    (text_end section_size l.end (drop l.object-index l.objects) ≡ text_end section_size first_text l.objects)
     × (up_to_multiple 8 l.end + 8 * sum_by (section_size 0) (drop l.object-index l.objects) ≤ first_text + 8 * most_bytes)
