@@ -1,6 +1,7 @@
 -- What only helps the proofs.
 pub mod Texts
 pub mod Lines
+pub mod NextNumber
 pub mod Bases
 pub mod Keeping
 pub mod Ordered

@@ -33,6 +33,11 @@ unfolding lines_of
 no_lines [] e = refl
 no_lines (b ∷ bs) e = absurd (omega (arith, e))
 
+-- a source that begins with the end of a line begins with an empty line
+pub empty_first : (rest behind : List ℕ) → rest ≡ 10 ∷ behind → lines_of rest ≡ [] ∷ lines_of behind
+unfolding lines_of
+empty_first rest behind e = ap lines_of e
+
 -- numbers behind some lines
 pub drop_numbered : {A : Type 0} (k n : ℕ) (xs : List A) → drop k (enumerate_from n xs) ≡ enumerate_from (n + k) (drop k xs)
 drop_numbered zero n xs = ap (λ m. enumerate_from m xs) (omega arith)

@@ -11,6 +11,7 @@ mod standing;
 
 // The text.
 mod columns;
+mod counting;
 mod listing;
 mod refused;
 mod rows;

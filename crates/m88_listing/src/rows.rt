@@ -1,13 +1,16 @@
 //! The lines of a source with what they put where.
-ghost use Rattle.std.specs.Prelude.{◌≡◌, ◌+◌, ◌-◌, ◌*◌, ◌≤◌, ◌<◌, ◌^◌, ◌/◌, ◌∷◌, ◌++◌, ℕ, List, drop, length, map, IfOk, OnOk};
+ghost use Rattle.std.specs.Prelude.{◌≡◌, ◌+◌, ◌-◌, ◌*◌, ◌≤◌, ◌<◌, ◌^◌, ◌/◌, ◌∷◌, ◌++◌, ℕ, List, decimal, drop, length, map, IfOk, OnOk};
 ghost use Rattle.std.specs.List.{All, range_with_len};
 ghost use Rattle.m88_base.specs.Image.{byte_at};
-ghost use Rattle.m88_base.specs.Lines.{lines_of, text_of_lines};
+ghost use Rattle.m88_base.specs.Lines.{line_end, lines_of, text_of_lines};
 ghost use Rattle.m88_base.specs.Placed.{Placed};
+ghost use Rattle.m88_listing.specs.Calls.{most_source};
+ghost use Rattle.m88_listing.specs.Columns.{at_right, bare_line};
 ghost use Rattle.m88_listing.specs.Rows.{further_line, row_lines};
 ghost use Rattle.m88_listing.specs.Inside.Slots.{IsSlot, found_bytes, kept_row, walked};
 
 use crate::columns::{MOST_SHOWN, push_bare, push_counted, push_further, push_shown};
+use crate::counting::{alone, count_on};
 use crate::slots::Slot;
 use m88_base::{Image, first_line};
 use std::alloc::{AllocError, Global};
@@ -65,17 +68,38 @@ fn push_row(
     Ok(())
 }
 
+/// Appends a line of the source without address and bytes; an empty one is its number alone.
+#[tactic(auto, using(crate::proofs::Lines::bare_empty))]
+fn push_plain(
+    text: &mut Vec<u8>,
+    number: u64,
+    alone: &[u8; 8],
+    line: &[u8],
+) -> Result<(), AllocError>
+    requires { alone.now ≡ at_right 7 (decimal number) ++ line_end }
+    ensures { OnOk result
+        (text.new.items ≡ text.old.items ++ (bare_line number line.now ++ line_end)) }
+{
+    if line.is_empty() {
+        text.extend_from_slice(alone)?;
+        return Ok(());
+    }
+    push_bare(text, number, line)
+}
+
 /// Appends the lines for a line of a source, and answers for how many of the slots that are left: the first, where it
 /// is that of this line.
 fn push_next(
     text: &mut Vec<u8>,
     alloc: Global,
     number: u64,
+    alone: &[u8; 8],
     line: &[u8],
     slots: &[Slot],
     image: &Image,
 ) -> Result<usize, AllocError>
-    requires { All IsSlot slots.now }
+    requires slots { All IsSlot slots.now }
+    requires alone { alone.now ≡ at_right 7 (decimal number) ++ line_end }
     ensures within { IfOk result (λ n. n ≤ length slots.now) }
     ensures lines { IfOk result (λ n. (lines : List (List ℕ)) → text.new.items
         ++ text_of_lines (walked (byte_at image.now) (number + 1) lines (drop n slots.now))
@@ -88,13 +112,25 @@ fn push_next(
                 push_row(text, alloc, number, line, slot, image)?;
                 return Ok(1);
             }
-            push_bare(text, number, line)?;
+            push_plain(text, number, alone, line)?;
             Ok(0)
         }
         None => {
-            push_bare(text, number, line)?;
+            push_plain(text, number, alone, line)?;
             Ok(0)
         }
+    }
+}
+
+/// The first line of what is left of a source, and what is left behind it; one that is empty is seen at once.
+fn next_line(rest: &[u8]) -> (&[u8], &[u8])
+    requires { 0 < length rest.now }
+    ensures lines { lines_of rest.now ≡ result.0.now ∷ lines_of result.1.now }
+    ensures shorter { length result.1.now < length rest.now }
+{
+    match rest.split_first() {
+        Some((b'\n', behind)) => (&[], behind),
+        _ => first_line(rest),
     }
 }
 
@@ -106,19 +142,21 @@ pub(crate) fn push_source(
     slots: &[Slot],
     image: &Image,
 ) -> Result<(), AllocError>
-    requires short { length source.now < 2 ^ 31 }
+    requires short { length source.now ≤ most_source }
     requires each { All IsSlot slots.now }
     ensures { OnOk result (text.new.items ≡ text.old.items
         ++ text_of_lines (walked (byte_at image.now) 1 (lines_of source.now) slots.now)) }
 {
     let mut rest = source;
     let mut number: u64 = 1;
+    let mut column = alone(1);
     let mut next = 0;
     while !rest.is_empty() {
-        let (line, behind) = first_line(rest);
+        let (line, behind) = next_line(rest);
         let (_, left) = slots.split_at(next);
-        next += push_next(text, alloc, number, line, left, image)?;
+        next += push_next(text, alloc, number, &column, line, left, image)?;
         rest = behind;
+        count_on(&mut column, number);
         number += 1;
     }
     Ok(())

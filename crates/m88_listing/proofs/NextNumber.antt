@@ -1,0 +1,64 @@
+-- The column of a number, and that of the next one.
+use Rattle.std.proofs.Common.{◌≡◌, ℕ, zero, suc, ◌+◌, ◌-◌, ◌/◌, ◌%◌, ◌^◌, ◌<◌, ◌≤◌, List, [], ◌∷◌, ◌++◌, length, get_or, set, refl, sym, ap, ◌∙◌, append_assoc, arith, length-append}
+use Rattle.std.specs.Prelude.{decimal}
+use Rattle.std.proofs.lemmas.Fmt.{decimal_digit, decimal_step, length-decimal-le}
+use Rattle.std.proofs.lemmas.List.{length-replicate}
+use Rattle.std.proofs.Math.Seq.{get_or-append_seam, set-append_seam}
+use Rattle.m88_base.specs.Lines.{line_end}
+use Rattle.m88_listing.specs.Columns.{at_right, blank, blanks}
+
+-- what stands before the last digit
+abbrev front : ℕ → List ℕ
+front zero = blanks 6
+front (suc tens) = blanks (6 - length (decimal (suc tens))) ++ decimal (suc tens)
+
+-- that is as wide as the column without its last place
+wide : (tens : ℕ) → tens < 10 ^ 6 → length (front tens) ≡ 6
+wide zero small = refl
+wide (suc tens) small =
+    let ds = decimal (suc tens) in
+    omega (
+      arith,
+      length-append (blanks (6 - length ds)) ds,
+      length-replicate (6 - length ds) blank,
+      length-decimal-le 6 (suc tens) (omega arith) small (omega (arith, small)),
+    )
+
+-- a number in its column is that and the last digit
+one_digit : (n : ℕ) → n < 10 → at_right 7 (decimal n) ≡ blanks 6 ++ (48 + n) ∷ []
+one_digit n h = ap (at_right 7) (decimal_digit n h)
+
+more_digits : (n : ℕ) → 10 ≤ n → n < 2 ^ 64
+    → at_right 7 (decimal n) ≡ (blanks (6 - length (decimal (n / 10))) ++ decimal (n / 10)) ++ (48 + n % 10) ∷ []
+more_digits n h small =
+    let tens = decimal (n / 10) in
+    let last = (48 + n % 10) ∷ [] in
+    ap (at_right 7) (decimal_step n h small)
+    ∙ ap (λ k. blanks k ++ (tens ++ last)) (omega (arith, length-append tens last))
+    ∙ sym (append_assoc (blanks (6 - length tens)) tens last)
+
+parted : (n tens : ℕ) → tens ≡ n / 10 → n < 10 ^ 7 → at_right 7 (decimal n) ≡ front tens ++ (48 + n % 10) ∷ []
+parted n zero e small = one_digit n (omega (arith, e)) ∙ ap (λ d. blanks 6 ++ (48 + d) ∷ []) (omega (arith, e))
+parted n (suc tens) e small =
+    more_digits n (omega (arith, e)) (omega (arith, small))
+    ∙ ap (λ q. (blanks (6 - length (decimal q)) ++ decimal q) ++ (48 + n % 10) ∷ []) (sym e)
+
+-- where the last digit is below 9, one more there is the next number
+pub counted : (cell : List ℕ) (n : ℕ) → n + 1 < 10 ^ 7 → cell ≡ at_right 7 (decimal n) ++ line_end → get_or cell 6 0 < 57
+    → set cell 6 (get_or cell 6 0 + 1) ≡ at_right 7 (decimal (n + 1)) ++ line_end
+counted cell n small e below =
+    let f = front (n / 10) in
+    let d = 48 + n % 10 in
+    let six : length f ≡ 6 = wide (n / 10) (omega (arith, small)) in
+    let is : cell ≡ f ++ d ∷ line_end =
+    e ∙ ap (λ t. t ++ line_end) (parted n (n / 10) refl (omega (arith, small))) ∙ append_assoc f (d ∷ []) line_end in
+    let last : get_or cell 6 0 ≡ d =
+    ap (λ c. get_or c 6 0) is ∙ ap (λ k. get_or (f ++ d ∷ line_end) k 0) (sym six) ∙ get_or-append_seam f d line_end 0 in
+    let next : at_right 7 (decimal (n + 1)) ≡ f ++ (48 + (n + 1) % 10) ∷ [] = parted (n + 1) (n / 10) (omega (arith, last, below)) small in
+    ap (λ x. set cell 6 (x + 1)) last
+    ∙ ap (λ c. set c 6 (d + 1)) is
+    ∙ ap (λ k. set (f ++ d ∷ line_end) k (d + 1)) (sym six)
+    ∙ set-append_seam f d line_end (d + 1)
+    ∙ ap (λ x. f ++ x ∷ line_end) (omega (arith, last, below))
+    ∙ sym (append_assoc f ((48 + (n + 1) % 10) ∷ []) line_end)
+    ∙ ap (λ t. t ++ line_end) (sym next)
