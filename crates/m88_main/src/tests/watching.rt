@@ -91,6 +91,26 @@ const WATCHED: &[Watched] = &[
         ],
     ),
     (
+        "run 1 none ireer mxm",
+        b"ld.d r2,r0,0x5003\n",
+        &[
+            (1, 1, 0, 0x1004, true, true),
+            (2, 1, 1, 0x1004, true, true),
+            (3, 1, 1, 0x1004, true, true),
+            (4, 1, 1, 0x1004, true, true),
+            (5, 1, 2, 0x1004, true, true),
+        ],
+    ),
+    (
+        "mon none ie mxm",
+        b"step 2\ndrain\nsource\nld r2,r0,0x5001\n",
+        &[
+            (1, 1, 0, 0x1004, true, true),
+            (2, 1, 0, 0x1004, true, true),
+            (3, 1, 1, 0x1004, true, true),
+        ],
+    ),
+    (
         "soak 0 2",
         b"",
         &[
