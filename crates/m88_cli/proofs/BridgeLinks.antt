@@ -22,7 +22,7 @@ use Rattle.m88_cli.specs.Assembly.{IsProgramSource, IsRefusedProgram}
 use Rattle.m88_cli.specs.Bridge.{AssembledLinksAlike, FitsInput}
 use Rattle.m88_cli.specs.Command.{asm, build, link}
 use Rattle.m88_cli.specs.Objects.{IsLinkableText, IsRefusedObjects}
-use Rattle.m88_cli.specs.Refusal.{Refusal}
+use Rattle.m88_base.specs.Refusal.{Refusal}
 use Rattle.m88_cli.proofs.OneObjects.{no_form, no_range}
 use Rattle.m88_cli.proofs.OneSource.{one_refusal}
 use Rattle.m88_asm.proofs.Layouts.{linkable_too, linked_too, one_text, refused_first, refused_too}
@@ -108,10 +108,10 @@ from_link source objects text short w h =
     recorded source text u image w.is_unit accepted of h.output.is_output
 
 -- a line that refuses the source's layout refuses that of the objects
-refusal_too : (source objects : List ℕ) (w : Written source objects) (r : Refusal) → IsRefusedProgram source r
+refusal_too : (source objects : List ℕ) (w : Written source objects) (r : Refusal) → IsRefusedProgram 0 source r
     → IsRefusedObjects objects r
 refusal_too source objects w r (inl refused) =
-    absurd (not_assembled source r (record { unit = w.unit; is_unit = w.is_unit; is_assembled = w.assembled }) refused)
+    absurd (not_assembled 0 source r (record { unit = w.unit; is_unit = w.is_unit; is_assembled = w.assembled }) refused)
 refusal_too source objects w r (inr unlinked) = inr (inr (record {
   objects = objects_of w.unit;
   is_text = w.is_text;
@@ -136,7 +136,7 @@ refused_link source objects text w h = record {
 
 -- a line that refuses the objects refuses the layout of the source
 refusal_first : (source objects : List ℕ) (w : Written source objects) (r : Refusal) → IsRefusedObjects objects r
-    → IsRefusedProgram source r
+    → IsRefusedProgram 0 source r
 refusal_first source objects w r (inl form) = absurd (no_form objects (objects_of w.unit) form.line w.is_text form.is_first)
 refusal_first source objects w r (inr (inl range)) =
     absurd (no_range objects (objects_of w.unit) range.line w.is_text range.is_first)

@@ -1,29 +1,21 @@
--- What a text of objects is linked into answers it, and so does the line that refuses it.
-use Rattle.std.proofs.Common.{◌≡◌, ◌≢◌, ℕ, List, Result, Ok, Err, inl, inr, refl, subst}
-use Rattle.std.specs.Prelude.{◌⊎◌, IfOk}
+-- What a text of objects is linked into answers it, and a refusal of its layout refuses it.
+use Rattle.std.proofs.Common.{◌≡◌, ◌≢◌, ℕ, List, inl, inr, subst}
+use Rattle.std.specs.Prelude.{◌⊎◌}
 use Rattle.m88_base.specs.Image.{IsImage, ProgramImage}
-use Rattle.m88_base.specs.declared.failing.NoMemory.{NoMemory}
+use Rattle.m88_base.specs.Refusal.{Refusal}
 use Rattle.m88_link.specs.Faults.{memory_fault}
 use Rattle.m88_link.specs.Layout.{layout_of}
 use Rattle.m88_link.specs.Linked.{IsLinked}
-use Rattle.m88_link.specs.ObjectRead.{IsSoundText, IsTextFault}
+use Rattle.m88_link.specs.ObjectRead.{IsSoundText}
 use Rattle.m88_link.specs.Refusal.{IsLinkable, IsRefused}
 use Rattle.m88_link.specs.declared.fault.LinkFault.{LinkFault}
 use Rattle.m88_link.specs.declared.object.Object.{Object}
-use Rattle.m88_link.specs.declared.object_fault.ObjectFault.{ObjectFault}
-use Rattle.m88_link.specs.declared.object_fault.ObjectFault.TheVariants.{Form, Range, Memory}
 use Rattle.m88_srec.specs.Written.{srec_text}
 use Rattle.m88_cli.specs.Answer.{IsAnswerToAccepted}
 use Rattle.m88_cli.specs.Assembly.{link_refusal}
-use Rattle.m88_cli.specs.Behind.{link_fault_behind}
 use Rattle.m88_cli.specs.Command.{link}
-use Rattle.m88_cli.specs.Linking.{RefusesObjects}
-use Rattle.m88_cli.specs.Objects.{IsImageOfObjects, IsRefusedObjects, form_refusal, range_refusal}
-use Rattle.m88_cli.specs.Reply.{Replies}
-use Rattle.m88_cli.specs.declared.reply.Reply.{Reply}
+use Rattle.m88_cli.specs.Objects.{IsImageOfObjects, IsRefusedObjects}
 use Rattle.m88_cli.proofs.OneObjects.{one_image_of}
-use Rattle.m88_cli.proofs.OneUnit.{link_first}
-use Rattle.m88_cli.proofs.Refusing.{refused_reply}
 
 -- what holds of objects that were given holds of the text's
 of_given : (P : List Object → Type 0) (given objects : List Object) → given ≡ objects → P given → P objects
@@ -47,24 +39,10 @@ linked_text text output given objects image e is_text is_linkable is_linked is_i
       };
     }
 
--- the refusal of a text that is none of sound objects
-pub objects_refused : (text : List ℕ) (fault : ObjectFault) (result : Result Reply NoMemory)
-    → (fault ≡ Memory) ⊎ IsTextFault text fault → IfOk result (RefusesObjects fault) → IfOk result (Replies link text)
-objects_refused text fault (Err e) first told = tt
-objects_refused text (Form n) (Ok r) (inl memory) told = absurd cc
-objects_refused text (Form n) (Ok r) (inr first) told =
-    refused_reply {Told = Unit {0}} link text (form_refusal n) (Ok r)
-    (λ _. inl (record { line = n; is_first = first; refusal = refl })) told.line told.refused tt
-objects_refused text (Range n) (Ok r) (inl memory) told = absurd cc
-objects_refused text (Range n) (Ok r) (inr first) told =
-    refused_reply {Told = Unit {0}} link text (range_refusal n) (Ok r)
-    (λ _. inr (inl (record { line = n; is_first = first; refusal = refl }))) told.line told.refused tt
-objects_refused text Memory (Ok r) first told = absurd told
-
--- and that of one whose layout is refused
-pub layout_refused : (text : List ℕ) (given objects : List Object) (fault : LinkFault) → given ≡ objects → IsSoundText objects text
-    → (fault ≡ memory_fault) ⊎ IsRefused (layout_of given) fault → fault ≢ memory_fault → IsRefusedObjects text (link_refusal (link_fault_behind 0 fault))
-layout_refused text given objects fault e is_text (inl memory) told = absurd (told memory)
-layout_refused text given objects fault e is_text (inr refused) told =
+-- the refusal of a text whose layout is refused
+pub layout_refused : (text : List ℕ) (given objects : List Object) (fault : LinkFault) (r : Refusal) → given ≡ objects → IsSoundText objects text
+    → (fault ≡ memory_fault) ⊎ IsRefused (layout_of given) fault → fault ≢ memory_fault → r ≡ link_refusal 0 fault → IsRefusedObjects text r
+layout_refused text given objects fault r e is_text (inl memory) told is = absurd (told memory)
+layout_refused text given objects fault r e is_text (inr refused) told is =
     let of_text = of_given (λ os. IsRefused (layout_of os) fault) given objects e refused in
-    inr (inr (record { objects = objects; is_text = is_text; fault = fault; is_refused = of_text; refusal = link_first fault }))
+    inr (inr (record { objects = objects; is_text = is_text; fault = fault; is_refused = of_text; refusal = is }))

@@ -12,7 +12,7 @@ use Rattle.m88_link.specs.declared.object.Object.{Object}
 use Rattle.m88_link.specs.declared.object_fault.ObjectFault.TheVariants.{Form, Range}
 use Rattle.m88_cli.specs.Assembly.{link_refusal}
 use Rattle.m88_cli.specs.Objects.{IsImageOfObjects, IsLinkableText, IsRefusedObjects, IsUnlinkable, form_refusal, range_refusal}
-use Rattle.m88_cli.specs.Refusal.{Refusal}
+use Rattle.m88_base.specs.Refusal.{Refusal}
 
 -- a text is that of one list of sound objects
 one_list : (text : List ℕ) (os ps : List Object) → IsSoundText os text → IsSoundText ps text → os ≡ ps
@@ -50,7 +50,7 @@ same_unlinkable text r s a b =
     let same = one_list text a.objects b.objects a.is_text b.is_text in
     let fault = one_refusal (layout_of b.objects) a.fault b.fault
     (subst (λ (os : List Object). IsRefused (layout_of os) a.fault) same a.is_refused) b.is_refused in
-    a.refusal ∙ ap link_refusal fault ∙ sym b.refusal
+    a.refusal ∙ ap (link_refusal 0) fault ∙ sym b.refusal
 
 pub same_objects_refusal : (text : List ℕ) (r s : Refusal) → IsRefusedObjects text r → IsRefusedObjects text s → r ≡ s
 same_objects_refusal text r s (inl a) (inl b) = a.refusal ∙ ap form_refusal (one_form text a.line b.line a.is_first b.is_first) ∙ sym b.refusal

@@ -21,17 +21,16 @@ use Rattle.m88_asm.specs.declared.fault.UnitFault.TheVariants as unit_kind
 use Rattle.m88_srec.proofs.Law as records
 use Rattle.m88_cli.specs.Answer.{Accepts, Refuses}
 use Rattle.m88_cli.specs.Assembly.{IsAssemblySource, IsProgramSource, IsRefusedProgram, IsRefusedSource}
-use Rattle.m88_cli.specs.Behind.{IsRefusedBehind, unassembled_behind, unlinked_behind, unread_behind}
 use Rattle.m88_cli.specs.Command.{Command, InputKind, no_input, source_to_assemble, source_to_link, object_text, record_text, scripted_source, kind_of}
 use Rattle.m88_cli.specs.Kinds.{IsAcceptedAs, IsRefusedAs}
 use Rattle.m88_cli.specs.Loading.{IsRecords, IsRefusedRecords, srec_refusal}
 use Rattle.m88_cli.specs.Monitoring.{IsMonitorInput, IsRefusedMonitor}
 use Rattle.m88_cli.specs.Objects.{IsLinkableText, IsRefusedObjects}
-use Rattle.m88_cli.specs.Refusal.{Refusal}
+use Rattle.m88_base.specs.Refusal.{Refusal}
 use Rattle.m88_cli.proofs.OneObjects.{not_linkable, same_objects_refusal}
 use Rattle.m88_cli.proofs.Monitored.{not_accepted, refused_once}
 use Rattle.m88_cli.proofs.OneScript as scripts
-use Rattle.m88_cli.proofs.OneUnit.{not_assembled, not_linked, same_program_refusal, same_refusal, whole_input}
+use Rattle.m88_cli.proofs.OneUnit.{not_assembled, not_linked, same_program_refusal, same_refusal}
 
 -- S-records that are refused are none that are accepted
 not_loaded : (text : List ℕ) (r : Refusal) → IsRecords text → IsRefusedRecords text r → ⊥
@@ -44,38 +43,33 @@ same_records text r s a b =
     a.refusal ∙ ap srec_refusal fault ∙ sym b.refusal
 
 -- a source is assembled or refused
-assembly_or_refusal : (source : List ℕ) → IsAssemblySource source ⊎ ((r : Refusal) × IsRefusedSource source r)
+assembly_or_refusal : (source : List ℕ) → IsAssemblySource source ⊎ ((r : Refusal) × IsRefusedSource 0 source r)
 assembly_or_refusal source = elim (sources.one_verdict source).some [
   | inl unit ↦ by_statements unit.0 unit.1 (unit_fault unit.0) refl
   | inr fault ↦ inr (_, inl (record { fault = fault.0; is_first = fault.1; refusal = refl }))
 ]
   where
     by_statements : (u : Source) → IsUnit source u → (o : Option AsmFault) → unit_fault u ≡ o
-        → IsAssemblySource source ⊎ ((r : Refusal) × IsRefusedSource source r)
+        → IsAssemblySource source ⊎ ((r : Refusal) × IsRefusedSource 0 source r)
     by_statements u is_unit None none = inl (record { unit = u; is_unit = is_unit; is_assembled = none })
     by_statements u is_unit (Some fault) first =
         inr (_, inr (record { unit = u; is_unit = is_unit; fault = fault; is_first = first; refusal = refl }))
 
 -- and assembled and linked, or refused, behind other lines of its input too
-program_or_refusal : (n : ℕ) (source : List ℕ) → IsProgramSource source ⊎ ((r : Refusal) × IsRefusedBehind n source r)
+program_or_refusal : (n : ℕ) (source : List ℕ) → IsProgramSource source ⊎ ((r : Refusal) × IsRefusedProgram n source r)
 program_or_refusal n source = elim (sources.one_verdict source).some [
-  | inr fault ↦ inr (_, unread_behind fault.0 fault.1 refl)
+  | inr fault ↦ inr (_, inl (inl (record { fault = fault.0; is_first = fault.1; refusal = refl })))
   | inl unit ↦ elim (units.one_verdict unit.0).some [
     | inl accepted ↦ inl (record { unit = unit.0; is_unit = unit.1; is_accepted = accepted.1 })
     | inr fault ↦ inr (by_fault unit.0 unit.1 fault.0 fault.1)
   ]
 ]
   where
-    by_fault : (u : Source) → IsUnit source u → (fault : UnitFault) → IsFirstUnitFault u fault → (r : Refusal) × IsRefusedBehind n source r
-    by_fault u is_unit (unit_kind.Asm fault) first = (_, unassembled_behind u fault is_unit first refl)
-    by_fault u is_unit (unit_kind.Link fault) (assembled, refused) = (_, unlinked_behind u fault is_unit assembled refused refl)
-
--- a source that is the whole of an input
-as_whole : (source : List ℕ) → IsProgramSource source ⊎ ((r : Refusal) × IsRefusedProgram source r)
-as_whole source = elim (program_or_refusal 0 source) [
-  | inl program ↦ inl program
-  | inr refused ↦ inr (refused.0, whole_input source refused.0 refused.1)
-]
+    by_fault : (u : Source) → IsUnit source u → (fault : UnitFault) → IsFirstUnitFault u fault → (r : Refusal) × IsRefusedProgram n source r
+    by_fault u is_unit (unit_kind.Asm fault) first =
+        (_, inl (inr (record { unit = u; is_unit = is_unit; fault = fault; is_first = first; refusal = refl })))
+    by_fault u is_unit (unit_kind.Link fault) (assembled, refused) =
+        (_, inr (record { unit = u; is_unit = is_unit; is_assembled = assembled; fault = fault; is_refused = refused; refusal = refl }))
 
 -- S-records are accepted or refused
 records_or_refusal : (text : List ℕ) → IsRecords text ⊎ ((r : Refusal) × IsRefusedRecords text r)
@@ -145,9 +139,9 @@ told_once IsReason either not_both one = record {
 of_kind : (kind : InputKind) (input : List ℕ) → HasOneFaultUnless (IsAcceptedAs kind input) (IsRefusedAs kind input)
 of_kind no_input input = told_once (IsRefusedAs no_input input) (inl tt) (λ r accepted refused. refused) (λ r s a b. absurd a)
 of_kind source_to_assemble source =
-    told_once (IsRefusedSource source) (assembly_or_refusal source) (not_assembled source) (same_refusal source)
+    told_once (IsRefusedSource 0 source) (assembly_or_refusal source) (not_assembled 0 source) (same_refusal 0 source)
 of_kind source_to_link source =
-    told_once (IsRefusedProgram source) (as_whole source) (not_linked source) (same_program_refusal source)
+    told_once (IsRefusedProgram 0 source) (program_or_refusal 0 source) (not_linked 0 source) (same_program_refusal 0 source)
 of_kind object_text text =
     told_once (IsRefusedObjects text) (objects_or_refusal text) (not_linkable text) (same_objects_refusal text)
 of_kind record_text text =

@@ -1,11 +1,11 @@
--- A line writes one command of the monitor, and the line `source` none.
+-- A line writes one command of the monitor.
 use Rattle.std.proofs.Common.{◌≡◌, ℕ, ◌≤◌, Option, Some, List, ◌∷◌, ◌++◌, codes, get_or, length, append_assoc, refl, ap, sym, ◌∙◌, subst, arith}
 use Rattle.std.specs.Option.{option_map}
 use Rattle.std.proofs.lemmas.List.{append_cancel_left}
 use Rattle.std.proofs.lemmas.Int.Digits.{digits_value-lt}
 use Rattle.std.proofs.Math.Nat.{pow-le-pow_right}
 use Rattle.m88_base.specs.Cut.{Lacks}
-use Rattle.m88_cli.specs.Script.{HasOperand, IsCount, AreMemoryOperands, WritesAddress, WritesCommand, most_steps, most_words, source_line}
+use Rattle.m88_cli.specs.Script.{HasOperand, IsCount, AreMemoryOperands, WritesAddress, WritesCommand, most_steps, most_words}
 use Rattle.m88_cli.specs.declared.script.MonitorCommand.{MonitorCommand}
 use Rattle.m88_cli.specs.declared.script.MonitorCommand.TheVariants.{Step, Go, Break, Regs, Pipe, Memory, Drain, Trace}
 use Rattle.m88_base.proofs.Marks.{cut_once, none_in_digits}
@@ -106,8 +106,3 @@ same_command Drain Drain line a b = refl
 same_command (Trace m) (Trace n) line a b =
     ap (λ k. Trace k) (same_count most_steps m n a.operand a.is_such (same_operand (codes "trace") (λ t. IsCount most_steps t n) line a.operand a.line_is b))
 same_command c d line a b = let k = others line (letter_of c) (letter_of d) (begins c line a) (begins d line b) in absurd (omega (arith, k))
-
--- the line `source` writes none
-pub source_writes_none : (c : MonitorCommand) → WritesCommand c source_line → ⊥
-source_writes_none (Step n) h = let k : get_or source_line 1 0 ≡ 116 = ap (λ (t : List ℕ). get_or t 1 0) h.line_is in absurd (omega (arith, k))
-source_writes_none c h = let k : 115 ≡ letter_of c = begins c source_line h in absurd (omega (arith, k))

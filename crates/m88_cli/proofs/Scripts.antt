@@ -1,15 +1,17 @@
--- Lines are those of a script in one way, and lines that begin with lines that stop a script are none of a script's.
-use Rattle.std.proofs.Common.{◌≡◌, ℕ, ◌≤◌, ◌<◌, ◌+◌, List, [], ◌∷◌, ◌++◌, length, length-append, append_assoc, refl, ap, sym, ◌∙◌, subst, arith}
+-- Lines are those of a script in one way, or one of them is the first by which they are none of a script's.
+use Rattle.std.proofs.Common.{◌≡◌, ℕ, zero, suc, ◌≤◌, ◌<◌, ◌+◌, ◌-◌, List, [], ◌∷◌, ◌++◌, drop, length, length-append, take, inl, inr, refl, ap, sym, ◌∙◌, subst, arith}
 use Rattle.std.specs.List.{count_by}
-use Rattle.std.proofs.lemmas.List.{append-nil}
+use Rattle.std.proofs.lemmas.List.{take-append-drop}
 use Rattle.std.proofs.lemmas.List.Sums.{sum_by-append}
 use Rattle.std.specs.Prelude.{Option, Some, None, Bool, true, false, not, ◌&&◌, ◌||◌, cond, nat_lt, ◌≢◌}
-use Rattle.std.proofs.lemmas.Bool.{lt-ltb, ltb-false, ltb-true}
-use Rattle.m88_cli.specs.Script.{AreScriptLines, HasNoScript, IsScript, StopsScript, WriteCommands, WritesCommand, behind_lines, is_break, most_breaks, most_commands, source_line}
+use Rattle.std.proofs.lemmas.Bool.{cases_order, lt-ltb, ltb-false, ltb-true}
+use Rattle.m88_base.specs.Lines.{lines_of}
+use Rattle.m88_base.proofs.PartedLines.{one_parting, parted_or_not}
+use Rattle.m88_cli.specs.Script.{AreScriptLines, HasNoScript, IsScript, StopsScript, WriteCommands, WritesCommand, is_break, most_breaks, most_commands, source_line, stopped, stopped_alone, unended}
 use Rattle.m88_cli.specs.ScriptWords.{has_room}
 use Rattle.m88_cli.specs.declared.script.MonitorCommand.{MonitorCommand}
 use Rattle.m88_cli.specs.declared.script.MonitorCommand.TheVariants.{Step, Go, Break, Regs, Pipe, Memory, Drain, Trace}
-use Rattle.m88_cli.proofs.ScriptLines.{same_command, source_writes_none}
+use Rattle.m88_cli.proofs.ScriptLines.{same_command}
 
 -- an empty line writes no command
 empty_writes_none : (c : MonitorCommand) → WritesCommand c [] → ⊥
@@ -41,7 +43,7 @@ write_empty ((b ∷ bs) ∷ lines) [] h = absurd h
 write_empty ((b ∷ bs) ∷ lines) (d ∷ cs) h = (h.0, write_empty lines cs h.1)
 
 -- what the first lines and the later ones write
-record Parted (a b : List (List ℕ)) (es : List MonitorCommand) : Type 0 where
+record Pieces (a b : List (List ℕ)) (es : List MonitorCommand) : Type 0 where
   first : List MonitorCommand
   later : List MonitorCommand
   all_are : es ≡ first ++ later
@@ -49,7 +51,7 @@ record Parted (a b : List (List ℕ)) (es : List MonitorCommand) : Type 0 where
   by_later : WriteCommands b later
 
 one_more : (line : List ℕ) (a b : List (List ℕ)) (c : MonitorCommand) (es : List MonitorCommand) (d : ℕ) (ds : List ℕ) → line ≡ d ∷ ds
-    → WritesCommand c (d ∷ ds) → Parted a b es → Parted ((d ∷ ds) ∷ a) b (c ∷ es)
+    → WritesCommand c (d ∷ ds) → Pieces a b es → Pieces ((d ∷ ds) ∷ a) b (c ∷ es)
 one_more line a b c es d ds e is h = record {
   first = c ∷ h.first;
   later = h.later;
@@ -58,7 +60,7 @@ one_more line a b c es d ds e is h = record {
   by_later = h.by_later;
 }
 
-part : (a b : List (List ℕ)) (es : List MonitorCommand) → WriteCommands (a ++ b) es → Parted a b es
+part : (a b : List (List ℕ)) (es : List MonitorCommand) → WriteCommands (a ++ b) es → Pieces a b es
 part [] b es h = record { first = []; later = es; all_are = refl; by_first = refl; by_later = h }
 part ([] ∷ a) b es h = let k = part a b es h in
     record { first = k.first; later = k.later; all_are = k.all_are; by_first = k.by_first; by_later = k.by_later }
@@ -73,14 +75,6 @@ same_commands ((b ∷ bs) ∷ lines) [] ds h k = absurd h
 same_commands ((b ∷ bs) ∷ lines) (c ∷ cs) [] h k = absurd k
 same_commands ((b ∷ bs) ∷ lines) (c ∷ cs) (d ∷ ds) h k =
     ap (λ x. x ∷ cs) (same_command c d (b ∷ bs) h.0 k.0) ∙ ap (λ xs. d ∷ xs) (same_commands lines cs ds h.1 k.1)
-
--- none of them is the line `source`
-source_stops : (later : List (List ℕ)) (es : List MonitorCommand) → WriteCommands (source_line ∷ later) es → ⊥
-source_stops later [] h = absurd h
-source_stops later (c ∷ es) h = source_writes_none c h.0
-
-has_no_source : (a b : List (List ℕ)) (es : List MonitorCommand) → WriteCommands (a ++ source_line ∷ b) es → ⊥
-has_no_source a b es h = let k = part a (source_line ∷ b) es h in source_stops b k.later k.by_later
 
 -- the commands of some lines are no more than those of more lines
 abbrev count_of : List MonitorCommand → ℕ
@@ -134,79 +128,32 @@ no_room lines cs es line c h is full all =
     let breaks : count_by is_break es ≡ count_by is_break (cs ++ c ∷ []) = ap (count_by is_break) same in
     full (omega (arith, all.few)) (omega (arith, all.few_breaks))
 
--- two ways to part lines: one of the fronts begins with the other
-data Meet (a b x y : List (List ℕ)) : Type 0 where
-  second_longer : (d : List (List ℕ)) → b ≡ a ++ d → x ≡ d ++ y → Meet a b x y
-  first_longer : (d : List (List ℕ)) → a ≡ b ++ d → y ≡ d ++ x → Meet a b x y
+-- lines have one line that stops them, or none
+whole_front : (lines : List (List ℕ)) (n : ℕ) (cs : List MonitorCommand) → AreScriptLines lines cs → FrontOf (take n lines)
+whole_front lines n cs h = front_of (take n lines) (drop n lines) cs (subst (λ ls. AreScriptLines ls cs) (sym (take-append-drop n lines)) h)
 
-meet_more : (l m : List ℕ) (a b x y : List (List ℕ)) → l ≡ m → Meet a b x y → Meet (l ∷ a) (m ∷ b) x y
-meet_more l m a b x y e (second_longer d f g) = second_longer d (ap (λ k. k ∷ b) (sym e) ∙ ap (λ ls. l ∷ ls) f) g
-meet_more l m a b x y e (first_longer d f g) = first_longer d (ap (λ k. k ∷ a) e ∙ ap (λ ls. m ∷ ls) f) g
+pub not_stopped : (lines : List (List ℕ)) (n : ℕ) (cs : List MonitorCommand) → AreScriptLines lines cs → StopsScript lines n → ⊥
+not_stopped lines n cs h stops = let front = whole_front lines n cs h in stops.stops front.commands front.are_script
 
-meet : (a b x y : List (List ℕ)) → a ++ x ≡ b ++ y → Meet a b x y
-meet [] b x y e = second_longer b refl e
-meet (l ∷ a) [] x y e = first_longer (l ∷ a) refl (sym e)
-meet (l ∷ a) (m ∷ b) x y e =
-    let first : l ≡ m = cc in
-    let later : a ++ x ≡ b ++ y = cc in
-    meet_more l m a b x y first (meet a b x y later)
+take_front : (m k : ℕ) (ls : List (List ℕ)) → m ≤ k → take m (take k ls) ≡ take m ls
+take_front zero k ls h = refl
+take_front (suc m) zero ls h = absurd (omega arith)
+take_front (suc m) (suc k) [] h = refl
+take_front (suc m) (suc k) (l ∷ ls) h = ap (λ ms. let all : List (List ℕ) = l ∷ ms in all) (take_front m k ls (omega arith))
 
--- lines of a script that go on with others of its lines don't stop
-goes_on : (a d x y : List (List ℕ)) (es : List MonitorCommand) → AreScriptLines (a ++ d) es → x ≡ d ++ y → StopsScript a x → d ≡ []
-goes_on a [] x y es h e stops = refl
-goes_on a (l ∷ d) x y es h e stops =
-    let own : StopsScript a ((l ∷ d) ++ y) = subst (StopsScript a) e stops in
-    let front = front_of (a ++ l ∷ []) d es (subst (λ ls. AreScriptLines ls es) (sym (append_assoc a (l ∷ []) d)) h) in
-    absurd (own.1 front.commands front.are_script)
+later_stop : (lines : List (List ℕ)) (m n : ℕ) → StopsScript lines m → StopsScript lines n → m < n → ⊥
+later_stop lines m n h k less =
+    let front = whole_front (take (n - 1) lines) m k.commands k.are_script in
+    h.stops front.commands (subst (λ ls. AreScriptLines ls front.commands) (take_front m (n - 1) lines (omega arith)) front.are_script)
 
--- where they stop there is no line `source`
-stops_before : (a later : List (List ℕ)) → StopsScript a (source_line ∷ later) → ⊥
-stops_before a later stops = stops.0 refl
+pub one_line : (lines : List (List ℕ)) (m n : ℕ) → StopsScript lines m → StopsScript lines n → m ≡ n
+one_line lines m n h k = elim (cases_order m n) [
+  | inl same ↦ same
+  | inr (inl less) ↦ absurd (later_stop lines m n h k less)
+  | inr (inr more) ↦ absurd (later_stop lines n m k h more)
+]
 
--- an input that has no script is none that has one
-both_by : (a b x y : List (List ℕ)) (cs es : List MonitorCommand) → AreScriptLines a cs → AreScriptLines b es → StopsScript b y
-    → Meet a b (source_line ∷ x) y → ⊥
-both_by a b x y cs es h k stops (second_longer [] f g) = stops_before b x (subst (StopsScript b) (sym g) stops)
-both_by a b x y cs es h k stops (second_longer (l ∷ d) f g) =
-    let same : source_line ≡ l = cc in
-    has_no_source a d es (subst (λ ls. WriteCommands ls es) (f ∙ ap (λ m. a ++ m ∷ d) (sym same)) k.write)
-both_by a b x y cs es h k stops (first_longer d f g) =
-    let none = goes_on b d y (source_line ∷ x) cs (subst (λ ls. AreScriptLines ls cs) f h) g stops in
-    stops_before b x (subst (StopsScript b) (g ∙ ap (λ ls. ls ++ source_line ∷ x) none) stops)
-
-pub not_both : (input : List ℕ) (cs : List MonitorCommand) (n m : ℕ) (source : List ℕ) → IsScript input cs n source → HasNoScript input m → ⊥
-not_both input cs n m source h k =
-    both_by h.lines k.lines h.later k.later cs k.commands h.are_script k.are_script k.stops
-    (meet h.lines k.lines (source_line ∷ h.later) k.later (sym h.lines_are ∙ k.lines_are))
-
--- it has no script at one line
-stop_by : (a b x y : List (List ℕ)) (cs es : List MonitorCommand) → AreScriptLines a cs → AreScriptLines b es → StopsScript a x → StopsScript b y
-    → Meet a b x y → length a ≡ length b
-stop_by a b x y cs es h k stops stop (second_longer d f g) =
-    let none = goes_on a d x y es (subst (λ ls. AreScriptLines ls es) f k) g stops in
-    sym (ap length (f ∙ ap (λ ls. a ++ ls) none ∙ append-nil a))
-stop_by a b x y cs es h k stops stop (first_longer d f g) =
-    let none = goes_on b d y x cs (subst (λ ls. AreScriptLines ls cs) f h) g stop in
-    ap length (f ∙ ap (λ ls. b ++ ls) none ∙ append-nil b)
-
-pub one_stop : (input : List ℕ) (m n : ℕ) → HasNoScript input m → HasNoScript input n → m ≡ n
-one_stop input m n h k =
-    let same = stop_by h.lines k.lines h.later k.later h.commands k.commands h.are_script k.are_script h.stops k.stops
-    (meet h.lines k.lines h.later k.later (sym h.lines_are ∙ k.lines_are)) in
-    h.number ∙ ap (λ l. l + 1) same ∙ sym k.number
-
--- it has one script
-lines_by : (a b x y : List (List ℕ)) (cs es : List MonitorCommand) → WriteCommands a cs → WriteCommands b es
-    → Meet a b (source_line ∷ x) (source_line ∷ y) → a ≡ b
-lines_by a b x y cs es h k (second_longer [] f g) = sym (f ∙ append-nil a)
-lines_by a b x y cs es h k (second_longer (l ∷ d) f g) =
-    let same : source_line ≡ l = cc in
-    absurd (has_no_source a d es (subst (λ ls. WriteCommands ls es) (f ∙ ap (λ m. a ++ m ∷ d) (sym same)) k))
-lines_by a b x y cs es h k (first_longer [] f g) = f ∙ append-nil b
-lines_by a b x y cs es h k (first_longer (l ∷ d) f g) =
-    let same : source_line ≡ l = cc in
-    absurd (has_no_source b d cs (subst (λ ls. WriteCommands ls cs) (f ∙ ap (λ m. b ++ m ∷ d) (sym same)) h))
-
+-- an input has one script, or none at one line
 pub record SameScript (cs ds : List MonitorCommand) (n m : ℕ) (s t : List ℕ) : Type 0 where
   pub commands : cs ≡ ds
   pub lines : n ≡ m
@@ -215,14 +162,32 @@ pub record SameScript (cs ds : List MonitorCommand) (n m : ℕ) (s t : List ℕ)
 pub one_script : (input : List ℕ) (cs ds : List MonitorCommand) (n m : ℕ) (s t : List ℕ) → IsScript input cs n s → IsScript input ds m t
     → SameScript cs ds n m s t
 one_script input cs ds n m s t h k =
-    let lines = lines_by h.lines k.lines h.later k.later cs ds h.are_script.write k.are_script.write
-    (meet h.lines k.lines (source_line ∷ h.later) (source_line ∷ k.later) (sym h.lines_are ∙ k.lines_are)) in
-    let number : n ≡ m = h.number ∙ ap (λ ls. length ls + 1) lines ∙ sym k.number in
+    let same = one_parting source_line input h.script n s h.is_parted k.script m t k.is_parted in
     record {
-      commands = same_commands k.lines cs ds (subst (λ ls. WriteCommands ls cs) lines h.are_script.write) k.are_script.write;
-      lines = number;
-      source = h.source_is ∙ ap (λ l. behind_lines l input) number ∙ sym k.source_is;
+      commands = same_commands (lines_of k.script) cs ds (subst (λ text. WriteCommands (lines_of text) cs) same.0 h.are_script.write) k.are_script.write;
+      lines = same.1;
+      source = same.2;
     }
+
+pub not_both : (input : List ℕ) (cs : List MonitorCommand) (n m : ℕ) (source : List ℕ) → IsScript input cs n source → HasNoScript input m → ⊥
+not_both input cs n m source h (stopped script i other parted stops) =
+    let same = one_parting source_line input script i other parted h.script n source h.is_parted in
+    not_stopped (lines_of h.script) m cs h.are_script (subst (λ text. StopsScript (lines_of text) m) same.0 stops)
+not_both input cs n m source h (stopped_alone i unparted stops) = parted_or_not source_line input h.script n source h.is_parted i unparted
+not_both input cs n m source h (unended i others unparted are e) = parted_or_not source_line input h.script n source h.is_parted i unparted
+
+pub one_stop : (input : List ℕ) (m n : ℕ) → HasNoScript input m → HasNoScript input n → m ≡ n
+one_stop input m n (stopped a i s h stops) (stopped b j t k stop) =
+    let same = one_parting source_line input a i s h b j t k in
+    one_line (lines_of b) m n (subst (λ text. StopsScript (lines_of text) m) same.0 stops) stop
+one_stop input m n (stopped a i s h stops) (stopped_alone j k stop) = absurd (parted_or_not source_line input a i s h j k)
+one_stop input m n (stopped a i s h stops) (unended j cs k are e) = absurd (parted_or_not source_line input a i s h j k)
+one_stop input m n (stopped_alone i h stops) (stopped b j t k stop) = absurd (parted_or_not source_line input b j t k i h)
+one_stop input m n (stopped_alone i h stops) (stopped_alone j k stop) = one_line (lines_of input) m n stops stop
+one_stop input m n (stopped_alone i h stops) (unended j cs k are e) = absurd (not_stopped (lines_of input) m cs are stops)
+one_stop input m n (unended i cs h are e) (stopped b j t k stop) = absurd (parted_or_not source_line input b j t k i h)
+one_stop input m n (unended i cs h are e) (stopped_alone j k stop) = absurd (not_stopped (lines_of input) n cs are stop)
+one_stop input m n (unended i cs h are e) (unended j ds k too d) = e ∙ ap (λ l. l + 1) (h.number ∙ sym k.number) ∙ sym d
 
 -- whether there is room, by the counts
 room_by : (a b c : Bool) (n : ℕ) → (a && (not b || c)) ≡ true → (b ≡ true → c ≡ true → n + 1 ≤ most_breaks) → n ≤ most_breaks

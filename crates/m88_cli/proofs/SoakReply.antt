@@ -1,12 +1,11 @@
 -- The reply of `soak`: its source is accepted, so it isn't refused, and its letters are read as its schedule.
-use Rattle.std.proofs.Common.{◌≡◌, ℕ, zero, suc, ◌*◌, ◌≤◌, List, Option, None, Some, false, Result, length, add-one, ap, ◌∙◌, subst, inr, sym, arith}
-use Rattle.std.specs.Prelude.{IfOk, map}
+use Rattle.std.proofs.Common.{◌≡◌, ℕ, zero, suc, ◌*◌, ◌≤◌, List, Option, None, Some, false, length, add-one, ap, ◌∙◌, subst, inr, sym, arith}
+use Rattle.std.specs.Prelude.{map}
 use Rattle.std.specs.List.{range_with_len}
 use Rattle.std.proofs.lemmas.List.{length-map}
 use Rattle.std.proofs.lemmas.List.FromFn.{length-range_with_len}
 use Rattle.m88_base.specs.Image.{IsImage, ProgramImage}
 use Rattle.m88_base.specs.Pages.{every_page}
-use Rattle.m88_base.specs.declared.failing.NoMemory.{NoMemory}
 use Rattle.m88_isa.specs.ImageProgram.{IsProgramOf}
 use Rattle.m88_isa.specs.Machine.{Program}
 use Rattle.m88_board.specs.declared.glance.Glance.{Glance}
@@ -17,20 +16,16 @@ use Rattle.m88_event.specs.declared.letter.Letter.{Letter}
 use Rattle.m88_cli.specs.Answer.{IsAnswerToAccepted}
 use Rattle.m88_cli.specs.Command.{soak}
 use Rattle.m88_cli.specs.Linking.{HoldsUnit}
-use Rattle.m88_cli.specs.Refusal.{refusal_line}
-use Rattle.m88_cli.specs.Reply.{Replies, WatchesReply}
+use Rattle.m88_base.specs.Refusal.{Refusal}
 use Rattle.m88_cli.specs.Runs.{IsSourceProgram, workload_settings}
 use Rattle.m88_cli.specs.Limits.{most_input, most_statements}
-use Rattle.m88_cli.specs.SourceFault.{IsProgramFault, IsTold, refusal_behind}
+use Rattle.m88_cli.specs.Assembly.{IsRefusedProgram}
 use Rattle.m88_cli.specs.Watching.{SawFront, SawRun, Shown, ShownFront}
 use Rattle.m88_cli.specs.Workload.{drawn_letters, seed_after, summary_of, workload_letters, workload_schedule, workload_source}
-use Rattle.m88_cli.specs.declared.reply.Reply.{Reply}
-use Rattle.m88_cli.specs.declared.source_fault.SourceFault.{SourceFault}
 use Rattle.m88_cli.proofs.Drawing.{letters_behind, no_source}
 use Rattle.m88_cli.proofs.OneUnit.{not_linked}
 use Rattle.m88_cli.proofs.PlainSources.{workload_accepted}
 use Rattle.m88_cli.proofs.Programs.{held_by, one_source_program}
-use Rattle.m88_cli.proofs.Refusing.{program_refusal, refused_reply, refused_watch}
 use Rattle.m88_cli.proofs.Reporting.{front_of_run, reported}
 use Rattle.m88_cli.proofs.Statements.{source_grows}
 
@@ -62,25 +57,12 @@ letters_are number count text is =
     let long = letters_count number (4 * count) workload_letters in
     inr (is ∙ ap (map letter_byte) (letters_behind number (4 * count) workload_letters), omega (arith, long), omega (arith, long))
 
--- a workload has no fault, unless memory ran out
-pub no_refusal : (number count : ℕ) (source : List ℕ) (fault : SourceFault) → count ≤ most_statements
-    → source ≡ workload_source number count → IsProgramFault source fault → IsTold fault → ⊥
-no_refusal number count source fault few is faulty told =
-    not_linked (workload_source number count) (refusal_behind 0 fault) (workload_accepted number count few)
-    (program_refusal (workload_source number count) fault (subst (λ (s : List ℕ). IsProgramFault s fault) is faulty) told)
-
--- so it is never refused
-pub never_refused : (number count : ℕ) (source : List ℕ) (fault : SourceFault) (result : Result Reply NoMemory) → count ≤ most_statements
-    → source ≡ workload_source number count → IsProgramFault source fault
-    → IfOk result (λ r. r.text.items ≡ refusal_line (refusal_behind 0 fault)) → IfOk result (λ r. r.accepted ≡ false) → IfOk result (λ _. IsTold fault)
-    → (input : List ℕ) → IfOk result (Replies (soak number count) input)
-never_refused number count source fault result few is faulty line refused told input =
-    refused_reply (soak number count) input (refusal_behind 0 fault) result
-    (λ is_told. no_refusal number count source fault few is faulty is_told) line refused told
-
-pub never_refused_watch : {W : Type 0} (seen : W → Option (List Glance)) (watch : W) (number count : ℕ) (result : Result Reply NoMemory)
-    → IfOk result (λ r. r.accepted ≡ false) → (input : List ℕ) → IfOk result (WatchesReply seen watch watch (soak number count) input)
-never_refused_watch seen watch number count result refused input = refused_watch seen watch (soak number count) input result refused
+-- a workload isn't refused
+pub never_refused : (number count : ℕ) (source : List ℕ) (refusal : Refusal) → count ≤ most_statements → source ≡ workload_source number count
+    → IsRefusedProgram 0 source refusal → ⊥
+never_refused number count source refusal few is refused =
+    not_linked 0 (workload_source number count) refusal (workload_accepted number count few)
+    (subst (λ (s : List ℕ). IsRefusedProgram 0 s refusal) is refused)
 
 -- the program of the workload, which the image holds
 pub record Made (number count : ℕ) (image : ProgramImage) : Type 0 where

@@ -5,7 +5,7 @@ use Rattle.std.specs.Io.KnownBytes.{Consumes, IsAtEnd}
 use Rattle.std.proofs.lemmas.List.{append-nil, length-take-le}
 use Rattle.m88_base.specs.Outside.{AppendsPart, TakesExactly}
 use Rattle.m88_cli.specs.Answer.{IsAnswerToAccepted, IsAnswer, IsAnswerToRefused, Refuses}
-use Rattle.m88_cli.specs.Refusal.{Refusal, refusal_line}
+use Rattle.m88_base.specs.Refusal.{Refusal, refusal_line}
 use Rattle.m88_board.specs.declared.glance.Glance.{Glance}
 use Rattle.m88_cli.specs.Reply.{Replies, WatchesReply}
 use Rattle.m88_cli.specs.Watching.{Shown, ShownIfAccepted}

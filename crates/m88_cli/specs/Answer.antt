@@ -7,7 +7,7 @@ use Rattle.m88_cli.specs.Kinds.{IsAcceptedAs, IsRefusedAs}
 use Rattle.m88_cli.specs.Loading.{IsListingText}
 use Rattle.m88_cli.specs.MonitorText.{IsMonitorText}
 use Rattle.m88_cli.specs.Objects.{IsLinkedText}
-use Rattle.m88_cli.specs.Refusal.{Refusal, refusal_line}
+use Rattle.m88_base.specs.Refusal.{Refusal, refusal_line}
 use Rattle.m88_cli.specs.Runs.{IsLoadedProgram, IsReport, IsSourceProgram, IsSummary}
 use Rattle.m88_report.specs.Report.{report_of}
 

@@ -5,7 +5,7 @@ use Rattle.m88_cli.specs.Command.{InputKind, no_input, source_to_assemble, sourc
 use Rattle.m88_cli.specs.Loading.{IsRecords, IsRefusedRecords}
 use Rattle.m88_cli.specs.Monitoring.{IsMonitorInput, IsRefusedMonitor}
 use Rattle.m88_cli.specs.Objects.{IsLinkableText, IsRefusedObjects}
-use Rattle.m88_cli.specs.Refusal.{Refusal}
+use Rattle.m88_base.specs.Refusal.{Refusal}
 
 -- an input is accepted as one of a kind: a source that can be assembled, or linked too, the text of objects that can be
 -- linked, that of S-records, a script with a source behind it that can be linked; where there is none there is nothing
@@ -21,8 +21,8 @@ IsAcceptedAs scripted_source input = IsMonitorInput input
 -- and refused so: at the first fault of a source, of objects, of S-records, or of a script and the source behind it
 abbrev pub IsRefusedAs : InputKind → List ℕ → Refusal → Type 0
 IsRefusedAs no_input input r = ⊥
-IsRefusedAs source_to_assemble source r = IsRefusedSource source r
-IsRefusedAs source_to_link source r = IsRefusedProgram source r
+IsRefusedAs source_to_assemble source r = IsRefusedSource 0 source r
+IsRefusedAs source_to_link source r = IsRefusedProgram 0 source r
 IsRefusedAs object_text text r = IsRefusedObjects text r
 IsRefusedAs record_text text r = IsRefusedRecords text r
 IsRefusedAs scripted_source input r = IsRefusedMonitor input r

@@ -6,14 +6,12 @@ pub mod Pages
 pub mod Settings
 pub mod Command
 pub mod Calls
-pub mod Refusal
 pub mod Assembly
 pub mod Loading
 pub mod Objects
 pub mod Workload
 pub mod Runs
 pub mod Script
-pub mod Behind
 pub mod Monitoring
 pub mod MonitorLines
 pub mod Session
@@ -26,8 +24,6 @@ pub mod Status
 -- Words for the contracts of private functions.
 pub mod Kept
 pub mod Inputs
-pub mod SourceFault
-pub mod MonitorFaults
 pub mod ScriptWords
 pub mod Linking
 pub mod Drawing

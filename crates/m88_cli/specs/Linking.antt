@@ -1,21 +1,16 @@
 -- Words for the contracts of private functions; no promise of the program names them. What a source is assembled into,
--- and what it is linked into; what a reply says of a fault of objects.
-use Rattle.std.specs.Prelude.{ℕ, ◌≡◌, List, Option, false}
+-- and what it is linked into.
+use Rattle.std.specs.Prelude.{ℕ, ◌≡◌, List, Option}
 use Rattle.m88_base.specs.Image.{ProgramImage, byte_at}
 use Rattle.m88_isa.specs.ImageProgram.{IsInstructionAt}
 use Rattle.m88_isa.specs.declared.instr.Instr.{Instr}
 use Rattle.m88_parse.specs.Language.Units.{IsUnit}
 use Rattle.m88_parse.specs.declared.unit.Unit.{Unit as Source}
 use Rattle.m88_link.specs.declared.object.Object.{Object}
-use Rattle.m88_link.specs.declared.object_fault.ObjectFault.{ObjectFault}
-use Rattle.m88_link.specs.declared.object_fault.ObjectFault.TheVariants.{Form, Range, Memory}
 use Rattle.m88_asm.specs.Accepted.{IsAcceptedUnit}
 use Rattle.m88_asm.specs.Faults.{IsAssembled}
 use Rattle.m88_asm.specs.Images.{IsUnitImage, IsUnitInstruction}
 use Rattle.m88_asm.specs.Objects.{objects_of}
-use Rattle.m88_cli.specs.Objects.{form_refusal, range_refusal}
-use Rattle.m88_cli.specs.Refusal.{Refusal, refusal_line}
-use Rattle.m88_cli.specs.declared.reply.Reply.{Reply}
 
 -- the objects are those of the source's unit, whose statements meet no fault
 pub record IsObjectsOf (source : List ℕ) (objects : List Object) : Type 0 where
@@ -33,14 +28,3 @@ pub record HoldsUnit (source : List ℕ) (image : ProgramImage) : Type 0 where
   pub is_image : IsUnitImage unit image
   pub instructions : (a : ℕ) (instruction : Option Instr) → IsUnitInstruction unit a instruction
       → IsInstructionAt (byte_at image) a instruction
-
--- the reply is the line of a refusal
-pub record IsRefusalOf (r : Refusal) (reply : Reply) : Type 0 where
-  pub refused : reply.accepted ≡ false
-  pub line : reply.text.items ≡ refusal_line r
-
--- the reply refuses a text of objects for the fault; want of memory is nothing that it refuses for
-abbrev pub RefusesObjects : ObjectFault → Reply → Type 0
-RefusesObjects (Form n) reply = IsRefusalOf (form_refusal n) reply
-RefusesObjects (Range n) reply = IsRefusalOf (range_refusal n) reply
-RefusesObjects Memory reply = ⊥

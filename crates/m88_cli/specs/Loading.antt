@@ -7,7 +7,7 @@ use Rattle.m88_srec.specs.Accepted.{IsAccepted, Whole, whole_of}
 use Rattle.m88_srec.specs.Reasons.{srec_reason}
 use Rattle.m88_srec.specs.Verdict.{IsFirstSrecFault}
 use Rattle.m88_srec.specs.declared.fault.SrecFault.{SrecFault}
-use Rattle.m88_cli.specs.Refusal.{Refusal}
+use Rattle.m88_base.specs.Refusal.{Refusal}
 
 -- the text is accepted: it writes bytes at addresses and a start address
 abbrev pub IsRecords : List ℕ → Type 0

@@ -1,9 +1,8 @@
 -- Which inputs `mon` accepts, and where and why it refuses any other: the faults of a script come before those of the
 -- source behind it.
 use Rattle.std.specs.Prelude.{ℕ, ◌≡◌, ◌⊎◌, List}
-use Rattle.m88_cli.specs.Assembly.{IsProgramSource}
-use Rattle.m88_cli.specs.Behind.{IsRefusedBehind}
-use Rattle.m88_cli.specs.Refusal.{Refusal}
+use Rattle.m88_cli.specs.Assembly.{IsProgramSource, IsRefusedProgram}
+use Rattle.m88_base.specs.Refusal.{Refusal}
 use Rattle.m88_cli.specs.Script.{HasNoScript, IsScript, script_refusal}
 use Rattle.m88_cli.specs.declared.script.MonitorCommand.{MonitorCommand}
 
@@ -27,7 +26,7 @@ pub record IsRefusedAfterScript (input : List ℕ) (r : Refusal) : Type 0 where
   pub lines : ℕ
   pub source : List ℕ
   pub is_script : IsScript input commands lines source
-  pub is_refused : IsRefusedBehind lines source r
+  pub is_refused : IsRefusedProgram lines source r
 
 -- an input is refused so
 abbrev pub IsRefusedMonitor : List ℕ → Refusal → Type 0

@@ -12,7 +12,7 @@ use Rattle.m88_link.specs.declared.object.Object.{Object}
 use Rattle.m88_link.specs.declared.object_fault.ObjectFault.TheVariants.{Form, Range}
 use Rattle.m88_srec.specs.Written.{srec_text}
 use Rattle.m88_cli.specs.Assembly.{link_refusal}
-use Rattle.m88_cli.specs.Refusal.{Refusal}
+use Rattle.m88_base.specs.Refusal.{Refusal}
 
 -- the text can be linked: it is that of sound objects, and no refusal of their layout occurs
 pub record IsLinkableText (text : List ℕ) : Type 0 where
@@ -60,7 +60,7 @@ pub record IsUnlinkable (text : List ℕ) (r : Refusal) : Type 0 where
   pub is_text : IsSoundText objects text
   pub fault : LinkFault
   pub is_refused : IsRefused (layout_of objects) fault
-  pub refusal : r ≡ link_refusal fault
+  pub refusal : r ≡ link_refusal 0 fault
 
 -- a text of objects that can't be linked is refused so
 abbrev pub IsRefusedObjects : List ℕ → Refusal → Type 0

@@ -1,6 +1,7 @@
 -- Words for the contracts of private functions; no promise of the program names them. What the reply to an
 -- input says, and what a watch was shown on the way to it.
-use Rattle.std.specs.Prelude.{ℕ, ◌≡◌, ◌⊎◌, List, Option, MatchBool}
+use Rattle.std.specs.Prelude.{ℕ, ◌≡◌, ◌⊎◌, List, Option, MatchBool, false}
+use Rattle.m88_base.specs.Refusal.{Refusal, refusal_line}
 use Rattle.m88_board.specs.declared.glance.Glance.{Glance}
 use Rattle.m88_cli.specs.Answer.{IsAnswerToAccepted, IsAnswerToRefused}
 use Rattle.m88_cli.specs.Command.{Command}
@@ -21,3 +22,8 @@ WatchesReply seen old new command input r =
 -- where there is no reply it was shown a front of that, and the command accepts the input, or is as it was
 abbrev pub WatchesFront : {W : Type 0} → (W → Option (List Glance)) → W → W → Command → List ℕ → Type 0
 WatchesFront seen old new command input = (new ≡ old) ⊎ FrontOfAccepted command input (seen old) (seen new)
+
+-- the reply is the line of a refusal
+pub record IsRefusalOf (r : Refusal) (reply : Reply) : Type 0 where
+  pub refused : reply.accepted ≡ false
+  pub line : reply.text.items ≡ refusal_line r

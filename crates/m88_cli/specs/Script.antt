@@ -1,8 +1,9 @@
 -- The script of the monitor: lines that are commands or empty, then a line `source`, and a source behind that line.
-use Rattle.std.specs.Prelude.{ℕ, ◌≡◌, ◌≢◌, ◌+◌, ◌≤◌, ◌++◌, Bool, true, false, List, [], ◌∷◌, codes, count_by, length, zero, suc}
-use Rattle.m88_base.specs.Lines.{behind_line, lines_of}
+use Rattle.std.specs.Prelude.{ℕ, ◌≡◌, ◌+◌, ◌-◌, ◌≤◌, ◌++◌, Bool, true, false, List, [], ◌∷◌, codes, count_by, length, take}
+use Rattle.m88_base.specs.Lines.{lines_of}
+use Rattle.m88_base.specs.Parted.{IsParted, IsUnparted}
 use Rattle.m88_cli.specs.Numbers.{IsShortNumber}
-use Rattle.m88_cli.specs.Refusal.{Refusal}
+use Rattle.m88_base.specs.Refusal.{Refusal}
 use Rattle.m88_cli.specs.declared.script.MonitorCommand.{MonitorCommand}
 use Rattle.m88_cli.specs.declared.script.MonitorCommand.TheVariants.{Step, Go, Break, Regs, Pipe, Memory, Drain, Trace}
 
@@ -85,20 +86,12 @@ pub record AreScriptLines (lines : List (List ℕ)) (commands : List MonitorComm
 abbrev pub source_line : List ℕ
 source_line = codes "source"
 
--- what stands behind so many lines of an input
-abbrev pub behind_lines : ℕ → List ℕ → List ℕ
-behind_lines zero input = input
-behind_lines (suc n) input = behind_lines n (behind_line input)
-
--- the input is a script with these commands and a source, before which so many lines stand; the last of these lines is
--- the line `source`
+-- the input is a script with these commands and a source: it is parted at the first line `source`, which is the last
+-- of so many lines, and the lines before it are those of the script
 pub record IsScript (input : List ℕ) (commands : List MonitorCommand) (n : ℕ) (source : List ℕ) : Type 0 where
-  pub lines : List (List ℕ)
-  pub later : List (List ℕ)
-  pub lines_are : lines_of input ≡ lines ++ source_line ∷ later
-  pub are_script : AreScriptLines lines commands
-  pub number : n ≡ length lines + 1
-  pub source_is : source ≡ behind_lines n input
+  pub script : List ℕ
+  pub is_parted : IsParted source_line input script n source
+  pub are_script : AreScriptLines (lines_of script) commands
 
 -- what an input with a script says: its commands, how many lines stand before the source, and the source
 pub record ScriptParts : Type 0 where
@@ -110,22 +103,20 @@ pub record ScriptParts : Type 0 where
 abbrev pub IsScriptOf : List ℕ → ScriptParts → Type 0
 IsScriptOf input s = IsScript input s.commands s.lines s.source
 
--- behind the lines of a script stands a line that isn't `source`, and with it they are none of a script; or no line
-abbrev pub StopsScript : List (List ℕ) → List (List ℕ) → Type 0
-StopsScript lines [] = Unit {0}
-StopsScript lines (line ∷ later) =
-    (line ≢ source_line) × ((commands : List MonitorCommand) → ¬ AreScriptLines (lines ++ line ∷ []) commands)
-
--- the input has no script: behind lines that are those of a script this is the line that stops it, or the one behind
--- the last
-pub record HasNoScript (input : List ℕ) (n : ℕ) : Type 0 where
-  pub lines : List (List ℕ)
-  pub later : List (List ℕ)
+-- with the n-th line, and no line before it, the lines are none of a script
+pub record StopsScript (lines : List (List ℕ)) (n : ℕ) : Type 0 where
   pub commands : List MonitorCommand
-  pub lines_are : lines_of input ≡ lines ++ later
-  pub are_script : AreScriptLines lines commands
-  pub stops : StopsScript lines later
-  pub number : n ≡ length lines + 1
+  pub are_script : AreScriptLines (take (n - 1) lines) commands
+  pub stops : (others : List MonitorCommand) → ¬ AreScriptLines (take n lines) others
+
+-- the input has no script: a line before the first line `source` stops it, or a line of an input that has no line
+-- `source`; where none stops such an input, the line behind the last is missing
+pub data HasNoScript (input : List ℕ) (n : ℕ) : Type 0 where
+  stopped : (script : List ℕ) (m : ℕ) (source : List ℕ) → IsParted source_line input script m source
+      → StopsScript (lines_of script) n → HasNoScript input n
+  stopped_alone : (m : ℕ) → IsUnparted source_line input m → StopsScript (lines_of input) n → HasNoScript input n
+  unended : (m : ℕ) (commands : List MonitorCommand) → IsUnparted source_line input m
+      → AreScriptLines (lines_of input) commands → n ≡ m + 1 → HasNoScript input n
 
 -- the refusal of an input without a script, at a line
 abbrev pub script_refusal : ℕ → Refusal

@@ -6,8 +6,8 @@ use Rattle.m88_cli.specs.Limits.{most_limit}
 use Rattle.m88_cli.specs.Numbers.{IsShortNumber}
 use Rattle.m88_cli.specs.Pages.{IsAbsent}
 
--- the settings of a run: it retires at most so many instructions, these pages are absent at first, its events begin with
--- these letters, and its program is run in this mode
+-- the settings of a run: it retires at most so many instructions, these pages are absent at first, its events begin
+-- with these letters, and MXM, the bit by which misaligned addresses are rounded down, is set or clear
 pub record Settings : Type 0 where
   pub limit : ℕ
   pub absent : ℕ → Bool

@@ -76,8 +76,8 @@ struct Opening<'a> {
     mxm: bool,
 }
 
-/// The absent pages (`none`, `all`, or 1 to 64 page numbers joined by commas), the schedule (`-`, or 1 to 65,536 letters
-/// `i`, `r` and `e`) and the mode of a session or a run.
+/// The absent pages (`none`, `all`, or 1 to 64 page numbers joined by commas), the schedule (`-`, or 1 to 65,536
+/// letters `i`, `r` and `e`) and the mode of a session or a run.
 fn opening_of<'a>(words: &'a [String]) -> Option<Opening<'a>>
     ensures found { IfSome result (λ o. SaySession (texts words.now)
         (absent_in o.absent) o.schedule o.mxm) }

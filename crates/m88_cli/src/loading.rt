@@ -1,13 +1,12 @@
 //! What `dis` makes of S-records, and how commands refuse them.
-ghost use Rattle.std.specs.Prelude.{ℕ, ◌≡◌, IfOk, List, false};
+ghost use Rattle.std.specs.Prelude.{ℕ, ◌≡◌, IfOk, List};
 ghost use Rattle.m88_cli.specs.Command.{dis};
 ghost use Rattle.m88_cli.specs.Inputs.{AreRecordsOf};
 ghost use Rattle.m88_cli.specs.Loading.{srec_refusal};
-ghost use Rattle.m88_cli.specs.Refusal.{refusal_line};
 ghost use Rattle.m88_cli.specs.Reply.{Replies};
 
-use crate::reply::{Reply, refusal};
-use m88_base::{Image, NoMemory};
+use crate::reply::{Reply, refuse};
+use m88_base::{Image, NoMemory, Refusal};
 use m88_disasm::listing;
 use m88_srec::SrecFault;
 use std::alloc::Global;
@@ -18,7 +17,7 @@ pub fn list_records(alloc: Global, records: &Result<Image, SrecFault>) -> Result
 {
     let image = match records {
         Ok(image) => image,
-        Err(fault) => return unloaded(alloc, fault),
+        Err(fault) => return refuse(alloc, &unloaded(alloc, fault)?),
     };
     // What always holds of an image is told with its parts.
     let _ = image.part_count();
@@ -29,11 +28,10 @@ pub fn list_records(alloc: Global, records: &Result<Image, SrecFault>) -> Result
     })
 }
 
-/// The reply that refuses S-records.
-pub fn unloaded(alloc: Global, fault: &SrecFault) -> Result<Reply, NoMemory>
-    ensures line { IfOk result (λ reply. reply.text.items ≡ refusal_line (srec_refusal fault.now)) }
-    ensures refused { IfOk result (λ reply. reply.accepted ≡ false) }
+/// The refusal of S-records for a fault.
+pub fn unloaded(alloc: Global, fault: &SrecFault) -> Result<Refusal, NoMemory>
+    ensures { IfOk result (λ r. r ≡ srec_refusal fault.now) }
 {
     let reason = fault.kind.to_string(alloc)?;
-    refusal(alloc, u64::from(fault.line), 1, reason.as_bytes())
+    Ok(Refusal::new(u64::from(fault.line), 1, reason))
 }

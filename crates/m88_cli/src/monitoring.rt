@@ -1,5 +1,5 @@
 //! What `mon` makes of its input: a session with the monitor by a script, over the source behind it.
-ghost use Rattle.std.specs.Prelude.{ℕ, ◌≡◌, ◌≤◌, IfErr, IfOk, List, OnErr, false, length};
+ghost use Rattle.std.specs.Prelude.{ℕ, ◌≡◌, ◌≤◌, IfOk, List, MatchResult, OnErr, length};
 ghost use Rattle.m88_base.specs.Image.{IsImage};
 ghost use Rattle.m88_board.specs.Glances.{Saw};
 ghost use Rattle.m88_board.specs.declared.glance.Glance.{Glance};
@@ -9,68 +9,50 @@ ghost use Rattle.m88_mem.specs.Marks.{NamesPages, absent_in};
 ghost use Rattle.m88_cli.specs.Command.{mon};
 ghost use Rattle.m88_cli.specs.Limits.{most_input};
 ghost use Rattle.m88_cli.specs.Linking.{HoldsUnit};
-ghost use Rattle.m88_cli.specs.MonitorFaults.{IsMonitorFault, IsToldFault, monitor_refusal};
-ghost use Rattle.m88_cli.specs.Refusal.{refusal_line};
+ghost use Rattle.m88_cli.specs.Monitoring.{IsRefusedMonitor};
 ghost use Rattle.m88_cli.specs.Reply.{Replies, WatchesFront, WatchesReply};
-ghost use Rattle.m88_cli.specs.Script.{IsScript, most_commands};
+ghost use Rattle.m88_cli.specs.Script.{IsScript, most_commands, script_refusal};
 ghost use Rattle.m88_cli.specs.Session.{IsSession, IsSessionFront, course_of, opening_session};
 
 use crate::assembly::image_of_source;
 use crate::limits::SESSION_LIMIT;
 use crate::monitor::carry_out;
-use crate::reply::{Reply, refusal};
+use crate::reply::{Reply, refuse};
 use crate::script::{MonitorCommand, ScriptFault, read_script};
 use crate::script_lines::MOST_COMMANDS;
-use crate::source_fault::{SourceFault, refuse};
 use arrayvec::ArrayVec;
-use m88_base::{Absent, Image, NoMemory};
+use m88_base::{Absent, Image, NoMemory, Refusal};
 use m88_board::{Board, Watch};
 use m88_event::Schedule;
 use std::alloc::Global;
 
-/// Why an input has no script or no program behind it.
-#[derive(Clone, Copy, PartialEq, Eq, Debug)]
-pub enum MonitorFault {
-    /// It has no script.
-    Script(ScriptFault),
-    /// The source behind so many lines has a fault.
-    Source { lines: u32, fault: SourceFault },
-}
-
-/// The commands of an input's script and the image of the source behind it, or the first fault of the input.
-pub fn script_and_image(
+/// The commands of an input's script and the image of the source behind it, or the refusal of the input.
+fn script_and_image(
     alloc: Global,
     input: &[u8],
-) -> Result<(ArrayVec<MonitorCommand, MOST_COMMANDS>, Image), MonitorFault>
+) -> Result<Result<(ArrayVec<MonitorCommand, MOST_COMMANDS>, Image), Refusal>, NoMemory>
     requires { length input.now ≤ most_input }
-    ensures found { IfOk result (λ p. (lines : ℕ) × (source : List ℕ)
-        × IsScript input.now p.0.items lines source × HoldsUnit source p.1) }
-    ensures fault { IfErr result (IsMonitorFault input.now) }
+    ensures { IfOk result (λ read. MatchResult read
+        (λ p. (lines : ℕ) × (source : List ℕ)
+        × IsScript input.now p.0.items lines source × HoldsUnit source p.1)
+        (IsRefusedMonitor input.now)) }
 {
     let script = match read_script(input) {
         Ok(script) => script,
-        Err(fault) => return Err(MonitorFault::Script(fault)),
+        Err(fault) => return Ok(Err(unscripted(alloc, fault)?)),
     };
-    match image_of_source(alloc, script.source) {
-        Ok(image) => Ok((script.commands, image)),
-        Err(fault) => Err(MonitorFault::Source {
-            lines: script.lines,
-            fault,
-        }),
+    match image_of_source(alloc, script.lines, script.source)? {
+        Ok(image) => Ok(Ok((script.commands, image))),
+        Err(refusal) => Ok(Err(refusal)),
     }
 }
 
-/// The reply that refuses an input of `mon`, unless the fault is that memory ran out.
-pub fn refuse_monitor(alloc: Global, fault: MonitorFault) -> Result<Reply, NoMemory>
-    ensures line { IfOk result
-        (λ reply. reply.text.items ≡ refusal_line (monitor_refusal fault)) }
-    ensures refused { IfOk result (λ reply. reply.accepted ≡ false) }
-    ensures told { IfOk result (λ _. IsToldFault fault) }
+/// The refusal of an input without a script.
+fn unscripted(alloc: Global, fault: ScriptFault) -> Result<Refusal, NoMemory>
+    ensures { IfOk result (λ r. r ≡ script_refusal fault.line) }
 {
-    match fault {
-        MonitorFault::Script(fault) => refusal(alloc, u64::from(fault.line), 1, b"script"),
-        MonitorFault::Source { lines, fault } => refuse(alloc, lines, fault),
-    }
+    let reason = String::from_str(alloc, "script")?;
+    Ok(Refusal::new(u64::from(fault.line), 1, reason))
 }
 
 /// The reply of `mon` to its input.
@@ -90,9 +72,9 @@ pub fn run_monitor<W: Watch>(
     ensures front { OnErr result (WatchesFront W.seen watch.old watch.new
         (mon (absent_in absent.now) schedule.now mxm) input.now) }
 {
-    let (commands, image) = match script_and_image(alloc, input) {
+    let (commands, image) = match script_and_image(alloc, input)? {
         Ok(parts) => parts,
-        Err(fault) => return refuse_monitor(alloc, fault),
+        Err(refusal) => return refuse(alloc, &refusal),
     };
     let text = session_text(
         alloc,

@@ -11,7 +11,7 @@ ghost use Rattle.m88_cli.specs.Calls.{CarriedOut, GivesInput, Given, HasInput, I
 ghost use Rattle.m88_cli.specs.Command.{Command as Choice, SpellNoReader, SpellNoRun, SpellNothing, Spells, reads_input, shows_boards};
 ghost use Rattle.m88_cli.specs.Kept.{IsFit, command_of};
 ghost use Rattle.m88_cli.specs.Limits.{most_input};
-ghost use Rattle.m88_cli.specs.Refusal.{Refusal, refusal_line};
+ghost use Rattle.m88_base.specs.Refusal.{Refusal, refusal_line};
 ghost use Rattle.m88_cli.specs.Reply.{Replies, WatchesReply};
 ghost use Rattle.m88_cli.specs.Runs.{WorkloadsAreAccepted};
 ghost use Rattle.m88_cli.specs.Script.{HasNoScript, IsScriptOf};

@@ -1,8 +1,8 @@
 //! What a command answers to its input.
-ghost use Rattle.std.specs.Prelude.{◌≡◌, IfOk, false};
-ghost use Rattle.m88_base.specs.Refused.{refused_line};
+ghost use Rattle.std.specs.Prelude.{IfOk};
+ghost use Rattle.m88_cli.specs.Reply.{IsRefusalOf};
 
-use m88_base::{NoMemory, push_refused};
+use m88_base::{NoMemory, Refusal};
 use std::alloc::Global;
 
 /// What a command writes, and whether it accepts its input.
@@ -12,13 +12,11 @@ pub struct Reply {
     pub text: Vec<u8>,
 }
 
-/// The reply that refuses an input at a line and a column, both from 1, for a reason.
-pub fn refusal(alloc: Global, line: u64, column: u32, reason: &[u8]) -> Result<Reply, NoMemory>
-    ensures line { IfOk result (λ r. r.text.items ≡ refused_line line column reason.now) }
-    ensures refused { IfOk result (λ r. r.accepted ≡ false) }
+/// The reply that refuses an input.
+pub fn refuse(alloc: Global, refusal: &Refusal) -> Result<Reply, NoMemory>
+    ensures { IfOk result (IsRefusalOf refusal.now) }
 {
-    let mut text = Vec::new(alloc);
-    push_refused(&mut text, line, column, reason)?;
+    let text = refusal.text(alloc)?;
     Ok(Reply {
         accepted: false,
         text,

@@ -16,8 +16,7 @@ ghost use Rattle.m88_report.specs.Report.{report_of};
 
 use crate::assembly::image_of_source;
 use crate::loading::unloaded;
-use crate::reply::Reply;
-use crate::source_fault::refuse;
+use crate::reply::{Reply, refuse};
 use m88_base::{Absent, Image, NoMemory};
 use m88_board::{Board, Watch};
 use m88_event::{Outcome, Schedule};
@@ -45,9 +44,9 @@ pub fn run_source<W: Watch>(
     ensures front { OnErr result (WatchesFront W.seen watch.old watch.new
         (run (settings_of limit absent.now schedule.now mxm)) source.now) }
 {
-    match image_of_source(alloc, source) {
+    match image_of_source(alloc, 0, source)? {
         Ok(image) => run_image(alloc, limit, absent, schedule, mxm, &image, watch),
-        Err(fault) => refuse(alloc, 0, fault),
+        Err(refusal) => refuse(alloc, &refusal),
     }
 }
 
@@ -74,7 +73,7 @@ pub fn run_records<W: Watch>(
 {
     match records {
         Ok(image) => run_image(alloc, limit, absent, schedule, mxm, image, watch),
-        Err(fault) => unloaded(alloc, fault),
+        Err(fault) => refuse(alloc, &unloaded(alloc, fault)?),
     }
 }
 

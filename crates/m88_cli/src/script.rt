@@ -1,12 +1,13 @@
 //! The script of the monitor.
 ghost use Rattle.std.specs.Prelude.{ℕ, ◌≡◌, ◌≤◌, IfErr, IfOk, List, MatchResult, length};
+ghost use Rattle.m88_base.specs.Lines.{lines_of};
 ghost use Rattle.m88_cli.specs.Limits.{most_input};
-ghost use Rattle.m88_cli.specs.Script.{HasNoScript, IsScript};
+ghost use Rattle.m88_cli.specs.Script.{AreScriptLines, HasNoScript, IsScript, StopsScript};
 ghost use Rattle.m88_cli.specs.declared.script.MonitorCommand.{MonitorCommand as CommandValue};
 
 use crate::script_lines::{MOST_COMMANDS, take_line};
 use arrayvec::ArrayVec;
-use m88_base::first_line;
+use m88_base::{first_line, parted_at};
 
 /// A command of a script.
 #[derive(Clone, Copy, PartialEq, Eq, Debug)]
@@ -68,23 +69,40 @@ pub fn read_script(input: &[u8]) -> Result<Script<'_>, ScriptFault>
     ensures only_fault { (n : ℕ) → HasNoScript input.now n
         → MatchResult result (λ _. ⊥) (λ fault. fault.line ≡ n) }
 {
+    match parted_at(input, b"source") {
+        Ok(parted) => match commands_in(parted.before) {
+            Ok(commands) => Ok(Script {
+                commands,
+                lines: parted.lines,
+                source: parted.behind,
+            }),
+            Err(fault) => Err(fault),
+        },
+        Err(unparted) => match commands_in(input) {
+            Ok(_) => Err(ScriptFault {
+                line: unparted.lines + 1,
+            }),
+            Err(fault) => Err(fault),
+        },
+    }
+}
+
+/// The commands that the lines of a text write, or the first line by which they are none of a script's.
+fn commands_in(text: &[u8]) -> Result<ArrayVec<MonitorCommand, MOST_COMMANDS>, ScriptFault>
+    requires { length text.now ≤ most_input }
+    ensures found { IfOk result (λ commands. AreScriptLines (lines_of text.now) commands.items) }
+    ensures fault { IfErr result (λ fault. StopsScript (lines_of text.now) fault.line) }
+{
     let mut commands = ArrayVec::new();
-    let mut rest = input;
+    let mut rest = text;
     let mut passed = 0;
     while !rest.is_empty() {
         let (line, behind) = first_line(rest);
         passed += 1;
-        if line == b"source".as_slice() {
-            return Ok(Script {
-                commands,
-                lines: passed,
-                source: behind,
-            });
-        }
         if !take_line(&mut commands, line) {
             return Err(ScriptFault { line: passed });
         }
         rest = behind;
     }
-    Err(ScriptFault { line: passed + 1 })
+    Ok(commands)
 }

@@ -7,7 +7,6 @@ ghost use Rattle.m88_cli.specs.Reply.{Replies, WatchesFront, WatchesReply};
 use crate::assembly::image_of_source;
 use crate::reply::Reply;
 use crate::running::outcome_of;
-use crate::source_fault::refuse;
 use crate::summary::summary;
 use crate::workload::Draws;
 use m88_base::{Absent, NoMemory};
@@ -35,9 +34,8 @@ pub fn run_workload<W: Watch>(
     let Some(schedule) = Schedule::read(letters.as_str()) else {
         unreachable!();
     };
-    let image = match image_of_source(alloc, source.as_slice()) {
-        Ok(image) => image,
-        Err(fault) => return refuse(alloc, 0, fault),
+    let Ok(image) = image_of_source(alloc, 0, source.as_slice())? else {
+        unreachable!();
     };
     let outcome = outcome_of(alloc, count, &Absent::All, &schedule, false, &image, watch)?;
     let text = summary(alloc, number, count, &outcome)?;

@@ -1,103 +1,55 @@
-//! Why a source is refused, and the line that says so. A source may stand behind other lines of its input. They are
-//! counted in that line, in 64 bits, so that no sum of two line numbers is too great.
-ghost use Rattle.std.specs.Prelude.{◌≡◌, ◌≢◌, ◌+◌, IfOk, false, string_bytes};
+//! The refusal of a source for a fault. A source may stand behind other lines of its input. They are counted in it, in
+//! 64 bits, so that no sum of two line numbers is too great.
+ghost use Rattle.std.specs.Prelude.{◌≡◌, ◌≢◌, ◌+◌, IfOk, string_bytes};
 ghost use Rattle.m88_asm.specs.Fault.{memory_ran_out};
 ghost use Rattle.m88_asm.specs.Reasons.{asm_reason};
 ghost use Rattle.m88_link.specs.Faults.{memory_fault};
 ghost use Rattle.m88_link.specs.Reasons.{duplicate_reason, link_reason};
 ghost use Rattle.m88_parse.specs.Fault.{out_of_memory};
-ghost use Rattle.m88_cli.specs.Assembly.{asm_refusal, link_refusal, parse_refusal};
-ghost use Rattle.m88_cli.specs.Behind.{asm_fault_behind, asm_kind_behind, link_fault_behind, link_kind_behind, parse_fault_behind};
-ghost use Rattle.m88_cli.specs.Refusal.{refusal_line};
-ghost use Rattle.m88_cli.specs.SourceFault.{IsTold, refusal_behind};
+ghost use Rattle.m88_cli.specs.Assembly.{asm_kind_behind, asm_refusal, link_kind_behind, link_refusal, parse_refusal};
 
-use crate::reply::{Reply, refusal};
-use m88_asm::{AsmFault, AsmKind, UnitFault};
-use m88_base::{Name, NoMemory};
+use m88_asm::{AsmFault, AsmKind};
+use m88_base::{Name, NoMemory, Refusal};
 use m88_link::{LinkFault, LinkKind};
 use m88_parse::{ParseFault, ParseKind};
 use std::alloc::Global;
 
-/// The first fault of a source.
-#[derive(Clone, Copy, PartialEq, Eq, Debug)]
-pub enum SourceFault {
-    /// The first fault of its lines.
-    Parse(ParseFault),
-    /// The first fault of the unit that they write.
-    Unit(UnitFault),
-}
-
-/// The reply that refuses a source behind so many lines, none where it is the whole input, unless the fault is that
-/// memory ran out.
-pub fn refuse(alloc: Global, lines: u32, fault: SourceFault) -> Result<Reply, NoMemory>
-    ensures line { IfOk result
-        (λ reply. reply.text.items ≡ refusal_line (refusal_behind lines fault)) }
-    ensures refused { IfOk result (λ reply. reply.accepted ≡ false) }
-    ensures told { IfOk result (λ _. IsTold fault) }
-{
-    match fault {
-        SourceFault::Parse(fault) => unread(alloc, lines, fault),
-        SourceFault::Unit(UnitFault::Asm(fault)) => unassembled(alloc, lines, fault),
-        SourceFault::Unit(UnitFault::Link(fault)) => unlinked(alloc, lines, fault),
-    }
-}
-
-/// The same for a fault of the source's lines.
-fn unread(alloc: Global, lines: u32, fault: ParseFault) -> Result<Reply, NoMemory>
-    ensures line { IfOk result
-        (λ reply. reply.text.items
-        ≡ refusal_line (parse_refusal (parse_fault_behind lines fault))) }
-    ensures refused { IfOk result (λ reply. reply.accepted ≡ false) }
+/// The refusal of a source behind so many lines, none where it is the whole input, for a fault of its lines, unless
+/// that is that memory ran out.
+pub fn unread(alloc: Global, lines: u32, fault: ParseFault) -> Result<Refusal, NoMemory>
+    ensures refusal { IfOk result (λ r. r ≡ parse_refusal lines fault) }
     ensures told { IfOk result (λ _. fault ≢ out_of_memory) }
 {
     if fault.kind == ParseKind::Memory {
         return Err(NoMemory);
     }
-    refusal(
-        alloc,
-        line_in_input(lines, fault.line),
-        fault.col,
-        fault.kind.reason().as_bytes(),
-    )
+    let reason = String::from_str(alloc, fault.kind.reason())?;
+    Ok(Refusal::new(line_in_input(lines, fault.line), fault.col, reason))
 }
 
 /// The same for a fault of its statements.
-fn unassembled(alloc: Global, lines: u32, fault: AsmFault) -> Result<Reply, NoMemory>
-    ensures line { IfOk result
-        (λ reply. reply.text.items ≡ refusal_line (asm_refusal (asm_fault_behind lines fault))) }
-    ensures refused { IfOk result (λ reply. reply.accepted ≡ false) }
+pub fn unassembled(alloc: Global, lines: u32, fault: AsmFault) -> Result<Refusal, NoMemory>
+    ensures refusal { IfOk result (λ r. r ≡ asm_refusal lines fault) }
     ensures told { IfOk result (λ _. fault ≢ memory_ran_out) }
 {
     if fault.kind == AsmKind::Memory {
         return Err(NoMemory);
     }
     let reason = reason_of_asm(alloc, lines, fault.kind)?;
-    refusal(
-        alloc,
-        line_in_input(lines, fault.line),
-        fault.col,
-        reason.as_bytes(),
-    )
+    Ok(Refusal::new(line_in_input(lines, fault.line), fault.col, reason))
 }
 
-/// The reply that refuses a source behind so many lines, or objects behind none, for a fault of the layout, unless the
-/// fault is that memory ran out.
-pub fn unlinked(alloc: Global, lines: u32, fault: LinkFault) -> Result<Reply, NoMemory>
-    ensures line { IfOk result
-        (λ reply. reply.text.items ≡ refusal_line (link_refusal (link_fault_behind lines fault))) }
-    ensures refused { IfOk result (λ reply. reply.accepted ≡ false) }
+/// The refusal of a source behind so many lines, or of objects behind none, for a fault of the layout, unless that is
+/// that memory ran out.
+pub fn unlinked(alloc: Global, lines: u32, fault: LinkFault) -> Result<Refusal, NoMemory>
+    ensures refusal { IfOk result (λ r. r ≡ link_refusal lines fault) }
     ensures told { IfOk result (λ _. fault ≢ memory_fault) }
 {
     if fault.kind == LinkKind::Memory {
         return Err(NoMemory);
     }
     let reason = reason_of_link(alloc, lines, fault.kind)?;
-    refusal(
-        alloc,
-        line_in_input(lines, fault.line),
-        fault.col,
-        reason.as_bytes(),
-    )
+    Ok(Refusal::new(line_in_input(lines, fault.line), fault.col, reason))
 }
 
 /// The number of a source's line in its input.

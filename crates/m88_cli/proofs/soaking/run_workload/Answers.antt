@@ -1,7 +1,10 @@
 -- The letters are read as the schedule, the source has no fault, and the summary of its run answers.
-use Rattle.std.proofs.Common.{inl, inr, refl}
+use Rattle.std.proofs.Common.{inr}
+use Rattle.m88_cli.specs.Assembly.{IsRefusedProgram}
+use Rattle.m88_cli.specs.Linking.{HoldsUnit}
+use Rattle.m88_cli.proofs.Refusing.{where_err, where_ok}
 use Rattle.m88_cli.proofs.Reporting.{on_err}
-use Rattle.m88_cli.proofs.SoakReply.{answer_of_run, are_unread, front_shown, letters_text, made_by, never_refused, never_refused_watch, read_letters, run_front_shown, run_shown, source_short, source_text}
+use Rattle.m88_cli.proofs.SoakReply.{answer_of_run, are_unread, front_shown, letters_text, made_by, never_refused, read_letters, run_front_shown, run_shown, source_short, source_text}
 use Rattle.m88_cli.proofs.soaking.run_workload.Goals as goal
 
 pub unreachable-requires : goal.unreachable-requires
@@ -10,31 +13,25 @@ unreachable-requires g c =
     (c.read.ensures.only _ (letters_text c.args.number c.args.count c.new-draws.result.seed c.source.new.self.seed
     c.as_str.result.now _ c.new-draws.ensures c.in_ok-source.ensures.seed c.in_ok-letters.ensures c.as_str.ensures.value))
 
+pub unreachable-requires-in_default-2 : goal.unreachable-requires-in_default-2
+unreachable-requires-in_default-2 g c =
+    never_refused c.args.number c.args.count c.as_slice.result.now c.in_default-2.field-0 c.requires
+    (source_text c.args.number c.args.count c.new-draws.result.seed c.as_slice.result.now c.in_ok-source.source.items
+    c.new-draws.ensures c.in_ok-source.ensures.source c.as_slice.ensures.value)
+    (where_err c.in_ok-image.field-0 c.in_default-2.field-0 (HoldsUnit c.as_slice.result.now)
+    (IsRefusedProgram 0 c.as_slice.result.now) c.in_default-2.is c.in_ok-image.ensures)
+
 pub image_of_source-requires : goal.image_of_source-requires
 image_of_source-requires g c =
     source_short c.args.number c.args.count c.as_slice.result.now c.requires
     (source_text c.args.number c.args.count c.new-draws.result.seed c.as_slice.result.now c.in_ok-source.source.items
     c.new-draws.ensures c.in_ok-source.ensures.source c.as_slice.ensures.value)
 
-pub returns-in-Err-clause-reply : goal.returns-in-Err-clause-reply
-returns-in-Err-clause-reply g c =
-    never_refused c.args.number c.args.count c.as_slice.result.now c.in-Err.fault c.refuse.result c.requires
-    (source_text c.args.number c.args.count c.new-draws.result.seed c.as_slice.result.now c.in_ok-source.source.items
-    c.new-draws.ensures c.in_ok-source.ensures.source c.as_slice.ensures.value)
-    c.in-Err.ensures.fault c.refuse.ensures.line c.refuse.ensures.refused c.refuse.ensures.told
-
-pub returns-in-Err-clause-watched : goal.returns-in-Err-clause-watched
-returns-in-Err-clause-watched g c =
-    never_refused_watch g.W.Watch.seen c.args.watch.now c.args.number c.args.count c.refuse.result c.refuse.ensures.refused
-
-pub returns-in-Err-clause-front : goal.returns-in-Err-clause-front
-returns-in-Err-clause-front g c = λ input. on_err c.refuse.result (inl refl)
-
 pub returns-in_err-outcome-clause-front : goal.returns-in_err-outcome-clause-front
 returns-in_err-outcome-clause-front g c = λ input.
     let source_is = source_text c.args.number c.args.count c.new-draws.result.seed c.as_slice.result.now c.in_ok-source.source.items
     c.new-draws.ensures c.in_ok-source.ensures.source c.as_slice.ensures.value in
-    let made = made_by c.args.number c.args.count c.as_slice.result.now c.in-Ok.image source_is c.in-Ok.ensures.image c.outcome_of.ensures.image in
+    let made = made_by c.args.number c.args.count c.as_slice.result.now c.in-Ok.image source_is (where_ok c.in_ok-image.field-0 c.in-Ok.image (HoldsUnit c.as_slice.result.now) (IsRefusedProgram 0 c.as_slice.result.now) c.in-Ok.is c.in_ok-image.ensures) c.outcome_of.ensures.image in
     let letters = letters_text c.args.number c.args.count c.new-draws.result.seed c.source.new.self.seed
     c.as_str.result.now _ c.new-draws.ensures c.in_ok-source.ensures.seed c.in_ok-letters.ensures c.as_str.ensures.value in
     let schedule = read_letters c.read.result c.in-Some.schedule _ c.in-Some.is (c.read.ensures.only _ letters) in
@@ -49,7 +46,7 @@ pub returns-in_err-text-clause-front : goal.returns-in_err-text-clause-front
 returns-in_err-text-clause-front g c = λ input.
     let source_is = source_text c.args.number c.args.count c.new-draws.result.seed c.as_slice.result.now c.in_ok-source.source.items
     c.new-draws.ensures c.in_ok-source.ensures.source c.as_slice.ensures.value in
-    let made = made_by c.args.number c.args.count c.as_slice.result.now c.in-Ok.image source_is c.in-Ok.ensures.image c.outcome_of.ensures.image in
+    let made = made_by c.args.number c.args.count c.as_slice.result.now c.in-Ok.image source_is (where_ok c.in_ok-image.field-0 c.in-Ok.image (HoldsUnit c.as_slice.result.now) (IsRefusedProgram 0 c.as_slice.result.now) c.in-Ok.is c.in_ok-image.ensures) c.outcome_of.ensures.image in
     let letters = letters_text c.args.number c.args.count c.new-draws.result.seed c.source.new.self.seed
     c.as_str.result.now _ c.new-draws.ensures c.in_ok-source.ensures.seed c.in_ok-letters.ensures c.as_str.ensures.value in
     let schedule = read_letters c.read.result c.in-Some.schedule _ c.in-Some.is (c.read.ensures.only _ letters) in
@@ -64,7 +61,7 @@ pub returns-clause-reply : goal.returns-clause-reply
 returns-clause-reply g c = λ input.
     let source_is = source_text c.args.number c.args.count c.new-draws.result.seed c.as_slice.result.now c.in_ok-source.source.items
     c.new-draws.ensures c.in_ok-source.ensures.source c.as_slice.ensures.value in
-    let made = made_by c.args.number c.args.count c.as_slice.result.now c.in-Ok.image source_is c.in-Ok.ensures.image c.outcome_of.ensures.image in
+    let made = made_by c.args.number c.args.count c.as_slice.result.now c.in-Ok.image source_is (where_ok c.in_ok-image.field-0 c.in-Ok.image (HoldsUnit c.as_slice.result.now) (IsRefusedProgram 0 c.as_slice.result.now) c.in-Ok.is c.in_ok-image.ensures) c.outcome_of.ensures.image in
     let letters = letters_text c.args.number c.args.count c.new-draws.result.seed c.source.new.self.seed
     c.as_str.result.now _ c.new-draws.ensures c.in_ok-source.ensures.seed c.in_ok-letters.ensures c.as_str.ensures.value in
     let schedule = read_letters c.read.result c.in-Some.schedule _ c.in-Some.is (c.read.ensures.only _ letters) in
@@ -75,7 +72,7 @@ pub returns-clause-watched : goal.returns-clause-watched
 returns-clause-watched g c = λ input.
     let source_is = source_text c.args.number c.args.count c.new-draws.result.seed c.as_slice.result.now c.in_ok-source.source.items
     c.new-draws.ensures c.in_ok-source.ensures.source c.as_slice.ensures.value in
-    let made = made_by c.args.number c.args.count c.as_slice.result.now c.in-Ok.image source_is c.in-Ok.ensures.image c.outcome_of.ensures.image in
+    let made = made_by c.args.number c.args.count c.as_slice.result.now c.in-Ok.image source_is (where_ok c.in_ok-image.field-0 c.in-Ok.image (HoldsUnit c.as_slice.result.now) (IsRefusedProgram 0 c.as_slice.result.now) c.in-Ok.is c.in_ok-image.ensures) c.outcome_of.ensures.image in
     let letters = letters_text c.args.number c.args.count c.new-draws.result.seed c.source.new.self.seed
     c.as_str.result.now _ c.new-draws.ensures c.in_ok-source.ensures.seed c.in_ok-letters.ensures c.as_str.ensures.value in
     let schedule = read_letters c.read.result c.in-Some.schedule _ c.in-Some.is (c.read.ensures.only _ letters) in
