@@ -1,6 +1,7 @@
 -- A source has one listing or one refusal.
 use Rattle.std.proofs.Common.{◌≡◌, ℕ, List, sym, ap, ◌∙◌, subst}
 use Rattle.m88_base.specs.Lines.{text_of_lines}
+use Rattle.m88_base.specs.Refusal.{Refusal}
 use Rattle.m88_parse.proofs.Law.Faults as parsed
 use Rattle.m88_parse.specs.declared.unit.Unit.{Unit as Source}
 use Rattle.m88_asm.proofs.OneUnit.{one_verdict}
@@ -8,7 +9,7 @@ use Rattle.m88_asm.specs.Accepted.{IsAcceptedUnit, IsFirstUnitFault}
 use Rattle.m88_listing.specs.Answer.{IsAnswerToAccepted, IsAnswerToRefused}
 use Rattle.m88_listing.specs.Entries.{AreInOrder, labels_of}
 use Rattle.m88_listing.specs.Listing.{IsListing, IsProgramSource, listing_lines}
-use Rattle.m88_listing.specs.Refused.{IsRefusedAt, Refusal, parse_refusal, refused_text, unit_refusal, unlinked, unread}
+use Rattle.m88_listing.specs.Refused.{IsRefusedAt, parse_refusal, refused_text, unit_refusal, unlinked, unread}
 use Rattle.m88_listing.specs.declared.entries.Entry.{Entry}
 use Rattle.m88_listing.proofs.Ordered.{ordered_once}
 

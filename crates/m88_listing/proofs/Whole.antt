@@ -7,6 +7,7 @@ use Rattle.std.proofs.lemmas.List.{append-nil, length-take-le}
 use Rattle.m88_base.specs.Image.{ProgramImage, byte_at, most_bytes}
 use Rattle.m88_base.specs.Lines.{line_end, lines_of, text_of_lines}
 use Rattle.m88_base.specs.Outside.{AppendsPart}
+use Rattle.m88_base.specs.Refusal.{Refusal}
 use Rattle.m88_base.specs.Refused.{refused_line}
 use Rattle.m88_base.specs.declared.failing.NoMemory.{NoMemory}
 use Rattle.m88_parse.specs.Fault.{out_of_memory}
@@ -28,7 +29,7 @@ use Rattle.m88_listing.specs.Answer.{IsAnswer, IsAnswerToAccepted, IsAnswerToRef
 use Rattle.m88_listing.specs.Calls.{GivesAll, IsWhole}
 use Rattle.m88_listing.specs.Entries.{numbers_of}
 use Rattle.m88_listing.specs.Listing.{entry_lines, listing_lines}
-use Rattle.m88_listing.specs.Refused.{IsRefusedAt, Refusal, bare_text, line_at, mark_line, parse_refusal, refused_text, unit_refusal, unlinked, unread}
+use Rattle.m88_listing.specs.Refused.{IsRefusedAt, bare_text, line_at, mark_line, parse_refusal, refused_text, unit_refusal, unlinked, unread}
 use Rattle.m88_listing.specs.Inside.Replies.{Replies}
 use Rattle.m88_listing.specs.Rows.{numbered_lines, rows_of_unit, source_lines}
 use Rattle.m88_listing.specs.Inside.Slots.{slots_of, walked}

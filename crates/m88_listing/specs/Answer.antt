@@ -1,7 +1,8 @@
 -- What is written for a source: its listing, or where it is refused the text that says so.
 use Rattle.std.specs.Prelude.{ℕ, ◌≡◌, ◌⊎◌, List}
+use Rattle.m88_base.specs.Refusal.{Refusal}
 use Rattle.m88_listing.specs.Listing.{IsListing, IsProgramSource}
-use Rattle.m88_listing.specs.Refused.{IsRefusedAt, Refusal, refused_text}
+use Rattle.m88_listing.specs.Refused.{IsRefusedAt, refused_text}
 
 -- the text is the one listing of a source that is accepted
 pub record IsAnswerToAccepted (source text : List ℕ) : Type 0 where

@@ -2,7 +2,7 @@
 -- and the line that refuses the source.
 use Rattle.std.specs.Prelude.{◌≡◌, ℕ, ◌-◌, ◌==◌, if◌then◌else◌, List, [], ◌++◌, codes, drop, map, slice_index_or, take}
 use Rattle.m88_base.specs.Lines.{line_end, lines_of, text_of_lines}
-use Rattle.m88_base.specs.Refused.{refused_line}
+use Rattle.m88_base.specs.Refusal.{Refusal, refusal_line}
 use Rattle.m88_parse.specs.Fault.{reason}
 use Rattle.m88_parse.specs.Language.Bytes.{tab}
 use Rattle.m88_parse.specs.Language.FirstFaults.{IsFirstFault}
@@ -16,12 +16,6 @@ use Rattle.m88_asm.specs.declared.fault.UnitFault.{UnitFault}
 use Rattle.m88_asm.specs.declared.fault.UnitFault.TheVariants.{Asm, Link}
 use Rattle.m88_listing.specs.Columns.{bare_line, before_source, blank, blanks}
 use Rattle.m88_listing.specs.Rows.{numbered_lines}
-
--- where and why a source is refused: line and column, both from 1, and the reason as it is written
-pub record Refusal : Type 0 where
-  pub line : ℕ
-  pub column : ℕ
-  pub reason : List ℕ
 
 -- the refusal for a fault of a source's lines
 abbrev pub parse_refusal : ParseFault → Refusal
@@ -60,5 +54,5 @@ abbrev pub refused_text : List ℕ → Refusal → List ℕ
 refused_text source r =
     bare_text (take r.line (numbered_lines source))
     ++ (mark_line r.column (line_at source r.line) ++ line_end)
-    ++ refused_line r.line r.column r.reason
+    ++ refusal_line r
     ++ bare_text (drop r.line (numbered_lines source))

@@ -4,11 +4,12 @@ ghost use Rattle.std.specs.Io.KnownBytes.{Appends};
 ghost use Rattle.m88_base.specs.Calls.{CallsWithin};
 ghost use Rattle.m88_base.specs.Causes.{Rose};
 ghost use Rattle.m88_base.specs.Outside.{AppendsPart, TakesAtMost, TakesExactly};
+ghost use Rattle.m88_base.specs.Refusal.{Refusal};
 ghost use Rattle.m88_listing.specs.Answer.{IsAnswer, IsAnswerToAccepted, IsAnswerToRefused};
 ghost use Rattle.m88_listing.specs.Calls.{GivesAll, HasSource, IsListed, IsWhole, most_source};
 ghost use Rattle.m88_listing.specs.Laws.{EachLineStandsOnce, EachShowsItsImage};
 ghost use Rattle.m88_listing.specs.Listing.{IsProgramSource};
-ghost use Rattle.m88_listing.specs.Refused.{IsRefusedAt, Refusal, refused_text};
+ghost use Rattle.m88_listing.specs.Refused.{IsRefusedAt, refused_text};
 ghost use Rattle.m88_listing.specs.Inside.Replies.{Replies};
 ghost use Rattle.m88_listing.specs.Status.{Answers, IsAnswered, IsOfReading, WritesNothing};
 
