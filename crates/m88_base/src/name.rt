@@ -10,7 +10,7 @@ use std::str::from_utf8;
 #[derive(Clone, Copy, Hash, Debug)]
 pub struct Name {
     bytes: [u8; 64],
-    len: u8,
+    len: usize,
 }
 
 impl Model for Name {
@@ -65,7 +65,7 @@ impl Name {
         }
         Some(Name {
             bytes: padded(bytes),
-            len: bytes.len() as u8,
+            len: bytes.len(),
         })
     }
 
@@ -74,7 +74,7 @@ impl Name {
         ensures value { result.now ≡ self.now }
         ensures name { IsName self.now }
     {
-        &self.bytes[..usize::from(self.len)]
+        &self.bytes[..self.len]
     }
 
     /// The name as text; all its bytes are ASCII.
