@@ -286,7 +286,7 @@ pub held_still : (choice : Choice) (why : Hold) (fault : Record) (b : BoardView)
     Did choice fault b (happened.Stalled (why_of why)) b
 held_still choice why fault b is =
     did_by choice (holds why) fault b (happened.Stalled (why_of why)) b is
-    (record { says = refl; does = record { moved = refl; same = record { limit = refl; mxm = refl; named = refl; image = refl } } })
+    (record { says = refl; does = record { moved = refl; same = record { limit = refl; mxm = refl; named = refl; image = refl; begun = refl } } })
 
 -- the least register that it uses or writes and that waits holds it
 pub busy_first : (i : Instr) (b : BoardView) (r : Reg) (fault : Record) →

@@ -34,6 +34,7 @@ counted p letter old middle h did = record {
     mxm = did.does.same.mxm;
     named = did.does.same.named;
     image = did.does.same.image;
+    begun = did.does.same.begun;
   };
 }
 

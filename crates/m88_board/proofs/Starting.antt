@@ -44,6 +44,7 @@ starting mxm limit named slots file memory = record {
   answers = 0;
   ended = None;
   records = [];
+  begun = false;
 }
 
 -- what holds of it holds of any board whose parts are these
@@ -71,6 +72,7 @@ pub made : (P : BoardView → Type 0) (mxm : Bool) (limit : ℕ) (chosen named :
       answers = 0;
       ended = None;
       records = records;
+      begun = false;
     })
 made P mxm limit chosen named slots seen pending file memory control out records n s p c o r known = rw (n, s, p, c, o, r) known
 
@@ -100,7 +102,7 @@ kept mxm limit named entry e0 e1 file memory small image none first second = rec
     ready = All-nil (HasReadyPage (ready_of memory));
   };
   image = image;
-  slots = record { nip = rw first refl; fip = rw second refl };
+  slots = record { nip = rw first refl; fip = rw second refl; xip = refl };
   bubbled = λ h. absurd cc;
   unbubbled = λ h. refl;
   status = status_at mxm;

@@ -61,7 +61,7 @@ passed fault b slots e bubble valid is = record {
     answers = b.answers;
     records = b.records;
   };
-  same = record { limit = refl; mxm = refl; named = refl; image = refl };
+  same = record { limit = refl; mxm = refl; named = refl; image = refl; begun = refl };
 }
 
 -- the oldest transaction is answered
@@ -102,7 +102,7 @@ replied fault b pending file memory left cells bus absent image = record {
     answers = b.answers + 1;
     records = b.records;
   };
-  same = record { limit = refl; mxm = refl; named = refl; image = image };
+  same = record { limit = refl; mxm = refl; named = refl; image = image; begun = refl };
 }
 
 -- the pending transactions are finished by the monitor, and the record stays
@@ -149,7 +149,7 @@ faulted fault b file memory control slots done cells bus absent image carry mxm 
     answers = b.answers;
     records = b.records ++ fault ∷ [];
   };
-  same = record { limit = refl; mxm = mxm; named = refl; image = image };
+  same = record { limit = refl; mxm = mxm; named = refl; image = image; begun = refl };
 }
 
 -- every page is absent
@@ -182,7 +182,7 @@ evicted fault b memory bus absent image = record {
     answers = b.answers;
     records = b.records;
   };
-  same = record { limit = refl; mxm = refl; named = refl; image = image };
+  same = record { limit = refl; mxm = refl; named = refl; image = image; begun = refl };
 }
 
 -- the program ends
@@ -215,7 +215,7 @@ finished fault stop b control end by carry mxm = record {
     answers = b.answers;
     records = b.records;
   };
-  same = record { limit = refl; mxm = mxm; named = refl; image = refl };
+  same = record { limit = refl; mxm = mxm; named = refl; image = refl; begun = refl };
 }
 
 -- a byte is put out
@@ -253,7 +253,7 @@ put_out fault byte b slots control on carry mxm = record {
     answers = b.answers;
     records = b.records;
   };
-  same = record { limit = refl; mxm = mxm; named = refl; image = refl };
+  same = record { limit = refl; mxm = mxm; named = refl; image = refl; begun = refl };
 }
 
 -- an instruction is issued: what it writes at once is written, and its accesses are pending
@@ -302,5 +302,5 @@ issued fault change b slots pending file memory control on joined cells bus abse
         answers = b.answers;
         records = b.records;
       };
-      same = record { limit = refl; mxm = mxm; named = refl; image = image };
+      same = record { limit = refl; mxm = mxm; named = refl; image = image; begun = refl };
     }

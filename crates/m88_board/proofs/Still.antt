@@ -53,6 +53,7 @@ same_then a b c first second = record {
   mxm = second.mxm ∙ first.mxm;
   named = second.named ∙ first.named;
   image = second.image ∙ first.image;
+  begun = second.begun ∙ first.begun;
 }
 
 pub unmoved_same : (old new : BoardView) → IsUnmoved old new → IsSameRun old new
@@ -61,4 +62,5 @@ unmoved_same old new still = record {
   mxm = ap (λ (b : BoardView). mxm_of b.control) still.rest;
   named = ap (λ (b : BoardView). b.named) still.rest;
   image = still.image;
+  begun = ap (λ (b : BoardView). b.begun) still.rest;
 }

@@ -16,7 +16,8 @@ use Rattle.m88_scoreboard.specs.Registers.{Registers}
 
 -- the most instructions that it may retire, the pages that were absent at first, its parts, the output, the counts of
 -- instructions retired, transactions answered or finished, events, and transactions answered with data, how the program
--- ended, if it has, and the records of the data faults
+-- ended, if it has, the records of the data faults, and whether it began from parts and not before a program's first
+-- instruction
 pub record BoardView : Type 0 where
   pub limit : ℕ
   pub named : Absent
@@ -32,6 +33,7 @@ pub record BoardView : Type 0 where
   pub answers : ℕ
   pub ended : Option End
   pub records : List Record
+  pub begun : Bool
 
 -- the registers and the words of a register file and a memory
 abbrev pub cells_of : Registers → MemoryView → Cells

@@ -2,9 +2,9 @@
 use Rattle.std.specs.Prelude.{ℕ, Bool, true, false, List, [], All, IfSome, ◌≡◌, ◌<◌, ◌≤◌, ◌+◌, ◌*◌, ◌^◌, is_none, is_some, length, if◌then◌else◌}
 use Rattle.m88_base.specs.Image.{IsImage, ProgramImage, byte_at}
 use Rattle.m88_base.specs.Pages.{page_number}
-use Rattle.m88_base.specs.Slot.{squashed_slot, valid_slot}
+use Rattle.m88_base.specs.Slot.{no_slot, squashed_slot, valid_slot}
 use Rattle.m88_ctrl.specs.ControlRegisters.{carry_of, mxm_of}
-use Rattle.m88_event.specs.Shadow.{status_of}
+use Rattle.m88_event.specs.Shadow.{retired_pointer, status_of}
 use Rattle.m88_event.specs.Timeline.{end_of_turn}
 use Rattle.m88_event.specs.declared.happened.End.{End}
 use Rattle.m88_event.specs.declared.happened.End.TheVariants.{Limit}
@@ -54,12 +54,13 @@ abbrev pub lacks_word : ProgramImage → ℕ → Bool
 lacks_word image a = is_none (four_bytes (byte_at image) a)
 
 -- the slots are those of a program over an image: FIP can be issued; NIP too, or it is the instruction behind XIP and
--- passed over; E where the image lacks a byte
+-- passed over; E where the image lacks a byte; XIP is an instruction that was retired, or nothing
 pub record SlotsAgree (image : ProgramImage) (slots : Pointers) : Type 0 where
   pub nip : slots.nip
       ≡ (if slots.nip.v then valid_slot slots.nip.addr (lacks_word image slots.nip.addr)
       else squashed_slot (word_behind slots.xip.addr))
   pub fip : slots.fip ≡ valid_slot slots.fip.addr (lacks_word image slots.fip.addr)
+  pub xip : slots.xip ≡ (if slots.xip.v then retired_pointer slots.xip.addr else no_slot)
 
 -- an instruction was retired, and it is XIP: a bubble is there only behind one
 pub record IsBehind (retired : ℕ) (slots : Pointers) : Type 0 where

@@ -28,12 +28,13 @@ pub record IsAdvanced (old new : Pointers) (pc next : ℕ) (bubble : Bool) : Typ
   pub behind : next_of new ≡ next
   pub bubble_is : not new.nip.v ≡ bubble
 
--- the same limit, MXM, choice of absent pages and image
+-- the same limit, MXM, choice of absent pages, image and beginning
 pub record IsSameRun (old new : BoardView) : Type 0 where
   pub limit : new.limit ≡ old.limit
   pub mxm : mxm_of new.control ≡ mxm_of old.control
   pub named : new.named ≡ old.named
   pub image : new.memory.image ≡ old.memory.image
+  pub begun : new.begun ≡ old.begun
 
 -- a board did what a choice makes of it, but for the count of events
 pub record Does (choice : Choice) (fault : Record) (old new : BoardView) : Type 0 where

@@ -66,6 +66,8 @@ pub struct Board {
     answers: u32,
     ended: Option<End>,
     records: Vec<Record>,
+    // from parts, and not before a program's first instruction
+    begun: bool,
 }
 
 impl Model for Board {
@@ -89,6 +91,7 @@ impl Model for Board {
       answers = b.answers;
       ended = b.ended;
       records = b.records.items;
+      begun = b.begun;
     } };
 
     ghost invariant = { λ b. IsKept (record {
@@ -106,6 +109,7 @@ impl Model for Board {
       answers = b.answers;
       ended = b.ended;
       records = b.records.items;
+      begun = b.begun;
     }) };
 }
 
@@ -127,6 +131,7 @@ impl Board {
         ensures image { IfOk result (λ b. b.memory.image ≡ image.now) }
         ensures mxm { IfOk result (λ b. mxm_of b.control ≡ mxm) }
         ensures events { IfOk result (λ b. b.events ≡ 0) }
+        ensures begun { IfOk result (λ b. b.begun ≡ false) }
         ensures is_image { IsImage image.now }
         ensures program { (p : Program) × IsProgramOf image.now p × (p.mxm ≡ mxm) }
         ensures at { IfOk result (λ b. (p : Program) → IsProgramOf image.now p → p.mxm ≡ mxm
@@ -153,6 +158,7 @@ impl Board {
             answers: 0,
             ended: None,
             records: Vec::new(alloc),
+            begun: false,
         })
     }
 

@@ -21,7 +21,7 @@ pub loop-self-init : goal.loop-self-init
 loop-self-init g c = record {
   counted = omega arith;
   bounded = omega arith;
-  same = record { limit = refl; mxm = refl; named = refl; image = refl };
+  same = record { limit = refl; mxm = refl; named = refl; image = refl; begun = refl };
   lighter = no_heavier_same c.args.self.now;
   drains = λ p named m is at. (
     0,

@@ -55,6 +55,7 @@ returns-clause-same c = record {
   mxm = ap (λ (b : BoardView). mxm_of b.control) c.count.ensures.counted ∙ c.in_ok-happened.ensures.same.mxm;
   named = ap (λ (b : BoardView). b.named) c.count.ensures.counted ∙ c.in_ok-happened.ensures.same.named;
   image = ap (λ (b : BoardView). b.memory.image) c.count.ensures.counted ∙ c.in_ok-happened.ensures.same.image;
+  begun = ap (λ (b : BoardView). b.begun) c.count.ensures.counted ∙ c.in_ok-happened.ensures.same.begun;
 }
 
 pub returns-clause-still : goal.returns-clause-still

@@ -27,7 +27,7 @@ returns-then-is_idle-clause-ok c = λ p fault of.
     let b = c.args.self.now in
     did_by (choice_by p b.limit Issue (local_of b)) idles fault b Idle b
     (idles_by p b (sym c.is_idle.ensures ∙ c.if-is_idle.true))
-    (record { says = refl; does = record { moved = refl; same = record { limit = refl; mxm = refl; named = refl; image = refl } } })
+    (record { says = refl; does = record { moved = refl; same = record { limit = refl; mxm = refl; named = refl; image = refl; begun = refl } } })
 
 pub returns-then-not-nip-clause-ok : goal.returns-then-not-nip-clause-ok
 returns-then-not-nip-clause-ok c = λ p fault of.

@@ -10,7 +10,7 @@ use Rattle.m88_board.proofs.walk.Walk.go_until.Goals as goal
 
 pub loop-self-init : goal.loop-self-init
 loop-self-init g c = record {
-  same = record { limit = refl; mxm = refl; named = refl; image = refl };
+  same = record { limit = refl; mxm = refl; named = refl; image = refl; begun = refl };
   schedule = refl;
   lender = refl;
   taken = omega arith;
