@@ -70,6 +70,13 @@ impl Memory {
         })
     }
 
+    /// The image as it was linked.
+    pub fn image(&self) -> &Image
+        ensures { result.now ≡ self.now.image }
+    {
+        &self.image
+    }
+
     /// The word of the instruction bus at the byte address of a word, or None where one of the four bytes isn't
     /// in the image.
     pub fn fetch(&self, addr: u32) -> Option<u32>
