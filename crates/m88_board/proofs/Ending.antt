@@ -48,7 +48,7 @@ none_left p named m b at over =
     (not_pending (is_pending b.pending) (drained_by p named m b at ∙ all_done p b.limit m over))
 
 -- the registers are those of the history
-none_wait : (b : BoardView) → IsKept b → b.pending ≡ [] → waiting_of b.file ≡ none_waits
+pub none_wait : (b : BoardView) → IsKept b → b.pending ≡ [] → waiting_of b.file ≡ none_waits
 unfolding waits_for
 none_wait b kept none = kept.parts.waiting ∙ ap waits_for none
 
@@ -69,11 +69,11 @@ memory_is p named m b is at drained =
     ∙ drained_bus p m.retired m.done is (eqb-true m.done (transaction_count p m.retired) drained)
 
 -- what is seen of a board with nothing pending has its registers and its words
-registers_seen : (b : BoardView) → b.pending ≡ [] → b.file.numbers ≡ (completed_of b).regs
+pub registers_seen : (b : BoardView) → b.pending ≡ [] → b.file.numbers ≡ (completed_of b).regs
 unfolding completed_of after_accesses
 registers_seen b none = sym (ap (λ (xs : List Access). (after_accesses xs (cells_of b.file b.memory)).regs) none)
 
-words_seen : (b : BoardView) → b.pending ≡ [] → bus_of b.memory ≡ (completed_of b).bus
+pub words_seen : (b : BoardView) → b.pending ≡ [] → bus_of b.memory ≡ (completed_of b).bus
 unfolding completed_of after_accesses
 words_seen b none = sym (ap (λ (xs : List Access). (after_accesses xs (cells_of b.file b.memory)).bus) none)
 

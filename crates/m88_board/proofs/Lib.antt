@@ -30,3 +30,4 @@ pub mod Advancing
 pub mod AtMoment
 pub mod Leaving
 pub mod OnePage
+pub mod Beginning

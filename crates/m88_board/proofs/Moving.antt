@@ -5,8 +5,8 @@ use Rattle.std.proofs.lemmas.List.{length-drop}
 use Rattle.m88_event.proofs.Follows.{law, same_said, stays_within}
 use Rattle.m88_event.proofs.Past.{keeps_past}
 use Rattle.m88_event.proofs.Precise.{precise_by}
-use Rattle.m88_event.specs.Choice.{ServesOrEnds, answer_choice, faults, replies}
-use Rattle.m88_event.specs.Local.{Local, choice_by, move, record_by, said_by, situation_of, with_move_counted}
+use Rattle.m88_event.specs.Choice.{Choice, ServesOrEnds, answer_choice, evicts, faults, finishes, holds, idles, issues, passes, replies, said, serves}
+use Rattle.m88_event.specs.Local.{Local, choice_by, move, move_by, record_by, said_by, situation_of, with_move_counted}
 use Rattle.m88_event.specs.Past.{HasPast}
 use Rattle.m88_event.specs.Timeline.{Moment, after_letter, said_at}
 use Rattle.m88_event.specs.declared.happened.Happened.{Happened}
@@ -19,7 +19,7 @@ use Rattle.m88_isa.specs.declared.planned.Access.{Access}
 use Rattle.m88_mem.specs.DataBus.{absent_of}
 use Rattle.m88_board.specs.Board.{BoardView, completed_of, local_of}
 use Rattle.m88_isa.specs.ImageProgram.{IsProgramOf}
-use Rattle.m88_board.specs.Moves.{Did, Does, IsAt, IsMove}
+use Rattle.m88_board.specs.Moves.{Did, Does, IsAt, IsMove, end_after}
 
 -- a choice that was made and counted is the move
 pub counted : (p : Program) (letter : Letter) (old middle : BoardView) (h : Happened) →
@@ -100,3 +100,25 @@ pub fewer_faulted : (fault : Record) (old new : BoardView) → Does faults fault
     length new.pending ≤ length old.pending - 1
 unfolding local_of
 fewer_faulted fault old new did = let left = ap (λ (l : Local). length l.pending) did.moved in omega (arith, left)
+
+-- and tells how the program ended
+ended_by : (choice : Choice) (fault : Record) (l : Local) →
+    (move_by choice fault l).ended ≡ end_after (said choice fault) l.ended
+ended_by idles fault l = refl
+ended_by passes fault l = refl
+ended_by (holds why) fault l = refl
+ended_by (issues change) fault l = refl
+ended_by (serves byte) fault l = refl
+ended_by (finishes stop) fault l = refl
+ended_by replies fault l = refl
+ended_by faults fault l = refl
+ended_by evicts fault l = refl
+
+pub ended_so : (p : Program) (letter : Letter) (old : BoardView) (h : Happened) (new : BoardView) →
+    IsMove p letter old h new →
+    new.ended ≡ end_after h old.ended
+unfolding move said_by local_of
+ended_so p letter old h new moved =
+    ap (λ (l : Local). l.ended) moved.moved
+    ∙ ended_by (choice_by p old.limit letter (local_of old)) (record_by p old.limit (local_of old)) (local_of old)
+    ∙ ap (λ (x : Happened). end_after x old.ended) (sym moved.says)

@@ -5,3 +5,4 @@ pub mod Moves
 pub mod Turns
 pub mod Shown
 pub mod Walks
+pub mod Parts

@@ -1,5 +1,5 @@
 -- What an event makes of a board.
-use Rattle.std.specs.Prelude.{ℕ, Bool, not, List, [], ◌∷◌, Option, ◌≡◌, if◌then◌else◌}
+use Rattle.std.specs.Prelude.{ℕ, Bool, not, List, [], ◌∷◌, Option, Some, ◌≡◌, if◌then◌else◌}
 use Rattle.m88_base.specs.Pages.{every_page}
 use Rattle.m88_ctrl.specs.ControlRegisters.{mxm_of}
 use Rattle.m88_event.specs.Choice.{Choice, finishes, holds, said}
@@ -7,6 +7,7 @@ use Rattle.m88_event.specs.Local.{local_at, move, move_by, said_by}
 use Rattle.m88_event.specs.Past.{HasPast}
 use Rattle.m88_event.specs.Shadow.{retired_pointer}
 use Rattle.m88_event.specs.Timeline.{DoneWereMade, Moment, after_letter}
+use Rattle.m88_event.specs.declared.happened.End.{End}
 use Rattle.m88_event.specs.declared.happened.Happened.{Happened}
 use Rattle.m88_event.specs.declared.happened.Happened.TheVariants as happened
 use Rattle.m88_event.specs.declared.letter.Letter.{Letter}
@@ -97,6 +98,11 @@ abbrev pub IsStill : Happened → Type 0
 IsStill happened.Idle = Unit {0}
 IsStill (happened.Stalled why) = Unit {0}
 IsStill _ = ⊥
+
+-- how the program ended, after an event, by what that says: by its end, or as before, if it had
+abbrev pub end_after : Happened → Option End → Option End
+end_after (happened.Ended end) before = Some end
+end_after _ before = before
 
 -- what raises waits for an empty data unit, and then ends the program
 abbrev pub stopping : Stop → List Access → Choice

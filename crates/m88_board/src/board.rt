@@ -44,6 +44,7 @@ use m88_scoreboard::RegFile;
 use std::alloc::Global;
 use std::marker::Model;
 
+mod begin;
 mod event;
 mod issue;
 mod reading;

@@ -10,7 +10,7 @@ ghost use Rattle.m88_isa.specs.Machine.{Program};
 ghost use Rattle.m88_board.specs.Board.{local_of};
 ghost use Rattle.m88_isa.specs.ImageProgram.{IsProgramOf};
 ghost use Rattle.m88_board.specs.Kept.{IsKept, most_events};
-ghost use Rattle.m88_board.specs.Moves.{Did, IsAt, IsEvicted, IsMove, IsSameRun, IsStill, IsUnmoved};
+ghost use Rattle.m88_board.specs.Moves.{Did, IsAt, IsEvicted, IsMove, IsSameRun, IsStill, IsUnmoved, end_after};
 ghost use Rattle.m88_board.specs.Shown.{Leaves};
 
 use super::Board;
@@ -57,6 +57,8 @@ impl Board {
             → happened ≡ said_at p named self.old.limit letter m) }
         ensures precise { IfOk result (λ happened. ServesOrEnds happened
             → self.old.pending ≡ []) }
+        ensures ended { IfOk result (λ happened. self.new.ended
+            ≡ end_after happened self.old.ended) }
         ensures counted { OnOk result (self.new.events ≡ self.old.events + 1) }
         ensures same { OnOk result (IsSameRun self.old self.new) }
         ensures still { IfOk result (λ happened. IsStill happened

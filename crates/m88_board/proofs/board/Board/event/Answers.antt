@@ -6,7 +6,7 @@ use Rattle.m88_ctrl.specs.ControlRegisters.{mxm_of}
 use Rattle.m88_isa.proofs.ImageProgram.{program_of_image}
 use Rattle.m88_board.proofs.Evicted.{evicted_counted}
 use Rattle.m88_board.proofs.Leaving.{leaves_counted}
-use Rattle.m88_board.proofs.Moving.{along, moved_by, precise_on, says_so}
+use Rattle.m88_board.proofs.Moving.{along, ended_so, moved_by, precise_on, says_so}
 use Rattle.m88_board.specs.Board.{BoardView}
 use Rattle.m88_board.proofs.board.Board.event.Goals as goal
 
@@ -39,6 +39,16 @@ returns-clause-precise c = λ last.
     precise_on p c.args.letter c.args.self.now c.in_ok-happened.happened c.count.new.self
     (moved_by p c.args.letter c.args.self.now c.take.new.self c.in_ok-happened.happened c.count.new.self c.count.ensures.counted
     (c.in_ok-happened.ensures.ok p of)) last
+
+pub returns-clause-ended : goal.returns-clause-ended
+returns-clause-ended c =
+    let image = subst IsImage (ap (λ (b : BoardView). b.memory.image) c.count.ensures.counted ∙ c.in_ok-happened.ensures.same.image)
+    c.count.ensures.kept.image in
+    let p = program_in false c.args.self.now.memory.image image in
+    let of = program_in_holds false c.args.self.now.memory.image image in
+    ended_so p c.args.letter c.args.self.now c.in_ok-happened.happened c.count.new.self
+    (moved_by p c.args.letter c.args.self.now c.take.new.self c.in_ok-happened.happened c.count.new.self c.count.ensures.counted
+    (c.in_ok-happened.ensures.ok p of))
 
 pub returns-clause-leaves : goal.returns-clause-leaves
 returns-clause-leaves c =

@@ -1,0 +1,29 @@
+-- A board that begins from parts: what always holds of it, and what is seen of it.
+use Rattle.std.proofs.Common.{subst, ◌≡◌}
+use Rattle.m88_base.specs.Image.{IsImage}
+use Rattle.m88_board.proofs.Beginning.{begins, kept_begun, seen_begun}
+use Rattle.m88_board.specs.Board.{BoardView, local_of}
+use Rattle.m88_board.specs.Kept.{IsKept}
+use Rattle.m88_board.specs.Parts.{seen_of}
+use Rattle.m88_board.proofs.board.Board.begin.Goals as goal
+
+pub invariant_of-result : goal.invariant_of-result
+invariant_of-result c =
+    begins IsKept c.args.parts c.args.limit c.of.result c.at.result c.pointer_of-xip.result c.fetched.result c.fetched-2.result
+    c.lacks_word-lacks.result c.lacks_word-lacks_next.result c.new.result c.set_carry.new.self c.new-ctrl.result
+    c.into_items.result.items c.into_items-2.result.items
+    c.at.ensures c.pointer_of-xip.ensures.value c.fetched.ensures c.fetched-2.ensures c.lacks_word-lacks.ensures
+    c.lacks_word-lacks_next.ensures c.new.ensures c.set_carry.ensures.state c.new-ctrl.ensures c.into_items.ensures
+    c.into_items-2.ensures
+    (kept_begun c.args.parts c.args.limit c.of.result c.requires
+    (subst IsImage c.image.ensures c.part_count.ensures.image) c.of.ensures.waiting)
+
+pub returns-clause-seen : goal.returns-clause-seen
+returns-clause-seen c =
+    begins (λ (b : BoardView). local_of b ≡ seen_of c.args.parts) c.args.parts c.args.limit c.of.result c.at.result
+    c.pointer_of-xip.result c.fetched.result c.fetched-2.result c.lacks_word-lacks.result c.lacks_word-lacks_next.result
+    c.new.result c.set_carry.new.self c.new-ctrl.result c.into_items.result.items c.into_items-2.result.items
+    c.at.ensures c.pointer_of-xip.ensures.value c.fetched.ensures c.fetched-2.ensures c.lacks_word-lacks.ensures
+    c.lacks_word-lacks_next.ensures c.new.ensures c.set_carry.ensures.state c.new-ctrl.ensures c.into_items.ensures
+    c.into_items-2.ensures
+    (seen_begun c.args.parts c.args.limit c.of.result c.of.ensures.numbers)
