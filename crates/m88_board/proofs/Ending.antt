@@ -52,7 +52,7 @@ pub none_wait : (b : BoardView) → IsKept b → b.pending ≡ [] → waiting_of
 unfolding waits_for
 none_wait b kept none = kept.parts.waiting ∙ ap waits_for none
 
-registers_are : (p : Program) (named : ℕ → Bool) (m : Moment) (b : BoardView) → IsAt p named m b → b.pending ≡ [] →
+pub registers_are : (p : Program) (named : ℕ → Bool) (m : Moment) (b : BoardView) → IsAt p named m b → b.pending ≡ [] →
     b.file.numbers ≡ (state p m.retired).regs
 unfolding local_of completed_of local_at completed_state after_accesses
 registers_are p named m b at none =

@@ -181,7 +181,7 @@ unfolding local_of completed_of local_at completed_state
 carry_seen p named m b at = ap (λ (l : Local). l.completed.carry) at.seen
 
 -- and MXM
-mxm_seen : (p : Program) (named : ℕ → Bool) (m : Moment) (b : BoardView) → IsAt p named m b →
+pub mxm_seen : (p : Program) (named : ℕ → Bool) (m : Moment) (b : BoardView) → IsAt p named m b →
     mxm_of b.control ≡ (state p m.retired).mxm
 unfolding local_of completed_of local_at completed_state
 mxm_seen p named m b at = ap (λ (l : Local). l.completed.mxm) at.seen

@@ -6,3 +6,4 @@ pub mod Turns
 pub mod Shown
 pub mod Walks
 pub mod Parts
+pub mod Contexts

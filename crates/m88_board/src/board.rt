@@ -46,6 +46,7 @@ use std::marker::Model;
 
 mod begin;
 mod event;
+mod interrupt;
 mod issue;
 mod reading;
 mod run;

@@ -9,6 +9,9 @@
 mod board;
 mod parts;
 
+// programs that aren't running
+mod context;
+
 // along the letters of a run
 mod until;
 mod walk;
@@ -16,6 +19,7 @@ mod walk;
 // its parts at work together
 mod accesses;
 mod serving;
+mod sharing;
 mod slots;
 
 // who watches it
@@ -26,6 +30,7 @@ mod tests;
 mod watch;
 
 pub use board::Board;
+pub use context::{Book, Context, NotEmpty, Saved};
 pub use glance::Glance;
 pub use m88_event::{End, Happened, Letter, Outcome, Record, Schedule, Why};
 pub use mem_watch::MemWatch;

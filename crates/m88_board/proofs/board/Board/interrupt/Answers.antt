@@ -1,0 +1,131 @@
+-- Programs change places: the parts of the board come from the context, and the context has what is saved of the board.
+use Rattle.std.specs.Prelude.{[], false, ◌≡◌}
+use Rattle.std.proofs.Common.{ap, refl, rules, subst, sym, ◌∙◌}
+use Rattle.m88_ctrl.specs.ControlRegisters.{ControlRegisters}
+use Rattle.m88_mem.specs.Marks.{absent_in}
+use Rattle.m88_board.proofs.Moving.{empty_of}
+use Rattle.m88_board.proofs.Resuming.{ComesFrom, at_from, kept_from, words_from, zero_in}
+use Rattle.m88_board.proofs.Suspending.{all_done, saved_is, stands_for}
+use Rattle.m88_board.specs.Board.{BoardView}
+use Rattle.m88_board.specs.Contexts.{StandsFor, context_of}
+use Rattle.m88_board.specs.contracts.board.Board.{the_view}
+use Rattle.m88_board.specs.declared.context.Context.{Context}
+use Rattle.m88_board.proofs.board.Board.interrupt.Goals as goal
+
+-- nothing is pending
+none_pending : (c : goal.After-exchange-2) → c.self.inside.dunit ≡ []
+none_pending c =
+    let tested = rw (← c.self.view_is) at c.is_pending.ensures in
+    let no : c.is_pending.result ≡ false = search rules in
+    empty_of c.self.inside.dunit (sym tested ∙ no)
+
+-- the board afterwards
+abbrev new_board : goal.After-exchange-2 → BoardView
+new_board c = record {
+  limit = c.swap-3.new.x;
+  named = c.swap-2.new.x;
+  slots = c.come_back-self-inside.result;
+  pending = c.self.inside.dunit;
+  file = c.of-self-inside.result;
+  memory = c.swap.new.x;
+  control = c.come_back-self-inside.new.ctrl;
+  out = c.exchange.new.items.items;
+  retired = c.swap-4.new.x;
+  done = c.swap-5.new.x;
+  events = c.swap-6.new.x;
+  answers = c.swap-7.new.x;
+  ended = c.swap-8.new.x;
+  records = c.exchange-2.new.items.items;
+  begun = c.self.inside.begun;
+}
+
+from : (c : goal.After-exchange-2) → ComesFrom c.args.other.now (new_board c)
+from c = record {
+  limit = c.swap-3.ensures.x_after;
+  named = c.swap-2.ensures.x_after;
+  slots = c.come_back-self-inside.ensures.slots;
+  pending = none_pending c;
+  memory = c.swap.ensures.x_after;
+  out = c.exchange.ensures.items;
+  retired = c.swap-4.ensures.x_after;
+  done = c.swap-5.ensures.x_after;
+  events = c.swap-6.ensures.x_after;
+  answers = c.swap-7.ensures.x_after;
+  ended = c.swap-8.ensures.x_after;
+  records = c.exchange-2.ensures.items;
+  begun = rw (← c.self.view_is) at c.requires.begun;
+  are = record {
+    numbers = c.of-self-inside.ensures.numbers;
+    waiting = c.of-self-inside.ensures.waiting;
+    psr = ap (λ (r : ControlRegisters). r.psr) c.come_back-self-inside.ensures.control;
+    epsr = ap (λ (r : ControlRegisters). r.epsr) c.come_back-self-inside.ensures.control;
+  };
+}
+
+-- the context afterwards
+abbrev new_context : goal.After-exchange-2 → Context
+new_context c = record {
+  saved = c.saved_by-other.result;
+  memory = c.swap.new.y;
+  book = record {
+    absent = c.swap-2.new.y;
+    limit = c.swap-3.new.y;
+    retired = c.swap-4.new.y;
+    done = c.swap-5.new.y;
+    events = c.swap-6.new.y;
+    answers = c.swap-7.new.y;
+    end = c.swap-8.new.y;
+    out = c.exchange.new.listed;
+    records = c.exchange-2.new.listed;
+  };
+}
+
+kept_words : (c : goal.After-exchange-2) → new_context c ≡ context_of (the_view c.self.inside)
+kept_words c =
+    let saved = saved_is (the_view c.self.inside) c.saved_by-other.result c.values-regs.result c.is_some.result c.leave.new.ctrl
+    c.self.invariant (none_pending c) c.values-regs.ensures.whole c.is_some.ensures c.leave.ensures c.saved_by-other.ensures in
+    λ i. record {
+      saved = saved i;
+      memory = c.swap.ensures.y_after i;
+      book = record {
+        absent = c.swap-2.ensures.y_after i;
+        limit = c.swap-3.ensures.y_after i;
+        retired = c.swap-4.ensures.y_after i;
+        done = c.swap-5.ensures.y_after i;
+        events = c.swap-6.ensures.y_after i;
+        answers = c.swap-7.ensures.y_after i;
+        end = c.swap-8.ensures.y_after i;
+        out = c.exchange.ensures.listed i;
+        records = c.exchange-2.ensures.listed i;
+      };
+    }
+
+pub of-self-inside-requires : goal.of-self-inside-requires
+of-self-inside-requires c =
+    let stands = c.requires.stands in
+    zero_in stands.0 stands.1 stands.2 c.args.other.now stands.3
+
+pub invariant_of-self : goal.invariant_of-self
+invariant_of-self c = kept_from c.args.other.now (new_board c) c.requires.stands (from c)
+
+pub returns-clause-resumed : goal.returns-clause-resumed
+returns-clause-resumed c = λ p named m stands. at_from p named m c.args.other.now (new_board c) stands (from c)
+
+pub returns-clause-suspended : goal.returns-clause-suspended
+returns-clause-suspended c = rw (← c.self.view_is)
+    (λ p m at. subst (StandsFor p (absent_in c.self.inside.absent) m) (sym (kept_words c))
+    (stands_for p m (the_view c.self.inside) c.self.invariant (none_pending c) at))
+
+pub returns-clause-runs : goal.returns-clause-runs
+returns-clause-runs c = words_from c.args.other.now (new_board c) (from c)
+
+pub returns-clause-keeps : goal.returns-clause-keeps
+returns-clause-keeps c = rw (← c.self.view_is) (kept_words c)
+
+pub returns-clause-drained : goal.returns-clause-drained
+returns-clause-drained c = λ p named m at.
+    let stands = rw (← c.self.view_is) at at in
+    (λ ok. all_done p named m (the_view c.self.inside) stands (none_pending c), λ done. refl)
+
+pub returns-clause-kept : goal.returns-clause-kept
+returns-clause-kept c = kept_from c.args.other.now (new_board c) c.requires.stands (from c)

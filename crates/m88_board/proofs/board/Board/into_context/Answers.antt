@@ -1,0 +1,75 @@
+-- What is taken apart of a board is its context.
+use Rattle.std.specs.Prelude.{ℕ, ◌≡◌}
+use Rattle.std.proofs.Common.{ap, subst, sym, ◌∙◌}
+use Rattle.m88_mem.specs.Marks.{absent_in}
+use Rattle.m88_board.proofs.Ending.{none_wait}
+use Rattle.m88_board.proofs.Suspending.{own_run, stands_for}
+use Rattle.m88_board.specs.Contexts.{IsRunOf, StandsFor, context_of}
+use Rattle.m88_board.specs.Kept.{epsr_of}
+use Rattle.m88_board.specs.contracts.board.Board.{the_view}
+use Rattle.m88_board.specs.declared.context.Context.{Context}
+use Rattle.m88_board.proofs.board.Board.into_context.Goals as goal
+
+abbrev made : goal.After-new-2 → Context
+made c = record {
+  saved = record {
+    regs = c.values-regs.result;
+    epsr = c.status-epsr.result;
+    sxip = c.shadow-sxip.result.0;
+    snip = c.shadow-sxip.result.1;
+    sfip = c.shadow-sxip.result.2;
+  };
+  memory = c.self.inside.memory;
+  book = record {
+    absent = c.self.inside.absent;
+    limit = c.self.inside.limit;
+    retired = c.self.inside.retired;
+    done = c.self.inside.done;
+    events = c.self.inside.events;
+    answers = c.self.inside.answers;
+    end = c.self.inside.ended;
+    out = c.new.result;
+    records = c.new-2.result;
+  };
+}
+
+own_words : (c : goal.After-new-2) → made c ≡ context_of (the_view c.self.inside)
+own_words c =
+    let none = rw (← c.self.view_is) at c.requires in
+    let regs = c.values-regs.ensures.whole (none_wait (the_view c.self.inside) c.self.invariant none) in
+    let epsr = c.status-epsr.ensures ∙ ap epsr_of (sym c.self.view_is) in
+    λ i. record {
+      saved = record {
+        regs = regs i;
+        epsr = epsr i;
+        sxip = (c.shadow-sxip.ensures.value i).0;
+        snip = (c.shadow-sxip.ensures.value i).1;
+        sfip = (c.shadow-sxip.ensures.value i).2;
+      };
+      memory = c.self.inside.memory;
+      book = record {
+        absent = c.self.inside.absent;
+        limit = c.self.inside.limit;
+        retired = c.self.inside.retired;
+        done = c.self.inside.done;
+        events = c.self.inside.events;
+        answers = c.self.inside.answers;
+        end = c.self.inside.ended;
+        out = c.new.ensures i;
+        records = c.new-2.ensures i;
+      };
+    }
+
+pub returns-clause-value : goal.returns-clause-value
+returns-clause-value c = rw (← c.self.view_is) (own_words c)
+
+pub returns-clause-run : goal.returns-clause-run
+returns-clause-run c = rw (← c.self.view_is)
+    (subst (λ (k : Context). IsRunOf k (the_view c.self.inside)) (sym (own_words c)) (own_run (the_view c.self.inside) c.self.invariant))
+
+pub returns-clause-stands : goal.returns-clause-stands
+returns-clause-stands c =
+    let none = rw (← c.self.view_is) at c.requires in
+    rw (← c.self.view_is)
+    (λ p m at. subst (StandsFor p (absent_in c.self.inside.absent) m) (sym (own_words c))
+    (stands_for p m (the_view c.self.inside) c.self.invariant none at))
