@@ -1,0 +1,17 @@
+-- What only helps the proofs.
+
+-- the bytes that software stores, and the transactions around them
+pub mod Mending
+-- the extended history in words
+pub mod InWords
+-- along its timeline
+pub mod Following
+pub mod Standing
+pub mod Weighing
+pub mod Walks
+-- the pages of bytes
+pub mod PageEnds
+pub mod OpenPlaces
+pub mod ByteBound
+-- boards, one after the other
+pub mod OnBoards

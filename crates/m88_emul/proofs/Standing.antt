@@ -1,0 +1,97 @@
+-- What lies behind a moment stays so.
+use Rattle.std.specs.Prelude.{ℕ, Bool, true, false, List, [], ◌∷◌, ◌++◌, ◌≡◌, ◌<◌, ◌≤◌, ◌+◌, ◌-◌, drop, length, map}
+use Rattle.std.proofs.Common.{arith, length-append, sym, ap, subst, ◌∙◌, refl}
+use Rattle.std.proofs.lemmas.List.{length-drop}
+use Rattle.m88_isa.specs.Held.{is_pending}
+use Rattle.m88_isa.specs.History.{turn_accesses}
+use Rattle.m88_isa.specs.Machine.{Program, Turn, changes, outputs}
+use Rattle.m88_isa.specs.Memory.{access_of}
+use Rattle.m88_isa.specs.declared.planned.Access.{Access}
+use Rattle.m88_event.proofs.Precise.{IsLastChoice, precise_choice}
+use Rattle.m88_event.specs.Choice.{Choice, evicts, faults, finishes, holds, idles, issues, passes, replies, serves}
+use Rattle.m88_event.specs.Local.{choice_by, record_by, situation_of}
+use Rattle.m88_event.specs.Timeline.{Moment, opening_moment}
+use Rattle.m88_event.specs.declared.letter.Letter.{Letter}
+use Rattle.m88_event.specs.declared.record.Record.{Record}
+use Rattle.m88_emul.proofs.Following.{Fits, aided_work, deed_goes, fits, more_work}
+use Rattle.m88_emul.proofs.Mending.{made_mended, made_more, mended_again, mended_more, mended_on}
+use Rattle.m88_emul.specs.Extended.{Deed, aided, alone, deed_at, extended_state, transacted, transactions_before, work_before}
+use Rattle.m88_emul.specs.Inside.Settled.{IsAlone, IsMended, Stands}
+use Rattle.m88_emul.specs.Timeline.{ExtendedMoment, after_chosen, after_event, after_stop, seen_at}
+
+-- one more step that the machine makes alone
+stands_alone : (p : Program) (m : Moment) (t : Turn) (bubble : Bool) → Stands p m → deed_at p (extended_state p m.retired) ≡ alone t → m.ended ≡ false →
+    Stands p (record m { retired = m.retired + 1; bubble = bubble })
+stands_alone p m t bubble stands d lives =
+    let grown = ap transacted (more_work p m.retired t d) ∙ made_more (work_before p m.retired) (turn_accesses t) in
+    let longer = ap length grown ∙ length-append (transactions_before p m.retired) (turn_accesses t) in
+    let within = stands.within in
+    record {
+      within = omega (arith, longer, within);
+      mended = subst (IsMended m.done) (sym (more_work p m.retired t d)) (mended_more m.done (work_before p m.retired) (turn_accesses t) stands.mended);
+      ended = λ yes. absurd cc;
+    }
+
+none_left : (done : ℕ) (xs : List Access) → is_pending (drop done xs) ≡ false → length xs ≤ done
+none_left done xs none = by_left (drop done xs) (length-drop done xs) none
+  where
+    by_left : (rest : List Access) → length rest ≡ length xs - done → is_pending rest ≡ false → length xs ≤ done
+    by_left [] e none = omega (arith, e)
+    by_left (x ∷ rest) e none = absurd cc
+
+stands_stop : (p : Program) (x : ExtendedMoment) (d : Deed) → Stands p x.moment → deed_at p (extended_state p x.moment.retired) ≡ d →
+    x.moment.ended ≡ false → length (transactions_before p x.moment.retired) ≤ x.moment.done →
+    Stands p (after_stop d p x).moment
+stands_stop p x (alone t) stands d lives all = record {
+  within = stands.within;
+  mended = stands.mended;
+  ended = λ yes. subst IsAlone (sym d) tt;
+}
+stands_stop p x (aided vector aid) stands d lives all =
+    let m : Moment = x.moment in
+    let works = aided_work p m.retired vector aid d in
+    let same = ap transacted works ∙ made_mended (work_before p m.retired) (map access_of aid.stores) in
+    let longer = ap length same in
+    let within = stands.within in
+    record {
+      within = omega (arith, longer, within);
+      mended = subst (IsMended m.done) (sym works) (mended_again m.done (work_before p m.retired) (map access_of aid.stores) all stands.mended);
+      ended = λ yes. absurd cc;
+    }
+
+stands_choice : (p : Program) (x : ExtendedMoment) (choice : Choice) (fault : Record) → Stands p x.moment → Fits p x.moment choice →
+    (IsLastChoice choice → length (transactions_before p x.moment.retired) ≤ x.moment.done) →
+    Stands p (after_chosen p choice fault x).moment
+stands_choice p x idles fault stands fit last = stands
+stands_choice p x passes fault stands fit last = record { within = stands.within; mended = stands.mended; ended = stands.ended }
+stands_choice p x (holds why) fault stands fit last = stands
+stands_choice p x (issues change) fault stands fit last =
+    stands_alone p x.moment (changes change) change.bubble stands (deed_goes p x.moment.retired (changes change) fit.0) fit.1
+stands_choice p x (serves byte) fault stands fit last =
+    stands_alone p x.moment (outputs byte) false stands (deed_goes p x.moment.retired (outputs byte) fit.0) fit.1
+stands_choice p x (finishes stop) fault stands fit last =
+    stands_stop p x (deed_at p (extended_state p x.moment.retired)) stands refl fit.1 (last tt)
+stands_choice p x replies fault stands fit last = record {
+  within = omega (arith, fit);
+  mended = mended_on x.moment.done (x.moment.done + 1) (work_before p x.moment.retired) (omega arith) stands.mended;
+  ended = stands.ended;
+}
+stands_choice p x evicts fault stands fit last = record { within = stands.within; mended = stands.mended; ended = stands.ended }
+stands_choice p x faults fault stands fit last = record {
+  within = omega arith;
+  mended = mended_on x.moment.done (length (transactions_before p x.moment.retired)) (work_before p x.moment.retired) stands.within stands.mended;
+  ended = stands.ended;
+}
+
+pub stands_on : (p : Program) (named : ℕ → Bool) (limit : ℕ) (letter : Letter) (x : ExtendedMoment) → Stands p x.moment →
+    Stands p (after_event p named limit letter x).moment
+unfolding after_event situation_of seen_at
+stands_on p named limit letter x stands =
+    let kept = stands_choice p x (choice_by p limit letter (seen_at p named x.moment)) (record_by p limit (seen_at p named x.moment)) stands
+    (fits p named limit letter x.moment)
+    (λ last. none_left x.moment.done (transactions_before p x.moment.retired) (precise_choice p letter (situation_of limit (seen_at p named x.moment)) last)) in
+    record { within = kept.within; mended = kept.mended; ended = kept.ended }
+
+pub stands_first : (p : Program) → Stands p opening_moment
+unfolding work_before transacted IsMended
+stands_first p = record { within = omega arith; mended = tt; ended = λ yes. absurd cc }

@@ -1,0 +1,135 @@
+-- Along the letters of a run, from its opening to the moment at which it is over.
+use Rattle.std.specs.Prelude.{ℕ, zero, suc, Bool, true, false, not, List, [], ◌∷◌, ◌++◌, Option, Some, None, ◌≡◌, ◌≢◌, ◌<◌, ◌≤◌, ◌+◌, ◌-◌, ◌*◌, ◌==◌, ◌&&◌, ◌||◌, drop, is_some, length, if◌then◌else◌}
+use Rattle.std.proofs.Common.{arith, refl, sym, ap, ap₂, ◌∙◌, subst}
+use Rattle.std.proofs.lemmas.Bool.{eqb-false, eqb-true}
+use Rattle.std.proofs.lemmas.Bool.Decides.{nat_tests}
+use Rattle.std.proofs.lemmas.List.{length-drop}
+use Rattle.m88_event.proofs.Over.{one_first}
+use Rattle.m88_event.specs.Letters.{letter_at}
+use Rattle.m88_event.specs.Local.{Local, is_over_by, local_at, move}
+use Rattle.m88_event.specs.Run.{IsFirst, NotBefore, outcome_by}
+use Rattle.m88_event.specs.Timeline.{Moment, end_of_turn, opening_moment, xip_at}
+use Rattle.m88_event.specs.declared.happened.End.{End}
+use Rattle.m88_event.specs.declared.letter.Letter.{Letter}
+use Rattle.m88_isa.proofs.Alone.{by_test}
+use Rattle.m88_isa.specs.Bus.{bus_after_all, in_words}
+use Rattle.m88_isa.specs.Held.{is_pending}
+use Rattle.m88_isa.specs.History.{completed_state, transactions}
+use Rattle.m88_isa.specs.Machine.{IsProgram, Program, opening, state, turn_at}
+use Rattle.m88_isa.specs.declared.planned.Access.{Access}
+use Rattle.m88_emul.proofs.Following.{joins, law}
+use Rattle.m88_emul.proofs.Standing.{stands_first, stands_on}
+use Rattle.m88_emul.specs.Extended.{bus_after_work, extended_state, transacted, transactions_before, work_before}
+use Rattle.m88_emul.specs.Inside.Settled.{Stands, newly_emulated, settled}
+use Rattle.m88_emul.specs.Timeline.{ExtendedMoment, IsExtendedOutcome, extended_after, extended_outcome, is_extended_over, last_retired, seen_at}
+use Rattle.m88_emul.specs.declared.emulation.EmulOutcome.{EmulOutcome}
+use Rattle.m88_emul.specs.declared.emulation.Emulation.{Emulation}
+
+-- what is seen is that of the moment after as many events, before none of which the run was over
+pub record IsThere (p : Program) (named : ℕ → Bool) (limit : ℕ) (schedule : List Letter) (k : ℕ) (l : Local) (emulated : List Emulation) :
+    Type 0 where
+  pub seen : l ≡ seen_at p named (extended_after p named limit schedule k).moment
+  pub stands : Stands p (extended_after p named limit schedule k).moment
+  pub joined : emulated ≡ (extended_after p named limit schedule k).emulated
+  pub first : NotBefore (λ j. is_extended_over p limit (extended_after p named limit schedule j).moment) k
+
+-- nothing has happened yet
+same_opening : (p : Program) (named : ℕ → Bool) → local_at p named opening_moment ≡ seen_at p named opening_moment
+unfolding local_at seen_at state extended_state transactions work_before transacted bus_after_all bus_after_work xip_at last_retired
+same_opening p named = refl
+
+pub there_first : (p : Program) (named : ℕ → Bool) (limit : ℕ) (schedule : List Letter) (l : Local) (emulated : List Emulation) →
+    l ≡ local_at p named opening_moment → emulated ≡ [] →
+    IsThere p named limit schedule 0 l emulated
+unfolding extended_after
+there_first p named limit schedule l emulated opens none = record {
+  seen = opens ∙ same_opening p named;
+  stands = stands_first p;
+  joined = none;
+  first = λ k h. absurd (omega (arith, h));
+}
+
+pub opens_empty : (p : Program) (named : ℕ → Bool) (l : Local) → l ≡ local_at p named opening_moment → l.pending ≡ []
+unfolding local_at transactions
+opens_empty p named l opens = ap (λ (x : Local). x.pending) opens
+
+-- whether a run is over is seen
+none_left : (done : ℕ) (xs : List Access) → done ≤ length xs → not (is_pending (drop done xs)) ≡ (done == length xs)
+none_left done xs within = by_left (drop done xs) (length-drop done xs)
+  where
+    by_left : (left : List Access) → length left ≡ length xs - done → not (is_pending left) ≡ (done == length xs)
+    by_left [] e = let all : done ≡ length xs = omega (arith, e, within) in grind (arith, nat_tests)
+    by_left (x ∷ left) e = let some : done ≢ length xs = omega (arith, e) in grind (arith, nat_tests)
+
+ended_seen : (ended : Bool) (end : End) → is_some (if ended then Some end else None) ≡ ended
+ended_seen true end = refl
+ended_seen false end = refl
+
+pub over_seen : (p : Program) (named : ℕ → Bool) (limit : ℕ) (m : Moment) → Stands p m →
+    is_over_by limit (seen_at p named m) ≡ is_extended_over p limit m
+unfolding seen_at
+over_seen p named limit m stands =
+    ap₂ (λ none ended. none && (ended || m.retired == limit)) (none_left m.done (transactions_before p m.retired) stands.within)
+    (ended_seen m.ended (end_of_turn (turn_at p (extended_state p m.retired))))
+
+over_there : (p : Program) (named : ℕ → Bool) (limit : ℕ) (schedule : List Letter) (k : ℕ) (l : Local) (emulated : List Emulation) →
+    IsThere p named limit schedule k l emulated →
+    is_extended_over p limit (extended_after p named limit schedule k).moment ≡ is_over_by limit l
+over_there p named limit schedule k l emulated there =
+    sym (over_seen p named limit (extended_after p named limit schedule k).moment there.stands)
+    ∙ ap (is_over_by limit) (sym there.seen)
+
+-- one event more
+not_yet : (halts : ℕ → Bool) (k : ℕ) → NotBefore halts k → halts k ≡ false → NotBefore halts (suc k)
+not_yet halts k none here = λ j h. by_test (j == k)
+    (λ same. subst (λ (n : ℕ). halts n ≡ false) (sym (eqb-true j k same)) here)
+    (λ other. let apart = eqb-false j k other in none j (omega (arith, h, apart)))
+
+pub there_next : (p : Program) (named : ℕ → Bool) (limit : ℕ) (schedule : List Letter) (k : ℕ) (l new : Local)
+    (emulated more : List Emulation) → IsProgram p → IsThere p named limit schedule k l emulated → is_over_by limit l ≡ false →
+    new ≡ settled p (move p limit (letter_at schedule k) l) →
+    more ≡ emulated ++ newly_emulated p (move p limit (letter_at schedule k) l) →
+    IsThere p named limit schedule (suc k) new more
+unfolding extended_after
+there_next p named limit schedule k l new emulated more is there goes moved joined =
+    let x : ExtendedMoment = extended_after p named limit schedule k in
+    let letter : Letter = letter_at schedule k in
+    record {
+      seen = moved ∙ ap (λ (s : Local). settled p (move p limit letter s)) there.seen ∙ law p named limit letter x is there.stands;
+      stands = stands_on p named limit letter x there.stands;
+      joined =
+          joined
+          ∙ ap₂ (λ (xs : List Emulation) (s : Local). xs ++ newly_emulated p (move p limit letter s)) there.joined there.seen
+          ∙ joins p named limit letter x is there.stands;
+      first = not_yet (λ j. is_extended_over p limit (extended_after p named limit schedule j).moment) k there.first
+          (over_there p named limit schedule k l emulated there ∙ goes);
+    }
+
+-- what a run comes to that is over
+same_outcome : (p : Program) (named : ℕ → Bool) (x : ExtendedMoment) →
+    record { outcome = outcome_by (in_words (opening p).memory) (seen_at p named x.moment); emulated = x.emulated } ≡ extended_outcome p x
+unfolding outcome_by extended_outcome seen_at completed_state
+same_outcome p named x = refl
+
+pub there_over : (p : Program) (named : ℕ → Bool) (limit : ℕ) (schedule : List Letter) (k : ℕ) (l : Local) (emulated : List Emulation)
+    (o : EmulOutcome) → IsThere p named limit schedule k l emulated → is_over_by limit l ≡ true →
+    o ≡ record { outcome = outcome_by (in_words (opening p).memory) l; emulated = emulated } →
+    IsExtendedOutcome p named limit schedule o
+there_over p named limit schedule k l emulated o there over value = record {
+  events = k;
+  run = record { here = over_there p named limit schedule k l emulated there ∙ over; first = there.first };
+  value =
+      value
+      ∙ ap₂ (λ (s : Local) (xs : List Emulation). record { outcome = outcome_by (in_words (opening p).memory) s; emulated = xs })
+      there.seen there.joined
+      ∙ same_outcome p named (extended_after p named limit schedule k);
+}
+
+-- a run comes to one outcome
+pub one_outcome : (p : Program) (named : ℕ → Bool) (limit : ℕ) (schedule : List Letter) (a b : EmulOutcome) →
+    IsExtendedOutcome p named limit schedule a →
+    IsExtendedOutcome p named limit schedule b →
+    a ≡ b
+one_outcome p named limit schedule a b x y =
+    let same = one_first (λ k. is_extended_over p limit (extended_after p named limit schedule k).moment) x.events y.events x.run y.run in
+    x.value ∙ ap (λ k. extended_outcome p (extended_after p named limit schedule k)) same ∙ sym y.value

@@ -1,0 +1,106 @@
+-- The history of the machine with software behind it: that of the sequential machine, where an instruction that raises
+-- has its changes in place of ending the program if software has an aid for it.
+use Rattle.std.specs.Prelude.{ℕ, zero, suc, Bool, false, List, [], ◌∷◌, ◌++◌, Option, Some, None, map, length}
+use Rattle.m88_isa.specs.Address.{after_bytes, word_address}
+use Rattle.m88_isa.specs.Bus.{bus_after, bus_after_all, in_words}
+use Rattle.m88_isa.specs.Held.{instruction_at}
+use Rattle.m88_isa.specs.History.{turn_accesses}
+use Rattle.m88_isa.specs.Lanes.{datum_of, enable_of, stored_at}
+use Rattle.m88_isa.specs.Machine.{Program, State, Turn, by_vector, changes, exits, opening, outputs, state_after, stepped, stops, turn}
+use Rattle.m88_isa.specs.Memory.{Touch, access_of}
+use Rattle.m88_isa.specs.declared.instr.Instr.{Instr}
+use Rattle.m88_isa.specs.declared.planned.Access.{Access}
+use Rattle.m88_emul.specs.Aid.{Aid, aid_of, with_all}
+
+-- what becomes of an instruction in its turn: what the machine alone makes of it, or for the vector that it raises what
+-- software does
+pub data Deed : Type 0 where
+  alone : Turn → Deed
+  aided : ℕ → Aid → Deed
+
+-- the aid for an instruction, if it could be read
+abbrev pub aid_at : Option Instr → ℕ → List ℕ → (ℕ → ℕ) → Option Aid
+aid_at None vector regs memory = None
+aid_at (Some i) vector regs memory = aid_of i vector regs memory
+
+-- a program that would end by a vector at an address goes on where there is an aid
+abbrev pub where_aided : ℕ → ℕ → Option Aid → Deed
+where_aided vector at None = alone (stops (by_vector vector at))
+where_aided vector at (Some aid) = aided vector aid
+
+-- what becomes of an instruction by the turn that it has
+abbrev pub deed_of : Turn → Option Instr → List ℕ → (ℕ → ℕ) → Deed
+deed_of (changes change) i regs memory = alone (changes change)
+deed_of (outputs byte) i regs memory = alone (outputs byte)
+deed_of (stops (exits at)) i regs memory = alone (stops (exits at))
+deed_of (stops (by_vector vector at)) i regs memory = where_aided vector at (aid_at i vector regs memory)
+
+-- what becomes of the instruction of a program at an address, of the registers, the carry, MXM, the address that
+-- follows and memory by bytes
+abbrev pub deed : Program → List ℕ → Bool → Bool → ℕ → ℕ → (ℕ → ℕ) → Deed
+deed p regs carry mxm pc next memory = deed_of (turn p regs carry mxm pc next) (instruction_at p pc) regs memory
+
+-- the same at a state
+abbrev pub deed_at : Program → State → Deed
+deed_at p s = deed p s.regs s.carry s.mxm s.pc s.next s.memory
+
+-- memory after single bytes are stored, in order
+unfoldable pub stored_all : List Touch → (ℕ → ℕ) → ℕ → ℕ
+stored_all [] memory = memory
+stored_all (t ∷ touches) memory = stored_all touches (stored_at memory t.place t.size t.value)
+
+-- the state after a deed: what software does changes registers and memory, and the program goes on with the following
+-- address
+abbrev pub after_deed : Deed → State → State
+after_deed (alone turn) s = state_after (stepped turn s) s
+after_deed (aided vector aid) s = record s {
+  regs = with_all aid.writes s.regs;
+  pc = s.next;
+  next = after_bytes s.next 4;
+  memory = stored_all aid.stores s.memory;
+}
+
+-- the extended history: the state after some steps. From the end on it is the state at which the program ended.
+unfoldable pub extended_state : Program → ℕ → State
+extended_state p zero = opening p
+extended_state p (suc n) = after_deed (deed_at p (extended_state p n)) (extended_state p n)
+
+-- what goes to memory: a transaction, or the bytes that software stores, which make none
+pub data Work : Type 0 where
+  transacts : Access → Work
+  mends : List Access → Work
+
+-- the work of a deed
+abbrev pub work_of : Deed → List Work
+work_of (alone turn) = map transacts (turn_accesses turn)
+work_of (aided vector aid) = mends (map access_of aid.stores) ∷ []
+
+-- the work of the first steps of a history, in order
+unfoldable pub work_before : Program → ℕ → List Work
+work_before p zero = []
+work_before p (suc n) = work_before p n ++ work_of (deed_at p (extended_state p n))
+
+-- the transactions among some work
+unfoldable pub transacted : List Work → List Access
+transacted [] = []
+transacted (transacts a ∷ works) = a ∷ transacted works
+transacted (mends xs ∷ works) = transacted works
+
+-- the transactions of the first steps, the oldest first
+abbrev pub transactions_before : Program → ℕ → List Access
+transactions_before p n = transacted (work_before p n)
+
+-- the words after all that software stored and the first so many transactions, in the order of the history
+unfoldable pub bus_after_work : ℕ → List Work → (ℕ → ℕ) → ℕ → ℕ
+bus_after_work done [] bus = bus
+bus_after_work zero (transacts a ∷ works) bus = bus_after_work zero works bus
+bus_after_work (suc done) (transacts a ∷ works) bus = bus_after_work done works (bus_after a bus)
+bus_after_work done (mends xs ∷ works) bus = bus_after_work done works (bus_after_all xs bus)
+
+-- memory by words behind the first steps, of whose transactions the first so many are done
+abbrev pub extended_bus : Program → ℕ → ℕ → ℕ → ℕ
+extended_bus p n done = bus_after_work done (work_before p n) (in_words (opening p).memory)
+
+-- memory by bytes, as its words show it
+unfoldable pub byte_seen : (ℕ → ℕ) → ℕ → ℕ
+byte_seen bus a = datum_of (enable_of a 1) false (bus (word_address a))

@@ -1,0 +1,5 @@
+-- What the contracts of private functions cite.
+pub mod Tasks
+pub mod Places
+pub mod Settled
+pub mod Boards

@@ -1,0 +1,7 @@
+-- What a reader of the promises must believe: what software does for an instruction, the history of a machine with that
+-- software, and its timeline. What only private contracts cite stands in Inside.
+pub mod Aid
+pub mod Extended
+pub mod Timeline
+pub mod Emulating
+pub mod Inside
