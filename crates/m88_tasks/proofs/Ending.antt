@@ -1,0 +1,53 @@
+-- What a shared run comes to, by what memory leaves of it.
+use Rattle.std.specs.Prelude.{ℕ, Bool, true, false, List, ◌≡◌, ◌<◌, ◌≤◌, ◌+◌, nat_lt, Result, Ok, Err, IfOk}
+use Rattle.std.proofs.Common.{arith, refl, sym, ap, subst, ◌∙◌}
+use Rattle.std.proofs.lemmas.Bool.{ltb-false, ltb-true}
+use Rattle.m88_base.specs.declared.failing.NoMemory.{NoMemory}
+use Rattle.m88_isa.proofs.Alone.{by_test}
+use Rattle.m88_tasks.proofs.Choosing.{no_true}
+use Rattle.m88_tasks.proofs.Running.{Went, over_view, went_own, went_shared}
+use Rattle.m88_tasks.specs.Shared.{AreOwnOutcomes, Group, IsShared, SharedMoment, all_over, opening_shared, shared_after, shared_at}
+use Rattle.m88_tasks.specs.Tasks.{IsTasksAt, TasksView, is_over_view}
+use Rattle.m88_tasks.specs.declared.letter.ShareLetter.{ShareLetter}
+use Rattle.m88_tasks.specs.declared.shared.Shared.{Shared}
+
+-- a shared run comes to one value
+pub shared_only : (g : Group) (schedule : List ShareLetter) (o other : Shared) → IsShared g schedule o → IsShared g schedule other → o ≡ other
+shared_only g schedule o other a b =
+    a.value ∙ ap (λ (n : ℕ). shared_at g (shared_after g schedule n)) same ∙ sym b.value
+  where
+    over : ℕ → Bool
+    over n = all_over g (shared_after g schedule n).moments
+
+    same : a.events ≡ b.events
+    same = by_test (nat_lt a.events b.events)
+        (λ t. absurd (no_true _ a.run.here (b.run.first a.events (ltb-true a.events b.events t))))
+        (λ f. by_test (nat_lt b.events a.events)
+        (λ t. absurd (no_true _ b.run.here (a.run.first b.events (ltb-true b.events a.events t))))
+        (λ e. let low = ltb-false a.events b.events f in let high = ltb-false b.events a.events e in omega (arith, low, high)))
+
+abbrev pub Came : Result Shared NoMemory → TasksView → Type 0
+Came r t = IfOk r (λ o. (g : Group) (s : SharedMoment) → IsTasksAt g s t → all_over g s.moments ≡ true → o ≡ shared_at g s)
+
+value_at : (g : Group) (schedule : List ShareLetter) (k : ℕ) (t : TasksView) (o : Shared) → Went g schedule k t → is_over_view t ≡ true →
+    ((g : Group) (s : SharedMoment) → IsTasksAt g s t → all_over g s.moments ≡ true → o ≡ shared_at g s) → o ≡ shared_at g (shared_after g schedule k)
+value_at g schedule k t o went over h =
+    h g (shared_after g schedule k) went.at (sym (over_view g (shared_after g schedule k) t went.at) ∙ over)
+
+pub run_shared : (r : Result Shared NoMemory) (schedule : List ShareLetter) (k : ℕ) (first t : TasksView) →
+    ((g : Group) → IsTasksAt g (opening_shared g) first → Went g schedule k t) → is_over_view t ≡ true → Came r t →
+    IfOk r (λ o. (g : Group) → IsTasksAt g (opening_shared g) first → IsShared g schedule o)
+run_shared (Ok o) schedule k first t went over h = λ g at.
+    went_shared g schedule k t o (went g at) over (value_at g schedule k t o (went g at) over h)
+run_shared (Err e) schedule k first t went over h = tt
+
+pub run_own : (r : Result Shared NoMemory) (schedule : List ShareLetter) (k : ℕ) (first t : TasksView) →
+    ((g : Group) → IsTasksAt g (opening_shared g) first → Went g schedule k t) → is_over_view t ≡ true → Came r t →
+    IfOk r (λ o. (g : Group) → IsTasksAt g (opening_shared g) first → AreOwnOutcomes g schedule o)
+run_own (Ok o) schedule k first t went over h = λ g at.
+    went_own g schedule k t o (went g at) over (value_at g schedule k t o (went g at) over h)
+run_own (Err e) schedule k first t went over h = tt
+
+pub run_within : (r : Result Shared NoMemory) (n k most : ℕ) → n ≡ k → k ≤ most → IfOk r (λ o. o.events ≡ n) → IfOk r (λ o. o.events ≤ most)
+run_within (Ok o) n k most same few h = omega (arith, same, few, h)
+run_within (Err e) n k most same few h = tt

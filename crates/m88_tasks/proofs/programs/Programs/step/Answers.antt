@@ -1,0 +1,31 @@
+-- The board makes the event of its program.
+use Rattle.std.proofs.Common.{sym, subst}
+use Rattle.m88_tasks.proofs.Places.{moved, unmoved}
+use Rattle.m88_tasks.specs.Shared.{moments_then}
+use Rattle.m88_tasks.specs.Tasks.{ArePrograms}
+use Rattle.m88_tasks.proofs.programs.Programs.step.Goals as goal
+
+pub invariant_of-self : goal.invariant_of-self
+invariant_of-self c =
+    let some = c.self.invariant in
+    record {
+      group = some.group;
+      moments = some.moments;
+      current = some.current;
+      are = unmoved some.group some.moments some.current _ _ some.are c.in_err-happened.ensures.err;
+    }
+
+pub invariant_of-self-2 : goal.invariant_of-self-2
+invariant_of-self-2 c =
+    let some = c.self.invariant in
+    record {
+      group = some.group;
+      moments = moments_then some.group c.args.letter some.moments some.current;
+      current = some.current;
+      are = moved some.group c.args.letter some.moments some.current _ _ some.are c.in_ok-happened.ensures.timeline c.in_ok-happened.ensures.same;
+    }
+
+pub returns-clause-timeline : goal.returns-clause-timeline
+returns-clause-timeline c = λ g moments current held.
+    moved g c.args.letter moments current _ _ (subst (ArePrograms g moments current) (sym c.self.view_is) held)
+    c.in_ok-happened.ensures.timeline c.in_ok-happened.ensures.same

@@ -1,0 +1,38 @@
+-- A letter is taken, and its event counted.
+use Rattle.std.proofs.Common.{◌≡◌, ◌<◌, false, sym, subst}
+use Rattle.m88_board.specs.Kept.{most_events}
+use Rattle.m88_tasks.proofs.Events.{event_at, event_tasks, refused_tasks, takes_at}
+use Rattle.m88_tasks.proofs.Running.{board_room}
+use Rattle.m88_tasks.specs.Tasks.{IsTasksAt, TasksView, is_over_view}
+use Rattle.m88_tasks.proofs.tasks.Tasks.event.Goals as goal
+
+pub take-requires : goal.take-requires
+take-requires c =
+    board_room (record { programs = c.self.inside.programs; events = c.self.inside.events; switches = c.self.inside.switches.items }) c.self.invariant
+    (subst (λ (t : TasksView). t.events < most_events) (sym c.self.view_is) c.requires.room)
+
+pub invariant_of-self : goal.invariant_of-self
+invariant_of-self c =
+    refused_tasks (record { programs = c.self.inside.programs; events = c.self.inside.events; switches = c.self.inside.switches.items })
+    c.take.new.self c.take.new.switches.items c.self.invariant c.in_err-turned.ensures.err c.in_err-turned.ensures.unswitched
+
+pub invariant_of-self-2 : goal.invariant_of-self-2
+invariant_of-self-2 c =
+    event_tasks (record { programs = c.self.inside.programs; events = c.self.inside.events; switches = c.self.inside.switches.items })
+    c.args.letter c.in_ok-turned.turned c.take.new.self c.take.new.switches.items c.in_ok-turned.ensures.taken c.self.invariant
+    (subst (λ (t : TasksView). is_over_view t ≡ false) (sym c.self.view_is) c.requires.going)
+    (subst (λ (t : TasksView). t.events < most_events) (sym c.self.view_is) c.requires.room)
+
+pub returns-clause-timeline : goal.returns-clause-timeline
+returns-clause-timeline c = λ g s at.
+    event_at g s (record { programs = c.self.inside.programs; events = c.self.inside.events; switches = c.self.inside.switches.items })
+    c.args.letter c.in_ok-turned.turned c.take.new.self c.take.new.switches.items c.in_ok-turned.ensures.taken
+    (subst (IsTasksAt g s) (sym c.self.view_is) at)
+    (subst (λ (t : TasksView). is_over_view t ≡ false) (sym c.self.view_is) c.requires.going)
+
+pub returns-clause-said : goal.returns-clause-said
+returns-clause-said c = λ g s at.
+    (takes_at g s (record { programs = c.self.inside.programs; events = c.self.inside.events; switches = c.self.inside.switches.items })
+    c.args.letter c.in_ok-turned.turned c.take.new.self c.take.new.switches.items c.in_ok-turned.ensures.taken
+    (subst (IsTasksAt g s) (sym c.self.view_is) at)
+    (subst (λ (t : TasksView). is_over_view t ≡ false) (sym c.self.view_is) c.requires.going)).says
