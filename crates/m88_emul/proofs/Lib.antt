@@ -15,3 +15,5 @@ pub mod OpenPlaces
 pub mod ByteBound
 -- boards, one after the other
 pub mod OnBoards
+-- runs by hand
+pub mod Worked

@@ -43,7 +43,8 @@ signed_word false far = if nat_lt far (2 ^ 31) then Some far else None
 
 -- the quotient of two signed words, rounded towards 0; none by 0, or where it is 2^31
 abbrev pub quotient_of : ℕ → ℕ → Option ℕ
-quotient_of s t = if t == 0 then None else signed_word (have_other_signs s t) (magnitude s / magnitude t)
+quotient_of s t =
+    if t == 0 then None else signed_word (have_other_signs s t) (magnitude s / magnitude t)
 
 -- a register takes a quotient
 abbrev pub takes_quotient : Reg → ℕ → Aid
@@ -71,7 +72,8 @@ datum_at memory signed size place = widened signed size (joined memory 0 (places
 -- the low bytes of a value, the highest first, each stored at its place
 unfoldable pub byte_stores : ℕ → List ℕ → List Touch
 byte_stores value [] = []
-byte_stores value (a ∷ places) = store 1 (value / 2 ^ (8 * length places)) a ∷ byte_stores value places
+byte_stores value (a ∷ places) =
+    store 1 (value / 2 ^ (8 * length places)) a ∷ byte_stores value places
 
 -- a load of one datum into a register
 abbrev pub loads_one : (ℕ → ℕ) → Bool → ℕ → Reg → ℕ → Aid
@@ -108,7 +110,8 @@ unaligned memop.Ld d place regs memory = Some (loads_one memory false 4 d place)
 unaligned memop.LdD d place regs memory = Some (loads_two memory d place)
 unaligned memop.StH d place regs memory = Some (stores_one 2 (register regs d) place)
 unaligned memop.St d place regs memory = Some (stores_one 4 (register regs d) place)
-unaligned memop.StD d place regs memory = Some (stores_two (register regs d) (register regs (register_after d)) place)
+unaligned memop.StD d place regs memory =
+    Some (stores_two (register regs d) (register regs (register_after d)) place)
 unaligned _ d place regs memory = None
 
 -- an aid that is for one vector alone
@@ -142,7 +145,8 @@ raises_with i regs vector = is_raise (meaning_of i regs false false 0 4) vector
 
 -- what software does for an instruction by a vector, if it does: the aid for it, where it raises that vector
 abbrev pub aid_of : Instr → ℕ → List ℕ → (ℕ → ℕ) → Option Aid
-aid_of i vector regs memory = if raises_with i regs vector then aid_for i vector regs memory else None
+aid_of i vector regs memory =
+    if raises_with i regs vector then aid_for i vector regs memory else None
 
 -- the registers after some are written, in order; what is written to r0 is lost
 unfoldable pub with_all : List (Reg × ℕ) → List ℕ → List ℕ

@@ -33,12 +33,14 @@ abbrev pub deed_of : Turn → Option Instr → List ℕ → (ℕ → ℕ) → De
 deed_of (changes change) i regs memory = alone (changes change)
 deed_of (outputs byte) i regs memory = alone (outputs byte)
 deed_of (stops (exits at)) i regs memory = alone (stops (exits at))
-deed_of (stops (by_vector vector at)) i regs memory = where_aided vector at (aid_at i vector regs memory)
+deed_of (stops (by_vector vector at)) i regs memory =
+    where_aided vector at (aid_at i vector regs memory)
 
 -- what becomes of the instruction of a program at an address, of the registers, the carry, MXM, the address that
 -- follows and memory by bytes
 abbrev pub deed : Program → List ℕ → Bool → Bool → ℕ → ℕ → (ℕ → ℕ) → Deed
-deed p regs carry mxm pc next memory = deed_of (turn p regs carry mxm pc next) (instruction_at p pc) regs memory
+deed p regs carry mxm pc next memory =
+    deed_of (turn p regs carry mxm pc next) (instruction_at p pc) regs memory
 
 -- the same at a state
 abbrev pub deed_at : Program → State → Deed

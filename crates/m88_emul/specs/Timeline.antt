@@ -43,7 +43,8 @@ last_retired p (suc n) = retired_pointer (extended_state p n).pc
 
 -- how the program has ended, if it has: as the extended history does
 abbrev pub extended_end : Program → Moment → Option End
-extended_end p m = if m.ended then Some (end_of_turn (turn_at p (extended_state p m.retired))) else None
+extended_end p m =
+    if m.ended then Some (end_of_turn (turn_at p (extended_state p m.retired))) else None
 
 -- what a moment looks like
 unfoldable pub seen_at : Program → (ℕ → Bool) → Moment → Local
@@ -91,9 +92,12 @@ after_chosen p (issues change) fault x =
     record x { moment = record x.moment { retired = x.moment.retired + 1; bubble = change.bubble } }
 after_chosen p (serves byte) fault x =
     record x { moment = record x.moment { retired = x.moment.retired + 1; bubble = false } }
-after_chosen p (finishes stop) fault x = after_stop (deed_at p (extended_state p x.moment.retired)) p x
+after_chosen p (finishes stop) fault x =
+    after_stop (deed_at p (extended_state p x.moment.retired)) p x
 after_chosen p replies fault x =
-    record x { moment = record x.moment { done = x.moment.done + 1; answers = x.moment.answers + 1 } }
+    record x {
+      moment = record x.moment { done = x.moment.done + 1; answers = x.moment.answers + 1 };
+    }
 after_chosen p faults fault x = record x {
   moment = record x.moment {
     records = x.moment.records ++ (fault ∷ []);
@@ -103,7 +107,8 @@ after_chosen p faults fault x = record x {
     done = length (transactions_before p x.moment.retired);
   };
 }
-after_chosen p evicts fault x = record x { moment = record x.moment { evicted = true; supplied = λ page. false } }
+after_chosen p evicts fault x =
+    record x { moment = record x.moment { evicted = true; supplied = λ page. false } }
 
 -- one more event is counted
 abbrev pub with_event_counted : ExtendedMoment → ExtendedMoment

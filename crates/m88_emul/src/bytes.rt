@@ -3,7 +3,7 @@
 // a store to a word
 m88_isa::specs::Bus::stored))]
 
-ghost use Rattle.std.specs.Prelude.{ℕ, ◌≡◌, ◌<◌, ◌^◌, ◌++◌, map, true, false};
+ghost use Rattle.std.specs.Prelude.{◌≡◌, ◌<◌, ◌^◌, ◌++◌, map, false};
 ghost use Rattle.m88_base.specs.Pages.{page_number};
 ghost use Rattle.m88_isa.specs.Address.{after_bytes};
 ghost use Rattle.m88_isa.specs.Bus.{bus_after_all, stored};

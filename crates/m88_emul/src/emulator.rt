@@ -32,7 +32,9 @@ pub enum Emulated {
     Not,
 }
 
-/// Does the instruction of a word that raised a vector, with MXM clear. r0 reads as 0 and stays as it is.
+/// Does the instruction of a word that raised a vector, with MXM clear. r0 reads as 0 and stays as it is. Memory takes
+/// its frames from the allocator that it was made with, so that `alloc` is left as it is. Where memory runs out, only
+/// pages may have been made ready.
 pub fn emulate(
     alloc: Global,
     vector: u16,
@@ -40,7 +42,8 @@ pub fn emulate(
     regs: &mut [u32; 32],
     memory: &mut Memory,
 ) -> Result<Emulated, NoMemory>
-    ensures done { IfOk result (λ e. e ≡ EmulatedValue.Done → (i : InstrValue) × IsWord i word × ((aid : Aid)
+    ensures done { IfOk result (λ e. e ≡ EmulatedValue.Done
+        → (i : InstrValue) × IsWord i word × ((aid : Aid)
         × (aid_of i vector regs.old (byte_seen (bus_of memory.old)) ≡ Some aid)
         × IsAided aid regs.old regs.new memory.old memory.new)) }
     ensures none { IfOk result (λ e. e ≡ EmulatedValue.Not → (i : InstrValue) → IsWord i word
@@ -49,7 +52,6 @@ pub fn emulate(
         → (regs.new ≡ regs.old) × (memory.new ≡ memory.old)) }
     ensures err { OnErr result ((regs.new ≡ regs.old) × IsOnlyPrepared memory.old memory.new) }
 {
-    // Memory takes its frames from the allocator that it was made with.
     let _ = alloc;
     let Some(task) = task_in(vector, word, regs) else {
         return Ok(Emulated::Not);
@@ -127,9 +129,11 @@ fn supply(task: &Task, memory: &mut Memory)
 #[tactic(auto, unfolding(crate::specs::Aid::with_all, m88_isa::specs::Bus::bus_after_all))]
 fn carry_out(task: &Task, regs: &mut [u32; 32], memory: &mut Memory)
     requires { AreOpen (ready_of memory.old) (absent_of memory.old) (stored_places task.now) }
-    ensures regs { regs.new ≡ with_all (aid_by task.now (byte_seen (bus_of memory.old))).writes regs.old }
+    ensures regs { regs.new
+        ≡ with_all (aid_by task.now (byte_seen (bus_of memory.old))).writes regs.old }
     ensures bus { bus_of memory.new ≡ bus_after_all
-        (map access_of (aid_by task.now (byte_seen (bus_of memory.old))).stores) (bus_of memory.old) }
+        (map access_of (aid_by task.now (byte_seen (bus_of memory.old))).stores)
+        (bus_of memory.old) }
     ensures image { memory.new.image ≡ memory.old.image }
     ensures absent { absent_of memory.new ≡ absent_of memory.old }
     ensures ready { ready_of memory.new ≡ ready_of memory.old }

@@ -15,6 +15,8 @@ mod task;
 mod emulation;
 mod running;
 #[cfg(test)]
+mod test_rows;
+#[cfg(test)]
 mod tests;
 
 pub use emulation::{EmulOutcome, Emulation};

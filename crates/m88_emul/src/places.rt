@@ -1,6 +1,6 @@
 //! The pages of bytes that software touches, at most eight from a place on, so that they lie in at most two pages.
 
-ghost use Rattle.std.specs.Prelude.{ℕ, ◌≡◌, ◌<◌, ◌≤◌, ◌&&◌, not, true, OnErr, OnOk};
+ghost use Rattle.std.specs.Prelude.{ℕ, ◌≡◌, ◌<◌, ◌≤◌, ◌&&◌, not, true, OnOk};
 ghost use Rattle.m88_mem.specs.DataBus.{absent_of, bus_of, ready_of};
 ghost use Rattle.m88_emul.specs.Aid.{places_from};
 ghost use Rattle.m88_emul.specs.Emulating.{IsOnlyPrepared};

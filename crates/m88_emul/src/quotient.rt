@@ -1,7 +1,7 @@
 //! Signed division of words.
 
 ghost use Rattle.std.specs.Prelude.{◌≡◌, ◌≤◌, ◌^◌};
-ghost use Rattle.m88_emul.specs.Aid.{have_other_signs, is_negative, magnitude, quotient_of, signed_word};
+ghost use Rattle.m88_emul.specs.Aid.{is_negative, magnitude, quotient_of, signed_word};
 
 /// The quotient of two words read as signed numbers, rounded towards 0. None by 0, and where it is 2^31, which no word
 /// is.

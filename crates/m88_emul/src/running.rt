@@ -14,7 +14,7 @@ ghost use Rattle.m88_isa.specs.declared.instr.Instr.{Instr as InstrValue};
 ghost use Rattle.m88_mem.specs.DataBus.{bus_of};
 ghost use Rattle.m88_mem.specs.Marks.{NamesPages, absent_in};
 ghost use Rattle.m88_board.specs.Board.{local_of};
-ghost use Rattle.m88_board.specs.Kept.{IsKept, most_events, most_retired};
+ghost use Rattle.m88_board.specs.Kept.{most_events, most_retired};
 ghost use Rattle.m88_emul.specs.Aid.{Aid, aid_of};
 ghost use Rattle.m88_emul.specs.Extended.{byte_seen};
 ghost use Rattle.m88_emul.specs.Inside.Boards.{one_more, vector_in};
@@ -89,13 +89,15 @@ fn step(
     ensures moved { IfOk result (λ b. (p : Program) → IsProgramOf board.memory.image p
         → local_of b ≡ settled p (move p limit letter (local_of board))) }
     ensures emulated { OnOk result ((p : Program) → IsProgramOf board.memory.image p
-        → emulated.new.items ≡ emulated.old.items ++ newly_emulated p (move p limit letter (local_of board))) }
+        → emulated.new.items
+        ≡ emulated.old.items ++ newly_emulated p (move p limit letter (local_of board))) }
     ensures limit { IfOk result (λ b. b.limit ≡ limit) }
     ensures image { IfOk result (λ b. b.memory.image ≡ board.memory.image) }
     ensures clear { IfOk result (λ b. mxm_of b.control ≡ false) }
     ensures counted { IfOk result (λ b. b.events ≡ board.events + 1) }
-    ensures lighter { IfOk result (λ b. (schedule : List LetterValue) (taken : ℕ) → letter ≡ letter_at schedule taken
-        → weight schedule limit (taken + 1) (local_of b) < weight schedule limit taken (local_of board)) }
+    ensures lighter { IfOk result (λ b. (schedule : List LetterValue) (taken : ℕ)
+        → letter ≡ letter_at schedule taken → weight schedule limit (taken + 1) (local_of b)
+        < weight schedule limit taken (local_of board)) }
 {
     // What always holds of a board is told with its events.
     let _ = board.events();

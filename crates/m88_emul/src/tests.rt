@@ -1,13 +1,13 @@
-//! Divisions with quotients computed outside, loads and stores over the end of a page, told byte by byte, and three
-//! whole runs.
+//! Divisions with quotients computed outside, loads and stores over the end of a page, told byte by byte, and whole runs
+//! by their rows.
 
-ghost use Rattle.m88_mem.specs.Marks.{NamesPages};
-
+use crate::test_rows::{ROWS, Row};
 use crate::{EmulOutcome, Emulated, Emulation, emulate, run};
 use m88_base::{Absent, Image, ImageFault, NoMemory};
-use m88_board::{End, Schedule};
+use m88_board::{End, Record, Schedule};
 use m88_mem::Memory;
 use std::alloc::Global;
+use std::process::Abort;
 
 /// `div r4,r2,r3`.
 const DIV: u32 = 0xF482_7803;
@@ -212,77 +212,75 @@ fn the_last_and_the_first_page(rt: HostRuntime) -> Result<(), NoMemory> {
     Ok(())
 }
 
-/// A run of at most nine instructions of the words from 0x1000 on, with eight bytes at 0x2000.
-fn ran(
-    alloc: Global,
-    words: &[u32],
-    absent: &Absent,
-    letters: &str,
-    limit: u32,
-) -> Result<EmulOutcome, ImageFault>
-    requires { NamesPages absent.now }
-{
+/// What the run of a row comes to.
+fn ran(alloc: Global, row: &Row) -> Result<EmulOutcome, ImageFault> {
     let mut image = Image::new(alloc);
     let mut place: u32 = 0x1000;
-    for word in words {
+    for word in row.words {
         image.add(place, &word.to_be_bytes())?;
         place = place.wrapping_add(4);
     }
     image.add(0x2000, &[0x11, 0x22, 0x33, 0x44, 0x55, 0x66, 0x77, 0x88])?;
     image.set_start(0x1000);
-    let Some(schedule) = Schedule::read(letters) else {
+    let Some(schedule) = Schedule::read(row.letters) else {
         return Err(ImageFault::Memory);
     };
-    match run(alloc, &image, absent, limit.min(9), &schedule) {
+    let absent = if row.all { Absent::All } else { Absent::None };
+    match run(alloc, &image, &absent, row.limit.min(9), &schedule) {
         Ok(outcome) => Ok(outcome),
         Err(NoMemory) => Err(ImageFault::Memory),
     }
 }
 
+/// Whether a run came to what its row says.
+fn expect_row(rt: &impl Abort, alloc: Global, row: &Row) -> Result<(), ImageFault> {
+    let came = ran(alloc, row)?;
+    let outcome = &came.outcome;
+    assert!(rt; outcome.end == end_of(row.end));
+    assert_eq!(rt; outcome.retired, row.retired);
+    let [_, _, r2, r3, r4, r5, ..] = outcome.regs;
+    assert!(rt; [r2, r3, r4, r5] == row.regs);
+    assert_eq!(rt; outcome.events, row.events);
+    assert_eq!(rt; outcome.answers, row.answers);
+    assert!(rt; outcome.out.as_slice() == row.out);
+    assert!(rt; outcome.changed.as_slice() == row.changed);
+    expect_faults(rt, outcome.records.as_slice(), row.faults);
+    expect_emulated(rt, came.emulated.as_slice(), row.emulated);
+    Ok(())
+}
+
+/// The end of a row.
+fn end_of(end: (u16, u32)) -> End {
+    match end {
+        (0, _) => End::Limit,
+        (496, at) => End::Exit { at },
+        (vector, at) => End::Vector { vector, at },
+    }
+}
+
+/// Whether the records are those of a row.
+fn expect_faults(rt: &impl Abort, records: &[Record], faults: &[[u32; 4]]) {
+    assert_eq!(rt; records.len(), faults.len());
+    for (record, fault) in records.iter().zip(faults.iter()) {
+        let [event, sxip, snip, sfip] = *fault;
+        assert_eq!(rt; record.event, event as u64);
+        assert!(rt; [record.sxip, record.snip, record.sfip] == [sxip, snip, sfip]);
+    }
+}
+
+/// Whether software did the instructions of a row.
+fn expect_emulated(rt: &impl Abort, emulated: &[Emulation], rows: &[(u64, u32, u16)]) {
+    assert_eq!(rt; emulated.len(), rows.len());
+    for (emulation, row) in emulated.iter().zip(rows.iter()) {
+        let (event, at, vector) = *row;
+        assert!(rt; *emulation == Emulation { event, at, vector });
+    }
+}
+
 #[test]
 fn whole_runs(rt: HostRuntime) -> Result<(), ImageFault> {
-    // subu r2,r0,6; or r3,r0,2; div r4,r2,r3; or r9,r0,0x63; tb0 0,r0,496
-    let divides = [0x6440_0006, 0x5860_0002, DIV, 0x5920_0063, 0xF000_D1F0];
-    let o = ran(rt.alloc(), &divides, &Absent::None, "-", 9)?;
-    assert!(rt; o.outcome.end == End::Exit { at: 0x1010 });
-    assert_eq!(rt; o.outcome.retired, 4);
-    assert_eq!(rt; o.outcome.regs[4], 0xFFFF_FFFD);
-    assert_eq!(rt; o.outcome.events, 10);
-    let emulated = [Emulation {
-        event: 6,
-        at: 0x1008,
-        vector: 8,
-    }];
-    assert!(rt; o.emulated.as_slice() == emulated.as_slice());
-    // ld r2,r0,0x2001
-    let o = ran(rt.alloc(), &[0x1440_2001], &Absent::All, "i", 1)?;
-    assert!(rt; o.outcome.end == End::Limit);
-    assert_eq!(rt; o.outcome.regs[2], 0x2233_4455);
-    assert_eq!(rt; o.outcome.events, 1);
-    assert_eq!(rt; o.outcome.answers, 0);
-    let emulated = [Emulation {
-        event: 1,
-        at: 0x1000,
-        vector: 4,
-    }];
-    assert!(rt; o.emulated.as_slice() == emulated.as_slice());
-    // or.u r2,r0,0x8000; subu r3,r0,1; div r4,r2,r3
-    let o = ran(
-        rt.alloc(),
-        &[0x5C40_8000, 0x6460_0001, DIV],
-        &Absent::None,
-        "-",
-        9,
-    )?;
-    assert!(rt;
-        o.outcome.end
-            == End::Vector {
-                vector: 8,
-                at: 0x1008
-            }
-    );
-    assert_eq!(rt; o.outcome.retired, 2);
-    assert_eq!(rt; o.outcome.events, 6);
-    assert!(rt; o.emulated.as_slice().is_empty());
+    for row in ROWS {
+        expect_row(&rt, rt.alloc(), row)?;
+    }
     Ok(())
 }

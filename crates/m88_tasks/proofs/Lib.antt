@@ -14,3 +14,4 @@ pub mod Collecting
 pub mod Settling
 pub mod Events
 pub mod Ending
+pub mod Worked

@@ -59,8 +59,8 @@ found_next None before current = unwrap_or before current
 -- the next program in cyclic order that isn't over; where each is over, the same again
 unfoldable pub next_from : Group → (ℕ → Moment) → ℕ → ℕ
 next_from g moments current =
-    found_next (first_alive g moments (current + 1) (g.count - (current + 1))) (first_alive g moments 0 (current + 1))
-    current
+    found_next (first_alive g moments (current + 1) (g.count - (current + 1)))
+    (first_alive g moments 0 (current + 1)) current
 
 -- before the first event each program is at its opening moment, and the least runs that isn't over
 abbrev pub opening_shared : Group → SharedMoment
@@ -79,7 +79,8 @@ with_shared_event s = record s { events = s.events + 1 }
 -- the moments once the program that runs took a letter: its own moves, and no other
 abbrev pub moments_then : Group → Letter → (ℕ → Moment) → ℕ → ℕ → Moment
 moments_then g letter moments current q =
-    if q == current then after_letter (g.programs q) g.named g.limit letter (moments q) else moments q
+    if q == current then after_letter (g.programs q) g.named g.limit letter (moments q)
+    else moments q
 
 -- and the letters that each took
 abbrev pub owns_then : Letter → (ℕ → List Letter) → ℕ → ℕ → List Letter
@@ -87,7 +88,8 @@ owns_then letter owns current q = if q == current then owns q ++ (letter ∷ [])
 
 -- the program that runs once one took a letter: the same, or the next where it is over now
 abbrev pub settled_from : Group → (ℕ → Moment) → ℕ → ℕ
-settled_from g moments current = if over_at g moments current then next_from g moments current else current
+settled_from g moments current =
+    if over_at g moments current then next_from g moments current else current
 
 -- the program that runs takes a letter
 abbrev pub after_own : Group → Letter → SharedMoment → SharedMoment
@@ -119,19 +121,22 @@ switch_at g s =
 -- how many transactions of the program that runs are pending
 abbrev pub pending_in : Group → SharedMoment → ℕ
 pending_in g s =
-    length (pending_at (g.programs s.current) (s.moments s.current).retired (s.moments s.current).done)
+    length (pending_at (g.programs s.current) (s.moments s.current).retired
+    (s.moments s.current).done)
 
 -- the letter `t`, the first that applies: it is held where the program that runs has something pending, changes nothing
 -- where every other program is over, and else the next program runs
 unfoldable pub turn_at : Group → SharedMoment → Turned
 turn_at g s =
-    if not (is_drained (g.programs s.current) (s.moments s.current)) then turned.Held (pending_in g s)
+    if not (is_drained (g.programs s.current) (s.moments s.current))
+    then turned.Held (pending_in g s)
     else if is_alone g s.moments s.current then turned.Alone
     else turned.Switched (switch_at g s)
 
 -- a switch joins the others, and its program runs; nothing else changes anything
 abbrev pub after_turn : Turned → SharedMoment → SharedMoment
-after_turn (turned.Switched switch) s = record s { current = switch.to; switches = s.switches ++ (switch ∷ []) }
+after_turn (turned.Switched switch) s =
+    record s { current = switch.to; switches = s.switches ++ (switch ∷ []) }
 after_turn _ s = s
 
 -- the shared moment after a letter
@@ -148,7 +153,8 @@ turned_at g share.Turn s = turn_at g s
 -- the shared moment after as many events of a run
 unfoldable pub shared_after : Group → List ShareLetter → ℕ → SharedMoment
 shared_after g schedule zero = opening_shared g
-shared_after g schedule (suc k) = after_share g (share_letter_at schedule k) (shared_after g schedule k)
+shared_after g schedule (suc k) =
+    after_share g (share_letter_at schedule k) (shared_after g schedule k)
 
 -- a shared run has this many events: every program is over then, and not before
 abbrev pub IsSharedRun : Group → List ShareLetter → ℕ → Type 0
@@ -157,7 +163,8 @@ IsSharedRun g schedule = IsFirst (λ k. all_over g (shared_after g schedule k).m
 -- what the first of so many programs come to, in order
 unfoldable pub outcomes_of : Group → (ℕ → Moment) → ℕ → List Outcome
 outcomes_of g moments zero = []
-outcomes_of g moments (suc q) = outcomes_of g moments q ++ (outcome_at (g.programs q) (moments q) ∷ [])
+outcomes_of g moments (suc q) =
+    outcomes_of g moments q ++ (outcome_at (g.programs q) (moments q) ∷ [])
 
 -- what a shared run comes to whose programs are all over
 abbrev pub shared_at : Group → SharedMoment → Shared

@@ -41,9 +41,11 @@ is_over_view t = is_over_by t.programs.board.limit (local_of t.programs.board)
 
 -- some images hold the programs of a group, with MXM clear, and the group has this choice of absent pages and this
 -- limit
-pub record IsGroupOf (images : List ProgramImage) (absent : Absent) (limit : ℕ) (g : Group) : Type 0 where
+pub record IsGroupOf (images : List ProgramImage) (absent : Absent) (limit : ℕ) (g : Group)
+    : Type 0 where
   pub count : g.count ≡ length images
-  pub programs : (q : ℕ) (image : ProgramImage) → slice_get images q ≡ Some image → IsProgramOf image (g.programs q)
+  pub programs : (q : ℕ) (image : ProgramImage) → slice_get images q ≡ Some image
+      → IsProgramOf image (g.programs q)
   pub modes : (q : ℕ) → q < g.count → (g.programs q).mxm ≡ false
   pub named : g.named ≡ absent_in absent
   pub limited : g.limit ≡ limit
@@ -52,12 +54,14 @@ pub record IsGroupOf (images : List ProgramImage) (absent : Absent) (limit : ℕ
 abbrev pub IsPlaceAt : Group → (ℕ → Moment) → ℕ → ℕ → Option Context → Type 0
 IsPlaceAt g moments current q None = q ≡ current
 IsPlaceAt g moments current q (Some context) =
-    (q ≢ current) × StandsFor (g.programs q) g.named (moments q) context × (context.book.limit ≡ g.limit)
+    (q ≢ current) × StandsFor (g.programs q) g.named (moments q) context
+    × (context.book.limit ≡ g.limit)
 
 -- so of all places
 abbrev pub ArePlaces : Group → (ℕ → Moment) → ℕ → List (Option Context) → Type 0
 ArePlaces g moments current contexts =
-    (q : ℕ) (place : Option Context) → slice_get contexts q ≡ Some place → IsPlaceAt g moments current q place
+    (q : ℕ) (place : Option Context) → slice_get contexts q ≡ Some place
+    → IsPlaceAt g moments current q place
 
 -- no place but one has no context
 abbrev pub IsOnlyNone : List (Option Context) → ℕ → Type 0
@@ -65,7 +69,8 @@ IsOnlyNone contexts current = (q : ℕ) → slice_get contexts q ≡ Some None �
 
 -- the board, which didn't begin from parts, stands at the moment of the program that runs, and each other program's
 -- context stands for its moment
-pub record ArePrograms (g : Group) (moments : ℕ → Moment) (current : ℕ) (v : ProgramsView) : Type 0 where
+pub record ArePrograms (g : Group) (moments : ℕ → Moment) (current : ℕ) (v : ProgramsView)
+    : Type 0 where
   pub count : length v.contexts ≡ g.count
   pub few : g.count ≤ most_programs
   pub small : g.limit ≤ most_retired
@@ -111,8 +116,8 @@ pub record AreTasksUnmoved (old new : TasksView) : Type 0 where
 
 -- the program that runs took a letter, or the letter `t` came: what was said, where the programs stand then, and the
 -- switches so far
-pub record IsTaken (g : Group) (letter : ShareLetter) (s : SharedMoment) (turned : Turned) (v : ProgramsView)
-    (switches : List Switch) : Type 0 where
+pub record IsTaken (g : Group) (letter : ShareLetter) (s : SharedMoment) (turned : Turned)
+    (v : ProgramsView) (switches : List Switch) : Type 0 where
   pub says : turned ≡ turned_at g letter s
   pub programs : ArePrograms g (after_share g letter s).moments (after_share g letter s).current v
   pub joined : switches ≡ (after_share g letter s).switches

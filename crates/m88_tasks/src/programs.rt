@@ -1,11 +1,9 @@
 //! The program that runs, on the board, and the contexts of the others.
 
 ghost use Rattle.std.specs.Prelude.{ℕ, Bool, [], ◌≡◌, ◌≢◌, ◌<◌, ◌≤◌, ◌+◌, ◌-◌, is_some, length, true, false, IfOk, OnErr, OnOk};
-ghost use Rattle.m88_board.specs.Board.{local_of};
 ghost use Rattle.m88_board.specs.Contexts.{StandsFor};
 ghost use Rattle.m88_board.specs.Kept.{most_events};
 ghost use Rattle.m88_board.specs.declared.context.Context.{Context as ContextValue};
-ghost use Rattle.m88_event.specs.Local.{is_over_by};
 ghost use Rattle.m88_event.specs.Run.{outcome_at};
 ghost use Rattle.m88_event.specs.Timeline.{Moment, is_over, said_at};
 ghost use Rattle.m88_isa.specs.Machine.{Program};
@@ -286,8 +284,8 @@ fn switch_of(event: u64, from: usize, to: usize, saved: &Record) -> Switch
 /// What the program of a place came to: of the one that runs it is there already.
 fn outcome_of(context: Option<Context>, own: &mut Option<Outcome>) -> Result<Outcome, NoMemory>
     requires { context ≡ None → is_some own.old ≡ true }
-    ensures saved { IfOk result (λ o. (p : Program) (named : ℕ → Bool) (m : Moment) (c : ContextValue)
-        → context ≡ Some c → StandsFor p named m c → is_over p c.book.limit m ≡ true
+    ensures saved { IfOk result (λ o. (p : Program) (named : ℕ → Bool) (m : Moment)
+        (c : ContextValue) → context ≡ Some c → StandsFor p named m c → is_over p c.book.limit m ≡ true
         → o ≡ outcome_at p m) }
     ensures own { IfOk result (λ o. context ≡ None → own.old ≡ Some o) }
     ensures same { (c : ContextValue) → context ≡ Some c → own.new ≡ own.old }

@@ -1,10 +1,8 @@
 //! Programs that share a board.
 
-ghost use Rattle.std.specs.Prelude.{ℕ, Bool, ◌≡◌, ◌<◌, ◌≤◌, ◌+◌, ◌*◌, List, length, true, false, IfOk, OnErr, OnOk};
-ghost use Rattle.m88_base.specs.Image.{ProgramImage};
+ghost use Rattle.std.specs.Prelude.{◌≡◌, ◌<◌, ◌≤◌, ◌+◌, length, true, false, IfOk, OnErr, OnOk};
 ghost use Rattle.m88_board.specs.Kept.{most_events, most_retired};
 ghost use Rattle.m88_mem.specs.Marks.{NamesPages};
-ghost use Rattle.m88_tasks.specs.Letters.{share_letter_at};
 ghost use Rattle.m88_tasks.specs.Shared.{AreOwnOutcomes, Group, IsShared, SharedMoment, after_share, all_over, opening_shared, shared_at, turned_at};
 ghost use Rattle.m88_tasks.specs.Tasks.{AreTasks, IsGroupOf, AreTasksUnmoved, IsTasksAt, is_over_view, most_programs, most_shared_events};
 ghost use Rattle.m88_tasks.specs.declared.shared.Shared.{Shared as SharedValue};

@@ -1,8 +1,13 @@
-//! Programs that share a board, with what they come to told by hand, and schedules as they are written.
+//! Programs that share a board: shared runs by their rows, each program beside its own run, the answers of events, and
+//! schedules as they are written.
 
+ghost use Rattle.m88_mem.specs.Marks.{NamesPages};
+
+use crate::test_rows::{Came, DRAWN, ENDS, EVERY_EVENT, LOAD, OR_R2, Row, SHORT, Turn};
 use crate::{ShareLetter, ShareSchedule, Switch, Tasks, Turned};
-use m88_base::{Absent, Image, ImageFault};
-use m88_event::{End, Happened, Letter, Outcome};
+use m88_base::{Absent, Image, ImageFault, NoMemory};
+use m88_board::{Board, Unwatched};
+use m88_event::{End, Happened, Letter, Outcome, Schedule};
 use std::alloc::Global;
 use std::process::Abort;
 
@@ -22,168 +27,141 @@ fn images_of(alloc: Global, sources: &[&[u32]]) -> Result<Vec<Image>, ImageFault
     Ok(images)
 }
 
-/// `or r2,r0,N` of N, and `or r3,r0,N`.
-const OR_R2: u32 = 0x5840_0000;
-
-const OR_R3: u32 = 0x5860_0000;
-
-/// `ld r2,r0,0x5000`.
-const LOAD: u32 = 0x1440_5000;
-
-/// What a program came to: the instructions retired, r2, r3, its events, answers and faults.
-type Came = (u32, u32, u32, u64, u32, usize);
-
-/// A shared run: its programs, the limit, whether each page is absent, and its schedule; and what it comes to: what
-/// each program does, the switches, and the events.
-type Row = (
-    &'static [&'static [u32]],
-    u32,
-    bool,
-    &'static str,
-    &'static [Came],
-    &'static [Switch],
-    u64,
-);
-
-/// A switch before any instruction of the program that ran, whose image has one.
-fn at_start(event: u64, from: u8, to: u8) -> Switch {
-    Switch {
-        event,
-        from,
-        to,
-        epsr: 0x3F8,
-        sxip: 0,
-        snip: 0x1002,
-        sfip: 0x1007,
-    }
-}
-
-const ROWS: &[Row] = &[
-    (
-        &[&[OR_R2 + 1, OR_R3 + 2], &[OR_R2 + 3, OR_R3 + 4]],
-        2,
-        false,
-        "iti",
-        &[(2, 1, 2, 3, 0, 0), (2, 3, 4, 3, 0, 0)],
-        &[Switch {
-            event: 2,
-            from: 0,
-            to: 1,
-            epsr: 0x3F8,
-            sxip: 0x1002,
-            snip: 0x1006,
-            sfip: 0x100B,
-        }],
-        7,
-    ),
-    (
-        &[&[LOAD], &[OR_R2 + 1]],
-        1,
-        true,
-        "itr",
-        &[(1, 0, 0, 2, 0, 1), (1, 1, 0, 2, 0, 0)],
-        &[],
-        5,
-    ),
-    (
-        &[&[OR_R2 + 1], &[OR_R2 + 2]],
-        0,
-        false,
-        "iti",
-        &[(0, 0, 0, 0, 0, 0), (0, 0, 0, 0, 0, 0)],
-        &[],
-        0,
-    ),
-    (
-        &[&[OR_R2 + 1, OR_R3 + 2]],
-        2,
-        false,
-        "tii",
-        &[(2, 1, 2, 2, 0, 0)],
-        &[],
-        3,
-    ),
-    (
-        &[&[OR_R2 + 1], &[OR_R2 + 2], &[OR_R2 + 3]],
-        1,
-        false,
-        "ttiti",
-        &[(1, 1, 0, 2, 0, 0), (1, 2, 0, 1, 0, 0), (1, 3, 0, 1, 0, 0)],
-        &[
-            Switch {
-                event: 1,
-                from: 0,
-                to: 1,
-                epsr: 0x3F8,
-                sxip: 0,
-                snip: 0x1002,
-                sfip: 0x1007,
-            },
-            Switch {
-                event: 2,
-                from: 1,
-                to: 2,
-                epsr: 0x3F8,
-                sxip: 0,
-                snip: 0x1002,
-                sfip: 0x1007,
-            },
-            Switch {
-                event: 4,
-                from: 0,
-                to: 1,
-                epsr: 0x3F8,
-                sxip: 0,
-                snip: 0x1002,
-                sfip: 0x1007,
-            },
-        ],
-        7,
-    ),
-];
-
-/// Whether a shared run comes to what its row says.
+/// Whether shared runs come to what their rows say.
 fn expect(rt: &impl Abort, alloc: Global, rows: &[Row]) -> Result<(), ImageFault> {
-    for (sources, limit, all, text, programs, switches, events) in rows {
-        let images = images_of(alloc, sources)?;
-        let few = 1 <= images.len() && images.len() <= 8;
-        assert!(rt; few && *limit <= 1_000_000);
-        let Some(schedule) = ShareSchedule::read(text) else {
-            return Err(ImageFault::Memory);
-        };
-        let absent = if *all { Absent::All } else { Absent::None };
-        let Ok(tasks) = Tasks::new(alloc, images.as_slice(), &absent, *limit) else {
-            return Err(ImageFault::Memory);
-        };
-        let Ok(shared) = tasks.run(&schedule) else {
-            return Err(ImageFault::Memory);
-        };
-        assert_eq!(rt; shared.events, *events);
-        let outcomes = shared.outcomes.as_slice();
-        assert_eq!(rt; outcomes.len(), programs.len());
-        for (outcome, came) in outcomes.iter().zip(programs.iter()) {
-            expect_came(rt, outcome, came);
-        }
-        assert!(rt; shared.switches.as_slice() == *switches);
+    for row in rows {
+        expect_row(rt, alloc, row)?;
     }
     Ok(())
 }
 
+/// Whether a shared run comes to what its row says.
+fn expect_row(rt: &impl Abort, alloc: Global, row: &Row) -> Result<(), ImageFault> {
+    let images = images_of(alloc, row.sources)?;
+    assert!(rt; 1 <= images.len() && images.len() <= 8);
+    assert!(rt; row.limit <= 1_000_000);
+    let Some(schedule) = ShareSchedule::read(row.letters) else {
+        return Err(ImageFault::Memory);
+    };
+    let absent = if row.all { Absent::All } else { Absent::None };
+    let Ok(tasks) = Tasks::new(alloc, images.as_slice(), &absent, row.limit) else {
+        return Err(ImageFault::Memory);
+    };
+    let Ok(shared) = tasks.run(&schedule) else {
+        return Err(ImageFault::Memory);
+    };
+    assert_eq!(rt; shared.events, row.events);
+    expect_switches(rt, shared.switches.as_slice(), row.switches);
+    let outcomes = shared.outcomes.as_slice();
+    assert_eq!(rt; outcomes.len(), row.came.len());
+    assert_eq!(rt; outcomes.len(), row.owns.len());
+    for (outcome, came) in outcomes.iter().zip(row.came.iter()) {
+        expect_came(rt, outcome, came);
+    }
+    for (outcome, (image, own)) in outcomes.iter().zip(images.iter().zip(row.owns.iter())) {
+        let alone = run_alone(alloc, image, &absent, row.limit, own)?;
+        expect_same(rt, outcome, &alone);
+    }
+    Ok(())
+}
+
+/// Whether the switches are those of a row.
+fn expect_switches(rt: &impl Abort, switches: &[Switch], turns: &[Turn]) {
+    assert_eq!(rt; switches.len(), turns.len());
+    for (switch, turn) in switches.iter().zip(turns.iter()) {
+        assert!(rt; *switch == switch_of(turn));
+    }
+}
+
+/// The switch of a row.
+fn switch_of(turn: &Turn) -> Switch {
+    let (event, from, to, [epsr, sxip, snip, sfip]) = *turn;
+    Switch {
+        event,
+        from,
+        to,
+        epsr,
+        sxip,
+        snip,
+        sfip,
+    }
+}
+
 /// Whether a program came to what is said of it.
 fn expect_came(rt: &impl Abort, outcome: &Outcome, came: &Came) {
-    assert!(rt; outcome.end == End::Limit);
-    let (retired, r2, r3, events, answers, faults) = *came;
+    let (vector, at, [retired, r2, r3, events, answers, faults]) = *came;
+    assert!(rt; outcome.end == end_of(vector, at));
     assert_eq!(rt; outcome.retired, retired);
     assert_eq!(rt; outcome.regs[2], r2);
     assert_eq!(rt; outcome.regs[3], r3);
-    assert_eq!(rt; outcome.events, events);
+    assert_eq!(rt; outcome.events, events as u64);
     assert_eq!(rt; outcome.answers, answers);
-    assert_eq!(rt; outcome.records.as_slice().len(), faults);
+    assert_eq!(rt; outcome.records.as_slice().len(), faults as usize);
+}
+
+/// The end of a row.
+fn end_of(vector: u16, at: u32) -> End {
+    match vector {
+        0 => End::Limit,
+        496 => End::Exit { at },
+        _ => End::Vector { vector, at },
+    }
+}
+
+/// What a program comes to alone on a board, under these letters.
+fn run_alone(
+    alloc: Global,
+    image: &Image,
+    absent: &Absent,
+    limit: u32,
+    letters: &str,
+) -> Result<Outcome, ImageFault>
+    requires { NamesPages absent.now }
+{
+    let Some(schedule) = Schedule::read(letters) else {
+        return Err(ImageFault::Memory);
+    };
+    let Ok(board) = Board::new(alloc, image, absent, limit.min(1_000_000), false) else {
+        return Err(ImageFault::Memory);
+    };
+    let mut watch = Unwatched::new();
+    match board.run(&schedule, &mut watch) {
+        Ok(outcome) => Ok(outcome),
+        Err(NoMemory) => Err(ImageFault::Memory),
+    }
+}
+
+/// Whether two runs came to the same.
+fn expect_same(rt: &impl Abort, outcome: &Outcome, alone: &Outcome) {
+    assert!(rt; outcome.end == alone.end);
+    assert_eq!(rt; outcome.retired, alone.retired);
+    assert!(rt; outcome.regs == alone.regs);
+    assert_eq!(rt; outcome.carry, alone.carry);
+    assert!(rt; outcome.out.as_slice() == alone.out.as_slice());
+    assert!(rt; outcome.changed.as_slice() == alone.changed.as_slice());
+    assert_eq!(rt; outcome.events, alone.events);
+    assert_eq!(rt; outcome.answers, alone.answers);
+    assert!(rt; outcome.records.as_slice() == alone.records.as_slice());
 }
 
 #[test]
 fn shared_runs(rt: HostRuntime) -> Result<(), ImageFault> {
-    expect(&rt, rt.alloc(), ROWS)
+    expect(&rt, rt.alloc(), SHORT)
+}
+
+#[test]
+fn programs_that_end(rt: HostRuntime) -> Result<(), ImageFault> {
+    expect(&rt, rt.alloc(), ENDS)
+}
+
+#[test]
+fn turns_at_every_event(rt: HostRuntime) -> Result<(), ImageFault> {
+    expect(&rt, rt.alloc(), EVERY_EVENT)
+}
+
+#[test]
+fn turns_that_were_drawn(rt: HostRuntime) -> Result<(), ImageFault> {
+    expect(&rt, rt.alloc(), DRAWN)
 }
 
 #[test]
@@ -194,9 +172,17 @@ fn answers_of_events(rt: HostRuntime) -> Result<(), ImageFault> {
         return Err(ImageFault::Memory);
     };
     let own = [Letter::Issue, Letter::Answer].map(ShareLetter::Own);
+    // before any instruction of the program that runs, whose image has one
+    let words = [0x3F8, 0, 0x1002, 0x1007];
     for (letter, did) in [
-        (ShareLetter::Turn, Turned::Switched(at_start(1, 0, 1))),
-        (ShareLetter::Turn, Turned::Switched(at_start(2, 1, 0))),
+        (
+            ShareLetter::Turn,
+            Turned::Switched(switch_of(&(1, 0, 1, words))),
+        ),
+        (
+            ShareLetter::Turn,
+            Turned::Switched(switch_of(&(2, 1, 0, words))),
+        ),
         (own[0], Turned::Own(Happened::Issued)),
         (ShareLetter::Turn, Turned::Held(1)),
         (own[1], Turned::Own(Happened::Answered)),

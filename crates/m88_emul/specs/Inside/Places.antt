@@ -9,4 +9,5 @@ IsOpen ready absent page = (ready page ≡ true) × (absent page ≡ false)
 -- the page of each place is
 unfoldable pub AreOpen : (ℕ → Bool) → (ℕ → Bool) → List ℕ → Type 0
 AreOpen ready absent [] = Unit {0}
-AreOpen ready absent (a ∷ places) = IsOpen ready absent (page_number a) × AreOpen ready absent places
+AreOpen ready absent (a ∷ places) =
+    IsOpen ready absent (page_number a) × AreOpen ready absent places

@@ -51,7 +51,8 @@ settled p l = settled_by l.ended (deed_seen p l) l
 abbrev pub emulated_by : Option End → Deed → Local → List Emulation
 emulated_by None deed l = []
 emulated_by (Some end) (alone turn) l = []
-emulated_by (Some end) (aided vector aid) l = record { event = l.events; at = l.completed.pc; vector = vector } ∷ []
+emulated_by (Some end) (aided vector aid) l =
+    record { event = l.events; at = l.completed.pc; vector = vector } ∷ []
 
 -- that of a board after an event
 unfoldable pub newly_emulated : Program → Local → List Emulation

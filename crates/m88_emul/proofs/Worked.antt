@@ -1,0 +1,363 @@
+-- Worked runs of a machine with software behind it, computed by the definitions: what each comes to is what the rules give
+-- by hand. No proof cites them; a definition that is changed must still give them.
+use Rattle.std.specs.Prelude.{ℕ, Bool, true, false, List, [], ◌∷◌, Option, Some, None, ◌≡◌, ◌+◌, ◌-◌, ◌*◌, ◌/◌, ◌==◌, ◌&&◌, length, map, nat_le, nat_lt, pos, slice_get, unwrap_or, if◌then◌else◌}
+use Rattle.std.proofs.Common.{arith, refl}
+use Rattle.m88_base.specs.Pages.{every_page, no_page}
+use Rattle.m88_base.specs.Reg.{reg_of}
+use Rattle.m88_base.specs.RegisterSet as set
+use Rattle.m88_base.specs.Triple.{no_triple}
+use Rattle.m88_isa.proofs.Held.{none_from}
+use Rattle.m88_isa.specs.Bus.{bus_after_all, in_words, stored, waits_for, with_word}
+use Rattle.m88_isa.specs.Held.{busy_register, first_from}
+use Rattle.m88_isa.specs.History.{completed_state}
+use Rattle.m88_isa.specs.Machine.{Program, opening}
+use Rattle.m88_isa.specs.Operands.{uses_of, writes_of}
+use Rattle.m88_isa.specs.declared.instr.ImmOp.TheVariants as immop
+use Rattle.m88_isa.specs.declared.instr.Instr.{Instr}
+use Rattle.m88_isa.specs.declared.instr.Instr.TheVariants as instr
+use Rattle.m88_isa.specs.declared.instr.MemOp.{MemOp}
+use Rattle.m88_isa.specs.declared.instr.MemOp.TheVariants as memop
+use Rattle.m88_isa.specs.declared.instr.RegOp.{RegOp}
+use Rattle.m88_isa.specs.declared.instr.RegOp.TheVariants as regop
+use Rattle.m88_event.proofs.Worked.{fault, im, mem, triple}
+use Rattle.m88_event.specs.Letters.{letter_at}
+use Rattle.m88_event.specs.Local.{situation_of}
+use Rattle.m88_event.specs.Run.{IsFirst}
+use Rattle.m88_event.specs.Situation.{record_of}
+use Rattle.m88_event.specs.declared.happened.End.{End}
+use Rattle.m88_event.specs.declared.happened.End.TheVariants.{Exit, Limit, Vector}
+use Rattle.m88_event.specs.declared.letter.Letter.{Letter}
+use Rattle.m88_event.specs.declared.letter.Letter.TheVariants.{Answer as r, Evict as e, Issue as i}
+use Rattle.m88_event.specs.declared.record.Record.{Record}
+use Rattle.m88_emul.specs.Aid.{byte_stores, joined, places_from, with_all}
+use Rattle.m88_emul.specs.Extended.{bus_after_work, extended_bus, extended_state, stored_all, transacted, work_before}
+use Rattle.m88_emul.specs.Timeline.{ExtendedMoment, after_event, extended_after, extended_outcome, has_place_in, is_extended_over, last_retired, seen_at}
+use Rattle.m88_emul.specs.declared.emulation.EmulOutcome.{EmulOutcome}
+use Rattle.m88_emul.specs.declared.emulation.Emulation.{Emulation}
+
+-- a program with its words from 0x1000 on, whose bytes are told by their instructions alone, and data from 0x2000 on
+abbrev program : List (Option Instr) → List ℕ → Program
+program code bytes = record {
+  mxm = false;
+  start = 0x1000;
+  byte = λ a.
+      if nat_le 0x1000 a && nat_lt a (0x1000 + 4 * length code) then Some 0
+      else if nat_le 0x2000 a then slice_get bytes (a - 0x2000) else None;
+  instruction = λ a. unwrap_or (slice_get code ((a - 0x1000) / 4)) None;
+}
+
+-- the registers that aren't 0, each with its number
+abbrev set_from : ℕ → List ℕ → List (ℕ × ℕ)
+set_from n [] = []
+set_from n (value ∷ values) = if value == 0 then set_from (n + 1) values else (n, value) ∷ set_from (n + 1) values
+
+-- what a run comes to: its end, the instructions retired, the registers that aren't 0, some words of the memory of the
+-- history and of the data bus, the events, the transactions answered, the records, and the emulations
+pub record Came : Type 0 where
+  pub end : End
+  pub retired : ℕ
+  pub registers : List (ℕ × ℕ)
+  pub words : List (ℕ × ℕ)
+  pub bus : List (ℕ × ℕ)
+  pub events : ℕ
+  pub answers : ℕ
+  pub records : List Record
+  pub emulated : List Emulation
+
+-- a run: the program's words and data, the absent pages, the limit, the schedule, and what the run comes to by hand
+pub record Worked : Type 0 where
+  pub code : List (Option Instr)
+  pub bytes : List ℕ
+  pub pages : ℕ → Bool
+  pub limit : ℕ
+  pub schedule : List Letter
+  pub comes : Came
+
+-- its program
+abbrev program_of : Worked → Program
+program_of w = program w.code w.bytes
+
+-- the moment after as many events
+abbrev moment_of : Worked → ℕ → ExtendedMoment
+moment_of w = extended_after (program_of w) w.pages w.limit w.schedule
+
+-- some words by address
+abbrev words_at : List (ℕ × ℕ) → (ℕ → ℕ) → List (ℕ × ℕ)
+words_at words memory = map (λ (word : ℕ × ℕ). (word.0, memory word.0)) words
+
+-- what is seen of a moment and of what the run comes to that is over there
+abbrev came_by : Worked → ExtendedMoment → EmulOutcome → Came
+came_by w x o = record {
+  end = o.outcome.end;
+  retired = o.outcome.retired;
+  registers = set_from 0 o.outcome.regs;
+  words = words_at w.comes.words (in_words (extended_state (program_of w) x.moment.retired).memory);
+  bus = words_at w.comes.words (extended_bus (program_of w) x.moment.retired x.moment.done);
+  events = o.outcome.events;
+  answers = o.outcome.answers;
+  records = o.outcome.records;
+  emulated = o.emulated;
+}
+
+-- the moment after as many events as the run has by hand
+abbrev last_of : Worked → ExtendedMoment
+last_of w = moment_of w w.comes.events
+
+-- what a run comes to by the definitions
+abbrev came : Worked → Came
+came w = came_by w (last_of w) (extended_outcome (program_of w) (last_of w))
+
+-- a run is over after so many events
+abbrev over_at : Worked → ℕ → Bool
+over_at w k = is_extended_over (program_of w) w.limit (moment_of w k).moment
+
+-- the least such number below the one by hand, and whether that one is such
+abbrev over_before : Worked → Option ℕ
+over_before w = first_from 0 w.comes.events (over_at w)
+
+abbrev over_then : Worked → Bool
+over_then w = over_at w w.comes.events
+
+-- each run is over after so many events and not before
+abbrev HaveEvents : List Worked → Type 0
+HaveEvents [] = Unit {0}
+HaveEvents (w ∷ runs) = IsFirst (over_at w) w.comes.events × HaveEvents runs
+
+-- instructions and emulations in short
+abbrev based : MemOp → ℕ → ℕ → ℕ → Option Instr
+based op d s1 imm = Some (instr.MemImm op (reg_of d) (reg_of s1) imm)
+
+abbrev regs : RegOp → ℕ → ℕ → ℕ → Option Instr
+regs op d s1 s2 = Some (instr.Regs op (reg_of d) (reg_of s1) (reg_of s2))
+
+abbrev emulation : ℕ → ℕ → ℕ → Emulation
+emulation event at vector = record { event = event; at = at; vector = vector }
+
+-- a division of a negative number, and an exit
+divided : Worked
+divided = record {
+  code =
+      im immop.Subu 2 0 6 ∷ im immop.Or 3 0 2 ∷ regs regop.Div 4 2 3 ∷ im immop.Or 9 0 0x63
+      ∷ Some (instr.TrapBit false 0 (reg_of 0) 496) ∷ [];
+  bytes = [];
+  pages = no_page;
+  limit = 9;
+  schedule = [];
+  comes = record {
+    end = Exit 0x1010;
+    retired = 4;
+    registers = (2, 0xFFFFFFFA) ∷ (3, 2) ∷ (4, 0xFFFFFFFD) ∷ (9, 0x63) ∷ [];
+    words = [];
+    bus = [];
+    events = 10;
+    answers = 0;
+    records = [];
+    emulated = emulation 6 0x1008 8 ∷ [];
+  };
+}
+
+-- a load that isn't aligned, whose page is absent
+loaded : Worked
+loaded = record {
+  code = mem memop.Ld 2 0x2001 ∷ [];
+  bytes = 0x11 ∷ 0x22 ∷ 0x33 ∷ 0x44 ∷ 0x55 ∷ 0x66 ∷ 0x77 ∷ 0x88 ∷ [];
+  pages = λ page. page == 2;
+  limit = 1;
+  schedule = i ∷ [];
+  comes = record {
+    end = Limit;
+    retired = 1;
+    registers = (2, 0x22334455) ∷ [];
+    words = [];
+    bus = [];
+    events = 1;
+    answers = 0;
+    records = [];
+    emulated = emulation 1 0x1000 4 ∷ [];
+  };
+}
+
+-- software supplies a page, from which a load is answered; then every page is made absent, and the next one faults
+supplied : Worked
+supplied = record {
+  code = mem memop.Ld 2 0x2001 ∷ mem memop.Ld 3 0x2004 ∷ mem memop.Ld 4 0x2000 ∷ [];
+  bytes = 0x11 ∷ 0x22 ∷ 0x33 ∷ 0x44 ∷ 0x55 ∷ 0x66 ∷ 0x77 ∷ 0x88 ∷ [];
+  pages = λ page. page == 2;
+  limit = 3;
+  schedule = i ∷ i ∷ r ∷ e ∷ i ∷ r ∷ [];
+  comes = record {
+    end = Limit;
+    retired = 3;
+    registers = (2, 0x22334455) ∷ (3, 0x55667788) ∷ (4, 0x11223344) ∷ [];
+    words = [];
+    bus = [];
+    events = 6;
+    answers = 1;
+    records = fault 6 0x100A 0x100F 0x1013 0x10 (triple 0x23D 0 0x2000 ∷ no_triple ∷ no_triple ∷ []) ∷ [];
+    emulated = emulation 1 0x1000 4 ∷ [];
+  };
+}
+
+-- software waits until nothing is pending, and a fault comes before it
+waited : Worked
+waited = record {
+  code = mem memop.Ld 2 0x5000 ∷ mem memop.Ld 3 0x2001 ∷ [];
+  bytes = 0x11 ∷ 0x22 ∷ 0x33 ∷ 0x44 ∷ 0x55 ∷ 0x66 ∷ 0x77 ∷ 0x88 ∷ [];
+  pages = λ page. page == 5;
+  limit = 2;
+  schedule = i ∷ i ∷ r ∷ i ∷ [];
+  comes = record {
+    end = Limit;
+    retired = 2;
+    registers = (3, 0x22334455) ∷ [];
+    words = [];
+    bus = [];
+    events = 4;
+    answers = 0;
+    records = fault 3 0x1002 0x1006 0x100B 4 (triple 0x13D 0 0x5000 ∷ no_triple ∷ no_triple ∷ []) ∷ [];
+    emulated = emulation 4 0x1004 4 ∷ [];
+  };
+}
+
+-- a store over the last byte of memory goes on at the first; both pages are present then
+around : Worked
+around = record {
+  code =
+      im immop.OrU 4 0 0x1122 ∷ im immop.Or 4 4 0x3344 ∷ im immop.Subu 3 0 4 ∷ based memop.St 4 3 2
+      ∷ based memop.Ld 5 3 0 ∷ mem memop.Ld 6 0 ∷ [];
+  bytes = [];
+  pages = every_page;
+  limit = 6;
+  schedule = i ∷ i ∷ i ∷ i ∷ i ∷ i ∷ r ∷ r ∷ [];
+  comes = record {
+    end = Limit;
+    retired = 6;
+    registers = (3, 0xFFFFFFFC) ∷ (4, 0x11223344) ∷ (5, 0x1122) ∷ (6, 0x33440000) ∷ [];
+    words = (0xFFFFFFFC, 0x1122) ∷ (0, 0x33440000) ∷ (4, 0) ∷ [];
+    bus = (0xFFFFFFFC, 0x1122) ∷ (0, 0x33440000) ∷ (4, 0) ∷ [];
+    events = 8;
+    answers = 2;
+    records = [];
+    emulated = emulation 4 0x100C 4 ∷ [];
+  };
+}
+
+-- a transaction stores a word, software changes its middle, and a transaction loads it
+between : Worked
+between = record {
+  code =
+      im immop.OrU 4 0 0x1122 ∷ im immop.Or 4 4 0x3344 ∷ mem memop.St 4 0x5000 ∷ mem memop.StH 4 0x5001
+      ∷ mem memop.Ld 5 0x5000 ∷ [];
+  bytes = [];
+  pages = no_page;
+  limit = 5;
+  schedule = i ∷ i ∷ i ∷ i ∷ r ∷ i ∷ i ∷ r ∷ [];
+  comes = record {
+    end = Limit;
+    retired = 5;
+    registers = (4, 0x11223344) ∷ (5, 0x11334444) ∷ [];
+    words = (0x5000, 0x11334444) ∷ [];
+    bus = (0x5000, 0x11334444) ∷ [];
+    events = 8;
+    answers = 2;
+    records = [];
+    emulated = emulation 6 0x100C 4 ∷ [];
+  };
+}
+
+-- a quotient rounded towards 0, and one that is too large, which ends the program
+rounded : Worked
+rounded = record {
+  code =
+      im immop.Subu 2 0 7 ∷ im immop.Or 3 0 2 ∷ regs regop.Div 4 2 3 ∷ im immop.OrU 2 0 0x8000 ∷ im immop.Subu 3 0 1
+      ∷ regs regop.Div 5 2 3 ∷ [];
+  bytes = [];
+  pages = no_page;
+  limit = 9;
+  schedule = i ∷ i ∷ i ∷ i ∷ i ∷ i ∷ [];
+  comes = record {
+    end = Vector 8 0x1014;
+    retired = 5;
+    registers = (2, 0x80000000) ∷ (3, 0xFFFFFFFF) ∷ (4, 0xFFFFFFFD) ∷ [];
+    words = [];
+    bus = [];
+    events = 6;
+    answers = 0;
+    records = [];
+    emulated = emulation 3 0x1008 8 ∷ [];
+  };
+}
+
+-- halves and a double that aren't aligned, and an exchange, which ends the program
+sized : Worked
+sized = record {
+  code = mem memop.LdH 2 0x2007 ∷ mem memop.LdHu 3 0x2007 ∷ mem memop.LdD 4 0x2001 ∷ mem memop.Xmem 6 0x2001 ∷ [];
+  bytes =
+      0x11 ∷ 0x22 ∷ 0x33 ∷ 0x44 ∷ 0x55 ∷ 0x66 ∷ 0x77 ∷ 0x88 ∷ 0x99 ∷ 0xAA ∷ 0xBB ∷ 0xCC ∷ [];
+  pages = no_page;
+  limit = 9;
+  schedule = i ∷ i ∷ i ∷ i ∷ [];
+  comes = record {
+    end = Vector 4 0x100C;
+    retired = 3;
+    registers = (2, 0xFFFF8899) ∷ (3, 0x8899) ∷ (4, 0x22334455) ∷ (5, 0x66778899) ∷ [];
+    words = [];
+    bus = [];
+    events = 4;
+    answers = 0;
+    records = [];
+    emulated = emulation 1 0x1000 4 ∷ emulation 2 0x1004 4 ∷ emulation 3 0x1008 4 ∷ [];
+  };
+}
+
+-- software does an instruction in a delay slot, and the carry stays
+delayed : Worked
+delayed = record {
+  code =
+      regs regop.SubuCo 5 0 0 ∷ Some (instr.Branch false true (pos 3)) ∷ mem memop.Ld 2 0x2001 ∷ im immop.Or 3 0 9
+      ∷ regs regop.AdduCi 4 0 0 ∷ [];
+  bytes = 0x11 ∷ 0x22 ∷ 0x33 ∷ 0x44 ∷ 0x55 ∷ 0x66 ∷ 0x77 ∷ 0x88 ∷ [];
+  pages = no_page;
+  limit = 4;
+  schedule = i ∷ i ∷ i ∷ i ∷ [];
+  comes = record {
+    end = Limit;
+    retired = 4;
+    registers = (2, 0x22334455) ∷ (4, 1) ∷ [];
+    words = [];
+    bus = [];
+    events = 4;
+    answers = 0;
+    records = [];
+    emulated = emulation 3 0x1008 4 ∷ [];
+  };
+}
+
+worked : List Worked
+worked = divided ∷ loaded ∷ supplied ∷ waited ∷ around ∷ between ∷ rounded ∷ sized ∷ delayed ∷ []
+
+-- so many events are the first at which a condition holds
+first_after : (holds : ℕ → Bool) (events : ℕ) → first_from 0 events holds ≡ None → holds events ≡ true → IsFirst holds events
+first_after holds events none here = record {
+  here = here;
+  first = λ k less. none_from 0 events holds k none (omega arith) (omega (arith, less));
+}
+
+-- so of each run
+each_after : (runs : List Worked) → map over_before runs ≡ map (λ w. None) runs → map over_then runs ≡ map (λ w. true) runs →
+    HaveEvents runs
+each_after [] none here = tt
+each_after (w ∷ runs) none here =
+    let not_before : over_before w ≡ None = cc in
+    let over : over_then w ≡ true = cc in
+    let before : map over_before runs ≡ map (λ w. None) runs = cc in
+    let after : map over_then runs ≡ map (λ w. true) runs = cc in
+    (first_after (over_at w) w.comes.events not_before over, each_after runs before after)
+
+events_by_hand : HaveEvents worked
+unfolding worked divided loaded supplied waited around between rounded sized delayed extended_after after_event extended_outcome extended_state seen_at last_retired has_place_in work_before transacted bus_after_work stored_all byte_stores joined places_from with_all completed_state situation_of record_of letter_at opening bus_after_all stored with_word waits_for busy_register first_from uses_of writes_of in_words set.bits_below
+events_by_hand = each_after worked refl refl
+
+as_by_hand : map came worked ≡ map (λ w. w.comes) worked
+unfolding worked divided loaded supplied waited around between rounded sized delayed extended_after after_event extended_outcome extended_state seen_at last_retired has_place_in work_before transacted bus_after_work stored_all byte_stores joined places_from with_all completed_state situation_of record_of letter_at opening bus_after_all stored with_word waits_for busy_register first_from uses_of writes_of in_words set.bits_below
+as_by_hand = refl
