@@ -20,7 +20,7 @@ use Rattle.m88_report.specs.Report.{report_of}
 use Rattle.m88_cli.specs.Answer.{IsAnswerToAccepted}
 use Rattle.m88_cli.specs.Bridge.{BuiltRunsAlike, FitsInput}
 use Rattle.m88_cli.specs.Command.{build}
-use Rattle.m88_cli.specs.Linking.{HoldsUnit}
+use Rattle.m88_cli.specs.Inside.Linking.{HoldsUnit}
 use Rattle.m88_cli.specs.Runs.{ComesTo, IsLoadedProgram, IsReport, IsSourceProgram}
 use Rattle.m88_cli.specs.Settings.{Settings}
 use Rattle.m88_parse.proofs.FormedUnits.{unit_formed}

@@ -17,7 +17,7 @@ use Rattle.m88_cli.proofs.MonitorWalks.{each_none}
 use Rattle.m88_cli.proofs.Reporting.{no_glance}
 use Rattle.m88_cli.specs.Limits.{session_limit}
 use Rattle.m88_cli.specs.Session.{Course, IsSession, IsSessionFront, Session, after_command, course_of, glances_of, moments_of, opening_session, stops_command, text_of_command}
-use Rattle.m88_cli.specs.SessionKept.{Broke, Carried, Stands}
+use Rattle.m88_cli.specs.Inside.SessionKept.{Broke, Carried, Stands}
 use Rattle.m88_cli.specs.declared.monitor.Monitor.{Monitor}
 use Rattle.m88_cli.specs.declared.script.MonitorCommand.{MonitorCommand}
 use Rattle.m88_cli.specs.declared.script.MonitorCommand.TheVariants.{Break}

@@ -6,7 +6,7 @@ use Rattle.m88_isa.specs.Machine.{Program}
 use Rattle.m88_event.specs.declared.letter.Letter.{Letter}
 use Rattle.m88_board.specs.Glances.{Saw}
 use Rattle.m88_board.specs.declared.glance.Glance.{Glance}
-use Rattle.m88_cli.specs.Linking.{HoldsUnit}
+use Rattle.m88_cli.specs.Inside.Linking.{HoldsUnit}
 use Rattle.m88_cli.specs.Monitoring.{IsMonitorInput}
 use Rattle.m88_cli.specs.MonitorText.{IsInputSession, IsMonitorText, SawSession, SawSessionFront, Scripted}
 use Rattle.m88_cli.specs.Runs.{IsSourceProgram}

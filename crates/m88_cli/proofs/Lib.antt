@@ -1,4 +1,5 @@
 pub mod Numerals
+pub mod LimitedWords
 pub mod PageLists
 pub mod ScriptLines
 pub mod Scripts
@@ -6,10 +7,15 @@ pub mod ScriptReading
 pub mod ScriptTold
 pub mod OneScript
 pub mod OneUnit
+pub mod PartedSources
+pub mod SharedInputs
 pub mod OneObjects
 pub mod Monitored
 pub mod OneSource
 pub mod Programs
+pub mod SharedPrograms
+pub mod SharedReplies
+pub mod Emulated
 pub mod Reporting
 pub mod Refusing
 pub mod Linked

@@ -11,7 +11,7 @@ use Rattle.m88_parse.proofs.Law.Faults.{one_verdict}
 use Rattle.m88_srec.specs.Written.{srec_text}
 use Rattle.m88_parse.specs.declared.unit.Unit.{Unit as Source}
 use Rattle.m88_cli.specs.Answer.{IsAnswerToAccepted}
-use Rattle.m88_cli.specs.Linking.{HoldsUnit, IsObjectsOf}
+use Rattle.m88_cli.specs.Inside.Linking.{HoldsUnit, IsObjectsOf}
 use Rattle.m88_cli.specs.Command.{asm, build}
 use Rattle.m88_cli.specs.Limits.{most_input}
 

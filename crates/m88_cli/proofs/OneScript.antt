@@ -6,7 +6,7 @@ use Rattle.m88_base.proofs.PartedLines.{parted_told}
 use Rattle.m88_base.specs.Lines.{lines_of}
 use Rattle.m88_base.specs.OneVerdict.{HasOneVerdict}
 use Rattle.m88_cli.specs.Script.{AreScriptLines, HasNoScript, IsScriptOf, ScriptParts, StopsScript, WritesCommand, source_line, stopped, stopped_alone, unended}
-use Rattle.m88_cli.specs.ScriptWords.{has_room}
+use Rattle.m88_cli.specs.Inside.ScriptWords.{has_room}
 use Rattle.m88_cli.specs.declared.script.MonitorCommand.{MonitorCommand}
 use Rattle.m88_cli.proofs.ScriptReading.{stops_behind}
 use Rattle.m88_cli.proofs.ScriptTold.{command_told}

@@ -2,9 +2,6 @@
 use Rattle.std.proofs.Common.{◌≡◌, ℕ, List, Option, None, Some, ap, inl, inr, refl, sym, ◌∙◌}
 use Rattle.std.specs.Prelude.{◌⊎◌}
 use Rattle.m88_base.specs.OneVerdict.{HasOneFaultUnless}
-use Rattle.m88_parse.proofs.Law.Faults as sources
-use Rattle.m88_parse.specs.Language.Units.{IsUnit}
-use Rattle.m88_parse.specs.declared.unit.Unit.{Unit as Source}
 use Rattle.m88_link.proofs.OneRefusal as layouts
 use Rattle.m88_link.proofs.OneText as texts
 use Rattle.m88_link.specs.Layout.{layout_of}
@@ -12,25 +9,21 @@ use Rattle.m88_link.specs.ObjectRead.{IsSoundText, IsTextFault}
 use Rattle.m88_link.specs.declared.object.Object.{Object}
 use Rattle.m88_link.specs.declared.object_fault.ObjectFault.{ObjectFault}
 use Rattle.m88_link.specs.declared.object_fault.ObjectFault.TheVariants.{Form, Range, Memory}
-use Rattle.m88_asm.proofs.OneUnit as units
-use Rattle.m88_asm.specs.Accepted.{IsFirstUnitFault}
-use Rattle.m88_asm.specs.Faults.{unit_fault}
-use Rattle.m88_asm.specs.declared.fault.AsmFault.{AsmFault}
-use Rattle.m88_asm.specs.declared.fault.UnitFault.{UnitFault}
-use Rattle.m88_asm.specs.declared.fault.UnitFault.TheVariants as unit_kind
 use Rattle.m88_srec.proofs.Law as records
 use Rattle.m88_cli.specs.Answer.{Accepts, Refuses}
-use Rattle.m88_cli.specs.Assembly.{IsAssemblySource, IsProgramSource, IsRefusedProgram, IsRefusedSource}
-use Rattle.m88_cli.specs.Command.{Command, InputKind, no_input, source_to_assemble, source_to_link, object_text, record_text, scripted_source, kind_of}
+use Rattle.m88_cli.specs.Assembly.{IsRefusedProgram, IsRefusedSource}
+use Rattle.m88_cli.specs.Command.{Command, InputKind, no_input, source_to_assemble, source_to_link, object_text, record_text, scripted_source, sources_to_link, kind_of}
 use Rattle.m88_cli.specs.Kinds.{IsAcceptedAs, IsRefusedAs}
 use Rattle.m88_cli.specs.Loading.{IsRecords, IsRefusedRecords, srec_refusal}
 use Rattle.m88_cli.specs.Monitoring.{IsMonitorInput, IsRefusedMonitor}
 use Rattle.m88_cli.specs.Objects.{IsLinkableText, IsRefusedObjects}
+use Rattle.m88_cli.specs.Sources.{IsRefusedSources}
 use Rattle.m88_base.specs.Refusal.{Refusal}
 use Rattle.m88_cli.proofs.OneObjects.{not_linkable, same_objects_refusal}
 use Rattle.m88_cli.proofs.Monitored.{not_accepted, refused_once}
 use Rattle.m88_cli.proofs.OneScript as scripts
-use Rattle.m88_cli.proofs.OneUnit.{not_assembled, not_linked, same_program_refusal, same_refusal}
+use Rattle.m88_cli.proofs.OneUnit.{assembly_or_refusal, not_assembled, not_linked, program_or_refusal, same_program_refusal, same_refusal}
+use Rattle.m88_cli.proofs.SharedInputs as sources
 
 -- S-records that are refused are none that are accepted
 not_loaded : (text : List ℕ) (r : Refusal) → IsRecords text → IsRefusedRecords text r → ⊥
@@ -41,35 +34,6 @@ same_records : (text : List ℕ) (r s : Refusal) → IsRefusedRecords text r →
 same_records text r s a b =
     let fault = (records.one_verdict text).one_fault a.fault b.fault a.is_first b.is_first in
     a.refusal ∙ ap srec_refusal fault ∙ sym b.refusal
-
--- a source is assembled or refused
-assembly_or_refusal : (source : List ℕ) → IsAssemblySource source ⊎ ((r : Refusal) × IsRefusedSource 0 source r)
-assembly_or_refusal source = elim (sources.one_verdict source).some [
-  | inl unit ↦ by_statements unit.0 unit.1 (unit_fault unit.0) refl
-  | inr fault ↦ inr (_, inl (record { fault = fault.0; is_first = fault.1; refusal = refl }))
-]
-  where
-    by_statements : (u : Source) → IsUnit source u → (o : Option AsmFault) → unit_fault u ≡ o
-        → IsAssemblySource source ⊎ ((r : Refusal) × IsRefusedSource 0 source r)
-    by_statements u is_unit None none = inl (record { unit = u; is_unit = is_unit; is_assembled = none })
-    by_statements u is_unit (Some fault) first =
-        inr (_, inr (record { unit = u; is_unit = is_unit; fault = fault; is_first = first; refusal = refl }))
-
--- and assembled and linked, or refused, behind other lines of its input too
-program_or_refusal : (n : ℕ) (source : List ℕ) → IsProgramSource source ⊎ ((r : Refusal) × IsRefusedProgram n source r)
-program_or_refusal n source = elim (sources.one_verdict source).some [
-  | inr fault ↦ inr (_, inl (inl (record { fault = fault.0; is_first = fault.1; refusal = refl })))
-  | inl unit ↦ elim (units.one_verdict unit.0).some [
-    | inl accepted ↦ inl (record { unit = unit.0; is_unit = unit.1; is_accepted = accepted.1 })
-    | inr fault ↦ inr (by_fault unit.0 unit.1 fault.0 fault.1)
-  ]
-]
-  where
-    by_fault : (u : Source) → IsUnit source u → (fault : UnitFault) → IsFirstUnitFault u fault → (r : Refusal) × IsRefusedProgram n source r
-    by_fault u is_unit (unit_kind.Asm fault) first =
-        (_, inl (inr (record { unit = u; is_unit = is_unit; fault = fault; is_first = first; refusal = refl })))
-    by_fault u is_unit (unit_kind.Link fault) (assembled, refused) =
-        (_, inr (record { unit = u; is_unit = is_unit; is_assembled = assembled; fault = fault; is_refused = refused; refusal = refl }))
 
 -- S-records are accepted or refused
 records_or_refusal : (text : List ℕ) → IsRecords text ⊎ ((r : Refusal) × IsRefusedRecords text r)
@@ -148,6 +112,8 @@ of_kind record_text text =
     told_once (IsRefusedRecords text) (records_or_refusal text) (not_loaded text) (same_records text)
 of_kind scripted_source input =
     told_once (IsRefusedMonitor input) (monitor_or_refusal input) (not_accepted input) (refused_once input)
+of_kind sources_to_link input =
+    told_once (IsRefusedSources input) (sources.sources_or_refusal input) (sources.not_accepted input) (sources.refused_once input)
 
 pub one_verdict : (command : Command) (input : List ℕ) → HasOneFaultUnless (Accepts command input) (Refuses command input)
 one_verdict command input = of_kind (kind_of command) input

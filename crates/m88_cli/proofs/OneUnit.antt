@@ -1,14 +1,20 @@
 -- A source of the assembly language has one unit or one first fault, and a unit is laid out or has one fault: so a
 -- command accepts a source or has one refusal of it, behind other lines of its input too.
-use Rattle.std.proofs.Common.{◌≡◌, List, ℕ, Option, None, Some, ap, inl, inr, sym, subst, ◌∙◌}
+use Rattle.std.proofs.Common.{◌≡◌, List, ℕ, Option, None, Some, ap, inl, inr, refl, sym, subst, ◌∙◌}
+use Rattle.std.specs.Prelude.{◌⊎◌}
 use Rattle.m88_base.specs.Refusal.{Refusal}
 use Rattle.m88_parse.proofs.Law.Faults.{one_verdict}
+use Rattle.m88_parse.specs.Language.Units.{IsUnit}
 use Rattle.m88_parse.specs.declared.unit.Unit.{Unit as Source}
 use Rattle.m88_link.proofs.OneRefusal.{not_both, one_refusal}
 use Rattle.m88_link.specs.Refusal.{IsLinkable, IsRefused}
+use Rattle.m88_asm.proofs.OneUnit as units
+use Rattle.m88_asm.specs.Accepted.{IsFirstUnitFault}
 use Rattle.m88_asm.specs.Faults.{IsAssembled, unit_fault}
 use Rattle.m88_asm.specs.Units.{unit_layout}
 use Rattle.m88_asm.specs.declared.fault.AsmFault.{AsmFault}
+use Rattle.m88_asm.specs.declared.fault.UnitFault.{UnitFault}
+use Rattle.m88_asm.specs.declared.fault.UnitFault.TheVariants as unit_kind
 use Rattle.m88_cli.specs.Assembly.{IsAssemblySource, IsProgramSource, IsRefusedProgram, IsRefusedSource, IsUnassembled, IsUnlinked, asm_refusal, link_refusal, parse_refusal}
 
 -- a unit without a fault has none
@@ -63,3 +69,32 @@ same_program_refusal n source r s (inr a) (inr b) =
     let fault = one_refusal (unit_layout b.unit) a.fault b.fault
     (subst (λ (u : Source). IsRefused (unit_layout u) a.fault) unit a.is_refused) b.is_refused in
     a.refusal ∙ ap (link_refusal n) fault ∙ sym b.refusal
+
+-- a source is assembled or refused
+pub assembly_or_refusal : (source : List ℕ) → IsAssemblySource source ⊎ ((r : Refusal) × IsRefusedSource 0 source r)
+assembly_or_refusal source = elim (one_verdict source).some [
+  | inl unit ↦ by_statements unit.0 unit.1 (unit_fault unit.0) refl
+  | inr fault ↦ inr (_, inl (record { fault = fault.0; is_first = fault.1; refusal = refl }))
+]
+  where
+    by_statements : (u : Source) → IsUnit source u → (o : Option AsmFault) → unit_fault u ≡ o
+        → IsAssemblySource source ⊎ ((r : Refusal) × IsRefusedSource 0 source r)
+    by_statements u is_unit None none = inl (record { unit = u; is_unit = is_unit; is_assembled = none })
+    by_statements u is_unit (Some fault) first =
+        inr (_, inr (record { unit = u; is_unit = is_unit; fault = fault; is_first = first; refusal = refl }))
+
+-- and assembled and linked, or refused, behind other lines of its input too
+pub program_or_refusal : (n : ℕ) (source : List ℕ) → IsProgramSource source ⊎ ((r : Refusal) × IsRefusedProgram n source r)
+program_or_refusal n source = elim (one_verdict source).some [
+  | inr fault ↦ inr (_, inl (inl (record { fault = fault.0; is_first = fault.1; refusal = refl })))
+  | inl unit ↦ elim (units.one_verdict unit.0).some [
+    | inl accepted ↦ inl (record { unit = unit.0; is_unit = unit.1; is_accepted = accepted.1 })
+    | inr fault ↦ inr (by_fault unit.0 unit.1 fault.0 fault.1)
+  ]
+]
+  where
+    by_fault : (u : Source) → IsUnit source u → (fault : UnitFault) → IsFirstUnitFault u fault → (r : Refusal) × IsRefusedProgram n source r
+    by_fault u is_unit (unit_kind.Asm fault) first =
+        (_, inl (inr (record { unit = u; is_unit = is_unit; fault = fault; is_first = first; refusal = refl })))
+    by_fault u is_unit (unit_kind.Link fault) (assembled, refused) =
+        (_, inr (record { unit = u; is_unit = is_unit; is_assembled = assembled; fault = fault; is_refused = refused; refusal = refl }))

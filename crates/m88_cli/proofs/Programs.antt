@@ -20,7 +20,7 @@ use Rattle.m88_asm.specs.Images.{IsUnitInstruction, IsUnitProgram, placed_instru
 use Rattle.m88_srec.proofs.Law.{verdict_takes}
 use Rattle.m88_srec.specs.Accepted.{Whole, whole_of}
 use Rattle.m88_cli.specs.Assembly.{IsProgramSource}
-use Rattle.m88_cli.specs.Linking.{HoldsUnit}
+use Rattle.m88_cli.specs.Inside.Linking.{HoldsUnit}
 use Rattle.m88_cli.specs.Runs.{IsLoadedProgram, IsSourceProgram}
 
 -- a word is that of one instruction
@@ -106,11 +106,10 @@ pub record Held (mxm : Bool) (source : List ℕ) (image : ProgramImage) : Type 0
   pub of_image : IsProgramOf image program
   pub mode : program.mxm ≡ mxm
 
-pub held_by : (mxm : Bool) (source : List ℕ) (image : ProgramImage) → HoldsUnit source image → IsImage image → Held mxm source image
-held_by mxm source image holds is =
+-- what an image holds that holds the unit of a source too
+pub held_with : (mxm : Bool) (source : List ℕ) (image : ProgramImage) (q : Program) → HoldsUnit source image → IsProgramOf image q → Held mxm source image
+held_with mxm source image q holds of =
     let u = holds.unit in
-    let q = program_in mxm image is in
-    let of = program_in_holds mxm image is in
     let bytes : byte_at image ≡ unit_byte u = fun_ext holds.is_image.bytes in
     let own : Program = record {
       mxm = mxm;
@@ -131,3 +130,6 @@ held_by mxm source image holds is =
       of_image = record { start = refl; bytes = refl; instructions = λ a. holds.instructions a (own.instruction a) (there a) };
       mode = refl;
     }
+
+pub held_by : (mxm : Bool) (source : List ℕ) (image : ProgramImage) → HoldsUnit source image → IsImage image → Held mxm source image
+held_by mxm source image holds is = held_with mxm source image (program_in mxm image is) holds (program_in_holds mxm image is)

@@ -5,7 +5,7 @@ use Rattle.m88_base.specs.Refusal.{Refusal}
 use Rattle.m88_base.specs.declared.failing.NoMemory.{NoMemory}
 use Rattle.m88_cli.specs.Answer.{IsAnswerToAccepted, IsAnswerToRefused, Refuses}
 use Rattle.m88_cli.specs.Command.{Command}
-use Rattle.m88_cli.specs.Reply.{IsRefusalOf, Replies, WatchesReply}
+use Rattle.m88_cli.specs.Inside.Reply.{IsRefusalOf, Replies, WatchesReply}
 use Rattle.m88_cli.specs.Watching.{Shown}
 use Rattle.m88_board.specs.declared.glance.Glance.{Glance}
 use Rattle.m88_cli.specs.declared.reply.Reply.{Reply}

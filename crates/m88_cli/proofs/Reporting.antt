@@ -19,7 +19,7 @@ use Rattle.m88_board.specs.declared.glance.Glance.{Glance}
 use Rattle.m88_report.specs.Report.{report_of}
 use Rattle.m88_cli.specs.Answer.{IsAnswerToAccepted, IsAnswerToRefused}
 use Rattle.m88_cli.specs.Command.{Command}
-use Rattle.m88_cli.specs.Reply.{Replies, WatchesReply}
+use Rattle.m88_cli.specs.Inside.Reply.{Replies, WatchesReply}
 use Rattle.m88_cli.specs.Runs.{IsReport}
 use Rattle.m88_cli.specs.Settings.{Settings}
 use Rattle.m88_cli.specs.Watching.{SawFront, SawRun, Shown}

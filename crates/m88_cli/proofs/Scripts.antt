@@ -8,7 +8,7 @@ use Rattle.std.proofs.lemmas.Bool.{cases_order, lt-ltb, ltb-false, ltb-true}
 use Rattle.m88_base.specs.Lines.{lines_of}
 use Rattle.m88_base.proofs.PartedLines.{one_parting, parted_or_not}
 use Rattle.m88_cli.specs.Script.{AreScriptLines, HasNoScript, IsScript, StopsScript, WriteCommands, WritesCommand, is_break, most_breaks, most_commands, source_line, stopped, stopped_alone, unended}
-use Rattle.m88_cli.specs.ScriptWords.{has_room}
+use Rattle.m88_cli.specs.Inside.ScriptWords.{has_room}
 use Rattle.m88_cli.specs.declared.script.MonitorCommand.{MonitorCommand}
 use Rattle.m88_cli.specs.declared.script.MonitorCommand.TheVariants.{Step, Go, Break, Regs, Pipe, Memory, Drain, Trace}
 use Rattle.m88_cli.proofs.ScriptLines.{same_command}

@@ -15,7 +15,7 @@ use Rattle.m88_event.specs.Letters.{IsSchedule, letter_byte}
 use Rattle.m88_event.specs.declared.letter.Letter.{Letter}
 use Rattle.m88_cli.specs.Answer.{IsAnswerToAccepted}
 use Rattle.m88_cli.specs.Command.{soak}
-use Rattle.m88_cli.specs.Linking.{HoldsUnit}
+use Rattle.m88_cli.specs.Inside.Linking.{HoldsUnit}
 use Rattle.m88_base.specs.Refusal.{Refusal}
 use Rattle.m88_cli.specs.Runs.{IsSourceProgram, workload_settings}
 use Rattle.m88_cli.specs.Limits.{most_input, most_statements}

@@ -14,7 +14,7 @@ use Rattle.m88_board.specs.declared.glance.Glance.{Glance}
 use Rattle.m88_cli.proofs.MonitorWalks.{IsAlongOn}
 use Rattle.m88_cli.specs.MonitorLines.{happened_line, letter_text, trace_line}
 use Rattle.m88_cli.specs.Session.{Course, MakesEach, Session, moment_on, session_on, stops_on, trace_lines}
-use Rattle.m88_cli.specs.SessionKept.{Carried, IsBefore, Stands, told_line}
+use Rattle.m88_cli.specs.Inside.SessionKept.{Carried, IsBefore, Stands, told_line}
 use Rattle.m88_cli.specs.declared.monitor.Monitor.{Monitor}
 use Rattle.m88_cli.specs.declared.monitor.tracing.Before.{Before}
 use Rattle.m88_cli.specs.declared.script.MonitorCommand.TheVariants.{Trace}

@@ -7,7 +7,7 @@ use Rattle.m88_base.specs.Outside.{AppendsPart, TakesExactly}
 use Rattle.m88_cli.specs.Answer.{IsAnswerToAccepted, IsAnswer, IsAnswerToRefused, Refuses}
 use Rattle.m88_base.specs.Refusal.{Refusal, refusal_line}
 use Rattle.m88_board.specs.declared.glance.Glance.{Glance}
-use Rattle.m88_cli.specs.Reply.{Replies, WatchesReply}
+use Rattle.m88_cli.specs.Inside.Reply.{Replies, WatchesReply}
 use Rattle.m88_cli.specs.Watching.{Shown, ShownIfAccepted}
 use Rattle.m88_cli.specs.declared.reply.Reply.{Reply}
 use Rattle.m88_cli.specs.Status.{Answers, IsOfReading, WritesNothing}

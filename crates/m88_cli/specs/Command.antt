@@ -1,9 +1,12 @@
 -- The commands: what words spell each of them, the kind of its input, and which of them show boards.
 use Rattle.std.specs.Prelude.{ℕ, Bool, true, false, ◌≡◌, ◌<◌, ◌≤◌, ◌^◌, List, [], ◌∷◌, codes}
+use Rattle.m88_event.specs.Letters.{IsSchedule}
 use Rattle.m88_event.specs.declared.letter.Letter.{Letter}
+use Rattle.m88_tasks.specs.Letters.{IsShareSchedule}
+use Rattle.m88_tasks.specs.declared.letter.ShareLetter.{ShareLetter}
 use Rattle.m88_cli.specs.Limits.{most_statements}
 use Rattle.m88_cli.specs.Numbers.{IsShortNumber}
-use Rattle.m88_cli.specs.Settings.{SaySession, SaySettings, Settings}
+use Rattle.m88_cli.specs.Settings.{SayLimited, SaySession, SaySettings, Settings}
 
 -- the commands
 pub data Command : Type 0 where
@@ -23,6 +26,10 @@ pub data Command : Type 0 where
   mon : (absent : ℕ → Bool) (schedule : List Letter) (mxm : Bool) → Command
   -- the summary of the workload of a number, with so many statements
   soak : (number count : ℕ) → Command
+  -- the reports of the programs of some sources on one board
+  share : (limit : ℕ) (absent : ℕ → Bool) (schedule : List ShareLetter) → Command
+  -- the report of a run of a source with a monitor that emulates
+  emu : (limit : ℕ) (absent : ℕ → Bool) (schedule : List Letter) → Command
 
 -- a text writes the number of a workload in one to ten decimal digits, which may begin with zeros
 abbrev pub IsWorkloadNumber : List ℕ → ℕ → Type 0
@@ -50,6 +57,8 @@ name_of build = codes "build"
 name_of dis = codes "dis"
 name_of (mon absent schedule mxm) = codes "mon"
 name_of (soak number count) = codes "soak"
+name_of (share limit absent schedule) = codes "share"
+name_of (emu limit absent schedule) = codes "emu"
 
 -- the words are those behind the name of a command; most commands have none
 abbrev pub SayRest : List (List ℕ) → Command → Type 0
@@ -57,6 +66,8 @@ SayRest words (run settings) = SaySettings words settings
 SayRest words (exec settings) = SaySettings words settings
 SayRest words (mon absent schedule mxm) = SaySession words absent schedule mxm
 SayRest words (soak number count) = SayWorkload words number count
+SayRest words (share limit absent schedule) = SayLimited IsShareSchedule words limit absent schedule
+SayRest words (emu limit absent schedule) = SayLimited IsSchedule words limit absent schedule
 SayRest words _ = words ≡ []
 
 -- the words spell the command: its name, and the words behind it
@@ -83,6 +94,8 @@ pub data InputKind : Type 0 where
   record_text : InputKind
   -- a script, and a source behind it to be assembled and linked
   scripted_source : InputKind
+  -- sources to be assembled and linked, each by itself
+  sources_to_link : InputKind
 
 -- the kind of input of a command
 abbrev pub kind_of : Command → InputKind
@@ -94,6 +107,8 @@ kind_of build = source_to_link
 kind_of dis = record_text
 kind_of (mon absent schedule mxm) = scripted_source
 kind_of (soak number count) = no_input
+kind_of (share limit absent schedule) = sources_to_link
+kind_of (emu limit absent schedule) = source_to_link
 
 -- whether there is an input of a kind to read
 abbrev pub is_read : InputKind → Bool

@@ -1,13 +1,13 @@
--- Words for the contracts of private functions; no promise of the program names them. A command as the code keeps it.
+-- A command as the code keeps it: which of the commands it is, and what always holds of its limits.
 use Rattle.std.specs.Prelude.{ℕ, Bool, ◌≤◌, List}
 use Rattle.m88_base.specs.declared.absent.Absent.{Absent}
 use Rattle.m88_event.specs.declared.letter.Letter.{Letter}
 use Rattle.m88_mem.specs.Marks.{NamesPages, absent_in}
-use Rattle.m88_cli.specs.Command.{Command as Choice, run, exec, asm, link, build, dis, mon, soak}
+use Rattle.m88_cli.specs.Command.{Command as Choice, run, exec, asm, link, build, dis, mon, soak, share, emu}
 use Rattle.m88_cli.specs.Limits.{most_limit, most_statements}
 use Rattle.m88_cli.specs.Settings.{Settings}
 use Rattle.m88_cli.specs.declared.commands.Command.{Command}
-use Rattle.m88_cli.specs.declared.commands.Command.TheVariants.{Run, Exec, Asm, Link, Build, Dis, Mon, Soak}
+use Rattle.m88_cli.specs.declared.commands.Command.TheVariants.{Run, Exec, Asm, Link, Build, Dis, Mon, Soak, Share, Emu}
 
 -- the settings of a run as its words are kept
 abbrev pub settings_of : ℕ → Absent → List Letter → Bool → Settings
@@ -24,6 +24,8 @@ command_of Build = build
 command_of Dis = dis
 command_of (Mon absent schedule mxm) = mon (absent_in absent) schedule mxm
 command_of (Soak number count) = soak number count
+command_of (Share limit absent schedule) = share limit (absent_in absent) schedule
+command_of (Emu limit absent schedule) = emu limit (absent_in absent) schedule
 
 -- its limit is one that a run may have, and it names pages that there are; a workload has no more statements than it
 -- may
@@ -32,4 +34,6 @@ IsFit (Run limit absent schedule mxm) = (limit ≤ most_limit) × NamesPages abs
 IsFit (Exec limit absent schedule mxm) = (limit ≤ most_limit) × NamesPages absent
 IsFit (Mon absent schedule mxm) = NamesPages absent
 IsFit (Soak number count) = count ≤ most_statements
+IsFit (Share limit absent schedule) = (limit ≤ most_limit) × NamesPages absent
+IsFit (Emu limit absent schedule) = (limit ≤ most_limit) × NamesPages absent
 IsFit _ = Unit {0}

@@ -11,6 +11,10 @@ pub mod Loading
 pub mod Objects
 pub mod Workload
 pub mod Runs
+pub mod Sources
+pub mod Numbered
+pub mod Sharing
+pub mod Emulation
 pub mod Script
 pub mod Monitoring
 pub mod MonitorLines
@@ -21,11 +25,6 @@ pub mod Answer
 pub mod Watching
 pub mod Bridge
 pub mod Status
--- Words for the contracts of private functions.
+-- A command as the code keeps it, and words for the contracts of private functions.
 pub mod Kept
-pub mod Inputs
-pub mod ScriptWords
-pub mod Linking
-pub mod Drawing
-pub mod Reply
-pub mod SessionKept
+pub mod Inside

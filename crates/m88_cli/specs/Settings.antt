@@ -32,6 +32,18 @@ pub record SaySession (words : List (List ℕ)) (absent : ℕ → Bool) (schedul
   pub is_absent : IsAbsent absent_text absent
   pub is_schedule : IsSchedule schedule_text schedule
 
+-- the words are a limit, absent pages and letters of a schedule, with MXM clear; which texts are such letters is for
+-- the command to say
+pub record SayLimited {Letters : Type 0} (AreSuch : List ℕ → Letters → Type 0) (words : List (List ℕ)) (limit : ℕ)
+    (absent : ℕ → Bool) (letters : Letters) : Type 0 where
+  pub limit_text : List ℕ
+  pub absent_text : List ℕ
+  pub letters_text : List ℕ
+  pub words_are : words ≡ limit_text ∷ absent_text ∷ letters_text ∷ []
+  pub is_limit : IsLimit limit_text limit
+  pub is_absent : IsAbsent absent_text absent
+  pub are_letters : AreSuch letters_text letters
+
 -- the words are the limit, the absent pages, the schedule and the mode of a run
 pub record SaySettings (words : List (List ℕ)) (settings : Settings) : Type 0 where
   pub limit_text : List ℕ

@@ -4,8 +4,8 @@ ghost use Rattle.m88_link.specs.Sound.{IsSound};
 ghost use Rattle.m88_cli.specs.Assembly.{IsRefusedProgram, IsRefusedSource};
 ghost use Rattle.m88_cli.specs.Command.{asm, build};
 ghost use Rattle.m88_cli.specs.Limits.{most_input};
-ghost use Rattle.m88_cli.specs.Linking.{HoldsUnit, IsObjectsOf};
-ghost use Rattle.m88_cli.specs.Reply.{Replies};
+ghost use Rattle.m88_cli.specs.Inside.Linking.{HoldsUnit, IsObjectsOf};
+ghost use Rattle.m88_cli.specs.Inside.Reply.{Replies};
 
 use crate::reply::{Reply, refuse};
 use crate::source_fault::{unassembled, unlinked, unread};

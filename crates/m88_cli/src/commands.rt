@@ -2,6 +2,7 @@
 
 use m88_base::Absent;
 use m88_event::Schedule;
+use m88_tasks::ShareSchedule;
 
 /// What the words of the program ask for.
 #[derive(Drop, Debug)]
@@ -40,5 +41,20 @@ pub enum Command<'a> {
     Soak {
         number: u32,
         count: u32,
+    },
+    /// The reports of the programs of one to eight sources on one board, each of which retires at most `limit`
+    /// instructions, with these pages absent at first for each, and the letters that the events of the board begin
+    /// with; MXM is clear.
+    Share {
+        limit: u32,
+        absent: Absent,
+        schedule: ShareSchedule<'a>,
+    },
+    /// The report of a run of a source whose monitor does what the chip leaves to software, and what it did; MXM is
+    /// clear.
+    Emu {
+        limit: u32,
+        absent: Absent,
+        schedule: Schedule<'a>,
     },
 }

@@ -4,7 +4,7 @@ ghost use Rattle.m88_event.specs.declared.letter.Letter.{Letter as LetterValue};
 ghost use Rattle.m88_cli.specs.Command.{Command as Choice, Spells};
 ghost use Rattle.m88_cli.specs.Kept.{IsFit, command_of, settings_of};
 ghost use Rattle.m88_cli.specs.Limits.{most_limit};
-ghost use Rattle.m88_cli.specs.Settings.{SaySession, SaySettings, Settings as Asked, mode_words};
+ghost use Rattle.m88_cli.specs.Settings.{SayLimited, SaySession, SaySettings, Settings as Asked, mode_words};
 ghost use Rattle.m88_cli.specs.Words.{texts};
 ghost use Rattle.m88_mem.specs.Marks.{NamesPages, absent_in};
 
@@ -14,6 +14,7 @@ use crate::numbers::decimal_number;
 use crate::pages::absent_of;
 use m88_base::Absent;
 use m88_event::Schedule;
+use m88_tasks::ShareSchedule;
 
 /// The command that the words spell. None for words that spell none.
 pub fn command<'a>(words: &'a [String]) -> Option<Command<'a>>
@@ -32,6 +33,8 @@ pub fn command<'a>(words: &'a [String]) -> Option<Command<'a>>
         "dis" => bare_command(Command::Dis, rest),
         "mon" => session_command(rest),
         "soak" => workload_command(rest),
+        "share" => share_command(rest),
+        "emu" => emulation_command(rest),
         _ => None,
     }
 }
@@ -194,4 +197,77 @@ fn workload_command<'a>(words: &[String]) -> Option<Command<'a>>
         return None;
     }
     Some(Command::Soak { number, count })
+}
+
+/// What a run with MXM clear is asked for besides its input, and the text of its letters.
+#[derive(Drop)]
+struct LimitedRun<'a> {
+    limit: u32,
+    absent: Absent,
+    letters: &'a str,
+}
+
+/// The limit and the absent pages of a run with MXM clear, and the text of its letters: three words and no more.
+fn limited<'a>(words: &'a [String]) -> Option<LimitedRun<'a>>
+    ensures found { IfSome result (λ l. SayLimited ◌≡◌ (texts words.now)
+        l.limit (absent_in l.absent) l.letters.now) }
+    ensures only { (limit : ℕ) (absent : ℕ → Bool) (letters : List ℕ)
+        → SayLimited ◌≡◌ (texts words.now) limit absent letters
+        → MatchOption result ⊥ (λ l. (l.limit ≡ limit)
+        × (absent_in l.absent ≡ absent) × (l.letters.now ≡ letters)) }
+    ensures limit { IfSome result (λ l. l.limit ≤ most_limit) }
+    ensures pages { IfSome result (λ l. NamesPages l.absent) }
+{
+    let (limit, words) = first_word(words)?;
+    let (absent, words) = first_word(words)?;
+    let (letters, rest) = first_word(words)?;
+    no_more(rest)?;
+    let limit = decimal_number(7, limit.as_bytes(), MOST_LIMIT)?;
+    let absent = absent_of(absent)?;
+    Some(LimitedRun {
+        limit,
+        absent,
+        letters,
+    })
+}
+
+/// The shared run that the words behind `share` ask for; its schedule is `-`, or 1 to 65,536 letters `i`, `r`, `e` and
+/// `t`.
+fn share_command<'a>(words: &'a [String]) -> Option<Command<'a>>
+    ensures found { IfSome result (λ c. Spells (codes "share" ∷ texts words.now) (command_of c)) }
+    ensures only { (choice : Choice) → Spells (codes "share" ∷ texts words.now) choice
+        → MatchOption result ⊥ (λ c. command_of c ≡ choice) }
+    ensures fit { IfSome result IsFit }
+{
+    let LimitedRun {
+        limit,
+        absent,
+        letters,
+    } = limited(words)?;
+    let schedule = ShareSchedule::read(letters)?;
+    Some(Command::Share {
+        limit,
+        absent,
+        schedule,
+    })
+}
+
+/// The run with emulation that the words behind `emu` ask for.
+fn emulation_command<'a>(words: &'a [String]) -> Option<Command<'a>>
+    ensures found { IfSome result (λ c. Spells (codes "emu" ∷ texts words.now) (command_of c)) }
+    ensures only { (choice : Choice) → Spells (codes "emu" ∷ texts words.now) choice
+        → MatchOption result ⊥ (λ c. command_of c ≡ choice) }
+    ensures fit { IfSome result IsFit }
+{
+    let LimitedRun {
+        limit,
+        absent,
+        letters,
+    } = limited(words)?;
+    let schedule = Schedule::read(letters)?;
+    Some(Command::Emu {
+        limit,
+        absent,
+        schedule,
+    })
 }

@@ -5,14 +5,15 @@ ghost use Rattle.m88_base.specs.Calls.{CallsWithin};
 ghost use Rattle.m88_base.specs.Causes.{Rose};
 ghost use Rattle.m88_base.specs.Outside.{TakesAtMost, TakesExactly};
 ghost use Rattle.m88_cli.specs.Command.{kind_of, reads_input};
-ghost use Rattle.m88_cli.specs.Inputs.{AreRecordsOf, IsKeptAs, IsMadeOf, IsReadFrom, IsRecordsRead, IsText};
+ghost use Rattle.m88_cli.specs.Inside.Inputs.{AreRecordsOf, IsKeptAs, IsMadeOf, IsReadFrom, IsRecordsRead, IsText};
 ghost use Rattle.m88_cli.specs.Kept.{command_of};
 ghost use Rattle.m88_cli.specs.Limits.{most_input};
 
 use crate::commands::Command;
 use crate::limits::MOST_INPUT;
-use m88_base::{Image, ReadEnd, Source, read_all};
-use m88_srec::{LoadEnd, SrecFault, read_image};
+use crate::loading::unloaded;
+use m88_base::{Image, ReadEnd, Refusal, Source, read_all};
+use m88_srec::{LoadEnd, read_image};
 use std::alloc::Global;
 
 /// The whole input of a command.
@@ -22,8 +23,8 @@ pub enum Input {
     Nothing,
     /// Its text.
     Text(Vec<u8>),
-    /// The image that it writes as S-records, or its first fault as such.
-    Records(Result<Image, SrecFault>),
+    /// The image that it writes as S-records, or its refusal as such.
+    Records(Result<Image, Refusal>),
 }
 
 impl Input {
@@ -40,7 +41,7 @@ impl Input {
     }
 
     /// What an input that was read as S-records came to.
-    pub fn records(&self) -> &Result<Image, SrecFault>
+    pub fn records(&self) -> &Result<Image, Refusal>
         requires { IsRecordsRead self.now }
         ensures { (input : List ℕ) → IsMadeOf self.now input → AreRecordsOf result.now input }
     {
@@ -78,19 +79,15 @@ pub fn input_of<S: Source>(
             let records = read_records(alloc, source)?;
             Ok(Input::Records(records))
         }
-        Command::Run { .. } | Command::Asm | Command::Link | Command::Build | Command::Mon { .. } =>
-            {
-                let text = read_all(alloc, source, MOST_INPUT)?;
-                Ok(Input::Text(text))
-            }
+        _ => {
+            let text = read_all(alloc, source, MOST_INPUT)?;
+            Ok(Input::Text(text))
+        }
     }
 }
 
-/// The image that a source writes as S-records, or their first fault. Their text is not kept.
-fn read_records<S: Source>(
-    alloc: Global,
-    source: &mut S,
-) -> Result<Result<Image, SrecFault>, ReadEnd>
+/// The image that a source writes as S-records, or their refusal. Their text is not kept.
+fn read_records<S: Source>(alloc: Global, source: &mut S) -> Result<Result<Image, Refusal>, ReadEnd>
     ensures ok { IfOk result (λ records. (text : List ℕ)
         × Consumes (S.left source.old) (S.left source.new) text
         × IsAtEnd (S.left source.new) × AreRecordsOf records text) }
@@ -105,7 +102,10 @@ fn read_records<S: Source>(
 {
     match read_image(alloc, source, MOST_INPUT) {
         Ok(image) => Ok(Ok(image)),
-        Err(LoadEnd::Refused(fault)) => Ok(Err(fault)),
+        Err(LoadEnd::Refused(fault)) => {
+            let refusal = unloaded(alloc, &fault).or(Err(ReadEnd::Memory))?;
+            Ok(Err(refusal))
+        }
         Err(LoadEnd::SourceFault) => Err(ReadEnd::SourceFault),
         Err(LoadEnd::TooLong) => Err(ReadEnd::TooLong),
         Err(LoadEnd::Memory) => Err(ReadEnd::Memory),

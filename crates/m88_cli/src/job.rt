@@ -1,24 +1,27 @@
 //! What a command makes of its whole input.
 ghost use Rattle.std.specs.Prelude.{ℕ, ◌≡◌, IfOk, List, OnErr, false};
 ghost use Rattle.m88_cli.specs.Command.{kind_of, shows_boards};
-ghost use Rattle.m88_cli.specs.Inputs.{IsKeptAs, IsMadeOf};
+ghost use Rattle.m88_cli.specs.Inside.Inputs.{IsKeptAs, IsMadeOf};
 ghost use Rattle.m88_cli.specs.Kept.{IsFit, command_of};
-ghost use Rattle.m88_cli.specs.Reply.{Replies, WatchesFront, WatchesReply};
+ghost use Rattle.m88_cli.specs.Inside.Reply.{Replies, WatchesFront, WatchesReply};
 
 use crate::assembly::{assemble_source, build_source};
 use crate::commands::Command;
+use crate::emulation::emulate_source;
 use crate::input::Input;
 use crate::loading::list_records;
 use crate::monitoring::run_monitor;
 use crate::objects::link_objects;
 use crate::reply::Reply;
 use crate::running::{run_records, run_source};
+use crate::sharing::share_board;
 use crate::soaking::run_workload;
 use m88_base::NoMemory;
 use m88_board::Watch;
 use std::alloc::Global;
 
-/// The reply of a command to its whole input; the board of a run is shown to the watch after each event.
+/// The reply of a command to its whole input; the board of `run`, `exec`, `mon` and `soak` is shown to the watch after
+/// each event, and no other.
 pub fn reply_to<W: Watch>(
     alloc: Global,
     command: &Command,
@@ -66,5 +69,15 @@ pub fn reply_to<W: Watch>(
             mxm,
         } => run_monitor(alloc, absent, schedule, *mxm, input.text(), watch),
         Command::Soak { number, count } => run_workload(alloc, *number, *count, watch),
+        Command::Share {
+            limit,
+            absent,
+            schedule,
+        } => share_board(alloc, *limit, absent, schedule, input.text()),
+        Command::Emu {
+            limit,
+            absent,
+            schedule,
+        } => emulate_source(alloc, *limit, absent, schedule, input.text()),
     }
 }

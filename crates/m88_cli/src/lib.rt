@@ -23,12 +23,16 @@ mod script_lines;
 
 // What commands make of a source, of objects, of S-records, of a script, and of a number.
 mod assembly;
+mod emulation;
 mod loading;
 mod monitoring;
+mod numbered;
 mod objects;
 mod running;
+mod sharing;
 mod soaking;
 mod source_fault;
+mod sources;
 mod summary;
 mod workload;
 

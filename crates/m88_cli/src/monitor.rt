@@ -9,7 +9,7 @@ ghost use Rattle.m88_board.specs.declared.glance.Glance.{Glance};
 ghost use Rattle.m88_cli.specs.MonitorLines.{breakpoint_line};
 ghost use Rattle.m88_cli.specs.Limits.{session_limit};
 ghost use Rattle.m88_cli.specs.Session.{Course, IsSession, IsSessionFront, Session, course_of, opening_session};
-ghost use Rattle.m88_cli.specs.SessionKept.{Broke, Carried, Stands};
+ghost use Rattle.m88_cli.specs.Inside.SessionKept.{Broke, Carried, Stands};
 
 use crate::script::MonitorCommand;
 use m88_base::NoMemory;

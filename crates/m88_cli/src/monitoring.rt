@@ -8,9 +8,9 @@ ghost use Rattle.m88_isa.specs.Machine.{Program};
 ghost use Rattle.m88_mem.specs.Marks.{NamesPages, absent_in};
 ghost use Rattle.m88_cli.specs.Command.{mon};
 ghost use Rattle.m88_cli.specs.Limits.{most_input};
-ghost use Rattle.m88_cli.specs.Linking.{HoldsUnit};
+ghost use Rattle.m88_cli.specs.Inside.Linking.{HoldsUnit};
 ghost use Rattle.m88_cli.specs.Monitoring.{IsRefusedMonitor};
-ghost use Rattle.m88_cli.specs.Reply.{Replies, WatchesFront, WatchesReply};
+ghost use Rattle.m88_cli.specs.Inside.Reply.{Replies, WatchesFront, WatchesReply};
 ghost use Rattle.m88_cli.specs.Script.{IsScript, most_commands, script_refusal};
 ghost use Rattle.m88_cli.specs.Session.{IsSession, IsSessionFront, course_of, opening_session};
 

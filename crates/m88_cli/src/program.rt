@@ -12,7 +12,7 @@ ghost use Rattle.m88_cli.specs.Command.{Command as Choice, SpellNoReader, SpellN
 ghost use Rattle.m88_cli.specs.Kept.{IsFit, command_of};
 ghost use Rattle.m88_cli.specs.Limits.{most_input};
 ghost use Rattle.m88_base.specs.Refusal.{Refusal, refusal_line};
-ghost use Rattle.m88_cli.specs.Reply.{Replies, WatchesReply};
+ghost use Rattle.m88_cli.specs.Inside.Reply.{Replies, WatchesReply};
 ghost use Rattle.m88_cli.specs.Runs.{WorkloadsAreAccepted};
 ghost use Rattle.m88_cli.specs.Script.{HasNoScript, IsScriptOf};
 ghost use Rattle.m88_cli.specs.Status.{Answers, IsAnswered, IsOfReading, ShowsNothing, WritesNothing};
@@ -30,8 +30,8 @@ use m88_board::Watch;
 use std::alloc::Global;
 
 /// The whole program between its words, a source, a sink and a watch: the command that the words spell reads
-/// the source to its end, its text is written to the sink, and the board of a run is shown to the watch after
-/// each event.
+/// the source to its end, its text is written to the sink, and the board of `run`, `exec`, `mon` and `soak` is
+/// shown to the watch after each event.
 #[tactic(auto, using(crate::proofs::BridgeLaws::laws))]
 pub fn m88<S: Source, K: Sink, W: Watch>(
     alloc: Global,
@@ -66,7 +66,7 @@ pub fn m88<S: Source, K: Sink, W: Watch>(
 
     // A command was carried out, its input is accepted, the sink was given its text, and the watch was shown
     // its boards. For `run` the text is the report of the sequential machine over the source, and the boards
-    // are those of each event.
+    // are those of each event; for `share` the reports are those of each program's own run.
     ensures done { result ≡ Status.Done
         → CarriedOut (texts words.now) (S.left source.old) (S.left source.new)
         IsAnswerToAccepted (Appends (K.held sink.old) (K.held sink.new))

@@ -1,6 +1,6 @@
 //! What a command answers to its input.
 ghost use Rattle.std.specs.Prelude.{IfOk};
-ghost use Rattle.m88_cli.specs.Reply.{IsRefusalOf};
+ghost use Rattle.m88_cli.specs.Inside.Reply.{IsRefusalOf};
 
 use m88_base::{NoMemory, Refusal};
 use std::alloc::Global;

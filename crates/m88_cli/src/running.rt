@@ -7,21 +7,19 @@ ghost use Rattle.m88_isa.specs.ImageProgram.{IsProgramOf};
 ghost use Rattle.m88_isa.specs.Machine.{Program};
 ghost use Rattle.m88_mem.specs.Marks.{NamesPages, absent_in};
 ghost use Rattle.m88_cli.specs.Command.{exec, run};
-ghost use Rattle.m88_cli.specs.Inputs.{AreRecordsOf};
+ghost use Rattle.m88_cli.specs.Inside.Inputs.{AreRecordsOf};
 ghost use Rattle.m88_cli.specs.Kept.{settings_of};
 ghost use Rattle.m88_cli.specs.Limits.{most_input, most_limit};
-ghost use Rattle.m88_cli.specs.Reply.{Replies, WatchesFront, WatchesReply};
+ghost use Rattle.m88_cli.specs.Inside.Reply.{Replies, WatchesFront, WatchesReply};
 ghost use Rattle.m88_cli.specs.Watching.{SawFront, SawRun};
 ghost use Rattle.m88_report.specs.Report.{report_of};
 
 use crate::assembly::image_of_source;
-use crate::loading::unloaded;
 use crate::reply::{Reply, refuse};
-use m88_base::{Absent, Image, NoMemory};
+use m88_base::{Absent, Image, NoMemory, Refusal};
 use m88_board::{Board, Watch};
 use m88_event::{Outcome, Schedule};
 use m88_report::report;
-use m88_srec::SrecFault;
 use std::alloc::Global;
 
 /// The reply of `run` to a source.
@@ -50,14 +48,14 @@ pub fn run_source<W: Watch>(
     }
 }
 
-/// The reply of `exec` to S-records, from the image that they write or their first fault.
+/// The reply of `exec` to S-records, from the image that they write or their refusal.
 pub fn run_records<W: Watch>(
     alloc: Global,
     limit: u32,
     absent: &Absent,
     schedule: &Schedule,
     mxm: bool,
-    records: &Result<Image, SrecFault>,
+    records: &Result<Image, Refusal>,
     watch: &mut W,
 ) -> Result<Reply, NoMemory>
     requires limit { limit ≤ most_limit }
@@ -73,7 +71,7 @@ pub fn run_records<W: Watch>(
 {
     match records {
         Ok(image) => run_image(alloc, limit, absent, schedule, mxm, image, watch),
-        Err(fault) => refuse(alloc, &unloaded(alloc, fault)?),
+        Err(refusal) => refuse(alloc, refusal),
     }
 }
 

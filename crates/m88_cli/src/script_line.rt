@@ -1,7 +1,7 @@
 //! A line of a script.
 ghost use Rattle.std.specs.Prelude.{ℕ, ◌≡◌, ◌≢◌, ◌++◌, IfSome, List, None, Some};
 ghost use Rattle.m88_cli.specs.Script.{IsCount, AreMemoryOperands, WritesAddress, WritesCommand};
-ghost use Rattle.m88_cli.specs.ScriptWords.{IsBare};
+ghost use Rattle.m88_cli.specs.Inside.ScriptWords.{IsBare};
 ghost use Rattle.m88_cli.specs.declared.script.MonitorCommand.{MonitorCommand as CommandValue};
 
 use crate::numbers::{decimal_number, hexadecimal_number};

@@ -1,7 +1,7 @@
 //! Which lines a script may have.
 ghost use Rattle.std.specs.Prelude.{ℕ, ◌≡◌, ◌<◌, ◌∷◌, ◌++◌, [], List, count_by, false, true};
 ghost use Rattle.m88_cli.specs.Script.{AreScriptLines, is_break};
-ghost use Rattle.m88_cli.specs.ScriptWords.{has_room};
+ghost use Rattle.m88_cli.specs.Inside.ScriptWords.{has_room};
 ghost use Rattle.m88_cli.specs.declared.script.MonitorCommand.{MonitorCommand as CommandValue};
 
 use crate::script::MonitorCommand;

@@ -2,7 +2,7 @@
 ghost use Rattle.std.specs.Prelude.{ℕ, ◌≤◌, List, IfOk, OnErr};
 ghost use Rattle.m88_cli.specs.Command.{soak};
 ghost use Rattle.m88_cli.specs.Limits.{most_statements};
-ghost use Rattle.m88_cli.specs.Reply.{Replies, WatchesFront, WatchesReply};
+ghost use Rattle.m88_cli.specs.Inside.Reply.{Replies, WatchesFront, WatchesReply};
 
 use crate::assembly::image_of_source;
 use crate::reply::Reply;

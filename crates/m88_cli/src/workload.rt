@@ -6,7 +6,7 @@ ghost use Rattle.m88_base.specs.Reg.{reg_of};
 ghost use Rattle.m88_disasm.specs.Text.{instr_text};
 ghost use Rattle.m88_isa.specs.Instr.{IsValid};
 ghost use Rattle.m88_isa.specs.declared.instr.Instr.TheVariants.{MemImm};
-ghost use Rattle.m88_cli.specs.Drawing.{after_four, statement_from, upper_half};
+ghost use Rattle.m88_cli.specs.Inside.Drawing.{after_four, statement_from, upper_half};
 ghost use Rattle.m88_cli.specs.Workload.{drawn_address, drawn_instruction, drawn_letter, drawn_letters, drawn_register, next_seed, seed_after, workload_letters, workload_source};
 
 use m88_base::{NoMemory, Reg};

@@ -2,7 +2,7 @@
 
 ghost use Rattle.std.specs.Prelude.{◌≡◌, OnErr, OnOk};
 ghost use Rattle.m88_cli.specs.Session.{Course, Session};
-ghost use Rattle.m88_cli.specs.SessionKept.{Broke, Carried, Stands};
+ghost use Rattle.m88_cli.specs.Inside.SessionKept.{Broke, Carried, Stands};
 ghost use Rattle.m88_cli.specs.declared.script.MonitorCommand.TheVariants.{Step, Go, Drain};
 
 use super::Monitor;

@@ -10,7 +10,7 @@ ghost use Rattle.m88_isa.specs.Machine.{Program};
 ghost use Rattle.m88_board.specs.Moves.{IsAt};
 ghost use Rattle.m88_cli.specs.MonitorLines.{happened_line, issue_line, letter_text, text_of_any, why_line};
 ghost use Rattle.m88_cli.specs.Session.{Course, Session};
-ghost use Rattle.m88_cli.specs.SessionKept.{Broke, Carried, IsBefore, Stands, told_line};
+ghost use Rattle.m88_cli.specs.Inside.SessionKept.{Broke, Carried, IsBefore, Stands, told_line};
 ghost use Rattle.m88_cli.specs.declared.script.MonitorCommand.TheVariants.{Trace};
 
 use super::Monitor;

@@ -3,7 +3,7 @@ use Rattle.std.proofs.Common.{ap, ◌∙◌}
 use Rattle.m88_link.specs.ObjectText.{objects_text}
 use Rattle.m88_cli.specs.Assembly.{IsRefusedSource}
 use Rattle.m88_cli.specs.Command.{asm}
-use Rattle.m88_cli.specs.Linking.{IsObjectsOf}
+use Rattle.m88_cli.specs.Inside.Linking.{IsObjectsOf}
 use Rattle.m88_cli.proofs.Linked.{assembled}
 use Rattle.m88_cli.proofs.Refusing.{refused_reply, where_err, where_ok}
 use Rattle.m88_cli.proofs.assembly.assemble_source.Goals as goal

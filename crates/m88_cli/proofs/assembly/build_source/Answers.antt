@@ -1,7 +1,7 @@
 -- The records of the image answer the source, and so does the line that refuses it.
 use Rattle.m88_cli.specs.Assembly.{IsRefusedProgram}
 use Rattle.m88_cli.specs.Command.{build}
-use Rattle.m88_cli.specs.Linking.{HoldsUnit}
+use Rattle.m88_cli.specs.Inside.Linking.{HoldsUnit}
 use Rattle.m88_cli.proofs.Linked.{linked}
 use Rattle.m88_cli.proofs.Refusing.{refused_reply, where_err, where_ok}
 use Rattle.m88_cli.proofs.assembly.build_source.Goals as goal

@@ -1,7 +1,7 @@
 -- The listing of the image answers the records, and so does the line that refuses them.
 use Rattle.std.proofs.Common.{subst}
 use Rattle.m88_cli.specs.Command.{dis}
-use Rattle.m88_cli.specs.Inputs.{AreRecordsOf}
+use Rattle.m88_cli.specs.Inside.Inputs.{AreRecordsOf}
 use Rattle.m88_cli.proofs.Listed.{listed}
 use Rattle.m88_cli.proofs.Refusing.{refused_reply}
 use Rattle.m88_cli.proofs.loading.list_records.Goals as goal
@@ -9,8 +9,7 @@ use Rattle.m88_cli.proofs.loading.list_records.Goals as goal
 pub returns-in-Err : goal.returns-in-Err
 returns-in-Err c = λ text are.
     let first = subst (λ records. AreRecordsOf records text) c.in-Err.is are in
-    refused_reply dis text c.in_ok-unloaded-in-Err.field-0 c.refuse-in-Err.result
-    (record { fault = c.in-Err.fault; is_first = first; refusal = c.in_ok-unloaded-in-Err.ensures }) c.refuse-in-Err.ensures
+    refused_reply dis text c.in-Err.refusal c.refuse.result first c.refuse.ensures
 
 pub returns : goal.returns
 returns c = λ text are.

@@ -5,18 +5,18 @@ use Rattle.m88_codec.proofs.ImagePrograms.{program_in, program_in_holds, program
 use Rattle.m88_srec.specs.Accepted.{whole_of}
 use Rattle.m88_cli.specs.Command.{exec}
 use Rattle.m88_cli.specs.Kept.{settings_of}
-use Rattle.m88_cli.specs.Inputs.{AreRecordsOf}
+use Rattle.m88_cli.specs.Inside.Inputs.{AreRecordsOf}
 use Rattle.m88_cli.specs.Runs.{IsLoadedProgram}
 use Rattle.m88_cli.proofs.Programs.{one_loaded_program}
 use Rattle.m88_cli.proofs.Refusing.{refused_reply}
 use Rattle.m88_cli.proofs.Reporting.{TellsOf, answering, reported, watching}
 use Rattle.m88_cli.proofs.running.run_records.Goals as goal
 
-pub returns-in_ok-unloaded-in-Err-clause-reply : goal.returns-in_ok-unloaded-in-Err-clause-reply
-returns-in_ok-unloaded-in-Err-clause-reply g c = λ text are.
+pub returns-in-Err-clause-reply : goal.returns-in-Err-clause-reply
+returns-in-Err-clause-reply g c = λ text are.
     let first = subst (λ records. AreRecordsOf records text) c.in-Err.is are in
-    refused_reply (exec (settings_of c.args.limit c.args.absent.now c.args.schedule.now c.args.mxm)) text c.in_ok-unloaded-in-Err.field-0
-    c.refuse-in-Err.result (record { fault = c.in-Err.fault; is_first = first; refusal = c.in_ok-unloaded-in-Err.ensures }) c.refuse-in-Err.ensures
+    refused_reply (exec (settings_of c.args.limit c.args.absent.now c.args.schedule.now c.args.mxm)) text c.in-Err.refusal
+    c.refuse.result first c.refuse.ensures
 
 pub returns-in-Ok-clause-reply : goal.returns-in-Ok-clause-reply
 returns-in-Ok-clause-reply g c = λ text are.

@@ -4,7 +4,7 @@ use Rattle.std.proofs.lemmas.Result.{on_err_weaker}
 use Rattle.m88_cli.specs.Assembly.{IsRefusedProgram}
 use Rattle.m88_cli.specs.Command.{run}
 use Rattle.m88_cli.specs.Kept.{settings_of}
-use Rattle.m88_cli.specs.Linking.{HoldsUnit}
+use Rattle.m88_cli.specs.Inside.Linking.{HoldsUnit}
 use Rattle.m88_cli.specs.Runs.{IsSourceProgram}
 use Rattle.m88_cli.proofs.Programs.{accepted_source, held_by, one_source_program}
 use Rattle.m88_cli.proofs.Refusing.{refused_reply, where_err, where_ok}

@@ -1,7 +1,7 @@
 -- A line goes on with the lines of a script, or is none of one.
 use Rattle.std.proofs.Common.{◌≡◌, [], ◌∷◌, ◌++◌, length, rules, sym, subst, ◌∙◌, true, false}
 use Rattle.m88_cli.specs.Script.{AreScriptLines}
-use Rattle.m88_cli.specs.ScriptWords.{has_room}
+use Rattle.m88_cli.specs.Inside.ScriptWords.{has_room}
 use Rattle.std.proofs.lemmas.Bool.{eqb-true}
 use Rattle.m88_cli.proofs.ScriptReading.{empty_of, not_empty}
 use Rattle.m88_cli.proofs.Scripts.{no_command, none_told, one_empty_more, one_more_fits, one_more_is_none}

@@ -1,7 +1,7 @@
 -- The letters are read as the schedule, the source has no fault, and the summary of its run answers.
 use Rattle.std.proofs.Common.{inr}
 use Rattle.m88_cli.specs.Assembly.{IsRefusedProgram}
-use Rattle.m88_cli.specs.Linking.{HoldsUnit}
+use Rattle.m88_cli.specs.Inside.Linking.{HoldsUnit}
 use Rattle.m88_cli.proofs.Refusing.{where_err, where_ok}
 use Rattle.m88_cli.proofs.Reporting.{on_err}
 use Rattle.m88_cli.proofs.SoakReply.{answer_of_run, are_unread, front_shown, letters_text, made_by, never_refused, read_letters, run_front_shown, run_shown, source_short, source_text}

@@ -7,7 +7,7 @@ use Rattle.m88_board.specs.Board.{BoardView}
 use Rattle.m88_board.specs.Moves.{IsAt}
 use Rattle.m88_cli.proofs.Carrying.{both_ok, set_stands, still, still_broke}
 use Rattle.m88_cli.proofs.Reporting.{on_err}
-use Rattle.m88_cli.specs.SessionKept.{Broke, Carried}
+use Rattle.m88_cli.specs.Inside.SessionKept.{Broke, Carried}
 use Rattle.m88_cli.specs.declared.script.MonitorCommand.TheVariants.{Break, Memory, Pipe, Regs}
 use Rattle.m88_cli.proofs.monitor.Monitor.carry.Goals as goal
 

@@ -8,7 +8,7 @@ use Rattle.m88_board.specs.Walks.{is_halt}
 use Rattle.m88_cli.proofs.MonitorWalks.{walk_before, walk_went}
 use Rattle.m88_cli.proofs.Reporting.{on_err}
 use Rattle.m88_cli.specs.Session.{moment_on, session_on, stops_on}
-use Rattle.m88_cli.specs.SessionKept.{Went}
+use Rattle.m88_cli.specs.Inside.SessionKept.{Went}
 use Rattle.m88_cli.specs.declared.monitor.Monitor.{Monitor}
 use Rattle.m88_cli.specs.declared.script.MonitorCommand.TheVariants.{Go}
 use Rattle.m88_cli.proofs.monitor.Monitor.go.Goals as goal

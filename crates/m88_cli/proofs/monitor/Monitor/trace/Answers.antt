@@ -10,7 +10,7 @@ use Rattle.m88_cli.proofs.MonitorWalks.{along_next, along_start, at_on, each_nex
 use Rattle.m88_cli.proofs.Reporting.{on_err}
 use Rattle.m88_cli.proofs.Tracing.{none_told, one_told, trace_carried}
 use Rattle.m88_cli.specs.Session.{glances_of, moment_on}
-use Rattle.m88_cli.specs.SessionKept.{IsBefore}
+use Rattle.m88_cli.specs.Inside.SessionKept.{IsBefore}
 use Rattle.m88_cli.specs.declared.monitor.Monitor.{Monitor}
 use Rattle.m88_cli.specs.declared.script.MonitorCommand.TheVariants.{Trace}
 use Rattle.m88_cli.proofs.monitor.Monitor.trace.Goals as goal

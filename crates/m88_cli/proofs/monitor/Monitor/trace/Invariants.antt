@@ -1,7 +1,7 @@
 -- Some events were made and told, each before the run was over.
 use Rattle.m88_cli.proofs.Tracing.{IsTracing}
 use Rattle.m88_cli.specs.Session.{Course, Session}
-use Rattle.m88_cli.specs.SessionKept.{Stands}
+use Rattle.m88_cli.specs.Inside.SessionKept.{Stands}
 use Rattle.m88_cli.proofs.monitor.Monitor.trace.Given as goal
 
 abbrev pub invariant-loop-made : goal.invariant-loop-made

@@ -1,6 +1,6 @@
 -- The next four draws make the next statement.
 use Rattle.std.proofs.Common.{ap, sym, ◌∙◌}
-use Rattle.m88_cli.specs.Drawing.{after_four}
+use Rattle.m88_cli.specs.Inside.Drawing.{after_four}
 use Rattle.m88_cli.proofs.Drawing.{appends_statement, four_draws, no_source, seed_first}
 use Rattle.m88_cli.proofs.workload.Draws.source.Goals as goal
 

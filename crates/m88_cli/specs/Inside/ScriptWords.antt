@@ -1,5 +1,4 @@
--- Words for the contracts of private functions; no promise of the program names them. Commands of the monitor without
--- an operand, and whether there is room for a command.
+-- Commands of the monitor without an operand, and whether there is room for a command.
 use Rattle.std.specs.Prelude.{Bool, List, not, nat_lt, count_by, length, ◌&&◌, ◌||◌}
 use Rattle.m88_cli.specs.Script.{is_break, most_breaks, most_commands}
 use Rattle.m88_cli.specs.declared.script.MonitorCommand.{MonitorCommand}

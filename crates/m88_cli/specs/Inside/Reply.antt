@@ -1,5 +1,4 @@
--- Words for the contracts of private functions; no promise of the program names them. What the reply to an
--- input says, and what a watch was shown on the way to it.
+-- What the reply to an input says, and what a watch was shown on the way to it.
 use Rattle.std.specs.Prelude.{ℕ, ◌≡◌, ◌⊎◌, List, Option, MatchBool, false}
 use Rattle.m88_base.specs.Refusal.{Refusal, refusal_line}
 use Rattle.m88_board.specs.declared.glance.Glance.{Glance}

@@ -1,5 +1,4 @@
--- Words for the contracts of private functions; no promise of the program names them. What the generator of a workload
--- makes of the number that it has.
+-- What the generator of a workload makes of the number that it has.
 use Rattle.std.specs.Prelude.{ℕ, ◌/◌, ◌%◌, ◌^◌}
 use Rattle.m88_isa.specs.declared.instr.Instr.{Instr}
 use Rattle.m88_cli.specs.Workload.{drawn_instruction, drawn_register, next_seed}

@@ -1,5 +1,4 @@
--- Words for the contracts of private functions; no promise of the program names them. Where the monitor stands,
--- and what a command made of it.
+-- Where the monitor stands, and what a command made of it.
 use Rattle.std.specs.Prelude.{ℕ, List, ◌++◌, ◌≡◌, ◌+◌, Option, length}
 use Rattle.m88_event.specs.Timeline.{Moment, nip_at}
 use Rattle.m88_event.specs.declared.happened.Happened.{Happened}

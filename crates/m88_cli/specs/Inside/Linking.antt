@@ -1,5 +1,4 @@
--- Words for the contracts of private functions; no promise of the program names them. What a source is assembled into,
--- and what it is linked into.
+-- What a source is assembled into, and what it is linked into.
 use Rattle.std.specs.Prelude.{ℕ, ◌≡◌, List, Option}
 use Rattle.m88_base.specs.Image.{ProgramImage, byte_at}
 use Rattle.m88_isa.specs.ImageProgram.{IsInstructionAt}
