@@ -3,11 +3,13 @@
 _m88() {
   local word=${COMP_WORDS[COMP_CWORD]} places place choices
   if [ "$COMP_CWORD" -eq 1 ]; then
-    choices="run exec mon asm link build dis soak"
+    choices="run exec mon share emu asm link build dis soak"
   else
     case ${COMP_WORDS[1]} in
       run | exec) places="LIMIT ABSENT SCHEDULE MODE" ;;
       mon) places="ABSENT SCHEDULE MODE" ;;
+      share) places="LIMIT ABSENT TURNS" ;;
+      emu) places="LIMIT ABSENT SCHEDULE" ;;
       soak) places="NUMBER COUNT" ;;
       *) places="" ;;
     esac
@@ -16,6 +18,7 @@ _m88() {
       LIMIT) choices="100 1000 1000000" ;;
       ABSENT) choices="none all" ;;
       SCHEDULE) choices="- i r e" ;;
+      TURNS) choices="- i r e t" ;;
       MODE) choices="mxm" ;;
       NUMBER) choices="0 1" ;;
       COUNT) choices="100 1000 40000" ;;

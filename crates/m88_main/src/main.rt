@@ -79,5 +79,6 @@ fn tell_refusal<'a>(
 
 /// Whether a command reads a source or a script, whose lines a person writes.
 fn reads_lines(name: &str) -> bool {
-    name == "asm" || name == "build" || name == "run" || name == "mon"
+    let is_source = name == "asm" || name == "build" || name == "run" || name == "emu";
+    is_source || name == "mon" || name == "share"
 }

@@ -9,6 +9,7 @@ use std::process::Abort;
 use std::test::Fail;
 
 mod effects;
+mod emulation;
 mod ends;
 mod evictions;
 mod examples;
@@ -28,7 +29,9 @@ mod rounding;
 mod schedules;
 mod scripts;
 mod sessions;
+mod sharing;
 mod sources;
+mod turns;
 mod watching;
 mod words;
 mod workloads;

@@ -11,6 +11,8 @@ pub enum Place {
     Limit,
     Absent,
     Schedule,
+    /// A schedule that may hand the board on.
+    Turns,
     /// It may be left out, and stands last.
     Mode,
     Number,
@@ -22,7 +24,7 @@ impl Place {
         match self {
             Place::Limit => "LIMIT",
             Place::Absent => "ABSENT",
-            Place::Schedule => "SCHEDULE",
+            Place::Schedule | Place::Turns => "SCHEDULE",
             Place::Mode => "the word behind SCHEDULE",
             Place::Number => "NUMBER",
             Place::Count => "COUNT",
@@ -34,7 +36,7 @@ impl Place {
         match self {
             Place::Limit | Place::Number => "0",
             Place::Absent => "none",
-            Place::Schedule => "-",
+            Place::Schedule | Place::Turns => "-",
             Place::Mode => "mxm",
             Place::Count => "1",
         }
@@ -50,6 +52,10 @@ impl fmt::Display for Place {
                 "ABSENT is none, all, or 1 to 64 page numbers up to 1048575 (0xFFFFF), joined by commas"
             ),
             Place::Schedule => write!(f, "SCHEDULE is - or 1 to 65536 letters i, r and e"),
+            Place::Turns => write!(
+                f,
+                "SCHEDULE of share is - or 1 to 65536 letters i, r, e and t"
+            ),
             Place::Mode => write!(f, "mxm rounds misaligned addresses down"),
             Place::Number => write!(f, "NUMBER is a decimal number from 0 to 4294967295"),
             Place::Count => write!(f, "COUNT is a decimal number from 1 to {MOST_STATEMENTS}"),
@@ -67,11 +73,15 @@ pub struct Form {
 
 const RUN: [Place; 4] = [Place::Limit, Place::Absent, Place::Schedule, Place::Mode];
 
+const SHARED: [Place; 3] = [Place::Limit, Place::Absent, Place::Turns];
+
+const EMULATED: [Place; 3] = [Place::Limit, Place::Absent, Place::Schedule];
+
 const SESSION: [Place; 3] = [Place::Absent, Place::Schedule, Place::Mode];
 
 const WORKLOAD: [Place; 2] = [Place::Number, Place::Count];
 
-const FORMS: [Form; 8] = [
+const FORMS: [Form; 10] = [
     Form {
         name: "run",
         places: &RUN,
@@ -86,6 +96,16 @@ const FORMS: [Form; 8] = [
         name: "mon",
         places: &SESSION,
         reads: " < SCRIPT-AND-SOURCE",
+    },
+    Form {
+        name: "share",
+        places: &SHARED,
+        reads: " < SOURCES",
+    },
+    Form {
+        name: "emu",
+        places: &EMULATED,
+        reads: " < SOURCE",
     },
     Form {
         name: "asm",
@@ -229,6 +249,7 @@ fn put_all<W: fmt::Write>(f: &mut fmt::Formatter<W>) -> fmt::Result {
         Place::Limit,
         Place::Absent,
         Place::Schedule,
+        Place::Turns,
         Place::Mode,
         Place::Number,
         Place::Count,

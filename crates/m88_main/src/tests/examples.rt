@@ -1,5 +1,6 @@
-//! The programs of the folder examples, without their comments: each runs from its source, from its records and by way
-//! of its objects, with one report in which a line stands that docs/BOARD.md or the README shows.
+//! The programs of the folder examples, without their comments, but for the two that share a board: each runs from its
+//! source, from its records and by way of its objects, with one report in which a line stands that docs/BOARD.md or the
+//! README shows.
 
 use crate::tests::told;
 use m88_cli::Status;
@@ -62,6 +63,11 @@ const MEMORY_TEST: &[u8] =
     bb0 eq,r14,bad\nst r0,r10,0\ncmp r14,r12,r10\nbb1 lo,r14,clear\nbsr mark\nbr end\n\
     bad: or r2,r0,'!'\nor r9,r0,0x20\ntb0 0,r0,496\nend: or r9,r0,0x63\ntb0 0,r0,496\n\
     mark: or r2,r0,'.'\nor r9,r0,0x20\ntb0 0,r0,496\njmp r1\n";
+
+pub const PACKED: &[u8] = b"_start: or r10,r0,lo16(packet)\nld.bu r2,r10,0\nld.h r3,r10,1\n\
+    ld.h r4,r10,3\nld.h r5,r10,5\naddu r6,r3,r4\naddu r6,r6,r5\ndiv r7,r6,r2\nst r7,r10,7\n\
+    or r9,r0,0x63\ntb0 0,r0,496\n.data\npacket: .byte 3\n.byte 0xFF,0xEC\n.byte 0x00,0x05\n\
+    .byte 0xFF,0xFC\n.zero 4\n";
 
 const PRINT_A: &[u8] = b"or r2,r0,65\nor r9,r0,0x20\ntb0 0,r0,496\nor r9,r0,0x63\ntb0 0,r0,496\n";
 
@@ -146,6 +152,12 @@ const EXAMPLES: &[Example] = &[
         "run 10000 5,6 -",
         "exec 10000 5,6 -",
         "\nout 2E2E2E\n",
+    ),
+    (
+        PACKED,
+        "run 100 none -",
+        "exec 100 none -",
+        "end vector 4 at 00001008\n",
     ),
     (PRINT_A, "run 100 none -", "exec 100 none -", "\nout 41\n"),
     (

@@ -83,7 +83,7 @@ fn pages_and_letters_are_taken_up_to_their_limits(rt: HostRuntime) -> Result<(),
         text.as_str().contains("\nevents 65537\nanswers 1\n"),
         "{text}"
     );
-    for pieces in [PAGE_65, REPEATED_PAGE_65, LETTER_65537] {
+    for pieces in [PAGE_65, REPEATED_PAGE_65, LETTER_65537, TURN_65537] {
         let line = joined(rt.alloc(), pieces)?;
         expect_usage(&rt, rt.alloc(), &[line.as_str()])?;
     }
@@ -110,6 +110,8 @@ const REPEATED_PAGE_65: Pieces = &[("mon ", 1), ("5,", 64), ("5 ir", 1)];
 const LETTERS: Pieces = &[("run 1 none ", 1), ("i", 65_536)];
 
 const LETTER_65537: Pieces = &[("run 1 none ", 1), ("ir", 32_768), ("i", 1)];
+
+const TURN_65537: Pieces = &[("share 1 none ", 1), ("it", 32_768), ("t", 1)];
 
 #[test]
 fn words_with_blanks_and_without_letters_are_usage(rt: HostRuntime) -> Result<(), Fail> {
@@ -220,6 +222,13 @@ const LONGEST: &[(Pieces, &str)] = &[
         "\nevents 65545\nanswers 3\nfaults 1\nfault 1 event 65545\n\
         epsr 000003F8 sxip 0000100E snip 00001013 sfip 00001017 ssbr 00000020\n\
         t0 000002BD 00000000 00006000\nt1 00000000 00000000 00000000\nt2 00000000 00000000 00000000\n",
+    ),
+    (
+        &[("share 4 6 ", 1), ("t", 65_536)],
+        "\nevents 9\nanswers 3\nfaults 1\nfault 1 event 9\n\
+        epsr 000003F8 sxip 0000100E snip 00001013 sfip 00001017 ssbr 00000020\n\
+        t0 000002BD 00000000 00006000\nt1 00000000 00000000 00000000\nt2 00000000 00000000 00000000\n\
+        events 65545\nswitches 0\n",
     ),
 ];
 

@@ -120,6 +120,8 @@ const WATCHED: &[Watched] = &[
             (4, 2, 2, 0x1008, true, true),
         ],
     ),
+    ("share 1 none -", b"or r2,r0,1\nprogram\n", &[]),
+    ("emu 1 none -", b"or r2,r0,1\n", &[]),
     ("build", b"or r2,r0,1\n", &[]),
     ("mon none -", b"pipe\nsource\n", &[]),
 ];
