@@ -1,0 +1,10 @@
+-- What only helps the proofs: texts against lines, the lines of a history, followers, sheets, and the board beside them.
+pub mod Verdicts
+pub mod Accepting
+pub mod History
+pub mod Following
+pub mod Reading
+pub mod Writing
+pub mod Nexts
+pub mod Noting
+pub mod Runs

@@ -1,0 +1,306 @@
+-- What is written on a sheet.
+use Rattle.std.specs.Prelude.{ℕ, zero, suc, Bool, true, false, List, [], ◌∷◌, ◌++◌, Some, IfSome, OnOk, Result, Ok, Err, ◌≡◌, ◌≢◌, ◌≤◌, ◌<◌, ◌+◌, ◌%◌, ◌==◌, drop, length, slice_get, slice_index_or, take}
+use Rattle.std.specs.List.{remove}
+use Rattle.std.proofs.Common.{arith, append_assoc, get_or, length-take-le, refl, sym, ap, ap₂, subst, ◌∙◌}
+use Rattle.std.proofs.lemmas.List.{append-nil}
+use Rattle.m88_base.specs.Hex.{hex8}
+use Rattle.std.proofs.lemmas.Bool.{eqb-false, eqb-true}
+use Rattle.std.proofs.lemmas.Bool.Decides.{nat_tests}
+use Rattle.m88_isa.proofs.Alone.{by_test}
+use Rattle.m88_isa.proofs.InWords.{bus_of_append}
+use Rattle.m88_isa.specs.Address.{word_address}
+use Rattle.m88_isa.specs.Bus.{bus_after, bus_after_all, listed, stored, with_word}
+use Rattle.m88_isa.specs.Lanes.{merged}
+use Rattle.m88_isa.specs.Memory.{IsWordAccess}
+use Rattle.m88_isa.specs.declared.planned.Access.{Access}
+use Rattle.m88_isa.specs.declared.planned.Accesses.{Accesses}
+use Rattle.m88_trace.specs.Inside.Sheets.{AreData, AreWords, accesses_of, text_by, waiting_of, written_by}
+use Rattle.m88_trace.specs.Lines.{access_text, accesses_text, datum_by}
+use Rattle.m88_trace.specs.declared.sheet.Sheet.{Sheet}
+use Rattle.m88_trace.specs.declared.waiting.Waiting.{Waiting}
+
+-- more is written behind the last datum
+pub written_more : (text pen more : List ℕ) (waiting : List Waiting) (bus : ℕ → ℕ) →
+    text_by text waiting (pen ++ more) bus ≡ text_by text waiting pen bus ++ more
+unfolding text_by
+written_more text pen more [] bus = sym (append_assoc text pen more)
+written_more text pen more (w ∷ waiting) bus =
+    written_more (text ++ w.before.items ++ hex8 (datum_by w.access bus)) pen more waiting (bus_after w.access bus)
+
+-- an access waits, and its datum stands behind what was written before it
+pub written_open : (text : List ℕ) (waiting : List Waiting) (w : Waiting) (bus : ℕ → ℕ) →
+    text_by text (waiting ++ w ∷ []) [] bus
+    ≡ text_by text waiting w.before.items bus ++ hex8 (datum_by w.access (bus_after_all (accesses_of waiting) bus))
+unfolding text_by bus_after_all
+written_open text [] w bus =
+    append-nil (text ++ w.before.items ++ hex8 (datum_by w.access bus))
+written_open text (v ∷ waiting) w bus =
+    written_open (text ++ v.before.items ++ hex8 (datum_by v.access bus)) waiting w (bus_after v.access bus)
+
+pub accesses_more : (waiting : List Waiting) (w : Waiting) → accesses_of (waiting ++ w ∷ []) ≡ accesses_of waiting ++ w.access ∷ []
+accesses_more [] w = refl
+accesses_more (v ∷ waiting) w = ap (λ (xs : List Access). v.access ∷ xs) (accesses_more waiting w)
+
+-- where none waits, all is written
+pub none_waits : (waiting : List Waiting) → accesses_of waiting ≡ [] → waiting ≡ []
+none_waits [] e = refl
+none_waits (w ∷ waiting) e = absurd cc
+
+pub written_all : (text pen : List ℕ) (waiting : List Waiting) (bus : ℕ → ℕ) → accesses_of waiting ≡ [] →
+    text ++ pen ≡ text_by text waiting pen bus
+unfolding text_by
+written_all text pen waiting bus e = ap (λ (ws : List Waiting). text_by text ws pen bus) (sym (none_waits waiting e))
+
+-- the datum of the oldest is written
+pub written_first : (text pen : List ℕ) (w : Waiting) (waiting : List Waiting) (datum : ℕ) (values : List ℕ) (bus : ℕ → ℕ) →
+    AreData (datum ∷ values) (accesses_of (w ∷ waiting)) bus →
+    text_by (text ++ w.before.items ++ hex8 datum) waiting pen (bus_after w.access bus) ≡ text_by text (w ∷ waiting) pen bus
+unfolding text_by
+written_first text pen w waiting datum values bus are =
+    ap (λ (d : ℕ). text_by (text ++ w.before.items ++ hex8 d) waiting pen (bus_after w.access bus)) are.0
+
+-- what is left of some data
+pub data_left : (datum : ℕ) (values : List ℕ) (accesses : List Access) (bus : ℕ → ℕ) → AreData (datum ∷ values) accesses bus →
+    AreData values (drop 1 accesses) (bus_after_all (take 1 accesses) bus)
+unfolding bus_after_all
+data_left datum values [] bus are = tt
+data_left datum values (a ∷ accesses) bus are = are.1
+
+-- three data are those of three accesses at most, where each gets what those before it leave
+abbrev IsDatum : ℕ → ℕ → List Access → (ℕ → ℕ) → Type 0
+IsDatum index datum accesses bus =
+    IfSome (slice_get accesses index) (λ a. datum ≡ datum_by a (bus_after_all (take index accesses) bus))
+
+pub three_data : (a b c : ℕ) (accesses : List Access) (bus : ℕ → ℕ) → length accesses ≤ 3 → IsDatum 0 a accesses bus →
+    IsDatum 1 b accesses bus →
+    IsDatum 2 c accesses bus →
+    AreData (a ∷ b ∷ c ∷ []) accesses bus
+unfolding bus_after_all
+three_data a b c [] bus few x y z = tt
+three_data a b c (u ∷ []) bus few x y z = (x, tt)
+three_data a b c (u ∷ v ∷ []) bus few x y z = (x, (y, tt))
+three_data a b c (u ∷ v ∷ w ∷ []) bus few x y z = (x, (y, (z, tt)))
+three_data a b c (u ∷ v ∷ w ∷ s ∷ rest) bus few x y z = absurd (omega arith)
+
+-- nothing is written at first
+pub written_blank : (text pen : List ℕ) (waiting : List Waiting) (bus : ℕ → ℕ) → text ≡ [] → waiting ≡ [] → pen ≡ [] →
+    text_by text waiting pen bus ≡ []
+unfolding text_by
+written_blank text pen waiting bus e f g = rw (e, f, g) refl
+
+-- more stands in place of what stood behind the last datum
+pub more_by : (text pen new more : List ℕ) (waiting : List Waiting) (bus : ℕ → ℕ) → new ≡ pen ++ more →
+    text_by text waiting new bus ≡ text_by text waiting pen bus ++ more
+more_by text pen new more waiting bus e = ap (λ (xs : List ℕ). text_by text waiting xs bus) e ∙ written_more text pen more waiting bus
+
+-- two parts, and three
+pub two_parts : (w a b x : List ℕ) → x ≡ w ++ a ++ b → x ≡ w ++ (a ++ b)
+two_parts w a b x e = e ∙ append_assoc w a b
+
+pub three_parts : (w a b c x y : List ℕ) → x ≡ w ++ a ++ b → y ≡ x ++ c → y ≡ w ++ (a ++ b ++ c)
+three_parts w a b c x y e f =
+    f ∙ ap (λ (xs : List ℕ). xs ++ c) (two_parts w a b x e) ∙ append_assoc w (a ++ b) c
+
+-- an access waits, which was written up to its datum
+pub open_by : (text pen head new : List ℕ) (waiting next : List Waiting) (w : Waiting) (a : Access) (bus : ℕ → ℕ) →
+    next ≡ waiting ++ w ∷ [] →
+    w.access ≡ a →
+    w.before.items ≡ pen ++ head →
+    new ≡ [] →
+    text_by text next new bus
+    ≡ text_by text waiting pen bus ++ (head ++ hex8 (datum_by a (bus_after_all (accesses_of waiting) bus)))
+open_by text pen head new waiting next w a bus e f g h =
+    ap₂ (λ (ws : List Waiting) (xs : List ℕ). text_by text ws xs bus) e h
+    ∙ written_open text waiting w bus
+    ∙ ap₂ (λ (xs : List ℕ) (x : Access). text_by text waiting xs bus ++ hex8 (datum_by x (bus_after_all (accesses_of waiting) bus))) g f
+    ∙ ap (λ (xs : List ℕ). xs ++ hex8 (datum_by a (bus_after_all (accesses_of waiting) bus))) (written_more text pen head waiting bus)
+    ∙ append_assoc (text_by text waiting pen bus) head (hex8 (datum_by a (bus_after_all (accesses_of waiting) bus)))
+
+pub accesses_by : (waiting next : List Waiting) (w : Waiting) (a : Access) → next ≡ waiting ++ w ∷ [] → w.access ≡ a →
+    accesses_of next ≡ accesses_of waiting ++ a ∷ []
+accesses_by waiting next w a e f = ap accesses_of e ∙ accesses_more waiting w ∙ ap (λ (x : Access). accesses_of waiting ++ x ∷ []) f
+
+-- accesses that can be made
+pub made_more : (xs : List Access) (a : Access) → AreWords xs → IsWordAccess a → AreWords (xs ++ a ∷ [])
+made_more [] a are is = (is, tt)
+made_more (x ∷ xs) a are is = (are.0, made_more xs a are.1 is)
+
+pub made_at : (xs : List Access) (k : ℕ) (a : Access) → AreWords xs → slice_get xs k ≡ Some a → IsWordAccess a
+made_at [] k a are e = absurd cc
+made_at (x ∷ xs) zero a are e = let same : x ≡ a = cc in subst (λ (y : Access). IsWordAccess y) same are.0
+made_at (x ∷ xs) (suc k) a are e = made_at xs k a are.1 e
+
+-- the first of those that wait
+pub first_removed : (xs : List Waiting) (w : Waiting) → 0 < length xs → w ≡ slice_index_or xs 0 w → xs ≡ w ∷ remove xs 0
+first_removed [] w some e = absurd (omega arith)
+first_removed (x ∷ xs) w some e = ap (λ (y : Waiting). y ∷ xs) (sym e)
+
+pub filled_by : (text next pen : List ℕ) (waiting left : List Waiting) (w : Waiting) (datum : ℕ) (values : List ℕ) (bus : ℕ → ℕ) →
+    waiting ≡ w ∷ left →
+    next ≡ text ++ w.before.items ++ hex8 datum →
+    AreData (datum ∷ values) (accesses_of waiting) bus →
+    text_by next left pen (bus_after_all (take 1 (accesses_of waiting)) bus) ≡ text_by text waiting pen bus
+unfolding bus_after_all
+filled_by text next pen waiting left w datum values bus e f are =
+    let is = subst (λ (ws : List Waiting). AreData (datum ∷ values) (accesses_of ws) bus) e are in
+    ap₂ (λ (xs : List ℕ) (ws : List Waiting). text_by xs left pen (bus_after_all (take 1 (accesses_of ws)) bus)) f e
+    ∙ written_first text pen w left datum values bus is
+    ∙ ap (λ (ws : List Waiting). text_by text ws pen bus) (sym e)
+
+pub none_filled : (text pen : List ℕ) (waiting : List Waiting) (bus : ℕ → ℕ) → waiting ≡ [] →
+    text_by text waiting pen (bus_after_all (take 1 (accesses_of waiting)) bus) ≡ text_by text waiting pen bus
+unfolding bus_after_all
+none_filled text pen waiting bus e = rw e refl
+
+-- a word after an access
+pub word_kept : (a : Access) (bus : ℕ → ℕ) (addr word : ℕ) → a.write ≡ false → word ≡ bus addr → word ≡ bus_after a bus addr
+word_kept a bus addr word read is = rw read is
+
+pub word_apart : (a : Access) (bus : ℕ → ℕ) (addr word : ℕ) → a.write ≡ true → addr % 4 ≡ 0 → a.addr ≢ addr → word ≡ bus addr →
+    word ≡ bus_after a bus addr
+unfolding stored with_word
+word_apart a bus addr word write aligned other is =
+    let own : word_address addr ≢ a.addr = (λ e. other (omega (arith, e, aligned))) in
+    let test : (word_address addr == a.addr) ≡ false = grind (arith, nat_tests) in
+    rw (write, test) is
+
+pub word_stored : (a : Access) (bus : ℕ → ℕ) (addr word after : ℕ) → a.write ≡ true → addr % 4 ≡ 0 → a.addr ≡ addr → word ≡ bus addr →
+    after ≡ merged a.en a.value word →
+    after ≡ bus_after a bus addr
+unfolding stored with_word
+word_stored a bus addr word after write aligned same is gives =
+    let own : word_address addr ≡ a.addr = omega (arith, same, aligned) in
+    let test : (word_address addr == a.addr) ≡ true = grind (arith, nat_tests) in
+    rw (write, test) (gives ∙ ap (merged a.en a.value) (is ∙ ap bus (sym same)))
+
+-- one access more is made
+pub word_next : (xs : List Access) (k : ℕ) (a : Access) (bus : ℕ → ℕ) → slice_get xs k ≡ Some a →
+    bus_after_all (take (k + 1) xs) bus ≡ bus_after a (bus_after_all (take k xs) bus)
+unfolding bus_after_all
+word_next [] k a bus e = absurd cc
+word_next (x ∷ xs) zero a bus e = ap (λ (y : Access). bus_after y bus) cc
+word_next (x ∷ xs) (suc k) a bus e =
+    let h : suc k + 1 ≡ suc (k + 1) = omega arith in
+    rw h (word_next xs k a (bus_after x bus) e)
+
+pub four_parts : (w a b c d x y z : List ℕ) → x ≡ w ++ a ++ b → y ≡ x ++ c → z ≡ y ++ d → z ≡ w ++ (a ++ b ++ c ++ d)
+four_parts w a b c d x y z e f g =
+    g ∙ ap (λ (xs : List ℕ). xs ++ d) (three_parts w a b c x y e f) ∙ append_assoc w (a ++ b ++ c) d
+
+-- two parts are written behind the last datum
+pub more_two : (text pen new next a b : List ℕ) (waiting : List Waiting) (bus : ℕ → ℕ) → new ≡ pen ++ a → next ≡ new ++ b →
+    text_by text waiting next bus ≡ text_by text waiting pen bus ++ a ++ b
+more_two text pen new next a b waiting bus e f =
+    more_by text new next b waiting bus f ∙ ap (λ (xs : List ℕ). xs ++ b) (more_by text pen new a waiting bus e)
+
+-- two accesses wait
+pub listed_two : (a : Accesses) → a.count ≢ 0 → a.count ≢ 1 → listed a ≡ a.first ∷ a.second ∷ []
+listed_two a h g = by_test (a.count == 0)
+    (λ t. absurd (h (eqb-true a.count 0 t)))
+    (λ f. by_test (a.count == 1) (λ t. absurd (g (eqb-true a.count 1 t))) (λ e. rw (f, e) refl))
+
+pub two_open : (w x y : List ℕ) (waiting next : List Access) (a b : Access) (bus : ℕ → ℕ) →
+    x ≡ w ++ access_text a (bus_after_all waiting bus) →
+    next ≡ waiting ++ a ∷ [] →
+    y ≡ x ++ access_text b (bus_after_all next bus) →
+    y ≡ w ++ accesses_text (a ∷ b ∷ []) (bus_after_all waiting bus)
+unfolding accesses_text bus_after_all
+two_open w x y waiting next a b bus e f g =
+    let words : bus_after_all next bus ≡ bus_after a (bus_after_all waiting bus) =
+    ap (λ (xs : List Access). bus_after_all xs bus) f ∙ bus_of_append waiting (a ∷ []) bus in
+    g
+    ∙ ap₂ (λ (xs : List ℕ) (u : ℕ → ℕ). xs ++ access_text b u) e words
+    ∙ append_assoc w (access_text a (bus_after_all waiting bus)) (access_text b (bus_after a (bus_after_all waiting bus)))
+    ∙ ap (λ (xs : List ℕ). w ++ (access_text a (bus_after_all waiting bus) ++ xs))
+    (sym (append-nil (access_text b (bus_after a (bus_after_all waiting bus)))))
+
+-- where none waits, it doesn't matter what memory has
+pub whatever_words : (s : Sheet) (bus after : ℕ → ℕ) → waiting_of s ≡ [] → written_by s after ≡ written_by s bus
+whatever_words s bus after e =
+    sym (written_all s.text.items s.pen.items s.waiting.items after e) ∙ written_all s.text.items s.pen.items s.waiting.items bus e
+
+none_left : (xs : List Access) → length xs ≤ 3 → drop 1 (drop 1 (drop 1 xs)) ≡ []
+none_left [] few = refl
+none_left (a ∷ []) few = refl
+none_left (a ∷ b ∷ []) few = refl
+none_left (a ∷ b ∷ c ∷ []) few = refl
+none_left (a ∷ b ∷ c ∷ d ∷ rest) few = absurd (omega arith)
+
+-- one datum is written
+abbrev pub Fills : ℕ → Sheet → Sheet → Type 0
+Fills datum old new =
+    (bus : ℕ → ℕ) (values : List ℕ) → AreData (datum ∷ values) (waiting_of old) bus
+    → written_by new (bus_after_all (take 1 (waiting_of old)) bus) ≡ written_by old bus
+
+pub three_left : (s t u v : Sheet) → waiting_of t ≡ drop 1 (waiting_of s) → waiting_of u ≡ drop 1 (waiting_of t) →
+    waiting_of v ≡ drop 1 (waiting_of u) →
+    length (waiting_of s) ≤ 3 →
+    waiting_of v ≡ []
+three_left s t u v e f g few =
+    g ∙ ap (λ (xs : List Access). drop 1 xs) (f ∙ ap (λ (xs : List Access). drop 1 xs) e) ∙ none_left (waiting_of s) few
+
+pub three_filled : (a b c : ℕ) (s t u v : Sheet) (bus after : ℕ → ℕ) → Fills a s t → Fills b t u → Fills c u v →
+    waiting_of t ≡ drop 1 (waiting_of s) →
+    waiting_of u ≡ drop 1 (waiting_of t) →
+    waiting_of v ≡ drop 1 (waiting_of u) →
+    AreData (a ∷ b ∷ c ∷ []) (waiting_of s) bus →
+    length (waiting_of s) ≤ 3 →
+    written_by v after ≡ written_by s bus
+three_filled a b c s t u v bus after x y z e f g are few =
+    let second : ℕ → ℕ = bus_after_all (take 1 (waiting_of s)) bus in
+    let left : AreData (b ∷ c ∷ []) (waiting_of t) second =
+    subst (λ (xs : List Access). AreData (b ∷ c ∷ []) xs second) (sym e) (data_left a (b ∷ c ∷ []) (waiting_of s) bus are) in
+    let third : ℕ → ℕ = bus_after_all (take 1 (waiting_of t)) second in
+    let last : AreData (c ∷ []) (waiting_of u) third =
+    subst (λ (xs : List Access). AreData (c ∷ []) xs third) (sym f) (data_left b (c ∷ []) (waiting_of t) second left) in
+    whatever_words v (bus_after_all (take 1 (waiting_of u)) third) after (three_left s t u v e f g few)
+    ∙ z third [] last
+    ∙ y second (c ∷ []) left
+    ∙ x bus (b ∷ c ∷ []) are
+
+-- what is said of answers that are there
+pub ok_on : {T E A B : Type 0} (r : Result T E) → OnOk r A → (A → B) → OnOk r B
+ok_on (Ok x) a h = h a
+ok_on (Err e) a h = tt
+
+pub ok_both : {T E A B C : Type 0} (r : Result T E) → OnOk r A → OnOk r B → (A → B → C) → OnOk r C
+ok_both (Ok x) a b h = h a b
+ok_both (Err e) a b h = tt
+
+-- whether some wait
+pub vec_empty : (len : ℕ) (xs : List Waiting) (b : Bool) → b ≡ (len == 0) → b ≡ true → len ≡ length xs → xs ≡ []
+vec_empty len [] b h t e = refl
+vec_empty len (x ∷ xs) b h t e = absurd (let none = eqb-true len 0 (sym h ∙ t) in omega (arith, none, e))
+
+pub vec_some : (len : ℕ) (xs : List Waiting) (b : Bool) → b ≡ (len == 0) → b ≡ false → len ≡ length xs → 0 < length xs
+vec_some len xs b h f e = let some = eqb-false len 0 (sym h ∙ f) in omega (arith, some, e)
+
+pub made_left : (waiting left : List Waiting) (w : Waiting) → waiting ≡ w ∷ left → AreWords (accesses_of waiting) → AreWords (accesses_of left)
+made_left waiting left w e are = (subst (λ (ws : List Waiting). AreWords (accesses_of ws)) e are).1
+
+-- one of those that wait, by its number
+pub index_at : (ws : List Waiting) (k : ℕ) (w : Waiting) → k < length ws → w ≡ get_or ws k w → slice_get (accesses_of ws) k ≡ Some w.access
+index_at [] k w below e = absurd (omega arith)
+index_at (x ∷ ws) zero w below e = ap (λ (v : Waiting). Some v.access) (sym e)
+index_at (x ∷ ws) (suc k) w below e = index_at ws k w (omega (arith, below)) e
+
+-- and among the first so many
+first_at : (ws : List Waiting) (count k : ℕ) (w : Waiting) → k < count → count ≤ length ws → w ≡ get_or (take count ws) k w →
+    slice_get (accesses_of ws) k ≡ Some w.access
+first_at [] count k w below within e = absurd (omega arith)
+first_at (x ∷ ws) zero k w below within e = absurd (omega arith)
+first_at (x ∷ ws) (suc count) zero w below within e = ap (λ (v : Waiting). Some v.access) (sym e)
+first_at (x ∷ ws) (suc count) (suc k) w below within e = first_at ws count k w (omega (arith, below)) (omega (arith, within)) e
+
+pub item_at : (ws shown : List Waiting) (count k : ℕ) (w : Waiting) → shown ≡ ws → k < length (take count shown) → count ≤ length ws →
+    w ≡ get_or (take count shown) k w →
+    slice_get (accesses_of ws) k ≡ Some w.access
+item_at ws shown count k w same below within e =
+    let inside : k < length (take count ws) = subst (λ (xs : List Waiting). k < length (take count xs)) same below in
+    first_at ws count k w (omega (arith, inside, length-take-le count ws within)) within
+    (subst (λ (xs : List Waiting). w ≡ get_or (take count xs) k w) same e)
+
+-- what is said of an answer at any rate
+pub ok_always : {T E A : Type 0} (r : Result T E) → A → OnOk r A
+ok_always (Ok x) a = a
+ok_always (Err e) a = tt

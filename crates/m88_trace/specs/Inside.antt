@@ -1,0 +1,4 @@
+-- What the contracts of private functions cite.
+pub mod Doings
+pub mod Sheets
+pub mod Running

@@ -1,0 +1,75 @@
+//! The parts of a trace's lines. Each call appends to a text, and where memory runs out, some of the part may be in it.
+
+ghost use Rattle.std.specs.Prelude.{◌≡◌, ◌++◌, OnOk};
+ghost use Rattle.m88_base.specs.Lines.{line_end};
+ghost use Rattle.m88_isa.specs.Memory.{IsWordAccess};
+ghost use Rattle.m88_trace.specs.Lines.{access_head, head_text, output_text, written_text};
+
+use m88_base::{Reg, hex_digit, push_decimal, push_hex2, push_hex8};
+use m88_isa::Access;
+use std::alloc::AllocError;
+
+/// Appends the number of a step, and the address and the word of its instruction.
+#[tactic(auto, unfolding(crate::specs::Lines::head_text))]
+pub(crate) fn push_head(
+    text: &mut Vec<u8>,
+    number: u32,
+    at: u32,
+    word: u32,
+) -> Result<(), AllocError>
+    ensures { OnOk result (text.new.items ≡ text.old.items ++ head_text number at word) }
+{
+    push_decimal(text, u64::from(number))?;
+    text.push(b' ')?;
+    push_hex8(text, at)?;
+    text.push(b' ')?;
+    push_hex8(text, word)
+}
+
+/// Appends a register that is written at once, and its new value.
+#[tactic(auto, unfolding(crate::specs::Lines::written_text))]
+pub(crate) fn push_written(
+    text: &mut Vec<u8>,
+    written: Option<(Reg, u32)>,
+) -> Result<(), AllocError>
+    ensures { OnOk result (text.new.items ≡ text.old.items ++ written_text written) }
+{
+    let Some((register, value)) = written else {
+        return Ok(());
+    };
+    text.extend_from_slice(b" r")?;
+    push_decimal(text, u64::from(register.number()))?;
+    text.push(b' ')?;
+    push_hex8(text, value)
+}
+
+/// Appends an access up to its datum.
+#[tactic(auto, unfolding(crate::specs::Lines::access_head))]
+pub(crate) fn push_access(text: &mut Vec<u8>, access: &Access) -> Result<(), AllocError>
+    requires { IsWordAccess access.now }
+    ensures { OnOk result (text.new.items ≡ text.old.items ++ access_head access.now) }
+{
+    text.extend_from_slice(if access.write { b" s " } else { b" l " })?;
+    push_hex8(text, access.addr)?;
+    text.push(b' ')?;
+    text.push(hex_digit(u32::from(access.en)))?;
+    text.push(b' ')?;
+    Ok(())
+}
+
+/// Appends a byte that is put out.
+#[tactic(auto, unfolding(crate::specs::Lines::output_text))]
+pub(crate) fn push_output(text: &mut Vec<u8>, byte: u8) -> Result<(), AllocError>
+    ensures { OnOk result (text.new.items ≡ text.old.items ++ output_text byte) }
+{
+    text.extend_from_slice(b" o ")?;
+    push_hex2(text, byte)
+}
+
+/// Ends a line.
+pub(crate) fn push_line_end(text: &mut Vec<u8>) -> Result<(), AllocError>
+    ensures { OnOk result (text.new.items ≡ text.old.items ++ line_end) }
+{
+    text.push(b'\n')?;
+    Ok(())
+}

@@ -1,0 +1,82 @@
+//! The trace of a run on a board.
+
+ghost use Rattle.std.specs.Prelude.{ℕ, Bool, ◌≡◌, ◌<◌, ◌≤◌, ◌+◌, false, IfOk, OnOk};
+ghost use Rattle.m88_board.specs.Board.{local_of};
+ghost use Rattle.m88_board.specs.Kept.{most_retired};
+ghost use Rattle.m88_board.specs.Moves.{IsAt, IsSameRun};
+ghost use Rattle.m88_event.specs.Bound.{weight};
+ghost use Rattle.m88_event.specs.Letters.{letter_at};
+ghost use Rattle.m88_event.specs.Local.{is_over_by};
+ghost use Rattle.m88_event.specs.Timeline.{Moment, after_letter};
+ghost use Rattle.m88_isa.specs.ImageProgram.{IsProgramOf};
+ghost use Rattle.m88_isa.specs.Machine.{IsProgram, Program};
+ghost use Rattle.m88_mem.specs.Marks.{NamesPages, absent_in};
+ghost use Rattle.m88_trace.specs.Inside.Running.{IsTraced};
+ghost use Rattle.m88_trace.specs.Inside.Sheets.{AreMade};
+ghost use Rattle.m88_trace.specs.Texts.{IsText};
+ghost use Rattle.m88_trace.specs.Trace.{IsRunTrace, trace_line, trace_of};
+
+use crate::sheet::Sheet;
+use crate::sight::seen_before;
+use m88_base::{Absent, Image, NoMemory};
+use m88_board::{Board, Schedule, Unwatched, Walk};
+use std::alloc::Global;
+
+/// The trace of a run of the program of an image on a board: the pages that are named are absent at first, at most
+/// `limit` instructions are retired, and MXM is clear. A line that tells of a load waits until its datum is known.
+pub fn trace_run(
+    alloc: Global,
+    image: &Image,
+    absent: &Absent,
+    limit: u32,
+    schedule: &Schedule,
+) -> Result<Vec<u8>, NoMemory>
+    requires pages { NamesPages absent.now }
+    requires small { limit ≤ most_retired }
+    ensures run { IfOk result (λ text. (p : Program) → IsProgramOf image.now p → p.mxm ≡ false
+        → IsRunTrace p (absent_in absent.now) limit schedule.now text.items) }
+
+    // It depends on the program and the limit alone, and it is checked as the lines that it has.
+    ensures alone { IfOk result (λ text. (p : Program) → IsProgramOf image.now p → p.mxm ≡ false
+        → text.items ≡ trace_of p limit) }
+    ensures checked { IfOk result (λ text. (p : Program) → IsProgramOf image.now p → p.mxm ≡ false
+        → (lines : ℕ) × IsText (trace_line p) text.items lines) }
+    ensures program { (p : Program) × IsProgramOf image.now p × (p.mxm ≡ false) }
+{
+    let mut board = Board::new(alloc, image, absent, limit, false)?;
+    let mut walk = Walk::new(&mut board, schedule);
+    let mut sheet = Sheet::new(alloc);
+    // Every run is over: each event takes something off the weight of what is left of it.
+    while !walk.board().is_over() {
+        step(&mut walk, &mut sheet)?;
+    }
+    sheet.finish()
+}
+
+/// Makes the next event of a run, and writes what it adds to the trace.
+fn step(walk: &mut Walk, sheet: &mut Sheet) -> Result<(), NoMemory>
+    requires going { is_over_by walk.old.board.now.limit (local_of walk.old.board.now) ≡ false }
+    requires made { AreMade sheet.old }
+    ensures made { OnOk result (AreMade sheet.new) }
+    ensures at { OnOk result ((p : Program) (named : ℕ → Bool) (m : Moment)
+        → IsAt p named m walk.old.board.now
+        → IsAt p named (after_letter p named walk.old.board.now.limit
+        (letter_at walk.old.schedule.now walk.old.taken) m) walk.new.board.now) }
+    ensures traced { OnOk result ((p : Program) (named : ℕ → Bool) (m : Moment) → IsProgram p
+        → IsAt p named m walk.old.board.now → IsTraced p m sheet.old
+        → IsTraced p (after_letter p named walk.old.board.now.limit
+        (letter_at walk.old.schedule.now walk.old.taken) m) sheet.new) }
+    ensures taken { OnOk result (walk.new.taken ≡ walk.old.taken + 1) }
+    ensures lighter { OnOk result
+        (weight walk.new.schedule.now walk.new.board.now.limit walk.new.taken
+        (local_of walk.new.board.now)
+        < weight walk.old.schedule.now walk.old.board.now.limit walk.old.taken
+        (local_of walk.old.board.now)) }
+    ensures same { IsSameRun walk.old.board.now walk.new.board.now }
+    ensures schedule { walk.new.schedule ≡ walk.old.schedule }
+    ensures lender { walk.new.board.ghost_name ≡ walk.old.board.ghost_name }
+{
+    let before = seen_before(walk.letter(), walk.board(), sheet);
+    let happened = walk.next(&mut Unwatched)?;
+    sheet.note(&before, happened)
+}

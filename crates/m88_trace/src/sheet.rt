@@ -1,0 +1,255 @@
+//! A trace that is being written. The text before the oldest access whose datum isn't known yet is finished; behind it
+//! stands the text up to each datum that is waited for, and then what is written after the last.
+
+ghost use Rattle.std.specs.Prelude.{ℕ, List, ◌∷◌, [], ◌≡◌, ◌≤◌, ◌%◌, ◌++◌, IfOk, drop, length, slice_get, take, IfSome, OnOk};
+ghost use Rattle.m88_event.specs.EndText.{run_end_line};
+ghost use Rattle.m88_isa.specs.Bus.{bus_after, bus_after_all, listed};
+ghost use Rattle.m88_isa.specs.Memory.{AreWordAccesses, IsWordAccess};
+ghost use Rattle.m88_mem.specs.DataBus.{bus_of};
+ghost use Rattle.m88_trace.specs.Inside.Doings.{doing_line};
+ghost use Rattle.m88_trace.specs.Inside.Sheets.{AreData, AreMade, three_of, waiting_of, written_by};
+ghost use Rattle.m88_trace.specs.Lines.{access_text, accesses_text, datum_by};
+ghost use Rattle.m88_trace.specs.declared.doing.Doing.TheVariants as doings;
+
+use crate::parts::{push_access, push_head, push_line_end, push_output, push_written};
+use crate::upcoming::Upcoming;
+use crate::waiting::Waiting;
+use m88_base::{NoMemory, push_hex8};
+use m88_board::Board;
+use m88_event::End;
+use m88_isa::{Access, Accesses, Effect, datum, merge};
+use m88_report::push_end;
+use std::alloc::Global;
+use std::mem;
+
+/// A trace that is being written.
+#[derive(Drop, Debug)]
+pub struct Sheet {
+    pub alloc: Global,
+    /// What is finished.
+    pub text: Vec<u8>,
+    /// The accesses that wait, the oldest first.
+    pub waiting: Vec<Waiting>,
+    /// What stands behind the last datum.
+    pub pen: Vec<u8>,
+}
+
+/// The data of the accesses that wait, if three do at most: that of the oldest first. Where fewer wait, the rest are 0.
+#[derive(Clone, Copy, Debug)]
+pub struct Data {
+    pub oldest: u32,
+    pub second: u32,
+    pub third: u32,
+}
+
+impl Sheet {
+    /// A trace of which nothing is written.
+    pub(crate) fn new(alloc: Global) -> Sheet
+        ensures text { (bus : ℕ → ℕ) → written_by result bus ≡ [] }
+        ensures waiting { waiting_of result ≡ [] }
+        ensures made { AreMade result }
+    {
+        Sheet {
+            alloc,
+            text: Vec::new(alloc),
+            waiting: Vec::new(alloc),
+            pen: Vec::new(alloc),
+        }
+    }
+
+    /// The text, where no access waits.
+    pub(crate) fn finish(mut self) -> Result<Vec<u8>, NoMemory>
+        ensures { IfOk result (λ text. (bus : ℕ → ℕ) → waiting_of self ≡ []
+            → text.items ≡ written_by self bus) }
+    {
+        self.text.extend_from_slice(&self.pen)?;
+        Ok(self.text)
+    }
+
+    /// Writes the line of an instruction that makes its changes. The data of its accesses are waited for.
+    pub(crate) fn issue(&mut self, next: &Upcoming, effect: &Effect) -> Result<(), NoMemory>
+        requires { AreWordAccesses effect.now.accesses.count effect.now.accesses }
+        ensures text { OnOk result ((bus : ℕ → ℕ)
+            → written_by self.new bus ≡ written_by self.old bus
+            ++ doing_line next.now.number next.now.at next.now.word (doings.Goes effect.now)
+            (bus_after_all (waiting_of self.old) bus)) }
+        ensures waiting { OnOk result (waiting_of self.new
+            ≡ waiting_of self.old ++ listed effect.now.accesses) }
+        ensures made { OnOk result (AreMade self.old → AreMade self.new) }
+    {
+        push_head(&mut self.pen, next.number, next.at, next.word)?;
+        push_written(&mut self.pen, effect.reg)?;
+        self.open_all(&effect.accesses)?;
+        push_line_end(&mut self.pen)?;
+        Ok(())
+    }
+
+    /// Writes the line of an instruction for which a byte is put out.
+    pub(crate) fn put_out(&mut self, next: &Upcoming, byte: u8) -> Result<(), NoMemory>
+        ensures text { OnOk result ((bus : ℕ → ℕ)
+            → written_by self.new bus ≡ written_by self.old bus
+            ++ doing_line next.now.number next.now.at next.now.word (doings.Outputs byte) bus) }
+        ensures waiting { OnOk result (waiting_of self.new ≡ waiting_of self.old) }
+        ensures made { OnOk result (AreMade self.old → AreMade self.new) }
+    {
+        push_head(&mut self.pen, next.number, next.at, next.word)?;
+        push_output(&mut self.pen, byte)?;
+        push_line_end(&mut self.pen)?;
+        Ok(())
+    }
+
+    /// Writes the line of the end.
+    pub(crate) fn end(&mut self, end: End) -> Result<(), NoMemory>
+        ensures text { OnOk result ((bus : ℕ → ℕ)
+            → written_by self.new bus ≡ written_by self.old bus ++ run_end_line end) }
+        ensures waiting { OnOk result (waiting_of self.new ≡ waiting_of self.old) }
+        ensures made { OnOk result (AreMade self.old → AreMade self.new) }
+    {
+        push_end(&mut self.pen, end)?;
+        Ok(())
+    }
+
+    /// Writes accesses in order, whose data are waited for.
+    #[tactic(auto, unfolding(crate::specs::Lines::accesses_text))]
+    fn open_all(&mut self, accesses: &Accesses) -> Result<(), NoMemory>
+        requires { AreWordAccesses accesses.now.count accesses.now }
+        ensures text { OnOk result ((bus : ℕ → ℕ)
+            → written_by self.new bus ≡ written_by self.old bus
+            ++ accesses_text (listed accesses.now) (bus_after_all (waiting_of self.old) bus)) }
+        ensures waiting { OnOk result (waiting_of self.new
+            ≡ waiting_of self.old ++ listed accesses.now) }
+        ensures made { OnOk result (AreMade self.old → AreMade self.new) }
+    {
+        if accesses.count == 0 {
+            return Ok(());
+        }
+        self.open(&accesses.first)?;
+        if accesses.count == 1 {
+            return Ok(());
+        }
+        self.open(&accesses.second)
+    }
+
+    /// Writes an access up to its datum, which is waited for.
+    fn open(&mut self, access: &Access) -> Result<(), NoMemory>
+        requires { IsWordAccess access.now }
+        ensures text { OnOk result ((bus : ℕ → ℕ)
+            → written_by self.new bus ≡ written_by self.old bus
+            ++ access_text access.now (bus_after_all (waiting_of self.old) bus)) }
+        ensures waiting { OnOk result (waiting_of self.new
+            ≡ waiting_of self.old ++ access.now ∷ []) }
+        ensures made { OnOk result (AreMade self.old → AreMade self.new) }
+    {
+        push_access(&mut self.pen, access)?;
+        let before = mem::replace(&mut self.pen, Vec::new(self.alloc));
+        let access = *access;
+        push_waiting(&mut self.waiting, Waiting { access, before })?;
+        Ok(())
+    }
+
+    /// Writes the datum of the oldest access that waits, if one does.
+    pub(crate) fn fill(&mut self, datum: u32) -> Result<(), NoMemory>
+        ensures text { OnOk result ((bus : ℕ → ℕ) (values : List ℕ)
+            → AreData (datum ∷ values) (waiting_of self.old) bus
+            → written_by self.new (bus_after_all (take 1 (waiting_of self.old)) bus)
+            ≡ written_by self.old bus) }
+        ensures waiting { OnOk result (waiting_of self.new ≡ drop 1 (waiting_of self.old)) }
+        ensures made { OnOk result (AreMade self.old → AreMade self.new) }
+    {
+        if self.waiting.is_empty() {
+            return Ok(());
+        }
+        let first = self.waiting.remove(0);
+        self.text.extend_from_slice(&first.before)?;
+        push_hex8(&mut self.text, datum)?;
+        Ok(())
+    }
+
+    /// Writes the data of all accesses that wait, of which there are three at most.
+    pub(crate) fn fill_all(&mut self, told: Data) -> Result<(), NoMemory>
+        ensures text { OnOk result ((bus after : ℕ → ℕ)
+            → AreData (three_of told) (waiting_of self.old) bus
+            → length (waiting_of self.old) ≤ 3
+            → written_by self.new after ≡ written_by self.old bus) }
+        ensures waiting { OnOk result (length (waiting_of self.old) ≤ 3
+            → waiting_of self.new ≡ []) }
+        ensures made { OnOk result (AreMade self.old → AreMade self.new) }
+    {
+        self.fill(told.oldest)?;
+        self.fill(told.second)?;
+        self.fill(told.third)
+    }
+
+    /// The data of the accesses that wait, by the words that a board has now: each gets what those before it leave.
+    pub(crate) fn data(&self, board: &Board) -> Data
+        requires { AreMade self.now }
+        ensures { length (waiting_of self.now) ≤ 3
+            → AreData (three_of result) (waiting_of self.now) (bus_of board.now.memory) }
+    {
+        Data {
+            oldest: self.datum(board, 0),
+            second: self.datum(board, 1),
+            third: self.datum(board, 2),
+        }
+    }
+
+    /// The datum of one of the accesses that wait, by its number from 0, or 0 where there are fewer.
+    #[tactic(auto, unfolding(crate::specs::Lines::datum_by, m88_isa::specs::Bus::loaded))]
+    fn datum(&self, board: &Board, index: usize) -> u32
+        requires { AreMade self.now }
+        ensures { IfSome (slice_get (waiting_of self.now) index) (λ a. result ≡ datum_by a
+            (bus_after_all (take index (waiting_of self.now)) (bus_of board.now.memory))) }
+    {
+        if index >= self.waiting.len() {
+            return 0;
+        }
+        let access = self.waiting[index].access;
+        if access.write {
+            return access.value;
+        }
+        datum(
+            access.en,
+            access.signed,
+            self.word(board, access.addr, index),
+        )
+    }
+
+    /// The word at the byte address of a word once so many of the accesses that wait are made, by the words that a board
+    /// has now.
+    #[tactic(auto, unfolding(m88_isa::specs::Bus::bus_after_all))]
+    fn word(&self, board: &Board, addr: u32, count: usize) -> u32
+        requires made { AreMade self.now }
+        requires word { addr % 4 ≡ 0 }
+        requires count { count ≤ length self.now.waiting.items }
+        ensures { result
+            ≡ bus_after_all (take count (waiting_of self.now)) (bus_of board.now.memory) addr }
+    {
+        let mut word = board.word(addr);
+        for waiting in &self.waiting[..count] {
+            word = word_after(&waiting.access, addr, word);
+        }
+        word
+    }
+}
+
+/// Appends an access that waits.
+fn push_waiting(list: &mut Vec<Waiting>, one: Waiting) -> Result<(), NoMemory>
+    ensures { OnOk result (list.new.items ≡ list.old.items ++ one ∷ []) }
+{
+    list.push(one).or(Err(NoMemory))
+}
+
+/// The word at a byte address after an access, by what it was before.
+fn word_after(access: &Access, addr: u32, word: u32) -> u32
+    requires made { IsWordAccess access.now }
+    requires word { addr % 4 ≡ 0 }
+    ensures { (bus : ℕ → ℕ) → word ≡ bus addr → result ≡ bus_after access.now bus addr }
+{
+    if !access.write {
+        return word;
+    }
+    if access.addr != addr {
+        return word;
+    }
+    merge(access.en, access.value, word)
+}
