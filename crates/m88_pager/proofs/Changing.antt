@@ -1,0 +1,72 @@
+-- The words that changed, as the pages of a store have them.
+use Rattle.std.specs.Prelude.{ℕ, Bool, true, false, List, [], ◌∷◌, ◌++◌, Option, Some, None, ◌≡◌, ◌≢◌, ◌<◌, ◌≤◌, ◌+◌, ◌*◌, ◌/◌, ◌%◌, drop, is_some, length, take, unwrap_or}
+use Rattle.std.proofs.Common.{arith, refl, sym, ap, subst, ◌∙◌}
+use Rattle.std.specs.FinMap.{get}
+use Rattle.std.specs.Int.{from_be_bytes, w32}
+use Rattle.m88_base.specs.Pages.{page_bytes}
+use Rattle.m88_isa.proofs.Changed.{same_among}
+use Rattle.m88_isa.specs.Bus.{changed_among, in_words}
+use Rattle.m88_isa.specs.Lanes.{AreBytes}
+use Rattle.m88_mem.specs.DataBus.{page_words}
+use Rattle.m88_pager.proofs.Coming.{none_there}
+use Rattle.m88_pager.proofs.Words.{bytes_back, word_read, words_there}
+use Rattle.m88_pager.specs.Inside.Bytes.{AreWords, in_bytes}
+use Rattle.m88_pager.specs.Inside.Contents.{StandsFor, behind, over}
+use Rattle.m88_pager.specs.Inside.Seen.{ComesFrom}
+use Rattle.m88_pager.specs.Inside.Told.{AreChanged, StandsAlone}
+use Rattle.m88_pager.specs.Pages.{page_of}
+use Rattle.m88_pager.specs.Store.{PageMap}
+
+-- pages that are the same have the same words
+same_words : (old new : ℕ → ℕ) (page place : ℕ) → AreWords old → AreWords new → place % 4 ≡ 0 → place < 4096 →
+    page_of (in_bytes old) page ≡ page_of (in_bytes new) page →
+    old (page * 4096 + place) ≡ new (page * 4096 + place)
+same_words old new page place olds news at h same =
+    sym (word_read old page place (page_of (in_bytes old) page) olds at h refl)
+    ∙ word_read new page place (page_of (in_bytes old) page) news at h same
+
+-- so they add none
+pub no_word_more : (page : ℕ) (old new : ℕ → ℕ) → AreWords old → AreWords new →
+    page_of (in_bytes old) page ≡ page_of (in_bytes new) page →
+    changed_among (page * page_words) old new ≡ changed_among ((page + 1) * page_words) old new
+no_word_more page old new olds news same =
+    sym (ap (λ n. changed_among n old new) (omega arith)
+    ∙ same_among (page * page_words) page_words old new (λ k low high.
+    let at : page * 4096 + (k * 4 % 4096) ≡ 4 * k = omega (arith, low, high) in
+    ap old (sym at) ∙ same_words old new page (k * 4 % 4096) olds news (omega arith) (omega arith) same ∙ ap new at))
+
+-- memory at first by its words
+pub first_page : (original : ℕ → ℕ) (page : ℕ) → AreBytes original → page_of original page ≡ page_of (in_bytes (in_words original)) page
+first_page original page bytes = ap (λ (memory : ℕ → ℕ). page_of memory page) (sym (bytes_back original bytes))
+
+-- a page that no store holds is that of memory at first
+alone_page : (original bus : ℕ → ℕ) (written held : ℕ → Bool) (pages : PageMap) (page : ℕ) →
+    StandsFor (page_of original) (page_of (in_bytes bus)) written held [] pages →
+    behind (page_of original) pages page ≡ page_of (in_bytes bus) page
+unfolding over
+alone_page original bus written held pages page s = ap (λ (g : ℕ → List ℕ). g page) s.same
+
+unheld_page : (original bus : ℕ → ℕ) (written held : ℕ → Bool) (pages : PageMap) (page : ℕ) →
+    StandsFor (page_of original) (page_of (in_bytes bus)) written held [] pages → held page ≡ false →
+    page_of original page ≡ page_of (in_bytes bus) page
+unfolding behind
+unheld_page original bus written held pages page s none =
+    sym (none_there (get pages page) (page_of original page) (s.held_are page ∙ none))
+    ∙ alone_page original bus written held pages page s
+
+pub unheld_more : (original : ℕ → ℕ) (held : ℕ → Bool) (told : Option PageMap) (page : ℕ) (words : List (ℕ × ℕ)) → held page ≡ false →
+    AreChanged original held told (page * page_words) words →
+    AreChanged original held told ((page + 1) * page_words) words
+unheld_more original held None page words none so = λ bus written s bytes news. absurd s
+unheld_more original held (Some pages) page words none so = λ bus written s bytes news.
+    so bus written s bytes news
+    ∙ no_word_more page (in_words original) bus (words_there original bytes) news
+    (sym (first_page original page bytes) ∙ unheld_page original bus written held pages page s none)
+
+-- and one that is held is as memory has it now
+pub held_page : (original bus : ℕ → ℕ) (written held : ℕ → Bool) (told : Option PageMap) (page : ℕ) (bytes : List ℕ) →
+    StandsAlone original bus written held told → ComesFrom (page_of original) held told page bytes →
+    bytes ≡ page_of (in_bytes bus) page
+held_page original bus written held None page bytes s comes = absurd s
+held_page original bus written held (Some pages) page bytes s comes =
+    comes s.held_are ∙ alone_page original bus written held pages page s

@@ -1,0 +1,106 @@
+-- A frame is taken out of its place, and one is put in front.
+use Rattle.std.specs.Prelude.{ℕ, zero, suc, Bool, true, false, List, [], ◌∷◌, All, Option, Some, None, ◌≡◌, ◌<◌, ◌≤◌, ◌+◌, ◌-◌, ◌==◌, cond, length, map, nat_eq, nat_lt, option_map, take, if◌then◌else◌}
+use Rattle.std.proofs.Common.{arith, refl, sym, ap, subst, ◌∙◌}
+use Rattle.std.proofs.lemmas.Bool.{eqb-true}
+use Rattle.std.proofs.lemmas.Bool.Decides.{nat_tests}
+use Rattle.std.proofs.lemmas.Cmp.{nat_eq_equiv}
+use Rattle.std.proofs.lemmas.List.{take_all}
+use Rattle.std.proofs.lemmas.List.Elements.{All-cons}
+use Rattle.std.proofs.lemmas.Map.{lookup-remove_entry}
+use Rattle.std.specs.List.{IsDistinct}
+use Rattle.std.specs.Map.{keys_of, lookup, lookup_entry, remove_entry}
+use Rattle.lru.specs.LruCache.{LruCache, put_entries}
+use Rattle.m88_base.specs.Pages.{page_bytes}
+use Rattle.m88_pager.proofs.Counts.{frames_at, lookup_marked, removed_marked}
+use Rattle.m88_pager.proofs.Layers.{by_test}
+use Rattle.m88_pager.proofs.Standing.{stands_come}
+use Rattle.m88_pager.specs.Frames.{Frames, fetched, fetched_as}
+use Rattle.m88_pager.specs.Inside.Contents.{Stands}
+use Rattle.m88_pager.specs.Inside.Seen.{ComesFrom, IsWhole, kept, marked}
+use Rattle.m88_pager.specs.Store.{PageMap}
+use Rattle.m88_pager.specs.declared.frames.Frame.{Frame}
+
+-- a page that is put where it isn't
+none_entry : {V : Type 0} (test : ℕ → Bool) (es : List (ℕ × V)) → lookup test es ≡ None → lookup_entry test es ≡ None
+none_entry test [] h = refl
+none_entry test (e ∷ es) h = by_test (test e.0)
+    (λ t. let h' = rw t at h in absurd cc)
+    (λ f. rw f (none_entry test es (rw f at h)))
+
+pub put_new : {V : Type 0} (c : LruCache ℕ V) (k : ℕ) (v : V) → length c.entries < c.cap → lookup (nat_eq k) c.entries ≡ None →
+    put_entries nat_eq c k v ≡ (k, v) ∷ c.entries
+put_new c k v room h =
+    rw (none_entry (nat_eq k) c.entries h) (ap (λ es. (k, v) ∷ es) (take_all (c.cap - 1) c.entries (omega (arith, room))))
+
+-- a look-up that finds nothing finds nothing among those that stay
+none_in_front : (test : ℕ → Bool) (n : ℕ) (es : List (ℕ × Frame)) → lookup test es ≡ None → lookup test (take n es) ≡ None
+none_in_front test zero es h = refl
+none_in_front test (suc n) [] h = refl
+none_in_front test (suc n) (e ∷ es) h = by_test (test e.0)
+    (λ t. let h' = rw t at h in absurd cc)
+    (λ f. rw f (none_in_front test n es (rw f at h)))
+
+pub none_kept : (test : ℕ → Bool) (most : ℕ) (es : List (ℕ × Frame)) → lookup test es ≡ None → lookup test (kept most es) ≡ None
+none_kept test most es h = by_test (nat_lt (length es) most)
+    (λ t. rw t h)
+    (λ f. rw f (none_in_front test (length es - 1) es h))
+
+-- what is left of frames without one
+same_page : (page x y : ℕ) → nat_eq page x ≡ true → nat_eq page y ≡ nat_eq x y
+same_page page x y h = ap (λ (n : ℕ). nat_eq n y) (eqb-true page x h)
+
+pub none_left : (page : ℕ) (es : List (ℕ × Frame)) → IsDistinct nat_eq (keys_of es) → lookup (nat_eq page) (remove_entry (nat_eq page) es) ≡ None
+none_left page es apart =
+    let own : nat_eq page page ≡ true = grind (arith, nat_tests) in
+    lookup-remove_entry nat_eq_equiv (nat_eq page) (same_page page) page es apart ∙ rw own refl
+
+pub none_removed : (test : ℕ → Bool) (es : List (ℕ × Frame)) → lookup test es ≡ None → remove_entry test es ≡ es
+none_removed test [] h = refl
+none_removed test (e ∷ es) h = by_test (test e.0)
+    (λ t. let h' = rw t at h in absurd cc)
+    (λ f. rw f (ap (λ ys. e ∷ ys) (none_removed test es (rw f at h))))
+
+pub one_removed : (test : ℕ → Bool) (es : List (ℕ × Frame)) (frame : Frame) → lookup test es ≡ Some frame →
+    length (remove_entry test es) + 1 ≡ length es
+one_removed test [] frame h = absurd cc
+one_removed test (e ∷ es) frame h = by_test (test e.0)
+    (λ t. rw t (omega arith))
+    (λ f. let rest = one_removed test es frame (rw f at h) in rw f (omega (arith, rest)))
+
+pub whole_removed : (test : ℕ → Bool) (es : List (ℕ × Frame)) → All IsWhole es → All IsWhole (remove_entry test es)
+whole_removed test [] all = all
+whole_removed test (e ∷ es) all =
+    let rest : All IsWhole es = λ k d l. all (suc k) d (omega (arith, l)) in
+    by_test (test e.0)
+    (λ t. rw t rest)
+    (λ f. rw f (All-cons IsWhole e (remove_entry test es) (all 0 e (omega arith)) (whole_removed test es rest)))
+
+pub found_whole : (page : ℕ) (es : List (ℕ × Frame)) (frame : Frame) → All IsWhole es → lookup (nat_eq page) es ≡ Some frame →
+    length frame.bytes.items ≡ page_bytes
+found_whole page [] frame all h = absurd cc
+found_whole page (e ∷ es) frame all h = by_test (nat_eq page e.0)
+    (λ t.
+    let h' = rw t at h in
+    let same : e.1 ≡ frame = cc in
+    subst (λ (f : Frame). length f.bytes.items ≡ page_bytes) same (all 0 e (omega arith)).1)
+    (λ f. found_whole page es frame (λ k d l. all (suc k) d (omega (arith, l))) (rw f at h))
+
+-- as the definition has it
+pub taken_seen : (most page : ℕ) (frame : Frame) (es : List (ℕ × Frame)) (ins outs : ℕ) → lookup (nat_eq page) es ≡ Some frame →
+    frames_at (marked (page, frame) ∷ map marked (remove_entry (nat_eq page) es)) ins outs
+    ≡ fetched most page (frames_at (map marked es) ins outs)
+taken_seen most page frame es ins outs h =
+    rw (lookup_marked (nat_eq page) es, h, removed_marked (nat_eq page) es) refl
+
+pub come_seen : (most page : ℕ) (es : List (ℕ × Frame)) (ins outs : ℕ) → lookup (nat_eq page) es ≡ None →
+    fetched_as most page None (frames_at (map marked es) ins outs) ≡ fetched most page (frames_at (map marked es) ins outs)
+come_seen most page es ins outs h = rw (lookup_marked (nat_eq page) es, h) refl
+
+-- a page comes in, where a store tells its pages or not
+pub come_told : (original memory : ℕ → List ℕ) (written held : ℕ → Bool) (es : List (ℕ × Frame)) (page : ℕ) (frame : Frame)
+    (told : Option PageMap) → lookup (nat_eq page) es ≡ None → frame.dirty ≡ false → ComesFrom original held told page frame.bytes.items →
+    Stands original memory written held es told →
+    Stands original memory written held ((page, frame) ∷ es) told
+come_told original memory written held es page frame None none d comes s = tt
+come_told original memory written held es page frame (Some pages) none d comes s =
+    stands_come original memory written held es page frame pages none d (comes s.held_are) s

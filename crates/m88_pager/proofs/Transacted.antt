@@ -1,0 +1,178 @@
+-- The transactions that an event answers or finishes are the oldest pending ones, in order.
+use Rattle.std.specs.Prelude.{ℕ, zero, suc, Bool, true, false, List, [], ◌∷◌, ◌++◌, All, Option, Some, None, ◌≡◌, ◌<◌, ◌≤◌, ◌+◌, ◌-◌, drop, length, map, slice_index_or, take, if◌then◌else◌}
+use Rattle.std.proofs.Common.{add-one, append-nil, arith, length-drop, length-take, refl, sym, ap, ap₂, subst, ◌∙◌}
+use Rattle.std.proofs.lemmas.List.{get_or-take, take-append-le}
+use Rattle.m88_base.specs.Pages.{page_number}
+use Rattle.m88_base.specs.declared.triple.Triple.{Triple}
+use Rattle.m88_event.proofs.Follows.{Fits, fits, more_transactions}
+use Rattle.m88_event.specs.Choice.{Choice, answer_choice, choice_of, evicts, faults, finishes, holds, idles, issue_choice, issues, next_choice, passes, replies, serves, turn_choice}
+use Rattle.m88_event.specs.Local.{Local, move, move_by, situation_of}
+use Rattle.m88_event.specs.Situation.{record_of}
+use Rattle.m88_event.specs.Timeline.{DoneWereMade, Moment, after_choice, after_letter, situation_at}
+use Rattle.m88_event.specs.declared.letter.Letter.{Letter}
+use Rattle.m88_event.specs.declared.letter.Letter.TheVariants.{Issue, Answer, Evict}
+use Rattle.m88_event.specs.declared.record.Record.{Record}
+use Rattle.m88_isa.proofs.Told.{told_of}
+use Rattle.m88_isa.specs.Held.{Hold}
+use Rattle.m88_isa.specs.History.{change_accesses, pending_at, transaction_count, transactions, turn_accesses}
+use Rattle.m88_isa.specs.Machine.{Program, Turn, changes, outputs, stops}
+use Rattle.m88_isa.specs.Memory.{IsWordAccess}
+use Rattle.m88_isa.specs.Triples.{access_in, triples_of}
+use Rattle.m88_isa.specs.declared.planned.Access.{Access}
+use Rattle.m88_pager.specs.Inside.Seen.{IsWordTriple}
+
+-- the transactions that are done
+abbrev pub done_of : Program → Moment → List Access
+done_of p m = take m.done (transactions p m.retired)
+
+split_at : (d k : ℕ) (xs : List Access) → take (d + k) xs ≡ take d xs ++ take k (drop d xs)
+split_at d k xs = by_place d xs ∙ refl
+  where
+    by_place : (d : ℕ) (xs : List Access) → take (d + k) xs ≡ take d xs ++ take k (drop d xs)
+    by_place zero xs = let e : 0 + k ≡ k = omega arith in ap (λ (n : ℕ). take n xs) e
+    by_place (suc d) [] = let e : suc d + k ≡ suc (d + k) = omega arith in ap (λ (n : ℕ). take n (the_none)) e ∙ nothing k
+      where
+        the_none : List Access
+        the_none = []
+
+        nothing : (n : ℕ) → [] ≡ take n the_none
+        nothing zero = refl
+        nothing (suc n) = refl
+    by_place (suc d) (x ∷ xs) =
+        let e : suc d + k ≡ suc (d + k) = omega arith in
+        ap (λ (n : ℕ). take n (x ∷ xs)) e ∙ ap (λ (ys : List Access). x ∷ ys) (by_place d xs)
+
+-- so many more of the same are done
+more_done : (p : Program) (n done now : ℕ) → done ≤ now →
+    take now (transactions p n) ≡ take done (transactions p n) ++ take (now - done) (pending_at p n done)
+more_done p n done now h =
+    let e : now ≡ done + (now - done) = omega (arith, h) in
+    ap (λ (k : ℕ). take k (transactions p n)) e ∙ split_at done (now - done) (transactions p n)
+
+none_done : (p : Program) (n done : ℕ) → take done (transactions p n) ≡ take done (transactions p n) ++ take (done - done) (pending_at p n done)
+none_done p n done = more_done p n done done (omega arith)
+
+-- none is done where an instruction is retired
+turn_done : (p : Program) (n done : ℕ) (turn : List Access) → transactions p (n + 1) ≡ transactions p n ++ turn → done ≤ transaction_count p n →
+    take done (transactions p (n + 1)) ≡ take done (transactions p n) ++ take (done - done) (pending_at p n done)
+turn_done p n done turn more h =
+    ap (take done) more ∙ take-append-le done (transactions p n) turn h ∙ none_done p n done
+
+by_choice : (p : Program) (m : Moment) (choice : Choice) (fault : Record) → m.done ≤ transaction_count p m.retired → Fits p m choice →
+    done_of p (after_choice p choice fault m)
+    ≡ done_of p m ++ take ((after_choice p choice fault m).done - m.done) (pending_at p m.retired m.done)
+by_choice p m idles fault made fit = none_done p m.retired m.done
+by_choice p m passes fault made fit = none_done p m.retired m.done
+by_choice p m (holds why) fault made fit = none_done p m.retired m.done
+by_choice p m (issues change) fault made fit =
+    turn_done p m.retired m.done (change_accesses change) (more_transactions p m.retired (changes change) fit.0) made
+by_choice p m (serves byte) fault made fit =
+    turn_done p m.retired m.done [] (more_transactions p m.retired (outputs byte) fit.0) made
+by_choice p m (finishes stop) fault made fit = none_done p m.retired m.done
+by_choice p m replies fault made fit = more_done p m.retired m.done (m.done + 1) (omega arith)
+by_choice p m faults fault made fit = more_done p m.retired m.done (transaction_count p m.retired) made
+by_choice p m evicts fault made fit = none_done p m.retired m.done
+
+pub done_ahead : (p : Program) (named : ℕ → Bool) (limit : ℕ) (letter : Letter) (m : Moment) → DoneWereMade p m →
+    done_of p (after_letter p named limit letter m)
+    ≡ done_of p m ++ take ((after_letter p named limit letter m).done - m.done) (pending_at p m.retired m.done)
+unfolding after_letter
+done_ahead p named limit letter m made =
+    by_choice p m (choice_of p letter (situation_at p named limit m)) (record_of p (situation_at p named limit m)) made
+    (fits p named limit letter m)
+
+-- what a board shows of it: no fewer are done, and no more than were pending
+Between : Local → Local → Type 0
+Between old new = (old.done ≤ new.done) × (new.done ≤ old.done + length old.pending)
+
+between_turn : (turn : Turn) (fault : Record) (l : Local) → Between l (move_by (turn_choice turn) fault l)
+unfolding Between
+between_turn (changes change) fault l = (omega arith, omega arith)
+between_turn (outputs byte) fault l = (omega arith, omega arith)
+between_turn (stops stop) fault l = (omega arith, omega arith)
+
+between_hold : (why : Option Hold) (turn : Turn) (fault : Record) (l : Local) → Between l (move_by (next_choice why turn) fault l)
+unfolding Between
+between_hold None turn fault l = between_turn turn fault l
+between_hold (Some why) turn fault l = (omega arith, omega arith)
+
+between_issue : (idle bubble : Bool) (why : Option Hold) (turn : Turn) (fault : Record) (l : Local) →
+    Between l (move_by (issue_choice idle bubble why turn) fault l)
+unfolding Between
+between_issue true bubble why turn fault l = (omega arith, omega arith)
+between_issue false true why turn fault l = (omega arith, omega arith)
+between_issue false false why turn fault l = between_hold why turn fault l
+
+between_page : (absent : Bool) (fault : Record) (l : Local) → 1 ≤ length l.pending → Between l (move_by (if absent then faults else replies) fault l)
+unfolding Between
+between_page true fault l h = (omega arith, omega arith)
+between_page false fault l h = (omega arith, omega (arith, h))
+
+between_answer : (pending : List Access) (absent : ℕ → Bool) (fault : Record) (l : Local) → length pending ≤ length l.pending →
+    Between l (move_by (answer_choice pending absent) fault l)
+unfolding Between
+between_answer [] absent fault l h = (omega arith, omega arith)
+between_answer (a ∷ pending) absent fault l h = between_page (absent (page_number a.addr)) fault l (omega (arith, h))
+
+by_letter : (p : Program) (limit : ℕ) (letter : Letter) (fault : Record) (l : Local) →
+    Between l (move_by (choice_of p letter (situation_of limit l)) fault l)
+unfolding Between situation_of
+by_letter p limit Issue fault l = between_issue _ _ _ _ fault l
+by_letter p limit Answer fault l = between_answer l.pending l.absent fault l (omega arith)
+by_letter p limit Evict fault l = (omega arith, omega arith)
+
+pub done_between : (p : Program) (limit : ℕ) (letter : Letter) (l : Local) →
+    (l.done ≤ (move p limit letter l).done) × ((move p limit letter l).done ≤ l.done + length l.pending)
+unfolding move Between
+done_between p limit letter l = by_letter p limit letter (record_of p (situation_of limit l)) l
+
+-- the words of pending transactions tell the first of them
+first_word : (a : Access) (rest : List Access) → All IsWordAccess (a ∷ rest) → IsWordAccess a
+first_word a rest all = all 0 a (omega arith)
+
+rest_words : (a : Access) (rest : List Access) → All IsWordAccess (a ∷ rest) → All IsWordAccess rest
+rest_words a rest all = λ k d h. all (suc k) d (omega (arith, h))
+
+pub told_front : (count : ℕ) (pending : List Access) → count ≤ length pending → length pending ≤ 3 → All IsWordAccess pending →
+    map access_in (take count (triples_of pending)) ≡ take count pending
+told_front zero pending h few made = refl
+told_front (suc zero) [] h few made = absurd (omega (arith, h))
+told_front (suc zero) (a ∷ rest) h few made = ap (λ (x : Access). x ∷ []) (told_of a (first_word a rest made))
+told_front (suc (suc zero)) [] h few made = absurd (omega (arith, h))
+told_front (suc (suc zero)) (a ∷ []) h few made = absurd (omega (arith, h))
+told_front (suc (suc zero)) (a ∷ b ∷ rest) h few made =
+    let second = first_word b rest (rest_words a (b ∷ rest) made) in
+    ap₂ (λ (x y : Access). x ∷ y ∷ []) (told_of a (first_word a (b ∷ rest) made)) (told_of b second)
+told_front (suc (suc (suc zero))) [] h few made = absurd (omega (arith, h))
+told_front (suc (suc (suc zero))) (a ∷ []) h few made = absurd (omega (arith, h))
+told_front (suc (suc (suc zero))) (a ∷ b ∷ []) h few made = absurd (omega (arith, h))
+told_front (suc (suc (suc zero))) (a ∷ b ∷ c ∷ rest) h few made =
+    let first = told_of a (first_word a (b ∷ c ∷ rest) made) in
+    let second = told_of b (first_word b (c ∷ rest) (rest_words a (b ∷ c ∷ rest) made)) in
+    let third = told_of c (first_word c rest (rest_words b (c ∷ rest) (rest_words a (b ∷ c ∷ rest) made))) in
+    λ i. first i ∷ second i ∷ third i ∷ []
+told_front (suc (suc (suc (suc n)))) pending h few made = absurd (omega (arith, h, few))
+
+-- and are those of accesses
+mapped_at : (words : List Triple) (k : ℕ) (d : Triple) → k < length words →
+    slice_index_or (map access_in words) k (access_in d) ≡ access_in (slice_index_or words k d)
+mapped_at [] k d h = refl
+mapped_at (w ∷ words) zero d h = refl
+mapped_at (w ∷ words) (suc k) d h = mapped_at words k d (omega (arith, h))
+
+mapped_length : (words : List Triple) → length (map access_in words) ≡ length words
+mapped_length [] = refl
+mapped_length (w ∷ words) = ap suc (mapped_length words)
+
+pub made_front : (count : ℕ) (pending : List Access) → count ≤ length pending → length pending ≤ 3 → All IsWordAccess pending →
+    All IsWordTriple (take count (triples_of pending))
+made_front count pending h few made = λ k d l.
+    let words : List Triple = take count (triples_of pending) in
+    let told = told_front count pending h few made in
+    let long : length words ≡ length (take count pending) = sym (mapped_length words) ∙ ap (λ (xs : List Access). length xs) told in
+    let taken = length-take count pending in
+    subst IsWordAccess (
+    sym (get_or-take count pending k (access_in d) (omega (arith, l, long, taken)))
+    ∙ sym (ap (λ (xs : List Access). slice_index_or xs k (access_in d)) told)
+    ∙ mapped_at words k d l
+    ) (made k (access_in d) (omega (arith, l, long, taken, h)))

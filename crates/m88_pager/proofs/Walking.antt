@@ -1,0 +1,238 @@
+-- A board and its frames go along the letters of a run.
+use Rattle.std.specs.Prelude.{ℕ, zero, suc, Bool, true, false, List, [], ◌∷◌, ◌++◌, Option, Some, None, IfSome, ◌≡◌, ◌<◌, ◌≤◌, ◌+◌, ◌-◌, ◌*◌, ◌^◌, ◌==◌, ◌||◌, is_some, length, map, take, unwrap_or, if◌then◌else◌}
+use Rattle.std.proofs.Common.{add-one, arith, refl, sym, ap, ap₂, subst, ◌∙◌}
+use Rattle.std.proofs.Math.Path.{fun_ext}
+use Rattle.std.proofs.lemmas.List.{take_all}
+use Rattle.std.proofs.lemmas.Bool.{eqb-true}
+use Rattle.std.specs.FinMap.{empty, get, get-empty}
+use Rattle.std.specs.Ordering.{nat_cmp}
+use Rattle.m88_base.specs.Image.{IsImage, ProgramImage, byte_at}
+use Rattle.m88_board.proofs.AtMoment.{done_at}
+use Rattle.m88_board.proofs.Starting.{same_bytes}
+use Rattle.m88_board.proofs.Walking.{not_yet}
+use Rattle.m88_board.specs.Board.{BoardView, local_of}
+use Rattle.m88_board.specs.Kept.{IsKept}
+use Rattle.m88_board.specs.Moves.{IsAt}
+use Rattle.m88_event.proofs.Bound.{lessens}
+use Rattle.m88_event.proofs.Over.{same_over}
+use Rattle.m88_event.specs.Bound.{weight}
+use Rattle.m88_event.specs.Letters.{letter_at}
+use Rattle.m88_event.specs.Local.{Local, is_over_by, local_at, move}
+use Rattle.m88_event.specs.Run.{IsOutcome, NotBefore, moment_after, moment_along, outcome_at}
+use Rattle.m88_event.specs.Timeline.{Moment, after_letter, is_over, opening_moment}
+use Rattle.m88_event.specs.declared.letter.Letter.{Letter}
+use Rattle.m88_event.specs.declared.outcome.Outcome.{Outcome}
+use Rattle.m88_isa.proofs.ImageProgram.{program_of_image}
+use Rattle.m88_isa.proofs.InWords.{state_bus, state_bytes}
+use Rattle.m88_isa.specs.Bus.{bus_after_all, changed_among, changed_words, in_words}
+use Rattle.m88_isa.specs.History.{pending_at, transaction_count, transactions}
+use Rattle.m88_isa.specs.ImageProgram.{IsProgramOf}
+use Rattle.m88_isa.specs.Lanes.{AreBytes}
+use Rattle.m88_isa.specs.Machine.{IsProgram, Program, opening, state}
+use Rattle.m88_isa.specs.declared.planned.Access.{Access}
+use Rattle.m88_mem.specs.DataBus.{image_bus, image_bytes}
+use Rattle.m88_pager.proofs.Coming.{none_there}
+use Rattle.m88_pager.proofs.Transacted.{done_ahead, done_between, done_of}
+use Rattle.m88_pager.proofs.Words.{bytes_back, words_stay, words_there}
+use Rattle.m88_pager.specs.Frames.{Frames as FramesSeen, dirty_count, frames_after, ins_along, no_frames, outs_along}
+use Rattle.m88_pager.specs.Inside.Bytes.{AreWords, in_bytes}
+use Rattle.m88_pager.specs.Inside.Contents.{AreClean, Stands, StandsFor, behind, is_dirty_in, over}
+use Rattle.m88_pager.specs.Inside.Seen.{AreCarried, IsWhole, IsWithin, held_by, marked, seen_of}
+use Rattle.m88_pager.specs.Inside.Told.{AreChanged, StandsAlone}
+use Rattle.m88_pager.specs.Paged.{AreCounts, HoldsNoneWhereTold, Tells}
+use Rattle.m88_pager.specs.Pages.{HoldsWhereTold, HoldsWritten, page_of, writes_page}
+use Rattle.m88_pager.specs.Store.{PageMap}
+use Rattle.m88_pager.specs.declared.frames.Frame.{Frame}
+use Rattle.m88_pager.specs.declared.frames.Frames.{Frames}
+use Rattle.m88_pager.specs.declared.paged.Paged.{Paged}
+
+-- no fewer transactions are done after an event, and no more than were pending
+pub done_grew : (p : Program) (letter : Letter) (b c : BoardView) → local_of c ≡ move p b.limit letter (local_of b) →
+    (b.done ≤ c.done) × (c.done ≤ b.done + length b.pending)
+unfolding local_of
+done_grew p letter b c moved =
+    let between = done_between p b.limit letter (local_of b) in
+    let done = ap (λ (l : Local). l.done) moved in
+    let low = between.0 in
+    let high = between.1 in
+    (omega (arith, low, done), omega (arith, high, done))
+
+-- it takes something off the weight of what is left of a run
+pub less_weight : (p : Program) (letter : Letter) (b c : BoardView) (schedule : List Letter) (taken : ℕ) → IsKept b →
+    IsProgramOf b.memory.image p → local_of c ≡ move p b.limit letter (local_of b) → is_over_by b.limit (local_of b) ≡ false →
+    letter ≡ letter_at schedule taken →
+    weight schedule b.limit (taken + 1) (local_of c) < weight schedule b.limit taken (local_of b)
+unfolding local_of
+less_weight p letter b c schedule taken kept of moved goes next =
+    let is = program_of_image b.memory.image p kept.image of in
+    let less = lessens p b.limit schedule taken (local_of b) is kept.within goes in
+    let same = ap (weight schedule b.limit (taken + 1)) (moved ∙ ap (λ (x : Letter). move p b.limit x (local_of b)) next) in
+    omega (arith, less, same)
+
+-- the bytes of an image are bytes
+byte_there : (byte : Option ℕ) (a : ℕ) → IfSome byte (λ b. (a < 2 ^ 32) × (b < 256)) → unwrap_or byte 0 < 2 ^ 8
+byte_there None a h = omega arith
+byte_there (Some b) a h = h.1
+
+pub bytes_there : (image : ProgramImage) → IsImage image → AreBytes (image_bytes image)
+unfolding image_bytes
+bytes_there image is a = byte_there (byte_at image a) a (is.bytes a)
+
+-- nothing is carried out yet
+none_held : (original : ℕ → ℕ) (held : ℕ → Bool) → AreBytes original → ((page : ℕ) → held page ≡ false) →
+    StandsFor (page_of original) (page_of (in_bytes (in_words original))) (λ page. false) held [] empty
+unfolding over behind AreClean is_dirty_in
+none_held original held bytes none = record {
+  same = fun_ext (λ page.
+      ap (λ (o : Option (List ℕ)). unwrap_or o (page_of original page)) (get-empty nat_cmp page)
+      ∙ ap (λ (memory : ℕ → ℕ). page_of memory page) (sym (bytes_back original bytes)));
+  clean = tt;
+  written_are = λ page. ap (λ (o : Option (List ℕ)). is_some o || false) (get-empty nat_cmp page);
+  held_are = λ page. ap (λ (o : Option (List ℕ)). is_some o) (get-empty nat_cmp page) ∙ sym (none page);
+}
+
+none_told : (original : ℕ → ℕ) (held : ℕ → Bool) (told : Option PageMap) → AreBytes original → ((page : ℕ) → held page ≡ false) →
+    HoldsNoneWhereTold told →
+    Stands (page_of original) (page_of (in_bytes (in_words original))) (λ page. false) held [] told
+none_told original held None bytes none holds = tt
+none_told original held (Some pages) bytes none holds =
+    subst (λ (m : PageMap). StandsFor (page_of original) (page_of (in_bytes (in_words original))) (λ page. false) held [] m) (sym holds)
+    (none_held original held bytes none)
+
+pub none_carried : (original : ℕ → ℕ) (most : ℕ) (f : Frames) (told : Option PageMap) → AreBytes original → f.cache.entries ≡ [] →
+    f.cache.cap ≡ most → ((page : ℕ) → held_by f page ≡ false) → f.ins ≡ 0 → f.outs ≡ 0 → HoldsNoneWhereTold told →
+    AreCarried original most [] f told
+unfolding frames_after bus_after_all
+none_carried original most f told bytes none cap held ins outs holds = record {
+  bytes = bytes;
+  whole = subst (λ (es : List (ℕ × Frame)). (k : ℕ) (d : ℕ × Frame) → k < length es → IsWhole (Rattle.std.specs.Prelude.slice_index_or es k d)) (sym none)
+      (λ k d h. absurd (omega (arith, h)));
+  cap = cap;
+  counts = λ i. record { pages = map marked (none i); ins = ins i; outs = outs i };
+  stands =
+      subst (λ (es : List (ℕ × Frame)). Stands (page_of original) (page_of (in_bytes (in_words original))) (λ page. false) (held_by f) es told)
+      (sym none) (none_told original (held_by f) told bytes held holds);
+}
+
+-- where a board and its frames are after as many events, before none of which the run was over
+pub record IsThere (p : Program) (named : ℕ → Bool) (limit : ℕ) (schedule : List Letter) (k : ℕ) (original : ℕ → ℕ) (most : ℕ)
+    (b : BoardView) (f : Frames) (told : Option PageMap) : Type 0 where
+  pub at : IsAt p named (moment_after p named limit schedule k) b
+  pub first : NotBefore (λ j. is_over p limit (moment_after p named limit schedule j)) k
+  pub carried : AreCarried original most (done_of p (moment_after p named limit schedule k)) f told
+
+pub there_first : (p : Program) (named : ℕ → Bool) (limit : ℕ) (schedule : List Letter) (original : ℕ → ℕ) (most : ℕ) (b : BoardView)
+    (f : Frames) (told : Option PageMap) → IsAt p named opening_moment b → AreCarried original most [] f told →
+    IsThere p named limit schedule 0 original most b f told
+unfolding moment_along transactions
+there_first p named limit schedule original most b f told at carried = record {
+  at = at;
+  first = λ j h. absurd (omega (arith, h));
+  carried = carried;
+}
+
+-- whether the run is over is seen
+pub over_there : (p : Program) (named : ℕ → Bool) (limit : ℕ) (m : Moment) (b : BoardView) → IsAt p named m b →
+    is_over p limit m ≡ is_over_by limit (local_of b)
+over_there p named limit m b at = sym (same_over p named limit m at.within) ∙ ap (is_over_by limit) (sym at.seen)
+
+pending_there : (p : Program) (named : ℕ → Bool) (m : Moment) (b : BoardView) → IsAt p named m b → b.pending ≡ pending_at p m.retired m.done
+unfolding local_of local_at
+pending_there p named m b at = ap (λ (l : Local). l.pending) at.seen
+
+pub there_next : (p : Program) (named : ℕ → Bool) (limit : ℕ) (schedule : List Letter) (k : ℕ) (original : ℕ → ℕ) (most : ℕ)
+    (b c : BoardView) (f g : Frames) (told now : Option PageMap) (letter : Letter) →
+    b.limit ≡ limit →
+    letter ≡ letter_at schedule k →
+    is_over_by limit (local_of b) ≡ false →
+    IsThere p named limit schedule k original most b f told →
+    ((m : Moment) → IsAt p named m b → IsAt p named (after_letter p named b.limit letter m) c) →
+    ((accesses : List Access) → AreCarried original most accesses f told →
+    AreCarried original most (accesses ++ take (c.done - b.done) b.pending) g now) →
+    IsThere p named limit schedule (k + 1) original most c g now
+unfolding moment_along
+there_next p named limit schedule k original most b c f g told now letter limits next goes there timeline carries =
+    let m : Moment = moment_after p named limit schedule k in
+    let n : Moment = after_letter p named limit (letter_at schedule k) m in
+    let same : after_letter p named b.limit letter m ≡ n =
+    ap₂ (λ (most : ℕ) (x : Letter). after_letter p named most x m) limits next in
+    let at : IsAt p named n c = subst (λ (x : Moment). IsAt p named x c) same (timeline m there.at) in
+    let path : done_of p m ++ take (c.done - b.done) b.pending ≡ done_of p n =
+    ap₂ (λ (count : ℕ) (xs : List Access). done_of p m ++ take count xs)
+    (ap₂ (λ (x y : ℕ). x - y) (done_at p named n c at) (done_at p named m b there.at)) (pending_there p named m b there.at)
+    ∙ sym (done_ahead p named limit (letter_at schedule k) m there.at.within) in
+    subst (λ (j : ℕ). IsThere p named limit schedule j original most c g now) (sym (add-one k)) (record {
+      at = at;
+      first = not_yet (λ j. is_over p limit (moment_after p named limit schedule j)) k there.first
+          (over_there p named limit m b there.at ∙ goes);
+      carried = subst (λ (xs : List Access). AreCarried original most xs g now) path (carries (done_of p m) there.carried);
+    })
+
+-- all transactions are done once the run is over
+both_of : (a b : Bool) → (Rattle.std.specs.Prelude.◌&&◌ a b) ≡ true → a ≡ true
+both_of true b h = refl
+both_of false b h = absurd cc
+
+pub all_done : (p : Program) (limit : ℕ) (m : Moment) → is_over p limit m ≡ true → done_of p m ≡ transactions p m.retired
+all_done p limit m over =
+    let done : m.done ≡ transaction_count p m.retired = eqb-true m.done (transaction_count p m.retired) (both_of _ _ over) in
+    take_all m.done (transactions p m.retired) (omega (arith, done))
+
+-- what the pages of a store come to
+page_there : (o : Option (List ℕ)) (original now : List ℕ) (is_written : Bool) → unwrap_or o original ≡ now → (is_some o || false) ≡ is_written →
+    o ≡ (if is_written then Some now else None)
+page_there None original now is_written same marks = subst (λ (b : Bool). None ≡ (if b then Some now else None)) marks refl
+page_there (Some bytes) original now is_written same marks =
+    subst (λ (b : Bool). Some bytes ≡ (if b then Some now else None)) marks (ap Some same)
+
+pub holds_written : (original memory : ℕ → ℕ) (bus : ℕ → ℕ) (written held : ℕ → Bool) (told : Option PageMap) → bus ≡ in_words memory →
+    AreBytes memory → Stands (page_of original) (page_of (in_bytes bus)) written held [] told →
+    HoldsWhereTold written memory told
+unfolding over behind is_dirty_in
+holds_written original memory bus written held None is bytes s = tt
+holds_written original memory bus written held (Some pages) is bytes s = λ page.
+    page_there (get pages page) (page_of original page) (page_of memory page) (written page)
+    (ap (λ (g : ℕ → List ℕ). g page) s.same
+    ∙ ap (λ (b : ℕ → ℕ). page_of (in_bytes b) page) is
+    ∙ ap (λ (b : ℕ → ℕ). page_of b page) (bytes_back memory bytes))
+    (s.written_are page)
+
+pub stands_alone : (original bus : ℕ → ℕ) (written held : ℕ → Bool) (told : Option PageMap) → Tells told →
+    Stands (page_of original) (page_of (in_bytes bus)) written held [] told → StandsAlone original bus written held told
+stands_alone original bus written held None tells s = absurd tells
+stands_alone original bus written held (Some pages) tells s = s
+
+-- at first
+pub opens_empty : (p : Program) (named : ℕ → Bool) (b : BoardView) → IsAt p named opening_moment b → b.pending ≡ []
+unfolding local_of local_at transactions
+opens_empty p named b at = ap (λ (l : Local). l.pending) at.seen
+
+pub opens_empty_seen : (p : Program) (named : ℕ → Bool) (b : BoardView) → IsAt p named opening_moment b → (local_of b).pending ≡ []
+unfolding local_of local_at transactions
+opens_empty_seen p named b at = ap (λ (l : Local). l.pending) at.seen
+
+pub none_within : (n : ℕ) (f : Frames) → f.cache.entries ≡ [] → f.ins ≡ 0 → f.outs ≡ 0 → IsWithin n f
+none_within n f none ins outs = record {
+  whole = subst (λ (es : List (ℕ × Frame)). (k : ℕ) (d : ℕ × Frame) → k < length es → IsWhole (Rattle.std.specs.Prelude.slice_index_or es k d)) (sym none)
+      (λ k d h. absurd (omega (arith, h)));
+  ins = omega (arith, ins);
+  outs = omega (arith, outs);
+}
+
+-- once the run is over
+pub there_over : (p : Program) (named : ℕ → Bool) (limit : ℕ) (schedule : List Letter) (k : ℕ) (original : ℕ → ℕ) (most : ℕ)
+    (b : BoardView) (f : Frames) (told : Option PageMap) → b.limit ≡ limit → is_over_by b.limit (local_of b) ≡ true →
+    IsThere p named limit schedule k original most b f told →
+    (is_over p limit (moment_after p named limit schedule k) ≡ true)
+    × (is_over p b.limit (moment_after p named limit schedule k) ≡ true)
+    × AreCarried original most (transactions p (moment_after p named limit schedule k).retired) f told
+there_over p named limit schedule k original most b f told limits over there =
+    let m : Moment = moment_after p named limit schedule k in
+    let here : is_over p b.limit m ≡ true = over_there p named b.limit m b there.at ∙ over in
+    let so : is_over p limit m ≡ true = ap (λ (n : ℕ). is_over p n m) (sym limits) ∙ here in
+    (so, here, subst (λ (xs : List Access). AreCarried original most xs f told) (all_done p limit m so) there.carried)
+
+-- memory of a program at first is that of its image
+pub opens_so : (p : Program) (image : ProgramImage) → IsProgramOf image p → image_bus image ≡ in_words (opening p).memory
+unfolding opening
+opens_so p image of = same_bytes p image of

@@ -1,0 +1,49 @@
+-- One page less, until none is left.
+use Rattle.std.specs.Prelude.{ℕ, Bool, List, All, ◌≡◌, ◌<◌, ◌+◌, ◌-◌, length, map, slice_get, take}
+use Rattle.std.proofs.Common.{arith, length-take, refl, sym, ap, subst, ◌∙◌}
+use Rattle.m88_pager.proofs.Counts.{same_length}
+use Rattle.m88_pager.proofs.Flushing.{at_most_one, dirty_left, none_dirty, whole_front}
+use Rattle.m88_pager.specs.Frames.{Frames as FramesSeen, dirty_count, one_if_dirty}
+use Rattle.m88_pager.specs.Inside.Seen.{IsWhole, marked}
+use Rattle.m88_pager.specs.declared.frames.Frame.{Frame}
+use Rattle.m88_pager.proofs.frames.Frames.flush.Goals as goal
+
+pub loop-self-preserved : goal.loop-self-preserved
+loop-self-preserved g c =
+    let inv = c.loop-self.invariant in
+    let f = c.loop-self.self in
+    let now = c.leave.new.self in
+    let pages : List (ℕ × Bool) = map marked f.cache.entries in
+    let long : length pages ≡ length f.cache.entries = same_length f.cache.entries in
+    let there = c.loop-self-test.true in
+    let len = c.len.ensures.len in
+    let left = c.in_ok-leave.ensures.left in
+    let counts = c.in_ok-leave.ensures.counts in
+    let outs : now.outs ≡ f.outs + one_if_dirty (slice_get pages (length pages - 1)) = ap (λ (s : FramesSeen). s.outs) counts in
+    let ins : now.ins ≡ f.ins = ap (λ (s : FramesSeen). s.ins) counts in
+    let dirty : dirty_count (map marked now.cache.entries) ≡ dirty_count (take (length pages - 1) pages) =
+    ap (λ (s : FramesSeen). dirty_count s.pages) counts in
+    let sum = dirty_left pages (omega (arith, long, there, len)) in
+    let most = at_most_one (slice_get pages (length pages - 1)) in
+    let shorter : length now.cache.entries ≡ length (take (length f.cache.entries - 1) f.cache.entries) =
+    ap (λ (es : List (ℕ × Frame)). length es) left in
+    let taken = length-take (length f.cache.entries - 1) f.cache.entries in
+    let few = inv.few in
+    let so_far = inv.outs in
+    let before = inv.grows in
+    let more = c.leave.ensures.grows in
+    record {
+      whole = subst (All IsWhole) (sym left) (whole_front (length f.cache.entries - 1) f.cache.entries inv.whole);
+      ins = ins ∙ inv.ins;
+      few = omega (arith, few, outs, most, shorter, taken, there, len);
+      outs = omega (arith, so_far, outs, dirty, sum);
+      stands = λ original memory written s. c.in_ok-leave.ensures.stands original memory written (inv.stands original memory written s);
+      grows = omega (arith, before, more);
+    }
+
+pub returns-clause-outs : goal.returns-clause-outs
+returns-clause-outs g c =
+    let so_far = c.loop-self.invariant.outs in
+    let none = none_dirty (map marked c.loop-self.self.cache.entries)
+    (same_length c.loop-self.self.cache.entries ∙ omega (arith, c.loop-self-test.false, c.len.ensures.len)) in
+    omega (arith, so_far, none)

@@ -1,0 +1,16 @@
+-- Why a paged run ended without an outcome.
+use Rattle.std.specs.Prelude.{ℕ, Result, IsErrOf}
+use Rattle.m88_base.specs.Causes.{Rose}
+use Rattle.m88_pager.specs.declared.paged.PageEnd.{PageEnd}
+use Rattle.m88_pager.specs.declared.paged.PageEnd.TheVariants as end
+use Rattle.m88_pager.specs.declared.store.StoreError.{StoreError}
+use Rattle.m88_pager.specs.declared.store.StoreError.TheVariants as error
+
+-- where a store answered an error
+abbrev pub end_of : StoreError → PageEnd
+end_of error.Failed = end.StoreFault
+end_of error.Memory = end.Memory
+
+-- it ends by a fault of the store only where the count of faults rose
+abbrev pub EndsByCount : {T : Type 0} → ℕ → ℕ → Result T PageEnd → Type 0
+EndsByCount before after result = IsErrOf result end.StoreFault → Rose before after

@@ -1,0 +1,6 @@
+-- What the contracts of private functions cite.
+pub mod Bytes
+pub mod Contents
+pub mod Seen
+pub mod Told
+pub mod Came

@@ -1,0 +1,17 @@
+-- Memory by bytes where its words are told.
+use Rattle.std.specs.Prelude.{ℕ, List, ◌≡◌, ◌<◌, ◌+◌, ◌^◌, ◌%◌, length, slice_index_or}
+use Rattle.m88_isa.specs.Address.{word_address}
+use Rattle.m88_isa.specs.Lanes.{byte_of}
+
+-- at each address the byte of the word that it lies in
+unfoldable pub in_bytes : (ℕ → ℕ) → ℕ → ℕ
+in_bytes bus a = byte_of (bus (word_address a)) (a % 4)
+
+-- words are words: each address has a number below 2^32
+abbrev pub AreWords : (ℕ → ℕ) → Type 0
+AreWords bus = (a : ℕ) → bus a < 2 ^ 32
+
+-- some bytes are those of memory from an address on
+abbrev pub HoldsFrom : (ℕ → ℕ) → ℕ → List ℕ → Type 0
+HoldsFrom memory start bytes =
+    (place : ℕ) → place < length bytes → slice_index_or bytes place 0 ≡ memory (start + place)

@@ -1,0 +1,21 @@
+-- What a store that tells its pages has once no page stands in a frame.
+use Rattle.std.specs.Prelude.{ℕ, Bool, List, [], Option, Some, None, ◌≡◌}
+use Rattle.m88_isa.specs.Bus.{changed_among, in_words}
+use Rattle.m88_isa.specs.Lanes.{AreBytes}
+use Rattle.m88_pager.specs.Inside.Bytes.{AreWords, in_bytes}
+use Rattle.m88_pager.specs.Inside.Contents.{StandsFor}
+use Rattle.m88_pager.specs.Pages.{page_of}
+use Rattle.m88_pager.specs.Store.{PageMap}
+
+-- it tells its pages, which stand for memory by words
+abbrev pub StandsAlone : (ℕ → ℕ) → (ℕ → ℕ) → (ℕ → Bool) → (ℕ → Bool) → Option PageMap → Type 0
+StandsAlone original bus written held None = ⊥
+StandsAlone original bus written held (Some pages) =
+    StandsFor (page_of original) (page_of (in_bytes bus)) written held [] pages
+
+-- words are those that changed among the first so many, where it does
+abbrev pub AreChanged : (ℕ → ℕ) → (ℕ → Bool) → Option PageMap → ℕ → List (ℕ × ℕ) → Type 0
+AreChanged original held told count words =
+    (bus : ℕ → ℕ) (written : ℕ → Bool) → StandsAlone original bus written held told
+    → AreBytes original → AreWords bus
+    → words ≡ changed_among count (in_words original) bus

@@ -1,0 +1,35 @@
+-- What a paged run comes to.
+use Rattle.std.specs.Prelude.{ℕ, Bool, true, List, Option, Some, None, ◌≡◌}
+use Rattle.std.specs.FinMap.{empty}
+use Rattle.m88_event.specs.Run.{IsOutcome}
+use Rattle.m88_event.specs.declared.letter.Letter.{Letter}
+use Rattle.m88_event.specs.declared.outcome.Outcome.{Outcome}
+use Rattle.m88_isa.specs.History.{transactions}
+use Rattle.m88_isa.specs.Machine.{Program}
+use Rattle.m88_pager.specs.Frames.{ins_along, outs_along}
+use Rattle.m88_pager.specs.Store.{PageMap}
+use Rattle.m88_pager.specs.declared.paged.Paged.{Paged}
+
+-- the most frames that there may be
+abbrev pub most_frames : ℕ
+most_frames = 64
+
+-- a store that tells its pages holds none
+abbrev pub HoldsNoneWhereTold : Option PageMap → Type 0
+HoldsNoneWhereTold None = Unit {0}
+HoldsNoneWhereTold (Some pages) = pages ≡ empty
+
+-- a store tells its pages
+abbrev pub Tells : Option PageMap → Type 0
+Tells None = ⊥
+Tells (Some pages) = Unit {0}
+
+-- the counts are those of so many frames along the transactions of the instructions that were retired
+pub record AreCounts (p : Program) (frames : ℕ) (o : Paged) : Type 0 where
+  pub ins : o.ins ≡ ins_along frames (transactions p o.outcome.retired)
+  pub outs : o.outs ≡ outs_along frames (transactions p o.outcome.retired)
+
+-- it is the outcome of the run but for the words that changed
+abbrev pub IsOutcomeButWords : Program → (ℕ → Bool) → ℕ → List Letter → Outcome → Type 0
+IsOutcomeButWords p named limit schedule o =
+    (words : List (ℕ × ℕ)) × IsOutcome p named limit schedule (record o { changed = words })

@@ -1,0 +1,26 @@
+-- What a store of pages promises, by the pages that it holds, where it tells them.
+use Rattle.std.specs.Prelude.{ℕ, Bool, true, false, List, Option, Some, None, Result, IsErrOf, ◌≡◌}
+use Rattle.std.specs.FinMap.{FinMap, get}
+use Rattle.std.specs.Ordering.{nat_cmp}
+use Rattle.m88_base.specs.Causes.{Rose}
+use Rattle.m88_pager.specs.declared.store.StoreError.{StoreError}
+use Rattle.m88_pager.specs.declared.store.StoreError.TheVariants.{Failed}
+
+-- pages by their numbers, each with its bytes
+abbrev pub PageMap : Type 0
+PageMap = FinMap nat_cmp (List ℕ)
+
+-- a page that is held comes with its bytes; where one isn't held, what is there stays
+abbrev pub Finds : Option (List ℕ) → Bool → List ℕ → List ℕ → Type 0
+Finds None held before after = (held ≡ false) × (after ≡ before)
+Finds (Some bytes) held before after = (held ≡ true) × (after ≡ bytes)
+
+-- what a read of a page answers and leaves. Of a store that doesn't tell its pages it is known only that what is there
+-- stays where it says that the page isn't held.
+abbrev pub Reads : Option PageMap → ℕ → Bool → List ℕ → List ℕ → Type 0
+Reads None page held before after = held ≡ false → after ≡ before
+Reads (Some pages) page held before after = Finds (get pages page) held before after
+
+-- a call fails only where the count of faults rose in it
+abbrev pub FailsByCount : {T : Type 0} → ℕ → ℕ → Result T StoreError → Type 0
+FailsByCount before after result = IsErrOf result Failed → Rose before after

@@ -1,0 +1,161 @@
+//! A store of pages in memory that fails where it is told to.
+
+ghost use Rattle.std.specs.Prelude.{ℕ, ◌≡◌, ◌≤◌, ◌↔◌, Err, Some, IsTrue, IfOk, IfErr, IfSome, IsErr, OnErr, OnOk, Contains, length};
+ghost use Rattle.std.specs.BTreeMap.{get as get_page};
+ghost use Rattle.std.specs.FinMap.{empty, get, insert};
+ghost use Rattle.std.specs.Ordering.{nat_cmp};
+ghost use Rattle.m88_base.specs.Causes.{one_more};
+ghost use Rattle.m88_base.specs.Pages.{IsPage, page_bytes};
+ghost use Rattle.m88_pager.specs.MemoryPages.{faults_by, held_in};
+ghost use Rattle.m88_pager.specs.Store.{FailsByCount, Finds};
+ghost use Rattle.m88_pager.specs.declared.store.StoreError.TheVariants.{Failed};
+
+use crate::store::{PageStore, StoreError};
+use m88_base::NoMemory;
+use std::alloc::Global;
+use std::collections::BTreeMap;
+use std::marker::Model;
+
+/// A store of pages in memory. It fails in chosen calls.
+#[derive(Drop, Debug)]
+pub struct MemStore {
+    alloc: Global,
+    pages: BTreeMap<u32, Vec<u8>>,
+    failing: Vec<u32>,
+    calls: u64,
+    faults: u64,
+}
+
+impl Model for MemStore {
+    ghost use Rattle.std.specs.Prelude.{ℕ, ◌≡◌, IfSome, length};
+    ghost use Rattle.std.specs.BTreeMap.{get};
+    ghost use Rattle.std.specs.Ordering.{nat_cmp};
+    ghost use Rattle.m88_base.specs.Pages.{page_bytes};
+    ghost use Rattle.m88_pager.specs.MemoryPages.{MemoryPages, held_in, memory_pages_code};
+
+    ghost Value = { MemoryPages };
+
+    ghost coded = { memory_pages_code };
+
+    ghost view = { λ s. record {
+      held = held_in s.pages.entries;
+      faults = s.faults;
+      calls = s.calls;
+      failing = s.failing.items;
+    } };
+
+    ghost invariant = { λ s. (page : ℕ) → IfSome (get nat_cmp s.pages page)
+        (λ bytes. length bytes.items ≡ page_bytes) };
+}
+
+impl MemStore {
+    /// A store that holds no page. Its calls are counted from 0, and it fails in those that `failing` lists.
+    pub fn new(alloc: Global, failing: &[u32]) -> Result<MemStore, NoMemory>
+        ensures { IfOk result (λ store. store ≡ record {
+          held = empty;
+          faults = 0;
+          calls = 0;
+          failing = failing.now;
+        }) }
+    {
+        let failing = Vec::from_slice(alloc, failing)?;
+        Ok(MemStore {
+            alloc,
+            pages: BTreeMap::new(alloc),
+            failing,
+            calls: 0,
+            faults: 0,
+        })
+    }
+
+    /// Counts a call, which fails where it is to.
+    fn count(&mut self) -> Result<(), StoreError>
+        ensures fails { IsErr result ↔ Contains self.old.failing self.old.calls }
+        ensures failed { IfErr result (λ error. error ≡ Failed) }
+        ensures grows { self.old.faults ≤ self.new.faults }
+        ensures stays { self.new ≡ record self.old {
+          faults = faults_by self.old.faults result;
+          calls = one_more self.old.calls;
+        } }
+    {
+        let fails = is_failing(&self.failing, self.calls);
+        self.calls = self.calls.saturating_add(1);
+        if fails {
+            self.faults = self.faults.saturating_add(1);
+            return Err(StoreError::Failed);
+        }
+        Ok(())
+    }
+}
+
+impl PageStore for MemStore {
+    ghost pages = { λ s. Some s.held };
+
+    ghost faults = { λ s. s.faults };
+
+    fn read(&mut self, page: u32, into: &mut [u8]) -> Result<bool, StoreError>
+        requires page { IsPage page }
+        requires size { length into.old ≡ page_bytes }
+        ensures reads { IfOk result
+            (λ held. Finds (get self.old.held page) held into.old into.new) }
+        ensures same { Some self.new.held ≡ Some self.old.held }
+        ensures grows { self.old.faults ≤ self.new.faults }
+        ensures fault { FailsByCount self.old.faults self.new.faults result }
+        ensures fails { (result ≡ Err Failed) ↔ Contains self.old.failing self.old.calls }
+        ensures stays { self.new ≡ record self.old {
+          faults = faults_by self.old.faults result;
+          calls = one_more self.old.calls;
+        } }
+    {
+        self.count()?;
+        Ok(give(&self.pages, page, into))
+    }
+
+    fn write(&mut self, page: u32, bytes: &[u8]) -> Result<(), StoreError>
+        requires page { IsPage page }
+        requires size { length bytes.now ≡ page_bytes }
+        ensures put { OnOk result (Some self.new.held
+            ≡ Some (insert self.old.held page bytes.now)) }
+        ensures same { OnErr result (Some self.new.held ≡ Some self.old.held) }
+        ensures grows { self.old.faults ≤ self.new.faults }
+        ensures fault { FailsByCount self.old.faults self.new.faults result }
+        ensures fails { (result ≡ Err Failed) ↔ Contains self.old.failing self.old.calls }
+        ensures stays { self.new ≡ record self.old {
+          held = self.new.held;
+          faults = faults_by self.old.faults result;
+          calls = one_more self.old.calls;
+        } }
+    {
+        self.count()?;
+        let Ok(copy) = Vec::from_slice(self.alloc, bytes) else {
+            return Err(StoreError::Memory);
+        };
+        match self.pages.insert(page, copy) {
+            Ok(_) => Ok(()),
+            Err(_) => Err(StoreError::Memory),
+        }
+    }
+}
+
+/// Copies the bytes of a page where it is among these, and says whether it is.
+fn give(pages: &BTreeMap<u32, Vec<u8>>, page: u32, into: &mut [u8]) -> bool
+    requires whole { IfSome (get_page nat_cmp pages.now page)
+        (λ bytes. length bytes.items ≡ page_bytes) }
+    requires size { length into.old ≡ page_bytes }
+    ensures { Finds (get (held_in pages.now.entries) page) result into.old into.new }
+{
+    match pages.get(&page) {
+        Some(bytes) => {
+            into.copy_from_slice(bytes);
+            true
+        }
+        None => false,
+    }
+}
+
+/// Whether a call's number, from 0, is among those that fail.
+fn is_failing(failing: &[u32], call: u64) -> bool
+    ensures { IsTrue result ↔ Contains failing.now call }
+{
+    failing.iter().any(|number| u64::from(*number) == call)
+}
