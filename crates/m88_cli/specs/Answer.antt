@@ -2,7 +2,7 @@
 -- its input, and what it writes for one that it accepts has a case for each command.
 use Rattle.std.specs.Prelude.{ℕ, ◌≡◌, ◌⊎◌, List}
 use Rattle.m88_cli.specs.Assembly.{IsObjectText, IsRecordText}
-use Rattle.m88_cli.specs.Command.{Command, run, exec, asm, link, build, dis, mon, soak, share, emu, kind_of}
+use Rattle.m88_cli.specs.Command.{Command, run, exec, asm, link, build, dis, mon, soak, share, emu, page, trace, check, kind_of}
 use Rattle.m88_cli.specs.Emulation.{IsEmulatedText}
 use Rattle.m88_cli.specs.Kinds.{IsAcceptedAs, IsRefusedAs}
 use Rattle.m88_cli.specs.Loading.{IsListingText}
@@ -10,7 +10,10 @@ use Rattle.m88_cli.specs.MonitorText.{IsMonitorText}
 use Rattle.m88_cli.specs.Objects.{IsLinkedText}
 use Rattle.m88_base.specs.Refusal.{Refusal, refusal_line}
 use Rattle.m88_cli.specs.Runs.{IsLoadedProgram, IsReport, IsSourceProgram, IsSummary}
+use Rattle.m88_cli.specs.Paging.{IsPagedText}
 use Rattle.m88_cli.specs.Sharing.{IsSharedText}
+use Rattle.m88_cli.specs.TracedSources.{IsCheckText}
+use Rattle.m88_cli.specs.Traces.{IsTraceText}
 use Rattle.m88_report.specs.Report.{report_of}
 
 -- a command accepts an input that is accepted as one of its kind
@@ -24,7 +27,8 @@ Refuses command input r = IsRefusedAs (kind_of command) input r
 -- the text is what a command writes for an input that it accepts: `run` and `exec` the report of a run, `asm` the text
 -- of the objects, `link` and `build` the S-records of the image, `dis` the listing of the image, `mon` what a session
 -- with the monitor writes, `soak` the summary of the run of a workload, `share` what is told of programs that share a
--- board, `emu` what is told of a run with a monitor that emulates
+-- board, `emu` what is told of a run with a monitor that emulates, `page` what is told of one whose memory stands in
+-- frames, `trace` its trace, `check` how many lines of its trace stand behind a source
 abbrev pub IsOutput : Command → List ℕ → List ℕ → Type 0
 IsOutput (run settings) source text = IsReport report_of (IsSourceProgram source) settings text
 IsOutput (exec settings) records text = IsReport report_of (IsLoadedProgram records) settings text
@@ -36,6 +40,9 @@ IsOutput (mon absent schedule mxm) input text = IsMonitorText input absent sched
 IsOutput (soak number count) input text = IsSummary number count text
 IsOutput (share limit absent schedule) input text = IsSharedText input limit absent schedule text
 IsOutput (emu limit absent schedule) source text = IsEmulatedText source limit absent schedule text
+IsOutput (page frames limit absent schedule) source text = IsPagedText source frames limit absent schedule text
+IsOutput (trace limit absent schedule) source text = IsTraceText source limit absent schedule text
+IsOutput check input text = IsCheckText input text
 
 -- the text answers an input that the command accepts
 pub record IsAnswerToAccepted (command : Command) (input text : List ℕ) : Type 0 where

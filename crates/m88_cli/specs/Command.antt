@@ -6,7 +6,7 @@ use Rattle.m88_tasks.specs.Letters.{IsShareSchedule}
 use Rattle.m88_tasks.specs.declared.letter.ShareLetter.{ShareLetter}
 use Rattle.m88_cli.specs.Limits.{most_statements}
 use Rattle.m88_cli.specs.Numbers.{IsShortNumber}
-use Rattle.m88_cli.specs.Settings.{SayLimited, SaySession, SaySettings, Settings}
+use Rattle.m88_cli.specs.Settings.{SayLimited, SayPaged, SaySession, SaySettings, Settings}
 
 -- the commands
 pub data Command : Type 0 where
@@ -30,6 +30,12 @@ pub data Command : Type 0 where
   share : (limit : ℕ) (absent : ℕ → Bool) (schedule : List ShareLetter) → Command
   -- the report of a run of a source with a monitor that emulates
   emu : (limit : ℕ) (absent : ℕ → Bool) (schedule : List Letter) → Command
+  -- the report of a run of a source whose memory stands in so many frames too
+  page : (frames limit : ℕ) (absent : ℕ → Bool) (schedule : List Letter) → Command
+  -- the trace of a run of a source
+  trace : (limit : ℕ) (absent : ℕ → Bool) (schedule : List Letter) → Command
+  -- whether lines are the first of the trace of a source
+  check : Command
 
 -- a text writes the number of a workload in one to ten decimal digits, which may begin with zeros
 abbrev pub IsWorkloadNumber : List ℕ → ℕ → Type 0
@@ -59,6 +65,9 @@ name_of (mon absent schedule mxm) = codes "mon"
 name_of (soak number count) = codes "soak"
 name_of (share limit absent schedule) = codes "share"
 name_of (emu limit absent schedule) = codes "emu"
+name_of (page frames limit absent schedule) = codes "page"
+name_of (trace limit absent schedule) = codes "trace"
+name_of check = codes "check"
 
 -- the words are those behind the name of a command; most commands have none
 abbrev pub SayRest : List (List ℕ) → Command → Type 0
@@ -68,6 +77,8 @@ SayRest words (mon absent schedule mxm) = SaySession words absent schedule mxm
 SayRest words (soak number count) = SayWorkload words number count
 SayRest words (share limit absent schedule) = SayLimited IsShareSchedule words limit absent schedule
 SayRest words (emu limit absent schedule) = SayLimited IsSchedule words limit absent schedule
+SayRest words (page frames limit absent schedule) = SayPaged words frames limit absent schedule
+SayRest words (trace limit absent schedule) = SayLimited IsSchedule words limit absent schedule
 SayRest words _ = words ≡ []
 
 -- the words spell the command: its name, and the words behind it
@@ -96,6 +107,8 @@ pub data InputKind : Type 0 where
   scripted_source : InputKind
   -- sources to be assembled and linked, each by itself
   sources_to_link : InputKind
+  -- a source to be assembled and linked, and the lines of a trace behind it
+  traced_source : InputKind
 
 -- the kind of input of a command
 abbrev pub kind_of : Command → InputKind
@@ -109,6 +122,9 @@ kind_of (mon absent schedule mxm) = scripted_source
 kind_of (soak number count) = no_input
 kind_of (share limit absent schedule) = sources_to_link
 kind_of (emu limit absent schedule) = source_to_link
+kind_of (page frames limit absent schedule) = source_to_link
+kind_of (trace limit absent schedule) = source_to_link
+kind_of check = traced_source
 
 -- whether there is an input of a kind to read
 abbrev pub is_read : InputKind → Bool

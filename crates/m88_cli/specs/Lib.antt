@@ -15,6 +15,9 @@ pub mod Sources
 pub mod Numbered
 pub mod Sharing
 pub mod Emulation
+pub mod Paging
+pub mod Traces
+pub mod TracedSources
 pub mod Script
 pub mod Monitoring
 pub mod MonitorLines

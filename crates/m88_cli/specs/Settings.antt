@@ -2,6 +2,7 @@
 use Rattle.std.specs.Prelude.{ℕ, Bool, true, false, ◌≡◌, ◌≤◌, List, [], ◌∷◌, codes}
 use Rattle.m88_event.specs.Letters.{IsSchedule}
 use Rattle.m88_event.specs.declared.letter.Letter.{Letter}
+use Rattle.m88_pager.specs.Paged.{most_frames}
 use Rattle.m88_cli.specs.Limits.{most_limit}
 use Rattle.m88_cli.specs.Numbers.{IsShortNumber}
 use Rattle.m88_cli.specs.Pages.{IsAbsent}
@@ -43,6 +44,19 @@ pub record SayLimited {Letters : Type 0} (AreSuch : List ℕ → Letters → Typ
   pub is_limit : IsLimit limit_text limit
   pub is_absent : IsAbsent absent_text absent
   pub are_letters : AreSuch letters_text letters
+
+-- a text writes a number of frames in one or two decimal digits, of which the first may be a zero
+abbrev pub IsFrameCount : List ℕ → ℕ → Type 0
+IsFrameCount text n = IsShortNumber 10 2 text n × (1 ≤ n) × (n ≤ most_frames)
+
+-- the words are the number of frames of a paged run, its limit, its absent pages and its schedule
+pub record SayPaged (words : List (List ℕ)) (frames limit : ℕ) (absent : ℕ → Bool) (schedule : List Letter)
+    : Type 0 where
+  pub frames_text : List ℕ
+  pub rest : List (List ℕ)
+  pub words_are : words ≡ frames_text ∷ rest
+  pub is_count : IsFrameCount frames_text frames
+  pub say_rest : SayLimited IsSchedule rest limit absent schedule
 
 -- the words are the limit, the absent pages, the schedule and the mode of a run
 pub record SaySettings (words : List (List ℕ)) (settings : Settings) : Type 0 where

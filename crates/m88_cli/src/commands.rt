@@ -57,4 +57,20 @@ pub enum Command<'a> {
         absent: Absent,
         schedule: Schedule<'a>,
     },
+    /// The report of a run of a source whose memory stands a second time in 1 to 64 frames before a store of pages, and
+    /// how often pages came in and went out; MXM is clear.
+    Page {
+        frames: u32,
+        limit: u32,
+        absent: Absent,
+        schedule: Schedule<'a>,
+    },
+    /// The trace of a run of a source; MXM is clear.
+    Trace {
+        limit: u32,
+        absent: Absent,
+        schedule: Schedule<'a>,
+    },
+    /// How many lines of its trace stand behind a source, where nothing else does.
+    Check,
 }

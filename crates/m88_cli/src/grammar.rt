@@ -9,7 +9,7 @@ ghost use Rattle.m88_cli.specs.Words.{texts};
 ghost use Rattle.m88_mem.specs.Marks.{NamesPages, absent_in};
 
 use crate::commands::Command;
-use crate::limits::{MOST_LIMIT, MOST_STATEMENTS};
+use crate::limits::{MOST_FRAMES, MOST_LIMIT, MOST_STATEMENTS};
 use crate::numbers::decimal_number;
 use crate::pages::absent_of;
 use m88_base::Absent;
@@ -35,6 +35,9 @@ pub fn command<'a>(words: &'a [String]) -> Option<Command<'a>>
         "soak" => workload_command(rest),
         "share" => share_command(rest),
         "emu" => emulation_command(rest),
+        "page" => paged_command(rest),
+        "trace" => trace_command(rest),
+        "check" => bare_command(Command::Check, rest),
         _ => None,
     }
 }
@@ -266,6 +269,53 @@ fn emulation_command<'a>(words: &'a [String]) -> Option<Command<'a>>
     } = limited(words)?;
     let schedule = Schedule::read(letters)?;
     Some(Command::Emu {
+        limit,
+        absent,
+        schedule,
+    })
+}
+
+/// The paged run that the words behind `page` ask for; the first of them is the number of its frames (1 or 2 decimal
+/// digits, 1 to 64).
+fn paged_command<'a>(words: &'a [String]) -> Option<Command<'a>>
+    ensures found { IfSome result (λ c. Spells (codes "page" ∷ texts words.now) (command_of c)) }
+    ensures only { (choice : Choice) → Spells (codes "page" ∷ texts words.now) choice
+        → MatchOption result ⊥ (λ c. command_of c ≡ choice) }
+    ensures fit { IfSome result IsFit }
+{
+    let (frames, words) = first_word(words)?;
+    let LimitedRun {
+        limit,
+        absent,
+        letters,
+    } = limited(words)?;
+    let frames = decimal_number(2, frames.as_bytes(), MOST_FRAMES)?;
+    if frames == 0 {
+        return None;
+    }
+    let schedule = Schedule::read(letters)?;
+    Some(Command::Page {
+        frames,
+        limit,
+        absent,
+        schedule,
+    })
+}
+
+/// The run of which the words behind `trace` ask for the trace.
+fn trace_command<'a>(words: &'a [String]) -> Option<Command<'a>>
+    ensures found { IfSome result (λ c. Spells (codes "trace" ∷ texts words.now) (command_of c)) }
+    ensures only { (choice : Choice) → Spells (codes "trace" ∷ texts words.now) choice
+        → MatchOption result ⊥ (λ c. command_of c ≡ choice) }
+    ensures fit { IfSome result IsFit }
+{
+    let LimitedRun {
+        limit,
+        absent,
+        letters,
+    } = limited(words)?;
+    let schedule = Schedule::read(letters)?;
+    Some(Command::Trace {
         limit,
         absent,
         schedule,

@@ -12,10 +12,12 @@ use crate::input::Input;
 use crate::loading::list_records;
 use crate::monitoring::run_monitor;
 use crate::objects::link_objects;
+use crate::paging::page_source;
 use crate::reply::Reply;
 use crate::running::{run_records, run_source};
 use crate::sharing::share_board;
 use crate::soaking::run_workload;
+use crate::traces::{check_source, trace_source};
 use m88_base::NoMemory;
 use m88_board::Watch;
 use std::alloc::Global;
@@ -79,5 +81,17 @@ pub fn reply_to<W: Watch>(
             absent,
             schedule,
         } => emulate_source(alloc, *limit, absent, schedule, input.text()),
+        Command::Page {
+            frames,
+            limit,
+            absent,
+            schedule,
+        } => page_source(alloc, *frames, *limit, absent, schedule, input.text()),
+        Command::Trace {
+            limit,
+            absent,
+            schedule,
+        } => trace_source(alloc, *limit, absent, schedule, input.text()),
+        Command::Check => check_source(alloc, input.text()),
     }
 }

@@ -21,19 +21,21 @@ mod script;
 mod script_line;
 mod script_lines;
 
-// What commands make of a source, of objects, of S-records, of a script, and of a number.
+// What commands make of a source, of one with a trace, of several, of objects, of S-records, of a script, and of a number.
 mod assembly;
 mod emulation;
 mod loading;
 mod monitoring;
 mod numbered;
 mod objects;
+mod paging;
 mod running;
 mod sharing;
 mod soaking;
 mod source_fault;
 mod sources;
 mod summary;
+mod traces;
 mod workload;
 
 // What the monitor makes of the commands of a script.

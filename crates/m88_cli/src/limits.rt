@@ -12,3 +12,6 @@ pub const MOST_STATEMENTS: u32 = 40_000;
 
 /// The most instructions that the board of a session with the monitor retires.
 pub const SESSION_LIMIT: u32 = 100_000;
+
+/// The most frames of a paged run.
+pub const MOST_FRAMES: u32 = 64;

@@ -1,0 +1,87 @@
+-- An input of `check`: a source, and the lines of a trace behind its first line `trace`. Which such inputs are accepted,
+-- and where and why any other is refused: that it has no line `trace` comes before every fault of the source, and these
+-- before the first line that isn't the trace's. What `check` writes stands here too.
+use Rattle.std.specs.Prelude.{ℕ, false, ◌≡◌, ◌+◌, ◌⊎◌, List, codes}
+use Rattle.m88_base.specs.Parted.{IsParted, IsUnparted}
+use Rattle.m88_base.specs.Refusal.{Refusal}
+use Rattle.m88_isa.specs.Machine.{Program}
+use Rattle.m88_report.specs.Report.{count_line}
+use Rattle.m88_trace.specs.Texts.{DiffersBehind, IsText}
+use Rattle.m88_trace.specs.Trace.{trace_line}
+use Rattle.m88_cli.specs.Assembly.{IsProgramSource, IsRefusedProgram}
+use Rattle.m88_cli.specs.Runs.{IsSourceProgram}
+
+-- the line between a source and the lines of a trace
+abbrev pub traced_line : List ℕ
+traced_line = codes "trace"
+
+-- a text is the first so many lines of the trace of the source's program, MXM clear
+pub record BeginsTrace (source text : List ℕ) (n : ℕ) : Type 0 where
+  pub program : Program
+  pub of_source : IsSourceProgram source program
+  pub mode : program.mxm ≡ false
+  pub is_text : IsText (trace_line program) text n
+
+-- or it differs from that trace behind so many lines
+pub record LeavesTrace (source text : List ℕ) (n : ℕ) : Type 0 where
+  pub program : Program
+  pub of_source : IsSourceProgram source program
+  pub mode : program.mxm ≡ false
+  pub differs : DiffersBehind (trace_line program) text n
+
+-- the input is a source that can be assembled and linked, and behind the line `trace` so many lines of its trace
+pub record HasTrace (input : List ℕ) (n : ℕ) : Type 0 where
+  pub source : List ℕ
+  pub lines : ℕ
+  pub text : List ℕ
+  pub is_parted : IsParted traced_line input source lines text
+  pub is_program : IsProgramSource source
+  pub begins : BeginsTrace source text n
+
+-- the input is accepted
+abbrev pub IsTracedSource : List ℕ → Type 0
+IsTracedSource input = (n : ℕ) × HasTrace input n
+
+-- the refusal of an input without a line `trace`, at a line
+abbrev pub no_trace_refusal : ℕ → Refusal
+no_trace_refusal n = record { line = n; column = 1; reason = codes "no trace" }
+
+-- that of a line that isn't the trace's
+abbrev pub differs_refusal : ℕ → Refusal
+differs_refusal n = record { line = n; column = 1; reason = codes "differs" }
+
+-- an input is refused where it has no line `trace`: the line behind the last is missing
+pub record IsUntraced (input : List ℕ) (r : Refusal) : Type 0 where
+  pub lines : ℕ
+  pub is_unparted : IsUnparted traced_line input lines
+  pub refusal : r ≡ no_trace_refusal (lines + 1)
+
+-- where it has one, at the first fault of the source before it
+pub record IsRefusedBeforeTrace (input : List ℕ) (r : Refusal) : Type 0 where
+  pub source : List ℕ
+  pub lines : ℕ
+  pub text : List ℕ
+  pub is_parted : IsParted traced_line input source lines text
+  pub is_refused : IsRefusedProgram 0 source r
+
+-- and where that has none, at the first line behind it that isn't the trace's
+pub record DiffersFromTrace (input : List ℕ) (r : Refusal) : Type 0 where
+  pub source : List ℕ
+  pub lines : ℕ
+  pub text : List ℕ
+  pub is_parted : IsParted traced_line input source lines text
+  pub is_program : IsProgramSource source
+  pub before : ℕ
+  pub leaves : LeavesTrace source text before
+  pub refusal : r ≡ differs_refusal (lines + before + 1)
+
+-- an input is refused so
+abbrev pub IsRefusedTrace : List ℕ → Refusal → Type 0
+IsRefusedTrace input r = IsUntraced input r ⊎ (IsRefusedBeforeTrace input r ⊎ DiffersFromTrace input r)
+
+-- the text tells how many lines of its trace the input has, and it has no other number of them
+pub record IsCheckText (input text : List ℕ) : Type 0 where
+  pub count : ℕ
+  pub has : HasTrace input count
+  pub only : (other : ℕ) → HasTrace input other → other ≡ count
+  pub is_text : text ≡ count_line (codes "ok") count
