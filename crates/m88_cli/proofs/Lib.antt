@@ -11,11 +11,15 @@ pub mod PartedSources
 pub mod SharedInputs
 pub mod OneObjects
 pub mod Monitored
-pub mod OneSource
 pub mod Programs
+pub mod UnitPrograms
+pub mod TracedInputs
+pub mod OneSource
 pub mod SharedPrograms
 pub mod SharedReplies
 pub mod Emulated
+pub mod Paged
+pub mod Traced
 pub mod Reporting
 pub mod Refusing
 pub mod Linked

@@ -4,8 +4,8 @@ use Rattle.m88_event.specs.Letters.{IsSchedule}
 use Rattle.m88_event.specs.declared.letter.Letter.{Letter}
 use Rattle.m88_tasks.specs.Letters.{IsShareSchedule}
 use Rattle.m88_tasks.specs.declared.letter.ShareLetter.{ShareLetter}
-use Rattle.m88_cli.specs.Command.{Command, Spells, run, exec, asm, link, build, dis, mon, soak, share, emu}
-use Rattle.m88_cli.specs.Settings.{SayLimited}
+use Rattle.m88_cli.specs.Command.{Command, Spells, run, exec, asm, link, build, dis, mon, soak, share, emu, page, trace, check}
+use Rattle.m88_cli.specs.Settings.{SayLimited, SayPaged}
 
 pub of_text : {Letters : Type 0} (AreSuch : List ℕ → Letters → Type 0) (words : List (List ℕ)) (limit : ℕ) (absent : ℕ → Bool)
     (text : List ℕ) (letters : Letters) → SayLimited ◌≡◌ words limit absent text → AreSuch text letters
@@ -59,6 +59,9 @@ module _ (words : List (List ℕ)) (P : Command → Type 0)
       then limit absent schedule
       (subst (λ ws. SayLimited IsShareSchedule ws limit absent schedule) (sym (ap behind_first said.words_are)) said.say_rest)
   only_share (emu limit absent schedule) said = let clash : 1154 ≡ 1012 = ap mark said.words_are in absurd (omega (arith, clash))
+  only_share (page frames limit absent schedule) said = let clash : 1154 ≡ 1123 = ap mark said.words_are in absurd (omega (arith, clash))
+  only_share (trace limit absent schedule) said = let clash : 1154 ≡ 1164 = ap mark said.words_are in absurd (omega (arith, clash))
+  only_share check said = let clash : 1154 ≡ 994 = ap mark said.words_are in absurd (omega (arith, clash))
 
 -- nor those that begin with `emu`
 module _ (words : List (List ℕ)) (P : Command → Type 0)
@@ -77,3 +80,48 @@ module _ (words : List (List ℕ)) (P : Command → Type 0)
   only_emu (emu limit absent schedule) said =
       then limit absent schedule
       (subst (λ ws. SayLimited IsSchedule ws limit absent schedule) (sym (ap behind_first said.words_are)) said.say_rest)
+  only_emu (page frames limit absent schedule) said = let clash : 1012 ≡ 1123 = ap mark said.words_are in absurd (omega (arith, clash))
+  only_emu (trace limit absent schedule) said = let clash : 1012 ≡ 1164 = ap mark said.words_are in absurd (omega (arith, clash))
+  only_emu check said = let clash : 1012 ≡ 994 = ap mark said.words_are in absurd (omega (arith, clash))
+
+-- nor those that begin with `page`
+module _ (words : List (List ℕ)) (P : Command → Type 0)
+    (then : (frames limit : ℕ) (absent : ℕ → Bool) (schedule : List Letter) → SayPaged words frames limit absent schedule
+    → P (page frames limit absent schedule)) where
+  pub only_page : (c : Command) → Spells (codes "page" ∷ words) c → P c
+  only_page (run s) said = let clash : 1123 ≡ 1142 = ap mark said.words_are in absurd (omega (arith, clash))
+  only_page (exec s) said = let clash : 1123 ≡ 1013 = ap mark said.words_are in absurd (omega (arith, clash))
+  only_page asm said = let clash : 1123 ≡ 972 = ap mark said.words_are in absurd (omega (arith, clash))
+  only_page link said = let clash : 1123 ≡ 1083 = ap mark said.words_are in absurd (omega (arith, clash))
+  only_page build said = let clash : 1123 ≡ 984 = ap mark said.words_are in absurd (omega (arith, clash))
+  only_page dis said = let clash : 1123 ≡ 1002 = ap mark said.words_are in absurd (omega (arith, clash))
+  only_page (mon absent schedule mxm) said = let clash : 1123 ≡ 1092 = ap mark said.words_are in absurd (omega (arith, clash))
+  only_page (soak number count) said = let clash : 1123 ≡ 1153 = ap mark said.words_are in absurd (omega (arith, clash))
+  only_page (share limit absent schedule) said = let clash : 1123 ≡ 1154 = ap mark said.words_are in absurd (omega (arith, clash))
+  only_page (emu limit absent schedule) said = let clash : 1123 ≡ 1012 = ap mark said.words_are in absurd (omega (arith, clash))
+  only_page (page frames limit absent schedule) said =
+      then frames limit absent schedule
+      (subst (λ ws. SayPaged ws frames limit absent schedule) (sym (ap behind_first said.words_are)) said.say_rest)
+  only_page (trace limit absent schedule) said = let clash : 1123 ≡ 1164 = ap mark said.words_are in absurd (omega (arith, clash))
+  only_page check said = let clash : 1123 ≡ 994 = ap mark said.words_are in absurd (omega (arith, clash))
+
+-- nor those that begin with `trace`
+module _ (words : List (List ℕ)) (P : Command → Type 0)
+    (then : (limit : ℕ) (absent : ℕ → Bool) (schedule : List Letter) → SayLimited IsSchedule words limit absent schedule
+    → P (trace limit absent schedule)) where
+  pub only_trace : (c : Command) → Spells (codes "trace" ∷ words) c → P c
+  only_trace (run s) said = let clash : 1164 ≡ 1142 = ap mark said.words_are in absurd (omega (arith, clash))
+  only_trace (exec s) said = let clash : 1164 ≡ 1013 = ap mark said.words_are in absurd (omega (arith, clash))
+  only_trace asm said = let clash : 1164 ≡ 972 = ap mark said.words_are in absurd (omega (arith, clash))
+  only_trace link said = let clash : 1164 ≡ 1083 = ap mark said.words_are in absurd (omega (arith, clash))
+  only_trace build said = let clash : 1164 ≡ 984 = ap mark said.words_are in absurd (omega (arith, clash))
+  only_trace dis said = let clash : 1164 ≡ 1002 = ap mark said.words_are in absurd (omega (arith, clash))
+  only_trace (mon absent schedule mxm) said = let clash : 1164 ≡ 1092 = ap mark said.words_are in absurd (omega (arith, clash))
+  only_trace (soak number count) said = let clash : 1164 ≡ 1153 = ap mark said.words_are in absurd (omega (arith, clash))
+  only_trace (share limit absent schedule) said = let clash : 1164 ≡ 1154 = ap mark said.words_are in absurd (omega (arith, clash))
+  only_trace (emu limit absent schedule) said = let clash : 1164 ≡ 1012 = ap mark said.words_are in absurd (omega (arith, clash))
+  only_trace (page frames limit absent schedule) said = let clash : 1164 ≡ 1123 = ap mark said.words_are in absurd (omega (arith, clash))
+  only_trace (trace limit absent schedule) said =
+      then limit absent schedule
+      (subst (λ ws. SayLimited IsSchedule ws limit absent schedule) (sym (ap behind_first said.words_are)) said.say_rest)
+  only_trace check said = let clash : 1164 ≡ 994 = ap mark said.words_are in absurd (omega (arith, clash))

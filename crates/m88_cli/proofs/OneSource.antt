@@ -12,18 +12,20 @@ use Rattle.m88_link.specs.declared.object_fault.ObjectFault.TheVariants.{Form, R
 use Rattle.m88_srec.proofs.Law as records
 use Rattle.m88_cli.specs.Answer.{Accepts, Refuses}
 use Rattle.m88_cli.specs.Assembly.{IsRefusedProgram, IsRefusedSource}
-use Rattle.m88_cli.specs.Command.{Command, InputKind, no_input, source_to_assemble, source_to_link, object_text, record_text, scripted_source, sources_to_link, kind_of}
+use Rattle.m88_cli.specs.Command.{Command, InputKind, no_input, source_to_assemble, source_to_link, object_text, record_text, scripted_source, sources_to_link, traced_source, kind_of}
 use Rattle.m88_cli.specs.Kinds.{IsAcceptedAs, IsRefusedAs}
 use Rattle.m88_cli.specs.Loading.{IsRecords, IsRefusedRecords, srec_refusal}
 use Rattle.m88_cli.specs.Monitoring.{IsMonitorInput, IsRefusedMonitor}
 use Rattle.m88_cli.specs.Objects.{IsLinkableText, IsRefusedObjects}
 use Rattle.m88_cli.specs.Sources.{IsRefusedSources}
+use Rattle.m88_cli.specs.TracedSources.{IsRefusedTrace}
 use Rattle.m88_base.specs.Refusal.{Refusal}
 use Rattle.m88_cli.proofs.OneObjects.{not_linkable, same_objects_refusal}
 use Rattle.m88_cli.proofs.Monitored.{not_accepted, refused_once}
 use Rattle.m88_cli.proofs.OneScript as scripts
 use Rattle.m88_cli.proofs.OneUnit.{assembly_or_refusal, not_assembled, not_linked, program_or_refusal, same_program_refusal, same_refusal}
 use Rattle.m88_cli.proofs.SharedInputs as sources
+use Rattle.m88_cli.proofs.TracedInputs as traces
 
 -- S-records that are refused are none that are accepted
 not_loaded : (text : List ℕ) (r : Refusal) → IsRecords text → IsRefusedRecords text r → ⊥
@@ -114,6 +116,8 @@ of_kind scripted_source input =
     told_once (IsRefusedMonitor input) (monitor_or_refusal input) (not_accepted input) (refused_once input)
 of_kind sources_to_link input =
     told_once (IsRefusedSources input) (sources.sources_or_refusal input) (sources.not_accepted input) (sources.refused_once input)
+of_kind traced_source input =
+    told_once (IsRefusedTrace input) (traces.trace_or_refusal input) (traces.not_accepted input) (traces.refused_once input)
 
 pub one_verdict : (command : Command) (input : List ℕ) → HasOneFaultUnless (Accepts command input) (Refuses command input)
 one_verdict command input = of_kind (kind_of command) input

@@ -1,0 +1,51 @@
+-- What is told of a paged run answers the source, whose image holds the program.
+use Rattle.std.proofs.Common.{◌≡◌, ℕ, Bool, false, List, ap, sym, ◌∙◌, subst}
+use Rattle.m88_base.specs.Image.{ProgramImage}
+use Rattle.m88_event.proofs.Over.{one_outcome}
+use Rattle.m88_event.specs.Run.{IsOutcome}
+use Rattle.m88_event.specs.declared.letter.Letter.{Letter}
+use Rattle.m88_event.specs.declared.outcome.Outcome.{Outcome}
+use Rattle.m88_isa.specs.History.{transactions}
+use Rattle.m88_isa.specs.ImageProgram.{IsProgramOf}
+use Rattle.m88_isa.specs.Machine.{Program}
+use Rattle.m88_pager.specs.Frames.{ins_along, outs_along}
+use Rattle.m88_pager.specs.Paged.{AreCounts}
+use Rattle.m88_pager.specs.declared.paged.Paged.{Paged}
+use Rattle.m88_cli.specs.Answer.{IsAnswerToAccepted}
+use Rattle.m88_cli.specs.Command.{page}
+use Rattle.m88_cli.specs.Inside.Linking.{HoldsUnit}
+use Rattle.m88_cli.specs.Paging.{PagesTo, told_of_paged}
+use Rattle.m88_cli.proofs.Programs.{accepted_source, held_with, one_source_program}
+
+-- a run and its counts come to one thing
+same_paged : (a b : Paged) → a.outcome ≡ b.outcome → a.ins ≡ b.ins → a.outs ≡ b.outs → a ≡ b
+same_paged a b outcome ins outs = λ i. record { outcome = outcome i; ins = ins i; outs = outs i }
+
+module _ (source : List ℕ) (frames limit : ℕ) (absent : ℕ → Bool) (schedule : List Letter) where
+  one_paged : (a b : Paged) → PagesTo source frames limit absent schedule a → PagesTo source frames limit absent schedule b → a ≡ b
+  one_paged a b x y =
+      let same = one_source_program source x.program y.program x.of_source y.of_source (x.mode ∙ sym y.mode) in
+      let own = subst (λ p. IsOutcome p absent limit schedule a.outcome) same x.is_outcome in
+      let counts = subst (λ p. AreCounts p frames a) same x.are_counts in
+      let outcome = one_outcome y.program absent limit schedule a.outcome b.outcome own y.is_outcome in
+      same_paged a b outcome
+      (counts.ins ∙ ap (λ (o : Outcome). ins_along frames (transactions y.program o.retired)) outcome ∙ sym y.are_counts.ins)
+      (counts.outs ∙ ap (λ (o : Outcome). outs_along frames (transactions y.program o.retired)) outcome ∙ sym y.are_counts.outs)
+
+  pub paged : (text : List ℕ) (image : ProgramImage) (o : Paged) (p : Program) → HoldsUnit source image → IsProgramOf image p
+      → ((q : Program) → IsProgramOf image q → q.mxm ≡ false → IsOutcome q absent limit schedule o.outcome)
+      → ((q : Program) → IsProgramOf image q → q.mxm ≡ false → AreCounts q frames o)
+      → text ≡ told_of_paged frames o → IsAnswerToAccepted (page frames limit absent schedule) source text
+  paged text image o p holds of outcome counts told =
+      let held = held_with false source image p holds of in
+      let comes : PagesTo source frames limit absent schedule o = record {
+        program = held.program;
+        of_source = held.of_source;
+        mode = held.mode;
+        is_outcome = outcome held.program held.of_image held.mode;
+        are_counts = counts held.program held.of_image held.mode;
+      } in
+      record {
+        accepted = accepted_source source image holds;
+        output = record { paged = o; comes = comes; only = λ other also. one_paged other o also comes; is_text = told };
+      }
