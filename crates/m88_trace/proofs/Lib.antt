@@ -1,4 +1,5 @@
--- What only helps the proofs: texts against lines, the lines of a history, followers, sheets, and the board beside them.
+-- What only helps the proofs: texts against lines, the lines of a history, followers, sheets, and the board beside them;
+-- Laws and Accepting are for those above.
 pub mod Verdicts
 pub mod Accepting
 pub mod History
@@ -8,3 +9,4 @@ pub mod Writing
 pub mod Nexts
 pub mod Noting
 pub mod Runs
+pub mod Laws

@@ -1,10 +1,11 @@
 -- A text is checked line by line, and has one verdict.
-use Rattle.std.specs.Prelude.{ℕ, zero, suc, Bool, true, false, List, [], ◌∷◌, ◌++◌, Option, Some, None, ◌≡◌, ◌≢◌, ◌≤◌, ◌<◌, ◌+◌, ◌-◌, ◌==◌, is_some, unwrap_or, length, nat_lt}
-use Rattle.std.proofs.Common.{arith, add-one, add-suc, append_assoc, refl, sym, ap, subst, ◌∙◌}
+use Rattle.std.specs.Prelude.{ℕ, zero, suc, Bool, true, false, List, [], ◌∷◌, ◌++◌, Option, Some, None, ◌≡◌, ◌≢◌, ◌≤◌, ◌<◌, ◌+◌, ◌-◌, ◌==◌, ◌⊎◌, is_some, unwrap_or, length, nat_lt}
+use Rattle.std.proofs.Common.{arith, add-one, add-suc, append_assoc, inl, inr, length-append, refl, sym, ap, subst, ⊎_elim, ◌∙◌}
 use Rattle.std.proofs.lemmas.Bool.{eqb-false, eqb-true, ltb-false, ltb-true}
 use Rattle.std.proofs.lemmas.List.{append-nil}
 use Rattle.m88_isa.proofs.Alone.{by_test}
-use Rattle.m88_trace.specs.Texts.{BeginsOtherwise, DiffersBehind, HasLines, HasOneVerdict, IsText, text_of}
+use Rattle.m88_base.specs.OneVerdict.{HasOneVerdict}
+use Rattle.m88_trace.specs.Texts.{BeginsOtherwise, DiffersBehind, HasLines, IsText, text_of}
 
 -- where more lines are there, the text of so many goes on with the next
 text_goes : (line : ℕ → Option (List ℕ)) (n more : ℕ) →
@@ -98,14 +99,6 @@ not_both line text n a are is differs =
     differs.some (cancel (text_of line a) differs.rest []
     (sym differs.whole ∙ is.whole ∙ ap (text_of line) (sym same) ∙ sym (append-nil (text_of line a)))))
 
--- where no line is empty, a text has one verdict
-pub one_verdict : (line : ℕ → Option (List ℕ)) (text : List ℕ) → ((k : ℕ) → line k ≢ Some []) → HasOneVerdict line text
-one_verdict line text are = record {
-  count = λ m n. one_count line text m n are;
-  place = one_place line text;
-  not_both = λ m n. not_both line text m n are;
-}
-
 -- so many lines are read, and this is left
 pub record HasRead (line : ℕ → Option (List ℕ)) (text rest : List ℕ) (k : ℕ) : Type 0 where
   pub there : HasLines line k
@@ -169,6 +162,64 @@ differs_past line text rest k read some l = record {
   whole = read.whole;
   some = some;
   otherwise = subst (λ o. BeginsOtherwise o rest) (sym l) tt;
+}
+
+-- a text begins with some bytes, or it doesn't
+begins_or_not : (xs bytes : List ℕ) → ((more : List ℕ) × (xs ≡ bytes ++ more)) ⊎ ((more : List ℕ) → xs ≢ bytes ++ more)
+begins_or_not xs [] = inl (xs, refl)
+begins_or_not [] (b ∷ bytes) = inr (λ more e. absurd cc)
+begins_or_not (x ∷ xs) (b ∷ bytes) = by_test (x == b)
+    (λ t. ⊎_elim
+    (λ begins. inl (begins.0, rw (eqb-true x b t) (ap (λ zs. b ∷ zs) begins.1)))
+    (λ other. inr (λ more e. other more cc))
+    (begins_or_not xs bytes))
+    (λ f. inr (λ more e. eqb-false x b f cc))
+
+-- a text that begins with some bytes is longer than what is behind them
+less_behind : (bytes more : List ℕ) → bytes ≢ [] → length more < length (bytes ++ more)
+less_behind [] more some = absurd (some refl)
+less_behind (b ∷ bytes) more some = let split = length-append bytes more in omega (arith, split)
+
+-- a text is so many lines, or differs behind so many
+abbrev SomeVerdict : (ℕ → Option (List ℕ)) → List ℕ → Type 0
+SomeVerdict line text = ((n : ℕ) × IsText line text n) ⊎ ((n : ℕ) × DiffersBehind line text n)
+
+-- so it is where it is behind each next line that it goes on with
+verdict_by : (line : ℕ → Option (List ℕ)) (text rest : List ℕ) (k : ℕ) (next : Option (List ℕ)) →
+    ((j : ℕ) → line j ≢ Some []) →
+    HasRead line text rest k →
+    rest ≢ [] →
+    ((more : List ℕ) → HasRead line text more (k + 1) → length more < length rest → SomeVerdict line text) →
+    line k ≡ next →
+    SomeVerdict line text
+verdict_by line text rest k None are read some later l = inr (k, differs_past line text rest k read some l)
+verdict_by line text rest k (Some bytes) are read some later l = ⊎_elim
+    (λ begins.
+    let less = less_behind bytes begins.0 (λ e. are k (l ∙ ap Some e)) in
+    let long = ap length begins.1 in
+    later begins.0 (read_more line text rest bytes begins.0 k read l begins.1) (omega (arith, less, long)))
+    (λ other. inr (k, differs_by line text rest bytes k read some l other))
+    (begins_or_not rest bytes)
+
+-- what is left has as many bytes at most
+some_verdict : (line : ℕ → Option (List ℕ)) (text rest : List ℕ) (k most : ℕ) → ((j : ℕ) → line j ≢ Some []) →
+    HasRead line text rest k →
+    length rest ≤ most →
+    SomeVerdict line text
+some_verdict line text [] k most are read within = inl (k, read_all line text [] k read refl)
+some_verdict line text (x ∷ xs) k zero are read within = absurd (omega (arith, within))
+some_verdict line text (x ∷ xs) k (suc most) are read within =
+    verdict_by line text (x ∷ xs) k (line k) are read (λ e. cc)
+    (λ more next less. some_verdict line text more (k + 1) most are next (omega (arith, less, within))) refl
+
+-- where no line is empty, a text has one verdict
+pub one_verdict : (line : ℕ → Option (List ℕ)) (text : List ℕ) → ((k : ℕ) → line k ≢ Some []) →
+    HasOneVerdict (IsText line text) (DiffersBehind line text)
+one_verdict line text are = record {
+  some = some_verdict line text text 0 (length text) are (read_none line text) (omega arith);
+  not_both = λ m n. not_both line text m n are;
+  one_value = λ m n. one_count line text m n are;
+  one_fault = one_place line text;
 }
 
 pub not_empty : (xs : List ℕ) (b : Bool) → b ≡ (length xs == 0) → b ≡ false → xs ≢ []

@@ -34,9 +34,3 @@ pub record DiffersBehind (line : ℕ → Option (List ℕ)) (text : List ℕ) (n
 abbrev pub FaultOf : (ℕ → Option (List ℕ)) → List ℕ → TraceFault → Type 0
 FaultOf line text (Differs number) = (before : ℕ) × (number ≡ before + 1) × DiffersBehind line text before
 FaultOf line text Memory = Unit {0}
-
--- a text is so many lines for one number at most, or it differs at one line at most, and not both
-pub record HasOneVerdict (line : ℕ → Option (List ℕ)) (text : List ℕ) : Type 0 where
-  pub count : (m n : ℕ) → IsText line text m → IsText line text n → m ≡ n
-  pub place : (m n : ℕ) → DiffersBehind line text m → DiffersBehind line text n → m ≡ n
-  pub not_both : (m n : ℕ) → IsText line text m → DiffersBehind line text n → ⊥

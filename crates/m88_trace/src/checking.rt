@@ -1,9 +1,10 @@
 //! A text against the trace of a program.
 
 ghost use Rattle.std.specs.Prelude.{ℕ, List, MatchOption, ◌≡◌, ◌≢◌, ◌<◌, ◌^◌, ◌++◌, false, length, IfErr, IfOk};
+ghost use Rattle.m88_base.specs.OneVerdict.{HasOneVerdict};
 ghost use Rattle.m88_isa.specs.ImageProgram.{IsProgramOf};
 ghost use Rattle.m88_isa.specs.Machine.{Program};
-ghost use Rattle.m88_trace.specs.Texts.{FaultOf, HasOneVerdict, IsText};
+ghost use Rattle.m88_trace.specs.Texts.{DiffersBehind, FaultOf, IsText};
 ghost use Rattle.m88_trace.specs.Trace.{trace_line};
 
 use crate::fault::TraceFault;
@@ -21,7 +22,8 @@ pub fn check_trace(alloc: Global, image: &Image, text: &[u8]) -> Result<u32, Tra
     ensures fault { IfErr result (λ fault. (p : Program) → IsProgramOf image.now p → p.mxm ≡ false
         → FaultOf (trace_line p) text.now fault) }
     ensures program { (p : Program) × IsProgramOf image.now p × (p.mxm ≡ false) }
-    ensures one_verdict { (p : Program) → HasOneVerdict (trace_line p) text.now }
+    ensures one_verdict { (p : Program)
+        → HasOneVerdict (IsText (trace_line p) text.now) (DiffersBehind (trace_line p) text.now) }
 {
     // What always holds of an image is told with its parts.
     let _ = image.part_count();

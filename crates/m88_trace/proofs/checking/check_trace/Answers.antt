@@ -5,9 +5,9 @@ use Rattle.m88_codec.proofs.ImagePrograms.{program_in, program_in_holds, program
 use Rattle.m88_isa.proofs.ImageProgram.{program_of_image}
 use Rattle.m88_isa.specs.ImageProgram.{IsProgramOf}
 use Rattle.m88_isa.specs.Machine.{Program}
-use Rattle.m88_trace.proofs.History.{some_line}
+use Rattle.m88_trace.proofs.Laws.{one_verdict_of}
 use Rattle.m88_trace.proofs.Reading.{Reads, less_left, reads_more, reads_none, reads_other, reads_past}
-use Rattle.m88_trace.proofs.Verdicts.{is_empty, not_empty, one_verdict, read_all}
+use Rattle.m88_trace.proofs.Verdicts.{is_empty, not_empty, read_all}
 use Rattle.m88_trace.specs.Inside.Doings.{seen_of}
 use Rattle.m88_trace.specs.Trace.{trace_line}
 use Rattle.m88_trace.proofs.checking.check_trace.Goals as goal
@@ -32,19 +32,19 @@ pub returns-clause-program : goal.returns-clause-program
 returns-clause-program c = a_program c.args.image.now c.part_count.ensures.image
 
 pub returns-in_err-follower-clause-one_verdict : goal.returns-in_err-follower-clause-one_verdict
-returns-in_err-follower-clause-one_verdict c = λ p. one_verdict (trace_line p) c.args.text.now (some_line p)
+returns-in_err-follower-clause-one_verdict c = λ p. one_verdict_of p c.args.text.now
 
 pub returns-then-ended-clause-one_verdict : goal.returns-then-ended-clause-one_verdict
-returns-then-ended-clause-one_verdict c = λ p. one_verdict (trace_line p) c.args.text.now (some_line p)
+returns-then-ended-clause-one_verdict c = λ p. one_verdict_of p c.args.text.now
 
 pub returns-in_err-ended-clause-one_verdict : goal.returns-in_err-ended-clause-one_verdict
-returns-in_err-ended-clause-one_verdict c = λ p. one_verdict (trace_line p) c.args.text.now (some_line p)
+returns-in_err-ended-clause-one_verdict c = λ p. one_verdict_of p c.args.text.now
 
 pub returns-in_default-clause-one_verdict : goal.returns-in_default-clause-one_verdict
-returns-in_default-clause-one_verdict c = λ p. one_verdict (trace_line p) c.args.text.now (some_line p)
+returns-in_default-clause-one_verdict c = λ p. one_verdict_of p c.args.text.now
 
 pub returns-clause-one_verdict : goal.returns-clause-one_verdict
-returns-clause-one_verdict c = λ p. one_verdict (trace_line p) c.args.text.now (some_line p)
+returns-clause-one_verdict c = λ p. one_verdict_of p c.args.text.now
 
 pub loop-rest-init : goal.loop-rest-init
 loop-rest-init c = record {
