@@ -197,6 +197,12 @@ holds_written original memory bus written held (Some pages) is bytes s = λ page
     ∙ ap (λ (b : ℕ → ℕ). page_of b page) (bytes_back memory bytes))
     (s.written_are page)
 
+-- a store that tells its pages goes on telling them
+pub tells_on : (before after : Option PageMap) → is_some after ≡ is_some before → Tells before → Tells after
+tells_on None after same tells = absurd tells
+tells_on (Some pages) None same tells = absurd cc
+tells_on (Some pages) (Some others) same tells = tt
+
 pub stands_alone : (original bus : ℕ → ℕ) (written held : ℕ → Bool) (told : Option PageMap) → Tells told →
     Stands (page_of original) (page_of (in_bytes bus)) written held [] told → StandsAlone original bus written held told
 stands_alone original bus written held None tells s = absurd tells

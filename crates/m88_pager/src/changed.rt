@@ -1,14 +1,14 @@
 //! The words of memory that changed, as a store has them.
 
-ghost use Rattle.std.specs.Prelude.{ℕ, ◌≡◌, ◌+◌, ◌*◌, ◌^◌, ◌++◌, ◌∷◌, [], ◌≤◌, length, IfOk, OnOk};
+ghost use Rattle.std.specs.Prelude.{ℕ, Bool, true, ◌≡◌, ◌+◌, ◌*◌, ◌^◌, ◌++◌, ◌∷◌, [], ◌≤◌, length, IfNone, IfOk, IfSome, OnOk};
 ghost use Rattle.std.specs.BTreeSet.{contains};
 ghost use Rattle.std.specs.Ordering.{nat_cmp};
-ghost use Rattle.m88_base.specs.Pages.{IsPage, page_bytes};
+ghost use Rattle.m88_base.specs.Pages.{IsPage, page_bytes, page_count};
 ghost use Rattle.m88_isa.specs.Bus.{changed_among};
 ghost use Rattle.m88_mem.specs.DataBus.{image_bytes, page_words};
 ghost use Rattle.m88_pager.specs.Ends.{EndsByCount};
 ghost use Rattle.m88_pager.specs.Inside.Bytes.{AreWords, in_bytes};
-ghost use Rattle.m88_pager.specs.Inside.Told.{AreChanged};
+ghost use Rattle.m88_pager.specs.Inside.Told.{AreChanged, HasNone};
 ghost use Rattle.m88_pager.specs.Pages.{page_of};
 
 use crate::original::original_page;
@@ -36,34 +36,44 @@ pub(crate) fn changed_words<P: PageStore>(
     ensures fault { EndsByCount (P.faults store.old) (P.faults store.new) result }
 {
     let mut changed = Vec::new(alloc);
-    for page in 0..PAGE_COUNT as u32 {
-        append_page(alloc, store, image, held, page, &mut changed)?;
+    let mut from = 0;
+    while let Some(page) = next_held(held, from) {
+        append_page(alloc, store, image, page, &mut changed)?;
+        from = page + 1;
     }
     Ok(changed)
 }
 
-/// Appends those of a page, of which there are none where the store doesn't hold it.
+/// The first page of a set from a number on.
+fn next_held(held: &BTreeSet<u32>, from: u32) -> Option<u32>
+    requires { from ≤ page_count }
+    ensures page { IfSome result (λ page. IsPage page) }
+    ensures behind { IfSome result (λ page. from ≤ page) }
+    ensures held { IfSome result (λ page. contains nat_cmp held.now page ≡ true) }
+    ensures next { IfSome result (λ page. HasNone (λ q. contains nat_cmp held.now q) from page) }
+    ensures none { IfNone result (HasNone (λ q. contains nat_cmp held.now q) from page_count) }
+{
+    held.range(from..PAGE_COUNT as u32).next().copied()
+}
+
+/// Appends those of a page that the store holds.
 fn append_page<P: PageStore>(
     alloc: Global,
     store: &mut P,
     image: &Image,
-    held: &BTreeSet<u32>,
     page: u32,
     changed: &mut Vec<(u32, u32)>,
 ) -> Result<(), PageEnd>
     requires { IsPage page }
-    ensures changed { OnOk result (
-        AreChanged (image_bytes image.now) (λ q. contains nat_cmp held.now q) (P.pages store.old)
-        (page * page_words) changed.old.items
-        → AreChanged (image_bytes image.now) (λ q. contains nat_cmp held.now q) (P.pages store.old)
-        ((page + 1) * page_words) changed.new.items) }
+    ensures changed { OnOk result ((held : ℕ → Bool) → held page ≡ true
+        → AreChanged (image_bytes image.now) held (P.pages store.old) (page * page_words)
+        changed.old.items
+        → AreChanged (image_bytes image.now) held (P.pages store.old) ((page + 1) * page_words)
+        changed.new.items) }
     ensures same { P.pages store.new ≡ P.pages store.old }
     ensures grows { P.faults store.old ≤ P.faults store.new }
     ensures fault { EndsByCount (P.faults store.old) (P.faults store.new) result }
 {
-    if !held.contains(&page) {
-        return Ok(());
-    }
     let before = original_page(alloc, image, page)?;
     let mut after = original_page(alloc, image, page)?;
     store.read(page, after.as_mut_slice())?;

@@ -1,6 +1,6 @@
 //! Frames before a store of pages.
 
-ghost use Rattle.std.specs.Prelude.{ℕ, Bool, List, Option, All, ◌≡◌, ◌∷◌, ◌++◌, [], ◌+◌, ◌-◌, ◌==◌, ◌^◌, ◌<◌, ◌≤◌, None, false, length, map, nat_eq, option_map, take, true, if◌then◌else◌, IfOk, IsErrOf, OnOk};
+ghost use Rattle.std.specs.Prelude.{ℕ, Bool, List, Option, All, ◌≡◌, ◌∷◌, ◌++◌, [], ◌+◌, ◌-◌, ◌==◌, ◌^◌, ◌<◌, ◌≤◌, None, false, is_some, length, map, nat_eq, option_map, take, true, if◌then◌else◌, IfOk, IsErrOf, OnOk};
 ghost use Rattle.std.specs.FinMap.{insert};
 ghost use Rattle.std.specs.Map.{lookup};
 ghost use Rattle.std.specs.NonZero.{non_zero_usize_get};
@@ -83,6 +83,7 @@ impl Frames {
         ensures outs { OnOk result (self.new.outs ≡ self.old.outs + 1) }
         ensures ins { self.new.ins ≡ self.old.ins }
         ensures cache { self.new.cache ≡ self.old.cache }
+        ensures tells { is_some (P.pages store.new) ≡ is_some (P.pages store.old) }
         ensures grows { P.faults store.old ≤ P.faults store.new }
         ensures fault { EndsByCount (P.faults store.old) (P.faults store.new) result }
     {
@@ -104,6 +105,7 @@ impl Frames {
         ensures stands { OnOk result ((original : ℕ → List ℕ) → StillStands original
             (held_by self.old) self.old.cache.entries (P.pages store.old)
             (held_by self.new) self.new.cache.entries (P.pages store.new)) }
+        ensures tells { is_some (P.pages store.new) ≡ is_some (P.pages store.old) }
         ensures grows { P.faults store.old ≤ P.faults store.new }
         ensures fault { EndsByCount (P.faults store.old) (P.faults store.new) result }
     {
@@ -131,6 +133,7 @@ impl Frames {
         ensures stands { OnOk result ((original : ℕ → List ℕ) → StillStands original
             (held_by self.old) self.old.cache.entries (P.pages store.old)
             (held_by self.new) self.new.cache.entries (P.pages store.new)) }
+        ensures tells { is_some (P.pages store.new) ≡ is_some (P.pages store.old) }
         ensures grows { P.faults store.old ≤ P.faults store.new }
         ensures fault { EndsByCount (P.faults store.old) (P.faults store.new) result }
     {
@@ -185,6 +188,7 @@ impl Frames {
         ensures stands { IfOk result (λ frame. StillStands (page_of (image_bytes image.now))
             (held_by self.old) self.old.cache.entries (P.pages store.old)
             (held_by self.new) ((page, frame) ∷ self.new.cache.entries) (P.pages store.new)) }
+        ensures tells { is_some (P.pages store.new) ≡ is_some (P.pages store.old) }
         ensures grows { P.faults store.old ≤ P.faults store.new }
         ensures fault { EndsByCount (P.faults store.old) (P.faults store.new) result }
     {
@@ -218,6 +222,7 @@ impl Frames {
         ensures stands { IfOk result (λ frame. StillStands (page_of (image_bytes image.now))
             (held_by self.old) self.old.cache.entries (P.pages store.old)
             (held_by self.new) ((page, frame) ∷ self.new.cache.entries) (P.pages store.new)) }
+        ensures tells { is_some (P.pages store.new) ≡ is_some (P.pages store.old) }
         ensures grows { P.faults store.old ≤ P.faults store.new }
         ensures fault { EndsByCount (P.faults store.old) (P.faults store.new) result }
     {
@@ -261,6 +266,7 @@ impl Frames {
             → AreCarried (image_bytes image.now) most accesses self.old (P.pages store.old)
             → AreCarried (image_bytes image.now) most (accesses ++ access.now ∷ []) self.new
             (P.pages store.new)) }
+        ensures tells { is_some (P.pages store.new) ≡ is_some (P.pages store.old) }
         ensures grows { P.faults store.old ≤ P.faults store.new }
         ensures fault { EndsByCount (P.faults store.old) (P.faults store.new) result }
     {
@@ -286,6 +292,7 @@ impl Frames {
             → AreCarried (image_bytes image.now) most accesses self.old (P.pages store.old)
             → AreCarried (image_bytes image.now) most (accesses ++ map access_in words.now) self.new
             (P.pages store.new)) }
+        ensures tells { is_some (P.pages store.new) ≡ is_some (P.pages store.old) }
         ensures grows { P.faults store.old ≤ P.faults store.new }
         ensures fault { EndsByCount (P.faults store.old) (P.faults store.new) result }
     {
@@ -306,6 +313,7 @@ impl Frames {
         ensures stands { OnOk result ((original : ℕ → List ℕ) → StillStands original
             (held_by self.old) self.old.cache.entries (P.pages store.old)
             (held_by self.new) self.new.cache.entries (P.pages store.new)) }
+        ensures tells { is_some (P.pages store.new) ≡ is_some (P.pages store.old) }
         ensures grows { P.faults store.old ≤ P.faults store.new }
         ensures fault { EndsByCount (P.faults store.old) (P.faults store.new) result }
     {

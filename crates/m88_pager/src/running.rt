@@ -1,6 +1,6 @@
 //! A whole run on a board whose transactions are carried out a second time in frames.
 
-ghost use Rattle.std.specs.Prelude.{ℕ, Bool, List, ◌≡◌, ◌<◌, ◌≤◌, ◌+◌, ◌-◌, ◌++◌, false, true, take, IfOk, OnOk};
+ghost use Rattle.std.specs.Prelude.{ℕ, Bool, List, ◌≡◌, ◌<◌, ◌≤◌, ◌+◌, ◌-◌, ◌++◌, false, is_some, true, take, IfOk, OnOk};
 ghost use Rattle.std.specs.NonZero.{non_zero_usize_get};
 ghost use Rattle.m88_event.specs.Bound.{weight};
 ghost use Rattle.m88_event.specs.Letters.{letter_at};
@@ -54,7 +54,7 @@ pub fn page_run<P: PageStore>(
     requires some { 1 ≤ frames }
     requires most { frames ≤ most_frames }
     requires empty { HoldsNoneWhereTold (P.pages store.old) }
-    ensures outcome { IfOk result (λ o. Tells (P.pages store.new)
+    ensures outcome { IfOk result (λ o. Tells (P.pages store.old)
         → (p : Program) → IsProgramOf image.now p → p.mxm ≡ false
         → IsOutcome p (absent_in absent.now) limit schedule.now o.outcome) }
     ensures but_words { IfOk result (λ o. (p : Program) → IsProgramOf image.now p → p.mxm ≡ false
@@ -65,6 +65,7 @@ pub fn page_run<P: PageStore>(
         → HoldsWhereTold (writes_page (transactions p o.outcome.retired))
         (state p o.outcome.retired).memory (P.pages store.new)) }
     ensures program { (p : Program) × IsProgramOf image.now p × (p.mxm ≡ false) }
+    ensures tells { is_some (P.pages store.new) ≡ is_some (P.pages store.old) }
     ensures grows { P.faults store.old ≤ P.faults store.new }
     ensures fault { EndsByCount (P.faults store.old) (P.faults store.new) result }
 {
@@ -125,6 +126,7 @@ fn step<P: PageStore>(
         → AreCarried (image_bytes image.now) most
         (accesses ++ take (board.new.done - board.old.done) board.old.pending) paging.new
         (P.pages store.new)) }
+    ensures tells { is_some (P.pages store.new) ≡ is_some (P.pages store.old) }
     ensures grows { P.faults store.old ≤ P.faults store.new }
     ensures fault { EndsByCount (P.faults store.old) (P.faults store.new) result }
 {
@@ -153,6 +155,7 @@ fn finish<P: PageStore>(
         → IsAt p named m board → is_over p board.limit m ≡ true
         → AreCarried (image_bytes image.now) most (transactions p m.retired) paging (P.pages store.old)
         → CameTo p most m o (P.pages store.new)) }
+    ensures tells { is_some (P.pages store.new) ≡ is_some (P.pages store.old) }
     ensures grows { P.faults store.old ≤ P.faults store.new }
     ensures fault { EndsByCount (P.faults store.old) (P.faults store.new) result }
 {

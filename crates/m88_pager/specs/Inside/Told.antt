@@ -1,5 +1,5 @@
 -- What a store that tells its pages has once no page stands in a frame.
-use Rattle.std.specs.Prelude.{ℕ, Bool, List, [], Option, Some, None, ◌≡◌}
+use Rattle.std.specs.Prelude.{ℕ, Bool, false, List, [], Option, Some, None, ◌≡◌, ◌≤◌, ◌<◌}
 use Rattle.m88_isa.specs.Bus.{changed_among, in_words}
 use Rattle.m88_isa.specs.Lanes.{AreBytes}
 use Rattle.m88_pager.specs.Inside.Bytes.{AreWords, in_bytes}
@@ -19,3 +19,7 @@ AreChanged original held told count words =
     (bus : ℕ → ℕ) (written : ℕ → Bool) → StandsAlone original bus written held told
     → AreBytes original → AreWords bus
     → words ≡ changed_among count (in_words original) bus
+
+-- a set has no page from one number on and below another
+abbrev pub HasNone : (ℕ → Bool) → ℕ → ℕ → Type 0
+HasNone held from to = (page : ℕ) → from ≤ page → page < to → held page ≡ false

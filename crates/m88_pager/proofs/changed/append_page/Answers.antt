@@ -1,12 +1,10 @@
 -- The page as memory has it at first, and as the store does.
-use Rattle.std.specs.BTreeSet.{contains}
-use Rattle.std.specs.Ordering.{nat_cmp}
 use Rattle.std.specs.Prelude.{ℕ, Bool, List, ◌≡◌, length}
 use Rattle.std.proofs.Common.{arith, sym, ap, ◌∙◌}
 use Rattle.std.proofs.lemmas.Result.{on_ok_weaker}
 use Rattle.m88_isa.specs.Bus.{in_words}
 use Rattle.m88_mem.specs.DataBus.{image_bytes}
-use Rattle.m88_pager.proofs.Changing.{first_page, held_page, unheld_more}
+use Rattle.m88_pager.proofs.Changing.{first_page, held_page}
 use Rattle.m88_pager.proofs.Coming.{all_written, is_held}
 use Rattle.m88_pager.proofs.Words.{page_length, words_there}
 use Rattle.m88_pager.specs.Pages.{page_of}
@@ -29,16 +27,10 @@ append_changed-requires-clause-after g c =
     ∙ ap length c.in_ok-after.ensures
     ∙ page_length (image_bytes c.args.image.now) c.args.page
 
-pub returns-then-not-contains-clause-changed : goal.returns-then-not-contains-clause-changed
-returns-then-not-contains-clause-changed g c =
-    unheld_more (image_bytes c.args.image.now) (λ q. contains nat_cmp c.args.held.now q) (g.P.PageStore.pages c.args.store.now) c.args.page
-    c.args.changed.now.items (sym c.contains.ensures ∙ c.if-not-contains.true)
-
 pub returns-clause-changed : goal.returns-clause-changed
-returns-clause-changed g c = λ so bus written s bytes news.
+returns-clause-changed g c = λ held is so bus written s bytes news.
     let old = c.in_ok-after.after in
     let original = image_bytes c.args.image.now in
-    let held : ℕ → Bool = λ q. contains nat_cmp c.args.held.now q in
     let told = g.P.PageStore.pages c.args.store.now in
     let same : length c.read.new.into ≡ length old.items = c.read.auto.into ∙ ap length c.as_mut_slice.ensures.value in
     c.in_ok-append_changed.ensures (in_words original) bus (words_there original bytes) news
@@ -47,5 +39,5 @@ returns-clause-changed g c = λ so bus written s bytes news.
     ∙ all_written old.len old.items c.read.new.into (omega (arith, old.ok.0)) same
     ∙ held_page original bus written held told c.args.page c.read.new.into s
     (is_held (page_of original) held told c.args.page c.in_ok-read.field-0 _ c.read.new.into
-    (sym c.contains.ensures ∙ c.if-not-contains.false) c.in_ok-read.ensures.reads))
+    is c.in_ok-read.ensures.reads))
     (so bus written s bytes news)

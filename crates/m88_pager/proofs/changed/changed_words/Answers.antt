@@ -1,19 +1,20 @@
--- Each page in order.
+-- Each page that is held, in order.
 use Rattle.std.specs.BTreeSet.{contains}
 use Rattle.std.specs.Ordering.{nat_cmp}
-use Rattle.std.specs.Prelude.{ℕ, ◌≡◌, ◌+◌, ◌*◌}
-use Rattle.std.proofs.Common.{arith, sym, ap, subst, ◌∙◌}
-use Rattle.m88_isa.specs.Bus.{changed_among, in_words}
+use Rattle.std.specs.Prelude.{ℕ, Option, ◌+◌, ◌*◌}
+use Rattle.std.proofs.Common.{arith, sym, subst, ◌∙◌}
+use Rattle.m88_isa.specs.Bus.{changed_among}
 use Rattle.m88_mem.specs.DataBus.{image_bytes}
+use Rattle.m88_pager.proofs.Changing.{none_up}
 use Rattle.m88_pager.specs.Inside.Told.{AreChanged}
 use Rattle.m88_pager.specs.Store.{PageMap}
-use Rattle.std.specs.Prelude.{Option}
 use Rattle.m88_pager.proofs.changed.changed_words.Goals as goal
 
 pub loop-page-init : goal.loop-page-init
 unfolding changed_among
 loop-page-init g c = record {
   changed = λ bus written s bytes news. c.new-changed.ensures.items;
+  within = omega arith;
   same = λ i. g.P.PageStore.pages c.args.store.now;
   grows = omega arith;
 }
@@ -21,21 +22,26 @@ loop-page-init g c = record {
 pub loop-page-preserved : goal.loop-page-preserved
 loop-page-preserved g c =
     let inv = c.loop-page.invariant in
+    let found = c.in-Some.ensures in
+    let page = found.page in
     let before = inv.grows in
     let more = c.append_page.ensures.grows in
     let held = λ (q : ℕ). contains nat_cmp c.args.held.now q in
+    let original = image_bytes c.args.image.now in
+    let up = none_up original held (g.P.PageStore.pages c.args.store.now) c.loop-page.from c.in-Some.page c.loop-page.changed.items found.behind found.next inv.changed in
     let step = subst (λ (told : Option PageMap).
-    AreChanged (image_bytes c.args.image.now) held told (c.loop-page.page * 1024) c.loop-page.changed.items
-    → AreChanged (image_bytes c.args.image.now) held told ((c.loop-page.page + 1) * 1024) c.append_page.new.changed.items) inv.same
-    c.in_ok-append_page.ensures.changed in
+    AreChanged original held told (c.in-Some.page * 1024) c.loop-page.changed.items
+    → AreChanged original held told ((c.in-Some.page + 1) * 1024) c.append_page.new.changed.items) inv.same
+    (c.in_ok-append_page.ensures.changed held found.held) in
     record {
-      changed = step inv.changed;
+      changed = step up;
+      within = omega (arith, page);
       same = c.append_page.ensures.same ∙ inv.same;
       grows = omega (arith, before, more);
     }
 
 pub returns-clause-changed : goal.returns-clause-changed
-returns-clause-changed g c = λ bus written s bytes news.
-    let whole : c.loop-page.page * 1024 ≡ 1073741824 = omega (arith, c.loop-page-test.false, c.loop-page.auto.page-end) in
-    c.loop-page.invariant.changed bus written s bytes news
-    ∙ ap (λ n. changed_among n (in_words (image_bytes c.args.image.now)) bus) whole
+returns-clause-changed g c =
+    let inv = c.loop-page.invariant in
+    none_up (image_bytes c.args.image.now) (λ q. contains nat_cmp c.args.held.now q) (g.P.PageStore.pages c.args.store.now)
+    c.loop-page.from 1048576 c.loop-page.changed.items inv.within c.in_default.ensures.none inv.changed

@@ -11,7 +11,7 @@ use Rattle.m88_event.specs.Timeline.{Moment}
 use Rattle.m88_isa.proofs.ImageProgram.{program_of_image}
 use Rattle.m88_mem.specs.DataBus.{image_bytes}
 use Rattle.m88_mem.specs.Marks.{absent_in}
-use Rattle.m88_pager.proofs.Walking.{bytes_there, none_carried, none_within, opens_empty_seen, opens_so, there_first, there_next, there_over}
+use Rattle.m88_pager.proofs.Walking.{bytes_there, none_carried, none_within, opens_empty_seen, opens_so, tells_on, there_first, there_next, there_over}
 use Rattle.m88_pager.proofs.running.page_run.Goals as goal
 
 pub loop-board-init : goal.loop-board-init
@@ -31,6 +31,7 @@ loop-board-init g c =
       room = omega (arith, start);
       within = none_within c.in_ok-board.board.done c.in_ok-paging.paging opened.empty opened.ins opened.outs;
       cap = cap;
+      tells = refl;
       grows = omega arith;
       there = λ q is mode.
           there_first q (absent_in c.args.absent.now) c.args.limit c.args.schedule.now (image_bytes c.args.image.now) c.args.frames
@@ -61,6 +62,7 @@ loop-board-preserved g c =
       room = omega (arith, room, less);
       within = stepped.within;
       cap = c.step.ensures.cap ∙ inv.cap;
+      tells = c.step.ensures.tells ∙ inv.tells;
       grows = omega (arith, older, newer);
       there = λ p of clear.
           there_next p (absent_in c.args.absent.now) c.args.limit c.args.schedule.now c.loop-board.taken (image_bytes c.args.image.now)
@@ -99,7 +101,7 @@ returns-clause-outcome g c = IfOk-weaker c.finish.result _ _
     let m : Moment = moment_after p named c.args.limit c.args.schedule.now c.loop-board.taken in
     let r = came p named m c.args.frames (program_of_image c.args.image.now p c.new.ensures.is_image of) (opens_so p c.args.image.now of)
     there.at over.1 over.2 in
-    record { events = c.loop-board.taken; run = record { here = over.0; first = there.first }; value = r.outcome tells })
+    record { events = c.loop-board.taken; run = record { here = over.0; first = there.first }; value = r.outcome (tells_on _ _ (c.finish.ensures.tells ∙ inv.tells) tells) })
     c.finish.ensures.came
 
 pub returns-clause-but_words : goal.returns-clause-but_words

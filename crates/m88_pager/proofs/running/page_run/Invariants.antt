@@ -1,5 +1,5 @@
 -- The board and its frames stand where the letters taken lead them, and what is left of the run is bounded.
-use Rattle.std.proofs.Common.{ℕ, ◌≡◌, ◌≤◌, ◌+◌, ◌*◌, false, length}
+use Rattle.std.proofs.Common.{ℕ, ◌≡◌, ◌≤◌, ◌+◌, ◌*◌, false, is_some, length}
 use Rattle.m88_event.specs.Bound.{weight}
 use Rattle.m88_isa.specs.ImageProgram.{IsProgramOf}
 use Rattle.m88_isa.specs.Machine.{Program}
@@ -17,6 +17,7 @@ invariant-loop-board g l = record {
   room : l.taken + weight l.schedule l.limit l.taken (local_of l.board) ≤ length l.schedule + 8 * l.limit + 8;
   within : IsWithin l.board.done l.paging;
   cap : l.paging.cache.cap ≡ l.frames;
+  tells : is_some (g.P.PageStore.pages l.store) ≡ is_some (g.P.PageStore.pages l.initial.store);
   grows : g.P.PageStore.faults l.initial.store ≤ g.P.PageStore.faults l.store;
   there : (p : Program) → IsProgramOf l.image p → p.mxm ≡ false
       → IsThere p (absent_in l.absent) l.limit l.schedule l.taken (image_bytes l.image) l.frames l.board l.paging

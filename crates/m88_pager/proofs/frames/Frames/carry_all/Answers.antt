@@ -23,5 +23,6 @@ loop-triple-preserved g c =
           (append_assoc accesses (map access_in (take k c.args.words.now)) (c.access_in.result ∷ [])
           ∙ ap (λ (xs : List Access). accesses ++ xs) (one_mapped c.args.words.now k _ c.access_in.result c.loop-triple-test.true c.access_in.ensures))
           (c.in_ok-carry_out.ensures.carried most (accesses ++ map access_in (take k c.args.words.now)) (inv.carried most accesses s));
+      tells = c.carry_out.ensures.tells ∙ inv.tells;
       grows = omega (arith, before, more);
     }

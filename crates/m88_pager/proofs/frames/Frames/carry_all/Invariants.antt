@@ -1,5 +1,5 @@
 -- The transactions so far.
-use Rattle.std.proofs.Common.{ℕ, List, ◌≡◌, ◌≤◌, ◌+◌, ◌-◌, ◌++◌, map, take}
+use Rattle.std.proofs.Common.{ℕ, List, ◌≡◌, ◌≤◌, ◌+◌, ◌-◌, ◌++◌, is_some, map, take}
 use Rattle.m88_isa.specs.Triples.{access_in}
 use Rattle.m88_isa.specs.declared.planned.Access.{Access}
 use Rattle.m88_mem.specs.DataBus.{image_bytes}
@@ -13,5 +13,6 @@ invariant-loop-triple g l = record {
   carried : (most : ℕ) (accesses : List Access)
       → AreCarried (image_bytes l.image) most accesses l.initial.self (g.P.PageStore.pages l.initial.store)
       → AreCarried (image_bytes l.image) most (accesses ++ map access_in (take l.triple-index l.words)) l.self (g.P.PageStore.pages l.store);
+  tells : is_some (g.P.PageStore.pages l.store) ≡ is_some (g.P.PageStore.pages l.initial.store);
   grows : g.P.PageStore.faults l.initial.store ≤ g.P.PageStore.faults l.store;
 }

@@ -38,6 +38,7 @@ loop-self-preserved g c =
       few = omega (arith, few, outs, most, shorter, taken, there, len);
       outs = omega (arith, so_far, outs, dirty, sum);
       stands = λ original memory written s. c.in_ok-leave.ensures.stands original memory written (inv.stands original memory written s);
+      tells = c.leave.ensures.tells ∙ inv.tells;
       grows = omega (arith, before, more);
     }
 
