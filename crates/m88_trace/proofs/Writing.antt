@@ -268,11 +268,11 @@ ok_both (Ok x) a b h = h a b
 ok_both (Err e) a b h = tt
 
 -- whether some wait
-pub vec_empty : (len : ℕ) (xs : List Waiting) (b : Bool) → b ≡ (len == 0) → b ≡ true → len ≡ length xs → xs ≡ []
+pub vec_empty : {A : Type 0} (len : ℕ) (xs : List A) (b : Bool) → b ≡ (len == 0) → b ≡ true → len ≡ length xs → xs ≡ []
 vec_empty len [] b h t e = refl
 vec_empty len (x ∷ xs) b h t e = absurd (let none = eqb-true len 0 (sym h ∙ t) in omega (arith, none, e))
 
-pub vec_some : (len : ℕ) (xs : List Waiting) (b : Bool) → b ≡ (len == 0) → b ≡ false → len ≡ length xs → 0 < length xs
+pub vec_some : {A : Type 0} (len : ℕ) (xs : List A) (b : Bool) → b ≡ (len == 0) → b ≡ false → len ≡ length xs → 0 < length xs
 vec_some len xs b h f e = let some = eqb-false len 0 (sym h ∙ f) in omega (arith, some, e)
 
 pub made_left : (waiting left : List Waiting) (w : Waiting) → waiting ≡ w ∷ left → AreWords (accesses_of waiting) → AreWords (accesses_of left)

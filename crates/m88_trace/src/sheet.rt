@@ -22,6 +22,9 @@ use m88_report::push_end;
 use std::alloc::Global;
 use std::mem;
 
+/// The bytes that a pen has room for at first: those between two data that are two lines apart.
+const PEN_BYTES: usize = 128;
+
 /// A trace that is being written.
 #[derive(Drop, Debug)]
 pub struct Sheet {
@@ -62,6 +65,10 @@ impl Sheet {
         ensures { IfOk result (λ text. (bus : ℕ → ℕ) → waiting_of self ≡ []
             → text.items ≡ written_by self bus) }
     {
+        // A trace without accesses is written by the pen alone, and isn't copied.
+        if self.text.is_empty() {
+            return Ok(self.pen);
+        }
         self.text.extend_from_slice(&self.pen)?;
         Ok(self.text)
     }
@@ -141,7 +148,8 @@ impl Sheet {
         ensures made { OnOk result (AreMade self.old → AreMade self.new) }
     {
         push_access(&mut self.pen, access)?;
-        let before = mem::replace(&mut self.pen, Vec::new(self.alloc));
+        let pen = Vec::with_capacity(self.alloc, PEN_BYTES)?;
+        let before = mem::replace(&mut self.pen, pen);
         let access = *access;
         push_waiting(&mut self.waiting, Waiting { access, before })?;
         Ok(())

@@ -1,5 +1,5 @@
 -- One line after the other.
-use Rattle.std.proofs.Common.{ℕ, Bool, ◌≡◌, ◌<◌, ◌++◌, List, length, true, false, arith, ap, refl, sym, subst, ◌∙◌}
+use Rattle.std.proofs.Common.{ℕ, Bool, ◌≡◌, ◌<◌, ◌++◌, List, length, false, arith, ap, refl, sym, subst, ◌∙◌}
 use Rattle.m88_base.specs.Image.{IsImage, ProgramImage}
 use Rattle.m88_codec.proofs.ImagePrograms.{program_in, program_in_holds, program_in_mxm}
 use Rattle.m88_isa.proofs.ImageProgram.{program_of_image}

@@ -17,7 +17,7 @@ returns-clause-text c = λ bus.
     open_by s.text.items s.pen.items (access_head a) c.replace-before.new.dest.items s.waiting.items c.push_waiting.new.list.items w a bus
     c.in_ok-push_waiting.ensures refl
     (ap (λ (v : Vec ℕ Global). v.items) c.replace-before.ensures.value ∙ c.in_ok-push_access.ensures)
-    (ap (λ (v : Vec ℕ Global). v.items) c.replace-before.ensures.after ∙ c.new.ensures.items)
+    (ap (λ (v : Vec ℕ Global). v.items) c.replace-before.ensures.after ∙ c.in_ok-pen.ensures.items)
 
 pub returns-clause-waiting : goal.returns-clause-waiting
 returns-clause-waiting c =
