@@ -34,7 +34,8 @@ use Rattle.m88_trace.specs.declared.doing.Doing.TheVariants.{Ends}
 pub same_line : (number at word : ℕ) (turn : Turn) (bus : ℕ → ℕ) → TurnFits turn →
     doing_line number at word (doing_of turn) bus ≡ turn_line number at word turn bus
 same_line number at word (changes change) bus fits =
-    ap (λ (xs : List Access). head_text number at word ++ written_text change.register ++ accesses_text xs bus ++ line_end)
+    ap (λ (xs : List Access). head_text number at word ++ written_text change.register ++ accesses_text xs bus
+    ++ line_end)
     (listed_recorded change.touches fits.short)
 same_line number at word (outputs byte) bus fits = refl
 same_line number at word (stops stop) bus fits = refl
@@ -53,7 +54,8 @@ seen_completed : (s : State) → seen_at s ≡ seen_by (completed_state s)
 unfolding seen_at completed_state
 seen_completed s = refl
 
-after_by : (turn : Turn) (c : Completed) → TurnFits turn → seen_by (after_turn turn c) ≡ after_doing (doing_of turn) (seen_by c)
+after_by : (turn : Turn) (c : Completed) → TurnFits turn →
+    seen_by (after_turn turn c) ≡ after_doing (doing_of turn) (seen_by c)
 unfolding after_turn after_doing
 after_by (changes change) c fits =
     ap (λ (xs : List Access).
@@ -82,7 +84,8 @@ pub turn_seen : (p : Program) (n : ℕ) (f : Seen) → p.mxm ≡ false → f ≡
 unfolding seen_at
 turn_seen p n f clear same =
     ap (λ (s : Seen). turn p s.regs s.carry false s.pc s.next) same
-    ∙ ap (λ (mxm : Bool). turn p (state p n).regs (state p n).carry mxm (state p n).pc (state p n).next) (sym (mode_stays p n ∙ clear))
+    ∙ ap (λ (mxm : Bool). turn p (state p n).regs (state p n).carry mxm (state p n).pc (state p n).next)
+    (sym (mode_stays p n ∙ clear))
 
 -- the word at an address is the one that was fetched, or 0 where none was
 pub word_is : (p : Program) (image : ProgramImage) (a : ℕ) (word : Option ℕ) → IsProgramOf image p →
@@ -91,10 +94,12 @@ pub word_is : (p : Program) (image : ProgramImage) (a : ℕ) (word : Option ℕ)
     unwrap_or word 0 ≡ word_at p a
 unfolding word_at
 word_is p image a None of small fetched =
-    ap (λ (o : Option (List ℕ)). from_be_bytes w32 (unwrap_or o [])) (fetched ∙ ap (λ (byte : ℕ → Option ℕ). four_bytes byte a) (sym of.bytes))
+    ap (λ (o : Option (List ℕ)). from_be_bytes w32 (unwrap_or o []))
+    (fetched ∙ ap (λ (byte : ℕ → Option ℕ). four_bytes byte a) (sym of.bytes))
 word_is p image a (Some w) of small fetched =
     sym (from_be_bytes-to_be_bytes_4 w small)
-    ∙ ap (λ (o : Option (List ℕ)). from_be_bytes w32 (unwrap_or o [])) (fetched ∙ ap (λ (byte : ℕ → Option ℕ). four_bytes byte a) (sym of.bytes))
+    ∙ ap (λ (o : Option (List ℕ)). from_be_bytes w32 (unwrap_or o []))
+    (fetched ∙ ap (λ (byte : ℕ → Option ℕ). four_bytes byte a) (sym of.bytes))
 
 none_there : (o : Option Instr) (word : ℕ) → MatchOption o ((j : Instr) → ¬ IsWord j word) (λ j. IsWord j word) →
     ((j : Instr) → ¬ IsWord j word) →
@@ -102,7 +107,8 @@ none_there : (o : Option Instr) (word : ℕ) → MatchOption o ((j : Instr) → 
 none_there None word found none = refl
 none_there (Some j) word found none = absurd (none j found)
 
-found_there : (o : Option Instr) (i : Instr) (word : ℕ) → MatchOption o ((j : Instr) → ¬ IsWord j word) (λ j. IsWord j word) →
+found_there : (o : Option Instr) (i : Instr) (word : ℕ) →
+    MatchOption o ((j : Instr) → ¬ IsWord j word) (λ j. IsWord j word) →
     IsWord i word →
     ((j : Instr) → IsWord j word → j ≡ i) →
     o ≡ Some i
@@ -110,12 +116,14 @@ found_there None i word none is only = absurd (none i is)
 found_there (Some j) i word found is only = ap Some (only j found)
 
 -- the bytes and the instruction of a word that was fetched
-bytes_there : (p : Program) (image : ProgramImage) (pc word : ℕ) (fetch : Option ℕ) → IsProgramOf image p → fetch ≡ Some word →
+bytes_there : (p : Program) (image : ProgramImage) (pc word : ℕ) (fetch : Option ℕ) → IsProgramOf image p →
+    fetch ≡ Some word →
     option_map (λ w. to_be_bytes w32 w) fetch ≡ four_bytes (byte_at image) pc →
     four_bytes (byte_at image) pc ≡ Some (to_be_bytes w32 word)
 bytes_there p image pc word fetch of some h = sym h ∙ ap (option_map (λ w. to_be_bytes w32 w)) some
 
-turn_by_word : (p : Program) (image : ProgramImage) (regs : List ℕ) (carry : Bool) (pc next word : ℕ) (i : Option Instr) →
+turn_by_word : (p : Program) (image : ProgramImage) (regs : List ℕ) (carry : Bool) (pc next word : ℕ)
+    (i : Option Instr) →
     IsProgramOf image p →
     four_bytes (byte_at image) pc ≡ Some (to_be_bytes w32 word) →
     p.instruction pc ≡ i →
@@ -125,7 +133,8 @@ turn_by_word p image regs carry pc next word i of there is =
     (ap (λ (byte : ℕ → Option ℕ). four_bytes byte pc) of.bytes ∙ there) is
 
 -- the turn where the word is no instruction
-pub turn_unread : (p : Program) (image : ProgramImage) (regs : List ℕ) (carry : Bool) (pc next word : ℕ) (fetch : Option ℕ) →
+pub turn_unread : (p : Program) (image : ProgramImage) (regs : List ℕ) (carry : Bool) (pc next word : ℕ)
+    (fetch : Option ℕ) →
     IsProgramOf image p →
     pc % 4 ≡ 0 →
     word < 2 ^ 32 →
@@ -139,7 +148,8 @@ turn_unread p image regs carry pc next word fetch of aligned small some h none =
     (none_there (p.instruction pc) word (instruction_at_word image p pc word of aligned small there) none)
 
 -- the turn of the instruction of the word
-pub turn_read : (p : Program) (image : ProgramImage) (regs : List ℕ) (carry : Bool) (pc next word : ℕ) (fetch : Option ℕ) (i : Instr) →
+pub turn_read : (p : Program) (image : ProgramImage) (regs : List ℕ) (carry : Bool) (pc next word : ℕ)
+    (fetch : Option ℕ) (i : Instr) →
     IsProgramOf image p →
     pc % 4 ≡ 0 →
     word < 2 ^ 32 →
@@ -205,7 +215,8 @@ opens p image start bus of starts words =
     }
 
 -- the datum of a load
-pub loads : (a : Access) (bus : ℕ → ℕ) (word datum : ℕ) → a.write ≡ false → word ≡ bus a.addr → datum ≡ datum_of a.en a.signed word →
+pub loads : (a : Access) (bus : ℕ → ℕ) (word datum : ℕ) → a.write ≡ false → word ≡ bus a.addr →
+    datum ≡ datum_of a.en a.signed word →
     datum ≡ datum_by a bus
 unfolding datum_by loaded
 loads a bus word datum read is gets = rw read (gets ∙ ap (datum_of a.en a.signed) is)
@@ -224,6 +235,7 @@ load_cells a regs bus datum read is =
     rw read (ap (λ (d : ℕ). record { regs = with_register a.reg d regs; bus = bus }) gets)
 
 -- what is said of an answer that is there
-pub ok_of : {T E A B : Type 0} (r : Result T E) (P Q : T → Type 0) → IfOk r P → OnOk r A → OnOk r B → ((x : T) → P x → A → B → Q x) → IfOk r Q
+pub ok_of : {T E A B : Type 0} (r : Result T E) (P Q : T → Type 0) → IfOk r P → OnOk r A → OnOk r B →
+    ((x : T) → P x → A → B → Q x) → IfOk r Q
 ok_of (Ok x) P Q p a b h = h x p a b
 ok_of (Err e) P Q p a b h = tt

@@ -20,7 +20,8 @@ some_last (y ∷ xs) x e = cc
 -- no line is empty
 some_turn : (number at word : ℕ) (turn : Turn) (bus : ℕ → ℕ) → turn_line number at word turn bus ≢ []
 some_turn number at word (changes change) bus =
-    some_last (head_text number at word ++ written_text change.register ++ accesses_text (change_accesses change) bus) 10
+    some_last (head_text number at word ++ written_text change.register ++ accesses_text (change_accesses change) bus)
+    10
 some_turn number at word (outputs byte) bus = some_last (head_text number at word ++ output_text byte) 10
 some_turn number at word (stops stop) bus = some_last (codes "end " ++ end_text (end_by stop)) 10
 
@@ -64,14 +65,17 @@ pub lines_there : (p : Program) (n : ℕ) → HasInstructions p n → HasLines (
 lines_there p n has k less = some_there p k (not_ended_at p k (λ j h. has j (omega (arith, h, less))))
 
 -- from its end on a history stays where it is
-stop_stays : (p : Program) (n : ℕ) (turn : Turn) → turn_at p (state p n) ≡ turn → is_stop turn ≡ true → state p (suc n) ≡ state p n
+stop_stays : (p : Program) (n : ℕ) (turn : Turn) → turn_at p (state p n) ≡ turn → is_stop turn ≡ true →
+    state p (suc n) ≡ state p n
 unfolding state
 stop_stays p n (changes change) e stop = absurd cc
 stop_stays p n (outputs byte) e stop = absurd cc
 stop_stays p n (stops how) e stop = rw e refl
 
-stays_stopped : (p : Program) (n more : ℕ) → is_stop (turn_at p (state p n)) ≡ true → is_stop (turn_at p (state p (n + more))) ≡ true
-stays_stopped p n zero stop = let e : n ≡ n + 0 = omega arith in subst (λ k. is_stop (turn_at p (state p k)) ≡ true) e stop
+stays_stopped : (p : Program) (n more : ℕ) → is_stop (turn_at p (state p n)) ≡ true →
+    is_stop (turn_at p (state p (n + more))) ≡ true
+stays_stopped p n zero stop = let e : n ≡ n + 0 = omega arith in
+    subst (λ k. is_stop (turn_at p (state p k)) ≡ true) e stop
 stays_stopped p n (suc more) stop =
     let before = stays_stopped p n more stop in
     let e : suc (n + more) ≡ n + suc more = omega arith in

@@ -1,4 +1,4 @@
--- What those above may use of traces without a call: a text has one verdict, and a run has one trace, that of its limit.
+-- What those above may use of traces without a call: a text has one verdict, and a run one trace, that of its limit.
 use Rattle.std.specs.Prelude.{ℕ, zero, suc, Bool, List, ◌≡◌, ◌+◌}
 use Rattle.std.proofs.Common.{sym, ◌∙◌}
 use Rattle.m88_base.specs.OneVerdict.{HasOneVerdict}
@@ -17,7 +17,8 @@ use Rattle.m88_trace.specs.Texts.{DiffersBehind, IsText}
 use Rattle.m88_trace.specs.Trace.{IsRunTrace, trace_line, trace_of}
 
 -- a text is so many lines of a program's trace, or differs behind so many
-pub one_verdict_of : (p : Program) (text : List ℕ) → HasOneVerdict (IsText (trace_line p) text) (DiffersBehind (trace_line p) text)
+pub one_verdict_of : (p : Program) (text : List ℕ) →
+    HasOneVerdict (IsText (trace_line p) text) (DiffersBehind (trace_line p) text)
 one_verdict_of p text = one_verdict (trace_line p) text (some_line p)
 
 -- what lies behind each moment of a run

@@ -52,18 +52,21 @@ not_busy : (least : Option ℕ) (no_room waits : Bool) → first_reason least no
 not_busy None no_room waits e = refl
 not_busy (Some register) no_room waits e = absurd cc
 
-served_not : (service : Service) (vector pc : ℕ) (change : Change) → turn_of_service service vector pc ≡ changes change → ⊥
+served_not : (service : Service) (vector pc : ℕ) (change : Change) →
+    turn_of_service service vector pc ≡ changes change → ⊥
 served_not (Out byte) vector pc change e = absurd cc
 served_not End vector pc change e = absurd cc
 served_not Unserved vector pc change e = absurd cc
 
-carried_goes : (m : Meaning) (regs : List ℕ) (pc : ℕ) (change : Change) → carried_out m regs pc ≡ changes change → m ≡ goes change
+carried_goes : (m : Meaning) (regs : List ℕ) (pc : ℕ) (change : Change) → carried_out m regs pc ≡ changes change →
+    m ≡ goes change
 carried_goes (raises vector) regs pc change e = absurd cc
 carried_goes (traps vector) regs pc change e = absurd (served_not (service_of vector regs) vector pc change e)
 carried_goes (goes other) regs pc change e = cc
 
 -- the word of an instruction that makes its changes, and what it means
-pub record Fetches (word : Option (List ℕ)) (instruction : Option Instr) (regs : List ℕ) (carry mxm : Bool) (pc next : ℕ)
+pub record Fetches (word : Option (List ℕ)) (instruction : Option Instr) (regs : List ℕ) (carry mxm : Bool)
+    (pc next : ℕ)
     (change : Change) : Type 0 where
   pub bytes : List ℕ
   pub i : Instr
@@ -71,7 +74,8 @@ pub record Fetches (word : Option (List ℕ)) (instruction : Option Instr) (regs
   pub instruction_is : instruction ≡ Some i
   pub means : meaning_of i regs carry mxm pc next ≡ goes change
 
-fetched_goes : (word : Option (List ℕ)) (instruction : Option Instr) (regs : List ℕ) (carry mxm : Bool) (pc next : ℕ) (change : Change) →
+fetched_goes : (word : Option (List ℕ)) (instruction : Option Instr) (regs : List ℕ) (carry mxm : Bool) (pc next : ℕ)
+    (change : Change) →
     fetched word instruction regs carry mxm pc next ≡ changes change →
     Fetches word instruction regs carry mxm pc next change
 fetched_goes None instruction regs carry mxm pc next change e = absurd cc
@@ -86,12 +90,14 @@ fetched_goes (Some bytes) (Some i) regs carry mxm pc next change e = record {
 
 -- why the next instruction is held at a moment, if it is
 abbrev held_at : Program → Moment → Option Hold
-held_at p m = held (instruction_at p (state p m.retired).pc) (turn_at p (state p m.retired)) (pending_at p m.retired m.done)
+held_at p m = held (instruction_at p (state p m.retired).pc) (turn_at p (state p m.retired))
+    (pending_at p m.retired m.done)
 
 -- the choice of the letter `i` at a moment
 pub choice_shown : (p : Program) (named : ℕ → Bool) (limit : ℕ) (m : Moment) →
     choice_at p named limit Issue m
-    ≡ issue_choice (is_idle limit m) m.bubble (held (instruction_at p (state p m.retired).pc) (turn_at p (state p m.retired)) (pending_at p m.retired m.done))
+    ≡ issue_choice (is_idle limit m) m.bubble
+    (held (instruction_at p (state p m.retired).pc) (turn_at p (state p m.retired)) (pending_at p m.retired m.done))
     (turn_at p (state p m.retired))
 unfolding situation_at
 choice_shown p named limit m = refl
@@ -101,7 +107,8 @@ issued_at : (p : Program) (named : ℕ → Bool) (limit : ℕ) (m : Moment) (cha
     choice_at p named limit Issue m ≡ issues change →
     (m.bubble ≡ false) × (held_at p m ≡ None) × (turn_at p (state p m.retired) ≡ changes change)
 issued_at p named limit m change e =
-    issued_by (is_idle limit m) m.bubble (held_at p m) (turn_at p (state p m.retired)) change (sym (choice_shown p named limit m) ∙ e)
+    issued_by (is_idle limit m) m.bubble (held_at p m) (turn_at p (state p m.retired)) change
+    (sym (choice_shown p named limit m) ∙ e)
 
 pub not_over_bubble : (p : Program) (named : ℕ → Bool) (limit : ℕ) (m : Moment) (change : Change) →
     choice_at p named limit Issue m ≡ issues change →
@@ -112,7 +119,8 @@ pub not_over_bubble_served : (p : Program) (named : ℕ → Bool) (limit : ℕ) 
     choice_at p named limit Issue m ≡ serves byte →
     m.bubble ≡ false
 not_over_bubble_served p named limit m byte e =
-    served_by (is_idle limit m) m.bubble (held_at p m) (turn_at p (state p m.retired)) byte (sym (choice_shown p named limit m) ∙ e)
+    served_by (is_idle limit m) m.bubble (held_at p m) (turn_at p (state p m.retired)) byte
+    (sym (choice_shown p named limit m) ∙ e)
 
 turn_issued : (p : Program) (named : ℕ → Bool) (limit : ℕ) (m : Moment) (change : Change) →
     choice_at p named limit Issue m ≡ issues change →
@@ -173,19 +181,25 @@ unfolding local_of local_at
 waiting_at p named m b at = ap (λ (l : Local). l.pending) at.seen
 
 -- the meaning by the registers that are shown is that of the history
-means_at : (p : Program) (named : ℕ → Bool) (m : Moment) (b : BoardView) (i : Instr) → IsAt p named m b → m.bubble ≡ false →
+means_at : (p : Program) (named : ℕ → Bool) (m : Moment) (b : BoardView) (i : Instr) → IsAt p named m b →
+    m.bubble ≡ false →
     busy_register (Some i) b.pending ≡ None →
     meaning_of i b.file.numbers (carry_of b.control) (mxm_of b.control) b.slots.nip.addr b.slots.fip.addr
-    ≡ meaning_of i (state p m.retired).regs (state p m.retired).carry (state p m.retired).mxm (state p m.retired).pc (state p m.retired).next
+    ≡ meaning_of i (state p m.retired).regs (state p m.retired).carry (state p m.retired).mxm (state p m.retired).pc
+    (state p m.retired).next
 means_at p named m b i at straight free =
-    meaning_seen i b.pending (cells_of b.file b.memory) b.file.numbers (carry_of b.control) (mxm_of b.control) b.slots.nip.addr
+    meaning_seen i b.pending (cells_of b.file b.memory) b.file.numbers (carry_of b.control) (mxm_of b.control)
+    b.slots.nip.addr
     b.slots.fip.addr free (λ r below waits. refl)
-    ∙ ap (λ (regs : List ℕ). meaning_of i regs (carry_of b.control) (mxm_of b.control) b.slots.nip.addr b.slots.fip.addr) (regs_at p named m b at)
-    ∙ ap₂ (λ (c x : Bool). meaning_of i (state p m.retired).regs c x b.slots.nip.addr b.slots.fip.addr) (carry_at p named m b at) (mode_at p named m b at)
+    ∙ ap (λ (regs : List ℕ). meaning_of i regs (carry_of b.control) (mxm_of b.control) b.slots.nip.addr
+    b.slots.fip.addr) (regs_at p named m b at)
+    ∙ ap₂ (λ (c x : Bool). meaning_of i (state p m.retired).regs c x b.slots.nip.addr b.slots.fip.addr)
+    (carry_at p named m b at) (mode_at p named m b at)
     ∙ ap₂ (λ (a n : ℕ). meaning_of i (state p m.retired).regs (state p m.retired).carry (state p m.retired).mxm a n)
     (pc_at p named m b at straight) (next_at p named m b at straight)
 
-instruction_there : (word : Option (List ℕ)) (instruction : Option Instr) (bytes : List ℕ) (i : Instr) → word ≡ Some bytes →
+instruction_there : (word : Option (List ℕ)) (instruction : Option Instr) (bytes : List ℕ) (i : Instr) →
+    word ≡ Some bytes →
     instruction ≡ Some i →
     fetched_instruction word instruction ≡ Some i
 instruction_there word instruction bytes i there is = rw there is
@@ -196,7 +210,8 @@ pub record Shows (p : Program) (b : BoardView) (change : Change) : Type 0 where
   pub i : Instr
   pub fetch : four_bytes (byte_at b.memory.image) b.slots.nip.addr ≡ Some bytes
   pub there : p.instruction b.slots.nip.addr ≡ Some i
-  pub plans : plan_for (meaning_of i b.file.numbers (carry_of b.control) (mxm_of b.control) b.slots.nip.addr b.slots.fip.addr)
+  pub plans : plan_for (meaning_of i b.file.numbers (carry_of b.control) (mxm_of b.control) b.slots.nip.addr
+      b.slots.fip.addr)
       ≡ Go (recorded_change change)
 
 pub shows_at : (p : Program) (named : ℕ → Bool) (m : Moment) (b : BoardView) (change : Change) → IsAt p named m b →
@@ -211,7 +226,8 @@ shows_at p named m b change at choice =
     (turn_issued p named b.limit m change choice) in
     let free : busy_register (Some found.i) b.pending ≡ None =
     ap₂ (λ (i : Option Instr) (xs : List Access). busy_register i xs)
-    (sym (instruction_there (four_bytes p.byte s.pc) (p.instruction s.pc) found.bytes found.i found.word_is found.instruction_is))
+    (sym (instruction_there (four_bytes p.byte s.pc) (p.instruction s.pc) found.bytes found.i found.word_is
+    found.instruction_is))
     (waiting_at p named m b at)
     ∙ free_issued p named b.limit m change choice in
     record {
@@ -224,18 +240,22 @@ shows_at p named m b change at choice =
     }
 
 -- where no word can be fetched, or it is no instruction, none is issued
-pub unfetched_none : (p : Program) (b : BoardView) (change : Change) (word : Option ℕ) → Shows p b change → word ≡ None →
+pub unfetched_none : (p : Program) (b : BoardView) (change : Change) (word : Option ℕ) → Shows p b change →
+    word ≡ None →
     option_map (λ w. to_be_bytes w32 w) word ≡ four_bytes (byte_at b.memory.image) b.slots.nip.addr →
     ⊥
 unfetched_none p b change word shows none fetch =
-    let lacks : None ≡ Some shows.bytes = sym (ap (option_map (λ w. to_be_bytes w32 w)) none) ∙ fetch ∙ shows.fetch in cc
+    let lacks : None ≡ Some shows.bytes = sym (ap (option_map (λ w. to_be_bytes w32 w)) none) ∙ fetch ∙ shows.fetch in
+    cc
 
-there_is : (o : Option Instr) (i : Instr) (word : ℕ) → MatchOption o ((j : Instr) → ¬ IsWord j word) (λ j. IsWord j word) → o ≡ Some i →
+there_is : (o : Option Instr) (i : Instr) (word : ℕ) →
+    MatchOption o ((j : Instr) → ¬ IsWord j word) (λ j. IsWord j word) → o ≡ Some i →
     IsWord i word
 there_is None i word found e = absurd cc
 there_is (Some j) i word found e = let same : j ≡ i = cc in subst (λ (k : Instr). IsWord k word) same found
 
-pub word_of_shown : (p : Program) (b : BoardView) (change : Change) (word : ℕ) (fetch : Option ℕ) (shows : Shows p b change) →
+pub word_of_shown : (p : Program) (b : BoardView) (change : Change) (word : ℕ) (fetch : Option ℕ)
+    (shows : Shows p b change) →
     IsProgramOf b.memory.image p →
     b.slots.nip.addr % 4 ≡ 0 →
     word < 2 ^ 32 →
@@ -248,7 +268,8 @@ word_of_shown p b change word fetch shows of aligned small some bytes =
     (sym bytes ∙ ap (option_map (λ w. to_be_bytes w32 w)) some)) shows.there
 
 -- the accesses of a plan that goes on
-pub makes_words : (count : ℕ) (plan : Plan) → MakesAccesses count plan → IfGo plan (λ effect. AreWordAccesses effect.accesses.count effect.accesses)
+pub makes_words : (count : ℕ) (plan : Plan) → MakesAccesses count plan →
+    IfGo plan (λ effect. AreWordAccesses effect.accesses.count effect.accesses)
 makes_words count (Go effect) made = subst (λ n. AreWordAccesses n effect.accesses) (sym made.0) made
 makes_words count (Raise vector) made = tt
 makes_words count (Trap vector) made = tt

@@ -57,7 +57,8 @@ traced_same p m n s same traced = record {
 }
 
 -- which choice an event tells of
-pub said_issued : (choice : Choice) (fault : Record) → happened.Issued ≡ said choice fault → (change : Change) × (choice ≡ issues change)
+pub said_issued : (choice : Choice) (fault : Record) → happened.Issued ≡ said choice fault →
+    (change : Change) × (choice ≡ issues change)
 said_issued idles fault e = absurd cc
 said_issued passes fault e = absurd cc
 said_issued (holds why) fault e = absurd cc
@@ -68,7 +69,8 @@ said_issued replies fault e = absurd cc
 said_issued faults fault e = absurd cc
 said_issued evicts fault e = absurd cc
 
-pub said_served : (choice : Choice) (fault : Record) (byte : ℕ) → happened.Served byte ≡ said choice fault → choice ≡ serves byte
+pub said_served : (choice : Choice) (fault : Record) (byte : ℕ) → happened.Served byte ≡ said choice fault →
+    choice ≡ serves byte
 said_served idles fault byte e = absurd cc
 said_served passes fault byte e = absurd cc
 said_served (holds why) fault byte e = absurd cc
@@ -114,7 +116,8 @@ said_faulted faults fault was e = refl
 said_faulted evicts fault was e = absurd cc
 
 -- an event of `i` that issues, puts out and ends nothing adds nothing
-turn_tells : (p : Program) (turn : Turn) (fault : Record) (m : Moment) → happened.Issued ≢ said (turn_choice turn) fault →
+turn_tells : (p : Program) (turn : Turn) (fault : Record) (m : Moment) →
+    happened.Issued ≢ said (turn_choice turn) fault →
     ((byte : ℕ) → happened.Served byte ≢ said (turn_choice turn) fault) →
     ((end : End) → happened.Ended end ≢ said (turn_choice turn) fault) →
     ⊥
@@ -173,10 +176,12 @@ pub told_by : (p : Program) (named : ℕ → Bool) (limit : ℕ) (letter : Lette
     choice_at p named limit letter m ≡ choice →
     told_of (after_letter p named limit letter m) ≡ told_of (after_choice p choice (record_at p named limit m) m)
 unfolding after_letter
-told_by p named limit letter m choice e = ap (λ (c : Choice). told_of (after_choice p c (record_at p named limit m) m)) e
+told_by p named limit letter m choice e =
+    ap (λ (c : Choice). told_of (after_choice p c (record_at p named limit m) m)) e
 
 -- the words of memory once all that is pending at a moment is done are those of the state
-pub words_then : (p : Program) (n done : ℕ) → IsProgram p → bus_after_all (pending_at p n done) (bus_at p n done) ≡ in_words (state p n).memory
+pub words_then : (p : Program) (n done : ℕ) → IsProgram p → bus_after_all (pending_at p n done) (bus_at p n done)
+    ≡ in_words (state p n).memory
 words_then p n done is =
     sym (bus_of_append (take done (transactions p n)) (pending_at p n done) (in_words (opening p).memory))
     ∙ ap (λ xs. bus_after_all xs (in_words (opening p).memory)) (take-append-drop done (transactions p n))
@@ -196,31 +201,39 @@ more_waits p n done turn e h =
 
 -- the text with one line more
 one_line : (p : Program) (m : Moment) (limit : ℕ) → HasPast p limit m → m.ended ≡ false →
-    text_of (trace_line p) (m.retired + 1) ≡ text_of (trace_line p) (m.retired + one_if m.ended) ++ line_at p m.retired (state p m.retired)
+    text_of (trace_line p) (m.retired + 1) ≡ text_of (trace_line p) (m.retired + one_if m.ended)
+    ++ line_at p m.retired (state p m.retired)
 one_line p m limit past lives =
     text_more (trace_line p) m.retired (line_at p m.retired (state p m.retired))
     (line_there p m.retired (not_ended_at p m.retired past.retired))
     ∙ ap (λ k. text_of (trace_line p) k ++ line_at p m.retired (state p m.retired))
-    (let none : m.retired ≡ m.retired + one_if false = omega arith in none ∙ ap (λ (b : Bool). m.retired + one_if b) (sym lives))
+    (let none : m.retired ≡ m.retired + one_if false = omega arith in
+    none ∙ ap (λ (b : Bool). m.retired + one_if b) (sym lives))
 
 -- the line of a turn of which the number, the address and the word are known
-line_of_turn : (p : Program) (m : Moment) (number at word : ℕ) (turn : Turn) → IsProgram p → turn_at p (state p m.retired) ≡ turn →
+line_of_turn : (p : Program) (m : Moment) (number at word : ℕ) (turn : Turn) → IsProgram p →
+    turn_at p (state p m.retired) ≡ turn →
     number ≡ m.retired →
     at ≡ (state p m.retired).pc →
     word ≡ word_at p (state p m.retired).pc →
-    doing_line number at word (doing_of turn) (bus_after_all (pending_at p m.retired m.done) (bus_at p m.retired m.done))
+    doing_line number at word (doing_of turn)
+    (bus_after_all (pending_at p m.retired m.done) (bus_at p m.retired m.done))
     ≡ line_at p m.retired (state p m.retired)
 line_of_turn p m number at word turn is e numbers here words =
-    ap₂ (λ (k : ℕ) (a : ℕ). doing_line k a word (doing_of turn) (bus_after_all (pending_at p m.retired m.done) (bus_at p m.retired m.done)))
+    ap₂ (λ (k : ℕ) (a : ℕ). doing_line k a word (doing_of turn)
+    (bus_after_all (pending_at p m.retired m.done) (bus_at p m.retired m.done)))
     numbers here
     ∙ ap₂ (λ (w : ℕ) (bus : ℕ → ℕ). doing_line m.retired (state p m.retired).pc w (doing_of turn) bus) words
     (words_then p m.retired m.done is)
-    ∙ ap (λ (t : Turn). doing_line m.retired (state p m.retired).pc (word_at p (state p m.retired).pc) (doing_of t) (in_words (state p m.retired).memory)) (sym e)
-    ∙ same_line m.retired (state p m.retired).pc (word_at p (state p m.retired).pc) (turn_at p (state p m.retired)) (in_words (state p m.retired).memory)
+    ∙ ap (λ (t : Turn). doing_line m.retired (state p m.retired).pc (word_at p (state p m.retired).pc) (doing_of t)
+    (in_words (state p m.retired).memory)) (sym e)
+    ∙ same_line m.retired (state p m.retired).pc (word_at p (state p m.retired).pc) (turn_at p (state p m.retired))
+    (in_words (state p m.retired).memory)
     (doing_fits p m.retired is)
 
 -- an instruction is retired, and its line is written
-pub traced_step : (p : Program) (limit : ℕ) (m n : Moment) (old new : Sheet) (number at word : ℕ) (turn : Turn) → IsProgram p →
+pub traced_step : (p : Program) (limit : ℕ) (m n : Moment) (old new : Sheet) (number at word : ℕ) (turn : Turn) →
+    IsProgram p →
     HasPast p limit m →
     DoneWereMade p m →
     turn_at p (state p m.retired) ≡ turn →
@@ -240,8 +253,10 @@ traced_step p limit m n old new number at word turn is past made e lives told nu
       text =
           ap (written_by new) (same_words p m.retired m.done turn e made)
           ∙ writes bus
-          ∙ ap₂ (λ (xs : List ℕ) (as' : List Access). xs ++ doing_line number at word (doing_of turn) (bus_after_all as' bus)) traced.text traced.waiting
-          ∙ ap (λ (xs : List ℕ). text_of (trace_line p) (m.retired + one_if m.ended) ++ xs) (line_of_turn p m number at word turn is e numbers here words)
+          ∙ ap₂ (λ (xs : List ℕ) (as' : List Access). xs ++ doing_line number at word (doing_of turn)
+          (bus_after_all as' bus)) traced.text traced.waiting
+          ∙ ap (λ (xs : List ℕ). text_of (trace_line p) (m.retired + one_if m.ended) ++ xs)
+          (line_of_turn p m number at word turn is e numbers here words)
           ∙ sym (one_line p m limit past lives)
           ∙ (let none : m.retired + 1 ≡ m.retired + 1 + one_if false = omega arith in
           ap (text_of (trace_line p)) (none ∙ ap (λ (b : Bool). m.retired + 1 + one_if b) (sym lives)));
@@ -269,7 +284,8 @@ traced_end p limit m n old new stop end is past e lives told ends writes waits t
           writes bus
           ∙ ap (λ (xs : List ℕ). xs ++ doing_line 0 0 0 (doing_of (stops stop)) bus) traced.text
           ∙ ap (λ (xs : List ℕ). text_of (trace_line p) (m.retired + one_if m.ended) ++ xs)
-          (line_of_turn p m m.retired (state p m.retired).pc (word_at p (state p m.retired).pc) (stops stop) is e refl refl refl)
+          (line_of_turn p m m.retired (state p m.retired).pc (word_at p (state p m.retired).pc) (stops stop) is e refl
+          refl refl)
           ∙ sym (one_line p m limit past lives);
       waiting = waits ∙ traced.waiting;
     })
@@ -285,13 +301,15 @@ split_drop zero xs = refl
 split_drop (suc done) [] = refl
 split_drop (suc done) (x ∷ xs) = split_drop done xs
 
-answered_words : (p : Program) (n done : ℕ) → bus_at p n (done + 1) ≡ bus_after_all (take 1 (pending_at p n done)) (bus_at p n done)
+answered_words : (p : Program) (n done : ℕ) →
+    bus_at p n (done + 1) ≡ bus_after_all (take 1 (pending_at p n done)) (bus_at p n done)
 answered_words p n done = rw add-one (
     ap (λ xs. bus_after_all xs (in_words (opening p).memory)) (split_take done (transactions p n))
     ∙ bus_of_append (take done (transactions p n)) (take 1 (pending_at p n done)) (in_words (opening p).memory))
 
 pub traced_answer : (p : Program) (m n : Moment) (old new : Sheet) → told_of n ≡ (m.retired, m.done + 1, m.ended) →
-    written_by new (bus_after_all (take 1 (waiting_of old)) (bus_at p m.retired m.done)) ≡ written_by old (bus_at p m.retired m.done) →
+    written_by new (bus_after_all (take 1 (waiting_of old)) (bus_at p m.retired m.done))
+    ≡ written_by old (bus_at p m.retired m.done) →
     waiting_of new ≡ drop 1 (waiting_of old) →
     IsTraced p m old →
     IsTraced p n new
@@ -311,7 +329,8 @@ traced_answer p m n old new told writes waits traced =
     })
 
 -- all that is pending is done, and all data are written
-pub traced_fault : (p : Program) (m n : Moment) (old new : Sheet) → told_of n ≡ (m.retired, transaction_count p m.retired, m.ended) →
+pub traced_fault : (p : Program) (m n : Moment) (old new : Sheet) →
+    told_of n ≡ (m.retired, transaction_count p m.retired, m.ended) →
     ((after : ℕ → ℕ) → written_by new after ≡ written_by old (bus_at p m.retired m.done)) →
     waiting_of new ≡ [] →
     IsTraced p m old →
@@ -323,7 +342,8 @@ traced_fault p m n old new told writes waits traced =
     })
 
 -- three transactions at most are pending
-pub few_wait : (p : Program) (limit : ℕ) (m : Moment) (s : Sheet) → HasPast p limit m → IsTraced p m s → length (waiting_of s) ≤ 3
+pub few_wait : (p : Program) (limit : ℕ) (m : Moment) (s : Sheet) → HasPast p limit m → IsTraced p m s →
+    length (waiting_of s) ≤ 3
 few_wait p limit m s past traced =
     let few = past.pending in
     let left = length-drop m.done (transactions p m.retired) in
@@ -331,13 +351,15 @@ few_wait p limit m s past traced =
     omega (arith, few, left, same)
 
 -- an instruction was issued
-pub issued_note : (p : Program) (named : ℕ → Bool) (limit : ℕ) (m : Moment) (old new : Sheet) (next : Upcoming) → IsProgram p →
+pub issued_note : (p : Program) (named : ℕ → Bool) (limit : ℕ) (m : Moment) (old new : Sheet) (next : Upcoming) →
+    IsProgram p →
     HasPast p limit m →
     DoneWereMade p m →
     IsNext p named limit m next →
     happened.Issued ≡ said_at p named limit Issue m →
     ((bus : ℕ → ℕ) (effect : Effect) → next.effect ≡ Some effect
-    → written_by new bus ≡ written_by old bus ++ doing_line next.number next.at next.word (Goes effect) (bus_after_all (waiting_of old) bus)) →
+    → written_by new bus ≡ written_by old bus ++ doing_line next.number next.at next.word (Goes effect)
+    (bus_after_all (waiting_of old) bus)) →
     ((effect : Effect) → next.effect ≡ Some effect → waiting_of new ≡ waiting_of old ++ listed effect.accesses) →
     IsTraced p m old →
     IsTraced p (after_letter p named limit Issue m) new
@@ -349,18 +371,22 @@ issued_note p named limit m old new next is past made seen says writes waits tra
     let straight = not_over_bubble p named limit m change found.1 in
     let fit : Fits p m (issues change) = subst (λ (c : Choice). Fits p m c) found.1 (fits p named limit Issue m) in
     let unit : TurnFits (changes change) = subst (λ (t : Turn). TurnFits t) fit.0 (doing_fits p m.retired is) in
-    traced_step p limit m (after_letter p named limit Issue m) old new next.number next.at next.word (changes change) is past made fit.0 fit.1
+    traced_step p limit m (after_letter p named limit Issue m) old new next.number next.at next.word (changes change) is
+    past made fit.0 fit.1
     (told_by p named limit Issue m (issues change) found.1) seen.number (seen.place straight) (seen.word straight)
     (λ bus. writes bus (recorded_change change) effect)
-    (waits (recorded_change change) effect ∙ ap (λ (xs : List Access). waiting_of old ++ xs) (listed_recorded change.touches unit.short)) traced
+    (waits (recorded_change change) effect ∙ ap (λ (xs : List Access). waiting_of old ++ xs)
+    (listed_recorded change.touches unit.short)) traced
 
 -- a byte was put out
-pub served_note : (p : Program) (named : ℕ → Bool) (limit : ℕ) (m : Moment) (old new : Sheet) (next : Upcoming) (byte : ℕ) → IsProgram p →
+pub served_note : (p : Program) (named : ℕ → Bool) (limit : ℕ) (m : Moment) (old new : Sheet) (next : Upcoming)
+    (byte : ℕ) → IsProgram p →
     HasPast p limit m →
     DoneWereMade p m →
     IsNext p named limit m next →
     happened.Served byte ≡ said_at p named limit Issue m →
-    ((bus : ℕ → ℕ) → written_by new bus ≡ written_by old bus ++ doing_line next.number next.at next.word (Outputs byte) bus) →
+    ((bus : ℕ → ℕ) → written_by new bus ≡ written_by old bus ++ doing_line next.number next.at next.word (Outputs byte)
+    bus) →
     waiting_of new ≡ waiting_of old →
     IsTraced p m old →
     IsTraced p (after_letter p named limit Issue m) new
@@ -369,12 +395,14 @@ served_note p named limit m old new next byte is past made seen says writes wait
     let found = said_served (choice_at p named limit Issue m) (record_at p named limit m) byte says in
     let straight = not_over_bubble_served p named limit m byte found in
     let fit : Fits p m (serves byte) = subst (λ (c : Choice). Fits p m c) found (fits p named limit Issue m) in
-    traced_step p limit m (after_letter p named limit Issue m) old new next.number next.at next.word (outputs byte) is past made fit.0 fit.1
+    traced_step p limit m (after_letter p named limit Issue m) old new next.number next.at next.word (outputs byte) is
+    past made fit.0 fit.1
     (told_by p named limit Issue m (serves byte) found) seen.number (seen.place straight) (seen.word straight) writes
     (waits ∙ sym (append-nil (waiting_of old))) traced
 
 -- the program ended, which it does only where it hasn't yet
-ended_by : (idle bubble : Bool) (why : Option Hold) (turn : Turn) (stop : Stop) → issue_choice idle bubble why turn ≡ finishes stop → idle ≡ false
+ended_by : (idle bubble : Bool) (why : Option Hold) (turn : Turn) (stop : Stop) →
+    issue_choice idle bubble why turn ≡ finishes stop → idle ≡ false
 ended_by true bubble why turn stop e = absurd cc
 ended_by false bubble why turn stop e = refl
 
@@ -382,12 +410,14 @@ lives_if : (ended reached : Bool) → (ended || reached) ≡ false → ended ≡
 lives_if true reached h = h
 lives_if false reached h = refl
 
-lives_ended : (p : Program) (named : ℕ → Bool) (limit : ℕ) (m : Moment) (stop : Stop) → choice_at p named limit Issue m ≡ finishes stop →
+lives_ended : (p : Program) (named : ℕ → Bool) (limit : ℕ) (m : Moment) (stop : Stop) →
+    choice_at p named limit Issue m ≡ finishes stop →
     m.ended ≡ false
 lives_ended p named limit m stop e =
     let turn = turn_at p (state p m.retired) in
     lives_if m.ended (m.retired == limit)
-    (ended_by (is_idle limit m) m.bubble (held (instruction_at p (state p m.retired).pc) turn (pending_at p m.retired m.done)) turn stop
+    (ended_by (is_idle limit m) m.bubble (held (instruction_at p (state p m.retired).pc) turn
+    (pending_at p m.retired m.done)) turn stop
     (sym (choice_shown p named limit m) ∙ e))
 
 pub ended_note : (p : Program) (named : ℕ → Bool) (limit : ℕ) (m : Moment) (old new : Sheet) (end : End) → IsProgram p →
@@ -403,12 +433,14 @@ ended_note p named limit m old new end is past says writes waits traced =
     let stop = found.0 in
     let choice : choice_at p named limit Issue m ≡ finishes stop = found.1 in
     let fit : Fits p m (finishes stop) = subst (λ (c : Choice). Fits p m c) choice (fits p named limit Issue m) in
-    traced_end p limit m (after_letter p named limit Issue m) old new stop end is past fit (lives_ended p named limit m stop choice)
+    traced_end p limit m (after_letter p named limit Issue m) old new stop end is past fit
+    (lives_ended p named limit m stop choice)
     (told_by p named limit Issue m (finishes stop) choice) found.2
     (λ bus. writes bus ∙ ap (λ (e : End). written_by old bus ++ run_end_line e) found.2) waits traced
 
 -- the oldest transaction was answered
-pub answered_note : (p : Program) (named : ℕ → Bool) (limit : ℕ) (m : Moment) (old new : Sheet) (datum : ℕ) (values : List ℕ) →
+pub answered_note : (p : Program) (named : ℕ → Bool) (limit : ℕ) (m : Moment) (old new : Sheet) (datum : ℕ)
+    (values : List ℕ) →
     happened.Answered ≡ said_at p named limit Answer m →
     AreData (datum ∷ values) (pending_at p m.retired m.done) (bus_at p m.retired m.done) →
     ((bus : ℕ → ℕ) (others : List ℕ) → AreData (datum ∷ others) (waiting_of old) bus
@@ -421,10 +453,12 @@ answered_note p named limit m old new datum values says are writes waits traced 
     let choice = said_answered (choice_at p named limit Answer m) (record_at p named limit m) says in
     traced_answer p m (after_letter p named limit Answer m) old new (told_by p named limit Answer m replies choice)
     (writes (bus_at p m.retired m.done) values
-    (subst (λ (xs : List Access). AreData (datum ∷ values) xs (bus_at p m.retired m.done)) (sym traced.waiting) are)) waits traced
+    (subst (λ (xs : List Access). AreData (datum ∷ values) xs (bus_at p m.retired m.done)) (sym traced.waiting) are))
+    waits traced
 
 -- a data fault finished all
-pub faulted_note : (p : Program) (named : ℕ → Bool) (limit : ℕ) (m : Moment) (old new : Sheet) (was : Record) (values : List ℕ) →
+pub faulted_note : (p : Program) (named : ℕ → Bool) (limit : ℕ) (m : Moment) (old new : Sheet) (was : Record)
+    (values : List ℕ) →
     HasPast p limit m →
     happened.Faulted was ≡ said_at p named limit Answer m →
     AreData values (pending_at p m.retired m.done) (bus_at p m.retired m.done) →
@@ -443,7 +477,8 @@ faulted_note p named limit m old new was values past says are writes waits trace
     (waits few) traced
 
 -- every page was made absent
-evicted_tells : (p : Program) (named : ℕ → Bool) (limit : ℕ) (m : Moment) → told_of (after_letter p named limit Evict m) ≡ told_of m
+evicted_tells : (p : Program) (named : ℕ → Bool) (limit : ℕ) (m : Moment) → told_of (after_letter p named limit Evict m)
+    ≡ told_of m
 unfolding after_letter
 evicted_tells p named limit m = refl
 
@@ -452,21 +487,24 @@ pub evicted_note : (p : Program) (named : ℕ → Bool) (limit : ℕ) (m : Momen
 evicted_note p named limit m s = traced_same p (after_letter p named limit Evict m) m s (evicted_tells p named limit m)
 
 -- what was seen before tells which letter it is
-pub next_sight : (p : Program) (named : ℕ → Bool) (limit : ℕ) (letter : Letter) (m : Moment) (sight : Sight) (next : Upcoming) → sight ≡ Next next →
+pub next_sight : (p : Program) (named : ℕ → Bool) (limit : ℕ) (letter : Letter) (m : Moment) (sight : Sight)
+    (next : Upcoming) → sight ≡ Next next →
     IsSight p named limit letter m sight →
     (letter ≡ Issue) × IsNext p named limit m next
 next_sight p named limit Issue m sight next e is = (refl, subst (IsSight p named limit Issue m) e is)
 next_sight p named limit Answer m sight next e is = absurd (subst (IsSight p named limit Answer m) e is)
 next_sight p named limit Evict m sight next e is = absurd (subst (IsSight p named limit Evict m) e is)
 
-pub data_sight : (p : Program) (named : ℕ → Bool) (limit : ℕ) (letter : Letter) (m : Moment) (sight : Sight) (values : Three) → sight ≡ Data values →
+pub data_sight : (p : Program) (named : ℕ → Bool) (limit : ℕ) (letter : Letter) (m : Moment) (sight : Sight)
+    (values : Three) → sight ≡ Data values →
     IsSight p named limit letter m sight →
     (letter ≡ Answer) × AreData (three_of values) (pending_at p m.retired m.done) (bus_at p m.retired m.done)
 data_sight p named limit Issue m sight values e is = absurd (subst (IsSight p named limit Issue m) e is)
 data_sight p named limit Answer m sight values e is = (refl, subst (IsSight p named limit Answer m) e is)
 data_sight p named limit Evict m sight values e is = absurd (subst (IsSight p named limit Evict m) e is)
 
-pub nothing_sight : (p : Program) (named : ℕ → Bool) (limit : ℕ) (letter : Letter) (m : Moment) (sight : Sight) → sight ≡ Nothing →
+pub nothing_sight : (p : Program) (named : ℕ → Bool) (limit : ℕ) (letter : Letter) (m : Moment) (sight : Sight) →
+    sight ≡ Nothing →
     IsSight p named limit letter m sight →
     letter ≡ Evict
 nothing_sight p named limit Issue m sight e is = absurd (subst (IsSight p named limit Issue m) e is)
@@ -474,7 +512,8 @@ nothing_sight p named limit Answer m sight e is = absurd (subst (IsSight p named
 nothing_sight p named limit Evict m sight e is = refl
 
 -- data by the words that a board has now
-pub data_at : (p : Program) (named : ℕ → Bool) (m : Moment) (b : BoardView) (s : Sheet) (values : List ℕ) → IsAt p named m b → IsTraced p m s →
+pub data_at : (p : Program) (named : ℕ → Bool) (m : Moment) (b : BoardView) (s : Sheet) (values : List ℕ) →
+    IsAt p named m b → IsTraced p m s →
     AreData values (waiting_of s) (bus_of b.memory) →
     AreData values (pending_at p m.retired m.done) (bus_at p m.retired m.done)
 data_at p named m b s values at traced are =

@@ -47,7 +47,8 @@ reads_other p text rest line k f stopped new reads follows some other =
 -- the program has ended, and something is left
 pub reads_past : (p : Program) (text rest : List ℕ) (k : ℕ) (f : Seen) → Reads p text rest k f true → rest ≢ [] →
     DiffersBehind (trace_line p) text k
-reads_past p text rest k f reads some = differs_past (trace_line p) text rest k reads.read some (line_past p k (sym reads.ended))
+reads_past p text rest k f reads some =
+    differs_past (trace_line p) text rest k reads.read some (line_past p k (sym reads.ended))
 
 -- a line that was read isn't empty, so that less is left
 pub less_left : (p : Program) (text rest line more : List ℕ) (k : ℕ) (f : Seen) (stopped : Bool) (new : Follower) →
@@ -56,7 +57,8 @@ pub less_left : (p : Program) (text rest line more : List ℕ) (k : ℕ) (f : Se
     rest ≡ line ++ more →
     length more < length rest
 less_left p text rest line more k f stopped new reads follows begins =
-    let long = some_length line (λ e. some_line p k (line_there p k (sym reads.ended) ∙ ap Some (sym follows.text ∙ e))) in
+    let long = some_length line
+    (λ e. some_line p k (line_there p k (sym reads.ended) ∙ ap Some (sym follows.text ∙ e))) in
     let split = ap length begins ∙ length-append line more in
     omega (arith, long, split)
   where

@@ -21,18 +21,22 @@ use Rattle.m88_trace.specs.Texts.{HasLines, IsText, text_of}
 use Rattle.m88_trace.specs.Trace.{trace_at, trace_line, trace_of}
 use Rattle.m88_trace.specs.declared.sheet.Sheet.{Sheet}
 
--- after so many events, before each of which the run wasn't over, a board stands at the moment, and a sheet has its trace
-pub record Runs (p : Program) (named : ℕ → Bool) (limit : ℕ) (schedule : List Letter) (k : ℕ) (b : BoardView) (s : Sheet) : Type 0 where
+-- after so many events, before each of which the run wasn't over, a board stands at the moment, and a sheet has its
+-- trace
+pub record Runs (p : Program) (named : ℕ → Bool) (limit : ℕ) (schedule : List Letter) (k : ℕ) (b : BoardView)
+    (s : Sheet) : Type 0 where
   pub at : IsAt p named (moment_after p named limit schedule k) b
   pub traced : IsTraced p (moment_after p named limit schedule k) s
   pub first : IsRunning p named limit schedule k
 
 -- at first
-blank : (p : Program) (s : Sheet) → ((bus : ℕ → ℕ) → written_by s bus ≡ []) → waiting_of s ≡ [] → IsTraced p opening_moment s
+blank : (p : Program) (s : Sheet) → ((bus : ℕ → ℕ) → written_by s bus ≡ []) → waiting_of s ≡ [] →
+    IsTraced p opening_moment s
 unfolding text_of transactions
 blank p s text waiting = record { text = text _; waiting = waiting }
 
-pub runs_first : (p : Program) (named : ℕ → Bool) (limit : ℕ) (schedule : List Letter) (k : ℕ) (b : BoardView) (s : Sheet) → k ≡ 0 →
+pub runs_first : (p : Program) (named : ℕ → Bool) (limit : ℕ) (schedule : List Letter) (k : ℕ) (b : BoardView)
+    (s : Sheet) → k ≡ 0 →
     IsAt p named opening_moment b →
     ((bus : ℕ → ℕ) → written_by s bus ≡ []) →
     waiting_of s ≡ [] →
@@ -46,16 +50,20 @@ runs_first p named limit schedule k b s e at text waiting =
     })
 
 -- and after one event more
-next_moment : (p : Program) (named : ℕ → Bool) (limit now : ℕ) (schedule letters : List Letter) (k taken : ℕ) → now ≡ limit → letters ≡ schedule →
+next_moment : (p : Program) (named : ℕ → Bool) (limit now : ℕ) (schedule letters : List Letter) (k taken : ℕ) →
+    now ≡ limit → letters ≡ schedule →
     taken ≡ k →
-    after_letter p named now (letter_at letters taken) (moment_after p named limit schedule k) ≡ moment_after p named limit schedule (k + 1)
+    after_letter p named now (letter_at letters taken) (moment_after p named limit schedule k)
+    ≡ moment_after p named limit schedule (k + 1)
 unfolding moment_along
 next_moment p named limit now schedule letters k taken limits same place =
     ap (λ (n : ℕ). after_letter p named n (letter_at letters taken) (moment_after p named limit schedule k)) limits
-    ∙ ap (λ (l : Letter). after_letter p named limit l (moment_after p named limit schedule k)) (ap₂ letter_at same place)
+    ∙ ap (λ (l : Letter). after_letter p named limit l (moment_after p named limit schedule k))
+    (ap₂ letter_at same place)
     ∙ ap (moment_after p named limit schedule) (sym (add-one k))
 
-pub runs_next : (p : Program) (named : ℕ → Bool) (limit now : ℕ) (schedule letters : List Letter) (k taken last : ℕ) (b c : BoardView) (s t : Sheet) →
+pub runs_next : (p : Program) (named : ℕ → Bool) (limit now : ℕ) (schedule letters : List Letter) (k taken last : ℕ)
+    (b c : BoardView) (s t : Sheet) →
     now ≡ limit →
     letters ≡ schedule →
     taken ≡ k →
@@ -85,13 +93,15 @@ second_of : (a b : Bool) → (a && b) ≡ true → b ≡ true
 second_of true b h = h
 second_of false b h = absurd cc
 
-pub over_empty : (p : Program) (limit : ℕ) (m : Moment) (s : Sheet) → IsTraced p m s → is_over p limit m ≡ true → waiting_of s ≡ []
+pub over_empty : (p : Program) (limit : ℕ) (m : Moment) (s : Sheet) → IsTraced p m s → is_over p limit m ≡ true →
+    waiting_of s ≡ []
 over_empty p limit m s traced over =
     let drained = eqb-true m.done (transaction_count p m.retired) (first_of (is_drained p m) (is_idle limit m) over) in
     traced.waiting ∙ drop_all m.done (transactions p m.retired) (omega (arith, drained))
 
 -- and the trace is that of the program and the limit alone
-alone_by : (p : Program) (limit : ℕ) (m : Moment) (ended : Bool) → HasPast p limit m → m.ended ≡ ended → (ended || m.retired == limit) ≡ true →
+alone_by : (p : Program) (limit : ℕ) (m : Moment) (ended : Bool) → HasPast p limit m → m.ended ≡ ended →
+    (ended || m.retired == limit) ≡ true →
     text_of (trace_line p) (m.retired + one_if ended) ≡ trace_of p limit
 alone_by p limit m true past is idle =
     let end = past.ended is in text_past p m.retired limit end.next end.early
@@ -99,26 +109,31 @@ alone_by p limit m false past is idle =
     let same : m.retired + one_if false ≡ limit = (let e = eqb-true m.retired limit idle in omega (arith, e)) in
     ap (text_of (trace_line p)) same
 
-pub over_alone : (p : Program) (limit : ℕ) (m : Moment) → HasPast p limit m → is_over p limit m ≡ true → trace_at p m ≡ trace_of p limit
+pub over_alone : (p : Program) (limit : ℕ) (m : Moment) → HasPast p limit m → is_over p limit m ≡ true →
+    trace_at p m ≡ trace_of p limit
 over_alone p limit m past over =
     alone_by p limit m m.ended past refl (second_of (is_drained p m) (is_idle limit m) over)
 
 -- it is so many of the lines
-lines_by : (p : Program) (n : ℕ) (ended : Bool) → HasLines (trace_line p) (n + 1) → HasLines (trace_line p) (n + one_if ended)
+lines_by : (p : Program) (n : ℕ) (ended : Bool) → HasLines (trace_line p) (n + 1) →
+    HasLines (trace_line p) (n + one_if ended)
 lines_by p n true there = there
 lines_by p n false there = λ k less. there k (omega (arith, less))
 
 pub over_text : (p : Program) (limit : ℕ) (m : Moment) (text : List ℕ) → HasPast p limit m → text ≡ trace_at p m →
     IsText (trace_line p) text (m.retired + one_if m.ended)
-over_text p limit m text past is = record { there = lines_by p m.retired m.ended (lines_there p m.retired past.retired); whole = is }
+over_text p limit m text past is =
+    record { there = lines_by p m.retired m.ended (lines_there p m.retired past.retired); whole = is }
 
 -- what is said of an answer that is there
-pub ok_said : {T E : Type 0} {P : T → Type 0} (r : Result T E) (Q : T → Type 0) → IfOk r P → ((x : T) → P x → Q x) → IfOk r Q
+pub ok_said : {T E : Type 0} {P : T → Type 0} (r : Result T E) (Q : T → Type 0) → IfOk r P → ((x : T) → P x → Q x) →
+    IfOk r Q
 ok_said (Ok x) Q p h = h x p
 ok_said (Err e) Q p h = tt
 
 -- whether it is over is seen of a board that is shown
-pub over_seen : (p : Program) (named : ℕ → Bool) (limit : ℕ) (m : Moment) (shown b : BoardView) (over : Bool) → shown ≡ b → b.limit ≡ limit →
+pub over_seen : (p : Program) (named : ℕ → Bool) (limit : ℕ) (m : Moment) (shown b : BoardView) (over : Bool) →
+    shown ≡ b → b.limit ≡ limit →
     IsAt p named m b →
     (IsAt p named m shown → over ≡ is_over p shown.limit m) →
     is_over p limit m ≡ over

@@ -54,10 +54,12 @@ differs_first line text a b rest differs there h = by_test (nat_lt a b)
     let below = ltb-true a b less in
     let more = begins line a b text rest below h in
     absurd (not_otherwise (line a) differs.rest more.0 (there a below)
-    (cancel (text_of line a) differs.rest (unwrap_or (line a) [] ++ more.0) (sym differs.whole ∙ more.1)) differs.otherwise))
+    (cancel (text_of line a) differs.rest (unwrap_or (line a) [] ++ more.0) (sym differs.whole ∙ more.1))
+    differs.otherwise))
     (λ most. ltb-false a b most)
 
-one_place : (line : ℕ → Option (List ℕ)) (text : List ℕ) (a b : ℕ) → DiffersBehind line text a → DiffersBehind line text b → a ≡ b
+one_place : (line : ℕ → Option (List ℕ)) (text : List ℕ) (a b : ℕ) → DiffersBehind line text a →
+    DiffersBehind line text b → a ≡ b
 one_place line text a b x y =
     let low = differs_first line text a b y.rest x y.there y.whole in
     let high = differs_first line text b a x.rest y x.there x.whole in
@@ -69,7 +71,8 @@ no_empty (Some []) more some h e = h refl
 no_empty (Some (x ∷ xs)) more some h e = cc
 
 -- a text of more lines than another isn't the same
-shorter : (line : ℕ → Option (List ℕ)) (a b : ℕ) (rest : List ℕ) → ((k : ℕ) → line k ≢ Some []) → HasLines line b → a < b →
+shorter : (line : ℕ → Option (List ℕ)) (a b : ℕ) (rest : List ℕ) → ((k : ℕ) → line k ≢ Some []) → HasLines line b →
+    a < b →
     text_of line a ≡ text_of line b ++ rest →
     ⊥
 shorter line a b rest are there less h =
@@ -81,9 +84,11 @@ one_count : (line : ℕ → Option (List ℕ)) (text : List ℕ) (a b : ℕ) →
     IsText line text b →
     a ≡ b
 one_count line text a b are x y = by_test (nat_lt a b)
-    (λ less. absurd (shorter line a b [] are y.there (ltb-true a b less) (sym x.whole ∙ y.whole ∙ sym (append-nil (text_of line b)))))
+    (λ less. absurd (shorter line a b [] are y.there (ltb-true a b less) (sym x.whole ∙ y.whole
+    ∙ sym (append-nil (text_of line b)))))
     (λ more. by_test (nat_lt b a)
-    (λ less. absurd (shorter line b a [] are x.there (ltb-true b a less) (sym y.whole ∙ x.whole ∙ sym (append-nil (text_of line a)))))
+    (λ less. absurd (shorter line b a [] are x.there (ltb-true b a less) (sym y.whole ∙ x.whole
+    ∙ sym (append-nil (text_of line a)))))
     (λ most. omega (arith, ltb-false a b more, ltb-false b a most)))
 
 -- a text that is so many lines differs nowhere
@@ -133,14 +138,16 @@ read_more line text rest bytes more k read l e = record {
 }
 
 -- nothing is left
-pub read_all : (line : ℕ → Option (List ℕ)) (text rest : List ℕ) (k : ℕ) → HasRead line text rest k → rest ≡ [] → IsText line text k
+pub read_all : (line : ℕ → Option (List ℕ)) (text rest : List ℕ) (k : ℕ) → HasRead line text rest k → rest ≡ [] →
+    IsText line text k
 read_all line text rest k read none = record {
   there = read.there;
   whole = read.whole ∙ ap (λ xs. text_of line k ++ xs) none ∙ append-nil (text_of line k);
 }
 
 -- what is left doesn't begin with the next line
-pub differs_by : (line : ℕ → Option (List ℕ)) (text rest bytes : List ℕ) (k : ℕ) → HasRead line text rest k → rest ≢ [] →
+pub differs_by : (line : ℕ → Option (List ℕ)) (text rest bytes : List ℕ) (k : ℕ) → HasRead line text rest k →
+    rest ≢ [] →
     line k ≡ Some bytes →
     ((more : List ℕ) → rest ≢ bytes ++ more) →
     DiffersBehind line text k

@@ -37,7 +37,8 @@ written_open text [] w bus =
 written_open text (v ∷ waiting) w bus =
     written_open (text ++ v.before.items ++ hex8 (datum_by v.access bus)) waiting w (bus_after v.access bus)
 
-pub accesses_more : (waiting : List Waiting) (w : Waiting) → accesses_of (waiting ++ w ∷ []) ≡ accesses_of waiting ++ w.access ∷ []
+pub accesses_more : (waiting : List Waiting) (w : Waiting) → accesses_of (waiting ++ w ∷ []) ≡ accesses_of waiting
+    ++ w.access ∷ []
 accesses_more [] w = refl
 accesses_more (v ∷ waiting) w = ap (λ (xs : List Access). v.access ∷ xs) (accesses_more waiting w)
 
@@ -52,15 +53,18 @@ unfolding text_by
 written_all text pen waiting bus e = ap (λ (ws : List Waiting). text_by text ws pen bus) (sym (none_waits waiting e))
 
 -- the datum of the oldest is written
-pub written_first : (text pen : List ℕ) (w : Waiting) (waiting : List Waiting) (datum : ℕ) (values : List ℕ) (bus : ℕ → ℕ) →
+pub written_first : (text pen : List ℕ) (w : Waiting) (waiting : List Waiting) (datum : ℕ) (values : List ℕ)
+    (bus : ℕ → ℕ) →
     AreData (datum ∷ values) (accesses_of (w ∷ waiting)) bus →
-    text_by (text ++ w.before.items ++ hex8 datum) waiting pen (bus_after w.access bus) ≡ text_by text (w ∷ waiting) pen bus
+    text_by (text ++ w.before.items ++ hex8 datum) waiting pen (bus_after w.access bus)
+    ≡ text_by text (w ∷ waiting) pen bus
 unfolding text_by
 written_first text pen w waiting datum values bus are =
     ap (λ (d : ℕ). text_by (text ++ w.before.items ++ hex8 d) waiting pen (bus_after w.access bus)) are.0
 
 -- what is left of some data
-pub data_left : (datum : ℕ) (values : List ℕ) (accesses : List Access) (bus : ℕ → ℕ) → AreData (datum ∷ values) accesses bus →
+pub data_left : (datum : ℕ) (values : List ℕ) (accesses : List Access) (bus : ℕ → ℕ) →
+    AreData (datum ∷ values) accesses bus →
     AreData values (drop 1 accesses) (bus_after_all (take 1 accesses) bus)
 unfolding bus_after_all
 data_left datum values [] bus are = tt
@@ -91,7 +95,8 @@ written_blank text pen waiting bus e f g = rw (e, f, g) refl
 -- more stands in place of what stood behind the last datum
 pub more_by : (text pen new more : List ℕ) (waiting : List Waiting) (bus : ℕ → ℕ) → new ≡ pen ++ more →
     text_by text waiting new bus ≡ text_by text waiting pen bus ++ more
-more_by text pen new more waiting bus e = ap (λ (xs : List ℕ). text_by text waiting xs bus) e ∙ written_more text pen more waiting bus
+more_by text pen new more waiting bus e = ap (λ (xs : List ℕ). text_by text waiting xs bus) e
+    ∙ written_more text pen more waiting bus
 
 -- two parts, and three
 pub two_parts : (w a b x : List ℕ) → x ≡ w ++ a ++ b → x ≡ w ++ (a ++ b)
@@ -112,13 +117,16 @@ pub open_by : (text pen head new : List ℕ) (waiting next : List Waiting) (w : 
 open_by text pen head new waiting next w a bus e f g h =
     ap₂ (λ (ws : List Waiting) (xs : List ℕ). text_by text ws xs bus) e h
     ∙ written_open text waiting w bus
-    ∙ ap₂ (λ (xs : List ℕ) (x : Access). text_by text waiting xs bus ++ hex8 (datum_by x (bus_after_all (accesses_of waiting) bus))) g f
-    ∙ ap (λ (xs : List ℕ). xs ++ hex8 (datum_by a (bus_after_all (accesses_of waiting) bus))) (written_more text pen head waiting bus)
+    ∙ ap₂ (λ (xs : List ℕ) (x : Access). text_by text waiting xs bus
+    ++ hex8 (datum_by x (bus_after_all (accesses_of waiting) bus))) g f
+    ∙ ap (λ (xs : List ℕ). xs ++ hex8 (datum_by a (bus_after_all (accesses_of waiting) bus)))
+    (written_more text pen head waiting bus)
     ∙ append_assoc (text_by text waiting pen bus) head (hex8 (datum_by a (bus_after_all (accesses_of waiting) bus)))
 
 pub accesses_by : (waiting next : List Waiting) (w : Waiting) (a : Access) → next ≡ waiting ++ w ∷ [] → w.access ≡ a →
     accesses_of next ≡ accesses_of waiting ++ a ∷ []
-accesses_by waiting next w a e f = ap accesses_of e ∙ accesses_more waiting w ∙ ap (λ (x : Access). accesses_of waiting ++ x ∷ []) f
+accesses_by waiting next w a e f =
+    ap accesses_of e ∙ accesses_more waiting w ∙ ap (λ (x : Access). accesses_of waiting ++ x ∷ []) f
 
 -- accesses that can be made
 pub made_more : (xs : List Access) (a : Access) → AreWords xs → IsWordAccess a → AreWords (xs ++ a ∷ [])
@@ -135,7 +143,8 @@ pub first_removed : (xs : List Waiting) (w : Waiting) → 0 < length xs → w �
 first_removed [] w some e = absurd (omega arith)
 first_removed (x ∷ xs) w some e = ap (λ (y : Waiting). y ∷ xs) (sym e)
 
-pub filled_by : (text next pen : List ℕ) (waiting left : List Waiting) (w : Waiting) (datum : ℕ) (values : List ℕ) (bus : ℕ → ℕ) →
+pub filled_by : (text next pen : List ℕ) (waiting left : List Waiting) (w : Waiting) (datum : ℕ) (values : List ℕ)
+    (bus : ℕ → ℕ) →
     waiting ≡ w ∷ left →
     next ≡ text ++ w.before.items ++ hex8 datum →
     AreData (datum ∷ values) (accesses_of waiting) bus →
@@ -153,10 +162,12 @@ unfolding bus_after_all
 none_filled text pen waiting bus e = rw e refl
 
 -- a word after an access
-pub word_kept : (a : Access) (bus : ℕ → ℕ) (addr word : ℕ) → a.write ≡ false → word ≡ bus addr → word ≡ bus_after a bus addr
+pub word_kept : (a : Access) (bus : ℕ → ℕ) (addr word : ℕ) → a.write ≡ false → word ≡ bus addr →
+    word ≡ bus_after a bus addr
 word_kept a bus addr word read is = rw read is
 
-pub word_apart : (a : Access) (bus : ℕ → ℕ) (addr word : ℕ) → a.write ≡ true → addr % 4 ≡ 0 → a.addr ≢ addr → word ≡ bus addr →
+pub word_apart : (a : Access) (bus : ℕ → ℕ) (addr word : ℕ) → a.write ≡ true → addr % 4 ≡ 0 → a.addr ≢ addr →
+    word ≡ bus addr →
     word ≡ bus_after a bus addr
 unfolding stored with_word
 word_apart a bus addr word write aligned other is =
@@ -164,7 +175,8 @@ word_apart a bus addr word write aligned other is =
     let test : (word_address addr == a.addr) ≡ false = grind (arith, nat_tests) in
     rw (write, test) is
 
-pub word_stored : (a : Access) (bus : ℕ → ℕ) (addr word after : ℕ) → a.write ≡ true → addr % 4 ≡ 0 → a.addr ≡ addr → word ≡ bus addr →
+pub word_stored : (a : Access) (bus : ℕ → ℕ) (addr word after : ℕ) → a.write ≡ true → addr % 4 ≡ 0 → a.addr ≡ addr →
+    word ≡ bus addr →
     after ≡ merged a.en a.value word →
     after ≡ bus_after a bus addr
 unfolding stored with_word
@@ -188,7 +200,8 @@ four_parts w a b c d x y z e f g =
     g ∙ ap (λ (xs : List ℕ). xs ++ d) (three_parts w a b c x y e f) ∙ append_assoc w (a ++ b ++ c) d
 
 -- two parts are written behind the last datum
-pub more_two : (text pen new next a b : List ℕ) (waiting : List Waiting) (bus : ℕ → ℕ) → new ≡ pen ++ a → next ≡ new ++ b →
+pub more_two : (text pen new next a b : List ℕ) (waiting : List Waiting) (bus : ℕ → ℕ) → new ≡ pen ++ a →
+    next ≡ new ++ b →
     text_by text waiting next bus ≡ text_by text waiting pen bus ++ a ++ b
 more_two text pen new next a b waiting bus e f =
     more_by text new next b waiting bus f ∙ ap (λ (xs : List ℕ). xs ++ b) (more_by text pen new a waiting bus e)
@@ -210,14 +223,16 @@ two_open w x y waiting next a b bus e f g =
     ap (λ (xs : List Access). bus_after_all xs bus) f ∙ bus_of_append waiting (a ∷ []) bus in
     g
     ∙ ap₂ (λ (xs : List ℕ) (u : ℕ → ℕ). xs ++ access_text b u) e words
-    ∙ append_assoc w (access_text a (bus_after_all waiting bus)) (access_text b (bus_after a (bus_after_all waiting bus)))
+    ∙ append_assoc w (access_text a (bus_after_all waiting bus))
+    (access_text b (bus_after a (bus_after_all waiting bus)))
     ∙ ap (λ (xs : List ℕ). w ++ (access_text a (bus_after_all waiting bus) ++ xs))
     (sym (append-nil (access_text b (bus_after a (bus_after_all waiting bus)))))
 
 -- where none waits, it doesn't matter what memory has
 pub whatever_words : (s : Sheet) (bus after : ℕ → ℕ) → waiting_of s ≡ [] → written_by s after ≡ written_by s bus
 whatever_words s bus after e =
-    sym (written_all s.text.items s.pen.items s.waiting.items after e) ∙ written_all s.text.items s.pen.items s.waiting.items bus e
+    sym (written_all s.text.items s.pen.items s.waiting.items after e)
+    ∙ written_all s.text.items s.pen.items s.waiting.items bus e
 
 none_left : (xs : List Access) → length xs ≤ 3 → drop 1 (drop 1 (drop 1 xs)) ≡ []
 none_left [] few = refl
@@ -249,7 +264,8 @@ pub three_filled : (a b c : ℕ) (s t u v : Sheet) (bus after : ℕ → ℕ) →
 three_filled a b c s t u v bus after x y z e f g are few =
     let second : ℕ → ℕ = bus_after_all (take 1 (waiting_of s)) bus in
     let left : AreData (b ∷ c ∷ []) (waiting_of t) second =
-    subst (λ (xs : List Access). AreData (b ∷ c ∷ []) xs second) (sym e) (data_left a (b ∷ c ∷ []) (waiting_of s) bus are) in
+    subst (λ (xs : List Access). AreData (b ∷ c ∷ []) xs second) (sym e)
+    (data_left a (b ∷ c ∷ []) (waiting_of s) bus are) in
     let third : ℕ → ℕ = bus_after_all (take 1 (waiting_of t)) second in
     let last : AreData (c ∷ []) (waiting_of u) third =
     subst (λ (xs : List Access). AreData (c ∷ []) xs third) (sym f) (data_left b (c ∷ []) (waiting_of t) second left) in
@@ -272,27 +288,33 @@ pub vec_empty : {A : Type 0} (len : ℕ) (xs : List A) (b : Bool) → b ≡ (len
 vec_empty len [] b h t e = refl
 vec_empty len (x ∷ xs) b h t e = absurd (let none = eqb-true len 0 (sym h ∙ t) in omega (arith, none, e))
 
-pub vec_some : {A : Type 0} (len : ℕ) (xs : List A) (b : Bool) → b ≡ (len == 0) → b ≡ false → len ≡ length xs → 0 < length xs
+pub vec_some : {A : Type 0} (len : ℕ) (xs : List A) (b : Bool) → b ≡ (len == 0) → b ≡ false → len ≡ length xs →
+    0 < length xs
 vec_some len xs b h f e = let some = eqb-false len 0 (sym h ∙ f) in omega (arith, some, e)
 
-pub made_left : (waiting left : List Waiting) (w : Waiting) → waiting ≡ w ∷ left → AreWords (accesses_of waiting) → AreWords (accesses_of left)
+pub made_left : (waiting left : List Waiting) (w : Waiting) → waiting ≡ w ∷ left → AreWords (accesses_of waiting) →
+    AreWords (accesses_of left)
 made_left waiting left w e are = (subst (λ (ws : List Waiting). AreWords (accesses_of ws)) e are).1
 
 -- one of those that wait, by its number
-pub index_at : (ws : List Waiting) (k : ℕ) (w : Waiting) → k < length ws → w ≡ get_or ws k w → slice_get (accesses_of ws) k ≡ Some w.access
+pub index_at : (ws : List Waiting) (k : ℕ) (w : Waiting) → k < length ws → w ≡ get_or ws k w →
+    slice_get (accesses_of ws) k ≡ Some w.access
 index_at [] k w below e = absurd (omega arith)
 index_at (x ∷ ws) zero w below e = ap (λ (v : Waiting). Some v.access) (sym e)
 index_at (x ∷ ws) (suc k) w below e = index_at ws k w (omega (arith, below)) e
 
 -- and among the first so many
-first_at : (ws : List Waiting) (count k : ℕ) (w : Waiting) → k < count → count ≤ length ws → w ≡ get_or (take count ws) k w →
+first_at : (ws : List Waiting) (count k : ℕ) (w : Waiting) → k < count → count ≤ length ws →
+    w ≡ get_or (take count ws) k w →
     slice_get (accesses_of ws) k ≡ Some w.access
 first_at [] count k w below within e = absurd (omega arith)
 first_at (x ∷ ws) zero k w below within e = absurd (omega arith)
 first_at (x ∷ ws) (suc count) zero w below within e = ap (λ (v : Waiting). Some v.access) (sym e)
-first_at (x ∷ ws) (suc count) (suc k) w below within e = first_at ws count k w (omega (arith, below)) (omega (arith, within)) e
+first_at (x ∷ ws) (suc count) (suc k) w below within e =
+    first_at ws count k w (omega (arith, below)) (omega (arith, within)) e
 
-pub item_at : (ws shown : List Waiting) (count k : ℕ) (w : Waiting) → shown ≡ ws → k < length (take count shown) → count ≤ length ws →
+pub item_at : (ws shown : List Waiting) (count k : ℕ) (w : Waiting) → shown ≡ ws → k < length (take count shown) →
+    count ≤ length ws →
     w ≡ get_or (take count shown) k w →
     slice_get (accesses_of ws) k ≡ Some w.access
 item_at ws shown count k w same below within e =

@@ -37,7 +37,8 @@ abbrev pub trace_at : Program → Moment → List ℕ
 trace_at p m = text_of (trace_line p) (m.retired + one_if m.ended)
 
 -- a text is the trace at the end of a run
-pub record IsRunTrace (p : Program) (named : ℕ → Bool) (limit : ℕ) (schedule : List Letter) (text : List ℕ) : Type 0 where
-  pub events : ℕ
-  pub run : IsRun p named limit schedule events
-  pub value : text ≡ trace_at p (moment_after p named limit schedule events)
+pub record IsRunTrace (p : Program) (named : ℕ → Bool) (limit : ℕ) (schedule : List Letter) (text : List ℕ) : Type 0
+  where
+    pub events : ℕ
+    pub run : IsRun p named limit schedule events
+    pub value : text ≡ trace_at p (moment_after p named limit schedule events)

@@ -12,9 +12,9 @@ use crate::follower::Follower;
 use m88_base::Image;
 use std::alloc::Global;
 
-/// How many lines a text has, where it is the first lines of the trace of an image's program, with MXM clear; the line of
-/// the end counts. It is shorter than 2^31 bytes. Otherwise the first line that isn't the trace's. It makes no run on
-/// a board: it follows the program's registers and memory.
+/// How many lines a text has, where it is the first lines of the trace of an image's program, with MXM clear; the line
+/// of the end counts. It is shorter than 2^31 bytes. Otherwise the first line that isn't the trace's. It makes no run
+/// on a board: it follows the program's registers and memory.
 pub fn check_trace(alloc: Global, image: &Image, text: &[u8]) -> Result<u32, TraceFault>
     requires { length text.now < 2 ^ 31 }
     ensures ok { IfOk result (λ lines. (p : Program) → IsProgramOf image.now p → p.mxm ≡ false

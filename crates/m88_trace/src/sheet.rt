@@ -222,8 +222,8 @@ impl Sheet {
         )
     }
 
-    /// The word at the byte address of a word once so many of the accesses that wait are made, by the words that a board
-    /// has now.
+    /// The word at the byte address of a word once so many of the accesses that wait are made, by the words that a
+    /// board has now.
     #[tactic(auto, unfolding(m88_isa::specs::Bus::bus_after_all))]
     fn word(&self, board: &Board, addr: u32, count: usize) -> u32
         requires made { AreMade self.now }

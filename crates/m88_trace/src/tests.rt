@@ -1,5 +1,5 @@
-//! Traces whose lines were written by hand: each form of line, runs under several schedules with absent pages, and texts
-//! that differ at each line.
+//! Traces whose lines were written by hand: each form of line, runs under several schedules with absent pages, and
+//! texts that differ at each line.
 
 ghost use Rattle.m88_mem.specs.Marks.{NamesPages};
 

@@ -51,7 +51,8 @@ loop-rest-init c = record {
   ready = c.in_ok-follower.ensures.ready;
   image = c.in_ok-follower.ensures.image;
   counted = omega arith;
-  reads = λ p of clear. reads_none p c.args.text.now (seen_of c.in_ok-follower.follower) (c.in_ok-follower.ensures.seen p of);
+  reads = λ p of clear. reads_none p c.args.text.now (seen_of c.in_ok-follower.follower)
+      (c.in_ok-follower.ensures.seen p of);
 }
 
 pub returns-then-ended-clause-fault : goal.returns-then-ended-clause-fault
@@ -59,20 +60,24 @@ returns-then-ended-clause-fault c = λ p of clear. (
   c.loop-rest.count,
   refl,
   reads_past p c.args.text.now c.loop-rest.rest.now c.loop-rest.count (seen_of c.loop-rest.follower)
-      (subst (λ (b : Bool). Reads p c.args.text.now c.loop-rest.rest.now c.loop-rest.count (seen_of c.loop-rest.follower) b) c.if-ended.true
+      (subst (λ (b : Bool). Reads p c.args.text.now c.loop-rest.rest.now c.loop-rest.count
+      (seen_of c.loop-rest.follower) b) c.if-ended.true
       (c.loop-rest.invariant.reads p of clear))
       (not_empty c.loop-rest.rest.now c.is_empty.result c.is_empty.ensures c.loop-rest-test.true),
 )
 
 pub returns-in_default-clause-fault : goal.returns-in_default-clause-fault
 returns-in_default-clause-fault c = λ p of clear.
-    let reads = subst (λ (b : Bool). Reads p c.args.text.now c.loop-rest.rest.now c.loop-rest.count (seen_of c.loop-rest.follower) b) c.if-ended.false
+    let reads = subst (λ (b : Bool). Reads p c.args.text.now c.loop-rest.rest.now c.loop-rest.count
+    (seen_of c.loop-rest.follower) b) c.if-ended.false
     (c.loop-rest.invariant.reads p of clear) in
     let here = subst (λ (image : ProgramImage). IsProgramOf image p) (sym c.loop-rest.invariant.image) of in
-    let follows = c.in_ok-ended.ensures.follows p (program_of_image c.args.image.now p c.part_count.ensures.image of) here clear reads.seen in (
+    let follows = c.in_ok-ended.ensures.follows p (program_of_image c.args.image.now p c.part_count.ensures.image of)
+    here clear reads.seen in (
       c.loop-rest.count,
       refl,
-      reads_other p c.args.text.now c.loop-rest.rest.now c.next_line.new.line.items c.loop-rest.count (seen_of c.loop-rest.follower)
+      reads_other p c.args.text.now c.loop-rest.rest.now c.next_line.new.line.items c.loop-rest.count
+          (seen_of c.loop-rest.follower)
           c.in_ok-ended.ended c.next_line.new.self reads follows
           (not_empty c.loop-rest.rest.now c.is_empty.result c.is_empty.ensures c.loop-rest-test.true)
           (λ more e. c.in_default.ensures more (e ∙ ap (λ xs. xs ++ more) (sym c.deref.ensures.value))),
@@ -80,7 +85,8 @@ returns-in_default-clause-fault c = λ p of clear.
 
 pub returns-clause-ok : goal.returns-clause-ok
 returns-clause-ok c = λ p of clear.
-    read_all (trace_line p) c.args.text.now c.loop-rest.rest.now c.loop-rest.count (c.loop-rest.invariant.reads p of clear).read
+    read_all (trace_line p) c.args.text.now c.loop-rest.rest.now c.loop-rest.count
+    (c.loop-rest.invariant.reads p of clear).read
     (is_empty c.loop-rest.rest.now c.is_empty.result c.is_empty.ensures c.loop-rest-test.false)
 
 -- the line that is read is one of each program of the image, so that less is left
@@ -89,10 +95,12 @@ loop-rest-smaller c =
     let image = c.part_count.ensures.image in
     let some = a_program c.args.image.now image in
     let p = some.0 in
-    let reads = subst (λ (b : Bool). Reads p c.args.text.now c.loop-rest.rest.now c.loop-rest.count (seen_of c.loop-rest.follower) b) c.if-ended.false
+    let reads = subst (λ (b : Bool). Reads p c.args.text.now c.loop-rest.rest.now c.loop-rest.count
+    (seen_of c.loop-rest.follower) b) c.if-ended.false
     (c.loop-rest.invariant.reads p some.1 some.2) in
     let here = subst (λ (i : ProgramImage). IsProgramOf i p) (sym c.loop-rest.invariant.image) some.1 in
-    let follows = c.in_ok-ended.ensures.follows p (program_of_image c.args.image.now p image some.1) here some.2 reads.seen in
+    let follows = c.in_ok-ended.ensures.follows p (program_of_image c.args.image.now p image some.1) here some.2
+    reads.seen in
     less_left p c.args.text.now c.loop-rest.rest.now c.next_line.new.line.items c.in-Some.more.now c.loop-rest.count
     (seen_of c.loop-rest.follower) c.in_ok-ended.ended c.next_line.new.self reads follows
     (c.in-Some.ensures ∙ ap (λ (xs : List ℕ). xs ++ c.in-Some.more.now) c.deref.ensures.value)
@@ -104,10 +112,12 @@ loop-rest-preserved c =
     let less : length c.in-Some.more.now < length c.loop-rest.rest.now =
     (let some = a_program c.args.image.now image in
     let p = some.0 in
-    let reads = subst (λ (b : Bool). Reads p c.args.text.now c.loop-rest.rest.now c.loop-rest.count (seen_of c.loop-rest.follower) b) c.if-ended.false
+    let reads = subst (λ (b : Bool). Reads p c.args.text.now c.loop-rest.rest.now c.loop-rest.count
+    (seen_of c.loop-rest.follower) b) c.if-ended.false
     (c.loop-rest.invariant.reads p some.1 some.2) in
     let here = subst (λ (i : ProgramImage). IsProgramOf i p) (sym c.loop-rest.invariant.image) some.1 in
-    let follows = c.in_ok-ended.ensures.follows p (program_of_image c.args.image.now p image some.1) here some.2 reads.seen in
+    let follows = c.in_ok-ended.ensures.follows p (program_of_image c.args.image.now p image some.1) here some.2
+    reads.seen in
     less_left p c.args.text.now c.loop-rest.rest.now c.next_line.new.line.items c.in-Some.more.now c.loop-rest.count
     (seen_of c.loop-rest.follower) c.in_ok-ended.ended c.next_line.new.self reads follows begins) in
     let counted = c.loop-rest.invariant.counted in
@@ -116,10 +126,13 @@ loop-rest-preserved c =
       image = c.in_ok-ended.ensures.image ∙ c.loop-rest.invariant.image;
       counted = omega (arith, less, counted);
       reads = λ p of clear.
-          let reads = subst (λ (b : Bool). Reads p c.args.text.now c.loop-rest.rest.now c.loop-rest.count (seen_of c.loop-rest.follower) b) c.if-ended.false
+          let reads = subst (λ (b : Bool). Reads p c.args.text.now c.loop-rest.rest.now c.loop-rest.count
+          (seen_of c.loop-rest.follower) b) c.if-ended.false
           (c.loop-rest.invariant.reads p of clear) in
           let here = subst (λ (i : ProgramImage). IsProgramOf i p) (sym c.loop-rest.invariant.image) of in
-          let follows = c.in_ok-ended.ensures.follows p (program_of_image c.args.image.now p image of) here clear reads.seen in
-          reads_more p c.args.text.now c.loop-rest.rest.now c.next_line.new.line.items c.in-Some.more.now c.loop-rest.count
+          let follows = c.in_ok-ended.ensures.follows p (program_of_image c.args.image.now p image of) here clear
+          reads.seen in
+          reads_more p c.args.text.now c.loop-rest.rest.now c.next_line.new.line.items c.in-Some.more.now
+          c.loop-rest.count
           (seen_of c.loop-rest.follower) c.in_ok-ended.ended c.next_line.new.self reads follows begins;
     }

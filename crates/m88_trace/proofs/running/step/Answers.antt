@@ -24,7 +24,9 @@ pub returns-clause-traced : goal.returns-clause-traced
 returns-clause-traced c = ok_on c.note.result c.note.ensures.traced (λ noted p named m is at traced.
     let w = c.args.walk.now in
     let there = subst (λ (b : BoardView). IsAt p named m b) (sym c.board.ensures) at in
-    let seen = subst (λ (l : Letter). IsSight p named w.board.now.limit l m c.seen_before-before.result) c.letter.ensures
+    let seen = subst (λ (l : Letter). IsSight p named w.board.now.limit l m c.seen_before-before.result)
+    c.letter.ensures
     (subst (λ (b : BoardView). IsSight p named b.limit c.letter.result m c.seen_before-before.result) c.board.ensures
     (c.seen_before-before.ensures.seen p named m there traced)) in
-    noted p named w.board.now.limit (letter_at w.schedule.now w.taken) m is at.past at.within seen (c.in_ok-happened.ensures.said p named m at) traced)
+    noted p named w.board.now.limit (letter_at w.schedule.now w.taken) m is at.past at.within seen
+    (c.in_ok-happened.ensures.said p named m at) traced)

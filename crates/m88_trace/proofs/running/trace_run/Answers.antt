@@ -19,9 +19,11 @@ loop-walk-init c = record {
   schedule = c.new-walk.ensures.schedule;
   made = c.new-sheet.ensures.made;
   runs = λ p of clear.
-      runs_first p (absent_in c.args.absent.now) c.args.limit c.args.schedule.now c.new-walk.result.taken c.new-walk.result.board.now
+      runs_first p (absent_in c.args.absent.now) c.args.limit c.args.schedule.now c.new-walk.result.taken
+      c.new-walk.result.board.now
       c.new-sheet.result c.new-walk.ensures.taken
-      (subst (λ (b : BoardView). IsAt p (absent_in c.args.absent.now) opening_moment b) (sym c.new-walk.ensures.board) (c.in_ok-board.ensures.at p of clear))
+      (subst (λ (b : BoardView). IsAt p (absent_in c.args.absent.now) opening_moment b) (sym c.new-walk.ensures.board)
+      (c.in_ok-board.ensures.at p of clear))
       c.new-sheet.ensures.text c.new-sheet.ensures.waiting;
 }
 
@@ -38,13 +40,17 @@ loop-walk-preserved c =
           let named = absent_in c.args.absent.now in
           let m = moment_after p named c.args.limit c.args.schedule.now c.loop-walk.walk.taken in
           let goes : is_over p c.args.limit m ≡ false =
-          over_seen p named c.args.limit m c.board.result.now c.loop-walk.walk.board.now c.is_over.result c.board.ensures inv.limit runs.at
+          over_seen p named c.args.limit m c.board.result.now c.loop-walk.walk.board.now c.is_over.result
+          c.board.ensures inv.limit runs.at
           (c.is_over.ensures.moment p named m) ∙ c.loop-walk-test.true in
-          runs_next p named c.args.limit c.loop-walk.walk.board.now.limit c.args.schedule.now c.loop-walk.walk.schedule.now
-          c.loop-walk.walk.taken c.loop-walk.walk.taken c.step.new.walk.taken c.loop-walk.walk.board.now c.step.new.walk.board.now
+          runs_next p named c.args.limit c.loop-walk.walk.board.now.limit c.args.schedule.now
+          c.loop-walk.walk.schedule.now
+          c.loop-walk.walk.taken c.loop-walk.walk.taken c.step.new.walk.taken c.loop-walk.walk.board.now
+          c.step.new.walk.board.now
           c.loop-walk.sheet c.step.new.sheet inv.limit inv.schedule refl stepped.taken runs goes
           (stepped.at p named m runs.at)
-          (stepped.traced p named m (program_of_image c.args.image.now p c.new.ensures.is_image of) runs.at runs.traced);
+          (stepped.traced p named m (program_of_image c.args.image.now p c.new.ensures.is_image of) runs.at
+          runs.traced);
     }
 
 pub returns-clause-run : goal.returns-clause-run
@@ -54,7 +60,8 @@ returns-clause-run c = ok_said c.finish.result _ c.finish.ensures (λ text said 
     let named = absent_in c.args.absent.now in
     let m = moment_after p named c.args.limit c.args.schedule.now c.loop-walk.walk.taken in
     let over : is_over p c.args.limit m ≡ true =
-    over_seen p named c.args.limit m c.board.result.now c.loop-walk.walk.board.now c.is_over.result c.board.ensures inv.limit runs.at
+    over_seen p named c.args.limit m c.board.result.now c.loop-walk.walk.board.now c.is_over.result c.board.ensures
+    inv.limit runs.at
     (c.is_over.ensures.moment p named m) ∙ c.loop-walk-test.false in
     record {
       events = c.loop-walk.walk.taken;
@@ -69,7 +76,8 @@ returns-clause-alone c = ok_said c.finish.result _ c.finish.ensures (λ text sai
     let named = absent_in c.args.absent.now in
     let m = moment_after p named c.args.limit c.args.schedule.now c.loop-walk.walk.taken in
     let over : is_over p c.args.limit m ≡ true =
-    over_seen p named c.args.limit m c.board.result.now c.loop-walk.walk.board.now c.is_over.result c.board.ensures inv.limit runs.at
+    over_seen p named c.args.limit m c.board.result.now c.loop-walk.walk.board.now c.is_over.result c.board.ensures
+    inv.limit runs.at
     (c.is_over.ensures.moment p named m) ∙ c.loop-walk-test.false in
     said _ (over_empty p c.args.limit m c.loop-walk.sheet runs.traced over) ∙ runs.traced.text
     ∙ over_alone p c.args.limit m (subst (λ (n : ℕ). HasPast p n m) inv.limit runs.at.past) over)
@@ -81,7 +89,8 @@ returns-clause-checked c = ok_said c.finish.result _ c.finish.ensures (λ text s
     let named = absent_in c.args.absent.now in
     let m = moment_after p named c.args.limit c.args.schedule.now c.loop-walk.walk.taken in
     let over : is_over p c.args.limit m ≡ true =
-    over_seen p named c.args.limit m c.board.result.now c.loop-walk.walk.board.now c.is_over.result c.board.ensures inv.limit runs.at
+    over_seen p named c.args.limit m c.board.result.now c.loop-walk.walk.board.now c.is_over.result c.board.ensures
+    inv.limit runs.at
     (c.is_over.ensures.moment p named m) ∙ c.loop-walk-test.false in (
       m.retired + one_if m.ended,
       over_text p c.args.limit m text.items (subst (λ (n : ℕ). HasPast p n m) inv.limit runs.at.past)
@@ -90,4 +99,5 @@ returns-clause-checked c = ok_said c.finish.result _ c.finish.ensures (λ text s
 
 pub step-requires-clause-going : goal.step-requires-clause-going
 step-requires-clause-going c =
-    ap (λ (b : BoardView). is_over_by b.limit (local_of b)) (sym c.board.ensures) ∙ sym c.is_over.ensures.value ∙ c.loop-walk-test.true
+    ap (λ (b : BoardView). is_over_by b.limit (local_of b)) (sym c.board.ensures) ∙ sym c.is_over.ensures.value
+    ∙ c.loop-walk-test.true

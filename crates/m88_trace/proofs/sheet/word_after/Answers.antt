@@ -7,9 +7,11 @@ returns-then-not-access c = λ bus is. word_kept c.args.access.now bus c.args.ad
 
 pub returns-then-access-addr : goal.returns-then-access-addr
 returns-then-access-addr c = λ bus is.
-    word_apart c.args.access.now bus c.args.addr c.args.word c.if-not-access.false c.requires.word c.if-access-addr.true is
+    word_apart c.args.access.now bus c.args.addr c.args.word c.if-not-access.false c.requires.word c.if-access-addr.true
+    is
 
 pub returns : goal.returns
 returns c = λ bus is.
-    word_stored c.args.access.now bus c.args.addr c.args.word c.merge.result c.if-not-access.false c.requires.word c.if-access-addr.false is
+    word_stored c.args.access.now bus c.args.addr c.args.word c.merge.result c.if-not-access.false c.requires.word
+    c.if-access-addr.false is
     c.merge.ensures.value

@@ -1,6 +1,6 @@
 -- As the parts show it.
 use Rattle.std.proofs.Common.{arith, ap, subst, ◌≡◌, ◌<◌, ◌^◌, ◌∙◌, ℕ}
-use Rattle.std.specs.Prelude.{option_map, unwrap_or, ◌%◌}
+use Rattle.std.specs.Prelude.{option_map, ◌%◌}
 use Rattle.std.specs.Int.{to_be_bytes, w32}
 use Rattle.m88_base.specs.Image.{byte_at}
 use Rattle.m88_base.specs.declared.slot.Slot.{Slot}
@@ -40,5 +40,6 @@ effect-requires-clause-fetched c =
     let b = c.args.board.now in
     let here : c.candidate-at.result.addr ≡ b.slots.nip.addr =
     ap (λ (s : Slot). s.addr) c.candidate-at.ensures.value ∙ ap (λ (u : Pointers). u.nip.addr) c.iunit.ensures.value in
-    subst (λ (a : ℕ). option_map (λ w. to_be_bytes w32 w) c.fetched-word.result ≡ four_bytes (byte_at b.memory.image) a) here
+    subst (λ (a : ℕ). option_map (λ w. to_be_bytes w32 w) c.fetched-word.result ≡ four_bytes (byte_at b.memory.image) a)
+    here
     c.fetched-word.ensures.value

@@ -8,12 +8,15 @@ use Rattle.m88_trace.proofs.follower.Follower.load.Goals as goal
 
 pub returns-clause-datum : goal.returns-clause-datum
 returns-clause-datum c =
-    loads c.args.access.now (bus_of c.args.self.now.memory) c.word.result c.datum-datum.result c.requires.read c.word.ensures
+    loads c.args.access.now (bus_of c.args.self.now.memory) c.word.result c.datum-datum.result c.requires.read
+    c.word.ensures
     c.datum-datum.ensures.value
 
 pub returns-clause-cells : goal.returns-clause-cells
 returns-clause-cells c =
     ap (λ (f : Follower). cells_of f) c.set.ensures
-    ∙ load_cells c.args.access.now c.args.self.now.regs (bus_of c.args.self.now.memory) c.datum-datum.result c.requires.read
-    (loads c.args.access.now (bus_of c.args.self.now.memory) c.word.result c.datum-datum.result c.requires.read c.word.ensures
+    ∙ load_cells c.args.access.now c.args.self.now.regs (bus_of c.args.self.now.memory) c.datum-datum.result
+    c.requires.read
+    (loads c.args.access.now (bus_of c.args.self.now.memory) c.word.result c.datum-datum.result c.requires.read
+    c.word.ensures
     c.datum-datum.ensures.value)

@@ -18,15 +18,19 @@ returns-clause-follows c =
     ok_of c.carry_out.result _ _ c.carry_out.ensures.ended c.carry_out.ensures.line c.carry_out.ensures.seen
     (λ ended ends line goes p is of clear seen.
     let does : c.doing_at-doing.result ≡ doing_of (turn p f.regs f.carry false f.pc f.next) =
-    subst (λ (place : Place). option_map (λ w. to_be_bytes w32 w) c.fetch-word.result ≡ four_bytes (byte_at f.memory.image) place.pc
+    subst (λ (place : Place). option_map (λ w. to_be_bytes w32 w) c.fetch-word.result
+    ≡ four_bytes (byte_at f.memory.image) place.pc
     → c.doing_at-doing.result ≡ doing_of (turn p f.regs place.carry false place.pc place.next)) c.place.ensures
     (c.doing_at-doing.ensures.value f.memory.image p of) c.fetch-word.ensures in
     record {
       text =
           line
-          ∙ ap₂ (λ (xs : List ℕ) (d : Doing). xs ++ doing_line c.args.number f.pc c.unwrap_or.result d (bus_of f.memory)) c.clear.ensures.items does
+          ∙ ap₂ (λ (xs : List ℕ) (d : Doing). xs ++ doing_line c.args.number f.pc c.unwrap_or.result d
+          (bus_of f.memory)) c.clear.ensures.items does
           ∙ line_is p c.args.number (seen_of f) c.unwrap_or.result is clear seen
-          (c.unwrap_or.ensures ∙ word_is p f.memory.image f.pc c.fetch-word.result of (subst (λ (n : ℕ). n < 2 ^ 32) c.unwrap_or.ensures small) c.fetch-word.ensures);
-      seen = seen_is p c.args.number (seen_of f) (seen_of c.carry_out.new.self) is clear seen (goes ∙ ap (λ (d : Doing). after_doing d (seen_of f)) does);
+          (c.unwrap_or.ensures ∙ word_is p f.memory.image f.pc c.fetch-word.result of
+          (subst (λ (n : ℕ). n < 2 ^ 32) c.unwrap_or.ensures small) c.fetch-word.ensures);
+      seen = seen_is p c.args.number (seen_of f) (seen_of c.carry_out.new.self) is clear seen
+          (goes ∙ ap (λ (d : Doing). after_doing d (seen_of f)) does);
       ended = ends ∙ ap ends_by does ∙ end_is p c.args.number (seen_of f) clear seen;
     })

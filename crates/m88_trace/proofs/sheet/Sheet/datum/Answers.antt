@@ -31,4 +31,5 @@ returns c =
     let words = bus_after_all (take c.args.index (waiting_of s)) (bus_of c.args.board.now.memory) in
     subst (λ (o : Option Access). IfSome o (λ a. c.datum.result ≡ datum_by a words))
     (sym (index_at s.waiting.items c.args.index c.index.result.now below c.index.ensures))
-    (loads c.index.result.now.access words c.word.result c.datum.result c.if-access.false c.word.ensures c.datum.ensures.value)
+    (loads c.index.result.now.access words c.word.result c.datum.result c.if-access.false c.word.ensures
+    c.datum.ensures.value)

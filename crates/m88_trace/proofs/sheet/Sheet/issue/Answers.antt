@@ -15,7 +15,9 @@ returns-clause-text c = λ bus.
     (accesses_text (listed c.args.effect.now.accesses) (bus_after_all (waiting_of s) bus)) line_end
     (text_by s.text.items s.waiting.items c.push_written.new.text.items bus) (written_by t bus)
     (text_by t.text.items t.waiting.items c.push_line_end.new.text.items bus)
-    (more_two s.text.items s.pen.items c.push_head.new.text.items c.push_written.new.text.items (head_text next.number next.at next.word)
+    (more_two s.text.items s.pen.items c.push_head.new.text.items c.push_written.new.text.items
+    (head_text next.number next.at next.word)
     (written_text c.args.effect.now.reg) s.waiting.items bus c.in_ok-push_head.ensures c.in_ok-push_written.ensures)
     (c.in_ok-open_all.ensures.text bus)
-    (more_by t.text.items t.pen.items c.push_line_end.new.text.items line_end t.waiting.items bus c.in_ok-push_line_end.ensures)
+    (more_by t.text.items t.pen.items c.push_line_end.new.text.items line_end t.waiting.items bus
+    c.in_ok-push_line_end.ensures)

@@ -11,7 +11,8 @@ pub returns-in-Answered-clause-traced : goal.returns-in-Answered-clause-traced
 returns-in-Answered-clause-traced c =
     ok_both c.fill.result c.fill.ensures.text c.fill.ensures.waiting
     (λ text waiting p named limit m past made are says traced.
-    answered_note p named limit m c.args.self.now c.fill.new.self c.args.told.oldest (c.args.told.second ∷ c.args.told.third ∷ [])
+    answered_note p named limit m c.args.self.now c.fill.new.self c.args.told.oldest (c.args.told.second
+    ∷ c.args.told.third ∷ [])
     (sym c.in-Answered.is ∙ says) are text waiting traced)
 
 pub returns-in-Faulted-clause-traced : goal.returns-in-Faulted-clause-traced
@@ -25,7 +26,8 @@ pub returns-in_default : goal.returns-in_default
 returns-in_default c = record {
   traced = λ p named limit m past made are says traced.
       traced_same p (after_letter p named limit Answer m) m c.args.self.now
-      (answer_quiet p named limit m (λ e. c.in_default.not-Answered (says ∙ sym e)) (λ was e. c.in_default.not-Faulted was (says ∙ sym e)))
+      (answer_quiet p named limit m (λ e. c.in_default.not-Answered (says ∙ sym e))
+      (λ was e. c.in_default.not-Faulted was (says ∙ sym e)))
       traced;
   made = λ are. are;
 }

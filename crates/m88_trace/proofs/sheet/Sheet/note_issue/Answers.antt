@@ -10,27 +10,31 @@ pub returns-in-Issued-clause-traced : goal.returns-in-Issued-clause-traced
 returns-in-Issued-clause-traced c =
     ok_both c.note_issued.result c.note_issued.ensures.text c.note_issued.ensures.waiting
     (λ text waiting p named limit m is past made seen says traced.
-    issued_note p named limit m c.args.self.now c.note_issued.new.self c.args.next.now is past made seen (sym c.in-Issued.is ∙ says) text waiting
+    issued_note p named limit m c.args.self.now c.note_issued.new.self c.args.next.now is past made seen
+    (sym c.in-Issued.is ∙ says) text waiting
     traced)
 
 pub returns-in-Served-clause-traced : goal.returns-in-Served-clause-traced
 returns-in-Served-clause-traced c =
     ok_both c.put_out.result c.put_out.ensures.text c.put_out.ensures.waiting
     (λ text waiting p named limit m is past made seen says traced.
-    served_note p named limit m c.args.self.now c.put_out.new.self c.args.next.now c.in-Served.byte is past made seen (sym c.in-Served.is ∙ says)
+    served_note p named limit m c.args.self.now c.put_out.new.self c.args.next.now c.in-Served.byte is past made seen
+    (sym c.in-Served.is ∙ says)
     text waiting traced)
 
 pub returns-in-Ended-clause-traced : goal.returns-in-Ended-clause-traced
 returns-in-Ended-clause-traced c =
     ok_both c.end.result c.end.ensures.text c.end.ensures.waiting
     (λ text waiting p named limit m is past made seen says traced.
-    ended_note p named limit m c.args.self.now c.end.new.self c.in-Ended.end is past (sym c.in-Ended.is ∙ says) text waiting traced)
+    ended_note p named limit m c.args.self.now c.end.new.self c.in-Ended.end is past (sym c.in-Ended.is ∙ says) text
+    waiting traced)
 
 pub returns-in_default : goal.returns-in_default
 returns-in_default c = record {
   traced = λ p named limit m is past made seen says traced.
       traced_same p (after_letter p named limit Issue m) m c.args.self.now
-      (issue_quiet p named limit m (λ e. c.in_default.not-Issued (says ∙ sym e)) (λ byte e. c.in_default.not-Served byte (says ∙ sym e))
+      (issue_quiet p named limit m (λ e. c.in_default.not-Issued (says ∙ sym e))
+      (λ byte e. c.in_default.not-Served byte (says ∙ sym e))
       (λ end e. c.in_default.not-Ended end (says ∙ sym e)))
       traced;
   made = λ are. are;

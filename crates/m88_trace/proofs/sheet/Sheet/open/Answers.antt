@@ -14,7 +14,8 @@ returns-clause-text c = λ bus.
     let s = c.args.self.now in
     let a = c.args.access.now in
     let w : Waiting = record { access = a; before = c.replace-before.result } in
-    open_by s.text.items s.pen.items (access_head a) c.replace-before.new.dest.items s.waiting.items c.push_waiting.new.list.items w a bus
+    open_by s.text.items s.pen.items (access_head a) c.replace-before.new.dest.items s.waiting.items
+    c.push_waiting.new.list.items w a bus
     c.in_ok-push_waiting.ensures refl
     (ap (λ (v : Vec ℕ Global). v.items) c.replace-before.ensures.value ∙ c.in_ok-push_access.ensures)
     (ap (λ (v : Vec ℕ Global). v.items) c.replace-before.ensures.after ∙ c.in_ok-pen.ensures.items)
@@ -31,5 +32,6 @@ returns-clause-made c = λ are.
     let s = c.args.self.now in
     let a = c.args.access.now in
     let w : Waiting = record { access = a; before = c.replace-before.result } in
-    subst (λ (xs : List Access). AreWords xs) (sym (accesses_by s.waiting.items c.push_waiting.new.list.items w a c.in_ok-push_waiting.ensures refl))
+    subst (λ (xs : List Access). AreWords xs)
+    (sym (accesses_by s.waiting.items c.push_waiting.new.list.items w a c.in_ok-push_waiting.ensures refl))
     (made_more (waiting_of s) a are c.requires)

@@ -11,7 +11,8 @@ pub returns-clause-text : goal.returns-clause-text
 returns-clause-text c = ok_on c.open-2.result c.open-2.ensures.text (λ last bus.
     let s = c.args.self.now in
     let accesses = c.args.accesses.now in
-    two_open (written_by s bus) (written_by c.open.new.self bus) (written_by c.open-2.new.self bus) (waiting_of s) (waiting_of c.open.new.self)
+    two_open (written_by s bus) (written_by c.open.new.self bus) (written_by c.open-2.new.self bus) (waiting_of s)
+    (waiting_of c.open.new.self)
     accesses.first accesses.second bus (c.in_ok-open.ensures.text bus) c.in_ok-open.ensures.waiting (last bus)
     ∙ ap (λ (xs : List Access). written_by s bus ++ accesses_text xs (bus_after_all (waiting_of s) bus))
     (sym (listed_two accesses c.if-accesses-eq0.false c.if-accesses-eq1.false)))

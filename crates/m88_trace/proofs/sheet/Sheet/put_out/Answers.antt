@@ -12,6 +12,8 @@ returns-clause-text c = λ bus.
     three_parts (written_by s bus) (head_text next.number next.at next.word) (output_text c.args.byte) line_end
     (text_by s.text.items s.waiting.items c.push_output.new.text.items bus)
     (text_by s.text.items s.waiting.items c.push_line_end.new.text.items bus)
-    (more_two s.text.items s.pen.items c.push_head.new.text.items c.push_output.new.text.items (head_text next.number next.at next.word)
+    (more_two s.text.items s.pen.items c.push_head.new.text.items c.push_output.new.text.items
+    (head_text next.number next.at next.word)
     (output_text c.args.byte) s.waiting.items bus c.in_ok-push_head.ensures c.in_ok-push_output.ensures)
-    (more_by s.text.items c.push_output.new.text.items c.push_line_end.new.text.items line_end s.waiting.items bus c.in_ok-push_line_end.ensures)
+    (more_by s.text.items c.push_output.new.text.items c.push_line_end.new.text.items line_end s.waiting.items bus
+    c.in_ok-push_line_end.ensures)

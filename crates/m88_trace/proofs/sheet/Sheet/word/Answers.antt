@@ -10,7 +10,8 @@ pub word_after-word-requires-clause-made : goal.word_after-word-requires-clause-
 word_after-word-requires-clause-made c =
     let s = c.args.self.now in
     made_at (waiting_of s) c.loop-waiting.waiting-index c.waiting-item.result.access c.requires.made
-    (item_at s.waiting.items c.deref.result.now c.args.count c.loop-waiting.waiting-index c.waiting-item.result c.deref.ensures.value
+    (item_at s.waiting.items c.deref.result.now c.args.count c.loop-waiting.waiting-index c.waiting-item.result
+    c.deref.ensures.value
     c.loop-waiting-test.true c.requires.count c.waiting-item.is)
 
 pub loop-waiting-preserved : goal.loop-waiting-preserved
@@ -21,5 +22,6 @@ loop-waiting-preserved c =
     c.word_after-word.ensures (bus_after_all (take k (waiting_of s)) bus) c.loop-waiting.invariant
     ∙ ap (λ (f : ℕ → ℕ). f c.args.addr)
     (sym (word_next (waiting_of s) k c.waiting-item.result.access bus
-    (item_at s.waiting.items c.deref.result.now c.args.count k c.waiting-item.result c.deref.ensures.value c.loop-waiting-test.true
+    (item_at s.waiting.items c.deref.result.now c.args.count k c.waiting-item.result c.deref.ensures.value
+    c.loop-waiting-test.true
     c.requires.count c.waiting-item.is)))

@@ -6,4 +6,5 @@ use Rattle.m88_trace.specs.Inside.Sheets.{waiting_of}
 use Rattle.m88_trace.proofs.sheet.Sheet.word.Given as goal
 
 abbrev pub invariant-loop-waiting : goal.invariant-loop-waiting
-invariant-loop-waiting l = l.word ≡ bus_after_all (take l.waiting-index (waiting_of l.self)) (bus_of l.board.memory) l.addr
+invariant-loop-waiting l =
+    l.word ≡ bus_after_all (take l.waiting-index (waiting_of l.self)) (bus_of l.board.memory) l.addr
