@@ -3,15 +3,13 @@ use Rattle.std.proofs.Common.{◌≡◌, ℕ, ◌+◌, Bool, false, List, ap, sy
 use Rattle.std.specs.Prelude.{codes}
 use Rattle.m88_base.specs.Image.{ProgramImage}
 use Rattle.m88_base.specs.Parted.{IsParted}
-use Rattle.m88_event.proofs.Over.{one_first}
-use Rattle.m88_event.specs.Run.{moment_after}
-use Rattle.m88_event.specs.Timeline.{is_over}
 use Rattle.m88_event.specs.declared.letter.Letter.{Letter}
 use Rattle.m88_isa.specs.ImageProgram.{IsProgramOf}
 use Rattle.m88_isa.specs.Machine.{Program}
 use Rattle.m88_report.specs.Report.{count_line}
+use Rattle.m88_trace.proofs.Laws.{one_run_trace}
 use Rattle.m88_trace.specs.Texts.{DiffersBehind, IsText}
-use Rattle.m88_trace.specs.Trace.{IsRunTrace, trace_at, trace_line, trace_of}
+use Rattle.m88_trace.specs.Trace.{IsRunTrace, trace_line, trace_of}
 use Rattle.m88_cli.specs.Answer.{IsAnswerToAccepted}
 use Rattle.m88_cli.specs.Command.{check, trace}
 use Rattle.m88_cli.specs.Inside.Linking.{HoldsUnit}
@@ -20,18 +18,14 @@ use Rattle.m88_cli.specs.TracedSources.{DiffersFromTrace, HasTrace, differs_refu
 use Rattle.m88_cli.proofs.Programs.{accepted_source, held_with, one_source_program}
 use Rattle.m88_cli.proofs.TracedInputs.{one_trace}
 
--- a run has one trace
-one_run_trace : (p : Program) (named : ℕ → Bool) (limit : ℕ) (schedule : List Letter) (a b : List ℕ) → IsRunTrace p named limit schedule a
-    → IsRunTrace p named limit schedule b → a ≡ b
-one_run_trace p named limit schedule a b x y =
-    let same = one_first (λ k. is_over p limit (moment_after p named limit schedule k)) x.events y.events x.run y.run in
-    x.value ∙ ap (λ k. trace_at p (moment_after p named limit schedule k)) same ∙ sym y.value
-
 module _ (source : List ℕ) (limit : ℕ) (absent : ℕ → Bool) (schedule : List Letter) where
-  one_traces : (a b : List ℕ) → TracesTo source limit absent schedule a → TracesTo source limit absent schedule b → a ≡ b
-  one_traces a b x y =
+  -- the runs of a source with a limit have one trace
+  one_traces : (named : ℕ → Bool) (letters : List Letter) (a b : List ℕ) → TracesTo source limit named letters a
+      → TracesTo source limit absent schedule b → a ≡ b
+  one_traces named letters a b x y =
       let same = one_source_program source x.program y.program x.of_source y.of_source (x.mode ∙ sym y.mode) in
-      one_run_trace y.program absent limit schedule a b (subst (λ p. IsRunTrace p absent limit schedule a) same x.is_trace) y.is_trace
+      one_run_trace y.program limit named absent letters schedule a b
+      (subst (λ p. IsRunTrace p named limit letters a) same x.is_trace) y.is_trace
 
   pub traced : (text : List ℕ) (image : ProgramImage) (p : Program) → HoldsUnit source image → IsProgramOf image p
       → ((q : Program) → IsProgramOf image q → q.mxm ≡ false → IsRunTrace q absent limit schedule text)
@@ -49,8 +43,8 @@ module _ (source : List ℕ) (limit : ℕ) (absent : ℕ → Bool) (schedule : L
         accepted = accepted_source source image holds;
         output = record {
           traces = traces;
-          only = λ other also. one_traces other text also traces;
           alone = alone held.program held.of_image held.mode;
+          only = λ named letters other also. one_traces named letters other text also traces;
         };
       }
 

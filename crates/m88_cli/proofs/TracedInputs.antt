@@ -5,7 +5,7 @@ use Rattle.m88_base.proofs.PartedLines.{one_parting, parted_or_not, parted_told}
 use Rattle.m88_base.specs.Parted.{IsParted}
 use Rattle.m88_base.specs.Refusal.{Refusal}
 use Rattle.m88_isa.specs.Machine.{Program}
-use Rattle.m88_trace.proofs.Verdicts.{one_verdict_of}
+use Rattle.m88_trace.proofs.Laws.{one_verdict_of}
 use Rattle.m88_trace.specs.Texts.{DiffersBehind, IsText}
 use Rattle.m88_trace.specs.Trace.{trace_line}
 use Rattle.m88_cli.specs.Assembly.{IsProgramSource, IsRefusedProgram}

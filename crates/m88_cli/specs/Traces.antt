@@ -14,10 +14,11 @@ pub record TracesTo (source : List ℕ) (limit : ℕ) (absent : ℕ → Bool) (s
   pub mode : program.mxm ≡ false
   pub is_trace : IsRunTrace program absent limit schedule text
 
--- it is that, the run has no other trace, and it is the trace of the program up to the limit, whatever pages are absent
--- and whatever the schedule is
+-- it is that, it is the trace of the program up to the limit, and every run of the source with that limit has this trace,
+-- whatever pages are absent and whatever the schedule is
 pub record IsTraceText (source : List ℕ) (limit : ℕ) (absent : ℕ → Bool) (schedule : List Letter) (text : List ℕ)
     : Type 0 where
   pub traces : TracesTo source limit absent schedule text
-  pub only : (other : List ℕ) → TracesTo source limit absent schedule other → other ≡ text
   pub alone : text ≡ trace_of traces.program limit
+  pub only : (named : ℕ → Bool) (letters : List Letter) (other : List ℕ) → TracesTo source limit named letters other
+      → other ≡ text

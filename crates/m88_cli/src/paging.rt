@@ -39,8 +39,9 @@ pub fn page_source(
     };
     // No call of this store fails, so that a run before it ends without an outcome only for want of memory.
     let mut store = MemStore::new(alloc, &[])?;
-    let paged =
-        page_run(alloc, &image, absent, limit, schedule, frames, &mut store).or(Err(NoMemory))?;
+    let Ok(paged) = page_run(alloc, &image, absent, limit, schedule, frames, &mut store) else {
+        return Err(NoMemory);
+    };
     let text = paged_text(alloc, frames, &paged)?;
     Ok(Reply {
         accepted: true,

@@ -1,0 +1,14 @@
+-- What is told of the run answers the source, and so does the line that refuses it.
+use Rattle.m88_mem.specs.Marks.{absent_in}
+use Rattle.m88_cli.specs.Command.{page}
+use Rattle.m88_cli.proofs.Paged.{paged}
+use Rattle.m88_cli.proofs.Refusing.{refused_reply, where_err, where_ok}
+use Rattle.m88_cli.proofs.paging.page_source.Goals as goal
+
+pub returns-in-Err : goal.returns-in-Err
+returns-in-Err c =
+    refused_reply (page c.args.frames c.args.limit (absent_in c.args.absent.now) c.args.schedule.now) c.args.source.now c.in-Err.refusal c.refuse.result
+    (where_err c.in_ok-image.field-0 c.in-Err.refusal _ _ c.in-Err.is c.in_ok-image.ensures) c.refuse.ensures
+
+pub returns : goal.returns
+returns c = ?
