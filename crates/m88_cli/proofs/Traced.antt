@@ -8,7 +8,8 @@ use Rattle.m88_isa.specs.ImageProgram.{IsProgramOf}
 use Rattle.m88_isa.specs.Machine.{Program}
 use Rattle.m88_report.specs.Report.{count_line}
 use Rattle.m88_trace.proofs.Laws.{one_run_trace}
-use Rattle.m88_trace.specs.Texts.{DiffersBehind, IsText}
+use Rattle.m88_trace.specs.Texts.{FaultOf, IsText}
+use Rattle.m88_trace.specs.declared.fault.TraceFault.TheVariants.{Differs}
 use Rattle.m88_trace.specs.Trace.{IsRunTrace, trace_line, trace_of}
 use Rattle.m88_cli.specs.Answer.{IsAnswerToAccepted}
 use Rattle.m88_cli.specs.Command.{check, trace}
@@ -74,26 +75,19 @@ module _ (input source : List ℕ) (lines : ℕ) (text : List ℕ) (image : Prog
       }
 
   -- or a line differs
-  pub differs_there : (before number : ℕ) → number ≡ before + 1
-      → ((q : Program) → IsProgramOf image q → q.mxm ≡ false → DiffersBehind (trace_line q) text before)
+  pub differs_there : (number : ℕ) → ((q : Program) → IsProgramOf image q → q.mxm ≡ false → FaultOf (trace_line q) text (Differs number))
       → DiffersFromTrace input (differs_refusal (lines + number))
-  differs_there before number e differs =
+  differs_there number differs =
       let held = held_with false source image p holds of in
+      let fault = differs held.program held.of_image held.mode in
+      let place : lines + number ≡ lines + fault.0 + 1 = (let e = fault.1 in omega (arith, e)) in
       record {
         source = source;
         lines = lines;
         text = text;
         is_parted = parted;
         is_program = accepted_source source image holds;
-        before = before;
-        leaves = record {
-          program = held.program;
-          of_source = held.of_source;
-          mode = held.mode;
-          differs = differs held.program held.of_image held.mode;
-        };
-        refusal = ap differs_refusal (ap (λ k. lines + k) e ∙ add_assoc);
+        before = fault.0;
+        leaves = record { program = held.program; of_source = held.of_source; mode = held.mode; differs = fault.2 };
+        refusal = ap differs_refusal place;
       }
-    where
-      add_assoc : lines + (before + 1) ≡ lines + before + 1
-      add_assoc = omega arith

@@ -1,8 +1,8 @@
 -- A source that can be assembled and linked has a program in each mode, however long it is.
-use Rattle.std.proofs.Common.{◌≡◌, ℕ, zero, suc, ◌+◌, ◌<◌, ◌%◌, ◌^◌, ◌==◌, Bool, true, false, List, [], ◌∷◌, Option, Some, None, inl, inr, refl, ap, sym, ◌∙◌, subst, arith}
+use Rattle.std.proofs.Common.{◌≡◌, ℕ, zero, suc, ◌+◌, ◌-◌, ◌<◌, ◌%◌, ◌^◌, ◌==◌, Bool, true, false, cond, List, [], ◌∷◌, Option, Some, None, inl, inr, refl, ap, sym, ◌∙◌, subst, arith}
 use Rattle.std.specs.Int.{from_be_bytes, to_be_bytes, w32}
 use Rattle.std.specs.Option.{option_or}
-use Rattle.std.specs.Prelude.{◌⊎◌, IfSome, get_or, unwrap_or}
+use Rattle.std.specs.Prelude.{◌⊎◌, IfSome, get_or, leb, slice_get, unwrap_or}
 use Rattle.std.proofs.lemmas.Bool.{eqb-false, eqb-true}
 use Rattle.std.proofs.lemmas.Nat.{from_be_bytes-to_be_bytes_4}
 use Rattle.std.proofs.lemmas.Option.{none-some}
@@ -34,14 +34,25 @@ small_bytes word b0 b1 b2 b3 e =
 
 is_image : (b0 b1 b2 b3 : ℕ) → b0 < 256 → b1 < 256 → b2 < 256 → b3 < 256 → IsImage (bytes_image b0 b1 b2 b3)
 unfolding byte_at byte_count
-is_image b0 b1 b2 b3 h0 h1 h2 h3 = record { apart = (omega arith, omega arith, tt); bytes = found; few = omega arith; start = omega arith }
+is_image b0 b1 b2 b3 h0 h1 h2 h3 = record {
+  apart = (omega arith, omega arith, tt);
+  bytes = λ a. by_place a (leb 0 a) (slice_get (b0 ∷ b1 ∷ b2 ∷ b3 ∷ []) (a - 0)) (found a (a - 0) refl);
+  few = omega arith;
+  start = omega arith;
+}
   where
-    found : (a : ℕ) → IfSome (byte_at (bytes_image b0 b1 b2 b3) a) (λ b. (a < 2 ^ 32) × (b < 256))
-    found zero = (omega arith, h0)
-    found (suc zero) = (omega arith, h1)
-    found (suc (suc zero)) = (omega arith, h2)
-    found (suc (suc (suc zero))) = (omega arith, h3)
-    found (suc (suc (suc (suc a)))) = tt
+    found : (a k : ℕ) → k ≡ a - 0 → IfSome (slice_get (b0 ∷ b1 ∷ b2 ∷ b3 ∷ []) k) (λ b. (a < 2 ^ 32) × (b < 256))
+    found a zero e = (omega (arith, e), h0)
+    found a (suc zero) e = (omega (arith, e), h1)
+    found a (suc (suc zero)) e = (omega (arith, e), h2)
+    found a (suc (suc (suc zero))) e = (omega (arith, e), h3)
+    found a (suc (suc (suc (suc k)))) e = tt
+
+    by_place : (a : ℕ) (there : Bool) (o : Option ℕ) → IfSome o (λ b. (a < 2 ^ 32) × (b < 256))
+        → IfSome (option_or (cond there o None) None) (λ b. (a < 2 ^ 32) × (b < 256))
+    by_place a true (Some b) h = h
+    by_place a true None h = tt
+    by_place a false o h = tt
 
 image_bytes : (b0 b1 b2 b3 : ℕ) → four_bytes (byte_at (bytes_image b0 b1 b2 b3)) 0 ≡ Some (b0 ∷ b1 ∷ b2 ∷ b3 ∷ [])
 unfolding byte_at

@@ -14,5 +14,5 @@ pub returns : goal.returns
 returns c =
     let p = c.trace_run.ensures.program in
     traced c.args.source.now c.args.limit (absent_in c.args.absent.now) c.args.schedule.now c.in_ok-text.text.items c.in-Ok.image p.0
-    (where_ok c.in_ok-image.field-0 c.in-Ok.image _ _ c.in-Ok.is c.in_ok-image.ensures) p.1.0
+    (where_ok c.in_ok-image.field-0 c.in-Ok.image _ _ c.in-Ok.is c.in_ok-image.ensures) p.1
     c.in_ok-text.ensures.run c.in_ok-text.ensures.alone
