@@ -41,6 +41,7 @@ fetched_as most page None f = record {
   outs = (with_room most f).outs;
 }
 
+-- a page that is needed comes to the front, by the mark that it has where it stands in a frame
 abbrev pub fetched : ℕ → ℕ → Frames → Frames
 fetched most page f = fetched_as most page (lookup (nat_eq page) f.pages) f
 
@@ -52,7 +53,8 @@ dirtied (page ∷ pages) = (page.0, true) ∷ pages
 -- a transaction fetches its page, and where it writes, the page is dirty
 abbrev pub touched : ℕ → Access → Frames → Frames
 touched most a f =
-    if a.write then record (fetched most (page_number a.addr) f) { pages = dirtied (fetched most (page_number a.addr) f).pages }
+    if a.write
+    then record (fetched most (page_number a.addr) f) { pages = dirtied (fetched most (page_number a.addr) f).pages }
     else fetched most (page_number a.addr) f
 
 -- the frames after some transactions, in order

@@ -35,8 +35,8 @@ use std::alloc::Global;
 use std::num::NonZeroUsize;
 
 /// Runs the program of an image on a board, MXM clear, and keeps its data bus a second time in so many frames, 1 to 64,
-/// before a store of pages: each transaction that the board answers or finishes is carried out there, in order. The pages
-/// that are named are absent at first, and at most `limit` instructions are retired; the letters are those of the
+/// before a store of pages: each transaction that the board answers or finishes is carried out there, in order. The
+/// pages that are named are absent at first, and at most `limit` instructions are retired; the letters are those of the
 /// schedule, and then `r` and `i` in turn, until nothing is pending and the program has ended or the limit is reached.
 /// Then every dirty page goes out, and the words that changed are taken from the store. Where the store fails or memory
 /// runs out, the board is gone.

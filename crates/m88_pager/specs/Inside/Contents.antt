@@ -30,8 +30,8 @@ with_page page bytes pages q = if page == q then bytes else pages q
 -- frames before a store stand for pages of memory, of which some are written: seen through the frames, the pages are
 -- those of memory; a clean frame can be dropped; the pages that are written are those that the store holds or that are
 -- dirty; and the store holds those of a set
-pub record StandsFor (original memory : ℕ → List ℕ) (written held : ℕ → Bool) (entries : List (ℕ × Frame)) (pages : PageMap) :
-    Type 0 where
+pub record StandsFor (original memory : ℕ → List ℕ) (written held : ℕ → Bool) (entries : List (ℕ × Frame))
+    (pages : PageMap) : Type 0 where
   pub same : over entries (behind original pages) ≡ memory
   pub clean : AreClean entries (behind original pages)
   pub written_are : (page : ℕ) → is_some (get pages page) || is_dirty_in entries page ≡ written page

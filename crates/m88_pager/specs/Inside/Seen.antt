@@ -28,7 +28,11 @@ seen_of f = record { pages = map marked f.cache.entries; ins = f.ins; outs = f.o
 
 -- the same with one more at the front, which is taken out
 abbrev pub seen_with : ℕ → Frame → Frames → FramesSeen
-seen_with page frame f = record { pages = marked (page, frame) ∷ map marked f.cache.entries; ins = f.ins; outs = f.outs }
+seen_with page frame f = record {
+  pages = marked (page, frame) ∷ map marked f.cache.entries;
+  ins = f.ins;
+  outs = f.outs;
+}
 
 -- a page by its number, with all of its bytes
 abbrev pub IsWhole : ℕ × Frame → Type 0
@@ -44,7 +48,8 @@ kept most entries = if nat_lt (length entries) most then entries else take (leng
 
 -- one change of frames and store after the other leaves what they stand for
 abbrev pub StillStands :
-    (ℕ → List ℕ) → (ℕ → Bool) → List (ℕ × Frame) → Option PageMap → (ℕ → Bool) → List (ℕ × Frame) → Option PageMap → Type 0
+    (ℕ → List ℕ) → (ℕ → Bool) → List (ℕ × Frame) → Option PageMap → (ℕ → Bool) → List (ℕ × Frame) → Option PageMap
+    → Type 0
 StillStands original held entries told held' entries' told' =
     (memory : ℕ → List ℕ) (written : ℕ → Bool)
     → Stands original memory written held entries told
@@ -58,14 +63,15 @@ ComesFrom original held (Some pages) page bytes =
 
 -- some transactions are carried out in the frames: these are as their definition says, and with the store behind them
 -- they stand for memory after the transactions
-pub record AreCarried (original : ℕ → ℕ) (most : ℕ) (accesses : List Access) (f : Frames) (told : Option PageMap) : Type 0 where
+pub record AreCarried (original : ℕ → ℕ) (most : ℕ) (accesses : List Access) (f : Frames) (told : Option PageMap) :
+    Type 0 where
   pub bytes : AreBytes original
   pub whole : All IsWhole f.cache.entries
   pub cap : f.cache.cap ≡ most
   pub counts : seen_of f ≡ frames_after most accesses no_frames
   pub stands :
-      Stands (page_of original) (page_of (in_bytes (bus_after_all accesses (in_words original)))) (writes_page accesses) (held_by f)
-      f.cache.entries told
+      Stands (page_of original) (page_of (in_bytes (bus_after_all accesses (in_words original)))) (writes_page accesses)
+      (held_by f) f.cache.entries told
 
 -- all pages are whole, and no more came in or went out than so many
 pub record IsWithin (most : ℕ) (f : Frames) : Type 0 where
