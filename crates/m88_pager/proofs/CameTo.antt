@@ -1,8 +1,8 @@
 -- The frames are flushed, and what the run came to is told.
-use Rattle.std.specs.Prelude.{ℕ, Bool, List, [], Option, Some, None, ◌≡◌, ◌+◌, ◌^◌, map}
+use Rattle.std.specs.Prelude.{ℕ, Bool, List, [], Option, ◌≡◌, ◌+◌, ◌^◌, map}
 use Rattle.std.specs.BTreeSet.{contains}
 use Rattle.std.specs.Ordering.{nat_cmp}
-use Rattle.std.proofs.Common.{arith, refl, sym, ap, ap₂, subst, ◌∙◌}
+use Rattle.std.proofs.Common.{sym, ap, ap₂, subst, ◌∙◌}
 use Rattle.m88_base.specs.Image.{ProgramImage}
 use Rattle.m88_event.specs.Run.{outcome_at}
 use Rattle.m88_event.specs.Timeline.{Moment}
@@ -19,14 +19,12 @@ use Rattle.m88_pager.specs.Frames.{Frames as FramesSeen, dirty_count, ins_along,
 use Rattle.m88_pager.specs.Inside.Bytes.{in_bytes}
 use Rattle.m88_pager.specs.Inside.Came.{CameTo}
 use Rattle.m88_pager.specs.Inside.Contents.{Stands}
-use Rattle.m88_pager.specs.Inside.Seen.{AreCarried, held_by, marked, seen_of}
+use Rattle.m88_pager.specs.Inside.Seen.{AreCarried, held_by, marked}
 use Rattle.m88_pager.specs.Inside.Told.{AreChanged}
-use Rattle.m88_pager.specs.Paged.{AreCounts, Tells}
 use Rattle.m88_pager.specs.Pages.{HoldsWhereTold, page_of, writes_page}
 use Rattle.m88_pager.specs.Store.{PageMap}
 use Rattle.m88_pager.specs.declared.frames.Frame.{Frame}
 use Rattle.m88_pager.specs.declared.frames.Frames.{Frames}
-use Rattle.m88_pager.specs.declared.paged.Paged.{Paged}
 
 -- the outcome with other words in place of those that changed
 abbrev with_words : Outcome → List (ℕ × ℕ) → Outcome

@@ -1,6 +1,6 @@
 -- One transaction more is carried out in the frames.
-use Rattle.std.specs.Prelude.{ℕ, Bool, true, false, List, [], ◌∷◌, ◌++◌, All, Option, Some, None, ◌≡◌, ◌≢◌, ◌<◌, ◌≤◌, ◌+◌, ◌-◌, ◌%◌, ◌==◌, ◌&&◌, ◌||◌, is_some, length, map, nat_eq, nat_lt, slice_get, take, if◌then◌else◌}
-use Rattle.std.proofs.Common.{arith, length-append, refl, sym, ap, ap₂, subst, ◌∙◌}
+use Rattle.std.specs.Prelude.{ℕ, Bool, true, false, List, [], ◌∷◌, ◌++◌, All, Option, Some, None, ◌≡◌, ◌≤◌, ◌+◌, ◌-◌, ◌%◌, ◌==◌, ◌&&◌, ◌||◌, length, map, nat_eq, nat_lt, slice_get}
+use Rattle.std.proofs.Common.{arith, refl, sym, ap, subst, ◌∙◌}
 use Rattle.std.proofs.Math.Path.{fun_ext}
 use Rattle.std.proofs.lemmas.Bool.{eqb-false, eqb-true}
 use Rattle.std.proofs.lemmas.Bool.Decides.{nat_tests}
@@ -8,7 +8,6 @@ use Rattle.std.proofs.lemmas.List.Elements.{All-cons}
 use Rattle.m88_base.specs.Pages.{page_bytes, page_number}
 use Rattle.m88_isa.proofs.InWords.{bus_of_append}
 use Rattle.m88_isa.specs.Bus.{bus_after, bus_after_all, in_words, stored}
-use Rattle.m88_isa.specs.Memory.{IsWordAccess}
 use Rattle.m88_isa.specs.declared.planned.Access.{Access}
 use Rattle.std.specs.Map.{lookup}
 use Rattle.m88_pager.proofs.Flushing.{at_most_one}

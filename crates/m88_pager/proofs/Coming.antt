@@ -1,5 +1,5 @@
 -- The bytes of a page that comes in.
-use Rattle.std.specs.Prelude.{ℕ, Bool, true, false, List, [], ◌++◌, Option, Some, None, ◌≡◌, drop, is_some, length, take, unwrap_or}
+use Rattle.std.specs.Prelude.{ℕ, Bool, true, false, List, ◌++◌, Option, Some, None, ◌≡◌, drop, is_some, length, take, unwrap_or}
 use Rattle.std.proofs.Common.{append-nil, arith, refl, sym, ap, ◌∙◌}
 use Rattle.std.proofs.lemmas.List.{drop_all, take_all}
 use Rattle.std.specs.FinMap.{get}

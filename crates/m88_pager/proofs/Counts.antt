@@ -1,12 +1,11 @@
 -- Frames as their definition has them, while pages come and go.
-use Rattle.std.specs.Prelude.{ℕ, zero, suc, Bool, true, false, List, [], ◌∷◌, ◌++◌, Option, Some, None, ◌≡◌, ◌<◌, ◌≤◌, ◌+◌, ◌-◌, length, map, nat_eq, nat_lt, option_map, slice_get, take, if◌then◌else◌}
-use Rattle.std.proofs.Common.{arith, refl, sym, ap, subst, ◌∙◌}
-use Rattle.std.proofs.lemmas.List.{length-map}
+use Rattle.std.specs.Prelude.{ℕ, zero, suc, Bool, List, [], ◌∷◌, Some, ◌≡◌, ◌+◌, ◌-◌, length, map, option_map, slice_get, take}
+use Rattle.std.proofs.Common.{refl, ap}
 use Rattle.std.proofs.lemmas.Option.{slice_get-map}
 use Rattle.std.specs.Map.{lookup, remove_entry}
 use Rattle.m88_pager.proofs.Layers.{by_test}
-use Rattle.m88_pager.specs.Frames.{Frames, fetched, fetched_as, one_if_dirty, with_room, without_last}
-use Rattle.m88_pager.specs.Inside.Seen.{kept, marked}
+use Rattle.m88_pager.specs.Frames.{Frames, one_if_dirty, without_last}
+use Rattle.m88_pager.specs.Inside.Seen.{marked}
 use Rattle.m88_pager.specs.declared.frames.Frame.{Frame}
 
 abbrev pub frames_at : List (ℕ × Bool) → ℕ → ℕ → Frames

@@ -1,12 +1,11 @@
 -- The pages leave one by one.
-use Rattle.std.specs.Prelude.{ℕ, Bool, true, false, List, [], ◌∷◌, ◌++◌, All, Option, Some, None, ◌≡◌, ◌<◌, ◌≤◌, ◌+◌, ◌-◌, ◌^◌, length, map, slice_get, take, if◌then◌else◌}
+use Rattle.std.specs.Prelude.{ℕ, Bool, true, false, List, [], ◌∷◌, ◌++◌, All, Option, Some, None, ◌≡◌, ◌<◌, ◌≤◌, ◌+◌, ◌-◌, length, slice_get, take, if◌then◌else◌}
 use Rattle.std.proofs.Common.{arith, length-take, refl, sym, ap, subst, ◌∙◌}
 use Rattle.std.proofs.lemmas.List.{get_or-take}
 use Rattle.std.proofs.lemmas.Option.{slice_get-get_or}
-use Rattle.m88_pager.proofs.Counts.{same_length, take_marked}
 use Rattle.m88_pager.proofs.Layers.{last_splits}
 use Rattle.m88_pager.specs.Frames.{dirty_count, one_if_dirty}
-use Rattle.m88_pager.specs.Inside.Seen.{IsWhole, marked}
+use Rattle.m88_pager.specs.Inside.Seen.{IsWhole}
 use Rattle.m88_pager.specs.declared.frames.Frame.{Frame}
 
 dirty_last : (pages : List (ℕ × Bool)) (page : ℕ × Bool) → dirty_count (pages ++ (page ∷ [])) ≡ one_if_dirty (Some page) + dirty_count pages

@@ -1,5 +1,5 @@
 -- Frames over what stands behind them.
-use Rattle.std.specs.Prelude.{ℕ, zero, suc, Bool, true, false, List, [], ◌∷◌, ◌++◌, All, Option, Some, None, ◌≡◌, ◌≢◌, ◌<◌, ◌+◌, ◌-◌, ◌==◌, ◌&&◌, ◌||◌, is_some, length, map, nat_eq, slice_get, take, unwrap_or, if◌then◌else◌}
+use Rattle.std.specs.Prelude.{ℕ, zero, suc, Bool, true, false, List, [], ◌∷◌, ◌++◌, All, Some, None, ◌≡◌, ◌-◌, ◌==◌, ◌&&◌, ◌||◌, is_some, length, nat_eq, slice_get, take, unwrap_or, if◌then◌else◌}
 use Rattle.std.proofs.Common.{arith, refl, sym, ap, ap₂, subst, ◌∙◌}
 use Rattle.std.proofs.Math.Path.{fun_ext}
 use Rattle.std.proofs.lemmas.Bool.{eqb-false, eqb-true}

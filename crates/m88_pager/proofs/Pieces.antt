@@ -1,5 +1,5 @@
 -- The bytes of an image, piece by piece.
-use Rattle.std.specs.Prelude.{ℕ, List, [], Option, Some, None, ◌++◌, ◌≡◌, ◌<◌, ◌≤◌, ◌+◌, ◌-◌, ◌*◌, length, replicate, slice_get, slice_index_or, take, unwrap_or}
+use Rattle.std.specs.Prelude.{ℕ, List, [], Option, None, ◌++◌, ◌≡◌, ◌<◌, ◌≤◌, ◌+◌, ◌-◌, ◌*◌, length, replicate, slice_get, slice_index_or, take, unwrap_or}
 use Rattle.std.proofs.Common.{arith, inl, inr, length-append, length-take, refl, sym, ap, subst, ◌∙◌}
 use Rattle.std.proofs.lemmas.Bool.{cases_lt}
 use Rattle.std.proofs.lemmas.List.{get_or-append_right, get_or-replicate, get_or-take, get_or_append_left, length-replicate}

@@ -1,11 +1,10 @@
 -- Frames and a store go on to stand for memory while pages come and go.
-use Rattle.std.specs.Prelude.{ℕ, Bool, true, false, List, [], ◌∷◌, ◌++◌, Option, Some, None, ◌≡◌, ◌-◌, ◌==◌, ◌&&◌, ◌||◌, is_some, length, nat_eq, option_map, slice_get, take, unwrap_or, if◌then◌else◌}
-use Rattle.std.proofs.Common.{refl, sym, ap, ap₂, subst, ◌∙◌}
-use Rattle.std.proofs.Math.Path.{fun_ext}
+use Rattle.std.specs.Prelude.{ℕ, Bool, true, false, List, [], ◌∷◌, ◌++◌, Option, Some, None, ◌≡◌, ◌-◌, ◌==◌, ◌&&◌, ◌||◌, is_some, length, nat_eq, option_map, slice_get, take, if◌then◌else◌}
+use Rattle.std.proofs.Common.{refl, sym, ap, subst, ◌∙◌}
 use Rattle.std.specs.FinMap.{get, insert}
 use Rattle.std.specs.List.{IsDistinct}
 use Rattle.std.specs.Map.{keys_of, lookup, remove_entry}
-use Rattle.m88_pager.proofs.Layers.{by_test, clean_apart, clean_found, clean_front, clean_last, clean_removed, dirty_found, dirty_last, last_splits, over_changed, over_come, over_last, over_taken, put_behind, put_held, same_behind}
+use Rattle.m88_pager.proofs.Layers.{clean_apart, clean_found, clean_front, clean_last, clean_removed, dirty_found, dirty_last, last_splits, over_changed, over_come, over_last, over_taken, put_behind, put_held, same_behind}
 use Rattle.m88_pager.specs.Inside.Contents.{AreClean, Stands, StandsFor, behind, is_dirty_in, over, with_page}
 use Rattle.m88_pager.specs.Store.{PageMap}
 use Rattle.m88_pager.specs.declared.frames.Frame.{Frame}

@@ -1,6 +1,6 @@
 -- A frame is taken out of its place, and one is put in front.
-use Rattle.std.specs.Prelude.{ℕ, zero, suc, Bool, true, false, List, [], ◌∷◌, All, Option, Some, None, ◌≡◌, ◌<◌, ◌≤◌, ◌+◌, ◌-◌, ◌==◌, cond, length, map, nat_eq, nat_lt, option_map, take, if◌then◌else◌}
-use Rattle.std.proofs.Common.{arith, refl, sym, ap, subst, ◌∙◌}
+use Rattle.std.specs.Prelude.{ℕ, zero, suc, Bool, true, false, List, [], ◌∷◌, All, Option, Some, None, ◌≡◌, ◌<◌, ◌+◌, ◌-◌, length, map, nat_eq, nat_lt, take}
+use Rattle.std.proofs.Common.{arith, refl, ap, subst, ◌∙◌}
 use Rattle.std.proofs.lemmas.Bool.{eqb-true}
 use Rattle.std.proofs.lemmas.Bool.Decides.{nat_tests}
 use Rattle.std.proofs.lemmas.Cmp.{nat_eq_equiv}
@@ -14,7 +14,7 @@ use Rattle.m88_base.specs.Pages.{page_bytes}
 use Rattle.m88_pager.proofs.Counts.{frames_at, lookup_marked, removed_marked}
 use Rattle.m88_pager.proofs.Layers.{by_test}
 use Rattle.m88_pager.proofs.Standing.{stands_come}
-use Rattle.m88_pager.specs.Frames.{Frames, fetched, fetched_as}
+use Rattle.m88_pager.specs.Frames.{fetched, fetched_as}
 use Rattle.m88_pager.specs.Inside.Contents.{Stands}
 use Rattle.m88_pager.specs.Inside.Seen.{ComesFrom, IsWhole, kept, marked}
 use Rattle.m88_pager.specs.Store.{PageMap}

@@ -1,6 +1,6 @@
 -- The transactions that an event answers or finishes are the oldest pending ones, in order.
 use Rattle.std.specs.Prelude.{ℕ, zero, suc, Bool, true, false, List, [], ◌∷◌, ◌++◌, All, Option, Some, None, ◌≡◌, ◌<◌, ◌≤◌, ◌+◌, ◌-◌, drop, length, map, slice_index_or, take, if◌then◌else◌}
-use Rattle.std.proofs.Common.{add-one, append-nil, arith, length-drop, length-take, refl, sym, ap, ap₂, subst, ◌∙◌}
+use Rattle.std.proofs.Common.{arith, length-take, refl, sym, ap, ap₂, subst, ◌∙◌}
 use Rattle.std.proofs.lemmas.List.{get_or-take, take-append-le}
 use Rattle.m88_base.specs.Pages.{page_number}
 use Rattle.m88_base.specs.declared.triple.Triple.{Triple}
@@ -14,7 +14,7 @@ use Rattle.m88_event.specs.declared.letter.Letter.TheVariants.{Issue, Answer, Ev
 use Rattle.m88_event.specs.declared.record.Record.{Record}
 use Rattle.m88_isa.proofs.Told.{told_of}
 use Rattle.m88_isa.specs.Held.{Hold}
-use Rattle.m88_isa.specs.History.{change_accesses, pending_at, transaction_count, transactions, turn_accesses}
+use Rattle.m88_isa.specs.History.{change_accesses, pending_at, transaction_count, transactions}
 use Rattle.m88_isa.specs.Machine.{Program, Turn, changes, outputs, stops}
 use Rattle.m88_isa.specs.Memory.{IsWordAccess}
 use Rattle.m88_isa.specs.Triples.{access_in, triples_of}

@@ -18,33 +18,29 @@ use Rattle.m88_event.proofs.Over.{same_over}
 use Rattle.m88_event.specs.Bound.{weight}
 use Rattle.m88_event.specs.Letters.{letter_at}
 use Rattle.m88_event.specs.Local.{Local, is_over_by, local_at, move}
-use Rattle.m88_event.specs.Run.{IsOutcome, NotBefore, moment_after, moment_along, outcome_at}
+use Rattle.m88_event.specs.Run.{NotBefore, moment_after, moment_along}
 use Rattle.m88_event.specs.Timeline.{Moment, after_letter, is_over, opening_moment}
 use Rattle.m88_event.specs.declared.letter.Letter.{Letter}
-use Rattle.m88_event.specs.declared.outcome.Outcome.{Outcome}
 use Rattle.m88_isa.proofs.ImageProgram.{program_of_image}
-use Rattle.m88_isa.proofs.InWords.{state_bus, state_bytes}
-use Rattle.m88_isa.specs.Bus.{bus_after_all, changed_among, changed_words, in_words}
+use Rattle.m88_isa.specs.Bus.{bus_after_all, in_words}
 use Rattle.m88_isa.specs.History.{pending_at, transaction_count, transactions}
 use Rattle.m88_isa.specs.ImageProgram.{IsProgramOf}
 use Rattle.m88_isa.specs.Lanes.{AreBytes}
-use Rattle.m88_isa.specs.Machine.{IsProgram, Program, opening, state}
+use Rattle.m88_isa.specs.Machine.{Program, opening}
 use Rattle.m88_isa.specs.declared.planned.Access.{Access}
 use Rattle.m88_mem.specs.DataBus.{image_bus, image_bytes}
-use Rattle.m88_pager.proofs.Coming.{none_there}
 use Rattle.m88_pager.proofs.Transacted.{done_ahead, done_between, done_of}
-use Rattle.m88_pager.proofs.Words.{bytes_back, words_stay, words_there}
-use Rattle.m88_pager.specs.Frames.{Frames as FramesSeen, dirty_count, frames_after, ins_along, no_frames, outs_along}
-use Rattle.m88_pager.specs.Inside.Bytes.{AreWords, in_bytes}
+use Rattle.m88_pager.proofs.Words.{bytes_back}
+use Rattle.m88_pager.specs.Frames.{frames_after}
+use Rattle.m88_pager.specs.Inside.Bytes.{in_bytes}
 use Rattle.m88_pager.specs.Inside.Contents.{AreClean, Stands, StandsFor, behind, is_dirty_in, over}
-use Rattle.m88_pager.specs.Inside.Seen.{AreCarried, IsWhole, IsWithin, held_by, marked, seen_of}
-use Rattle.m88_pager.specs.Inside.Told.{AreChanged, StandsAlone}
-use Rattle.m88_pager.specs.Paged.{AreCounts, HoldsNoneWhereTold, Tells}
-use Rattle.m88_pager.specs.Pages.{HoldsWhereTold, HoldsWritten, page_of, writes_page}
+use Rattle.m88_pager.specs.Inside.Seen.{AreCarried, IsWhole, IsWithin, held_by, marked}
+use Rattle.m88_pager.specs.Inside.Told.{StandsAlone}
+use Rattle.m88_pager.specs.Paged.{HoldsNoneWhereTold, Tells}
+use Rattle.m88_pager.specs.Pages.{HoldsWhereTold, page_of}
 use Rattle.m88_pager.specs.Store.{PageMap}
 use Rattle.m88_pager.specs.declared.frames.Frame.{Frame}
 use Rattle.m88_pager.specs.declared.frames.Frames.{Frames}
-use Rattle.m88_pager.specs.declared.paged.Paged.{Paged}
 
 -- no fewer transactions are done after an event, and no more than were pending
 pub done_grew : (p : Program) (letter : Letter) (b c : BoardView) → local_of c ≡ move p b.limit letter (local_of b) →

@@ -1,13 +1,12 @@
 -- The words of a page, and its bytes.
-use Rattle.std.specs.Prelude.{ℕ, zero, suc, Bool, true, false, List, [], ◌∷◌, ◌++◌, ◌≡◌, ◌≢◌, ◌<◌, ◌≤◌, ◌+◌, ◌-◌, ◌*◌, ◌/◌, ◌%◌, ◌^◌, ◌==◌, ◌⊎◌, drop, length, map, nat_lt, slice_index_or, take, if◌then◌else◌}
+use Rattle.std.specs.Prelude.{ℕ, zero, suc, true, false, List, [], ◌∷◌, ◌++◌, ◌≡◌, ◌≢◌, ◌<◌, ◌≤◌, ◌+◌, ◌-◌, ◌*◌, ◌/◌, ◌%◌, ◌^◌, ◌==◌, ◌⊎◌, drop, length, map, slice_index_or, take, if◌then◌else◌}
 use Rattle.std.proofs.Common.{append-nil, arith, inl, inr, length-append, length-drop, length-take, refl, sym, ap, ap₂, ◌∙◌}
 use Rattle.std.proofs.Math.Path.{fun_ext}
-use Rattle.std.proofs.lemmas.Bool.{cases_eq, cases_lt}
+use Rattle.std.proofs.lemmas.Bool.{cases_lt}
 use Rattle.std.proofs.lemmas.Bool.Decides.{nat_tests}
 use Rattle.std.proofs.lemmas.List.{drop-drop, drop_all, get_or-append_right, get_or-drop, get_or-take, get_or_append_left, take_all}
 use Rattle.std.proofs.lemmas.List.FromFn.{fill_by_all, get_or-map-range_with_len, length-map-range_with_len}
 use Rattle.std.specs.Int.{from_be_bytes, to_be_bytes, w32}
-use Rattle.std.specs.List.{range_with_len}
 use Rattle.m88_base.specs.Pages.{page_bytes, page_number}
 use Rattle.m88_isa.specs.Address.{word_address}
 use Rattle.m88_isa.specs.Bus.{bus_after, bus_after_all, in_words, stored, with_word}

@@ -1,5 +1,5 @@
 -- What a paged run comes to.
-use Rattle.std.specs.Prelude.{ℕ, Bool, true, List, Option, Some, None, ◌≡◌}
+use Rattle.std.specs.Prelude.{ℕ, Bool, List, Option, Some, None, ◌≡◌}
 use Rattle.std.specs.FinMap.{empty}
 use Rattle.m88_event.specs.Run.{IsOutcome}
 use Rattle.m88_event.specs.declared.letter.Letter.{Letter}

@@ -1,6 +1,6 @@
 //! Frames before a store of pages.
 
-ghost use Rattle.std.specs.Prelude.{ℕ, Bool, List, Option, All, ◌≡◌, ◌∷◌, ◌++◌, [], ◌+◌, ◌-◌, ◌==◌, ◌^◌, ◌<◌, ◌≤◌, None, false, is_some, length, map, nat_eq, option_map, take, true, if◌then◌else◌, IfOk, IsErrOf, OnOk};
+ghost use Rattle.std.specs.Prelude.{ℕ, List, All, ◌≡◌, ◌∷◌, ◌++◌, [], ◌+◌, ◌-◌, ◌==◌, ◌^◌, ◌<◌, ◌≤◌, None, false, is_some, length, map, nat_eq, option_map, take, true, if◌then◌else◌, IfOk, IsErrOf, OnOk};
 ghost use Rattle.std.specs.FinMap.{insert};
 ghost use Rattle.std.specs.Map.{lookup};
 ghost use Rattle.std.specs.NonZero.{non_zero_usize_get};

@@ -1,6 +1,6 @@
 //! A page as memory has it at first.
 
-ghost use Rattle.std.specs.Prelude.{ℕ, ◌≡◌, ◌+◌, ◌*◌, ◌++◌, ◌<◌, ◌≤◌, ◌^◌, length, replicate, take, IfOk, OnOk};
+ghost use Rattle.std.specs.Prelude.{◌≡◌, ◌+◌, ◌*◌, ◌++◌, ◌<◌, ◌≤◌, ◌^◌, length, replicate, take, IfOk, OnOk};
 ghost use Rattle.m88_base.specs.Pages.{IsPage, page_bytes};
 ghost use Rattle.m88_mem.specs.DataBus.{image_bytes};
 ghost use Rattle.m88_pager.specs.Inside.Bytes.{HoldsFrom};

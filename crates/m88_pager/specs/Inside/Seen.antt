@@ -1,5 +1,5 @@
 -- Frames as their definition has them, and what holds of them after some transactions.
-use Rattle.std.specs.Prelude.{ℕ, Bool, true, List, ◌∷◌, Option, Some, None, All, ◌≡◌, ◌≤◌, ◌-◌, ◌^◌, is_some, length, map, nat_lt, take, if◌then◌else◌}
+use Rattle.std.specs.Prelude.{ℕ, Bool, List, ◌∷◌, Option, Some, None, All, ◌≡◌, ◌≤◌, ◌-◌, ◌^◌, is_some, length, map, nat_lt, take, if◌then◌else◌}
 use Rattle.std.specs.BTreeSet.{contains}
 use Rattle.std.specs.FinMap.{get}
 use Rattle.std.specs.Ordering.{nat_cmp}

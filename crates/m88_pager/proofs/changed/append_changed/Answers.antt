@@ -1,5 +1,5 @@
 -- A word that is another is added.
-use Rattle.std.proofs.Common.{◌≡◌, ◌+◌, ◌*◌, ◌++◌, ◌∷◌, [], ℕ, ◌∙◌, ap, refl, sym, arith}
+use Rattle.std.proofs.Common.{◌≡◌, ◌+◌, ◌*◌, ◌++◌, ◌∷◌, [], ℕ, ◌∙◌, ap, sym, arith}
 use Rattle.m88_isa.specs.Bus.{changed_among}
 use Rattle.m88_mem.proofs.Walk.{other_word, same_word}
 use Rattle.m88_pager.proofs.Words.{word_read}

@@ -1,7 +1,6 @@
 -- The page as memory has it at first, and as the store does.
-use Rattle.std.specs.Prelude.{ℕ, Bool, List, ◌≡◌, length}
-use Rattle.std.proofs.Common.{arith, sym, ap, ◌∙◌}
-use Rattle.std.proofs.lemmas.Result.{on_ok_weaker}
+use Rattle.std.specs.Prelude.{◌≡◌, length}
+use Rattle.std.proofs.Common.{arith, ap, ◌∙◌}
 use Rattle.m88_isa.specs.Bus.{in_words}
 use Rattle.m88_mem.specs.DataBus.{image_bytes}
 use Rattle.m88_pager.proofs.Changing.{first_page, held_page}

@@ -2,7 +2,7 @@
 use Rattle.std.specs.BTreeSet.{contains}
 use Rattle.std.specs.Ordering.{nat_cmp}
 use Rattle.std.specs.Prelude.{ℕ, Option, ◌+◌, ◌*◌}
-use Rattle.std.proofs.Common.{arith, sym, subst, ◌∙◌}
+use Rattle.std.proofs.Common.{arith, subst, ◌∙◌}
 use Rattle.m88_isa.specs.Bus.{changed_among}
 use Rattle.m88_mem.specs.DataBus.{image_bytes}
 use Rattle.m88_pager.proofs.Changing.{none_up}

@@ -1,5 +1,5 @@
 -- Zeros, or bytes of the image.
-use Rattle.std.proofs.Common.{ℕ, ◌≡◌, ◌+◌, arith, ap, ◌∙◌, length}
+use Rattle.std.proofs.Common.{◌≡◌, ◌+◌, arith, length}
 use Rattle.std.proofs.lemmas.Result.{on_ok_weaker}
 use Rattle.m88_pager.proofs.Pieces.{some_held, zeros_held}
 use Rattle.m88_pager.proofs.original.append_piece.Goals as goal

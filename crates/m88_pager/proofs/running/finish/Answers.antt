@@ -7,7 +7,6 @@ use Rattle.m88_pager.proofs.CameTo.{came_to}
 use Rattle.m88_pager.specs.Inside.Came.{CameTo}
 use Rattle.m88_pager.specs.Pages.{page_of}
 use Rattle.m88_pager.specs.Store.{PageMap}
-use Rattle.m88_pager.specs.declared.paged.Paged.{Paged}
 use Rattle.m88_pager.proofs.running.finish.Goals as goal
 
 pub returns-clause-came : goal.returns-clause-came

@@ -1,5 +1,5 @@
 -- The board and its frames stand where the letters taken lead them, and what is left of the run is bounded.
-use Rattle.std.proofs.Common.{ℕ, ◌≡◌, ◌≤◌, ◌+◌, ◌*◌, false, is_some, length}
+use Rattle.std.proofs.Common.{◌≡◌, ◌≤◌, ◌+◌, ◌*◌, false, is_some, length}
 use Rattle.m88_event.specs.Bound.{weight}
 use Rattle.m88_isa.specs.ImageProgram.{IsProgramOf}
 use Rattle.m88_isa.specs.Machine.{Program}

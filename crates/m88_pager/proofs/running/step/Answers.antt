@@ -1,6 +1,6 @@
 -- The event, and the transactions that are done by it.
-use Rattle.std.specs.Prelude.{ℕ, Bool, List, ◌≡◌, ◌<◌, ◌≤◌, ◌+◌, ◌-◌, ◌++◌, All, length, map, take}
-use Rattle.std.proofs.Common.{arith, length-take, refl, sym, ap, ap₂, subst, ◌∙◌}
+use Rattle.std.specs.Prelude.{ℕ, List, ◌≡◌, ◌-◌, ◌++◌, All, length, map, take}
+use Rattle.std.proofs.Common.{arith, length-take, sym, ap, ap₂, subst, ◌∙◌}
 use Rattle.std.proofs.lemmas.Result.{on_ok_weaker}
 use Rattle.m88_base.specs.declared.triple.Triple.{Triple}
 use Rattle.m88_isa.specs.ImageProgram.{IsProgramOf}

@@ -1,7 +1,6 @@
 -- As memory has them at first, or as the store does.
-use Rattle.std.specs.Prelude.{ℕ, List, ◌≡◌, length}
+use Rattle.std.specs.Prelude.{◌≡◌, length}
 use Rattle.std.proofs.Common.{arith, sym, ap, subst, ◌∙◌}
-use Rattle.m88_base.specs.Pages.{page_bytes}
 use Rattle.m88_mem.specs.DataBus.{image_bytes}
 use Rattle.m88_pager.proofs.Coming.{all_written, is_held, not_held}
 use Rattle.m88_pager.proofs.Words.{page_length}

@@ -1,7 +1,6 @@
 -- One transaction more.
-use Rattle.std.specs.Prelude.{ℕ, List, [], ◌∷◌, ◌++◌, ◌≡◌, ◌≤◌, ◌+◌, map, slice_index_or, take}
-use Rattle.std.proofs.Common.{append_assoc, arith, sym, ap, subst, ◌∙◌}
-use Rattle.m88_base.specs.declared.triple.Triple.{Triple}
+use Rattle.std.specs.Prelude.{ℕ, List, [], ◌∷◌, ◌++◌, ◌+◌, map, take}
+use Rattle.std.proofs.Common.{append_assoc, arith, ap, subst, ◌∙◌}
 use Rattle.m88_isa.specs.Triples.{access_in}
 use Rattle.m88_isa.specs.declared.planned.Access.{Access}
 use Rattle.m88_mem.specs.DataBus.{image_bytes}

@@ -1,5 +1,5 @@
 -- Room is made, and the page stands in front.
-use Rattle.std.specs.Prelude.{ℕ, List, ◌∷◌, Option, nat_eq, false}
+use Rattle.std.specs.Prelude.{◌∷◌, Option, nat_eq, false}
 use Rattle.std.proofs.Common.{refl, sym, subst}
 use Rattle.m88_mem.specs.DataBus.{image_bytes}
 use Rattle.m88_pager.proofs.Taking.{come_told, none_kept}

@@ -1,6 +1,6 @@
 -- One page less, until none is left.
-use Rattle.std.specs.Prelude.{ℕ, Bool, List, All, ◌≡◌, ◌<◌, ◌+◌, ◌-◌, length, map, slice_get, take}
-use Rattle.std.proofs.Common.{arith, length-take, refl, sym, ap, subst, ◌∙◌}
+use Rattle.std.specs.Prelude.{ℕ, Bool, List, All, ◌≡◌, ◌+◌, ◌-◌, length, map, slice_get, take}
+use Rattle.std.proofs.Common.{arith, length-take, sym, ap, subst, ◌∙◌}
 use Rattle.m88_pager.proofs.Counts.{same_length}
 use Rattle.m88_pager.proofs.Flushing.{at_most_one, dirty_left, none_dirty, whole_front}
 use Rattle.m88_pager.specs.Frames.{Frames as FramesSeen, dirty_count, one_if_dirty}

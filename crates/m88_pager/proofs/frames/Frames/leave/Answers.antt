@@ -1,6 +1,6 @@
 -- The last frame, clean or dirty.
-use Rattle.std.specs.Prelude.{ℕ, Bool, true, false, List, Option, Some, ◌≡◌, ◌+◌, ◌-◌, ◌==◌, length, map, option_map, slice_get, take, if◌then◌else◌}
-use Rattle.std.proofs.Common.{arith, refl, sym, ap, subst, ◌∙◌}
+use Rattle.std.specs.Prelude.{ℕ, List, Option, Some, ◌≡◌, ◌+◌, ◌-◌, length, map, option_map, take}
+use Rattle.std.proofs.Common.{arith, sym, ap, subst, ◌∙◌}
 use Rattle.std.proofs.lemmas.Result.{on_ok_weaker}
 use Rattle.std.specs.FinMap.{insert}
 use Rattle.lru.specs.LruCache.{LruCache}
@@ -8,9 +8,9 @@ use Rattle.m88_pager.proofs.Both.{both_ok}
 use Rattle.m88_pager.proofs.Counts.{frames_at, left_seen}
 use Rattle.m88_pager.proofs.Layers.{all_at}
 use Rattle.m88_pager.proofs.Standing.{stands_clean, stands_dirty}
-use Rattle.m88_pager.specs.Frames.{one_if_dirty, without_last}
+use Rattle.m88_pager.specs.Frames.{one_if_dirty}
 use Rattle.m88_pager.specs.Inside.Contents.{Stands}
-use Rattle.m88_pager.specs.Inside.Seen.{IsWhole, held_by, marked, seen_of}
+use Rattle.m88_pager.specs.Inside.Seen.{IsWhole, held_by, marked}
 use Rattle.m88_pager.specs.Store.{PageMap}
 use Rattle.m88_pager.specs.declared.frames.Frame.{Frame}
 use Rattle.m88_pager.proofs.frames.Frames.leave.Goals as goal

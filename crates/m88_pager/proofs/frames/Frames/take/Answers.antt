@@ -1,8 +1,8 @@
 -- Out of its frame, or in from the store.
-use Rattle.std.specs.Prelude.{ℕ, List, ◌∷◌, All, Option, None, ◌≡◌, ◌-◌, length, map, nat_eq}
-use Rattle.std.proofs.Common.{arith, refl, sym, ap, subst, ◌∙◌}
+use Rattle.std.specs.Prelude.{ℕ, List, ◌∷◌, All, None, ◌≡◌, length, map, nat_eq}
+use Rattle.std.proofs.Common.{arith, sym, ap, subst, ◌∙◌}
 use Rattle.std.proofs.lemmas.Result.{IfOk-weaker}
-use Rattle.std.specs.Map.{lookup, remove_entry}
+use Rattle.std.specs.Map.{lookup}
 use Rattle.lru.specs.LruCache.{LruCache, lru_cache}
 use Rattle.m88_mem.specs.DataBus.{image_bytes}
 use Rattle.m88_pager.proofs.Counts.{frames_at}
@@ -10,7 +10,7 @@ use Rattle.m88_pager.proofs.Standing.{stands_taken}
 use Rattle.m88_pager.proofs.Taking.{come_seen, found_whole, none_left, none_removed, one_removed, taken_seen, whole_removed}
 use Rattle.m88_pager.specs.Frames.{fetched_as}
 use Rattle.m88_pager.specs.Inside.Contents.{Stands}
-use Rattle.m88_pager.specs.Inside.Seen.{IsWhole, StillStands, held_by, marked}
+use Rattle.m88_pager.specs.Inside.Seen.{IsWhole, held_by, marked}
 use Rattle.m88_pager.specs.Pages.{page_of}
 use Rattle.m88_pager.specs.declared.frames.Frame.{Frame}
 use Rattle.m88_pager.proofs.frames.Frames.take.Goals as goal
