@@ -77,8 +77,10 @@ fn tell_refusal<'a>(
     }
 }
 
-/// Whether a command reads a source or a script, whose lines a person writes.
+/// Whether a command reads a source, a script or a trace, of whose lines a person wants to see the one at fault.
 fn reads_lines(name: &str) -> bool {
-    let is_source = name == "asm" || name == "build" || name == "run" || name == "emu";
-    is_source || name == "mon" || name == "share"
+    matches!(
+        name,
+        "asm" | "build" | "run" | "mon" | "share" | "emu" | "page" | "trace" | "check"
+    )
 }

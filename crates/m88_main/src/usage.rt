@@ -8,6 +8,7 @@ use std::fmt;
 /// A word behind the name of a command.
 #[derive(Clone, Copy)]
 pub enum Place {
+    Frames,
     Limit,
     Absent,
     Schedule,
@@ -22,6 +23,7 @@ pub enum Place {
 impl Place {
     fn name(self) -> &'static str {
         match self {
+            Place::Frames => "FRAMES",
             Place::Limit => "LIMIT",
             Place::Absent => "ABSENT",
             Place::Schedule | Place::Turns => "SCHEDULE",
@@ -38,7 +40,7 @@ impl Place {
             Place::Absent => "none",
             Place::Schedule | Place::Turns => "-",
             Place::Mode => "mxm",
-            Place::Count => "1",
+            Place::Frames | Place::Count => "1",
         }
     }
 }
@@ -46,6 +48,7 @@ impl Place {
 impl fmt::Display for Place {
     fn fmt<W: fmt::Write>(&self, f: &mut fmt::Formatter<W>) -> fmt::Result {
         match self {
+            Place::Frames => write!(f, "FRAMES is a decimal number from 1 to 64"),
             Place::Limit => write!(f, "LIMIT is a decimal number from 0 to {MOST_LIMIT}"),
             Place::Absent => write!(
                 f,
@@ -75,13 +78,16 @@ const RUN: [Place; 4] = [Place::Limit, Place::Absent, Place::Schedule, Place::Mo
 
 const SHARED: [Place; 3] = [Place::Limit, Place::Absent, Place::Turns];
 
-const EMULATED: [Place; 3] = [Place::Limit, Place::Absent, Place::Schedule];
+/// A run without a mode.
+const PLAIN: [Place; 3] = [Place::Limit, Place::Absent, Place::Schedule];
+
+const PAGED: [Place; 4] = [Place::Frames, Place::Limit, Place::Absent, Place::Schedule];
 
 const SESSION: [Place; 3] = [Place::Absent, Place::Schedule, Place::Mode];
 
 const WORKLOAD: [Place; 2] = [Place::Number, Place::Count];
 
-const FORMS: [Form; 10] = [
+const FORMS: [Form; 13] = [
     Form {
         name: "run",
         places: &RUN,
@@ -104,8 +110,23 @@ const FORMS: [Form; 10] = [
     },
     Form {
         name: "emu",
-        places: &EMULATED,
+        places: &PLAIN,
         reads: " < SOURCE",
+    },
+    Form {
+        name: "page",
+        places: &PAGED,
+        reads: " < SOURCE",
+    },
+    Form {
+        name: "trace",
+        places: &PLAIN,
+        reads: " < SOURCE",
+    },
+    Form {
+        name: "check",
+        places: &[],
+        reads: " < SOURCE-AND-TRACE",
     },
     Form {
         name: "asm",
@@ -246,6 +267,7 @@ fn put_all<W: fmt::Write>(f: &mut fmt::Formatter<W>) -> fmt::Result {
         write!(f, "\n  {form}")?;
     }
     for place in [
+        Place::Frames,
         Place::Limit,
         Place::Absent,
         Place::Schedule,

@@ -11,21 +11,21 @@ use std::test::Fail;
 /// A source, the words that run it and that run its records, and a line of the report.
 type Example<'a> = (&'a [u8], &'a str, &'a str, &'a str);
 
-const DOUBLE: &[u8] = b"_start: ld.d r2,r0,lo16(pair)\naddu r4,r2,r0\naddu r5,r2,r3\n\
+pub const DOUBLE: &[u8] = b"_start: ld.d r2,r0,lo16(pair)\naddu r4,r2,r0\naddu r5,r2,r3\n\
     .data\npair: .word 0x11223344,0x55667788\n";
 
-const EXCHANGE: &[u8] = b"_start: or r2,r0,1\nagain: xmem r2,r0,lo16(lock)\nbcnd ne0,r2,again\n\
+pub const EXCHANGE: &[u8] = b"_start: or r2,r0,1\nagain: xmem r2,r0,lo16(lock)\nbcnd ne0,r2,again\n\
     or r9,r0,0x63\ntb0 0,r0,496\n.data\nlock: .word 0\n";
 
-const FOUR_LOADS: &[u8] =
+pub const FOUR_LOADS: &[u8] =
     b"_start: ld r2,r0,0x5000\nld r3,r0,0x5004\nld r4,r0,0x5008\nld r5,r0,0x6000\n\
     addu r6,r2,r5\n.at 0x5000\n.word 1,2,3\n.at 0x6000\n.word 4\n";
 
-const HALF_FAULT: &[u8] =
+pub const HALF_FAULT: &[u8] =
     b"_start: ld.d r2,r0,lo16(pair)\naddu r4,r2,r0\naddu r5,r2,r3\nst.d r4,r0,lo16(sums)\nor r9,r0,0x63\n\
     tb0 0,r0,496\n.data\npair: .word 0x11223344,0x55667788\nsums: .word 0,0\n";
 
-const HEX_DUMP: &[u8] =
+pub const HEX_DUMP: &[u8] =
     b"_start: or.u r31,r0,hi16(stack)\nor r31,r31,lo16(stack)\nor.u r20,r0,hi16(bytes)\n\
     or r20,r20,lo16(bytes)\naddu r21,r20,32\nline: bsr.n word\nor r2,r20,r0\nor r22,r0,8\n\
     next: bsr.n put\nor r2,r0,' '\nbsr.n byte\nld.bu r2,r20,0\naddu r20,r20,1\nsubu r22,r22,1\n\
@@ -39,22 +39,22 @@ const HEX_DUMP: &[u8] =
     bytes: .ascii \"MC88100\\n\"\n.word 0,1,0x12345678,0x80000000\n.half -1,0xABCD\n.byte 1,2,3,4\n\
     .zero 64\nstack: .align 4\n";
 
-const LATE_FAULT: &[u8] =
+pub const LATE_FAULT: &[u8] =
     b"_start: or r4,r0,7\nld r2,r0,0x5000\nbr.n over\nst r4,r0,0x6000\nor r5,r0,1\n\
     over: or r4,r0,9\nld.b r3,r0,0x7001\nbr join\nor r5,r0,2\njoin: addu r6,r2,r3\nor r9,r0,0x63\ntb0 0,r0,496\n\
     .at 0x5000\n.word 0x11223344\n.at 0x7000\n.byte 1,0x80,3,4\n";
 
-const LIST_WALK: &[u8] =
+pub const LIST_WALK: &[u8] =
     b"_start: or.u r10,r0,hi16(first)\nor r10,r10,lo16(first)\nor r12,r0,0\nwalk: ld r11,r10,0\n\
     ld r13,r10,4\naddu r12,r12,r13\nst r12,r10,8\nbcnd.n ne0,r11,walk\nor r10,r11,r0\nor r9,r0,0x63\n\
     tb0 0,r0,496\n.at 0x5000\nfirst: .word third,10,0\n.at 0x6FF0\nsecond: .word 0,40,0\n.at 0x7000\n\
     third: .word fourth,20,0\n.at 0x8008\nfourth: .word second,30,0\n";
 
-const LOOP: &[u8] =
+pub const LOOP: &[u8] =
     b"_start: or r2,r0,'A'\nor r9,r0,0x20\nor r3,r0,5\nloop: tb0 0,r0,496\nsubu r3,r3,1\n\
     bcnd.n ne0,r3,loop\naddu r2,r2,1\nor r9,r0,0x63\ntb0 0,r0,496\n";
 
-const MEMORY_TEST: &[u8] =
+pub const MEMORY_TEST: &[u8] =
     b".set low,0x5F80\n.set high,0x6080\n_start: or r10,r0,lo16(low)\nor r11,r0,lo16(high)\n\
     fill: st r10,r10,0\naddu r10,r10,4\ncmp r14,r10,r11\nbb1 lo,r14,fill\nbsr mark\n\
     or r10,r0,lo16(low)\nturn: ld r13,r10,0\ncmp r14,r13,r10\nbb0 eq,r14,bad\nxor.c r15,r13,r0\n\
@@ -64,14 +64,23 @@ const MEMORY_TEST: &[u8] =
     bad: or r2,r0,'!'\nor r9,r0,0x20\ntb0 0,r0,496\nend: or r9,r0,0x63\ntb0 0,r0,496\n\
     mark: or r2,r0,'.'\nor r9,r0,0x20\ntb0 0,r0,496\njmp r1\n";
 
+pub const MERGE: &[u8] = b"_start: or r10,r0,lo16(one)\nor r11,r0,lo16(two)\nor r12,r0,lo16(both)\n\
+    or r13,r0,lo16(count)\nor r14,r0,16\nnext: ld r2,r10,0\nld r3,r11,0\ncmp r4,r2,r3\n\
+    bb1.n hi,r4,second\nsubu r14,r14,1\nst r2,r12,0\nbr.n more\naddu r10,r10,4\n\
+    second: st r3,r12,0\naddu r11,r11,4\nld r5,r13,0\naddu r5,r5,1\nst r5,r13,0\n\
+    more: bcnd.n ne0,r14,next\naddu r12,r12,4\nor r9,r0,0x63\ntb0 0,r0,496\n.at 0x5000\n\
+    one: .word 2,3,5,7,11,13,17,19,-1\n.at 0x6000\ntwo: .word 1,4,9,16,25,36,49,64,-1\n\
+    .at 0x7000\nboth: .zero 64\n.at 0x8000\ncount: .word 0\n";
+
 pub const PACKED: &[u8] = b"_start: or r10,r0,lo16(packet)\nld.bu r2,r10,0\nld.h r3,r10,1\n\
     ld.h r4,r10,3\nld.h r5,r10,5\naddu r6,r3,r4\naddu r6,r6,r5\ndiv r7,r6,r2\nst r7,r10,7\n\
     or r9,r0,0x63\ntb0 0,r0,496\n.data\npacket: .byte 3\n.byte 0xFF,0xEC\n.byte 0x00,0x05\n\
     .byte 0xFF,0xFC\n.zero 4\n";
 
-const PRINT_A: &[u8] = b"or r2,r0,65\nor r9,r0,0x20\ntb0 0,r0,496\nor r9,r0,0x63\ntb0 0,r0,496\n";
+pub const PRINT_A: &[u8] =
+    b"or r2,r0,65\nor r9,r0,0x20\ntb0 0,r0,496\nor r9,r0,0x63\ntb0 0,r0,496\n";
 
-const REVERSE: &[u8] =
+pub const REVERSE: &[u8] =
     b".module main\n_start: or.u r2,r0,hi16(text)\nor r2,r2,lo16(text)\nbsr.n reverse\nor r3,r0,11\n\
     or.u r10,r0,hi16(text)\nor r10,r10,lo16(text)\nor r11,r0,11\nor r9,r0,0x20\nnext: ld.bu r2,r10,0\n\
     tb0 0,r0,496\nsubu r11,r11,1\nbcnd.n ne0,r11,next\naddu r10,r10,1\nor r9,r0,0x63\ntb0 0,r0,496\n\
@@ -79,17 +88,17 @@ const REVERSE: &[u8] =
     br test\nswap: ld.bu r4,r2,0\nld.bu r5,r3,0\nst.b r5,r2,0\nst.b r4,r3,0\naddu r2,r2,1\n\
     test: subu r3,r3,1\ncmp r6,r2,r3\nbb1 lo,r6,swap\njmp r1\n";
 
-const SUM: &[u8] =
+pub const SUM: &[u8] =
     b"_start: or.u r10,r0,hi16(tab)\nor r10,r10,lo16(tab)\nor r11,r0,10\nor r12,r0,0\n\
     loop: ld r13,r10,0\naddu r10,r10,4\nsubu r11,r11,1\nbcnd.n ne0,r11,loop\naddu r12,r12,r13\n\
     or.u r14,r0,hi16(sum)\nor r14,r14,lo16(sum)\nst r12,r14,0\nor r9,r0,0x63\ntb0 0,r0,496\n\
     .data\ntab: .word 1,2,3,4,5,6,7,8,9,10\nsum: .word 0\n";
 
-const TWO_MODULES: &[u8] =
+pub const TWO_MODULES: &[u8] =
     b".module main\n_start: bsr.n put\nor r2,r0,'A'\nor r9,r0,0x63\ntb0 0,r0,496\n\
     .module output\n.global put\nput: or r9,r0,0x20\ntb0 0,r0,496\njmp r1\n";
 
-const TWO_MODES: &[u8] =
+pub const TWO_MODES: &[u8] =
     b"_start: or r10,r0,lo16(bytes+7)\nor r11,r0,1\nld.bu r2,r10,0\nld.hu r3,r10,0\nld r4,r10,0\nld r5,r10[r11]\n\
     ld.d r6,r10,0\nst.h r2,r10,6\nor r9,r0,0x63\ntb0 0,r0,496\n.data\n\
     bytes: .word 0x10111213,0x14151617,0x18191A1B,0\n";
@@ -152,6 +161,12 @@ const EXAMPLES: &[Example] = &[
         "run 10000 5,6 -",
         "exec 10000 5,6 -",
         "\nout 2E2E2E\n",
+    ),
+    (
+        MERGE,
+        "run 1000 5,6,7,8 iiiiriirr",
+        "exec 1000 5,6,7,8 iiiiriirr",
+        "\nmem 00007024 00000010\n",
     ),
     (
         PACKED,

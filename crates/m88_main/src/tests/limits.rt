@@ -20,7 +20,7 @@ fn joined(alloc: Global, pieces: Pieces) -> Result<String, AllocError> {
     Ok(text)
 }
 
-/// Runs at limits of their words, and lines of their reports.
+/// Runs at limits of their words, and lines of what is told of them.
 const RUNS: &[Part] = &[
     (
         "run 1000000 none -",
@@ -59,11 +59,48 @@ const RUNS: &[Part] = &[
     ),
     ("run 0 none -", ".zero 1048576\n", "end limit\nretired 0\n"),
     (
+        "page 01 1000000 none -",
+        "ld r2,r0,0x5000\n",
+        "\nframes 1\nins 1\nouts 0\n",
+    ),
+    // 65 pages are stored to on the way up, and loaded from on the way down.
+    (
+        "page 63 1000 none -",
+        PAGES_UP_AND_DOWN,
+        "\nframes 63\nins 67\nouts 65\n",
+    ),
+    (
+        "page 64 1000 none -",
+        PAGES_UP_AND_DOWN,
+        "\nframes 64\nins 66\nouts 65\n",
+    ),
+    (
+        "page 64 0000001 0xfffff -",
+        "st r0,r0,0x5000\n",
+        "\nframes 64\nins 1\nouts 1\n",
+    ),
+    ("page 09 0 all i", "", "\nframes 9\nins 0\nouts 0\n"),
+    (
+        "trace 1000000 none -",
+        "or r2,r0,1\n",
+        "0 00001000 58400001 r2 00000001\nend vector 2 at 00001004\n",
+    ),
+    (
+        "trace 0000001 1048575 i",
+        "or r2,r0,1\n",
+        "0 00001000 58400001 r2 00000001\n",
+    ),
+    (
         "soak 3 2000",
         "",
         "events 5053\nanswers 1419\nfaults 14\nregs 0000B7E2\nmem 217 8734FAFF\n",
     ),
 ];
+
+const PAGES_UP_AND_DOWN: &str =
+    "or.u r10,r0,1\nor r11,r0,65\nup: st r11,r10,0\naddu r10,r10,0x1000\n\
+    subu r11,r11,1\nbcnd ne0,r11,up\nor r11,r0,65\ndown: subu r10,r10,0x1000\nld r12,r10,0\n\
+    subu r11,r11,1\nbcnd ne0,r11,down\nor r9,r0,0x63\ntb0 0,r0,496\n";
 
 #[test]
 fn words_are_taken_up_to_their_limits(rt: HostRuntime) -> Result<(), Fail> {
@@ -83,7 +120,14 @@ fn pages_and_letters_are_taken_up_to_their_limits(rt: HostRuntime) -> Result<(),
         text.as_str().contains("\nevents 65537\nanswers 1\n"),
         "{text}"
     );
-    for pieces in [PAGE_65, REPEATED_PAGE_65, LETTER_65537, TURN_65537] {
+    for pieces in [
+        PAGE_65,
+        REPEATED_PAGE_65,
+        PAGED_65,
+        LETTER_65537,
+        TURN_65537,
+        TRACED_65537,
+    ] {
         let line = joined(rt.alloc(), pieces)?;
         expect_usage(&rt, rt.alloc(), &[line.as_str()])?;
     }
@@ -107,11 +151,15 @@ const PAGE_65: Pieces = &[("run 1 ", 1), ("7,0x7,", 32), ("5 ir", 1)];
 
 const REPEATED_PAGE_65: Pieces = &[("mon ", 1), ("5,", 64), ("5 ir", 1)];
 
+const PAGED_65: Pieces = &[("page 1 1 7", 1), (",7", 64), (" ir", 1)];
+
 const LETTERS: Pieces = &[("run 1 none ", 1), ("i", 65_536)];
 
 const LETTER_65537: Pieces = &[("run 1 none ", 1), ("ir", 32_768), ("i", 1)];
 
 const TURN_65537: Pieces = &[("share 1 none ", 1), ("it", 32_768), ("t", 1)];
+
+const TRACED_65537: Pieces = &[("trace 1 none ", 1), ("ie", 32_768), ("e", 1)];
 
 #[test]
 fn words_with_blanks_and_without_letters_are_usage(rt: HostRuntime) -> Result<(), Fail> {
@@ -137,6 +185,12 @@ const OTHER_WORDS: &[&[&str]] = &[
     &["run", "1", "none", "i r"],
     &["run", "1", "none", "- "],
     &["run 1 none -"],
+    &["page", "", "1", "none", "-"],
+    &["page", "1 ", "1", "none", "-"],
+    &["page", "1", "1", "none", ""],
+    &["trace", "", "none", "-"],
+    &["trace 1 none -"],
+    &["check", ""],
     &["asm", ""],
     &["dis\n"],
     &["mon", "none", ""],
@@ -209,7 +263,7 @@ fn the_monitor_shows_at_most_1024_words(rt: HostRuntime) -> Result<(), Fail> {
 /// Four loads, of which the data unit has room for three; the page of the last is absent in these runs.
 const FOUR_LOADS: &str = "ld r2,r0,0x5000\nld r3,r0,0x5004\nld r4,r0,0x5008\nld r5,r0,0x6000\n";
 
-/// Runs by as many letters as there may be, and the end of their reports.
+/// Runs by as many letters as there may be, and the end of what is told of them.
 const LONGEST: &[(Pieces, &str)] = &[
     (
         &[("run 4 6 ", 1), ("i", 65_536)],
@@ -229,6 +283,14 @@ const LONGEST: &[(Pieces, &str)] = &[
         epsr 000003F8 sxip 0000100E snip 00001013 sfip 00001017 ssbr 00000020\n\
         t0 000002BD 00000000 00006000\nt1 00000000 00000000 00000000\nt2 00000000 00000000 00000000\n\
         events 65545\nswitches 0\n",
+    ),
+    (
+        &[("page 1 4 6 ", 1), ("i", 65_536)],
+        "\nt2 00000000 00000000 00000000\nframes 1\nins 2\nouts 0\n",
+    ),
+    (
+        &[("trace 4 6 ", 1), ("i", 65_536)],
+        "2 00001008 14805008 l 00005008 F 00000000\n3 0000100C 14A06000 l 00006000 F 00000000\n",
     ),
 ];
 

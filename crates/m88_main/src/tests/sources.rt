@@ -131,7 +131,13 @@ const UNLINKED: &[Refusal] = &[
 
 #[test]
 fn a_source_is_refused_at_its_first_fault(rt: HostRuntime) -> Result<(), Fail> {
-    for line in ["run 1 none -", "asm", "build"] {
+    for line in [
+        "run 1 none -",
+        "asm",
+        "build",
+        "page 1 1 none -",
+        "trace 1 none -",
+    ] {
         expect_refused(&rt, rt.alloc(), line, FAULTS)?;
     }
     Ok(())
@@ -139,7 +145,7 @@ fn a_source_is_refused_at_its_first_fault(rt: HostRuntime) -> Result<(), Fail> {
 
 #[test]
 fn a_source_is_refused_whose_objects_cannot_be_linked(rt: HostRuntime) -> Result<(), Fail> {
-    for line in ["run 1 none -", "build"] {
+    for line in ["run 1 none -", "build", "page 1 1 none -", "trace 1 none -"] {
         expect_refused(&rt, rt.alloc(), line, UNLINKED)?;
     }
     Ok(())

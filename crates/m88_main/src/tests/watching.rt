@@ -122,6 +122,9 @@ const WATCHED: &[Watched] = &[
     ),
     ("share 1 none -", b"or r2,r0,1\nprogram\n", &[]),
     ("emu 1 none -", b"or r2,r0,1\n", &[]),
+    ("page 1 1 none -", b"or r2,r0,1\n", &[]),
+    ("trace 1 none -", b"or r2,r0,1\n", &[]),
+    ("check", b"or r2,r0,1\ntrace\n", &[]),
     ("build", b"or r2,r0,1\n", &[]),
     ("mon none -", b"pipe\nsource\n", &[]),
 ];
