@@ -3,18 +3,20 @@
 _m88() {
   local word=${COMP_WORDS[COMP_CWORD]} places place choices
   if [ "$COMP_CWORD" -eq 1 ]; then
-    choices="run exec mon share emu asm link build dis soak"
+    choices="run exec mon share emu page trace check asm link build dis soak"
   else
     case ${COMP_WORDS[1]} in
       run | exec) places="LIMIT ABSENT SCHEDULE MODE" ;;
       mon) places="ABSENT SCHEDULE MODE" ;;
       share) places="LIMIT ABSENT TURNS" ;;
-      emu) places="LIMIT ABSENT SCHEDULE" ;;
+      emu | trace) places="LIMIT ABSENT SCHEDULE" ;;
+      page) places="FRAMES LIMIT ABSENT SCHEDULE" ;;
       soak) places="NUMBER COUNT" ;;
       *) places="" ;;
     esac
     place=$(set -- $places; shift "$((COMP_CWORD - 2))" 2>/dev/null && echo "${1:-}")
     case $place in
+      FRAMES) choices="1 2 4 8 16 32 64" ;;
       LIMIT) choices="100 1000 1000000" ;;
       ABSENT) choices="none all" ;;
       SCHEDULE) choices="- i r e" ;;
