@@ -43,6 +43,6 @@ mod monitor;
 
 pub use commands::Command;
 pub use grammar::command;
-pub use limits::{MOST_INPUT, MOST_LIMIT, MOST_STATEMENTS};
+pub use limits::{MOST_FRAMES, MOST_INPUT, MOST_LIMIT, MOST_STATEMENTS};
 pub use program::m88;
 pub use status::Status;

@@ -1,7 +1,7 @@
 //! What a person is told where the words are no command: which of them was not understood, and what is wanted.
 
 use crate::refusal::put_shown;
-use m88_cli::{MOST_LIMIT, MOST_STATEMENTS, command};
+use m88_cli::{MOST_FRAMES, MOST_LIMIT, MOST_STATEMENTS, command};
 use std::alloc::{AllocError, Global};
 use std::fmt;
 
@@ -48,7 +48,7 @@ impl Place {
 impl fmt::Display for Place {
     fn fmt<W: fmt::Write>(&self, f: &mut fmt::Formatter<W>) -> fmt::Result {
         match self {
-            Place::Frames => write!(f, "FRAMES is a decimal number from 1 to 64"),
+            Place::Frames => write!(f, "FRAMES is a decimal number from 1 to {MOST_FRAMES}"),
             Place::Limit => write!(f, "LIMIT is a decimal number from 0 to {MOST_LIMIT}"),
             Place::Absent => write!(
                 f,
