@@ -34,6 +34,7 @@ pub mod PlainSources
 pub mod SoakReply
 pub mod BridgeLinks
 pub mod BridgeListings
+pub mod BridgeTraces
 pub mod BridgeLaws
 pub mod Lines
 pub mod MonitorWalks

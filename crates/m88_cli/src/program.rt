@@ -6,7 +6,7 @@ ghost use Rattle.m88_base.specs.Causes.{Rose};
 ghost use Rattle.m88_base.specs.OneVerdict.{HasOneFaultUnless, HasOneVerdict};
 ghost use Rattle.m88_base.specs.Outside.{AppendsPart, TakesAtMost, TakesExactly};
 ghost use Rattle.m88_cli.specs.Answer.{Accepts, IsAnswer, IsAnswerToAccepted, IsAnswerToRefused, Refuses};
-ghost use Rattle.m88_cli.specs.Bridge.{AssembledLinksAlike, BuiltRunsAlike, ListedBuildsAlike};
+ghost use Rattle.m88_cli.specs.Bridge.{AssembledLinksAlike, BuiltRunsAlike, ListedBuildsAlike, TracedIsChecked};
 ghost use Rattle.m88_cli.specs.Calls.{CarriedOut, GivesInput, Given, HasInput, IsWhole};
 ghost use Rattle.m88_cli.specs.Command.{Command as Choice, SpellNoReader, SpellNoRun, SpellNothing, Spells, reads_input, shows_boards};
 ghost use Rattle.m88_cli.specs.Kept.{IsFit, command_of};
@@ -121,11 +121,13 @@ pub fn m88<S: Source, K: Sink, W: Watch>(
         → HasOneVerdict (IsScriptOf input) (HasNoScript input) }
 
     // Between the commands: what `build` writes of a source runs by `exec` as the source does by `run`, what
-    // `asm` writes of it links by `link` as the source does by `build`, and what `dis` writes of S-records is
-    // built into the records of their image.
+    // `asm` writes of it links by `link` as the source does by `build`, what `dis` writes of S-records is
+    // built into the records of their image, and what `trace` writes of a source is accepted behind it by
+    // `check`.
     ensures bridge { BuiltRunsAlike }
     ensures relinked { AssembledLinksAlike }
     ensures relisted { ListedBuildsAlike }
+    ensures traced { TracedIsChecked }
 
     // The source of each workload is accepted, so `soak` always has a run to tell of.
     ensures workloads { WorkloadsAreAccepted }

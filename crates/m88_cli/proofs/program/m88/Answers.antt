@@ -9,6 +9,7 @@ use Rattle.m88_cli.specs.Command.{reads_input}
 use Rattle.m88_cli.specs.Kept.{command_of}
 use Rattle.m88_base.specs.Refusal.{refusal_line}
 use Rattle.m88_cli.proofs.BridgeListings.{listed_builds_alike}
+use Rattle.m88_cli.proofs.BridgeTraces.{traced_is_checked}
 use Rattle.m88_cli.proofs.OneScript as scripts
 use Rattle.m88_cli.proofs.OneSource.{one_verdict, refused_not_accepted}
 use Rattle.m88_cli.proofs.Whole.{accepted_reply, answer_of, line_of_reply, not_part, not_whole, of_err, only_memory, refusal_some, refused_reply, reply_given, reply_whole, shown_if, unanswered, wrote_nothing}
@@ -96,6 +97,21 @@ returns-then-reply-clause-relisted g c = listed_builds_alike
 
 pub returns-clause-relisted : goal.returns-clause-relisted
 returns-clause-relisted g c = listed_builds_alike
+
+pub returns-in_default-clause-traced : goal.returns-in_default-clause-traced
+returns-in_default-clause-traced g c = traced_is_checked
+
+pub returns-in-Err-clause-traced : goal.returns-in-Err-clause-traced
+returns-in-Err-clause-traced g c = traced_is_checked
+
+pub returns-then-is_err-clause-traced : goal.returns-then-is_err-clause-traced
+returns-then-is_err-clause-traced g c = traced_is_checked
+
+pub returns-then-reply-clause-traced : goal.returns-then-reply-clause-traced
+returns-then-reply-clause-traced g c = traced_is_checked
+
+pub returns-clause-traced : goal.returns-clause-traced
+returns-clause-traced g c = traced_is_checked
 
 pub returns-in_default-clause-reads : goal.returns-in_default-clause-reads
 returns-in_default-clause-reads g c = calls_none _ _
