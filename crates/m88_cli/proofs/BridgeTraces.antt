@@ -29,7 +29,7 @@ use Rattle.m88_event.specs.declared.letter.Letter.{Letter}
 use Rattle.m88_trace.proofs.Laws.{run_trace_lines}
 use Rattle.m88_cli.specs.Assembly.{IsProgramSource}
 use Rattle.m88_cli.specs.Bridge.{TracedIsChecked, ended, with_trace}
-use Rattle.m88_cli.specs.TracedSources.{HasTrace, traced_line}
+use Rattle.m88_cli.specs.TracedSources.{HasTrace, trace_separator}
 use Rattle.m88_cli.specs.Traces.{TracesTo}
 
 -- Lines: the ended source is whole lines, so its lines stand before those of what is behind it
@@ -132,23 +132,23 @@ behind_more zero input = refl
 behind_more (suc n) input = behind_more n (behind_line input)
 
 -- the line `trace` and what stands behind it
-traced_lines : (text : List ℕ) → lines_of (traced_line ++ line_end ++ text) ≡ traced_line ∷ lines_of text
+traced_lines : (text : List ℕ) → lines_of (trace_separator ++ line_end ++ text) ≡ trace_separator ∷ lines_of text
 unfolding lines_of
 traced_lines text = refl
 
 -- an ended source without a line `trace` is parted from the text behind that line
-parted : (source text : List ℕ) → LacksLine traced_line (ended source)
-    → IsParted traced_line (with_trace source text) (ended source) (length (lines_of (ended source)) + 1) text
+parted : (source text : List ℕ) → LacksLine trace_separator (ended source)
+    → IsParted trace_separator (with_trace source text) (ended source) (length (lines_of (ended source)) + 1) text
 parted source text none =
     let whole : List ℕ = ended source in
-    let rest : List ℕ = traced_line ++ line_end ++ text in
+    let rest : List ℕ = trace_separator ++ line_end ++ text in
     let n : ℕ = length (lines_of whole) in
     let ends = ended_ends source in
     let place : behind_lines n (whole ++ rest) ≡ rest = behind_whole whole rest ends in
     let count : suc n ≡ n + 1 = omega arith in
     let input : with_trace source text ≡ whole ++ rest =
-    append_assoc (whole ++ traced_line) line_end text ∙ append_assoc whole traced_line (line_end ++ text) in
-    subst (λ xs. IsParted traced_line xs whole (n + 1) text) (sym input) (record {
+    append_assoc (whole ++ trace_separator) line_end text ∙ append_assoc whole trace_separator (line_end ++ text) in
+    subst (λ xs. IsParted trace_separator xs whole (n + 1) text) (sym input) (record {
       lines_are = lines_joined whole rest ends ∙ ap (λ ls. lines_of whole ++ ls) (traced_lines text);
       is_first = none;
       number = refl;
@@ -373,27 +373,27 @@ ended_unit source unit is = record {
 }
 
 -- and no source that has a unit has a line `trace`, for no operation is called so
-unread : (number : ℕ) → row_of_line number traced_line ≡ Err (record { line = number; col = 1; kind = NoSuchName })
+unread : (number : ℕ) → row_of_line number trace_separator ≡ Err (record { line = number; col = 1; kind = NoSuchName })
 unfolding row_of_line row_at operation_at pieces front text_of all_mnemonics directive_text all_directives
 unread number = refl
 
 other_line : (number : ℕ) (line : List ℕ) (ps : List Piece) (said : Said) → LineTokens line ps → LineSays number ps said
-    → line ≢ traced_line
+    → line ≢ trace_separator
 other_line number line ps said t h e =
-    let read : row_of_line number traced_line ≡ Ok (row_for number said) =
+    let read : row_of_line number trace_separator ≡ Ok (row_for number said) =
     ap (row_of_line number) (sym e) ∙ row_again number line ps said t h in
     let fault = unread number in
     absurd cc
 
 rows_lack : {number : ℕ} {ls : List (List ℕ)} {ss : List Statement} {ms : List Module} → AreRows number ls ss ms
-    → All (λ l. l ≢ traced_line) ls
-rows_lack no_row = All-nil (λ l. l ≢ traced_line)
+    → All (λ l. l ≢ trace_separator) ls
+rows_lack no_row = All-nil (λ l. l ≢ trace_separator)
 rows_lack (row_of_nothing {number = n} {line = l} {lines = ls} {ps = ps} t h g) =
-    All-cons (λ k. k ≢ traced_line) l ls (other_line n l ps says_nothing t h) (rows_lack g)
+    All-cons (λ k. k ≢ trace_separator) l ls (other_line n l ps says_nothing t h) (rows_lack g)
 rows_lack (row_of_statement {number = n} {line = l} {lines = ls} {ps = ps} {s = s} t h g) =
-    All-cons (λ k. k ≢ traced_line) l ls (other_line n l ps (says s) t h) (rows_lack g)
+    All-cons (λ k. k ≢ trace_separator) l ls (other_line n l ps (says s) t h) (rows_lack g)
 rows_lack (row_of_module {number = n} {line = l} {lines = ls} {ps = ps} {name = name} t h g) =
-    All-cons (λ k. k ≢ traced_line) l ls (other_line n l ps (begins name) t h) (rows_lack g)
+    All-cons (λ k. k ≢ trace_separator) l ls (other_line n l ps (begins name) t h) (rows_lack g)
 
 -- An ended source has the programs of the source, and it is accepted as the source is: all that goes by the unit alone
 

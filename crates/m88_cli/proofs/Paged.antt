@@ -8,6 +8,7 @@ use Rattle.m88_event.specs.declared.outcome.Outcome.{Outcome}
 use Rattle.m88_isa.specs.History.{transactions}
 use Rattle.m88_isa.specs.ImageProgram.{IsProgramOf}
 use Rattle.m88_isa.specs.Machine.{Program}
+use Rattle.m88_pager.proofs.Laws.{one_retired}
 use Rattle.m88_pager.specs.Frames.{ins_along, outs_along}
 use Rattle.m88_pager.specs.Paged.{AreCounts}
 use Rattle.m88_pager.specs.declared.paged.Paged.{Paged}
@@ -32,6 +33,18 @@ module _ (source : List ℕ) (frames limit : ℕ) (absent : ℕ → Bool) (sched
       (counts.ins ∙ ap (λ (o : Outcome). ins_along frames (transactions y.program o.retired)) outcome ∙ sym y.are_counts.ins)
       (counts.outs ∙ ap (λ (o : Outcome). outs_along frames (transactions y.program o.retired)) outcome ∙ sym y.are_counts.outs)
 
+  -- the runs of a source with a limit have one count each way
+  one_count : (named : ℕ → Bool) (letters : List Letter) (a b : Paged) → PagesTo source frames limit named letters a
+      → PagesTo source frames limit absent schedule b → (a.ins ≡ b.ins) × (a.outs ≡ b.outs)
+  one_count named letters a b x y =
+      let same = one_source_program source x.program y.program x.of_source y.of_source (x.mode ∙ sym y.mode) in
+      let own = subst (λ p. IsOutcome p named limit letters a.outcome) same x.is_outcome in
+      let counts = subst (λ p. AreCounts p frames a) same x.are_counts in
+      let retired = one_retired y.program limit named absent letters schedule a.outcome b.outcome own y.is_outcome in (
+        counts.ins ∙ ap (λ n. ins_along frames (transactions y.program n)) retired ∙ sym y.are_counts.ins,
+        counts.outs ∙ ap (λ n. outs_along frames (transactions y.program n)) retired ∙ sym y.are_counts.outs,
+      )
+
   pub paged : (text : List ℕ) (image : ProgramImage) (o : Paged) (p : Program) → HoldsUnit source image → IsProgramOf image p
       → ((q : Program) → IsProgramOf image q → q.mxm ≡ false → IsOutcome q absent limit schedule o.outcome)
       → ((q : Program) → IsProgramOf image q → q.mxm ≡ false → AreCounts q frames o)
@@ -47,5 +60,11 @@ module _ (source : List ℕ) (frames limit : ℕ) (absent : ℕ → Bool) (sched
       } in
       record {
         accepted = accepted_source source image holds;
-        output = record { paged = o; comes = comes; only = λ other also. one_paged other o also comes; is_text = told };
+        output = record {
+          paged = o;
+          comes = comes;
+          only = λ other also. one_paged other o also comes;
+          alone = λ named letters other also. one_count named letters other o also comes;
+          is_text = told;
+        };
       }

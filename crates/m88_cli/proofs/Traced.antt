@@ -15,7 +15,7 @@ use Rattle.m88_cli.specs.Answer.{IsAnswerToAccepted}
 use Rattle.m88_cli.specs.Command.{check, trace}
 use Rattle.m88_cli.specs.Inside.Linking.{HoldsUnit}
 use Rattle.m88_cli.specs.Traces.{TracesTo}
-use Rattle.m88_cli.specs.TracedSources.{DiffersFromTrace, HasTrace, differs_refusal, traced_line}
+use Rattle.m88_cli.specs.TracedSources.{DiffersFromTrace, HasTrace, differs_refusal, trace_separator}
 use Rattle.m88_cli.proofs.Programs.{accepted_source, held_with, one_source_program}
 use Rattle.m88_cli.proofs.TracedInputs.{one_trace}
 
@@ -49,7 +49,7 @@ module _ (source : List ℕ) (limit : ℕ) (absent : ℕ → Bool) (schedule : L
         };
       }
 
-module _ (input source : List ℕ) (lines : ℕ) (text : List ℕ) (image : ProgramImage) (p : Program) (parted : IsParted traced_line input source lines text)
+module _ (input source : List ℕ) (lines : ℕ) (text : List ℕ) (image : ProgramImage) (p : Program) (parted : IsParted trace_separator input source lines text)
     (holds : HoldsUnit source image) (of : IsProgramOf image p) where
   -- so many lines of its trace stand behind a source
   pub checked : (n : ℕ) (told : List ℕ) → ((q : Program) → IsProgramOf image q → q.mxm ≡ false → IsText (trace_line q) text n)

@@ -9,7 +9,7 @@ use Rattle.m88_trace.proofs.Laws.{one_verdict_of}
 use Rattle.m88_trace.specs.Texts.{DiffersBehind, IsText}
 use Rattle.m88_trace.specs.Trace.{trace_line}
 use Rattle.m88_cli.specs.Assembly.{IsProgramSource, IsRefusedProgram}
-use Rattle.m88_cli.specs.TracedSources.{BeginsTrace, DiffersFromTrace, HasTrace, IsRefusedTrace, IsTracedSource, IsUntraced, LeavesTrace, differs_refusal, no_trace_refusal, traced_line}
+use Rattle.m88_cli.specs.TracedSources.{BeginsTrace, DiffersFromTrace, HasTrace, IsRefusedTrace, IsTracedSource, IsUntraced, LeavesTrace, differs_refusal, no_trace_refusal, trace_separator}
 use Rattle.m88_cli.proofs.OneUnit.{not_linked, program_or_refusal, same_program_refusal}
 use Rattle.m88_cli.proofs.Programs.{one_source_program}
 use Rattle.m88_cli.proofs.UnitPrograms.{HasProgram, source_program}
@@ -42,37 +42,37 @@ module _ (input : List ℕ) where
   -- so many lines of its trace stand in an input, for one number
   pub one_trace : (m n : ℕ) → HasTrace input m → HasTrace input n → m ≡ n
   one_trace m n a b =
-      let same = one_parting traced_line input a.source a.lines a.text a.is_parted b.source b.lines b.text b.is_parted in
+      let same = one_parting trace_separator input a.source a.lines a.text a.is_parted b.source b.lines b.text b.is_parted in
       one_count b.source b.text m n (same_begins a.source b.source a.text b.text m same.0 same.2 a.begins) b.begins
 
   -- an input that is refused isn't accepted
   pub not_accepted : (r : Refusal) → IsTracedSource input → IsRefusedTrace input r → ⊥
   not_accepted r (n, has) (inl none) =
-      parted_or_not traced_line input has.source has.lines has.text has.is_parted none.lines none.is_unparted
+      parted_or_not trace_separator input has.source has.lines has.text has.is_parted none.lines none.is_unparted
   not_accepted r (n, has) (inr (inl early)) =
-      let same = one_parting traced_line input has.source has.lines has.text has.is_parted early.source early.lines early.text early.is_parted in
+      let same = one_parting trace_separator input has.source has.lines has.text has.is_parted early.source early.lines early.text early.is_parted in
       not_linked 0 early.source r (subst IsProgramSource same.0 has.is_program) early.is_refused
   not_accepted r (n, has) (inr (inr late)) =
-      let same = one_parting traced_line input has.source has.lines has.text has.is_parted late.source late.lines late.text late.is_parted in
+      let same = one_parting trace_separator input has.source has.lines has.text has.is_parted late.source late.lines late.text late.is_parted in
       begins_or_leaves late.source late.text n late.before
       (same_begins has.source late.source has.text late.text n same.0 same.2 has.begins) late.leaves
 
   -- lines that differ stand behind a source without a fault
   late_or_early : (r s : Refusal) → DiffersFromTrace input r → (source : List ℕ) (lines : ℕ) (text : List ℕ)
-      → IsParted traced_line input source lines text → IsRefusedProgram 0 source s → ⊥
+      → IsParted trace_separator input source lines text → IsRefusedProgram 0 source s → ⊥
   late_or_early r s late source lines text parted refused =
-      let same = one_parting traced_line input late.source late.lines late.text late.is_parted source lines text parted in
+      let same = one_parting trace_separator input late.source late.lines late.text late.is_parted source lines text parted in
       not_linked 0 source s (subst IsProgramSource same.0 late.is_program) refused
 
   -- a line `trace` is there or not
   there_or_not : (r : Refusal) → IsUntraced input r → (source : List ℕ) (lines : ℕ) (text : List ℕ)
-      → IsParted traced_line input source lines text → ⊥
-  there_or_not r none source lines text parted = parted_or_not traced_line input source lines text parted none.lines none.is_unparted
+      → IsParted trace_separator input source lines text → ⊥
+  there_or_not r none source lines text parted = parted_or_not trace_separator input source lines text parted none.lines none.is_unparted
 
   -- two places at which an input differs from a trace are one
   one_late : (r s : Refusal) → DiffersFromTrace input r → DiffersFromTrace input s → r ≡ s
   one_late r s a b =
-      let same = one_parting traced_line input a.source a.lines a.text a.is_parted b.source b.lines b.text b.is_parted in
+      let same = one_parting trace_separator input a.source a.lines a.text a.is_parted b.source b.lines b.text b.is_parted in
       let place = one_place b.source b.text a.before b.before
       (same_leaves a.source b.source a.text b.text a.before same.0 same.2 a.leaves) b.leaves in
       a.refusal ∙ ap (λ n. differs_refusal (n + a.before + 1)) same.1 ∙ ap (λ n. differs_refusal (b.lines + n + 1)) place ∙ sym b.refusal
@@ -86,7 +86,7 @@ module _ (input : List ℕ) where
   refused_once r s (inr (inl a)) (inl b) = absurd (there_or_not s b a.source a.lines a.text a.is_parted)
   refused_once r s (inr (inr a)) (inl b) = absurd (there_or_not s b a.source a.lines a.text a.is_parted)
   refused_once r s (inr (inl a)) (inr (inl b)) =
-      let same = one_parting traced_line input a.source a.lines a.text a.is_parted b.source b.lines b.text b.is_parted in
+      let same = one_parting trace_separator input a.source a.lines a.text a.is_parted b.source b.lines b.text b.is_parted in
       same_program_refusal 0 b.source r s (subst (λ source. IsRefusedProgram 0 source r) same.0 a.is_refused) b.is_refused
   refused_once r s (inr (inl a)) (inr (inr b)) = absurd (late_or_early s r b a.source a.lines a.text a.is_parted a.is_refused)
   refused_once r s (inr (inr a)) (inr (inl b)) = absurd (late_or_early r s a b.source b.lines b.text b.is_parted b.is_refused)
@@ -94,12 +94,12 @@ module _ (input : List ℕ) where
 
   -- an input is accepted or refused
   pub trace_or_refusal : IsTracedSource input ⊎ ((r : Refusal) × IsRefusedTrace input r)
-  trace_or_refusal = elim (parted_told traced_line input) [
+  trace_or_refusal = elim (parted_told trace_separator input) [
     | inr none ↦ inr (_, inl (record { lines = none.0; is_unparted = none.1; refusal = refl }))
     | inl p ↦ by_source p.before p.lines p.behind p.is_parted
   ]
     where
-      by_text : (source : List ℕ) (lines : ℕ) (text : List ℕ) → IsParted traced_line input source lines text → IsProgramSource source
+      by_text : (source : List ℕ) (lines : ℕ) (text : List ℕ) → IsParted trace_separator input source lines text → IsProgramSource source
           → HasProgram false source → IsTracedSource input ⊎ ((r : Refusal) × IsRefusedTrace input r)
       by_text source lines text parted is h = elim (one_verdict_of h.program text).some [
         | inl begins ↦ inl (
@@ -128,7 +128,7 @@ module _ (input : List ℕ) where
         )
       ]
 
-      by_source : (source : List ℕ) (lines : ℕ) (text : List ℕ) → IsParted traced_line input source lines text
+      by_source : (source : List ℕ) (lines : ℕ) (text : List ℕ) → IsParted trace_separator input source lines text
           → IsTracedSource input ⊎ ((r : Refusal) × IsRefusedTrace input r)
       by_source source lines text parted = elim (program_or_refusal 0 source) [
         | inl is ↦ by_text source lines text parted is (source_program false source is)

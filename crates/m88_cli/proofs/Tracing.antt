@@ -12,8 +12,8 @@ use Rattle.m88_board.specs.Moves.{IsAt}
 use Rattle.m88_board.specs.Walks.{is_made}
 use Rattle.m88_board.specs.declared.glance.Glance.{Glance}
 use Rattle.m88_cli.proofs.MonitorWalks.{IsAlongOn}
-use Rattle.m88_cli.specs.MonitorLines.{happened_line, letter_text, trace_line}
-use Rattle.m88_cli.specs.Session.{Course, MakesEach, Session, moment_on, session_on, stops_on, trace_lines}
+use Rattle.m88_cli.specs.MonitorLines.{happened_line, letter_text, event_line}
+use Rattle.m88_cli.specs.Session.{Course, MakesEach, Session, moment_on, session_on, stops_on, event_lines}
 use Rattle.m88_cli.specs.Inside.SessionKept.{Carried, IsBefore, Stands, told_line}
 use Rattle.m88_cli.specs.declared.monitor.Monitor.{Monitor}
 use Rattle.m88_cli.specs.declared.monitor.tracing.Before.{Before}
@@ -23,8 +23,8 @@ use Rattle.m88_cli.specs.declared.script.MonitorCommand.TheVariants.{Trace}
 pub told_is : (p : Program) (named : ℕ → Bool) (limit : ℕ) (letter : Letter) (m : Moment) (before : Before) (happened : Happened) →
     IsBefore p letter m before →
     happened ≡ said_at p named limit letter m →
-    told_line before happened ≡ trace_line p named limit letter m
-unfolding trace_line
+    told_line before happened ≡ event_line p named limit letter m
+unfolding event_line
 told_is p named limit letter m before happened is says =
     ap₂ (λ n l. letter_text n l ++ happened_line before.address before.instruction before.fault happened) is.number is.letter_is
     ∙ ap₂ (λ a i. letter_text (m.events + 1) letter ++ happened_line a i before.fault happened) is.address is.instruction
@@ -35,10 +35,10 @@ pub record IsTracing (c : Course) (s : Session) (count k : ℕ) (before after : 
     (old new : List ℕ) (monitor : Monitor) : Type 0 where
   pub along : IsAlongOn c s k before after monitor
   pub each : MakesEach c s (Trace count) k
-  pub told : new ≡ old ++ trace_lines c s k
+  pub told : new ≡ old ++ event_lines c s k
 
-pub none_told : (c : Course) (s : Session) (old : List ℕ) → old ≡ old ++ trace_lines c s 0
-unfolding trace_lines
+pub none_told : (c : Course) (s : Session) (old : List ℕ) → old ≡ old ++ event_lines c s 0
+unfolding event_lines
 none_told c s old = sym (append-nil old)
 
 -- the line of the next event
@@ -49,10 +49,10 @@ pub one_told : (c : Course) (s : Session) (k : ℕ) (letter : Letter) (before : 
     ((p : Program) (named : ℕ → Bool) (m : Moment) → IsAt p named m monitor.walk.board.now → IsBefore p letter m before) →
     ((p : Program) (named : ℕ → Bool) (m : Moment) → IsAt p named m monitor.walk.board.now
     → happened ≡ said_at p named monitor.walk.board.now.limit (letter_at monitor.walk.schedule.now monitor.walk.taken) m) →
-    text ≡ old ++ trace_lines c s k →
+    text ≡ old ++ event_lines c s k →
     new ≡ text ++ told_line before happened →
-    new ≡ old ++ trace_lines c s (k + 1)
-unfolding session_on trace_lines
+    new ≡ old ++ event_lines c s (k + 1)
+unfolding session_on event_lines
 one_told c s k letter before happened monitor old text new stands e noted says told more =
     let m : Moment = moment_on c s k in
     let l : Letter = letters_from c.schedule s.taken k in
@@ -62,8 +62,8 @@ one_told c s k letter before happened monitor old text new stands e noted says t
     let said : happened ≡ said_at c.program c.named c.limit l m =
     says c.program c.named m stands.at ∙ ap₂ (λ n x. said_at c.program c.named n x m) stands.limit here in
     more ∙ ap₂ (λ front line. front ++ line) told (told_is c.program c.named c.limit l m before happened is said)
-    ∙ append_assoc old (trace_lines c s k) (trace_line c.program c.named c.limit l m)
-    ∙ ap (λ n. old ++ trace_lines c s n) (sym (add-one k))
+    ∙ append_assoc old (event_lines c s k) (event_line c.program c.named c.limit l m)
+    ∙ ap (λ n. old ++ event_lines c s n) (sym (add-one k))
 
 -- the events of `trace` are made, and told
 pub trace_carried : (c : Course) (s : Session) (count k : ℕ) (before after : Option (List Glance))

@@ -12,7 +12,7 @@ use Rattle.m88_cli.specs.Command.{asm, build, check, exec, link, run, dis, trace
 use Rattle.m88_cli.specs.Limits.{most_input}
 use Rattle.m88_cli.specs.Runs.{IsLoadedProgram, IsSourceProgram}
 use Rattle.m88_cli.specs.Settings.{Settings}
-use Rattle.m88_cli.specs.TracedSources.{traced_line}
+use Rattle.m88_cli.specs.TracedSources.{trace_separator}
 use Rattle.m88_cli.specs.Watching.{Shown}
 
 -- a text is short enough to be an input
@@ -59,7 +59,7 @@ ended (b ∷ c ∷ bs) = b ∷ ended (c ∷ bs)
 
 -- a source with a trace behind it, and a line `trace` between them
 abbrev pub with_trace : List ℕ → List ℕ → List ℕ
-with_trace source text = ended source ++ traced_line ++ line_end ++ text
+with_trace source text = ended source ++ trace_separator ++ line_end ++ text
 
 -- what `trace` writes of a source is accepted behind it by `check`
 abbrev pub TracedIsChecked : Type 0

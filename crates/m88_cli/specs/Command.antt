@@ -69,7 +69,7 @@ name_of (page frames limit absent schedule) = codes "page"
 name_of (trace limit absent schedule) = codes "trace"
 name_of check = codes "check"
 
--- the words are those behind the name of a command; most commands have none
+-- the words are those behind the name of a command; those of `asm`, `link`, `build`, `dis` and `check` have none
 abbrev pub SayRest : List (List ℕ) → Command → Type 0
 SayRest words (run settings) = SaySettings words settings
 SayRest words (exec settings) = SaySettings words settings

@@ -88,8 +88,8 @@ letter_text number letter = decimal number ++ codes " " ++ letter_byte letter �
 
 -- the line of the event of a letter at a moment: its number, its letter, what it did. What is issued, and the trap that
 -- puts a byte out, is the instruction at NIP; a record has the number behind those before it.
-unfoldable pub trace_line : Program → (ℕ → Bool) → ℕ → Letter → Moment → List ℕ
-trace_line p named limit letter m =
+unfoldable pub event_line : Program → (ℕ → Bool) → ℕ → Letter → Moment → List ℕ
+event_line p named limit letter m =
     letter_text (m.events + 1) letter
     ++ happened_line (nip_at p m).addr (instruction_at p (nip_at p m).addr) (length m.records + 1)
     (said_at p named limit letter m)

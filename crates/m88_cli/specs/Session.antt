@@ -11,7 +11,7 @@ use Rattle.m88_board.specs.Glances.{glances_along}
 use Rattle.m88_board.specs.Walks.{is_halt, is_made, moments_from, stops_after}
 use Rattle.m88_board.specs.declared.glance.Glance.{Glance}
 use Rattle.m88_cli.specs.Limits.{session_limit}
-use Rattle.m88_cli.specs.MonitorLines.{breakpoint_line, counts_text, registers_text, trace_line, words_text}
+use Rattle.m88_cli.specs.MonitorLines.{breakpoint_line, counts_text, registers_text, event_line, words_text}
 use Rattle.m88_cli.specs.declared.script.MonitorCommand.{MonitorCommand}
 use Rattle.m88_cli.specs.declared.script.MonitorCommand.TheVariants.{Step, Go, Break, Regs, Pipe, Memory, Drain, Trace}
 
@@ -70,11 +70,11 @@ abbrev pub Makes : Course → Session → MonitorCommand → ℕ → Type 0
 Makes c s command = IsFirst (stops_command c s command)
 
 -- the lines of so many events
-unfoldable pub trace_lines : Course → Session → ℕ → List ℕ
-trace_lines c s zero = []
-trace_lines c s (suc k) =
-    trace_lines c s k
-    ++ trace_line c.program c.named c.limit (letters_from c.schedule s.taken k) (moment_on c s k)
+unfoldable pub event_lines : Course → Session → ℕ → List ℕ
+event_lines c s zero = []
+event_lines c s (suc k) =
+    event_lines c s k
+    ++ event_line c.program c.named c.limit (letters_from c.schedule s.taken k) (moment_on c s k)
 
 -- what a command writes that makes so many events
 abbrev pub text_of_command : Course → Session → MonitorCommand → ℕ → List ℕ
@@ -85,7 +85,7 @@ text_of_command c s Regs events = registers_text c.program s.moment
 text_of_command c s Pipe events = record_lines (record_at c.program c.named c.limit s.moment)
 text_of_command c s (Memory a n) events = words_text c.program s.moment a n
 text_of_command c s Drain events = counts_text c.program (answered_after c.program c.named c.limit s.moment events)
-text_of_command c s (Trace most) events = trace_lines c s events
+text_of_command c s (Trace most) events = event_lines c s events
 
 -- where a session stands after so many events of the run's letters
 unfoldable pub session_on : Course → Session → ℕ → Session

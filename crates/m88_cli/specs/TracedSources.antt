@@ -12,8 +12,8 @@ use Rattle.m88_cli.specs.Assembly.{IsProgramSource, IsRefusedProgram}
 use Rattle.m88_cli.specs.Runs.{IsSourceProgram}
 
 -- the line between a source and the lines of a trace
-abbrev pub traced_line : List ℕ
-traced_line = codes "trace"
+abbrev pub trace_separator : List ℕ
+trace_separator = codes "trace"
 
 -- a text is the first so many lines of the trace of the source's program, MXM clear
 pub record BeginsTrace (source text : List ℕ) (n : ℕ) : Type 0 where
@@ -34,7 +34,7 @@ pub record HasTrace (input : List ℕ) (n : ℕ) : Type 0 where
   pub source : List ℕ
   pub lines : ℕ
   pub text : List ℕ
-  pub is_parted : IsParted traced_line input source lines text
+  pub is_parted : IsParted trace_separator input source lines text
   pub is_program : IsProgramSource source
   pub begins : BeginsTrace source text n
 
@@ -53,7 +53,7 @@ differs_refusal n = record { line = n; column = 1; reason = codes "differs" }
 -- an input is refused where it has no line `trace`: the line behind the last is missing
 pub record IsUntraced (input : List ℕ) (r : Refusal) : Type 0 where
   pub lines : ℕ
-  pub is_unparted : IsUnparted traced_line input lines
+  pub is_unparted : IsUnparted trace_separator input lines
   pub refusal : r ≡ no_trace_refusal (lines + 1)
 
 -- where it has one, at the first fault of the source before it
@@ -61,7 +61,7 @@ pub record IsRefusedBeforeTrace (input : List ℕ) (r : Refusal) : Type 0 where
   pub source : List ℕ
   pub lines : ℕ
   pub text : List ℕ
-  pub is_parted : IsParted traced_line input source lines text
+  pub is_parted : IsParted trace_separator input source lines text
   pub is_refused : IsRefusedProgram 0 source r
 
 -- and where that has none, at the first line behind it that isn't the trace's
@@ -69,7 +69,7 @@ pub record DiffersFromTrace (input : List ℕ) (r : Refusal) : Type 0 where
   pub source : List ℕ
   pub lines : ℕ
   pub text : List ℕ
-  pub is_parted : IsParted traced_line input source lines text
+  pub is_parted : IsParted trace_separator input source lines text
   pub is_program : IsProgramSource source
   pub before : ℕ
   pub leaves : LeavesTrace source text before

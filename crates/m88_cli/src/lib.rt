@@ -21,7 +21,8 @@ mod script;
 mod script_line;
 mod script_lines;
 
-// What commands make of a source, of one with a trace, of several, of objects, of S-records, of a script, and of a number.
+// What commands make of a source, of one with a trace, of several, of objects, of S-records, of a script, and of a
+// number.
 mod assembly;
 mod emulation;
 mod loading;

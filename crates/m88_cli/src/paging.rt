@@ -1,5 +1,5 @@
-//! What `page` makes of a source: a run whose memory stands in frames before a store of pages, its report, and how often
-//! pages came in and went out.
+//! What `page` makes of a source: a run whose memory stands in frames before a store of pages, its report, and how
+//! often pages came in and went out.
 ghost use Rattle.std.specs.Prelude.{◌≡◌, ◌≤◌, IfOk, length};
 ghost use Rattle.m88_mem.specs.Marks.{NamesPages, absent_in};
 ghost use Rattle.m88_pager.specs.Paged.{most_frames};

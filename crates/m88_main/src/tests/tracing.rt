@@ -206,6 +206,7 @@ const TRACES: &[Traced] = &[
 /// Absent pages and schedules.
 const WAYS: &[&str] = &[
     "none -",
+    "5 iiir",
     "all -",
     "2,5 iiirrr",
     "none ireiiriirerii",
