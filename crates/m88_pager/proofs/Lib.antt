@@ -15,3 +15,4 @@ pub mod Changing
 pub mod Transacted
 pub mod Walking
 pub mod CameTo
+pub mod Laws

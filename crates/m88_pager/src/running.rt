@@ -8,6 +8,7 @@ ghost use Rattle.m88_event.specs.Local.{is_over_by};
 ghost use Rattle.m88_event.specs.Run.{IsOutcome};
 ghost use Rattle.m88_event.specs.Timeline.{Moment, after_letter, is_over};
 ghost use Rattle.m88_event.specs.declared.letter.Letter.{Letter as LetterValue};
+ghost use Rattle.m88_event.specs.declared.outcome.Outcome.{Outcome as OutcomeValue};
 ghost use Rattle.m88_isa.specs.Bus.{in_words};
 ghost use Rattle.m88_isa.specs.History.{transactions};
 ghost use Rattle.m88_isa.specs.ImageProgram.{IsProgramOf};
@@ -61,6 +62,11 @@ pub fn page_run<P: PageStore>(
         → IsOutcomeButWords p (absent_in absent.now) limit schedule.now o.outcome) }
     ensures counts { IfOk result (λ o. (p : Program) → IsProgramOf image.now p → p.mxm ≡ false
         → AreCounts p frames o) }
+    // As many instructions are retired in every run of the program with this limit, whatever pages are absent and
+    // whatever the schedule: so the counts are those of the program, the limit and the frames alone.
+    ensures alone { IfOk result (λ o. (p : Program) → IsProgramOf image.now p → p.mxm ≡ false
+        → (named : ℕ → Bool) (letters : List LetterValue) (other : OutcomeValue)
+        → IsOutcome p named limit letters other → other.retired ≡ o.outcome.retired) }
     ensures held { IfOk result (λ o. (p : Program) → IsProgramOf image.now p → p.mxm ≡ false
         → HoldsWhereTold (writes_page (transactions p o.outcome.retired))
         (state p o.outcome.retired).memory (P.pages store.new)) }

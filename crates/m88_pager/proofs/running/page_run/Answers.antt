@@ -11,6 +11,7 @@ use Rattle.m88_event.specs.Timeline.{Moment}
 use Rattle.m88_isa.proofs.ImageProgram.{program_of_image}
 use Rattle.m88_mem.specs.DataBus.{image_bytes}
 use Rattle.m88_mem.specs.Marks.{absent_in}
+use Rattle.m88_pager.proofs.Laws.{one_retired}
 use Rattle.m88_pager.proofs.Walking.{bytes_there, none_carried, none_within, opens_empty_seen, opens_so, tells_on, there_first, there_next, there_over}
 use Rattle.m88_pager.proofs.running.page_run.Goals as goal
 
@@ -133,6 +134,22 @@ returns-clause-counts g c = IfOk-weaker c.finish.result _ _
     let m : Moment = moment_after p named c.args.limit c.args.schedule.now c.loop-board.taken in
     (came p named m c.args.frames (program_of_image c.args.image.now p c.new.ensures.is_image of) (opens_so p c.args.image.now of)
     there.at over.1 over.2).counts)
+    c.finish.ensures.came
+
+pub returns-clause-alone : goal.returns-clause-alone
+returns-clause-alone g c = IfOk-weaker c.finish.result _ _
+    (λ o came p of clear named letters other run.
+    let inv = c.loop-board.invariant in
+    let absent = absent_in c.args.absent.now in
+    let there = inv.there p of clear in
+    let over = there_over p absent c.args.limit c.args.schedule.now c.loop-board.taken (image_bytes c.args.image.now) c.args.frames
+    c.loop-board.board c.loop-board.paging (g.P.PageStore.pages c.loop-board.store) inv.limit
+    (sym c.is_over.ensures.value ∙ c.loop-board-test.false) there in
+    let m : Moment = moment_after p absent c.args.limit c.args.schedule.now c.loop-board.taken in
+    let r = came p absent m c.args.frames (program_of_image c.args.image.now p c.new.ensures.is_image of) (opens_so p c.args.image.now of)
+    there.at over.1 over.2 in
+    one_retired p c.args.limit named absent letters c.args.schedule.now other (record o.outcome { changed = (outcome_at p m).changed }) run
+    (record { events = c.loop-board.taken; run = record { here = over.0; first = there.first }; value = r.but_words }))
     c.finish.ensures.came
 
 pub returns-clause-held : goal.returns-clause-held
