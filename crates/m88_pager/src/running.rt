@@ -1,6 +1,6 @@
 //! A whole run on a board whose transactions are carried out a second time in frames.
 
-ghost use Rattle.std.specs.Prelude.{ℕ, Bool, List, ◌≡◌, ◌<◌, ◌≤◌, ◌+◌, ◌-◌, ◌++◌, false, is_some, true, take, IfOk, OnOk};
+ghost use Rattle.std.specs.Prelude.{ℕ, Bool, List, ◌≡◌, ◌<◌, ◌≤◌, ◌+◌, ◌-◌, ◌*◌, ◌++◌, false, is_some, length, true, take, IfOk, OnOk};
 ghost use Rattle.std.specs.NonZero.{non_zero_usize_get};
 ghost use Rattle.m88_event.specs.Bound.{weight};
 ghost use Rattle.m88_event.specs.Letters.{letter_at};
@@ -60,6 +60,10 @@ pub fn page_run<P: PageStore>(
         → IsOutcome p (absent_in absent.now) limit schedule.now o.outcome) }
     ensures but_words { IfOk result (λ o. (p : Program) → IsProgramOf image.now p → p.mxm ≡ false
         → IsOutcomeButWords p (absent_in absent.now) limit schedule.now o.outcome) }
+    ensures only { (p : Program) (named : ℕ → Bool) (o other : OutcomeValue)
+        → IsOutcome p named limit schedule.now o → IsOutcome p named limit schedule.now other
+        → o ≡ other }
+    ensures within { IfOk result (λ o. o.outcome.events ≤ length schedule.now + 8 * limit + 8) }
     ensures counts { IfOk result (λ o. (p : Program) → IsProgramOf image.now p → p.mxm ≡ false
         → AreCounts p frames o) }
     // As many instructions are retired in every run of the program with this limit, whatever pages are absent and
@@ -161,6 +165,7 @@ fn finish<P: PageStore>(
         → IsAt p named m board → is_over p board.limit m ≡ true
         → AreCarried (image_bytes image.now) most (transactions p m.retired) paging (P.pages store.old)
         → CameTo p most m o (P.pages store.new)) }
+    ensures events { IfOk result (λ o. o.outcome.events ≡ board.events) }
     ensures tells { is_some (P.pages store.new) ≡ is_some (P.pages store.old) }
     ensures grows { P.faults store.old ≤ P.faults store.new }
     ensures fault { EndsByCount (P.faults store.old) (P.faults store.new) result }

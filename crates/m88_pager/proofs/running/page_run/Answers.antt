@@ -4,6 +4,7 @@ use Rattle.std.proofs.Common.{arith, refl, sym, ap, subst, ◌∙◌}
 use Rattle.std.proofs.lemmas.Result.{IfOk-weaker}
 use Rattle.m88_board.specs.Board.{local_of}
 use Rattle.m88_event.proofs.Bound.{weight_at_start}
+use Rattle.m88_event.proofs.Over.{one_outcome}
 use Rattle.m88_event.specs.Bound.{weight}
 use Rattle.m88_event.specs.Local.{is_over_by}
 use Rattle.m88_event.specs.Run.{moment_after, outcome_at}
@@ -121,6 +122,17 @@ returns-clause-but_words g c = IfOk-weaker c.finish.result _ _
       record { events = c.loop-board.taken; run = record { here = over.0; first = there.first }; value = r.but_words },
     ))
     c.finish.ensures.came
+
+pub returns-clause-only : goal.returns-clause-only
+returns-clause-only g c = λ p named o other. one_outcome p named c.args.limit c.args.schedule.now o other
+
+pub returns-clause-within : goal.returns-clause-within
+returns-clause-within g c = IfOk-weaker c.finish.result _ _
+    (λ o events.
+    let room = c.loop-board.invariant.room in
+    let counted = c.loop-board.invariant.counted in
+    omega (arith, room, counted, events))
+    c.finish.ensures.events
 
 pub returns-clause-counts : goal.returns-clause-counts
 returns-clause-counts g c = IfOk-weaker c.finish.result _ _
