@@ -1,12 +1,13 @@
 //! Paged runs that were worked by hand: what they come to and how often pages came and went, by any schedule and any
-//! absent pages; stores that fail in one of their calls; and one that forgets its pages and doesn't tell them.
+//! absent pages, and which pages the store has behind them; stores that fail in one of their calls; and one that forgets
+//! its pages and doesn't tell them.
 
 ghost use Rattle.std.specs.Prelude.{None};
 ghost use Rattle.m88_mem.specs.Marks.{NamesPages};
 ghost use Rattle.m88_pager.specs.Paged.{HoldsNoneWhereTold};
 
 use crate::{MemStore, PageEnd, PageStore, Paged, StoreError, page_run};
-use m88_base::{Absent, Image};
+use m88_base::{Absent, Image, PAGE_BYTES};
 use m88_event::{End, Schedule};
 use std::alloc::Global;
 use std::process::Abort;
@@ -37,6 +38,17 @@ const PARTS: &[u8] = &[
     0x14, 0xA0, 0x60, 0x00, // ld r5,r0,0x6000
 ];
 
+/// The bytes of the last once it is run.
+const CHANGED_PARTS: &[u8] = &[
+    0x00, 0x00, 0x12, 0x34, // the word that was stored
+    0x28, 0x80, 0x50, 0x02, // st.h r4,r0,0x5002
+    0x2C, 0x80, 0x60, 0x01, // st.b r4,r0,0x6001
+    0x20, 0x80, 0x70, 0x00, // st.d r4,r0,0x7000
+    0x04, 0x80, 0x50, 0x00, // xmem r4,r0,0x5000
+    0x24, 0x80, 0x10, 0x00, // st r4,r0,0x1000
+    0x14, 0xA0, 0x60, 0x00, // ld r5,r0,0x6000
+];
+
 /// A program, and what its run comes to by the schedule `-` with every page present.
 struct Worked {
     program: &'static [u8],
@@ -46,6 +58,8 @@ struct Worked {
     r4: u32,
     r5: u32,
     changed: &'static [(u32, u32)],
+    /// Those of the pages 0 to 7 that the store holds behind the run, each with the bytes before its zeros.
+    pages: &'static [(u32, &'static [u8])],
     /// Numbers of frames, each with how often a page comes in and a dirty one goes out.
     counts: &'static [(u32, u32, u32)],
 }
@@ -59,6 +73,7 @@ const RUNS: &[Worked] = &[
         r4: 0,
         r5: 0,
         changed: &[],
+        pages: &[],
         counts: &[(1, 3, 0), (2, 2, 0)],
     },
     Worked {
@@ -69,6 +84,7 @@ const RUNS: &[Worked] = &[
         r4: 7,
         r5: 7,
         changed: &[(0x5000, 7), (0x6000, 7)],
+        pages: &[(5, &[0, 0, 0, 7]), (6, &[0, 0, 0, 7])],
         counts: &[(1, 3, 2), (2, 2, 2)],
     },
     Worked {
@@ -83,6 +99,12 @@ const RUNS: &[Worked] = &[
             (0x5000, 0x1234),
             (0x6000, 0x0034_0000),
             (0x7000, 0x1234),
+        ],
+        pages: &[
+            (1, CHANGED_PARTS),
+            (5, &[0, 0, 0x12, 0x34]),
+            (6, &[0, 0x34, 0, 0]),
+            (7, &[0, 0, 0x12, 0x34]),
         ],
         counts: &[(1, 6, 5), (2, 6, 5), (3, 5, 4), (64, 4, 4)],
     },
@@ -143,11 +165,41 @@ fn expect(rt: &impl Abort, o: &Paged, run: &Worked, ins: u32, outs: u32) {
     assert_eq!(rt; o.outs, outs);
 }
 
+/// Holds where a store has exactly these of the first eight pages, each with these bytes and zeros behind them.
+fn expect_pages(
+    rt: &impl Abort,
+    store: &mut MemStore,
+    pages: &[(u32, &[u8])],
+) -> Result<(), PageEnd> {
+    for page in 0..8 {
+        let mut bytes = [0; PAGE_BYTES as usize];
+        let held = store.read(page, &mut bytes)?;
+        let expected = pages.iter().find(|(number, _)| *number == page);
+        assert_eq!(rt; held, expected.is_some());
+        let Some((_, first)) = expected else {
+            continue;
+        };
+        for (place, byte) in bytes.iter().enumerate() {
+            assert_eq!(rt; *byte, first.get(place).copied().unwrap_or(0));
+        }
+    }
+    Ok(())
+}
+
 #[test]
 fn runs_with_few_frames(rt: HostRuntime) -> Result<(), PageEnd> {
     for run in RUNS {
         for (frames, ins, outs) in run.counts {
-            let o = paged_in_memory(rt.alloc(), run.program, *frames, &Absent::None, "-", &[])?;
+            let mut store = MemStore::new(rt.alloc(), &[])?;
+            let o = paged(
+                rt.alloc(),
+                run.program,
+                *frames,
+                &Absent::None,
+                "-",
+                &mut store,
+            )?;
+            expect_pages(&rt, &mut store, run.pages)?;
             expect(&rt, &o, run, *ins, *outs);
             assert_eq!(rt; o.outcome.events, run.events);
             assert_eq!(rt; o.outcome.answers, run.answers);
