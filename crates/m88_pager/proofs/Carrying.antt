@@ -14,7 +14,7 @@ use Rattle.m88_pager.proofs.Flushing.{at_most_one}
 use Rattle.m88_pager.proofs.Layers.{by_test}
 use Rattle.m88_pager.proofs.Standing.{stands_written}
 use Rattle.m88_pager.proofs.Words.{pages_stay, words_stay, words_there}
-use Rattle.m88_pager.specs.Frames.{Frames as FramesSeen, dirtied, fetched, fetched_as, frames_after, no_frames, touched, with_room}
+use Rattle.m88_pager.specs.Frames.{Frames as FramesSeen, dirtied, brought, brought_as, frames_after, no_frames, touched, with_room}
 use Rattle.m88_pager.specs.Inside.Bytes.{AreWords, in_bytes}
 use Rattle.m88_pager.specs.Inside.Contents.{Stands, StandsFor, behind, over, with_page}
 use Rattle.m88_pager.specs.Inside.Seen.{AreCarried, IsWhole, IsWithin, held_by, marked, seen_of, seen_with}
@@ -94,7 +94,7 @@ pub record IsWorked (a : Access) (old new : Frame) : Type 0 where
       → new.bytes.items ≡ page_of (in_bytes (stored a bus)) (page_number a.addr)
 
 worked_seen : (most : ℕ) (a : Access) (old new : Frame) (f g : Frames) → IsWorked a old new →
-    seen_with (page_number a.addr) old g ≡ fetched most (page_number a.addr) (seen_of f) →
+    seen_with (page_number a.addr) old g ≡ brought most (page_number a.addr) (seen_of f) →
     seen_with (page_number a.addr) new g ≡ touched most a (seen_of f)
 worked_seen most a old new f g worked seen = by_test a.write
     (λ t. rw t (
@@ -133,19 +133,19 @@ with_room_more most f = by_test (nat_lt (length f.pages) most)
     (λ t. rw t (omega arith))
     (λ n. let one = at_most_one (slice_get f.pages (length f.pages - 1)) in rw n (omega (arith, one)))
 
-fetched_more : (most page : ℕ) (found : Option Bool) (f : FramesSeen) →
-    ((fetched_as most page found f).ins ≤ f.ins + 1) × ((fetched_as most page found f).outs ≤ f.outs + 1)
-fetched_more most page None f = (omega arith, with_room_more most f)
-fetched_more most page (Some dirty) f = (omega arith, omega arith)
+brought_more : (most page : ℕ) (found : Option Bool) (f : FramesSeen) →
+    ((brought_as most page found f).ins ≤ f.ins + 1) × ((brought_as most page found f).outs ≤ f.outs + 1)
+brought_more most page None f = (omega arith, with_room_more most f)
+brought_more most page (Some dirty) f = (omega arith, omega arith)
 
 pub touched_more : (most : ℕ) (a : Access) (f : FramesSeen) →
     ((touched most a f).ins ≤ f.ins + 1) × ((touched most a f).outs ≤ f.outs + 1)
 touched_more most a f =
-    let more = fetched_more most (page_number a.addr) (lookup (nat_eq (page_number a.addr)) f.pages) f in
+    let more = brought_more most (page_number a.addr) (lookup (nat_eq (page_number a.addr)) f.pages) f in
     by_test a.write (λ t. rw t more) (λ n. rw n more)
 
 pub seen_on : (a : Access) (f g h : Frames) (old new : Frame) →
-    seen_with (page_number a.addr) old g ≡ fetched f.cache.cap (page_number a.addr) (seen_of f) →
+    seen_with (page_number a.addr) old g ≡ brought f.cache.cap (page_number a.addr) (seen_of f) →
     IsWorked a old new →
     h.cache.entries ≡ (page_number a.addr, new) ∷ g.cache.entries →
     h ≡ record g { cache = h.cache } →
@@ -157,7 +157,7 @@ seen_on a f g h old new seen worked put rest =
 pub within_on : (a : Access) (f g h : Frames) (old new : Frame) (n : ℕ) →
     IsWhole (page_number a.addr, old) →
     All IsWhole g.cache.entries →
-    seen_with (page_number a.addr) old g ≡ fetched f.cache.cap (page_number a.addr) (seen_of f) →
+    seen_with (page_number a.addr) old g ≡ brought f.cache.cap (page_number a.addr) (seen_of f) →
     IsWorked a old new →
     h.cache.entries ≡ (page_number a.addr, new) ∷ g.cache.entries →
     h ≡ record g { cache = h.cache } →
@@ -183,7 +183,7 @@ pub carried_on : (original : ℕ → ℕ) (most : ℕ) (xs : List Access) (a : A
     AreCarried original most xs f told →
     IsWhole (page_number a.addr, old) →
     All IsWhole g.cache.entries →
-    seen_with (page_number a.addr) old g ≡ fetched f.cache.cap (page_number a.addr) (seen_of f) →
+    seen_with (page_number a.addr) old g ≡ brought f.cache.cap (page_number a.addr) (seen_of f) →
     g.cache.cap ≡ f.cache.cap →
     ((memory : ℕ → List ℕ) (written : ℕ → Bool) → Stands (page_of original) memory written (held_by f) f.cache.entries told →
     Stands (page_of original) memory written (held_by g) ((page_number a.addr, old) ∷ g.cache.entries) now) →

@@ -14,7 +14,7 @@ use Rattle.m88_base.specs.Pages.{page_bytes}
 use Rattle.m88_pager.proofs.Counts.{frames_at, lookup_marked, removed_marked}
 use Rattle.m88_pager.proofs.Layers.{by_test}
 use Rattle.m88_pager.proofs.Standing.{stands_come}
-use Rattle.m88_pager.specs.Frames.{fetched, fetched_as}
+use Rattle.m88_pager.specs.Frames.{brought, brought_as}
 use Rattle.m88_pager.specs.Inside.Contents.{Stands}
 use Rattle.m88_pager.specs.Inside.Seen.{ComesFrom, IsWhole, kept, marked}
 use Rattle.m88_pager.specs.Store.{PageMap}
@@ -88,12 +88,12 @@ found_whole page (e ∷ es) frame all h = by_test (nat_eq page e.0)
 -- as the definition has it
 pub taken_seen : (most page : ℕ) (frame : Frame) (es : List (ℕ × Frame)) (ins outs : ℕ) → lookup (nat_eq page) es ≡ Some frame →
     frames_at (marked (page, frame) ∷ map marked (remove_entry (nat_eq page) es)) ins outs
-    ≡ fetched most page (frames_at (map marked es) ins outs)
+    ≡ brought most page (frames_at (map marked es) ins outs)
 taken_seen most page frame es ins outs h =
     rw (lookup_marked (nat_eq page) es, h, removed_marked (nat_eq page) es) refl
 
 pub come_seen : (most page : ℕ) (es : List (ℕ × Frame)) (ins outs : ℕ) → lookup (nat_eq page) es ≡ None →
-    fetched_as most page None (frames_at (map marked es) ins outs) ≡ fetched most page (frames_at (map marked es) ins outs)
+    brought_as most page None (frames_at (map marked es) ins outs) ≡ brought most page (frames_at (map marked es) ins outs)
 come_seen most page es ins outs h = rw (lookup_marked (nat_eq page) es, h) refl
 
 -- a page comes in, where a store tells its pages or not

@@ -18,7 +18,7 @@ no_frames = record { pages = []; ins = 0; outs = 0 }
 -- 1 for a page that is dirty
 abbrev pub one_if_dirty : Option (ℕ × Bool) → ℕ
 one_if_dirty None = 0
-one_if_dirty (Some page) = if page.1 then 1 else 0
+one_if_dirty (Some frame) = if frame.1 then 1 else 0
 
 -- the last page leaves
 abbrev pub without_last : Frames → Frames
@@ -33,29 +33,29 @@ abbrev pub with_room : ℕ → Frames → Frames
 with_room most f = if nat_lt (length f.pages) most then f else without_last f
 
 -- a page comes to the front: with its mark where it stands in a frame, and else clean, as one that came in
-abbrev pub fetched_as : ℕ → ℕ → Option Bool → Frames → Frames
-fetched_as most page (Some dirty) f = record f { pages = (page, dirty) ∷ remove_entry (nat_eq page) f.pages }
-fetched_as most page None f = record {
+abbrev pub brought_as : ℕ → ℕ → Option Bool → Frames → Frames
+brought_as most page (Some dirty) f = record f { pages = (page, dirty) ∷ remove_entry (nat_eq page) f.pages }
+brought_as most page None f = record {
   pages = (page, false) ∷ (with_room most f).pages;
   ins = f.ins + 1;
   outs = (with_room most f).outs;
 }
 
 -- a page that is needed comes to the front, by the mark that it has where it stands in a frame
-abbrev pub fetched : ℕ → ℕ → Frames → Frames
-fetched most page f = fetched_as most page (lookup (nat_eq page) f.pages) f
+abbrev pub brought : ℕ → ℕ → Frames → Frames
+brought most page f = brought_as most page (lookup (nat_eq page) f.pages) f
 
 -- the page at the front is dirty
 abbrev pub dirtied : List (ℕ × Bool) → List (ℕ × Bool)
 dirtied [] = []
-dirtied (page ∷ pages) = (page.0, true) ∷ pages
+dirtied (frame ∷ frames) = (frame.0, true) ∷ frames
 
--- a transaction fetches its page, and where it writes, the page is dirty
+-- a transaction brings its page to the front, and where it writes, the page is dirty
 abbrev pub touched : ℕ → Access → Frames → Frames
 touched most a f =
     if a.write
-    then record (fetched most (page_number a.addr) f) { pages = dirtied (fetched most (page_number a.addr) f).pages }
-    else fetched most (page_number a.addr) f
+    then record (brought most (page_number a.addr) f) { pages = dirtied (brought most (page_number a.addr) f).pages }
+    else brought most (page_number a.addr) f
 
 -- the frames after some transactions, in order
 unfoldable pub frames_after : ℕ → List Access → Frames → Frames
@@ -65,7 +65,7 @@ frames_after most (a ∷ accesses) f = frames_after most accesses (touched most 
 -- how many pages are dirty
 unfoldable pub dirty_count : List (ℕ × Bool) → ℕ
 dirty_count [] = 0
-dirty_count (page ∷ pages) = one_if_dirty (Some page) + dirty_count pages
+dirty_count (frame ∷ frames) = one_if_dirty (Some frame) + dirty_count frames
 
 -- how often a page came in along some transactions
 abbrev pub ins_along : ℕ → List Access → ℕ

@@ -12,7 +12,7 @@ ghost use Rattle.m88_isa.specs.Triples.{access_in};
 ghost use Rattle.m88_mem.specs.DataBus.{image_bytes};
 ghost use Rattle.m88_isa.specs.declared.planned.Access.{Access as AccessValue};
 ghost use Rattle.m88_pager.specs.Ends.{EndsByCount};
-ghost use Rattle.m88_pager.specs.Frames.{dirty_count, fetched, fetched_as, without_last, with_room};
+ghost use Rattle.m88_pager.specs.Frames.{dirty_count, brought, brought_as, without_last, with_room};
 ghost use Rattle.m88_pager.specs.Inside.Bytes.{AreWords, in_bytes};
 ghost use Rattle.m88_pager.specs.declared.paged.PageEnd.TheVariants.{StoreFault};
 ghost use Rattle.m88_pager.specs.Pages.{page_of};
@@ -183,7 +183,7 @@ impl Frames {
         ensures whole { IfOk result (λ frame. IsWhole (page, frame)) }
         ensures others_whole { OnOk result (All IsWhole self.new.cache.entries) }
         ensures counts { IfOk result (λ frame. seen_with page frame self.new
-            ≡ fetched_as self.old.cache.cap page None (seen_of self.old)) }
+            ≡ brought_as self.old.cache.cap page None (seen_of self.old)) }
         ensures cap { self.new.cache.cap ≡ self.old.cache.cap }
         ensures stands { IfOk result (λ frame. StillStands (page_of (image_bytes image.now))
             (held_by self.old) self.old.cache.entries (P.pages store.old)
@@ -217,7 +217,7 @@ impl Frames {
         ensures whole { IfOk result (λ frame. IsWhole (page, frame)) }
         ensures others_whole { OnOk result (All IsWhole self.new.cache.entries) }
         ensures counts { IfOk result (λ frame. seen_with page frame self.new
-            ≡ fetched self.old.cache.cap page (seen_of self.old)) }
+            ≡ brought self.old.cache.cap page (seen_of self.old)) }
         ensures cap { self.new.cache.cap ≡ self.old.cache.cap }
         ensures stands { IfOk result (λ frame. StillStands (page_of (image_bytes image.now))
             (held_by self.old) self.old.cache.entries (P.pages store.old)

@@ -8,7 +8,7 @@ use Rattle.m88_mem.specs.DataBus.{image_bytes}
 use Rattle.m88_pager.proofs.Counts.{frames_at}
 use Rattle.m88_pager.proofs.Standing.{stands_taken}
 use Rattle.m88_pager.proofs.Taking.{come_seen, found_whole, none_left, none_removed, one_removed, taken_seen, whole_removed}
-use Rattle.m88_pager.specs.Frames.{fetched_as}
+use Rattle.m88_pager.specs.Frames.{brought_as}
 use Rattle.m88_pager.specs.Inside.Contents.{Stands}
 use Rattle.m88_pager.specs.Inside.Seen.{IsWhole, held_by, marked}
 use Rattle.m88_pager.specs.Pages.{page_of}
@@ -70,7 +70,7 @@ returns-in-None-clause-counts g c =
     c.pop.ensures.entries ∙ ap (λ (es : List (ℕ × Frame)). lru_cache es f.cache.cap) (none_removed (nat_eq c.args.page) f.cache.entries none) in
     IfOk-weaker c.come_in.result _ _
     (λ frame counts. counts
-    ∙ ap (λ (s : LruCache ℕ Frame). fetched_as s.cap c.args.page None (frames_at (map marked s.entries) f.ins f.outs)) still
+    ∙ ap (λ (s : LruCache ℕ Frame). brought_as s.cap c.args.page None (frames_at (map marked s.entries) f.ins f.outs)) still
     ∙ come_seen f.cache.cap c.args.page f.cache.entries f.ins f.outs none)
     c.come_in.ensures.counts
 
