@@ -1,6 +1,6 @@
 //! Paged runs that were worked by hand: what they come to and how often pages came and went, by any schedule and any
-//! absent pages, and which pages the store has behind them; stores that fail in one of their calls; and one that forgets
-//! its pages and doesn't tell them.
+//! absent pages, and which pages the store has behind them; stores that fail in one of their calls; and one that
+//! forgets its pages and doesn't tell them.
 
 ghost use Rattle.std.specs.Prelude.{None};
 ghost use Rattle.m88_mem.specs.Marks.{NamesPages};
