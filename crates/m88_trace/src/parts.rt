@@ -1,13 +1,48 @@
 //! The parts of a trace's lines. Each call appends to a text, and where memory runs out, some of the part may be in it.
 
-ghost use Rattle.std.specs.Prelude.{◌≡◌, ◌++◌, OnOk};
+ghost use Rattle.std.specs.Prelude.{◌≡◌, ◌%◌, ◌++◌, OnOk, codes};
+ghost use Rattle.m88_base.specs.Hex.{hex8, hex_digit};
 ghost use Rattle.m88_base.specs.Lines.{line_end};
 ghost use Rattle.m88_isa.specs.Memory.{IsWordAccess};
 ghost use Rattle.m88_trace.specs.Lines.{access_head, head_text, output_text, written_text};
 
-use m88_base::{Reg, hex_digit, push_decimal, push_hex2, push_hex8};
+use m88_base::{Reg, push_decimal, push_hex2};
 use m88_isa::Access;
 use std::alloc::AllocError;
+
+/// The digits, the lowest first.
+const DIGITS: [u8; 16] = *b"0123456789ABCDEF";
+
+/// The last digit of a number.
+fn last_digit(n: u32) -> u8
+    ensures { result ≡ hex_digit (n % 16) }
+{
+    DIGITS[(n % 16) as usize]
+}
+
+/// A word in eight digits.
+pub(crate) fn word_digits(n: u32) -> [u8; 8]
+    ensures { result ≡ hex8 n }
+{
+    [
+        last_digit(n >> 28),
+        last_digit(n >> 24),
+        last_digit(n >> 20),
+        last_digit(n >> 16),
+        last_digit(n >> 12),
+        last_digit(n >> 8),
+        last_digit(n >> 4),
+        last_digit(n),
+    ]
+}
+
+/// Appends a space and a word in eight digits, at once.
+fn push_word(text: &mut Vec<u8>, n: u32) -> Result<(), AllocError>
+    ensures { OnOk result (text.new.items ≡ text.old.items ++ codes " " ++ hex8 n) }
+{
+    let [a, b, c, d, e, f, g, h] = word_digits(n);
+    text.extend_from_slice(&[b' ', a, b, c, d, e, f, g, h])
+}
 
 /// Appends the number of a step, and the address and the word of its instruction.
 #[tactic(auto, unfolding(crate::specs::Lines::head_text))]
@@ -20,10 +55,8 @@ pub(crate) fn push_head(
     ensures { OnOk result (text.new.items ≡ text.old.items ++ head_text number at word) }
 {
     push_decimal(text, u64::from(number))?;
-    text.push(b' ')?;
-    push_hex8(text, at)?;
-    text.push(b' ')?;
-    push_hex8(text, word)
+    push_word(text, at)?;
+    push_word(text, word)
 }
 
 /// Appends a register that is written at once, and its new value.
@@ -39,8 +72,7 @@ pub(crate) fn push_written(
     };
     text.extend_from_slice(b" r")?;
     push_decimal(text, u64::from(register.number()))?;
-    text.push(b' ')?;
-    push_hex8(text, value)
+    push_word(text, value)
 }
 
 /// Appends an access up to its datum.
@@ -49,12 +81,9 @@ pub(crate) fn push_access(text: &mut Vec<u8>, access: &Access) -> Result<(), All
     requires { IsWordAccess access.now }
     ensures { OnOk result (text.new.items ≡ text.old.items ++ access_head access.now) }
 {
-    text.extend_from_slice(if access.write { b" s " } else { b" l " })?;
-    push_hex8(text, access.addr)?;
-    text.push(b' ')?;
-    text.push(hex_digit(u32::from(access.en)))?;
-    text.push(b' ')?;
-    Ok(())
+    text.extend_from_slice(if access.write { b" s" } else { b" l" })?;
+    push_word(text, access.addr)?;
+    text.extend_from_slice(&[b' ', last_digit(u32::from(access.en)), b' '])
 }
 
 /// Appends a byte that is put out.
