@@ -1,8 +1,11 @@
 -- What is written on a sheet.
-use Rattle.std.specs.Prelude.{ℕ, zero, suc, Bool, true, false, List, [], ◌∷◌, ◌++◌, Some, IfSome, OnOk, Result, Ok, Err, ◌≡◌, ◌≢◌, ◌≤◌, ◌<◌, ◌+◌, ◌%◌, ◌==◌, drop, length, slice_get, slice_index_or, take}
+use Rattle.std.specs.Prelude.{ℕ, zero, suc, Bool, true, false, List, [], ◌∷◌, ◌++◌, Some, IfSome, OnOk, Result, Ok, Err, ◌≡◌, ◌≢◌, ◌≤◌, ◌<◌, ◌+◌, ◌-◌, ◌%◌, ◌==◌, drop, length, slice_get, slice_index_or, take, Vec}
 use Rattle.std.specs.List.{remove}
 use Rattle.std.proofs.Common.{arith, append_assoc, get_or, length-take-le, refl, sym, ap, ap₂, subst, ◌∙◌}
-use Rattle.std.proofs.lemmas.List.{append-nil}
+use Rattle.std.proofs.lemmas.List.{append-nil, drop-append-le, drop_all, length-append, length-drop, take-append-le, take_all, with_items_is}
+use Rattle.std.specs.Global.{Global}
+use Rattle.std.specs.Vec.{with_items}
+use borrow.Rule.Slice.PartMut.{Post-is, post_of}
 use Rattle.m88_base.specs.Hex.{hex8}
 use Rattle.std.proofs.lemmas.Bool.{eqb-false, eqb-true}
 use Rattle.std.proofs.lemmas.Bool.Decides.{nat_tests}
@@ -14,28 +17,103 @@ use Rattle.m88_isa.specs.Lanes.{merged}
 use Rattle.m88_isa.specs.Memory.{IsWordAccess}
 use Rattle.m88_isa.specs.declared.planned.Access.{Access}
 use Rattle.m88_isa.specs.declared.planned.Accesses.{Accesses}
-use Rattle.m88_trace.specs.Inside.Sheets.{AreData, AreWords, accesses_of, text_by, waiting_of, written_by}
+use Rattle.m88_trace.specs.Inside.Sheets.{AreData, AreWords, HaveRoom, accesses_of, text_by, waiting_of, with_eight, written_by}
 use Rattle.m88_trace.specs.Lines.{access_text, accesses_text, datum_by}
 use Rattle.m88_trace.specs.declared.sheet.Sheet.{Sheet}
 use Rattle.m88_trace.specs.declared.waiting.Waiting.{Waiting}
 
--- more is written behind the last datum
-pub written_more : (text pen more : List ℕ) (waiting : List Waiting) (bus : ℕ → ℕ) →
-    text_by text waiting (pen ++ more) bus ≡ text_by text waiting pen bus ++ more
-unfolding text_by
-written_more text pen more [] bus = sym (append_assoc text pen more)
-written_more text pen more (w ∷ waiting) bus =
-    written_more (text ++ w.before.items ++ hex8 (datum_by w.access bus)) pen more waiting (bus_after w.access bus)
+-- eight bytes in place of eight leave a text as long as it was
+pub eight_length : (text : List ℕ) (k : ℕ) (eight : List ℕ) → k + 8 ≤ length text → length eight ≡ 8 →
+    length (with_eight text k eight) ≡ length text
+unfolding with_eight
+eight_length text k eight room is =
+    let all = length-append (take k text ++ eight) (drop (k + 8) text) in
+    let first = length-append (take k text) eight in
+    let before = length-take-le k text (omega (arith, room)) in
+    let behind = length-drop (k + 8) text in
+    omega (arith, all, first, before, behind, room, is)
 
--- an access waits, and its datum stands behind what was written before it
-pub written_open : (text : List ℕ) (waiting : List Waiting) (w : Waiting) (bus : ℕ → ℕ) →
-    text_by text (waiting ++ w ∷ []) [] bus
-    ≡ text_by text waiting w.before.items bus ++ hex8 (datum_by w.access (bus_after_all (accesses_of waiting) bus))
+-- and what is behind it stays
+eight_more : (text more : List ℕ) (k : ℕ) (eight : List ℕ) → k + 8 ≤ length text →
+    with_eight (text ++ more) k eight ≡ with_eight text k eight ++ more
+unfolding with_eight
+eight_more text more k eight room =
+    ap₂ (λ (xs ys : List ℕ). xs ++ eight ++ ys) (take-append-le k text more (omega (arith, room)))
+    (drop-append-le (k + 8) text more room)
+    ∙ sym (append_assoc (take k text ++ eight) (drop (k + 8) text) more)
+
+-- at the end of a text they stand behind it
+eight_last : (text blank : List ℕ) (k : ℕ) (eight : List ℕ) → k ≡ length text → length blank ≡ 8 →
+    with_eight (text ++ blank) k eight ≡ text ++ eight
+unfolding with_eight
+eight_last text blank k eight e is =
+    let all = length-append text blank in
+    ap₂ (λ (xs ys : List ℕ). xs ++ eight ++ ys)
+    (take-append-le k text blank (omega (arith, e)) ∙ ap (λ (n : ℕ). take n text) e ∙ take_all (length text) text (omega arith))
+    (drop_all (k + 8) (text ++ blank) (omega (arith, e, is, all)))
+    ∙ append-nil (text ++ eight)
+
+-- eight bytes are put in place of eight
+put_eight : (xs text new eight : List ℕ) (k : ℕ) → xs ≡ text → new ≡ eight →
+    take k xs ++ (new ++ post_of k (k + 8 - k) xs) ≡ with_eight text k eight
+unfolding with_eight
+put_eight xs text new eight k e f =
+    ap₂ (λ (l m : List ℕ). take k l ++ (m ++ post_of k (k + 8 - k) l)) e f
+    ∙ ap (λ (l : List ℕ). take k text ++ (eight ++ l)) (Post-is k (k + 8) text (omega arith))
+    ∙ sym (append_assoc (take k text) eight (drop (k + 8) text))
+
+pub items_put : (v : Vec ℕ Global) (xs new eight : List ℕ) (k : ℕ) → v.len ≡ length v.items → xs ≡ v.items →
+    new ≡ eight →
+    length eight ≡ 8 →
+    k + 8 ≤ length v.items →
+    (with_items v (take k xs ++ (new ++ post_of k (k + 8 - k) xs))).items ≡ with_eight v.items k eight
+items_put v xs new eight k all e f is room =
+    let put = put_eight xs v.items new eight k e f in
+    let long = ap (λ (l : List ℕ). length l) put ∙ eight_length v.items k eight room is in
+    with_items_is v _ (omega (arith, all, long)) ∙ put
+
+-- the room for data is as large in a longer text
+pub room_more : (n m : ℕ) (waiting : List Waiting) → n ≤ m → HaveRoom n waiting → HaveRoom m waiting
+room_more n m [] le room = tt
+room_more n m (w ∷ waiting) le room = (omega (arith, le, room.0), room_more n m waiting le room.1)
+
+room_open : (n : ℕ) (waiting : List Waiting) (w : Waiting) → HaveRoom n waiting → w.at + 8 ≤ n →
+    HaveRoom n (waiting ++ w ∷ [])
+room_open n [] w room le = (le, tt)
+room_open n (v ∷ waiting) w room le = (room.0, room_open n waiting w room.1 le)
+
+-- of the others there is as much once the first is written
+room_left : (text eight : List ℕ) (w : Waiting) (waiting : List Waiting) → length eight ≡ 8 →
+    HaveRoom (length text) (w ∷ waiting) →
+    HaveRoom (length (with_eight text w.at eight)) waiting
+room_left text eight w waiting is room =
+    subst (λ (n : ℕ). HaveRoom n waiting) (sym (eight_length text w.at eight room.0 is)) room.1
+
+-- more is written behind a text
+pub written_more : (text more : List ℕ) (waiting : List Waiting) (bus : ℕ → ℕ) → HaveRoom (length text) waiting →
+    text_by (text ++ more) waiting bus ≡ text_by text waiting bus ++ more
+unfolding text_by
+written_more text more [] bus room = refl
+written_more text more (w ∷ waiting) bus room =
+    let eight = hex8 (datum_by w.access bus) in
+    ap (λ (xs : List ℕ). text_by xs waiting (bus_after w.access bus)) (eight_more text more w.at eight room.0)
+    ∙ written_more (with_eight text w.at eight) more waiting (bus_after w.access bus)
+    (room_left text eight w waiting refl room)
+
+-- an access waits, whose datum is to stand at the end
+pub written_open : (text blank : List ℕ) (waiting : List Waiting) (w : Waiting) (bus : ℕ → ℕ) → length blank ≡ 8 →
+    w.at ≡ length text →
+    HaveRoom (length text) waiting →
+    text_by (text ++ blank) (waiting ++ w ∷ []) bus
+    ≡ text_by text waiting bus ++ hex8 (datum_by w.access (bus_after_all (accesses_of waiting) bus))
 unfolding text_by bus_after_all
-written_open text [] w bus =
-    append-nil (text ++ w.before.items ++ hex8 (datum_by w.access bus))
-written_open text (v ∷ waiting) w bus =
-    written_open (text ++ v.before.items ++ hex8 (datum_by v.access bus)) waiting w (bus_after v.access bus)
+written_open text blank [] w bus is e room = eight_last text blank w.at (hex8 (datum_by w.access bus)) e is
+written_open text blank (v ∷ waiting) w bus is e room =
+    let eight = hex8 (datum_by v.access bus) in
+    let left = room_left text eight v waiting refl room in
+    ap (λ (xs : List ℕ). text_by xs (waiting ++ w ∷ []) (bus_after v.access bus)) (eight_more text blank v.at eight room.0)
+    ∙ written_open (with_eight text v.at eight) blank waiting w (bus_after v.access bus) is
+    (e ∙ sym (eight_length text v.at eight room.0 refl)) left
 
 pub accesses_more : (waiting : List Waiting) (w : Waiting) → accesses_of (waiting ++ w ∷ []) ≡ accesses_of waiting
     ++ w.access ∷ []
@@ -47,20 +125,20 @@ pub none_waits : (waiting : List Waiting) → accesses_of waiting ≡ [] → wai
 none_waits [] e = refl
 none_waits (w ∷ waiting) e = absurd cc
 
-pub written_all : (text pen : List ℕ) (waiting : List Waiting) (bus : ℕ → ℕ) → accesses_of waiting ≡ [] →
-    text ++ pen ≡ text_by text waiting pen bus
+pub written_all : (text : List ℕ) (waiting : List Waiting) (bus : ℕ → ℕ) → accesses_of waiting ≡ [] →
+    text ≡ text_by text waiting bus
 unfolding text_by
-written_all text pen waiting bus e = ap (λ (ws : List Waiting). text_by text ws pen bus) (sym (none_waits waiting e))
+written_all text waiting bus e = ap (λ (ws : List Waiting). text_by text ws bus) (sym (none_waits waiting e))
 
 -- the datum of the oldest is written
-pub written_first : (text pen : List ℕ) (w : Waiting) (waiting : List Waiting) (datum : ℕ) (values : List ℕ)
+pub written_first : (text : List ℕ) (w : Waiting) (waiting : List Waiting) (datum : ℕ) (values : List ℕ)
     (bus : ℕ → ℕ) →
     AreData (datum ∷ values) (accesses_of (w ∷ waiting)) bus →
-    text_by (text ++ w.before.items ++ hex8 datum) waiting pen (bus_after w.access bus)
-    ≡ text_by text (w ∷ waiting) pen bus
+    text_by (with_eight text w.at (hex8 datum)) waiting (bus_after w.access bus)
+    ≡ text_by text (w ∷ waiting) bus
 unfolding text_by
-written_first text pen w waiting datum values bus are =
-    ap (λ (d : ℕ). text_by (text ++ w.before.items ++ hex8 d) waiting pen (bus_after w.access bus)) are.0
+written_first text w waiting datum values bus are =
+    ap (λ (d : ℕ). text_by (with_eight text w.at (hex8 d)) waiting (bus_after w.access bus)) are.0
 
 -- what is left of some data
 pub data_left : (datum : ℕ) (values : List ℕ) (accesses : List Access) (bus : ℕ → ℕ) →
@@ -87,16 +165,25 @@ three_data a b c (u ∷ v ∷ w ∷ []) bus few x y z = (x, (y, (z, tt)))
 three_data a b c (u ∷ v ∷ w ∷ s ∷ rest) bus few x y z = absurd (omega arith)
 
 -- nothing is written at first
-pub written_blank : (text pen : List ℕ) (waiting : List Waiting) (bus : ℕ → ℕ) → text ≡ [] → waiting ≡ [] → pen ≡ [] →
-    text_by text waiting pen bus ≡ []
+pub written_blank : (text : List ℕ) (waiting : List Waiting) (bus : ℕ → ℕ) → text ≡ [] → waiting ≡ [] →
+    text_by text waiting bus ≡ []
 unfolding text_by
-written_blank text pen waiting bus e f g = rw (e, f, g) refl
+written_blank text waiting bus e f = rw (e, f) refl
 
--- more stands in place of what stood behind the last datum
-pub more_by : (text pen new more : List ℕ) (waiting : List Waiting) (bus : ℕ → ℕ) → new ≡ pen ++ more →
-    text_by text waiting new bus ≡ text_by text waiting pen bus ++ more
-more_by text pen new more waiting bus e = ap (λ (xs : List ℕ). text_by text waiting xs bus) e
-    ∙ written_more text pen more waiting bus
+-- more stands behind a text
+pub more_by : (text new more : List ℕ) (waiting : List Waiting) (bus : ℕ → ℕ) → HaveRoom (length text) waiting →
+    new ≡ text ++ more →
+    text_by new waiting bus ≡ text_by text waiting bus ++ more
+more_by text new more waiting bus room e = ap (λ (xs : List ℕ). text_by xs waiting bus) e
+    ∙ written_more text more waiting bus room
+
+-- and as much room is in it
+pub room_by : (text new more : List ℕ) (waiting : List Waiting) → HaveRoom (length text) waiting → new ≡ text ++ more →
+    HaveRoom (length new) waiting
+room_by text new more waiting room e =
+    let all = length-append text more in
+    let same = ap (λ (xs : List ℕ). length xs) e in
+    room_more (length text) (length new) waiting (omega (arith, all, same)) room
 
 -- two parts, and three
 pub two_parts : (w a b x : List ℕ) → x ≡ w ++ a ++ b → x ≡ w ++ (a ++ b)
@@ -107,21 +194,39 @@ three_parts w a b c x y e f =
     f ∙ ap (λ (xs : List ℕ). xs ++ c) (two_parts w a b x e) ∙ append_assoc w (a ++ b) c
 
 -- an access waits, which was written up to its datum
-pub open_by : (text pen head new : List ℕ) (waiting next : List Waiting) (w : Waiting) (a : Access) (bus : ℕ → ℕ) →
-    next ≡ waiting ++ w ∷ [] →
-    w.access ≡ a →
-    w.before.items ≡ pen ++ head →
-    new ≡ [] →
-    text_by text next new bus
-    ≡ text_by text waiting pen bus ++ (head ++ hex8 (datum_by a (bus_after_all (accesses_of waiting) bus)))
-open_by text pen head new waiting next w a bus e f g h =
-    ap₂ (λ (ws : List Waiting) (xs : List ℕ). text_by text ws xs bus) e h
-    ∙ written_open text waiting w bus
-    ∙ ap₂ (λ (xs : List ℕ) (x : Access). text_by text waiting xs bus
-    ++ hex8 (datum_by x (bus_after_all (accesses_of waiting) bus))) g f
-    ∙ ap (λ (xs : List ℕ). xs ++ hex8 (datum_by a (bus_after_all (accesses_of waiting) bus)))
-    (written_more text pen head waiting bus)
-    ∙ append_assoc (text_by text waiting pen bus) head (hex8 (datum_by a (bus_after_all (accesses_of waiting) bus)))
+pub open_by : (text head blank new next : List ℕ) (waiting after : List Waiting) (w : Waiting) (bus : ℕ → ℕ) →
+    HaveRoom (length text) waiting →
+    after ≡ waiting ++ w ∷ [] →
+    new ≡ text ++ head →
+    w.at ≡ length new →
+    next ≡ new ++ blank →
+    length blank ≡ 8 →
+    text_by next after bus
+    ≡ text_by text waiting bus ++ (head ++ hex8 (datum_by w.access (bus_after_all (accesses_of waiting) bus)))
+open_by text head blank new next waiting after w bus room e f g h is =
+    ap₂ (λ (xs : List ℕ) (ws : List Waiting). text_by xs ws bus) h e
+    ∙ written_open new blank waiting w bus is g (room_by text new head waiting room f)
+    ∙ ap (λ (xs : List ℕ). xs ++ hex8 (datum_by w.access (bus_after_all (accesses_of waiting) bus)))
+    (more_by text new head waiting bus room f)
+    ∙ append_assoc (text_by text waiting bus) head
+    (hex8 (datum_by w.access (bus_after_all (accesses_of waiting) bus)))
+
+-- and its datum has room
+pub room_by_open : (text head blank new next : List ℕ) (waiting after : List Waiting) (w : Waiting) →
+    HaveRoom (length text) waiting →
+    after ≡ waiting ++ w ∷ [] →
+    new ≡ text ++ head →
+    w.at ≡ length new →
+    next ≡ new ++ blank →
+    length blank ≡ 8 →
+    HaveRoom (length next) after
+room_by_open text head blank new next waiting after w room e f g h is =
+    let all = length-append new blank in
+    let same = ap (λ (xs : List ℕ). length xs) h in
+    subst (λ (ws : List Waiting). HaveRoom (length next) ws) (sym e)
+    (room_open (length next) waiting w
+    (room_by new next blank waiting (room_by text new head waiting room f) h)
+    (omega (arith, all, same, g, is)))
 
 pub accesses_by : (waiting next : List Waiting) (w : Waiting) (a : Access) → next ≡ waiting ++ w ∷ [] → w.access ≡ a →
     accesses_of next ≡ accesses_of waiting ++ a ∷ []
@@ -143,23 +248,36 @@ pub first_removed : (xs : List Waiting) (w : Waiting) → 0 < length xs → w �
 first_removed [] w some e = absurd (omega arith)
 first_removed (x ∷ xs) w some e = ap (λ (y : Waiting). y ∷ xs) (sym e)
 
-pub filled_by : (text next pen : List ℕ) (waiting left : List Waiting) (w : Waiting) (datum : ℕ) (values : List ℕ)
+pub filled_by : (text next : List ℕ) (waiting left : List Waiting) (w : Waiting) (datum : ℕ) (values : List ℕ)
     (bus : ℕ → ℕ) →
     waiting ≡ w ∷ left →
-    next ≡ text ++ w.before.items ++ hex8 datum →
+    next ≡ with_eight text w.at (hex8 datum) →
     AreData (datum ∷ values) (accesses_of waiting) bus →
-    text_by next left pen (bus_after_all (take 1 (accesses_of waiting)) bus) ≡ text_by text waiting pen bus
+    text_by next left (bus_after_all (take 1 (accesses_of waiting)) bus) ≡ text_by text waiting bus
 unfolding bus_after_all
-filled_by text next pen waiting left w datum values bus e f are =
+filled_by text next waiting left w datum values bus e f are =
     let is = subst (λ (ws : List Waiting). AreData (datum ∷ values) (accesses_of ws) bus) e are in
-    ap₂ (λ (xs : List ℕ) (ws : List Waiting). text_by xs left pen (bus_after_all (take 1 (accesses_of ws)) bus)) f e
-    ∙ written_first text pen w left datum values bus is
-    ∙ ap (λ (ws : List Waiting). text_by text ws pen bus) (sym e)
+    ap₂ (λ (xs : List ℕ) (ws : List Waiting). text_by xs left (bus_after_all (take 1 (accesses_of ws)) bus)) f e
+    ∙ written_first text w left datum values bus is
+    ∙ ap (λ (ws : List Waiting). text_by text ws bus) (sym e)
 
-pub none_filled : (text pen : List ℕ) (waiting : List Waiting) (bus : ℕ → ℕ) → waiting ≡ [] →
-    text_by text waiting pen (bus_after_all (take 1 (accesses_of waiting)) bus) ≡ text_by text waiting pen bus
+pub room_filled : (text next : List ℕ) (waiting left : List Waiting) (w : Waiting) (datum : ℕ) → waiting ≡ w ∷ left →
+    next ≡ with_eight text w.at (hex8 datum) →
+    HaveRoom (length text) waiting →
+    HaveRoom (length next) left
+room_filled text next waiting left w datum e f room =
+    subst (λ (xs : List ℕ). HaveRoom (length xs) left) (sym f)
+    (room_left text (hex8 datum) w left refl (subst (λ (ws : List Waiting). HaveRoom (length text) ws) e room))
+
+-- the first has room
+pub room_first : (n : ℕ) (waiting left : List Waiting) (w : Waiting) → waiting ≡ w ∷ left → HaveRoom n waiting →
+    w.at + 8 ≤ n
+room_first n waiting left w e room = (subst (λ (ws : List Waiting). HaveRoom n ws) e room).0
+
+pub none_filled : (text : List ℕ) (waiting : List Waiting) (bus : ℕ → ℕ) → waiting ≡ [] →
+    text_by text waiting (bus_after_all (take 1 (accesses_of waiting)) bus) ≡ text_by text waiting bus
 unfolding bus_after_all
-none_filled text pen waiting bus e = rw e refl
+none_filled text waiting bus e = rw e refl
 
 -- a word after an access
 pub word_kept : (a : Access) (bus : ℕ → ℕ) (addr word : ℕ) → a.write ≡ false → word ≡ bus addr →
@@ -199,12 +317,20 @@ pub four_parts : (w a b c d x y z : List ℕ) → x ≡ w ++ a ++ b → y ≡ x 
 four_parts w a b c d x y z e f g =
     g ∙ ap (λ (xs : List ℕ). xs ++ d) (three_parts w a b c x y e f) ∙ append_assoc w (a ++ b ++ c) d
 
--- two parts are written behind the last datum
-pub more_two : (text pen new next a b : List ℕ) (waiting : List Waiting) (bus : ℕ → ℕ) → new ≡ pen ++ a →
+-- two parts are written behind a text
+pub more_two : (text new next a b : List ℕ) (waiting : List Waiting) (bus : ℕ → ℕ) → HaveRoom (length text) waiting →
+    new ≡ text ++ a →
     next ≡ new ++ b →
-    text_by text waiting next bus ≡ text_by text waiting pen bus ++ a ++ b
-more_two text pen new next a b waiting bus e f =
-    more_by text new next b waiting bus f ∙ ap (λ (xs : List ℕ). xs ++ b) (more_by text pen new a waiting bus e)
+    text_by next waiting bus ≡ text_by text waiting bus ++ a ++ b
+more_two text new next a b waiting bus room e f =
+    more_by new next b waiting bus (room_by text new a waiting room e) f
+    ∙ ap (λ (xs : List ℕ). xs ++ b) (more_by text new a waiting bus room e)
+
+pub room_two : (text new next a b : List ℕ) (waiting : List Waiting) → HaveRoom (length text) waiting →
+    new ≡ text ++ a →
+    next ≡ new ++ b →
+    HaveRoom (length next) waiting
+room_two text new next a b waiting room e f = room_by new next b waiting (room_by text new a waiting room e) f
 
 -- two accesses wait
 pub listed_two : (a : Accesses) → a.count ≢ 0 → a.count ≢ 1 → listed a ≡ a.first ∷ a.second ∷ []
@@ -231,8 +357,8 @@ two_open w x y waiting next a b bus e f g =
 -- where none waits, it doesn't matter what memory has
 pub whatever_words : (s : Sheet) (bus after : ℕ → ℕ) → waiting_of s ≡ [] → written_by s after ≡ written_by s bus
 whatever_words s bus after e =
-    sym (written_all s.text.items s.pen.items s.waiting.items after e)
-    ∙ written_all s.text.items s.pen.items s.waiting.items bus e
+    sym (written_all s.text.items s.waiting.items after e)
+    ∙ written_all s.text.items s.waiting.items bus e
 
 none_left : (xs : List Access) → length xs ≤ 3 → drop 1 (drop 1 (drop 1 xs)) ≡ []
 none_left [] few = refl

@@ -50,7 +50,7 @@ pub fn trace_run(
     while !walk.board().is_over() {
         step(&mut walk, &mut sheet)?;
     }
-    sheet.finish()
+    Ok(sheet.finish())
 }
 
 /// Makes the next event of a run, and writes what it adds to the trace.

@@ -1,5 +1,4 @@
-//! A trace that is being written. The text before the oldest access whose datum isn't known yet is finished; behind it
-//! stands the text up to each datum that is waited for, and then what is written after the last.
+//! A trace that is being written. It has room for each datum that isn't known yet.
 
 ghost use Rattle.std.specs.Prelude.{ℕ, List, ◌∷◌, [], ◌≡◌, ◌≤◌, ◌%◌, ◌++◌, IfOk, drop, length, slice_get, take, IfSome, OnOk};
 ghost use Rattle.m88_event.specs.EndText.{run_end_line};
@@ -11,30 +10,25 @@ ghost use Rattle.m88_trace.specs.Inside.Sheets.{AreData, AreMade, three_of, wait
 ghost use Rattle.m88_trace.specs.Lines.{access_text, accesses_text, datum_by};
 ghost use Rattle.m88_trace.specs.declared.doing.Doing.TheVariants as doings;
 
-use crate::parts::{push_access, push_head, push_line_end, push_output, push_written};
+use crate::parts::{push_access, push_head, push_line_end, push_output, push_written, word_digits};
 use crate::upcoming::Upcoming;
 use crate::waiting::Waiting;
-use m88_base::{NoMemory, push_hex8};
+use m88_base::NoMemory;
 use m88_board::Board;
 use m88_event::End;
 use m88_isa::{Access, Accesses, Effect, datum, merge};
 use m88_report::push_end;
 use std::alloc::Global;
-use std::mem;
 
-/// The bytes that a pen has room for at first: those between two data that are two lines apart.
-const PEN_BYTES: usize = 128;
+/// What stands in a datum's place until it is known.
+const UNKNOWN: &[u8] = b"????????";
 
 /// A trace that is being written.
 #[derive(Drop, Debug)]
 pub struct Sheet {
-    pub alloc: Global,
-    /// What is finished.
     pub text: Vec<u8>,
     /// The accesses that wait, the oldest first.
     pub waiting: Vec<Waiting>,
-    /// What stands behind the last datum.
-    pub pen: Vec<u8>,
 }
 
 /// The data of the accesses that wait, if three do at most: that of the oldest first. Where fewer wait, the rest are 0.
@@ -53,79 +47,75 @@ impl Sheet {
         ensures made { AreMade result }
     {
         Sheet {
-            alloc,
             text: Vec::new(alloc),
             waiting: Vec::new(alloc),
-            pen: Vec::new(alloc),
         }
     }
 
     /// The text, where no access waits.
-    pub(crate) fn finish(mut self) -> Result<Vec<u8>, NoMemory>
-        ensures { IfOk result (λ text. (bus : ℕ → ℕ) → waiting_of self ≡ []
-            → text.items ≡ written_by self bus) }
+    pub(crate) fn finish(self) -> Vec<u8>
+        ensures { (bus : ℕ → ℕ) → waiting_of self ≡ [] → result.items ≡ written_by self bus }
     {
-        // A trace without accesses is written by the pen alone, and isn't copied.
-        if self.text.is_empty() {
-            return Ok(self.pen);
-        }
-        self.text.extend_from_slice(&self.pen)?;
-        Ok(self.text)
+        self.text
     }
 
     /// Writes the line of an instruction that makes its changes. The data of its accesses are waited for.
     pub(crate) fn issue(&mut self, next: &Upcoming, effect: &Effect) -> Result<(), NoMemory>
-        requires { AreWordAccesses effect.now.accesses.count effect.now.accesses }
+        requires made { AreMade self.old }
+        requires words { AreWordAccesses effect.now.accesses.count effect.now.accesses }
         ensures text { OnOk result ((bus : ℕ → ℕ)
             → written_by self.new bus ≡ written_by self.old bus
             ++ doing_line next.now.number next.now.at next.now.word (doings.Goes effect.now)
             (bus_after_all (waiting_of self.old) bus)) }
         ensures waiting { OnOk result (waiting_of self.new
             ≡ waiting_of self.old ++ listed effect.now.accesses) }
-        ensures made { OnOk result (AreMade self.old → AreMade self.new) }
+        ensures made { OnOk result (AreMade self.new) }
     {
-        push_head(&mut self.pen, next.number, next.at, next.word)?;
-        push_written(&mut self.pen, effect.reg)?;
+        push_head(&mut self.text, next.number, next.at, next.word)?;
+        push_written(&mut self.text, effect.reg)?;
         self.open_all(&effect.accesses)?;
-        push_line_end(&mut self.pen)?;
+        push_line_end(&mut self.text)?;
         Ok(())
     }
 
     /// Writes the line of an instruction for which a byte is put out.
     pub(crate) fn put_out(&mut self, next: &Upcoming, byte: u8) -> Result<(), NoMemory>
+        requires made { AreMade self.old }
         ensures text { OnOk result ((bus : ℕ → ℕ)
             → written_by self.new bus ≡ written_by self.old bus
             ++ doing_line next.now.number next.now.at next.now.word (doings.Outputs byte) bus) }
         ensures waiting { OnOk result (waiting_of self.new ≡ waiting_of self.old) }
-        ensures made { OnOk result (AreMade self.old → AreMade self.new) }
+        ensures made { OnOk result (AreMade self.new) }
     {
-        push_head(&mut self.pen, next.number, next.at, next.word)?;
-        push_output(&mut self.pen, byte)?;
-        push_line_end(&mut self.pen)?;
+        push_head(&mut self.text, next.number, next.at, next.word)?;
+        push_output(&mut self.text, byte)?;
+        push_line_end(&mut self.text)?;
         Ok(())
     }
 
     /// Writes the line of the end.
     pub(crate) fn end(&mut self, end: End) -> Result<(), NoMemory>
+        requires made { AreMade self.old }
         ensures text { OnOk result ((bus : ℕ → ℕ)
             → written_by self.new bus ≡ written_by self.old bus ++ run_end_line end) }
         ensures waiting { OnOk result (waiting_of self.new ≡ waiting_of self.old) }
-        ensures made { OnOk result (AreMade self.old → AreMade self.new) }
+        ensures made { OnOk result (AreMade self.new) }
     {
-        push_end(&mut self.pen, end)?;
+        push_end(&mut self.text, end)?;
         Ok(())
     }
 
     /// Writes accesses in order, whose data are waited for.
     #[tactic(auto, unfolding(crate::specs::Lines::accesses_text))]
     fn open_all(&mut self, accesses: &Accesses) -> Result<(), NoMemory>
-        requires { AreWordAccesses accesses.now.count accesses.now }
+        requires made { AreMade self.old }
+        requires words { AreWordAccesses accesses.now.count accesses.now }
         ensures text { OnOk result ((bus : ℕ → ℕ)
             → written_by self.new bus ≡ written_by self.old bus
             ++ accesses_text (listed accesses.now) (bus_after_all (waiting_of self.old) bus)) }
         ensures waiting { OnOk result (waiting_of self.new
             ≡ waiting_of self.old ++ listed accesses.now) }
-        ensures made { OnOk result (AreMade self.old → AreMade self.new) }
+        ensures made { OnOk result (AreMade self.new) }
     {
         if accesses.count == 0 {
             return Ok(());
@@ -139,53 +129,53 @@ impl Sheet {
 
     /// Writes an access up to its datum, which is waited for.
     fn open(&mut self, access: &Access) -> Result<(), NoMemory>
-        requires { IsWordAccess access.now }
+        requires made { AreMade self.old }
+        requires words { IsWordAccess access.now }
         ensures text { OnOk result ((bus : ℕ → ℕ)
             → written_by self.new bus ≡ written_by self.old bus
             ++ access_text access.now (bus_after_all (waiting_of self.old) bus)) }
         ensures waiting { OnOk result (waiting_of self.new
             ≡ waiting_of self.old ++ access.now ∷ []) }
-        ensures made { OnOk result (AreMade self.old → AreMade self.new) }
+        ensures made { OnOk result (AreMade self.new) }
     {
-        push_access(&mut self.pen, access)?;
-        let pen = Vec::with_capacity(self.alloc, PEN_BYTES)?;
-        let before = mem::replace(&mut self.pen, pen);
+        push_access(&mut self.text, access)?;
+        let at = self.text.len();
+        self.text.extend_from_slice(UNKNOWN)?;
         let access = *access;
-        push_waiting(&mut self.waiting, Waiting { access, before })?;
+        push_waiting(&mut self.waiting, Waiting { access, at })?;
         Ok(())
     }
 
     /// Writes the datum of the oldest access that waits, if one does.
-    pub(crate) fn fill(&mut self, datum: u32) -> Result<(), NoMemory>
-        ensures text { OnOk result ((bus : ℕ → ℕ) (values : List ℕ)
+    pub(crate) fn fill(&mut self, datum: u32)
+        requires { AreMade self.old }
+        ensures text { (bus : ℕ → ℕ) (values : List ℕ)
             → AreData (datum ∷ values) (waiting_of self.old) bus
             → written_by self.new (bus_after_all (take 1 (waiting_of self.old)) bus)
-            ≡ written_by self.old bus) }
-        ensures waiting { OnOk result (waiting_of self.new ≡ drop 1 (waiting_of self.old)) }
-        ensures made { OnOk result (AreMade self.old → AreMade self.new) }
+            ≡ written_by self.old bus }
+        ensures waiting { waiting_of self.new ≡ drop 1 (waiting_of self.old) }
+        ensures made { AreMade self.new }
     {
         if self.waiting.is_empty() {
-            return Ok(());
+            return;
         }
-        let first = self.waiting.remove(0);
-        self.text.extend_from_slice(&first.before)?;
-        push_hex8(&mut self.text, datum)?;
-        Ok(())
+        let at = self.waiting.remove(0).at;
+        self.text[at..at + 8].copy_from_slice(&word_digits(datum));
     }
 
     /// Writes the data of all accesses that wait, of which there are three at most.
-    pub(crate) fn fill_all(&mut self, told: Data) -> Result<(), NoMemory>
-        ensures text { OnOk result ((bus after : ℕ → ℕ)
+    pub(crate) fn fill_all(&mut self, told: Data)
+        requires { AreMade self.old }
+        ensures text { (bus after : ℕ → ℕ)
             → AreData (three_of told) (waiting_of self.old) bus
             → length (waiting_of self.old) ≤ 3
-            → written_by self.new after ≡ written_by self.old bus) }
-        ensures waiting { OnOk result (length (waiting_of self.old) ≤ 3
-            → waiting_of self.new ≡ []) }
-        ensures made { OnOk result (AreMade self.old → AreMade self.new) }
+            → written_by self.new after ≡ written_by self.old bus }
+        ensures waiting { length (waiting_of self.old) ≤ 3 → waiting_of self.new ≡ [] }
+        ensures made { AreMade self.new }
     {
-        self.fill(told.oldest)?;
-        self.fill(told.second)?;
-        self.fill(told.third)
+        self.fill(told.oldest);
+        self.fill(told.second);
+        self.fill(told.third);
     }
 
     /// The data of the accesses that wait, by the words that a board has now: each gets what those before it leave.

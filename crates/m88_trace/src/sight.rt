@@ -49,29 +49,34 @@ pub(crate) fn seen_before(letter: Letter, board: &Board, sheet: &Sheet) -> Sight
 impl Sheet {
     /// Writes what an event adds to a trace, by what was seen before it.
     pub(crate) fn note(&mut self, sight: &Sight, happened: Happened) -> Result<(), NoMemory>
-        requires { HasWords sight.now }
+        requires made { AreMade self.old }
+        requires words { HasWords sight.now }
         ensures traced { OnOk result ((p : Program) (named : ℕ → Bool) (limit : ℕ)
             (letter : LetterValue) (m : Moment) → IsProgram p → HasPast p limit m
             → DoneWereMade p m → IsSight p named limit letter m sight.now
             → happened ≡ said_at p named limit letter m → IsTraced p m self.old
             → IsTraced p (after_letter p named limit letter m) self.new) }
-        ensures made { OnOk result (AreMade self.old → AreMade self.new) }
+        ensures made { OnOk result (AreMade self.new) }
     {
         match sight {
             Sight::Next(next) => self.note_issue(next, happened),
-            Sight::Data(told) => self.note_answer(*told, happened),
+            Sight::Data(told) => {
+                self.note_answer(*told, happened);
+                Ok(())
+            }
             Sight::Nothing => Ok(()),
         }
     }
 
     /// Writes what an event of `i` adds.
     fn note_issue(&mut self, next: &Upcoming, happened: Happened) -> Result<(), NoMemory>
-        requires { MakesWords next.now.effect }
+        requires made { AreMade self.old }
+        requires words { MakesWords next.now.effect }
         ensures traced { OnOk result ((p : Program) (named : ℕ → Bool) (limit : ℕ) (m : Moment)
             → IsProgram p → HasPast p limit m → DoneWereMade p m → IsNext p named limit m next.now
             → happened ≡ said_at p named limit letters.Issue m → IsTraced p m self.old
             → IsTraced p (after_letter p named limit letters.Issue m) self.new) }
-        ensures made { OnOk result (AreMade self.old → AreMade self.new) }
+        ensures made { OnOk result (AreMade self.new) }
     {
         match happened {
             Happened::Issued => self.note_issued(next),
@@ -83,7 +88,8 @@ impl Sheet {
 
     /// Writes the line of an instruction that was issued.
     fn note_issued(&mut self, next: &Upcoming) -> Result<(), NoMemory>
-        requires { MakesWords next.now.effect }
+        requires made { AreMade self.old }
+        requires words { MakesWords next.now.effect }
         ensures text { OnOk result ((bus : ℕ → ℕ) (effect : EffectValue)
             → next.now.effect ≡ Some effect
             → written_by self.new bus ≡ written_by self.old bus
@@ -91,7 +97,7 @@ impl Sheet {
             (bus_after_all (waiting_of self.old) bus)) }
         ensures waiting { OnOk result ((effect : EffectValue) → next.now.effect ≡ Some effect
             → waiting_of self.new ≡ waiting_of self.old ++ listed effect.accesses) }
-        ensures made { OnOk result (AreMade self.old → AreMade self.new) }
+        ensures made { OnOk result (AreMade self.new) }
     {
         match &next.effect {
             Some(effect) => self.issue(next, effect),
@@ -100,18 +106,19 @@ impl Sheet {
     }
 
     /// Writes what an event of `r` adds.
-    fn note_answer(&mut self, told: Data, happened: Happened) -> Result<(), NoMemory>
-        ensures traced { OnOk result ((p : Program) (named : ℕ → Bool) (limit : ℕ) (m : Moment)
+    fn note_answer(&mut self, told: Data, happened: Happened)
+        requires { AreMade self.old }
+        ensures traced { (p : Program) (named : ℕ → Bool) (limit : ℕ) (m : Moment)
             → HasPast p limit m → DoneWereMade p m
             → AreData (three_of told) (pending_at p m.retired m.done) (bus_at p m.retired m.done)
             → happened ≡ said_at p named limit letters.Answer m → IsTraced p m self.old
-            → IsTraced p (after_letter p named limit letters.Answer m) self.new) }
-        ensures made { OnOk result (AreMade self.old → AreMade self.new) }
+            → IsTraced p (after_letter p named limit letters.Answer m) self.new }
+        ensures made { AreMade self.new }
     {
         match happened {
             Happened::Answered => self.fill(told.oldest),
             Happened::Faulted(_) => self.fill_all(told),
-            _ => Ok(()),
+            _ => {}
         }
     }
 }

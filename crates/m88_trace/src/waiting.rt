@@ -3,9 +3,9 @@
 use m88_isa::Access;
 
 /// An access whose datum isn't known yet.
-#[derive(Drop, Debug)]
+#[derive(Clone, Copy, Debug)]
 pub struct Waiting {
     pub access: Access,
-    /// What stands between the datum before it, or what is finished, and its own.
-    pub before: Vec<u8>,
+    /// The index in the text at which its datum is to stand.
+    pub at: usize,
 }

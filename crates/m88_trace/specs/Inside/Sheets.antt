@@ -1,5 +1,5 @@
 -- A trace that is being written, of which some accesses wait for their data.
-use Rattle.std.specs.Prelude.{ℕ, List, [], ◌∷◌, ◌++◌, ◌≡◌, map}
+use Rattle.std.specs.Prelude.{ℕ, List, [], ◌∷◌, ◌++◌, ◌≡◌, ◌≤◌, ◌+◌, drop, length, map, take}
 use Rattle.m88_base.specs.Hex.{hex8}
 use Rattle.m88_isa.specs.Bus.{bus_after}
 use Rattle.m88_isa.specs.Memory.{IsWordAccess}
@@ -13,15 +13,19 @@ use Rattle.m88_trace.specs.declared.waiting.Waiting.{Waiting}
 abbrev pub accesses_of : List Waiting → List Access
 accesses_of waiting = map (λ (w : Waiting). w.access) waiting
 
+-- a text with some eight bytes in place of those from an index on
+unfoldable pub with_eight : List ℕ → ℕ → List ℕ → List ℕ
+with_eight text at eight = take at text ++ eight ++ drop (at + 8) text
+
 -- the text once the accesses that wait have the data that they get of some words of memory
-unfoldable pub text_by : List ℕ → List Waiting → List ℕ → (ℕ → ℕ) → List ℕ
-text_by text [] pen bus = text ++ pen
-text_by text (w ∷ waiting) pen bus =
-    text_by (text ++ w.before.items ++ hex8 (datum_by w.access bus)) waiting pen (bus_after w.access bus)
+unfoldable pub text_by : List ℕ → List Waiting → (ℕ → ℕ) → List ℕ
+text_by text [] bus = text
+text_by text (w ∷ waiting) bus =
+    text_by (with_eight text w.at (hex8 (datum_by w.access bus))) waiting (bus_after w.access bus)
 
 -- that of a sheet
 abbrev pub written_by : Sheet → (ℕ → ℕ) → List ℕ
-written_by s = text_by s.text.items s.waiting.items s.pen.items
+written_by s = text_by s.text.items s.waiting.items
 
 -- the accesses that wait on it
 abbrev pub waiting_of : Sheet → List Access
@@ -32,9 +36,15 @@ abbrev pub AreWords : List Access → Type 0
 AreWords [] = Unit {0}
 AreWords (a ∷ accesses) = IsWordAccess a × AreWords accesses
 
--- those that wait are
-abbrev pub AreMade : Sheet → Type 0
-AreMade s = AreWords (waiting_of s)
+-- in a text of some length there is room for the datum of each access that waits
+abbrev pub HaveRoom : ℕ → List Waiting → Type 0
+HaveRoom len [] = Unit {0}
+HaveRoom len (w ∷ waiting) = (w.at + 8 ≤ len) × HaveRoom len waiting
+
+-- those that wait on a sheet can be made, and their data have room
+pub record AreMade (s : Sheet) : Type 0 where
+  pub words : AreWords (waiting_of s)
+  pub room : HaveRoom (length s.text.items) s.waiting.items
 
 -- some data are those of accesses, the first of the oldest, at the words of memory that it meets
 abbrev pub AreData : List ℕ → List Access → (ℕ → ℕ) → Type 0

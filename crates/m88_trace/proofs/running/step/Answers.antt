@@ -17,9 +17,6 @@ returns-clause-taken c = ok_always c.note.result c.in_ok-happened.ensures.taken
 pub returns-clause-lighter : goal.returns-clause-lighter
 returns-clause-lighter c = ok_always c.note.result c.in_ok-happened.ensures.lighter
 
-pub returns-clause-made : goal.returns-clause-made
-returns-clause-made c = ok_on c.note.result c.note.ensures.made (λ made. made c.requires.made)
-
 pub returns-clause-traced : goal.returns-clause-traced
 returns-clause-traced c = ok_on c.note.result c.note.ensures.traced (λ noted p named m is at traced.
     let w = c.args.walk.now in

@@ -10,7 +10,7 @@ use Rattle.m88_isa.proofs.ImageProgram.{program_of_image}
 use Rattle.m88_mem.specs.Marks.{absent_in}
 use Rattle.m88_board.specs.Board.{BoardView, local_of}
 use Rattle.m88_board.specs.Moves.{IsAt}
-use Rattle.m88_trace.proofs.Runs.{ok_said, over_alone, over_empty, over_seen, over_text, runs_first, runs_next}
+use Rattle.m88_trace.proofs.Runs.{over_alone, over_empty, over_seen, over_text, runs_first, runs_next}
 use Rattle.m88_trace.proofs.running.trace_run.Goals as goal
 
 pub loop-walk-init : goal.loop-walk-init
@@ -54,7 +54,7 @@ loop-walk-preserved c =
     }
 
 pub returns-clause-run : goal.returns-clause-run
-returns-clause-run c = ok_said c.finish.result _ c.finish.ensures (λ text said p of clear.
+returns-clause-run c = λ p of clear.
     let inv = c.loop-walk.invariant in
     let runs = inv.runs p of clear in
     let named = absent_in c.args.absent.now in
@@ -66,11 +66,11 @@ returns-clause-run c = ok_said c.finish.result _ c.finish.ensures (λ text said 
     record {
       events = c.loop-walk.walk.taken;
       run = record { here = over; first = runs.first };
-      value = said _ (over_empty p c.args.limit m c.loop-walk.sheet runs.traced over) ∙ runs.traced.text;
-    })
+      value = c.finish.ensures _ (over_empty p c.args.limit m c.loop-walk.sheet runs.traced over) ∙ runs.traced.text;
+    }
 
 pub returns-clause-alone : goal.returns-clause-alone
-returns-clause-alone c = ok_said c.finish.result _ c.finish.ensures (λ text said p of clear.
+returns-clause-alone c = λ p of clear.
     let inv = c.loop-walk.invariant in
     let runs = inv.runs p of clear in
     let named = absent_in c.args.absent.now in
@@ -79,11 +79,11 @@ returns-clause-alone c = ok_said c.finish.result _ c.finish.ensures (λ text sai
     over_seen p named c.args.limit m c.board.result.now c.loop-walk.walk.board.now c.is_over.result c.board.ensures
     inv.limit runs.at
     (c.is_over.ensures.moment p named m) ∙ c.loop-walk-test.false in
-    said _ (over_empty p c.args.limit m c.loop-walk.sheet runs.traced over) ∙ runs.traced.text
-    ∙ over_alone p c.args.limit m (subst (λ (n : ℕ). HasPast p n m) inv.limit runs.at.past) over)
+    c.finish.ensures _ (over_empty p c.args.limit m c.loop-walk.sheet runs.traced over) ∙ runs.traced.text
+    ∙ over_alone p c.args.limit m (subst (λ (n : ℕ). HasPast p n m) inv.limit runs.at.past) over
 
 pub returns-clause-checked : goal.returns-clause-checked
-returns-clause-checked c = ok_said c.finish.result _ c.finish.ensures (λ text said p of clear.
+returns-clause-checked c = λ p of clear.
     let inv = c.loop-walk.invariant in
     let runs = inv.runs p of clear in
     let named = absent_in c.args.absent.now in
@@ -93,9 +93,9 @@ returns-clause-checked c = ok_said c.finish.result _ c.finish.ensures (λ text s
     inv.limit runs.at
     (c.is_over.ensures.moment p named m) ∙ c.loop-walk-test.false in (
       m.retired + one_if m.ended,
-      over_text p c.args.limit m text.items (subst (λ (n : ℕ). HasPast p n m) inv.limit runs.at.past)
-          (said _ (over_empty p c.args.limit m c.loop-walk.sheet runs.traced over) ∙ runs.traced.text),
-    ))
+      over_text p c.args.limit m c.finish.result.items (subst (λ (n : ℕ). HasPast p n m) inv.limit runs.at.past)
+          (c.finish.ensures _ (over_empty p c.args.limit m c.loop-walk.sheet runs.traced over) ∙ runs.traced.text),
+    )
 
 pub step-requires-clause-going : goal.step-requires-clause-going
 step-requires-clause-going c =

@@ -14,14 +14,14 @@ pub word-requires-clause-word : goal.word-requires-clause-word
 word-requires-clause-word c =
     let s = c.args.self.now in
     let below : c.args.index < length s.waiting.items = omega arith in
-    (made_at (waiting_of s) c.args.index c.index.result.now.access c.requires
+    (made_at (waiting_of s) c.args.index c.index.result.now.access c.requires.words
     (index_at s.waiting.items c.args.index c.index.result.now below c.index.ensures)).0
 
 pub datum-requires : goal.datum-requires
 datum-requires c =
     let s = c.args.self.now in
     let below : c.args.index < length s.waiting.items = omega arith in
-    (made_at (waiting_of s) c.args.index c.index.result.now.access c.requires
+    (made_at (waiting_of s) c.args.index c.index.result.now.access c.requires.words
     (index_at s.waiting.items c.args.index c.index.result.now below c.index.ensures)).1
 
 pub returns : goal.returns

@@ -15,11 +15,11 @@ returns-in-Next-clause-traced c = ok_on c.note_issue.result c.note_issue.ensures
     (noted p named limit m is past made found.1 (says ∙ ap (λ (l : Letter). said_at p named limit l m) found.0) traced))
 
 pub returns-in-Data-clause-traced : goal.returns-in-Data-clause-traced
-returns-in-Data-clause-traced c = ok_on c.note_answer.result c.note_answer.ensures.traced
-    (λ noted p named limit letter m is past made seen says traced.
+returns-in-Data-clause-traced c = λ p named limit letter m is past made seen says traced.
     let found = data_sight p named limit letter m c.args.sight.now c.in-Data.told c.in-Data.is seen in
     subst (λ (l : Letter). IsTraced p (after_letter p named limit l m) c.note_answer.new.self) (sym found.0)
-    (noted p named limit m past made found.1 (says ∙ ap (λ (l : Letter). said_at p named limit l m) found.0) traced))
+    (c.note_answer.ensures.traced p named limit m past made found.1
+    (says ∙ ap (λ (l : Letter). said_at p named limit l m) found.0) traced)
 
 pub returns-in-Nothing-clause-traced : goal.returns-in-Nothing-clause-traced
 returns-in-Nothing-clause-traced c = λ p named limit letter m is past made seen says traced.

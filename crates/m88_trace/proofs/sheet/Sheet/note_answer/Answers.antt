@@ -3,31 +3,23 @@ use Rattle.std.proofs.Common.{◌∷◌, [], sym, ◌∙◌}
 use Rattle.m88_event.specs.Timeline.{after_letter}
 use Rattle.m88_event.specs.declared.letter.Letter.TheVariants.{Answer}
 use Rattle.m88_trace.proofs.Noting.{answer_quiet, answered_note, faulted_note, traced_same}
-use Rattle.m88_trace.proofs.Writing.{ok_both}
 use Rattle.m88_trace.specs.Inside.Sheets.{three_of}
 use Rattle.m88_trace.proofs.sheet.Sheet.note_answer.Goals as goal
 
 pub returns-in-Answered-clause-traced : goal.returns-in-Answered-clause-traced
-returns-in-Answered-clause-traced c =
-    ok_both c.fill.result c.fill.ensures.text c.fill.ensures.waiting
-    (λ text waiting p named limit m past made are says traced.
+returns-in-Answered-clause-traced c = λ p named limit m past made are says traced.
     answered_note p named limit m c.args.self.now c.fill.new.self c.args.told.oldest (c.args.told.second
     ∷ c.args.told.third ∷ [])
-    (sym c.in-Answered.is ∙ says) are text waiting traced)
+    (sym c.in-Answered.is ∙ says) are c.fill.ensures.text c.fill.ensures.waiting traced
 
 pub returns-in-Faulted-clause-traced : goal.returns-in-Faulted-clause-traced
-returns-in-Faulted-clause-traced c =
-    ok_both c.fill_all.result c.fill_all.ensures.text c.fill_all.ensures.waiting
-    (λ text waiting p named limit m past made are says traced.
+returns-in-Faulted-clause-traced c = λ p named limit m past made are says traced.
     faulted_note p named limit m c.args.self.now c.fill_all.new.self c.in-Faulted.field-0 (three_of c.args.told) past
-    (sym c.in-Faulted.is ∙ says) are text waiting traced)
+    (sym c.in-Faulted.is ∙ says) are c.fill_all.ensures.text c.fill_all.ensures.waiting traced
 
-pub returns-in_default : goal.returns-in_default
-returns-in_default c = record {
-  traced = λ p named limit m past made are says traced.
-      traced_same p (after_letter p named limit Answer m) m c.args.self.now
-      (answer_quiet p named limit m (λ e. c.in_default.not-Answered (says ∙ sym e))
-      (λ was e. c.in_default.not-Faulted was (says ∙ sym e)))
-      traced;
-  made = λ are. are;
-}
+pub returns-in_default-clause-traced : goal.returns-in_default-clause-traced
+returns-in_default-clause-traced c = λ p named limit m past made are says traced.
+    traced_same p (after_letter p named limit Answer m) m c.args.self.now
+    (answer_quiet p named limit m (λ e. c.in_default.not-Answered (says ∙ sym e))
+    (λ was e. c.in_default.not-Faulted was (says ∙ sym e)))
+    traced

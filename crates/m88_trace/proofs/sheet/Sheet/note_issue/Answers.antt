@@ -29,13 +29,10 @@ returns-in-Ended-clause-traced c =
     ended_note p named limit m c.args.self.now c.end.new.self c.in-Ended.end is past (sym c.in-Ended.is ∙ says) text
     waiting traced)
 
-pub returns-in_default : goal.returns-in_default
-returns-in_default c = record {
-  traced = λ p named limit m is past made seen says traced.
-      traced_same p (after_letter p named limit Issue m) m c.args.self.now
-      (issue_quiet p named limit m (λ e. c.in_default.not-Issued (says ∙ sym e))
-      (λ byte e. c.in_default.not-Served byte (says ∙ sym e))
-      (λ end e. c.in_default.not-Ended end (says ∙ sym e)))
-      traced;
-  made = λ are. are;
-}
+pub returns-in_default-clause-traced : goal.returns-in_default-clause-traced
+returns-in_default-clause-traced c = λ p named limit m is past made seen says traced.
+    traced_same p (after_letter p named limit Issue m) m c.args.self.now
+    (issue_quiet p named limit m (λ e. c.in_default.not-Issued (says ∙ sym e))
+    (λ byte e. c.in_default.not-Served byte (says ∙ sym e))
+    (λ end e. c.in_default.not-Ended end (says ∙ sym e)))
+    traced

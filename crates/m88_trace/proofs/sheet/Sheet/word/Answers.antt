@@ -9,7 +9,7 @@ use Rattle.m88_trace.proofs.sheet.Sheet.word.Goals as goal
 pub word_after-word-requires-clause-made : goal.word_after-word-requires-clause-made
 word_after-word-requires-clause-made c =
     let s = c.args.self.now in
-    made_at (waiting_of s) c.loop-waiting.waiting-index c.waiting-item.result.access c.requires.made
+    made_at (waiting_of s) c.loop-waiting.waiting-index c.waiting-item.result.access c.requires.made.words
     (item_at s.waiting.items c.deref.result.now c.args.count c.loop-waiting.waiting-index c.waiting-item.result
     c.deref.ensures.value
     c.loop-waiting-test.true c.requires.count c.waiting-item.is)
