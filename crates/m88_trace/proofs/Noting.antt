@@ -27,20 +27,18 @@ use Rattle.m88_isa.specs.History.{bus_at, pending_at, transaction_count, transac
 use Rattle.m88_isa.specs.Machine.{IsProgram, Program, Stop, Turn, changes, opening, outputs, state, stops, turn_at}
 use Rattle.m88_isa.specs.declared.planned.Access.{Access}
 use Rattle.m88_isa.specs.declared.planned.Effect.{Effect}
+use Rattle.m88_isa.specs.declared.planned.Plan.TheVariants.{Go}
 use Rattle.m88_trace.proofs.Following.{doing_fits, same_line}
 use Rattle.m88_trace.proofs.History.{line_there, not_ended_at}
 use Rattle.m88_trace.proofs.Nexts.{choice_shown, not_over_bubble, not_over_bubble_served, words_at}
 use Rattle.m88_trace.proofs.Verdicts.{text_more}
 use Rattle.m88_trace.specs.Inside.Doings.{doing_line, doing_of}
-use Rattle.m88_trace.specs.Inside.Running.{IsNext, IsSight, IsTraced}
+use Rattle.m88_trace.specs.Inside.Running.{IsNext, IsTraced}
 use Rattle.m88_trace.specs.Inside.Sheets.{AreData, three_of, waiting_of, written_by}
 use Rattle.m88_trace.specs.Texts.{text_of}
 use Rattle.m88_trace.specs.Trace.{line_at, trace_line, word_at}
 use Rattle.m88_trace.specs.declared.doing.Doing.TheVariants.{Goes, Outputs}
 use Rattle.m88_trace.specs.declared.sheet.Sheet.{Sheet}
-use Rattle.m88_trace.specs.declared.sheet.Data.{Data as Three}
-use Rattle.m88_trace.specs.declared.sight.Sight.{Sight}
-use Rattle.m88_trace.specs.declared.sight.Sight.TheVariants.{Next, Data, Nothing}
 use Rattle.m88_trace.specs.declared.upcoming.Upcoming.{Upcoming}
 
 -- what the trace at a moment depends on
@@ -357,25 +355,25 @@ pub issued_note : (p : Program) (named : ℕ → Bool) (limit : ℕ) (m : Moment
     DoneWereMade p m →
     IsNext p named limit m next →
     happened.Issued ≡ said_at p named limit Issue m →
-    ((bus : ℕ → ℕ) (effect : Effect) → next.effect ≡ Some effect
+    ((bus : ℕ → ℕ) (effect : Effect) → next.plan ≡ Go effect
     → written_by new bus ≡ written_by old bus ++ doing_line next.number next.at next.word (Goes effect)
     (bus_after_all (waiting_of old) bus)) →
-    ((effect : Effect) → next.effect ≡ Some effect → waiting_of new ≡ waiting_of old ++ listed effect.accesses) →
+    ((effect : Effect) → next.plan ≡ Go effect → waiting_of new ≡ waiting_of old ++ listed effect.accesses) →
     IsTraced p m old →
     IsTraced p (after_letter p named limit Issue m) new
 unfolding said_at
 issued_note p named limit m old new next is past made seen says writes waits traced =
     let found = said_issued (choice_at p named limit Issue m) (record_at p named limit m) says in
     let change = found.0 in
-    let effect = seen.effect change found.1 in
+    let plan = seen.plan change found.1 in
     let straight = not_over_bubble p named limit m change found.1 in
     let fit : Fits p m (issues change) = subst (λ (c : Choice). Fits p m c) found.1 (fits p named limit Issue m) in
     let unit : TurnFits (changes change) = subst (λ (t : Turn). TurnFits t) fit.0 (doing_fits p m.retired is) in
     traced_step p limit m (after_letter p named limit Issue m) old new next.number next.at next.word (changes change) is
     past made fit.0 fit.1
     (told_by p named limit Issue m (issues change) found.1) seen.number (seen.place straight) (seen.word straight)
-    (λ bus. writes bus (recorded_change change) effect)
-    (waits (recorded_change change) effect ∙ ap (λ (xs : List Access). waiting_of old ++ xs)
+    (λ bus. writes bus (recorded_change change) plan)
+    (waits (recorded_change change) plan ∙ ap (λ (xs : List Access). waiting_of old ++ xs)
     (listed_recorded change.touches unit.short)) traced
 
 -- a byte was put out
@@ -485,31 +483,6 @@ evicted_tells p named limit m = refl
 pub evicted_note : (p : Program) (named : ℕ → Bool) (limit : ℕ) (m : Moment) (s : Sheet) → IsTraced p m s →
     IsTraced p (after_letter p named limit Evict m) s
 evicted_note p named limit m s = traced_same p (after_letter p named limit Evict m) m s (evicted_tells p named limit m)
-
--- what was seen before tells which letter it is
-pub next_sight : (p : Program) (named : ℕ → Bool) (limit : ℕ) (letter : Letter) (m : Moment) (sight : Sight)
-    (next : Upcoming) → sight ≡ Next next →
-    IsSight p named limit letter m sight →
-    (letter ≡ Issue) × IsNext p named limit m next
-next_sight p named limit Issue m sight next e is = (refl, subst (IsSight p named limit Issue m) e is)
-next_sight p named limit Answer m sight next e is = absurd (subst (IsSight p named limit Answer m) e is)
-next_sight p named limit Evict m sight next e is = absurd (subst (IsSight p named limit Evict m) e is)
-
-pub data_sight : (p : Program) (named : ℕ → Bool) (limit : ℕ) (letter : Letter) (m : Moment) (sight : Sight)
-    (values : Three) → sight ≡ Data values →
-    IsSight p named limit letter m sight →
-    (letter ≡ Answer) × AreData (three_of values) (pending_at p m.retired m.done) (bus_at p m.retired m.done)
-data_sight p named limit Issue m sight values e is = absurd (subst (IsSight p named limit Issue m) e is)
-data_sight p named limit Answer m sight values e is = (refl, subst (IsSight p named limit Answer m) e is)
-data_sight p named limit Evict m sight values e is = absurd (subst (IsSight p named limit Evict m) e is)
-
-pub nothing_sight : (p : Program) (named : ℕ → Bool) (limit : ℕ) (letter : Letter) (m : Moment) (sight : Sight) →
-    sight ≡ Nothing →
-    IsSight p named limit letter m sight →
-    letter ≡ Evict
-nothing_sight p named limit Issue m sight e is = absurd (subst (IsSight p named limit Issue m) e is)
-nothing_sight p named limit Answer m sight e is = absurd (subst (IsSight p named limit Answer m) e is)
-nothing_sight p named limit Evict m sight e is = refl
 
 -- data by the words that a board has now
 pub data_at : (p : Program) (named : ℕ → Bool) (m : Moment) (b : BoardView) (s : Sheet) (values : List ℕ) →

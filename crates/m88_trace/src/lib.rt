@@ -15,7 +15,7 @@ mod follower;
 // the trace of a run
 mod running;
 mod sheet;
-mod sight;
+mod telling;
 #[cfg(test)]
 mod tests;
 mod upcoming;

@@ -17,9 +17,10 @@ ghost use Rattle.m88_trace.specs.Texts.{IsText};
 ghost use Rattle.m88_trace.specs.Trace.{IsRunTrace, trace_line, trace_of};
 
 use crate::sheet::Sheet;
-use crate::sight::seen_before;
+use crate::upcoming::upcoming_on;
 use m88_base::{Absent, Image, NoMemory};
 use m88_board::{Board, Schedule, Unwatched, Walk};
+use m88_event::Letter;
 use std::alloc::Global;
 
 /// The trace of a run of the program of an image on a board: the pages that are named are absent at first, at most
@@ -76,7 +77,21 @@ fn step(walk: &mut Walk, sheet: &mut Sheet) -> Result<(), NoMemory>
     ensures schedule { walk.new.schedule ≡ walk.old.schedule }
     ensures lender { walk.new.board.ghost_name ≡ walk.old.board.ghost_name }
 {
-    let before = seen_before(walk.letter(), walk.board(), sheet);
-    let happened = walk.next(&mut Unwatched)?;
-    sheet.note(&before, happened)
+    match walk.letter() {
+        Letter::Issue => {
+            let next = upcoming_on(walk.board());
+            let happened = walk.next(&mut Unwatched)?;
+            sheet.note_issue(&next, happened)
+        }
+        Letter::Answer => {
+            let told = sheet.data(walk.board());
+            let happened = walk.next(&mut Unwatched)?;
+            sheet.note_answer(told, happened);
+            Ok(())
+        }
+        Letter::Evict => {
+            walk.next(&mut Unwatched)?;
+            Ok(())
+        }
+    }
 }

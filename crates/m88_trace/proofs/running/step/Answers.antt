@@ -1,29 +1,54 @@
 -- What was seen, the event, and what it adds.
-use Rattle.std.proofs.Common.{sym, subst}
+use Rattle.std.proofs.Common.{◌≡◌, ap, sym, subst, ◌∙◌}
 use Rattle.m88_board.specs.Board.{BoardView}
 use Rattle.m88_board.specs.Moves.{IsAt}
 use Rattle.m88_event.specs.Letters.{letter_at}
+use Rattle.m88_event.specs.Timeline.{after_letter, said_at}
 use Rattle.m88_event.specs.declared.letter.Letter.{Letter}
+use Rattle.m88_event.specs.declared.letter.Letter.TheVariants.{Issue, Answer, Evict}
+use Rattle.m88_trace.proofs.Noting.{data_at, evicted_note, few_wait}
 use Rattle.m88_trace.proofs.Writing.{ok_always, ok_on}
-use Rattle.m88_trace.specs.Inside.Running.{IsSight}
+use Rattle.m88_trace.specs.Inside.Running.{IsNext, IsTraced}
+use Rattle.m88_trace.specs.Inside.Sheets.{three_of}
 use Rattle.m88_trace.proofs.running.step.Goals as goal
 
-pub returns-clause-at : goal.returns-clause-at
-returns-clause-at c = ok_always c.note.result (λ p named m at. (c.in_ok-happened.ensures.ok p named m at).at)
+pub returns-in_ok-happened-in-Issue-clause-at : goal.returns-in_ok-happened-in-Issue-clause-at
+returns-in_ok-happened-in-Issue-clause-at c =
+    ok_always c.note_issue.result (λ p named m at. (c.in_ok-happened-in-Issue.ensures.ok p named m at).at)
 
-pub returns-clause-taken : goal.returns-clause-taken
-returns-clause-taken c = ok_always c.note.result c.in_ok-happened.ensures.taken
+pub returns-in_ok-happened-in-Issue-clause-taken : goal.returns-in_ok-happened-in-Issue-clause-taken
+returns-in_ok-happened-in-Issue-clause-taken c = ok_always c.note_issue.result c.in_ok-happened-in-Issue.ensures.taken
 
-pub returns-clause-lighter : goal.returns-clause-lighter
-returns-clause-lighter c = ok_always c.note.result c.in_ok-happened.ensures.lighter
+pub returns-in_ok-happened-in-Issue-clause-lighter : goal.returns-in_ok-happened-in-Issue-clause-lighter
+returns-in_ok-happened-in-Issue-clause-lighter c = ok_always c.note_issue.result c.in_ok-happened-in-Issue.ensures.lighter
 
-pub returns-clause-traced : goal.returns-clause-traced
-returns-clause-traced c = ok_on c.note.result c.note.ensures.traced (λ noted p named m is at traced.
+pub returns-in_ok-happened-in-Issue-clause-traced : goal.returns-in_ok-happened-in-Issue-clause-traced
+returns-in_ok-happened-in-Issue-clause-traced c = ok_on c.note_issue.result c.note_issue.ensures.traced (λ noted p named m is at traced.
     let w = c.args.walk.now in
+    let limit = w.board.now.limit in
+    let letter : letter_at w.schedule.now w.taken ≡ Issue = sym c.letter.ensures ∙ c.in-Issue.is in
     let there = subst (λ (b : BoardView). IsAt p named m b) (sym c.board.ensures) at in
-    let seen = subst (λ (l : Letter). IsSight p named w.board.now.limit l m c.seen_before-before.result)
-    c.letter.ensures
-    (subst (λ (b : BoardView). IsSight p named b.limit c.letter.result m c.seen_before-before.result) c.board.ensures
-    (c.seen_before-before.ensures.seen p named m there traced)) in
-    noted p named w.board.now.limit (letter_at w.schedule.now w.taken) m is at.past at.within seen
-    (c.in_ok-happened.ensures.said p named m at) traced)
+    let seen = subst (λ (b : BoardView). IsNext p named b.limit m c.upcoming_on-next.result) c.board.ensures
+    (c.upcoming_on-next.ensures.next p named m there) in
+    subst (λ (l : Letter). IsTraced p (after_letter p named limit l m) c.note_issue.new.self) (sym letter)
+    (noted p named limit m is at.past at.within seen
+    (c.in_ok-happened-in-Issue.ensures.said p named m at ∙ ap (λ (l : Letter). said_at p named limit l m) letter) traced))
+
+pub returns-in_ok-happened-in-Answer-clause-traced : goal.returns-in_ok-happened-in-Answer-clause-traced
+returns-in_ok-happened-in-Answer-clause-traced c = λ p named m is at traced.
+    let w = c.args.walk.now in
+    let limit = w.board.now.limit in
+    let letter : letter_at w.schedule.now w.taken ≡ Answer = sym c.letter.ensures ∙ c.in-Answer.is in
+    let there = subst (λ (b : BoardView). IsAt p named m b) (sym c.board-in-Answer.ensures) at in
+    let told = data_at p named m c.board-in-Answer.result.now c.args.sheet.now (three_of c.data-told.result) there traced
+    (c.data-told.ensures (few_wait p limit m c.args.sheet.now at.past traced)) in
+    subst (λ (l : Letter). IsTraced p (after_letter p named limit l m) c.note_answer.new.self) (sym letter)
+    (c.note_answer.ensures.traced p named limit m at.past at.within told
+    (c.in_ok-happened-in-Answer.ensures.said p named m at ∙ ap (λ (l : Letter). said_at p named limit l m) letter) traced)
+
+pub returns-in_ok-next-in-Evict-clause-traced : goal.returns-in_ok-next-in-Evict-clause-traced
+returns-in_ok-next-in-Evict-clause-traced c = λ p named m is at traced.
+    let w = c.args.walk.now in
+    let letter : letter_at w.schedule.now w.taken ≡ Evict = sym c.letter.ensures ∙ c.in-Evict.is in
+    subst (λ (l : Letter). IsTraced p (after_letter p named w.board.now.limit l m) c.args.sheet.now) (sym letter)
+    (evicted_note p named w.board.now.limit m c.args.sheet.now traced)

@@ -25,18 +25,18 @@ returns-clause-next c = λ p named m at.
           ∙ word_is p b.memory.image c.candidate-at.result.addr c.fetched-word.result at.image
           (subst (λ (n : ℕ). n < 2 ^ 32) c.unwrap_or.ensures small) c.fetched-word.ensures.value
           ∙ ap (word_at p) (here ∙ pc_at p named m b at straight);
-      effect = λ change choice. c.effect.ensures.value p named m change at choice;
+      plan = λ change choice. c.plan_of.ensures.value p named m change at choice;
     }
 
-pub effect-requires-clause-aligned : goal.effect-requires-clause-aligned
-effect-requires-clause-aligned c =
+pub plan_of-requires-clause-aligned : goal.plan_of-requires-clause-aligned
+plan_of-requires-clause-aligned c =
     let b = c.args.board.now in
     let here : c.candidate-at.result.addr ≡ b.slots.nip.addr =
     ap (λ (s : Slot). s.addr) c.candidate-at.ensures.value ∙ ap (λ (u : Pointers). u.nip.addr) c.iunit.ensures.value in
     subst (λ (a : ℕ). a % 4 ≡ 0) here c.candidate-at.ensures.word
 
-pub effect-requires-clause-fetched : goal.effect-requires-clause-fetched
-effect-requires-clause-fetched c =
+pub plan_of-requires-clause-fetched : goal.plan_of-requires-clause-fetched
+plan_of-requires-clause-fetched c =
     let b = c.args.board.now in
     let here : c.candidate-at.result.addr ≡ b.slots.nip.addr =
     ap (λ (s : Slot). s.addr) c.candidate-at.ensures.value ∙ ap (λ (u : Pointers). u.nip.addr) c.iunit.ensures.value in

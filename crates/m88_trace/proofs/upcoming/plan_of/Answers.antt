@@ -1,11 +1,11 @@
 -- An instruction that is issued is the one of the word that was fetched.
-use Rattle.std.proofs.Common.{arith, subst, ◌≡◌}
+use Rattle.std.proofs.Common.{arith, subst, ◌≡◌, ◌∙◌}
 use Rattle.m88_ctrl.specs.ControlRegisters.{carry_of, mxm_of}
 use Rattle.m88_isa.specs.Effect.{meaning_of, plan_for, recorded_change}
 use Rattle.m88_isa.specs.declared.instr.Instr.{Instr}
 use Rattle.m88_isa.specs.declared.planned.Plan.TheVariants.{Go}
 use Rattle.m88_trace.proofs.Nexts.{shows_at, unfetched_none, word_of_shown}
-use Rattle.m88_trace.proofs.upcoming.effect.Goals as goal
+use Rattle.m88_trace.proofs.upcoming.plan_of.Goals as goal
 
 pub returns-in_default-clause-value : goal.returns-in_default-clause-value
 returns-in_default-clause-value c = λ p named m change at choice.
@@ -29,7 +29,7 @@ returns-in-Ok-clause-value c = λ p named m change at choice.
     c.in-Some.is
     c.requires.fetched in
     let same : shows.i ≡ c.in-Ok.instr = (let read = c.decode.ensures.only shows.i is in let said = c.in-Ok.is in cc) in
-    c.effect_of.ensures.value change
-    (subst (λ (i : Instr). plan_for (meaning_of i b.file.numbers (carry_of b.control) (mxm_of b.control)
+    c.planned.ensures.value
+    ∙ (subst (λ (i : Instr). plan_for (meaning_of i b.file.numbers (carry_of b.control) (mxm_of b.control)
     b.slots.nip.addr b.slots.fip.addr)
     ≡ Go (recorded_change change)) same shows.plans)
