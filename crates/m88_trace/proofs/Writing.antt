@@ -1,5 +1,5 @@
 -- What is written on a sheet.
-use Rattle.std.specs.Prelude.{ℕ, zero, suc, Bool, true, false, List, [], ◌∷◌, ◌++◌, Some, IfSome, OnOk, Result, Ok, Err, ◌≡◌, ◌≢◌, ◌≤◌, ◌<◌, ◌+◌, ◌-◌, ◌%◌, ◌==◌, drop, length, slice_get, slice_index_or, take, Vec}
+use Rattle.std.specs.Prelude.{ℕ, zero, suc, Bool, true, false, List, [], ◌∷◌, ◌++◌, Some, IfSome, OnOk, Result, Ok, Err, ◌≡◌, ◌≢◌, ◌≤◌, ◌<◌, ◌+◌, ◌-◌, ◌%◌, ◌==◌, drop, length, slice_get, slice_index_or, take, Vec, is_ok, if◌then◌else◌}
 use Rattle.std.specs.List.{remove}
 use Rattle.std.proofs.Common.{arith, append_assoc, get_or, length-take-le, refl, sym, ap, ap₂, subst, ◌∙◌}
 use Rattle.std.proofs.lemmas.List.{append-nil, drop-append-le, drop_all, length-append, length-drop, take-append-le, take_all, with_items_is}
@@ -452,3 +452,9 @@ item_at ws shown count k w same below within e =
 pub ok_always : {T E A : Type 0} (r : Result T E) → A → OnOk r A
 ok_always (Ok x) a = a
 ok_always (Err e) a = tt
+
+-- what an append leaves where it went well
+pub ok_items : {T E : Type 0} (r : Result T E) (new more old : List ℕ) → new ≡ (if is_ok r then more else old) →
+    OnOk r (new ≡ more)
+ok_items (Ok x) new more old e = e
+ok_items (Err x) new more old e = tt

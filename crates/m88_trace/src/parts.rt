@@ -1,6 +1,6 @@
 //! The parts of a trace's lines. Each call appends to a text, and where memory runs out, some of the part may be in it.
 
-ghost use Rattle.std.specs.Prelude.{◌≡◌, ◌%◌, ◌++◌, OnOk, codes};
+ghost use Rattle.std.specs.Prelude.{◌≡◌, ◌%◌, ◌<◌, ◌++◌, OnOk, codes, decimal};
 ghost use Rattle.m88_base.specs.Hex.{hex8, hex_digit};
 ghost use Rattle.m88_base.specs.Lines.{line_end};
 ghost use Rattle.m88_isa.specs.Memory.{IsWordAccess};
@@ -70,9 +70,19 @@ pub(crate) fn push_written(
     let Some((register, value)) = written else {
         return Ok(());
     };
-    text.extend_from_slice(b" r")?;
-    push_decimal(text, u64::from(register.number()))?;
+    push_register(text, register.number())?;
     push_word(text, value)
+}
+
+/// Appends the name of a register behind a space, at once.
+fn push_register(text: &mut Vec<u8>, number: u32) -> Result<(), AllocError>
+    requires { number < 32 }
+    ensures { OnOk result (text.new.items ≡ text.old.items ++ codes " r" ++ decimal number) }
+{
+    if number < 10 {
+        return text.extend_from_slice(&[b' ', b'r', last_digit(number)]);
+    }
+    text.extend_from_slice(&[b' ', b'r', last_digit(number / 10), last_digit(number % 10)])
 }
 
 /// Appends an access up to its datum.
