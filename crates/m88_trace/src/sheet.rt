@@ -32,7 +32,7 @@ pub struct Sheet {
 }
 
 /// The data of the accesses that wait, if three do at most: that of the oldest first. Where fewer wait, the rest are 0.
-#[derive(Clone, Copy, Debug)]
+#[derive(Clone, Copy, Default, Debug)]
 pub struct Data {
     pub oldest: u32,
     pub second: u32,
@@ -184,6 +184,9 @@ impl Sheet {
         ensures { length (waiting_of self.now) ≤ 3
             → AreData (three_of result) (waiting_of self.now) (bus_of board.now.memory) }
     {
+        if self.waiting.is_empty() {
+            return Data::default();
+        }
         Data {
             oldest: self.datum(board, 0),
             second: self.datum(board, 1),

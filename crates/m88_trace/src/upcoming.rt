@@ -62,25 +62,14 @@ fn plan_of(board: &Board, word: Option<u32>) -> Plan
         return Plan::Raise(INSTRUCTION_ACCESS);
     };
     match decode(word) {
-        Ok(instr) => planned(board, &instr),
+        Ok(instr) => plan(
+            &instr,
+            board.regfile().numbers(),
+            board.carry(),
+            board.ctrl().mxm(),
+            board.iunit().candidate().addr,
+            board.iunit().following().addr,
+        ),
         Err(BadWord) => Plan::Raise(UNIMPLEMENTED),
     }
-}
-
-/// What an instruction does by what the parts of a board show.
-fn planned(board: &Board, instr: &Instr) -> Plan
-    requires { IsValid instr.now }
-    ensures value { result ≡ plan_for (meaning_of instr.now board.now.file.numbers
-        (carry_of board.now.control) (mxm_of board.now.control)
-        board.now.slots.nip.addr board.now.slots.fip.addr) }
-    ensures made { MakesWords result }
-{
-    plan(
-        instr,
-        board.regfile().numbers(),
-        board.carry(),
-        board.ctrl().mxm(),
-        board.iunit().candidate().addr,
-        board.iunit().following().addr,
-    )
 }
