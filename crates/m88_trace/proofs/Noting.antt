@@ -34,7 +34,7 @@ use Rattle.m88_trace.proofs.Nexts.{choice_shown, not_over_bubble, not_over_bubbl
 use Rattle.m88_trace.proofs.Verdicts.{text_more}
 use Rattle.m88_trace.specs.Inside.Doings.{doing_line, doing_of}
 use Rattle.m88_trace.specs.Inside.Running.{IsNext, IsTraced}
-use Rattle.m88_trace.specs.Inside.Sheets.{AreData, three_of, waiting_of, written_by}
+use Rattle.m88_trace.specs.Inside.Sheets.{AreData, waiting_of, written_by}
 use Rattle.m88_trace.specs.Texts.{text_of}
 use Rattle.m88_trace.specs.Trace.{line_at, trace_line, word_at}
 use Rattle.m88_trace.specs.declared.doing.Doing.TheVariants.{Goes, Outputs}

@@ -1,6 +1,6 @@
 //! The parts of a trace's lines. Each call appends to a text, and where memory runs out, some of the part may be in it.
 
-ghost use Rattle.std.specs.Prelude.{◌≡◌, ◌%◌, ◌<◌, ◌++◌, OnOk, codes, decimal};
+ghost use Rattle.std.specs.Prelude.{◌≡◌, ◌%◌, ◌<◌, ◌++◌, OnOk, codes, decimal, if◌then◌else◌, ◌∷◌, []};
 ghost use Rattle.m88_base.specs.Hex.{hex8, hex_digit};
 ghost use Rattle.m88_base.specs.Lines.{line_end};
 ghost use Rattle.m88_isa.specs.Memory.{IsWordAccess};
@@ -85,15 +85,23 @@ fn push_register(text: &mut Vec<u8>, number: u32) -> Result<(), AllocError>
     text.extend_from_slice(&[b' ', b'r', last_digit(number / 10), last_digit(number % 10)])
 }
 
+/// The letter that says whether an access loads or stores.
+fn kind_of(access: &Access) -> u8
+    ensures { 32 ∷ result ∷ 32 ∷ [] ≡ (if access.now.write then codes " s " else codes " l ") }
+{
+    if access.write { b's' } else { b'l' }
+}
+
 /// Appends an access up to its datum.
 #[tactic(auto, unfolding(crate::specs::Lines::access_head))]
 pub(crate) fn push_access(text: &mut Vec<u8>, access: &Access) -> Result<(), AllocError>
     requires { IsWordAccess access.now }
     ensures { OnOk result (text.new.items ≡ text.old.items ++ access_head access.now) }
 {
-    text.extend_from_slice(if access.write { b" s" } else { b" l" })?;
-    push_word(text, access.addr)?;
-    text.extend_from_slice(&[b' ', last_digit(u32::from(access.en)), b' '])
+    let kind = kind_of(access);
+    let [a, b, c, d, e, f, g, h] = word_digits(access.addr);
+    let en = last_digit(u32::from(access.en));
+    text.extend_from_slice(&[b' ', kind, b' ', a, b, c, d, e, f, g, h, b' ', en, b' '])
 }
 
 /// Appends a byte that is put out.

@@ -1,0 +1,12 @@
+-- The parts stand behind one another.
+use Rattle.std.proofs.Common.{arith, refl, ◌≡◌, ◌%◌, ◌∙◌}
+use Rattle.m88_trace.proofs.Writing.{ok_items, ok_on}
+use Rattle.m88_trace.specs.Lines.{access_head}
+use Rattle.m88_trace.proofs.parts.push_access.Goals as goal
+
+pub returns : goal.returns
+unfolding access_head
+returns c =
+    let small : c.args.access.now.en % 16 ≡ c.args.access.now.en = omega arith in
+    ok_on c.extend_from_slice.result (ok_items c.extend_from_slice.result _ _ _ c.extend_from_slice.ensures.items)
+    (λ e. e ∙ rw (c.word_digits.ensures, c.last_digit-en.ensures, c.from.ensures, small, ← c.kind_of-kind.ensures) refl)
