@@ -1,5 +1,5 @@
--- What `page` writes: the report of a run whose memory stands a second time in a few frames before a store of pages, and
--- how often pages came in and went out (the format of paged runs, docs/FORMATS.md).
+-- What `page` writes: the report of a run whose memory stands a second time in a few frames before a store of pages,
+-- and how often pages came in and went out (the format of paged runs, docs/FORMATS.md).
 use Rattle.std.specs.Prelude.{ℕ, Bool, false, ◌≡◌, ◌++◌, List, codes}
 use Rattle.m88_event.specs.Run.{IsOutcome}
 use Rattle.m88_event.specs.declared.letter.Letter.{Letter}
@@ -34,6 +34,6 @@ pub record IsPagedText (source : List ℕ) (frames limit : ℕ) (absent : ℕ �
   pub paged : Paged
   pub comes : PagesTo source frames limit absent schedule paged
   pub only : (other : Paged) → PagesTo source frames limit absent schedule other → other ≡ paged
-  pub alone : (named : ℕ → Bool) (letters : List Letter) (other : Paged) → PagesTo source frames limit named letters other
-      → (other.ins ≡ paged.ins) × (other.outs ≡ paged.outs)
+  pub alone : (named : ℕ → Bool) (letters : List Letter) (other : Paged)
+      → PagesTo source frames limit named letters other → (other.ins ≡ paged.ins) × (other.outs ≡ paged.outs)
   pub is_text : text ≡ told_of_paged frames paged

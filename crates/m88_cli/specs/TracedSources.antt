@@ -1,6 +1,6 @@
--- An input of `check`: a source, and the lines of a trace behind its first line `trace`. Which such inputs are accepted,
--- and where and why any other is refused: that it has no line `trace` comes before every fault of the source, and these
--- before the first line that isn't the trace's. What `check` writes stands here too.
+-- An input of `check`: a source, and the lines of a trace behind its first line `trace`. Which such inputs are
+-- accepted, and where and why any other is refused: that it has no line `trace` comes before every fault of the source,
+-- and these before the first line that isn't the trace's. What `check` writes stands here too.
 use Rattle.std.specs.Prelude.{ℕ, false, ◌≡◌, ◌+◌, ◌⊎◌, List, codes}
 use Rattle.m88_base.specs.Parted.{IsParted, IsUnparted}
 use Rattle.m88_base.specs.Refusal.{Refusal}

@@ -14,8 +14,8 @@ pub record TracesTo (source : List ℕ) (limit : ℕ) (absent : ℕ → Bool) (s
   pub mode : program.mxm ≡ false
   pub is_trace : IsRunTrace program absent limit schedule text
 
--- it is that, it is the trace of the program up to the limit, and every run of the source with that limit has this trace,
--- whatever pages are absent and whatever the schedule is
+-- it is that, it is the trace of the program up to the limit, and every run of the source with that limit has this
+-- trace, whatever pages are absent and whatever the schedule is
 pub record IsTraceText (source : List ℕ) (limit : ℕ) (absent : ℕ → Bool) (schedule : List Letter) (text : List ℕ)
     : Type 0 where
   pub traces : TracesTo source limit absent schedule text

@@ -1,6 +1,6 @@
 -- What a watch is shown while a command is carried out: of `run`, `exec` and `soak`, and of a session with the monitor
--- the board after each event, and of other commands nothing; `share`, `emu`, `page` and `trace` run boards that no watch
--- is shown.
+-- the board after each event, and of other commands nothing; `share`, `emu`, `page` and `trace` run boards that no
+-- watch is shown.
 use Rattle.std.specs.Prelude.{ℕ, Bool, ◌≡◌, ◌⊎◌, List, [], Option}
 use Rattle.m88_isa.specs.Machine.{Program}
 use Rattle.m88_event.specs.Run.{IsRun, IsRunning, moment_after}
