@@ -26,7 +26,7 @@ pub(crate) struct Row {
 /// `or r2,r0,N` of N, and `or r3,r0,N`.
 pub(crate) const OR_R2: u32 = 0x5840_0000;
 
-const OR_R3: u32 = 0x5860_0000;
+pub(crate) const OR_R3: u32 = 0x5860_0000;
 
 /// `ld r2,r0,0x5000`.
 pub(crate) const LOAD: u32 = 0x1440_5000;

@@ -3,10 +3,10 @@
 
 ghost use Rattle.m88_mem.specs.Marks.{NamesPages};
 
-use crate::test_rows::{Came, DRAWN, ENDS, EVERY_EVENT, LOAD, OR_R2, Row, SHORT, Turn};
+use crate::test_rows::{Came, DRAWN, ENDS, EVERY_EVENT, LOAD, OR_R2, OR_R3, Row, SHORT, Turn};
 use crate::{ShareLetter, ShareSchedule, Switch, Tasks, Turned};
 use m88_base::{Absent, Image, ImageFault, NoMemory};
-use m88_board::{Board, Unwatched};
+use m88_board::{Board, Context, Unwatched};
 use m88_event::{End, Happened, Letter, Outcome, Schedule};
 use std::alloc::Global;
 use std::process::Abort;
@@ -196,6 +196,51 @@ fn answers_of_events(rt: HostRuntime) -> Result<(), ImageFault> {
     }
     assert!(rt; tasks.is_over());
     assert_eq!(rt; tasks.events(), 8);
+    Ok(())
+}
+
+#[test]
+fn programs_change_places_by_hand(rt: HostRuntime) -> Result<(), ImageFault> {
+    let images = images_of(
+        rt.alloc(),
+        &[&[OR_R2 + 1, OR_R3 + 2], &[OR_R2 + 3, OR_R3 + 4]],
+    )?;
+    let [first, second] = images.as_slice() else {
+        return Err(ImageFault::Memory);
+    };
+    let Ok(mut board) = Board::new(rt.alloc(), first, &Absent::None, 2, false) else {
+        return Err(ImageFault::Memory);
+    };
+    let Ok(mut context) = Context::new(rt.alloc(), second, &Absent::None, 2, false) else {
+        return Err(ImageFault::Memory);
+    };
+    assert!(rt; board.event(Letter::Issue) == Ok(Happened::Issued));
+    assert!(rt; board.event(Letter::Answer) == Ok(Happened::Idle));
+    assert!(rt; board.event(Letter::Issue) == Ok(Happened::Issued));
+    let Ok(record) = board.interrupt(&mut context) else {
+        return Err(ImageFault::Memory);
+    };
+    assert_eq!(rt; record.event, 4);
+    assert_eq!(rt; record.epsr, 0x3F8);
+    assert_eq!(rt; record.sxip, 0x1006);
+    assert_eq!(rt; record.snip, 0x100B);
+    assert_eq!(rt; record.sfip, 0x100F);
+    assert_eq!(rt; record.ssbr, 0);
+    assert_eq!(rt; context.saved.snip, 0x100B);
+    for (letter, did) in [
+        (Letter::Issue, Happened::Issued),
+        (Letter::Answer, Happened::Idle),
+        (Letter::Issue, Happened::Issued),
+    ] {
+        if board.events() < 100 {
+            assert!(rt; board.event(letter) == Ok(did));
+        }
+    }
+    let (Ok(ran), Ok(waited)) = (board.outcome(), context.outcome()) else {
+        return Err(ImageFault::Memory);
+    };
+    expect_came(&rt, &waited, &(0, 0, [2, 1, 2, 3, 0, 0]));
+    expect_came(&rt, &ran, &(0, 0, [2, 3, 4, 3, 0, 0]));
     Ok(())
 }
 
