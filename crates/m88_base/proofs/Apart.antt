@@ -2,7 +2,7 @@
 use Rattle.std.proofs.Common.{◌≡◌, ℕ, ◌+◌, ◌<◌, ◌≤◌, List, [], ◌∷◌, ◌++◌, length, refl, arith}
 use Rattle.std.specs.Prelude.{None}
 use Rattle.m88_base.specs.Placed.{Placed, byte_among, AreApart}
-use Rattle.m88_base.specs.Placing.{next_start}
+use Rattle.m88_base.specs.Inside.Placing.{next_start}
 use Rattle.m88_base.proofs.Lookup.{byte_in_below, byte_in_above}
 
 pub next_start-append : (from : ℕ) (xs ys : List Placed) → next_start from (xs ++ ys) ≡ next_start (next_start from xs) ys

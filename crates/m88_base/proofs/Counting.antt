@@ -10,7 +10,7 @@ use Rattle.std.proofs.Math.ListN.{get_or-append}
 use Rattle.m88_base.specs.Placed.{Placed, AreApart}
 use Rattle.m88_base.proofs.Cuts.{starts_rise, apart_from_first, apart_drop}
 use Rattle.m88_base.proofs.InBlocks.{all_runs-append, around, length-take_runs, within_all, above_in}
-use Rattle.m88_base.specs.Blocks.{all_runs, first_start, AreFilled, CountsTo, IsCounted, IsPlaceInBlocks}
+use Rattle.m88_base.specs.Inside.Blocks.{all_runs, first_start, AreFilled, CountsTo, IsCounted, IsPlaceInBlocks}
 
 -- no fewer runs are ahead of a later block
 pub ahead_grows : (bs : List (List Placed)) (i j : ℕ) → i ≤ j → length (all_runs (take i bs)) ≤ length (all_runs (take j bs))

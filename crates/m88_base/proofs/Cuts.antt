@@ -6,7 +6,7 @@ use Rattle.std.proofs.lemmas.Option.{slice_get-get_or}
 use Rattle.std.proofs.lemmas.List.{take-append-drop, get_or-take, length-drop, length-take}
 use Rattle.m88_base.specs.Found.{IsFree, IsLeastTaken, IsPart}
 use Rattle.m88_base.specs.Placed.{Placed, byte_in, byte_among, AreApart}
-use Rattle.m88_base.specs.Placing.{next_start}
+use Rattle.m88_base.specs.Inside.Placing.{next_start}
 use Rattle.m88_base.proofs.Lookup.{option_or-none, byte_in_at, byte_among-append}
 use Rattle.m88_base.proofs.Apart.{apart_lower, next_start-append, apart_front, apart_back, none_below, none_above}
 

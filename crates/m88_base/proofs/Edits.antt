@@ -4,7 +4,7 @@ use Rattle.std.specs.Prelude.{insert, remove}
 use Rattle.std.proofs.Math.Seq.{drop-cons, drop-nil, take-append_seam}
 use Rattle.std.proofs.lemmas.List.{take-append-drop, set_split, length-take, get_or-set_other}
 use Rattle.m88_base.specs.Placed.{Placed, AreApart}
-use Rattle.m88_base.specs.Placing.{BeginsAt, next_start, Places}
+use Rattle.m88_base.specs.Inside.Placing.{BeginsAt, next_start, Places}
 use Rattle.m88_base.proofs.Cuts.{cut_at, apart_take, next_start-take}
 use Rattle.m88_base.proofs.Placing.{places_alone, places_behind, places_ahead, places_across}
 

@@ -7,10 +7,10 @@ use Rattle.std.proofs.lemmas.List.Edits.{insert-append_left, insert-append_right
 use Rattle.std.proofs.lemmas.List.Elements.{All-append}
 use Rattle.std.proofs.Math.ListN.{get_or-append}
 use Rattle.m88_base.specs.Placed.{Placed, AreApart}
-use Rattle.m88_base.specs.Placing.{next_start}
+use Rattle.m88_base.specs.Inside.Placing.{next_start}
 use Rattle.m88_base.proofs.Apart.{apart_lower, apart_front, apart_back}
 use Rattle.m88_base.proofs.Cuts.{apart_drop}
-use Rattle.m88_base.specs.Blocks.{all_runs, IsPlaceInBlocks}
+use Rattle.m88_base.specs.Inside.Blocks.{all_runs, IsPlaceInBlocks}
 
 pub all_runs-append : (xs ys : List (List Placed)) → all_runs (xs ++ ys) ≡ all_runs xs ++ all_runs ys
 all_runs-append [] ys = refl

@@ -2,7 +2,7 @@
 use Rattle.std.proofs.Common.{◌≡◌, ℕ, suc, ◌<◌, ◌≤◌, Bool, true, false, cond, not, ◌&&◌, ◌==◌, List, [], ◌∷◌, ◌++◌, length, take, drop, refl, sym, ap, ◌∙◌, arith}
 use Rattle.std.specs.List.{prefix_len}
 use Rattle.m88_base.specs.Lines.{lines_of, begins_with_lf, behind_line, on_first_line}
-use Rattle.m88_base.specs.LineEnd.{without_cr}
+use Rattle.m88_base.specs.Inside.LineEnd.{without_cr}
 use Rattle.m88_base.proofs.Splitting.{len_to, len_to_is}
 
 abbrev pub is_inner : ℕ → Bool
@@ -92,6 +92,15 @@ pub last_cr : (front : List ℕ) (b : ℕ) → without_cr (front ++ b ∷ []) �
 last_cr [] b = refl
 last_cr (a ∷ []) b = pushed a [] (b ∷ []) (b == 13)
 last_cr (a ∷ c ∷ front) b = ap (λ (xs : List ℕ). let ys : List ℕ = a ∷ xs in ys) (last_cr (c ∷ front) b) ∙ pushed a (c ∷ front) ((c ∷ front) ++ b ∷ []) (b == 13)
+
+-- a line with a line end, by its last byte
+pub ends_last : (bs front : List ℕ) (b c : ℕ) (after : List ℕ) → drop (prefix_len is_inner bs) bs ≡ c ∷ after
+    → take (prefix_len is_inner bs) bs ≡ front ++ b ∷ []
+    → lines_of bs ≡ cond (b == 13) front (front ++ b ∷ []) ∷ lines_of after
+ends_last bs front b c after h e =
+    ends_line bs c after h
+    ∙ ap (λ (xs : List ℕ). let ls : List (List ℕ) = without_cr xs ∷ lines_of after in ls) e
+    ∙ ap (λ (xs : List ℕ). let ls : List (List ℕ) = xs ∷ lines_of after in ls) (last_cr front b)
 
 pub line_ends : (rest line after : List ℕ) (n : ℕ) → n ≡ prefix_len is_inner rest → line ≡ take n rest → after ≡ drop n rest → 1 ≤ length after
     → lines_of rest ≡ without_cr line ∷ lines_of (drop 1 after)

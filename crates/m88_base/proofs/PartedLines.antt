@@ -8,7 +8,7 @@ use Rattle.std.proofs.lemmas.List.Elements.{All-head, All-nil, All-push, All-tai
 use Rattle.std.proofs.Math.Seq.{take-append_seam}
 use Rattle.m88_base.specs.Lines.{begins_with_lf, behind_line, lines_of, on_first_line}
 use Rattle.m88_base.specs.Parted.{IsParted, IsUnparted, LacksLine, behind_lines}
-use Rattle.m88_base.specs.LineEnd.{without_cr}
+use Rattle.m88_base.specs.Inside.LineEnd.{without_cr}
 use Rattle.m88_base.proofs.Decided.{same_text}
 use Rattle.m88_base.proofs.Lines.{and_false, front_by, is_inner, line_ends, none_behind, source_ends, stands_behind}
 

@@ -4,7 +4,7 @@ use Rattle.std.specs.Prelude.{None, Option, slice_get}
 use Rattle.std.proofs.lemmas.List.Sums.{sum_by-append, sum_by-cons}
 use Rattle.m88_base.specs.Found.{PutsBytes}
 use Rattle.m88_base.specs.Placed.{Placed, byte_in, byte_among, count_among, AreApart}
-use Rattle.m88_base.specs.Placing.{next_start, Places}
+use Rattle.m88_base.specs.Inside.Placing.{next_start, Places}
 use Rattle.m88_base.proofs.Lookup.{option_or-none, option_or_assoc, byte_in_below, byte_in_above, byte_in_from, byte_in-join, byte_among-append}
 use Rattle.m88_base.proofs.Apart.{next_start-append, apart_lower, apart_front, apart_back, apart_join, none_below, none_above}
 

@@ -1,12 +1,12 @@
+-- What contracts cite: registers, where bytes come from and go to, parts of texts, and the image of a program; Inside is
+-- for private contracts.
 pub mod Reg
 pub mod RegisterSet
 pub mod Triple
 pub mod Slot
 pub mod Name
-pub mod Padded
 pub mod Cut
 pub mod Lines
-pub mod LineEnd
 pub mod Parted
 pub mod Numerals
 pub mod Hex
@@ -19,7 +19,6 @@ pub mod OneVerdict
 pub mod Memory
 pub mod Found
 pub mod Placed
-pub mod Placing
-pub mod Blocks
 pub mod Image
 pub mod Pages
+pub mod Inside

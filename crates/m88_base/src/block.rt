@@ -1,6 +1,6 @@
 //! A few runs in a row.
 ghost use Rattle.std.specs.Prelude.{◌≡◌, ◌+◌, ◌/◌, ◌<◌, ◌≤◌, [], ◌∷◌, ◌++◌, All, leb, take, drop, length, insert, remove, slice_index_or, slice_set, IfOk, OnOk, OnErr};
-ghost use Rattle.m88_base.specs.Blocks.{first_start};
+ghost use Rattle.m88_base.specs.Inside.Blocks.{first_start};
 ghost use Rattle.m88_base.specs.Placed.{AreApart};
 
 use crate::segment::Segment;

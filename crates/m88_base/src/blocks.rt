@@ -1,7 +1,7 @@
 //! Runs in a row, in blocks, so that few others move when one more is put between them.
 ghost use Rattle.std.specs.Prelude.{◌≡◌, ◌+◌, ◌^◌, ◌<◌, ◌≤◌, [], ◌∷◌, All, take, drop, length, insert, remove, slice_index_or, slice_set, IfOk, OnOk, OnErr};
 ghost use Rattle.m88_base.specs.Placed.{AreApart};
-ghost use Rattle.m88_base.specs.Blocks.{AreFilled, CountsTo, IsCounted, IsPlaceInBlocks, all_runs};
+ghost use Rattle.m88_base.specs.Inside.Blocks.{AreFilled, CountsTo, IsCounted, IsPlaceInBlocks, all_runs};
 
 use crate::block::Block;
 use crate::segment::Segment;
@@ -23,7 +23,7 @@ pub struct Blocks {
 impl Model for Blocks {
     ghost use Rattle.std.specs.Prelude.{◌≡◌, List, length};
     ghost use Rattle.m88_base.specs.Placed.{Placed};
-    ghost use Rattle.m88_base.specs.Blocks.{AreFilled, IsCounted, all_runs};
+    ghost use Rattle.m88_base.specs.Inside.Blocks.{AreFilled, IsCounted, all_runs};
 
     ghost Value = { List Placed };
 

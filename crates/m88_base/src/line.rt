@@ -1,7 +1,7 @@
 //! The lines of an input, one by one.
 ghost use Rattle.std.specs.Prelude.{◌≡◌, ◌<◌, ◌≤◌, ◌∷◌, length};
 ghost use Rattle.m88_base.specs.Lines.{behind_line, lines_of};
-ghost use Rattle.m88_base.specs.LineEnd.{without_cr};
+ghost use Rattle.m88_base.specs.Inside.LineEnd.{without_cr};
 
 use crate::cut::len_before;
 

@@ -16,7 +16,7 @@ pub struct Name {
 impl Model for Name {
     ghost use Rattle.std.specs.Prelude.{ℕ, List, ◌≡◌, ◌-◌, ◌≤◌, ◌++◌, length, take, drop, replicate};
     ghost use Rattle.m88_base.specs.Name.{IsName};
-    ghost use Rattle.m88_base.specs.Padded.{padded};
+    ghost use Rattle.std.proofs.Common.{ap, sym, ◌∙◌, arith, length-take-le, take-append-drop};
 
     ghost Value = { List ℕ };
 
@@ -27,10 +27,11 @@ impl Model for Name {
 
     ghost inverse = { λ bytes. record { bytes = bytes ++ replicate (64 - length bytes) 0; len = length bytes } };
 
-    ghost use Rattle.m88_base.specs.declared.name.Name.TheInside.{Inside};
-
-    ghost inverse_ok = { λ a h. padded {A = Inside} (λ bytes len. record { bytes = bytes; len = len })
-        a.bytes a.len 64 h.1 h.2 h.3 };
+    ghost inverse_ok = { λ a h i.
+        let len : length (take a.len a.bytes) ≡ a.len = length-take-le a.len a.bytes (omega (arith, h.1, h.2)) in
+        let zeros = ap (λ n. take a.len a.bytes ++ replicate (64 - n) 0) len
+        ∙ ap (λ behind. take a.len a.bytes ++ behind) (sym h.3) in
+        record { bytes = (zeros ∙ take-append-drop a.len a.bytes) i; len = len i } };
 }
 
 impl PartialEq for Name {

@@ -2,7 +2,7 @@
 ghost use Rattle.std.specs.Prelude.{◌≡◌, ◌+◌, ◌^◌, ◌<◌, ◌≤◌, ◌↔◌, ℕ, [], ◌++◌, take, drop, length, slice_get, IfOk, OnOk, OnErr, IfNone, IfSome, IsTrue, None, Some};
 ghost use Rattle.m88_base.specs.Found.{IsFree, IsLeastTaken, IsPart};
 ghost use Rattle.m88_base.specs.Placed.{AreApart, byte_among};
-ghost use Rattle.m88_base.specs.Placing.{BeginsAt, IsCut, Places, next_start};
+ghost use Rattle.m88_base.specs.Inside.Placing.{BeginsAt, IsCut, Places, next_start};
 
 use crate::blocks::Blocks;
 use crate::segment::Segment;

@@ -12,8 +12,7 @@ use Rattle.m88_isa.specs.Machine.{Program}
 use Rattle.m88_isa.specs.Word.{IsWord}
 use Rattle.m88_isa.specs.declared.instr.Instr.{Instr}
 use Rattle.m88_codec.proofs.ImagePrograms.{program_in, program_in_holds}
-use Rattle.m88_codec.proofs.Law.{candidate_law}
-use Rattle.m88_codec.specs.Candidate.{candidate_of}
+use Rattle.m88_codec.proofs.Law.{one_reading}
 use Rattle.m88_parse.proofs.Law.Faults.{one_verdict}
 use Rattle.m88_parse.specs.declared.unit.Unit.{Unit as Source}
 use Rattle.m88_asm.specs.Images.{IsUnitInstruction, IsUnitProgram, placed_instruction, unit_byte}
@@ -22,10 +21,6 @@ use Rattle.m88_srec.specs.Accepted.{Whole, whole_of}
 use Rattle.m88_cli.specs.Assembly.{IsProgramSource}
 use Rattle.m88_cli.specs.Inside.Linking.{HoldsUnit}
 use Rattle.m88_cli.specs.Runs.{IsLoadedProgram, IsSourceProgram}
-
--- a word is that of one instruction
-one_reading : (i j : Instr) (word : ℕ) → IsWord i word → IsWord j word → i ≡ j
-one_reading i j word a b = sym (candidate_law i a.0) ∙ ap candidate_of (a.1 ∙ sym b.1) ∙ candidate_law j b.0
 
 -- four bytes are one word
 one_word : (i j : Instr) (v w : ℕ) → IsWord i v → IsWord j w → Some (to_be_bytes w32 v) ≡ Some (to_be_bytes w32 w) → v ≡ w
@@ -38,7 +33,7 @@ one_word i j v w a b same =
 one_there : (byte : ℕ → Option ℕ) (a : ℕ) (i j : Instr) → HasWordOf byte a i → HasWordOf byte a j → i ≡ j
 one_there byte a i j (aligned, (v, bytes, is)) (aligned_too, (w, other, is_too)) =
     let same = one_word i j v w is is_too (sym bytes ∙ other) in
-    one_reading i j w (subst (λ n. IsWord i n) same is) is_too
+    one_reading w i j (subst (λ n. IsWord i n) same is) is_too
 
 -- bytes have one instruction at an address, or none
 one_at : (byte : ℕ → Option ℕ) (a : ℕ) (o p : Option Instr) → IsInstructionAt byte a o → IsInstructionAt byte a p → o ≡ p

@@ -16,7 +16,7 @@ use Rattle.m88_isa.specs.declared.instr.BitOp.{BitOp}
 use Rattle.m88_isa.specs.declared.instr.BitOp.TheVariants.{Rot}
 use Rattle.m88_isa.specs.declared.instr.Instr.{Instr}
 use Rattle.m88_isa.specs.declared.instr.Instr.TheVariants as instr
-use Rattle.m88_codec.specs.Candidate.{candidate_of}
+use Rattle.m88_codec.specs.Inside.Candidate.{candidate_of}
 use Rattle.m88_codec.proofs.Law.{candidate_law}
 
 -- a fact that holds or doesn't

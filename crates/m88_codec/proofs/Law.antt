@@ -19,7 +19,7 @@ use Rattle.m88_isa.specs.declared.instr.BitOp.{BitOp}
 use Rattle.m88_isa.specs.declared.instr.BitOp.TheVariants.{Clr}
 use Rattle.m88_isa.specs.declared.instr.Instr.{Instr}
 use Rattle.m88_isa.specs.declared.instr.Instr.TheVariants as instr
-use Rattle.m88_codec.specs.Candidate.{
+use Rattle.m88_codec.specs.Inside.Candidate.{
   candidate_of,
   candidate_at,
   register_form,

@@ -1,2 +1,2 @@
--- Words for the contracts of private functions; the word table itself is a definition of m88_isa.
-pub mod Candidate
+-- Public contracts cite the word table, a definition of m88_isa; Inside is for private contracts.
+pub mod Inside

@@ -1,7 +1,7 @@
 //! The one instruction that can have a word, read off its bits.
 
 ghost use Rattle.std.specs.Prelude.{◌≡◌, ◌<◌};
-ghost use Rattle.m88_codec.specs.Candidate.{
+ghost use Rattle.m88_codec.specs.Inside.Candidate.{
   bit_op_at,
   candidate_at,
   candidate_of,
@@ -20,7 +20,7 @@ use m88_base::Reg;
 use m88_isa::{BitOp, ImmOp, Instr, LdaSize, MemOp, RegOp};
 
 /// The one instruction that can have a word. It need not have it: no unused field is looked at.
-#[tactic(auto, unfolding(crate::specs::Candidate::candidate_of))]
+#[tactic(auto, unfolding(crate::specs::Inside::Candidate::candidate_of))]
 pub fn candidate(word: u32) -> Instr
     ensures { result ≡ candidate_of word }
 {
@@ -30,7 +30,7 @@ pub fn candidate(word: u32) -> Instr
 }
 
 /// The instruction of a word by its six opening bits.
-#[tactic(auto, unfolding(crate::specs::Candidate::candidate_at))]
+#[tactic(auto, unfolding(crate::specs::Inside::Candidate::candidate_at))]
 fn by_head(head: u32, d: Reg, s1: Reg, low: u32, rest: u32) -> Instr
     requires head_fits { head < 64 }
     requires low_fits { low < 0x10000 }
@@ -84,7 +84,7 @@ fn by_head(head: u32, d: Reg, s1: Reg, low: u32, rest: u32) -> Instr
 }
 
 /// A form on registers, by bits 15 to 8 of its word.
-#[tactic(auto, unfolding(crate::specs::Candidate::register_form))]
+#[tactic(auto, unfolding(crate::specs::Inside::Candidate::register_form))]
 fn registers(d: Reg, s1: Reg, code: u32, s2: Reg) -> Instr
     requires { code < 256 }
     ensures { result ≡ register_form d s1 code s2 }
@@ -132,7 +132,7 @@ fn registers(d: Reg, s1: Reg, code: u32, s2: Reg) -> Instr
 }
 
 /// A bit field with a literal, or a trap, by the low 16 bits.
-#[tactic(auto, unfolding(crate::specs::Candidate::literal_form))]
+#[tactic(auto, unfolding(crate::specs::Inside::Candidate::literal_form))]
 fn literal(d: Reg, s1: Reg, low: u32) -> Instr
     requires { low < 0x10000 }
     ensures { result ≡ literal_form d s1 low }
@@ -165,7 +165,7 @@ fn literal(d: Reg, s1: Reg, low: u32) -> Instr
 }
 
 /// A form on control registers, by the low 16 bits.
-#[tactic(auto, unfolding(crate::specs::Candidate::control_form))]
+#[tactic(auto, unfolding(crate::specs::Inside::Candidate::control_form))]
 fn control(d: Reg, s1: Reg, low: u32) -> Instr
     requires { low < 0x10000 }
     ensures { result ≡ control_form d s1 low }
@@ -201,7 +201,7 @@ fn signed26(field: u32) -> i32
 }
 
 /// The memory mnemonic of bits 31 to 26, or of bits 15 to 10 of a register form; `st.b` where there is none.
-#[tactic(auto, unfolding(crate::specs::Candidate::mem_op_at))]
+#[tactic(auto, unfolding(crate::specs::Inside::Candidate::mem_op_at))]
 fn mem_op(code: u32) -> MemOp
     ensures { result ≡ mem_op_at code }
 {
@@ -222,7 +222,7 @@ fn mem_op(code: u32) -> MemOp
 }
 
 /// The immediate mnemonic of bits 31 to 26; `cmp` where there is none.
-#[tactic(auto, unfolding(crate::specs::Candidate::imm_op_at))]
+#[tactic(auto, unfolding(crate::specs::Inside::Candidate::imm_op_at))]
 fn imm_op(code: u32) -> ImmOp
     ensures { result ≡ imm_op_at code }
 {
@@ -247,7 +247,7 @@ fn imm_op(code: u32) -> ImmOp
 }
 
 /// The mnemonic on three registers of bits 15 to 8; `cmp` where there is none.
-#[tactic(auto, unfolding(crate::specs::Candidate::reg_op_at))]
+#[tactic(auto, unfolding(crate::specs::Inside::Candidate::reg_op_at))]
 fn reg_op(code: u32) -> RegOp
     ensures { result ≡ reg_op_at code }
 {
@@ -282,7 +282,7 @@ fn reg_op(code: u32) -> RegOp
 }
 
 /// The scale of a load of an address, of bits 15 to 8; `lda.h` where there is none.
-#[tactic(auto, unfolding(crate::specs::Candidate::lda_size_at))]
+#[tactic(auto, unfolding(crate::specs::Inside::Candidate::lda_size_at))]
 fn lda_size(code: u32) -> LdaSize
     ensures { result ≡ lda_size_at code }
 {
@@ -294,7 +294,7 @@ fn lda_size(code: u32) -> LdaSize
 }
 
 /// The bit-field mnemonic of bits 15 to 11; `rot` where there is none.
-#[tactic(auto, unfolding(crate::specs::Candidate::bit_op_at))]
+#[tactic(auto, unfolding(crate::specs::Inside::Candidate::bit_op_at))]
 fn bit_op(code: u32) -> BitOp
     ensures { result ≡ bit_op_at code }
 {

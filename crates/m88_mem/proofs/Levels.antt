@@ -4,7 +4,7 @@ use Rattle.std.proofs.lemmas.Bool.{cases_eq, false≢true}
 use Rattle.std.proofs.lemmas.Bool.Decides.{nat_tests}
 use Rattle.std.proofs.lemmas.List.{get_or-set_same, get_or-set_other, length-set, length-replicate}
 use Rattle.m88_mem.specs.DataBus.{page_words}
-use Rattle.m88_mem.specs.Frames.{AreFrames, frame_at, frame_in, has_table, table_entries, with_frame, word_at, word_in}
+use Rattle.m88_mem.specs.Inside.Frames.{AreFrames, frame_at, frame_in, has_table, table_entries, with_frame, word_at, word_in}
 use Rattle.m88_mem.specs.declared.frames.PageFrame.{PageFrame}
 use Rattle.m88_mem.specs.declared.frames.FrameTable.{FrameTable}
 

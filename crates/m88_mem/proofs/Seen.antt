@@ -9,7 +9,7 @@ use Rattle.m88_base.specs.Image.{ProgramImage}
 use Rattle.m88_base.specs.Pages.{page_count, page_number}
 use Rattle.m88_mem.proofs.Words.{bus_by}
 use Rattle.m88_mem.specs.DataBus.{absent_of, bus_of, image_bus, page_words, ready_of, word_of}
-use Rattle.m88_mem.specs.Frames.{by_page, frame_at, frame_in, is_marked, mark_words, seen_as, table_entries, tabulated, with_frame, word_at, word_in, words_in}
+use Rattle.m88_mem.specs.Inside.Frames.{by_page, frame_at, frame_in, is_marked, mark_words, seen_as, table_entries, tabulated, with_frame, word_at, word_in, words_in}
 use Rattle.m88_mem.specs.Marks.{with_page}
 use Rattle.m88_mem.specs.declared.frames.FrameTable.{FrameTable}
 use Rattle.m88_mem.specs.declared.frames.PageFrame.{PageFrame}

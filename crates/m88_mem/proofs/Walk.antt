@@ -7,7 +7,7 @@ use Rattle.m88_isa.specs.Bus.{changed_among}
 use Rattle.m88_mem.proofs.Seen.{seen_bus}
 use Rattle.m88_mem.proofs.Words.{bus_by}
 use Rattle.m88_mem.specs.DataBus.{MemoryView, bus_of, image_bus, page_words}
-use Rattle.m88_mem.specs.Frames.{seen_as, table_entries, word_at}
+use Rattle.m88_mem.specs.Inside.Frames.{seen_as, table_entries, word_at}
 use Rattle.m88_mem.specs.declared.frames.FrameTable.{FrameTable}
 
 -- a word that is the image's adds nothing

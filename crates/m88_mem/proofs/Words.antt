@@ -14,7 +14,7 @@ use Rattle.m88_isa.specs.Bus.{in_words, with_word}
 use Rattle.m88_isa.specs.Lanes.{number_at}
 use Rattle.m88_mem.proofs.Levels.{not_some}
 use Rattle.m88_mem.specs.DataBus.{image_bus, image_bytes, page_words}
-use Rattle.m88_mem.specs.Frames.{is_marked, mark_words, with_frame, word_in}
+use Rattle.m88_mem.specs.Inside.Frames.{is_marked, mark_words, with_frame, word_in}
 use Rattle.m88_mem.specs.Marks.{with_page}
 use Rattle.m88_mem.specs.declared.frames.PageFrame.{PageFrame}
 

@@ -1,4 +1,4 @@
--- What contracts cite: memory over two buses and sets of pages; Frames is for private contracts.
+-- What contracts cite: memory over two buses and sets of pages; Inside is for private contracts.
 pub mod DataBus
-pub mod Frames
 pub mod Marks
+pub mod Inside

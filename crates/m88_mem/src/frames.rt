@@ -1,12 +1,12 @@
 //! The pages that are ready, each a frame of its own behind a table of two levels.
 #![tactic(auto, unfolding(
 // a frame, a word and a table, where they are there
-crate::specs::Frames::frame_in, crate::specs::Frames::word_in, crate::specs::Frames::has_table))]
+crate::specs::Inside::Frames::frame_in, crate::specs::Inside::Frames::word_in, crate::specs::Inside::Frames::has_table))]
 
 ghost use Rattle.std.specs.Prelude.{◌≡◌, ◌<◌, ◌==◌, ◌&&◌, ℕ, true, None, Some, is_some, replicate, length, if◌then◌else◌, IfOk, OnErr, OnOk};
 ghost use Rattle.m88_base.specs.Pages.{page_count};
 ghost use Rattle.m88_mem.specs.DataBus.{page_words};
-ghost use Rattle.m88_mem.specs.Frames.{frame_at, has_table, table_entries, with_frame, word_at};
+ghost use Rattle.m88_mem.specs.Inside.Frames.{frame_at, has_table, table_entries, with_frame, word_at};
 
 use m88_base::NoMemory;
 use std::alloc::Global;
@@ -35,7 +35,7 @@ pub(crate) struct PageFrames {
 
 impl Model for PageFrames {
     ghost use Rattle.std.specs.Prelude.{List, Option};
-    ghost use Rattle.m88_mem.specs.Frames.{AreFrames};
+    ghost use Rattle.m88_mem.specs.Inside.Frames.{AreFrames};
     ghost use Rattle.m88_mem.specs.declared.frames.FrameTable.{FrameTable};
 
     ghost Value = { List (Option FrameTable) };

@@ -2,7 +2,7 @@
 ghost use Rattle.std.specs.Prelude.{◌≡◌, ◌<◌, ◌*◌, ◌||◌, ◌==◌, ℕ, All, false, length, nat_lt, slice_index_or, if◌then◌else◌, IfOk};
 ghost use Rattle.std.specs.List.{list_any};
 ghost use Rattle.m88_base.specs.Pages.{every_page};
-ghost use Rattle.m88_mem.specs.Frames.{is_marked, mark_words};
+ghost use Rattle.m88_mem.specs.Inside.Frames.{is_marked, mark_words};
 ghost use Rattle.m88_mem.specs.Marks.{NamesPages, absent_in, with_page};
 
 use m88_base::{Absent, NoMemory, PAGE_COUNT};

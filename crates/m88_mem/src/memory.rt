@@ -13,7 +13,7 @@ ghost use Rattle.m88_isa.specs.Bus.{changed_among, changed_words, with_word};
 ghost use Rattle.m88_isa.specs.Lanes.{IsEnable, merged};
 ghost use Rattle.m88_isa.specs.Machine.{four_bytes};
 ghost use Rattle.m88_mem.specs.DataBus.{absent_of, bus_of, image_bus, page_words, ready_of};
-ghost use Rattle.m88_mem.specs.Frames.{table_entries};
+ghost use Rattle.m88_mem.specs.Inside.Frames.{table_entries};
 ghost use Rattle.m88_mem.specs.Marks.{NamesPages, absent_in, with_page};
 
 use crate::absent_page::AbsentPage;
@@ -40,7 +40,7 @@ pub struct Memory {
 
 impl Model for Memory {
     ghost use Rattle.m88_mem.specs.DataBus.{MemoryView};
-    ghost use Rattle.m88_mem.specs.Frames.{IsMemory, seen_as};
+    ghost use Rattle.m88_mem.specs.Inside.Frames.{IsMemory, seen_as};
 
     ghost Value = { MemoryView };
 

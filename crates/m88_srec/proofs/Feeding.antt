@@ -1,13 +1,12 @@
 -- A text that comes byte by byte leads where its lines do.
-use Rattle.std.proofs.Common.{◌≡◌, ℕ, ◌+◌, ◌<◌, ◌≤◌, ◌==◌, Bool, true, false, List, [], ◌∷◌, ◌++◌, length, get_or, take, drop, refl, sym, ap, ◌∙◌, subst, arith, inl, inr, append_assoc, append-nil, if◌then◌else◌}
+use Rattle.std.proofs.Common.{◌≡◌, ℕ, ◌+◌, ◌<◌, ◌≤◌, ◌==◌, Bool, true, false, cond, List, [], ◌∷◌, ◌++◌, length, get_or, take, drop, refl, sym, ap, ◌∙◌, subst, arith, inl, inr, append_assoc, append-nil, if◌then◌else◌}
 use Rattle.std.specs.Prelude.{Result, Ok, Err, Option, Some, None, ◌⊎◌}
 use Rattle.std.specs.List.{prefix_len}
 use Rattle.std.proofs.lemmas.Bool.Decides.{nat_tests}
 use Rattle.std.proofs.lemmas.List.{drop_all, drop_at, take-append-drop, take_all, take_at, take_more}
 use Rattle.std.proofs.lemmas.List.Sums.{sum_by-append}
-use Rattle.m88_base.specs.LineEnd.{without_cr}
 use Rattle.m88_base.specs.Lines.{lines_of}
-use Rattle.m88_base.proofs.Lines.{ends_line, ends_source, is_inner, last_cr}
+use Rattle.m88_base.proofs.Lines.{ends_last, ends_source, is_inner}
 use Rattle.m88_srec.specs.Begun.{Begun, HoldsFault, LeadsTo, StaysRefused, held_cr, line_ends}
 use Rattle.m88_srec.specs.Front.{LineFront, front_of}
 use Rattle.m88_srec.specs.GivesVerdict.{no_memory}
@@ -58,16 +57,17 @@ len_alone (b ∷ bs) h =
     let e : line_ends bs ≡ 0 = omega (arith, h, line_ends-append (b ∷ []) bs) in
     rw (first_inner b bs h) (omega (arith, len_alone bs e))
 
-ends_there : (line more : List ℕ) → line_ends line ≡ 0 → lines_of (line ++ 10 ∷ more) ≡ without_cr line ∷ lines_of more
-ends_there line more h =
+-- a line by its last byte, where its line end comes
+ends_there : (front more : List ℕ) (b : ℕ) → line_ends (front ++ b ∷ []) ≡ 0
+    → lines_of ((front ++ b ∷ []) ++ 10 ∷ more) ≡ cond (b == 13) front (front ++ b ∷ []) ∷ lines_of more
+ends_there front more b h =
+    let line : List ℕ = front ++ b ∷ [] in
     let text : List ℕ = line ++ 10 ∷ more in
     let size : prefix_len is_inner text ≡ length line = len_inner line more h in
     let behind : drop (prefix_len is_inner text) text ≡ 10 ∷ more =
     ap (λ (n : ℕ). drop n text) size ∙ drop_at line (10 ∷ more) (length line) refl in
-    ends_line text 10 more behind
-    ∙ ap (λ (n : ℕ). let ls : List (List ℕ) = without_cr (take n text) ∷ lines_of more in ls) size
-    ∙ ap (λ (xs : List ℕ). let ls : List (List ℕ) = without_cr xs ∷ lines_of more in ls)
-    (take_at line (10 ∷ more) (length line) refl)
+    ends_last text front b 10 more behind
+    (ap (λ (n : ℕ). take n text) size ∙ take_at line (10 ∷ more) (length line) refl)
 
 -- the last line, where no line end comes
 last_alone : (line : List ℕ) → line_ends line ≡ 0 → 0 < length line → lines_of line ≡ line ∷ []
@@ -85,15 +85,14 @@ ends_by_cr : (line more : List ℕ) → line_ends line ≡ 0 → lines_of (line 
 ends_by_cr line more h =
     let inner : line_ends (line ++ 13 ∷ []) ≡ 0 = line_ends-append line (13 ∷ []) ∙ ap (λ (n : ℕ). n + 0) h in
     ap lines_of (sym (append_assoc line (13 ∷ []) (10 ∷ more)))
-    ∙ ends_there (line ++ 13 ∷ []) more inner
-    ∙ ap (λ (xs : List ℕ). let ls : List (List ℕ) = xs ∷ lines_of more in ls) (last_cr line 13)
+    ∙ ends_there line more 13 inner
 
 -- and another byte before it belongs to the line
 ends_by_other : (line more : List ℕ) (b : ℕ) → line_ends (line ++ b ∷ []) ≡ 0 → (b == 13) ≡ false
     → lines_of ((line ++ b ∷ []) ++ 10 ∷ more) ≡ (line ++ b ∷ []) ∷ lines_of more
 ends_by_other line more b h other =
-    ends_there (line ++ b ∷ []) more h
-    ∙ ap (λ (xs : List ℕ). let ls : List (List ℕ) = xs ∷ lines_of more in ls) (last_cr line b ∙ rw other refl)
+    ends_there line more b h
+    ∙ ap (λ (x : Bool). let ls : List (List ℕ) = cond x line (line ++ b ∷ []) ∷ lines_of more in ls) other
 
 -- a line with the CR that was held back
 abbrev open_line : {text : List ℕ} {b : Begun} → LeadsTo text b → List ℕ

@@ -1,6 +1,6 @@
 -- The runs ahead of the blocks that were passed are counted, and the total is that of the next block.
 use Rattle.std.proofs.Common.{◌≡◌, length, take}
-use Rattle.m88_base.specs.Blocks.{CountsTo, all_runs}
+use Rattle.m88_base.specs.Inside.Blocks.{CountsTo, all_runs}
 use Rattle.m88_base.proofs.blocks.count.Given as goal
 
 abbrev pub invariant-loop-at : goal.invariant-loop-at

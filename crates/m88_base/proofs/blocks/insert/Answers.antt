@@ -1,7 +1,7 @@
 use Rattle.std.proofs.Common.{◌≡◌, ◌∙◌, ◌^◌, ◌<◌, ap, length, set, arith}
 use Rattle.std.specs.Prelude.{insert}
 use Rattle.std.proofs.lemmas.List.Edits.{length-insert}
-use Rattle.m88_base.specs.Blocks.{all_runs}
+use Rattle.m88_base.specs.Inside.Blocks.{all_runs}
 use Rattle.m88_base.proofs.InBlocks.{insert_at}
 use Rattle.m88_base.proofs.blocks.insert.Goals.{In_ok-insert}
 use Rattle.m88_base.proofs.blocks.insert.Goals as goal

@@ -3,7 +3,7 @@ use Rattle.std.specs.Prelude.{leb}
 use Rattle.std.specs.List.Sorted.{IsPartitionPoint}
 use Rattle.std.proofs.lemmas.Bool.{leb-true, leb-false}
 use Rattle.std.proofs.lemmas.List.Sorted.{IsPartitionPoint-from_clause, IsPartitionedBy-leb}
-use Rattle.m88_base.specs.Blocks.{all_runs, first_start}
+use Rattle.m88_base.specs.Inside.Blocks.{all_runs, first_start}
 use Rattle.m88_base.proofs.InBlocks.{block_apart, within_all, below_in}
 use Rattle.m88_base.proofs.Counting.{firsts_rise, front_below, above_blocks, above_here}
 use Rattle.m88_base.proofs.blocks.locate.Goals.{After-partition_point-passed, After-locate}

@@ -1,7 +1,7 @@
 use Rattle.std.proofs.Common.{◌≡◌, ◌∙◌, ◌<◌, length, set, arith}
 use Rattle.std.specs.Prelude.{remove}
 use Rattle.std.proofs.lemmas.List.Edits.{length-remove}
-use Rattle.m88_base.specs.Blocks.{all_runs}
+use Rattle.m88_base.specs.Inside.Blocks.{all_runs}
 use Rattle.m88_base.proofs.InBlocks.{emptied, remove_at}
 use Rattle.m88_base.proofs.blocks.remove.Goals.{After-len, After-deref_mut, then-len-eq0, else-len-eq0}
 use Rattle.m88_base.proofs.blocks.remove.Goals as goal

@@ -2,7 +2,7 @@ use Rattle.std.proofs.Common.{◌≡◌, ◌+◌, ◌<◌, ◌∙◌, ◌/◌, r
 use Rattle.std.specs.Prelude.{insert}
 use Rattle.std.proofs.lemmas.List.Elements.{All-set}
 use Rattle.m88_base.specs.Placed.{Placed}
-use Rattle.m88_base.specs.Blocks.{all_runs}
+use Rattle.m88_base.specs.Inside.Blocks.{all_runs}
 use Rattle.m88_base.proofs.InBlocks.{block_length, halved}
 use Rattle.m88_base.proofs.Counting.{filled_with}
 use Rattle.m88_base.proofs.blocks.split.Goals.{In_ok-upper, After-push}

@@ -2,7 +2,7 @@
 use Rattle.std.proofs.Common.{◌≡◌, ◌∙◌, ap, sym, subst, arith, Ok}
 use Rattle.m88_isa.specs.Instr.{IsValid}
 use Rattle.m88_isa.specs.Word.{word_of}
-use Rattle.m88_codec.specs.Candidate.{candidate_of}
+use Rattle.m88_codec.specs.Inside.Candidate.{candidate_of}
 use Rattle.m88_codec.proofs.Law.{candidate_law, one_reading}
 use Rattle.m88_codec.proofs.decoder.decode.Goals as goal
 use Rattle.m88_codec.proofs.decoder.decode.Goals.{

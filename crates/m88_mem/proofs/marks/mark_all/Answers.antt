@@ -1,7 +1,7 @@
 -- Words of ones name all pages.
 use Rattle.std.proofs.Common.{rules, ◌≡◌, ℕ, vec_len, replicate, ap, ◌∙◌}
 use Rattle.m88_mem.proofs.Words.{all_marked, all_same}
-use Rattle.m88_mem.specs.Frames.{mark_words}
+use Rattle.m88_mem.specs.Inside.Frames.{mark_words}
 use Rattle.m88_mem.proofs.marks.mark_all.Goals as goal
 
 pub returns-clause-each : goal.returns-clause-each

@@ -1,7 +1,7 @@
 -- The bits of the pages so far are set.
 use Rattle.std.proofs.Common.{ℕ, List, ◌≡◌, ◌==◌, ◌||◌, length, take}
 use Rattle.std.specs.List.{list_any}
-use Rattle.m88_mem.specs.Frames.{is_marked}
+use Rattle.m88_mem.specs.Inside.Frames.{is_marked}
 use Rattle.m88_mem.proofs.marks.with_marks.Given as goal
 
 -- the bits of the pages that are named and of those whose bits were set before

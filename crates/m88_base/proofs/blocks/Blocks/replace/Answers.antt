@@ -1,6 +1,6 @@
 use Rattle.std.proofs.Common.{◌≡◌, ◌<◌, [], get_or, length, length-set, set, refl, arith}
 use Rattle.std.proofs.lemmas.List.Elements.{All-set}
-use Rattle.m88_base.specs.Blocks.{all_runs}
+use Rattle.m88_base.specs.Inside.Blocks.{all_runs}
 use Rattle.m88_base.proofs.InBlocks.{block_length, get_at, set_at}
 use Rattle.m88_base.proofs.Counting.{counts_kept}
 use Rattle.m88_base.proofs.blocks.Blocks.replace.Goals.{After-replace}

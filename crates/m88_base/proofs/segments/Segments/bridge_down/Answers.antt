@@ -1,6 +1,6 @@
 use Rattle.std.proofs.Common.{◌≡◌, ◌++◌, refl, arith}
 use Rattle.std.proofs.lemmas.Grind.{common_steps}
-use Rattle.m88_base.specs.Placing.{Places}
+use Rattle.m88_base.specs.Inside.Placing.{Places}
 use Rattle.m88_base.proofs.InBlocks.{put_back}
 use Rattle.m88_base.proofs.Edits.{bridged_down, set_again, short_front}
 use Rattle.m88_base.proofs.segments.Segments.bridge_down.Goals.{After-deref, After-remove, After-replace-in-Err}

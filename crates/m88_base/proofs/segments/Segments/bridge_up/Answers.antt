@@ -1,6 +1,6 @@
 use Rattle.std.proofs.Common.{◌≡◌, length, get_or, ap, arith}
 use Rattle.std.proofs.lemmas.Grind.{common_steps}
-use Rattle.m88_base.specs.Placing.{Places}
+use Rattle.m88_base.specs.Inside.Placing.{Places}
 use Rattle.m88_base.proofs.InBlocks.{put_back}
 use Rattle.m88_base.proofs.Edits.{bridged, gap, next_stands, set_again}
 use Rattle.m88_base.proofs.segments.Segments.bridge_up.Goals.{After-bytes, After-remove, After-replace-in-Err}

@@ -2,7 +2,7 @@ use Rattle.std.proofs.Common.{◌≡◌, suc, ◌+◌, ◌<◌, ◌≤◌, take,
 use Rattle.std.proofs.Math.Seq.{drop-cons}
 use Rattle.std.proofs.lemmas.List.{drop_all}
 use Rattle.m88_base.specs.Placed.{AreApart, Placed}
-use Rattle.m88_base.specs.Placing.{IsCut, next_start}
+use Rattle.m88_base.specs.Inside.Placing.{IsCut, next_start}
 use Rattle.m88_base.proofs.Cuts.{free_between, taken_in_last, taken_in_next}
 use Rattle.m88_base.proofs.segments.Segments.first_taken.Goals as goal
 

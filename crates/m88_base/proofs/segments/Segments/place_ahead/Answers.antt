@@ -1,5 +1,5 @@
 use Rattle.std.proofs.Common.{◌≡◌}
-use Rattle.m88_base.specs.Placing.{Places}
+use Rattle.m88_base.specs.Inside.Placing.{Places}
 use Rattle.m88_base.proofs.InBlocks.{put_back}
 use Rattle.m88_base.proofs.Edits.{begun_earlier, set_again}
 use Rattle.m88_base.proofs.segments.Segments.place_ahead.Goals.{After-replace, After-replace-in-Err}

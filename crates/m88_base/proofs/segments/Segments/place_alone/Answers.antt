@@ -1,4 +1,4 @@
-use Rattle.m88_base.specs.Placing.{Places}
+use Rattle.m88_base.specs.Inside.Placing.{Places}
 use Rattle.m88_base.proofs.Edits.{inserted}
 use Rattle.m88_base.proofs.segments.Segments.place_alone.Goals.{In_ok-insert}
 use Rattle.m88_base.proofs.segments.Segments.place_alone.Goals as goal

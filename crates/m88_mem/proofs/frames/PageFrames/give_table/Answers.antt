@@ -1,7 +1,7 @@
 -- A new table has no frame.
 use Rattle.std.proofs.Common.{◌≡◌, ◌∙◌, ◌/◌, ◌%◌, ap, sym, refl, arith, None, slice_index_or, length}
 use Rattle.m88_mem.proofs.Levels.{at_any, frames_kept, frames_set, long_blank, no_entries, none_some, not_some, still_none}
-use Rattle.m88_mem.specs.Frames.{frame_at, frame_in}
+use Rattle.m88_mem.specs.Inside.Frames.{frame_at, frame_in}
 use Rattle.m88_mem.proofs.frames.PageFrames.give_table.Goals as goal
 
 pub invariant_of-self : goal.invariant_of-self

@@ -2,7 +2,7 @@
 use Rattle.std.proofs.Common.{◌≡◌, ◌∙◌, ◌/◌, ◌%◌, sym, arith, Some, None, slice_index_or, length}
 use Rattle.std.proofs.lemmas.List.{length-set}
 use Rattle.m88_mem.proofs.Levels.{at_any, entries_set, frames_kept, none_some, set_twice}
-use Rattle.m88_mem.specs.Frames.{frame_in}
+use Rattle.m88_mem.specs.Inside.Frames.{frame_in}
 use Rattle.m88_mem.proofs.frames.PageFrames.take_frame.Goals as goal
 
 pub invariant_of-self : goal.invariant_of-self

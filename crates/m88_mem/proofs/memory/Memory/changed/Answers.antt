@@ -4,7 +4,7 @@ use Rattle.m88_isa.specs.Bus.{changed_among, changed_words}
 use Rattle.m88_mem.proofs.Levels.{no_word_without_table}
 use Rattle.m88_mem.proofs.Walk.{nothing_seen}
 use Rattle.m88_mem.specs.DataBus.{bus_of, image_bus, page_words}
-use Rattle.m88_mem.specs.Frames.{table_entries}
+use Rattle.m88_mem.specs.Inside.Frames.{table_entries}
 use Rattle.m88_mem.proofs.memory.Memory.changed.Goals as goal
 use Rattle.m88_mem.proofs.memory.Memory.changed.Goals.{then-has_table+in_ok-changed_in_table, else-has_table}
 

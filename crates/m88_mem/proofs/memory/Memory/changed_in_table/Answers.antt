@@ -4,7 +4,7 @@ use Rattle.m88_isa.specs.Bus.{changed_among}
 use Rattle.m88_mem.proofs.Levels.{no_word_unready}
 use Rattle.m88_mem.proofs.Walk.{nothing_seen}
 use Rattle.m88_mem.specs.DataBus.{bus_of, image_bus, page_words}
-use Rattle.m88_mem.specs.Frames.{table_entries}
+use Rattle.m88_mem.specs.Inside.Frames.{table_entries}
 use Rattle.m88_mem.proofs.memory.Memory.changed_in_table.Goals as goal
 use Rattle.m88_mem.proofs.memory.Memory.changed_in_table.Goals.{then-is_ready+in_ok-changed_in_page, else-is_ready}
 

@@ -2,7 +2,7 @@
 use Rattle.std.proofs.Common.{◌≡◌, ap, sym, ◌∙◌}
 use Rattle.m88_mem.proofs.Seen.{seen_absent}
 use Rattle.m88_mem.specs.DataBus.{MemoryView, absent_of}
-use Rattle.m88_mem.specs.Frames.{is_marked}
+use Rattle.m88_mem.specs.Inside.Frames.{is_marked}
 use Rattle.m88_mem.proofs.memory.Memory.is_absent.Goals as goal
 
 pub returns : goal.returns

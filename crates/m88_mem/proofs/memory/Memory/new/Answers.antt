@@ -5,7 +5,7 @@ use Rattle.m88_base.specs.Pages.{page_number}
 use Rattle.m88_mem.proofs.Seen.{seen_absent, seen_bus, seen_ready}
 use Rattle.m88_mem.proofs.Words.{bus_by}
 use Rattle.m88_mem.specs.DataBus.{image_bus}
-use Rattle.m88_mem.specs.Frames.{word_at, word_in}
+use Rattle.m88_mem.specs.Inside.Frames.{word_at, word_in}
 use Rattle.m88_mem.proofs.memory.Memory.new.Goals as goal
 
 pub returns-clause-bus : goal.returns-clause-bus

@@ -6,7 +6,7 @@ use Rattle.m88_mem.proofs.Levels.{over_same}
 use Rattle.m88_mem.proofs.Seen.{now_ready, seen_bus, seen_ready, still_there}
 use Rattle.m88_mem.proofs.Words.{bus_by, framed_word}
 use Rattle.m88_mem.specs.DataBus.{MemoryView, bus_of, image_bus, ready_of}
-use Rattle.m88_mem.specs.Frames.{frame_at, with_frame, word_at}
+use Rattle.m88_mem.specs.Inside.Frames.{frame_at, with_frame, word_at}
 use Rattle.m88_mem.proofs.memory.Memory.prepare.Goals as goal
 
 pub returns-then-is_ready-clause-ready : goal.returns-then-is_ready-clause-ready

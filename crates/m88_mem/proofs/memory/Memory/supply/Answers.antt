@@ -3,7 +3,7 @@ use Rattle.std.proofs.Common.{◌≡◌, ◌==◌, false, if◌then◌else◌, a
 use Rattle.std.proofs.Math.Path.{fun_ext}
 use Rattle.m88_mem.proofs.Seen.{seen_absent}
 use Rattle.m88_mem.specs.DataBus.{MemoryView, absent_of}
-use Rattle.m88_mem.specs.Frames.{is_marked}
+use Rattle.m88_mem.specs.Inside.Frames.{is_marked}
 use Rattle.m88_mem.proofs.memory.Memory.supply.Goals as goal
 
 pub returns-clause-absent : goal.returns-clause-absent

@@ -4,7 +4,7 @@ use Rattle.m88_base.specs.Pages.{page_number}
 use Rattle.m88_mem.proofs.Seen.{seen_bus}
 use Rattle.m88_mem.proofs.Words.{bus_by}
 use Rattle.m88_mem.specs.DataBus.{bus_of, image_bus, page_words}
-use Rattle.m88_mem.specs.Frames.{word_at}
+use Rattle.m88_mem.specs.Inside.Frames.{word_at}
 use Rattle.m88_mem.proofs.memory.Memory.word.Goals as goal
 
 pub returns-in-Some : goal.returns-in-Some

@@ -1,7 +1,6 @@
--- Words for the contracts of private functions; no promise of the program names them. The one instruction that can
--- have a word, read off the word's bits: the form by the six opening bits and, in the register, literal and control
--- forms, by the code in the low half. What the table rules out, as a set bit in an unused field, isn't looked at here:
--- such a word differs from the word of its candidate.
+-- The one instruction that can have a word, read off the word's bits: the form by the six opening bits and, in the
+-- register, literal and control forms, by the code in the low half. What the table rules out, as a set bit in an unused
+-- field, isn't looked at here: such a word differs from the word of its candidate.
 use Rattle.std.specs.Prelude.{ℕ, ℤ, pos, negsuc, Bool, ◌==◌, ◌+◌, ◌-◌, ◌/◌, ◌%◌, ◌^◌, nat_lt, nat_le, if◌then◌else◌}
 use Rattle.std.specs.Int.{cast_signed, w16}
 use Rattle.m88_base.specs.declared.reg.Reg.{Reg}

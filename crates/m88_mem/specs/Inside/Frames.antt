@@ -1,6 +1,5 @@
--- Words for the contracts of private functions; no promise of the program names them. The frames of the pages that are
--- ready, behind a table of two levels of 1,024 entries each, a bit for each page, 32 pages to a word, and how both are
--- seen.
+-- The frames of the pages that are ready, behind a table of two levels of 1,024 entries each, a bit for each page, 32
+-- pages to a word, and how both are seen.
 use Rattle.std.specs.Prelude.{ℕ, zero, suc, Bool, List, [], ◌∷◌, Option, None, Some, ◌≡◌, ◌/◌, ◌%◌, ◌^◌, ◌==◌, is_some, length, slice_get, slice_index_or, if◌then◌else◌}
 use Rattle.std.specs.Int.{bit_at}
 use Rattle.m88_base.specs.Image.{ProgramImage}

@@ -1,4 +1,4 @@
--- A word for the contracts of private functions; no promise names it. The CR of a line end, cut off.
+-- The CR of a line end, cut off.
 use Rattle.std.specs.Prelude.{ℕ, List, [], ◌∷◌, ◌==◌, cond}
 use Rattle.m88_base.specs.Lines.{carriage_return}
 

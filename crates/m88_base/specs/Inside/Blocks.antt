@@ -1,5 +1,4 @@
--- Words for the contracts of private functions; no promise of the program names them. Runs in a row that are kept in
--- blocks, and where in the blocks a run stands.
+-- Runs in a row that are kept in blocks, and where in the blocks a run stands.
 use Rattle.std.specs.Prelude.{◌≡◌, ℕ, ◌+◌, ◌<◌, ◌≤◌, List, [], ◌∷◌, ◌++◌, All, length, take, slice_index_or}
 use Rattle.m88_base.specs.Placed.{Placed}
 

@@ -1,5 +1,4 @@
--- Words for the contracts of private functions; no promise of the program names them. Where one more run fits among
--- others, and what runs become once bytes are placed among them.
+-- Where one more run fits among others, and what runs become once bytes are placed among them.
 use Rattle.std.specs.Prelude.{◌≡◌, ℕ, ◌+◌, ◌≤◌, List, [], ◌∷◌, length, take, drop, All}
 use Rattle.m88_base.specs.Found.{PutsBytes}
 use Rattle.m88_base.specs.Placed.{Placed, byte_among, count_among, AreApart}
