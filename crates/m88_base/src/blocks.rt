@@ -9,7 +9,7 @@ use std::alloc::{AllocError, Global};
 use std::marker::Model;
 
 /// The most runs of a block, where there is memory for one more block.
-const MOST_RUNS: usize = 1024;
+const MOST_RUNS: usize = 256;
 
 /// Runs in a row. No block is empty; of each is kept how many runs stand ahead of it, so that an index and an address
 /// are both found by halving.
