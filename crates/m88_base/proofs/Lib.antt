@@ -8,6 +8,7 @@ pub mod Cuts
 pub mod Decided
 pub mod Edits
 pub mod Digits
+pub mod FewParts
 pub mod Hexadecimal
 pub mod InBlocks
 pub mod Known
