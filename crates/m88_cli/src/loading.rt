@@ -20,7 +20,7 @@ pub fn list_records(alloc: Global, records: &Result<Image, Refusal>) -> Result<R
         Err(refusal) => return refuse(alloc, refusal),
     };
     // What always holds of an image is told with its parts.
-    let _ = image.part_count();
+    prove!(image.part_count() <= image.len());
     let text = listing(alloc, image)?;
     Ok(Reply {
         accepted: true,
