@@ -11,6 +11,7 @@ pub mod Digits
 pub mod FewParts
 pub mod Hexadecimal
 pub mod InBlocks
+pub mod InPieces
 pub mod Known
 pub mod Lines
 pub mod Lookup

@@ -8,6 +8,7 @@ pub mod Name
 pub mod Cut
 pub mod Lines
 pub mod Parted
+pub mod Pieces
 pub mod Numerals
 pub mod Hex
 pub mod Refused
