@@ -1,96 +1,69 @@
 -- Bytes cut into the lines of sixteen, and texts of lines put together.
-use Rattle.std.proofs.Common.{◌≡◌, ℕ, zero, suc, ◌+◌, ◌<◌, ◌≤◌, min, List, [], ◌∷◌, ◌++◌, length, take, drop, sym, refl, ap, ◌∙◌, append_assoc, append-nil, arith, inl, inr}
-use Rattle.std.proofs.lemmas.Bool.{cases_lt}
-use Rattle.std.specs.List.{flat_map}
+use Rattle.std.proofs.Common.{◌≡◌, ℕ, ◌+◌, ◌*◌, ◌<◌, min, List, [], ◌∷◌, ◌++◌, length, map, take, sym, refl, ap, ◌∙◌, append_assoc, append-nil, length-append, arith}
+use Rattle.std.specs.List.{enumerate_from, flat_map}
 use Rattle.std.proofs.lemmas.List.Concat.{flat_map-append}
-use Rattle.std.proofs.lemmas.List.{take_all, drop_all, take_at, drop_at, nil_from_length, take_more}
+use Rattle.std.proofs.lemmas.List.{nil_from_length, take_more}
 use Rattle.std.proofs.lemmas.Option.{get_or_from_slice_get, slice_get_within}
 use Rattle.std.specs.Prelude.{Some, slice_get}
 use Rattle.m88_base.specs.Image.{ProgramImage, parts}
 use Rattle.m88_base.specs.Placed.{Placed}
 use Rattle.m88_base.specs.Lines.{line_end, text_of_lines}
-use Rattle.m88_srec.specs.Written.{data_line, data_lines, last_line, header_line, part_lines, srec_text}
+use Rattle.m88_base.specs.Pieces.{pieces}
+use Rattle.m88_base.proofs.InPieces.{next_piece, no_pieces}
+use Rattle.m88_srec.specs.Written.{data_line, data_lines, last_line, header_line, part_lines, piece_line, srec_text}
 
--- the bytes that belong to the piece before are passed over
-pub passed_over : (passed at : ℕ) (bytes : List ℕ) → data_lines passed at bytes ≡ data_lines 0 (at + passed) (drop passed bytes)
-unfolding data_lines
-passed_over zero at [] = refl
-passed_over (suc passed) at [] = refl
-passed_over zero at (b ∷ bytes) = let e : at + 0 ≡ at = omega arith in ap (λ (n : ℕ). data_lines 0 n (b ∷ bytes)) (sym e)
-passed_over (suc passed) at (b ∷ bytes) =
-    let e : at + 1 + passed ≡ at + suc passed = omega arith in
-    passed_over passed (at + 1) bytes ∙ ap (λ (n : ℕ). data_lines 0 n (drop passed bytes)) e
+-- pieces with the next number from an address on, and with their own from the next line's on
+moved : (at n : ℕ) (ps : List (List ℕ)) → map (piece_line at) (enumerate_from (n + 1) ps) ≡ map (piece_line (at + 16)) (enumerate_from n ps)
+moved at n [] = refl
+moved at n (p ∷ ps) =
+    let e : at + (n + 1) * 16 ≡ at + 16 + n * 16 = omega arith in
+    ap (λ (k : ℕ). data_line k p ∷ map (piece_line at) (enumerate_from (n + 1 + 1) ps)) e
+    ∙ ap (λ (ls : List (List ℕ)). data_line (at + 16 + n * 16) p ∷ ls) (moved at (n + 1) ps)
 
--- nothing is left behind the last line
-none_left : (x y m n : ℕ) (bytes : List ℕ) → length bytes ≤ m → length bytes ≤ n
-    → data_lines 0 x (drop m bytes) ≡ data_lines 0 y (drop n bytes)
+-- no byte has no line
+pub no_lines : (at : ℕ) → data_lines at [] ≡ []
 unfolding data_lines
-none_left x y m n bytes h k =
-    ap (data_lines 0 x) (drop_all m bytes h) ∙ sym (ap (data_lines 0 y) (drop_all n bytes k))
+no_lines at = ap (λ (ps : List (List ℕ)). map (piece_line at) (enumerate_from 0 ps)) (no_pieces 16 (omega arith))
 
 -- the first line, and those behind it
-first_line_of : (at b m : ℕ) (bytes : List ℕ) → suc m ≡ min (suc (length bytes)) 16
-    → (take 15 bytes ≡ take m bytes) × (data_lines 0 (at + 1 + 15) (drop 15 bytes) ≡ data_lines 0 (at + suc m) (drop m bytes))
-first_line_of at b m bytes e =
-    elim (cases_lt (length bytes) 15) [
-      | inl short ↦
-          let k : m ≡ length bytes = omega (arith, short) in (
-            take_all 15 bytes (omega (arith, short)) ∙ sym (take_all m bytes (omega (arith, k))),
-            none_left (at + 1 + 15) (at + suc m) 15 m bytes (omega (arith, short)) (omega (arith, k)),
-          )
-      | inr long ↦
-          let k : 15 ≡ m = omega (arith, long) in
-          let next : at + 1 + 15 ≡ at + suc m = omega (arith, k) in (
-            ap (λ (n : ℕ). take n bytes) k,
-            ap (λ (n : ℕ). data_lines 0 (at + 1 + 15) (drop n bytes)) k ∙ ap (λ (n : ℕ). data_lines 0 n (drop m bytes)) next,
-          )
-    ]
-
-pub next_line : (at n : ℕ) (bytes : List ℕ) → 0 < length bytes → n ≡ min (length bytes) 16
-    → data_lines 0 at bytes ≡ data_line at (take n bytes) ∷ data_lines 0 (at + n) (drop n bytes)
+pub next_line : (at : ℕ) (bytes piece rest : List ℕ) → bytes ≡ piece ++ rest → length piece ≡ min 16 (length bytes) → 0 < length bytes
+    → data_lines at bytes ≡ data_line at piece ∷ data_lines (at + length piece) rest
 unfolding data_lines
-next_line at n [] some e = absurd (omega arith)
-next_line at zero (b ∷ bytes) some e = absurd (omega arith)
-next_line at (suc m) (b ∷ bytes) some e =
-    let both = first_line_of at b m bytes e in
-    ap (λ (xs : List ℕ). let ls : List (List ℕ) = data_line at (b ∷ xs) ∷ data_lines 15 (at + 1) bytes in ls) both.0
-    ∙ ap (λ (ls : List (List ℕ)). let ms : List (List ℕ) = data_line at (b ∷ take m bytes) ∷ ls in ms) (passed_over 15 (at + 1) bytes ∙ both.1)
+next_line at bytes piece rest parts size some =
+    let zero_more : at + 0 * 16 ≡ at = omega arith in
+    ap (λ (ps : List (List ℕ)). map (piece_line at) (enumerate_from 0 ps)) (next_piece 16 (omega arith) bytes piece rest parts size some)
+    ∙ ap (λ (k : ℕ). data_line k piece ∷ map (piece_line at) (enumerate_from 1 (pieces 16 rest))) zero_more
+    ∙ ap (λ (ls : List (List ℕ)). let ms : List (List ℕ) = data_line at piece ∷ ls in ms) (moved at 0 (pieces 16 rest) ∙ behind rest long)
+  where
+    long : length piece + length rest ≡ length bytes
+    long = sym (length-append piece rest) ∙ sym (ap length parts)
 
--- one line more of the text of some bytes
-more_text : (front now all : List ℕ) (at n : ℕ) (bytes : List ℕ) → 0 < length bytes → n ≡ min (length bytes) 16
-    → now ≡ front ++ (data_line at (take n bytes) ++ line_end)
-    → front ++ text_of_lines (data_lines 0 at bytes) ≡ all
-    → now ++ text_of_lines (data_lines 0 (at + n) (drop n bytes)) ≡ all
-more_text front now all at n bytes some e now_is before =
-    let line : List ℕ = data_line at (take n bytes) ++ line_end in
-    let rest : List ℕ = text_of_lines (data_lines 0 (at + n) (drop n bytes)) in
-    ap (λ (xs : List ℕ). xs ++ rest) now_is
-    ∙ append_assoc front line rest
-    ∙ ap (λ (ls : List (List ℕ)). front ++ text_of_lines ls) (sym (next_line at n bytes some e))
-    ∙ before
+    behind : (rest : List ℕ) → length piece + length rest ≡ length bytes → data_lines (at + 16) rest ≡ data_lines (at + length piece) rest
+    behind [] e = no_lines (at + 16) ∙ sym (no_lines (at + length piece))
+    behind (b ∷ rest) e = let whole : at + 16 ≡ at + length piece = omega (arith, e, size) in ap (λ (k : ℕ). data_lines k (b ∷ rest)) whole
 
 -- one piece more of some bytes
 pub more_of_part : (front now all piece rest bytes : List ℕ) (at done : ℕ) → bytes ≡ piece ++ rest
     → length piece ≡ min 16 (length bytes) → 0 < length bytes
     → now ≡ front ++ (data_line (at + done) piece ++ line_end)
-    → front ++ text_of_lines (data_lines 0 (at + done) bytes) ≡ all
-    → now ++ text_of_lines (data_lines 0 (at + (done + length piece)) rest) ≡ all
+    → front ++ text_of_lines (data_lines (at + done) bytes) ≡ all
+    → now ++ text_of_lines (data_lines (at + (done + length piece)) rest) ≡ all
 more_of_part front now all piece rest bytes at done parts size some now_is before =
-    let n : ℕ = length piece in
-    let taken : take n bytes ≡ piece = ap (take n) parts ∙ take_at piece rest n refl in
-    let left : drop n bytes ≡ rest = ap (drop n) parts ∙ drop_at piece rest n refl in
-    let next : at + (done + n) ≡ at + done + n = omega arith in
-    ap (λ (k : ℕ). now ++ text_of_lines (data_lines 0 k rest)) next
-    ∙ ap (λ (xs : List ℕ). now ++ text_of_lines (data_lines 0 (at + done + n) xs)) (sym left)
-    ∙ more_text front now all (at + done) n bytes some (omega (arith, size))
-    (now_is ∙ ap (λ (xs : List ℕ). front ++ (data_line (at + done) xs ++ line_end)) (sym taken)) before
+    let line : List ℕ = data_line (at + done) piece ++ line_end in
+    let next : at + (done + length piece) ≡ at + done + length piece = omega arith in
+    let left : List ℕ = text_of_lines (data_lines (at + done + length piece) rest) in
+    ap (λ (k : ℕ). now ++ text_of_lines (data_lines k rest)) next
+    ∙ ap (λ (xs : List ℕ). xs ++ left) now_is
+    ∙ append_assoc front line left
+    ∙ ap (λ (ls : List (List ℕ)). front ++ text_of_lines ls) (sym (next_line (at + done) bytes piece rest parts size some))
+    ∙ before
 
 -- no byte is left
-pub end_of_part : (now all rest : List ℕ) (at : ℕ) → length rest ≡ 0 → now ++ text_of_lines (data_lines 0 at rest) ≡ all
+pub end_of_part : (now all rest : List ℕ) (at : ℕ) → length rest ≡ 0 → now ++ text_of_lines (data_lines at rest) ≡ all
     → now ≡ all
-unfolding data_lines
 end_of_part now all rest at none e =
-    sym (append-nil now) ∙ ap (λ (xs : List ℕ). now ++ text_of_lines (data_lines 0 at xs)) (sym (nil_from_length rest none)) ∙ e
+    let no_line : data_lines at rest ≡ [] = ap (data_lines at) (nil_from_length rest none) ∙ no_lines at in
+    sym (append-nil now) ∙ ap (λ (ls : List (List ℕ)). now ++ text_of_lines ls) (sym no_line) ∙ e
 
 -- one part more
 pub more_parts : (old now later : List ℕ) (ps : List Placed) (i : ℕ) (p : Placed) → slice_get ps i ≡ Some p

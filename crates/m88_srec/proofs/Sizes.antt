@@ -1,9 +1,9 @@
 -- How long the text of an image is at most.
-use Rattle.std.proofs.Common.{◌≡◌, ℕ, zero, suc, ◌+◌, ◌*◌, ◌^◌, ◌<◌, ◌≤◌, min, List, [], ◌∷◌, ◌++◌, length, take, drop, sym, refl, ap, subst, length-append, arith}
+use Rattle.std.proofs.Common.{◌≡◌, ℕ, zero, suc, ◌+◌, ◌*◌, ◌^◌, ◌<◌, ◌≤◌, List, [], ◌∷◌, ◌++◌, length, take, drop, sym, refl, ap, subst, length-append, length-take, take-append-drop, arith}
 use Rattle.std.specs.Prelude.{codes}
 use Rattle.std.specs.Int.{to_be_bytes, w32}
 use Rattle.std.specs.List.{flat_map}
-use Rattle.std.proofs.lemmas.List.{length-drop, length-take-le}
+use Rattle.std.proofs.lemmas.List.{length-drop}
 use Rattle.std.proofs.lemmas.List.Concat.{flat_map-append}
 use Rattle.std.proofs.lemmas.List.Sums.{sum_by-cons}
 use Rattle.m88_base.specs.Hex.{hex2}
@@ -12,7 +12,7 @@ use Rattle.m88_base.specs.Lines.{line_end, text_of_lines}
 use Rattle.m88_base.specs.Placed.{Placed, count_among}
 use Rattle.m88_srec.specs.Records.{check_of, counted, framed}
 use Rattle.m88_srec.specs.Written.{data_line, data_lines, header_line, last_line, part_lines, record_line, srec_text}
-use Rattle.m88_srec.proofs.Cutting.{next_line}
+use Rattle.m88_srec.proofs.Cutting.{next_line, no_lines}
 
 length_digits : (bytes : List ℕ) → length (flat_map hex2 bytes) ≡ 2 * length bytes
 length_digits [] = refl
@@ -34,21 +34,22 @@ length_data_line at given =
     omega (arith, body, line)
 
 -- the lines of bytes
-data_text_short : (fuel at : ℕ) (bytes : List ℕ) → length bytes ≤ fuel → length (text_of_lines (data_lines 0 at bytes)) ≤ 47 * length bytes
-unfolding data_lines
-data_text_short fuel at [] h = omega arith
+data_text_short : (fuel at : ℕ) (bytes : List ℕ) → length bytes ≤ fuel → length (text_of_lines (data_lines at bytes)) ≤ 47 * length bytes
+data_text_short fuel at [] h = subst (λ (ls : List (List ℕ)). length (text_of_lines ls) ≤ 0) (sym (no_lines at)) (omega arith)
 data_text_short zero at (b ∷ bs) h = absurd (omega arith)
 data_text_short (suc fuel) at (b ∷ bs) h =
     let bytes : List ℕ = b ∷ bs in
-    let n : ℕ = min (length bytes) 16 in
-    let front = length-take-le n bytes (omega arith) in
-    let left = length-drop n bytes in
-    let rest = data_text_short fuel (at + n) (drop n bytes) (omega arith) in
-    let line = length_data_line at (take n bytes) in
-    let joined = length-append (data_line at (take n bytes) ++ line_end) (text_of_lines (data_lines 0 (at + n) (drop n bytes))) in
-    let cut = next_line at n bytes (omega arith) refl in
-    let short : length (text_of_lines (data_line at (take n bytes) ∷ data_lines 0 (at + n) (drop n bytes))) ≤ 47 * length bytes =
-    omega (arith, front, left, rest, line, joined) in
+    let piece : List ℕ = take 16 bytes in
+    let left : List ℕ = drop 16 bytes in
+    let next : ℕ = at + length piece in
+    let size = length-take 16 bytes in
+    let long = length-drop 16 bytes in
+    let rest = data_text_short fuel next left (omega (arith, long)) in
+    let line = length_data_line at piece in
+    let joined = length-append (data_line at piece ++ line_end) (text_of_lines (data_lines next left)) in
+    let cut = next_line at bytes piece left (sym (take-append-drop 16 bytes)) size (omega arith) in
+    let short : length (text_of_lines (data_line at piece ∷ data_lines next left)) ≤ 47 * length bytes =
+    omega (arith, size, long, rest, line, joined) in
     subst (λ (ls : List (List ℕ)). length (text_of_lines ls) ≤ 47 * length bytes) (sym cut) short
 
 -- the lines of parts

@@ -1,16 +1,17 @@
 -- The text that is written for an image is accepted and writes that image.
-use Rattle.std.proofs.Common.{◌≡◌, ℕ, zero, suc, ◌+◌, ◌-◌, ◌^◌, ◌<◌, ◌≤◌, min, true, List, [], ◌∷◌, ◌++◌, length, get_or, take, drop, sym, refl, ap, ◌∙◌, subst, append_assoc, length-append, take-append-drop, arith, inl, inr}
+use Rattle.std.proofs.Common.{◌≡◌, ℕ, zero, suc, ◌+◌, ◌-◌, ◌*◌, ◌^◌, ◌<◌, ◌≤◌, true, List, [], ◌∷◌, ◌++◌, length, map, get_or, take, drop, sym, refl, ap, ◌∙◌, subst, append_assoc, length-append, length-take, take-append-drop, arith, inl, inr}
 use Rattle.std.specs.Prelude.{Option, Some, None, IfSome, codes, slice_get}
 use Rattle.std.proofs.lemmas.Option.{slice_get-get_or}
 use Rattle.std.specs.Int.{to_be_bytes, w32}
-use Rattle.std.specs.List.{flat_map}
+use Rattle.std.specs.List.{enumerate_from, flat_map}
 use Rattle.std.specs.Option.{option_or}
-use Rattle.std.proofs.lemmas.List.{length-drop, length-take-le}
+use Rattle.std.proofs.lemmas.List.{length-drop}
 use Rattle.std.proofs.lemmas.List.Sums.{sum_by-cons}
 use mathlib.Core.Path.{fun_ext}
 use Rattle.m88_base.specs.Image.{IsImage, ProgramImage, byte_at, byte_count, parts}
 use Rattle.m88_base.specs.Found.{FindsBytes}
 use Rattle.m88_base.proofs.Apart.{none_below}
+use Rattle.m88_base.specs.Pieces.{pieces}
 use Rattle.m88_base.specs.Placed.{AreApart, Placed, byte_among, byte_in, count_among}
 use Rattle.m88_base.specs.Image.{most_bytes}
 use Rattle.m88_base.proofs.Lookup.{byte_in-join, byte_in_from, byte_in_above, byte_in_below, option_or-none, option_or_assoc}
@@ -19,9 +20,9 @@ use Rattle.m88_srec.specs.Accepted.{WriteEntries, ComeTo, Fits, IsAccepted, empt
 use Rattle.m88_base.specs.Hex.{hex2}
 use Rattle.m88_srec.specs.Placing.{Loaded, nothing_loaded, with_data}
 use Rattle.m88_srec.specs.Records.{Entry, WritesEntry, check_of, counted, framed, is_bare, record_type, type_of}
-use Rattle.m88_srec.specs.Written.{data_line, data_lines, last_line, header_line, lines_for, part_lines, record_line, srec_text}
+use Rattle.m88_srec.specs.Written.{data_line, data_lines, last_line, header_line, lines_for, part_lines, piece_line, record_line, srec_text}
 use Rattle.m88_srec.specs.declared.purpose.Purpose.TheVariants.{Header, Data, End}
-use Rattle.m88_srec.proofs.Cutting.{next_line}
+use Rattle.m88_srec.proofs.Cutting.{next_line, no_lines}
 use Rattle.m88_srec.proofs.Spelled.{AllInner, AreBytes, AreInner, bytes_of_digits, digits_are_inner, lines_of_text, pairs_of_bytes}
 
 -- bytes one behind the other
@@ -167,36 +168,31 @@ free_behind at next xs loaded e free a h =
     ap (λ o. option_or o (byte_in (record { at = at; bytes = xs }) a)) (free a (omega arith))
     ∙ byte_in_above (record { at = at; bytes = xs }) a (omega arith)
 
--- a line of data, and the lines behind it
-some_data : (fuel at n : ℕ) (bytes : List ℕ) (loaded : Loaded) → n ≡ min (length bytes) 16 → 0 < length bytes → length bytes ≤ suc fuel
-    → at + length bytes ≤ 2 ^ 32 → loaded.count + length bytes ≤ most_bytes → ((a : ℕ) → at ≤ a → loaded.found a ≡ None) → AreBytes bytes
-    → Leads (data_lines 0 (at + n) (drop n bytes)) (with_data at (take n bytes) loaded) (with_data (at + n) (drop n bytes) (with_data at (take n bytes) loaded))
-    → Leads (data_lines 0 at bytes) loaded (with_data at bytes loaded)
-some_data fuel at n bytes loaded n_is some fits below few free h rest =
-    let size : length (take n bytes) ≡ n = length-take-le n bytes (omega arith) in
-    let first = one_line at (take n bytes) loaded (omega arith) (omega arith) (omega arith) free (omega arith) (bytes_take n bytes h) in
-    let both = joined (data_line at (take n bytes) ∷ []) (data_lines 0 (at + n) (drop n bytes)) loaded (with_data at (take n bytes) loaded)
-    (with_data (at + n) (drop n bytes) (with_data at (take n bytes) loaded)) first rest in
-    let lines = next_line at n bytes some n_is in
-    let whole : with_data (at + n) (drop n bytes) (with_data at (take n bytes) loaded) ≡ with_data at bytes loaded =
-    behind at (at + n) (take n bytes) (drop n bytes) loaded (omega arith) ∙ ap (λ (xs : List ℕ). with_data at xs loaded) (take-append-drop n bytes) in
-    subst (λ (later : Loaded). Leads (data_lines 0 at bytes) loaded later) whole
-    (subst (λ (ls : List (List ℕ)). Leads ls loaded (with_data (at + n) (drop n bytes) (with_data at (take n bytes) loaded))) (sym lines) both)
-
+-- the lines of bytes lead to them, by the first and those behind it
 data_leads : (fuel at : ℕ) (bytes : List ℕ) (loaded : Loaded) → length bytes ≤ fuel → at + length bytes ≤ 2 ^ 32
     → loaded.count + length bytes ≤ most_bytes → ((a : ℕ) → at ≤ a → loaded.found a ≡ None) → AreBytes bytes
-    → Leads (data_lines 0 at bytes) loaded (with_data at bytes loaded)
-unfolding data_lines
-data_leads fuel at [] loaded fits below few free h = subst (λ (later : Loaded). Leads [] loaded later) (no_data at loaded) (stays loaded)
+    → Leads (data_lines at bytes) loaded (with_data at bytes loaded)
+data_leads fuel at [] loaded fits below few free h =
+    subst (λ (ls : List (List ℕ)). Leads ls loaded (with_data at [] loaded)) (sym (no_lines at))
+    (subst (λ (later : Loaded). Leads [] loaded later) (no_data at loaded) (stays loaded))
 data_leads zero at (b ∷ bs) loaded fits below few free h = absurd (omega arith)
 data_leads (suc fuel) at (b ∷ bs) loaded fits below few free h =
-    let n : ℕ = min (length (b ∷ bs)) 16 in
-    let n_is : n ≡ min (length (b ∷ bs)) 16 = refl in
-    let size : length (take n (b ∷ bs)) ≡ n = length-take-le n (b ∷ bs) (omega arith) in
-    let left = length-drop n (b ∷ bs) in
-    let rest = data_leads fuel (at + n) (drop n (b ∷ bs)) (with_data at (take n (b ∷ bs)) loaded) (omega arith) (omega arith) (omega arith)
-    (free_behind at (at + n) (take n (b ∷ bs)) loaded (omega arith) free) (bytes_drop n (b ∷ bs) h) in
-    some_data fuel at n (b ∷ bs) loaded n_is (omega arith) fits below few free h rest
+    let bytes : List ℕ = b ∷ bs in
+    let piece : List ℕ = take 16 bytes in
+    let left : List ℕ = drop 16 bytes in
+    let next : ℕ = at + length piece in
+    let more : Loaded = with_data at piece loaded in
+    let size = length-take 16 bytes in
+    let long = length-drop 16 bytes in
+    let cut = take-append-drop 16 bytes in
+    let first = one_line at piece loaded (omega (arith, size)) (omega (arith, size)) (omega (arith, size)) free (omega (arith, size)) (bytes_take 16 bytes h) in
+    let rest = data_leads fuel next left more (omega (arith, long)) (omega (arith, size, long)) (omega (arith, size, long))
+    (free_behind at next piece loaded (omega arith) free) (bytes_drop 16 bytes h) in
+    let whole : with_data next left more ≡ with_data at bytes loaded =
+    behind at next piece left loaded refl ∙ ap (λ (xs : List ℕ). with_data at xs loaded) cut in
+    subst (λ (later : Loaded). Leads (data_lines at bytes) loaded later) whole
+    (subst (λ (ls : List (List ℕ)). Leads ls loaded (with_data next left more)) (sym (next_line at bytes piece left (sym cut) size (omega arith)))
+    (joined (data_line at piece ∷ []) (data_lines next left) loaded more (with_data next left more) first rest))
 
 -- parts, each of bytes and below the last address
 abbrev pub ArePieces : List Placed → Type 0
@@ -248,16 +244,17 @@ inner_append : (ls ms : List (List ℕ)) → AllInner ls → AllInner ms → All
 inner_append [] ms h k = k
 inner_append (l ∷ ls) ms h k = (h.0, inner_append ls ms h.1 k)
 
-inner_data : (passed at : ℕ) (bytes : List ℕ) → AllInner (data_lines passed at bytes)
+inner_pieces : (at : ℕ) (ps : List (ℕ × List ℕ)) → AllInner (map (piece_line at) ps)
+inner_pieces at [] = tt
+inner_pieces at (p ∷ ps) = (inner_line 51 (to_be_bytes w32 (at + p.0 * 16) ++ p.1) (omega arith), inner_pieces at ps)
+
+inner_data : (at : ℕ) (bytes : List ℕ) → AllInner (data_lines at bytes)
 unfolding data_lines
-inner_data zero at [] = tt
-inner_data (suc passed) at [] = tt
-inner_data zero at (b ∷ bytes) = (inner_line 51 (to_be_bytes w32 at ++ take 16 (b ∷ bytes)) (omega arith), inner_data 15 (at + 1) bytes)
-inner_data (suc passed) at (b ∷ bytes) = inner_data passed (at + 1) bytes
+inner_data at bytes = inner_pieces at (enumerate_from 0 (pieces 16 bytes))
 
 inner_parts : (ps : List Placed) → AllInner (flat_map part_lines ps)
 inner_parts [] = tt
-inner_parts (p ∷ ps) = inner_append (part_lines p) (flat_map part_lines ps) (inner_data 0 p.at p.bytes) (inner_parts ps)
+inner_parts (p ∷ ps) = inner_append (part_lines p) (flat_map part_lines ps) (inner_data p.at p.bytes) (inner_parts ps)
 
 inner_lines : (image : ProgramImage) → AllInner (lines_for image)
 inner_lines image =

@@ -1,10 +1,12 @@
 -- The S-record text that is written for an image (Motorola S-record format): a header, the bytes of each part in
 -- records of sixteen with addresses of four bytes, and the end record with the start address.
-use Rattle.std.specs.Prelude.{ℕ, zero, suc, List, [], ◌∷◌, ◌++◌, ◌+◌, ◌-◌, codes, flat_map, take}
+use Rattle.std.specs.Prelude.{ℕ, List, [], ◌∷◌, ◌++◌, ◌+◌, ◌*◌, codes, flat_map, map}
 use Rattle.std.specs.Int.{to_be_bytes, w32}
+use Rattle.std.specs.List.{enumerate_from}
 use Rattle.m88_base.specs.Hex.{hex2}
 use Rattle.m88_base.specs.Image.{ProgramImage, parts}
 use Rattle.m88_base.specs.Lines.{text_of_lines}
+use Rattle.m88_base.specs.Pieces.{pieces}
 use Rattle.m88_base.specs.Placed.{Placed}
 use Rattle.m88_srec.specs.Records.{framed, letter_s}
 
@@ -28,15 +30,17 @@ data_line at given = record_line 51 (to_be_bytes w32 at ++ given)
 abbrev pub last_line : ℕ → List ℕ
 last_line start = record_line 55 (to_be_bytes w32 start)
 
--- bytes from an address on, cut into sixteens; `passed` bytes belong to the piece before
-unfoldable pub data_lines : ℕ → ℕ → List ℕ → List (List ℕ)
-data_lines passed at [] = []
-data_lines zero at (b ∷ bytes) = data_line at (take most_data (b ∷ bytes)) ∷ data_lines (most_data - 1) (at + 1) bytes
-data_lines (suc passed) at (b ∷ bytes) = data_lines passed (at + 1) bytes
+-- the line of a piece of sixteen with its number, of bytes from an address on
+abbrev pub piece_line : ℕ → ℕ × List ℕ → List ℕ
+piece_line at numbered = data_line (at + numbered.0 * most_data) numbered.1
+
+-- the lines of bytes from an address on, one for each piece of sixteen in order
+unfoldable pub data_lines : ℕ → List ℕ → List (List ℕ)
+data_lines at bytes = map (piece_line at) (enumerate_from 0 (pieces most_data bytes))
 
 -- the lines of a part
 abbrev pub part_lines : Placed → List (List ℕ)
-part_lines part = data_lines 0 part.at part.bytes
+part_lines part = data_lines part.at part.bytes
 
 -- all lines
 abbrev pub lines_for : ProgramImage → List (List ℕ)

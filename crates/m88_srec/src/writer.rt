@@ -14,7 +14,7 @@ use std::alloc::{AllocError, Global};
 fn push_part(text: &mut Vec<u8>, at: u32, bytes: &[u8]) -> Result<(), AllocError>
     requires { at + length bytes.now ≤ 2 ^ 32 }
     ensures { OnOk result (text.new.items ≡ text.old.items ++ text_of_lines
-        (data_lines 0 at bytes.now)) }
+        (data_lines at bytes.now)) }
 {
     let mut done = 0;
     for piece in bytes.chunks(MOST_DATA) {

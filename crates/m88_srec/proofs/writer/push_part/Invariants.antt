@@ -9,6 +9,6 @@ abbrev pub invariant-loop-piece : goal.invariant-loop-piece
 invariant-loop-piece l = record {
   size : chunks_size l.piece-iterator ≡ 16;
   count : l.done + length (chunks_rest l.piece-iterator) ≡ length l.bytes;
-  left : l.text.items ++ text_of_lines (data_lines 0 (l.at + l.done) (chunks_rest l.piece-iterator))
-      ≡ l.initial.text.items ++ text_of_lines (data_lines 0 l.at l.bytes);
+  left : l.text.items ++ text_of_lines (data_lines (l.at + l.done) (chunks_rest l.piece-iterator))
+      ≡ l.initial.text.items ++ text_of_lines (data_lines l.at l.bytes);
 }
