@@ -1,12 +1,14 @@
 -- The lines of objects that have a text are taken one by one, and come to these objects.
-use Rattle.std.proofs.Common.{◌≡◌, ℕ, zero, suc, ◌+◌, ◌-◌, ◌*◌, ◌/◌, ◌^◌, ◌<◌, ◌≤◌, Bool, true, false, List, [], ◌∷◌, ◌++◌, length, take, drop, min, refl, sym, ap, ◌∙◌, arith, append_assoc, length-append, length-drop}
+use Rattle.std.proofs.Common.{◌≡◌, ℕ, zero, suc, ◌-◌, ◌*◌, ◌^◌, ◌<◌, ◌≤◌, Bool, true, false, List, [], ◌∷◌, ◌++◌, length, map, take, drop, min, refl, sym, ap, ◌∙◌, arith, append_assoc, length-append, length-drop, length-take, inl, inr}
+use Rattle.std.proofs.lemmas.Bool.{cases_lt}
 use Rattle.std.specs.Prelude.{Option, None, Some, ◌==◌, ◌&&◌, flat_map, option_map, if◌then◌else◌}
 use Rattle.std.specs.List.{AllByRecursion}
 use Rattle.std.proofs.lemmas.Bool.Decides.{nat_tests}
 use Rattle.std.proofs.lemmas.Bool.{eq-eqb, le-leb}
-use Rattle.std.proofs.lemmas.List.{append-nil, length-take-le, nil_from_length, take-append-drop, take-take, take_all, drop-take}
+use Rattle.std.proofs.lemmas.List.{append-nil, nil_from_length, take-append-drop, take_all}
 use Rattle.std.proofs.lemmas.List.Elements.{recursion_from_All}
 use Rattle.m88_base.specs.Hex.{hex2}
+use Rattle.m88_base.proofs.InPieces.{first_piece}
 use Rattle.m88_link.specs.declared.object.Object.{Object}
 use Rattle.m88_link.specs.declared.object.Place.{Place}
 use Rattle.m88_link.specs.declared.object.Place.TheVariants.{Text, DataSection, At}
@@ -22,7 +24,7 @@ use Rattle.m88_link.specs.Inside.Rows.{◌>>=◌, bytes_behind, row_in}
 use Rattle.m88_link.specs.Sound.{AreSections, IsOwnAddress}
 use Rattle.m88_link.proofs.ByteTexts.{bytes_read, length-digits}
 use Rattle.m88_link.proofs.RowTexts.{IsRow, place_text, row_read, row_text}
-use Rattle.m88_link.proofs.Written.{byte_row, byte_rows, object_rows, objects_rows, reloc_rows, rows_before, section_rows, sections_rows, symbol_rows}
+use Rattle.m88_link.proofs.Written.{byte_row, byte_rows, no_rows, object_rows, objects_rows, reloc_rows, section_rows, sections_rows, symbol_rows}
 use Rattle.m88_link.proofs.Kept.{bare}
 
 -- lines one after the other
@@ -109,67 +111,63 @@ module _ (done : List Object) (name : List ℕ) (sections : List Section) (place
       apart : (n : ℕ) → 1 ≤ n → (n == 0) ≡ false
       apart n h = grind (arith, nat_tests)
 
-  module _ (bytes : List ℕ) (small : AllByRecursion (λ b. b < 2 ^ 8) bytes) where
-    small_part : (n : ℕ) (xs : List ℕ) → AllByRecursion (λ b. b < 2 ^ 8) xs → AllByRecursion (λ b. b < 2 ^ 8) (drop n xs)
-    small_part zero xs h = h
-    small_part (suc n) [] h = tt
-    small_part (suc n) (x ∷ xs) h = small_part n xs h.1
+  small_behind : (n : ℕ) (xs : List ℕ) → AllByRecursion (λ b. b < 2 ^ 8) xs → AllByRecursion (λ b. b < 2 ^ 8) (drop n xs)
+  small_behind zero xs h = h
+  small_behind (suc n) [] h = tt
+  small_behind (suc n) (x ∷ xs) h = small_behind n xs h.1
 
-    small_front : (n : ℕ) (xs : List ℕ) → AllByRecursion (λ b. b < 2 ^ 8) xs → AllByRecursion (λ b. b < 2 ^ 8) (take n xs)
-    small_front zero xs h = tt
-    small_front (suc n) [] h = tt
-    small_front (suc n) (x ∷ xs) h = (h.0, small_front n xs h.1)
+  small_front : (n : ℕ) (xs : List ℕ) → AllByRecursion (λ b. b < 2 ^ 8) xs → AllByRecursion (λ b. b < 2 ^ 8) (take n xs)
+  small_front zero xs h = tt
+  small_front (suc n) [] h = tt
+  small_front (suc n) (x ∷ xs) h = (h.0, small_front n xs h.1)
 
-    front_more : (n m : ℕ) (xs : List ℕ) → take n xs ++ take m (drop n xs) ≡ take (n + m) xs
-    front_more n m xs =
-        ap (λ l. l ++ take m (drop n xs)) (sym (take-take n (n + m) xs (omega arith)))
-        ∙ ap (λ l. take n (take (n + m) xs) ++ l) (sym (drop-take n m xs))
-        ∙ take-append-drop n (take (n + m) xs)
+  -- the section with all its bytes
+  abbrev whole_with : List ℕ → Progress
+  whole_with bytes = going done (bare name (sections ++ record { place = place; bytes = bytes; line = line } ∷ []) None)
 
-    -- the first n lines, where more come
-    fill : (n : ℕ) → n * 32 < length bytes
-        → run (going done (bare name sections (Some (filled [] (length bytes))))) (rows_before bytes n)
-        ≡ Some (going done (bare name sections (Some (filled (take (n * 32) bytes) (length bytes - n * 32)))))
-    fill zero h = let z : length bytes - 0 * 32 ≡ length bytes = omega arith in
-        ap (λ k. Some (going done (bare name sections (Some (filled [] k))))) (sym z)
-    fill (suc n) h =
-        let before : n * 32 < length bytes = omega (arith, h) in
-        let left = length-drop (n * 32) bytes in
-        let part : List ℕ = take 32 (drop (n * 32) bytes) in
-        let long : length part ≡ 32 = length-take-le 32 (drop (n * 32) bytes) (omega (arith, left, h)) in
-        let room : 32 ≡ min (length bytes - n * 32) 32 = omega (arith, h) in
-        let rest : length bytes - n * 32 - min (length bytes - n * 32) 32 ≡ length bytes - suc n * 32 = omega (arith, h) in
-        let some : 1 ≤ length bytes - suc n * 32 = omega (arith, h) in
-        let more : take (n * 32) bytes ++ part ≡ take (suc n * 32) bytes =
-        front_more (n * 32) 32 bytes ∙ (let e : n * 32 + 32 ≡ suc n * 32 = omega arith in ap (λ k. take k bytes) e) in
-        run_then _ _ _ (rows_before bytes n) (byte_row part ∷ []) (fill n before)
-        (run_one _ _ (byte_row part)
-        (byte_row_taken (take (n * 32) bytes) part (length bytes - n * 32) (small_front 32 (drop (n * 32) bytes) (small_part (n * 32) bytes small)) (long ∙ room)
-        ∙ ap (λ l. Some (going done (settled (bare name sections None) (filled l (length bytes - n * 32 - min (length bytes - n * 32) 32))))) more
-        ∙ ap (λ k. Some (going done (settled (bare name sections None) (filled (take (suc n * 32) bytes) k)))) rest
-        ∙ ap (λ d. Some (going done d)) (settled_more (take (suc n * 32) bytes) (length bytes - suc n * 32) some)))
+  -- where some bytes are missing
+  abbrev lacking : List ℕ → ℕ → Progress
+  lacking bytes missing = going done (settled (bare name sections None) (filled bytes missing))
 
-    -- all lines of some bytes
-    pub fill_all : 1 ≤ length bytes
-        → run (going done (bare name sections (Some (filled [] (length bytes))))) (byte_rows bytes)
-        ≡ Some (going done (bare name (sections ++ record { place = place; bytes = bytes; line = line } ∷ []) None))
-    fill_all some =
-        let n : ℕ = (length bytes - 1) / 32 in
-        let before : n * 32 < length bytes = omega (arith, some) in
-        let count : (length bytes + 31) / 32 ≡ suc n = omega (arith, some) in
-        let left = length-drop (n * 32) bytes in
-        let within : length (drop (n * 32) bytes) ≤ 32 = omega (arith, left, some) in
-        let part : List ℕ = take 32 (drop (n * 32) bytes) in
-        let whole : part ≡ drop (n * 32) bytes = take_all 32 (drop (n * 32) bytes) within in
-        let long : length part ≡ min (length bytes - n * 32) 32 = ap length whole ∙ omega (arith, left, within) in
-        let rest : length bytes - n * 32 - min (length bytes - n * 32) 32 ≡ 0 = omega (arith, left, within) in
-        let all : take (n * 32) bytes ++ part ≡ bytes = ap (λ l. take (n * 32) bytes ++ l) whole ∙ take-append-drop (n * 32) bytes in
-        ap (λ k. run (going done (bare name sections (Some (filled [] (length bytes))))) (rows_before bytes k)) count
-        ∙ run_then _ _ _ (rows_before bytes n) (byte_row part ∷ []) (fill n before)
-        (run_one _ _ (byte_row part)
-        (byte_row_taken (take (n * 32) bytes) part (length bytes - n * 32) (small_front 32 (drop (n * 32) bytes) (small_part (n * 32) bytes small)) long
-        ∙ ap (λ l. Some (going done (settled (bare name sections None) (filled l (length bytes - n * 32 - min (length bytes - n * 32) 32))))) all
-        ∙ ap (λ k. Some (going done (settled (bare name sections None) (filled bytes k)))) rest))
+  -- the lines of the bytes that are missing
+  fill : (fuel : ℕ) (bytes rest : List ℕ) → length rest ≤ fuel → 1 ≤ length rest → AllByRecursion (λ b. b < 2 ^ 8) rest
+      → run (going done (bare name sections (Some (filled bytes (length rest))))) (byte_rows rest) ≡ Some (whole_with (bytes ++ rest))
+  fill zero bytes rest h some small = absurd (omega (arith, h, some))
+  fill (suc fuel) bytes rest h some small =
+      ap (λ ps. run (going done (bare name sections (Some (filled bytes (length rest))))) (map byte_row ps)) (first_piece 32 (omega arith) rest (omega (arith, some)))
+      ∙ ap (λ o. o >>= λ t. run t (byte_rows left)) taken
+      ∙ elim (cases_lt 0 (length left)) [
+        | inl more ↦
+            ap (λ d. run (going done d) (byte_rows left)) (settled_more (bytes ++ part) (length left) (omega (arith, more)))
+            ∙ fill fuel (bytes ++ part) left (omega (arith, h, long)) (omega (arith, more)) (small_behind 32 rest small)
+            ∙ ap (λ l. Some (whole_with l)) (append_assoc bytes part left ∙ ap (λ l. bytes ++ l) (take-append-drop 32 rest))
+        | inr last ↦
+            let none : left ≡ [] = nil_from_length left (omega (arith, last)) in
+            let all : part ≡ rest = take_all 32 rest (omega (arith, last, long)) in
+            ap (λ l. run (lacking (bytes ++ part) (length l)) (byte_rows l)) none
+            ∙ ap (run (lacking (bytes ++ part) 0)) no_rows
+            ∙ ap (λ l. Some (whole_with (bytes ++ l))) all
+      ]
+    where
+      part : List ℕ
+      part = take 32 rest
+
+      left : List ℕ
+      left = drop 32 rest
+
+      long : length left ≡ length rest - 32
+      long = length-drop 32 rest
+
+      taken : line_step (going done (bare name sections (Some (filled bytes (length rest))))) (byte_row part) ≡ Some (lacking (bytes ++ part) (length left))
+      taken =
+          let size : length part ≡ min (length rest) 32 = length-take 32 rest ∙ omega arith in
+          let missing : length rest - min (length rest) 32 ≡ length left = omega (arith, long) in
+          byte_row_taken bytes part (length rest) (small_front 32 rest small) size ∙ ap (λ k. Some (lacking (bytes ++ part) k)) missing
+
+  -- all lines of some bytes
+  pub fill_all : (bytes : List ℕ) → AllByRecursion (λ b. b < 2 ^ 8) bytes → 1 ≤ length bytes
+      → run (going done (bare name sections (Some (filled [] (length bytes))))) (byte_rows bytes) ≡ Some (whole_with bytes)
+  fill_all bytes small some = fill (length bytes) [] bytes (omega arith) some small
 
 -- a section
 module _ (done : List Object) (name : List ℕ) (sections : List Section) where
@@ -207,7 +205,7 @@ module _ (done : List Object) (name : List ℕ) (sections : List Section) where
     empty : length s.bytes ≡ 0 → run (going done before_it) (section_rows s) ≡ Some (going done (bare name (sections ++ s ∷ []) None))
     empty none =
         let nil = nil_from_length s.bytes none in
-        let rows : byte_rows s.bytes ≡ [] = ap byte_rows nil in
+        let rows : byte_rows s.bytes ≡ [] = ap byte_rows nil ∙ no_rows in
         let whole : section_with (headed head) ≡ s = ap (λ (l : List ℕ). let x : Section = record s { bytes = l } in x) (sym nil) in
         ap (λ l. run (going done before_it) (row_text (Head head) ∷ l)) rows
         ∙ run_one _ _ (row_text (Head head)) (head_taken head good next

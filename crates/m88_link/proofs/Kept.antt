@@ -21,7 +21,7 @@ use Rattle.m88_link.specs.Inside.Drafts.{Begun, Filled, Progress, head_step, hea
 use Rattle.m88_link.specs.ObjectRead.{HasRelocText, HasSectionText, HasSymbolText, HasText}
 use Rattle.m88_link.specs.Sound.{AreSections, IsOwnAddress, origin}
 use Rattle.m88_link.proofs.RowTexts.{IsHead, row_text}
-use Rattle.m88_link.proofs.Written.{byte_rows, draft_rows, filled_rows, filling_rows, head_row, section_rows, sections_rows}
+use Rattle.m88_link.proofs.Written.{byte_rows, draft_rows, filled_rows, filling_rows, head_row, no_rows, section_rows, sections_rows}
 
 -- sections that begin as those of an object do
 abbrev pub AreInOrder : List Section → Type 0
@@ -197,7 +197,8 @@ head_goes_bare name sections h kept k next =
     let len : 0 + h.len ≡ h.len = omega arith in
     record {
       kept = s.0;
-      rows = s.1 ∙ ap (λ n. row_text (Begin name) ∷ (sections_rows sections ++ head_row h.place n h.line ∷ [])) len
+      rows = s.1 ∙ ap (λ n. row_text (Begin name) ∷ (sections_rows sections ++ head_row h.place n h.line ∷ byte_rows [])) len
+          ∙ ap (λ rows. row_text (Begin name) ∷ (sections_rows sections ++ row_text (Head h) ∷ rows)) no_rows
           ∙ ap (λ l. row_text (Begin name) ∷ (l ++ row_text (Head h) ∷ [])) (sym (append-nil (sections_rows sections)))
           ∙ ap (λ l. l ++ row_text (Head h) ∷ []) (sym (bare_rows name sections None));
     }

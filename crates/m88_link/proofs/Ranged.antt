@@ -1,5 +1,5 @@
 -- The first part by which an object isn't sound, as the line at which it stands; there is one such line at most.
-use Rattle.std.proofs.Common.{◌≡◌, ℕ, zero, suc, ◌+◌, ◌*◌, ◌/◌, ◌<◌, ◌≤◌, List, [], ◌∷◌, ◌++◌, length, take, drop, refl, sym, ap, ◌∙◌, subst, arith, inl, inr, append_assoc, length-append}
+use Rattle.std.proofs.Common.{◌≡◌, ℕ, suc, ◌+◌, ◌<◌, ◌≤◌, List, [], ◌∷◌, ◌++◌, length, refl, sym, ap, ◌∙◌, subst, arith, inl, inr, append_assoc, length-append}
 use Rattle.std.specs.Prelude.{Option, None, Some, All, flat_map, sum_by, if◌then◌else◌, Bool, true, false, ◌==◌}
 use Rattle.std.specs.List.{AllByRecursion}
 use Rattle.std.specs.Option.{option_or}
@@ -7,6 +7,8 @@ use Rattle.std.proofs.lemmas.List.{append_cancel_left, length-map}
 use Rattle.std.proofs.lemmas.List.Elements.{All-from_recursion, All-push, recursion_from_All}
 use Rattle.std.proofs.lemmas.List.Sums.{sum_by-append, sum_by-cons}
 use Rattle.m88_base.specs.Lines.{line_end, on_first_line}
+use Rattle.m88_base.specs.Pieces.{pieces}
+use Rattle.m88_base.proofs.InPieces.{length-pieces}
 use Rattle.m88_link.specs.declared.object.Object.{Object}
 use Rattle.m88_link.specs.declared.object.Reloc.{Reloc}
 use Rattle.m88_link.specs.declared.object.Section.{Section}
@@ -21,19 +23,14 @@ use Rattle.m88_link.proofs.Parts.{repeated_after-append}
 use Rattle.m88_link.proofs.RowTexts.{row_text}
 use Rattle.m88_link.proofs.Texts.{Lack, ended, joined, joined-append, lack_append, lines_of_objects, lines_of_rows, name_front, objects_joined, objects_lack, ones_lack, parts_lack, relocs_joined, row_lacks, section_lack, symbols_joined}
 use Rattle.m88_link.proofs.Walks.{All-front, All-last, front_of}
-use Rattle.m88_link.proofs.Written.{byte_row, object_rows, objects_rows, reloc_rows, rows_before, section_rows, sections_rows, symbol_rows}
+use Rattle.m88_link.proofs.Written.{byte_row, object_rows, objects_rows, reloc_rows, section_rows, sections_rows, symbol_rows}
 
 -- the numbers of lines
-length-rows_before : (bytes : List ℕ) (n : ℕ) → length (rows_before bytes n) ≡ n
-length-rows_before bytes zero = refl
-length-rows_before bytes (suc n) =
-    let row : List (List ℕ) = byte_row (take 32 (drop (n * 32) bytes)) ∷ [] in
-    let both = length-append (rows_before bytes n) row in
-    let ih = length-rows_before bytes n in
-    omega (arith, both, ih)
-
 length-section : (s : Section) → length (section_rows s) ≡ section_count s
-length-section s = let n : ℕ = (length s.bytes + 31) / 32 in let k = length-rows_before s.bytes n in omega (arith, k)
+length-section s =
+    let rows = length-map (pieces 32 s.bytes) byte_row in
+    let count = length-pieces 32 s.bytes in
+    omega (arith, rows, count)
 
 length-parts : {A : Type 0} (rows : A → List (List ℕ)) (count : A → ℕ) → ((x : A) → length (rows x) ≡ count x) → (xs : List A)
     → length (flat_map rows xs) ≡ sum_by count xs

@@ -1,11 +1,11 @@
 -- The text of objects as its lines.
-use Rattle.std.proofs.Common.{◌≡◌, ℕ, zero, suc, ◌+◌, ◌*◌, ◌/◌, ◌<◌, ◌^◌, Bool, true, false, List, [], ◌∷◌, ◌++◌, length, map, take, drop, refl, sym, ap, ◌∙◌, append_assoc}
+use Rattle.std.proofs.Common.{◌≡◌, ℕ, ◌<◌, ◌^◌, Bool, true, false, List, [], ◌∷◌, ◌++◌, length, map, refl, sym, ap, ◌∙◌, append_assoc}
 use Rattle.std.specs.Prelude.{Option, None, Some, IfSome, codes, decimal, flat_map, if◌then◌else◌}
 use Rattle.std.specs.List.{AllByRecursion}
-use Rattle.std.proofs.lemmas.List.{append-nil}
 use Rattle.std.proofs.lemmas.List.Concat.{flat_map-append}
 use Rattle.m88_base.specs.Hex.{hex8}
 use Rattle.m88_base.specs.Lines.{line_end}
+use Rattle.m88_base.specs.Pieces.{pieces}
 use Rattle.m88_base.specs.declared.fixup.Kind.{Kind}
 use Rattle.m88_base.specs.declared.fixup.Kind.TheVariants.{Hi16, Lo16, Pc26, Pc16, Abs32}
 use Rattle.m88_link.specs.declared.object.Object.{Object}
@@ -18,14 +18,14 @@ use Rattle.m88_link.specs.declared.row.Row.{Row}
 use Rattle.m88_link.specs.declared.row.Row.TheVariants.{Begin, Head, Define, Patch, End}
 use Rattle.m88_link.specs.declared.row.SectionHead.{SectionHead}
 use Rattle.m88_link.specs.ObjectRead.{HasRelocText, HasSectionText, HasSymbolText, HasText, ended_lines}
-use Rattle.m88_link.specs.ObjectText.{byte_line, byte_lines, byte_lines_before, blank, end_line, field_words, kind_word, object_line, object_lines, objects_text, place_words, reloc_line, section_lines, section_word, source_words, symbol_line, target_words}
+use Rattle.m88_link.specs.ObjectText.{byte_line, byte_lines, blank, end_line, field_words, kind_word, object_line, object_lines, objects_text, place_words, reloc_line, section_lines, section_word, source_words, symbol_line, target_words}
 use Rattle.m88_link.proofs.ByteTexts.{digits_lack}
 use Rattle.m88_base.specs.Cut.{lacks}
 use Rattle.m88_base.proofs.Splitting.{lacks-append}
 use Rattle.m88_link.proofs.Lined.{lines_at, lines_none}
 use Rattle.m88_link.proofs.RowTexts.{IsRow, head_text, place_text, row_text}
 use Rattle.m88_link.proofs.Spelling.{decimal_is_word, hex8_is_word, name_is_word, scope_text}
-use Rattle.m88_link.proofs.Written.{byte_row, head_row, object_rows, objects_rows, reloc_rows, rows_before, section_rows, sections_rows, symbol_rows}
+use Rattle.m88_link.proofs.Written.{byte_row, head_row, object_rows, objects_rows, reloc_rows, section_rows, sections_rows, symbol_rows}
 
 -- a line with its LF
 abbrev pub ended : List ℕ → List ℕ
@@ -86,20 +86,6 @@ reloc_line_is r = simp append_assoc
 byte_line_is : (bytes : List ℕ) → byte_line bytes ≡ ended (byte_row bytes)
 byte_line_is bytes = simp append_assoc
 
-byte_lines_are : (bytes : List ℕ) (n : ℕ) → byte_lines_before bytes n ≡ joined (rows_before bytes n)
-byte_lines_are bytes zero = refl
-byte_lines_are bytes (suc n) =
-    let part : List ℕ = take 32 (drop (n * 32) bytes) in
-    ap (λ l. l ++ byte_line part) (byte_lines_are bytes n)
-    ∙ ap (λ l. joined (rows_before bytes n) ++ l) (byte_line_is part ∙ sym (append-nil (ended (byte_row part))))
-    ∙ sym (flat_map-append ended (rows_before bytes n) (byte_row part ∷ []))
-
-section_lines_are : (s : Section) → section_lines s ≡ joined (section_rows s)
-section_lines_are s =
-    let n : ℕ = (length s.bytes + 31) / 32 in
-    ap (λ l. l ++ byte_lines s.bytes) (head_line_is s.place (length s.bytes) s.line)
-    ∙ ap (λ l. ended (head_row s.place (length s.bytes) s.line) ++ l) (byte_lines_are s.bytes n)
-
 -- lists of parts
 parts_joined : {A : Type 0} (lines : A → List ℕ) (rows : A → List (List ℕ)) → ((x : A) → lines x ≡ joined (rows x)) → (xs : List A)
     → flat_map lines xs ≡ joined (flat_map rows xs)
@@ -112,6 +98,11 @@ ones_joined : {A : Type 0} (line row : A → List ℕ) → ((x : A) → line x �
     → flat_map line xs ≡ joined (map row xs)
 ones_joined line row each [] = refl
 ones_joined line row each (x ∷ xs) = ap (λ l. l ++ flat_map line xs) (each x) ∙ ap (λ l. ended (row x) ++ l) (ones_joined line row each xs)
+
+section_lines_are : (s : Section) → section_lines s ≡ joined (section_rows s)
+section_lines_are s =
+    ap (λ l. l ++ byte_lines s.bytes) (head_line_is s.place (length s.bytes) s.line)
+    ∙ ap (λ l. ended (head_row s.place (length s.bytes) s.line) ++ l) (ones_joined byte_line byte_row byte_line_is (pieces 32 s.bytes))
 
 pub name_front : (o : Object) (xs : List Section) → object_line o.name ++ flat_map section_lines xs ≡ joined (row_text (Begin o.name) ∷ sections_rows xs)
 name_front o xs =
@@ -209,11 +200,9 @@ row_lacks (Patch r) h =
     (word_more (decimal r.line) t6 (decimal_is_word r.line h.line).1 (decimal_is_word r.col h.col).1))))))
 row_lacks End h = refl
 
-bytes_lack : (bytes : List ℕ) (n : ℕ) → Lack (rows_before bytes n)
-bytes_lack bytes zero = tt
-bytes_lack bytes (suc n) =
-    let part : List ℕ = take 32 (drop (n * 32) bytes) in
-    lack_append (rows_before bytes n) (byte_row part ∷ []) (bytes_lack bytes n) (digits_lack part, tt)
+bytes_lack : (ps : List (List ℕ)) → Lack (map byte_row ps)
+bytes_lack [] = tt
+bytes_lack (p ∷ ps) = (digits_lack p, bytes_lack ps)
 
 pub parts_lack : {A : Type 0} (P : A → Type 0) (rows : A → List (List ℕ)) → ((x : A) → P x → Lack (rows x)) → (xs : List A) → AllByRecursion P xs
     → Lack (flat_map rows xs)
@@ -228,7 +217,7 @@ ones_lack P row each (x ∷ xs) h = (each x h.0, ones_lack P row each xs h.1)
 pub section_lack : (s : Section) → HasSectionText s → Lack (section_rows s)
 section_lack s h = (
   row_lacks (Head (record { place = s.place; len = length s.bytes; line = s.line })) (h.address, h.few, h.line),
-  bytes_lack s.bytes ((length s.bytes + 31) / 32),
+  bytes_lack (pieces 32 s.bytes),
 )
 
 object_lack : (o : Object) → HasText o → Lack (object_rows o)

@@ -1,8 +1,10 @@
 -- The lines of objects without their LFs, of whole ones and of one whose end hasn't come.
-use Rattle.std.proofs.Common.{◌≡◌, ℕ, zero, suc, ◌+◌, ◌*◌, ◌/◌, ◌%◌, ◌≤◌, List, [], ◌∷◌, ◌++◌, length, map, take, drop, refl, sym, ap, ◌∙◌, arith, append_assoc, length-append, length-drop}
+use Rattle.std.proofs.Common.{◌≡◌, ℕ, ◌+◌, ◌*◌, ◌/◌, ◌%◌, ◌≤◌, List, [], ◌∷◌, ◌++◌, length, map, ap, ◌∙◌, arith}
 use Rattle.std.specs.Prelude.{Option, None, Some, flat_map}
-use Rattle.std.proofs.lemmas.List.{append-nil, drop-append-le, drop_at, take-append-le, take_all}
+use Rattle.std.proofs.lemmas.List.{map-append}
 use Rattle.m88_base.specs.Hex.{hex2}
+use Rattle.m88_base.specs.Pieces.{pieces}
+use Rattle.m88_base.proofs.InPieces.{no_pieces, only_piece, pieces-append}
 use Rattle.m88_link.specs.declared.object.Object.{Object}
 use Rattle.m88_link.specs.declared.object.Place.{Place}
 use Rattle.m88_link.specs.declared.object.Reloc.{Reloc}
@@ -16,13 +18,12 @@ use Rattle.m88_link.proofs.RowTexts.{row_text}
 abbrev pub byte_row : List ℕ → List ℕ
 byte_row bytes = 61 ∷ flat_map hex2 bytes
 
--- the first n lines of some bytes
-abbrev pub rows_before : List ℕ → ℕ → List (List ℕ)
-rows_before bytes zero = []
-rows_before bytes (suc n) = rows_before bytes n ++ byte_row (take 32 (drop (n * 32) bytes)) ∷ []
-
+-- the lines of some bytes
 abbrev pub byte_rows : List ℕ → List (List ℕ)
-byte_rows bytes = rows_before bytes ((length bytes + 31) / 32)
+byte_rows bytes = map byte_row (pieces 32 bytes)
+
+pub no_rows : byte_rows [] ≡ []
+no_rows = ap (map byte_row) (no_pieces 32 (omega arith))
 
 -- the head of a section
 abbrev pub head_row : Place → ℕ → ℕ → List ℕ
@@ -68,53 +69,19 @@ open_rows (Some d) = draft_rows d
 abbrev pub written : Progress → List (List ℕ)
 written s = objects_rows s.done ++ open_rows s.draft
 
--- the lines of bytes with others behind them
-pub rows_front : (xs ys : List ℕ) (n : ℕ) → n * 32 ≤ length xs → rows_before (xs ++ ys) n ≡ rows_before xs n
-rows_front xs ys zero h = refl
-rows_front xs ys (suc n) h =
-    let within : n * 32 ≤ length xs = omega (arith, h) in
-    let left : 32 ≤ length (drop (n * 32) xs) = omega (arith, h, length-drop (n * 32) xs) in
-    let last : take 32 (drop (n * 32) (xs ++ ys)) ≡ take 32 (drop (n * 32) xs) =
-    ap (take 32) (drop-append-le (n * 32) xs ys within) ∙ take-append-le 32 (drop (n * 32) xs) ys left in
-    ap (λ l. l ++ byte_row (take 32 (drop (n * 32) (xs ++ ys))) ∷ []) (rows_front xs ys n within)
-    ∙ ap (λ l. rows_before xs n ++ byte_row l ∷ []) last
+-- whole lines of bytes stand in front of the lines of others
+rows_append : (xs ys : List ℕ) → length xs % 32 ≡ 0 → byte_rows (xs ++ ys) ≡ byte_rows xs ++ byte_rows ys
+rows_append xs ys whole =
+    let n : ℕ = length xs / 32 in
+    let size : length xs ≡ n * 32 = omega (arith, whole) in
+    ap (map byte_row) (pieces-append 32 (omega arith) n xs ys size) ∙ map-append byte_row (pieces 32 xs) (pieces 32 ys)
 
 -- a line more behind whole lines
 pub one_row_more : (xs bs : List ℕ) → length xs % 32 ≡ 0 → 1 ≤ length bs → length bs ≤ 32
     → byte_rows (xs ++ bs) ≡ byte_rows xs ++ byte_row bs ∷ []
 one_row_more xs bs whole some few =
-    let n : ℕ = length xs / 32 in
-    let size : n * 32 ≡ length xs = omega (arith, whole) in
-    let before : (length xs + 31) / 32 ≡ n = omega (arith, whole) in
-    let both = length-append xs bs in
-    let after : (length (xs ++ bs) + 31) / 32 ≡ suc n = omega (arith, whole, some, few, both) in
-    let last : take 32 (drop (n * 32) (xs ++ bs)) ≡ bs = ap (take 32) (drop_at xs bs (n * 32) (sym size)) ∙ take_all 32 bs few in
-    let fits : n * 32 ≤ length xs = omega (arith, size) in
-    ap (rows_before (xs ++ bs)) after
-    ∙ ap (λ l. l ++ byte_row (take 32 (drop (n * 32) (xs ++ bs))) ∷ []) (rows_front xs bs n fits)
-    ∙ ap (λ l. rows_before xs n ++ byte_row l ∷ []) last
-    ∙ ap (λ k. rows_before xs k ++ byte_row bs ∷ []) (sym before)
-
--- lines in front of others
-pub rows_more : (xs : List ℕ) (n m : ℕ) → (rest : List (List ℕ)) × (rows_before xs (n + m) ≡ rows_before xs n ++ rest)
-rows_more xs n zero = ([], let z : n + 0 ≡ n = omega arith in ap (rows_before xs) z ∙ sym (append-nil (rows_before xs n)))
-rows_more xs n (suc m) =
-    let k = rows_more xs n m in
-    let e : n + suc m ≡ suc (n + m) = omega arith in
-    let row : List (List ℕ) = byte_row (take 32 (drop ((n + m) * 32) xs)) ∷ [] in
-    (k.0 ++ row, ap (rows_before xs) e ∙ ap (λ l. l ++ row) k.1 ∙ append_assoc (rows_before xs n) k.0 row)
+    rows_append xs bs whole ∙ ap (λ ps. byte_rows xs ++ map byte_row ps) (only_piece 32 (omega arith) bs (omega (arith, some)) few)
 
 -- whole lines of bytes begin the lines of these bytes with others behind them
 pub rows_prefix : (xs ys : List ℕ) → length xs % 32 ≡ 0 → (rest : List (List ℕ)) × (byte_rows (xs ++ ys) ≡ byte_rows xs ++ rest)
-rows_prefix xs ys whole =
-    let n : ℕ = length xs / 32 in
-    let m : ℕ = (length ys + 31) / 32 in
-    let size : n * 32 ≤ length xs = omega (arith, whole) in
-    let before : (length xs + 31) / 32 ≡ n = omega (arith, whole) in
-    let both = length-append xs ys in
-    let after : (length (xs ++ ys) + 31) / 32 ≡ n + m = omega (arith, whole, both) in
-    let k = rows_more (xs ++ ys) n m in (
-      k.0,
-      ap (rows_before (xs ++ ys)) after ∙ k.1
-          ∙ ap (λ l. l ++ k.0) (rows_front xs ys n size ∙ ap (rows_before xs) (sym before)),
-    )
+rows_prefix xs ys whole = (byte_rows ys, rows_append xs ys whole)

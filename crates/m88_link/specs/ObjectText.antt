@@ -1,8 +1,9 @@
 -- Object files as text (object file formats: sections, symbol table, relocation entries): lines that end with LF, of
 -- words parted by one blank.
-use Rattle.std.specs.Prelude.{ℕ, zero, suc, ◌+◌, ◌-◌, ◌*◌, ◌/◌, List, [], ◌∷◌, ◌++◌, codes, decimal, drop, take, length, flat_map, Option, None, Some, if◌then◌else◌}
+use Rattle.std.specs.Prelude.{ℕ, List, [], ◌∷◌, ◌++◌, codes, decimal, length, flat_map, Option, None, Some, if◌then◌else◌}
 use Rattle.m88_base.specs.Hex.{hex2, hex8}
 use Rattle.m88_base.specs.Lines.{line_end}
+use Rattle.m88_base.specs.Pieces.{pieces}
 use Rattle.m88_base.specs.declared.fixup.Kind.{Kind}
 use Rattle.m88_base.specs.declared.fixup.Kind.TheVariants.{Hi16, Lo16, Pc26, Pc16, Abs32}
 use Rattle.m88_link.specs.declared.object.Object.{Object}
@@ -28,14 +29,9 @@ byte_line bytes = codes "=" ++ flat_map hex2 bytes ++ line_end
 abbrev pub line_bytes : ℕ
 line_bytes = 32
 
--- the first n byte lines of a section, of which each but the last has 32 bytes
-abbrev pub byte_lines_before : List ℕ → ℕ → List ℕ
-byte_lines_before bytes zero = []
-byte_lines_before bytes (suc n) = byte_lines_before bytes n ++ byte_line (take line_bytes (drop (n * line_bytes) bytes))
-
--- the byte lines of a section, none where it has no bytes
+-- the byte lines of a section, of which each but the last has 32 bytes; none where it has no bytes
 abbrev pub byte_lines : List ℕ → List ℕ
-byte_lines bytes = byte_lines_before bytes ((length bytes + (line_bytes - 1)) / line_bytes)
+byte_lines bytes = flat_map byte_line (pieces line_bytes bytes)
 
 -- the words for a section's place and its length
 abbrev pub place_words : Place → ℕ → List ℕ

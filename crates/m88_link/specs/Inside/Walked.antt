@@ -1,6 +1,7 @@
 -- Objects gone through part by part, to the first part by which one of them isn't sound, and the number of lines that
 -- stand before it in their text.
-use Rattle.std.specs.Prelude.{◌≡◌, ℕ, ◌+◌, ◌-◌, ◌/◌, ◌⊎◌, List, [], ◌∷◌, ◌++◌, All, length, sum_by}
+use Rattle.std.specs.Prelude.{◌≡◌, ℕ, ◌+◌, ◌⊎◌, List, [], ◌∷◌, ◌++◌, All, length, sum_by}
+use Rattle.m88_base.specs.Pieces.{piece_count}
 use Rattle.m88_link.specs.declared.object.Object.{Object}
 use Rattle.m88_link.specs.declared.object.Reloc.{Reloc}
 use Rattle.m88_link.specs.declared.object.Section.{Section}
@@ -13,7 +14,7 @@ use Rattle.m88_link.specs.Sound.{HasRoom, IsPatchIn}
 
 -- the number of lines of a section: its head and its byte lines
 abbrev pub section_count : Section → ℕ
-section_count s = 1 + (length s.bytes + (line_bytes - 1)) / line_bytes
+section_count s = 1 + piece_count line_bytes s.bytes
 
 -- of sections
 abbrev pub sections_count : List Section → ℕ

@@ -9,8 +9,8 @@ loop-line-preserved c =
     let size = rw c.loop-line.invariant.size at steps.1.1 in
     record {
       size = steps.0 ∙ c.loop-line.invariant.size;
-      lines = one_line_more _ _ _ _ _ _ _ c.loop-line.invariant.lines steps.1.0 size steps.1.2 c.in_ok-push_byte_line.ensures;
+      left = one_line_more _ _ _ _ _ _ steps.1.0 size steps.1.2 c.in_ok-push_byte_line.ensures c.loop-line.invariant.left;
     }
 
 pub returns-clause-text : goal.returns-clause-text
-returns-clause-text c = all_lines _ _ _ _ c.loop-line.invariant.lines c.in-None.ensures.steps.1.0
+returns-clause-text c = all_lines _ _ _ c.in-None.ensures.steps.1.0 c.loop-line.invariant.left
