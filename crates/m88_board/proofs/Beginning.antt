@@ -5,7 +5,6 @@ use Rattle.std.proofs.lemmas.Bool.Decides.{nat_tests}
 use Rattle.std.proofs.lemmas.List.Elements.{All-nil}
 use Rattle.m88_base.specs.Image.{IsImage}
 use Rattle.m88_base.specs.Slot.{no_slot, slot_word, valid_slot}
-use Rattle.m88_base.specs.declared.absent.Absent.{Absent}
 use Rattle.m88_base.specs.declared.absent.Absent.TheVariants as absent
 use Rattle.m88_base.specs.declared.slot.Slot.{Slot}
 use Rattle.m88_ctrl.specs.ControlRegisters.{ControlRegisters, at_start, carry_of, mxm_of, with_carry}
@@ -15,8 +14,8 @@ use Rattle.m88_isa.specs.Address.{after_bytes}
 use Rattle.m88_isa.specs.Bus.{after_accesses}
 use Rattle.m88_isa.specs.Memory.{IsWordAccess}
 use Rattle.m88_isa.specs.declared.planned.Access.{Access}
-use Rattle.m88_iunit.specs.Pointers.{AreWordSlots, Pointers}
-use Rattle.m88_mem.specs.DataBus.{MemoryView, absent_of, bus_of, ready_of}
+use Rattle.m88_iunit.specs.Pointers.{Pointers}
+use Rattle.m88_mem.specs.DataBus.{absent_of, bus_of, ready_of}
 use Rattle.m88_scoreboard.specs.Registers.{Registers, none_waits, waiting_of}
 use Rattle.m88_board.proofs.Ending.{none_wait, registers_seen, words_seen}
 use Rattle.m88_board.proofs.Waiting.{none_wait_for_none}

@@ -36,3 +36,4 @@ pub mod OfHistory
 pub mod Resuming
 pub mod Suspending
 pub mod CameTo
+pub mod Telling

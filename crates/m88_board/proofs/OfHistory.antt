@@ -1,5 +1,5 @@
 -- What holds of each state of a history: no step changes MXM, r0 is 0, and programs of one image have the same turns.
-use Rattle.std.specs.Prelude.{ℕ, zero, suc, Bool, true, false, List, [], ◌∷◌, Option, Some, None, ◌≡◌, ◌<◌, ◌%◌, ◌^◌, ◌==◌, slice_index, unwrap_or}
+use Rattle.std.specs.Prelude.{ℕ, zero, suc, List, [], ◌∷◌, Option, Some, None, ◌≡◌, ◌<◌, ◌^◌, ◌==◌, slice_index, unwrap_or}
 use Rattle.std.specs.Int.{from_be_bytes, to_be_bytes, w32}
 use Rattle.std.proofs.Common.{get_or-set_other, refl, sym, ap, ap₂, subst, ◌∙◌}
 use Rattle.std.proofs.lemmas.Bool.{eqb-false}

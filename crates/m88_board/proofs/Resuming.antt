@@ -1,20 +1,20 @@
 -- A board that is resumed from a context stands at the moment for which that stands, and what always holds of a board holds
 -- of it.
-use Rattle.std.specs.Prelude.{ℕ, zero, suc, Bool, true, false, not, List, [], Option, Some, None, IfSome, ◌≡◌, ◌<◌, ◌≤◌, ◌+◌, ◌*◌, ◌%◌, ◌==◌, drop, is_none, is_some, length, slice_index, if◌then◌else◌}
+use Rattle.std.specs.Prelude.{ℕ, zero, suc, Bool, true, false, not, List, [], Option, Some, None, IfSome, ◌≡◌, ◌+◌, ◌==◌, is_none, is_some, length, slice_index, if◌then◌else◌}
 use Rattle.std.specs.Int.{bit_at}
 use Rattle.std.proofs.Common.{arith, add-one, refl, sym, ap, ap₂, subst, ◌∙◌}
 use Rattle.std.proofs.lemmas.List.{drop_all}
 use Rattle.std.proofs.lemmas.List.Elements.{All-nil}
-use Rattle.m88_base.specs.Image.{IsImage, ProgramImage, byte_at}
+use Rattle.m88_base.specs.Image.{ProgramImage}
 use Rattle.m88_base.specs.Slot.{IsWordSlot, no_slot, slot_of, slot_word}
 use Rattle.m88_base.specs.declared.slot.Slot.{Slot}
-use Rattle.m88_ctrl.specs.ControlRegisters.{ControlRegisters, carry_of, carry_place, mxm_of}
+use Rattle.m88_ctrl.specs.ControlRegisters.{ControlRegisters, carry_place}
 use Rattle.m88_event.proofs.Follows.{ended_is}
 use Rattle.m88_event.proofs.Over.{drained_bus}
 use Rattle.m88_event.specs.Local.{Local, local_at}
 use Rattle.m88_event.specs.Past.{HasPast}
-use Rattle.m88_event.specs.Shadow.{fetched_pointer, fip_of, nip_of, retired_pointer, status_of}
-use Rattle.m88_event.specs.Timeline.{Moment, end_at, end_of_turn, nip_at, xip_at}
+use Rattle.m88_event.specs.Shadow.{fip_of, nip_of, retired_pointer, status_of}
+use Rattle.m88_event.specs.Timeline.{Moment, end_of_turn, nip_at, xip_at}
 use Rattle.m88_event.specs.declared.happened.End.{End}
 use Rattle.m88_isa.proofs.AtWords.{state_straight, state_words}
 use Rattle.m88_isa.proofs.Counted.{twice_at_most}
@@ -22,14 +22,14 @@ use Rattle.m88_isa.proofs.ImageProgram.{program_of_image}
 use Rattle.m88_isa.specs.Address.{after_bytes}
 use Rattle.m88_isa.specs.Bus.{after_accesses}
 use Rattle.m88_isa.specs.Held.{is_stop}
-use Rattle.m88_isa.specs.History.{Completed, completed_state, transaction_count, transactions}
+use Rattle.m88_isa.specs.History.{completed_state, transactions}
 use Rattle.m88_isa.specs.ImageProgram.{IsProgramOf}
-use Rattle.m88_isa.specs.Machine.{IsProgram, Program, State, Stop, Turn, by_vector, changes, exits, four_bytes, outputs, state, stops, turn_at}
+use Rattle.m88_isa.specs.Machine.{IsProgram, Program, State, Turn, by_vector, changes, exits, four_bytes, outputs, state, stops, turn_at}
 use Rattle.m88_isa.specs.Memory.{IsWordAccess}
 use Rattle.m88_iunit.specs.Pointers.{Pointers}
-use Rattle.m88_mem.specs.DataBus.{MemoryView, absent_of, bus_of, ready_of}
+use Rattle.m88_mem.specs.DataBus.{MemoryView, ready_of}
 use Rattle.m88_scoreboard.specs.Registers.{Registers, none_waits, waiting_of}
-use Rattle.m88_board.proofs.OfHistory.{mode_stays, same_turn, zero_is}
+use Rattle.m88_board.proofs.OfHistory.{same_turn, zero_is}
 use Rattle.m88_board.proofs.ReadBack.{carry_back, mxm_back, slot_back, word_back}
 use Rattle.m88_board.proofs.Waiting.{none_wait_for_none}
 use Rattle.m88_board.specs.Board.{BoardView, completed_of, local_of, next_of, pc_of}

@@ -4,6 +4,7 @@ pub mod Glances
 pub mod Moves
 pub mod Turns
 pub mod Shown
+pub mod Told
 pub mod Walks
 pub mod Parts
 pub mod Contexts

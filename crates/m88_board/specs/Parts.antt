@@ -1,5 +1,5 @@
 -- The parts of a board whose program has ended, and the board that begins from parts.
-use Rattle.std.specs.Prelude.{ℕ, Bool, false, [], Option, Some, None, IfSome, ◌≡◌, ◌≤◌, ◌+◌, ◌*◌, ◌%◌, ◌==◌, length, slice_index, if◌then◌else◌}
+use Rattle.std.specs.Prelude.{ℕ, false, [], Option, Some, None, IfSome, ◌≡◌, ◌≤◌, ◌+◌, ◌*◌, ◌%◌, ◌==◌, length, slice_index, if◌then◌else◌}
 use Rattle.m88_base.specs.Slot.{no_slot, slot_word}
 use Rattle.m88_base.specs.declared.slot.Slot.{Slot}
 use Rattle.m88_ctrl.specs.ControlRegisters.{carry_of}

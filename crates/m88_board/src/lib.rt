@@ -2,7 +2,7 @@
 //! machine, with its output, its counts and the records of its data faults. `Board::new` makes one over an image,
 //! `event` makes the event of a letter, and a `Walk` those of the letters of a run, one by one or until it is to stop;
 //! `run` is a walk to the end of a run, and `drain` makes the events that leave nothing pending. A `Watch` is shown the
-//! board after each event of these. `into_parts` takes a board whose program has ended into its `Parts`, and
+//! board after each event of these, and `Walk::next_told` tells what an instruction does as it is issued. `into_parts` takes a board whose program has ended into its `Parts`, and
 //! `Board::begin` makes a board that goes on from parts. All else tells what the board shows.
 #![tactic(auto)]
 
@@ -13,6 +13,7 @@ mod parts;
 mod context;
 
 // along the letters of a run
+mod told;
 mod until;
 mod walk;
 
@@ -35,6 +36,7 @@ pub use glance::Glance;
 pub use m88_event::{End, Happened, Letter, Outcome, Record, Schedule, Why};
 pub use mem_watch::MemWatch;
 pub use parts::Parts;
+pub use told::Told;
 pub use until::Until;
 pub use walk::Walk;
 pub use watch::{Unwatched, Watch};

@@ -7,13 +7,16 @@ ghost use Rattle.m88_event.specs.Letters.{letter_at};
 ghost use Rattle.m88_event.specs.Local.{is_over_by};
 ghost use Rattle.m88_event.specs.Run.{IsDrain, IsDraining, IsFirst, NotBefore, answered_after};
 ghost use Rattle.m88_event.specs.Timeline.{Moment, is_over, said_at};
+ghost use Rattle.m88_event.specs.declared.letter.Letter.{Letter as LetterValue};
 ghost use Rattle.m88_isa.specs.Machine.{IsProgram, Program};
 ghost use Rattle.m88_board.specs.Board.{local_of};
 ghost use Rattle.m88_board.specs.Glances.{Saw, glances_along};
 ghost use Rattle.m88_board.specs.Moves.{IsAlong, IsAt, IsSameRun, IsStep, IsUnmoved};
+ghost use Rattle.m88_board.specs.Told.{IsTold, MakesWords};
 ghost use Rattle.m88_board.specs.Walks.{IsBounded, is_at_breakpoint, is_enough, moments_from, stops_after};
 
 use crate::board::Board;
+use crate::told::Told;
 use crate::until::Until;
 use crate::watch::Watch;
 use m88_base::NoMemory;
@@ -86,8 +89,44 @@ impl<'a> Walk<'a> {
         ensures untaken { OnErr result (self.new.taken ≡ self.old.taken) }
         ensures unseen { OnErr result (watch.new ≡ watch.old) }
     {
+        self.next_told(watch, &mut Told::nothing())
+    }
+
+    /// Makes the event of the next letter as `next` does, and tells of `i` what the instruction is that goes on.
+    pub fn next_told<W: Watch>(
+        &mut self,
+        watch: &mut W,
+        told: &mut Told,
+    ) -> Result<Happened, NoMemory>
+        requires { is_over_by self.old.board.now.limit (local_of self.old.board.now) ≡ false }
+        ensures ok { OnOk result ((p : Program) (named : ℕ → Bool) (m : Moment)
+            → IsAt p named m self.old.board.now
+            → IsStep p named (letter_at self.old.schedule.now self.old.taken) m
+            (W.seen watch.old) (W.seen watch.new) self.old.board.now self.new.board.now) }
+        ensures said { IfOk result (λ happened. (p : Program) (named : ℕ → Bool) (m : Moment)
+            → IsAt p named m self.old.board.now
+            → happened ≡ said_at p named self.old.board.now.limit
+            (letter_at self.old.schedule.now self.old.taken) m) }
+        ensures taken { OnOk result (self.new.taken ≡ self.old.taken + 1) }
+        ensures lighter { OnOk result
+            (weight self.new.schedule.now self.new.board.now.limit self.new.taken
+            (local_of self.new.board.now)
+            < weight self.old.schedule.now self.old.board.now.limit self.old.taken
+            (local_of self.old.board.now)) }
+        ensures same { IsSameRun self.old.board.now self.new.board.now }
+        ensures schedule { self.new.schedule ≡ self.old.schedule }
+        ensures lender { self.new.board.ghost_name ≡ self.old.board.ghost_name }
+        ensures told { letter_at self.old.schedule.now self.old.taken ≡ LetterValue.Issue
+            → IfOk result (λ happened. (p : Program) (named : ℕ → Bool) (m : Moment)
+            → IsAt p named m self.old.board.now
+            → IsTold p named self.old.board.now.limit m happened told.new) }
+        ensures made { MakesWords told.old.plan → MakesWords told.new.plan }
+        ensures err { OnErr result (IsUnmoved self.old.board.now self.new.board.now) }
+        ensures untaken { OnErr result (self.new.taken ≡ self.old.taken) }
+        ensures unseen { OnErr result (watch.new ≡ watch.old) }
+    {
         let letter = self.letter();
-        let happened = self.board.step(letter, watch)?;
+        let happened = self.board.step(letter, watch, told)?;
         self.taken += 1;
         Ok(happened)
     }
@@ -116,8 +155,9 @@ impl<'a> Walk<'a> {
     {
         // Every run is over: each event takes something off the weight of what is left of it.
         let mut made = 0;
+        let mut told = Told::nothing();
         while !self.stops(until, made) {
-            self.next(watch)?;
+            self.next_told(watch, &mut told)?;
             made += 1;
         }
         Ok(())

@@ -19,7 +19,7 @@ ghost use Rattle.m88_trace.specs.Trace.{IsRunTrace, trace_line, trace_of};
 use crate::sheet::Sheet;
 use crate::upcoming::upcoming_on;
 use m88_base::{Absent, Image, NoMemory};
-use m88_board::{Board, Schedule, Unwatched, Walk};
+use m88_board::{Board, Schedule, Told, Unwatched, Walk};
 use m88_event::Letter;
 use std::alloc::Global;
 
@@ -79,9 +79,11 @@ fn step(walk: &mut Walk, sheet: &mut Sheet) -> Result<(), NoMemory>
 {
     match walk.letter() {
         Letter::Issue => {
-            let next = upcoming_on(walk.board());
-            let happened = walk.next(&mut Unwatched)?;
-            sheet.note_issue(&next, happened)
+            let mut next = upcoming_on(walk.board());
+            let mut told = Told::nothing();
+            let happened = walk.next_told(&mut Unwatched, &mut told)?;
+            next.word = told.word;
+            sheet.note_issue(&next, &told.effect, happened)
         }
         Letter::Answer => {
             let told = sheet.data(walk.board());

@@ -1,25 +1,30 @@
 //! The event of a letter.
 
 ghost use Rattle.std.specs.Prelude.{ℕ, Bool, ◌≡◌, ◌<◌, ◌≤◌, ◌+◌, ◌-◌, [], Ok, length, IfOk, OnErr, OnOk};
-ghost use Rattle.m88_event.specs.Choice.{ServesOrEnds};
+ghost use Rattle.m88_base.specs.Image.{byte_at};
+ghost use Rattle.m88_event.specs.Choice.{ServesOrEnds, issues};
 ghost use Rattle.m88_event.specs.Local.{choice_by, record_by};
 ghost use Rattle.m88_event.specs.Timeline.{Moment, after_letter, said_at};
 ghost use Rattle.m88_event.specs.declared.happened.Happened.{Happened as HappenedValue};
 ghost use Rattle.m88_event.specs.declared.letter.Letter.{Letter as LetterValue};
-ghost use Rattle.m88_isa.specs.Machine.{Program};
-ghost use Rattle.m88_board.specs.Board.{local_of};
+ghost use Rattle.m88_isa.specs.Effect.{Change, recorded_change};
+ghost use Rattle.m88_isa.specs.Machine.{Program, four_bytes};
+ghost use Rattle.m88_board.specs.Board.{local_of, pc_of};
 ghost use Rattle.m88_isa.specs.ImageProgram.{IsProgramOf};
+ghost use Rattle.m88_isa.specs.declared.planned.Plan.TheVariants.{Go};
 ghost use Rattle.m88_board.specs.Kept.{IsKept, most_events};
 ghost use Rattle.m88_board.specs.Moves.{Did, IsAt, IsEvicted, IsMove, IsSameRun, IsStill, IsUnmoved, end_after};
 ghost use Rattle.m88_board.specs.Shown.{Leaves};
+ghost use Rattle.m88_board.specs.Told.{IsTold, MakeWord, MakesWords, WentOn};
 
 use super::Board;
+use crate::told::Told;
 use m88_base::NoMemory;
 use m88_event::{Happened, Letter};
 
 impl Board {
     /// What a letter makes the board do; the event isn't counted yet.
-    fn take(&mut self, letter: Letter) -> Result<Happened, NoMemory>
+    fn take(&mut self, letter: Letter, told: &mut Told) -> Result<Happened, NoMemory>
         ensures ok { IfOk result (λ happened. (p : Program) → IsProgramOf self.old.memory.image p
             → Did (choice_by p self.old.limit letter (local_of self.old))
             (record_by p self.old.limit (local_of self.old)) self.old happened self.new) }
@@ -31,10 +36,18 @@ impl Board {
         ensures leaves { IfOk result (λ happened. Leaves happened self.old self.new) }
         ensures evicts { letter ≡ LetterValue.Evict → result ≡ Ok HappenedValue.Evicted }
         ensures evicted { letter ≡ LetterValue.Evict → IsEvicted self.old self.new }
+        ensures word { letter ≡ LetterValue.Issue → IfOk result (λ happened. WentOn happened
+            → MakeWord (four_bytes (byte_at self.old.memory.image) (pc_of self.old.slots))
+            told.new.word) }
+        ensures plan { letter ≡ LetterValue.Issue → OnOk result ((p : Program) (change : Change)
+            → IsProgramOf self.old.memory.image p
+            → choice_by p self.old.limit LetterValue.Issue (local_of self.old) ≡ issues change
+            → told.new.plan ≡ Go (recorded_change change)) }
+        ensures made { MakesWords told.old.plan → MakesWords told.new.plan }
         ensures err { OnErr result (IsUnmoved self.old self.new) }
     {
         match letter {
-            Letter::Issue => self.issue(),
+            Letter::Issue => self.issue(told),
             Letter::Answer => self.answer(),
             Letter::Evict => Ok(self.evict()),
         }
@@ -71,7 +84,46 @@ impl Board {
         ensures evicted { letter ≡ LetterValue.Evict → IsEvicted self.old self.new }
         ensures err { OnErr result (IsUnmoved self.old self.new) }
     {
-        let happened = self.take(letter)?;
+        self.event_told(letter, &mut Told::nothing())
+    }
+
+    /// Makes the event of a letter as `event` does, and tells of `i` what the instruction is that goes on.
+    pub(crate) fn event_told(
+        &mut self,
+        letter: Letter,
+        told: &mut Told,
+    ) -> Result<Happened, NoMemory>
+        requires { self.old.events < most_events }
+        ensures moved { IfOk result (λ happened. (p : Program)
+            → IsProgramOf self.old.memory.image p
+            → IsMove p letter self.old happened self.new) }
+        ensures timeline { OnOk result ((p : Program) (named : ℕ → Bool) (m : Moment)
+            → IsAt p named m self.old
+            → IsAt p named (after_letter p named self.old.limit letter m) self.new) }
+        ensures said { IfOk result (λ happened. (p : Program) (named : ℕ → Bool) (m : Moment)
+            → IsAt p named m self.old
+            → happened ≡ said_at p named self.old.limit letter m) }
+        ensures precise { IfOk result (λ happened. ServesOrEnds happened
+            → self.old.pending ≡ []) }
+        ensures ended { IfOk result (λ happened. self.new.ended
+            ≡ end_after happened self.old.ended) }
+        ensures counted { OnOk result (self.new.events ≡ self.old.events + 1) }
+        ensures same { OnOk result (IsSameRun self.old self.new) }
+        ensures still { IfOk result (λ happened. IsStill happened
+            → self.new ≡ record self.old { events = self.old.events + 1 }) }
+        ensures shorter { letter ≡ LetterValue.Answer
+            → OnOk result (length self.new.pending ≤ length self.old.pending - 1) }
+        ensures leaves { IfOk result (λ happened. Leaves happened self.old self.new) }
+        ensures kept { OnOk result (IsKept self.new) }
+        ensures evicts { letter ≡ LetterValue.Evict → result ≡ Ok HappenedValue.Evicted }
+        ensures evicted { letter ≡ LetterValue.Evict → IsEvicted self.old self.new }
+        ensures told { letter ≡ LetterValue.Issue → IfOk result (λ happened.
+            (p : Program) (named : ℕ → Bool) (m : Moment) → IsAt p named m self.old
+            → IsTold p named self.old.limit m happened told.new) }
+        ensures made { MakesWords told.old.plan → MakesWords told.new.plan }
+        ensures err { OnErr result (IsUnmoved self.old self.new) }
+    {
+        let happened = self.take(letter, told)?;
         self.count();
         Ok(happened)
     }

@@ -1,21 +1,26 @@
 //! The event of the letter `i`: the next instruction is issued, is held, or ends the program.
 
 ghost use Rattle.std.specs.Prelude.{◌≡◌, Some, None, true, false, IfOk, OnErr, OnOk};
+ghost use Rattle.m88_base.specs.Image.{byte_at};
+ghost use Rattle.m88_event.specs.Choice.{issues};
 ghost use Rattle.m88_event.specs.Local.{choice_by};
 ghost use Rattle.m88_event.specs.declared.letter.Letter.{Letter as LetterValue};
 ghost use Rattle.m88_event.specs.declared.record.Record.{Record as RecordValue};
-ghost use Rattle.m88_isa.specs.Effect.{FlowsToWords, MakesAccesses, RaisesListed, TrapsForUser, WritesWithin, plan_for};
+ghost use Rattle.m88_isa.specs.Effect.{Change, FlowsToWords, MakesAccesses, RaisesListed, TrapsForUser, WritesWithin, plan_for, recorded_change};
 ghost use Rattle.m88_isa.specs.Held.{busy_register, is_pending};
 ghost use Rattle.m88_isa.specs.Instr.{IsValid};
-ghost use Rattle.m88_isa.specs.Machine.{Program};
+ghost use Rattle.m88_isa.specs.Machine.{Program, four_bytes};
 ghost use Rattle.m88_isa.specs.Operands.{access_count_of, writes_of};
-ghost use Rattle.m88_board.specs.Board.{completed_of, is_idle_board, local_of};
+ghost use Rattle.m88_board.specs.Board.{completed_of, is_idle_board, local_of, pc_of};
 ghost use Rattle.m88_isa.specs.ImageProgram.{IsProgramOf};
+ghost use Rattle.m88_isa.specs.declared.planned.Plan.TheVariants.{Go};
 ghost use Rattle.m88_board.specs.Moves.{Did, IsSameRun, IsStill, IsUnmoved};
 ghost use Rattle.m88_board.specs.Shown.{Leaves};
+ghost use Rattle.m88_board.specs.Told.{MakeWord, MakesWords, WentOn};
 ghost use Rattle.m88_board.specs.Turns.{IssueComesTo, PlansOnePage, choice_for, meaning_at};
 
 use crate::board::Board;
+use crate::told::Told;
 use m88_base::NoMemory;
 use m88_codec::{BadWord, decode};
 use m88_event::{Happened, Why};
@@ -24,7 +29,7 @@ use m88_isa::{INSTRUCTION_ACCESS, Instr, Plan, UNIMPLEMENTED, plan, waits_for_em
 impl Board {
     /// The letter `i`: nothing where no more may be issued, a bubble is passed over, or the next instruction has its
     /// turn.
-    pub(super) fn issue(&mut self) -> Result<Happened, NoMemory>
+    pub(super) fn issue(&mut self, told: &mut Told) -> Result<Happened, NoMemory>
         ensures ok { IfOk result (λ happened. (p : Program) (fault : RecordValue)
             → IsProgramOf self.old.memory.image p
             → Did (choice_by p self.old.limit LetterValue.Issue (local_of self.old)) fault
@@ -33,6 +38,14 @@ impl Board {
         ensures same { OnOk result (IsSameRun self.old self.new) }
         ensures still { IfOk result (λ happened. IsStill happened → self.new ≡ self.old) }
         ensures leaves { IfOk result (λ happened. Leaves happened self.old self.new) }
+        ensures word { IfOk result (λ happened. WentOn happened
+            → MakeWord (four_bytes (byte_at self.old.memory.image) (pc_of self.old.slots))
+            told.new.word) }
+        ensures plan { OnOk result ((p : Program) (change : Change)
+            → IsProgramOf self.old.memory.image p
+            → choice_by p self.old.limit LetterValue.Issue (local_of self.old) ≡ issues change
+            → told.new.plan ≡ Go (recorded_change change)) }
+        ensures made { MakesWords told.old.plan → MakesWords told.new.plan }
         ensures err { OnErr result (IsUnmoved self.old self.new) }
     {
         if self.is_idle() {
@@ -46,14 +59,15 @@ impl Board {
         let Some(word) = self.memory.fetch(nip.addr) else {
             return Ok(self.raise(INSTRUCTION_ACCESS));
         };
+        told.word = word;
         match decode(word) {
-            Ok(instr) => self.issue_instr(&instr),
+            Ok(instr) => self.issue_instr(&instr, &mut told.plan),
             Err(BadWord) => Ok(self.raise(UNIMPLEMENTED)),
         }
     }
 
     /// The next instruction in its turn.
-    fn issue_instr(&mut self, instr: &Instr) -> Result<Happened, NoMemory>
+    fn issue_instr(&mut self, instr: &Instr, told: &mut Plan) -> Result<Happened, NoMemory>
         requires instr { IsValid instr.now }
         requires going { is_idle_board self.old ≡ false }
         requires valid { self.old.slots.nip.v ≡ true }
@@ -63,16 +77,20 @@ impl Board {
             → Did (choice_for (Some instr.now) self.old) fault self.old happened self.new) }
         ensures still { IfOk result (λ happened. IsStill happened → self.new ≡ self.old) }
         ensures leaves { IfOk result (λ happened. Leaves happened self.old self.new) }
+        ensures told { OnOk result ((change : Change)
+            → choice_for (Some instr.now) self.old ≡ issues change
+            → told.new ≡ Go (recorded_change change)) }
+        ensures made { MakesWords told.old → MakesWords told.new }
         ensures err { OnErr result (IsUnmoved self.old self.new) }
     {
         if let Some(r) = self.busy_register(instr) {
             return Ok(Happened::Stalled(Why::Busy(r)));
         }
-        self.issue_free(instr)
+        self.issue_free(instr, told)
     }
 
     /// The next instruction in its turn, where no register that it uses or writes waits.
-    fn issue_free(&mut self, instr: &Instr) -> Result<Happened, NoMemory>
+    fn issue_free(&mut self, instr: &Instr, told: &mut Plan) -> Result<Happened, NoMemory>
         requires instr { IsValid instr.now }
         requires going { is_idle_board self.old ≡ false }
         requires valid { self.old.slots.nip.v ≡ true }
@@ -83,9 +101,15 @@ impl Board {
             → Did (choice_for (Some instr.now) self.old) fault self.old happened self.new) }
         ensures still { IfOk result (λ happened. IsStill happened → self.new ≡ self.old) }
         ensures leaves { IfOk result (λ happened. Leaves happened self.old self.new) }
+        ensures told { OnOk result ((change : Change)
+            → choice_for (Some instr.now) self.old ≡ issues change
+            → told.new ≡ Go (recorded_change change)) }
+        ensures made { MakesWords told.old → MakesWords told.new }
         ensures err { OnErr result (IsUnmoved self.old self.new) }
     {
-        match self.planned(instr) {
+        let plan = self.planned(instr);
+        *told = plan;
+        match plan {
             Plan::Raise(vector) => Ok(self.raise(vector)),
             Plan::Trap(vector) => {
                 if self.is_pending() {
@@ -121,6 +145,7 @@ impl Board {
         requires free { busy_register (Some instr.now) self.now.pending ≡ None }
         ensures value { result ≡ plan_for (meaning_at instr.now (completed_of self.now)) }
         ensures accesses { MakesAccesses (access_count_of instr.now) result }
+        ensures words { MakesWords result }
         ensures register { WritesWithin (writes_of instr.now) result }
         ensures trap { TrapsForUser result }
         ensures raise { RaisesListed result }

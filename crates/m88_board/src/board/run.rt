@@ -18,9 +18,11 @@ ghost use Rattle.m88_board.specs.Glances.{Saw, glances_along};
 ghost use Rattle.m88_board.specs.Kept.{IsKept, most_events};
 ghost use Rattle.m88_board.specs.Moves.{IsAlong, IsAt, IsSameRun, IsStep, IsUnmoved};
 ghost use Rattle.m88_board.specs.Shown.{IsSettled};
+ghost use Rattle.m88_board.specs.Told.{IsTold, MakesWords};
 ghost use Rattle.m88_board.specs.Walks.{IsNoHeavier};
 
 use super::Board;
+use crate::told::Told;
 use crate::until::Until;
 use crate::walk::Walk;
 use crate::watch::Watch;
@@ -85,16 +87,18 @@ impl Board {
             (W.seen watch.old) (W.seen watch.new) self.new) }
     {
         while self.dunit.oldest().is_some() {
-            self.step(Letter::Answer, watch)?;
+            self.step(Letter::Answer, watch, &mut Told::nothing())?;
         }
         Ok(())
     }
 
-    /// Makes the event of a letter; then the watch is shown the board.
+    /// Makes the event of a letter, and tells of `i` what the instruction is that goes on; then the watch is shown the
+    /// board.
     pub(crate) fn step<W: Watch>(
         &mut self,
         letter: Letter,
         watch: &mut W,
+        told: &mut Told,
     ) -> Result<Happened, NoMemory>
         requires { self.old.events < most_events }
         ensures ok { OnOk result ((p : Program) (named : ℕ → Bool) (m : Moment)
@@ -110,10 +114,14 @@ impl Board {
         ensures shorter { letter ≡ LetterValue.Answer
             → OnOk result (length self.new.pending ≤ length self.old.pending - 1) }
         ensures kept { OnOk result (IsKept self.new) }
+        ensures told { letter ≡ LetterValue.Issue → IfOk result (λ happened.
+            (p : Program) (named : ℕ → Bool) (m : Moment) → IsAt p named m self.old
+            → IsTold p named self.old.limit m happened told.new) }
+        ensures made { MakesWords told.old.plan → MakesWords told.new.plan }
         ensures err { OnErr result (IsUnmoved self.old self.new) }
         ensures unseen { OnErr result (watch.new ≡ watch.old) }
     {
-        let happened = self.event(letter)?;
+        let happened = self.event_told(letter, told)?;
         watch.after(self);
         Ok(happened)
     }

@@ -1,14 +1,15 @@
 -- What was seen, the event, and what it adds.
-use Rattle.std.proofs.Common.{◌≡◌, ap, sym, subst, ◌∙◌}
+use Rattle.std.proofs.Common.{◌≡◌, ◌<◌, ◌^◌, arith, ap, sym, subst, ◌∙◌}
 use Rattle.m88_board.specs.Board.{BoardView}
 use Rattle.m88_board.specs.Moves.{IsAt}
 use Rattle.m88_event.specs.Letters.{letter_at}
 use Rattle.m88_event.specs.Timeline.{after_letter, said_at}
 use Rattle.m88_event.specs.declared.letter.Letter.{Letter}
 use Rattle.m88_event.specs.declared.letter.Letter.TheVariants.{Issue, Answer, Evict}
-use Rattle.m88_trace.proofs.Noting.{data_at, evicted_note, few_wait}
+use Rattle.m88_isa.specs.Machine.{state}
+use Rattle.m88_trace.proofs.Noting.{data_at, evicted_note, few_wait, word_told}
 use Rattle.m88_trace.proofs.Writing.{ok_always, ok_on}
-use Rattle.m88_trace.specs.Inside.Running.{IsNext, IsTraced}
+use Rattle.m88_trace.specs.Inside.Running.{IsTraced}
 use Rattle.m88_trace.specs.Inside.Sheets.{three_of}
 use Rattle.m88_trace.proofs.running.step.Goals as goal
 
@@ -28,8 +29,14 @@ returns-in_ok-happened-in-Issue-clause-traced c = ok_on c.note_issue.result c.no
     let limit = w.board.now.limit in
     let letter : letter_at w.schedule.now w.taken ≡ Issue = sym c.letter.ensures ∙ c.in-Issue.is in
     let there = subst (λ (b : BoardView). IsAt p named m b) (sym c.board.ensures) at in
-    let seen = subst (λ (b : BoardView). IsNext p named b.limit m c.upcoming_on-next.result) c.board.ensures
-    (c.upcoming_on-next.ensures.next p named m there) in
+    let told = c.in_ok-happened-in-Issue.ensures.told letter p named m at in
+    let small : c.next_told.new.told.word < 2 ^ 32 = omega arith in
+    let seen = record {
+      number = c.upcoming_on-next.ensures.number p named m there;
+      place = c.upcoming_on-next.ensures.place p named m there;
+      word = λ went. word_told p (state p m.retired).pc c.next_told.new.told.word small (told.word went);
+      changes = told.effect;
+    } in
     subst (λ (l : Letter). IsTraced p (after_letter p named limit l m) c.note_issue.new.self) (sym letter)
     (noted p named limit m is at.past at.within seen
     (c.in_ok-happened-in-Issue.ensures.said p named m at ∙ ap (λ (l : Letter). said_at p named limit l m) letter) traced))

@@ -1,5 +1,5 @@
 -- What is taken apart of a board is its context.
-use Rattle.std.specs.Prelude.{ℕ, ◌≡◌}
+use Rattle.std.specs.Prelude.{◌≡◌}
 use Rattle.std.proofs.Common.{ap, subst, sym, ◌∙◌}
 use Rattle.m88_mem.specs.Marks.{absent_in}
 use Rattle.m88_board.proofs.Ending.{none_wait}

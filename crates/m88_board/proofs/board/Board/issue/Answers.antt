@@ -4,13 +4,15 @@ use Rattle.std.specs.Prelude.{option_map}
 use Rattle.std.specs.Int.{to_be_bytes, w32}
 use Rattle.std.proofs.lemmas.Result.{IfOk-weaker}
 use Rattle.m88_base.specs.declared.slot.Slot.{Slot}
-use Rattle.m88_event.specs.Choice.{idles, passes}
+use Rattle.m88_event.specs.Choice.{idles, issues, passes}
 use Rattle.m88_event.specs.Local.{choice_by}
 use Rattle.m88_event.specs.declared.happened.Happened.TheVariants.{Bubble, Idle}
 use Rattle.m88_event.specs.declared.letter.Letter.TheVariants.{Issue}
 use Rattle.m88_event.specs.declared.record.Record.{Record}
+use Rattle.m88_isa.specs.Effect.{Change, recorded_change}
 use Rattle.m88_isa.specs.ImageProgram.{IsProgramOf}
 use Rattle.m88_isa.specs.Machine.{Program, by_vector}
+use Rattle.m88_isa.specs.declared.planned.Plan.TheVariants.{Go}
 use Rattle.m88_isa.specs.Vector.{instruction_access, unimplemented}
 use Rattle.m88_board.proofs.Choosing.{did_by}
 use Rattle.m88_board.proofs.Counting.{did_events, events_kept, no_record, same_events}
@@ -18,6 +20,7 @@ use Rattle.m88_board.proofs.Fetching.{idles_by, lacks_by, next_at, passes_by, tu
 use Rattle.m88_board.specs.Board.{BoardView, local_of, pc_of}
 use Rattle.m88_board.specs.Moves.{Did, stopping}
 use Rattle.m88_board.proofs.Still.{same_if}
+use Rattle.m88_board.proofs.Telling.{stopped_stays, stopping_issues_none}
 use Rattle.m88_board.specs.Turns.{choice_for}
 use Rattle.m88_board.specs.contracts.board.Board.{the_view}
 use Rattle.m88_board.proofs.board.Board.issue.Goals as goal
@@ -141,3 +144,64 @@ issue_instr-requires-clause-comes c = λ p of.
     c.candidate-nip.ensures.value c.candidate-nip.ensures.word c.if-not-nip.false c.in-Some.ensures)
     (omega arith) c.in-Ok.ensures.found
     (λ j is. let read = c.decode.ensures.only j is in let said = c.in-Ok.is in cc)
+
+pub returns-then-is_idle-clause-plan : goal.returns-then-is_idle-clause-plan
+returns-then-is_idle-clause-plan c = λ p change of issued.
+    let idle = idles_by p c.args.self.now (sym c.is_idle.ensures ∙ c.if-is_idle.true) in
+    absurd cc
+
+pub returns-then-not-nip-clause-plan : goal.returns-then-not-nip-clause-plan
+returns-then-not-nip-clause-plan c = λ p change of issued.
+    let b = c.args.self.now in
+    let seen = ap (λ (s : Slot). s.v) c.candidate-nip.ensures.value
+    ∙ ap (λ (x : BoardView). x.slots.nip.v) c.self.view_is in
+    let over = passes_by p b (sym c.is_idle.ensures ∙ c.if-is_idle.false)
+    (subst (λ (v : Bool). not v ≡ true) seen c.if-not-nip.true) in
+    absurd cc
+
+pub returns-in_default-clause-word : goal.returns-in_default-clause-word
+returns-in_default-clause-word c = λ went.
+    let b = c.args.self.now in
+    absurd (stopped_stays (by_vector instruction_access (pc_of b.slots)) b.pending no_record b c.raise.new.self
+    c.raise.result (c.raise.ensures.does no_record) went)
+
+pub returns-in_default-clause-plan : goal.returns-in_default-clause-plan
+returns-in_default-clause-plan c = λ p change of issued.
+    let b = c.args.self.now in
+    let absent = ap (λ (o : Option ℕ). option_map (λ (word : ℕ). to_be_bytes w32 word) o) (sym c.in_default.is)
+    ∙ c.fetch.ensures in
+    absurd (stopping_issues_none (choice_by p b.limit Issue (local_of b))
+    (by_vector instruction_access (pc_of b.slots)) b.pending change
+    (lacks_by p b of (sym c.is_idle.ensures ∙ c.if-is_idle.false)
+    (next_at (the_view c.self.inside) b c.candidate-nip.result None c.self.view_is c.candidate-nip.ensures.value
+    c.candidate-nip.ensures.word c.if-not-nip.false absent))
+    issued)
+
+pub returns-in-Err-clause-plan : goal.returns-in-Err-clause-plan
+returns-in-Err-clause-plan c = λ p change of issued.
+    let b = c.args.self.now in
+    absurd (stopping_issues_none (choice_by p b.limit Issue (local_of b))
+    (by_vector unimplemented (pc_of b.slots)) b.pending change
+    (unimplemented_by p b c.in-Some.word of (sym c.is_idle.ensures ∙ c.if-is_idle.false)
+    (next_at (the_view c.self.inside) b c.candidate-nip.result (Some (to_be_bytes w32 c.in-Some.word)) c.self.view_is
+    c.candidate-nip.ensures.value c.candidate-nip.ensures.word c.if-not-nip.false c.in-Some.ensures)
+    (omega arith) (λ j is. let read = c.in-Err.ensures.only j is in cc))
+    issued)
+
+pub returns-in-Ok-clause-plan : goal.returns-in-Ok-clause-plan
+returns-in-Ok-clause-plan c =
+    let b = c.args.self.now in
+    let i = c.in-Ok.instr in
+    IfOk-weaker c.issue_instr.result
+    (λ h. (change : Change) → choice_for (Some i) b ≡ issues change
+    → c.issue_instr.new.told ≡ Go (recorded_change change))
+    (λ h. (p : Program) (change : Change) → IsProgramOf b.memory.image p
+    → choice_by p b.limit Issue (local_of b) ≡ issues change → c.issue_instr.new.told ≡ Go (recorded_change change))
+    (λ h tells p change of issued. tells change
+    (sym (turns_by p b c.in-Some.word i of (sym c.is_idle.ensures ∙ c.if-is_idle.false)
+    (next_at (the_view c.self.inside) b c.candidate-nip.result (Some (to_be_bytes w32 c.in-Some.word)) c.self.view_is
+    c.candidate-nip.ensures.value c.candidate-nip.ensures.word c.if-not-nip.false c.in-Some.ensures)
+    (omega arith) c.in-Ok.ensures.found
+    (λ j is. let read = c.decode.ensures.only j is in let said = c.in-Ok.is in cc))
+    ∙ issued))
+    c.issue_instr.ensures.told

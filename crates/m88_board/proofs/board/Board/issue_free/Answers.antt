@@ -12,6 +12,7 @@ use Rattle.m88_isa.specs.Operands.{waits_for_empty}
 use Rattle.m88_board.proofs.Choosing.{did_by}
 use Rattle.m88_board.proofs.Issuing.{at_most, go_full, go_issued, go_sync, held_still, is_going, no_trap, none_to_wait_for, nothing_pending, raise_is, raising, room_of, stays_apart, trap_held, trap_is, trap_turn}
 use Rattle.m88_board.proofs.Still.{still_if_turned}
+use Rattle.m88_board.proofs.Telling.{change_told, stopping_issues_none}
 use Rattle.m88_board.specs.Board.{pc_of}
 use Rattle.m88_board.specs.Kept.{IsKept}
 use Rattle.m88_board.specs.Moves.{Did, stopping}
@@ -130,3 +131,43 @@ trap-requires-clause-comes c = λ p of.
     ∙ trap_turn c.args.instr.now c.args.self.now c.in-Trap.vector c.requires.free
     (trap_is _ c.in-Trap.vector c.in-Trap.ensures.value)
     (nothing_pending c.args.self.now.pending (sym c.is_pending.ensures ∙ c.if-is_pending.false))
+
+pub returns-then-effect-room-clause-told : goal.returns-then-effect-room-clause-told
+returns-then-effect-room-clause-told c = λ change issued.
+    let b = c.args.self.now in
+    let going = is_going c.args.instr.now b c.in-Go.effect c.in-Go.ensures.value c.requires.instr
+    c.in-Go.ensures.accesses c.requires.free in
+    let room = room_of (the_view c.self.inside) b c.room.result c.self.view_is c.room.ensures in
+    let more = c.if-effect-room.true in
+    let waits = go_full c.args.instr.now b c.in-Go.effect going (omega (arith, room, more)) in
+    absurd cc
+
+pub returns-in-Raise-clause-told : goal.returns-in-Raise-clause-told
+returns-in-Raise-clause-told c = λ change issued.
+    let b = c.args.self.now in
+    absurd (stopping_issues_none (choice_for (Some c.args.instr.now) b) (by_vector c.in-Raise.vector (pc_of b.slots))
+    b.pending change
+    (raising c.args.instr.now b c.in-Raise.vector c.requires.free
+    (raise_is _ c.in-Raise.vector c.in-Raise.ensures.value))
+    issued)
+
+pub returns-in_ok-go-in-Go-clause-told : goal.returns-in_ok-go-in-Go-clause-told
+returns-in_ok-go-in-Go-clause-told c = λ change issued.
+    let b = c.args.self.now in
+    let going = is_going c.args.instr.now b c.in-Go.effect c.in-Go.ensures.value c.requires.instr
+    c.in-Go.ensures.accesses c.requires.free in
+    let room = room_of (the_view c.self.inside) b c.room.result c.self.view_is c.room.ensures in
+    let fits = c.if-effect-room.false in
+    let goes_on : (is_pending b.pending && waits_for_empty c.args.instr.now) ≡ false =
+    elim c.else-waits_for_empty.branch [
+      | else-waits_for_empty-via-then-waits_for_empty+else-is_pending-2 w ↦
+          none_to_wait_for (is_pending b.pending) (waits_for_empty c.args.instr.now)
+          (sym w.is_pending-then-waits_for_empty.ensures ∙ w.if-is_pending-2.false)
+      | else-waits_for_empty-via-else-waits_for_empty w ↦
+          no_trap (is_pending b.pending) (waits_for_empty c.args.instr.now)
+          (sym c.waits_for_empty.ensures.value ∙ w.if-waits_for_empty.false)
+    ] in
+    c.in-Go.is ∙ change_told (choice_for (Some c.args.instr.now) b) going.on.change change c.in-Go.effect
+    (go_issued c.args.instr.now b c.in-Go.effect going (omega (arith, room, fits)) goes_on)
+    going.on.same
+    issued

@@ -6,6 +6,8 @@ use Rattle.m88_board.proofs.Issuing.{meant}
 use Rattle.m88_board.proofs.OnePage.{one_page}
 use Rattle.m88_board.specs.Turns.{PlansOnePage}
 use Rattle.m88_board.specs.contracts.board.Board.{the_view}
+use Rattle.m88_isa.specs.Operands.{access_count_of}
+use Rattle.m88_board.proofs.Telling.{makes_words}
 use Rattle.m88_board.proofs.board.Board.planned.Goals as goal
 
 pub returns-clause-value : goal.returns-clause-value
@@ -20,3 +22,6 @@ pub returns-clause-pages : goal.returns-clause-pages
 returns-clause-pages c =
     subst PlansOnePage (sym c.plan.ensures.value)
     (one_page c.args.instr.now c.numbers.result.now c.carry.result c.mxm.result c.candidate.result.addr c.following.result.addr)
+
+pub returns-clause-words : goal.returns-clause-words
+returns-clause-words c = makes_words (access_count_of c.args.instr.now) c.plan.result c.plan.ensures.accesses

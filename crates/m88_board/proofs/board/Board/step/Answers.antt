@@ -16,9 +16,9 @@ returns-clause-ok g c = λ p named m at.
       at = next;
       limit = c.in_ok-happened.ensures.same.limit;
       saw =
-          saw_same _ _ (glance_of c.event.new.self ∷ []) (glance_at p after ∷ [])
+          saw_same _ _ (glance_of c.event_told.new.self ∷ []) (glance_at p after ∷ [])
           (ap (λ (glance : Glance). glance ∷ [])
-          (glance_is p named after c.event.new.self next c.in_ok-happened.ensures.kept.slots))
+          (glance_is p named after c.event_told.new.self next c.in_ok-happened.ensures.kept.slots))
           c.after.ensures;
     }
 

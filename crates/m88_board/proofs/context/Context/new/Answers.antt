@@ -1,5 +1,5 @@
 -- A context is what is taken apart of a board before its first event.
-use Rattle.std.proofs.Common.{subst, sym, ◌∙◌}
+use Rattle.std.proofs.Common.{subst, sym}
 use Rattle.m88_base.specs.declared.absent.Absent.{Absent}
 use Rattle.m88_event.specs.Timeline.{opening_moment}
 use Rattle.m88_mem.specs.Marks.{absent_in}

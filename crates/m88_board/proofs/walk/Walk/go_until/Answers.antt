@@ -8,8 +8,8 @@ use Rattle.m88_board.proofs.Walking.{goes_start, stops_there, walk_step}
 use Rattle.m88_board.specs.Walks.{is_enough, moments_from, stops_after}
 use Rattle.m88_board.proofs.walk.Walk.go_until.Goals as goal
 
-pub loop-self-init : goal.loop-self-init
-loop-self-init g c = record {
+pub loop-told-init : goal.loop-told-init
+loop-told-init g c = record {
   same = record { limit = refl; mxm = refl; named = refl; image = refl; begun = refl };
   schedule = refl;
   lender = refl;
@@ -21,53 +21,53 @@ loop-self-init g c = record {
       (g.W.Watch.seen c.args.watch.now) c.args.self.now.board.now at;
 }
 
-pub loop-self-preserved : goal.loop-self-preserved
-loop-self-preserved g c =
-    let inv = c.loop-self.invariant in
+pub loop-told-preserved : goal.loop-told-preserved
+loop-told-preserved g c =
+    let inv = c.loop-told.invariant in
     let before = inv.taken in
-    let more = c.in_ok-next.ensures.taken in
+    let more = c.in_ok-next_told.ensures.taken in
     record {
-      same = same_then c.args.self.now.board.now c.loop-self.self.board.now c.next.new.self.board.now inv.same c.next.ensures.same;
-      schedule = c.next.ensures.schedule ∙ inv.schedule;
-      lender = c.next.ensures.lender ∙ inv.lender;
+      same = same_then c.args.self.now.board.now c.loop-told.self.board.now c.next_told.new.self.board.now inv.same c.next_told.ensures.same;
+      schedule = c.next_told.ensures.schedule ∙ inv.schedule;
+      lender = c.next_told.ensures.lender ∙ inv.lender;
       taken = omega (arith, before, more);
       goes = λ p named m is at.
           let goes = inv.goes p named m is at in
           let here = moments_from p named c.args.self.now.board.now.limit c.args.self.now.schedule.now c.args.self.now.taken m
-          c.loop-self.made in
-          walk_step p named c.args.self.now.board.now.limit c.args.self.now.schedule.now c.loop-self.self.schedule.now
-          c.args.self.now.taken c.loop-self.self.taken m
+          c.loop-told.made in
+          walk_step p named c.args.self.now.board.now.limit c.args.self.now.schedule.now c.loop-told.self.schedule.now
+          c.args.self.now.taken c.loop-told.self.taken m
           (stops_after (is_enough c.args.until) p named c.args.self.now.board.now.limit c.args.self.now.schedule.now
           c.args.self.now.taken m)
-          c.loop-self.made _ _ _ c.loop-self.self.board.now c.next.new.self.board.now
+          c.loop-told.made _ _ _ c.loop-told.self.board.now c.next_told.new.self.board.now
           (ap (λ (s : Bor (List Letter)). s.now) inv.schedule) inv.taken inv.same.limit goes
-          (stops_there (is_enough c.args.until) p named c.args.self.now.board.now.limit c.loop-self.self.board.now.limit
-          c.args.self.now.schedule.now c.args.self.now.taken m c.loop-self.made c.stops.result inv.same.limit
-          (c.stops.ensures.moment p named here goes.along.at) ∙ c.loop-self-test.true)
-          (c.in_ok-next.ensures.ok p named here goes.along.at);
+          (stops_there (is_enough c.args.until) p named c.args.self.now.board.now.limit c.loop-told.self.board.now.limit
+          c.args.self.now.schedule.now c.args.self.now.taken m c.loop-told.made c.stops.result inv.same.limit
+          (c.stops.ensures.moment p named here goes.along.at) ∙ c.loop-told-test.true)
+          (c.in_ok-next_told.ensures.ok p named here goes.along.at);
     }
 
 pub returns-clause-ok : goal.returns-clause-ok
 returns-clause-ok g c = λ p named m is at.
-    let inv = c.loop-self.invariant in
+    let inv = c.loop-told.invariant in
     let goes = inv.goes p named m is at in
     let here = moments_from p named c.args.self.now.board.now.limit c.args.self.now.schedule.now c.args.self.now.taken m
-    c.loop-self.made in (
-      c.loop-self.made,
+    c.loop-told.made in (
+      c.loop-told.made,
       record {
         here =
-            stops_there (is_enough c.args.until) p named c.args.self.now.board.now.limit c.loop-self.self.board.now.limit
-            c.args.self.now.schedule.now c.args.self.now.taken m c.loop-self.made c.stops.result inv.same.limit
-            (c.stops.ensures.moment p named here goes.along.at) ∙ c.loop-self-test.false;
+            stops_there (is_enough c.args.until) p named c.args.self.now.board.now.limit c.loop-told.self.board.now.limit
+            c.args.self.now.schedule.now c.args.self.now.taken m c.loop-told.made c.stops.result inv.same.limit
+            (c.stops.ensures.moment p named here goes.along.at) ∙ c.loop-told-test.false;
         first = goes.first;
       },
       goes.along,
       inv.taken,
     )
 
-pub returns-in_err-next-clause-err : goal.returns-in_err-next-clause-err
-returns-in_err-next-clause-err g c =
+pub returns-in_err-next_told-clause-err : goal.returns-in_err-next_told-clause-err
+returns-in_err-next_told-clause-err g c =
     let p = err_from_is_err_and c.from_residual.result c.from_residual.ensures.1 in
     rw (p.1) (λ p named m is at.
-    let goes = c.loop-self.invariant.goes p named m is at in
-    (c.loop-self.made, goes.first, rw c.in_err-next.ensures.unseen goes.along.saw))
+    let goes = c.loop-told.invariant.goes p named m is at in
+    (c.loop-told.made, goes.first, rw c.in_err-next_told.ensures.unseen goes.along.saw))

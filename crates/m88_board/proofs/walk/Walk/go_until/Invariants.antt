@@ -10,8 +10,8 @@ use Rattle.m88_board.specs.Moves.{IsAt, IsSameRun}
 use Rattle.m88_board.specs.Walks.{is_enough, stops_after}
 use Rattle.m88_board.proofs.walk.Walk.go_until.Given as goal
 
-abbrev pub invariant-loop-self : goal.invariant-loop-self
-invariant-loop-self g l = record {
+abbrev pub invariant-loop-told : goal.invariant-loop-told
+invariant-loop-told g l = record {
   same : IsSameRun l.initial.self.board.now l.self.board.now;
   schedule : l.self.schedule ≡ l.initial.self.schedule;
   lender : l.self.board.ghost_name ≡ l.initial.self.board.ghost_name;
@@ -22,5 +22,5 @@ invariant-loop-self g l = record {
       (g.W.Watch.seen l.initial.watch) (g.W.Watch.seen l.watch) l.self.board.now;
 }
 
-abbrev pub decreases-loop-self : goal.decreases-loop-self
-decreases-loop-self g l = weight l.self.schedule.now l.self.board.now.limit l.self.taken (local_of l.self.board.now)
+abbrev pub decreases-loop-told : goal.decreases-loop-told
+decreases-loop-told g l = weight l.self.schedule.now l.self.board.now.limit l.self.taken (local_of l.self.board.now)

@@ -1,16 +1,19 @@
 -- An instruction's line, or that of the end.
-use Rattle.std.proofs.Common.{sym, ◌∙◌}
+use Rattle.std.proofs.Common.{sym, subst, ◌∙◌}
 use Rattle.m88_trace.proofs.Noting.{ended_note, issue_quiet, issued_note, served_note, traced_same}
 use Rattle.m88_trace.proofs.Writing.{ok_both}
 use Rattle.m88_event.specs.Timeline.{after_letter}
+use Rattle.m88_event.specs.declared.happened.Happened.{Happened}
 use Rattle.m88_event.specs.declared.letter.Letter.TheVariants.{Issue}
+use Rattle.m88_trace.specs.Inside.Running.{IsNext}
 use Rattle.m88_trace.proofs.sheet.Sheet.note_issue.Goals as goal
 
 pub returns-in-Issued-clause-traced : goal.returns-in-Issued-clause-traced
 returns-in-Issued-clause-traced c =
     ok_both c.note_issued.result c.note_issued.ensures.text c.note_issued.ensures.waiting
     (λ text waiting p named limit m is past made seen says traced.
-    issued_note p named limit m c.args.self.now c.note_issued.new.self c.args.next.now is past made seen
+    issued_note p named limit m c.args.self.now c.note_issued.new.self c.args.next.now c.args.effect.now is past made
+    (subst (λ (h : Happened). IsNext p named limit m h c.args.next.now c.args.effect.now) c.in-Issued.is seen)
     (sym c.in-Issued.is ∙ says) text waiting
     traced)
 
@@ -18,7 +21,8 @@ pub returns-in-Served-clause-traced : goal.returns-in-Served-clause-traced
 returns-in-Served-clause-traced c =
     ok_both c.put_out.result c.put_out.ensures.text c.put_out.ensures.waiting
     (λ text waiting p named limit m is past made seen says traced.
-    served_note p named limit m c.args.self.now c.put_out.new.self c.args.next.now c.in-Served.byte is past made seen
+    served_note p named limit m c.args.self.now c.put_out.new.self c.args.next.now c.args.effect.now c.in-Served.byte is
+    past made (subst (λ (h : Happened). IsNext p named limit m h c.args.next.now c.args.effect.now) c.in-Served.is seen)
     (sym c.in-Served.is ∙ says)
     text waiting traced)
 

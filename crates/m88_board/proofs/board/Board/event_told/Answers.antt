@@ -7,8 +7,9 @@ use Rattle.m88_isa.proofs.ImageProgram.{program_of_image}
 use Rattle.m88_board.proofs.Evicted.{evicted_counted}
 use Rattle.m88_board.proofs.Leaving.{leaves_counted}
 use Rattle.m88_board.proofs.Moving.{along, ended_so, moved_by, precise_on, says_so}
+use Rattle.m88_board.proofs.Telling.{told_at}
 use Rattle.m88_board.specs.Board.{BoardView}
-use Rattle.m88_board.proofs.board.Board.event.Goals as goal
+use Rattle.m88_board.proofs.board.Board.event_told.Goals as goal
 
 pub returns-clause-moved : goal.returns-clause-moved
 returns-clause-moved c = λ p of.
@@ -72,3 +73,9 @@ pub returns-clause-still : goal.returns-clause-still
 returns-clause-still c = λ still.
     c.count.ensures.counted
     ∙ ap (λ (b : BoardView). record b { events = b.events + 1 }) (c.in_ok-happened.ensures.still still)
+
+pub returns-clause-told : goal.returns-clause-told
+returns-clause-told c = λ letter p named m at.
+    told_at p named m c.args.self.now c.in_ok-happened.happened c.take.new.told at
+    (c.in_ok-happened.ensures.word letter)
+    (λ change issued. c.in_ok-happened.ensures.plan letter p change at.image issued)

@@ -1,0 +1,85 @@
+-- What an event of `i` tells of its instruction.
+use Rattle.std.specs.Prelude.{ℕ, Bool, List, [], ◌∷◌, Option, ◌≡◌}
+use Rattle.std.proofs.Common.{sym, ap, ap₂, subst, ◌∙◌}
+use Rattle.m88_base.specs.Image.{byte_at}
+use Rattle.m88_event.proofs.Follows.{same_situation}
+use Rattle.m88_event.specs.Choice.{Choice, choice_of, issues, said}
+use Rattle.m88_event.specs.Local.{Local, choice_by, local_at}
+use Rattle.m88_event.specs.Timeline.{Moment, choice_at}
+use Rattle.m88_event.specs.declared.happened.Happened.{Happened}
+use Rattle.m88_event.specs.declared.letter.Letter.TheVariants.{Issue}
+use Rattle.m88_event.specs.declared.record.Record.{Record}
+use Rattle.m88_isa.specs.Effect.{Change, MakesAccesses, recorded_change}
+use Rattle.m88_isa.specs.History.{completed_state}
+use Rattle.m88_isa.specs.Machine.{Program, Stop, four_bytes, state}
+use Rattle.m88_isa.specs.Memory.{AreWordAccesses}
+use Rattle.m88_isa.specs.declared.planned.Access.{Access}
+use Rattle.m88_isa.specs.declared.planned.Effect.{Effect}
+use Rattle.m88_isa.specs.declared.planned.Plan.{Plan}
+use Rattle.m88_isa.specs.declared.planned.Plan.TheVariants.{Go, Raise, Trap}
+use Rattle.m88_board.specs.Board.{BoardView, completed_of, local_of, pc_of}
+use Rattle.m88_board.specs.Moves.{Did, IsAt, stopping}
+use Rattle.m88_board.specs.Told.{IsTold, MakeWord, MakesWords, WentOn}
+use Rattle.m88_board.specs.declared.told.Told.{Told}
+
+-- what raises is not issued
+pub stopping_issues_none : (choice : Choice) (stop : Stop) (pending : List Access) (change : Change) →
+    choice ≡ stopping stop pending →
+    choice ≡ issues change →
+    ⊥
+stopping_issues_none choice stop [] change is issued = absurd cc
+stopping_issues_none choice stop (a ∷ pending) change is issued = absurd cc
+
+-- and doesn't go on
+stopping_stays : (stop : Stop) (pending : List Access) (fault : Record) → WentOn (said (stopping stop pending) fault) → ⊥
+stopping_stays stop [] fault went = went
+stopping_stays stop (a ∷ pending) fault went = went
+
+pub stopped_stays : (stop : Stop) (pending : List Access) (fault : Record) (old new : BoardView) (h : Happened) →
+    Did (stopping stop pending) fault old h new →
+    WentOn h →
+    ⊥
+stopped_stays stop pending fault old new h did went =
+    stopping_stays stop pending fault (subst WentOn did.says went)
+
+-- an instruction has one change
+pub change_told : (choice : Choice) (one other : Change) (effect : Effect) → choice ≡ issues one →
+    effect ≡ recorded_change one →
+    choice ≡ issues other →
+    Go effect ≡ Go (recorded_change other)
+change_told choice one other effect is same issued =
+    let equal : one ≡ other = cc in
+    ap Go (same ∙ ap recorded_change equal)
+
+-- a board that stands at a moment makes its choice
+choice_seen : (p : Program) (named : ℕ → Bool) (m : Moment) (b : BoardView) → IsAt p named m b →
+    choice_by p b.limit Issue (local_of b) ≡ choice_at p named b.limit Issue m
+choice_seen p named m b at =
+    ap (λ (l : Local). choice_by p b.limit Issue l) at.seen
+    ∙ ap (choice_of p Issue) (same_situation p named b.limit m)
+
+-- and is to fetch the word there
+word_seen : (p : Program) (named : ℕ → Bool) (m : Moment) (b : BoardView) → IsAt p named m b →
+    four_bytes p.byte (state p m.retired).pc ≡ four_bytes (byte_at b.memory.image) (pc_of b.slots)
+unfolding local_of local_at completed_of completed_state
+word_seen p named m b at =
+    ap₂ (λ (byte : ℕ → Option ℕ) (a : ℕ). four_bytes byte a) at.image.bytes
+    (sym (ap (λ (l : Local). l.completed.pc) at.seen))
+
+-- so what its parts tell is what the moment tells
+pub told_at : (p : Program) (named : ℕ → Bool) (m : Moment) (b : BoardView) (h : Happened) (told : Told) →
+    IsAt p named m b →
+    (WentOn h → MakeWord (four_bytes (byte_at b.memory.image) (pc_of b.slots)) told.word) →
+    ((change : Change) → choice_by p b.limit Issue (local_of b) ≡ issues change
+    → told.plan ≡ Go (recorded_change change)) →
+    IsTold p named b.limit m h told
+told_at p named m b h told at word plan = record {
+  word = λ went. ((word went).0, word_seen p named m b at ∙ (word went).1);
+  plan = λ change issued. plan change (choice_seen p named m b at ∙ issued);
+}
+
+-- the accesses of a plan that goes on
+pub makes_words : (count : ℕ) (plan : Plan) → MakesAccesses count plan → MakesWords plan
+makes_words count (Go effect) made = subst (λ n. AreWordAccesses n effect.accesses) (sym made.0) made
+makes_words count (Raise vector) made = tt
+makes_words count (Trap vector) made = tt
