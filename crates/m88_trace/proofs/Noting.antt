@@ -1,12 +1,13 @@
 -- What an event adds to a trace.
-use Rattle.std.specs.Prelude.{ℕ, zero, suc, Bool, true, false, List, [], ◌∷◌, ◌++◌, Option, Some, None, ◌≡◌, ◌≢◌, ◌≤◌, ◌+◌, ◌<◌, ◌==◌, ◌||◌, ◌^◌, drop, length, take, tt, unwrap_or}
+use Rattle.std.specs.Prelude.{ℕ, zero, suc, Bool, true, false, List, [], ◌∷◌, ◌++◌, Option, Some, None, ◌≡◌, ◌≢◌, ◌≤◌, ◌+◌, ◌==◌, ◌||◌, drop, length, take, unwrap_or}
 use Rattle.std.proofs.Common.{arith, add-one, refl, sym, ap, ap₂, subst, ◌∙◌}
-use Rattle.std.specs.Int.{from_be_bytes, to_be_bytes, w32}
+use Rattle.std.specs.Int.{from_be_bytes, w32}
 use Rattle.std.proofs.lemmas.Nat.{from_be_bytes-to_be_bytes_4}
 use Rattle.std.proofs.lemmas.List.{append-nil, drop-append-le, drop_all, length-drop, take-append-drop, take-append-le}
 use Rattle.m88_base.specs.Pages.{page_number}
 use Rattle.m88_board.specs.Board.{BoardView}
 use Rattle.m88_board.specs.Moves.{IsAt}
+use Rattle.m88_board.specs.Told.{MakeWord}
 use Rattle.m88_mem.specs.DataBus.{bus_of}
 use Rattle.m88_event.proofs.Follows.{Fits, fits, more_transactions}
 use Rattle.m88_event.specs.Bound.{one_if}
@@ -29,6 +30,8 @@ use Rattle.m88_isa.specs.History.{bus_at, pending_at, transaction_count, transac
 use Rattle.m88_isa.specs.Machine.{IsProgram, Program, Stop, Turn, changes, four_bytes, opening, outputs, state, stops, turn_at}
 use Rattle.m88_isa.specs.declared.planned.Access.{Access}
 use Rattle.m88_isa.specs.declared.planned.Effect.{Effect}
+use Rattle.m88_isa.specs.declared.planned.Plan.{Plan}
+use Rattle.m88_isa.specs.declared.planned.Plan.TheVariants.{Go}
 use Rattle.m88_trace.proofs.Following.{doing_fits, same_line}
 use Rattle.m88_trace.proofs.History.{line_there, not_ended_at}
 use Rattle.m88_trace.proofs.Nexts.{choice_shown, not_over_bubble, not_over_bubble_served, words_at}
@@ -351,38 +354,38 @@ few_wait p limit m s past traced =
 
 -- an instruction was issued
 pub issued_note : (p : Program) (named : ℕ → Bool) (limit : ℕ) (m : Moment) (old new : Sheet) (next : Upcoming)
-    (told : Option Effect) → IsProgram p →
+    (plan : Plan) → IsProgram p →
     HasPast p limit m →
     DoneWereMade p m →
-    IsNext p named limit m happened.Issued next told →
+    IsNext p named limit m happened.Issued next plan →
     happened.Issued ≡ said_at p named limit Issue m →
-    ((bus : ℕ → ℕ) (effect : Effect) → told ≡ Some effect
+    ((bus : ℕ → ℕ) (effect : Effect) → plan ≡ Go effect
     → written_by new bus ≡ written_by old bus ++ doing_line next.number next.at next.word (Goes effect)
     (bus_after_all (waiting_of old) bus)) →
-    ((effect : Effect) → told ≡ Some effect → waiting_of new ≡ waiting_of old ++ listed effect.accesses) →
+    ((effect : Effect) → plan ≡ Go effect → waiting_of new ≡ waiting_of old ++ listed effect.accesses) →
     IsTraced p m old →
     IsTraced p (after_letter p named limit Issue m) new
 unfolding said_at
-issued_note p named limit m old new next told is past made seen says writes waits traced =
+issued_note p named limit m old new next plan is past made seen says writes waits traced =
     let found = said_issued (choice_at p named limit Issue m) (record_at p named limit m) says in
     let change = found.0 in
-    let plan = seen.changes change found.1 in
+    let goes = seen.changes change found.1 in
     let straight = not_over_bubble p named limit m change found.1 in
     let fit : Fits p m (issues change) = subst (λ (c : Choice). Fits p m c) found.1 (fits p named limit Issue m) in
     let unit : TurnFits (changes change) = subst (λ (t : Turn). TurnFits t) fit.0 (doing_fits p m.retired is) in
     traced_step p limit m (after_letter p named limit Issue m) old new next.number next.at next.word (changes change) is
     past made fit.0 fit.1
     (told_by p named limit Issue m (issues change) found.1) seen.number (seen.place straight) (seen.word tt)
-    (λ bus. writes bus (recorded_change change) plan)
-    (waits (recorded_change change) plan ∙ ap (λ (xs : List Access). waiting_of old ++ xs)
+    (λ bus. writes bus (recorded_change change) goes)
+    (waits (recorded_change change) goes ∙ ap (λ (xs : List Access). waiting_of old ++ xs)
     (listed_recorded change.touches unit.short)) traced
 
 -- a byte was put out
 pub served_note : (p : Program) (named : ℕ → Bool) (limit : ℕ) (m : Moment) (old new : Sheet) (next : Upcoming)
-    (told : Option Effect) (byte : ℕ) → IsProgram p →
+    (plan : Plan) (byte : ℕ) → IsProgram p →
     HasPast p limit m →
     DoneWereMade p m →
-    IsNext p named limit m (happened.Served byte) next told →
+    IsNext p named limit m (happened.Served byte) next plan →
     happened.Served byte ≡ said_at p named limit Issue m →
     ((bus : ℕ → ℕ) → written_by new bus ≡ written_by old bus ++ doing_line next.number next.at next.word (Outputs byte)
     bus) →
@@ -390,7 +393,7 @@ pub served_note : (p : Program) (named : ℕ → Bool) (limit : ℕ) (m : Moment
     IsTraced p m old →
     IsTraced p (after_letter p named limit Issue m) new
 unfolding said_at
-served_note p named limit m old new next told byte is past made seen says writes waits traced =
+served_note p named limit m old new next plan byte is past made seen says writes waits traced =
     let found = said_served (choice_at p named limit Issue m) (record_at p named limit m) byte says in
     let straight = not_over_bubble_served p named limit m byte found in
     let fit : Fits p m (serves byte) = subst (λ (c : Choice). Fits p m c) found (fits p named limit Issue m) in
@@ -495,9 +498,8 @@ data_at p named m b s values at traced are =
     (subst (λ (bus : ℕ → ℕ). AreData values (waiting_of s) bus) (words_at p named m b at) are)
 
 -- the word that an event tells is the one of the history
-pub word_told : (p : Program) (a word : ℕ) → word < 2 ^ 32 → four_bytes p.byte a ≡ Some (to_be_bytes w32 word) →
-    word ≡ word_at p a
+pub word_told : (p : Program) (a word : ℕ) → MakeWord (four_bytes p.byte a) word → word ≡ word_at p a
 unfolding word_at
-word_told p a word small told =
-    sym (from_be_bytes-to_be_bytes_4 word small)
-    ∙ ap (λ (o : Option (List ℕ)). from_be_bytes w32 (unwrap_or o [])) (sym told)
+word_told p a word told =
+    sym (from_be_bytes-to_be_bytes_4 word told.0)
+    ∙ ap (λ (o : Option (List ℕ)). from_be_bytes w32 (unwrap_or o [])) (sym told.1)

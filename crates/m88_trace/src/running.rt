@@ -83,7 +83,7 @@ fn step(walk: &mut Walk, sheet: &mut Sheet) -> Result<(), NoMemory>
             let mut told = Told::nothing();
             let happened = walk.next_told(&mut Unwatched, &mut told)?;
             next.word = told.word;
-            sheet.note_issue(&next, &told.effect, happened)
+            sheet.note_issue(&next, &told.plan, happened)
         }
         Letter::Answer => {
             let told = sheet.data(walk.board());

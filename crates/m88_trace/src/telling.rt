@@ -1,7 +1,7 @@
 //! What an event adds to a trace, by what was seen of the board before it.
 
-ghost use Rattle.std.specs.Prelude.{ℕ, Bool, ◌≡◌, ◌++◌, OnOk, Some};
-ghost use Rattle.m88_board.specs.Told.{TellsWords};
+ghost use Rattle.std.specs.Prelude.{ℕ, Bool, ◌≡◌, ◌++◌, OnOk};
+ghost use Rattle.m88_board.specs.Told.{MakesWords};
 ghost use Rattle.m88_event.specs.Past.{HasPast};
 ghost use Rattle.m88_event.specs.Timeline.{DoneWereMade, Moment, after_letter, said_at};
 ghost use Rattle.m88_event.specs.declared.letter.Letter.TheVariants as letters;
@@ -9,6 +9,7 @@ ghost use Rattle.m88_isa.specs.Bus.{bus_after_all, listed};
 ghost use Rattle.m88_isa.specs.History.{bus_at, pending_at};
 ghost use Rattle.m88_isa.specs.Machine.{IsProgram, Program};
 ghost use Rattle.m88_isa.specs.declared.planned.Effect.{Effect as EffectValue};
+ghost use Rattle.m88_isa.specs.declared.planned.Plan.TheVariants.{Go};
 ghost use Rattle.m88_trace.specs.Inside.Doings.{doing_line};
 ghost use Rattle.m88_trace.specs.Inside.Running.{IsNext, IsTraced};
 ghost use Rattle.m88_trace.specs.Inside.Sheets.{AreData, AreMade, three_of, waiting_of, written_by};
@@ -18,27 +19,27 @@ use crate::sheet::{Data, Sheet};
 use crate::upcoming::Upcoming;
 use m88_base::NoMemory;
 use m88_event::Happened;
-use m88_isa::Effect;
+use m88_isa::Plan;
 
 impl Sheet {
     /// Writes what an event of `i` adds, by what was seen before it.
     pub(crate) fn note_issue(
         &mut self,
         next: &Upcoming,
-        effect: &Option<Effect>,
+        plan: &Plan,
         happened: Happened,
     ) -> Result<(), NoMemory>
         requires made { AreMade self.old }
-        requires words { TellsWords effect.now }
+        requires words { MakesWords plan.now }
         ensures traced { OnOk result ((p : Program) (named : ℕ → Bool) (limit : ℕ) (m : Moment)
             → IsProgram p → HasPast p limit m → DoneWereMade p m
-            → IsNext p named limit m happened next.now effect.now
+            → IsNext p named limit m happened next.now plan.now
             → happened ≡ said_at p named limit letters.Issue m → IsTraced p m self.old
             → IsTraced p (after_letter p named limit letters.Issue m) self.new) }
         ensures made { OnOk result (AreMade self.new) }
     {
         match happened {
-            Happened::Issued => self.note_issued(next, effect),
+            Happened::Issued => self.note_issued(next, plan),
             Happened::Served(byte) => self.put_out(next, byte),
             Happened::Ended(end) => self.end(end),
             _ => Ok(()),
@@ -46,19 +47,21 @@ impl Sheet {
     }
 
     /// Writes the line of an instruction that was issued.
-    fn note_issued(&mut self, next: &Upcoming, effect: &Option<Effect>) -> Result<(), NoMemory>
+    fn note_issued(&mut self, next: &Upcoming, plan: &Plan) -> Result<(), NoMemory>
         requires made { AreMade self.old }
-        requires words { TellsWords effect.now }
-        ensures text { OnOk result ((bus : ℕ → ℕ) (done : EffectValue) → effect.now ≡ Some done
+        requires words { MakesWords plan.now }
+        ensures text { OnOk result ((bus : ℕ → ℕ) (effect : EffectValue) → plan.now ≡ Go effect
             → written_by self.new bus ≡ written_by self.old bus
-            ++ doing_line next.now.number next.now.at next.now.word (doings.Goes done)
+            ++ doing_line next.now.number next.now.at next.now.word (doings.Goes effect)
             (bus_after_all (waiting_of self.old) bus)) }
-        ensures waiting { OnOk result ((done : EffectValue) → effect.now ≡ Some done
-            → waiting_of self.new ≡ waiting_of self.old ++ listed done.accesses) }
+        ensures waiting { OnOk result ((effect : EffectValue) → plan.now ≡ Go effect
+            → waiting_of self.new ≡ waiting_of self.old ++ listed effect.accesses) }
         ensures made { OnOk result (AreMade self.new) }
     {
-        let Some(effect) = effect else { return Ok(()) };
-        self.issue(next, effect)
+        match plan {
+            Plan::Go(effect) => self.issue(next, effect),
+            _ => Ok(()),
+        }
     }
 
     /// Writes what an event of `r` adds, by the data that were seen before it.

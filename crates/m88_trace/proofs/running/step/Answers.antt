@@ -1,5 +1,5 @@
 -- What was seen, the event, and what it adds.
-use Rattle.std.proofs.Common.{◌≡◌, ◌<◌, ◌^◌, arith, ap, sym, subst, ◌∙◌}
+use Rattle.std.proofs.Common.{◌≡◌, ap, sym, subst, ◌∙◌}
 use Rattle.m88_board.specs.Board.{BoardView}
 use Rattle.m88_board.specs.Moves.{IsAt}
 use Rattle.m88_event.specs.Letters.{letter_at}
@@ -30,15 +30,14 @@ returns-in_ok-happened-in-Issue-clause-traced c = ok_on c.note_issue.result c.no
     let letter : letter_at w.schedule.now w.taken ≡ Issue = sym c.letter.ensures ∙ c.in-Issue.is in
     let there = subst (λ (b : BoardView). IsAt p named m b) (sym c.board.ensures) at in
     let told = c.in_ok-happened-in-Issue.ensures.told letter p named m at in
-    let small : c.next_told.new.told.word < 2 ^ 32 = omega arith in
-    let seen = record {
+    subst (λ (l : Letter). IsTraced p (after_letter p named limit l m) c.note_issue.new.self) (sym letter)
+    (noted p named limit m is at.past at.within
+    (record {
       number = c.upcoming_on-next.ensures.number p named m there;
       place = c.upcoming_on-next.ensures.place p named m there;
-      word = λ went. word_told p (state p m.retired).pc c.next_told.new.told.word small (told.word went);
-      changes = told.effect;
-    } in
-    subst (λ (l : Letter). IsTraced p (after_letter p named limit l m) c.note_issue.new.self) (sym letter)
-    (noted p named limit m is at.past at.within seen
+      word = λ went. word_told p (state p m.retired).pc c.next_told.new.told.word (told.word went);
+      changes = told.plan;
+    })
     (c.in_ok-happened-in-Issue.ensures.said p named m at ∙ ap (λ (l : Letter). said_at p named limit l m) letter) traced))
 
 pub returns-in_ok-happened-in-Answer-clause-traced : goal.returns-in_ok-happened-in-Answer-clause-traced

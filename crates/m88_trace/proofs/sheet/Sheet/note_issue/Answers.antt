@@ -12,8 +12,8 @@ pub returns-in-Issued-clause-traced : goal.returns-in-Issued-clause-traced
 returns-in-Issued-clause-traced c =
     ok_both c.note_issued.result c.note_issued.ensures.text c.note_issued.ensures.waiting
     (λ text waiting p named limit m is past made seen says traced.
-    issued_note p named limit m c.args.self.now c.note_issued.new.self c.args.next.now c.args.effect.now is past made
-    (subst (λ (h : Happened). IsNext p named limit m h c.args.next.now c.args.effect.now) c.in-Issued.is seen)
+    issued_note p named limit m c.args.self.now c.note_issued.new.self c.args.next.now c.args.plan.now is past made
+    (subst (λ (h : Happened). IsNext p named limit m h c.args.next.now c.args.plan.now) c.in-Issued.is seen)
     (sym c.in-Issued.is ∙ says) text waiting
     traced)
 
@@ -21,8 +21,8 @@ pub returns-in-Served-clause-traced : goal.returns-in-Served-clause-traced
 returns-in-Served-clause-traced c =
     ok_both c.put_out.result c.put_out.ensures.text c.put_out.ensures.waiting
     (λ text waiting p named limit m is past made seen says traced.
-    served_note p named limit m c.args.self.now c.put_out.new.self c.args.next.now c.args.effect.now c.in-Served.byte is
-    past made (subst (λ (h : Happened). IsNext p named limit m h c.args.next.now c.args.effect.now) c.in-Served.is seen)
+    served_note p named limit m c.args.self.now c.put_out.new.self c.args.next.now c.args.plan.now c.in-Served.byte is
+    past made (subst (λ (h : Happened). IsNext p named limit m h c.args.next.now c.args.plan.now) c.in-Served.is seen)
     (sym c.in-Served.is ∙ says)
     text waiting traced)
 
