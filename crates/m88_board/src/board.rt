@@ -140,7 +140,7 @@ impl Board {
             → IsAt p (absent_in absent.now) opening_moment b) }
     {
         // What always holds of an image is told with its parts.
-        let _ = image.part_count();
+        prove!(image.part_count() <= image.len());
         let memory = Memory::new(alloc, image, absent)?;
         let entry = image.start() / 4 * 4;
         let e0 = lacks_word(&memory, entry);

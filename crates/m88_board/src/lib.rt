@@ -2,8 +2,9 @@
 //! machine, with its output, its counts and the records of its data faults. `Board::new` makes one over an image,
 //! `event` makes the event of a letter, and a `Walk` those of the letters of a run, one by one or until it is to stop;
 //! `run` is a walk to the end of a run, and `drain` makes the events that leave nothing pending. A `Watch` is shown the
-//! board after each event of these, and `Walk::next_told` tells what an instruction does as it is issued. `into_parts` takes a board whose program has ended into its `Parts`, and
-//! `Board::begin` makes a board that goes on from parts. All else tells what the board shows.
+//! board after each event of these, and `Walk::next_told` tells what the instruction does that goes on. `into_parts`
+//! takes a board whose program has ended into its `Parts`, and `Board::begin` makes a board that goes on from parts. All
+//! else tells what the board shows.
 #![tactic(auto)]
 
 mod board;

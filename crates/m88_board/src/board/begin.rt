@@ -61,7 +61,8 @@ impl Board {
         ensures begun { result.begun ≡ true }
     {
         // What always holds of an image is told with its parts.
-        let _ = parts.memory.image().part_count();
+        let image = parts.memory.image();
+        prove!(image.part_count() <= image.len());
         let mut ctrl = Control::new(false);
         ctrl.set_carry(parts.carry);
         let lacks = lacks_word(&parts.memory, parts.pc);

@@ -1,5 +1,6 @@
 -- A board that begins from parts: what always holds of it, and what is seen of it.
-use Rattle.std.proofs.Common.{subst, ◌≡◌}
+use Rattle.std.proofs.Common.{arith, subst, ◌≡◌}
+use Rattle.m88_base.proofs.FewParts.{few_parts}
 use Rattle.m88_base.specs.Image.{IsImage}
 use Rattle.m88_board.proofs.Beginning.{begins, kept_begun, seen_begun}
 use Rattle.m88_board.specs.Board.{BoardView, local_of}
@@ -16,7 +17,7 @@ invariant_of-result c =
     c.lacks_word-lacks_next.ensures c.new.ensures c.set_carry.ensures.state c.new-ctrl.ensures c.into_items.ensures
     c.into_items-2.ensures
     (kept_begun c.args.parts c.args.limit c.of.result c.requires
-    (subst IsImage c.image.ensures c.part_count.ensures.image) c.of.ensures.waiting)
+    (subst IsImage c.image-image.ensures c.part_count.ensures.image) c.of.ensures.waiting)
 
 pub returns-clause-seen : goal.returns-clause-seen
 returns-clause-seen c =
@@ -27,3 +28,9 @@ returns-clause-seen c =
     c.lacks_word-lacks_next.ensures c.new.ensures c.set_carry.ensures.state c.new-ctrl.ensures c.into_items.ensures
     c.into_items-2.ensures
     (seen_begun c.args.parts c.args.limit c.of.result c.of.ensures.numbers)
+
+-- each part of an image has a byte
+pub prove-unreachable-requires : goal.prove-unreachable-requires
+prove-unreachable-requires c =
+    let few = few_parts _ c.part_count.ensures.image in
+    absurd (omega (arith, few, c.if-prove.true, c.part_count.ensures.value, c.len.ensures.value))

@@ -1,5 +1,6 @@
 -- A board at its start.
-use Rattle.std.proofs.Common.{◌≡◌, ◌∙◌, ◌*◌, ◌/◌, ℕ, Bool, ap, sym, subst}
+use Rattle.std.proofs.Common.{◌≡◌, ◌∙◌, ◌*◌, ◌/◌, ℕ, Bool, ap, arith, sym, subst}
+use Rattle.m88_base.proofs.FewParts.{few_parts}
 use Rattle.m88_base.specs.Image.{IsImage, ProgramImage}
 use Rattle.m88_codec.proofs.ImagePrograms.{program_in, program_in_holds, program_in_mxm}
 use Rattle.m88_ctrl.specs.ControlRegisters.{mxm_of}
@@ -51,3 +52,9 @@ returns-clause-at c = λ p of mode.
     (c.in_ok-memory.ensures.bus ∙ ap image_bus image) c.in_ok-memory.ensures.absent
     (ap (λ (n : ℕ). n / 4 * 4) c.start.ensures ∙ ap (λ (i : ProgramImage). word_address i.start) image)
     (subst (λ (i : ProgramImage). IsProgramOf i p) image of) mode)
+
+-- each part of an image has a byte
+pub prove-unreachable-requires : goal.prove-unreachable-requires
+prove-unreachable-requires c =
+    let few = few_parts _ c.part_count.ensures.image in
+    absurd (omega (arith, few, c.if-prove.true, c.part_count.ensures.value, c.len.ensures.value))
