@@ -5,6 +5,7 @@ pub mod Accepting
 pub mod History
 pub mod Following
 pub mod Reading
+pub mod Heads
 pub mod Writing
 pub mod Nexts
 pub mod Noting

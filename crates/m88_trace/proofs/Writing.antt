@@ -7,6 +7,7 @@ use Rattle.std.specs.Global.{Global}
 use Rattle.std.specs.Vec.{with_items}
 use borrow.Rule.Slice.PartMut.{Post-is, post_of}
 use Rattle.m88_base.specs.Hex.{hex8}
+use Rattle.m88_base.specs.Lines.{line_end}
 use Rattle.std.proofs.lemmas.Bool.{eqb-false, eqb-true}
 use Rattle.std.proofs.lemmas.Bool.Decides.{nat_tests}
 use Rattle.m88_isa.proofs.Alone.{by_test}
@@ -211,6 +212,23 @@ open_by text head blank new next waiting after w bus room e f g h is =
     ∙ append_assoc (text_by text waiting bus) head
     (hex8 (datum_by w.access (bus_after_all (accesses_of waiting) bus)))
 
+-- it begins eight bytes in front of the end
+pub opened_long : (text head blank next : List ℕ) (len : ℕ) → next ≡ text ++ (head ++ blank) → length blank ≡ 8 →
+    len ≡ length next →
+    8 ≤ len
+opened_long text head blank next len e is all =
+    let both = length-append text (head ++ blank) in
+    let last = length-append head blank in
+    let same = ap (λ (xs : List ℕ). length xs) e in
+    omega (arith, both, last, same, is, all)
+
+pub opened_at : (text blank next : List ℕ) (len : ℕ) → next ≡ text ++ blank → length blank ≡ 8 → len ≡ length next →
+    len - 8 ≡ length text
+opened_at text blank next len e is all =
+    let both = length-append text blank in
+    let same = ap (λ (xs : List ℕ). length xs) e in
+    omega (arith, both, same, is, all)
+
 -- and its datum has room
 pub room_by_open : (text head blank new next : List ℕ) (waiting after : List Waiting) (w : Waiting) →
     HaveRoom (length text) waiting →
@@ -337,6 +355,17 @@ pub listed_two : (a : Accesses) → a.count ≢ 0 → a.count ≢ 1 → listed a
 listed_two a h g = by_test (a.count == 0)
     (λ t. absurd (h (eqb-true a.count 0 t)))
     (λ f. by_test (a.count == 1) (λ t. absurd (g (eqb-true a.count 1 t))) (λ e. rw (f, e) refl))
+
+-- or none does
+listed_none : (a : Accesses) → a.count ≡ 0 → listed a ≡ []
+listed_none a e = rw e refl
+
+pub line_alone : (a : Accesses) (bus : ℕ → ℕ) (head written : List ℕ) → a.count ≡ 0 →
+    head ++ written ++ line_end ≡ head ++ written ++ accesses_text (listed a) bus ++ line_end
+unfolding accesses_text
+line_alone a bus head written e =
+    sym (ap (λ (xs : List Access). head ++ written ++ accesses_text xs bus ++ line_end) (listed_none a e)
+    ∙ ap (λ (xs : List ℕ). xs ++ line_end) (append-nil (head ++ written)))
 
 pub two_open : (w x y : List ℕ) (waiting next : List Access) (a b : Access) (bus : ℕ → ℕ) →
     x ≡ w ++ access_text a (bus_after_all waiting bus) →

@@ -1,12 +1,13 @@
 //! The parts of a trace's lines. Each call appends to a text, and where memory runs out, some of the part may be in it.
 
-ghost use Rattle.std.specs.Prelude.{◌≡◌, ◌%◌, ◌<◌, ◌++◌, OnOk, codes, decimal, if◌then◌else◌, ◌∷◌, []};
-ghost use Rattle.m88_base.specs.Hex.{hex8, hex_digit};
+ghost use Rattle.std.specs.Prelude.{◌≡◌, ◌%◌, ◌<◌, ◌≤◌, ◌++◌, OnOk, codes, decimal, drop, if◌then◌else◌, length, ◌∷◌, []};
+ghost use Rattle.m88_base.specs.Hex.{hex2, hex8, hex_digit};
 ghost use Rattle.m88_base.specs.Lines.{line_end};
 ghost use Rattle.m88_isa.specs.Memory.{IsWordAccess};
 ghost use Rattle.m88_trace.specs.Lines.{access_head, head_text, output_text, written_text};
 
-use m88_base::{Reg, push_decimal, push_hex2};
+use itoa::write_digits;
+use m88_base::{Reg, push_hex2};
 use m88_isa::Access;
 use std::alloc::AllocError;
 
@@ -20,20 +21,34 @@ fn last_digit(n: u32) -> u8
     DIGITS[(n % 16) as usize]
 }
 
+/// The two digits of each byte, from 0 on.
+const PAIRS: [u8; 512] = *b"000102030405060708090A0B0C0D0E0F101112131415161718191A1B1C1D1E1F\
+    202122232425262728292A2B2C2D2E2F303132333435363738393A3B3C3D3E3F\
+    404142434445464748494A4B4C4D4E4F505152535455565758595A5B5C5D5E5F\
+    606162636465666768696A6B6C6D6E6F707172737475767778797A7B7C7D7E7F\
+    808182838485868788898A8B8C8D8E8F909192939495969798999A9B9C9D9E9F\
+    A0A1A2A3A4A5A6A7A8A9AAABACADAEAFB0B1B2B3B4B5B6B7B8B9BABBBCBDBEBF\
+    C0C1C2C3C4C5C6C7C8C9CACBCCCDCECFD0D1D2D3D4D5D6D7D8D9DADBDCDDDEDF\
+    E0E1E2E3E4E5E6E7E8E9EAEBECEDEEEFF0F1F2F3F4F5F6F7F8F9FAFBFCFDFEFF";
+
+/// The two digits of a byte.
+fn byte_digits(n: u8) -> [u8; 2]
+    ensures { result ≡ hex2 n }
+{
+    let from = usize::from(n) * 2;
+    [PAIRS[from], PAIRS[from + 1]]
+}
+
 /// A word in eight digits.
 pub(crate) fn word_digits(n: u32) -> [u8; 8]
     ensures { result ≡ hex8 n }
 {
-    [
-        last_digit(n >> 28),
-        last_digit(n >> 24),
-        last_digit(n >> 20),
-        last_digit(n >> 16),
-        last_digit(n >> 12),
-        last_digit(n >> 8),
-        last_digit(n >> 4),
-        last_digit(n),
-    ]
+    let [first, second, third, fourth] = n.to_be_bytes();
+    let [a, b] = byte_digits(first);
+    let [c, d] = byte_digits(second);
+    let [e, f] = byte_digits(third);
+    let [g, h] = byte_digits(fourth);
+    [a, b, c, d, e, f, g, h]
 }
 
 /// Appends a space and a word in eight digits, at once.
@@ -44,7 +59,16 @@ fn push_word(text: &mut Vec<u8>, n: u32) -> Result<(), AllocError>
     text.extend_from_slice(&[b' ', a, b, c, d, e, f, g, h])
 }
 
-/// Appends the number of a step, and the address and the word of its instruction.
+/// Appends a number in decimal and what stands behind it, at once. In front of that stands room for the number.
+fn push_numbered(text: &mut Vec<u8>, number: u32, line: &mut [u8]) -> Result<(), AllocError>
+    requires { 10 ≤ length line.old }
+    ensures { OnOk result (text.new.items ≡ text.old.items ++ (decimal number ++ drop 10 line.old)) }
+{
+    let start = write_digits(u64::from(number), line, 10);
+    text.extend_from_slice(&line[start..])
+}
+
+/// Appends the number of a step, and the address and the word of its instruction, at once.
 #[tactic(auto, unfolding(crate::specs::Lines::head_text))]
 pub(crate) fn push_head(
     text: &mut Vec<u8>,
@@ -54,9 +78,53 @@ pub(crate) fn push_head(
 ) -> Result<(), AllocError>
     ensures { OnOk result (text.new.items ≡ text.old.items ++ head_text number at word) }
 {
-    push_decimal(text, u64::from(number))?;
-    push_word(text, at)?;
-    push_word(text, word)
+    let [a, b, c, d, e, f, g, h] = word_digits(at);
+    let [i, j, k, l, m, n, o, p] = word_digits(word);
+    let mut line = [
+        0, 0, 0, 0, 0, 0, 0, 0, 0, 0, // the room for the number
+        b' ', a, b, c, d, e, f, g, h, b' ', i, j, k, l, m, n, o, p,
+    ];
+    push_numbered(text, number, &mut line)
+}
+
+/// Appends a line without accesses, at once.
+#[tactic(auto, unfolding(crate::specs::Lines::head_text, crate::specs::Lines::written_text))]
+pub(crate) fn push_line(
+    text: &mut Vec<u8>,
+    number: u32,
+    at: u32,
+    word: u32,
+    written: Option<(Reg, u32)>,
+) -> Result<(), AllocError>
+    ensures { OnOk result (text.new.items
+        ≡ text.old.items ++ (head_text number at word ++ written_text written ++ line_end)) }
+{
+    let [a, b, c, d, e, f, g, h] = word_digits(at);
+    let [i, j, k, l, m, n, o, p] = word_digits(word);
+    let Some((register, value)) = written else {
+        let mut line = [
+            0, 0, 0, 0, 0, 0, 0, 0, 0, 0, b' ', a, b, c, d, e, f, g, h, b' ', i, j, k, l, m, n, o,
+            p, b'\n',
+        ];
+        return push_numbered(text, number, &mut line);
+    };
+    let [q, r, s, t, u, v, w, x] = word_digits(value);
+    let register = register.number();
+    if register < 10 {
+        let digit = last_digit(register);
+        let mut line = [
+            0, 0, 0, 0, 0, 0, 0, 0, 0, 0, b' ', a, b, c, d, e, f, g, h, b' ', i, j, k, l, m, n, o,
+            p, b' ', b'r', digit, b' ', q, r, s, t, u, v, w, x, b'\n',
+        ];
+        return push_numbered(text, number, &mut line);
+    }
+    let tens = last_digit(register / 10);
+    let ones = last_digit(register % 10);
+    let mut line = [
+        0, 0, 0, 0, 0, 0, 0, 0, 0, 0, b' ', a, b, c, d, e, f, g, h, b' ', i, j, k, l, m, n, o, p,
+        b' ', b'r', tens, ones, b' ', q, r, s, t, u, v, w, x, b'\n',
+    ];
+    push_numbered(text, number, &mut line)
 }
 
 /// Appends a register that is written at once, and its new value.
@@ -92,16 +160,39 @@ fn kind_of(access: &Access) -> u8
     if access.write { b's' } else { b'l' }
 }
 
-/// Appends an access up to its datum.
+/// The bytes of an access up to its datum.
+const HEAD: usize = 14;
+
+/// An access whose datum isn't known yet.
 #[tactic(auto, unfolding(crate::specs::Lines::access_head))]
-pub(crate) fn push_access(text: &mut Vec<u8>, access: &Access) -> Result<(), AllocError>
+fn open_access(access: &Access) -> [u8; HEAD + 8]
     requires { IsWordAccess access.now }
-    ensures { OnOk result (text.new.items ≡ text.old.items ++ access_head access.now) }
+    ensures { result ≡ access_head access.now ++ codes "????????" }
 {
     let kind = kind_of(access);
     let [a, b, c, d, e, f, g, h] = word_digits(access.addr);
     let en = last_digit(u32::from(access.en));
-    text.extend_from_slice(&[b' ', kind, b' ', a, b, c, d, e, f, g, h, b' ', en, b' '])
+    [
+        b' ', kind, b' ', a, b, c, d, e, f, g, h, b' ', en, b' ', b'?', b'?', b'?', b'?', b'?',
+        b'?', b'?', b'?',
+    ]
+}
+
+/// Appends an access up to its datum.
+pub(crate) fn push_access(text: &mut Vec<u8>, access: &Access) -> Result<(), AllocError>
+    requires { IsWordAccess access.now }
+    ensures { OnOk result (text.new.items ≡ text.old.items ++ access_head access.now) }
+{
+    text.extend_from_slice(&open_access(access)[..HEAD])
+}
+
+/// Appends an access whose datum isn't known yet, with question marks for its digits.
+pub(crate) fn push_open(text: &mut Vec<u8>, access: &Access) -> Result<(), AllocError>
+    requires { IsWordAccess access.now }
+    ensures { OnOk result (text.new.items
+        ≡ text.old.items ++ (access_head access.now ++ codes "????????")) }
+{
+    text.extend_from_slice(&open_access(access))
 }
 
 /// Appends a byte that is put out.

@@ -10,7 +10,9 @@ ghost use Rattle.m88_trace.specs.Inside.Sheets.{AreData, AreMade, three_of, wait
 ghost use Rattle.m88_trace.specs.Lines.{access_text, accesses_text, datum_by};
 ghost use Rattle.m88_trace.specs.declared.doing.Doing.TheVariants as doings;
 
-use crate::parts::{push_access, push_head, push_line_end, push_output, push_written, word_digits};
+use crate::parts::{
+    push_head, push_line, push_line_end, push_open, push_output, push_written, word_digits,
+};
 use crate::upcoming::Upcoming;
 use crate::waiting::Waiting;
 use m88_base::NoMemory;
@@ -20,8 +22,8 @@ use m88_isa::{Access, Accesses, Effect, datum, merge};
 use m88_report::push_end;
 use std::alloc::Global;
 
-/// What stands in a datum's place until it is known.
-const UNKNOWN: &[u8] = b"????????";
+/// The digits of a datum.
+const DATUM: usize = 8;
 
 /// A trace that is being written.
 #[derive(Drop, Debug)]
@@ -71,6 +73,10 @@ impl Sheet {
             ≡ waiting_of self.old ++ listed effect.now.accesses) }
         ensures made { OnOk result (AreMade self.new) }
     {
+        if effect.accesses.count == 0 {
+            push_line(&mut self.text, next.number, next.at, next.word, effect.reg)?;
+            return Ok(());
+        }
         push_head(&mut self.text, next.number, next.at, next.word)?;
         push_written(&mut self.text, effect.reg)?;
         self.open_all(&effect.accesses)?;
@@ -138,9 +144,8 @@ impl Sheet {
             ≡ waiting_of self.old ++ access.now ∷ []) }
         ensures made { OnOk result (AreMade self.new) }
     {
-        push_access(&mut self.text, access)?;
-        let at = self.text.len();
-        self.text.extend_from_slice(UNKNOWN)?;
+        push_open(&mut self.text, access)?;
+        let at = self.text.len() - DATUM;
         let access = *access;
         push_waiting(&mut self.waiting, Waiting { access, at })?;
         Ok(())
@@ -160,7 +165,7 @@ impl Sheet {
             return;
         }
         let at = self.waiting.remove(0).at;
-        self.text[at..at + 8].copy_from_slice(&word_digits(datum));
+        self.text[at..at + DATUM].copy_from_slice(&word_digits(datum));
     }
 
     /// Writes the data of all accesses that wait, of which there are three at most.

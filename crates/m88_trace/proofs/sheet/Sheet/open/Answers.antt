@@ -1,41 +1,49 @@
 -- It waits behind the others, with room for its datum.
-use Rattle.std.proofs.Common.{List, arith, refl, sym, subst}
+use Rattle.std.proofs.Common.{List, ◌++◌, ◌-◌, ◌∙◌, append_assoc, arith, codes, length, refl, sym, subst, ◌≡◌}
 use Rattle.m88_isa.specs.declared.planned.Access.{Access}
-use Rattle.m88_trace.proofs.Writing.{accesses_by, made_more, open_by, room_by_open}
+use Rattle.m88_trace.proofs.Writing.{accesses_by, made_more, open_by, opened_at, opened_long, room_by_open}
 use Rattle.m88_trace.specs.Inside.Sheets.{AreWords, waiting_of}
 use Rattle.m88_trace.specs.Lines.{access_head}
 use Rattle.m88_trace.specs.declared.waiting.Waiting.{Waiting}
 use Rattle.m88_trace.proofs.sheet.Sheet.open.Goals as goal
 
+pub overflow_sub-at : goal.overflow_sub-at
+overflow_sub-at c =
+    opened_long c.args.self.now.text.items (access_head c.args.access.now) (codes "????????") c.push_open.new.text.items
+    c.len-at.result c.in_ok-push_open.ensures refl (omega arith)
+
 pub returns-clause-text : goal.returns-clause-text
 returns-clause-text c = λ bus.
     let s = c.args.self.now in
     let a = c.args.access.now in
-    let w : Waiting = record { access = a; at = c.len-at.result } in
-    open_by s.text.items (access_head a) _ c.push_access.new.text.items c.extend_from_slice.new.self.items
+    let w : Waiting = record { access = a; at = c.len-at.result - 8 } in
+    let next = c.push_open.new.text.items in
+    let put = c.in_ok-push_open.ensures ∙ sym (append_assoc s.text.items (access_head a) (codes "????????")) in
+    open_by s.text.items (access_head a) (codes "????????") (s.text.items ++ access_head a) next
     s.waiting.items c.push_waiting.new.list.items w bus c.requires.made.room c.in_ok-push_waiting.ensures
-    c.in_ok-push_access.ensures (omega arith) c.in_ok-extend_from_slice.ensures.items refl
+    refl (opened_at (s.text.items ++ access_head a) (codes "????????") next c.len-at.result put refl (omega arith)) put refl
 
 pub returns-clause-waiting : goal.returns-clause-waiting
 returns-clause-waiting c =
     let s = c.args.self.now in
     let a = c.args.access.now in
-    let w : Waiting = record { access = a; at = c.len-at.result } in
+    let w : Waiting = record { access = a; at = c.len-at.result - 8 } in
     accesses_by s.waiting.items c.push_waiting.new.list.items w a c.in_ok-push_waiting.ensures refl
 
 pub returns-clause-made : goal.returns-clause-made
 returns-clause-made c =
     let s = c.args.self.now in
     let a = c.args.access.now in
-    let w : Waiting = record { access = a; at = c.len-at.result } in
+    let w : Waiting = record { access = a; at = c.len-at.result - 8 } in
+    let next = c.push_open.new.text.items in
+    let put = c.in_ok-push_open.ensures ∙ sym (append_assoc s.text.items (access_head a) (codes "????????")) in
     record {
       words =
           subst (λ (xs : List Access). AreWords xs)
           (sym (accesses_by s.waiting.items c.push_waiting.new.list.items w a c.in_ok-push_waiting.ensures refl))
           (made_more (waiting_of s) a c.requires.made.words c.requires.words);
       room =
-          room_by_open s.text.items (access_head a) _ c.push_access.new.text.items
-          c.extend_from_slice.new.self.items
+          room_by_open s.text.items (access_head a) (codes "????????") (s.text.items ++ access_head a) next
           s.waiting.items c.push_waiting.new.list.items w c.requires.made.room c.in_ok-push_waiting.ensures
-          c.in_ok-push_access.ensures (omega arith) c.in_ok-extend_from_slice.ensures.items refl;
+          refl (opened_at (s.text.items ++ access_head a) (codes "????????") next c.len-at.result put refl (omega arith)) put refl;
     }
