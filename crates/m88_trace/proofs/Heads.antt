@@ -2,6 +2,7 @@
 use Rattle.std.specs.Prelude.{ℕ, Bool, true, false, List, [], ◌∷◌, ◌++◌, ◌≡◌, ◌≤◌, ◌<◌, ◌%◌, ◌/◌, ◌==◌, codes, decimal, length, if◌then◌else◌}
 use Rattle.std.proofs.Common.{arith, append_assoc, refl, sym, ap, ap₂, ◌∙◌}
 use Rattle.std.proofs.lemmas.Bool.Decides.{nat_tests}
+use Rattle.std.proofs.lemmas.List.{append-nil}
 use Rattle.std.specs.Fmt.{digit_glyph, digits}
 use Rattle.m88_base.specs.Hex.{hex8, hex_digit}
 use Rattle.m88_base.specs.Lines.{line_end}
@@ -55,6 +56,14 @@ unfolding head_text
 line_is number at word written =
     behind (decimal number) (codes " ") (hex8 at) (codes " ") (hex8 word) (written ++ line_end)
     ∙ sym (append_assoc (head_text number at word) written line_end)
+
+pub begun_is : (number at word : ℕ) (access : List ℕ) →
+    decimal number ++ (codes " " ++ hex8 at ++ codes " " ++ hex8 word ++ access)
+    ≡ head_text number at word ++ [] ++ access
+unfolding head_text
+begun_is number at word access =
+    behind (decimal number) (codes " ") (hex8 at) (codes " ") (hex8 word) access
+    ∙ ap (λ (xs : List ℕ). xs ++ access) (sym (append-nil (head_text number at word)))
 
 -- an access has 14 bytes up to its datum
 head_long : (write : Bool) (addr en : ℕ) →

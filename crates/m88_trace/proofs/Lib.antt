@@ -7,6 +7,7 @@ pub mod Following
 pub mod Reading
 pub mod Heads
 pub mod Writing
+pub mod Joined
 pub mod Nexts
 pub mod Noting
 pub mod Runs

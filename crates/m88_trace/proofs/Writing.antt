@@ -7,19 +7,15 @@ use Rattle.std.specs.Global.{Global}
 use Rattle.std.specs.Vec.{with_items}
 use borrow.Rule.Slice.PartMut.{Post-is, post_of}
 use Rattle.m88_base.specs.Hex.{hex8}
-use Rattle.m88_base.specs.Lines.{line_end}
 use Rattle.std.proofs.lemmas.Bool.{eqb-false, eqb-true}
 use Rattle.std.proofs.lemmas.Bool.Decides.{nat_tests}
-use Rattle.m88_isa.proofs.Alone.{by_test}
-use Rattle.m88_isa.proofs.InWords.{bus_of_append}
 use Rattle.m88_isa.specs.Address.{word_address}
-use Rattle.m88_isa.specs.Bus.{bus_after, bus_after_all, listed, stored, with_word}
+use Rattle.m88_isa.specs.Bus.{bus_after, bus_after_all, stored, with_word}
 use Rattle.m88_isa.specs.Lanes.{merged}
 use Rattle.m88_isa.specs.Memory.{IsWordAccess}
 use Rattle.m88_isa.specs.declared.planned.Access.{Access}
-use Rattle.m88_isa.specs.declared.planned.Accesses.{Accesses}
 use Rattle.m88_trace.specs.Inside.Sheets.{AreData, AreWords, HaveRoom, accesses_of, text_by, waiting_of, with_eight, written_by}
-use Rattle.m88_trace.specs.Lines.{access_text, accesses_text, datum_by}
+use Rattle.m88_trace.specs.Lines.{datum_by}
 use Rattle.m88_trace.specs.declared.sheet.Sheet.{Sheet}
 use Rattle.m88_trace.specs.declared.waiting.Waiting.{Waiting}
 
@@ -331,10 +327,6 @@ word_next (x ∷ xs) (suc k) a bus e =
     let h : suc k + 1 ≡ suc (k + 1) = omega arith in
     rw h (word_next xs k a (bus_after x bus) e)
 
-pub four_parts : (w a b c d x y z : List ℕ) → x ≡ w ++ a ++ b → y ≡ x ++ c → z ≡ y ++ d → z ≡ w ++ (a ++ b ++ c ++ d)
-four_parts w a b c d x y z e f g =
-    g ∙ ap (λ (xs : List ℕ). xs ++ d) (three_parts w a b c x y e f) ∙ append_assoc w (a ++ b ++ c) d
-
 -- two parts are written behind a text
 pub more_two : (text new next a b : List ℕ) (waiting : List Waiting) (bus : ℕ → ℕ) → HaveRoom (length text) waiting →
     new ≡ text ++ a →
@@ -349,39 +341,6 @@ pub room_two : (text new next a b : List ℕ) (waiting : List Waiting) → HaveR
     next ≡ new ++ b →
     HaveRoom (length next) waiting
 room_two text new next a b waiting room e f = room_by new next b waiting (room_by text new a waiting room e) f
-
--- two accesses wait
-pub listed_two : (a : Accesses) → a.count ≢ 0 → a.count ≢ 1 → listed a ≡ a.first ∷ a.second ∷ []
-listed_two a h g = by_test (a.count == 0)
-    (λ t. absurd (h (eqb-true a.count 0 t)))
-    (λ f. by_test (a.count == 1) (λ t. absurd (g (eqb-true a.count 1 t))) (λ e. rw (f, e) refl))
-
--- or none does
-listed_none : (a : Accesses) → a.count ≡ 0 → listed a ≡ []
-listed_none a e = rw e refl
-
-pub line_alone : (a : Accesses) (bus : ℕ → ℕ) (head written : List ℕ) → a.count ≡ 0 →
-    head ++ written ++ line_end ≡ head ++ written ++ accesses_text (listed a) bus ++ line_end
-unfolding accesses_text
-line_alone a bus head written e =
-    sym (ap (λ (xs : List Access). head ++ written ++ accesses_text xs bus ++ line_end) (listed_none a e)
-    ∙ ap (λ (xs : List ℕ). xs ++ line_end) (append-nil (head ++ written)))
-
-pub two_open : (w x y : List ℕ) (waiting next : List Access) (a b : Access) (bus : ℕ → ℕ) →
-    x ≡ w ++ access_text a (bus_after_all waiting bus) →
-    next ≡ waiting ++ a ∷ [] →
-    y ≡ x ++ access_text b (bus_after_all next bus) →
-    y ≡ w ++ accesses_text (a ∷ b ∷ []) (bus_after_all waiting bus)
-unfolding accesses_text bus_after_all
-two_open w x y waiting next a b bus e f g =
-    let words : bus_after_all next bus ≡ bus_after a (bus_after_all waiting bus) =
-    ap (λ (xs : List Access). bus_after_all xs bus) f ∙ bus_of_append waiting (a ∷ []) bus in
-    g
-    ∙ ap₂ (λ (xs : List ℕ) (u : ℕ → ℕ). xs ++ access_text b u) e words
-    ∙ append_assoc w (access_text a (bus_after_all waiting bus))
-    (access_text b (bus_after a (bus_after_all waiting bus)))
-    ∙ ap (λ (xs : List ℕ). w ++ (access_text a (bus_after_all waiting bus) ++ xs))
-    (sym (append-nil (access_text b (bus_after a (bus_after_all waiting bus)))))
 
 -- where none waits, it doesn't matter what memory has
 pub whatever_words : (s : Sheet) (bus after : ℕ → ℕ) → waiting_of s ≡ [] → written_by s after ≡ written_by s bus

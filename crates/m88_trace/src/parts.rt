@@ -195,6 +195,38 @@ pub(crate) fn push_open(text: &mut Vec<u8>, access: &Access) -> Result<(), Alloc
     text.extend_from_slice(&open_access(access))
 }
 
+/// Appends a line up to its first access, whose datum isn't known yet. Few lines have both a register and an access.
+#[tactic(auto, unfolding(crate::specs::Lines::written_text))]
+pub(crate) fn push_begun(
+    text: &mut Vec<u8>,
+    number: u32,
+    at: u32,
+    word: u32,
+    written: Option<(Reg, u32)>,
+    access: &Access,
+) -> Result<(), AllocError>
+    requires { IsWordAccess access.now }
+    ensures { OnOk result (text.new.items ≡ text.old.items ++ (head_text number at word
+        ++ written_text written ++ (access_head access.now ++ codes "????????"))) }
+{
+    let None = written else {
+        push_head(text, number, at, word)?;
+        push_written(text, written)?;
+        return push_open(text, access);
+    };
+    let [a, b, c, d, e, f, g, h] = word_digits(at);
+    let [i, j, k, l, m, n, o, p] = word_digits(word);
+    let kind = kind_of(access);
+    let [q, r, s, t, u, v, w, x] = word_digits(access.addr);
+    let en = last_digit(u32::from(access.en));
+    let mut line = [
+        0, 0, 0, 0, 0, 0, 0, 0, 0, 0, b' ', a, b, c, d, e, f, g, h, b' ', i, j, k, l, m, n, o, p,
+        b' ', kind, b' ', q, r, s, t, u, v, w, x, b' ', en, b' ', b'?', b'?', b'?', b'?', b'?',
+        b'?', b'?', b'?',
+    ];
+    push_numbered(text, number, &mut line)
+}
+
 /// Appends a byte that is put out.
 #[tactic(auto, unfolding(crate::specs::Lines::output_text))]
 pub(crate) fn push_output(text: &mut Vec<u8>, byte: u8) -> Result<(), AllocError>

@@ -1,17 +1,17 @@
 //! A trace that is being written. It has room for each datum that isn't known yet.
 
-ghost use Rattle.std.specs.Prelude.{ℕ, List, ◌∷◌, [], ◌≡◌, ◌≤◌, ◌%◌, ◌++◌, IfOk, drop, length, slice_get, take, IfSome, OnOk};
+ghost use Rattle.std.specs.Prelude.{ℕ, List, ◌∷◌, [], ◌≡◌, ◌≤◌, ◌<◌, ◌%◌, ◌++◌, IfOk, drop, length, slice_get, take, IfSome, OnOk};
 ghost use Rattle.m88_event.specs.EndText.{run_end_line};
 ghost use Rattle.m88_isa.specs.Bus.{bus_after, bus_after_all, listed};
 ghost use Rattle.m88_isa.specs.Memory.{AreWordAccesses, IsWordAccess};
 ghost use Rattle.m88_mem.specs.DataBus.{bus_of};
 ghost use Rattle.m88_trace.specs.Inside.Doings.{doing_line};
 ghost use Rattle.m88_trace.specs.Inside.Sheets.{AreData, AreMade, three_of, waiting_of, written_by};
-ghost use Rattle.m88_trace.specs.Lines.{access_text, accesses_text, datum_by};
+ghost use Rattle.m88_trace.specs.Lines.{access_text, accesses_text, datum_by, head_text, written_text};
 ghost use Rattle.m88_trace.specs.declared.doing.Doing.TheVariants as doings;
 
 use crate::parts::{
-    push_head, push_line, push_line_end, push_open, push_output, push_written, word_digits,
+    push_begun, push_head, push_line, push_line_end, push_open, push_output, word_digits,
 };
 use crate::upcoming::Upcoming;
 use crate::waiting::Waiting;
@@ -77,9 +77,8 @@ impl Sheet {
             push_line(&mut self.text, next.number, next.at, next.word, effect.reg)?;
             return Ok(());
         }
-        push_head(&mut self.text, next.number, next.at, next.word)?;
-        push_written(&mut self.text, effect.reg)?;
-        self.open_all(&effect.accesses)?;
+        self.begin(next, effect)?;
+        self.open_second(&effect.accesses)?;
         push_line_end(&mut self.text)?;
         Ok(())
     }
@@ -111,22 +110,47 @@ impl Sheet {
         Ok(())
     }
 
-    /// Writes accesses in order, whose data are waited for.
-    #[tactic(auto, unfolding(crate::specs::Lines::accesses_text))]
-    fn open_all(&mut self, accesses: &Accesses) -> Result<(), NoMemory>
+    /// Writes the line of an instruction up to its first access, whose datum is waited for.
+    // Inlined into the loop over the events, it would have each effect taken to pieces there and copied.
+    #[inline(never)]
+    fn begin(&mut self, next: &Upcoming, effect: &Effect) -> Result<(), NoMemory>
         requires made { AreMade self.old }
-        requires words { AreWordAccesses accesses.now.count accesses.now }
+        requires words { IsWordAccess effect.now.accesses.first }
         ensures text { OnOk result ((bus : ℕ → ℕ)
             → written_by self.new bus ≡ written_by self.old bus
-            ++ accesses_text (listed accesses.now) (bus_after_all (waiting_of self.old) bus)) }
+            ++ (head_text next.now.number next.now.at next.now.word ++ written_text effect.now.reg
+            ++ access_text effect.now.accesses.first (bus_after_all (waiting_of self.old) bus))) }
         ensures waiting { OnOk result (waiting_of self.new
-            ≡ waiting_of self.old ++ listed accesses.now) }
+            ≡ waiting_of self.old ++ effect.now.accesses.first ∷ []) }
         ensures made { OnOk result (AreMade self.new) }
     {
-        if accesses.count == 0 {
-            return Ok(());
-        }
-        self.open(&accesses.first)?;
+        let access = effect.accesses.first;
+        push_begun(
+            &mut self.text,
+            next.number,
+            next.at,
+            next.word,
+            effect.reg,
+            &access,
+        )?;
+        let at = self.text.len() - DATUM;
+        push_waiting(&mut self.waiting, Waiting { access, at })?;
+        Ok(())
+    }
+
+    /// Writes the second of one or two accesses up to its datum, which is waited for.
+    #[tactic(auto, unfolding(crate::specs::Lines::accesses_text))]
+    fn open_second(&mut self, accesses: &Accesses) -> Result<(), NoMemory>
+        requires made { AreMade self.old }
+        requires words { AreWordAccesses accesses.now.count accesses.now }
+        requires some { 0 < accesses.now.count }
+        ensures text { OnOk result ((bus : ℕ → ℕ)
+            → written_by self.new bus ≡ written_by self.old bus
+            ++ accesses_text (drop 1 (listed accesses.now)) (bus_after_all (waiting_of self.old) bus)) }
+        ensures waiting { OnOk result (waiting_of self.new
+            ≡ waiting_of self.old ++ drop 1 (listed accesses.now)) }
+        ensures made { OnOk result (AreMade self.new) }
+    {
         if accesses.count == 1 {
             return Ok(());
         }

@@ -1,5 +1,5 @@
 -- The digits stand in the order of the bytes.
-use Rattle.std.proofs.Common.{ℕ, zero, suc, Bool, true, T, List, [], ◌∷◌, ◌≡◌, ◌<◌, ◌+◌, ◌-◌, ◌*◌, ◌/◌, ◌%◌, ◌&&◌, eqb, eqb→eq, get_or, ap₂, arith, eq-zero-or-pos, inl, inr}
+use Rattle.std.proofs.Common.{ℕ, zero, suc, Bool, true, T, [], ◌∷◌, ◌≡◌, ◌<◌, ◌+◌, ◌-◌, ◌*◌, ◌/◌, ◌%◌, ◌&&◌, eqb, eqb→eq, get_or, ap₂, arith, eq-zero-or-pos, inl, inr}
 use lib.Ieee.Fits.{and_l, and_r}
 use Rattle.m88_base.specs.Hex.{hex_digit}
 use Rattle.m88_trace.specs.declared.parts.TheConstants.{PAIRS}
@@ -9,7 +9,8 @@ use Rattle.m88_trace.proofs.parts.byte_digits.Goals as goal
 abbrev are_pairs : ℕ → Bool
 are_pairs zero = true
 are_pairs (suc n) =
-    (eqb (get_or PAIRS (n * 2) 0) (hex_digit (n / 16 % 16)) && eqb (get_or PAIRS (n * 2 + 1) 0) (hex_digit (n / 1 % 16)))
+    (eqb (get_or PAIRS (n * 2) 0) (hex_digit (n / 16 % 16))
+    && eqb (get_or PAIRS (n * 2 + 1) 0) (hex_digit (n / 1 % 16)))
     && are_pairs n
 
 pair_at : (most n : ℕ) → T (are_pairs most) → n < most →

@@ -1,5 +1,5 @@
 -- It is cut off in front of its datum.
-use Rattle.std.proofs.Common.{ℕ, List, ap, codes, sym, take, ◌++◌, ◌≡◌, ◌∙◌}
+use Rattle.std.proofs.Common.{ℕ, List, ap, codes, take, ◌++◌, ◌∙◌}
 use Rattle.std.proofs.lemmas.List.{take_at}
 use Rattle.m88_trace.proofs.Heads.{head_length}
 use Rattle.m88_trace.proofs.Writing.{ok_items, ok_on}

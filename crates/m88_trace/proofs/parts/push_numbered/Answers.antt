@@ -1,5 +1,5 @@
 -- A number of 32 bits has ten digits at most.
-use Rattle.std.proofs.Common.{ℕ, List, arith, ap, drop, length, decimal, ◌++◌, ◌≡◌, ◌∙◌}
+use Rattle.std.proofs.Common.{ℕ, List, arith, ap, drop, length, decimal, ◌++◌, ◌∙◌}
 use Rattle.std.proofs.lemmas.Fmt.{length-decimal-le}
 use Rattle.std.proofs.lemmas.Slice.{between_to_end}
 use Rattle.m88_trace.proofs.Writing.{ok_items, ok_on}

@@ -1,5 +1,5 @@
 -- It waits behind the others, with room for its datum.
-use Rattle.std.proofs.Common.{List, ◌++◌, ◌-◌, ◌∙◌, append_assoc, arith, codes, length, refl, sym, subst, ◌≡◌}
+use Rattle.std.proofs.Common.{List, ◌++◌, ◌-◌, ◌∙◌, append_assoc, arith, codes, refl, sym, subst}
 use Rattle.m88_isa.specs.declared.planned.Access.{Access}
 use Rattle.m88_trace.proofs.Writing.{accesses_by, made_more, open_by, opened_at, opened_long, room_by_open}
 use Rattle.m88_trace.specs.Inside.Sheets.{AreWords, waiting_of}
@@ -21,7 +21,8 @@ returns-clause-text c = λ bus.
     let put = c.in_ok-push_open.ensures ∙ sym (append_assoc s.text.items (access_head a) (codes "????????")) in
     open_by s.text.items (access_head a) (codes "????????") (s.text.items ++ access_head a) next
     s.waiting.items c.push_waiting.new.list.items w bus c.requires.made.room c.in_ok-push_waiting.ensures
-    refl (opened_at (s.text.items ++ access_head a) (codes "????????") next c.len-at.result put refl (omega arith)) put refl
+    refl (opened_at (s.text.items ++ access_head a) (codes "????????") next c.len-at.result put refl (omega arith))
+    put refl
 
 pub returns-clause-waiting : goal.returns-clause-waiting
 returns-clause-waiting c =
@@ -45,5 +46,6 @@ returns-clause-made c =
       room =
           room_by_open s.text.items (access_head a) (codes "????????") (s.text.items ++ access_head a) next
           s.waiting.items c.push_waiting.new.list.items w c.requires.made.room c.in_ok-push_waiting.ensures
-          refl (opened_at (s.text.items ++ access_head a) (codes "????????") next c.len-at.result put refl (omega arith)) put refl;
+          refl (opened_at (s.text.items ++ access_head a) (codes "????????") next c.len-at.result put refl (omega arith))
+          put refl;
     }

@@ -1,0 +1,72 @@
+-- Its first access waits behind the others, with room for its datum.
+use Rattle.std.proofs.Common.{List, ◌++◌, ◌-◌, ◌∙◌, ap, append_assoc, arith, codes, refl, sym, subst, ℕ}
+use Rattle.m88_base.specs.Hex.{hex8}
+use Rattle.m88_isa.specs.Bus.{bus_after_all}
+use Rattle.m88_isa.specs.declared.planned.Access.{Access}
+use Rattle.m88_trace.proofs.Joined.{begun_put}
+use Rattle.m88_trace.proofs.Writing.{accesses_by, made_more, open_by, opened_at, opened_long, room_by_open}
+use Rattle.m88_trace.specs.Inside.Sheets.{AreWords, waiting_of, written_by}
+use Rattle.m88_trace.specs.Lines.{access_head, datum_by, head_text, written_text}
+use Rattle.m88_trace.specs.declared.waiting.Waiting.{Waiting}
+use Rattle.m88_trace.proofs.sheet.Sheet.begin.Goals as goal
+
+pub overflow_sub-at : goal.overflow_sub-at
+overflow_sub-at c =
+    let s = c.args.self.now in
+    let next = c.args.next.now in
+    let effect = c.args.effect.now in
+    let head = head_text next.number next.at next.word in
+    let written = written_text effect.reg in
+    let new = c.push_begun.new.text.items in
+    let put = begun_put s.text.items head written (access_head effect.accesses.first) (codes "????????") new
+    c.in_ok-push_begun.ensures in
+    opened_long s.text.items (head ++ written ++ access_head effect.accesses.first) (codes "????????") new
+    c.len-at.result (put ∙ append_assoc s.text.items (head ++ written ++ access_head effect.accesses.first)
+    (codes "????????"))
+    refl (omega arith)
+
+pub returns-clause-text : goal.returns-clause-text
+returns-clause-text c = λ bus.
+    let s = c.args.self.now in
+    let next = c.args.next.now in
+    let a = c.args.effect.now.accesses.first in
+    let head = head_text next.number next.at next.word in
+    let written = written_text c.args.effect.now.reg in
+    let all = head ++ written ++ access_head a in
+    let w : Waiting = record { access = a; at = c.len-at.result - 8 } in
+    let new = c.push_begun.new.text.items in
+    let put = begun_put s.text.items head written (access_head a) (codes "????????") new c.in_ok-push_begun.ensures in
+    open_by s.text.items all (codes "????????") (s.text.items ++ all) new
+    s.waiting.items c.push_waiting.new.list.items w bus c.requires.made.room c.in_ok-push_waiting.ensures
+    refl (opened_at (s.text.items ++ all) (codes "????????") new c.len-at.result put refl (omega arith)) put refl
+    ∙ ap (λ (xs : List ℕ). written_by s bus ++ xs)
+    (append_assoc (head ++ written) (access_head a) (hex8 (datum_by a (bus_after_all (waiting_of s) bus))))
+
+pub returns-clause-waiting : goal.returns-clause-waiting
+returns-clause-waiting c =
+    let s = c.args.self.now in
+    let a = c.args.effect.now.accesses.first in
+    let w : Waiting = record { access = a; at = c.len-at.result - 8 } in
+    accesses_by s.waiting.items c.push_waiting.new.list.items w a c.in_ok-push_waiting.ensures refl
+
+pub returns-clause-made : goal.returns-clause-made
+returns-clause-made c =
+    let s = c.args.self.now in
+    let next = c.args.next.now in
+    let a = c.args.effect.now.accesses.first in
+    let head = head_text next.number next.at next.word in
+    let written = written_text c.args.effect.now.reg in
+    let all = head ++ written ++ access_head a in
+    let w : Waiting = record { access = a; at = c.len-at.result - 8 } in
+    let new = c.push_begun.new.text.items in
+    let put = begun_put s.text.items head written (access_head a) (codes "????????") new c.in_ok-push_begun.ensures in
+    record {
+      words =
+          subst (λ (xs : List Access). AreWords xs)
+          (sym (accesses_by s.waiting.items c.push_waiting.new.list.items w a c.in_ok-push_waiting.ensures refl))
+          (made_more (waiting_of s) a c.requires.made.words c.requires.words);
+      room =
+          room_by_open s.text.items all (codes "????????") (s.text.items ++ all) new
+          s.waiting.items c.push_waiting.new.list.items w c.requires.made.room c.in_ok-push_waiting.ensures
+          refl (opened_at (s.text.items ++ all) (codes "????????") new c.len-at.result put refl (omega arith)) put refl;
+    }
