@@ -9,6 +9,7 @@ pub mod Heads
 pub mod Writing
 pub mod Joined
 pub mod Nexts
+pub mod Data
 pub mod Noting
 pub mod Runs
 pub mod Laws

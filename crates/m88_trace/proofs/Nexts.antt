@@ -5,13 +5,13 @@ use Rattle.m88_board.specs.Board.{BoardView, completed_of, local_of}
 use Rattle.m88_board.specs.Moves.{IsAt}
 use Rattle.m88_event.specs.Choice.{issue_choice, issues, serves}
 use Rattle.m88_event.specs.Local.{Local, local_at}
-use Rattle.m88_event.specs.Timeline.{Moment, choice_at, is_idle, situation_at}
+use Rattle.m88_event.specs.Timeline.{Moment, absent_at, choice_at, is_idle, situation_at}
 use Rattle.m88_event.specs.declared.letter.Letter.TheVariants.{Issue}
 use Rattle.m88_isa.specs.Effect.{Change}
 use Rattle.m88_isa.specs.Held.{Hold, held, instruction_at}
 use Rattle.m88_isa.specs.History.{bus_at, completed_state, pending_at}
 use Rattle.m88_isa.specs.Machine.{Program, Turn, changes, outputs, state, stops, turn_at}
-use Rattle.m88_mem.specs.DataBus.{bus_of}
+use Rattle.m88_mem.specs.DataBus.{absent_of, bus_of}
 
 -- an instruction is issued only where no bubble is before it and nothing holds it
 issued_by : (idle bubble : Bool) (why : Option Hold) (turn : Turn) (change : Change) →
@@ -87,3 +87,9 @@ pub words_at : (p : Program) (named : ℕ → Bool) (m : Moment) (b : BoardView)
     bus_of b.memory ≡ bus_at p m.retired m.done
 unfolding local_of local_at
 words_at p named m b at = ap (λ (l : Local). l.bus) at.seen
+
+-- and the absent pages
+pub pages_at : (p : Program) (named : ℕ → Bool) (m : Moment) (b : BoardView) → IsAt p named m b →
+    absent_of b.memory ≡ absent_at named m
+unfolding local_of local_at
+pages_at p named m b at = ap (λ (l : Local). l.absent) at.seen

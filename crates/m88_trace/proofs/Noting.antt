@@ -8,7 +8,7 @@ use Rattle.m88_base.specs.Pages.{page_number}
 use Rattle.m88_board.specs.Board.{BoardView}
 use Rattle.m88_board.specs.Moves.{IsAt}
 use Rattle.m88_board.specs.Told.{MakeWord}
-use Rattle.m88_mem.specs.DataBus.{bus_of}
+use Rattle.m88_mem.specs.DataBus.{absent_of, bus_of}
 use Rattle.m88_event.proofs.Follows.{Fits, fits, more_transactions}
 use Rattle.m88_event.specs.Bound.{one_if}
 use Rattle.m88_event.specs.Choice.{Choice, answer_choice, end_by, evicts, faults, finishes, holds, idles, issue_choice, issues, passes, replies, said, serves, turn_choice}
@@ -34,14 +34,15 @@ use Rattle.m88_isa.specs.declared.planned.Plan.{Plan}
 use Rattle.m88_isa.specs.declared.planned.Plan.TheVariants.{Go}
 use Rattle.m88_trace.proofs.Following.{doing_fits, same_line}
 use Rattle.m88_trace.proofs.History.{line_there, not_ended_at}
-use Rattle.m88_trace.proofs.Nexts.{choice_shown, not_over_bubble, not_over_bubble_served, words_at}
+use Rattle.m88_trace.proofs.Nexts.{choice_shown, not_over_bubble, not_over_bubble_served, pages_at, words_at}
 use Rattle.m88_trace.proofs.Verdicts.{text_more}
 use Rattle.m88_trace.specs.Inside.Doings.{doing_line, doing_of}
 use Rattle.m88_trace.specs.Inside.Running.{IsNext, IsTraced}
-use Rattle.m88_trace.specs.Inside.Sheets.{AreData, waiting_of, written_by}
+use Rattle.m88_trace.specs.Inside.Sheets.{AreData, AreTold, MeetsAbsent, waiting_of, written_by}
 use Rattle.m88_trace.specs.Texts.{text_of}
 use Rattle.m88_trace.specs.Trace.{line_at, trace_line, word_at}
 use Rattle.m88_trace.specs.declared.doing.Doing.TheVariants.{Goes, Outputs}
+use Rattle.m88_trace.specs.declared.sheet.Data.{Data}
 use Rattle.m88_trace.specs.declared.sheet.Sheet.{Sheet}
 use Rattle.m88_trace.specs.declared.upcoming.Upcoming.{Upcoming}
 
@@ -440,6 +441,22 @@ ended_note p named limit m old new end is past says writes waits traced =
     (told_by p named limit Issue m (finishes stop) choice) found.2
     (λ bus. writes bus ∙ ap (λ (e : End). written_by old bus ++ run_end_line e) found.2) waits traced
 
+-- a fault comes only where the page of the oldest is absent
+fault_meets : (pending : List Access) (absent : ℕ → Bool) → answer_choice pending absent ≡ faults →
+    MeetsAbsent absent pending
+fault_meets [] absent e = absurd cc
+fault_meets (x ∷ pending) absent e = by_test (absent (page_number x.addr))
+    (λ gone. gone)
+    (λ there. absurd (let replied : replies ≡ faults = sym (rw there refl) ∙ e in cc))
+
+pub fault_met : (p : Program) (named : ℕ → Bool) (limit : ℕ) (m : Moment) (was : Record) →
+    happened.Faulted was ≡ said_at p named limit Answer m →
+    MeetsAbsent (absent_at named m) (pending_at p m.retired m.done)
+unfolding said_at situation_at
+fault_met p named limit m was says =
+    fault_meets (pending_at p m.retired m.done) (absent_at named m)
+    (said_faulted (choice_at p named limit Answer m) (record_at p named limit m) was says)
+
 -- the oldest transaction was answered
 pub answered_note : (p : Program) (named : ℕ → Bool) (limit : ℕ) (m : Moment) (old new : Sheet) (datum : ℕ)
     (values : List ℕ) →
@@ -489,13 +506,15 @@ pub evicted_note : (p : Program) (named : ℕ → Bool) (limit : ℕ) (m : Momen
 evicted_note p named limit m s = traced_same p (after_letter p named limit Evict m) m s (evicted_tells p named limit m)
 
 -- data by the words that a board has now
-pub data_at : (p : Program) (named : ℕ → Bool) (m : Moment) (b : BoardView) (s : Sheet) (values : List ℕ) →
+pub data_at : (p : Program) (named : ℕ → Bool) (m : Moment) (b : BoardView) (s : Sheet) (told : Data) →
     IsAt p named m b → IsTraced p m s →
-    AreData values (waiting_of s) (bus_of b.memory) →
-    AreData values (pending_at p m.retired m.done) (bus_at p m.retired m.done)
-data_at p named m b s values at traced are =
-    subst (λ (xs : List Access). AreData values xs (bus_at p m.retired m.done)) traced.waiting
-    (subst (λ (bus : ℕ → ℕ). AreData values (waiting_of s) bus) (words_at p named m b at) are)
+    AreTold told (waiting_of s) (absent_of b.memory) (bus_of b.memory) →
+    AreTold told (pending_at p m.retired m.done) (absent_at named m) (bus_at p m.retired m.done)
+data_at p named m b s told at traced are =
+    subst (λ (xs : List Access). AreTold told xs (absent_at named m) (bus_at p m.retired m.done)) traced.waiting
+    (subst (λ (absent : ℕ → Bool). AreTold told (waiting_of s) absent (bus_at p m.retired m.done))
+    (pages_at p named m b at)
+    (subst (λ (bus : ℕ → ℕ). AreTold told (waiting_of s) (absent_of b.memory) bus) (words_at p named m b at) are))
 
 -- the word that an event tells is the one of the history
 pub word_told : (p : Program) (a word : ℕ) → MakeWord (four_bytes p.byte a) word → word ≡ word_at p a

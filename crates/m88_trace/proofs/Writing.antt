@@ -146,7 +146,7 @@ data_left datum values [] bus are = tt
 data_left datum values (a ∷ accesses) bus are = are.1
 
 -- three data are those of three accesses at most, where each gets what those before it leave
-abbrev IsDatum : ℕ → ℕ → List Access → (ℕ → ℕ) → Type 0
+abbrev pub IsDatum : ℕ → ℕ → List Access → (ℕ → ℕ) → Type 0
 IsDatum index datum accesses bus =
     IfSome (slice_get accesses index) (λ a. datum ≡ datum_by a (bus_after_all (take index accesses) bus))
 

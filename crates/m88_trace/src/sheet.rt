@@ -4,9 +4,9 @@ ghost use Rattle.std.specs.Prelude.{ℕ, List, ◌∷◌, [], ◌≡◌, ◌≤�
 ghost use Rattle.m88_event.specs.EndText.{run_end_line};
 ghost use Rattle.m88_isa.specs.Bus.{bus_after, bus_after_all, listed};
 ghost use Rattle.m88_isa.specs.Memory.{AreWordAccesses, IsWordAccess};
-ghost use Rattle.m88_mem.specs.DataBus.{bus_of};
+ghost use Rattle.m88_mem.specs.DataBus.{absent_of, bus_of};
 ghost use Rattle.m88_trace.specs.Inside.Doings.{doing_line};
-ghost use Rattle.m88_trace.specs.Inside.Sheets.{AreData, AreMade, three_of, waiting_of, written_by};
+ghost use Rattle.m88_trace.specs.Inside.Sheets.{AreData, AreMade, AreTold, three_of, waiting_of, written_by};
 ghost use Rattle.m88_trace.specs.Lines.{access_text, accesses_text, datum_by, head_text, written_text};
 ghost use Rattle.m88_trace.specs.declared.doing.Doing.TheVariants as doings;
 
@@ -19,6 +19,7 @@ use m88_base::NoMemory;
 use m88_board::Board;
 use m88_event::End;
 use m88_isa::{Access, Accesses, Effect, datum, merge};
+use m88_mem::PAGE_BYTES;
 use m88_report::push_end;
 use std::alloc::Global;
 
@@ -33,7 +34,7 @@ pub struct Sheet {
     pub waiting: Vec<Waiting>,
 }
 
-/// The data of the accesses that wait, if three do at most: that of the oldest first. Where fewer wait, the rest are 0.
+/// The data of the accesses that wait, if three do at most: that of the oldest first. Those that aren't known are 0.
 #[derive(Clone, Copy, Default, Debug)]
 pub struct Data {
     pub oldest: u32,
@@ -207,17 +208,27 @@ impl Sheet {
         self.fill(told.third);
     }
 
-    /// The data of the accesses that wait, by the words that a board has now: each gets what those before it leave.
+    /// The data that the next event of `r` may need, by the words that a board has now: that of the oldest access that
+    /// waits, and where its page is absent, those of all, of which each gets what those before it leave.
     pub(crate) fn data(&self, board: &Board) -> Data
         requires { AreMade self.now }
         ensures { length (waiting_of self.now) ≤ 3
-            → AreData (three_of result) (waiting_of self.now) (bus_of board.now.memory) }
+            → AreTold result (waiting_of self.now) (absent_of board.now.memory)
+            (bus_of board.now.memory) }
     {
         if self.waiting.is_empty() {
             return Data::default();
         }
+        let oldest = self.datum(board, 0);
+        let page = self.waiting[0].access.addr / PAGE_BYTES;
+        if !board.memory().is_absent(page) {
+            return Data {
+                oldest,
+                ..Data::default()
+            };
+        }
         Data {
-            oldest: self.datum(board, 0),
+            oldest,
             second: self.datum(board, 1),
             third: self.datum(board, 2),
         }

@@ -3,7 +3,7 @@
 ghost use Rattle.std.specs.Prelude.{ℕ, Bool, ◌≡◌, ◌++◌, OnOk};
 ghost use Rattle.m88_board.specs.Told.{MakesWords};
 ghost use Rattle.m88_event.specs.Past.{HasPast};
-ghost use Rattle.m88_event.specs.Timeline.{DoneWereMade, Moment, after_letter, said_at};
+ghost use Rattle.m88_event.specs.Timeline.{DoneWereMade, Moment, absent_at, after_letter, said_at};
 ghost use Rattle.m88_event.specs.declared.letter.Letter.TheVariants as letters;
 ghost use Rattle.m88_isa.specs.Bus.{bus_after_all, listed};
 ghost use Rattle.m88_isa.specs.History.{bus_at, pending_at};
@@ -12,7 +12,7 @@ ghost use Rattle.m88_isa.specs.declared.planned.Effect.{Effect as EffectValue};
 ghost use Rattle.m88_isa.specs.declared.planned.Plan.TheVariants.{Go};
 ghost use Rattle.m88_trace.specs.Inside.Doings.{doing_line};
 ghost use Rattle.m88_trace.specs.Inside.Running.{IsNext, IsTraced};
-ghost use Rattle.m88_trace.specs.Inside.Sheets.{AreData, AreMade, three_of, waiting_of, written_by};
+ghost use Rattle.m88_trace.specs.Inside.Sheets.{AreMade, AreTold, waiting_of, written_by};
 ghost use Rattle.m88_trace.specs.declared.doing.Doing.TheVariants as doings;
 
 use crate::sheet::{Data, Sheet};
@@ -69,7 +69,8 @@ impl Sheet {
         requires { AreMade self.old }
         ensures traced { (p : Program) (named : ℕ → Bool) (limit : ℕ) (m : Moment)
             → HasPast p limit m → DoneWereMade p m
-            → AreData (three_of told) (pending_at p m.retired m.done) (bus_at p m.retired m.done)
+            → AreTold told (pending_at p m.retired m.done) (absent_at named m)
+            (bus_at p m.retired m.done)
             → happened ≡ said_at p named limit letters.Answer m → IsTraced p m self.old
             → IsTraced p (after_letter p named limit letters.Answer m) self.new }
         ensures made { AreMade self.new }

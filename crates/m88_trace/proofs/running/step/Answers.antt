@@ -10,7 +10,6 @@ use Rattle.m88_isa.specs.Machine.{state}
 use Rattle.m88_trace.proofs.Noting.{data_at, evicted_note, few_wait, word_told}
 use Rattle.m88_trace.proofs.Writing.{ok_always, ok_on}
 use Rattle.m88_trace.specs.Inside.Running.{IsTraced}
-use Rattle.m88_trace.specs.Inside.Sheets.{three_of}
 use Rattle.m88_trace.proofs.running.step.Goals as goal
 
 pub returns-in_ok-happened-in-Issue-clause-at : goal.returns-in_ok-happened-in-Issue-clause-at
@@ -46,7 +45,7 @@ returns-in_ok-happened-in-Answer-clause-traced c = λ p named m is at traced.
     let limit = w.board.now.limit in
     let letter : letter_at w.schedule.now w.taken ≡ Answer = sym c.letter.ensures ∙ c.in-Answer.is in
     let there = subst (λ (b : BoardView). IsAt p named m b) (sym c.board-in-Answer.ensures) at in
-    let told = data_at p named m c.board-in-Answer.result.now c.args.sheet.now (three_of c.data-told.result) there traced
+    let told = data_at p named m c.board-in-Answer.result.now c.args.sheet.now c.data-told.result there traced
     (c.data-told.ensures (few_wait p limit m c.args.sheet.now at.past traced)) in
     subst (λ (l : Letter). IsTraced p (after_letter p named limit l m) c.note_answer.new.self) (sym letter)
     (c.note_answer.ensures.traced p named limit m at.past at.within told
