@@ -5,15 +5,14 @@ ghost use Rattle.m88_mem.specs.Marks.{NamesPages, absent_in};
 ghost use Rattle.m88_cli.specs.Command.{share};
 ghost use Rattle.m88_cli.specs.Inside.Reply.{Replies};
 ghost use Rattle.m88_cli.specs.Limits.{most_input, most_limit};
-ghost use Rattle.m88_report.specs.Report.{named_word};
 ghost use Rattle.m88_cli.specs.Sharing.{numbered_report, saved_line, switch_line, switch_lines, told_of_shared};
 
 use crate::numbered::push_numbered_event;
 use crate::reply::{Reply, refuse};
 use crate::sources::images_of_sources;
-use m88_base::{Absent, NoMemory, push_decimal, push_hex8};
+use m88_base::{Absent, NoMemory, push_decimal};
 use m88_event::Outcome;
-use m88_report::{push_count, report};
+use m88_report::{push_count, push_named, report};
 use m88_tasks::{ShareSchedule, Shared, Switch, Tasks};
 use std::alloc::{AllocError, Global};
 
@@ -127,13 +126,4 @@ fn push_saved(text: &mut Vec<u8>, switch: Switch) -> Result<(), AllocError>
     push_named(text, b" sfip", switch.sfip)?;
     text.push(b'\n')?;
     Ok(())
-}
-
-/// Appends a word of 32 bits with its name before it.
-fn push_named(text: &mut Vec<u8>, name: &[u8], word: u32) -> Result<(), AllocError>
-    ensures { OnOk result (text.new.items ≡ text.old.items ++ named_word name.now word) }
-{
-    text.extend_from_slice(name)?;
-    text.push(b' ')?;
-    push_hex8(text, word)
 }

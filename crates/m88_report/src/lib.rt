@@ -6,5 +6,7 @@ mod lines;
 mod tests;
 mod writer;
 
-pub use lines::{push_carry, push_count, push_end, push_record, push_registers, push_word};
+pub use lines::{
+    push_carry, push_count, push_end, push_named, push_record, push_registers, push_word,
+};
 pub use writer::report;

@@ -152,8 +152,8 @@ fn push_status(text: &mut Vec<u8>, fault: &Record) -> Result<(), AllocError>
     Ok(())
 }
 
-/// Appends a word with its name.
-fn push_named(text: &mut Vec<u8>, name: &[u8], word: u32) -> Result<(), AllocError>
+/// Appends a word of 32 bits behind its name and a blank, in eight hexadecimal digits: a part of a line.
+pub fn push_named(text: &mut Vec<u8>, name: &[u8], word: u32) -> Result<(), AllocError>
     ensures { OnOk result (text.new.items ≡ text.old.items ++ named_word name.now word) }
 {
     text.extend_from_slice(name)?;
