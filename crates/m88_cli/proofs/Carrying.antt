@@ -1,7 +1,8 @@
 -- Commands, one after the other.
-use Rattle.std.specs.Prelude.{Result, Ok, Err, OnOk, ℕ, Bool, true, List, [], ◌∷◌, ◌++◌, Option, ◌≡◌, ◌<◌, ◌≤◌, ◌+◌, drop, length}
-use Rattle.std.proofs.Common.{add-one, append_assoc, append-nil, refl, sym, ap, ap₂, ◌∙◌, subst, inl, inr, drop-cons, get_or}
+use Rattle.std.specs.Prelude.{ℕ, Bool, true, List, [], ◌∷◌, ◌++◌, Option, ◌≡◌, ◌<◌, ◌≤◌, ◌+◌, cond, count_by, drop, length}
+use Rattle.std.proofs.Common.{add-one, append_assoc, arith, append-nil, refl, sym, ap, ap₂, ◌∙◌, subst, inl, inr, drop-cons, get_or}
 use Rattle.std.proofs.lemmas.List.{drop_all}
+use Rattle.std.proofs.lemmas.List.Sums.{sum_by-append}
 use Rattle.m88_event.proofs.Over.{one_first}
 use Rattle.m88_event.specs.Timeline.{opening_moment}
 use Rattle.m88_event.specs.declared.letter.Letter.{Letter}
@@ -16,6 +17,7 @@ use Rattle.m88_board.specs.declared.walk.Walk.{Walk}
 use Rattle.m88_cli.proofs.MonitorWalks.{each_none}
 use Rattle.m88_cli.proofs.Reporting.{no_glance}
 use Rattle.m88_cli.specs.Limits.{session_limit}
+use Rattle.m88_cli.specs.Script.{is_break, most_breaks}
 use Rattle.m88_cli.specs.Session.{Course, IsSession, IsSessionFront, Session, after_command, course_of, glances_of, moments_of, opening_session, stops_command, text_of_command}
 use Rattle.m88_cli.specs.Inside.SessionKept.{Broke, Carried, Stands}
 use Rattle.m88_cli.specs.declared.monitor.Monitor.{Monitor}
@@ -133,6 +135,25 @@ carry_next c commands d start i before here after old new monitor next below car
     carry_one c commands (drop (i + 1) commands) (get_or commands i d) start i before here after old new monitor next
     (here_is commands i d below) refl carrying carried
 
+-- there is room for the breakpoints of a command, and behind it for those of the others
+breaks_here : (commands : List MonitorCommand) (d : MonitorCommand) (i : ℕ) → i < length commands →
+    count_by is_break (drop i commands)
+    ≡ count_by is_break (get_or commands i d ∷ []) + count_by is_break (drop (i + 1) commands)
+breaks_here commands d i below =
+    ap (count_by is_break) (here_is commands i d below)
+    ∙ sum_by-append (λ c. cond (is_break c) 1 0) (get_or commands i d ∷ []) (drop (i + 1) commands)
+
+pub room_here : (commands : List MonitorCommand) (d : MonitorCommand) (i set : ℕ) → i < length commands →
+    set + count_by is_break (drop i commands) ≤ most_breaks →
+    set + count_by is_break (get_or commands i d ∷ []) ≤ most_breaks
+room_here commands d i set below room = omega (arith, room, breaks_here commands d i below)
+
+pub room_next : (commands : List MonitorCommand) (d : MonitorCommand) (i set more : ℕ) → i < length commands →
+    set + count_by is_break (drop i commands) ≤ most_breaks →
+    more ≡ set + count_by is_break (get_or commands i d ∷ []) →
+    more + count_by is_break (drop (i + 1) commands) ≤ most_breaks
+room_next commands d i set more below room is = omega (arith, room, is, breaks_here commands d i below)
+
 -- to the last
 pub carry_end : (c : Course) (commands : List MonitorCommand) (start : Session) (i : ℕ)
     (before after : Option (List Glance)) (told : List ℕ) (monitor : Monitor) →
@@ -197,8 +218,3 @@ set_stands c s a old new stands walk set = record {
   taken = ap (λ (w : Walk). w.taken) walk ∙ stands.taken;
   breakpoints = set ∙ ap (λ (xs : List ℕ). xs ++ word_address a ∷ []) stands.breakpoints;
 }
-
--- what follows of what holds at an answer
-pub both_ok : {T E P Q R : Type 0} (r : Result T E) → OnOk r P → OnOk r Q → (P → Q → R) → OnOk r R
-both_ok (Ok x) p q f = f p q
-both_ok (Err e) p q f = tt

@@ -1,5 +1,5 @@
 //! The monitor: the commands of a script, carried out one after the other on one board.
-ghost use Rattle.std.specs.Prelude.{ℕ, Bool, ◌≡◌, ◌++◌, ◌∷◌, [], List, IfOk, OnErr, OnOk};
+ghost use Rattle.std.specs.Prelude.{ℕ, Bool, ◌≡◌, ◌<◌, ◌≤◌, ◌+◌, ◌++◌, ◌∷◌, [], List, IfOk, OnErr, OnOk, count_by, length};
 ghost use Rattle.m88_event.specs.Timeline.{opening_moment};
 ghost use Rattle.m88_isa.specs.Address.{word_address};
 ghost use Rattle.m88_isa.specs.Machine.{IsProgram, Program};
@@ -8,10 +8,13 @@ ghost use Rattle.m88_board.specs.Moves.{IsAt};
 ghost use Rattle.m88_board.specs.declared.glance.Glance.{Glance};
 ghost use Rattle.m88_cli.specs.MonitorLines.{breakpoint_line};
 ghost use Rattle.m88_cli.specs.Limits.{session_limit};
+ghost use Rattle.m88_cli.specs.Script.{is_break, most_breaks};
 ghost use Rattle.m88_cli.specs.Session.{Course, IsSession, IsSessionFront, Session, course_of, opening_session};
 ghost use Rattle.m88_cli.specs.Inside.SessionKept.{Broke, Carried, Stands};
 
 use crate::script::MonitorCommand;
+use crate::script_lines::MOST_BREAKS;
+use arrayvec::ArrayVec;
 use m88_base::NoMemory;
 use m88_board::{Board, Walk, Watch};
 use m88_event::Schedule;
@@ -26,7 +29,7 @@ mod tracing;
 #[derive(Drop)]
 pub(crate) struct Monitor<'a> {
     walk: Walk<'a>,
-    breakpoints: Vec<u32>,
+    breakpoints: ArrayVec<u32, MOST_BREAKS>,
 }
 
 /// What commands write that are carried out in order on a board before its first event. Its events take the letters of
@@ -40,6 +43,7 @@ pub fn carry_out<W: Watch>(
 ) -> Result<Vec<u8>, NoMemory>
     requires fresh { board.events ≡ 0 }
     requires limit { board.limit ≡ session_limit }
+    requires breaks { count_by is_break commands.now ≤ most_breaks }
     ensures ok { IfOk result (λ text. (p : Program) (named : ℕ → Bool) → IsProgram p
         → IsAt p named opening_moment board → (glances : List Glance)
         × IsSession (course_of p named schedule.now) commands.now opening_session text.items glances
@@ -51,7 +55,7 @@ pub fn carry_out<W: Watch>(
 {
     let mut monitor = Monitor {
         walk: Walk::new(&mut board, schedule),
-        breakpoints: Vec::new(alloc),
+        breakpoints: ArrayVec::new(),
     };
     let mut text = Vec::new(alloc);
     for command in commands {
@@ -68,6 +72,10 @@ impl<'a> Monitor<'a> {
         watch: &mut W,
         text: &mut Vec<u8>,
     ) -> Result<(), NoMemory>
+        requires { length self.old.breakpoints.items + count_by is_break (command.now ∷ [])
+            ≤ most_breaks }
+        ensures set { OnOk result (length self.new.breakpoints.items
+            ≡ length self.old.breakpoints.items + count_by is_break (command.now ∷ [])) }
         ensures ok { OnOk result ((c : Course) (s : Session) → Stands c s self.old
             → Carried c s command.now (W.seen watch.old) (W.seen watch.new)
             text.old.items text.new.items self.new) }
@@ -97,14 +105,15 @@ impl<'a> Monitor<'a> {
 
     /// `break`: sets a breakpoint at the word of a byte address, and tells it.
     fn set_breakpoint(&mut self, address: u32, text: &mut Vec<u8>) -> Result<(), NoMemory>
+        requires { length self.old.breakpoints.items < most_breaks }
         ensures walk { self.new.walk ≡ self.old.walk }
-        ensures set { OnOk result (self.new.breakpoints.items
-            ≡ self.old.breakpoints.items ++ word_address address ∷ []) }
+        ensures set { self.new.breakpoints.items
+            ≡ self.old.breakpoints.items ++ word_address address ∷ [] }
         ensures text { OnOk result (text.new.items
             ≡ text.old.items ++ breakpoint_line (word_address address)) }
     {
         let word = address / 4 * 4;
-        self.breakpoints.push(word).or(Err(NoMemory))?;
+        self.breakpoints.push(word);
         push_breakpoint(text, word)?;
         Ok(())
     }

@@ -1,5 +1,5 @@
 //! What `mon` makes of its input: a session with the monitor by a script, over the source behind it.
-ghost use Rattle.std.specs.Prelude.{ℕ, ◌≡◌, ◌≤◌, IfOk, List, MatchResult, OnErr, length};
+ghost use Rattle.std.specs.Prelude.{ℕ, ◌≡◌, ◌≤◌, IfOk, List, MatchResult, OnErr, count_by, length};
 ghost use Rattle.m88_base.specs.Image.{IsImage};
 ghost use Rattle.m88_board.specs.Glances.{Saw};
 ghost use Rattle.m88_board.specs.declared.glance.Glance.{Glance};
@@ -11,7 +11,7 @@ ghost use Rattle.m88_cli.specs.Limits.{most_input};
 ghost use Rattle.m88_cli.specs.Inside.Linking.{HoldsUnit};
 ghost use Rattle.m88_cli.specs.Monitoring.{IsRefusedMonitor};
 ghost use Rattle.m88_cli.specs.Inside.Reply.{Replies, WatchesFront, WatchesReply};
-ghost use Rattle.m88_cli.specs.Script.{IsScript, most_commands, script_refusal};
+ghost use Rattle.m88_cli.specs.Script.{IsScript, is_break, most_breaks, most_commands, script_refusal};
 ghost use Rattle.m88_cli.specs.Session.{IsSession, IsSessionFront, course_of, opening_session};
 
 use crate::assembly::image_of_source;
@@ -101,7 +101,8 @@ fn session_text<W: Watch>(
     image: &Image,
     watch: &mut W,
 ) -> Result<Vec<u8>, NoMemory>
-    requires { NamesPages absent.now }
+    requires pages { NamesPages absent.now }
+    requires breaks { count_by is_break commands.now ≤ most_breaks }
     ensures image { IsImage image.now }
     ensures session { IfOk result (λ text. (p : Program) → IsProgramOf image.now p
         → p.mxm ≡ mxm → (glances : List Glance)

@@ -12,7 +12,7 @@ use arrayvec::ArrayVec;
 pub const MOST_COMMANDS: usize = 64;
 
 /// The most of them that set a breakpoint.
-const MOST_BREAKS: usize = 16;
+pub const MOST_BREAKS: usize = 16;
 
 /// Whether the lines of a script go on with one line more. Its command is added then.
 pub fn take_line(commands: &mut ArrayVec<MonitorCommand, MOST_COMMANDS>, line: &[u8]) -> bool

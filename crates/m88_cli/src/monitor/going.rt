@@ -18,6 +18,7 @@ impl<'a> Monitor<'a> {
         watch: &mut W,
         text: &mut Vec<u8>,
     ) -> Result<(), NoMemory>
+        ensures kept { self.new.breakpoints ≡ self.old.breakpoints }
         ensures ok { OnOk result ((c : Course) (s : Session) → Stands c s self.old
             → Carried c s (Step count) (W.seen watch.old) (W.seen watch.new)
             text.old.items text.new.items self.new) }
@@ -32,6 +33,7 @@ impl<'a> Monitor<'a> {
     /// `go`: events until the run is over or, after one at least, the next instruction stands at a breakpoint; then the
     /// line of the counts.
     pub(super) fn go<W: Watch>(&mut self, watch: &mut W, text: &mut Vec<u8>) -> Result<(), NoMemory>
+        ensures kept { self.new.breakpoints ≡ self.old.breakpoints }
         ensures ok { OnOk result ((c : Course) (s : Session) → Stands c s self.old
             → Carried c s Go (W.seen watch.old) (W.seen watch.new)
             text.old.items text.new.items self.new) }
@@ -39,7 +41,7 @@ impl<'a> Monitor<'a> {
             → Broke c s Go (W.seen watch.old) (W.seen watch.new)) }
     {
         self.walk
-            .go_until(Until::Breakpoint(&self.breakpoints), watch)?;
+            .go_until(Until::Breakpoint(self.breakpoints.as_slice()), watch)?;
         push_counts(text, self.walk.board())?;
         Ok(())
     }
@@ -51,6 +53,7 @@ impl<'a> Monitor<'a> {
         watch: &mut W,
         text: &mut Vec<u8>,
     ) -> Result<(), NoMemory>
+        ensures kept { self.new.breakpoints ≡ self.old.breakpoints }
         ensures ok { OnOk result ((c : Course) (s : Session) → Stands c s self.old
             → Carried c s Drain (W.seen watch.old) (W.seen watch.new)
             text.old.items text.new.items self.new) }

@@ -46,6 +46,7 @@ impl<'a> Monitor<'a> {
         watch: &mut W,
         text: &mut Vec<u8>,
     ) -> Result<(), NoMemory>
+        ensures kept { self.new.breakpoints ≡ self.old.breakpoints }
         ensures ok { OnOk result ((c : Course) (s : Session) → Stands c s self.old
             → Carried c s (Trace count) (W.seen watch.old) (W.seen watch.new)
             text.old.items text.new.items self.new) }

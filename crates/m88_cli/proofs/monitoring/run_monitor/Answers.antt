@@ -12,6 +12,11 @@ returns-in-Err-clause-reply g c =
     refused_reply (mon (absent_in c.args.absent.now) c.args.schedule.now c.args.mxm) c.args.input.now c.in-Err.refusal c.refuse.result
     (rw c.in-Err.is at c.in_ok-parts.ensures) c.refuse.ensures
 
+pub session_text-requires-clause-breaks : goal.session_text-requires-clause-breaks
+session_text-requires-clause-breaks g c =
+    let found = rw c.in-Ok.is at c.in_ok-parts.ensures in
+    (script_as c.args.input.now c.in-Ok.parts.0.items c.as_slice.result.now found.0 found.1 c.as_slice.ensures.value found.2).are_script.few_breaks
+
 pub returns-in_err-text-clause-front : goal.returns-in_err-text-clause-front
 returns-in_err-text-clause-front g c =
     let found = rw c.in-Ok.is at c.in_ok-parts.ensures in

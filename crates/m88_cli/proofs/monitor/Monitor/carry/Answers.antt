@@ -5,7 +5,7 @@ use Rattle.m88_event.specs.Timeline.{record_at}
 use Rattle.m88_report.specs.Report.{record_lines}
 use Rattle.m88_board.specs.Board.{BoardView}
 use Rattle.m88_board.specs.Moves.{IsAt}
-use Rattle.m88_cli.proofs.Carrying.{both_ok, set_stands, still, still_broke}
+use Rattle.m88_cli.proofs.Carrying.{set_stands, still, still_broke}
 use Rattle.m88_cli.proofs.Reporting.{on_err}
 use Rattle.m88_cli.specs.Inside.SessionKept.{Broke, Carried}
 use Rattle.m88_cli.specs.declared.script.MonitorCommand.TheVariants.{Break, Memory, Pipe, Regs}
@@ -52,13 +52,15 @@ returns-in-Break-clause-err g c =
 
 pub returns-in-Break-clause-ok : goal.returns-in-Break-clause-ok
 returns-in-Break-clause-ok g c =
-    both_ok c.set_breakpoint.result c.set_breakpoint.ensures.set c.set_breakpoint.ensures.text (λ set text d s stands.
+    on_ok_weaker c.set_breakpoint.result (λ text d s stands.
     subst (λ x. Carried d s x (g.W.Watch.seen c.args.watch.now) (g.W.Watch.seen c.args.watch.now) c.args.text.now.items
     c.set_breakpoint.new.text.items c.set_breakpoint.new.self) (sym c.in-Break.is)
     (still d s (Break c.in-Break.address) (g.W.Watch.seen c.args.watch.now) c.args.text.now.items
     c.set_breakpoint.new.text.items c.set_breakpoint.new.self refl
-    (set_stands d s c.in-Break.address c.args.self.now c.set_breakpoint.new.self stands c.set_breakpoint.ensures.walk set)
+    (set_stands d s c.in-Break.address c.args.self.now c.set_breakpoint.new.self stands c.set_breakpoint.ensures.walk
+    c.set_breakpoint.ensures.set)
     text))
+    c.set_breakpoint.ensures.text
 
 pub returns-in_err-push_all_registers-in-Regs-clause-err : goal.returns-in_err-push_all_registers-in-Regs-clause-err
 returns-in_err-push_all_registers-in-Regs-clause-err g c =

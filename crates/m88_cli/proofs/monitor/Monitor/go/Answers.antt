@@ -16,21 +16,21 @@ use Rattle.m88_cli.proofs.monitor.Monitor.go.Goals as goal
 pub returns-in_err-go_until-clause-err : goal.returns-in_err-go_until-clause-err
 returns-in_err-go_until-clause-err g c = on_err c.from_residual.result (λ d s stands.
     let walked = c.in_err-go_until.ensures.err d.program d.named s.moment stands.program stands.at in
-    let made = walk_before d s (is_halt c.deref.result.now) c.args.self.now.walk.board.now.limit c.args.self.now.walk.schedule.now
+    let made = walk_before d s (is_halt c.as_slice.result.now) c.args.self.now.walk.board.now.limit c.args.self.now.walk.schedule.now
     c.args.self.now.walk.taken walked.0 _ _ stands.limit stands.schedule stands.taken walked.1 walked.2 in
     record {
       events = walked.0;
-      each = subst (λ (xs : List ℕ). NotBefore (stops_on d s (is_halt xs)) walked.0) (c.deref.ensures.value ∙ stands.breakpoints) made.0;
+      each = subst (λ (xs : List ℕ). NotBefore (stops_on d s (is_halt xs)) walked.0) (c.as_slice.ensures.value ∙ stands.breakpoints) made.0;
       saw = made.1;
     })
 
 pub returns-in_err-push_counts-clause-err : goal.returns-in_err-push_counts-clause-err
 returns-in_err-push_counts-clause-err g c = on_err c.from_residual-in_err-push_counts.result (λ d s stands.
-    let breaks = c.deref.ensures.value ∙ stands.breakpoints in
+    let breaks = c.as_slice.ensures.value ∙ stands.breakpoints in
     let walked = c.in_ok-go_until.ensures.ok d.program d.named s.moment stands.program stands.at in
     let new : Monitor = record { walk = c.go_until.new.self; breakpoints = c.args.self.now.breakpoints } in
     let went : Went d s Go (g.W.Watch.seen c.args.watch.now) (g.W.Watch.seen c.go_until.new.watch) new =
-    walk_went d s Go (is_halt c.deref.result.now) c.args.self.now new walked.0 _ _ stands
+    walk_went d s Go (is_halt c.as_slice.result.now) c.args.self.now new walked.0 _ _ stands
     (λ first saw here. record { events = walked.0; makes = subst (λ (xs : List ℕ). IsFirst (stops_on d s (is_halt xs)) walked.0) breaks first; stands = here; saw = saw })
     refl c.go_until.ensures.same (ap (λ (x : Bor (List Letter)). x.now) c.go_until.ensures.schedule) walked.1 walked.2 walked.3 in
     record { events = went.events; each = went.makes.first; saw = went.saw })
@@ -38,11 +38,11 @@ returns-in_err-push_counts-clause-err g c = on_err c.from_residual-in_err-push_c
 pub returns-clause-ok : goal.returns-clause-ok
 unfolding session_on
 returns-clause-ok g c = λ d s stands.
-    let breaks = c.deref.ensures.value ∙ stands.breakpoints in
+    let breaks = c.as_slice.ensures.value ∙ stands.breakpoints in
     let walked = c.in_ok-go_until.ensures.ok d.program d.named s.moment stands.program stands.at in
     let new : Monitor = record { walk = c.go_until.new.self; breakpoints = c.args.self.now.breakpoints } in
     let went : Went d s Go (g.W.Watch.seen c.args.watch.now) (g.W.Watch.seen c.go_until.new.watch) new =
-    walk_went d s Go (is_halt c.deref.result.now) c.args.self.now new walked.0 _ _ stands
+    walk_went d s Go (is_halt c.as_slice.result.now) c.args.self.now new walked.0 _ _ stands
     (λ first saw here. record { events = walked.0; makes = subst (λ (xs : List ℕ). IsFirst (stops_on d s (is_halt xs)) walked.0) breaks first; stands = here; saw = saw })
     refl c.go_until.ensures.same (ap (λ (x : Bor (List Letter)). x.now) c.go_until.ensures.schedule) walked.1 walked.2 walked.3 in
     record {

@@ -16,40 +16,46 @@ use Rattle.m88_cli.specs.declared.script.MonitorCommand.TheVariants.{Trace}
 use Rattle.m88_cli.proofs.monitor.Monitor.trace.Goals as goal
 
 pub loop-made-init : goal.loop-made-init
-loop-made-init g c = λ d s stands. record {
-  along = along_start d s (g.W.Watch.seen c.args.watch.now) c.args.self.now stands;
-  each = each_none d s (Trace c.args.count);
-  told = none_told d s c.args.text.now.items;
+loop-made-init g c = record {
+  traces = λ d s stands. record {
+    along = along_start d s (g.W.Watch.seen c.args.watch.now) c.args.self.now stands;
+    each = each_none d s (Trace c.args.count);
+    told = none_told d s c.args.text.now.items;
+  };
+  kept = refl;
 }
 
 pub loop-made-preserved : goal.loop-made-preserved
-loop-made-preserved g c = λ d s stands.
-    let k = c.loop-made._made in
-    let traces = c.loop-made.invariant d s stands in
-    let over = over_on d s k c.loop-made.self c.is_over.result traces.along.stands
-    (subst (λ (b : BoardView). (p : Program) (named : ℕ → Bool) (m : Moment) → IsAt p named m b
-    → c.is_over.result ≡ is_over p b.limit m) c.board.ensures c.is_over.ensures.moment) in
-    let new : Monitor = record { walk = c.next.new.self; breakpoints = c.loop-made.self.breakpoints } in
-    record {
-      along =
-          along_next d s k (g.W.Watch.seen c.args.watch.now) (g.W.Watch.seen c.loop-made.watch) (g.W.Watch.seen c.next.new.watch)
-          c.loop-made.self new traces.along
-          (c.in_ok-happened.ensures.ok d.program d.named (moment_on d s k) (at_on d s k c.loop-made.self traces.along.stands))
-          c.next.ensures.same (ap (λ (x : Bor (List Letter)). x.now) c.next.ensures.schedule) c.in_ok-happened.ensures.taken refl;
-      each = each_next d s (Trace c.args.count) k traces.each
-          (wants_more d s c.args.count k c.loop-made-test.true (over ∙ c.if-is_over.false));
-      told =
-          one_told d s k c.letter-letter.result c.noted-before.result c.in_ok-happened.happened c.loop-made.self c.args.text.now.items
-          c.loop-made.text.items c.push_event.new.text.items traces.along.stands c.letter-letter.ensures
-          (subst (λ (b : BoardView). (p : Program) (named : ℕ → Bool) (m : Moment) → IsAt p named m b
-          → IsBefore p c.letter-letter.result m c.noted-before.result) c.board-in-loop-made.ensures c.noted-before.ensures.before)
-          c.in_ok-happened.ensures.said traces.told c.in_ok-push_event.ensures;
-    }
+loop-made-preserved g c = record {
+  traces = λ d s stands.
+      let k = c.loop-made._made in
+      let traces = c.loop-made.invariant.traces d s stands in
+      let over = over_on d s k c.loop-made.self c.is_over.result traces.along.stands
+      (subst (λ (b : BoardView). (p : Program) (named : ℕ → Bool) (m : Moment) → IsAt p named m b
+      → c.is_over.result ≡ is_over p b.limit m) c.board.ensures c.is_over.ensures.moment) in
+      let new : Monitor = record { walk = c.next.new.self; breakpoints = c.loop-made.self.breakpoints } in
+      record {
+        along =
+            along_next d s k (g.W.Watch.seen c.args.watch.now) (g.W.Watch.seen c.loop-made.watch) (g.W.Watch.seen c.next.new.watch)
+            c.loop-made.self new traces.along
+            (c.in_ok-happened.ensures.ok d.program d.named (moment_on d s k) (at_on d s k c.loop-made.self traces.along.stands))
+            c.next.ensures.same (ap (λ (x : Bor (List Letter)). x.now) c.next.ensures.schedule) c.in_ok-happened.ensures.taken refl;
+        each = each_next d s (Trace c.args.count) k traces.each
+            (wants_more d s c.args.count k c.loop-made-test.true (over ∙ c.if-is_over.false));
+        told =
+            one_told d s k c.letter-letter.result c.noted-before.result c.in_ok-happened.happened c.loop-made.self c.args.text.now.items
+            c.loop-made.text.items c.push_event.new.text.items traces.along.stands c.letter-letter.ensures
+            (subst (λ (b : BoardView). (p : Program) (named : ℕ → Bool) (m : Moment) → IsAt p named m b
+            → IsBefore p c.letter-letter.result m c.noted-before.result) c.board-in-loop-made.ensures c.noted-before.ensures.before)
+            c.in_ok-happened.ensures.said traces.told c.in_ok-push_event.ensures;
+      };
+  kept = c.loop-made.invariant.kept;
+}
 
 pub returns-then-is_over-clause-ok : goal.returns-then-is_over-clause-ok
 returns-then-is_over-clause-ok g c = λ d s stands.
     let k = c.loop-made._made in
-    let traces = c.loop-made.invariant d s stands in
+    let traces = c.loop-made.invariant.traces d s stands in
     let over = over_on d s k c.loop-made.self c.is_over.result traces.along.stands
     (subst (λ (b : BoardView). (p : Program) (named : ℕ → Bool) (m : Moment) → IsAt p named m b
     → c.is_over.result ≡ is_over p b.limit m) c.board.ensures c.is_over.ensures.moment) in
@@ -59,13 +65,13 @@ returns-then-is_over-clause-ok g c = λ d s stands.
 pub returns-clause-ok : goal.returns-clause-ok
 returns-clause-ok g c = λ d s stands.
     let k = c.loop-made._made in
-    let traces = c.loop-made.invariant d s stands in
+    let traces = c.loop-made.invariant.traces d s stands in
     trace_carried d s c.args.count k (g.W.Watch.seen c.args.watch.now) (g.W.Watch.seen c.loop-made.watch) c.args.text.now.items
     c.loop-made.text.items c.loop-made.self traces (made_all d s c.args.count k c.loop-made-test.false)
 
 pub returns-in_err-happened-clause-err : goal.returns-in_err-happened-clause-err
 returns-in_err-happened-clause-err g c = on_err c.from_residual.result (λ d s stands.
-    let traces = c.loop-made.invariant d s stands in
+    let traces = c.loop-made.invariant.traces d s stands in
     record {
       events = c.loop-made._made;
       each = traces.each;
@@ -76,7 +82,7 @@ returns-in_err-happened-clause-err g c = on_err c.from_residual.result (λ d s s
 pub returns-in_err-push_event-clause-err : goal.returns-in_err-push_event-clause-err
 returns-in_err-push_event-clause-err g c = on_err c.from_residual-in_err-push_event.result (λ d s stands.
     let k = c.loop-made._made in
-    let traces = c.loop-made.invariant d s stands in
+    let traces = c.loop-made.invariant.traces d s stands in
     let over = over_on d s k c.loop-made.self c.is_over.result traces.along.stands
     (subst (λ (b : BoardView). (p : Program) (named : ℕ → Bool) (m : Moment) → IsAt p named m b
     → c.is_over.result ≡ is_over p b.limit m) c.board.ensures c.is_over.ensures.moment) in
