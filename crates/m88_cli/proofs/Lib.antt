@@ -1,5 +1,4 @@
 pub mod Numerals
-pub mod LimitedWords
 pub mod PageLists
 pub mod ScriptLines
 pub mod Scripts

@@ -1,10 +1,14 @@
 //! The grammar of the words of a command: its name, and behind that the words of its own.
 ghost use Rattle.std.specs.Prelude.{◌≡◌, ◌≤◌, ◌∷◌, [], ℕ, Bool, IfSome, List, MatchOption, None, OnSome, Some, codes};
+ghost use Rattle.m88_event.specs.Letters.{IsSchedule};
 ghost use Rattle.m88_event.specs.declared.letter.Letter.{Letter as LetterValue};
+ghost use Rattle.m88_tasks.specs.Letters.{IsShareSchedule};
+ghost use Rattle.m88_tasks.specs.declared.letter.ShareLetter.{ShareLetter};
 ghost use Rattle.m88_cli.specs.Command.{Command as Choice, Spells};
 ghost use Rattle.m88_cli.specs.Kept.{IsFit, command_of, settings_of};
 ghost use Rattle.m88_cli.specs.Limits.{most_limit};
-ghost use Rattle.m88_cli.specs.Settings.{SayLimited, SaySession, SaySettings, Settings as Asked, mode_words};
+ghost use Rattle.m88_pager.specs.Paged.{most_frames};
+ghost use Rattle.m88_cli.specs.Settings.{SayLimited, SayPaged, SaySession, SaySettings, Settings as Asked, mode_words};
 ghost use Rattle.m88_cli.specs.Words.{texts};
 ghost use Rattle.m88_mem.specs.Marks.{NamesPages, absent_in};
 
@@ -202,57 +206,75 @@ fn workload_command<'a>(words: &[String]) -> Option<Command<'a>>
     Some(Command::Soak { number, count })
 }
 
-/// What a run with MXM clear is asked for besides its input, and the text of its letters.
+/// What a shared run is asked for besides its input.
 #[derive(Drop)]
-struct LimitedRun<'a> {
+struct SharedSettings<'a> {
     limit: u32,
     absent: Absent,
-    letters: &'a str,
+    schedule: ShareSchedule<'a>,
 }
 
-/// The limit and the absent pages of a run with MXM clear, and the text of its letters: three words and no more.
-fn limited<'a>(words: &'a [String]) -> Option<LimitedRun<'a>>
-    ensures found { IfSome result (λ l. SayLimited ◌≡◌ (texts words.now)
-        l.limit (absent_in l.absent) l.letters.now) }
-    ensures only { (limit : ℕ) (absent : ℕ → Bool) (letters : List ℕ)
-        → SayLimited ◌≡◌ (texts words.now) limit absent letters
-        → MatchOption result ⊥ (λ l. (l.limit ≡ limit)
-        × (absent_in l.absent ≡ absent) × (l.letters.now ≡ letters)) }
-    ensures limit { IfSome result (λ l. l.limit ≤ most_limit) }
-    ensures pages { IfSome result (λ l. NamesPages l.absent) }
+/// The limit, the absent pages and the schedule (`-`, or 1 to 65,536 letters `i`, `r`, `e` and `t`) of a shared run:
+/// three words and no more.
+fn shared_settings<'a>(words: &'a [String]) -> Option<SharedSettings<'a>>
+    ensures found { IfSome result (λ s. SayLimited IsShareSchedule (texts words.now)
+        s.limit (absent_in s.absent) s.schedule) }
+    ensures only { (limit : ℕ) (absent : ℕ → Bool) (schedule : List ShareLetter)
+        → SayLimited IsShareSchedule (texts words.now) limit absent schedule
+        → MatchOption result ⊥ (λ s. (s.limit ≡ limit)
+        × (absent_in s.absent ≡ absent) × (s.schedule ≡ schedule)) }
+    ensures limit { IfSome result (λ s. s.limit ≤ most_limit) }
+    ensures pages { IfSome result (λ s. NamesPages s.absent) }
 {
     let (limit, words) = first_word(words)?;
     let (absent, words) = first_word(words)?;
-    let (letters, rest) = first_word(words)?;
+    let (schedule, rest) = first_word(words)?;
     no_more(rest)?;
     let limit = decimal_number(7, limit.as_bytes(), MOST_LIMIT)?;
     let absent = absent_of(absent)?;
-    Some(LimitedRun {
+    let schedule = ShareSchedule::read(schedule)?;
+    Some(SharedSettings {
         limit,
         absent,
-        letters,
+        schedule,
     })
 }
 
-/// The shared run that the words behind `share` ask for; its schedule is `-`, or 1 to 65,536 letters `i`, `r`, `e` and
-/// `t`.
+/// The shared run that the words behind `share` ask for.
 fn share_command<'a>(words: &'a [String]) -> Option<Command<'a>>
     ensures found { IfSome result (λ c. Spells (codes "share" ∷ texts words.now) (command_of c)) }
     ensures only { (choice : Choice) → Spells (codes "share" ∷ texts words.now) choice
         → MatchOption result ⊥ (λ c. command_of c ≡ choice) }
     ensures fit { IfSome result IsFit }
 {
-    let LimitedRun {
+    let SharedSettings {
         limit,
         absent,
-        letters,
-    } = limited(words)?;
-    let schedule = ShareSchedule::read(letters)?;
+        schedule,
+    } = shared_settings(words)?;
     Some(Command::Share {
         limit,
         absent,
         schedule,
     })
+}
+
+/// The settings of a run whose words have no mode: MXM is clear.
+fn plain_settings<'a>(words: &'a [String]) -> Option<RunSettings<'a>>
+    ensures found { IfSome result (λ s. SayLimited IsSchedule (texts words.now)
+        s.limit (absent_in s.opening.absent) s.opening.schedule) }
+    ensures only { (limit : ℕ) (absent : ℕ → Bool) (schedule : List LetterValue)
+        → SayLimited IsSchedule (texts words.now) limit absent schedule
+        → MatchOption result ⊥ (λ s. (s.limit ≡ limit)
+        × (absent_in s.opening.absent ≡ absent) × (s.opening.schedule ≡ schedule)) }
+    ensures limit { IfSome result (λ s. s.limit ≤ most_limit) }
+    ensures pages { IfSome result (λ s. NamesPages s.opening.absent) }
+{
+    let settings = settings(words)?;
+    if settings.opening.mxm {
+        return None;
+    }
+    Some(settings)
 }
 
 /// The run with emulation that the words behind `emu` ask for.
@@ -262,43 +284,56 @@ fn emulation_command<'a>(words: &'a [String]) -> Option<Command<'a>>
         → MatchOption result ⊥ (λ c. command_of c ≡ choice) }
     ensures fit { IfSome result IsFit }
 {
-    let LimitedRun {
-        limit,
-        absent,
-        letters,
-    } = limited(words)?;
-    let schedule = Schedule::read(letters)?;
+    let RunSettings { limit, opening } = plain_settings(words)?;
     Some(Command::Emu {
         limit,
-        absent,
-        schedule,
+        absent: opening.absent,
+        schedule: opening.schedule,
     })
 }
 
-/// The paged run that the words behind `page` ask for; the first of them is the number of its frames (1 or 2 decimal
-/// digits, 1 to 64).
+/// What a paged run is asked for besides its input.
+#[derive(Drop)]
+struct PagedSettings<'a> {
+    frames: u32,
+    run: RunSettings<'a>,
+}
+
+/// The number of frames (1 or 2 decimal digits, 1 to 64) of a paged run, and behind it the settings of a run with MXM
+/// clear.
+fn paged_settings<'a>(words: &'a [String]) -> Option<PagedSettings<'a>>
+    ensures found { IfSome result (λ s. SayPaged (texts words.now)
+        s.frames s.run.limit (absent_in s.run.opening.absent) s.run.opening.schedule) }
+    ensures only { (frames limit : ℕ) (absent : ℕ → Bool) (schedule : List LetterValue)
+        → SayPaged (texts words.now) frames limit absent schedule
+        → MatchOption result ⊥ (λ s. (s.frames ≡ frames) × (s.run.limit ≡ limit)
+        × (absent_in s.run.opening.absent ≡ absent) × (s.run.opening.schedule ≡ schedule)) }
+    ensures frames { IfSome result (λ s. (1 ≤ s.frames) × (s.frames ≤ most_frames)) }
+    ensures limit { IfSome result (λ s. s.run.limit ≤ most_limit) }
+    ensures pages { IfSome result (λ s. NamesPages s.run.opening.absent) }
+{
+    let (frames, words) = first_word(words)?;
+    let run = plain_settings(words)?;
+    let frames = decimal_number(2, frames.as_bytes(), MOST_FRAMES)?;
+    if frames == 0 {
+        return None;
+    }
+    Some(PagedSettings { frames, run })
+}
+
+/// The paged run that the words behind `page` ask for.
 fn paged_command<'a>(words: &'a [String]) -> Option<Command<'a>>
     ensures found { IfSome result (λ c. Spells (codes "page" ∷ texts words.now) (command_of c)) }
     ensures only { (choice : Choice) → Spells (codes "page" ∷ texts words.now) choice
         → MatchOption result ⊥ (λ c. command_of c ≡ choice) }
     ensures fit { IfSome result IsFit }
 {
-    let (frames, words) = first_word(words)?;
-    let LimitedRun {
-        limit,
-        absent,
-        letters,
-    } = limited(words)?;
-    let frames = decimal_number(2, frames.as_bytes(), MOST_FRAMES)?;
-    if frames == 0 {
-        return None;
-    }
-    let schedule = Schedule::read(letters)?;
+    let PagedSettings { frames, run } = paged_settings(words)?;
     Some(Command::Page {
         frames,
-        limit,
-        absent,
-        schedule,
+        limit: run.limit,
+        absent: run.opening.absent,
+        schedule: run.opening.schedule,
     })
 }
 
@@ -309,15 +344,10 @@ fn trace_command<'a>(words: &'a [String]) -> Option<Command<'a>>
         → MatchOption result ⊥ (λ c. command_of c ≡ choice) }
     ensures fit { IfSome result IsFit }
 {
-    let LimitedRun {
-        limit,
-        absent,
-        letters,
-    } = limited(words)?;
-    let schedule = Schedule::read(letters)?;
+    let RunSettings { limit, opening } = plain_settings(words)?;
     Some(Command::Trace {
         limit,
-        absent,
-        schedule,
+        absent: opening.absent,
+        schedule: opening.schedule,
     })
 }
