@@ -400,15 +400,13 @@ rows_lack (row_of_module {number = n} {line = l} {lines = ls} {ps = ps} {name = 
 traced : (source text : List ℕ) (limit : ℕ) (absent : ℕ → Bool) (schedule : List Letter) → IsProgramSource source
     → TracesTo source limit absent schedule text → (n : ℕ) × HasTrace (with_trace source text) n
 traced source text limit absent schedule accepted traces =
-    let lines = run_trace_lines traces.program absent limit schedule text traces.is_trace in
+    let lines = run_trace_lines traces.program absent limit schedule text traces.holds in
     let own = ended_unit source accepted.unit accepted.is_unit in
     let of_source = traces.of_source in (
       lines.0,
       record {
-        source = ended source;
-        lines = length (lines_of (ended source)) + 1;
-        text = text;
-        is_parted = parted source text (rows_lack own.are_rows);
+        parts = record { source = ended source; lines = length (lines_of (ended source)) + 1; text = text };
+        are_parts = parted source text (rows_lack own.are_rows);
         is_program = record { unit = accepted.unit; is_unit = own; is_accepted = accepted.is_accepted };
         begins = record {
           program = traces.program;
@@ -418,7 +416,7 @@ traced source text limit absent schedule accepted traces =
             is_program = of_source.is_program;
           };
           mode = traces.mode;
-          is_text = lines.1;
+          holds = lines.1;
         };
       },
     )

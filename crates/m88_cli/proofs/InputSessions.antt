@@ -54,9 +54,7 @@ script_as input cs ds n source e is = subst (λ (xs : List MonitorCommand). IsSc
 pub accepted_input : (input : List ℕ) (cs : List MonitorCommand) (n : ℕ) (source : List ℕ) (image : ProgramImage) → IsScript input cs n source
     → HoldsUnit source image → IsMonitorInput input
 accepted_input input cs n source image is holds = record {
-  commands = cs;
-  lines = n;
-  source = source;
+  parts = record { commands = cs; lines = n; source = source };
   is_script = is;
   is_program = accepted_source source image holds;
 }

@@ -67,22 +67,10 @@ monitor_or_refusal : (input : List ℕ) → IsMonitorInput input ⊎ ((r : Refus
 monitor_or_refusal input = elim (scripts.one_verdict input).some [
   | inr none ↦ inr (_, inl (record { line = none.0; has_none = none.1; refusal = refl }))
   | inl script ↦ elim (program_or_refusal script.0.lines script.0.source) [
-    | inl program ↦ inl (record {
-      commands = script.0.commands;
-      lines = script.0.lines;
-      source = script.0.source;
-      is_script = script.1;
-      is_program = program;
-    })
+    | inl program ↦ inl (record { parts = script.0; is_script = script.1; is_program = program })
     | inr refused ↦ inr (
       refused.0,
-      inr (record {
-        commands = script.0.commands;
-        lines = script.0.lines;
-        source = script.0.source;
-        is_script = script.1;
-        is_refused = refused.1;
-      }),
+      inr (record { parts = script.0; is_script = script.1; is_refused = refused.1 }),
     )
   ]
 ]

@@ -1,5 +1,5 @@
 -- What is told of a paged run answers the source, whose image holds the program.
-use Rattle.std.proofs.Common.{◌≡◌, ℕ, Bool, false, List, ap, sym, ◌∙◌, subst}
+use Rattle.std.proofs.Common.{◌≡◌, ℕ, Bool, false, List, ap, sym, ◌∙◌}
 use Rattle.m88_base.specs.Image.{ProgramImage}
 use Rattle.m88_event.proofs.Over.{one_outcome}
 use Rattle.m88_event.specs.Run.{IsOutcome}
@@ -16,7 +16,7 @@ use Rattle.m88_cli.specs.Answer.{IsAnswerToAccepted}
 use Rattle.m88_cli.specs.Command.{page}
 use Rattle.m88_cli.specs.Inside.Linking.{HoldsUnit}
 use Rattle.m88_cli.specs.Paging.{PagesTo, told_of_paged}
-use Rattle.m88_cli.proofs.Programs.{accepted_source, held_with, one_source_program}
+use Rattle.m88_cli.proofs.Programs.{accepted_source, holds_by_image, holds_of_same}
 
 -- a run and its counts come to one thing
 same_paged : (a b : Paged) → a.outcome ≡ b.outcome → a.ins ≡ b.ins → a.outs ≡ b.outs → a ≡ b
@@ -25,24 +25,20 @@ same_paged a b outcome ins outs = λ i. record { outcome = outcome i; ins = ins 
 module _ (source : List ℕ) (frames limit : ℕ) (absent : ℕ → Bool) (schedule : List Letter) where
   one_paged : (a b : Paged) → PagesTo source frames limit absent schedule a → PagesTo source frames limit absent schedule b → a ≡ b
   one_paged a b x y =
-      let same = one_source_program source x.program y.program x.of_source y.of_source (x.mode ∙ sym y.mode) in
-      let own = subst (λ p. IsOutcome p absent limit schedule a.outcome) same x.is_outcome in
-      let counts = subst (λ p. AreCounts p frames a) same x.are_counts in
-      let outcome = one_outcome y.program absent limit schedule a.outcome b.outcome own y.is_outcome in
+      let own = holds_of_same source _ _ x y in
+      let outcome = one_outcome y.program absent limit schedule a.outcome b.outcome own.0 y.holds.0 in
       same_paged a b outcome
-      (counts.ins ∙ ap (λ (o : Outcome). ins_along frames (transactions y.program o.retired)) outcome ∙ sym y.are_counts.ins)
-      (counts.outs ∙ ap (λ (o : Outcome). outs_along frames (transactions y.program o.retired)) outcome ∙ sym y.are_counts.outs)
+      (own.1.ins ∙ ap (λ (o : Outcome). ins_along frames (transactions y.program o.retired)) outcome ∙ sym y.holds.1.ins)
+      (own.1.outs ∙ ap (λ (o : Outcome). outs_along frames (transactions y.program o.retired)) outcome ∙ sym y.holds.1.outs)
 
   -- the runs of a source with a limit have one count each way
   one_count : (named : ℕ → Bool) (letters : List Letter) (a b : Paged) → PagesTo source frames limit named letters a
       → PagesTo source frames limit absent schedule b → (a.ins ≡ b.ins) × (a.outs ≡ b.outs)
   one_count named letters a b x y =
-      let same = one_source_program source x.program y.program x.of_source y.of_source (x.mode ∙ sym y.mode) in
-      let own = subst (λ p. IsOutcome p named limit letters a.outcome) same x.is_outcome in
-      let counts = subst (λ p. AreCounts p frames a) same x.are_counts in
-      let retired = one_retired y.program limit named absent letters schedule a.outcome b.outcome own y.is_outcome in (
-        counts.ins ∙ ap (λ n. ins_along frames (transactions y.program n)) retired ∙ sym y.are_counts.ins,
-        counts.outs ∙ ap (λ n. outs_along frames (transactions y.program n)) retired ∙ sym y.are_counts.outs,
+      let own = holds_of_same source _ _ x y in
+      let retired = one_retired y.program limit named absent letters schedule a.outcome b.outcome own.0 y.holds.0 in (
+        own.1.ins ∙ ap (λ n. ins_along frames (transactions y.program n)) retired ∙ sym y.holds.1.ins,
+        own.1.outs ∙ ap (λ n. outs_along frames (transactions y.program n)) retired ∙ sym y.holds.1.outs,
       )
 
   pub paged : (text : List ℕ) (image : ProgramImage) (o : Paged) (p : Program) → HoldsUnit source image → IsProgramOf image p
@@ -50,14 +46,8 @@ module _ (source : List ℕ) (frames limit : ℕ) (absent : ℕ → Bool) (sched
       → ((q : Program) → IsProgramOf image q → q.mxm ≡ false → AreCounts q frames o)
       → text ≡ told_of_paged frames o → IsAnswerToAccepted (page frames limit absent schedule) source text
   paged text image o p holds of outcome counts told =
-      let held = held_with false source image p holds of in
-      let comes : PagesTo source frames limit absent schedule o = record {
-        program = held.program;
-        of_source = held.of_source;
-        mode = held.mode;
-        is_outcome = outcome held.program held.of_image held.mode;
-        are_counts = counts held.program held.of_image held.mode;
-      } in
+      let comes : PagesTo source frames limit absent schedule o =
+      holds_by_image source image p _ holds of (λ q is mode. (outcome q is mode, counts q is mode)) in
       record {
         accepted = accepted_source source image holds;
         output = record {

@@ -20,7 +20,7 @@ use Rattle.m88_srec.proofs.Law.{verdict_takes}
 use Rattle.m88_srec.specs.Accepted.{Whole, whole_of}
 use Rattle.m88_cli.specs.Assembly.{IsProgramSource}
 use Rattle.m88_cli.specs.Inside.Linking.{HoldsUnit}
-use Rattle.m88_cli.specs.Runs.{IsLoadedProgram, IsSourceProgram}
+use Rattle.m88_cli.specs.Runs.{HoldsOfProgram, IsLoadedProgram, IsSourceProgram}
 
 -- four bytes are one word
 one_word : (i j : Instr) (v w : ℕ) → IsWord i v → IsWord j w → Some (to_be_bytes w32 v) ≡ Some (to_be_bytes w32 w) → v ≡ w
@@ -128,3 +128,21 @@ held_with mxm source image q holds of =
 
 pub held_by : (mxm : Bool) (source : List ℕ) (image : ProgramImage) → HoldsUnit source image → IsImage image → Held mxm source image
 held_by mxm source image holds is = held_with mxm source image (program_in mxm image is) holds (program_in_holds mxm image is)
+
+-- what holds of the program in an image that holds the unit of a source holds of the source's program
+pub holds_by_image : (source : List ℕ) (image : ProgramImage) (q : Program) (Holds : Program → Type 0) → HoldsUnit source image
+    → IsProgramOf image q → ((p : Program) → IsProgramOf image p → p.mxm ≡ false → Holds p) → HoldsOfProgram source Holds
+holds_by_image source image q Holds holds of each =
+    let held = held_with false source image q holds of in
+    record {
+      program = held.program;
+      of_source = held.of_source;
+      mode = held.mode;
+      holds = each held.program held.of_image held.mode;
+    }
+
+-- a source has one such program
+pub holds_of_same : (source : List ℕ) (Holds Also : Program → Type 0) → HoldsOfProgram source Holds → (b : HoldsOfProgram source Also)
+    → Holds b.program
+holds_of_same source Holds Also a b =
+    subst Holds (one_source_program source a.program b.program a.of_source b.of_source (a.mode ∙ sym b.mode)) a.holds

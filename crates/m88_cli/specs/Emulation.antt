@@ -1,17 +1,16 @@
 -- What `emu` writes: the report of a run whose monitor emulates, and what it emulated (the format of emulations,
 -- docs/FORMATS.md).
-use Rattle.std.specs.Prelude.{ℕ, Bool, false, ◌≡◌, ◌++◌, List, codes, decimal, length}
+use Rattle.std.specs.Prelude.{ℕ, Bool, ◌≡◌, ◌++◌, List, codes, decimal, length}
 use Rattle.std.specs.List.{enumerate_from, flat_map}
 use Rattle.m88_base.specs.Hex.{hex8}
 use Rattle.m88_base.specs.Lines.{line_end}
 use Rattle.m88_event.specs.declared.letter.Letter.{Letter}
-use Rattle.m88_isa.specs.Machine.{Program}
 use Rattle.m88_report.specs.Report.{count_line, report_of}
 use Rattle.m88_emul.specs.Timeline.{IsExtendedOutcome}
 use Rattle.m88_emul.specs.declared.emulation.EmulOutcome.{EmulOutcome}
 use Rattle.m88_emul.specs.declared.emulation.Emulation.{Emulation}
 use Rattle.m88_cli.specs.Numbered.{numbered_event}
-use Rattle.m88_cli.specs.Runs.{IsSourceProgram}
+use Rattle.m88_cli.specs.Runs.{HoldsOfProgram}
 
 -- the line of an emulation with its number: its event, the address of the instruction, and the vector that it raised
 unfoldable pub emulation_line : ℕ × Emulation → List ℕ
@@ -27,12 +26,9 @@ told_of_emulated o =
     ++ flat_map emulation_line (enumerate_from 1 o.emulated)
 
 -- a run of the source's program comes to this, MXM clear
-pub record EmulatesTo (source : List ℕ) (limit : ℕ) (absent : ℕ → Bool) (schedule : List Letter) (o : EmulOutcome)
-    : Type 0 where
-  pub program : Program
-  pub of_source : IsSourceProgram source program
-  pub mode : program.mxm ≡ false
-  pub is_outcome : IsExtendedOutcome program absent limit schedule o
+abbrev pub EmulatesTo : List ℕ → ℕ → (ℕ → Bool) → List Letter → EmulOutcome → Type 0
+EmulatesTo source limit absent schedule o =
+    HoldsOfProgram source (λ p. IsExtendedOutcome p absent limit schedule o)
 
 -- the text is what is told of that, and it comes to nothing else
 pub record IsEmulatedText (source : List ℕ) (limit : ℕ) (absent : ℕ → Bool) (schedule : List Letter) (text : List ℕ)

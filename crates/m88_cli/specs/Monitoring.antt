@@ -3,16 +3,13 @@
 use Rattle.std.specs.Prelude.{ℕ, ◌≡◌, ◌⊎◌, List}
 use Rattle.m88_cli.specs.Assembly.{IsProgramSource, IsRefusedProgram}
 use Rattle.m88_base.specs.Refusal.{Refusal}
-use Rattle.m88_cli.specs.Script.{HasNoScript, IsScript, script_refusal}
-use Rattle.m88_cli.specs.declared.script.MonitorCommand.{MonitorCommand}
+use Rattle.m88_cli.specs.Script.{HasNoScript, IsScriptOf, ScriptParts, script_refusal}
 
 -- the input is a script and a source behind it that can be assembled and linked
 pub record IsMonitorInput (input : List ℕ) : Type 0 where
-  pub commands : List MonitorCommand
-  pub lines : ℕ
-  pub source : List ℕ
-  pub is_script : IsScript input commands lines source
-  pub is_program : IsProgramSource source
+  pub parts : ScriptParts
+  pub is_script : IsScriptOf input parts
+  pub is_program : IsProgramSource parts.source
 
 -- an input is refused where it has no script
 pub record IsUnscripted (input : List ℕ) (r : Refusal) : Type 0 where
@@ -22,11 +19,9 @@ pub record IsUnscripted (input : List ℕ) (r : Refusal) : Type 0 where
 
 -- and where it has one, at the first fault of the source behind it
 pub record IsRefusedAfterScript (input : List ℕ) (r : Refusal) : Type 0 where
-  pub commands : List MonitorCommand
-  pub lines : ℕ
-  pub source : List ℕ
-  pub is_script : IsScript input commands lines source
-  pub is_refused : IsRefusedProgram lines source r
+  pub parts : ScriptParts
+  pub is_script : IsScriptOf input parts
+  pub is_refused : IsRefusedProgram parts.lines parts.source r
 
 -- an input is refused so
 abbrev pub IsRefusedMonitor : List ℕ → Refusal → Type 0

@@ -1,13 +1,12 @@
 -- What `page` writes: the report of a run whose memory stands a second time in a few frames before a store of pages,
 -- and how often pages came in and went out (the format of paged runs, docs/FORMATS.md).
-use Rattle.std.specs.Prelude.{ℕ, Bool, false, ◌≡◌, ◌++◌, List, codes}
+use Rattle.std.specs.Prelude.{ℕ, Bool, ◌≡◌, ◌++◌, List, codes}
 use Rattle.m88_event.specs.Run.{IsOutcome}
 use Rattle.m88_event.specs.declared.letter.Letter.{Letter}
-use Rattle.m88_isa.specs.Machine.{Program}
 use Rattle.m88_pager.specs.Paged.{AreCounts}
 use Rattle.m88_pager.specs.declared.paged.Paged.{Paged}
 use Rattle.m88_report.specs.Report.{count_line, report_of}
-use Rattle.m88_cli.specs.Runs.{IsSourceProgram}
+use Rattle.m88_cli.specs.Runs.{HoldsOfProgram}
 
 -- what is told of such a run: its report, the number of frames, how often a page came into one, and how often one that
 -- was written went out
@@ -19,13 +18,9 @@ told_of_paged frames o =
     ++ count_line (codes "outs") o.outs
 
 -- a run of the source's program comes to this before so many frames, MXM clear
-pub record PagesTo (source : List ℕ) (frames limit : ℕ) (absent : ℕ → Bool) (schedule : List Letter) (o : Paged)
-    : Type 0 where
-  pub program : Program
-  pub of_source : IsSourceProgram source program
-  pub mode : program.mxm ≡ false
-  pub is_outcome : IsOutcome program absent limit schedule o.outcome
-  pub are_counts : AreCounts program frames o
+abbrev pub PagesTo : List ℕ → ℕ → ℕ → (ℕ → Bool) → List Letter → Paged → Type 0
+PagesTo source frames limit absent schedule o =
+    HoldsOfProgram source (λ p. IsOutcome p absent limit schedule o.outcome × AreCounts p frames o)
 
 -- the text is what is told of that, it comes to nothing else, and every run of the source with that limit and so many
 -- frames has these counts, whatever pages are absent and whatever the schedule is

@@ -22,6 +22,13 @@ pub record IsSourceProgram (source : List ℕ) (p : Program) : Type 0 where
   pub is_unit : IsUnit source unit
   pub is_program : IsUnitProgram unit p
 
+-- this holds of the source's program, MXM clear
+pub record HoldsOfProgram (source : List ℕ) (Holds : Program → Type 0) : Type 0 where
+  pub program : Program
+  pub of_source : IsSourceProgram source program
+  pub mode : program.mxm ≡ false
+  pub holds : Holds program
+
 -- the program is that of the image that S-records write
 pub record IsLoadedProgram (text : List ℕ) (p : Program) : Type 0 where
   pub image : ProgramImage

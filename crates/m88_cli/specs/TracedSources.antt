@@ -1,42 +1,43 @@
 -- An input of `check`: a source, and the lines of a trace behind its first line `trace`. Which such inputs are
 -- accepted, and where and why any other is refused: that it has no line `trace` comes before every fault of the source,
 -- and these before the first line that isn't the trace's. What `check` writes stands here too.
-use Rattle.std.specs.Prelude.{ℕ, false, ◌≡◌, ◌+◌, ◌⊎◌, List, codes}
+use Rattle.std.specs.Prelude.{ℕ, ◌≡◌, ◌+◌, ◌⊎◌, List, codes}
 use Rattle.m88_base.specs.Parted.{IsParted, IsUnparted}
 use Rattle.m88_base.specs.Refusal.{Refusal}
-use Rattle.m88_isa.specs.Machine.{Program}
 use Rattle.m88_report.specs.Report.{count_line}
 use Rattle.m88_trace.specs.Texts.{DiffersBehind, IsText}
 use Rattle.m88_trace.specs.Trace.{trace_line}
 use Rattle.m88_cli.specs.Assembly.{IsProgramSource, IsRefusedProgram}
-use Rattle.m88_cli.specs.Runs.{IsSourceProgram}
+use Rattle.m88_cli.specs.Runs.{HoldsOfProgram}
 
 -- the line between a source and the lines of a trace
 abbrev pub trace_separator : List ℕ
 trace_separator = codes "trace"
 
 -- a text is the first so many lines of the trace of the source's program, MXM clear
-pub record BeginsTrace (source text : List ℕ) (n : ℕ) : Type 0 where
-  pub program : Program
-  pub of_source : IsSourceProgram source program
-  pub mode : program.mxm ≡ false
-  pub is_text : IsText (trace_line program) text n
+abbrev pub BeginsTrace : List ℕ → List ℕ → ℕ → Type 0
+BeginsTrace source text n = HoldsOfProgram source (λ p. IsText (trace_line p) text n)
 
 -- or it differs from that trace behind so many lines
-pub record LeavesTrace (source text : List ℕ) (n : ℕ) : Type 0 where
-  pub program : Program
-  pub of_source : IsSourceProgram source program
-  pub mode : program.mxm ≡ false
-  pub differs : DiffersBehind (trace_line program) text n
+abbrev pub LeavesTrace : List ℕ → List ℕ → ℕ → Type 0
+LeavesTrace source text n = HoldsOfProgram source (λ p. DiffersBehind (trace_line p) text n)
 
--- the input is a source that can be assembled and linked, and behind the line `trace` so many lines of its trace
-pub record HasTrace (input : List ℕ) (n : ℕ) : Type 0 where
+-- what an input with a line `trace` says: a source, how many lines stand before the text, and the text
+pub record TraceParts : Type 0 where
   pub source : List ℕ
   pub lines : ℕ
   pub text : List ℕ
-  pub is_parted : IsParted trace_separator input source lines text
-  pub is_program : IsProgramSource source
-  pub begins : BeginsTrace source text n
+
+-- the input says that: its first line `trace` is the last of these lines
+abbrev pub AreTraceParts : List ℕ → TraceParts → Type 0
+AreTraceParts input t = IsParted trace_separator input t.source t.lines t.text
+
+-- the input is a source that can be assembled and linked, and behind the line `trace` so many lines of its trace
+pub record HasTrace (input : List ℕ) (n : ℕ) : Type 0 where
+  pub parts : TraceParts
+  pub are_parts : AreTraceParts input parts
+  pub is_program : IsProgramSource parts.source
+  pub begins : BeginsTrace parts.source parts.text n
 
 -- the input is accepted
 abbrev pub IsTracedSource : List ℕ → Type 0
@@ -58,22 +59,18 @@ pub record IsUntraced (input : List ℕ) (r : Refusal) : Type 0 where
 
 -- where it has one, at the first fault of the source before it
 pub record IsRefusedBeforeTrace (input : List ℕ) (r : Refusal) : Type 0 where
-  pub source : List ℕ
-  pub lines : ℕ
-  pub text : List ℕ
-  pub is_parted : IsParted trace_separator input source lines text
-  pub is_refused : IsRefusedProgram 0 source r
+  pub parts : TraceParts
+  pub are_parts : AreTraceParts input parts
+  pub is_refused : IsRefusedProgram 0 parts.source r
 
 -- and where that has none, at the first line behind it that isn't the trace's
 pub record DiffersFromTrace (input : List ℕ) (r : Refusal) : Type 0 where
-  pub source : List ℕ
-  pub lines : ℕ
-  pub text : List ℕ
-  pub is_parted : IsParted trace_separator input source lines text
-  pub is_program : IsProgramSource source
+  pub parts : TraceParts
+  pub are_parts : AreTraceParts input parts
+  pub is_program : IsProgramSource parts.source
   pub before : ℕ
-  pub leaves : LeavesTrace source text before
-  pub refusal : r ≡ differs_refusal (lines + before + 1)
+  pub leaves : LeavesTrace parts.source parts.text before
+  pub refusal : r ≡ differs_refusal (parts.lines + before + 1)
 
 -- an input is refused so
 abbrev pub IsRefusedTrace : List ℕ → Refusal → Type 0

@@ -1,5 +1,6 @@
--- An input without a script is refused at the line that stops it.
-use Rattle.std.proofs.Common.{inl}
+-- An input without a script is refused at the line that stops it, and one with a script as its source is.
+use Rattle.std.proofs.Common.{inl, inr}
+use Rattle.m88_cli.proofs.Refusing.{where_err}
 use Rattle.m88_cli.proofs.monitoring.script_and_image.Goals as goal
 
 pub returns-in-Err : goal.returns-in-Err
@@ -7,4 +8,15 @@ returns-in-Err c = inl (record {
   line = c.in-Err.fault.line;
   has_none = c.in-Err.ensures.fault;
   refusal = c.in_ok-unscripted-in-Err.ensures;
+})
+
+pub returns-in-Err-2 : goal.returns-in-Err-2
+returns-in-Err-2 c = inr (record {
+  parts = record {
+    commands = c.in-Ok.script.commands.items;
+    lines = c.in-Ok.script.lines;
+    source = c.in-Ok.script.source.now;
+  };
+  is_script = c.in-Ok.ensures.script;
+  is_refused = where_err c.in_ok-image.field-0 c.in-Err-2.refusal _ _ c.in-Err-2.is c.in_ok-image.ensures;
 })

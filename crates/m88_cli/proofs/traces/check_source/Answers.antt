@@ -5,6 +5,7 @@ use Rattle.m88_trace.specs.Texts.{FaultOf}
 use Rattle.m88_trace.specs.Trace.{trace_line}
 use Rattle.m88_cli.specs.Answer.{Refuses}
 use Rattle.m88_cli.specs.Command.{check}
+use Rattle.m88_cli.specs.TracedSources.{TraceParts}
 use Rattle.m88_cli.proofs.Refusing.{refused_reply, where_err, where_ok}
 use Rattle.m88_cli.proofs.Traced.{checked, differs_there}
 use Rattle.m88_cli.proofs.traces.check_source.Goals as goal
@@ -13,10 +14,8 @@ pub returns-in-Err-2 : goal.returns-in-Err-2
 returns-in-Err-2 c =
     refused_reply check c.args.input.now c.in-Err-2.refusal c.refuse-in-Err-2.result
     (inr (inl (record {
-      source = c.in-Ok.parted.before.now;
-      lines = c.in-Ok.parted.lines;
-      text = c.in-Ok.parted.behind.now;
-      is_parted = c.in-Ok.ensures.parted;
+      parts = record { source = c.in-Ok.parted.before.now; lines = c.in-Ok.parted.lines; text = c.in-Ok.parted.behind.now };
+      are_parts = c.in-Ok.ensures.parted;
       is_refused = where_err c.in_ok-image.field-0 c.in-Err-2.refusal _ _ c.in-Err-2.is c.in_ok-image.ensures;
     })))
     c.refuse-in-Err-2.ensures
@@ -28,15 +27,19 @@ returns-in-Ok-check_trace c =
     let pushed = c.in_ok-push_count-in-Ok-check_trace.ensures in
     let told : c.push_count.new.text.items ≡ count_line (codes "ok") c.in-Ok-check_trace.lines =
     pushed ∙ ap (λ bytes. bytes ++ count_line (codes "ok") c.from.result) empty ∙ ap (count_line (codes "ok")) c.from.ensures in
-    checked c.args.input.now c.in-Ok.parted.before.now c.in-Ok.parted.lines c.in-Ok.parted.behind.now c.in-Ok-2.image p.0 c.in-Ok.ensures.parted
+    let parts : TraceParts =
+    record { source = c.in-Ok.parted.before.now; lines = c.in-Ok.parted.lines; text = c.in-Ok.parted.behind.now } in
+    checked c.args.input.now parts c.in-Ok-2.image p.0 c.in-Ok.ensures.parted
     (where_ok c.in_ok-image.field-0 c.in-Ok-2.image _ _ c.in-Ok-2.is c.in_ok-image.ensures) p.1
     c.in-Ok-check_trace.lines c.push_count.new.text.items c.in-Ok-check_trace.ensures.ok told
 
 pub returns-in-Err-Differs : goal.returns-in-Err-Differs
 returns-in-Err-Differs c =
     let p = c.check_trace.ensures.program in
+    let parts : TraceParts =
+    record { source = c.in-Ok.parted.before.now; lines = c.in-Ok.parted.lines; text = c.in-Ok.parted.behind.now } in
     let late =
-    differs_there c.args.input.now c.in-Ok.parted.before.now c.in-Ok.parted.lines c.in-Ok.parted.behind.now c.in-Ok-2.image p.0 c.in-Ok.ensures.parted
+    differs_there c.args.input.now parts c.in-Ok-2.image p.0 c.in-Ok.ensures.parted
     (where_ok c.in_ok-image.field-0 c.in-Ok-2.image _ _ c.in-Ok-2.is c.in_ok-image.ensures) p.1
     c.in-Err-Differs.line
     (λ q of mode.
