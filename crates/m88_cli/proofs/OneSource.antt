@@ -1,5 +1,5 @@
 -- An input is accepted by a command or has one refusal, never both.
-use Rattle.std.proofs.Common.{◌≡◌, ℕ, List, Option, None, Some, ap, inl, inr, refl, sym, ◌∙◌}
+use Rattle.std.proofs.Common.{◌≡◌, ℕ, List, ap, inl, inr, refl, sym, ◌∙◌}
 use Rattle.std.specs.Prelude.{◌⊎◌}
 use Rattle.m88_base.specs.OneVerdict.{HasOneFaultUnless}
 use Rattle.m88_link.proofs.OneRefusal as layouts

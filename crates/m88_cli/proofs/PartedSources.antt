@@ -1,14 +1,10 @@
 -- An input is parted into sources in one way: so it is accepted or refused for one reason, never both.
-use Rattle.std.proofs.Common.{◌≡◌, ℕ, zero, suc, ◌+◌, ◌<◌, ◌≤◌, Bool, true, false, List, [], ◌∷◌, ◌++◌, Option, None, Some, length, length-append, append_assoc, ap, inl, inr, refl, sym, ◌∙◌, subst, arith}
-use Rattle.std.specs.Prelude.{◌⊎◌, nat_lt, slice_get}
-use Rattle.std.specs.List.{All}
+use Rattle.std.proofs.Common.{◌≡◌, ℕ, zero, suc, ◌+◌, ◌≤◌, List, [], ◌∷◌, ◌++◌, Some, length, length-append, append_assoc, ap, inl, inr, refl, sym, ◌∙◌, subst, arith}
+use Rattle.std.specs.Prelude.{slice_get}
 use Rattle.std.proofs.lemmas.List.{length-map, map-append}
-use Rattle.std.proofs.lemmas.List.Elements.{All-head, All-nil, All-push, All-tail}
-use Rattle.std.proofs.lemmas.Option.{slice_get_cases, slice_get_within}
 use Rattle.m88_base.proofs.PartedLines.{one_parting, parted_or_not, parted_told}
 use Rattle.m88_base.specs.Lines.{lines_of}
-use Rattle.m88_base.specs.Parted.{IsParted, IsUnparted, LacksLine}
-use Rattle.m88_base.specs.Refusal.{Refusal}
+use Rattle.m88_base.specs.Parted.{IsParted, LacksLine}
 use Rattle.m88_cli.specs.Inside.Placing.{all_placed, placed}
 use Rattle.m88_cli.specs.declared.sources.PlacedSource.{PlacedSource as Kept}
 use Rattle.m88_cli.specs.Sources.{AreSourcesBehind, HasTooManySources, PlacedSource, most_sources, program_line, sources_refusal}

@@ -1,12 +1,12 @@
 -- An input of sources is accepted or has one refusal, never both.
-use Rattle.std.proofs.Common.{◌≡◌, ℕ, ◌+◌, ◌<◌, ◌≤◌, List, [], ◌∷◌, ◌++◌, Option, None, Some, length, append_assoc, ap, inl, inr, refl, sym, ◌∙◌, subst, arith}
+use Rattle.std.proofs.Common.{◌≡◌, ℕ, ◌≤◌, List, [], ◌∷◌, ◌++◌, Some, length, append_assoc, ap, inl, inr, refl, sym, ◌∙◌, subst, arith}
 use Rattle.std.specs.Prelude.{◌⊎◌, slice_get}
 use Rattle.std.specs.List.{All}
 use Rattle.std.proofs.lemmas.List.{append-nil}
-use Rattle.std.proofs.lemmas.List.Elements.{All-append, All-head, All-nil, All-push, All-tail}
+use Rattle.std.proofs.lemmas.List.Elements.{All-head, All-nil, All-push, All-tail}
 use Rattle.std.proofs.lemmas.Option.{slice_get_cases, slice_get_within}
 use Rattle.m88_base.specs.Refusal.{Refusal}
-use Rattle.m88_cli.specs.Assembly.{IsProgramSource, IsRefusedProgram}
+use Rattle.m88_cli.specs.Assembly.{IsRefusedProgram}
 use Rattle.m88_cli.specs.Sources.{AreSources, HasRefusedSource, HasTooManySources, IsPlacedProgram, IsRefusedSources, IsSourcesInput, PlacedSource, most_sources, sources_refusal}
 use Rattle.m88_cli.proofs.OneUnit.{not_linked, program_or_refusal, same_program_refusal}
 use Rattle.m88_cli.proofs.PartedSources.{one_list, sources_behind}

@@ -1,5 +1,5 @@
 -- What is told of a shared run answers the input, whose images hold the programs of its sources.
-use Rattle.std.proofs.Common.{◌≡◌, ℕ, Bool, false, ◌≤◌, List, [], ◌∷◌, arith, length, refl, subst, ◌∙◌}
+use Rattle.std.proofs.Common.{◌≡◌, ℕ, Bool, ◌≤◌, List, [], ◌∷◌, arith, length, refl, subst, ◌∙◌}
 use Rattle.m88_base.specs.Image.{ProgramImage}
 use Rattle.m88_base.specs.declared.absent.Absent.{Absent}
 use Rattle.m88_isa.specs.Machine.{Program}

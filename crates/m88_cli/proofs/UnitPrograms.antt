@@ -2,7 +2,7 @@
 use Rattle.std.proofs.Common.{◌≡◌, ℕ, zero, suc, ◌+◌, ◌-◌, ◌<◌, ◌%◌, ◌^◌, ◌==◌, Bool, true, false, cond, List, [], ◌∷◌, Option, Some, None, inl, inr, refl, ap, sym, ◌∙◌, subst, arith}
 use Rattle.std.specs.Int.{from_be_bytes, to_be_bytes, w32}
 use Rattle.std.specs.Option.{option_or}
-use Rattle.std.specs.Prelude.{◌⊎◌, IfSome, get_or, leb, slice_get, unwrap_or}
+use Rattle.std.specs.Prelude.{IfSome, get_or, leb, slice_get, unwrap_or}
 use Rattle.std.proofs.lemmas.Bool.{eqb-false, eqb-true}
 use Rattle.std.proofs.lemmas.Nat.{from_be_bytes-to_be_bytes_4}
 use Rattle.std.proofs.lemmas.Option.{none-some}
@@ -14,7 +14,7 @@ use Rattle.m88_isa.proofs.Words.{word_small}
 use Rattle.m88_isa.specs.ImageProgram.{HasWordOf, IsInstructionAt}
 use Rattle.m88_isa.specs.Machine.{Program, four_bytes, word_bytes}
 use Rattle.m88_isa.specs.declared.instr.Instr.{Instr}
-use Rattle.m88_asm.specs.Images.{IsUnitInstruction, IsUnitProgram, placed_instruction, unit_byte, unit_start}
+use Rattle.m88_asm.specs.Images.{IsUnitInstruction, placed_instruction, unit_byte, unit_start}
 use Rattle.m88_parse.specs.declared.unit.Unit.{Unit as Source}
 use Rattle.m88_cli.specs.Assembly.{IsProgramSource}
 use Rattle.m88_cli.specs.Runs.{IsSourceProgram}

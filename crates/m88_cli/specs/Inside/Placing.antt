@@ -1,5 +1,5 @@
 -- The sources of an input as the code keeps them, and the images that hold them.
-use Rattle.std.specs.Prelude.{ℕ, ◌≡◌, ◌≤◌, List, [], ◌∷◌, length, map}
+use Rattle.std.specs.Prelude.{ℕ, ◌≤◌, List, [], ◌∷◌, length, map}
 use Rattle.m88_base.specs.Image.{ProgramImage}
 use Rattle.m88_cli.specs.Limits.{most_input}
 use Rattle.m88_cli.specs.Inside.Linking.{HoldsUnit}

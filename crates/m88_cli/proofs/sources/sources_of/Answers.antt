@@ -1,10 +1,9 @@
 -- A source more stands behind those before it, and the last one is what is left.
-use Rattle.std.proofs.Common.{◌≤◌, length, ◌≡◌, ℕ, ◌+◌, ◌*◌, ◌<◌, List, ap, arith, subst, sym, rules, ◌∙◌}
+use Rattle.std.proofs.Common.{length, ◌≡◌, ◌+◌, ap, arith, subst, sym, rules, ◌∙◌}
 use Rattle.std.specs.List.{All}
 use Rattle.std.proofs.lemmas.List.Elements.{All-push}
-use Rattle.m88_cli.specs.Limits.{most_input}
 use Rattle.m88_cli.specs.Inside.Placing.{IsShort, all_placed}
-use Rattle.m88_cli.specs.Sources.{AreSources, PlacedSource, most_sources}
+use Rattle.m88_cli.specs.Sources.{AreSources, most_sources}
 use Rattle.m88_cli.proofs.PartedSources.{StandBefore, as_many_placed, last_before, one_more_before, one_more_placed, too_many}
 use Rattle.m88_cli.proofs.sources.sources_of.Goals as goal
 

@@ -1,6 +1,6 @@
 -- The sources so far stand at the front of the input, and the rest behind them; fewer than eight are no more lines than
 -- can be counted.
-use Rattle.std.proofs.Common.{◌≤◌, length, ℕ, ◌-◌, ◌*◌, ◌<◌}
+use Rattle.std.proofs.Common.{◌≤◌, length, ◌-◌, ◌*◌, ◌<◌}
 use Rattle.std.specs.List.{All}
 use Rattle.m88_cli.specs.Limits.{most_input}
 use Rattle.m88_cli.specs.Inside.Placing.{IsShort, all_placed}
