@@ -1,5 +1,5 @@
 -- A move of a board, and what software makes of it, take what a moment looks like to what the next looks like.
-use Rattle.std.specs.Prelude.{ℕ, zero, suc, Bool, true, false, not, List, [], ◌∷◌, ◌++◌, Option, Some, None, ◌≡◌, ◌<◌, ◌≤◌, ◌+◌, ◌==◌, ◌&&◌, ◌||◌, drop, is_some, length, map, take, if◌then◌else◌}
+use Rattle.std.specs.Prelude.{ℕ, zero, suc, Bool, true, false, not, List, [], ◌∷◌, ◌++◌, Option, Some, None, ◌≡◌, ◌<◌, ◌≤◌, ◌+◌, ◌==◌, ◌&&◌, ◌||◌, drop, is_some, length, map, if◌then◌else◌}
 use Rattle.std.proofs.Common.{arith, add-one, refl, sym, ap, subst, ◌∙◌}
 use Rattle.std.proofs.Math.Path.{fun_ext}
 use Rattle.std.proofs.lemmas.List.{append-nil, drop-append-le, drop_all, length-drop}
@@ -9,14 +9,14 @@ use Rattle.m88_isa.proofs.Turns.{TurnFits, turn_fits}
 use Rattle.m88_isa.specs.Address.{after_bytes}
 use Rattle.m88_isa.specs.Bus.{bus_after_all, in_words}
 use Rattle.m88_isa.specs.Held.{Hold, instruction_at}
-use Rattle.m88_isa.specs.History.{Completed, after_turn, completed_state, turn_accesses}
+use Rattle.m88_isa.specs.History.{after_turn, completed_state, turn_accesses}
 use Rattle.m88_isa.specs.Machine.{IsProgram, Program, Stop, Turn, changes, opening, outputs, stops, turn_at}
 use Rattle.m88_isa.specs.Memory.{access_of}
 use Rattle.m88_isa.specs.declared.planned.Access.{Access}
 use Rattle.m88_event.specs.Choice.{Choice, answer_choice, end_by, evicts, faults, finishes, holds, idles, issue_choice, issues, next_choice, passes, replies, serves, touches_page, turn_choice}
 use Rattle.m88_event.specs.Local.{Local, choice_by, move, move_by, record_by, situation_of, with_move_counted}
 use Rattle.m88_event.specs.Shadow.{retired_pointer}
-use Rattle.m88_event.specs.Timeline.{Moment, absent_at, end_of_turn, with_event}
+use Rattle.m88_event.specs.Timeline.{Moment, absent_at, end_of_turn}
 use Rattle.m88_event.specs.declared.happened.End.{End}
 use Rattle.m88_event.specs.declared.letter.Letter.{Letter}
 use Rattle.m88_event.specs.declared.letter.Letter.TheVariants.{Issue, Answer, Evict}
@@ -24,8 +24,8 @@ use Rattle.m88_event.specs.declared.record.Record.{Record}
 use Rattle.m88_emul.proofs.InWords.{IsSingle, byte_is, single_deed, state_bytes, stores_agree}
 use Rattle.m88_emul.proofs.Mending.{bus_answered, bus_finished, bus_mended, bus_more, made_mended, made_more}
 use Rattle.m88_emul.specs.Aid.{Aid, with_all}
-use Rattle.m88_emul.specs.Extended.{Deed, after_deed, aided, alone, bus_after_work, deed_at, deed_of, extended_bus, extended_state, mends, transacted, transactions_before, transacts, work_before, work_of}
-use Rattle.m88_emul.specs.Inside.Settled.{IsAlone, Stands, completed_by, deed_seen, emulated_by, newly_emulated, settled, settled_by}
+use Rattle.m88_emul.specs.Extended.{Deed, aided, alone, bus_after_work, deed_at, deed_of, extended_bus, extended_state, mends, transacted, transactions_before, transacts, work_before}
+use Rattle.m88_emul.specs.Inside.Settled.{IsAlone, Stands, deed_seen, emulated_by, newly_emulated, settled, settled_by}
 use Rattle.m88_emul.specs.Timeline.{ExtendedMoment, after_chosen, after_event, after_stop, extended_end, has_place_in, last_retired, seen_at}
 use Rattle.m88_emul.specs.declared.emulation.Emulation.{Emulation}
 

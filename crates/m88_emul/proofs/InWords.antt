@@ -1,5 +1,5 @@
 -- The extended history in bytes and in words are one.
-use Rattle.std.specs.Prelude.{ℕ, zero, suc, Bool, true, false, List, [], ◌∷◌, ◌++◌, Option, Some, None, IfSome, ◌≡◌, ◌<◌, ◌≤◌, ◌+◌, ◌*◌, ◌^◌, ◌==◌, ◌&&◌, map, nat_le, nat_lt, unwrap_or, if◌then◌else◌}
+use Rattle.std.specs.Prelude.{ℕ, zero, suc, Bool, true, false, List, [], ◌∷◌, ◌++◌, Option, Some, None, IfSome, ◌≡◌, ◌<◌, ◌+◌, ◌^◌, ◌&&◌, map, nat_le, nat_lt, unwrap_or, if◌then◌else◌}
 use Rattle.std.proofs.Common.{arith, inl, refl, sym, ap, ◌∙◌}
 use Rattle.std.proofs.Math.Path.{fun_ext}
 use Rattle.m88_base.specs.declared.reg.Reg.{Reg}
@@ -19,7 +19,7 @@ use Rattle.m88_isa.specs.declared.instr.RegOp.TheVariants as regop
 use Rattle.m88_isa.specs.declared.instr.MemOp.{MemOp}
 use Rattle.m88_isa.specs.declared.instr.MemOp.TheVariants as memop
 use Rattle.m88_isa.specs.declared.planned.Access.{Access}
-use Rattle.m88_emul.specs.Aid.{Aid, aid_for, aid_of, byte_stores, divides, for_vector, places_from, quotient_of, raises_with, unaligned}
+use Rattle.m88_emul.specs.Aid.{Aid, aid_for, byte_stores, divides, places_from, quotient_of, raises_with, unaligned}
 use Rattle.m88_emul.specs.Extended.{Deed, after_deed, aid_at, aided, alone, byte_seen, deed_at, deed_of, extended_state, stored_all, where_aided}
 
 one_byte : (memory : ℕ → ℕ) (a : ℕ) → number_at memory a 1 ≡ memory a

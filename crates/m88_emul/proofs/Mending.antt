@@ -1,7 +1,6 @@
 -- The words after transactions and what software stored, in order.
-use Rattle.std.specs.Prelude.{ℕ, zero, suc, List, [], ◌∷◌, ◌++◌, ◌≡◌, ◌<◌, ◌≤◌, ◌+◌, drop, length, map, take}
-use Rattle.std.proofs.Common.{arith, add-one, refl, sym, ap, ◌∙◌}
-use Rattle.m88_isa.proofs.InWords.{bus_of_append}
+use Rattle.std.specs.Prelude.{ℕ, zero, suc, List, [], ◌∷◌, ◌++◌, ◌≡◌, ◌<◌, ◌≤◌, drop, length, map, take}
+use Rattle.std.proofs.Common.{arith, refl, sym, ap, ◌∙◌}
 use Rattle.m88_isa.specs.Bus.{bus_after, bus_after_all}
 use Rattle.m88_isa.specs.Memory.{Touch, access_of}
 use Rattle.m88_isa.specs.declared.planned.Access.{Access}

@@ -1,9 +1,9 @@
 -- A board that ended, and the one that goes on behind an instruction that software did.
-use Rattle.std.specs.Prelude.{ℕ, zero, suc, Bool, true, false, not, List, [], ◌∷◌, ◌++◌, Option, Some, None, IfOk, IfSome, MatchOption, OnOk, Result, Ok, Err, ◌≡◌, ◌≢◌, ◌<◌, ◌≤◌, ◌+◌, ◌*◌, ◌%◌, ◌^◌, ◌==◌, ◌&&◌, is_some, length, map, slice_index, slice_set, if◌then◌else◌}
+use Rattle.std.specs.Prelude.{ℕ, Bool, true, false, not, List, [], ◌∷◌, ◌++◌, Option, Some, None, IfOk, IfSome, MatchOption, OnOk, Result, Ok, Err, ◌≡◌, ◌<◌, ◌+◌, ◌%◌, ◌^◌, ◌==◌, ◌&&◌, is_some, map, slice_index, if◌then◌else◌}
 use Rattle.std.specs.Int.{to_be_bytes, w32}
 use Rattle.std.proofs.Common.{arith, refl, sym, ap, ap₂, ◌∙◌, subst}
 use Rattle.std.proofs.lemmas.Bool.{eqb-false}
-use Rattle.std.proofs.lemmas.List.{append-nil, get_or-set_other}
+use Rattle.std.proofs.lemmas.List.{get_or-set_other}
 use Rattle.m88_base.specs.Image.{ProgramImage, byte_at}
 use Rattle.m88_base.specs.Reg.{number_of, with_register}
 use Rattle.m88_base.specs.declared.reg.Reg.{Reg}
@@ -24,7 +24,7 @@ use Rattle.m88_isa.specs.Bus.{after_accesses, bus_after_all, in_words}
 use Rattle.m88_isa.specs.Held.{fetched_instruction, instruction_at, is_pending}
 use Rattle.m88_isa.specs.History.{Completed}
 use Rattle.m88_isa.specs.ImageProgram.{IsProgramOf}
-use Rattle.m88_isa.specs.Machine.{Program, Turn, by_vector, changes, exits, four_bytes, opening, outputs, stops, turn}
+use Rattle.m88_isa.specs.Machine.{Program, Turn, by_vector, changes, exits, four_bytes, opening, outputs, stops}
 use Rattle.m88_isa.specs.Memory.{access_of}
 use Rattle.m88_isa.specs.Word.{IsWord}
 use Rattle.m88_isa.specs.declared.instr.Instr.{Instr}
@@ -46,7 +46,7 @@ use Rattle.m88_emul.proofs.Following.{NoAid, none_new, stays}
 use Rattle.m88_emul.proofs.Weighing.{still_lives}
 use Rattle.m88_emul.specs.Aid.{Aid, aid_of, with_all}
 use Rattle.m88_emul.specs.Emulating.{IsAided}
-use Rattle.m88_emul.specs.Extended.{Deed, aid_at, aided, alone, byte_seen, deed_of, where_aided}
+use Rattle.m88_emul.specs.Extended.{Deed, aid_at, aided, byte_seen, deed_of, where_aided}
 use Rattle.m88_emul.specs.Inside.Boards.{one_more, vector_in}
 use Rattle.m88_emul.specs.Inside.Settled.{IsAlone, completed_by, deed_seen, emulated_by, newly_emulated, settled, settled_by}
 use Rattle.m88_emul.specs.Inside.Tasks.{aid_by}
@@ -84,6 +84,13 @@ vector_there (happened.Served byte) vector e = absurd cc
 vector_there (happened.Ended Limit) vector e = absurd cc
 vector_there (happened.Ended (Exit at)) vector e = absurd cc
 vector_there (happened.Ended (Vector v at)) vector e = let same : v ≡ vector = cc in (at, ap (λ (n : ℕ). Some (Vector n at)) same)
+
+pub ends_if : (v : Option ℕ) (h : Happened) (end : Option End) → v ≡ vector_in h → end ≡ end_after h None →
+    IfSome v (λ vector. (at : ℕ) × (end ≡ Some (Vector vector at)))
+ends_if None h end is ended = tt
+ends_if (Some vector) h end is ended =
+    let found = vector_there h vector (sym is) in
+    (found.0, ended ∙ found.1)
 
 -- a turn that ends a program otherwise than by a vector is the machine's alone
 alone_turn : (t : Turn) (i : Option Instr) (regs : List ℕ) (memory : ℕ → ℕ) → NoVector (Some (end_of_turn t)) → IsAlone (deed_of t i regs memory)

@@ -1,6 +1,6 @@
 -- Bytes that may be stored to: their pages are ready and present.
 use Rattle.std.specs.Prelude.{ℕ, Bool, true, false, not, List, [], ◌∷◌, ◌++◌, ◌≡◌, ◌==◌, ◌&&◌, ◌||◌}
-use Rattle.std.proofs.Common.{arith, eq-eqb, refl, sym, ap, subst, ◌∙◌}
+use Rattle.std.proofs.Common.{arith, eq-eqb, refl, ap, subst, ◌∙◌}
 use Rattle.m88_base.specs.Pages.{page_number}
 use Rattle.m88_isa.specs.Address.{after_bytes}
 use Rattle.m88_emul.specs.Aid.{places_from}

@@ -1,5 +1,5 @@
 -- What lies behind a moment stays so.
-use Rattle.std.specs.Prelude.{ℕ, Bool, true, false, List, [], ◌∷◌, ◌++◌, ◌≡◌, ◌<◌, ◌≤◌, ◌+◌, ◌-◌, drop, length, map}
+use Rattle.std.specs.Prelude.{ℕ, Bool, false, List, [], ◌∷◌, ◌≡◌, ◌≤◌, ◌+◌, ◌-◌, drop, length, map}
 use Rattle.std.proofs.Common.{arith, length-append, sym, ap, subst, ◌∙◌, refl}
 use Rattle.std.proofs.lemmas.List.{length-drop}
 use Rattle.m88_isa.specs.Held.{is_pending}

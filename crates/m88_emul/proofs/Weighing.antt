@@ -1,6 +1,6 @@
 -- What software does makes no run longer: each event takes something off the weight of what is left of it.
-use Rattle.std.specs.Prelude.{ℕ, Bool, true, false, not, List, Option, Some, None, ◌≡◌, ◌<◌, ◌≤◌, [], ◌∷◌, ◌+◌, ◌-◌, ◌*◌, ◌==◌, ◌&&◌, ◌||◌, is_some, length}
-use Rattle.std.proofs.Common.{arith, refl, sym, ap, ◌∙◌, subst}
+use Rattle.std.specs.Prelude.{ℕ, Bool, true, false, not, List, Option, Some, None, ◌≡◌, ◌<◌, ◌≤◌, [], ◌∷◌, ◌+◌, ◌==◌, ◌&&◌, ◌||◌, is_some}
+use Rattle.std.proofs.Common.{arith, refl, ap, ◌∙◌}
 use Rattle.m88_base.specs.Image.{IsImage}
 use Rattle.m88_codec.proofs.ImagePrograms.{program_in, program_in_holds}
 use Rattle.m88_event.proofs.Bound.{lessens}

@@ -1,5 +1,5 @@
 -- What an emulation changes.
-use Rattle.std.specs.Prelude.{ℕ, Bool, true, not, List, ◌≡◌, ◌&&◌, map}
+use Rattle.std.specs.Prelude.{ℕ, true, not, List, ◌≡◌, ◌&&◌, map}
 use Rattle.m88_isa.specs.Bus.{bus_after_all}
 use Rattle.m88_isa.specs.Memory.{access_of}
 use Rattle.m88_mem.specs.DataBus.{MemoryView, absent_of, bus_of, ready_of}

@@ -1,6 +1,6 @@
 -- The history of the machine with software behind it: that of the sequential machine, where an instruction that raises
 -- has its changes in place of ending the program if software has an aid for it.
-use Rattle.std.specs.Prelude.{ℕ, zero, suc, Bool, false, List, [], ◌∷◌, ◌++◌, Option, Some, None, map, length}
+use Rattle.std.specs.Prelude.{ℕ, zero, suc, Bool, false, List, [], ◌∷◌, ◌++◌, Option, Some, None, map}
 use Rattle.m88_isa.specs.Address.{after_bytes, word_address}
 use Rattle.m88_isa.specs.Bus.{bus_after, bus_after_all, in_words}
 use Rattle.m88_isa.specs.Held.{instruction_at}

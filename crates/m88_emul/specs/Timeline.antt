@@ -1,16 +1,13 @@
 -- The timeline of a machine with software behind it: the moments of a run, what a letter makes of one, and what is seen
 -- of it. What a letter makes the board do is what it makes any board do that looks so; where that would end the program
 -- by an instruction that software has an aid for, one more is retired.
-use Rattle.std.specs.Prelude.{ℕ, zero, suc, Bool, true, false, not, List, [], ◌∷◌, ◌++◌, Option, Some, None, ◌≡◌, ◌≤◌, ◌+◌, ◌==◌, ◌&&◌, ◌||◌, drop, length, map, unwrap_or, if◌then◌else◌}
+use Rattle.std.specs.Prelude.{ℕ, zero, suc, Bool, true, false, List, [], ◌∷◌, ◌++◌, Option, Some, None, ◌≡◌, ◌+◌, ◌==◌, ◌&&◌, ◌||◌, drop, length, unwrap_or, if◌then◌else◌}
 use Rattle.m88_base.specs.Pages.{page_number}
 use Rattle.m88_base.specs.Slot.{no_slot}
 use Rattle.m88_base.specs.declared.slot.Slot.{Slot}
-use Rattle.m88_isa.specs.Address.{after_bytes}
-use Rattle.m88_isa.specs.Bus.{bus_after_all, changed_words, in_words}
-use Rattle.m88_isa.specs.Held.{instruction_at}
-use Rattle.m88_isa.specs.History.{Completed, completed_state}
-use Rattle.m88_isa.specs.Machine.{Program, Turn, opening, turn, turn_at}
-use Rattle.m88_isa.specs.Memory.{access_of}
+use Rattle.m88_isa.specs.Bus.{changed_words, in_words}
+use Rattle.m88_isa.specs.History.{completed_state}
+use Rattle.m88_isa.specs.Machine.{Program, opening, turn, turn_at}
 use Rattle.m88_event.specs.Choice.{Choice, evicts, faults, finishes, holds, idles, issues, passes, replies, serves, touches_page}
 use Rattle.m88_event.specs.Letters.{letter_at}
 use Rattle.m88_event.specs.Local.{Local, choice_by, record_by}
@@ -20,9 +17,7 @@ use Rattle.m88_event.specs.Timeline.{Moment, absent_at, end_of_turn, is_idle, op
 use Rattle.m88_event.specs.declared.happened.End.{End}
 use Rattle.m88_event.specs.declared.happened.End.TheVariants.{Limit}
 use Rattle.m88_event.specs.declared.letter.Letter.{Letter}
-use Rattle.m88_event.specs.declared.outcome.Outcome.{Outcome}
 use Rattle.m88_event.specs.declared.record.Record.{Record}
-use Rattle.m88_emul.specs.Aid.{Aid}
 use Rattle.m88_emul.specs.Extended.{Deed, aided, alone, deed_at, extended_bus, extended_state, transactions_before}
 use Rattle.m88_emul.specs.declared.emulation.EmulOutcome.{EmulOutcome}
 use Rattle.m88_emul.specs.declared.emulation.Emulation.{Emulation}

@@ -1,6 +1,6 @@
 //! A whole run on boards, each begun where the one before it ended at an instruction that software does.
 
-ghost use Rattle.std.specs.Prelude.{ℕ, Bool, List, ◌≡◌, ◌<◌, ◌≤◌, ◌+◌, ◌-◌, ◌*◌, ◌^◌, ◌++◌, ◌∷◌, [], Some, None, true, false, is_some, length, IfOk, OnOk};
+ghost use Rattle.std.specs.Prelude.{ℕ, Bool, List, ◌≡◌, ◌<◌, ◌≤◌, ◌+◌, ◌-◌, ◌*◌, ◌^◌, ◌++◌, ◌∷◌, [], Some, None, true, false, is_some, length, IfOk, IfSome, OnOk};
 ghost use Rattle.m88_ctrl.specs.ControlRegisters.{mxm_of};
 ghost use Rattle.m88_event.specs.Bound.{weight};
 ghost use Rattle.m88_event.specs.Letters.{letter_at};
@@ -14,7 +14,8 @@ ghost use Rattle.m88_isa.specs.declared.instr.Instr.{Instr as InstrValue};
 ghost use Rattle.m88_mem.specs.DataBus.{bus_of};
 ghost use Rattle.m88_mem.specs.Marks.{NamesPages, absent_in};
 ghost use Rattle.m88_board.specs.Board.{local_of};
-ghost use Rattle.m88_board.specs.Kept.{most_events, most_retired};
+ghost use Rattle.m88_board.specs.Kept.{IsKept, most_events, most_retired};
+ghost use Rattle.m88_board.specs.Moves.{IsSameRun};
 ghost use Rattle.m88_emul.specs.Aid.{Aid, aid_of};
 ghost use Rattle.m88_emul.specs.Extended.{byte_seen};
 ghost use Rattle.m88_emul.specs.Inside.Boards.{one_more, vector_in};
@@ -53,18 +54,15 @@ pub fn run(
     let mut board = Board::new(alloc, image, absent, limit, false)?;
     let mut emulated = vec![in alloc]?;
     let mut taken = 0;
-    // A schedule is short, so that the events can be counted: its length is told with its bound.
-    let _ = schedule.len();
+    // A schedule is short, so that the events can be counted.
+    prove!(schedule.len() <= 65_536);
     // Every run is over: each event takes something off the weight of what is left of it.
     while !board.is_over() {
-        board = step(
-            alloc,
-            board,
-            limit,
-            schedule.letter_at(taken),
-            &mut emulated,
-        )?;
+        let ended = advance(&mut board, limit, schedule.letter_at(taken))?;
         taken += 1;
+        if let Some(vector) = ended {
+            board = settle(alloc, board, limit, vector, &mut emulated)?;
+        }
     }
     let outcome = board.outcome()?;
     Ok(EmulOutcome {
@@ -73,39 +71,27 @@ pub fn run(
     })
 }
 
-/// The board after the event of a letter, and after software did the instruction at which it ended, if it does. Where
-/// memory runs out, the board is gone.
-fn step(
-    alloc: Global,
-    mut board: Board,
-    limit: u32,
-    letter: Letter,
-    emulated: &mut Vec<Emulation>,
-) -> Result<Board, NoMemory>
-    requires limit { board.limit ≡ limit }
-    requires going { is_over_by limit (local_of board) ≡ false }
-    requires few { board.events < most_events }
-    requires clear { mxm_of board.control ≡ false }
-    ensures moved { IfOk result (λ b. (p : Program) → IsProgramOf board.memory.image p
-        → local_of b ≡ settled p (move p limit letter (local_of board))) }
-    ensures emulated { OnOk result ((p : Program) → IsProgramOf board.memory.image p
-        → emulated.new.items
-        ≡ emulated.old.items ++ newly_emulated p (move p limit letter (local_of board))) }
-    ensures limit { IfOk result (λ b. b.limit ≡ limit) }
-    ensures image { IfOk result (λ b. b.memory.image ≡ board.memory.image) }
-    ensures clear { IfOk result (λ b. mxm_of b.control ≡ false) }
-    ensures counted { IfOk result (λ b. b.events ≡ board.events + 1) }
-    ensures lighter { IfOk result (λ b. (schedule : List LetterValue) (taken : ℕ)
-        → letter ≡ letter_at schedule taken → weight schedule limit (taken + 1) (local_of b)
-        < weight schedule limit taken (local_of board)) }
+/// Makes the event of a letter. The answer is the vector by which the program ended in it, if it did.
+fn advance(board: &mut Board, limit: u32, letter: Letter) -> Result<Option<u16>, NoMemory>
+    requires limit { board.old.limit ≡ limit }
+    requires going { is_over_by limit (local_of board.old) ≡ false }
+    requires few { board.old.events < most_events }
+    ensures moved { OnOk result ((p : Program) → IsProgramOf board.old.memory.image p
+        → local_of board.new ≡ move p limit letter (local_of board.old)) }
+    ensures ended { IfOk result (λ v. IfSome v (λ vector.
+        (at : ℕ) × (board.new.ended ≡ Some (Vector vector at)))) }
+    ensures alone { IfOk result (λ v. v ≡ None
+        → (p : Program) → IsProgramOf board.old.memory.image p
+        → (settled p (local_of board.new) ≡ local_of board.new)
+        × (newly_emulated p (local_of board.new) ≡ [])) }
+    ensures counted { OnOk result (board.new.events ≡ board.old.events + 1) }
+    ensures same { OnOk result (IsSameRun board.old board.new) }
+    ensures kept { OnOk result (IsKept board.old × IsKept board.new) }
 {
     // What always holds of a board is told with its events.
-    let _ = board.events();
+    prove!(board.events() < 1 << 63);
     let happened = board.event(letter)?;
-    match vector_of(happened) {
-        Some(vector) => settle(alloc, board, limit, vector, emulated),
-        None => Ok(board),
-    }
+    Ok(vector_of(happened))
 }
 
 /// The vector by which the program ended in an event, if it did.

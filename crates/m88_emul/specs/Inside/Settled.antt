@@ -1,6 +1,6 @@
 -- A board after an event, once software did the instruction at which it ended, if it does; and what lies behind each
 -- moment of a run.
-use Rattle.std.specs.Prelude.{ℕ, zero, suc, Bool, true, not, List, [], ◌∷◌, Option, Some, None, ◌≡◌, ◌≤◌, ◌+◌, ◌&&◌, length, map}
+use Rattle.std.specs.Prelude.{ℕ, zero, suc, true, not, List, [], ◌∷◌, Option, Some, None, ◌≡◌, ◌≤◌, ◌+◌, ◌&&◌, length, map}
 use Rattle.m88_isa.specs.Address.{after_bytes}
 use Rattle.m88_isa.specs.Bus.{bus_after_all}
 use Rattle.m88_isa.specs.Held.{instruction_at}

@@ -1,4 +1,4 @@
-use Rattle.std.proofs.Common.{arith, ap, ap₂, ◌∙◌}
+use Rattle.std.proofs.Common.{arith, ap, ◌∙◌}
 use Rattle.std.specs.Prelude.{ℕ, ◌≡◌, ◌/◌, ◌^◌}
 use Rattle.m88_isa.specs.Address.{after_bytes}
 use Rattle.m88_isa.specs.Bus.{bus_after_all, stored}

@@ -5,7 +5,7 @@ use Rattle.m88_isa.specs.Bus.{bus_after_all}
 use Rattle.m88_isa.specs.Memory.{access_of}
 use Rattle.m88_mem.specs.DataBus.{absent_of, bus_of, ready_of}
 use Rattle.m88_emul.proofs.OpenPlaces.{same_places, task_open}
-use Rattle.m88_emul.specs.Aid.{Aid, with_all}
+use Rattle.m88_emul.specs.Aid.{with_all}
 use Rattle.m88_emul.specs.Extended.{byte_seen}
 use Rattle.m88_emul.specs.Inside.Tasks.{aid_by, task_places}
 use Rattle.m88_emul.specs.Timeline.{has_place_in}

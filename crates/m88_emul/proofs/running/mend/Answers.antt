@@ -4,7 +4,7 @@ use Rattle.m88_board.specs.Board.{local_of}
 use Rattle.m88_board.specs.Parts.{MayBegin, seen_of}
 use Rattle.m88_board.specs.declared.parts.Parts.{Parts}
 use Rattle.m88_emul.proofs.OnBoards.{begun_clear, goes_on_so, may_go_on, parts_bytes, parts_regs, same_aid, zeros_stay}
-use Rattle.m88_emul.specs.Aid.{Aid, with_all}
+use Rattle.m88_emul.specs.Aid.{Aid}
 use Rattle.m88_emul.specs.Emulating.{IsAided}
 use Rattle.m88_emul.proofs.running.mend.Goals as goal
 

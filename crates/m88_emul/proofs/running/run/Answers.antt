@@ -1,15 +1,18 @@
 -- Along the letters of the run, to the moment at which it is over.
-use Rattle.std.proofs.Common.{rules, [], ℕ, Bool, List, ◌≡◌, ◌+◌, ◌++◌, false, true, arith, add-one, refl, sym, ap, ap₂, subst, ◌∙◌}
+use Rattle.std.proofs.Common.{rules, [], ℕ, List, ◌≡◌, ◌++◌, false, true, arith, add-one, sym, ap, ap₂, subst, ◌∙◌}
+use Rattle.std.proofs.lemmas.List.{append-nil}
 use Rattle.m88_base.specs.Image.{ProgramImage}
 use Rattle.m88_event.proofs.Bound.{weight_at_start}
 use Rattle.m88_event.specs.Local.{Local, is_over_by, move}
 use Rattle.m88_event.specs.declared.letter.Letter.{Letter}
 use Rattle.m88_isa.proofs.ImageProgram.{program_of_image}
 use Rattle.m88_isa.specs.ImageProgram.{IsProgramOf}
+use Rattle.m88_isa.specs.Machine.{Program}
 use Rattle.m88_mem.specs.Marks.{absent_in}
 use Rattle.m88_board.specs.Board.{local_of}
 use Rattle.m88_event.specs.declared.outcome.Outcome.{Outcome}
 use Rattle.m88_emul.proofs.OnBoards.{came_to, over_empty}
+use Rattle.m88_emul.proofs.Weighing.{lighter}
 use Rattle.m88_emul.proofs.Walks.{IsThere, one_outcome, opens_empty, there_first, there_next, there_over}
 use Rattle.m88_emul.specs.Inside.Settled.{newly_emulated, settled}
 use Rattle.m88_emul.specs.declared.emulation.Emulation.{Emulation}
@@ -33,30 +36,100 @@ loop-alloc-init c =
       there = λ p of clear. there_first p (absent_in c.args.absent.now) c.args.limit c.args.schedule.now _ _ (made.at p of clear).seen none;
     }
 
+-- which takes something off the weight
+pub loop-alloc-smaller : goal.loop-alloc-smaller
+loop-alloc-smaller c =
+    let inv = c.loop-alloc.invariant in
+    let event = c.in_ok-ended.ensures in
+    let old = c.loop-alloc.board in
+    let new = c.advance.new.board in
+    let goes : is_over_by c.args.limit (local_of old) ≡ false =
+    ap (λ (n : ℕ). is_over_by n (local_of old)) (sym inv.limit) ∙ sym c.is_over.ensures.value ∙ c.loop-alloc-test.true in
+    lighter c.args.schedule.now c.args.limit c.loop-alloc.taken c.letter_at.result old new (local_of new)
+    event.kept.0 event.kept.1 inv.limit (event.same.limit ∙ inv.limit) goes c.letter_at.ensures event.moved
+    (λ p of. sym (event.alone c.in_default.is p of).0 ∙ ap (settled p) (event.moved p of))
+
+pub loop-alloc-smaller-in-Some : goal.loop-alloc-smaller-in-Some
+loop-alloc-smaller-in-Some c =
+    let inv = c.loop-alloc.invariant in
+    let event = c.in_ok-ended.ensures in
+    let done = c.in_ok-board-2.ensures in
+    let old = c.loop-alloc.board in
+    let mid = c.advance.new.board in
+    let goes : is_over_by c.args.limit (local_of old) ≡ false =
+    ap (λ (n : ℕ). is_over_by n (local_of old)) (sym inv.limit) ∙ sym c.is_over.ensures.value ∙ c.loop-alloc-test.true in
+    let after = λ (p : Program) (of : IsProgramOf old.memory.image p).
+    subst (λ (image : ProgramImage). IsProgramOf image p) (sym event.same.image) of in
+    lighter c.args.schedule.now c.args.limit c.loop-alloc.taken c.letter_at.result old mid (local_of c.in_ok-board-2.board)
+    event.kept.0 event.kept.1 inv.limit (event.same.limit ∙ inv.limit) goes c.letter_at.ensures event.moved
+    (λ p of. done.settled p (after p of) ∙ ap (settled p) (event.moved p of))
+
+-- behind an event, with what software makes of it
 pub loop-alloc-preserved : goal.loop-alloc-preserved
 loop-alloc-preserved c =
     let inv = c.loop-alloc.invariant in
-    let stepped = c.in_ok-board-2.ensures in
+    let event = c.in_ok-ended.ensures in
+    let old = c.loop-alloc.board in
+    let new = c.advance.new.board in
+    let xs = c.loop-alloc.emulated.items in
+    let goes : is_over_by c.args.limit (local_of old) ≡ false =
+    ap (λ (n : ℕ). is_over_by n (local_of old)) (sym inv.limit) ∙ sym c.is_over.ensures.value ∙ c.loop-alloc-test.true in
+    let less = loop-alloc-smaller c in
     let room = inv.room in
     let before = inv.counted in
-    let counted = stepped.counted in
-    let less = stepped.lighter c.args.schedule.now c.loop-alloc.taken c.letter_at.ensures in
-    let goes : is_over_by c.args.limit (local_of c.loop-alloc.board) ≡ false =
-    ap (λ (n : ℕ). is_over_by n (local_of c.loop-alloc.board)) (sym inv.limit) ∙ sym c.is_over.ensures.value ∙ c.loop-alloc-test.true in
+    let counted = event.counted in
     record {
-      limit = stepped.limit;
-      clear = stepped.clear;
-      image = stepped.image ∙ inv.image;
+      limit = event.same.limit ∙ inv.limit;
+      clear = event.same.mxm ∙ inv.clear;
+      image = event.same.image ∙ inv.image;
       counted = omega (arith, before, counted);
       room = omega (arith, room, less);
       there = λ p of clear.
           let here = subst (λ (image : ProgramImage). IsProgramOf image p) (sym inv.image) of in
-          subst (λ (n : ℕ). IsThere p (absent_in c.args.absent.now) c.args.limit c.args.schedule.now n (local_of c.in_ok-board-2.board) c.step.new.emulated.items) (sym (add-one c.loop-alloc.taken))
-          (there_next p (absent_in c.args.absent.now) c.args.limit c.args.schedule.now c.loop-alloc.taken (local_of c.loop-alloc.board) _ _ _
+          let moved = event.moved p here
+          ∙ ap (λ (x : Letter). move p c.args.limit x (local_of old)) c.letter_at.ensures in
+          let alone = event.alone c.in_default.is p here in
+          subst (λ (n : ℕ). IsThere p (absent_in c.args.absent.now) c.args.limit c.args.schedule.now n (local_of new) xs)
+          (sym (add-one c.loop-alloc.taken))
+          (there_next p (absent_in c.args.absent.now) c.args.limit c.args.schedule.now c.loop-alloc.taken (local_of old) _ _ _
           (program_of_image c.args.image.now p c.new.ensures.is_image of) (inv.there p of clear) goes
-          (stepped.moved p here ∙ ap (λ (x : Letter). settled p (move p c.args.limit x (local_of c.loop-alloc.board))) c.letter_at.ensures)
-          (stepped.emulated p here
-          ∙ ap (λ (x : Letter). c.loop-alloc.emulated.items ++ newly_emulated p (move p c.args.limit x (local_of c.loop-alloc.board))) c.letter_at.ensures));
+          (sym alone.0 ∙ ap (settled p) moved)
+          (sym (append-nil xs) ∙ ap (λ (ys : List Emulation). xs ++ ys) (sym alone.1 ∙ ap (newly_emulated p) moved)));
+    }
+
+pub loop-alloc-preserved-in-Some : goal.loop-alloc-preserved-in-Some
+loop-alloc-preserved-in-Some c =
+    let inv = c.loop-alloc.invariant in
+    let event = c.in_ok-ended.ensures in
+    let done = c.in_ok-board-2.ensures in
+    let old = c.loop-alloc.board in
+    let mid = c.advance.new.board in
+    let xs = c.loop-alloc.emulated.items in
+    let goes : is_over_by c.args.limit (local_of old) ≡ false =
+    ap (λ (n : ℕ). is_over_by n (local_of old)) (sym inv.limit) ∙ sym c.is_over.ensures.value ∙ c.loop-alloc-test.true in
+    let after = λ (p : Program) (of : IsProgramOf old.memory.image p).
+    subst (λ (image : ProgramImage). IsProgramOf image p) (sym event.same.image) of in
+    let less = loop-alloc-smaller-in-Some c in
+    let room = inv.room in
+    let before = inv.counted in
+    let counted = event.counted in
+    let kept = done.counted in
+    record {
+      limit = done.limit;
+      clear = done.clear;
+      image = done.image ∙ event.same.image ∙ inv.image;
+      counted = omega (arith, before, counted, kept);
+      room = omega (arith, room, less);
+      there = λ p of clear.
+          let here = subst (λ (image : ProgramImage). IsProgramOf image p) (sym inv.image) of in
+          let moved = event.moved p here
+          ∙ ap (λ (x : Letter). move p c.args.limit x (local_of old)) c.letter_at.ensures in
+          subst (λ (n : ℕ). IsThere p (absent_in c.args.absent.now) c.args.limit c.args.schedule.now n
+          (local_of c.in_ok-board-2.board) c.settle.new.emulated.items) (sym (add-one c.loop-alloc.taken))
+          (there_next p (absent_in c.args.absent.now) c.args.limit c.args.schedule.now c.loop-alloc.taken (local_of old) _ _ _
+          (program_of_image c.args.image.now p c.new.ensures.is_image of) (inv.there p of clear) goes
+          (done.settled p (after p here) ∙ ap (settled p) moved)
+          (done.emulated p (after p here) ∙ ap (λ (l : Local). xs ++ newly_emulated p l) moved));
     }
 
 pub returns-clause-only : goal.returns-clause-only
@@ -82,8 +155,8 @@ returns-clause-within c =
     let events = c.in_ok-outcome.ensures.events in
     omega (arith, room, counted, events)
 
-pub step-requires-clause-few : goal.step-requires-clause-few
-step-requires-clause-few c =
+pub advance-requires-clause-few : goal.advance-requires-clause-few
+advance-requires-clause-few c =
     let room = c.loop-alloc.invariant.room in
     let counted = c.loop-alloc.invariant.counted in
     let value = c.len.ensures.value in

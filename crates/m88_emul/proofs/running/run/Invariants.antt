@@ -1,5 +1,5 @@
 -- The board looks as the moment of the timeline does after as many letters, and what is left of the run is bounded.
-use Rattle.std.proofs.Common.{ℕ, ◌≡◌, ◌≤◌, ◌+◌, ◌*◌, false, length}
+use Rattle.std.proofs.Common.{◌≡◌, ◌≤◌, ◌+◌, ◌*◌, false, length}
 use Rattle.m88_ctrl.specs.ControlRegisters.{mxm_of}
 use Rattle.m88_event.specs.Bound.{weight}
 use Rattle.m88_isa.specs.ImageProgram.{IsProgramOf}

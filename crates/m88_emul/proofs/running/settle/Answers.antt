@@ -1,4 +1,4 @@
-use Rattle.std.proofs.Common.{ℕ, List, ◌≡◌, ◌++◌, arith, ap, sym, ◌∙◌}
+use Rattle.std.proofs.Common.{ℕ, List, ◌++◌, arith, ap, sym, ◌∙◌}
 use Rattle.std.specs.Prelude.{is_some}
 use Rattle.m88_emul.proofs.OnBoards.{board_done, board_joins, board_stays, none_joins, none_pending, ok_on, ok_then, place_is, pushed, unread_no_aid, values_are, word_aid, word_no_aid}
 use Rattle.m88_emul.specs.Aid.{aid_of}
