@@ -26,7 +26,7 @@ pub fn check_trace(alloc: Global, image: &Image, text: &[u8]) -> Result<u32, Tra
         → HasOneVerdict (IsText (trace_line p) text.now) (DiffersBehind (trace_line p) text.now) }
 {
     // What always holds of an image is told with its parts.
-    let _ = image.part_count();
+    prove!(image.part_count() <= image.len());
     let mut follower = Follower::new(alloc, image)?;
     let mut line = Vec::new(alloc);
     let mut rest = text;

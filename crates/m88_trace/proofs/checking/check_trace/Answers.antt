@@ -1,5 +1,6 @@
 -- One line after the other.
 use Rattle.std.proofs.Common.{ℕ, Bool, ◌≡◌, ◌<◌, ◌++◌, List, length, false, arith, ap, refl, sym, subst, ◌∙◌}
+use Rattle.m88_base.proofs.FewParts.{few_parts}
 use Rattle.m88_base.specs.Image.{IsImage, ProgramImage}
 use Rattle.m88_codec.proofs.ImagePrograms.{program_in, program_in_holds, program_in_mxm}
 use Rattle.m88_isa.proofs.ImageProgram.{program_of_image}
@@ -136,3 +137,9 @@ loop-rest-preserved c =
           c.loop-rest.count
           (seen_of c.loop-rest.follower) c.in_ok-ended.ended c.next_line.new.self reads follows begins;
     }
+
+-- each part of an image has a byte
+pub prove-unreachable-requires : goal.prove-unreachable-requires
+prove-unreachable-requires c =
+    let few = few_parts _ c.part_count.ensures.image in
+    absurd (omega (arith, few, c.if-prove.true, c.part_count.ensures.value, c.len.ensures.value))
