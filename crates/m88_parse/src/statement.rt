@@ -1,5 +1,6 @@
 //! Directives, operations, labels and heads of modules.
 ghost use Rattle.std.specs.Prelude.{◌≡◌};
+ghost use Rattle.m88_isa.specs.Mnemonic.{mnemonic_of};
 ghost use Rattle.m88_parse.specs.declared.directive.Directive.TheVariants.{Set};
 ghost use Rattle.m88_parse.specs.Fault.{Gives};
 ghost use Rattle.m88_parse.specs.Inside.Grammar.{read, directive_form};
@@ -20,6 +21,17 @@ use std::alloc::Global;
 
 /// The most that a number can be.
 const ANY: u32 = u32::MAX;
+
+/// The mnemonic of a name, if it is one. None begins with a dot, as directives do: those are told from the mnemonics
+/// without trying all of them.
+fn mnemonic_of(name: &[u8]) -> Option<Mnemonic>
+    ensures { result ≡ mnemonic_of name.now }
+{
+    if let Some(b'.') = name.first() {
+        return None;
+    }
+    Mnemonic::from_text(name)
+}
 
 impl<'a> Parser<'a> {
     /// .set: a symbol and its number.
@@ -65,7 +77,7 @@ impl<'a> Parser<'a> {
         if is_module(name) {
             return Err(self.fault(ParseKind::Syntax));
         }
-        if let Some(mnemonic) = Mnemonic::from_text(name) {
+        if let Some(mnemonic) = mnemonic_of(name) {
             self.skip();
             return self.instruction(shape_of(mnemonic));
         }
