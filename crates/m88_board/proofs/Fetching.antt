@@ -21,7 +21,7 @@ use Rattle.m88_isa.specs.declared.planned.Access.{Access}
 use Rattle.m88_board.proofs.Choosing.{at_pc}
 use Rattle.m88_board.specs.Board.{BoardView, completed_of, is_idle_board, local_of, pc_of}
 use Rattle.m88_board.specs.Moves.{stopping}
-use Rattle.m88_board.specs.Turns.{choice_for}
+use Rattle.m88_board.specs.Inside.Turns.{choice_for}
 
 -- no more may be issued
 pub idles_by : (p : Program) (b : BoardView) → is_idle_board b ≡ true →

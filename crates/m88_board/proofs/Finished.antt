@@ -7,7 +7,7 @@ use Rattle.m88_event.specs.declared.happened.End.{End}
 use Rattle.m88_board.proofs.Stopping.{ends_now}
 use Rattle.m88_board.specs.Board.{BoardView, is_idle_board}
 use Rattle.m88_board.specs.Kept.{IsKept, IsProgramEnd}
-use Rattle.m88_board.specs.Turns.{ComesToEnd}
+use Rattle.m88_board.specs.Inside.Turns.{ComesToEnd}
 use Rattle.m88_board.proofs.Carry.{carry_entered}
 use Rattle.m88_board.proofs.Going.{not_ended, one_more}
 

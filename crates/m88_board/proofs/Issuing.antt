@@ -32,7 +32,7 @@ use Rattle.m88_board.specs.Board.{BoardView, cells_of, completed_of, pc_of, next
 use Rattle.m88_board.specs.Kept.{IsKept}
 use Rattle.m88_board.proofs.Choosing.{did_by}
 use Rattle.m88_board.specs.Moves.{Did, stopping}
-use Rattle.m88_board.specs.Turns.{choice_for, meaning_at}
+use Rattle.m88_board.specs.Inside.Turns.{choice_for, meaning_at}
 
 -- something is pending where there is an oldest
 pub pending_shown : (xs : List Access) (o : Option Access) → o ≡ slice_get xs 0 → is_some o ≡ is_pending xs

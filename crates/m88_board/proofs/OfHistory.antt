@@ -15,7 +15,7 @@ use Rattle.m88_isa.specs.Machine.{Program, State, Turn, after_touch, after_touch
 use Rattle.m88_isa.specs.Memory.{Touch}
 use Rattle.m88_isa.specs.Word.{IsWord}
 use Rattle.m88_isa.specs.declared.instr.Instr.{Instr}
-use Rattle.m88_board.specs.Turns.{turn_by}
+use Rattle.m88_board.specs.Kept.{turn_by}
 use Rattle.m88_isa.specs.History.{completed_state}
 
 -- accesses leave MXM

@@ -19,7 +19,7 @@ use Rattle.m88_isa.specs.declared.instr.MemOp.TheVariants as memop
 use Rattle.m88_isa.specs.declared.planned.Computed.{Computed}
 use Rattle.m88_isa.specs.declared.planned.Computed.TheVariants.{Gives, Raises}
 use Rattle.m88_isa.specs.declared.planned.Inputs.{Inputs}
-use Rattle.m88_board.specs.Turns.{PlansOnePage, StoreOnOnePage}
+use Rattle.m88_board.specs.Inside.Turns.{PlansOnePage, StoreOnOnePage}
 
 -- the accesses of a memory mnemonic at an aligned place
 touches_page : (op : MemOp) (d : Reg) (value second place : ℕ) → place < 2 ^ 32 → place % size_of op ≡ 0 →

@@ -34,9 +34,8 @@ use Rattle.m88_board.proofs.ReadBack.{carry_back, mxm_back, slot_back, word_back
 use Rattle.m88_board.proofs.Waiting.{none_wait_for_none}
 use Rattle.m88_board.specs.Board.{BoardView, completed_of, local_of, next_of, pc_of}
 use Rattle.m88_board.specs.Contexts.{IsRunOf, Stands, StandsFor, context_of, mxm_in}
-use Rattle.m88_board.specs.Kept.{EndsSo, HasReadyPage, IsBehind, IsKept, IsProgramEnd, SlotsAgree}
+use Rattle.m88_board.specs.Kept.{EndsSo, HasReadyPage, IsBehind, IsKept, IsProgramEnd, SlotsAgree, turn_by}
 use Rattle.m88_board.specs.Moves.{IsAt}
-use Rattle.m88_board.specs.Turns.{turn_by}
 use Rattle.m88_board.specs.declared.context.Context.{Context}
 
 -- the pointers of a context's words

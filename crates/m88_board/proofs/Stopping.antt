@@ -14,8 +14,8 @@ use Rattle.m88_isa.specs.ImageProgram.{IsProgramOf}
 use Rattle.m88_isa.specs.Machine.{Program, Stop, Turn, changes, outputs, stops}
 use Rattle.m88_mem.specs.DataBus.{MemoryView, bus_of}
 use Rattle.m88_board.specs.Board.{BoardView, cells_of, completed_of, local_of, next_of, pc_of}
-use Rattle.m88_board.specs.Kept.{EndsSo}
-use Rattle.m88_board.specs.Turns.{ComesToEnd, turn_by}
+use Rattle.m88_board.specs.Kept.{EndsSo, turn_by}
+use Rattle.m88_board.specs.Inside.Turns.{ComesToEnd}
 
 -- the letter `i` ends the program only by the turn of the next instruction
 ends_turn : (idle bubble : Bool) (why : Option Hold) (t : Turn) (stop : Stop) →

@@ -19,7 +19,7 @@ use Rattle.m88_isa.specs.declared.planned.Plan.{Plan}
 use Rattle.m88_isa.specs.declared.planned.Plan.TheVariants.{Go, Raise, Trap}
 use Rattle.m88_board.specs.Board.{BoardView, completed_of, local_of, pc_of}
 use Rattle.m88_board.specs.Moves.{Did, IsAt, stopping}
-use Rattle.m88_board.specs.Told.{IsTold, MakeWord, MakesWords, WentOn}
+use Rattle.m88_board.specs.Told.{IsTold, IsWordOf, MakesWordAccesses, WentOn}
 use Rattle.m88_board.specs.declared.told.Told.{Told}
 
 -- what raises is not issued
@@ -69,7 +69,7 @@ word_seen p named m b at =
 -- so what its parts tell is what the moment tells
 pub told_at : (p : Program) (named : ℕ → Bool) (m : Moment) (b : BoardView) (h : Happened) (told : Told) →
     IsAt p named m b →
-    (WentOn h → MakeWord (four_bytes (byte_at b.memory.image) (pc_of b.slots)) told.word) →
+    (WentOn h → IsWordOf (four_bytes (byte_at b.memory.image) (pc_of b.slots)) told.word) →
     ((change : Change) → choice_by p b.limit Issue (local_of b) ≡ issues change
     → told.plan ≡ Go (recorded_change change)) →
     IsTold p named b.limit m h told
@@ -79,7 +79,7 @@ told_at p named m b h told at word plan = record {
 }
 
 -- the accesses of a plan that goes on
-pub makes_words : (count : ℕ) (plan : Plan) → MakesAccesses count plan → MakesWords plan
+pub makes_words : (count : ℕ) (plan : Plan) → MakesAccesses count plan → MakesWordAccesses plan
 makes_words count (Go effect) made = subst (λ n. AreWordAccesses n effect.accesses) (sym made.0) made
 makes_words count (Raise vector) made = tt
 makes_words count (Trap vector) made = tt

@@ -11,14 +11,18 @@ use Rattle.m88_event.specs.declared.happened.End.TheVariants.{Limit}
 use Rattle.m88_isa.specs.Bus.{LoadApart, waits_for}
 use Rattle.m88_isa.specs.Held.{most_pending}
 use Rattle.m88_isa.specs.ImageProgram.{IsProgramOf}
-use Rattle.m88_isa.specs.Machine.{Program, four_bytes}
+use Rattle.m88_isa.specs.History.{Completed}
+use Rattle.m88_isa.specs.Machine.{Program, Turn, four_bytes, turn}
 use Rattle.m88_isa.specs.Memory.{IsWordAccess}
 use Rattle.m88_isa.specs.declared.planned.Access.{Access}
 use Rattle.m88_iunit.specs.Pointers.{Pointers, word_behind}
 use Rattle.m88_mem.specs.DataBus.{MemoryView, ready_of}
 use Rattle.m88_scoreboard.specs.Registers.{Registers, waiting_of}
 use Rattle.m88_board.specs.Board.{BoardView, completed_of}
-use Rattle.m88_board.specs.Turns.{turn_by}
+
+-- the turn of the next instruction of a program
+abbrev pub turn_by : Program → Completed → Turn
+turn_by p c = turn p c.regs c.carry c.mxm c.pc c.next
 
 -- the most instructions that a run may retire
 abbrev pub most_retired : ℕ

@@ -2,9 +2,9 @@ pub mod Board
 pub mod Kept
 pub mod Glances
 pub mod Moves
-pub mod Turns
 pub mod Shown
 pub mod Told
 pub mod Walks
 pub mod Parts
 pub mod Contexts
+pub mod Inside

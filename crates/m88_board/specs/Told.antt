@@ -19,17 +19,17 @@ WentOn happened.Issued = Unit {0}
 WentOn (happened.Served byte) = Unit {0}
 WentOn _ = ⊥
 
--- the word that four bytes make, the first of them the highest
-abbrev pub MakeWord : Option (List ℕ) → ℕ → Type 0
-MakeWord bytes word = (word < 2 ^ 32) × (bytes ≡ Some (to_be_bytes w32 word))
+-- there are four bytes, and they are a word, the first of them the highest
+abbrev pub IsWordOf : Option (List ℕ) → ℕ → Type 0
+IsWordOf bytes word = (word < 2 ^ 32) × (bytes ≡ Some (to_be_bytes w32 word))
 
 -- what an event of `i` at a moment tells: the word of the instruction that went on, and its changes where it is issued
 pub record IsTold (p : Program) (named : ℕ → Bool) (limit : ℕ) (m : Moment) (happened : Happened) (told : Told) : Type 0
   where
-    pub word : WentOn happened → MakeWord (four_bytes p.byte (state p m.retired).pc) told.word
+    pub word : WentOn happened → IsWordOf (four_bytes p.byte (state p m.retired).pc) told.word
     pub plan : (change : Change) → choice_at p named limit Issue m ≡ issues change
         → told.plan ≡ Go (recorded_change change)
 
 -- the accesses of an instruction that goes on are those of words
-abbrev pub MakesWords : Plan → Type 0
-MakesWords plan = IfGo plan (λ effect. AreWordAccesses effect.accesses.count effect.accesses)
+abbrev pub MakesWordAccesses : Plan → Type 0
+MakesWordAccesses plan = IfGo plan (λ effect. AreWordAccesses effect.accesses.count effect.accesses)

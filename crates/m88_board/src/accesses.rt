@@ -14,7 +14,7 @@ ghost use Rattle.m88_mem.specs.DataBus.{absent_of, bus_of, ready_of};
 ghost use Rattle.m88_scoreboard.specs.Registers.{waiting_of};
 ghost use Rattle.m88_board.specs.Board.{cells_of};
 ghost use Rattle.m88_board.specs.Kept.{AreReady, HasReadyPage, PartsAgree, StaysReady};
-ghost use Rattle.m88_board.specs.Turns.{StoreOnOnePage};
+ghost use Rattle.m88_board.specs.Inside.Turns.{StoreOnOnePage};
 
 use m88_base::{NoMemory, Reg};
 use m88_dunit::DataUnit;

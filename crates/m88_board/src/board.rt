@@ -27,7 +27,7 @@ ghost use Rattle.m88_iunit.specs.Pointers.{resumed};
 ghost use Rattle.m88_board.specs.Kept.{IsKept, IsProgramEnd, epsr_of, most_events, most_retired};
 ghost use Rattle.m88_board.specs.Moves.{Did, Does, IsAt, IsEvicted, IsSameRun, IsStill, IsUnmoved, stopping};
 ghost use Rattle.m88_board.specs.Shown.{IsRecordOf, Leaves, ShowsFault, rest_of};
-ghost use Rattle.m88_board.specs.Turns.{ComesToEnd, IssueComesTo, StoreOnOnePage};
+ghost use Rattle.m88_board.specs.Inside.Turns.{ComesToEnd, IssueComesTo, StoreOnOnePage};
 
 use crate::accesses::{complete, prepare, put_in, write};
 use crate::serving::{enter, serve_all, visit};

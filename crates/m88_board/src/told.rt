@@ -1,22 +1,22 @@
 //! What an event tells of its instruction.
 
-ghost use Rattle.m88_board.specs.Told.{MakesWords};
+ghost use Rattle.m88_board.specs.Told.{MakesWordAccesses};
 
 use m88_isa::Plan;
 
-/// What an event tells of the instruction that it issues, or for which it puts a byte out.
+/// What an event tells of its instruction. Where none goes on, both are what they were, or those of one that was tried.
 #[derive(Clone, Copy, Debug)]
 pub struct Told {
-    /// The instruction's word.
+    /// The word of the instruction that is issued, or for which a byte is put out.
     pub word: u32,
-    /// What the instruction does.
+    /// What the instruction does, where it is issued.
     pub plan: Plan,
 }
 
 impl Told {
-    /// Nothing is told: there is no word, and a vector is raised that no instruction raises.
+    /// Nothing is told yet.
     pub fn nothing() -> Told
-        ensures { MakesWords result.plan }
+        ensures { MakesWordAccesses result.plan }
     {
         Told {
             word: 0,

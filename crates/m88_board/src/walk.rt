@@ -12,7 +12,7 @@ ghost use Rattle.m88_isa.specs.Machine.{IsProgram, Program};
 ghost use Rattle.m88_board.specs.Board.{local_of};
 ghost use Rattle.m88_board.specs.Glances.{Saw, glances_along};
 ghost use Rattle.m88_board.specs.Moves.{IsAlong, IsAt, IsSameRun, IsStep, IsUnmoved};
-ghost use Rattle.m88_board.specs.Told.{IsTold, MakesWords};
+ghost use Rattle.m88_board.specs.Told.{IsTold, MakesWordAccesses};
 ghost use Rattle.m88_board.specs.Walks.{IsBounded, is_at_breakpoint, is_enough, moments_from, stops_after};
 
 use crate::board::Board;
@@ -120,7 +120,7 @@ impl<'a> Walk<'a> {
             → IfOk result (λ happened. (p : Program) (named : ℕ → Bool) (m : Moment)
             → IsAt p named m self.old.board.now
             → IsTold p named self.old.board.now.limit m happened told.new) }
-        ensures made { MakesWords told.old.plan → MakesWords told.new.plan }
+        ensures made { MakesWordAccesses told.old.plan → MakesWordAccesses told.new.plan }
         ensures err { OnErr result (IsUnmoved self.old.board.now self.new.board.now) }
         ensures untaken { OnErr result (self.new.taken ≡ self.old.taken) }
         ensures unseen { OnErr result (watch.new ≡ watch.old) }

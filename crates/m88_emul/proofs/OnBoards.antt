@@ -37,10 +37,9 @@ use Rattle.m88_board.proofs.Starting.{same_bytes}
 use Rattle.m88_event.specs.Run.{outcome_by}
 use Rattle.m88_event.specs.declared.outcome.Outcome.{Outcome}
 use Rattle.m88_board.specs.Board.{BoardView, completed_of, local_of, next_of, pc_of}
-use Rattle.m88_board.specs.Kept.{EndsSo, IsKept}
+use Rattle.m88_board.specs.Kept.{EndsSo, IsKept, turn_by}
 use Rattle.m88_board.specs.Moves.{end_after}
 use Rattle.m88_board.specs.Parts.{MayBegin, parts_of, seen_of}
-use Rattle.m88_board.specs.Turns.{turn_by}
 use Rattle.m88_board.specs.declared.parts.Parts.{Parts}
 use Rattle.m88_emul.proofs.Following.{NoAid, none_new, stays}
 use Rattle.m88_emul.proofs.Weighing.{still_lives}

@@ -15,7 +15,7 @@ ghost use Rattle.m88_isa.specs.declared.planned.Plan.TheVariants.{Go};
 ghost use Rattle.m88_board.specs.Kept.{IsKept, most_events};
 ghost use Rattle.m88_board.specs.Moves.{Did, IsAt, IsEvicted, IsMove, IsSameRun, IsStill, IsUnmoved, end_after};
 ghost use Rattle.m88_board.specs.Shown.{Leaves};
-ghost use Rattle.m88_board.specs.Told.{IsTold, MakeWord, MakesWords, WentOn};
+ghost use Rattle.m88_board.specs.Told.{IsTold, IsWordOf, MakesWordAccesses, WentOn};
 
 use super::Board;
 use crate::told::Told;
@@ -37,13 +37,13 @@ impl Board {
         ensures evicts { letter ≡ LetterValue.Evict → result ≡ Ok HappenedValue.Evicted }
         ensures evicted { letter ≡ LetterValue.Evict → IsEvicted self.old self.new }
         ensures word { letter ≡ LetterValue.Issue → IfOk result (λ happened. WentOn happened
-            → MakeWord (four_bytes (byte_at self.old.memory.image) (pc_of self.old.slots))
+            → IsWordOf (four_bytes (byte_at self.old.memory.image) (pc_of self.old.slots))
             told.new.word) }
         ensures plan { letter ≡ LetterValue.Issue → OnOk result ((p : Program) (change : Change)
             → IsProgramOf self.old.memory.image p
             → choice_by p self.old.limit LetterValue.Issue (local_of self.old) ≡ issues change
             → told.new.plan ≡ Go (recorded_change change)) }
-        ensures made { MakesWords told.old.plan → MakesWords told.new.plan }
+        ensures made { MakesWordAccesses told.old.plan → MakesWordAccesses told.new.plan }
         ensures err { OnErr result (IsUnmoved self.old self.new) }
     {
         match letter {
@@ -120,7 +120,7 @@ impl Board {
         ensures told { letter ≡ LetterValue.Issue → IfOk result (λ happened.
             (p : Program) (named : ℕ → Bool) (m : Moment) → IsAt p named m self.old
             → IsTold p named self.old.limit m happened told.new) }
-        ensures made { MakesWords told.old.plan → MakesWords told.new.plan }
+        ensures made { MakesWordAccesses told.old.plan → MakesWordAccesses told.new.plan }
         ensures err { OnErr result (IsUnmoved self.old self.new) }
     {
         let happened = self.take(letter, told)?;

@@ -16,8 +16,8 @@ ghost use Rattle.m88_isa.specs.ImageProgram.{IsProgramOf};
 ghost use Rattle.m88_isa.specs.declared.planned.Plan.TheVariants.{Go};
 ghost use Rattle.m88_board.specs.Moves.{Did, IsSameRun, IsStill, IsUnmoved};
 ghost use Rattle.m88_board.specs.Shown.{Leaves};
-ghost use Rattle.m88_board.specs.Told.{MakeWord, MakesWords, WentOn};
-ghost use Rattle.m88_board.specs.Turns.{IssueComesTo, PlansOnePage, choice_for, meaning_at};
+ghost use Rattle.m88_board.specs.Told.{IsWordOf, MakesWordAccesses, WentOn};
+ghost use Rattle.m88_board.specs.Inside.Turns.{IssueComesTo, PlansOnePage, choice_for, meaning_at};
 
 use crate::board::Board;
 use crate::told::Told;
@@ -39,13 +39,13 @@ impl Board {
         ensures still { IfOk result (λ happened. IsStill happened → self.new ≡ self.old) }
         ensures leaves { IfOk result (λ happened. Leaves happened self.old self.new) }
         ensures word { IfOk result (λ happened. WentOn happened
-            → MakeWord (four_bytes (byte_at self.old.memory.image) (pc_of self.old.slots))
+            → IsWordOf (four_bytes (byte_at self.old.memory.image) (pc_of self.old.slots))
             told.new.word) }
         ensures plan { OnOk result ((p : Program) (change : Change)
             → IsProgramOf self.old.memory.image p
             → choice_by p self.old.limit LetterValue.Issue (local_of self.old) ≡ issues change
             → told.new.plan ≡ Go (recorded_change change)) }
-        ensures made { MakesWords told.old.plan → MakesWords told.new.plan }
+        ensures made { MakesWordAccesses told.old.plan → MakesWordAccesses told.new.plan }
         ensures err { OnErr result (IsUnmoved self.old self.new) }
     {
         if self.is_idle() {
@@ -80,7 +80,7 @@ impl Board {
         ensures told { OnOk result ((change : Change)
             → choice_for (Some instr.now) self.old ≡ issues change
             → told.new ≡ Go (recorded_change change)) }
-        ensures made { MakesWords told.old → MakesWords told.new }
+        ensures made { MakesWordAccesses told.old → MakesWordAccesses told.new }
         ensures err { OnErr result (IsUnmoved self.old self.new) }
     {
         if let Some(r) = self.busy_register(instr) {
@@ -104,7 +104,7 @@ impl Board {
         ensures told { OnOk result ((change : Change)
             → choice_for (Some instr.now) self.old ≡ issues change
             → told.new ≡ Go (recorded_change change)) }
-        ensures made { MakesWords told.old → MakesWords told.new }
+        ensures made { MakesWordAccesses told.old → MakesWordAccesses told.new }
         ensures err { OnErr result (IsUnmoved self.old self.new) }
     {
         let plan = self.planned(instr);
@@ -145,7 +145,7 @@ impl Board {
         requires free { busy_register (Some instr.now) self.now.pending ≡ None }
         ensures value { result ≡ plan_for (meaning_at instr.now (completed_of self.now)) }
         ensures accesses { MakesAccesses (access_count_of instr.now) result }
-        ensures words { MakesWords result }
+        ensures words { MakesWordAccesses result }
         ensures register { WritesWithin (writes_of instr.now) result }
         ensures trap { TrapsForUser result }
         ensures raise { RaisesListed result }

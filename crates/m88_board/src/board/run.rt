@@ -18,7 +18,7 @@ ghost use Rattle.m88_board.specs.Glances.{Saw, glances_along};
 ghost use Rattle.m88_board.specs.Kept.{IsKept, most_events};
 ghost use Rattle.m88_board.specs.Moves.{IsAlong, IsAt, IsSameRun, IsStep, IsUnmoved};
 ghost use Rattle.m88_board.specs.Shown.{IsSettled};
-ghost use Rattle.m88_board.specs.Told.{IsTold, MakesWords};
+ghost use Rattle.m88_board.specs.Told.{IsTold, MakesWordAccesses};
 ghost use Rattle.m88_board.specs.Walks.{IsNoHeavier};
 
 use super::Board;
@@ -117,7 +117,7 @@ impl Board {
         ensures told { letter ≡ LetterValue.Issue → IfOk result (λ happened.
             (p : Program) (named : ℕ → Bool) (m : Moment) → IsAt p named m self.old
             → IsTold p named self.old.limit m happened told.new) }
-        ensures made { MakesWords told.old.plan → MakesWords told.new.plan }
+        ensures made { MakesWordAccesses told.old.plan → MakesWordAccesses told.new.plan }
         ensures err { OnErr result (IsUnmoved self.old self.new) }
         ensures unseen { OnErr result (watch.new ≡ watch.old) }
     {

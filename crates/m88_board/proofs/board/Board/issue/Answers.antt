@@ -21,7 +21,7 @@ use Rattle.m88_board.specs.Board.{BoardView, local_of, pc_of}
 use Rattle.m88_board.specs.Moves.{Did, stopping}
 use Rattle.m88_board.proofs.Still.{same_if}
 use Rattle.m88_board.proofs.Telling.{stopped_stays, stopping_issues_none}
-use Rattle.m88_board.specs.Turns.{choice_for}
+use Rattle.m88_board.specs.Inside.Turns.{choice_for}
 use Rattle.m88_board.specs.contracts.board.Board.{the_view}
 use Rattle.m88_board.proofs.board.Board.issue.Goals as goal
 

@@ -16,7 +16,7 @@ use Rattle.m88_board.proofs.Telling.{change_told, stopping_issues_none}
 use Rattle.m88_board.specs.Board.{pc_of}
 use Rattle.m88_board.specs.Kept.{IsKept}
 use Rattle.m88_board.specs.Moves.{Did, stopping}
-use Rattle.m88_board.specs.Turns.{choice_for}
+use Rattle.m88_board.specs.Inside.Turns.{choice_for}
 use Rattle.m88_board.specs.contracts.board.Board.{the_view}
 use Rattle.m88_board.proofs.board.Board.issue_free.Goals as goal
 use Rattle.m88_board.proofs.board.Board.issue_free.Goals.{else-waits_for_empty-via-then-waits_for_empty+else-is_pending-2, else-waits_for_empty-via-else-waits_for_empty}

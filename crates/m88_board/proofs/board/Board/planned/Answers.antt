@@ -4,7 +4,7 @@ use Rattle.m88_base.specs.declared.slot.Slot.{Slot}
 use Rattle.m88_isa.specs.Effect.{plan_for}
 use Rattle.m88_board.proofs.Issuing.{meant}
 use Rattle.m88_board.proofs.OnePage.{one_page}
-use Rattle.m88_board.specs.Turns.{PlansOnePage}
+use Rattle.m88_board.specs.Inside.Turns.{PlansOnePage}
 use Rattle.m88_board.specs.contracts.board.Board.{the_view}
 use Rattle.m88_isa.specs.Operands.{access_count_of}
 use Rattle.m88_board.proofs.Telling.{makes_words}

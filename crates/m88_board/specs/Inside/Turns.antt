@@ -1,4 +1,4 @@
--- What the next instruction comes to in its turn: words for private contracts, and for what always holds of a board.
+-- What the next instruction comes to in its turn.
 use Rattle.std.specs.Prelude.{true, Option, ◌≡◌, ◌<◌}
 use Rattle.m88_base.specs.Pages.{page_number}
 use Rattle.m88_event.specs.Choice.{Choice, end_by, finishes, next_choice}
@@ -9,7 +9,7 @@ use Rattle.m88_isa.specs.Held.{held}
 use Rattle.m88_isa.specs.History.{Completed}
 use Rattle.m88_isa.specs.Effect.{IfGo, Meaning, meaning_of}
 use Rattle.m88_isa.specs.ImageProgram.{IsProgramOf}
-use Rattle.m88_isa.specs.Machine.{Program, Stop, Turn, executed, turn}
+use Rattle.m88_isa.specs.Machine.{Program, Stop, Turn, executed}
 use Rattle.m88_isa.specs.declared.instr.Instr.{Instr}
 use Rattle.m88_isa.specs.declared.planned.Accesses.{Accesses}
 use Rattle.m88_isa.specs.declared.planned.Plan.{Plan}
@@ -18,10 +18,6 @@ use Rattle.m88_board.specs.Board.{BoardView, completed_of, local_of}
 -- what an instruction means at a state
 abbrev pub meaning_at : Instr → Completed → Meaning
 meaning_at i c = meaning_of i c.regs c.carry c.mxm c.pc c.next
-
--- the turn of the next instruction of a program
-abbrev pub turn_by : Program → Completed → Turn
-turn_by p c = turn p c.regs c.carry c.mxm c.pc c.next
 
 -- the turn of an instruction that was fetched and read, or of a word that is none
 abbrev pub turn_of : Option Instr → Completed → Turn
