@@ -1,11 +1,12 @@
--- The data that are told before an event of `r`.
-use Rattle.std.specs.Prelude.{ℕ, Bool, true, false, List, [], ◌∷◌, Some, ◌≡◌, ◌≤◌, drop, length, slice_get, take}
+-- The data that an event of `r` may need.
+use Rattle.std.specs.Prelude.{ℕ, Bool, false, List, [], ◌∷◌, Some, ◌≡◌, ◌≤◌, drop, length, slice_get, take}
 use Rattle.std.proofs.Common.{refl, sym, ap, ◌∙◌}
 use Rattle.m88_base.specs.Pages.{page_number}
+use Rattle.m88_event.specs.Choice.{faults, replies}
 use Rattle.m88_isa.specs.Bus.{bus_after, bus_after_all}
 use Rattle.m88_isa.specs.declared.planned.Access.{Access}
 use Rattle.m88_trace.proofs.Writing.{IsDatum, three_data}
-use Rattle.m88_trace.specs.Inside.Sheets.{AreData, AreTold}
+use Rattle.m88_trace.specs.Inside.Sheets.{AreData, AreDue}
 use Rattle.m88_trace.specs.Lines.{datum_by}
 use Rattle.m88_trace.specs.declared.sheet.Data.{Data}
 
@@ -26,33 +27,35 @@ and_others datum [] bus are = tt
 and_others datum (a ∷ accesses) bus are = (are.0, data_are accesses (bus_after a bus))
 
 -- none of no accesses
-pub none_told : (told : Data) (absent : ℕ → Bool) (bus : ℕ → ℕ) → AreTold told [] absent bus
-none_told told absent bus = record { oldest = tt; all = λ met. absurd met }
+pub none_due : (due : Data) (absent : ℕ → Bool) (bus : ℕ → ℕ) → AreDue due [] absent bus
+none_due due absent bus = record { oldest = tt; all = λ chosen. tt }
 
 -- that of the oldest, whose page is present
-pub one_told : (told : Data) (accesses : List Access) (absent : ℕ → Bool) (bus : ℕ → ℕ) (oldest : Access) →
+pub one_due : (due : Data) (accesses : List Access) (absent : ℕ → Bool) (bus : ℕ → ℕ) (oldest : Access) →
     slice_get accesses 0 ≡ Some oldest →
     absent (page_number oldest.addr) ≡ false →
-    IsDatum 0 told.oldest accesses bus →
-    AreTold told accesses absent bus
+    IsDatum 0 due.oldest accesses bus →
+    AreDue due accesses absent bus
 unfolding bus_after_all
-one_told told [] absent bus oldest first there is = absurd cc
-one_told told (a ∷ accesses) absent bus oldest first there is =
+one_due due [] absent bus oldest first there is = absurd cc
+one_due due (a ∷ accesses) absent bus oldest first there is =
     let same : a ≡ oldest = cc in
     record {
       oldest = (is, tt);
-      all = λ gone. absurd (let both : true ≡ false = sym gone ∙ ap (λ (x : Access). absent (page_number x.addr)) same ∙ there in cc);
+      all = λ chosen.
+          let gone : absent (page_number a.addr) ≡ false = ap (λ (x : Access). absent (page_number x.addr)) same ∙ there in
+          absurd (let replied : replies ≡ faults = sym (rw gone refl) ∙ chosen in cc);
     }
 
 -- those of all
-pub all_told : (told : Data) (accesses : List Access) (absent : ℕ → Bool) (bus : ℕ → ℕ) → length accesses ≤ 3 →
-    IsDatum 0 told.oldest accesses bus →
-    IsDatum 1 told.second accesses bus →
-    IsDatum 2 told.third accesses bus →
-    AreTold told accesses absent bus
+pub all_due : (due : Data) (accesses : List Access) (absent : ℕ → Bool) (bus : ℕ → ℕ) → length accesses ≤ 3 →
+    IsDatum 0 due.oldest accesses bus →
+    IsDatum 1 due.second accesses bus →
+    IsDatum 2 due.third accesses bus →
+    AreDue due accesses absent bus
 unfolding bus_after_all
-all_told told [] absent bus few x y z = none_told told absent bus
-all_told told (a ∷ accesses) absent bus few x y z = record {
+all_due due [] absent bus few x y z = none_due due absent bus
+all_due due (a ∷ accesses) absent bus few x y z = record {
   oldest = (x, tt);
-  all = λ met. three_data told.oldest told.second told.third (a ∷ accesses) bus few x y z;
+  all = λ met. three_data due.oldest due.second due.third (a ∷ accesses) bus few x y z;
 }

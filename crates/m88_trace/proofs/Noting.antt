@@ -7,7 +7,8 @@ use Rattle.std.proofs.lemmas.List.{append-nil, drop-append-le, drop_all, length-
 use Rattle.m88_base.specs.Pages.{page_number}
 use Rattle.m88_board.specs.Board.{BoardView}
 use Rattle.m88_board.specs.Moves.{IsAt}
-use Rattle.m88_board.specs.Told.{MakeWord}
+use Rattle.m88_board.specs.Told.{IsTold, IsWordOf}
+use Rattle.m88_board.specs.declared.told.Told.{Told}
 use Rattle.m88_mem.specs.DataBus.{absent_of, bus_of}
 use Rattle.m88_event.proofs.Follows.{Fits, fits, more_transactions}
 use Rattle.m88_event.specs.Bound.{one_if}
@@ -30,7 +31,6 @@ use Rattle.m88_isa.specs.History.{bus_at, pending_at, transaction_count, transac
 use Rattle.m88_isa.specs.Machine.{IsProgram, Program, Stop, Turn, changes, four_bytes, opening, outputs, state, stops, turn_at}
 use Rattle.m88_isa.specs.declared.planned.Access.{Access}
 use Rattle.m88_isa.specs.declared.planned.Effect.{Effect}
-use Rattle.m88_isa.specs.declared.planned.Plan.{Plan}
 use Rattle.m88_isa.specs.declared.planned.Plan.TheVariants.{Go}
 use Rattle.m88_trace.proofs.Following.{doing_fits, same_line}
 use Rattle.m88_trace.proofs.History.{line_there, not_ended_at}
@@ -38,7 +38,7 @@ use Rattle.m88_trace.proofs.Nexts.{choice_shown, not_over_bubble, not_over_bubbl
 use Rattle.m88_trace.proofs.Verdicts.{text_more}
 use Rattle.m88_trace.specs.Inside.Doings.{doing_line, doing_of}
 use Rattle.m88_trace.specs.Inside.Running.{IsNext, IsTraced}
-use Rattle.m88_trace.specs.Inside.Sheets.{AreData, AreTold, MeetsAbsent, waiting_of, written_by}
+use Rattle.m88_trace.specs.Inside.Sheets.{AreData, AreDue, waiting_of, written_by}
 use Rattle.m88_trace.specs.Texts.{text_of}
 use Rattle.m88_trace.specs.Trace.{line_at, trace_line, word_at}
 use Rattle.m88_trace.specs.declared.doing.Doing.TheVariants.{Goes, Outputs}
@@ -353,54 +353,65 @@ few_wait p limit m s past traced =
     let same = ap length traced.waiting in
     omega (arith, few, left, same)
 
+-- the word that an event tells is the one of the history
+pub word_told : (p : Program) (a word : ℕ) → IsWordOf (four_bytes p.byte a) word → word ≡ word_at p a
+unfolding word_at
+word_told p a word told =
+    sym (from_be_bytes-to_be_bytes_4 word told.0)
+    ∙ ap (λ (o : Option (List ℕ)). from_be_bytes w32 (unwrap_or o [])) (sym told.1)
+
 -- an instruction was issued
 pub issued_note : (p : Program) (named : ℕ → Bool) (limit : ℕ) (m : Moment) (old new : Sheet) (next : Upcoming)
-    (plan : Plan) → IsProgram p →
+    (told : Told) → IsProgram p →
     HasPast p limit m →
     DoneWereMade p m →
-    IsNext p named limit m happened.Issued next plan →
+    IsNext p m next →
+    IsTold p named limit m happened.Issued told →
     happened.Issued ≡ said_at p named limit Issue m →
-    ((bus : ℕ → ℕ) (effect : Effect) → plan ≡ Go effect
-    → written_by new bus ≡ written_by old bus ++ doing_line next.number next.at next.word (Goes effect)
+    ((bus : ℕ → ℕ) (effect : Effect) → told.plan ≡ Go effect
+    → written_by new bus ≡ written_by old bus ++ doing_line next.number next.at told.word (Goes effect)
     (bus_after_all (waiting_of old) bus)) →
-    ((effect : Effect) → plan ≡ Go effect → waiting_of new ≡ waiting_of old ++ listed effect.accesses) →
+    ((effect : Effect) → told.plan ≡ Go effect → waiting_of new ≡ waiting_of old ++ listed effect.accesses) →
     IsTraced p m old →
     IsTraced p (after_letter p named limit Issue m) new
 unfolding said_at
-issued_note p named limit m old new next plan is past made seen says writes waits traced =
+issued_note p named limit m old new next told is past made seen tells says writes waits traced =
     let found = said_issued (choice_at p named limit Issue m) (record_at p named limit m) says in
     let change = found.0 in
-    let goes = seen.changes change found.1 in
+    let goes = tells.plan change found.1 in
     let straight = not_over_bubble p named limit m change found.1 in
     let fit : Fits p m (issues change) = subst (λ (c : Choice). Fits p m c) found.1 (fits p named limit Issue m) in
     let unit : TurnFits (changes change) = subst (λ (t : Turn). TurnFits t) fit.0 (doing_fits p m.retired is) in
-    traced_step p limit m (after_letter p named limit Issue m) old new next.number next.at next.word (changes change) is
+    traced_step p limit m (after_letter p named limit Issue m) old new next.number next.at told.word (changes change) is
     past made fit.0 fit.1
-    (told_by p named limit Issue m (issues change) found.1) seen.number (seen.place straight) (seen.word tt)
+    (told_by p named limit Issue m (issues change) found.1) seen.number (seen.place straight)
+    (word_told p (state p m.retired).pc told.word (tells.word tt))
     (λ bus. writes bus (recorded_change change) goes)
     (waits (recorded_change change) goes ∙ ap (λ (xs : List Access). waiting_of old ++ xs)
     (listed_recorded change.touches unit.short)) traced
 
 -- a byte was put out
 pub served_note : (p : Program) (named : ℕ → Bool) (limit : ℕ) (m : Moment) (old new : Sheet) (next : Upcoming)
-    (plan : Plan) (byte : ℕ) → IsProgram p →
+    (told : Told) (byte : ℕ) → IsProgram p →
     HasPast p limit m →
     DoneWereMade p m →
-    IsNext p named limit m (happened.Served byte) next plan →
+    IsNext p m next →
+    IsTold p named limit m (happened.Served byte) told →
     happened.Served byte ≡ said_at p named limit Issue m →
-    ((bus : ℕ → ℕ) → written_by new bus ≡ written_by old bus ++ doing_line next.number next.at next.word (Outputs byte)
+    ((bus : ℕ → ℕ) → written_by new bus ≡ written_by old bus ++ doing_line next.number next.at told.word (Outputs byte)
     bus) →
     waiting_of new ≡ waiting_of old →
     IsTraced p m old →
     IsTraced p (after_letter p named limit Issue m) new
 unfolding said_at
-served_note p named limit m old new next plan byte is past made seen says writes waits traced =
+served_note p named limit m old new next told byte is past made seen tells says writes waits traced =
     let found = said_served (choice_at p named limit Issue m) (record_at p named limit m) byte says in
     let straight = not_over_bubble_served p named limit m byte found in
     let fit : Fits p m (serves byte) = subst (λ (c : Choice). Fits p m c) found (fits p named limit Issue m) in
-    traced_step p limit m (after_letter p named limit Issue m) old new next.number next.at next.word (outputs byte) is
+    traced_step p limit m (after_letter p named limit Issue m) old new next.number next.at told.word (outputs byte) is
     past made fit.0 fit.1
-    (told_by p named limit Issue m (serves byte) found) seen.number (seen.place straight) (seen.word tt) writes
+    (told_by p named limit Issue m (serves byte) found) seen.number (seen.place straight)
+    (word_told p (state p m.retired).pc told.word (tells.word tt)) writes
     (waits ∙ sym (append-nil (waiting_of old))) traced
 
 -- the program ended, which it does only where it hasn't yet
@@ -441,21 +452,13 @@ ended_note p named limit m old new end is past says writes waits traced =
     (told_by p named limit Issue m (finishes stop) choice) found.2
     (λ bus. writes bus ∙ ap (λ (e : End). written_by old bus ++ run_end_line e) found.2) waits traced
 
--- a fault comes only where the page of the oldest is absent
-fault_meets : (pending : List Access) (absent : ℕ → Bool) → answer_choice pending absent ≡ faults →
-    MeetsAbsent absent pending
-fault_meets [] absent e = absurd cc
-fault_meets (x ∷ pending) absent e = by_test (absent (page_number x.addr))
-    (λ gone. gone)
-    (λ there. absurd (let replied : replies ≡ faults = sym (rw there refl) ∙ e in cc))
-
-pub fault_met : (p : Program) (named : ℕ → Bool) (limit : ℕ) (m : Moment) (was : Record) →
+-- a fault comes only where the choice is that
+pub fault_chosen : (p : Program) (named : ℕ → Bool) (limit : ℕ) (m : Moment) (was : Record) →
     happened.Faulted was ≡ said_at p named limit Answer m →
-    MeetsAbsent (absent_at named m) (pending_at p m.retired m.done)
+    answer_choice (pending_at p m.retired m.done) (absent_at named m) ≡ faults
 unfolding said_at situation_at
-fault_met p named limit m was says =
-    fault_meets (pending_at p m.retired m.done) (absent_at named m)
-    (said_faulted (choice_at p named limit Answer m) (record_at p named limit m) was says)
+fault_chosen p named limit m was says =
+    said_faulted (choice_at p named limit Answer m) (record_at p named limit m) was says
 
 -- the oldest transaction was answered
 pub answered_note : (p : Program) (named : ℕ → Bool) (limit : ℕ) (m : Moment) (old new : Sheet) (datum : ℕ)
@@ -506,19 +509,12 @@ pub evicted_note : (p : Program) (named : ℕ → Bool) (limit : ℕ) (m : Momen
 evicted_note p named limit m s = traced_same p (after_letter p named limit Evict m) m s (evicted_tells p named limit m)
 
 -- data by the words that a board has now
-pub data_at : (p : Program) (named : ℕ → Bool) (m : Moment) (b : BoardView) (s : Sheet) (told : Data) →
+pub data_at : (p : Program) (named : ℕ → Bool) (m : Moment) (b : BoardView) (s : Sheet) (due : Data) →
     IsAt p named m b → IsTraced p m s →
-    AreTold told (waiting_of s) (absent_of b.memory) (bus_of b.memory) →
-    AreTold told (pending_at p m.retired m.done) (absent_at named m) (bus_at p m.retired m.done)
-data_at p named m b s told at traced are =
-    subst (λ (xs : List Access). AreTold told xs (absent_at named m) (bus_at p m.retired m.done)) traced.waiting
-    (subst (λ (absent : ℕ → Bool). AreTold told (waiting_of s) absent (bus_at p m.retired m.done))
+    AreDue due (waiting_of s) (absent_of b.memory) (bus_of b.memory) →
+    AreDue due (pending_at p m.retired m.done) (absent_at named m) (bus_at p m.retired m.done)
+data_at p named m b s due at traced are =
+    subst (λ (xs : List Access). AreDue due xs (absent_at named m) (bus_at p m.retired m.done)) traced.waiting
+    (subst (λ (absent : ℕ → Bool). AreDue due (waiting_of s) absent (bus_at p m.retired m.done))
     (pages_at p named m b at)
-    (subst (λ (bus : ℕ → ℕ). AreTold told (waiting_of s) (absent_of b.memory) bus) (words_at p named m b at) are))
-
--- the word that an event tells is the one of the history
-pub word_told : (p : Program) (a word : ℕ) → MakeWord (four_bytes p.byte a) word → word ≡ word_at p a
-unfolding word_at
-word_told p a word told =
-    sym (from_be_bytes-to_be_bytes_4 word told.0)
-    ∙ ap (λ (o : Option (List ℕ)). from_be_bytes w32 (unwrap_or o [])) (sym told.1)
+    (subst (λ (bus : ℕ → ℕ). AreDue due (waiting_of s) (absent_of b.memory) bus) (words_at p named m b at) are))

@@ -79,16 +79,15 @@ fn step(walk: &mut Walk, sheet: &mut Sheet) -> Result<(), NoMemory>
 {
     match walk.letter() {
         Letter::Issue => {
-            let mut next = upcoming_on(walk.board());
+            let next = upcoming_on(walk.board());
             let mut told = Told::nothing();
             let happened = walk.next_told(&mut Unwatched, &mut told)?;
-            next.word = told.word;
-            sheet.note_issue(&next, &told.plan, happened)
+            sheet.note_issue(&next, &told, happened)
         }
         Letter::Answer => {
-            let told = sheet.data(walk.board());
+            let due = sheet.data(walk.board());
             let happened = walk.next(&mut Unwatched)?;
-            sheet.note_answer(told, happened);
+            sheet.note_answer(due, happened);
             Ok(())
         }
         Letter::Evict => {

@@ -6,7 +6,7 @@ ghost use Rattle.m88_isa.specs.Bus.{bus_after, bus_after_all, listed};
 ghost use Rattle.m88_isa.specs.Memory.{AreWordAccesses, IsWordAccess};
 ghost use Rattle.m88_mem.specs.DataBus.{absent_of, bus_of};
 ghost use Rattle.m88_trace.specs.Inside.Doings.{doing_line};
-ghost use Rattle.m88_trace.specs.Inside.Sheets.{AreData, AreMade, AreTold, three_of, waiting_of, written_by};
+ghost use Rattle.m88_trace.specs.Inside.Sheets.{AreData, AreMade, AreDue, three_of, waiting_of, written_by};
 ghost use Rattle.m88_trace.specs.Lines.{access_text, accesses_text, datum_by, head_text, written_text};
 ghost use Rattle.m88_trace.specs.declared.doing.Doing.TheVariants as doings;
 
@@ -63,37 +63,42 @@ impl Sheet {
     }
 
     /// Writes the line of an instruction that makes its changes. The data of its accesses are waited for.
-    pub(crate) fn issue(&mut self, next: &Upcoming, effect: &Effect) -> Result<(), NoMemory>
+    pub(crate) fn issue(
+        &mut self,
+        next: &Upcoming,
+        word: u32,
+        effect: &Effect,
+    ) -> Result<(), NoMemory>
         requires made { AreMade self.old }
         requires words { AreWordAccesses effect.now.accesses.count effect.now.accesses }
         ensures text { OnOk result ((bus : ℕ → ℕ)
             → written_by self.new bus ≡ written_by self.old bus
-            ++ doing_line next.now.number next.now.at next.now.word (doings.Goes effect.now)
+            ++ doing_line next.now.number next.now.at word (doings.Goes effect.now)
             (bus_after_all (waiting_of self.old) bus)) }
         ensures waiting { OnOk result (waiting_of self.new
             ≡ waiting_of self.old ++ listed effect.now.accesses) }
         ensures made { OnOk result (AreMade self.new) }
     {
         if effect.accesses.count == 0 {
-            push_line(&mut self.text, next.number, next.at, next.word, effect.reg)?;
+            push_line(&mut self.text, next.number, next.at, word, effect.reg)?;
             return Ok(());
         }
-        self.begin(next, effect)?;
+        self.begin(next, word, effect)?;
         self.open_second(&effect.accesses)?;
         push_line_end(&mut self.text)?;
         Ok(())
     }
 
     /// Writes the line of an instruction for which a byte is put out.
-    pub(crate) fn put_out(&mut self, next: &Upcoming, byte: u8) -> Result<(), NoMemory>
+    pub(crate) fn put_out(&mut self, next: &Upcoming, word: u32, byte: u8) -> Result<(), NoMemory>
         requires made { AreMade self.old }
         ensures text { OnOk result ((bus : ℕ → ℕ)
             → written_by self.new bus ≡ written_by self.old bus
-            ++ doing_line next.now.number next.now.at next.now.word (doings.Outputs byte) bus) }
+            ++ doing_line next.now.number next.now.at word (doings.Outputs byte) bus) }
         ensures waiting { OnOk result (waiting_of self.new ≡ waiting_of self.old) }
         ensures made { OnOk result (AreMade self.new) }
     {
-        push_head(&mut self.text, next.number, next.at, next.word)?;
+        push_head(&mut self.text, next.number, next.at, word)?;
         push_output(&mut self.text, byte)?;
         push_line_end(&mut self.text)?;
         Ok(())
@@ -114,12 +119,12 @@ impl Sheet {
     /// Writes the line of an instruction up to its first access, whose datum is waited for.
     // Inlined into the loop over the events, it would have each effect taken to pieces there and copied.
     #[inline(never)]
-    fn begin(&mut self, next: &Upcoming, effect: &Effect) -> Result<(), NoMemory>
+    fn begin(&mut self, next: &Upcoming, word: u32, effect: &Effect) -> Result<(), NoMemory>
         requires made { AreMade self.old }
         requires words { IsWordAccess effect.now.accesses.first }
         ensures text { OnOk result ((bus : ℕ → ℕ)
             → written_by self.new bus ≡ written_by self.old bus
-            ++ (head_text next.now.number next.now.at next.now.word ++ written_text effect.now.reg
+            ++ (head_text next.now.number next.now.at word ++ written_text effect.now.reg
             ++ access_text effect.now.accesses.first (bus_after_all (waiting_of self.old) bus))) }
         ensures waiting { OnOk result (waiting_of self.new
             ≡ waiting_of self.old ++ effect.now.accesses.first ∷ []) }
@@ -130,7 +135,7 @@ impl Sheet {
             &mut self.text,
             next.number,
             next.at,
-            next.word,
+            word,
             effect.reg,
             &access,
         )?;
@@ -194,18 +199,18 @@ impl Sheet {
     }
 
     /// Writes the data of all accesses that wait, of which there are three at most.
-    pub(crate) fn fill_all(&mut self, told: Data)
+    pub(crate) fn fill_all(&mut self, due: Data)
         requires { AreMade self.old }
         ensures text { (bus after : ℕ → ℕ)
-            → AreData (three_of told) (waiting_of self.old) bus
+            → AreData (three_of due) (waiting_of self.old) bus
             → length (waiting_of self.old) ≤ 3
             → written_by self.new after ≡ written_by self.old bus }
         ensures waiting { length (waiting_of self.old) ≤ 3 → waiting_of self.new ≡ [] }
         ensures made { AreMade self.new }
     {
-        self.fill(told.oldest);
-        self.fill(told.second);
-        self.fill(told.third);
+        self.fill(due.oldest);
+        self.fill(due.second);
+        self.fill(due.third);
     }
 
     /// The data that the next event of `r` may need, by the words that a board has now: that of the oldest access that
@@ -213,7 +218,7 @@ impl Sheet {
     pub(crate) fn data(&self, board: &Board) -> Data
         requires { AreMade self.now }
         ensures { length (waiting_of self.now) ≤ 3
-            → AreTold result (waiting_of self.now) (absent_of board.now.memory)
+            → AreDue result (waiting_of self.now) (absent_of board.now.memory)
             (bus_of board.now.memory) }
     {
         if self.waiting.is_empty() {

@@ -1,7 +1,7 @@
 //! What an event adds to a trace, by what was seen of the board before it.
 
 ghost use Rattle.std.specs.Prelude.{ℕ, Bool, ◌≡◌, ◌++◌, OnOk};
-ghost use Rattle.m88_board.specs.Told.{MakesWords};
+ghost use Rattle.m88_board.specs.Told.{IsTold, MakesWordAccesses};
 ghost use Rattle.m88_event.specs.Past.{HasPast};
 ghost use Rattle.m88_event.specs.Timeline.{DoneWereMade, Moment, absent_at, after_letter, said_at};
 ghost use Rattle.m88_event.specs.declared.letter.Letter.TheVariants as letters;
@@ -12,72 +12,74 @@ ghost use Rattle.m88_isa.specs.declared.planned.Effect.{Effect as EffectValue};
 ghost use Rattle.m88_isa.specs.declared.planned.Plan.TheVariants.{Go};
 ghost use Rattle.m88_trace.specs.Inside.Doings.{doing_line};
 ghost use Rattle.m88_trace.specs.Inside.Running.{IsNext, IsTraced};
-ghost use Rattle.m88_trace.specs.Inside.Sheets.{AreMade, AreTold, waiting_of, written_by};
+ghost use Rattle.m88_trace.specs.Inside.Sheets.{AreMade, AreDue, waiting_of, written_by};
 ghost use Rattle.m88_trace.specs.declared.doing.Doing.TheVariants as doings;
 
 use crate::sheet::{Data, Sheet};
 use crate::upcoming::Upcoming;
 use m88_base::NoMemory;
+use m88_board::Told;
 use m88_event::Happened;
 use m88_isa::Plan;
 
 impl Sheet {
-    /// Writes what an event of `i` adds, by what was seen before it.
+    /// Writes what an event of `i` adds, by what was seen before it and what it told.
     pub(crate) fn note_issue(
         &mut self,
         next: &Upcoming,
-        plan: &Plan,
+        told: &Told,
         happened: Happened,
     ) -> Result<(), NoMemory>
         requires made { AreMade self.old }
-        requires words { MakesWords plan.now }
+        requires words { MakesWordAccesses told.now.plan }
         ensures traced { OnOk result ((p : Program) (named : ℕ → Bool) (limit : ℕ) (m : Moment)
             → IsProgram p → HasPast p limit m → DoneWereMade p m
-            → IsNext p named limit m happened next.now plan.now
+            → IsNext p m next.now → IsTold p named limit m happened told.now
             → happened ≡ said_at p named limit letters.Issue m → IsTraced p m self.old
             → IsTraced p (after_letter p named limit letters.Issue m) self.new) }
         ensures made { OnOk result (AreMade self.new) }
     {
         match happened {
-            Happened::Issued => self.note_issued(next, plan),
-            Happened::Served(byte) => self.put_out(next, byte),
+            Happened::Issued => self.note_issued(next, told),
+            Happened::Served(byte) => self.put_out(next, told.word, byte),
             Happened::Ended(end) => self.end(end),
             _ => Ok(()),
         }
     }
 
     /// Writes the line of an instruction that was issued.
-    fn note_issued(&mut self, next: &Upcoming, plan: &Plan) -> Result<(), NoMemory>
+    fn note_issued(&mut self, next: &Upcoming, told: &Told) -> Result<(), NoMemory>
         requires made { AreMade self.old }
-        requires words { MakesWords plan.now }
-        ensures text { OnOk result ((bus : ℕ → ℕ) (effect : EffectValue) → plan.now ≡ Go effect
+        requires words { MakesWordAccesses told.now.plan }
+        ensures text { OnOk result ((bus : ℕ → ℕ) (effect : EffectValue)
+            → told.now.plan ≡ Go effect
             → written_by self.new bus ≡ written_by self.old bus
-            ++ doing_line next.now.number next.now.at next.now.word (doings.Goes effect)
+            ++ doing_line next.now.number next.now.at told.now.word (doings.Goes effect)
             (bus_after_all (waiting_of self.old) bus)) }
-        ensures waiting { OnOk result ((effect : EffectValue) → plan.now ≡ Go effect
+        ensures waiting { OnOk result ((effect : EffectValue) → told.now.plan ≡ Go effect
             → waiting_of self.new ≡ waiting_of self.old ++ listed effect.accesses) }
         ensures made { OnOk result (AreMade self.new) }
     {
-        match plan {
-            Plan::Go(effect) => self.issue(next, effect),
+        match &told.plan {
+            Plan::Go(effect) => self.issue(next, told.word, effect),
             _ => Ok(()),
         }
     }
 
     /// Writes what an event of `r` adds, by the data that were seen before it.
-    pub(crate) fn note_answer(&mut self, told: Data, happened: Happened)
+    pub(crate) fn note_answer(&mut self, due: Data, happened: Happened)
         requires { AreMade self.old }
         ensures traced { (p : Program) (named : ℕ → Bool) (limit : ℕ) (m : Moment)
             → HasPast p limit m → DoneWereMade p m
-            → AreTold told (pending_at p m.retired m.done) (absent_at named m)
+            → AreDue due (pending_at p m.retired m.done) (absent_at named m)
             (bus_at p m.retired m.done)
             → happened ≡ said_at p named limit letters.Answer m → IsTraced p m self.old
             → IsTraced p (after_letter p named limit letters.Answer m) self.new }
         ensures made { AreMade self.new }
     {
         match happened {
-            Happened::Answered => self.fill(told.oldest),
-            Happened::Faulted(_) => self.fill_all(told),
+            Happened::Answered => self.fill(due.oldest),
+            Happened::Faulted(_) => self.fill_all(due),
             _ => {}
         }
     }

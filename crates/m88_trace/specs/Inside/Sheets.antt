@@ -1,7 +1,7 @@
 -- A trace that is being written, of which some accesses wait for their data.
-use Rattle.std.specs.Prelude.{ℕ, Bool, true, List, [], ◌∷◌, ◌++◌, ◌≡◌, ◌≤◌, ◌+◌, drop, length, map, take}
+use Rattle.std.specs.Prelude.{ℕ, Bool, List, [], ◌∷◌, ◌++◌, ◌≡◌, ◌≤◌, ◌+◌, drop, length, map, take}
 use Rattle.m88_base.specs.Hex.{hex8}
-use Rattle.m88_base.specs.Pages.{page_number}
+use Rattle.m88_event.specs.Choice.{answer_choice, faults}
 use Rattle.m88_isa.specs.Bus.{bus_after}
 use Rattle.m88_isa.specs.Memory.{IsWordAccess}
 use Rattle.m88_isa.specs.declared.planned.Access.{Access}
@@ -57,13 +57,8 @@ AreData (datum ∷ values) (a ∷ accesses) bus = (datum ≡ datum_by a bus) × 
 abbrev pub three_of : Data → List ℕ
 three_of three = three.oldest ∷ three.second ∷ three.third ∷ []
 
--- the first of some accesses is one to an absent page
-abbrev pub MeetsAbsent : (ℕ → Bool) → List Access → Type 0
-MeetsAbsent absent [] = ⊥
-MeetsAbsent absent (a ∷ accesses) = absent (page_number a.addr) ≡ true
-
--- the data that an event of `r` may need of the accesses that wait: that of the oldest, and where its page is absent,
+-- the data that an event of `r` may need of the accesses that wait: that of the oldest, and where it meets its fault,
 -- those of all
-pub record AreTold (told : Data) (accesses : List Access) (absent : ℕ → Bool) (bus : ℕ → ℕ) : Type 0 where
-  pub oldest : AreData (told.oldest ∷ []) (take 1 accesses) bus
-  pub all : MeetsAbsent absent accesses → AreData (three_of told) accesses bus
+pub record AreDue (due : Data) (accesses : List Access) (absent : ℕ → Bool) (bus : ℕ → ℕ) : Type 0 where
+  pub oldest : AreData (due.oldest ∷ []) (take 1 accesses) bus
+  pub all : answer_choice accesses absent ≡ faults → AreData (three_of due) accesses bus

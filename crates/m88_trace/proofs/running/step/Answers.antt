@@ -6,8 +6,7 @@ use Rattle.m88_event.specs.Letters.{letter_at}
 use Rattle.m88_event.specs.Timeline.{after_letter, said_at}
 use Rattle.m88_event.specs.declared.letter.Letter.{Letter}
 use Rattle.m88_event.specs.declared.letter.Letter.TheVariants.{Issue, Answer, Evict}
-use Rattle.m88_isa.specs.Machine.{state}
-use Rattle.m88_trace.proofs.Noting.{data_at, evicted_note, few_wait, word_told}
+use Rattle.m88_trace.proofs.Noting.{data_at, evicted_note, few_wait}
 use Rattle.m88_trace.proofs.Writing.{ok_always, ok_on}
 use Rattle.m88_trace.specs.Inside.Running.{IsTraced}
 use Rattle.m88_trace.proofs.running.step.Goals as goal
@@ -28,15 +27,9 @@ returns-in_ok-happened-in-Issue-clause-traced c = ok_on c.note_issue.result c.no
     let limit = w.board.now.limit in
     let letter : letter_at w.schedule.now w.taken ≡ Issue = sym c.letter.ensures ∙ c.in-Issue.is in
     let there = subst (λ (b : BoardView). IsAt p named m b) (sym c.board.ensures) at in
-    let told = c.in_ok-happened-in-Issue.ensures.told letter p named m at in
     subst (λ (l : Letter). IsTraced p (after_letter p named limit l m) c.note_issue.new.self) (sym letter)
-    (noted p named limit m is at.past at.within
-    (record {
-      number = c.upcoming_on-next.ensures.number p named m there;
-      place = c.upcoming_on-next.ensures.place p named m there;
-      word = λ went. word_told p (state p m.retired).pc c.next_told.new.told.word (told.word went);
-      changes = told.plan;
-    })
+    (noted p named limit m is at.past at.within (c.upcoming_on-next.ensures p named m there)
+    (c.in_ok-happened-in-Issue.ensures.told letter p named m at)
     (c.in_ok-happened-in-Issue.ensures.said p named m at ∙ ap (λ (l : Letter). said_at p named limit l m) letter) traced))
 
 pub returns-in_ok-happened-in-Answer-clause-traced : goal.returns-in_ok-happened-in-Answer-clause-traced
@@ -45,10 +38,10 @@ returns-in_ok-happened-in-Answer-clause-traced c = λ p named m is at traced.
     let limit = w.board.now.limit in
     let letter : letter_at w.schedule.now w.taken ≡ Answer = sym c.letter.ensures ∙ c.in-Answer.is in
     let there = subst (λ (b : BoardView). IsAt p named m b) (sym c.board-in-Answer.ensures) at in
-    let told = data_at p named m c.board-in-Answer.result.now c.args.sheet.now c.data-told.result there traced
-    (c.data-told.ensures (few_wait p limit m c.args.sheet.now at.past traced)) in
+    let due = data_at p named m c.board-in-Answer.result.now c.args.sheet.now c.data-due.result there traced
+    (c.data-due.ensures (few_wait p limit m c.args.sheet.now at.past traced)) in
     subst (λ (l : Letter). IsTraced p (after_letter p named limit l m) c.note_answer.new.self) (sym letter)
-    (c.note_answer.ensures.traced p named limit m at.past at.within told
+    (c.note_answer.ensures.traced p named limit m at.past at.within due
     (c.in_ok-happened-in-Answer.ensures.said p named m at ∙ ap (λ (l : Letter). said_at p named limit l m) letter) traced)
 
 pub returns-in_ok-next-in-Evict-clause-traced : goal.returns-in_ok-next-in-Evict-clause-traced

@@ -15,7 +15,7 @@ overflow_sub-at c =
     let s = c.args.self.now in
     let next = c.args.next.now in
     let effect = c.args.effect.now in
-    let head = head_text next.number next.at next.word in
+    let head = head_text next.number next.at c.args.word in
     let written = written_text effect.reg in
     let new = c.push_begun.new.text.items in
     let put = begun_put s.text.items head written (access_head effect.accesses.first) (codes "????????") new
@@ -30,7 +30,7 @@ returns-clause-text c = λ bus.
     let s = c.args.self.now in
     let next = c.args.next.now in
     let a = c.args.effect.now.accesses.first in
-    let head = head_text next.number next.at next.word in
+    let head = head_text next.number next.at c.args.word in
     let written = written_text c.args.effect.now.reg in
     let all = head ++ written ++ access_head a in
     let w : Waiting = record { access = a; at = c.len-at.result - 8 } in
@@ -54,7 +54,7 @@ returns-clause-made c =
     let s = c.args.self.now in
     let next = c.args.next.now in
     let a = c.args.effect.now.accesses.first in
-    let head = head_text next.number next.at next.word in
+    let head = head_text next.number next.at c.args.word in
     let written = written_text c.args.effect.now.reg in
     let all = head ++ written ++ access_head a in
     let w : Waiting = record { access = a; at = c.len-at.result - 8 } in

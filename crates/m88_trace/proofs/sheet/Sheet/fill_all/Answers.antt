@@ -4,7 +4,7 @@ use Rattle.m88_trace.proofs.sheet.Sheet.fill_all.Goals as goal
 
 pub returns-clause-text : goal.returns-clause-text
 returns-clause-text c = λ bus after are few.
-    three_filled c.args.told.oldest c.args.told.second c.args.told.third c.args.self.now c.fill.new.self
+    three_filled c.args.due.oldest c.args.due.second c.args.due.third c.args.self.now c.fill.new.self
     c.fill-2.new.self c.fill-3.new.self
     bus after c.fill.ensures.text c.fill-2.ensures.text c.fill-3.ensures.text c.fill.ensures.waiting
     c.fill-2.ensures.waiting c.fill-3.ensures.waiting are few

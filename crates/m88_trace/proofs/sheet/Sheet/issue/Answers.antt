@@ -12,7 +12,7 @@ pub returns-then-effect-eq0-clause-text : goal.returns-then-effect-eq0-clause-te
 returns-then-effect-eq0-clause-text c = λ bus.
     let s = c.args.self.now in
     let next = c.args.next.now in
-    let head = head_text next.number next.at next.word in
+    let head = head_text next.number next.at c.args.word in
     let written = written_text c.args.effect.now.reg in
     more_by s.text.items c.push_line.new.text.items (head ++ written ++ line_end) s.waiting.items bus
     c.requires.made.room c.in_ok-push_line.ensures
@@ -27,7 +27,7 @@ returns-then-effect-eq0-clause-made c =
       words = c.requires.made.words;
       room =
           room_by s.text.items c.push_line.new.text.items
-          (head_text next.number next.at next.word ++ written_text c.args.effect.now.reg ++ line_end) s.waiting.items
+          (head_text next.number next.at c.args.word ++ written_text c.args.effect.now.reg ++ line_end) s.waiting.items
           c.requires.made.room c.in_ok-push_line.ensures;
     }
 
@@ -40,7 +40,7 @@ returns-clause-text c = λ bus.
     let t = c.open_second.new.self in
     let new = c.push_line_end.new.text.items in
     line_by (written_by s bus) (written_by begun bus) (written_by t bus) (text_by new t.waiting.items bus)
-    (head_text next.number next.at next.word) (written_text effect.reg) (waiting_of s) (waiting_of begun)
+    (head_text next.number next.at c.args.word) (written_text effect.reg) (waiting_of s) (waiting_of begun)
     effect.accesses
     bus (omega arith) (c.in_ok-begin.ensures.text bus) c.in_ok-begin.ensures.waiting
     (c.in_ok-open_second.ensures.text bus)

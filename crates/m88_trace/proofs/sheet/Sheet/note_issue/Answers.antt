@@ -2,39 +2,39 @@
 use Rattle.std.proofs.Common.{sym, subst, ◌∙◌}
 use Rattle.m88_trace.proofs.Noting.{ended_note, issue_quiet, issued_note, served_note, traced_same}
 use Rattle.m88_trace.proofs.Writing.{ok_both}
+use Rattle.m88_board.specs.Told.{IsTold}
 use Rattle.m88_event.specs.Timeline.{after_letter}
 use Rattle.m88_event.specs.declared.happened.Happened.{Happened}
 use Rattle.m88_event.specs.declared.letter.Letter.TheVariants.{Issue}
-use Rattle.m88_trace.specs.Inside.Running.{IsNext}
 use Rattle.m88_trace.proofs.sheet.Sheet.note_issue.Goals as goal
 
 pub returns-in-Issued-clause-traced : goal.returns-in-Issued-clause-traced
 returns-in-Issued-clause-traced c =
     ok_both c.note_issued.result c.note_issued.ensures.text c.note_issued.ensures.waiting
-    (λ text waiting p named limit m is past made seen says traced.
-    issued_note p named limit m c.args.self.now c.note_issued.new.self c.args.next.now c.args.plan.now is past made
-    (subst (λ (h : Happened). IsNext p named limit m h c.args.next.now c.args.plan.now) c.in-Issued.is seen)
+    (λ text waiting p named limit m is past made seen tells says traced.
+    issued_note p named limit m c.args.self.now c.note_issued.new.self c.args.next.now c.args.told.now is past made seen
+    (subst (λ (h : Happened). IsTold p named limit m h c.args.told.now) c.in-Issued.is tells)
     (sym c.in-Issued.is ∙ says) text waiting
     traced)
 
 pub returns-in-Served-clause-traced : goal.returns-in-Served-clause-traced
 returns-in-Served-clause-traced c =
     ok_both c.put_out.result c.put_out.ensures.text c.put_out.ensures.waiting
-    (λ text waiting p named limit m is past made seen says traced.
-    served_note p named limit m c.args.self.now c.put_out.new.self c.args.next.now c.args.plan.now c.in-Served.byte is
-    past made (subst (λ (h : Happened). IsNext p named limit m h c.args.next.now c.args.plan.now) c.in-Served.is seen)
+    (λ text waiting p named limit m is past made seen tells says traced.
+    served_note p named limit m c.args.self.now c.put_out.new.self c.args.next.now c.args.told.now c.in-Served.byte is
+    past made seen (subst (λ (h : Happened). IsTold p named limit m h c.args.told.now) c.in-Served.is tells)
     (sym c.in-Served.is ∙ says)
     text waiting traced)
 
 pub returns-in-Ended-clause-traced : goal.returns-in-Ended-clause-traced
 returns-in-Ended-clause-traced c =
     ok_both c.end.result c.end.ensures.text c.end.ensures.waiting
-    (λ text waiting p named limit m is past made seen says traced.
+    (λ text waiting p named limit m is past made seen tells says traced.
     ended_note p named limit m c.args.self.now c.end.new.self c.in-Ended.end is past (sym c.in-Ended.is ∙ says) text
     waiting traced)
 
 pub returns-in_default-clause-traced : goal.returns-in_default-clause-traced
-returns-in_default-clause-traced c = λ p named limit m is past made seen says traced.
+returns-in_default-clause-traced c = λ p named limit m is past made seen tells says traced.
     traced_same p (after_letter p named limit Issue m) m c.args.self.now
     (issue_quiet p named limit m (λ e. c.in_default.not-Issued (says ∙ sym e))
     (λ byte e. c.in_default.not-Served byte (says ∙ sym e))

@@ -9,7 +9,7 @@ pub returns-clause-text : goal.returns-clause-text
 returns-clause-text c = λ bus.
     let s = c.args.self.now in
     let next = c.args.next.now in
-    let head = head_text next.number next.at next.word in
+    let head = head_text next.number next.at c.args.word in
     let output = output_text c.args.byte in
     let headed = c.push_head.new.text.items in
     let told = c.push_output.new.text.items in
@@ -31,7 +31,7 @@ returns-clause-made c =
       words = c.requires.made.words;
       room = room_by c.push_output.new.text.items c.push_line_end.new.text.items line_end s.waiting.items
           (room_two s.text.items c.push_head.new.text.items c.push_output.new.text.items
-          (head_text next.number next.at next.word)
+          (head_text next.number next.at c.args.word)
           (output_text c.args.byte) s.waiting.items c.requires.made.room c.in_ok-push_head.ensures
           c.in_ok-push_output.ensures)
           c.in_ok-push_line_end.ensures;
