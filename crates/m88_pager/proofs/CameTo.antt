@@ -1,19 +1,25 @@
 -- The frames are flushed, and what the run came to is told.
-use Rattle.std.specs.Prelude.{ℕ, Bool, List, [], Option, ◌≡◌, ◌+◌, ◌^◌, map}
+use Rattle.std.specs.Prelude.{ℕ, Bool, List, [], Option, true, ◌≡◌, ◌+◌, ◌^◌, map}
 use Rattle.std.specs.BTreeSet.{contains}
 use Rattle.std.specs.Ordering.{nat_cmp}
 use Rattle.std.proofs.Common.{sym, ap, ap₂, subst, ◌∙◌}
-use Rattle.m88_base.specs.Image.{ProgramImage}
-use Rattle.m88_event.specs.Run.{outcome_at}
-use Rattle.m88_event.specs.Timeline.{Moment}
+use Rattle.m88_base.specs.Image.{IsImage, ProgramImage}
+use Rattle.m88_board.specs.Board.{BoardView, local_of}
+use Rattle.m88_board.specs.Moves.{IsAt}
+use Rattle.m88_event.specs.Local.{is_over_by}
+use Rattle.m88_event.specs.Run.{IsRun, moment_after, outcome_at}
+use Rattle.m88_event.specs.Timeline.{Moment, is_over}
+use Rattle.m88_event.specs.declared.letter.Letter.{Letter}
 use Rattle.m88_event.specs.declared.outcome.Outcome.{Outcome}
+use Rattle.m88_isa.proofs.ImageProgram.{program_of_image}
 use Rattle.m88_isa.proofs.InWords.{state_bus, state_bytes}
 use Rattle.m88_isa.specs.Bus.{bus_after_all, changed_words, in_words}
 use Rattle.m88_isa.specs.History.{transactions}
+use Rattle.m88_isa.specs.ImageProgram.{IsProgramOf}
 use Rattle.m88_isa.specs.Machine.{IsProgram, Program, opening, state}
 use Rattle.m88_isa.specs.declared.planned.Access.{Access}
 use Rattle.m88_mem.specs.DataBus.{image_bus, image_bytes}
-use Rattle.m88_pager.proofs.Walking.{holds_written, stands_alone}
+use Rattle.m88_pager.proofs.Walking.{IsThere, all_done, holds_written, opens_so, over_there, stands_alone}
 use Rattle.m88_pager.proofs.Words.{words_stay, words_there}
 use Rattle.m88_pager.specs.Frames.{Frames as FramesSeen, dirty_count, ins_along, outs_along}
 use Rattle.m88_pager.specs.Inside.Bytes.{in_bytes}
@@ -24,7 +30,8 @@ use Rattle.m88_pager.specs.Inside.Told.{AreChanged}
 use Rattle.m88_pager.specs.Pages.{HoldsWhereTold, page_of, writes_page}
 use Rattle.m88_pager.specs.Store.{PageMap}
 use Rattle.m88_pager.specs.declared.frames.Frame.{Frame}
-use Rattle.m88_pager.specs.declared.frames.Frames.{Frames}
+use Rattle.m88_pager.specs.declared.frames.Frames.{Frames as Paging}
+use Rattle.m88_pager.specs.declared.paged.Paged.{Paged}
 
 -- the outcome with other words in place of those that changed
 abbrev with_words : Outcome → List (ℕ × ℕ) → Outcome
@@ -49,8 +56,8 @@ all_words : (old new : ℕ → ℕ) (words : List (ℕ × ℕ)) → words ≡ Ra
 unfolding changed_words
 all_words old new words is = is
 
-pub came_to : (p : Program) (m : Moment) (most : ℕ) (image : ProgramImage) (f g : Frames) (o : Outcome) (words : List (ℕ × ℕ))
-    (told now : Option PageMap) → IsProgram p → image_bus image ≡ in_words (opening p).memory → o ≡ outcome_at p m →
+pub came_to : (p : Program) (m : Moment) (most : ℕ) (image : ProgramImage) (f g : Paging) (o : Outcome)
+    (words : List (ℕ × ℕ)) (told now : Option PageMap) → IsProgram p → image_bus image ≡ in_words (opening p).memory → o ≡ outcome_at p m →
     AreCarried (image_bytes image) most (transactions p m.retired) f told →
     g.cache.entries ≡ [] →
     g.ins ≡ f.ins →
@@ -88,3 +95,26 @@ came_to p m most image f g o words told now is same value carried none ins outs 
           subst (λ (n : ℕ). HoldsWhereTold (writes_page (transactions p n)) (state p n).memory now) (sym retired)
           (holds_written original (state p m.retired).memory bus (writes_page xs) (held_by g) now history (state_bytes p m.retired is) alone);
     }
+
+-- a run that is over has its events, and came to what the last moment says
+pub ends : (p : Program) {named : ℕ → Bool} {limit : ℕ} {schedule : List Letter} {k most : ℕ} (image : ProgramImage)
+    {b last : BoardView} {f : Paging} {told now : Option PageMap} {o : Paged} → IsImage image → IsProgramOf image p →
+    b.limit ≡ limit →
+    is_over_by b.limit (local_of b) ≡ true →
+    IsThere p named limit schedule k (image_bytes image) most b f told →
+    last ≡ b →
+    ((q : Program) (names : ℕ → Bool) (m : Moment) (count : ℕ) → IsProgram q →
+    image_bus image ≡ in_words (opening q).memory → IsAt q names m last → is_over q last.limit m ≡ true →
+    AreCarried (image_bytes image) count (transactions q m.retired) f told → CameTo q count m o now) →
+    IsRun p named limit schedule k × CameTo p most (moment_after p named limit schedule k) o now
+ends p {named} {limit} {schedule} {k} {most} image {b} {last} {f} {told} is of limits over there same came =
+    let m : Moment = moment_after p named limit schedule k in
+    let here : is_over p b.limit m ≡ true = over_there p named b.limit m b there.at ∙ over in
+    let so : is_over p limit m ≡ true = ap (λ (n : ℕ). is_over p n m) (sym limits) ∙ here in (
+      record { here = so; first = there.first },
+      came p named m most (program_of_image image p is of) (opens_so p image of)
+          (subst (λ (x : BoardView). IsAt p named m x) (sym same) there.at)
+          (ap (λ (x : BoardView). is_over p x.limit m) same ∙ here)
+          (subst (λ (xs : List Access). AreCarried (image_bytes image) most xs f told) (all_done p limit m so)
+          there.carried),
+    )

@@ -1,21 +1,17 @@
 -- The transactions that an event answers or finishes are the oldest pending ones, in order.
-use Rattle.std.specs.Prelude.{ℕ, zero, suc, Bool, true, false, List, [], ◌∷◌, ◌++◌, All, Option, Some, None, ◌≡◌, ◌<◌, ◌≤◌, ◌+◌, ◌-◌, drop, length, map, slice_index_or, take, if◌then◌else◌}
-use Rattle.std.proofs.Common.{arith, length-take, refl, sym, ap, ap₂, subst, ◌∙◌}
+use Rattle.std.specs.Prelude.{ℕ, zero, suc, Bool, List, [], ◌∷◌, ◌++◌, All, ◌≡◌, ◌<◌, ◌≤◌, ◌+◌, ◌-◌, drop, length, map, slice_index_or, take}
+use Rattle.std.proofs.Common.{arith, length-drop, length-take, refl, sym, ap, ap₂, subst, ◌∙◌}
 use Rattle.std.proofs.lemmas.List.{get_or-take, take-append-le}
-use Rattle.m88_base.specs.Pages.{page_number}
 use Rattle.m88_base.specs.declared.triple.Triple.{Triple}
 use Rattle.m88_event.proofs.Follows.{Fits, fits, more_transactions}
-use Rattle.m88_event.specs.Choice.{Choice, answer_choice, choice_of, evicts, faults, finishes, holds, idles, issue_choice, issues, next_choice, passes, replies, serves, turn_choice}
-use Rattle.m88_event.specs.Local.{Local, move, move_by, situation_of}
+use Rattle.m88_event.specs.Choice.{Choice, choice_of, evicts, faults, finishes, holds, idles, issues, passes, replies, serves}
 use Rattle.m88_event.specs.Situation.{record_of}
 use Rattle.m88_event.specs.Timeline.{DoneWereMade, Moment, after_choice, after_letter, situation_at}
 use Rattle.m88_event.specs.declared.letter.Letter.{Letter}
-use Rattle.m88_event.specs.declared.letter.Letter.TheVariants.{Issue, Answer, Evict}
 use Rattle.m88_event.specs.declared.record.Record.{Record}
 use Rattle.m88_isa.proofs.Told.{told_of}
-use Rattle.m88_isa.specs.Held.{Hold}
 use Rattle.m88_isa.specs.History.{change_accesses, pending_at, transaction_count, transactions}
-use Rattle.m88_isa.specs.Machine.{Program, Turn, changes, outputs, stops}
+use Rattle.m88_isa.specs.Machine.{Program, changes, outputs}
 use Rattle.m88_isa.specs.Memory.{IsWordAccess}
 use Rattle.m88_isa.specs.Triples.{access_in, triples_of}
 use Rattle.m88_isa.specs.declared.planned.Access.{Access}
@@ -81,50 +77,31 @@ done_ahead p named limit letter m made =
     by_choice p m (choice_of p letter (situation_at p named limit m)) (record_of p (situation_at p named limit m)) made
     (fits p named limit letter m)
 
--- what a board shows of it: no fewer are done, and no more than were pending
-Between : Local → Local → Type 0
-Between old new = (old.done ≤ new.done) × (new.done ≤ old.done + length old.pending)
+-- no fewer are done after it, and no more than were made
+done_by : (p : Program) (m : Moment) (choice : Choice) (fault : Record) → m.done ≤ transaction_count p m.retired →
+    Fits p m choice →
+    (m.done ≤ (after_choice p choice fault m).done)
+    × ((after_choice p choice fault m).done ≤ transaction_count p m.retired)
+done_by p m idles fault made fit = (omega arith, made)
+done_by p m passes fault made fit = (omega arith, made)
+done_by p m (holds why) fault made fit = (omega arith, made)
+done_by p m (issues change) fault made fit = (omega arith, made)
+done_by p m (serves byte) fault made fit = (omega arith, made)
+done_by p m (finishes stop) fault made fit = (omega arith, made)
+done_by p m replies fault made fit = (omega arith, omega (arith, fit))
+done_by p m faults fault made fit = (made, omega arith)
+done_by p m evicts fault made fit = (omega arith, made)
 
-between_turn : (turn : Turn) (fault : Record) (l : Local) → Between l (move_by (turn_choice turn) fault l)
-unfolding Between
-between_turn (changes change) fault l = (omega arith, omega arith)
-between_turn (outputs byte) fault l = (omega arith, omega arith)
-between_turn (stops stop) fault l = (omega arith, omega arith)
-
-between_hold : (why : Option Hold) (turn : Turn) (fault : Record) (l : Local) → Between l (move_by (next_choice why turn) fault l)
-unfolding Between
-between_hold None turn fault l = between_turn turn fault l
-between_hold (Some why) turn fault l = (omega arith, omega arith)
-
-between_issue : (idle bubble : Bool) (why : Option Hold) (turn : Turn) (fault : Record) (l : Local) →
-    Between l (move_by (issue_choice idle bubble why turn) fault l)
-unfolding Between
-between_issue true bubble why turn fault l = (omega arith, omega arith)
-between_issue false true why turn fault l = (omega arith, omega arith)
-between_issue false false why turn fault l = between_hold why turn fault l
-
-between_page : (absent : Bool) (fault : Record) (l : Local) → 1 ≤ length l.pending → Between l (move_by (if absent then faults else replies) fault l)
-unfolding Between
-between_page true fault l h = (omega arith, omega arith)
-between_page false fault l h = (omega arith, omega (arith, h))
-
-between_answer : (pending : List Access) (absent : ℕ → Bool) (fault : Record) (l : Local) → length pending ≤ length l.pending →
-    Between l (move_by (answer_choice pending absent) fault l)
-unfolding Between
-between_answer [] absent fault l h = (omega arith, omega arith)
-between_answer (a ∷ pending) absent fault l h = between_page (absent (page_number a.addr)) fault l (omega (arith, h))
-
-by_letter : (p : Program) (limit : ℕ) (letter : Letter) (fault : Record) (l : Local) →
-    Between l (move_by (choice_of p letter (situation_of limit l)) fault l)
-unfolding Between situation_of
-by_letter p limit Issue fault l = between_issue _ _ _ _ fault l
-by_letter p limit Answer fault l = between_answer l.pending l.absent fault l (omega arith)
-by_letter p limit Evict fault l = (omega arith, omega arith)
-
-pub done_between : (p : Program) (limit : ℕ) (letter : Letter) (l : Local) →
-    (l.done ≤ (move p limit letter l).done) × ((move p limit letter l).done ≤ l.done + length l.pending)
-unfolding move Between
-done_between p limit letter l = by_letter p limit letter (record_of p (situation_of limit l)) l
+pub done_after : (p : Program) (named : ℕ → Bool) (limit : ℕ) (letter : Letter) (m : Moment) → DoneWereMade p m →
+    (m.done ≤ (after_letter p named limit letter m).done)
+    × ((after_letter p named limit letter m).done ≤ m.done + length (pending_at p m.retired m.done))
+unfolding after_letter
+done_after p named limit letter m made =
+    let now = situation_at p named limit m in
+    let done = done_by p m (choice_of p letter now) (record_of p now) made (fits p named limit letter m) in
+    let high = done.1 in
+    let left = length-drop m.done (transactions p m.retired) in
+    (done.0, omega (arith, high, left))
 
 -- the words of pending transactions tell the first of them
 first_word : (a : Access) (rest : List Access) → All IsWordAccess (a ∷ rest) → IsWordAccess a

@@ -11,17 +11,13 @@ use Rattle.m88_board.proofs.AtMoment.{done_at}
 use Rattle.m88_board.proofs.Starting.{same_bytes}
 use Rattle.m88_board.proofs.Walking.{not_yet}
 use Rattle.m88_board.specs.Board.{BoardView, local_of}
-use Rattle.m88_board.specs.Kept.{IsKept}
 use Rattle.m88_board.specs.Moves.{IsAt}
-use Rattle.m88_event.proofs.Bound.{lessens}
 use Rattle.m88_event.proofs.Over.{same_over}
-use Rattle.m88_event.specs.Bound.{weight}
 use Rattle.m88_event.specs.Letters.{letter_at}
-use Rattle.m88_event.specs.Local.{Local, is_over_by, local_at, move}
+use Rattle.m88_event.specs.Local.{Local, is_over_by, local_at}
 use Rattle.m88_event.specs.Run.{NotBefore, moment_after, moment_along}
 use Rattle.m88_event.specs.Timeline.{Moment, after_letter, is_over, opening_moment}
 use Rattle.m88_event.specs.declared.letter.Letter.{Letter}
-use Rattle.m88_isa.proofs.ImageProgram.{program_of_image}
 use Rattle.m88_isa.specs.Bus.{bus_after_all, in_words}
 use Rattle.m88_isa.specs.History.{pending_at, transaction_count, transactions}
 use Rattle.m88_isa.specs.ImageProgram.{IsProgramOf}
@@ -29,7 +25,7 @@ use Rattle.m88_isa.specs.Lanes.{AreBytes}
 use Rattle.m88_isa.specs.Machine.{Program, opening}
 use Rattle.m88_isa.specs.declared.planned.Access.{Access}
 use Rattle.m88_mem.specs.DataBus.{image_bus, image_bytes}
-use Rattle.m88_pager.proofs.Transacted.{done_ahead, done_between, done_of}
+use Rattle.m88_pager.proofs.Transacted.{done_after, done_ahead, done_of}
 use Rattle.m88_pager.proofs.Words.{bytes_back}
 use Rattle.m88_pager.specs.Frames.{frames_after}
 use Rattle.m88_pager.specs.Inside.Bytes.{in_bytes}
@@ -41,29 +37,6 @@ use Rattle.m88_pager.specs.Pages.{HoldsWhereTold, page_of}
 use Rattle.m88_pager.specs.Store.{PageMap}
 use Rattle.m88_pager.specs.declared.frames.Frame.{Frame}
 use Rattle.m88_pager.specs.declared.frames.Frames.{Frames}
-
--- no fewer transactions are done after an event, and no more than were pending
-pub done_grew : (p : Program) (letter : Letter) (b c : BoardView) → local_of c ≡ move p b.limit letter (local_of b) →
-    (b.done ≤ c.done) × (c.done ≤ b.done + length b.pending)
-unfolding local_of
-done_grew p letter b c moved =
-    let between = done_between p b.limit letter (local_of b) in
-    let done = ap (λ (l : Local). l.done) moved in
-    let low = between.0 in
-    let high = between.1 in
-    (omega (arith, low, done), omega (arith, high, done))
-
--- it takes something off the weight of what is left of a run
-pub less_weight : (p : Program) (letter : Letter) (b c : BoardView) (schedule : List Letter) (taken : ℕ) → IsKept b →
-    IsProgramOf b.memory.image p → local_of c ≡ move p b.limit letter (local_of b) → is_over_by b.limit (local_of b) ≡ false →
-    letter ≡ letter_at schedule taken →
-    weight schedule b.limit (taken + 1) (local_of c) < weight schedule b.limit taken (local_of b)
-unfolding local_of
-less_weight p letter b c schedule taken kept of moved goes next =
-    let is = program_of_image b.memory.image p kept.image of in
-    let less = lessens p b.limit schedule taken (local_of b) is kept.within goes in
-    let same = ap (weight schedule b.limit (taken + 1)) (moved ∙ ap (λ (x : Letter). move p b.limit x (local_of b)) next) in
-    omega (arith, less, same)
 
 -- the bytes of an image are bytes
 byte_there : (byte : Option ℕ) (a : ℕ) → IfSome byte (λ b. (a < 2 ^ 32) × (b < 256)) → unwrap_or byte 0 < 2 ^ 8
@@ -117,47 +90,76 @@ pub record IsThere (p : Program) (named : ℕ → Bool) (limit : ℕ) (schedule 
   pub first : NotBefore (λ j. is_over p limit (moment_after p named limit schedule j)) k
   pub carried : AreCarried original most (done_of p (moment_after p named limit schedule k)) f told
 
-pub there_first : (p : Program) (named : ℕ → Bool) (limit : ℕ) (schedule : List Letter) (original : ℕ → ℕ) (most : ℕ) (b : BoardView)
-    (f : Frames) (told : Option PageMap) → IsAt p named opening_moment b → AreCarried original most [] f told →
-    IsThere p named limit schedule 0 original most b f told
+pub there_first : (p : Program) (named : ℕ → Bool) (limit : ℕ) (schedule : List Letter) (k : ℕ) (original : ℕ → ℕ)
+    (most : ℕ) (b : BoardView) (f : Frames) (told : Option PageMap) → k ≡ 0 → IsAt p named opening_moment b →
+    AreCarried original most [] f told →
+    IsThere p named limit schedule k original most b f told
 unfolding moment_along transactions
-there_first p named limit schedule original most b f told at carried = record {
-  at = at;
-  first = λ j h. absurd (omega (arith, h));
-  carried = carried;
-}
+there_first p named limit schedule k original most b f told e at carried =
+    subst (λ (n : ℕ). IsThere p named limit schedule n original most b f told) (sym e) (record {
+      at = at;
+      first = λ j h. absurd (omega (arith, h));
+      carried = carried;
+    })
 
 -- whether the run is over is seen
 pub over_there : (p : Program) (named : ℕ → Bool) (limit : ℕ) (m : Moment) (b : BoardView) → IsAt p named m b →
     is_over p limit m ≡ is_over_by limit (local_of b)
 over_there p named limit m b at = sym (same_over p named limit m at.within) ∙ ap (is_over_by limit) (sym at.seen)
 
+-- of the board that a walk shows
+pub over_shown : {shown b : BoardView} {over : Bool} → shown ≡ b → over ≡ is_over_by shown.limit (local_of shown) →
+    is_over_by b.limit (local_of b) ≡ over
+over_shown same over = ap (λ (x : BoardView). is_over_by x.limit (local_of x)) (sym same) ∙ sym over
+
+-- what is pending is that of the moment
 pending_there : (p : Program) (named : ℕ → Bool) (m : Moment) (b : BoardView) → IsAt p named m b → b.pending ≡ pending_at p m.retired m.done
 unfolding local_of local_at
 pending_there p named m b at = ap (λ (l : Local). l.pending) at.seen
 
-pub there_next : (p : Program) (named : ℕ → Bool) (limit : ℕ) (schedule : List Letter) (k : ℕ) (original : ℕ → ℕ) (most : ℕ)
-    (b c : BoardView) (f g : Frames) (told now : Option PageMap) (letter : Letter) →
+-- no fewer transactions are done after an event, and no more than were pending
+pub done_grew : (letter : Letter) (b c : BoardView) →
+    (p : Program) × (named : ℕ → Bool) × (m : Moment) × IsAt p named m b →
+    ((p : Program) (named : ℕ → Bool) (m : Moment) → IsAt p named m b →
+    IsAt p named (after_letter p named b.limit letter m) c) →
+    (b.done ≤ c.done) × (c.done ≤ b.done + length b.pending)
+done_grew letter b c there next =
+    let p = there.0 in
+    let named = there.1 in
+    let m = there.2 in
+    let at = there.3 in
+    let after = done_after p named b.limit letter m at.within in
+    let low = after.0 in
+    let high = after.1 in
+    let old = done_at p named m b at in
+    let new = done_at p named (after_letter p named b.limit letter m) c (next p named m at) in
+    let left = ap (λ (xs : List Access). length xs) (pending_there p named m b at) in
+    (omega (arith, low, old, new), omega (arith, high, old, new, left))
+
+pub there_next : {p : Program} {named : ℕ → Bool} {limit : ℕ} {schedule letters : List Letter} {k last : ℕ}
+    {original : ℕ → ℕ} {most : ℕ} {b c : BoardView} {f g : Frames} {told now : Option PageMap} →
     b.limit ≡ limit →
-    letter ≡ letter_at schedule k →
+    letters ≡ schedule →
+    last ≡ k + 1 →
     is_over_by limit (local_of b) ≡ false →
     IsThere p named limit schedule k original most b f told →
-    ((m : Moment) → IsAt p named m b → IsAt p named (after_letter p named b.limit letter m) c) →
+    ((m : Moment) → IsAt p named m b → IsAt p named (after_letter p named b.limit (letter_at letters k) m) c) →
     ((accesses : List Access) → AreCarried original most accesses f told →
     AreCarried original most (accesses ++ take (c.done - b.done) b.pending) g now) →
-    IsThere p named limit schedule (k + 1) original most c g now
+    IsThere p named limit schedule last original most c g now
 unfolding moment_along
-there_next p named limit schedule k original most b c f g told now letter limits next goes there timeline carries =
+there_next {p} {named} {limit} {schedule} {letters} {k} {original} {most} {b} {c} {g} {now} limits same counts goes
+    there next carries =
     let m : Moment = moment_after p named limit schedule k in
     let n : Moment = after_letter p named limit (letter_at schedule k) m in
-    let same : after_letter p named b.limit letter m ≡ n =
-    ap₂ (λ (most : ℕ) (x : Letter). after_letter p named most x m) limits next in
-    let at : IsAt p named n c = subst (λ (x : Moment). IsAt p named x c) same (timeline m there.at) in
+    let so : after_letter p named b.limit (letter_at letters k) m ≡ n =
+    ap₂ (λ (most : ℕ) (xs : List Letter). after_letter p named most (letter_at xs k) m) limits same in
+    let at : IsAt p named n c = subst (λ (x : Moment). IsAt p named x c) so (next m there.at) in
     let path : done_of p m ++ take (c.done - b.done) b.pending ≡ done_of p n =
     ap₂ (λ (count : ℕ) (xs : List Access). done_of p m ++ take count xs)
     (ap₂ (λ (x y : ℕ). x - y) (done_at p named n c at) (done_at p named m b there.at)) (pending_there p named m b there.at)
     ∙ sym (done_ahead p named limit (letter_at schedule k) m there.at.within) in
-    subst (λ (j : ℕ). IsThere p named limit schedule j original most c g now) (sym (add-one k)) (record {
+    subst (λ (j : ℕ). IsThere p named limit schedule j original most c g now) (sym (counts ∙ add-one k)) (record {
       at = at;
       first = not_yet (λ j. is_over p limit (moment_after p named limit schedule j)) k there.first
           (over_there p named limit m b there.at ∙ goes);
@@ -205,14 +207,6 @@ stands_alone original bus written held None tells s = absurd tells
 stands_alone original bus written held (Some pages) tells s = s
 
 -- at first
-pub opens_empty : (p : Program) (named : ℕ → Bool) (b : BoardView) → IsAt p named opening_moment b → b.pending ≡ []
-unfolding local_of local_at transactions
-opens_empty p named b at = ap (λ (l : Local). l.pending) at.seen
-
-pub opens_empty_seen : (p : Program) (named : ℕ → Bool) (b : BoardView) → IsAt p named opening_moment b → (local_of b).pending ≡ []
-unfolding local_of local_at transactions
-opens_empty_seen p named b at = ap (λ (l : Local). l.pending) at.seen
-
 pub none_within : (n : ℕ) (f : Frames) → f.cache.entries ≡ [] → f.ins ≡ 0 → f.outs ≡ 0 → IsWithin n f
 none_within n f none ins outs = record {
   whole = subst (λ (es : List (ℕ × Frame)). (k : ℕ) (d : ℕ × Frame) → k < length es → IsWhole (Rattle.std.specs.Prelude.slice_index_or es k d)) (sym none)
@@ -220,19 +214,6 @@ none_within n f none ins outs = record {
   ins = omega (arith, ins);
   outs = omega (arith, outs);
 }
-
--- once the run is over
-pub there_over : (p : Program) (named : ℕ → Bool) (limit : ℕ) (schedule : List Letter) (k : ℕ) (original : ℕ → ℕ) (most : ℕ)
-    (b : BoardView) (f : Frames) (told : Option PageMap) → b.limit ≡ limit → is_over_by b.limit (local_of b) ≡ true →
-    IsThere p named limit schedule k original most b f told →
-    (is_over p limit (moment_after p named limit schedule k) ≡ true)
-    × (is_over p b.limit (moment_after p named limit schedule k) ≡ true)
-    × AreCarried original most (transactions p (moment_after p named limit schedule k).retired) f told
-there_over p named limit schedule k original most b f told limits over there =
-    let m : Moment = moment_after p named limit schedule k in
-    let here : is_over p b.limit m ≡ true = over_there p named b.limit m b there.at ∙ over in
-    let so : is_over p limit m ≡ true = ap (λ (n : ℕ). is_over p n m) (sym limits) ∙ here in
-    (so, here, subst (λ (xs : List Access). AreCarried original most xs f told) (all_done p limit m so) there.carried)
 
 -- memory of a program at first is that of its image
 pub opens_so : (p : Program) (image : ProgramImage) → IsProgramOf image p → image_bus image ≡ in_words (opening p).memory

@@ -110,7 +110,7 @@ impl Frames {
         ensures fault { EndsByCount (P.faults store.old) (P.faults store.new) result }
     {
         // That no page stands in two frames is told with their number.
-        let _ = self.cache.len();
+        prove!(self.cache.len() <= self.cache.cap().get());
         let Some((page, frame)) = self.cache.pop_lru() else {
             unreachable!();
         };
@@ -227,7 +227,7 @@ impl Frames {
         ensures fault { EndsByCount (P.faults store.old) (P.faults store.new) result }
     {
         // That no page stands in two frames is told with their number.
-        let _ = self.cache.len();
+        prove!(self.cache.len() <= self.cache.cap().get());
         match self.cache.pop(&page) {
             Some(frame) => Ok(frame),
             None => self.come_in(store, image, page),

@@ -17,7 +17,7 @@ ghost use Rattle.m88_isa.specs.declared.planned.Access.{Access as AccessValue};
 ghost use Rattle.m88_mem.specs.DataBus.{image_bus, image_bytes};
 ghost use Rattle.m88_mem.specs.Marks.{NamesPages, absent_in};
 ghost use Rattle.m88_board.specs.Board.{local_of};
-ghost use Rattle.m88_board.specs.Kept.{most_events, most_retired};
+ghost use Rattle.m88_board.specs.Kept.{most_retired};
 ghost use Rattle.m88_board.specs.Moves.{IsAt, IsSameRun};
 ghost use Rattle.m88_pager.specs.Ends.{EndsByCount};
 ghost use Rattle.m88_pager.specs.Inside.Came.{CameTo};
@@ -30,8 +30,7 @@ use crate::frames::Frames;
 use crate::paged::{PageEnd, Paged};
 use crate::store::PageStore;
 use m88_base::{Absent, Image, Listed};
-use m88_board::Board;
-use m88_event::{Letter, Schedule};
+use m88_board::{Board, Schedule, Unwatched, Walk};
 use std::alloc::Global;
 use std::num::NonZeroUsize;
 
@@ -80,20 +79,11 @@ pub fn page_run<P: PageStore>(
     ensures fault { EndsByCount (P.faults store.old) (P.faults store.new) result }
 {
     let mut board = Board::new(alloc, image, absent, limit, false)?;
+    let mut walk = Walk::new(&mut board, schedule);
     let mut paging = Frames::new(alloc, count_of(frames))?;
-    let mut taken = 0;
-    // A schedule is short, so that the events can be counted: its length is told with its bound.
-    let _ = schedule.len();
     // Every run is over: each event takes something off the weight of what is left of it.
-    while !board.is_over() {
-        step(
-            &mut board,
-            schedule.letter_at(taken),
-            &mut paging,
-            store,
-            image,
-        )?;
-        taken += 1;
+    while !walk.board().is_over() {
+        step(&mut walk, &mut paging, store, image)?;
     }
     finish(alloc, board, paging, store, image)
 }
@@ -109,44 +99,49 @@ fn count_of(frames: u32) -> NonZeroUsize
     }
 }
 
-/// Makes the event of a letter, and carries the transactions out in the frames that it answered or finished, in order.
+/// Makes the next event of a run, and carries the transactions out in the frames that it answered or finished, in
+/// order.
 fn step<P: PageStore>(
-    board: &mut Board,
-    letter: Letter,
+    walk: &mut Walk,
     paging: &mut Frames,
     store: &mut P,
     image: &Image,
 ) -> Result<(), PageEnd>
-    requires going { is_over_by board.old.limit (local_of board.old) ≡ false }
-    requires few { board.old.events < most_events }
-    requires within { IsWithin board.old.done paging.old }
-    ensures timeline { OnOk result ((p : Program) (named : ℕ → Bool) (m : Moment)
-        → IsAt p named m board.old
-        → IsAt p named (after_letter p named board.old.limit letter m) board.new) }
-    ensures lighter { OnOk result ((schedule : List LetterValue) (taken : ℕ)
-        → letter ≡ letter_at schedule taken
-        → weight schedule board.old.limit (taken + 1) (local_of board.new)
-        < weight schedule board.old.limit taken (local_of board.old)) }
-    ensures counted { OnOk result (board.new.events ≡ board.old.events + 1) }
-    ensures same { OnOk result (IsSameRun board.old board.new) }
-    ensures within { OnOk result (IsWithin board.new.done paging.new) }
+    requires going { is_over_by walk.old.board.now.limit (local_of walk.old.board.now) ≡ false }
+    requires there { (p : Program) × (named : ℕ → Bool) × (m : Moment)
+        × IsAt p named m walk.old.board.now }
+    requires within { IsWithin walk.old.board.now.done paging.old }
+    ensures at { OnOk result ((p : Program) (named : ℕ → Bool) (m : Moment)
+        → IsAt p named m walk.old.board.now
+        → IsAt p named (after_letter p named walk.old.board.now.limit
+        (letter_at walk.old.schedule.now walk.old.taken) m) walk.new.board.now) }
+    ensures taken { OnOk result (walk.new.taken ≡ walk.old.taken + 1) }
+    ensures lighter { OnOk result
+        (weight walk.new.schedule.now walk.new.board.now.limit walk.new.taken
+        (local_of walk.new.board.now)
+        < weight walk.old.schedule.now walk.old.board.now.limit walk.old.taken
+        (local_of walk.old.board.now)) }
+    ensures same { IsSameRun walk.old.board.now walk.new.board.now }
+    ensures schedule { walk.new.schedule ≡ walk.old.schedule }
+    ensures lender { walk.new.board.ghost_name ≡ walk.old.board.ghost_name }
+    ensures within { OnOk result (IsWithin walk.new.board.now.done paging.new) }
     ensures cap { paging.new.cache.cap ≡ paging.old.cache.cap }
     ensures carried { OnOk result ((most : ℕ) (accesses : List AccessValue)
         → AreCarried (image_bytes image.now) most accesses paging.old (P.pages store.old)
         → AreCarried (image_bytes image.now) most
-        (accesses ++ take (board.new.done - board.old.done) board.old.pending) paging.new
-        (P.pages store.new)) }
+        (accesses ++ take (walk.new.board.now.done - walk.old.board.now.done)
+        walk.old.board.now.pending) paging.new (P.pages store.new)) }
     ensures tells { is_some (P.pages store.new) ≡ is_some (P.pages store.old) }
     ensures grows { P.faults store.old ≤ P.faults store.new }
     ensures fault { EndsByCount (P.faults store.old) (P.faults store.new) result }
 {
-    // What always holds of a board is told with its events, and that its image holds a program with its memory.
-    let _ = board.events();
-    let _ = board.memory();
+    let board = walk.board();
+    // What always holds of a board is told with its events.
+    prove!(board.events() <= 1 << 63);
     let words = board.dunit().triples();
     let before = board.done();
-    board.event(letter)?;
-    let count = board.done() - before;
+    walk.next(&mut Unwatched)?;
+    let count = walk.board().done() - before;
     paging.carry_all(store, image, &words[..count as usize])
 }
 
@@ -172,8 +167,8 @@ fn finish<P: PageStore>(
 {
     // What always holds of a board is told with its events, and that no more pages stand in frames than there are with
     // their number.
-    let _ = board.events();
-    let _ = paging.cache.len();
+    prove!(board.events() <= 1 << 63);
+    prove!(paging.cache.len() <= paging.cache.cap().get());
     paging.flush(store)?;
     let changed = changed_words(alloc, store, image, &paging.held)?;
     let mut outcome = board.outcome()?;
