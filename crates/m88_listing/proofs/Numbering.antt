@@ -1,7 +1,7 @@
 -- The lines of a listing that have a number are, without their columns, the lines of the source.
-use Rattle.std.proofs.Common.{◌≡◌, ℕ, zero, suc, ◌+◌, ◌-◌, ◌*◌, ◌/◌, ◌^◌, ◌<◌, ◌≤◌, Bool, true, false, inl, inr, List, [], ◌∷◌, ◌++◌, length, length-append, map, filter, take, drop, get_or, refl, sym, ap, ◌∙◌, subst, arith, Option, Some, None}
+use Rattle.std.proofs.Common.{◌≡◌, ℕ, zero, suc, ◌+◌, ◌-◌, ◌*◌, ◌^◌, ◌<◌, ◌≤◌, Bool, true, false, inl, inr, List, [], ◌∷◌, ◌++◌, length, length-append, map, filter, take, drop, get_or, refl, sym, ap, ◌∙◌, subst, arith, Option, Some, None}
 use Rattle.std.specs.Prelude.{◌==◌, codes, decimal, flat_map, if◌then◌else◌, not, slice_index_or}
-use Rattle.std.specs.List.{AllByRecursion, enumerate_from, range_with_len}
+use Rattle.std.specs.List.{AllByRecursion, enumerate_from}
 use Rattle.std.specs.Option.{option_map, option_map_or}
 use Rattle.std.specs.Int.Digits.{digits_of}
 use Rattle.std.proofs.lemmas.Bool.{cases_Bool, cond-true, cond-false, ne_eqb}
@@ -11,6 +11,7 @@ use Rattle.std.proofs.lemmas.List.{append-nil, drop_all, get_or-append-add, get_
 use Rattle.m88_base.specs.Hex.{hex2, hex8}
 use Rattle.m88_base.specs.Image.{most_bytes}
 use Rattle.m88_base.specs.Lines.{lines_of}
+use Rattle.m88_base.specs.Pieces.{pieces}
 use Rattle.m88_parse.proofs.FormedUnits.{lines_few}
 use Rattle.m88_parse.specs.declared.unit.Statement.{Statement}
 use Rattle.m88_link.specs.Symbols.{repeated_after}
@@ -27,7 +28,7 @@ use Rattle.m88_asm.proofs.Sounding.{first_parts, option_or-none}
 use Rattle.m88_listing.specs.Columns.{at_left, at_right, bare_line, blank, blanks, columns, further_columns, no_address}
 use Rattle.m88_listing.specs.Laws.{EachLineStandsOnce, has_number}
 use Rattle.m88_listing.proofs.Fitting.{each_clean, room_of}
-use Rattle.m88_listing.specs.Rows.{Row, digits, first_bytes, further_line, further_lines, has_bytes, lines_with, row_on, row_lines, row_of, rows_in, rows_of_unit}
+use Rattle.m88_listing.specs.Rows.{Row, digits, first_bytes, further_from, further_line, further_lines, has_bytes, lines_with, row_on, row_lines, row_of, rows_in, rows_of_unit}
 
 -- the lines of which this law speaks
 abbrev picked : List (List ℕ) → List (List ℕ)
@@ -152,11 +153,10 @@ first_picked n address bytes line more l a b =
 further_none : (address bytes : List ℕ) → has_number (further_columns address bytes) ≡ false
 further_none address bytes = refl
 
-further_picked : (row : Row) (ns : List ℕ) → picked (map (further_line row.run) ns) ≡ []
-further_picked row [] = refl
-further_picked row (n ∷ ns) =
-    pick-none (further_line row.run n) (map (further_line row.run) ns)
-    (further_none (hex8 (row.run.at + 8 * n)) (digits (take 8 (drop (8 * n) row.run.bytes)))) ∙ further_picked row ns
+further_picked : (at : ℕ) (ps : List (ℕ × List ℕ)) → picked (map (further_line at) ps) ≡ []
+further_picked at [] = refl
+further_picked at (p ∷ ps) =
+    pick-none (further_line at p) (map (further_line at) ps) (further_none (hex8 (at + p.0 * 8)) (digits p.1)) ∙ further_picked at ps
 
 -- what is shown of a row isn't wide
 length-digits : (bytes : List ℕ) → length (digits bytes) ≡ 2 * length bytes
@@ -179,9 +179,9 @@ AreFew rows = AllByRecursion (λ row. length row.run.bytes ≤ most_bytes) rows
 further_all : (row : Row) → picked (further_lines row) ≡ []
 further_all row = by row.counted
   where
-    by : (t : Bool) → picked (if t then [] else map (further_line row.run) (range_with_len 1 ((length row.run.bytes - 1) / 8))) ≡ []
+    by : (t : Bool) → picked (if t then [] else further_from row.run.at 1 (drop 8 row.run.bytes)) ≡ []
     by true = refl
-    by false = further_picked row (range_with_len 1 ((length row.run.bytes - 1) / 8))
+    by false = further_picked row.run.at (enumerate_from 1 (pieces 8 (drop 8 row.run.bytes)))
 
 one_block : (rows : List Row) (n : ℕ) (line : List ℕ) → AreFew rows → n < 10 ^ 7 → picked (lines_with rows (n, line)) ≡ line ∷ []
 unfolding AreFew

@@ -1,16 +1,17 @@
 -- Lines appended to a text, and the lines of a row.
-use Rattle.std.proofs.Common.{◌≡◌, ℕ, ◌+◌, ◌-◌, ◌*◌, ◌/◌, Bool, true, false, List, [], ◌∷◌, ◌++◌, length, map, take, drop, min, refl, sym, ap, ◌∙◌, append_assoc, arith, length-append, Option, Some}
+use Rattle.std.proofs.Common.{◌≡◌, ℕ, ◌+◌, ◌-◌, ◌<◌, Bool, true, false, List, [], ◌∷◌, ◌++◌, length, map, take, drop, min, refl, sym, ap, ◌∙◌, append_assoc, arith, length-append, Option, Some}
 use Rattle.std.specs.Prelude.{codes, decimal, if◌then◌else◌, ◌==◌, slice_get}
-use Rattle.std.specs.List.{range_with_len}
+use Rattle.std.specs.List.{enumerate_from}
 use Rattle.std.proofs.lemmas.Grind.{common_steps}
-use Rattle.std.proofs.lemmas.List.{append-nil, take_min}
-use Rattle.std.proofs.lemmas.List.FromFn.{length-map-range_with_len, map-range_with_len_more}
+use Rattle.std.proofs.lemmas.List.{append-nil, drop_min, nil_from_length, take_min}
+use Rattle.std.proofs.lemmas.List.FromFn.{length-map-range_with_len}
 use Rattle.m88_base.specs.Hex.{hex8}
 use Rattle.m88_base.specs.Lines.{line_end, text_of_lines}
-use Rattle.m88_base.specs.Placed.{Placed}
-use Rattle.m88_listing.specs.Columns.{at_left, bare_line, blanks, columns, further_columns}
+use Rattle.m88_base.specs.Pieces.{pieces}
+use Rattle.m88_base.proofs.InPieces.{next_piece, no_pieces}
+use Rattle.m88_listing.specs.Columns.{at_left, bare_line, blanks, columns}
 use Rattle.m88_listing.specs.Refused.{below, mark_line}
-use Rattle.m88_listing.specs.Rows.{digits, further_line, row_lines}
+use Rattle.m88_listing.specs.Rows.{digits, further_from, further_line, row_lines}
 use Rattle.m88_listing.specs.Inside.Slots.{found_bytes, kept_row, walked}
 use Rattle.m88_listing.specs.declared.slots.Slot.{Slot}
 
@@ -19,9 +20,6 @@ pub text_append : (xs ys : List (List ℕ)) → text_of_lines (xs ++ ys) ≡ tex
 text_append [] ys = refl
 text_append (x ∷ xs) ys =
     ap (λ t. (x ++ line_end) ++ t) (text_append xs ys) ∙ sym (append_assoc (x ++ line_end) (text_of_lines xs) (text_of_lines ys))
-
-pub text_more : (xs : List (List ℕ)) (y : List ℕ) → text_of_lines (xs ++ y ∷ []) ≡ text_of_lines xs ++ (y ++ line_end)
-text_more xs y = text_append xs (y ∷ []) ∙ ap (λ t. text_of_lines xs ++ t) (append-nil (y ++ line_end))
 
 -- the columns before a line of the source, filled from where the bytes' column begins
 regroup : (old r two a content rest line end : List ℕ)
@@ -41,84 +39,57 @@ filled old r a content line t1 t2 new begin e1 e2 e3 e4 =
     ∙ regroup old r (blanks 2) a content (blanks (16 - length content)) line line_end
 
 -- one further line more
-pub further_more : (old t new bytes piece rest : List ℕ) (at eights : ℕ)
-    → t ≡ old ++ text_of_lines (map (further_line (record { at = at; bytes = bytes })) (range_with_len 1 eights))
-    → rest ≡ drop (8 * (eights + 1)) bytes → piece ≡ take (min (length rest) 8) rest
-    → new ≡ t ++ (further_columns (hex8 (at + 8 * (eights + 1))) (digits piece) ++ line_end)
-    → new ≡ old ++ text_of_lines (map (further_line (record { at = at; bytes = bytes })) (range_with_len 1 (eights + 1)))
-further_more old t new bytes piece rest at eights e1 e2 e3 e4 =
-    let run : Placed = record { at = at; bytes = bytes } in
-    let f = further_line run in
-    let eight : piece ≡ take 8 (drop (8 * (eights + 1)) bytes) =
-    e3 ∙ ap (λ n. take n rest) (omega arith) ∙ take_min 8 rest ∙ ap (take 8) e2 in
-    let one : further_columns (hex8 (at + 8 * (eights + 1))) (digits piece) ≡ f (eights + 1) =
-    ap (λ p. further_columns (hex8 (at + 8 * (eights + 1))) (digits p)) eight in
-    e4
-    ∙ ap (λ y. t ++ (y ++ line_end)) one
-    ∙ ap (λ s. s ++ (f (eights + 1) ++ line_end)) e1
-    ∙ append_assoc old (text_of_lines (map f (range_with_len 1 eights))) (f (eights + 1) ++ line_end)
-    ∙ ap (λ s. old ++ s) (sym (text_more (map f (range_with_len 1 eights)) (f (eights + 1))))
-    ∙ ap (λ ys. old ++ text_of_lines ys) (sym (map-range_with_len_more f 1 eights (eights + 1) (omega arith)))
+pub further_more : (now later all piece rest bytes : List ℕ) (at number : ℕ) → bytes ≡ piece ++ rest
+    → length piece ≡ min 8 (length bytes) → 0 < length bytes → later ≡ now ++ (further_line at (number, piece) ++ line_end)
+    → now ++ text_of_lines (further_from at number bytes) ≡ all
+    → later ++ text_of_lines (further_from at (number + 1) rest) ≡ all
+further_more now later all piece rest bytes at number parts size some one before =
+    let left : List ℕ = text_of_lines (further_from at (number + 1) rest) in
+    ap (λ t. t ++ left) one
+    ∙ append_assoc now (further_line at (number, piece) ++ line_end) left
+    ∙ ap (λ ps. now ++ text_of_lines (map (further_line at) (enumerate_from number ps)))
+    (sym (next_piece 8 (omega arith) bytes piece rest parts size some))
+    ∙ before
+
+-- no byte is left
+pub further_done : (now all rest : List ℕ) (at number : ℕ) → length rest ≡ 0
+    → now ++ text_of_lines (further_from at number rest) ≡ all → now ≡ all
+further_done now all rest at number none before =
+    let no_piece : pieces 8 rest ≡ [] = ap (pieces 8) (nil_from_length rest none) ∙ no_pieces 8 (omega arith) in
+    sym (append-nil now)
+    ∙ ap (λ ps. now ++ text_of_lines (map (further_line at) (enumerate_from number ps))) (sym no_piece)
+    ∙ before
 
 -- the lines of a row whose bytes are told as a count
 pub counted_row : (found : ℕ → Option ℕ) (number : ℕ) (line old new : List ℕ) (s : Slot) → s.counted ≡ true
     → new ≡ old ++ (columns number (hex8 s.at) (codes "00 x " ++ decimal s.len) ++ line ++ line_end)
     → new ≡ old ++ text_of_lines (row_lines number line (kept_row found s))
-counted_row found number line old new s is e = e ∙ ap (λ t. old ++ t) (whole ∙ by s.counted is)
-  where
-    bytes : List ℕ
-    bytes = found_bytes found s.at s.len
-
-    shape : Bool → List (List ℕ)
-    shape b = (columns number (hex8 s.at) (if b then codes "00 x " ++ decimal (length bytes) else digits (take 8 bytes)) ++ line)
-        ∷ (if b then [] else map (further_line (record { at = s.at; bytes = bytes })) (range_with_len 1 ((length bytes - 1) / 8)))
-
-    count : length bytes ≡ s.len
-    count = length-map-range_with_len _ 0 s.len
-
-    whole : columns number (hex8 s.at) (codes "00 x " ++ decimal s.len) ++ line ++ line_end ≡ text_of_lines (shape true)
-    whole =
-        ap (λ n. columns number (hex8 s.at) (codes "00 x " ++ decimal n) ++ line ++ line_end)
-        (sym count)
-        ∙ sym (append-nil ((columns number (hex8 s.at) (codes "00 x " ++ decimal (length bytes)) ++ line) ++ line_end))
-
-    by : (b : Bool) → b ≡ true → text_of_lines (shape true) ≡ text_of_lines (shape b)
-    by true is = refl
-    by false is = cc
+counted_row found number line old new s is e =
+    let count : length (found_bytes found s.at s.len) ≡ s.len = length-map-range_with_len _ 0 s.len in
+    e
+    ∙ ap (λ n. old ++ (columns number (hex8 s.at) (codes "00 x " ++ decimal n) ++ line ++ line_end)) (sym count)
+    ∙ ap (λ t. old ++ t) (sym (append-nil _))
+    ∙ rw is refl
 
 -- the lines of a row whose bytes are shown
-pub shown_row : (found : ℕ → Option ℕ) (number : ℕ) (line old mid new bytes shown : List ℕ) (s : Slot) → s.counted ≡ false
-    → bytes ≡ found_bytes found s.at s.len → shown ≡ take (min s.len 8) bytes
+pub shown_row : (found : ℕ → Option ℕ) (number n : ℕ) (line old mid new bytes shown behind : List ℕ) (s : Slot) → s.counted ≡ false
+    → bytes ≡ found_bytes found s.at s.len → n ≡ min s.len 8 → shown ≡ take n bytes → behind ≡ drop n bytes
     → mid ≡ old ++ (columns number (hex8 s.at) (digits shown) ++ line ++ line_end)
-    → new ≡ mid ++ text_of_lines (map (further_line (record { at = s.at; bytes = bytes })) (range_with_len 1 ((length bytes - 1) / 8)))
+    → new ≡ mid ++ text_of_lines (further_from s.at 1 behind)
     → new ≡ old ++ text_of_lines (row_lines number line (kept_row found s))
-shown_row found number line old mid new bytes shown s is all first e1 e2 =
-    e2 ∙ ap (λ t. t ++ further bytes) e1 ∙ append_assoc old _ _ ∙ ap (λ t. old ++ t) (whole ∙ by s.counted is)
-  where
-    further : List ℕ → List ℕ
-    further bs = text_of_lines (map (further_line (record { at = s.at; bytes = bs })) (range_with_len 1 ((length bs - 1) / 8)))
-
-    own : List ℕ
-    own = found_bytes found s.at s.len
-
-    shape : Bool → List (List ℕ)
-    shape b = (columns number (hex8 s.at) (if b then codes "00 x " ++ decimal (length own) else digits (take 8 own)) ++ line)
-        ∷ (if b then [] else map (further_line (record { at = s.at; bytes = own })) (range_with_len 1 ((length own - 1) / 8)))
-
-    count : length bytes ≡ s.len
-    count = ap length all ∙ length-map-range_with_len _ 0 s.len
-
-    eight : shown ≡ take 8 own
-    eight = first ∙ ap (λ n. take n bytes) (omega (arith, count)) ∙ take_min 8 bytes ∙ ap (take 8) all
-
-    whole : (columns number (hex8 s.at) (digits shown) ++ line ++ line_end) ++ further bytes ≡ text_of_lines (shape false)
-    whole =
-        ap (λ p. (columns number (hex8 s.at) (digits p) ++ line ++ line_end) ++ further bytes) eight
-        ∙ ap (λ bs. (columns number (hex8 s.at) (digits (take 8 own)) ++ line ++ line_end) ++ further bs) all
-
-    by : (b : Bool) → b ≡ false → text_of_lines (shape false) ≡ text_of_lines (shape b)
-    by true is = cc
-    by false is = refl
+shown_row found number n line old mid new bytes shown behind s is all few front rest e1 e2 =
+    let own : List ℕ = found_bytes found s.at s.len in
+    let further : List ℕ = text_of_lines (further_from s.at 1 behind) in
+    let long : length own ≡ s.len = length-map-range_with_len _ 0 s.len in
+    let eight : n ≡ min 8 (length own) = omega (arith, few, long) in
+    let first : shown ≡ take 8 own = front ∙ ap (take n) all ∙ ap (λ k. take k own) eight ∙ take_min 8 own in
+    let left : behind ≡ drop 8 own = rest ∙ ap (drop n) all ∙ ap (λ k. drop k own) eight ∙ drop_min 8 own in
+    e2
+    ∙ ap (λ t. t ++ further) e1
+    ∙ append_assoc old (columns number (hex8 s.at) (digits shown) ++ line ++ line_end) further
+    ∙ ap (λ bs. old ++ ((columns number (hex8 s.at) (digits bs) ++ line ++ line_end) ++ further)) first
+    ∙ ap (λ bs. old ++ ((columns number (hex8 s.at) (digits (take 8 own)) ++ line ++ line_end) ++ text_of_lines (further_from s.at 1 bs))) left
+    ∙ rw is refl
 
 -- the lines for the next line of a source, where the next slot is that of it
 pub row_next : (found : ℕ → Option ℕ) (number : ℕ) (line old new : List ℕ) (s : Slot) (slots : List Slot) (lines : List (List ℕ))

@@ -1,9 +1,10 @@
 -- What each statement of a unit puts where, and the lines of the listing that show it.
-use Rattle.std.specs.Prelude.{ℕ, ◌+◌, ◌-◌, ◌*◌, ◌/◌, ◌==◌, Bool, true, false, if◌then◌else◌, List, [], ◌∷◌, ◌++◌, codes, decimal, drop, filter, find, flat_map, length, map, nat_lt, take, Option}
-use Rattle.std.specs.List.{enumerate_from, range_with_len}
+use Rattle.std.specs.Prelude.{ℕ, ◌+◌, ◌*◌, ◌==◌, Bool, true, false, if◌then◌else◌, List, [], ◌∷◌, ◌++◌, codes, decimal, drop, filter, find, flat_map, length, map, nat_lt, take, Option}
+use Rattle.std.specs.List.{enumerate_from}
 use Rattle.std.specs.Option.{option_map_or}
 use Rattle.m88_base.specs.Hex.{hex2, hex8}
 use Rattle.m88_base.specs.Lines.{lines_of}
+use Rattle.m88_base.specs.Pieces.{pieces}
 use Rattle.m88_base.specs.Placed.{Placed}
 use Rattle.m88_parse.specs.declared.unit.Body.{Body}
 use Rattle.m88_parse.specs.declared.unit.Body.TheVariants.{Zero, Align}
@@ -60,16 +61,17 @@ abbrev pub first_bytes : Row → List ℕ
 first_bytes row =
     if row.counted then codes "00 x " ++ decimal (length row.run.bytes) else digits (take most_shown row.run.bytes)
 
--- the line that shows eight bytes of a run, or what is left of it, behind so many eights
-abbrev pub further_line : Placed → ℕ → List ℕ
-further_line run eights =
-    further_columns (hex8 (run.at + most_shown * eights))
-    (digits (take most_shown (drop (most_shown * eights) run.bytes)))
+-- the line of a piece of eight bytes of a run from an address on, by its number, counted from 0
+abbrev pub further_line : ℕ → ℕ × List ℕ → List ℕ
+further_line at numbered = further_columns (hex8 (at + numbered.0 * most_shown)) (digits numbered.1)
+
+-- the lines of bytes of such a run, one for each piece of eight, from a number on
+abbrev pub further_from : ℕ → ℕ → List ℕ → List (List ℕ)
+further_from at number bytes = map (further_line at) (enumerate_from number (pieces most_shown bytes))
 
 -- the lines that show the bytes behind the first eight, where they aren't told as a count
 abbrev pub further_lines : Row → List (List ℕ)
-further_lines row =
-    if row.counted then [] else map (further_line row.run) (range_with_len 1 ((length row.run.bytes - 1) / most_shown))
+further_lines row = if row.counted then [] else further_from row.run.at 1 (drop most_shown row.run.bytes)
 
 -- the lines of the listing for a line of the source with a row: the line behind its number, the address and the bytes
 -- of the row, and the further lines of its bytes

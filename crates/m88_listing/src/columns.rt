@@ -1,11 +1,9 @@
 //! The lines of a listing as text.
-ghost use Rattle.std.specs.Prelude.{◌≡◌, ◌+◌, ◌-◌, ◌≤◌, ◌<◌, ◌^◌, ◌/◌, ◌++◌, length, decimal, codes, map, OnOk};
-ghost use Rattle.std.specs.List.{range_with_len};
+ghost use Rattle.std.specs.Prelude.{◌≡◌, ◌-◌, ◌≤◌, ◌++◌, length, decimal, codes, OnOk};
 ghost use Rattle.m88_base.specs.Hex.{hex8};
-ghost use Rattle.m88_base.specs.Lines.{line_end, text_of_lines};
-ghost use Rattle.m88_base.specs.Placed.{Placed};
-ghost use Rattle.m88_listing.specs.Columns.{at_left, at_right, bare_line, blanks, columns, further_columns};
-ghost use Rattle.m88_listing.specs.Rows.{digits, further_line};
+ghost use Rattle.m88_base.specs.Lines.{line_end};
+ghost use Rattle.m88_listing.specs.Columns.{at_right, bare_line, blanks, columns, further_columns};
+ghost use Rattle.m88_listing.specs.Rows.{digits};
 
 use itoa::Buffer;
 use m88_base::{push_decimal, push_hex2, push_hex8};

@@ -1,12 +1,11 @@
 //! The lines of a source with what they put where.
-ghost use Rattle.std.specs.Prelude.{◌≡◌, ◌+◌, ◌-◌, ◌*◌, ◌≤◌, ◌<◌, ◌^◌, ◌/◌, ◌∷◌, ◌++◌, ℕ, List, decimal, drop, length, map, IfOk, OnOk};
-ghost use Rattle.std.specs.List.{All, range_with_len};
+ghost use Rattle.std.specs.Prelude.{◌≡◌, ◌+◌, ◌≤◌, ◌<◌, ◌^◌, ◌∷◌, ◌++◌, ℕ, List, decimal, drop, length, IfOk, OnOk};
+ghost use Rattle.std.specs.List.{All};
 ghost use Rattle.m88_base.specs.Image.{byte_at};
 ghost use Rattle.m88_base.specs.Lines.{line_end, lines_of, text_of_lines};
-ghost use Rattle.m88_base.specs.Placed.{Placed};
 ghost use Rattle.m88_listing.specs.Calls.{most_source};
 ghost use Rattle.m88_listing.specs.Columns.{at_right, bare_line};
-ghost use Rattle.m88_listing.specs.Rows.{further_line, row_lines};
+ghost use Rattle.m88_listing.specs.Rows.{further_from, row_lines};
 ghost use Rattle.m88_listing.specs.Inside.Slots.{IsSlot, found_bytes, kept_row, walked};
 
 use crate::columns::{MOST_SHOWN, push_bare, push_counted, push_further, push_shown};
@@ -15,19 +14,16 @@ use crate::slots::Slot;
 use m88_base::{Image, first_line};
 use std::alloc::{AllocError, Global};
 
-/// Appends the lines of the bytes behind those that the first line shows.
-fn push_further_lines(text: &mut Vec<u8>, at: u32, bytes: &[u8]) -> Result<(), AllocError>
-    requires some { 0 < length bytes.now }
-    requires fits { at + length bytes.now ≤ 2 ^ 32 }
-    ensures { OnOk result (text.new.items ≡ text.old.items ++ text_of_lines
-        (map (further_line (record { at = at; bytes = bytes.now }))
-        (range_with_len 1 ((length bytes.now - 1) / 8)))) }
+/// Appends the lines of the bytes behind the eight that the first line shows from an address on.
+fn push_further_lines(text: &mut Vec<u8>, at: u32, behind: &[u8]) -> Result<(), AllocError>
+    requires { 0 < length behind.now → at + 8 + length behind.now ≤ 2 ^ 32 }
+    ensures { OnOk result (text.new.items ≡ text.old.items
+        ++ text_of_lines (further_from at 1 behind.now)) }
 {
-    for eights in 0..(bytes.len() - 1) / MOST_SHOWN {
-        let begin = MOST_SHOWN * (eights + 1);
-        let (_, rest) = bytes.split_at(begin);
-        let (piece, _) = rest.split_at(rest.len().min(MOST_SHOWN));
-        push_further(text, at + begin as u32, piece)?;
+    let mut number = 1;
+    for piece in behind.chunks(MOST_SHOWN) {
+        push_further(text, at + (number * MOST_SHOWN) as u32, piece)?;
+        number += 1;
     }
     Ok(())
 }
@@ -62,9 +58,9 @@ fn push_row(
         return Ok(());
     }
     let bytes = bytes_at(alloc, image, slot.at, slot.len)?;
-    let (shown, _) = bytes.split_at(slot.len.min(MOST_SHOWN));
+    let (shown, behind) = bytes.split_at(slot.len.min(MOST_SHOWN));
     push_shown(text, number, slot.at, shown, line)?;
-    push_further_lines(text, slot.at, bytes.as_slice())?;
+    push_further_lines(text, slot.at, behind)?;
     Ok(())
 }
 
