@@ -4,3 +4,4 @@ pub mod Levels
 pub mod Words
 pub mod Seen
 pub mod Walk
+pub mod Kept

@@ -4,6 +4,7 @@
 
 mod absent_page;
 mod frames;
+mod lines;
 mod marks;
 mod memory;
 mod places;
@@ -11,5 +12,6 @@ mod places;
 mod tests;
 
 pub use absent_page::AbsentPage;
+pub use lines::Line;
 pub use m88_base::{PAGE_BYTES, PAGE_COUNT};
 pub use memory::Memory;

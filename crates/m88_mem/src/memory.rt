@@ -5,7 +5,7 @@ crate::specs::DataBus::bus_of, crate::specs::DataBus::ready_of, crate::specs::Da
 // a word that changes
 m88_isa::specs::Bus::with_word))]
 
-ghost use Rattle.std.specs.Prelude.{◌≡◌, ◌++◌, ◌∷◌, [], ◌+◌, ◌*◌, ◌/◌, ◌%◌, ◌<◌, ◌↔◌, ℕ, true, false, Some, length, replicate, slice_get, option_map, IfOk, IsErr, IsTrue, OnErr, OnOk};
+ghost use Rattle.std.specs.Prelude.{◌≡◌, ◌++◌, ◌∷◌, [], ◌+◌, ◌*◌, ◌/◌, ◌%◌, ◌<◌, ◌↔◌, ℕ, true, false, Some, length, replicate, slice_get, option_map, IfOk, IfSome, IsErr, IsTrue, OnErr, OnOk};
 ghost use Rattle.std.specs.Int.{to_be_bytes, w32};
 ghost use Rattle.m88_base.specs.Image.{byte_at};
 ghost use Rattle.m88_base.specs.Pages.{IsPage, every_page, no_page, page_number};
@@ -14,10 +14,12 @@ ghost use Rattle.m88_isa.specs.Lanes.{IsEnable, merged};
 ghost use Rattle.m88_isa.specs.Machine.{four_bytes};
 ghost use Rattle.m88_mem.specs.DataBus.{absent_of, bus_of, image_bus, page_words, ready_of};
 ghost use Rattle.m88_mem.specs.Inside.Frames.{table_entries};
+ghost use Rattle.m88_mem.specs.Lines.{IsLine};
 ghost use Rattle.m88_mem.specs.Marks.{NamesPages, absent_in, with_page};
 
 use crate::absent_page::AbsentPage;
 use crate::frames::{ENTRIES, PageFrame, PageFrames};
+use crate::lines::{Line, keep_line, line_at, no_lines};
 use crate::marks::{absent_marks, clear_mark, is_marked, mark_all};
 use crate::places::{fetched, image_word, page_word};
 use m88_base::{Absent, Image, NoMemory, PAGE_BYTES};
@@ -36,6 +38,8 @@ pub struct Memory {
     image: Image,
     frames: PageFrames,
     absent: Vec<u32>,
+    /// Instructions that were read: nothing is seen of them.
+    lines: Vec<Option<Line>>,
 }
 
 impl Model for Memory {
@@ -46,7 +50,7 @@ impl Model for Memory {
 
     ghost view = { λ m. seen_as m.image m.frames m.absent.items };
 
-    ghost invariant = { λ m. IsMemory m.frames m.absent.items };
+    ghost invariant = { λ m. IsMemory m.image m.frames m.absent.items m.lines.items };
 }
 
 impl Memory {
@@ -62,11 +66,13 @@ impl Memory {
         let image = image.copy(alloc)?;
         let frames = PageFrames::new(alloc)?;
         let absent = absent_marks(alloc, absent)?;
+        let lines = no_lines(alloc)?;
         Ok(Memory {
             alloc,
             image,
             frames,
             absent,
+            lines,
         })
     }
 
@@ -85,6 +91,21 @@ impl Memory {
             ≡ four_bytes (byte_at self.now.image) addr }
     {
         fetched(&self.image, addr)
+    }
+
+    /// The instruction that is kept of a byte address, if one is.
+    pub fn line(&self, addr: u32) -> Option<Line>
+        ensures { IfSome result (λ line. (line.addr ≡ addr) × IsLine self.now.image line) }
+    {
+        line_at(&self.lines, addr)
+    }
+
+    /// Keeps an instruction that was read. Nothing of it is seen but by `line`.
+    pub fn keep(&mut self, line: Line)
+        requires { IsLine self.old.image line }
+        ensures { self.new ≡ self.old }
+    {
+        keep_line(&mut self.lines, line);
     }
 
     /// Whether a page, by its number, is absent.

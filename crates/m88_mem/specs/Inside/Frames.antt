@@ -5,6 +5,8 @@ use Rattle.std.specs.Int.{bit_at}
 use Rattle.m88_base.specs.Image.{ProgramImage}
 use Rattle.m88_base.specs.Pages.{page_count}
 use Rattle.m88_mem.specs.DataBus.{MemoryView, page_words}
+use Rattle.m88_mem.specs.Inside.Lines.{AreLines, line_count}
+use Rattle.m88_mem.specs.declared.lines.Line.{Line}
 use Rattle.m88_mem.specs.declared.frames.FrameTable.{FrameTable}
 use Rattle.m88_mem.specs.declared.frames.PageFrame.{PageFrame}
 
@@ -76,7 +78,11 @@ seen_as image tables words = record {
   absent = by_page (is_marked words);
 }
 
--- what holds of every memory: its upper table has all its entries, and there is a bit for each page
-pub record IsMemory (tables : List (Option FrameTable)) (words : List ℕ) : Type 0 where
+-- what holds of every memory: its upper table has all its entries, there is a bit for each page, and the instructions
+-- that it keeps are its image's
+pub record IsMemory (image : ProgramImage) (tables : List (Option FrameTable)) (words : List ℕ)
+    (kept : List (Option Line)) : Type 0 where
   pub entries : length tables ≡ table_entries
   pub marks : length words ≡ mark_words
+  pub long : length kept ≡ line_count
+  pub lines : AreLines image kept

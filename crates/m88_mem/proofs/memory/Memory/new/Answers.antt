@@ -24,3 +24,11 @@ pub returns-clause-absent : goal.returns-clause-absent
 returns-clause-absent c = fun_ext (λ p.
     seen_absent c.in_ok-image.image c.in_ok-frames.frames c.in_ok-absent.absent.items c.in_ok-absent.ensures.long p
     ∙ c.in_ok-absent.ensures.each p)
+
+pub invariant_of-result : goal.invariant_of-result
+invariant_of-result c = record {
+  entries = c.in_ok-frames.ensures.entries;
+  marks = c.in_ok-absent.ensures.long;
+  long = c.in_ok-lines.ensures.long;
+  lines = c.in_ok-lines.ensures.none c.in_ok-image.image;
+}

@@ -1,0 +1,12 @@
+-- No instruction is kept at first.
+use Rattle.std.proofs.Common.{Option, None, inl, inr, ◌≡◌}
+use Rattle.std.specs.Prelude.{Some}
+use Rattle.m88_mem.proofs.Kept.{all_at}
+use Rattle.m88_mem.proofs.lines.no_lines.Goals as goal
+
+pub returns-clause-none : goal.returns-clause-none
+returns-clause-none c = λ image k line found.
+    elim (all_at _ c.in_ok-vec.field-0.items k (Some line) c.in_ok-vec.ensures.items found) [
+      | inl same ↦ absurd (let none : Some line ≡ None = same in cc)
+      | inr never ↦ absurd never
+    ]
