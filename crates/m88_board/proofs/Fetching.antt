@@ -1,6 +1,10 @@
 -- What the letter `i` comes to, by what is fetched for it.
-use Rattle.std.specs.Prelude.{ℕ, Bool, true, false, not, List, [], ◌∷◌, Option, Some, None, MatchOption, ◌≡◌, ◌<◌, ◌%◌, ◌^◌, ◌&&◌}
-use Rattle.std.specs.Int.{to_be_bytes, w32}
+use Rattle.std.specs.Prelude.{ℕ, Bool, true, false, not, List, [], ◌∷◌, Option, Some, None, MatchOption, ◌≡◌, ◌<◌, ◌%◌, ◌^◌, ◌&&◌, unwrap_or}
+use Rattle.std.specs.Int.{from_be_bytes, to_be_bytes, w32}
+use Rattle.std.proofs.lemmas.Nat.{from_be_bytes-to_be_bytes_4}
+use Rattle.m88_mem.specs.Lines.{IsLine}
+use Rattle.m88_mem.specs.declared.lines.Line.{Line}
+use Rattle.m88_board.specs.Told.{IsWordOf}
 use Rattle.std.proofs.Common.{refl, sym, ap, ap₂, ◌∙◌, subst}
 use Rattle.m88_base.specs.Image.{ProgramImage, byte_at}
 use Rattle.m88_base.specs.declared.slot.Slot.{Slot}
@@ -113,6 +117,12 @@ next_at inside b slot word same is aligned marked bytes =
       bytes = ap₂ (λ (i : ProgramImage) (a : ℕ). four_bytes (byte_at i) a) (sym image) (sym here) ∙ sym bytes;
     }
 
+-- its mark, where it is to be carried out
+pub next_marked : (inside b : BoardView) (slot : Slot) → inside ≡ b → slot ≡ inside.slots.nip → b.slots.nip.v ≡ true →
+    not slot.v ≡ false
+next_marked inside b slot same is valid =
+    ap not (ap (λ (s : Slot). s.v) is ∙ ap (λ (x : BoardView). x.slots.nip.v) same ∙ valid)
+
 -- the word can't be fetched
 pub lacks_by : (p : Program) (b : BoardView) → IsProgramOf b.memory.image p → is_idle_board b ≡ false →
     NextAt b None →
@@ -166,3 +176,21 @@ turns_by p b word i of goes next small is only =
     fetches_by p b (Some (to_be_bytes w32 word)) (Some i) goes next.valid (bytes_of p b (pc_of b.slots) of ∙ next.bytes)
     (found_there (p.instruction (pc_of b.slots)) i word
     (instruction_at_word b.memory.image p (pc_of b.slots) word of next.aligned small next.bytes) is only)
+
+-- the instruction that is kept of an address is that of the word there
+pub kept_word : (inside b : BoardView) (line : Line) (addr word : ℕ) → inside ≡ b → line.addr ≡ addr →
+    IsLine inside.memory.image line →
+    line.word < 2 ^ 32 →
+    IsWordOf (four_bytes (byte_at b.memory.image) addr) word →
+    IsWord line.instr word
+kept_word inside b line addr word same here is small there =
+    let bytes : Some (to_be_bytes w32 line.word) ≡ Some (to_be_bytes w32 word) =
+    sym is.word
+    ∙ ap₂ (λ (image : ProgramImage) (a : ℕ). four_bytes (byte_at image) a)
+    (ap (λ (x : BoardView). x.memory.image) same) here
+    ∙ there.1 in
+    subst (λ (w : ℕ). IsWord line.instr w)
+    (sym (from_be_bytes-to_be_bytes_4 line.word small)
+    ∙ ap (λ (o : Option (List ℕ)). from_be_bytes w32 (unwrap_or o [])) bytes
+    ∙ from_be_bytes-to_be_bytes_4 word there.0)
+    is.instruction

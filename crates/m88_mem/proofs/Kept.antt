@@ -1,7 +1,7 @@
 -- Instructions that are kept.
 use Rattle.std.specs.Prelude.{ℕ, zero, suc, List, [], ◌∷◌, Option, Some, None, ◌≡◌, ◌⊎◌, ◌<◌, IfSome, length, slice_get, slice_set}
 use Rattle.std.specs.List.{AllByRecursion}
-use Rattle.std.proofs.Common.{arith, ap, get_or, refl, sym, subst, inl, inr}
+use Rattle.std.proofs.Common.{arith, ap, get_or, sym, subst, inl, inr}
 use Rattle.m88_base.specs.Image.{ProgramImage}
 use Rattle.m88_mem.specs.Inside.Lines.{AreLines}
 use Rattle.m88_mem.specs.Lines.{IsLine}

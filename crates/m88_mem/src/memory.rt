@@ -90,7 +90,10 @@ impl Memory {
         ensures { option_map (λ word. to_be_bytes w32 word) result
             ≡ four_bytes (byte_at self.now.image) addr }
     {
-        fetched(&self.image, addr)
+        match self.line(addr) {
+            Some(line) => Some(line.word),
+            None => fetched(&self.image, addr),
+        }
     }
 
     /// The instruction that is kept of a byte address, if one is.

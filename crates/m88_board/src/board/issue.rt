@@ -1,6 +1,6 @@
 //! The event of the letter `i`: the next instruction is issued, is held, or ends the program.
 
-ghost use Rattle.std.specs.Prelude.{◌≡◌, Some, None, true, false, IfOk, OnErr, OnOk};
+ghost use Rattle.std.specs.Prelude.{◌≡◌, ◌%◌, Ok, Some, None, true, false, IfOk, OnErr, OnOk};
 ghost use Rattle.m88_base.specs.Image.{byte_at};
 ghost use Rattle.m88_event.specs.Choice.{issues};
 ghost use Rattle.m88_event.specs.Local.{choice_by};
@@ -13,6 +13,8 @@ ghost use Rattle.m88_isa.specs.Machine.{Program, four_bytes};
 ghost use Rattle.m88_isa.specs.Operands.{access_count_of, writes_of};
 ghost use Rattle.m88_board.specs.Board.{completed_of, is_idle_board, local_of, pc_of};
 ghost use Rattle.m88_isa.specs.ImageProgram.{IsProgramOf};
+ghost use Rattle.m88_isa.specs.Word.{IsWord};
+ghost use Rattle.m88_isa.specs.declared.instr.Instr.{Instr as InstrValue};
 ghost use Rattle.m88_isa.specs.declared.planned.Plan.TheVariants.{Go};
 ghost use Rattle.m88_board.specs.Moves.{Did, IsSameRun, IsStill, IsUnmoved};
 ghost use Rattle.m88_board.specs.Shown.{Leaves};
@@ -25,6 +27,7 @@ use m88_base::NoMemory;
 use m88_codec::{BadWord, decode};
 use m88_event::{Happened, Why};
 use m88_isa::{INSTRUCTION_ACCESS, Instr, Plan, UNIMPLEMENTED, plan, waits_for_empty};
+use m88_mem::Line;
 
 impl Board {
     /// The letter `i`: nothing where no more may be issued, a bubble is passed over, or the next instruction has its
@@ -56,11 +59,67 @@ impl Board {
             self.pass();
             return Ok(Happened::Bubble);
         }
+        self.keep(nip.addr);
+        self.issue_next(told)
+    }
+
+    /// Reads the instruction at the byte address of a word and keeps it, where none is kept of that address.
+    fn keep(&mut self, addr: u32)
+        requires { addr % 4 ≡ 0 }
+        ensures { self.new ≡ self.old }
+    {
+        if self.memory.line(addr).is_some() {
+            return;
+        }
+        let Some(word) = self.memory.fetch(addr) else {
+            return;
+        };
+        if let Ok(instr) = decode(word) {
+            self.memory.keep(Line { addr, word, instr });
+        }
+    }
+
+    /// The instruction of the word at a byte address, which may be kept.
+    fn instr_of(&self, addr: u32, word: u32) -> Result<Instr, BadWord>
+        requires aligned { addr % 4 ≡ 0 }
+        requires word { IsWordOf (four_bytes (byte_at self.now.memory.image) addr) word }
+        ensures found { IfOk result (λ i. IsWord i word) }
+        ensures only { (i : InstrValue) → IsWord i word → result ≡ Ok i }
+    {
+        match self.memory.line(addr) {
+            Some(line) => Ok(line.instr),
+            None => decode(word),
+        }
+    }
+
+    /// The next instruction in its turn, where none is passed over.
+    fn issue_next(&mut self, told: &mut Told) -> Result<Happened, NoMemory>
+        requires going { is_idle_board self.old ≡ false }
+        requires valid { self.old.slots.nip.v ≡ true }
+        ensures ok { IfOk result (λ happened. (p : Program) (fault : RecordValue)
+            → IsProgramOf self.old.memory.image p
+            → Did (choice_by p self.old.limit LetterValue.Issue (local_of self.old)) fault
+            self.old happened self.new) }
+        ensures events { self.new.events ≡ self.old.events }
+        ensures same { OnOk result (IsSameRun self.old self.new) }
+        ensures still { IfOk result (λ happened. IsStill happened → self.new ≡ self.old) }
+        ensures leaves { IfOk result (λ happened. Leaves happened self.old self.new) }
+        ensures word { IfOk result (λ happened. WentOn happened
+            → IsWordOf (four_bytes (byte_at self.old.memory.image) (pc_of self.old.slots))
+            told.new.word) }
+        ensures plan { OnOk result ((p : Program) (change : Change)
+            → IsProgramOf self.old.memory.image p
+            → choice_by p self.old.limit LetterValue.Issue (local_of self.old) ≡ issues change
+            → told.new.plan ≡ Go (recorded_change change)) }
+        ensures made { MakesWordAccesses told.old.plan → MakesWordAccesses told.new.plan }
+        ensures err { OnErr result (IsUnmoved self.old self.new) }
+    {
+        let nip = self.iunit.candidate();
         let Some(word) = self.memory.fetch(nip.addr) else {
             return Ok(self.raise(INSTRUCTION_ACCESS));
         };
         told.word = word;
-        match decode(word) {
+        match self.instr_of(nip.addr, word) {
             Ok(instr) => self.issue_instr(&instr, &mut told.plan),
             Err(BadWord) => Ok(self.raise(UNIMPLEMENTED)),
         }

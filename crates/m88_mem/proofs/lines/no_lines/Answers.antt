@@ -1,5 +1,5 @@
 -- No instruction is kept at first.
-use Rattle.std.proofs.Common.{Option, None, inl, inr, ◌≡◌}
+use Rattle.std.proofs.Common.{None, inl, inr, ◌≡◌}
 use Rattle.std.specs.Prelude.{Some}
 use Rattle.m88_mem.proofs.Kept.{all_at}
 use Rattle.m88_mem.proofs.lines.no_lines.Goals as goal

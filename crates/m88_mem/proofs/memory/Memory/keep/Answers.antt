@@ -1,5 +1,5 @@
 -- All else stays.
-use Rattle.std.proofs.Common.{ap, subst, sym}
+use Rattle.std.proofs.Common.{subst, sym}
 use Rattle.m88_mem.specs.DataBus.{MemoryView}
 use Rattle.m88_mem.specs.Lines.{IsLine}
 use Rattle.m88_mem.proofs.memory.Memory.keep.Goals as goal

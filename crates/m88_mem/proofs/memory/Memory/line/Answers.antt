@@ -1,5 +1,5 @@
 -- The instructions that are kept are the image's.
-use Rattle.std.proofs.Common.{List, Option, ap, subst, sym, ◌∙◌}
+use Rattle.std.proofs.Common.{List, Option, subst, sym}
 use Rattle.std.specs.Prelude.{IfSome, ◌≡◌}
 use Rattle.m88_mem.proofs.Kept.{line_of}
 use Rattle.m88_mem.specs.DataBus.{MemoryView}
