@@ -22,7 +22,7 @@ ghost use Rattle.m88_isa.specs.Effect.{
   written,
 };
 ghost use Rattle.m88_isa.specs.Instr.{IsValid};
-ghost use Rattle.m88_isa.specs.Operands.{access_count_of, writes_of};
+ghost use Rattle.m88_isa.specs.Operands.{access_count_of, after_d_of, d_of, writes_of};
 
 use crate::address::{address, scale_of, word_address};
 use crate::compute::{immediate, registers};
@@ -30,7 +30,7 @@ use crate::fields::{bit_field, find_bit, offset_in, width_in, width_of};
 use crate::flow::{bit_is, branches, checks, class_in, flows, goes_on, traps_if, words_away};
 use crate::instr::{Instr, MemOp};
 use crate::memory::{accesses, size_of};
-use crate::operands::{after_d_of, d_of, is_flow, s1_of, s2_of};
+use crate::operands::{after_d_of, d_of, is_flow};
 use crate::planned::{Computed, Effect, Inputs, Plan};
 use crate::vector::{PRIVILEGE, UNIMPLEMENTED, unit_vector};
 use m88_base::Reg;
@@ -50,27 +50,20 @@ pub fn plan(instr: &Instr, regs: &[u32; 32], carry: bool, mxm: bool, pc: u32, ne
     ensures flow { pc % 4 ≡ 0 → next % 4 ≡ 0 → FlowsToWords result }
     ensures alone { IgnoresUnused instr.now regs.now carry mxm pc next }
 {
-    if is_flow(instr) && next != pc.wrapping_add(4) {
-        Plan::Raise(UNIMPLEMENTED)
-    } else {
-        effect(instr, inputs_of(instr, regs, carry, mxm, pc, next))
+    if next != pc.wrapping_add(4) && is_flow(instr) {
+        return Plan::Raise(UNIMPLEMENTED);
     }
-}
-
-/// What an instruction reads.
-fn inputs_of(instr: &Instr, regs: &[u32; 32], carry: bool, mxm: bool, pc: u32, next: u32) -> Inputs
-    ensures { result ≡ inputs_of instr.now regs.now carry mxm pc next }
-{
-    Inputs {
-        s1: register(regs, s1_of(instr)),
-        s2: register(regs, s2_of(instr)),
-        d: register(regs, d_of(instr)),
-        after_d: register(regs, after_d_of(instr)),
+    let x = Inputs {
+        s1: 0,
+        s2: 0,
+        d: 0,
+        after_d: 0,
         carry,
         mxm,
         pc,
         next,
-    }
+    };
+    effect(instr, regs, x)
 }
 
 /// The value of a register; r0 reads as 0.
@@ -80,40 +73,69 @@ fn register(regs: &[u32; 32], r: Reg) -> u32
     if r == Reg::ZERO { 0 } else { regs[r.index()] }
 }
 
-/// What an instruction does of what it reads, a change of flow in a taken delay slot aside.
-fn effect(instr: &Instr, x: Inputs) -> Plan
+/// What an instruction does, a change of flow in a taken delay slot aside: of the registers, each read where its form
+/// has it, and of what else is in `x`.
+fn effect(instr: &Instr, regs: &[u32; 32], x: Inputs) -> Plan
     requires { IsValid instr.now }
-    ensures { result ≡ plan_for (effect instr.now x) }
+    ensures { result
+        ≡ plan_for (effect instr.now (inputs_of instr.now regs.now x.carry x.mxm x.pc x.next)) }
 {
     match *instr {
-        Instr::Imm { op, d, s1: _, imm } => computes(d, immediate(op, x.carry, x.s1, imm), x),
-        Instr::Regs { op, d, .. } => computes(d, registers(op, x.carry, x.s1, x.s2), x),
-        Instr::MemImm { op, d, s1: _, imm } => accesses(op, d, address(x.s1, imm as u32, 1), x),
+        Instr::Imm { op, d, s1, imm } => {
+            let computed = immediate(op, x.carry, register(regs, s1), imm);
+            computes(d, computed, x)
+        }
+        Instr::Regs { op, d, s1, s2 } => {
+            let computed = registers(op, x.carry, register(regs, s1), register(regs, s2));
+            computes(d, computed, x)
+        }
+        Instr::MemImm { op, d, s1, imm } => {
+            let place = address(register(regs, s1), imm as u32, 1);
+            accesses(op, d, place, with_data(instr, regs, x))
+        }
         Instr::MemReg {
             op,
             d,
+            s1,
+            s2,
             scaled,
             usr,
-            ..
-        } => indexed(op, d, scaled, usr, x),
-        Instr::Lda { size, d, .. } => gives(d, address(x.s1, x.s2, scale_of(size)), x),
+        } => {
+            let x = Inputs {
+                s1: register(regs, s1),
+                s2: register(regs, s2),
+                ..with_data(instr, regs, x)
+            };
+            indexed(op, d, scaled, usr, x)
+        }
+        Instr::Lda { size, d, s1, s2 } => {
+            let place = address(register(regs, s1), register(regs, s2), scale_of(size));
+            gives(d, place, x)
+        }
         Instr::BitLit {
             op,
             d,
+            s1,
             width,
             offset,
-            ..
-        } => gives(
-            d,
-            bit_field(op, x.s1, width_of(width as u32), offset as u32),
-            x,
-        ),
-        Instr::BitReg { op, d, .. } => gives(
-            d,
-            bit_field(op, x.s1, width_in(x.s2), offset_in(x.s2)),
-            x,
-        ),
-        Instr::Find { ones, d, .. } => gives(d, find_bit(ones, x.s2), x),
+        } => {
+            let width = width_of(width as u32);
+            gives(
+                d,
+                bit_field(op, register(regs, s1), width, offset as u32),
+                x,
+            )
+        }
+        Instr::BitReg { op, d, s1, s2 } => {
+            let places = register(regs, s2);
+            let word = register(regs, s1);
+            gives(
+                d,
+                bit_field(op, word, width_in(places), offset_in(places)),
+                x,
+            )
+        }
+        Instr::Find { ones, d, s2 } => gives(d, find_bit(ones, register(regs, s2)), x),
         Instr::Branch {
             link,
             delayed,
@@ -123,25 +145,39 @@ fn effect(instr: &Instr, x: Inputs) -> Plan
             set,
             delayed,
             bit,
+            s1,
             words,
-            ..
-        } => branches(bit_is(set, bit, x.s1), delayed, words as i32, x),
+        } => branches(
+            bit_is(set, bit, register(regs, s1)),
+            delayed,
+            words as i32,
+            x,
+        ),
         Instr::BranchCond {
             delayed,
             mask,
+            s1,
             words,
-            ..
-        } => branches(class_in(mask, x.s1), delayed, words as i32, x),
-        Instr::Jump { link, delayed, .. } => flows(link, delayed, word_address(x.s2), x),
+        } => branches(class_in(mask, register(regs, s1)), delayed, words as i32, x),
+        Instr::Jump { link, delayed, s2 } => flows(
+            link,
+            delayed,
+            word_address(register(regs, s2)),
+            x,
+        ),
         Instr::TrapBit {
             set,
             bit,
+            s1,
             vector,
-            ..
-        } => traps_if(bit_is(set, bit, x.s1), vector, x),
-        Instr::TrapCond { mask, vector, .. } => traps_if(class_in(mask, x.s1), vector, x),
-        Instr::BoundImm { imm, .. } => checks(x.s1, imm as u32, x),
-        Instr::BoundReg { .. } => checks(x.s1, x.s2, x),
+        } => traps_if(bit_is(set, bit, register(regs, s1)), vector, x),
+        Instr::TrapCond { mask, s1, vector } => traps_if(
+            class_in(mask, register(regs, s1)),
+            vector,
+            x,
+        ),
+        Instr::BoundImm { s1, imm } => checks(register(regs, s1), imm as u32, x),
+        Instr::BoundReg { s1, s2 } => checks(register(regs, s1), register(regs, s2), x),
         Instr::Rte => Plan::Raise(PRIVILEGE),
         Instr::Ldcr { float, .. } | Instr::Stcr { float, .. } | Instr::Xcr { float, .. } =>
             controls(float),
@@ -158,6 +194,20 @@ fn indexed(op: MemOp, d: Reg, scaled: bool, usr: bool, x: Inputs) -> Plan
     } else {
         let scale = if scaled { size_of(op) } else { 1 };
         accesses(op, d, address(x.s1, x.s2, scale), x)
+    }
+}
+
+/// What a memory instruction goes by, with what it stores read of D and of the register after D.
+fn with_data(instr: &Instr, regs: &[u32; 32], x: Inputs) -> Inputs
+    ensures { result ≡ record x {
+      d = register regs.now (d_of instr.now);
+      after_d = register regs.now (after_d_of instr.now);
+    } }
+{
+    Inputs {
+        d: register(regs, d_of(instr)),
+        after_d: register(regs, after_d_of(instr)),
+        ..x
     }
 }
 
