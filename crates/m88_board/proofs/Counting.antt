@@ -7,6 +7,8 @@ use Rattle.m88_event.specs.Local.{Local, move_by}
 use Rattle.m88_event.specs.declared.happened.Happened.{Happened}
 use Rattle.m88_event.specs.declared.record.Record.{Record}
 use Rattle.m88_board.specs.Board.{BoardView, local_of}
+use Rattle.m88_board.specs.Inside.Briefly.{happened_of}
+use Rattle.m88_board.specs.declared.brief.Brief.{Brief}
 use Rattle.m88_board.specs.Moves.{Did, Does, IsUnmoved}
 
 -- what is seen of the count stays
@@ -44,9 +46,9 @@ pub did_events : (choice : Choice) (old : BoardView) (h : Happened) (new : Board
 did_events choice old h new did = same_events choice old new (λ fault. (did fault).does)
 
 -- and where memory may run out
-pub events_kept : (choice : Choice) (r : Result Happened NoMemory) (old new : BoardView) →
-    IfOk r (λ h. (fault : Record) → Did choice fault old h new) →
+pub events_kept : (choice : Choice) (r : Result Brief NoMemory) (old new : BoardView) →
+    IfOk r (λ brief. (fault : Record) → Did choice fault old (happened_of brief new) new) →
     OnErr r (IsUnmoved old new) →
     new.events ≡ old.events
-events_kept choice (Ok h) old new did still = did_events choice old h new did
+events_kept choice (Ok brief) old new did still = did_events choice old (happened_of brief new) new did
 events_kept choice (Err e) old new did still = ap (λ (b : BoardView). b.events) still.rest

@@ -1,12 +1,12 @@
 -- What the letter `i` comes to, by what is fetched for it.
-use Rattle.std.specs.Prelude.{ℕ, Bool, true, false, not, List, [], ◌∷◌, Option, Some, None, MatchOption, ◌≡◌, ◌<◌, ◌%◌, ◌^◌, ◌&&◌, unwrap_or}
-use Rattle.std.specs.Int.{from_be_bytes, to_be_bytes, w32}
-use Rattle.std.proofs.lemmas.Nat.{from_be_bytes-to_be_bytes_4}
+use Rattle.std.specs.Prelude.{ℕ, Bool, true, false, not, List, [], ◌∷◌, Option, Some, None, MatchOption, ◌≡◌, ◌<◌, ◌%◌, ◌^◌, ◌&&◌, if◌then◌else◌, is_none}
+use Rattle.std.specs.Int.{to_be_bytes, w32}
+use Rattle.m88_codec.proofs.Law.{one_reading}
 use Rattle.m88_mem.specs.Lines.{IsLine}
 use Rattle.m88_mem.specs.declared.lines.Line.{Line}
-use Rattle.m88_board.specs.Told.{IsWordOf}
-use Rattle.std.proofs.Common.{refl, sym, ap, ap₂, ◌∙◌, subst}
+use Rattle.std.proofs.Common.{arith, inl, inr, refl, sym, ap, ap₂, ◌∙◌, subst}
 use Rattle.m88_base.specs.Image.{ProgramImage, byte_at}
+use Rattle.m88_base.specs.Slot.{squashed_slot, valid_slot}
 use Rattle.m88_base.specs.declared.slot.Slot.{Slot}
 use Rattle.m88_event.specs.Choice.{Choice, idles, issue_choice, next_choice, passes}
 use Rattle.m88_event.specs.Local.{choice_by, situation_of}
@@ -22,9 +22,11 @@ use Rattle.m88_isa.specs.Vector.{instruction_access, unimplemented}
 use Rattle.m88_isa.specs.Word.{IsWord}
 use Rattle.m88_isa.specs.declared.instr.Instr.{Instr}
 use Rattle.m88_isa.specs.declared.planned.Access.{Access}
-use Rattle.m88_board.proofs.Choosing.{at_pc}
+use Rattle.m88_iunit.specs.Pointers.{word_behind}
 use Rattle.m88_board.specs.Board.{BoardView, completed_of, is_idle_board, local_of, pc_of}
+use Rattle.m88_board.specs.Kept.{SlotsAgree, lacks_word}
 use Rattle.m88_board.specs.Moves.{stopping}
+use Rattle.m88_board.specs.Inside.Fetched.{HasNoInstruction}
 use Rattle.m88_board.specs.Inside.Turns.{choice_for}
 
 -- no more may be issued
@@ -95,33 +97,9 @@ pub record NextAt (b : BoardView) (word : Option (List ℕ)) : Type 0 where
   pub bytes : four_bytes (byte_at b.memory.image) (pc_of b.slots) ≡ word
 
 -- a mark that isn't unset is set
-unmarked : (v : Bool) → not v ≡ false → v ≡ true
+pub unmarked : (v : Bool) → not v ≡ false → v ≡ true
 unmarked true h = refl
 unmarked false h = absurd cc
-
--- as the parts show it
-pub next_at : (inside b : BoardView) (slot : Slot) (word : Option (List ℕ)) → inside ≡ b → slot ≡ inside.slots.nip →
-    slot.addr % 4 ≡ 0 →
-    not slot.v ≡ false →
-    word ≡ four_bytes (byte_at inside.memory.image) slot.addr →
-    NextAt b word
-next_at inside b slot word same is aligned marked bytes =
-    let image : inside.memory.image ≡ b.memory.image = ap (λ (x : BoardView). x.memory.image) same in
-    let valid : b.slots.nip.v ≡ true =
-    sym (ap (λ (s : Slot). s.v) is ∙ ap (λ (x : BoardView). x.slots.nip.v) same) ∙ unmarked slot.v marked in
-    let here : slot.addr ≡ pc_of b.slots =
-    at_pc inside.slots b.slots slot is (ap (λ (x : BoardView). x.slots) same) valid in
-    record {
-      valid = valid;
-      aligned = subst (λ (a : ℕ). a % 4 ≡ 0) here aligned;
-      bytes = ap₂ (λ (i : ProgramImage) (a : ℕ). four_bytes (byte_at i) a) (sym image) (sym here) ∙ sym bytes;
-    }
-
--- its mark, where it is to be carried out
-pub next_marked : (inside b : BoardView) (slot : Slot) → inside ≡ b → slot ≡ inside.slots.nip → b.slots.nip.v ≡ true →
-    not slot.v ≡ false
-next_marked inside b slot same is valid =
-    ap not (ap (λ (s : Slot). s.v) is ∙ ap (λ (x : BoardView). x.slots.nip.v) same ∙ valid)
 
 -- the word can't be fetched
 pub lacks_by : (p : Program) (b : BoardView) → IsProgramOf b.memory.image p → is_idle_board b ≡ false →
@@ -177,20 +155,50 @@ turns_by p b word i of goes next small is only =
     (found_there (p.instruction (pc_of b.slots)) i word
     (instruction_at_word b.memory.image p (pc_of b.slots) word of next.aligned small next.bytes) is only)
 
--- the instruction that is kept of an address is that of the word there
-pub kept_word : (inside b : BoardView) (line : Line) (addr word : ℕ) → inside ≡ b → line.addr ≡ addr →
-    IsLine inside.memory.image line →
+-- the instruction that was found there, which has its turn
+pub line_by : (p : Program) (b : BoardView) (line : Line) → IsProgramOf b.memory.image p → is_idle_board b ≡ false →
+    b.slots.nip.v ≡ true →
+    line.addr ≡ pc_of b.slots →
+    IsLine b.memory.image line →
     line.word < 2 ^ 32 →
-    IsWordOf (four_bytes (byte_at b.memory.image) addr) word →
-    IsWord line.instr word
-kept_word inside b line addr word same here is small there =
-    let bytes : Some (to_be_bytes w32 line.word) ≡ Some (to_be_bytes w32 word) =
-    sym is.word
-    ∙ ap₂ (λ (image : ProgramImage) (a : ℕ). four_bytes (byte_at image) a)
-    (ap (λ (x : BoardView). x.memory.image) same) here
-    ∙ there.1 in
-    subst (λ (w : ℕ). IsWord line.instr w)
-    (sym (from_be_bytes-to_be_bytes_4 line.word small)
-    ∙ ap (λ (o : Option (List ℕ)). from_be_bytes w32 (unwrap_or o [])) bytes
-    ∙ from_be_bytes-to_be_bytes_4 word there.0)
-    is.instruction
+    choice_by p b.limit Issue (local_of b) ≡ choice_for (Some line.instr) b
+line_by p b line of goes valid here is small =
+    turns_by p b line.word line.instr of goes (record {
+      valid = valid;
+      aligned = subst (λ (a : ℕ). a % 4 ≡ 0) here is.aligned;
+      bytes = subst (λ (a : ℕ). four_bytes (byte_at b.memory.image) a ≡ Some (to_be_bytes w32 line.word)) here is.word;
+    })
+    small is.instruction
+    (λ j other. one_reading line.word j line.instr other is.instruction)
+
+-- and the vector that is raised where none was found
+pub vector_by : (p : Program) (b : BoardView) (vector : ℕ) → IsProgramOf b.memory.image p → is_idle_board b ≡ false →
+    b.slots.nip.v ≡ true →
+    pc_of b.slots % 4 ≡ 0 →
+    HasNoInstruction b.memory.image (pc_of b.slots) vector →
+    choice_by p b.limit Issue (local_of b) ≡ stopping (by_vector vector (pc_of b.slots)) b.pending
+vector_by p b vector of goes valid aligned (inl lacks) =
+    lacks_by p b of goes (record { valid = valid; aligned = aligned; bytes = lacks.0 })
+    ∙ ap (λ (v : ℕ). stopping (by_vector v (pc_of b.slots)) b.pending) (sym lacks.1)
+vector_by p b vector of goes valid aligned (inr none) =
+    unimplemented_by p b none.0 of goes (record { valid = valid; aligned = aligned; bytes = none.1.1 }) none.1.0 none.2
+    ∙ ap (λ (v : ℕ). stopping (by_vector v (pc_of b.slots)) b.pending) (sym none.3)
+
+-- a vector that is raised is one
+pub vector_small : (image : ProgramImage) (addr vector : ℕ) → HasNoInstruction image addr vector → vector < 512
+vector_small image addr vector (inl lacks) = subst (λ (v : ℕ). v < 512) (sym lacks.1) (omega arith)
+vector_small image addr vector (inr none) = subst (λ (v : ℕ). v < 512) (sym none.3) (omega arith)
+
+-- NIP isn't marked where an instruction was found there
+pub found_unmarked : (b : BoardView) (line : Line) → SlotsAgree b.memory.image b.slots → b.slots.nip.v ≡ true →
+    line.addr ≡ pc_of b.slots →
+    IsLine b.memory.image line →
+    b.slots.nip.e ≡ false
+found_unmarked b line agree valid here is =
+    let at : line.addr ≡ b.slots.nip.addr =
+    here ∙ ap (λ (v : Bool). if v then b.slots.nip.addr else b.slots.fip.addr) valid in
+    ap (λ (s : Slot). s.e) agree.nip
+    ∙ ap (λ (v : Bool). (if v then valid_slot b.slots.nip.addr (lacks_word b.memory.image b.slots.nip.addr)
+    else squashed_slot (word_behind b.slots.xip.addr)).e) valid
+    ∙ ap (λ (a : ℕ). lacks_word b.memory.image a) (sym at)
+    ∙ ap (λ (o : Option (List ℕ)). is_none o) is.word

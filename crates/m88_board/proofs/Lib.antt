@@ -35,5 +35,6 @@ pub mod ReadBack
 pub mod OfHistory
 pub mod Resuming
 pub mod Suspending
+pub mod Briefly
 pub mod CameTo
 pub mod Telling

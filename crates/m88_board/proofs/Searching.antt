@@ -3,7 +3,6 @@ use Rattle.std.specs.Prelude.{ℕ, zero, suc, Bool, true, false, Some, None, ◌
 use Rattle.std.proofs.Common.{arith, refl, sym, ap, ◌∙◌}
 use Rattle.std.specs.Prelude.{List, min, max, not, ◌==◌, ◌&&◌, ◌||◌, bit_and, bit_or}
 use Rattle.std.specs.Int.{bit_at}
-use Rattle.std.specs.Int.Bits.{and_zero_l}
 use Rattle.std.proofs.lemmas.Bool.{eqb-true}
 use Rattle.std.proofs.lemmas.Nat.Bits.{bit_at_and, bit_at_or, bit_at-zero}
 use Rattle.m88_base.specs.RegisterSet.{registers_in}
@@ -73,9 +72,3 @@ none_waits_for i pending waiting touched names word apart =
         sym (bit_at_and waiting touched (suc k) ∙ ap (λ n. min (bit_at waiting (suc k)) n) (ap (λ n. bit_at n (suc k)) word ∙ bit_at_or (uses_of i) (writes_of i) (suc k)))
         ∙ ap (λ n. bit_at n (suc k)) apart ∙ bit_at-zero (suc k) in
         rw (← names) (apart_bits (bit_at (uses_of i) (suc k)) (bit_at (writes_of i) (suc k)) (bit_at waiting (suc k)) both)
-
--- nor where no register waits
-pub none_waits_at_all : (i : Instr) (pending : List Access) (waiting : ℕ) → registers_in waiting ≡ waits_for pending → waiting ≡ 0
-    → busy_register (Some i) pending ≡ None
-none_waits_at_all i pending waiting names none =
-    none_waits_for i pending waiting (bit_or (uses_of i) (writes_of i)) names refl (rw none (and_zero_l (bit_or (uses_of i) (writes_of i))))

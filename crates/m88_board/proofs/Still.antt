@@ -10,6 +10,8 @@ use Rattle.m88_event.specs.declared.record.Record.{Record}
 use Rattle.m88_isa.specs.Machine.{Stop, Turn, changes, outputs, stops}
 use Rattle.m88_board.proofs.Counting.{no_record}
 use Rattle.m88_board.specs.Board.{BoardView}
+use Rattle.m88_board.specs.Inside.Briefly.{happened_of}
+use Rattle.m88_board.specs.declared.brief.Brief.{Brief}
 use Rattle.m88_board.specs.Moves.{Did, IsSameRun, IsStill, IsUnmoved}
 
 -- a turn that comes is not still
@@ -25,12 +27,13 @@ pub still_by_turn : (turn : Turn) (old : BoardView) (h : Happened) (new : BoardV
 still_by_turn turn old h new did still =
     absurd (moving turn no_record (subst IsStill (did no_record).says still))
 
-pub still_if_turned : (turn : Turn) (r : Result Happened NoMemory) (old new : BoardView) →
-    IfOk r (λ h. (fault : Record) → Did (turn_choice turn) fault old h new) →
-    IfOk r (λ h. IsStill h → new ≡ old)
+pub still_if_turned : (turn : Turn) (r : Result Brief NoMemory) (old new : BoardView) →
+    IfOk r (λ brief. (fault : Record) → Did (turn_choice turn) fault old (happened_of brief new) new) →
+    IfOk r (λ brief. IsStill (happened_of brief new) → new ≡ old)
 still_if_turned turn r old new did =
-    IfOk-weaker r (λ h. (fault : Record) → Did (turn_choice turn) fault old h new) (λ h. IsStill h → new ≡ old)
-    (λ h d. still_by_turn turn old h new d) did
+    IfOk-weaker r (λ brief. (fault : Record) → Did (turn_choice turn) fault old (happened_of brief new) new)
+    (λ brief. IsStill (happened_of brief new) → new ≡ old)
+    (λ brief d. still_by_turn turn old (happened_of brief new) new d) did
 
 -- the same of what ends the program
 pub still_by_stop : (stop : Stop) (old : BoardView) (h : Happened) (new : BoardView) →
@@ -40,8 +43,8 @@ pub still_by_stop : (stop : Stop) (old : BoardView) (h : Happened) (new : BoardV
 still_by_stop stop old h new did = still_by_turn (stops stop) old h new did
 
 -- a choice keeps the run
-pub same_if : (choice : Choice) (r : Result Happened NoMemory) (old new : BoardView) →
-    IfOk r (λ h. (fault : Record) → Did choice fault old h new) →
+pub same_if : (choice : Choice) (r : Result Brief NoMemory) (old new : BoardView) →
+    IfOk r (λ brief. (fault : Record) → Did choice fault old (happened_of brief new) new) →
     OnOk r (IsSameRun old new)
 same_if choice (Ok h) old new did = (did no_record).does.same
 same_if choice (Err e) old new did = tt

@@ -1,6 +1,6 @@
 //! The board: its parts, and what a choice makes of them.
 
-ghost use Rattle.std.specs.Prelude.{ℕ, Bool, ◌&&◌, option_map, ◌≡◌, ◌<◌, ◌≤◌, ◌+◌, ◌-◌, ◌*◌, ◌%◌, ◌++◌, [], Option, Some, None, true, false, is_some, length, slice_get, IfOk, IfSome, OnErr, OnOk};
+ghost use Rattle.std.specs.Prelude.{ℕ, Bool, ◌&&◌, option_map, ◌≡◌, ◌<◌, ◌≤◌, ◌+◌, ◌-◌, ◌*◌, ◌%◌, ◌++◌, ◌∷◌, [], Option, Some, None, true, false, is_some, length, slice_get, IfOk, IfSome, OnErr, OnOk};
 ghost use Rattle.m88_base.specs.Image.{IsImage};
 ghost use Rattle.m88_base.specs.Pages.{page_number};
 ghost use Rattle.m88_base.specs.Reg.{number_of};
@@ -9,10 +9,11 @@ ghost use Rattle.m88_ctrl.specs.ControlRegisters.{mxm_of};
 ghost use Rattle.m88_event.specs.Choice.{answer_choice, end_by, evicts, faults, finishes, issues, passes, replies, serves, turn_choice};
 ghost use Rattle.m88_event.specs.Local.{record_by};
 ghost use Rattle.m88_event.specs.Timeline.{Moment, opening_moment, record_at};
-ghost use Rattle.m88_event.specs.declared.happened.Happened.{Happened as HappenedValue};
+ghost use Rattle.m88_board.specs.declared.brief.Brief.{Brief as BriefValue};
 ghost use Rattle.m88_event.specs.declared.record.Record.{Record as RecordValue};
 ghost use Rattle.m88_isa.specs.Bus.{LoadApart, listed, waits_for};
 ghost use Rattle.m88_mem.specs.DataBus.{absent_of};
+ghost use Rattle.m88_mem.specs.Lines.{HasTouched};
 ghost use Rattle.m88_mem.specs.Marks.{NamesPages, absent_in};
 ghost use Rattle.m88_isa.specs.Effect.{Change, recorded_change};
 ghost use Rattle.m88_isa.specs.Flow.{FlowFits};
@@ -27,18 +28,20 @@ ghost use Rattle.m88_iunit.specs.Pointers.{resumed};
 ghost use Rattle.m88_board.specs.Kept.{IsKept, IsProgramEnd, epsr_of, most_events, most_retired};
 ghost use Rattle.m88_board.specs.Moves.{Did, Does, IsAt, IsEvicted, IsSameRun, IsStill, IsUnmoved, stopping};
 ghost use Rattle.m88_board.specs.Shown.{IsRecordOf, Leaves, ShowsFault, rest_of};
+ghost use Rattle.m88_board.specs.Inside.Briefly.{happened_of};
 ghost use Rattle.m88_board.specs.Inside.Turns.{ComesToEnd, IssueComesTo, StoreOnOnePage};
 
 use crate::accesses::{complete, prepare, put_in, write};
+use crate::brief::Brief;
 use crate::serving::{enter, serve_all, visit};
-use crate::slots::{advance, lacks_word};
+use crate::slots::{advance, lacks_behind, lacks_word};
 use m88_base::{Absent, Image, NoMemory, Reg};
 use m88_ctrl::{Control, cr};
 use m88_dunit::DataUnit;
-use m88_event::{End, Happened, Record, Why};
+use m88_event::{End, Record, Why};
 use m88_isa::{Access, Effect, Instr, uses, writes};
 use m88_iunit::InstrUnit;
-use m88_mem::{Memory, PAGE_BYTES};
+use m88_mem::{Line, Memory, PAGE_BYTES};
 use m88_monitor::{Service, service};
 use m88_scoreboard::RegFile;
 use std::alloc::Global;
@@ -178,8 +181,7 @@ impl Board {
         ensures does { (fault : RecordValue) → Does passes fault self.old self.new }
         ensures control { self.new.control ≡ self.old.control }
     {
-        let then = self.iunit.following().addr.wrapping_add(4);
-        let lacks = lacks_word(&self.memory, then);
+        let lacks = lacks_behind(&self.memory, self.iunit.following().addr);
         self.iunit.pass_bubble(lacks);
     }
 
@@ -244,6 +246,7 @@ impl Board {
         ensures record { IfOk result (λ fault. (p : Program) → IsProgramOf self.old.memory.image p
             → fault ≡ record_by p self.old.limit (local_of self.old)) }
         ensures does { IfOk result (λ fault. Does faults fault self.old self.new) }
+        ensures kept { IfOk result (λ fault. self.new.records ≡ self.old.records ++ fault ∷ []) }
         ensures leaves { IfOk result (λ fault. ShowsFault fault self.new.control
             × (rest_of self.new.control ≡ rest_of self.old.control)) }
         ensures events { self.new.events ≡ self.old.events }
@@ -264,42 +267,42 @@ impl Board {
     }
 
     /// The letter `r`.
-    fn answer(&mut self) -> Result<Happened, NoMemory>
-        ensures ok { IfOk result (λ happened. (p : Program) → IsProgramOf self.old.memory.image p
+    fn answer(&mut self) -> Result<Brief, NoMemory>
+        ensures ok { IfOk result (λ brief. (p : Program) → IsProgramOf self.old.memory.image p
             → Did (answer_choice self.old.pending (absent_of self.old.memory))
-            (record_by p self.old.limit (local_of self.old)) self.old happened self.new) }
+            (record_by p self.old.limit (local_of self.old)) self.old (happened_of brief self.new) self.new) }
         ensures events { self.new.events ≡ self.old.events }
         ensures same { OnOk result (IsSameRun self.old self.new) }
-        ensures still { IfOk result (λ happened. IsStill happened → self.new ≡ self.old) }
+        ensures still { IfOk result (λ brief. IsStill (happened_of brief self.new) → self.new ≡ self.old) }
         ensures shorter { OnOk result (length self.new.pending ≤ length self.old.pending - 1) }
-        ensures leaves { IfOk result (λ happened. Leaves happened self.old self.new) }
+        ensures leaves { IfOk result (λ brief. Leaves (happened_of brief self.new) self.old self.new) }
         ensures err { OnErr result (IsUnmoved self.old self.new) }
     {
         let Some(oldest) = self.dunit.oldest() else {
-            return Ok(Happened::Idle);
+            return Ok(Brief::Idle);
         };
         if self.memory.is_absent(oldest.addr / PAGE_BYTES) {
-            let fault = self.fault()?;
-            return Ok(Happened::Faulted(fault));
+            self.fault()?;
+            return Ok(Brief::Faulted);
         }
         self.reply(&oldest);
-        Ok(Happened::Answered)
+        Ok(Brief::Answered)
     }
 
     /// The letter `e`: every page is absent until it is supplied.
-    fn evict(&mut self) -> Happened
-        ensures did { (fault : RecordValue) → Did evicts fault self.old result self.new }
+    fn evict(&mut self) -> Brief
+        ensures did { (fault : RecordValue) → Did evicts fault self.old (happened_of result self.new) self.new }
         ensures events { self.new.events ≡ self.old.events }
-        ensures says { result ≡ HappenedValue.Evicted }
+        ensures says { result ≡ BriefValue.Evicted }
         ensures evicted { IsEvicted self.old self.new }
-        ensures leaves { Leaves result self.old self.new }
+        ensures leaves { Leaves (happened_of result self.new) self.old self.new }
     {
         self.memory.evict_all();
-        Happened::Evicted
+        Brief::Evicted
     }
 
     /// The program ends by a vector, with nothing pending.
-    fn finish(&mut self, vector: u16, end: End) -> Happened
+    fn finish(&mut self, vector: u16, end: End) -> Brief
         requires vector { vector < 512 }
         requires going { is_idle_board self.old ≡ false }
         requires valid { self.old.slots.nip.v ≡ true }
@@ -307,22 +310,22 @@ impl Board {
         requires ends { IsProgramEnd end }
         requires comes { ComesToEnd end self.old }
         ensures does { (stop : Stop) (fault : RecordValue) → end ≡ end_by stop
-            → Did (finishes stop) fault self.old result self.new }
-        ensures leaves { Leaves result self.old self.new }
+            → Did (finishes stop) fault self.old (happened_of result self.new) self.new }
+        ensures leaves { Leaves (happened_of result self.new) self.old self.new }
     {
         enter(&mut self.ctrl, &self.iunit, vector);
         self.ended = Some(end);
-        Happened::Ended(end)
+        Brief::Ended(end)
     }
 
     /// Puts a byte out for the next instruction.
-    fn put_out(&mut self, byte: u8) -> Result<Happened, NoMemory>
+    fn put_out(&mut self, byte: u8) -> Result<Brief, NoMemory>
         requires going { is_idle_board self.old ≡ false }
         requires valid { self.old.slots.nip.v ≡ true }
         requires fetched { self.old.slots.nip.e ≡ false }
-        ensures ok { IfOk result (λ happened. (fault : RecordValue)
-            → Did (serves byte) fault self.old happened self.new) }
-        ensures leaves { IfOk result (λ happened. Leaves happened self.old self.new) }
+        ensures ok { IfOk result (λ brief. (fault : RecordValue)
+            → Did (serves byte) fault self.old (happened_of brief self.new) self.new) }
+        ensures leaves { IfOk result (λ brief. Leaves (happened_of brief self.new) self.old self.new) }
         ensures err { OnErr result (IsUnmoved self.old self.new) }
     {
         self.out.push(byte).or(Err(NoMemory))?;
@@ -335,7 +338,7 @@ impl Board {
         );
         self.retired += 1;
         visit(&mut self.ctrl, &self.iunit);
-        Ok(Happened::Served(byte))
+        Ok(Brief::Served(byte))
     }
 
     /// Issues the next instruction.
@@ -368,7 +371,7 @@ impl Board {
 
     /// The next word can't be fetched or is no instruction, or the next instruction raises: the program ends by
     /// this vector, or waits for an empty data unit.
-    fn raise(&mut self, vector: u16) -> Happened
+    fn raise(&mut self, vector: u16) -> Brief
         requires vector { vector < 512 }
         requires going { is_idle_board self.old ≡ false }
         requires valid { self.old.slots.nip.v ≡ true }
@@ -376,19 +379,19 @@ impl Board {
             (stopping (by_vector vector (pc_of self.old.slots)) self.old.pending) self.old }
         ensures does { (fault : RecordValue) → Did
             (stopping (by_vector vector (pc_of self.old.slots)) self.old.pending)
-            fault self.old result self.new }
-        ensures still { IsStill result → self.new ≡ self.old }
-        ensures leaves { Leaves result self.old self.new }
+            fault self.old (happened_of result self.new) self.new }
+        ensures still { IsStill (happened_of result self.new) → self.new ≡ self.old }
+        ensures leaves { Leaves (happened_of result self.new) self.old self.new }
     {
         if self.is_pending() {
-            return Happened::Stalled(Why::Sync);
+            return Brief::Stalled(Why::Sync);
         }
         let at = self.iunit.candidate().addr;
         self.finish(vector, End::Vector { vector, at })
     }
 
     /// The next instruction is a taken trap, and nothing is pending.
-    fn trap(&mut self, vector: u16) -> Result<Happened, NoMemory>
+    fn trap(&mut self, vector: u16) -> Result<Brief, NoMemory>
         requires vector { vector < 512 }
         requires going { is_idle_board self.old ≡ false }
         requires valid { self.old.slots.nip.v ≡ true }
@@ -396,10 +399,10 @@ impl Board {
         requires empty { self.old.pending ≡ [] }
         requires comes { IssueComesTo
             (turn_choice (trapped vector self.old.file.numbers (pc_of self.old.slots))) self.old }
-        ensures ok { IfOk result (λ happened. (fault : RecordValue) → Did
+        ensures ok { IfOk result (λ brief. (fault : RecordValue) → Did
             (turn_choice (trapped vector self.old.file.numbers (pc_of self.old.slots)))
-            fault self.old happened self.new) }
-        ensures leaves { IfOk result (λ happened. Leaves happened self.old self.new) }
+            fault self.old (happened_of brief self.new) self.new) }
+        ensures leaves { IfOk result (λ brief. Leaves (happened_of brief self.new) self.old self.new) }
         ensures err { OnErr result (IsUnmoved self.old self.new) }
     {
         let at = self.iunit.candidate().addr;
@@ -425,28 +428,25 @@ impl Board {
     }
 
     /// Whether a register may wait that an instruction uses or writes: those that do have a bit in common.
-    fn may_wait(&self, instr: &Instr) -> bool
-        requires { IsValid instr.now }
-        ensures { result ≡ false → busy_register (Some instr.now) self.now.pending ≡ None }
+    fn may_wait(&self, line: &Line) -> bool
+        requires { HasTouched line.now }
+        ensures { result ≡ false → busy_register (Some line.now.instr) self.now.pending ≡ None }
     {
-        let waiting = self.regs.busy();
-        if waiting == 0 {
-            return false;
-        }
-        waiting & (uses(instr) | writes(instr)) != 0
+        self.regs.busy() & line.touched != 0
     }
 
     /// The register with the least number, other than r0, that an instruction uses or writes and that waits.
-    fn busy_register(&self, instr: &Instr) -> Option<Reg>
-        requires { IsValid instr.now }
-        ensures { option_map number_of result ≡ busy_register (Some instr.now) self.now.pending }
+    fn busy_register(&self, line: &Line) -> Option<Reg>
+        requires instr { IsValid line.now.instr }
+        requires touched { HasTouched line.now }
+        ensures { option_map number_of result ≡ busy_register (Some line.now.instr) self.now.pending }
     {
-        if !self.may_wait(instr) {
+        if !self.may_wait(line) {
             return None;
         }
         for n in 1..32 {
             let r = Reg::from_low_bits(n);
-            if self.waits_on(instr, r) {
+            if self.waits_on(&line.instr, r) {
                 return Some(r);
             }
         }

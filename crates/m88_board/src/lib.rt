@@ -14,6 +14,7 @@ mod parts;
 mod context;
 
 // along the letters of a run
+mod brief;
 mod told;
 mod until;
 mod walk;

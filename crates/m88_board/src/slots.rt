@@ -1,6 +1,7 @@
 //! The instruction pointers as an instruction goes into execution.
 
 ghost use Rattle.std.specs.Prelude.{◌≡◌, ◌%◌, true, false};
+ghost use Rattle.m88_isa.specs.Address.{after_bytes};
 ghost use Rattle.m88_isa.specs.Flow.{FlowFits};
 ghost use Rattle.m88_board.specs.Kept.{SlotsAgree, lacks_word};
 ghost use Rattle.m88_board.specs.Moves.{IsAdvanced};
@@ -29,6 +30,30 @@ fn lacks_next(iunit: &InstrUnit, memory: &Memory, next: u32) -> bool
     lacks_word(memory, next)
 }
 
+/// Whether the image lacks a byte of the word behind the one at an address, which is known of an instruction that is
+/// kept.
+pub(crate) fn lacks_behind(memory: &Memory, addr: u32) -> bool
+    requires { addr % 4 ≡ 0 }
+    ensures { result ≡ lacks_word memory.now.image (after_bytes addr 4) }
+{
+    match memory.line(addr) {
+        Some(line) => line.behind_e,
+        None => lacks_word(memory, addr.wrapping_add(4)),
+    }
+}
+
+/// Whether the image lacks a byte of the word at `behind`, which may be the one behind that at `next`.
+fn lacks_further(memory: &Memory, next: u32, behind: u32) -> bool
+    requires next { next % 4 ≡ 0 }
+    requires behind { behind % 4 ≡ 0 }
+    ensures { result ≡ lacks_word memory.now.image behind }
+{
+    if behind == next.wrapping_add(4) {
+        return lacks_behind(memory, next);
+    }
+    lacks_word(memory, behind)
+}
+
 /// The next instruction, which could be fetched, goes into execution, and others follow it.
 pub(crate) fn advance(iunit: &mut InstrUnit, memory: &Memory, after: (u32, u32), bubble: bool)
     requires valid { iunit.old.nip.v ≡ true }
@@ -40,6 +65,6 @@ pub(crate) fn advance(iunit: &mut InstrUnit, memory: &Memory, after: (u32, u32),
 {
     let (next, behind) = after;
     let next_e = lacks_next(iunit, memory, next);
-    let behind_e = lacks_word(memory, behind);
+    let behind_e = lacks_further(memory, next, behind);
     iunit.advance(next, next_e, behind, behind_e, bubble);
 }

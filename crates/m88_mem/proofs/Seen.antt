@@ -1,5 +1,5 @@
 -- Frames and bits as they are seen: page by page.
-use Rattle.std.proofs.Common.{◌≡◌, ℕ, zero, suc, ◌<◌, ◌≤◌, ◌/◌, ◌%◌, Bool, ◌==◌, true, false, List, Option, Some, None, is_some, unwrap_or, length, slice_index_or, refl, arith, ap, sym, ◌∙◌, inl, inr}
+use Rattle.std.proofs.Common.{◌≡◌, ℕ, zero, suc, ◌<◌, ◌≤◌, ◌+◌, ◌*◌, ◌/◌, ◌%◌, Bool, ◌==◌, true, false, List, Option, Some, None, is_some, unwrap_or, length, slice_get, slice_index_or, refl, arith, ap, sym, ◌∙◌, inl, inr}
 use Rattle.std.proofs.Math.ListN.{get_or-eq_default}
 use Rattle.std.proofs.Math.Path.{fun_ext}
 use Rattle.std.proofs.lemmas.Bool.{cases_eq, cases_lt}
@@ -8,7 +8,7 @@ use Rattle.std.proofs.lemmas.Nat.Bits.{bit_at-zero}
 use Rattle.m88_base.specs.Image.{ProgramImage}
 use Rattle.m88_base.specs.Pages.{page_count, page_number}
 use Rattle.m88_mem.proofs.Words.{bus_by}
-use Rattle.m88_mem.specs.DataBus.{absent_of, bus_of, image_bus, page_words, ready_of, word_of}
+use Rattle.m88_mem.specs.DataBus.{MemoryView, absent_of, bus_of, image_bus, page_words, ready_of, word_of}
 use Rattle.m88_mem.specs.Inside.Frames.{by_page, frame_at, frame_in, is_marked, mark_words, seen_as, table_entries, tabulated, with_frame, word_at, word_in, words_in}
 use Rattle.m88_mem.specs.Marks.{with_page}
 use Rattle.m88_mem.specs.declared.frames.FrameTable.{FrameTable}
@@ -52,7 +52,7 @@ unfolding word_in
 same_word None place = refl
 same_word (Some frame) place = refl
 
-same_there : (frame : Option PageFrame) → is_some (words_in frame) ≡ is_some frame
+pub same_there : (frame : Option PageFrame) → is_some (words_in frame) ≡ is_some frame
 same_there None = refl
 same_there (Some frame) = refl
 
@@ -94,3 +94,17 @@ now_ready frames page frame set before p = elim (cases_eq p page) [
   | inl e ↦ let test : (p == page) ≡ true = grind (arith, nat_tests) in rw test refl
   | inr ne ↦ let test : (p == page) ≡ false = grind (arith, nat_tests) in rw test (sym (before p))
 ]
+
+-- a word of a page that is ready, as the data bus has it
+pub frame_word : (m : MemoryView) (image : ProgramImage) (tables : List (Option FrameTable)) (marks : List ℕ) →
+    seen_as image tables marks ≡ m → length tables ≡ table_entries → (page place word addr : ℕ) (words : List ℕ) →
+    words_in (frame_at tables page) ≡ Some words → slice_get words place ≡ Some word →
+    addr ≡ page * 4096 + place * 4 → place < page_words → word ≡ bus_of m addr
+frame_word m image tables marks seen long page place word addr words there got is low =
+    let bus : bus_of m ≡ bus_by (word_at tables) (image_bus image) = ap bus_of (sym seen) ∙ seen_bus image tables marks long in
+    let high : page_number addr ≡ page = omega (arith, is, low) in
+    let at : addr / 4 % page_words ≡ place = omega (arith, is, low) in
+    let found : word_at tables (page_number addr) (addr / 4 % page_words) ≡ Some word =
+    ap (λ p. word_at tables p (addr / 4 % page_words)) high ∙ ap (λ k. word_at tables page k) at
+    ∙ sym (same_word (frame_at tables page) place) ∙ ap (λ o. word_of o place) there ∙ got in
+    sym (ap (λ read. read addr) bus ∙ ap (λ o. unwrap_or o (image_bus image addr)) found)

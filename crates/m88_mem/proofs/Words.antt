@@ -189,6 +189,14 @@ blank_word image page k free few =
     let byte = λ (i : ℕ) (h : i < 4). blank_byte image (page * 4096) 4096 (page * 4096 + k * 4 + i) free (omega arith) (omega (arith, few, h)) in
     rw at (zeros_at (image_bytes image) (page * 4096 + k * 4) 4 byte)
 
+-- the same of one word
+pub free_word : (image : ProgramImage) (addr : ℕ) → addr % 4 ≡ 0 → IsFree (byte_at image) addr 4 → image_bus image addr ≡ 0
+unfolding in_words
+free_word image addr aligned free =
+    let at : word_address addr ≡ addr = omega (arith, aligned) in
+    let byte = λ (i : ℕ) (h : i < 4). blank_byte image addr 4 (addr + i) free (omega arith) (omega (arith, h)) in
+    rw at (zeros_at (image_bytes image) addr 4 byte)
+
 -- and so a frame of zeros has the words that the image has there
 zero_among : (n k : ℕ) → k < n → slice_get {X = ℕ} (replicate n 0) k ≡ Some 0
 zero_among zero k few = absurd (omega (arith, few))

@@ -3,10 +3,10 @@
 // a frame, a word and a table, where they are there
 crate::specs::Inside::Frames::frame_in, crate::specs::Inside::Frames::word_in, crate::specs::Inside::Frames::has_table))]
 
-ghost use Rattle.std.specs.Prelude.{◌≡◌, ◌<◌, ◌==◌, ◌&&◌, ℕ, true, None, Some, is_some, replicate, length, if◌then◌else◌, IfOk, OnErr, OnOk};
+ghost use Rattle.std.specs.Prelude.{◌≡◌, ◌<◌, ◌==◌, ◌&&◌, ℕ, true, None, Some, is_some, replicate, length, option_map, if◌then◌else◌, IfOk, IfSome, OnErr, OnOk};
 ghost use Rattle.m88_base.specs.Pages.{page_count};
 ghost use Rattle.m88_mem.specs.DataBus.{page_words};
-ghost use Rattle.m88_mem.specs.Inside.Frames.{frame_at, has_table, table_entries, with_frame, word_at};
+ghost use Rattle.m88_mem.specs.Inside.Frames.{frame_at, has_table, table_entries, with_frame, word_at, words_in};
 
 use m88_base::NoMemory;
 use std::alloc::Global;
@@ -86,6 +86,20 @@ impl PageFrames {
             return None;
         };
         frame.words.get(place).copied()
+    }
+
+    /// The words of a page, in order, where the page is ready.
+    pub fn words(&self, page: u32) -> Option<&[u32]>
+        ensures words { option_map (λ words. words.now) result ≡ words_in (frame_at self.now page) }
+        ensures long { IfSome result (λ words. length words.now ≡ page_words) }
+    {
+        let Some(Some(table)) = self.tables.get(page as usize / ENTRIES) else {
+            return None;
+        };
+        let Some(Some(frame)) = table.frames.get(page as usize % ENTRIES) else {
+            return None;
+        };
+        Some(&frame.words)
     }
 
     /// Gives the page's part of the upper level a table. The frames stay as they are.

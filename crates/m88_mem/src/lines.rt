@@ -18,6 +18,10 @@ pub struct Line {
     pub addr: u32,
     pub word: u32,
     pub instr: Instr,
+    /// The registers that it uses or writes, bit n for register n.
+    pub touched: u32,
+    /// Whether the word behind it can't be fetched.
+    pub behind_e: bool,
 }
 
 /// No instruction is kept.

@@ -249,15 +249,12 @@ impl Memory {
             ≡ changed_among ((high + 1) * table_entries * page_words) (image_bus self.now.image) (bus_of self.now)) }
     {
         for low in 0..ENTRIES as u32 {
-            let page = high * ENTRIES as u32 + low;
-            if self.frames.is_ready(page) {
-                self.changed_in_page(page, changed)?;
-            }
+            self.changed_in_page(high * ENTRIES as u32 + low, changed)?;
         }
         Ok(())
     }
 
-    /// Appends the words of a page that differ from the image's.
+    /// Appends the words of a page that differ from the image's, of which a page that isn't ready has none.
     fn changed_in_page(&self, page: u32, changed: &mut Vec<(u32, u32)>) -> Result<(), NoMemory>
         requires page { IsPage page }
         requires before { changed.old.items
@@ -265,13 +262,16 @@ impl Memory {
         ensures { OnOk result (changed.new.items
             ≡ changed_among ((page + 1) * page_words) (image_bus self.now.image) (bus_of self.now)) }
     {
+        let Some(words) = self.frames.words(page) else {
+            return Ok(());
+        };
         let taken = self
             .image
             .first_taken(page * PAGE_BYTES, PAGE_BYTES as usize);
         let is_blank = taken.is_none();
         for place in 0..PAGE_WORDS {
             let addr = page * PAGE_BYTES + place * 4;
-            let word = self.word(addr);
+            let word = word_in(words, place);
             if word != page_word(&self.image, is_blank, addr) {
                 note(changed, addr, word)?;
             }
@@ -285,6 +285,14 @@ fn note(changed: &mut Vec<(u32, u32)>, addr: u32, word: u32) -> Result<(), NoMem
     ensures { OnOk result (changed.new.items ≡ changed.old.items ++ (addr, word) ∷ []) }
 {
     changed.push((addr, word)).or(Err(NoMemory))
+}
+
+/// The word at a place among the words of a page.
+fn word_in(words: &[u32], place: u32) -> u32
+    requires { place < length words.now }
+    ensures { slice_get words.now place ≡ Some result }
+{
+    words[place as usize]
 }
 
 /// The place of the word at a byte address among the words of its page.

@@ -35,7 +35,18 @@ pub(crate) fn image_word(image: &Image, addr: u32) -> u32
         [first, second, third, fourth, ..] => {
             BigEndian::read_u32(&[*first, *second, *third, *fourth])
         }
-        _ => BigEndian::read_u32(&[
+        _ => word_of_some(image, addr),
+    }
+}
+
+/// The same, where bytes are missing: mostly all of them.
+fn word_of_some(image: &Image, addr: u32) -> u32
+    requires { addr % 4 ≡ 0 }
+    ensures { result ≡ image_bus image.now addr }
+{
+    match image.first_taken(addr, 4) {
+        None => 0,
+        Some(_) => BigEndian::read_u32(&[
             byte_or_zero(image, addr),
             byte_or_zero(image, addr + 1),
             byte_or_zero(image, addr + 2),

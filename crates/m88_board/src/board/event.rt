@@ -14,29 +14,32 @@ ghost use Rattle.m88_isa.specs.ImageProgram.{IsProgramOf};
 ghost use Rattle.m88_isa.specs.declared.planned.Plan.TheVariants.{Go};
 ghost use Rattle.m88_board.specs.Kept.{IsKept, most_events};
 ghost use Rattle.m88_board.specs.Moves.{Did, IsAt, IsEvicted, IsMove, IsSameRun, IsStill, IsUnmoved, end_after};
+ghost use Rattle.m88_board.specs.Inside.Briefly.{happened_of};
 ghost use Rattle.m88_board.specs.Shown.{Leaves};
+ghost use Rattle.m88_board.specs.declared.brief.Brief.{Brief as BriefValue};
 ghost use Rattle.m88_board.specs.Told.{IsTold, IsWordOf, MakesWordAccesses, WentOn};
 
 use super::Board;
+use crate::brief::Brief;
 use crate::told::Told;
 use m88_base::NoMemory;
 use m88_event::{Happened, Letter};
 
 impl Board {
     /// What a letter makes the board do; the event isn't counted yet.
-    fn take(&mut self, letter: Letter, told: &mut Told) -> Result<Happened, NoMemory>
-        ensures ok { IfOk result (λ happened. (p : Program) → IsProgramOf self.old.memory.image p
+    fn take(&mut self, letter: Letter, told: &mut Told) -> Result<Brief, NoMemory>
+        ensures ok { IfOk result (λ brief. (p : Program) → IsProgramOf self.old.memory.image p
             → Did (choice_by p self.old.limit letter (local_of self.old))
-            (record_by p self.old.limit (local_of self.old)) self.old happened self.new) }
+            (record_by p self.old.limit (local_of self.old)) self.old (happened_of brief self.new) self.new) }
         ensures events { self.new.events ≡ self.old.events }
         ensures same { OnOk result (IsSameRun self.old self.new) }
-        ensures still { IfOk result (λ happened. IsStill happened → self.new ≡ self.old) }
+        ensures still { IfOk result (λ brief. IsStill (happened_of brief self.new) → self.new ≡ self.old) }
         ensures shorter { letter ≡ LetterValue.Answer
             → OnOk result (length self.new.pending ≤ length self.old.pending - 1) }
-        ensures leaves { IfOk result (λ happened. Leaves happened self.old self.new) }
-        ensures evicts { letter ≡ LetterValue.Evict → result ≡ Ok HappenedValue.Evicted }
+        ensures leaves { IfOk result (λ brief. Leaves (happened_of brief self.new) self.old self.new) }
+        ensures evicts { letter ≡ LetterValue.Evict → result ≡ Ok BriefValue.Evicted }
         ensures evicted { letter ≡ LetterValue.Evict → IsEvicted self.old self.new }
-        ensures word { letter ≡ LetterValue.Issue → IfOk result (λ happened. WentOn happened
+        ensures word { letter ≡ LetterValue.Issue → IfOk result (λ brief. WentOn (happened_of brief self.new)
             → IsWordOf (four_bytes (byte_at self.old.memory.image) (pc_of self.old.slots))
             told.new.word) }
         ensures plan { letter ≡ LetterValue.Issue → OnOk result ((p : Program) (change : Change)
@@ -84,47 +87,64 @@ impl Board {
         ensures evicted { letter ≡ LetterValue.Evict → IsEvicted self.old self.new }
         ensures err { OnErr result (IsUnmoved self.old self.new) }
     {
-        self.event_told(letter, &mut Told::nothing())
+        let brief = self.event_told(letter, &mut Told::nothing())?;
+        Ok(self.happened(brief))
     }
 
     /// Makes the event of a letter as `event` does, and tells of `i` what the instruction is that goes on.
-    pub(crate) fn event_told(
-        &mut self,
-        letter: Letter,
-        told: &mut Told,
-    ) -> Result<Happened, NoMemory>
+    pub(crate) fn event_told(&mut self, letter: Letter, told: &mut Told) -> Result<Brief, NoMemory>
         requires { self.old.events < most_events }
-        ensures moved { IfOk result (λ happened. (p : Program)
+        ensures moved { IfOk result (λ brief. (p : Program)
             → IsProgramOf self.old.memory.image p
-            → IsMove p letter self.old happened self.new) }
+            → IsMove p letter self.old (happened_of brief self.new) self.new) }
         ensures timeline { OnOk result ((p : Program) (named : ℕ → Bool) (m : Moment)
             → IsAt p named m self.old
             → IsAt p named (after_letter p named self.old.limit letter m) self.new) }
-        ensures said { IfOk result (λ happened. (p : Program) (named : ℕ → Bool) (m : Moment)
+        ensures said { IfOk result (λ brief. (p : Program) (named : ℕ → Bool) (m : Moment)
             → IsAt p named m self.old
-            → happened ≡ said_at p named self.old.limit letter m) }
-        ensures precise { IfOk result (λ happened. ServesOrEnds happened
+            → happened_of brief self.new ≡ said_at p named self.old.limit letter m) }
+        ensures precise { IfOk result (λ brief. ServesOrEnds (happened_of brief self.new)
             → self.old.pending ≡ []) }
-        ensures ended { IfOk result (λ happened. self.new.ended
-            ≡ end_after happened self.old.ended) }
+        ensures ended { IfOk result (λ brief. self.new.ended
+            ≡ end_after (happened_of brief self.new) self.old.ended) }
         ensures counted { OnOk result (self.new.events ≡ self.old.events + 1) }
         ensures same { OnOk result (IsSameRun self.old self.new) }
-        ensures still { IfOk result (λ happened. IsStill happened
+        ensures still { IfOk result (λ brief. IsStill (happened_of brief self.new)
             → self.new ≡ record self.old { events = self.old.events + 1 }) }
         ensures shorter { letter ≡ LetterValue.Answer
             → OnOk result (length self.new.pending ≤ length self.old.pending - 1) }
-        ensures leaves { IfOk result (λ happened. Leaves happened self.old self.new) }
+        ensures leaves { IfOk result (λ brief. Leaves (happened_of brief self.new) self.old self.new) }
         ensures kept { OnOk result (IsKept self.new) }
-        ensures evicts { letter ≡ LetterValue.Evict → result ≡ Ok HappenedValue.Evicted }
+        ensures evicts { letter ≡ LetterValue.Evict → result ≡ Ok BriefValue.Evicted }
         ensures evicted { letter ≡ LetterValue.Evict → IsEvicted self.old self.new }
-        ensures told { letter ≡ LetterValue.Issue → IfOk result (λ happened.
+        ensures told { letter ≡ LetterValue.Issue → IfOk result (λ brief.
             (p : Program) (named : ℕ → Bool) (m : Moment) → IsAt p named m self.old
-            → IsTold p named self.old.limit m happened told.new) }
+            → IsTold p named self.old.limit m (happened_of brief self.new) told.new) }
         ensures made { MakesWordAccesses told.old.plan → MakesWordAccesses told.new.plan }
         ensures err { OnErr result (IsUnmoved self.old self.new) }
     {
-        let happened = self.take(letter, told)?;
+        let brief = self.take(letter, told)?;
         self.count();
-        Ok(happened)
+        Ok(brief)
+    }
+
+    /// What an event did of which this was told in brief, before any other.
+    pub(crate) fn happened(&self, brief: Brief) -> Happened
+        ensures { result ≡ happened_of brief self.now }
+    {
+        match brief {
+            Brief::Issued => Happened::Issued,
+            Brief::Bubble => Happened::Bubble,
+            Brief::Stalled(why) => Happened::Stalled(why),
+            Brief::Answered => Happened::Answered,
+            Brief::Faulted => match self.records.last() {
+                Some(fault) => Happened::Faulted(*fault),
+                None => Happened::Idle,
+            },
+            Brief::Evicted => Happened::Evicted,
+            Brief::Idle => Happened::Idle,
+            Brief::Served(byte) => Happened::Served(byte),
+            Brief::Ended(end) => Happened::Ended(end),
+        }
     }
 }

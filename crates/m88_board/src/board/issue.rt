@@ -1,6 +1,6 @@
 //! The event of the letter `i`: the next instruction is issued, is held, or ends the program.
 
-ghost use Rattle.std.specs.Prelude.{◌≡◌, ◌%◌, Ok, Some, None, true, false, IfOk, OnErr, OnOk};
+ghost use Rattle.std.specs.Prelude.{◌≡◌, ◌%◌, Ok, Some, None, true, false, IfErr, IfOk, OnErr, OnOk};
 ghost use Rattle.m88_base.specs.Image.{byte_at};
 ghost use Rattle.m88_event.specs.Choice.{issues};
 ghost use Rattle.m88_event.specs.Local.{choice_by};
@@ -14,34 +14,40 @@ ghost use Rattle.m88_isa.specs.Operands.{access_count_of, writes_of};
 ghost use Rattle.m88_board.specs.Board.{completed_of, is_idle_board, local_of, pc_of};
 ghost use Rattle.m88_isa.specs.ImageProgram.{IsProgramOf};
 ghost use Rattle.m88_isa.specs.Word.{IsWord};
-ghost use Rattle.m88_isa.specs.declared.instr.Instr.{Instr as InstrValue};
 ghost use Rattle.m88_isa.specs.declared.planned.Plan.TheVariants.{Go};
+ghost use Rattle.m88_mem.specs.Lines.{HasTouched, IsLine};
 ghost use Rattle.m88_board.specs.Moves.{Did, IsSameRun, IsStill, IsUnmoved};
 ghost use Rattle.m88_board.specs.Shown.{Leaves};
 ghost use Rattle.m88_board.specs.Told.{IsWordOf, MakesWordAccesses, WentOn};
+ghost use Rattle.m88_board.specs.Inside.Briefly.{happened_of};
+ghost use Rattle.m88_board.specs.Inside.Fetched.{HasNoInstruction};
 ghost use Rattle.m88_board.specs.Inside.Turns.{IssueComesTo, PlansOnePage, choice_for, meaning_at};
 
 use crate::board::Board;
+use crate::brief::Brief;
+use crate::slots::lacks_word;
 use crate::told::Told;
 use m88_base::NoMemory;
-use m88_codec::{BadWord, decode};
-use m88_event::{Happened, Why};
-use m88_isa::{INSTRUCTION_ACCESS, Instr, Plan, UNIMPLEMENTED, plan, waits_for_empty};
-use m88_mem::Line;
+use m88_codec::decode;
+use m88_event::Why;
+use m88_isa::{
+    INSTRUCTION_ACCESS, Instr, Plan, UNIMPLEMENTED, plan, uses, waits_for_empty, writes,
+};
+use m88_mem::{Line, Memory};
 
 impl Board {
     /// The letter `i`: nothing where no more may be issued, a bubble is passed over, or the next instruction has its
     /// turn.
-    pub(super) fn issue(&mut self, told: &mut Told) -> Result<Happened, NoMemory>
-        ensures ok { IfOk result (λ happened. (p : Program) (fault : RecordValue)
+    pub(super) fn issue(&mut self, told: &mut Told) -> Result<Brief, NoMemory>
+        ensures ok { IfOk result (λ brief. (p : Program) (fault : RecordValue)
             → IsProgramOf self.old.memory.image p
             → Did (choice_by p self.old.limit LetterValue.Issue (local_of self.old)) fault
-            self.old happened self.new) }
+            self.old (happened_of brief self.new) self.new) }
         ensures events { self.new.events ≡ self.old.events }
         ensures same { OnOk result (IsSameRun self.old self.new) }
-        ensures still { IfOk result (λ happened. IsStill happened → self.new ≡ self.old) }
-        ensures leaves { IfOk result (λ happened. Leaves happened self.old self.new) }
-        ensures word { IfOk result (λ happened. WentOn happened
+        ensures still { IfOk result (λ brief. IsStill (happened_of brief self.new) → self.new ≡ self.old) }
+        ensures leaves { IfOk result (λ brief. Leaves (happened_of brief self.new) self.old self.new) }
+        ensures word { IfOk result (λ brief. WentOn (happened_of brief self.new)
             → IsWordOf (four_bytes (byte_at self.old.memory.image) (pc_of self.old.slots))
             told.new.word) }
         ensures plan { OnOk result ((p : Program) (change : Change)
@@ -52,59 +58,58 @@ impl Board {
         ensures err { OnErr result (IsUnmoved self.old self.new) }
     {
         if self.is_idle() {
-            return Ok(Happened::Idle);
+            return Ok(Brief::Idle);
         }
         let nip = self.iunit.candidate();
         if !nip.v {
             self.pass();
-            return Ok(Happened::Bubble);
+            return Ok(Brief::Bubble);
         }
-        self.keep(nip.addr);
-        self.issue_next(told)
+        let found = self.line_at(nip.addr);
+        self.issue_next(found, told)
     }
 
-    /// Reads the instruction at the byte address of a word and keeps it, where none is kept of that address.
-    fn keep(&mut self, addr: u32)
+    /// The instruction at the byte address of a word, which is kept from then on, or the vector that is raised where
+    /// there is none.
+    fn line_at(&mut self, addr: u32) -> Result<Line, u16>
         requires { addr % 4 ≡ 0 }
-        ensures { self.new ≡ self.old }
+        ensures line { IfOk result (λ line. (line.addr ≡ addr) × IsLine self.old.memory.image line) }
+        ensures none { IfErr result (λ vector. HasNoInstruction self.old.memory.image addr vector) }
+        ensures stays { self.new ≡ self.old }
     {
-        if self.memory.line(addr).is_some() {
-            return;
+        if let Some(line) = self.memory.line(addr) {
+            return Ok(line);
         }
         let Some(word) = self.memory.fetch(addr) else {
-            return;
+            return Err(INSTRUCTION_ACCESS);
         };
-        if let Ok(instr) = decode(word) {
-            self.memory.keep(Line { addr, word, instr });
-        }
+        let Ok(instr) = decode(word) else {
+            return Err(UNIMPLEMENTED);
+        };
+        let line = line_of(&self.memory, addr, word, instr);
+        self.memory.keep(line);
+        Ok(line)
     }
 
-    /// The instruction of the word at a byte address, which may be kept.
-    fn instr_of(&self, addr: u32, word: u32) -> Result<Instr, BadWord>
-        requires aligned { addr % 4 ≡ 0 }
-        requires word { IsWordOf (four_bytes (byte_at self.now.memory.image) addr) word }
-        ensures found { IfOk result (λ i. IsWord i word) }
-        ensures only { (i : InstrValue) → IsWord i word → result ≡ Ok i }
-    {
-        match self.memory.line(addr) {
-            Some(line) => Ok(line.instr),
-            None => decode(word),
-        }
-    }
-
-    /// The next instruction in its turn, where none is passed over.
-    fn issue_next(&mut self, told: &mut Told) -> Result<Happened, NoMemory>
+    /// What was found at the address of the next instruction in its turn.
+    fn issue_next(&mut self, found: Result<Line, u16>, told: &mut Told) -> Result<Brief, NoMemory>
         requires going { is_idle_board self.old ≡ false }
         requires valid { self.old.slots.nip.v ≡ true }
-        ensures ok { IfOk result (λ happened. (p : Program) (fault : RecordValue)
+        requires aligned { pc_of self.old.slots % 4 ≡ 0 }
+        requires line { IfOk found
+            (λ line. (line.addr ≡ pc_of self.old.slots) × IsLine self.old.memory.image line) }
+        requires unmarked { IfOk found (λ line. self.old.slots.nip.e ≡ false) }
+        requires none { IfErr found
+            (λ vector. HasNoInstruction self.old.memory.image (pc_of self.old.slots) vector) }
+        ensures ok { IfOk result (λ brief. (p : Program) (fault : RecordValue)
             → IsProgramOf self.old.memory.image p
             → Did (choice_by p self.old.limit LetterValue.Issue (local_of self.old)) fault
-            self.old happened self.new) }
+            self.old (happened_of brief self.new) self.new) }
         ensures events { self.new.events ≡ self.old.events }
         ensures same { OnOk result (IsSameRun self.old self.new) }
-        ensures still { IfOk result (λ happened. IsStill happened → self.new ≡ self.old) }
-        ensures leaves { IfOk result (λ happened. Leaves happened self.old self.new) }
-        ensures word { IfOk result (λ happened. WentOn happened
+        ensures still { IfOk result (λ brief. IsStill (happened_of brief self.new) → self.new ≡ self.old) }
+        ensures leaves { IfOk result (λ brief. Leaves (happened_of brief self.new) self.old self.new) }
+        ensures word { IfOk result (λ brief. WentOn (happened_of brief self.new)
             → IsWordOf (four_bytes (byte_at self.old.memory.image) (pc_of self.old.slots))
             told.new.word) }
         ensures plan { OnOk result ((p : Program) (change : Change)
@@ -114,52 +119,51 @@ impl Board {
         ensures made { MakesWordAccesses told.old.plan → MakesWordAccesses told.new.plan }
         ensures err { OnErr result (IsUnmoved self.old self.new) }
     {
-        let nip = self.iunit.candidate();
-        let Some(word) = self.memory.fetch(nip.addr) else {
-            return Ok(self.raise(INSTRUCTION_ACCESS));
-        };
-        told.word = word;
-        match self.instr_of(nip.addr, word) {
-            Ok(instr) => self.issue_instr(&instr, &mut told.plan),
-            Err(BadWord) => Ok(self.raise(UNIMPLEMENTED)),
+        match found {
+            Ok(line) => {
+                told.word = line.word;
+                self.issue_instr(&line, &mut told.plan)
+            }
+            Err(vector) => Ok(self.raise(vector)),
         }
     }
 
     /// The next instruction in its turn.
-    fn issue_instr(&mut self, instr: &Instr, told: &mut Plan) -> Result<Happened, NoMemory>
-        requires instr { IsValid instr.now }
+    fn issue_instr(&mut self, line: &Line, told: &mut Plan) -> Result<Brief, NoMemory>
+        requires instr { IsValid line.now.instr }
+        requires touched { HasTouched line.now }
         requires going { is_idle_board self.old ≡ false }
         requires valid { self.old.slots.nip.v ≡ true }
         requires fetched { self.old.slots.nip.e ≡ false }
-        requires comes { IssueComesTo (choice_for (Some instr.now) self.old) self.old }
-        ensures ok { IfOk result (λ happened. (fault : RecordValue)
-            → Did (choice_for (Some instr.now) self.old) fault self.old happened self.new) }
-        ensures still { IfOk result (λ happened. IsStill happened → self.new ≡ self.old) }
-        ensures leaves { IfOk result (λ happened. Leaves happened self.old self.new) }
+        requires comes { IssueComesTo (choice_for (Some line.now.instr) self.old) self.old }
+        ensures ok { IfOk result (λ brief. (fault : RecordValue)
+            → Did (choice_for (Some line.now.instr) self.old) fault self.old (happened_of brief self.new) self.new) }
+        ensures still { IfOk result (λ brief. IsStill (happened_of brief self.new) → self.new ≡ self.old) }
+        ensures leaves { IfOk result (λ brief. Leaves (happened_of brief self.new) self.old self.new) }
         ensures told { OnOk result ((change : Change)
-            → choice_for (Some instr.now) self.old ≡ issues change
+            → choice_for (Some line.now.instr) self.old ≡ issues change
             → told.new ≡ Go (recorded_change change)) }
         ensures made { MakesWordAccesses told.old → MakesWordAccesses told.new }
         ensures err { OnErr result (IsUnmoved self.old self.new) }
     {
-        if let Some(r) = self.busy_register(instr) {
-            return Ok(Happened::Stalled(Why::Busy(r)));
+        if let Some(r) = self.busy_register(line) {
+            return Ok(Brief::Stalled(Why::Busy(r)));
         }
-        self.issue_free(instr, told)
+        self.issue_free(&line.instr, told)
     }
 
     /// The next instruction in its turn, where no register that it uses or writes waits.
-    fn issue_free(&mut self, instr: &Instr, told: &mut Plan) -> Result<Happened, NoMemory>
+    fn issue_free(&mut self, instr: &Instr, told: &mut Plan) -> Result<Brief, NoMemory>
         requires instr { IsValid instr.now }
         requires going { is_idle_board self.old ≡ false }
         requires valid { self.old.slots.nip.v ≡ true }
         requires fetched { self.old.slots.nip.e ≡ false }
         requires free { busy_register (Some instr.now) self.old.pending ≡ None }
         requires comes { IssueComesTo (choice_for (Some instr.now) self.old) self.old }
-        ensures ok { IfOk result (λ happened. (fault : RecordValue)
-            → Did (choice_for (Some instr.now) self.old) fault self.old happened self.new) }
-        ensures still { IfOk result (λ happened. IsStill happened → self.new ≡ self.old) }
-        ensures leaves { IfOk result (λ happened. Leaves happened self.old self.new) }
+        ensures ok { IfOk result (λ brief. (fault : RecordValue)
+            → Did (choice_for (Some instr.now) self.old) fault self.old (happened_of brief self.new) self.new) }
+        ensures still { IfOk result (λ brief. IsStill (happened_of brief self.new) → self.new ≡ self.old) }
+        ensures leaves { IfOk result (λ brief. Leaves (happened_of brief self.new) self.old self.new) }
         ensures told { OnOk result ((change : Change)
             → choice_for (Some instr.now) self.old ≡ issues change
             → told.new ≡ Go (recorded_change change)) }
@@ -172,19 +176,19 @@ impl Board {
             Plan::Raise(vector) => Ok(self.raise(vector)),
             Plan::Trap(vector) => {
                 if self.is_pending() {
-                    return Ok(Happened::Stalled(Why::Sync));
+                    return Ok(Brief::Stalled(Why::Sync));
                 }
                 self.trap(vector)
             }
             Plan::Go(effect) => {
                 if effect.accesses.count > self.dunit.room() {
-                    return Ok(Happened::Stalled(Why::Full));
+                    return Ok(Brief::Stalled(Why::Full));
                 }
                 if waits_for_empty(instr) && self.is_pending() {
-                    return Ok(Happened::Stalled(Why::Sync));
+                    return Ok(Brief::Stalled(Why::Sync));
                 }
                 self.go(&effect)?;
-                Ok(Happened::Issued)
+                Ok(Brief::Issued)
             }
         }
     }
@@ -219,5 +223,22 @@ impl Board {
             self.iunit.candidate().addr,
             self.iunit.following().addr,
         )
+    }
+}
+
+/// An instruction with what is kept of it beside its word.
+fn line_of(memory: &Memory, addr: u32, word: u32, instr: Instr) -> Line
+    requires aligned { addr % 4 ≡ 0 }
+    requires word { IsWordOf (four_bytes (byte_at memory.now.image) addr) word }
+    requires instr { IsWord instr word }
+    ensures line { IsLine memory.now.image result }
+    ensures here { result.addr ≡ addr }
+{
+    Line {
+        addr,
+        word,
+        instr,
+        touched: uses(&instr) | writes(&instr),
+        behind_e: lacks_word(memory, addr.wrapping_add(4)),
     }
 }

@@ -15,6 +15,7 @@ ghost use Rattle.m88_isa.specs.Machine.{IsProgram, Program, state};
 ghost use Rattle.m88_mem.specs.DataBus.{image_bus};
 ghost use Rattle.m88_board.specs.Board.{local_of};
 ghost use Rattle.m88_board.specs.Glances.{Saw, glances_along};
+ghost use Rattle.m88_board.specs.Inside.Briefly.{happened_of};
 ghost use Rattle.m88_board.specs.Kept.{IsKept, most_events};
 ghost use Rattle.m88_board.specs.Moves.{IsAlong, IsAt, IsSameRun, IsStep, IsUnmoved};
 ghost use Rattle.m88_board.specs.Shown.{IsSettled};
@@ -22,12 +23,13 @@ ghost use Rattle.m88_board.specs.Told.{IsTold, MakesWordAccesses};
 ghost use Rattle.m88_board.specs.Walks.{IsNoHeavier};
 
 use super::Board;
+use crate::brief::Brief;
 use crate::told::Told;
 use crate::until::Until;
 use crate::walk::Walk;
 use crate::watch::Watch;
 use m88_base::{Listed, NoMemory};
-use m88_event::{End, Happened, Letter, Outcome, Schedule};
+use m88_event::{End, Letter, Outcome, Schedule};
 
 impl Board {
     /// Makes the events of the letters of a schedule, and then of `r` and `i` in turn, until nothing is pending and
@@ -99,14 +101,14 @@ impl Board {
         letter: Letter,
         watch: &mut W,
         told: &mut Told,
-    ) -> Result<Happened, NoMemory>
+    ) -> Result<Brief, NoMemory>
         requires { self.old.events < most_events }
         ensures ok { OnOk result ((p : Program) (named : ℕ → Bool) (m : Moment)
             → IsAt p named m self.old
             → IsStep p named letter m (W.seen watch.old) (W.seen watch.new) self.old self.new) }
-        ensures said { IfOk result (λ happened. (p : Program) (named : ℕ → Bool) (m : Moment)
+        ensures said { IfOk result (λ brief. (p : Program) (named : ℕ → Bool) (m : Moment)
             → IsAt p named m self.old
-            → happened ≡ said_at p named self.old.limit letter m) }
+            → happened_of brief self.new ≡ said_at p named self.old.limit letter m) }
         ensures moved { OnOk result ((p : Program) → IsProgramOf self.old.memory.image p
             → local_of self.new ≡ move p self.old.limit letter (local_of self.old)) }
         ensures counted { OnOk result (self.new.events ≡ self.old.events + 1) }
@@ -114,16 +116,16 @@ impl Board {
         ensures shorter { letter ≡ LetterValue.Answer
             → OnOk result (length self.new.pending ≤ length self.old.pending - 1) }
         ensures kept { OnOk result (IsKept self.new) }
-        ensures told { letter ≡ LetterValue.Issue → IfOk result (λ happened.
+        ensures told { letter ≡ LetterValue.Issue → IfOk result (λ brief.
             (p : Program) (named : ℕ → Bool) (m : Moment) → IsAt p named m self.old
-            → IsTold p named self.old.limit m happened told.new) }
+            → IsTold p named self.old.limit m (happened_of brief self.new) told.new) }
         ensures made { MakesWordAccesses told.old.plan → MakesWordAccesses told.new.plan }
         ensures err { OnErr result (IsUnmoved self.old self.new) }
         ensures unseen { OnErr result (watch.new ≡ watch.old) }
     {
-        let happened = self.event_told(letter, told)?;
+        let brief = self.event_told(letter, told)?;
         watch.after(self);
-        Ok(happened)
+        Ok(brief)
     }
 
     /// What a run came to that is over. Where memory runs out, the board is gone.

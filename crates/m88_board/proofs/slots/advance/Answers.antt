@@ -5,5 +5,5 @@ use Rattle.m88_board.proofs.slots.advance.Goals as goal
 pub returns-clause-slots : goal.returns-clause-slots
 returns-clause-slots c =
     agree_advanced c.args.memory.now.image c.args.iunit.now c.advance.new.self c.args.after.0 c.args.after.1
-    c.lacks_next-next_e.result c.lacks_word-behind_e.result c.args.bubble c.requires.valid c.requires.fetched c.lacks_next-next_e.ensures
-    c.lacks_word-behind_e.ensures c.advance.ensures.straight c.advance.ensures.bubble
+    c.lacks_next-next_e.result c.lacks_further-behind_e.result c.args.bubble c.requires.valid c.requires.fetched c.lacks_next-next_e.ensures
+    c.lacks_further-behind_e.ensures c.advance.ensures.straight c.advance.ensures.bubble

@@ -17,8 +17,8 @@ returns-then-waits_on c =
     let number = c.from_low_bits-r.ensures.number in
     let same : number_of c.from_low_bits-r.result ≡ c.loop-n.n = omega (arith, low, number) in
     ap Some same
-    ∙ sym (here_first c.loop-n.n (λ r. involves (Some c.args.instr.now) r && waits_for c.args.self.now.pending r) low
-    (subst (λ k. (involves (Some c.args.instr.now) k && waits_for c.args.self.now.pending k) ≡ true) same
+    ∙ sym (here_first c.loop-n.n (λ r. involves (Some c.args.line.now.instr) r && waits_for c.args.self.now.pending r) low
+    (subst (λ k. (involves (Some c.args.line.now.instr) k && waits_for c.args.self.now.pending k) ≡ true) same
     (sym c.waits_on.ensures ∙ c.if-waits_on.true)))
     ∙ c.loop-n.invariant
 
@@ -27,12 +27,12 @@ loop-n-preserved c =
     let low = c.loop-n-test.true in
     let number = c.from_low_bits-r.ensures.number in
     let same : number_of c.from_low_bits-r.result ≡ c.loop-n.n = omega (arith, low, number) in
-    not_here c.loop-n.n (λ r. involves (Some c.args.instr.now) r && waits_for c.args.self.now.pending r) low
-    (subst (λ k. (involves (Some c.args.instr.now) k && waits_for c.args.self.now.pending k) ≡ false) same
+    not_here c.loop-n.n (λ r. involves (Some c.args.line.now.instr) r && waits_for c.args.self.now.pending r) low
+    (subst (λ k. (involves (Some c.args.line.now.instr) k && waits_for c.args.self.now.pending k) ≡ false) same
     (sym c.waits_on.ensures ∙ c.if-waits_on.false))
     ∙ c.loop-n.invariant
 
 pub returns : goal.returns
 returns c =
-    sym (nowhere c.loop-n.n (λ r. involves (Some c.args.instr.now) r && waits_for c.args.self.now.pending r) c.loop-n-test.false)
+    sym (nowhere c.loop-n.n (λ r. involves (Some c.args.line.now.instr) r && waits_for c.args.self.now.pending r) c.loop-n-test.false)
     ∙ c.loop-n.invariant

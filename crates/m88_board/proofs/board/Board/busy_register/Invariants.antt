@@ -7,5 +7,5 @@ use Rattle.m88_board.proofs.board.Board.busy_register.Given as goal
 
 abbrev pub invariant-loop-n : goal.invariant-loop-n
 invariant-loop-n l =
-    first_from l.n (32 - l.n) (λ r. involves (Some l.instr) r && waits_for l.self.pending r)
-    ≡ busy_register (Some l.instr) l.self.pending
+    first_from l.n (32 - l.n) (λ r. involves (Some l.line.instr) r && waits_for l.self.pending r)
+    ≡ busy_register (Some l.line.instr) l.self.pending

@@ -1,28 +1,19 @@
 -- What the letter `i` comes to.
-use Rattle.std.proofs.Common.{◌≡◌, ◌∙◌, ℕ, Some, None, Option, Bool, not, arith, ap, refl, sym, subst, true}
-use Rattle.std.specs.Prelude.{option_map}
-use Rattle.std.specs.Int.{to_be_bytes, w32}
+use Rattle.std.proofs.Common.{◌≡◌, ◌∙◌, ℕ, Bool, not, ap, refl, sym, subst, true, false}
+use Rattle.std.specs.Prelude.{◌%◌, IfErr, IfOk}
 use Rattle.std.proofs.lemmas.Result.{IfOk-weaker}
 use Rattle.m88_base.specs.declared.slot.Slot.{Slot}
-use Rattle.m88_event.specs.Choice.{idles, issues, passes}
+use Rattle.m88_event.specs.Choice.{idles, passes}
 use Rattle.m88_event.specs.Local.{choice_by}
 use Rattle.m88_event.specs.declared.happened.Happened.TheVariants.{Bubble, Idle}
 use Rattle.m88_event.specs.declared.letter.Letter.TheVariants.{Issue}
-use Rattle.m88_event.specs.declared.record.Record.{Record}
-use Rattle.m88_isa.specs.Effect.{Change, recorded_change}
-use Rattle.m88_isa.specs.ImageProgram.{IsProgramOf}
-use Rattle.m88_isa.specs.Machine.{Program, by_vector}
-use Rattle.m88_isa.specs.declared.planned.Plan.TheVariants.{Go}
-use Rattle.m88_isa.specs.Vector.{instruction_access, unimplemented}
-use Rattle.m88_board.proofs.Choosing.{did_by}
-use Rattle.m88_board.proofs.Counting.{did_events, events_kept, no_record, same_events}
-use Rattle.m88_board.proofs.Fetching.{idles_by, lacks_by, next_at, passes_by, turns_by, unimplemented_by}
-use Rattle.m88_board.specs.Board.{BoardView, local_of, pc_of}
-use Rattle.m88_board.specs.Moves.{Did, stopping}
-use Rattle.m88_board.proofs.Still.{same_if}
-use Rattle.m88_board.proofs.Telling.{stopped_stays, stopping_issues_none}
-use Rattle.m88_board.specs.Inside.Turns.{choice_for}
-use Rattle.m88_board.specs.contracts.board.Board.{the_view}
+use Rattle.m88_board.proofs.Choosing.{at_pc, did_by}
+use Rattle.m88_board.proofs.Counting.{no_record, same_events}
+use Rattle.m88_board.proofs.Fetching.{found_unmarked, idles_by, passes_by, unmarked}
+use Rattle.m88_board.specs.Board.{BoardView, local_of}
+use Rattle.m88_board.specs.Kept.{IsKept}
+use Rattle.m88_mem.specs.Lines.{IsLine}
+use Rattle.m88_board.specs.Inside.Fetched.{HasNoInstruction}
 use Rattle.m88_board.proofs.board.Board.issue.Goals as goal
 
 pub returns-then-is_idle-clause-ok : goal.returns-then-is_idle-clause-ok
@@ -61,3 +52,57 @@ returns-then-not-nip-clause-plan c = λ p change of issued.
     let over = passes_by p b (sym c.is_idle.ensures ∙ c.if-is_idle.false)
     (subst (λ (v : Bool). not v ≡ true) seen c.if-not-nip.true) in
     absurd cc
+
+pub issue_next-requires-clause-valid : goal.issue_next-requires-clause-valid
+issue_next-requires-clause-valid c =
+    rw (c.line_at-found.ensures.stays)
+    (sym (ap (λ (s : Slot). s.v) c.candidate-nip.ensures.value ∙ ap (λ (x : BoardView). x.slots.nip.v) c.self.view_is)
+    ∙ unmarked c.candidate-nip.result.v c.if-not-nip.false)
+
+pub issue_next-requires-clause-aligned : goal.issue_next-requires-clause-aligned
+issue_next-requires-clause-aligned c =
+    let b = c.args.self.now in
+    let valid = sym (ap (λ (s : Slot). s.v) c.candidate-nip.ensures.value ∙ ap (λ (x : BoardView). x.slots.nip.v) c.self.view_is)
+    ∙ unmarked c.candidate-nip.result.v c.if-not-nip.false in
+    rw (c.line_at-found.ensures.stays)
+    (subst (λ (a : ℕ). a % 4 ≡ 0)
+    (at_pc c.self.inside.iunit b.slots c.candidate-nip.result c.candidate-nip.ensures.value
+    (ap (λ (x : BoardView). x.slots) c.self.view_is) valid)
+    c.candidate-nip.ensures.word)
+
+pub issue_next-requires-clause-line : goal.issue_next-requires-clause-line
+issue_next-requires-clause-line c =
+    let b = c.args.self.now in
+    let valid = sym (ap (λ (s : Slot). s.v) c.candidate-nip.ensures.value ∙ ap (λ (x : BoardView). x.slots.nip.v) c.self.view_is)
+    ∙ unmarked c.candidate-nip.result.v c.if-not-nip.false in
+    rw (c.line_at-found.ensures.stays)
+    (subst (λ (a : ℕ). IfOk c.line_at-found.result (λ line. (line.addr ≡ a) × IsLine b.memory.image line))
+    (at_pc c.self.inside.iunit b.slots c.candidate-nip.result c.candidate-nip.ensures.value
+    (ap (λ (x : BoardView). x.slots) c.self.view_is) valid)
+    c.line_at-found.ensures.line)
+
+pub issue_next-requires-clause-none : goal.issue_next-requires-clause-none
+issue_next-requires-clause-none c =
+    let b = c.args.self.now in
+    let valid = sym (ap (λ (s : Slot). s.v) c.candidate-nip.ensures.value ∙ ap (λ (x : BoardView). x.slots.nip.v) c.self.view_is)
+    ∙ unmarked c.candidate-nip.result.v c.if-not-nip.false in
+    rw (c.line_at-found.ensures.stays)
+    (subst (λ (a : ℕ). IfErr c.line_at-found.result (λ vector. HasNoInstruction b.memory.image a vector))
+    (at_pc c.self.inside.iunit b.slots c.candidate-nip.result c.candidate-nip.ensures.value
+    (ap (λ (x : BoardView). x.slots) c.self.view_is) valid)
+    c.line_at-found.ensures.none)
+
+pub issue_next-requires-clause-unmarked : goal.issue_next-requires-clause-unmarked
+issue_next-requires-clause-unmarked c =
+    let b = c.args.self.now in
+    let kept = subst IsKept c.self.view_is c.self.invariant in
+    let valid = sym (ap (λ (s : Slot). s.v) c.candidate-nip.ensures.value ∙ ap (λ (x : BoardView). x.slots.nip.v) c.self.view_is)
+    ∙ unmarked c.candidate-nip.result.v c.if-not-nip.false in
+    let here = at_pc c.self.inside.iunit b.slots c.candidate-nip.result c.candidate-nip.ensures.value
+    (ap (λ (x : BoardView). x.slots) c.self.view_is) valid in
+    rw (c.line_at-found.ensures.stays)
+    (IfOk-weaker c.line_at-found.result
+    (λ line. (line.addr ≡ c.candidate-nip.result.addr) × IsLine b.memory.image line)
+    (λ line. b.slots.nip.e ≡ false)
+    (λ line is. found_unmarked b line kept.slots valid (is.0 ∙ here) is.1)
+    c.line_at-found.ensures.line)

@@ -15,6 +15,7 @@ use Rattle.m88_board.proofs.Still.{still_if_turned}
 use Rattle.m88_board.proofs.Telling.{change_told, stopping_issues_none}
 use Rattle.m88_board.specs.Board.{pc_of}
 use Rattle.m88_board.specs.Kept.{IsKept}
+use Rattle.m88_board.specs.Inside.Briefly.{happened_of}
 use Rattle.m88_board.specs.Moves.{Did, stopping}
 use Rattle.m88_board.specs.Inside.Turns.{choice_for}
 use Rattle.m88_board.specs.contracts.board.Board.{the_view}
@@ -25,7 +26,7 @@ pub returns-in-Raise-clause-ok : goal.returns-in-Raise-clause-ok
 returns-in-Raise-clause-ok c = λ fault.
     let b = c.args.self.now in
     did_by (choice_for (Some c.args.instr.now) b)
-    (stopping (by_vector c.in-Raise.vector (pc_of b.slots)) b.pending) fault b c.raise.result c.raise.new.self
+    (stopping (by_vector c.in-Raise.vector (pc_of b.slots)) b.pending) fault b (happened_of c.raise.result c.raise.new.self) c.raise.new.self
     (raising c.args.instr.now b c.in-Raise.vector c.requires.free
     (raise_is _ c.in-Raise.vector c.in-Raise.ensures.value))
     (c.raise.ensures.does fault)
@@ -46,9 +47,9 @@ returns-else-is_pending-clause-ok c =
     let choice = choice_for (Some c.args.instr.now) b in
     let turn = trapped c.in-Trap.vector b.file.numbers (pc_of b.slots) in
     IfOk-weaker c.trap.result
-    (λ h. (fault : Record) → Did (turn_choice turn) fault b h c.trap.new.self)
-    (λ h. (fault : Record) → Did choice fault b h c.trap.new.self)
-    (λ h did fault. did_by choice (turn_choice turn) fault b h c.trap.new.self
+    (λ h. (fault : Record) → Did (turn_choice turn) fault b (happened_of h c.trap.new.self) c.trap.new.self)
+    (λ h. (fault : Record) → Did choice fault b (happened_of h c.trap.new.self) c.trap.new.self)
+    (λ h did fault. did_by choice (turn_choice turn) fault b (happened_of h c.trap.new.self) c.trap.new.self
     (trap_turn c.args.instr.now b c.in-Trap.vector c.requires.free
     (trap_is _ c.in-Trap.vector c.in-Trap.ensures.value)
     (nothing_pending b.pending (sym c.is_pending.ensures ∙ c.if-is_pending.false)))

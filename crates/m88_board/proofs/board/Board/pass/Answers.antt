@@ -9,6 +9,6 @@ pub returns-clause-does : goal.returns-clause-does
 returns-clause-does c =
     let bubble = rw (← c.self.view_is) at c.requires.bubble in
     λ fault. rw (← c.self.view_is)
-    (passed fault (the_view c.self.inside) c.pass_bubble.new.self c.lacks_word-lacks.result bubble
+    (passed fault (the_view c.self.inside) c.pass_bubble.new.self c.lacks_behind-lacks.result bubble
     (ap (λ (s : Slot). s.v) c.self.invariant.slots.fip)
     c.pass_bubble.ensures)

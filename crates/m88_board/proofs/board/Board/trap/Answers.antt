@@ -8,6 +8,7 @@ use Rattle.m88_isa.specs.Machine.{by_vector, exits, trapped}
 use Rattle.m88_board.proofs.Choosing.{at_pc, did_by, nothing_waits, trap_choice}
 use Rattle.m88_board.specs.Board.{BoardView, pc_of}
 use Rattle.m88_board.specs.Moves.{Did}
+use Rattle.m88_board.specs.Inside.Briefly.{happened_of}
 use Rattle.m88_board.proofs.board.Board.trap.Goals as goal
 
 pub service-requires-clause-r2 : goal.service-requires-clause-r2
@@ -24,9 +25,9 @@ pub returns-in-Out-clause-ok : goal.returns-in-Out-clause-ok
 returns-in-Out-clause-ok c =
     let old = c.args.self.now in
     IfOk-weaker c.put_out.result
-    (λ h. (fault : Record) → Did (serves c.in-Out.byte) fault old h c.put_out.new.self)
-    (λ h. (fault : Record) → Did (turn_choice (trapped c.args.vector old.file.numbers (pc_of old.slots))) fault old h c.put_out.new.self)
-    (λ h did fault. did_by (turn_choice (trapped c.args.vector old.file.numbers (pc_of old.slots))) (serves c.in-Out.byte) fault old h c.put_out.new.self
+    (λ h. (fault : Record) → Did (serves c.in-Out.byte) fault old (happened_of h c.put_out.new.self) c.put_out.new.self)
+    (λ h. (fault : Record) → Did (turn_choice (trapped c.args.vector old.file.numbers (pc_of old.slots))) fault old (happened_of h c.put_out.new.self) c.put_out.new.self)
+    (λ h did fault. did_by (turn_choice (trapped c.args.vector old.file.numbers (pc_of old.slots))) (serves c.in-Out.byte) fault old (happened_of h c.put_out.new.self) c.put_out.new.self
     (trap_choice c.args.vector (pc_of old.slots) c.self.inside.regs.numbers old.file.numbers c.service.result _ c.service.ensures
     (ap (λ (b : BoardView). b.file.numbers) c.self.view_is) c.in-Out.is)
     (did fault))
@@ -35,7 +36,7 @@ returns-in-Out-clause-ok c =
 pub returns-in-End-clause-ok : goal.returns-in-End-clause-ok
 returns-in-End-clause-ok c = λ fault.
     let old = c.args.self.now in
-    did_by (turn_choice (trapped c.args.vector old.file.numbers (pc_of old.slots))) (finishes (exits (pc_of old.slots))) fault old c.finish.result c.finish.new.self
+    did_by (turn_choice (trapped c.args.vector old.file.numbers (pc_of old.slots))) (finishes (exits (pc_of old.slots))) fault old (happened_of c.finish.result c.finish.new.self) c.finish.new.self
     (trap_choice c.args.vector (pc_of old.slots) c.self.inside.regs.numbers old.file.numbers c.service.result _ c.service.ensures
     (ap (λ (b : BoardView). b.file.numbers) c.self.view_is) c.in-End.is)
     (c.finish.ensures.does (exits (pc_of old.slots)) fault
@@ -47,7 +48,7 @@ pub returns-in-Unserved-clause-ok : goal.returns-in-Unserved-clause-ok
 returns-in-Unserved-clause-ok c = λ fault.
     let old = c.args.self.now in
     did_by (turn_choice (trapped c.args.vector old.file.numbers (pc_of old.slots))) (finishes (by_vector c.args.vector (pc_of old.slots))) fault old
-    c.finish-in-Unserved.result c.finish-in-Unserved.new.self
+    (happened_of c.finish-in-Unserved.result c.finish-in-Unserved.new.self) c.finish-in-Unserved.new.self
     (trap_choice c.args.vector (pc_of old.slots) c.self.inside.regs.numbers old.file.numbers c.service.result _ c.service.ensures
     (ap (λ (b : BoardView). b.file.numbers) c.self.view_is) c.in-Unserved.is)
     (c.finish-in-Unserved.ensures.does (by_vector c.args.vector (pc_of old.slots)) fault

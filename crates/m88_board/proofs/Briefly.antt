@@ -1,0 +1,63 @@
+-- The last record is that of the fault.
+use Rattle.std.specs.Prelude.{List, [], ◌∷◌, ◌++◌, Some, ◌≡◌, ◌+◌, ◌-◌, length, slice_get}
+use Rattle.std.proofs.Common.{arith, refl, sym, ap, ◌∙◌, subst}
+use Rattle.m88_event.specs.Choice.{Choice, faults}
+use Rattle.m88_event.specs.declared.happened.Happened.TheVariants.{Faulted}
+use Rattle.m88_event.specs.declared.record.Record.{Record}
+use Rattle.m88_board.specs.Board.{BoardView}
+use Rattle.m88_board.specs.Inside.Briefly.{faulted, happened_of}
+use Rattle.m88_board.specs.Moves.{Did, Does}
+use Rattle.m88_board.specs.declared.brief.Brief.{Brief}
+use Rattle.m88_board.specs.declared.brief.Brief.TheVariants as brief
+
+count_is : (before : List Record) (fault : Record) → length (before ++ fault ∷ []) ≡ length before + 1
+count_is [] fault = refl
+count_is (one ∷ before) fault = let rest = count_is before fault in omega (arith, rest)
+
+end_is : (before : List Record) (fault : Record) → slice_get (before ++ fault ∷ []) (length before) ≡ Some fault
+end_is [] fault = refl
+end_is (one ∷ before) fault = end_is before fault
+
+last_is : (before : List Record) (fault : Record) →
+    slice_get (before ++ fault ∷ []) (length (before ++ fault ∷ []) - 1) ≡ Some fault
+last_is before fault =
+    let count = count_is before fault in
+    let place : length (before ++ fault ∷ []) - 1 ≡ length before = omega (arith, count) in
+    ap (slice_get (before ++ fault ∷ [])) place ∙ end_is before fault
+
+pub last_told : (fault : Record) (old new : BoardView) → new.records ≡ old.records ++ fault ∷ [] →
+    happened_of brief.Faulted new ≡ Faulted fault
+last_told fault old new kept =
+    ap (λ (records : List Record). faulted (slice_get records (length records - 1))) kept
+    ∙ ap faulted (last_is old.records fault)
+
+-- what a fault does, and says by its record
+pub fault_did : (record_now fault : Record) (old new : BoardView) → new.records ≡ old.records ++ fault ∷ [] →
+    fault ≡ record_now → Does faults fault old new → Did faults record_now old (happened_of brief.Faulted new) new
+fault_did record_now fault old new kept same does = record {
+  says = last_told fault old new kept ∙ ap Faulted same;
+  does = subst (λ (f : Record). Does faults f old new) same does;
+}
+
+-- the count of events is no record
+uncounted : (brief : Brief) (b : BoardView) → happened_of brief (record b { events = b.events + 1 }) ≡ happened_of brief b
+uncounted brief.Issued b = refl
+uncounted brief.Bubble b = refl
+uncounted (brief.Stalled why) b = refl
+uncounted brief.Answered b = refl
+uncounted brief.Faulted b = refl
+uncounted brief.Evicted b = refl
+uncounted brief.Idle b = refl
+uncounted (brief.Served byte) b = refl
+uncounted (brief.Ended end) b = refl
+
+pub told_counted : (brief : Brief) (middle new : BoardView) → new ≡ record middle { events = middle.events + 1 } →
+    happened_of brief middle ≡ happened_of brief new
+told_counted brief middle new is = sym (ap (happened_of brief) is ∙ uncounted brief middle)
+
+pub did_counted : (choice : Choice) (fault : Record) (old middle new : BoardView) (brief : Brief) →
+    new ≡ record middle { events = middle.events + 1 } →
+    Did choice fault old (happened_of brief middle) middle →
+    Did choice fault old (happened_of brief new) middle
+did_counted choice fault old middle new brief is did =
+    subst (λ h. Did choice fault old h middle) (told_counted brief middle new is) did
