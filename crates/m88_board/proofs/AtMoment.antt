@@ -1,16 +1,13 @@
 -- What a board that stands at a moment shows of it.
 use Rattle.std.specs.Prelude.{ℕ, Bool, ◌≡◌, map}
 use Rattle.std.specs.List.{range_with_len}
-use Rattle.std.proofs.Common.{sym, ap, ap₂, ◌∙◌}
-use Rattle.m88_base.specs.declared.slot.Slot.{Slot}
+use Rattle.std.proofs.Common.{ap}
 use Rattle.m88_event.specs.Local.{Local, local_at, register_seen, register_shown}
-use Rattle.m88_event.specs.Timeline.{Moment, nip_at}
+use Rattle.m88_event.specs.Timeline.{Moment}
 use Rattle.m88_isa.specs.History.{completed_state}
 use Rattle.m88_isa.specs.Machine.{Program}
 use Rattle.m88_board.specs.Board.{BoardView, completed_of, local_of}
-use Rattle.m88_board.specs.Glances.{glance_at, glance_of}
 use Rattle.m88_board.specs.Moves.{IsAt}
-use Rattle.m88_board.specs.declared.glance.Glance.{Glance}
 
 -- its counts, and the records
 pub events_at : (p : Program) (named : ℕ → Bool) (m : Moment) (b : BoardView) → IsAt p named m b → b.events ≡ m.events
@@ -36,15 +33,3 @@ pub registers_seen : (p : Program) (named : ℕ → Bool) (m : Moment) (b : Boar
 unfolding local_of local_at completed_state
 registers_seen p named m b at =
     ap (λ (l : Local). map (register_seen l.pending l.completed.regs) (range_with_len 0 32)) at.seen
-
--- its glance, where NIP is known
-glance_by : Local → Slot → Glance
-glance_by l next = record { events = l.events; issued = l.retired; done = l.done; next = next }
-
-pub glance_seen : (p : Program) (named : ℕ → Bool) (m : Moment) (b : BoardView) (slot : Slot) → IsAt p named m b →
-    slot ≡ b.slots.nip →
-    slot ≡ nip_at p m →
-    glance_of b ≡ glance_at p m
-unfolding local_of local_at glance_by
-glance_seen p named m b slot at e pointer =
-    ap₂ glance_by at.seen (sym e ∙ pointer)

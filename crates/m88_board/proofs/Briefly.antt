@@ -1,5 +1,6 @@
 -- The last record is that of the fault.
 use Rattle.std.specs.Prelude.{List, [], ◌∷◌, ◌++◌, Some, ◌≡◌, ◌+◌, ◌-◌, length, slice_get}
+use Rattle.std.proofs.lemmas.List.{length-append}
 use Rattle.std.proofs.Common.{arith, refl, sym, ap, ◌∙◌, subst}
 use Rattle.m88_event.specs.Choice.{Choice, faults}
 use Rattle.m88_event.specs.declared.happened.Happened.TheVariants.{Faulted}
@@ -10,10 +11,6 @@ use Rattle.m88_board.specs.Moves.{Did, Does}
 use Rattle.m88_board.specs.declared.brief.Brief.{Brief}
 use Rattle.m88_board.specs.declared.brief.Brief.TheVariants as brief
 
-count_is : (before : List Record) (fault : Record) → length (before ++ fault ∷ []) ≡ length before + 1
-count_is [] fault = refl
-count_is (one ∷ before) fault = let rest = count_is before fault in omega (arith, rest)
-
 end_is : (before : List Record) (fault : Record) → slice_get (before ++ fault ∷ []) (length before) ≡ Some fault
 end_is [] fault = refl
 end_is (one ∷ before) fault = end_is before fault
@@ -21,7 +18,7 @@ end_is (one ∷ before) fault = end_is before fault
 last_is : (before : List Record) (fault : Record) →
     slice_get (before ++ fault ∷ []) (length (before ++ fault ∷ []) - 1) ≡ Some fault
 last_is before fault =
-    let count = count_is before fault in
+    let count = length-append before (fault ∷ []) in
     let place : length (before ++ fault ∷ []) - 1 ≡ length before = omega (arith, count) in
     ap (slice_get (before ++ fault ∷ [])) place ∙ end_is before fault
 

@@ -26,7 +26,9 @@ use Rattle.m88_iunit.specs.Pointers.{word_behind}
 use Rattle.m88_board.specs.Board.{BoardView, completed_of, is_idle_board, local_of, pc_of}
 use Rattle.m88_board.specs.Kept.{SlotsAgree, lacks_word}
 use Rattle.m88_board.specs.Moves.{stopping}
-use Rattle.m88_board.specs.Inside.Fetched.{HasNoInstruction}
+use Rattle.m88_board.proofs.Choosing.{at_pc}
+use Rattle.m88_board.proofs.Searching.{set_where_not_unset}
+use Rattle.m88_board.specs.Inside.NoInstruction.{HasNoInstruction}
 use Rattle.m88_board.specs.Inside.Turns.{choice_for}
 
 -- no more may be issued
@@ -91,18 +93,21 @@ bytes_of : (p : Program) (b : BoardView) (a : ℕ) → IsProgramOf b.memory.imag
 bytes_of p b a of = ap (λ (byte : ℕ → Option ℕ). four_bytes byte a) of.bytes
 
 -- NIP is to be carried out, and these are the bytes there, if all four of them are
-pub record NextAt (b : BoardView) (word : Option (List ℕ)) : Type 0 where
+record NextAt (b : BoardView) (word : Option (List ℕ)) : Type 0 where
   pub valid : b.slots.nip.v ≡ true
   pub aligned : pc_of b.slots % 4 ≡ 0
   pub bytes : four_bytes (byte_at b.memory.image) (pc_of b.slots) ≡ word
 
--- a mark that isn't unset is set
-pub unmarked : (v : Bool) → not v ≡ false → v ≡ true
-unmarked true h = refl
-unmarked false h = absurd cc
+-- the next instruction isn't passed over, and stands at NIP
+pub next_here : (inside b : BoardView) (slot : Slot) → inside ≡ b → slot ≡ inside.slots.nip → not slot.v ≡ false →
+    (b.slots.nip.v ≡ true) × (slot.addr ≡ pc_of b.slots)
+next_here inside b slot same is marked =
+    let valid : b.slots.nip.v ≡ true =
+    sym (ap (λ (s : Slot). s.v) is ∙ ap (λ (x : BoardView). x.slots.nip.v) same) ∙ set_where_not_unset slot.v marked in
+    (valid, at_pc inside.slots b.slots slot is (ap (λ (x : BoardView). x.slots) same) valid)
 
 -- the word can't be fetched
-pub lacks_by : (p : Program) (b : BoardView) → IsProgramOf b.memory.image p → is_idle_board b ≡ false →
+lacks_by : (p : Program) (b : BoardView) → IsProgramOf b.memory.image p → is_idle_board b ≡ false →
     NextAt b None →
     choice_by p b.limit Issue (local_of b) ≡ stopping (by_vector instruction_access (pc_of b.slots)) b.pending
 unfolding completed_of
@@ -120,7 +125,7 @@ none_there None word found none = refl
 none_there (Some j) word found none = absurd (none j found)
 
 -- the word is no instruction
-pub unimplemented_by : (p : Program) (b : BoardView) (word : ℕ) → IsProgramOf b.memory.image p →
+unimplemented_by : (p : Program) (b : BoardView) (word : ℕ) → IsProgramOf b.memory.image p →
     is_idle_board b ≡ false →
     NextAt b (Some (to_be_bytes w32 word)) →
     word < 2 ^ 32 →
@@ -143,7 +148,7 @@ found_there None i word none is only = absurd (none i is)
 found_there (Some j) i word found is only = ap Some (only j found)
 
 -- the word is an instruction's, which has its turn
-pub turns_by : (p : Program) (b : BoardView) (word : ℕ) (i : Instr) → IsProgramOf b.memory.image p →
+turns_by : (p : Program) (b : BoardView) (word : ℕ) (i : Instr) → IsProgramOf b.memory.image p →
     is_idle_board b ≡ false →
     NextAt b (Some (to_be_bytes w32 word)) →
     word < 2 ^ 32 →

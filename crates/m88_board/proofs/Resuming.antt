@@ -27,13 +27,13 @@ use Rattle.m88_isa.specs.ImageProgram.{IsProgramOf}
 use Rattle.m88_isa.specs.Machine.{IsProgram, Program, State, Turn, by_vector, changes, exits, four_bytes, outputs, state, stops, turn_at}
 use Rattle.m88_isa.specs.Memory.{IsWordAccess}
 use Rattle.m88_iunit.specs.Pointers.{Pointers}
-use Rattle.m88_mem.specs.DataBus.{MemoryView, ready_of}
+use Rattle.m88_mem.specs.DataBus.{ready_of}
 use Rattle.m88_scoreboard.specs.Registers.{Registers, none_waits, waiting_of}
 use Rattle.m88_board.proofs.OfHistory.{same_turn, zero_is}
 use Rattle.m88_board.proofs.ReadBack.{carry_back, mxm_back, slot_back, word_back}
 use Rattle.m88_board.proofs.Waiting.{none_wait_for_none}
 use Rattle.m88_board.specs.Board.{BoardView, completed_of, local_of, next_of, pc_of}
-use Rattle.m88_board.specs.Contexts.{IsRunOf, Stands, StandsFor, context_of, mxm_in}
+use Rattle.m88_board.specs.Contexts.{Stands, StandsFor, context_of}
 use Rattle.m88_board.specs.Kept.{EndsSo, HasReadyPage, IsBehind, IsKept, IsProgramEnd, SlotsAgree, turn_by}
 use Rattle.m88_board.specs.Moves.{IsAt}
 use Rattle.m88_board.specs.declared.context.Context.{Context}
@@ -371,16 +371,6 @@ words_from c b from =
         records = from.records i;
       };
     }
-
--- it goes on with the context's run
-pub run_from : (c : Context) (b : BoardView) → ComesFrom c b → IsRunOf c b
-run_from c b from = record {
-  limit = from.limit;
-  named = from.named;
-  image = ap (λ (x : MemoryView). x.image) from.memory;
-  mxm = ap mxm_in from.are.psr;
-  events = from.events;
-}
 
 -- r0 is 0
 pub zero_in : (p : Program) (named : ℕ → Bool) (m : Moment) (c : Context) → StandsFor p named m c →

@@ -50,7 +50,8 @@ apart_bits zero zero (suc b) h = refl
 apart_bits (suc u) w (suc b) h = absurd (omega (arith, h))
 apart_bits zero (suc w) (suc b) h = absurd (omega (arith, h))
 
-set_where_not_unset : (v : Bool) → not v ≡ false → v ≡ true
+-- a value that isn't unset is set
+pub set_where_not_unset : (v : Bool) → not v ≡ false → v ≡ true
 set_where_not_unset true h = refl
 set_where_not_unset false h = absurd cc
 

@@ -8,7 +8,6 @@ use Rattle.std.proofs.lemmas.List.Elements.{All-head, All-tail}
 use Rattle.m88_base.specs.Pages.{page_number}
 use Rattle.m88_base.specs.Triple.{no_triple}
 use Rattle.m88_base.specs.declared.triple.Triple.{Triple}
-use Rattle.m88_ctrl.specs.ControlRegisters.{ControlRegisters}
 use Rattle.m88_isa.proofs.Told.{told_of, valid_of}
 use Rattle.m88_event.specs.Choice.{touches_page}
 use Rattle.m88_isa.proofs.Alone.{by_test}
@@ -18,7 +17,7 @@ use Rattle.m88_isa.specs.Triples.{access_in, is_valid_triple, triple_of, triple_
 use Rattle.m88_isa.specs.declared.planned.Access.{Access}
 use Rattle.m88_monitor.proofs.Steps.{same_triple}
 use Rattle.m88_board.specs.Kept.{HasReadyPage}
-use Rattle.m88_monitor.specs.Serving.{CanServe, CanServeTriple, Serving, after_access_at, after_service, after_triple, triple_at, with_finished, with_loaded}
+use Rattle.m88_monitor.specs.Serving.{CanServe, CanServeTriple, Serving, after_access_at, after_service, after_triple, triple_at}
 
 -- a triple of an access, and a triple of none
 valid_step : (index : ℕ) (s : Serving) (a : Access) → triple_at index s.control ≡ triple_of a → IsWordAccess a →
@@ -78,25 +77,6 @@ steps_cells (a ∷ []) s few = refl
 steps_cells (a ∷ b ∷ []) s few = refl
 steps_cells (a ∷ b ∷ c ∷ []) s few = refl
 steps_cells (a ∷ b ∷ c ∷ d ∷ xs) s few = absurd (omega arith)
-
--- the control registers that stay
-pub record StaysSaved (old new : ControlRegisters) : Type 0 where
-  pub psr : new.psr ≡ old.psr
-  pub epsr : new.epsr ≡ old.epsr
-  pub snip : new.snip ≡ old.snip
-  pub sfip : new.sfip ≡ old.sfip
-
-by_index : (index : ℕ) (c : ControlRegisters) → StaysSaved c (with_finished index c)
-by_index index c = by_test (index == 0)
-    (λ t. rw t (record { psr = refl; epsr = refl; snip = refl; sfip = refl }))
-    (λ f. by_test (index == 1)
-    (λ t. rw (f, t) (record { psr = refl; epsr = refl; snip = refl; sfip = refl }))
-    (λ g. rw (f, g) (record { psr = refl; epsr = refl; snip = refl; sfip = refl })))
-
-by_load : (a : Access) (c : ControlRegisters) → StaysSaved c (with_loaded a c)
-by_load a c = by_test a.write
-    (λ w. rw w (record { psr = refl; epsr = refl; snip = refl; sfip = refl }))
-    (λ r. rw r (record { psr = refl; epsr = refl; snip = refl; sfip = refl }))
 
 -- the pages
 step_page : (absent touched : Bool) (n page : ℕ) →

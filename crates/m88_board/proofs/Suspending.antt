@@ -20,7 +20,7 @@ use Rattle.m88_board.proofs.ReadBack.{mxm_back}
 use Rattle.m88_board.proofs.Shown.{carry_seen, mxm_seen, pointers_are, words_seen}
 use Rattle.m88_board.proofs.Walking.{drained_by}
 use Rattle.m88_board.specs.Board.{BoardView, completed_of, local_of}
-use Rattle.m88_board.specs.Contexts.{IsRunOf, StandsFor, context_of, mxm_in, saved_of, switched, with_saved}
+use Rattle.m88_board.specs.Contexts.{IsRunOf, StandsFor, context_of, mxm_in, saved_of}
 use Rattle.m88_board.specs.Kept.{IsKept, epsr_of}
 use Rattle.m88_board.specs.Moves.{IsAt}
 use Rattle.m88_board.specs.Shown.{pointer_frame}
@@ -99,16 +99,6 @@ saved_is b s regs ended left kept none values has enters saves =
     let nip = ap (λ (r : ControlRegisters). r.snip) enters in
     let fip = ap (λ (r : ControlRegisters). r.sfip) enters in
     saves ∙ (λ i. record { regs = numbers i; epsr = status i; sxip = xip i; snip = nip i; sfip = fip i })
-
--- and leaves the control registers so
-pub switched_is : (b : BoardView) (s : Saved) (ended : Bool) (left after : ControlRegisters) → ended ≡ is_some b.ended →
-    left ≡ entered (pointer_frame b.slots) (if ended then returned b.control else b.control) →
-    after ≡ returned (with_saved s left) →
-    after ≡ switched s b
-switched_is b s ended left after has enters returns =
-    returns
-    ∙ ap (λ (r : ControlRegisters). returned (with_saved s r)) enters
-    ∙ ap (λ (t : Bool). returned (with_saved s (entered (pointer_frame b.slots) (if t then returned b.control else b.control)))) has
 
 -- before the first event nothing is pending
 pub empty_at_first : (p : Program) (named : ℕ → Bool) (b : BoardView) → IsAt p named opening_moment b → b.pending ≡ []

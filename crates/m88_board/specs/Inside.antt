@@ -1,4 +1,4 @@
 -- Words for the contracts of private functions alone: no promise of the program names them.
 pub mod Turns
-pub mod Fetched
+pub mod NoInstruction
 pub mod Briefly

@@ -13,7 +13,7 @@ ghost use Rattle.m88_board.specs.declared.brief.Brief.{Brief as BriefValue};
 ghost use Rattle.m88_event.specs.declared.record.Record.{Record as RecordValue};
 ghost use Rattle.m88_isa.specs.Bus.{LoadApart, listed, waits_for};
 ghost use Rattle.m88_mem.specs.DataBus.{absent_of};
-ghost use Rattle.m88_mem.specs.Lines.{HasTouched};
+ghost use Rattle.m88_mem.specs.Lines.{HasInvolved};
 ghost use Rattle.m88_mem.specs.Marks.{NamesPages, absent_in};
 ghost use Rattle.m88_isa.specs.Effect.{Change, recorded_change};
 ghost use Rattle.m88_isa.specs.Flow.{FlowFits};
@@ -246,7 +246,8 @@ impl Board {
         ensures record { IfOk result (λ fault. (p : Program) → IsProgramOf self.old.memory.image p
             → fault ≡ record_by p self.old.limit (local_of self.old)) }
         ensures does { IfOk result (λ fault. Does faults fault self.old self.new) }
-        ensures kept { IfOk result (λ fault. self.new.records ≡ self.old.records ++ fault ∷ []) }
+        ensures recorded { IfOk result (λ fault.
+            self.new.records ≡ self.old.records ++ fault ∷ []) }
         ensures leaves { IfOk result (λ fault. ShowsFault fault self.new.control
             × (rest_of self.new.control ≡ rest_of self.old.control)) }
         ensures events { self.new.events ≡ self.old.events }
@@ -270,12 +271,15 @@ impl Board {
     fn answer(&mut self) -> Result<Brief, NoMemory>
         ensures ok { IfOk result (λ brief. (p : Program) → IsProgramOf self.old.memory.image p
             → Did (answer_choice self.old.pending (absent_of self.old.memory))
-            (record_by p self.old.limit (local_of self.old)) self.old (happened_of brief self.new) self.new) }
+            (record_by p self.old.limit (local_of self.old)) self.old
+            (happened_of brief self.new) self.new) }
         ensures events { self.new.events ≡ self.old.events }
         ensures same { OnOk result (IsSameRun self.old self.new) }
-        ensures still { IfOk result (λ brief. IsStill (happened_of brief self.new) → self.new ≡ self.old) }
+        ensures still { IfOk result (λ brief. IsStill (happened_of brief self.new)
+            → self.new ≡ self.old) }
         ensures shorter { OnOk result (length self.new.pending ≤ length self.old.pending - 1) }
-        ensures leaves { IfOk result (λ brief. Leaves (happened_of brief self.new) self.old self.new) }
+        ensures leaves { IfOk result (λ brief.
+            Leaves (happened_of brief self.new) self.old self.new) }
         ensures err { OnErr result (IsUnmoved self.old self.new) }
     {
         let Some(oldest) = self.dunit.oldest() else {
@@ -291,7 +295,8 @@ impl Board {
 
     /// The letter `e`: every page is absent until it is supplied.
     fn evict(&mut self) -> Brief
-        ensures did { (fault : RecordValue) → Did evicts fault self.old (happened_of result self.new) self.new }
+        ensures did { (fault : RecordValue)
+            → Did evicts fault self.old (happened_of result self.new) self.new }
         ensures events { self.new.events ≡ self.old.events }
         ensures says { result ≡ BriefValue.Evicted }
         ensures evicted { IsEvicted self.old self.new }
@@ -325,7 +330,8 @@ impl Board {
         requires fetched { self.old.slots.nip.e ≡ false }
         ensures ok { IfOk result (λ brief. (fault : RecordValue)
             → Did (serves byte) fault self.old (happened_of brief self.new) self.new) }
-        ensures leaves { IfOk result (λ brief. Leaves (happened_of brief self.new) self.old self.new) }
+        ensures leaves { IfOk result (λ brief.
+            Leaves (happened_of brief self.new) self.old self.new) }
         ensures err { OnErr result (IsUnmoved self.old self.new) }
     {
         self.out.push(byte).or(Err(NoMemory))?;
@@ -402,7 +408,8 @@ impl Board {
         ensures ok { IfOk result (λ brief. (fault : RecordValue) → Did
             (turn_choice (trapped vector self.old.file.numbers (pc_of self.old.slots)))
             fault self.old (happened_of brief self.new) self.new) }
-        ensures leaves { IfOk result (λ brief. Leaves (happened_of brief self.new) self.old self.new) }
+        ensures leaves { IfOk result (λ brief.
+            Leaves (happened_of brief self.new) self.old self.new) }
         ensures err { OnErr result (IsUnmoved self.old self.new) }
     {
         let at = self.iunit.candidate().addr;
@@ -429,17 +436,18 @@ impl Board {
 
     /// Whether a register may wait that an instruction uses or writes: those that do have a bit in common.
     fn may_wait(&self, line: &Line) -> bool
-        requires { HasTouched line.now }
+        requires { HasInvolved line.now }
         ensures { result ≡ false → busy_register (Some line.now.instr) self.now.pending ≡ None }
     {
-        self.regs.busy() & line.touched != 0
+        self.regs.busy() & line.involved != 0
     }
 
     /// The register with the least number, other than r0, that an instruction uses or writes and that waits.
     fn busy_register(&self, line: &Line) -> Option<Reg>
         requires instr { IsValid line.now.instr }
-        requires touched { HasTouched line.now }
-        ensures { option_map number_of result ≡ busy_register (Some line.now.instr) self.now.pending }
+        requires involved { HasInvolved line.now }
+        ensures { option_map number_of result
+            ≡ busy_register (Some line.now.instr) self.now.pending }
     {
         if !self.may_wait(line) {
             return None;

@@ -1,6 +1,5 @@
 //! What an event did, in brief.
 
-use m88_base::Reg;
 use m88_event::{End, Why};
 
 /// What an event did, as `Happened` tells it, but for the record of a fault, which stands last among those of the board.

@@ -37,7 +37,7 @@ pub(crate) fn lacks_behind(memory: &Memory, addr: u32) -> bool
     ensures { result ≡ lacks_word memory.now.image (after_bytes addr 4) }
 {
     match memory.line(addr) {
-        Some(line) => line.behind_e,
+        Some(line) => line.lacks_behind,
         None => lacks_word(memory, addr.wrapping_add(4)),
     }
 }

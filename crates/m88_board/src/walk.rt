@@ -127,12 +127,12 @@ impl<'a> Walk<'a> {
         ensures untaken { OnErr result (self.new.taken ≡ self.old.taken) }
         ensures unseen { OnErr result (watch.new ≡ watch.old) }
     {
-        let brief = self.make(watch, told)?;
+        let brief = self.next_brief(watch, told)?;
         Ok(self.board.happened(brief))
     }
 
-    /// Makes the event of the next letter as `next_told` does, and tells in brief what it did.
-    fn make<W: Watch>(&mut self, watch: &mut W, told: &mut Told) -> Result<Brief, NoMemory>
+    /// Makes the event of the next letter as `next_told` does, and answers in brief.
+    fn next_brief<W: Watch>(&mut self, watch: &mut W, told: &mut Told) -> Result<Brief, NoMemory>
         requires { is_over_by self.old.board.now.limit (local_of self.old.board.now) ≡ false }
         ensures ok { OnOk result ((p : Program) (named : ℕ → Bool) (m : Moment)
             → IsAt p named m self.old.board.now
@@ -193,7 +193,7 @@ impl<'a> Walk<'a> {
         let mut made = 0;
         let mut told = Told::nothing();
         while !self.stops(until, made) {
-            self.make(watch, &mut told)?;
+            self.next_brief(watch, &mut told)?;
             made += 1;
         }
         Ok(())

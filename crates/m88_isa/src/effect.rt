@@ -197,7 +197,7 @@ fn indexed(op: MemOp, d: Reg, scaled: bool, usr: bool, x: Inputs) -> Plan
     }
 }
 
-/// What a memory instruction goes by, with what it stores read of D and of the register after D.
+/// The inputs with the values that a memory instruction stores, each 0 where it stores none.
 fn with_data(instr: &Instr, regs: &[u32; 32], x: Inputs) -> Inputs
     ensures { result ≡ record x {
       d = register regs.now (d_of instr.now);

@@ -65,8 +65,9 @@ pub enum Computed {
     Raises(u16),
 }
 
-/// What an instruction reads: registers in the places of S1, S2 and D and after D, the carry, the bit MXM of PSR, and
-/// the byte addresses of the instruction and of the one that follows. A register that it doesn't read counts as 0.
+/// What an instruction goes by: registers in the places of S1, S2 and D and after D, the carry, the bit MXM of PSR, and
+/// the byte addresses of the instruction and of the one that follows. A register that isn't there, or wasn't read yet,
+/// counts as 0.
 #[derive(Clone, Copy)]
 pub struct Inputs {
     pub s1: u32,

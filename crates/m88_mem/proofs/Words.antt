@@ -144,10 +144,6 @@ marked_without words page p within = marked_set words page _ p within ∙ by_wor
         let apart : (p == page) ≡ false = grind (arith, nat_tests) in
         rw (test, apart) refl
 
--- words that are all 0 name no page
-pub none_marked : (words : List ℕ) → ((i : ℕ) → slice_index_or words i 0 ≡ 0) → (p : ℕ) → is_marked words p ≡ false
-none_marked words zeros p = rw (zeros (p / 32)) (ap (λ n. n == 1) (bit_at-zero (p % 32)))
-
 -- words that are all ones name all pages
 pub all_marked : (words : List ℕ) →
     ((i : ℕ) → slice_index_or words i 0 ≡ (if nat_lt i mark_words then 4294967295 else 0)) →

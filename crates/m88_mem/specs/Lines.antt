@@ -9,8 +9,8 @@ use Rattle.m88_isa.specs.Word.{IsWord}
 use Rattle.m88_mem.specs.declared.lines.Line.{Line}
 
 -- the registers that are kept of an instruction are those that it uses or writes
-abbrev pub HasTouched : Line → Type 0
-HasTouched line = line.touched ≡ bit_or (uses_of line.instr) (writes_of line.instr)
+abbrev pub HasInvolved : Line → Type 0
+HasInvolved line = line.involved ≡ bit_or (uses_of line.instr) (writes_of line.instr)
 
 -- the word is the one at the address, a multiple of 4, the instruction is that of the word, and the mark says whether a
 -- byte of the word behind it is lacking
@@ -18,5 +18,5 @@ pub record IsLine (image : ProgramImage) (line : Line) : Type 0 where
   pub aligned : line.addr % 4 ≡ 0
   pub word : four_bytes (byte_at image) line.addr ≡ Some (to_be_bytes w32 line.word)
   pub instruction : IsWord line.instr line.word
-  pub touched : HasTouched line
-  pub behind : line.behind_e ≡ is_none (four_bytes (byte_at image) (after_bytes line.addr 4))
+  pub involved : HasInvolved line
+  pub behind : line.lacks_behind ≡ is_none (four_bytes (byte_at image) (after_bytes line.addr 4))

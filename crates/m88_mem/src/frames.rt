@@ -58,14 +58,25 @@ impl PageFrames {
         Ok(PageFrames { tables })
     }
 
+    /// The frame of a page, where it is ready.
+    fn frame(&self, page: u32) -> Option<&PageFrame>
+        ensures frame { option_map (λ frame. frame.now) result ≡ frame_at self.now page }
+        ensures long { IfSome result (λ frame. length frame.now.words.items ≡ page_words) }
+    {
+        let Some(Some(table)) = self.tables.get(page as usize / ENTRIES) else {
+            return None;
+        };
+        let Some(Some(frame)) = table.frames.get(page as usize % ENTRIES) else {
+            return None;
+        };
+        Some(frame)
+    }
+
     /// Whether a page is ready.
     pub fn is_ready(&self, page: u32) -> bool
         ensures { result ≡ is_some (frame_at self.now page) }
     {
-        let Some(Some(table)) = self.tables.get(page as usize / ENTRIES) else {
-            return false;
-        };
-        matches!(table.frames.get(page as usize % ENTRIES), Some(Some(_)))
+        self.frame(page).is_some()
     }
 
     /// Whether there is a table for a page.
@@ -79,13 +90,7 @@ impl PageFrames {
     pub fn word(&self, page: u32, place: usize) -> Option<u32>
         ensures { result ≡ word_at self.now page place }
     {
-        let Some(Some(table)) = self.tables.get(page as usize / ENTRIES) else {
-            return None;
-        };
-        let Some(Some(frame)) = table.frames.get(page as usize % ENTRIES) else {
-            return None;
-        };
-        frame.words.get(place).copied()
+        self.frame(page)?.words.get(place).copied()
     }
 
     /// The words of a page, in order, where the page is ready.
@@ -93,13 +98,7 @@ impl PageFrames {
         ensures words { option_map (λ words. words.now) result ≡ words_in (frame_at self.now page) }
         ensures long { IfSome result (λ words. length words.now ≡ page_words) }
     {
-        let Some(Some(table)) = self.tables.get(page as usize / ENTRIES) else {
-            return None;
-        };
-        let Some(Some(frame)) = table.frames.get(page as usize % ENTRIES) else {
-            return None;
-        };
-        Some(&frame.words)
+        Some(&self.frame(page)?.words)
     }
 
     /// Gives the page's part of the upper level a table. The frames stay as they are.

@@ -1,12 +1,15 @@
 //! Instructions that were read from an image, kept by their addresses.
-ghost use Rattle.std.specs.Prelude.{◌≡◌, ◌<◌, ℕ, None, Some, length, slice_get, IfOk, IfSome};
-ghost use Rattle.m88_base.specs.Image.{ProgramImage};
+ghost use Rattle.std.specs.Prelude.{◌≡◌, ◌<◌, ◌%◌, None, Some, length, IfOk, IfSome};
+ghost use Rattle.std.specs.Int.{to_be_bytes, w32};
+ghost use Rattle.m88_base.specs.Image.{ProgramImage, byte_at};
+ghost use Rattle.m88_isa.specs.Machine.{four_bytes};
+ghost use Rattle.m88_isa.specs.Word.{IsWord};
 ghost use Rattle.m88_mem.specs.Inside.Lines.{AreLines, line_count};
 ghost use Rattle.m88_mem.specs.Lines.{IsLine};
-ghost use Rattle.m88_mem.specs.declared.lines.Line.{Line as LineValue};
 
-use m88_base::NoMemory;
-use m88_isa::Instr;
+use crate::places::fetched;
+use m88_base::{Image, NoMemory};
+use m88_isa::{Instr, uses, writes};
 use std::alloc::Global;
 
 /// How many are kept at most: one for the addresses of words that are so many words apart.
@@ -19,9 +22,9 @@ pub struct Line {
     pub word: u32,
     pub instr: Instr,
     /// The registers that it uses or writes, bit n for register n.
-    pub touched: u32,
-    /// Whether the word behind it can't be fetched.
-    pub behind_e: bool,
+    pub involved: u32,
+    /// Whether the image lacks a byte of the word behind it.
+    pub lacks_behind: bool,
 }
 
 /// No instruction is kept.
@@ -37,6 +40,23 @@ fn place_of(addr: u32) -> usize
     ensures { result < line_count }
 {
     (addr / 4) as usize % LINES
+}
+
+/// The instruction of a word at an address, with what is kept beside it.
+pub(crate) fn line_of(image: &Image, addr: u32, word: u32, instr: Instr) -> Line
+    requires aligned { addr % 4 ≡ 0 }
+    requires word { four_bytes (byte_at image.now) addr ≡ Some (to_be_bytes w32 word) }
+    requires instruction { IsWord instr word }
+    ensures line { IsLine image.now result }
+    ensures here { result.addr ≡ addr }
+{
+    Line {
+        addr,
+        word,
+        instr,
+        involved: uses(&instr) | writes(&instr),
+        lacks_behind: fetched(image, addr.wrapping_add(4)).is_none(),
+    }
 }
 
 /// The instruction that is kept of an address, if one is.

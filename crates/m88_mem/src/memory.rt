@@ -12,6 +12,7 @@ ghost use Rattle.m88_base.specs.Pages.{IsPage, every_page, no_page, page_number}
 ghost use Rattle.m88_isa.specs.Bus.{changed_among, changed_words, with_word};
 ghost use Rattle.m88_isa.specs.Lanes.{IsEnable, merged};
 ghost use Rattle.m88_isa.specs.Machine.{four_bytes};
+ghost use Rattle.m88_isa.specs.Word.{IsWord};
 ghost use Rattle.m88_mem.specs.DataBus.{absent_of, bus_of, image_bus, page_words, ready_of};
 ghost use Rattle.m88_mem.specs.Inside.Frames.{table_entries};
 ghost use Rattle.m88_mem.specs.Lines.{IsLine};
@@ -19,11 +20,11 @@ ghost use Rattle.m88_mem.specs.Marks.{NamesPages, absent_in, with_page};
 
 use crate::absent_page::AbsentPage;
 use crate::frames::{ENTRIES, PageFrame, PageFrames};
-use crate::lines::{Line, keep_line, line_at, no_lines};
+use crate::lines::{Line, keep_line, line_at, line_of, no_lines};
 use crate::marks::{absent_marks, clear_mark, is_marked, mark_all};
 use crate::places::{fetched, image_word, page_word};
 use m88_base::{Absent, Image, NoMemory, PAGE_BYTES};
-use m88_isa::merge;
+use m88_isa::{Instr, merge};
 use std::alloc::Global;
 use std::marker::Model;
 
@@ -103,12 +104,17 @@ impl Memory {
         line_at(&self.lines, addr)
     }
 
-    /// Keeps an instruction that was read. Nothing of it is seen but by `line`.
-    pub fn keep(&mut self, line: Line)
-        requires { IsLine self.old.image line }
-        ensures { self.new ≡ self.old }
+    /// Keeps the instruction of the word at a byte address. Nothing of it is seen but by `line`.
+    pub fn keep(&mut self, addr: u32, word: u32, instr: Instr) -> Line
+        requires aligned { addr % 4 ≡ 0 }
+        requires word { four_bytes (byte_at self.old.image) addr ≡ Some (to_be_bytes w32 word) }
+        requires instruction { IsWord instr word }
+        ensures line { (result.addr ≡ addr) × IsLine self.old.image result }
+        ensures stays { self.new ≡ self.old }
     {
+        let line = line_of(&self.image, addr, word, instr);
         keep_line(&mut self.lines, line);
+        line
     }
 
     /// Whether a page, by its number, is absent.
@@ -271,7 +277,7 @@ impl Memory {
         let is_blank = taken.is_none();
         for place in 0..PAGE_WORDS {
             let addr = page * PAGE_BYTES + place * 4;
-            let word = word_in(words, place);
+            let word = word_among(words, place);
             if word != page_word(&self.image, is_blank, addr) {
                 note(changed, addr, word)?;
             }
@@ -288,7 +294,7 @@ fn note(changed: &mut Vec<(u32, u32)>, addr: u32, word: u32) -> Result<(), NoMem
 }
 
 /// The word at a place among the words of a page.
-fn word_in(words: &[u32], place: u32) -> u32
+fn word_among(words: &[u32], place: u32) -> u32
     requires { place < length words.now }
     ensures { slice_get words.now place ≡ Some result }
 {

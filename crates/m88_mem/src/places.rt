@@ -35,12 +35,12 @@ pub(crate) fn image_word(image: &Image, addr: u32) -> u32
         [first, second, third, fourth, ..] => {
             BigEndian::read_u32(&[*first, *second, *third, *fourth])
         }
-        _ => word_of_some(image, addr),
+        _ => word_with_gaps(image, addr),
     }
 }
 
-/// The same, where bytes are missing: mostly all of them.
-fn word_of_some(image: &Image, addr: u32) -> u32
+/// The word at an address, with zeros for the bytes that are missing, found at once where all four are.
+fn word_with_gaps(image: &Image, addr: u32) -> u32
     requires { addr % 4 ≡ 0 }
     ensures { result ≡ image_bus image.now addr }
 {
@@ -55,7 +55,8 @@ fn word_of_some(image: &Image, addr: u32) -> u32
     }
 }
 
-/// The same, where it is known whether the image has no byte in the page of the address.
+/// The word at an address, with zeros for the bytes that are missing, where it is known whether the image has no byte
+/// in the page of the address.
 pub(crate) fn page_word(image: &Image, is_blank: bool, addr: u32) -> u32
     requires word { addr % 4 ≡ 0 }
     requires blank { is_blank ≡ true

@@ -12,7 +12,7 @@ abbrev pub faulted : Option Record → Happened
 faulted (Some fault) = happened.Faulted fault
 faulted None = happened.Idle
 
--- the record of a data fault is the last one of the board behind the event
+-- the record of a data fault is the last one of the board behind the event, if there is one
 abbrev pub happened_of : Brief → BoardView → Happened
 happened_of brief.Issued b = happened.Issued
 happened_of brief.Bubble b = happened.Bubble

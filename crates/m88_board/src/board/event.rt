@@ -30,16 +30,20 @@ impl Board {
     fn take(&mut self, letter: Letter, told: &mut Told) -> Result<Brief, NoMemory>
         ensures ok { IfOk result (λ brief. (p : Program) → IsProgramOf self.old.memory.image p
             → Did (choice_by p self.old.limit letter (local_of self.old))
-            (record_by p self.old.limit (local_of self.old)) self.old (happened_of brief self.new) self.new) }
+            (record_by p self.old.limit (local_of self.old)) self.old
+            (happened_of brief self.new) self.new) }
         ensures events { self.new.events ≡ self.old.events }
         ensures same { OnOk result (IsSameRun self.old self.new) }
-        ensures still { IfOk result (λ brief. IsStill (happened_of brief self.new) → self.new ≡ self.old) }
+        ensures still { IfOk result (λ brief. IsStill (happened_of brief self.new)
+            → self.new ≡ self.old) }
         ensures shorter { letter ≡ LetterValue.Answer
             → OnOk result (length self.new.pending ≤ length self.old.pending - 1) }
-        ensures leaves { IfOk result (λ brief. Leaves (happened_of brief self.new) self.old self.new) }
+        ensures leaves { IfOk result (λ brief.
+            Leaves (happened_of brief self.new) self.old self.new) }
         ensures evicts { letter ≡ LetterValue.Evict → result ≡ Ok BriefValue.Evicted }
         ensures evicted { letter ≡ LetterValue.Evict → IsEvicted self.old self.new }
-        ensures word { letter ≡ LetterValue.Issue → IfOk result (λ brief. WentOn (happened_of brief self.new)
+        ensures word { letter ≡ LetterValue.Issue → IfOk result (λ brief.
+            WentOn (happened_of brief self.new)
             → IsWordOf (four_bytes (byte_at self.old.memory.image) (pc_of self.old.slots))
             told.new.word) }
         ensures plan { letter ≡ LetterValue.Issue → OnOk result ((p : Program) (change : Change)
@@ -91,7 +95,8 @@ impl Board {
         Ok(self.happened(brief))
     }
 
-    /// Makes the event of a letter as `event` does, and tells of `i` what the instruction is that goes on.
+    /// Makes the event of a letter as `event` does and answers in brief, and tells of `i` what the instruction is that
+    /// goes on.
     pub(crate) fn event_told(&mut self, letter: Letter, told: &mut Told) -> Result<Brief, NoMemory>
         requires { self.old.events < most_events }
         ensures moved { IfOk result (λ brief. (p : Program)
@@ -113,7 +118,8 @@ impl Board {
             → self.new ≡ record self.old { events = self.old.events + 1 }) }
         ensures shorter { letter ≡ LetterValue.Answer
             → OnOk result (length self.new.pending ≤ length self.old.pending - 1) }
-        ensures leaves { IfOk result (λ brief. Leaves (happened_of brief self.new) self.old self.new) }
+        ensures leaves { IfOk result (λ brief.
+            Leaves (happened_of brief self.new) self.old self.new) }
         ensures kept { OnOk result (IsKept self.new) }
         ensures evicts { letter ≡ LetterValue.Evict → result ≡ Ok BriefValue.Evicted }
         ensures evicted { letter ≡ LetterValue.Evict → IsEvicted self.old self.new }
@@ -128,7 +134,8 @@ impl Board {
         Ok(brief)
     }
 
-    /// What an event did of which this was told in brief, before any other.
+    /// What the last event did, of which this was told in brief: of a data fault with its record, the last of the
+    /// board's.
     pub(crate) fn happened(&self, brief: Brief) -> Happened
         ensures { result ≡ happened_of brief self.now }
     {

@@ -13,19 +13,17 @@ ghost use Rattle.m88_isa.specs.Machine.{Program, four_bytes};
 ghost use Rattle.m88_isa.specs.Operands.{access_count_of, writes_of};
 ghost use Rattle.m88_board.specs.Board.{completed_of, is_idle_board, local_of, pc_of};
 ghost use Rattle.m88_isa.specs.ImageProgram.{IsProgramOf};
-ghost use Rattle.m88_isa.specs.Word.{IsWord};
 ghost use Rattle.m88_isa.specs.declared.planned.Plan.TheVariants.{Go};
-ghost use Rattle.m88_mem.specs.Lines.{HasTouched, IsLine};
+ghost use Rattle.m88_mem.specs.Lines.{HasInvolved, IsLine};
 ghost use Rattle.m88_board.specs.Moves.{Did, IsSameRun, IsStill, IsUnmoved};
 ghost use Rattle.m88_board.specs.Shown.{Leaves};
 ghost use Rattle.m88_board.specs.Told.{IsWordOf, MakesWordAccesses, WentOn};
 ghost use Rattle.m88_board.specs.Inside.Briefly.{happened_of};
-ghost use Rattle.m88_board.specs.Inside.Fetched.{HasNoInstruction};
+ghost use Rattle.m88_board.specs.Inside.NoInstruction.{HasNoInstruction};
 ghost use Rattle.m88_board.specs.Inside.Turns.{IssueComesTo, PlansOnePage, choice_for, meaning_at};
 
 use crate::board::Board;
 use crate::brief::Brief;
-use crate::slots::lacks_word;
 use crate::told::Told;
 use m88_base::NoMemory;
 use m88_codec::decode;
@@ -33,7 +31,7 @@ use m88_event::Why;
 use m88_isa::{
     INSTRUCTION_ACCESS, Instr, Plan, UNIMPLEMENTED, plan, uses, waits_for_empty, writes,
 };
-use m88_mem::{Line, Memory};
+use m88_mem::Line;
 
 impl Board {
     /// The letter `i`: nothing where no more may be issued, a bubble is passed over, or the next instruction has its
@@ -45,8 +43,10 @@ impl Board {
             self.old (happened_of brief self.new) self.new) }
         ensures events { self.new.events ≡ self.old.events }
         ensures same { OnOk result (IsSameRun self.old self.new) }
-        ensures still { IfOk result (λ brief. IsStill (happened_of brief self.new) → self.new ≡ self.old) }
-        ensures leaves { IfOk result (λ brief. Leaves (happened_of brief self.new) self.old self.new) }
+        ensures still { IfOk result (λ brief. IsStill (happened_of brief self.new)
+            → self.new ≡ self.old) }
+        ensures leaves { IfOk result (λ brief.
+            Leaves (happened_of brief self.new) self.old self.new) }
         ensures word { IfOk result (λ brief. WentOn (happened_of brief self.new)
             → IsWordOf (four_bytes (byte_at self.old.memory.image) (pc_of self.old.slots))
             told.new.word) }
@@ -69,11 +69,11 @@ impl Board {
         self.issue_next(found, told)
     }
 
-    /// The instruction at the byte address of a word, which is kept from then on, or the vector that is raised where
-    /// there is none.
+    /// The instruction at the byte address of a word, which is kept, or the vector that is raised where there is none.
     fn line_at(&mut self, addr: u32) -> Result<Line, u16>
         requires { addr % 4 ≡ 0 }
-        ensures line { IfOk result (λ line. (line.addr ≡ addr) × IsLine self.old.memory.image line) }
+        ensures line { IfOk result (λ line.
+            (line.addr ≡ addr) × IsLine self.old.memory.image line) }
         ensures none { IfErr result (λ vector. HasNoInstruction self.old.memory.image addr vector) }
         ensures stays { self.new ≡ self.old }
     {
@@ -86,19 +86,17 @@ impl Board {
         let Ok(instr) = decode(word) else {
             return Err(UNIMPLEMENTED);
         };
-        let line = line_of(&self.memory, addr, word, instr);
-        self.memory.keep(line);
-        Ok(line)
+        Ok(self.memory.keep(addr, word, instr))
     }
 
-    /// What was found at the address of the next instruction in its turn.
+    /// Carries out what was found at the address of the next instruction: it has its turn, or the vector is raised.
     fn issue_next(&mut self, found: Result<Line, u16>, told: &mut Told) -> Result<Brief, NoMemory>
         requires going { is_idle_board self.old ≡ false }
         requires valid { self.old.slots.nip.v ≡ true }
         requires aligned { pc_of self.old.slots % 4 ≡ 0 }
         requires line { IfOk found
             (λ line. (line.addr ≡ pc_of self.old.slots) × IsLine self.old.memory.image line) }
-        requires unmarked { IfOk found (λ line. self.old.slots.nip.e ≡ false) }
+        requires unmarked { OnOk found (self.old.slots.nip.e ≡ false) }
         requires none { IfErr found
             (λ vector. HasNoInstruction self.old.memory.image (pc_of self.old.slots) vector) }
         ensures ok { IfOk result (λ brief. (p : Program) (fault : RecordValue)
@@ -107,8 +105,10 @@ impl Board {
             self.old (happened_of brief self.new) self.new) }
         ensures events { self.new.events ≡ self.old.events }
         ensures same { OnOk result (IsSameRun self.old self.new) }
-        ensures still { IfOk result (λ brief. IsStill (happened_of brief self.new) → self.new ≡ self.old) }
-        ensures leaves { IfOk result (λ brief. Leaves (happened_of brief self.new) self.old self.new) }
+        ensures still { IfOk result (λ brief. IsStill (happened_of brief self.new)
+            → self.new ≡ self.old) }
+        ensures leaves { IfOk result (λ brief.
+            Leaves (happened_of brief self.new) self.old self.new) }
         ensures word { IfOk result (λ brief. WentOn (happened_of brief self.new)
             → IsWordOf (four_bytes (byte_at self.old.memory.image) (pc_of self.old.slots))
             told.new.word) }
@@ -131,15 +131,18 @@ impl Board {
     /// The next instruction in its turn.
     fn issue_instr(&mut self, line: &Line, told: &mut Plan) -> Result<Brief, NoMemory>
         requires instr { IsValid line.now.instr }
-        requires touched { HasTouched line.now }
+        requires involved { HasInvolved line.now }
         requires going { is_idle_board self.old ≡ false }
         requires valid { self.old.slots.nip.v ≡ true }
         requires fetched { self.old.slots.nip.e ≡ false }
         requires comes { IssueComesTo (choice_for (Some line.now.instr) self.old) self.old }
         ensures ok { IfOk result (λ brief. (fault : RecordValue)
-            → Did (choice_for (Some line.now.instr) self.old) fault self.old (happened_of brief self.new) self.new) }
-        ensures still { IfOk result (λ brief. IsStill (happened_of brief self.new) → self.new ≡ self.old) }
-        ensures leaves { IfOk result (λ brief. Leaves (happened_of brief self.new) self.old self.new) }
+            → Did (choice_for (Some line.now.instr) self.old) fault self.old
+            (happened_of brief self.new) self.new) }
+        ensures still { IfOk result (λ brief. IsStill (happened_of brief self.new)
+            → self.new ≡ self.old) }
+        ensures leaves { IfOk result (λ brief.
+            Leaves (happened_of brief self.new) self.old self.new) }
         ensures told { OnOk result ((change : Change)
             → choice_for (Some line.now.instr) self.old ≡ issues change
             → told.new ≡ Go (recorded_change change)) }
@@ -161,9 +164,12 @@ impl Board {
         requires free { busy_register (Some instr.now) self.old.pending ≡ None }
         requires comes { IssueComesTo (choice_for (Some instr.now) self.old) self.old }
         ensures ok { IfOk result (λ brief. (fault : RecordValue)
-            → Did (choice_for (Some instr.now) self.old) fault self.old (happened_of brief self.new) self.new) }
-        ensures still { IfOk result (λ brief. IsStill (happened_of brief self.new) → self.new ≡ self.old) }
-        ensures leaves { IfOk result (λ brief. Leaves (happened_of brief self.new) self.old self.new) }
+            → Did (choice_for (Some instr.now) self.old) fault self.old
+            (happened_of brief self.new) self.new) }
+        ensures still { IfOk result (λ brief. IsStill (happened_of brief self.new)
+            → self.new ≡ self.old) }
+        ensures leaves { IfOk result (λ brief.
+            Leaves (happened_of brief self.new) self.old self.new) }
         ensures told { OnOk result ((change : Change)
             → choice_for (Some instr.now) self.old ≡ issues change
             → told.new ≡ Go (recorded_change change)) }
@@ -223,22 +229,5 @@ impl Board {
             self.iunit.candidate().addr,
             self.iunit.following().addr,
         )
-    }
-}
-
-/// An instruction with what is kept of it beside its word.
-fn line_of(memory: &Memory, addr: u32, word: u32, instr: Instr) -> Line
-    requires aligned { addr % 4 ≡ 0 }
-    requires word { IsWordOf (four_bytes (byte_at memory.now.image) addr) word }
-    requires instr { IsWord instr word }
-    ensures line { IsLine memory.now.image result }
-    ensures here { result.addr ≡ addr }
-{
-    Line {
-        addr,
-        word,
-        instr,
-        touched: uses(&instr) | writes(&instr),
-        behind_e: lacks_word(memory, addr.wrapping_add(4)),
     }
 }

@@ -94,8 +94,8 @@ impl Board {
         Ok(())
     }
 
-    /// Makes the event of a letter, and tells of `i` what the instruction is that goes on; then the watch is shown the
-    /// board.
+    /// Makes the event of a letter, answers in brief, and tells of `i` what the instruction is that goes on; then the
+    /// watch is shown the board.
     pub(crate) fn step<W: Watch>(
         &mut self,
         letter: Letter,

@@ -29,17 +29,17 @@ returns-then-is_absent-clause-ok c = λ p of.
     let absent = subst (λ (b : BoardView). c.is_absent.result ≡ absent_of b.memory (page_number c.in-Some.oldest.addr)) c.self.view_is c.is_absent.ensures in
     did_by _ _ (record_by p b.limit (local_of b)) b _ c.fault.new.self
     (answer_is b.pending c.in-Some.oldest (absent_of b.memory) true oldest (sym absent ∙ c.if-is_absent.true))
-    (fault_did (record_by p b.limit (local_of b)) fault b c.fault.new.self c.in_ok-fault.ensures.kept
+    (fault_did (record_by p b.limit (local_of b)) fault b c.fault.new.self c.in_ok-fault.ensures.recorded
     (c.in_ok-fault.ensures.record p of) c.in_ok-fault.ensures.does)
 
 pub returns-then-is_absent-clause-still : goal.returns-then-is_absent-clause-still
 returns-then-is_absent-clause-still c = λ still.
-    absurd (subst IsStill (last_told c.in_ok-fault.field-0 c.args.self.now c.fault.new.self c.in_ok-fault.ensures.kept) still)
+    absurd (subst IsStill (last_told c.in_ok-fault.field-0 c.args.self.now c.fault.new.self c.in_ok-fault.ensures.recorded) still)
 
 pub returns-then-is_absent-clause-leaves : goal.returns-then-is_absent-clause-leaves
 returns-then-is_absent-clause-leaves c =
     subst (λ h. Leaves h c.args.self.now c.fault.new.self)
-    (sym (last_told c.in_ok-fault.field-0 c.args.self.now c.fault.new.self c.in_ok-fault.ensures.kept))
+    (sym (last_told c.in_ok-fault.field-0 c.args.self.now c.fault.new.self c.in_ok-fault.ensures.recorded))
     c.in_ok-fault.ensures.leaves
 
 pub returns-then-is_absent-clause-shorter : goal.returns-then-is_absent-clause-shorter

@@ -7,13 +7,14 @@ use Rattle.m88_event.specs.Choice.{idles, passes}
 use Rattle.m88_event.specs.Local.{choice_by}
 use Rattle.m88_event.specs.declared.happened.Happened.TheVariants.{Bubble, Idle}
 use Rattle.m88_event.specs.declared.letter.Letter.TheVariants.{Issue}
-use Rattle.m88_board.proofs.Choosing.{at_pc, did_by}
+use Rattle.m88_board.proofs.Choosing.{did_by}
 use Rattle.m88_board.proofs.Counting.{no_record, same_events}
-use Rattle.m88_board.proofs.Fetching.{found_unmarked, idles_by, passes_by, unmarked}
+use Rattle.m88_board.proofs.Fetching.{found_unmarked, idles_by, next_here, passes_by}
 use Rattle.m88_board.specs.Board.{BoardView, local_of}
 use Rattle.m88_board.specs.Kept.{IsKept}
 use Rattle.m88_mem.specs.Lines.{IsLine}
-use Rattle.m88_board.specs.Inside.Fetched.{HasNoInstruction}
+use Rattle.m88_board.specs.Inside.NoInstruction.{HasNoInstruction}
+use Rattle.m88_board.specs.contracts.board.Board.{the_view}
 use Rattle.m88_board.proofs.board.Board.issue.Goals as goal
 
 pub returns-then-is_idle-clause-ok : goal.returns-then-is_idle-clause-ok
@@ -55,54 +56,43 @@ returns-then-not-nip-clause-plan c = λ p change of issued.
 
 pub issue_next-requires-clause-valid : goal.issue_next-requires-clause-valid
 issue_next-requires-clause-valid c =
-    rw (c.line_at-found.ensures.stays)
-    (sym (ap (λ (s : Slot). s.v) c.candidate-nip.ensures.value ∙ ap (λ (x : BoardView). x.slots.nip.v) c.self.view_is)
-    ∙ unmarked c.candidate-nip.result.v c.if-not-nip.false)
+    let next = next_here (the_view c.self.inside) c.args.self.now c.candidate-nip.result c.self.view_is
+    c.candidate-nip.ensures.value c.if-not-nip.false in
+    rw (c.line_at-found.ensures.stays) (next.0)
 
 pub issue_next-requires-clause-aligned : goal.issue_next-requires-clause-aligned
 issue_next-requires-clause-aligned c =
-    let b = c.args.self.now in
-    let valid = sym (ap (λ (s : Slot). s.v) c.candidate-nip.ensures.value ∙ ap (λ (x : BoardView). x.slots.nip.v) c.self.view_is)
-    ∙ unmarked c.candidate-nip.result.v c.if-not-nip.false in
-    rw (c.line_at-found.ensures.stays)
-    (subst (λ (a : ℕ). a % 4 ≡ 0)
-    (at_pc c.self.inside.iunit b.slots c.candidate-nip.result c.candidate-nip.ensures.value
-    (ap (λ (x : BoardView). x.slots) c.self.view_is) valid)
-    c.candidate-nip.ensures.word)
+    let next = next_here (the_view c.self.inside) c.args.self.now c.candidate-nip.result c.self.view_is
+    c.candidate-nip.ensures.value c.if-not-nip.false in
+    rw (c.line_at-found.ensures.stays) (subst (λ (a : ℕ). a % 4 ≡ 0) next.1 c.candidate-nip.ensures.word)
 
 pub issue_next-requires-clause-line : goal.issue_next-requires-clause-line
 issue_next-requires-clause-line c =
     let b = c.args.self.now in
-    let valid = sym (ap (λ (s : Slot). s.v) c.candidate-nip.ensures.value ∙ ap (λ (x : BoardView). x.slots.nip.v) c.self.view_is)
-    ∙ unmarked c.candidate-nip.result.v c.if-not-nip.false in
+    let next = next_here (the_view c.self.inside) b c.candidate-nip.result c.self.view_is
+    c.candidate-nip.ensures.value c.if-not-nip.false in
     rw (c.line_at-found.ensures.stays)
-    (subst (λ (a : ℕ). IfOk c.line_at-found.result (λ line. (line.addr ≡ a) × IsLine b.memory.image line))
-    (at_pc c.self.inside.iunit b.slots c.candidate-nip.result c.candidate-nip.ensures.value
-    (ap (λ (x : BoardView). x.slots) c.self.view_is) valid)
+    (subst (λ (a : ℕ). IfOk c.line_at-found.result (λ line. (line.addr ≡ a) × IsLine b.memory.image line)) next.1
     c.line_at-found.ensures.line)
 
 pub issue_next-requires-clause-none : goal.issue_next-requires-clause-none
 issue_next-requires-clause-none c =
     let b = c.args.self.now in
-    let valid = sym (ap (λ (s : Slot). s.v) c.candidate-nip.ensures.value ∙ ap (λ (x : BoardView). x.slots.nip.v) c.self.view_is)
-    ∙ unmarked c.candidate-nip.result.v c.if-not-nip.false in
+    let next = next_here (the_view c.self.inside) b c.candidate-nip.result c.self.view_is
+    c.candidate-nip.ensures.value c.if-not-nip.false in
     rw (c.line_at-found.ensures.stays)
-    (subst (λ (a : ℕ). IfErr c.line_at-found.result (λ vector. HasNoInstruction b.memory.image a vector))
-    (at_pc c.self.inside.iunit b.slots c.candidate-nip.result c.candidate-nip.ensures.value
-    (ap (λ (x : BoardView). x.slots) c.self.view_is) valid)
+    (subst (λ (a : ℕ). IfErr c.line_at-found.result (λ vector. HasNoInstruction b.memory.image a vector)) next.1
     c.line_at-found.ensures.none)
 
 pub issue_next-requires-clause-unmarked : goal.issue_next-requires-clause-unmarked
 issue_next-requires-clause-unmarked c =
     let b = c.args.self.now in
     let kept = subst IsKept c.self.view_is c.self.invariant in
-    let valid = sym (ap (λ (s : Slot). s.v) c.candidate-nip.ensures.value ∙ ap (λ (x : BoardView). x.slots.nip.v) c.self.view_is)
-    ∙ unmarked c.candidate-nip.result.v c.if-not-nip.false in
-    let here = at_pc c.self.inside.iunit b.slots c.candidate-nip.result c.candidate-nip.ensures.value
-    (ap (λ (x : BoardView). x.slots) c.self.view_is) valid in
+    let next = next_here (the_view c.self.inside) b c.candidate-nip.result c.self.view_is
+    c.candidate-nip.ensures.value c.if-not-nip.false in
     rw (c.line_at-found.ensures.stays)
     (IfOk-weaker c.line_at-found.result
     (λ line. (line.addr ≡ c.candidate-nip.result.addr) × IsLine b.memory.image line)
     (λ line. b.slots.nip.e ≡ false)
-    (λ line is. found_unmarked b line kept.slots valid (is.0 ∙ here) is.1)
+    (λ line is. found_unmarked b line kept.slots next.0 (is.0 ∙ next.1) is.1)
     c.line_at-found.ensures.line)

@@ -25,11 +25,11 @@ pub loop-told-preserved : goal.loop-told-preserved
 loop-told-preserved g c =
     let inv = c.loop-told.invariant in
     let before = inv.taken in
-    let more = c.in_ok-make.ensures.taken in
+    let more = c.in_ok-next_brief.ensures.taken in
     record {
-      same = same_then c.args.self.now.board.now c.loop-told.self.board.now c.make.new.self.board.now inv.same c.make.ensures.same;
-      schedule = c.make.ensures.schedule ∙ inv.schedule;
-      lender = c.make.ensures.lender ∙ inv.lender;
+      same = same_then c.args.self.now.board.now c.loop-told.self.board.now c.next_brief.new.self.board.now inv.same c.next_brief.ensures.same;
+      schedule = c.next_brief.ensures.schedule ∙ inv.schedule;
+      lender = c.next_brief.ensures.lender ∙ inv.lender;
       taken = omega (arith, before, more);
       goes = λ p named m is at.
           let goes = inv.goes p named m is at in
@@ -39,12 +39,12 @@ loop-told-preserved g c =
           c.args.self.now.taken c.loop-told.self.taken m
           (stops_after (is_enough c.args.until) p named c.args.self.now.board.now.limit c.args.self.now.schedule.now
           c.args.self.now.taken m)
-          c.loop-told.made _ _ _ c.loop-told.self.board.now c.make.new.self.board.now
+          c.loop-told.made _ _ _ c.loop-told.self.board.now c.next_brief.new.self.board.now
           (ap (λ (s : Bor (List Letter)). s.now) inv.schedule) inv.taken inv.same.limit goes
           (stops_there (is_enough c.args.until) p named c.args.self.now.board.now.limit c.loop-told.self.board.now.limit
           c.args.self.now.schedule.now c.args.self.now.taken m c.loop-told.made c.stops.result inv.same.limit
           (c.stops.ensures.moment p named here goes.along.at) ∙ c.loop-told-test.true)
-          (c.in_ok-make.ensures.ok p named here goes.along.at);
+          (c.in_ok-next_brief.ensures.ok p named here goes.along.at);
     }
 
 pub returns-clause-ok : goal.returns-clause-ok
@@ -65,9 +65,9 @@ returns-clause-ok g c = λ p named m is at.
       inv.taken,
     )
 
-pub returns-in_err-make-clause-err : goal.returns-in_err-make-clause-err
-returns-in_err-make-clause-err g c =
+pub returns-in_err-next_brief-clause-err : goal.returns-in_err-next_brief-clause-err
+returns-in_err-next_brief-clause-err g c =
     let p = err_from_is_err_and c.from_residual.result c.from_residual.ensures.1 in
     rw (p.1) (λ p named m is at.
     let goes = c.loop-told.invariant.goes p named m is at in
-    (c.loop-told.made, goes.first, rw c.in_err-make.ensures.unseen goes.along.saw))
+    (c.loop-told.made, goes.first, rw c.in_err-next_brief.ensures.unseen goes.along.saw))

@@ -16,16 +16,16 @@ loop-place-preserved c =
     let n : ℕ = c.args.page * 1024 + c.loop-place.place in
     let old : ℕ → ℕ = image_bus c.args.self.now.image in
     let new : ℕ → ℕ = bus_of c.args.self.now in
-    let word : c.word_in-word.result ≡ new addr =
+    let word : c.word_among-word.result ≡ new addr =
     frame_word c.args.self.now c.self.inside.image c.self.inside.frames c.self.inside.absent.items c.self.view_is
-    c.self.invariant.entries c.args.page c.loop-place.place c.word_in-word.result addr c.in-Some.words.now
-    (sym c.words.ensures.words ∙ ap (λ o. option_map (λ words. words.now) o) c.in-Some.is) c.word_in-word.ensures refl
+    c.self.invariant.entries c.args.page c.loop-place.place c.word_among-word.result addr c.in-Some.words.now
+    (sym c.words.ensures.words ∙ ap (λ o. option_map (λ words. words.now) o) c.in-Some.is) c.word_among-word.ensures refl
     (omega arith) in
     let image : c.page_word.result ≡ old addr = c.page_word.ensures ∙ ap (λ (m : MemoryView). image_bus m.image addr) c.self.view_is in
     elim c.if-word-page_word.branch [
       | then-word-page_word+in_ok-note w ↦
           ap (λ v. v.items) w.changed-is ∙ w.in_ok-note.ensures
-          ∙ ap (λ xs. xs ++ ((addr, c.word_in-word.result) ∷ [])) c.loop-place.invariant
+          ∙ ap (λ xs. xs ++ ((addr, c.word_among-word.result) ∷ [])) c.loop-place.invariant
           ∙ ap (λ word. changed_among n old new ++ ((addr, word) ∷ [])) word
           ∙ other_word n (c.args.page * 1024 + (c.loop-place.place + 1)) addr old new (omega arith) (omega arith)
           (λ same. w.if-word-page_word.true (word ∙ sym same ∙ sym image))

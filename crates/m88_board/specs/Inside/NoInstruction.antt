@@ -1,4 +1,4 @@
--- What the board finds at the address of the next instruction, where it isn't one.
+-- What is raised where there is no instruction at an address.
 use Rattle.std.specs.Prelude.{ℕ, None, ◌≡◌, ◌⊎◌}
 use Rattle.m88_base.specs.Image.{ProgramImage, byte_at}
 use Rattle.m88_isa.specs.Machine.{four_bytes}

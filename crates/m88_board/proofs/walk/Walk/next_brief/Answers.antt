@@ -1,6 +1,6 @@
 -- An event takes something off the weight of what is left.
 use Rattle.m88_board.proofs.Weighing.{bounded_next, bounded_unmoved, lighter_next}
-use Rattle.m88_board.proofs.walk.Walk.make.Goals as goal
+use Rattle.m88_board.proofs.walk.Walk.next_brief.Goals as goal
 
 pub invariant_of-self : goal.invariant_of-self
 invariant_of-self g c = record {
