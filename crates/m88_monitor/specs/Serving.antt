@@ -1,5 +1,5 @@
 -- How the monitor finishes the data transactions that a fault left ("Exception Processing": data access exception).
-use Rattle.std.specs.Prelude.{ℕ, Bool, true, false, List, ◌≡◌, ◌+◌, ◌-◌, ◌*◌, ◌/◌, ◌%◌, ◌^◌, ◌==◌, if◌then◌else◌}
+use Rattle.std.specs.Prelude.{ℕ, Bool, true, false, List, ◌≡◌, ◌+◌, ◌-◌, ◌*◌, ◌%◌, ◌^◌, ◌==◌, if◌then◌else◌}
 use Rattle.std.specs.Int.{bit_at}
 use Rattle.m88_base.specs.Pages.{page_number}
 use Rattle.m88_base.specs.Reg.{number_of, with_register}

@@ -1,5 +1,5 @@
 -- What each program came to, one after the other.
-use Rattle.std.specs.Prelude.{ℕ, zero, suc, Bool, true, false, List, [], ◌∷◌, ◌++◌, Option, Some, None, ◌≡◌, ◌≢◌, ◌<◌, ◌≤◌, ◌+◌, is_some, length, slice_get, slice_set, IfOk, Result, Ok, Err}
+use Rattle.std.specs.Prelude.{ℕ, Bool, true, List, [], ◌∷◌, ◌++◌, Option, Some, None, ◌≡◌, ◌≢◌, ◌<◌, ◌≤◌, ◌+◌, is_some, length, slice_get, slice_set, IfOk, Result, Ok, Err}
 use Rattle.std.proofs.Common.{add-one, arith, refl, sym, ap, ap₂, subst, ◌∙◌}
 use Rattle.std.proofs.lemmas.List.{length-set}
 use Rattle.m88_isa.specs.Machine.{Program}
@@ -11,7 +11,7 @@ use Rattle.m88_board.specs.Contexts.{StandsFor}
 use Rattle.m88_board.specs.declared.context.Context.{Context}
 use Rattle.m88_tasks.proofs.Places.{set_there}
 use Rattle.m88_tasks.specs.Shared.{Group, outcomes_of, over_at}
-use Rattle.m88_tasks.specs.Tasks.{ArePlaces, IsOnlyNone, IsPlaceAt}
+use Rattle.m88_tasks.specs.Tasks.{ArePlaces, IsOnlyNone}
 
 -- what stands after so many places: the places behind are as they were, and the outcome of the one that runs is there
 -- until its place

@@ -1,6 +1,6 @@
 -- The event of a letter, and want of memory, by what the programs come to.
-use Rattle.std.specs.Prelude.{ℕ, Bool, true, false, List, ◌≡◌, ◌<◌, ◌≤◌, ◌+◌, length, Result, Ok, Err, IfOk}
-use Rattle.std.proofs.Common.{arith, refl, sym, ap, subst, ◌∙◌}
+use Rattle.std.specs.Prelude.{ℕ, Bool, true, false, List, ◌≡◌, ◌<◌, ◌+◌, length, Result, Ok, Err, IfOk}
+use Rattle.std.proofs.Common.{arith, sym, ap, subst, ◌∙◌}
 use Rattle.m88_base.specs.declared.failing.NoMemory.{NoMemory}
 use Rattle.m88_isa.specs.Machine.{Program}
 use Rattle.m88_event.specs.Run.{outcome_at}

@@ -4,8 +4,7 @@ use Rattle.std.proofs.Common.{refl, sym, ap, ap₂, subst, arith, inl, inr, ◌�
 use Rattle.std.proofs.lemmas.Bool.Decides.{nat_tests}
 use Rattle.std.proofs.lemmas.List.Elements.{All-cons, All-head, All-nil, All-tail}
 use Rattle.std.proofs.lemmas.Option.{slice_get_past}
-use Rattle.m88_event.specs.Letters.{in_turn, is_letter, letter_byte, letter_of}
-use Rattle.m88_event.specs.declared.letter.Letter.{Letter}
+use Rattle.m88_event.specs.Letters.{is_letter, letter_byte, letter_of}
 use Rattle.m88_event.specs.declared.letter.Letter.TheVariants.{Issue, Answer, Evict}
 use Rattle.m88_tasks.specs.Letters.{AreShareLetters, HasShareLetters, IsShareSchedule, is_share_letter, share_byte, share_letter_at, share_letter_of}
 use Rattle.m88_tasks.specs.declared.letter.ShareLetter.{ShareLetter}

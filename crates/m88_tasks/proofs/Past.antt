@@ -1,19 +1,16 @@
 -- What lies behind each moment of the shared timeline.
-use Rattle.std.specs.Prelude.{ℕ, zero, suc, Bool, true, false, not, List, [], ◌∷◌, ◌++◌, Option, Some, None, ◌≡◌, ◌<◌, ◌≤◌, ◌+◌, ◌-◌, ◌==◌, ◌||◌, is_none, length, unwrap_or, if◌then◌else◌}
+use Rattle.std.specs.Prelude.{ℕ, Bool, true, false, not, Option, Some, None, ◌≡◌, ◌<◌, ◌≤◌, ◌+◌, ◌==◌, is_none, unwrap_or, if◌then◌else◌}
 use Rattle.std.proofs.Common.{arith, refl, sym, ap, subst, ◌∙◌}
 use Rattle.m88_isa.proofs.Alone.{by_test}
 use Rattle.m88_isa.proofs.Held.{some_from}
 use Rattle.m88_isa.specs.Machine.{Program}
 use Rattle.m88_event.specs.Choice.{Choice, evicts, faults, finishes, holds, idles, issues, passes, replies, serves}
-use Rattle.m88_event.specs.Run.{NotBefore}
 use Rattle.m88_event.specs.Timeline.{Moment, after_choice, after_letter, choice_at, is_drained, opening_moment, record_at}
 use Rattle.m88_event.specs.declared.letter.Letter.{Letter}
 use Rattle.m88_event.specs.declared.record.Record.{Record}
-use Rattle.m88_tasks.proofs.Choosing.{each_over, next_within, no_true, over_where_next, settled_lives, settled_within}
-use Rattle.m88_tasks.proofs.Isolation.{IsApart, apart_first, apart_on}
-use Rattle.m88_tasks.specs.Letters.{share_letter_at}
+use Rattle.m88_tasks.proofs.Choosing.{next_within, no_true, over_where_next, settled_lives, settled_within}
 use Rattle.m88_tasks.specs.Past.{HasSharedPast}
-use Rattle.m88_tasks.specs.Shared.{Group, SharedMoment, after_own, after_share, after_turn, all_over, first_alive, is_alone, moments_then, next_from, opening_shared, over_at, pending_in, settled_from, shared_after, switch_at, turn_at}
+use Rattle.m88_tasks.specs.Shared.{Group, SharedMoment, after_share, after_turn, all_over, first_alive, is_alone, moments_then, opening_shared, over_at, pending_in, switch_at, turn_at}
 use Rattle.m88_tasks.specs.declared.letter.ShareLetter.{ShareLetter}
 use Rattle.m88_tasks.specs.declared.letter.ShareLetter.TheVariants as share
 use Rattle.m88_tasks.specs.declared.turned.Turned.{Turned}

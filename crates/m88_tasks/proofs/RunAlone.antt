@@ -1,9 +1,9 @@
 -- A program that shares a board comes to what it comes to alone, under its own letters.
-use Rattle.std.specs.Prelude.{ℕ, zero, suc, Bool, true, false, List, [], ◌∷◌, ◌++◌, Option, Some, ◌≡◌, ◌<◌, ◌≤◌, ◌+◌, ◌-◌, length, slice_get, take, unwrap_or}
-use Rattle.std.proofs.Common.{arith, refl, sym, ap, subst, ◌∙◌}
+use Rattle.std.specs.Prelude.{ℕ, zero, suc, true, false, List, [], ◌∷◌, ◌++◌, Some, ◌≡◌, ◌<◌, ◌≤◌, ◌-◌, length, slice_get, take, unwrap_or}
+use Rattle.std.proofs.Common.{arith, refl, sym, ap, ◌∙◌}
 use Rattle.std.proofs.lemmas.List.{take_all}
 use Rattle.m88_event.specs.Letters.{in_turn, letter_at}
-use Rattle.m88_event.specs.Run.{IsOutcome, IsRun, moment_after, moment_along, outcome_at}
+use Rattle.m88_event.specs.Run.{IsOutcome, moment_after, moment_along, outcome_at}
 use Rattle.m88_event.specs.Timeline.{Moment, after_letter, is_over, opening_moment}
 use Rattle.m88_event.specs.declared.letter.Letter.{Letter}
 use Rattle.m88_tasks.proofs.Isolation.{IsAliveAlong, IsApart, along, along_last}

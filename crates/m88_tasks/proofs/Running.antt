@@ -1,16 +1,15 @@
 -- A shared run, event after event, until every program is over.
-use Rattle.std.specs.Prelude.{ℕ, zero, suc, Bool, true, false, not, List, [], ◌∷◌, ◌++◌, Option, Some, None, ◌≡◌, ◌≢◌, ◌<◌, ◌≤◌, ◌+◌, ◌*◌, ◌-◌, ◌==◌, length, nat_lt, slice_get}
+use Rattle.std.specs.Prelude.{ℕ, zero, suc, true, false, List, [], ◌∷◌, ◌++◌, Option, Some, None, ◌≡◌, ◌<◌, ◌≤◌, ◌+◌, ◌*◌, length, nat_lt, slice_get}
 use Rattle.std.proofs.Common.{add-one, arith, length-append, refl, sym, ap, subst, ◌∙◌}
-use Rattle.std.proofs.lemmas.Bool.{eqb-false, eqb-true, ltb-false, ltb-true}
+use Rattle.std.proofs.lemmas.Bool.{ltb-false, ltb-true}
 use Rattle.std.proofs.lemmas.Nat.{mul-le}
 use Rattle.std.proofs.lemmas.Option.{slice_get_within}
 use Rattle.m88_board.specs.declared.context.Context.{Context}
 use Rattle.m88_isa.proofs.Alone.{by_test}
 use Rattle.m88_isa.specs.Machine.{IsProgram}
 use Rattle.m88_board.proofs.Walking.{not_yet}
-use Rattle.m88_board.specs.Board.{BoardView, local_of}
+use Rattle.m88_board.specs.Board.{local_of}
 use Rattle.m88_board.specs.Kept.{most_events}
-use Rattle.m88_board.specs.Moves.{IsAt}
 use Rattle.m88_event.proofs.Over.{same_over}
 use Rattle.m88_event.specs.Letters.{most_letters}
 use Rattle.m88_event.specs.Local.{Local, is_over_by, local_at}

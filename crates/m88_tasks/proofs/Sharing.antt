@@ -1,5 +1,5 @@
 -- Programs that share a board come to an end: each letter takes something off what is left of them.
-use Rattle.std.specs.Prelude.{ℕ, zero, suc, Bool, true, false, not, List, [], ◌∷◌, ◌≡◌, ◌<◌, ◌≤◌, ◌+◌, ◌*◌, ◌-◌, ◌%◌, ◌==◌, ◌&&◌, ◌||◌, is_some, nat_lt, length, if◌then◌else◌}
+use Rattle.std.specs.Prelude.{ℕ, zero, suc, Bool, true, false, not, List, [], ◌≡◌, ◌<◌, ◌≤◌, ◌+◌, ◌*◌, ◌-◌, ◌%◌, ◌==◌, ◌&&◌, is_some, nat_lt, length, if◌then◌else◌}
 use Rattle.std.proofs.Common.{arith, refl, sym, ap, subst, ◌∙◌}
 use Rattle.std.proofs.lemmas.Bool.Decides.{nat_tests}
 use Rattle.std.proofs.lemmas.Bool.{eqb-false, eqb-true, le-ltb, lt-ltb, ltb-false, ltb-true}
@@ -7,13 +7,13 @@ use Rattle.std.proofs.lemmas.List.{length-drop}
 use Rattle.m88_isa.proofs.Alone.{by_test}
 use Rattle.m88_isa.proofs.Counted.{twice_at_most}
 use Rattle.m88_isa.specs.Held.{is_pending}
-use Rattle.m88_isa.specs.History.{pending_at, transaction_count, transactions}
+use Rattle.m88_isa.specs.History.{transactions}
 use Rattle.m88_isa.specs.Machine.{IsProgram, Program}
 use Rattle.m88_event.proofs.Bound.{fuel_stays, lessens}
 use Rattle.m88_event.proofs.Follows.{law}
 use Rattle.m88_event.proofs.Over.{same_over}
-use Rattle.m88_event.specs.Bound.{fuel, one_if, phase, turns_left, weight}
-use Rattle.m88_event.specs.Letters.{in_turn, letter_at}
+use Rattle.m88_event.specs.Bound.{fuel, one_if, turns_left, weight}
+use Rattle.m88_event.specs.Letters.{letter_at}
 use Rattle.m88_event.specs.Local.{Local, is_over_by, local_at}
 use Rattle.m88_event.specs.Past.{HasPast, IsBehindBranch}
 use Rattle.m88_event.specs.Timeline.{DoneWereMade, Moment, after_letter, is_over}
@@ -21,7 +21,7 @@ use Rattle.m88_event.specs.declared.letter.Letter.{Letter}
 use Rattle.m88_event.specs.declared.letter.Letter.TheVariants.{Issue, Answer}
 use Rattle.m88_tasks.proofs.Letters.{behind}
 use Rattle.m88_tasks.specs.Letters.{share_letter_at}
-use Rattle.m88_tasks.specs.Shared.{Group, SharedMoment, after_own, after_share, after_turn, moments_then, over_at, settled_from, turn_at}
+use Rattle.m88_tasks.specs.Shared.{Group, SharedMoment, after_share, after_turn, moments_then, over_at, settled_from, turn_at}
 use Rattle.m88_tasks.specs.declared.letter.ShareLetter.{ShareLetter}
 use Rattle.m88_tasks.specs.declared.letter.ShareLetter.TheVariants as share
 use Rattle.m88_tasks.specs.declared.turned.Turned.{Turned}

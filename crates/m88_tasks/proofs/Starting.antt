@@ -1,22 +1,21 @@
 -- Programs that share a board before the first event.
-use Rattle.std.specs.Prelude.{ℕ, zero, suc, Bool, true, false, not, List, [], ◌∷◌, ◌++◌, Option, Some, None, ◌≡◌, ◌≢◌, ◌<◌, ◌≤◌, ◌+◌, ◌-◌, ◌==◌, ◌&&◌, ◌||◌, length, slice_get, unwrap_or}
-use Rattle.std.proofs.Common.{add-one, arith, length-append, refl, sym, ap, subst, ◌∙◌}
-use Rattle.std.proofs.lemmas.Bool.{eqb-false, eqb-true, ltb-false, ltb-true}
+use Rattle.std.specs.Prelude.{ℕ, zero, suc, Bool, true, false, not, List, [], ◌∷◌, ◌++◌, Option, Some, None, ◌≡◌, ◌≢◌, ◌<◌, ◌≤◌, ◌+◌, ◌-◌, ◌==◌, length, slice_get, unwrap_or}
+use Rattle.std.proofs.Common.{arith, length-append, refl, sym, ap, subst, ◌∙◌}
+use Rattle.std.proofs.lemmas.Bool.{eqb-false, eqb-true}
 use Rattle.std.proofs.lemmas.Option.{slice_get_within}
 use Rattle.m88_base.specs.Image.{IsImage, ProgramImage}
 use Rattle.m88_base.specs.declared.absent.Absent.{Absent}
 use Rattle.m88_isa.proofs.Alone.{by_test}
 use Rattle.m88_isa.proofs.ImageProgram.{program_of_image}
-use Rattle.m88_isa.specs.Held.{first_from}
 use Rattle.m88_isa.specs.History.{transactions}
 use Rattle.m88_isa.specs.ImageProgram.{IsProgramOf}
-use Rattle.m88_isa.specs.Machine.{IsProgram, Program}
+use Rattle.m88_isa.specs.Machine.{Program}
 use Rattle.m88_codec.proofs.ImagePrograms.{program_in, program_in_holds, program_in_mxm}
-use Rattle.m88_event.specs.Timeline.{Moment, opening_moment}
+use Rattle.m88_event.specs.Timeline.{opening_moment}
 use Rattle.m88_mem.specs.Marks.{absent_in}
 use Rattle.m88_board.specs.Board.{BoardView}
 use Rattle.m88_board.specs.Contexts.{StandsFor}
-use Rattle.m88_board.specs.Kept.{most_events, most_retired}
+use Rattle.m88_board.specs.Kept.{most_retired}
 use Rattle.m88_board.specs.Moves.{IsAt}
 use Rattle.m88_board.specs.declared.context.Context.{Context}
 use Rattle.m88_tasks.proofs.Choosing.{none_below}
@@ -24,7 +23,7 @@ use Rattle.m88_tasks.proofs.Past.{past_first}
 use Rattle.m88_tasks.proofs.Running.{at_last, in_front}
 use Rattle.m88_tasks.proofs.Searching.{here_first}
 use Rattle.m88_tasks.specs.Shared.{Group, first_alive, opening_shared, over_at}
-use Rattle.m88_tasks.specs.Tasks.{ArePrograms, AreSomePrograms, AreTasks, IsGroupOf, IsPlaceAt, IsTasksAt, ProgramsView, TasksView, most_programs}
+use Rattle.m88_tasks.specs.Tasks.{ArePrograms, AreSomePrograms, AreTasks, IsGroupOf, IsPlaceAt, IsTasksAt, ProgramsView, most_programs}
 use Rattle.m88_tasks.specs.declared.shared.Switch.{Switch}
 
 -- at first each program is over where the limit is 0, and none is where it isn't

@@ -1,7 +1,6 @@
 -- The letters of a shared run: those of its schedule, and then `r` and `i` in turn.
 use Rattle.std.specs.Prelude.{ℕ, Bool, All, List, [], ◌∷◌, ◌≡◌, ◌⊎◌, ◌≤◌, ◌-◌, ◌==◌, ◌||◌, map, length, slice_get, unwrap_or, if◌then◌else◌, true}
 use Rattle.m88_event.specs.Letters.{in_turn, is_letter, letter_byte, letter_of, most_letters}
-use Rattle.m88_event.specs.declared.letter.Letter.{Letter}
 use Rattle.m88_tasks.specs.declared.letter.ShareLetter.{ShareLetter}
 use Rattle.m88_tasks.specs.declared.letter.ShareLetter.TheVariants.{Own, Turn}
 

@@ -1,6 +1,6 @@
 -- Programs that share a board: the moment of each, the program that runs, and the switches from one to another; and
 -- what a letter makes of them.
-use Rattle.std.specs.Prelude.{ℕ, zero, suc, Bool, not, List, [], ◌∷◌, ◌++◌, Option, Some, None, ◌≡◌, ◌<◌, ◌≤◌, ◌+◌, ◌-◌, ◌==◌, ◌||◌, is_none, length, slice_get, unwrap_or, if◌then◌else◌, true}
+use Rattle.std.specs.Prelude.{ℕ, zero, suc, Bool, not, List, [], ◌∷◌, ◌++◌, Option, Some, None, ◌≡◌, ◌+◌, ◌-◌, ◌==◌, ◌||◌, is_none, length, slice_get, unwrap_or, if◌then◌else◌}
 use Rattle.m88_event.specs.Run.{IsFirst, IsOutcome, outcome_at}
 use Rattle.m88_event.specs.Timeline.{Moment, after_letter, is_drained, is_over, opening_moment, record_at, said_at}
 use Rattle.m88_event.specs.declared.letter.Letter.{Letter}

@@ -1,6 +1,6 @@
 -- Programs that share a board, as contracts see them: the board, on which one of them runs, and the contexts of the
 -- others; and when they stand at a moment of the shared timeline.
-use Rattle.std.specs.Prelude.{ℕ, Bool, List, Option, Some, None, ◌≡◌, ◌≢◌, ◌<◌, ◌≤◌, ◌+◌, ◌*◌, length, slice_get, true, false}
+use Rattle.std.specs.Prelude.{ℕ, Bool, List, Option, Some, None, ◌≡◌, ◌≢◌, ◌<◌, ◌≤◌, ◌+◌, ◌*◌, length, slice_get, false}
 use Rattle.m88_base.specs.Image.{ProgramImage}
 use Rattle.m88_base.specs.declared.absent.Absent.{Absent}
 use Rattle.m88_board.specs.Board.{BoardView, local_of}

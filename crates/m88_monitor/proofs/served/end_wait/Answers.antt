@@ -1,7 +1,7 @@
 -- What SSBR keeps of the word with the bit cleared is that word.
 use Rattle.std.proofs.Common.{◌≡◌, ◌∙◌, ap, rules}
 use Rattle.m88_base.specs.Reg.{number_of}
-use Rattle.m88_ctrl.specs.ControlRegisters.{ControlRegisters, kept_of}
+use Rattle.m88_ctrl.specs.ControlRegisters.{kept_of}
 use Rattle.m88_monitor.proofs.Cleared.{cleared_kept}
 use Rattle.m88_monitor.specs.Serving.{without_bit}
 use Rattle.m88_monitor.proofs.served.end_wait.Goals as goal

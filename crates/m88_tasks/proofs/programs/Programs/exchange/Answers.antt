@@ -1,5 +1,5 @@
 -- The program that runs and that of another place change places.
-use Rattle.std.proofs.Common.{◌≡◌, ◌<◌, refl, sym, subst, Some, None, length, slice_get}
+use Rattle.std.proofs.Common.{◌<◌, sym, subst, Some, None, length}
 use Rattle.std.specs.Prelude.{◌≢◌}
 use Rattle.m88_tasks.proofs.Places.{exchanged_by, place_some, place_stands, taken_place}
 use Rattle.m88_tasks.specs.Tasks.{ArePrograms, ProgramsView}

@@ -1,5 +1,5 @@
 -- The program of a place is over where its context says so, or the board.
-use Rattle.std.proofs.Common.{◌≡◌, ◌<◌, ap, sym, subst, Some, None, length, slice_get}
+use Rattle.std.proofs.Common.{◌≡◌, ◌<◌, sym, subst, Some, None, length, slice_get}
 use Rattle.m88_tasks.proofs.Places.{at_place, board_over, place_over}
 use Rattle.m88_tasks.specs.Tasks.{ArePrograms, ProgramsView}
 use Rattle.m88_tasks.proofs.programs.Programs.is_over_at.Goals as goal

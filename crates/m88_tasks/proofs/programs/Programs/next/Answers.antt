@@ -1,5 +1,5 @@
 -- Behind the program that runs, and then from the first on.
-use Rattle.std.proofs.Common.{rules, ◌≡◌, ◌∙◌, ap, length, sym, subst, Some, None}
+use Rattle.std.proofs.Common.{rules, ◌≡◌, ◌∙◌, length, sym, subst, Some, None}
 use Rattle.m88_tasks.proofs.Settling.{next_before, next_behind}
 use Rattle.m88_tasks.specs.Tasks.{ArePrograms}
 use Rattle.m88_tasks.proofs.programs.Programs.next.Goals as goal

@@ -1,12 +1,12 @@
 -- One context after the other.
-use Rattle.std.proofs.Common.{rules, [], ◌∷◌, ◌++◌, ◌≡◌, ◌≤◌, ◌∙◌, arith, length, refl, sym, subst, Some, None, slice_get, ℕ, false, Option, List}
+use Rattle.std.proofs.Common.{rules, [], ◌∷◌, ◌++◌, ◌≡◌, ◌∙◌, arith, length, refl, sym, subst, Some, None, slice_get, false}
 use Rattle.std.proofs.lemmas.Option.{slice_get_read}
 use Rattle.m88_base.specs.Image.{ProgramImage}
 use Rattle.m88_isa.specs.ImageProgram.{IsProgramOf}
 use Rattle.m88_isa.specs.Machine.{Program}
 use Rattle.m88_tasks.proofs.Starting.{AreMade, a_group, are_tasks, image_same, made_first, made_next, some_start, starts, tasks_at}
 use Rattle.m88_tasks.specs.Shared.{opening_shared}
-use Rattle.m88_tasks.specs.Tasks.{ArePrograms, ProgramsView}
+use Rattle.m88_tasks.specs.Tasks.{ArePrograms}
 use Rattle.m88_tasks.proofs.tasks.Tasks.new.Goals as goal
 
 pub loop-q-init : goal.loop-q-init

@@ -1,5 +1,5 @@
 -- One event after the other.
-use Rattle.std.proofs.Common.{ℕ, ◌≡◌, ◌<◌, ◌≤◌, ◌+◌, ◌∙◌, ap, arith, false, length, refl, sym, subst}
+use Rattle.std.proofs.Common.{ℕ, ◌≡◌, ◌≤◌, ◌+◌, ◌∙◌, ap, arith, false, length, refl, sym, subst}
 use Rattle.m88_event.specs.Letters.{most_letters}
 use Rattle.m88_tasks.proofs.Ending.{run_own, run_shared, run_within, shared_only}
 use Rattle.m88_tasks.proofs.Running.{room_few, room_first, room_left, room_next, room_within, went_first, went_next}

@@ -1,5 +1,5 @@
 -- So many letters are taken, and the programs stand where these lead.
-use Rattle.std.proofs.Common.{ℕ, ◌≡◌, ◌-◌, length}
+use Rattle.std.proofs.Common.{◌≡◌, ◌-◌, length}
 use Rattle.m88_tasks.proofs.Running.{HasRoom, Went}
 use Rattle.m88_tasks.specs.Shared.{Group, opening_shared}
 use Rattle.m88_tasks.specs.Tasks.{IsTasksAt, most_shared_events}
