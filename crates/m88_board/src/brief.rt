@@ -2,7 +2,7 @@
 
 use m88_event::{End, Why};
 
-/// What an event did, as `Happened` tells it, but for the record of a fault, which stands last among those of the board.
+/// What an event did, as `Happened` tells it, but for the record of a data fault, which is the last of the board's.
 #[derive(Clone, Copy, Debug)]
 pub(crate) enum Brief {
     Issued,
