@@ -3,11 +3,12 @@ ghost use Rattle.std.specs.Prelude.{◌≡◌, ◌↔◌, ◌-◌, ◌≤◌, �
 ghost use Rattle.m88_base.specs.Name.{IsName, begins_name, continues_name};
 
 use std::fmt;
+use std::hash::{Hash, Hasher};
 use std::marker::Model;
 use std::str::from_utf8;
 
 /// A name of an assembly source, 1 to 64 bytes.
-#[derive(Clone, Copy, Hash, Debug)]
+#[derive(Clone, Copy, Debug)]
 pub struct Name {
     bytes: [u8; 64],
     len: usize,
@@ -53,6 +54,21 @@ impl Eq for Name {
     ghost use Rattle.std.specs.Cmp.Rules.{comparing};
 
     ghost laws = { Prim.search (comparing, rules) };
+}
+
+impl Hash for Name {
+    ghost use Rattle.std.specs.Prelude.{[], ◌∷◌};
+    ghost use Rattle.std.specs.Cmp.Lexicographic.{bytes_decides};
+    ghost use Rattle.std.proofs.Common.{ap};
+
+    ghost hash_input = { λ name. name ∷ [] };
+
+    ghost respects_eq = { λ x y same. ap (λ name. name ∷ []) ((bytes_decides x y).0 same) };
+
+    // The bytes at once: a slice would hash each by itself.
+    fn hash<H: Hasher>(&self, state: &mut H) {
+        state.write(self.bytes());
+    }
 }
 
 impl Name {
