@@ -16,7 +16,6 @@ use crate::fault::{LinkFault, TOO_LARGE};
 use crate::object::Object;
 use crate::overlap::check_overlap;
 use crate::placing::{image_of, spots};
-use crate::resolve::check_references;
 use crate::table::SymbolTable;
 use m88_base::{FIRST_TEXT, Image, Name};
 use std::alloc::Global;
@@ -61,7 +60,6 @@ fn image_or_refusal(alloc: Global, objects: &[Object]) -> Result<Image, LinkFaul
     let placements = stand(alloc, objects)?;
     check_overlap(alloc, &placements)?;
     let globals = globals(alloc, &placements)?;
-    check_references(alloc, &placements, &globals)?;
     let spots = spots(alloc, &placements, &globals)?;
     let mut image = image_of(alloc, spots)?;
     image.set_start(start(&globals));

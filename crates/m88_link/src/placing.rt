@@ -1,18 +1,24 @@
 //! The bytes of sections with their relocations carried out, and the image of them.
-ghost use Rattle.std.specs.Prelude.{◌≡◌, ℕ, [], ◌+◌, ◌^◌, ◌≤◌, All, IfOk, OnOk, flat_map, length, map};
+ghost use Rattle.std.specs.Prelude.{◌≡◌, ◌⊎◌, ℕ, [], ◌+◌, ◌^◌, ◌≤◌, All, IfErr, IfOk, None, OnOk, Some, flat_map, length, map};
+ghost use Rattle.std.specs.Option.{option_or};
 ghost use Rattle.m88_base.specs.Found.{IsFree, PutsBytes};
 ghost use Rattle.m88_base.specs.Image.{byte_at, byte_count};
 ghost use Rattle.m88_base.specs.Placed.{byte_among, count_among};
 ghost use Rattle.m88_link.specs.Bases.{base_at};
 ghost use Rattle.m88_link.specs.Inside.Carried.{AreAlone, HasWord, unpatched, carried, patched_spot};
-ghost use Rattle.m88_link.specs.Layout.{spots_of, value_of_name};
+ghost use Rattle.m88_link.specs.Faults.{memory_fault};
+ghost use Rattle.m88_link.specs.Inside.Resolved.{Checks};
+ghost use Rattle.m88_link.specs.Layout.{references_of, spots_of, value_of_name};
+ghost use Rattle.m88_link.specs.Refusal.{too_far, undefined};
 ghost use Rattle.m88_link.specs.Relocated.{target_of};
+ghost use Rattle.m88_link.specs.Sound.{IsPatchIn};
 ghost use Rattle.m88_base.specs.Image.{most_bytes};
 
 use crate::bases::Placement;
+use crate::fault::LinkFault;
 use crate::object::{Reloc, Section};
 use crate::patch::patch;
-use crate::resolve::{own_symbols, target};
+use crate::resolve::{checked_target, own_symbols};
 use crate::table::SymbolTable;
 use m88_base::{Image, ImageFault};
 use std::alloc::{AllocError, Global};
@@ -69,34 +75,59 @@ impl Spot {
     }
 }
 
-/// The bytes of the sections of all objects, in order, with their relocations carried out.
+/// The bytes of the sections of all objects, in order, with their relocations carried out; or the first
+/// name that means nothing, or else the first displacement that doesn't fit its field.
 pub fn spots(
     alloc: Global,
     placements: &[Placement],
     globals: &SymbolTable,
-) -> Result<Vec<Spot>, AllocError>
-    ensures { IfOk result (λ spots. spots.items ≡ flat_map (spots_of globals.now) placements.now) }
+) -> Result<Vec<Spot>, LinkFault>
+    ensures spots { IfOk result (λ spots. spots.items
+        ≡ flat_map (spots_of globals.now) placements.now) }
+    ensures ok { OnOk result
+        (option_or (undefined (flat_map (references_of globals.now) placements.now))
+        (too_far (flat_map (references_of globals.now) placements.now)) ≡ None) }
+    ensures err { IfErr result (λ e. (e ≡ memory_fault)
+        ⊎ (option_or (undefined (flat_map (references_of globals.now) placements.now))
+        (too_far (flat_map (references_of globals.now) placements.now)) ≡ Some e)) }
 {
     let mut spots = Vec::new(alloc);
+    let mut far = None;
     for placement in placements {
-        let mut own = object_spots(alloc, placement, globals)?;
+        let mut own = object_spots(alloc, &mut far, placement, globals)?;
         spots.append(&mut own)?;
     }
-    Ok(spots)
+    match far {
+        Some(fault) => Err(fault),
+        None => Ok(spots),
+    }
 }
 
-/// The bytes of the sections of an object with its relocations carried out.
+/// The bytes of the sections of an object with its relocations carried out; refuses the first of them
+/// whose symbol means nothing, and keeps the first that is too far.
 fn object_spots(
     alloc: Global,
+    far: &mut Option<LinkFault>,
     placement: &Placement,
     globals: &SymbolTable,
-) -> Result<Vec<Spot>, AllocError>
-    ensures { IfOk result (λ spots. spots.items ≡ spots_of globals.now placement.now) }
+) -> Result<Vec<Spot>, LinkFault>
+    ensures spots { IfOk result (λ spots. spots.items ≡ spots_of globals.now placement.now) }
+    ensures checks { Checks globals.now placement.now placement.now.part.relocs
+        far.old far.new result }
 {
     let mut spots = bare_spots(alloc, placement, placement.sections())?;
     let own = own_symbols(alloc, placement.symbols())?;
-    carry_out(&mut spots, globals, placement, &own, placement.relocs());
-    Ok(spots)
+    match carry_out(
+        &mut spots,
+        far,
+        globals,
+        placement,
+        &own,
+        placement.relocs(),
+    ) {
+        Ok(()) => Ok(spots),
+        Err(fault) => Err(fault),
+    }
 }
 
 /// The bytes of sections of an object as the object has them.
@@ -118,24 +149,35 @@ fn bare_spots(
     Ok(spots)
 }
 
-/// Carries out relocations of an object on its sections; a name that means nothing counts as 0.
+/// Carries out relocations of an object on its sections; refuses the first whose symbol means nothing,
+/// and keeps the first that is too far.
 fn carry_out(
     spots: &mut Vec<Spot>,
+    far: &mut Option<LinkFault>,
     globals: &SymbolTable,
     placement: &Placement,
     own: &SymbolTable,
     relocs: &[Reloc],
-)
+) -> Result<(), LinkFault>
     requires own { own.now ≡ placement.now.part.symbols }
+    requires sound { All (IsPatchIn placement.now.part.sections) relocs.now }
     requires words { All (HasWord spots.old.items) relocs.now }
-    ensures { spots.new.items
-        ≡ carried (target_of (value_of_name globals.now placement.now)) relocs.now spots.old.items }
+    ensures spots { OnOk result (spots.new.items
+        ≡ carried (target_of (value_of_name globals.now placement.now)) relocs.now
+        spots.old.items) }
+    ensures checks { Checks globals.now placement.now relocs.now far.old far.new result }
 {
     for reloc in relocs {
-        let target = target(globals, placement, own, reloc).unwrap_or(reloc.addend);
-        let spot = &mut spots[reloc.section as usize];
-        spot.patch(reloc, target);
+        // No `?`: the proof of this loop isn't found with it.
+        match checked_target(far, globals, placement, own, reloc) {
+            Ok(target) => {
+                let spot = &mut spots[reloc.section as usize];
+                spot.patch(reloc, target);
+            }
+            Err(fault) => return Err(fault),
+        }
     }
+    Ok(())
 }
 
 /// The image of sections, no two of which have one address.

@@ -1,10 +1,7 @@
 //! What names mean, and the uses of names that can't be carried out.
-ghost use Rattle.std.specs.Prelude.{◌≡◌, ◌∷◌, ◌⊎◌, [], All, IfErr, IfOk, unwrap_or, None, OnOk, Some, flat_map};
-ghost use Rattle.std.specs.Option.{option_or};
+ghost use Rattle.std.specs.Prelude.{◌≡◌, ◌∷◌, [], IfOk, unwrap_or, None};
 ghost use Rattle.m88_link.specs.Bases.{base_of};
-ghost use Rattle.m88_link.specs.Faults.{memory_fault};
-ghost use Rattle.m88_link.specs.Layout.{reference, references_of, value_of_name};
-ghost use Rattle.m88_link.specs.Refusal.{too_far, undefined};
+ghost use Rattle.m88_link.specs.Layout.{reference, value_of_name};
 ghost use Rattle.m88_link.specs.Relocated.{target_of};
 ghost use Rattle.m88_link.specs.Inside.Resolved.{Checks};
 ghost use Rattle.m88_link.specs.Sound.{IsPatchIn};
@@ -18,37 +15,12 @@ use crate::table::SymbolTable;
 use m88_base::Name;
 use std::alloc::{AllocError, Global};
 
-/// Refuses the first name that means nothing, or else the first displacement that doesn't fit its
-/// field.
-pub fn check_references(
-    alloc: Global,
-    placements: &[Placement],
-    globals: &SymbolTable,
-) -> Result<(), LinkFault>
-    ensures ok { OnOk result
-        (option_or (undefined (flat_map (references_of globals.now) placements.now))
-        (too_far (flat_map (references_of globals.now) placements.now)) ≡ None) }
-    ensures err { IfErr result (λ e. (e ≡ memory_fault)
-        ⊎ (option_or (undefined (flat_map (references_of globals.now) placements.now))
-        (too_far (flat_map (references_of globals.now) placements.now)) ≡ Some e)) }
-{
-    let mut far = None;
-    for placement in placements {
-        let own = own_symbols(alloc, placement.symbols())?;
-        check_all(&mut far, globals, placement, &own, placement.relocs())?;
-    }
-    match far {
-        Some(fault) => Err(fault),
-        None => Ok(()),
-    }
-}
-
 /// The symbols of an object as a table.
 pub fn own_symbols(alloc: Global, symbols: &[Symbol]) -> Result<SymbolTable, AllocError>
     requires { first_repeated symbols.now ≡ None }
     ensures { IfOk result (λ table. table ≡ symbols.now) }
 {
-    let mut table = SymbolTable::new(alloc);
+    let mut table = SymbolTable::with_room(alloc, symbols.len())?;
     for symbol in symbols {
         table.add(*symbol)?;
     }
@@ -72,7 +44,7 @@ fn meaning(
 
 /// The target of a relocation of an object, the symbol's value plus the addend, where the symbol means
 /// something.
-pub fn target(
+fn target(
     globals: &SymbolTable,
     placement: &Placement,
     own: &SymbolTable,
@@ -89,41 +61,20 @@ pub fn target(
     Some(value.wrapping_add(addend))
 }
 
-/// Refuses the first of the relocations of an object whose symbol means nothing, and keeps the first
-/// that is too far.
-fn check_all(
-    far: &mut Option<LinkFault>,
-    globals: &SymbolTable,
-    placement: &Placement,
-    own: &SymbolTable,
-    relocs: &[Reloc],
-) -> Result<(), LinkFault>
-    requires own { own.now ≡ placement.now.part.symbols }
-    requires sound { All (IsPatchIn placement.now.part.sections) relocs.now }
-    ensures { Checks globals.now placement.now relocs.now far.old far.new result }
-{
-    for reloc in relocs {
-        // No `?`: the proof of this loop isn't found with it.
-        match check(far, globals, placement, own, reloc) {
-            Ok(()) => {}
-            Err(fault) => return Err(fault),
-        }
-    }
-    Ok(())
-}
-
-/// Refuses a relocation of an object whose symbol means nothing, and keeps it where it is the first
-/// that is too far.
-fn check(
+/// The target of a relocation of an object; refuses one whose symbol means nothing, and keeps it where
+/// it is the first that is too far.
+pub fn checked_target(
     far: &mut Option<LinkFault>,
     globals: &SymbolTable,
     placement: &Placement,
     own: &SymbolTable,
     reloc: &Reloc,
-) -> Result<(), LinkFault>
+) -> Result<u32, LinkFault>
     requires own { own.now ≡ placement.now.part.symbols }
     requires sound { IsPatchIn placement.now.part.sections reloc.now }
-    ensures { Checks globals.now placement.now (reloc.now ∷ []) far.old far.new result }
+    ensures target { IfOk result (λ target. target
+        ≡ target_of (value_of_name globals.now placement.now) reloc.now) }
+    ensures checks { Checks globals.now placement.now (reloc.now ∷ []) far.old far.new result }
 {
     let Some(target) = target(globals, placement, own, reloc) else {
         return Err(LinkFault {
@@ -140,5 +91,5 @@ fn check(
             kind: LinkKind::TooFar(distance(target, at).cast_signed()),
         });
     }
-    Ok(())
+    Ok(target)
 }

@@ -39,6 +39,15 @@ impl SymbolTable {
         }
     }
 
+    /// A table without symbols that has room for `n` of them.
+    pub fn with_room(alloc: Global, n: usize) -> Result<SymbolTable, AllocError>
+        ensures { IfOk result (λ table. table ≡ []) }
+    {
+        Ok(SymbolTable {
+            symbols: IndexMap::with_capacity(alloc, n)?,
+        })
+    }
+
     /// The symbol of a name, where the table has one.
     #[tactic(auto, using(crate::proofs::Tabled::table_found))]
     pub fn get(&self, name: &Name) -> Option<&Symbol>

@@ -15,8 +15,8 @@ abbrev pub uses_in : List Symbol → Placement Object → List Reloc → List Re
 uses_in globals p relocs = map (reference globals (base_of p) p.part.symbols) relocs
 
 -- each symbol means something and the first that is too far is kept, or the first that means nothing is the fault
-abbrev pub Checks : List Symbol → Placement Object → List Reloc → Option LinkFault → Option LinkFault
-    → Result (Unit {0}) LinkFault → Type 0
+abbrev pub Checks : {A : Type 0} → List Symbol → Placement Object → List Reloc → Option LinkFault → Option LinkFault
+    → Result A LinkFault → Type 0
 Checks globals p relocs old new result =
     MatchResult result
     (λ _. (new ≡ option_or old (too_far (uses_in globals p relocs))) × (undefined (uses_in globals p relocs) ≡ None))

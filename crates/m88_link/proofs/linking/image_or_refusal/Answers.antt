@@ -48,8 +48,8 @@ returns-in_err-globals-clause-err c =
           (subst (λ l. duplicate (flat_map globals_of l) ≡ Some fault) (c.deref-2.ensures.value ∙ c.in_ok-placements.ensures) found))
     ])
 
-pub returns-in_err-check_references-clause-err : goal.returns-in_err-check_references-clause-err
-returns-in_err-check_references-clause-err c =
+pub returns-in_err-spots-clause-err : goal.returns-in_err-spots-clause-err
+returns-in_err-spots-clause-err c =
     let os = c.args.objects.now in
     let few : total_size os ≤ most_bytes = c.if-not-fit.ensures.0 refl in
     let alone = subst (λ l. AreDisjoint (flat_map extents_of l)) (c.deref.ensures.value ∙ c.in_ok-placements.ensures) c.in_ok-check_overlap.ensures.ok in
@@ -57,10 +57,10 @@ returns-in_err-check_references-clause-err c =
     let once = subst (λ l. duplicate (flat_map globals_of l) ≡ None) stand2 c.in_ok-globals.ensures.once in
     let globals = c.in_ok-globals.globals in
     let are = c.in_ok-globals.ensures.ok ∙ ap (λ l. flat_map globals_of l) stand2 in
-    let fault = c.in_err-check_references.field-0.0 in
-    let r = c.from_residual-in_err-check_references in
+    let fault = c.in_err-spots.field-0.0 in
+    let r = c.from_residual-in_err-spots in
     let p = err_from_is_err_and r.result r.ensures.1 in
-    rw (p.1, p.2) (elim c.in_err-check_references.ensures.err [
+    rw (p.1, p.2) (elim c.in_err-spots.ensures.err [
       | inl memory ↦ inl memory
       | inr found ↦ inr (refused_reference os c.requires few alone once globals are fault
           (subst (λ l. option_or (undefined (flat_map (references_of globals) l)) (too_far (flat_map (references_of globals) l)) ≡ Some fault)
@@ -73,7 +73,7 @@ image_of-requires-clause-alone c =
     let few : total_size os ≤ most_bytes = c.if-not-fit.ensures.0 refl in
     let alone = subst (λ l. AreDisjoint (flat_map extents_of l)) (c.deref.ensures.value ∙ c.in_ok-placements.ensures) c.in_ok-check_overlap.ensures.ok in
     let globals = c.in_ok-globals.globals in
-    let spots = c.in_ok-spots.ensures ∙ ap (λ l. flat_map (spots_of globals) l) (c.deref-4.ensures.value ∙ c.in_ok-placements.ensures) in
+    let spots = c.in_ok-spots.ensures.spots ∙ ap (λ l. flat_map (spots_of globals) l) (c.deref-3.ensures.value ∙ c.in_ok-placements.ensures) in
     subst (λ l. AreAlone l) (sym spots) (spots_alone os c.requires few alone globals)
 
 pub image_of-requires-clause-fit : goal.image_of-requires-clause-fit
@@ -81,7 +81,7 @@ image_of-requires-clause-fit c =
     let os = c.args.objects.now in
     let few : total_size os ≤ most_bytes = c.if-not-fit.ensures.0 refl in
     let globals = c.in_ok-globals.globals in
-    let spots = c.in_ok-spots.ensures ∙ ap (λ l. flat_map (spots_of globals) l) (c.deref-4.ensures.value ∙ c.in_ok-placements.ensures) in
+    let spots = c.in_ok-spots.ensures.spots ∙ ap (λ l. flat_map (spots_of globals) l) (c.deref-3.ensures.value ∙ c.in_ok-placements.ensures) in
     subst (λ l. count_among l ≤ most_bytes) (sym spots) (spots_few os c.requires few globals)
 
 pub returns-clause-linkable : goal.returns-clause-linkable
@@ -95,4 +95,4 @@ returns-clause-linkable c =
     let are = c.in_ok-globals.ensures.ok ∙ ap (λ l. flat_map globals_of l) stand2 in
     linkable os c.requires few alone once globals are
     (subst (λ l. option_or (undefined (flat_map (references_of globals) l)) (too_far (flat_map (references_of globals) l)) ≡ None)
-    (c.deref-3.ensures.value ∙ c.in_ok-placements.ensures) c.in_ok-check_references.ensures.ok)
+    (c.deref-3.ensures.value ∙ c.in_ok-placements.ensures) c.in_ok-spots.ensures.ok)

@@ -15,13 +15,13 @@ carry_out-requires-clause-words c =
     (subst (λ rs. All (HasWord (map (unpatched s) s.part.sections)) rs) (sym c.relocs.ensures.value)
     (has_words s s.part.sections s.part.relocs c.relocs.ensures.sound.relocs))
 
-pub returns : goal.returns
-returns c =
+pub returns-in-Ok-clause-spots : goal.returns-in-Ok-clause-spots
+returns-in-Ok-clause-spots c =
     let g = c.args.globals.now in
     let s = c.args.placement.now in
     let t = target_of (value_of_name g s) in
     let items = c.in_ok-spots.ensures ∙ ap (λ l. map (unpatched s) l) c.sections.ensures.value in
-    c.carry_out.ensures
+    c.in-Ok.ensures.spots
     ∙ ap (λ rs. carried t rs c.in_ok-spots.spots.items) c.relocs.ensures.value
     ∙ ap (λ l. carried t s.part.relocs l) items
     ∙ carried_is g s
