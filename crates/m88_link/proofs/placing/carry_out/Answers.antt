@@ -1,5 +1,5 @@
--- One relocation carried out leaves the others to carry out, and its section as long as it was. A symbol that means nothing is the
--- first of all, and the first that is too far stays the first.
+-- One relocation carried out leaves the others to carry out, and its section as long as it was. A symbol that means
+-- nothing is the first of all, and the first that is too far stays the first.
 use Rattle.std.proofs.Common.{◌+◌, ◌∷◌, [], ◌∙◌, take, drop, get_or, sym, ap, subst, inl, inr, arith}
 use Rattle.std.proofs.lemmas.List.{map-append}
 use Rattle.std.specs.Prelude.{slice_set}

@@ -1,5 +1,5 @@
--- The relocations that are left come to what all come to, and each word lies in its section; the first that is too far so far
--- is kept, and each symbol so far means something.
+-- The relocations that are left come to what all come to, and each word lies in its section. The first that is too far
+-- so far is kept, and each symbol so far means something.
 use Rattle.std.proofs.Common.{◌≡◌, take, drop}
 use Rattle.std.specs.Prelude.{All, None}
 use Rattle.std.specs.Option.{option_or}

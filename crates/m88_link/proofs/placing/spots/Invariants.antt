@@ -1,4 +1,4 @@
--- The sections of the objects so far; the first that is too far in them is kept, and each symbol in them means something.
+-- The sections of the objects so far. The first that is too far in them is kept, and each symbol means something.
 use Rattle.std.proofs.Common.{◌≡◌, take}
 use Rattle.std.specs.Prelude.{flat_map, None}
 use Rattle.m88_link.specs.Layout.{references_of, spots_of}
