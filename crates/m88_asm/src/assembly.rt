@@ -46,8 +46,8 @@ impl Model for Assembly {
 }
 
 impl Assembly {
-    /// A module without statements, whose text and data have this line.
-    pub fn new(alloc: Global, line: u32) -> Result<Assembly, AllocError>
+    /// A module without statements, whose text and data have this line, with room for `labels` symbols.
+    pub fn new(alloc: Global, line: u32, labels: usize) -> Result<Assembly, AllocError>
         ensures { IfOk result (λ a. a ≡ empty_growth line) }
     {
         let mut sections = Vec::new(alloc);
@@ -56,7 +56,7 @@ impl Assembly {
         Ok(Assembly {
             sections,
             here: 0,
-            symbols: SymbolTable::new(alloc),
+            symbols: SymbolTable::with_room(alloc, labels)?,
             uses: Vec::new(alloc),
         })
     }

@@ -54,7 +54,7 @@ pub(crate) fn marked(
     ensures { IfOk result (λ v. v.items ≡ map (marked statements.now) symbols.now) }
 {
     let names = declared(alloc, statements)?;
-    let mut out = Vec::new(alloc);
+    let mut out = Vec::with_capacity(alloc, symbols.len())?;
     for s in symbols {
         out.push(Symbol {
             global: is_global(&names, &s.name),

@@ -1,5 +1,5 @@
 //! The objects of a unit.
-ghost use Rattle.std.specs.Prelude.{◌≡◌, ◌⊎◌, ◌^◌, ◌<◌, ℕ, [], None, Some, length, map, slice_get, take, Contains, IfErr, IfOk, OnOk};
+ghost use Rattle.std.specs.Prelude.{◌≡◌, ◌⊎◌, ◌^◌, ◌<◌, ℕ, [], None, Some, count_by, is_some, length, map, slice_get, take, Contains, IfErr, IfOk, OnOk};
 ghost use Rattle.std.specs.List.{All, sum_by};
 ghost use Rattle.m88_parse.specs.WellFormed.{IsFormedModule, IsFormedStatement, IsWellFormed};
 ghost use Rattle.m88_link.specs.Sound.{IsSound};
@@ -23,6 +23,19 @@ use m88_link::Object;
 use m88_parse::{Module, Statement, Unit};
 use std::alloc::Global;
 
+/// The number of statements that have a label.
+fn label_count(statements: &[Statement]) -> usize
+    ensures { result ≡ count_by (λ x. is_some x.label) statements.now }
+{
+    let mut count = 0;
+    for x in statements {
+        if x.label.is_some() {
+            count += 1;
+        }
+    }
+    count
+}
+
 /// What a module's statements grow to, or the first fault.
 fn lay_out(alloc: Global, line: u32, statements: &[Statement]) -> Result<Assembly, AsmFault>
     requires formed { All IsFormedStatement statements.now }
@@ -32,7 +45,7 @@ fn lay_out(alloc: Global, line: u32, statements: &[Statement]) -> Result<Assembl
     ensures fault { IfErr result (λ e. (e ≡ memory_ran_out)
         ⊎ (statements_fault [] (located at_begin statements.now) ≡ Some e)) }
 {
-    let mut assembly = Assembly::new(alloc, line)?;
+    let mut assembly = Assembly::new(alloc, line, label_count(statements))?;
     for x in statements {
         match assembly.add(alloc, x) {
             Ok(()) => {}
