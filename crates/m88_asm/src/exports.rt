@@ -42,7 +42,8 @@ fn declared(alloc: Global, statements: &[Statement]) -> Result<IndexSet<Name>, A
 fn is_global(names: &IndexSet<Name>, name: &Name) -> bool
     ensures { result ≡ (bytes_eq name.now start_name || contains bytes_eq names.now name.now) }
 {
-    name.bytes() == b"_start".as_slice() || names.contains(name)
+    // Where nothing is declared, no name is hashed.
+    name.bytes() == b"_start".as_slice() || !names.is_empty() && names.contains(name)
 }
 
 /// The symbols of a module, each marked as global or not.
