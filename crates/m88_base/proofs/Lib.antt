@@ -13,6 +13,7 @@ pub mod Hexadecimal
 pub mod InBlocks
 pub mod InPieces
 pub mod Known
+pub mod Lasts
 pub mod Lines
 pub mod Lookup
 pub mod Marks

@@ -2,3 +2,4 @@
 pub mod LineEnd
 pub mod Placing
 pub mod Blocks
+pub mod Kept

@@ -1,5 +1,6 @@
 //! A few runs in a row.
-ghost use Rattle.std.specs.Prelude.{◌≡◌, ◌+◌, ◌/◌, ◌<◌, ◌≤◌, [], ◌∷◌, ◌++◌, All, leb, take, drop, length, insert, remove, slice_index_or, slice_set, IfOk, OnOk, OnErr};
+ghost use Rattle.std.specs.Prelude.{◌≡◌, ◌+◌, ◌/◌, ◌<◌, ◌≤◌, [], ◌∷◌, ◌++◌, All, leb, true, false, take, drop, length, insert, remove, slice_index_or, slice_set, IfOk, OnOk, OnErr};
+ghost use Rattle.std.specs.List.Sorted.{IsNonDecreasingBy, IsPartitionPoint};
 ghost use Rattle.m88_base.specs.Inside.Blocks.{first_start};
 ghost use Rattle.m88_base.specs.Placed.{AreApart};
 
@@ -130,5 +131,17 @@ fn locate(runs: &[Segment], at: u32) -> usize
     ensures below { All (λ run. run.at ≤ at) (take result runs.now) }
     ensures above { AreApart (at + 1) (drop result runs.now) }
 {
-    runs.partition_point(|run| run.at() <= at)
+    begun_by(runs, at)
+}
+
+/// The number of runs that begin at or below an address, of runs in ascending order. The last is tried first.
+fn begun_by(runs: &[Segment], at: u32) -> usize
+    requires { IsNonDecreasingBy (λ run. run.at) runs.now }
+    ensures bound { result ≤ length runs.now }
+    ensures parted { IsPartitionPoint (λ run. leb run.at at ≡ true) (λ run. leb run.at at ≡ false) runs.now result }
+{
+    match runs.last() {
+        Some(run) if run.at() <= at => runs.len(),
+        _ => runs.partition_point(|run| run.at() <= at),
+    }
 }

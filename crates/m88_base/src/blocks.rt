@@ -1,7 +1,8 @@
 //! Runs in a row, in blocks, so that few others move when one more is put between them.
-ghost use Rattle.std.specs.Prelude.{◌≡◌, ◌+◌, ◌^◌, ◌<◌, ◌≤◌, [], ◌∷◌, All, take, drop, length, insert, remove, slice_index_or, slice_set, IfOk, OnOk, OnErr};
+ghost use Rattle.std.specs.Prelude.{◌≡◌, ◌+◌, ◌^◌, ◌<◌, ◌≤◌, [], ◌∷◌, All, take, drop, length, insert, remove, slice_index_or, slice_set, leb, true, false, IfOk, OnOk, OnErr};
+ghost use Rattle.std.specs.List.Sorted.{IsNonDecreasingBy, IsPartitionPoint};
 ghost use Rattle.m88_base.specs.Placed.{AreApart};
-ghost use Rattle.m88_base.specs.Inside.Blocks.{AreFilled, CountsTo, IsCounted, IsPlaceInBlocks, all_runs};
+ghost use Rattle.m88_base.specs.Inside.Blocks.{AreFilled, CountsTo, IsCounted, IsPlaceInBlocks, all_runs, first_start};
 
 use crate::block::Block;
 use crate::segment::Segment;
@@ -131,6 +132,32 @@ fn copied(alloc: Global, blocks: &[Block]) -> Result<Vec<Block>, AllocError>
     Ok(copy)
 }
 
+/// The number of blocks ahead of which stand no more runs than an index. The last is tried first.
+fn counted_by(starts: &[usize], index: usize) -> usize
+    requires { IsNonDecreasingBy (λ start. start) starts.now }
+    ensures bound { result ≤ length starts.now }
+    ensures parted { IsPartitionPoint (λ start. leb start index ≡ true) (λ start. leb start index ≡ false)
+        starts.now result }
+{
+    match starts.last() {
+        Some(start) if *start <= index => starts.len(),
+        _ => starts.partition_point(|start| *start <= index),
+    }
+}
+
+/// The number of blocks that begin at or below an address. The last is tried first.
+fn begun_by(blocks: &[Block], at: u32) -> usize
+    requires { IsNonDecreasingBy first_start blocks.now }
+    ensures bound { result ≤ length blocks.now }
+    ensures parted { IsPartitionPoint (λ block. leb (first_start block) at ≡ true)
+        (λ block. leb (first_start block) at ≡ false) blocks.now result }
+{
+    match blocks.last() {
+        Some(block) if block.begins_by(at) => blocks.len(),
+        _ => blocks.partition_point(|block| block.begins_by(at)),
+    }
+}
+
 /// The block that has the run at an index, and where the run stands in it.
 fn place_of(blocks: &[Block], starts: &[usize], index: usize) -> (usize, usize)
     requires counted { IsCounted starts.now blocks.now }
@@ -138,7 +165,7 @@ fn place_of(blocks: &[Block], starts: &[usize], index: usize) -> (usize, usize)
     ensures place { IsPlaceInBlocks blocks.now result.0 result.1 index }
     ensures inside { result.1 < length (slice_index_or blocks.now result.0 []) }
 {
-    let passed = starts.partition_point(|start| *start <= index);
+    let passed = counted_by(starts, index);
     if passed == 0 {
         unreachable!();
     }
@@ -168,7 +195,7 @@ fn locate(blocks: &[Block], starts: &[usize], at: u32) -> usize
     ensures below { All (λ run. run.at ≤ at) (take result (all_runs blocks.now)) }
     ensures above { AreApart (at + 1) (drop result (all_runs blocks.now)) }
 {
-    let passed = blocks.partition_point(|block| block.begins_by(at));
+    let passed = begun_by(blocks, at);
     if passed == 0 {
         return 0;
     }

@@ -1,28 +1,38 @@
 //! A run of bytes at consecutive addresses.
 ghost use Rattle.std.specs.Prelude.{◌≡◌, ◌+◌, ◌-◌, ◌^◌, ◌≤◌, ◌++◌, [], drop, length, replicate, slice_get, IfOk, OnOk, OnErr};
 
+use arrayvec::ArrayVec;
 use std::alloc::{AllocError, Global};
 use std::marker::Model;
 
-/// Bytes at consecutive addresses, none past 0xFFFFFFFF. Ahead of them may be room for more, so that bytes which come
-/// in descending order of their addresses are moved few times.
+/// The most bytes that a run keeps without memory for them.
+const MOST_FEW: usize = 8;
+
+/// Bytes at consecutive addresses, none past 0xFFFFFFFF. A run that begins with few keeps them in itself, and takes no
+/// memory for them until more come. Ahead of the others may be room for more, so that bytes which come in descending
+/// order of their addresses are moved few times.
 #[derive(Drop, Debug)]
 pub struct Segment {
     at: u32,
     room: usize,
+    few: ArrayVec<u8, MOST_FEW>,
     kept: Vec<u8>,
 }
 
 impl Model for Segment {
     ghost use Rattle.std.specs.Prelude.{◌+◌, ◌^◌, ◌≤◌, drop, length};
+    ghost use Rattle.m88_base.specs.Inside.Kept.{kept_bytes};
     ghost use Rattle.m88_base.specs.Placed.{Placed};
 
     ghost Value = { Placed };
 
-    ghost view = { λ run. record { at = run.at; bytes = drop run.room run.kept.items } };
+    ghost view = { λ run. record {
+      at = run.at;
+      bytes = kept_bytes run.few.items (drop run.room run.kept.items);
+    } };
 
     ghost invariant = { λ run. (run.room ≤ length run.kept.items)
-        × (run.at + length (drop run.room run.kept.items) ≤ 2 ^ 32) };
+        × (run.at + length (kept_bytes run.few.items (drop run.room run.kept.items)) ≤ 2 ^ 32) };
 }
 
 impl Segment {
@@ -31,8 +41,22 @@ impl Segment {
         requires { at + length bytes.now ≤ 2 ^ 32 }
         ensures { IfOk result (λ run. run ≡ record { at = at; bytes = bytes.now }) }
     {
+        let mut few = ArrayVec::new();
+        if few.try_extend_from_slice(bytes).is_ok() {
+            return Ok(Segment {
+                at,
+                room: 0,
+                few,
+                kept: Vec::new(alloc),
+            });
+        }
         let kept = Vec::from_slice(alloc, bytes)?;
-        Ok(Segment { at, room: 0, kept })
+        Ok(Segment {
+            at,
+            room: 0,
+            few: ArrayVec::new(),
+            kept,
+        })
     }
 
     /// The same run with bytes of its own.
@@ -49,6 +73,7 @@ impl Segment {
         Segment {
             at: 0,
             room: 0,
+            few: ArrayVec::new(),
             kept: Vec::new(alloc),
         }
     }
@@ -65,8 +90,11 @@ impl Segment {
         ensures value { result.now ≡ self.now.bytes }
         ensures fits { self.now.at + length self.now.bytes ≤ 2 ^ 32 }
     {
-        let (_, bytes) = self.kept.as_slice().split_at(self.room);
-        bytes
+        if self.few.is_empty() {
+            let (_, bytes) = self.kept.as_slice().split_at(self.room);
+            return bytes;
+        }
+        self.few.as_slice()
     }
 
     /// The address just after the last byte.
@@ -96,13 +124,19 @@ impl Segment {
     }
 
     /// Puts copies of two lists of bytes at the end, both or none.
-    pub fn append(&mut self, first: &[u8], second: &[u8]) -> Result<(), AllocError>
+    pub fn append(&mut self, alloc: Global, first: &[u8], second: &[u8]) -> Result<(), AllocError>
         requires { self.old.at + length self.old.bytes + length first.now + length second.now
             ≤ 2 ^ 32 }
         ensures ok { OnOk result (self.new
             ≡ record self.old { bytes = self.old.bytes ++ (first.now ++ second.now) }) }
         ensures err { OnErr result (self.new ≡ self.old) }
     {
+        if !self.few.is_empty() {
+            self.kept = behind(alloc, self.few.as_slice(), first, second)?;
+            self.few = ArrayVec::new();
+            self.room = 0;
+            return Ok(());
+        }
         self.kept.reserve(first.len() + second.len())?;
         if self.kept.extend_from_slice(first).is_err() {
             unreachable!();
@@ -122,9 +156,10 @@ impl Segment {
         }) }
         ensures err { OnErr result (self.new ≡ self.old) }
     {
-        if self.room < bytes.len() {
+        if !self.few.is_empty() || self.room < bytes.len() {
             let room = bytes.len() + self.bytes().len();
             self.kept = behind_room(alloc, room, bytes, self.bytes())?;
+            self.few = ArrayVec::new();
             self.room = room;
             self.at -= bytes.len() as u32;
             return Ok(());
@@ -135,6 +170,16 @@ impl Segment {
         self.at -= bytes.len() as u32;
         Ok(())
     }
+}
+
+/// Copies of three lists of bytes in a row.
+fn behind(alloc: Global, few: &[u8], first: &[u8], second: &[u8]) -> Result<Vec<u8>, AllocError>
+    ensures { IfOk result (λ kept. kept.items ≡ few.now ++ (first.now ++ second.now)) }
+{
+    let mut kept = Vec::from_slice(alloc, few)?;
+    kept.extend_from_slice(first)?;
+    kept.extend_from_slice(second)?;
+    Ok(kept)
 }
 
 /// Copies of two lists of bytes behind room for so many others.

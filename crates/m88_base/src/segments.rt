@@ -185,7 +185,7 @@ impl Segments {
         ensures err { OnErr result (self.new ≡ self.old) }
     {
         let mut run = self.runs.replace(index - 1, Segment::empty(alloc));
-        match run.append(bytes, &[]) {
+        match run.append(alloc, bytes, &[]) {
             Ok(()) => {
                 let _ = self.runs.replace(index - 1, run);
                 Ok(())
@@ -262,7 +262,7 @@ impl Segments {
     {
         let mut run = self.runs.replace(index - 1, Segment::empty(alloc));
         let next = self.runs.get(index);
-        match run.append(bytes, next.bytes()) {
+        match run.append(alloc, bytes, next.bytes()) {
             Ok(()) => {
                 let _ = self.runs.replace(index - 1, run);
                 self.runs.remove(index);
