@@ -88,7 +88,7 @@ ends_by_cr line more h =
     ∙ ends_there line more 13 inner
 
 -- and another byte before it belongs to the line
-ends_by_other : (line more : List ℕ) (b : ℕ) → line_ends (line ++ b ∷ []) ≡ 0 → (b == 13) ≡ false
+pub ends_by_other : (line more : List ℕ) (b : ℕ) → line_ends (line ++ b ∷ []) ≡ 0 → (b == 13) ≡ false
     → lines_of ((line ++ b ∷ []) ++ 10 ∷ more) ≡ (line ++ b ∷ []) ∷ lines_of more
 ends_by_other line more b h other =
     ends_there line more b h

@@ -11,5 +11,6 @@ pub mod Turns
 pub mod Sizes
 pub mod Fronts
 pub mod Feeding
+pub mod Whole
 pub mod Fed
 pub mod Streamed

@@ -24,11 +24,33 @@ fn are_more_pairs(digits: &[u8]) -> bool
     rest.is_empty()
 }
 
+/// What each byte is worth as a digit or a letter, 36 where it is neither.
+const VALUES: [u8; 256] = [
+    36, 36, 36, 36, 36, 36, 36, 36, 36, 36, 36, 36, 36, 36, 36, 36, 36, 36, 36, 36, 36, 36, 36, 36,
+    36, 36, 36, 36, 36, 36, 36, 36, 36, 36, 36, 36, 36, 36, 36, 36, 36, 36, 36, 36, 36, 36, 36, 36,
+    0, 1, 2, 3, 4, 5, 6, 7, 8, 9, 36, 36, 36, 36, 36, 36, 36, 10, 11, 12, 13, 14, 15, 16, 17, 18,
+    19, 20, 21, 22, 23, 24, 25, 26, 27, 28, 29, 30, 31, 32, 33, 34, 35, 36, 36, 36, 36, 36, 36, 10,
+    11, 12, 13, 14, 15, 16, 17, 18, 19, 20, 21, 22, 23, 24, 25, 26, 27, 28, 29, 30, 31, 32, 33, 34,
+    35, 36, 36, 36, 36, 36, 36, 36, 36, 36, 36, 36, 36, 36, 36, 36, 36, 36, 36, 36, 36, 36, 36, 36,
+    36, 36, 36, 36, 36, 36, 36, 36, 36, 36, 36, 36, 36, 36, 36, 36, 36, 36, 36, 36, 36, 36, 36, 36,
+    36, 36, 36, 36, 36, 36, 36, 36, 36, 36, 36, 36, 36, 36, 36, 36, 36, 36, 36, 36, 36, 36, 36, 36,
+    36, 36, 36, 36, 36, 36, 36, 36, 36, 36, 36, 36, 36, 36, 36, 36, 36, 36, 36, 36, 36, 36, 36, 36,
+    36, 36, 36, 36, 36, 36, 36, 36, 36, 36, 36, 36, 36, 36, 36, 36, 36, 36, 36, 36, 36, 36, 36, 36,
+    36, 36, 36, 36, 36, 36, 36, 36, 36, 36, 36, 36, 36, 36,
+];
+
+/// What a byte is worth as a digit or a letter, 36 where it is neither.
+fn digit_value(digit: u8) -> u8
+    ensures { result ≡ digit_value digit }
+{
+    VALUES[usize::from(digit)]
+}
+
 /// Whether a byte is a hexadecimal digit of either case.
 pub fn is_hexadecimal(digit: u8) -> bool
     ensures { result ≡ is_digit digit 16 }
 {
-    char::from(digit).is_digit(16)
+    digit_value(digit) < 16
 }
 
 /// The value of a hexadecimal digit.
@@ -37,10 +59,7 @@ fn value(digit: u8) -> u8
     ensures value { result ≡ digit_value digit }
     ensures bound { result < 16 }
 {
-    match char::from(digit).to_digit(16) {
-        Some(value) => value as u8,
-        None => unreachable!(),
-    }
+    digit_value(digit)
 }
 
 /// The byte that two digits write.

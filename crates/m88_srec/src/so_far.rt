@@ -1,17 +1,17 @@
 //! A text whose bytes come one after another.
-ghost use Rattle.std.specs.Prelude.{ℕ, List, ◌≡◌, ◌+◌, ◌≤◌, ◌<◌, ◌^◌, ◌++◌, ◌⊎◌, [], false, length, IfErr, OnOk};
+ghost use Rattle.std.specs.Prelude.{ℕ, List, ◌≡◌, ◌+◌, ◌≤◌, ◌<◌, ◌^◌, ◌++◌, ◌⊎◌, [], false, length, IfErr, IfOk, IfSome, OnOk};
 ghost use Rattle.m88_srec.specs.Accepted.{whole_of};
 ghost use Rattle.m88_srec.specs.Begun.{LeadsTo, StaysRefused};
 ghost use Rattle.m88_srec.specs.Front.{front_of};
 ghost use Rattle.m88_srec.specs.GivesVerdict.{GivesVerdict, no_memory};
 ghost use Rattle.m88_srec.specs.Inside.Loads.{GivesLoad, fault_of_line, load_seen};
-ghost use Rattle.m88_srec.specs.Inside.Taking.{AreCounted, begun_seen, byte_taken, ended_at, finished, front_seen, judged_front, reach, with_byte, with_held};
-ghost use Rattle.m88_srec.specs.Verdict.{opening_load};
+ghost use Rattle.m88_srec.specs.Inside.Taking.{AreCounted, EndsAlone, IsTaken, IsWholeLine, Stops, begun_seen, byte_taken, ended_at, finished, front_seen, gone_on, judged_front, reach, with_byte, with_held};
+ghost use Rattle.m88_srec.specs.Verdict.{judged, opening_load};
 
 use crate::fault::{SrecFault, SrecKind};
 use crate::front::{Front, MOST_KEPT};
 use crate::loading::Loading;
-use m88_base::Image;
+use m88_base::{Image, split_at_byte};
 use std::alloc::Global;
 
 /// What the lines so far load, the number of the line whose end has not come, what is kept of it, and whether a CR
@@ -31,6 +31,27 @@ fn fault_at(line: u32, kind: SrecKind) -> SrecFault
     match kind {
         SrecKind::Memory => SrecFault { line: 0, kind },
         kind => SrecFault { line, kind },
+    }
+}
+
+/// Whether the last byte of a line is a CR, which belongs to the line end.
+fn has_cr(line: &[u8]) -> bool
+    ensures { result ≡ false → EndsAlone line.now }
+{
+    match line.split_last() {
+        Some((last, _)) => *last == b'\r',
+        None => false,
+    }
+}
+
+/// The first line of what is left of a piece, where its end is there and no CR belongs to that, and what is left behind
+/// it.
+fn whole_line(rest: &[u8]) -> Option<(&[u8], &[u8])>
+    ensures { IfSome result (λ p. IsWholeLine rest.now p.0.now p.1.now) }
+{
+    match split_at_byte(b'\n', rest) {
+        Some((line, left)) if !has_cr(line) => Some((line, left)),
+        _ => None,
     }
 }
 
@@ -133,6 +154,67 @@ impl TextSoFar {
         Ok(())
     }
 
+    /// Takes the first byte of what is left of a piece, and answers what is left behind it.
+    fn first<'a>(&mut self, rest: &'a [u8]) -> Result<&'a [u8], SrecKind>
+        requires some { 0 < length rest.now }
+        requires reach { reach self.old + length rest.now ≤ 2 ^ 31 }
+        requires counted { AreCounted self.old }
+        ensures taken { IfOk result (λ left. IsTaken rest.now left.now (begun_seen self.old)
+            (begun_seen self.new)) }
+        ensures stopped { IfErr result (Stops rest.now (begun_seen self.old)) }
+        ensures shorter { IfOk result (λ left. length left.now < length rest.now) }
+        ensures reach { IfOk result (λ left. reach self.new + length left.now
+            ≤ reach self.old + length rest.now) }
+        ensures counted { OnOk result (AreCounted self.new) }
+    {
+        match rest.split_first() {
+            Some((byte, left)) => match self.byte(*byte) {
+                Ok(()) => Ok(left),
+                Err(kind) => Err(kind),
+            },
+            None => unreachable!(),
+        }
+    }
+
+    /// Takes a line that stands whole in what is left of a piece, and answers what is left behind its end.
+    fn line<'a>(&mut self, line: &[u8], left: &'a [u8]) -> Result<&'a [u8], SrecKind>
+        requires none { self.old.front.len ≡ 0 }
+        requires no_cr { self.old.cr ≡ false }
+        requires reach { reach self.old + (length line.now + 1 + length left.now) ≤ 2 ^ 31 }
+        requires counted { AreCounted self.old }
+        ensures value { GivesLoad (begun_seen self.new) result (gone_on (begun_seen self.old)
+            (judged (load_seen self.old.loading) line.now)) }
+        ensures left { IfOk result (λ rest. rest.now ≡ left.now) }
+        ensures reach { OnOk result (reach self.new ≡ reach self.old + 1) }
+        ensures counted { OnOk result (AreCounted self.new) }
+    {
+        self.loading.line(line)?;
+        self.number += 1;
+        Ok(left)
+    }
+
+    /// Takes the next line of what is left of a piece, where the text begins one and its end is there, else the next
+    /// byte; and answers what is left behind that.
+    fn next<'a>(&mut self, rest: &'a [u8]) -> Result<&'a [u8], SrecKind>
+        requires some { 0 < length rest.now }
+        requires reach { reach self.old + length rest.now ≤ 2 ^ 31 }
+        requires counted { AreCounted self.old }
+        ensures taken { IfOk result (λ left. IsTaken rest.now left.now (begun_seen self.old)
+            (begun_seen self.new)) }
+        ensures stopped { IfErr result (Stops rest.now (begun_seen self.old)) }
+        ensures shorter { IfOk result (λ left. length left.now < length rest.now) }
+        ensures reach { IfOk result (λ left. reach self.new + length left.now
+            ≤ reach self.old + length rest.now) }
+        ensures counted { OnOk result (AreCounted self.new) }
+    {
+        if self.front.len == 0 && !self.cr {
+            if let Some((line, left)) = whole_line(rest) {
+                return self.line(line, left);
+            }
+        }
+        self.first(rest)
+    }
+
     /// Takes a piece more of the text, up to the first fault.
     pub fn piece(&mut self, piece: &[u8]) -> Result<(), SrecFault>
         requires reach { reach self.old + length piece.now ≤ 2 ^ 31 }
@@ -144,10 +226,12 @@ impl TextSoFar {
         ensures reach { OnOk result (reach self.new ≤ reach self.old + length piece.now) }
         ensures counted { OnOk result (AreCounted self.new) }
     {
-        for byte in piece {
+        let mut rest = piece;
+        while !rest.is_empty() {
             let number = self.number;
-            if let Err(kind) = self.byte(*byte) {
-                return Err(fault_at(number, kind));
+            match self.next(rest) {
+                Ok(left) => rest = left,
+                Err(kind) => return Err(fault_at(number, kind)),
             }
         }
         Ok(())

@@ -1,14 +1,14 @@
 -- How a text that has begun takes a byte more, and how it ends.
-use Rattle.std.specs.Prelude.{ℕ, Bool, true, false, [], ◌∷◌, ◌++◌, Option, Some, None, Result, Ok, Err, ◌+◌, ◌-◌, ◌/◌, ◌%◌, ◌^◌, ◌==◌, ◌&&◌, ◌≤◌, ◌<◌, is_some, length, nat_le, if◌then◌else◌}
-use Rattle.m88_base.specs.Lines.{carriage_return, line_feed}
+use Rattle.std.specs.Prelude.{ℕ, List, ◌≡◌, Bool, true, false, [], ◌∷◌, ◌++◌, Option, Some, None, Result, Ok, Err, ◌+◌, ◌-◌, ◌/◌, ◌%◌, ◌^◌, ◌==◌, ◌&&◌, ◌≤◌, ◌<◌, ◌⊎◌, is_some, length, nat_le, if◌then◌else◌}
+use Rattle.m88_base.specs.Lines.{carriage_return, line_feed, lines_of}
 use Rattle.m88_srec.specs.Accepted.{Whole}
-use Rattle.m88_srec.specs.Begun.{Begun, held_cr}
+use Rattle.m88_srec.specs.Begun.{Begun, LeadsTo, StaysRefused, held_cr, line_ends}
 use Rattle.m88_srec.specs.Front.{LineFront, front_of, is_hexadecimal, most_kept}
 use Rattle.m88_srec.specs.Inside.Loads.{load_seen}
 use Rattle.m88_srec.specs.Verdict.{Formed, Load, ended_on, go_on, judged, record_form, written_count}
 use Rattle.m88_srec.specs.declared.fault.SrecFault.{SrecFault}
 use Rattle.m88_srec.specs.declared.fault.SrecKind.{SrecKind}
-use Rattle.m88_srec.specs.declared.fault.SrecKind.TheVariants.{AfterEnd, Count, Form}
+use Rattle.m88_srec.specs.declared.fault.SrecKind.TheVariants.{AfterEnd, Count, Form, Memory}
 use Rattle.m88_srec.specs.declared.front.Front.{Front}
 use Rattle.m88_srec.specs.declared.so_far.TextSoFar.{TextSoFar}
 
@@ -57,6 +57,32 @@ next_line_of b load = record { number = b.number + 1; load = load; front = front
 abbrev pub ended_at : Begun → Result Load SrecKind → Result Begun SrecKind
 ended_at b (Ok load) = Ok (next_line_of b load)
 ended_at b (Err kind) = Err kind
+
+-- the next line behind one that stood whole in its place
+abbrev pub gone_on : Begun → Result Load SrecKind → Result Begun SrecKind
+gone_on b (Ok load) = Ok (record { number = b.number + 1; load = load; front = b.front; cr = b.cr })
+gone_on b (Err kind) = Err kind
+
+-- an LF behind a line ends it, and nothing of the line belongs to the line end
+abbrev pub EndsAlone : List ℕ → Type 0
+EndsAlone line = line_ends line ≡ 0 → (more : List ℕ) → lines_of (line ++ line_feed ∷ more) ≡ line ∷ lines_of more
+
+-- a line that stands whole in front of an LF, which alone ends it, whatever comes behind that
+pub record IsWholeLine (rest line left : List ℕ) : Type 0 where
+  pub joined : rest ≡ line ++ line_feed ∷ left
+  pub inner : line_ends line ≡ 0
+  pub ends : (more : List ℕ) → lines_of (line ++ line_feed ∷ more) ≡ line ∷ lines_of more
+
+-- some bytes are taken, and where a text led, it leads on with them
+pub record IsTaken (rest left : List ℕ) (b later : Begun) : Type 0 where
+  pub bytes : List ℕ
+  pub joined : rest ≡ bytes ++ left
+  pub leads : (text : List ℕ) → LeadsTo text b → LeadsTo (text ++ bytes) later
+
+-- memory ran out, or wherever the text led, the bytes that are left hold its first fault
+abbrev pub Stops : List ℕ → Begun → SrecKind → Type 0
+Stops rest b kind = (kind ≡ Memory) ⊎ ((text : List ℕ) → LeadsTo text b
+    → StaysRefused (text ++ rest) (record { line = b.number; kind = kind }))
 
 -- a CR is held back
 abbrev pub holding : Begun → Begun

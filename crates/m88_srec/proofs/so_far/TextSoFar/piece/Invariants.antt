@@ -1,13 +1,14 @@
--- The bytes so far lead on, and the numbers stay below theirs.
-use Rattle.std.proofs.Common.{◌+◌, ◌≤◌, ℕ, List, ◌++◌, take}
-use Rattle.m88_srec.specs.Begun.{LeadsTo}
-use Rattle.m88_srec.specs.Inside.Taking.{AreCounted, begun_seen, reach}
+-- What is taken so far leads on, and the numbers stay below those of the bytes.
+use Rattle.std.proofs.Common.{◌+◌, ◌≤◌, length}
+use Rattle.m88_srec.specs.Inside.Taking.{AreCounted, IsTaken, begun_seen, reach}
 use Rattle.m88_srec.proofs.so_far.TextSoFar.piece.Given as goal
 
-abbrev pub invariant-loop-byte : goal.invariant-loop-byte
-invariant-loop-byte l = record {
-  begun : (text : List ℕ) → LeadsTo text (begun_seen l.initial.self)
-      → LeadsTo (text ++ take l.byte-index l.piece) (begun_seen l.self);
-  reach : reach l.self ≤ reach l.initial.self + l.byte-index;
+abbrev pub invariant-loop-rest : goal.invariant-loop-rest
+invariant-loop-rest l = record {
+  taken : IsTaken l.piece l.rest (begun_seen l.initial.self) (begun_seen l.self);
+  reach : reach l.self + length l.rest ≤ reach l.initial.self + length l.piece;
   counted : AreCounted l.self;
 }
+
+abbrev pub decreases-loop-rest : goal.decreases-loop-rest
+decreases-loop-rest l = length l.rest
