@@ -1,23 +1,19 @@
 -- A text that comes byte by byte leads where its lines do.
-use Rattle.std.proofs.Common.{◌≡◌, ℕ, ◌+◌, ◌<◌, ◌≤◌, ◌==◌, Bool, true, false, cond, List, [], ◌∷◌, ◌++◌, length, get_or, take, drop, refl, sym, ap, ◌∙◌, subst, arith, inl, inr, append_assoc, append-nil, if◌then◌else◌}
-use Rattle.std.specs.Prelude.{Result, Ok, Err, Option, Some, None, ◌⊎◌}
+use Rattle.std.proofs.Common.{◌≡◌, ℕ, ◌+◌, ◌<◌, ◌≤◌, ◌==◌, Bool, true, false, cond, List, [], ◌∷◌, ◌++◌, length, take, drop, refl, sym, ap, ◌∙◌, subst, arith, append_assoc, append-nil, if◌then◌else◌}
+use Rattle.std.specs.Prelude.{Result, Ok, Err, Option, Some, None}
 use Rattle.std.specs.List.{prefix_len}
 use Rattle.std.proofs.lemmas.Bool.Decides.{nat_tests}
-use Rattle.std.proofs.lemmas.List.{drop_all, drop_at, take-append-drop, take_all, take_at, take_more}
+use Rattle.std.proofs.lemmas.List.{drop_all, drop_at, take_all, take_at}
 use Rattle.std.proofs.lemmas.List.Sums.{sum_by-append}
 use Rattle.m88_base.specs.Lines.{lines_of}
 use Rattle.m88_base.proofs.Lines.{ends_last, ends_source, is_inner}
 use Rattle.m88_srec.specs.Begun.{Begun, HoldsFault, LeadsTo, StaysRefused, held_cr, line_ends}
 use Rattle.m88_srec.specs.Front.{LineFront, front_of}
-use Rattle.m88_srec.specs.GivesVerdict.{no_memory}
-use Rattle.m88_srec.specs.Inside.Loads.{fault_of_line}
 use Rattle.m88_srec.specs.Inside.Taking.{byte_taken, ended_at, finished, holding, judged_front, last_line_on, with_byte, with_held}
 use Rattle.m88_srec.specs.Verdict.{Load, ended_on, go_on, judged, opening_load, verdict, verdict_from}
 use Rattle.m88_srec.specs.declared.fault.SrecFault.{SrecFault}
 use Rattle.m88_srec.specs.declared.fault.SrecKind.{SrecKind}
-use Rattle.m88_srec.specs.declared.fault.SrecKind.TheVariants.{Memory}
 use Rattle.m88_srec.proofs.Cases.{by_bool}
-use Rattle.m88_srec.proofs.Turns.{not_memory}
 use Rattle.m88_srec.proofs.Fronts.{front_judges, pushed_front}
 
 -- line ends of two texts
@@ -284,39 +280,3 @@ stays_behind text piece fault s = record {
   first = λ more. ap verdict (append_assoc text piece more) ∙ s.first (piece ++ more);
   ended = omega (arith, line_ends-append text piece, s.ended);
 }
-
--- a piece, byte by byte
-module _ (piece : List ℕ) (i : ℕ) (first now : Begun) (within : i < length piece)
-    (leads : (text : List ℕ) → LeadsTo text first → LeadsTo (text ++ take i piece) now) where
-  pub goes_through : (later : Begun) → byte_taken now (get_or piece i 0) ≡ Ok later
-      → (text : List ℕ) → LeadsTo text first → LeadsTo (text ++ take (i + 1) piece) later
-  goes_through later e text t =
-      let both : LeadsTo ((text ++ take i piece) ++ get_or piece i 0 ∷ []) later =
-      byte_goes (text ++ take i piece) now later (get_or piece i 0) (leads text t) e in
-      subst (λ (xs : List ℕ). LeadsTo xs later)
-      (append_assoc text (take i piece) (get_or piece i 0 ∷ [])
-      ∙ ap (λ (xs : List ℕ). text ++ xs) (sym (take_more piece i 0 within)))
-      both
-
-  pub stops_there : (kind : SrecKind) (fault : SrecFault)
-      → (kind ≡ Memory) ⊎ (byte_taken now (get_or piece i 0) ≡ Err kind)
-      → fault ≡ fault_of_line now.number kind
-      → (fault ≡ no_memory) ⊎ ((text : List ℕ) → LeadsTo text first → StaysRefused (text ++ piece) fault)
-  stops_there kind fault (inl memory) is = inl (is ∙ ap (fault_of_line now.number) memory)
-  stops_there kind fault (inr e) is = elim (not_memory now.number kind) [
-    | inl none ↦ inl (is ∙ none)
-    | inr some ↦ inr (λ text t.
-        let rest : List ℕ = drop (i + 1) piece in
-        let all : List ℕ = (text ++ take i piece) ++ (get_or piece i 0 ∷ rest) in
-        let stays : StaysRefused all (record { line = now.number; kind = kind }) =
-        byte_stops (text ++ take i piece) rest now (get_or piece i 0) kind (leads text t) e in
-        let whole : (text ++ take i piece) ++ (get_or piece i 0 ∷ rest) ≡ text ++ piece =
-        append_assoc text (take i piece) (get_or piece i 0 ∷ rest)
-        ∙ ap (λ (xs : List ℕ). text ++ xs) (
-        sym (append_assoc (take i piece) (get_or piece i 0 ∷ []) rest)
-        ∙ ap (λ (xs : List ℕ). xs ++ rest) (sym (take_more piece i 0 within))
-        ∙ take-append-drop (i + 1) piece
-        ) in
-        subst (λ (xs : List ℕ). StaysRefused xs fault) whole
-        (subst (StaysRefused all) (sym (is ∙ some)) stays))
-  ]
