@@ -23,3 +23,5 @@ pub mod ImageProgram
 pub mod Bus
 pub mod History
 pub mod Held
+-- what only private functions say
+pub mod Inside

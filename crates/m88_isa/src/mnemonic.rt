@@ -1,6 +1,8 @@
 //! The names of operations and their spellings ("Instruction Set": the assembler syntax of each instruction).
 
-ghost use Rattle.std.specs.Prelude.{◌≡◌, IfSome};
+ghost use Rattle.std.specs.Prelude.{◌≡◌, IfSome, find};
+ghost use Rattle.std.specs.Str.{bytes_eq};
+ghost use Rattle.m88_isa.specs.Inside.Letters.{begun_with};
 ghost use Rattle.m88_isa.specs.Mnemonic.{mnemonic_of, text_of};
 ghost use Rattle.m88_isa.specs.declared.mnemonic.Mnemonic.{Mnemonic as AnyMnemonic};
 
@@ -302,6 +304,162 @@ const SPELLINGS: [&str; 91] = [
     "fxcr",
 ];
 
+/// The mnemonics that begin with the letter a.
+const WITH_A: [Mnemonic; 11] = [
+    Mnemonic::And,
+    Mnemonic::AndC,
+    Mnemonic::AndU,
+    Mnemonic::Addu,
+    Mnemonic::AdduCo,
+    Mnemonic::AdduCi,
+    Mnemonic::AdduCio,
+    Mnemonic::Add,
+    Mnemonic::AddCo,
+    Mnemonic::AddCi,
+    Mnemonic::AddCio,
+];
+
+/// The mnemonics that begin with the letter b.
+const WITH_B: [Mnemonic; 10] = [
+    Mnemonic::Br,
+    Mnemonic::BrN,
+    Mnemonic::Bsr,
+    Mnemonic::BsrN,
+    Mnemonic::Bb0,
+    Mnemonic::Bb0N,
+    Mnemonic::Bb1,
+    Mnemonic::Bb1N,
+    Mnemonic::Bcnd,
+    Mnemonic::BcndN,
+];
+
+/// The mnemonics that begin with the letter c.
+const WITH_C: [Mnemonic; 2] = [Mnemonic::Cmp, Mnemonic::Clr];
+
+/// The mnemonics that begin with the letter d.
+const WITH_D: [Mnemonic; 2] = [Mnemonic::Divu, Mnemonic::Div];
+
+/// The mnemonics that begin with the letter e.
+const WITH_E: [Mnemonic; 2] = [Mnemonic::Ext, Mnemonic::Extu];
+
+/// The mnemonics that begin with the letter f.
+const WITH_F: [Mnemonic; 5] = [
+    Mnemonic::Ff1,
+    Mnemonic::Ff0,
+    Mnemonic::Fldcr,
+    Mnemonic::Fstcr,
+    Mnemonic::Fxcr,
+];
+
+/// The mnemonics that begin with the letter j.
+const WITH_J: [Mnemonic; 4] = [Mnemonic::Jmp, Mnemonic::JmpN, Mnemonic::Jsr, Mnemonic::JsrN];
+
+/// The mnemonics that begin with the letter l.
+const WITH_L: [Mnemonic; 16] = [
+    Mnemonic::LdHu,
+    Mnemonic::LdHuUsr,
+    Mnemonic::LdBu,
+    Mnemonic::LdBuUsr,
+    Mnemonic::LdD,
+    Mnemonic::LdDUsr,
+    Mnemonic::Ld,
+    Mnemonic::LdUsr,
+    Mnemonic::LdH,
+    Mnemonic::LdHUsr,
+    Mnemonic::LdB,
+    Mnemonic::LdBUsr,
+    Mnemonic::LdaD,
+    Mnemonic::Lda,
+    Mnemonic::LdaH,
+    Mnemonic::Ldcr,
+];
+
+/// The mnemonics that begin with the letter m.
+const WITH_M: [Mnemonic; 4] = [
+    Mnemonic::Mask,
+    Mnemonic::MaskU,
+    Mnemonic::Mul,
+    Mnemonic::Mak,
+];
+
+/// The mnemonics that begin with the letter o.
+const WITH_O: [Mnemonic; 3] = [Mnemonic::Or, Mnemonic::OrC, Mnemonic::OrU];
+
+/// The mnemonics that begin with the letter r.
+const WITH_R: [Mnemonic; 2] = [Mnemonic::Rot, Mnemonic::Rte];
+
+/// The mnemonics that begin with the letter s.
+const WITH_S: [Mnemonic; 18] = [
+    Mnemonic::StD,
+    Mnemonic::StDUsr,
+    Mnemonic::St,
+    Mnemonic::StUsr,
+    Mnemonic::StH,
+    Mnemonic::StHUsr,
+    Mnemonic::StB,
+    Mnemonic::StBUsr,
+    Mnemonic::Subu,
+    Mnemonic::SubuCo,
+    Mnemonic::SubuCi,
+    Mnemonic::SubuCio,
+    Mnemonic::Sub,
+    Mnemonic::SubCo,
+    Mnemonic::SubCi,
+    Mnemonic::SubCio,
+    Mnemonic::Set,
+    Mnemonic::Stcr,
+];
+
+/// The mnemonics that begin with the letter t.
+const WITH_T: [Mnemonic; 4] = [Mnemonic::Tb0, Mnemonic::Tb1, Mnemonic::Tcnd, Mnemonic::Tbnd];
+
+/// The mnemonics that begin with the letter x.
+const WITH_X: [Mnemonic; 8] = [
+    Mnemonic::XmemBu,
+    Mnemonic::XmemBuUsr,
+    Mnemonic::Xmem,
+    Mnemonic::XmemUsr,
+    Mnemonic::Xor,
+    Mnemonic::XorC,
+    Mnemonic::XorU,
+    Mnemonic::Xcr,
+];
+
+/// The mnemonics that begin with a letter, in the order of all of them.
+#[tactic(auto, unfolding(crate::specs::Inside::Letters::begun_with))]
+fn begun_with(letter: u8) -> &'static [Mnemonic]
+    ensures { result.now ≡ begun_with letter }
+{
+    match letter {
+        b'a' => &WITH_A,
+        b'b' => &WITH_B,
+        b'c' => &WITH_C,
+        b'd' => &WITH_D,
+        b'e' => &WITH_E,
+        b'f' => &WITH_F,
+        b'j' => &WITH_J,
+        b'l' => &WITH_L,
+        b'm' => &WITH_M,
+        b'o' => &WITH_O,
+        b'r' => &WITH_R,
+        b's' => &WITH_S,
+        b't' => &WITH_T,
+        b'x' => &WITH_X,
+        _ => &[],
+    }
+}
+
+/// The first of some mnemonics that is spelled so.
+fn spelled(mnemonics: &[Mnemonic], name: &[u8]) -> Option<Mnemonic>
+    ensures value { result ≡ find (λ m. bytes_eq (text_of m) name.now) mnemonics.now }
+    ensures found { IfSome result (λ m. text_of m ≡ name.now) }
+{
+    mnemonics
+        .iter()
+        .copied()
+        .find(|m| m.text().as_bytes() == name)
+}
+
 impl Mnemonic {
     /// How the mnemonic is spelled, in lower case.
     #[tactic(auto, unfolding(crate::specs::Mnemonic::text_of))]
@@ -312,16 +470,14 @@ impl Mnemonic {
     }
 
     /// The mnemonic that is spelled so, if there is one.
-    #[tactic(auto, using(crate::proofs::Spelling::spelled_once), unfolding(crate::specs::Mnemonic::all_mnemonics))]
+    #[tactic(auto, using(crate::proofs::Spelling::spelled_once, crate::proofs::Spelling::letterless))]
     pub fn from_text(name: &[u8]) -> Option<Mnemonic>
         ensures value { result ≡ mnemonic_of name.now }
         ensures found { IfSome result (λ m. text_of m ≡ name.now) }
         ensures spelled_once { (m : AnyMnemonic) → mnemonic_of (text_of m) ≡ Some m }
     {
-        MNEMONICS
-            .iter()
-            .copied()
-            .find(|m| m.text().as_bytes() == name)
+        let letter = *name.first()?;
+        spelled(begun_with(letter), name)
     }
 }
 
