@@ -1,5 +1,5 @@
 //! The tokens of a line.
-ghost use Rattle.std.specs.Prelude.{◌≡◌, ◌<◌, ◌^◌, ◌⊎◌, List, Ok, Err, length, map, IfOk, IfErr};
+ghost use Rattle.std.specs.Prelude.{◌≡◌, ◌<◌, ◌^◌, ◌⊎◌, List, Ok, Err, length, map, IfOk, IfErr, OnOk};
 ghost use Rattle.std.specs.List.{All};
 ghost use Rattle.m88_parse.specs.declared.fault.ParseFault.{ParseFault as FaultValue};
 ghost use Rattle.m88_parse.specs.Fault.{Gives, out_of_memory, IsCutKind};
@@ -14,18 +14,18 @@ use crate::scan::front;
 use crate::token::{Lexeme, Token, TokenKind, What};
 use std::alloc::Global;
 
-/// The tokens of a line with what they say, from left to right.
-pub(crate) fn lexemes<'a>(
-    alloc: Global,
+/// The tokens of a line with what they say, from left to right, in the place of those that stood in `out`.
+pub(crate) fn cut_line<'a>(
+    out: &mut Vec<Lexeme<'a>>,
     line: &'a [u8],
     number: u32,
-) -> Result<Vec<Lexeme<'a>>, ParseFault>
+) -> Result<(), ParseFault>
     requires { length line.now < 2 ^ 31 }
-    ensures cuts { Gives (λ v. map piece_of v.items) result (pieces_of number line.now) }
-    ensures near { IfOk result (λ v. All IsNear v.items) }
-    ensures slices { IfOk result (λ v. All (IsLexemeOf line.now) v.items) }
+    ensures cuts { Gives (λ _. map piece_of out.new.items) result (pieces_of number line.now) }
+    ensures near { OnOk result (All IsNear out.new.items) }
+    ensures slices { OnOk result (All (IsLexemeOf line.now) out.new.items) }
 {
-    let mut out = Vec::new(alloc);
+    out.clear();
     let mut rest = line;
     let mut col: u32 = 1;
     while !rest.is_empty() {
@@ -46,7 +46,7 @@ pub(crate) fn lexemes<'a>(
         rest = after;
         col += cut.len as u32;
     }
-    Ok(out)
+    Ok(())
 }
 
 /// A token without what it says.
@@ -72,7 +72,8 @@ fn cut_tokens<'a>(alloc: Global, line: &'a [u8], number: u32) -> Result<Vec<Toke
     ensures cuts { Gives (λ v. map plain_token v.items) result (tokens_of number line.now) }
     ensures slices { IfOk result (λ v. All (IsTokenOf line.now) v.items) }
 {
-    let lexemes = lexemes(alloc, line, number)?;
+    let mut lexemes = Vec::new(alloc);
+    cut_line(&mut lexemes, line, number)?;
     let mut out = Vec::new(alloc);
     for lexeme in &lexemes {
         out.push(token_of(lexeme, number))?;

@@ -62,11 +62,17 @@ impl<'a> Parser<'a> {
         Ok((self.whole(0x80, 0xFF)? % 0x100) as u8)
     }
 
+    /// The most items that the tokens which are left can be, one at least: each takes a token, and a comma stands
+    /// between two.
+    fn most_items(&self) -> usize {
+        self.left() / 2 + 1
+    }
+
     /// The items of `.word`.
     pub fn words_list(&mut self, alloc: Global) -> Result<Vec<Value>, ParseFault>
         ensures { Gives (λ v. (v.items, self.new)) result (list_at word_item_at self.old) }
     {
-        let mut out = Vec::new(alloc);
+        let mut out = Vec::with_capacity(alloc, self.most_items())?;
         let mut more = true;
         while more {
             let value = self.value(Kind::Abs32)?;
@@ -80,7 +86,7 @@ impl<'a> Parser<'a> {
     pub fn half_words(&mut self, alloc: Global) -> Result<Vec<u16>, ParseFault>
         ensures { Gives (λ v. (v.items, self.new)) result (list_at (part_item_at a_half) self.old) }
     {
-        let mut out = Vec::new(alloc);
+        let mut out = Vec::with_capacity(alloc, self.most_items())?;
         let mut more = true;
         while more {
             let value = self.half_word()?;
@@ -94,7 +100,7 @@ impl<'a> Parser<'a> {
     pub fn bytes(&mut self, alloc: Global) -> Result<Vec<u8>, ParseFault>
         ensures { Gives (λ v. (v.items, self.new)) result (list_at (part_item_at a_byte) self.old) }
     {
-        let mut out = Vec::new(alloc);
+        let mut out = Vec::with_capacity(alloc, self.most_items())?;
         let mut more = true;
         while more {
             let value = self.byte()?;

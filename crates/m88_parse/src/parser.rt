@@ -1,5 +1,5 @@
 //! The tokens of a line that are left, as a statement is read from them.
-ghost use Rattle.std.specs.Prelude.{◌≡◌, map, ◌-◌};
+ghost use Rattle.std.specs.Prelude.{◌≡◌, length, map, ◌-◌};
 ghost use Rattle.m88_parse.specs.Fault.{Gives};
 ghost use Rattle.m88_parse.specs.Inside.Grammar.{read, ends};
 ghost use Rattle.m88_parse.specs.Inside.State.{ReaderState, first, second, place, past, fault, is_next_mark};
@@ -67,6 +67,13 @@ impl<'a> Parser<'a> {
         if let [_, rest @ ..] = self.rest {
             self.rest = rest;
         }
+    }
+
+    /// How many tokens are left.
+    pub fn left(&self) -> usize
+        ensures { result ≡ length self.now.rest }
+    {
+        self.rest.len()
     }
 
     /// The number of the line.

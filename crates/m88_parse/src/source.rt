@@ -15,7 +15,7 @@ ghost use Rattle.m88_parse.specs.Inside.Drafts.{LeadsOn, EndsWith};
 
 use crate::draft::Draft;
 use crate::fault::ParseFault;
-use crate::lexemes::lexemes;
+use crate::lexemes::cut_line;
 use crate::parser::Parser;
 use crate::row::Row;
 use crate::token::Lexeme;
@@ -33,28 +33,39 @@ fn end_of_line(lexemes: &[Lexeme<'_>]) -> u32
     last.col + last.text.len() as u32
 }
 
-/// What a line says, if it has a token.
+/// What a line says, if it has a token. Its tokens stand in `lexemes`, whose room serves the next line.
 #[tactic(auto, unfolding(crate::specs::Inside::Source::row_of_line))]
-fn row_of(alloc: Global, line: &[u8], number: u32) -> Result<Option<Row>, ParseFault>
+fn row_of<'a>(
+    lexemes: &mut Vec<Lexeme<'a>>,
+    alloc: Global,
+    line: &'a [u8],
+    number: u32,
+) -> Result<Option<Row>, ParseFault>
     requires { length line.now < 2 ^ 31 }
     ensures { Gives (λ r. r) result (row_of_line number line.now) }
 {
-    let lexemes = lexemes(alloc, line, number)?;
+    cut_line(lexemes, line, number)?;
     if lexemes.is_empty() {
         return Ok(None);
     }
-    let end_col = end_of_line(&lexemes);
-    let row = Parser::new(&lexemes, number, end_col).row(alloc)?;
+    let end_col = end_of_line(lexemes);
+    let row = Parser::new(lexemes, number, end_col).row(alloc)?;
     Ok(Some(row))
 }
 
 /// One line more in the draft.
-fn read_line(draft: &mut Draft, alloc: Global, line: &[u8], number: u32) -> Result<(), ParseFault>
+fn read_line<'a>(
+    draft: &mut Draft,
+    lexemes: &mut Vec<Lexeme<'a>>,
+    alloc: Global,
+    line: &'a [u8],
+    number: u32,
+) -> Result<(), ParseFault>
     requires { length line.now < 2 ^ 31 }
     ensures { MatchResult result (λ _. LeadsOn number line.now draft.new draft.old)
         (λ e. (e ≡ out_of_memory) ⊎ EndsWith number line.now draft.old e) }
 {
-    match row_of(alloc, line, number)? {
+    match row_of(lexemes, alloc, line, number)? {
         None => Ok(()),
         Some(row) => draft.add(alloc, row),
     }
@@ -66,11 +77,12 @@ fn read_unit(alloc: Global, source: &[u8]) -> Result<Unit, ParseFault>
     ensures { Gives (λ u. u) result (unit_of source.now) }
 {
     let mut draft = Draft::new(alloc);
+    let mut lexemes = Vec::new(alloc);
     let mut rest = source;
     let mut number: u32 = 1;
     while !rest.is_empty() {
         let (line, after) = first_line(rest);
-        read_line(&mut draft, alloc, line, number)?;
+        read_line(&mut draft, &mut lexemes, alloc, line, number)?;
         rest = after;
         number += 1;
     }

@@ -13,7 +13,7 @@ loop-lexeme-preserved c =
     let line = c.args.line.now in
     let items = c.deref-lexeme-items.result.now in
     let i = c.loop-lexeme.lexeme-index in
-    let slices : All (IsLexemeOf line) items = subst (All (IsLexemeOf line)) (sym c.deref-lexeme-items.ensures.value) c.in_ok-lexemes.ensures.slices in
+    let slices : All (IsLexemeOf line) items = subst (All (IsLexemeOf line)) (sym c.deref-lexeme-items.ensures.value) c.in_ok-cut_line.ensures.slices in
     let placed = token_placed line (get_or items i _) c.token_of.result c.args.number c.token_of.ensures (slices i _ c.loop-lexeme-test.true) in
     record {
       cuts = tokens_more items c.loop-lexeme.out.items c.push.new.self.items c.token_of.result c.args.number i _ c.loop-lexeme-test.true c.in_ok-push.ensures.items c.token_of.ensures c.loop-lexeme.invariant.cuts;
@@ -22,5 +22,5 @@ loop-lexeme-preserved c =
 
 pub returns-clause-cuts : goal.returns-clause-cuts
 returns-clause-cuts c =
-    tokens_done c.args.number c.args.line.now c.in_ok-lexemes.lexemes.items c.deref-lexeme-items.result.now c.loop-lexeme.out.items c.loop-lexeme.lexeme-index
-    c.in_ok-lexemes.ensures.cuts c.deref-lexeme-items.ensures.value c.loop-lexeme-test.false c.loop-lexeme.invariant.cuts
+    tokens_done c.args.number c.args.line.now c.cut_line.new.out.items c.deref-lexeme-items.result.now c.loop-lexeme.out.items c.loop-lexeme.lexeme-index
+    c.in_ok-cut_line.ensures.cuts c.deref-lexeme-items.ensures.value c.loop-lexeme-test.false c.loop-lexeme.invariant.cuts

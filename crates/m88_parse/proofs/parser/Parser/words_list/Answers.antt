@@ -6,7 +6,7 @@ use Rattle.m88_parse.proofs.parser.Parser.words_list.Goals as goal
 
 pub returns-in_err-value : goal.returns-in_err-value
 returns-in_err-value c =
-    let p = err_from_is_err_and c.from_residual.result c.from_residual.ensures.1 in
+    let p = err_from_is_err_and c.from_residual-in_err-value.result c.from_residual-in_err-value.ensures.1 in
     rw (p.1, p.2) (collects_fault word_item_at c.loop-more.out.items c.loop-more.self c.in_err-value.field-0.0 (list_at word_item_at c.args.self.now) (rw c.loop-more-test.true at c.loop-more.invariant) c.in_err-value.ensures.value)
 
 pub loop-more-preserved : goal.loop-more-preserved

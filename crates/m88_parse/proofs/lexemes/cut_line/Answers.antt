@@ -1,4 +1,4 @@
--- One front more, a token or a gap, keeps what the loop of `lexemes` keeps; a flaw is the line's first.
+-- One front more, a token or a gap, keeps what the loop of `cut_line` keeps; a flaw is the line's first.
 use Rattle.std.proofs.Common.{◌+◌, take, Result, Ok, ◌≡◌, ◌<◌, ◌≤◌, length, map, inr, ◌++◌, ◌∷◌, [], Some, None, ap, ◌∙◌, arith}
 use Rattle.std.proofs.lemmas.Grind.{common_steps}
 use Rattle.std.proofs.lemmas.List.{map_push}
@@ -7,8 +7,8 @@ use Rattle.m88_parse.specs.Inside.Places.{IsNear, IsLexemeOf}
 use Rattle.m88_parse.specs.Inside.Tokens.{Cut, front, token_value_in, piece_of, token_value, pieces_of}
 use Rattle.m88_parse.specs.declared.scan.Flaw.{Flaw}
 use Rattle.m88_parse.proofs.CuttingTokens.{slice_goes_on, rest_goes_on, gap_goes_on, token_goes_on, ends, is_done}
-use Rattle.m88_parse.proofs.lexemes.lexemes.Goals as goal
-use Rattle.m88_parse.proofs.lexemes.lexemes.Goals.{in-Some+in_ok-push, in_default}
+use Rattle.m88_parse.proofs.lexemes.cut_line.Goals as goal
+use Rattle.m88_parse.proofs.lexemes.cut_line.Goals.{in-Some+in_ok-push, in_default}
 
 pub returns-in-Err-clause-cuts : goal.returns-in-Err-clause-cuts
 returns-in-Err-clause-cuts c =

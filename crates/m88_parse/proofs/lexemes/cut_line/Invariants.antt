@@ -4,7 +4,7 @@ use Rattle.std.specs.List.{All}
 use Rattle.m88_parse.specs.Inside.Places.{IsNear, IsLexemeOf}
 use Rattle.m88_parse.specs.Inside.Tokens.{piece_of, pieces, pieces_of}
 use Rattle.m88_parse.proofs.CuttingTokens.{with_front}
-use Rattle.m88_parse.proofs.lexemes.lexemes.Given as goal
+use Rattle.m88_parse.proofs.lexemes.cut_line.Given as goal
 
 abbrev pub invariant-loop-rest : goal.invariant-loop-rest
 invariant-loop-rest l = record {
