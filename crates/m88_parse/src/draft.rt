@@ -77,6 +77,8 @@ impl Open {
     }
 
     /// One statement more.
+    // Called, it would have the statement made in one place and copied to another before it is pushed.
+    #[inline(always)]
     fn push(&mut self, statement: Statement) -> Result<(), ParseFault>
         ensures value { IfOk result (λ _. self.new ≡ with_more self.old (statement ∷ [])) }
         ensures memory { IfErr result (λ e. e ≡ out_of_memory) }
