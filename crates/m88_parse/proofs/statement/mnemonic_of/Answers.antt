@@ -1,5 +1,5 @@
 -- No mnemonic begins with a dot.
-use Rattle.std.specs.Prelude.{ℕ, List, [], ◌∷◌, Option, Some, None, ◌≡◌, slice_get}
+use Rattle.std.specs.Prelude.{ℕ, List, [], ◌∷◌, Some, None, ◌≡◌, slice_get}
 use Rattle.std.proofs.Common.{refl, sym, ap, ◌∙◌}
 use Rattle.m88_isa.specs.Mnemonic.{all_mnemonics, mnemonic_of, text_of}
 use Rattle.m88_parse.proofs.statement.mnemonic_of.Goals as goal
