@@ -12,7 +12,7 @@ use Rattle.m88_isa.specs.Fields.{bit_field, find_bit, offset_in, width_in, width
 use Rattle.m88_isa.specs.Flow.{FlowFits, bit_is, class_in, words_away}
 use Rattle.m88_isa.specs.Lanes.{IsAligned}
 use Rattle.m88_isa.specs.Memory.{AreWordAccesses, Touch, recorded, rounded, size_of, touches_of}
-use Rattle.m88_isa.specs.Operands.{after_d_of, d_of, is_flow, link_register, s1_of, s2_of, uses_of}
+use Rattle.m88_isa.specs.Operands.{after_d_of, d_of, is_flow, link_register, register_after, s1_of, s2_of, uses_of}
 use Rattle.m88_isa.specs.Vector.{IsRaised, first_user_vector, misaligned, out_of_bounds, privilege, unimplemented, unit_vector}
 use Rattle.m88_isa.specs.declared.planned.Computed.{Computed}
 use Rattle.m88_isa.specs.declared.planned.Computed.TheVariants.{Gives, Raises}
@@ -20,6 +20,9 @@ use Rattle.m88_isa.specs.declared.planned.Effect.{Effect}
 use Rattle.m88_isa.specs.declared.planned.Inputs.{Inputs}
 use Rattle.m88_isa.specs.declared.planned.Plan.{Plan}
 use Rattle.m88_isa.specs.declared.planned.Plan.TheVariants.{Go, Raise, Trap}
+use Rattle.m88_isa.specs.declared.planned.Step.{Step}
+use Rattle.m88_isa.specs.declared.planned.Step.TheVariants as step
+use Rattle.m88_isa.specs.declared.planned.Step.TheVariants.{Access, Flow, Next}
 use Rattle.m88_isa.specs.declared.instr.MemOp.{MemOp}
 use Rattle.m88_isa.specs.declared.instr.Instr.{Instr}
 use Rattle.m88_isa.specs.declared.instr.Instr.TheVariants as instr
@@ -175,6 +178,36 @@ plan_for (goes c) = Go (recorded_change c)
 -- the plan of an instruction: of the registers, the carry and MXM, at an address, with the address that follows
 abbrev pub plan_of : Instr → List ℕ → Bool → Bool → ℕ → ℕ → Plan
 plan_of i regs carry mxm pc next = plan_for (meaning_of i regs carry mxm pc next)
+
+-- the accesses of a memory mnemonic at an address, of the values that the registers hold
+abbrev pub touches_at : MemOp → Reg → ℕ → List ℕ → List Touch
+touches_at op d place regs = touches_of op d (register regs d) (register regs (register_after d)) place
+
+-- the plan of which a step is told in brief: of the registers, the carry and the address that follows
+abbrev pub plan_of_step : Step → List ℕ → Bool → ℕ → Plan
+plan_of_step (Next reg after) regs carry next = Go (record {
+  reg = reg;
+  carry = after;
+  accesses = recorded [];
+  after = (next, after_bytes next 4);
+  bubble = false;
+})
+plan_of_step (Flow reg after bubble) regs carry next = Go (record {
+  reg = reg;
+  carry = carry;
+  accesses = recorded [];
+  after = after;
+  bubble = bubble;
+})
+plan_of_step (Access op d place) regs carry next = Go (record {
+  reg = None;
+  carry = carry;
+  accesses = recorded (touches_at op d place regs);
+  after = (next, after_bytes next 4);
+  bubble = false;
+})
+plan_of_step (step.Raise vector) regs carry next = Raise vector
+plan_of_step (step.Trap vector) regs carry next = Trap vector
 
 -- a fact about the changes of a plan that goes on
 abbrev pub IfGo : Plan → (Effect → Type 0) → Type 0

@@ -18,20 +18,23 @@ ghost use Rattle.m88_isa.specs.Effect.{
   meaning_of,
   plan_for,
   plan_of,
+  plan_of_step,
   register,
   written,
 };
 ghost use Rattle.m88_isa.specs.Instr.{IsValid};
-ghost use Rattle.m88_isa.specs.Operands.{access_count_of, after_d_of, d_of, writes_of};
+ghost use Rattle.m88_isa.specs.Operands.{access_count_of, writes_of};
+ghost use Rattle.m88_isa.specs.Inside.Brief.{IsBrief, with_stored};
+ghost use Rattle.m88_isa.specs.declared.planned.Inputs.{Inputs as InputsValue};
 
 use crate::address::{address, scale_of, word_address};
 use crate::compute::{immediate, registers};
 use crate::fields::{bit_field, find_bit, offset_in, width_in, width_of};
-use crate::flow::{bit_is, branches, checks, class_in, flows, goes_on, traps_if, words_away};
+use crate::flow::{bit_is, branches, checks, class_in, flows, traps_if, words_away};
 use crate::instr::{Instr, MemOp};
-use crate::memory::{accesses, size_of};
-use crate::operands::{after_d_of, d_of, is_flow};
-use crate::planned::{Computed, Effect, Inputs, Plan};
+use crate::memory::{accesses, accesses_at, no_accesses, size_of};
+use crate::operands::is_flow;
+use crate::planned::{Computed, Effect, Inputs, Plan, Step};
 use crate::vector::{PRIVILEGE, UNIMPLEMENTED, unit_vector};
 use m88_base::Reg;
 
@@ -50,8 +53,58 @@ pub fn plan(instr: &Instr, regs: &[u32; 32], carry: bool, mxm: bool, pc: u32, ne
     ensures flow { pc % 4 ≡ 0 → next % 4 ≡ 0 → FlowsToWords result }
     ensures alone { IgnoresUnused instr.now regs.now carry mxm pc next }
 {
+    in_full(step(instr, regs, carry, mxm, pc, next), regs, carry, next)
+}
+
+/// The plan of which a step is told in brief.
+fn in_full(step: Step, regs: &[u32; 32], carry: bool, next: u32) -> Plan
+    ensures { result ≡ plan_of_step step regs.now carry next }
+{
+    let following = (next, next.wrapping_add(4));
+    match step {
+        Step::Next { reg, carry } => Plan::Go(Effect {
+            reg,
+            carry,
+            accesses: no_accesses(),
+            after: following,
+            bubble: false,
+        }),
+        Step::Flow { reg, after, bubble } => Plan::Go(Effect {
+            reg,
+            carry,
+            accesses: no_accesses(),
+            after,
+            bubble,
+        }),
+        Step::Access { op, d, place } => Plan::Go(Effect {
+            reg: None,
+            carry,
+            accesses: accesses_at(op, d, place, regs),
+            after: following,
+            bubble: false,
+        }),
+        Step::Raise(vector) => Plan::Raise(vector),
+        Step::Trap(vector) => Plan::Trap(vector),
+    }
+}
+
+/// What an instruction does, as `plan` tells it, in brief.
+#[inline(always)]
+pub fn step(instr: &Instr, regs: &[u32; 32], carry: bool, mxm: bool, pc: u32, next: u32) -> Step
+    requires { IsValid instr.now }
+    ensures value { plan_of_step result regs.now carry next
+        ≡ plan_of instr.now regs.now carry mxm pc next }
+    ensures accesses { MakesAccesses (access_count_of instr.now)
+        (plan_of_step result regs.now carry next) }
+    ensures register { WritesWithin (writes_of instr.now)
+        (plan_of_step result regs.now carry next) }
+    ensures trap { TrapsForUser (plan_of_step result regs.now carry next) }
+    ensures raise { RaisesListed (plan_of_step result regs.now carry next) }
+    ensures flow { pc % 4 ≡ 0 → next % 4 ≡ 0
+        → FlowsToWords (plan_of_step result regs.now carry next) }
+{
     if next != pc.wrapping_add(4) && is_flow(instr) {
-        return Plan::Raise(UNIMPLEMENTED);
+        return Step::Raise(UNIMPLEMENTED);
     }
     let x = Inputs {
         s1: 0,
@@ -67,7 +120,7 @@ pub fn plan(instr: &Instr, regs: &[u32; 32], carry: bool, mxm: bool, pc: u32, ne
 }
 
 /// The value of a register; r0 reads as 0.
-fn register(regs: &[u32; 32], r: Reg) -> u32
+pub(crate) fn register(regs: &[u32; 32], r: Reg) -> u32
     ensures { result ≡ register regs.now r }
 {
     if r == Reg::ZERO { 0 } else { regs[r.index()] }
@@ -75,9 +128,10 @@ fn register(regs: &[u32; 32], r: Reg) -> u32
 
 /// What an instruction does, a change of flow in a taken delay slot aside: of the registers, each read where its form
 /// has it, and of what else is in `x`.
-fn effect(instr: &Instr, regs: &[u32; 32], x: Inputs) -> Plan
+#[inline(always)]
+fn effect(instr: &Instr, regs: &[u32; 32], x: Inputs) -> Step
     requires { IsValid instr.now }
-    ensures { result
+    ensures { plan_of_step result regs.now x.carry x.next
         ≡ plan_for (effect instr.now (inputs_of instr.now regs.now x.carry x.mxm x.pc x.next)) }
 {
     match *instr {
@@ -91,7 +145,7 @@ fn effect(instr: &Instr, regs: &[u32; 32], x: Inputs) -> Plan
         }
         Instr::MemImm { op, d, s1, imm } => {
             let place = address(register(regs, s1), imm as u32, 1);
-            accesses(op, d, place, with_data(instr, regs, x))
+            accesses(op, d, place, x)
         }
         Instr::MemReg {
             op,
@@ -104,7 +158,7 @@ fn effect(instr: &Instr, regs: &[u32; 32], x: Inputs) -> Plan
             let x = Inputs {
                 s1: register(regs, s1),
                 s2: register(regs, s2),
-                ..with_data(instr, regs, x)
+                ..x
             };
             indexed(op, d, scaled, usr, x)
         }
@@ -178,68 +232,53 @@ fn effect(instr: &Instr, regs: &[u32; 32], x: Inputs) -> Plan
         ),
         Instr::BoundImm { s1, imm } => checks(register(regs, s1), imm as u32, x),
         Instr::BoundReg { s1, s2 } => checks(register(regs, s1), register(regs, s2), x),
-        Instr::Rte => Plan::Raise(PRIVILEGE),
+        Instr::Rte => Step::Raise(PRIVILEGE),
         Instr::Ldcr { float, .. } | Instr::Stcr { float, .. } | Instr::Xcr { float, .. } =>
             controls(float),
-        Instr::Sfu { unit, rest: _rest } => Plan::Raise(unit_vector(unit)),
+        Instr::Sfu { unit, rest: _rest } => Step::Raise(unit_vector(unit)),
     }
 }
 
 /// What a memory form with an index does.
-fn indexed(op: MemOp, d: Reg, scaled: bool, usr: bool, x: Inputs) -> Plan
-    ensures { result ≡ plan_for (indexed op d scaled usr x) }
+fn indexed(op: MemOp, d: Reg, scaled: bool, usr: bool, x: Inputs) -> Step
+    ensures { IsBrief result x (λ regs. indexed op d scaled usr (with_stored op d regs x)) }
 {
     if usr {
-        Plan::Raise(PRIVILEGE)
+        Step::Raise(PRIVILEGE)
     } else {
         let scale = if scaled { size_of(op) } else { 1 };
         accesses(op, d, address(x.s1, x.s2, scale), x)
     }
 }
 
-/// The inputs with the values that a memory instruction stores, each 0 where it stores none.
-fn with_data(instr: &Instr, regs: &[u32; 32], x: Inputs) -> Inputs
-    ensures { result ≡ record x {
-      d = register regs.now (d_of instr.now);
-      after_d = register regs.now (after_d_of instr.now);
-    } }
-{
-    Inputs {
-        d: register(regs, d_of(instr)),
-        after_d: register(regs, after_d_of(instr)),
-        ..x
-    }
-}
-
 /// What a control instruction does.
-fn controls(float: bool) -> Plan
-    ensures { result ≡ plan_for (controls float) }
+fn controls(float: bool) -> Step
+    ensures { (x : InputsValue) → IsBrief result x (λ regs. controls float) }
 {
-    Plan::Raise(if float { unit_vector(1) } else { PRIVILEGE })
+    Step::Raise(if float { unit_vector(1) } else { PRIVILEGE })
 }
 
 /// D and the carry take what was computed, or the vector is raised.
-fn computes(d: Reg, computed: Computed, x: Inputs) -> Plan
-    ensures { result ≡ plan_for (computes d computed x) }
+fn computes(d: Reg, computed: Computed, x: Inputs) -> Step
+    ensures { IsBrief result x (λ regs. computes d computed x) }
 {
     match computed {
-        Computed::Gives { value, carry } => Plan::Go(Effect {
+        Computed::Gives { value, carry } => Step::Next {
             reg: written(d, value),
             carry,
-            ..goes_on(x)
-        }),
-        Computed::Raises(vector) => Plan::Raise(vector),
+        },
+        Computed::Raises(vector) => Step::Raise(vector),
     }
 }
 
 /// D takes a value.
-fn gives(d: Reg, value: u32, x: Inputs) -> Plan
-    ensures { result ≡ plan_for (gives d value x) }
+fn gives(d: Reg, value: u32, x: Inputs) -> Step
+    ensures { IsBrief result x (λ regs. gives d value x) }
 {
-    Plan::Go(Effect {
+    Step::Next {
         reg: written(d, value),
-        ..goes_on(x)
-    })
+        carry: x.carry,
+    }
 }
 
 /// A register and its new value; a write to r0 is lost.

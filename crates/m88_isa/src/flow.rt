@@ -2,31 +2,28 @@
 //! instructions).
 
 ghost use Rattle.std.specs.Prelude.{◌≡◌, ◌<◌};
-ghost use Rattle.m88_isa.specs.Effect.{branches, checks, flows, goes_on, plan_for, recorded_change, traps_if};
+ghost use Rattle.m88_isa.specs.Effect.{branches, checks, flows, goes, goes_on, traps_if};
 ghost use Rattle.m88_isa.specs.Flow.{bit_is, class_in, class_of, words_away};
+ghost use Rattle.m88_isa.specs.Inside.Brief.{IsBrief};
 
 use crate::compute::weight_if;
-use crate::memory::no_accesses;
 use crate::operands::link_register;
-use crate::planned::{Effect, Inputs, Plan};
+use crate::planned::{Inputs, Step};
 use crate::vector::{FIRST_USER_VECTOR, OUT_OF_BOUNDS, PRIVILEGE};
 
 /// No change but that the program goes on.
-pub(crate) fn goes_on(x: Inputs) -> Effect
-    ensures { result ≡ recorded_change (goes_on x) }
+fn passes(x: Inputs) -> Step
+    ensures { IsBrief result x (λ regs. goes (goes_on x)) }
 {
-    Effect {
+    Step::Next {
         reg: None,
         carry: x.carry,
-        accesses: no_accesses(),
-        after: (x.next, x.next.wrapping_add(4)),
-        bubble: false,
     }
 }
 
 /// What a taken branch or a jump to a byte address does.
-pub(crate) fn flows(link: bool, delayed: bool, target: u32, x: Inputs) -> Plan
-    ensures { result ≡ plan_for (flows link delayed target x) }
+pub(crate) fn flows(link: bool, delayed: bool, target: u32, x: Inputs) -> Step
+    ensures { IsBrief result x (λ regs. flows link delayed target x) }
 {
     let behind = if delayed { 8 } else { 4 };
     let reg = if link {
@@ -39,46 +36,45 @@ pub(crate) fn flows(link: bool, delayed: bool, target: u32, x: Inputs) -> Plan
     } else {
         (target, target.wrapping_add(4))
     };
-    Plan::Go(Effect {
+    Step::Flow {
         reg,
         after,
         bubble: !delayed,
-        ..goes_on(x)
-    })
+    }
 }
 
 /// What a branch on a condition, by a signed count of words, does.
-pub(crate) fn branches(taken: bool, delayed: bool, words: i32, x: Inputs) -> Plan
-    ensures { result ≡ plan_for (branches taken delayed words x) }
+pub(crate) fn branches(taken: bool, delayed: bool, words: i32, x: Inputs) -> Step
+    ensures { IsBrief result x (λ regs. branches taken delayed words x) }
 {
     if taken {
         flows(false, delayed, words_away(x.pc, words), x)
     } else {
-        Plan::Go(goes_on(x))
+        passes(x)
     }
 }
 
 /// What a trap on a condition does.
-pub(crate) fn traps_if(taken: bool, vector: u16, x: Inputs) -> Plan
-    ensures { result ≡ plan_for (traps_if taken vector x) }
+pub(crate) fn traps_if(taken: bool, vector: u16, x: Inputs) -> Step
+    ensures { IsBrief result x (λ regs. traps_if taken vector x) }
 {
     if !taken {
-        Plan::Go(goes_on(x))
+        passes(x)
     } else if vector < FIRST_USER_VECTOR {
-        Plan::Raise(PRIVILEGE)
+        Step::Raise(PRIVILEGE)
     } else {
-        Plan::Trap(vector)
+        Step::Trap(vector)
     }
 }
 
 /// What a bounds check of s against t does.
-pub(crate) fn checks(s: u32, t: u32, x: Inputs) -> Plan
-    ensures { result ≡ plan_for (checks s t x) }
+pub(crate) fn checks(s: u32, t: u32, x: Inputs) -> Step
+    ensures { IsBrief result x (λ regs. checks s t x) }
 {
     if s > t {
-        Plan::Raise(OUT_OF_BOUNDS)
+        Step::Raise(OUT_OF_BOUNDS)
     } else {
-        Plan::Go(goes_on(x))
+        passes(x)
     }
 }
 

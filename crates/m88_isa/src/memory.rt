@@ -1,40 +1,49 @@
 //! The accesses of loads, stores and exchanges ("Instruction Set": load, store and exchange instructions).
 
 ghost use Rattle.std.specs.Prelude.{◌≡◌, ◌≤◌, [], true};
-ghost use Rattle.m88_isa.specs.Effect.{accesses, makes, plan_for};
+ghost use Rattle.m88_isa.specs.Effect.{accesses, touches_at};
+ghost use Rattle.m88_isa.specs.Inside.Brief.{IsBrief, with_stored};
 ghost use Rattle.m88_isa.specs.Memory.{access_of, load, no_access, recorded, size_of, store, touches_of};
 
 use crate::address::word_address;
-use crate::flow::goes_on;
+use crate::effect::register;
 use crate::instr::MemOp;
 use crate::lanes::enable_of;
 use crate::operands::{no_register, register_after};
-use crate::planned::{Access, Accesses, Effect, Inputs, Plan};
+use crate::planned::{Access, Accesses, Inputs, Step};
 use crate::vector::MISALIGNED;
 use m88_base::Reg;
 
 /// What a memory instruction does at a byte address.
-pub(crate) fn accesses(op: MemOp, d: Reg, place: u32, x: Inputs) -> Plan
-    ensures { result ≡ plan_for (accesses op d place x) }
+pub(crate) fn accesses(op: MemOp, d: Reg, place: u32, x: Inputs) -> Step
+    ensures { IsBrief result x (λ regs. accesses op d place (with_stored op d regs x)) }
 {
     let size = size_of(op);
     if x.mxm {
-        makes(op, d, place / size * size, x)
-    } else if place % size == 0 {
-        makes(op, d, place, x)
+        return Step::Access {
+            op,
+            d,
+            place: place / size * size,
+        };
+    }
+    if place % size == 0 {
+        Step::Access { op, d, place }
     } else {
-        Plan::Raise(MISALIGNED)
+        Step::Raise(MISALIGNED)
     }
 }
 
-/// The accesses of a memory instruction at a byte address.
-fn makes(op: MemOp, d: Reg, place: u32, x: Inputs) -> Plan
-    ensures { result ≡ plan_for (makes op d place x) }
+/// The accesses of a memory mnemonic with D at a byte address, of the values that the registers hold.
+pub fn accesses_at(op: MemOp, d: Reg, place: u32, regs: &[u32; 32]) -> Accesses
+    ensures { result ≡ recorded (touches_at op d place regs.now) }
 {
-    Plan::Go(Effect {
-        accesses: touches_of(op, d, x.d, x.after_d, place),
-        ..goes_on(x)
-    })
+    touches_of(
+        op,
+        d,
+        register(regs, d),
+        register(regs, register_after(d)),
+        place,
+    )
 }
 
 /// The bytes of a datum, of which its address is a multiple or is rounded down to one.
@@ -152,7 +161,7 @@ fn two(first: Access, second: Access) -> Accesses
 }
 
 /// No access.
-pub(crate) fn no_accesses() -> Accesses
+pub fn no_accesses() -> Accesses
     ensures { result ≡ recorded [] }
 {
     Accesses {

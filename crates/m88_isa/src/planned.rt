@@ -1,5 +1,6 @@
-//! What one instruction does, as `plan` answers it, and what goes into it.
+//! What one instruction does, as `plan` and `step` answer it, and what goes into it.
 
+use crate::instr::MemOp;
 use m88_base::Reg;
 
 /// What one instruction does.
@@ -56,6 +57,36 @@ pub struct Access {
     pub lock: bool,
     /// The whole register whose low bytes a store writes, and 0 for a load.
     pub value: u32,
+}
+
+/// What one instruction does, in brief: a plan without what is read off the registers, the carry and the address that
+/// follows.
+#[derive(Clone, Copy, PartialEq, Eq, Debug)]
+pub enum Step {
+    /// The following instruction is next. A register, never r0, is written at once with a new value, and this is the
+    /// carry afterwards.
+    Next {
+        reg: Option<(Reg, u32)>,
+        carry: bool,
+    },
+    /// The flow of the program changes to the byte addresses of two instructions; a fetched one may be passed over, and a
+    /// register be written.
+    Flow {
+        reg: Option<(Reg, u32)>,
+        after: (u32, u32),
+        bubble: bool,
+    },
+    /// The accesses of a memory mnemonic with D at a byte address, a multiple of the datum's size. The following
+    /// instruction is next.
+    Access {
+        op: MemOp,
+        d: Reg,
+        place: u32,
+    },
+    /// It raises an exception of this vector and changes nothing.
+    Raise(u16),
+    /// It is a taken trap with this vector, from 128 up.
+    Trap(u16),
 }
 
 /// What an arithmetic instruction computes: a word and the carry afterwards, or the vector that it raises.

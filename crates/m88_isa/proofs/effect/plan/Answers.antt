@@ -1,51 +1,30 @@
--- The plan is that of the definition, of which the law on every form speaks.
-use Rattle.std.proofs.Common.{subst, sym}
-use Rattle.m88_isa.specs.Effect.{FlowsToWords, MakesAccesses, RaisesListed, TrapsForUser, WritesWithin, effect, inputs_of}
+-- The plan is that of the step, of which the law on every form speaks.
+use Rattle.std.proofs.Common.{◌∙◌, subst, sym}
+use Rattle.m88_isa.specs.Effect.{FlowsToWords, MakesAccesses, RaisesListed, TrapsForUser, WritesWithin}
 use Rattle.m88_isa.specs.Operands.{access_count_of, writes_of}
-use Rattle.m88_isa.proofs.Flows.{effect_flows}
 use Rattle.m88_isa.proofs.Alone.{plan_alone}
-use Rattle.m88_isa.proofs.Plans.{effect_lawful, made_of, raised_of, touches_aligned, trapped_of, within_of}
+use Rattle.m88_isa.proofs.Plans.{touches_aligned}
 use Rattle.m88_isa.proofs.effect.plan.Goals as goal
+
+pub returns-clause-value : goal.returns-clause-value
+returns-clause-value c = c.in_full.ensures ∙ c.step.ensures.value
 
 pub returns-clause-accesses : goal.returns-clause-accesses
 returns-clause-accesses c =
-    let i = c.args.instr.now in
-    let x = inputs_of i c.args.regs.now c.args.carry c.args.mxm c.args.pc c.args.next in
-    subst (λ p. MakesAccesses (access_count_of i) p) (sym c.effect.ensures)
-    (made_of (access_count_of i) (writes_of i) (effect i x) (effect_lawful i x c.requires))
+    subst (MakesAccesses (access_count_of c.args.instr.now)) (sym c.in_full.ensures) c.step.ensures.accesses
 
 pub returns-clause-register : goal.returns-clause-register
 returns-clause-register c =
-    let i = c.args.instr.now in
-    let x = inputs_of i c.args.regs.now c.args.carry c.args.mxm c.args.pc c.args.next in
-    subst (λ p. WritesWithin (writes_of i) p) (sym c.effect.ensures)
-    (within_of (access_count_of i) (writes_of i) (effect i x) (effect_lawful i x c.requires))
+    subst (WritesWithin (writes_of c.args.instr.now)) (sym c.in_full.ensures) c.step.ensures.register
 
 pub returns-clause-trap : goal.returns-clause-trap
-returns-clause-trap c =
-    let i = c.args.instr.now in
-    let x = inputs_of i c.args.regs.now c.args.carry c.args.mxm c.args.pc c.args.next in
-    subst TrapsForUser (sym c.effect.ensures)
-    (trapped_of (access_count_of i) (writes_of i) (effect i x) (effect_lawful i x c.requires))
+returns-clause-trap c = subst TrapsForUser (sym c.in_full.ensures) c.step.ensures.trap
 
 pub returns-clause-raise : goal.returns-clause-raise
-returns-clause-raise c =
-    let i = c.args.instr.now in
-    let x = inputs_of i c.args.regs.now c.args.carry c.args.mxm c.args.pc c.args.next in
-    subst RaisesListed (sym c.effect.ensures)
-    (raised_of (access_count_of i) (writes_of i) (effect i x) (effect_lawful i x c.requires))
+returns-clause-raise c = subst RaisesListed (sym c.in_full.ensures) c.step.ensures.raise
 
 pub returns-clause-flow : goal.returns-clause-flow
-returns-clause-flow c = λ here behind.
-    let i = c.args.instr.now in
-    subst FlowsToWords (sym c.effect.ensures)
-    (effect_flows i c.args.regs.now c.args.carry c.args.mxm c.args.pc c.args.next here behind)
-
-pub returns-then-is_flow-clause-aligned : goal.returns-then-is_flow-clause-aligned
-returns-then-is_flow-clause-aligned c = touches_aligned c.args.instr.now c.args.regs.now c.args.carry c.args.mxm c.args.pc c.args.next c.requires
-
-pub returns-then-is_flow-clause-alone : goal.returns-then-is_flow-clause-alone
-returns-then-is_flow-clause-alone c = plan_alone c.args.instr.now c.args.regs.now c.args.carry c.args.mxm c.args.pc c.args.next
+returns-clause-flow c = λ here behind. subst FlowsToWords (sym c.in_full.ensures) (c.step.ensures.flow here behind)
 
 pub returns-clause-aligned : goal.returns-clause-aligned
 returns-clause-aligned c = touches_aligned c.args.instr.now c.args.regs.now c.args.carry c.args.mxm c.args.pc c.args.next c.requires
