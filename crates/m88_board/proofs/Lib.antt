@@ -31,7 +31,8 @@ pub mod AtMoment
 pub mod Leaving
 pub mod OnePage
 pub mod Beginning
-pub mod ReadBack
+pub mod Planned
+mod ReadBack
 pub mod OfHistory
 pub mod Resuming
 pub mod Suspending

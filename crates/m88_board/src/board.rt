@@ -20,6 +20,7 @@ ghost use Rattle.m88_isa.specs.Flow.{FlowFits};
 ghost use Rattle.m88_isa.specs.Held.{busy_register, involves, most_pending};
 ghost use Rattle.m88_isa.specs.Machine.{Program, Stop, by_vector, trapped};
 ghost use Rattle.m88_isa.specs.Instr.{IsValid};
+ghost use Rattle.m88_isa.specs.Memory.{recorded};
 ghost use Rattle.m88_board.specs.Board.{is_idle_board, local_of, pc_of};
 ghost use Rattle.m88_isa.specs.ImageProgram.{IsProgramOf};
 ghost use Rattle.std.specs.Int.{bit_at};
@@ -373,6 +374,27 @@ impl Board {
         advance(&mut self.iunit, &self.memory, effect.after, effect.bubble);
         self.retired += 1;
         Ok(())
+    }
+
+    /// Issues the next instruction, which makes no access.
+    #[inline(always)]
+    fn go_on(&mut self, effect: &Effect)
+        requires going { is_idle_board self.old ≡ false }
+        requires valid { self.old.slots.nip.v ≡ true }
+        requires fetched { self.old.slots.nip.e ≡ false }
+        requires flow { FlowFits effect.now.after effect.now.bubble }
+        requires alone { effect.now.accesses ≡ recorded [] }
+        requires free { IfSome effect.now.reg
+            (λ w. waits_for self.old.pending (number_of w.0) ≡ false) }
+        ensures ok { (change : Change) (fault : RecordValue) → effect.now ≡ recorded_change change
+            → length change.touches ≤ 2 → Does (issues change) fault self.old self.new }
+        ensures control { self.new.control
+            ≡ record self.old.control { psr = self.new.control.psr } }
+    {
+        write(&mut self.regs, effect.reg);
+        self.ctrl.set_carry(effect.carry);
+        advance(&mut self.iunit, &self.memory, effect.after, effect.bubble);
+        self.retired += 1;
     }
 
     /// The next word can't be fetched or is no instruction, or the next instruction raises: the program ends by

@@ -55,6 +55,7 @@ fn lacks_further(memory: &Memory, next: u32, behind: u32) -> bool
 }
 
 /// The next instruction, which could be fetched, goes into execution, and others follow it.
+#[inline(always)]
 pub(crate) fn advance(iunit: &mut InstrUnit, memory: &Memory, after: (u32, u32), bubble: bool)
     requires valid { iunit.old.nip.v ≡ true }
     requires fetched { iunit.old.nip.e ≡ false }

@@ -1,18 +1,28 @@
 -- What the next instruction comes to in its turn.
-use Rattle.std.specs.Prelude.{true, Option, ◌≡◌, ◌<◌}
+use Rattle.std.specs.Int.{bit_at}
+use Rattle.std.specs.Prelude.{true, IfSome, None, Option, Some, ◌≡◌, ◌<◌}
+use Rattle.m88_base.specs.Reg.{number_of}
+use Rattle.m88_ctrl.specs.ControlRegisters.{carry_of}
 use Rattle.m88_base.specs.Pages.{page_number}
 use Rattle.m88_event.specs.Choice.{Choice, end_by, finishes, next_choice}
 use Rattle.m88_event.specs.Local.{choice_by}
 use Rattle.m88_event.specs.declared.happened.End.{End}
 use Rattle.m88_event.specs.declared.letter.Letter.TheVariants.{Issue}
-use Rattle.m88_isa.specs.Held.{held}
+use Rattle.m88_isa.specs.Flow.{FlowFits}
+use Rattle.m88_isa.specs.Held.{busy_register, held}
+use Rattle.m88_isa.specs.Instr.{IsValid}
+use Rattle.m88_isa.specs.Memory.{AreWordAccesses}
+use Rattle.m88_isa.specs.Operands.{access_count_of, writes_of}
 use Rattle.m88_isa.specs.History.{Completed}
-use Rattle.m88_isa.specs.Effect.{IfGo, Meaning, meaning_of}
+use Rattle.m88_isa.specs.Effect.{IfGo, Meaning, meaning_of, plan_for, plan_of_step}
 use Rattle.m88_isa.specs.ImageProgram.{IsProgramOf}
 use Rattle.m88_isa.specs.Machine.{Program, Stop, Turn, executed}
 use Rattle.m88_isa.specs.declared.instr.Instr.{Instr}
 use Rattle.m88_isa.specs.declared.planned.Accesses.{Accesses}
+use Rattle.m88_isa.specs.declared.planned.Effect.{Effect}
 use Rattle.m88_isa.specs.declared.planned.Plan.{Plan}
+use Rattle.m88_isa.specs.declared.planned.Plan.TheVariants.{Go}
+use Rattle.m88_isa.specs.declared.planned.Step.{Step}
 use Rattle.m88_board.specs.Board.{BoardView, completed_of, local_of}
 
 -- what an instruction means at a state
@@ -45,3 +55,17 @@ StoreOnOnePage a =
 -- and so do those of a plan that goes on
 abbrev pub PlansOnePage : Plan → Type 0
 PlansOnePage plan = IfGo plan (λ changes. StoreOnOnePage changes.accesses)
+
+-- the plan of which a step is told in brief, by what the parts of a board show
+abbrev pub planned_by : Step → BoardView → Plan
+planned_by step b = plan_of_step step b.file.numbers (carry_of b.control) b.slots.fip.addr
+
+-- what an instruction that goes on does on a board, where no register that it uses or writes waits
+pub record IsPlanned (i : Instr) (effect : Effect) (b : BoardView) : Type 0 where
+  pub instr : IsValid i
+  pub free : busy_register (Some i) b.pending ≡ None
+  pub means : Go effect ≡ plan_for (meaning_at i (completed_of b))
+  pub made : AreWordAccesses (access_count_of i) effect.accesses
+  pub written : IfSome effect.reg (λ write. bit_at (writes_of i) (number_of write.0) ≡ 1)
+  pub flow : FlowFits effect.after effect.bubble
+  pub page : StoreOnOnePage effect.accesses

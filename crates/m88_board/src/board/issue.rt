@@ -1,15 +1,16 @@
 //! The event of the letter `i`: the next instruction is issued, is held, or ends the program.
 
-ghost use Rattle.std.specs.Prelude.{◌≡◌, ◌%◌, Ok, Some, None, true, false, IfErr, IfOk, OnErr, OnOk};
+ghost use Rattle.std.specs.Prelude.{◌≡◌, ◌≤◌, ◌%◌, [], length, Ok, Some, None, true, false, IfErr, IfOk, OnErr, OnOk};
 ghost use Rattle.m88_base.specs.Image.{byte_at};
 ghost use Rattle.m88_event.specs.Choice.{issues};
 ghost use Rattle.m88_event.specs.Local.{choice_by};
 ghost use Rattle.m88_event.specs.declared.letter.Letter.{Letter as LetterValue};
 ghost use Rattle.m88_event.specs.declared.record.Record.{Record as RecordValue};
 ghost use Rattle.m88_isa.specs.Effect.{Change, FlowsToWords, MakesAccesses, RaisesListed, TrapsForUser, WritesWithin, plan_for, recorded_change};
-ghost use Rattle.m88_isa.specs.Held.{busy_register, is_pending};
+ghost use Rattle.m88_isa.specs.Held.{busy_register, is_pending, most_pending};
 ghost use Rattle.m88_isa.specs.Instr.{IsValid};
 ghost use Rattle.m88_isa.specs.Machine.{Program, four_bytes};
+ghost use Rattle.m88_isa.specs.Memory.{recorded};
 ghost use Rattle.m88_isa.specs.Operands.{access_count_of, writes_of};
 ghost use Rattle.m88_board.specs.Board.{completed_of, is_idle_board, local_of, pc_of};
 ghost use Rattle.m88_isa.specs.ImageProgram.{IsProgramOf};
@@ -20,16 +21,17 @@ ghost use Rattle.m88_board.specs.Shown.{Leaves};
 ghost use Rattle.m88_board.specs.Told.{IsWordOf, MakesWordAccesses, WentOn};
 ghost use Rattle.m88_board.specs.Inside.Briefly.{happened_of};
 ghost use Rattle.m88_board.specs.Inside.NoInstruction.{HasNoInstruction};
-ghost use Rattle.m88_board.specs.Inside.Turns.{IssueComesTo, PlansOnePage, choice_for, meaning_at};
+ghost use Rattle.m88_board.specs.Inside.Turns.{IsPlanned, IssueComesTo, PlansOnePage, choice_for, meaning_at, planned_by};
 
 use crate::board::Board;
 use crate::brief::Brief;
 use crate::told::Told;
-use m88_base::NoMemory;
+use m88_base::{NoMemory, Reg};
 use m88_codec::decode;
 use m88_event::Why;
 use m88_isa::{
-    INSTRUCTION_ACCESS, Instr, Plan, UNIMPLEMENTED, plan, uses, waits_for_empty, writes,
+    Effect, INSTRUCTION_ACCESS, Instr, Plan, Step, UNIMPLEMENTED, accesses_at, no_accesses, step,
+    uses, waits_for_empty, writes,
 };
 use m88_mem::Line;
 
@@ -176,27 +178,95 @@ impl Board {
         ensures made { MakesWordAccesses told.old → MakesWordAccesses told.new }
         ensures err { OnErr result (IsUnmoved self.old self.new) }
     {
-        let plan = self.planned(instr);
-        *told = plan;
-        match plan {
-            Plan::Raise(vector) => Ok(self.raise(vector)),
-            Plan::Trap(vector) => {
+        match self.step_next(instr) {
+            Step::Next { reg, carry } => {
+                let next = self.iunit.following().addr;
+                let after = (next, next.wrapping_add(4));
+                Ok(self.issue_alone(instr, effect_alone(reg, carry, after, false), told))
+            }
+            Step::Flow { reg, after, bubble } => {
+                let carry = self.ctrl.carry();
+                Ok(self.issue_alone(instr, effect_alone(reg, carry, after, bubble), told))
+            }
+            Step::Access { op, d, place } => {
+                let next = self.iunit.following().addr;
+                let effect = Effect {
+                    reg: None,
+                    carry: self.ctrl.carry(),
+                    accesses: accesses_at(op, d, place, self.regs.numbers()),
+                    after: (next, next.wrapping_add(4)),
+                    bubble: false,
+                };
+                self.issue_accesses(instr, effect, told)
+            }
+            Step::Raise(vector) => Ok(self.raise(vector)),
+            Step::Trap(vector) => {
                 if self.is_pending() {
                     return Ok(Brief::Stalled(Why::Sync));
                 }
                 self.trap(vector)
             }
-            Plan::Go(effect) => {
-                if effect.accesses.count > self.dunit.room() {
-                    return Ok(Brief::Stalled(Why::Full));
-                }
-                if waits_for_empty(instr) && self.is_pending() {
-                    return Ok(Brief::Stalled(Why::Sync));
-                }
-                self.go(&effect)?;
-                Ok(Brief::Issued)
-            }
         }
+    }
+
+    /// The next instruction in its turn, where it makes these changes and no access.
+    #[inline(always)]
+    fn issue_alone(&mut self, instr: &Instr, effect: Effect, told: &mut Plan) -> Brief
+        requires going { is_idle_board self.old ≡ false }
+        requires valid { self.old.slots.nip.v ≡ true }
+        requires fetched { self.old.slots.nip.e ≡ false }
+        requires planned { IsPlanned instr.now effect self.old }
+        requires alone { effect.accesses ≡ recorded [] }
+        requires few { length self.old.pending ≤ most_pending }
+        ensures ok { (fault : RecordValue) → Did (choice_for (Some instr.now) self.old) fault self.old
+            (happened_of result self.new) self.new }
+        ensures still { IsStill (happened_of result self.new) → self.new ≡ self.old }
+        ensures leaves { Leaves (happened_of result self.new) self.old self.new }
+        ensures told { (change : Change) → choice_for (Some instr.now) self.old ≡ issues change
+            → told.new ≡ Go (recorded_change change) }
+        ensures made { MakesWordAccesses told.new }
+    {
+        *told = Plan::Go(effect);
+        if waits_for_empty(instr) && self.is_pending() {
+            return Brief::Stalled(Why::Sync);
+        }
+        self.go_on(&effect);
+        Brief::Issued
+    }
+
+    /// The next instruction in its turn, where it makes these changes, or it waits for room for its accesses.
+    fn issue_accesses(
+        &mut self,
+        instr: &Instr,
+        effect: Effect,
+        told: &mut Plan,
+    ) -> Result<Brief, NoMemory>
+        requires going { is_idle_board self.old ≡ false }
+        requires valid { self.old.slots.nip.v ≡ true }
+        requires fetched { self.old.slots.nip.e ≡ false }
+        requires planned { IsPlanned instr.now effect self.old }
+        ensures ok { IfOk result (λ brief. (fault : RecordValue)
+            → Did (choice_for (Some instr.now) self.old) fault self.old
+            (happened_of brief self.new) self.new) }
+        ensures still { IfOk result (λ brief. IsStill (happened_of brief self.new)
+            → self.new ≡ self.old) }
+        ensures leaves { IfOk result (λ brief.
+            Leaves (happened_of brief self.new) self.old self.new) }
+        ensures told { OnOk result ((change : Change)
+            → choice_for (Some instr.now) self.old ≡ issues change
+            → told.new ≡ Go (recorded_change change)) }
+        ensures made { MakesWordAccesses told.new }
+        ensures err { OnErr result (IsUnmoved self.old self.new) }
+    {
+        *told = Plan::Go(effect);
+        if effect.accesses.count > self.dunit.room() {
+            return Ok(Brief::Stalled(Why::Full));
+        }
+        if waits_for_empty(instr) && self.is_pending() {
+            return Ok(Brief::Stalled(Why::Sync));
+        }
+        self.go(&effect)?;
+        Ok(Brief::Issued)
     }
 
     /// Whether a transaction is pending.
@@ -208,20 +278,21 @@ impl Board {
     }
 
     /// What the next instruction does, where no register that it uses or writes waits.
-    fn planned(&self, instr: &Instr) -> Plan
+    #[inline(always)]
+    fn step_next(&self, instr: &Instr) -> Step
         requires instr { IsValid instr.now }
         requires valid { self.now.slots.nip.v ≡ true }
         requires free { busy_register (Some instr.now) self.now.pending ≡ None }
-        ensures value { result ≡ plan_for (meaning_at instr.now (completed_of self.now)) }
-        ensures accesses { MakesAccesses (access_count_of instr.now) result }
-        ensures words { MakesWordAccesses result }
-        ensures register { WritesWithin (writes_of instr.now) result }
-        ensures trap { TrapsForUser result }
-        ensures raise { RaisesListed result }
-        ensures flow { FlowsToWords result }
-        ensures pages { PlansOnePage result }
+        ensures value { planned_by result self.now
+            ≡ plan_for (meaning_at instr.now (completed_of self.now)) }
+        ensures accesses { MakesAccesses (access_count_of instr.now) (planned_by result self.now) }
+        ensures register { WritesWithin (writes_of instr.now) (planned_by result self.now) }
+        ensures trap { TrapsForUser (planned_by result self.now) }
+        ensures raise { RaisesListed (planned_by result self.now) }
+        ensures flow { FlowsToWords (planned_by result self.now) }
+        ensures pages { PlansOnePage (planned_by result self.now) }
     {
-        plan(
+        step(
             instr,
             self.regs.numbers(),
             self.ctrl.carry(),
@@ -229,5 +300,24 @@ impl Board {
             self.iunit.candidate().addr,
             self.iunit.following().addr,
         )
+    }
+}
+
+/// Changes without an access.
+fn effect_alone(reg: Option<(Reg, u32)>, carry: bool, after: (u32, u32), bubble: bool) -> Effect
+    ensures { result ≡ record {
+      reg = reg;
+      carry = carry;
+      accesses = recorded [];
+      after = after;
+      bubble = bubble;
+    } }
+{
+    Effect {
+        reg,
+        carry,
+        accesses: no_accesses(),
+        after,
+        bubble,
     }
 }
