@@ -32,7 +32,7 @@ pub mod Leaving
 pub mod OnePage
 pub mod Beginning
 pub mod Planned
-mod ReadBack
+pub mod ReadBack
 pub mod OfHistory
 pub mod Resuming
 pub mod Suspending

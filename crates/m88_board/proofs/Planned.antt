@@ -8,7 +8,7 @@ use Rattle.m88_dunit.specs.Pending.{CanIssue}
 use Rattle.m88_isa.proofs.Held.{written_waits_not}
 use Rattle.m88_isa.proofs.Plans.{at_most_two}
 use Rattle.m88_isa.specs.Bus.{listed, waits_for}
-use Rattle.m88_isa.specs.Effect.{FlowsToWords, MakesAccesses, Meaning, WritesWithin, plan_for}
+use Rattle.m88_isa.specs.Effect.{FlowsToWords, MakesAccesses, WritesWithin, plan_for}
 use Rattle.m88_isa.specs.Held.{busy_register, most_pending}
 use Rattle.m88_isa.specs.Instr.{IsValid}
 use Rattle.m88_isa.specs.Memory.{recorded}

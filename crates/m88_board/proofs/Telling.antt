@@ -9,17 +9,15 @@ use Rattle.m88_event.specs.Timeline.{Moment, choice_at}
 use Rattle.m88_event.specs.declared.happened.Happened.{Happened}
 use Rattle.m88_event.specs.declared.letter.Letter.TheVariants.{Issue}
 use Rattle.m88_event.specs.declared.record.Record.{Record}
-use Rattle.m88_isa.specs.Effect.{Change, MakesAccesses, recorded_change}
+use Rattle.m88_isa.specs.Effect.{Change, recorded_change}
 use Rattle.m88_isa.specs.History.{completed_state}
 use Rattle.m88_isa.specs.Machine.{Program, Stop, four_bytes, state}
-use Rattle.m88_isa.specs.Memory.{AreWordAccesses}
 use Rattle.m88_isa.specs.declared.planned.Access.{Access}
 use Rattle.m88_isa.specs.declared.planned.Effect.{Effect}
-use Rattle.m88_isa.specs.declared.planned.Plan.{Plan}
-use Rattle.m88_isa.specs.declared.planned.Plan.TheVariants.{Go, Raise, Trap}
+use Rattle.m88_isa.specs.declared.planned.Plan.TheVariants.{Go}
 use Rattle.m88_board.specs.Board.{BoardView, completed_of, local_of, pc_of}
 use Rattle.m88_board.specs.Moves.{Did, IsAt, stopping}
-use Rattle.m88_board.specs.Told.{IsTold, IsWordOf, MakesWordAccesses, WentOn}
+use Rattle.m88_board.specs.Told.{IsTold, IsWordOf, WentOn}
 use Rattle.m88_board.specs.declared.told.Told.{Told}
 
 -- what raises is not issued
@@ -77,9 +75,3 @@ told_at p named m b h told at word plan = record {
   word = λ went. ((word went).0, word_seen p named m b at ∙ (word went).1);
   plan = λ change issued. plan change (choice_seen p named m b at ∙ issued);
 }
-
--- the accesses of a plan that goes on
-pub makes_words : (count : ℕ) (plan : Plan) → MakesAccesses count plan → MakesWordAccesses plan
-makes_words count (Go effect) made = subst (λ n. AreWordAccesses n effect.accesses) (sym made.0) made
-makes_words count (Raise vector) made = tt
-makes_words count (Trap vector) made = tt

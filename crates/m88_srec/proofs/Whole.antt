@@ -1,5 +1,5 @@
 -- A text that comes line by line leads where its lines do.
-use Rattle.std.proofs.Common.{◌≡◌, ℕ, ◌+◌, ◌==◌, Bool, true, false, List, [], ◌∷◌, ◌++◌, length, refl, sym, ap, ◌∙◌, subst, arith, inl, inr, append_assoc, append-nil, length-append}
+use Rattle.std.proofs.Common.{◌≡◌, ℕ, ◌+◌, ◌==◌, Bool, true, false, List, [], ◌∷◌, ◌++◌, length, refl, sym, ap, ◌∙◌, subst, arith, inl, inr, append_assoc, append-nil}
 use Rattle.std.specs.Prelude.{Result, Ok, Err, IfErr, IfOk, not, ◌&&◌, ◌⊎◌}
 use Rattle.std.specs.List.{list_all}
 use Rattle.std.proofs.lemmas.Bool.{false≢true}
@@ -135,10 +135,6 @@ pub refused_line : {T : Type 0} (rest line left : List ℕ) (b later : Begun) (r
     → IfErr r (Stops rest b)
 refused_line rest line left b later (Ok x) w empty no_cr said = tt
 refused_line rest line left b later (Err kind) w empty no_cr said = line_stops rest line left b kind w empty no_cr said
-
-pub line_size : (rest line left : List ℕ) → IsWholeLine rest line left → length line + 1 + length left ≡ length rest
-line_size rest line left w =
-    omega (arith, ap length w.joined, length-append line (10 ∷ left))
 
 pub byte_taken_first : (rest left : List ℕ) (byte : ℕ) (b later : Begun) → rest ≡ byte ∷ left → byte_taken b byte ≡ Ok later
     → IsTaken rest left b later

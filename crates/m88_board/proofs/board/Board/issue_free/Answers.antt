@@ -1,30 +1,25 @@
--- The plan of the instruction is carried out, or it waits.
-use Rattle.std.proofs.Common.{◌≡◌, ◌∙◌, None, Some, false, ap, refl, sym}
-use Rattle.std.specs.Prelude.{◌&&◌}
+-- What the step of the instruction tells is carried out, or it waits.
+use Rattle.std.proofs.Common.{◌∙◌, None, Some, ap, false, sym}
 use Rattle.std.proofs.lemmas.Result.{IfOk-weaker}
-use Rattle.m88_event.specs.Choice.{issues, turn_choice}
-use Rattle.m88_event.specs.declared.happened.Happened.TheVariants.{Issued}
+use Rattle.m88_base.specs.declared.slot.Slot.{Slot}
+use Rattle.m88_event.specs.Choice.{turn_choice}
 use Rattle.m88_event.specs.declared.record.Record.{Record}
-use Rattle.m88_isa.proofs.Held.{written_waits_not}
-use Rattle.m88_isa.specs.Held.{full, is_pending, sync}
-use Rattle.m88_isa.specs.Machine.{by_vector, trapped}
-use Rattle.m88_isa.specs.Operands.{waits_for_empty}
-use Rattle.m88_board.proofs.Choosing.{did_by}
-use Rattle.m88_board.proofs.Issuing.{held_still, nothing_pending, raise_is, raising, shown_by, trap_held, trap_is, trap_turn}
-use Rattle.m88_board.proofs.Still.{still_if_turned}
-use Rattle.m88_board.proofs.Telling.{stopping_issues_none}
-use Rattle.m88_board.specs.Board.{pc_of}
-use Rattle.m88_board.specs.Kept.{IsKept}
-use Rattle.m88_board.specs.Inside.Briefly.{happened_of}
-use Rattle.m88_board.specs.Moves.{Did, stopping}
-use Rattle.m88_board.specs.Inside.Turns.{choice_for, planned_by}
-use Rattle.m88_board.specs.contracts.board.Board.{the_view}
 use Rattle.m88_isa.specs.Address.{after_bytes}
+use Rattle.m88_isa.specs.Held.{sync}
+use Rattle.m88_isa.specs.Machine.{by_vector, trapped}
 use Rattle.m88_isa.specs.declared.planned.Accesses.{Accesses}
 use Rattle.m88_isa.specs.declared.planned.Plan.TheVariants.{Go}
 use Rattle.m88_isa.specs.declared.planned.Step.TheVariants.{Access}
-use Rattle.m88_base.specs.declared.slot.Slot.{Slot}
+use Rattle.m88_board.proofs.Choosing.{did_by}
+use Rattle.m88_board.proofs.Issuing.{held_still, nothing_pending, raise_is, raising, shown_by, trap_held, trap_is, trap_turn}
 use Rattle.m88_board.proofs.Planned.{planned_from}
+use Rattle.m88_board.proofs.Still.{still_if_turned}
+use Rattle.m88_board.proofs.Telling.{stopping_issues_none}
+use Rattle.m88_board.specs.Board.{pc_of}
+use Rattle.m88_board.specs.Inside.Briefly.{happened_of}
+use Rattle.m88_board.specs.Inside.Turns.{choice_for, planned_by}
+use Rattle.m88_board.specs.Moves.{Did, stopping}
+use Rattle.m88_board.specs.contracts.board.Board.{the_view}
 use Rattle.m88_board.proofs.board.Board.issue_free.Goals as goal
 
 pub returns-in-Raise-clause-ok : goal.returns-in-Raise-clause-ok
