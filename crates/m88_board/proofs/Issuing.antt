@@ -16,7 +16,7 @@ use Rattle.m88_isa.proofs.Held.{meaning_seen}
 use Rattle.m88_isa.proofs.Plans.{at_most_two, touches_counted}
 use Rattle.m88_isa.proofs.Turns.{listed_recorded, traps_wait}
 use Rattle.m88_isa.specs.Bus.{LoadApart, after_accesses, listed}
-use Rattle.m88_isa.specs.Effect.{Change, Meaning, goes, meaning_of, plan_for, plan_of_step, raises, recorded_change, traps}
+use Rattle.m88_isa.specs.Effect.{Change, Meaning, goes, meaning_of, plan_for, plan_of_outline, raises, recorded_change, traps}
 use Rattle.m88_isa.specs.Held.{Hold, busy, busy_register, exceeds, full, held, is_pending, most_pending, needs_empty, sync}
 use Rattle.m88_isa.specs.History.{change_accesses}
 use Rattle.m88_isa.specs.Instr.{IsValid}
@@ -28,7 +28,7 @@ use Rattle.m88_isa.specs.declared.instr.Instr.{Instr}
 use Rattle.m88_isa.specs.declared.planned.Access.{Access}
 use Rattle.m88_isa.specs.declared.planned.Effect.{Effect}
 use Rattle.m88_isa.specs.declared.planned.Plan.TheVariants.{Go, Raise, Trap}
-use Rattle.m88_isa.specs.declared.planned.Step.{Step}
+use Rattle.m88_isa.specs.declared.planned.Outline.{Outline}
 use Rattle.m88_board.specs.Board.{BoardView, cells_of, completed_of, pc_of, next_of}
 use Rattle.m88_board.specs.Kept.{IsKept}
 use Rattle.m88_board.proofs.Choosing.{did_by}
@@ -93,20 +93,20 @@ meant i inside b shown carry mxm pc next same kept valid free numbers carries mo
     ∙ ap (λ (k : ℕ). meaning_of i regs (carry_of b.control) (mxm_of b.control) k next) here
     ∙ ap (meaning_of i regs (carry_of b.control) (mxm_of b.control) (pc_of b.slots)) behind
 
--- by what the parts show, a step tells of the same plan as by the board
-pub shown_by : (step : Step) (inside b : BoardView) (shown : List ℕ) (carry : Bool) (next : ℕ) →
+-- by what the parts show, an outline stands for the same plan as by the board
+pub shown_by : (outline : Outline) (inside b : BoardView) (shown : List ℕ) (carry : Bool) (next : ℕ) →
     inside ≡ b →
     shown ≡ inside.file.numbers →
     carry ≡ carry_of inside.control →
     next ≡ inside.slots.fip.addr →
-    planned_by step b ≡ plan_of_step step shown carry next
-shown_by step inside b shown carry next same numbers carries behind =
+    planned_by outline b ≡ plan_of_outline outline shown carry next
+shown_by outline inside b shown carry next same numbers carries behind =
     let numbers : shown ≡ b.file.numbers = numbers ∙ ap (λ (x : BoardView). x.file.numbers) same in
     let carries : carry ≡ carry_of b.control = carries ∙ ap (λ (x : BoardView). carry_of x.control) same in
     let behind : next ≡ b.slots.fip.addr = behind ∙ ap (λ (x : BoardView). x.slots.fip.addr) same in
-    sym (ap (λ (xs : List ℕ). plan_of_step step xs carry next) numbers
-    ∙ ap (λ (k : Bool). plan_of_step step b.file.numbers k next) carries
-    ∙ ap (λ (a : ℕ). plan_of_step step b.file.numbers (carry_of b.control) a) behind)
+    sym (ap (λ (xs : List ℕ). plan_of_outline outline xs carry next) numbers
+    ∙ ap (λ (k : Bool). plan_of_outline outline b.file.numbers k next) carries
+    ∙ ap (λ (a : ℕ). plan_of_outline outline b.file.numbers (carry_of b.control) a) behind)
 
 -- an instruction with a plan that raises means that
 pub raise_is : (m : Meaning) (vector : ℕ) → Raise vector ≡ plan_for m → m ≡ raises vector

@@ -1,4 +1,4 @@
--- An instruction that goes on: what its step in brief says of its changes.
+-- An instruction that goes on: what its outline says of its changes.
 use Rattle.std.specs.Prelude.{ℕ, Bool, false, Some, ◌≡◌, ◌≤◌, ◌+◌, ◌++◌, List, [], IfSome, None, length}
 use Rattle.std.proofs.Common.{arith, ap, subst, sym}
 use Rattle.std.proofs.lemmas.List.{append-nil}

@@ -20,9 +20,9 @@ use Rattle.m88_isa.specs.declared.planned.Effect.{Effect}
 use Rattle.m88_isa.specs.declared.planned.Inputs.{Inputs}
 use Rattle.m88_isa.specs.declared.planned.Plan.{Plan}
 use Rattle.m88_isa.specs.declared.planned.Plan.TheVariants.{Go, Raise, Trap}
-use Rattle.m88_isa.specs.declared.planned.Step.{Step}
-use Rattle.m88_isa.specs.declared.planned.Step.TheVariants as step
-use Rattle.m88_isa.specs.declared.planned.Step.TheVariants.{Access, Flow, Next}
+use Rattle.m88_isa.specs.declared.planned.Outline.{Outline}
+use Rattle.m88_isa.specs.declared.planned.Outline.TheVariants as outline
+use Rattle.m88_isa.specs.declared.planned.Outline.TheVariants.{Flow, Memory, Next}
 use Rattle.m88_isa.specs.declared.instr.MemOp.{MemOp}
 use Rattle.m88_isa.specs.declared.instr.Instr.{Instr}
 use Rattle.m88_isa.specs.declared.instr.Instr.TheVariants as instr
@@ -183,31 +183,31 @@ plan_of i regs carry mxm pc next = plan_for (meaning_of i regs carry mxm pc next
 abbrev pub touches_at : MemOp → Reg → ℕ → List ℕ → List Touch
 touches_at op d place regs = touches_of op d (register regs d) (register regs (register_after d)) place
 
--- the plan of which a step is told in brief: of the registers, the carry and the address that follows
-abbrev pub plan_of_step : Step → List ℕ → Bool → ℕ → Plan
-plan_of_step (Next reg after) regs carry next = Go (record {
+-- the plan that an outline stands for, with the registers, the carry and the address that follows
+abbrev pub plan_of_outline : Outline → List ℕ → Bool → ℕ → Plan
+plan_of_outline (Next reg carry_after) regs carry next = Go (record {
   reg = reg;
-  carry = after;
+  carry = carry_after;
   accesses = recorded [];
   after = (next, after_bytes next 4);
   bubble = false;
 })
-plan_of_step (Flow reg after bubble) regs carry next = Go (record {
+plan_of_outline (Flow reg after bubble) regs carry next = Go (record {
   reg = reg;
   carry = carry;
   accesses = recorded [];
   after = after;
   bubble = bubble;
 })
-plan_of_step (Access op d place) regs carry next = Go (record {
+plan_of_outline (Memory op d place) regs carry next = Go (record {
   reg = None;
   carry = carry;
   accesses = recorded (touches_at op d place regs);
   after = (next, after_bytes next 4);
   bubble = false;
 })
-plan_of_step (step.Raise vector) regs carry next = Raise vector
-plan_of_step (step.Trap vector) regs carry next = Trap vector
+plan_of_outline (outline.Raise vector) regs carry next = Raise vector
+plan_of_outline (outline.Trap vector) regs carry next = Trap vector
 
 -- a fact about the changes of a plan that goes on
 abbrev pub IfGo : Plan → (Effect → Type 0) → Type 0

@@ -18,13 +18,13 @@ ghost use Rattle.m88_isa.specs.Effect.{
   meaning_of,
   plan_for,
   plan_of,
-  plan_of_step,
+  plan_of_outline,
   register,
   written,
 };
 ghost use Rattle.m88_isa.specs.Instr.{IsValid};
 ghost use Rattle.m88_isa.specs.Operands.{access_count_of, writes_of};
-ghost use Rattle.m88_isa.specs.Inside.Brief.{IsBrief, with_stored};
+ghost use Rattle.m88_isa.specs.Inside.Outline.{IsOutline, with_stored};
 ghost use Rattle.m88_isa.specs.declared.planned.Inputs.{Inputs as InputsValue};
 
 use crate::address::{address, scale_of, word_address};
@@ -34,7 +34,7 @@ use crate::flow::{bit_is, branches, checks, class_in, flows, traps_if, words_awa
 use crate::instr::{Instr, MemOp};
 use crate::memory::{accesses, accesses_at, no_accesses, size_of};
 use crate::operands::is_flow;
-use crate::planned::{Computed, Effect, Inputs, Plan, Step};
+use crate::planned::{Computed, Effect, Inputs, Outline, Plan};
 use crate::vector::{PRIVILEGE, UNIMPLEMENTED, unit_vector};
 use m88_base::Reg;
 
@@ -53,58 +53,70 @@ pub fn plan(instr: &Instr, regs: &[u32; 32], carry: bool, mxm: bool, pc: u32, ne
     ensures flow { pc % 4 ≡ 0 → next % 4 ≡ 0 → FlowsToWords result }
     ensures alone { IgnoresUnused instr.now regs.now carry mxm pc next }
 {
-    in_full(step(instr, regs, carry, mxm, pc, next), regs, carry, next)
+    in_full(
+        outline(instr, regs, carry, mxm, pc, next),
+        regs,
+        carry,
+        next,
+    )
 }
 
-/// The plan of which a step is told in brief.
-fn in_full(step: Step, regs: &[u32; 32], carry: bool, next: u32) -> Plan
-    ensures { result ≡ plan_of_step step regs.now carry next }
+/// The plan that an outline stands for.
+fn in_full(outline: Outline, regs: &[u32; 32], carry: bool, next: u32) -> Plan
+    ensures { result ≡ plan_of_outline outline regs.now carry next }
 {
     let following = (next, next.wrapping_add(4));
-    match step {
-        Step::Next { reg, carry } => Plan::Go(Effect {
+    match outline {
+        Outline::Next { reg, carry } => Plan::Go(Effect {
             reg,
             carry,
             accesses: no_accesses(),
             after: following,
             bubble: false,
         }),
-        Step::Flow { reg, after, bubble } => Plan::Go(Effect {
+        Outline::Flow { reg, after, bubble } => Plan::Go(Effect {
             reg,
             carry,
             accesses: no_accesses(),
             after,
             bubble,
         }),
-        Step::Access { op, d, place } => Plan::Go(Effect {
+        Outline::Memory { op, d, place } => Plan::Go(Effect {
             reg: None,
             carry,
             accesses: accesses_at(op, d, place, regs),
             after: following,
             bubble: false,
         }),
-        Step::Raise(vector) => Plan::Raise(vector),
-        Step::Trap(vector) => Plan::Trap(vector),
+        Outline::Raise(vector) => Plan::Raise(vector),
+        Outline::Trap(vector) => Plan::Trap(vector),
     }
 }
 
-/// What an instruction does, as `plan` tells it, in brief.
+/// The outline of what `plan` answers.
 #[inline(always)]
-pub fn step(instr: &Instr, regs: &[u32; 32], carry: bool, mxm: bool, pc: u32, next: u32) -> Step
+pub fn outline(
+    instr: &Instr,
+    regs: &[u32; 32],
+    carry: bool,
+    mxm: bool,
+    pc: u32,
+    next: u32,
+) -> Outline
     requires { IsValid instr.now }
-    ensures value { plan_of_step result regs.now carry next
+    ensures value { plan_of_outline result regs.now carry next
         ≡ plan_of instr.now regs.now carry mxm pc next }
     ensures accesses { MakesAccesses (access_count_of instr.now)
-        (plan_of_step result regs.now carry next) }
+        (plan_of_outline result regs.now carry next) }
     ensures register { WritesWithin (writes_of instr.now)
-        (plan_of_step result regs.now carry next) }
-    ensures trap { TrapsForUser (plan_of_step result regs.now carry next) }
-    ensures raise { RaisesListed (plan_of_step result regs.now carry next) }
+        (plan_of_outline result regs.now carry next) }
+    ensures trap { TrapsForUser (plan_of_outline result regs.now carry next) }
+    ensures raise { RaisesListed (plan_of_outline result regs.now carry next) }
     ensures flow { pc % 4 ≡ 0 → next % 4 ≡ 0
-        → FlowsToWords (plan_of_step result regs.now carry next) }
+        → FlowsToWords (plan_of_outline result regs.now carry next) }
 {
     if next != pc.wrapping_add(4) && is_flow(instr) {
-        return Step::Raise(UNIMPLEMENTED);
+        return Outline::Raise(UNIMPLEMENTED);
     }
     let x = Inputs {
         s1: 0,
@@ -129,9 +141,9 @@ pub(crate) fn register(regs: &[u32; 32], r: Reg) -> u32
 /// What an instruction does, a change of flow in a taken delay slot aside: of the registers, each read where its form
 /// has it, and of what else is in `x`.
 #[inline(always)]
-fn effect(instr: &Instr, regs: &[u32; 32], x: Inputs) -> Step
+fn effect(instr: &Instr, regs: &[u32; 32], x: Inputs) -> Outline
     requires { IsValid instr.now }
-    ensures { plan_of_step result regs.now x.carry x.next
+    ensures { plan_of_outline result regs.now x.carry x.next
         ≡ plan_for (effect instr.now (inputs_of instr.now regs.now x.carry x.mxm x.pc x.next)) }
 {
     match *instr {
@@ -232,19 +244,19 @@ fn effect(instr: &Instr, regs: &[u32; 32], x: Inputs) -> Step
         ),
         Instr::BoundImm { s1, imm } => checks(register(regs, s1), imm as u32, x),
         Instr::BoundReg { s1, s2 } => checks(register(regs, s1), register(regs, s2), x),
-        Instr::Rte => Step::Raise(PRIVILEGE),
+        Instr::Rte => Outline::Raise(PRIVILEGE),
         Instr::Ldcr { float, .. } | Instr::Stcr { float, .. } | Instr::Xcr { float, .. } =>
             controls(float),
-        Instr::Sfu { unit, rest: _rest } => Step::Raise(unit_vector(unit)),
+        Instr::Sfu { unit, rest: _rest } => Outline::Raise(unit_vector(unit)),
     }
 }
 
 /// What a memory form with an index does.
-fn indexed(op: MemOp, d: Reg, scaled: bool, usr: bool, x: Inputs) -> Step
-    ensures { IsBrief result x (λ regs. indexed op d scaled usr (with_stored op d regs x)) }
+fn indexed(op: MemOp, d: Reg, scaled: bool, usr: bool, x: Inputs) -> Outline
+    ensures { IsOutline result x (λ regs. indexed op d scaled usr (with_stored op d regs x)) }
 {
     if usr {
-        Step::Raise(PRIVILEGE)
+        Outline::Raise(PRIVILEGE)
     } else {
         let scale = if scaled { size_of(op) } else { 1 };
         accesses(op, d, address(x.s1, x.s2, scale), x)
@@ -252,30 +264,30 @@ fn indexed(op: MemOp, d: Reg, scaled: bool, usr: bool, x: Inputs) -> Step
 }
 
 /// What a control instruction does.
-fn controls(float: bool) -> Step
-    ensures { (x : InputsValue) → IsBrief result x (λ regs. controls float) }
+fn controls(float: bool) -> Outline
+    ensures { (x : InputsValue) → IsOutline result x (λ regs. controls float) }
 {
-    Step::Raise(if float { unit_vector(1) } else { PRIVILEGE })
+    Outline::Raise(if float { unit_vector(1) } else { PRIVILEGE })
 }
 
 /// D and the carry take what was computed, or the vector is raised.
-fn computes(d: Reg, computed: Computed, x: Inputs) -> Step
-    ensures { IsBrief result x (λ regs. computes d computed x) }
+fn computes(d: Reg, computed: Computed, x: Inputs) -> Outline
+    ensures { IsOutline result x (λ regs. computes d computed x) }
 {
     match computed {
-        Computed::Gives { value, carry } => Step::Next {
+        Computed::Gives { value, carry } => Outline::Next {
             reg: written(d, value),
             carry,
         },
-        Computed::Raises(vector) => Step::Raise(vector),
+        Computed::Raises(vector) => Outline::Raise(vector),
     }
 }
 
 /// D takes a value.
-fn gives(d: Reg, value: u32, x: Inputs) -> Step
-    ensures { IsBrief result x (λ regs. gives d value x) }
+fn gives(d: Reg, value: u32, x: Inputs) -> Outline
+    ensures { IsOutline result x (λ regs. gives d value x) }
 {
-    Step::Next {
+    Outline::Next {
         reg: written(d, value),
         carry: x.carry,
     }

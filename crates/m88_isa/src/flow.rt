@@ -4,26 +4,26 @@
 ghost use Rattle.std.specs.Prelude.{◌≡◌, ◌<◌};
 ghost use Rattle.m88_isa.specs.Effect.{branches, checks, flows, goes, goes_on, traps_if};
 ghost use Rattle.m88_isa.specs.Flow.{bit_is, class_in, class_of, words_away};
-ghost use Rattle.m88_isa.specs.Inside.Brief.{IsBrief};
+ghost use Rattle.m88_isa.specs.Inside.Outline.{IsOutline};
 
 use crate::compute::weight_if;
 use crate::operands::link_register;
-use crate::planned::{Inputs, Step};
+use crate::planned::{Inputs, Outline};
 use crate::vector::{FIRST_USER_VECTOR, OUT_OF_BOUNDS, PRIVILEGE};
 
 /// No change but that the program goes on.
-fn passes(x: Inputs) -> Step
-    ensures { IsBrief result x (λ regs. goes (goes_on x)) }
+fn goes_on(x: Inputs) -> Outline
+    ensures { IsOutline result x (λ regs. goes (goes_on x)) }
 {
-    Step::Next {
+    Outline::Next {
         reg: None,
         carry: x.carry,
     }
 }
 
 /// What a taken branch or a jump to a byte address does.
-pub(crate) fn flows(link: bool, delayed: bool, target: u32, x: Inputs) -> Step
-    ensures { IsBrief result x (λ regs. flows link delayed target x) }
+pub(crate) fn flows(link: bool, delayed: bool, target: u32, x: Inputs) -> Outline
+    ensures { IsOutline result x (λ regs. flows link delayed target x) }
 {
     let behind = if delayed { 8 } else { 4 };
     let reg = if link {
@@ -36,7 +36,7 @@ pub(crate) fn flows(link: bool, delayed: bool, target: u32, x: Inputs) -> Step
     } else {
         (target, target.wrapping_add(4))
     };
-    Step::Flow {
+    Outline::Flow {
         reg,
         after,
         bubble: !delayed,
@@ -44,37 +44,37 @@ pub(crate) fn flows(link: bool, delayed: bool, target: u32, x: Inputs) -> Step
 }
 
 /// What a branch on a condition, by a signed count of words, does.
-pub(crate) fn branches(taken: bool, delayed: bool, words: i32, x: Inputs) -> Step
-    ensures { IsBrief result x (λ regs. branches taken delayed words x) }
+pub(crate) fn branches(taken: bool, delayed: bool, words: i32, x: Inputs) -> Outline
+    ensures { IsOutline result x (λ regs. branches taken delayed words x) }
 {
     if taken {
         flows(false, delayed, words_away(x.pc, words), x)
     } else {
-        passes(x)
+        goes_on(x)
     }
 }
 
 /// What a trap on a condition does.
-pub(crate) fn traps_if(taken: bool, vector: u16, x: Inputs) -> Step
-    ensures { IsBrief result x (λ regs. traps_if taken vector x) }
+pub(crate) fn traps_if(taken: bool, vector: u16, x: Inputs) -> Outline
+    ensures { IsOutline result x (λ regs. traps_if taken vector x) }
 {
     if !taken {
-        passes(x)
+        goes_on(x)
     } else if vector < FIRST_USER_VECTOR {
-        Step::Raise(PRIVILEGE)
+        Outline::Raise(PRIVILEGE)
     } else {
-        Step::Trap(vector)
+        Outline::Trap(vector)
     }
 }
 
 /// What a bounds check of s against t does.
-pub(crate) fn checks(s: u32, t: u32, x: Inputs) -> Step
-    ensures { IsBrief result x (λ regs. checks s t x) }
+pub(crate) fn checks(s: u32, t: u32, x: Inputs) -> Outline
+    ensures { IsOutline result x (λ regs. checks s t x) }
 {
     if s > t {
-        Step::Raise(OUT_OF_BOUNDS)
+        Outline::Raise(OUT_OF_BOUNDS)
     } else {
-        passes(x)
+        goes_on(x)
     }
 }
 

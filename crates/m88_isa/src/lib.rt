@@ -27,7 +27,7 @@ mod triples;
 // what a program asks of the monitor
 mod monitor;
 
-pub use effect::{plan, step};
+pub use effect::{outline, plan};
 pub use instr::{BitOp, ImmOp, Instr, LdaSize, MemOp, RegOp, is_valid};
 pub use lanes::{datum, merge};
 pub use memory::{accesses_at, no_accesses};
@@ -36,7 +36,7 @@ pub use monitor::{
     EXIT_SERVICE, MONITOR_TRAP, OUTPUT_REGISTER, PUT_SERVICE, SERVICE_REGISTER, Service,
 };
 pub use operands::{access_count, is_flow, uses, waits_for_empty, writes};
-pub use planned::{Access, Accesses, Effect, Plan, Step};
+pub use planned::{Access, Accesses, Effect, Outline, Plan};
 pub use triples::{access_in, finished, is_valid_triple, triple_of};
 pub use vector::{
     BAD_DIVISION, DATA_ACCESS, FIRST_USER_VECTOR, INSTRUCTION_ACCESS, MISALIGNED, OUT_OF_BOUNDS,

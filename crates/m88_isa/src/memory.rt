@@ -2,7 +2,7 @@
 
 ghost use Rattle.std.specs.Prelude.{◌≡◌, ◌≤◌, [], true};
 ghost use Rattle.m88_isa.specs.Effect.{accesses, touches_at};
-ghost use Rattle.m88_isa.specs.Inside.Brief.{IsBrief, with_stored};
+ghost use Rattle.m88_isa.specs.Inside.Outline.{IsOutline, with_stored};
 ghost use Rattle.m88_isa.specs.Memory.{access_of, load, no_access, recorded, size_of, store, touches_of};
 
 use crate::address::word_address;
@@ -10,26 +10,26 @@ use crate::effect::register;
 use crate::instr::MemOp;
 use crate::lanes::enable_of;
 use crate::operands::{no_register, register_after};
-use crate::planned::{Access, Accesses, Inputs, Step};
+use crate::planned::{Access, Accesses, Inputs, Outline};
 use crate::vector::MISALIGNED;
 use m88_base::Reg;
 
 /// What a memory instruction does at a byte address.
-pub(crate) fn accesses(op: MemOp, d: Reg, place: u32, x: Inputs) -> Step
-    ensures { IsBrief result x (λ regs. accesses op d place (with_stored op d regs x)) }
+pub(crate) fn accesses(op: MemOp, d: Reg, place: u32, x: Inputs) -> Outline
+    ensures { IsOutline result x (λ regs. accesses op d place (with_stored op d regs x)) }
 {
     let size = size_of(op);
     if x.mxm {
-        return Step::Access {
+        return Outline::Memory {
             op,
             d,
             place: place / size * size,
         };
     }
     if place % size == 0 {
-        Step::Access { op, d, place }
+        Outline::Memory { op, d, place }
     } else {
-        Step::Raise(MISALIGNED)
+        Outline::Raise(MISALIGNED)
     }
 }
 

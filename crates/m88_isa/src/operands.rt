@@ -115,7 +115,7 @@ pub(crate) fn s2_of(instr: &Instr) -> Reg
 }
 
 /// The register whose value is stored or exchanged, or r0.
-pub(crate) fn d_of(instr: &Instr) -> Reg
+fn d_of(instr: &Instr) -> Reg
     ensures { result ≡ d_of instr.now }
 {
     match *instr {
@@ -125,7 +125,7 @@ pub(crate) fn d_of(instr: &Instr) -> Reg
 }
 
 /// The register that is the second half of a double word that is stored, or r0.
-pub(crate) fn after_d_of(instr: &Instr) -> Reg
+fn after_d_of(instr: &Instr) -> Reg
     ensures { result ≡ after_d_of instr.now }
 {
     match *instr {

@@ -1,4 +1,4 @@
-//! What one instruction does, as `plan` and `step` answer it, and what goes into it.
+//! What one instruction does, as `plan` and `outline` answer it, and what goes into it.
 
 use crate::instr::MemOp;
 use m88_base::Reg;
@@ -59,26 +59,26 @@ pub struct Access {
     pub value: u32,
 }
 
-/// What one instruction does, in brief: a plan without what is read off the registers, the carry and the address that
-/// follows.
+/// What one instruction does, in outline: of its plan what isn't read off the registers, the carry and the address that
+/// follows. Two outlines may stand for one plan: a jump to the next two instructions is what going on is.
 #[derive(Clone, Copy, PartialEq, Eq, Debug)]
-pub enum Step {
+pub enum Outline {
     /// The following instruction is next. A register, never r0, is written at once with a new value, and this is the
     /// carry afterwards.
     Next {
         reg: Option<(Reg, u32)>,
         carry: bool,
     },
-    /// The flow of the program changes to the byte addresses of two instructions; a fetched one may be passed over, and a
-    /// register be written.
+    /// The program goes on at the byte addresses of two instructions; a fetched one may be passed over, and a register,
+    /// never r0, be written at once. The carry stays.
     Flow {
         reg: Option<(Reg, u32)>,
         after: (u32, u32),
         bubble: bool,
     },
     /// The accesses of a memory mnemonic with D at a byte address, a multiple of the datum's size. The following
-    /// instruction is next.
-    Access {
+    /// instruction is next, and the carry stays.
+    Memory {
         op: MemOp,
         d: Reg,
         place: u32,
@@ -98,7 +98,7 @@ pub enum Computed {
 
 /// What an instruction goes by: registers in the places of S1, S2 and D and after D, the carry, the bit MXM of PSR, and
 /// the byte addresses of the instruction and of the one that follows. A register that isn't there, or wasn't read yet,
-/// counts as 0.
+/// counts as 0. The registers of D are the definitions' alone: code reads what is stored where it makes the accesses.
 #[derive(Clone, Copy)]
 pub struct Inputs {
     pub s1: u32,

@@ -14,7 +14,7 @@ use Rattle.m88_isa.specs.Instr.{IsValid}
 use Rattle.m88_isa.specs.Memory.{AreWordAccesses}
 use Rattle.m88_isa.specs.Operands.{access_count_of, writes_of}
 use Rattle.m88_isa.specs.History.{Completed}
-use Rattle.m88_isa.specs.Effect.{IfGo, Meaning, meaning_of, plan_for, plan_of_step}
+use Rattle.m88_isa.specs.Effect.{IfGo, Meaning, meaning_of, plan_for, plan_of_outline}
 use Rattle.m88_isa.specs.ImageProgram.{IsProgramOf}
 use Rattle.m88_isa.specs.Machine.{Program, Stop, Turn, executed}
 use Rattle.m88_isa.specs.declared.instr.Instr.{Instr}
@@ -22,7 +22,7 @@ use Rattle.m88_isa.specs.declared.planned.Accesses.{Accesses}
 use Rattle.m88_isa.specs.declared.planned.Effect.{Effect}
 use Rattle.m88_isa.specs.declared.planned.Plan.{Plan}
 use Rattle.m88_isa.specs.declared.planned.Plan.TheVariants.{Go}
-use Rattle.m88_isa.specs.declared.planned.Step.{Step}
+use Rattle.m88_isa.specs.declared.planned.Outline.{Outline}
 use Rattle.m88_board.specs.Board.{BoardView, completed_of, local_of}
 
 -- what an instruction means at a state
@@ -56,9 +56,9 @@ StoreOnOnePage a =
 abbrev pub PlansOnePage : Plan → Type 0
 PlansOnePage plan = IfGo plan (λ changes. StoreOnOnePage changes.accesses)
 
--- the plan of which a step is told in brief, by what the parts of a board show
-abbrev pub planned_by : Step → BoardView → Plan
-planned_by step b = plan_of_step step b.file.numbers (carry_of b.control) b.slots.fip.addr
+-- the plan that an outline stands for, by what the parts of a board show
+abbrev pub planned_by : Outline → BoardView → Plan
+planned_by outline b = plan_of_outline outline b.file.numbers (carry_of b.control) b.slots.fip.addr
 
 -- what an instruction that goes on does on a board, where no register that it uses or writes waits
 pub record IsPlanned (i : Instr) (effect : Effect) (b : BoardView) : Type 0 where

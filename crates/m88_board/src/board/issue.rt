@@ -30,7 +30,7 @@ use m88_base::{NoMemory, Reg};
 use m88_codec::decode;
 use m88_event::Why;
 use m88_isa::{
-    Effect, INSTRUCTION_ACCESS, Instr, Plan, Step, UNIMPLEMENTED, accesses_at, no_accesses, step,
+    Effect, INSTRUCTION_ACCESS, Instr, Outline, Plan, UNIMPLEMENTED, accesses_at, no_accesses, outline,
     uses, waits_for_empty, writes,
 };
 use m88_mem::Line;
@@ -178,17 +178,17 @@ impl Board {
         ensures made { MakesWordAccesses told.old → MakesWordAccesses told.new }
         ensures err { OnErr result (IsUnmoved self.old self.new) }
     {
-        match self.step_next(instr) {
-            Step::Next { reg, carry } => {
+        match self.outline_next(instr) {
+            Outline::Next { reg, carry } => {
                 let next = self.iunit.following().addr;
                 let after = (next, next.wrapping_add(4));
                 Ok(self.issue_alone(instr, effect_alone(reg, carry, after, false), told))
             }
-            Step::Flow { reg, after, bubble } => {
+            Outline::Flow { reg, after, bubble } => {
                 let carry = self.ctrl.carry();
                 Ok(self.issue_alone(instr, effect_alone(reg, carry, after, bubble), told))
             }
-            Step::Access { op, d, place } => {
+            Outline::Memory { op, d, place } => {
                 let next = self.iunit.following().addr;
                 let effect = Effect {
                     reg: None,
@@ -199,8 +199,8 @@ impl Board {
                 };
                 self.issue_accesses(instr, effect, told)
             }
-            Step::Raise(vector) => Ok(self.raise(vector)),
-            Step::Trap(vector) => {
+            Outline::Raise(vector) => Ok(self.raise(vector)),
+            Outline::Trap(vector) => {
                 if self.is_pending() {
                     return Ok(Brief::Stalled(Why::Sync));
                 }
@@ -279,7 +279,7 @@ impl Board {
 
     /// What the next instruction does, where no register that it uses or writes waits.
     #[inline(always)]
-    fn step_next(&self, instr: &Instr) -> Step
+    fn outline_next(&self, instr: &Instr) -> Outline
         requires instr { IsValid instr.now }
         requires valid { self.now.slots.nip.v ≡ true }
         requires free { busy_register (Some instr.now) self.now.pending ≡ None }
@@ -292,7 +292,7 @@ impl Board {
         ensures flow { FlowsToWords (planned_by result self.now) }
         ensures pages { PlansOnePage (planned_by result self.now) }
     {
-        step(
+        outline(
             instr,
             self.regs.numbers(),
             self.ctrl.carry(),

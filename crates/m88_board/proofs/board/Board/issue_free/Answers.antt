@@ -1,4 +1,4 @@
--- What the step of the instruction tells is carried out, or it waits.
+-- What the outline of the instruction tells is carried out, or it waits.
 use Rattle.std.proofs.Common.{◌∙◌, None, Some, ap, false, sym}
 use Rattle.std.proofs.lemmas.Result.{IfOk-weaker}
 use Rattle.m88_base.specs.declared.slot.Slot.{Slot}
@@ -9,7 +9,7 @@ use Rattle.m88_isa.specs.Held.{sync}
 use Rattle.m88_isa.specs.Machine.{by_vector, trapped}
 use Rattle.m88_isa.specs.declared.planned.Accesses.{Accesses}
 use Rattle.m88_isa.specs.declared.planned.Plan.TheVariants.{Go}
-use Rattle.m88_isa.specs.declared.planned.Step.TheVariants.{Access}
+use Rattle.m88_isa.specs.declared.planned.Outline.TheVariants.{Memory}
 use Rattle.m88_board.proofs.Choosing.{did_by}
 use Rattle.m88_board.proofs.Issuing.{held_still, nothing_pending, raise_is, raising, shown_by, trap_held, trap_is, trap_turn}
 use Rattle.m88_board.proofs.Planned.{planned_from}
@@ -93,11 +93,11 @@ returns-then-is_pending-clause-told c = λ change issued.
 pub issue_accesses-requires-clause-planned : goal.issue_accesses-requires-clause-planned
 issue_accesses-requires-clause-planned c =
     let b = c.args.self.now in
-    let access = Access c.in-Access.op c.in-Access.d c.in-Access.place in
-    let next = c.following-next-in-Access.result.addr in
-    planned_from c.args.instr.now _ b (planned_by access b)
-    (shown_by access (the_view c.self.inside) b c.numbers.result.now c.carry.result next c.self.view_is c.numbers.ensures
-    c.carry.ensures (ap (λ (s : Slot). s.addr) c.following-next-in-Access.ensures.value)
+    let memory = Memory c.in-Memory.op c.in-Memory.d c.in-Memory.place in
+    let next = c.following-next-in-Memory.result.addr in
+    planned_from c.args.instr.now _ b (planned_by memory b)
+    (shown_by memory (the_view c.self.inside) b c.numbers.result.now c.carry.result next c.self.view_is c.numbers.ensures
+    c.carry.ensures (ap (λ (s : Slot). s.addr) c.following-next-in-Memory.ensures.value)
     ∙ ap (λ (a : Accesses). Go (record {
       reg = None;
       carry = c.carry.result;
@@ -105,5 +105,5 @@ issue_accesses-requires-clause-planned c =
       after = (next, after_bytes next 4);
       bubble = false;
     })) (sym c.accesses_at.ensures))
-    c.requires.instr c.requires.free c.in-Access.ensures.value c.in-Access.ensures.accesses c.in-Access.ensures.register
-    c.in-Access.ensures.flow c.in-Access.ensures.pages
+    c.requires.instr c.requires.free c.in-Memory.ensures.value c.in-Memory.ensures.accesses c.in-Memory.ensures.register
+    c.in-Memory.ensures.flow c.in-Memory.ensures.pages

@@ -1,10 +1,10 @@
--- The step is that of the definition, of which the law on every form speaks.
+-- The outline is that of the definition, of which the law on every form speaks.
 use Rattle.std.proofs.Common.{subst, sym}
 use Rattle.m88_isa.specs.Effect.{FlowsToWords, MakesAccesses, RaisesListed, TrapsForUser, WritesWithin, effect, inputs_of}
 use Rattle.m88_isa.specs.Operands.{access_count_of, writes_of}
 use Rattle.m88_isa.proofs.Flows.{effect_flows}
 use Rattle.m88_isa.proofs.Plans.{effect_lawful, made_of, raised_of, trapped_of, within_of}
-use Rattle.m88_isa.proofs.effect.step.Goals as goal
+use Rattle.m88_isa.proofs.effect.outline.Goals as goal
 
 pub returns-clause-accesses : goal.returns-clause-accesses
 returns-clause-accesses c =
