@@ -31,7 +31,7 @@ pub use effect::{outline, plan};
 pub use instr::{BitOp, ImmOp, Instr, LdaSize, MemOp, RegOp, is_valid};
 pub use lanes::{datum, merge};
 pub use memory::{accesses_at, no_accesses};
-pub use mnemonic::{MNEMONICS, Mnemonic};
+pub use mnemonic::Mnemonic;
 pub use monitor::{
     EXIT_SERVICE, MONITOR_TRAP, OUTPUT_REGISTER, PUT_SERVICE, SERVICE_REGISTER, Service,
 };
