@@ -11,8 +11,6 @@ mod growing;
 // The objects and the image of a unit.
 mod image;
 mod objects;
-#[cfg(test)]
-mod tests;
 
 pub use fault::{AsmFault, AsmKind, UnitFault};
 pub use image::image_of;

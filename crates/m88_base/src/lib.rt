@@ -36,8 +36,6 @@ mod blocks;
 mod image;
 mod segment;
 mod segments;
-#[cfg(test)]
-mod tests;
 
 pub use absent::{Absent, PAGE_BYTES, PAGE_COUNT};
 pub use cut::split_at_byte;

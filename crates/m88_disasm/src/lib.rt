@@ -6,8 +6,6 @@
 mod lister;
 mod mnemonics;
 mod put;
-#[cfg(test)]
-mod tests;
 mod text;
 
 pub use lister::listing;

@@ -17,16 +17,12 @@ mod overlap;
 mod patch;
 mod placing;
 mod resolve;
-#[cfg(test)]
-mod tests;
 
 // Object texts, written and read.
 mod object_draft;
 mod object_lines;
 mod progress;
 mod read;
-#[cfg(test)]
-mod read_tests;
 mod row;
 mod row_text;
 mod text;

@@ -1,10 +1,32 @@
-//! Listings computed by hand, one for each kind of statement and of refusal.
+//! What no clause says of listings, and of the calls of the tool chain that they are made of. Here stand listings
+//! computed by hand, one for each kind of statement and of refusal; each other file has a subject of its own.
 
 use m88_base::{MemSink, MemSource};
 use m88_listing::{ListStatus, m88list};
 use std::alloc::Global;
 use std::process::Abort;
 use std::test::Fail;
+
+// inputs, outputs, texts and images
+mod blocks;
+mod streams;
+mod texts;
+
+// the assembly language
+mod mnemonics;
+mod statements;
+mod syntax;
+mod tokens;
+
+// objects and images of sources
+mod assembling;
+mod linking;
+mod object_texts;
+
+// S-records and the disassembler
+mod disassembly;
+mod loading;
+mod srecords;
 
 /// A call number that is never reached.
 const NEVER: u32 = 4_000_000_000;

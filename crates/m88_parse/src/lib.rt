@@ -33,12 +33,3 @@ pub use lexemes::tokens;
 pub use source::parse;
 pub use token::{Token, TokenKind};
 pub use unit::{Body, Module, Statement, Unit, Value};
-
-#[cfg(test)]
-mod code_tests;
-#[cfg(test)]
-mod fault_tests;
-#[cfg(test)]
-mod token_tests;
-#[cfg(test)]
-mod unit_tests;

@@ -23,12 +23,6 @@ mod stream;
 mod frame;
 mod writer;
 
-// Values from outside.
-#[cfg(test)]
-mod stream_tests;
-#[cfg(test)]
-mod tests;
-
 pub use fault::{SrecFault, SrecKind};
 pub use load_end::LoadEnd;
 pub use loader::Loader;

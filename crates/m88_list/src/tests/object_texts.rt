@@ -1,12 +1,8 @@
-//! Object texts read: a worked one that this crate didn't make, and lines at which texts are refused.
+//! The calls that read and write object texts: a worked one that the linker didn't make, and lines at which texts are
+//! refused.
 
-ghost use Rattle.std.specs.Prelude.{All};
-ghost use Rattle.m88_link.specs.Sound.{IsSound};
-
-use super::*;
-use m88_base::Image;
-use std::alloc::Global;
-use std::process::Abort;
+use crate::tests::linking::linked;
+use m88_link::{ObjectFault, object_text, read_objects};
 use std::test::Fail;
 
 /// A `br.n` to itself, a load of the lower half of the address of `x`, and `x` in data.
@@ -20,16 +16,6 @@ symbol x l 1 00000000 4 1\n\
 reloc pc26 0 00000000 _start 00000000 1 14\n\
 reloc lo16 0 00000004 x 00000000 2 23\n\
 end\n";
-
-/// The image of objects that are sound and not refused.
-fn linked(rt: &impl Abort, alloc: Global, objects: &[Object]) -> Image
-    requires { All IsSound objects.now }
-{
-    match link(alloc, objects) {
-        Ok(image) => image,
-        Err(_) => panic!(rt; "refused"),
-    }
-}
 
 #[test]
 fn a_text_is_read_written_and_linked(rt: HostRuntime) -> Result<(), Fail> {

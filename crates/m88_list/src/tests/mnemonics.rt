@@ -1,9 +1,10 @@
-//! Each mnemonic, form of operands and name of a bit or a condition with its instruction, from outside.
+//! Each mnemonic, form of operands and name of a bit or a condition with the instruction that it is parsed into, from
+//! outside.
 
-use super::unit_tests::last;
-use super::*;
+use crate::tests::statements::last;
 use m88_base::Reg;
 use m88_isa::{BitOp, ImmOp, Instr, LdaSize, MemOp, RegOp};
+use m88_parse::Body;
 use std::alloc::Global;
 use std::process::Abort;
 

@@ -1,4 +1,4 @@
-//! What no clause says: that a listing succeeds, and texts that weren't made by this crate.
+//! The disassembler's calls over words and images, with texts from outside, which are assembled again.
 
 ghost use Rattle.std.specs.Prelude.{◌<◌, ◌^◌, length};
 
@@ -7,12 +7,13 @@ mod flow;
 mod memory;
 mod no_instruction;
 
-use super::{listing, text_of};
+use crate::tests::srecords::PROGRAM;
 use computing::COMPUTING;
 use flow::FLOW;
 use m88_asm::{AsmKind, UnitFault, image_of};
 use m88_base::{FIRST_TEXT, Image};
 use m88_codec::decode;
+use m88_disasm::{listing, text_of};
 use m88_parse::parse;
 use memory::MEMORY;
 use no_instruction::NO_INSTRUCTION;
@@ -115,9 +116,6 @@ fn words_and_their_texts(rt: HostRuntime) -> Result<(), Fail> {
     assert_eq!(rt; wanted.words.len(), 4 * (871 + 399));
     both_ways(&rt, alloc, &wanted)
 }
-
-/// Two instructions at the default start.
-const PROGRAM: [u8; 8] = [0x58, 0x40, 0x00, 0x41, 0xF0, 0x00, 0xD1, 0xF0];
 
 const PROGRAM_LISTING: &[u8] =
     b".set _start,0x00001000\n.at 0x00001000\nor r2,r0,65\ntb0 0,r0,496\n";

@@ -1,7 +1,7 @@
 -- The pieces so far and those that are left are the text.
 use Rattle.std.proofs.Common.{◌≡◌, ◌+◌, ◌++◌, List, ℕ, length}
 use Rattle.m88_srec.specs.Fed.{IsFed}
-use Rattle.m88_srec.proofs.stream_tests.read_in_pieces.Given as goal
+use Rattle.m88_list.proofs.tests.loading.read_in_pieces.Given as goal
 
 abbrev pub invariant-loop-rest : goal.invariant-loop-rest
 invariant-loop-rest l = record {

@@ -1,8 +1,10 @@
-//! What sources stand for beside instructions, from outside: values, places, labels, directives, modules.
+//! The units that sources are parsed into, beside instructions, from outside: values, places, labels, directives,
+//! modules.
+
 ghost use Rattle.std.specs.Prelude.{◌<◌, ◌^◌, length};
 
-use super::*;
 use m88_base::{Fixup, Kind};
+use m88_parse::{Body, ParseFault, ParseKind, Statement, Value, parse};
 use std::alloc::Global;
 use std::test::Fail;
 

@@ -1,17 +1,16 @@
-//! What no clause says of texts that come in pieces: that they are read, worked texts whose images and faults weren't
-//! made by this crate, and what comes of each end of a source.
+//! The calls that load S-record texts in pieces: worked ones whose images and faults weren't made here, and what
+//! comes of each end of a source.
+
 ghost use Rattle.std.specs.Prelude.{◌≡◌, ◌<◌, ◌^◌, length};
 ghost use Rattle.m88_srec.specs.Accepted.{whole_of};
 ghost use Rattle.m88_srec.specs.GivesVerdict.{GivesVerdict};
 ghost use Rattle.m88_srec.specs.Verdict.{verdict};
 
-use super::*;
+use crate::tests::srecords::PROGRAM;
 use m88_base::{Image, MemSource};
+use m88_srec::{LoadEnd, Loader, SrecFault, SrecKind, read_image};
 use std::alloc::Global;
 use std::test::Fail;
-
-/// Two instructions at the default start.
-const PROGRAM: [u8; 8] = [0x58, 0x40, 0x00, 0x41, 0xF0, 0x00, 0xD1, 0xF0];
 
 const SUM: SrecFault = SrecFault {
     line: 3,

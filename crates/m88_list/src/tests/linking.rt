@@ -1,10 +1,13 @@
-//! Worked examples of linking: images, texts and refusals as they are told elsewhere, and objects
-//! that aren't sound.
+//! The linker's calls over objects made here: images, texts and refusals as they are told elsewhere, and objects that
+//! aren't sound.
+
 ghost use Rattle.std.specs.Prelude.{◌↔◌, All, IsTrue};
 ghost use Rattle.m88_link.specs.Sound.{IsSound};
 
-use super::*;
 use m88_base::{Image, Kind, Listed, Name};
+use m88_link::{
+    LinkFault, LinkKind, Object, Place, Reloc, Section, Symbol, is_sound, link, object_text,
+};
 use std::alloc::Global;
 use std::process::Abort;
 use std::test::Fail;
@@ -79,7 +82,7 @@ fn are_sound(objects: &[Object]) -> bool
 }
 
 /// The image of objects that are sound and not refused.
-fn linked(rt: &impl Abort, alloc: Global, objects: &[Object]) -> Image {
+pub fn linked(rt: &impl Abort, alloc: Global, objects: &[Object]) -> Image {
     assert!(rt; are_sound(objects));
     match link(alloc, objects) {
         Ok(image) => image,

@@ -1,6 +1,6 @@
-//! Tokens of a line, and places that can't be cut, from outside.
+//! The call that cuts a line into tokens: tokens of each kind, and places that can't be cut, from outside.
 
-use super::*;
+use m88_parse::{ParseFault, ParseKind, TokenKind, tokens};
 use std::test::Fail;
 
 #[test]

@@ -1,7 +1,7 @@
 -- One piece more.
 use Rattle.std.proofs.Common.{◌≡◌, ◌++◌, ℕ, List, length, take, ap, ◌∙◌, append_assoc, arith, length-append}
 use Rattle.std.proofs.lemmas.List.{take-append-drop}
-use Rattle.m88_srec.proofs.stream_tests.read_in_pieces.Goals as goal
+use Rattle.m88_list.proofs.tests.loading.read_in_pieces.Goals as goal
 
 pub loop-rest-preserved : goal.loop-rest-preserved
 loop-rest-preserved c =
