@@ -30,8 +30,8 @@ use m88_base::{NoMemory, Reg};
 use m88_codec::decode;
 use m88_event::Why;
 use m88_isa::{
-    Effect, INSTRUCTION_ACCESS, Instr, Outline, Plan, UNIMPLEMENTED, accesses_at, no_accesses, outline,
-    uses, waits_for_empty, writes,
+    Effect, INSTRUCTION_ACCESS, Instr, Outline, Plan, UNIMPLEMENTED, accesses_at, no_accesses,
+    outline, uses, waits_for_empty, writes,
 };
 use m88_mem::Line;
 

@@ -1,4 +1,5 @@
-//! Programs that share a board: their reports, the switches between them, and what is refused.
+//! What `share` reports of programs that share a board: what they come to, the switches between them, and what is
+//! refused.
 
 use crate::tests::{Part, Refusal, Row, expect_done, expect_parts, expect_refused, expect_usage};
 use std::test::Fail;
