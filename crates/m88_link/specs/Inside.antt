@@ -4,6 +4,7 @@ pub mod Sizes
 pub mod Overlap
 pub mod Exports
 pub mod Resolved
+pub mod Lent
 pub mod Carried
 pub mod Rows
 pub mod Drafts

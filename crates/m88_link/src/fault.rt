@@ -80,7 +80,7 @@ pub const TOO_LARGE: LinkFault = LinkFault {
 };
 
 /// Memory ran out.
-const OUT_OF_MEMORY: LinkFault = LinkFault {
+pub const OUT_OF_MEMORY: LinkFault = LinkFault {
     line: 0,
     col: 0,
     kind: LinkKind::Memory,

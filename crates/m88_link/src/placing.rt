@@ -1,5 +1,5 @@
 //! The bytes of sections with their relocations carried out, and the image of them.
-ghost use Rattle.std.specs.Prelude.{◌≡◌, ◌⊎◌, ℕ, [], ◌+◌, ◌^◌, ◌≤◌, All, IfErr, IfOk, None, OnOk, Some, flat_map, length, map};
+ghost use Rattle.std.specs.Prelude.{◌≡◌, ◌⊎◌, ℕ, [], ◌+◌, ◌^◌, ◌≤◌, All, IfErr, IfOk, None, OnErr, OnOk, Some, flat_map, length, map};
 ghost use Rattle.std.specs.Option.{option_or};
 ghost use Rattle.m88_base.specs.Found.{IsFree, PutsBytes};
 ghost use Rattle.m88_base.specs.Image.{byte_at, byte_count};
@@ -7,6 +7,7 @@ ghost use Rattle.m88_base.specs.Placed.{byte_among, count_among};
 ghost use Rattle.m88_link.specs.Bases.{base_at};
 ghost use Rattle.m88_link.specs.Inside.Carried.{AreAlone, HasWord, unpatched, carried, patched_spot};
 ghost use Rattle.m88_link.specs.Faults.{memory_fault};
+ghost use Rattle.m88_link.specs.Inside.Lent.{bytes_in};
 ghost use Rattle.m88_link.specs.Inside.Resolved.{Checks};
 ghost use Rattle.m88_link.specs.Layout.{references_of, spots_of, value_of_name};
 ghost use Rattle.m88_link.specs.Refusal.{too_far, undefined};
@@ -15,7 +16,7 @@ ghost use Rattle.m88_link.specs.Sound.{IsPatchIn};
 ghost use Rattle.m88_base.specs.Image.{most_bytes};
 
 use crate::bases::Placement;
-use crate::fault::LinkFault;
+use crate::fault::{LinkFault, OUT_OF_MEMORY};
 use crate::object::{Reloc, Section};
 use crate::patch::patch;
 use crate::resolve::{checked_target, own_symbols};
@@ -24,25 +25,39 @@ use m88_base::{Image, ImageFault};
 use std::alloc::{AllocError, Global};
 use std::marker::Model;
 
-/// Bytes at consecutive addresses, none past 0xFFFFFFFF.
+/// Bytes at consecutive addresses, none past 0xFFFFFFFF: those that an object has, or a copy of them where words were
+/// patched.
 #[derive(Drop)]
-pub struct Spot {
+pub struct Spot<'a> {
     at: u32,
-    bytes: Vec<u8>,
+    own: Vec<u8>,
+    lent: &'a [u8],
 }
 
-impl Model for Spot {
-    ghost use Rattle.std.specs.Prelude.{◌+◌, ◌^◌, ◌≤◌, vec_len};
+impl<'a> Model for Spot<'a> {
+    ghost use Rattle.std.specs.Prelude.{◌+◌, ◌^◌, ◌≤◌, length};
     ghost use Rattle.m88_base.specs.Placed.{Placed};
+    ghost use Rattle.m88_link.specs.Inside.Lent.{bytes_in};
 
     ghost Value = { Placed };
 
-    ghost view = { λ spot. record { at = spot.at; bytes = spot.bytes.items } };
+    ghost view = { λ spot. record { at = spot.at; bytes = bytes_in spot.own.items spot.lent.now } };
 
-    ghost invariant = { λ spot. spot.at + vec_len spot.bytes ≤ 2 ^ 32 };
+    ghost invariant = { λ spot. spot.at + length (bytes_in spot.own.items spot.lent.now) ≤ 2 ^ 32 };
 }
 
-impl Spot {
+/// Copies bytes that are lent, where there are none of one's own yet.
+fn copied(alloc: Global, own: &mut Vec<u8>, lent: &[u8]) -> Result<(), AllocError>
+    ensures ok { OnOk result (own.new.items ≡ bytes_in own.old.items lent.now) }
+    ensures err { OnErr result (own.new.items ≡ own.old.items) }
+{
+    if own.is_empty() {
+        *own = Vec::from_slice(alloc, lent)?;
+    }
+    Ok(())
+}
+
+impl Spot<'_> {
     /// The address of the first byte.
     fn at(&self) -> u32
         ensures { result ≡ self.now.at }
@@ -55,33 +70,39 @@ impl Spot {
         ensures value { result.now ≡ self.now.bytes }
         ensures fit { self.now.at + length self.now.bytes ≤ 2 ^ 32 }
     {
-        self.bytes.as_slice()
+        if self.own.is_empty() {
+            self.lent
+        } else {
+            self.own.as_slice()
+        }
     }
 
     /// Patches the word of a relocation for a target.
-    #[tactic(auto, using(crate::proofs::Carried::patched_length))]
-    fn patch(&mut self, reloc: &Reloc, target: u32)
+    #[tactic(auto, using(crate::proofs::Carried::patched_length, crate::proofs::Carried::own_bytes))]
+    fn patch(&mut self, alloc: Global, reloc: &Reloc, target: u32) -> Result<(), AllocError>
         requires { reloc.now.offset + 4 ≤ length self.old.bytes }
-        ensures { self.new ≡ patched_spot reloc.now target self.old }
+        ensures { OnOk result (self.new ≡ patched_spot reloc.now target self.old) }
     {
+        copied(alloc, &mut self.own, self.lent)?;
         let at = self.at + reloc.offset;
         patch(
-            self.bytes.as_mut_slice(),
+            self.own.as_mut_slice(),
             reloc.offset as usize,
             reloc.kind,
             target,
             at,
         );
+        Ok(())
     }
 }
 
 /// The bytes of the sections of all objects, in order, with their relocations carried out; or the first
 /// name that means nothing, or else the first displacement that doesn't fit its field.
-pub fn spots(
+pub fn spots<'a>(
     alloc: Global,
-    placements: &[Placement],
+    placements: &'a [Placement<'_>],
     globals: &SymbolTable,
-) -> Result<Vec<Spot>, LinkFault>
+) -> Result<Vec<Spot<'a>>, LinkFault>
     ensures spots { IfOk result (λ spots. spots.items
         ≡ flat_map (spots_of globals.now) placements.now) }
     ensures ok { OnOk result
@@ -105,12 +126,12 @@ pub fn spots(
 
 /// The bytes of the sections of an object with its relocations carried out; refuses the first of them
 /// whose symbol means nothing, and keeps the first that is too far.
-fn object_spots(
+fn object_spots<'a>(
     alloc: Global,
     far: &mut Option<LinkFault>,
-    placement: &Placement,
+    placement: &'a Placement<'_>,
     globals: &SymbolTable,
-) -> Result<Vec<Spot>, LinkFault>
+) -> Result<Vec<Spot<'a>>, LinkFault>
     ensures spots { IfOk result (λ spots. spots.items ≡ spots_of globals.now placement.now) }
     ensures checks { Checks globals.now placement.now placement.now.part.relocs
         far.old far.new result }
@@ -118,6 +139,7 @@ fn object_spots(
     let mut spots = bare_spots(alloc, placement, placement.sections())?;
     let own = own_symbols(alloc, placement.symbols())?;
     match carry_out(
+        alloc,
         &mut spots,
         far,
         globals,
@@ -131,19 +153,20 @@ fn object_spots(
 }
 
 /// The bytes of sections of an object as the object has them.
-fn bare_spots(
+fn bare_spots<'a>(
     alloc: Global,
-    placement: &Placement,
-    sections: &[Section],
-) -> Result<Vec<Spot>, AllocError>
+    placement: &Placement<'_>,
+    sections: &'a [Section],
+) -> Result<Vec<Spot<'a>>, AllocError>
     requires { All (λ x. base_at placement.now x.place + length x.bytes ≤ 2 ^ 32) sections.now }
     ensures { IfOk result (λ spots. spots.items ≡ map (unpatched placement.now) sections.now) }
 {
-    let mut spots = Vec::new(alloc);
+    let mut spots = Vec::with_capacity(alloc, sections.len())?;
     for section in sections {
         spots.push(Spot {
             at: placement.base_at(section.place),
-            bytes: Vec::from_slice(alloc, section.bytes.as_slice())?,
+            own: Vec::new(alloc),
+            lent: section.bytes.as_slice(),
         })?;
     }
     Ok(spots)
@@ -152,7 +175,8 @@ fn bare_spots(
 /// Carries out relocations of an object on its sections; refuses the first whose symbol means nothing,
 /// and keeps the first that is too far.
 fn carry_out(
-    spots: &mut Vec<Spot>,
+    alloc: Global,
+    spots: &mut Vec<Spot<'_>>,
     far: &mut Option<LinkFault>,
     globals: &SymbolTable,
     placement: &Placement,
@@ -172,7 +196,10 @@ fn carry_out(
         match checked_target(far, globals, placement, own, reloc) {
             Ok(target) => {
                 let spot = &mut spots[reloc.section as usize];
-                spot.patch(reloc, target);
+                match spot.patch(alloc, reloc, target) {
+                    Ok(()) => {}
+                    Err(_) => return Err(OUT_OF_MEMORY),
+                }
             }
             Err(fault) => return Err(fault),
         }
@@ -181,11 +208,12 @@ fn carry_out(
 }
 
 /// The image of sections, no two of which have one address.
-pub fn image_of(alloc: Global, mut spots: Vec<Spot>) -> Result<Image, AllocError>
+pub fn image_of(alloc: Global, mut spots: Vec<Spot<'_>>) -> Result<Image, AllocError>
     requires alone { AreAlone spots.items }
     requires fit { count_among spots.items ≤ most_bytes }
-    ensures bytes { IfOk result (λ image. (a : ℕ) → byte_at image a ≡ byte_among spots.items a) }
-    ensures count { IfOk result (λ image. byte_count image ≡ count_among spots.items) }
+    ensures bytes { IfOk result (λ image. (a : ℕ)
+        → byte_at image a ≡ byte_among spots.entry.items a) }
+    ensures count { IfOk result (λ image. byte_count image ≡ count_among spots.entry.items) }
 {
     spots.sort_unstable_by_key(|spot| spot.at());
     let mut image = Image::new(alloc);
@@ -194,7 +222,7 @@ pub fn image_of(alloc: Global, mut spots: Vec<Spot>) -> Result<Image, AllocError
 }
 
 /// Puts the bytes of sections, no two of which have one address, into an empty image.
-fn put(image: &mut Image, spots: &[Spot]) -> Result<(), AllocError>
+fn put(image: &mut Image, spots: &[Spot<'_>]) -> Result<(), AllocError>
     requires empty { (a : ℕ) → byte_at image.old a ≡ byte_among [] a }
     requires none { byte_count image.old ≡ 0 }
     requires alone { AreAlone spots.now }
@@ -210,7 +238,7 @@ fn put(image: &mut Image, spots: &[Spot]) -> Result<(), AllocError>
 }
 
 /// Puts the bytes of a section into an image that has room for them and none at their addresses.
-fn put_one(image: &mut Image, spot: &Spot) -> Result<(), AllocError>
+fn put_one(image: &mut Image, spot: &Spot<'_>) -> Result<(), AllocError>
     requires room { byte_count image.old + length spot.now.bytes ≤ most_bytes }
     requires free { IsFree (byte_at image.old) spot.now.at (length spot.now.bytes) }
     ensures bytes { OnOk result
