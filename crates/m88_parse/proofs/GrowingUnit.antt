@@ -1,6 +1,6 @@
 -- The modules of a source as they grow, row by row.
-use Rattle.std.proofs.Common.{◌≡◌, ℕ, ◌+◌, ◌⊎◌, inl, inr, List, [], ◌∷◌, ◌++◌, length, Option, Some, None, Result, Ok, Err, refl, sym, ap, ◌∙◌, append_assoc, arith}
-use Rattle.std.specs.Prelude.{IfOk, IfErr, MatchResult}
+use Rattle.std.proofs.Common.{◌≡◌, ℕ, zero, suc, false, ◌+◌, ◌<◌, ◌⊎◌, inl, inr, List, [], ◌∷◌, ◌++◌, length, Option, Some, None, Result, Ok, Err, refl, sym, ap, ◌∙◌, append_assoc, arith}
+use Rattle.std.specs.Prelude.{◌==◌, IfOk, IfErr, OnOk, MatchResult}
 use Rattle.std.proofs.lemmas.List.{append-nil}
 use Rattle.m88_parse.specs.declared.fault.ParseFault.{ParseFault}
 use Rattle.m88_parse.specs.declared.unit.Statement.{Statement}
@@ -9,10 +9,12 @@ use Rattle.m88_parse.specs.declared.unit.Unit.{Unit as Source}
 use Rattle.m88_parse.specs.declared.row.Row.{Row}
 use Rattle.m88_parse.specs.declared.row.Row.TheVariants as row
 use Rattle.m88_parse.specs.Fault.{out_of_memory}
-use Rattle.m88_parse.specs.Inside.State.{◌>>=◌}
+use Rattle.m88_parse.specs.Language.Pieces.{Piece}
+use Rattle.m88_parse.specs.Inside.Tokens.{pieces_of}
+use Rattle.m88_parse.specs.Inside.State.{ReaderState, ◌>>=◌}
 use Rattle.m88_base.specs.Lines.{lines_of}
-use Rattle.m88_parse.specs.Inside.Source.{grouped, row_of_line, rows_of, with_row, unit_of_rows, unit_of}
-use Rattle.m88_parse.specs.Inside.Drafts.{Drafted, nothing_yet, with_more, modules_with, modules_after, begun, leads, Follows, LeadsOn, EndsWith}
+use Rattle.m88_parse.specs.Inside.Source.{end_of_line, grouped, row_at, row_of_line, row_of_pieces, rows_of, with_row, unit_of_rows, unit_of}
+use Rattle.m88_parse.specs.Inside.Drafts.{Drafted, nothing_yet, with_more, modules_with, modules_after, begun, leads, Follows, GoesOn, LeadsOn, EndsWith}
 
 more_first : (closed : List Module) (m : Module) (x : Statement) (g : List Statement) (ms : List Module)
     → closed ++ with_more (with_more m (x ∷ [])) g ∷ ms ≡ closed ++ with_more m (x ∷ g) ∷ ms
@@ -101,14 +103,39 @@ unfolding rows_of lines_of
 ends_all number [] d total h so_far = sym so_far
 ends_all number (b ∷ bs) d total h so_far = absurd (omega arith)
 
--- a line by its row
-pub line_fault : (number : ℕ) (line : List ℕ) (before : Drafted) (f : ParseFault)
-    → (f ≡ out_of_memory) ⊎ (row_of_line number line ≡ Err f) → (f ≡ out_of_memory) ⊎ EndsWith number line before f
-line_fault number line before f (inl e) = inl e
-line_fault number line before f (inr e) = inr (line_ends_with number line before f e)
+-- a line that can't be cut
+pub uncut_line : (number : ℕ) (line : List ℕ) (before : Drafted) (f : ParseFault)
+    → (f ≡ out_of_memory) ⊎ (pieces_of number line ≡ Err f) → (f ≡ out_of_memory) ⊎ EndsWith number line before f
+unfolding row_of_line
+uncut_line number line before f (inl e) = inl e
+uncut_line number line before f (inr e) = inr (line_ends_with number line before f (ap (λ r. r >>= λ ps. row_of_pieces number ps) e))
 
-pub line_added : {X : Type 0} (r : Result X ParseFault) (number : ℕ) (line : List ℕ) (after before : Drafted) (x : Row)
-    → row_of_line number line ≡ Ok (Some x) → IfOk r (λ y. Follows after before (Some x)) → IfErr r (λ e. e ≡ out_of_memory)
+-- a line without tokens
+pub no_tokens : (number : ℕ) (line : List ℕ) (d : Drafted) (ps : List Piece) → pieces_of number line ≡ Ok ps → length ps ≡ 0 → LeadsOn number line d d
+unfolding row_of_line
+no_tokens number line d [] e h = line_leads_on number line d d None (ap (λ r. r >>= λ ps. row_of_pieces number ps) e) (λ rows. refl)
+no_tokens number line d (p ∷ ps) e h = absurd (omega arith)
+
+by_reading : {X : Type 0} (r : Result X ParseFault) (number : ℕ) (line : List ℕ) (after before : Drafted) (read : Result Row ParseFault)
+    → row_of_line number line ≡ (read >>= λ x. Ok (Some x)) → OnOk r (GoesOn after before read) → IfErr r (λ e. (e ≡ out_of_memory) ⊎ (read ≡ Err e))
     → MatchResult r (λ y. LeadsOn number line after before) (λ e. (e ≡ out_of_memory) ⊎ EndsWith number line before e)
-line_added (Ok y) number line after before x e h k = line_leads_on number line after before (Some x) e h
-line_added (Err f) number line after before x e h k = inl k
+by_reading (Ok y) number line after before (Ok x) e h k = line_leads_on number line after before (Some x) e h
+by_reading (Ok y) number line after before (Err f) e h k = absurd h
+by_reading (Err f) number line after before read e h (inl k) = inl k
+by_reading (Err f) number line after before read e h (inr k) = inr (line_ends_with number line before f (e ∙ ap (λ x. x >>= λ y. Ok (Some y)) k))
+
+-- a number that the test for 0 does not take
+pub some_left : (n : ℕ) → (n == 0) ≡ false → 0 < n
+some_left zero h = absurd (cc)
+some_left (suc n) h = omega arith
+
+-- a line with tokens, by its row
+pub line_read : {X : Type 0} (r : Result X ParseFault) (number : ℕ) (line : List ℕ) (after before : Drafted) (ps : List Piece) (s : ReaderState)
+    → pieces_of number line ≡ Ok ps → 0 < length ps → s ≡ record { line = number; end_col = end_of_line ps; rest = ps }
+    → OnOk r (GoesOn after before (row_at s)) → IfErr r (λ e. (e ≡ out_of_memory) ⊎ (row_at s ≡ Err e))
+    → MatchResult r (λ y. LeadsOn number line after before) (λ e. (e ≡ out_of_memory) ⊎ EndsWith number line before e)
+unfolding row_of_line
+line_read r number line after before [] s e some at h k = absurd (omega arith)
+line_read r number line after before (p ∷ ps) s e some at h k =
+    by_reading r number line after before (row_at s)
+    (ap (λ x. x >>= λ qs. row_of_pieces number qs) e ∙ ap (λ t. row_at t >>= λ x. Ok (Some x)) (sym at)) h k

@@ -18,17 +18,17 @@ pub(crate) enum Directive {
     Set,
 }
 
-/// All directives.
+/// All directives, those first that stand on most lines.
 const DIRECTIVES: [Directive; 11] = [
-    Directive::Text,
-    Directive::Data,
-    Directive::At,
     Directive::Word,
-    Directive::Half,
     Directive::Byte,
+    Directive::At,
+    Directive::Half,
     Directive::Ascii,
     Directive::Zero,
     Directive::Align,
+    Directive::Text,
+    Directive::Data,
     Directive::Global,
     Directive::Set,
 ];

@@ -117,6 +117,8 @@ impl Draft {
     }
 
     /// One row more.
+    // Called, it would have each row made in one place and taken apart in another.
+    #[inline(always)]
     pub fn add(&mut self, alloc: Global, row: Row) -> Result<(), ParseFault>
         ensures after { IfOk result (λ _. Follows self.new self.old (Some row)) }
         ensures memory { IfErr result (λ e. e ≡ out_of_memory) }
@@ -128,6 +130,7 @@ impl Draft {
     }
 
     /// A statement more in the open module, or in the module main where none has begun.
+    #[inline(always)]
     fn push(&mut self, alloc: Global, statement: Statement) -> Result<(), ParseFault>
         ensures after { IfOk result (λ _. Follows self.new self.old
             (Some (row.Statement statement))) }

@@ -136,12 +136,15 @@ impl<'a> Parser<'a> {
         }
     }
 
-    /// What was read, where the line ends here.
+    /// Puts down what was read, where the line ends here.
+    // Called, it would have each body made in one place and copied to another.
+    #[inline(always)]
     #[tactic(auto, unfolding(crate::specs::Inside::Grammar::read))]
-    pub fn close(&mut self, body: Body) -> Result<Body, ParseFault>
-        ensures { Gives (λ b. b) result (read (ends body) self.old) }
+    pub fn close(&mut self, out: &mut Body, body: Body) -> Result<(), ParseFault>
+        ensures { Gives (λ _. out.new) result (read (ends body) self.old) }
     {
         self.end()?;
-        Ok(body)
+        *out = body;
+        Ok(())
     }
 }

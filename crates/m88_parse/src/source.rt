@@ -17,7 +17,6 @@ use crate::draft::Draft;
 use crate::fault::ParseFault;
 use crate::lexemes::cut_line;
 use crate::parser::Parser;
-use crate::row::Row;
 use crate::token::Lexeme;
 use crate::unit::Unit;
 use m88_base::{Listed, first_line};
@@ -33,27 +32,8 @@ fn end_of_line(lexemes: &[Lexeme<'_>]) -> u32
     last.col + last.text.len() as u32
 }
 
-/// What a line says, if it has a token. Its tokens stand in `lexemes`, whose room serves the next line.
+/// One line more in the draft. Its tokens stand in `lexemes`, whose room serves the next line.
 #[tactic(auto, unfolding(crate::specs::Inside::Source::row_of_line))]
-fn row_of<'a>(
-    lexemes: &mut Vec<Lexeme<'a>>,
-    alloc: Global,
-    line: &'a [u8],
-    number: u32,
-) -> Result<Option<Row>, ParseFault>
-    requires { length line.now < 2 ^ 31 }
-    ensures { Gives (λ r. r) result (row_of_line number line.now) }
-{
-    cut_line(lexemes, line, number)?;
-    if lexemes.is_empty() {
-        return Ok(None);
-    }
-    let end_col = end_of_line(lexemes);
-    let row = Parser::new(lexemes, number, end_col).row(alloc)?;
-    Ok(Some(row))
-}
-
-/// One line more in the draft.
 fn read_line<'a>(
     draft: &mut Draft,
     lexemes: &mut Vec<Lexeme<'a>>,
@@ -65,10 +45,12 @@ fn read_line<'a>(
     ensures { MatchResult result (λ _. LeadsOn number line.now draft.new draft.old)
         (λ e. (e ≡ out_of_memory) ⊎ EndsWith number line.now draft.old e) }
 {
-    match row_of(lexemes, alloc, line, number)? {
-        None => Ok(()),
-        Some(row) => draft.add(alloc, row),
+    cut_line(lexemes, line, number)?;
+    if lexemes.is_empty() {
+        return Ok(());
     }
+    let end_col = end_of_line(lexemes);
+    Parser::new(lexemes, number, end_col).row(alloc, draft)
 }
 
 /// The modules, line by line.

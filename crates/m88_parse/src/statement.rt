@@ -1,13 +1,15 @@
 //! Directives, operations, labels and heads of modules.
-ghost use Rattle.std.specs.Prelude.{◌≡◌};
+ghost use Rattle.std.specs.Prelude.{◌≡◌, ◌⊎◌, Err, IfErr, OnOk};
 ghost use Rattle.m88_isa.specs.Mnemonic.{mnemonic_of};
 ghost use Rattle.m88_parse.specs.declared.directive.Directive.TheVariants.{Set};
-ghost use Rattle.m88_parse.specs.Fault.{Gives};
+ghost use Rattle.m88_parse.specs.Fault.{Gives, out_of_memory};
+ghost use Rattle.m88_parse.specs.Inside.Drafts.{GoesOn};
 ghost use Rattle.m88_parse.specs.Inside.Grammar.{read, directive_form};
 ghost use Rattle.m88_parse.specs.Inside.Source.{operation_at, labelled_at, head_at, is_label_on, is_head_on, row_at};
 ghost use Rattle.m88_parse.specs.Inside.State.{first, second};
 
 use crate::directive::{Directive, directive_of};
+use crate::draft::Draft;
 use crate::fault::{ParseFault, ParseKind};
 use crate::names::is_module;
 use crate::parser::Parser;
@@ -36,40 +38,68 @@ fn mnemonic_of(name: &[u8]) -> Option<Mnemonic>
 impl<'a> Parser<'a> {
     /// .set: a symbol and its number.
     #[tactic(auto, unfolding(crate::specs::Inside::Grammar::read, crate::specs::Inside::Grammar::directive_form))]
-    fn set(&mut self) -> Result<Body, ParseFault>
-        ensures { Gives (λ b. b) result (read (directive_form Set) self.old) }
+    fn set(&mut self, out: &mut Body) -> Result<(), ParseFault>
+        ensures { Gives (λ _. out.new) result (read (directive_form Set) self.old) }
     {
         let (name, col) = self.symbol()?;
         self.mark(b',')?;
         let value = self.whole(1 << 31, ANY)?;
-        self.close(Body::Set { name, col, value })
+        self.close(out, Body::Set { name, col, value })
     }
 
     /// The operands of a directive, to the end of the line.
     #[tactic(auto, unfolding(crate::specs::Inside::Grammar::read, crate::specs::Inside::Grammar::directive_form))]
-    fn directive(&mut self, alloc: Global, directive: Directive) -> Result<Body, ParseFault>
-        ensures { Gives (λ b. b) result (read (directive_form directive) self.old) }
+    fn directive(
+        &mut self,
+        alloc: Global,
+        directive: Directive,
+        out: &mut Body,
+    ) -> Result<(), ParseFault>
+        ensures { Gives (λ _. out.new) result (read (directive_form directive) self.old) }
     {
-        let body = match directive {
-            Directive::Text => Body::Text,
-            Directive::Data => Body::DataSection,
-            Directive::At => Body::At(self.number(ANY)?),
-            Directive::Word => Body::Word(Listed::new(self.words_list(alloc)?)),
-            Directive::Half => Body::Half(Listed::new(self.half_words(alloc)?)),
-            Directive::Byte => Body::Byte(Listed::new(self.bytes(alloc)?)),
-            Directive::Ascii => Body::Ascii(Listed::new(self.text(alloc)?)),
-            Directive::Zero => Body::Zero(self.number(ANY)?),
-            Directive::Align => Body::Align(self.alignment()?),
-            Directive::Global => Body::Global(self.symbol()?.0),
-            Directive::Set => return self.set(),
-        };
-        self.close(body)
+        match directive {
+            Directive::Text => self.close(out, Body::Text),
+            Directive::Data => self.close(out, Body::DataSection),
+            Directive::At => {
+                let address = self.number(ANY)?;
+                self.close(out, Body::At(address))
+            }
+            Directive::Word => {
+                let words = self.words_list(alloc)?;
+                self.close(out, Body::Word(Listed::new(words)))
+            }
+            Directive::Half => {
+                let halves = self.half_words(alloc)?;
+                self.close(out, Body::Half(Listed::new(halves)))
+            }
+            Directive::Byte => {
+                let bytes = self.bytes(alloc)?;
+                self.close(out, Body::Byte(Listed::new(bytes)))
+            }
+            Directive::Ascii => {
+                let bytes = self.text(alloc)?;
+                self.close(out, Body::Ascii(Listed::new(bytes)))
+            }
+            Directive::Zero => {
+                let count = self.number(ANY)?;
+                self.close(out, Body::Zero(count))
+            }
+            Directive::Align => {
+                let alignment = self.alignment()?;
+                self.close(out, Body::Align(alignment))
+            }
+            Directive::Global => {
+                let (name, _) = self.symbol()?;
+                self.close(out, Body::Global(name))
+            }
+            Directive::Set => self.set(out),
+        }
     }
 
     /// An operation and its operands, to the end of the line.
     #[tactic(auto, unfolding(crate::specs::Inside::Source::operation_at))]
-    fn operation(&mut self, alloc: Global) -> Result<Body, ParseFault>
-        ensures { Gives (λ b. b) result (operation_at self.old) }
+    fn operation(&mut self, alloc: Global, out: &mut Body) -> Result<(), ParseFault>
+        ensures { Gives (λ _. out.new) result (operation_at self.old) }
     {
         let Some(What::Name(name)) = self.first() else {
             return Err(self.fault(ParseKind::Syntax));
@@ -79,54 +109,68 @@ impl<'a> Parser<'a> {
         }
         if let Some(mnemonic) = mnemonic_of(name) {
             self.skip();
-            return self.instruction(shape_of(mnemonic));
+            return self.instruction(shape_of(mnemonic), out);
         }
         match directive_of(name) {
             Some(directive) => {
                 self.skip();
-                self.directive(alloc, directive)
+                self.directive(alloc, directive, out)
             }
             None => Err(self.fault(ParseKind::NoSuchName)),
         }
     }
 
-    /// A label, and the operation behind it if there is one.
+    /// A label, and the operation behind it if there is one, put into a draft.
     #[tactic(auto, unfolding(crate::specs::Inside::Source::labelled_at))]
-    fn labelled(&mut self, alloc: Global) -> Result<Row, ParseFault>
-        ensures { Gives (λ r. r) result (labelled_at self.old) }
+    fn labelled(&mut self, alloc: Global, draft: &mut Draft) -> Result<(), ParseFault>
+        ensures said { OnOk result (GoesOn draft.new draft.old (labelled_at self.old)) }
+        ensures fault { IfErr result (λ e. (e ≡ out_of_memory)
+            ⊎ (labelled_at self.old ≡ Err e)) }
     {
         let label = self.symbol()?;
         self.skip();
         let line = self.line();
+        let mut body = Body::Empty;
         if self.first().is_none() {
             let col = label.1;
-            return Ok(Row::Statement(Statement {
+            draft.add(
+                alloc,
+                Row::Statement(Statement {
+                    line,
+                    label: Some(label),
+                    col,
+                    body,
+                }),
+            )?;
+            return Ok(());
+        }
+        let col = self.place();
+        self.operation(alloc, &mut body)?;
+        draft.add(
+            alloc,
+            Row::Statement(Statement {
                 line,
                 label: Some(label),
                 col,
-                body: Body::Empty,
-            }));
-        }
-        let col = self.place();
-        let body = self.operation(alloc)?;
-        Ok(Row::Statement(Statement {
-            line,
-            label: Some(label),
-            col,
-            body,
-        }))
+                body,
+            }),
+        )?;
+        Ok(())
     }
 
-    /// The head of a module, from its `.module` on.
+    /// The head of a module, from its `.module` on, put into a draft.
     #[tactic(auto, unfolding(crate::specs::Inside::Source::head_at))]
-    fn head(&mut self) -> Result<Row, ParseFault>
-        ensures { Gives (λ r. r) result (head_at self.old) }
+    fn head(&mut self, alloc: Global, draft: &mut Draft) -> Result<(), ParseFault>
+        ensures said { OnOk result (GoesOn draft.new draft.old (head_at self.old)) }
+        ensures fault { IfErr result (λ e. (e ≡ out_of_memory)
+            ⊎ (head_at self.old ≡ Err e)) }
     {
         let line = self.line();
         self.skip();
         let name = self.any_name()?;
         self.end()?;
-        Ok(Row::Head(name, line))
+        draft.add(alloc, Row::Head(name, line))?;
+        Ok(())
     }
 
     /// Whether a name and a colon come next.
@@ -149,25 +193,32 @@ impl<'a> Parser<'a> {
         }
     }
 
-    /// What a line with a token says.
+    /// What a line with a token says, put into a draft.
     #[tactic(auto, unfolding(crate::specs::Inside::Source::row_at))]
-    pub fn row(&mut self, alloc: Global) -> Result<Row, ParseFault>
-        ensures { Gives (λ r. r) result (row_at self.old) }
+    pub fn row(&mut self, alloc: Global, draft: &mut Draft) -> Result<(), ParseFault>
+        ensures said { OnOk result (GoesOn draft.new draft.old (row_at self.old)) }
+        ensures fault { IfErr result (λ e. (e ≡ out_of_memory)
+            ⊎ (row_at self.old ≡ Err e)) }
     {
         if self.is_label() {
-            return self.labelled(alloc);
+            return self.labelled(alloc, draft);
         }
         if self.is_head() {
-            return self.head();
+            return self.head(alloc, draft);
         }
         let line = self.line();
         let col = self.place();
-        let body = self.operation(alloc)?;
-        Ok(Row::Statement(Statement {
-            line,
-            label: None,
-            col,
-            body,
-        }))
+        let mut body = Body::Empty;
+        self.operation(alloc, &mut body)?;
+        draft.add(
+            alloc,
+            Row::Statement(Statement {
+                line,
+                label: None,
+                col,
+                body,
+            }),
+        )?;
+        Ok(())
     }
 }

@@ -18,9 +18,9 @@ directive_text Align = codes ".align"
 directive_text Global = codes ".global"
 directive_text Set = codes ".set"
 
--- all directives
+-- all directives, those first that stand on most lines
 unfoldable pub all_directives : List Directive
-all_directives = Text ∷ Data ∷ At ∷ Word ∷ Half ∷ Byte ∷ Ascii ∷ Zero ∷ Align ∷ Global ∷ Set ∷ []
+all_directives = Word ∷ Byte ∷ At ∷ Half ∷ Ascii ∷ Zero ∷ Align ∷ Text ∷ Data ∷ Global ∷ Set ∷ []
 
 -- the directive of this name
 abbrev pub directive_of : List ℕ → Option Directive

@@ -44,6 +44,11 @@ leads d (Err e) = Err e
 abbrev pub Follows : Drafted → Drafted → Option Row → Type 0
 Follows after before r = (rows : List Row) → modules_after after rows ≡ modules_after before (with_row r rows)
 
+-- a row that was read stands behind others
+abbrev pub GoesOn : Drafted → Drafted → Result Row ParseFault → Type 0
+GoesOn after before (Ok r) = Follows after before (Some r)
+GoesOn after before (Err e) = ⊥
+
 -- a line goes on with the lines behind it
 abbrev pub LeadsOn : ℕ → List ℕ → Drafted → Drafted → Type 0
 LeadsOn number line after before =
