@@ -8,7 +8,7 @@ ghost use Rattle.m88_parse.specs.Language.Units.{IsUnit};
 ghost use Rattle.m88_parse.specs.declared.fault.ParseFault.{ParseFault as FaultValue};
 ghost use Rattle.m88_parse.specs.Fault.{Gives, out_of_memory, IsSourceKind};
 ghost use Rattle.m88_parse.specs.Inside.Places.{IsNear};
-ghost use Rattle.m88_parse.specs.Inside.Source.{end_of_line, row_of_line, unit_of};
+ghost use Rattle.m88_parse.specs.Inside.Source.{end_of_line, unit_of};
 ghost use Rattle.m88_parse.specs.Inside.Tokens.{piece_of};
 ghost use Rattle.m88_parse.specs.WellFormed.{IsWellFormed};
 ghost use Rattle.m88_parse.specs.Inside.Drafts.{LeadsOn, EndsWith};
@@ -33,7 +33,6 @@ fn end_of_line(lexemes: &[Lexeme<'_>]) -> u32
 }
 
 /// One line more in the draft. Its tokens stand in `lexemes`, whose room serves the next line.
-#[tactic(auto, unfolding(crate::specs::Inside::Source::row_of_line))]
 fn read_line<'a>(
     draft: &mut Draft,
     lexemes: &mut Vec<Lexeme<'a>>,

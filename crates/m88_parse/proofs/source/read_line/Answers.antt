@@ -1,5 +1,5 @@
 -- What a line says is added to the draft, or its fault is the fault of the source.
-use Rattle.std.proofs.Common.{◌≡◌, ◌<◌, ℕ, List, ap, sym, ◌∙◌, arith, length, map}
+use Rattle.std.proofs.Common.{ℕ, List, ap, sym, ◌∙◌, arith, map}
 use Rattle.std.proofs.lemmas.Bool.{eqb-true}
 use Rattle.std.proofs.lemmas.List.{length-map}
 use Rattle.std.proofs.lemmas.Result.{err_from_is_err_and}
