@@ -1,7 +1,8 @@
 -- The bytes of a record against its count, address, data and sum.
-use Rattle.std.proofs.Common.{◌≡◌, ℕ, zero, suc, ◌+◌, ◌/◌, ◌≤◌, List, [], ◌∷◌, ◌++◌, length, take, drop, sym, refl, ap, ◌∙◌, append_assoc, length-append, add-one, arith}
-use Rattle.std.specs.Prelude.{slice_index}
-use Rattle.std.proofs.lemmas.List.{take-append-drop, take-take, take_all, take_more, length-take-le}
+use Rattle.std.proofs.Common.{◌≡◌, ℕ, zero, suc, ◌+◌, ◌-◌, ◌/◌, ◌<◌, ◌≤◌, get_or, List, [], ◌∷◌, ◌++◌, length, take, drop, sym, refl, ap, ◌∙◌, append_assoc, length-append, add-one, arith}
+use Rattle.std.specs.Prelude.{slice_index, sum}
+use Rattle.std.proofs.lemmas.List.Sums.{sum_by_push}
+use Rattle.std.proofs.lemmas.List.{take-append-drop, take-take, take_all, take_more, length-take-le, get_or_default}
 use Rattle.std.proofs.Math.Seq.{take-append_seam, drop-append_seam}
 use lib.Seq.{get_or-append_seam}
 use Rattle.m88_srec.specs.Records.{bytes_in, check_of, counted, framed}
@@ -70,3 +71,28 @@ pub data-framed : (address given : List ℕ) → drop (length address + 1) (coun
 data-framed address given =
     let e : length address + 1 ≡ suc (length address) = omega arith in
     ap (λ (n : ℕ). drop n (counted (address ++ given))) e ∙ drop-append_seam address given
+
+-- one byte more adds to the sum
+pub sum_more : (bytes : List ℕ) (b : ℕ) → sum (bytes ++ b ∷ []) ≡ sum bytes + b
+sum_more bytes b = sum_by_push (λ (n : ℕ). n) bytes b
+
+-- the last byte is in the sum
+sum_before : (bytes : List ℕ) (n : ℕ) → n + 1 ≡ length bytes → sum (take n bytes) + slice_index bytes n ≡ sum bytes
+sum_before bytes n e =
+    let last : take (n + 1) bytes ≡ take n bytes ++ slice_index bytes n ∷ [] = take_more bytes n 0 (omega (arith, e)) in
+    sym (sum_more (take n bytes) (slice_index bytes n)) ∙ ap sum (sym last) ∙ ap sum (take_all (n + 1) bytes (omega (arith, e)))
+
+last_of : (bytes : List ℕ) (total last : ℕ) → 0 < length bytes → total ≡ sum bytes → last ≡ get_or bytes (length bytes - 1) last
+    → sum (take (length bytes - 1) bytes) + last ≡ total
+last_of bytes total last some is e =
+    let same : slice_index bytes (length bytes - 1) ≡ last = get_or_default bytes (length bytes - 1) 0 last (omega (arith, some)) ∙ sym e in
+    omega (arith, sum_before bytes (length bytes - 1) (omega (arith, some)), same, is)
+
+-- it is no greater
+pub last_within : (bytes : List ℕ) (total last : ℕ) → 0 < length bytes → total ≡ sum bytes → last ≡ get_or bytes (length bytes - 1) last → last ≤ total
+last_within bytes total last some is e = omega (arith, last_of bytes total last some is e)
+
+-- and without it the sum is that of the bytes before
+pub without_last : (bytes : List ℕ) (total last : ℕ) → 0 < length bytes → total ≡ sum bytes → last ≡ get_or bytes (length bytes - 1) last
+    → total - last ≡ sum (take (length bytes - 1) bytes)
+without_last bytes total last some is e = omega (arith, last_of bytes total last some is e)

@@ -1,27 +1,36 @@
 //! Pairs of hexadecimal digits.
-ghost use Rattle.std.specs.Prelude.{◌≡◌, ◌+◌, ◌*◌, ◌<◌};
+ghost use Rattle.std.specs.Prelude.{◌≡◌, ◌+◌, ◌*◌, ◌<◌, ◌≤◌, [], true, false, length, sum, IfNone, IfSome};
 ghost use Rattle.std.specs.Char.{digit_value, is_digit};
-ghost use Rattle.m88_srec.specs.Records.{are_more_pairs, are_pairs};
+ghost use Rattle.m88_srec.specs.Records.{are_more_pairs, bytes_in};
 
-/// Whether digits are pairs of hexadecimal ones, one pair at least.
-pub fn are_pairs(digits: &[u8]) -> bool
-    ensures { result ≡ are_pairs digits.now }
-{
-    !digits.is_empty() && are_more_pairs(digits)
-}
+use arrayvec::ArrayVec;
 
-/// Whether digits are pairs of hexadecimal ones.
-fn are_more_pairs(digits: &[u8]) -> bool
-    ensures { result ≡ are_more_pairs digits.now }
+/// The most bytes that a record has.
+pub const MOST_BYTES: usize = 256;
+
+/// Puts the bytes that pairs of hexadecimal digits write into their room, and answers what they add up to; None where
+/// the digits are no such pairs.
+#[tactic(auto, using(crate::proofs::Framing::sum_more))]
+pub fn bytes_of(digits: &[u8], bytes: &mut ArrayVec<u8, MOST_BYTES>) -> Option<u32>
+    requires short { length digits.now ≤ 512 }
+    requires empty { bytes.old.items ≡ [] }
+    ensures pairs { IfSome result (λ total. are_more_pairs digits.now ≡ true) }
+    ensures bytes { IfSome result (λ total. bytes.new.items ≡ bytes_in digits.now) }
+    ensures total { IfSome result (λ total. total ≡ sum (bytes_in digits.now)) }
+    ensures none { IfNone result (are_more_pairs digits.now ≡ false) }
 {
+    let mut total = 0;
     let mut rest = digits;
     while let [high, low, left @ ..] = rest {
         if !(is_hexadecimal(*high) && is_hexadecimal(*low)) {
-            return false;
+            return None;
         }
+        let next = byte(*high, *low);
+        total += u32::from(next);
+        bytes.push(next);
         rest = left;
     }
-    rest.is_empty()
+    if rest.is_empty() { Some(total) } else { None }
 }
 
 /// What each byte is worth as a digit or a letter, 36 where it is neither.
@@ -63,7 +72,7 @@ fn value(digit: u8) -> u8
 }
 
 /// The byte that two digits write.
-pub fn byte(high: u8, low: u8) -> u8
+fn byte(high: u8, low: u8) -> u8
     requires high { digit_value high < 16 }
     requires low { digit_value low < 16 }
     ensures { result ≡ digit_value high * 16 + digit_value low }

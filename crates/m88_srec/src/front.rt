@@ -55,7 +55,8 @@ impl Front {
         requires small { self.now.len < 2 ^ 31 }
         ensures { result ≡ overlong_fault (front_seen self.now) }
     {
-        match record_form(self.kept.as_slice()) {
+        let mut room = ArrayVec::new();
+        match record_form(self.kept.as_slice(), &mut room) {
             Some(form) if self.digits && self.len % 2 == 0 => SrecKind::Count {
                 written: form.count(),
                 found: (self.len / 2 - 2) as u32,

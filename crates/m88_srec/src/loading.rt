@@ -1,7 +1,8 @@
 //! What the lines so far load, and one line more.
-ghost use Rattle.std.specs.Prelude.{◌≡◌, ◌+◌, ◌≤◌, ◌<◌, ◌^◌, length};
+ghost use Rattle.std.specs.Prelude.{◌≡◌, ◌+◌, ◌≤◌, ◌<◌, ◌^◌, length, sum};
 ghost use Rattle.m88_srec.specs.Accepted.{whole_of};
 ghost use Rattle.m88_srec.specs.Verdict.{acted, ended_on, framed_on, judged, opening_load, placed, summed};
+ghost use Rattle.m88_srec.specs.Front.{most_kept};
 ghost use Rattle.m88_srec.specs.Inside.Forms.{form_seen};
 ghost use Rattle.m88_srec.specs.GivesVerdict.{GivesVerdict};
 ghost use Rattle.m88_srec.specs.Inside.Loads.{GivesLoad, load_seen};
@@ -9,7 +10,8 @@ ghost use Rattle.m88_srec.specs.Inside.Loads.{GivesLoad, load_seen};
 use crate::fault::{SrecFault, SrecKind};
 use crate::form::Form;
 use crate::purpose::Purpose;
-use crate::record::{address_of, check_of, record_form};
+use crate::record::{address_of, computed_sum, record_form};
+use arrayvec::ArrayVec;
 use m88_base::{Image, ImageFault};
 use std::alloc::Global;
 
@@ -38,7 +40,7 @@ impl Loading {
     #[tactic(auto, unfolding(crate::specs::Verdict::judged))]
     pub fn line(&mut self, line: &[u8]) -> Result<(), SrecKind>
         requires room { self.old.records < 2 ^ 31 }
-        requires short { length line.now < 2 ^ 31 }
+        requires short { length line.now ≤ most_kept }
         ensures value { GivesLoad (load_seen self.new) result (judged
             (load_seen self.old) line.now) }
         ensures records { self.new.records ≤ self.old.records + 1 }
@@ -49,7 +51,8 @@ impl Loading {
         if self.start.is_some() {
             return Err(SrecKind::AfterEnd);
         }
-        match record_form(line) {
+        let mut room = ArrayVec::new();
+        match record_form(line, &mut room) {
             Some(form) => self.form(&form),
             None => Err(SrecKind::Form),
         }
@@ -69,25 +72,30 @@ impl Loading {
                 found: form.following() as u32,
             });
         }
-        let bytes = form.bytes();
-        self.bytes(form.purpose, form.width, bytes.as_slice())
+        self.bytes(form.purpose, form.width, form.bytes, form.total)
     }
 
-    /// Takes the bytes of a record whose count is right.
+    /// Takes the bytes of a record whose count is right, with what they add up to.
     #[tactic(auto, unfolding(crate::specs::Verdict::summed))]
-    fn bytes(&mut self, purpose: Purpose, width: usize, bytes: &[u8]) -> Result<(), SrecKind>
+    fn bytes(
+        &mut self,
+        purpose: Purpose,
+        width: usize,
+        bytes: &[u8],
+        total: u32,
+    ) -> Result<(), SrecKind>
         requires room { self.old.records < 2 ^ 31 }
         requires some { 2 ≤ width }
         requires narrow { width ≤ 4 }
         requires enough { width + 2 ≤ length bytes.now }
-        requires few { length bytes.now ≤ 256 }
+        requires total { total ≡ sum bytes.now }
         ensures value { GivesLoad (load_seen self.new) result (summed (load_seen self.old)
             (record { purpose = purpose; width = width; bytes = bytes.now })) }
         ensures records { self.new.records ≤ self.old.records + 1 }
     {
         let last = bytes.len() - 1;
         let (counted, written) = (&bytes[..last], bytes[last]);
-        let computed = check_of(counted);
+        let computed = computed_sum(bytes, total);
         if written != computed {
             return Err(SrecKind::Sum { written, computed });
         }

@@ -1,11 +1,12 @@
 //! The form of a line: an `S`, a type digit and pairs of hexadecimal digits; and what stands in its bytes.
-ghost use Rattle.std.specs.Prelude.{◌≡◌, ◌+◌, ◌-◌, ◌*◌, ◌≤◌, ◌<◌, ◌%◌, ◌^◌, false, length, option_map, IfSome};
-ghost use Rattle.m88_srec.specs.Records.{bytes_in, check_of, is_bare, type_of};
+ghost use Rattle.std.specs.Prelude.{◌≡◌, ◌+◌, ◌-◌, ◌<◌, ◌≤◌, [], false, length, option_map, sum, take, IfSome};
+ghost use Rattle.m88_srec.specs.Front.{most_kept};
+ghost use Rattle.m88_srec.specs.Records.{check_of, is_bare, type_of};
 ghost use Rattle.m88_srec.specs.Accepted.{address_of};
 ghost use Rattle.m88_srec.specs.Verdict.{following, record_form, is_miscounted, written_count};
 ghost use Rattle.m88_srec.specs.Inside.Forms.{form_seen, type_seen};
 
-use crate::digits::{are_pairs, byte};
+use crate::digits::{MOST_BYTES, bytes_of};
 use crate::form::Form;
 use crate::purpose::Purpose;
 use arrayvec::ArrayVec;
@@ -41,23 +42,26 @@ fn is_bare(purpose: Purpose) -> bool
     }
 }
 
-/// The form of a line, where it has one.
+/// The form of a line, where it has one, with its bytes in the room for them.
 #[tactic(auto, unfolding(crate::specs::Verdict::record_form))]
-pub fn record_form(line: &[u8]) -> Option<Form<'_>>
-    requires { length line.now < 2 ^ 31 }
+pub fn record_form<'a>(line: &[u8], room: &'a mut ArrayVec<u8, MOST_BYTES>) -> Option<Form<'a>>
+    requires short { length line.now ≤ most_kept }
+    requires empty { room.old.items ≡ [] }
     ensures { option_map form_seen result ≡ record_form line.now }
 {
     let [b'S', digit, digits @ ..] = line else {
         return None;
     };
-    if !are_pairs(digits) {
+    let total = bytes_of(digits, room)?;
+    if digits.is_empty() {
         return None;
     }
     let (purpose, width) = type_of(*digit)?;
     Some(Form {
         purpose,
         width,
-        digits,
+        bytes: room.as_slice(),
+        total,
     })
 }
 
@@ -66,45 +70,26 @@ impl Form<'_> {
     pub fn count(&self) -> u8
         ensures { result ≡ written_count (form_seen self.now) }
     {
-        byte(self.digits[0], self.digits[1])
+        self.bytes[0]
     }
 
     /// The number of bytes that follow the count.
-    #[tactic(auto, using(crate::proofs::Framing::pairs_halved))]
     pub fn following(&self) -> usize
         ensures value { result ≡ following (form_seen self.now) }
-        ensures bound { result < 2 ^ 31 }
+        ensures bound { result ≤ 255 }
     {
-        self.digits.len() / 2 - 1
+        self.bytes.len() - 1
     }
 
     /// Whether the count is wrong, there are too few bytes, or a record that has no data has some.
     pub fn is_miscounted(&self) -> bool
         ensures value { result ≡ is_miscounted (form_seen self.now) }
-        ensures few { result ≡ false → following (form_seen self.now) ≤ 255 }
         ensures enough { result ≡ false → self.now.width + 1 ≤ following (form_seen self.now) }
     {
         let following = self.following();
         usize::from(self.count()) != following
             || following < self.width + 1
             || is_bare(self.purpose) && following != self.width + 1
-    }
-
-    /// The bytes of a record whose count is right.
-    pub fn bytes(&self) -> ArrayVec<u8, 256>
-        requires few { following (form_seen self.now) ≤ 255 }
-        requires enough { self.now.width + 1 ≤ following (form_seen self.now) }
-        ensures bytes { result.items ≡ bytes_in self.now.digits.now }
-        ensures enough { self.now.width + 2 ≤ length result.items }
-        ensures few { length result.items ≤ 256 }
-    {
-        let mut bytes = ArrayVec::new();
-        let mut rest = self.digits;
-        while let [high, low, left @ ..] = rest {
-            bytes.push(byte(*high, *low));
-            rest = left;
-        }
-        bytes
     }
 }
 
@@ -115,6 +100,17 @@ pub fn check_of(bytes: &[u8]) -> u8
 {
     let sum: u32 = bytes.iter().map(|b| u32::from(*b)).sum();
     255 - (sum % 256) as u8
+}
+
+/// The sum that the bytes of a record before their last make, where all of them add up to `total`.
+#[tactic(auto, using(crate::proofs::Framing::last_within, crate::proofs::Framing::without_last))]
+pub fn computed_sum(bytes: &[u8], total: u32) -> u8
+    requires some { 0 < length bytes.now }
+    requires total { total ≡ sum bytes.now }
+    ensures { result ≡ check_of (take (length bytes.now - 1) bytes.now) }
+{
+    let written = bytes[bytes.len() - 1];
+    255 - ((total - u32::from(written)) % 256) as u8
 }
 
 /// The address that bytes write, or the number in its place, the highest byte first.

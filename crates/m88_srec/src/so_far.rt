@@ -2,7 +2,7 @@
 ghost use Rattle.std.specs.Prelude.{ℕ, List, ◌≡◌, ◌+◌, ◌≤◌, ◌<◌, ◌^◌, ◌++◌, ◌⊎◌, [], false, length, IfErr, IfOk, IfSome, OnOk};
 ghost use Rattle.m88_srec.specs.Accepted.{whole_of};
 ghost use Rattle.m88_srec.specs.Begun.{LeadsTo, StaysRefused};
-ghost use Rattle.m88_srec.specs.Front.{front_of};
+ghost use Rattle.m88_srec.specs.Front.{front_of, most_kept};
 ghost use Rattle.m88_srec.specs.GivesVerdict.{GivesVerdict, no_memory};
 ghost use Rattle.m88_srec.specs.Inside.Loads.{GivesLoad, fault_of_line, load_seen};
 ghost use Rattle.m88_srec.specs.Inside.Taking.{AreCounted, EndsAlone, IsTaken, IsWholeLine, Stops, begun_seen, byte_taken, ended_at, finished, front_seen, gone_on, judged_front, reach, with_byte, with_held};
@@ -44,13 +44,15 @@ fn has_cr(line: &[u8]) -> bool
     }
 }
 
-/// The first line of what is left of a piece, where its end is there and no CR belongs to that, and what is left behind
-/// it.
+/// The first line of what is left of a piece, where its end is there, no CR belongs to that, and it isn't longer than
+/// what is kept of a line; and what is left behind it. Nothing is promised of None: the text is then taken byte by byte,
+/// which comes to the same.
 fn whole_line(rest: &[u8]) -> Option<(&[u8], &[u8])>
-    ensures { IfSome result (λ p. IsWholeLine rest.now p.0.now p.1.now) }
+    ensures whole { IfSome result (λ p. IsWholeLine rest.now p.0.now p.1.now) }
+    ensures short { IfSome result (λ p. length p.0.now ≤ most_kept) }
 {
     match split_at_byte(b'\n', rest) {
-        Some((line, left)) if !has_cr(line) => Some((line, left)),
+        Some((line, left)) if line.len() <= MOST_KEPT && !has_cr(line) => Some((line, left)),
         _ => None,
     }
 }
@@ -138,7 +140,8 @@ impl TextSoFar {
     fn byte(&mut self, byte: u8) -> Result<(), SrecKind>
         requires reach { reach self.old < 2 ^ 31 }
         requires counted { AreCounted self.old }
-        ensures value { GivesLoad (begun_seen self.new) result (byte_taken (begun_seen self.old) byte) }
+        ensures value { GivesLoad (begun_seen self.new) result
+            (byte_taken (begun_seen self.old) byte) }
         ensures reach { OnOk result (reach self.new ≤ reach self.old + 1) }
         ensures counted { OnOk result (AreCounted self.new) }
     {
@@ -178,6 +181,7 @@ impl TextSoFar {
 
     /// Takes a line that stands whole in what is left of a piece, and answers what is left behind its end.
     fn line<'a>(&mut self, line: &[u8], left: &'a [u8]) -> Result<&'a [u8], SrecKind>
+        requires short { length line.now ≤ most_kept }
         requires none { self.old.front.len ≡ 0 }
         requires no_cr { self.old.cr ≡ false }
         requires reach { reach self.old + (length line.now + 1 + length left.now) ≤ 2 ^ 31 }

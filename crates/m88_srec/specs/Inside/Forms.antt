@@ -1,6 +1,6 @@
 -- How the code's forms are seen.
 use Rattle.std.specs.Prelude.{ℕ}
-use Rattle.m88_srec.specs.Records.{RecordType, bytes_in}
+use Rattle.m88_srec.specs.Records.{RecordType}
 use Rattle.m88_srec.specs.Verdict.{Formed}
 use Rattle.m88_srec.specs.declared.form.Form.{Form}
 use Rattle.m88_srec.specs.declared.purpose.Purpose.{Purpose}
@@ -9,6 +9,6 @@ use Rattle.m88_srec.specs.declared.purpose.Purpose.{Purpose}
 abbrev pub type_seen : Purpose × ℕ → RecordType
 type_seen t = record { purpose = t.0; width = t.1 }
 
--- a form with its bytes in place of their digits
+-- a form without the sum of its bytes
 abbrev pub form_seen : Form → Formed
-form_seen f = record { purpose = f.purpose; width = f.width; bytes = bytes_in f.digits.now }
+form_seen f = record { purpose = f.purpose; width = f.width; bytes = f.bytes.now }
