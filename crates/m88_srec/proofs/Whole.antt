@@ -9,7 +9,7 @@ use Rattle.m88_srec.specs.Begun.{Begun, LeadsTo, StaysRefused, held_cr, line_end
 use Rattle.m88_srec.specs.Front.{LineFront, front_of}
 use Rattle.m88_srec.specs.GivesVerdict.{no_memory}
 use Rattle.m88_srec.specs.Inside.Loads.{GivesLoad, fault_of_line}
-use Rattle.m88_srec.specs.Inside.Taking.{EndsAlone, IsTaken, IsWholeLine, Stops, byte_taken, gone_on}
+use Rattle.m88_srec.specs.Inside.Taking.{EndsAlone, LeadsPast, IsWholeLine, Stops, byte_taken, gone_on}
 use Rattle.m88_srec.specs.Verdict.{Load, go_on, judged, verdict, verdict_from}
 use Rattle.m88_srec.specs.declared.fault.SrecFault.{SrecFault}
 use Rattle.m88_srec.specs.declared.fault.SrecKind.{SrecKind}
@@ -110,8 +110,8 @@ module _ (rest line left text : List ℕ) (b : Begun) (w : IsWholeLine rest line
 
 -- the line, or the byte, is taken
 pub line_taken : (rest line left behind : List ℕ) (b later : Begun) → IsWholeLine rest line left → b.front.len ≡ 0 → b.cr ≡ false
-    → gone_on b (judged b.load line) ≡ Ok later → behind ≡ left → IsTaken rest behind b later
-line_taken rest line left behind b later w empty no_cr e same = subst (λ (xs : List ℕ). IsTaken rest xs b later) (sym same) (record {
+    → gone_on b (judged b.load line) ≡ Ok later → behind ≡ left → LeadsPast rest behind b later
+line_taken rest line left behind b later w empty no_cr e same = subst (λ (xs : List ℕ). LeadsPast rest xs b later) (sym same) (record {
   bytes = line ++ 10 ∷ [];
   joined = w.joined ∙ sym (append_assoc line (10 ∷ []) left);
   leads = λ text t. whole_goes rest line left text b w t empty no_cr later e;
@@ -126,7 +126,7 @@ line_stops rest line left b kind w empty no_cr (inr e) =
 -- what the call that takes the line answers
 pub taken_line : {T : Type 0} (now : T → List ℕ) (rest line left : List ℕ) (b later : Begun) (r : Result T SrecKind)
     → IsWholeLine rest line left → b.front.len ≡ 0 → b.cr ≡ false → GivesLoad later r (gone_on b (judged b.load line))
-    → IfOk r (λ x. now x ≡ left) → IfOk r (λ x. IsTaken rest (now x) b later)
+    → IfOk r (λ x. now x ≡ left) → IfOk r (λ x. LeadsPast rest (now x) b later)
 taken_line now rest line left b later (Ok x) w empty no_cr said same = line_taken rest line left (now x) b later w empty no_cr said same
 taken_line now rest line left b later (Err kind) w empty no_cr said same = tt
 
@@ -137,7 +137,7 @@ refused_line rest line left b later (Ok x) w empty no_cr said = tt
 refused_line rest line left b later (Err kind) w empty no_cr said = line_stops rest line left b kind w empty no_cr said
 
 pub byte_taken_first : (rest left : List ℕ) (byte : ℕ) (b later : Begun) → rest ≡ byte ∷ left → byte_taken b byte ≡ Ok later
-    → IsTaken rest left b later
+    → LeadsPast rest left b later
 byte_taken_first rest left byte b later is e = record {
   bytes = byte ∷ [];
   joined = is;
@@ -153,15 +153,15 @@ byte_stops_first rest left byte b kind is (inr e) =
     (byte_stops text left b byte kind t e))
 
 -- a piece, taken bit by bit
-pub none_taken : (piece : List ℕ) (b : Begun) → IsTaken piece piece b b
+pub none_taken : (piece : List ℕ) (b : Begun) → LeadsPast piece piece b b
 none_taken piece b = record {
   bytes = [];
   joined = refl;
   leads = λ text t. subst (λ (xs : List ℕ). LeadsTo xs b) (sym (append-nil text)) t;
 }
 
-pub more_taken : (piece rest left : List ℕ) (first now later : Begun) → IsTaken piece rest first now → IsTaken rest left now later
-    → IsTaken piece left first later
+pub more_taken : (piece rest left : List ℕ) (first now later : Begun) → LeadsPast piece rest first now → LeadsPast rest left now later
+    → LeadsPast piece left first later
 more_taken piece rest left first now later before more = record {
   bytes = before.bytes ++ more.bytes;
   joined = before.joined ∙ ap (λ (xs : List ℕ). before.bytes ++ xs) more.joined ∙ sym (append_assoc before.bytes more.bytes left);
@@ -170,13 +170,13 @@ more_taken piece rest left first now later before more = record {
       (more.leads (text ++ before.bytes) (before.leads text t));
 }
 
-pub all_taken : (piece rest : List ℕ) (first now : Begun) → IsTaken piece rest first now → length rest ≡ 0
+pub all_taken : (piece rest : List ℕ) (first now : Begun) → LeadsPast piece rest first now → length rest ≡ 0
     → (text : List ℕ) → LeadsTo text first → LeadsTo (text ++ piece) now
 all_taken piece [] first now taken none text t =
     subst (λ (xs : List ℕ). LeadsTo (text ++ xs) now) (sym (taken.joined ∙ append-nil taken.bytes)) (taken.leads text t)
 all_taken piece (b ∷ bs) first now taken none text t = absurd (omega (arith, none))
 
-pub stopped_there : (piece rest : List ℕ) (first now : Begun) (kind : SrecKind) (fault : SrecFault) → IsTaken piece rest first now
+pub stopped_there : (piece rest : List ℕ) (first now : Begun) (kind : SrecKind) (fault : SrecFault) → LeadsPast piece rest first now
     → Stops rest now kind → fault ≡ fault_of_line now.number kind
     → (fault ≡ no_memory) ⊎ ((text : List ℕ) → LeadsTo text first → StaysRefused (text ++ piece) fault)
 stopped_there piece rest first now kind fault taken (inl memory) is = inl (is ∙ ap (fault_of_line now.number) memory)

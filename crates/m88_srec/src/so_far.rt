@@ -5,7 +5,7 @@ ghost use Rattle.m88_srec.specs.Begun.{LeadsTo, StaysRefused};
 ghost use Rattle.m88_srec.specs.Front.{front_of, most_kept};
 ghost use Rattle.m88_srec.specs.GivesVerdict.{GivesVerdict, no_memory};
 ghost use Rattle.m88_srec.specs.Inside.Loads.{GivesLoad, fault_of_line, load_seen};
-ghost use Rattle.m88_srec.specs.Inside.Taking.{AreCounted, EndsAlone, IsTaken, IsWholeLine, Stops, begun_seen, byte_taken, ended_at, finished, front_seen, gone_on, judged_front, reach, with_byte, with_held};
+ghost use Rattle.m88_srec.specs.Inside.Taking.{AreCounted, EndsAlone, LeadsPast, IsWholeLine, Stops, begun_seen, byte_taken, ended_at, finished, front_seen, gone_on, judged_front, reach, with_byte, with_held};
 ghost use Rattle.m88_srec.specs.Verdict.{judged, opening_load};
 
 use crate::fault::{SrecFault, SrecKind};
@@ -34,7 +34,8 @@ fn fault_at(line: u32, kind: SrecKind) -> SrecFault
     }
 }
 
-/// Whether the last byte of a line is a CR, which belongs to the line end.
+/// Whether the last byte of a line is a CR, which belongs to the line end. Only of a line without one is something
+/// promised: any other is taken byte by byte, and so comes to the same.
 fn has_cr(line: &[u8]) -> bool
     ensures { result ≡ false → EndsAlone line.now }
 {
@@ -162,7 +163,7 @@ impl TextSoFar {
         requires some { 0 < length rest.now }
         requires reach { reach self.old + length rest.now ≤ 2 ^ 31 }
         requires counted { AreCounted self.old }
-        ensures taken { IfOk result (λ left. IsTaken rest.now left.now (begun_seen self.old)
+        ensures taken { IfOk result (λ left. LeadsPast rest.now left.now (begun_seen self.old)
             (begun_seen self.new)) }
         ensures stopped { IfErr result (Stops rest.now (begun_seen self.old)) }
         ensures shorter { IfOk result (λ left. length left.now < length rest.now) }
@@ -203,7 +204,7 @@ impl TextSoFar {
         requires some { 0 < length rest.now }
         requires reach { reach self.old + length rest.now ≤ 2 ^ 31 }
         requires counted { AreCounted self.old }
-        ensures taken { IfOk result (λ left. IsTaken rest.now left.now (begun_seen self.old)
+        ensures taken { IfOk result (λ left. LeadsPast rest.now left.now (begun_seen self.old)
             (begun_seen self.new)) }
         ensures stopped { IfErr result (Stops rest.now (begun_seen self.old)) }
         ensures shorter { IfOk result (λ left. length left.now < length rest.now) }

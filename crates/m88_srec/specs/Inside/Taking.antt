@@ -74,7 +74,7 @@ pub record IsWholeLine (rest line left : List ℕ) : Type 0 where
   pub ends : (more : List ℕ) → lines_of (line ++ line_feed ∷ more) ≡ line ∷ lines_of more
 
 -- some bytes are taken, and where a text led, it leads on with them
-pub record IsTaken (rest left : List ℕ) (b later : Begun) : Type 0 where
+pub record LeadsPast (rest left : List ℕ) (b later : Begun) : Type 0 where
   pub bytes : List ℕ
   pub joined : rest ≡ bytes ++ left
   pub leads : (text : List ℕ) → LeadsTo text b → LeadsTo (text ++ bytes) later
