@@ -1,7 +1,7 @@
 //! The word of the image at an address.
 #![tactic(auto, unfolding(crate::specs::DataBus::image_bytes, m88_isa::specs::Bus::in_words))]
 
-ghost use Rattle.std.specs.Prelude.{◌≡◌, ◌*◌, ◌%◌, option_map, true};
+ghost use Rattle.std.specs.Prelude.{◌≡◌, ◌+◌, ◌*◌, ◌%◌, None, option_map, true};
 ghost use Rattle.std.specs.Int.{to_be_bytes, w32};
 ghost use Rattle.m88_base.specs.Found.{IsFree};
 ghost use Rattle.m88_base.specs.Image.{byte_at};
@@ -26,7 +26,8 @@ pub(crate) fn fetched(image: &Image, addr: u32) -> Option<u32>
     }
 }
 
-/// The word at an address, with zeros for the bytes that are missing.
+/// The word at an address, with zeros for the bytes that are missing. Of the bytes from an address on it is known where
+/// they end, so that no byte is looked up twice.
 pub(crate) fn image_word(image: &Image, addr: u32) -> u32
     requires { addr % 4 ≡ 0 }
     ensures { result ≡ image_bus image.now addr }
@@ -35,23 +36,43 @@ pub(crate) fn image_word(image: &Image, addr: u32) -> u32
         [first, second, third, fourth, ..] => {
             BigEndian::read_u32(&[*first, *second, *third, *fourth])
         }
-        _ => word_with_gaps(image, addr),
+        [first, second, third] => BigEndian::read_u32(&[*first, *second, *third, 0]),
+        [first, second] => {
+            BigEndian::read_u32(&[*first, *second, 0, byte_or_zero(image, addr + 3)])
+        }
+        [first] => {
+            let (third, fourth) = pair_at(image, addr + 2);
+            BigEndian::read_u32(&[*first, 0, third, fourth])
+        }
+        [] => word_behind_gap(image, addr),
     }
 }
 
-/// The word at an address, with zeros for the bytes that are missing, found at once where all four are.
-fn word_with_gaps(image: &Image, addr: u32) -> u32
-    requires { addr % 4 ≡ 0 }
+/// The word at an address whose byte is missing, found at once where no other is there.
+fn word_behind_gap(image: &Image, addr: u32) -> u32
+    requires word { addr % 4 ≡ 0 }
+    requires missing { byte_at image.now addr ≡ None }
     ensures { result ≡ image_bus image.now addr }
 {
     match image.first_taken(addr, 4) {
         None => 0,
-        Some(_) => BigEndian::read_u32(&[
-            byte_or_zero(image, addr),
-            byte_or_zero(image, addr + 1),
-            byte_or_zero(image, addr + 2),
-            byte_or_zero(image, addr + 3),
-        ]),
+        Some(_) => {
+            let (third, fourth) = pair_at(image, addr + 2);
+            BigEndian::read_u32(&[0, byte_or_zero(image, addr + 1), third, fourth])
+        }
+    }
+}
+
+/// The two bytes from an even address on, with 0 for one that is missing.
+fn pair_at(image: &Image, addr: u32) -> (u8, u8)
+    requires { addr % 2 ≡ 0 }
+    ensures first { result.0 ≡ image_bytes image.now addr }
+    ensures second { result.1 ≡ image_bytes image.now (addr + 1) }
+{
+    match image.rest(addr) {
+        [first, second, ..] => (*first, *second),
+        [first] => (*first, 0),
+        [] => (0, byte_or_zero(image, addr + 1)),
     }
 }
 
