@@ -5,11 +5,12 @@ use Rattle.std.proofs.lemmas.List.Elements.{All-append, All-cons}
 use Rattle.std.specs.List.Sorted.{IsPartitionPoint, IsNonDecreasingBy}
 use Rattle.std.proofs.lemmas.Bool.{leb-true, leb-false}
 use Rattle.std.proofs.lemmas.Bool.Decides.{leb_tells}
-use Rattle.std.proofs.lemmas.List.{take-append-drop, take_all, get_or_default, get_or-drop, get_or-take, get_or-append_right, get_or-set_same, get_or-set_other}
+use Rattle.std.proofs.lemmas.List.{take-append-drop, take-append-le, take_all, get_or_default, get_or-drop, get_or-take, get_or-append_right, get_or-set_same, get_or-set_other}
 use Rattle.std.proofs.Math.ListN.{get_or-append}
 use Rattle.m88_base.specs.Placed.{Placed, AreApart}
 use Rattle.m88_base.proofs.Cuts.{starts_rise, apart_from_first, apart_drop}
-use Rattle.m88_base.proofs.InBlocks.{all_runs-append, around, length-take_runs, within_all, above_in}
+use Rattle.m88_base.proofs.InBlocks.{all_runs-append, around, block_length, get_at, place_here, length-take_runs, within_all, below_in, above_in}
+use Rattle.m88_base.specs.Inside.Placing.{IsLastBy}
 use Rattle.m88_base.specs.Inside.Blocks.{all_runs, first_start, AreFilled, CountsTo, IsCounted, IsPlaceInBlocks}
 
 -- no fewer runs are ahead of a later block
@@ -172,3 +173,49 @@ pub filled_with : (bs : List (List Placed)) (i : ℕ) (block : List Placed) → 
 filled_with bs i block some filled =
     All-append (λ runs. 0 < length runs) (take i bs) (block ∷ drop i bs) (λ k d h. rw (get_or-take i bs k d (omega (arith, length-take i bs))) (filled k d (omega (arith, length-take i bs))))
     (All-cons (λ runs. 0 < length runs) block (drop i bs) some (λ k d h. rw get_or-drop (filled (i + k) d (omega (arith, length-drop i bs)))))
+
+-- one more block, behind the others
+pub counted_with : (starts : List ℕ) (bs : List (List Placed)) (block : List Placed) (n : ℕ) → n ≡ length (all_runs bs) → IsCounted starts bs
+    → IsCounted (starts ++ n ∷ []) (bs ++ block ∷ [])
+counted_with starts bs block n e c = record {
+  long = omega (arith, c.long, length-append starts (n ∷ []), length-append bs (block ∷ []));
+  each = λ k h. elim (leb_tells (length bs) k) [
+    | inr below ↦
+        rw (take-append-le k bs (block ∷ []) (omega (arith, below.1)))
+        (get_or-append starts (n ∷ []) 0 k (omega (arith, below.1, c.long)) ∙ c.each k below.1)
+    | inl last ↦
+        let off : k - length starts ≡ 0 = omega (arith, h, last.1, c.long, length-append bs (block ∷ [])) in
+        let end : k ≡ length bs = omega (arith, h, last.1, length-append bs (block ∷ [])) in
+        rw (get_or-append_right starts (n ∷ []) (length starts) k 0 refl (omega (arith, last.1, c.long)), off, end, take-append-le (length bs) bs (block ∷ []) (omega arith), take_all (length bs) bs (omega arith)) e
+  ];
+}
+
+-- some runs begin at or below an address, where the first does
+pub first_within : (runs : List Placed) (a n : ℕ) → 0 < length runs → first_start runs ≤ a → AreApart (a + 1) (drop n runs) → 0 < n
+first_within [] a n some low above = absurd (omega arith)
+first_within (run ∷ runs) a zero some low above = absurd (omega (arith, low, above.0))
+first_within (run ∷ runs) a (suc n) some low above = omega arith
+
+-- the last run of a block that begins at or below an address is the last of all, where the next block begins above it
+pub last_here : (bs : List (List Placed)) (b a : ℕ) (block : List Placed) (run : Placed) → b < length bs → block ≡ get_or bs b block
+    → AreFilled bs → AreApart 0 (all_runs bs) → first_start block ≤ a → IsLastBy block a run
+    → ((d : List Placed) → suc b < length bs → a < first_start (get_or bs (suc b) d)) → IsLastBy (all_runs bs) a run
+last_here bs b a block run l is filled apart low last high =
+    let n : ℕ = length (all_runs (take b bs)) in
+    let k : ℕ = last.index - 1 in
+    let inside : k < length block = omega (arith, last.some, last.cut.bound) in
+    let room : k < length (get_or bs b []) = rw (block_length bs b block l is) inside in
+    let place : IsPlaceInBlocks bs b k (n + last.index - 1) =
+    place_here bs b k (n + last.index - 1) block l is (omega (arith, last.some)) (omega (arith, inside)) in
+    record {
+      from = last.from;
+      index = n + last.index;
+      some = omega (arith, last.some);
+      cut = record {
+        bound = omega (arith, last.cut.bound, within_all bs b block l is);
+        below = below_in bs b last.index n a block l is refl last.cut.bound
+            (front_below bs b a block l is (omega (arith, inside)) apart low) last.cut.below;
+        above = above_here bs b last.index n a block l is refl last.cut.bound filled apart last.cut.above high;
+      };
+      is = get_at bs b k (n + last.index - 1) block run place room is last.is;
+    }

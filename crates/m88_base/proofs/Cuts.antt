@@ -6,7 +6,7 @@ use Rattle.std.proofs.lemmas.Option.{slice_get-get_or}
 use Rattle.std.proofs.lemmas.List.{take-append-drop, get_or-take, length-drop, length-take}
 use Rattle.m88_base.specs.Found.{IsFree, IsLeastTaken, IsPart}
 use Rattle.m88_base.specs.Placed.{Placed, byte_in, byte_among, AreApart}
-use Rattle.m88_base.specs.Inside.Placing.{next_start}
+use Rattle.m88_base.specs.Inside.Placing.{IsLastBy, next_start}
 use Rattle.m88_base.proofs.Lookup.{option_or-none, byte_in_at, byte_among-append}
 use Rattle.m88_base.proofs.Apart.{apart_lower, next_start-append, apart_front, apart_back, none_below, none_above}
 
@@ -91,6 +91,18 @@ pub some_within : (xs : List ℕ) (k : ℕ) → k < length xs → IsSome (slice_
 some_within [] k h = absurd (omega arith)
 some_within (x ∷ xs) zero h = refl
 some_within (x ∷ xs) (suc k) h = some_within xs k (omega arith)
+
+-- so it is of the last run that begins at or below an address
+pub found_by_last : (xs : List Placed) (a : ℕ) (run : Placed) → AreApart 0 xs → IsLastBy xs a run
+    → byte_among xs a ≡ slice_get run.bytes (a - run.at)
+found_by_last xs a run h last =
+    rw (← last.is) at
+    (found_in_last xs last.index a run h last.some last.cut.bound (rw (← last.is) last.from) last.cut.above)
+
+pub rest_by_last : (xs : List Placed) (a : ℕ) (run : Placed) → AreApart 0 xs → IsLastBy xs a run
+    → (k : ℕ) → k ≤ length (drop (a - run.at) run.bytes) → byte_among xs (a + k) ≡ slice_get (drop (a - run.at) run.bytes) k
+rest_by_last xs a run h last k few =
+    rest_in_last xs last.index a run h last.some last.cut.bound last.is last.from last.cut.above k few
 
 -- an address in the last run that begins at or below it has a byte
 pub taken_in_last : (xs : List Placed) (i a n : ℕ) (d : Placed) → AreApart 0 xs → i ≤ length xs → All (λ run. run.at ≤ a) (take i xs)

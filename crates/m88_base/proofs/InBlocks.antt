@@ -3,7 +3,7 @@ use Rattle.std.proofs.Common.{◌≡◌, ℕ, zero, suc, ◌+◌, ◌-◌, ◌<�
 use Rattle.std.specs.Prelude.{insert, remove, All}
 use Rattle.std.proofs.Math.Seq.{drop-cons, take-suc, take-append-add, drop-append-add}
 use Rattle.std.proofs.lemmas.List.{take-append-drop, take-append-le, drop-append-le, take_all, set_split, get_or_default, set-append_left, set-append_right, get_or-append_right}
-use Rattle.std.proofs.lemmas.List.Edits.{insert-append_left, insert-append_right, remove-append_left, remove-append_right}
+use Rattle.std.proofs.lemmas.List.Edits.{insert_end, insert-append_left, insert-append_right, remove-append_left, remove-append_right}
 use Rattle.std.proofs.lemmas.List.Elements.{All-append}
 use Rattle.std.proofs.Math.ListN.{get_or-append}
 use Rattle.m88_base.specs.Placed.{Placed, AreApart}
@@ -81,6 +81,10 @@ remove_at bs b k i block p l is =
     ∙ (remove-append_right (all_runs (take b bs)) (block ++ all_runs (drop (suc b) bs)) (length (all_runs (take b bs))) i refl front
     ∙ (ap (λ n. all_runs (take b bs) ++ remove (block ++ all_runs (drop (suc b) bs)) n) off
     ∙ ap (λ ys. all_runs (take b bs) ++ ys) (remove-append_left block (all_runs (drop (suc b) bs)) k inside))))
+
+-- a run behind all others, in a block of its own
+pub begun_at_end : (bs : List (List Placed)) (i : ℕ) (run : Placed) → i ≡ length (all_runs bs) → all_runs (bs ++ (run ∷ []) ∷ []) ≡ insert (all_runs bs) i run
+begun_at_end bs i run e = rw e (all_runs-append bs ((run ∷ []) ∷ []) ∙ sym (insert_end (all_runs bs) run))
 
 -- one more block from the front
 pub take_runs-suc : (bs : List (List Placed)) (b : ℕ) (block : List Placed) → b < length bs → block ≡ get_or bs b block

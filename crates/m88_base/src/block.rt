@@ -2,6 +2,7 @@
 ghost use Rattle.std.specs.Prelude.{◌≡◌, ◌+◌, ◌/◌, ◌<◌, ◌≤◌, [], ◌∷◌, ◌++◌, All, leb, true, false, take, drop, length, insert, remove, slice_index_or, slice_set, IfOk, OnOk, OnErr};
 ghost use Rattle.std.specs.List.Sorted.{IsNonDecreasingBy, IsPartitionPoint};
 ghost use Rattle.m88_base.specs.Inside.Blocks.{first_start};
+ghost use Rattle.m88_base.specs.Inside.Placing.{IsLastBy};
 ghost use Rattle.m88_base.specs.Placed.{AreApart};
 
 use crate::segment::Segment;
@@ -77,6 +78,17 @@ impl Block {
         locate(&self.runs, at)
     }
 
+    /// The last run that begins at or below an address, where the first does.
+    pub fn below(&self, at: u32) -> &Segment
+        requires apart { AreApart 0 self.now }
+        requires some { 0 < length self.now }
+        requires begins { first_start self.now ≤ at }
+        ensures { IsLastBy self.now at result.now }
+    {
+        let begun = locate(&self.runs, at);
+        &self.runs[begun - 1]
+    }
+
     /// Puts a run in ahead of the one at an index.
     pub fn insert(&mut self, index: usize, run: Segment) -> Result<(), AllocError>
         requires { index ≤ length self.old }
@@ -118,7 +130,7 @@ impl Block {
 fn copied(alloc: Global, runs: &[Segment]) -> Result<Vec<Segment>, AllocError>
     ensures { IfOk result (λ copy. copy.items ≡ runs.now) }
 {
-    let mut copy = Vec::new(alloc);
+    let mut copy = Vec::with_capacity(alloc, runs.len())?;
     for run in runs {
         copy.push(run.copy(alloc)?)?;
     }
@@ -138,7 +150,8 @@ fn locate(runs: &[Segment], at: u32) -> usize
 fn begun_by(runs: &[Segment], at: u32) -> usize
     requires { IsNonDecreasingBy (λ run. run.at) runs.now }
     ensures bound { result ≤ length runs.now }
-    ensures parted { IsPartitionPoint (λ run. leb run.at at ≡ true) (λ run. leb run.at at ≡ false) runs.now result }
+    ensures parted { IsPartitionPoint (λ run. leb run.at at ≡ true)
+        (λ run. leb run.at at ≡ false) runs.now result }
 {
     match runs.last() {
         Some(run) if run.at() <= at => runs.len(),

@@ -1,7 +1,8 @@
 //! Runs in a row, in blocks, so that few others move when one more is put between them.
-ghost use Rattle.std.specs.Prelude.{◌≡◌, ◌+◌, ◌^◌, ◌<◌, ◌≤◌, [], ◌∷◌, All, take, drop, length, insert, remove, slice_index_or, slice_set, leb, true, false, IfOk, OnOk, OnErr};
+ghost use Rattle.std.specs.Prelude.{◌≡◌, ◌+◌, ◌^◌, ◌<◌, ◌≤◌, [], ◌∷◌, All, take, drop, length, insert, remove, slice_index_or, slice_set, leb, true, false, IfNone, IfOk, IfSome, OnOk, OnErr};
 ghost use Rattle.std.specs.List.Sorted.{IsNonDecreasingBy, IsPartitionPoint};
 ghost use Rattle.m88_base.specs.Placed.{AreApart};
+ghost use Rattle.m88_base.specs.Inside.Placing.{IsLastBy};
 ghost use Rattle.m88_base.specs.Inside.Blocks.{AreFilled, CountsTo, IsCounted, IsPlaceInBlocks, all_runs, first_start};
 
 use crate::block::Block;
@@ -13,7 +14,7 @@ use std::marker::Model;
 const MOST_RUNS: usize = 256;
 
 /// Runs in a row. No block is empty; of each is kept how many runs stand ahead of it, so that an index and an address
-/// are both found by halving.
+/// are both found by halving, but that the last block is tried first.
 #[derive(Drop, Debug)]
 pub struct Blocks {
     blocks: Vec<Block>,
@@ -89,6 +90,15 @@ impl Blocks {
         locate(&self.blocks, &self.starts, at)
     }
 
+    /// The last run that begins at or below an address.
+    pub fn below(&self, at: u32) -> Option<&Segment>
+        requires { AreApart 0 self.now }
+        ensures some { IfSome result (λ run. IsLastBy self.now at run.now) }
+        ensures none { IfNone result (AreApart (at + 1) self.now) }
+    {
+        below(&self.blocks, at)
+    }
+
     /// Puts a run in ahead of the one at an index.
     pub fn insert(&mut self, alloc: Global, index: usize, run: Segment) -> Result<(), AllocError>
         requires { index ≤ length self.old }
@@ -125,7 +135,7 @@ impl Blocks {
 fn copied(alloc: Global, blocks: &[Block]) -> Result<Vec<Block>, AllocError>
     ensures { IfOk result (λ copy. copy.items ≡ blocks.now) }
 {
-    let mut copy = Vec::new(alloc);
+    let mut copy = Vec::with_capacity(alloc, blocks.len())?;
     for block in blocks {
         copy.push(block.copy(alloc)?)?;
     }
@@ -136,8 +146,8 @@ fn copied(alloc: Global, blocks: &[Block]) -> Result<Vec<Block>, AllocError>
 fn counted_by(starts: &[usize], index: usize) -> usize
     requires { IsNonDecreasingBy (λ start. start) starts.now }
     ensures bound { result ≤ length starts.now }
-    ensures parted { IsPartitionPoint (λ start. leb start index ≡ true) (λ start. leb start index ≡ false)
-        starts.now result }
+    ensures parted { IsPartitionPoint (λ start. leb start index ≡ true)
+        (λ start. leb start index ≡ false) starts.now result }
 {
     match starts.last() {
         Some(start) if *start <= index => starts.len(),
@@ -203,6 +213,20 @@ fn locate(blocks: &[Block], starts: &[usize], at: u32) -> usize
     starts[passed - 1] + block.locate(at)
 }
 
+fn below(blocks: &[Block], at: u32) -> Option<&Segment>
+    requires filled { AreFilled blocks.now }
+    requires apart { AreApart 0 (all_runs blocks.now) }
+    ensures some { IfSome result (λ run. IsLastBy (all_runs blocks.now) at run.now) }
+    ensures none { IfNone result (AreApart (at + 1) (all_runs blocks.now)) }
+{
+    let passed = begun_by(blocks, at);
+    if passed == 0 {
+        return None;
+    }
+    let block = &blocks[passed - 1];
+    Some(block.below(at))
+}
+
 fn insert(
     alloc: Global,
     blocks: &mut Vec<Block>,
@@ -220,8 +244,8 @@ fn insert(
     ensures filled { AreFilled blocks.new.items }
     ensures counted { IsCounted starts.new.items blocks.new.items }
 {
-    if blocks.is_empty() {
-        return begin(alloc, blocks, starts, run);
+    if is_full_at(blocks, starts, index) {
+        return begin_block(alloc, blocks, starts, index, run);
     }
     let (at, inside) = place_before(blocks, starts, index);
     let block = &mut blocks[at];
@@ -234,24 +258,41 @@ fn insert(
     Ok(())
 }
 
-/// Puts the first run in.
-fn begin(
+/// Whether an index stands behind all runs, with no block there that has room for one more.
+fn is_full_at(blocks: &[Block], starts: &[usize], index: usize) -> bool
+    requires counted { IsCounted starts.now blocks.now }
+    requires index { index ≤ length (all_runs blocks.now) }
+    requires room { length (all_runs blocks.now) < 2 ^ 64 }
+    ensures behind { result ≡ true → index ≡ length (all_runs blocks.now) }
+    ensures some { result ≡ false → 0 < length blocks.now }
+{
+    match blocks.last() {
+        Some(block) => { block.len() >= MOST_RUNS && ahead(starts, blocks, blocks.len()) == index }
+        None => true,
+    }
+}
+
+/// Puts a run in behind all others, in a block of its own.
+fn begin_block(
     alloc: Global,
     blocks: &mut Vec<Block>,
     starts: &mut Vec<usize>,
+    index: usize,
     run: Segment,
 ) -> Result<(), AllocError>
-    requires none { blocks.old.items ≡ [] }
+    requires filled { AreFilled blocks.old.items }
     requires counted { IsCounted starts.old.items blocks.old.items }
-    ensures ok { OnOk result (all_runs blocks.new.items ≡ run ∷ []) }
-    ensures err { OnErr result (blocks.new.items ≡ []) }
+    requires index { index ≡ length (all_runs blocks.old.items) }
+    ensures ok { OnOk result
+        (all_runs blocks.new.items ≡ insert (all_runs blocks.old.items) index run) }
+    ensures err { OnErr result (all_runs blocks.new.items ≡ all_runs blocks.old.items) }
     ensures filled { AreFilled blocks.new.items }
     ensures counted { IsCounted starts.new.items blocks.new.items }
 {
     let block = Block::of(alloc, run)?;
     starts.reserve(1)?;
     blocks.push(block)?;
-    if starts.push(0).is_err() {
+    if starts.push(index).is_err() {
         unreachable!();
     }
     Ok(())

@@ -65,12 +65,10 @@ impl Segments {
     pub fn find(&self, at: u32) -> Option<u8>
         ensures { result ≡ byte_among self.now at }
     {
-        let index = self.runs.locate(at);
-        if index == 0 {
-            return None;
+        match self.runs.below(at) {
+            Some(run) => run.byte(at),
+            None => None,
         }
-        let run = self.runs.get(index - 1);
-        run.byte(at)
     }
 
     /// The bytes from an address on, up to the first address without one.
@@ -79,12 +77,10 @@ impl Segments {
             → byte_among self.now (at + k) ≡ slice_get result.now k }
         ensures end { byte_among self.now (at + length result.now) ≡ None }
     {
-        let index = self.runs.locate(at);
-        if index == 0 {
-            return &[];
+        match self.runs.below(at) {
+            Some(run) => run.bytes_from(at),
+            None => &[],
         }
-        let run = self.runs.get(index - 1);
-        run.bytes_from(at)
     }
 
     /// The number of runs that begin at or below an address.

@@ -1,5 +1,5 @@
 -- Where one more run fits among others, and what runs become once bytes are placed among them.
-use Rattle.std.specs.Prelude.{◌≡◌, ℕ, ◌+◌, ◌≤◌, List, [], ◌∷◌, length, take, drop, All}
+use Rattle.std.specs.Prelude.{◌≡◌, ℕ, ◌+◌, ◌-◌, ◌<◌, ◌≤◌, List, [], ◌∷◌, length, take, drop, slice_index_or, All}
 use Rattle.m88_base.specs.Found.{PutsBytes}
 use Rattle.m88_base.specs.Placed.{Placed, byte_among, count_among, AreApart}
 
@@ -18,6 +18,14 @@ pub record IsCut (runs : List Placed) (index at : ℕ) : Type 0 where
   pub bound : index ≤ length runs
   pub below : All (λ run. run.at ≤ at) (take index runs)
   pub above : AreApart (at + 1) (drop index runs)
+
+-- the run is the last that begins at or below the address
+pub record IsLastBy (runs : List Placed) (at : ℕ) (run : Placed) : Type 0 where
+  pub from : run.at ≤ at
+  pub index : ℕ
+  pub some : 0 < index
+  pub cut : IsCut runs index at
+  pub is : run ≡ slice_index_or runs (index - 1) run
 
 -- runs that are others with the bytes put at the addresses from `at` on
 pub record Places (old new : List Placed) (at : ℕ) (bytes : List ℕ) : Type 0 where

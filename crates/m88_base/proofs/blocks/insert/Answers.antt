@@ -10,14 +10,14 @@ changed : (c : In_ok-insert) → all_runs (set c.args.blocks.now.items c.place_b
 changed c =
     rw c.in_ok-insert.ensures.ok
     (insert_at c.args.blocks.now.items c.place_before-at.result.0 c.place_before-at.result.1 c.args.index c.index_mut-block.result.now c.args.run
-    (rw c.deref.ensures.value at c.place_before-at.ensures) c.index_mut-block.ensures.value)
+    (rw c.deref-3.ensures.value at c.place_before-at.ensures) c.index_mut-block.ensures.value)
 
 room : (c : In_ok-insert) → length (all_runs (set c.args.blocks.now.items c.place_before-at.result.0 c.insert.new.self)) < 2 ^ 64
 room c =
     omega (arith, ap length (changed c), length-insert (all_runs c.args.blocks.now.items) c.args.index c.args.run c.requires.index, c.requires.room)
 
 pub count-requires-clause-room : goal.count-requires-clause-room
-count-requires-clause-room c = rw c.deref-3.ensures.value (room ((goal.at.count-requires-clause-room c).In_ok-insert))
+count-requires-clause-room c = rw c.deref-5.ensures.value (room ((goal.at.count-requires-clause-room c).In_ok-insert))
 
 pub split-requires-clause-room : goal.split-requires-clause-room
 split-requires-clause-room c = room ((goal.at.split-requires-clause-room c).In_ok-insert)
