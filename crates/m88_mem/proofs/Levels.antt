@@ -3,6 +3,7 @@ use Rattle.std.proofs.Common.{[], ◌∷◌, ◌≡◌, ◌≢◌, ℕ, zero, su
 use Rattle.std.proofs.lemmas.Bool.{cases_eq, false≢true}
 use Rattle.std.proofs.lemmas.Bool.Decides.{nat_tests}
 use Rattle.std.proofs.lemmas.List.{get_or-set_same, get_or-set_other, length-set, length-replicate}
+use Rattle.std.specs.Prelude.{IfSome}
 use Rattle.m88_mem.specs.DataBus.{page_words}
 use Rattle.m88_mem.specs.Inside.Frames.{AreFrames, frame_at, frame_in, has_table, table_entries, with_frame, word_at, word_in}
 use Rattle.m88_mem.specs.declared.frames.PageFrame.{PageFrame}
@@ -157,22 +158,50 @@ word_set before now page place word frame later was changed within frames p k = 
           rw test (at_other xs i j x ne)
     ]
 
+-- a frame that is there stands in a table
+pub record InTable (tables : List (Option FrameTable)) (page : ℕ) : Type 0 where
+  pub table : FrameTable
+  pub frame : PageFrame
+  pub is : slice_index_or tables (page / table_entries) None ≡ Some table
+  pub there : frame_at tables page ≡ Some frame
+
+some_is : {X : Type 0} (o : Option X) → is_some o ≡ true → (x : X) × (o ≡ Some x)
+some_is None e = absurd (false≢true e)
+some_is (Some x) e = (x, refl)
+
+some_above : (o : Option FrameTable) (low : ℕ) → is_some (frame_in o low) ≡ true → is_some o ≡ true
+unfolding frame_in
+some_above None low e = e
+some_above (Some table) low e = refl
+
+pub in_table : (tables : List (Option FrameTable)) (page : ℕ) → is_some (frame_at tables page) ≡ true → InTable tables page
+in_table tables page ready =
+    let above = some_is (slice_index_or tables (page / table_entries) None)
+    (some_above (slice_index_or tables (page / table_entries) None) (page % table_entries) ready) in
+    let frame = some_is (frame_at tables page) ready in
+    record { table = above.0; frame = frame.0; is = above.1; there = frame.1 }
+
 -- a frame that isn't there is none
 pub none_some : (f : PageFrame) → None ≡ Some f → ⊥
 none_some f e = false≢true (ap is_some e)
 
--- a frame that is taken out and put back changed
-pub put_back : (before between now : List (Option FrameTable)) (page : ℕ) (later : PageFrame) →
-    ((p : ℕ) → frame_at between p ≡ with_frame page None (frame_at before) p) →
-    ((p : ℕ) → frame_at now p ≡ with_frame page (Some later) (frame_at between) p) →
-    (p : ℕ) → frame_at now p ≡ (if p == page then Some later else frame_at before p)
-put_back before between now page later out in_again p = elim (cases_eq p page) [
+-- what holds of all that an option may have holds of it
+pub if_some : {X : Type 0} (o : Option X) (P : X → Type 0) → ((x : X) → o ≡ Some x → P x) → IfSome o P
+if_some None P all = tt
+if_some (Some x) P all = all x refl
+
+-- a page is as ready as before once its frame is another
+pub ready_kept : (before now : List (Option FrameTable)) (page : ℕ) (frame later : PageFrame) →
+    frame_at before page ≡ Some frame → ((p : ℕ) → frame_at now p ≡ with_frame page (Some later) (frame_at before) p) →
+    (p : ℕ) → is_some (frame_at now p) ≡ is_some (frame_at before p)
+ready_kept before now page frame later was frames p = elim (cases_eq p page) [
   | inl e ↦
       let test : (p == page) ≡ true = grind (arith, nat_tests) in
-      in_again p ∙ rw test refl
+      let here : frame_at now p ≡ Some later = frames p ∙ rw test refl in
+      ap is_some here ∙ sym (ap is_some (ap (frame_at before) e ∙ was))
   | inr ne ↦
       let test : (p == page) ≡ false = grind (arith, nat_tests) in
-      in_again p ∙ rw test (out p ∙ rw test refl)
+      ap is_some (frames p ∙ rw test refl)
 ]
 
 -- a place without a table

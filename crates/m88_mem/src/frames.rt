@@ -6,7 +6,9 @@ crate::specs::Inside::Frames::frame_in, crate::specs::Inside::Frames::word_in, c
 ghost use Rattle.std.specs.Prelude.{◌≡◌, ◌<◌, ◌==◌, ◌&&◌, ℕ, true, None, Some, is_some, replicate, length, option_map, if◌then◌else◌, IfOk, IfSome, OnErr, OnOk};
 ghost use Rattle.m88_base.specs.Pages.{page_count};
 ghost use Rattle.m88_mem.specs.DataBus.{page_words};
-ghost use Rattle.m88_mem.specs.Inside.Frames.{frame_at, has_table, table_entries, with_frame, word_at, words_in};
+ghost use Rattle.m88_mem.specs.Inside.Frames.{HasPut, IsPut, frame_at, frame_in, has_table, table_entries, with_frame, word_at, words_in};
+ghost use Rattle.m88_mem.specs.declared.frames.FrameTable.{FrameTable as FrameTableValue};
+ghost use Rattle.m88_mem.specs.declared.frames.PageFrame.{PageFrame as PageFrameValue};
 
 use m88_base::NoMemory;
 use std::alloc::Global;
@@ -135,27 +137,6 @@ impl PageFrames {
         self.tables[high] = Some(table);
     }
 
-    /// Takes a page's frame out.
-    fn take_frame(&mut self, page: u32) -> PageFrame
-        requires page { page < page_count }
-        requires ready { is_some (frame_at self.old page) ≡ true }
-        ensures frame { frame_at self.old page ≡ Some result }
-        ensures words { length result.words.items ≡ page_words }
-        ensures frames { (p : ℕ) → frame_at self.new p ≡ with_frame page None (frame_at self.old) p }
-        ensures there { has_table self.new page ≡ true }
-        ensures entries { length self.new ≡ length self.old }
-    {
-        let high = page as usize / ENTRIES;
-        let Some(mut table) = self.tables[high].take() else {
-            unreachable!();
-        };
-        let Some(frame) = table.frames[page as usize % ENTRIES].take() else {
-            unreachable!();
-        };
-        self.tables[high] = Some(table);
-        frame
-    }
-
     /// Changes a word of a page that is ready.
     pub fn put(&mut self, page: u32, place: usize, word: u32)
         requires page { page < page_count }
@@ -166,9 +147,8 @@ impl PageFrames {
         ensures ready { (p : ℕ) → is_some (frame_at self.new p) ≡ is_some (frame_at self.old p) }
         ensures entries { length self.new ≡ length self.old }
     {
-        let mut frame = self.take_frame(page);
-        frame.words[place] = word;
-        self.set_frame(page, frame);
+        let table = &mut self.tables[page as usize / ENTRIES];
+        put_in_table(table, page as usize % ENTRIES, place, word);
     }
 }
 
@@ -182,5 +162,32 @@ impl FrameTable {
             frames.push(None).or(Err(NoMemory))?;
         }
         Ok(FrameTable { frames })
+    }
+}
+
+/// Changes a word of a frame of a table where it stands.
+fn put_in_table(table: &mut Option<FrameTable>, low: usize, place: usize, word: u32)
+    requires low { low < table_entries }
+    requires long { IfSome table.old (λ t. length t.frames.items ≡ table_entries) }
+    requires ready { is_some (frame_in table.old low) ≡ true }
+    requires place { IfSome (frame_in table.old low) (λ f. place < length f.words.items) }
+    ensures { (t : FrameTableValue) (f : PageFrameValue) → table.old ≡ Some t → frame_in table.old low ≡ Some f
+        → HasPut table.new t f low place word }
+{
+    match table {
+        Some(table) => put_in_frame(&mut table.frames[low], place, word),
+        None => unreachable!(),
+    }
+}
+
+/// Changes a word of a frame.
+fn put_in_frame(frame: &mut Option<PageFrame>, place: usize, word: u32)
+    requires ready { is_some frame.old ≡ true }
+    requires place { IfSome frame.old (λ f. place < length f.words.items) }
+    ensures { (f : PageFrameValue) → frame.old ≡ Some f → IsPut frame.new f place word }
+{
+    match frame {
+        Some(frame) => frame.words[place] = word,
+        None => unreachable!(),
     }
 }

@@ -1,6 +1,6 @@
 -- The frames of the pages that are ready, behind a table of two levels of 1,024 entries each, a bit for each page, 32
 -- pages to a word, and how both are seen.
-use Rattle.std.specs.Prelude.{ℕ, zero, suc, Bool, List, [], ◌∷◌, Option, None, Some, ◌≡◌, ◌/◌, ◌%◌, ◌^◌, ◌==◌, is_some, length, slice_get, slice_index_or, if◌then◌else◌}
+use Rattle.std.specs.Prelude.{ℕ, zero, suc, Bool, List, [], ◌∷◌, Option, None, Some, ◌≡◌, ◌/◌, ◌%◌, ◌^◌, ◌==◌, is_some, length, slice_get, slice_index_or, slice_set, if◌then◌else◌}
 use Rattle.std.specs.Int.{bit_at}
 use Rattle.m88_base.specs.Image.{ProgramImage}
 use Rattle.m88_base.specs.Pages.{page_count}
@@ -39,6 +39,20 @@ has_table tables page = is_some (slice_index_or tables (page / table_entries) No
 -- the frames with one page's put in or taken out
 abbrev pub with_frame : ℕ → Option PageFrame → (ℕ → Option PageFrame) → ℕ → Option PageFrame
 with_frame page frame other p = if p == page then frame else other p
+
+-- a frame with a word changed
+pub record IsPut (after : Option PageFrame) (f : PageFrame) (place word : ℕ) : Type 0 where
+  pub frame : PageFrame
+  pub is : after ≡ Some frame
+  pub words : frame.words.items ≡ slice_set f.words.items place word
+
+-- a table with a word of one of its frames changed
+pub record HasPut (after : Option FrameTable) (t : FrameTable) (f : PageFrame) (low place word : ℕ) : Type 0 where
+  pub table : FrameTable
+  pub frame : PageFrame
+  pub is : after ≡ Some table
+  pub frames : table.frames.items ≡ slice_set t.frames.items low (Some frame)
+  pub words : frame.words.items ≡ slice_set f.words.items place word
 
 -- what holds of the frames: each table has its entries, and each frame its words
 pub record AreFrames (tables : List (Option FrameTable)) : Type 0 where
