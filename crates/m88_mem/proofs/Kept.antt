@@ -1,11 +1,14 @@
--- Instructions that are kept.
+-- Instructions and words that are kept.
 use Rattle.std.specs.Prelude.{ℕ, zero, suc, List, [], ◌∷◌, Option, Some, None, ◌≡◌, ◌⊎◌, ◌<◌, IfSome, length, slice_get, slice_set}
 use Rattle.std.specs.List.{AllByRecursion}
 use Rattle.std.proofs.Common.{arith, ap, get_or, sym, subst, inl, inr}
 use Rattle.m88_base.specs.Image.{ProgramImage}
+use Rattle.m88_mem.specs.DataBus.{image_bus}
 use Rattle.m88_mem.specs.Inside.Lines.{AreLines}
+use Rattle.m88_mem.specs.Inside.Reads.{AreReads}
 use Rattle.m88_mem.specs.Lines.{IsLine}
 use Rattle.m88_mem.specs.declared.lines.Line.{Line}
+use Rattle.m88_mem.specs.declared.reads.Read.{Read}
 
 -- what holds of all holds of each
 pub all_at : {A : Type 0} (P : A → Type 0) (xs : List A) (k : ℕ) (v : A) → AllByRecursion P xs → slice_get xs k ≡ Some v → P v
@@ -27,6 +30,16 @@ pub one_more_kept : (image : ProgramImage) (lines : List (Option Line)) (place :
 one_more_kept image lines place line is are k other found =
     elim (set_or_there lines place k (Some line) (Some other) found) [
       | inl same ↦ let equal : line ≡ other = cc in subst (λ (l : Line). IsLine image l) equal is
+      | inr there ↦ are k other there
+    ]
+
+-- the same of a word
+pub one_more_read : (image : ProgramImage) (reads : List (Option Read)) (place : ℕ) (read : Read) →
+    read.word ≡ image_bus image read.addr → AreReads image reads → AreReads image (slice_set reads place (Some read))
+one_more_read image reads place read is are k other found =
+    elim (set_or_there reads place k (Some read) (Some other) found) [
+      | inl same ↦
+          let equal : read ≡ other = cc in subst (λ (r : Read). r.word ≡ image_bus image r.addr) equal is
       | inr there ↦ are k other there
     ]
 

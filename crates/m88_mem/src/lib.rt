@@ -8,6 +8,7 @@ mod lines;
 mod marks;
 mod memory;
 mod places;
+mod reads;
 #[cfg(test)]
 mod tests;
 

@@ -23,6 +23,7 @@ use crate::frames::{ENTRIES, PageFrame, PageFrames};
 use crate::lines::{Line, keep_line, line_at, line_of, no_lines};
 use crate::marks::{absent_marks, clear_mark, is_marked, mark_all};
 use crate::places::{fetched, image_word, page_word};
+use crate::reads::{Read, keep_read, no_reads, read_at};
 use m88_base::{Absent, Image, NoMemory, PAGE_BYTES};
 use m88_isa::{Instr, merge};
 use std::alloc::Global;
@@ -41,6 +42,8 @@ pub struct Memory {
     absent: Vec<u32>,
     /// Instructions that were read: nothing is seen of them.
     lines: Vec<Option<Line>>,
+    /// Words of the image that were read: nothing is seen of them either.
+    reads: Vec<Option<Read>>,
 }
 
 impl Model for Memory {
@@ -51,7 +54,8 @@ impl Model for Memory {
 
     ghost view = { λ m. seen_as m.image m.frames m.absent.items };
 
-    ghost invariant = { λ m. IsMemory m.image m.frames m.absent.items m.lines.items };
+    ghost invariant = { λ m. IsMemory m.image m.frames m.absent.items m.lines.items
+        m.reads.items };
 }
 
 impl Memory {
@@ -68,12 +72,14 @@ impl Memory {
         let frames = PageFrames::new(alloc)?;
         let absent = absent_marks(alloc, absent)?;
         let lines = no_lines(alloc)?;
+        let reads = no_reads(alloc)?;
         Ok(Memory {
             alloc,
             image,
             frames,
             absent,
             lines,
+            reads,
         })
     }
 
@@ -141,6 +147,33 @@ impl Memory {
             Some(word) => word,
             None => image_word(&self.image, addr),
         }
+    }
+
+    /// The word of the data bus at the byte address of a word, as `word` answers it. What the image has there is kept,
+    /// and found at once the next time: nothing of that is seen.
+    pub fn load(&mut self, addr: u32) -> u32
+        requires { addr % 4 ≡ 0 }
+        ensures value { result ≡ bus_of self.old addr }
+        ensures stays { self.new ≡ self.old }
+    {
+        match self.frames.word(addr / PAGE_BYTES, place_of(addr)) {
+            Some(word) => word,
+            None => self.read_image(addr),
+        }
+    }
+
+    /// The word that the image has at the byte address of a word, which is kept.
+    fn read_image(&mut self, addr: u32) -> u32
+        requires { addr % 4 ≡ 0 }
+        ensures value { result ≡ image_bus self.old.image addr }
+        ensures stays { self.new ≡ self.old }
+    {
+        if let Some(word) = read_at(&self.reads, addr) {
+            return word;
+        }
+        let word = image_word(&self.image, addr);
+        keep_read(&mut self.reads, Read { addr, word });
+        word
     }
 
     /// Makes the page of a byte address ready. The data bus stays as it is, and where memory is refused nothing

@@ -6,9 +6,11 @@ use Rattle.m88_base.specs.Image.{ProgramImage}
 use Rattle.m88_base.specs.Pages.{page_count}
 use Rattle.m88_mem.specs.DataBus.{MemoryView, page_words}
 use Rattle.m88_mem.specs.Inside.Lines.{AreLines, line_count}
+use Rattle.m88_mem.specs.Inside.Reads.{AreReads, read_count}
 use Rattle.m88_mem.specs.declared.lines.Line.{Line}
 use Rattle.m88_mem.specs.declared.frames.FrameTable.{FrameTable}
 use Rattle.m88_mem.specs.declared.frames.PageFrame.{PageFrame}
+use Rattle.m88_mem.specs.declared.reads.Read.{Read}
 
 -- how many entries a table of either level has
 abbrev pub table_entries : ℕ
@@ -93,10 +95,12 @@ seen_as image tables words = record {
 }
 
 -- what holds of every memory: its upper table has all its entries, there is a bit for each page, and the instructions
--- that it keeps are its image's
+-- and the words that it keeps are its image's
 pub record IsMemory (image : ProgramImage) (tables : List (Option FrameTable)) (words : List ℕ)
-    (kept : List (Option Line)) : Type 0 where
+    (kept : List (Option Line)) (read : List (Option Read)) : Type 0 where
   pub entries : length tables ≡ table_entries
   pub marks : length words ≡ mark_words
   pub long : length kept ≡ line_count
   pub lines : AreLines image kept
+  pub all_read : length read ≡ read_count
+  pub reads : AreReads image read

@@ -7,4 +7,6 @@ invariant_of-self c = record {
   marks = c.self.invariant.marks;
   long = c.keep_line.ensures.long;
   lines = c.keep_line.ensures.kept c.self.inside.image c.line_of-line.ensures.line c.self.invariant.lines;
+  all_read = c.self.invariant.all_read;
+  reads = c.self.invariant.reads;
 }

@@ -31,4 +31,6 @@ invariant_of-result c = record {
   marks = c.in_ok-absent.ensures.long;
   long = c.in_ok-lines.ensures.long;
   lines = c.in_ok-lines.ensures.none c.in_ok-image.image;
+  all_read = c.in_ok-reads.ensures.long;
+  reads = c.in_ok-reads.ensures.none c.in_ok-image.image;
 }
