@@ -94,18 +94,17 @@ pub(crate) fn put_in(unit: &mut DataUnit, regs: &mut RegFile, accesses: &Accesse
 
 /// Answers a load whose page is present: its register has its value, and waits no more.
 #[tactic(auto, unfolding(m88_isa::specs::Bus::loaded))]
-pub(crate) fn answer_load(access: &Access, memory: &Memory, regs: &mut RegFile)
+pub(crate) fn answer_load(access: &Access, memory: &mut Memory, regs: &mut RegFile)
     requires made { IsWordAccess access.now }
-    requires present { absent_of memory.now (page_number access.now.addr) ≡ false }
+    requires present { absent_of memory.old (page_number access.now.addr) ≡ false }
     requires zero { waiting_of regs.old 0 ≡ false }
     ensures numbers { regs.new.numbers
-        ≡ with_register access.now.reg (loaded access.now (bus_of memory.now)) regs.old.numbers }
+        ≡ with_register access.now.reg (loaded access.now (bus_of memory.old)) regs.old.numbers }
     ensures waiting { waiting_of regs.new
         ≡ with_member (number_of access.now.reg) false (waiting_of regs.old) }
+    ensures stays { memory.new ≡ memory.old }
 {
-    let Ok(word) = memory.read_word(access.addr) else {
-        unreachable!()
-    };
+    let word = memory.load(access.addr);
     regs.clear(access.reg);
     regs.set(access.reg, datum(access.en, access.signed, word));
 }

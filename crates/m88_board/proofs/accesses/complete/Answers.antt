@@ -44,16 +44,18 @@ pub returns-clause-agree : goal.returns-clause-agree
 returns-clause-agree c =
     let done = load_answered c.args.unit.now c.args.oldest.now c.args.regs.now c.answer_load.new.regs c.args.memory.now
     c.requires.oldest c.requires.agree c.if-oldest.false c.answer_load.ensures.numbers c.answer_load.ensures.waiting in
-    subst (λ (xs : List Access). PartsAgree xs c.answer_load.new.regs c.args.memory.now) (sym c.retire-2.ensures) done.agree
+    rw c.answer_load.ensures.stays
+    (subst (λ (xs : List Access). PartsAgree xs c.answer_load.new.regs c.args.memory.now) (sym c.retire-2.ensures) done.agree)
 
 pub returns-clause-cells : goal.returns-clause-cells
 returns-clause-cells c =
     let done = load_answered c.args.unit.now c.args.oldest.now c.args.regs.now c.answer_load.new.regs c.args.memory.now
     c.requires.oldest c.requires.agree c.if-oldest.false c.answer_load.ensures.numbers c.answer_load.ensures.waiting in
-    ap (λ (xs : List Access). after_accesses xs (cells_of c.answer_load.new.regs c.args.memory.now)) c.retire-2.ensures ∙ done.cells
+    rw c.answer_load.ensures.stays
+    (ap (λ (xs : List Access). after_accesses xs (cells_of c.answer_load.new.regs c.args.memory.now)) c.retire-2.ensures ∙ done.cells)
 
 pub returns-clause-bus : goal.returns-clause-bus
 returns-clause-bus c =
     let done = load_answered c.args.unit.now c.args.oldest.now c.args.regs.now c.answer_load.new.regs c.args.memory.now
     c.requires.oldest c.requires.agree c.if-oldest.false c.answer_load.ensures.numbers c.answer_load.ensures.waiting in
-    done.bus
+    rw c.answer_load.ensures.stays done.bus
