@@ -46,7 +46,7 @@ uncounted brief.Faulted b = refl
 uncounted brief.Evicted b = refl
 uncounted brief.Idle b = refl
 uncounted (brief.Served byte) b = refl
-uncounted (brief.Ended end) b = refl
+uncounted brief.Ended b = refl
 
 pub told_counted : (brief : Brief) (middle new : BoardView) → new ≡ record middle { events = middle.events + 1 } →
     happened_of brief middle ≡ happened_of brief new

@@ -321,7 +321,7 @@ impl Board {
     {
         enter(&mut self.ctrl, &self.iunit, vector);
         self.ended = Some(end);
-        Brief::Ended(end)
+        Brief::Ended
     }
 
     /// Puts a byte out for the next instruction.

@@ -1,8 +1,9 @@
 //! What an event did, in brief.
 
-use m88_event::{End, Why};
+use m88_event::Why;
 
-/// What an event did, as `Happened` tells it, but for the record of a data fault, which is the last of the board's.
+/// What an event did, as `Happened` tells it, but for the record of a data fault, which is the last of the board's, and
+/// for how the program ended, which the board tells too.
 #[derive(Clone, Copy, Debug)]
 pub(crate) enum Brief {
     Issued,
@@ -13,5 +14,5 @@ pub(crate) enum Brief {
     Evicted,
     Idle,
     Served(u8),
-    Ended(End),
+    Ended,
 }

@@ -135,7 +135,7 @@ impl Board {
     }
 
     /// What the last event did, of which this was told in brief: of a data fault with its record, the last of the
-    /// board's.
+    /// board's, and of the program's end how it ended.
     pub(crate) fn happened(&self, brief: Brief) -> Happened
         ensures { result ≡ happened_of brief self.now }
     {
@@ -151,7 +151,10 @@ impl Board {
             Brief::Evicted => Happened::Evicted,
             Brief::Idle => Happened::Idle,
             Brief::Served(byte) => Happened::Served(byte),
-            Brief::Ended(end) => Happened::Ended(end),
+            Brief::Ended => match self.ended {
+                Some(end) => Happened::Ended(end),
+                None => Happened::Idle,
+            },
         }
     }
 }
