@@ -15,6 +15,7 @@ ghost use Rattle.m88_isa.specs.Operands.{access_count_of, writes_of};
 ghost use Rattle.m88_board.specs.Board.{completed_of, is_idle_board, local_of, pc_of};
 ghost use Rattle.m88_isa.specs.ImageProgram.{IsProgramOf};
 ghost use Rattle.m88_isa.specs.declared.planned.Plan.TheVariants.{Go};
+ghost use Rattle.m88_isa.specs.declared.planned.Outline.TheVariants.{Memory};
 ghost use Rattle.m88_mem.specs.Lines.{HasInvolved, IsLine};
 ghost use Rattle.m88_board.specs.Moves.{Did, IsSameRun, IsStill, IsUnmoved};
 ghost use Rattle.m88_board.specs.Shown.{Leaves};
@@ -30,8 +31,8 @@ use m88_base::{NoMemory, Reg};
 use m88_codec::decode;
 use m88_event::Why;
 use m88_isa::{
-    Effect, INSTRUCTION_ACCESS, Instr, Outline, Plan, UNIMPLEMENTED, accesses_at, no_accesses,
-    outline, uses, waits_for_empty, writes,
+    Effect, INSTRUCTION_ACCESS, Instr, MemOp, Outline, Plan, UNIMPLEMENTED, accesses_at,
+    no_accesses, outline, uses, waits_for_empty, writes,
 };
 use m88_mem::Line;
 
@@ -188,17 +189,7 @@ impl Board {
                 let carry = self.ctrl.carry();
                 Ok(self.issue_alone(instr, effect_alone(reg, carry, after, bubble), told))
             }
-            Outline::Memory { op, d, place } => {
-                let next = self.iunit.following().addr;
-                let effect = Effect {
-                    reg: None,
-                    carry: self.ctrl.carry(),
-                    accesses: accesses_at(op, d, place, self.regs.numbers()),
-                    after: (next, next.wrapping_add(4)),
-                    bubble: false,
-                };
-                self.issue_accesses(instr, effect, told)
-            }
+            Outline::Memory { op, d, place } => self.issue_touching(instr, op, d, place, told),
             Outline::Raise(vector) => Ok(self.raise(vector)),
             Outline::Trap(vector) => {
                 if self.is_pending() {
@@ -232,6 +223,52 @@ impl Board {
         }
         self.go_on(&effect);
         Brief::Issued
+    }
+
+    /// The next instruction in its turn, which loads or stores or does both at a byte address.
+    fn issue_touching(
+        &mut self,
+        instr: &Instr,
+        op: MemOp,
+        d: Reg,
+        place: u32,
+        told: &mut Plan,
+    ) -> Result<Brief, NoMemory>
+        requires instr { IsValid instr.now }
+        requires going { is_idle_board self.old ≡ false }
+        requires valid { self.old.slots.nip.v ≡ true }
+        requires fetched { self.old.slots.nip.e ≡ false }
+        requires free { busy_register (Some instr.now) self.old.pending ≡ None }
+        requires value { planned_by (Memory op d place) self.old
+            ≡ plan_for (meaning_at instr.now (completed_of self.old)) }
+        requires accesses { MakesAccesses (access_count_of instr.now)
+            (planned_by (Memory op d place) self.old) }
+        requires register { WritesWithin (writes_of instr.now)
+            (planned_by (Memory op d place) self.old) }
+        requires flow { FlowsToWords (planned_by (Memory op d place) self.old) }
+        requires pages { PlansOnePage (planned_by (Memory op d place) self.old) }
+        ensures ok { IfOk result (λ brief. (fault : RecordValue)
+            → Did (choice_for (Some instr.now) self.old) fault self.old
+            (happened_of brief self.new) self.new) }
+        ensures still { IfOk result (λ brief. IsStill (happened_of brief self.new)
+            → self.new ≡ self.old) }
+        ensures leaves { IfOk result (λ brief.
+            Leaves (happened_of brief self.new) self.old self.new) }
+        ensures told { OnOk result ((change : Change)
+            → choice_for (Some instr.now) self.old ≡ issues change
+            → told.new ≡ Go (recorded_change change)) }
+        ensures made { MakesWordAccesses told.new }
+        ensures err { OnErr result (IsUnmoved self.old self.new) }
+    {
+        let next = self.iunit.following().addr;
+        let effect = Effect {
+            reg: None,
+            carry: self.ctrl.carry(),
+            accesses: accesses_at(op, d, place, self.regs.numbers()),
+            after: (next, next.wrapping_add(4)),
+            bubble: false,
+        };
+        self.issue_accesses(instr, effect, told)
     }
 
     /// The next instruction in its turn, where it makes these changes, or it waits for room for its accesses.

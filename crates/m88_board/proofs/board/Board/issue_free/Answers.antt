@@ -1,25 +1,18 @@
 -- What the outline of the instruction tells is carried out, or it waits.
-use Rattle.std.proofs.Common.{◌∙◌, None, Some, ap, false, sym}
+use Rattle.std.proofs.Common.{◌∙◌, Some, sym}
 use Rattle.std.proofs.lemmas.Result.{IfOk-weaker}
-use Rattle.m88_base.specs.declared.slot.Slot.{Slot}
 use Rattle.m88_event.specs.Choice.{turn_choice}
 use Rattle.m88_event.specs.declared.record.Record.{Record}
-use Rattle.m88_isa.specs.Address.{after_bytes}
 use Rattle.m88_isa.specs.Held.{sync}
 use Rattle.m88_isa.specs.Machine.{by_vector, trapped}
-use Rattle.m88_isa.specs.declared.planned.Accesses.{Accesses}
-use Rattle.m88_isa.specs.declared.planned.Plan.TheVariants.{Go}
-use Rattle.m88_isa.specs.declared.planned.Outline.TheVariants.{Memory}
 use Rattle.m88_board.proofs.Choosing.{did_by}
-use Rattle.m88_board.proofs.Issuing.{held_still, nothing_pending, raise_is, raising, shown_by, trap_held, trap_is, trap_turn}
-use Rattle.m88_board.proofs.Planned.{planned_from}
+use Rattle.m88_board.proofs.Issuing.{held_still, nothing_pending, raise_is, raising, trap_held, trap_is, trap_turn}
 use Rattle.m88_board.proofs.Still.{still_if_turned}
 use Rattle.m88_board.proofs.Telling.{stopping_issues_none}
 use Rattle.m88_board.specs.Board.{pc_of}
 use Rattle.m88_board.specs.Inside.Briefly.{happened_of}
-use Rattle.m88_board.specs.Inside.Turns.{choice_for, planned_by}
+use Rattle.m88_board.specs.Inside.Turns.{choice_for}
 use Rattle.m88_board.specs.Moves.{Did, stopping}
-use Rattle.m88_board.specs.contracts.board.Board.{the_view}
 use Rattle.m88_board.proofs.board.Board.issue_free.Goals as goal
 
 pub returns-in-Raise-clause-ok : goal.returns-in-Raise-clause-ok
@@ -89,21 +82,3 @@ returns-then-is_pending-clause-told c = λ change issued.
     (trap_is _ c.in-Trap.vector c.in-Trap.ensures.value)
     (sym c.is_pending.ensures ∙ c.if-is_pending.true) in
     absurd cc
-
-pub issue_accesses-requires-clause-planned : goal.issue_accesses-requires-clause-planned
-issue_accesses-requires-clause-planned c =
-    let b = c.args.self.now in
-    let memory = Memory c.in-Memory.op c.in-Memory.d c.in-Memory.place in
-    let next = c.following-next-in-Memory.result.addr in
-    planned_from c.args.instr.now _ b (planned_by memory b)
-    (shown_by memory (the_view c.self.inside) b c.numbers.result.now c.carry.result next c.self.view_is c.numbers.ensures
-    c.carry.ensures (ap (λ (s : Slot). s.addr) c.following-next-in-Memory.ensures.value)
-    ∙ ap (λ (a : Accesses). Go (record {
-      reg = None;
-      carry = c.carry.result;
-      accesses = a;
-      after = (next, after_bytes next 4);
-      bubble = false;
-    })) (sym c.accesses_at.ensures))
-    c.requires.instr c.requires.free c.in-Memory.ensures.value c.in-Memory.ensures.accesses c.in-Memory.ensures.register
-    c.in-Memory.ensures.flow c.in-Memory.ensures.pages
