@@ -32,6 +32,7 @@ fn lacks_next(iunit: &InstrUnit, memory: &Memory, next: u32) -> bool
 
 /// Whether the image lacks a byte of the word behind the one at an address, which is known of an instruction that is
 /// kept.
+#[inline(always)]
 pub(crate) fn lacks_behind(memory: &Memory, addr: u32) -> bool
     requires { addr % 4 ≡ 0 }
     ensures { result ≡ lacks_word memory.now.image (after_bytes addr 4) }
@@ -43,6 +44,7 @@ pub(crate) fn lacks_behind(memory: &Memory, addr: u32) -> bool
 }
 
 /// Whether the image lacks a byte of the word at `behind`, which may be the one behind that at `next`.
+#[inline(always)]
 fn lacks_further(memory: &Memory, next: u32, behind: u32) -> bool
     requires next { next % 4 ≡ 0 }
     requires behind { behind % 4 ≡ 0 }
