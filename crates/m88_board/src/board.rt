@@ -269,7 +269,31 @@ impl Board {
     }
 
     /// The letter `r`.
+    // Inlined, it costs next to nothing where nothing is pending, as at most of these letters.
+    #[inline(always)]
     fn answer(&mut self) -> Result<Brief, NoMemory>
+        ensures ok { IfOk result (λ brief. (p : Program) → IsProgramOf self.old.memory.image p
+            → Did (answer_choice self.old.pending (absent_of self.old.memory))
+            (record_by p self.old.limit (local_of self.old)) self.old
+            (happened_of brief self.new) self.new) }
+        ensures events { self.new.events ≡ self.old.events }
+        ensures same { OnOk result (IsSameRun self.old self.new) }
+        ensures still { IfOk result (λ brief. IsStill (happened_of brief self.new)
+            → self.new ≡ self.old) }
+        ensures shorter { OnOk result (length self.new.pending ≤ length self.old.pending - 1) }
+        ensures leaves { IfOk result (λ brief.
+            Leaves (happened_of brief self.new) self.old self.new) }
+        ensures err { OnErr result (IsUnmoved self.old self.new) }
+    {
+        match self.dunit.oldest() {
+            Some(_) => self.answer_oldest(),
+            None => Ok(Brief::Idle),
+        }
+    }
+
+    /// The letter `r` over the transactions that are pending.
+    #[inline(never)]
+    fn answer_oldest(&mut self) -> Result<Brief, NoMemory>
         ensures ok { IfOk result (λ brief. (p : Program) → IsProgramOf self.old.memory.image p
             → Did (answer_choice self.old.pending (absent_of self.old.memory))
             (record_by p self.old.limit (local_of self.old)) self.old

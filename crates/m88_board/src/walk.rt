@@ -132,6 +132,7 @@ impl<'a> Walk<'a> {
     }
 
     /// Makes the event of the next letter as `next_told` does, and answers in brief.
+    #[inline(always)]
     fn next_brief<W: Watch>(&mut self, watch: &mut W, told: &mut Told) -> Result<Brief, NoMemory>
         requires { is_over_by self.old.board.now.limit (local_of self.old.board.now) ≡ false }
         ensures ok { OnOk result ((p : Program) (named : ℕ → Bool) (m : Moment)

@@ -27,6 +27,7 @@ use m88_event::{Happened, Letter};
 
 impl Board {
     /// What a letter makes the board do; the event isn't counted yet.
+    #[inline(always)]
     fn take(&mut self, letter: Letter, told: &mut Told) -> Result<Brief, NoMemory>
         ensures ok { IfOk result (λ brief. (p : Program) → IsProgramOf self.old.memory.image p
             → Did (choice_by p self.old.limit letter (local_of self.old))
@@ -97,6 +98,7 @@ impl Board {
 
     /// Makes the event of a letter as `event` does and answers in brief, and tells of `i` what the instruction is that
     /// goes on.
+    #[inline(always)]
     pub(crate) fn event_told(&mut self, letter: Letter, told: &mut Told) -> Result<Brief, NoMemory>
         requires { self.old.events < most_events }
         ensures moved { IfOk result (λ brief. (p : Program)

@@ -39,6 +39,7 @@ use m88_mem::Line;
 impl Board {
     /// The letter `i`: nothing where no more may be issued, a bubble is passed over, or the next instruction has its
     /// turn.
+    #[inline(never)]
     pub(super) fn issue(&mut self, told: &mut Told) -> Result<Brief, NoMemory>
         ensures ok { IfOk result (λ brief. (p : Program) (fault : RecordValue)
             → IsProgramOf self.old.memory.image p

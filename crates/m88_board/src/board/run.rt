@@ -96,6 +96,7 @@ impl Board {
 
     /// Makes the event of a letter, answers in brief, and tells of `i` what the instruction is that goes on; then the
     /// watch is shown the board.
+    #[inline(always)]
     pub(crate) fn step<W: Watch>(
         &mut self,
         letter: Letter,

@@ -11,7 +11,7 @@ use Rattle.m88_board.proofs.Moving.{fewer_faulted, fewer_replied}
 use Rattle.m88_board.proofs.Briefly.{fault_did, last_told}
 use Rattle.m88_board.specs.Moves.{IsStill}
 use Rattle.m88_board.specs.Shown.{Leaves}
-use Rattle.m88_board.proofs.board.Board.answer.Goals as goal
+use Rattle.m88_board.proofs.board.Board.answer_oldest.Goals as goal
 
 pub returns-clause-ok : goal.returns-clause-ok
 returns-clause-ok c = λ p of.
