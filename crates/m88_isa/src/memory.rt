@@ -1,9 +1,11 @@
 //! The accesses of loads, stores and exchanges ("Instruction Set": load, store and exchange instructions).
 
-ghost use Rattle.std.specs.Prelude.{◌≡◌, ◌≤◌, [], true};
+ghost use Rattle.std.specs.Prelude.{◌≡◌, ◌≤◌, [], ◌∷◌, false, true};
+ghost use Rattle.m88_isa.specs.Address.{after_bytes};
 ghost use Rattle.m88_isa.specs.Effect.{accesses, touches_at};
 ghost use Rattle.m88_isa.specs.Inside.Outline.{IsOutline, with_stored};
-ghost use Rattle.m88_isa.specs.Memory.{access_of, load, no_access, recorded, size_of, store, touches_of};
+ghost use Rattle.m88_isa.specs.Memory.{access_of, first_half, load, locked, no_access, recorded, size_of, store};
+ghost use Rattle.m88_isa.specs.Operands.{register_after};
 
 use crate::address::word_address;
 use crate::effect::register;
@@ -34,16 +36,18 @@ pub(crate) fn accesses(op: MemOp, d: Reg, place: u32, x: Inputs) -> Outline
 }
 
 /// The accesses of a memory mnemonic with D at a byte address, of the values that the registers hold.
+#[inline(always)]
 pub fn accesses_at(op: MemOp, d: Reg, place: u32, regs: &[u32; 32]) -> Accesses
     ensures { result ≡ recorded (touches_at op d place regs.now) }
 {
-    touches_of(
-        op,
-        d,
-        register(regs, d),
-        register(regs, register_after(d)),
-        place,
-    )
+    match op {
+        MemOp::LdBu | MemOp::LdHu | MemOp::Ld => loads(size_of(op), false, d, place),
+        MemOp::LdB | MemOp::LdH => loads(size_of(op), true, d, place),
+        MemOp::LdD => loads_double(d, place),
+        MemOp::StB | MemOp::StH | MemOp::St => stores(size_of(op), register(regs, d), place),
+        MemOp::StD => stores_double(register(regs, d), register(regs, register_after(d)), place),
+        MemOp::XmemBu | MemOp::Xmem => exchanges(size_of(op), d, register(regs, d), place),
+    }
 }
 
 /// The bytes of a datum, of which its address is a multiple or is rounded down to one.
@@ -59,37 +63,56 @@ pub(crate) fn size_of(op: MemOp) -> u32
     }
 }
 
-/// The accesses of a memory mnemonic at an aligned byte address, in order; `value` is what D holds and `second` what
-/// the register after D holds.
-fn touches_of(op: MemOp, d: Reg, value: u32, second: u32, place: u32) -> Accesses
-    ensures { result ≡ recorded (touches_of op d value second place) }
+/// The access of a load of 1, 2 or 4 bytes.
+#[inline(never)]
+fn loads(size: u32, signed: bool, d: Reg, place: u32) -> Accesses
+    ensures { result ≡ recorded (load size signed d place ∷ []) }
 {
-    match op {
-        MemOp::XmemBu => two(
-            locked(load(1, false, d, place)),
-            locked(store(1, value, place)),
-        ),
-        MemOp::Xmem => two(
-            locked(load(4, false, d, place)),
-            locked(store(4, value, place)),
-        ),
-        MemOp::LdHu => one(load(2, false, d, place)),
-        MemOp::LdBu => one(load(1, false, d, place)),
-        MemOp::LdD => two(
-            first_half(load(4, false, d, place)),
-            load(4, false, register_after(d), place.wrapping_add(4)),
-        ),
-        MemOp::Ld => one(load(4, false, d, place)),
-        MemOp::LdH => one(load(2, true, d, place)),
-        MemOp::LdB => one(load(1, true, d, place)),
-        MemOp::StD => two(
-            first_half(store(4, value, place)),
-            store(4, second, place.wrapping_add(4)),
-        ),
-        MemOp::St => one(store(4, value, place)),
-        MemOp::StH => one(store(2, value, place)),
-        MemOp::StB => one(store(1, value, place)),
-    }
+    one(load(size, signed, d, place))
+}
+
+/// The access of a store of 1, 2 or 4 bytes.
+#[inline(never)]
+fn stores(size: u32, value: u32, place: u32) -> Accesses
+    ensures { result ≡ recorded (store size value place ∷ []) }
+{
+    one(store(size, value, place))
+}
+
+/// The accesses of a load of a double word into D and the register after it.
+#[inline(never)]
+fn loads_double(d: Reg, place: u32) -> Accesses
+    ensures { result ≡ recorded (first_half (load 4 false d place)
+        ∷ load 4 false (register_after d) (after_bytes place 4) ∷ []) }
+{
+    two(
+        first_half(load(4, false, d, place)),
+        load(4, false, register_after(d), place.wrapping_add(4)),
+    )
+}
+
+/// The accesses of a store of a double word.
+#[inline(never)]
+fn stores_double(value: u32, second: u32, place: u32) -> Accesses
+    ensures { result ≡ recorded (first_half (store 4 value place)
+        ∷ store 4 second (after_bytes place 4) ∷ []) }
+{
+    two(
+        first_half(store(4, value, place)),
+        store(4, second, place.wrapping_add(4)),
+    )
+}
+
+/// The accesses of an exchange of D and 1 or 4 bytes.
+#[inline(never)]
+fn exchanges(size: u32, d: Reg, value: u32, place: u32) -> Accesses
+    ensures { result ≡ recorded (locked (load size false d place)
+        ∷ locked (store size value place) ∷ []) }
+{
+    two(
+        locked(load(size, false, d, place)),
+        locked(store(size, value, place)),
+    )
 }
 
 /// A load of 1, 2 or 4 bytes into a register.
