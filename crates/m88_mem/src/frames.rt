@@ -3,14 +3,16 @@
 // a frame, a word and a table, where they are there
 crate::specs::Inside::Frames::frame_in, crate::specs::Inside::Frames::word_in, crate::specs::Inside::Frames::has_table))]
 
-ghost use Rattle.std.specs.Prelude.{◌≡◌, ◌<◌, ◌==◌, ◌&&◌, ℕ, true, None, Some, is_some, replicate, length, option_map, if◌then◌else◌, IfOk, IfSome, OnErr, OnOk};
+ghost use Rattle.std.specs.Prelude.{◌≡◌, ◌<◌, ◌==◌, ◌&&◌, ℕ, true, None, Some, is_some, replicate, length, option_map, slice_get, unwrap_or, if◌then◌else◌, IfOk, IfSome, OnErr, OnOk};
 ghost use Rattle.m88_base.specs.Pages.{page_count};
+ghost use Rattle.m88_isa.specs.Lanes.{IsEnable, merged};
 ghost use Rattle.m88_mem.specs.DataBus.{page_words};
 ghost use Rattle.m88_mem.specs.Inside.Frames.{HasPut, IsPut, frame_at, frame_in, has_table, table_entries, with_frame, word_at, words_in};
 ghost use Rattle.m88_mem.specs.declared.frames.FrameTable.{FrameTable as FrameTableValue};
 ghost use Rattle.m88_mem.specs.declared.frames.PageFrame.{PageFrame as PageFrameValue};
 
 use m88_base::NoMemory;
+use m88_isa::merge;
 use std::alloc::Global;
 use std::marker::Model;
 
@@ -137,18 +139,21 @@ impl PageFrames {
         self.tables[high] = Some(table);
     }
 
-    /// Changes a word of a page that is ready.
-    pub fn put(&mut self, page: u32, place: usize, word: u32)
+    /// Writes the low bytes of a value to the bytes that `en` touches of a word of a page that is ready, by its place.
+    /// The word is there: it doesn't matter what would stand for one that isn't.
+    pub fn put(&mut self, page: u32, place: usize, en: u8, value: u32)
         requires page { page < page_count }
         requires place { place < page_words }
         requires ready { is_some (frame_at self.old page) ≡ true }
-        ensures word { (p k : ℕ) → word_at self.new p k
-            ≡ (if p == page && k == place then Some word else word_at self.old p k) }
+        requires enable { IsEnable en }
+        ensures word { (other p k : ℕ) → word_at self.new p k ≡ (if p == page && k == place
+            then Some (merged en value (unwrap_or (word_at self.old page place) other))
+            else word_at self.old p k) }
         ensures ready { (p : ℕ) → is_some (frame_at self.new p) ≡ is_some (frame_at self.old p) }
         ensures entries { length self.new ≡ length self.old }
     {
         let table = &mut self.tables[page as usize / ENTRIES];
-        put_in_table(table, page as usize % ENTRIES, place, word);
+        put_in_table(table, page as usize % ENTRIES, place, en, value);
     }
 }
 
@@ -165,29 +170,36 @@ impl FrameTable {
     }
 }
 
-/// Changes a word of a frame of a table where it stands.
-fn put_in_table(table: &mut Option<FrameTable>, low: usize, place: usize, word: u32)
+/// Writes to a word of a frame of a table where it stands.
+fn put_in_table(table: &mut Option<FrameTable>, low: usize, place: usize, en: u8, value: u32)
     requires low { low < table_entries }
     requires long { IfSome table.old (λ t. length t.frames.items ≡ table_entries) }
     requires ready { is_some (frame_in table.old low) ≡ true }
     requires place { IfSome (frame_in table.old low) (λ f. place < length f.words.items) }
-    ensures { (t : FrameTableValue) (f : PageFrameValue) → table.old ≡ Some t → frame_in table.old low ≡ Some f
-        → HasPut table.new t f low place word }
+    requires enable { IsEnable en }
+    ensures { (other : ℕ) (t : FrameTableValue) (f : PageFrameValue) → table.old ≡ Some t
+        → frame_in table.old low ≡ Some f → HasPut table.new t f low place
+        (merged en value (unwrap_or (slice_get f.words.items place) other)) }
 {
     match table {
-        Some(table) => put_in_frame(&mut table.frames[low], place, word),
+        Some(table) => put_in_frame(&mut table.frames[low], place, en, value),
         None => unreachable!(),
     }
 }
 
-/// Changes a word of a frame.
-fn put_in_frame(frame: &mut Option<PageFrame>, place: usize, word: u32)
+/// Writes to a word of a frame.
+fn put_in_frame(frame: &mut Option<PageFrame>, place: usize, en: u8, value: u32)
     requires ready { is_some frame.old ≡ true }
     requires place { IfSome frame.old (λ f. place < length f.words.items) }
-    ensures { (f : PageFrameValue) → frame.old ≡ Some f → IsPut frame.new f place word }
+    requires enable { IsEnable en }
+    ensures { (other : ℕ) (f : PageFrameValue) → frame.old ≡ Some f → IsPut frame.new f place
+        (merged en value (unwrap_or (slice_get f.words.items place) other)) }
 {
     match frame {
-        Some(frame) => frame.words[place] = word,
+        Some(frame) => {
+            let word = frame.words[place];
+            frame.words[place] = merge(en, value, word);
+        }
         None => unreachable!(),
     }
 }

@@ -25,7 +25,7 @@ use crate::marks::{absent_marks, clear_mark, is_marked, mark_all};
 use crate::places::{fetched, image_word, page_word};
 use crate::reads::{Read, keep_read, no_reads, read_at};
 use m88_base::{Absent, Image, NoMemory, PAGE_BYTES};
-use m88_isa::{Instr, merge};
+use m88_isa::Instr;
 use std::alloc::Global;
 use std::marker::Model;
 
@@ -227,21 +227,23 @@ impl Memory {
         if self.is_absent(addr / PAGE_BYTES) {
             return Err(AbsentPage);
         }
-        let word = merge(en, value, self.word(addr));
-        self.put(addr, word);
+        self.put(addr, en, value);
         Ok(())
     }
 
-    /// Changes the word at a byte address of a page that is ready.
-    fn put(&mut self, addr: u32, word: u32)
+    /// The same, whether the page is absent or not.
+    fn put(&mut self, addr: u32, en: u8, value: u32)
         requires word { addr % 4 ≡ 0 }
         requires ready { ready_of self.old (page_number addr) ≡ true }
-        ensures bus { bus_of self.new ≡ with_word (bus_of self.old) addr word }
+        requires enable { IsEnable en }
+        ensures bus { bus_of self.new
+            ≡ with_word (bus_of self.old) addr (merged en value (bus_of self.old addr)) }
         ensures image { self.new.image ≡ self.old.image }
         ensures absent { absent_of self.new ≡ absent_of self.old }
         ensures ready { ready_of self.new ≡ ready_of self.old }
     {
-        self.frames.put(addr / PAGE_BYTES, place_of(addr), word);
+        self.frames
+            .put(addr / PAGE_BYTES, place_of(addr), en, value);
     }
 
     /// A page, by its number, is present until all are made absent.

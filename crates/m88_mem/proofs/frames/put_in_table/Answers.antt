@@ -8,7 +8,7 @@ use Rattle.m88_mem.proofs.frames.put_in_table.Goals as goal
 
 pub returns : goal.returns
 unfolding frame_in
-returns c = λ t f was there.
+returns c = λ other t f was there.
     let same : c.in-Some.table ≡ t = same_some c.in-Some.table t (sym c.in-Some.is ∙ was) in
     let long = rw c.in-Some.is at c.requires.long in
     let slot : slice_index_or c.in-Some.table.frames.items c.args.low None ≡ c.index_mut.result.now =
@@ -16,7 +16,7 @@ returns c = λ t f was there.
     ∙ sym c.index_mut.ensures.value in
     let found : c.index_mut.result.now ≡ Some f =
     sym slot ∙ ap (λ (o : Option FrameTable). frame_in o c.args.low) (sym c.in-Some.is) ∙ there in
-    let put = c.put_in_frame.ensures f found in
+    let put = c.put_in_frame.ensures other f found in
     record {
       table = _;
       frame = put.frame;

@@ -1,8 +1,9 @@
 -- One word of the frame changes, in its place.
-use Rattle.std.proofs.Common.{◌≡◌, ◌∙◌, ◌/◌, ◌%◌, ◌==◌, ◌<◌, ℕ, List, None, Option, Some, ap, arith, if◌then◌else◌, is_some, length, refl, slice_index_or, sym}
+use Rattle.std.proofs.Common.{◌≡◌, ◌∙◌, ◌/◌, ◌%◌, ◌==◌, ◌<◌, ℕ, List, None, Option, Some, ap, arith, if◌then◌else◌, is_some, length, slice_get, slice_index_or, sym, unwrap_or}
 use Rattle.std.proofs.lemmas.List.{length-set}
+use Rattle.m88_isa.specs.Lanes.{merged}
 use Rattle.m88_mem.proofs.Levels.{at_any, entries_set, frames_kept, frames_set, if_some, in_table, ready_kept, same_some, word_set}
-use Rattle.m88_mem.specs.Inside.Frames.{frame_in, table_entries}
+use Rattle.m88_mem.specs.Inside.Frames.{frame_in, table_entries, word_at, word_in}
 use Rattle.m88_mem.specs.declared.frames.FrameTable.{FrameTable}
 use Rattle.m88_mem.specs.declared.frames.PageFrame.{PageFrame}
 use Rattle.m88_mem.proofs.frames.PageFrames.put.Goals as goal
@@ -46,7 +47,7 @@ invariant_of-self c =
     (omega (arith, c.self.invariant.entries, c.requires.page))
     ∙ sym c.index_mut-table.ensures.value in
     let at = in_table c.self.inside.tables.items c.args.page (rw (← c.self.view_is) at c.requires.ready) in
-    let put = c.put_in_table.ensures at.table at.frame (sym slot ∙ at.is)
+    let put = c.put_in_table.ensures 0 at.table at.frame (sym slot ∙ at.is)
     (ap (λ (o : Option FrameTable). frame_in o (c.args.page % table_entries)) (sym slot) ∙ at.there) in
     let long : length at.table.frames.items ≡ table_entries = c.self.invariant.long (c.args.page / table_entries) at.table at.is in
     let entries : (low : ℕ) → slice_index_or put.table.frames.items low None
@@ -58,27 +59,32 @@ invariant_of-self c =
     at.is (ap length put.frames ∙ length-set at.table.frames.items (c.args.page % table_entries) (Some put.frame) ∙ long)
     entries
     (λ f e. ap (λ (x : PageFrame). length x.words.items) (sym (same_some put.frame f e))
-    ∙ ap length put.words ∙ length-set at.frame.words.items c.args.place c.args.word
+    ∙ ap length put.words ∙ length-set at.frame.words.items c.args.place _
     ∙ c.self.invariant.words c.args.page at.frame at.there))
 
 pub returns-clause-word : goal.returns-clause-word
-unfolding frame_in
-returns-clause-word c =
+unfolding frame_in word_in
+returns-clause-word c = λ other.
     let slot : slice_index_or c.self.inside.tables.items (c.args.page / table_entries) None ≡ c.index_mut-table.result.now =
     at_any c.self.inside.tables.items (c.args.page / table_entries) None c.index_mut-table.result.now
     (omega (arith, c.self.invariant.entries, c.requires.page))
     ∙ sym c.index_mut-table.ensures.value in
     let at = in_table c.self.inside.tables.items c.args.page (rw (← c.self.view_is) at c.requires.ready) in
-    let put = c.put_in_table.ensures at.table at.frame (sym slot ∙ at.is)
+    let put = c.put_in_table.ensures other at.table at.frame (sym slot ∙ at.is)
     (ap (λ (o : Option FrameTable). frame_in o (c.args.page % table_entries)) (sym slot) ∙ at.there) in
     let long : length at.table.frames.items ≡ table_entries = c.self.invariant.long (c.args.page / table_entries) at.table at.is in
     let entries : (low : ℕ) → slice_index_or put.table.frames.items low None
     ≡ (if low == c.args.page % table_entries then Some put.frame else frame_in (Some at.table) low) =
-    λ low. ap (λ (xs : List (Option PageFrame)). slice_index_or xs low None) put.frames
+    λ low. ap (λ (xs : List (Option PageFrame)). slice_index_or xs low None) {x = put.table.frames.items} put.frames
     ∙ entries_set at.table.frames.items (c.args.page % table_entries) (Some put.frame) (omega (arith, long)) low in
     let within = c.self.invariant.words c.args.page at.frame at.there in
-    rw (← c.self.view_is)
-    (word_set c.self.inside.tables.items _ c.args.page c.args.place c.args.word at.frame put.frame at.there put.words
+    let word : unwrap_or (word_at c.self.inside.tables.items c.args.page c.args.place) other
+    ≡ unwrap_or (slice_get at.frame.words.items c.args.place) other =
+    ap (λ (o : Option PageFrame). unwrap_or (word_in o c.args.place) other) at.there in
+    rw (← c.self.view_is, word)
+    (word_set c.self.inside.tables.items _ c.args.page c.args.place
+    (merged c.args.en c.args.value (unwrap_or (slice_get at.frame.words.items c.args.place) other))
+    at.frame put.frame at.there put.words
     (omega (arith, within, c.requires.place))
     (rw put.is (frames_set c.self.inside.tables.items c.args.page (Some at.table) put.table (Some put.frame)
     c.self.invariant.entries c.requires.page at.is entries)))
@@ -91,7 +97,7 @@ returns-clause-ready c =
     (omega (arith, c.self.invariant.entries, c.requires.page))
     ∙ sym c.index_mut-table.ensures.value in
     let at = in_table c.self.inside.tables.items c.args.page (rw (← c.self.view_is) at c.requires.ready) in
-    let put = c.put_in_table.ensures at.table at.frame (sym slot ∙ at.is)
+    let put = c.put_in_table.ensures 0 at.table at.frame (sym slot ∙ at.is)
     (ap (λ (o : Option FrameTable). frame_in o (c.args.page % table_entries)) (sym slot) ∙ at.there) in
     let long : length at.table.frames.items ≡ table_entries = c.self.invariant.long (c.args.page / table_entries) at.table at.is in
     let entries : (low : ℕ) → slice_index_or put.table.frames.items low None

@@ -3,6 +3,7 @@ use Rattle.std.proofs.Common.{◌≡◌, ap, sym, ◌∙◌}
 use Rattle.std.proofs.Math.Path.{fun_ext}
 use Rattle.m88_base.specs.Pages.{page_number}
 use Rattle.m88_isa.specs.Bus.{with_word}
+use Rattle.m88_isa.specs.Lanes.{merged}
 use Rattle.m88_mem.proofs.Seen.{seen_bus, seen_ready}
 use Rattle.m88_mem.proofs.Words.{bus_by, put_word}
 use Rattle.m88_mem.specs.DataBus.{MemoryView, bus_of, image_bus, ready_of}
@@ -22,9 +23,11 @@ returns-clause-bus c =
     ap bus_of (sym c.self.view_is)
     ∙ seen_bus c.self.inside.image c.self.inside.frames c.self.inside.absent.items c.self.invariant.entries in
     seen_bus c.self.inside.image c.put.new.self c.self.inside.absent.items (c.put.ensures.entries ∙ c.self.invariant.entries)
-    ∙ fun_ext (put_word (word_at c.self.inside.frames) (word_at c.put.new.self) (image_bus c.self.inside.image) c.args.addr c.args.word
-    c.requires.word (λ p k. rw (← c.place_of.ensures.value) (c.put.ensures.word p k)))
-    ∙ ap (λ seen. with_word seen c.args.addr c.args.word) (sym bus)
+    ∙ fun_ext (put_word (word_at c.self.inside.frames) (word_at c.put.new.self) (image_bus c.self.inside.image) c.args.addr
+    (merged c.args.en c.args.value (bus_by (word_at c.self.inside.frames) (image_bus c.self.inside.image) c.args.addr))
+    c.requires.word (λ p k. rw (← c.place_of.ensures.value)
+    (c.put.ensures.word (image_bus c.self.inside.image c.args.addr) p k)))
+    ∙ ap (λ seen. with_word seen c.args.addr (merged c.args.en c.args.value (seen c.args.addr))) (sym bus)
 
 pub returns-clause-ready : goal.returns-clause-ready
 returns-clause-ready c = fun_ext (λ p.
