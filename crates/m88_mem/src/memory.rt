@@ -178,6 +178,7 @@ impl Memory {
 
     /// Makes the page of a byte address ready. The data bus stays as it is, and where memory is refused nothing
     /// changes.
+    #[inline(never)]
     pub fn prepare(&mut self, addr: u32) -> Result<(), NoMemory>
         ensures image { self.new.image ≡ self.old.image }
         ensures bus { bus_of self.new ≡ bus_of self.old }
@@ -187,10 +188,24 @@ impl Memory {
         ensures err { OnErr result (ready_of self.new ≡ ready_of self.old) }
         ensures unchanged { OnErr result (self.new ≡ self.old) }
     {
-        let page = addr / PAGE_BYTES;
-        if self.frames.is_ready(page) {
+        if self.is_ready(addr) {
             return Ok(());
         }
+        self.make_ready(addr)
+    }
+
+    /// The same of a page that isn't ready yet, apart from the question that is asked ahead of each store.
+    #[inline(never)]
+    fn make_ready(&mut self, addr: u32) -> Result<(), NoMemory>
+        requires { ready_of self.old (page_number addr) ≡ false }
+        ensures image { self.new.image ≡ self.old.image }
+        ensures bus { bus_of self.new ≡ bus_of self.old }
+        ensures absent { absent_of self.new ≡ absent_of self.old }
+        ensures ready { OnOk result
+            (ready_of self.new ≡ with_page (page_number addr) true (ready_of self.old)) }
+        ensures unchanged { OnErr result (self.new ≡ self.old) }
+    {
+        let page = addr / PAGE_BYTES;
         let frame = image_frame(self.alloc, &self.image, page)?;
         self.frames.give_table(self.alloc, page)?;
         self.frames.set_frame(page, frame);
