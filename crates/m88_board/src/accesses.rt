@@ -109,23 +109,17 @@ pub(crate) fn answer_load(access: &Access, memory: &mut Memory, regs: &mut RegFi
     regs.set(access.reg, datum(access.en, access.signed, word));
 }
 
-/// Answers a store whose page is present and ready.
+/// Answers a store whose page is ready, and was found present.
 #[tactic(auto, unfolding(m88_isa::specs::Bus::stored))]
 pub(crate) fn answer_store(access: &Access, memory: &mut Memory)
     requires made { IsWordAccess access.now }
-    requires present { absent_of memory.old (page_number access.now.addr) ≡ false }
     requires ready { ready_of memory.old (page_number access.now.addr) ≡ true }
     ensures bus { bus_of memory.new ≡ stored access.now (bus_of memory.old) }
     ensures absent { absent_of memory.new ≡ absent_of memory.old }
     ensures ready { ready_of memory.new ≡ ready_of memory.old }
     ensures image { memory.new.image ≡ memory.old.image }
 {
-    if memory
-        .write_lanes(access.addr, access.en, access.value)
-        .is_err()
-    {
-        unreachable!();
-    }
+    memory.put_lanes(access.addr, access.en, access.value);
 }
 
 /// Answers the oldest transaction, whose page is present.

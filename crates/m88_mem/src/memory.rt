@@ -242,12 +242,12 @@ impl Memory {
         if self.is_absent(addr / PAGE_BYTES) {
             return Err(AbsentPage);
         }
-        self.put(addr, en, value);
+        self.put_lanes(addr, en, value);
         Ok(())
     }
 
-    /// The same, whether the page is absent or not.
-    fn put(&mut self, addr: u32, en: u8, value: u32)
+    /// Writes the same as `write_lanes`, whether the page is absent or not. The page is ready.
+    pub fn put_lanes(&mut self, addr: u32, en: u8, value: u32)
         requires word { addr % 4 ≡ 0 }
         requires ready { ready_of self.old (page_number addr) ≡ true }
         requires enable { IsEnable en }

@@ -8,7 +8,7 @@ use Rattle.m88_mem.proofs.Seen.{seen_bus, seen_ready}
 use Rattle.m88_mem.proofs.Words.{bus_by, put_word}
 use Rattle.m88_mem.specs.DataBus.{MemoryView, bus_of, image_bus, ready_of}
 use Rattle.m88_mem.specs.Inside.Frames.{word_at}
-use Rattle.m88_mem.proofs.memory.Memory.put.Goals as goal
+use Rattle.m88_mem.proofs.memory.Memory.put_lanes.Goals as goal
 
 pub put-requires-clause-ready : goal.put-requires-clause-ready
 put-requires-clause-ready c =
