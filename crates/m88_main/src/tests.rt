@@ -1,5 +1,5 @@
-//! What no clause says of the commands, and of the calls that they are made of, one file a subject. Here stands what
-//! the files on commands share: the top call over a line of words, and what tries the rows of a table.
+//! What no clause says of the commands, one file a subject. Here stands what the files share: the top call over a
+//! line of words, and what tries the rows of a table.
 
 use m88_base::{MemSink, MemSource};
 use m88_board::{Unwatched, Watch};
@@ -8,7 +8,6 @@ use std::alloc::{AllocError, Global};
 use std::process::Abort;
 use std::test::Fail;
 
-// the commands
 mod checking;
 mod effects;
 mod emulation;
@@ -39,13 +38,6 @@ mod turns;
 mod watching;
 mod words;
 mod workloads;
-
-// the calls of the board and of what runs on it
-mod boards;
-mod frames;
-mod software;
-mod tasks;
-mod trace_lines;
 
 /// The words of a command, its input, and the text that it writes.
 pub type Row<'a> = (&'a str, &'a [u8], &'a [u8]);

@@ -15,6 +15,10 @@ mod turned;
 
 // what it comes to
 mod shared;
+#[cfg(test)]
+mod test_rows;
+#[cfg(test)]
+mod tests;
 
 pub use letter::ShareLetter;
 pub use schedule::ShareSchedule;

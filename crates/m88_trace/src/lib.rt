@@ -16,6 +16,8 @@ mod follower;
 mod running;
 mod sheet;
 mod telling;
+#[cfg(test)]
+mod tests;
 mod upcoming;
 mod waiting;
 

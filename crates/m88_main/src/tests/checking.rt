@@ -1,5 +1,4 @@
-//! What `check` says of lines behind a source against its trace: how many of them are the trace's, or the first that
-//! isn't.
+//! Lines behind a source against its trace: how many of them are the trace's, or the first that isn't.
 
 use crate::tests::tracing::with_trace;
 use crate::tests::{Refusal, Row, expect_done, expect_refused, told};

@@ -1,5 +1,5 @@
-//! What `emu` reports of the software behind the vectors of divisions and misaligned accesses: what it does and when,
-//! and what it doesn't do.
+//! Software behind the vectors of divisions and misaligned accesses: what it does and when, and
+//! what it doesn't do.
 
 use crate::tests::examples::PACKED;
 use crate::tests::{

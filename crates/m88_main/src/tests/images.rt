@@ -1,4 +1,4 @@
-//! Images that commands make: the S-records that sources are built into, and where data begins.
+//! Images: the S-records that sources are built into, and where data begins.
 
 use crate::tests::{Pair, Row, expect_done, expect_pairs};
 use std::test::Fail;

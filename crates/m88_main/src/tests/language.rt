@@ -1,5 +1,4 @@
-//! What `build` and `asm` make of the assembly language, line by line: words and bytes of what is accepted, and the
-//! first fault of what isn't.
+//! The assembly language, line by line: words and bytes of what is accepted, and the first fault of what isn't.
 
 use crate::tests::{Refusal, Row, expect_done, expect_refused};
 use std::test::Fail;

@@ -1,4 +1,4 @@
-//! What `page` reports of runs before a few frames, and how often pages come in and go out.
+//! Runs before a few frames: their reports, and how often pages come in and go out.
 
 use crate::tests::examples::{
     DOUBLE, EXCHANGE, FOUR_LOADS, HALF_FAULT, HEX_DUMP, LATE_FAULT, LIST_WALK, LOOP, MEMORY_TEST,

@@ -1,5 +1,4 @@
-//! What `share` reports of programs that share a board: what they come to, the switches between them, and what is
-//! refused.
+//! Programs that share a board: their reports, the switches between them, and what is refused.
 
 use crate::tests::{Part, Refusal, Row, expect_done, expect_parts, expect_refused, expect_usage};
 use std::test::Fail;

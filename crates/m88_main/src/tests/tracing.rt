@@ -1,5 +1,4 @@
-//! What `trace` writes of runs: the line of each step, the same under every schedule, and taken by `check` behind their
-//! source.
+//! Traces of runs: the line of each step, the same under every schedule, and taken by `check` behind their source.
 
 use crate::tests::examples::{
     DOUBLE, EXCHANGE, FOUR_LOADS, HALF_FAULT, HEX_DUMP, LATE_FAULT, LIST_WALK, LOOP, MEMORY_TEST,

@@ -1,7 +1,8 @@
-//! The board's calls over two programs, with what they come to told by hand, and over loads that are drained.
+//! Two programs on the board, with what they come to told by hand, and loads that are drained.
 
-use m88_base::{Absent, Image, ImageFault, Reg, Slot};
-use m88_board::{Board, End, Happened, Letter, MemWatch, Schedule, Unwatched, Why};
+use crate::{Board, End, Happened, Letter, MemWatch, Schedule, Unwatched, Why};
+use m88_base::{Absent, Image, ImageFault, Reg};
+use m88_iunit::Slot;
 use std::alloc::Global;
 
 /// An image with words from 0x1000 on.

@@ -1,12 +1,10 @@
-//! The calls of the software behind the vectors: divisions with quotients computed outside, loads and stores over the
-//! end of a page, told byte by byte, and whole runs by their rows.
+//! Divisions with quotients computed outside, loads and stores over the end of a page, told byte by byte, and whole runs
+//! by their rows.
 
-mod rows;
-
-use crate::tests::software::rows::{ROWS, Row};
+use crate::test_rows::{ROWS, Row};
+use crate::{EmulOutcome, Emulated, Emulation, emulate, run};
 use m88_base::{Absent, Image, ImageFault, NoMemory};
 use m88_board::{End, Record, Schedule};
-use m88_emul::{EmulOutcome, Emulated, Emulation, emulate, run};
 use m88_mem::Memory;
 use std::alloc::Global;
 use std::process::Abort;

@@ -1,5 +1,5 @@
 -- A context that was just made stands for the opening moment of the program of its image.
-use Rattle.m88_main.proofs.tests.tasks.programs_change_places_by_hand.Goals as goal
+use Rattle.m88_tasks.proofs.tests.programs_change_places_by_hand.Goals as goal
 
 pub interrupt-requires-clause-stands : goal.interrupt-requires-clause-stands
 interrupt-requires-clause-stands g c =

@@ -1,11 +1,11 @@
-//! The calls that write and check traces, with lines that were written by hand: each form of line, runs under several
-//! schedules with absent pages, and texts that differ at each line.
+//! Traces whose lines were written by hand: each form of line, runs under several schedules with absent pages, and
+//! texts that differ at each line.
 
 ghost use Rattle.m88_mem.specs.Marks.{NamesPages};
 
+use crate::{TraceFault, check_trace, trace_run};
 use m88_base::{Absent, Image, ImageFault, NoMemory};
-use m88_board::Schedule;
-use m88_trace::{TraceFault, check_trace, trace_run};
+use m88_event::Schedule;
 use std::alloc::Global;
 
 /// A program that stores on page 5, in three instructions.

@@ -1,14 +1,14 @@
-//! The call that makes a paged run, before stores of pages: runs that were worked by hand, with what they come to and
-//! how often pages came and went, by any schedule and any absent pages, and which pages the store has behind them;
-//! stores that fail in one of their calls; and one that forgets its pages and doesn't tell them.
+//! Paged runs that were worked by hand: what they come to and how often pages came and went, by any schedule and any
+//! absent pages, and which pages the store has behind them; stores that fail in one of their calls; and one that
+//! forgets its pages and doesn't tell them.
 
 ghost use Rattle.std.specs.Prelude.{None};
 ghost use Rattle.m88_mem.specs.Marks.{NamesPages};
 ghost use Rattle.m88_pager.specs.Paged.{HoldsNoneWhereTold};
 
+use crate::{MemStore, PageEnd, PageStore, Paged, StoreError, page_run};
 use m88_base::{Absent, Image, PAGE_BYTES};
-use m88_board::{End, Schedule};
-use m88_pager::{MemStore, PageEnd, PageStore, Paged, StoreError, page_run};
+use m88_event::{End, Schedule};
 use std::alloc::Global;
 use std::process::Abort;
 

@@ -1,16 +1,13 @@
-//! The calls that have programs share a board: shared runs by their rows, each program beside its own run, the answers
-//! of events, and schedules as they are written.
+//! Programs that share a board: shared runs by their rows, each program beside its own run, the answers of events, and
+//! schedules as they are written.
 
 ghost use Rattle.m88_mem.specs.Marks.{NamesPages};
 
-mod rows;
-
-use crate::tests::tasks::rows::{
-    Came, DRAWN, ENDS, EVERY_EVENT, LOAD, OR_R2, OR_R3, Row, SHORT, Turn,
-};
+use crate::test_rows::{Came, DRAWN, ENDS, EVERY_EVENT, LOAD, OR_R2, OR_R3, Row, SHORT, Turn};
+use crate::{ShareLetter, ShareSchedule, Switch, Tasks, Turned};
 use m88_base::{Absent, Image, ImageFault, NoMemory};
-use m88_board::{Board, Context, End, Happened, Letter, Outcome, Schedule, Unwatched};
-use m88_tasks::{ShareLetter, ShareSchedule, Switch, Tasks, Turned};
+use m88_board::{Board, Context, Unwatched};
+use m88_event::{End, Happened, Letter, Outcome, Schedule};
 use std::alloc::Global;
 use std::process::Abort;
 
@@ -28,6 +25,14 @@ fn images_of(alloc: Global, sources: &[&[u32]]) -> Result<Vec<Image>, ImageFault
         }
     }
     Ok(images)
+}
+
+/// Whether shared runs come to what their rows say.
+fn expect(rt: &impl Abort, alloc: Global, rows: &[Row]) -> Result<(), ImageFault> {
+    for row in rows {
+        expect_row(rt, alloc, row)?;
+    }
+    Ok(())
 }
 
 /// Whether a shared run comes to what its row says.
@@ -141,12 +146,22 @@ fn expect_same(rt: &impl Abort, outcome: &Outcome, alone: &Outcome) {
 
 #[test]
 fn shared_runs(rt: HostRuntime) -> Result<(), ImageFault> {
-    for rows in [SHORT, ENDS, EVERY_EVENT, DRAWN] {
-        for row in rows {
-            expect_row(&rt, rt.alloc(), row)?;
-        }
-    }
-    Ok(())
+    expect(&rt, rt.alloc(), SHORT)
+}
+
+#[test]
+fn programs_that_end(rt: HostRuntime) -> Result<(), ImageFault> {
+    expect(&rt, rt.alloc(), ENDS)
+}
+
+#[test]
+fn turns_at_every_event(rt: HostRuntime) -> Result<(), ImageFault> {
+    expect(&rt, rt.alloc(), EVERY_EVENT)
+}
+
+#[test]
+fn turns_that_were_drawn(rt: HostRuntime) -> Result<(), ImageFault> {
+    expect(&rt, rt.alloc(), DRAWN)
 }
 
 #[test]
