@@ -27,7 +27,6 @@ use Rattle.m88_board.specs.Board.{BoardView, completed_of, is_idle_board, local_
 use Rattle.m88_board.specs.Kept.{SlotsAgree, lacks_word}
 use Rattle.m88_board.specs.Moves.{stopping}
 use Rattle.m88_board.proofs.Choosing.{at_pc}
-use Rattle.m88_board.proofs.Searching.{set_where_not_unset}
 use Rattle.m88_board.specs.Inside.NoInstruction.{HasNoInstruction}
 use Rattle.m88_board.specs.Inside.Turns.{choice_for}
 
@@ -97,6 +96,11 @@ record NextAt (b : BoardView) (word : Option (List ℕ)) : Type 0 where
   pub valid : b.slots.nip.v ≡ true
   pub aligned : pc_of b.slots % 4 ≡ 0
   pub bytes : four_bytes (byte_at b.memory.image) (pc_of b.slots) ≡ word
+
+-- a value that isn't unset is set
+set_where_not_unset : (v : Bool) → not v ≡ false → v ≡ true
+set_where_not_unset true h = refl
+set_where_not_unset false h = absurd cc
 
 -- the next instruction isn't passed over, and stands at NIP
 pub next_here : (inside b : BoardView) (slot : Slot) → inside ≡ b → slot ≡ inside.slots.nip → not slot.v ≡ false →

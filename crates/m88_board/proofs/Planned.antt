@@ -1,28 +1,32 @@
 -- An instruction that goes on: what its outline says of its changes.
-use Rattle.std.specs.Prelude.{ℕ, Bool, false, Some, ◌≡◌, ◌≤◌, ◌+◌, ◌++◌, List, [], IfSome, None, length}
+use Rattle.std.specs.Prelude.{ℕ, Bool, false, Some, ◌≡◌, ◌≤◌, ◌+◌, ◌++◌, List, [], IfSome, None, length, nat_lt}
 use Rattle.std.proofs.Common.{arith, ap, subst, sym}
+use Rattle.std.proofs.lemmas.Bool.{ltb-true, ltb-false}
 use Rattle.std.proofs.lemmas.List.{append-nil}
 use Rattle.std.proofs.lemmas.List.Elements.{All-nil}
 use Rattle.m88_base.specs.Reg.{number_of}
 use Rattle.m88_dunit.specs.Pending.{CanIssue}
+use Rattle.m88_event.specs.Choice.{issues}
+use Rattle.m88_isa.proofs.Alone.{by_test}
 use Rattle.m88_isa.proofs.Held.{written_waits_not}
 use Rattle.m88_isa.proofs.Plans.{at_most_two}
 use Rattle.m88_isa.specs.Bus.{listed, waits_for}
-use Rattle.m88_isa.specs.Effect.{FlowsToWords, MakesAccesses, WritesWithin, plan_for}
-use Rattle.m88_isa.specs.Held.{busy_register, most_pending}
+use Rattle.m88_isa.specs.Effect.{Change, FlowsToWords, MakesAccesses, WritesWithin, plan_for, recorded_change}
+use Rattle.m88_isa.specs.Held.{busy_register, is_pending, most_pending}
 use Rattle.m88_isa.specs.Instr.{IsValid}
-use Rattle.m88_isa.specs.Memory.{recorded}
-use Rattle.m88_isa.specs.Operands.{access_count_of, writes_of}
+use Rattle.m88_isa.specs.Memory.{AreWordAccesses, recorded}
+use Rattle.m88_isa.specs.Operands.{access_count_of, waits_for_empty, writes_of}
 use Rattle.m88_isa.specs.declared.instr.Instr.{Instr}
 use Rattle.m88_isa.specs.declared.planned.Access.{Access}
 use Rattle.m88_isa.specs.declared.planned.Accesses.{Accesses}
 use Rattle.m88_isa.specs.declared.planned.Effect.{Effect}
 use Rattle.m88_isa.specs.declared.planned.Plan.{Plan}
 use Rattle.m88_isa.specs.declared.planned.Plan.TheVariants.{Go}
-use Rattle.m88_board.proofs.Issuing.{IsGoing, is_going}
+use Rattle.m88_board.proofs.Issuing.{IsGoing, go_full, go_issued, go_sync, is_going, no_trap, none_to_wait_for}
+use Rattle.m88_board.proofs.Telling.{change_told}
 use Rattle.m88_board.specs.Board.{BoardView, completed_of}
 use Rattle.m88_board.specs.Kept.{AreReady, HasReadyPage}
-use Rattle.m88_board.specs.Inside.Turns.{IsPlanned, PlansOnePage, meaning_at}
+use Rattle.m88_board.specs.Inside.Turns.{IsPlanned, PlansOnePage, choice_for, meaning_at}
 
 -- by a plan of which all is told that holds of every plan
 pub planned_from : (i : Instr) (effect : Effect) (b : BoardView) (plan : Plan) → plan ≡ Go effect →
@@ -64,6 +68,11 @@ can_of i effect b planned =
       second = λ two. planned.made.2 (omega (arith, count, two));
     }
 
+-- they are so many accesses of words
+pub words_of : (i : Instr) (effect : Effect) (b : BoardView) → IsPlanned i effect b →
+    AreWordAccesses effect.accesses.count effect.accesses
+words_of i effect b planned = subst (λ n. AreWordAccesses n effect.accesses) (sym planned.made.0) planned.made
+
 -- where it makes none, there is room for them
 pub room_for_none : (pending : List Access) (accesses : Accesses) → accesses ≡ recorded [] →
     length pending ≤ most_pending →
@@ -90,3 +99,20 @@ can_make_none accesses none =
 -- and wants no page
 pub none_ready : (ready : ℕ → Bool) (accesses : Accesses) → accesses ≡ recorded [] → AreReady ready (listed accesses)
 none_ready ready accesses none = rw none (All-nil (HasReadyPage ready))
+
+-- it is issued with those changes alone
+pub planned_issues : (i : Instr) (effect : Effect) (b : BoardView) (change : Change) → IsPlanned i effect b →
+    choice_for (Some i) b ≡ issues change →
+    Go effect ≡ Go (recorded_change change)
+planned_issues i effect b change planned issued =
+    let going = going_of i effect b planned in
+    by_test (nat_lt most_pending (length b.pending + effect.accesses.count))
+    (λ full. let waits = go_full i b effect going (ltb-true _ _ full) in absurd cc)
+    (λ room. let few : length b.pending + effect.accesses.count ≤ most_pending = ltb-false _ _ room in
+    by_test (waits_for_empty i)
+    (λ empty. by_test (is_pending b.pending)
+    (λ some. let waits = go_sync i b effect going few empty some in absurd cc)
+    (λ none. change_told (choice_for (Some i) b) going.on.change change effect
+    (go_issued i b effect going few (none_to_wait_for (is_pending b.pending) (waits_for_empty i) none)) going.on.same issued))
+    (λ other. change_told (choice_for (Some i) b) going.on.change change effect
+    (go_issued i b effect going few (no_trap (is_pending b.pending) (waits_for_empty i) other)) going.on.same issued))

@@ -1,6 +1,6 @@
 //! The board: its parts, and what a choice makes of them.
 
-ghost use Rattle.std.specs.Prelude.{ℕ, Bool, ◌&&◌, option_map, ◌≡◌, ◌<◌, ◌≤◌, ◌+◌, ◌-◌, ◌*◌, ◌%◌, ◌++◌, ◌∷◌, [], Option, Some, None, true, false, is_some, length, slice_get, IfOk, IfSome, OnErr, OnOk};
+ghost use Rattle.std.specs.Prelude.{ℕ, Bool, option_map, ◌≡◌, ◌<◌, ◌≤◌, ◌+◌, ◌-◌, ◌*◌, ◌++◌, ◌∷◌, [], Option, Some, None, true, false, is_some, length, slice_get, IfOk, IfSome, OnErr, OnOk};
 ghost use Rattle.m88_base.specs.Image.{IsImage};
 ghost use Rattle.m88_base.specs.Pages.{page_number};
 ghost use Rattle.m88_base.specs.Reg.{number_of};
@@ -17,9 +17,8 @@ ghost use Rattle.m88_mem.specs.Lines.{HasInvolved};
 ghost use Rattle.m88_mem.specs.Marks.{NamesPages, absent_in};
 ghost use Rattle.m88_isa.specs.Effect.{Change, recorded_change};
 ghost use Rattle.m88_isa.specs.Flow.{FlowFits};
-ghost use Rattle.m88_isa.specs.Held.{busy_register, involves, most_pending};
+ghost use Rattle.m88_isa.specs.Held.{busy_register, most_pending};
 ghost use Rattle.m88_isa.specs.Machine.{Program, Stop, by_vector, trapped};
-ghost use Rattle.m88_isa.specs.Instr.{IsValid};
 ghost use Rattle.m88_isa.specs.Memory.{recorded};
 ghost use Rattle.m88_board.specs.Board.{is_idle_board, local_of, pc_of};
 ghost use Rattle.m88_isa.specs.ImageProgram.{IsProgramOf};
@@ -40,7 +39,7 @@ use m88_base::{Absent, Image, NoMemory, Reg};
 use m88_ctrl::{Control, cr};
 use m88_dunit::DataUnit;
 use m88_event::{End, Record, Why};
-use m88_isa::{Access, Effect, Instr, uses, writes};
+use m88_isa::{Access, Effect};
 use m88_iunit::InstrUnit;
 use m88_mem::{Line, Memory, PAGE_BYTES};
 use m88_monitor::{Service, service};
@@ -292,6 +291,8 @@ impl Board {
     }
 
     /// The letter `r` over the transactions that are pending.
+    // Not inlined, so that the loop over the letters stays small. The oldest is asked for here once more: handed on, it
+    // is made in the loop, which costs more than to ask again.
     #[inline(never)]
     fn answer_oldest(&mut self) -> Result<Brief, NoMemory>
         ensures ok { IfOk result (λ brief. (p : Program) → IsProgramOf self.old.memory.image p
@@ -401,6 +402,7 @@ impl Board {
     }
 
     /// Issues the next instruction, which makes no access.
+    // Inlined, so that no changes are put together in memory.
     #[inline(always)]
     fn go_on(&mut self, effect: &Effect)
         requires going { is_idle_board self.old ≡ false }
@@ -466,45 +468,17 @@ impl Board {
         }
     }
 
-    /// Whether an instruction uses or writes a register that waits.
-    fn waits_on(&self, instr: &Instr, r: Reg) -> bool
-        requires { IsValid instr.now }
-        ensures { result
-            ≡ (involves (Some instr.now) (number_of r)
-            && waits_for self.now.pending (number_of r)) }
-    {
-        if self.regs.get(r).is_ok() {
-            return false;
-        }
-        let n = r.number();
-        (uses(instr) >> n) % 2 == 1 || (writes(instr) >> n) % 2 == 1
-    }
-
-    /// Whether a register may wait that an instruction uses or writes: those that do have a bit in common.
-    fn may_wait(&self, line: &Line) -> bool
-        requires { HasInvolved line.now }
-        ensures { result ≡ false → busy_register (Some line.now.instr) self.now.pending ≡ None }
-    {
-        self.regs.busy() & line.involved != 0
-    }
-
     /// The register with the least number, other than r0, that an instruction uses or writes and that waits.
     fn busy_register(&self, line: &Line) -> Option<Reg>
-        requires instr { IsValid line.now.instr }
-        requires involved { HasInvolved line.now }
+        requires { HasInvolved line.now }
         ensures { option_map number_of result
             ≡ busy_register (Some line.now.instr) self.now.pending }
     {
-        if !self.may_wait(line) {
+        let both = self.regs.busy() & line.involved;
+        if both == 0 {
             return None;
         }
-        for n in 1..32 {
-            let r = Reg::from_low_bits(n);
-            if self.waits_on(&line.instr, r) {
-                return Some(r);
-            }
-        }
-        None
+        Some(Reg::from_low_bits(both.trailing_zeros()))
     }
 
     /// One more event is counted.

@@ -32,6 +32,7 @@ fn lacks_next(iunit: &InstrUnit, memory: &Memory, next: u32) -> bool
 
 /// Whether the image lacks a byte of the word behind the one at an address, which is known of an instruction that is
 /// kept.
+// Inlined where an instruction is issued: the addresses that it asks about stand in registers there.
 #[inline(always)]
 pub(crate) fn lacks_behind(memory: &Memory, addr: u32) -> bool
     requires { addr % 4 ≡ 0 }
@@ -44,6 +45,7 @@ pub(crate) fn lacks_behind(memory: &Memory, addr: u32) -> bool
 }
 
 /// Whether the image lacks a byte of the word at `behind`, which may be the one behind that at `next`.
+// Inlined where an instruction is issued: the addresses that it asks about stand in registers there.
 #[inline(always)]
 fn lacks_further(memory: &Memory, next: u32, behind: u32) -> bool
     requires next { next % 4 ≡ 0 }
@@ -57,6 +59,7 @@ fn lacks_further(memory: &Memory, next: u32, behind: u32) -> bool
 }
 
 /// The next instruction, which could be fetched, goes into execution, and others follow it.
+// Inlined where an instruction is issued: what follows it stands in registers there.
 #[inline(always)]
 pub(crate) fn advance(iunit: &mut InstrUnit, memory: &Memory, after: (u32, u32), bubble: bool)
     requires valid { iunit.old.nip.v ≡ true }

@@ -1,6 +1,6 @@
 //! Walks along the letters of a run.
 
-ghost use Rattle.std.specs.Prelude.{ℕ, Bool, [], ◌∷◌, ◌≡◌, ◌<◌, ◌≤◌, ◌+◌, ◌==◌, ◌||◌, false, IfOk, OnErr, OnOk};
+ghost use Rattle.std.specs.Prelude.{ℕ, Bool, [], ◌∷◌, ◌≡◌, ◌<◌, ◌≤◌, ◌+◌, ◌==◌, ◌||◌, false, true, IfOk, OnErr, OnOk};
 ghost use Rattle.std.specs.List.{list_any};
 ghost use Rattle.m88_event.specs.Bound.{weight};
 ghost use Rattle.m88_event.specs.Letters.{letter_at};
@@ -91,7 +91,8 @@ impl<'a> Walk<'a> {
         ensures untaken { OnErr result (self.new.taken ≡ self.old.taken) }
         ensures unseen { OnErr result (watch.new ≡ watch.old) }
     {
-        self.next_told(watch, &mut Told::nothing())
+        let brief = self.next_brief(watch, &mut Told::nothing())?;
+        Ok(self.board.happened(brief))
     }
 
     /// Makes the event of the next letter as `next` does, and tells of `i` what the instruction is that goes on.
@@ -127,11 +128,13 @@ impl<'a> Walk<'a> {
         ensures untaken { OnErr result (self.new.taken ≡ self.old.taken) }
         ensures unseen { OnErr result (watch.new ≡ watch.old) }
     {
+        told.asked = true;
         let brief = self.next_brief(watch, told)?;
         Ok(self.board.happened(brief))
     }
 
-    /// Makes the event of the next letter as `next_told` does, and answers in brief.
+    /// Makes the event of the next letter as `next_told` does, but answers in brief, and tells where somebody asks.
+    // Inlined into the loop over the letters.
     #[inline(always)]
     fn next_brief<W: Watch>(&mut self, watch: &mut W, told: &mut Told) -> Result<Brief, NoMemory>
         requires { is_over_by self.old.board.now.limit (local_of self.old.board.now) ≡ false }
@@ -153,7 +156,7 @@ impl<'a> Walk<'a> {
         ensures schedule { self.new.schedule ≡ self.old.schedule }
         ensures lender { self.new.board.ghost_name ≡ self.old.board.ghost_name }
         ensures told { letter_at self.old.schedule.now self.old.taken ≡ LetterValue.Issue
-            → IfOk result (λ brief. (p : Program) (named : ℕ → Bool) (m : Moment)
+            → told.old.asked ≡ true → IfOk result (λ brief. (p : Program) (named : ℕ → Bool) (m : Moment)
             → IsAt p named m self.old.board.now
             → IsTold p named self.old.board.now.limit m
             (happened_of brief self.new.board.now) told.new) }

@@ -1,6 +1,6 @@
 //! The event of a letter.
 
-ghost use Rattle.std.specs.Prelude.{ℕ, Bool, ◌≡◌, ◌<◌, ◌≤◌, ◌+◌, ◌-◌, [], Ok, length, IfOk, OnErr, OnOk};
+ghost use Rattle.std.specs.Prelude.{ℕ, Bool, ◌≡◌, ◌<◌, ◌≤◌, ◌+◌, ◌-◌, [], Ok, length, true, IfOk, OnErr, OnOk};
 ghost use Rattle.m88_base.specs.Image.{byte_at};
 ghost use Rattle.m88_event.specs.Choice.{ServesOrEnds, issues};
 ghost use Rattle.m88_event.specs.Local.{choice_by, record_by};
@@ -27,6 +27,7 @@ use m88_event::{Happened, Letter};
 
 impl Board {
     /// What a letter makes the board do; the event isn't counted yet.
+    // Inlined into the loop over the letters.
     #[inline(always)]
     fn take(&mut self, letter: Letter, told: &mut Told) -> Result<Brief, NoMemory>
         ensures ok { IfOk result (λ brief. (p : Program) → IsProgramOf self.old.memory.image p
@@ -47,7 +48,8 @@ impl Board {
             WentOn (happened_of brief self.new)
             → IsWordOf (four_bytes (byte_at self.old.memory.image) (pc_of self.old.slots))
             told.new.word) }
-        ensures plan { letter ≡ LetterValue.Issue → OnOk result ((p : Program) (change : Change)
+        ensures plan { letter ≡ LetterValue.Issue → told.old.asked ≡ true
+            → OnOk result ((p : Program) (change : Change)
             → IsProgramOf self.old.memory.image p
             → choice_by p self.old.limit LetterValue.Issue (local_of self.old) ≡ issues change
             → told.new.plan ≡ Go (recorded_change change)) }
@@ -96,8 +98,9 @@ impl Board {
         Ok(self.happened(brief))
     }
 
-    /// Makes the event of a letter as `event` does and answers in brief, and tells of `i` what the instruction is that
-    /// goes on.
+    /// Makes the event of a letter as `event` does and answers in brief, and tells of `i`, where somebody asks, what
+    /// the instruction is that goes on.
+    // Inlined into the loop over the letters.
     #[inline(always)]
     pub(crate) fn event_told(&mut self, letter: Letter, told: &mut Told) -> Result<Brief, NoMemory>
         requires { self.old.events < most_events }
@@ -125,7 +128,7 @@ impl Board {
         ensures kept { OnOk result (IsKept self.new) }
         ensures evicts { letter ≡ LetterValue.Evict → result ≡ Ok BriefValue.Evicted }
         ensures evicted { letter ≡ LetterValue.Evict → IsEvicted self.old self.new }
-        ensures told { letter ≡ LetterValue.Issue → IfOk result (λ brief.
+        ensures told { letter ≡ LetterValue.Issue → told.old.asked ≡ true → IfOk result (λ brief.
             (p : Program) (named : ℕ → Bool) (m : Moment) → IsAt p named m self.old
             → IsTold p named self.old.limit m (happened_of brief self.new) told.new) }
         ensures made { MakesWordAccesses told.old.plan → MakesWordAccesses told.new.plan }

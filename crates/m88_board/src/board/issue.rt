@@ -31,14 +31,15 @@ use m88_base::{NoMemory, Reg};
 use m88_codec::decode;
 use m88_event::Why;
 use m88_isa::{
-    Effect, INSTRUCTION_ACCESS, Instr, MemOp, Outline, Plan, UNIMPLEMENTED, accesses_at,
-    no_accesses, outline, uses, waits_for_empty, writes,
+    Effect, INSTRUCTION_ACCESS, Instr, MemOp, Outline, UNIMPLEMENTED, accesses_at, no_accesses,
+    outline, waits_for_empty,
 };
 use m88_mem::Line;
 
 impl Board {
     /// The letter `i`: nothing where no more may be issued, a bubble is passed over, or the next instruction has its
     /// turn.
+    // Not inlined, so that the loop over the letters stays small where they issue nothing.
     #[inline(never)]
     pub(super) fn issue(&mut self, told: &mut Told) -> Result<Brief, NoMemory>
         ensures ok { IfOk result (λ brief. (p : Program) (fault : RecordValue)
@@ -54,7 +55,7 @@ impl Board {
         ensures word { IfOk result (λ brief. WentOn (happened_of brief self.new)
             → IsWordOf (four_bytes (byte_at self.old.memory.image) (pc_of self.old.slots))
             told.new.word) }
-        ensures plan { OnOk result ((p : Program) (change : Change)
+        ensures plan { told.old.asked ≡ true → OnOk result ((p : Program) (change : Change)
             → IsProgramOf self.old.memory.image p
             → choice_by p self.old.limit LetterValue.Issue (local_of self.old) ≡ issues change
             → told.new.plan ≡ Go (recorded_change change)) }
@@ -116,7 +117,7 @@ impl Board {
         ensures word { IfOk result (λ brief. WentOn (happened_of brief self.new)
             → IsWordOf (four_bytes (byte_at self.old.memory.image) (pc_of self.old.slots))
             told.new.word) }
-        ensures plan { OnOk result ((p : Program) (change : Change)
+        ensures plan { told.old.asked ≡ true → OnOk result ((p : Program) (change : Change)
             → IsProgramOf self.old.memory.image p
             → choice_by p self.old.limit LetterValue.Issue (local_of self.old) ≡ issues change
             → told.new.plan ≡ Go (recorded_change change)) }
@@ -125,15 +126,17 @@ impl Board {
     {
         match found {
             Ok(line) => {
+                let issued = self.issue_instr(&line, told);
+                // Behind the issue, which doesn't promise that the word stays.
                 told.word = line.word;
-                self.issue_instr(&line, &mut told.plan)
+                issued
             }
             Err(vector) => Ok(self.raise(vector)),
         }
     }
 
     /// The next instruction in its turn.
-    fn issue_instr(&mut self, line: &Line, told: &mut Plan) -> Result<Brief, NoMemory>
+    fn issue_instr(&mut self, line: &Line, told: &mut Told) -> Result<Brief, NoMemory>
         requires instr { IsValid line.now.instr }
         requires involved { HasInvolved line.now }
         requires going { is_idle_board self.old ≡ false }
@@ -147,10 +150,10 @@ impl Board {
             → self.new ≡ self.old) }
         ensures leaves { IfOk result (λ brief.
             Leaves (happened_of brief self.new) self.old self.new) }
-        ensures told { OnOk result ((change : Change)
+        ensures told { told.old.asked ≡ true → OnOk result ((change : Change)
             → choice_for (Some line.now.instr) self.old ≡ issues change
-            → told.new ≡ Go (recorded_change change)) }
-        ensures made { MakesWordAccesses told.old → MakesWordAccesses told.new }
+            → told.new.plan ≡ Go (recorded_change change)) }
+        ensures made { MakesWordAccesses told.old.plan → MakesWordAccesses told.new.plan }
         ensures err { OnErr result (IsUnmoved self.old self.new) }
     {
         if let Some(r) = self.busy_register(line) {
@@ -160,7 +163,7 @@ impl Board {
     }
 
     /// The next instruction in its turn, where no register that it uses or writes waits.
-    fn issue_free(&mut self, instr: &Instr, told: &mut Plan) -> Result<Brief, NoMemory>
+    fn issue_free(&mut self, instr: &Instr, told: &mut Told) -> Result<Brief, NoMemory>
         requires instr { IsValid instr.now }
         requires going { is_idle_board self.old ≡ false }
         requires valid { self.old.slots.nip.v ≡ true }
@@ -174,10 +177,10 @@ impl Board {
             → self.new ≡ self.old) }
         ensures leaves { IfOk result (λ brief.
             Leaves (happened_of brief self.new) self.old self.new) }
-        ensures told { OnOk result ((change : Change)
+        ensures told { told.old.asked ≡ true → OnOk result ((change : Change)
             → choice_for (Some instr.now) self.old ≡ issues change
-            → told.new ≡ Go (recorded_change change)) }
-        ensures made { MakesWordAccesses told.old → MakesWordAccesses told.new }
+            → told.new.plan ≡ Go (recorded_change change)) }
+        ensures made { MakesWordAccesses told.old.plan → MakesWordAccesses told.new.plan }
         ensures err { OnErr result (IsUnmoved self.old self.new) }
     {
         match self.outline_next(instr) {
@@ -202,8 +205,9 @@ impl Board {
     }
 
     /// The next instruction in its turn, where it makes these changes and no access.
+    // Inlined, so that no changes are put together in memory.
     #[inline(always)]
-    fn issue_alone(&mut self, instr: &Instr, effect: Effect, told: &mut Plan) -> Brief
+    fn issue_alone(&mut self, instr: &Instr, effect: Effect, told: &mut Told) -> Brief
         requires going { is_idle_board self.old ≡ false }
         requires valid { self.old.slots.nip.v ≡ true }
         requires fetched { self.old.slots.nip.e ≡ false }
@@ -214,11 +218,12 @@ impl Board {
             (happened_of result self.new) self.new }
         ensures still { IsStill (happened_of result self.new) → self.new ≡ self.old }
         ensures leaves { Leaves (happened_of result self.new) self.old self.new }
-        ensures told { (change : Change) → choice_for (Some instr.now) self.old ≡ issues change
-            → told.new ≡ Go (recorded_change change) }
-        ensures made { MakesWordAccesses told.new }
+        ensures told { told.old.asked ≡ true → (change : Change)
+            → choice_for (Some instr.now) self.old ≡ issues change
+            → told.new.plan ≡ Go (recorded_change change) }
+        ensures made { MakesWordAccesses told.old.plan → MakesWordAccesses told.new.plan }
     {
-        *told = Plan::Go(effect);
+        told.tell(&effect);
         if waits_for_empty(instr) && self.is_pending() {
             return Brief::Stalled(Why::Sync);
         }
@@ -233,7 +238,7 @@ impl Board {
         op: MemOp,
         d: Reg,
         place: u32,
-        told: &mut Plan,
+        told: &mut Told,
     ) -> Result<Brief, NoMemory>
         requires instr { IsValid instr.now }
         requires going { is_idle_board self.old ≡ false }
@@ -255,10 +260,10 @@ impl Board {
             → self.new ≡ self.old) }
         ensures leaves { IfOk result (λ brief.
             Leaves (happened_of brief self.new) self.old self.new) }
-        ensures told { OnOk result ((change : Change)
+        ensures told { told.old.asked ≡ true → OnOk result ((change : Change)
             → choice_for (Some instr.now) self.old ≡ issues change
-            → told.new ≡ Go (recorded_change change)) }
-        ensures made { MakesWordAccesses told.new }
+            → told.new.plan ≡ Go (recorded_change change)) }
+        ensures made { MakesWordAccesses told.old.plan → MakesWordAccesses told.new.plan }
         ensures err { OnErr result (IsUnmoved self.old self.new) }
     {
         let next = self.iunit.following().addr;
@@ -269,20 +274,20 @@ impl Board {
             after: (next, next.wrapping_add(4)),
             bubble: false,
         };
-        self.issue_accesses(instr, effect, told)
+        self.issue_accesses(instr, &effect, told)
     }
 
     /// The next instruction in its turn, where it makes these changes, or it waits for room for its accesses.
     fn issue_accesses(
         &mut self,
         instr: &Instr,
-        effect: Effect,
-        told: &mut Plan,
+        effect: &Effect,
+        told: &mut Told,
     ) -> Result<Brief, NoMemory>
         requires going { is_idle_board self.old ≡ false }
         requires valid { self.old.slots.nip.v ≡ true }
         requires fetched { self.old.slots.nip.e ≡ false }
-        requires planned { IsPlanned instr.now effect self.old }
+        requires planned { IsPlanned instr.now effect.now self.old }
         ensures ok { IfOk result (λ brief. (fault : RecordValue)
             → Did (choice_for (Some instr.now) self.old) fault self.old
             (happened_of brief self.new) self.new) }
@@ -290,20 +295,20 @@ impl Board {
             → self.new ≡ self.old) }
         ensures leaves { IfOk result (λ brief.
             Leaves (happened_of brief self.new) self.old self.new) }
-        ensures told { OnOk result ((change : Change)
+        ensures told { told.old.asked ≡ true → OnOk result ((change : Change)
             → choice_for (Some instr.now) self.old ≡ issues change
-            → told.new ≡ Go (recorded_change change)) }
-        ensures made { MakesWordAccesses told.new }
+            → told.new.plan ≡ Go (recorded_change change)) }
+        ensures made { MakesWordAccesses told.old.plan → MakesWordAccesses told.new.plan }
         ensures err { OnErr result (IsUnmoved self.old self.new) }
     {
-        *told = Plan::Go(effect);
+        told.tell(effect);
         if effect.accesses.count > self.dunit.room() {
             return Ok(Brief::Stalled(Why::Full));
         }
         if waits_for_empty(instr) && self.is_pending() {
             return Ok(Brief::Stalled(Why::Sync));
         }
-        self.go(&effect)?;
+        self.go(effect)?;
         Ok(Brief::Issued)
     }
 
@@ -316,6 +321,7 @@ impl Board {
     }
 
     /// What the next instruction does, where no register that it uses or writes waits.
+    // Inlined, so that what an outline tells stays in registers.
     #[inline(always)]
     fn outline_next(&self, instr: &Instr) -> Outline
         requires instr { IsValid instr.now }

@@ -94,8 +94,10 @@ impl Board {
         Ok(())
     }
 
-    /// Makes the event of a letter, answers in brief, and tells of `i` what the instruction is that goes on; then the
-    /// watch is shown the board.
+    /// Makes the event of a letter, answers in brief, and tells of `i`, where somebody asks, what the instruction is
+    /// that goes on; then the watch is shown the board.
+    // Inlined, as all that makes an event but the issue and an answer over what is pending: so a letter over nothing
+    // enters no function.
     #[inline(always)]
     pub(crate) fn step<W: Watch>(
         &mut self,
@@ -117,7 +119,7 @@ impl Board {
         ensures shorter { letter ≡ LetterValue.Answer
             → OnOk result (length self.new.pending ≤ length self.old.pending - 1) }
         ensures kept { OnOk result (IsKept self.new) }
-        ensures told { letter ≡ LetterValue.Issue → IfOk result (λ brief.
+        ensures told { letter ≡ LetterValue.Issue → told.old.asked ≡ true → IfOk result (λ brief.
             (p : Program) (named : ℕ → Bool) (m : Moment) → IsAt p named m self.old
             → IsTold p named self.old.limit m (happened_of brief self.new) told.new) }
         ensures made { MakesWordAccesses told.old.plan → MakesWordAccesses told.new.plan }

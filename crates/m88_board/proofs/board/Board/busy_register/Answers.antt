@@ -1,38 +1,34 @@
--- The registers are tried from the least on.
-use Rattle.std.proofs.Common.{◌≡◌, ◌∙◌, ap, sym, subst, refl, arith, Some, true, false}
-use Rattle.std.specs.Prelude.{◌&&◌}
+-- Of the words of the registers that wait and that the instruction touches, the lowest bit in common is looked for.
+use Rattle.std.proofs.Common.{◌≡◌, ◌≢◌, ◌<◌, ◌∙◌, ap, arith, sym, Some}
+use Rattle.std.proofs.lemmas.Nat.Bits.{bit_at-trailing_zeros}
+use Rattle.std.specs.Int.{bit_at, trailing_zeros, w32}
+use Rattle.std.specs.Prelude.{bit_and}
+use Rattle.std.specs.Int.Bits.{and_le_l}
 use Rattle.m88_base.specs.Reg.{number_of}
-use Rattle.m88_isa.specs.Bus.{waits_for}
-use Rattle.m88_isa.specs.Held.{busy_register, involves}
-use Rattle.m88_board.proofs.Searching.{here_first, not_here, nowhere}
+use Rattle.m88_board.proofs.Records.{zero_bit}
+use Rattle.m88_board.proofs.Searching.{least_waits, none_waits_for}
+use Rattle.m88_board.specs.contracts.board.Board.{the_view}
 use Rattle.m88_board.proofs.board.Board.busy_register.Goals as goal
 
-pub loop-n-init : goal.loop-n-init
-unfolding busy_register
-loop-n-init c = refl
-
-pub returns-then-waits_on : goal.returns-then-waits_on
-returns-then-waits_on c =
-    let low = c.loop-n-test.true in
-    let number = c.from_low_bits-r.ensures.number in
-    let same : number_of c.from_low_bits-r.result ≡ c.loop-n.n = omega (arith, low, number) in
-    ap Some same
-    ∙ sym (here_first c.loop-n.n (λ r. involves (Some c.args.line.now.instr) r && waits_for c.args.self.now.pending r) low
-    (subst (λ k. (involves (Some c.args.line.now.instr) k && waits_for c.args.self.now.pending k) ≡ true) same
-    (sym c.waits_on.ensures ∙ c.if-waits_on.true)))
-    ∙ c.loop-n.invariant
-
-pub loop-n-preserved : goal.loop-n-preserved
-loop-n-preserved c =
-    let low = c.loop-n-test.true in
-    let number = c.from_low_bits-r.ensures.number in
-    let same : number_of c.from_low_bits-r.result ≡ c.loop-n.n = omega (arith, low, number) in
-    not_here c.loop-n.n (λ r. involves (Some c.args.line.now.instr) r && waits_for c.args.self.now.pending r) low
-    (subst (λ k. (involves (Some c.args.line.now.instr) k && waits_for c.args.self.now.pending k) ≡ false) same
-    (sym c.waits_on.ensures ∙ c.if-waits_on.false))
-    ∙ c.loop-n.invariant
+pub returns-then-both-eq0 : goal.returns-then-both-eq0
+returns-then-both-eq0 c =
+    rw (← c.self.view_is)
+    (sym (none_waits_for c.args.line.now.instr c.self.inside.dunit c.busy.result c.args.line.now.involved
+    (c.busy.ensures.back ∙ c.self.invariant.parts.waiting) c.requires c.if-both-eq0.true))
 
 pub returns : goal.returns
 returns c =
-    sym (nowhere c.loop-n.n (λ r. involves (Some c.args.line.now.instr) r && waits_for c.args.self.now.pending r) c.loop-n-test.false)
-    ∙ c.loop-n.invariant
+    let both = bit_and c.busy.result c.args.line.now.involved in
+    let other : both ≢ 0 = c.if-both-eq0.false in
+    let some : 0 < both = omega (arith, other) in
+    let within = and_le_l c.busy.result c.args.line.now.involved in
+    let least = bit_at-trailing_zeros w32 both some (omega (arith, within)) in
+    let low : trailing_zeros w32 both < 32 = least.0 in
+    let number = c.from_low_bits.ensures.number in
+    let same : number_of c.from_low_bits.result ≡ trailing_zeros w32 both = omega (arith, low, number) in
+    rw (← c.self.view_is)
+    (ap Some same
+    ∙ sym (least_waits c.args.line.now.instr c.self.inside.dunit c.busy.result c.args.line.now.involved
+    (trailing_zeros w32 both) (c.busy.ensures.back ∙ c.self.invariant.parts.waiting) c.requires
+    (ap (λ n. bit_at n 0) c.busy.ensures.value ∙ zero_bit (the_view c.self.inside) c.self.invariant)
+    low least.1 least.2))

@@ -82,8 +82,8 @@ returns-clause-still c = λ still.
     (subst IsStill (sym (told_counted c.in_ok-brief.brief c.take.new.self c.count.new.self c.count.ensures.counted)) still))
 
 pub returns-clause-told : goal.returns-clause-told
-returns-clause-told c = λ letter p named m at.
+returns-clause-told c = λ letter asked p named m at.
     told_at p named m c.args.self.now (happened_of c.in_ok-brief.brief c.count.new.self) c.take.new.told at
     (λ went. c.in_ok-brief.ensures.word letter
     (subst WentOn (sym (told_counted c.in_ok-brief.brief c.take.new.self c.count.new.self c.count.ensures.counted)) went))
-    (λ change issued. c.in_ok-brief.ensures.plan letter p change at.image issued)
+    (λ change issued. c.in_ok-brief.ensures.plan letter asked p change at.image issued)

@@ -41,12 +41,12 @@ pub returns-then-not-nip-clause-same : goal.returns-then-not-nip-clause-same
 returns-then-not-nip-clause-same c = (c.pass.ensures.does no_record).same
 
 pub returns-then-is_idle-clause-plan : goal.returns-then-is_idle-clause-plan
-returns-then-is_idle-clause-plan c = λ p change of issued.
+returns-then-is_idle-clause-plan c = λ asked p change of issued.
     let idle = idles_by p c.args.self.now (sym c.is_idle.ensures ∙ c.if-is_idle.true) in
     absurd cc
 
 pub returns-then-not-nip-clause-plan : goal.returns-then-not-nip-clause-plan
-returns-then-not-nip-clause-plan c = λ p change of issued.
+returns-then-not-nip-clause-plan c = λ asked p change of issued.
     let b = c.args.self.now in
     let seen = ap (λ (s : Slot). s.v) c.candidate-nip.ensures.value
     ∙ ap (λ (x : BoardView). x.slots.nip.v) c.self.view_is in

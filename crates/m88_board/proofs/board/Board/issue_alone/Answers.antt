@@ -7,8 +7,7 @@ use Rattle.m88_isa.specs.Held.{is_pending, sync}
 use Rattle.m88_isa.specs.Operands.{waits_for_empty}
 use Rattle.m88_board.proofs.Choosing.{did_by}
 use Rattle.m88_board.proofs.Issuing.{at_most, go_issued, go_sync, held_still, no_trap, none_to_wait_for}
-use Rattle.m88_board.proofs.Planned.{free_of, going_of, room_for_none}
-use Rattle.m88_board.proofs.Telling.{change_told}
+use Rattle.m88_board.proofs.Planned.{free_of, going_of, planned_issues, room_for_none}
 use Rattle.m88_board.specs.Inside.Turns.{choice_for}
 use Rattle.m88_board.proofs.board.Board.issue_alone.Goals as goal
 use Rattle.m88_board.proofs.board.Board.issue_alone.Goals.{else-waits_for_empty-via-then-waits_for_empty+else-is_pending, else-waits_for_empty-via-else-waits_for_empty}
@@ -48,21 +47,12 @@ returns-clause-ok c = λ fault.
           (at_most c.args.instr.now b c.args.effect going);
     })
 
+pub returns-then-is_pending-clause-told : goal.returns-then-is_pending-clause-told
+returns-then-is_pending-clause-told c = λ asked change issued.
+    c.tell.ensures.plan asked
+    ∙ planned_issues c.args.instr.now c.args.effect c.args.self.now change c.requires.planned issued
+
 pub returns-clause-told : goal.returns-clause-told
-returns-clause-told c = λ change issued.
-    let b = c.args.self.now in
-    let going = going_of c.args.instr.now c.args.effect b c.requires.planned in
-    let goes_on : (is_pending b.pending && waits_for_empty c.args.instr.now) ≡ false =
-    elim c.else-waits_for_empty.branch [
-      | else-waits_for_empty-via-then-waits_for_empty+else-is_pending w ↦
-          none_to_wait_for (is_pending b.pending) (waits_for_empty c.args.instr.now)
-          (sym w.is_pending.ensures ∙ w.if-is_pending.false)
-      | else-waits_for_empty-via-else-waits_for_empty w ↦
-          no_trap (is_pending b.pending) (waits_for_empty c.args.instr.now)
-          (sym c.waits_for_empty.ensures.value ∙ w.if-waits_for_empty.false)
-    ] in
-    change_told (choice_for (Some c.args.instr.now) b) going.on.change change c.args.effect
-    (go_issued c.args.instr.now b c.args.effect going
-    (room_for_none b.pending c.args.effect.accesses c.requires.alone c.requires.few) goes_on)
-    going.on.same
-    issued
+returns-clause-told c = λ asked change issued.
+    c.tell.ensures.plan asked
+    ∙ planned_issues c.args.instr.now c.args.effect c.args.self.now change c.requires.planned issued

@@ -68,7 +68,7 @@ trap-requires-clause-comes c = λ p of.
     (nothing_pending c.args.self.now.pending (sym c.is_pending.ensures ∙ c.if-is_pending.false))
 
 pub returns-in-Raise-clause-told : goal.returns-in-Raise-clause-told
-returns-in-Raise-clause-told c = λ change issued.
+returns-in-Raise-clause-told c = λ asked change issued.
     let b = c.args.self.now in
     absurd (stopping_issues_none (choice_for (Some c.args.instr.now) b) (by_vector c.in-Raise.vector (pc_of b.slots))
     b.pending change
@@ -77,7 +77,7 @@ returns-in-Raise-clause-told c = λ change issued.
     issued)
 
 pub returns-then-is_pending-clause-told : goal.returns-then-is_pending-clause-told
-returns-then-is_pending-clause-told c = λ change issued.
+returns-then-is_pending-clause-told c = λ asked change issued.
     let waits = trap_held c.args.instr.now c.args.self.now c.in-Trap.vector c.requires.free
     (trap_is _ c.in-Trap.vector c.in-Trap.ensures.value)
     (sym c.is_pending.ensures ∙ c.if-is_pending.true) in

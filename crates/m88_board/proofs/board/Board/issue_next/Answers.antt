@@ -45,7 +45,7 @@ returns-in-Err-clause-word c = λ went.
     (happened_of c.raise.result c.raise.new.self) (c.raise.ensures.does no_record) went)
 
 pub returns-in-Err-clause-plan : goal.returns-in-Err-clause-plan
-returns-in-Err-clause-plan c = λ p change of issued.
+returns-in-Err-clause-plan c = λ asked p change of issued.
     let b = c.args.self.now in
     absurd (stopping_issues_none (choice_by p b.limit Issue (local_of b)) (by_vector c.in-Err.vector (pc_of b.slots))
     b.pending change
@@ -67,50 +67,51 @@ returns-in-Ok-clause-ok c =
     let line = c.in-Ok.line in
     let found = rw (c.in-Ok.is) at c.requires.line in
     let small : line.word < 2 ^ 32 = omega arith in
-    IfOk-weaker c.issue_instr.result
-    (λ h. (fault : Record) → Did (choice_for (Some line.instr) b) fault b (happened_of h c.issue_instr.new.self)
-    c.issue_instr.new.self)
+    IfOk-weaker c.issue_instr-issued.result
+    (λ h. (fault : Record) → Did (choice_for (Some line.instr) b) fault b (happened_of h c.issue_instr-issued.new.self)
+    c.issue_instr-issued.new.self)
     (λ h. (p : Program) (fault : Record) → IsProgramOf b.memory.image p
-    → Did (choice_by p b.limit Issue (local_of b)) fault b (happened_of h c.issue_instr.new.self) c.issue_instr.new.self)
+    → Did (choice_by p b.limit Issue (local_of b)) fault b (happened_of h c.issue_instr-issued.new.self) c.issue_instr-issued.new.self)
     (λ h did p fault of. did_by (choice_by p b.limit Issue (local_of b)) (choice_for (Some line.instr) b) fault b
-    (happened_of h c.issue_instr.new.self) c.issue_instr.new.self
+    (happened_of h c.issue_instr-issued.new.self) c.issue_instr-issued.new.self
     (line_by p b line of c.requires.going c.requires.valid found.0 found.1 small)
     (did fault))
-    c.issue_instr.ensures.ok
+    c.issue_instr-issued.ensures.ok
 
 pub returns-in-Ok-clause-events : goal.returns-in-Ok-clause-events
 returns-in-Ok-clause-events c =
     let b = c.args.self.now in
-    events_kept (choice_for (Some c.in-Ok.line.instr) b) c.issue_instr.result b c.issue_instr.new.self
-    c.issue_instr.ensures.ok c.issue_instr.ensures.err
+    events_kept (choice_for (Some c.in-Ok.line.instr) b) c.issue_instr-issued.result b c.issue_instr-issued.new.self
+    c.issue_instr-issued.ensures.ok c.issue_instr-issued.ensures.err
 
 pub returns-in-Ok-clause-same : goal.returns-in-Ok-clause-same
 returns-in-Ok-clause-same c =
-    same_if (choice_for (Some c.in-Ok.line.instr) c.args.self.now) c.issue_instr.result c.args.self.now
-    c.issue_instr.new.self c.issue_instr.ensures.ok
+    same_if (choice_for (Some c.in-Ok.line.instr) c.args.self.now) c.issue_instr-issued.result c.args.self.now
+    c.issue_instr-issued.new.self c.issue_instr-issued.ensures.ok
 
-pub issue_instr-requires-clause-comes : goal.issue_instr-requires-clause-comes
-issue_instr-requires-clause-comes c = λ p of.
+pub issue_instr-issued-requires-clause-comes : goal.issue_instr-issued-requires-clause-comes
+issue_instr-issued-requires-clause-comes c = λ p of.
     let line = c.in-Ok.line in
     let found = rw (c.in-Ok.is) at c.requires.line in
     let small : line.word < 2 ^ 32 = omega arith in
     line_by p c.args.self.now line of c.requires.going c.requires.valid found.0 found.1 small
 
 pub returns-in-Ok-clause-plan : goal.returns-in-Ok-clause-plan
-returns-in-Ok-clause-plan c =
+returns-in-Ok-clause-plan c = λ asked.
     let b = c.args.self.now in
     let line = c.in-Ok.line in
     let found = rw (c.in-Ok.is) at c.requires.line in
     let small : line.word < 2 ^ 32 = omega arith in
-    IfOk-weaker c.issue_instr.result
+    IfOk-weaker c.issue_instr-issued.result
     (λ h. (change : Change) → choice_for (Some line.instr) b ≡ issues change
-    → c.issue_instr.new.told ≡ Go (recorded_change change))
+    → c.issue_instr-issued.new.told.plan ≡ Go (recorded_change change))
     (λ h. (p : Program) (change : Change) → IsProgramOf b.memory.image p
-    → choice_by p b.limit Issue (local_of b) ≡ issues change → c.issue_instr.new.told ≡ Go (recorded_change change))
+    → choice_by p b.limit Issue (local_of b) ≡ issues change
+    → c.issue_instr-issued.new.told.plan ≡ Go (recorded_change change))
     (λ h tells p change of issued. tells change
     (sym (line_by p b line of c.requires.going c.requires.valid found.0 found.1 small)
     ∙ issued))
-    c.issue_instr.ensures.told
+    (c.issue_instr-issued.ensures.told asked)
 
-pub issue_instr-requires-clause-fetched : goal.issue_instr-requires-clause-fetched
-issue_instr-requires-clause-fetched c = let unmarked = rw (c.in-Ok.is) at c.requires.unmarked in unmarked
+pub issue_instr-issued-requires-clause-fetched : goal.issue_instr-issued-requires-clause-fetched
+issue_instr-issued-requires-clause-fetched c = let unmarked = rw (c.in-Ok.is) at c.requires.unmarked in unmarked
