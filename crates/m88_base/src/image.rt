@@ -114,10 +114,11 @@ impl Image {
             return Ok(());
         }
         let index = self.runs.locate(at);
-        if let Some(taken) = self.runs.first_taken(index, at, bytes.len()) {
+        let next = self.runs.next_start(index);
+        if let Some(taken) = self.runs.first_taken(index, next, at, bytes.len()) {
             return Err(ImageFault::Overlap(taken));
         }
-        self.runs.place(self.alloc, index, at, bytes)?;
+        self.runs.place(self.alloc, index, next, at, bytes)?;
         self.len += bytes.len();
         Ok(())
     }
@@ -188,7 +189,8 @@ impl Image {
         ensures free { IfNone result (IsFree (byte_at self.now) at count) }
     {
         let index = self.runs.locate(at);
-        self.runs.first_taken(index, at, count)
+        let next = self.runs.next_start(index);
+        self.runs.first_taken(index, next, at, count)
     }
 
     /// The number of parts, the runs of consecutive addresses that are as long as they can be.

@@ -90,9 +90,21 @@ impl Segments {
         self.runs.locate(at)
     }
 
+    /// The first address at which one more run may begin behind the runs below `index`.
+    pub fn next_start(&self, index: usize) -> u64
+        requires { index ≤ length self.now }
+        ensures { result ≡ next_start 0 (take index self.now) }
+    {
+        if index == 0 {
+            return 0;
+        }
+        self.runs.get(index - 1).end() + 1
+    }
+
     /// The least of `count` addresses from `at` on that have a byte, where `index` runs begin at or
-    /// below `at`.
-    pub fn first_taken(&self, index: usize, at: u32, count: usize) -> Option<u32>
+    /// below `at` and one more may begin behind them from `next` on.
+    pub fn first_taken(&self, index: usize, next: u64, at: u32, count: usize) -> Option<u32>
+        requires next { next ≡ next_start 0 (take index self.now) }
         requires cut { IsCut self.now index at }
         requires some { 0 < count }
         requires fits { at + count ≤ 2 ^ 32 }
@@ -101,11 +113,12 @@ impl Segments {
         ensures free_above { IfNone result (next_start 0 (take index self.now) ≤ at + 1) }
         ensures free_below { IfNone result (AreApart (at + count) (drop index self.now)) }
     {
-        if next_start(&self.runs, index) > u64::from(at) + 1 {
+        let runs = &self.runs;
+        if next > u64::from(at) + 1 {
             return Some(at);
         }
-        if index < self.runs.len() {
-            let first = self.runs.get(index).at();
+        if index < runs.len() {
+            let first = runs.get(index).at();
             if u64::from(first) < u64::from(at) + count as u64 {
                 return Some(first);
             }
@@ -113,14 +126,17 @@ impl Segments {
         None
     }
 
-    /// Places bytes between the runs below `index` and the others, at addresses that have none yet.
+    /// Places bytes between the runs below `index`, behind which one more may begin from `next` on, and the others, at
+    /// addresses that have none yet.
     pub fn place(
         &mut self,
         alloc: Global,
         index: usize,
+        next: u64,
         at: u32,
         bytes: &[u8],
     ) -> Result<(), AllocError>
+        requires next { next ≡ next_start 0 (take index self.old) }
         requires index { index ≤ length self.old }
         requires above { next_start 0 (take index self.old) ≤ at + 1 }
         requires below { AreApart (at + length bytes.now) (drop index self.old) }
@@ -130,7 +146,7 @@ impl Segments {
         ensures ok { OnOk result (Places self.old self.new at bytes.now) }
         ensures err { OnErr result (self.new ≡ self.old) }
     {
-        let behind = next_start(&self.runs, index) == u64::from(at) + 1;
+        let behind = next == u64::from(at) + 1;
         let ahead = begins_at(&self.runs, index, u64::from(at) + bytes.len() as u64);
         if behind {
             if ahead {
@@ -270,6 +286,7 @@ impl Segments {
             }
         }
     }
+
     /// Places bytes that fill such a gap, with the run below it ahead of the one above it.
     fn bridge_down(
         &mut self,
@@ -307,19 +324,6 @@ fn joined(alloc: Global, first: &[u8], second: &[u8]) -> Result<Vec<u8>, AllocEr
     let mut both = Vec::from_slice(alloc, first)?;
     both.extend_from_slice(second)?;
     Ok(both)
-}
-
-/// The first address at which one more run may begin behind the runs below `index`.
-fn next_start(runs: &Blocks, index: usize) -> u64
-    requires { index ≤ length runs.now }
-    ensures value { result ≡ next_start 0 (take index runs.now) }
-    ensures bound { result ≤ 2 ^ 32 + 1 }
-{
-    if index == 0 {
-        return 0;
-    }
-    let run = runs.get(index - 1);
-    run.end() + 1
 }
 
 /// Whether the run at `index` begins at an address.

@@ -6,10 +6,10 @@ use Rattle.m88_base.specs.Inside.Placing.{IsCut, next_start}
 use Rattle.m88_base.proofs.Cuts.{free_between, taken_in_last, taken_in_next}
 use Rattle.m88_base.proofs.segments.Segments.first_taken.Goals as goal
 
-pub returns-then-next_start-from-clause-taken : goal.returns-then-next_start-from-clause-taken
-returns-then-next_start-from-clause-taken c =
+pub returns-then-next-from-clause-taken : goal.returns-then-next-from-clause-taken
+returns-then-next-from-clause-taken c =
     let cut : IsCut c.self.inside.runs c.args.index c.args.at = rw (← c.self.view_is) at c.requires.cut in
-    let reach : c.args.at + 1 < next_start 0 (take c.args.index c.self.inside.runs) = rw (← c.next_start.ensures.value) (omega arith) in
+    let reach : c.args.at + 1 < next_start 0 (take c.args.index c.self.inside.runs) = omega (arith, rw (← c.self.view_is) at c.requires.next) in
     rw (← c.self.view_is)
     (taken_in_last c.self.inside.runs c.args.index c.args.at c.args.count (record { at = 0; bytes = [] }) c.self.invariant cut.bound cut.below cut.above
     reach c.requires.some)
@@ -18,7 +18,7 @@ pub returns-then-from-count-clause-taken : goal.returns-then-from-count-clause-t
 returns-then-from-count-clause-taken c =
     let runs : List Placed = c.self.inside.runs in
     let cut : IsCut runs c.args.index c.args.at = rw (← c.self.view_is) at c.requires.cut in
-    let reach : next_start 0 (take c.args.index runs) ≤ c.args.at + 1 = rw (← c.next_start.ensures.value) (omega arith) in
+    let reach : next_start 0 (take c.args.index runs) ≤ c.args.at + 1 = omega (arith, rw (← c.self.view_is) at c.requires.next) in
     let within : c.args.index < length runs = omega arith in
     let below : c.get.result.now.at < c.args.at + c.args.count = omega arith in
     rw (← c.self.view_is, c.at-first.ensures, c.get.ensures)
@@ -28,7 +28,7 @@ pub returns-else-from-count-clause-free : goal.returns-else-from-count-clause-fr
 returns-else-from-count-clause-free c =
     let runs : List Placed = c.self.inside.runs in
     let cut : IsCut runs c.args.index c.args.at = rw (← c.self.view_is) at c.requires.cut in
-    let reach : next_start 0 (take c.args.index runs) ≤ c.args.at + 1 = rw (← c.next_start.ensures.value) (omega arith) in
+    let reach : next_start 0 (take c.args.index runs) ≤ c.args.at + 1 = omega (arith, rw (← c.self.view_is) at c.requires.next) in
     let within : c.args.index < length runs = omega arith in
     let run : Placed = c.get.result.now in
     let is : drop c.args.index runs ≡ run ∷ drop (suc c.args.index) runs = rw (← c.get.ensures) at (drop-cons runs c.args.index run within) in
@@ -39,6 +39,6 @@ returns-else-from-count-clause-free c =
 pub returns-else-index-len-clause-free : goal.returns-else-index-len-clause-free
 returns-else-index-len-clause-free c =
     let runs : List Placed = c.self.inside.runs in
-    let reach : next_start 0 (take c.args.index runs) ≤ c.args.at + 1 = rw (← c.next_start.ensures.value) (omega arith) in
+    let reach : next_start 0 (take c.args.index runs) ≤ c.args.at + 1 = omega (arith, rw (← c.self.view_is) at c.requires.next) in
     let below : AreApart (c.args.at + c.args.count) (drop c.args.index runs) = rw (drop_all c.args.index runs (omega arith)) tt in
     rw (← c.self.view_is) (free_between runs c.args.index c.args.at c.args.count c.self.invariant reach below)
