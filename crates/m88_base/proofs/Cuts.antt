@@ -62,7 +62,7 @@ found_in_last xs (suc i) a d h p l s above =
     byte_among-append (take i xs) (run ∷ drop (suc i) xs) a ∙ rw (front, back) (option_or-none (byte_in run a)) in
     rw e (ap (λ ys. byte_among ys a) cut ∙ (whole ∙ byte_in_at run a last))
 
-slice_get-drop : (n : ℕ) (xs : List ℕ) (k : ℕ) → slice_get (drop n xs) k ≡ slice_get xs (n + k)
+pub slice_get-drop : (n : ℕ) (xs : List ℕ) (k : ℕ) → slice_get (drop n xs) k ≡ slice_get xs (n + k)
 slice_get-drop zero xs k = let e : 0 + k ≡ k = omega arith in ap (λ n. slice_get xs n) (sym e)
 slice_get-drop (suc n) [] k = refl
 slice_get-drop (suc n) (x ∷ xs) k =

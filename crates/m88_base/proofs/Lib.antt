@@ -9,6 +9,7 @@ pub mod Decided
 pub mod Edits
 pub mod Digits
 pub mod FewParts
+pub mod Filled
 pub mod Hexadecimal
 pub mod InBlocks
 pub mod InPieces

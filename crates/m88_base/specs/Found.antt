@@ -1,5 +1,5 @@
 -- What is found at addresses, where a look-up tells the byte at each address that has one.
-use Rattle.std.specs.Prelude.{◌≡◌, ℕ, ◌+◌, ◌^◌, ◌<◌, ◌≤◌, List, length, slice_get, Option, None, IsSome, IfSome}
+use Rattle.std.specs.Prelude.{◌≡◌, ℕ, ◌+◌, ◌^◌, ◌<◌, ◌≤◌, List, [], ◌∷◌, length, slice_get, Option, None, IsSome, IfSome, unwrap_or}
 
 -- the address is one of the n from `at` on
 abbrev pub IsWithin : ℕ → ℕ → ℕ → Type 0
@@ -16,6 +16,11 @@ FindsBytes found = (a : ℕ) → IfSome (found a) (λ b. (a < 2 ^ 32) × (b < 25
 -- none of the n addresses from `at` on has a byte
 abbrev pub IsFree : (ℕ → Option ℕ) → ℕ → ℕ → Type 0
 IsFree found at n = (a : ℕ) → IsWithin at n a → found a ≡ None
+
+-- bytes that are those of the addresses from `at` on, each as it is found there, and as it was where none is
+abbrev pub filled : (ℕ → Option ℕ) → ℕ → List ℕ → List ℕ
+filled found at [] = []
+filled found at (b ∷ bytes) = unwrap_or (found at) b ∷ filled found (at + 1) bytes
 
 -- what is found is what was found before, but for the bytes put from `at` on
 pub record PutsBytes (old new : ℕ → Option ℕ) (at : ℕ) (bytes : List ℕ) : Type 0 where

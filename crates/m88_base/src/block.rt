@@ -1,9 +1,10 @@
 //! A few runs in a row.
 ghost use Rattle.std.specs.Prelude.{◌≡◌, ◌+◌, ◌/◌, ◌<◌, ◌≤◌, [], ◌∷◌, ◌++◌, All, leb, true, false, take, drop, length, insert, remove, slice_index_or, slice_set, IfOk, OnOk, OnErr};
 ghost use Rattle.std.specs.List.Sorted.{IsNonDecreasingBy, IsPartitionPoint};
+ghost use Rattle.m88_base.specs.Found.{filled};
 ghost use Rattle.m88_base.specs.Inside.Blocks.{first_start};
 ghost use Rattle.m88_base.specs.Inside.Placing.{IsLastBy};
-ghost use Rattle.m88_base.specs.Placed.{AreApart};
+ghost use Rattle.m88_base.specs.Placed.{AreApart, byte_among};
 
 use crate::segment::Segment;
 use std::alloc::{AllocError, Global};
@@ -62,9 +63,16 @@ impl Block {
     pub fn begins_by(&self, at: u32) -> bool
         ensures { result ≡ leb (first_start self.now) at }
     {
+        self.start() <= at
+    }
+
+    /// The address at which the first run begins, 0 where there is none.
+    pub fn start(&self) -> u32
+        ensures { result ≡ first_start self.now }
+    {
         match self.runs.as_slice() {
-            [first, ..] => first.at() <= at,
-            _ => true,
+            [first, ..] => first.at(),
+            _ => 0,
         }
     }
 
@@ -87,6 +95,14 @@ impl Block {
     {
         let begun = locate(&self.runs, at);
         &self.runs[begun - 1]
+    }
+
+    /// Writes the bytes over those that stand in a room for the addresses from `at` on.
+    pub fn fill(&self, at: u32, room: &mut [u8])
+        requires { AreApart 0 self.now }
+        ensures { room.new ≡ filled (byte_among self.now) at room.old }
+    {
+        fill(&self.runs, at, room);
     }
 
     /// Puts a run in ahead of the one at an index.
@@ -144,6 +160,22 @@ fn locate(runs: &[Segment], at: u32) -> usize
     ensures above { AreApart (at + 1) (drop result runs.now) }
 {
     begun_by(runs, at)
+}
+
+/// Writes the bytes of the runs over those that stand in a room for the addresses from `at` on: it goes from the last
+/// run that begins at or below `at` to the first that begins behind the room.
+fn fill(runs: &[Segment], at: u32, room: &mut [u8])
+    requires { AreApart 0 runs.now }
+    ensures { room.new ≡ filled (byte_among runs.now) at room.old }
+{
+    let end = u64::from(at) + room.len() as u64;
+    for index in locate(runs, at).saturating_sub(1)..runs.len() {
+        let run = &runs[index];
+        if u64::from(run.at()) >= end {
+            return;
+        }
+        run.fill(at, room);
+    }
 }
 
 /// The number of runs that begin at or below an address, of runs in ascending order. The last is tried first.

@@ -1,7 +1,8 @@
 //! Runs in a row, in blocks, so that few others move when one more is put between them.
 ghost use Rattle.std.specs.Prelude.{◌≡◌, ◌+◌, ◌^◌, ◌<◌, ◌≤◌, [], ◌∷◌, All, take, drop, length, insert, remove, slice_index_or, slice_set, leb, true, false, IfNone, IfOk, IfSome, OnOk, OnErr};
 ghost use Rattle.std.specs.List.Sorted.{IsNonDecreasingBy, IsPartitionPoint};
-ghost use Rattle.m88_base.specs.Placed.{AreApart};
+ghost use Rattle.m88_base.specs.Found.{filled};
+ghost use Rattle.m88_base.specs.Placed.{AreApart, byte_among};
 ghost use Rattle.m88_base.specs.Inside.Placing.{IsLastBy};
 ghost use Rattle.m88_base.specs.Inside.Blocks.{AreFilled, CountsTo, IsCounted, IsPlaceInBlocks, all_runs, first_start};
 
@@ -97,6 +98,14 @@ impl Blocks {
         ensures none { IfNone result (AreApart (at + 1) self.now) }
     {
         below(&self.blocks, at)
+    }
+
+    /// Writes the bytes over those that stand in a room for the addresses from `at` on.
+    pub fn fill(&self, at: u32, room: &mut [u8])
+        requires { AreApart 0 self.now }
+        ensures { room.new ≡ filled (byte_among self.now) at room.old }
+    {
+        fill(&self.blocks, at, room);
     }
 
     /// Puts a run in ahead of the one at an index.
@@ -225,6 +234,23 @@ fn below(blocks: &[Block], at: u32) -> Option<&Segment>
     }
     let block = &blocks[passed - 1];
     Some(block.below(at))
+}
+
+/// Writes the bytes of the runs over those that stand in a room for the addresses from `at` on: it goes from the last
+/// block that begins at or below `at` to the first that begins behind the room.
+fn fill(blocks: &[Block], at: u32, room: &mut [u8])
+    requires filled { AreFilled blocks.now }
+    requires apart { AreApart 0 (all_runs blocks.now) }
+    ensures { room.new ≡ filled (byte_among (all_runs blocks.now)) at room.old }
+{
+    let end = u64::from(at) + room.len() as u64;
+    for index in begun_by(blocks, at).saturating_sub(1)..blocks.len() {
+        let block = &blocks[index];
+        if u64::from(block.start()) >= end {
+            return;
+        }
+        block.fill(at, room);
+    }
 }
 
 fn insert(

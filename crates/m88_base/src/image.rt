@@ -1,6 +1,6 @@
 //! The bytes of a program at their addresses.
 ghost use Rattle.std.specs.Prelude.{◌≡◌, ◌+◌, ◌^◌, ◌<◌, ◌≤◌, ◌↔◌, ℕ, None, Some, Err, length, slice_get, IfErr, IfNone, IfOk, IfSome, IsTrue, OnOk, OnErr};
-ghost use Rattle.m88_base.specs.Found.{IsFree, IsLeastTaken, IsPart, PutsBytes};
+ghost use Rattle.m88_base.specs.Found.{IsFree, IsLeastTaken, IsPart, PutsBytes, filled};
 ghost use Rattle.m88_base.specs.Placed.{byte_among};
 ghost use Rattle.m88_base.specs.Image.{IsImage, IsTooLarge, ProgramImage, WhereOverlap, byte_at, byte_count, first_text, most_bytes, parts};
 
@@ -178,6 +178,15 @@ impl Image {
         ensures end { byte_at self.now (at + length result.now) ≡ None }
     {
         self.runs.rest(at)
+    }
+
+    /// Writes the bytes at the addresses from `at` on over a room, which keeps what it has where there is none. Each part
+    /// is met once.
+    #[tactic(auto, unfolding(crate::specs::Image::byte_at))]
+    pub fn fill(&self, at: u32, room: &mut [u8])
+        ensures { room.new ≡ filled (byte_at self.now) at room.old }
+    {
+        self.runs.fill(at, room);
     }
 
     /// The least of `count` addresses from `at` on that has a byte, None where none of them has one.

@@ -1,5 +1,7 @@
 //! A run of bytes at consecutive addresses.
-ghost use Rattle.std.specs.Prelude.{◌≡◌, ◌+◌, ◌-◌, ◌^◌, ◌≤◌, ◌++◌, [], drop, length, replicate, slice_get, IfOk, OnOk, OnErr};
+ghost use Rattle.std.specs.Prelude.{◌≡◌, ◌+◌, ◌-◌, ◌^◌, ◌≤◌, ◌++◌, [], take, drop, length, replicate, slice_get, IfOk, OnOk, OnErr};
+ghost use Rattle.m88_base.specs.Found.{filled};
+ghost use Rattle.m88_base.specs.Placed.{byte_in};
 
 use arrayvec::ArrayVec;
 use std::alloc::{AllocError, Global};
@@ -123,6 +125,20 @@ impl Segment {
         rest
     }
 
+    /// Writes the bytes over those that stand in a room for the addresses from `at` on.
+    pub fn fill(&self, at: u32, room: &mut [u8])
+        ensures { room.new ≡ filled (byte_in self.now) at room.old }
+    {
+        if self.at <= at {
+            lay(self.bytes_from(at), room);
+            return;
+        }
+        let gap = (self.at - at) as usize;
+        if gap < room.len() {
+            lay(self.bytes(), &mut room[gap..]);
+        }
+    }
+
     /// Puts copies of two lists of bytes at the end, both or none.
     pub fn append(&mut self, alloc: Global, first: &[u8], second: &[u8]) -> Result<(), AllocError>
         requires { self.old.at + length self.old.bytes + length first.now + length second.now
@@ -170,6 +186,14 @@ impl Segment {
         self.at -= bytes.len() as u32;
         Ok(())
     }
+}
+
+/// Writes as many of the bytes as there is room for over the first of a room.
+fn lay(bytes: &[u8], room: &mut [u8])
+    ensures { room.new ≡ take (length room.old) bytes.now ++ drop (length bytes.now) room.old }
+{
+    let count = bytes.len().min(room.len());
+    room[..count].copy_from_slice(&bytes[..count]);
 }
 
 /// Copies of three lists of bytes in a row.

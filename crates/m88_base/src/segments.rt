@@ -1,6 +1,6 @@
 //! Runs in ascending order, with an address without a byte between each two.
 ghost use Rattle.std.specs.Prelude.{◌≡◌, ◌+◌, ◌^◌, ◌<◌, ◌≤◌, ◌↔◌, ℕ, [], ◌++◌, take, drop, length, slice_get, IfOk, OnOk, OnErr, IfNone, IfSome, IsTrue, None, Some};
-ghost use Rattle.m88_base.specs.Found.{IsFree, IsLeastTaken, IsPart};
+ghost use Rattle.m88_base.specs.Found.{IsFree, IsLeastTaken, IsPart, filled};
 ghost use Rattle.m88_base.specs.Placed.{AreApart, byte_among};
 ghost use Rattle.m88_base.specs.Inside.Placing.{BeginsAt, IsCut, Places, next_start};
 
@@ -81,6 +81,13 @@ impl Segments {
             Some(run) => run.bytes_from(at),
             None => &[],
         }
+    }
+
+    /// Writes the bytes over those that stand in a room for the addresses from `at` on.
+    pub fn fill(&self, at: u32, room: &mut [u8])
+        ensures { room.new ≡ filled (byte_among self.now) at room.old }
+    {
+        self.runs.fill(at, room);
     }
 
     /// The number of runs that begin at or below an address.

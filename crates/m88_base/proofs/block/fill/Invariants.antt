@@ -1,0 +1,8 @@
+-- The runs that were passed so far are laid over the room.
+use Rattle.std.proofs.Common.{◌≡◌, take}
+use Rattle.m88_base.specs.Found.{filled}
+use Rattle.m88_base.specs.Placed.{byte_among}
+use Rattle.m88_base.proofs.block.fill.Given as goal
+
+abbrev pub invariant-loop-index : goal.invariant-loop-index
+invariant-loop-index l = l.room ≡ filled (byte_among (take l.index l.runs)) l.at l.fn.room
