@@ -6,7 +6,7 @@ use Rattle.std.proofs.lemmas.List.{get_or-set_same, get_or-replicate, get_or-set
 use Rattle.std.proofs.Math.ListN.{get_or-eq_default}
 use Rattle.std.proofs.lemmas.Nat.Bits.{bit_at-zero, bit_at_clear_other, bit_at_clear_same, bit_at_ones, bit_at_set_other, bit_at_set_same}
 use Rattle.std.specs.Int.{bit_at, bit_not, w32}
-use Rattle.m88_base.specs.Found.{IsFree}
+use Rattle.m88_base.specs.Found.{IsFree, filled}
 use Rattle.m88_base.specs.Image.{ProgramImage, byte_at}
 use Rattle.m88_isa.specs.Address.{word_address}
 use Rattle.m88_base.specs.Pages.{page_count, page_number}
@@ -203,3 +203,33 @@ pub blank_frame : (image : ProgramImage) (page : ℕ) (words : List ℕ) (n : �
     → IsFree (byte_at image) (page * 4096) 4096 → (k : ℕ) → k < 1024 → slice_get words k ≡ Some (image_bus image (page * 4096 + k * 4))
 blank_frame image page words n e is free k few =
     ap (λ ws. slice_get ws k) is ∙ zero_among n k (omega (arith, e, few)) ∙ ap (λ w. Some w) (sym (blank_word image page k free few))
+
+-- zeros over which what is found was written
+filled_zeros : (found : ℕ → Option ℕ) (at n k : ℕ) → k < n → slice_index_or (filled found at (replicate n 0)) k 0 ≡ unwrap_or (found (at + k)) 0
+filled_zeros found at zero k few = absurd (omega (arith, few))
+filled_zeros found at (suc n) zero few = let e : at ≡ at + 0 = omega arith in ap (λ a. unwrap_or (found a) 0) e
+filled_zeros found at (suc n) (suc k) few =
+    let e : at + 1 + k ≡ at + suc k = omega arith in
+    filled_zeros found (at + 1) n k (omega (arith, few)) ∙ ap (λ a. unwrap_or (found a) 0) e
+
+byte_in_page : (image : ProgramImage) (page k a n : ℕ) (bytes : List ℕ) → bytes ≡ filled (byte_at image) (page * 4096) (replicate n 0)
+    → k < n → a ≡ page * 4096 + k → slice_index_or bytes k 0 ≡ image_bytes image a
+unfolding image_bytes
+byte_in_page image page k a n bytes is few at =
+    ap (λ bs. slice_index_or bs k 0) is ∙ filled_zeros (byte_at image) (page * 4096) n k few
+    ∙ ap (λ b. unwrap_or (byte_at image b) 0) (sym at)
+
+same_number : (f g : ℕ → ℕ) (a b n : ℕ) → ((i : ℕ) → i < n → f (a + i) ≡ g (b + i)) → number_at f a n ≡ number_at g b n
+same_number f g a b zero same = refl
+same_number f g a b (suc n) same = rw (same_number f g a b n (λ i few. same i (omega (arith, few))), same n (omega arith)) refl
+
+-- the words among the bytes of a page are the image's there
+pub word_in_page : (image : ProgramImage) (page place n : ℕ) (bytes : List ℕ) → n ≡ 4096 → bytes ≡ filled (byte_at image) (page * 4096) (replicate n 0)
+    → place < 1024 → in_words (λ a. slice_index_or bytes a 0) (place * 4) ≡ image_bus image (page * 4096 + place * 4)
+unfolding in_words
+word_in_page image page place n bytes e is few =
+    let here : word_address (place * 4) ≡ place * 4 = omega arith in
+    let there : word_address (page * 4096 + place * 4) ≡ page * 4096 + place * 4 = omega arith in
+    rw (here, there)
+    (same_number (λ a. slice_index_or bytes a 0) (image_bytes image) (place * 4) (page * 4096 + place * 4) 4
+    (λ i low. byte_in_page image page (place * 4 + i) (page * 4096 + place * 4 + i) n bytes is (omega (arith, e, few, low)) (omega arith)))

@@ -22,7 +22,7 @@ use crate::absent_page::AbsentPage;
 use crate::frames::{ENTRIES, PageFrame, PageFrames};
 use crate::lines::{Line, keep_line, line_at, line_of, no_lines};
 use crate::marks::{absent_marks, clear_mark, is_marked, mark_all};
-use crate::places::{fetched, image_word, page_word};
+use crate::places::{fetched, image_page, image_word, page_word};
 use crate::reads::{Read, keep_read, no_reads, read_at};
 use m88_base::{Absent, Image, NoMemory, PAGE_BYTES};
 use m88_isa::Instr;
@@ -178,6 +178,7 @@ impl Memory {
 
     /// Makes the page of a byte address ready. The data bus stays as it is, and where memory is refused nothing
     /// changes.
+    // Not inlined, so that what is rare stays out of the caller's code, where a store is issued.
     #[inline(never)]
     pub fn prepare(&mut self, addr: u32) -> Result<(), NoMemory>
         ensures image { self.new.image ≡ self.old.image }
@@ -195,6 +196,7 @@ impl Memory {
     }
 
     /// The same of a page that isn't ready yet, apart from the question that is asked ahead of each store.
+    // Not inlined for the same reason: of all stores to a page only the first comes here.
     #[inline(never)]
     fn make_ready(&mut self, addr: u32) -> Result<(), NoMemory>
         requires { ready_of self.old (page_number addr) ≡ false }
@@ -321,15 +323,32 @@ impl Memory {
         let Some(words) = self.frames.words(page) else {
             return Ok(());
         };
-        let taken = self
-            .image
-            .first_taken(page * PAGE_BYTES, PAGE_BYTES as usize);
-        let is_blank = taken.is_none();
+        self.changed_in_frame(page, words, changed)
+    }
+
+    /// Appends the words of a page that is ready that differ from the image's.
+    // Not inlined, so that a page that isn't ready needs no room for the bytes of a page.
+    #[inline(never)]
+    fn changed_in_frame(
+        &self,
+        page: u32,
+        words: &[u32],
+        changed: &mut Vec<(u32, u32)>,
+    ) -> Result<(), NoMemory>
+        requires page { IsPage page }
+        requires long { length words.now ≡ page_words }
+        requires words { (k : ℕ) → k < page_words
+            → slice_get words.now k ≡ Some (bus_of self.now (page * 4096 + k * 4)) }
+        requires before { changed.old.items
+            ≡ changed_among (page * page_words) (image_bus self.now.image) (bus_of self.now) }
+        ensures { OnOk result (changed.new.items
+            ≡ changed_among ((page + 1) * page_words) (image_bus self.now.image) (bus_of self.now)) }
+    {
+        let bytes = image_page(&self.image, page);
         for place in 0..PAGE_WORDS {
-            let addr = page * PAGE_BYTES + place * 4;
             let word = word_among(words, place);
-            if word != page_word(&self.image, is_blank, addr) {
-                note(changed, addr, word)?;
+            if word != page_word(&bytes, place) {
+                note(changed, page * PAGE_BYTES + place * 4, word)?;
             }
         }
         Ok(())
@@ -375,16 +394,19 @@ fn image_frame(alloc: Global, image: &Image, page: u32) -> Result<PageFrame, NoM
     }
 }
 
-/// The same, word by word.
+/// The same, word by word from the bytes of the page.
+// Not inlined, so that a page without a byte needs no room for the bytes of a page.
+#[inline(never)]
 fn copied_frame(alloc: Global, image: &Image, page: u32) -> Result<PageFrame, NoMemory>
     requires { IsPage page }
     ensures long { IfOk result (λ f. length f.words.items ≡ page_words) }
     ensures each { IfOk result (λ f. (k : ℕ) → k < page_words
         → slice_get f.words.items k ≡ Some (image_bus image.now (page * 4096 + k * 4))) }
 {
-    let mut words = vec![in alloc]?;
+    let bytes = image_page(image, page);
+    let mut words = Vec::with_capacity(alloc, PAGE_WORDS as usize)?;
     for place in 0..PAGE_WORDS {
-        let word = image_word(image, page * PAGE_BYTES + place * 4);
+        let word = page_word(&bytes, place);
         words.push(word).or(Err(NoMemory))?;
     }
     Ok(PageFrame { words })

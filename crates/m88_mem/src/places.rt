@@ -1,16 +1,17 @@
-//! The word of the image at an address.
+//! The word of the image at an address, and the bytes of a page.
 #![tactic(auto, unfolding(crate::specs::DataBus::image_bytes, m88_isa::specs::Bus::in_words))]
 
-ghost use Rattle.std.specs.Prelude.{◌≡◌, ◌+◌, ◌*◌, ◌%◌, None, option_map, true};
+ghost use Rattle.std.specs.Prelude.{◌≡◌, ◌+◌, ◌*◌, ◌%◌, ◌<◌, None, length, option_map, replicate, slice_index_or};
 ghost use Rattle.std.specs.Int.{to_be_bytes, w32};
-ghost use Rattle.m88_base.specs.Found.{IsFree};
+ghost use Rattle.m88_base.specs.Found.{filled};
 ghost use Rattle.m88_base.specs.Image.{byte_at};
-ghost use Rattle.m88_base.specs.Pages.{page_number};
+ghost use Rattle.m88_base.specs.Pages.{IsPage, page_bytes};
+ghost use Rattle.m88_isa.specs.Bus.{in_words};
 ghost use Rattle.m88_isa.specs.Machine.{four_bytes};
-ghost use Rattle.m88_mem.specs.DataBus.{image_bus, image_bytes};
+ghost use Rattle.m88_mem.specs.DataBus.{image_bus, image_bytes, page_words};
 
 use byteorder::{BigEndian, ByteOrder};
-use m88_base::Image;
+use m88_base::{Image, PAGE_BYTES};
 
 /// The word at an address, where all its four bytes are there.
 pub(crate) fn fetched(image: &Image, addr: u32) -> Option<u32>
@@ -27,7 +28,7 @@ pub(crate) fn fetched(image: &Image, addr: u32) -> Option<u32>
 }
 
 /// The word at an address, with zeros for the bytes that are missing. Of the bytes from an address on it is known where
-/// they end, so that no byte is looked up twice.
+/// they end, so that a byte is looked up by itself only behind one that is missing.
 pub(crate) fn image_word(image: &Image, addr: u32) -> u32
     requires { addr % 4 ≡ 0 }
     ensures { result ≡ image_bus image.now addr }
@@ -76,15 +77,23 @@ fn pair_at(image: &Image, addr: u32) -> (u8, u8)
     }
 }
 
-/// The word at an address, with zeros for the bytes that are missing, where it is known whether the image has no byte
-/// in the page of the address.
-pub(crate) fn page_word(image: &Image, is_blank: bool, addr: u32) -> u32
-    requires word { addr % 4 ≡ 0 }
-    requires blank { is_blank ≡ true
-        → IsFree (byte_at image.now) (page_number addr * 4096) 4096 }
-    ensures { result ≡ image_bus image.now addr }
+/// The bytes at the addresses of a page, with zeros for those that are missing.
+pub(crate) fn image_page(image: &Image, page: u32) -> [u8; PAGE_BYTES as usize]
+    requires { IsPage page }
+    ensures { result ≡ filled (byte_at image.now) (page * page_bytes) (replicate page_bytes 0) }
 {
-    if is_blank { 0 } else { image_word(image, addr) }
+    let mut bytes = [0; PAGE_BYTES as usize];
+    image.fill(page * PAGE_BYTES, &mut bytes);
+    bytes
+}
+
+/// The word at a place among the bytes of a page.
+pub(crate) fn page_word(bytes: &[u8], place: u32) -> u32
+    requires long { length bytes.now ≡ page_bytes }
+    requires place { place < page_words }
+    ensures { result ≡ in_words (λ a. slice_index_or bytes.now a 0) (place * 4) }
+{
+    BigEndian::read_u32(&bytes[place as usize * 4..])
 }
 
 /// The byte at an address, or 0 where there is none.

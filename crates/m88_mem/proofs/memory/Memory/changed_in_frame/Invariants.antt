@@ -2,7 +2,7 @@
 use Rattle.std.proofs.Common.{◌≡◌, ◌*◌, ◌+◌}
 use Rattle.m88_isa.specs.Bus.{changed_among}
 use Rattle.m88_mem.specs.DataBus.{bus_of, image_bus, page_words}
-use Rattle.m88_mem.proofs.memory.Memory.changed_in_page.Given as goal
+use Rattle.m88_mem.proofs.memory.Memory.changed_in_frame.Given as goal
 
 abbrev pub invariant-loop-place : goal.invariant-loop-place
 invariant-loop-place l =
