@@ -9,6 +9,6 @@ use Rattle.m88_srec.specs.declared.purpose.Purpose.{Purpose}
 abbrev pub type_seen : Purpose × ℕ → RecordType
 type_seen t = record { purpose = t.0; width = t.1 }
 
--- a form without the sum of its bytes
+-- a form without what its bytes add up to
 abbrev pub form_seen : Form → Formed
 form_seen f = record { purpose = f.purpose; width = f.width; bytes = f.bytes.now }
