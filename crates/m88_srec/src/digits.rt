@@ -1,33 +1,30 @@
 //! Pairs of hexadecimal digits.
-ghost use Rattle.std.specs.Prelude.{◌≡◌, ◌+◌, ◌*◌, ◌<◌, ◌≤◌, [], true, false, length, sum, IfNone, IfSome};
+ghost use Rattle.std.specs.Prelude.{◌≡◌, ◌+◌, ◌*◌, ◌/◌, ◌≤◌, ◌&&◌, true, false, length, sum, take, IfNone, IfSome};
 ghost use Rattle.std.specs.Char.{digit_value, is_digit};
 ghost use Rattle.m88_srec.specs.Records.{are_more_pairs, bytes_in};
 
-use arrayvec::ArrayVec;
-
 /// The most bytes that a record has.
-pub const MOST_BYTES: usize = 256;
+pub const MOST_RECORD_BYTES: usize = 256;
 
-/// Puts the bytes that pairs of hexadecimal digits write into their room, and answers what they add up to; None where
-/// the digits are no such pairs.
+/// Puts the bytes that pairs of hexadecimal digits write in the front of their room, half as many as there are digits,
+/// and answers what they add up to; None where the digits are no such pairs. What the room has is written over, so it
+/// need not be cleared.
 #[tactic(auto, using(crate::proofs::Framing::sum_more))]
-pub fn bytes_of(digits: &[u8], bytes: &mut ArrayVec<u8, MOST_BYTES>) -> Option<u32>
+pub fn bytes_of(digits: &[u8], room: &mut [u8; MOST_RECORD_BYTES]) -> Option<u32>
     requires short { length digits.now ≤ 512 }
-    requires empty { bytes.old.items ≡ [] }
     ensures pairs { IfSome result (λ total. are_more_pairs digits.now ≡ true) }
-    ensures bytes { IfSome result (λ total. bytes.new.items ≡ bytes_in digits.now) }
+    ensures bytes { IfSome result (λ total. take (length digits.now / 2) room.new ≡ bytes_in digits.now) }
     ensures total { IfSome result (λ total. total ≡ sum (bytes_in digits.now)) }
     ensures none { IfNone result (are_more_pairs digits.now ≡ false) }
 {
     let mut total = 0;
+    let mut count = 0;
     let mut rest = digits;
     while let [high, low, left @ ..] = rest {
-        if !(is_hexadecimal(*high) && is_hexadecimal(*low)) {
-            return None;
-        }
-        let next = byte(*high, *low);
-        total += u32::from(next);
-        bytes.push(next);
+        let byte = byte_of(*high, *low)?;
+        total += u32::from(byte);
+        room[count] = byte;
+        count += 1;
         rest = left;
     }
     if rest.is_empty() { Some(total) } else { None }
@@ -62,20 +59,16 @@ pub fn is_hexadecimal(digit: u8) -> bool
     digit_value(digit) < 16
 }
 
-/// The value of a hexadecimal digit.
-fn value(digit: u8) -> u8
-    requires { digit_value digit < 16 }
-    ensures value { result ≡ digit_value digit }
-    ensures bound { result < 16 }
+/// The byte that two hexadecimal digits write, None where one of them is no such digit. Each is looked up once.
+fn byte_of(high: u8, low: u8) -> Option<u8>
+    ensures digits { IfSome result (λ byte. (is_digit high 16 && is_digit low 16) ≡ true) }
+    ensures value { IfSome result (λ byte. byte ≡ digit_value high * 16 + digit_value low) }
+    ensures none { IfNone result ((is_digit high 16 && is_digit low 16) ≡ false) }
 {
-    digit_value(digit)
-}
-
-/// The byte that two digits write.
-fn byte(high: u8, low: u8) -> u8
-    requires high { digit_value high < 16 }
-    requires low { digit_value low < 16 }
-    ensures { result ≡ digit_value high * 16 + digit_value low }
-{
-    value(high) * 16 + value(low)
+    let (high, low) = (digit_value(high), digit_value(low));
+    if high < 16 && low < 16 {
+        Some(high * 16 + low)
+    } else {
+        None
+    }
 }

@@ -3,7 +3,7 @@ ghost use Rattle.std.specs.Prelude.{◌≡◌, ◌+◌, ◌<◌, ◌^◌, []};
 ghost use Rattle.m88_srec.specs.Front.{front_of};
 ghost use Rattle.m88_srec.specs.Inside.Taking.{front_seen, front_with, overlong_fault};
 
-use crate::digits::is_hexadecimal;
+use crate::digits::{MOST_RECORD_BYTES, is_hexadecimal};
 use crate::fault::SrecKind;
 use crate::record::record_form;
 use arrayvec::ArrayVec;
@@ -55,7 +55,7 @@ impl Front {
         requires small { self.now.len < 2 ^ 31 }
         ensures { result ≡ overlong_fault (front_seen self.now) }
     {
-        let mut room = ArrayVec::new();
+        let mut room = [0; MOST_RECORD_BYTES];
         match record_form(self.kept.as_slice(), &mut room) {
             Some(form) if self.digits && self.len % 2 == 0 => SrecKind::Count {
                 written: form.count(),

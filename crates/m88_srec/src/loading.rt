@@ -7,11 +7,11 @@ ghost use Rattle.m88_srec.specs.Inside.Forms.{form_seen};
 ghost use Rattle.m88_srec.specs.GivesVerdict.{GivesVerdict};
 ghost use Rattle.m88_srec.specs.Inside.Loads.{GivesLoad, load_seen};
 
+use crate::digits::MOST_RECORD_BYTES;
 use crate::fault::{SrecFault, SrecKind};
 use crate::form::Form;
 use crate::purpose::Purpose;
 use crate::record::{address_of, computed_sum, record_form};
-use arrayvec::ArrayVec;
 use m88_base::{Image, ImageFault};
 use std::alloc::Global;
 
@@ -36,10 +36,10 @@ impl Loading {
         }
     }
 
-    /// Takes one line more.
+    /// Takes one line more. The bytes of its record come to stand in the room.
     #[tactic(auto, unfolding(crate::specs::Verdict::judged))]
-    pub fn line(&mut self, line: &[u8]) -> Result<(), SrecKind>
-        requires room { self.old.records < 2 ^ 31 }
+    pub fn line(&mut self, line: &[u8], room: &mut [u8; MOST_RECORD_BYTES]) -> Result<(), SrecKind>
+        requires counted { self.old.records < 2 ^ 31 }
         requires short { length line.now ≤ most_kept }
         ensures value { GivesLoad (load_seen self.new) result (judged
             (load_seen self.old) line.now) }
@@ -51,8 +51,7 @@ impl Loading {
         if self.start.is_some() {
             return Err(SrecKind::AfterEnd);
         }
-        let mut room = ArrayVec::new();
-        match record_form(line, &mut room) {
+        match record_form(line, room) {
             Some(form) => self.form(&form),
             None => Err(SrecKind::Form),
         }
@@ -84,7 +83,7 @@ impl Loading {
         bytes: &[u8],
         total: u32,
     ) -> Result<(), SrecKind>
-        requires room { self.old.records < 2 ^ 31 }
+        requires counted { self.old.records < 2 ^ 31 }
         requires some { 2 ≤ width }
         requires narrow { width ≤ 4 }
         requires enough { width + 2 ≤ length bytes.now }

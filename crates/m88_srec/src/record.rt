@@ -1,15 +1,14 @@
 //! The form of a line: an `S`, a type digit and pairs of hexadecimal digits; and what stands in its bytes.
-ghost use Rattle.std.specs.Prelude.{◌≡◌, ◌+◌, ◌-◌, ◌<◌, ◌≤◌, [], false, length, option_map, sum, take, IfSome};
+ghost use Rattle.std.specs.Prelude.{◌≡◌, ◌+◌, ◌-◌, ◌<◌, ◌≤◌, false, length, option_map, sum, take, IfSome};
 ghost use Rattle.m88_srec.specs.Front.{most_kept};
 ghost use Rattle.m88_srec.specs.Records.{check_of, is_bare, type_of};
 ghost use Rattle.m88_srec.specs.Accepted.{address_of};
 ghost use Rattle.m88_srec.specs.Verdict.{following, record_form, is_miscounted, written_count};
 ghost use Rattle.m88_srec.specs.Inside.Forms.{form_seen, type_seen};
 
-use crate::digits::{MOST_BYTES, bytes_of};
+use crate::digits::{MOST_RECORD_BYTES, bytes_of};
 use crate::form::Form;
 use crate::purpose::Purpose;
-use arrayvec::ArrayVec;
 
 /// What a type digit says: the purpose of a record and the number of its address bytes.
 fn type_of(digit: u8) -> Option<(Purpose, usize)>
@@ -42,11 +41,10 @@ fn is_bare(purpose: Purpose) -> bool
     }
 }
 
-/// The form of a line, where it has one, with its bytes in the room for them.
+/// The form of a line, where it has one, with its bytes in the front of the room for them.
 #[tactic(auto, unfolding(crate::specs::Verdict::record_form))]
-pub fn record_form<'a>(line: &[u8], room: &'a mut ArrayVec<u8, MOST_BYTES>) -> Option<Form<'a>>
+pub fn record_form<'a>(line: &[u8], room: &'a mut [u8; MOST_RECORD_BYTES]) -> Option<Form<'a>>
     requires short { length line.now ≤ most_kept }
-    requires empty { room.old.items ≡ [] }
     ensures { option_map form_seen result ≡ record_form line.now }
 {
     let [b'S', digit, digits @ ..] = line else {
@@ -60,7 +58,7 @@ pub fn record_form<'a>(line: &[u8], room: &'a mut ArrayVec<u8, MOST_BYTES>) -> O
     Some(Form {
         purpose,
         width,
-        bytes: room.as_slice(),
+        bytes: &room[..digits.len() / 2],
         total,
     })
 }

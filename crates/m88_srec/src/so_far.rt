@@ -8,20 +8,22 @@ ghost use Rattle.m88_srec.specs.Inside.Loads.{GivesLoad, fault_of_line, load_see
 ghost use Rattle.m88_srec.specs.Inside.Taking.{AreCounted, EndsAlone, LeadsPast, IsWholeLine, Stops, begun_seen, byte_taken, ended_at, finished, front_seen, gone_on, judged_front, reach, with_byte, with_held};
 ghost use Rattle.m88_srec.specs.Verdict.{judged, opening_load};
 
+use crate::digits::MOST_RECORD_BYTES;
 use crate::fault::{SrecFault, SrecKind};
 use crate::front::{Front, MOST_KEPT};
 use crate::loading::Loading;
 use m88_base::{Image, split_at_byte};
 use std::alloc::Global;
 
-/// What the lines so far load, the number of the line whose end has not come, what is kept of it, and whether a CR
-/// behind that is held back, which may belong to the line end.
+/// What the lines so far load, the number of the line whose end has not come, what is kept of it, whether a CR behind
+/// that is held back, which may belong to the line end, and room for the bytes of a record, made once for all lines.
 #[derive(Drop)]
 pub struct TextSoFar {
     pub loading: Loading,
     pub number: u32,
     pub front: Front,
     pub cr: bool,
+    pub room: [u8; MOST_RECORD_BYTES],
 }
 
 /// The fault of a line; memory that ran out has no line.
@@ -46,8 +48,8 @@ fn has_cr(line: &[u8]) -> bool
 }
 
 /// The first line of what is left of a piece, where its end is there, no CR belongs to that, and it isn't longer than
-/// what is kept of a line; and what is left behind it. Nothing is promised of None: the text is then taken byte by byte,
-/// which comes to the same.
+/// what is kept of a line; and what is left behind it. Nothing is promised of None: the text is then taken byte by
+/// byte, which comes to the same.
 fn whole_line(rest: &[u8]) -> Option<(&[u8], &[u8])>
     ensures whole { IfSome result (λ p. IsWholeLine rest.now p.0.now p.1.now) }
     ensures short { IfSome result (λ p. length p.0.now ≤ most_kept) }
@@ -75,6 +77,7 @@ impl TextSoFar {
             number: 1,
             front: Front::new(),
             cr: false,
+            room: [0; MOST_RECORD_BYTES],
         }
     }
 
@@ -112,7 +115,9 @@ impl TextSoFar {
         ensures number { self.new.number ≡ self.old.number }
     {
         if self.front.len <= MOST_KEPT {
-            return self.loading.line(self.front.kept.as_slice());
+            return self
+                .loading
+                .line(self.front.kept.as_slice(), &mut self.room);
         }
         if self.loading.start.is_some() {
             return Err(SrecKind::AfterEnd);
@@ -193,7 +198,7 @@ impl TextSoFar {
         ensures reach { OnOk result (reach self.new ≡ reach self.old + 1) }
         ensures counted { OnOk result (AreCounted self.new) }
     {
-        self.loading.line(line)?;
+        self.loading.line(line, &mut self.room)?;
         self.number += 1;
         Ok(left)
     }
