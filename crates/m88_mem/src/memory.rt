@@ -7,6 +7,7 @@ m88_isa::specs::Bus::with_word))]
 
 ghost use Rattle.std.specs.Prelude.{◌≡◌, ◌++◌, ◌∷◌, [], ◌+◌, ◌*◌, ◌/◌, ◌%◌, ◌<◌, ◌↔◌, ℕ, true, false, Some, length, replicate, slice_get, option_map, IfOk, IfSome, IsErr, IsTrue, OnErr, OnOk};
 ghost use Rattle.std.specs.Int.{to_be_bytes, w32};
+ghost use Rattle.m88_base.specs.Found.{IsFree};
 ghost use Rattle.m88_base.specs.Image.{byte_at};
 ghost use Rattle.m88_base.specs.Pages.{IsPage, every_page, no_page, page_number};
 ghost use Rattle.m88_isa.specs.Bus.{changed_among, changed_words, with_word};
@@ -178,7 +179,7 @@ impl Memory {
 
     /// Makes the page of a byte address ready. The data bus stays as it is, and where memory is refused nothing
     /// changes.
-    // Not inlined, so that what is rare stays out of the caller's code, where a store is issued.
+    // Not inlined: loads and stores are dearer where an issue has this inside.
     #[inline(never)]
     pub fn prepare(&mut self, addr: u32) -> Result<(), NoMemory>
         ensures image { self.new.image ≡ self.old.image }
@@ -196,7 +197,7 @@ impl Memory {
     }
 
     /// The same of a page that isn't ready yet, apart from the question that is asked ahead of each store.
-    // Not inlined for the same reason: of all stores to a page only the first comes here.
+    // Not inlined, so that what is rare stays out of the way: of all stores to a page only the first comes here.
     #[inline(never)]
     fn make_ready(&mut self, addr: u32) -> Result<(), NoMemory>
         requires { ready_of self.old (page_number addr) ≡ false }
@@ -323,11 +324,43 @@ impl Memory {
         let Some(words) = self.frames.words(page) else {
             return Ok(());
         };
-        self.changed_in_frame(page, words, changed)
+        match self
+            .image
+            .first_taken(page * PAGE_BYTES, PAGE_BYTES as usize)
+        {
+            Some(_) => self.changed_in_frame(page, words, changed),
+            None => self.changed_in_blank(page, words, changed),
+        }
+    }
+
+    /// Appends the words that differ from 0 of a page that is ready, where the image has no byte in it.
+    fn changed_in_blank(
+        &self,
+        page: u32,
+        words: &[u32],
+        changed: &mut Vec<(u32, u32)>,
+    ) -> Result<(), NoMemory>
+        requires page { IsPage page }
+        requires long { length words.now ≡ page_words }
+        requires words { (k : ℕ) → k < page_words
+            → slice_get words.now k ≡ Some (bus_of self.now (page * 4096 + k * 4)) }
+        requires free { IsFree (byte_at self.now.image) (page * 4096) 4096 }
+        requires before { changed.old.items
+            ≡ changed_among (page * page_words) (image_bus self.now.image) (bus_of self.now) }
+        ensures { OnOk result (changed.new.items
+            ≡ changed_among ((page + 1) * page_words) (image_bus self.now.image) (bus_of self.now)) }
+    {
+        for place in 0..PAGE_WORDS {
+            let word = word_among(words, place);
+            if word != 0 {
+                note(changed, page * PAGE_BYTES + place * 4, word)?;
+            }
+        }
+        Ok(())
     }
 
     /// Appends the words of a page that is ready that differ from the image's.
-    // Not inlined, so that a page that isn't ready needs no room for the bytes of a page.
+    // Not inlined, so that other pages need no room for the bytes of a page.
     #[inline(never)]
     fn changed_in_frame(
         &self,

@@ -19,6 +19,16 @@ changed_in_frame-requires-clause-words c = λ k few.
     c.self.invariant.entries c.args.page k (get_or words k 0) (c.args.page * 4096 + k * 4) words
     (sym c.words.ensures.words ∙ ap (λ o. option_map (λ words. words.now) o) c.in-Some.is) got refl few)
 
+pub changed_in_blank-requires-clause-words : goal.changed_in_blank-requires-clause-words
+changed_in_blank-requires-clause-words c = λ k few.
+    let words : List ℕ = c.in-Some.words.now in
+    let got : slice_get words k ≡ Some (get_or words k 0) = slice_get-get_or words k 0 (omega (arith, few, c.in-Some.ensures.long)) in
+    got
+    ∙ ap (λ word. Some word)
+    (frame_word c.args.self.now c.self.inside.image c.self.inside.frames c.self.inside.absent.items c.self.view_is
+    c.self.invariant.entries c.args.page k (get_or words k 0) (c.args.page * 4096 + k * 4) words
+    (sym c.words.ensures.words ∙ ap (λ o. option_map (λ words. words.now) o) c.in-Some.is) got refl few)
+
 pub returns-in_default : goal.returns-in_default
 returns-in_default c =
     let none : words_in (frame_at c.self.inside.frames c.args.page) ≡ None =
