@@ -1,4 +1,5 @@
-//! Images as they are made, part by part, and a choice of absent pages: what joins, what is refused, what is copied.
+//! Images as they are made, part by part, and a choice of absent pages: what joins, what is refused, what is copied,
+//! and what is written over a room.
 
 use arrayvec::ArrayVec;
 use m88_base::{Absent, Image, ImageFault};
@@ -57,6 +58,29 @@ fn parts_of_many_blocks_become_one_in_either_order(rt: HostRuntime) {
             assert_eq!(rt; image.part_count(), parts, "{falling}");
             assert_eq!(rt; (image.byte(0x1D48), image.byte(0x1D49)), (Some(b'm'), gap));
         }
+    }
+}
+
+#[test]
+fn a_room_takes_the_bytes_of_each_part(rt: HostRuntime) {
+    let mut image = Image::new(rt.alloc());
+    for place in 0..600u32 {
+        assert_eq!(rt; image.add(0x1000 + 2 * place, b"m"), Ok(()), "{place}");
+    }
+    assert_eq!(rt; image.add(0x1800, b"abcdefgh"), Ok(()));
+    for (at, want) in [
+        (0x0FFD, b"...m"),
+        (0x1000, b"m.m."),
+        (0x11FF, b".m.m"),
+        (0x14AE, b"m..."),
+        (0x17FE, b"..ab"),
+        (0x1802, b"cdef"),
+        (0x1806, b"gh.."),
+        (0xFFFF_FFFE, b"...."),
+    ] {
+        let mut room = *b"....";
+        image.fill(at, &mut room);
+        assert_eq!(rt; room, *want, "at {at}");
     }
 }
 
