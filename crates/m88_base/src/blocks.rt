@@ -222,6 +222,7 @@ fn locate(blocks: &[Block], starts: &[usize], at: u32) -> usize
     starts[passed - 1] + block.locate(at)
 }
 
+/// The last run that begins at or below an address.
 fn below(blocks: &[Block], at: u32) -> Option<&Segment>
     requires filled { AreFilled blocks.now }
     requires apart { AreApart 0 (all_runs blocks.now) }

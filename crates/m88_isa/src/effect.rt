@@ -94,6 +94,7 @@ fn in_full(outline: Outline, regs: &[u32; 32], carry: bool, next: u32) -> Plan
 }
 
 /// The outline of what `plan` answers.
+// Inlined, as `effect` is, where an instruction is issued: there what is told goes on in registers.
 #[inline(always)]
 pub fn outline(
     instr: &Instr,

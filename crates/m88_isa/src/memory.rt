@@ -36,6 +36,7 @@ pub(crate) fn accesses(op: MemOp, d: Reg, place: u32, x: Inputs) -> Outline
 }
 
 /// The accesses of a memory mnemonic with D at a byte address, of the values that the registers hold.
+// Inlined, so that the accesses are made in the place where the caller keeps them.
 #[inline(always)]
 pub fn accesses_at(op: MemOp, d: Reg, place: u32, regs: &[u32; 32]) -> Accesses
     ensures { result ≡ recorded (touches_at op d place regs.now) }
@@ -64,6 +65,8 @@ pub(crate) fn size_of(op: MemOp) -> u32
 }
 
 /// The access of a load of 1, 2 or 4 bytes.
+// Neither this nor the next four is inlined: each then writes its accesses as one record; merged into one tail, the
+// forms would write each field, and the bytes between fields, by itself.
 #[inline(never)]
 fn loads(size: u32, signed: bool, d: Reg, place: u32) -> Accesses
     ensures { result ≡ recorded (load size signed d place ∷ []) }
