@@ -245,8 +245,9 @@ impl Assembly {
             symbols,
             uses,
         } = self;
-        let sections = finished(alloc, sections)?;
+        // The symbols first: it is known then that no name is there twice, wherever memory runs out.
         let symbols = symbols.into_symbols(alloc)?;
+        let sections = finished(alloc, sections)?;
         let symbols = marked(alloc, &symbols, statements)?;
         Ok(Object {
             name,

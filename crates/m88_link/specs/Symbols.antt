@@ -2,7 +2,13 @@
 -- symbol whose name is there already.
 use Rattle.std.specs.Prelude.{ℕ, ◌+◌, ◌%◌, ◌^◌, List, [], ◌∷◌, ◌++◌, find, filter, map, Option, None, bytes_eq}
 use Rattle.std.specs.Option.{option_map, option_map_or, option_or}
+use Rattle.m88_link.specs.declared.object.Definition.{Definition}
 use Rattle.m88_link.specs.declared.object.Symbol.{Symbol}
+
+-- a name joined with its definition
+abbrev pub joined : List ℕ → Definition → Symbol
+joined name d =
+    record { name = name; global = d.global; section = d.section; value = d.value; line = d.line; col = d.col }
 
 -- the first symbol that has the name
 abbrev pub symbol_of : List Symbol → List ℕ → Option Symbol

@@ -66,7 +66,7 @@ fn export(table: &mut SymbolTable, placement: &Placement, symbol: &Symbol) -> Re
         None => {
             table.add(Symbol {
                 section: None,
-                value: placement.value(symbol),
+                value: placement.value(symbol.section, symbol.value),
                 ..*symbol
             })?;
             Ok(())

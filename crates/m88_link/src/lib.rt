@@ -31,7 +31,7 @@ mod words;
 
 pub use fault::{LinkFault, LinkKind};
 pub use linking::link;
-pub use object::{Object, Place, Reloc, Section, Symbol};
+pub use object::{Definition, Object, Place, Reloc, Section, Symbol};
 pub use object_fault::ObjectFault;
 pub use read::read_objects;
 pub use sound::is_sound;

@@ -74,7 +74,7 @@ fn start(globals: &SymbolTable) -> u32
         unreachable!();
     };
     match globals.get(&name) {
-        Some(symbol) => symbol.value,
+        Some(found) => found.value,
         None => FIRST_TEXT,
     }
 }

@@ -56,6 +56,21 @@ pub struct Symbol {
     pub col: u32,
 }
 
+/// What a symbol has beside its name.
+#[derive(Clone, Copy, Debug)]
+pub struct Definition {
+    /// Whether other objects see the symbol.
+    pub global: bool,
+    /// The index of the section that the value is an offset in; a symbol without one is absolute.
+    pub section: Option<u32>,
+    /// An offset in bytes from the section's start, or the number of an absolute symbol.
+    pub value: u32,
+    /// The line of the definition, from 1.
+    pub line: u32,
+    /// The column of the definition, from 1.
+    pub col: u32,
+}
+
 /// A word whose field waits for the value of a symbol plus an addend.
 #[derive(Clone, Copy, PartialEq, Eq, Debug)]
 pub struct Reloc {

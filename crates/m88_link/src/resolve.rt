@@ -37,8 +37,8 @@ fn meaning(
     ensures { result ≡ symbol_meaning globals.now (base_of placement.now) own.now name.now }
 {
     match own.get(name) {
-        Some(symbol) => Some(placement.value(symbol)),
-        None => globals.get(name).map(|symbol| symbol.value),
+        Some(found) => Some(placement.value(found.section, found.value)),
+        None => globals.get(name).map(|found| found.value),
     }
 }
 

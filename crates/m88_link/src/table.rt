@@ -1,32 +1,28 @@
 //! Symbols in order of definition, found by their names.
 ghost use Rattle.std.specs.Prelude.{◌≡◌, ◌∷◌, ◌++◌, [], None, IfOk, OnOk, OnErr, option_copied};
-ghost use Rattle.m88_link.specs.Symbols.{first_repeated, symbol_of};
+ghost use Rattle.std.specs.Option.{option_map};
+ghost use Rattle.m88_link.specs.Symbols.{first_repeated, joined, symbol_of};
 
-use crate::object::Symbol;
+use crate::object::{Definition, Symbol};
 use indexmap::IndexMap;
 use m88_base::Name;
 use std::alloc::{AllocError, Global};
 use std::marker::Model;
 
-/// Symbols in order of definition, no two of one name.
+/// Symbols in order of definition, no two of one name: a map of names has each of them once.
 #[derive(Debug, Drop)]
 pub struct SymbolTable {
-    symbols: IndexMap<Name, Symbol>,
+    symbols: IndexMap<Name, Definition>,
 }
 
 impl Model for SymbolTable {
-    ghost use Rattle.std.specs.Prelude.{List, ◌≡◌, map, None};
+    ghost use Rattle.std.specs.Prelude.{List};
     ghost use Rattle.m88_link.specs.declared.object.Symbol.{Symbol as Defined};
-    ghost use Rattle.m88_link.specs.Inside.Tables.{under_name};
-    ghost use Rattle.m88_link.specs.Symbols.{first_repeated};
+    ghost use Rattle.m88_link.specs.Inside.Tables.{symbols_in};
 
     ghost Value = { List Defined };
 
-    ghost view = { λ table. map (λ e. e.1) table.symbols.entries };
-
-    ghost invariant = { λ table.
-        (table.symbols.entries ≡ map under_name (map (λ e. e.1) table.symbols.entries))
-        × (first_repeated (map (λ e. e.1) table.symbols.entries) ≡ None) };
+    ghost view = { λ table. symbols_in table.symbols.entries };
 }
 
 impl SymbolTable {
@@ -48,10 +44,11 @@ impl SymbolTable {
         })
     }
 
-    /// The symbol of a name, where the table has one.
-    #[tactic(auto, using(crate::proofs::Tabled::table_found))]
-    pub fn get(&self, name: &Name) -> Option<&Symbol>
-        ensures { option_copied result ≡ symbol_of self.now name.now }
+    /// What a name is defined as, where the table has a symbol of it.
+    #[tactic(auto, using(crate::proofs::Tabled::found))]
+    pub fn get(&self, name: &Name) -> Option<&Definition>
+        ensures { option_map (joined name.now) (option_copied result)
+            ≡ symbol_of self.now name.now }
     {
         self.symbols.get(name)
     }
@@ -62,15 +59,56 @@ impl SymbolTable {
         ensures ok { OnOk result (self.new ≡ self.old ++ symbol ∷ []) }
         ensures err { OnErr result (self.new ≡ self.old) }
     {
-        self.symbols.insert(symbol.name, symbol)?;
+        let Symbol {
+            name,
+            global,
+            section,
+            value,
+            line,
+            col,
+        } = symbol;
+        let definition = Definition {
+            global,
+            section,
+            value,
+            line,
+            col,
+        };
+        self.symbols.insert(name, definition)?;
         Ok(())
     }
 
     /// The symbols in order of definition.
+    #[tactic(auto, using(crate::proofs::Tabled::once))]
     pub fn into_symbols(self, alloc: Global) -> Result<Vec<Symbol>, AllocError>
         ensures value { IfOk result (λ v. v.items ≡ self) }
         ensures names { first_repeated self ≡ None }
     {
-        self.symbols.into_values().collect(alloc)
+        let mut symbols = Vec::with_capacity(alloc, self.symbols.len())?;
+        for (name, definition) in self.symbols {
+            symbols.push(named(name, definition))?;
+        }
+        Ok(symbols)
+    }
+}
+
+/// The symbol of a name with its definition.
+fn named(name: Name, definition: Definition) -> Symbol
+    ensures { result ≡ joined name definition }
+{
+    let Definition {
+        global,
+        section,
+        value,
+        line,
+        col,
+    } = definition;
+    Symbol {
+        name,
+        global,
+        section,
+        value,
+        line,
+        col,
     }
 }

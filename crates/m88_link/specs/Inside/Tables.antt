@@ -1,7 +1,9 @@
 -- A table of symbols as the map that keeps it.
-use Rattle.std.specs.Prelude.{ℕ, List}
+use Rattle.std.specs.Prelude.{ℕ, List, map}
+use Rattle.m88_link.specs.declared.object.Definition.{Definition}
 use Rattle.m88_link.specs.declared.object.Symbol.{Symbol}
+use Rattle.m88_link.specs.Symbols.{joined}
 
--- a symbol under its name
-abbrev pub under_name : Symbol → List ℕ × Symbol
-under_name s = (s.name, s)
+-- the symbols of a map's entries
+abbrev pub symbols_in : List (List ℕ × Definition) → List Symbol
+symbols_in entries = map (λ e. joined e.0 e.1) entries

@@ -1,17 +1,15 @@
--- One symbol more stands behind the others under its own name, and no two have one name.
+-- One symbol more stands behind the others.
 use Rattle.std.proofs.Common.{◌∙◌, ap, ◌++◌, ◌∷◌, []}
+use Rattle.m88_link.specs.declared.object.Definition.{Definition}
 use Rattle.m88_link.specs.Symbols.{symbol_of}
-use Rattle.m88_link.proofs.Tabled.{grown}
+use Rattle.m88_link.specs.Inside.Tables.{symbols_in}
+use Rattle.m88_link.proofs.Tabled.{added}
 use Rattle.m88_link.proofs.table.SymbolTable.add.Goals as goal
-
-pub invariant_of-self-2 : goal.invariant_of-self-2
-invariant_of-self-2 c =
-    let h = grown c.self.inside.symbols.entries c.insert.new.self.entries _ c.args.symbol c.self.invariant.0 c.self.invariant.1 c.in_ok-insert.ensures.entries
-    (ap (λ l. symbol_of l c.args.symbol.name) c.self.view_is ∙ c.requires) in
-    (h.0, h.1)
 
 pub returns-clause-ok : goal.returns-clause-ok
 returns-clause-ok c =
-    let h = grown c.self.inside.symbols.entries c.insert.new.self.entries _ c.args.symbol c.self.invariant.0 c.self.invariant.1 c.in_ok-insert.ensures.entries
-    (ap (λ l. symbol_of l c.args.symbol.name) c.self.view_is ∙ c.requires) in
-    h.2 ∙ ap (λ l. l ++ c.args.symbol ∷ []) c.self.view_is
+    let s = c.args.symbol in
+    let d : Definition = record { global = s.global; section = s.section; value = s.value; line = s.line; col = s.col } in
+    ap symbols_in c.in_ok-insert.ensures.entries
+    ∙ added s.name d c.self.inside.symbols.entries (ap (λ l. symbol_of l s.name) c.self.view_is ∙ c.requires)
+    ∙ ap (λ l. l ++ s ∷ []) c.self.view_is
