@@ -1,6 +1,7 @@
 -- What only helps the proofs: tokens as they are cut, lists, drafts, then the laws between reader and language.
 pub mod Saturating
 pub mod CuttingTokens
+pub mod FrontBytes
 pub mod Law
 pub mod CollectingItems
 pub mod NameTest

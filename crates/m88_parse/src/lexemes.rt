@@ -11,7 +11,7 @@ ghost use Rattle.m88_parse.specs.Inside.Tokens.{piece_of, pieces_of, tokens_of};
 
 use crate::fault::ParseFault;
 use crate::scan::front;
-use crate::token::{Lexeme, Token, TokenKind, What};
+use crate::token::{Kept, Lexeme, Token, TokenKind};
 use std::alloc::Global;
 
 /// The tokens of a line with what they say, from left to right, in the place of those that stood in `out`.
@@ -40,8 +40,8 @@ pub(crate) fn cut_line<'a>(
             }
         };
         let (text, after) = rest.split_at(cut.len);
-        if let Some(what) = cut.what {
-            out.push(Lexeme { text, col, what })?;
+        if let Some(kept) = cut.kept {
+            out.push(Lexeme { text, col, kept })?;
         }
         rest = after;
         col += cut.len as u32;
@@ -57,11 +57,11 @@ fn token_of<'a>(lexeme: &Lexeme<'a>, line: u32) -> Token<'a>
         text: lexeme.text,
         line,
         col: lexeme.col,
-        kind: match lexeme.what {
-            What::Name(_) => TokenKind::Name,
-            What::Number(_) => TokenKind::Number,
-            What::Text(_) => TokenKind::Text,
-            What::Mark(_) => TokenKind::Mark,
+        kind: match lexeme.kept {
+            Kept::Name => TokenKind::Name,
+            Kept::Number(_) => TokenKind::Number,
+            Kept::Text => TokenKind::Text,
+            Kept::Mark(_) => TokenKind::Mark,
         },
     }
 }

@@ -45,7 +45,7 @@ impl<'a> Parser<'a> {
         ensures { token_value_in result ≡ first self.now }
     {
         match self.rest {
-            [lexeme, ..] => Some(lexeme.what),
+            [lexeme, ..] => Some(lexeme.what()),
             [] => None,
         }
     }
@@ -55,7 +55,7 @@ impl<'a> Parser<'a> {
         ensures { token_value_in result ≡ second self.now }
     {
         match self.rest {
-            [_, lexeme, ..] => Some(lexeme.what),
+            [_, lexeme, ..] => Some(lexeme.what()),
             _ => None,
         }
     }

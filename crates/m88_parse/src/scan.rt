@@ -1,5 +1,5 @@
 //! The front of the rest of a line: a blank, a comment, a token, or why it is none.
-ghost use Rattle.std.specs.Prelude.{◌≡◌, ◌+◌, ◌<◌, ◌≤◌, false, length, IfOk, IfErr, MatchResult};
+ghost use Rattle.std.specs.Prelude.{◌≡◌, ◌+◌, ◌<◌, ◌≤◌, false, ◌∷◌, take, length, IfOk, IfErr, MatchResult};
 ghost use Rattle.std.specs.List.{prefix_len};
 ghost use Rattle.std.specs.Char.{digit_value};
 ghost use Rattle.std.specs.Str.Parse.{digits_value};
@@ -8,16 +8,17 @@ ghost use Rattle.m88_parse.specs.Language.Bytes.{is_blank, is_comment, is_plain,
 ghost use Rattle.m88_base.specs.Name.{continues_name};
 
 use crate::fault::ParseKind;
-use crate::token::What;
+use crate::token::Kept;
 
 /// The most bytes that a name may have.
 const MAX_NAME: usize = 64;
 
-/// The front of the rest of a line: how many bytes it takes, and what they say where they are a token.
+/// The front of the rest of a line: how many bytes it takes, and what is kept of them where they are
+/// a token.
 #[derive(Clone, Copy)]
-pub(crate) struct Cut<'a> {
+pub(crate) struct Cut {
     pub len: usize,
-    pub what: Option<What<'a>>,
+    pub kept: Option<Kept>,
 }
 
 /// Why nothing can be cut off: the place in the rest of the line, from 0, and the kind.
@@ -224,9 +225,9 @@ fn word_len(bytes: &[u8]) -> usize
 }
 
 /// The character or text behind an opening quote.
-#[tactic(auto, unfolding(crate::specs::Inside::Tokens::quoted))]
-fn quoted(quote: u8, bytes: &[u8]) -> Result<Cut<'_>, Flaw>
-    ensures value { MatchResult result (λ c. quoted quote bytes.now ≡ Ok (cut_of c))
+#[tactic(auto, using(crate::proofs::FrontBytes::between_quotes), unfolding(crate::specs::Inside::Tokens::quoted))]
+fn quoted(quote: u8, bytes: &[u8]) -> Result<Cut, Flaw>
+    ensures value { MatchResult result (λ c. quoted quote bytes.now ≡ Ok (cut_of (take c.len (quote ∷ bytes.now)) c))
         (λ f. quoted quote bytes.now ≡ Err f) }
     ensures bound { IfOk result (λ c. (0 < c.len) × (c.len ≤ length bytes.now + 1)) }
     ensures place { IfErr result (λ f. f.at ≤ length bytes.now) }
@@ -240,17 +241,17 @@ fn quoted(quote: u8, bytes: &[u8]) -> Result<Cut<'_>, Flaw>
             kind: ParseKind::NotAscii,
         });
     }
-    let what = if len == bytes.len() {
+    let kept = if len == bytes.len() {
         None
     } else if quote == b'\'' {
-        character(inside).map(|b| What::Number(b as u32))
+        character(inside).map(|b| Kept::Number(b as u32))
     } else if holds_escapes(inside) {
-        Some(What::Text(inside))
+        Some(Kept::Text)
     } else {
         None
     };
-    match what {
-        Some(_) => Ok(Cut { len: len + 2, what }),
+    match kept {
+        Some(_) => Ok(Cut { len: len + 2, kept }),
         None => Err(Flaw {
             at: 0,
             kind: ParseKind::Syntax,
@@ -259,8 +260,8 @@ fn quoted(quote: u8, bytes: &[u8]) -> Result<Cut<'_>, Flaw>
 }
 
 /// The name or number at the front, where the first byte is one of a word.
-fn word(first: u8, run: &[u8]) -> Result<Cut<'_>, Flaw>
-    ensures value { MatchResult result (λ c. word_front first run.now ≡ Ok (cut_of c))
+fn word(first: u8, run: &[u8]) -> Result<Cut, Flaw>
+    ensures value { MatchResult result (λ c. word_front first run.now ≡ Ok (cut_of run.now c))
         (λ f. word_front first run.now ≡ Err f) }
     ensures length { IfOk result (λ c. c.len ≡ length run.now) }
     ensures place { IfErr result (λ f. f.at ≡ 0) }
@@ -270,7 +271,7 @@ fn word(first: u8, run: &[u8]) -> Result<Cut<'_>, Flaw>
         match numeral(run) {
             Ok(n) => Ok(Cut {
                 len,
-                what: Some(What::Number(n)),
+                kept: Some(Kept::Number(n)),
             }),
             Err(kind) => Err(Flaw { at: 0, kind }),
         }
@@ -282,16 +283,16 @@ fn word(first: u8, run: &[u8]) -> Result<Cut<'_>, Flaw>
     } else {
         Ok(Cut {
             len,
-            what: Some(What::Name(run)),
+            kept: Some(Kept::Name),
         })
     }
 }
 
 /// The front of the rest of a line: a token, a blank, or a comment to the end.
-#[tactic(auto, unfolding(crate::specs::Inside::Tokens::front))]
-pub(crate) fn front(bytes: &[u8]) -> Result<Cut<'_>, Flaw>
+#[tactic(auto, using(crate::proofs::FrontBytes::run_taken), unfolding(crate::specs::Inside::Tokens::front))]
+pub(crate) fn front(bytes: &[u8]) -> Result<Cut, Flaw>
     requires { 0 < length bytes.now }
-    ensures value { MatchResult result (λ c. front bytes.now ≡ Ok (cut_of c))
+    ensures value { MatchResult result (λ c. front bytes.now ≡ Ok (cut_of (take c.len bytes.now) c))
         (λ f. front bytes.now ≡ Err f) }
     ensures bound { IfOk result (λ c. (0 < c.len) × (c.len ≤ length bytes.now)) }
     ensures place { IfErr result (λ f. f.at < length bytes.now) }
@@ -300,10 +301,10 @@ pub(crate) fn front(bytes: &[u8]) -> Result<Cut<'_>, Flaw>
     if is_comment(first) {
         Ok(Cut {
             len: bytes.len(),
-            what: None,
+            kept: None,
         })
     } else if is_blank(first) {
-        Ok(Cut { len: 1, what: None })
+        Ok(Cut { len: 1, kept: None })
     } else if !is_plain(first) {
         Err(Flaw {
             at: 0,
@@ -314,7 +315,7 @@ pub(crate) fn front(bytes: &[u8]) -> Result<Cut<'_>, Flaw>
     } else if is_mark(first) {
         Ok(Cut {
             len: 1,
-            what: Some(What::Mark(first)),
+            kept: Some(Kept::Mark(first)),
         })
     } else if matches!(first, b'"' | b'\'') {
         quoted(first, &bytes[1..])

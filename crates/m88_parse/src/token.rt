@@ -1,4 +1,6 @@
 //! Tokens, by themselves and with what they say.
+ghost use Rattle.std.specs.Prelude.{◌≡◌};
+ghost use Rattle.m88_parse.specs.Inside.Tokens.{between, piece_of, token_value};
 
 /// What a token is: a name, a number (a character in single quotes is one), a text in double quotes, or
 /// one of the marks.
@@ -29,10 +31,45 @@ pub(crate) enum What<'a> {
     Mark(u8),
 }
 
-/// A token with what it says and its column.
+/// What is kept of a token beside its bytes, from which a name and a text are had again.
+#[derive(Clone, Copy)]
+pub(crate) enum Kept {
+    Name,
+    Number(u32),
+    Text,
+    Mark(u8),
+}
+
+/// A token with its column and what is kept to tell what it says.
 #[derive(Clone, Copy)]
 pub(crate) struct Lexeme<'a> {
     pub text: &'a [u8],
     pub col: u32,
-    pub what: What<'a>,
+    pub kept: Kept,
+}
+
+/// What stands between the first byte and the last one.
+fn between(text: &[u8]) -> &[u8]
+    ensures { result.now ≡ between text.now }
+{
+    match text {
+        [_, inside @ .., _] => inside,
+        _ => &[],
+    }
+}
+
+impl<'a> Lexeme<'a> {
+    /// What the token says.
+    // Asked several times for each token; called, it would put its answer in memory each time.
+    #[inline(always)]
+    pub fn what(&self) -> What<'a>
+        ensures { token_value result ≡ (piece_of self.now).says }
+    {
+        match self.kept {
+            Kept::Name => What::Name(self.text),
+            Kept::Number(n) => What::Number(n),
+            Kept::Text => What::Text(between(self.text)),
+            Kept::Mark(m) => What::Mark(m),
+        }
+    }
 }

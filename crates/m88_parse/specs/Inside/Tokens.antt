@@ -8,6 +8,8 @@ use Rattle.m88_parse.specs.declared.fault.ParseKind.TheVariants.{NotAscii, Synta
 use Rattle.m88_parse.specs.declared.fault.ParseFault.{ParseFault}
 use Rattle.m88_parse.specs.declared.token.What.{What}
 use Rattle.m88_parse.specs.declared.token.What.TheVariants as whats
+use Rattle.m88_parse.specs.declared.token.Kept.{Kept}
+use Rattle.m88_parse.specs.declared.token.Kept.TheVariants as keeps
 use Rattle.m88_parse.specs.declared.token.Lexeme.{Lexeme}
 use Rattle.m88_parse.specs.declared.scan.Cut.{Cut as CutOfCode}
 use Rattle.m88_parse.specs.declared.scan.Flaw.{Flaw}
@@ -166,13 +168,29 @@ abbrev pub token_value_in : Option What → Option TokenValue
 token_value_in None = None
 token_value_in (Some what) = Some (token_value what)
 
--- a front of the code
-abbrev pub cut_of : CutOfCode → Cut
-cut_of c = record { len = c.len; says = token_value_in c.what }
+-- what stands between the first byte and the last one
+abbrev pub between : List ℕ → List ℕ
+between text = take (length text - 2) (drop 1 text)
+
+-- what a token of these bytes says, by what the code keeps of it beside them
+abbrev pub kept_value : List ℕ → Kept → TokenValue
+kept_value text keeps.Name = a_name text
+kept_value text (keeps.Number n) = a_number n
+kept_value text keeps.Text = a_text (text_bytes false (between text))
+kept_value text (keeps.Mark m) = a_mark m
+
+-- the same where there is one
+abbrev pub kept_value_in : List ℕ → Option Kept → Option TokenValue
+kept_value_in text None = None
+kept_value_in text (Some kept) = Some (kept_value text kept)
+
+-- a front of the code, which takes these bytes
+abbrev pub cut_of : List ℕ → CutOfCode → Cut
+cut_of text c = record { len = c.len; says = kept_value_in text c.kept }
 
 -- a token of the code as a piece of its line
 abbrev pub piece_of : Lexeme → Piece
-piece_of x = record { text = x.text.now; col = x.col; says = token_value x.what }
+piece_of x = record { text = x.text.now; col = x.col; says = kept_value x.text.now x.kept }
 
 -- pieces as the tokens of the public call
 abbrev pub tokens_from : ℕ → Result (List Piece) ParseFault → Result (List PlainToken) ParseFault

@@ -4,7 +4,7 @@ use Rattle.std.proofs.lemmas.Grind.{common_steps}
 use Rattle.std.proofs.lemmas.List.{map_push}
 use Rattle.std.proofs.lemmas.List.Elements.{All-push}
 use Rattle.m88_parse.specs.Inside.Places.{IsNear, IsLexemeOf}
-use Rattle.m88_parse.specs.Inside.Tokens.{Cut, front, token_value_in, piece_of, token_value, pieces_of}
+use Rattle.m88_parse.specs.Inside.Tokens.{Cut, front, kept_value_in, piece_of, kept_value, pieces_of}
 use Rattle.m88_parse.specs.declared.scan.Flaw.{Flaw}
 use Rattle.m88_parse.proofs.CuttingTokens.{slice_goes_on, rest_goes_on, gap_goes_on, token_goes_on, ends, is_done}
 use Rattle.m88_parse.proofs.lexemes.cut_line.Goals as goal
@@ -30,12 +30,12 @@ loop-rest-preserved c =
     let len = c.in-Ok.cut.len in
     elim c.match-cut.branch [
       | in-Some+in_ok-push w ↦
-          let m = token_value w.in-Some.what in
-          let f : front rest ≡ Ok (record { len = len; says = Some m }) = c.in-Ok.ensures.value ∙ ap (λ o. let r : Result Cut Flaw = Ok (record { len = len; says = token_value_in o }) in r) w.in-Some.is in
+          let m = kept_value (take len rest) w.in-Some.kept in
+          let f : front rest ≡ Ok (record { len = len; says = Some m }) = c.in-Ok.ensures.value ∙ ap (λ o. let r : Result Cut Flaw = Ok (record { len = len; says = kept_value_in (take len rest) o }) in r) w.in-Some.is in
           let out : map piece_of c.match-cut.out.items ≡ done ++ record { text = take len rest; col = col; says = m } ∷ [] = rw (w.out-is, w.in_ok-push.ensures.items, ← c.split_at.ensures.front) (map_push _ _ _) in
           record { cuts = rw (out, c.split_at.ensures.back) (token_goes_on c.args.number col len m rest done total some f c.in-Ok.ensures.bound.0 c.loop-rest.invariant.cuts); place = place; near = rw (w.out-is, w.in_ok-push.ensures.items) (All-push IsNear c.loop-rest.out.items _ c.loop-rest.invariant.near near); slices = rw (w.out-is, w.in_ok-push.ensures.items) (All-push (IsLexemeOf c.args.line.now) c.loop-rest.out.items _ c.loop-rest.invariant.slices slice); from_one = from_one; here = here }
       | in_default w ↦
-          let f : front rest ≡ Ok (record { len = len; says = None }) = c.in-Ok.ensures.value ∙ ap (λ o. let r : Result Cut Flaw = Ok (record { len = len; says = token_value_in o }) in r) w.in_default.is in
+          let f : front rest ≡ Ok (record { len = len; says = None }) = c.in-Ok.ensures.value ∙ ap (λ o. let r : Result Cut Flaw = Ok (record { len = len; says = kept_value_in (take len rest) o }) in r) w.in_default.is in
           record { cuts = rw (w.out-is, c.split_at.ensures.back) (gap_goes_on c.args.number col len rest done total some f c.in-Ok.ensures.bound.0 c.loop-rest.invariant.cuts); place = place; near = rw w.out-is c.loop-rest.invariant.near; slices = rw w.out-is c.loop-rest.invariant.slices; from_one = from_one; here = here }
     ]
 
