@@ -11,7 +11,7 @@ use std::str::from_utf8;
 #[derive(Clone, Copy, Debug)]
 pub struct Name {
     bytes: [u8; 64],
-    len: usize,
+    len: u8,
 }
 
 impl Model for Name {
@@ -82,7 +82,7 @@ impl Name {
         }
         Some(Name {
             bytes: padded(bytes),
-            len: bytes.len(),
+            len: bytes.len() as u8,
         })
     }
 
@@ -91,7 +91,7 @@ impl Name {
         ensures value { result.now ≡ self.now }
         ensures name { IsName self.now }
     {
-        &self.bytes[..self.len]
+        &self.bytes[..usize::from(self.len)]
     }
 
     /// The name as text; all its bytes are ASCII.
