@@ -11,7 +11,7 @@ use Rattle.m88_base.specs.Placed.{Placed, AreApart}
 use Rattle.m88_base.proofs.Cuts.{starts_rise, apart_from_first, apart_drop}
 use Rattle.m88_base.proofs.InBlocks.{all_runs-append, around, block_length, get_at, place_here, length-take_runs, within_all, below_in, above_in}
 use Rattle.m88_base.specs.Inside.Placing.{IsLastBy}
-use Rattle.m88_base.specs.Inside.Blocks.{all_runs, first_start, AreFilled, CountsTo, IsCounted, IsPlaceInBlocks}
+use Rattle.m88_base.specs.Inside.Blocks.{all_runs, first_start, AreNonempty, CountsTo, IsCounted, IsPlaceInBlocks}
 
 -- no fewer runs are ahead of a later block
 pub ahead_grows : (bs : List (List Placed)) (i j : ℕ) → i ≤ j → length (all_runs (take i bs)) ≤ length (all_runs (take j bs))
@@ -77,14 +77,14 @@ begins_block bs b block d l is some =
     first [] h = absurd (omega arith)
     first (x ∷ xs) h = refl
 
-pub firsts_rise : (bs : List (List Placed)) → AreFilled bs → AreApart 0 (all_runs bs) → IsNonDecreasingBy first_start bs
-firsts_rise bs filled apart = λ i j d l m.
+pub firsts_rise : (bs : List (List Placed)) → AreNonempty bs → AreApart 0 (all_runs bs) → IsNonDecreasingBy first_start bs
+firsts_rise bs nonempty apart = λ i j d l m.
     let none : Placed = record { at = 0; bytes = [] } in
     let here : i < length bs = omega arith in
-    let low = begins_block bs i (get_or bs i d) none here (get_or_default bs i d (get_or bs i d) here) (filled i d here) in
-    let high = begins_block bs j (get_or bs j d) none m (get_or_default bs j d (get_or bs j d) m) (filled j d m) in
+    let low = begins_block bs i (get_or bs i d) none here (get_or_default bs i d (get_or bs i d) here) (nonempty i d here) in
+    let high = begins_block bs j (get_or bs j d) none m (get_or_default bs j d (get_or bs j d) m) (nonempty j d m) in
     let inside = within_all bs j (get_or bs j d) m (get_or_default bs j d (get_or bs j d) m) in
-    let some = filled j d m in
+    let some = nonempty j d m in
     rw (← low, ← high) (starts_rise 0 (all_runs bs) (length (all_runs (take i bs))) (length (all_runs (take j bs))) none apart (ahead_grows bs i j l) (omega arith))
 
 -- the runs ahead of a block that begins at or below an address begin below it too
@@ -99,29 +99,29 @@ front_below bs b a block l is some apart low = λ k d h.
     rw (← same) (omega (arith, rise, begins_block bs b block d l is some, low))
 
 -- the runs behind some blocks lie above an address below the first of them
-pub above_blocks : (bs : List (List Placed)) (n a : ℕ) → AreFilled bs → AreApart 0 (all_runs bs)
+pub above_blocks : (bs : List (List Placed)) (n a : ℕ) → AreNonempty bs → AreApart 0 (all_runs bs)
     → ((d : List Placed) → n < length bs → a < first_start (get_or bs n d))
     → AreApart (a + 1) (drop (length (all_runs (take n bs))) (all_runs bs))
-above_blocks bs n a filled apart high =
+above_blocks bs n a nonempty apart high =
     let m : ℕ = length (all_runs (take n bs)) in
     apart_from_first _ _ _ (apart_drop (all_runs bs) m apart) (λ d h. elim (leb_tells (length bs) n) [
       | inl all ↦ absurd (omega (arith, length-drop m (all_runs bs), h, ap (λ ys. length (all_runs ys)) (take_all n bs all.1)))
       | inr some ↦
           let block : List Placed = get_or bs n [] in
-          let first = begins_block bs n block d some.1 (get_or_default bs n [] block some.1) (filled n [] some.1) in
+          let first = begins_block bs n block d some.1 (get_or_default bs n [] block some.1) (nonempty n [] some.1) in
           rw (get_or-drop, add-zero) (omega (arith, first, high [] some.1))
     ])
 
 -- what is behind an index in a block is above an address, where the next block is
 pub above_here : (bs : List (List Placed)) (b k i a : ℕ) (block : List Placed) → b < length bs → block ≡ get_or bs b block → i ≡ length (all_runs (take b bs))
-    → k ≤ length block → AreFilled bs → AreApart 0 (all_runs bs) → AreApart (a + 1) (drop k block)
+    → k ≤ length block → AreNonempty bs → AreApart 0 (all_runs bs) → AreApart (a + 1) (drop k block)
     → ((d : List Placed) → suc b < length bs → a < first_start (get_or bs (suc b) d)) → AreApart (a + 1) (drop (i + k) (all_runs bs))
-above_here bs b k i a block l is e room filled apart p high =
+above_here bs b k i a block l is e room nonempty apart p high =
     elim (leb_tells (length block) k) [
       | inr some ↦ above_in bs b k i a block l is e some.1 apart p
       | inl all ↦
           let past : i + k ≡ length (all_runs (take (suc b) bs)) = omega (arith, e, room, all.1, length-take_runs bs b block l is) in
-          rw past (above_blocks bs (suc b) a filled apart high)
+          rw past (above_blocks bs (suc b) a nonempty apart high)
     ]
 
 -- what the count of the block before an index and its length come to
@@ -169,38 +169,16 @@ counts_kept n starts bs b block l same c = λ k h. c k h ∙ sym (kept bs b k bl
         omega (arith, length-append x (all_runs (take k (set bs b block))), length-append x (all_runs (take k bs)), kept bs b k block same)
 
 -- one more block that isn't empty
-pub filled_with : (bs : List (List Placed)) (i : ℕ) (block : List Placed) → 0 < length block → AreFilled bs → AreFilled (insert bs i block)
-filled_with bs i block some filled =
-    All-append (λ runs. 0 < length runs) (take i bs) (block ∷ drop i bs) (λ k d h. rw (get_or-take i bs k d (omega (arith, length-take i bs))) (filled k d (omega (arith, length-take i bs))))
-    (All-cons (λ runs. 0 < length runs) block (drop i bs) some (λ k d h. rw get_or-drop (filled (i + k) d (omega (arith, length-drop i bs)))))
-
--- one more block, behind the others
-pub counted_with : (starts : List ℕ) (bs : List (List Placed)) (block : List Placed) (n : ℕ) → n ≡ length (all_runs bs) → IsCounted starts bs
-    → IsCounted (starts ++ n ∷ []) (bs ++ block ∷ [])
-counted_with starts bs block n e c = record {
-  long = omega (arith, c.long, length-append starts (n ∷ []), length-append bs (block ∷ []));
-  each = λ k h. elim (leb_tells (length bs) k) [
-    | inr below ↦
-        rw (take-append-le k bs (block ∷ []) (omega (arith, below.1)))
-        (get_or-append starts (n ∷ []) 0 k (omega (arith, below.1, c.long)) ∙ c.each k below.1)
-    | inl last ↦
-        let off : k - length starts ≡ 0 = omega (arith, h, last.1, c.long, length-append bs (block ∷ [])) in
-        let end : k ≡ length bs = omega (arith, h, last.1, length-append bs (block ∷ [])) in
-        rw (get_or-append_right starts (n ∷ []) (length starts) k 0 refl (omega (arith, last.1, c.long)), off, end, take-append-le (length bs) bs (block ∷ []) (omega arith), take_all (length bs) bs (omega arith)) e
-  ];
-}
-
--- some runs begin at or below an address, where the first does
-pub first_within : (runs : List Placed) (a n : ℕ) → 0 < length runs → first_start runs ≤ a → AreApart (a + 1) (drop n runs) → 0 < n
-first_within [] a n some low above = absurd (omega arith)
-first_within (run ∷ runs) a zero some low above = absurd (omega (arith, low, above.0))
-first_within (run ∷ runs) a (suc n) some low above = omega arith
+pub nonempty_with : (bs : List (List Placed)) (i : ℕ) (block : List Placed) → 0 < length block → AreNonempty bs → AreNonempty (insert bs i block)
+nonempty_with bs i block some nonempty =
+    All-append (λ runs. 0 < length runs) (take i bs) (block ∷ drop i bs) (λ k d h. rw (get_or-take i bs k d (omega (arith, length-take i bs))) (nonempty k d (omega (arith, length-take i bs))))
+    (All-cons (λ runs. 0 < length runs) block (drop i bs) some (λ k d h. rw get_or-drop (nonempty (i + k) d (omega (arith, length-drop i bs)))))
 
 -- the last run of a block that begins at or below an address is the last of all, where the next block begins above it
 pub last_here : (bs : List (List Placed)) (b a : ℕ) (block : List Placed) (run : Placed) → b < length bs → block ≡ get_or bs b block
-    → AreFilled bs → AreApart 0 (all_runs bs) → first_start block ≤ a → IsLastBy block a run
+    → AreNonempty bs → AreApart 0 (all_runs bs) → first_start block ≤ a → IsLastBy block a run
     → ((d : List Placed) → suc b < length bs → a < first_start (get_or bs (suc b) d)) → IsLastBy (all_runs bs) a run
-last_here bs b a block run l is filled apart low last high =
+last_here bs b a block run l is nonempty apart low last high =
     let n : ℕ = length (all_runs (take b bs)) in
     let k : ℕ = last.index - 1 in
     let inside : k < length block = omega (arith, last.some, last.cut.bound) in
@@ -215,7 +193,7 @@ last_here bs b a block run l is filled apart low last high =
         bound = omega (arith, last.cut.bound, within_all bs b block l is);
         below = below_in bs b last.index n a block l is refl last.cut.bound
             (front_below bs b a block l is (omega (arith, inside)) apart low) last.cut.below;
-        above = above_here bs b last.index n a block l is refl last.cut.bound filled apart last.cut.above high;
+        above = above_here bs b last.index n a block l is refl last.cut.bound nonempty apart last.cut.above high;
       };
       is = get_at bs b k (n + last.index - 1) block run place room is last.is;
     }

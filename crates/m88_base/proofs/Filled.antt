@@ -15,17 +15,13 @@ use Rattle.m88_base.proofs.Apart.{apart_front, apart_back, none_below, none_abov
 use Rattle.m88_base.proofs.Cuts.{apart_take, apart_drop, slice_get-drop}
 use Rattle.m88_base.proofs.InBlocks.{all_runs-append, around, take_runs-suc}
 
-pub length-filled : (found : ℕ → Option ℕ) (at : ℕ) (bytes : List ℕ) → length (filled found at bytes) ≡ length bytes
-length-filled found at [] = refl
-length-filled found at (b ∷ bytes) = omega (arith, length-filled found (at + 1) bytes)
-
 -- what is found elsewhere doesn't count
-pub filled_same : (f g : ℕ → Option ℕ) (at : ℕ) (bytes : List ℕ) → ((a : ℕ) → at ≤ a → a < at + length bytes → f a ≡ g a) → filled f at bytes ≡ filled g at bytes
+filled_same : (f g : ℕ → Option ℕ) (at : ℕ) (bytes : List ℕ) → ((a : ℕ) → at ≤ a → a < at + length bytes → f a ≡ g a) → filled f at bytes ≡ filled g at bytes
 filled_same f g at [] same = refl
 filled_same f g at (b ∷ bytes) same =
     rw (same at (omega arith) (omega arith), filled_same f g (at + 1) bytes (λ a low high. same a (omega (arith, low)) (omega (arith, high)))) refl
 
-pub filled_none : (f : ℕ → Option ℕ) (at : ℕ) (bytes : List ℕ) → ((a : ℕ) → at ≤ a → a < at + length bytes → f a ≡ None) → filled f at bytes ≡ bytes
+filled_none : (f : ℕ → Option ℕ) (at : ℕ) (bytes : List ℕ) → ((a : ℕ) → at ≤ a → a < at + length bytes → f a ≡ None) → filled f at bytes ≡ bytes
 filled_none f at [] none = refl
 filled_none f at (b ∷ bytes) none =
     rw (none at (omega arith) (omega arith), filled_none f (at + 1) bytes (λ a low high. none a (omega (arith, low)) (omega (arith, high)))) refl
@@ -34,18 +30,18 @@ unwrap_twice : (o p : Option ℕ) (b : ℕ) → unwrap_or o (unwrap_or p b) ≡ 
 unwrap_twice None p b = refl
 unwrap_twice (Some x) p b = refl
 
-pub filled_twice : (f g : ℕ → Option ℕ) (at : ℕ) (bytes : List ℕ) → filled g at (filled f at bytes) ≡ filled (λ a. option_or (g a) (f a)) at bytes
+filled_twice : (f g : ℕ → Option ℕ) (at : ℕ) (bytes : List ℕ) → filled g at (filled f at bytes) ≡ filled (λ a. option_or (g a) (f a)) at bytes
 filled_twice f g at [] = refl
 filled_twice f g at (b ∷ bytes) = rw (unwrap_twice (g at) (f at) b, filled_twice f g (at + 1) bytes) refl
 
-pub filled-append : (f : ℕ → Option ℕ) (at : ℕ) (xs ys : List ℕ) → filled f at (xs ++ ys) ≡ filled f at xs ++ filled f (at + length xs) ys
+filled-append : (f : ℕ → Option ℕ) (at : ℕ) (xs ys : List ℕ) → filled f at (xs ++ ys) ≡ filled f at xs ++ filled f (at + length xs) ys
 filled-append f at [] ys = let e : at + 0 ≡ at = omega arith in rw e refl
 filled-append f at (x ∷ xs) ys =
     let e : at + 1 + length xs ≡ at + length (x ∷ xs) = omega arith in
     ap (λ zs. unwrap_or (f at) x ∷ zs) (filled-append f (at + 1) xs ys ∙ ap (λ n. filled f (at + 1) xs ++ filled f n ys) e)
 
 -- the bytes of a list laid over others
-pub filled_lay : (f : ℕ → Option ℕ) (at : ℕ) (ys bytes : List ℕ) → ((k : ℕ) → k < length bytes → f (at + k) ≡ slice_get ys k)
+filled_lay : (f : ℕ → Option ℕ) (at : ℕ) (ys bytes : List ℕ) → ((k : ℕ) → k < length bytes → f (at + k) ≡ slice_get ys k)
     → filled f at bytes ≡ take (length bytes) ys ++ drop (length ys) bytes
 filled_lay f at [] [] is = refl
 filled_lay f at (y ∷ ys) [] is = refl
@@ -70,7 +66,7 @@ filled_in run at bytes low = filled_lay (byte_in run) at (drop (at - run.at) run
     byte_in_at run (at + k) (omega (arith, low)) ∙ ap (λ n. slice_get run.bytes n) e ∙ sym (slice_get-drop (at - run.at) run.bytes k))
 
 -- one run that begins above
-pub filled_above : (run : Placed) (at gap : ℕ) (bytes : List ℕ) → run.at ≡ at + gap → gap ≤ length bytes
+filled_above : (run : Placed) (at gap : ℕ) (bytes : List ℕ) → run.at ≡ at + gap → gap ≤ length bytes
     → filled (byte_in run) at bytes ≡ take gap bytes ++ (take (length (drop gap bytes)) run.bytes ++ drop (length run.bytes) (drop gap bytes))
 filled_above run at gap bytes is within =
     let long : length (take gap bytes) ≡ gap = omega (arith, length-take gap bytes, within) in
@@ -92,7 +88,7 @@ pub filled_behind : (run : Placed) (at : ℕ) (bytes : List ℕ) → at + length
 filled_behind run at bytes high = filled_none (byte_in run) at bytes (λ a low few. byte_in_below run a (omega (arith, few, high)))
 
 -- runs, and then those above them
-pub filled_more : (xs ys : List Placed) (at : ℕ) (bytes : List ℕ) → AreApart 0 (xs ++ ys)
+filled_more : (xs ys : List Placed) (at : ℕ) (bytes : List ℕ) → AreApart 0 (xs ++ ys)
     → filled (byte_among ys) at (filled (byte_among xs) at bytes) ≡ filled (byte_among (xs ++ ys)) at bytes
 filled_more xs ys at bytes h =
     filled_twice (byte_among xs) (byte_among ys) at bytes
@@ -106,7 +102,7 @@ filled_more xs ys at bytes h =
     ])
 
 -- runs that begin behind a room don't count
-pub filled_front : (xs ys : List Placed) (at : ℕ) (bytes : List ℕ) → AreApart (at + length bytes) ys
+filled_front : (xs ys : List Placed) (at : ℕ) (bytes : List ℕ) → AreApart (at + length bytes) ys
     → filled (byte_among xs) at bytes ≡ filled (byte_among (xs ++ ys)) at bytes
 filled_front xs ys at bytes h = filled_same (byte_among xs) (byte_among (xs ++ ys)) at bytes (λ a low high.
     rw (byte_among-append xs ys a, none_below (at + length bytes) ys a h high) (sym (option_or-none (byte_among xs a))))
@@ -128,7 +124,7 @@ laid_above run at gap bytes new is within laid =
     rw (none, append-nil, over) (sym (filled_above run at gap bytes is within))
 
 -- no run ahead of the last one that begins at or below an address reaches it
-pub ahead_of_last : (runs : List Placed) (n i at : ℕ) → AreApart 0 runs → n ≤ length runs → All (λ run. run.at ≤ at) (take n runs) → i ≡ n - 1
+ahead_of_last : (runs : List Placed) (n i at : ℕ) → AreApart 0 runs → n ≤ length runs → All (λ run. run.at ≤ at) (take n runs) → i ≡ n - 1
     → next_start 0 (take i runs) ≤ at + 1
 ahead_of_last runs zero i at h l low is = let e : i ≡ 0 = omega (arith, is) in rw e (omega arith)
 ahead_of_last runs (suc n) i at h l low is =

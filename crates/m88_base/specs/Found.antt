@@ -17,7 +17,8 @@ FindsBytes found = (a : ℕ) → IfSome (found a) (λ b. (a < 2 ^ 32) × (b < 25
 abbrev pub IsFree : (ℕ → Option ℕ) → ℕ → ℕ → Type 0
 IsFree found at n = (a : ℕ) → IsWithin at n a → found a ≡ None
 
--- bytes that are those of the addresses from `at` on, each as it is found there, and as it was where none is
+-- bytes that stand for the addresses from `at` on, after what is found there was written over them: each is the byte
+-- found at its address, and stays as it was where none is found
 abbrev pub filled : (ℕ → Option ℕ) → ℕ → List ℕ → List ℕ
 filled found at [] = []
 filled found at (b ∷ bytes) = unwrap_or (found at) b ∷ filled found (at + 1) bytes

@@ -163,7 +163,7 @@ fn locate(runs: &[Segment], at: u32) -> usize
 }
 
 /// Writes the bytes of the runs over those that stand in a room for the addresses from `at` on: it goes from the last
-/// run that begins at or below `at` to the first that begins behind the room.
+/// run that begins at or below `at`, or the first where none does, to the first that begins behind the room.
 fn fill(runs: &[Segment], at: u32, room: &mut [u8])
     requires { AreApart 0 runs.now }
     ensures { room.new ≡ filled (byte_among runs.now) at room.old }

@@ -4,7 +4,7 @@ ghost use Rattle.std.specs.List.Sorted.{IsNonDecreasingBy, IsPartitionPoint};
 ghost use Rattle.m88_base.specs.Found.{filled};
 ghost use Rattle.m88_base.specs.Placed.{AreApart, byte_among};
 ghost use Rattle.m88_base.specs.Inside.Placing.{IsLastBy};
-ghost use Rattle.m88_base.specs.Inside.Blocks.{AreFilled, CountsTo, IsCounted, IsPlaceInBlocks, all_runs, first_start};
+ghost use Rattle.m88_base.specs.Inside.Blocks.{AreNonempty, CountsTo, IsCounted, IsPlaceInBlocks, all_runs, first_start};
 
 use crate::block::Block;
 use crate::segment::Segment;
@@ -26,14 +26,14 @@ pub struct Blocks {
 impl Model for Blocks {
     ghost use Rattle.std.specs.Prelude.{◌≡◌, List, length};
     ghost use Rattle.m88_base.specs.Placed.{Placed};
-    ghost use Rattle.m88_base.specs.Inside.Blocks.{AreFilled, IsCounted, all_runs};
+    ghost use Rattle.m88_base.specs.Inside.Blocks.{AreNonempty, IsCounted, all_runs};
 
     ghost Value = { List Placed };
 
     ghost view = { λ runs. all_runs runs.blocks.items };
 
     ghost invariant = { λ runs. (runs.len ≡ length (all_runs runs.blocks.items))
-        × AreFilled runs.blocks.items × IsCounted runs.starts.items runs.blocks.items };
+        × AreNonempty runs.blocks.items × IsCounted runs.starts.items runs.blocks.items };
 }
 
 impl Blocks {
@@ -206,7 +206,7 @@ fn place_before(blocks: &[Block], starts: &[usize], index: usize) -> (usize, usi
 }
 
 fn locate(blocks: &[Block], starts: &[usize], at: u32) -> usize
-    requires filled { AreFilled blocks.now }
+    requires nonempty { AreNonempty blocks.now }
     requires counted { IsCounted starts.now blocks.now }
     requires apart { AreApart 0 (all_runs blocks.now) }
     requires room { length (all_runs blocks.now) < 2 ^ 64 }
@@ -224,7 +224,7 @@ fn locate(blocks: &[Block], starts: &[usize], at: u32) -> usize
 
 /// The last run that begins at or below an address.
 fn below(blocks: &[Block], at: u32) -> Option<&Segment>
-    requires filled { AreFilled blocks.now }
+    requires nonempty { AreNonempty blocks.now }
     requires apart { AreApart 0 (all_runs blocks.now) }
     ensures some { IfSome result (λ run. IsLastBy (all_runs blocks.now) at run.now) }
     ensures none { IfNone result (AreApart (at + 1) (all_runs blocks.now)) }
@@ -238,9 +238,9 @@ fn below(blocks: &[Block], at: u32) -> Option<&Segment>
 }
 
 /// Writes the bytes of the runs over those that stand in a room for the addresses from `at` on: it goes from the last
-/// block that begins at or below `at` to the first that begins behind the room.
+/// block that begins at or below `at`, or the first where none does, to the first that begins behind the room.
 fn fill(blocks: &[Block], at: u32, room: &mut [u8])
-    requires filled { AreFilled blocks.now }
+    requires nonempty { AreNonempty blocks.now }
     requires apart { AreApart 0 (all_runs blocks.now) }
     ensures { room.new ≡ filled (byte_among (all_runs blocks.now)) at room.old }
 {
@@ -261,14 +261,14 @@ fn insert(
     index: usize,
     run: Segment,
 ) -> Result<(), AllocError>
-    requires filled { AreFilled blocks.old.items }
+    requires nonempty { AreNonempty blocks.old.items }
     requires counted { IsCounted starts.old.items blocks.old.items }
     requires index { index ≤ length (all_runs blocks.old.items) }
     requires room { length (all_runs blocks.old.items) + 1 < 2 ^ 64 }
     ensures ok { OnOk result
         (all_runs blocks.new.items ≡ insert (all_runs blocks.old.items) index run) }
     ensures err { OnErr result (all_runs blocks.new.items ≡ all_runs blocks.old.items) }
-    ensures filled { AreFilled blocks.new.items }
+    ensures nonempty { AreNonempty blocks.new.items }
     ensures counted { IsCounted starts.new.items blocks.new.items }
 {
     if is_full_at(blocks, starts, index) {
@@ -307,13 +307,13 @@ fn begin_block(
     index: usize,
     run: Segment,
 ) -> Result<(), AllocError>
-    requires filled { AreFilled blocks.old.items }
+    requires nonempty { AreNonempty blocks.old.items }
     requires counted { IsCounted starts.old.items blocks.old.items }
     requires index { index ≡ length (all_runs blocks.old.items) }
     ensures ok { OnOk result
         (all_runs blocks.new.items ≡ insert (all_runs blocks.old.items) index run) }
     ensures err { OnErr result (all_runs blocks.new.items ≡ all_runs blocks.old.items) }
-    ensures filled { AreFilled blocks.new.items }
+    ensures nonempty { AreNonempty blocks.new.items }
     ensures counted { IsCounted starts.new.items blocks.new.items }
 {
     let block = Block::of(alloc, run)?;
@@ -327,12 +327,12 @@ fn begin_block(
 
 /// Takes the run at an index out.
 fn remove(blocks: &mut Vec<Block>, starts: &mut Vec<usize>, index: usize)
-    requires filled { AreFilled blocks.old.items }
+    requires nonempty { AreNonempty blocks.old.items }
     requires counted { IsCounted starts.old.items blocks.old.items }
     requires index { index < length (all_runs blocks.old.items) }
     requires room { length (all_runs blocks.old.items) < 2 ^ 64 }
     ensures value { all_runs blocks.new.items ≡ remove (all_runs blocks.old.items) index }
-    ensures filled { AreFilled blocks.new.items }
+    ensures nonempty { AreNonempty blocks.new.items }
     ensures counted { IsCounted starts.new.items blocks.new.items }
 {
     let (at, inside) = place_of(blocks, starts, index);
@@ -349,11 +349,11 @@ fn remove(blocks: &mut Vec<Block>, starts: &mut Vec<usize>, index: usize)
 fn split(blocks: &mut Vec<Block>, starts: &mut Vec<usize>, at: usize) -> Result<(), AllocError>
     requires at { at < length blocks.old.items }
     requires long { 1 < length (slice_index_or blocks.old.items at []) }
-    requires filled { AreFilled blocks.old.items }
+    requires nonempty { AreNonempty blocks.old.items }
     requires counted { IsCounted starts.old.items blocks.old.items }
     requires room { length (all_runs blocks.old.items) < 2 ^ 64 }
     ensures same { all_runs blocks.new.items ≡ all_runs blocks.old.items }
-    ensures filled { AreFilled blocks.new.items }
+    ensures nonempty { AreNonempty blocks.new.items }
     ensures counted { IsCounted starts.new.items blocks.new.items }
 {
     starts.reserve(1)?;

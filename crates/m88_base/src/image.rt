@@ -180,8 +180,8 @@ impl Image {
         self.runs.rest(at)
     }
 
-    /// Writes the bytes at the addresses from `at` on over a room, which keeps what it has where there is none. Each part
-    /// is met once.
+    /// Writes the bytes at the addresses from `at` on over a room, which keeps what it has where there is none. It goes
+    /// from part to part, so that no byte is looked up by itself.
     #[tactic(auto, unfolding(crate::specs::Image::byte_at))]
     pub fn fill(&self, at: u32, room: &mut [u8])
         ensures { room.new ≡ filled (byte_at self.now) at room.old }

@@ -125,17 +125,17 @@ impl Segment {
         rest
     }
 
-    /// Writes the bytes over those that stand in a room for the addresses from `at` on.
-    pub fn fill(&self, at: u32, room: &mut [u8])
-        ensures { room.new ≡ filled (byte_in self.now) at room.old }
+    /// Writes the bytes over those that stand in a space for the addresses from `at` on.
+    pub fn fill(&self, at: u32, space: &mut [u8])
+        ensures { space.new ≡ filled (byte_in self.now) at space.old }
     {
         if self.at <= at {
-            lay(self.bytes_from(at), room);
+            lay(self.bytes_from(at), space);
             return;
         }
         let gap = (self.at - at) as usize;
-        if gap < room.len() {
-            lay(self.bytes(), &mut room[gap..]);
+        if gap < space.len() {
+            lay(self.bytes(), &mut space[gap..]);
         }
     }
 

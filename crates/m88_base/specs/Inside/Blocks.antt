@@ -14,8 +14,8 @@ pub record IsPlaceInBlocks (blocks : List (List Placed)) (at inside index : ℕ)
   pub sum : length (all_runs (take at blocks)) + inside ≡ index
 
 -- no block is empty
-abbrev pub AreFilled : List (List Placed) → Type 0
-AreFilled blocks = All (λ block. 0 < length block) blocks
+abbrev pub AreNonempty : List (List Placed) → Type 0
+AreNonempty blocks = All (λ block. 0 < length block) blocks
 
 -- the first n numbers are those of the runs ahead of each block
 abbrev pub CountsTo : ℕ → List ℕ → List (List Placed) → Type 0

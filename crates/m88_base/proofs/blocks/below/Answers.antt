@@ -8,11 +8,11 @@ use Rattle.m88_base.proofs.blocks.below.Goals.{After-index-blocks-passed}
 use Rattle.m88_base.proofs.blocks.below.Goals as goal
 
 pub begun_by-passed-requires : goal.begun_by-passed-requires
-begun_by-passed-requires c = firsts_rise c.args.blocks.now c.requires.filled c.requires.apart
+begun_by-passed-requires c = firsts_rise c.args.blocks.now c.requires.nonempty c.requires.apart
 
 pub returns-then-passed-eq0-clause-none : goal.returns-then-passed-eq0-clause-none
 returns-then-passed-eq0-clause-none c =
-    above_blocks c.args.blocks.now 0 c.args.at c.requires.filled c.requires.apart (λ d l. omega (
+    above_blocks c.args.blocks.now 0 c.args.at c.requires.nonempty c.requires.apart (λ d l. omega (
       arith,
       leb-false _ _
           (c.begun_by-passed.ensures.parted.1 0 d (omega (arith, c.if-passed-eq0.true)) l),
@@ -37,7 +37,7 @@ pub below-requires-clause-some : goal.below-requires-clause-some
 below-requires-clause-some c =
     let k = (goal.at.below-requires-clause-some c).After-index-blocks-passed in
     rw (← c.index-blocks-passed.is) at
-    (c.requires.filled (c.begun_by-passed.result - 1) c.index-blocks-passed.result (here k (omega arith)))
+    (c.requires.nonempty (c.begun_by-passed.result - 1) c.index-blocks-passed.result (here k (omega arith)))
 
 pub below-requires-clause-begins : goal.below-requires-clause-begins
 below-requires-clause-begins c = low ((goal.at.below-requires-clause-begins c).After-index-blocks-passed) (omega arith)
@@ -48,5 +48,5 @@ returns-clause-some c =
     let b = c.begun_by-passed.result - 1 in
     let next : c.begun_by-passed.result ≡ suc b = omega arith in
     last_here c.args.blocks.now b c.args.at c.index-blocks-passed.result c.below.result.now (here k (omega arith)) c.index-blocks-passed.is
-    c.requires.filled c.requires.apart (low k (omega arith)) c.below.ensures
+    c.requires.nonempty c.requires.apart (low k (omega arith)) c.below.ensures
     (λ d l. omega (arith, leb-false _ _ (c.begun_by-passed.ensures.parted.1 (suc b) d (omega arith) l)))

@@ -9,7 +9,7 @@ use Rattle.m88_base.proofs.Filled.{block_behind, block_over, blocks_begun_over, 
 use Rattle.m88_base.proofs.blocks.fill.Goals as goal
 
 pub begun_by-requires : goal.begun_by-requires
-begun_by-requires c = firsts_rise c.args.blocks.now c.requires.filled c.requires.apart
+begun_by-requires c = firsts_rise c.args.blocks.now c.requires.nonempty c.requires.apart
 
 pub loop-index-init : goal.loop-index-init
 loop-index-init c =
@@ -24,7 +24,7 @@ loop-index-init c =
           let within : b < length bs = omega (arith, before, c.begun_by.ensures.bound) in
           let low : first_start (get_or bs b []) ≤ c.args.at = leb-true _ _ (c.begun_by.ensures.parted.0 b [] (omega arith) before) in
           blocks_begun_over bs b c.args.at (get_or bs b []) c.args.room.now c.requires.apart within
-          (get_or_default bs b [] (get_or bs b []) within) (c.requires.filled b [] within) low
+          (get_or_default bs b [] (get_or bs b []) within) (c.requires.nonempty b [] within) low
     ]
 
 pub returns-then-from-end : goal.returns-then-from-end
@@ -32,7 +32,7 @@ returns-then-from-end c =
     let within : c.loop-index.index < length c.args.blocks.now = omega arith in
     c.loop-index.invariant
     ∙ block_behind c.args.blocks.now c.loop-index.index c.args.at c.index-blocks-index.result c.args.room.now c.requires.apart within
-    c.index-blocks-index.is (rw (← c.index-blocks-index.is) at (c.requires.filled c.loop-index.index c.index-blocks-index.result within)) (omega arith)
+    c.index-blocks-index.is (rw (← c.index-blocks-index.is) at (c.requires.nonempty c.loop-index.index c.index-blocks-index.result within)) (omega arith)
 
 pub fill-requires : goal.fill-requires
 fill-requires c = block_apart c.args.blocks.now c.loop-index.index c.index-blocks-index.result (omega arith) c.index-blocks-index.is c.requires.apart

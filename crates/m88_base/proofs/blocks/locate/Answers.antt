@@ -8,7 +8,7 @@ use Rattle.m88_base.proofs.blocks.locate.Goals as goal
 
 pub returns-then-passed-eq0-clause-above : goal.returns-then-passed-eq0-clause-above
 returns-then-passed-eq0-clause-above c =
-    above_blocks c.args.blocks.now 0 c.args.at c.requires.filled c.requires.apart (λ d l. omega (
+    above_blocks c.args.blocks.now 0 c.args.at c.requires.nonempty c.requires.apart (λ d l. omega (
       arith,
       leb-false _ _
           (c.begun_by-passed.ensures.parted.1 0 d (omega (arith, c.if-passed-eq0.true)) l),
@@ -48,7 +48,7 @@ returns-clause-below c =
     leb-true _ _ (c.begun_by-passed.ensures.parted.0 b block (omega arith) (omega arith)) in
     below_in bs b c.locate.result (get_or c.args.starts.now b 0) c.args.at block within c.index-blocks-passed.is (counted k (omega arith))
     c.locate.ensures.bound
-    (front_below bs b c.args.at block within c.index-blocks-passed.is (rw (← c.index-blocks-passed.is) at (c.requires.filled b block within)) c.requires.apart
+    (front_below bs b c.args.at block within c.index-blocks-passed.is (rw (← c.index-blocks-passed.is) at (c.requires.nonempty b block within)) c.requires.apart
     (rw (← c.index-blocks-passed.is) at low)) c.locate.ensures.below
 
 pub returns-clause-above : goal.returns-clause-above
@@ -58,8 +58,8 @@ returns-clause-above c =
     let b = c.begun_by-passed.result - 1 in
     let next : c.begun_by-passed.result ≡ suc b = omega arith in
     above_here bs b c.locate.result (get_or c.args.starts.now b 0) c.args.at c.index-blocks-passed.result (here k (omega arith)) c.index-blocks-passed.is
-    (counted k (omega arith)) c.locate.ensures.bound c.requires.filled c.requires.apart c.locate.ensures.above
+    (counted k (omega arith)) c.locate.ensures.bound c.requires.nonempty c.requires.apart c.locate.ensures.above
     (λ d l. omega (arith, leb-false _ _ (c.begun_by-passed.ensures.parted.1 (suc b) d (omega arith) l)))
 
 pub begun_by-passed-requires : goal.begun_by-passed-requires
-begun_by-passed-requires c = firsts_rise c.args.blocks.now c.requires.filled c.requires.apart
+begun_by-passed-requires c = firsts_rise c.args.blocks.now c.requires.nonempty c.requires.apart

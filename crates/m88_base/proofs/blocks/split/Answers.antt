@@ -4,7 +4,7 @@ use Rattle.std.proofs.lemmas.List.Elements.{All-set}
 use Rattle.m88_base.specs.Placed.{Placed}
 use Rattle.m88_base.specs.Inside.Blocks.{all_runs}
 use Rattle.m88_base.proofs.InBlocks.{block_length, halved}
-use Rattle.m88_base.proofs.Counting.{filled_with}
+use Rattle.m88_base.proofs.Counting.{nonempty_with}
 use Rattle.m88_base.proofs.blocks.split.Goals.{In_ok-upper, After-push}
 use Rattle.m88_base.proofs.blocks.split.Goals as goal
 
@@ -27,9 +27,9 @@ count-requires-clause-room c =
 pub returns-clause-same : goal.returns-clause-same
 returns-clause-same c = let k = goal.at.returns-clause-same c in rw (now k.After-push) (cut k.In_ok-upper)
 
-pub returns-clause-filled : goal.returns-clause-filled
-returns-clause-filled c =
-    let k = goal.at.returns-clause-filled c in
+pub returns-clause-nonempty : goal.returns-clause-nonempty
+returns-clause-nonempty c =
+    let k = goal.at.returns-clause-nonempty c in
     let bs = c.args.blocks.now.items in
     let lower : List Placed = c.split_off.new.self in
     let upper : List Placed = c.in_ok-upper.upper in
@@ -39,4 +39,4 @@ returns-clause-filled c =
     let some : 0 < length lower = omega (arith, half, c.requires.long) in
     let more : 0 < length upper = omega (arith, half, whole, c.requires.long) in
     rw (now k.After-push)
-    (filled_with (set bs c.args.at lower) (suc c.args.at) upper more (All-set (λ runs. 0 < length runs) bs c.args.at lower some c.requires.filled))
+    (nonempty_with (set bs c.args.at lower) (suc c.args.at) upper more (All-set (λ runs. 0 < length runs) bs c.args.at lower some c.requires.nonempty))
