@@ -7,8 +7,8 @@ ghost use Rattle.m88_board.specs.Told.{MakesWordAccesses};
 
 use m88_isa::{Effect, Plan};
 
-/// What an event tells of its instruction. Where none goes on, the word and the plan are what they were, or those of one
-/// that was tried.
+/// What an event tells of its instruction. Where none goes on, the word and the plan are what they were, or those of
+/// one that was tried.
 #[derive(Clone, Copy, Debug)]
 pub struct Told {
     /// The word of the instruction that is issued, or for which a byte is put out.

@@ -1,5 +1,5 @@
-//! Divisions with quotients computed outside, loads and stores over the end of a page, told byte by byte, and whole runs
-//! by their rows.
+//! Divisions with quotients computed outside, loads and stores over the end of a page, told byte by byte, and whole
+//! runs by their rows.
 
 use crate::test_rows::{ROWS, Row};
 use crate::{EmulOutcome, Emulated, Emulation, emulate, run};

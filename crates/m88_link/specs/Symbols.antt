@@ -32,10 +32,14 @@ repeated_after before (s ∷ ss) = option_or (repetition before s) (repeated_aft
 abbrev pub first_repeated : List Symbol → Option Repetition
 first_repeated symbols = repeated_after [] symbols
 
--- the value of a symbol, where each section begins at its base: its number, or the address of its place, which is 0 at
--- the end of a section that ends with the last address
+-- a value that is a number, or else one in a section, where each section begins at its base: the address of its place,
+-- which is 0 at the end of a section that ends with the last address
+abbrev pub placed_value : (ℕ → ℕ) → Option ℕ → ℕ → ℕ
+placed_value base section value = option_map_or (λ k. (base k + value) % 2 ^ 32) section value
+
+-- the value of a symbol
 abbrev pub value_in : (ℕ → ℕ) → Symbol → ℕ
-value_in base s = option_map_or (λ k. (base k + s.value) % 2 ^ 32) s.section s.value
+value_in base s = placed_value base s.section s.value
 
 -- the symbol as one that has its value and stands in no section
 abbrev pub absolute : (ℕ → ℕ) → Symbol → Symbol

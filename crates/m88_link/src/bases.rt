@@ -1,10 +1,10 @@
 //! Where the text and the data of each object stand.
-ghost use Rattle.std.specs.Prelude.{◌≡◌, ◌+◌, ◌*◌, ◌%◌, ◌^◌, length, ◌<◌, ◌≤◌, ◌↔◌, All, IfOk, IsTrue, MatchOption};
-ghost use Rattle.std.specs.Option.{option_map_or};
+ghost use Rattle.std.specs.Prelude.{◌≡◌, ◌+◌, ◌*◌, ◌^◌, length, ◌<◌, ◌≤◌, ◌↔◌, All, IfOk, IsTrue, MatchOption};
 ghost use Rattle.m88_link.specs.Bases.{base_at, base_of, first_text, section_size, stood, text_end};
 ghost use Rattle.m88_link.specs.Inside.Sizes.{object_size, sections_size, total_size};
 ghost use Rattle.m88_base.specs.Image.{most_bytes};
 ghost use Rattle.m88_link.specs.Sound.{IsPatchIn, IsSound};
+ghost use Rattle.m88_link.specs.Symbols.{placed_value};
 
 use crate::object::{Object, Place, Reloc, Section, Symbol};
 use m88_base::{FIRST_TEXT, MOST_BYTES, PAGE_BYTES};
@@ -102,8 +102,7 @@ impl Placement<'_> {
 
     /// The value of a symbol of the object where that is linked, by the section and the value of its definition.
     pub fn value(&self, section: Option<u32>, value: u32) -> u32
-        ensures { result
-            ≡ option_map_or (λ k. (base_of self.now k + value) % 2 ^ 32) section value }
+        ensures { result ≡ placed_value (base_of self.now) section value }
     {
         match section {
             Some(index) => self.base(index).wrapping_add(value),

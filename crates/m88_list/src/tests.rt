@@ -8,7 +8,7 @@ use std::process::Abort;
 use std::test::Fail;
 
 // inputs, outputs, texts and images
-mod blocks;
+mod images;
 mod streams;
 mod texts;
 

@@ -9,7 +9,7 @@ use Rattle.m88_srec.specs.GivesVerdict.{GivesVerdict, no_memory}
 use Rattle.m88_srec.specs.Inside.Taking.{finished}
 use Rattle.m88_srec.specs.Verdict.{verdict}
 use Rattle.m88_srec.specs.declared.fault.SrecFault.{SrecFault}
-use Rattle.m88_srec.proofs.Feeding.{finished_is, is_held, stays_behind}
+use Rattle.m88_srec.proofs.Feeding.{finished_is, is_held}
 
 -- no fault is kept
 pub led : (inside seen : LoaderView) (text : List ℕ) → inside ≡ seen → inside.fault ≡ None → IsFed text seen
@@ -22,12 +22,6 @@ pub refused_by : (inside seen : LoaderView) (text : List ℕ) (fault : SrecFault
     → inside.fault ≡ Some fault → IsFed text seen → (fault ≡ no_memory) ⊎ StaysRefused text fault
 refused_by inside seen text fault view some h =
     subst (λ (o : Option SrecFault). IsLedTo o text (begun_in inside)) some (subst (IsFed text) (sym view) h)
-
--- it is kept behind one piece more
-pub more_refused : (text piece : List ℕ) (fault : SrecFault) → (fault ≡ no_memory) ⊎ StaysRefused text fault
-    → (fault ≡ no_memory) ⊎ StaysRefused (text ++ piece) fault
-more_refused text piece fault (inl none) = inl none
-more_refused text piece fault (inr stays) = inr (stays_behind text piece fault stays)
 
 -- what one piece may come to, from wherever a text led
 pub refused_now : (text piece : List ℕ) (b : Begun) (fault : SrecFault) → LeadsTo text b

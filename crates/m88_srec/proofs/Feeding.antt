@@ -90,10 +90,6 @@ ends_by_other line more b h other =
     ends_there line more b h
     ∙ ap (λ (x : Bool). let ls : List (List ℕ) = cond x line (line ++ b ∷ []) ∷ lines_of more in ls) other
 
--- a line with the CR that was held back
-abbrev open_line : {text : List ℕ} {b : Begun} → LeadsTo text b → List ℕ
-open_line {b = b} t = t.line ++ held_cr b.cr
-
 abbrev begun_at : ℕ → Load → List ℕ → Bool → Begun
 begun_at number load line cr = record { number = number; load = load; front = front_of line; cr = cr }
 

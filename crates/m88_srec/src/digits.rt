@@ -13,7 +13,8 @@ pub const MOST_RECORD_BYTES: usize = 256;
 pub fn bytes_of(digits: &[u8], room: &mut [u8; MOST_RECORD_BYTES]) -> Option<u32>
     requires short { length digits.now ≤ 512 }
     ensures pairs { IfSome result (λ total. are_more_pairs digits.now ≡ true) }
-    ensures bytes { IfSome result (λ total. take (length digits.now / 2) room.new ≡ bytes_in digits.now) }
+    ensures bytes { IfSome result (λ total.
+        take (length digits.now / 2) room.new ≡ bytes_in digits.now) }
     ensures total { IfSome result (λ total. total ≡ sum (bytes_in digits.now)) }
     ensures none { IfNone result (are_more_pairs digits.now ≡ false) }
 {

@@ -1,8 +1,8 @@
-//! Programs that share a board and what they come to, told from outside: each letter, switch and record follows from the
-//! definitions of a sequential machine and of the shared timeline, by hand for the shorter rows.
+//! Programs that share a board and what they come to, told from outside: each letter, switch and record follows from
+//! the definitions of a sequential machine and of the shared timeline, by hand for the shorter rows.
 
-/// What a program comes to: the vector by which it ends, 496 for the exit and 0 for the limit, and at which address; then
-/// the instructions retired, r2, r3, its events, answers and faults.
+/// What a program comes to: the vector by which it ends, 496 for the exit and 0 for the limit, and at which address;
+/// then the instructions retired, r2, r3, its events, answers and faults.
 pub(crate) type Came = (u16, u32, [u32; 6]);
 
 /// A switch: the number of its event, both programs, and EPSR, SXIP, SNIP and SFIP of the one that ran.

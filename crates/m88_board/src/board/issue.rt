@@ -214,7 +214,8 @@ impl Board {
         requires planned { IsPlanned instr.now effect self.old }
         requires alone { effect.accesses ≡ recorded [] }
         requires few { length self.old.pending ≤ most_pending }
-        ensures ok { (fault : RecordValue) → Did (choice_for (Some instr.now) self.old) fault self.old
+        ensures ok { (fault : RecordValue)
+            → Did (choice_for (Some instr.now) self.old) fault self.old
             (happened_of result self.new) self.new }
         ensures still { IsStill (happened_of result self.new) → self.new ≡ self.old }
         ensures leaves { Leaves (happened_of result self.new) self.old self.new }
