@@ -1,3 +1,5 @@
--- What only helps the proofs: an instruction read back from its word, and the program that an image holds.
+-- What only helps the proofs: an instruction read back from its word, the words that are all instructions, and the
+-- program that an image holds.
 pub mod ImagePrograms
 pub mod Law
+pub mod Whole

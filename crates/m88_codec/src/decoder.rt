@@ -3,6 +3,7 @@
 ghost use Rattle.std.specs.Prelude.{◌≡◌, IfOk};
 ghost use Rattle.m88_isa.specs.Word.{IsWord, HasOneReading};
 ghost use Rattle.m88_isa.specs.declared.instr.Instr.{Instr as Instruction};
+ghost use Rattle.m88_codec.specs.Inside.Whole.{is_whole};
 
 use super::candidate::candidate;
 use super::encoder::encode;
@@ -22,9 +23,16 @@ pub fn decode(word: u32) -> Result<Instr, BadWord>
     ensures one_reading { HasOneReading word }
 {
     let instr = candidate(word);
-    if is_valid(&instr) && encode(&instr) == word {
+    if is_whole(word >> 26) || (is_valid(&instr) && encode(&instr) == word) {
         Ok(instr)
     } else {
         Err(BadWord)
     }
+}
+
+/// Whether each word with these six opening bits has an instruction: no field of its form is left unused.
+fn is_whole(head: u32) -> bool
+    ensures { result ≡ is_whole head }
+{
+    matches!(head, 0..=11 | 16..=31 | 33..=39 | 48..=55)
 }

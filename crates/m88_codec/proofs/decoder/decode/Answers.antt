@@ -1,14 +1,27 @@
--- A valid instruction's word has that instruction as its candidate, and the candidate passes both tests.
+-- A word with whole opening bits is the word of its candidate. A valid instruction's word has that instruction as its
+-- candidate, and the candidate passes both tests.
 use Rattle.std.proofs.Common.{◌≡◌, ◌∙◌, ap, sym, subst, arith, Ok}
+use Rattle.std.proofs.lemmas.Bool.Decides.{Decides-eqb, nat_tests}
 use Rattle.m88_isa.specs.Instr.{IsValid}
 use Rattle.m88_isa.specs.Word.{word_of}
 use Rattle.m88_codec.specs.Inside.Candidate.{candidate_of}
 use Rattle.m88_codec.proofs.Law.{candidate_law, one_reading}
+use Rattle.m88_codec.proofs.Whole.{whole_law}
 use Rattle.m88_codec.proofs.decoder.decode.Goals as goal
 use Rattle.m88_codec.proofs.decoder.decode.Goals.{
-  else-is_valid-via-then-is_valid+else-encode-word,
-  else-is_valid-via-else-is_valid,
+  then-is_whole,
+  else-is_whole+then-is_valid,
+  else-is_whole+else-is_valid,
 }
+
+pub returns-then-encode-word-clause-found : goal.returns-then-encode-word-clause-found
+returns-then-encode-word-clause-found c = elim c.if-is_whole.branch [
+  | then-is_whole w ↦ rw c.candidate-instr.ensures (whole_law _ (sym c.is_whole.ensures ∙ w.if-is_whole.true))
+  | else-is_whole+then-is_valid w ↦
+      let word = w.encode.ensures.word in
+      (word.0, word.1 ∙ (Decides-eqb _ _).0 (sym w.value-is ∙ c.if-encode-word.true))
+  | else-is_whole+else-is_valid w ↦ absurd cc
+]
 
 pub returns-then-encode-word-clause-only : goal.returns-then-encode-word-clause-only
 returns-then-encode-word-clause-only c =
@@ -17,17 +30,19 @@ returns-then-encode-word-clause-only c =
 pub returns-then-encode-word-clause-one_reading : goal.returns-then-encode-word-clause-one_reading
 returns-then-encode-word-clause-one_reading c = one_reading _
 
-pub returns-else-is_valid-clause-only : goal.returns-else-is_valid-clause-only
-returns-else-is_valid-clause-only c = λ i h.
+pub returns-else-encode-word-clause-only : goal.returns-else-encode-word-clause-only
+returns-else-encode-word-clause-only c = λ i h.
     let same : c.candidate-instr.result ≡ i =
     c.candidate-instr.ensures ∙ ap candidate_of (sym h.1) ∙ candidate_law i h.0 in
-    elim c.else-is_valid.branch [
-      | else-is_valid-via-then-is_valid+else-encode-word w ↦
-          absurd (w.if-encode-word.false (sym w.encode.ensures.word.1 ∙ ap word_of same ∙ h.1))
-      | else-is_valid-via-else-is_valid w ↦
-          let valid = c.is_valid.ensures.valid.1 (subst IsValid (sym same) h.0) in
+    elim c.if-is_whole.branch [
+      | then-is_whole w ↦ absurd cc
+      | else-is_whole+then-is_valid w ↦
+          let back : w.encode.result ≡ c.args.word = sym w.encode.ensures.word.1 ∙ ap word_of same ∙ h.1 in
+          absurd (grind (arith, nat_tests, back))
+      | else-is_whole+else-is_valid w ↦
+          let valid = w.is_valid.ensures.valid.1 (subst IsValid (sym same) h.0) in
           absurd (grind (arith, valid))
     ]
 
-pub returns-else-is_valid-clause-one_reading : goal.returns-else-is_valid-clause-one_reading
-returns-else-is_valid-clause-one_reading c = one_reading _
+pub returns-else-encode-word-clause-one_reading : goal.returns-else-encode-word-clause-one_reading
+returns-else-encode-word-clause-one_reading c = one_reading _
