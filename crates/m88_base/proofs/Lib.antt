@@ -1,3 +1,4 @@
+-- What only helps the proofs; Laws is for those above.
 pub mod Apart
 pub mod AsciiDigits
 pub mod Calls
@@ -24,3 +25,4 @@ pub mod RegisterBits
 pub mod Same
 pub mod SameRuns
 pub mod Splitting
+pub mod Laws

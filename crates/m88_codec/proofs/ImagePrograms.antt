@@ -6,8 +6,7 @@ use Rattle.std.proofs.lemmas.Bool.Decides.{nat_tests}
 use Rattle.std.proofs.lemmas.Nat.{be_bytes_4, from_be_bytes-to_be_bytes_4}
 use Rattle.std.proofs.lemmas.Option.{none-some}
 use Rattle.m88_base.specs.Image.{IsImage, ProgramImage, byte_at}
-use Rattle.m88_isa.proofs.Alone.{by_test}
-use Rattle.m88_isa.proofs.Words.{word_small}
+use Rattle.m88_isa.proofs.Laws.{by_test, word_small}
 use Rattle.m88_isa.specs.ImageProgram.{IsProgramOf}
 use Rattle.m88_isa.specs.Instr.{FitsWords, IsValid, IsWidth}
 use Rattle.m88_isa.specs.Machine.{Program, word_bytes}

@@ -3,8 +3,8 @@ use Rattle.std.proofs.Common.{ℕ, ℤ, pos, negsuc, Bool, true, false, ◌≡�
 use Rattle.std.proofs.lemmas.Bool.Decides.{nat_tests}
 use Rattle.m88_base.specs.declared.reg.Reg.{Reg}
 use Rattle.m88_base.specs.Reg.{number_of, reg_of}
-use Rattle.m88_base.proofs.Same.{same_reg}
-use Rattle.m88_isa.proofs.Words.{bit_most, imm_most, lda_most, low16_below, mem_most, reg_most, width_below}
+use Rattle.m88_base.proofs.Laws.{same_reg}
+use Rattle.m88_isa.proofs.Laws.{bit_most, imm_most, lda_most, low16_below, mem_most, reg_most, width_below}
 use Rattle.m88_isa.specs.Instr.{IsValid, IsWidth, FitsWords}
 use Rattle.m88_isa.specs.Word.{word_of, HasOneReading, mem_byte, imm_byte, reg_code, lda_code, bit_code, low16, low26}
 use Rattle.m88_isa.specs.declared.instr.ImmOp.{ImmOp}

@@ -1,4 +1,5 @@
--- What only helps the proofs: lemmas on single instructions, on programs, and on words and bytes of memory.
+-- What only helps the proofs: lemmas on single instructions, on programs, and on words and bytes of memory; Laws is for
+-- those above.
 pub mod Alone
 pub mod Apart
 pub mod AtWords
@@ -17,3 +18,4 @@ pub mod Told
 pub mod TouchedBytes
 pub mod Turns
 pub mod Words
+pub mod Laws

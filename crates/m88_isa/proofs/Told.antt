@@ -1,7 +1,7 @@
 -- The words of an access tell the access.
 use Rattle.std.proofs.Common.{◌≡◌, ℕ, ◌+◌, ◌*◌, ◌/◌, ◌%◌, ◌^◌, ◌<◌, ◌≤◌, ◌==◌, Bool, true, false, refl, arith, ap, ◌∙◌}
 use Rattle.std.specs.Int.{bit_at}
-use Rattle.m88_base.proofs.Same.{same_reg}
+use Rattle.m88_base.proofs.Laws.{same_reg}
 use Rattle.m88_base.specs.Reg.{number_of, reg_of}
 use Rattle.m88_isa.specs.Compute.{weight_if}
 use Rattle.m88_isa.specs.Lanes.{IsEnable}

@@ -1,0 +1,42 @@
+-- The laws of what all crates share that proofs above cite, by their subject.
+
+-- Registers: those with one number are the same.
+pub use Rattle.m88_base.proofs.Same.{same_reg}
+-- the word of a set has the bit of each member, those of its members below 32 and no others
+pub use Rattle.m88_base.proofs.RegisterBits.{bit_of_member, bit_of_set}
+-- Images: those with one start and the same bytes are the same.
+pub use Rattle.m88_base.proofs.SameRuns.{same_images}
+-- an image has no more parts than bytes
+pub use Rattle.m88_base.proofs.FewParts.{few_parts}
+-- nothing is found below runs that stand apart
+pub use Rattle.m88_base.proofs.Apart.{none_below}
+-- the byte that a run has at an address: none below it or above it, and else the one that stands there
+pub use Rattle.m88_base.proofs.Lookup.{byte_in_above, byte_in_at, byte_in_below, byte_in_from}
+-- the byte that two runs have where one begins at the end of the other, or that joined lists of runs have
+pub use Rattle.m88_base.proofs.Lookup.{byte_among-append, byte_in-join}
+-- Elements of lists: one of joined lists stands in the first or in the second.
+pub use Rattle.m88_base.proofs.Lookup.{slice_get-append_left, slice_get-append_right}
+-- the first of three options is found in either order, and an option or none is the option
+pub use Rattle.m88_base.proofs.Lookup.{option_or-none, option_or_assoc}
+-- Pieces of a list: as many as are counted, none of an empty list, one of a short list, and joined from piece to piece.
+pub use Rattle.m88_base.proofs.InPieces.{first_piece, length-pieces, next_piece, no_pieces, only_piece, pieces-append}
+-- Lines: one ends at a line feed, at both line ends, or with the text, and a byte before another begins its line.
+pub use Rattle.m88_base.proofs.Lines.{ends_last, ends_source, front_by, is_inner}
+-- an input is parted at a line in one way, or it isn't parted, and one of the two is so
+pub use Rattle.m88_base.proofs.PartedLines.{one_parting, parted_or_not, parted_told}
+-- Texts with a mark: a text is cut at its first mark in one way, and one that lacks the mark has no cut.
+pub use Rattle.m88_base.proofs.Marks.{cut_once, none_in_digits, not_cut}
+-- what a cut finds, that a cut is at the first byte of the value, and that a text without a cut lacks it
+pub use Rattle.m88_base.proofs.Splitting.{cut_found, split_first, uncut}
+-- what lacks a byte: joined texts that do, and a text of bytes that pass a test
+pub use Rattle.m88_base.proofs.Splitting.{is_other, lacks-append, lacks_by, other_false}
+-- Numerals: one that is read is that of its value, one that is written is read again and has no needless zero.
+pub use Rattle.m88_base.proofs.Digits.{are_digits, decimal_found, decimal_needed, decimal_told, tells}
+-- eight hexadecimal digits that are written are read again, and those that are read were written
+pub use Rattle.m88_base.proofs.Hexadecimal.{hex8-hex8_of, hex8_of-hex8, is_hex8-hex8, value_of_hex8}
+-- Statements that hold or fail: an order of numbers, the sameness of texts, and two together.
+pub use Rattle.m88_base.proofs.Decided.{IsDecided, at_most, both_decided, same_text}
+-- Sources and sinks: no call keeps the count of calls, and one more call adds one.
+pub use Rattle.m88_base.proofs.Calls.{calls_more, calls_none}
+-- what two reads take together, and what a buffer's front gives of it
+pub use Rattle.m88_base.proofs.Known.{consumes_front, consumes_more, length_front, takes_at_most, takes_exactly}
