@@ -68,6 +68,8 @@ impl<'a> Walk<'a> {
 
     /// Makes the event of the next letter; then the watch is shown the board. Where memory runs out, the board is as
     /// before, and the letter isn't taken.
+    // Inlined, so that no whole value of what happened is made where the caller asks little of it.
+    #[inline(always)]
     pub fn next<W: Watch>(&mut self, watch: &mut W) -> Result<Happened, NoMemory>
         requires { is_over_by self.old.board.now.limit (local_of self.old.board.now) ≡ false }
         ensures ok { OnOk result ((p : Program) (named : ℕ → Bool) (m : Moment)
@@ -96,6 +98,8 @@ impl<'a> Walk<'a> {
     }
 
     /// Makes the event of the next letter as `next` does, and tells of `i` what the instruction is that goes on.
+    // Inlined, so that no whole value of what happened is made where the caller asks little of it.
+    #[inline(always)]
     pub fn next_told<W: Watch>(
         &mut self,
         watch: &mut W,

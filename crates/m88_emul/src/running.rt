@@ -72,6 +72,8 @@ pub fn run(
 }
 
 /// Makes the event of a letter. The answer is the vector by which the program ended in it, if it did.
+// Inlined into the loop over the letters, and the event with it: of what happened the vector alone is looked at.
+#[inline(always)]
 fn advance(board: &mut Board, limit: u32, letter: Letter) -> Result<Option<u16>, NoMemory>
     requires limit { board.old.limit ≡ limit }
     requires going { is_over_by limit (local_of board.old) ≡ false }

@@ -67,6 +67,8 @@ impl Board {
     /// it must wait; of `r` the oldest transaction is answered, or meets its fault; of `e` every page is made absent,
     /// which takes no memory and changes nothing else. Memory is taken before anything changes: where it runs out, the
     /// board is as before, and no event is counted.
+    // Inlined, so that no whole value of what happened is made where the caller asks little of it.
+    #[inline(always)]
     pub fn event(&mut self, letter: Letter) -> Result<Happened, NoMemory>
         requires { self.old.events < most_events }
         ensures moved { IfOk result (λ happened. (p : Program)
