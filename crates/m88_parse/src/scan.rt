@@ -1,10 +1,11 @@
 //! The front of the rest of a line: a blank, a comment, a token, or why it is none.
-ghost use Rattle.std.specs.Prelude.{◌≡◌, ◌+◌, ◌<◌, ◌≤◌, false, ◌∷◌, take, length, IfOk, IfErr, MatchResult};
+ghost use Rattle.std.specs.Prelude.{◌≡◌, ◌+◌, ◌<◌, ◌≤◌, false, ◌∷◌, take, length, Err, IfOk, IfErr, MatchResult, if◌then◌else◌};
 ghost use Rattle.std.specs.List.{prefix_len};
 ghost use Rattle.std.specs.Char.{digit_value};
 ghost use Rattle.std.specs.Str.Parse.{digits_value};
-ghost use Rattle.m88_parse.specs.Inside.Tokens.{is_hexadecimal, is_decimal, bounded, numeral, begins_escape, closes, inside_len, holds_escapes, character, cut_of, quoted, word_front, front};
+ghost use Rattle.m88_parse.specs.Inside.Tokens.{bounded, numeral, begins_escape, closes, inside_len, holds_escapes, character, cut_of, quoted, word_front, front};
 ghost use Rattle.m88_parse.specs.Language.Bytes.{is_blank, is_comment, is_plain, is_mark, is_escape, escape_value, are_digits};
+ghost use Rattle.m88_parse.specs.declared.fault.ParseKind.TheVariants.{Syntax};
 ghost use Rattle.m88_base.specs.Name.{continues_name};
 
 use crate::fault::ParseKind;
@@ -112,43 +113,23 @@ fn digit_of(b: u8) -> u64
     }
 }
 
-/// Whether each byte is a digit in a base.
-fn are_digits(base: u64, digits: &[u8]) -> bool
-    ensures { result ≡ are_digits base digits.now }
-{
-    digits.iter().all(|d| digit_of(*d) < base)
-}
-
-/// Whether a run is 0x and hexadecimal digits.
-fn is_hexadecimal(run: &[u8]) -> bool
-    ensures { result ≡ is_hexadecimal run.now }
-{
-    match run {
-        [b'0', b'x', digits @ ..] => !digits.is_empty() && are_digits(16, digits),
-        _ => false,
-    }
-}
-
-/// Whether a run is decimal digits without a needless 0 in front.
-fn is_decimal(run: &[u8]) -> bool
-    ensures { result ≡ is_decimal run.now }
-{
-    match run {
-        [b'0', _, ..] => false,
-        _ => are_digits(10, run),
-    }
-}
-
-/// The value of digits in a base, where it is below 2^32.
+/// The value of digits in a base, where it is below 2^32. A byte that is no digit of the base counts first, wherever it
+/// stands.
 fn value_of(base: u64, digits: &[u8]) -> Result<u32, ParseKind>
     requires least { 0 < base }
     requires most { base ≤ 16 }
-    ensures value { result ≡ bounded (digits_value base digits.now) }
+    ensures value { result
+        ≡ (if are_digits base digits.now then bounded (digits_value base digits.now) else Err Syntax) }
 {
     const LIMIT: u64 = 1 << 32;
     let mut value: u64 = 0;
     for d in digits {
-        value = (value * base + digit_of(*d)).min(LIMIT);
+        let digit = digit_of(*d);
+        if digit >= base {
+            return Err(ParseKind::Syntax);
+        }
+        // A value that is too great doesn't end the pass: a byte that is no digit may stand behind.
+        value = (value * base + digit).min(LIMIT);
     }
     if value < LIMIT {
         Ok(value as u32)
@@ -157,16 +138,15 @@ fn value_of(base: u64, digits: &[u8]) -> Result<u32, ParseKind>
     }
 }
 
-/// The number of a run that begins with a digit.
+/// The number of a run that begins with a digit: 0x and hexadecimal digits, or decimal digits without a needless 0 in
+/// front.
 fn numeral(run: &[u8]) -> Result<u32, ParseKind>
     ensures value { result ≡ numeral run.now }
 {
-    if is_hexadecimal(run) {
-        value_of(16, &run[2..])
-    } else if is_decimal(run) {
-        value_of(10, run)
-    } else {
-        Err(ParseKind::Syntax)
+    match run {
+        [b'0', b'x', _, ..] => value_of(16, &run[2..]),
+        [b'0', _, ..] => Err(ParseKind::Syntax),
+        _ => value_of(10, run),
     }
 }
 
