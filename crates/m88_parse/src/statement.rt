@@ -131,21 +131,13 @@ impl<'a> Parser<'a> {
         self.skip();
         let line = self.line();
         let mut body = Body::Empty;
-        if self.first().is_none() {
-            let col = label.1;
-            draft.add(
-                alloc,
-                Row::Statement(Statement {
-                    line,
-                    label: Some(label),
-                    col,
-                    body,
-                }),
-            )?;
-            return Ok(());
-        }
-        let col = self.place();
-        self.operation(alloc, &mut body)?;
+        let col = if self.first().is_none() {
+            label.1
+        } else {
+            let place = self.place();
+            self.operation(alloc, &mut body)?;
+            place
+        };
         draft.add(
             alloc,
             Row::Statement(Statement {
