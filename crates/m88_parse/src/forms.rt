@@ -33,7 +33,7 @@ fn most_width(op: BitOp) -> u32
 }
 
 impl<'a> Parser<'a> {
-    /// rD,rS1 and an immediate or a register.
+    /// rD,rS1 and an immediate or a register, into `out`.
     #[tactic(auto, unfolding(crate::specs::Inside::Grammar::read))]
     fn either(&mut self, imm: ImmOp, reg: RegOp, out: &mut Body) -> Result<(), ParseFault>
         ensures { Gives (λ _. out.new) result (read (either_form imm reg) self.old) }
@@ -54,7 +54,7 @@ impl<'a> Parser<'a> {
         self.close(out, body)
     }
 
-    /// rD,rS1 and an immediate.
+    /// rD,rS1 and an immediate, into `out`.
     #[tactic(auto, unfolding(crate::specs::Inside::Grammar::read))]
     fn immediate_form(&mut self, op: ImmOp, out: &mut Body) -> Result<(), ParseFault>
         ensures { Gives (λ _. out.new) result (read (immediate_form op) self.old) }
@@ -75,7 +75,7 @@ impl<'a> Parser<'a> {
         )
     }
 
-    /// rD,rS1,rS2
+    /// rD,rS1,rS2 into `out`.
     #[tactic(auto, unfolding(crate::specs::Inside::Grammar::read))]
     fn registers(&mut self, op: RegOp, out: &mut Body) -> Result<(), ParseFault>
         ensures { Gives (λ _. out.new) result (read (registers_form op) self.old) }
@@ -85,7 +85,7 @@ impl<'a> Parser<'a> {
         self.close(out, Body::Code(Instr::Regs { op, d, s1, s2 }, None))
     }
 
-    /// rD,rS1 and an immediate, a register, or a scaled register.
+    /// rD,rS1 and an immediate, a register, or a scaled register, into `out`.
     #[tactic(auto, unfolding(crate::specs::Inside::Grammar::read))]
     fn memory(&mut self, op: MemOp, out: &mut Body) -> Result<(), ParseFault>
         ensures { Gives (λ _. out.new) result (read (memory_form op) self.old) }
@@ -127,7 +127,7 @@ impl<'a> Parser<'a> {
         self.close(out, body)
     }
 
-    /// rD,rS1 and a register or a scaled register, in the user's address space.
+    /// rD,rS1 and a register or a scaled register, in the user's address space, into `out`.
     #[tactic(auto, unfolding(crate::specs::Inside::Grammar::read))]
     fn user_memory(&mut self, op: MemOp, out: &mut Body) -> Result<(), ParseFault>
         ensures { Gives (λ _. out.new) result (read (user_memory_form op) self.old) }
@@ -150,7 +150,7 @@ impl<'a> Parser<'a> {
         )
     }
 
-    /// rD,rS1[rS2]
+    /// rD,rS1[rS2] into `out`.
     #[tactic(auto, unfolding(crate::specs::Inside::Grammar::read))]
     fn address(&mut self, size: LdaSize, out: &mut Body) -> Result<(), ParseFault>
         ensures { Gives (λ _. out.new) result (read (address_form size) self.old) }
@@ -160,7 +160,7 @@ impl<'a> Parser<'a> {
         self.close(out, Body::Code(Instr::Lda { size, d, s1, s2 }, None))
     }
 
-    /// rD,rS1 and a width and an offset, or a register.
+    /// rD,rS1 and a width and an offset, or a register, into `out`.
     #[tactic(auto, unfolding(crate::specs::Inside::Grammar::read))]
     fn bits(&mut self, op: BitOp, out: &mut Body) -> Result<(), ParseFault>
         ensures { Gives (λ _. out.new) result (read (bits_form op) self.old) }
@@ -179,7 +179,7 @@ impl<'a> Parser<'a> {
         self.close(out, Body::Code(instr, None))
     }
 
-    /// rD,rS2
+    /// rD,rS2 into `out`.
     #[tactic(auto, unfolding(crate::specs::Inside::Grammar::read))]
     fn find_bit(&mut self, ones: bool, out: &mut Body) -> Result<(), ParseFault>
         ensures { Gives (λ _. out.new) result (read (find_bit_form ones) self.old) }
@@ -188,7 +188,7 @@ impl<'a> Parser<'a> {
         self.close(out, Body::Code(Instr::Find { ones, d, s2 }, None))
     }
 
-    /// A target.
+    /// A target, into `out`.
     #[tactic(auto, unfolding(crate::specs::Inside::Grammar::read))]
     fn branch(&mut self, link: bool, delayed: bool, out: &mut Body) -> Result<(), ParseFault>
         ensures { Gives (λ _. out.new) result (read (branch_form link delayed) self.old) }
@@ -207,7 +207,7 @@ impl<'a> Parser<'a> {
         )
     }
 
-    /// A bit, rS1 and a target.
+    /// A bit, rS1 and a target, into `out`.
     #[tactic(auto, unfolding(crate::specs::Inside::Grammar::read))]
     fn branch_bit(&mut self, set: bool, delayed: bool, out: &mut Body) -> Result<(), ParseFault>
         ensures { Gives (λ _. out.new) result (read (branch_bit_form set delayed) self.old) }
@@ -231,7 +231,7 @@ impl<'a> Parser<'a> {
         )
     }
 
-    /// A condition, rS1 and a target.
+    /// A condition, rS1 and a target, into `out`.
     #[tactic(auto, unfolding(crate::specs::Inside::Grammar::read))]
     fn branch_cond(&mut self, delayed: bool, out: &mut Body) -> Result<(), ParseFault>
         ensures { Gives (λ _. out.new) result (read (branch_cond_form delayed) self.old) }
@@ -254,7 +254,7 @@ impl<'a> Parser<'a> {
         )
     }
 
-    /// rS2
+    /// rS2 into `out`.
     #[tactic(auto, unfolding(crate::specs::Inside::Grammar::read))]
     fn jump(&mut self, link: bool, delayed: bool, out: &mut Body) -> Result<(), ParseFault>
         ensures { Gives (λ _. out.new) result (read (jump_form link delayed) self.old) }
@@ -263,7 +263,7 @@ impl<'a> Parser<'a> {
         self.close(out, Body::Code(Instr::Jump { link, delayed, s2 }, None))
     }
 
-    /// A bit, rS1 and a vector.
+    /// A bit, rS1 and a vector, into `out`.
     #[tactic(auto, unfolding(crate::specs::Inside::Grammar::read))]
     fn trap_bit(&mut self, set: bool, out: &mut Body) -> Result<(), ParseFault>
         ensures { Gives (λ _. out.new) result (read (trap_bit_form set) self.old) }
@@ -286,7 +286,7 @@ impl<'a> Parser<'a> {
         )
     }
 
-    /// A condition, rS1 and a vector.
+    /// A condition, rS1 and a vector, into `out`.
     #[tactic(auto, unfolding(crate::specs::Inside::Grammar::read))]
     fn trap_cond(&mut self, out: &mut Body) -> Result<(), ParseFault>
         ensures { Gives (λ _. out.new) result (read trap_cond_form self.old) }
@@ -298,7 +298,7 @@ impl<'a> Parser<'a> {
         self.close(out, Body::Code(Instr::TrapCond { mask, s1, vector }, None))
     }
 
-    /// rS1 and a number or a register.
+    /// rS1 and a number or a register, into `out`.
     #[tactic(auto, unfolding(crate::specs::Inside::Grammar::read))]
     fn bounds(&mut self, out: &mut Body) -> Result<(), ParseFault>
         ensures { Gives (λ _. out.new) result (read bounds_form self.old) }
@@ -311,7 +311,7 @@ impl<'a> Parser<'a> {
         self.close(out, Body::Code(instr, None))
     }
 
-    /// rD and a control register.
+    /// rD and a control register, into `out`.
     #[tactic(auto, unfolding(crate::specs::Inside::Grammar::read))]
     fn ldcr(&mut self, float: bool, out: &mut Body) -> Result<(), ParseFault>
         ensures { Gives (λ _. out.new) result (read (ldcr_form float) self.old) }
@@ -321,7 +321,7 @@ impl<'a> Parser<'a> {
         self.close(out, Body::Code(Instr::Ldcr { d, cr, float }, None))
     }
 
-    /// rS1 and a control register.
+    /// rS1 and a control register, into `out`.
     #[tactic(auto, unfolding(crate::specs::Inside::Grammar::read))]
     fn stcr(&mut self, float: bool, out: &mut Body) -> Result<(), ParseFault>
         ensures { Gives (λ _. out.new) result (read (stcr_form float) self.old) }
@@ -331,7 +331,7 @@ impl<'a> Parser<'a> {
         self.close(out, Body::Code(Instr::Stcr { s1, cr, float }, None))
     }
 
-    /// rD,rS1 and a control register.
+    /// rD,rS1 and a control register, into `out`.
     #[tactic(auto, unfolding(crate::specs::Inside::Grammar::read))]
     fn xcr(&mut self, float: bool, out: &mut Body) -> Result<(), ParseFault>
         ensures { Gives (λ _. out.new) result (read (xcr_form float) self.old) }
@@ -341,7 +341,7 @@ impl<'a> Parser<'a> {
         self.close(out, Body::Code(Instr::Xcr { d, s1, cr, float }, None))
     }
 
-    /// The operands of an instruction, to the end of the line.
+    /// The operands of an instruction, to the end of the line, and the body that they make into `out`.
     #[tactic(auto, unfolding(crate::specs::Inside::Grammar::form_of))]
     pub fn instruction(&mut self, shape: Shape, out: &mut Body) -> Result<(), ParseFault>
         ensures { Gives (λ _. out.new) result (read (form_of shape) self.old) }

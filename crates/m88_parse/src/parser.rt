@@ -136,7 +136,7 @@ impl<'a> Parser<'a> {
         }
     }
 
-    /// Puts down what was read, where the line ends here.
+    /// Puts what was read into `out`, where the line ends here.
     // Called, it would have each body made in one place and copied to another.
     #[inline(always)]
     #[tactic(auto, unfolding(crate::specs::Inside::Grammar::read))]

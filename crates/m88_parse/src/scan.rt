@@ -207,7 +207,8 @@ fn word_len(bytes: &[u8]) -> usize
 /// The character or text behind an opening quote.
 #[tactic(auto, using(crate::proofs::FrontBytes::between_quotes), unfolding(crate::specs::Inside::Tokens::quoted))]
 fn quoted(quote: u8, bytes: &[u8]) -> Result<Cut, Flaw>
-    ensures value { MatchResult result (λ c. quoted quote bytes.now ≡ Ok (cut_of (take c.len (quote ∷ bytes.now)) c))
+    ensures value { MatchResult result
+        (λ c. quoted quote bytes.now ≡ Ok (cut_of (take c.len (quote ∷ bytes.now)) c))
         (λ f. quoted quote bytes.now ≡ Err f) }
     ensures bound { IfOk result (λ c. (0 < c.len) × (c.len ≤ length bytes.now + 1)) }
     ensures place { IfErr result (λ f. f.at ≤ length bytes.now) }

@@ -36,7 +36,7 @@ fn mnemonic_of(name: &[u8]) -> Option<Mnemonic>
 }
 
 impl<'a> Parser<'a> {
-    /// .set: a symbol and its number.
+    /// .set: a symbol and its number, into `out`.
     #[tactic(auto, unfolding(crate::specs::Inside::Grammar::read, crate::specs::Inside::Grammar::directive_form))]
     fn set(&mut self, out: &mut Body) -> Result<(), ParseFault>
         ensures { Gives (λ _. out.new) result (read (directive_form Set) self.old) }
@@ -47,7 +47,7 @@ impl<'a> Parser<'a> {
         self.close(out, Body::Set { name, col, value })
     }
 
-    /// The operands of a directive, to the end of the line, and the body that they make into the caller's place.
+    /// The operands of a directive, to the end of the line, and the body that they make into `out`.
     #[tactic(auto, unfolding(crate::specs::Inside::Grammar::read, crate::specs::Inside::Grammar::directive_form))]
     fn directive(
         &mut self,
@@ -96,7 +96,7 @@ impl<'a> Parser<'a> {
         }
     }
 
-    /// An operation and its operands, to the end of the line, and the body that they make into the caller's place.
+    /// An operation and its operands, to the end of the line, and the body that they make into `out`.
     #[tactic(auto, unfolding(crate::specs::Inside::Source::operation_at))]
     fn operation(&mut self, alloc: Global, out: &mut Body) -> Result<(), ParseFault>
         ensures { Gives (λ _. out.new) result (operation_at self.old) }
