@@ -9,7 +9,7 @@ use Rattle.std.proofs.lemmas.List.{append-nil}
 use Rattle.std.proofs.lemmas.List.Sums.{sum_by-cons}
 use Rattle.std.proofs.lemmas.List.Concat.{length-flat_map}
 use Rattle.std.proofs.Math.Path.{fun_ext}
-use Rattle.m88_base.proofs.Lookup.{byte_among-append, byte_in-join, byte_in_above, byte_in_below, option_or-none, option_or_assoc}
+use Rattle.m88_base.proofs.Laws.{byte_among-append, byte_in-join, byte_in_above, byte_in_below, option_or-none, option_or_assoc}
 use Rattle.m88_base.specs.Placed.{Placed, byte_among, byte_in}
 use Rattle.m88_parse.specs.declared.unit.Body.{Body}
 use Rattle.m88_parse.specs.declared.unit.Body.TheVariants as body

@@ -9,7 +9,7 @@ use Rattle.std.proofs.lemmas.Nat.{mod_below}
 use Rattle.std.proofs.lemmas.Option.{slice_get-get_or}
 use Rattle.std.proofs.Math.Dec.{lit<}
 use Rattle.std.proofs.Math.Path.{fun_ext}
-use Rattle.m88_base.proofs.Lookup.{byte_in_from}
+use Rattle.m88_base.proofs.Laws.{byte_in_from}
 use Rattle.m88_base.specs.Image.{ProgramImage, byte_at}
 use Rattle.m88_base.specs.Placed.{Placed, byte_in}
 use Rattle.m88_base.specs.declared.fixup.Fixup.{Fixup}

@@ -4,8 +4,7 @@ use Rattle.std.specs.Option.{option_or}
 use Rattle.std.specs.List.{AllByRecursion}
 use Rattle.m88_base.specs.Image.{IsImage, ProgramImage, byte_at, byte_count, first_text}
 use Rattle.m88_base.specs.Placed.{byte_among, count_among}
-use Rattle.m88_link.proofs.Judged.{written_read}
-use Rattle.m88_link.proofs.Rooms.{all_sound, alone_is}
+use Rattle.m88_link.proofs.Laws.{all_sound, alone_apart, alone_is, same_count, written_read}
 use Rattle.m88_link.specs.Bases.{first_data, section_size, stood}
 use Rattle.m88_link.specs.Inside.Carried.{AreAlone}
 use Rattle.m88_link.specs.Inside.Drafts.{nothing_read, read_from}
@@ -27,7 +26,6 @@ use Rattle.m88_asm.specs.Objects.{objects_of}
 use Rattle.m88_asm.specs.Units.{based, unit_layout}
 use Rattle.m88_parse.specs.WellFormed.{IsWellFormed}
 use Rattle.m88_parse.specs.declared.unit.Unit.{Unit as Source}
-use Rattle.m88_link.proofs.Counted.{alone_apart, same_count}
 use Rattle.m88_asm.proofs.UnitSound.{modules_sound}
 
 -- the faults that name a symbol are those of the unit

@@ -1,4 +1,5 @@
--- What only helps the proofs: fields and uses, a module's statements, its object, and the image of a unit.
+-- What only helps the proofs: fields and uses, a module's statements, its object, and the image of a unit; Laws is for
+-- those above.
 pub mod FieldLaw
 pub mod Relocating
 pub mod Rooms
@@ -15,3 +16,4 @@ pub mod UnitRanges
 pub mod UnitSound
 pub mod ObjectTexts
 pub mod Layouts
+pub mod Laws

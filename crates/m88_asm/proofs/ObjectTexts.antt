@@ -30,8 +30,7 @@ use Rattle.m88_parse.specs.declared.unit.Value.{Value}
 use Rattle.m88_parse.specs.declared.unit.Value.TheVariants as word
 use Rattle.m88_asm.proofs.UnitRanges.{IsRangedBody, IsRangedFixup, IsRangedModule, IsRangedStatement, IsRangedValue, unit_ranged}
 use Rattle.m88_asm.proofs.UnitSound.{modules_sound}
-use Rattle.m88_parse.proofs.TokenBounds.{AreSmall}
-use Rattle.m88_parse.proofs.FormedUnits.{unit_formed}
+use Rattle.m88_parse.proofs.Laws.{AreSmall, unit_formed}
 
 -- lists by parts
 all_append : {A : Type 0} (P : A → Type 0) (xs ys : List A) → AllByRecursion P xs → AllByRecursion P ys

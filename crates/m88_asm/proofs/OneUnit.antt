@@ -6,8 +6,7 @@ use Rattle.m88_base.specs.Image.{IsImage, ProgramImage}
 use Rattle.m88_base.specs.OneVerdict.{HasOneFaultUnless}
 use Rattle.m88_parse.specs.WellFormed.{IsWellFormed}
 use Rattle.m88_parse.specs.declared.unit.Unit.{Unit as Source}
-use Rattle.m88_link.proofs.OneRefusal.{not_both, one_refusal}
-use Rattle.m88_link.proofs.OneRefusal as layout
+use Rattle.m88_link.proofs.Laws.{not_both, one_layout_verdict, one_refusal}
 use Rattle.m88_link.specs.Layout.{layout_of}
 use Rattle.m88_link.specs.Linked.{IsLinked}
 use Rattle.m88_link.specs.Refusal.{IsLinkable}
@@ -36,7 +35,7 @@ module _ (u : Source) where
     where
       by_statements : (o : Option AsmFault) → unit_fault u ≡ o → IsAcceptedUnit u ⊎ ((e : UnitFault) × IsFirstUnitFault u e)
       by_statements (Some e) first = inr (Asm e, first)
-      by_statements None none = elim (layout.one_verdict (unit_layout u)).some [
+      by_statements None none = elim (one_layout_verdict (unit_layout u)).some [
         | inl links ↦ inl (record { assembled = none; linkable = links.1 })
         | inr refused ↦ inr (Link refused.0, (none, refused.1))
       ]

@@ -11,7 +11,7 @@ use Rattle.m88_base.specs.declared.fixup.Kind.{Kind}
 use Rattle.m88_base.specs.declared.fixup.Kind.TheVariants.{Hi16, Lo16, Pc26, Pc16, Abs32}
 use Rattle.m88_base.specs.declared.reg.Reg.{Reg}
 use Rattle.m88_isa.specs.declared.instr.Instr.{Instr}
-use Rattle.m88_link.proofs.Walks.{front_of}
+use Rattle.m88_link.proofs.Laws.{front_of}
 use Rattle.m88_parse.specs.Language.Operands.{AreOperands, Behind, IsAddend, IsFixup, IsGoal, IsHalfOf, IsImmediate, IsSigned, IsSymbolOf, IsValue}
 use Rattle.m88_parse.specs.Language.Operands as operand
 use Rattle.m88_parse.specs.Language.Pieces.{Piece}
@@ -27,9 +27,7 @@ use Rattle.m88_parse.specs.declared.unit.Statement.{Statement}
 use Rattle.m88_parse.specs.declared.unit.Unit.{Unit as Source}
 use Rattle.m88_parse.specs.declared.unit.Value.{Value}
 use Rattle.m88_parse.specs.declared.unit.Value.TheVariants.{Number, Symbol}
-use Rattle.m88_parse.proofs.FormedOperands.{signed_small}
-use Rattle.m88_parse.proofs.TokenBounds.{AreShort, AreSmall, IsInLine, lines_short, tokens_in_line}
-use Rattle.m88_parse.proofs.FormedUnits.{lines_few}
+use Rattle.m88_parse.proofs.Laws.{AreShort, AreSmall, IsInLine, lines_few, lines_short, signed_small, tokens_in_line}
 
 -- a fixup whose parts are in range
 pub record IsRangedFixup (f : Fixup) : Type 0 where

@@ -7,7 +7,7 @@ use Rattle.std.proofs.lemmas.Bool.{cond-false, cond_both, eqb-true}
 use Rattle.std.proofs.lemmas.Bool.Decides.{nat_tests}
 use Rattle.std.proofs.lemmas.List.Elements.{All-from_get_or}
 use Rattle.m88_base.specs.Image.{most_bytes}
-use Rattle.m88_link.proofs.Parts.{repeats_none}
+use Rattle.m88_link.proofs.Laws.{repeats_none}
 use Rattle.m88_link.specs.Sound.{HasRoom, IsSound}
 use Rattle.m88_link.specs.Symbols.{repeated_after}
 use Rattle.m88_link.specs.declared.object.Object.{Object}

@@ -5,8 +5,7 @@ use Rattle.std.proofs.Common.{arith, refl, sym, ap, ◌∙◌, subst}
 use Rattle.std.proofs.lemmas.List.Elements.{All-head, All-tail}
 use Rattle.m88_base.specs.Reg.{number_of, with_register}
 use Rattle.m88_base.specs.RegisterSet.{with_member}
-use Rattle.m88_isa.proofs.Apart.{loaded_first, stored_first}
-use Rattle.m88_isa.proofs.Late.{r0_waits_not}
+use Rattle.m88_isa.proofs.Laws.{loaded_first, r0_waits_not, stored_first}
 use Rattle.m88_isa.specs.Bus.{after_accesses, bus_after_all, loaded, stored}
 use Rattle.m88_isa.specs.Memory.{IsWordAccess}
 use Rattle.m88_isa.specs.declared.planned.Access.{Access}

@@ -3,12 +3,12 @@ use Rattle.std.specs.Prelude.{ℕ, Bool, List, Option, ◌≡◌, ◌==◌, unwr
 use Rattle.std.specs.Int.{bit_at}
 use Rattle.std.proofs.Common.{ap, ap₂, ◌∙◌}
 use Rattle.m88_ctrl.specs.ControlRegisters.{carry_place}
-use Rattle.m88_event.proofs.Over.{drained_bus}
+use Rattle.m88_event.proofs.Laws.{drained_bus}
 use Rattle.m88_event.specs.Run.{outcome_at}
 use Rattle.m88_event.specs.Timeline.{Moment}
 use Rattle.m88_event.specs.declared.happened.End.{End}
 use Rattle.m88_event.specs.declared.happened.End.TheVariants.{Limit}
-use Rattle.m88_isa.proofs.ImageProgram.{program_of_image}
+use Rattle.m88_isa.proofs.Laws.{program_of_image}
 use Rattle.m88_isa.specs.Bus.{changed_words}
 use Rattle.m88_isa.specs.Machine.{Program, opening, state}
 use Rattle.m88_mem.specs.DataBus.{bus_of, image_bus}

@@ -4,7 +4,7 @@ use Rattle.std.specs.Prelude.{ℕ, Bool, true, false, not, List, [], Option, Som
 use Rattle.std.proofs.Common.{arith, refl, sym, ap, ap₂, ◌∙◌, subst}
 use Rattle.std.proofs.lemmas.Bool.{eqb-true}
 use Rattle.m88_ctrl.specs.ControlRegisters.{carry_of}
-use Rattle.m88_event.proofs.Over.{drained_bus, issued_of, outcome_seen}
+use Rattle.m88_event.proofs.Laws.{drained_bus, issued_of, outcome_seen}
 use Rattle.m88_event.specs.Local.{Local, local_at}
 use Rattle.m88_event.specs.Run.{outcome_at, outcome_by}
 use Rattle.m88_event.specs.Timeline.{Moment, end_of_turn, is_drained, is_idle, is_over}

@@ -7,7 +7,7 @@ use Rattle.m88_ctrl.specs.ControlRegisters.{ControlRegisters}
 use Rattle.m88_event.specs.Choice.{faults, touches_page}
 use Rattle.m88_event.specs.Shadow.{status_of}
 use Rattle.m88_event.specs.declared.record.Record.{Record}
-use Rattle.m88_isa.proofs.InWords.{cells_bus}
+use Rattle.m88_isa.proofs.Laws.{cells_bus}
 use Rattle.m88_isa.specs.Bus.{LoadApart, Cells, after_accesses, waits_for}
 use Rattle.m88_isa.specs.Memory.{IsWordAccess}
 use Rattle.m88_isa.specs.declared.planned.Access.{Access}

@@ -1,7 +1,7 @@
 -- What the letter `i` comes to, by what is fetched for it.
 use Rattle.std.specs.Prelude.{ℕ, Bool, true, false, not, List, [], ◌∷◌, Option, Some, None, MatchOption, ◌≡◌, ◌<◌, ◌%◌, ◌^◌, ◌&&◌, if◌then◌else◌, is_none}
 use Rattle.std.specs.Int.{to_be_bytes, w32}
-use Rattle.m88_codec.proofs.Law.{one_reading}
+use Rattle.m88_codec.proofs.Laws.{one_reading}
 use Rattle.m88_mem.specs.Lines.{IsLine}
 use Rattle.m88_mem.specs.declared.lines.Line.{Line}
 use Rattle.std.proofs.Common.{arith, inl, inr, refl, sym, ap, ap₂, ◌∙◌, subst}
@@ -11,8 +11,7 @@ use Rattle.m88_base.specs.declared.slot.Slot.{Slot}
 use Rattle.m88_event.specs.Choice.{Choice, idles, issue_choice, next_choice, passes}
 use Rattle.m88_event.specs.Local.{choice_by, situation_of}
 use Rattle.m88_event.specs.declared.letter.Letter.TheVariants.{Issue}
-use Rattle.m88_isa.proofs.Held.{none_passes}
-use Rattle.m88_isa.proofs.ImageProgram.{instruction_at_word}
+use Rattle.m88_isa.proofs.Laws.{instruction_at_word, none_passes}
 use Rattle.m88_isa.specs.Bus.{waits_for}
 use Rattle.m88_isa.specs.Held.{Hold, busy_register, fetched_instruction, held}
 use Rattle.m88_isa.specs.History.{Completed}

@@ -11,9 +11,7 @@ use Rattle.m88_dunit.specs.Pending.{CanIssue}
 use Rattle.m88_event.specs.Choice.{issues}
 use Rattle.m88_event.specs.Shadow.{status_of}
 use Rattle.m88_event.specs.declared.record.Record.{Record}
-use Rattle.m88_isa.proofs.Alone.{by_test}
-use Rattle.m88_isa.proofs.Late.{late_change}
-use Rattle.m88_isa.proofs.Turns.{listed_recorded}
+use Rattle.m88_isa.proofs.Laws.{by_test, late_change, listed_recorded}
 use Rattle.m88_isa.specs.Bus.{LoadApart, after_accesses, listed, waits_for}
 use Rattle.m88_isa.specs.Effect.{Change, recorded_change}
 use Rattle.m88_isa.specs.Held.{most_pending}

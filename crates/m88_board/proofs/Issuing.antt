@@ -2,7 +2,7 @@
 use Rattle.std.specs.Prelude.{ℕ, Bool, true, false, List, [], ◌∷◌, ◌++◌, Option, Some, None, ◌≡◌, ◌<◌, ◌≤◌, ◌+◌, ◌==◌, ◌&&◌, ◌||◌, is_some, length, slice_get, slice_index, if◌then◌else◌}
 use Rattle.std.proofs.Common.{arith, refl, sym, ap, ◌∙◌, subst}
 use Rattle.std.proofs.lemmas.Bool.Decides.{nat_tests}
-use Rattle.m88_base.proofs.Same.{same_reg}
+use Rattle.m88_base.proofs.Laws.{same_reg}
 use Rattle.m88_base.specs.Reg.{number_of, reg_of}
 use Rattle.m88_base.specs.declared.reg.Reg.{Reg}
 use Rattle.m88_ctrl.specs.ControlRegisters.{carry_of, mxm_of}
@@ -10,11 +10,7 @@ use Rattle.m88_event.specs.Choice.{Choice, holds, issues, next_choice, turn_choi
 use Rattle.m88_event.specs.declared.happened.Happened.TheVariants as happened
 use Rattle.m88_event.specs.declared.happened.Why.TheVariants.{Busy}
 use Rattle.m88_event.specs.declared.record.Record.{Record}
-use Rattle.m88_isa.proofs.Alone.{by_test}
-use Rattle.m88_isa.proofs.Apart.{issue_stays_apart}
-use Rattle.m88_isa.proofs.Held.{meaning_seen}
-use Rattle.m88_isa.proofs.Plans.{at_most_two, touches_counted}
-use Rattle.m88_isa.proofs.Turns.{listed_recorded, traps_wait}
+use Rattle.m88_isa.proofs.Laws.{at_most_two, by_test, issue_stays_apart, listed_recorded, meaning_seen, touches_counted, traps_wait}
 use Rattle.m88_isa.specs.Bus.{LoadApart, after_accesses, listed}
 use Rattle.m88_isa.specs.Effect.{Change, Meaning, goes, meaning_of, plan_for, plan_of_outline, raises, recorded_change, traps}
 use Rattle.m88_isa.specs.Held.{Hold, busy, busy_register, exceeds, full, held, is_pending, most_pending, needs_empty, sync}

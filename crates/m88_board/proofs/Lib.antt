@@ -1,3 +1,4 @@
+-- What only helps the proofs, in the order of docs/ARCHITECTURE.md; Laws is for those above.
 pub mod Agree
 pub mod Choosing
 pub mod Steps
@@ -39,3 +40,4 @@ pub mod Suspending
 pub mod Briefly
 pub mod CameTo
 pub mod Telling
+pub mod Laws

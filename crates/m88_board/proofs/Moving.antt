@@ -2,9 +2,7 @@
 use Rattle.std.specs.Prelude.{ℕ, Bool, false, List, [], ◌∷◌, ◌≡◌, ◌≤◌, ◌+◌, ◌-◌, length}
 use Rattle.std.proofs.Common.{arith, refl, sym, ap, ◌∙◌, subst}
 use Rattle.std.proofs.lemmas.List.{length-drop}
-use Rattle.m88_event.proofs.Follows.{law, same_said, stays_within}
-use Rattle.m88_event.proofs.Past.{keeps_past}
-use Rattle.m88_event.proofs.Precise.{precise_by}
+use Rattle.m88_event.proofs.Laws.{keeps_past, moves_as_seen, precise_by, same_said, stays_within}
 use Rattle.m88_event.specs.Choice.{Choice, ServesOrEnds, answer_choice, evicts, faults, finishes, holds, idles, issues, passes, replies, said, serves}
 use Rattle.m88_event.specs.Local.{Local, choice_by, move, move_by, record_by, said_by, situation_of, with_move_counted}
 use Rattle.m88_event.specs.Past.{HasPast}
@@ -49,7 +47,7 @@ along p named m letter old h new is at moved = record {
   within = stays_within p named old.limit letter m at.within;
   past = subst (λ limit. HasPast p limit (after_letter p named old.limit letter m)) (sym moved.same.limit)
       (keeps_past p named old.limit letter m at.within at.past);
-  seen = moved.moved ∙ ap (move p old.limit letter) at.seen ∙ law p named old.limit letter m is at.within;
+  seen = moved.moved ∙ ap (move p old.limit letter) at.seen ∙ moves_as_seen p named old.limit letter m is at.within;
 }
 
 -- the same of a board whose events are counted behind it

@@ -7,9 +7,8 @@ use Rattle.std.proofs.lemmas.Nat.{from_be_bytes-to_be_bytes_4}
 use Rattle.m88_base.specs.Image.{ProgramImage, byte_at}
 use Rattle.m88_base.specs.Reg.{number_of, with_register}
 use Rattle.m88_base.specs.declared.reg.Reg.{Reg}
-use Rattle.m88_codec.proofs.Law.{one_reading}
-use Rattle.m88_isa.proofs.Alone.{by_test}
-use Rattle.m88_isa.proofs.Words.{word_small}
+use Rattle.m88_codec.proofs.Laws.{one_reading}
+use Rattle.m88_isa.proofs.Laws.{by_test, word_small}
 use Rattle.m88_isa.specs.ImageProgram.{HasWordOf, IsInstructionAt, IsProgramOf}
 use Rattle.m88_isa.specs.Machine.{Program, State, Turn, after_touch, after_touches, changes, fetched, four_bytes, opening, outputs, state, state_after, stepped, stops, turn_at, with_written}
 use Rattle.m88_isa.specs.Memory.{Touch}

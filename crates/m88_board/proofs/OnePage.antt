@@ -3,8 +3,7 @@ use Rattle.std.specs.Prelude.{ℕ, ℤ, Bool, true, false, not, [], ◌≡◌, �
 use Rattle.std.proofs.Common.{arith, refl}
 use Rattle.std.proofs.lemmas.Bool.{eqb-true}
 use Rattle.m88_base.specs.declared.reg.Reg.{Reg}
-use Rattle.m88_isa.proofs.Alone.{by_test}
-use Rattle.m88_isa.proofs.Plans.{rounded_fits}
+use Rattle.m88_isa.proofs.Laws.{by_test, rounded_fits}
 use Rattle.m88_isa.specs.Address.{address, after_bytes}
 use Rattle.m88_isa.specs.Compute.{immediate, registers}
 use Rattle.m88_isa.specs.Effect.{accesses, branches, checks, computes, controls, effect, indexed, inputs_of, meaning_of, plan_for, traps_if}

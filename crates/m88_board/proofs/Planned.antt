@@ -7,9 +7,7 @@ use Rattle.std.proofs.lemmas.List.Elements.{All-nil}
 use Rattle.m88_base.specs.Reg.{number_of}
 use Rattle.m88_dunit.specs.Pending.{CanIssue}
 use Rattle.m88_event.specs.Choice.{issues}
-use Rattle.m88_isa.proofs.Alone.{by_test}
-use Rattle.m88_isa.proofs.Held.{written_waits_not}
-use Rattle.m88_isa.proofs.Plans.{at_most_two}
+use Rattle.m88_isa.proofs.Laws.{at_most_two, by_test, written_waits_not}
 use Rattle.m88_isa.specs.Bus.{listed, waits_for}
 use Rattle.m88_isa.specs.Effect.{Change, FlowsToWords, MakesAccesses, WritesWithin, plan_for, recorded_change}
 use Rattle.m88_isa.specs.Held.{busy_register, is_pending, most_pending}

@@ -6,21 +6,19 @@ use Rattle.std.proofs.Math.Path.{fun_ext}
 use Rattle.std.proofs.lemmas.Bool.{eqb-false, eqb-true}
 use Rattle.std.proofs.lemmas.Bool.Decides.{nat_tests}
 use Rattle.std.proofs.lemmas.Nat.Bits.{bit_at-lt}
-use Rattle.m88_base.proofs.RegisterBits.{bit_of_member}
+use Rattle.m88_base.proofs.Laws.{bit_of_member}
 use Rattle.m88_base.specs.Reg.{number_of}
 use Rattle.m88_base.specs.RegisterSet.{bits_below, register_bits, with_member}
 use Rattle.m88_base.specs.Triple.{no_triple}
 use Rattle.m88_base.specs.declared.triple.Triple.{Triple}
 use Rattle.m88_ctrl.specs.ControlRegisters.{ControlRegisters, returned}
 use Rattle.m88_event.specs.declared.record.Record.{Record}
-use Rattle.m88_isa.proofs.Alone.{by_test}
-use Rattle.m88_isa.proofs.Apart.{loaded_first, stored_first}
-use Rattle.m88_isa.proofs.Late.{r0_waits_not}
+use Rattle.m88_isa.proofs.Laws.{by_test, loaded_first, r0_waits_not, stored_first}
 use Rattle.m88_isa.specs.Bus.{LoadApart, waits_for}
 use Rattle.m88_isa.specs.Memory.{IsWordAccess}
 use Rattle.m88_isa.specs.Triples.{finished, triple_or_none}
 use Rattle.m88_isa.specs.declared.planned.Access.{Access}
-use Rattle.m88_monitor.proofs.Steps.{same_triple}
+use Rattle.m88_monitor.proofs.Laws.{same_triple}
 use Rattle.m88_monitor.specs.Serving.{Serving, after_service, with_finished, with_loaded, without_bit}
 use Rattle.m88_board.proofs.Service.{steps_of, three_steps}
 use Rattle.m88_board.specs.Shown.{IsRecordOf, ShowsFault, rest_of}

@@ -4,13 +4,13 @@ use Rattle.std.specs.Int.{bit_at}
 use Rattle.std.proofs.Common.{arith, sym, ap, ◌∙◌}
 use Rattle.std.proofs.lemmas.Bool.{eqb-false}
 use Rattle.std.proofs.lemmas.Nat.Bits.{bit_at-lt}
-use Rattle.m88_base.proofs.RegisterBits.{bit_of_member}
+use Rattle.m88_base.proofs.Laws.{bit_of_member}
 use Rattle.m88_base.specs.Image.{byte_at}
 use Rattle.m88_base.specs.RegisterSet.{register_bits}
 use Rattle.m88_base.specs.Slot.{squashed_slot, valid_slot, slot_word}
 use Rattle.m88_base.specs.declared.slot.Slot.{Slot}
 use Rattle.m88_base.specs.declared.triple.Triple.{Triple}
-use Rattle.m88_event.proofs.Follows.{same_situation}
+use Rattle.m88_event.proofs.Laws.{same_situation}
 use Rattle.m88_event.specs.Local.{Local, record_by, situation_of}
 use Rattle.m88_event.specs.Shadow.{fip_of, nip_of}
 use Rattle.m88_event.specs.Situation.{record_of}

@@ -9,16 +9,13 @@ use Rattle.m88_base.specs.Image.{ProgramImage}
 use Rattle.m88_base.specs.Slot.{IsWordSlot, no_slot, slot_of, slot_word}
 use Rattle.m88_base.specs.declared.slot.Slot.{Slot}
 use Rattle.m88_ctrl.specs.ControlRegisters.{ControlRegisters, carry_place}
-use Rattle.m88_event.proofs.Follows.{ended_is}
-use Rattle.m88_event.proofs.Over.{drained_bus}
+use Rattle.m88_event.proofs.Laws.{drained_bus, ended_is}
 use Rattle.m88_event.specs.Local.{Local, local_at}
 use Rattle.m88_event.specs.Past.{HasPast}
 use Rattle.m88_event.specs.Shadow.{fip_of, nip_of, retired_pointer, status_of}
 use Rattle.m88_event.specs.Timeline.{Moment, end_of_turn, nip_at, xip_at}
 use Rattle.m88_event.specs.declared.happened.End.{End}
-use Rattle.m88_isa.proofs.AtWords.{state_straight, state_words}
-use Rattle.m88_isa.proofs.Counted.{twice_at_most}
-use Rattle.m88_isa.proofs.ImageProgram.{program_of_image}
+use Rattle.m88_isa.proofs.Laws.{program_of_image, state_straight, state_words, twice_at_most}
 use Rattle.m88_isa.specs.Address.{after_bytes}
 use Rattle.m88_isa.specs.Bus.{after_accesses}
 use Rattle.m88_isa.specs.Held.{is_stop}

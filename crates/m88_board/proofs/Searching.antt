@@ -6,8 +6,7 @@ use Rattle.std.specs.Int.{bit_at}
 use Rattle.std.proofs.lemmas.Bool.{eqb-false}
 use Rattle.std.proofs.lemmas.Nat.Bits.{bit_at_and, bit_at_or, bit_at-lt, bit_at-zero}
 use Rattle.m88_base.specs.RegisterSet.{registers_in}
-use Rattle.m88_isa.proofs.Alone.{by_test}
-use Rattle.m88_isa.proofs.Held.{none_passes}
+use Rattle.m88_isa.proofs.Laws.{by_test, none_passes}
 use Rattle.m88_isa.specs.Bus.{waits_for}
 use Rattle.m88_isa.specs.Held.{busy_register, first_from, involves}
 use Rattle.m88_isa.specs.Operands.{uses_of, writes_of}

@@ -8,14 +8,13 @@ use Rattle.std.proofs.lemmas.List.Elements.{All-head, All-tail}
 use Rattle.m88_base.specs.Pages.{page_number}
 use Rattle.m88_base.specs.Triple.{no_triple}
 use Rattle.m88_base.specs.declared.triple.Triple.{Triple}
-use Rattle.m88_isa.proofs.Told.{told_of, valid_of}
+use Rattle.m88_isa.proofs.Laws.{by_test, told_of, valid_of}
 use Rattle.m88_event.specs.Choice.{touches_page}
-use Rattle.m88_isa.proofs.Alone.{by_test}
 use Rattle.m88_isa.specs.Bus.{Cells, after_accesses}
 use Rattle.m88_isa.specs.Memory.{IsWordAccess}
 use Rattle.m88_isa.specs.Triples.{access_in, is_valid_triple, triple_of, triple_or_none}
 use Rattle.m88_isa.specs.declared.planned.Access.{Access}
-use Rattle.m88_monitor.proofs.Steps.{same_triple}
+use Rattle.m88_monitor.proofs.Laws.{same_triple}
 use Rattle.m88_board.specs.Kept.{HasReadyPage}
 use Rattle.m88_monitor.specs.Serving.{CanServe, CanServeTriple, Serving, after_access_at, after_service, after_triple, triple_at}
 

@@ -6,13 +6,11 @@ use Rattle.std.proofs.lemmas.Bool.{eqb-false, eqb-true}
 use Rattle.m88_base.specs.Image.{byte_at}
 use Rattle.m88_base.specs.Reg.{number_of}
 use Rattle.m88_ctrl.specs.ControlRegisters.{carry_of, mxm_of}
-use Rattle.m88_event.proofs.Follows.{ended_is}
-use Rattle.m88_event.proofs.Over.{same_over}
+use Rattle.m88_event.proofs.Laws.{ended_is, same_over}
 use Rattle.m88_event.specs.Local.{Local, is_over_by, local_at, register_seen, register_shown}
 use Rattle.m88_event.specs.Shadow.{fip_of, nip_of, status_of}
 use Rattle.m88_event.specs.Timeline.{Moment, is_over, nip_at}
-use Rattle.m88_isa.proofs.Alone.{by_test}
-use Rattle.m88_isa.proofs.Late.{same_after_accesses}
+use Rattle.m88_isa.proofs.Laws.{by_test, same_after_accesses}
 use Rattle.m88_isa.specs.Bus.{Cells, after_access, after_accesses, loaded, waits_for}
 use Rattle.m88_isa.specs.Held.{is_pending}
 use Rattle.m88_isa.specs.History.{bus_at, completed_state, pending_at}

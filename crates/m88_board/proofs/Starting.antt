@@ -7,7 +7,7 @@ use Rattle.m88_base.specs.Image.{IsImage, ProgramImage}
 use Rattle.m88_base.specs.Slot.{no_slot}
 use Rattle.m88_base.specs.declared.absent.Absent.{Absent}
 use Rattle.m88_ctrl.specs.ControlRegisters.{ControlRegisters, at_start, carry_of, mxm_of}
-use Rattle.m88_event.proofs.Past.{opens_with}
+use Rattle.m88_event.proofs.Laws.{opens_with}
 use Rattle.m88_event.specs.Local.{Local, local_at}
 use Rattle.m88_event.specs.declared.record.Record.{Record}
 use Rattle.m88_isa.specs.declared.planned.Access.{Access}

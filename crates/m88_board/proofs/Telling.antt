@@ -2,7 +2,7 @@
 use Rattle.std.specs.Prelude.{ℕ, Bool, List, [], ◌∷◌, Option, ◌≡◌}
 use Rattle.std.proofs.Common.{sym, ap, ap₂, subst, ◌∙◌}
 use Rattle.m88_base.specs.Image.{byte_at}
-use Rattle.m88_event.proofs.Follows.{same_situation}
+use Rattle.m88_event.proofs.Laws.{same_situation}
 use Rattle.m88_event.specs.Choice.{Choice, choice_of, issues, said}
 use Rattle.m88_event.specs.Local.{Local, choice_by, local_at}
 use Rattle.m88_event.specs.Timeline.{Moment, choice_at}

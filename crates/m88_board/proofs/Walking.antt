@@ -3,7 +3,7 @@ use Rattle.std.specs.Prelude.{ℕ, zero, suc, Bool, false, not, List, [], ◌∷
 use Rattle.std.proofs.Common.{add-one, arith, refl, sym, ap, ap₂, ◌∙◌, subst}
 use Rattle.std.proofs.Math.Path.{fun_ext}
 use Rattle.std.proofs.lemmas.Bool.{eqb-false, eqb-true}
-use Rattle.m88_event.proofs.Over.{drained_seen}
+use Rattle.m88_event.proofs.Laws.{drained_seen}
 use Rattle.m88_event.specs.Choice.{Choice, evicts, faults, finishes, holds, idles, issues, passes, replies, serves}
 use Rattle.m88_event.specs.Letters.{letter_at}
 use Rattle.m88_event.specs.Local.{Local}
@@ -12,7 +12,7 @@ use Rattle.m88_event.specs.Run.{IsFirst, IsRun, IsRunning, NotBefore, letters_fr
 use Rattle.m88_event.specs.Timeline.{Moment, after_choice, after_letter, choice_at, is_drained, is_over, opening_moment, record_at}
 use Rattle.m88_event.specs.declared.letter.Letter.{Letter}
 use Rattle.m88_event.specs.declared.record.Record.{Record}
-use Rattle.m88_isa.proofs.Alone.{by_test}
+use Rattle.m88_isa.proofs.Laws.{by_test}
 use Rattle.m88_isa.specs.Held.{is_pending}
 use Rattle.m88_isa.specs.ImageProgram.{IsProgramOf}
 use Rattle.m88_isa.specs.Machine.{Program}

@@ -2,14 +2,14 @@
 use Rattle.std.specs.Prelude.{ℕ, Bool, true, false, not, List, ◌≡◌, ◌<◌, ◌≤◌, ◌+◌, length}
 use Rattle.std.proofs.Common.{arith, refl, sym, ap, ap₂, ◌∙◌, subst}
 use Rattle.m88_base.specs.Image.{IsImage}
-use Rattle.m88_codec.proofs.ImagePrograms.{program_in, program_in_holds}
-use Rattle.m88_event.proofs.Bound.{answered_lessens, lessens, stays_in_limit, weight_most}
+use Rattle.m88_codec.proofs.Laws.{program_in, program_in_holds}
+use Rattle.m88_event.proofs.Laws.{answered_lessens, lessens, stays_in_limit, weight_most}
 use Rattle.m88_event.specs.Bound.{weight}
 use Rattle.m88_event.specs.Letters.{letter_at, most_letters}
 use Rattle.m88_event.specs.Local.{Local, is_over_by, move}
 use Rattle.m88_event.specs.declared.letter.Letter.{Letter}
 use Rattle.m88_event.specs.declared.letter.Letter.TheVariants.{Answer}
-use Rattle.m88_isa.proofs.ImageProgram.{program_of_image}
+use Rattle.m88_isa.proofs.Laws.{program_of_image}
 use Rattle.m88_isa.specs.Held.{is_pending}
 use Rattle.m88_isa.specs.ImageProgram.{IsProgramOf}
 use Rattle.m88_isa.specs.Machine.{Program}

@@ -7,14 +7,13 @@ use Rattle.m88_link.specs.ObjectRead.{IsSoundText}
 use Rattle.m88_link.specs.Refusal.{IsLinkable, IsRefused}
 use Rattle.m88_link.specs.Sound.{IsSound}
 use Rattle.m88_link.specs.declared.object.Object.{Object}
-use Rattle.m88_asm.proofs.Instructions.{bytes_law}
-use Rattle.m88_asm.proofs.Reaching.{linkable_law, linked_law}
+use Rattle.m88_asm.proofs.Laws.{bytes_law, linkable_law, linkable_too, linked_law, linked_too, modules_sound, objects_have_text, one_text, refused_first, refused_too}
 use Rattle.m88_asm.specs.Accepted.{IsAcceptedUnit}
 use Rattle.m88_asm.specs.Faults.{IsAssembled}
 use Rattle.m88_asm.specs.Images.{IsUnitImage}
 use Rattle.m88_asm.specs.Objects.{objects_of}
 use Rattle.m88_asm.specs.Units.{unit_layout}
-use Rattle.m88_parse.proofs.Law.Faults.{one_verdict}
+use Rattle.m88_parse.proofs.Laws.{one_verdict, unit_formed}
 use Rattle.m88_parse.specs.Language.Units.{IsUnit}
 use Rattle.m88_parse.specs.declared.unit.Unit.{Unit as Source}
 use Rattle.m88_cli.specs.Answer.{IsAnswerToAccepted, IsAnswerToRefused}
@@ -25,10 +24,6 @@ use Rattle.m88_cli.specs.Objects.{IsLinkableText, IsRefusedObjects}
 use Rattle.m88_base.specs.Refusal.{Refusal}
 use Rattle.m88_cli.proofs.OneObjects.{no_form, no_range}
 use Rattle.m88_cli.proofs.OneSource.{one_refusal}
-use Rattle.m88_asm.proofs.Layouts.{linkable_too, linked_too, one_text, refused_first, refused_too}
-use Rattle.m88_asm.proofs.ObjectTexts.{objects_have_text}
-use Rattle.m88_asm.proofs.UnitSound.{modules_sound}
-use Rattle.m88_parse.proofs.FormedUnits.{unit_formed}
 use Rattle.m88_cli.proofs.Linked.{readable, recorded}
 use Rattle.m88_cli.proofs.ObjectReplies.{linked_text}
 use Rattle.m88_cli.proofs.OneUnit.{not_assembled}

@@ -1,10 +1,10 @@
 -- `build` of a listing that `dis` writes of S-records writes the records of their image.
 use Rattle.std.proofs.Common.{◌≡◌, ℕ, List, Option, refl, ap, sym, subst}
-use Rattle.m88_base.proofs.SameRuns.{same_images}
+use Rattle.m88_base.proofs.Laws.{same_images}
 use Rattle.m88_base.specs.Image.{IsImage, ProgramImage, byte_at}
-use Rattle.m88_disasm.proofs.Again.{listing_again}
+use Rattle.m88_disasm.proofs.Laws.{listing_again}
 use Rattle.m88_disasm.specs.Listing.{IsListing}
-use Rattle.m88_srec.proofs.Law.{verdict_takes}
+use Rattle.m88_srec.proofs.Laws.{verdict_takes}
 use Rattle.m88_srec.specs.Accepted.{IsAccepted, Whole, whole_of}
 use Rattle.m88_srec.specs.Written.{srec_text}
 use Rattle.m88_cli.specs.Answer.{IsAnswerToAccepted}

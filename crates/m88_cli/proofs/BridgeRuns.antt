@@ -4,16 +4,16 @@ use Rattle.std.proofs.Math.Path.{fun_ext}
 use Rattle.m88_base.specs.Image.{ProgramImage, byte_at, byte_count}
 use Rattle.m88_isa.specs.ImageProgram.{IsInstructionAt}
 use Rattle.m88_isa.specs.Machine.{Program}
-use Rattle.m88_parse.proofs.Law.Faults.{one_verdict}
+use Rattle.m88_parse.proofs.Laws.{one_verdict, unit_formed}
 use Rattle.m88_parse.specs.Language.Units.{IsUnit}
 use Rattle.m88_parse.specs.declared.unit.Unit.{Unit as Source}
 use Rattle.m88_link.specs.Layout.{Layout}
 use Rattle.m88_link.specs.Linked.{IsLinked, start_address}
-use Rattle.m88_asm.proofs.Instructions.{bytes_law, instructions_law}
+use Rattle.m88_asm.proofs.Laws.{bytes_law, instructions_law}
 use Rattle.m88_asm.specs.Accepted.{IsAcceptedUnit}
 use Rattle.m88_asm.specs.Images.{IsUnitImage}
 use Rattle.m88_asm.specs.Units.{unit_layout}
-use Rattle.m88_srec.proofs.Trip.{image_is_accepted}
+use Rattle.m88_srec.proofs.Laws.{image_is_accepted}
 use Rattle.m88_srec.specs.Accepted.{IsAccepted, whole_of}
 use Rattle.m88_event.specs.declared.outcome.Outcome.{Outcome}
 use Rattle.m88_report.specs.Report.{report_of}
@@ -23,7 +23,6 @@ use Rattle.m88_cli.specs.Command.{build}
 use Rattle.m88_cli.specs.Inside.Linking.{HoldsUnit}
 use Rattle.m88_cli.specs.Runs.{ComesTo, IsLoadedProgram, IsReport, IsSourceProgram}
 use Rattle.m88_cli.specs.Settings.{Settings}
-use Rattle.m88_parse.proofs.FormedUnits.{unit_formed}
 use Rattle.m88_cli.proofs.Linked.{readable}
 use Rattle.m88_cli.proofs.Programs.{Held, held_by, one_loaded_program, one_source_program}
 

@@ -5,15 +5,14 @@ use Rattle.std.specs.Char.{is_ascii_digit}
 use Rattle.std.specs.List.{All, list_all}
 use Rattle.std.proofs.lemmas.List.Elements.{All-cons, All-nil}
 use Rattle.std.proofs.lemmas.List.Sums.{list_all-from_AllPass}
-use Rattle.m88_base.proofs.Lines.{and_false, front_by}
+use Rattle.std.proofs.lemmas.Bool.{and_parts}
+use Rattle.std.proofs.Math.Bool.{and-false}
+use Rattle.m88_base.proofs.Laws.{front_by}
 use Rattle.m88_base.specs.Lines.{begins_with_lf, behind_line, carriage_return, line_end, line_feed, lines_of, on_first_line}
 use Rattle.m88_base.specs.Name.{IsName, continues_name}
 use Rattle.m88_base.specs.Parted.{IsParted, LacksLine, behind_lines}
 use Rattle.m88_isa.specs.Mnemonic.{all_mnemonics, text_of}
-use Rattle.m88_parse.proofs.Law.FirstToken.{decimal_run, hexadecimal_run}
-use Rattle.m88_parse.proofs.Law.Statements.{row_for}
-use Rattle.m88_parse.proofs.Law.TestsAndChoices.{both}
-use Rattle.m88_parse.proofs.Law.Units.{row_again}
+use Rattle.m88_parse.proofs.Laws.{decimal_run, hexadecimal_run, row_again, row_for}
 use Rattle.m88_parse.specs.Inside.Directives.{all_directives, directive_text}
 use Rattle.m88_parse.specs.Inside.Source.{operation_at, row_at, row_of_line}
 use Rattle.m88_parse.specs.Inside.Tokens.{front, pieces}
@@ -178,8 +177,8 @@ only_last b last (c ∷ more) e =
 
 -- a test that all bytes pass is one that the last passes
 last_passes : (p : ℕ → Bool) (text : List ℕ) (last : ℕ) → list_all p (text ++ last ∷ []) ≡ true → p last ≡ true
-last_passes p [] last h = (both (p last) true h).0
-last_passes p (b ∷ text) last h = last_passes p text last (both (p b) (list_all p (text ++ last ∷ [])) h).1
+last_passes p [] last h = (and_parts (p last) true h).0
+last_passes p (b ∷ text) last h = last_passes p text last (and_parts (p b) (list_all p (text ++ last ∷ [])) h).1
 
 -- the last byte of a text, CR, is none of a name
 no_name_byte : (front text : List ℕ) → text ≡ front ++ carriage_return ∷ [] → AreNameBytes text → ⊥
@@ -326,7 +325,7 @@ last_cut : (b : ℕ) (v : Bool) → (b == line_feed) ≡ v
 unfolding lines_of
 last_cut b true e = all_same (lines_of (b ∷ []))
 last_cut b false e =
-    let own : lines_of (b ∷ []) ≡ (b ∷ []) ∷ [] = front_by b [] false false e (and_false (b == carriage_return)) in
+    let own : lines_of (b ∷ []) ≡ (b ∷ []) ∷ [] = front_by b [] false false e (and-false (b == carriage_return)) in
     let cut : lines_of (b ∷ line_end) ≡ cond (b == carriage_return) ([] ∷ []) ((b ∷ []) ∷ []) =
     front_by b line_end false (b == carriage_return) e (and_true (b == carriage_return)) in
     subst₂ AreCut (sym own) (sym cut) (last_lines b (b == carriage_return) refl)

@@ -3,12 +3,12 @@ use Rattle.std.specs.Prelude.{ℕ, Bool, true, List, [], ◌∷◌, ◌++◌, Op
 use Rattle.std.proofs.Common.{add-one, append_assoc, arith, append-nil, refl, sym, ap, ap₂, ◌∙◌, subst, inl, inr, drop-cons, get_or}
 use Rattle.std.proofs.lemmas.List.{drop_all}
 use Rattle.std.proofs.lemmas.List.Sums.{sum_by-append}
-use Rattle.m88_event.proofs.Over.{one_first}
+use Rattle.m88_event.proofs.Laws.{one_first}
 use Rattle.m88_event.specs.Timeline.{opening_moment}
 use Rattle.m88_event.specs.declared.letter.Letter.{Letter}
 use Rattle.m88_isa.specs.Address.{word_address}
 use Rattle.m88_isa.specs.Machine.{IsProgram, Program}
-use Rattle.m88_board.proofs.Seeing.{saw_none, saw_then}
+use Rattle.m88_board.proofs.Laws.{saw_none, saw_then}
 use Rattle.m88_board.specs.Board.{BoardView}
 use Rattle.m88_board.specs.Glances.{Saw}
 use Rattle.m88_board.specs.Moves.{IsAt}

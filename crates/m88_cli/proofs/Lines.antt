@@ -9,8 +9,7 @@ use Rattle.m88_board.specs.Board.{BoardView, completed_of}
 use Rattle.m88_board.specs.Moves.{IsAt}
 use Rattle.m88_event.specs.Local.{register_seen}
 use Rattle.m88_report.specs.Report.{word_line}
-use Rattle.m88_board.proofs.AtMoment.{done_at, events_at, registers_seen, retired_at}
-use Rattle.m88_board.proofs.Shown.{pending_seen}
+use Rattle.m88_board.proofs.Laws.{done_at, events_at, pending_seen, registers_seen, retired_at}
 use Rattle.m88_cli.specs.MonitorLines.{counts_line, counts_text, registers_at, words_from}
 
 -- the counts

@@ -1,13 +1,13 @@
 -- What a source is assembled and linked into answers it.
 use Rattle.std.proofs.Common.{◌≡◌, ◌<◌, ◌≤◌, ◌^◌, List, ℕ, length, ap, arith, sym, ◌∙◌, subst}
 use Rattle.m88_base.specs.Image.{ProgramImage}
-use Rattle.m88_base.proofs.SameRuns.{same_images}
+use Rattle.m88_base.proofs.Laws.{same_images}
 use Rattle.m88_link.specs.ObjectText.{objects_text}
 use Rattle.m88_link.specs.declared.object.Object.{Object}
 use Rattle.m88_asm.specs.Accepted.{IsAcceptedUnit}
 use Rattle.m88_asm.specs.Images.{IsUnitImage}
 use Rattle.m88_parse.specs.Language.Units.{IsUnit}
-use Rattle.m88_parse.proofs.Law.Faults.{one_verdict}
+use Rattle.m88_parse.proofs.Laws.{one_verdict}
 use Rattle.m88_srec.specs.Written.{srec_text}
 use Rattle.m88_parse.specs.declared.unit.Unit.{Unit as Source}
 use Rattle.m88_cli.specs.Answer.{IsAnswerToAccepted}

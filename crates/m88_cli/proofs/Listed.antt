@@ -1,9 +1,9 @@
 -- The listing of the image that S-records write answers them.
 use Rattle.std.proofs.Common.{◌≡◌, List, ℕ, ap, subst}
 use Rattle.m88_base.specs.Image.{IsImage, ProgramImage}
-use Rattle.m88_base.proofs.SameRuns.{same_images}
+use Rattle.m88_base.proofs.Laws.{same_images}
 use Rattle.m88_disasm.specs.Listing.{IsListing}
-use Rattle.m88_srec.proofs.Law.{verdict_takes}
+use Rattle.m88_srec.proofs.Laws.{verdict_takes}
 use Rattle.m88_srec.specs.Accepted.{IsAccepted, Whole, whole_of}
 use Rattle.m88_cli.specs.Answer.{IsAnswerToAccepted}
 use Rattle.m88_cli.specs.Command.{dis}

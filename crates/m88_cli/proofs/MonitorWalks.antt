@@ -7,8 +7,7 @@ use Rattle.m88_event.specs.Run.{IsDrain, IsDraining, IsFirst, NotBefore, answere
 use Rattle.m88_event.specs.Timeline.{Moment, after_letter, is_over}
 use Rattle.m88_event.specs.declared.letter.Letter.{Letter}
 use Rattle.m88_isa.specs.Machine.{Program}
-use Rattle.m88_board.proofs.Seeing.{saw_none, saw_then}
-use Rattle.m88_board.proofs.Walking.{not_yet}
+use Rattle.m88_board.proofs.Laws.{not_yet, saw_none, saw_then}
 use Rattle.m88_board.specs.Board.{BoardView}
 use Rattle.m88_board.specs.Glances.{Saw, glance_at, glances_along}
 use Rattle.m88_board.specs.Moves.{IsAlong, IsAt, IsSameRun, IsStep}

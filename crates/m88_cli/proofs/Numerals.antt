@@ -3,15 +3,15 @@ use Rattle.std.proofs.Common.{◌≡◌, Option, ℕ, ◌≤◌, List, [], ◌�
 use Rattle.std.specs.Prelude.{IfSome, if◌then◌else◌}
 use Rattle.std.specs.Char.{digit_value, is_digit}
 use Rattle.std.specs.Str.Parse.{AllDigits, IsNumeral, digits_value}
-use Rattle.std.proofs.lemmas.Bool.{leb-true, lt-ltb, ltb-true}
-use Rattle.m88_base.proofs.Digits.{are_digits, both, tells}
+use Rattle.std.proofs.lemmas.Bool.{and_parts, leb-true, lt-ltb, ltb-true}
+use Rattle.m88_base.proofs.Laws.{are_digits, tells}
 use Rattle.m88_base.specs.Numerals.{is_numeral, number_in}
 use Rattle.m88_cli.specs.Numbers.{IsShortNumber}
 
 -- the test of digits, and what digits are
 all_are : (base : ℕ) (ds : List ℕ) → are_digits base ds ≡ true → AllDigits base ds
 all_are base [] e = tt
-all_are base (d ∷ ds) e = let k = both (is_digit d base) (are_digits base ds) e in (ltb-true (digit_value d) base k.0, all_are base ds k.1)
+all_are base (d ∷ ds) e = let k = and_parts (is_digit d base) (are_digits base ds) e in (ltb-true (digit_value d) base k.0, all_are base ds k.1)
 
 are_all : (base : ℕ) (ds : List ℕ) → AllDigits base ds → are_digits base ds ≡ true
 are_all base [] h = refl
@@ -19,7 +19,7 @@ are_all base (d ∷ ds) h = ap (λ t. t && are_digits base ds) (lt-ltb (digit_va
 
 -- the test of a numeral says that it is one
 numeral : (base : ℕ) (text : List ℕ) → is_numeral base text ≡ true → IsNumeral base text
-numeral base text e = let k = both (nat_le 1 (length text)) (are_digits base text) e in (leb-true 1 (length text) k.0, all_are base text k.1)
+numeral base text e = let k = and_parts (nat_le 1 (length text)) (are_digits base text) e in (leb-true 1 (length text) k.0, all_are base text k.1)
 
 -- what is answered of a number is its value
 told : (a b : Bool) (v n : ℕ) → (if a && b then Some v else None) ≡ Some n → (a ≡ true) × (v ≡ n)

@@ -1,9 +1,8 @@
 -- A text of objects can be linked or has one refusal, and is linked into one image.
 use Rattle.std.proofs.Common.{◌≡◌, ℕ, List, inl, inr, ap, sym, ◌∙◌, subst}
 use Rattle.m88_base.specs.Image.{ProgramImage}
-use Rattle.m88_base.proofs.SameRuns.{same_images}
-use Rattle.m88_link.proofs.OneRefusal.{not_both, one_refusal}
-use Rattle.m88_link.proofs.OneText.{one_verdict}
+use Rattle.m88_base.proofs.Laws.{same_images}
+use Rattle.m88_link.proofs.Laws.{not_both, one_refusal, one_text_verdict}
 use Rattle.m88_link.specs.Layout.{layout_of}
 use Rattle.m88_link.specs.Linked.{IsLinked}
 use Rattle.m88_link.specs.ObjectRead.{IsFormLine, IsRangeLine, IsSoundText}
@@ -16,24 +15,24 @@ use Rattle.m88_base.specs.Refusal.{Refusal}
 
 -- a text is that of one list of sound objects
 one_list : (text : List ℕ) (os ps : List Object) → IsSoundText os text → IsSoundText ps text → os ≡ ps
-one_list text os ps a b = (one_verdict text).one_value os ps a b
+one_list text os ps a b = (one_text_verdict text).one_value os ps a b
 
 -- which no line refuses
 pub no_form : (text : List ℕ) (os : List Object) (n : ℕ) → IsSoundText os text → IsFormLine text n → ⊥
-no_form text os n a form = (one_verdict text).not_both os (Form n) a form
+no_form text os n a form = (one_text_verdict text).not_both os (Form n) a form
 
 pub no_range : (text : List ℕ) (os : List Object) (n : ℕ) → IsSoundText os text → IsRangeLine text n → ⊥
-no_range text os n a range = (one_verdict text).not_both os (Range n) a range
+no_range text os n a range = (one_text_verdict text).not_both os (Range n) a range
 
 -- so one line is the first of its kind, and there are no lines of both kinds
 one_form : (text : List ℕ) (m n : ℕ) → IsFormLine text m → IsFormLine text n → m ≡ n
-one_form text m n a b = let same = (one_verdict text).one_fault (Form m) (Form n) a b in cc
+one_form text m n a b = let same = (one_text_verdict text).one_fault (Form m) (Form n) a b in cc
 
 one_range : (text : List ℕ) (m n : ℕ) → IsRangeLine text m → IsRangeLine text n → m ≡ n
-one_range text m n a b = let same = (one_verdict text).one_fault (Range m) (Range n) a b in cc
+one_range text m n a b = let same = (one_text_verdict text).one_fault (Range m) (Range n) a b in cc
 
 one_kind : (text : List ℕ) (m n : ℕ) → IsRangeLine text m → IsFormLine text n → ⊥
-one_kind text m n a b = let same = (one_verdict text).one_fault (Range m) (Form n) a b in absurd cc
+one_kind text m n a b = let same = (one_text_verdict text).one_fault (Range m) (Form n) a b in absurd cc
 
 -- a text that is refused can't be linked
 pub not_linkable : (text : List ℕ) (r : Refusal) → IsLinkableText text → IsRefusedObjects text r → ⊥

@@ -2,7 +2,7 @@
 use Rattle.std.proofs.Common.{◌≡◌, ℕ, ◌+◌, List, [], ◌∷◌, ◌++◌, Bool, true, false, length, append_assoc, inl, inr, refl, sym, ◌∙◌, subst}
 use Rattle.std.specs.Prelude.{◌⊎◌}
 use Rattle.std.proofs.lemmas.List.{append-nil}
-use Rattle.m88_base.proofs.PartedLines.{parted_told}
+use Rattle.m88_base.proofs.Laws.{parted_told}
 use Rattle.m88_base.specs.Lines.{lines_of}
 use Rattle.m88_base.specs.OneVerdict.{HasOneVerdict}
 use Rattle.m88_cli.specs.Script.{AreScriptLines, HasNoScript, IsScriptOf, ScriptParts, StopsScript, WritesCommand, source_line, stopped, stopped_alone, unended}

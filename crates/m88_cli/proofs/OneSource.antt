@@ -2,14 +2,13 @@
 use Rattle.std.proofs.Common.{◌≡◌, ℕ, List, ap, inl, inr, refl, sym, ◌∙◌}
 use Rattle.std.specs.Prelude.{◌⊎◌}
 use Rattle.m88_base.specs.OneVerdict.{HasOneFaultUnless}
-use Rattle.m88_link.proofs.OneRefusal as layouts
-use Rattle.m88_link.proofs.OneText as texts
+use Rattle.m88_link.proofs.Laws.{one_layout_verdict, one_text_verdict}
 use Rattle.m88_link.specs.Layout.{layout_of}
 use Rattle.m88_link.specs.ObjectRead.{IsSoundText, IsTextFault}
 use Rattle.m88_link.specs.declared.object.Object.{Object}
 use Rattle.m88_link.specs.declared.object_fault.ObjectFault.{ObjectFault}
 use Rattle.m88_link.specs.declared.object_fault.ObjectFault.TheVariants.{Form, Range, Memory}
-use Rattle.m88_srec.proofs.Law as records
+use Rattle.m88_srec.proofs.Laws.{one_verdict as one_record_verdict}
 use Rattle.m88_cli.specs.Answer.{Accepts, Refuses}
 use Rattle.m88_cli.specs.Assembly.{IsRefusedProgram, IsRefusedSource}
 use Rattle.m88_cli.specs.Command.{Command, InputKind, no_input, source_to_assemble, source_to_link, object_text, record_text, scripted_source, sources_to_link, traced_source, kind_of}
@@ -29,30 +28,30 @@ use Rattle.m88_cli.proofs.TracedInputs as traces
 
 -- S-records that are refused are none that are accepted
 not_loaded : (text : List ℕ) (r : Refusal) → IsRecords text → IsRefusedRecords text r → ⊥
-not_loaded text r accepted refused = (records.one_verdict text).not_both accepted.0 refused.fault accepted.1 refused.is_first
+not_loaded text r accepted refused = (one_record_verdict text).not_both accepted.0 refused.fault accepted.1 refused.is_first
 
 -- they have one refusal
 same_records : (text : List ℕ) (r s : Refusal) → IsRefusedRecords text r → IsRefusedRecords text s → r ≡ s
 same_records text r s a b =
-    let fault = (records.one_verdict text).one_fault a.fault b.fault a.is_first b.is_first in
+    let fault = (one_record_verdict text).one_fault a.fault b.fault a.is_first b.is_first in
     a.refusal ∙ ap srec_refusal fault ∙ sym b.refusal
 
 -- S-records are accepted or refused
 records_or_refusal : (text : List ℕ) → IsRecords text ⊎ ((r : Refusal) × IsRefusedRecords text r)
-records_or_refusal text = elim (records.one_verdict text).some [
+records_or_refusal text = elim (one_record_verdict text).some [
   | inl accepted ↦ inl accepted
   | inr fault ↦ inr (_, record { fault = fault.0; is_first = fault.1; refusal = refl })
 ]
 
 -- object texts are linked or refused
 objects_or_refusal : (text : List ℕ) → IsLinkableText text ⊎ ((r : Refusal) × IsRefusedObjects text r)
-objects_or_refusal text = elim (texts.one_verdict text).some [
+objects_or_refusal text = elim (one_text_verdict text).some [
   | inl sound ↦ by_layout sound.0 sound.1
   | inr fault ↦ inr (by_fault fault.0 fault.1)
 ]
   where
     by_layout : (os : List Object) → IsSoundText os text → IsLinkableText text ⊎ ((r : Refusal) × IsRefusedObjects text r)
-    by_layout os is_text = elim (layouts.one_verdict (layout_of os)).some [
+    by_layout os is_text = elim (one_layout_verdict (layout_of os)).some [
       | inl links ↦ inl (record { objects = os; is_text = is_text; is_linkable = links.1 })
       | inr fault ↦ inr (_, inr (inr (record { objects = os; is_text = is_text; fault = fault.0; is_refused = fault.1; refusal = refl })))
     ]

@@ -3,12 +3,12 @@
 use Rattle.std.proofs.Common.{◌≡◌, List, ℕ, Option, None, Some, ap, inl, inr, refl, sym, subst, ◌∙◌}
 use Rattle.std.specs.Prelude.{◌⊎◌}
 use Rattle.m88_base.specs.Refusal.{Refusal}
-use Rattle.m88_parse.proofs.Law.Faults.{one_verdict}
+use Rattle.m88_parse.proofs.Laws.{one_verdict}
 use Rattle.m88_parse.specs.Language.Units.{IsUnit}
 use Rattle.m88_parse.specs.declared.unit.Unit.{Unit as Source}
-use Rattle.m88_link.proofs.OneRefusal.{not_both, one_refusal}
+use Rattle.m88_link.proofs.Laws.{not_both, one_refusal}
 use Rattle.m88_link.specs.Refusal.{IsLinkable, IsRefused}
-use Rattle.m88_asm.proofs.OneUnit as units
+use Rattle.m88_asm.proofs.Laws.{one_verdict as one_unit_verdict}
 use Rattle.m88_asm.specs.Accepted.{IsFirstUnitFault}
 use Rattle.m88_asm.specs.Faults.{IsAssembled, unit_fault}
 use Rattle.m88_asm.specs.Units.{unit_layout}
@@ -87,7 +87,7 @@ assembly_or_refusal source = elim (one_verdict source).some [
 pub program_or_refusal : (n : ℕ) (source : List ℕ) → IsProgramSource source ⊎ ((r : Refusal) × IsRefusedProgram n source r)
 program_or_refusal n source = elim (one_verdict source).some [
   | inr fault ↦ inr (_, inl (inl (record { fault = fault.0; is_first = fault.1; refusal = refl })))
-  | inl unit ↦ elim (units.one_verdict unit.0).some [
+  | inl unit ↦ elim (one_unit_verdict unit.0).some [
     | inl accepted ↦ inl (record { unit = unit.0; is_unit = unit.1; is_accepted = accepted.1 })
     | inr fault ↦ inr (by_fault unit.0 unit.1 fault.0 fault.1)
   ]

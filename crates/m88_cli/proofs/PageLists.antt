@@ -8,7 +8,7 @@ use Rattle.m88_base.specs.Cut.{Lacks}
 use Rattle.m88_base.specs.Pages.{no_page, every_page}
 use Rattle.m88_cli.specs.Numbers.{IsShortNumber}
 use Rattle.m88_cli.specs.Pages.{ArePageNumbers, IsAbsent, IsPageNumber, comma, in_decimal, in_hexadecimal, more_numbers, most_numbers, one_number}
-use Rattle.m88_base.proofs.Marks.{cut_once, none_in_digits, not_cut}
+use Rattle.m88_base.proofs.Laws.{cut_once, none_in_digits, not_cut}
 
 -- the first digit
 first_digit : (base : ℕ) (text : List ℕ) → IsNumeral base text → digit_value (get_or text 0 0) < base

@@ -1,7 +1,7 @@
 -- What is told of a paged run answers the source, whose image holds the program.
 use Rattle.std.proofs.Common.{◌≡◌, ℕ, Bool, false, List, ap, sym, ◌∙◌}
 use Rattle.m88_base.specs.Image.{ProgramImage}
-use Rattle.m88_event.proofs.Over.{one_outcome}
+use Rattle.m88_event.proofs.Laws.{one_outcome}
 use Rattle.m88_event.specs.Run.{IsOutcome}
 use Rattle.m88_event.specs.declared.letter.Letter.{Letter}
 use Rattle.m88_event.specs.declared.outcome.Outcome.{Outcome}

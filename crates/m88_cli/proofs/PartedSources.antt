@@ -2,7 +2,7 @@
 use Rattle.std.proofs.Common.{◌≡◌, ℕ, zero, suc, ◌+◌, ◌≤◌, List, [], ◌∷◌, ◌++◌, Some, length, length-append, append_assoc, ap, inl, inr, refl, sym, ◌∙◌, subst, arith}
 use Rattle.std.specs.Prelude.{slice_get}
 use Rattle.std.proofs.lemmas.List.{length-map, map-append}
-use Rattle.m88_base.proofs.PartedLines.{one_parting, parted_or_not, parted_told}
+use Rattle.m88_base.proofs.Laws.{one_parting, parted_or_not, parted_told}
 use Rattle.m88_base.specs.Lines.{lines_of}
 use Rattle.m88_base.specs.Parted.{IsParted, LacksLine}
 use Rattle.m88_cli.specs.Inside.Placing.{all_placed, placed}

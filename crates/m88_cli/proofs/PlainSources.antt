@@ -28,11 +28,7 @@ use Rattle.m88_asm.specs.declared.fault.AsmFault.{AsmFault}
 use Rattle.m88_asm.specs.declared.fault.AsmKind.TheVariants as kind
 use Rattle.m88_disasm.specs.Read.{unlabelled}
 use Rattle.m88_disasm.specs.Text.{instr_text}
-use Rattle.m88_disasm.proofs.Accepting.{defined_symbols, faults_cons, opened_in, opened_sections, set_in, uses_of}
-use Rattle.m88_disasm.proofs.Linking.{hits_cons, lengths_cons, lengths_of}
-use Rattle.m88_disasm.proofs.Rows.{Stated, numbered, unit_is, unit_of_bodies}
-use Rattle.m88_disasm.proofs.Spoken.{Spoken, said_instr}
-use Rattle.m88_disasm.proofs.Standing.{located_cons, located_none}
+use Rattle.m88_disasm.proofs.Laws.{Spoken, Stated, defined_symbols, faults_cons, hits_cons, lengths_cons, lengths_of, located_cons, located_none, numbered, opened_in, opened_sections, said_instr, set_in, unit_is, unit_of_bodies, uses_of}
 use Rattle.m88_cli.specs.Assembly.{IsProgramSource}
 use Rattle.m88_cli.specs.Limits.{most_statements}
 use Rattle.m88_cli.specs.Workload.{drawn_statement, workload_source}

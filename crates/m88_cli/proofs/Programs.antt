@@ -6,17 +6,16 @@ use Rattle.std.specs.Prelude.{unwrap_or}
 use Rattle.std.proofs.Math.Path.{fun_ext}
 use Rattle.std.proofs.lemmas.Nat.{from_be_bytes-to_be_bytes_4}
 use Rattle.m88_base.specs.Image.{IsImage, ProgramImage, byte_at}
-use Rattle.m88_isa.proofs.Words.{word_small}
+use Rattle.m88_isa.proofs.Laws.{word_small}
 use Rattle.m88_isa.specs.ImageProgram.{HasWordOf, IsInstructionAt, IsProgramOf}
 use Rattle.m88_isa.specs.Machine.{Program}
 use Rattle.m88_isa.specs.Word.{IsWord}
 use Rattle.m88_isa.specs.declared.instr.Instr.{Instr}
-use Rattle.m88_codec.proofs.ImagePrograms.{program_in, program_in_holds}
-use Rattle.m88_codec.proofs.Law.{one_reading}
-use Rattle.m88_parse.proofs.Law.Faults.{one_verdict}
+use Rattle.m88_codec.proofs.Laws.{one_reading, program_in, program_in_holds}
+use Rattle.m88_parse.proofs.Laws.{one_verdict}
 use Rattle.m88_parse.specs.declared.unit.Unit.{Unit as Source}
 use Rattle.m88_asm.specs.Images.{IsUnitInstruction, IsUnitProgram, placed_instruction, unit_byte}
-use Rattle.m88_srec.proofs.Law.{verdict_takes}
+use Rattle.m88_srec.proofs.Laws.{verdict_takes}
 use Rattle.m88_srec.specs.Accepted.{Whole, whole_of}
 use Rattle.m88_cli.specs.Assembly.{IsProgramSource}
 use Rattle.m88_cli.specs.Inside.Linking.{HoldsUnit}

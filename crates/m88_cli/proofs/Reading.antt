@@ -4,7 +4,7 @@ use Rattle.std.specs.Int.{to_be_bytes, w32}
 use Rattle.std.specs.Result.{result_ok}
 use Rattle.std.proofs.Common.{refl, sym, ap, ◌∙◌}
 use Rattle.m88_base.specs.Image.{ProgramImage, byte_at}
-use Rattle.m88_isa.proofs.ImageProgram.{instruction_at_word}
+use Rattle.m88_isa.proofs.Laws.{instruction_at_word}
 use Rattle.m88_isa.specs.Held.{fetched_instruction, instruction_at}
 use Rattle.m88_isa.specs.ImageProgram.{IsProgramOf}
 use Rattle.m88_isa.specs.Machine.{Program, four_bytes}

@@ -5,7 +5,7 @@ use Rattle.m88_base.specs.Image.{ProgramImage}
 use Rattle.m88_base.specs.declared.failing.NoMemory.{NoMemory}
 use Rattle.m88_isa.specs.ImageProgram.{IsProgramOf}
 use Rattle.m88_isa.specs.Machine.{Program}
-use Rattle.m88_event.proofs.Over.{one_outcome}
+use Rattle.m88_event.proofs.Laws.{one_outcome}
 use Rattle.m88_event.specs.Choice.{Choice, evicts, faults, finishes, holds, idles, issues, passes, replies, serves}
 use Rattle.m88_event.specs.Letters.{letter_at}
 use Rattle.m88_event.specs.Run.{IsOutcome, IsRunning, moment_after, moment_along, outcome_at}
@@ -13,7 +13,7 @@ use Rattle.m88_event.specs.Timeline.{Moment, after_choice, after_letter, choice_
 use Rattle.m88_event.specs.declared.letter.Letter.{Letter}
 use Rattle.m88_event.specs.declared.outcome.Outcome.{Outcome}
 use Rattle.m88_event.specs.declared.record.Record.{Record}
-use Rattle.m88_board.proofs.Seeing.{saw_none}
+use Rattle.m88_board.proofs.Laws.{saw_none}
 use Rattle.m88_board.specs.Glances.{Saw, glances_along}
 use Rattle.m88_board.specs.declared.glance.Glance.{Glance}
 use Rattle.m88_report.specs.Report.{report_of}

@@ -8,7 +8,7 @@ use Rattle.m88_base.specs.Cut.{Lacks}
 use Rattle.m88_cli.specs.Script.{HasOperand, IsCount, AreMemoryOperands, WritesAddress, WritesCommand, most_steps, most_words}
 use Rattle.m88_cli.specs.declared.script.MonitorCommand.{MonitorCommand}
 use Rattle.m88_cli.specs.declared.script.MonitorCommand.TheVariants.{Step, Go, Break, Regs, Pipe, Memory, Drain, Trace}
-use Rattle.m88_base.proofs.Marks.{cut_once, none_in_digits}
+use Rattle.m88_base.proofs.Laws.{cut_once, none_in_digits}
 
 -- the first byte of a command's line
 abbrev letter_of : MonitorCommand → ℕ

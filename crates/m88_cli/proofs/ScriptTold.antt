@@ -3,8 +3,7 @@ use Rattle.std.proofs.Common.{◌≡◌, ℕ, ◌≤◌, List, [], ◌∷◌, �
 use Rattle.std.specs.Prelude.{◌⊎◌, ◌&&◌, codes, if◌then◌else◌, nat_le}
 use Rattle.std.specs.Str.Parse.{digits_value}
 use Rattle.std.proofs.lemmas.Bool.{cases_eq, leb-true}
-use Rattle.m88_base.proofs.Decided.{at_most, same_text}
-use Rattle.m88_base.proofs.Splitting.{cut_found, split_first}
+use Rattle.m88_base.proofs.Laws.{at_most, cut_found, same_text, split_first}
 use Rattle.m88_base.specs.Cut.{Lacks, split_at_byte}
 use Rattle.m88_base.specs.Numerals.{is_numeral, number_in}
 use Rattle.m88_cli.specs.Numbers.{IsShortNumber}

@@ -6,7 +6,7 @@ use Rattle.std.proofs.lemmas.List.Sums.{sum_by-append}
 use Rattle.std.specs.Prelude.{Option, Some, None, Bool, true, false, not, ◌&&◌, ◌||◌, cond, nat_lt, ◌≢◌}
 use Rattle.std.proofs.lemmas.Bool.{cases_order, lt-ltb, ltb-false, ltb-true}
 use Rattle.m88_base.specs.Lines.{lines_of}
-use Rattle.m88_base.proofs.PartedLines.{one_parting, parted_or_not}
+use Rattle.m88_base.proofs.Laws.{one_parting, parted_or_not}
 use Rattle.m88_cli.specs.Script.{AreScriptLines, HasNoScript, IsScript, StopsScript, WriteCommands, WritesCommand, is_break, most_breaks, most_commands, source_line, stopped, stopped_alone, unended}
 use Rattle.m88_cli.specs.Inside.ScriptWords.{has_room}
 use Rattle.m88_cli.specs.declared.script.MonitorCommand.{MonitorCommand}

@@ -15,7 +15,7 @@ use Rattle.m88_parse.specs.declared.unit.Body.TheVariants.{Code}
 use Rattle.m88_parse.specs.Language.Mnemonics.{imm_name, mem_name, reg_name}
 use Rattle.m88_disasm.specs.Read.{said_body}
 use Rattle.m88_disasm.specs.Text.{instr_text, register_name, spelled}
-use Rattle.m88_disasm.proofs.Names.{imm_short, mem_short, reg_short}
+use Rattle.m88_disasm.proofs.Laws.{imm_short, mem_short, reg_short}
 use Rattle.m88_cli.proofs.Drawing.{seed_next, source_more}
 use Rattle.m88_cli.specs.Workload.{draw, drawn_address, drawn_instruction, drawn_register, drawn_statement, seed_after, workload_source}
 use Rattle.m88_base.specs.Lines.{line_end}

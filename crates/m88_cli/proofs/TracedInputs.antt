@@ -1,7 +1,7 @@
 -- An input of a source and the lines of a trace is accepted or has one refusal, never both.
 use Rattle.std.proofs.Common.{◌≡◌, ℕ, ◌+◌, List, ap, inl, inr, refl, sym, ◌∙◌, subst}
 use Rattle.std.specs.Prelude.{◌⊎◌, false}
-use Rattle.m88_base.proofs.PartedLines.{one_parting, parted_or_not, parted_told}
+use Rattle.m88_base.proofs.Laws.{one_parting, parted_or_not, parted_told}
 use Rattle.m88_base.specs.Refusal.{Refusal}
 use Rattle.m88_trace.proofs.Laws.{one_verdict_of}
 use Rattle.m88_cli.specs.Assembly.{IsProgramSource, IsRefusedProgram}

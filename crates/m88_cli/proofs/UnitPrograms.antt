@@ -6,11 +6,10 @@ use Rattle.std.specs.Prelude.{IfSome, get_or, leb, slice_get, unwrap_or}
 use Rattle.std.proofs.lemmas.Bool.{eqb-false, eqb-true}
 use Rattle.std.proofs.lemmas.Nat.{from_be_bytes-to_be_bytes_4}
 use Rattle.std.proofs.lemmas.Option.{none-some}
-use Rattle.m88_base.proofs.Decided.{same_text}
+use Rattle.m88_base.proofs.Laws.{same_text}
 use Rattle.m88_base.specs.Image.{IsImage, ProgramImage, byte_at, byte_count}
-use Rattle.m88_codec.proofs.ImagePrograms.{program_in, program_in_holds}
-use Rattle.m88_isa.proofs.Alone.{by_test}
-use Rattle.m88_isa.proofs.Words.{word_small}
+use Rattle.m88_codec.proofs.Laws.{program_in, program_in_holds}
+use Rattle.m88_isa.proofs.Laws.{by_test, word_small}
 use Rattle.m88_isa.specs.ImageProgram.{HasWordOf, IsInstructionAt}
 use Rattle.m88_isa.specs.Machine.{Program, four_bytes, word_bytes}
 use Rattle.m88_isa.specs.declared.instr.Instr.{Instr}

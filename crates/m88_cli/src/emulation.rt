@@ -54,7 +54,7 @@ fn emulated_text(alloc: Global, outcome: &EmulOutcome) -> Result<Vec<u8>, NoMemo
 }
 
 /// Appends the lines of emulations, numbered from 1.
-#[tactic(auto, using(std::proofs::lemmas::Grind::common_steps, m88_report::proofs::Numbered::one_more_numbered))]
+#[tactic(auto, using(std::proofs::lemmas::Grind::common_steps, m88_report::proofs::Laws::one_more_numbered))]
 fn push_emulations(text: &mut Vec<u8>, emulated: &[Emulation]) -> Result<(), AllocError>
     ensures { OnOk result (text.new.items ≡ text.old.items
         ++ flat_map emulation_line (enumerate_from 1 emulated.now)) }

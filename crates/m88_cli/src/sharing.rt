@@ -57,7 +57,7 @@ fn shared_text(alloc: Global, shared: &Shared) -> Result<Vec<u8>, NoMemory>
 }
 
 /// Appends the reports of programs, numbered from 1.
-#[tactic(auto, using(std::proofs::lemmas::Grind::common_steps, m88_report::proofs::Numbered::one_more_numbered))]
+#[tactic(auto, using(std::proofs::lemmas::Grind::common_steps, m88_report::proofs::Laws::one_more_numbered))]
 fn push_reports(text: &mut Vec<u8>, outcomes: &[Outcome]) -> Result<(), NoMemory>
     ensures { OnOk result (text.new.items ≡ text.old.items
         ++ flat_map numbered_report (enumerate_from 1 outcomes.now)) }
@@ -81,7 +81,7 @@ fn push_numbered_report(text: &mut Vec<u8>, number: u64, outcome: &Outcome) -> R
 }
 
 /// Appends the lines of switches, numbered from 1.
-#[tactic(auto, using(std::proofs::lemmas::Grind::common_steps, m88_report::proofs::Numbered::one_more_numbered))]
+#[tactic(auto, using(std::proofs::lemmas::Grind::common_steps, m88_report::proofs::Laws::one_more_numbered))]
 fn push_switches(text: &mut Vec<u8>, switches: &[Switch]) -> Result<(), AllocError>
     ensures { OnOk result (text.new.items ≡ text.old.items
         ++ flat_map switch_lines (enumerate_from 1 switches.now)) }

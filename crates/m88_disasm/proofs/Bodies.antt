@@ -8,8 +8,7 @@ use Rattle.std.proofs.lemmas.Nat.{be_bytes_4}
 use Rattle.std.proofs.lemmas.Option.{slice_get-get_or}
 use Rattle.m88_base.specs.Found.{FindsBytes}
 use Rattle.m88_base.specs.Placed.{AreApart, Placed, byte_among}
-use Rattle.m88_base.proofs.Apart.{none_below}
-use Rattle.m88_base.proofs.Lookup.{byte_in_above, byte_in_from}
+use Rattle.m88_base.proofs.Laws.{byte_in_above, byte_in_from, none_below}
 use Rattle.m88_isa.specs.Word.{word_of}
 use Rattle.m88_isa.specs.declared.instr.Instr.{Instr}
 use Rattle.m88_isa.specs.declared.instr.Instr.TheVariants as instr

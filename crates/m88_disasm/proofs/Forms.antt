@@ -3,7 +3,7 @@ use Rattle.std.proofs.Common.{◌≡◌, ℕ, ℤ, pos, negsuc, ◌+◌, ◌*◌
 use Rattle.std.specs.Prelude.{None}
 use Rattle.m88_base.specs.declared.reg.Reg.{Reg}
 use Rattle.m88_base.specs.Reg.{number_of, reg_of}
-use Rattle.m88_base.proofs.Same.{same_reg}
+use Rattle.m88_base.proofs.Laws.{same_reg}
 use Rattle.m88_isa.specs.Instr.{FitsWords}
 use Rattle.m88_isa.specs.declared.instr.ImmOp.{ImmOp}
 use Rattle.m88_isa.specs.declared.instr.RegOp.{RegOp}

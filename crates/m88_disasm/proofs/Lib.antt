@@ -1,4 +1,4 @@
--- What only helps the proofs: code, then texts read, then listings read and laid out.
+-- What only helps the proofs: code, then texts read, then listings read and laid out; Laws is for those above.
 pub mod Names
 pub mod Lines
 pub mod Sizes
@@ -12,3 +12,4 @@ pub mod Standing
 pub mod Accepting
 pub mod Linking
 pub mod Again
+pub mod Laws

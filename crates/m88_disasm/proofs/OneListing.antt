@@ -3,7 +3,7 @@ use Rattle.std.proofs.Common.{◌≡◌, ℕ, List, [], ◌∷◌, sym, refl, ap
 use Rattle.m88_base.specs.Lines.{text_of_lines}
 use Rattle.m88_base.specs.Image.{ProgramImage, parts}
 use Rattle.m88_base.specs.Placed.{Placed}
-use Rattle.m88_codec.proofs.Law.{one_reading}
+use Rattle.m88_codec.proofs.Laws.{one_reading}
 use Rattle.m88_disasm.specs.Text.{instr_text}
 use Rattle.m88_disasm.specs.Listing.{AreLines, ArePartLines, IsListing, IsWordLine, start_line}
 use Rattle.m88_disasm.specs.Listing.IsWordLine.{instruction, no_instruction}

@@ -10,7 +10,7 @@ use Rattle.std.proofs.lemmas.List.Folds.{list_all-append}
 use Rattle.std.proofs.lemmas.List.Sums.{AllPass-from_list_all, list_all-from_AllPass}
 use Rattle.m88_base.specs.Hex.{hex_digit, hex2, hex8}
 use Rattle.m88_base.specs.Name.{IsName, begins_name, continues_name}
-use Rattle.m88_base.proofs.Hexadecimal.{value_of_hex8}
+use Rattle.m88_base.proofs.Laws.{value_of_hex8}
 use Rattle.m88_isa.specs.declared.instr.ImmOp.{ImmOp}
 use Rattle.m88_isa.specs.declared.instr.ImmOp.TheVariants as imm
 use Rattle.m88_isa.specs.declared.instr.RegOp.{RegOp}

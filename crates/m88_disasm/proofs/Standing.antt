@@ -3,7 +3,7 @@ use Rattle.std.proofs.Common.{◌≡◌, ◌≢◌, ℕ, ◌+◌, ◌≤◌, Boo
 use Rattle.std.specs.Prelude.{Option, None, if◌then◌else◌, map}
 use Rattle.std.specs.Option.{option_or}
 use Rattle.m88_base.specs.Placed.{Placed, byte_among, byte_in}
-use Rattle.m88_base.proofs.Lookup.{byte_in-join, byte_in_above, byte_in_below, option_or_assoc}
+use Rattle.m88_base.proofs.Laws.{byte_in-join, byte_in_above, byte_in_below, option_or_assoc}
 use Rattle.std.proofs.lemmas.Bool.Decides.{leb_tells}
 use Rattle.m88_parse.specs.declared.unit.Body.{Body}
 use Rattle.m88_parse.specs.declared.unit.Body.TheVariants as body

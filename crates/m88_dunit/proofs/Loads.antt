@@ -5,11 +5,10 @@ use Rattle.std.proofs.lemmas.Bool.{cases_eq}
 use Rattle.std.proofs.lemmas.Bool.Decides.{nat_tests}
 use Rattle.std.specs.Int.{bit_at}
 use Rattle.std.specs.Int.Bits.{or_zero_r}
-use Rattle.m88_base.proofs.RegisterBits.{bit_of_set}
+use Rattle.m88_base.proofs.Laws.{bit_of_set}
 use Rattle.m88_base.specs.RegisterSet.{register_bits}
 use Rattle.m88_base.specs.Reg.{number_of}
-use Rattle.m88_isa.proofs.Alone.{by_test}
-use Rattle.m88_isa.proofs.Late.{beyond_waits_not}
+use Rattle.m88_isa.proofs.Laws.{beyond_waits_not, by_test}
 use Rattle.m88_dunit.specs.Pending.{ArePending, loaded_set}
 use Rattle.m88_isa.specs.Bus.{loads, waits_for}
 use Rattle.m88_isa.specs.Operands.{bit_of}

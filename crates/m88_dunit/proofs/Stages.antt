@@ -4,7 +4,7 @@ use Rattle.std.proofs.lemmas.List.{length-map, map-append}
 use Rattle.std.proofs.lemmas.List.Elements.{All-map, All-push}
 use Rattle.m88_dunit.specs.Pending.{ArePending, AreStages, IsStage, staged}
 use Rattle.m88_dunit.specs.declared.stage.Stage.{Stage}
-use Rattle.m88_isa.proofs.Told.{told_of}
+use Rattle.m88_isa.proofs.Laws.{told_of}
 use Rattle.m88_isa.specs.Held.{most_pending}
 use Rattle.m88_isa.specs.Memory.{IsWordAccess}
 use Rattle.m88_isa.specs.Triples.{access_in, triple_of}

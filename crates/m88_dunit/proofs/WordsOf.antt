@@ -3,7 +3,7 @@ use Rattle.std.proofs.Common.{◌≡◌, ◌≢◌, ◌%◌, ◌↔◌, ◌==◌
 use Rattle.std.proofs.lemmas.Bool.{false≢true}
 use Rattle.std.proofs.lemmas.Bool.Decides.{nat_tests}
 use Rattle.m88_base.specs.declared.triple.Triple.{Triple}
-use Rattle.m88_isa.proofs.Told.{told_of}
+use Rattle.m88_isa.proofs.Laws.{told_of}
 use Rattle.m88_isa.specs.Lanes.{IsEnable}
 use Rattle.m88_isa.specs.Memory.{IsWordAccess}
 use Rattle.m88_isa.specs.Operands.{no_register}

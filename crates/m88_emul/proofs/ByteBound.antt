@@ -2,7 +2,7 @@
 use Rattle.std.specs.Prelude.{ℕ, false, ◌≡◌, ◌<◌, ◌-◌, ◌%◌, ◌^◌, ◌==◌}
 use Rattle.std.proofs.Common.{arith, sym, subst}
 use Rattle.std.proofs.lemmas.Bool.{eqb-false, eqb-true}
-use Rattle.m88_isa.proofs.Alone.{by_test}
+use Rattle.m88_isa.proofs.Laws.{by_test}
 use Rattle.m88_isa.specs.Lanes.{datum_of, enable_of}
 
 at_offset : (word offset literal : ℕ) → offset ≡ literal → datum_of (2 ^ (3 - literal)) false word < 2 ^ 8 →

@@ -4,8 +4,7 @@ use Rattle.std.proofs.Common.{arith, add-one, refl, sym, ap, subst, ◌∙◌}
 use Rattle.std.proofs.Math.Path.{fun_ext}
 use Rattle.std.proofs.lemmas.List.{append-nil, drop-append-le, drop_all, length-drop}
 use Rattle.m88_base.specs.Pages.{every_page, page_number}
-use Rattle.m88_isa.proofs.InWords.{turn_agrees}
-use Rattle.m88_isa.proofs.Turns.{TurnFits, turn_fits}
+use Rattle.m88_isa.proofs.Laws.{TurnFits, turn_agrees, turn_fits}
 use Rattle.m88_isa.specs.Address.{after_bytes}
 use Rattle.m88_isa.specs.Bus.{bus_after_all, in_words}
 use Rattle.m88_isa.specs.Held.{Hold, instruction_at}

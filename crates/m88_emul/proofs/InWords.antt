@@ -3,8 +3,7 @@ use Rattle.std.specs.Prelude.{ℕ, zero, suc, Bool, true, false, List, [], ◌�
 use Rattle.std.proofs.Common.{arith, inl, refl, sym, ap, ◌∙◌}
 use Rattle.std.proofs.Math.Path.{fun_ext}
 use Rattle.m88_base.specs.declared.reg.Reg.{Reg}
-use Rattle.m88_isa.proofs.Alone.{by_test}
-use Rattle.m88_isa.proofs.InWords.{touch_loads, touch_stores, touches_bytes}
+use Rattle.m88_isa.proofs.Laws.{by_test, touch_loads, touch_stores, touches_bytes}
 use Rattle.m88_isa.specs.Address.{address, after_bytes}
 use Rattle.m88_isa.specs.Bus.{bus_after, bus_after_all, in_words, loaded, stored}
 use Rattle.m88_isa.specs.Effect.{register}

@@ -9,7 +9,7 @@ use Rattle.m88_base.specs.Reg.{number_of, with_register}
 use Rattle.m88_base.specs.declared.reg.Reg.{Reg}
 use Rattle.m88_base.specs.declared.slot.Slot.{Slot}
 use Rattle.m88_ctrl.specs.ControlRegisters.{carry_of, mxm_of}
-use Rattle.m88_codec.proofs.Law.{one_reading}
+use Rattle.m88_codec.proofs.Laws.{one_reading}
 use Rattle.m88_event.specs.Local.{Local, is_over_by}
 use Rattle.m88_event.specs.Shadow.{retired_pointer}
 use Rattle.m88_event.specs.Timeline.{end_of_turn}
@@ -17,8 +17,7 @@ use Rattle.m88_event.specs.declared.happened.End.{End}
 use Rattle.m88_event.specs.declared.happened.End.TheVariants.{Exit, Limit, Vector}
 use Rattle.m88_event.specs.declared.happened.Happened.{Happened}
 use Rattle.m88_event.specs.declared.happened.Happened.TheVariants as happened
-use Rattle.m88_isa.proofs.Alone.{by_test}
-use Rattle.m88_isa.proofs.ImageProgram.{instruction_at_word}
+use Rattle.m88_isa.proofs.Laws.{by_test, instruction_at_word}
 use Rattle.m88_isa.specs.Address.{after_bytes}
 use Rattle.m88_isa.specs.Bus.{after_accesses, bus_after_all, in_words}
 use Rattle.m88_isa.specs.Held.{fetched_instruction, instruction_at, is_pending}
@@ -32,8 +31,7 @@ use Rattle.m88_isa.specs.declared.planned.Access.{Access}
 use Rattle.m88_mem.specs.DataBus.{MemoryView, absent_of, bus_of, image_bus}
 use Rattle.m88_iunit.specs.Pointers.{Pointers}
 use Rattle.m88_scoreboard.specs.Registers.{Registers, none_waits, waiting_of}
-use Rattle.m88_board.proofs.Ending.{none_wait}
-use Rattle.m88_board.proofs.Starting.{same_bytes}
+use Rattle.m88_board.proofs.Laws.{none_wait, same_bytes}
 use Rattle.m88_event.specs.Run.{outcome_by}
 use Rattle.m88_event.specs.declared.outcome.Outcome.{Outcome}
 use Rattle.m88_board.specs.Board.{BoardView, completed_of, local_of, next_of, pc_of}

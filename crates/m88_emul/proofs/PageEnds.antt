@@ -4,7 +4,7 @@ use Rattle.std.proofs.Common.{arith, refl, sym, ap, ap₂, ◌∙◌}
 use Rattle.std.proofs.Math.Path.{fun_ext}
 use Rattle.std.proofs.lemmas.Bool.{eqb-false, eqb-true}
 use Rattle.m88_base.specs.Pages.{page_number}
-use Rattle.m88_isa.proofs.Alone.{by_test}
+use Rattle.m88_isa.proofs.Laws.{by_test}
 use Rattle.m88_isa.specs.Address.{after_bytes}
 use Rattle.m88_emul.specs.Aid.{places_from}
 use Rattle.m88_emul.specs.Timeline.{has_place_in}

@@ -7,7 +7,7 @@ use Rattle.m88_isa.specs.History.{turn_accesses}
 use Rattle.m88_isa.specs.Machine.{Program, Turn, changes, outputs}
 use Rattle.m88_isa.specs.Memory.{access_of}
 use Rattle.m88_isa.specs.declared.planned.Access.{Access}
-use Rattle.m88_event.proofs.Precise.{IsLastChoice, precise_choice}
+use Rattle.m88_event.proofs.Laws.{IsLastChoice, precise_choice}
 use Rattle.m88_event.specs.Choice.{Choice, evicts, faults, finishes, holds, idles, issues, passes, replies, serves}
 use Rattle.m88_event.specs.Local.{choice_by, record_by, situation_of}
 use Rattle.m88_event.specs.Timeline.{Moment, opening_moment}

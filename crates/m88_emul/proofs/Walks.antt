@@ -4,14 +4,14 @@ use Rattle.std.proofs.Common.{arith, refl, sym, ap, ap₂, ◌∙◌, subst}
 use Rattle.std.proofs.lemmas.Bool.{eqb-false, eqb-true}
 use Rattle.std.proofs.lemmas.Bool.Decides.{nat_tests}
 use Rattle.std.proofs.lemmas.List.{length-drop}
-use Rattle.m88_event.proofs.Over.{one_first}
+use Rattle.m88_event.proofs.Laws.{one_first}
 use Rattle.m88_event.specs.Letters.{letter_at}
 use Rattle.m88_event.specs.Local.{Local, is_over_by, local_at, move}
 use Rattle.m88_event.specs.Run.{NotBefore, outcome_by}
 use Rattle.m88_event.specs.Timeline.{Moment, end_of_turn, opening_moment, xip_at}
 use Rattle.m88_event.specs.declared.happened.End.{End}
 use Rattle.m88_event.specs.declared.letter.Letter.{Letter}
-use Rattle.m88_isa.proofs.Alone.{by_test}
+use Rattle.m88_isa.proofs.Laws.{by_test}
 use Rattle.m88_isa.specs.Bus.{bus_after_all, in_words}
 use Rattle.m88_isa.specs.Held.{is_pending}
 use Rattle.m88_isa.specs.History.{completed_state, transactions}

@@ -2,15 +2,14 @@
 use Rattle.std.specs.Prelude.{ℕ, Bool, true, false, not, List, Option, Some, None, ◌≡◌, ◌<◌, ◌≤◌, [], ◌∷◌, ◌+◌, ◌==◌, ◌&&◌, ◌||◌, is_some}
 use Rattle.std.proofs.Common.{arith, refl, ap, ◌∙◌}
 use Rattle.m88_base.specs.Image.{IsImage}
-use Rattle.m88_codec.proofs.ImagePrograms.{program_in, program_in_holds}
-use Rattle.m88_event.proofs.Bound.{lessens}
+use Rattle.m88_codec.proofs.Laws.{program_in, program_in_holds}
+use Rattle.m88_event.proofs.Laws.{lessens}
 use Rattle.m88_event.specs.Bound.{fuel, weight}
 use Rattle.m88_event.specs.Letters.{letter_at}
 use Rattle.m88_event.specs.Local.{Local, is_over_by, move}
 use Rattle.m88_event.specs.declared.happened.End.{End}
 use Rattle.m88_event.specs.declared.letter.Letter.{Letter}
-use Rattle.m88_isa.proofs.Alone.{by_test}
-use Rattle.m88_isa.proofs.ImageProgram.{program_of_image}
+use Rattle.m88_isa.proofs.Laws.{by_test, program_of_image}
 use Rattle.m88_isa.specs.Held.{is_pending}
 use Rattle.m88_isa.specs.ImageProgram.{IsProgramOf}
 use Rattle.m88_isa.specs.Machine.{IsProgram, Program}

@@ -6,7 +6,7 @@ use Rattle.m88_base.specs.Pages.{every_page, no_page}
 use Rattle.m88_base.specs.Reg.{reg_of}
 use Rattle.m88_base.specs.RegisterSet as set
 use Rattle.m88_base.specs.Triple.{no_triple}
-use Rattle.m88_isa.proofs.Held.{none_from}
+use Rattle.m88_isa.proofs.Laws.{none_from}
 use Rattle.m88_isa.specs.Bus.{bus_after_all, in_words, stored, waits_for, with_word}
 use Rattle.m88_isa.specs.Held.{busy_register, first_from}
 use Rattle.m88_isa.specs.History.{completed_state}
@@ -19,7 +19,7 @@ use Rattle.m88_isa.specs.declared.instr.MemOp.{MemOp}
 use Rattle.m88_isa.specs.declared.instr.MemOp.TheVariants as memop
 use Rattle.m88_isa.specs.declared.instr.RegOp.{RegOp}
 use Rattle.m88_isa.specs.declared.instr.RegOp.TheVariants as regop
-use Rattle.m88_event.proofs.Worked.{fault, im, mem, triple}
+use Rattle.m88_event.proofs.Laws.{fault, im, mem, triple}
 use Rattle.m88_event.specs.Letters.{letter_at}
 use Rattle.m88_event.specs.Local.{situation_of}
 use Rattle.m88_event.specs.Run.{IsFirst}

@@ -4,9 +4,7 @@ use Rattle.std.proofs.Common.{arith, length-append, refl, sym, ap, ◌∙◌, su
 use Rattle.std.proofs.lemmas.Bool.{eqb-false, eqb-true, le-ltb, lt-ltb, ltb-false, ltb-true}
 use Rattle.std.proofs.lemmas.List.{length-drop}
 use Rattle.std.proofs.lemmas.Option.{slice_get_past}
-use Rattle.m88_isa.proofs.Alone.{by_test}
-use Rattle.m88_isa.proofs.Held.{nothing_held}
-use Rattle.m88_isa.proofs.Turns.{TurnFits, turn_fits}
+use Rattle.m88_isa.proofs.Laws.{TurnFits, by_test, nothing_held, turn_fits}
 use Rattle.m88_base.specs.Pages.{page_number}
 use Rattle.m88_isa.specs.Held.{Hold, held, instruction_at, is_pending}
 use Rattle.m88_isa.specs.History.{change_accesses}

@@ -3,7 +3,7 @@ use Rattle.std.specs.Prelude.{ℕ, zero, suc, Bool, true, false, not, List, [], 
 use Rattle.std.proofs.Common.{arith, add-one, length-append, refl, sym, ap, ◌∙◌}
 use Rattle.std.proofs.Math.Path.{fun_ext}
 use Rattle.std.proofs.lemmas.List.{append-nil, drop-append-le, drop_all, length-drop, take-append-drop, take-append-le, take_all}
-use Rattle.m88_isa.proofs.InWords.{bus_of_append, state_agrees}
+use Rattle.m88_isa.proofs.Laws.{bus_of_append, state_agrees}
 use Rattle.m88_base.specs.Pages.{every_page, page_number}
 use Rattle.m88_isa.specs.Bus.{bus_after_all, in_words}
 use Rattle.m88_isa.specs.Held.{Hold}

@@ -1,4 +1,5 @@
--- What only helps the proofs: letters, then the moves of a board, the end of a run and what lies behind a moment.
+-- What only helps the proofs: letters, then the moves of a board, the end of a run and what lies behind a moment; Laws
+-- is for those above.
 pub mod Letters
 pub mod Follows
 pub mod Bound
@@ -7,3 +8,4 @@ pub mod Precise
 pub mod Past
 pub mod Worked
 pub mod Vanishing
+pub mod Laws

@@ -4,8 +4,7 @@ use Rattle.std.proofs.Common.{arith, add-one, refl, sym, ap, ap₂, ◌∙◌, s
 use Rattle.std.proofs.lemmas.Bool.{eqb-false, eqb-true, ltb-false, ltb-true}
 use Rattle.std.proofs.lemmas.Bool.Decides.{nat_tests}
 use Rattle.std.proofs.lemmas.List.{length-drop, take_all}
-use Rattle.m88_isa.proofs.Alone.{by_test}
-use Rattle.m88_isa.proofs.InWords.{state_bus}
+use Rattle.m88_isa.proofs.Laws.{by_test, state_bus}
 use Rattle.m88_base.specs.Pages.{page_number}
 use Rattle.m88_isa.specs.Bus.{bus_after_all, in_words}
 use Rattle.m88_isa.specs.Held.{is_pending}

@@ -3,7 +3,7 @@ use Rattle.std.specs.Prelude.{ℕ, zero, suc, Bool, true, false, List, [], ◌�
 use Rattle.std.proofs.Common.{arith, refl, sym, ap, subst, length-append}
 use Rattle.std.proofs.lemmas.Bool.{eqb-false, eqb-true, ltb-false}
 use Rattle.std.proofs.lemmas.List.{length-drop, length-map}
-use Rattle.m88_isa.proofs.Alone.{by_test}
+use Rattle.m88_isa.proofs.Laws.{by_test}
 use Rattle.m88_base.specs.Pages.{page_number}
 use Rattle.m88_isa.specs.Held.{Hold, busy_register, exceeds, first_reason, held, instruction_at, is_pending, is_stop, most_pending, needs_empty}
 use Rattle.m88_isa.specs.History.{pending_at, transaction_count, transactions, turn_accesses}

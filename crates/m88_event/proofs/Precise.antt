@@ -2,7 +2,7 @@
 use Rattle.std.specs.Prelude.{ℕ, Bool, true, false, List, [], ◌∷◌, Option, Some, None, ◌≡◌, ◌≤◌, ◌-◌, ◌&&◌, ◌||◌, drop, length, if◌then◌else◌}
 use Rattle.std.proofs.Common.{arith, refl}
 use Rattle.std.proofs.lemmas.List.{length-drop}
-use Rattle.m88_isa.proofs.Turns.{traps_wait}
+use Rattle.m88_isa.proofs.Laws.{traps_wait}
 use Rattle.m88_base.specs.Pages.{page_number}
 use Rattle.m88_isa.specs.Effect.{Meaning, goes, meaning_of, raises, traps}
 use Rattle.m88_isa.specs.Held.{Hold, busy_register, exceeds, fetched_instruction, first_reason, held, instruction_at, is_pending, needs_empty}

@@ -7,7 +7,7 @@ use Rattle.std.proofs.lemmas.Bool.Decides.{nat_tests}
 use Rattle.std.proofs.lemmas.Option.{option_and_then_some}
 use Rattle.m88_base.specs.Hex.{hex_digit, hex2, is_hex_digit}
 use Rattle.m88_link.specs.Inside.Rows.{◌>>=◌, byte_by_digits, bytes_by_digits, hex_value}
-use Rattle.m88_base.proofs.Splitting.{is_other}
+use Rattle.m88_base.proofs.Laws.{is_other}
 use Rattle.m88_base.specs.Cut.{lacks}
 use Rattle.m88_link.proofs.RowTexts.{mapped}
 

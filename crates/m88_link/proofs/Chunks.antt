@@ -3,7 +3,7 @@ use Rattle.std.proofs.Common.{◌≡◌, ℕ, ◌<◌, List, [], ◌++◌, lengt
 use Rattle.std.specs.Prelude.{flat_map}
 use Rattle.std.proofs.lemmas.List.{nil_from_length}
 use Rattle.m88_base.specs.Pieces.{pieces}
-use Rattle.m88_base.proofs.InPieces.{next_piece, no_pieces}
+use Rattle.m88_base.proofs.Laws.{next_piece, no_pieces}
 use Rattle.m88_link.specs.ObjectText.{byte_line, byte_lines}
 
 -- the line of the bytes that came stands behind the text

@@ -5,7 +5,7 @@ use Rattle.std.specs.Option.{option_or}
 use Rattle.std.proofs.lemmas.Bool.Decides.{leb_tells, nat_tests}
 use Rattle.std.proofs.lemmas.List.Sums.{sum_by-cons}
 use Rattle.std.proofs.lemmas.Option.{slice_get-get_or}
-use Rattle.m88_base.proofs.Lookup.{byte_in_above, byte_in_at, byte_in_below}
+use Rattle.m88_base.proofs.Laws.{byte_in_above, byte_in_at, byte_in_below}
 use Rattle.m88_base.specs.Placed.{AreApart, Placed, byte_among, byte_in, count_among}
 use Rattle.m88_link.specs.Inside.Carried.{AreAlone, holds}
 

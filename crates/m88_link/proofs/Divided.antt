@@ -2,10 +2,9 @@
 use Rattle.std.proofs.Common.{◌≡◌, ℕ, Bool, true, false, List, [], ◌∷◌, length, refl, ap, ◌∙◌}
 use Rattle.std.specs.Prelude.{Option, None, Some, nat_lt, ◌&&◌, IsTrue, IsSome, IfSome, if◌then◌else◌, ◌↔◌}
 use Rattle.std.specs.List.{AllByRecursion, list_all}
-use Rattle.std.proofs.lemmas.Bool.{lt-ltb, ltb-true}
+use Rattle.std.proofs.lemmas.Bool.{and_parts, lt-ltb, ltb-true}
 use Rattle.std.proofs.lemmas.List.Elements.{All-from_recursion, recursion_from_All}
 use Rattle.m88_base.specs.Name.{IsName, begins_name, continues_name}
-use Rattle.m88_base.proofs.Digits.{both}
 use Rattle.m88_link.specs.Inside.Rows.{is_name_text, name_of}
 
 -- the test of names
@@ -15,7 +14,7 @@ all_true p (b ∷ bs) h = ap (λ (x : Bool). x && list_all p bs) h.0 ∙ all_tru
 
 pub true_all : (p : ℕ → Bool) (bs : List ℕ) → list_all p bs ≡ true → AllByRecursion (λ b. IsTrue (p b)) bs
 true_all p [] h = tt
-true_all p (b ∷ bs) h = let k = both (p b) (list_all p bs) h in (k.0, true_all p bs k.1)
+true_all p (b ∷ bs) h = let k = and_parts (p b) (list_all p bs) h in (k.0, true_all p bs k.1)
 
 all_three : (a b c : Bool) → a ≡ true → b ≡ true → c ≡ true → (a && b && c) ≡ true
 all_three true true true e f g = refl
@@ -32,8 +31,8 @@ name_is (b ∷ bs) h =
 pub is_named : (text : List ℕ) → is_name_text text ≡ true → IsName text
 is_named [] e = absurd cc
 is_named (b ∷ bs) e =
-    let k = both (begins_name b && list_all continues_name bs) (nat_lt (length bs) 64) e in
-    let l = both (begins_name b) (list_all continues_name bs) k.0 in
+    let k = and_parts (begins_name b && list_all continues_name bs) (nat_lt (length bs) 64) e in
+    let l = and_parts (begins_name b) (list_all continues_name bs) k.0 in
     (l.0, All-from_recursion (λ b. IsTrue (continues_name b)) bs (true_all continues_name bs l.1), ltb-true (length bs) 64 k.1)
 
 -- a call that tells a name exactly where the bytes are one

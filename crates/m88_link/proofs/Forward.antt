@@ -8,7 +8,7 @@ use Rattle.std.proofs.lemmas.Bool.{eq-eqb, le-leb}
 use Rattle.std.proofs.lemmas.List.{append-nil, nil_from_length, take-append-drop, take_all}
 use Rattle.std.proofs.lemmas.List.Elements.{recursion_from_All}
 use Rattle.m88_base.specs.Hex.{hex2}
-use Rattle.m88_base.proofs.InPieces.{first_piece}
+use Rattle.m88_base.proofs.Laws.{first_piece}
 use Rattle.m88_link.specs.declared.object.Object.{Object}
 use Rattle.m88_link.specs.declared.object.Place.{Place}
 use Rattle.m88_link.specs.declared.object.Place.TheVariants.{Text, DataSection, At}

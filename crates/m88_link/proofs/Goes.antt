@@ -3,13 +3,12 @@ use Rattle.std.proofs.Common.{◌≡◌, ℕ, ◌+◌, ◌-◌, ◌*◌, ◌^◌
 use Rattle.std.specs.Prelude.{Option, None, Some, ◌==◌, ◌&&◌, IfSome, flat_map, nat_le, if◌then◌else◌}
 use Rattle.std.specs.List.{AllByRecursion}
 use Rattle.std.specs.Option.{is_none}
-use Rattle.std.proofs.lemmas.Bool.{eqb-true, leb-true}
+use Rattle.std.proofs.lemmas.Bool.{and_parts, eqb-true, leb-true}
 use Rattle.std.proofs.lemmas.List.{append-nil, map_push}
 use Rattle.std.proofs.lemmas.List.Concat.{flat_map-append}
 use Rattle.std.proofs.lemmas.Option.{option_and_then_some}
 use Rattle.m88_base.specs.Hex.{hex2}
 use Rattle.m88_base.specs.Name.{IsName}
-use Rattle.m88_base.proofs.Digits.{both}
 use Rattle.m88_link.specs.declared.object.Reloc.{Reloc}
 use Rattle.m88_link.specs.declared.object.Section.{Section}
 use Rattle.m88_link.specs.declared.object.Symbol.{Symbol}
@@ -134,8 +133,8 @@ pub define_goes : (s : Symbol) (d e : Begun) → IsKept d → HasSymbolText s �
 unfolding define_step
 define_goes s d e kept h step =
     let t = if_some (is_whole d && is_nil d.relocs) (record d { symbols = d.symbols ++ s ∷ [] }) e step in
-    let t1 = both (is_whole d) (is_nil d.relocs) t.0 in
-    let t2 = both (is_none d.filling) (nat_le 2 (length d.sections)) t1.0 in
+    let t1 = and_parts (is_whole d) (is_nil d.relocs) t.0 in
+    let t2 = and_parts (is_none d.filling) (nat_le 2 (length d.sections)) t1.0 in
     let is : d ≡ with_symbols d.name d.sections d.symbols d.symbols =
     ap (λ (o : Option Filled). let b : Begun = record d { filling = o } in b) (none_is d.filling t2.0)
     ∙ ap (λ (l : List Reloc). let b : Begun = record { name = d.name; sections = d.sections; filling = None; symbols = d.symbols; relocs = l } in b) (bare_nil d.relocs t1.1) in
@@ -171,7 +170,7 @@ pub patch_goes : (r : Reloc) (d e : Begun) → IsKept d → HasRelocText r → p
 unfolding patch_step
 patch_goes r d e kept h step =
     let t = if_some (is_whole d) (record d { relocs = d.relocs ++ r ∷ [] }) e step in
-    let t2 = both (is_none d.filling) (nat_le 2 (length d.sections)) t.0 in
+    let t2 = and_parts (is_none d.filling) (nat_le 2 (length d.sections)) t.0 in
     let is : d ≡ with_relocs d.name d.sections d.symbols d.relocs d.relocs =
     ap (λ (o : Option Filled). let b : Begun = record d { filling = o } in b) (none_is d.filling t2.0) in
     let P : Begun → Type 0 = λ b. Goes b (record b { relocs = b.relocs ++ r ∷ [] }) (row_text (Patch r)) in
@@ -238,7 +237,7 @@ end_went_whole : (s : Progress) (d : Begun) → IsProgress s → s.draft ≡ Som
     → Went s (record { done = s.done ++ object_with d ∷ []; draft = None }) (row_text End)
 end_went_whole s d kept e whole =
     let k = draft_of s d kept e in
-    let t = both (is_none d.filling) (nat_le 2 (length d.sections)) whole in
+    let t = and_parts (is_none d.filling) (nat_le 2 (length d.sections)) whole in
     let two = leb-true 2 (length d.sections) t.1 in
     let rows = whole_rows d (none_is d.filling t.0) in
     record {

@@ -7,7 +7,7 @@ use Rattle.std.proofs.lemmas.List.Sorted.{sum_by-IsPermutation}
 use Rattle.std.specs.List.Sorted.{IsPermutation}
 use Rattle.std.specs.Prelude.{count_by, Option, None, Some}
 use Rattle.std.specs.Option.{option_or}
-use Rattle.m88_base.proofs.Lookup.{byte_among-append, byte_in_above, byte_in_at, byte_in_below, option_or-none}
+use Rattle.m88_base.proofs.Laws.{byte_among-append, byte_in_above, byte_in_at, byte_in_below, option_or-none}
 use Rattle.m88_base.specs.Found.{PutsBytes}
 use Rattle.m88_base.specs.Placed.{Placed, byte_among, byte_in}
 use Rattle.m88_link.specs.Inside.Carried.{AreAlone, holds}

@@ -3,11 +3,10 @@ use Rattle.std.proofs.Common.{◌≡◌, ℕ, suc, ◌+◌, ◌-◌, ◌≤◌, 
 use Rattle.std.specs.Prelude.{◌⊎◌, Option, None, Some, Ok, Err, ◌&&◌, nat_le, flat_map, if◌then◌else◌}
 use Rattle.std.specs.Option.{is_none}
 use Rattle.std.specs.List.{AllByRecursion}
-use Rattle.std.proofs.lemmas.Bool.{le-leb, leb-true}
+use Rattle.std.proofs.lemmas.Bool.{and_parts, le-leb, leb-true}
 use Rattle.std.proofs.lemmas.Bool.Decides.{leb_tells}
 use Rattle.std.proofs.lemmas.List.{append-nil, length-take-le, map-append, take-append-drop, take-take, take_all, take_at}
 use Rattle.std.proofs.lemmas.Option.{option_and_then_some}
-use Rattle.m88_base.proofs.Digits.{both}
 use Rattle.m88_link.specs.declared.object.Object.{Object}
 use Rattle.m88_link.specs.declared.object_fault.ObjectFault.{ObjectFault}
 use Rattle.m88_link.specs.declared.object_fault.ObjectFault.TheVariants.{Form}
@@ -20,7 +19,7 @@ use Rattle.m88_link.proofs.Completes.{continues}
 use Rattle.m88_link.proofs.Forward.{objects_taken, rested, run}
 use Rattle.m88_link.proofs.Goes.{line_went}
 use Rattle.m88_link.proofs.Kept.{IsProgress, bare_nil, if_some, none_is}
-use Rattle.m88_base.proofs.Splitting.{cut_found}
+use Rattle.m88_base.proofs.Laws.{cut_found}
 use Rattle.m88_link.proofs.Lined.{joined_lines}
 use Rattle.m88_link.proofs.LineTurns.{ended_is, first_read, none_read}
 use Rattle.m88_link.proofs.Texts.{Lack, ended, joined, lines_of_objects, objects_joined, objects_lack}
@@ -95,7 +94,7 @@ nothing_kept = record { done = tt; draft = tt }
 rested_at : (n : ℕ) (t : Progress) (b : Bool) → (is_none t.draft && nat_le 1 (length t.done)) ≡ b → (os : List Object)
     → (if b then Ok t.done else Err (Form n)) ≡ Ok os → (t ≡ rested os) × (1 ≤ length os)
 rested_at n t true e os h =
-    let k = both (is_none t.draft) (nat_le 1 (length t.done)) e in
+    let k = and_parts (is_none t.draft) (nat_le 1 (length t.done)) e in
     let same : t.done ≡ os = cc in
     let is : t ≡ rested t.done = ap (λ (o : Option Begun). let p : Progress = record { done = t.done; draft = o } in p) (none_is t.draft k.0) in
     let some : 1 ≤ length t.done = leb-true 1 (length t.done) k.1 in

@@ -4,12 +4,11 @@ use Rattle.std.specs.Prelude.{Option, None, Some, ◌==◌, ◌&&◌, IfSome, if
 use Rattle.std.specs.List.{AllByRecursion}
 use Rattle.std.specs.Option.{is_none}
 use Rattle.std.proofs.lemmas.Bool.Decides.{nat_tests}
-use Rattle.std.proofs.lemmas.Bool.{eqb-true}
+use Rattle.std.proofs.lemmas.Bool.{and_parts, eqb-true}
 use Rattle.std.proofs.lemmas.List.{append-nil, nil_from_length}
 use Rattle.std.proofs.lemmas.List.Concat.{flat_map-append}
 use Rattle.std.proofs.lemmas.List.Elements.{All-from_recursion}
 use Rattle.m88_base.specs.Name.{IsName}
-use Rattle.m88_base.proofs.Digits.{both}
 use Rattle.m88_link.specs.declared.object.Place.{Place}
 use Rattle.m88_link.specs.declared.object.Place.TheVariants.{Text, DataSection, At}
 use Rattle.m88_link.specs.declared.object.Reloc.{Reloc}
@@ -207,9 +206,9 @@ pub head_goes : (h : SectionHead) (d e : Begun) → IsKept d → IsHead h → he
 unfolding head_step
 head_goes h d e kept k step =
     let t = if_some (takes_head d h) (settled d (headed h)) e step in
-    let t1 = both (is_none d.filling && is_nil d.symbols && is_nil d.relocs) (may_stand (length d.sections) h.place) t.0 in
-    let t2 = both (is_none d.filling && is_nil d.symbols) (is_nil d.relocs) t1.0 in
-    let t3 = both (is_none d.filling) (is_nil d.symbols) t2.0 in
+    let t1 = and_parts (is_none d.filling && is_nil d.symbols && is_nil d.relocs) (may_stand (length d.sections) h.place) t.0 in
+    let t2 = and_parts (is_none d.filling && is_nil d.symbols) (is_nil d.relocs) t1.0 in
+    let t3 = and_parts (is_none d.filling) (is_nil d.symbols) t2.0 in
     let is : d ≡ bare d.name d.sections None = bare_is d None (none_is d.filling t3.0) (bare_nil d.symbols t3.1) (bare_nil d.relocs t2.1) in
     let P : Begun → Type 0 = λ b. Goes b (settled b (headed h)) (row_text (Head h)) in
     let g : P d = subst P (sym is) (head_goes_bare d.name d.sections h (subst IsKept is kept) k t1.1) in

@@ -1,5 +1,5 @@
 -- Lemmas in the order of the way: symbols and where objects stand, overlap, lists in parts, relocation and the image,
--- the layout as a whole, and lines of bytes.
+-- the layout as a whole, and lines of bytes; Laws is for those above.
 pub mod Repeated
 pub mod Tabled
 pub mod Stood
@@ -32,3 +32,4 @@ pub mod Ranged
 pub mod Told
 pub mod Soundness
 pub mod OneText
+pub mod Laws

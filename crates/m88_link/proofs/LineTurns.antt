@@ -10,7 +10,7 @@ use Rattle.m88_link.specs.Inside.Drafts.{GivesObjects, Progress, TakesOrRefuses,
 use Rattle.m88_link.specs.ObjectRead.{ended_lines}
 use Rattle.m88_base.specs.Cut.{lacks, split_at_byte}
 use Rattle.m88_link.specs.Inside.Rows.{◌>>=◌}
-use Rattle.m88_base.proofs.Splitting.{split_first, cut_found, uncut}
+use Rattle.m88_base.proofs.Laws.{cut_found, split_first, uncut}
 use Rattle.m88_link.proofs.Lined.{lines_at, lines_none, one_line}
 
 -- the first line and what it comes to

@@ -2,8 +2,8 @@
 use Rattle.std.proofs.Common.{◌≡◌, ℕ, ◌<◌, Bool, true, false, List, [], ◌∷◌, ◌++◌, length, refl, sym, ap, ◌∙◌, arith}
 use Rattle.std.specs.Prelude.{◌==◌, flat_map, if◌then◌else◌}
 use Rattle.std.proofs.lemmas.Bool.Decides.{nat_tests}
-use Rattle.m88_base.proofs.Digits.{both}
-use Rattle.m88_base.proofs.Splitting.{is_other, other_false}
+use Rattle.std.proofs.lemmas.Bool.{and_parts}
+use Rattle.m88_base.proofs.Laws.{is_other, other_false}
 use Rattle.m88_base.specs.Cut.{lacks}
 use Rattle.m88_base.specs.Lines.{line_end, on_first_line}
 use Rattle.m88_link.specs.ObjectRead.{ended_lines}
@@ -20,7 +20,7 @@ lines_end bs = refl
 pub lines_at : (line rest : List ℕ) → lacks 10 line ≡ true → ended_lines (line ++ 10 ∷ rest) ≡ (line ++ 10 ∷ []) ∷ ended_lines rest
 lines_at [] rest h = lines_end rest
 lines_at (b ∷ bs) rest h =
-    let k = both (is_other 10 b) (lacks 10 bs) h in
+    let k = and_parts (is_other 10 b) (lacks 10 bs) h in
     lines_step b (bs ++ 10 ∷ rest) (other_false 10 b k.0) ∙ ap (on_first_line b) (lines_at bs rest k.1)
 
 pub lines_none : ended_lines [] ≡ []
@@ -31,10 +31,10 @@ lines_none = refl
 pub one_line : (text : List ℕ) → 0 < length text → lacks 10 text ≡ true → ended_lines text ≡ text ∷ []
 one_line [] some h = absurd (omega arith)
 one_line (b ∷ []) some h =
-    let k = both (is_other 10 b) true h in
+    let k = and_parts (is_other 10 b) true h in
     lines_step b [] (other_false 10 b k.0) ∙ ap (on_first_line b) lines_none
 one_line (b ∷ c ∷ cs) some h =
-    let k = both (is_other 10 b) (lacks 10 (c ∷ cs)) h in
+    let k = and_parts (is_other 10 b) (lacks 10 (c ∷ cs)) h in
     lines_step b (c ∷ cs) (other_false 10 b k.0) ∙ ap (on_first_line b) (one_line (c ∷ cs) (omega arith) k.1)
 
 -- the lines one after the other are the text

@@ -5,7 +5,7 @@ use Rattle.std.proofs.lemmas.List.Elements.{filter-append}
 use Rattle.std.proofs.lemmas.List.Concat.{flat_map-append}
 use Rattle.std.specs.Prelude.{Option, None, Some, flat_map}
 use Rattle.std.specs.Option.{option_map, option_or}
-use Rattle.m88_base.proofs.Lookup.{option_or_assoc}
+use Rattle.m88_base.proofs.Laws.{option_or_assoc}
 use Rattle.m88_link.specs.declared.fault.LinkFault.{LinkFault}
 use Rattle.m88_link.specs.declared.object.Symbol.{Symbol}
 use Rattle.m88_link.specs.Refusal.{first_fault}

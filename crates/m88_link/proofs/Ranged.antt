@@ -8,7 +8,7 @@ use Rattle.std.proofs.lemmas.List.Elements.{All-from_recursion, All-push, recurs
 use Rattle.std.proofs.lemmas.List.Sums.{sum_by-append, sum_by-cons}
 use Rattle.m88_base.specs.Lines.{line_end, on_first_line}
 use Rattle.m88_base.specs.Pieces.{pieces}
-use Rattle.m88_base.proofs.InPieces.{length-pieces}
+use Rattle.m88_base.proofs.Laws.{length-pieces}
 use Rattle.m88_link.specs.declared.object.Object.{Object}
 use Rattle.m88_link.specs.declared.object.Reloc.{Reloc}
 use Rattle.m88_link.specs.declared.object.Section.{Section}

@@ -17,7 +17,7 @@ use Rattle.m88_link.specs.ObjectRead.{HasRelocText, HasSymbolText}
 use Rattle.m88_link.specs.ObjectText.{kind_word, section_word}
 use Rattle.m88_link.specs.Inside.Rows.{at_of, first_word, head_of, hex8_word, keyword_of, kind_word_of, name_of, name_word, decimal_value, number_word, reloc_in, row_by, row_in, scope_word, section_word_of, symbol_in}
 use Rattle.m88_link.specs.Sound.{origin}
-use Rattle.m88_base.proofs.Splitting.{cut_found}
+use Rattle.m88_base.proofs.Laws.{cut_found}
 use Rattle.m88_link.proofs.Spelling.{hex8_back, hex8_read, if_same, kind_back, kind_read, name_back, name_found, name_of-name, name_read, number_back, number_found, number_of-decimal, number_read, same_text, scope_back, scope_read, scope_text, section_back, section_read}
 
 -- what stands behind the first word

@@ -4,7 +4,7 @@ use Rattle.std.specs.Prelude.{◌⊎◌, All, IfSome, IsSomeAnd, IsTrue, slice_g
 use Rattle.std.proofs.lemmas.Bool.{cases_eq}
 use Rattle.std.proofs.lemmas.List.{append-nil}
 use Rattle.std.proofs.lemmas.List.Elements.{All-nil, All-push}
-use Rattle.m88_base.proofs.Decided.{IsDecided, at_most, both_decided, same_text}
+use Rattle.m88_base.proofs.Laws.{IsDecided, at_most, both_decided, same_text}
 use Rattle.m88_link.specs.declared.object.Object.{Object}
 use Rattle.m88_link.specs.declared.object.Reloc.{Reloc}
 use Rattle.m88_link.specs.declared.object.Section.{Section}

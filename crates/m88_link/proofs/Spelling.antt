@@ -5,7 +5,7 @@ use Rattle.std.specs.Char.{digit_value, is_digit}
 use Rattle.std.specs.List.{list_all}
 use Rattle.std.specs.Str.Parse.{AllDigits, digits_value}
 use Rattle.std.proofs.lemmas.Bool.Decides.{nat_tests}
-use Rattle.std.proofs.lemmas.Bool.{lt-ltb, leb-true}
+use Rattle.std.proofs.lemmas.Bool.{and_parts, leb-true, lt-ltb}
 use Rattle.std.proofs.lemmas.Fmt.{decimal_is_IsNumeral}
 use Rattle.std.proofs.lemmas.Option.{option_and_then_some, some_pair_parts}
 use Rattle.std.proofs.lemmas.Slice.Eq.{bytes_eq-Decides}
@@ -14,11 +14,9 @@ use Rattle.m88_base.specs.Name.{IsName, begins_name, continues_name}
 use Rattle.m88_base.specs.Numerals.{has_no_needless_zero, is_numeral, number_in}
 use Rattle.m88_base.specs.declared.fixup.Kind.{Kind}
 use Rattle.m88_base.specs.declared.fixup.Kind.TheVariants.{Hi16, Lo16, Pc26, Pc16, Abs32}
-use Rattle.m88_base.proofs.Digits.{both, decimal_found, decimal_needed, decimal_told}
-use Rattle.m88_base.proofs.Hexadecimal.{hex8_of-hex8, hex8-hex8_of, is_hex8-hex8}
+use Rattle.m88_base.proofs.Laws.{cut_found, decimal_found, decimal_needed, decimal_told, hex8-hex8_of, hex8_of-hex8, is_hex8-hex8, is_other, lacks_by, split_first}
 use Rattle.m88_link.specs.ObjectText.{kind_word, section_word}
 use Rattle.m88_link.specs.Inside.Rows.{◌>>=◌, first_word, hex8_word, is_name_text, field_kind_of, kind_word_of, name_of, name_word, decimal_value, number_word, scope_of, scope_word, symbol_section_of, section_word_of, word_by}
-use Rattle.m88_base.proofs.Splitting.{cut_found, is_other, lacks_by, split_first}
 use Rattle.m88_link.proofs.Divided.{is_named, name_is}
 use Rattle.m88_base.specs.Cut.{lacks}
 
@@ -34,8 +32,8 @@ word_by_test p no_blank no_end text h = (lacks_by p 32 no_blank text h, lacks_by
 -- names
 name_first : (b : ℕ) (bs : List ℕ) → is_name_text (b ∷ bs) ≡ true → list_all continues_name (b ∷ bs) ≡ true
 name_first b bs e =
-    let k = both (begins_name b && list_all continues_name bs) (nat_lt (length bs) 64) e in
-    let l = both (begins_name b) (list_all continues_name bs) k.0 in
+    let k = and_parts (begins_name b && list_all continues_name bs) (nat_lt (length bs) 64) e in
+    let l = and_parts (begins_name b) (list_all continues_name bs) k.0 in
     grind (arith, nat_tests, l)
 
 named_all : (text : List ℕ) → is_name_text text ≡ true → list_all continues_name text ≡ true
@@ -60,7 +58,7 @@ name_found text name e = by_test (is_name_text text) refl e
 pub hex8_is_word : (n : ℕ) → IsWord (hex8 n)
 hex8_is_word n =
     word_by_test is_hex_digit (λ b e. grind (arith, nat_tests)) (λ b e. grind (arith, nat_tests)) (hex8 n)
-    (both (length (hex8 n) == 8) (list_all is_hex_digit (hex8 n)) (is_hex8-hex8 n)).1
+    (and_parts (length (hex8 n) == 8) (list_all is_hex_digit (hex8 n)) (is_hex8-hex8 n)).1
 
 pub hex8_found : (text : List ℕ) (n : ℕ) → hex8_of text ≡ Some n → (text ≡ hex8 n) × (n < 2 ^ 32)
 hex8_found text n e = subst (λ o. IfSome o (λ n. (text ≡ hex8 n) × (n < 2 ^ 32))) e (hex8-hex8_of text)
@@ -228,7 +226,7 @@ first_digit n small = not_abs (decimal n) (digits_all (decimal n) (decimal_is_Is
     not_abs : (ds : List ℕ) → list_all (λ b. is_digit b 10) ds ≡ true → bytes_eq ds (codes "abs") ≡ false
     not_abs [] h = refl
     not_abs (d ∷ ds) h =
-        let k = both (is_digit d 10) (list_all (λ b. is_digit b 10) ds) h in
+        let k = and_parts (is_digit d 10) (list_all (λ b. is_digit b 10) ds) h in
         let e : (d == 97) ≡ false = grind (arith, nat_tests, k.0) in
         ap (λ (t : Bool). t && bytes_eq ds (98 ∷ 115 ∷ [])) e
 

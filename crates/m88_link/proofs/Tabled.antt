@@ -8,7 +8,7 @@ use Rattle.std.specs.List.{AllByRecursion, IsDistinct}
 use Rattle.std.specs.Option.{option_or, option_map}
 use Rattle.std.specs.Map.{keys_of, lookup}
 use Rattle.indexmap.specs.IndexMap.{insert_entry}
-use Rattle.m88_base.proofs.Lookup.{option_or-none, option_or_assoc}
+use Rattle.m88_base.proofs.Laws.{option_or-none, option_or_assoc}
 use Rattle.m88_link.specs.declared.object.Definition.{Definition}
 use Rattle.m88_link.specs.declared.object.Symbol.{Symbol}
 use Rattle.m88_link.specs.Symbols.{joined, repetition, repeated_after, first_repeated, symbol_of}

@@ -21,7 +21,7 @@ use Rattle.m88_link.specs.ObjectRead.{HasRelocText, HasSectionText, HasSymbolTex
 use Rattle.m88_link.specs.ObjectText.{byte_line, byte_lines, blank, end_line, field_words, kind_word, object_line, object_lines, objects_text, place_words, reloc_line, section_lines, section_word, source_words, symbol_line, target_words}
 use Rattle.m88_link.proofs.ByteTexts.{digits_lack}
 use Rattle.m88_base.specs.Cut.{lacks}
-use Rattle.m88_base.proofs.Splitting.{lacks-append}
+use Rattle.m88_base.proofs.Laws.{lacks-append}
 use Rattle.m88_link.proofs.Lined.{lines_at, lines_none}
 use Rattle.m88_link.proofs.RowTexts.{IsRow, head_text, place_text, row_text}
 use Rattle.m88_link.proofs.Spelling.{decimal_is_word, hex8_is_word, name_is_word, scope_text}

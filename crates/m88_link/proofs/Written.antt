@@ -4,7 +4,7 @@ use Rattle.std.specs.Prelude.{Option, None, Some, flat_map}
 use Rattle.std.proofs.lemmas.List.{map-append}
 use Rattle.m88_base.specs.Hex.{hex2}
 use Rattle.m88_base.specs.Pieces.{pieces}
-use Rattle.m88_base.proofs.InPieces.{no_pieces, only_piece, pieces-append}
+use Rattle.m88_base.proofs.Laws.{no_pieces, only_piece, pieces-append}
 use Rattle.m88_link.specs.declared.object.Object.{Object}
 use Rattle.m88_link.specs.declared.object.Place.{Place}
 use Rattle.m88_link.specs.declared.object.Reloc.{Reloc}

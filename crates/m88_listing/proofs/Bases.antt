@@ -14,8 +14,7 @@ use Rattle.m88_asm.specs.Counters.{Located, place_of, section_of}
 use Rattle.m88_asm.specs.Filled.{waiting_bytes}
 use Rattle.m88_asm.specs.Objects.{heads_in, lines_in, object_of, section_bytes, waiting_in}
 use Rattle.m88_asm.specs.Units.{base_in, length_in, section_length}
-use Rattle.m88_asm.proofs.Composing.{under_head}
-use Rattle.m88_asm.proofs.Relocating.{length-waiting_bytes}
+use Rattle.m88_asm.proofs.Laws.{length-waiting_bytes, under_head}
 
 -- the address of a section of the object
 base_by : (b : Placement Module) (o : Object) (k : ℕ) → o ≡ object_of b.part

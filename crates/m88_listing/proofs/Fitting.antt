@@ -6,7 +6,7 @@ use Rattle.std.specs.Option.{option_map}
 use Rattle.std.proofs.lemmas.Bool.{cases_Bool, cond-true, cond-false, eqb-true, eqb-false, ltb-false, or_parts, lt-ltb, le-ltb}
 use Rattle.std.proofs.lemmas.List.{map-append}
 use Rattle.std.proofs.lemmas.Option.{slice_get-get_or}
-use Rattle.m88_base.proofs.Lookup.{byte_in_from}
+use Rattle.m88_base.proofs.Laws.{byte_in_from}
 use Rattle.m88_base.specs.Image.{IsImage, ProgramImage, byte_at, most_bytes}
 use Rattle.m88_base.specs.Placed.{Placed}
 use Rattle.m88_parse.specs.declared.unit.Module.{Module}
@@ -22,11 +22,7 @@ use Rattle.m88_asm.specs.Faults.{duplicate_at, misfit_at, misplaced_at, module_f
 use Rattle.m88_asm.specs.Images.{IsUnitImage, run_of, runs_in}
 use Rattle.m88_asm.specs.Objects.{symbols_of}
 use Rattle.m88_asm.specs.Units.{address_in, based, bytes_of, section_length, unit_layout, value_in_module}
-use Rattle.m88_asm.proofs.Composing.{CanFill, EachBased, formed}
-use Rattle.m88_asm.proofs.Imaging.{Has, has_left, has_right, run_found, runs_law}
-use Rattle.m88_asm.proofs.Reaching.{each_fills}
-use Rattle.m88_asm.proofs.Relocating.{AllFormed, length-filled_bytes}
-use Rattle.m88_asm.proofs.Sounding.{first_parts, option_or-none}
+use Rattle.m88_asm.proofs.Laws.{AllFormed, CanFill, EachBased, Has, each_fills, first_parts, formed, has_left, has_right, length-filled_bytes, option_or-none, run_found, runs_law}
 use Rattle.m88_listing.specs.Rows.{Row, has_bytes, is_counted, row_of, rows_in, rows_of_unit}
 use Rattle.m88_listing.specs.Inside.Slots.{AllFit, StandsWithin, IsSlot, ModuleFits, found_bytes, kept_row, slots_at, slots_from, slots_of}
 use Rattle.m88_listing.specs.declared.slots.Slot.{Slot}

@@ -12,7 +12,7 @@ use Rattle.m88_base.specs.Hex.{hex2, hex8}
 use Rattle.m88_base.specs.Image.{most_bytes}
 use Rattle.m88_base.specs.Lines.{lines_of}
 use Rattle.m88_base.specs.Pieces.{pieces}
-use Rattle.m88_parse.proofs.FormedUnits.{lines_few}
+use Rattle.m88_parse.proofs.Laws.{lines_few}
 use Rattle.m88_parse.specs.declared.unit.Statement.{Statement}
 use Rattle.m88_link.specs.Symbols.{repeated_after}
 use Rattle.m88_link.specs.declared.object.Symbol.{Symbol}
@@ -22,9 +22,7 @@ use Rattle.m88_asm.specs.Objects.{lines_in, symbols_of}
 use Rattle.m88_link.specs.Bases.{Placement}
 use Rattle.m88_parse.specs.declared.unit.Module.{Module}
 use Rattle.m88_asm.specs.Units.{address_in, based, bytes_of, unit_layout, value_in_module}
-use Rattle.m88_asm.proofs.Composing.{EachBased}
-use Rattle.m88_asm.proofs.Relocating.{length-filled_bytes}
-use Rattle.m88_asm.proofs.Sounding.{first_parts, option_or-none}
+use Rattle.m88_asm.proofs.Laws.{EachBased, first_parts, length-filled_bytes, option_or-none}
 use Rattle.m88_listing.specs.Columns.{at_left, at_right, bare_line, blank, blanks, columns, further_columns, no_address}
 use Rattle.m88_listing.specs.Laws.{EachLineStandsOnce, has_number}
 use Rattle.m88_listing.proofs.Fitting.{each_clean, room_of}

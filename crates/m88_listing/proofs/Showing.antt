@@ -4,7 +4,7 @@ use Rattle.std.specs.Prelude.{◌⊎◌, flat_map, nat_lt}
 use Rattle.std.specs.Option.{option_or}
 use Rattle.std.proofs.lemmas.Bool.{cases_Bool, cond-true, cond-false, ltb-false}
 use Rattle.std.proofs.lemmas.Bool.Decides.{nat_tests}
-use Rattle.m88_base.proofs.Lookup.{byte_among-append, byte_in_above, byte_in_below}
+use Rattle.m88_base.proofs.Laws.{byte_among-append, byte_in_above, byte_in_below}
 use Rattle.m88_base.specs.Image.{byte_at}
 use Rattle.m88_base.specs.Lines.{lines_of}
 use Rattle.m88_base.specs.Placed.{Placed, byte_among, byte_in}
@@ -15,7 +15,7 @@ use Rattle.m88_asm.specs.Objects.{lines_in}
 use Rattle.m88_link.specs.Bases.{Placement}
 use Rattle.m88_parse.specs.declared.unit.Module.{Module}
 use Rattle.m88_asm.specs.Units.{based, unit_layout}
-use Rattle.m88_asm.proofs.Imaging.{Has, has_left, has_right}
+use Rattle.m88_asm.proofs.Laws.{Has, has_left, has_right}
 use Rattle.m88_listing.specs.Laws.{EachShowsItsImage, Shows, shown_runs}
 use Rattle.m88_listing.specs.Rows.{Row, has_bytes, row_of, rows_in, rows_of_unit}
 use Rattle.m88_listing.specs.Inside.Slots.{kept_row, slots_of}

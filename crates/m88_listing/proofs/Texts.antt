@@ -8,7 +8,7 @@ use Rattle.std.proofs.lemmas.List.FromFn.{length-map-range_with_len}
 use Rattle.m88_base.specs.Hex.{hex8}
 use Rattle.m88_base.specs.Lines.{line_end, text_of_lines}
 use Rattle.m88_base.specs.Pieces.{pieces}
-use Rattle.m88_base.proofs.InPieces.{next_piece, no_pieces}
+use Rattle.m88_base.proofs.Laws.{next_piece, no_pieces}
 use Rattle.m88_listing.specs.Columns.{at_left, bare_line, blanks, columns}
 use Rattle.m88_listing.specs.Refused.{below, mark_line}
 use Rattle.m88_listing.specs.Rows.{digits, further_from, further_line, row_lines}

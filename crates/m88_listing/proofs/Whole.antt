@@ -15,11 +15,10 @@ use Rattle.m88_parse.specs.Language.FirstFaults.{IsFirstFault}
 use Rattle.m88_parse.specs.Language.Units.{IsUnit}
 use Rattle.m88_parse.specs.declared.fault.ParseFault.{ParseFault}
 use Rattle.m88_parse.specs.declared.unit.Unit.{Unit as Source}
-use Rattle.m88_link.proofs.Extents.{too_large_is}
+use Rattle.m88_link.proofs.Laws.{too_large_is}
 use Rattle.m88_link.specs.Refusal.{is_too_large}
 use Rattle.m88_link.specs.Inside.Sizes.{total_size}
-use Rattle.m88_asm.proofs.Composing.{extents_law}
-use Rattle.m88_asm.proofs.UnitSound.{modules_sound}
+use Rattle.m88_asm.proofs.Laws.{extents_law, modules_sound}
 use Rattle.m88_asm.specs.Accepted.{IsAcceptedUnit, IsOutOfMemory, IsUnitFault}
 use Rattle.m88_asm.specs.Images.{IsUnitImage}
 use Rattle.m88_asm.specs.Objects.{objects_of}

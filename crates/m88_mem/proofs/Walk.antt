@@ -2,7 +2,7 @@
 use Rattle.std.proofs.Common.{◌≡◌, ◌≢◌, ℕ, ◌<◌, ◌≤◌, ◌+◌, ◌*◌, ◌/◌, ◌%◌, ◌++◌, [], ◌∷◌, List, Option, None, length, refl, arith, ap, sym, ◌∙◌, subst}
 use Rattle.m88_base.specs.Image.{ProgramImage}
 use Rattle.m88_base.specs.Pages.{page_number}
-use Rattle.m88_isa.proofs.Changed.{same_word_among, same_among, other_among}
+use Rattle.m88_isa.proofs.Laws.{other_among, same_among, same_word_among}
 use Rattle.m88_isa.specs.Bus.{changed_among}
 use Rattle.m88_mem.proofs.Seen.{seen_bus}
 use Rattle.m88_mem.proofs.Words.{bus_by}

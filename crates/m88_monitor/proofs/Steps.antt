@@ -5,7 +5,7 @@ use Rattle.m88_base.specs.Pages.{page_number}
 use Rattle.m88_base.specs.Reg.{with_register}
 use Rattle.m88_base.specs.declared.triple.Triple.{Triple}
 use Rattle.m88_ctrl.specs.ControlRegisters.{ControlRegisters, triples_by_age}
-use Rattle.m88_isa.proofs.Alone.{by_test}
+use Rattle.m88_isa.proofs.Laws.{by_test}
 use Rattle.m88_isa.specs.Bus.{bus_after, loaded}
 use Rattle.m88_isa.specs.Triples.{access_in, is_valid_triple}
 use Rattle.m88_isa.specs.declared.planned.Access.{Access}

@@ -11,8 +11,7 @@ use Rattle.m88_event.specs.Run.{IsRun, moment_after, outcome_at}
 use Rattle.m88_event.specs.Timeline.{Moment, is_over}
 use Rattle.m88_event.specs.declared.letter.Letter.{Letter}
 use Rattle.m88_event.specs.declared.outcome.Outcome.{Outcome}
-use Rattle.m88_isa.proofs.ImageProgram.{program_of_image}
-use Rattle.m88_isa.proofs.InWords.{state_bus, state_bytes}
+use Rattle.m88_isa.proofs.Laws.{program_of_image, state_bus, state_bytes}
 use Rattle.m88_isa.specs.Bus.{bus_after_all, changed_words, in_words}
 use Rattle.m88_isa.specs.History.{transactions}
 use Rattle.m88_isa.specs.ImageProgram.{IsProgramOf}

@@ -11,7 +11,7 @@ use Rattle.std.specs.Option.{option_copied}
 use Rattle.std.specs.Ordering.{nat_cmp}
 use Rattle.std.specs.declared.ops.Bound.TheVariants.{Excluded, Included}
 use Rattle.m88_base.specs.Pages.{page_count}
-use Rattle.m88_isa.proofs.Changed.{same_among}
+use Rattle.m88_isa.proofs.Laws.{same_among}
 use Rattle.m88_isa.specs.Bus.{changed_among, in_words}
 use Rattle.m88_isa.specs.Lanes.{AreBytes}
 use Rattle.m88_mem.specs.DataBus.{page_words}

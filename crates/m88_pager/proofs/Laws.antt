@@ -3,15 +3,14 @@
 use Rattle.std.specs.Prelude.{ℕ, zero, suc, Bool, true, false, List, ◌≡◌, ◌<◌, ◌≤◌, ◌==◌, ◌&&◌, ◌||◌, nat_lt}
 use Rattle.std.proofs.Common.{arith, refl, sym, ap, ◌∙◌}
 use Rattle.std.proofs.lemmas.Bool.{eqb-true, ltb-false, ltb-true}
-use Rattle.m88_event.proofs.Follows.{reached_within}
-use Rattle.m88_event.proofs.Past.{keeps_past, opens_with}
+use Rattle.m88_event.proofs.Laws.{keeps_past, opens_with, reached_within}
 use Rattle.m88_event.specs.Letters.{letter_at}
 use Rattle.m88_event.specs.Past.{HasInstructions, HasPast}
 use Rattle.m88_event.specs.Run.{IsOutcome, moment_after, moment_along, outcome_at}
 use Rattle.m88_event.specs.Timeline.{Moment, is_drained, is_idle, is_over}
 use Rattle.m88_event.specs.declared.letter.Letter.{Letter}
 use Rattle.m88_event.specs.declared.outcome.Outcome.{Outcome}
-use Rattle.m88_isa.proofs.Alone.{by_test}
+use Rattle.m88_isa.proofs.Laws.{by_test}
 use Rattle.m88_isa.specs.Held.{is_stop}
 use Rattle.m88_isa.specs.Machine.{Program, state, turn_at}
 

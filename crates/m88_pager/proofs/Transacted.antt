@@ -3,13 +3,13 @@ use Rattle.std.specs.Prelude.{ℕ, zero, suc, Bool, List, [], ◌∷◌, ◌++�
 use Rattle.std.proofs.Common.{arith, length-drop, length-take, refl, sym, ap, ap₂, subst, ◌∙◌}
 use Rattle.std.proofs.lemmas.List.{get_or-take, take-append-le}
 use Rattle.m88_base.specs.declared.triple.Triple.{Triple}
-use Rattle.m88_event.proofs.Follows.{Fits, fits, more_transactions}
+use Rattle.m88_event.proofs.Laws.{Fits, fits, more_transactions}
 use Rattle.m88_event.specs.Choice.{Choice, choice_of, evicts, faults, finishes, holds, idles, issues, passes, replies, serves}
 use Rattle.m88_event.specs.Situation.{record_of}
 use Rattle.m88_event.specs.Timeline.{DoneWereMade, Moment, after_choice, after_letter, situation_at}
 use Rattle.m88_event.specs.declared.letter.Letter.{Letter}
 use Rattle.m88_event.specs.declared.record.Record.{Record}
-use Rattle.m88_isa.proofs.Told.{told_of}
+use Rattle.m88_isa.proofs.Laws.{told_of}
 use Rattle.m88_isa.specs.History.{change_accesses, pending_at, transaction_count, transactions}
 use Rattle.m88_isa.specs.Machine.{Program, changes, outputs}
 use Rattle.m88_isa.specs.Memory.{IsWordAccess}

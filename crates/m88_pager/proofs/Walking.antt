@@ -7,12 +7,10 @@ use Rattle.std.proofs.lemmas.Bool.{eqb-true}
 use Rattle.std.specs.FinMap.{empty, get, get-empty}
 use Rattle.std.specs.Ordering.{nat_cmp}
 use Rattle.m88_base.specs.Image.{IsImage, ProgramImage, byte_at}
-use Rattle.m88_board.proofs.AtMoment.{done_at}
-use Rattle.m88_board.proofs.Starting.{same_bytes}
-use Rattle.m88_board.proofs.Walking.{not_yet}
+use Rattle.m88_board.proofs.Laws.{done_at, not_yet, same_bytes}
 use Rattle.m88_board.specs.Board.{BoardView, local_of}
 use Rattle.m88_board.specs.Moves.{IsAt}
-use Rattle.m88_event.proofs.Over.{same_over}
+use Rattle.m88_event.proofs.Laws.{same_over}
 use Rattle.m88_event.specs.Letters.{letter_at}
 use Rattle.m88_event.specs.Local.{Local, is_over_by, local_at}
 use Rattle.m88_event.specs.Run.{NotBefore, moment_after, moment_along}

@@ -1,4 +1,5 @@
--- What only helps the proofs: tokens as they are cut, lists, drafts, then the laws between reader and language.
+-- What only helps the proofs: tokens as they are cut, lists, drafts, then the laws between reader and language, in Law;
+-- Laws is for those above.
 pub mod Saturating
 pub mod CuttingTokens
 pub mod FrontBytes
@@ -10,3 +11,4 @@ pub mod LineEnd
 pub mod TokenBounds
 pub mod FormedOperands
 pub mod FormedUnits
+pub mod Laws

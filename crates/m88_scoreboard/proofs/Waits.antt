@@ -9,7 +9,7 @@ use Rattle.std.proofs.Math.Nat.{lt_of_le_of_lt}
 use Rattle.std.proofs.Math.Dec.{lit<}
 use Rattle.std.proofs.lemmas.Nat.Bits.{bit_at_and, bit_at-suc, bit_at-zero, bit_at-lt, bit_at_above, bit_at_set_same, bit_at_set_other, bit_at_clear_same, bit_at_clear_other, same_from_bits}
 use Rattle.std.specs.Int.{bit_at, bit_not, w32}
-use Rattle.m88_base.proofs.RegisterBits.{bit_of_set}
+use Rattle.m88_base.proofs.Laws.{bit_of_set}
 use Rattle.m88_base.specs.RegisterSet.{register_bits, registers_in, with_member}
 use Rattle.m88_scoreboard.specs.Registers.{none_waits}
 

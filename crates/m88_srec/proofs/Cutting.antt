@@ -9,7 +9,7 @@ use Rattle.m88_base.specs.Image.{ProgramImage, parts}
 use Rattle.m88_base.specs.Placed.{Placed}
 use Rattle.m88_base.specs.Lines.{line_end, text_of_lines}
 use Rattle.m88_base.specs.Pieces.{pieces}
-use Rattle.m88_base.proofs.InPieces.{next_piece, no_pieces}
+use Rattle.m88_base.proofs.Laws.{next_piece, no_pieces}
 use Rattle.m88_srec.specs.Written.{data_line, data_lines, last_line, header_line, part_lines, piece_line, srec_text}
 
 -- pieces with the next number from an address on, and with their own from the next line's on

@@ -6,7 +6,7 @@ use Rattle.std.proofs.lemmas.Bool.Decides.{nat_tests}
 use Rattle.std.proofs.lemmas.List.{drop_all, drop_at, take_all, take_at}
 use Rattle.std.proofs.lemmas.List.Sums.{sum_by-append}
 use Rattle.m88_base.specs.Lines.{lines_of}
-use Rattle.m88_base.proofs.Lines.{ends_last, ends_source, is_inner}
+use Rattle.m88_base.proofs.Laws.{ends_last, ends_source, is_inner}
 use Rattle.m88_srec.specs.Begun.{Begun, HoldsFault, LeadsTo, StaysRefused, held_cr, line_ends}
 use Rattle.m88_srec.specs.Front.{LineFront, front_of}
 use Rattle.m88_srec.specs.Inside.Taking.{byte_taken, ended_at, finished, holding, judged_front, last_line_on, with_byte, with_held}

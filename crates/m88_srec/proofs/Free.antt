@@ -6,7 +6,7 @@ use Rattle.std.proofs.lemmas.Bool.{cases_lt}
 use mathlib.Core.Path.{fun_ext}
 use Rattle.m88_base.specs.Found.{IsFree, IsLeastTaken, PutsBytes}
 use Rattle.m88_base.specs.Placed.{byte_in}
-use Rattle.m88_base.proofs.Lookup.{byte_in_from, byte_in_below, byte_in_above, option_or-none}
+use Rattle.m88_base.proofs.Laws.{byte_in_above, byte_in_below, byte_in_from, option_or-none}
 use Rattle.m88_srec.specs.Placing.{first_taken, first_taken_at}
 
 -- the addresses behind the first of some free ones

@@ -1,4 +1,4 @@
--- What only helps the proofs: a record written and read, then texts.
+-- What only helps the proofs: a record written and read, then texts; Laws is for those above.
 pub mod Cases
 pub mod Framing
 pub mod Free
@@ -14,3 +14,4 @@ pub mod Feeding
 pub mod Whole
 pub mod Fed
 pub mod Streamed
+pub mod Laws

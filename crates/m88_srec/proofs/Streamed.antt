@@ -3,7 +3,7 @@ use Rattle.std.proofs.Common.{◌≡◌, ◌≢◌, ℕ, ◌+◌, ◌≤◌, Lis
 use Rattle.std.specs.Prelude.{Result, Ok, Err, IfErr}
 use Rattle.std.specs.Io.KnownBytes.{Consumes, IsAtEnd}
 use Rattle.m88_base.specs.Image.{ProgramImage}
-use Rattle.m88_base.proofs.Known.{consumes_front, consumes_more, length_front}
+use Rattle.m88_base.proofs.Laws.{consumes_front, consumes_more, length_front}
 use Rattle.m88_srec.specs.Fed.{IsFed, LoaderView}
 use Rattle.m88_srec.specs.Streamed.{ReadsText, WhereRefused}
 use Rattle.m88_srec.specs.Verdict.{IsFirstSrecFault}

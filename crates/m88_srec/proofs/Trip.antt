@@ -10,11 +10,10 @@ use Rattle.std.proofs.lemmas.List.Sums.{sum_by-cons}
 use mathlib.Core.Path.{fun_ext}
 use Rattle.m88_base.specs.Image.{IsImage, ProgramImage, byte_at, byte_count, parts}
 use Rattle.m88_base.specs.Found.{FindsBytes}
-use Rattle.m88_base.proofs.Apart.{none_below}
+use Rattle.m88_base.proofs.Laws.{byte_in-join, byte_in_above, byte_in_below, byte_in_from, none_below, option_or-none, option_or_assoc}
 use Rattle.m88_base.specs.Pieces.{pieces}
 use Rattle.m88_base.specs.Placed.{AreApart, Placed, byte_among, byte_in, count_among}
 use Rattle.m88_base.specs.Image.{most_bytes}
-use Rattle.m88_base.proofs.Lookup.{byte_in-join, byte_in_from, byte_in_above, byte_in_below, option_or-none, option_or_assoc}
 use Rattle.std.proofs.lemmas.Bool.{cases_lt}
 use Rattle.m88_srec.specs.Accepted.{WriteEntries, ComeTo, Fits, IsAccepted, empty_line, ended, entry_line, filled, headed, no_line, address_of, whole_of}
 use Rattle.m88_base.specs.Hex.{hex2}

@@ -3,8 +3,7 @@ use Rattle.std.specs.Prelude.{ℕ, zero, suc, Bool, true, false, not, Option, So
 use Rattle.std.proofs.Common.{arith, refl, sym, ap, subst, ◌∙◌}
 use Rattle.std.proofs.lemmas.Bool.Decides.{nat_tests}
 use Rattle.std.proofs.lemmas.Bool.{eqb-false, eqb-true, ltb-false, ltb-true}
-use Rattle.m88_isa.proofs.Alone.{by_test}
-use Rattle.m88_isa.proofs.Held.{none_from, some_from}
+use Rattle.m88_isa.proofs.Laws.{by_test, none_from, some_from}
 use Rattle.m88_isa.specs.Held.{first_from}
 use Rattle.m88_event.specs.Timeline.{Moment}
 use Rattle.m88_tasks.specs.Shared.{Group, all_over, first_alive, is_alone, next_from, found_next, over_at, settled_from}

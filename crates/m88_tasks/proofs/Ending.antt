@@ -3,7 +3,7 @@ use Rattle.std.specs.Prelude.{ℕ, Bool, true, List, ◌≡◌, ◌≤◌, nat_l
 use Rattle.std.proofs.Common.{arith, sym, ap, ◌∙◌}
 use Rattle.std.proofs.lemmas.Bool.{ltb-false, ltb-true}
 use Rattle.m88_base.specs.declared.failing.NoMemory.{NoMemory}
-use Rattle.m88_isa.proofs.Alone.{by_test}
+use Rattle.m88_isa.proofs.Laws.{by_test}
 use Rattle.m88_tasks.proofs.Choosing.{no_true}
 use Rattle.m88_tasks.proofs.Running.{Went, over_view, went_own, went_shared}
 use Rattle.m88_tasks.specs.Shared.{AreOwnOutcomes, Group, IsShared, SharedMoment, all_over, opening_shared, shared_after, shared_at}

@@ -1,8 +1,7 @@
 -- What lies behind each moment of the shared timeline.
 use Rattle.std.specs.Prelude.{ℕ, Bool, true, false, not, Option, Some, None, ◌≡◌, ◌<◌, ◌≤◌, ◌+◌, ◌==◌, is_none, unwrap_or, if◌then◌else◌}
 use Rattle.std.proofs.Common.{arith, refl, sym, ap, subst, ◌∙◌}
-use Rattle.m88_isa.proofs.Alone.{by_test}
-use Rattle.m88_isa.proofs.Held.{some_from}
+use Rattle.m88_isa.proofs.Laws.{by_test, some_from}
 use Rattle.m88_isa.specs.Machine.{Program}
 use Rattle.m88_event.specs.Choice.{Choice, evicts, faults, finishes, holds, idles, issues, passes, replies, serves}
 use Rattle.m88_event.specs.Timeline.{Moment, after_choice, after_letter, choice_at, is_drained, opening_moment, record_at}

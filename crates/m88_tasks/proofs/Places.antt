@@ -5,13 +5,13 @@ use Rattle.std.proofs.lemmas.Bool.Decides.{nat_tests}
 use Rattle.std.proofs.lemmas.Bool.{eqb-false, eqb-true}
 use Rattle.std.proofs.lemmas.List.{length-set}
 use Rattle.std.proofs.lemmas.Option.{slice_get_read}
-use Rattle.m88_isa.proofs.Alone.{by_test}
+use Rattle.m88_isa.proofs.Laws.{by_test}
 use Rattle.m88_isa.specs.History.{transaction_count}
 use Rattle.m88_isa.specs.Machine.{Program}
 use Rattle.m88_event.specs.Timeline.{Moment, after_letter, is_over}
 use Rattle.m88_event.specs.declared.letter.Letter.{Letter}
 use Rattle.m88_mem.specs.Marks.{absent_in}
-use Rattle.m88_board.proofs.Walking.{still_at}
+use Rattle.m88_board.proofs.Laws.{still_at}
 use Rattle.m88_board.specs.Board.{BoardView}
 use Rattle.m88_board.specs.Contexts.{IsRunOf, Stands, StandsFor}
 use Rattle.m88_board.specs.Moves.{IsAt, IsSameRun, IsUnmoved}

@@ -5,12 +5,12 @@ use Rattle.std.proofs.lemmas.Bool.{ltb-false, ltb-true}
 use Rattle.std.proofs.lemmas.Nat.{mul-le}
 use Rattle.std.proofs.lemmas.Option.{slice_get_within}
 use Rattle.m88_board.specs.declared.context.Context.{Context}
-use Rattle.m88_isa.proofs.Alone.{by_test}
+use Rattle.m88_isa.proofs.Laws.{by_test}
 use Rattle.m88_isa.specs.Machine.{IsProgram}
-use Rattle.m88_board.proofs.Walking.{not_yet}
+use Rattle.m88_board.proofs.Laws.{not_yet}
 use Rattle.m88_board.specs.Board.{local_of}
 use Rattle.m88_board.specs.Kept.{most_events}
-use Rattle.m88_event.proofs.Over.{same_over}
+use Rattle.m88_event.proofs.Laws.{same_over}
 use Rattle.m88_event.specs.Letters.{most_letters}
 use Rattle.m88_event.specs.Local.{Local, is_over_by, local_at}
 use Rattle.m88_event.specs.Past.{HasPast}

@@ -4,14 +4,11 @@ use Rattle.std.proofs.Common.{arith, refl, sym, ap, subst, ◌∙◌}
 use Rattle.std.proofs.lemmas.Bool.Decides.{nat_tests}
 use Rattle.std.proofs.lemmas.Bool.{eqb-false, eqb-true, le-ltb, lt-ltb, ltb-false, ltb-true}
 use Rattle.std.proofs.lemmas.List.{length-drop}
-use Rattle.m88_isa.proofs.Alone.{by_test}
-use Rattle.m88_isa.proofs.Counted.{twice_at_most}
+use Rattle.m88_isa.proofs.Laws.{by_test, twice_at_most}
 use Rattle.m88_isa.specs.Held.{is_pending}
 use Rattle.m88_isa.specs.History.{transactions}
 use Rattle.m88_isa.specs.Machine.{IsProgram, Program}
-use Rattle.m88_event.proofs.Bound.{fuel_stays, lessens}
-use Rattle.m88_event.proofs.Follows.{law}
-use Rattle.m88_event.proofs.Over.{same_over}
+use Rattle.m88_event.proofs.Laws.{fuel_stays, lessens, moves_as_seen, same_over}
 use Rattle.m88_event.specs.Bound.{fuel, one_if, turns_left, weight}
 use Rattle.m88_event.specs.Letters.{letter_at}
 use Rattle.m88_event.specs.Local.{Local, is_over_by, local_at}
@@ -119,7 +116,7 @@ own_fuel g letter moments current can q = by_test (q == current)
     (λ t.
     let same = eqb-true q current t in
     let stays = fuel_stays (g.programs current) g.limit letter (seen_in g moments current) can.program can.few in
-    let moved = law (g.programs current) g.named g.limit letter (moments current) can.program can.within in
+    let moved = moves_as_seen (g.programs current) g.named g.limit letter (moments current) can.program can.within in
     let less : fuel g.limit (local_at (g.programs current) g.named (after_letter (g.programs current) g.named g.limit letter (moments current)))
     ≤ fuel g.limit (seen_in g moments current) = subst (λ (m : Local). fuel g.limit m ≤ fuel g.limit (seen_in g moments current)) moved stays in
     rw t (subst (λ n. fuel g.limit (local_at (g.programs n) g.named (after_letter (g.programs n) g.named g.limit letter (moments n)))
@@ -172,7 +169,7 @@ own_costs g k moments current can =
     let l : Local = seen_in g moments current in
     let goes : is_over_by g.limit l ≡ false = same_over p g.named g.limit (moments current) can.within ∙ can.alive in
     let less = lessens p g.limit [] k l can.program can.few goes in
-    let moved = law p g.named g.limit letter (moments current) can.program can.within in
+    let moved = moves_as_seen p g.named g.limit letter (moments current) can.program can.within in
     let fewer = subst (λ (m : Local). weight [] g.limit (k + 1) m < weight [] g.limit k l) moved less in
     let self = same_is current in
     let here_less : cost g false (k + 1) later current current < cost g false k moments current current =

@@ -5,12 +5,11 @@ use Rattle.std.proofs.lemmas.Bool.{eqb-false, eqb-true}
 use Rattle.std.proofs.lemmas.Option.{slice_get_within}
 use Rattle.m88_base.specs.Image.{IsImage, ProgramImage}
 use Rattle.m88_base.specs.declared.absent.Absent.{Absent}
-use Rattle.m88_isa.proofs.Alone.{by_test}
-use Rattle.m88_isa.proofs.ImageProgram.{program_of_image}
+use Rattle.m88_isa.proofs.Laws.{by_test, program_of_image}
 use Rattle.m88_isa.specs.History.{transactions}
 use Rattle.m88_isa.specs.ImageProgram.{IsProgramOf}
 use Rattle.m88_isa.specs.Machine.{Program}
-use Rattle.m88_codec.proofs.ImagePrograms.{program_in, program_in_holds, program_in_mxm}
+use Rattle.m88_codec.proofs.Laws.{program_in, program_in_holds, program_in_mxm}
 use Rattle.m88_event.specs.Timeline.{opening_moment}
 use Rattle.m88_mem.specs.Marks.{absent_in}
 use Rattle.m88_board.specs.Board.{BoardView}

@@ -1,12 +1,12 @@
 -- What the letter `t` comes to, by what is seen of the board.
 use Rattle.std.specs.Prelude.{ℕ, true, false, not, List, [], ◌∷◌, ◌≡◌, ◌≢◌, ◌<◌, ◌≤◌, ◌+◌, length}
 use Rattle.std.proofs.Common.{arith, refl, sym, ap, subst, ◌∙◌}
-use Rattle.m88_isa.proofs.Alone.{by_test}
+use Rattle.m88_isa.proofs.Laws.{by_test}
 use Rattle.m88_isa.specs.Held.{is_pending}
 use Rattle.m88_isa.specs.declared.planned.Access.{Access}
 use Rattle.m88_event.specs.Timeline.{is_drained, record_at}
 use Rattle.m88_event.specs.declared.record.Record.{Record}
-use Rattle.m88_board.proofs.Walking.{drained_by}
+use Rattle.m88_board.proofs.Laws.{drained_by}
 use Rattle.m88_tasks.proofs.Choosing.{alone_stays, others_next}
 use Rattle.m88_tasks.specs.Shared.{Group, SharedMoment, after_turn, is_alone, next_from, pending_in, switch_at, switch_by, turn_at}
 use Rattle.m88_tasks.specs.Tasks.{ArePrograms, IsTaken, ProgramsView}

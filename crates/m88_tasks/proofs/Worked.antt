@@ -6,7 +6,7 @@ use Rattle.m88_base.specs.Pages.{no_page}
 use Rattle.m88_base.specs.Reg.{reg_of}
 use Rattle.m88_base.specs.RegisterSet as set
 use Rattle.m88_base.specs.Triple.{no_triple}
-use Rattle.m88_isa.proofs.Held.{none_from}
+use Rattle.m88_isa.proofs.Laws.{none_from}
 use Rattle.m88_isa.specs.Bus.{in_words, waits_for}
 use Rattle.m88_isa.specs.Held.{busy_register, first_from}
 use Rattle.m88_isa.specs.History.{transactions}
@@ -18,7 +18,7 @@ use Rattle.m88_isa.specs.declared.instr.Instr.TheVariants as instr
 use Rattle.m88_isa.specs.declared.instr.MemOp.TheVariants as memop
 use Rattle.m88_isa.specs.declared.instr.RegOp.{RegOp}
 use Rattle.m88_isa.specs.declared.instr.RegOp.TheVariants as regop
-use Rattle.m88_event.proofs.Worked.{fault, im, mem, triple}
+use Rattle.m88_event.proofs.Laws.{fault, im, mem, triple}
 use Rattle.m88_event.specs.Run.{IsFirst, outcome_at}
 use Rattle.m88_event.specs.Situation.{record_of}
 use Rattle.m88_event.specs.Timeline.{after_letter, situation_at, xip_at}

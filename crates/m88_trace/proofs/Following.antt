@@ -5,10 +5,8 @@ use Rattle.std.proofs.Common.{add-one, refl, sym, ap, ap₂, ◌∙◌}
 use Rattle.std.proofs.lemmas.Nat.{from_be_bytes-to_be_bytes_4}
 use Rattle.m88_base.specs.Image.{ProgramImage, byte_at}
 use Rattle.m88_base.specs.Lines.{line_end}
-use Rattle.m88_board.proofs.OfHistory.{mode_stays}
-use Rattle.m88_isa.proofs.ImageProgram.{instruction_at_word}
-use Rattle.m88_isa.proofs.InWords.{state_agrees}
-use Rattle.m88_isa.proofs.Turns.{TurnFits, listed_recorded, turn_fits}
+use Rattle.m88_board.proofs.Laws.{mode_stays}
+use Rattle.m88_isa.proofs.Laws.{TurnFits, instruction_at_word, listed_recorded, state_agrees, turn_fits}
 use Rattle.m88_base.specs.Reg.{with_register}
 use Rattle.m88_event.specs.declared.happened.End.{End}
 use Rattle.m88_isa.specs.Address.{after_bytes, word_address}

@@ -4,8 +4,7 @@ use Rattle.std.proofs.Common.{arith, append_assoc, refl, sym, ap, ap₂, ◌∙�
 use Rattle.std.proofs.lemmas.Bool.{eqb-true}
 use Rattle.std.proofs.lemmas.List.{append-nil}
 use Rattle.m88_base.specs.Lines.{line_end}
-use Rattle.m88_isa.proofs.Alone.{by_test}
-use Rattle.m88_isa.proofs.InWords.{bus_of_append}
+use Rattle.m88_isa.proofs.Laws.{bus_of_append, by_test}
 use Rattle.m88_isa.specs.Bus.{bus_after, bus_after_all, listed}
 use Rattle.m88_isa.specs.declared.planned.Access.{Access}
 use Rattle.m88_isa.specs.declared.planned.Accesses.{Accesses}

@@ -2,8 +2,7 @@
 use Rattle.std.specs.Prelude.{ℕ, zero, suc, Bool, List, ◌≡◌, ◌+◌}
 use Rattle.std.proofs.Common.{sym, ◌∙◌}
 use Rattle.m88_base.specs.OneVerdict.{HasOneVerdict}
-use Rattle.m88_event.proofs.Follows.{reached_within}
-use Rattle.m88_event.proofs.Past.{keeps_past, opens_with}
+use Rattle.m88_event.proofs.Laws.{keeps_past, opens_with, reached_within}
 use Rattle.m88_event.specs.Bound.{one_if}
 use Rattle.m88_event.specs.Letters.{letter_at}
 use Rattle.m88_event.specs.Past.{HasPast}

@@ -10,7 +10,7 @@ use Rattle.m88_board.specs.Moves.{IsAt}
 use Rattle.m88_board.specs.Told.{IsTold, IsWordOf}
 use Rattle.m88_board.specs.declared.told.Told.{Told}
 use Rattle.m88_mem.specs.DataBus.{absent_of, bus_of}
-use Rattle.m88_event.proofs.Follows.{Fits, fits, more_transactions}
+use Rattle.m88_event.proofs.Laws.{Fits, fits, more_transactions}
 use Rattle.m88_event.specs.Bound.{one_if}
 use Rattle.m88_event.specs.Choice.{Choice, answer_choice, end_by, evicts, faults, finishes, holds, idles, issue_choice, issues, passes, replies, said, serves, turn_choice}
 use Rattle.m88_event.specs.Past.{HasPast}
@@ -20,10 +20,8 @@ use Rattle.m88_event.specs.declared.happened.Happened.TheVariants as happened
 use Rattle.m88_event.specs.declared.letter.Letter.{Letter}
 use Rattle.m88_event.specs.declared.letter.Letter.TheVariants.{Issue, Answer, Evict}
 use Rattle.m88_event.specs.declared.record.Record.{Record}
-use Rattle.m88_isa.proofs.Alone.{by_test}
+use Rattle.m88_isa.proofs.Laws.{TurnFits, bus_of_append, by_test, listed_recorded, state_bus}
 use Rattle.m88_event.specs.EndText.{run_end_line}
-use Rattle.m88_isa.proofs.InWords.{bus_of_append, state_bus}
-use Rattle.m88_isa.proofs.Turns.{TurnFits, listed_recorded}
 use Rattle.m88_isa.specs.Bus.{bus_after_all, in_words, listed}
 use Rattle.m88_isa.specs.Effect.{Change, recorded_change}
 use Rattle.m88_isa.specs.Held.{Hold, held, instruction_at}

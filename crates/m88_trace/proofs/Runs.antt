@@ -3,7 +3,7 @@ use Rattle.std.specs.Prelude.{ℕ, Bool, true, false, List, [], IfOk, Result, Ok
 use Rattle.std.proofs.Common.{arith, add-one, refl, sym, ap, ap₂, subst, ◌∙◌}
 use Rattle.std.proofs.lemmas.Bool.{eqb-true}
 use Rattle.std.proofs.lemmas.List.{drop_all}
-use Rattle.m88_board.proofs.Walking.{not_yet}
+use Rattle.m88_board.proofs.Laws.{not_yet}
 use Rattle.m88_board.specs.Board.{BoardView}
 use Rattle.m88_board.specs.Moves.{IsAt}
 use Rattle.m88_event.specs.Bound.{one_if}

@@ -3,7 +3,7 @@ use Rattle.std.specs.Prelude.{ℕ, zero, suc, Bool, true, false, List, [], ◌�
 use Rattle.std.proofs.Common.{arith, add-one, add-suc, append_assoc, inl, inr, length-append, refl, sym, ap, subst, ⊎_elim, ◌∙◌}
 use Rattle.std.proofs.lemmas.Bool.{eqb-false, eqb-true, ltb-false, ltb-true}
 use Rattle.std.proofs.lemmas.List.{append-nil}
-use Rattle.m88_isa.proofs.Alone.{by_test}
+use Rattle.m88_isa.proofs.Laws.{by_test}
 use Rattle.m88_base.specs.OneVerdict.{HasOneVerdict}
 use Rattle.m88_trace.specs.Texts.{BeginsOtherwise, DiffersBehind, HasLines, IsText, text_of}
 

@@ -5,7 +5,7 @@ use Rattle.std.specs.List.{list_all}
 use Rattle.std.proofs.lemmas.List.Sums.{list_all-from_AllPass, AllPass-from_list_all}
 use Rattle.std.proofs.lemmas.Slice.Eq.{bytes_eq-Decides}
 use Rattle.m88_base.specs.Numerals.{is_numeral, number_in, has_no_needless_zero, decimal_in}
-use Rattle.m88_base.proofs.Digits.{decimal_found, decimal_needed, decimal_told}
+use Rattle.m88_base.proofs.Laws.{decimal_found, decimal_needed, decimal_told}
 use Rattle.m88_base.specs.Name.{IsName, begins_name, continues_name}
 use Rattle.m88_parse.specs.Inside.Names.{register_of, control_of, float_control_of, control_in, is_here, is_valid_name, is_symbol}
 use Rattle.m88_parse.specs.Language.Names.{IsRegisterName, IsControlName, IsSymbolName}

@@ -4,7 +4,7 @@ use Rattle.std.proofs.lemmas.Slice.Eq.{bytes_eq-Decides}
 use Rattle.m88_isa.specs.declared.mnemonic.Mnemonic.{Mnemonic}
 use Rattle.m88_isa.specs.declared.mnemonic.Mnemonic.TheVariants as mnemonic
 use Rattle.m88_isa.specs.Mnemonic.{text_of, all_mnemonics, mnemonic_of}
-use Rattle.m88_isa.proofs.Spelling.{spelled_once}
+use Rattle.m88_isa.proofs.Laws.{spelled_once}
 use Rattle.m88_parse.specs.declared.unit.Body.{Body}
 use Rattle.m88_parse.specs.declared.unit.Body.TheVariants as body
 use Rattle.m88_parse.specs.declared.directive.Directive.{Directive}

@@ -2,7 +2,7 @@
 use Rattle.std.proofs.Common.{ap, ◌∙◌, sym, true}
 use Rattle.m88_base.specs.Reg.{number_of}
 use Rattle.m88_base.specs.RegisterSet.{with_member}
-use Rattle.m88_isa.proofs.Apart.{loaded_last, stored_last}
+use Rattle.m88_isa.proofs.Laws.{loaded_last, stored_last}
 use Rattle.m88_board.proofs.accesses.wait_for.Goals as goal
 
 pub returns-then-access-clause-waiting : goal.returns-then-access-clause-waiting

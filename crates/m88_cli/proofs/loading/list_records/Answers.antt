@@ -1,6 +1,6 @@
 -- The listing of the image answers the records, and so does the line that refuses them.
 use Rattle.std.proofs.Common.{arith, subst}
-use Rattle.m88_base.proofs.FewParts.{few_parts}
+use Rattle.m88_base.proofs.Laws.{few_parts}
 use Rattle.m88_cli.specs.Command.{dis}
 use Rattle.m88_cli.specs.Inside.Inputs.{AreRecordsOf}
 use Rattle.m88_cli.proofs.Listed.{listed}

@@ -1,7 +1,7 @@
 -- The board stands at the first moment of the program that the image holds, and its session is that of the program.
 use Rattle.std.proofs.Common.{◌≡◌, [], ℕ, Bool, List}
 use Rattle.std.proofs.lemmas.Result.{IfOk-weaker, on_err_weaker}
-use Rattle.m88_isa.proofs.ImageProgram.{program_of_image}
+use Rattle.m88_isa.proofs.Laws.{program_of_image}
 use Rattle.m88_isa.specs.ImageProgram.{IsProgramOf}
 use Rattle.m88_isa.specs.Machine.{IsProgram, Program}
 use Rattle.m88_event.specs.Timeline.{opening_moment}
@@ -10,7 +10,7 @@ use Rattle.m88_board.specs.Glances.{Saw}
 use Rattle.m88_board.specs.Moves.{IsAt}
 use Rattle.m88_board.specs.declared.glance.Glance.{Glance}
 use Rattle.m88_cli.specs.Session.{IsSession, course_of, opening_session}
-use Rattle.m88_board.proofs.Seeing.{saw_none}
+use Rattle.m88_board.proofs.Laws.{saw_none}
 use Rattle.m88_cli.proofs.InputSessions.{no_session_front}
 use Rattle.m88_cli.proofs.Reporting.{on_err}
 use Rattle.m88_cli.proofs.monitoring.session_text.Goals as goal

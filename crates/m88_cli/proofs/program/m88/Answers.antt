@@ -1,7 +1,7 @@
 -- A refusal stands whole only where it was written whole; where the sink failed a part of the text was written.
 use Rattle.std.proofs.Common.{◌≡◌, Err, inl, inr, refl, ap, sym, ◌∙◌, subst}
 use Rattle.std.specs.Prelude.{length}
-use Rattle.m88_base.proofs.Calls.{calls_none}
+use Rattle.m88_base.proofs.Laws.{calls_none}
 use Rattle.m88_base.specs.Calls.{CallsWithin}
 use Rattle.m88_base.specs.Outside.{AppendsPart}
 use Rattle.m88_cli.specs.Answer.{Accepts}

@@ -1,7 +1,7 @@
 -- The board stands at the first moment of the program that the image holds, and its run is that of the program.
 use Rattle.std.proofs.Common.{subst}
 use Rattle.m88_event.specs.Run.{IsOutcome}
-use Rattle.m88_isa.proofs.ImageProgram.{program_of_image}
+use Rattle.m88_isa.proofs.Laws.{program_of_image}
 use Rattle.m88_mem.specs.Marks.{absent_in}
 use Rattle.m88_cli.specs.Kept.{settings_of}
 use Rattle.m88_cli.proofs.Reporting.{front_by, no_front, on_err, run_by}

@@ -1,7 +1,7 @@
 -- The image that the records write holds their program, and the report of its run answers them.
 use Rattle.std.proofs.Common.{inr, subst, sym, ◌∙◌}
 use Rattle.std.proofs.lemmas.Result.{on_err_weaker}
-use Rattle.m88_codec.proofs.ImagePrograms.{program_in, program_in_holds, program_in_mxm}
+use Rattle.m88_codec.proofs.Laws.{program_in, program_in_holds, program_in_mxm}
 use Rattle.m88_srec.specs.Accepted.{whole_of}
 use Rattle.m88_cli.specs.Command.{exec}
 use Rattle.m88_cli.specs.Kept.{settings_of}

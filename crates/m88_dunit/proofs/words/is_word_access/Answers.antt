@@ -2,7 +2,7 @@
 use Rattle.std.proofs.Common.{arith}
 use Rattle.m88_isa.specs.Operands.{no_register}
 use Rattle.std.proofs.lemmas.Bool.Decides.{nat_tests}
-use Rattle.m88_base.proofs.Same.{same_reg}
+use Rattle.m88_base.proofs.Laws.{same_reg}
 use Rattle.m88_dunit.proofs.WordsOf.{store_made}
 use Rattle.m88_dunit.proofs.words.is_word_access.Goals as goal
 

@@ -2,10 +2,10 @@
 use Rattle.std.proofs.Common.{rules, [], ℕ, List, ◌≡◌, ◌++◌, false, true, arith, add-one, sym, ap, ap₂, subst, ◌∙◌}
 use Rattle.std.proofs.lemmas.List.{append-nil}
 use Rattle.m88_base.specs.Image.{ProgramImage}
-use Rattle.m88_event.proofs.Bound.{weight_at_start}
+use Rattle.m88_event.proofs.Laws.{weight_at_start}
 use Rattle.m88_event.specs.Local.{Local, is_over_by, move}
 use Rattle.m88_event.specs.declared.letter.Letter.{Letter}
-use Rattle.m88_isa.proofs.ImageProgram.{program_of_image}
+use Rattle.m88_isa.proofs.Laws.{program_of_image}
 use Rattle.m88_isa.specs.ImageProgram.{IsProgramOf}
 use Rattle.m88_isa.specs.Machine.{Program}
 use Rattle.m88_mem.specs.Marks.{absent_in}

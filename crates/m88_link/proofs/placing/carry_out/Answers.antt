@@ -4,7 +4,7 @@ use Rattle.std.proofs.Common.{◌+◌, ◌∷◌, [], ◌∙◌, take, drop, get
 use Rattle.std.proofs.lemmas.List.{map-append}
 use Rattle.std.specs.Prelude.{slice_set}
 use Rattle.std.specs.Option.{option_or}
-use Rattle.m88_base.proofs.Lookup.{option_or_assoc}
+use Rattle.m88_base.proofs.Laws.{option_or_assoc}
 use Rattle.m88_link.specs.Bases.{base_of}
 use Rattle.m88_link.specs.Inside.Carried.{HasWord, carried, patched_spot}
 use Rattle.m88_link.specs.Inside.Resolved.{uses_in}

@@ -3,7 +3,7 @@ use Rattle.std.proofs.Common.{◌∙◌, ◌+◌, ◌-◌, ◌++◌, ℕ, ap, ar
 use Rattle.std.specs.List.{enumerate_from}
 use Rattle.m88_base.specs.Lines.{lines_of}
 use Rattle.m88_base.specs.Refused.{refused_line}
-use Rattle.m88_parse.proofs.FormedUnits.{lines_few}
+use Rattle.m88_parse.proofs.Laws.{lines_few}
 use Rattle.m88_listing.specs.Refused.{bare_text}
 use Rattle.m88_listing.proofs.Lines.{refused_whole}
 use Rattle.m88_listing.proofs.refused.push_refusal.Goals as goal

@@ -3,7 +3,7 @@ use Rattle.std.proofs.Common.{◌≡◌, ◌∙◌, ◌+◌, ◌<◌, ◌++◌, 
 use Rattle.std.proofs.lemmas.List.{get_or-map, length-map}
 use Rattle.std.proofs.lemmas.List.Sums.{sum_by-drop_more}
 use Rattle.m88_base.specs.Pages.{page_bytes}
-use Rattle.m88_link.proofs.Stood.{sizes_fit}
+use Rattle.m88_link.proofs.Laws.{sizes_fit}
 use Rattle.m88_link.specs.Bases.{Placement, first_text, section_size, stood_from, text_end, up_to_multiple}
 use Rattle.m88_parse.specs.declared.unit.Module.{Module}
 use Rattle.m88_link.specs.declared.object.Object.{Object}

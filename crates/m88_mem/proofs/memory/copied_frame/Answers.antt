@@ -2,7 +2,7 @@
 use Rattle.std.proofs.Common.{◌≡◌, ◌-◌, ◌+◌, ◌*◌, ◌++◌, ◌∷◌, [], ℕ, List, Some, ◌∙◌, ap, arith, inl, inr, refl, rules, length, length-append}
 use Rattle.std.specs.Prelude.{slice_get}
 use Rattle.std.proofs.lemmas.Bool.Decides.{leb_tells}
-use Rattle.m88_base.proofs.Lookup.{slice_get-append_left, slice_get-append_right}
+use Rattle.m88_base.proofs.Laws.{slice_get-append_left, slice_get-append_right}
 use Rattle.m88_mem.proofs.Words.{word_in_page}
 use Rattle.m88_mem.specs.DataBus.{image_bus}
 use Rattle.m88_mem.proofs.memory.copied_frame.Invariants.{Copied}

@@ -1,7 +1,7 @@
 -- A word that is another is added.
 use Rattle.std.proofs.Common.{◌≡◌, ◌+◌, ◌*◌, ◌++◌, ◌∷◌, [], ℕ, ◌∙◌, ap, sym, arith}
 use Rattle.m88_isa.specs.Bus.{changed_among}
-use Rattle.m88_mem.proofs.Walk.{other_word, same_word}
+use Rattle.m88_mem.proofs.Laws.{other_word, same_word}
 use Rattle.m88_pager.proofs.Words.{word_read}
 use Rattle.m88_pager.proofs.changed.append_changed.Goals as goal
 use Rattle.m88_pager.proofs.changed.append_changed.Goals.{then-word-word_at+in_ok-note, else-word-word_at}

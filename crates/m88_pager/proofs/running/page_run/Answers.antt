@@ -5,7 +5,7 @@ use Rattle.std.proofs.Common.{arith, refl, sym, ap, subst, ◌∙◌}
 use Rattle.std.proofs.lemmas.Result.{IfOk-weaker}
 use Rattle.m88_board.specs.Board.{BoardView, local_of}
 use Rattle.m88_board.specs.Moves.{IsAt}
-use Rattle.m88_event.proofs.Over.{one_outcome}
+use Rattle.m88_event.proofs.Laws.{one_outcome}
 use Rattle.m88_event.specs.Local.{is_over_by}
 use Rattle.m88_event.specs.Run.{moment_after, outcome_at}
 use Rattle.m88_event.specs.Timeline.{opening_moment}

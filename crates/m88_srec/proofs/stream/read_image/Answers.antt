@@ -1,7 +1,6 @@
 -- As for a whole source in memory, with the bytes that were taken and fed in the place of those kept.
 use Rattle.std.proofs.Common.{◌∙◌, ◌<◌, drop, length, length-take, arith}
-use Rattle.m88_base.proofs.Calls.{calls_more}
-use Rattle.m88_base.proofs.Known.{length_front, takes_at_most, takes_exactly}
+use Rattle.m88_base.proofs.Laws.{calls_more, length_front, takes_at_most, takes_exactly}
 use Rattle.m88_srec.proofs.Streamed.{refused_whole, took_more, turns_on}
 use Rattle.m88_srec.proofs.stream.read_image.Goals as goal
 

@@ -1,9 +1,9 @@
 -- One line after the other.
 use Rattle.std.proofs.Common.{ℕ, Bool, ◌≡◌, ◌<◌, ◌++◌, List, length, false, arith, ap, refl, sym, subst, ◌∙◌}
-use Rattle.m88_base.proofs.FewParts.{few_parts}
+use Rattle.m88_base.proofs.Laws.{few_parts}
 use Rattle.m88_base.specs.Image.{IsImage, ProgramImage}
-use Rattle.m88_codec.proofs.ImagePrograms.{program_in, program_in_holds, program_in_mxm}
-use Rattle.m88_isa.proofs.ImageProgram.{program_of_image}
+use Rattle.m88_codec.proofs.Laws.{program_in, program_in_holds, program_in_mxm}
+use Rattle.m88_isa.proofs.Laws.{program_of_image}
 use Rattle.m88_isa.specs.ImageProgram.{IsProgramOf}
 use Rattle.m88_isa.specs.Machine.{Program}
 use Rattle.m88_trace.proofs.Laws.{one_verdict_of}

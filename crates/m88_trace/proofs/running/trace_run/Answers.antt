@@ -6,7 +6,7 @@ use Rattle.m88_event.specs.Past.{HasPast}
 use Rattle.m88_event.specs.Run.{moment_after}
 use Rattle.m88_event.specs.Timeline.{is_over, opening_moment}
 use Rattle.m88_event.specs.declared.letter.Letter.{Letter}
-use Rattle.m88_isa.proofs.ImageProgram.{program_of_image}
+use Rattle.m88_isa.proofs.Laws.{program_of_image}
 use Rattle.m88_mem.specs.Marks.{absent_in}
 use Rattle.m88_board.specs.Board.{BoardView, local_of}
 use Rattle.m88_board.specs.Moves.{IsAt}

@@ -1,6 +1,6 @@
 -- A board that begins from parts: what always holds of it, and what is seen of it.
 use Rattle.std.proofs.Common.{arith, subst, ◌≡◌}
-use Rattle.m88_base.proofs.FewParts.{few_parts}
+use Rattle.m88_base.proofs.Laws.{few_parts}
 use Rattle.m88_base.specs.Image.{IsImage}
 use Rattle.m88_board.proofs.Beginning.{begins, kept_begun, seen_begun}
 use Rattle.m88_board.specs.Board.{BoardView, local_of}

@@ -2,7 +2,7 @@
 use Rattle.std.specs.Prelude.{List, not, slice_get}
 use Rattle.std.proofs.Common.{ap, arith, length, refl, suc, subst, sym, ◌≡◌, ◌≤◌, ◌∙◌}
 use Rattle.std.proofs.lemmas.Result.{err_from_is_err_and}
-use Rattle.m88_event.proofs.Over.{answered_issues_none}
+use Rattle.m88_event.proofs.Laws.{answered_issues_none}
 use Rattle.m88_event.specs.Run.{answered_after}
 use Rattle.m88_event.specs.Timeline.{is_drained}
 use Rattle.m88_event.specs.declared.letter.Letter.TheVariants.{Answer}

@@ -1,9 +1,9 @@
 -- The event is the move of what is seen, and so goes along the timeline.
 use Rattle.std.proofs.Common.{false, ap, subst, sym, ◌+◌, ◌∙◌}
 use Rattle.m88_base.specs.Image.{IsImage}
-use Rattle.m88_codec.proofs.ImagePrograms.{program_in, program_in_holds}
+use Rattle.m88_codec.proofs.Laws.{program_in, program_in_holds}
 use Rattle.m88_ctrl.specs.ControlRegisters.{mxm_of}
-use Rattle.m88_isa.proofs.ImageProgram.{program_of_image}
+use Rattle.m88_isa.proofs.Laws.{program_of_image}
 use Rattle.m88_board.proofs.Evicted.{evicted_counted}
 use Rattle.m88_board.proofs.Leaving.{leaves_counted}
 use Rattle.m88_board.proofs.Moving.{along, ended_so, moved_by, precise_on, says_so}

@@ -1,6 +1,6 @@
 -- Memory at a moment.
 use Rattle.std.specs.Prelude.{false}
-use Rattle.m88_codec.proofs.ImagePrograms.{some_program}
+use Rattle.m88_codec.proofs.Laws.{some_program}
 use Rattle.m88_board.proofs.Shown.{memory_seen}
 use Rattle.m88_board.specs.contracts.board.Board.{the_view}
 use Rattle.m88_board.proofs.board.Board.memory.Goals as goal

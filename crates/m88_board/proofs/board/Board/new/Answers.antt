@@ -1,8 +1,8 @@
 -- A board at its start.
 use Rattle.std.proofs.Common.{◌≡◌, ◌∙◌, ◌*◌, ◌/◌, ℕ, Bool, ap, arith, sym, subst}
-use Rattle.m88_base.proofs.FewParts.{few_parts}
+use Rattle.m88_base.proofs.Laws.{few_parts}
 use Rattle.m88_base.specs.Image.{IsImage, ProgramImage}
-use Rattle.m88_codec.proofs.ImagePrograms.{program_in, program_in_holds, program_in_mxm}
+use Rattle.m88_codec.proofs.Laws.{program_in, program_in_holds, program_in_mxm}
 use Rattle.m88_ctrl.specs.ControlRegisters.{mxm_of}
 use Rattle.m88_event.specs.Timeline.{opening_moment}
 use Rattle.m88_isa.specs.Address.{word_address}

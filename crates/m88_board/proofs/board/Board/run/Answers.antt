@@ -1,7 +1,7 @@
 -- The run is over after its events, and came to what the moment says.
 use Rattle.std.proofs.Common.{ap, arith, refl, subst, sym, true, ℕ, Bool, ◌≡◌, ◌+◌, ◌∙◌}
 use Rattle.std.proofs.lemmas.Result.{IfOk-weaker}
-use Rattle.m88_event.proofs.Over.{drained_bus}
+use Rattle.m88_event.proofs.Laws.{drained_bus}
 use Rattle.m88_event.specs.Run.{IsOutcome, moment_after, outcome_at}
 use Rattle.m88_event.specs.Timeline.{Moment, is_over, opening_moment}
 use Rattle.m88_event.specs.declared.outcome.Outcome.{Outcome}

@@ -1,6 +1,6 @@
 -- A word at a moment.
 use Rattle.std.proofs.Common.{ap, ◌∙◌, ℕ}
-use Rattle.m88_isa.proofs.ImageProgram.{program_of_image}
+use Rattle.m88_isa.proofs.Laws.{program_of_image}
 use Rattle.m88_board.proofs.Ending.{memory_is}
 use Rattle.m88_board.proofs.Shown.{words_seen}
 use Rattle.m88_board.specs.contracts.board.Board.{the_view}

@@ -3,7 +3,7 @@ use Rattle.std.proofs.Common.{ℕ, List, ◌++◌, ◌-◌, ◌+◌, ◌≡◌, 
 use Rattle.m88_isa.specs.Address.{after_bytes, word_address}
 use Rattle.m88_mem.specs.DataBus.{bus_of}
 use Rattle.m88_report.specs.Report.{word_line}
-use Rattle.m88_board.proofs.Shown.{words_seen}
+use Rattle.m88_board.proofs.Laws.{words_seen}
 use Rattle.m88_cli.proofs.Lines.{one_word, no_word}
 use Rattle.m88_cli.specs.MonitorLines.{words_from, words_text}
 use Rattle.m88_cli.proofs.monitor.showing.push_words.Goals as goal

@@ -3,7 +3,7 @@ use Rattle.std.specs.Prelude.{length}
 use Rattle.std.proofs.Common.{ap, refl, ◌+◌, ◌∙◌}
 use Rattle.m88_base.specs.declared.slot.Slot.{Slot}
 use Rattle.m88_isa.specs.Held.{instruction_at}
-use Rattle.m88_board.proofs.AtMoment.{events_at, records_at}
+use Rattle.m88_board.proofs.Laws.{events_at, records_at}
 use Rattle.m88_cli.proofs.monitor.tracing.noted.Goals as goal
 
 pub returns-clause-before : goal.returns-clause-before

@@ -1,0 +1,18 @@
+-- The laws of the board that proofs above cite, by their subject.
+
+-- A board at a moment of a history has its counts and its records.
+pub use Rattle.m88_board.proofs.AtMoment.{done_at, events_at, records_at, retired_at}
+-- it shows the registers, the data unit and the memory of that moment
+pub use Rattle.m88_board.proofs.AtMoment.{registers_seen}
+pub use Rattle.m88_board.proofs.Shown.{pending_seen, words_seen}
+-- it has something pending where the moment does, and stands there still where memory refused it an event
+pub use Rattle.m88_board.proofs.Walking.{drained_by, still_at}
+-- no register waits where nothing is pending
+pub use Rattle.m88_board.proofs.Ending.{none_wait}
+-- Walks: a condition that didn't hold so far doesn't hold after an event at whose moment it fails.
+pub use Rattle.m88_board.proofs.Walking.{not_yet}
+-- Those who watch a board see nothing without an event, and of two walks the glances of both.
+pub use Rattle.m88_board.proofs.Seeing.{saw_none, saw_then}
+-- The program of a board has its image's bytes, and its mode stays as it is.
+pub use Rattle.m88_board.proofs.OfHistory.{mode_stays}
+pub use Rattle.m88_board.proofs.Starting.{same_bytes}

@@ -1,0 +1,18 @@
+-- The laws of listings and of the texts of instructions that proofs above cite, by their subject.
+
+-- The listing of an image writes the image again.
+pub use Rattle.m88_disasm.proofs.Again.{listing_again}
+-- The text of each valid instruction is a line that is read as that instruction.
+pub use Rattle.m88_disasm.proofs.Spoken.{Spoken, said_instr}
+-- names of instructions are short
+pub use Rattle.m88_disasm.proofs.Names.{imm_short, mem_short, reg_short}
+-- Lines that are each read as a statement are a source, with the unit of their bodies.
+pub use Rattle.m88_disasm.proofs.Rows.{Stated, numbered, unit_is, unit_of_bodies}
+-- Where statements stand, one by one: the first before the counters that it changes, then the others.
+pub use Rattle.m88_disasm.proofs.Standing.{located_cons, located_none}
+-- the symbols that they set, the symbols that they use and the sections that they open
+pub use Rattle.m88_disasm.proofs.Accepting.{defined_symbols, opened_in, opened_sections, set_in, uses_of}
+-- none has a fault where the first has none and the others have none
+pub use Rattle.m88_disasm.proofs.Accepting.{faults_cons}
+-- their lengths and the extents that cover an address are those of the first and of the others
+pub use Rattle.m88_disasm.proofs.Linking.{hits_cons, lengths_cons, lengths_of}

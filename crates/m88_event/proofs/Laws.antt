@@ -1,0 +1,22 @@
+-- The laws of events and runs that proofs above cite, by their subject.
+
+-- Outcomes: a run comes to one, and a condition that holds at some time holds for the first time at one.
+pub use Rattle.m88_event.proofs.Over.{one_first, one_outcome}
+-- an outcome and the end of a run are seen of what a board has of its moment
+pub use Rattle.m88_event.proofs.Over.{drained_seen, outcome_seen, same_over}
+-- what answers of the data unit leave as it is, and memory behind the last of them
+pub use Rattle.m88_event.proofs.Over.{answered_issues_none, drained_bus, issued_of}
+-- Moments: what is seen of one moves to what is seen of the next, and says the same.
+pub use Rattle.m88_event.proofs.Follows.{ended_is, law as moves_as_seen, same_said, same_situation}
+-- no moment of a run is past what was made, and each letter's choice fits its moment
+pub use Rattle.m88_event.proofs.Follows.{Fits, fits, more_transactions, reached_within, stays_within}
+-- what lies behind a moment lies behind the next one, and nothing lies behind the first
+pub use Rattle.m88_event.proofs.Past.{keeps_past, opens_with}
+-- The bound of a run: each letter before its end lessens a weight, which is bounded, at the start too.
+pub use Rattle.m88_event.proofs.Bound.{answered_lessens, fuel_stays, lessens, weight_at_start, weight_most}
+-- no letter retires more than the limit
+pub use Rattle.m88_event.proofs.Bound.{stays_in_limit}
+-- Precise faults: nothing is pending where an instruction is served or ends the program.
+pub use Rattle.m88_event.proofs.Precise.{IsLastChoice, precise_by, precise_choice}
+-- Worked examples: their instructions, words and records in short.
+pub use Rattle.m88_event.proofs.Worked.{fault, im, mem, triple}

@@ -1,0 +1,4 @@
+-- The laws of the service of accesses that proofs above cite.
+
+-- A load leaves the triples as they are.
+pub use Rattle.m88_monitor.proofs.Steps.{same_triple}
