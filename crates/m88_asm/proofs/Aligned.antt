@@ -25,9 +25,9 @@ use Rattle.m88_asm.specs.Faults.{IsAssembled, alignment_of, misfit_at, misplaced
 use Rattle.m88_asm.specs.Images.{code_at, code_in, first_of, module_code, placed_instruction}
 use Rattle.m88_asm.specs.Objects.{Head, heads_in, sections_in, symbols_of}
 use Rattle.m88_asm.specs.Units.{address_in, base_in, based, section_length, unit_layout, value_in_module}
-use Rattle.m88_asm.proofs.Assembling.{counters_empty, grown_object}
+use Rattle.m88_asm.proofs.Assembling.{counters_empty, grown_object, none_of_both}
 use Rattle.m88_asm.proofs.Composing.{EachBased, under_head}
-use Rattle.m88_asm.proofs.Sounding.{Extends, Stands, after_all_extends, after_stands, counters_after, counters_grown, entered_stands, first_parts, no_fault_else, option_or-none}
+use Rattle.m88_asm.proofs.Sounding.{Extends, Stands, after_all_extends, after_stands, counters_after, counters_grown, entered_stands, first_parts, no_fault_else}
 
 -- a statement's section and offset, with the counters that its module ends with
 record Spot (b : Placement Module) (end : Counters) (a : ℕ) : Type 0 where
@@ -57,7 +57,7 @@ row_spot globals b a i c end x s e m h = by (address_in b r == a) refl h
         → (if t then code_in (value_in_module globals b) (address_in b (record { before = c; statement = x })) x.body else None) ≡ Some i → Spot b end a
     by true t h =
         let d = at_section c x.body in
-        let p = eqb-true _ 0 (no_fault_else _ _ (option_or-none (misplaced_at (place_here d) x) (too_large_at (offset_here d) (place_here d) x) m).0) in
+        let p = eqb-true _ 0 (no_fault_else _ _ (none_of_both (misplaced_at (place_here d) x) (too_large_at (offset_here d) (place_here d) x) m).0) in
         let n = entered_stands c x.body s in
         let even = body_even (value_in_module globals b) (base_in b d.here + offset_here d) (place_here d) x.body i h p in
         record {
@@ -77,7 +77,7 @@ rows_spot globals b a i defined c (x ∷ xs) s f h =
     let r : Located = record { before = c; statement = x } in
     let rest = located (after c x.body) xs in
     let parts = first_parts defined c x xs f in
-    let misfit = (option_or-none (option_map _ (repeated_after defined (symbols_of r))) (misfit_at (offset_here (at_section c x.body)) (place_here (at_section c x.body)) x) parts.0).1 in
+    let misfit = (none_of_both (option_map _ (repeated_after defined (symbols_of r))) (misfit_at (offset_here (at_section c x.body)) (place_here (at_section c x.body)) x) parts.0).1 in
     elim (either_code (code_at globals b a r) (first_of (code_at globals b a) rest) i h) [
       | inl e ↦ row_spot globals b a i c (counters_after (after c x.body) xs) x s (after_all_extends (after c x.body) xs) misfit e
       | inr e ↦ rows_spot globals b a i (defined ++ symbols_of r) (after c x.body) xs (after_stands c x.body s) parts.1 e
@@ -129,7 +129,7 @@ up_even n = omega arith
 each_even : (text datas : ℕ) (ms : List Module) → modules_fault ms ≡ None → EachBased EvenOn (stood_from section_length text datas ms)
 each_even text datas [] h = tt
 each_even text datas (m ∷ ms) h =
-    let p = option_or-none (module_fault m) (modules_fault ms) h in
+    let p = none_of_both (module_fault m) (modules_fault ms) h in
     ((up_even text, up_even datas, p.0), each_even (up_to_multiple 8 text + section_length 0 m) (up_to_multiple 8 datas + section_length 1 m) ms p.1)
 
 modules_even : (globals : List Symbol) (a : ℕ) (i : Instr) (bs : List (Placement Module)) → EachBased EvenOn bs → first_of (module_code globals a) bs ≡ Some i → a % 4 ≡ 0

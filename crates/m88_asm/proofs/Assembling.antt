@@ -24,11 +24,12 @@ use Rattle.m88_asm.specs.Filled.{waiting_bytes}
 use Rattle.m88_asm.specs.Objects.{Head, heads_in, lines_in, marked, object_of, opens, opened_by, section_bytes, section_under, sections_in, symbols_in, symbols_of, uses_in_body, symbol_uses, waiting_in}
 use Rattle.m88_asm.proofs.Relocating.{length-waiting_bytes}
 
--- a statement that fits leaves room for its bytes
+-- of two options neither is there, where their first is none
+pub none_of_both : {A : Type 0} (a b : Option A) → option_or a b ≡ None → (a ≡ None) × (b ≡ None)
+none_of_both None b h = (refl, h)
+none_of_both (Some x) b h = cc
 
-option_or-none : {A : Type 0} (a b : Option A) → option_or a b ≡ None → (a ≡ None) × (b ≡ None)
-option_or-none None b h = (refl, h)
-option_or-none (Some x) b h = cc
+-- a statement that fits leaves room for its bytes
 
 no_fault : {A : Type 0} (b : Bool) (x : A) → (if b then Some x else None) ≡ None → b ≡ false
 no_fault true x h = cc
@@ -39,7 +40,7 @@ pub fits : (s : Section) (x : Statement) → misfit_at (length s.bytes) (origin 
 fits s x h =
     let offset = length s.bytes in
     let place = origin s.place + length s.bytes in
-    let none = (option_or-none (misplaced_at place x) (too_large_at offset place x) h).1 in
+    let none = (none_of_both (misplaced_at place x) (too_large_at offset place x) h).1 in
     let parts = or_parts (nat_lt most_bytes (offset + length_at place x.body)) (nat_lt (2 ^ 32) (place + length_at place x.body)) (no_fault _ _ none) in
     let a = ltb-false most_bytes (offset + length_at place x.body) parts.0 in
     let b = ltb-false (2 ^ 32) (place + length_at place x.body) parts.1 in

@@ -20,12 +20,9 @@ use Rattle.m88_link.specs.Refusal.{IsLinkable, IsRefused, duplicate, first_fault
 use Rattle.m88_link.specs.Symbols.{symbol_meaning}
 use Rattle.m88_asm.specs.Objects.{lines_in, objects_of, symbols_in, symbol_uses}
 use Rattle.m88_asm.specs.Units.{base_in, based, references_in, section_length, unit_layout, value_in_module}
+use Rattle.m88_asm.proofs.Assembling.{none_of_both}
 use Rattle.m88_asm.proofs.Composing.{CanFill, CanReach, EachBased, extents_law, globals_law, references_law, spots_law}
 use Rattle.m88_asm.proofs.Relocating.{AreInReach}
-
-option_or-none : {A : Type 0} (a b : Option A) → option_or a b ≡ None → (a ≡ None) × (b ≡ None)
-option_or-none None b h = (refl, h)
-option_or-none (Some x) b h = cc
 
 no_fault_else : {A : Type 0} (b : Bool) (x : A) → (if b then None else Some x) ≡ None → b ≡ true
 no_fault_else true x h = refl
@@ -45,14 +42,14 @@ uses_reach : (globals : List Symbol) (b : Placement Module) (us : List Reloc)
     → AreInReach (value_in_module globals b) (base_in b) us
 uses_reach globals b [] u f = tt
 uses_reach globals b (r ∷ us) u f =
-    let p = option_or-none _ _ u in
-    let q = option_or-none _ _ f in
+    let p = none_of_both _ _ u in
+    let q = none_of_both _ _ f in
     (one_reaches (base_in b) r (symbol_meaning globals (base_in b) (symbols_in b.part) r.symbol) p.0 q.0, uses_reach globals b us p.1 q.1)
 
 first_fault-append : {A : Type 0} (f : A → Option LinkFault) (xs ys : List A) → first_fault f (xs ++ ys) ≡ None → (first_fault f xs ≡ None) × (first_fault f ys ≡ None)
 first_fault-append f [] ys h = (refl, h)
 first_fault-append f (x ∷ xs) ys h =
-    let p = option_or-none (f x) (first_fault f (xs ++ ys)) h in
+    let p = none_of_both (f x) (first_fault f (xs ++ ys)) h in
     let q = first_fault-append f xs ys p.1 in
     (ap (λ o. option_or o (first_fault f xs)) p.0 ∙ q.0, q.1)
 
@@ -105,8 +102,8 @@ linkable_law u h =
 pub each_fills : (u : Source) → IsWellFormed u → IsLinkable (unit_layout u) → EachBased (CanFill (unit_layout u).globals) (based u)
 each_fills u w h =
     let l = unit_layout u in
-    let p = option_or-none (duplicate l.globals) (option_or (undefined l.references) (too_far l.references)) h.named in
-    let q = option_or-none (undefined l.references) (too_far l.references) p.1 in
+    let p = none_of_both (duplicate l.globals) (option_or (undefined l.references) (too_far l.references)) h.named in
+    let q = none_of_both (undefined l.references) (too_far l.references) p.1 in
     both_each (λ b. IsFormedModule b.part) (CanReach l.globals) (based u)
     (each_formed first_text (up_to_multiple page_bytes (text_end section_length first_text u.modules)) u.modules w.each)
     (each_reaches l.globals (based u) q.0 q.1)

@@ -24,7 +24,7 @@ use Rattle.m88_asm.specs.Counters.{Counters, Located, with_length, after, at_beg
 use Rattle.m88_asm.specs.Inside.Drafts.{Growth, IsOpen, counters_of, empty_growth, no_section, nth, with_statement, with_statements}
 use Rattle.m88_asm.specs.Faults.{alignment_of, fault_in, statements_fault, misfit_at, misplaced_at, module_fault, too_large_at}
 use Rattle.m88_asm.specs.Objects.{Head, labels_at, lines_in, marked, object_of, opened_by, opens, section_under, sections_in, sets_at, symbols_of, uses_in_body, uses_in_values, symbol_uses}
-use Rattle.m88_asm.proofs.Assembling.{counters_empty, counters_next, grown_object, open_next}
+use Rattle.m88_asm.proofs.Assembling.{counters_empty, counters_next, grown_object, none_of_both, open_next}
 
 -- the section that stands is one of those that are
 pub record Stands (c : Counters) : Type 0 where
@@ -125,10 +125,6 @@ body_patch c number line (body.Code i None) offset h l a = none_of (PatchAt c)
 body_patch c number line (body.Code i (Some f)) offset h l a = All-cons (PatchAt c) _ [] (h, l, a) (none_of (PatchAt c))
 body_patch c number line _ offset h l a = none_of (PatchAt c)
 
-pub option_or-none : {A : Type 0} (a b : Option A) → option_or a b ≡ None → (a ≡ None) × (b ≡ None)
-option_or-none None b h = (refl, h)
-option_or-none (Some x) b h = cc
-
 pub no_fault_else : {A : Type 0} (b : Bool) (x : A) → (if b then None else Some x) ≡ None → b ≡ true
 no_fault_else true x h = refl
 no_fault_else false x h = cc
@@ -139,7 +135,7 @@ row_patch c x s h =
     let e = at_section c x.body in
     let t = entered_stands c x.body s in
     let n = length_at (place_here e) x.body in
-    let a = no_fault_else _ _ (option_or-none (misplaced_at (place_here e) x) (too_large_at (offset_here e) (place_here e) x) h).0 in
+    let a = no_fault_else _ _ (none_of_both (misplaced_at (place_here e) x) (too_large_at (offset_here e) (place_here e) x) h).0 in
     body_patch (after c x.body) e.here x.line x.body (offset_here e) t.here
     (let l : (after c x.body).lengths e.here ≡ e.lengths e.here + n = cond-true (e.here == e.here) _ _ (eq-eqb e.here e.here refl) in omega arith)
     (eqb-true _ 0 a)
@@ -162,7 +158,7 @@ pub first_parts : (defined : List Symbol) (c : Counters) (x : Statement) (xs : L
     → (fault_in defined (record { before = c; statement = x }) ≡ None)
     × (statements_fault (defined ++ symbols_of (record { before = c; statement = x })) (located (after c x.body) xs) ≡ None)
 unfolding statements_fault located
-first_parts defined c x xs h = option_or-none _ _ h
+first_parts defined c x xs h = none_of_both _ _ h
 
 rows_sound : (defined : List Symbol) (c : Counters) (xs : List Statement) → Stands c → statements_fault defined (located c xs) ≡ None
     → All (PatchAt (counters_after c xs)) (flat_map symbol_uses (located c xs)) × All (DefinedAt (counters_after c xs)) (flat_map symbols_of (located c xs))
@@ -171,7 +167,7 @@ rows_sound defined c [] s h = (none_of (PatchAt c), none_of (DefinedAt c))
 rows_sound defined c (x ∷ xs) s h =
     let r : Located = record { before = c; statement = x } in
     let parts = first_parts defined c x xs h in
-    let misfit = (option_or-none (option_map _ (repeated_after defined (symbols_of r))) (misfit_at (offset_here (at_section c x.body)) (place_here (at_section c x.body)) x) parts.0).1 in
+    let misfit = (none_of_both (option_map _ (repeated_after defined (symbols_of r))) (misfit_at (offset_here (at_section c x.body)) (place_here (at_section c x.body)) x) parts.0).1 in
     let rest = rows_sound (defined ++ symbols_of r) (after c x.body) xs (after_stands c x.body s) parts.1 in
     let end = counters_after (after c x.body) xs in
     let tail = after_all_extends (after c x.body) xs in (
@@ -245,7 +241,7 @@ option_map-none f (Some x) h = cc
 repeated-marked : (xs : List Statement) (before ss : List Symbol) → repeated_after before ss ≡ None → repeated_after (map (marked xs) before) (map (marked xs) ss) ≡ None
 repeated-marked xs before [] h = refl
 repeated-marked xs before (s ∷ ss) h =
-    let parts = option_or-none (repetition before s) (repeated_after (before ++ s ∷ []) ss) h in
+    let parts = none_of_both (repetition before s) (repeated_after (before ++ s ∷ []) ss) h in
     let none = symbol_of-marked xs before s.name (option_map-none (again s) (symbol_of before s.name) parts.0) in
     ap (λ o. option_or (option_map (again (marked xs s)) o) (repeated_after (map (marked xs) before ++ marked xs s ∷ []) (map (marked xs) ss))) none
     ∙ ap (λ b. repeated_after b (map (marked xs) ss)) (sym (map-append (marked xs) before (s ∷ [])))

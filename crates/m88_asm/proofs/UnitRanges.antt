@@ -11,7 +11,7 @@ use Rattle.m88_base.specs.declared.fixup.Kind.{Kind}
 use Rattle.m88_base.specs.declared.fixup.Kind.TheVariants.{Hi16, Lo16, Pc26, Pc16, Abs32}
 use Rattle.m88_base.specs.declared.reg.Reg.{Reg}
 use Rattle.m88_isa.specs.declared.instr.Instr.{Instr}
-use Rattle.m88_link.proofs.Laws.{front_of}
+use Rattle.m88_link.proofs.Laws.{all_of_front}
 use Rattle.m88_parse.specs.Language.Operands.{AreOperands, Behind, IsAddend, IsFixup, IsGoal, IsHalfOf, IsImmediate, IsSigned, IsSymbolOf, IsValue}
 use Rattle.m88_parse.specs.Language.Operands as operand
 use Rattle.m88_parse.specs.Language.Pieces.{Piece}
@@ -97,7 +97,7 @@ values_ranged : (kind : Kind) (ps : List Piece) (vs : List Value) → InLine ps 
 values_ranged kind ps _ line (statement.one {x = x} h) = (value_ranged kind ps x line h, tt)
 values_ranged kind ps _ line (statement.more {front = front} {rest = rest} c {x = x} {xs = xs} parts h comma others) =
     let all : InLine (front ++ c ∷ rest) = subst InLine parts line in (
-      value_ranged kind front x (front_of IsInLine front (c ∷ rest) all) h,
+      value_ranged kind front x (all_of_front IsInLine front (c ∷ rest) all) h,
       values_ranged kind rest xs (rest_in_line front c rest all) others,
     )
 
@@ -124,7 +124,7 @@ immediate_ranged : (ps : List Piece) (imm : ℕ) (fixup : Option Fixup) → InLi
     → Waiting fixup
 immediate_ranged _ imm _ line (operand.short number small) = tt
 immediate_ranged _ imm fixup line (operand.half inside c name kind v named is opened parts value closed halves) =
-    half_ranged kind inside v imm fixup (front_of IsInLine inside (c ∷ []) (subst InLine parts line.1.1)) value halves
+    half_ranged kind inside v imm fixup (all_of_front IsInLine inside (c ∷ []) (subst InLine parts line.1.1)) value halves
 
 goal_ranged : (kind : Kind) (width : ℕ) (ps : List Piece) (words : ℤ) (fixup : Option Fixup) → InLine ps
     → IsGoal kind width ps words fixup

@@ -12,8 +12,8 @@ use Rattle.m88_link.specs.Sound.{HasRoom, IsSound}
 use Rattle.m88_link.specs.Symbols.{repeated_after}
 use Rattle.m88_link.specs.declared.object.Object.{Object}
 use Rattle.m88_link.specs.declared.object.Symbol.{Symbol}
-use Rattle.m88_asm.proofs.Assembling.{counters_empty, grown_object}
-use Rattle.m88_asm.proofs.Sounding.{counters_after, counters_grown, first_parts, option_or-none, sound_object}
+use Rattle.m88_asm.proofs.Assembling.{counters_empty, grown_object, none_of_both}
+use Rattle.m88_asm.proofs.Sounding.{counters_after, counters_grown, first_parts, sound_object}
 use Rattle.m88_asm.specs.Counters.{Counters, Located, after, at_begin, at_section, here_at, length_at, located, offset_here, place_here}
 use Rattle.m88_asm.specs.Inside.Drafts.{IsOpen, counters_of, empty_growth, no_section, with_statements}
 use Rattle.m88_asm.specs.Faults.{duplicate_at, fault_in, misfit_at, misplaced_at, module_fault, modules_fault, statements_fault, too_large_at}
@@ -54,7 +54,7 @@ after_room c x room fits k =
     let e = at_section c x.body in
     let n = length_at (place_here e) x.body in
     let large =
-    (option_or-none (misplaced_at (place_here e) x) (too_large_at (offset_here e) (place_here e) x) fits).1 in
+    (none_of_both (misplaced_at (place_here e) x) (too_large_at (offset_here e) (place_here e) x) fits).1 in
     let test = no_fault (nat_lt most_bytes (offset_here e + n) || nat_lt (2 ^ 32) (place_here e + n)) _ large in
     let few = few_bytes most_bytes (offset_here e + n) (2 ^ 32) (place_here e + n) test in
     let low = low_end most_bytes (offset_here e + n) (2 ^ 32) (place_here e + n) test in
@@ -67,7 +67,7 @@ misfit_none : (defined : List Symbol) (c : Counters) (x : Statement)
     → misfit_at (offset_here (at_section c x.body)) (place_here (at_section c x.body)) x ≡ None
 misfit_none defined c x h =
     let r : Located = record { before = c; statement = x } in
-    (option_or-none (option_map duplicate_at (repeated_after defined (symbols_of r)))
+    (none_of_both (option_map duplicate_at (repeated_after defined (symbols_of r)))
     (misfit_at (offset_here (at_section c x.body)) (place_here (at_section c x.body)) x) h).1
 
 rows_room : (defined : List Symbol) (c : Counters) (xs : List Statement) → HaveRoom c
@@ -106,7 +106,7 @@ rows_once defined c (x ∷ xs) h =
     let r : Located = record { before = c; statement = x } in
     let parts = first_parts defined c x xs h in
     let once = unmapped duplicate_at (repeated_after defined (symbols_of r))
-    (option_or-none (option_map duplicate_at (repeated_after defined (symbols_of r)))
+    (none_of_both (option_map duplicate_at (repeated_after defined (symbols_of r)))
     (misfit_at (offset_here (at_section c x.body)) (place_here (at_section c x.body)) x) parts.0).0 in
     repeats_none defined (symbols_of r) (flat_map symbols_of (located (after c x.body) xs)) once
     (rows_once (defined ++ symbols_of r) (after c x.body) xs parts.1)
@@ -117,5 +117,5 @@ module_sound m clean = sound_object m clean (rows_once [] at_begin m.statements 
 pub modules_sound : (ms : List Module) → modules_fault ms ≡ None → AllByRecursion IsSound (map object_of ms)
 modules_sound [] clean = tt
 modules_sound (m ∷ ms) clean =
-    let parts = option_or-none (module_fault m) (modules_fault ms) clean in
+    let parts = none_of_both (module_fault m) (modules_fault ms) clean in
     (module_sound m parts.0, modules_sound ms parts.1)

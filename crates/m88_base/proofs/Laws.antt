@@ -2,7 +2,7 @@
 
 -- Registers: those with one number are the same.
 pub use Rattle.m88_base.proofs.Same.{same_reg}
--- the word of a set has the bit of each member, those of its members below 32 and no others
+-- the word of a set whose members are below 32 has the bits of its members, and no others
 pub use Rattle.m88_base.proofs.RegisterBits.{bit_of_member, bit_of_set}
 -- Images: those with one start and the same bytes are the same.
 pub use Rattle.m88_base.proofs.SameRuns.{same_images}
@@ -16,19 +16,22 @@ pub use Rattle.m88_base.proofs.Lookup.{byte_in_above, byte_in_at, byte_in_below,
 pub use Rattle.m88_base.proofs.Lookup.{byte_among-append, byte_in-join}
 -- Elements of lists: one of joined lists stands in the first or in the second.
 pub use Rattle.m88_base.proofs.Lookup.{slice_get-append_left, slice_get-append_right}
--- the first of three options is found in either order, and an option or none is the option
+-- Options: three in a row are the same however they are grouped, and an option or none is the option.
 pub use Rattle.m88_base.proofs.Lookup.{option_or-none, option_or_assoc}
--- Pieces of a list: as many as are counted, none of an empty list, one of a short list, and joined from piece to piece.
+-- Pieces of a list: as many as are counted, none of an empty list, one of a short one that isn't empty, and those of
+-- joined lists where the first is whole pieces.
 pub use Rattle.m88_base.proofs.InPieces.{first_piece, length-pieces, next_piece, no_pieces, only_piece, pieces-append}
--- Lines: one ends at a line feed, at both line ends, or with the text, and a byte before another begins its line.
+-- Lines: one ends at a line feed, at a carriage return with its line feed, or with the text; any other byte before a
+-- text begins its first line.
 pub use Rattle.m88_base.proofs.Lines.{ends_last, ends_source, front_by, is_inner}
 -- an input is parted at a line in one way, or it isn't parted, and one of the two is so
-pub use Rattle.m88_base.proofs.PartedLines.{one_parting, parted_or_not, parted_told}
--- Texts with a mark: a text is cut at its first mark in one way, and one that lacks the mark has no cut.
+pub use Rattle.m88_base.proofs.PartedLines.{one_parting, parted_not_unparted, parted_told}
+-- Texts with a mark: a text is cut at its first mark in one way, one that lacks the mark has no cut, and digits lack a
+-- mark that is no digit.
 pub use Rattle.m88_base.proofs.Marks.{cut_once, none_in_digits, not_cut}
 -- what a cut finds, that a cut is at the first byte of the value, and that a text without a cut lacks it
 pub use Rattle.m88_base.proofs.Splitting.{cut_found, split_first, uncut}
--- what lacks a byte: joined texts that do, and a text of bytes that pass a test
+-- what lacks a byte: joined texts that do, and a text of bytes that pass a test which the byte fails
 pub use Rattle.m88_base.proofs.Splitting.{is_other, lacks-append, lacks_by, other_false}
 -- Numerals: one that is read is that of its value, one that is written is read again and has no needless zero.
 pub use Rattle.m88_base.proofs.Digits.{are_digits, decimal_found, decimal_needed, decimal_told, tells}
@@ -36,7 +39,7 @@ pub use Rattle.m88_base.proofs.Digits.{are_digits, decimal_found, decimal_needed
 pub use Rattle.m88_base.proofs.Hexadecimal.{hex8-hex8_of, hex8_of-hex8, is_hex8-hex8, value_of_hex8}
 -- Statements that hold or fail: an order of numbers, the sameness of texts, and two together.
 pub use Rattle.m88_base.proofs.Decided.{IsDecided, at_most, both_decided, same_text}
--- Sources and sinks: no call keeps the count of calls, and one more call adds one.
+-- Sources and sinks: where no call is made the count of calls stays, and one more call adds one.
 pub use Rattle.m88_base.proofs.Calls.{calls_more, calls_none}
--- what two reads take together, and what a buffer's front gives of it
+-- what two reads take together, and that the front of a buffer is as long as what was read into it
 pub use Rattle.m88_base.proofs.Known.{consumes_front, consumes_more, length_front, takes_at_most, takes_exactly}

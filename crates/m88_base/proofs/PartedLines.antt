@@ -214,8 +214,8 @@ module _ (word input before : List ℕ) (m : ℕ) (behind : List ℕ) (h : IsPar
       )
 
   -- or it isn't parted
-  pub parted_or_not : (n : ℕ) → IsUnparted word input n → ⊥
-  parted_or_not n none = has_word word (lines_of before) (lines_of behind) (subst (All (λ l. l ≢ word)) h.lines_are none.has_none)
+  pub parted_not_unparted : (n : ℕ) → IsUnparted word input n → ⊥
+  parted_not_unparted n none = has_word word (lines_of before) (lines_of behind) (subst (All (λ l. l ≢ word)) h.lines_are none.has_none)
 
 -- the first line of an input that has one
 first_of : (rest : List ℕ) → 0 < length rest → (line : List ℕ) × (lines_of rest ≡ line ∷ lines_of (behind_line rest))

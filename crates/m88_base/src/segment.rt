@@ -16,7 +16,7 @@ const MOST_FEW: usize = 8;
 #[derive(Drop, Debug)]
 pub struct Segment {
     at: u32,
-    room: usize,
+    ahead: usize,
     few: ArrayVec<u8, MOST_FEW>,
     kept: Vec<u8>,
 }
@@ -30,11 +30,11 @@ impl Model for Segment {
 
     ghost view = { λ run. record {
       at = run.at;
-      bytes = kept_bytes run.few.items (drop run.room run.kept.items);
+      bytes = kept_bytes run.few.items (drop run.ahead run.kept.items);
     } };
 
-    ghost invariant = { λ run. (run.room ≤ length run.kept.items)
-        × (run.at + length (kept_bytes run.few.items (drop run.room run.kept.items)) ≤ 2 ^ 32) };
+    ghost invariant = { λ run. (run.ahead ≤ length run.kept.items)
+        × (run.at + length (kept_bytes run.few.items (drop run.ahead run.kept.items)) ≤ 2 ^ 32) };
 }
 
 impl Segment {
@@ -47,7 +47,7 @@ impl Segment {
         if few.try_extend_from_slice(bytes).is_ok() {
             return Ok(Segment {
                 at,
-                room: 0,
+                ahead: 0,
                 few,
                 kept: Vec::new(alloc),
             });
@@ -55,7 +55,7 @@ impl Segment {
         let kept = Vec::from_slice(alloc, bytes)?;
         Ok(Segment {
             at,
-            room: 0,
+            ahead: 0,
             few: ArrayVec::new(),
             kept,
         })
@@ -74,7 +74,7 @@ impl Segment {
     {
         Segment {
             at: 0,
-            room: 0,
+            ahead: 0,
             few: ArrayVec::new(),
             kept: Vec::new(alloc),
         }
@@ -93,7 +93,7 @@ impl Segment {
         ensures fits { self.now.at + length self.now.bytes ≤ 2 ^ 32 }
     {
         if self.few.is_empty() {
-            let (_, bytes) = self.kept.as_slice().split_at(self.room);
+            let (_, bytes) = self.kept.as_slice().split_at(self.ahead);
             return bytes;
         }
         self.few.as_slice()
@@ -125,17 +125,17 @@ impl Segment {
         rest
     }
 
-    /// Writes the bytes over those that stand in a space for the addresses from `at` on.
-    pub fn fill(&self, at: u32, space: &mut [u8])
-        ensures { space.new ≡ filled (byte_in self.now) at space.old }
+    /// Writes the bytes over those that stand in a room for the addresses from `at` on.
+    pub fn fill(&self, at: u32, room: &mut [u8])
+        ensures { room.new ≡ filled (byte_in self.now) at room.old }
     {
         if self.at <= at {
-            lay(self.bytes_from(at), space);
+            lay(self.bytes_from(at), room);
             return;
         }
         let gap = (self.at - at) as usize;
-        if gap < space.len() {
-            lay(self.bytes(), &mut space[gap..]);
+        if gap < room.len() {
+            lay(self.bytes(), &mut room[gap..]);
         }
     }
 
@@ -150,7 +150,7 @@ impl Segment {
         if !self.few.is_empty() {
             self.kept = behind(alloc, self.few.as_slice(), first, second)?;
             self.few = ArrayVec::new();
-            self.room = 0;
+            self.ahead = 0;
             return Ok(());
         }
         self.kept.reserve(first.len() + second.len())?;
@@ -172,17 +172,17 @@ impl Segment {
         }) }
         ensures err { OnErr result (self.new ≡ self.old) }
     {
-        if !self.few.is_empty() || self.room < bytes.len() {
-            let room = bytes.len() + self.bytes().len();
-            self.kept = behind_room(alloc, room, bytes, self.bytes())?;
+        if !self.few.is_empty() || self.ahead < bytes.len() {
+            let ahead = bytes.len() + self.bytes().len();
+            self.kept = behind_room(alloc, ahead, bytes, self.bytes())?;
             self.few = ArrayVec::new();
-            self.room = room;
+            self.ahead = ahead;
             self.at -= bytes.len() as u32;
             return Ok(());
         }
-        let room = self.room - bytes.len();
-        self.kept[room..self.room].copy_from_slice(bytes);
-        self.room = room;
+        let ahead = self.ahead - bytes.len();
+        self.kept[ahead..self.ahead].copy_from_slice(bytes);
+        self.ahead = ahead;
         self.at -= bytes.len() as u32;
         Ok(())
     }

@@ -9,7 +9,7 @@ pub use Rattle.m88_board.proofs.Shown.{pending_seen, words_seen}
 pub use Rattle.m88_board.proofs.Walking.{drained_by, still_at}
 -- no register waits where nothing is pending
 pub use Rattle.m88_board.proofs.Ending.{none_wait}
--- Walks: a condition that didn't hold so far doesn't hold after an event at whose moment it fails.
+-- Walks: a condition that held at none of the first k moments and fails at the next held at none of the first k + 1.
 pub use Rattle.m88_board.proofs.Walking.{not_yet}
 -- Those who watch a board see nothing without an event, and of two walks the glances of both.
 pub use Rattle.m88_board.proofs.Seeing.{saw_none, saw_then}

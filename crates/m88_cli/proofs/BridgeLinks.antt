@@ -13,7 +13,7 @@ use Rattle.m88_asm.specs.Faults.{IsAssembled}
 use Rattle.m88_asm.specs.Images.{IsUnitImage}
 use Rattle.m88_asm.specs.Objects.{objects_of}
 use Rattle.m88_asm.specs.Units.{unit_layout}
-use Rattle.m88_parse.proofs.Laws.{one_verdict, unit_formed}
+use Rattle.m88_parse.proofs.Laws.{one_source_verdict, unit_formed}
 use Rattle.m88_parse.specs.Language.Units.{IsUnit}
 use Rattle.m88_parse.specs.declared.unit.Unit.{Unit as Source}
 use Rattle.m88_cli.specs.Answer.{IsAnswerToAccepted, IsAnswerToRefused}
@@ -52,7 +52,7 @@ written source objects short a =
     }
 
 same_unit : (source objects : List ℕ) (w : Written source objects) (u : Source) → IsUnit source u → u ≡ w.unit
-same_unit source objects w u is = (one_verdict source).one_value u w.unit is w.is_unit
+same_unit source objects w u is = (one_source_verdict source).one_value u w.unit is w.is_unit
 
 same_objects : (source objects : List ℕ) (w : Written source objects) (os : List Object) → IsSoundText os objects
     → os ≡ objects_of w.unit

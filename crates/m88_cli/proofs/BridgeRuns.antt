@@ -4,7 +4,7 @@ use Rattle.std.proofs.Math.Path.{fun_ext}
 use Rattle.m88_base.specs.Image.{ProgramImage, byte_at, byte_count}
 use Rattle.m88_isa.specs.ImageProgram.{IsInstructionAt}
 use Rattle.m88_isa.specs.Machine.{Program}
-use Rattle.m88_parse.proofs.Laws.{one_verdict, unit_formed}
+use Rattle.m88_parse.proofs.Laws.{one_source_verdict, unit_formed}
 use Rattle.m88_parse.specs.Language.Units.{IsUnit}
 use Rattle.m88_parse.specs.declared.unit.Unit.{Unit as Source}
 use Rattle.m88_link.specs.Layout.{Layout}
@@ -65,7 +65,7 @@ built source records short answer =
     let own = answer.output.of_source in
     let image = answer.output.image in
     let same : own.unit ≡ answer.accepted.unit =
-    (one_verdict source).one_value own.unit answer.accepted.unit own.is_unit answer.accepted.is_unit in
+    (one_source_verdict source).one_value own.unit answer.accepted.unit own.is_unit answer.accepted.is_unit in
     let accepted : IsAcceptedUnit own.unit = subst IsAcceptedUnit (sym same) answer.accepted.is_accepted in
     record {
       image = image;

@@ -7,7 +7,7 @@ use Rattle.m88_link.specs.declared.object.Object.{Object}
 use Rattle.m88_asm.specs.Accepted.{IsAcceptedUnit}
 use Rattle.m88_asm.specs.Images.{IsUnitImage}
 use Rattle.m88_parse.specs.Language.Units.{IsUnit}
-use Rattle.m88_parse.proofs.Laws.{one_verdict}
+use Rattle.m88_parse.proofs.Laws.{one_source_verdict}
 use Rattle.m88_srec.specs.Written.{srec_text}
 use Rattle.m88_parse.specs.declared.unit.Unit.{Unit as Source}
 use Rattle.m88_cli.specs.Answer.{IsAnswerToAccepted}
@@ -27,7 +27,7 @@ assembled source text objects of_source is = record {
   output = record {
     unit = of_source.unit;
     is_unit = of_source.is_unit;
-    only = λ other is_too. (one_verdict source).one_value other of_source.unit is_too of_source.is_unit;
+    only = λ other is_too. (one_source_verdict source).one_value other of_source.unit is_too of_source.is_unit;
     is_text = is ∙ ap objects_text of_source.objects_are;
   };
 }
@@ -46,7 +46,7 @@ recorded source text u image is_unit is_accepted own is = record {
     image = image;
     of_source = record { unit = u; is_unit = is_unit; is_image = own };
     only = λ other is_too.
-        let unit = (one_verdict source).one_value is_too.unit u is_too.is_unit is_unit in
+        let unit = (one_source_verdict source).one_value is_too.unit u is_too.is_unit is_unit in
         one_image u other image (subst (λ v. IsUnitImage v other) unit is_too.is_image) own;
     is_text = is;
   };

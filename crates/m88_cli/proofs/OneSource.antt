@@ -8,7 +8,7 @@ use Rattle.m88_link.specs.ObjectRead.{IsSoundText, IsTextFault}
 use Rattle.m88_link.specs.declared.object.Object.{Object}
 use Rattle.m88_link.specs.declared.object_fault.ObjectFault.{ObjectFault}
 use Rattle.m88_link.specs.declared.object_fault.ObjectFault.TheVariants.{Form, Range, Memory}
-use Rattle.m88_srec.proofs.Laws.{one_verdict as one_record_verdict}
+use Rattle.m88_srec.proofs.Laws.{one_record_verdict}
 use Rattle.m88_cli.specs.Answer.{Accepts, Refuses}
 use Rattle.m88_cli.specs.Assembly.{IsRefusedProgram, IsRefusedSource}
 use Rattle.m88_cli.specs.Command.{Command, InputKind, no_input, source_to_assemble, source_to_link, object_text, record_text, scripted_source, sources_to_link, traced_source, kind_of}

@@ -2,7 +2,7 @@
 use Rattle.std.proofs.Common.{◌≡◌, ℕ, zero, suc, ◌+◌, ◌≤◌, List, [], ◌∷◌, ◌++◌, Some, length, length-append, append_assoc, ap, inl, inr, refl, sym, ◌∙◌, subst, arith}
 use Rattle.std.specs.Prelude.{slice_get}
 use Rattle.std.proofs.lemmas.List.{length-map, map-append}
-use Rattle.m88_base.proofs.Laws.{one_parting, parted_or_not, parted_told}
+use Rattle.m88_base.proofs.Laws.{one_parting, parted_not_unparted, parted_told}
 use Rattle.m88_base.specs.Lines.{lines_of}
 use Rattle.m88_base.specs.Parted.{IsParted, LacksLine}
 use Rattle.m88_cli.specs.Inside.Placing.{all_placed, placed}
@@ -20,8 +20,8 @@ one_list n text [] b h k = absurd h
 one_list n text (x ∷ xs) [] h k = absurd k
 one_list n text (x ∷ []) (y ∷ []) h k =
     ap (λ s. let all : List PlacedSource = s ∷ [] in all) (same_source x y (h.0 ∙ sym k.0) (h.1 ∙ sym k.1))
-one_list n text (x ∷ []) (y ∷ z ∷ ys) h k = absurd (parted_or_not program_line text y.source k.1 k.2 k.3 (length (lines_of text)) (record { has_none = h.2; number = refl }))
-one_list n text (x ∷ w ∷ xs) (y ∷ []) h k = absurd (parted_or_not program_line text x.source h.1 h.2 h.3 (length (lines_of text)) (record { has_none = k.2; number = refl }))
+one_list n text (x ∷ []) (y ∷ z ∷ ys) h k = absurd (parted_not_unparted program_line text y.source k.1 k.2 k.3 (length (lines_of text)) (record { has_none = h.2; number = refl }))
+one_list n text (x ∷ w ∷ xs) (y ∷ []) h k = absurd (parted_not_unparted program_line text x.source h.1 h.2 h.3 (length (lines_of text)) (record { has_none = k.2; number = refl }))
 one_list n text (x ∷ w ∷ xs) (y ∷ z ∷ ys) h k =
     let same = one_parting program_line text x.source h.1 h.2 h.3 y.source k.1 k.2 k.3 in
     let later : AreSourcesBehind (n + k.1) k.2 (w ∷ xs) =

@@ -12,7 +12,7 @@ use Rattle.m88_isa.specs.Machine.{Program}
 use Rattle.m88_isa.specs.Word.{IsWord}
 use Rattle.m88_isa.specs.declared.instr.Instr.{Instr}
 use Rattle.m88_codec.proofs.Laws.{one_reading, program_in, program_in_holds}
-use Rattle.m88_parse.proofs.Laws.{one_verdict}
+use Rattle.m88_parse.proofs.Laws.{one_source_verdict}
 use Rattle.m88_parse.specs.declared.unit.Unit.{Unit as Source}
 use Rattle.m88_asm.specs.Images.{IsUnitInstruction, IsUnitProgram, placed_instruction, unit_byte}
 use Rattle.m88_srec.proofs.Laws.{verdict_takes}
@@ -65,7 +65,7 @@ same_program p q mode start bytes instructions =
 -- a source has one program in a mode
 pub one_source_program : (source : List ℕ) (p q : Program) → IsSourceProgram source p → IsSourceProgram source q → p.mxm ≡ q.mxm → p ≡ q
 one_source_program source p q a b mode =
-    let unit = (one_verdict source).one_value a.unit b.unit a.is_unit b.is_unit in
+    let unit = (one_source_verdict source).one_value a.unit b.unit a.is_unit b.is_unit in
     let own = subst (λ u. IsUnitProgram u p) unit a.is_program in
     same_program p q mode (own.start ∙ sym b.is_program.start) (λ n. own.bytes n ∙ sym (b.is_program.bytes n))
     (λ n. one_in_unit b.unit n (p.instruction n) (q.instruction n) (own.instructions n) (b.is_program.instructions n))

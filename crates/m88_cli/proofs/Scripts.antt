@@ -6,7 +6,7 @@ use Rattle.std.proofs.lemmas.List.Sums.{sum_by-append}
 use Rattle.std.specs.Prelude.{Option, Some, None, Bool, true, false, not, ◌&&◌, ◌||◌, cond, nat_lt, ◌≢◌}
 use Rattle.std.proofs.lemmas.Bool.{cases_order, lt-ltb, ltb-false, ltb-true}
 use Rattle.m88_base.specs.Lines.{lines_of}
-use Rattle.m88_base.proofs.Laws.{one_parting, parted_or_not}
+use Rattle.m88_base.proofs.Laws.{one_parting, parted_not_unparted}
 use Rattle.m88_cli.specs.Script.{AreScriptLines, HasNoScript, IsScript, StopsScript, WriteCommands, WritesCommand, is_break, most_breaks, most_commands, source_line, stopped, stopped_alone, unended}
 use Rattle.m88_cli.specs.Inside.ScriptWords.{has_room}
 use Rattle.m88_cli.specs.declared.script.MonitorCommand.{MonitorCommand}
@@ -173,19 +173,19 @@ pub not_both : (input : List ℕ) (cs : List MonitorCommand) (n m : ℕ) (source
 not_both input cs n m source h (stopped script i other parted stops) =
     let same = one_parting source_line input script i other parted h.script n source h.is_parted in
     not_stopped (lines_of h.script) m cs h.are_script (subst (λ text. StopsScript (lines_of text) m) same.0 stops)
-not_both input cs n m source h (stopped_alone i unparted stops) = parted_or_not source_line input h.script n source h.is_parted i unparted
-not_both input cs n m source h (unended i others unparted are e) = parted_or_not source_line input h.script n source h.is_parted i unparted
+not_both input cs n m source h (stopped_alone i unparted stops) = parted_not_unparted source_line input h.script n source h.is_parted i unparted
+not_both input cs n m source h (unended i others unparted are e) = parted_not_unparted source_line input h.script n source h.is_parted i unparted
 
 pub one_stop : (input : List ℕ) (m n : ℕ) → HasNoScript input m → HasNoScript input n → m ≡ n
 one_stop input m n (stopped a i s h stops) (stopped b j t k stop) =
     let same = one_parting source_line input a i s h b j t k in
     one_line (lines_of b) m n (subst (λ text. StopsScript (lines_of text) m) same.0 stops) stop
-one_stop input m n (stopped a i s h stops) (stopped_alone j k stop) = absurd (parted_or_not source_line input a i s h j k)
-one_stop input m n (stopped a i s h stops) (unended j cs k are e) = absurd (parted_or_not source_line input a i s h j k)
-one_stop input m n (stopped_alone i h stops) (stopped b j t k stop) = absurd (parted_or_not source_line input b j t k i h)
+one_stop input m n (stopped a i s h stops) (stopped_alone j k stop) = absurd (parted_not_unparted source_line input a i s h j k)
+one_stop input m n (stopped a i s h stops) (unended j cs k are e) = absurd (parted_not_unparted source_line input a i s h j k)
+one_stop input m n (stopped_alone i h stops) (stopped b j t k stop) = absurd (parted_not_unparted source_line input b j t k i h)
 one_stop input m n (stopped_alone i h stops) (stopped_alone j k stop) = one_line (lines_of input) m n stops stop
 one_stop input m n (stopped_alone i h stops) (unended j cs k are e) = absurd (not_stopped (lines_of input) m cs are stops)
-one_stop input m n (unended i cs h are e) (stopped b j t k stop) = absurd (parted_or_not source_line input b j t k i h)
+one_stop input m n (unended i cs h are e) (stopped b j t k stop) = absurd (parted_not_unparted source_line input b j t k i h)
 one_stop input m n (unended i cs h are e) (stopped_alone j k stop) = absurd (not_stopped (lines_of input) n cs are stop)
 one_stop input m n (unended i cs h are e) (unended j ds k too d) = e ∙ ap (λ l. l + 1) (h.number ∙ sym k.number) ∙ sym d
 

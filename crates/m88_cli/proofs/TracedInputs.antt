@@ -1,7 +1,7 @@
 -- An input of a source and the lines of a trace is accepted or has one refusal, never both.
 use Rattle.std.proofs.Common.{◌≡◌, ℕ, ◌+◌, List, ap, inl, inr, refl, sym, ◌∙◌, subst}
 use Rattle.std.specs.Prelude.{◌⊎◌, false}
-use Rattle.m88_base.proofs.Laws.{one_parting, parted_or_not, parted_told}
+use Rattle.m88_base.proofs.Laws.{one_parting, parted_not_unparted, parted_told}
 use Rattle.m88_base.specs.Refusal.{Refusal}
 use Rattle.m88_trace.proofs.Laws.{one_verdict_of}
 use Rattle.m88_cli.specs.Assembly.{IsProgramSource, IsRefusedProgram}
@@ -30,7 +30,7 @@ module _ (input : List ℕ) where
 
   -- or it isn't parted
   there_or_not : (r : Refusal) → IsUntraced input r → (t : TraceParts) → AreTraceParts input t → ⊥
-  there_or_not r none t h = parted_or_not trace_separator input t.source t.lines t.text h none.lines none.is_unparted
+  there_or_not r none t h = parted_not_unparted trace_separator input t.source t.lines t.text h none.lines none.is_unparted
 
   -- so many lines of its trace stand in an input, for one number
   pub one_trace : (m n : ℕ) → HasTrace input m → HasTrace input n → m ≡ n

@@ -3,7 +3,7 @@
 ghost use Rattle.std.specs.Prelude.{◌≡◌, IfOk};
 ghost use Rattle.m88_isa.specs.Word.{IsWord, HasOneReading};
 ghost use Rattle.m88_isa.specs.declared.instr.Instr.{Instr as Instruction};
-ghost use Rattle.m88_codec.specs.Inside.Whole.{is_whole};
+ghost use Rattle.m88_codec.specs.Inside.Whole.{leaves_no_field_unused};
 
 use super::candidate::candidate;
 use super::encoder::encode;
@@ -23,7 +23,7 @@ pub fn decode(word: u32) -> Result<Instr, BadWord>
     ensures one_reading { HasOneReading word }
 {
     let instr = candidate(word);
-    if is_whole(word >> 26) || (is_valid(&instr) && encode(&instr) == word) {
+    if leaves_no_field_unused(word >> 26) || (is_valid(&instr) && encode(&instr) == word) {
         Ok(instr)
     } else {
         Err(BadWord)
@@ -31,8 +31,8 @@ pub fn decode(word: u32) -> Result<Instr, BadWord>
 }
 
 /// Whether each word with these six opening bits has an instruction: no field of its form is left unused.
-fn is_whole(head: u32) -> bool
-    ensures { result ≡ is_whole head }
+fn leaves_no_field_unused(head: u32) -> bool
+    ensures { result ≡ leaves_no_field_unused head }
 {
     matches!(head, 0..=11 | 16..=31 | 33..=39 | 48..=55)
 }

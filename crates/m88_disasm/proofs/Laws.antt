@@ -4,11 +4,11 @@
 pub use Rattle.m88_disasm.proofs.Again.{listing_again}
 -- The text of each valid instruction is a line that is read as that instruction.
 pub use Rattle.m88_disasm.proofs.Spoken.{Spoken, said_instr}
--- names of instructions are short
+-- the names of immediate, memory and register mnemonics have at most 11 bytes
 pub use Rattle.m88_disasm.proofs.Names.{imm_short, mem_short, reg_short}
 -- Lines that are each read as a statement are a source, with the unit of their bodies.
 pub use Rattle.m88_disasm.proofs.Rows.{Stated, numbered, unit_is, unit_of_bodies}
--- Where statements stand, one by one: the first before the counters that it changes, then the others.
+-- Where statements stand, one by one: the first at the counters before it, the others at those behind it.
 pub use Rattle.m88_disasm.proofs.Standing.{located_cons, located_none}
 -- the symbols that they set, the symbols that they use and the sections that they open
 pub use Rattle.m88_disasm.proofs.Accepting.{defined_symbols, opened_in, opened_sections, set_in, uses_of}

@@ -1,6 +1,6 @@
 -- The laws of events and runs that proofs above cite, by their subject.
 
--- Outcomes: a run comes to one, and a condition that holds at some time holds for the first time at one.
+-- Outcomes: a run comes to one at most, and a condition holds for the first time at one time at most.
 pub use Rattle.m88_event.proofs.Over.{one_first, one_outcome}
 -- an outcome and the end of a run are seen of what a board has of its moment
 pub use Rattle.m88_event.proofs.Over.{drained_seen, outcome_seen, same_over}
@@ -8,10 +8,11 @@ pub use Rattle.m88_event.proofs.Over.{drained_seen, outcome_seen, same_over}
 pub use Rattle.m88_event.proofs.Over.{answered_issues_none, drained_bus, issued_of}
 -- Moments: what is seen of one moves to what is seen of the next, and says the same.
 pub use Rattle.m88_event.proofs.Follows.{ended_is, law as moves_as_seen, same_said, same_situation}
--- no moment of a run is past what was made, and each letter's choice fits its moment
+-- no moment of a run is past what was made, each letter's choice fits its moment, and more instructions make no fewer
+-- transactions
 pub use Rattle.m88_event.proofs.Follows.{Fits, fits, more_transactions, reached_within, stays_within}
--- what lies behind a moment lies behind the next one, and nothing lies behind the first
-pub use Rattle.m88_event.proofs.Past.{keeps_past, opens_with}
+-- what lies behind a moment is so at the opening, at the next moment where it is so at this one, and so at each of a run
+pub use Rattle.m88_event.proofs.Past.{keeps_past, opens_with, past_after}
 -- The bound of a run: each letter before its end lessens a weight, which is bounded, at the start too.
 pub use Rattle.m88_event.proofs.Bound.{answered_lessens, fuel_stays, lessens, weight_at_start, weight_most}
 -- no letter retires more than the limit

@@ -12,10 +12,12 @@ use Rattle.m88_isa.specs.Machine.{Program, State, Turn, after_change, after_touc
 use Rattle.m88_isa.specs.Memory.{Touch, access_of}
 use Rattle.m88_isa.specs.declared.instr.Instr.{Instr}
 use Rattle.m88_isa.specs.declared.planned.Access.{Access}
-use Rattle.m88_event.proofs.Follows.{Fits, fits, more_transactions}
+use Rattle.m88_event.proofs.Follows.{Fits, fits, more_transactions, reached_within}
 use Rattle.m88_event.proofs.Precise.{IsLastChoice, all_done}
 use Rattle.m88_event.specs.Choice.{Choice, answer_choice, choice_of, evicts, faults, finishes, holds, idles, issue_choice, issues, next_choice, passes, replies, serves, turn_choice}
+use Rattle.m88_event.specs.Letters.{letter_at}
 use Rattle.m88_event.specs.Past.{HasInstructions, HasPast}
+use Rattle.m88_event.specs.Run.{moment_after, moment_along}
 use Rattle.m88_event.specs.Situation.{record_of}
 use Rattle.m88_event.specs.Timeline.{DoneWereMade, Moment, absent_at, after_choice, after_letter, is_idle, opening_moment, situation_at}
 use Rattle.m88_event.specs.declared.letter.Letter.{Letter}
@@ -260,3 +262,12 @@ opens_with p limit = record {
   counted = omega arith;
   put_out = out_within p 0;
 }
+
+-- what lies behind each moment of a run
+pub past_after : (p : Program) (named : ℕ → Bool) (limit : ℕ) (schedule : List Letter) (k : ℕ) →
+    HasPast p limit (moment_after p named limit schedule k)
+unfolding moment_along
+past_after p named limit schedule zero = opens_with p limit
+past_after p named limit schedule (suc k) =
+    keeps_past p named limit (letter_at schedule k) (moment_after p named limit schedule k)
+    (reached_within p named limit schedule k) (past_after p named limit schedule k)

@@ -23,11 +23,15 @@ pub use Rattle.m88_isa.proofs.InWords.{bus_of_append, cells_bus, state_agrees, s
 pub use Rattle.m88_isa.proofs.InWords.{touch_stores, touches_bytes, turn_agrees}
 -- the words that change between two memories: a word that is another comes last, and one that is the same adds nothing
 pub use Rattle.m88_isa.proofs.Changed.{other_among, same_among, same_word_among}
--- Pending accesses: no two load one register, whether one is issued or answered.
-pub use Rattle.m88_isa.proofs.Apart.{issue_stays_apart, loaded_first, loaded_last, stored_first, stored_last}
--- a register that doesn't wait keeps its word, and what is written at once can be written before they are answered
+-- Pending accesses: no two load one register, also behind those that are issued.
+pub use Rattle.m88_isa.proofs.Apart.{issue_stays_apart}
+-- a load makes its register wait when it is issued and frees it when it is answered; a store changes nothing of that
+pub use Rattle.m88_isa.proofs.Apart.{loaded_first, loaded_last, stored_first, stored_last}
+-- a register that doesn't wait keeps its word, as r0 and numbers from 32 on, which never wait; and what is written at
+-- once can be written before they are answered
 pub use Rattle.m88_isa.proofs.Late.{beyond_waits_not, late_change, r0_waits_not, same_after_accesses}
--- an instruction that nothing holds means beside them what it means behind them, and writes no register that waits
+-- an instruction that nothing holds means beside them what it means behind them, and writes no register that waits;
+-- nothing is held while nothing is pending
 pub use Rattle.m88_isa.proofs.Held.{meaning_seen, nothing_held, written_waits_not}
 -- Helps of proofs: the least number that passes a test, or none, and a fact by the two values of a test.
 pub use Rattle.m88_isa.proofs.Held.{none_from, none_passes, some_from}

@@ -32,8 +32,8 @@ repeated_after before (s ∷ ss) = option_or (repetition before s) (repeated_aft
 abbrev pub first_repeated : List Symbol → Option Repetition
 first_repeated symbols = repeated_after [] symbols
 
--- a value that is a number, or else one in a section, where each section begins at its base: the address of its place,
--- which is 0 at the end of a section that ends with the last address
+-- the value of a definition, where each section begins at its base: its number where it stands in no section, or else
+-- the address of its place, which is 0 at the end of a section that ends with the last address
 abbrev pub placed_value : (ℕ → ℕ) → Option ℕ → ℕ → ℕ
 placed_value base section value = option_map_or (λ k. (base k + value) % 2 ^ 32) section value
 

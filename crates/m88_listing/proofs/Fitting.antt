@@ -22,7 +22,7 @@ use Rattle.m88_asm.specs.Faults.{duplicate_at, misfit_at, misplaced_at, module_f
 use Rattle.m88_asm.specs.Images.{IsUnitImage, run_of, runs_in}
 use Rattle.m88_asm.specs.Objects.{symbols_of}
 use Rattle.m88_asm.specs.Units.{address_in, based, bytes_of, section_length, unit_layout, value_in_module}
-use Rattle.m88_asm.proofs.Laws.{AllFormed, CanFill, EachBased, Has, each_fills, first_parts, formed, has_left, has_right, length-filled_bytes, option_or-none, run_found, runs_law}
+use Rattle.m88_asm.proofs.Laws.{AllFormed, CanFill, EachBased, Has, each_fills, first_parts, formed, has_left, has_right, length-filled_bytes, none_of_both, run_found, runs_law}
 use Rattle.m88_listing.specs.Rows.{Row, has_bytes, is_counted, row_of, rows_in, rows_of_unit}
 use Rattle.m88_listing.specs.Inside.Slots.{AllFit, StandsWithin, IsSlot, ModuleFits, found_bytes, kept_row, slots_at, slots_from, slots_of}
 use Rattle.m88_listing.specs.declared.slots.Slot.{Slot}
@@ -76,7 +76,7 @@ no_fault false x h = refl
 
 pub room_of : (r : Located) → misfit_at (offset_of r) (place_of r) r.statement ≡ None → offset_of r + length_of r ≤ most_bytes
 room_of r h =
-    let none = (option_or-none (misplaced_at (place_of r) r.statement) (too_large_at (offset_of r) (place_of r) r.statement) h).1 in
+    let none = (none_of_both (misplaced_at (place_of r) r.statement) (too_large_at (offset_of r) (place_of r) r.statement) h).1 in
     let parts = or_parts (nat_lt most_bytes (offset_of r + length_of r)) (nat_lt (2 ^ 32) (place_of r + length_of r)) (no_fault _ _ none) in
     ltb-false most_bytes (offset_of r + length_of r) parts.0
 
@@ -101,7 +101,7 @@ rows_fit globals defined b image c [] is formed clean found = tt
 rows_fit globals defined b image c (x ∷ xs) is formed clean found =
     let r : Located = record { before = c; statement = x } in
     let parts = first_parts defined c x xs clean in
-    let misfit = (option_or-none (option_map duplicate_at (repeated_after defined (symbols_of r))) (misfit_at (offset_of r) (place_of r) x) parts.0).1 in (
+    let misfit = (none_of_both (option_map duplicate_at (repeated_after defined (symbols_of r))) (misfit_at (offset_of r) (place_of r) x) parts.0).1 in (
       record { formed = formed.0; room = room_of r misfit; within = within_of globals b image r is found.0 },
       rows_fit globals (defined ++ symbols_of r) b image (after c x.body) xs is formed.1 parts.1 found.1,
     )
@@ -109,7 +109,7 @@ rows_fit globals defined b image c (x ∷ xs) is formed clean found =
 pub each_clean : (text datas : ℕ) (ms : List Module) → modules_fault ms ≡ None → EachBased (λ b. module_fault b.part ≡ None) (stood_from section_length text datas ms)
 each_clean text datas [] h = tt
 each_clean text datas (m ∷ ms) h =
-    let p = option_or-none (module_fault m) (modules_fault ms) h in
+    let p = none_of_both (module_fault m) (modules_fault ms) h in
     (p.0, each_clean (up_to_multiple 8 text + section_length 0 m) (up_to_multiple 8 datas + section_length 1 m) ms p.1)
 
 modules_fit : (globals : List Symbol) (image : ProgramImage) (bs : List (Placement Module)) → IsImage image → EachBased (CanFill globals) bs

@@ -22,7 +22,7 @@ use Rattle.m88_asm.specs.Objects.{lines_in, symbols_of}
 use Rattle.m88_link.specs.Bases.{Placement}
 use Rattle.m88_parse.specs.declared.unit.Module.{Module}
 use Rattle.m88_asm.specs.Units.{address_in, based, bytes_of, unit_layout, value_in_module}
-use Rattle.m88_asm.proofs.Laws.{EachBased, first_parts, length-filled_bytes, option_or-none}
+use Rattle.m88_asm.proofs.Laws.{EachBased, first_parts, length-filled_bytes, none_of_both}
 use Rattle.m88_listing.specs.Columns.{at_left, at_right, bare_line, blank, blanks, columns, further_columns, no_address}
 use Rattle.m88_listing.specs.Laws.{EachLineStandsOnce, has_number}
 use Rattle.m88_listing.proofs.Fitting.{each_clean, room_of}
@@ -224,7 +224,7 @@ rows_few globals defined b c [] clean = tt
 rows_few globals defined b c (x ∷ xs) clean =
     let r : Located = record { before = c; statement = x } in
     let parts = first_parts defined c x xs clean in
-    let misfit = (option_or-none (option_map duplicate_at (repeated_after defined (symbols_of r))) (misfit_at (offset_of r) (place_of r) x) parts.0).1 in
+    let misfit = (none_of_both (option_map duplicate_at (repeated_after defined (symbols_of r))) (misfit_at (offset_of r) (place_of r) x) parts.0).1 in
     let long : length (bytes_of globals b r) ≡ length_of r = length-filled_bytes (value_in_module globals b) (address_in b r) (place_of r) x.body in (
       omega (arith, long, room_of r misfit),
       rows_few globals (defined ++ symbols_of r) b (after c x.body) xs parts.1,

@@ -2,9 +2,9 @@
 use Rattle.std.proofs.Common.{◌≡◌, ℕ, List, sym, ap, ◌∙◌, subst}
 use Rattle.m88_base.specs.Lines.{text_of_lines}
 use Rattle.m88_base.specs.Refusal.{Refusal}
-use Rattle.m88_parse.proofs.Laws.{one_verdict as one_source_verdict}
+use Rattle.m88_parse.proofs.Laws.{one_source_verdict}
 use Rattle.m88_parse.specs.declared.unit.Unit.{Unit as Source}
-use Rattle.m88_asm.proofs.Laws.{one_verdict}
+use Rattle.m88_asm.proofs.Laws.{one_unit_verdict}
 use Rattle.m88_asm.specs.Accepted.{IsAcceptedUnit, IsFirstUnitFault}
 use Rattle.m88_listing.specs.Answer.{IsAnswerToAccepted, IsAnswerToRefused}
 use Rattle.m88_listing.specs.Entries.{AreInOrder, labels_of}
@@ -18,7 +18,7 @@ pub not_accepted : (source : List ℕ) (r : Refusal) → IsRefusedAt source r �
 not_accepted source r (unread fault first e) accepted = (one_source_verdict source).not_both accepted.unit fault accepted.is_unit first
 not_accepted source r (unlinked unit fault is first e) accepted =
     let same = (one_source_verdict source).one_value accepted.unit unit accepted.is_unit is in
-    (one_verdict unit).not_both tt fault (subst IsAcceptedUnit same accepted.is_accepted) first
+    (one_unit_verdict unit).not_both tt fault (subst IsAcceptedUnit same accepted.is_accepted) first
 
 -- and it is refused in one way
 pub one_refusal : (source : List ℕ) (r s : Refusal) → IsRefusedAt source r → IsRefusedAt source s → r ≡ s
@@ -27,7 +27,7 @@ one_refusal source r s (unread f first e) (unlinked unit g is other d) = absurd 
 one_refusal source r s (unlinked unit f is first e) (unread g other d) = absurd ((one_source_verdict source).not_both unit g is other)
 one_refusal source r s (unlinked u f is first e) (unlinked v g is_too other d) =
     let same = (one_source_verdict source).one_value u v is is_too in
-    e ∙ ap unit_refusal ((one_verdict v).one_fault f g (subst (λ (w : Source). IsFirstUnitFault w f) same first) other) ∙ sym d
+    e ∙ ap unit_refusal ((one_unit_verdict v).one_fault f g (subst (λ (w : Source). IsFirstUnitFault w f) same first) other) ∙ sym d
 
 pub refused_answer : (source text : List ℕ) (r : Refusal) → IsRefusedAt source r → text ≡ refused_text source r → IsAnswerToRefused source text
 refused_answer source text r refused is = record {

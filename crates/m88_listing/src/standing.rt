@@ -102,7 +102,7 @@ fn section_size(object: &Object, index: usize) -> usize
 }
 
 /// The end of the text of all objects.
-#[tactic(auto, using(m88_link::proofs::Stood::text_end_more, m88_link::proofs::Stood::sizes_fit))]
+#[tactic(auto, using(m88_link::proofs::Laws::text_end_more, m88_link::proofs::Laws::sizes_fit))]
 fn text_end(objects: &[Object]) -> u32
     requires { total_size objects.now ≤ most_bytes }
     ensures value { result ≡ text_end section_size first_text objects.now }

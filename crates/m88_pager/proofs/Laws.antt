@@ -1,12 +1,11 @@
 -- What those above may use of paged runs without a call: how many instructions a run retires depends on the program and
 -- the limit alone, whatever pages are absent and whatever the schedule.
-use Rattle.std.specs.Prelude.{ℕ, zero, suc, Bool, true, false, List, ◌≡◌, ◌<◌, ◌≤◌, ◌==◌, ◌&&◌, ◌||◌, nat_lt}
+use Rattle.std.specs.Prelude.{ℕ, Bool, true, false, List, ◌≡◌, ◌<◌, ◌≤◌, ◌==◌, ◌&&◌, ◌||◌, nat_lt}
 use Rattle.std.proofs.Common.{arith, refl, sym, ap, ◌∙◌}
 use Rattle.std.proofs.lemmas.Bool.{eqb-true, ltb-false, ltb-true}
-use Rattle.m88_event.proofs.Laws.{keeps_past, opens_with, reached_within}
-use Rattle.m88_event.specs.Letters.{letter_at}
+use Rattle.m88_event.proofs.Laws.{past_after}
 use Rattle.m88_event.specs.Past.{HasInstructions, HasPast}
-use Rattle.m88_event.specs.Run.{IsOutcome, moment_after, moment_along, outcome_at}
+use Rattle.m88_event.specs.Run.{IsOutcome, moment_after, outcome_at}
 use Rattle.m88_event.specs.Timeline.{Moment, is_drained, is_idle, is_over}
 use Rattle.m88_event.specs.declared.letter.Letter.{Letter}
 use Rattle.m88_event.specs.declared.outcome.Outcome.{Outcome}
@@ -34,15 +33,6 @@ one_stop p limit a b x y = by_test (nat_lt a b)
     (λ more. by_test (nat_lt b a)
     (λ less. absurd (none_below p limit b a y x (ltb-true b a less)))
     (λ most. omega (arith, ltb-false a b more, ltb-false b a most)))
-
--- what lies behind each moment of a run
-past_after : (p : Program) (named : ℕ → Bool) (limit : ℕ) (schedule : List Letter) (k : ℕ) →
-    HasPast p limit (moment_after p named limit schedule k)
-unfolding moment_along
-past_after p named limit schedule zero = opens_with p limit
-past_after p named limit schedule (suc k) =
-    keeps_past p named limit (letter_at schedule k) (moment_after p named limit schedule k)
-    (reached_within p named limit schedule k) (past_after p named limit schedule k)
 
 -- the history stops where a run is over
 second_of : (a b : Bool) → (a && b) ≡ true → b ≡ true

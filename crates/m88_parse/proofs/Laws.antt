@@ -1,7 +1,7 @@
 -- The laws of sources that proofs above cite, by their subject.
 
 -- A source has one unit or one first fault.
-pub use Rattle.m88_parse.proofs.Law.Faults.{one_verdict}
+pub use Rattle.m88_parse.proofs.Law.Faults.{one_verdict as one_source_verdict}
 -- the unit of a source that isn't too long can be laid out
 pub use Rattle.m88_parse.proofs.FormedUnits.{unit_formed}
 -- Lines: what a line says is read of it, as the row that says it.
@@ -10,7 +10,7 @@ pub use Rattle.m88_parse.proofs.Law.Units.{row_again}
 -- a text has no more lines than bytes, and none is longer than the text
 pub use Rattle.m88_parse.proofs.FormedUnits.{lines_few}
 pub use Rattle.m88_parse.proofs.TokenBounds.{AreShort, lines_short}
--- Tokens: each token of a line stands within it and has bytes for its text.
+-- Tokens: each token of a line that isn't too long stands at a column below 2^32 and has bytes for its text.
 pub use Rattle.m88_parse.proofs.TokenBounds.{AreSmall, IsInLine, tokens_in_line}
 -- decimal digits, and 0x with hexadecimal digits, are bytes of one token
 pub use Rattle.m88_parse.proofs.Law.FirstToken.{decimal_run, hexadecimal_run}

@@ -75,7 +75,7 @@ impl<'a> Parser<'a> {
         )
     }
 
-    /// rD,rS1,rS2 into `out`.
+    /// rD,rS1,rS2, into `out`.
     #[tactic(auto, unfolding(crate::specs::Inside::Grammar::read))]
     fn registers(&mut self, op: RegOp, out: &mut Body) -> Result<(), ParseFault>
         ensures { Gives (λ _. out.new) result (read (registers_form op) self.old) }
@@ -150,7 +150,7 @@ impl<'a> Parser<'a> {
         )
     }
 
-    /// rD,rS1[rS2] into `out`.
+    /// rD,rS1[rS2], into `out`.
     #[tactic(auto, unfolding(crate::specs::Inside::Grammar::read))]
     fn address(&mut self, size: LdaSize, out: &mut Body) -> Result<(), ParseFault>
         ensures { Gives (λ _. out.new) result (read (address_form size) self.old) }
@@ -179,7 +179,7 @@ impl<'a> Parser<'a> {
         self.close(out, Body::Code(instr, None))
     }
 
-    /// rD,rS2 into `out`.
+    /// rD,rS2, into `out`.
     #[tactic(auto, unfolding(crate::specs::Inside::Grammar::read))]
     fn find_bit(&mut self, ones: bool, out: &mut Body) -> Result<(), ParseFault>
         ensures { Gives (λ _. out.new) result (read (find_bit_form ones) self.old) }
@@ -254,7 +254,7 @@ impl<'a> Parser<'a> {
         )
     }
 
-    /// rS2 into `out`.
+    /// rS2, into `out`.
     #[tactic(auto, unfolding(crate::specs::Inside::Grammar::read))]
     fn jump(&mut self, link: bool, delayed: bool, out: &mut Body) -> Result<(), ParseFault>
         ensures { Gives (λ _. out.new) result (read (jump_form link delayed) self.old) }

@@ -1,6 +1,6 @@
 -- The laws of S-records that proofs above cite.
 
 -- A text is accepted as one whole or has one first fault, and the verdict takes what is accepted.
-pub use Rattle.m88_srec.proofs.Law.{one_verdict, verdict_takes}
+pub use Rattle.m88_srec.proofs.Law.{one_verdict as one_record_verdict, verdict_takes}
 -- The text of every image is accepted and writes the image.
 pub use Rattle.m88_srec.proofs.Trip.{image_is_accepted}

@@ -1,12 +1,11 @@
 -- What those above may use of traces without a call: a text has one verdict, and a run one trace, that of its limit.
-use Rattle.std.specs.Prelude.{ℕ, zero, suc, Bool, List, ◌≡◌, ◌+◌}
+use Rattle.std.specs.Prelude.{ℕ, Bool, List, ◌≡◌, ◌+◌}
 use Rattle.std.proofs.Common.{sym, ◌∙◌}
 use Rattle.m88_base.specs.OneVerdict.{HasOneVerdict}
-use Rattle.m88_event.proofs.Laws.{keeps_past, opens_with, reached_within}
+use Rattle.m88_event.proofs.Laws.{past_after}
 use Rattle.m88_event.specs.Bound.{one_if}
-use Rattle.m88_event.specs.Letters.{letter_at}
 use Rattle.m88_event.specs.Past.{HasPast}
-use Rattle.m88_event.specs.Run.{moment_after, moment_along}
+use Rattle.m88_event.specs.Run.{moment_after}
 use Rattle.m88_event.specs.declared.letter.Letter.{Letter}
 use Rattle.m88_isa.specs.Machine.{Program}
 use Rattle.m88_trace.proofs.History.{some_line}
@@ -20,17 +19,8 @@ pub one_verdict_of : (p : Program) (text : List ℕ) →
     HasOneVerdict (IsText (trace_line p) text) (DiffersBehind (trace_line p) text)
 one_verdict_of p text = one_verdict (trace_line p) text (some_line p)
 
--- what lies behind each moment of a run
-past_after : (p : Program) (named : ℕ → Bool) (limit : ℕ) (schedule : List Letter) (k : ℕ) →
-    HasPast p limit (moment_after p named limit schedule k)
-unfolding moment_along
-past_after p named limit schedule zero = opens_with p limit
-past_after p named limit schedule (suc k) =
-    keeps_past p named limit (letter_at schedule k) (moment_after p named limit schedule k)
-    (reached_within p named limit schedule k) (past_after p named limit schedule k)
-
 -- the trace of a run is that of its limit, whatever pages are absent and whatever the schedule
-pub run_trace_alone : (p : Program) (named : ℕ → Bool) (limit : ℕ) (schedule : List Letter) (text : List ℕ) →
+run_trace_alone : (p : Program) (named : ℕ → Bool) (limit : ℕ) (schedule : List Letter) (text : List ℕ) →
     IsRunTrace p named limit schedule text →
     text ≡ trace_of p limit
 run_trace_alone p named limit schedule text trace =

@@ -1,5 +1,5 @@
 -- What only helps the proofs: texts against lines, the lines of a history, followers, sheets, and the board beside
--- them; Laws and Accepting are for those above.
+-- them; Laws is for those above.
 pub mod Verdicts
 pub mod Accepting
 pub mod History

@@ -3,7 +3,7 @@ use Rattle.std.proofs.Common.{◌≡◌, ◌≢◌, length, refl, rules, sym, �
 use Rattle.std.proofs.lemmas.Bool.{eqb-true}
 use Rattle.std.proofs.lemmas.Bool.Decides.{Decides-eqb}
 use Rattle.std.proofs.lemmas.Slice.Eq.{slice_eq-Decides}
-use Rattle.m88_base.proofs.PartedLines.{empty_of, none_passed, none_parts, one_parting, one_passed, parted_here, parted_or_not}
+use Rattle.m88_base.proofs.PartedLines.{empty_of, none_passed, none_parts, one_parting, one_passed, parted_here, parted_not_unparted}
 use Rattle.m88_base.proofs.parting.parted_at.Goals as goal
 
 pub loop-word-init : goal.loop-word-init
@@ -21,7 +21,7 @@ returns-then-eq-clause-only c = λ before n behind is.
 
 pub returns-then-eq-clause-only_unparted : goal.returns-then-eq-clause-only_unparted
 returns-then-eq-clause-only_unparted c = λ n none.
-    parted_or_not c.args.word.now c.args.input.now _ _ _ (returns-then-eq-clause-parted c) n none
+    parted_not_unparted c.args.word.now c.args.input.now _ _ _ (returns-then-eq-clause-parted c) n none
 
 pub loop-word-preserved : goal.loop-word-preserved
 loop-word-preserved c =
@@ -41,7 +41,7 @@ returns-clause-unparted c =
 
 pub returns-clause-only : goal.returns-clause-only
 returns-clause-only c = λ before n behind is.
-    parted_or_not c.args.word.now c.args.input.now before n behind is c.loop-word.lines (returns-clause-unparted c)
+    parted_not_unparted c.args.word.now c.args.input.now before n behind is c.loop-word.lines (returns-clause-unparted c)
 
 pub returns-clause-only_unparted : goal.returns-clause-only_unparted
 returns-clause-only_unparted c = λ n none. (returns-clause-unparted c).number ∙ sym none.number
