@@ -6,14 +6,12 @@ use Rattle.m88_parse.specs.declared.fault.ParseFault.{ParseFault}
 use Rattle.m88_parse.specs.declared.unit.Statement.{Statement}
 use Rattle.m88_parse.specs.declared.unit.Module.{Module}
 use Rattle.m88_parse.specs.declared.unit.Unit.{Unit as Source}
-use Rattle.m88_parse.specs.declared.row.Row.{Row}
-use Rattle.m88_parse.specs.declared.row.Row.TheVariants as row
 use Rattle.m88_parse.specs.Fault.{out_of_memory}
 use Rattle.m88_parse.specs.Language.Pieces.{Piece}
 use Rattle.m88_parse.specs.Inside.Tokens.{pieces_of}
 use Rattle.m88_parse.specs.Inside.State.{ReaderState, ◌>>=◌}
 use Rattle.m88_base.specs.Lines.{lines_of}
-use Rattle.m88_parse.specs.Inside.Source.{end_of_line, grouped, row_at, row_of_line, row_of_pieces, rows_of, with_row, unit_of_rows, unit_of}
+use Rattle.m88_parse.specs.Inside.Source.{Row, a_statement, a_head, end_of_line, grouped, row_at, row_of_line, row_of_pieces, rows_of, with_row, unit_of_rows, unit_of}
 use Rattle.m88_parse.specs.Inside.Drafts.{Drafted, nothing_yet, with_more, modules_with, modules_after, begun, leads, Follows, GoesOn, LeadsOn, EndsWith}
 
 more_first : (closed : List Module) (m : Module) (x : Statement) (g : List Statement) (ms : List Module)
@@ -21,13 +19,13 @@ more_first : (closed : List Module) (m : Module) (x : Statement) (g : List State
 more_first closed m x g ms = ap (λ (xs : List Statement). closed ++ (record { name = m.name; line = m.line; statements = xs }) ∷ ms) (append_assoc m.statements (x ∷ []) g)
 
 after_statement : (closed : List Module) (current : Option Module) (x : Statement) (rows : List Row)
-    → modules_with closed (Some (with_more (begun current) (x ∷ []))) rows ≡ modules_with closed current (row.Statement x ∷ rows)
+    → modules_with closed (Some (with_more (begun current) (x ∷ []))) rows ≡ modules_with closed current (a_statement x ∷ rows)
 unfolding grouped
 after_statement closed None x rows = refl
 after_statement closed (Some m) x rows = more_first closed m x (grouped rows).0 (grouped rows).1
 
 after_head : (closed : List Module) (m next : Module) (rows : List Row) → next.statements ≡ []
-    → modules_with (closed ++ m ∷ []) (Some next) rows ≡ modules_with closed (Some m) (row.Head next.name next.line ∷ rows)
+    → modules_with (closed ++ m ∷ []) (Some next) rows ≡ modules_with closed (Some m) (a_head next.name next.line ∷ rows)
 unfolding grouped
 after_head closed m next rows e =
     let rest = (grouped rows).1 in
@@ -36,7 +34,7 @@ after_head closed m next rows e =
     ∙ ap (λ (xs : List Statement). closed ++ with_more m [] ∷ record { name = next.name; line = next.line; statements = xs ++ (grouped rows).0 } ∷ rest) e
 
 after_first_head : (closed : List Module) (next : Module) (rows : List Row) → next.statements ≡ []
-    → modules_with closed (Some next) rows ≡ modules_with closed None (row.Head next.name next.line ∷ rows)
+    → modules_with closed (Some next) rows ≡ modules_with closed None (a_head next.name next.line ∷ rows)
 unfolding grouped
 after_first_head closed next rows e =
     ap (λ (xs : List Statement). closed ++ record { name = next.name; line = next.line; statements = xs ++ (grouped rows).0 } ∷ (grouped rows).1) e
@@ -48,23 +46,23 @@ at_end closed (Some m) = ap (λ (xs : List Statement). closed ++ record { name =
 
 -- a row more in a draft
 pub follows_statement : (closed : List Module) (current : Option Module) (next : Module) (d : Drafted) (x : Statement) → next ≡ with_more (begun current) (x ∷ [])
-    → record { closed = closed; current = current } ≡ d → Follows (record { closed = closed; current = Some next }) d (Some (row.Statement x))
+    → record { closed = closed; current = current } ≡ d → Follows (record { closed = closed; current = Some next }) d (Some (a_statement x))
 follows_statement closed current next d x h e rows =
-    ap (λ (m : Module). modules_with closed (Some m) rows) h ∙ after_statement closed current x rows ∙ ap (λ (k : Drafted). modules_after k (row.Statement x ∷ rows)) e
+    ap (λ (m : Module). modules_with closed (Some m) rows) h ∙ after_statement closed current x rows ∙ ap (λ (k : Drafted). modules_after k (a_statement x ∷ rows)) e
 
 pub pushed_follows : {X : Type 0} (r : Result X ParseFault) (closed : List Module) (m next : Module) (d : Drafted) (x : Statement) → IfOk r (λ y. next ≡ with_more m (x ∷ []))
-    → record { closed = closed; current = Some m } ≡ d → IfOk r (λ y. Follows (record { closed = closed; current = Some next }) d (Some (row.Statement x)))
+    → record { closed = closed; current = Some m } ≡ d → IfOk r (λ y. Follows (record { closed = closed; current = Some next }) d (Some (a_statement x)))
 pushed_follows (Ok y) closed m next d x h e = follows_statement closed (Some m) next d x h e
 pushed_follows (Err f) closed m next d x h e = tt
 
 pub head_follows : (closed new_closed : List Module) (m next : Module) (d : Drafted) → next.statements ≡ [] → new_closed ≡ closed ++ m ∷ [] → record { closed = closed; current = Some m } ≡ d
-    → Follows (record { closed = new_closed; current = Some next }) d (Some (row.Head next.name next.line))
+    → Follows (record { closed = new_closed; current = Some next }) d (Some (a_head next.name next.line))
 head_follows closed new_closed m next d n h e rows =
-    ap (λ (ms : List Module). modules_with ms (Some next) rows) h ∙ after_head closed m next rows n ∙ ap (λ (k : Drafted). modules_after k (row.Head next.name next.line ∷ rows)) e
+    ap (λ (ms : List Module). modules_with ms (Some next) rows) h ∙ after_head closed m next rows n ∙ ap (λ (k : Drafted). modules_after k (a_head next.name next.line ∷ rows)) e
 
 pub first_head_follows : (closed : List Module) (next : Module) (d : Drafted) → next.statements ≡ [] → record { closed = closed; current = None } ≡ d
-    → Follows (record { closed = closed; current = Some next }) d (Some (row.Head next.name next.line))
-first_head_follows closed next d n e rows = after_first_head closed next rows n ∙ ap (λ (k : Drafted). modules_after k (row.Head next.name next.line ∷ rows)) e
+    → Follows (record { closed = closed; current = Some next }) d (Some (a_head next.name next.line))
+first_head_follows closed next d n e rows = after_first_head closed next rows n ∙ ap (λ (k : Drafted). modules_after k (a_head next.name next.line ∷ rows)) e
 
 leads_on : (after before : Drafted) (r : Option Row) (read : Result (List Row) ParseFault)
     → Follows after before r → leads after read ≡ leads before (read >>= λ rows. Ok (with_row r rows))

@@ -1,14 +1,12 @@
-//! The modules of a source as they grow, row by row.
+//! The modules of a source as they grow, line by line.
 ghost use Rattle.std.specs.Prelude.{◌≡◌, ◌∷◌, Some, [], IfOk, IfErr, OnErr, MatchResult};
 ghost use lib.Chars.{codes};
 ghost use Rattle.m88_parse.specs.Fault.{out_of_memory};
-ghost use Rattle.m88_parse.specs.declared.row.Row.TheVariants as row;
-ghost use Rattle.m88_parse.specs.Inside.Source.{main_with};
+ghost use Rattle.m88_parse.specs.Inside.Source.{a_statement, a_head, main_with};
 ghost use Rattle.m88_parse.specs.Inside.Drafts.{nothing_yet, with_more, begun, modules_after, Follows};
 
 use crate::fault::ParseFault;
 use crate::names::name_of;
-use crate::row::Row;
 use crate::unit::{Module, Statement};
 use m88_base::{Listed, Name};
 use std::alloc::Global;
@@ -116,24 +114,11 @@ impl Draft {
         }
     }
 
-    /// One row more.
-    // Called, it would have each row made in one place and taken apart in another.
-    #[inline(always)]
-    pub fn add(&mut self, alloc: Global, row: Row) -> Result<(), ParseFault>
-        ensures after { IfOk result (λ _. Follows self.new self.old (Some row)) }
-        ensures memory { IfErr result (λ e. e ≡ out_of_memory) }
-    {
-        match row {
-            Row::Statement(statement) => self.push(alloc, statement),
-            Row::Head(name, line) => self.begin(alloc, name, line),
-        }
-    }
-
     /// A statement more in the open module, or in the module main where none has begun.
+    // Called, it would have each statement made in one place and copied to another before it is pushed.
     #[inline(always)]
-    fn push(&mut self, alloc: Global, statement: Statement) -> Result<(), ParseFault>
-        ensures after { IfOk result (λ _. Follows self.new self.old
-            (Some (row.Statement statement))) }
+    pub fn push(&mut self, alloc: Global, statement: Statement) -> Result<(), ParseFault>
+        ensures after { IfOk result (λ _. Follows self.new self.old (Some (a_statement statement))) }
         ensures memory { IfErr result (λ e. e ≡ out_of_memory) }
     {
         match &mut self.current {
@@ -148,8 +133,8 @@ impl Draft {
     }
 
     /// The end of the open module, if there is one, and the head of the next.
-    fn begin(&mut self, alloc: Global, name: Name, line: u32) -> Result<(), ParseFault>
-        ensures after { IfOk result (λ _. Follows self.new self.old (Some (row.Head name line))) }
+    pub fn begin(&mut self, alloc: Global, name: Name, line: u32) -> Result<(), ParseFault>
+        ensures after { IfOk result (λ _. Follows self.new self.old (Some (a_head name line))) }
         ensures memory { IfErr result (λ e. e ≡ out_of_memory) }
     {
         let next = Open {

@@ -18,7 +18,6 @@ mod slots;
 // Statements.
 mod directive;
 mod forms;
-mod row;
 mod shape;
 mod statement;
 

@@ -113,8 +113,8 @@ fn digit_of(b: u8) -> u64
     }
 }
 
-/// The value of digits in a base, where it is below 2^32. A byte that is no digit of the base is told before a value that
-/// is too great, wherever it stands.
+/// The value of digits in a base, where it is below 2^32. A byte that is no digit of the base is told before a value
+/// that is too great, wherever it stands.
 fn value_of(base: u64, digits: &[u8]) -> Result<u32, ParseKind>
     requires least { 0 < base }
     requires most { base ≤ 16 }

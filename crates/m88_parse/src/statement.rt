@@ -13,7 +13,6 @@ use crate::draft::Draft;
 use crate::fault::{ParseFault, ParseKind};
 use crate::names::is_module;
 use crate::parser::Parser;
-use crate::row::Row;
 use crate::shape::shape_of;
 use crate::token::What;
 use crate::unit::{Body, Statement};
@@ -138,16 +137,15 @@ impl<'a> Parser<'a> {
             self.operation(alloc, &mut body)?;
             place
         };
-        draft.add(
+        draft.push(
             alloc,
-            Row::Statement(Statement {
+            Statement {
                 line,
                 label: Some(label),
                 col,
                 body,
-            }),
-        )?;
-        Ok(())
+            },
+        )
     }
 
     /// The head of a module, from its `.module` on, put into a draft.
@@ -161,8 +159,7 @@ impl<'a> Parser<'a> {
         self.skip();
         let name = self.any_name()?;
         self.end()?;
-        draft.add(alloc, Row::Head(name, line))?;
-        Ok(())
+        draft.begin(alloc, name, line)
     }
 
     /// Whether a name and a colon come next.
@@ -202,15 +199,14 @@ impl<'a> Parser<'a> {
         let col = self.place();
         let mut body = Body::Empty;
         self.operation(alloc, &mut body)?;
-        draft.add(
+        draft.push(
             alloc,
-            Row::Statement(Statement {
+            Statement {
                 line,
                 label: None,
                 col,
                 body,
-            }),
-        )?;
-        Ok(())
+            },
+        )
     }
 }

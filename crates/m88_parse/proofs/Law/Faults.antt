@@ -3,13 +3,12 @@ use Rattle.std.proofs.Common.{◌≡◌, ℕ, ◌+◌, List, [], ◌∷◌, Opti
 use Rattle.m88_parse.specs.declared.fault.ParseKind.{ParseKind}
 use Rattle.m88_parse.specs.declared.fault.ParseFault.{ParseFault}
 use Rattle.m88_parse.specs.declared.unit.Unit.{Unit as Source}
-use Rattle.m88_parse.specs.declared.row.Row.{Row}
 use Rattle.m88_parse.specs.Fault.{Gives, out_of_memory}
 use Rattle.m88_parse.specs.Inside.Tokens.{pieces_of}
 use Rattle.m88_parse.specs.Language.Pieces.{Piece}
 use Rattle.m88_parse.specs.Inside.State.{◌>>=◌}
 use Rattle.m88_base.specs.Lines.{lines_of}
-use Rattle.m88_parse.specs.Inside.Source.{row_of_pieces, row_of_line, with_row, rows_of, unit_of_rows, unit_of}
+use Rattle.m88_parse.specs.Inside.Source.{Row, row_of_pieces, row_of_line, with_row, rows_of, unit_of_rows, unit_of}
 use Rattle.m88_parse.specs.Language.Tokens.{LineTokens}
 use Rattle.m88_parse.specs.Language.Units.{IsUnit}
 use Rattle.m88_parse.specs.Language.LineFaults.{IsLineFault}

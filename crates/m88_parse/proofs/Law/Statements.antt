@@ -4,13 +4,11 @@ use Rattle.std.proofs.lemmas.Slice.Eq.{bytes_eq-Decides}
 use Rattle.m88_parse.specs.declared.fault.ParseFault.{ParseFault}
 use Rattle.m88_parse.specs.declared.unit.Body.{Body}
 use Rattle.m88_parse.specs.declared.unit.Statement.{Statement}
-use Rattle.m88_parse.specs.declared.row.Row.{Row}
-use Rattle.m88_parse.specs.declared.row.Row.TheVariants as row
 use Rattle.m88_parse.specs.Inside.Names.{is_module}
 use Rattle.m88_parse.specs.Language.Pieces.{TokenValue, a_name, a_number, a_text, a_mark, Piece}
 use Rattle.m88_parse.specs.Inside.State.{says_first, first, past, is_mark_of}
 use Rattle.m88_parse.specs.Inside.Slots.{any_name_at}
-use Rattle.m88_parse.specs.Inside.Source.{operation_on, operation_at, statement, labelled_on, labelled_at, unlabelled_at, head_at, is_label_on, is_head_on, row_at, end_of_line, row_of_pieces}
+use Rattle.m88_parse.specs.Inside.Source.{Row, a_statement, a_head, operation_on, operation_at, statement, labelled_on, labelled_at, unlabelled_at, head_at, is_label_on, is_head_on, row_at, end_of_line, row_of_pieces}
 use Rattle.m88_parse.specs.Language.Names.{IsNamed}
 use Rattle.m88_parse.specs.Language.Statements.{IsBody, text, data_section, at, word, half, byte, ascii, zeros, align, global, set, code, IsLabel, BeginsWithNoColon, IsStatement, unlabelled, labelled, label_alone, IsHead, head}
 use Rattle.m88_parse.specs.Language.Units.{Said, says_nothing, says, begins, LineSays, empty_line, statement_line, module_line}
@@ -22,8 +20,8 @@ use Rattle.m88_parse.proofs.Law.Readings.{Reading, followed, Followed, Start, be
 -- the row that says it
 abbrev pub row_for : ℕ → Said → Option Row
 row_for number says_nothing = None
-row_for number (says s) = Some (row.Statement s)
-row_for number (begins name) = Some (row.Head name number)
+row_for number (says s) = Some (a_statement s)
+row_for number (begins name) = Some (a_head name number)
 
 -- what a line with a token says
 pub record Stated (number : ℕ) (ps : List Piece) (r : Row) : Type 0 where
@@ -73,22 +71,22 @@ head_named (a_mark b) h = absurd cc
 
 -- what stands behind the head's first token, walked once
 abbrev pub head_then : ℕ → Reading Row
-head_then line = followed any_name_at (λ name. end_as (row.Head name line))
+head_then line = followed any_name_at (λ name. end_as (a_head name line))
 
-pub head_start : (few line e : ℕ) → Start few false symbols line e (head_then line) (Followed IsAnyName (λ name ps r. (ps ≡ []) × (row.Head name line ≡ r)))
+pub head_start : (few line e : ℕ) → Start few false symbols line e (head_then line) (Followed IsAnyName (λ name ps r. (ps ≡ []) × (a_head name line ≡ r)))
 head_start few line e =
-    slot_start (one_any_name line e) (λ name. end_as (row.Head name line)) (λ name ps r. (ps ≡ []) × (row.Head name line ≡ r))
-    (λ name. begun (end_start few line e (row.Head name line)))
+    slot_start (one_any_name line e) (λ name. end_as (a_head name line)) (λ name ps r. (ps ≡ []) × (a_head name line ≡ r))
+    (λ name. begun (end_start few line e (a_head name line)))
 
 pub head_law : (line e : ℕ) (p : Piece) (ps : List Piece) (r : Row)
-    → (head_at (st line e (p ∷ ps)) ≡ Ok r) ↔ ((q : Piece) × (name : List ℕ) × (ps ≡ q ∷ []) × IsAnyName name q × (row.Head name line ≡ r))
+    → (head_at (st line e (p ∷ ps)) ≡ Ok r) ↔ ((q : Piece) × (name : List ℕ) × (ps ≡ q ∷ []) × IsAnyName name q × (a_head name line ≡ r))
 unfolding head_at
 head_law line e p ps r = (
   λ h. let w = law.0 h in (w.piece, w.value, w.tokens ∙ ap (λ (qs : List Piece). w.piece ∷ qs) w.next.0, w.is, w.next.1),
   λ w. law.1 (record { value = w.1; piece = w.0; rest = []; tokens = w.2; is = w.3; next = (refl, w.4) }),
 )
   where
-    law : (head_then line (st line e ps) ≡ Ok r) ↔ Followed IsAnyName (λ name qs x. (qs ≡ []) × (row.Head name line ≡ x)) ps r
+    law : (head_then line (st line e ps) ≡ Ok r) ↔ Followed IsAnyName (λ name qs x. (qs ≡ []) × (a_head name line ≡ x)) ps r
     law = lawful (λ few. begun (head_start few line e)) ps r
 
 head_read : (line e : ℕ) (p : Piece) (ps : List Piece) (r : Row) → IsNamed (codes ".module") p → head_at (st line e (p ∷ ps)) ≡ Ok r → Stated line (p ∷ ps) r
@@ -158,12 +156,12 @@ colon_free (a_mark b) ps h = refl
 head_no_label : (line e : ℕ) (p q : Piece) (name : List ℕ) → IsNamed (codes ".module") p → IsNamed name q → is_label_on (Some p.says) (Some q.says) ≡ false
 head_no_label line e p q name n k = ap₂ (λ (a b : TokenValue). is_label_on (Some a) (Some b)) n k
 
-head_again : (line e : ℕ) (ps : List Piece) (name : List ℕ) → IsHead ps name → row_at (st line e ps) ≡ Ok (row.Head name line)
+head_again : (line e : ℕ) (ps : List Piece) (name : List ℕ) → IsHead ps name → row_at (st line e ps) ≡ Ok (a_head name line)
 unfolding row_at head_at
 head_again line e ps name (head {p = p} {q = q} n k v) =
     take_else (is_label_on (Some p.says) (Some q.says)) _ _ (head_no_label line e p q name n k)
     ∙ take_then (is_head_on (Some p.says)) _ _ (ap (λ (m : TokenValue). is_head_on (Some m)) n)
-    ∙ (head_law line e p (q ∷ []) (row.Head name line)).1 (q, name, refl, (k, v), refl)
+    ∙ (head_law line e p (q ∷ []) (a_head name line)).1 (q, name, refl, (k, v), refl)
 
 -- an operation isn't the head of a module
 pub not_head : (line e : ℕ) (ps : List Piece) (c : Body) → operation_at (st line e ps) ≡ Ok c → is_head_on (first (st line e ps)) ≡ false
@@ -191,12 +189,12 @@ plain_again line e p ps c h k =
     ∙ take_else (is_head_on (Some p.says)) _ _ (not_head line e (p ∷ ps) c o)
     ∙ bind_to (operation_at s) (λ (x : Body). Ok (statement s None p.col x)) c (Ok (statement s None p.col c)) o refl
 
-statement_again : (line e : ℕ) (ps : List Piece) (s : Statement) → IsStatement line ps s → row_at (st line e ps) ≡ Ok (row.Statement s)
+statement_again : (line e : ℕ) (ps : List Piece) (s : Statement) → IsStatement line ps s → row_at (st line e ps) ≡ Ok (a_statement s)
 statement_again line e ps s (unlabelled {p = p} {ps = qs} {said = c} h k) = plain_again line e p qs c h k
 statement_again line e ps s (labelled {l = l} {c = c} {p = p} {ps = qs} {name = name} {said = said} k h) =
-    label_again line e l c (p ∷ qs) name (row.Statement s) k
-    (bind_to (operation_at (st line e (p ∷ qs))) (λ (x : Body). Ok (statement (st line e (p ∷ qs)) (Some (name, l.col)) p.col x)) said (Ok (row.Statement s)) (body_again line e (p ∷ qs) said h) refl)
-statement_again line e ps s (label_alone {l = l} {c = c} {name = name} k) = label_again line e l c [] name (row.Statement s) k refl
+    label_again line e l c (p ∷ qs) name (a_statement s) k
+    (bind_to (operation_at (st line e (p ∷ qs))) (λ (x : Body). Ok (statement (st line e (p ∷ qs)) (Some (name, l.col)) p.col x)) said (Ok (a_statement s)) (body_again line e (p ∷ qs) said h) refl)
+statement_again line e ps s (label_alone {l = l} {c = c} {name = name} k) = label_again line e l c [] name (a_statement s) k refl
 
 -- a line's tokens
 
@@ -210,19 +208,19 @@ line_read number (p ∷ ps) o h =
 abbrev some_row : Row → Result (Option Row) ParseFault
 some_row r = Ok (Some r)
 
-statement_some : (number : ℕ) (ps : List Piece) (s : Statement) → IsStatement number ps s → row_of_pieces number ps ≡ Ok (Some (row.Statement s))
+statement_some : (number : ℕ) (ps : List Piece) (s : Statement) → IsStatement number ps s → row_of_pieces number ps ≡ Ok (Some (a_statement s))
 statement_some number [] s h = absurd (none h)
   where
     none : IsStatement number [] s → ⊥
     none x = elim x [ ]
-statement_some number (p ∷ ps) s h = bind_to (row_at (st number (end_of_line (p ∷ ps)) (p ∷ ps))) some_row (row.Statement s) (Ok (Some (row.Statement s))) (statement_again number (end_of_line (p ∷ ps)) (p ∷ ps) s h) refl
+statement_some number (p ∷ ps) s h = bind_to (row_at (st number (end_of_line (p ∷ ps)) (p ∷ ps))) some_row (a_statement s) (Ok (Some (a_statement s))) (statement_again number (end_of_line (p ∷ ps)) (p ∷ ps) s h) refl
 
-head_some : (number : ℕ) (ps : List Piece) (name : List ℕ) → IsHead ps name → row_of_pieces number ps ≡ Ok (Some (row.Head name number))
+head_some : (number : ℕ) (ps : List Piece) (name : List ℕ) → IsHead ps name → row_of_pieces number ps ≡ Ok (Some (a_head name number))
 head_some number [] name h = absurd (none h)
   where
     none : IsHead [] name → ⊥
     none x = elim x [ ]
-head_some number (p ∷ ps) name h = bind_to (row_at (st number (end_of_line (p ∷ ps)) (p ∷ ps))) some_row (row.Head name number) (Ok (Some (row.Head name number))) (head_again number (end_of_line (p ∷ ps)) (p ∷ ps) name h) refl
+head_some number (p ∷ ps) name h = bind_to (row_at (st number (end_of_line (p ∷ ps)) (p ∷ ps))) some_row (a_head name number) (Ok (Some (a_head name number))) (head_again number (end_of_line (p ∷ ps)) (p ∷ ps) name h) refl
 
 pub line_again : (number : ℕ) (ps : List Piece) (said : Said) → LineSays number ps said → row_of_pieces number ps ≡ Ok (row_for number said)
 line_again number ps said empty_line = refl

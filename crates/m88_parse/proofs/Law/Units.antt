@@ -4,14 +4,12 @@ use Rattle.m88_parse.specs.declared.fault.ParseFault.{ParseFault}
 use Rattle.m88_parse.specs.declared.unit.Statement.{Statement}
 use Rattle.m88_parse.specs.declared.unit.Module.{Module}
 use Rattle.m88_parse.specs.declared.unit.Unit.{Unit as Source}
-use Rattle.m88_parse.specs.declared.row.Row.{Row}
-use Rattle.m88_parse.specs.declared.row.Row.TheVariants as row
 use Rattle.m88_parse.specs.Inside.Tokens.{pieces_of}
 use Rattle.m88_parse.specs.Language.Pieces.{Piece}
 use Rattle.m88_parse.specs.Fault.{Gives}
 use Rattle.m88_parse.specs.Inside.State.{◌>>=◌}
 use Rattle.m88_base.specs.Lines.{lines_of}
-use Rattle.m88_parse.specs.Inside.Source.{row_of_pieces, row_of_line, with_row, rows_of, grouped, main_with, modules_in, unit_of_rows, unit_of}
+use Rattle.m88_parse.specs.Inside.Source.{Row, a_statement, a_head, row_of_pieces, row_of_line, with_row, rows_of, grouped, main_with, modules_in, unit_of_rows, unit_of}
 use Rattle.m88_parse.specs.Language.Tokens.{LineTokens}
 use Rattle.m88_parse.specs.Language.Units.{Said, says_nothing, says, begins, LineSays, AreRows, no_row, row_of_nothing, row_of_statement, row_of_module, AreModules, only_main, first_main, no_main, IsUnit}
 use Rattle.m88_parse.proofs.Law.SingleTokens.{ok_same, bind_ok, bind_to}
@@ -80,16 +78,16 @@ rows_again (row_of_nothing {number = number} {line = line} {lines = lines} {ps =
 rows_again (row_of_statement {number = number} {line = line} {lines = lines} {ps = ps} {s = s} t h g) =
     let k = rows_again g in
     record {
-      rows = row.Statement s ∷ k.rows;
-      read = one_more number line lines (Some (row.Statement s)) k.rows (row_again number line ps (says s) t h) k.read;
+      rows = a_statement s ∷ k.rows;
+      read = one_more number line lines (Some (a_statement s)) k.rows (row_again number line ps (says s) t h) k.read;
       statements = ap (λ (xs : List Statement). s ∷ xs) k.statements;
       modules = k.modules;
     }
 rows_again (row_of_module {number = number} {line = line} {lines = lines} {ps = ps} {name = name} t h g) =
     let k = rows_again g in
     record {
-      rows = row.Head name number ∷ k.rows;
-      read = one_more number line lines (Some (row.Head name number)) k.rows (row_again number line ps (begins name) t h) k.read;
+      rows = a_head name number ∷ k.rows;
+      read = one_more number line lines (Some (a_head name number)) k.rows (row_again number line ps (begins name) t h) k.read;
       statements = refl;
       modules = ap₂ (λ (xs : List Statement) (ys : List Module). record { name = name; line = number; statements = xs } ∷ ys) k.statements k.modules;
     }

@@ -6,8 +6,7 @@ use Rattle.m88_parse.specs.declared.fault.ParseFault.{ParseFault}
 use Rattle.m88_parse.specs.declared.unit.Statement.{Statement}
 use Rattle.m88_parse.specs.declared.unit.Module.{Module}
 use Rattle.m88_parse.specs.declared.unit.Unit.{Unit as Source}
-use Rattle.m88_parse.specs.declared.row.Row.{Row}
-use Rattle.m88_parse.specs.Inside.Source.{grouped, main_with, modules_in, rows_of, with_row}
+use Rattle.m88_parse.specs.Inside.Source.{Row, grouped, main_with, modules_in, rows_of, with_row}
 
 -- the modules that are closed, and the one that is open, if one has begun
 pub record Drafted : Type 0 where

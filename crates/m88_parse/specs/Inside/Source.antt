@@ -12,8 +12,6 @@ use Rattle.m88_parse.specs.declared.unit.Body.TheVariants.{Empty}
 use Rattle.m88_parse.specs.declared.unit.Statement.{Statement}
 use Rattle.m88_parse.specs.declared.unit.Module.{Module}
 use Rattle.m88_parse.specs.declared.unit.Unit.{Unit as Source}
-use Rattle.m88_parse.specs.declared.row.Row.{Row}
-use Rattle.m88_parse.specs.declared.row.Row.TheVariants as row
 use Rattle.m88_parse.specs.Inside.Names.{is_module}
 use Rattle.m88_parse.specs.Inside.Tokens.{pieces_of}
 use Rattle.m88_parse.specs.Language.Bytes.{colon_mark}
@@ -23,6 +21,11 @@ use Rattle.m88_parse.specs.Inside.Slots.{symbol_at, any_name_at, line_end_at}
 use Rattle.m88_parse.specs.Inside.Shapes.{shape_of}
 use Rattle.m88_parse.specs.Inside.Directives.{directive_of}
 use Rattle.m88_parse.specs.Inside.Grammar.{Form, read, form_of, directive_form}
+
+-- what a line says: a statement, or the name of a module that begins and the number of its line
+pub data Row : Type 0 where
+  a_statement : Statement → Row
+  a_head : List ℕ → ℕ → Row
 
 -- the form of a mnemonic
 abbrev pub instruction_form : Mnemonic → Form
@@ -54,7 +57,7 @@ operation_at s = operation_on s (first s)
 
 -- a line that is a statement
 abbrev pub statement : ReaderState → Option (List ℕ × ℕ) → ℕ → Body → Row
-statement s label col b = row.Statement (record { line = s.line; label = label; col = col; body = b })
+statement s label col b = a_statement (record { line = s.line; label = label; col = col; body = b })
 
 -- a label alone, or the operation behind it
 abbrev pub labelled_on : ReaderState → (List ℕ × ℕ) → Option TokenValue → Result Row ParseFault
@@ -74,7 +77,7 @@ unfoldable pub head_at : ReaderState → Result Row ParseFault
 head_at s = do
   name ← any_name_at (past s)
   end ← line_end_at name.1
-  Ok (row.Head name.0 s.line)
+  Ok (a_head name.0 s.line)
 
 -- a name with a colon behind it is a label
 abbrev pub is_label_on : Option TokenValue → Option TokenValue → Bool
@@ -124,8 +127,8 @@ rows_of number (line ∷ lines) = do
 -- the statements up to the first head, and the modules from there on
 unfoldable pub grouped : List Row → List Statement × List Module
 grouped [] = ([], [])
-grouped (row.Statement x ∷ rows) = (x ∷ (grouped rows).0, (grouped rows).1)
-grouped (row.Head name line ∷ rows) =
+grouped (a_statement x ∷ rows) = (x ∷ (grouped rows).0, (grouped rows).1)
+grouped (a_head name line ∷ rows) =
     ([], record { name = name; line = line; statements = (grouped rows).0 } ∷ (grouped rows).1)
 
 -- the module main of these statements

@@ -2,10 +2,9 @@
 use Rattle.std.proofs.Common.{◌≡◌, ◌↔◌, ℕ, ◌+◌, ◌<◌, Bool, true, false, if◌then◌else◌, List, [], ◌∷◌, ◌++◌, length, Option, Some, None, Result, Ok, Err, ap}
 use Rattle.m88_parse.specs.declared.fault.ParseKind.{ParseKind}
 use Rattle.m88_parse.specs.declared.fault.ParseFault.{ParseFault}
-use Rattle.m88_parse.specs.declared.row.Row.{Row}
 use Rattle.m88_parse.specs.Language.Pieces.{Piece}
 use Rattle.m88_parse.specs.Inside.State.{ReaderState, first}
-use Rattle.m88_parse.specs.Inside.Source.{unlabelled_at, head_at, is_head_on}
+use Rattle.m88_parse.specs.Inside.Source.{Row, unlabelled_at, head_at, is_head_on}
 use Rattle.m88_parse.specs.Language.Names.{IsMark, IsNumber, IsNamed, IsSymbol}
 use Rattle.m88_parse.specs.Language.LineFaults.{IsOperation, MayFollow, NumberMayFollow, NameMayFollow, EverySymbolMayFollow, EndsInSign, IsBroken}
 use Rattle.m88_parse.proofs.Law.SingleTokens.{st, Naming, no_name, own_names, symbols}

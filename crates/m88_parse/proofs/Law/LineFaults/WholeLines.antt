@@ -7,7 +7,6 @@ use Rattle.m88_parse.specs.declared.fault.ParseKind.TheVariants.{Syntax, NoSuchN
 use Rattle.m88_parse.specs.declared.fault.ParseFault.{ParseFault}
 use Rattle.m88_parse.specs.declared.directive.Directive.{Directive}
 use Rattle.m88_parse.specs.declared.unit.Body.{Body}
-use Rattle.m88_parse.specs.declared.row.Row.{Row}
 use Rattle.m88_parse.specs.Inside.Names.{is_module, is_symbol}
 use Rattle.m88_parse.specs.Language.Pieces.{TokenValue, a_name, a_number, a_text, a_mark, Piece}
 use Rattle.m88_parse.specs.Inside.State.{ReaderState, says_first, first, place, past, is_mark_of, ◌>>=◌}
@@ -15,7 +14,7 @@ use Rattle.m88_parse.specs.Inside.Slots.{symbol_on, symbol_at}
 use Rattle.m88_parse.specs.Inside.Shapes.{shape_of}
 use Rattle.m88_parse.specs.Inside.Directives.{directive_text, all_directives, directive_of}
 use Rattle.m88_parse.specs.Inside.Grammar.{Form, read, form_of, directive_form}
-use Rattle.m88_parse.specs.Inside.Source.{form_in, form_named, by_form, operation_on, operation_at, statement, labelled_on, labelled_at, head_at, is_label_on, is_head_on, row_at, end_of_line, row_of_pieces}
+use Rattle.m88_parse.specs.Inside.Source.{Row, form_in, form_named, by_form, operation_on, operation_at, statement, labelled_on, labelled_at, head_at, is_label_on, is_head_on, row_at, end_of_line, row_of_pieces}
 use Rattle.m88_parse.specs.Language.Names.{IsMark, IsNamed, IsSymbol}
 use Rattle.m88_parse.specs.Language.Statements.{IsBody, text as text_body, IsLabel, IsStatement, unlabelled, labelled as labelled_body, label_alone, IsHead, head}
 use Rattle.m88_parse.specs.Language.Units.{Said, LineSays, empty_line, statement_line, module_line}

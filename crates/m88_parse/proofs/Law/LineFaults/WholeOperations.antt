@@ -3,14 +3,12 @@
 use Rattle.std.proofs.Common.{◌≡◌, ℕ, inl, inr, List, [], ◌∷◌, Some, None, Result, Ok, Err, refl, sym, ap, ◌∙◌, subst, codes}
 use Rattle.m88_parse.specs.declared.fault.ParseFault.{ParseFault}
 use Rattle.m88_parse.specs.declared.unit.Body.{Body}
-use Rattle.m88_parse.specs.declared.row.Row.{Row}
-use Rattle.m88_parse.specs.declared.row.Row.TheVariants as row
 use Rattle.m88_parse.specs.Language.Pieces.{TokenValue, Piece}
 use Rattle.m88_parse.specs.Language.Names.{IsNamed}
 use Rattle.m88_parse.specs.Language.Statements.{IsHead, head}
 use Rattle.m88_parse.specs.Language.LineFaults.{IsOperation, operation, head_of_module}
 use Rattle.m88_parse.specs.Inside.State.{first, place}
-use Rattle.m88_parse.specs.Inside.Source.{operation_at, head_at, is_head_on, statement}
+use Rattle.m88_parse.specs.Inside.Source.{Row, a_head, operation_at, head_at, is_head_on, statement}
 use Rattle.m88_parse.proofs.Law.TestsAndChoices.{chosen, take_then, take_else}
 use Rattle.m88_parse.proofs.Law.SingleTokens.{st, bind_ok, bind_to}
 use Rattle.m88_parse.proofs.Law.Operations.{operation_read, body_again}
@@ -55,7 +53,7 @@ unfolding head_at
 head_heard line e ps name (head {p = p} {q = q} n k v) =
     same_fault
     (take_then (is_head_on (Some p.says)) _ _ (ap (λ (m : TokenValue). is_head_on (Some m)) n)
-    ∙ (head_law line e p (q ∷ []) (row.Head name line)).1 (q, name, refl, (k, v), refl))
+    ∙ (head_law line e p (q ∷ []) (a_head name line)).1 (q, name, refl, (k, v), refl))
 
 is_heard : (line e : ℕ) (ps : List Piece) → IsOperation ps → heard line e ps ≡ None
 is_heard line e ps (operation {said = said} h) = operation_heard line e ps said (body_again line e ps said h)
