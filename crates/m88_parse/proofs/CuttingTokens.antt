@@ -1,13 +1,13 @@
 -- Tokens cut off one after the other, as a loop does.
 use Rattle.std.proofs.Common.{◌≡◌, ℕ, zero, suc, ◌-◌, ◌+◌, ◌≤◌, ◌<◌, List, [], ◌∷◌, ◌++◌, length, map, get_or, take, drop, Some, None, Result, Ok, Err, refl, sym, ap, ap₂, subst, ◌∙◌, append_assoc, take_all, arith}
 use Rattle.std.proofs.lemmas.List.{append-nil, drop-drop, map_push, take_more}
+use Rattle.m88_parse.proofs.FrontBytes.{run_taken}
 use Rattle.m88_parse.specs.declared.token.Lexeme.{Lexeme}
 use Rattle.m88_parse.specs.declared.token.Token.{Token}
-use Rattle.m88_parse.specs.Inside.Places.{IsLexemeOf}
 use Rattle.m88_parse.specs.Language.Pieces.{IsSlice, IsTokenOf, PlainToken, plain_token, token_of, TokenValue, Piece}
 use Rattle.m88_parse.specs.declared.fault.ParseFault.{ParseFault}
 use Rattle.m88_parse.specs.declared.scan.Flaw.{Flaw}
-use Rattle.m88_parse.specs.Inside.Tokens.{piece_of, Cut, front, pieces, pieces_of, prepend, fault_at, tokens_from, tokens_of}
+use Rattle.m88_parse.specs.Inside.Tokens.{piece_in, text_in, Cut, front, pieces, pieces_of, prepend, fault_at, tokens_from, tokens_of}
 
 -- what was cut off before, and what is still cut
 abbrev pub with_front : List Piece → Result (List Piece) ParseFault → Result (List Piece) ParseFault
@@ -72,31 +72,44 @@ unfolding pieces
 is_done line col [] done total h so_far = sym so_far ∙ ap (λ (xs : List Piece). let r : Result (List Piece) ParseFault = Ok xs in r) (append-nil done)
 is_done line col (b ∷ bs) done total h so_far = absurd (omega arith)
 
-pub slice_goes_on : (line text rest : List ℕ) (col len : ℕ) → 1 ≤ col → rest ≡ drop (col - 1) line → text ≡ take len rest → length text ≡ len → text ≡ take (length text) (drop (col - 1) line)
-slice_goes_on line text rest col len from_one here front same = front ∙ ap (take len) here ∙ ap (λ (n : ℕ). take n (drop (col - 1) line)) (sym same)
-
-pub rest_goes_on : (line rest after : List ℕ) (col len : ℕ) → 1 ≤ col → rest ≡ drop (col - 1) line → after ≡ drop len rest → after ≡ drop (col + len - 1) line
+pub rest_goes_on : (line rest after : List ℕ) (col len : ℕ) → 1 ≤ col → rest ≡ drop (col - 1) line
+    → after ≡ drop len rest → after ≡ drop (col + len - 1) line
 rest_goes_on line rest after col len from_one here back =
     let e : col - 1 + len ≡ col + len - 1 = omega arith in
     back ∙ ap (drop len) here ∙ drop-drop len (col - 1) line ∙ ap (λ (n : ℕ). drop n line) e
 
-pub token_placed : (line : List ℕ) (x : Lexeme) (t : Token) (n : ℕ) → plain_token t ≡ token_of n (piece_of x) → IsLexemeOf line x → IsTokenOf line t
-token_placed line x t n h k =
-    let e : t.text.now ≡ x.text.now = ap (λ (p : PlainToken). p.text) h in
+-- a token of the code has the bytes of its line at its column
+text_placed : (line : List ℕ) (x : Lexeme) → IsSlice line (text_in line x) x.col
+text_placed line x = sym (run_taken x.len (drop (x.col - 1) line))
+
+pub token_placed : (line : List ℕ) (x : Lexeme) (t : Token) (n : ℕ) → plain_token t ≡ token_of n (piece_in line x)
+    → IsTokenOf line t
+token_placed line x t n h =
+    let e : t.text.now ≡ text_in line x = ap (λ (p : PlainToken). p.text) h in
     let f : t.col ≡ x.col = ap (λ (p : PlainToken). p.col) h in
-    subst (λ (xs : List ℕ). IsSlice line xs t.col) (sym e) (subst (λ (m : ℕ). IsSlice line x.text.now m) (sym f) k)
+    subst (λ (bs : List ℕ). IsSlice line bs t.col) (sym e)
+    (subst (λ (col : ℕ). IsSlice line (text_in line x) col) (sym f) (text_placed line x))
+
+-- the tokens of the public call for tokens of the code
+abbrev pub plain_tokens : ℕ → List ℕ → List Lexeme → List PlainToken
+plain_tokens n line xs = map (token_of n) (map (piece_in line) xs)
 
 -- a token more for the lexeme that it was made of
-pub tokens_more : (xs : List Lexeme) (ts new : List Token) (t : Token) (n i : ℕ) (d : Lexeme) → i < length xs → new ≡ ts ++ t ∷ [] → plain_token t ≡ token_of n (piece_of (get_or xs i d))
-    → map plain_token ts ≡ map (token_of n) (map piece_of (take i xs)) → map plain_token new ≡ map (token_of n) (map piece_of (take (i + 1) xs))
-tokens_more xs ts new t n i d l e k so_far =
+pub tokens_more : (line : List ℕ) (xs : List Lexeme) (ts new : List Token) (t : Token) (n i : ℕ) (d : Lexeme)
+    → i < length xs → new ≡ ts ++ t ∷ [] → plain_token t ≡ token_of n (piece_in line (get_or xs i d))
+    → map plain_token ts ≡ plain_tokens n line (take i xs) → map plain_token new ≡ plain_tokens n line (take (i + 1) xs)
+tokens_more line xs ts new t n i d l e k so_far =
+    let x = get_or xs i d in
     ap (map plain_token) e ∙ map_push plain_token ts t
     ∙ ap₂ (λ (ps : List PlainToken) (p : PlainToken). ps ++ p ∷ []) so_far k
-    ∙ sym (ap (λ (ys : List Lexeme). map (token_of n) (map piece_of ys)) (take_more xs i d l) ∙ ap (map (token_of n)) (map_push piece_of (take i xs) (get_or xs i d)) ∙ map_push (token_of n) (map piece_of (take i xs)) (piece_of (get_or xs i d)))
+    ∙ sym (
+    ap (plain_tokens n line) (take_more xs i d l) ∙ ap (map (token_of n)) (map_push (piece_in line) (take i xs) x)
+    ∙ map_push (token_of n) (map (piece_in line) (take i xs)) (piece_in line x))
 
 -- a token for each lexeme
-pub tokens_done : (n : ℕ) (line : List ℕ) (xs items : List Lexeme) (ts : List Token) (i : ℕ) → pieces_of n line ≡ Ok (map piece_of xs) → items ≡ xs → length items ≤ i
-    → map plain_token ts ≡ map (token_of n) (map piece_of (take i items)) → tokens_of n line ≡ Ok (map plain_token ts)
+pub tokens_done : (n : ℕ) (line : List ℕ) (xs items : List Lexeme) (ts : List Token) (i : ℕ)
+    → pieces_of n line ≡ Ok (map (piece_in line) xs) → items ≡ xs → length items ≤ i
+    → map plain_token ts ≡ plain_tokens n line (take i items) → tokens_of n line ≡ Ok (map plain_token ts)
 tokens_done n line xs items ts i c e l so_far =
-    ap (tokens_from n) c
-    ∙ ap (λ (ps : List PlainToken). let r : Result (List PlainToken) ParseFault = Ok ps in r) (sym (so_far ∙ ap (λ (ys : List Lexeme). map (token_of n) (map piece_of ys)) (take_all i items l ∙ e)))
+    let answer : List PlainToken → Result (List PlainToken) ParseFault = λ ps. Ok ps in
+    ap (tokens_from n) c ∙ ap answer (sym (so_far ∙ ap (plain_tokens n line) (take_all i items l ∙ e)))

@@ -3,11 +3,11 @@ ghost use Rattle.std.specs.Prelude.{◌≡◌, ◌<◌, ◌^◌, ◌⊎◌, List
 ghost use Rattle.std.specs.List.{All};
 ghost use Rattle.m88_parse.specs.declared.fault.ParseFault.{ParseFault as FaultValue};
 ghost use Rattle.m88_parse.specs.Fault.{Gives, out_of_memory, IsCutKind};
-ghost use Rattle.m88_parse.specs.Inside.Places.{IsNear, IsLexemeOf};
+ghost use Rattle.m88_parse.specs.Inside.Places.{IsCutFrom};
 ghost use Rattle.m88_parse.specs.Language.Pieces.{IsTokenOf, Piece, PlainToken, plain_token, token_of};
 ghost use Rattle.m88_parse.specs.Language.FirstFaults.{IsTokenFault};
 ghost use Rattle.m88_parse.specs.Language.Tokens.{LineTokens, AreTokensOf};
-ghost use Rattle.m88_parse.specs.Inside.Tokens.{piece_of, pieces_of, tokens_of};
+ghost use Rattle.m88_parse.specs.Inside.Tokens.{piece_in, pieces_of, tokens_of};
 
 use crate::fault::ParseFault;
 use crate::scan::front;
@@ -15,15 +15,11 @@ use crate::token::{Kept, Lexeme, Token, TokenKind};
 use std::alloc::Global;
 
 /// The tokens of a line with what they say, from left to right, in the place of those that stood in `out`.
-pub(crate) fn cut_line<'a>(
-    out: &mut Vec<Lexeme<'a>>,
-    line: &'a [u8],
-    number: u32,
-) -> Result<(), ParseFault>
+pub(crate) fn cut_line(out: &mut Vec<Lexeme>, line: &[u8], number: u32) -> Result<(), ParseFault>
     requires { length line.now < 2 ^ 31 }
-    ensures cuts { Gives (λ _. map piece_of out.new.items) result (pieces_of number line.now) }
-    ensures near { OnOk result (All IsNear out.new.items) }
-    ensures slices { OnOk result (All (IsLexemeOf line.now) out.new.items) }
+    ensures cuts { Gives (λ _. map (piece_in line.now) out.new.items) result
+        (pieces_of number line.now) }
+    ensures places { OnOk result (All (IsCutFrom line.now) out.new.items) }
 {
     out.clear();
     let mut rest = line;
@@ -39,9 +35,10 @@ pub(crate) fn cut_line<'a>(
                 });
             }
         };
-        let (text, after) = rest.split_at(cut.len);
+        let (_, after) = rest.split_at(cut.len);
         if let Some(kept) = cut.kept {
-            out.push(Lexeme { text, col, kept })?;
+            let len = cut.len as u32;
+            out.push(Lexeme { col, len, kept })?;
         }
         rest = after;
         col += cut.len as u32;
@@ -49,13 +46,14 @@ pub(crate) fn cut_line<'a>(
     Ok(())
 }
 
-/// A token without what it says.
-fn token_of<'a>(lexeme: &Lexeme<'a>, line: u32) -> Token<'a>
-    ensures { plain_token result ≡ token_of line (piece_of lexeme.now) }
+/// A token of a line without what it says; `number` is the line's number.
+fn token_of<'a>(lexeme: &Lexeme, line: &'a [u8], number: u32) -> Token<'a>
+    requires { IsCutFrom line.now lexeme.now }
+    ensures { plain_token result ≡ token_of number (piece_in line.now lexeme.now) }
 {
     Token {
-        text: lexeme.text,
-        line,
+        text: lexeme.text(line),
+        line: number,
         col: lexeme.col,
         kind: match lexeme.kept {
             Kept::Name => TokenKind::Name,
@@ -76,7 +74,7 @@ fn cut_tokens<'a>(alloc: Global, line: &'a [u8], number: u32) -> Result<Vec<Toke
     cut_line(&mut lexemes, line, number)?;
     let mut out = Vec::new(alloc);
     for lexeme in &lexemes {
-        out.push(token_of(lexeme, number))?;
+        out.push(token_of(lexeme, line, number))?;
     }
     Ok(out)
 }

@@ -1,21 +1,24 @@
 //! The tokens of a line that are left, as a statement is read from them.
 ghost use Rattle.std.specs.Prelude.{◌≡◌, length, map, ◌-◌};
+ghost use Rattle.std.specs.List.{All};
 ghost use Rattle.m88_parse.specs.Fault.{Gives};
 ghost use Rattle.m88_parse.specs.Inside.Grammar.{read, ends};
 ghost use Rattle.m88_parse.specs.Inside.State.{ReaderState, first, second, place, past, fault, is_next_mark};
 ghost use Rattle.m88_parse.specs.Inside.Slots.{mark_at, line_end_at};
-ghost use Rattle.m88_parse.specs.Inside.Tokens.{piece_of, token_value_in};
+ghost use Rattle.m88_parse.specs.Inside.Places.{IsCutFrom};
+ghost use Rattle.m88_parse.specs.Inside.Tokens.{piece_in, token_value_in};
 
 use crate::fault::{ParseFault, ParseKind};
 use crate::token::{Lexeme, What};
 use crate::unit::Body;
 use std::marker::Model;
 
-/// Reads a statement from the tokens of its line: those that are left, the line's number, and the
-/// column just after the last token.
+/// Reads a statement from the tokens of its line: the bytes of the line, the tokens that are left, the
+/// line's number, and the column just after the last token.
 #[derive(Drop)]
 pub(crate) struct Parser<'a> {
-    rest: &'a [Lexeme<'a>],
+    bytes: &'a [u8],
+    rest: &'a [Lexeme],
     line: u32,
     end_col: u32,
 }
@@ -24,16 +27,20 @@ impl<'a> Model for Parser<'a> {
     ghost Value = { ReaderState };
 
     ghost view = { λ p. record
-        { line = p.line; end_col = p.end_col; rest = map piece_of p.rest.now } };
+        { line = p.line; end_col = p.end_col; rest = map (piece_in p.bytes.now) p.rest.now } };
+
+    ghost invariant = { λ p. All (IsCutFrom p.bytes.now) p.rest.now };
 }
 
 impl<'a> Parser<'a> {
-    /// At the first of the tokens of a line; `end_col` is the column just after the last one.
-    pub fn new(lexemes: &'a [Lexeme<'a>], line: u32, end_col: u32) -> Parser<'a>
-        ensures { result
-            ≡ record { line = line; end_col = end_col; rest = map piece_of lexemes.now } }
+    /// At the first of the tokens of a line with these bytes; `end_col` is the column just after the last one.
+    pub fn new(bytes: &'a [u8], lexemes: &'a [Lexeme], line: u32, end_col: u32) -> Parser<'a>
+        requires { All (IsCutFrom bytes.now) lexemes.now }
+        ensures { result ≡ record
+            { line = line; end_col = end_col; rest = map (piece_in bytes.now) lexemes.now } }
     {
         Parser {
+            bytes,
             rest: lexemes,
             line,
             end_col,
@@ -45,7 +52,7 @@ impl<'a> Parser<'a> {
         ensures { token_value_in result ≡ first self.now }
     {
         match self.rest {
-            [lexeme, ..] => Some(lexeme.what()),
+            [lexeme, ..] => Some(lexeme.what(self.bytes)),
             [] => None,
         }
     }
@@ -55,7 +62,7 @@ impl<'a> Parser<'a> {
         ensures { token_value_in result ≡ second self.now }
     {
         match self.rest {
-            [_, lexeme, ..] => Some(lexeme.what()),
+            [_, lexeme, ..] => Some(lexeme.what(self.bytes)),
             _ => None,
         }
     }

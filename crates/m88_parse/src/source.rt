@@ -7,9 +7,9 @@ ghost use Rattle.m88_parse.specs.Language.FirstFaults.{IsFirstFault};
 ghost use Rattle.m88_parse.specs.Language.Units.{IsUnit};
 ghost use Rattle.m88_parse.specs.declared.fault.ParseFault.{ParseFault as FaultValue};
 ghost use Rattle.m88_parse.specs.Fault.{Gives, out_of_memory, IsSourceKind};
-ghost use Rattle.m88_parse.specs.Inside.Places.{IsNear};
+ghost use Rattle.m88_parse.specs.Inside.Places.{IsCutFrom};
 ghost use Rattle.m88_parse.specs.Inside.Source.{end_of_line, unit_of};
-ghost use Rattle.m88_parse.specs.Inside.Tokens.{piece_of};
+ghost use Rattle.m88_parse.specs.Inside.Tokens.{piece_in};
 ghost use Rattle.m88_parse.specs.WellFormed.{IsWellFormed};
 ghost use Rattle.m88_parse.specs.Inside.Drafts.{LeadsOn, EndsWith};
 
@@ -22,22 +22,23 @@ use crate::unit::Unit;
 use m88_base::{Listed, first_line};
 use std::alloc::Global;
 
-/// The column just after the last token.
-fn end_of_line(lexemes: &[Lexeme<'_>]) -> u32
+/// The column just after the last token of a line.
+fn end_of_line(line: &[u8], lexemes: &[Lexeme]) -> u32
+    requires short { length line.now < 2 ^ 31 }
     requires some { 0 < length lexemes.now }
-    requires near { All IsNear lexemes.now }
-    ensures { result ≡ end_of_line (map piece_of lexemes.now) }
+    requires places { All (IsCutFrom line.now) lexemes.now }
+    ensures { result ≡ end_of_line (map (piece_in line.now) lexemes.now) }
 {
     let last = &lexemes[lexemes.len() - 1];
-    last.col + last.text.len() as u32
+    last.col + last.len
 }
 
 /// One line more in the draft. Its tokens stand in `lexemes`, whose room serves the next line.
-fn read_line<'a>(
+fn read_line(
     draft: &mut Draft,
-    lexemes: &mut Vec<Lexeme<'a>>,
+    lexemes: &mut Vec<Lexeme>,
     alloc: Global,
-    line: &'a [u8],
+    line: &[u8],
     number: u32,
 ) -> Result<(), ParseFault>
     requires { length line.now < 2 ^ 31 }
@@ -48,8 +49,8 @@ fn read_line<'a>(
     if lexemes.is_empty() {
         return Ok(());
     }
-    let end_col = end_of_line(lexemes);
-    Parser::new(lexemes, number, end_col).row(alloc, draft)
+    let end_col = end_of_line(line, lexemes);
+    Parser::new(line, lexemes, number, end_col).row(alloc, draft)
 }
 
 /// The modules, line by line.

@@ -1,6 +1,7 @@
 //! Tokens, by themselves and with what they say.
 ghost use Rattle.std.specs.Prelude.{◌≡◌};
-ghost use Rattle.m88_parse.specs.Inside.Tokens.{between, piece_of, token_value};
+ghost use Rattle.m88_parse.specs.Inside.Places.{IsCutFrom};
+ghost use Rattle.m88_parse.specs.Inside.Tokens.{between, piece_in, text_in, token_value};
 
 /// What a token is: a name, a number (a character in single quotes is one), a text in double quotes, or
 /// one of the marks.
@@ -31,7 +32,7 @@ pub(crate) enum What<'a> {
     Mark(u8),
 }
 
-/// What is kept of a token beside its bytes, from which a name and a text are had again.
+/// What is kept of a token beside its place, from which a name and a text are had again.
 #[derive(Clone, Copy)]
 pub(crate) enum Kept {
     Name,
@@ -40,11 +41,12 @@ pub(crate) enum Kept {
     Mark(u8),
 }
 
-/// A token with its column and what is kept to tell what it says.
+/// A token: its column, from 1, how many bytes it has, and what is kept to tell what it says. The bytes themselves are
+/// read from its line.
 #[derive(Clone, Copy)]
-pub(crate) struct Lexeme<'a> {
-    pub text: &'a [u8],
+pub(crate) struct Lexeme {
     pub col: u32,
+    pub len: u32,
     pub kept: Kept,
 }
 
@@ -58,17 +60,29 @@ fn between(text: &[u8]) -> &[u8]
     }
 }
 
-impl<'a> Lexeme<'a> {
-    /// What the token says.
+impl Lexeme {
+    /// The bytes of the token, from its line.
+    // Called, it would cost more than the slice that it makes.
+    #[inline(always)]
+    pub fn text<'a>(&self, line: &'a [u8]) -> &'a [u8]
+        requires { IsCutFrom line.now self.now }
+        ensures { result.now ≡ text_in line.now self.now }
+    {
+        let at = self.col as usize - 1;
+        &line[at..at + self.len as usize]
+    }
+
+    /// What the token says, from its line.
     // Asked several times for each token; called, it would put its answer in memory each time.
     #[inline(always)]
-    pub fn what(&self) -> What<'a>
-        ensures { token_value result ≡ (piece_of self.now).says }
+    pub fn what<'a>(&self, line: &'a [u8]) -> What<'a>
+        requires { IsCutFrom line.now self.now }
+        ensures { token_value result ≡ (piece_in line.now self.now).says }
     {
         match self.kept {
-            Kept::Name => What::Name(self.text),
+            Kept::Name => What::Name(self.text(line)),
             Kept::Number(n) => What::Number(n),
-            Kept::Text => What::Text(between(self.text)),
+            Kept::Text => What::Text(between(self.text(line))),
             Kept::Mark(m) => What::Mark(m),
         }
     }

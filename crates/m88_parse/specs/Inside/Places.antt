@@ -1,12 +1,7 @@
--- Where lexemes stand.
-use Rattle.std.specs.Prelude.{ℕ, ◌+◌, ◌<◌, ◌^◌, List, length}
+-- Where the tokens of the code stand.
+use Rattle.std.specs.Prelude.{ℕ, ◌+◌, ◌≤◌, List, length}
 use Rattle.m88_parse.specs.declared.token.Lexeme.{Lexeme}
-use Rattle.m88_parse.specs.Language.Pieces.{IsSlice}
 
--- the column just after the token fits 32 bits, as in any line of less than 2 ^ 31 bytes
-abbrev pub IsNear : Lexeme → Type 0
-IsNear x = x.col + length x.text.now < 2 ^ 32
-
--- the bytes of the token are those of the line at its column
-abbrev pub IsLexemeOf : List ℕ → Lexeme → Type 0
-IsLexemeOf line x = IsSlice line x.text.now x.col
+-- the column counts from 1, and the line has as many bytes from there on as the token
+abbrev pub IsCutFrom : List ℕ → Lexeme → Type 0
+IsCutFrom line x = (1 ≤ x.col) × (x.col + x.len ≤ length line + 1)

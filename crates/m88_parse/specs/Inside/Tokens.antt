@@ -188,9 +188,13 @@ kept_value_in text (Some kept) = Some (kept_value text kept)
 abbrev pub cut_of : List ℕ → CutOfCode → Cut
 cut_of text c = record { len = c.len; says = kept_value_in text c.kept }
 
+-- the bytes of a token of the code in its line
+abbrev pub text_in : List ℕ → Lexeme → List ℕ
+text_in line x = take x.len (drop (x.col - 1) line)
+
 -- a token of the code as a piece of its line
-abbrev pub piece_of : Lexeme → Piece
-piece_of x = record { text = x.text.now; col = x.col; says = kept_value x.text.now x.kept }
+abbrev pub piece_in : List ℕ → Lexeme → Piece
+piece_in line x = record { text = text_in line x; col = x.col; says = kept_value (text_in line x) x.kept }
 
 -- pieces as the tokens of the public call
 abbrev pub tokens_from : ℕ → Result (List Piece) ParseFault → Result (List PlainToken) ParseFault
