@@ -11,7 +11,8 @@ use Rattle.m88_base.proofs.Laws.{front_by}
 use Rattle.m88_base.specs.Lines.{begins_with_lf, behind_line, carriage_return, line_end, line_feed, lines_of, on_first_line}
 use Rattle.m88_base.specs.Name.{IsName, continues_name}
 use Rattle.m88_base.specs.Parted.{IsParted, LacksLine, behind_lines}
-use Rattle.m88_isa.specs.Mnemonic.{all_mnemonics, text_of}
+use Rattle.m88_isa.specs.Inside.Letters.{begun_with}
+use Rattle.m88_isa.specs.Mnemonic.{text_of}
 use Rattle.m88_parse.proofs.Laws.{decimal_run, hexadecimal_run, row_again, row_for}
 use Rattle.m88_parse.specs.Inside.Directives.{all_directives, directive_text}
 use Rattle.m88_parse.specs.Inside.Source.{operation_at, row_at, row_of_line}
@@ -373,7 +374,7 @@ ended_unit source unit is = record {
 
 -- and no source that has a unit has a line `trace`, for no operation is called so
 unread : (number : ℕ) → row_of_line number trace_separator ≡ Err (record { line = number; col = 1; kind = NoSuchName })
-unfolding row_of_line row_at operation_at pieces front text_of all_mnemonics directive_text all_directives
+unfolding row_of_line row_at operation_at pieces front text_of begun_with directive_text all_directives
 unread number = refl
 
 other_line : (number : ℕ) (line : List ℕ) (ps : List Piece) (said : Said) → LineTokens line ps → LineSays number ps said

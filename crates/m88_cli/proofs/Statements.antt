@@ -12,7 +12,7 @@ use Rattle.m88_isa.specs.declared.instr.MemOp.{MemOp}
 use Rattle.m88_isa.specs.declared.instr.MemOp.TheVariants.{Ld, LdD, St, StB}
 use Rattle.m88_isa.specs.declared.instr.RegOp.TheVariants.{Subu, Xor}
 use Rattle.m88_parse.specs.declared.unit.Body.TheVariants.{Code}
-use Rattle.m88_parse.specs.Language.Mnemonics.{imm_name, mem_name, reg_name}
+use Rattle.m88_isa.specs.Names.{imm_name, mem_name, reg_name}
 use Rattle.m88_disasm.specs.Read.{said_body}
 use Rattle.m88_disasm.specs.Text.{instr_text, register_name, spelled}
 use Rattle.m88_disasm.proofs.Laws.{imm_short, mem_short, reg_short}

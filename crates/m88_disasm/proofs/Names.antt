@@ -9,7 +9,7 @@ use Rattle.m88_isa.specs.declared.instr.MemOp.{MemOp}
 use Rattle.m88_isa.specs.declared.instr.MemOp.TheVariants as mem
 use Rattle.m88_isa.specs.declared.mnemonic.Mnemonic.{Mnemonic}
 use Rattle.m88_isa.specs.declared.mnemonic.Mnemonic.TheVariants as m
-use Rattle.m88_parse.specs.Language.Mnemonics.{imm_name, reg_name, mem_name}
+use Rattle.m88_isa.specs.Names.{imm_name, reg_name, mem_name}
 
 pub name_short : (mnemonic : Mnemonic) → length (text_of mnemonic) ≤ 11
 unfolding text_of
@@ -17,16 +17,13 @@ name_short m.XmemBu = lit≤ tt
 name_short _ = lit≤ tt
 
 pub imm_short : (op : ImmOp) → length (imm_name op) ≤ 11
-unfolding imm_name
 imm_short imm.And = lit≤ tt
 imm_short _ = lit≤ tt
 
 pub reg_short : (op : RegOp) → length (reg_name op) ≤ 11
-unfolding reg_name
 reg_short reg.And = lit≤ tt
 reg_short _ = lit≤ tt
 
 pub mem_short : (op : MemOp) → length (mem_name op) ≤ 11
-unfolding mem_name
 mem_short mem.XmemBu = lit≤ tt
 mem_short _ = lit≤ tt

@@ -23,7 +23,7 @@ use Rattle.m88_isa.specs.declared.instr.BitOp.{BitOp}
 use Rattle.m88_isa.specs.declared.instr.BitOp.TheVariants as bits
 use Rattle.m88_isa.specs.declared.instr.Instr.{Instr}
 use Rattle.m88_isa.specs.declared.instr.Instr.TheVariants as instr
-use Rattle.m88_parse.specs.Language.Mnemonics.{imm_name, reg_name, mem_name, index_name, lda_name, bits_name, find_name, branch_name, branch_bit_name, branch_cond_name, jump_name, trap_bit_name, ldcr_name, stcr_name, xcr_name, operation_name}
+use Rattle.m88_isa.specs.Names.{imm_name, reg_name, index_name, lda_name, bits_name, find_name, branch_name, branch_bit_name, branch_cond_name, jump_name, trap_bit_name, ldcr_name, stcr_name, xcr_name, operation_name}
 use Rattle.m88_parse.specs.Language.Bytes.{are_digits, is_mark}
 use Rattle.m88_parse.specs.Language.Pieces.{Piece, TokenValue, a_name, a_number, a_mark}
 use Rattle.m88_parse.specs.Language.Tokens.{AreNameBytes, AreTokens, BeginsWithNoNameByte, HasNoNeedlessZero, IsDecimal, IsToken, LineTokens}
@@ -224,29 +224,24 @@ pub word_name : (text : List ℕ) → is_name_text text ≡ true → IsName text
 word_name text e = name_passes text e
 
 imm_passes : (op : ImmOp) → is_name_text (imm_name op) ≡ true
-unfolding imm_name
 imm_passes imm.And = refl
 imm_passes _ = refl
 
 reg_passes : (op : RegOp) → is_name_text (reg_name op) ≡ true
-unfolding reg_name
 reg_passes reg.And = refl
 reg_passes _ = refl
 
 index_passes : (op : MemOp) (usr : Bool) → is_name_text (index_name op usr) ≡ true
-unfolding mem_name
 index_passes mem.XmemBu true = refl
 index_passes mem.XmemBu false = refl
 index_passes _ true = refl
 index_passes _ false = refl
 
 lda_passes : (size : LdaSize) → is_name_text (lda_name size) ≡ true
-unfolding lda_name
 lda_passes lda.Double = refl
 lda_passes _ = refl
 
 bits_passes : (op : BitOp) → is_name_text (bits_name op) ≡ true
-unfolding bits_name
 bits_passes bits.Clr = refl
 bits_passes _ = refl
 

@@ -13,7 +13,7 @@ use Rattle.m88_isa.specs.declared.instr.Instr.TheVariants as instr
 use Rattle.m88_parse.specs.Language.Names.{IsCondition, IsControlName, IsSymbolName}
 use Rattle.m88_parse.specs.Language.Operands.{AreOperands}
 use Rattle.m88_parse.specs.Language.Pieces.{Piece}
-use Rattle.m88_parse.specs.Language.Mnemonics.{bits_name, branch_bit_name, branch_cond_name, branch_name, operation_name, trap_bit_name, xcr_name}
+use Rattle.m88_isa.specs.Names.{bits_name, bound_name, branch_bit_name, branch_cond_name, branch_name, operation_name, return_name, trap_bit_name, trap_cond_name, xcr_name}
 use Rattle.m88_parse.specs.Language.Statements.{BeginsWithNoColon, IsBody, at, byte, code, one, set as set_symbol, unlabelled, word}
 use Rattle.m88_parse.specs.declared.unit.Value.TheVariants.{Number}
 use Rattle.m88_parse.specs.Language.Words.{condition_named}
@@ -240,7 +240,7 @@ said_single number r i operands =
     says_code (reg_part r) [] i number _ refl (reg_good r, tt) refl refl operands
 
 said_bound : (number : ℕ) (s1 : Reg) (n : ℕ) → n < 2 ^ 16
-    → Spoken number (spelled (codes "tbnd") (register_name s1 ∷ decimal n ∷ [])) (body.Code (instr.BoundImm s1 n) None)
+    → Spoken number (spelled bound_name (register_name s1 ∷ decimal n ∷ [])) (body.Code (instr.BoundImm s1 n) None)
 said_bound number s1 n small =
     says_code (reg_part s1) (comma ∷ part_number n ∷ []) (instr.BoundImm s1 n) number _ refl
     (reg_good s1, (comma_good, (omega arith, tt))) refl refl (bound_number_form s1 n _ _ _ refl refl refl small)
@@ -310,14 +310,14 @@ said_trap_bit number set bit s1 vector small few =
     (trap_bit_form set bit s1 vector _ _ _ _ _ refl small refl refl refl refl few)
 
 said_trap_cond : (number : ℕ) (mask : ℕ) (s1 : Reg) (vector : ℕ) → ConditionPart mask → vector < 512
-    → Spoken number (spelled (codes "tcnd") (condition mask ∷ register_name s1 ∷ decimal vector ∷ []))
+    → Spoken number (spelled trap_cond_name (condition mask ∷ register_name s1 ∷ decimal vector ∷ []))
     (body.Code (instr.TrapCond mask s1 vector) None)
 said_trap_cond number mask s1 vector c few =
     says_code c.part (comma ∷ reg_part s1 ∷ comma ∷ part_number vector ∷ [])
     (instr.TrapCond mask s1 vector) number _
-    (ap (λ (ys : List ℕ). codes "tcnd" ++ 32 ∷ (ys ++ 44 ∷ (register_name s1 ++ 44 ∷ (decimal vector ++ [])))) c.text_is)
+    (ap (λ (ys : List ℕ). trap_cond_name ++ 32 ∷ (ys ++ 44 ∷ (register_name s1 ++ 44 ∷ (decimal vector ++ [])))) c.text_is)
     (c.good, (comma_good, (reg_good s1, (comma_good, (omega arith, tt))))) refl c.plain
-    (trap_cond_form mask s1 vector _ _ _ _ _ (c.read (piece_of (1 + length (codes "tcnd") + 1) c.part) refl) refl
+    (trap_cond_form mask s1 vector _ _ _ _ _ (c.read (piece_of (1 + length trap_cond_name + 1) c.part) refl) refl
     refl refl refl few)
 
 -- control registers
@@ -339,17 +339,17 @@ said_exchange number d s1 float cr small =
     (xcr_form float d s1 cr _ _ _ _ _ refl refl refl refl refl small)
 
 -- the mnemonic alone
-said_return : (number : ℕ) → Spoken number (spelled (codes "rte") []) (body.Code instr.Rte None)
+said_return : (number : ℕ) → Spoken number (spelled return_name []) (body.Code instr.Rte None)
 said_return number =
-    let alone : Spoken number (codes "rte") (body.Code instr.Rte None) = record {
+    let alone : Spoken number return_name (body.Code instr.Rte None) = record {
       read = record {
-        tokens = line_pieces (codes "rte") [];
-        are_tokens = name_token (codes "rte") (operation_named instr.Rte);
+        tokens = line_pieces return_name [];
+        are_tokens = name_token return_name (operation_named instr.Rte);
         statement = unlabelled (code refl return_form) tt;
       };
-      printed = name_is_printed (codes "rte") (operation_named instr.Rte);
+      printed = name_is_printed return_name (operation_named instr.Rte);
     } in
-    subst (λ (l : List ℕ). Spoken number l (body.Code instr.Rte None)) (sym (append-nil (codes "rte"))) alone
+    subst (λ (l : List ℕ). Spoken number l (body.Code instr.Rte None)) (sym (append-nil return_name)) alone
 
 -- the operands of a directive behind its name
 says_body : (name : List ℕ) (p : Part) (ps : List Part) (number : ℕ) (said : Body) → is_name_text name ≡ true

@@ -10,7 +10,7 @@ use Rattle.m88_isa.specs.declared.instr.BitOp.{BitOp}
 use Rattle.m88_isa.specs.declared.instr.BitOp.TheVariants.{Rot}
 use Rattle.m88_isa.specs.declared.instr.Instr.{Instr}
 use Rattle.m88_isa.specs.declared.instr.Instr.TheVariants as instr
-use Rattle.m88_parse.specs.Language.Mnemonics.{imm_name, reg_name, mem_name, index_name, lda_name, bits_name, find_name, branch_name, branch_bit_name, branch_cond_name, jump_name, trap_bit_name, ldcr_name, stcr_name, xcr_name}
+use Rattle.m88_isa.specs.Names.{imm_name, reg_name, mem_name, index_name, lda_name, bits_name, find_name, branch_name, branch_bit_name, branch_cond_name, jump_name, trap_bit_name, trap_cond_name, bound_name, return_name, ldcr_name, stcr_name, xcr_name}
 
 -- a register: r and its number
 abbrev pub register_name : Reg → List ℕ
@@ -84,10 +84,10 @@ instr_text (instr.BranchCond delayed mask s1 words) =
 instr_text (instr.Jump link delayed s2) = spelled (jump_name link delayed) (register_name s2 ∷ [])
 instr_text (instr.TrapBit set bit s1 vector) =
     spelled (trap_bit_name set) (decimal bit ∷ register_name s1 ∷ decimal vector ∷ [])
-instr_text (instr.TrapCond mask s1 vector) = spelled (codes "tcnd") (condition mask ∷ register_name s1 ∷ decimal vector ∷ [])
-instr_text (instr.BoundImm s1 imm) = spelled (codes "tbnd") (register_name s1 ∷ decimal imm ∷ [])
-instr_text (instr.BoundReg s1 s2) = spelled (codes "tbnd") (register_name s1 ∷ register_name s2 ∷ [])
-instr_text instr.Rte = spelled (codes "rte") []
+instr_text (instr.TrapCond mask s1 vector) = spelled trap_cond_name (condition mask ∷ register_name s1 ∷ decimal vector ∷ [])
+instr_text (instr.BoundImm s1 imm) = spelled bound_name (register_name s1 ∷ decimal imm ∷ [])
+instr_text (instr.BoundReg s1 s2) = spelled bound_name (register_name s1 ∷ register_name s2 ∷ [])
+instr_text instr.Rte = spelled return_name []
 instr_text (instr.Ldcr d cr float) = spelled (ldcr_name float) (register_name d ∷ control float cr ∷ [])
 instr_text (instr.Stcr s1 cr float) = spelled (stcr_name float) (register_name s1 ∷ control float cr ∷ [])
 instr_text (instr.Xcr d s1 cr float) =

@@ -1,10 +1,10 @@
 //! The mnemonic of each operation, in the order of the word table ("Instruction Set": the assembler syntax of
 //! each instruction).
-#![tactic(auto, unfolding(m88_isa::specs::Mnemonic::text_of, m88_parse::specs::Language::Mnemonics::imm_name, m88_parse::specs::Language::Mnemonics::reg_name, m88_parse::specs::Language::Mnemonics::mem_name, m88_parse::specs::Language::Mnemonics::lda_name, m88_parse::specs::Language::Mnemonics::bits_name))]
+#![tactic(auto, unfolding(m88_isa::specs::Mnemonic::text_of))]
 
 ghost use Rattle.std.specs.Prelude.{◌≡◌, true};
 ghost use Rattle.m88_isa.specs.Mnemonic.{text_of};
-ghost use Rattle.m88_parse.specs.Language.Mnemonics.{imm_name, reg_name, mem_name, index_name, lda_name, bits_name, find_name, branch_name, branch_bit_name, branch_cond_name, jump_name, trap_bit_name, ldcr_name, stcr_name, xcr_name};
+ghost use Rattle.m88_isa.specs.Names.{imm_name, reg_name, mem_name, index_name, lda_name, bits_name, find_name, branch_name, branch_bit_name, branch_cond_name, jump_name, trap_bit_name, ldcr_name, stcr_name, xcr_name};
 
 use m88_isa::{BitOp, ImmOp, LdaSize, MemOp, Mnemonic, RegOp};
 

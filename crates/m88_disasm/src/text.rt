@@ -1,9 +1,9 @@
 //! The text of an instruction, form by form.
-ghost use Rattle.std.specs.Prelude.{◌≡◌, ◌∷◌, [], ℕ, codes, decimal};
+ghost use Rattle.std.specs.Prelude.{◌≡◌, ◌∷◌, [], ℕ, decimal};
 ghost use Rattle.m88_isa.specs.Instr.{FitsWords, IsValid};
 ghost use Rattle.m88_disasm.specs.Read.{IsReadAs, said_body};
 ghost use Rattle.m88_isa.specs.Mnemonic.{text_of as spelling};
-ghost use Rattle.m88_parse.specs.Language.Mnemonics.{bits_name, xcr_name};
+ghost use Rattle.m88_isa.specs.Names.{bits_name, bound_name, trap_cond_name, xcr_name};
 ghost use Rattle.m88_disasm.specs.Text.{condition, control, field, index_operands, instr_text, register_name, scaled, spelled, target_operand, word_text};
 
 use super::mnemonics::{
@@ -158,8 +158,7 @@ fn trap_on_bit(mnemonic: Mnemonic, bit: u8, s1: Reg, vector: u16) -> InstrText
 /// A condition, rS1 and a vector.
 #[tactic(auto, unfolding(m88_isa::specs::Mnemonic::text_of))]
 fn trap_on_condition(mask: u8, s1: Reg, vector: u16) -> InstrText
-    ensures { result.bytes ≡ spelled (codes "tcnd")
-        (condition mask ∷ register_name s1 ∷ decimal vector ∷ []) }
+    ensures { result.bytes ≡ spelled trap_cond_name (condition mask ∷ register_name s1 ∷ decimal vector ∷ []) }
 {
     let mut text = begun(Mnemonic::Tcnd);
     put_condition(&mut text, mask);
@@ -173,7 +172,7 @@ fn trap_on_condition(mask: u8, s1: Reg, vector: u16) -> InstrText
 /// rS1 and a number.
 #[tactic(auto, unfolding(m88_isa::specs::Mnemonic::text_of))]
 fn bound(s1: Reg, imm: u16) -> InstrText
-    ensures { result.bytes ≡ spelled (codes "tbnd") (register_name s1 ∷ decimal imm ∷ []) }
+    ensures { result.bytes ≡ spelled bound_name (register_name s1 ∷ decimal imm ∷ []) }
 {
     let mut text = begun(Mnemonic::Tbnd);
     put_register(&mut text, s1);

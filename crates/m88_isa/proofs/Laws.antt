@@ -4,8 +4,8 @@
 pub use Rattle.m88_isa.proofs.Words.{word_small}
 -- the codes of mnemonics end below their fields, and a width and the low bits of an offset lie in theirs
 pub use Rattle.m88_isa.proofs.Words.{bit_most, imm_most, lda_most, low16_below, mem_most, reg_most, width_below}
--- the mnemonic of a spelling is the one that is spelled so
-pub use Rattle.m88_isa.proofs.Spelling.{spelled_once}
+-- the mnemonic of a spelling is the one that is spelled so, that of a name is spelled so, and from_text answers it
+pub use Rattle.m88_isa.proofs.Spelling.{settled, spelled_once, spells}
 -- Programs of images: each is a program, and its instruction at a word is the one that the word says.
 pub use Rattle.m88_isa.proofs.ImageProgram.{instruction_at_word, program_of_image}
 -- Histories: each state stands at words, and behind a branch without a delay slot goes straight on.

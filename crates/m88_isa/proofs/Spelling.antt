@@ -1,33 +1,19 @@
 -- No two mnemonics are spelled alike, and each stands with the letter that it begins with.
-use Rattle.std.specs.Prelude.{ℕ, Bool, true, false, cond, List, [], ◌∷◌, Option, Some, None, ◌≡◌, find, refl, slice_get}
+use Rattle.std.specs.Prelude.{ℕ, Bool, true, false, cond, List, [], ◌∷◌, find, slice_get}
+use Rattle.std.specs.Prelude.{Option, Some, None, IfSome, ◌≡◌, refl}
 use Rattle.std.specs.Str.{bytes_eq}
 use Rattle.std.proofs.Common.{sym, ap, ◌∙◌}
 use Rattle.std.proofs.lemmas.Slice.Eq.{bytes_eq-Decides}
-use Rattle.m88_isa.specs.Mnemonic.{text_of, all_mnemonics, mnemonic_of}
-use Rattle.m88_isa.specs.Inside.Letters.{begun_with}
+use Rattle.m88_isa.specs.Mnemonic.{text_of}
+use Rattle.m88_isa.specs.Inside.Letters.{begun_with, first_letter, mnemonic_of}
 use Rattle.m88_isa.specs.declared.mnemonic.Mnemonic.{Mnemonic}
 use Rattle.m88_isa.specs.declared.mnemonic.Mnemonic.TheVariants as mnemonic
 
 -- the mnemonic of a spelling is the one that is spelled so
 pub spelled_once : (m : Mnemonic) → mnemonic_of (text_of m) ≡ Some m
-unfolding text_of all_mnemonics
+unfolding text_of begun_with
 spelled_once mnemonic.XmemBu = refl
 spelled_once _ = refl
-
--- the first letter of a name, or 0 where there is none
-abbrev first_letter : List ℕ → ℕ
-first_letter [] = 0
-first_letter (b ∷ bs) = b
-
--- the mnemonic that is spelled so, among those of its letter
-abbrev by_letter : List ℕ → Option Mnemonic
-by_letter name = find (λ k. bytes_eq (text_of k) name) (begun_with (first_letter name))
-
--- each stands with its letter
-placed : (m : Mnemonic) → by_letter (text_of m) ≡ Some m
-unfolding text_of begun_with
-placed mnemonic.XmemBu = refl
-placed _ = refl
 
 -- what is found passes the test
 passes : {X : Type 0} (test : X → Bool) (xs : List X) (y : X) → find test xs ≡ Some y → test y ≡ true
@@ -39,36 +25,33 @@ passes test (x ∷ xs) y found = by (test x) refl found (passes test xs y)
     by true holds found later = let same : x ≡ y = cc in sym (ap test same) ∙ holds
     by false fails found later = later found
 
--- what is found is spelled so
-spells : (name : List ℕ) (ms : List Mnemonic) (m : Mnemonic) → find (λ k. bytes_eq (text_of k) name) ms ≡ Some m
-    → text_of m ≡ name
-spells name ms m found = (bytes_eq-Decides (text_of m) name).0 (passes (λ k. bytes_eq (text_of k) name) ms m found)
+-- the mnemonic of a name is spelled so
+pub spells : (name : List ℕ) (m : Mnemonic) → mnemonic_of name ≡ Some m → text_of m ≡ name
+spells name m found =
+    (bytes_eq-Decides (text_of m) name).0
+    (passes (λ k. bytes_eq (text_of k) name) (begun_with (first_letter name)) m found)
 
--- those of its letter are all that can be a name's mnemonic
-letter_settles : (name : List ℕ) → by_letter name ≡ mnemonic_of name
-letter_settles name = by (mnemonic_of name) (by_letter name) refl refl
+-- an answer that is spelled so, and is each mnemonic that is, is the mnemonic of a name
+pub settled : (name : List ℕ) (answer : Option Mnemonic) → IfSome answer (λ m. text_of m ≡ name)
+    → ((m : Mnemonic) → text_of m ≡ name → answer ≡ Some m) → answer ≡ mnemonic_of name
+settled name (Some m) spelled only = sym (spelled_once m) ∙ ap mnemonic_of spelled
+settled name None spelled only = by (mnemonic_of name) refl
   where
-    by : (whole part : Option Mnemonic) → mnemonic_of name ≡ whole → by_letter name ≡ part
-        → by_letter name ≡ mnemonic_of name
-    by None None none absent = absent ∙ sym none
-    by None (Some k) none found =
-        let same : text_of k ≡ name = spells name _ k found
-        in let clash : None ≡ Some k = sym none ∙ ap mnemonic_of (sym same) ∙ spelled_once k
-        in absurd cc
-    by (Some m) part some found =
-        let same : text_of m ≡ name = spells name _ m some
-        in ap by_letter (sym same) ∙ placed m ∙ sym some
+    by : (found : Option Mnemonic) → mnemonic_of name ≡ found → None ≡ mnemonic_of name
+    by None none = sym none
+    by (Some m) some = only m (spells name m some) ∙ sym some
 
--- a name that begins with a letter
-pub lettered : (name : List ℕ) (letter : ℕ) → slice_get name 0 ≡ Some letter
-    → find (λ k. bytes_eq (text_of k) name) (begun_with letter) ≡ mnemonic_of name
-lettered [] letter first = absurd cc
-lettered (b ∷ bs) letter first =
-    let same : letter ≡ b = cc
-    in ap (λ k. find (λ m. bytes_eq (text_of m) (b ∷ bs)) (begun_with k)) same ∙ letter_settles (b ∷ bs)
+-- a mnemonic that is spelled as a name is found among those of its first letter
+pub lettered : (name : List ℕ) (letter : ℕ) (m : Mnemonic) → slice_get name 0 ≡ Some letter → text_of m ≡ name
+    → find (λ k. bytes_eq (text_of k) name) (begun_with letter) ≡ Some m
+lettered [] letter m first same = absurd cc
+lettered (b ∷ bs) letter m first same =
+    let here : letter ≡ b = cc in
+    ap (λ k. find (λ m. bytes_eq (text_of m) (b ∷ bs)) (begun_with k)) here
+    ∙ ap mnemonic_of (sym same) ∙ spelled_once m
 
 -- no mnemonic is empty
-pub letterless : (name : List ℕ) → slice_get name 0 ≡ None → None ≡ mnemonic_of name
-unfolding text_of all_mnemonics
-letterless [] first = refl
-letterless (b ∷ bs) first = absurd cc
+pub letterless : (name : List ℕ) (m : Mnemonic) → slice_get name 0 ≡ None → text_of m ≡ name → None ≡ Some m
+unfolding begun_with
+letterless [] m first same = ap mnemonic_of (sym same) ∙ spelled_once m
+letterless (b ∷ bs) m first same = absurd cc

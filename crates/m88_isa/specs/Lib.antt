@@ -2,6 +2,7 @@
 
 -- instructions and their words
 pub mod Instr
+pub mod Names
 pub mod Mnemonic
 pub mod Word
 -- how the instruction unit treats them

@@ -1,124 +1,107 @@
--- The names of operations in the assembly language and how each is spelled ("Instruction Set": the assembler syntax
--- of each instruction).
-use Rattle.std.specs.Prelude.{ℕ, List, [], ◌∷◌, Option, codes, find}
-use Rattle.std.specs.Str.{bytes_eq}
+-- How the code's mnemonics are spelled: each is the name of an operation. A name that an immediate and registers share
+-- is told as that of the immediate.
+use Rattle.std.specs.Prelude.{ℕ, true, false, List}
+use Rattle.m88_isa.specs.declared.instr.ImmOp.TheVariants as imm
+use Rattle.m88_isa.specs.declared.instr.RegOp.TheVariants as reg
+use Rattle.m88_isa.specs.declared.instr.MemOp.TheVariants as mem
+use Rattle.m88_isa.specs.declared.instr.LdaSize.TheVariants as lda
+use Rattle.m88_isa.specs.declared.instr.BitOp.TheVariants as bits
 use Rattle.m88_isa.specs.declared.mnemonic.Mnemonic.{Mnemonic}
 use Rattle.m88_isa.specs.declared.mnemonic.Mnemonic.TheVariants as mnemonic
+use Rattle.m88_isa.specs.Names.{imm_name, reg_name, mem_name, index_name, lda_name, bits_name, find_name}
+use Rattle.m88_isa.specs.Names.{branch_name, branch_bit_name, branch_cond_name, jump_name}
+use Rattle.m88_isa.specs.Names.{trap_bit_name, trap_cond_name, bound_name, return_name, ldcr_name, stcr_name, xcr_name}
 
 -- how a mnemonic is spelled
 unfoldable pub text_of : Mnemonic → List ℕ
-text_of mnemonic.XmemBu = codes "xmem.bu"
-text_of mnemonic.XmemBuUsr = codes "xmem.bu.usr"
-text_of mnemonic.Xmem = codes "xmem"
-text_of mnemonic.XmemUsr = codes "xmem.usr"
-text_of mnemonic.LdHu = codes "ld.hu"
-text_of mnemonic.LdHuUsr = codes "ld.hu.usr"
-text_of mnemonic.LdBu = codes "ld.bu"
-text_of mnemonic.LdBuUsr = codes "ld.bu.usr"
-text_of mnemonic.LdD = codes "ld.d"
-text_of mnemonic.LdDUsr = codes "ld.d.usr"
-text_of mnemonic.Ld = codes "ld"
-text_of mnemonic.LdUsr = codes "ld.usr"
-text_of mnemonic.LdH = codes "ld.h"
-text_of mnemonic.LdHUsr = codes "ld.h.usr"
-text_of mnemonic.LdB = codes "ld.b"
-text_of mnemonic.LdBUsr = codes "ld.b.usr"
-text_of mnemonic.StD = codes "st.d"
-text_of mnemonic.StDUsr = codes "st.d.usr"
-text_of mnemonic.St = codes "st"
-text_of mnemonic.StUsr = codes "st.usr"
-text_of mnemonic.StH = codes "st.h"
-text_of mnemonic.StHUsr = codes "st.h.usr"
-text_of mnemonic.StB = codes "st.b"
-text_of mnemonic.StBUsr = codes "st.b.usr"
-text_of mnemonic.LdaD = codes "lda.d"
-text_of mnemonic.Lda = codes "lda"
-text_of mnemonic.LdaH = codes "lda.h"
-text_of mnemonic.And = codes "and"
-text_of mnemonic.AndC = codes "and.c"
-text_of mnemonic.AndU = codes "and.u"
-text_of mnemonic.Mask = codes "mask"
-text_of mnemonic.MaskU = codes "mask.u"
-text_of mnemonic.Xor = codes "xor"
-text_of mnemonic.XorC = codes "xor.c"
-text_of mnemonic.XorU = codes "xor.u"
-text_of mnemonic.Or = codes "or"
-text_of mnemonic.OrC = codes "or.c"
-text_of mnemonic.OrU = codes "or.u"
-text_of mnemonic.Addu = codes "addu"
-text_of mnemonic.AdduCo = codes "addu.co"
-text_of mnemonic.AdduCi = codes "addu.ci"
-text_of mnemonic.AdduCio = codes "addu.cio"
-text_of mnemonic.Subu = codes "subu"
-text_of mnemonic.SubuCo = codes "subu.co"
-text_of mnemonic.SubuCi = codes "subu.ci"
-text_of mnemonic.SubuCio = codes "subu.cio"
-text_of mnemonic.Divu = codes "divu"
-text_of mnemonic.Mul = codes "mul"
-text_of mnemonic.Add = codes "add"
-text_of mnemonic.AddCo = codes "add.co"
-text_of mnemonic.AddCi = codes "add.ci"
-text_of mnemonic.AddCio = codes "add.cio"
-text_of mnemonic.Sub = codes "sub"
-text_of mnemonic.SubCo = codes "sub.co"
-text_of mnemonic.SubCi = codes "sub.ci"
-text_of mnemonic.SubCio = codes "sub.cio"
-text_of mnemonic.Div = codes "div"
-text_of mnemonic.Cmp = codes "cmp"
-text_of mnemonic.Clr = codes "clr"
-text_of mnemonic.Set = codes "set"
-text_of mnemonic.Ext = codes "ext"
-text_of mnemonic.Extu = codes "extu"
-text_of mnemonic.Mak = codes "mak"
-text_of mnemonic.Rot = codes "rot"
-text_of mnemonic.Ff1 = codes "ff1"
-text_of mnemonic.Ff0 = codes "ff0"
-text_of mnemonic.Br = codes "br"
-text_of mnemonic.BrN = codes "br.n"
-text_of mnemonic.Bsr = codes "bsr"
-text_of mnemonic.BsrN = codes "bsr.n"
-text_of mnemonic.Bb0 = codes "bb0"
-text_of mnemonic.Bb0N = codes "bb0.n"
-text_of mnemonic.Bb1 = codes "bb1"
-text_of mnemonic.Bb1N = codes "bb1.n"
-text_of mnemonic.Bcnd = codes "bcnd"
-text_of mnemonic.BcndN = codes "bcnd.n"
-text_of mnemonic.Jmp = codes "jmp"
-text_of mnemonic.JmpN = codes "jmp.n"
-text_of mnemonic.Jsr = codes "jsr"
-text_of mnemonic.JsrN = codes "jsr.n"
-text_of mnemonic.Tb0 = codes "tb0"
-text_of mnemonic.Tb1 = codes "tb1"
-text_of mnemonic.Tcnd = codes "tcnd"
-text_of mnemonic.Tbnd = codes "tbnd"
-text_of mnemonic.Rte = codes "rte"
-text_of mnemonic.Ldcr = codes "ldcr"
-text_of mnemonic.Stcr = codes "stcr"
-text_of mnemonic.Xcr = codes "xcr"
-text_of mnemonic.Fldcr = codes "fldcr"
-text_of mnemonic.Fstcr = codes "fstcr"
-text_of mnemonic.Fxcr = codes "fxcr"
-
--- every mnemonic
-unfoldable pub all_mnemonics : List Mnemonic
-all_mnemonics =
-    mnemonic.XmemBu ∷ mnemonic.XmemBuUsr ∷ mnemonic.Xmem ∷ mnemonic.XmemUsr ∷ mnemonic.LdHu ∷
-    mnemonic.LdHuUsr ∷ mnemonic.LdBu ∷ mnemonic.LdBuUsr ∷ mnemonic.LdD ∷ mnemonic.LdDUsr ∷ mnemonic.Ld ∷
-    mnemonic.LdUsr ∷ mnemonic.LdH ∷ mnemonic.LdHUsr ∷ mnemonic.LdB ∷ mnemonic.LdBUsr ∷ mnemonic.StD ∷
-    mnemonic.StDUsr ∷ mnemonic.St ∷ mnemonic.StUsr ∷ mnemonic.StH ∷ mnemonic.StHUsr ∷ mnemonic.StB ∷
-    mnemonic.StBUsr ∷ mnemonic.LdaD ∷ mnemonic.Lda ∷ mnemonic.LdaH ∷ mnemonic.And ∷ mnemonic.AndC ∷
-    mnemonic.AndU ∷ mnemonic.Mask ∷ mnemonic.MaskU ∷ mnemonic.Xor ∷ mnemonic.XorC ∷ mnemonic.XorU ∷
-    mnemonic.Or ∷ mnemonic.OrC ∷ mnemonic.OrU ∷ mnemonic.Addu ∷ mnemonic.AdduCo ∷ mnemonic.AdduCi ∷
-    mnemonic.AdduCio ∷ mnemonic.Subu ∷ mnemonic.SubuCo ∷ mnemonic.SubuCi ∷ mnemonic.SubuCio ∷
-    mnemonic.Divu ∷ mnemonic.Mul ∷ mnemonic.Add ∷ mnemonic.AddCo ∷ mnemonic.AddCi ∷ mnemonic.AddCio ∷
-    mnemonic.Sub ∷ mnemonic.SubCo ∷ mnemonic.SubCi ∷ mnemonic.SubCio ∷ mnemonic.Div ∷ mnemonic.Cmp ∷
-    mnemonic.Clr ∷ mnemonic.Set ∷ mnemonic.Ext ∷ mnemonic.Extu ∷ mnemonic.Mak ∷ mnemonic.Rot ∷
-    mnemonic.Ff1 ∷ mnemonic.Ff0 ∷ mnemonic.Br ∷ mnemonic.BrN ∷ mnemonic.Bsr ∷ mnemonic.BsrN ∷ mnemonic.Bb0 ∷
-    mnemonic.Bb0N ∷ mnemonic.Bb1 ∷ mnemonic.Bb1N ∷ mnemonic.Bcnd ∷ mnemonic.BcndN ∷ mnemonic.Jmp ∷
-    mnemonic.JmpN ∷ mnemonic.Jsr ∷ mnemonic.JsrN ∷ mnemonic.Tb0 ∷ mnemonic.Tb1 ∷ mnemonic.Tcnd ∷
-    mnemonic.Tbnd ∷ mnemonic.Rte ∷ mnemonic.Ldcr ∷ mnemonic.Stcr ∷ mnemonic.Xcr ∷ mnemonic.Fldcr ∷
-    mnemonic.Fstcr ∷ mnemonic.Fxcr ∷ []
-
--- the mnemonic that is spelled so
-abbrev pub mnemonic_of : List ℕ → Option Mnemonic
-mnemonic_of name = find (λ m. bytes_eq (text_of m) name) all_mnemonics
+text_of mnemonic.XmemBu = mem_name mem.XmemBu
+text_of mnemonic.XmemBuUsr = index_name mem.XmemBu true
+text_of mnemonic.Xmem = mem_name mem.Xmem
+text_of mnemonic.XmemUsr = index_name mem.Xmem true
+text_of mnemonic.LdHu = mem_name mem.LdHu
+text_of mnemonic.LdHuUsr = index_name mem.LdHu true
+text_of mnemonic.LdBu = mem_name mem.LdBu
+text_of mnemonic.LdBuUsr = index_name mem.LdBu true
+text_of mnemonic.LdD = mem_name mem.LdD
+text_of mnemonic.LdDUsr = index_name mem.LdD true
+text_of mnemonic.Ld = mem_name mem.Ld
+text_of mnemonic.LdUsr = index_name mem.Ld true
+text_of mnemonic.LdH = mem_name mem.LdH
+text_of mnemonic.LdHUsr = index_name mem.LdH true
+text_of mnemonic.LdB = mem_name mem.LdB
+text_of mnemonic.LdBUsr = index_name mem.LdB true
+text_of mnemonic.StD = mem_name mem.StD
+text_of mnemonic.StDUsr = index_name mem.StD true
+text_of mnemonic.St = mem_name mem.St
+text_of mnemonic.StUsr = index_name mem.St true
+text_of mnemonic.StH = mem_name mem.StH
+text_of mnemonic.StHUsr = index_name mem.StH true
+text_of mnemonic.StB = mem_name mem.StB
+text_of mnemonic.StBUsr = index_name mem.StB true
+text_of mnemonic.LdaD = lda_name lda.Double
+text_of mnemonic.Lda = lda_name lda.Word
+text_of mnemonic.LdaH = lda_name lda.Half
+text_of mnemonic.And = imm_name imm.And
+text_of mnemonic.AndC = reg_name reg.AndC
+text_of mnemonic.AndU = imm_name imm.AndU
+text_of mnemonic.Mask = imm_name imm.Mask
+text_of mnemonic.MaskU = imm_name imm.MaskU
+text_of mnemonic.Xor = imm_name imm.Xor
+text_of mnemonic.XorC = reg_name reg.XorC
+text_of mnemonic.XorU = imm_name imm.XorU
+text_of mnemonic.Or = imm_name imm.Or
+text_of mnemonic.OrC = reg_name reg.OrC
+text_of mnemonic.OrU = imm_name imm.OrU
+text_of mnemonic.Addu = imm_name imm.Addu
+text_of mnemonic.AdduCo = reg_name reg.AdduCo
+text_of mnemonic.AdduCi = reg_name reg.AdduCi
+text_of mnemonic.AdduCio = reg_name reg.AdduCio
+text_of mnemonic.Subu = imm_name imm.Subu
+text_of mnemonic.SubuCo = reg_name reg.SubuCo
+text_of mnemonic.SubuCi = reg_name reg.SubuCi
+text_of mnemonic.SubuCio = reg_name reg.SubuCio
+text_of mnemonic.Divu = imm_name imm.Divu
+text_of mnemonic.Mul = imm_name imm.Mul
+text_of mnemonic.Add = imm_name imm.Add
+text_of mnemonic.AddCo = reg_name reg.AddCo
+text_of mnemonic.AddCi = reg_name reg.AddCi
+text_of mnemonic.AddCio = reg_name reg.AddCio
+text_of mnemonic.Sub = imm_name imm.Sub
+text_of mnemonic.SubCo = reg_name reg.SubCo
+text_of mnemonic.SubCi = reg_name reg.SubCi
+text_of mnemonic.SubCio = reg_name reg.SubCio
+text_of mnemonic.Div = imm_name imm.Div
+text_of mnemonic.Cmp = imm_name imm.Cmp
+text_of mnemonic.Clr = bits_name bits.Clr
+text_of mnemonic.Set = bits_name bits.Set
+text_of mnemonic.Ext = bits_name bits.Ext
+text_of mnemonic.Extu = bits_name bits.Extu
+text_of mnemonic.Mak = bits_name bits.Mak
+text_of mnemonic.Rot = bits_name bits.Rot
+text_of mnemonic.Ff1 = find_name true
+text_of mnemonic.Ff0 = find_name false
+text_of mnemonic.Br = branch_name false false
+text_of mnemonic.BrN = branch_name false true
+text_of mnemonic.Bsr = branch_name true false
+text_of mnemonic.BsrN = branch_name true true
+text_of mnemonic.Bb0 = branch_bit_name false false
+text_of mnemonic.Bb0N = branch_bit_name false true
+text_of mnemonic.Bb1 = branch_bit_name true false
+text_of mnemonic.Bb1N = branch_bit_name true true
+text_of mnemonic.Bcnd = branch_cond_name false
+text_of mnemonic.BcndN = branch_cond_name true
+text_of mnemonic.Jmp = jump_name false false
+text_of mnemonic.JmpN = jump_name false true
+text_of mnemonic.Jsr = jump_name true false
+text_of mnemonic.JsrN = jump_name true true
+text_of mnemonic.Tb0 = trap_bit_name false
+text_of mnemonic.Tb1 = trap_bit_name true
+text_of mnemonic.Tcnd = trap_cond_name
+text_of mnemonic.Tbnd = bound_name
+text_of mnemonic.Rte = return_name
+text_of mnemonic.Ldcr = ldcr_name false
+text_of mnemonic.Stcr = stcr_name false
+text_of mnemonic.Xcr = xcr_name false
+text_of mnemonic.Fldcr = ldcr_name true
+text_of mnemonic.Fstcr = stcr_name true
+text_of mnemonic.Fxcr = xcr_name true

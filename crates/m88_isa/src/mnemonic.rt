@@ -1,9 +1,9 @@
 //! The names of operations and their spellings ("Instruction Set": the assembler syntax of each instruction).
 
-ghost use Rattle.std.specs.Prelude.{◌≡◌, IfSome, find};
+ghost use Rattle.std.specs.Prelude.{◌≡◌, IfSome, Some, find};
 ghost use Rattle.std.specs.Str.{bytes_eq};
 ghost use Rattle.m88_isa.specs.Inside.Letters.{begun_with};
-ghost use Rattle.m88_isa.specs.Mnemonic.{mnemonic_of, text_of};
+ghost use Rattle.m88_isa.specs.Mnemonic.{text_of};
 ghost use Rattle.m88_isa.specs.declared.mnemonic.Mnemonic.{Mnemonic as AnyMnemonic};
 
 use std::fmt;
@@ -375,11 +375,9 @@ impl Mnemonic {
     }
 
     /// The mnemonic that is spelled so, if there is one.
-    #[tactic(auto, using(crate::proofs::Spelling::spelled_once, crate::proofs::Spelling::letterless))]
     pub fn from_text(name: &[u8]) -> Option<Mnemonic>
-        ensures value { result ≡ mnemonic_of name.now }
         ensures found { IfSome result (λ m. text_of m ≡ name.now) }
-        ensures spelled_once { (m : AnyMnemonic) → mnemonic_of (text_of m) ≡ Some m }
+        ensures only { (m : AnyMnemonic) → text_of m ≡ name.now → result ≡ Some m }
     {
         let letter = *name.first()?;
         spelled(begun_with(letter), name)

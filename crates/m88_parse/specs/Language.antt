@@ -4,7 +4,6 @@ pub mod Pieces
 pub mod Tokens
 pub mod Words
 pub mod Names
-pub mod Mnemonics
 pub mod Operands
 pub mod Statements
 pub mod Units

@@ -1,5 +1,7 @@
--- The mnemonics by their first letters, in the order of all of them.
-use Rattle.std.specs.Prelude.{ℕ, ◌==◌, if◌then◌else◌, List, [], ◌∷◌}
+-- The mnemonics by their first letters, and the mnemonic of a name.
+use Rattle.std.specs.Prelude.{ℕ, ◌==◌, if◌then◌else◌, List, [], ◌∷◌, Option, find}
+use Rattle.std.specs.Str.{bytes_eq}
+use Rattle.m88_isa.specs.Mnemonic.{text_of}
 use Rattle.m88_isa.specs.declared.mnemonic.Mnemonic.{Mnemonic}
 use Rattle.m88_isa.specs.declared.mnemonic.Mnemonic.TheVariants as mnemonic
 
@@ -42,3 +44,12 @@ begun_with letter =
     mnemonic.XmemBu ∷ mnemonic.XmemBuUsr ∷ mnemonic.Xmem ∷ mnemonic.XmemUsr ∷ mnemonic.Xor ∷ mnemonic.XorC ∷
     mnemonic.XorU ∷ mnemonic.Xcr ∷ []
     else [])))))))))))))
+
+-- the first letter of a name, or 0 where there is none
+abbrev pub first_letter : List ℕ → ℕ
+first_letter [] = 0
+first_letter (b ∷ bs) = b
+
+-- the mnemonic that is spelled so, among those of its letter
+abbrev pub mnemonic_of : List ℕ → Option Mnemonic
+mnemonic_of name = find (λ m. bytes_eq (text_of m) name) (begun_with (first_letter name))

@@ -24,7 +24,7 @@ use Rattle.m88_parse.specs.declared.operand.Field.TheVariants as field
 use Rattle.m88_parse.specs.declared.shape.Shape.{Shape}
 use Rattle.m88_parse.specs.declared.shape.Shape.TheVariants as shape
 use Rattle.m88_parse.specs.Language.Pieces.{Piece}
-use Rattle.m88_parse.specs.Language.Mnemonics.{operation_name}
+use Rattle.m88_isa.specs.Names.{operation_name}
 use Rattle.m88_parse.specs.Inside.Shapes.{shape_of}
 use Rattle.m88_parse.specs.Inside.Grammar.{either_body, memory_body, bits_body, bounds_body, form_of}
 use Rattle.m88_parse.specs.Language.Operands.{most_width, Behind, IsImmediate, IsLast, IsScaled, AreOperands, immediate, registers, offset, index as plain_index, scaled, address, literal, field as register_field, find, branch, branch_bit, branch_condition, jump, trap_bit, trap_condition, bound_number, bound_register, return, control_load, control_store, control_exchange}

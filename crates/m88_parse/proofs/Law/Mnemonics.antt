@@ -1,8 +1,8 @@
 -- The law of names of operations: the mnemonic that is found by the name of an operation has the form of its operands, and
 -- each mnemonic is spelled as the operations of its form are named.
 use Rattle.std.proofs.Common.{◌≡◌, ℕ, Bool, true, false, ◌⊎◌, inl, inr, List, Option, Some, None, refl, ap}
-use Rattle.std.specs.Prelude.{codes}
-use Rattle.m88_isa.specs.Mnemonic.{text_of, all_mnemonics, mnemonic_of}
+use Rattle.m88_isa.specs.Mnemonic.{text_of}
+use Rattle.m88_isa.specs.Inside.Letters.{begun_with, mnemonic_of}
 use Rattle.m88_isa.specs.declared.mnemonic.Mnemonic.{Mnemonic}
 use Rattle.m88_isa.specs.declared.mnemonic.Mnemonic.TheVariants as mnemonic
 use Rattle.m88_isa.specs.declared.instr.ImmOp.{ImmOp}
@@ -17,7 +17,7 @@ use Rattle.m88_isa.specs.declared.instr.BitOp.{BitOp}
 use Rattle.m88_isa.specs.declared.instr.BitOp.TheVariants as bits
 use Rattle.m88_parse.specs.declared.shape.Shape.{Shape}
 use Rattle.m88_parse.specs.declared.shape.Shape.TheVariants as shape
-use Rattle.m88_parse.specs.Language.Mnemonics.{imm_name, reg_name, mem_name, index_name, lda_name, bits_name, find_name, branch_name, branch_bit_name, branch_cond_name, jump_name, trap_bit_name, ldcr_name, stcr_name, xcr_name}
+use Rattle.m88_isa.specs.Names.{imm_name, reg_name, mem_name, index_name, lda_name, bits_name, find_name, branch_name, branch_bit_name, branch_cond_name, jump_name, trap_bit_name, trap_cond_name, bound_name, return_name, ldcr_name, stcr_name, xcr_name}
 use Rattle.m88_parse.specs.Inside.Shapes.{shape_of}
 
 -- a name that each operation of a form has
@@ -35,15 +35,15 @@ IsNameOf (shape.BranchBit on delayed) name = name ≡ branch_bit_name on delayed
 IsNameOf (shape.BranchCond delayed) name = name ≡ branch_cond_name delayed
 IsNameOf (shape.Jump link delayed) name = name ≡ jump_name link delayed
 IsNameOf (shape.TrapBit on) name = name ≡ trap_bit_name on
-IsNameOf shape.TrapCond name = name ≡ codes "tcnd"
-IsNameOf shape.Bounds name = name ≡ codes "tbnd"
-IsNameOf shape.Return name = name ≡ codes "rte"
+IsNameOf shape.TrapCond name = name ≡ trap_cond_name
+IsNameOf shape.Bounds name = name ≡ bound_name
+IsNameOf shape.Return name = name ≡ return_name
 IsNameOf (shape.Ldcr float) name = name ≡ ldcr_name float
 IsNameOf (shape.Stcr float) name = name ≡ stcr_name float
 IsNameOf (shape.Xcr float) name = name ≡ xcr_name float
 
 pub name_of_shape : (m : Mnemonic) → IsNameOf (shape_of m) (text_of m)
-unfolding text_of shape_of imm_name reg_name mem_name lda_name bits_name
+unfolding text_of shape_of
 name_of_shape mnemonic.XmemBu = refl
 name_of_shape _ = refl
 
@@ -68,7 +68,7 @@ found name form h = spelled_by name form (mnemonic_of name) h
 
 -- with an immediate: some mnemonics take a register in its place, the others don't
 pub imm_spelled : (op : ImmOp) → ((r : RegOp) × Spelled (imm_name op) (shape.Either op r)) ⊎ Spelled (imm_name op) (shape.Immediate op)
-unfolding text_of all_mnemonics shape_of imm_name
+unfolding text_of begun_with shape_of
 imm_spelled imm.And = inl (reg.And, found _ _ refl)
 imm_spelled imm.Xor = inl (reg.Xor, found _ _ refl)
 imm_spelled imm.Or = inl (reg.Or, found _ _ refl)
@@ -84,7 +84,7 @@ imm_spelled _ = inr (found _ _ refl)
 
 -- on three registers: the same the other way round
 pub reg_spelled : (op : RegOp) → ((i : ImmOp) × Spelled (reg_name op) (shape.Either i op)) ⊎ Spelled (reg_name op) (shape.Registers op)
-unfolding text_of all_mnemonics shape_of reg_name
+unfolding text_of begun_with shape_of
 reg_spelled reg.And = inl (imm.And, found _ _ refl)
 reg_spelled reg.Xor = inl (imm.Xor, found _ _ refl)
 reg_spelled reg.Or = inl (imm.Or, found _ _ refl)
@@ -100,84 +100,84 @@ reg_spelled _ = inr (found _ _ refl)
 
 -- every other operation
 pub mem_spelled : (op : MemOp) → Spelled (mem_name op) (shape.Memory op)
-unfolding text_of all_mnemonics shape_of mem_name
+unfolding text_of begun_with shape_of
 mem_spelled mem.XmemBu = found _ _ refl
 mem_spelled _ = found _ _ refl
 
 pub user_spelled : (op : MemOp) → Spelled (index_name op true) (shape.UserMemory op)
-unfolding text_of all_mnemonics shape_of mem_name
+unfolding text_of begun_with shape_of
 user_spelled mem.XmemBu = found _ _ refl
 user_spelled _ = found _ _ refl
 
 pub lda_spelled : (size : LdaSize) → Spelled (lda_name size) (shape.Address size)
-unfolding text_of all_mnemonics shape_of lda_name
+unfolding text_of begun_with shape_of
 lda_spelled lda.Double = found _ _ refl
 lda_spelled _ = found _ _ refl
 
 pub bits_spelled : (op : BitOp) → Spelled (bits_name op) (shape.Bits op)
-unfolding text_of all_mnemonics shape_of bits_name
+unfolding text_of begun_with shape_of
 bits_spelled bits.Clr = found _ _ refl
 bits_spelled _ = found _ _ refl
 
 pub find_spelled : (ones : Bool) → Spelled (find_name ones) (shape.Find ones)
-unfolding text_of all_mnemonics shape_of
+unfolding text_of begun_with shape_of
 find_spelled true = found _ _ refl
 find_spelled false = found _ _ refl
 
 pub branch_spelled : (link delayed : Bool) → Spelled (branch_name link delayed) (shape.Branch link delayed)
-unfolding text_of all_mnemonics shape_of
+unfolding text_of begun_with shape_of
 branch_spelled true true = found _ _ refl
 branch_spelled true false = found _ _ refl
 branch_spelled false true = found _ _ refl
 branch_spelled false false = found _ _ refl
 
 pub branch_bit_spelled : (on delayed : Bool) → Spelled (branch_bit_name on delayed) (shape.BranchBit on delayed)
-unfolding text_of all_mnemonics shape_of
+unfolding text_of begun_with shape_of
 branch_bit_spelled true true = found _ _ refl
 branch_bit_spelled true false = found _ _ refl
 branch_bit_spelled false true = found _ _ refl
 branch_bit_spelled false false = found _ _ refl
 
 pub branch_cond_spelled : (delayed : Bool) → Spelled (branch_cond_name delayed) (shape.BranchCond delayed)
-unfolding text_of all_mnemonics shape_of
+unfolding text_of begun_with shape_of
 branch_cond_spelled true = found _ _ refl
 branch_cond_spelled false = found _ _ refl
 
 pub jump_spelled : (link delayed : Bool) → Spelled (jump_name link delayed) (shape.Jump link delayed)
-unfolding text_of all_mnemonics shape_of
+unfolding text_of begun_with shape_of
 jump_spelled true true = found _ _ refl
 jump_spelled true false = found _ _ refl
 jump_spelled false true = found _ _ refl
 jump_spelled false false = found _ _ refl
 
 pub trap_bit_spelled : (on : Bool) → Spelled (trap_bit_name on) (shape.TrapBit on)
-unfolding text_of all_mnemonics shape_of
+unfolding text_of begun_with shape_of
 trap_bit_spelled true = found _ _ refl
 trap_bit_spelled false = found _ _ refl
 
-pub tcnd_spelled : Spelled (codes "tcnd") shape.TrapCond
-unfolding text_of all_mnemonics shape_of
+pub tcnd_spelled : Spelled trap_cond_name shape.TrapCond
+unfolding text_of begun_with shape_of
 tcnd_spelled = found _ _ refl
 
-pub tbnd_spelled : Spelled (codes "tbnd") shape.Bounds
-unfolding text_of all_mnemonics shape_of
+pub tbnd_spelled : Spelled bound_name shape.Bounds
+unfolding text_of begun_with shape_of
 tbnd_spelled = found _ _ refl
 
-pub rte_spelled : Spelled (codes "rte") shape.Return
-unfolding text_of all_mnemonics shape_of
+pub rte_spelled : Spelled return_name shape.Return
+unfolding text_of begun_with shape_of
 rte_spelled = found _ _ refl
 
 pub ldcr_spelled : (float : Bool) → Spelled (ldcr_name float) (shape.Ldcr float)
-unfolding text_of all_mnemonics shape_of
+unfolding text_of begun_with shape_of
 ldcr_spelled true = found _ _ refl
 ldcr_spelled false = found _ _ refl
 
 pub stcr_spelled : (float : Bool) → Spelled (stcr_name float) (shape.Stcr float)
-unfolding text_of all_mnemonics shape_of
+unfolding text_of begun_with shape_of
 stcr_spelled true = found _ _ refl
 stcr_spelled false = found _ _ refl
 
 pub xcr_spelled : (float : Bool) → Spelled (xcr_name float) (shape.Xcr float)
-unfolding text_of all_mnemonics shape_of
+unfolding text_of begun_with shape_of
 xcr_spelled true = found _ _ refl
 xcr_spelled false = found _ _ refl

@@ -3,8 +3,9 @@ use Rattle.std.proofs.Common.{◌≡◌, ℕ, Bool, true, false, inl, inr, List,
 use Rattle.std.proofs.lemmas.Slice.Eq.{bytes_eq-Decides}
 use Rattle.m88_isa.specs.declared.mnemonic.Mnemonic.{Mnemonic}
 use Rattle.m88_isa.specs.declared.mnemonic.Mnemonic.TheVariants as mnemonic
-use Rattle.m88_isa.specs.Mnemonic.{text_of, all_mnemonics, mnemonic_of}
-use Rattle.m88_isa.proofs.Laws.{spelled_once}
+use Rattle.m88_isa.specs.Mnemonic.{text_of}
+use Rattle.m88_isa.specs.Inside.Letters.{begun_with, mnemonic_of}
+use Rattle.m88_isa.proofs.Laws.{spelled_once, spells}
 use Rattle.m88_parse.specs.declared.unit.Body.{Body}
 use Rattle.m88_parse.specs.declared.unit.Body.TheVariants as body
 use Rattle.m88_parse.specs.declared.directive.Directive.{Directive}
@@ -35,9 +36,6 @@ found p (y ∷ ys) x h =
       | inr j ↦ found p ys x j.1
     ]
 
-mnemonic_is : (name : List ℕ) (m : Mnemonic) → mnemonic_of name ≡ Some m → name ≡ text_of m
-mnemonic_is name m h = sym ((bytes_eq-Decides (text_of m) name).0 (found (λ k. bytes_eq (text_of k) name) all_mnemonics m h))
-
 directive_is : (name : List ℕ) (d : Directive) → directive_of name ≡ Some d → name ≡ directive_text d
 directive_is name d h = sym ((bytes_eq-Decides (directive_text d) name).0 (found (λ k. bytes_eq (directive_text k) name) all_directives d h))
 
@@ -47,7 +45,7 @@ directive_once directive.Text = refl
 directive_once _ = refl
 
 no_mnemonic : (d : Directive) → mnemonic_of (directive_text d) ≡ None
-unfolding directive_text text_of all_mnemonics
+unfolding directive_text begun_with
 no_mnemonic directive.Text = refl
 no_mnemonic _ = refl
 
@@ -89,7 +87,7 @@ instruction_read m line e p ps c n h =
 
 form_read : (line e : ℕ) (p : Piece) (ps : List Piece) (name : List ℕ) (m : Option Mnemonic) (d : Option Directive) (c : Body) → IsNamed name p → mnemonic_of name ≡ m → directive_of name ≡ d
     → by_form (st line e (p ∷ ps)) (form_in m d) ≡ Ok c → IsBody (p ∷ ps) c
-form_read line e p ps name (Some m) d c n f g h = instruction_read m line e p ps c (n ∙ ap a_name (mnemonic_is name m f)) h
+form_read line e p ps name (Some m) d c n f g h = instruction_read m line e p ps c (n ∙ ap a_name (sym (spells name m f))) h
 form_read line e p ps name None (Some d) c n f g h = directive_met d p ps c (n ∙ ap a_name (directive_is name d g)) ((form_law (directive_form d) line e ps c).0 h)
 form_read line e p ps name None None c n f g h = absurd cc
 

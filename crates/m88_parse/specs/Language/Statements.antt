@@ -9,7 +9,7 @@ use Rattle.m88_parse.specs.declared.unit.Value.{Value}
 use Rattle.m88_parse.specs.declared.unit.Body.{Body}
 use Rattle.m88_parse.specs.declared.unit.Body.TheVariants as body
 use Rattle.m88_parse.specs.declared.unit.Statement.{Statement}
-use Rattle.m88_parse.specs.Language.Mnemonics.{operation_name}
+use Rattle.m88_isa.specs.Names.{operation_name}
 use Rattle.m88_parse.specs.Language.Bytes.{colon_mark}
 use Rattle.m88_parse.specs.Language.Pieces.{a_text, a_mark, Piece}
 use Rattle.m88_parse.specs.Language.Names.{IsMark, IsComma, IsNumber, IsNamed, IsSymbol}

@@ -1,7 +1,8 @@
 -- The fault that is read in a line's tokens is the one of the language.
 use Rattle.std.proofs.Common.{◌≡◌, ℕ, suc, Bool, true, false, if◌then◌else◌, inl, inr, List, [], ◌∷◌, ◌++◌, length, Option, Some, None, Result, Ok, Err, refl, sym, ap, ap₂, ◌∙◌, subst, arith, append_assoc, append-nil, true≢false, codes}
 use Rattle.m88_isa.specs.declared.mnemonic.Mnemonic.{Mnemonic}
-use Rattle.m88_isa.specs.Mnemonic.{text_of, all_mnemonics, mnemonic_of}
+use Rattle.m88_isa.specs.Mnemonic.{text_of}
+use Rattle.m88_isa.specs.Inside.Letters.{begun_with, mnemonic_of}
 use Rattle.m88_parse.specs.declared.fault.ParseKind.{ParseKind}
 use Rattle.m88_parse.specs.declared.fault.ParseKind.TheVariants.{Syntax, NoSuchName}
 use Rattle.m88_parse.specs.declared.fault.ParseFault.{ParseFault}
@@ -68,7 +69,7 @@ begins : Continues []
 begins = (text_piece ∷ [], operation (text_body text_says))
 
 unnamed : form_named (codes "x") ≡ None
-unfolding text_of all_mnemonics directive_text all_directives
+unfolding text_of begun_with directive_text all_directives
 unnamed = refl
 
 not_first : (p : Piece) → ((ps : List Piece) → heard 0 0 (p ∷ ps) ≡ None → ⊥) → MayFollow [] p → ⊥

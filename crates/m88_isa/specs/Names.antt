@@ -15,7 +15,7 @@ use Rattle.m88_isa.specs.declared.instr.Instr.{Instr}
 use Rattle.m88_isa.specs.declared.instr.Instr.TheVariants as instr
 
 -- with an immediate
-unfoldable pub imm_name : ImmOp → List ℕ
+abbrev pub imm_name : ImmOp → List ℕ
 imm_name imm.And = codes "and"
 imm_name imm.AndU = codes "and.u"
 imm_name imm.Mask = codes "mask"
@@ -34,7 +34,7 @@ imm_name imm.Div = codes "div"
 imm_name imm.Cmp = codes "cmp"
 
 -- on three registers
-unfoldable pub reg_name : RegOp → List ℕ
+abbrev pub reg_name : RegOp → List ℕ
 reg_name reg.And = codes "and"
 reg_name reg.AndC = codes "and.c"
 reg_name reg.Xor = codes "xor"
@@ -63,7 +63,7 @@ reg_name reg.SubCi = codes "sub.ci"
 reg_name reg.SubCio = codes "sub.cio"
 
 -- on memory
-unfoldable pub mem_name : MemOp → List ℕ
+abbrev pub mem_name : MemOp → List ℕ
 mem_name mem.XmemBu = codes "xmem.bu"
 mem_name mem.Xmem = codes "xmem"
 mem_name mem.LdHu = codes "ld.hu"
@@ -83,13 +83,13 @@ index_name op true = mem_name op ++ codes ".usr"
 index_name op false = mem_name op
 
 -- loads of an address
-unfoldable pub lda_name : LdaSize → List ℕ
+abbrev pub lda_name : LdaSize → List ℕ
 lda_name lda.Double = codes "lda.d"
 lda_name lda.Word = codes "lda"
 lda_name lda.Half = codes "lda.h"
 
 -- on a bit field
-unfoldable pub bits_name : BitOp → List ℕ
+abbrev pub bits_name : BitOp → List ℕ
 bits_name bits.Clr = codes "clr"
 bits_name bits.Set = codes "set"
 bits_name bits.Ext = codes "ext"
@@ -126,6 +126,18 @@ jump_name link delayed = slotted (if link then codes "jsr" else codes "jmp") del
 abbrev pub trap_bit_name : Bool → List ℕ
 trap_bit_name set = if set then codes "tb1" else codes "tb0"
 
+-- traps on a condition
+abbrev pub trap_cond_name : List ℕ
+trap_cond_name = codes "tcnd"
+
+-- traps on a number beyond a bound
+abbrev pub bound_name : List ℕ
+bound_name = codes "tbnd"
+
+-- the return from an exception
+abbrev pub return_name : List ℕ
+return_name = codes "rte"
+
 -- f is for the control registers of the floating-point unit: the read
 abbrev pub ldcr_name : Bool → List ℕ
 ldcr_name float = if float then codes "fldcr" else codes "ldcr"
@@ -153,10 +165,10 @@ operation_name (instr.BranchBit set delayed bit s1 words) = branch_bit_name set 
 operation_name (instr.BranchCond delayed mask s1 words) = branch_cond_name delayed
 operation_name (instr.Jump link delayed s2) = jump_name link delayed
 operation_name (instr.TrapBit set bit s1 vector) = trap_bit_name set
-operation_name (instr.TrapCond mask s1 vector) = codes "tcnd"
-operation_name (instr.BoundImm s1 n) = codes "tbnd"
-operation_name (instr.BoundReg s1 s2) = codes "tbnd"
-operation_name instr.Rte = codes "rte"
+operation_name (instr.TrapCond mask s1 vector) = trap_cond_name
+operation_name (instr.BoundImm s1 n) = bound_name
+operation_name (instr.BoundReg s1 s2) = bound_name
+operation_name instr.Rte = return_name
 operation_name (instr.Ldcr d cr float) = ldcr_name float
 operation_name (instr.Stcr s1 cr float) = stcr_name float
 operation_name (instr.Xcr d s1 cr float) = xcr_name float
