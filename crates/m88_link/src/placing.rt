@@ -1,5 +1,5 @@
 //! The bytes of sections with their relocations carried out, and the image of them.
-ghost use Rattle.std.specs.Prelude.{◌≡◌, ◌⊎◌, ℕ, [], ◌+◌, ◌^◌, ◌≤◌, All, IfErr, IfOk, None, OnErr, OnOk, Some, flat_map, length, map};
+ghost use Rattle.std.specs.Prelude.{◌≡◌, ◌⊎◌, ℕ, [], ◌+◌, ◌++◌, ◌^◌, ◌≤◌, All, IfErr, IfOk, None, OnErr, OnOk, Some, flat_map, length, map};
 ghost use Rattle.std.specs.Option.{option_or};
 ghost use Rattle.m88_base.specs.Found.{IsFree, PutsBytes};
 ghost use Rattle.m88_base.specs.Image.{byte_at, byte_count};
@@ -115,13 +115,27 @@ pub fn spots<'a>(
     let mut spots = Vec::new(alloc);
     let mut far = None;
     for placement in placements {
-        let mut own = object_spots(alloc, &mut far, placement, globals)?;
-        spots.append(&mut own)?;
+        let own = object_spots(alloc, &mut far, placement, globals)?;
+        spots = joined(spots, own)?;
     }
     match far {
         Some(fault) => Err(fault),
         None => Ok(spots),
     }
+}
+
+/// Two lists as one. Where nothing stands in the first, the second isn't copied: most programs are one object.
+fn joined<'a>(
+    mut front: Vec<Spot<'a>>,
+    mut back: Vec<Spot<'a>>,
+) -> Result<Vec<Spot<'a>>, AllocError>
+    ensures { IfOk result (λ v. v.items ≡ front.entry.items ++ back.entry.items) }
+{
+    if front.is_empty() {
+        return Ok(back);
+    }
+    front.append(&mut back)?;
+    Ok(front)
 }
 
 /// The bytes of the sections of an object with its relocations carried out; refuses the first of them

@@ -36,7 +36,7 @@ loop-placement-preserved c =
     let inv = c.loop-placement.invariant in
     let done = flat_map (references_of g) (take i all) in
     let uses = flat_more (references_of g) all i s (omega arith) c.placement-item.is in (
-      c.in_ok-append.ensures.items ∙ ap (λ l. l ++ c.in_ok-own.own.items) inv.0 ∙ ap (λ l. flat_map (spots_of g) (take i all) ++ l) c.in_ok-own.ensures.spots
+      c.in_ok-spots.ensures ∙ ap (λ l. l ++ c.in_ok-own.own.items) inv.0 ∙ ap (λ l. flat_map (spots_of g) (take i all) ++ l) c.in_ok-own.ensures.spots
           ∙ sym (flat_more (spots_of g) all i s (omega arith) c.placement-item.is),
       c.in_ok-own.ensures.checks.0 ∙ ap (λ o. option_or o (too_far (references_of g s))) inv.1
           ∙ sym (first_fault-append too_far_in done (references_of g s)) ∙ ap (λ l. too_far l) (sym uses),
