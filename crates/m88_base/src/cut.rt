@@ -3,11 +3,13 @@ ghost use Rattle.std.specs.Prelude.{◌≡◌, ◌<◌, ◌==◌, ◌++◌, ◌�
 ghost use Rattle.std.specs.List.{prefix_len};
 ghost use Rattle.m88_base.specs.Cut.{Lacks, split_at_byte};
 
+use memchr::memchr;
+
 /// How many bytes stand before the first of a value; all where there is none.
 pub(crate) fn len_before(at: u8, text: &[u8]) -> usize
     ensures { result ≡ prefix_len (λ b. not (b == at)) text.now }
 {
-    text.iter().take_while(|b| **b != at).count()
+    memchr(at, text).unwrap_or(text.len())
 }
 
 /// What stands before the first byte of a value, and what stands behind it; None where no byte has the value.

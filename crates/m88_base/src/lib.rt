@@ -21,6 +21,7 @@ mod writing;
 
 // Parts of texts.
 mod cut;
+mod digit;
 mod fixup;
 mod hex;
 mod line;
@@ -39,6 +40,7 @@ mod segments;
 
 pub use absent::{Absent, PAGE_BYTES, PAGE_COUNT};
 pub use cut::split_at_byte;
+pub use digit::digit_value;
 pub use failing::{Failed, NoMemory};
 pub use fixup::{Fixup, Kind};
 pub use hex::{Hex2, Hex8, hex_digit, hex8_of, push_hex2, push_hex8};
@@ -47,7 +49,7 @@ pub use line::first_line;
 pub use listed::Listed;
 pub use mem_sink::MemSink;
 pub use mem_source::MemSource;
-pub use name::Name;
+pub use name::{Name, continues_name};
 pub use numerals::{decimal_in, number_in, push_decimal};
 pub use parting::{Parted, Unparted, parted_at};
 pub use reading::{ReadEnd, read_all};

@@ -2,6 +2,7 @@
 ghost use Rattle.std.specs.Prelude.{◌≡◌, ◌↔◌, ◌-◌, ◌≤◌, ◌++◌, length, replicate, IsTrue, IsSome, IfSome};
 ghost use Rattle.m88_base.specs.Name.{IsName, begins_name, continues_name};
 
+use crate::digit::digit_value;
 use std::fmt;
 use std::hash::{Hash, Hasher};
 use std::marker::Model;
@@ -149,8 +150,9 @@ fn begins_name(byte: u8) -> bool
 }
 
 /// Whether a byte is a letter, a digit, `_`, `.` or `$`.
-fn continues_name(byte: u8) -> bool
+// Digits of a base up to 36 are the digits and the letters; one look-up tells them.
+pub fn continues_name(byte: u8) -> bool
     ensures { result ≡ continues_name byte }
 {
-    begins_name(byte) || byte.is_ascii_digit()
+    digit_value(byte) < 36 || matches!(byte, b'_' | b'.' | b'$')
 }

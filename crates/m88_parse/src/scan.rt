@@ -10,6 +10,7 @@ ghost use Rattle.m88_base.specs.Name.{continues_name};
 
 use crate::fault::ParseKind;
 use crate::token::Kept;
+use m88_base::{continues_name, digit_value};
 
 /// The most bytes that a name may have.
 const MAX_NAME: usize = 64;
@@ -48,13 +49,6 @@ fn is_plain(b: u8) -> bool
     ensures { result ≡ is_plain b }
 {
     matches!(b, b' '..=b'~' | b'\t')
-}
-
-/// A letter, a digit, `_`, `.` or `$`.
-fn continues_name(b: u8) -> bool
-    ensures { result ≡ continues_name b }
-{
-    b.is_ascii_alphanumeric() || matches!(b, b'_' | b'.' | b'$')
 }
 
 /// One of the marks `,` `:` `[` `]` `<` `>` `(` `)` `+` `-`.
@@ -100,19 +94,6 @@ fn closes(quote: u8, escaped: bool, b: u8) -> bool
     !escaped && b == quote
 }
 
-/// The value of a digit in a base up to 36, or 36 where it is no digit.
-fn digit_of(b: u8) -> u64
-    ensures value { result ≡ digit_value b }
-    ensures bound { result ≤ 36 }
-{
-    match b {
-        b'0'..=b'9' => (b - b'0') as u64,
-        b'A'..=b'Z' => (b - b'A') as u64 + 10,
-        b'a'..=b'z' => (b - b'a') as u64 + 10,
-        _ => 36,
-    }
-}
-
 /// The value of digits in a base, where it is below 2^32. A byte that is no digit of the base is told before a value
 /// that is too great, wherever it stands.
 fn value_of(base: u64, digits: &[u8]) -> Result<u32, ParseKind>
@@ -124,7 +105,7 @@ fn value_of(base: u64, digits: &[u8]) -> Result<u32, ParseKind>
     const LIMIT: u64 = 1 << 32;
     let mut value: u64 = 0;
     for d in digits {
-        let digit = digit_of(*d);
+        let digit = u64::from(digit_value(*d));
         if digit >= base {
             return Err(ParseKind::Syntax);
         }

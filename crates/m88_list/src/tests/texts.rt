@@ -1,8 +1,8 @@
 //! Parts of texts, read and written by the calls that all else stands on: lines, numbers, names.
 
 use m88_base::{
-    Name, decimal_in, first_line, hex8_of, number_in, parted_at, push_decimal, push_hex2,
-    push_hex8, push_refused,
+    Name, continues_name, decimal_in, digit_value, first_line, hex8_of, number_in, parted_at,
+    push_decimal, push_hex2, push_hex8, push_refused,
 };
 use std::test::Fail;
 
@@ -19,6 +19,37 @@ fn lines_end_by_lf_by_cr_lf_and_with_the_input(rt: HostRuntime) {
         (b"a\r\r\n", b"a\r", b""),
     ] {
         assert_eq!(rt; first_line(input), (first, after), "{input:?}");
+    }
+}
+
+#[test]
+fn bytes_of_digits_and_names(rt: HostRuntime) {
+    for (byte, worth, in_names) in [
+        (0, 36, false),
+        (b'#', 36, false),
+        (b'$', 36, true),
+        (b'-', 36, false),
+        (b'.', 36, true),
+        (b'/', 36, false),
+        (b'0', 0, true),
+        (b'9', 9, true),
+        (b':', 36, false),
+        (b'@', 36, false),
+        (b'A', 10, true),
+        (b'Z', 35, true),
+        (b'[', 36, false),
+        (b'_', 36, true),
+        (b'`', 36, false),
+        (b'a', 10, true),
+        (b'z', 35, true),
+        (b'{', 36, false),
+        (255, 36, false),
+    ] {
+        assert_eq!(rt;
+            (digit_value(byte), continues_name(byte)),
+            (worth, in_names),
+            "{byte}"
+        );
     }
 }
 

@@ -18,8 +18,8 @@ loop-d-preserved c =
     record {
       digits = rw (more, c.loop-d.invariant.digits) (grind (arith, nat_tests));
       value = c.min-value.ensures
-          ∙ ap (λ (n : ℕ). min (n * c.args.base + c.digit_of-digit.result) 4294967296) c.loop-d.invariant.value
-          ∙ ap (λ (n : ℕ). min (min v 4294967296 * c.args.base + n) 4294967296) c.digit_of-digit.ensures.value
+          ∙ ap (λ (n : ℕ). min (n * c.args.base + c.from-digit.result) 4294967296) c.loop-d.invariant.value
+          ∙ ap (λ (n : ℕ). min (min v 4294967296 * c.args.base + n) 4294967296) (c.from-digit.ensures ∙ c.digit_value.ensures)
           ∙ capped v c.args.base d 4294967296 c.requires.least
           ∙ ap (λ (n : ℕ). min n 4294967296) (sym (digits_value_more c.args.base c.args.digits.now i c.loop-d-test.true));
     }

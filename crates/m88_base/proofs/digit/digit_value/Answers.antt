@@ -2,8 +2,8 @@
 use Rattle.std.proofs.Common.{ℕ, zero, suc, Bool, true, T, ◌≡◌, ◌<◌, ◌-◌, ◌&&◌, eqb, eqb→eq, get_or, arith, eq-zero-or-pos, inl, inr}
 use lib.Ieee.Fits.{and_l, and_r}
 use Rattle.std.specs.Char.{digit_value}
-use Rattle.m88_srec.specs.declared.digits.TheConstants.{VALUES}
-use Rattle.m88_srec.proofs.digits.digit_value.Goals as goal
+use Rattle.m88_base.specs.declared.digit.TheConstants.{VALUES}
+use Rattle.m88_base.proofs.digit.digit_value.Goals as goal
 
 -- so it is of the bytes below one, by looking at each
 abbrev are_values : ℕ → Bool
