@@ -22,47 +22,49 @@ use std::alloc::Global;
 /// The image of a unit, assembled and linked, or the first reason why it has none. Text stands from
 /// 0x00001000 on and data in the pages behind it, each module's part at the next multiple of 8. The unit
 /// starts at `_start`, or at 0x00001000 where that isn't defined.
-pub fn image_of(alloc: Global, unit: &Unit) -> Result<Image, UnitFault>
-    requires { IsWellFormed unit.now }
+pub fn image_of(alloc: Global, unit: Unit) -> Result<Image, UnitFault>
+    requires { IsWellFormed unit }
     // The image has at each address the byte that the unit's statements give there, and no other, and the
     // unit's start.
-    ensures image { IfOk result (IsUnitImage unit.now) }
+    ensures image { IfOk result (IsUnitImage unit) }
     // The instruction at an address of the unit, placed there or read from its bytes, is what the image's
     // bytes are the word of.
     ensures instructions { IfOk result (λ image. (a : ℕ) (instruction : Option Instruction)
-        → IsUnitInstruction unit.now a instruction
+        → IsUnitInstruction unit a instruction
         → IsInstructionAt (byte_at image) a instruction) }
     // By sections: the image is that of the unit's layout.
-    ensures linked { IfOk result (IsLinked (unit_layout unit.now)) }
+    ensures linked { IfOk result (IsLinked (unit_layout unit)) }
     // Only what is accepted has an image, and that has one, unless memory runs out.
-    ensures accepted { OnOk result (IsAcceptedUnit unit.now) }
-    ensures only { IsAcceptedUnit unit.now → IfErr result IsOutOfMemory }
+    ensures accepted { OnOk result (IsAcceptedUnit unit) }
+    ensures only { IsAcceptedUnit unit → IfErr result IsOutOfMemory }
     // A fault is the first one of the statements, else the refusal of the layout, or memory ran out; and the
     // first fault of a unit is answered.
-    ensures fault { IfErr result (IsUnitFault unit.now) }
-    ensures refused { (e : Fault) → IsFirstUnitFault unit.now e
+    ensures fault { IfErr result (IsUnitFault unit) }
+    ensures refused { (e : Fault) → IsFirstUnitFault unit e
         → IsErrAnd result (λ fault. IsOutOfMemory fault ⊎ (fault ≡ e)) }
     // A unit is accepted or has a first fault, never both, and one at most.
-    ensures one_verdict { HasOneFaultUnless (IsAcceptedUnit unit.now) (IsFirstUnitFault unit.now) }
+    ensures one_verdict { HasOneFaultUnless (IsAcceptedUnit unit) (IsFirstUnitFault unit) }
 {
     image_or_fault(alloc, unit)
 }
 
 /// The image of a unit, or the first reason why it has none.
-fn image_or_fault(alloc: Global, unit: &Unit) -> Result<Image, UnitFault>
-    requires { IsWellFormed unit.now }
-    ensures image { IfOk result (IsUnitImage unit.now) }
+fn image_or_fault(alloc: Global, unit: Unit) -> Result<Image, UnitFault>
+    requires { IsWellFormed unit }
+    ensures image { IfOk result (IsUnitImage unit) }
     ensures instructions { IfOk result (λ image. (a : ℕ) (instruction : Option Instruction)
-        → IsUnitInstruction unit.now a instruction
+        → IsUnitInstruction unit a instruction
         → IsInstructionAt (byte_at image) a instruction) }
-    ensures linked { IfOk result (IsLinked (unit_layout unit.now)) }
-    ensures accepted { OnOk result (IsAcceptedUnit unit.now) }
-    ensures fault { IfErr result (IsUnitFault unit.now) }
+    ensures linked { IfOk result (IsLinked (unit_layout unit)) }
+    ensures accepted { OnOk result (IsAcceptedUnit unit) }
+    ensures fault { IfErr result (IsUnitFault unit) }
 {
-    let objects = match assemble(alloc, unit) {
+    let objects = match assemble(alloc, &unit) {
         Ok(objects) => objects,
         Err(fault) => return Err(UnitFault::Asm(fault)),
     };
+    // All that linking needs is in the objects: the unit, which takes the most memory by far, is let go before.
+    drop(unit);
     match link(alloc, &objects) {
         Ok(image) => Ok(image),
         Err(fault) => Err(UnitFault::Link(fault)),

@@ -79,7 +79,7 @@ pub fn image_of_source(
         Ok(unit) => unit,
         Err(fault) => return Ok(Err(unread(alloc, lines, fault)?)),
     };
-    match image_of(alloc, &unit) {
+    match image_of(alloc, unit) {
         Ok(image) => Ok(Ok(image)),
         Err(UnitFault::Asm(fault)) => Ok(Err(unassembled(alloc, lines, fault)?)),
         Err(UnitFault::Link(fault)) => Ok(Err(unlinked(alloc, lines, fault)?)),

@@ -7,6 +7,7 @@ ghost use Rattle.m88_link.specs.Faults.{memory_fault};
 ghost use Rattle.m88_asm.specs.Accepted.{IsAcceptedUnit};
 ghost use Rattle.m88_asm.specs.Fault.{memory_ran_out};
 ghost use Rattle.m88_asm.specs.Images.{IsUnitImage};
+ghost use Rattle.m88_asm.specs.Objects.{objects_of};
 ghost use Rattle.m88_asm.specs.declared.fault.UnitFault.TheVariants as unit_kind;
 ghost use Rattle.m88_listing.specs.Calls.{most_source};
 ghost use Rattle.m88_listing.specs.Listing.{IsListing};
@@ -18,9 +19,9 @@ use crate::layout::slots;
 use crate::refused::push_refusal;
 use crate::rows::push_source;
 use crate::standing::stand;
-use m88_asm::{AsmFault, AsmKind, UnitFault, assemble, image_of};
+use m88_asm::{AsmFault, AsmKind, assemble};
 use m88_base::{Image, NoMemory};
-use m88_link::{LinkFault, LinkKind};
+use m88_link::{LinkFault, LinkKind, Object, link};
 use m88_parse::{ParseFault, ParseKind, Unit, parse};
 use std::alloc::Global;
 
@@ -102,21 +103,23 @@ fn unlinked(alloc: Global, source: &[u8], fault: LinkFault) -> Result<Reply, NoM
     refuse(alloc, source, fault.line, fault.col, reason.as_bytes())
 }
 
-/// The listing of a source that is accepted, by its unit and the image of that.
-fn listing(alloc: Global, source: &[u8], unit: &Unit, image: &Image) -> Result<Vec<u8>, NoMemory>
+/// The listing of a source that is accepted, by its unit, the objects of that and their image.
+fn listing(
+    alloc: Global,
+    source: &[u8],
+    unit: &Unit,
+    objects: &[Object],
+    image: &Image,
+) -> Result<Vec<u8>, NoMemory>
     requires short { length source.now ≤ most_source }
     requires is_unit { IsUnit source.now unit.now }
     requires formed { IsWellFormed unit.now }
+    requires objects { objects.now ≡ objects_of unit.now }
     requires accepted { IsAcceptedUnit unit.now }
     requires image { IsUnitImage unit.now image.now }
     ensures { IfOk result (λ text. IsListing source.now text.items) }
 {
-    // The unit has an image, so it can be assembled: all that can be wanting is memory.
-    let objects = match assemble(alloc, unit) {
-        Ok(objects) => objects,
-        Err(_) => return Err(NoMemory),
-    };
-    let standings = stand(alloc, unit.modules.as_slice(), objects.as_slice())?;
+    let standings = stand(alloc, unit.modules.as_slice(), objects)?;
     let slots = slots(alloc, standings.as_slice())?;
     let labels = labels(alloc, standings.as_slice())?;
     let numbers = numbers(alloc, standings.as_slice())?;
@@ -136,15 +139,18 @@ pub(crate) fn reply_to(alloc: Global, source: &[u8]) -> Result<Reply, NoMemory>
         Ok(unit) => unit,
         Err(fault) => return unread(alloc, source, fault),
     };
-    match image_of(alloc, &unit) {
+    let objects = match assemble(alloc, &unit) {
+        Ok(objects) => objects,
+        Err(fault) => return unassembled(alloc, source, fault),
+    };
+    match link(alloc, &objects) {
         Ok(image) => {
-            let text = listing(alloc, source, &unit, &image)?;
+            let text = listing(alloc, source, &unit, &objects, &image)?;
             Ok(Reply {
                 accepted: true,
                 text,
             })
         }
-        Err(UnitFault::Asm(fault)) => unassembled(alloc, source, fault),
-        Err(UnitFault::Link(fault)) => unlinked(alloc, source, fault),
+        Err(fault) => unlinked(alloc, source, fault),
     }
 }

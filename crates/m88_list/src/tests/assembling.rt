@@ -42,7 +42,7 @@ fn image(alloc: Global, source: &[u8]) -> Option<Image>
     requires { length source.now < 2 ^ 31 }
 {
     let unit = unit(alloc, source)?;
-    match image_of(alloc, &unit) {
+    match image_of(alloc, unit) {
         Ok(image) => Some(image),
         Err(_) => None,
     }
@@ -54,7 +54,7 @@ fn told(alloc: Global, source: &[u8]) -> Result<String, AllocError>
 {
     match unit(alloc, source) {
         None => format!(in alloc; "no unit"),
-        Some(unit) => match image_of(alloc, &unit) {
+        Some(unit) => match image_of(alloc, unit) {
             Ok(_) => format!(in alloc; "an image"),
             Err(fault) => format!(in alloc; "{fault}"),
         },

@@ -78,7 +78,7 @@ fn image_read(alloc: Global, source: &[u8]) -> Result<Image, &'static str>
     let Ok(unit) = parse(alloc, source) else {
         return Err("a listing is a unit");
     };
-    match image_of(alloc, &unit) {
+    match image_of(alloc, unit) {
         Ok(image) => Ok(image),
         Err(UnitFault::Asm(fault)) if fault.kind == AsmKind::Memory => Err("memory"),
         Err(_) => Err("a listing has an image"),

@@ -21,14 +21,14 @@ use Rattle.m88_listing.proofs.listing.listing.Goals as goal
 
 pub stand-requires-clause-size : goal.stand-requires-clause-size
 stand-requires-clause-size c =
-    subst (λ (os : List Object). total_size os ≤ most_bytes) (sym (c.as_slice-2.ensures.value ∙ c.in-Ok.ensures.objects))
+    subst (λ (os : List Object). total_size os ≤ most_bytes) (sym c.requires.objects)
     (size_fits c.args.unit.now c.requires.accepted)
 
 pub slots-requires : goal.slots-requires
 slots-requires c =
     let u = c.args.unit.now in
-    let all : c.as_slice-3.result.now ≡ based u =
-    c.as_slice-3.ensures.value ∙ c.in_ok-standings.ensures
+    let all : c.as_slice-2.result.now ≡ based u =
+    c.as_slice-2.ensures.value ∙ c.in_ok-standings.ensures
     ∙ ap (λ (ms : List Module). stood_from section_length first_text (up_to_multiple page_bytes (text_end section_length first_text ms)) ms) c.as_slice.ensures in
     subst (λ (bs : List (Placement Module)). All ModuleFits bs) (sym all)
     (All-from_recursion ModuleFits (based u) (unit_fits u c.args.image.now c.requires.formed c.requires.accepted c.requires.image))
@@ -36,11 +36,11 @@ slots-requires c =
 pub push_source-requires-clause-each : goal.push_source-requires-clause-each
 push_source-requires-clause-each c =
     let u = c.args.unit.now in
-    let all : c.as_slice-3.result.now ≡ based u =
-    c.as_slice-3.ensures.value ∙ c.in_ok-standings.ensures
+    let all : c.as_slice-2.result.now ≡ based u =
+    c.as_slice-2.ensures.value ∙ c.in_ok-standings.ensures
     ∙ ap (λ (ms : List Module). stood_from section_length first_text (up_to_multiple page_bytes (text_end section_length first_text ms)) ms) c.as_slice.ensures in
-    let kept : c.as_slice-6.result.now ≡ slots_of (based u) =
-    c.as_slice-6.ensures.value ∙ c.in_ok-slots.ensures ∙ ap slots_of all in
+    let kept : c.as_slice-5.result.now ≡ slots_of (based u) =
+    c.as_slice-5.ensures.value ∙ c.in_ok-slots.ensures ∙ ap slots_of all in
     subst (λ (ss : List Slot). All IsSlot ss) (sym kept)
     (All-from_recursion IsSlot (slots_of (based u))
     (are_slots (based u) (unit_fits u c.args.image.now c.requires.formed c.requires.accepted c.requires.image)))
@@ -53,25 +53,25 @@ returns c =
     let stand : c.in_ok-standings.standings.items ≡ based u =
     c.in_ok-standings.ensures
     ∙ ap (λ (ms : List Module). stood_from section_length first_text (up_to_multiple page_bytes (text_end section_length first_text ms)) ms) c.as_slice.ensures in
-    let kept : c.as_slice-6.result.now ≡ slots_of (based u) =
-    c.as_slice-6.ensures.value ∙ c.in_ok-slots.ensures ∙ ap slots_of (c.as_slice-3.ensures.value ∙ stand) in
-    let named : c.as_slice-8.result.now ≡ numbers_of u =
-    c.as_slice-8.ensures.value ∙ c.in_ok-numbers.ensures
-    ∙ ap (flat_map (entries_in (λ s. is_none s.section))) (c.as_slice-5.ensures.value ∙ stand) in
-    let ordered : AreInOrder (labels_of u) c.as_slice-7.result.now =
-    subst (λ (es : List Entry). AreInOrder (labels_of u) es) (sym c.as_slice-7.ensures.value)
+    let kept : c.as_slice-5.result.now ≡ slots_of (based u) =
+    c.as_slice-5.ensures.value ∙ c.in_ok-slots.ensures ∙ ap slots_of (c.as_slice-2.ensures.value ∙ stand) in
+    let named : c.as_slice-7.result.now ≡ numbers_of u =
+    c.as_slice-7.ensures.value ∙ c.in_ok-numbers.ensures
+    ∙ ap (flat_map (entries_in (λ s. is_none s.section))) (c.as_slice-4.ensures.value ∙ stand) in
+    let ordered : AreInOrder (labels_of u) c.as_slice-6.result.now =
+    subst (λ (es : List Entry). AreInOrder (labels_of u) es) (sym c.as_slice-6.ensures.value)
     (subst (λ (bs : List (Placement Module)). AreInOrder (flat_map (entries_in (λ s. is_some s.section)) bs) c.in_ok-labels.labels.items)
-    (c.as_slice-4.ensures.value ∙ stand) c.in_ok-labels.ensures) in
+    (c.as_slice-3.ensures.value ∙ stand) c.in_ok-labels.ensures) in
     record {
       unit = u;
       is_unit = c.requires.is_unit;
       is_accepted = c.requires.accepted;
-      labels = c.as_slice-7.result.now;
+      labels = c.as_slice-6.result.now;
       in_order = ordered;
       is_text =
           listing_whole source c.push_source.new.text.items c.push_entries.new.text.items c.push_entries-2.new.text.items u c.args.image.now
-          c.as_slice-6.result.now c.as_slice-7.result.now c.as_slice-8.result.now c.requires.is_unit c.requires.accepted c.requires.image kept named
+          c.as_slice-5.result.now c.as_slice-6.result.now c.as_slice-7.result.now c.requires.is_unit c.requires.accepted c.requires.image kept named
           (c.in_ok-push_source.ensures
-          ∙ ap (λ (t : List ℕ). t ++ text_of_lines (walked found 1 (lines_of source) c.as_slice-6.result.now)) c.new-text.ensures.items)
+          ∙ ap (λ (t : List ℕ). t ++ text_of_lines (walked found 1 (lines_of source) c.as_slice-5.result.now)) c.new-text.ensures.items)
           c.in_ok-push_entries.ensures c.in_ok-push_entries-2.ensures;
     }

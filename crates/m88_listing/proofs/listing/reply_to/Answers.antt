@@ -1,7 +1,8 @@
 -- The listing answers the source, or the text that refuses it.
-use Rattle.std.proofs.Common.{subst}
-use Rattle.m88_asm.specs.Accepted.{IsUnitFault}
-use Rattle.m88_asm.specs.declared.fault.UnitFault.{UnitFault}
+use Rattle.std.proofs.Common.{List, inl, inr, subst}
+use Rattle.m88_link.specs.Layout.{layout_of}
+use Rattle.m88_link.specs.Refusal.{IsRefused}
+use Rattle.m88_link.specs.declared.object.Object.{Object}
 use Rattle.m88_asm.specs.declared.fault.UnitFault.TheVariants as unit_kind
 use Rattle.m88_listing.specs.Refused.{parse_refusal, unit_refusal}
 use Rattle.m88_listing.proofs.Verdict.{accepted_answer}
@@ -14,21 +15,27 @@ returns-in-Err c =
     (told_parse c.args.source.now c.in-Err.fault c.unread.result c.unread.ensures.told c.in-Err.ensures.fault)
     c.unread.ensures.text c.unread.ensures.refused
 
-pub returns-in-Ok-image_of : goal.returns-in-Ok-image_of
-returns-in-Ok-image_of c = accepted_answer c.args.source.now c.in_ok-text-in-Ok-image_of.text.items c.in_ok-text-in-Ok-image_of.ensures
-
-pub returns-in-Err-Asm : goal.returns-in-Err-Asm
-returns-in-Err-Asm c =
-    let fault = unit_kind.Asm c.in-Err-Asm.fault in
+pub returns-in-Err-assemble : goal.returns-in-Err-assemble
+returns-in-Err-assemble c =
+    let fault = unit_kind.Asm c.in-Err-assemble.fault in
     reply_refused c.args.source.now (unit_refusal fault) c.unassembled.result
-    (told_unit c.args.source.now c.in-Ok.unit fault c.unassembled.result c.in-Ok.ensures.unit c.unassembled.ensures.told
-    (subst (λ (e : UnitFault). IsUnitFault c.in-Ok.unit e) c.in-Err-Asm.field-0-is c.in-Err-Asm.ensures.fault))
+    (told_unit c.args.source.now c.in-Ok.unit fault c.unassembled.result c.in-Ok.ensures.unit c.unassembled.ensures.told c.in-Err-assemble.ensures.fault)
     c.unassembled.ensures.text c.unassembled.ensures.refused
+
+pub returns-in-Ok-link : goal.returns-in-Ok-link
+returns-in-Ok-link c = accepted_answer c.args.source.now c.in_ok-text-in-Ok-link.text.items c.in_ok-text-in-Ok-link.ensures
 
 pub returns : goal.returns
 returns c =
-    let fault = unit_kind.Link c.in-Err-Link.fault in
+    let fault = unit_kind.Link c.in-Err-link.fault in
     reply_refused c.args.source.now (unit_refusal fault) c.unlinked.result
     (told_unit c.args.source.now c.in-Ok.unit fault c.unlinked.result c.in-Ok.ensures.unit c.unlinked.ensures.told
-    (subst (λ (e : UnitFault). IsUnitFault c.in-Ok.unit e) c.in-Err-Link.field-0-is c.in-Err-Link.ensures.fault))
+    (elim c.in-Err-link.ensures.err [
+      | inl memory ↦ inl memory
+      | inr refused ↦ inr (
+        c.in-Ok-assemble.ensures.accepted,
+        c.in-Ok-assemble.ensures.refusal c.in-Err-link.fault
+            (subst (λ (os : List Object). IsRefused (layout_of os) c.in-Err-link.fault) c.deref.ensures.value refused),
+      )
+    ]))
     c.unlinked.ensures.text c.unlinked.ensures.refused
