@@ -15,6 +15,8 @@ use crate::token::{Kept, Lexeme, Token, TokenKind};
 use std::alloc::Global;
 
 /// The tokens of a line with what they say, from left to right, in the place of those that stood in `out`.
+// Called, so that its loop has the registers to itself.
+#[inline(never)]
 pub(crate) fn cut_line(out: &mut Vec<Lexeme>, line: &[u8], number: u32) -> Result<(), ParseFault>
     requires { length line.now < 2 ^ 31 }
     ensures cuts { Gives (λ _. map (piece_in line.now) out.new.items) result

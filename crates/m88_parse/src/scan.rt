@@ -260,7 +260,10 @@ pub(crate) fn front(bytes: &[u8]) -> Result<Cut, Flaw>
     ensures place { IfErr result (λ f. f.at < length bytes.now) }
 {
     let first = bytes[0];
-    if is_comment(first) {
+    // Most tokens begin with a byte of a name, which is none of the others.
+    if continues_name(first) {
+        word(first, &bytes[..word_len(bytes)])
+    } else if is_comment(first) {
         Ok(Cut {
             len: bytes.len(),
             kept: None,
@@ -272,8 +275,6 @@ pub(crate) fn front(bytes: &[u8]) -> Result<Cut, Flaw>
             at: 0,
             kind: ParseKind::NotAscii,
         })
-    } else if continues_name(first) {
-        word(first, &bytes[..word_len(bytes)])
     } else if is_mark(first) {
         Ok(Cut {
             len: 1,
