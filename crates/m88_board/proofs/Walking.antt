@@ -1,5 +1,5 @@
--- Along letters, one event after the other: a walk, and draining.
-use Rattle.std.specs.Prelude.{ℕ, zero, suc, Bool, false, not, List, [], ◌∷◌, Option, OnErr, Result, Ok, Err, ◌≡◌, ◌+◌, ◌==◌, ◌||◌}
+-- Along the letters of a course, one event after the other, and whole runs.
+use Rattle.std.specs.Prelude.{ℕ, zero, suc, Bool, false, not, List, [], ◌∷◌, Option, OnErr, OnOk, Result, Ok, Err, ◌≡◌, ◌+◌, ◌==◌}
 use Rattle.std.proofs.Common.{add-one, arith, refl, sym, ap, ap₂, ◌∙◌, subst}
 use Rattle.std.proofs.Math.Path.{fun_ext}
 use Rattle.std.proofs.lemmas.Bool.{eqb-false, eqb-true}
@@ -8,7 +8,7 @@ use Rattle.m88_event.specs.Choice.{Choice, evicts, faults, finishes, holds, idle
 use Rattle.m88_event.specs.Letters.{letter_at}
 use Rattle.m88_event.specs.Local.{Local}
 use Rattle.m88_event.specs.Past.{HasPast}
-use Rattle.m88_event.specs.Run.{IsFirst, IsRun, IsRunning, NotBefore, letters_from, moment_after, moment_along}
+use Rattle.m88_event.specs.Run.{NotBefore, letters_from, moment_after, moment_along}
 use Rattle.m88_event.specs.Timeline.{Moment, after_choice, after_letter, choice_at, is_drained, is_over, opening_moment, record_at}
 use Rattle.m88_event.specs.declared.letter.Letter.{Letter}
 use Rattle.m88_event.specs.declared.record.Record.{Record}
@@ -20,8 +20,10 @@ use Rattle.m88_board.proofs.Unmoved.{unmoved_seen}
 use Rattle.m88_board.proofs.Seeing.{saw_none, saw_then}
 use Rattle.m88_board.specs.Board.{BoardView, local_of}
 use Rattle.m88_board.specs.Glances.{Saw, glance_at, glances_along}
+use Rattle.m88_board.specs.Inside.Courses.{halts_by, letters_by, moments_by, stops_by}
 use Rattle.m88_board.specs.Moves.{IsAlong, IsAt, IsStep, IsUnmoved}
 use Rattle.m88_board.specs.Walks.{moments_from, never, stops_after}
+use Rattle.m88_board.specs.declared.course.Course.{Course}
 use Rattle.m88_board.specs.declared.glance.Glance.{Glance}
 
 -- a condition that didn't hold so far doesn't hold after one event more
@@ -30,65 +32,53 @@ not_yet halts k none here = λ j h. by_test (j == k)
     (λ same. subst (λ (n : ℕ). halts n ≡ false) (sym (eqb-true j k same)) here)
     (λ other. let apart = eqb-false j k other in none j (omega (arith, h, apart)))
 
--- what holds after as many events, along some letters from a moment on, of which none came after a condition held
-pub record Goes (p : Program) (named : ℕ → Bool) (limit : ℕ) (letters : ℕ → Letter) (m : Moment) (halts : ℕ → Bool) (k : ℕ)
+-- what holds after as many events of a course from a moment on, of which none came after it stopped
+pub record Goes (course : Course) (p : Program) (named : ℕ → Bool) (limit : ℕ) (m : Moment) (k : ℕ)
     (before after : Option (List Glance)) (b : BoardView) : Type 0 where
-  pub along : IsAlong p named (moment_along p named limit letters m) k before after b
-  pub first : NotBefore halts k
+  pub along : IsAlong p named (moments_by course p named limit m) k before after b
+  pub first : NotBefore (halts_by course p named limit m) k
 
 -- nothing yet
-pub goes_start : (p : Program) (named : ℕ → Bool) (limit : ℕ) (letters : ℕ → Letter) (m : Moment) (halts : ℕ → Bool)
-    (seen : Option (List Glance)) (b : BoardView) → IsAt p named m b →
-    Goes p named limit letters m halts 0 seen seen b
+pub goes_start : (course : Course) (p : Program) (named : ℕ → Bool) (m : Moment) (k : ℕ) (seen : Option (List Glance))
+    (b : BoardView) → k ≡ 0 → IsAt p named m b →
+    Goes course p named b.limit m k seen seen b
 unfolding moment_along glances_along
-goes_start p named limit letters m halts seen b at = record {
-  along = record { at = at; saw = saw_none seen };
-  first = λ k h. absurd (omega (arith, h));
-}
-
--- and one more
-pub goes_step : (p : Program) (named : ℕ → Bool) (limit : ℕ) (letters : ℕ → Letter) (m : Moment) (halts : ℕ → Bool) (k : ℕ)
-    (before here after : Option (List Glance)) (b c : BoardView) → b.limit ≡ limit →
-    Goes p named limit letters m halts k before here b → halts k ≡ false →
-    IsStep p named (letters k) (moment_along p named limit letters m k) here after b c →
-    Goes p named limit letters m halts (suc k) before after c
-unfolding moment_along glances_along
-goes_step p named limit letters m halts k before here after b c same goes on step =
-    let last : Moment = moment_along p named limit letters m k in
-    let next : after_letter p named b.limit (letters k) last ≡ after_letter p named limit (letters k) last =
-    ap (λ (n : ℕ). after_letter p named n (letters k) last) same in
-    record {
-      along = record {
-        at = subst (λ (x : Moment). IsAt p named x c) next step.at;
-        saw =
-            saw_then before here after (glances_along p (moment_along p named limit letters m) k)
-            (glance_at p (after_letter p named limit (letters k) last) ∷ []) goes.along.saw
-            (subst (λ (x : Moment). Saw here after (glance_at p x ∷ [])) next step.saw);
-      };
-      first = not_yet halts k goes.first on;
-    }
-
--- an event of the letter that a walk takes next
-pub walk_step : (p : Program) (named : ℕ → Bool) (limit : ℕ) (schedule now : List Letter) (taken at : ℕ) (m : Moment) (halts : ℕ → Bool)
-    (k : ℕ) (before here after : Option (List Glance)) (b c : BoardView) → now ≡ schedule → at ≡ taken + k → b.limit ≡ limit →
-    Goes p named limit (letters_from schedule taken) m halts k before here b → halts k ≡ false →
-    IsStep p named (letter_at now at) (moments_from p named limit schedule taken m k) here after b c →
-    Goes p named limit (letters_from schedule taken) m halts (k + 1) before after c
-walk_step p named limit schedule now taken at m halts k before here after b c same place limits goes on step =
-    subst (λ (n : ℕ). Goes p named limit (letters_from schedule taken) m halts n before after c) (sym (add-one k))
-    (goes_step p named limit (letters_from schedule taken) m halts k before here after b c limits goes on
-    (subst (λ (x : Letter). IsStep p named x (moments_from p named limit schedule taken m k) here after b c)
-    (ap₂ letter_at same place) step))
+goes_start course p named m k seen b none at =
+    subst (λ (n : ℕ). Goes course p named b.limit m n seen seen b) (sym none) (record {
+      along = record { at = at; saw = saw_none seen };
+      first = λ j h. absurd (omega (arith, h));
+    })
 
 -- whether it stops is seen
-pub stops_there : (enough : Program → ℕ → Moment → Bool) (p : Program) (named : ℕ → Bool) (limit now : ℕ) (schedule : List Letter)
-    (taken : ℕ) (m : Moment) (k : ℕ) (result : Bool) → now ≡ limit →
-    result
-    ≡ (enough p k (moments_from p named limit schedule taken m k) || is_over p now (moments_from p named limit schedule taken m k)) →
-    stops_after enough p named limit schedule taken m k ≡ result
-stops_there enough p named limit now schedule taken m k result same says =
-    let here : Moment = moments_from p named limit schedule taken m k in
-    sym (says ∙ ap (λ (n : ℕ). enough p k here || is_over p n here) same)
+pub stops_there : (course : Course) (p : Program) (named : ℕ → Bool) (limit now : ℕ) (m : Moment) (made k : ℕ)
+    (stops : Bool) → made ≡ k → now ≡ limit →
+    stops ≡ stops_by course p now made (moments_by course p named limit m k) →
+    halts_by course p named limit m k ≡ stops
+stops_there course p named limit now m made k stops place same says =
+    sym (says ∙ ap₂ (λ (n j : ℕ). stops_by course p n j (moments_by course p named limit m k)) same place)
+
+-- and one more
+pub goes_step : (course : Course) (p : Program) (named : ℕ → Bool) (limit : ℕ) (m : Moment) (k next : ℕ)
+    (before here after : Option (List Glance)) (letter : Letter) (b c : BoardView) → next ≡ k + 1 → b.limit ≡ limit →
+    letter ≡ letters_by course k →
+    Goes course p named limit m k before here b → halts_by course p named limit m k ≡ false →
+    IsStep p named letter (moments_by course p named limit m k) here after b c →
+    Goes course p named limit m next before after c
+unfolding moment_along glances_along
+goes_step course p named limit m k next before here after letter b c one same is goes on step =
+    let last : Moment = moments_by course p named limit m k in
+    let moved : after_letter p named b.limit letter last ≡ after_letter p named limit (letters_by course k) last =
+    ap₂ (λ (n : ℕ) (x : Letter). after_letter p named n x last) same is in
+    subst (λ (n : ℕ). Goes course p named limit m n before after c) (sym (one ∙ add-one k)) (record {
+      along = record {
+        at = subst (λ (x : Moment). IsAt p named x c) moved step.at;
+        saw =
+            saw_then before here after (glances_along p (moments_by course p named limit m) k)
+            (glance_at p (after_letter p named limit (letters_by course k) last) ∷ []) goes.along.saw
+            (subst (λ (x : Moment). Saw here after (glance_at p x ∷ [])) moved step.saw);
+      };
+      first = not_yet (halts_by course p named limit m) k goes.first on;
+    })
 
 -- along the letters of a run from the first on
 first_letters : (schedule : List Letter) → letters_from schedule 0 ≡ letter_at schedule
@@ -96,43 +86,28 @@ first_letters schedule = fun_ext (λ k. let same : 0 + k ≡ k = omega arith in 
 
 pub from_first : (p : Program) (named : ℕ → Bool) (limit : ℕ) (schedule : List Letter) →
     moments_from p named limit schedule 0 opening_moment ≡ moment_after p named limit schedule
-from_first p named limit schedule = ap (λ letters. moment_along p named limit letters opening_moment) (first_letters schedule)
+from_first p named limit schedule =
+    ap (λ letters. moment_along p named limit letters opening_moment) (first_letters schedule)
 
 -- so a walk from the first letter on that nothing stops is a run
-run_moments : (p : Program) (named : ℕ → Bool) (limit now : ℕ) (schedule letters : List Letter) (taken : ℕ) → now ≡ limit →
-    letters ≡ schedule → taken ≡ 0 →
+run_moments : (p : Program) (named : ℕ → Bool) (limit now : ℕ) (schedule letters : List Letter) (taken : ℕ) →
+    now ≡ limit → letters ≡ schedule → taken ≡ 0 →
     moments_from p named now letters taken opening_moment ≡ moment_after p named limit schedule
 run_moments p named limit now schedule letters taken limits same none =
     ap (λ (n : ℕ). moments_from p named n letters taken opening_moment) limits
     ∙ ap₂ (λ (ls : List Letter) (n : ℕ). moments_from p named limit ls n opening_moment) same none
     ∙ from_first p named limit schedule
 
-pub run_went : (p : Program) (named : ℕ → Bool) (limit now : ℕ) (schedule letters : List Letter) (taken events : ℕ)
-    (before after : Option (List Glance)) (b : BoardView) → now ≡ limit → letters ≡ schedule → taken ≡ 0 →
-    IsFirst (stops_after never p named now letters taken opening_moment) events →
-    IsAlong p named (moments_from p named now letters taken opening_moment) events before after b →
-    IsRun p named limit schedule events × IsAlong p named (moment_after p named limit schedule) events before after b
-run_went p named limit now schedule letters taken events before after b limits same none first along =
-    let moments : moments_from p named now letters taken opening_moment ≡ moment_after p named limit schedule =
-    run_moments p named limit now schedule letters taken limits same none in (
-      subst (λ (ms : ℕ → Moment). IsFirst (λ k. is_over p limit (ms k)) events) moments
-          (subst (λ (n : ℕ). IsFirst (λ k. is_over p n (moments_from p named now letters taken opening_moment k)) events) limits first),
-      subst (λ (ms : ℕ → Moment). IsAlong p named ms events before after b) moments along,
-    )
-
-pub run_broke : (p : Program) (named : ℕ → Bool) (limit now : ℕ) (schedule letters : List Letter) (taken events : ℕ)
-    (before after : Option (List Glance)) → now ≡ limit → letters ≡ schedule → taken ≡ 0 →
-    NotBefore (stops_after never p named now letters taken opening_moment) events →
-    Saw before after (glances_along p (moments_from p named now letters taken opening_moment) events) →
-    IsRunning p named limit schedule events
-    × Saw before after (glances_along p (moment_after p named limit schedule) events)
-run_broke p named limit now schedule letters taken events before after limits same none first saw =
-    let moments : moments_from p named now letters taken opening_moment ≡ moment_after p named limit schedule =
-    run_moments p named limit now schedule letters taken limits same none in (
-      subst (λ (ms : ℕ → Moment). NotBefore (λ k. is_over p limit (ms k)) events) moments
-          (subst (λ (n : ℕ). NotBefore (λ k. is_over p n (moments_from p named now letters taken opening_moment k)) events) limits first),
-      subst (λ (ms : ℕ → Moment). Saw before after (glances_along p ms events)) moments saw,
-    )
+pub run_went : (Holds : (ℕ → Bool) → (ℕ → Moment) → Type 0) (p : Program) (named : ℕ → Bool) (limit now : ℕ)
+    (schedule letters : List Letter) (taken : ℕ) → now ≡ limit → letters ≡ schedule → taken ≡ 0 →
+    Holds (stops_after never p named now letters taken opening_moment)
+    (moments_from p named now letters taken opening_moment) →
+    Holds (λ k. is_over p limit (moment_after p named limit schedule k)) (moment_after p named limit schedule)
+run_went Holds p named limit now schedule letters taken limits same none walked =
+    subst (λ (ms : ℕ → Moment). Holds (λ k. is_over p limit (ms k)) ms)
+    (run_moments p named limit now schedule letters taken limits same none)
+    (subst (λ (n : ℕ). Holds (λ k. is_over p n (moments_from p named now letters taken opening_moment k))
+    (moments_from p named now letters taken opening_moment)) limits walked)
 
 -- each event is counted
 choice_events : (p : Program) (choice : Choice) (fault : Record) (m : Moment) → (after_choice p choice fault m).events ≡ m.events
@@ -165,6 +140,11 @@ along_events p named limit letters m (suc k) =
 pub on_err : {T E P : Type 0} (r : Result T E) → P → OnErr r P
 on_err (Ok x) p = tt
 on_err (Err e) p = p
+
+-- what follows from all that holds at an answer
+pub on_ok : {T E P Q R S : Type 0} (r : Result T E) → OnOk r P → OnOk r Q → OnOk r R → (P → Q → R → S) → OnOk r S
+on_ok (Ok x) p q r f = f p q r
+on_ok (Err e) p q r f = tt
 
 -- a board that memory refused an event stands where it stood
 pub still_at : (p : Program) (named : ℕ → Bool) (m : Moment) (b c : BoardView) → IsUnmoved b c → IsAt p named m b →

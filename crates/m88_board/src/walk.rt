@@ -18,6 +18,7 @@ ghost use Rattle.m88_board.specs.Walks.{IsBounded, is_at_breakpoint, is_enough, 
 
 use crate::board::Board;
 use crate::brief::Brief;
+use crate::course::Course;
 use crate::told::Told;
 use crate::until::Until;
 use crate::watch::Watch;
@@ -197,14 +198,17 @@ impl<'a> Walk<'a> {
             (glances_along p (moments_from p named self.old.board.now.limit
             self.old.schedule.now self.old.taken m) events)) }
     {
-        // Every run is over: each event takes something off the weight of what is left of it.
-        let mut made = 0;
-        let mut told = Told::nothing();
-        while !self.stops(until, made) {
-            self.next_brief(watch, &mut told)?;
-            made += 1;
-        }
-        Ok(())
+        let before = self.board.events();
+        let course = Course::Run {
+            schedule: self.schedule,
+            taken: self.taken,
+            until,
+        };
+        let went = self.board.follow(course, watch);
+
+        // Each event took a letter, also where memory ran out behind it.
+        self.taken += (self.board.events() - before) as usize;
+        went
     }
 
     /// Makes `r` events until nothing is pending, which take no letter of the run. The watch is shown the board after
@@ -227,43 +231,4 @@ impl<'a> Walk<'a> {
     {
         self.board.drain(watch)
     }
-
-    /// Whether it stops after so many events.
-    fn stops(&self, until: Until, made: u64) -> bool
-        ensures moment { (p : Program) (named : ℕ → Bool) (m : Moment)
-            → IsAt p named m self.now.board.now
-            → result ≡ (is_enough until.entry p made m || is_over p self.now.board.now.limit m) }
-        ensures going { result ≡ false
-            → is_over_by self.now.board.now.limit (local_of self.now.board.now) ≡ false }
-    {
-        self.is_enough(until, made) || self.board.is_over()
-    }
-
-    /// Whether it is to go no further after so many events.
-    fn is_enough(&self, until: Until, made: u64) -> bool
-        ensures { (p : Program) (named : ℕ → Bool) (m : Moment) → IsAt p named m self.now.board.now
-            → result ≡ is_enough until.entry p made m }
-    {
-        match until {
-            Until::Over => false,
-            Until::Made(most) => made >= u64::from(most),
-            Until::Breakpoint(addresses) => made > 0 && self.is_at(addresses),
-        }
-    }
-
-    /// Whether the next instruction stands at one of some byte addresses.
-    fn is_at(&self, addresses: &[u32]) -> bool
-        ensures { (p : Program) (named : ℕ → Bool) (m : Moment) → IsAt p named m self.now.board.now
-            → result ≡ is_at_breakpoint p addresses.now m }
-    {
-        let next = self.board.next_slot();
-        next.v && is_among(addresses, next.addr)
-    }
-}
-
-/// Whether an address is among others.
-fn is_among(addresses: &[u32], address: u32) -> bool
-    ensures { result ≡ list_any (λ a. a == address) addresses.now }
-{
-    addresses.iter().any(|a| *a == address)
 }

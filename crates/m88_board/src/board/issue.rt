@@ -315,7 +315,7 @@ impl Board {
 
     /// Whether a transaction is pending.
     #[tactic(auto, using(crate::proofs::Issuing::pending_shown))]
-    pub(super) fn is_pending(&self) -> bool
+    pub(crate) fn is_pending(&self) -> bool
         ensures { result ≡ is_pending self.now.pending }
     {
         self.dunit.oldest().is_some()

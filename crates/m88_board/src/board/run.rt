@@ -1,7 +1,7 @@
 //! Whole runs, and draining.
 
 ghost use Rattle.std.specs.Prelude.{ℕ, Bool, [], ◌∷◌, ◌↔◌, ◌≡◌, ◌<◌, ◌≤◌, ◌+◌, ◌-◌, ◌*◌, true, length, IfOk, OnErr, OnOk};
-ghost use Rattle.m88_event.specs.Run.{IsDrain, IsDraining, IsOutcome, IsRun, IsRunning, answered_after, moment_after, outcome_at, outcome_by};
+ghost use Rattle.m88_event.specs.Run.{IsDrain, IsDraining, IsFirst, IsOutcome, IsRun, IsRunning, NotBefore, answered_after, moment_after, outcome_at, outcome_by};
 ghost use Rattle.m88_event.specs.Local.{move};
 ghost use Rattle.m88_event.specs.Timeline.{Moment, is_over, opening_moment, said_at};
 ghost use Rattle.m88_event.specs.declared.happened.End.{End as EndValue};
@@ -16,14 +16,17 @@ ghost use Rattle.m88_mem.specs.DataBus.{image_bus};
 ghost use Rattle.m88_board.specs.Board.{local_of};
 ghost use Rattle.m88_board.specs.Glances.{Saw, glances_along};
 ghost use Rattle.m88_board.specs.Inside.Briefly.{happened_of};
+ghost use Rattle.m88_board.specs.Inside.Courses.{HasRoom, IsBoundedBy, halts_by, moments_by};
 ghost use Rattle.m88_board.specs.Kept.{IsKept, most_events};
 ghost use Rattle.m88_board.specs.Moves.{IsAlong, IsAt, IsSameRun, IsStep, IsUnmoved};
 ghost use Rattle.m88_board.specs.Shown.{IsSettled};
 ghost use Rattle.m88_board.specs.Told.{IsTold, MakesWordAccesses};
 ghost use Rattle.m88_board.specs.Walks.{IsNoHeavier};
+ghost use Rattle.m88_board.specs.declared.course.Course.{Course as CourseValue};
 
 use super::Board;
 use crate::brief::Brief;
+use crate::course::Course;
 use crate::told::Told;
 use crate::until::Until;
 use crate::walk::Walk;
@@ -88,8 +91,37 @@ impl Board {
             × IsAlong p named (answered_after p named self.old.limit m) events
             (W.seen watch.old) (W.seen watch.new) self.new) }
     {
-        while self.dunit.oldest().is_some() {
-            self.step(Letter::Answer, watch, &mut Told::nothing())?;
+        self.follow(Course::Answers, watch)
+    }
+
+    /// Makes the events of a course until it stops. The board is shown to the watch after each. Where memory runs
+    /// out, it stands after whole events.
+    // Inlined, so that each caller has the loop of its own course.
+    #[inline(always)]
+    pub(crate) fn follow<W: Watch>(&mut self, course: Course, watch: &mut W) -> Result<(), NoMemory>
+        requires { HasRoom course self.old }
+        ensures ok { OnOk result ((p : Program) (named : ℕ → Bool) (m : Moment) → IsProgram p
+            → IsAt p named m self.old
+            → (events : ℕ) × IsFirst (halts_by course.entry p named self.old.limit m) events
+            × IsAlong p named (moments_by course.entry p named self.old.limit m) events
+            (W.seen watch.old) (W.seen watch.new) self.new
+            × (self.new.events ≡ self.old.events + events)) }
+        ensures answered { course.entry ≡ CourseValue.Answers → OnOk result (self.new.pending ≡ []) }
+        ensures counted { self.old.events ≤ self.new.events }
+        ensures kept { OnOk result (IsKept self.new) }
+        ensures bounded { IsBoundedBy course.entry self.old self.new }
+        ensures same { IsSameRun self.old self.new }
+        ensures err { OnErr result ((p : Program) (named : ℕ → Bool) (m : Moment) → IsProgram p
+            → IsAt p named m self.old
+            → (events : ℕ) × NotBefore (halts_by course.entry p named self.old.limit m) events
+            × IsAlong p named (moments_by course.entry p named self.old.limit m) events
+            (W.seen watch.old) (W.seen watch.new) self.new) }
+    {
+        // Every course ends: what bounds it bounds the events so far.
+        let first = self.events;
+        let mut told = Told::nothing();
+        while let Some(letter) = course.next(self, self.events - first) {
+            self.step(letter, watch, &mut told)?;
         }
         Ok(())
     }

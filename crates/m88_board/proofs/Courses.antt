@@ -1,0 +1,90 @@
+-- What bounds a course goes on bounding it.
+use Rattle.std.specs.Prelude.{true, false, not, List, [], ◌∷◌, ◌≡◌, ◌<◌, ◌≤◌, ◌+◌, ◌-◌, length}
+use Rattle.std.proofs.Common.{arith, refl, ap, subst, sym, ◌∙◌}
+use Rattle.m88_base.specs.Image.{IsImage}
+use Rattle.m88_event.specs.Local.{move}
+use Rattle.m88_event.specs.declared.letter.Letter.{Letter}
+use Rattle.m88_event.specs.declared.letter.Letter.TheVariants.{Answer}
+use Rattle.m88_isa.specs.Held.{is_pending}
+use Rattle.m88_isa.specs.ImageProgram.{IsProgramOf}
+use Rattle.m88_isa.specs.Machine.{Program}
+use Rattle.m88_isa.specs.declared.planned.Access.{Access}
+use Rattle.m88_board.proofs.Choosing.{some_count}
+use Rattle.m88_board.proofs.Weighing.{answered_no_heavier, bounded_next, bounded_unmoved, lighter_next, no_heavier_same, no_heavier_then, unmoved_no_heavier}
+use Rattle.m88_board.specs.Board.{BoardView, local_of}
+use Rattle.m88_board.specs.Inside.Courses.{HasRoom, IsBoundedBy, has_to_rest, letters_by}
+use Rattle.m88_board.specs.Kept.{IsKept, most_events}
+use Rattle.m88_board.specs.Moves.{IsSameRun, IsUnmoved}
+use Rattle.m88_board.specs.Walks.{IsBounded}
+use Rattle.m88_board.specs.declared.course.Course.{Course}
+use Rattle.m88_board.specs.declared.course.Course.TheVariants.{Run, Answers}
+
+-- something is pending where answers go on
+some_left : (xs : List Access) → not (is_pending xs) ≡ false → is_pending xs ≡ true
+some_left [] h = absurd cc
+some_left (x ∷ xs) h = refl
+
+-- before its first event
+pub bounded_at_first : (course : Course) (b : BoardView) → HasRoom course b → IsBoundedBy course b b
+bounded_at_first (Run schedule taken until) b room =
+    let place : taken ≡ taken + (b.events - b.events) = omega arith in
+    subst (λ n. IsBounded schedule.now n b) place room
+bounded_at_first Answers b room = record { bounded = omega arith; lighter = no_heavier_same b }
+
+-- one event more is counted
+pub next_counted : (course : Course) (first old : BoardView) → HasRoom course first → IsKept first →
+    IsBoundedBy course first old → has_to_rest course old ≡ false →
+    old.events < most_events
+next_counted (Run schedule taken until) first old room kept bounded going =
+    let small = bounded.small in
+    let few = bounded.few in
+    let most = bounded.room in
+    omega (arith, small, few, most)
+next_counted Answers first old room kept bounded going =
+    let some = some_count old.pending (some_left old.pending going) in
+    let few = kept.parts.few in
+    let most = bounded.bounded in
+    omega (arith, room, some, few, most)
+
+-- behind an event of its next letter
+pub bounded_behind : (course : Course) (letter : Letter) (first old new : BoardView) → IsBoundedBy course first old →
+    has_to_rest course old ≡ false → first.events ≤ old.events →
+    letter ≡ letters_by course (old.events - first.events) →
+    IsKept new → IsSameRun old new → new.events ≡ old.events + 1 →
+    ((p : Program) → IsProgramOf old.memory.image p → local_of new ≡ move p old.limit letter (local_of old)) →
+    (letter ≡ Answer → length new.pending ≤ length old.pending - 1) →
+    IsBoundedBy course first new
+bounded_behind (Run schedule taken until) letter first old new bounded going begun is kept same counted moved shorter =
+    let here = taken + (old.events - first.events) in
+    let place : here + 1 ≡ taken + (new.events - first.events) = omega (arith, begun, counted) in
+    subst (λ n. IsBounded schedule.now n new) place
+    (bounded_next schedule.now here old new bounded kept same counted
+    (lighter_next schedule.now here letter old new bounded going is kept same moved))
+bounded_behind Answers letter first old new bounded going begun is kept same counted moved shorter =
+    let pending = some_left old.pending going in
+    let some = some_count old.pending pending in
+    let less = shorter is in
+    let before = bounded.bounded in
+    record {
+      bounded = omega (arith, some, less, counted, before);
+      lighter = no_heavier_then first old new bounded.lighter
+          (answered_no_heavier old new (subst IsImage same.image kept.image) pending same counted
+          (λ p of. moved p of ∙ ap (λ x. move p old.limit x (local_of old)) is));
+    }
+
+-- no event: memory ran out
+pub bounded_still : (course : Course) (first old new : BoardView) → IsBoundedBy course first old → IsUnmoved old new →
+    IsBoundedBy course first new
+bounded_still (Run schedule taken until) first old new bounded still =
+    let here = taken + (old.events - first.events) in
+    subst (λ n. IsBounded schedule.now n new)
+    (ap (λ (b : BoardView). taken + (b.events - first.events)) (sym still.rest))
+    (bounded_unmoved schedule.now here old new bounded still)
+bounded_still Answers first old new bounded still =
+    let events = ap (λ (b : BoardView). b.events) still.rest in
+    let pending = ap (λ (b : BoardView). length b.pending) still.rest in
+    let before = bounded.bounded in
+    record {
+      bounded = omega (arith, events, pending, before);
+      lighter = no_heavier_then first old new bounded.lighter (unmoved_no_heavier old new still);
+    }

@@ -1,0 +1,107 @@
+-- One event of the course after the other, until it stops.
+use Rattle.std.proofs.Common.{arith, refl, ap, ap₂, subst, ◌∙◌, ◌-◌, ◌≡◌, ℕ}
+use Rattle.std.proofs.lemmas.Result.{err_from_is_err_and}
+use Rattle.m88_event.specs.Timeline.{Moment}
+use Rattle.m88_board.proofs.Courses.{bounded_at_first, bounded_behind, bounded_still, next_counted}
+use Rattle.m88_board.proofs.Still.{same_then}
+use Rattle.m88_board.proofs.Walking.{goes_start, goes_step, still_at, stops_there}
+use Rattle.m88_board.specs.Board.{BoardView}
+use Rattle.m88_board.specs.Inside.Courses.{letters_by, moments_by}
+use Rattle.m88_board.specs.Kept.{IsKept}
+use Rattle.m88_board.proofs.board.Board.follow.Goals as goal
+
+pub loop-letter-init : goal.loop-letter-init
+loop-letter-init g c = record {
+  begun = subst IsKept c.self.view_is c.self.invariant;
+  first = ap (λ (b : BoardView). b.events) c.self.view_is;
+  counted = omega arith;
+  same = record { limit = refl; mxm = refl; named = refl; image = refl; begun = refl };
+  bounded = bounded_at_first c.args.course c.args.self.now c.requires;
+  goes = λ p named m is at.
+      goes_start c.args.course p named m (c.args.self.now.events - c.args.self.now.events)
+      (g.W.Watch.seen c.args.watch.now) c.args.self.now (omega arith) at;
+}
+
+-- so many events were made
+made_so : {a b c d : ℕ} → b ≡ d → a ≡ c → a - b ≡ c - d
+made_so begun seen = ap₂ (λ m n. m - n) seen begun
+
+pub step-requires : goal.step-requires
+step-requires g c =
+    next_counted c.args.course c.args.self.now c.loop-letter.self c.requires c.loop-letter.invariant.begun
+    c.loop-letter.invariant.bounded c.in-Some.ensures.going
+
+pub loop-letter-smaller : goal.loop-letter-smaller
+loop-letter-smaller g c =
+    let one = c.in_ok-step.ensures.counted in
+    let room =
+    next_counted c.args.course c.args.self.now c.loop-letter.self c.requires c.loop-letter.invariant.begun
+    c.loop-letter.invariant.bounded c.in-Some.ensures.going in
+    omega (arith, one, room)
+
+pub loop-letter-preserved : goal.loop-letter-preserved
+loop-letter-preserved g c =
+    let inv = c.loop-letter.invariant in
+    let event = c.in_ok-step.ensures in
+    let counted = inv.counted in
+    let one = event.counted in
+    let limit = c.args.self.now.limit in
+    let made = c.loop-letter.self.events - c.args.self.now.events in
+    let place = made_so inv.first (ap (λ (b : BoardView). b.events) c.self-in-loop-letter.view_is) in
+    let is = c.in-Some.ensures.letter ∙ ap (letters_by c.args.course) place in
+    record {
+      begun = inv.begun;
+      first = inv.first;
+      counted = omega (arith, counted, one);
+      same = same_then c.args.self.now c.loop-letter.self c.step.new.self inv.same event.same;
+      bounded =
+          bounded_behind c.args.course c.in-Some.letter c.args.self.now c.loop-letter.self c.step.new.self inv.bounded
+          c.in-Some.ensures.going counted is event.kept event.same one event.moved event.shorter;
+      goes = λ p named m is-program at.
+          let goes = inv.goes p named m is-program at in
+          let here : Moment = moments_by c.args.course p named limit m made in
+          goes_step c.args.course p named limit m made (c.step.new.self.events - c.args.self.now.events) _ _ _
+          c.in-Some.letter c.loop-letter.self c.step.new.self (omega (arith, counted, one)) inv.same.limit is goes
+          (stops_there c.args.course p named limit c.loop-letter.self.limit m _ made _ place inv.same.limit
+          (c.in-Some.ensures.moment p named here goes.along.at))
+          (event.ok p named here goes.along.at);
+    }
+
+pub returns-in_err-step-clause-bounded : goal.returns-in_err-step-clause-bounded
+returns-in_err-step-clause-bounded g c =
+    bounded_still c.args.course c.args.self.now c.loop-letter.self c.step.new.self c.loop-letter.invariant.bounded
+    c.in_err-step.ensures.err
+
+pub returns-in_err-step-clause-err : goal.returns-in_err-step-clause-err
+returns-in_err-step-clause-err g c =
+    let p = err_from_is_err_and c.from_residual.result c.from_residual.ensures.1 in
+    rw (p.1) (λ p named m is at.
+    let goes = c.loop-letter.invariant.goes p named m is at in
+    let made = c.loop-letter.self.events - c.args.self.now.events in (
+      made,
+      goes.first,
+      record {
+        at = still_at p named (moments_by c.args.course p named c.args.self.now.limit m made) c.loop-letter.self
+            c.step.new.self c.in_err-step.ensures.err goes.along.at;
+        saw = rw c.in_err-step.ensures.unseen goes.along.saw;
+      },
+    ))
+
+pub returns-clause-ok : goal.returns-clause-ok
+returns-clause-ok g c = λ p named m is at.
+    let inv = c.loop-letter.invariant in
+    let goes = inv.goes p named m is at in
+    let counted = inv.counted in
+    let limit = c.args.self.now.limit in
+    let made = c.loop-letter.self.events - c.args.self.now.events in (
+      made,
+      record {
+        here =
+            stops_there c.args.course p named limit c.loop-letter.self.limit m _ made _
+            (made_so inv.first (ap (λ (b : BoardView). b.events) c.self-in-loop-letter.view_is)) inv.same.limit
+            (c.in_default.ensures.moment p named (moments_by c.args.course p named limit m made) goes.along.at);
+        first = goes.first;
+      },
+      goes.along,
+      omega (arith, counted),
+    )
