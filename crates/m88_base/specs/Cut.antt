@@ -11,9 +11,10 @@ abbrev pub split_at_byte : ℕ → List ℕ → Option (List ℕ × List ℕ)
 split_at_byte at [] = None
 split_at_byte at (b ∷ bs) = if b == at then Some ([], bs) else option_map (with_first b) (split_at_byte at bs)
 
--- a text doesn't have the byte
+-- whether a text has no byte of the value
 abbrev pub lacks : ℕ → List ℕ → Bool
 lacks at text = list_all (λ b. not (b == at)) text
 
+-- a text has no byte of the value
 abbrev pub Lacks : ℕ → List ℕ → Type 0
 Lacks at text = lacks at text ≡ true

@@ -1,5 +1,5 @@
--- What contracts cite: registers, where bytes come from and go to, parts of texts, and the image of a program; Inside is
--- for private contracts.
+-- What contracts cite: registers, where bytes come from and go to, parts of texts, and the image of a program; Inside
+-- is for private contracts.
 pub mod Reg
 pub mod RegisterSet
 pub mod Triple

@@ -12,7 +12,7 @@ use Rattle.m88_isa.specs.declared.planned.Access.{Access}
 use Rattle.m88_board.proofs.Choosing.{some_count}
 use Rattle.m88_board.proofs.Weighing.{answered_no_heavier, bounded_next, bounded_unmoved, lighter_next, no_heavier_same, no_heavier_then, unmoved_no_heavier}
 use Rattle.m88_board.specs.Board.{BoardView, local_of}
-use Rattle.m88_board.specs.Inside.Courses.{HasRoom, IsBoundedBy, has_to_rest, letters_by}
+use Rattle.m88_board.specs.Inside.Courses.{CanBeCounted, IsBoundedBy, has_to_rest, letters_by}
 use Rattle.m88_board.specs.Kept.{IsKept, most_events}
 use Rattle.m88_board.specs.Moves.{IsSameRun, IsUnmoved}
 use Rattle.m88_board.specs.Walks.{IsBounded}
@@ -25,14 +25,14 @@ some_left [] h = absurd cc
 some_left (x ∷ xs) h = refl
 
 -- before its first event
-pub bounded_at_first : (course : Course) (b : BoardView) → HasRoom course b → IsBoundedBy course b b
+pub bounded_at_first : (course : Course) (b : BoardView) → CanBeCounted course b → IsBoundedBy course b b
 bounded_at_first (Run schedule taken until) b room =
     let place : taken ≡ taken + (b.events - b.events) = omega arith in
     subst (λ n. IsBounded schedule.now n b) place room
 bounded_at_first Answers b room = record { bounded = omega arith; lighter = no_heavier_same b }
 
 -- one event more is counted
-pub next_counted : (course : Course) (first old : BoardView) → HasRoom course first → IsKept first →
+pub next_counted : (course : Course) (first old : BoardView) → CanBeCounted course first → IsKept first →
     IsBoundedBy course first old → has_to_rest course old ≡ false →
     old.events < most_events
 next_counted (Run schedule taken until) first old room kept bounded going =

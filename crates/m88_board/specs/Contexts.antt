@@ -43,11 +43,12 @@ pub record BooksAt (p : Program) (m : Moment) (b : Book) : Type 0 where
   pub out : b.out ≡ (state p m.retired).out
   pub records : b.records ≡ m.records
 
--- a context stands for a moment of a program: of one that the image in its memory holds, in the mode of its status, with
--- the pages that its book names and the book's limit, and with what lies behind each moment of a run. Each transaction of
--- the instructions retired is done; the words that are saved and the book are those of the moment; its memory has the
--- words after these transactions, and the pages are absent that are so then, however they came to be; and it is
--- within the bounds of every board. Two moments with the same absent pages and all else the same are one to it.
+-- a context stands for a moment of a program: of one that the image in its memory holds, in the mode of its status,
+-- with the pages that its book names and the book's limit, and with what lies behind each moment of a run. Each
+-- transaction of the instructions retired is done; the words that are saved and the book are those of the moment; its
+-- memory has the words after these transactions, and the pages are absent that are so then, however they came to be;
+-- and it is within the bounds of every board. Two moments with the same absent pages and all else the same are one to
+-- it.
 pub record StandsFor (p : Program) (named : ℕ → Bool) (m : Moment) (c : Context) : Type 0 where
   pub is_image : IsImage c.memory.image
   pub image : IsProgramOf c.memory.image p

@@ -41,9 +41,9 @@ abbrev pub IsAtWord : ℕ → Type 0
 IsAtWord address = address % 4 ≡ 0
 
 -- a board may begin from parts with this limit: r0 is 0; the addresses are those of words; no more instructions are
--- retired than the limit says, which is small; the events can be counted; each transaction that was answered or finished
--- was made by an instruction, each that was answered and each fault is among these; and each byte was put out for an
--- instruction
+-- retired than the limit says, which is small; the events can be counted; each transaction that was answered or
+-- finished was made by an instruction, each that was answered and each fault is among these; and each byte was put out
+-- for an instruction
 pub record MayBegin (parts : Parts) (limit : ℕ) : Type 0 where
   pub zero : slice_index parts.regs 0 ≡ 0
   pub pc : IsAtWord parts.pc

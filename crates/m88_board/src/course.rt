@@ -33,7 +33,8 @@ impl<'a> Course<'a> {
         requires { taken_by self + made ≤ most_events }
         ensures letter { IfSome result (λ letter. letter ≡ letters_by self.entry made) }
         ensures going { IfSome result (λ letter. has_to_rest self.entry board.now ≡ false) }
-        ensures answered { self.entry ≡ CourseValue.Answers → IfNone result (board.now.pending ≡ []) }
+        ensures answered { self.entry ≡ CourseValue.Answers
+            → IfNone result (board.now.pending ≡ []) }
         ensures moment { (p : Program) (named : ℕ → Bool) (m : Moment) → IsAt p named m board.now
             → is_none result ≡ stops_by self.entry p board.now.limit made m }
     {

@@ -81,11 +81,13 @@ parse_refusal n fault = record { line = n + fault.line; column = fault.col; reas
 
 -- for one of a unit's statements
 abbrev pub asm_refusal : ℕ → AsmFault → Refusal
-asm_refusal n fault = record { line = n + fault.line; column = fault.col; reason = asm_reason (asm_kind_behind n fault.kind) }
+asm_refusal n fault =
+    record { line = n + fault.line; column = fault.col; reason = asm_reason (asm_kind_behind n fault.kind) }
 
 -- and for one of a unit's layout; the line 1 of a layout that is too large is counted on like any other
 abbrev pub link_refusal : ℕ → LinkFault → Refusal
-link_refusal n fault = record { line = n + fault.line; column = fault.col; reason = link_reason (link_kind_behind n fault.kind) }
+link_refusal n fault =
+    record { line = n + fault.line; column = fault.col; reason = link_reason (link_kind_behind n fault.kind) }
 
 -- a source behind n lines is refused at the first fault of its lines
 pub record IsUnread (n : ℕ) (source : List ℕ) (r : Refusal) : Type 0 where

@@ -74,7 +74,8 @@ instr_text (instr.Lda size d s1 s2) = spelled (lda_name size) (register_name d �
 instr_text (instr.Regs op d s1 s2) = spelled (reg_name op) (register_name d ∷ register_name s1 ∷ register_name s2 ∷ [])
 instr_text (instr.BitLit op d s1 width offset) =
     spelled (bits_name op) (register_name d ∷ register_name s1 ∷ field op width offset ∷ [])
-instr_text (instr.BitReg op d s1 s2) = spelled (bits_name op) (register_name d ∷ register_name s1 ∷ register_name s2 ∷ [])
+instr_text (instr.BitReg op d s1 s2) =
+    spelled (bits_name op) (register_name d ∷ register_name s1 ∷ register_name s2 ∷ [])
 instr_text (instr.Find ones d s2) = spelled (find_name ones) (register_name d ∷ register_name s2 ∷ [])
 instr_text (instr.Branch link delayed words) = spelled (branch_name link delayed) (target_operand words ∷ [])
 instr_text (instr.BranchBit set delayed bit s1 words) =
@@ -84,7 +85,8 @@ instr_text (instr.BranchCond delayed mask s1 words) =
 instr_text (instr.Jump link delayed s2) = spelled (jump_name link delayed) (register_name s2 ∷ [])
 instr_text (instr.TrapBit set bit s1 vector) =
     spelled (trap_bit_name set) (decimal bit ∷ register_name s1 ∷ decimal vector ∷ [])
-instr_text (instr.TrapCond mask s1 vector) = spelled trap_cond_name (condition mask ∷ register_name s1 ∷ decimal vector ∷ [])
+instr_text (instr.TrapCond mask s1 vector) =
+    spelled trap_cond_name (condition mask ∷ register_name s1 ∷ decimal vector ∷ [])
 instr_text (instr.BoundImm s1 imm) = spelled bound_name (register_name s1 ∷ decimal imm ∷ [])
 instr_text (instr.BoundReg s1 s2) = spelled bound_name (register_name s1 ∷ register_name s2 ∷ [])
 instr_text instr.Rte = spelled return_name []

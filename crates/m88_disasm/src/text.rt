@@ -158,7 +158,8 @@ fn trap_on_bit(mnemonic: Mnemonic, bit: u8, s1: Reg, vector: u16) -> InstrText
 /// A condition, rS1 and a vector.
 #[tactic(auto, unfolding(m88_isa::specs::Mnemonic::text_of))]
 fn trap_on_condition(mask: u8, s1: Reg, vector: u16) -> InstrText
-    ensures { result.bytes ≡ spelled trap_cond_name (condition mask ∷ register_name s1 ∷ decimal vector ∷ []) }
+    ensures { result.bytes
+        ≡ spelled trap_cond_name (condition mask ∷ register_name s1 ∷ decimal vector ∷ []) }
 {
     let mut text = begun(Mnemonic::Tcnd);
     put_condition(&mut text, mask);

@@ -118,7 +118,8 @@ impl Draft {
     // Called, it would have each statement made in one place and copied to another before it is pushed.
     #[inline(always)]
     pub fn push(&mut self, alloc: Global, statement: Statement) -> Result<(), ParseFault>
-        ensures after { IfOk result (λ _. Follows self.new self.old (Some (a_statement statement))) }
+        ensures after { IfOk result (λ _.
+            Follows self.new self.old (Some (a_statement statement))) }
         ensures memory { IfErr result (λ e. e ≡ out_of_memory) }
     {
         match &mut self.current {

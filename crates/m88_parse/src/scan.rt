@@ -260,25 +260,25 @@ pub(crate) fn front(bytes: &[u8]) -> Result<Cut, Flaw>
     ensures place { IfErr result (λ f. f.at < length bytes.now) }
 {
     let first = bytes[0];
-    // Most tokens begin with a byte of a name, which is none of the others.
+    // What stands most often is tried first: no byte is of two of these kinds.
     if continues_name(first) {
         word(first, &bytes[..word_len(bytes)])
+    } else if is_blank(first) {
+        Ok(Cut { len: 1, kept: None })
+    } else if is_mark(first) {
+        Ok(Cut {
+            len: 1,
+            kept: Some(Kept::Mark(first)),
+        })
     } else if is_comment(first) {
         Ok(Cut {
             len: bytes.len(),
             kept: None,
         })
-    } else if is_blank(first) {
-        Ok(Cut { len: 1, kept: None })
     } else if !is_plain(first) {
         Err(Flaw {
             at: 0,
             kind: ParseKind::NotAscii,
-        })
-    } else if is_mark(first) {
-        Ok(Cut {
-            len: 1,
-            kept: Some(Kept::Mark(first)),
         })
     } else if matches!(first, b'"' | b'\'') {
         quoted(first, &bytes[1..])

@@ -18,8 +18,8 @@ abbrev pub ended : Option End → Happened
 ended (Some end) = happened.Ended end
 ended None = happened.Idle
 
--- the record of a data fault is the last one of the board behind the event, if there is one, and how the program ended is
--- what that board tells
+-- the record of a data fault is the last one of the board behind the event, if there is one, and how the program ended
+-- is what that board tells
 abbrev pub happened_of : Brief → BoardView → Happened
 happened_of brief.Issued b = happened.Issued
 happened_of brief.Bubble b = happened.Bubble

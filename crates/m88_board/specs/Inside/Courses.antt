@@ -42,17 +42,17 @@ has_to_rest (Run schedule taken until) = λ b. is_over_by b.limit (local_of b)
 has_to_rest Answers = λ b. not (is_pending b.pending)
 
 -- there is room for its events: the walk is bounded, or as many as can be pending are counted
-abbrev pub HasRoom : Course → BoardView → Type 0
-HasRoom (Run schedule taken until) = λ b. IsBounded schedule.now taken b
-HasRoom Answers = λ b. b.events + most_pending < most_events
+abbrev pub CanBeCounted : Course → BoardView → Type 0
+CanBeCounted (Run schedule taken until) = λ b. IsBounded schedule.now taken b
+CanBeCounted Answers = λ b. b.events + most_pending < most_events
 
 -- answers beside a run's letters: the events so far and what is pending are no more than before, nor are those that a
 -- run may still have
-pub record IsAnswered (old new : BoardView) : Type 0 where
+pub record AnswersBeside (old new : BoardView) : Type 0 where
   pub bounded : new.events + length new.pending ≤ old.events + length old.pending
   pub lighter : IsNoHeavier old new
 
 -- what bounds it behind some of its events, each of which took a letter of the run
 abbrev pub IsBoundedBy : Course → BoardView → BoardView → Type 0
 IsBoundedBy (Run schedule taken until) = λ old new. IsBounded schedule.now (taken + (new.events - old.events)) new
-IsBoundedBy Answers = IsAnswered
+IsBoundedBy Answers = AnswersBeside

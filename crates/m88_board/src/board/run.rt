@@ -16,7 +16,7 @@ ghost use Rattle.m88_mem.specs.DataBus.{image_bus};
 ghost use Rattle.m88_board.specs.Board.{local_of};
 ghost use Rattle.m88_board.specs.Glances.{Saw, glances_along};
 ghost use Rattle.m88_board.specs.Inside.Briefly.{happened_of};
-ghost use Rattle.m88_board.specs.Inside.Courses.{HasRoom, IsBoundedBy, halts_by, moments_by};
+ghost use Rattle.m88_board.specs.Inside.Courses.{CanBeCounted, IsBoundedBy, halts_by, moments_by};
 ghost use Rattle.m88_board.specs.Kept.{IsKept, most_events};
 ghost use Rattle.m88_board.specs.Moves.{IsAlong, IsAt, IsSameRun, IsStep, IsUnmoved};
 ghost use Rattle.m88_board.specs.Shown.{IsSettled};
@@ -98,15 +98,17 @@ impl Board {
     /// out, it stands after whole events.
     // Inlined, so that each caller has the loop of its own course.
     #[inline(always)]
+    #[tactic(auto, using(crate::proofs::Courses::next_counted, crate::proofs::Courses::bounded_still))]
     pub(crate) fn follow<W: Watch>(&mut self, course: Course, watch: &mut W) -> Result<(), NoMemory>
-        requires { HasRoom course self.old }
+        requires { CanBeCounted course self.old }
         ensures ok { OnOk result ((p : Program) (named : ℕ → Bool) (m : Moment) → IsProgram p
             → IsAt p named m self.old
             → (events : ℕ) × IsFirst (halts_by course.entry p named self.old.limit m) events
             × IsAlong p named (moments_by course.entry p named self.old.limit m) events
             (W.seen watch.old) (W.seen watch.new) self.new
             × (self.new.events ≡ self.old.events + events)) }
-        ensures answered { course.entry ≡ CourseValue.Answers → OnOk result (self.new.pending ≡ []) }
+        ensures answered { course.entry ≡ CourseValue.Answers
+            → OnOk result (self.new.pending ≡ []) }
         ensures counted { self.old.events ≤ self.new.events }
         ensures kept { OnOk result (IsKept self.new) }
         ensures bounded { IsBoundedBy course.entry self.old self.new }

@@ -10,4 +10,5 @@ read_count = 1024
 
 -- each that is kept is the image's
 abbrev pub AreReads : ProgramImage → List (Option Read) → Type 0
-AreReads image reads = (k : ℕ) (read : Read) → slice_get reads k ≡ Some (Some read) → read.word ≡ image_bus image read.addr
+AreReads image reads =
+    (k : ℕ) (read : Read) → slice_get reads k ≡ Some (Some read) → read.word ≡ image_bus image read.addr

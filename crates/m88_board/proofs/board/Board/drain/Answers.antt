@@ -1,5 +1,5 @@
 -- A course of letters `r`, which stops with nothing pending.
-use Rattle.std.proofs.Common.{arith, refl}
+use Rattle.std.proofs.Common.{refl}
 use Rattle.std.proofs.lemmas.Result.{on_ok_weaker}
 use Rattle.m88_event.proofs.Laws.{answered_issues_none}
 use Rattle.m88_event.specs.Run.{answered_after}
@@ -22,6 +22,3 @@ returns-clause-settled g c =
     let after : Moment = answered_after p named c.args.self.now.limit m went.0 in
     settled_before p m after c.follow.new.self (answered_issues_none p named c.args.self.now.limit m went.0)
     (settled p named after c.follow.new.self is kept went.2.at went.1.here none))
-
-pub returns-clause-bounded : goal.returns-clause-bounded
-returns-clause-bounded g c = let bounded = c.follow.ensures.bounded.bounded in omega (arith, bounded)

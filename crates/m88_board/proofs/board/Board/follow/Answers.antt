@@ -2,7 +2,7 @@
 use Rattle.std.proofs.Common.{arith, refl, ap, ap₂, subst, ◌∙◌, ◌-◌, ◌≡◌, ℕ}
 use Rattle.std.proofs.lemmas.Result.{err_from_is_err_and}
 use Rattle.m88_event.specs.Timeline.{Moment}
-use Rattle.m88_board.proofs.Courses.{bounded_at_first, bounded_behind, bounded_still, next_counted}
+use Rattle.m88_board.proofs.Courses.{bounded_at_first, bounded_behind}
 use Rattle.m88_board.proofs.Still.{same_then}
 use Rattle.m88_board.proofs.Walking.{goes_start, goes_step, still_at, stops_there}
 use Rattle.m88_board.specs.Board.{BoardView}
@@ -25,19 +25,6 @@ loop-letter-init g c = record {
 -- so many events were made
 made_so : {a b c d : ℕ} → b ≡ d → a ≡ c → a - b ≡ c - d
 made_so begun seen = ap₂ (λ m n. m - n) seen begun
-
-pub step-requires : goal.step-requires
-step-requires g c =
-    next_counted c.args.course c.args.self.now c.loop-letter.self c.requires c.loop-letter.invariant.begun
-    c.loop-letter.invariant.bounded c.in-Some.ensures.going
-
-pub loop-letter-smaller : goal.loop-letter-smaller
-loop-letter-smaller g c =
-    let one = c.in_ok-step.ensures.counted in
-    let room =
-    next_counted c.args.course c.args.self.now c.loop-letter.self c.requires c.loop-letter.invariant.begun
-    c.loop-letter.invariant.bounded c.in-Some.ensures.going in
-    omega (arith, one, room)
 
 pub loop-letter-preserved : goal.loop-letter-preserved
 loop-letter-preserved g c =
@@ -66,11 +53,6 @@ loop-letter-preserved g c =
           (c.in-Some.ensures.moment p named here goes.along.at))
           (event.ok p named here goes.along.at);
     }
-
-pub returns-in_err-step-clause-bounded : goal.returns-in_err-step-clause-bounded
-returns-in_err-step-clause-bounded g c =
-    bounded_still c.args.course c.args.self.now c.loop-letter.self c.step.new.self c.loop-letter.invariant.bounded
-    c.in_err-step.ensures.err
 
 pub returns-in_err-step-clause-err : goal.returns-in_err-step-clause-err
 returns-in_err-step-clause-err g c =
