@@ -1,12 +1,11 @@
 //! Walks along the letters of a run.
 
-ghost use Rattle.std.specs.Prelude.{ℕ, Bool, [], ◌∷◌, ◌≡◌, ◌<◌, ◌≤◌, ◌+◌, ◌==◌, ◌||◌, false, true, IfOk, OnErr, OnOk};
-ghost use Rattle.std.specs.List.{list_any};
+ghost use Rattle.std.specs.Prelude.{ℕ, Bool, ◌≡◌, ◌<◌, ◌+◌, false, true, IfOk, OnErr, OnOk};
 ghost use Rattle.m88_event.specs.Bound.{weight};
 ghost use Rattle.m88_event.specs.Letters.{letter_at};
 ghost use Rattle.m88_event.specs.Local.{is_over_by};
 ghost use Rattle.m88_event.specs.Run.{IsDrain, IsDraining, IsFirst, NotBefore, answered_after};
-ghost use Rattle.m88_event.specs.Timeline.{Moment, is_over, said_at};
+ghost use Rattle.m88_event.specs.Timeline.{Moment, said_at};
 ghost use Rattle.m88_event.specs.declared.letter.Letter.{Letter as LetterValue};
 ghost use Rattle.m88_isa.specs.Machine.{IsProgram, Program};
 ghost use Rattle.m88_board.specs.Board.{local_of};
@@ -14,7 +13,7 @@ ghost use Rattle.m88_board.specs.Glances.{Saw, glances_along};
 ghost use Rattle.m88_board.specs.Inside.Briefly.{happened_of};
 ghost use Rattle.m88_board.specs.Moves.{IsAlong, IsAt, IsSameRun, IsStep, IsUnmoved};
 ghost use Rattle.m88_board.specs.Told.{IsTold, MakesWordAccesses};
-ghost use Rattle.m88_board.specs.Walks.{IsBounded, is_at_breakpoint, is_enough, moments_from, stops_after};
+ghost use Rattle.m88_board.specs.Walks.{IsBounded, is_enough, moments_from, stops_after};
 
 use crate::board::Board;
 use crate::brief::Brief;
