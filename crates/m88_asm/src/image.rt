@@ -63,7 +63,7 @@ fn image_or_fault(alloc: Global, unit: Unit) -> Result<Image, UnitFault>
         Ok(objects) => objects,
         Err(fault) => return Err(UnitFault::Asm(fault)),
     };
-    // All that linking needs is in the objects: the unit, which takes the most memory by far, is let go before.
+    // All that linking needs is in the objects: the unit, which takes the most memory, is let go before.
     drop(unit);
     match link(alloc, &objects) {
         Ok(image) => Ok(image),

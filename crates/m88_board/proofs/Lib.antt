@@ -25,7 +25,7 @@ pub mod Seeing
 pub mod Shown
 pub mod Walking
 pub mod Weighing
-pub mod Courses
+pub mod Routes
 pub mod Ending
 pub mod Recorded
 pub mod Advancing

@@ -1,4 +1,4 @@
--- Along the letters of a course, one event after the other, and whole runs.
+-- Along the letters of a route, one event after the other, and whole runs.
 use Rattle.std.specs.Prelude.{ℕ, zero, suc, Bool, false, not, List, [], ◌∷◌, Option, OnErr, OnOk, Result, Ok, Err, ◌≡◌, ◌+◌, ◌==◌}
 use Rattle.std.proofs.Common.{add-one, arith, refl, sym, ap, ap₂, ◌∙◌, subst}
 use Rattle.std.proofs.Math.Path.{fun_ext}
@@ -20,10 +20,10 @@ use Rattle.m88_board.proofs.Unmoved.{unmoved_seen}
 use Rattle.m88_board.proofs.Seeing.{saw_none, saw_then}
 use Rattle.m88_board.specs.Board.{BoardView, local_of}
 use Rattle.m88_board.specs.Glances.{Saw, glance_at, glances_along}
-use Rattle.m88_board.specs.Inside.Courses.{halts_by, letters_by, moments_by, stops_by}
+use Rattle.m88_board.specs.Inside.Routes.{halts_by, letters_by, moments_by, stops_by}
 use Rattle.m88_board.specs.Moves.{IsAlong, IsAt, IsStep, IsUnmoved}
 use Rattle.m88_board.specs.Walks.{moments_from, never, stops_after}
-use Rattle.m88_board.specs.declared.course.Course.{Course}
+use Rattle.m88_board.specs.declared.route.Route.{Route}
 use Rattle.m88_board.specs.declared.glance.Glance.{Glance}
 
 -- a condition that didn't hold so far doesn't hold after one event more
@@ -32,52 +32,52 @@ not_yet halts k none here = λ j h. by_test (j == k)
     (λ same. subst (λ (n : ℕ). halts n ≡ false) (sym (eqb-true j k same)) here)
     (λ other. let apart = eqb-false j k other in none j (omega (arith, h, apart)))
 
--- what holds after as many events of a course from a moment on, of which none came after it stopped
-pub record Goes (course : Course) (p : Program) (named : ℕ → Bool) (limit : ℕ) (m : Moment) (k : ℕ)
+-- what holds after as many events of a route from a moment on, of which none came after it stopped
+pub record Goes (route : Route) (p : Program) (named : ℕ → Bool) (limit : ℕ) (m : Moment) (k : ℕ)
     (before after : Option (List Glance)) (b : BoardView) : Type 0 where
-  pub along : IsAlong p named (moments_by course p named limit m) k before after b
-  pub first : NotBefore (halts_by course p named limit m) k
+  pub along : IsAlong p named (moments_by route p named limit m) k before after b
+  pub first : NotBefore (halts_by route p named limit m) k
 
 -- nothing yet
-pub goes_start : (course : Course) (p : Program) (named : ℕ → Bool) (m : Moment) (k : ℕ) (seen : Option (List Glance))
+pub goes_start : (route : Route) (p : Program) (named : ℕ → Bool) (m : Moment) (k : ℕ) (seen : Option (List Glance))
     (b : BoardView) → k ≡ 0 → IsAt p named m b →
-    Goes course p named b.limit m k seen seen b
+    Goes route p named b.limit m k seen seen b
 unfolding moment_along glances_along
-goes_start course p named m k seen b none at =
-    subst (λ (n : ℕ). Goes course p named b.limit m n seen seen b) (sym none) (record {
+goes_start route p named m k seen b none at =
+    subst (λ (n : ℕ). Goes route p named b.limit m n seen seen b) (sym none) (record {
       along = record { at = at; saw = saw_none seen };
       first = λ j h. absurd (omega (arith, h));
     })
 
 -- whether it stops is seen
-pub stops_there : (course : Course) (p : Program) (named : ℕ → Bool) (limit now : ℕ) (m : Moment) (made k : ℕ)
+pub stops_there : (route : Route) (p : Program) (named : ℕ → Bool) (limit now : ℕ) (m : Moment) (made k : ℕ)
     (stops : Bool) → made ≡ k → now ≡ limit →
-    stops ≡ stops_by course p now made (moments_by course p named limit m k) →
-    halts_by course p named limit m k ≡ stops
-stops_there course p named limit now m made k stops place same says =
-    sym (says ∙ ap₂ (λ (n j : ℕ). stops_by course p n j (moments_by course p named limit m k)) same place)
+    stops ≡ stops_by route p now made (moments_by route p named limit m k) →
+    halts_by route p named limit m k ≡ stops
+stops_there route p named limit now m made k stops place same says =
+    sym (says ∙ ap₂ (λ (n j : ℕ). stops_by route p n j (moments_by route p named limit m k)) same place)
 
 -- and one more
-pub goes_step : (course : Course) (p : Program) (named : ℕ → Bool) (limit : ℕ) (m : Moment) (k next : ℕ)
+pub goes_step : (route : Route) (p : Program) (named : ℕ → Bool) (limit : ℕ) (m : Moment) (k next : ℕ)
     (before here after : Option (List Glance)) (letter : Letter) (b c : BoardView) → next ≡ k + 1 → b.limit ≡ limit →
-    letter ≡ letters_by course k →
-    Goes course p named limit m k before here b → halts_by course p named limit m k ≡ false →
-    IsStep p named letter (moments_by course p named limit m k) here after b c →
-    Goes course p named limit m next before after c
+    letter ≡ letters_by route k →
+    Goes route p named limit m k before here b → halts_by route p named limit m k ≡ false →
+    IsStep p named letter (moments_by route p named limit m k) here after b c →
+    Goes route p named limit m next before after c
 unfolding moment_along glances_along
-goes_step course p named limit m k next before here after letter b c one same is goes on step =
-    let last : Moment = moments_by course p named limit m k in
-    let moved : after_letter p named b.limit letter last ≡ after_letter p named limit (letters_by course k) last =
+goes_step route p named limit m k next before here after letter b c one same is goes on step =
+    let last : Moment = moments_by route p named limit m k in
+    let moved : after_letter p named b.limit letter last ≡ after_letter p named limit (letters_by route k) last =
     ap₂ (λ (n : ℕ) (x : Letter). after_letter p named n x last) same is in
-    subst (λ (n : ℕ). Goes course p named limit m n before after c) (sym (one ∙ add-one k)) (record {
+    subst (λ (n : ℕ). Goes route p named limit m n before after c) (sym (one ∙ add-one k)) (record {
       along = record {
         at = subst (λ (x : Moment). IsAt p named x c) moved step.at;
         saw =
-            saw_then before here after (glances_along p (moments_by course p named limit m) k)
-            (glance_at p (after_letter p named limit (letters_by course k) last) ∷ []) goes.along.saw
+            saw_then before here after (glances_along p (moments_by route p named limit m) k)
+            (glance_at p (after_letter p named limit (letters_by route k) last) ∷ []) goes.along.saw
             (subst (λ (x : Moment). Saw here after (glance_at p x ∷ [])) moved step.saw);
       };
-      first = not_yet (halts_by course p named limit m) k goes.first on;
+      first = not_yet (halts_by route p named limit m) k goes.first on;
     })
 
 -- along the letters of a run from the first on

@@ -2,4 +2,4 @@
 pub mod Turns
 pub mod NoInstruction
 pub mod Briefly
-pub mod Courses
+pub mod Routes

@@ -15,7 +15,7 @@ mod context;
 
 // along the letters of a run
 mod brief;
-mod course;
+mod route;
 mod told;
 mod until;
 mod walk;

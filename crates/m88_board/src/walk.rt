@@ -17,7 +17,7 @@ ghost use Rattle.m88_board.specs.Walks.{IsBounded, is_enough, moments_from, stop
 
 use crate::board::Board;
 use crate::brief::Brief;
-use crate::course::Course;
+use crate::route::Route;
 use crate::told::Told;
 use crate::until::Until;
 use crate::watch::Watch;
@@ -198,12 +198,12 @@ impl<'a> Walk<'a> {
             self.old.schedule.now self.old.taken m) events)) }
     {
         let before = self.board.events();
-        let course = Course::Run {
+        let route = Route::Run {
             schedule: self.schedule,
             taken: self.taken,
             until,
         };
-        let went = self.board.follow(course, watch);
+        let went = self.board.follow(route, watch);
 
         // Each event took a letter, also where memory ran out behind it.
         self.taken += (self.board.events() - before) as usize;

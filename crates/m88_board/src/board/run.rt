@@ -1,4 +1,4 @@
-//! Whole runs, and draining.
+//! Whole runs, draining, and the loop over the events of both.
 
 ghost use Rattle.std.specs.Prelude.{ℕ, Bool, [], ◌∷◌, ◌↔◌, ◌≡◌, ◌<◌, ◌≤◌, ◌+◌, ◌-◌, ◌*◌, true, length, IfOk, OnErr, OnOk};
 ghost use Rattle.m88_event.specs.Run.{IsDrain, IsDraining, IsFirst, IsOutcome, IsRun, IsRunning, NotBefore, answered_after, moment_after, outcome_at, outcome_by};
@@ -16,17 +16,17 @@ ghost use Rattle.m88_mem.specs.DataBus.{image_bus};
 ghost use Rattle.m88_board.specs.Board.{local_of};
 ghost use Rattle.m88_board.specs.Glances.{Saw, glances_along};
 ghost use Rattle.m88_board.specs.Inside.Briefly.{happened_of};
-ghost use Rattle.m88_board.specs.Inside.Courses.{CanBeCounted, IsBoundedBy, halts_by, moments_by};
+ghost use Rattle.m88_board.specs.Inside.Routes.{CanBeCounted, IsBoundedBy, halts_by, moments_by};
 ghost use Rattle.m88_board.specs.Kept.{IsKept, most_events};
 ghost use Rattle.m88_board.specs.Moves.{IsAlong, IsAt, IsSameRun, IsStep, IsUnmoved};
 ghost use Rattle.m88_board.specs.Shown.{IsSettled};
 ghost use Rattle.m88_board.specs.Told.{IsTold, MakesWordAccesses};
 ghost use Rattle.m88_board.specs.Walks.{IsNoHeavier};
-ghost use Rattle.m88_board.specs.declared.course.Course.{Course as CourseValue};
+ghost use Rattle.m88_board.specs.declared.route.Route.{Route as RouteValue};
 
 use super::Board;
 use crate::brief::Brief;
-use crate::course::Course;
+use crate::route::Route;
 use crate::told::Told;
 use crate::until::Until;
 use crate::walk::Walk;
@@ -91,38 +91,38 @@ impl Board {
             × IsAlong p named (answered_after p named self.old.limit m) events
             (W.seen watch.old) (W.seen watch.new) self.new) }
     {
-        self.follow(Course::Answers, watch)
+        self.follow(Route::Answers, watch)
     }
 
-    /// Makes the events of a course until it stops. The board is shown to the watch after each. Where memory runs
+    /// Makes the events of a route until it stops. The board is shown to the watch after each. Where memory runs
     /// out, it stands after whole events.
-    // Inlined, so that each caller has the loop of its own course.
+    // Inlined, so that each caller has the loop of its own route.
     #[inline(always)]
-    #[tactic(auto, using(crate::proofs::Courses::next_counted, crate::proofs::Courses::bounded_still))]
-    pub(crate) fn follow<W: Watch>(&mut self, course: Course, watch: &mut W) -> Result<(), NoMemory>
-        requires { CanBeCounted course self.old }
+    #[tactic(auto, using(crate::proofs::Routes::next_counted, crate::proofs::Routes::bounded_still))]
+    pub(crate) fn follow<W: Watch>(&mut self, route: Route, watch: &mut W) -> Result<(), NoMemory>
+        requires { CanBeCounted route self.old }
         ensures ok { OnOk result ((p : Program) (named : ℕ → Bool) (m : Moment) → IsProgram p
             → IsAt p named m self.old
-            → (events : ℕ) × IsFirst (halts_by course.entry p named self.old.limit m) events
-            × IsAlong p named (moments_by course.entry p named self.old.limit m) events
+            → (events : ℕ) × IsFirst (halts_by route.entry p named self.old.limit m) events
+            × IsAlong p named (moments_by route.entry p named self.old.limit m) events
             (W.seen watch.old) (W.seen watch.new) self.new
             × (self.new.events ≡ self.old.events + events)) }
-        ensures answered { course.entry ≡ CourseValue.Answers
+        ensures answered { route.entry ≡ RouteValue.Answers
             → OnOk result (self.new.pending ≡ []) }
         ensures counted { self.old.events ≤ self.new.events }
         ensures kept { OnOk result (IsKept self.new) }
-        ensures bounded { IsBoundedBy course.entry self.old self.new }
+        ensures bounded { IsBoundedBy route.entry self.old self.new }
         ensures same { IsSameRun self.old self.new }
         ensures err { OnErr result ((p : Program) (named : ℕ → Bool) (m : Moment) → IsProgram p
             → IsAt p named m self.old
-            → (events : ℕ) × NotBefore (halts_by course.entry p named self.old.limit m) events
-            × IsAlong p named (moments_by course.entry p named self.old.limit m) events
+            → (events : ℕ) × NotBefore (halts_by route.entry p named self.old.limit m) events
+            × IsAlong p named (moments_by route.entry p named self.old.limit m) events
             (W.seen watch.old) (W.seen watch.new) self.new) }
     {
-        // Every course ends: what bounds it bounds the events so far.
+        // Every route ends: what bounds it bounds the events so far.
         let first = self.events;
         let mut told = Told::nothing();
-        while let Some(letter) = course.next(self, self.events - first) {
+        while let Some(letter) = route.next(self, self.events - first) {
             self.step(letter, watch, &mut told)?;
         }
         Ok(())

@@ -1,4 +1,4 @@
--- A course of letters `r`, which stops with nothing pending.
+-- A route of letters `r`, which stops with nothing pending.
 use Rattle.std.proofs.Common.{refl}
 use Rattle.std.proofs.lemmas.Result.{on_ok_weaker}
 use Rattle.m88_event.proofs.Laws.{answered_issues_none}

@@ -1,12 +1,12 @@
--- One event of the course after the other, until it stops.
+-- One event of the route after the other, until it stops.
 use Rattle.std.proofs.Common.{arith, refl, ap, ap₂, subst, ◌∙◌, ◌-◌, ◌≡◌, ℕ}
 use Rattle.std.proofs.lemmas.Result.{err_from_is_err_and}
 use Rattle.m88_event.specs.Timeline.{Moment}
-use Rattle.m88_board.proofs.Courses.{bounded_at_first, bounded_behind}
+use Rattle.m88_board.proofs.Routes.{bounded_at_first, bounded_behind}
 use Rattle.m88_board.proofs.Still.{same_then}
 use Rattle.m88_board.proofs.Walking.{goes_start, goes_step, still_at, stops_there}
 use Rattle.m88_board.specs.Board.{BoardView}
-use Rattle.m88_board.specs.Inside.Courses.{letters_by, moments_by}
+use Rattle.m88_board.specs.Inside.Routes.{letters_by, moments_by}
 use Rattle.m88_board.specs.Kept.{IsKept}
 use Rattle.m88_board.proofs.board.Board.follow.Goals as goal
 
@@ -16,9 +16,9 @@ loop-letter-init g c = record {
   first = ap (λ (b : BoardView). b.events) c.self.view_is;
   counted = omega arith;
   same = record { limit = refl; mxm = refl; named = refl; image = refl; begun = refl };
-  bounded = bounded_at_first c.args.course c.args.self.now c.requires;
+  bounded = bounded_at_first c.args.route c.args.self.now c.requires;
   goes = λ p named m is at.
-      goes_start c.args.course p named m (c.args.self.now.events - c.args.self.now.events)
+      goes_start c.args.route p named m (c.args.self.now.events - c.args.self.now.events)
       (g.W.Watch.seen c.args.watch.now) c.args.self.now (omega arith) at;
 }
 
@@ -35,21 +35,21 @@ loop-letter-preserved g c =
     let limit = c.args.self.now.limit in
     let made = c.loop-letter.self.events - c.args.self.now.events in
     let place = made_so inv.first (ap (λ (b : BoardView). b.events) c.self-in-loop-letter.view_is) in
-    let is = c.in-Some.ensures.letter ∙ ap (letters_by c.args.course) place in
+    let is = c.in-Some.ensures.letter ∙ ap (letters_by c.args.route) place in
     record {
       begun = inv.begun;
       first = inv.first;
       counted = omega (arith, counted, one);
       same = same_then c.args.self.now c.loop-letter.self c.step.new.self inv.same event.same;
       bounded =
-          bounded_behind c.args.course c.in-Some.letter c.args.self.now c.loop-letter.self c.step.new.self inv.bounded
+          bounded_behind c.args.route c.in-Some.letter c.args.self.now c.loop-letter.self c.step.new.self inv.bounded
           c.in-Some.ensures.going counted is event.kept event.same one event.moved event.shorter;
       goes = λ p named m is-program at.
           let goes = inv.goes p named m is-program at in
-          let here : Moment = moments_by c.args.course p named limit m made in
-          goes_step c.args.course p named limit m made (c.step.new.self.events - c.args.self.now.events) _ _ _
+          let here : Moment = moments_by c.args.route p named limit m made in
+          goes_step c.args.route p named limit m made (c.step.new.self.events - c.args.self.now.events) _ _ _
           c.in-Some.letter c.loop-letter.self c.step.new.self (omega (arith, counted, one)) inv.same.limit is goes
-          (stops_there c.args.course p named limit c.loop-letter.self.limit m _ made _ place inv.same.limit
+          (stops_there c.args.route p named limit c.loop-letter.self.limit m _ made _ place inv.same.limit
           (c.in-Some.ensures.moment p named here goes.along.at))
           (event.ok p named here goes.along.at);
     }
@@ -63,7 +63,7 @@ returns-in_err-step-clause-err g c =
       made,
       goes.first,
       record {
-        at = still_at p named (moments_by c.args.course p named c.args.self.now.limit m made) c.loop-letter.self
+        at = still_at p named (moments_by c.args.route p named c.args.self.now.limit m made) c.loop-letter.self
             c.step.new.self c.in_err-step.ensures.err goes.along.at;
         saw = rw c.in_err-step.ensures.unseen goes.along.saw;
       },
@@ -79,9 +79,9 @@ returns-clause-ok g c = λ p named m is at.
       made,
       record {
         here =
-            stops_there c.args.course p named limit c.loop-letter.self.limit m _ made _
+            stops_there c.args.route p named limit c.loop-letter.self.limit m _ made _
             (made_so inv.first (ap (λ (b : BoardView). b.events) c.self-in-loop-letter.view_is)) inv.same.limit
-            (c.in_default.ensures.moment p named (moments_by c.args.course p named limit m made) goes.along.at);
+            (c.in_default.ensures.moment p named (moments_by c.args.route p named limit m made) goes.along.at);
         first = goes.first;
       },
       goes.along,

@@ -1,9 +1,9 @@
--- Some events of the course were made, and it stopped behind none but the last.
+-- Some events of the route were made, and it stopped behind none but the last.
 use Rattle.std.proofs.Common.{ℕ, Bool, ◌≡◌, ◌≤◌, ◌-◌}
 use Rattle.m88_event.specs.Timeline.{Moment}
 use Rattle.m88_isa.specs.Machine.{IsProgram, Program}
 use Rattle.m88_board.proofs.Walking.{Goes}
-use Rattle.m88_board.specs.Inside.Courses.{IsBoundedBy}
+use Rattle.m88_board.specs.Inside.Routes.{IsBoundedBy}
 use Rattle.m88_board.specs.Kept.{IsKept, most_events}
 use Rattle.m88_board.specs.Moves.{IsAt, IsSameRun}
 use Rattle.m88_board.proofs.board.Board.follow.Given as goal
@@ -14,9 +14,9 @@ invariant-loop-letter g l = record {
   first : l.first ≡ l.initial.self.events;
   counted : l.initial.self.events ≤ l.self.events;
   same : IsSameRun l.initial.self l.self;
-  bounded : IsBoundedBy l.course l.initial.self l.self;
+  bounded : IsBoundedBy l.route l.initial.self l.self;
   goes : (p : Program) (named : ℕ → Bool) (m : Moment) → IsProgram p → IsAt p named m l.initial.self
-      → Goes l.course p named l.initial.self.limit m (l.self.events - l.initial.self.events)
+      → Goes l.route p named l.initial.self.limit m (l.self.events - l.initial.self.events)
       (g.W.Watch.seen l.initial.watch) (g.W.Watch.seen l.watch) l.self;
 }
 

@@ -1,4 +1,4 @@
--- The course of the run's letters: each event took one.
+-- The route of the run's letters: each event took one.
 use Rattle.std.proofs.Common.{arith}
 use Rattle.std.proofs.lemmas.Result.{on_ok_weaker}
 use Rattle.m88_board.proofs.walk.Walk.go_until.Goals as goal

@@ -1,7 +1,7 @@
 -- Answers stop where nothing is pending.
 use Rattle.std.proofs.Common.{ap, not, sym, ◌∙◌}
 use Rattle.m88_board.proofs.Walking.{drained_by}
-use Rattle.m88_board.proofs.course.Course.next.Goals as goal
+use Rattle.m88_board.proofs.route.Route.next.Goals as goal
 
 pub returns-then-is_pending-clause-moment : goal.returns-then-is_pending-clause-moment
 returns-then-is_pending-clause-moment c = λ p named m at.

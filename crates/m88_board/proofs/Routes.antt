@@ -1,4 +1,4 @@
--- What bounds a course goes on bounding it.
+-- What bounds a route goes on bounding it.
 use Rattle.std.specs.Prelude.{true, false, not, List, [], ◌∷◌, ◌≡◌, ◌<◌, ◌≤◌, ◌+◌, ◌-◌, length}
 use Rattle.std.proofs.Common.{arith, refl, ap, subst, sym, ◌∙◌}
 use Rattle.m88_base.specs.Image.{IsImage}
@@ -12,12 +12,12 @@ use Rattle.m88_isa.specs.declared.planned.Access.{Access}
 use Rattle.m88_board.proofs.Choosing.{some_count}
 use Rattle.m88_board.proofs.Weighing.{answered_no_heavier, bounded_next, bounded_unmoved, lighter_next, no_heavier_same, no_heavier_then, unmoved_no_heavier}
 use Rattle.m88_board.specs.Board.{BoardView, local_of}
-use Rattle.m88_board.specs.Inside.Courses.{CanBeCounted, IsBoundedBy, has_to_rest, letters_by}
+use Rattle.m88_board.specs.Inside.Routes.{CanBeCounted, IsBoundedBy, has_to_rest, letters_by}
 use Rattle.m88_board.specs.Kept.{IsKept, most_events}
 use Rattle.m88_board.specs.Moves.{IsSameRun, IsUnmoved}
 use Rattle.m88_board.specs.Walks.{IsBounded}
-use Rattle.m88_board.specs.declared.course.Course.{Course}
-use Rattle.m88_board.specs.declared.course.Course.TheVariants.{Run, Answers}
+use Rattle.m88_board.specs.declared.route.Route.{Route}
+use Rattle.m88_board.specs.declared.route.Route.TheVariants.{Run, Answers}
 
 -- something is pending where answers go on
 some_left : (xs : List Access) → not (is_pending xs) ≡ false → is_pending xs ≡ true
@@ -25,15 +25,15 @@ some_left [] h = absurd cc
 some_left (x ∷ xs) h = refl
 
 -- before its first event
-pub bounded_at_first : (course : Course) (b : BoardView) → CanBeCounted course b → IsBoundedBy course b b
+pub bounded_at_first : (route : Route) (b : BoardView) → CanBeCounted route b → IsBoundedBy route b b
 bounded_at_first (Run schedule taken until) b room =
     let place : taken ≡ taken + (b.events - b.events) = omega arith in
     subst (λ n. IsBounded schedule.now n b) place room
 bounded_at_first Answers b room = record { bounded = omega arith; lighter = no_heavier_same b }
 
 -- one event more is counted
-pub next_counted : (course : Course) (first old : BoardView) → CanBeCounted course first → IsKept first →
-    IsBoundedBy course first old → has_to_rest course old ≡ false →
+pub next_counted : (route : Route) (first old : BoardView) → CanBeCounted route first → IsKept first →
+    IsBoundedBy route first old → has_to_rest route old ≡ false →
     old.events < most_events
 next_counted (Run schedule taken until) first old room kept bounded going =
     let small = bounded.small in
@@ -47,13 +47,13 @@ next_counted Answers first old room kept bounded going =
     omega (arith, room, some, few, most)
 
 -- behind an event of its next letter
-pub bounded_behind : (course : Course) (letter : Letter) (first old new : BoardView) → IsBoundedBy course first old →
-    has_to_rest course old ≡ false → first.events ≤ old.events →
-    letter ≡ letters_by course (old.events - first.events) →
+pub bounded_behind : (route : Route) (letter : Letter) (first old new : BoardView) → IsBoundedBy route first old →
+    has_to_rest route old ≡ false → first.events ≤ old.events →
+    letter ≡ letters_by route (old.events - first.events) →
     IsKept new → IsSameRun old new → new.events ≡ old.events + 1 →
     ((p : Program) → IsProgramOf old.memory.image p → local_of new ≡ move p old.limit letter (local_of old)) →
     (letter ≡ Answer → length new.pending ≤ length old.pending - 1) →
-    IsBoundedBy course first new
+    IsBoundedBy route first new
 bounded_behind (Run schedule taken until) letter first old new bounded going begun is kept same counted moved shorter =
     let here = taken + (old.events - first.events) in
     let place : here + 1 ≡ taken + (new.events - first.events) = omega (arith, begun, counted) in
@@ -73,8 +73,8 @@ bounded_behind Answers letter first old new bounded going begun is kept same cou
     }
 
 -- no event: memory ran out
-pub bounded_still : (course : Course) (first old new : BoardView) → IsBoundedBy course first old → IsUnmoved old new →
-    IsBoundedBy course first new
+pub bounded_still : (route : Route) (first old new : BoardView) → IsBoundedBy route first old → IsUnmoved old new →
+    IsBoundedBy route first new
 bounded_still (Run schedule taken until) first old new bounded still =
     let here = taken + (old.events - first.events) in
     subst (λ n. IsBounded schedule.now n new)

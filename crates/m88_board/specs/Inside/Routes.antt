@@ -1,4 +1,4 @@
--- Courses: the letters along which a board goes, when it stops, and what bounds it.
+-- Routes: the letters along which a board goes, when it stops, and what bounds it.
 use Rattle.std.specs.Prelude.{ℕ, Bool, not, ◌≤◌, ◌<◌, ◌+◌, ◌-◌, ◌||◌, length}
 use Rattle.m88_event.specs.Local.{is_over_by}
 use Rattle.m88_event.specs.Run.{letters_from, moment_along}
@@ -10,39 +10,39 @@ use Rattle.m88_isa.specs.Machine.{Program}
 use Rattle.m88_board.specs.Board.{BoardView, local_of}
 use Rattle.m88_board.specs.Kept.{most_events}
 use Rattle.m88_board.specs.Walks.{IsBounded, IsNoHeavier, is_enough}
-use Rattle.m88_board.specs.declared.course.Course.{Course}
-use Rattle.m88_board.specs.declared.course.Course.TheVariants.{Run, Answers}
+use Rattle.m88_board.specs.declared.route.Route.{Route}
+use Rattle.m88_board.specs.declared.route.Route.TheVariants.{Run, Answers}
 
--- the letters that were taken before its first
-abbrev pub taken_by : Course → ℕ
-taken_by (Run schedule taken until) = taken
-taken_by Answers = 0
+-- how many letters of the run were taken before its first event
+abbrev pub taken_before : Route → ℕ
+taken_before (Run schedule taken until) = taken
+taken_before Answers = 0
 
 -- its letters
-abbrev pub letters_by : Course → ℕ → Letter
+abbrev pub letters_by : Route → ℕ → Letter
 letters_by (Run schedule taken until) = letters_from schedule.now taken
 letters_by Answers = λ k. Answer
 
 -- it stops at a moment, after so many events
-abbrev pub stops_by : Course → Program → ℕ → ℕ → Moment → Bool
+abbrev pub stops_by : Route → Program → ℕ → ℕ → Moment → Bool
 stops_by (Run schedule taken until) = λ p limit made m. is_enough until p made m || is_over p limit m
 stops_by Answers = λ p limit made m. is_drained p m
 
 -- its moments, from one on
-abbrev pub moments_by : Course → Program → (ℕ → Bool) → ℕ → Moment → ℕ → Moment
-moments_by course p named limit = moment_along p named limit (letters_by course)
+abbrev pub moments_by : Route → Program → (ℕ → Bool) → ℕ → Moment → ℕ → Moment
+moments_by route p named limit = moment_along p named limit (letters_by route)
 
 -- whether it stops after so many events
-abbrev pub halts_by : Course → Program → (ℕ → Bool) → ℕ → Moment → ℕ → Bool
-halts_by course p named limit m k = stops_by course p limit k (moments_by course p named limit m k)
+abbrev pub halts_by : Route → Program → (ℕ → Bool) → ℕ → Moment → ℕ → Bool
+halts_by route p named limit m k = stops_by route p limit k (moments_by route p named limit m k)
 
 -- by what is seen of the board nothing is left to do
-abbrev pub has_to_rest : Course → BoardView → Bool
+abbrev pub has_to_rest : Route → BoardView → Bool
 has_to_rest (Run schedule taken until) = λ b. is_over_by b.limit (local_of b)
 has_to_rest Answers = λ b. not (is_pending b.pending)
 
--- there is room for its events: the walk is bounded, or as many as can be pending are counted
-abbrev pub CanBeCounted : Course → BoardView → Type 0
+-- its events can be counted: the walk is bounded, or as many more are counted as transactions can be pending
+abbrev pub CanBeCounted : Route → BoardView → Type 0
 CanBeCounted (Run schedule taken until) = λ b. IsBounded schedule.now taken b
 CanBeCounted Answers = λ b. b.events + most_pending < most_events
 
@@ -52,7 +52,7 @@ pub record AnswersBeside (old new : BoardView) : Type 0 where
   pub bounded : new.events + length new.pending ≤ old.events + length old.pending
   pub lighter : IsNoHeavier old new
 
--- what bounds it behind some of its events, each of which took a letter of the run
-abbrev pub IsBoundedBy : Course → BoardView → BoardView → Type 0
+-- what bounds it behind some of its events; each event of a run took a letter
+abbrev pub IsBoundedBy : Route → BoardView → BoardView → Type 0
 IsBoundedBy (Run schedule taken until) = λ old new. IsBounded schedule.now (taken + (new.events - old.events)) new
 IsBoundedBy Answers = AnswersBeside
