@@ -52,13 +52,13 @@ fn image(alloc: Global, source: &[u8]) -> Option<Image>
 fn told(alloc: Global, source: &[u8]) -> Result<String, AllocError>
     requires { length source.now < 2 ^ 31 }
 {
-    match unit(alloc, source) {
-        None => format!(in alloc; "no unit"),
-        Some(unit) => match image_of(alloc, unit) {
-            Ok(_) => format!(in alloc; "an image"),
-            Err(fault) => format!(in alloc; "{fault}"),
-        },
-    }
+    let Some(unit) = unit(alloc, source) else {
+        return format!(in alloc; "no unit");
+    };
+    let Err(fault) = image_of(alloc, unit) else {
+        return format!(in alloc; "an image");
+    };
+    format!(in alloc; "{fault}")
 }
 
 /// The big-endian word at an address, where there is one.
