@@ -1,17 +1,19 @@
 -- The runs ahead of each block, counted, and the blocks in which an index and an address are found by halving.
-use Rattle.std.proofs.Common.{◌≡◌, ℕ, zero, suc, ◌+◌, ◌-◌, ◌<◌, ◌≤◌, List, [], ◌∷◌, ◌++◌, true, false, length, get_or, set, take, drop, refl, sym, ap, ◌∙◌, ◌≢◌, arith, inl, inr, add-zero, length-append, length-drop, length-take}
-use Rattle.std.specs.Prelude.{leb, insert, All}
+use Rattle.std.proofs.Common.{◌≡◌, ℕ, zero, suc, ◌+◌, ◌-◌, ◌^◌, ◌<◌, ◌≤◌, List, [], ◌∷◌, ◌++◌, length, get_or, set, take, drop, refl, sym, ap, ◌∙◌, ◌≢◌, arith, inl, inr, add-zero, length-append, length-drop, length-set, length-take}
+use Rattle.std.specs.Prelude.{insert, remove, All}
+use Rattle.std.proofs.lemmas.List.Edits.{insert_end, length-insert, length-remove}
 use Rattle.std.proofs.lemmas.List.Elements.{All-append, All-cons}
-use Rattle.std.specs.List.Sorted.{IsPartitionPoint, IsNonDecreasingBy}
+use Rattle.std.specs.List.Sorted.{IsNonDecreasingBy}
 use Rattle.std.proofs.lemmas.Bool.{leb-true, leb-false}
 use Rattle.std.proofs.lemmas.Bool.Decides.{leb_tells}
-use Rattle.std.proofs.lemmas.List.{take-append-drop, take_all, get_or_default, get_or-drop, get_or-take, get_or-append_right, get_or-set_same, get_or-set_other}
+use Rattle.std.proofs.lemmas.List.{take-append-drop, take-append-le, take-take, take_all, get_or_default, get_or-drop, get_or-take, get_or-append_right, get_or-set_same, get_or-set_other}
 use Rattle.std.proofs.Math.ListN.{get_or-append}
+use Rattle.std.proofs.Math.Seq.{take-append_seam, take-set-le}
 use Rattle.m88_base.specs.Placed.{Placed, AreApart}
 use Rattle.m88_base.proofs.Cuts.{starts_rise, apart_from_first, apart_drop}
-use Rattle.m88_base.proofs.InBlocks.{all_runs-append, around, block_length, get_at, place_here, length-take_runs, within_all, below_in, above_in}
-use Rattle.m88_base.specs.Inside.Placing.{IsLastBy}
-use Rattle.m88_base.specs.Inside.Blocks.{all_runs, first_start, AreNonempty, CountsTo, IsCounted, IsPlaceInBlocks}
+use Rattle.m88_base.proofs.InBlocks.{all_runs-append, around, block_length, get_at, halved, place_here, length-take_runs, within_all, below_in, above_in}
+use Rattle.m88_base.specs.Inside.Placing.{IsCut, IsCutBy, IsLastBy}
+use Rattle.m88_base.specs.Inside.Blocks.{all_runs, first_start, AreNonempty, CountsTo, IsCounted, IsCountedUpTo, IsPlaceInBlocks, IsRunInBlocks}
 
 -- no fewer runs are ahead of a later block
 pub ahead_grows : (bs : List (List Placed)) (i j : ℕ) → i ≤ j → length (all_runs (take i bs)) ≤ length (all_runs (take j bs))
@@ -32,32 +34,28 @@ counts_rise starts bs c = λ i j d l m.
     let high : get_or starts j d ≡ length (all_runs (take j bs)) = get_or_default starts j d 0 m ∙ c.each j there in
     omega (arith, low, high, ahead_grows bs i j l)
 
--- a block begins at or below an index that some run has
-pub some_passed : (starts : List ℕ) (bs : List (List Placed)) (i n : ℕ) → IsCounted starts bs → i < length (all_runs bs)
-    → IsPartitionPoint (λ start. leb start i ≡ true) (λ start. leb start i ≡ false) starts n → 0 < n
-some_passed starts [] i zero c l p = absurd (omega arith)
-some_passed starts (x ∷ bs) i zero c l p =
-    absurd (omega (arith, leb-false _ _ (p.1 0 0 (omega arith) (omega (arith, c.long))), c.each 0 (omega arith)))
-some_passed starts bs i (suc n) c l p = omega arith
+pub counted_at : (starts : List ℕ) (bs : List (List Placed)) (b n : ℕ) → IsCounted starts bs → b < length bs → n ≡ get_or starts b n
+    → n ≡ length (all_runs (take b bs))
+counted_at starts bs b n c l is = is ∙ (get_or_default starts b n 0 (omega (arith, l, c.long)) ∙ c.each b l)
 
 -- the last block that begins at or below an index has its run
-pub place_at : (starts : List ℕ) (bs : List (List Placed)) (i n b : ℕ) → IsCounted starts bs → i < length (all_runs bs)
-    → IsPartitionPoint (λ start. leb start i ≡ true) (λ start. leb start i ≡ false) starts n → n ≡ b + 1 → n ≤ length starts
-    → (get_or starts b 0 ≤ i) × (i - get_or starts b 0 < length (get_or bs b [])) × IsPlaceInBlocks bs b (i - get_or starts b 0) i
-place_at starts bs i n b c l p e bound =
-    let within : b < length bs = omega (arith, c.long) in
-    let here : get_or starts b 0 ≡ length (all_runs (take b bs)) = c.each b within in
-    let low : get_or starts b 0 ≤ i = leb-true _ _ (p.0 b 0 (omega arith) (omega arith)) in
+pub place_at : (starts : List ℕ) (bs : List (List Placed)) (i n start : ℕ) → IsCounted starts bs → i < length (all_runs bs)
+    → IsCutBy (λ start. start) starts i n → 0 < n → start ≡ get_or starts (n - 1) start → (start ≤ i) × IsRunInBlocks bs (n - 1) (i - start) i
+place_at starts bs i n start c l p some is =
+    let b : ℕ = n - 1 in
+    let within : b < length bs = omega (arith, c.long, p.bound, some) in
+    let here : start ≡ length (all_runs (take b bs)) = counted_at starts bs b start c within is in
+    let low : start ≤ i = rw (← is) at (leb-true _ _ (p.parted.0 b start (omega (arith, p.bound, some)) (omega (arith, some)))) in
     let block : List Placed = get_or bs b [] in
     let more : length (all_runs (take (suc b) bs)) ≡ length (all_runs (take b bs)) + length block =
     length-take_runs bs b block within (get_or_default bs b [] block within) in
     let high : i < length (all_runs (take (suc b) bs)) =
     elim (leb_tells (length bs) (suc b)) [
       | inl all ↦ rw (take_all (suc b) bs all.1) l
-      | inr some ↦ omega (arith, leb-false _ _ (p.1 (suc b) 0 (omega arith) (omega (arith, some.1, c.long))), c.each (suc b) some.1)
+      | inr more ↦ omega (arith, leb-false _ _ (p.parted.1 (suc b) 0 (omega (arith, some)) (omega (arith, more.1, c.long))), c.each (suc b) more.1)
     ] in
-    let inside : i - get_or starts b 0 < length block = omega (arith, here, low, more, high) in
-    (low, inside, record { within = within; room = omega (arith, inside); sum = omega (arith, here, low) })
+    let inside : i - start < length block = omega (arith, here, low, more, high) in
+    (low, record { place = record { within = within; room = omega (arith, inside); sum = omega (arith, here, low) }; there = inside })
 
 -- the first run of a block
 pub begins_block : (bs : List (List Placed)) (b : ℕ) (block : List Placed) (d : Placed) → b < length bs → block ≡ get_or bs b block → 0 < length block
@@ -154,6 +152,40 @@ counts_more n starts bs l c = λ k h. elim (leb_tells n k) [
       get_or-set_other starts n k (length (all_runs (take n bs))) 0 other ∙ c k below.1
 ]
 
+-- where a block is edited, those ahead of it and it itself stay counted
+pub counted_edited : (starts : List ℕ) (bs : List (List Placed)) (b : ℕ) (block : List Placed) → IsCounted starts bs → b < length bs
+    → length (all_runs (set bs b block)) < 2 ^ 64 → IsCountedUpTo (b + 1) starts (set bs b block)
+counted_edited starts bs b block c l room = record {
+  long = rw length-set c.long;
+  within = rw length-set (omega (arith, l));
+  counted = λ k h. rw (take-set-le k bs b block (omega (arith, h))) (c.each k (omega (arith, h, l)));
+  room = room;
+}
+
+-- one more block
+pub counts_begun : (starts : List ℕ) (bs : List (List Placed)) (block : List Placed) → IsCounted starts bs
+    → IsCounted (starts ++ length (all_runs bs) ∷ []) (bs ++ block ∷ [])
+counts_begun starts bs block c =
+    let n : ℕ = length (all_runs bs) in
+    record {
+      long = omega (arith, length-append starts (n ∷ []), length-append bs (block ∷ []), c.long);
+      each = λ k h. elim (leb_tells (length bs) k) [
+        | inl last ↦
+            let e : k ≡ length bs = omega (arith, last.1, h, length-append bs (block ∷ [])) in
+            let off : length bs - length starts ≡ 0 = omega (arith, c.long) in
+            rw (
+              e,
+              take-append-le (length bs) bs (block ∷ []) (omega arith),
+              take_all (length bs) bs (omega arith),
+              get_or-append_right starts (n ∷ []) (length starts) (length bs) 0 refl (omega (arith, c.long)),
+              off,
+            ) refl
+        | inr below ↦
+            rw (get_or-append starts (n ∷ []) 0 k (omega (arith, below.1, c.long)), take-append-le k bs (block ∷ []) (omega (arith, below.1)))
+            (c.each k below.1)
+      ];
+    }
+
 -- blocks of which one has other runs, as many as before
 pub counts_kept : (n : ℕ) (starts : List ℕ) (bs : List (List Placed)) (b : ℕ) (block : List Placed) → b < length bs → length block ≡ length (get_or bs b [])
     → CountsTo n starts bs → CountsTo n starts (set bs b block)
@@ -174,26 +206,120 @@ nonempty_with bs i block some nonempty =
     All-append (λ runs. 0 < length runs) (take i bs) (block ∷ drop i bs) (λ k d h. rw (get_or-take i bs k d (omega (arith, length-take i bs))) (nonempty k d (omega (arith, length-take i bs))))
     (All-cons (λ runs. 0 < length runs) block (drop i bs) some (λ k d h. rw get_or-drop (nonempty (i + k) d (omega (arith, length-drop i bs)))))
 
--- the last run of a block that begins at or below an address is the last of all, where the next block begins above it
-pub last_here : (bs : List (List Placed)) (b a : ℕ) (block : List Placed) (run : Placed) → b < length bs → block ≡ get_or bs b block
-    → AreNonempty bs → AreApart 0 (all_runs bs) → first_start block ≤ a → IsLastBy block a run
-    → ((d : List Placed) → suc b < length bs → a < first_start (get_or bs (suc b) d)) → IsLastBy (all_runs bs) a run
-last_here bs b a block run l is nonempty apart low last high =
-    let n : ℕ = length (all_runs (take b bs)) in
+pub above_all : (bs : List (List Placed)) (n a : ℕ) → AreNonempty bs → AreApart 0 (all_runs bs) → IsCutBy first_start bs a n → n ≡ 0 → AreApart (a + 1) (all_runs bs)
+above_all bs n a nonempty apart cut none =
+    above_blocks bs 0 a nonempty apart (λ d l. omega (arith, leb-false _ _ (cut.parted.1 0 d (omega (arith, none)) l)))
+
+-- no run begins anywhere where there is none
+pub none_at_all : (runs : List Placed) (a : ℕ) → length runs ≡ 0 → IsCut runs 0 a
+none_at_all [] a none = record { bound = omega arith; below = λ k d l. absurd (omega (arith, l)); above = tt }
+none_at_all (run ∷ runs) a none = absurd (omega (arith, none))
+
+-- where no block begins at or below an address, no run does
+pub none_here : (bs : List (List Placed)) (n a : ℕ) → AreNonempty bs → AreApart 0 (all_runs bs) → IsCutBy first_start bs a n → n ≡ 0 → IsCut (all_runs bs) 0 a
+none_here bs n a nonempty apart cut none = record {
+  bound = omega arith;
+  below = λ k d l. absurd (omega (arith, l));
+  above = above_all bs n a nonempty apart cut none;
+}
+
+-- the last block that begins at or below an address
+pub begun_block : (bs : List (List Placed)) (n a : ℕ) (block : List Placed) → IsCutBy first_start bs a n → 0 < n → block ≡ get_or bs (n - 1) block
+    → (n - 1 < length bs) × (first_start block ≤ a) × ((d : List Placed) → suc (n - 1) < length bs → a < first_start (get_or bs (suc (n - 1)) d))
+begun_block bs n a block cut some is = (
+  omega (arith, cut.bound, some),
+  rw (← is) at (leb-true _ _ (cut.parted.0 (n - 1) block (omega (arith, cut.bound, some)) (omega (arith, some)))),
+  λ d l. omega (arith, leb-false _ _ (cut.parted.1 (suc (n - 1)) d (omega (arith, some)) l)),
+)
+
+-- what is located in the last block that begins at or below an address is located in all
+pub located : (bs : List (List Placed)) (n k i a : ℕ) (block : List Placed) → AreNonempty bs → AreApart 0 (all_runs bs) → IsCutBy first_start bs a n → 0 < n
+    → block ≡ get_or bs (n - 1) block → i ≡ length (all_runs (take (n - 1) bs)) → IsCut block k a → IsCut (all_runs bs) (i + k) a
+located bs n k i a block nonempty apart cut some is e inner =
+    let begun = begun_block bs n a block cut some is in
+    let l : n - 1 < length bs = begun.0 in
+    let filled : 0 < length block = rw (← is) at (nonempty (n - 1) block l) in
+    record {
+      bound = omega (arith, e, inner.bound, within_all bs (n - 1) block l is);
+      below = below_in bs (n - 1) k i a block l is e inner.bound (front_below bs (n - 1) a block l is filled apart begun.1) inner.below;
+      above = above_here bs (n - 1) k i a block l is e inner.bound nonempty apart inner.above begun.2;
+    }
+
+-- the last run of that block that begins at or below the address is the last of all
+pub last_here : (bs : List (List Placed)) (n a : ℕ) (block : List Placed) (run : Placed) → AreNonempty bs → AreApart 0 (all_runs bs) → IsCutBy first_start bs a n
+    → 0 < n → block ≡ get_or bs (n - 1) block → IsLastBy block a run → IsLastBy (all_runs bs) a run
+last_here bs n a block run nonempty apart cut some is last =
+    let front : ℕ = length (all_runs (take (n - 1) bs)) in
     let k : ℕ = last.index - 1 in
+    let l : n - 1 < length bs = (begun_block bs n a block cut some is).0 in
     let inside : k < length block = omega (arith, last.some, last.cut.bound) in
-    let room : k < length (get_or bs b []) = rw (block_length bs b block l is) inside in
-    let place : IsPlaceInBlocks bs b k (n + last.index - 1) =
-    place_here bs b k (n + last.index - 1) block l is (omega (arith, last.some)) (omega (arith, inside)) in
+    let room : k < length (get_or bs (n - 1) []) = rw (block_length bs (n - 1) block l is) inside in
+    let place : IsPlaceInBlocks bs (n - 1) k (front + last.index - 1) =
+    place_here bs (n - 1) k (front + last.index - 1) block l is (omega (arith, last.some)) (omega (arith, inside)) in
     record {
       from = last.from;
-      index = n + last.index;
+      index = front + last.index;
       some = omega (arith, last.some);
-      cut = record {
-        bound = omega (arith, last.cut.bound, within_all bs b block l is);
-        below = below_in bs b last.index n a block l is refl last.cut.bound
-            (front_below bs b a block l is (omega (arith, inside)) apart low) last.cut.below;
-        above = above_here bs b last.index n a block l is refl last.cut.bound nonempty apart last.cut.above high;
-      };
-      is = get_at bs b k (n + last.index - 1) block run place room is last.is;
+      cut = located bs n last.index front a block nonempty apart cut some is refl last.cut;
+      is = get_at bs (n - 1) k (front + last.index - 1) block run (record { place = place; there = room }) is last.is;
     }
+
+-- a vector that holds the counts, written over in place
+pub counted_vec : (n : ℕ) (xs ys : List ℕ) (bs : List (List Placed)) → n ≡ length xs → IsCounted xs bs
+    → IsCounted (take n (xs ++ drop (length xs) ys)) bs
+counted_vec n xs ys bs full c = rw (full, take-append_seam xs (drop (length xs) ys)) c
+
+-- one more block behind the others
+pub nonempty_end : (bs : List (List Placed)) (block : List Placed) → 0 < length block → AreNonempty bs → AreNonempty (bs ++ block ∷ [])
+nonempty_end bs block some nonempty = rw (insert_end bs block) at (nonempty_with bs (length bs) block some nonempty)
+
+-- a block in two, where one more count stands behind the others
+pub counted_split : (starts : List ℕ) (bs : List (List Placed)) (b : ℕ) (lower upper : List Placed) → IsCounted starts bs → b < length bs
+    → lower ++ upper ≡ get_or bs b [] → length (all_runs bs) < 2 ^ 64 → IsCountedUpTo (b + 1) (starts ++ 0 ∷ []) (insert (set bs b lower) (suc b) upper)
+counted_split starts bs b lower upper c l whole room =
+    let same : length (set bs b lower) ≡ length bs = rw length-set refl in
+    let long : length (insert (set bs b lower) (suc b) upper) ≡ length bs + 1 =
+    omega (arith, same, length-insert (set bs b lower) (suc b) upper (omega (arith, same, l))) in
+    record {
+      long = omega (arith, length-append starts (0 ∷ []), long, c.long);
+      within = omega (arith, long, l);
+      counted = λ k h.
+          let front : take k (insert (set bs b lower) (suc b) upper) ≡ take k bs =
+          take-append-le k (take (suc b) (set bs b lower)) (upper ∷ drop (suc b) (set bs b lower)) (omega (arith, h, l, same, length-take (suc b) (set bs b lower)))
+          ∙ (take-take k (suc b) (set bs b lower) (omega (arith, h)) ∙ take-set-le k bs b lower (omega (arith, h))) in
+          rw (get_or-append starts (0 ∷ []) 0 k (omega (arith, h, l, c.long)), front) (c.each k (omega (arith, h, l)));
+      room = rw (halved bs b lower upper l whole) room;
+    }
+
+-- a block taken out, and the last count with it
+pub counted_without : (starts : List ℕ) (bs : List (List Placed)) (b n : ℕ) (block : List Placed) → IsCounted starts bs → b < length bs → n ≡ length starts
+    → length (all_runs (remove (set bs b block) b)) < 2 ^ 64 → IsCountedUpTo b (take (n - 1) starts) (remove (set bs b block) b)
+counted_without starts bs b n block c l e room =
+    let same : length (set bs b block) ≡ length bs = rw length-set refl in
+    let long : length (remove (set bs b block) b) + 1 ≡ length bs = omega (arith, same, length-remove (set bs b block) b (omega (arith, same, l))) in
+    record {
+      long = omega (arith, length-take (n - 1) starts, e, long, c.long);
+      within = omega (arith, long, l);
+      counted = λ k h.
+          let front : take k (remove (set bs b block) b) ≡ take k bs =
+          take-append-le k (take b (set bs b block)) (drop (suc b) (set bs b block)) (omega (arith, h, l, same, length-take b (set bs b block)))
+          ∙ (take-take k b (set bs b block) (omega (arith, h)) ∙ take-set-le k bs b block (omega (arith, h))) in
+          rw (get_or-take (n - 1) starts k 0 (omega (arith, h, l, e, c.long)), front) (c.each k (omega (arith, h, l)));
+      room = room;
+    }
+
+pub nonempty_without : (bs : List (List Placed)) (b : ℕ) (block : List Placed) → b < length bs → AreNonempty bs → AreNonempty (remove (set bs b block) b)
+nonempty_without [] b block l nonempty = absurd (omega (arith, l))
+nonempty_without (x ∷ bs) zero block l nonempty = λ k d h. nonempty (suc k) d (omega (arith, h))
+nonempty_without (x ∷ bs) (suc b) block l nonempty =
+    All-cons (λ runs. 0 < length runs) x (remove (set bs b block) b) (nonempty 0 [] (omega arith))
+    (nonempty_without bs b block (omega (arith, l)) (λ k d h. nonempty (suc k) d (omega (arith, h))))
+
+-- fewer blocks are counted
+pub counted_fewer : (starts : List ℕ) (bs : List (List Placed)) (b : ℕ) → IsCountedUpTo (b + 1) starts bs → IsCountedUpTo b starts bs
+counted_fewer starts bs b c = record {
+  long = c.long;
+  within = omega (arith, c.within);
+  counted = λ k h. c.counted k (omega (arith, h));
+  room = c.room;
+}

@@ -1,12 +1,12 @@
 -- Runs in ascending order, cut at an index: what is found in them, and where another run may begin.
-use Rattle.std.proofs.Common.{◌≡◌, ℕ, zero, suc, ◌+◌, ◌-◌, ◌<◌, ◌≤◌, List, [], ◌∷◌, ◌++◌, length, get_or, take, drop, refl, sym, arith, ◌∙◌, ap}
-use Rattle.std.specs.Prelude.{None, Some, IsSome, slice_get, All}
+use Rattle.std.proofs.Common.{◌≡◌, ℕ, zero, suc, ◌+◌, ◌-◌, ◌<◌, ◌≤◌, List, [], ◌∷◌, ◌++◌, length, get_or, take, drop, refl, sym, add-zero, arith, ◌∙◌, ap}
+use Rattle.std.specs.Prelude.{None, Some, IsSome, slice_get}
 use Rattle.std.proofs.Math.Seq.{drop-cons, take-suc}
 use Rattle.std.proofs.lemmas.Option.{slice_get-get_or}
-use Rattle.std.proofs.lemmas.List.{take-append-drop, get_or-take, length-drop, length-take}
+use Rattle.std.proofs.lemmas.List.{take-append-drop, get_or-drop, get_or-take, get_or_default, length-drop, length-take}
 use Rattle.m88_base.specs.Found.{IsFree, IsLeastTaken, IsPart}
 use Rattle.m88_base.specs.Placed.{Placed, byte_in, byte_among, AreApart}
-use Rattle.m88_base.specs.Inside.Placing.{IsLastBy, next_start}
+use Rattle.m88_base.specs.Inside.Placing.{EndsBy, IsLastBy, IsSought, StandsBetween, next_start}
 use Rattle.m88_base.proofs.Lookup.{option_or-none, byte_in_at, byte_among-append}
 use Rattle.m88_base.proofs.Apart.{apart_lower, next_start-append, apart_front, apart_back, none_below, none_above}
 
@@ -105,27 +105,30 @@ rest_by_last xs a run h last k few =
     rest_in_last xs last.index a run h last.some last.cut.bound last.is last.from last.cut.above k few
 
 -- an address in the last run that begins at or below it has a byte
-pub taken_in_last : (xs : List Placed) (i a n : ℕ) (d : Placed) → AreApart 0 xs → i ≤ length xs → All (λ run. run.at ≤ a) (take i xs)
-    → AreApart (a + 1) (drop i xs) → a + 1 < next_start 0 (take i xs) → 0 < n → IsLeastTaken (byte_among xs) a n a
-taken_in_last xs zero a n d h l s above reach some = absurd (omega arith)
-taken_in_last xs (suc i) a n d h l s above reach some =
+pub taken_in_last : (xs : List Placed) (i start a n : ℕ) → AreApart 0 xs → IsSought xs i start a n → a + 1 < start → IsLeastTaken (byte_among xs) a n a
+taken_in_last xs zero start a n h s reach = absurd (omega (arith, s.next))
+taken_in_last xs (suc i) start a n h s reach =
+    let d : Placed = record { at = 0; bytes = [] } in
     let e : suc i - 1 ≡ i = omega arith in
     let run : Placed = get_or xs i d in
-    let start : run.at ≤ a = rw (get_or-take (suc i) xs i d (omega arith)) at (s i d (simp length-take (omega arith))) in
-    let found = found_in_last xs (suc i) a d h (omega arith) l (rw e start) above in
-    let end : next_start 0 (take (suc i) xs) ≡ run.at + length run.bytes + 1 = rw e at (next_start-take xs (suc i) d (omega arith) l) in
-    ((omega arith, omega arith), rw (found, e) (some_within run.bytes (a - run.at) (omega (arith, end))), λ b p q. absurd (omega arith))
+    let l : suc i ≤ length xs = s.cut.bound in
+    let begin : run.at ≤ a = rw (get_or-take (suc i) xs i d (omega arith)) at (s.cut.below i d (simp length-take (omega arith))) in
+    let found = found_in_last xs (suc i) a d h (omega arith) l (rw e begin) s.cut.above in
+    let end : next_start 0 (take (suc i) xs) ≡ run.at + length run.bytes + 1 = rw e at (next_start-take xs (suc i) d (omega arith) l) in (
+      (omega arith, omega (arith, s.some)),
+      rw (found, e) (some_within run.bytes (a - run.at) (omega (arith, end, s.next))),
+      λ b p q. absurd (omega arith),
+    )
 
 -- where no run reaches the addresses, the first of the next run is the least that has a byte
-pub taken_in_next : (xs : List Placed) (i at n : ℕ) (d : Placed) → AreApart 0 xs → i < length xs → next_start 0 (take i xs) ≤ at + 1
-    → AreApart (at + 1) (drop i xs) → (get_or xs i d).at < at + n → IsLeastTaken (byte_among xs) at n (get_or xs i d).at
-taken_in_next xs i at n d h l below above reach =
-    let run : Placed = get_or xs i d in
+pub taken_in_next : (xs : List Placed) (i start at n : ℕ) (run : Placed) → AreApart 0 xs → IsSought xs i start at n → start ≤ at + 1 → i < length xs
+    → run ≡ get_or xs i run → run.at < at + n → IsLeastTaken (byte_among xs) at n run.at
+taken_in_next xs i start at n run h s below l is reach =
     let rest : List Placed = drop (suc i) xs in
-    let apart : AreApart (at + 1) (run ∷ rest) = rw (drop-cons xs i d l) at above in
+    let apart : AreApart (at + 1) (run ∷ rest) = rw (drop-cons xs i run l, ← is) at s.cut.above in
     let low : at + 1 ≤ run.at = apart.0 in
-    let nothing = λ (a : ℕ) (p : at ≤ a). none_above 0 (take i xs) a (apart_take xs i h) (omega arith) in
-    let whole = λ (a : ℕ). ap (λ ys. byte_among ys a) (cut_at xs i d l) ∙ byte_among-append (take i xs) (run ∷ rest) a in
+    let nothing = λ (a : ℕ) (p : at ≤ a). none_above 0 (take i xs) a (apart_take xs i h) (omega (arith, s.next)) in
+    let whole = λ (a : ℕ). ap (λ ys. byte_among ys a) (rw (← is) at (cut_at xs i run l)) ∙ byte_among-append (take i xs) (run ∷ rest) a in
     let nonempty : 0 < length run.bytes = apart.1 in
     let z : run.at - run.at ≡ 0 = omega arith in
     let first : byte_in run run.at ≡ Some (get_or run.bytes 0 0) =
@@ -140,6 +143,23 @@ pub free_between : (xs : List Placed) (i at n : ℕ) → AreApart 0 xs → next_
 free_between xs i at n h above below = λ a w.
     ap (λ ys. byte_among ys a) (sym (take-append-drop i xs)) ∙ (byte_among-append (take i xs) (drop i xs) a
     ∙ rw (none_above 0 (take i xs) a (apart_take xs i h) (omega (arith, w.0))) (none_below (at + n) (drop i xs) a below w.1))
+
+-- where no run reaches the addresses, they stand between the runs
+pub gap_between : (xs : List Placed) (i start at n : ℕ) (run : Placed) → IsSought xs i start at n → start ≤ at + 1
+    → (i < length xs → (run ≡ get_or xs i run) × (at + n ≤ run.at)) → StandsBetween EndsBy AreApart xs i at n
+gap_between xs i start at n run s reach high = record {
+  within = s.cut.bound;
+  above = omega (arith, s.next, reach);
+  below = apart_from_first (at + 1) (at + n) (drop i xs) s.cut.above (λ d h.
+      let l : i < length xs = omega (arith, length-drop i xs, h) in
+      rw (get_or-drop, add-zero, get_or_default xs i d run l, ← (high l).0) (high l).1);
+  some = s.some;
+  fits = s.fits;
+}
+
+-- and have no byte
+pub free_gap : (xs : List Placed) (i at n : ℕ) → AreApart 0 xs → StandsBetween EndsBy AreApart xs i at n → IsFree (byte_among xs) at n
+free_gap xs i at n h gap = free_between xs i at n h gap.above gap.below
 
 -- each run is a part of what is found in them
 pub run_is_part : (xs : List Placed) (i : ℕ) (run : Placed) → AreApart 0 xs → i < length xs → run ≡ get_or xs i run → IsPart (byte_among xs) run.at run.bytes

@@ -24,12 +24,12 @@ ends_before xs i at run l is above =
     omega (arith, rw (← is) at (next_start-take xs i run (some_before xs i at above) l), above)
 
 -- the run at the index, where one begins there
-pub begins_within : (xs : List Placed) (i a : ℕ) → BeginsAt (drop i xs) a → i < length xs
+pub begins_within : (xs : List Placed) (i a : ℕ) → BeginsAt a (drop i xs) → i < length xs
 begins_within [] i a h = absurd (rw drop-nil at h)
 begins_within (x ∷ xs) zero a h = omega arith
 begins_within (x ∷ xs) (suc i) a h = omega (arith, begins_within xs i a h)
 
-pub begins_next : (xs : List Placed) (i a : ℕ) (next : Placed) → next ≡ get_or xs i next → BeginsAt (drop i xs) a → next.at ≡ a
+pub begins_next : (xs : List Placed) (i a : ℕ) (next : Placed) → next ≡ get_or xs i next → BeginsAt a (drop i xs) → next.at ≡ a
 begins_next xs i a next is h =
     let within : i < length xs = begins_within xs i a h in
     rw is (rw (drop-cons xs i next within) at h)
@@ -47,7 +47,7 @@ lengthened xs (suc i) at bytes run h l is above below =
     rw (e, append-nil, set_split xs i (record { at = run.at; bytes = run.bytes ++ bytes }) l) (rw (← cut) at placed)
 
 pub begun_earlier : (xs : List Placed) (i at : ℕ) (bytes : List ℕ) (next : Placed) → AreApart 0 xs → next ≡ get_or xs i next → next_start 0 (take i xs) ≤ at
-    → BeginsAt (drop i xs) (at + length bytes) → 0 < length bytes
+    → BeginsAt (at + length bytes) (drop i xs) → 0 < length bytes
     → Places xs (set xs i (record { at = next.at - length bytes; bytes = bytes ++ next.bytes })) at bytes
 begun_earlier xs i at bytes next h is above below some =
     let l : i < length xs = begins_within xs i (at + length bytes) below in
@@ -80,13 +80,13 @@ next_stands xs i at hole next above is =
 
 -- the gap between the run before the index and the one at it
 pub gap : (xs : List Placed) (i at n : ℕ) (run next : Placed) → run ≡ get_or xs (i - 1) run → next ≡ get_or xs i next
-    → next_start 0 (take i xs) ≡ at + 1 → BeginsAt (drop i xs) (at + n) → (run.at + length run.bytes ≡ at) × (next.at ≡ at + n)
+    → next_start 0 (take i xs) ≡ at + 1 → BeginsAt (at + n) (drop i xs) → (run.at + length run.bytes ≡ at) × (next.at ≡ at + n)
 gap xs i at n run next is js above below =
     let l : i < length xs = begins_within xs i (at + n) below in
     (ends_before xs i at run (omega arith) is above, begins_next xs i (at + n) next js below)
 
 pub bridged : (xs : List Placed) (i at : ℕ) (bytes : List ℕ) (run next : Placed) → AreApart 0 xs → run ≡ get_or xs (i - 1) run → next ≡ get_or xs i next
-    → next_start 0 (take i xs) ≡ at + 1 → BeginsAt (drop i xs) (at + length bytes)
+    → next_start 0 (take i xs) ≡ at + 1 → BeginsAt (at + length bytes) (drop i xs)
     → Places xs (remove (set xs (i - 1) (record { at = run.at; bytes = run.bytes ++ (bytes ++ next.bytes) })) i) at bytes
 bridged xs zero at bytes run next h is js above below = absurd (omega arith)
 bridged xs (suc i) at bytes run next h is js above below =
@@ -116,7 +116,7 @@ same_removed (x ∷ y ∷ xs) zero whole l = refl
 same_removed (x ∷ y ∷ xs) (suc j) whole l = ap (λ zs. x ∷ zs) (same_removed (y ∷ xs) j whole (omega arith))
 
 pub bridged_down : (xs : List Placed) (i at : ℕ) (bytes front : List ℕ) (run next : Placed) → AreApart 0 xs → run ≡ get_or xs (i - 1) run
-    → next ≡ get_or xs i next → next_start 0 (take i xs) ≡ at + 1 → BeginsAt (drop i xs) (at + length bytes) → front ≡ run.bytes ++ bytes
+    → next ≡ get_or xs i next → next_start 0 (take i xs) ≡ at + 1 → BeginsAt (at + length bytes) (drop i xs) → front ≡ run.bytes ++ bytes
     → Places xs (remove (set xs i (record { at = next.at - length front; bytes = front ++ next.bytes })) (i - 1)) at bytes
 bridged_down xs zero at bytes front run next h is js above below f = absurd (omega arith)
 bridged_down xs (suc i) at bytes front run next h is js above below f =
@@ -130,7 +130,7 @@ bridged_down xs (suc i) at bytes front run next h is js above below f =
 
 -- the bytes that go ahead of the run at the index have room below it
 pub short_front : (xs : List Placed) (i at : ℕ) (bytes front : List ℕ) (run next : Placed) → run ≡ get_or xs (i - 1) run → next ≡ get_or xs i next
-    → next_start 0 (take i xs) ≡ at + 1 → BeginsAt (drop i xs) (at + length bytes) → front ≡ run.bytes ++ bytes → length front ≤ next.at
+    → next_start 0 (take i xs) ≡ at + 1 → BeginsAt (at + length bytes) (drop i xs) → front ≡ run.bytes ++ bytes → length front ≤ next.at
 short_front xs i at bytes front run next is js above below f =
     let ends = gap xs i at (length bytes) run next is js above below in
     omega (arith, ends.0, ends.1, ap length f, length-append run.bytes bytes)

@@ -4,15 +4,16 @@ use Rattle.std.specs.Prelude.{slice_get, Option, Some, None, unwrap_or, All}
 use Rattle.std.specs.Option.{option_or}
 use Rattle.std.proofs.Math.Seq.{drop-cons, take-suc}
 use Rattle.std.proofs.lemmas.Bool.Decides.{leb_tells}
-use Rattle.std.proofs.lemmas.List.{take-append-drop, take_all, drop_all, length-take, length-drop, get_or-take}
+use Rattle.std.proofs.lemmas.List.{take-append-drop, take_all, drop_all, length-take, length-drop, get_or-take, get_or_default}
 use borrow.Rule.Slice.PartMut.{put_mid, post_of}
 use Rattle.m88_base.specs.Found.{filled}
 use Rattle.m88_base.specs.Placed.{Placed, byte_in, byte_among, AreApart}
-use Rattle.m88_base.specs.Inside.Placing.{next_start}
-use Rattle.m88_base.specs.Inside.Blocks.{all_runs, first_start}
+use Rattle.m88_base.specs.Inside.Placing.{IsCut, IsCutBy, next_start}
+use Rattle.m88_base.specs.Inside.Blocks.{all_runs, first_start, AreNonempty}
 use Rattle.m88_base.proofs.Lookup.{option_or-none, byte_in_at, byte_in_below, byte_among-append}
 use Rattle.m88_base.proofs.Apart.{apart_front, apart_back, none_below, none_above}
 use Rattle.m88_base.proofs.Cuts.{apart_take, apart_drop, slice_get-drop}
+use Rattle.m88_base.proofs.Counting.{begun_block}
 use Rattle.m88_base.proofs.InBlocks.{all_runs-append, around, take_runs-suc}
 
 -- what is found elsewhere doesn't count
@@ -135,9 +136,9 @@ ahead_of_last runs (suc n) i at h l low is =
     let e : i ≡ n = omega (arith, is) in
     rw e (omega (arith, apart.0, start))
 
-pub begun_over : (runs : List Placed) (n i at : ℕ) (bytes : List ℕ) → AreApart 0 runs → n ≤ length runs → All (λ run. run.at ≤ at) (take n runs) → i ≡ n - 1
+pub begun_over : (runs : List Placed) (n i at : ℕ) (bytes : List ℕ) → AreApart 0 runs → IsCut runs n at → i ≡ n - 1
     → bytes ≡ filled (byte_among (take i runs)) at bytes
-begun_over runs n i at bytes h l low is = sym (filled_below (take i runs) at bytes (apart_take runs i h) (ahead_of_last runs n i at h l low is))
+begun_over runs n i at bytes h cut is = sym (filled_below (take i runs) at bytes (apart_take runs i h) (ahead_of_last runs n i at h cut.bound cut.below is))
 
 -- one more run
 pub run_over : (runs : List Placed) (i at : ℕ) (run : Placed) (bytes room : List ℕ) → AreApart 0 runs → i < length runs → run ≡ get_or runs i run
@@ -170,13 +171,22 @@ blocks_apart bs n h =
     apart_front 0 (all_runs (take n bs)) (all_runs (drop n bs)) (rw (← all_runs-append (take n bs) (drop n bs), take-append-drop) h)
 
 -- the same of blocks: those ahead of the last that begins at or below an address
-pub blocks_begun_over : (bs : List (List Placed)) (b at : ℕ) (block : List Placed) (bytes : List ℕ) → AreApart 0 (all_runs bs) → b < length bs
-    → block ≡ get_or bs b block → 0 < length block → first_start block ≤ at → bytes ≡ filled (byte_among (all_runs (take b bs))) at bytes
-blocks_begun_over bs b at block bytes h l is some low =
-    let front : List Placed = all_runs (take b bs) in
-    let rest : List Placed = all_runs (drop (suc b) bs) in
-    let from = first_from (next_start 0 front) block rest some (apart_back 0 front (block ++ rest) (rw (around bs b block l is) at h)) in
-    sym (filled_below front at bytes (blocks_apart bs b h) (omega (arith, from, low)))
+pub blocks_begun_over : (bs : List (List Placed)) (n b at : ℕ) (bytes : List ℕ) → AreNonempty bs → AreApart 0 (all_runs bs) → IsCutBy first_start bs at n
+    → b ≡ n - 1 → bytes ≡ filled (byte_among (all_runs (take b bs))) at bytes
+blocks_begun_over bs n b at bytes nonempty h cut e =
+    elim (leb_tells 1 n) [
+      | inr none ↦
+          let z : b ≡ 0 = omega (arith, e, none.1) in rw z (sym (filled_below [] at bytes tt (omega arith)))
+      | inl some ↦
+          let within : n - 1 < length bs = omega (arith, some.1, cut.bound) in
+          let block : List Placed = get_or bs (n - 1) [] in
+          let is : block ≡ get_or bs (n - 1) block = get_or_default bs (n - 1) [] block within in
+          let front : List Placed = all_runs (take (n - 1) bs) in
+          let rest : List Placed = all_runs (drop (suc (n - 1)) bs) in
+          let low : first_start block ≤ at = (begun_block bs n at block cut (omega (arith, some.1)) is).1 in
+          let from = first_from (next_start 0 front) block rest (nonempty (n - 1) [] within) (apart_back 0 front (block ++ rest) (rw (around bs (n - 1) block within is) at h)) in
+          rw e (sym (filled_below front at bytes (blocks_apart bs (n - 1) h) (omega (arith, from, low))))
+    ]
 
 -- one more block
 pub block_over : (bs : List (List Placed)) (b at : ℕ) (block : List Placed) (bytes room : List ℕ) → AreApart 0 (all_runs bs) → b < length bs

@@ -2,7 +2,7 @@
 use Rattle.std.proofs.Common.{◌≡◌, ℕ, zero, suc, ◌+◌, ◌-◌, ◌<◌, ◌≤◌, List, [], ◌∷◌, ◌++◌, length, get_or, set, take, drop, refl, sym, ap, ◌∙◌, arith, append_assoc, append-nil, length-append, length-drop}
 use Rattle.std.specs.Prelude.{insert, remove, All}
 use Rattle.std.proofs.Math.Seq.{drop-cons, take-suc, take-append-add, drop-append-add}
-use Rattle.std.proofs.lemmas.List.{take-append-drop, take-append-le, drop-append-le, take_all, set_split, get_or_default, set-append_left, set-append_right, get_or-append_right}
+use Rattle.std.proofs.lemmas.List.{take-append-drop, take-append-le, drop-append-le, set_split, get_or_default, set-append_left, set-append_right, get_or-append_right}
 use Rattle.std.proofs.lemmas.List.Edits.{insert_end, insert-append_left, insert-append_right, remove-append_left, remove-append_right}
 use Rattle.std.proofs.lemmas.List.Elements.{All-append}
 use Rattle.std.proofs.Math.ListN.{get_or-append}
@@ -10,7 +10,7 @@ use Rattle.m88_base.specs.Placed.{Placed, AreApart}
 use Rattle.m88_base.specs.Inside.Placing.{next_start}
 use Rattle.m88_base.proofs.Apart.{apart_lower, apart_front, apart_back}
 use Rattle.m88_base.proofs.Cuts.{apart_drop}
-use Rattle.m88_base.specs.Inside.Blocks.{all_runs, IsPlaceInBlocks}
+use Rattle.m88_base.specs.Inside.Blocks.{all_runs, IsPlaceInBlocks, IsRunInBlocks}
 
 pub all_runs-append : (xs ys : List (List Placed)) → all_runs (xs ++ ys) ≡ all_runs xs ++ all_runs ys
 all_runs-append [] ys = refl
@@ -31,28 +31,28 @@ edited bs b block l = rw (set_split bs b block l) (all_runs-append (take b bs) (
 pub block_length : (bs : List (List Placed)) (b : ℕ) (block : List Placed) → b < length bs → block ≡ get_or bs b block → get_or bs b [] ≡ block
 block_length bs b block l is = get_or_default bs b [] block l ∙ sym is
 
-pub get_at : (bs : List (List Placed)) (b k i : ℕ) (block : List Placed) (run : Placed) → IsPlaceInBlocks bs b k i → k < length (get_or bs b []) → block ≡ get_or bs b block
+pub get_at : (bs : List (List Placed)) (b k i : ℕ) (block : List Placed) (run : Placed) → IsRunInBlocks bs b k i → block ≡ get_or bs b block
     → run ≡ get_or block k run → run ≡ get_or (all_runs bs) i run
-get_at bs b k i block run p l is at =
-    let inside : k < length block = rw (block_length bs b block p.within is) at l in
-    let front : length (all_runs (take b bs)) ≤ i = omega (arith, p.sum) in
-    let off : i - length (all_runs (take b bs)) ≡ k = omega (arith, p.sum) in
+get_at bs b k i block run p is at =
+    let inside : k < length block = rw (block_length bs b block p.place.within is) at p.there in
+    let front : length (all_runs (take b bs)) ≤ i = omega (arith, p.place.sum) in
+    let off : i - length (all_runs (take b bs)) ≡ k = omega (arith, p.place.sum) in
     rw (
-      around bs b block p.within is,
+      around bs b block p.place.within is,
       get_or-append_right (all_runs (take b bs)) (block ++ all_runs (drop (suc b) bs)) (length (all_runs (take b bs))) i run refl front,
       off,
       get_or-append block (all_runs (drop (suc b) bs)) run k inside,
     ) at
 
-pub set_at : (bs : List (List Placed)) (b k i : ℕ) (block : List Placed) (run : Placed) → IsPlaceInBlocks bs b k i → k < length (get_or bs b []) → block ≡ get_or bs b block
+pub set_at : (bs : List (List Placed)) (b k i : ℕ) (block : List Placed) (run : Placed) → IsRunInBlocks bs b k i → block ≡ get_or bs b block
     → all_runs (set bs b (set block k run)) ≡ set (all_runs bs) i run
-set_at bs b k i block run p l is =
-    let inside : k < length block = rw (block_length bs b block p.within is) at l in
-    let front : length (all_runs (take b bs)) ≤ i = omega (arith, p.sum) in
-    let off : i - length (all_runs (take b bs)) ≡ k = omega (arith, p.sum) in
+set_at bs b k i block run p is =
+    let inside : k < length block = rw (block_length bs b block p.place.within is) at p.there in
+    let front : length (all_runs (take b bs)) ≤ i = omega (arith, p.place.sum) in
+    let off : i - length (all_runs (take b bs)) ≡ k = omega (arith, p.place.sum) in
     rw (
-      edited bs b (set block k run) p.within,
-      around bs b block p.within is,
+      edited bs b (set block k run) p.place.within,
+      around bs b block p.place.within is,
       set-append_right (all_runs (take b bs)) (block ++ all_runs (drop (suc b) bs)) (length (all_runs (take b bs))) i run refl front,
       off,
       set-append_left block (all_runs (drop (suc b) bs)) k run inside,
@@ -70,14 +70,14 @@ insert_at bs b k i block run p is =
     ∙ (ap (λ n. all_runs (take b bs) ++ insert (block ++ all_runs (drop (suc b) bs)) n run) off
     ∙ ap (λ ys. all_runs (take b bs) ++ ys) (insert-append_left block (all_runs (drop (suc b) bs)) k run inside))))
 
-pub remove_at : (bs : List (List Placed)) (b k i : ℕ) (block : List Placed) → IsPlaceInBlocks bs b k i → k < length (get_or bs b []) → block ≡ get_or bs b block
+pub remove_at : (bs : List (List Placed)) (b k i : ℕ) (block : List Placed) → IsRunInBlocks bs b k i → block ≡ get_or bs b block
     → all_runs (set bs b (remove block k)) ≡ remove (all_runs bs) i
-remove_at bs b k i block p l is =
-    let inside : k < length block = rw (block_length bs b block p.within is) at l in
-    let front : length (all_runs (take b bs)) ≤ i = omega (arith, p.sum) in
-    let off : i - length (all_runs (take b bs)) ≡ k = omega (arith, p.sum) in
-    edited bs b (remove block k) p.within ∙ sym (
-    ap (λ xs. remove xs i) (around bs b block p.within is)
+remove_at bs b k i block p is =
+    let inside : k < length block = rw (block_length bs b block p.place.within is) at p.there in
+    let front : length (all_runs (take b bs)) ≤ i = omega (arith, p.place.sum) in
+    let off : i - length (all_runs (take b bs)) ≡ k = omega (arith, p.place.sum) in
+    edited bs b (remove block k) p.place.within ∙ sym (
+    ap (λ xs. remove xs i) (around bs b block p.place.within is)
     ∙ (remove-append_right (all_runs (take b bs)) (block ++ all_runs (drop (suc b) bs)) (length (all_runs (take b bs))) i refl front
     ∙ (ap (λ n. all_runs (take b bs) ++ remove (block ++ all_runs (drop (suc b) bs)) n) off
     ∙ ap (λ ys. all_runs (take b bs) ++ ys) (remove-append_left block (all_runs (drop (suc b) bs)) k inside))))
@@ -159,12 +159,6 @@ above_in bs b k i a block l is e room h p =
     rw (e, around bs b block l is) (drop-append-add front (block ++ rest) k ∙ drop-append-le k block rest (omega arith)) in
     let some : 0 < length (drop k block) = omega (arith, length-drop k block) in
     rw cut (apart_rest (next_start 0 (take (i + k) (all_runs bs))) (a + 1) (drop k block) rest some p (rw cut at (apart_drop (all_runs bs) (i + k) h)))
-
-pub passed : (bs : List (List Placed)) (b k i a : ℕ) (block : List Placed) → b < length bs → block ≡ get_or bs b block → length block ≤ k
-    → All (λ run. run.at ≤ a) (all_runs (take b bs)) → All (λ run. run.at ≤ a) (take k block) → All (λ run. run.at ≤ a) (all_runs (take (suc b) bs))
-passed bs b k i a block l is full p q =
-    rw (take_runs-suc bs b block l is)
-    (All-append (λ run. run.at ≤ a) (all_runs (take b bs)) block p (rw (take_all k block full) at q))
 
 pub length-take_runs : (bs : List (List Placed)) (b : ℕ) (block : List Placed) → b < length bs → block ≡ get_or bs b block
     → length (all_runs (take (suc b) bs)) ≡ length (all_runs (take b bs)) + length block

@@ -1,9 +1,9 @@
 //! A few runs in a row.
-ghost use Rattle.std.specs.Prelude.{◌≡◌, ◌+◌, ◌/◌, ◌<◌, ◌≤◌, [], ◌∷◌, ◌++◌, All, leb, true, false, take, drop, length, insert, remove, slice_index_or, slice_set, IfOk, OnOk, OnErr};
-ghost use Rattle.std.specs.List.Sorted.{IsNonDecreasingBy, IsPartitionPoint};
+ghost use Rattle.std.specs.Prelude.{◌≡◌, ◌/◌, ◌<◌, ◌≤◌, [], ◌∷◌, ◌++◌, leb, length, insert, remove, slice_index_or, slice_set, IfOk, OnOk, OnErr};
+ghost use Rattle.std.specs.List.Sorted.{IsNonDecreasingBy};
 ghost use Rattle.m88_base.specs.Found.{filled};
 ghost use Rattle.m88_base.specs.Inside.Blocks.{first_start};
-ghost use Rattle.m88_base.specs.Inside.Placing.{IsLastBy};
+ghost use Rattle.m88_base.specs.Inside.Placing.{IsCut, IsCutBy, IsLastBy};
 ghost use Rattle.m88_base.specs.Placed.{AreApart, byte_among};
 
 use crate::segment::Segment;
@@ -79,9 +79,7 @@ impl Block {
     /// The number of runs that begin at or below an address.
     pub fn locate(&self, at: u32) -> usize
         requires { AreApart 0 self.now }
-        ensures bound { result ≤ length self.now }
-        ensures below { All (λ run. run.at ≤ at) (take result self.now) }
-        ensures above { AreApart (at + 1) (drop result self.now) }
+        ensures { IsCut self.now result at }
     {
         locate(&self.runs, at)
     }
@@ -155,9 +153,7 @@ fn copied(alloc: Global, runs: &[Segment]) -> Result<Vec<Segment>, AllocError>
 
 fn locate(runs: &[Segment], at: u32) -> usize
     requires { AreApart 0 runs.now }
-    ensures bound { result ≤ length runs.now }
-    ensures below { All (λ run. run.at ≤ at) (take result runs.now) }
-    ensures above { AreApart (at + 1) (drop result runs.now) }
+    ensures { IsCut runs.now result at }
 {
     begun_by(runs, at)
 }
@@ -181,9 +177,7 @@ fn fill(runs: &[Segment], at: u32, room: &mut [u8])
 /// The number of runs that begin at or below an address, of runs in ascending order. The last is tried first.
 fn begun_by(runs: &[Segment], at: u32) -> usize
     requires { IsNonDecreasingBy (λ run. run.at) runs.now }
-    ensures bound { result ≤ length runs.now }
-    ensures parted { IsPartitionPoint (λ run. leb run.at at ≡ true)
-        (λ run. leb run.at at ≡ false) runs.now result }
+    ensures { IsCutBy (λ run. run.at) runs.now at result }
 {
     match runs.last() {
         Some(run) if run.at() <= at => runs.len(),

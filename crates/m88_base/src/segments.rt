@@ -1,8 +1,9 @@
 //! Runs in ascending order, with an address without a byte between each two.
-ghost use Rattle.std.specs.Prelude.{◌≡◌, ◌+◌, ◌^◌, ◌<◌, ◌≤◌, ◌↔◌, ℕ, [], ◌++◌, take, drop, length, slice_get, IfOk, OnOk, OnErr, IfNone, IfSome, IsTrue, None, Some};
+ghost use Rattle.std.specs.Prelude.{◌≡◌, ◌+◌, ◌<◌, ◌≤◌, ◌↔◌, ℕ, [], ◌++◌, take, drop, length, slice_get, IfOk, IfNone, IfSome, IsTrue, None, Some};
 ghost use Rattle.m88_base.specs.Found.{IsFree, IsLeastTaken, IsPart, filled};
 ghost use Rattle.m88_base.specs.Placed.{AreApart, byte_among};
-ghost use Rattle.m88_base.specs.Inside.Placing.{BeginsAt, IsCut, Places, next_start};
+ghost use Rattle.m88_base.specs.Inside.Placing.{AnswersPlacing, BeginsAbove, BeginsAt, EndsAt, EndsBelow, EndsBy, IsCut, IsSought, StandsBetween, next_start};
+ghost use Rattle.m88_base.specs.Inside.Blocks.{all_runs};
 
 use crate::blocks::Blocks;
 use crate::segment::Segment;
@@ -18,12 +19,13 @@ pub struct Segments {
 impl Model for Segments {
     ghost use Rattle.std.specs.Prelude.{List};
     ghost use Rattle.m88_base.specs.Placed.{AreApart, Placed};
+    ghost use Rattle.m88_base.specs.Inside.Blocks.{all_runs};
 
     ghost Value = { List Placed };
 
-    ghost view = { λ segments. segments.runs };
+    ghost view = { λ segments. all_runs segments.runs };
 
-    ghost invariant = { λ segments. AreApart 0 segments.runs };
+    ghost invariant = { λ segments. AreApart 0 (all_runs segments.runs) };
 }
 
 impl Segments {
@@ -111,14 +113,10 @@ impl Segments {
     /// The least of `count` addresses from `at` on that have a byte, where `index` runs begin at or
     /// below `at` and one more may begin behind them from `next` on.
     pub fn first_taken(&self, index: usize, next: u64, at: u32, count: usize) -> Option<u32>
-        requires next { next ≡ next_start 0 (take index self.now) }
-        requires cut { IsCut self.now index at }
-        requires some { 0 < count }
-        requires fits { at + count ≤ 2 ^ 32 }
-        ensures taken { IfSome result (λ a. IsLeastTaken (byte_among self.now) at count a) }
+        requires { IsSought self.now index next at count }
+        ensures taken { IfSome result (IsLeastTaken (byte_among self.now) at count) }
         ensures free { IfNone result (IsFree (byte_among self.now) at count) }
-        ensures free_above { IfNone result (next_start 0 (take index self.now) ≤ at + 1) }
-        ensures free_below { IfNone result (AreApart (at + count) (drop index self.now)) }
+        ensures gap { IfNone result (StandsBetween EndsBy AreApart self.now index at count) }
     {
         let runs = &self.runs;
         if next > u64::from(at) + 1 {
@@ -144,14 +142,8 @@ impl Segments {
         bytes: &[u8],
     ) -> Result<(), AllocError>
         requires next { next ≡ next_start 0 (take index self.old) }
-        requires index { index ≤ length self.old }
-        requires above { next_start 0 (take index self.old) ≤ at + 1 }
-        requires below { AreApart (at + length bytes.now) (drop index self.old) }
-        requires some { 0 < length bytes.now }
-        requires fits { at + length bytes.now ≤ 2 ^ 32 }
-        ensures free { IsFree (byte_among self.old) at (length bytes.now) }
-        ensures ok { OnOk result (Places self.old self.new at bytes.now) }
-        ensures err { OnErr result (self.new ≡ self.old) }
+        requires gap { StandsBetween EndsBy AreApart self.old index at (length bytes.now) }
+        ensures { AnswersPlacing result self.old self.new at bytes.now }
     {
         let behind = next == u64::from(at) + 1;
         let ahead = begins_at(&self.runs, index, u64::from(at) + bytes.len() as u64);
@@ -175,13 +167,8 @@ impl Segments {
         at: u32,
         bytes: &[u8],
     ) -> Result<(), AllocError>
-        requires index { index ≤ length self.old }
-        requires above { next_start 0 (take index self.old) ≤ at }
-        requires below { AreApart (at + length bytes.now + 1) (drop index self.old) }
-        requires some { 0 < length bytes.now }
-        requires fits { at + length bytes.now ≤ 2 ^ 32 }
-        ensures ok { OnOk result (Places self.old self.new at bytes.now) }
-        ensures err { OnErr result (self.new ≡ self.old) }
+        requires { StandsBetween EndsBelow BeginsAbove self.old index at (length bytes.now) }
+        ensures { AnswersPlacing result self.old self.new at bytes.now }
     {
         let run = Segment::new(alloc, at, bytes)?;
         self.runs.insert(alloc, index, run)?;
@@ -196,12 +183,8 @@ impl Segments {
         at: u32,
         bytes: &[u8],
     ) -> Result<(), AllocError>
-        requires index { index ≤ length self.old }
-        requires above { next_start 0 (take index self.old) ≡ at + 1 }
-        requires below { AreApart (at + length bytes.now + 1) (drop index self.old) }
-        requires fits { at + length bytes.now ≤ 2 ^ 32 }
-        ensures ok { OnOk result (Places self.old self.new at bytes.now) }
-        ensures err { OnErr result (self.new ≡ self.old) }
+        requires { StandsBetween EndsAt BeginsAbove self.old index at (length bytes.now) }
+        ensures { AnswersPlacing result self.old self.new at bytes.now }
     {
         let mut run = self.runs.replace(index - 1, Segment::empty(alloc));
         match run.append(alloc, bytes, &[]) {
@@ -224,12 +207,8 @@ impl Segments {
         at: u32,
         bytes: &[u8],
     ) -> Result<(), AllocError>
-        requires above { next_start 0 (take index self.old) ≤ at }
-        requires below { BeginsAt (drop index self.old) (at + length bytes.now) }
-        requires some { 0 < length bytes.now }
-        requires fits { at + length bytes.now ≤ 2 ^ 32 }
-        ensures ok { OnOk result (Places self.old self.new at bytes.now) }
-        ensures err { OnErr result (self.new ≡ self.old) }
+        requires { StandsBetween EndsBelow BeginsAt self.old index at (length bytes.now) }
+        ensures { AnswersPlacing result self.old self.new at bytes.now }
     {
         let mut run = self.runs.replace(index, Segment::empty(alloc));
         match run.prepend(alloc, bytes) {
@@ -253,10 +232,8 @@ impl Segments {
         at: u32,
         bytes: &[u8],
     ) -> Result<(), AllocError>
-        requires above { next_start 0 (take index self.old) ≡ at + 1 }
-        requires below { BeginsAt (drop index self.old) (at + length bytes.now) }
-        ensures ok { OnOk result (Places self.old self.new at bytes.now) }
-        ensures err { OnErr result (self.new ≡ self.old) }
+        requires { StandsBetween EndsAt BeginsAt self.old index at (length bytes.now) }
+        ensures { AnswersPlacing result self.old self.new at bytes.now }
     {
         let below = self.runs.get(index - 1).bytes().len();
         let above = self.runs.get(index).bytes().len();
@@ -274,10 +251,8 @@ impl Segments {
         at: u32,
         bytes: &[u8],
     ) -> Result<(), AllocError>
-        requires above { next_start 0 (take index self.old) ≡ at + 1 }
-        requires below { BeginsAt (drop index self.old) (at + length bytes.now) }
-        ensures ok { OnOk result (Places self.old self.new at bytes.now) }
-        ensures err { OnErr result (self.new ≡ self.old) }
+        requires { StandsBetween EndsAt BeginsAt self.old index at (length bytes.now) }
+        ensures { AnswersPlacing result self.old self.new at bytes.now }
     {
         let mut run = self.runs.replace(index - 1, Segment::empty(alloc));
         let next = self.runs.get(index);
@@ -302,10 +277,8 @@ impl Segments {
         at: u32,
         bytes: &[u8],
     ) -> Result<(), AllocError>
-        requires above { next_start 0 (take index self.old) ≡ at + 1 }
-        requires below { BeginsAt (drop index self.old) (at + length bytes.now) }
-        ensures ok { OnOk result (Places self.old self.new at bytes.now) }
-        ensures err { OnErr result (self.new ≡ self.old) }
+        requires { StandsBetween EndsAt BeginsAt self.old index at (length bytes.now) }
+        ensures { AnswersPlacing result self.old self.new at bytes.now }
     {
         let below = self.runs.get(index - 1);
         let front = joined(alloc, below.bytes(), bytes)?;
@@ -335,7 +308,7 @@ fn joined(alloc: Global, first: &[u8], second: &[u8]) -> Result<Vec<u8>, AllocEr
 
 /// Whether the run at `index` begins at an address.
 fn begins_at(runs: &Blocks, index: usize, at: u64) -> bool
-    ensures { IsTrue result ↔ BeginsAt (drop index runs.now) at }
+    ensures { IsTrue result ↔ BeginsAt at (drop index (all_runs runs.now)) }
 {
     if index < runs.len() {
         let run = runs.get(index);

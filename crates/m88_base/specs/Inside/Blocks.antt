@@ -1,5 +1,5 @@
 -- Runs in a row that are kept in blocks, and where in the blocks a run stands.
-use Rattle.std.specs.Prelude.{◌≡◌, ℕ, ◌+◌, ◌<◌, ◌≤◌, List, [], ◌∷◌, ◌++◌, All, length, take, slice_index_or}
+use Rattle.std.specs.Prelude.{◌≡◌, ℕ, ◌+◌, ◌^◌, ◌<◌, ◌≤◌, List, [], ◌∷◌, ◌++◌, All, length, take, slice_index_or}
 use Rattle.m88_base.specs.Placed.{Placed}
 
 -- the runs of all blocks
@@ -13,6 +13,11 @@ pub record IsPlaceInBlocks (blocks : List (List Placed)) (at inside index : ℕ)
   pub room : inside ≤ length (slice_index_or blocks at [])
   pub sum : length (all_runs (take at blocks)) + inside ≡ index
 
+-- the run at `inside` in the block `at` is the one at `index` of all
+pub record IsRunInBlocks (blocks : List (List Placed)) (at inside index : ℕ) : Type 0 where
+  pub place : IsPlaceInBlocks blocks at inside index
+  pub there : inside < length (slice_index_or blocks at [])
+
 -- no block is empty
 abbrev pub AreNonempty : List (List Placed) → Type 0
 AreNonempty blocks = All (λ block. 0 < length block) blocks
@@ -25,6 +30,13 @@ CountsTo n starts blocks = (k : ℕ) → k < n → slice_index_or starts k 0 ≡
 pub record IsCounted (starts : List ℕ) (blocks : List (List Placed)) : Type 0 where
   pub long : length starts ≡ length blocks
   pub each : CountsTo (length blocks) starts blocks
+
+-- the runs ahead of each of the first n blocks are counted, and no number of runs is too large to be kept
+pub record IsCountedUpTo (n : ℕ) (starts : List ℕ) (blocks : List (List Placed)) : Type 0 where
+  pub long : length starts ≡ length blocks
+  pub within : n ≤ length blocks
+  pub counted : CountsTo n starts blocks
+  pub room : length (all_runs blocks) < 2 ^ 64
 
 -- the address at which the first run begins, 0 where there is none
 abbrev pub first_start : List Placed → ℕ

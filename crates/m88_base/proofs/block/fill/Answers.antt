@@ -4,8 +4,8 @@ use Rattle.m88_base.proofs.block.fill.Goals as goal
 
 pub loop-index-init : goal.loop-index-init
 loop-index-init c =
-    begun_over c.args.runs.now c.locate.result c.saturating_sub-index.result c.args.at c.args.room.now c.requires c.locate.ensures.bound
-    c.locate.ensures.below (omega (arith, c.saturating_sub-index.ensures))
+    begun_over c.args.runs.now c.locate.result c.saturating_sub-index.result c.args.at c.args.room.now c.requires c.locate.ensures
+    (omega (arith, c.saturating_sub-index.ensures))
 
 pub returns-then-from-end : goal.returns-then-from-end
 returns-then-from-end c =

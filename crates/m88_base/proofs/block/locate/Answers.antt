@@ -7,14 +7,16 @@ use Rattle.m88_base.proofs.block.locate.Goals as goal
 pub begun_by-requires : goal.begun_by-requires
 begun_by-requires c = λ i j d p l. starts_rise 0 c.args.runs.now i j d c.requires p l
 
-pub returns-clause-below : goal.returns-clause-below
-returns-clause-below c = λ k d h.
-    let within : k < c.begun_by.result = omega (arith, simp length-take at h) in
-    rw (get_or-take c.begun_by.result c.args.runs.now k d within)
-    (leb-true _ _ (c.begun_by.ensures.parted.0 k d (omega arith) within))
-
-pub returns-clause-above : goal.returns-clause-above
-returns-clause-above c =
-    apart_from_first _ _ _ (apart_drop c.args.runs.now c.begun_by.result c.requires) (λ d h.
-    let within : c.begun_by.result < length c.args.runs.now = omega (arith, simp length-drop at h) in
-    rw (get_or-drop, add-zero) (omega (arith, leb-false _ _ (c.begun_by.ensures.parted.1 c.begun_by.result d (omega arith) within))))
+pub returns : goal.returns
+returns c =
+    let n = c.begun_by.result in
+    let runs = c.args.runs.now in
+    record {
+      bound = c.begun_by.ensures.bound;
+      below = λ k d h.
+          let within : k < n = omega (arith, simp length-take at h) in
+          rw (get_or-take n runs k d within) (leb-true _ _ (c.begun_by.ensures.parted.0 k d (omega (arith, c.begun_by.ensures.bound)) within));
+      above = apart_from_first _ _ _ (apart_drop runs n c.requires) (λ d h.
+          let within : n < length runs = omega (arith, simp length-drop at h) in
+          rw (get_or-drop, add-zero) (omega (arith, leb-false _ _ (c.begun_by.ensures.parted.1 n d (omega arith) within))));
+    }

@@ -6,7 +6,7 @@ pub overflow_add-result : goal.overflow_add-result
 overflow_add-result c =
     omega (
       arith,
-      ahead_next c.args.starts.now c.args.blocks.now c.args.from c.index-blocks-from.result c.requires.counted (omega arith) c.requires.from
+      ahead_next c.args.starts.now c.args.blocks.now c.args.from c.index-blocks-from.result c.requires.counted (omega arith) c.requires.within
           c.index-blocks-from.is,
       ahead_within c.args.blocks.now c.args.from,
       c.len.ensures,
@@ -16,5 +16,5 @@ overflow_add-result c =
 pub returns : goal.returns
 returns c =
     rw c.len.ensures
-    (ahead_next c.args.starts.now c.args.blocks.now c.args.from c.index-blocks-from.result c.requires.counted (omega arith) c.requires.from
+    (ahead_next c.args.starts.now c.args.blocks.now c.args.from c.index-blocks-from.result c.requires.counted (omega arith) c.requires.within
     c.index-blocks-from.is)

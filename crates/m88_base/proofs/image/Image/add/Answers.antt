@@ -1,4 +1,4 @@
-use Rattle.std.proofs.Common.{◌≡◌, ◌<◌, ◌+◌, refl, sym, inl, inr, ◌^◌, length, arith}
+use Rattle.std.proofs.Common.{◌≡◌, ◌<◌, ◌+◌, refl, sym, inl, inr, ◌^◌, length, arith, rules}
 use Rattle.std.proofs.lemmas.Grind.{common_steps}
 use Rattle.m88_base.specs.Image.{byte_at, byte_count, most_bytes}
 use Rattle.m88_base.proofs.SameRuns.{puts_bytes}
@@ -48,7 +48,7 @@ returns-clause-len c = rw (← c.self.view_is) c.in_ok-place.ensures.ok.count
 
 pub returns-clause-free : goal.returns-clause-free
 unfolding byte_at
-returns-clause-free c = rw (← c.self.view_is) c.in_ok-place.ensures.free
+returns-clause-free c = rw (← c.self.view_is) (search rules)
 
 pub returns-then-is_too_large-clause-overlap : goal.returns-then-is_too_large-clause-overlap
 returns-then-is_too_large-clause-overlap c = grind (arith, common_steps)
