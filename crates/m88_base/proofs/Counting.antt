@@ -1,19 +1,18 @@
 -- The runs ahead of each block, counted, and the blocks in which an index and an address are found by halving.
-use Rattle.std.proofs.Common.{◌≡◌, ℕ, zero, suc, ◌+◌, ◌-◌, ◌^◌, ◌<◌, ◌≤◌, List, [], ◌∷◌, ◌++◌, length, get_or, set, take, drop, refl, sym, ap, ◌∙◌, ◌≢◌, arith, inl, inr, add-zero, length-append, length-drop, length-set, length-take}
-use Rattle.std.specs.Prelude.{insert, remove, All}
-use Rattle.std.proofs.lemmas.List.Edits.{insert_end, length-insert, length-remove}
+use Rattle.std.proofs.Common.{◌≡◌, ℕ, zero, suc, ◌+◌, ◌-◌, ◌<◌, ◌≤◌, List, [], ◌∷◌, ◌++◌, length, get_or, set, take, drop, refl, sym, ap, ◌∙◌, ◌≢◌, arith, inl, inr, add-zero, length-append, length-drop, length-take}
+use Rattle.std.specs.Prelude.{insert, All}
+use Rattle.std.proofs.lemmas.List.Edits.{insert_end}
 use Rattle.std.proofs.lemmas.List.Elements.{All-append, All-cons}
 use Rattle.std.specs.List.Sorted.{IsNonDecreasingBy}
 use Rattle.std.proofs.lemmas.Bool.{leb-true, leb-false}
 use Rattle.std.proofs.lemmas.Bool.Decides.{leb_tells}
-use Rattle.std.proofs.lemmas.List.{take-append-drop, take-append-le, take-take, take_all, get_or_default, get_or-drop, get_or-take, get_or-append_right, get_or-set_same, get_or-set_other}
+use Rattle.std.proofs.lemmas.List.{take-append-drop, take_all, get_or_default, get_or-drop, get_or-take, get_or-append_right, get_or-set_same, get_or-set_other}
 use Rattle.std.proofs.Math.ListN.{get_or-append}
-use Rattle.std.proofs.Math.Seq.{take-append_seam, take-set-le}
 use Rattle.m88_base.specs.Placed.{Placed, AreApart}
 use Rattle.m88_base.proofs.Cuts.{starts_rise, apart_from_first, apart_drop}
-use Rattle.m88_base.proofs.InBlocks.{all_runs-append, around, block_length, get_at, halved, place_here, length-take_runs, within_all, below_in, above_in}
+use Rattle.m88_base.proofs.InBlocks.{all_runs-append, around, block_length, get_at, place_here, length-take_runs, within_all, below_in, above_in}
 use Rattle.m88_base.specs.Inside.Placing.{IsCut, IsCutBy, IsLastBy}
-use Rattle.m88_base.specs.Inside.Blocks.{all_runs, first_start, AreNonempty, CountsTo, IsCounted, IsCountedUpTo, IsPlaceInBlocks, IsRunInBlocks}
+use Rattle.m88_base.specs.Inside.Blocks.{all_runs, first_start, AreNonempty, CountsTo, IsCounted, IsPlaceInBlocks, IsRunInBlocks}
 
 -- no fewer runs are ahead of a later block
 pub ahead_grows : (bs : List (List Placed)) (i j : ℕ) → i ≤ j → length (all_runs (take i bs)) ≤ length (all_runs (take j bs))
@@ -152,40 +151,6 @@ counts_more n starts bs l c = λ k h. elim (leb_tells n k) [
       get_or-set_other starts n k (length (all_runs (take n bs))) 0 other ∙ c k below.1
 ]
 
--- where a block is edited, those ahead of it and it itself stay counted
-pub counted_edited : (starts : List ℕ) (bs : List (List Placed)) (b : ℕ) (block : List Placed) → IsCounted starts bs → b < length bs
-    → length (all_runs (set bs b block)) < 2 ^ 64 → IsCountedUpTo (b + 1) starts (set bs b block)
-counted_edited starts bs b block c l room = record {
-  long = rw length-set c.long;
-  within = rw length-set (omega (arith, l));
-  counted = λ k h. rw (take-set-le k bs b block (omega (arith, h))) (c.each k (omega (arith, h, l)));
-  room = room;
-}
-
--- one more block
-pub counts_begun : (starts : List ℕ) (bs : List (List Placed)) (block : List Placed) → IsCounted starts bs
-    → IsCounted (starts ++ length (all_runs bs) ∷ []) (bs ++ block ∷ [])
-counts_begun starts bs block c =
-    let n : ℕ = length (all_runs bs) in
-    record {
-      long = omega (arith, length-append starts (n ∷ []), length-append bs (block ∷ []), c.long);
-      each = λ k h. elim (leb_tells (length bs) k) [
-        | inl last ↦
-            let e : k ≡ length bs = omega (arith, last.1, h, length-append bs (block ∷ [])) in
-            let off : length bs - length starts ≡ 0 = omega (arith, c.long) in
-            rw (
-              e,
-              take-append-le (length bs) bs (block ∷ []) (omega arith),
-              take_all (length bs) bs (omega arith),
-              get_or-append_right starts (n ∷ []) (length starts) (length bs) 0 refl (omega (arith, c.long)),
-              off,
-            ) refl
-        | inr below ↦
-            rw (get_or-append starts (n ∷ []) 0 k (omega (arith, below.1, c.long)), take-append-le k bs (block ∷ []) (omega (arith, below.1)))
-            (c.each k below.1)
-      ];
-    }
-
 -- blocks of which one has other runs, as many as before
 pub counts_kept : (n : ℕ) (starts : List ℕ) (bs : List (List Placed)) (b : ℕ) (block : List Placed) → b < length bs → length block ≡ length (get_or bs b [])
     → CountsTo n starts bs → CountsTo n starts (set bs b block)
@@ -206,10 +171,6 @@ nonempty_with bs i block some nonempty =
     All-append (λ runs. 0 < length runs) (take i bs) (block ∷ drop i bs) (λ k d h. rw (get_or-take i bs k d (omega (arith, length-take i bs))) (nonempty k d (omega (arith, length-take i bs))))
     (All-cons (λ runs. 0 < length runs) block (drop i bs) some (λ k d h. rw get_or-drop (nonempty (i + k) d (omega (arith, length-drop i bs)))))
 
-pub above_all : (bs : List (List Placed)) (n a : ℕ) → AreNonempty bs → AreApart 0 (all_runs bs) → IsCutBy first_start bs a n → n ≡ 0 → AreApart (a + 1) (all_runs bs)
-above_all bs n a nonempty apart cut none =
-    above_blocks bs 0 a nonempty apart (λ d l. omega (arith, leb-false _ _ (cut.parted.1 0 d (omega (arith, none)) l)))
-
 -- no run begins anywhere where there is none
 pub none_at_all : (runs : List Placed) (a : ℕ) → length runs ≡ 0 → IsCut runs 0 a
 none_at_all [] a none = record { bound = omega arith; below = λ k d l. absurd (omega (arith, l)); above = tt }
@@ -220,7 +181,7 @@ pub none_here : (bs : List (List Placed)) (n a : ℕ) → AreNonempty bs → Are
 none_here bs n a nonempty apart cut none = record {
   bound = omega arith;
   below = λ k d l. absurd (omega (arith, l));
-  above = above_all bs n a nonempty apart cut none;
+  above = above_blocks bs 0 a nonempty apart (λ d l. omega (arith, leb-false _ _ (cut.parted.1 0 d (omega (arith, none)) l)));
 }
 
 -- the last block that begins at or below an address
@@ -264,62 +225,6 @@ last_here bs n a block run nonempty apart cut some is last =
       is = get_at bs (n - 1) k (front + last.index - 1) block run (record { place = place; there = room }) is last.is;
     }
 
--- a vector that holds the counts, written over in place
-pub counted_vec : (n : ℕ) (xs ys : List ℕ) (bs : List (List Placed)) → n ≡ length xs → IsCounted xs bs
-    → IsCounted (take n (xs ++ drop (length xs) ys)) bs
-counted_vec n xs ys bs full c = rw (full, take-append_seam xs (drop (length xs) ys)) c
-
 -- one more block behind the others
 pub nonempty_end : (bs : List (List Placed)) (block : List Placed) → 0 < length block → AreNonempty bs → AreNonempty (bs ++ block ∷ [])
 nonempty_end bs block some nonempty = rw (insert_end bs block) at (nonempty_with bs (length bs) block some nonempty)
-
--- a block in two, where one more count stands behind the others
-pub counted_split : (starts : List ℕ) (bs : List (List Placed)) (b : ℕ) (lower upper : List Placed) → IsCounted starts bs → b < length bs
-    → lower ++ upper ≡ get_or bs b [] → length (all_runs bs) < 2 ^ 64 → IsCountedUpTo (b + 1) (starts ++ 0 ∷ []) (insert (set bs b lower) (suc b) upper)
-counted_split starts bs b lower upper c l whole room =
-    let same : length (set bs b lower) ≡ length bs = rw length-set refl in
-    let long : length (insert (set bs b lower) (suc b) upper) ≡ length bs + 1 =
-    omega (arith, same, length-insert (set bs b lower) (suc b) upper (omega (arith, same, l))) in
-    record {
-      long = omega (arith, length-append starts (0 ∷ []), long, c.long);
-      within = omega (arith, long, l);
-      counted = λ k h.
-          let front : take k (insert (set bs b lower) (suc b) upper) ≡ take k bs =
-          take-append-le k (take (suc b) (set bs b lower)) (upper ∷ drop (suc b) (set bs b lower)) (omega (arith, h, l, same, length-take (suc b) (set bs b lower)))
-          ∙ (take-take k (suc b) (set bs b lower) (omega (arith, h)) ∙ take-set-le k bs b lower (omega (arith, h))) in
-          rw (get_or-append starts (0 ∷ []) 0 k (omega (arith, h, l, c.long)), front) (c.each k (omega (arith, h, l)));
-      room = rw (halved bs b lower upper l whole) room;
-    }
-
--- a block taken out, and the last count with it
-pub counted_without : (starts : List ℕ) (bs : List (List Placed)) (b n : ℕ) (block : List Placed) → IsCounted starts bs → b < length bs → n ≡ length starts
-    → length (all_runs (remove (set bs b block) b)) < 2 ^ 64 → IsCountedUpTo b (take (n - 1) starts) (remove (set bs b block) b)
-counted_without starts bs b n block c l e room =
-    let same : length (set bs b block) ≡ length bs = rw length-set refl in
-    let long : length (remove (set bs b block) b) + 1 ≡ length bs = omega (arith, same, length-remove (set bs b block) b (omega (arith, same, l))) in
-    record {
-      long = omega (arith, length-take (n - 1) starts, e, long, c.long);
-      within = omega (arith, long, l);
-      counted = λ k h.
-          let front : take k (remove (set bs b block) b) ≡ take k bs =
-          take-append-le k (take b (set bs b block)) (drop (suc b) (set bs b block)) (omega (arith, h, l, same, length-take b (set bs b block)))
-          ∙ (take-take k b (set bs b block) (omega (arith, h)) ∙ take-set-le k bs b block (omega (arith, h))) in
-          rw (get_or-take (n - 1) starts k 0 (omega (arith, h, l, e, c.long)), front) (c.each k (omega (arith, h, l)));
-      room = room;
-    }
-
-pub nonempty_without : (bs : List (List Placed)) (b : ℕ) (block : List Placed) → b < length bs → AreNonempty bs → AreNonempty (remove (set bs b block) b)
-nonempty_without [] b block l nonempty = absurd (omega (arith, l))
-nonempty_without (x ∷ bs) zero block l nonempty = λ k d h. nonempty (suc k) d (omega (arith, h))
-nonempty_without (x ∷ bs) (suc b) block l nonempty =
-    All-cons (λ runs. 0 < length runs) x (remove (set bs b block) b) (nonempty 0 [] (omega arith))
-    (nonempty_without bs b block (omega (arith, l)) (λ k d h. nonempty (suc k) d (omega (arith, h))))
-
--- fewer blocks are counted
-pub counted_fewer : (starts : List ℕ) (bs : List (List Placed)) (b : ℕ) → IsCountedUpTo (b + 1) starts bs → IsCountedUpTo b starts bs
-counted_fewer starts bs b c = record {
-  long = c.long;
-  within = omega (arith, c.within);
-  counted = λ k h. c.counted k (omega (arith, h));
-  room = c.room;
-}

@@ -57,8 +57,8 @@ pub record IsSought (runs : List Placed) (index start at n : ℕ) : Type 0 where
   pub some : 0 < n
   pub fits : at + n ≤ 2 ^ 32
 
--- n addresses from `at` on, at least one, lie between the runs below the index and the others, of which the first fact
--- tells where they end and the second where they begin
+-- n addresses from `at` on, at least one, lie between the runs below the index and the others: the first fact says where
+-- the former end, the second where the latter begin
 pub record StandsBetween (Ends Begins : ℕ → List Placed → Type 0) (runs : List Placed) (index at n : ℕ) : Type 0 where
   pub within : index ≤ length runs
   pub above : Ends at (take index runs)
@@ -73,6 +73,7 @@ pub record Places (old new : List Placed) (at : ℕ) (bytes : List ℕ) : Type 0
   pub count : count_among new ≡ count_among old + length bytes
 
 -- bytes are placed among the runs, or else nothing is changed
-pub record AnswersPlacing {T E : Type 0} (result : Result T E) (old new : List Placed) (at : ℕ) (bytes : List ℕ) : Type 0 where
+pub record AnswersPlacing {T E : Type 0} (result : Result T E) (old new : List Placed) (at : ℕ)
+    (bytes : List ℕ) : Type 0 where
   pub ok : OnOk result (Places old new at bytes)
   pub err : OnErr result (new ≡ old)

@@ -3,7 +3,7 @@ use Rattle.std.proofs.Common.{◌-◌, arith}
 use Rattle.m88_base.specs.Inside.Placing.{IsCutBy}
 use Rattle.m88_base.specs.Inside.Blocks.{first_start}
 use Rattle.m88_base.proofs.InBlocks.{block_apart}
-use Rattle.m88_base.proofs.Counting.{above_all, firsts_rise, last_here}
+use Rattle.m88_base.proofs.Counting.{firsts_rise, last_here, none_here}
 use Rattle.m88_base.proofs.blocks.Blocks.below.Goals as goal
 
 pub begun_by-passed-requires : goal.begun_by-passed-requires
@@ -12,8 +12,8 @@ begun_by-passed-requires c = rw c.deref.ensures.value (firsts_rise c.self.inside
 pub returns-then-passed-eq0-clause-none : goal.returns-then-passed-eq0-clause-none
 returns-then-passed-eq0-clause-none c =
     rw (← c.self.view_is)
-    (above_all c.self.inside.blocks.items c.begun_by-passed.result c.args.at c.self.invariant.1 (rw (← c.self.view_is) at c.requires)
-    (rw c.deref.ensures.value at c.begun_by-passed.ensures) c.if-passed-eq0.true)
+    (none_here c.self.inside.blocks.items c.begun_by-passed.result c.args.at c.self.invariant.1 (rw (← c.self.view_is) at c.requires)
+    (rw c.deref.ensures.value at c.begun_by-passed.ensures) c.if-passed-eq0.true).above
 
 pub below-requires-clause-apart : goal.below-requires-clause-apart
 below-requires-clause-apart c =

@@ -1,11 +1,10 @@
-use Rattle.std.proofs.Common.{◌≡◌, ◌∙◌, ◌+◌, ◌<◌, ◌≤◌, ◌++◌, [], ap, sym, get_or, length, set, take, drop, arith}
+use Rattle.std.proofs.Common.{◌≡◌, ◌∙◌, ◌+◌, ◌<◌, ◌≤◌, [], ap, get_or, length, set, arith, rules}
 use Rattle.std.proofs.lemmas.Grind.{common_steps}
 use Rattle.std.specs.Prelude.{insert}
 use Rattle.std.proofs.lemmas.List.Edits.{length-insert}
 use Rattle.std.proofs.lemmas.List.Elements.{All-set}
-use Rattle.m88_base.specs.Inside.Blocks.{AreNonempty, IsCounted, IsPlaceInBlocks, all_runs}
+use Rattle.m88_base.specs.Inside.Blocks.{AreNonempty, IsPlaceInBlocks, all_runs}
 use Rattle.m88_base.proofs.InBlocks.{block_length, insert_at}
-use Rattle.m88_base.proofs.Counting.{counted_edited, counted_vec}
 use Rattle.m88_base.proofs.blocks.Blocks.insert.Goals.{In_ok-insert, After-count}
 use Rattle.m88_base.proofs.blocks.Blocks.insert.Goals as goal
 
@@ -40,26 +39,22 @@ len c =
 
 pub count-requires : goal.count-requires
 count-requires c =
-    let k = (goal.at.count-requires c).In_ok-insert in
-    let all : c.in_ok-len.len ≡ length (all_runs (set c.self.inside.blocks.items c.place_before-at.result.0 c.insert.new.self)) = len k in
-    rw (c.deref_mut.ensures.value, c.deref.ensures.value)
-    (counted_edited c.self.inside.starts.items c.self.inside.blocks.items c.place_before-at.result.0 c.insert.new.self c.self.invariant.2 (place k).within
-    (omega (arith, all)))
-
-counted : (c : After-count)
-    → IsCounted (take c.self.inside.starts.len (c.count.new.starts ++ drop (length c.count.new.starts) c.self.inside.starts.items))
-    (set c.self.inside.blocks.items c.place_before-at.result.0 c.insert.new.self)
-counted c =
-    counted_vec c.self.inside.starts.len c.count.new.starts c.self.inside.starts.items (set c.self.inside.blocks.items c.place_before-at.result.0 c.insert.new.self)
-    (sym (c.count.auto.starts ∙ c.deref_mut.ensures.len)) (rw c.deref.ensures.value at c.count.ensures)
+    let all : c.in_ok-len.len ≡ length (all_runs (set c.self.inside.blocks.items c.place_before-at.result.0 c.insert.new.self)) =
+    len ((goal.at.count-requires c).In_ok-insert) in
+    record {
+      long = search rules;
+      within = search rules;
+      counted = grind (arith, common_steps);
+      room = rw c.deref.ensures.value (omega (arith, all));
+    }
 
 pub invariant_of-self-then-long : goal.invariant_of-self-then-long
 invariant_of-self-then-long c =
-    let k = goal.at.invariant_of-self-then-long c in (len k.In_ok-insert, nonempty k.In_ok-insert, counted k.After-count)
+    let k = (goal.at.invariant_of-self-then-long c).In_ok-insert in (len k, nonempty k, grind (arith, common_steps))
 
 pub invariant_of-self-else-long : goal.invariant_of-self-else-long
 invariant_of-self-else-long c =
-    let k = goal.at.invariant_of-self-else-long c in (len k.In_ok-insert, nonempty k.In_ok-insert, counted k.After-count)
+    let k = (goal.at.invariant_of-self-else-long c).In_ok-insert in (len k, nonempty k, grind (arith, common_steps))
 
 pub returns-then-long-clause-ok : goal.returns-then-long-clause-ok
 returns-then-long-clause-ok c = rw (← c.self.view_is) (c.split.ensures ∙ changed ((goal.at.returns-then-long-clause-ok c).In_ok-insert))

@@ -1,10 +1,11 @@
-use Rattle.std.proofs.Common.{◌≡◌, ◌+◌, ◌<◌, ◌∙◌, ◌/◌, refl, suc, [], ◌++◌, List, ap, sym, length, get_or, set, add-one, arith, length-append}
+use Rattle.std.proofs.Common.{◌≡◌, ◌+◌, ◌<◌, ◌∙◌, ◌/◌, refl, suc, [], ◌++◌, List, ap, sym, length, get_or, set, add-one, arith, rules, length-append}
+use Rattle.std.proofs.lemmas.Grind.{common_steps}
 use Rattle.std.specs.Prelude.{insert}
 use Rattle.std.proofs.lemmas.List.Elements.{All-set}
 use Rattle.m88_base.specs.Placed.{Placed}
 use Rattle.m88_base.specs.Inside.Blocks.{AreNonempty, all_runs}
 use Rattle.m88_base.proofs.InBlocks.{block_length, halved}
-use Rattle.m88_base.proofs.Counting.{counted_split, counted_vec, nonempty_with}
+use Rattle.m88_base.proofs.Counting.{nonempty_with}
 use Rattle.m88_base.proofs.blocks.Blocks.split.Goals.{In_ok-upper, After-push}
 use Rattle.m88_base.proofs.blocks.Blocks.split.Goals as goal
 
@@ -39,18 +40,17 @@ nonempty c =
 pub count-requires : goal.count-requires
 count-requires c =
     let k = goal.at.count-requires c in
-    rw (c.deref_mut.ensures.value, c.deref.ensures.value, now k.After-push, c.push.ensures.items, c.if-is_err-2.ensures.negation, c.in_ok-reserve.ensures.items)
-    (counted_split c.self.inside.starts.items c.self.inside.blocks.items c.args.at c.split_off.new.self c.in_ok-upper.upper c.self.invariant.2
-    (within k.In_ok-upper) (whole k.In_ok-upper) (omega (arith, c.self.invariant.0, c.self.ranges)))
+    record {
+      long = search rules;
+      within = search rules;
+      counted = grind (arith, common_steps);
+      room = rw (c.deref.ensures.value, now k.After-push, same k.In_ok-upper) (omega (arith, c.self.invariant.0));
+    }
 
 pub invariant_of-self-2 : goal.invariant_of-self-2
 invariant_of-self-2 c =
-    let k = goal.at.invariant_of-self-2 c in (
-      rw (now k.After-push, same k.In_ok-upper) c.self.invariant.0,
-      rw (now k.After-push) (nonempty k.In_ok-upper),
-      counted_vec c.push.new.self.len c.count.new.starts c.push.new.self.items c.insert.new.self.items (sym (c.count.auto.starts ∙ c.deref_mut.ensures.len))
-          (rw c.deref.ensures.value at c.count.ensures),
-    )
+    let k = goal.at.invariant_of-self-2 c in
+    (rw (now k.After-push, same k.In_ok-upper) c.self.invariant.0, rw (now k.After-push) (nonempty k.In_ok-upper), grind (arith, common_steps))
 
 pub returns : goal.returns
 returns c = let k = goal.at.returns c in rw (← c.self.view_is, now k.After-push) (same k.In_ok-upper)
