@@ -1,5 +1,8 @@
 -- Frames and bits as they are seen: page by page.
-use Rattle.std.proofs.Common.{◌≡◌, ℕ, zero, suc, ◌<◌, ◌≤◌, ◌+◌, ◌*◌, ◌/◌, ◌%◌, Bool, ◌==◌, true, false, List, Option, Some, None, is_some, unwrap_or, length, slice_get, slice_index_or, refl, arith, ap, sym, ◌∙◌, inl, inr}
+use Rattle.std.proofs.Common.{◌≡◌, ℕ, zero, suc, ◌<◌, ◌≤◌, ◌+◌, ◌*◌, ◌/◌, ◌%◌, ◌^◌, Bool, ◌==◌, ◌||◌, true, false, bit_or, bit_and, List, Option, Some, None, get_or, is_some, unwrap_or, length, slice_get, slice_index_or, slice_set, if◌then◌else◌, refl, arith, ap, sym, ◌∙◌, inl, inr}
+use Rattle.std.specs.Int.{bit_not, w32}
+use Rattle.std.proofs.lemmas.List.{length-set}
+use Rattle.std.proofs.lemmas.Option.{slice_get-get_or}
 use Rattle.std.proofs.Math.ListN.{get_or-eq_default}
 use Rattle.std.proofs.Math.Path.{fun_ext}
 use Rattle.std.proofs.lemmas.Bool.{cases_eq, cases_lt}
@@ -7,9 +10,10 @@ use Rattle.std.proofs.lemmas.Bool.Decides.{nat_tests}
 use Rattle.std.proofs.lemmas.Nat.Bits.{bit_at-zero}
 use Rattle.m88_base.specs.Image.{ProgramImage}
 use Rattle.m88_base.specs.Pages.{page_count, page_number}
-use Rattle.m88_mem.proofs.Words.{bus_by}
-use Rattle.m88_mem.specs.DataBus.{MemoryView, absent_of, bus_of, image_bus, page_words, ready_of, word_of}
-use Rattle.m88_mem.specs.Inside.Frames.{by_page, frame_at, frame_in, is_marked, mark_words, seen_as, table_entries, tabulated, with_frame, word_at, word_in, words_in}
+use Rattle.m88_mem.proofs.Words.{bus_by, marked_with, marked_without}
+use Rattle.m88_mem.specs.DataBus.{MemoryView, bus_of, image_bus, page_words, ready_of, word_of}
+use Rattle.m88_mem.specs.Inside.Changes.{GoesOver, HasComeTo}
+use Rattle.m88_mem.specs.Inside.Frames.{by_page, frame_at, frame_in, is_in, is_marked, mark_words, seen_as, table_entries, tabulated, with_frame, word_at, word_in, words_in}
 use Rattle.m88_mem.specs.Marks.{with_page}
 use Rattle.m88_mem.specs.declared.frames.FrameTable.{FrameTable}
 use Rattle.m88_mem.specs.declared.frames.PageFrame.{PageFrame}
@@ -62,23 +66,41 @@ seen_page tables long p =
     at_page (λ page. words_in (frame_at tables page)) None (λ q past. ap words_in (no_frame_past tables long q past)) p
 
 -- the data bus, and the pages that are ready and absent
-pub seen_bus : (image : ProgramImage) (tables : List (Option FrameTable)) (words : List ℕ) → length tables ≡ table_entries →
-    bus_of (seen_as image tables words) ≡ bus_by (word_at tables) (image_bus image)
+pub seen_bus : (image : ProgramImage) (tables : List (Option FrameTable)) (absent : List Bool) → length tables ≡ table_entries →
+    bus_of (seen_as image tables absent) ≡ bus_by (word_at tables) (image_bus image)
 unfolding bus_of
-seen_bus image tables words long = fun_ext (λ a.
+seen_bus image tables absent long = fun_ext (λ a.
     ap (λ page. unwrap_or (word_of page (a / 4 % page_words)) (image_bus image a)) (seen_page tables long (page_number a))
     ∙ ap (λ word. unwrap_or word (image_bus image a)) (same_word (frame_at tables (page_number a)) (a / 4 % page_words)))
 
-pub seen_ready : (image : ProgramImage) (tables : List (Option FrameTable)) (words : List ℕ) → length tables ≡ table_entries →
-    (p : ℕ) → ready_of (seen_as image tables words) p ≡ is_some (frame_at tables p)
+pub seen_ready : (image : ProgramImage) (tables : List (Option FrameTable)) (absent : List Bool) → length tables ≡ table_entries →
+    (p : ℕ) → ready_of (seen_as image tables absent) p ≡ is_some (frame_at tables p)
 unfolding ready_of
-seen_ready image tables words long p =
+seen_ready image tables absent long p =
     ap is_some (seen_page tables long p) ∙ same_there (frame_at tables p)
 
-pub seen_absent : (image : ProgramImage) (tables : List (Option FrameTable)) (words : List ℕ) → length words ≡ mark_words →
-    (p : ℕ) → absent_of (seen_as image tables words) p ≡ is_marked words p
-unfolding absent_of
-seen_absent image tables words long p = at_page (is_marked words) false (no_mark_past words long) p
+-- the pages of a set by their bits
+pub seen_marks : (words : List ℕ) → length words ≡ mark_words → (p : ℕ) → is_in (by_page (is_marked words)) p ≡ is_marked words p
+seen_marks words long p = at_page (is_marked words) false (no_mark_past words long) p
+
+-- a set once a page is put in or taken out
+pub seen_with : (words : List ℕ) (set : List Bool) (page : ℕ) → length words ≡ mark_words → by_page (is_marked words) ≡ set →
+    page < page_count → (p : ℕ) →
+    is_in (by_page (is_marked (slice_set words (page / 32) (bit_or (slice_index_or words (page / 32) 0) (1 * 2 ^ (page % 32) % 2 ^ 32))))) p
+    ≡ (page == p || is_in set p)
+seen_with words set page long seen within p =
+    seen_marks _ (length-set words (page / 32) _ ∙ long) p
+    ∙ marked_with words page p (omega (arith, long, within))
+    ∙ ap (λ there. page == p || there) (sym (seen_marks words long p) ∙ ap (λ s. is_in s p) seen)
+
+pub seen_without : (words : List ℕ) (set : List Bool) (page : ℕ) → length words ≡ mark_words → by_page (is_marked words) ≡ set →
+    page < page_count → (p : ℕ) →
+    is_in (by_page (is_marked (slice_set words (page / 32) (bit_and (slice_index_or words (page / 32) 0) (bit_not w32 (1 * 2 ^ (page % 32) % 2 ^ 32)))))) p
+    ≡ with_page page false (is_in set) p
+seen_without words set page long seen within p =
+    seen_marks _ (length-set words (page / 32) _ ∙ long) p
+    ∙ marked_without words page p (omega (arith, long, within))
+    ∙ ap (λ there. if p == page then false else there) (sym (seen_marks words long p) ∙ ap (λ s. is_in s p) seen)
 
 -- a set with a page put in that is in it
 pub still_there : (set : ℕ → Bool) (page : ℕ) → set page ≡ true → (p : ℕ) → set p ≡ with_page page true set p
@@ -96,15 +118,29 @@ now_ready frames page frame set before p = elim (cases_eq p page) [
 ]
 
 -- a word of a page that is ready, as the data bus has it
-pub frame_word : (m : MemoryView) (image : ProgramImage) (tables : List (Option FrameTable)) (marks : List ℕ) →
-    seen_as image tables marks ≡ m → length tables ≡ table_entries → (page place word addr : ℕ) (words : List ℕ) →
+pub frame_word : (m : MemoryView) (image : ProgramImage) (tables : List (Option FrameTable)) (absent : List Bool) →
+    seen_as image tables absent ≡ m → length tables ≡ table_entries → (page place word addr : ℕ) (words : List ℕ) →
     words_in (frame_at tables page) ≡ Some words → slice_get words place ≡ Some word →
     addr ≡ page * 4096 + place * 4 → place < page_words → word ≡ bus_of m addr
-frame_word m image tables marks seen long page place word addr words there got is low =
-    let bus : bus_of m ≡ bus_by (word_at tables) (image_bus image) = ap bus_of (sym seen) ∙ seen_bus image tables marks long in
+frame_word m image tables absent seen long page place word addr words there got is low =
+    let bus : bus_of m ≡ bus_by (word_at tables) (image_bus image) = ap bus_of (sym seen) ∙ seen_bus image tables absent long in
     let high : page_number addr ≡ page = omega (arith, is, low) in
     let at : addr / 4 % page_words ≡ place = omega (arith, is, low) in
     let found : word_at tables (page_number addr) (addr / 4 % page_words) ≡ Some word =
     ap (λ p. word_at tables p (addr / 4 % page_words)) high ∙ ap (λ k. word_at tables page k) at
     ∙ sym (same_word (frame_at tables page) place) ∙ ap (λ o. word_of o place) there ∙ got in
     sym (ap (λ read. read addr) bus ∙ ap (λ o. unwrap_or o (image_bus image addr)) found)
+
+-- a walk goes over the words of such a page
+pub goes_over : (m : MemoryView) (image : ProgramImage) (tables : List (Option FrameTable)) (absent : List Bool) (page : ℕ)
+    (words : List ℕ) (changed : List (ℕ × ℕ)) → seen_as image tables absent ≡ m → length tables ≡ table_entries →
+    words_in (frame_at tables page) ≡ Some words → length words ≡ page_words → HasComeTo m page changed → GoesOver m page words changed
+goes_over m image tables absent page words changed seen entries there long here = record {
+  here = here;
+  long = long;
+  each = λ k few.
+      let got : slice_get words k ≡ Some (get_or words k 0) = slice_get-get_or words k 0 (omega (arith, few, long)) in
+      got
+      ∙ ap (λ word. Some word)
+      (frame_word m image tables absent seen entries page k (get_or words k 0) (page * 4096 + k * 4) words there got refl few);
+}

@@ -1,5 +1,5 @@
 -- The words that changed, page by page.
-use Rattle.std.proofs.Common.{◌≡◌, ◌≢◌, ℕ, ◌<◌, ◌≤◌, ◌+◌, ◌*◌, ◌/◌, ◌%◌, ◌++◌, [], ◌∷◌, List, Option, None, length, refl, arith, ap, sym, ◌∙◌, subst}
+use Rattle.std.proofs.Common.{◌≡◌, ◌≢◌, ℕ, ◌<◌, ◌≤◌, ◌+◌, ◌*◌, ◌/◌, ◌%◌, ◌++◌, [], ◌∷◌, Bool, List, Option, None, length, refl, arith, ap, sym, ◌∙◌, subst}
 use Rattle.m88_base.specs.Image.{ProgramImage}
 use Rattle.m88_base.specs.Pages.{page_number}
 use Rattle.m88_isa.proofs.Laws.{other_among, same_among, same_word_among}
@@ -47,11 +47,11 @@ nothing_in words image first count n o none from to =
     (omega arith) (omega arith)))
 
 -- as a memory is seen
-pub nothing_seen : (m : MemoryView) (image : ProgramImage) (tables : List (Option FrameTable)) (words : List ℕ) →
-    seen_as image tables words ≡ m → length tables ≡ table_entries → (first count n o : ℕ) →
+pub nothing_seen : (m : MemoryView) (image : ProgramImage) (tables : List (Option FrameTable)) (absent : List Bool) →
+    seen_as image tables absent ≡ m → length tables ≡ table_entries → (first count n o : ℕ) →
     ((page place : ℕ) → first ≤ page → page < first + count → word_at tables page place ≡ None) →
     n ≡ first * page_words → o ≡ n + count * page_words →
     changed_among n (image_bus m.image) (bus_of m) ≡ changed_among o (image_bus m.image) (bus_of m)
-nothing_seen m image tables words seen long first count n o none from to =
+nothing_seen m image tables absent seen long first count n o none from to =
     subst (λ (v : MemoryView). changed_among n (image_bus v.image) (bus_of v) ≡ changed_among o (image_bus v.image) (bus_of v)) seen
-    (rw (seen_bus image tables words long) (nothing_in (word_at tables) (image_bus image) first count n o none from to))
+    (rw (seen_bus image tables absent long) (nothing_in (word_at tables) (image_bus image) first count n o none from to))

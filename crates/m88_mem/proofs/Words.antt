@@ -1,5 +1,5 @@
 -- The words of the data bus by frames, and the bits of pages.
-use Rattle.std.proofs.Common.{◌≡◌, ◌≢◌, ℕ, zero, suc, ◌<◌, ◌≤◌, ◌+◌, ◌*◌, ◌/◌, ◌%◌, ◌^◌, ◌==◌, ◌&&◌, ◌||◌, ◌⊎◌, true, false, List, Option, Some, None, nat_lt, bit_or, bit_and, replicate, is_some, unwrap_or, length, slice_get, slice_index_or, slice_set, if◌then◌else◌, refl, arith, ap, sym, ◌∙◌, inl, inr}
+use Rattle.std.proofs.Common.{Bool, ◌≡◌, ◌≢◌, ℕ, zero, suc, ◌<◌, ◌≤◌, ◌+◌, ◌*◌, ◌/◌, ◌%◌, ◌^◌, ◌==◌, ◌&&◌, ◌||◌, ◌⊎◌, true, false, List, Option, Some, None, nat_lt, bit_or, bit_and, replicate, is_some, unwrap_or, length, slice_get, slice_index_or, slice_set, if◌then◌else◌, refl, arith, ap, sym, ◌∙◌, inl, inr}
 use Rattle.std.proofs.lemmas.Bool.{cases_eq, cases_lt}
 use Rattle.std.proofs.lemmas.Bool.Decides.{nat_tests}
 use Rattle.std.proofs.lemmas.List.{get_or-set_same, get_or-replicate, get_or-set_other, length-replicate}
@@ -144,30 +144,36 @@ marked_without words page p within = marked_set words page _ p within ∙ by_wor
         let apart : (p == page) ≡ false = grind (arith, nat_tests) in
         rw (test, apart) refl
 
--- words that are all ones name all pages
-pub all_marked : (words : List ℕ) →
-    ((i : ℕ) → slice_index_or words i 0 ≡ (if nat_lt i mark_words then 4294967295 else 0)) →
-    (p : ℕ) → is_marked words p ≡ nat_lt p page_count
-all_marked words ones p = elim (cases_lt p page_count) [
+-- words that are all the same
+pub marked_alike : (words : List ℕ) (word count : ℕ) → count ≡ mark_words → words ≡ replicate count word →
+    (p : ℕ) → is_marked words p ≡ (bit_at word (p % 32) == 1 && nat_lt p page_count)
+marked_alike words word count few e p = elim (cases_lt p page_count) [
   | inl below ↦
       let test : nat_lt p page_count ≡ true = grind (arith, nat_tests) in
-      let word : nat_lt (p / 32) mark_words ≡ true = grind (arith, nat_tests) in
-      rw (ones (p / 32), word, test) (ap (λ n. n == 1) (bit_at_ones 32 (p % 32) (omega arith)))
+      let at : slice_index_or words (p / 32) 0 ≡ word =
+      ap (λ xs. slice_index_or xs (p / 32) 0) e ∙ get_or-replicate count (p / 32) word 0 (omega (arith, below, few)) in
+      rw (at, test) (with_true (bit_at word (p % 32) == 1))
   | inr past ↦
       let test : nat_lt p page_count ≡ false = grind (arith, nat_tests) in
-      let word : nat_lt (p / 32) mark_words ≡ false = grind (arith, nat_tests) in
-      rw (ones (p / 32), word, test) (ap (λ n. n == 1) (bit_at-zero (p % 32)))
+      let none : slice_index_or words (p / 32) 0 ≡ 0 =
+      get_or-eq_default words 0 (omega (arith, past, few, ap length e, length-replicate count word)) in
+      rw (none, test) (ap (λ n. n == 1) (bit_at-zero (p % 32)) ∙ with_false (bit_at word (p % 32) == 1))
 ]
+  where
+    with_true : (b : Bool) → b ≡ (b && true)
+    with_true true = refl
+    with_true false = refl
 
--- so many words that are the same
-pub all_same : (count word : ℕ) (words : List ℕ) → words ≡ replicate count word →
-    (i : ℕ) → slice_index_or words i 0 ≡ (if nat_lt i count then word else 0)
-all_same count word words e i = ap (λ xs. slice_index_or xs i 0) e ∙ elim (cases_lt i count) [
-  | inl below ↦ let test : nat_lt i count ≡ true = grind (arith, nat_tests) in rw test (get_or-replicate count i word 0 below)
-  | inr past ↦
-      let test : nat_lt i count ≡ false = grind (arith, nat_tests) in
-      rw test (get_or-eq_default (replicate count word) 0 (omega (arith, past, length-replicate count word)))
-]
+    with_false : (b : Bool) → false ≡ (b && false)
+    with_false true = refl
+    with_false false = refl
+
+-- words of ones name all pages, and words of zeros none
+pub all_marked : (p : ℕ) → (bit_at 4294967295 (p % 32) == 1 && nat_lt p page_count) ≡ nat_lt p page_count
+all_marked p = rw (bit_at_ones 32 (p % 32) (omega arith)) refl
+
+pub none_marked : (p : ℕ) → (bit_at 0 (p % 32) == 1 && nat_lt p page_count) ≡ false
+none_marked p = rw (bit_at-zero (p % 32)) refl
 
 -- where the image has no byte the words of its data bus are 0
 blank_byte : (image : ProgramImage) (at n a : ℕ) → IsFree (byte_at image) at n → at ≤ a → a < at + n → image_bytes image a ≡ 0

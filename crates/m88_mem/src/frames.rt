@@ -3,11 +3,11 @@
 // a frame, a word and a table, where they are there
 crate::specs::Inside::Frames::frame_in, crate::specs::Inside::Frames::word_in, crate::specs::Inside::Frames::has_table))]
 
-ghost use Rattle.std.specs.Prelude.{◌≡◌, ◌<◌, ◌==◌, ◌&&◌, ℕ, true, None, Some, is_some, replicate, length, option_map, slice_get, unwrap_or, if◌then◌else◌, IfOk, IfSome, OnErr, OnOk};
-ghost use Rattle.m88_base.specs.Pages.{page_count};
-ghost use Rattle.m88_isa.specs.Lanes.{IsEnable, merged};
+ghost use Rattle.std.specs.Prelude.{◌≡◌, ℕ, None, Some, is_some, replicate, length, option_map, slice_get, unwrap_or, IfOk, IfSome};
+ghost use Rattle.m88_base.specs.Pages.{IsPage};
+ghost use Rattle.m88_isa.specs.Lanes.{merged};
 ghost use Rattle.m88_mem.specs.DataBus.{page_words};
-ghost use Rattle.m88_mem.specs.Inside.Frames.{HasPut, IsPut, frame_at, frame_in, has_table, table_entries, with_frame, word_at, words_in};
+ghost use Rattle.m88_mem.specs.Inside.Frames.{AreBare, CanHold, CanPut, CanPutInFrame, CanPutInTable, GivesTable, HasPut, Holds, IsPut, PutsWord, frame_at, frame_in, has_table, table_entries, word_at, words_in};
 ghost use Rattle.m88_mem.specs.declared.frames.FrameTable.{FrameTable as FrameTableValue};
 ghost use Rattle.m88_mem.specs.declared.frames.PageFrame.{PageFrame as PageFrameValue};
 
@@ -52,8 +52,7 @@ impl Model for PageFrames {
 impl PageFrames {
     /// No page is ready.
     pub fn new(alloc: Global) -> Result<PageFrames, NoMemory>
-        ensures none { IfOk result (λ f. (page : ℕ) → frame_at f page ≡ None) }
-        ensures entries { IfOk result (λ f. length f ≡ table_entries) }
+        ensures { IfOk result AreBare }
     {
         let mut tables = vec![in alloc]?;
         for _ in 0..ENTRIES {
@@ -107,11 +106,8 @@ impl PageFrames {
 
     /// Gives the page's part of the upper level a table. The frames stay as they are.
     pub fn give_table(&mut self, alloc: Global, page: u32) -> Result<(), NoMemory>
-        requires { page < page_count }
-        ensures same { (p : ℕ) → frame_at self.new p ≡ frame_at self.old p }
-        ensures entries { length self.new ≡ length self.old }
-        ensures err { OnErr result (self.new ≡ self.old) }
-        ensures there { OnOk result (has_table self.new page ≡ true) }
+        requires { IsPage page }
+        ensures { GivesTable self.old self.new page result }
     {
         let high = page as usize / ENTRIES;
         if self.tables[high].is_some() {
@@ -124,12 +120,8 @@ impl PageFrames {
 
     /// Puts a page's frame in its place.
     pub fn set_frame(&mut self, page: u32, frame: PageFrame)
-        requires page { page < page_count }
-        requires there { has_table self.old page ≡ true }
-        requires words { length frame.words.items ≡ page_words }
-        ensures frames { (p : ℕ) → frame_at self.new p
-            ≡ with_frame page (Some frame) (frame_at self.old) p }
-        ensures entries { length self.new ≡ length self.old }
+        requires { CanHold self.old page frame }
+        ensures { Holds self.old self.new page frame }
     {
         let high = page as usize / ENTRIES;
         let Some(mut table) = self.tables[high].take() else {
@@ -142,15 +134,8 @@ impl PageFrames {
     /// Writes the low bytes of a value to the bytes that `en` touches of a word of a page that is ready, by its place.
     /// The word is there: it doesn't matter what would stand for one that isn't.
     pub fn put(&mut self, page: u32, place: usize, en: u8, value: u32)
-        requires page { page < page_count }
-        requires place { place < page_words }
-        requires ready { is_some (frame_at self.old page) ≡ true }
-        requires enable { IsEnable en }
-        ensures word { (other p k : ℕ) → word_at self.new p k ≡ (if p == page && k == place
-            then Some (merged en value (unwrap_or (word_at self.old page place) other))
-            else word_at self.old p k) }
-        ensures ready { (p : ℕ) → is_some (frame_at self.new p) ≡ is_some (frame_at self.old p) }
-        ensures entries { length self.new ≡ length self.old }
+        requires { CanPut self.old page place en }
+        ensures { PutsWord self.old self.new page place en value }
     {
         let table = &mut self.tables[page as usize / ENTRIES];
         put_in_table(table, page as usize % ENTRIES, place, en, value);
@@ -172,11 +157,7 @@ impl FrameTable {
 
 /// Writes to a word of a frame of a table where it stands.
 fn put_in_table(table: &mut Option<FrameTable>, low: usize, place: usize, en: u8, value: u32)
-    requires low { low < table_entries }
-    requires long { IfSome table.old (λ t. length t.frames.items ≡ table_entries) }
-    requires ready { is_some (frame_in table.old low) ≡ true }
-    requires place { IfSome (frame_in table.old low) (λ f. place < length f.words.items) }
-    requires enable { IsEnable en }
+    requires { CanPutInTable table.old low place en }
     ensures { (other : ℕ) (t : FrameTableValue) (f : PageFrameValue) → table.old ≡ Some t
         → frame_in table.old low ≡ Some f → HasPut table.new t f low place
         (merged en value (unwrap_or (slice_get f.words.items place) other)) }
@@ -189,9 +170,7 @@ fn put_in_table(table: &mut Option<FrameTable>, low: usize, place: usize, en: u8
 
 /// Writes to a word of a frame.
 fn put_in_frame(frame: &mut Option<PageFrame>, place: usize, en: u8, value: u32)
-    requires ready { is_some frame.old ≡ true }
-    requires place { IfSome frame.old (λ f. place < length f.words.items) }
-    requires enable { IsEnable en }
+    requires { CanPutInFrame frame.old place en }
     ensures { (other : ℕ) (f : PageFrameValue) → frame.old ≡ Some f → IsPut frame.new f place
         (merged en value (unwrap_or (slice_get f.words.items place) other)) }
 {

@@ -1,16 +1,14 @@
 //! Instructions that were read from an image, kept by their addresses.
-ghost use Rattle.std.specs.Prelude.{◌≡◌, ◌<◌, ◌%◌, None, Some, length, IfOk, IfSome};
-ghost use Rattle.std.specs.Int.{to_be_bytes, w32};
-ghost use Rattle.m88_base.specs.Image.{ProgramImage, byte_at};
-ghost use Rattle.m88_isa.specs.Machine.{four_bytes};
-ghost use Rattle.m88_isa.specs.Word.{IsWord};
-ghost use Rattle.m88_mem.specs.Inside.Lines.{AreLines, line_count};
+ghost use Rattle.std.specs.Prelude.{◌≡◌, IfOk, IfSome};
+ghost use Rattle.m88_base.specs.Image.{ProgramImage};
+ghost use Rattle.m88_mem.specs.Inside.Lines.{AreLines, IsWordAt};
 ghost use Rattle.m88_mem.specs.Lines.{IsLine};
 
 use crate::places::fetched;
 use m88_base::{Image, NoMemory};
 use m88_isa::{Instr, uses, writes};
 use std::alloc::Global;
+use std::marker::Model;
 
 /// How many are kept at most: one for the addresses of words that are so many words apart.
 const LINES: usize = 4096;
@@ -27,28 +25,56 @@ pub struct Line {
     pub lacks_behind: bool,
 }
 
-/// No instruction is kept.
-pub(crate) fn no_lines(alloc: Global) -> Result<Vec<Option<Line>>, NoMemory>
-    ensures long { IfOk result (λ lines. length lines.items ≡ line_count) }
-    ensures none { IfOk result (λ lines. (image : ProgramImage) → AreLines image lines.items) }
-{
-    Ok(vec![in alloc; None; LINES]?)
+/// Instructions by the places of their addresses.
+#[derive(Drop, Debug)]
+pub(crate) struct KeptLines {
+    lines: Vec<Option<Line>>,
 }
 
-/// The place of an address among those that are kept.
-fn place_of(addr: u32) -> usize
-    ensures { result < line_count }
-{
-    (addr / 4) as usize % LINES
+impl Model for KeptLines {
+    ghost use Rattle.std.specs.Prelude.{◌≡◌, List, Option, length};
+    ghost use Rattle.m88_mem.specs.declared.lines.Line.{Line};
+
+    ghost Value = { List (Option Line) };
+
+    ghost use Rattle.m88_mem.specs.Inside.Lines.{line_count};
+
+    ghost view = { λ kept. kept.lines.items };
+
+    ghost invariant = { λ kept. length kept.lines.items ≡ line_count };
+}
+
+impl KeptLines {
+    /// No instruction is kept.
+    pub fn new(alloc: Global) -> Result<KeptLines, NoMemory>
+        ensures { IfOk result (λ kept. (image : ProgramImage) → AreLines image kept) }
+    {
+        let lines = vec![in alloc; None; LINES]?;
+        Ok(KeptLines { lines })
+    }
+
+    /// The instruction that is kept of an address, if one is.
+    pub fn line(&self, addr: u32) -> Option<Line>
+        ensures { IfSome result (λ line. (line.addr ≡ addr)
+            × ((image : ProgramImage) → AreLines image self.now → IsLine image line)) }
+    {
+        let line = self.lines[(addr / 4) as usize % LINES]?;
+        if line.addr == addr { Some(line) } else { None }
+    }
+
+    /// Keeps an instruction in place of the one that has its place.
+    pub fn keep(&mut self, line: Line)
+        ensures { (image : ProgramImage) → IsLine image line → AreLines image self.old
+            → AreLines image self.new }
+    {
+        self.lines[(line.addr / 4) as usize % LINES] = Some(line);
+    }
 }
 
 /// The instruction of a word at an address, with what is kept beside it.
 pub(crate) fn line_of(image: &Image, addr: u32, word: u32, instr: Instr) -> Line
-    requires aligned { addr % 4 ≡ 0 }
-    requires word { four_bytes (byte_at image.now) addr ≡ Some (to_be_bytes w32 word) }
-    requires instruction { IsWord instr word }
-    ensures line { IsLine image.now result }
-    ensures here { result.addr ≡ addr }
+    requires { IsWordAt image.now addr word instr }
+    ensures { (result.addr ≡ addr) × IsLine image.now result }
 {
     Line {
         addr,
@@ -57,24 +83,4 @@ pub(crate) fn line_of(image: &Image, addr: u32, word: u32, instr: Instr) -> Line
         involved: uses(&instr) | writes(&instr),
         lacks_behind: fetched(image, addr.wrapping_add(4)).is_none(),
     }
-}
-
-/// The instruction that is kept of an address, if one is.
-pub(crate) fn line_at(lines: &[Option<Line>], addr: u32) -> Option<Line>
-    requires { length lines.now ≡ line_count }
-    ensures { IfSome result (λ line. (line.addr ≡ addr)
-        × ((image : ProgramImage) → AreLines image lines.now → IsLine image line)) }
-{
-    let line = lines[place_of(addr)]?;
-    if line.addr == addr { Some(line) } else { None }
-}
-
-/// Keeps an instruction in place of the one that has its place.
-pub(crate) fn keep_line(lines: &mut Vec<Option<Line>>, line: Line)
-    requires { length lines.old.items ≡ line_count }
-    ensures long { length lines.new.items ≡ line_count }
-    ensures kept { (image : ProgramImage) → IsLine image line → AreLines image lines.old.items
-        → AreLines image lines.new.items }
-{
-    lines[place_of(line.addr)] = Some(line);
 }

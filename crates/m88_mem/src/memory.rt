@@ -5,26 +5,27 @@ crate::specs::DataBus::bus_of, crate::specs::DataBus::ready_of, crate::specs::Da
 // a word that changes
 m88_isa::specs::Bus::with_word))]
 
-ghost use Rattle.std.specs.Prelude.{◌≡◌, ◌++◌, ◌∷◌, [], ◌+◌, ◌*◌, ◌/◌, ◌%◌, ◌<◌, ◌↔◌, ℕ, true, false, Some, length, replicate, slice_get, option_map, IfOk, IfSome, IsErr, IsTrue, OnErr, OnOk};
+ghost use Rattle.std.specs.Prelude.{◌≡◌, ◌++◌, ◌∷◌, [], ◌+◌, ◌*◌, ◌/◌, ◌%◌, ◌<◌, ◌↔◌, true, false, Some, length, slice_get, option_map, IfOk, IfSome, IsErr, IsTrue, OnErr, OnOk};
 ghost use Rattle.std.specs.Int.{to_be_bytes, w32};
 ghost use Rattle.m88_base.specs.Found.{IsFree};
 ghost use Rattle.m88_base.specs.Image.{byte_at};
 ghost use Rattle.m88_base.specs.Pages.{IsPage, every_page, no_page, page_number};
-ghost use Rattle.m88_isa.specs.Bus.{changed_among, changed_words, with_word};
+ghost use Rattle.m88_isa.specs.Bus.{changed_words, with_word};
 ghost use Rattle.m88_isa.specs.Lanes.{IsEnable, merged};
 ghost use Rattle.m88_isa.specs.Machine.{four_bytes};
 ghost use Rattle.m88_isa.specs.Word.{IsWord};
 ghost use Rattle.m88_mem.specs.DataBus.{absent_of, bus_of, image_bus, page_words, ready_of};
-ghost use Rattle.m88_mem.specs.Inside.Frames.{table_entries};
+ghost use Rattle.m88_mem.specs.Inside.Changes.{GoesOver, HasComeTo, MakesReady, changed_before};
+ghost use Rattle.m88_mem.specs.Inside.Frames.{IsImageFrame, table_entries};
 ghost use Rattle.m88_mem.specs.Lines.{IsLine};
 ghost use Rattle.m88_mem.specs.Marks.{NamesPages, absent_in, with_page};
 
 use crate::absent_page::AbsentPage;
 use crate::frames::{ENTRIES, PageFrame, PageFrames};
-use crate::lines::{Line, keep_line, line_at, line_of, no_lines};
-use crate::marks::{absent_marks, clear_mark, is_marked, mark_all};
+use crate::lines::{KeptLines, Line, line_of};
+use crate::marks::PageMarks;
 use crate::places::{fetched, image_page, image_word, page_word};
-use crate::reads::{Read, keep_read, no_reads, read_at};
+use crate::reads::{KeptReads, Read};
 use m88_base::{Absent, Image, NoMemory, PAGE_BYTES};
 use m88_isa::Instr;
 use std::alloc::Global;
@@ -40,11 +41,11 @@ pub struct Memory {
     alloc: Global,
     image: Image,
     frames: PageFrames,
-    absent: Vec<u32>,
+    absent: PageMarks,
     /// Instructions that were read: nothing is seen of them.
-    lines: Vec<Option<Line>>,
+    lines: KeptLines,
     /// Words of the image that were read: nothing is seen of them either.
-    reads: Vec<Option<Read>>,
+    reads: KeptReads,
 }
 
 impl Model for Memory {
@@ -53,10 +54,9 @@ impl Model for Memory {
 
     ghost Value = { MemoryView };
 
-    ghost view = { λ m. seen_as m.image m.frames m.absent.items };
+    ghost view = { λ m. seen_as m.image m.frames m.absent };
 
-    ghost invariant = { λ m. IsMemory m.image m.frames m.absent.items m.lines.items
-        m.reads.items };
+    ghost invariant = { λ m. IsMemory m.image m.frames m.lines m.reads };
 }
 
 impl Memory {
@@ -71,9 +71,9 @@ impl Memory {
     {
         let image = image.copy(alloc)?;
         let frames = PageFrames::new(alloc)?;
-        let absent = absent_marks(alloc, absent)?;
-        let lines = no_lines(alloc)?;
-        let reads = no_reads(alloc)?;
+        let absent = PageMarks::new(alloc, absent)?;
+        let lines = KeptLines::new(alloc)?;
+        let reads = KeptReads::new(alloc)?;
         Ok(Memory {
             alloc,
             image,
@@ -108,7 +108,7 @@ impl Memory {
     pub fn line(&self, addr: u32) -> Option<Line>
         ensures { IfSome result (λ line. (line.addr ≡ addr) × IsLine self.now.image line) }
     {
-        line_at(&self.lines, addr)
+        self.lines.line(addr)
     }
 
     /// Keeps the instruction of the word at a byte address. Nothing of it is seen but by `line`.
@@ -120,7 +120,7 @@ impl Memory {
         ensures stays { self.new ≡ self.old }
     {
         let line = line_of(&self.image, addr, word, instr);
-        keep_line(&mut self.lines, line);
+        self.lines.keep(line);
         line
     }
 
@@ -129,7 +129,7 @@ impl Memory {
         requires { IsPage page }
         ensures { result ≡ absent_of self.now page }
     {
-        is_marked(&self.absent, page)
+        self.absent.is_marked(page)
     }
 
     /// Whether the page of a byte address is ready: no store to it needs memory.
@@ -169,11 +169,11 @@ impl Memory {
         ensures value { result ≡ image_bus self.old.image addr }
         ensures stays { self.new ≡ self.old }
     {
-        if let Some(word) = read_at(&self.reads, addr) {
+        if let Some(word) = self.reads.word(addr) {
             return word;
         }
         let word = image_word(&self.image, addr);
-        keep_read(&mut self.reads, Read { addr, word });
+        self.reads.keep(Read { addr, word });
         word
     }
 
@@ -201,12 +201,7 @@ impl Memory {
     #[inline(never)]
     fn make_ready(&mut self, addr: u32) -> Result<(), NoMemory>
         requires { ready_of self.old (page_number addr) ≡ false }
-        ensures image { self.new.image ≡ self.old.image }
-        ensures bus { bus_of self.new ≡ bus_of self.old }
-        ensures absent { absent_of self.new ≡ absent_of self.old }
-        ensures ready { OnOk result
-            (ready_of self.new ≡ with_page (page_number addr) true (ready_of self.old)) }
-        ensures unchanged { OnErr result (self.new ≡ self.old) }
+        ensures { MakesReady self.old self.new (page_number addr) result }
     {
         let page = addr / PAGE_BYTES;
         let frame = image_frame(self.alloc, &self.image, page)?;
@@ -272,7 +267,7 @@ impl Memory {
         ensures bus { bus_of self.new ≡ bus_of self.old }
         ensures ready { ready_of self.new ≡ ready_of self.old }
     {
-        clear_mark(&mut self.absent, page);
+        self.absent.clear(page);
     }
 
     /// Every page is absent until it is supplied, also one that is ready. The words stay, and the pages that are ready.
@@ -282,7 +277,7 @@ impl Memory {
         ensures bus { bus_of self.new ≡ bus_of self.old }
         ensures ready { ready_of self.new ≡ ready_of self.old }
     {
-        mark_all(&mut self.absent);
+        self.absent.mark_all();
     }
 
     /// The words of the data bus that differ from the image's, each with its address, in order of address.
@@ -301,11 +296,8 @@ impl Memory {
 
     /// Appends the words that differ from the image's in the pages of one table.
     fn changed_in_table(&self, high: u32, changed: &mut Vec<(u32, u32)>) -> Result<(), NoMemory>
-        requires table { high < table_entries }
-        requires before { changed.old.items
-            ≡ changed_among (high * table_entries * page_words) (image_bus self.now.image) (bus_of self.now) }
-        ensures { OnOk result (changed.new.items
-            ≡ changed_among ((high + 1) * table_entries * page_words) (image_bus self.now.image) (bus_of self.now)) }
+        requires { HasComeTo self.now (high * table_entries) changed.old.items }
+        ensures { OnOk result (changed.new.items ≡ changed_before self.now ((high + 1) * table_entries)) }
     {
         for low in 0..ENTRIES as u32 {
             self.changed_in_page(high * ENTRIES as u32 + low, changed)?;
@@ -315,11 +307,8 @@ impl Memory {
 
     /// Appends the words of a page that differ from the image's, of which a page that isn't ready has none.
     fn changed_in_page(&self, page: u32, changed: &mut Vec<(u32, u32)>) -> Result<(), NoMemory>
-        requires page { IsPage page }
-        requires before { changed.old.items
-            ≡ changed_among (page * page_words) (image_bus self.now.image) (bus_of self.now) }
-        ensures { OnOk result (changed.new.items
-            ≡ changed_among ((page + 1) * page_words) (image_bus self.now.image) (bus_of self.now)) }
+        requires { HasComeTo self.now page changed.old.items }
+        ensures { OnOk result (changed.new.items ≡ changed_before self.now (page + 1)) }
     {
         let Some(words) = self.frames.words(page) else {
             return Ok(());
@@ -340,15 +329,9 @@ impl Memory {
         words: &[u32],
         changed: &mut Vec<(u32, u32)>,
     ) -> Result<(), NoMemory>
-        requires page { IsPage page }
-        requires long { length words.now ≡ page_words }
-        requires words { (k : ℕ) → k < page_words
-            → slice_get words.now k ≡ Some (bus_of self.now (page * 4096 + k * 4)) }
+        requires walk { GoesOver self.now page words.now changed.old.items }
         requires free { IsFree (byte_at self.now.image) (page * 4096) 4096 }
-        requires before { changed.old.items
-            ≡ changed_among (page * page_words) (image_bus self.now.image) (bus_of self.now) }
-        ensures { OnOk result (changed.new.items
-            ≡ changed_among ((page + 1) * page_words) (image_bus self.now.image) (bus_of self.now)) }
+        ensures { OnOk result (changed.new.items ≡ changed_before self.now (page + 1)) }
     {
         for place in 0..PAGE_WORDS {
             let word = word_among(words, place);
@@ -368,14 +351,8 @@ impl Memory {
         words: &[u32],
         changed: &mut Vec<(u32, u32)>,
     ) -> Result<(), NoMemory>
-        requires page { IsPage page }
-        requires long { length words.now ≡ page_words }
-        requires words { (k : ℕ) → k < page_words
-            → slice_get words.now k ≡ Some (bus_of self.now (page * 4096 + k * 4)) }
-        requires before { changed.old.items
-            ≡ changed_among (page * page_words) (image_bus self.now.image) (bus_of self.now) }
-        ensures { OnOk result (changed.new.items
-            ≡ changed_among ((page + 1) * page_words) (image_bus self.now.image) (bus_of self.now)) }
+        requires { GoesOver self.now page words.now changed.old.items }
+        ensures { OnOk result (changed.new.items ≡ changed_before self.now (page + 1)) }
     {
         let bytes = image_page(&self.image, page);
         for place in 0..PAGE_WORDS {
@@ -405,8 +382,7 @@ fn word_among(words: &[u32], place: u32) -> u32
 
 /// The place of the word at a byte address among the words of its page.
 fn place_of(addr: u32) -> usize
-    ensures value { result ≡ addr / 4 % page_words }
-    ensures bound { result < page_words }
+    ensures { result ≡ addr / 4 % page_words }
 {
     (addr / 4 % PAGE_WORDS) as usize
 }
@@ -414,14 +390,12 @@ fn place_of(addr: u32) -> usize
 /// A frame with the words that the image has at a page, and 0 where it has none.
 fn image_frame(alloc: Global, image: &Image, page: u32) -> Result<PageFrame, NoMemory>
     requires { IsPage page }
-    ensures long { IfOk result (λ f. length f.words.items ≡ page_words) }
-    ensures each { IfOk result (λ f. (k : ℕ) → k < page_words
-        → slice_get f.words.items k ≡ Some (image_bus image.now (page * 4096 + k * 4))) }
+    ensures { IfOk result (IsImageFrame image.now page) }
 {
     match image.first_taken(page * PAGE_BYTES, PAGE_BYTES as usize) {
         Some(_) => copied_frame(alloc, image, page),
         None => {
-            let words = zeros(alloc, PAGE_WORDS as usize)?;
+            let words = vec![in alloc; 0u32; PAGE_WORDS as usize]?;
             Ok(PageFrame { words })
         }
     }
@@ -432,9 +406,7 @@ fn image_frame(alloc: Global, image: &Image, page: u32) -> Result<PageFrame, NoM
 #[inline(never)]
 fn copied_frame(alloc: Global, image: &Image, page: u32) -> Result<PageFrame, NoMemory>
     requires { IsPage page }
-    ensures long { IfOk result (λ f. length f.words.items ≡ page_words) }
-    ensures each { IfOk result (λ f. (k : ℕ) → k < page_words
-        → slice_get f.words.items k ≡ Some (image_bus image.now (page * 4096 + k * 4))) }
+    ensures { IfOk result (IsImageFrame image.now page) }
 {
     let bytes = image_page(image, page);
     let mut words = Vec::with_capacity(alloc, PAGE_WORDS as usize)?;
@@ -443,11 +415,4 @@ fn copied_frame(alloc: Global, image: &Image, page: u32) -> Result<PageFrame, No
         words.push(word).or(Err(NoMemory))?;
     }
     Ok(PageFrame { words })
-}
-
-/// So many words, each 0.
-fn zeros(alloc: Global, count: usize) -> Result<Vec<u32>, NoMemory>
-    ensures { IfOk result (λ words. words.items ≡ replicate count 0) }
-{
-    Ok(vec![in alloc; 0u32; count]?)
 }

@@ -1,7 +1,7 @@
 //! The word of the image at an address, and the bytes of a page.
 #![tactic(auto, unfolding(crate::specs::DataBus::image_bytes, m88_isa::specs::Bus::in_words))]
 
-ghost use Rattle.std.specs.Prelude.{◌≡◌, ◌+◌, ◌*◌, ◌%◌, ◌<◌, None, length, option_map, replicate, slice_index_or};
+ghost use Rattle.std.specs.Prelude.{◌≡◌, ◌+◌, ◌*◌, ◌%◌, ◌<◌, option_map, replicate, slice_index_or};
 ghost use Rattle.std.specs.Int.{to_be_bytes, w32};
 ghost use Rattle.m88_base.specs.Found.{filled};
 ghost use Rattle.m88_base.specs.Image.{byte_at};
@@ -28,7 +28,8 @@ pub(crate) fn fetched(image: &Image, addr: u32) -> Option<u32>
 }
 
 /// The word at an address, with zeros for the bytes that are missing. Of the bytes from an address on it is known where
-/// they end, so that a byte is looked up by itself only behind one that is missing.
+/// they end, so that a byte is looked up by itself only behind one that is missing; where all four are, that is found
+/// at once.
 pub(crate) fn image_word(image: &Image, addr: u32) -> u32
     requires { addr % 4 ≡ 0 }
     ensures { result ≡ image_bus image.now addr }
@@ -45,30 +46,20 @@ pub(crate) fn image_word(image: &Image, addr: u32) -> u32
             let (third, fourth) = pair_at(image, addr + 2);
             BigEndian::read_u32(&[*first, 0, third, fourth])
         }
-        [] => word_behind_gap(image, addr),
-    }
-}
-
-/// The word at an address whose byte is missing, found at once where no other is there.
-fn word_behind_gap(image: &Image, addr: u32) -> u32
-    requires word { addr % 4 ≡ 0 }
-    requires missing { byte_at image.now addr ≡ None }
-    ensures { result ≡ image_bus image.now addr }
-{
-    match image.first_taken(addr, 4) {
-        None => 0,
-        Some(_) => {
-            let (third, fourth) = pair_at(image, addr + 2);
-            BigEndian::read_u32(&[0, byte_or_zero(image, addr + 1), third, fourth])
-        }
+        [] => match image.first_taken(addr, 4) {
+            None => 0,
+            Some(_) => {
+                let (third, fourth) = pair_at(image, addr + 2);
+                BigEndian::read_u32(&[0, byte_or_zero(image, addr + 1), third, fourth])
+            }
+        },
     }
 }
 
 /// The two bytes from an even address on, with 0 for one that is missing.
 fn pair_at(image: &Image, addr: u32) -> (u8, u8)
     requires { addr % 2 ≡ 0 }
-    ensures first { result.0 ≡ image_bytes image.now addr }
-    ensures second { result.1 ≡ image_bytes image.now (addr + 1) }
+    ensures { result ≡ (image_bytes image.now addr, image_bytes image.now (addr + 1)) }
 {
     match image.rest(addr) {
         [first, second, ..] => (*first, *second),
@@ -88,9 +79,8 @@ pub(crate) fn image_page(image: &Image, page: u32) -> [u8; PAGE_BYTES as usize]
 }
 
 /// The word at a place among the bytes of a page.
-pub(crate) fn page_word(bytes: &[u8], place: u32) -> u32
-    requires long { length bytes.now ≡ page_bytes }
-    requires place { place < page_words }
+pub(crate) fn page_word(bytes: &[u8; PAGE_BYTES as usize], place: u32) -> u32
+    requires { place < page_words }
     ensures { result ≡ in_words (λ a. slice_index_or bytes.now a 0) (place * 4) }
 {
     BigEndian::read_u32(&bytes[place as usize * 4..])

@@ -1,11 +1,12 @@
 //! Words that were read from an image, kept by their addresses.
-ghost use Rattle.std.specs.Prelude.{◌≡◌, ◌<◌, length, IfOk, IfSome};
+ghost use Rattle.std.specs.Prelude.{◌≡◌, IfOk, IfSome};
 ghost use Rattle.m88_base.specs.Image.{ProgramImage};
 ghost use Rattle.m88_mem.specs.DataBus.{image_bus};
-ghost use Rattle.m88_mem.specs.Inside.Reads.{AreReads, read_count};
+ghost use Rattle.m88_mem.specs.Inside.Reads.{AreReads};
 
 use m88_base::NoMemory;
 use std::alloc::Global;
+use std::marker::Model;
 
 /// How many are kept at most: one for the addresses of words that are so many words apart.
 const READS: usize = 1024;
@@ -17,41 +18,52 @@ pub(crate) struct Read {
     pub word: u32,
 }
 
-/// No word is kept.
-pub(crate) fn no_reads(alloc: Global) -> Result<Vec<Option<Read>>, NoMemory>
-    ensures long { IfOk result (λ reads. length reads.items ≡ read_count) }
-    ensures none { IfOk result (λ reads. (image : ProgramImage) → AreReads image reads.items) }
-{
-    Ok(vec![in alloc; None; READS]?)
+/// Words by the places of their addresses.
+#[derive(Drop, Debug)]
+pub(crate) struct KeptReads {
+    reads: Vec<Option<Read>>,
 }
 
-/// The place of an address among those that are kept.
-fn place_of(addr: u32) -> usize
-    ensures { result < read_count }
-{
-    (addr / 4) as usize % READS
+impl Model for KeptReads {
+    ghost use Rattle.std.specs.Prelude.{◌≡◌, List, Option, length};
+    ghost use Rattle.m88_mem.specs.declared.reads.Read.{Read};
+
+    ghost Value = { List (Option Read) };
+
+    ghost use Rattle.m88_mem.specs.Inside.Reads.{read_count};
+
+    ghost view = { λ kept. kept.reads.items };
+
+    ghost invariant = { λ kept. length kept.reads.items ≡ read_count };
 }
 
-/// The word that is kept of an address, if one is.
-pub(crate) fn read_at(reads: &[Option<Read>], addr: u32) -> Option<u32>
-    requires { length reads.now ≡ read_count }
-    ensures { IfSome result (λ word. (image : ProgramImage) → AreReads image reads.now
-        → word ≡ image_bus image addr) }
-{
-    let read = reads[place_of(addr)]?;
-    if read.addr == addr {
-        Some(read.word)
-    } else {
-        None
+impl KeptReads {
+    /// No word is kept.
+    pub fn new(alloc: Global) -> Result<KeptReads, NoMemory>
+        ensures { IfOk result (λ kept. (image : ProgramImage) → AreReads image kept) }
+    {
+        let reads = vec![in alloc; None; READS]?;
+        Ok(KeptReads { reads })
     }
-}
 
-/// Keeps a word in place of the one that has its place.
-pub(crate) fn keep_read(reads: &mut Vec<Option<Read>>, read: Read)
-    requires { length reads.old.items ≡ read_count }
-    ensures long { length reads.new.items ≡ read_count }
-    ensures kept { (image : ProgramImage) → read.word ≡ image_bus image read.addr
-        → AreReads image reads.old.items → AreReads image reads.new.items }
-{
-    reads[place_of(read.addr)] = Some(read);
+    /// The word that is kept of an address, if one is.
+    pub fn word(&self, addr: u32) -> Option<u32>
+        ensures { IfSome result (λ word. (image : ProgramImage) → AreReads image self.now
+            → word ≡ image_bus image addr) }
+    {
+        let read = self.reads[(addr / 4) as usize % READS]?;
+        if read.addr == addr {
+            Some(read.word)
+        } else {
+            None
+        }
+    }
+
+    /// Keeps a word in place of the one that has its place.
+    pub fn keep(&mut self, read: Read)
+        ensures { (image : ProgramImage) → read.word ≡ image_bus image read.addr
+            → AreReads image self.old → AreReads image self.new }
+    {
+        self.reads[(read.addr / 4) as usize % READS] = Some(read);
+    }
 }

@@ -1,12 +1,13 @@
 -- The frames of the pages that are ready, behind a table of two levels of 1,024 entries each, a bit for each page, 32
 -- pages to a word, and how both are seen.
-use Rattle.std.specs.Prelude.{ℕ, zero, suc, Bool, List, [], ◌∷◌, Option, None, Some, ◌≡◌, ◌/◌, ◌%◌, ◌^◌, ◌==◌, is_some, length, slice_get, slice_index_or, slice_set, if◌then◌else◌}
+use Rattle.std.specs.Prelude.{ℕ, zero, suc, Bool, true, false, List, [], ◌∷◌, Option, None, Some, ◌≡◌, ◌<◌, ◌+◌, ◌*◌, ◌/◌, ◌%◌, ◌^◌, ◌==◌, ◌&&◌, is_some, length, slice_get, slice_index_or, slice_set, unwrap_or, if◌then◌else◌, IfSome, OnErr, OnOk, Result}
 use Rattle.std.specs.Int.{bit_at}
 use Rattle.m88_base.specs.Image.{ProgramImage}
-use Rattle.m88_base.specs.Pages.{page_count}
-use Rattle.m88_mem.specs.DataBus.{MemoryView, page_words}
-use Rattle.m88_mem.specs.Inside.Lines.{AreLines, line_count}
-use Rattle.m88_mem.specs.Inside.Reads.{AreReads, read_count}
+use Rattle.m88_base.specs.Pages.{IsPage, page_count}
+use Rattle.m88_isa.specs.Lanes.{IsEnable, merged}
+use Rattle.m88_mem.specs.DataBus.{MemoryView, image_bus, page_words}
+use Rattle.m88_mem.specs.Inside.Lines.{AreLines}
+use Rattle.m88_mem.specs.Inside.Reads.{AreReads}
 use Rattle.m88_mem.specs.declared.lines.Line.{Line}
 use Rattle.m88_mem.specs.declared.frames.FrameTable.{FrameTable}
 use Rattle.m88_mem.specs.declared.frames.PageFrame.{PageFrame}
@@ -64,6 +65,56 @@ pub record AreFrames (tables : List (Option FrameTable)) : Type 0 where
   pub words : (page : ℕ) (frame : PageFrame) → frame_at tables page ≡ Some frame →
       length frame.words.items ≡ page_words
 
+-- no page has a frame, behind a whole table
+pub record AreBare (tables : List (Option FrameTable)) : Type 0 where
+  pub none : (page : ℕ) → frame_at tables page ≡ None
+  pub entries : length tables ≡ table_entries
+
+-- a page has a table, where one was to be had, and where none was nothing changed; each frame stays
+pub record GivesTable {T E : Type 0} (before after : List (Option FrameTable)) (page : ℕ) (given : Result T E) : Type 0 where
+  pub same : (p : ℕ) → frame_at after p ≡ frame_at before p
+  pub entries : length after ≡ length before
+  pub there : OnOk given (has_table after page ≡ true)
+  pub err : OnErr given (after ≡ before)
+
+-- a frame may be put in a page's place: it is whole, and there is a table for it
+pub record CanHold (tables : List (Option FrameTable)) (page : ℕ) (frame : PageFrame) : Type 0 where
+  pub is_page : IsPage page
+  pub there : has_table tables page ≡ true
+  pub words : length frame.words.items ≡ page_words
+
+-- a page has a frame, and every other the one it had
+pub record Holds (before after : List (Option FrameTable)) (page : ℕ) (frame : PageFrame) : Type 0 where
+  pub frames : (p : ℕ) → frame_at after p ≡ with_frame page (Some frame) (frame_at before) p
+  pub entries : length after ≡ length before
+
+-- bytes of a word may be written in the frame of a page: the page is ready
+pub record CanPut (tables : List (Option FrameTable)) (page place en : ℕ) : Type 0 where
+  pub is_page : IsPage page
+  pub within : place < page_words
+  pub ready : is_some (frame_at tables page) ≡ true
+  pub enable : IsEnable en
+
+-- bytes of one word were written, whatever stands for a word that isn't there; the same pages are ready
+pub record PutsWord (before after : List (Option FrameTable)) (page place en value : ℕ) : Type 0 where
+  pub word : (other p k : ℕ) → word_at after p k ≡ (if p == page && k == place
+      then Some (merged en value (unwrap_or (word_at before page place) other))
+      else word_at before p k)
+  pub ready : (p : ℕ) → is_some (frame_at after p) ≡ is_some (frame_at before p)
+  pub entries : length after ≡ length before
+
+-- the same in a frame that is there
+pub record CanPutInFrame (frame : Option PageFrame) (place en : ℕ) : Type 0 where
+  pub ready : is_some frame ≡ true
+  pub within : IfSome frame (λ f. place < length f.words.items)
+  pub enable : IsEnable en
+
+-- the same in a table that is there and whole
+pub record CanPutInTable (table : Option FrameTable) (low place en : ℕ) : Type 0 where
+  pub within : low < table_entries
+  pub long : IfSome table (λ t. length t.frames.items ≡ table_entries)
+  pub there : CanPutInFrame (frame_in table low) place en
+
 -- how many words have a bit for each page
 abbrev pub mark_words : ℕ
 mark_words = 2 ^ 15
@@ -71,6 +122,10 @@ mark_words = 2 ^ 15
 -- a page has its bit in some words
 abbrev pub is_marked : List ℕ → ℕ → Bool
 is_marked words page = bit_at (slice_index_or words (page / 32) 0) (page % 32) == 1
+
+-- a page is in a set that has a value for each page
+abbrev pub is_in : List Bool → ℕ → Bool
+is_in pages page = slice_index_or pages page false
 
 -- as many values as said, those of a function from 0 on
 unfoldable pub tabulated : {X : Type 0} → ℕ → (ℕ → X) → List X
@@ -86,21 +141,23 @@ abbrev pub words_in : Option PageFrame → Option (List ℕ)
 words_in None = None
 words_in (Some frame) = Some frame.words.items
 
--- what a memory with such frames and bits is seen as
-abbrev pub seen_as : ProgramImage → List (Option FrameTable) → List ℕ → MemoryView
-seen_as image tables words = record {
+-- what a memory with such frames and such absent pages is seen as
+abbrev pub seen_as : ProgramImage → List (Option FrameTable) → List Bool → MemoryView
+seen_as image tables absent = record {
   image = image;
   pages = by_page (λ page. words_in (frame_at tables page));
-  absent = by_page (is_marked words);
+  absent = absent;
 }
 
--- what holds of every memory: its upper table has all its entries, there is a bit for each page, and the instructions
--- and the words that it keeps are its image's
-pub record IsMemory (image : ProgramImage) (tables : List (Option FrameTable)) (words : List ℕ)
-    (kept : List (Option Line)) (read : List (Option Read)) : Type 0 where
+-- what holds of every memory: its upper table has all its entries, and the instructions and the words that it keeps are
+-- its image's
+pub record IsMemory (image : ProgramImage) (tables : List (Option FrameTable)) (kept : List (Option Line))
+    (read : List (Option Read)) : Type 0 where
   pub entries : length tables ≡ table_entries
-  pub marks : length words ≡ mark_words
-  pub long : length kept ≡ line_count
   pub lines : AreLines image kept
-  pub all_read : length read ≡ read_count
   pub reads : AreReads image read
+
+-- a frame has the words that an image has at a page, and 0 where that has none
+pub record IsImageFrame (image : ProgramImage) (page : ℕ) (frame : PageFrame) : Type 0 where
+  pub long : length frame.words.items ≡ page_words
+  pub each : (k : ℕ) → k < page_words → slice_get frame.words.items k ≡ Some (image_bus image (page * 4096 + k * 4))

@@ -9,7 +9,7 @@ use Rattle.m88_mem.proofs.frames.put_in_frame.Goals as goal
 pub returns : goal.returns
 returns c = λ other f was.
     let same = same_some c.in-Some.frame f (sym c.in-Some.is ∙ was) in
-    let within = rw c.in-Some.is at c.requires.place in
+    let within = rw c.in-Some.is at c.requires.within in
     let found : slice_get c.in-Some.frame.words.items c.args.place ≡ Some c.index-word.result.now =
     stands_there c.in-Some.frame.words.items c.args.place c.index-word.result.now within c.index-word.ensures in
     let word : c.index-word.result.now ≡ unwrap_or (slice_get f.words.items c.args.place) other =

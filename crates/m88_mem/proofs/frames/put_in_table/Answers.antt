@@ -12,7 +12,7 @@ returns c = λ other t f was there.
     let same : c.in-Some.table ≡ t = same_some c.in-Some.table t (sym c.in-Some.is ∙ was) in
     let long = rw c.in-Some.is at c.requires.long in
     let slot : slice_index_or c.in-Some.table.frames.items c.args.low None ≡ c.index_mut.result.now =
-    at_any c.in-Some.table.frames.items c.args.low None c.index_mut.result.now (omega (arith, c.requires.low, long))
+    at_any c.in-Some.table.frames.items c.args.low None c.index_mut.result.now (omega (arith, c.requires.within, long))
     ∙ sym c.index_mut.ensures.value in
     let found : c.index_mut.result.now ≡ Some f =
     sym slot ∙ ap (λ (o : Option FrameTable). frame_in o c.args.low) (sym c.in-Some.is) ∙ there in

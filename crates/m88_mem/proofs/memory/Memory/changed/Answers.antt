@@ -18,7 +18,7 @@ loop-high-preserved c =
       | then-has_table+in_ok-changed_in_table w ↦ ap (λ v. v.items) w.changed-is ∙ w.in_ok-changed_in_table.ensures
       | else-has_table w ↦
           ap (λ v. v.items) w.changed-is ∙ c.loop-high.invariant
-          ∙ nothing_seen c.args.self.now c.self.inside.image c.self.inside.frames c.self.inside.absent.items c.self.view_is
+          ∙ nothing_seen c.args.self.now c.self.inside.image c.self.inside.frames c.self.inside.absent c.self.view_is
           c.self.invariant.entries (c.loop-high.high * table_entries) table_entries
           (c.loop-high.high * table_entries * page_words) ((c.loop-high.high + 1) * table_entries * page_words)
           (λ page place low up. no_word_without_table c.self.inside.frames (c.loop-high.high * table_entries) page place

@@ -14,7 +14,7 @@ loop-place-preserved c =
     let old : ℕ → ℕ = image_bus c.args.self.now.image in
     let new : ℕ → ℕ = bus_of c.args.self.now in
     let word : c.word_among-word.result ≡ new addr =
-    ap (λ o. unwrap_or o 0) (sym c.word_among-word.ensures ∙ c.requires.words c.loop-place.place (omega arith)) in
+    ap (λ o. unwrap_or o 0) (sym c.word_among-word.ensures ∙ c.requires.walk.each c.loop-place.place (omega arith)) in
     let image : 0 ≡ old addr =
     sym (blank_word c.args.self.now.image c.args.page c.loop-place.place c.requires.free (omega arith)) in
     elim c.if-word-ne0.branch [

@@ -14,7 +14,7 @@ loop-place-preserved c =
     let old : ℕ → ℕ = image_bus c.args.self.now.image in
     let new : ℕ → ℕ = bus_of c.args.self.now in
     let word : c.word_among-word.result ≡ new addr =
-    ap (λ o. unwrap_or o 0) (sym c.word_among-word.ensures ∙ c.requires.words c.loop-place.place (omega arith)) in
+    ap (λ o. unwrap_or o 0) (sym c.word_among-word.ensures ∙ c.requires.each c.loop-place.place (omega arith)) in
     let image : c.page_word.result ≡ old addr =
     c.page_word.ensures
     ∙ word_in_page c.self.inside.image c.args.page c.loop-place.place 4096 c.image_page-bytes.result refl c.image_page-bytes.ensures (omega arith)

@@ -11,17 +11,17 @@ pub returns-in-Some : goal.returns-in-Some
 returns-in-Some c =
     let bus : bus_of c.args.self.now ≡ bus_by (word_at c.self.inside.frames) (image_bus c.self.inside.image) =
     ap bus_of (sym c.self.view_is)
-    ∙ seen_bus c.self.inside.image c.self.inside.frames c.self.inside.absent.items c.self.invariant.entries in
+    ∙ seen_bus c.self.inside.image c.self.inside.frames c.self.inside.absent c.self.invariant.entries in
     let found : word_at c.self.inside.frames (page_number c.args.addr) (c.args.addr / 4 % page_words) ≡ Some c.in-Some.word =
-    ap (word_at c.self.inside.frames (page_number c.args.addr)) (sym c.place_of.ensures.value) ∙ sym c.word.ensures ∙ c.in-Some.is in
+    ap (word_at c.self.inside.frames (page_number c.args.addr)) (sym c.place_of.ensures) ∙ sym c.word.ensures ∙ c.in-Some.is in
     sym (ap (λ seen. seen c.args.addr) bus ∙ ap (λ word. unwrap_or word (image_bus c.self.inside.image c.args.addr)) found)
 
 pub returns-in-None : goal.returns-in-None
 returns-in-None c =
     let bus : bus_of c.args.self.now ≡ bus_by (word_at c.self.inside.frames) (image_bus c.self.inside.image) =
     ap bus_of (sym c.self.view_is)
-    ∙ seen_bus c.self.inside.image c.self.inside.frames c.self.inside.absent.items c.self.invariant.entries in
+    ∙ seen_bus c.self.inside.image c.self.inside.frames c.self.inside.absent c.self.invariant.entries in
     let none : word_at c.self.inside.frames (page_number c.args.addr) (c.args.addr / 4 % page_words) ≡ None =
-    ap (word_at c.self.inside.frames (page_number c.args.addr)) (sym c.place_of.ensures.value) ∙ sym c.word.ensures ∙ c.in-None.is in
+    ap (word_at c.self.inside.frames (page_number c.args.addr)) (sym c.place_of.ensures) ∙ sym c.word.ensures ∙ c.in-None.is in
     c.image_word.ensures
     ∙ sym (ap (λ seen. seen c.args.addr) bus ∙ ap (λ word. unwrap_or word (image_bus c.self.inside.image c.args.addr)) none)
