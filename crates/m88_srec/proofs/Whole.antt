@@ -1,12 +1,12 @@
 -- A text that comes line by line leads where its lines do.
-use Rattle.std.proofs.Common.{◌≡◌, ℕ, ◌+◌, ◌==◌, Bool, true, false, List, [], ◌∷◌, ◌++◌, length, refl, sym, ap, ◌∙◌, subst, arith, inl, inr, append_assoc, append-nil}
+use Rattle.std.proofs.Common.{◌≡◌, ℕ, ◌+◌, ◌==◌, ◌≤◌, Bool, true, false, List, [], ◌∷◌, ◌++◌, length, refl, sym, ap, ◌∙◌, subst, arith, inl, inr, append_assoc, append-nil}
 use Rattle.std.specs.Prelude.{Result, Ok, Err, IfErr, IfOk, not, ◌&&◌, ◌⊎◌}
 use Rattle.std.specs.List.{list_all}
 use Rattle.std.proofs.lemmas.Bool.{false≢true}
 use Rattle.m88_base.specs.Cut.{Lacks}
 use Rattle.m88_base.specs.Lines.{lines_of}
 use Rattle.m88_srec.specs.Begun.{Begun, LeadsTo, StaysRefused, held_cr, line_ends}
-use Rattle.m88_srec.specs.Front.{LineFront, front_of}
+use Rattle.m88_srec.specs.Front.{LineFront, front_of, most_kept}
 use Rattle.m88_srec.specs.GivesVerdict.{no_memory}
 use Rattle.m88_srec.specs.Inside.Loads.{GivesLoad, fault_of_line}
 use Rattle.m88_srec.specs.Inside.Taking.{EndsAlone, LeadsPast, IsWholeLine, Stops, byte_taken, gone_on}
@@ -34,10 +34,11 @@ alone_empty (b ∷ bs) none = absurd (omega (arith, none))
 pub alone_other : (line front : List ℕ) (b : ℕ) → line ≡ front ++ b ∷ [] → (b == 13) ≡ false → EndsAlone line
 alone_other line front b is other = subst EndsAlone (sym is) (λ inner more. ends_by_other front more b inner other)
 
-pub stands_whole : (rest line left : List ℕ) → rest ≡ line ++ 10 ∷ left → Lacks 10 line → EndsAlone line → IsWholeLine rest line left
-stands_whole rest line left is lacks alone =
+pub stands_whole : (rest line left : List ℕ) → rest ≡ line ++ 10 ∷ left → Lacks 10 line → EndsAlone line →
+    length line ≤ most_kept → IsWholeLine rest line left
+stands_whole rest line left is lacks alone short =
     let inner : line_ends line ≡ 0 = lacks_end line lacks in
-    record { joined = is; inner = inner; ends = alone inner }
+    record { joined = is; inner = inner; ends = alone inner; short = short }
 
 -- nothing is kept of a line only where it has no byte
 none_kept : (line : List ℕ) → length line ≡ 0 → line ≡ []

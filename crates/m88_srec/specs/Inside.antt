@@ -2,3 +2,5 @@
 pub mod Forms
 pub mod Loads
 pub mod Taking
+pub mod Steps
+pub mod Streams

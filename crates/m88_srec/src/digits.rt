@@ -1,7 +1,8 @@
 //! Pairs of hexadecimal digits.
-ghost use Rattle.std.specs.Prelude.{◌≡◌, ◌+◌, ◌*◌, ◌/◌, ◌≤◌, ◌&&◌, true, false, length, sum, take, IfNone, IfSome};
-ghost use Rattle.std.specs.Char.{digit_value, is_digit};
-ghost use Rattle.m88_srec.specs.Records.{are_more_pairs, bytes_in};
+ghost use Rattle.std.specs.Prelude.{◌≡◌, ◌≤◌, ◌&&◌, false, length, MatchOption};
+ghost use Rattle.std.specs.Char.{is_digit};
+ghost use Rattle.m88_srec.specs.Inside.Forms.{WritePairs, WritesByte};
+ghost use Rattle.m88_srec.specs.Records.{are_more_pairs};
 
 use m88_base::digit_value;
 
@@ -13,12 +14,8 @@ pub const MOST_RECORD_BYTES: usize = 256;
 /// need not be cleared.
 #[tactic(auto, using(crate::proofs::Framing::sum_more))]
 pub fn bytes_of(digits: &[u8], room: &mut [u8; MOST_RECORD_BYTES]) -> Option<u32>
-    requires short { length digits.now ≤ 512 }
-    ensures pairs { IfSome result (λ total. are_more_pairs digits.now ≡ true) }
-    ensures bytes { IfSome result (λ total.
-        take (length digits.now / 2) room.new ≡ bytes_in digits.now) }
-    ensures total { IfSome result (λ total. total ≡ sum (bytes_in digits.now)) }
-    ensures none { IfNone result (are_more_pairs digits.now ≡ false) }
+    requires { length digits.now ≤ 512 }
+    ensures { MatchOption result (are_more_pairs digits.now ≡ false) (WritePairs digits.now room.new) }
 {
     let mut total = 0;
     let mut count = 0;
@@ -42,9 +39,7 @@ pub fn is_hexadecimal(digit: u8) -> bool
 
 /// The byte that two hexadecimal digits write, None where one of them is no such digit. Each is looked up once.
 fn byte_of(high: u8, low: u8) -> Option<u8>
-    ensures digits { IfSome result (λ byte. (is_digit high 16 && is_digit low 16) ≡ true) }
-    ensures value { IfSome result (λ byte. byte ≡ digit_value high * 16 + digit_value low) }
-    ensures none { IfNone result ((is_digit high 16 && is_digit low 16) ≡ false) }
+    ensures { MatchOption result ((is_digit high 16 && is_digit low 16) ≡ false) (WritesByte high low) }
 {
     let (high, low) = (digit_value(high), digit_value(low));
     if high < 16 && low < 16 {

@@ -27,7 +27,7 @@ const MOST_LINE: usize = 2 + 2 * MOST_RECORD + 1;
 /// The bytes of a record: the count, the body and the sum.
 fn framed(body: &[u8]) -> ArrayVec<u8, MOST_RECORD>
     requires { length body.now ≤ MOST_BODY }
-    ensures value { result.items ≡ framed body.now }
+    ensures { result.items ≡ framed body.now }
 {
     let mut bytes = ArrayVec::new();
     bytes.push(body.len() as u8 + 1);
@@ -42,8 +42,7 @@ fn framed(body: &[u8]) -> ArrayVec<u8, MOST_RECORD>
 /// Appends a byte in two digits.
 fn push_pair(line: &mut ArrayVec<u8, MOST_LINE>, byte: u8)
     requires { length line.old.items + 2 ≤ MOST_LINE }
-    ensures items { line.new.items ≡ line.old.items ++ hex2 byte }
-    ensures len { length line.new.items ≡ length line.old.items + 2 }
+    ensures { line.new.items ≡ line.old.items ++ hex2 byte }
 {
     line.push(hex_digit(u32::from(byte >> 4)));
     line.push(hex_digit(u32::from(byte & 15)));

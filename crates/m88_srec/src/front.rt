@@ -1,7 +1,7 @@
 //! What is kept of a line whose end has not come.
 ghost use Rattle.std.specs.Prelude.{◌≡◌, ◌+◌, ◌<◌, ◌^◌, []};
 ghost use Rattle.m88_srec.specs.Front.{front_of};
-ghost use Rattle.m88_srec.specs.Inside.Taking.{front_seen, front_with, overlong_fault};
+ghost use Rattle.m88_srec.specs.Inside.Taking.{KeepsByte, front_seen, overlong_fault};
 
 use crate::digits::{MOST_RECORD_BYTES, is_hexadecimal};
 use crate::fault::SrecKind;
@@ -36,8 +36,7 @@ impl Front {
     /// Takes one byte more of the line.
     pub fn push(&mut self, byte: u8)
         requires { self.old.len < 2 ^ 31 }
-        ensures value { front_seen self.new ≡ front_with (front_seen self.old) byte }
-        ensures len { self.new.len ≡ self.old.len + 1 }
+        ensures { KeepsByte self.old self.new byte }
     {
         if self.kept.is_full() {
             self.digits = self.digits && is_hexadecimal(byte);

@@ -1,11 +1,11 @@
 //! What the lines so far load, and one line more.
-ghost use Rattle.std.specs.Prelude.{◌≡◌, ◌+◌, ◌≤◌, ◌<◌, ◌^◌, length, sum};
+ghost use Rattle.std.specs.Prelude.{◌≡◌, ◌≤◌, ◌<◌, ◌^◌, length};
 ghost use Rattle.m88_srec.specs.Accepted.{whole_of};
 ghost use Rattle.m88_srec.specs.Verdict.{acted, ended_on, framed_on, judged, opening_load, placed, summed};
 ghost use Rattle.m88_srec.specs.Front.{most_kept};
-ghost use Rattle.m88_srec.specs.Inside.Forms.{form_seen};
+ghost use Rattle.m88_srec.specs.Inside.Forms.{AreWhole, form_seen};
 ghost use Rattle.m88_srec.specs.GivesVerdict.{GivesVerdict};
-ghost use Rattle.m88_srec.specs.Inside.Loads.{GivesLoad, load_seen};
+ghost use Rattle.m88_srec.specs.Inside.Loads.{TakesRecord, load_seen};
 
 use crate::digits::MOST_RECORD_BYTES;
 use crate::fault::{SrecFault, SrecKind};
@@ -41,9 +41,7 @@ impl Loading {
     pub fn line(&mut self, line: &[u8], room: &mut [u8; MOST_RECORD_BYTES]) -> Result<(), SrecKind>
         requires counted { self.old.records < 2 ^ 31 }
         requires short { length line.now ≤ most_kept }
-        ensures value { GivesLoad (load_seen self.new) result (judged
-            (load_seen self.old) line.now) }
-        ensures records { self.new.records ≤ self.old.records + 1 }
+        ensures { TakesRecord self.old self.new result (judged (load_seen self.old) line.now) }
     {
         if line.is_empty() {
             return Ok(());
@@ -61,9 +59,8 @@ impl Loading {
     #[tactic(auto, unfolding(crate::specs::Verdict::framed_on))]
     fn form(&mut self, form: &Form<'_>) -> Result<(), SrecKind>
         requires { self.old.records < 2 ^ 31 }
-        ensures value { GivesLoad (load_seen self.new) result (framed_on (load_seen self.old)
+        ensures { TakesRecord self.old self.new result (framed_on (load_seen self.old)
             (form_seen form.now)) }
-        ensures records { self.new.records ≤ self.old.records + 1 }
     {
         if form.is_miscounted() {
             return Err(SrecKind::Count {
@@ -84,13 +81,9 @@ impl Loading {
         total: u32,
     ) -> Result<(), SrecKind>
         requires counted { self.old.records < 2 ^ 31 }
-        requires some { 2 ≤ width }
-        requires narrow { width ≤ 4 }
-        requires enough { width + 2 ≤ length bytes.now }
-        requires total { total ≡ sum bytes.now }
-        ensures value { GivesLoad (load_seen self.new) result (summed (load_seen self.old)
+        requires whole { AreWhole width bytes.now total }
+        ensures { TakesRecord self.old self.new result (summed (load_seen self.old)
             (record { purpose = purpose; width = width; bytes = bytes.now })) }
-        ensures records { self.new.records ≤ self.old.records + 1 }
     {
         let last = bytes.len() - 1;
         let (counted, written) = (&bytes[..last], bytes[last]);
@@ -106,9 +99,7 @@ impl Loading {
     #[tactic(auto, unfolding(crate::specs::Verdict::acted))]
     fn carry_out(&mut self, purpose: Purpose, at: u32, given: &[u8]) -> Result<(), SrecKind>
         requires { self.old.records < 2 ^ 31 }
-        ensures value { GivesLoad (load_seen self.new) result (acted
-            (load_seen self.old) purpose at given.now) }
-        ensures records { self.new.records ≤ self.old.records + 1 }
+        ensures { TakesRecord self.old self.new result (acted (load_seen self.old) purpose at given.now) }
     {
         match purpose {
             Purpose::Header => Ok(()),
@@ -134,9 +125,7 @@ impl Loading {
     #[tactic(auto, using(crate::proofs::Free::placing), unfolding(crate::specs::Verdict::placed))]
     fn place(&mut self, at: u32, given: &[u8]) -> Result<(), SrecKind>
         requires { self.old.records < 2 ^ 31 }
-        ensures value { GivesLoad (load_seen self.new) result (placed
-            (load_seen self.old) at given.now) }
-        ensures records { self.new.records ≤ self.old.records + 1 }
+        ensures { TakesRecord self.old self.new result (placed (load_seen self.old) at given.now) }
     {
         match self.image.add(at, given) {
             Ok(()) => {

@@ -4,7 +4,7 @@ ghost use Rattle.m88_srec.specs.Front.{most_kept};
 ghost use Rattle.m88_srec.specs.Records.{check_of, is_bare, type_of};
 ghost use Rattle.m88_srec.specs.Accepted.{address_of};
 ghost use Rattle.m88_srec.specs.Verdict.{following, record_form, is_miscounted, written_count};
-ghost use Rattle.m88_srec.specs.Inside.Forms.{form_seen, type_seen};
+ghost use Rattle.m88_srec.specs.Inside.Forms.{IsAddressWidth, form_seen, type_seen};
 
 use crate::digits::{MOST_RECORD_BYTES, bytes_of};
 use crate::form::Form;
@@ -13,8 +13,7 @@ use crate::purpose::Purpose;
 /// What a type digit says: the purpose of a record and the number of its address bytes.
 fn type_of(digit: u8) -> Option<(Purpose, usize)>
     ensures value { option_map type_seen result ≡ type_of digit }
-    ensures some { IfSome result (λ t. 2 ≤ t.1) }
-    ensures narrow { IfSome result (λ t. t.1 ≤ 4) }
+    ensures width { IfSome result (λ t. IsAddressWidth t.1) }
 {
     match digit {
         b'0' => Some((Purpose::Header, 2)),
@@ -44,7 +43,7 @@ fn is_bare(purpose: Purpose) -> bool
 /// The form of a line, where it has one, with its bytes in the front of the room for them.
 #[tactic(auto, unfolding(crate::specs::Verdict::record_form))]
 pub fn record_form<'a>(line: &[u8], room: &'a mut [u8; MOST_RECORD_BYTES]) -> Option<Form<'a>>
-    requires short { length line.now ≤ most_kept }
+    requires { length line.now ≤ most_kept }
     ensures { option_map form_seen result ≡ record_form line.now }
 {
     let [b'S', digit, digits @ ..] = line else {
@@ -73,8 +72,7 @@ impl Form<'_> {
 
     /// The number of bytes that follow the count.
     pub fn following(&self) -> usize
-        ensures value { result ≡ following (form_seen self.now) }
-        ensures bound { result ≤ 255 }
+        ensures { result ≡ following (form_seen self.now) }
     {
         self.bytes.len() - 1
     }
@@ -113,8 +111,7 @@ pub fn computed_sum(bytes: &[u8], total: u32) -> u8
 
 /// The address that bytes write, or the number in its place, the highest byte first.
 pub fn address_of(bytes: &[u8]) -> u32
-    requires some { 2 ≤ length bytes.now }
-    requires narrow { length bytes.now ≤ 4 }
+    requires { IsAddressWidth (length bytes.now) }
     ensures { result ≡ address_of bytes.now }
 {
     match bytes {

@@ -1,12 +1,11 @@
 //! A text whose bytes come one after another.
-ghost use Rattle.std.specs.Prelude.{ℕ, List, ◌≡◌, ◌+◌, ◌≤◌, ◌<◌, ◌^◌, ◌++◌, ◌⊎◌, [], false, length, IfErr, IfOk, IfSome, OnOk};
+ghost use Rattle.std.specs.Prelude.{◌≡◌, ◌≤◌, ◌<◌, ◌^◌, false, length, IfOk, IfSome};
 ghost use Rattle.m88_srec.specs.Accepted.{whole_of};
-ghost use Rattle.m88_srec.specs.Begun.{LeadsTo, StaysRefused};
-ghost use Rattle.m88_srec.specs.Front.{front_of, most_kept};
-ghost use Rattle.m88_srec.specs.GivesVerdict.{GivesVerdict, no_memory};
-ghost use Rattle.m88_srec.specs.Inside.Loads.{GivesLoad, fault_of_line, load_seen};
-ghost use Rattle.m88_srec.specs.Inside.Taking.{AreCounted, EndsAlone, LeadsPast, IsWholeLine, Stops, begun_seen, byte_taken, ended_at, finished, front_seen, gone_on, judged_front, reach, with_byte, with_held};
-ghost use Rattle.m88_srec.specs.Verdict.{judged, opening_load};
+ghost use Rattle.m88_srec.specs.GivesVerdict.{GivesVerdict};
+ghost use Rattle.m88_srec.specs.Inside.Loads.{fault_of_line, load_seen};
+ghost use Rattle.m88_srec.specs.Inside.Steps.{Becomes, BeginsLine, CanStep, HasRoomFor, IsOpened, JudgesFront, Steps, TakesByte, TakesHeld, TakesPiece};
+ghost use Rattle.m88_srec.specs.Inside.Taking.{EndsAlone, IsWholeLine, begun_seen, byte_taken, ended_at, finished, front_seen, gone_on, judged_front, reach};
+ghost use Rattle.m88_srec.specs.Verdict.{judged};
 
 use crate::digits::MOST_RECORD_BYTES;
 use crate::fault::{SrecFault, SrecKind};
@@ -51,8 +50,7 @@ fn has_cr(line: &[u8]) -> bool
 /// what is kept of a line; and what is left behind it. Nothing is promised of None: the text is then taken byte by
 /// byte, which comes to the same.
 fn whole_line(rest: &[u8]) -> Option<(&[u8], &[u8])>
-    ensures whole { IfSome result (λ p. IsWholeLine rest.now p.0.now p.1.now) }
-    ensures short { IfSome result (λ p. length p.0.now ≤ most_kept) }
+    ensures { IfSome result (λ p. IsWholeLine rest.now p.0.now p.1.now) }
 {
     match split_at_byte(b'\n', rest) {
         Some((line, left)) if line.len() <= MOST_KEPT && !has_cr(line) => Some((line, left)),
@@ -63,14 +61,7 @@ fn whole_line(rest: &[u8]) -> Option<(&[u8], &[u8])>
 impl TextSoFar {
     /// A text without a byte so far.
     pub fn new(alloc: Global) -> TextSoFar
-        ensures begun { begun_seen result ≡ record {
-          number = 1;
-          load = opening_load;
-          front = front_of [];
-          cr = false;
-        } }
-        ensures reach { reach result ≡ 1 }
-        ensures counted { AreCounted result }
+        ensures { IsOpened result }
     {
         TextSoFar {
             loading: Loading::new(alloc),
@@ -84,9 +75,7 @@ impl TextSoFar {
     /// Takes one byte more of the line.
     fn push(&mut self, byte: u8)
         requires { self.old.front.len < 2 ^ 31 }
-        ensures begun { begun_seen self.new ≡ with_byte (begun_seen self.old) byte }
-        ensures loading { self.new.loading ≡ self.old.loading }
-        ensures len { self.new.front.len ≡ self.old.front.len + 1 }
+        ensures { TakesByte self.old self.new byte }
     {
         self.front.push(byte);
         self.cr = false;
@@ -95,9 +84,7 @@ impl TextSoFar {
     /// Takes the CR that was held back as a byte of the line.
     fn push_held(&mut self)
         requires { reach self.old ≤ 2 ^ 31 }
-        ensures begun { begun_seen self.new ≡ with_held (begun_seen self.old) }
-        ensures loading { self.new.loading ≡ self.old.loading }
-        ensures reach { reach self.new ≡ reach self.old }
+        ensures { TakesHeld self.old self.new }
     {
         if self.cr {
             self.push(b'\r');
@@ -107,12 +94,8 @@ impl TextSoFar {
     /// Judges the line by what is kept of it.
     #[tactic(auto, unfolding(crate::specs::Inside::Taking::judged_front))]
     fn judge(&mut self) -> Result<(), SrecKind>
-        requires records { self.old.loading.records < 2 ^ 31 }
-        requires len { self.old.front.len < 2 ^ 31 }
-        ensures value { GivesLoad (load_seen self.new.loading) result (judged_front
-            (load_seen self.old.loading) (front_seen self.old.front)) }
-        ensures records { self.new.loading.records ≤ self.old.loading.records + 1 }
-        ensures number { self.new.number ≡ self.old.number }
+        requires { HasRoomFor self.old 0 }
+        ensures { JudgesFront self.old self.new result }
     {
         if self.front.len <= MOST_KEPT {
             return self
@@ -127,12 +110,9 @@ impl TextSoFar {
 
     /// The line ended: judges it and begins the next.
     fn close(&mut self) -> Result<(), SrecKind>
-        requires reach { reach self.old < 2 ^ 31 }
-        requires counted { AreCounted self.old }
-        ensures value { GivesLoad (begun_seen self.new) result (ended_at (begun_seen self.old)
+        requires { HasRoomFor self.old 1 }
+        ensures { Becomes self.old self.new result (ended_at (begun_seen self.old)
             (judged_front (load_seen self.old.loading) (front_seen self.old.front))) }
-        ensures reach { OnOk result (reach self.new ≡ self.old.number + 1) }
-        ensures counted { OnOk result (AreCounted self.new) }
     {
         self.judge()?;
         self.number += 1;
@@ -144,12 +124,8 @@ impl TextSoFar {
     /// Takes one byte more of the text.
     #[tactic(auto, unfolding(crate::specs::Inside::Taking::byte_taken))]
     fn byte(&mut self, byte: u8) -> Result<(), SrecKind>
-        requires reach { reach self.old < 2 ^ 31 }
-        requires counted { AreCounted self.old }
-        ensures value { GivesLoad (begun_seen self.new) result
-            (byte_taken (begun_seen self.old) byte) }
-        ensures reach { OnOk result (reach self.new ≤ reach self.old + 1) }
-        ensures counted { OnOk result (AreCounted self.new) }
+        requires { HasRoomFor self.old 1 }
+        ensures { Becomes self.old self.new result (byte_taken (begun_seen self.old) byte) }
     {
         if byte == b'\n' {
             return self.close();
@@ -165,16 +141,8 @@ impl TextSoFar {
 
     /// Takes the first byte of what is left of a piece, and answers what is left behind it.
     fn first<'a>(&mut self, rest: &'a [u8]) -> Result<&'a [u8], SrecKind>
-        requires some { 0 < length rest.now }
-        requires reach { reach self.old + length rest.now ≤ 2 ^ 31 }
-        requires counted { AreCounted self.old }
-        ensures taken { IfOk result (λ left. LeadsPast rest.now left.now (begun_seen self.old)
-            (begun_seen self.new)) }
-        ensures stopped { IfErr result (Stops rest.now (begun_seen self.old)) }
-        ensures shorter { IfOk result (λ left. length left.now < length rest.now) }
-        ensures reach { IfOk result (λ left. reach self.new + length left.now
-            ≤ reach self.old + length rest.now) }
-        ensures counted { OnOk result (AreCounted self.new) }
+        requires { CanStep self.old rest.now }
+        ensures { Steps rest.now self.old self.new result }
     {
         match rest.split_first() {
             Some((byte, left)) => match self.byte(*byte) {
@@ -187,16 +155,10 @@ impl TextSoFar {
 
     /// Takes a line that stands whole in what is left of a piece, and answers what is left behind its end.
     fn line<'a>(&mut self, line: &[u8], left: &'a [u8]) -> Result<&'a [u8], SrecKind>
-        requires short { length line.now ≤ most_kept }
-        requires none { self.old.front.len ≡ 0 }
-        requires no_cr { self.old.cr ≡ false }
-        requires reach { reach self.old + (length line.now + 1 + length left.now) ≤ 2 ^ 31 }
-        requires counted { AreCounted self.old }
-        ensures value { GivesLoad (begun_seen self.new) result (gone_on (begun_seen self.old)
+        requires { BeginsLine self.old line.now }
+        ensures value { Becomes self.old self.new result (gone_on (begun_seen self.old)
             (judged (load_seen self.old.loading) line.now)) }
         ensures left { IfOk result (λ rest. rest.now ≡ left.now) }
-        ensures reach { OnOk result (reach self.new ≡ reach self.old + 1) }
-        ensures counted { OnOk result (AreCounted self.new) }
     {
         self.loading.line(line, &mut self.room)?;
         self.number += 1;
@@ -206,16 +168,8 @@ impl TextSoFar {
     /// Takes the next line of what is left of a piece, where the text begins one and its end is there, else the next
     /// byte; and answers what is left behind that.
     fn next<'a>(&mut self, rest: &'a [u8]) -> Result<&'a [u8], SrecKind>
-        requires some { 0 < length rest.now }
-        requires reach { reach self.old + length rest.now ≤ 2 ^ 31 }
-        requires counted { AreCounted self.old }
-        ensures taken { IfOk result (λ left. LeadsPast rest.now left.now (begun_seen self.old)
-            (begun_seen self.new)) }
-        ensures stopped { IfErr result (Stops rest.now (begun_seen self.old)) }
-        ensures shorter { IfOk result (λ left. length left.now < length rest.now) }
-        ensures reach { IfOk result (λ left. reach self.new + length left.now
-            ≤ reach self.old + length rest.now) }
-        ensures counted { OnOk result (AreCounted self.new) }
+        requires { CanStep self.old rest.now }
+        ensures { Steps rest.now self.old self.new result }
     {
         if self.front.len == 0 && !self.cr {
             if let Some((line, left)) = whole_line(rest) {
@@ -227,14 +181,8 @@ impl TextSoFar {
 
     /// Takes a piece more of the text, up to the first fault.
     pub fn piece(&mut self, piece: &[u8]) -> Result<(), SrecFault>
-        requires reach { reach self.old + length piece.now ≤ 2 ^ 31 }
-        requires counted { AreCounted self.old }
-        ensures begun { OnOk result ((text : List ℕ) → LeadsTo text (begun_seen self.old)
-            → LeadsTo (text ++ piece.now) (begun_seen self.new)) }
-        ensures fault { IfErr result (λ fault. (fault ≡ no_memory) ⊎ ((text : List ℕ)
-            → LeadsTo text (begun_seen self.old) → StaysRefused (text ++ piece.now) fault)) }
-        ensures reach { OnOk result (reach self.new ≤ reach self.old + length piece.now) }
-        ensures counted { OnOk result (AreCounted self.new) }
+        requires { HasRoomFor self.old (length piece.now) }
+        ensures { TakesPiece piece.now self.old self.new result }
     {
         let mut rest = piece;
         while !rest.is_empty() {
@@ -250,8 +198,7 @@ impl TextSoFar {
     /// The image behind the last line, or its fault.
     #[tactic(auto, unfolding(crate::specs::Inside::Taking::finished))]
     pub fn finish(self) -> Result<Image, SrecFault>
-        requires reach { reach self ≤ 2 ^ 31 }
-        requires counted { AreCounted self }
+        requires { HasRoomFor self 0 }
         ensures { GivesVerdict whole_of result (finished (begun_seen self)) }
     {
         let mut text = self;

@@ -1,10 +1,10 @@
 //! An image read from a source whose text is not kept.
-ghost use Rattle.std.specs.Prelude.{ℕ, List, ◌≡◌, ◌≢◌, ◌+◌, ◌^◌, ◌<◌, ◌≤◌, ◌++◌, Err, IfErr, IfOk, length};
+ghost use Rattle.std.specs.Prelude.{◌≡◌, ◌≢◌, ◌+◌, ◌^◌, ◌<◌, ◌≤◌, Err, IfErr, IfOk, length};
 ghost use Rattle.m88_base.specs.Calls.{CallsWithin};
 ghost use Rattle.m88_base.specs.Causes.{Rose};
 ghost use Rattle.m88_base.specs.Outside.{TakesAtMost, TakesExactly};
 ghost use Rattle.m88_srec.specs.Accepted.{IsAccepted, whole_of};
-ghost use Rattle.m88_srec.specs.Fed.{IsFed};
+ghost use Rattle.m88_srec.specs.Inside.Streams.{EndsText, TakesFed};
 ghost use Rattle.m88_srec.specs.Streamed.{OnText, ReadsText, WhereRefused};
 ghost use Rattle.m88_srec.specs.Verdict.{IsFirstSrecFault};
 
@@ -20,8 +20,7 @@ const MOST_PIECE: usize = 4096;
 /// Feeds a loader a piece more. A fault of the text is kept there, and the text is read on.
 fn feed_piece(loader: &mut Loader, piece: &[u8]) -> Result<(), NoMemory>
     requires { loader.old.total + length piece.now < 2 ^ 31 }
-    ensures total { loader.new.total ≡ loader.old.total + length piece.now }
-    ensures fed { (text : List ℕ) → IsFed text loader.old → IsFed (text ++ piece.now) loader.new }
+    ensures { TakesFed piece.now loader.old loader.new }
 {
     match loader.feed(piece) {
         Err(
@@ -36,11 +35,7 @@ fn feed_piece(loader: &mut Loader, piece: &[u8]) -> Result<(), NoMemory>
 
 /// The image of a text that was fed to its end.
 fn image_at_end(loader: Loader) -> Result<Image, LoadEnd>
-    ensures ok { IfOk result (λ image. (text : List ℕ) → IsFed text loader
-        → IsAccepted text (whole_of image)) }
-    ensures refused { IfErr result (WhereRefused (λ fault. (text : List ℕ) → IsFed text loader
-        → IsFirstSrecFault text fault)) }
-    ensures whole { (result ≢ Err LoadEnd.TooLong) × (result ≢ Err LoadEnd.SourceFault) }
+    ensures { EndsText loader result }
 {
     match loader.finish() {
         Ok(image) => Ok(image),

@@ -26,6 +26,11 @@ front_with f b =
     if length f.kept == most_kept then record { kept = f.kept; len = f.len + 1; digits = f.digits && is_hexadecimal b }
     else record { kept = f.kept ++ b ∷ []; len = f.len + 1; digits = f.digits }
 
+-- what is kept of a line goes on with one byte
+pub record KeepsByte (before after : Front) (byte : ℕ) : Type 0 where
+  pub value : front_seen after ≡ front_with (front_seen before) byte
+  pub len : after.len ≡ before.len + 1
+
 -- the fault of a line that is longer than all that is kept: its count can't be right
 abbrev pub overlong : Bool → ℕ → Option Formed → SrecKind
 overlong are_pairs found None = Form
@@ -67,11 +72,13 @@ gone_on b (Err kind) = Err kind
 abbrev pub EndsAlone : List ℕ → Type 0
 EndsAlone line = line_ends line ≡ 0 → (more : List ℕ) → lines_of (line ++ line_feed ∷ more) ≡ line ∷ lines_of more
 
--- a line that stands whole in front of an LF, which alone ends it, whatever comes behind that
+-- a line that stands whole in front of an LF, which alone ends it, whatever comes behind that; it isn't longer than what
+-- is kept of one
 pub record IsWholeLine (rest line left : List ℕ) : Type 0 where
   pub joined : rest ≡ line ++ line_feed ∷ left
   pub inner : line_ends line ≡ 0
   pub ends : (more : List ℕ) → lines_of (line ++ line_feed ∷ more) ≡ line ∷ lines_of more
+  pub short : length line ≤ most_kept
 
 -- some bytes are taken, and where a text led, it leads on with them
 pub record LeadsPast (rest left : List ℕ) (b later : Begun) : Type 0 where

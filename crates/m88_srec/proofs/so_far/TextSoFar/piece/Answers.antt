@@ -15,16 +15,24 @@ pub loop-rest-preserved : goal.loop-rest-preserved
 loop-rest-preserved c = record {
   taken = more_taken c.args.piece.now c.loop-rest.rest.now c.in-Ok.left.now (begun_seen c.args.self.now) (begun_seen c.loop-rest.self)
       (begun_seen c.next.new.self) c.loop-rest.invariant.taken c.in-Ok.ensures.taken;
-  reach = omega (arith, c.in-Ok.ensures.reach, c.loop-rest.invariant.reach);
+  reach = omega (arith, c.in-Ok.ensures.within, c.loop-rest.invariant.reach);
   counted = c.in-Ok.ensures.counted;
 }
 
-pub returns-in-Err-clause-fault : goal.returns-in-Err-clause-fault
-returns-in-Err-clause-fault c =
-    stopped_there c.args.piece.now c.loop-rest.rest.now (begun_seen c.args.self.now) (begun_seen c.loop-rest.self)
-    c.in-Err.kind c.fault_at.result c.loop-rest.invariant.taken c.in-Err.ensures.stopped c.fault_at.ensures
+pub returns-in-Err : goal.returns-in-Err
+returns-in-Err c = record {
+  begun = tt;
+  fault = stopped_there c.args.piece.now c.loop-rest.rest.now (begun_seen c.args.self.now) (begun_seen c.loop-rest.self)
+      c.in-Err.kind c.fault_at.result c.loop-rest.invariant.taken c.in-Err.ensures.stopped c.fault_at.ensures;
+  within = tt;
+  counted = tt;
+}
 
-pub returns-clause-begun : goal.returns-clause-begun
-returns-clause-begun c =
-    all_taken c.args.piece.now c.loop-rest.rest.now (begun_seen c.args.self.now) (begun_seen c.loop-rest.self)
-    c.loop-rest.invariant.taken (eqb-true (length c.loop-rest.rest.now) 0 (sym c.is_empty.ensures ∙ c.loop-rest-test.false))
+pub returns : goal.returns
+returns c = record {
+  begun = all_taken c.args.piece.now c.loop-rest.rest.now (begun_seen c.args.self.now) (begun_seen c.loop-rest.self)
+      c.loop-rest.invariant.taken (eqb-true (length c.loop-rest.rest.now) 0 (sym c.is_empty.ensures ∙ c.loop-rest-test.false));
+  fault = tt;
+  within = omega (arith, c.loop-rest.invariant.reach);
+  counted = c.loop-rest.invariant.counted;
+}
