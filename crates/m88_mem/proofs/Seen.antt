@@ -117,6 +117,15 @@ now_ready frames page frame set before p = elim (cases_eq p page) [
   | inr ne ↦ let test : (p == page) ≡ false = grind (arith, nat_tests) in rw test (sym (before p))
 ]
 
+-- a word of the data bus, by what the frames have at its place
+pub found_word : (m : MemoryView) (image : ProgramImage) (tables : List (Option FrameTable)) (absent : List Bool) →
+    seen_as image tables absent ≡ m → length tables ≡ table_entries → (addr place : ℕ) (found : Option ℕ) →
+    place ≡ addr / 4 % page_words → found ≡ word_at tables (page_number addr) place →
+    unwrap_or found (image_bus image addr) ≡ bus_of m addr
+found_word m image tables absent seen long addr place found at is =
+    ap (λ o. unwrap_or o (image_bus image addr)) (is ∙ ap (word_at tables (page_number addr)) at)
+    ∙ sym (ap (λ read. read addr) (ap bus_of (sym seen) ∙ seen_bus image tables absent long))
+
 -- a word of a page that is ready, as the data bus has it
 pub frame_word : (m : MemoryView) (image : ProgramImage) (tables : List (Option FrameTable)) (absent : List Bool) →
     seen_as image tables absent ≡ m → length tables ≡ table_entries → (page place word addr : ℕ) (words : List ℕ) →

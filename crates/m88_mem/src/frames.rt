@@ -7,7 +7,7 @@ ghost use Rattle.std.specs.Prelude.{◌≡◌, ℕ, None, Some, is_some, replica
 ghost use Rattle.m88_base.specs.Pages.{IsPage};
 ghost use Rattle.m88_isa.specs.Lanes.{merged};
 ghost use Rattle.m88_mem.specs.DataBus.{page_words};
-ghost use Rattle.m88_mem.specs.Inside.Frames.{AreBare, CanHold, CanPut, CanPutInFrame, CanPutInTable, GivesTable, HasPut, Holds, IsPut, PutsWord, frame_at, frame_in, has_table, table_entries, word_at, words_in};
+ghost use Rattle.m88_mem.specs.Inside.Frames.{AreBare, CanHold, CanPut, CanPutInFrame, CanPutInTable, GivesTable, HasPut, HoldsFrame, IsPut, PutsWord, frame_at, frame_in, has_table, table_entries, word_at, words_in};
 ghost use Rattle.m88_mem.specs.declared.frames.FrameTable.{FrameTable as FrameTableValue};
 ghost use Rattle.m88_mem.specs.declared.frames.PageFrame.{PageFrame as PageFrameValue};
 
@@ -121,7 +121,7 @@ impl PageFrames {
     /// Puts a page's frame in its place.
     pub fn set_frame(&mut self, page: u32, frame: PageFrame)
         requires { CanHold self.old page frame }
-        ensures { Holds self.old self.new page frame }
+        ensures { HoldsFrame self.old self.new page frame }
     {
         let high = page as usize / ENTRIES;
         let Some(mut table) = self.tables[high].take() else {

@@ -84,7 +84,7 @@ pub record CanHold (tables : List (Option FrameTable)) (page : ℕ) (frame : Pag
   pub words : length frame.words.items ≡ page_words
 
 -- a page has a frame, and every other the one it had
-pub record Holds (before after : List (Option FrameTable)) (page : ℕ) (frame : PageFrame) : Type 0 where
+pub record HoldsFrame (before after : List (Option FrameTable)) (page : ℕ) (frame : PageFrame) : Type 0 where
   pub frames : (p : ℕ) → frame_at after p ≡ with_frame page (Some frame) (frame_at before) p
   pub entries : length after ≡ length before
 
