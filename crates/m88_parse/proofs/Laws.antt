@@ -4,6 +4,8 @@
 pub use Rattle.m88_parse.proofs.Law.Faults.{one_verdict as one_source_verdict}
 -- the unit of a source that isn't too long can be laid out
 pub use Rattle.m88_parse.proofs.FormedUnits.{unit_formed}
+-- an ended source has the unit of the source, and is parted from what stands behind it and a line that can't be read
+pub use Rattle.m88_parse.proofs.EndedSources.{ended_parted, ended_unit}
 -- Lines: what a line says is read of it, as the row that says it.
 pub use Rattle.m88_parse.proofs.Law.Statements.{row_for}
 pub use Rattle.m88_parse.proofs.Law.Units.{row_again}

@@ -11,4 +11,5 @@ pub mod LineEnd
 pub mod TokenBounds
 pub mod FormedOperands
 pub mod FormedUnits
+pub mod EndedSources
 pub mod Laws

@@ -9,3 +9,4 @@ pub mod Statements
 pub mod Units
 pub mod LineFaults
 pub mod FirstFaults
+pub mod Ended
