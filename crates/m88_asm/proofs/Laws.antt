@@ -26,3 +26,16 @@ pub use Rattle.m88_asm.proofs.Relocating.{AllFormed, length-filled_bytes, length
 pub use Rattle.m88_asm.proofs.Sounding.{first_parts}
 -- as of any two options neither is there, where their first is none
 pub use Rattle.m88_asm.proofs.Assembling.{none_of_both}
+-- Sources: one is accepted for assembling, or for linking too, or has one refusal, behind other lines of an input too.
+pub use Rattle.m88_asm.proofs.SourceVerdicts.{not_linked, one_assembly_verdict, one_program_verdict, program_or_refusal, same_program_refusal, told_once}
+-- one that is accepted has one program in each mode, as bytes have one instruction at an address, or none
+pub use Rattle.m88_asm.proofs.UnitPrograms.{HasProgram, one_at, one_source_program, same_program, source_program}
+-- it has one image, and the program that an image holds which holds its unit
+pub use Rattle.m88_asm.proofs.HeldUnits.{Held, accepted_source, held_by, held_with, holds_by_image, holds_of_same, holds_unit, one_source_image}
+-- Several sources in one input: it has one verdict, and what stands behind its lines is sources in one way
+pub use Rattle.m88_asm.proofs.SeveralSources.{StandBefore, last_before, one_list, one_more_before, one_verdict as one_several_verdict, too_many}
+-- images that hold them hold their programs, which are theirs alone
+pub use Rattle.m88_asm.proofs.SeveralPrograms.{Shares, all_programs, as_many, hold_more, hold_none, program_held, program_mode, programs_count, same_programs, shares_by}
+-- Texts of objects: one can be linked or has one refusal, it has one image, and that of a source's objects links as the
+-- source does.
+pub use Rattle.m88_asm.proofs.LinkedTexts.{LinksAlike, links_alike, one_image_of, one_linking_verdict}

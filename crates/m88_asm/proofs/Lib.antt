@@ -11,9 +11,15 @@ pub mod Reaching
 pub mod Imaging
 pub mod Instructions
 pub mod OneUnit
+pub mod SourceVerdicts
+pub mod UnitPrograms
+pub mod HeldUnits
 pub mod Aligned
 pub mod UnitRanges
 pub mod UnitSound
 pub mod ObjectTexts
 pub mod Layouts
+pub mod SeveralSources
+pub mod SeveralPrograms
+pub mod LinkedTexts
 pub mod Laws

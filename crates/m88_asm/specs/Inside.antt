@@ -1,2 +1,3 @@
 -- Words for the contracts of private functions alone: no promise of the program names them.
 pub mod Drafts
+pub mod Held

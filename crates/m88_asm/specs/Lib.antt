@@ -8,4 +8,7 @@ pub mod Reasons
 pub mod Units
 pub mod Accepted
 pub mod Images
+pub mod Sources
+pub mod Several
+pub mod LinkedTexts
 pub mod Inside
