@@ -16,3 +16,8 @@ pub use Rattle.m88_disasm.proofs.Accepting.{defined_symbols, opened_in, opened_s
 pub use Rattle.m88_disasm.proofs.Accepting.{faults_cons}
 -- their lengths and the extents that cover an address are those of the first and of the others
 pub use Rattle.m88_disasm.proofs.Linking.{hits_cons, lengths_cons, lengths_of}
+-- Instructions whose text is a short line that says them: of two registers and a number, of three registers, and of a
+-- register and a place.
+pub use Rattle.m88_disasm.proofs.PlainInstructions.{IsPlain, plain_immediate, plain_memory, plain_registers}
+-- lines that are such instructions are a source that is accepted, and short
+pub use Rattle.m88_disasm.proofs.PlainSources.{plain_length, plain_source}

@@ -11,5 +11,7 @@ pub mod Bodies
 pub mod Standing
 pub mod Accepting
 pub mod Linking
+pub mod PlainInstructions
+pub mod PlainSources
 pub mod Again
 pub mod Laws
