@@ -6,6 +6,7 @@ pub mod Rooms
 pub mod Assembling
 pub mod Resting
 pub mod Sounding
+pub mod Finishing
 pub mod Composing
 pub mod Reaching
 pub mod Imaging

@@ -1,3 +1,4 @@
 -- Words for the contracts of private functions alone: no promise of the program names them.
 pub mod Drafts
+pub mod Exports
 pub mod Held

@@ -1,20 +1,23 @@
 //! The object of a module as it grows statement by statement.
-ghost use Rattle.std.specs.Prelude.{◌≡◌, ◌⊎◌, ◌*◌, ◌^◌, ◌-◌, ◌<◌, ◌%◌, [], None, Some, length, map, IfErr, OnOk, IfOk, ◌∷◌};
+ghost use Rattle.std.specs.Prelude.{◌≡◌, ◌⊎◌, ◌*◌, ◌^◌, ◌-◌, ◌<◌, ◌%◌, [], None, Some, bytes_eq, length, map, IfErr, OnOk, IfOk, ◌∷◌};
 ghost use Rattle.std.specs.List.{All};
 ghost use Rattle.std.specs.Option.{option_map};
 ghost use Rattle.m88_parse.specs.WellFormed.{IsFormedBody, IsFormedStatement};
 ghost use Rattle.m88_link.specs.Sound.{HasRoom};
 ghost use Rattle.m88_link.specs.Symbols.{first_repeated, repeated_after, repetition};
 ghost use Rattle.m88_asm.specs.Counters.{offset_here, place_here};
+ghost use Rattle.indexmap.specs.IndexSet.{contains};
+ghost use Rattle.m88_asm.specs.Inside.Exports.{marked_where};
 ghost use Rattle.m88_asm.specs.Inside.Drafts.{counters_of, empty_growth, here_bytes, next_row, nth, with_body, with_bytes, with_section, with_statement, with_symbols};
 ghost use Rattle.m88_asm.specs.Fault.{memory_ran_out};
 ghost use Rattle.m88_asm.specs.Faults.{duplicate_at, fault_in, misfit_at};
-ghost use Rattle.m88_asm.specs.Objects.{labels_at, marked, sets_at};
+ghost use Rattle.m88_asm.specs.Objects.{labels_at, sets_at, symbols_of};
 
 use crate::exports::marked;
 use crate::fault::{AsmFault, AsmKind};
-use crate::filling::{alignment_of, fill, length_at};
+use crate::filling::{alignment_of, consume_body, fill, length_at};
 use crate::growing::Growing;
+use indexmap::IndexSet;
 use m88_base::{Listed, MOST_BYTES, Name};
 use m88_link::{Object, Place, Reloc, Section, Symbol, SymbolTable};
 use m88_parse::{Body, Statement};
@@ -198,11 +201,28 @@ impl Assembly {
         fill(section, &mut self.uses, number, line, body)
     }
 
-    /// Goes on with a statement, or answers the first fault that it has.
-    pub fn add(&mut self, alloc: Global, x: &Statement) -> Result<(), AsmFault>
+    /// The same with a body that is handed over.
+    fn consume_body(&mut self, line: u32, body: Body) -> Result<(), AllocError>
+        requires formed { IsFormedBody body }
+        requires few { length self.old.sections < 2 ^ 32 }
+        requires room { HasRoom
+            (with_bytes (nth self.old.sections self.old.here) (here_bytes self.old body)) }
+        ensures { OnOk result (self.new ≡ with_body self.old line body) }
+    {
+        let number = self.here as u32;
+        let section = &mut self.sections[self.here];
+        consume_body(section, &mut self.uses, number, line, body)
+    }
+
+    /// Goes on with all of a statement but what its body gives, or answers the first fault that it has.
+    fn prepare(&mut self, alloc: Global, x: &Statement) -> Result<(), AsmFault>
         requires formed { IsFormedStatement x.now }
         requires few { length self.old.sections < 2 ^ 32 - 1 }
-        ensures new { OnOk result (self.new ≡ with_statement self.old x.now) }
+        ensures new { OnOk result (self.new ≡ with_section
+            (with_symbols self.old (symbols_of (next_row self.old x.now))) x.now.line x.now.body) }
+        ensures few { OnOk result (length self.new.sections < 2 ^ 32) }
+        ensures room { OnOk result (HasRoom
+            (with_bytes (nth self.new.sections self.new.here) (here_bytes self.new x.now.body))) }
         ensures clean { OnOk result (fault_in self.old.symbols (next_row self.old x.now) ≡ None) }
         ensures fault { IfErr result (λ e. (e ≡ memory_ran_out)
             ⊎ (fault_in self.old.symbols (next_row self.old x.now) ≡ Some e)) }
@@ -216,24 +236,57 @@ impl Assembly {
             Err(fault) => return Err(fault),
         }
         self.enter(alloc, x.line, &x.body)?;
-        if let Some(fault) = self.misfit(x) {
-            return Err(fault);
+        match self.misfit(x) {
+            None => Ok(()),
+            Some(fault) => Err(fault),
+        }
+    }
+
+    /// Goes on with a statement, or answers the first fault that it has.
+    pub fn add(&mut self, alloc: Global, x: &Statement) -> Result<(), AsmFault>
+        requires formed { IsFormedStatement x.now }
+        requires few { length self.old.sections < 2 ^ 32 - 1 }
+        ensures new { OnOk result (self.new ≡ with_statement self.old x.now) }
+        ensures clean { OnOk result (fault_in self.old.symbols (next_row self.old x.now) ≡ None) }
+        ensures fault { IfErr result (λ e. (e ≡ memory_ran_out)
+            ⊎ (fault_in self.old.symbols (next_row self.old x.now) ≡ Some e)) }
+    {
+        match self.prepare(alloc, x) {
+            Ok(()) => {}
+            Err(fault) => return Err(fault),
         }
         self.fill(x.line, &x.body)?;
         Ok(())
     }
 
-    /// The object of a module of this name, whose `.global` stand among its statements.
+    /// Goes on with a statement that is handed over, or answers the first fault that it has.
+    pub fn consume(&mut self, alloc: Global, x: Statement) -> Result<(), AsmFault>
+        requires formed { IsFormedStatement x }
+        requires few { length self.old.sections < 2 ^ 32 - 1 }
+        ensures new { OnOk result (self.new ≡ with_statement self.old x) }
+        ensures clean { OnOk result (fault_in self.old.symbols (next_row self.old x) ≡ None) }
+        ensures fault { IfErr result (λ e. (e ≡ memory_ran_out)
+            ⊎ (fault_in self.old.symbols (next_row self.old x) ≡ Some e)) }
+    {
+        match self.prepare(alloc, &x) {
+            Ok(()) => {}
+            Err(fault) => return Err(fault),
+        }
+        self.consume_body(x.line, x.body)?;
+        Ok(())
+    }
+
+    /// The object of a module of this name, whose `.global` name these.
     pub fn into_object(
         self,
         alloc: Global,
         name: Name,
-        statements: &[Statement],
+        names: &IndexSet<Name>,
     ) -> Result<Object, AllocError>
         ensures value { IfOk result (λ o. o ≡ record {
           name = name;
           sections = self.sections;
-          symbols = map (marked statements.now) self.symbols;
+          symbols = map (marked_where (contains bytes_eq names.now)) self.symbols;
           relocs = self.uses;
         }) }
         ensures room { IfOk result (λ o. All HasRoom o.sections) }
@@ -248,7 +301,7 @@ impl Assembly {
         // The symbols first: it is known then that no name is there twice, wherever memory runs out.
         let symbols = symbols.into_symbols(alloc)?;
         let sections = finished(alloc, sections)?;
-        let symbols = marked(alloc, &symbols, statements)?;
+        let symbols = marked(alloc, &symbols, names)?;
         Ok(Object {
             name,
             sections: Listed::new(sections),
@@ -263,7 +316,7 @@ fn finished(alloc: Global, growing: Vec<Growing>) -> Result<Vec<Section>, AllocE
     ensures value { IfOk result (λ v. v.items ≡ growing.items) }
     ensures room { IfOk result (λ v. All HasRoom v.items) }
 {
-    let mut out = Vec::new(alloc);
+    let mut out = Vec::with_capacity(alloc, growing.len())?;
     for section in growing {
         out.push(section.into_section())?;
     }

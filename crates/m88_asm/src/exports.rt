@@ -3,7 +3,8 @@ ghost use Rattle.std.specs.Prelude.{◌≡◌, ◌||◌, ℕ, List, bytes_eq, ma
 ghost use Rattle.std.specs.List.{list_any};
 ghost use Rattle.indexmap.specs.IndexSet.{contains};
 ghost use Rattle.m88_link.specs.Sound.{start_name};
-ghost use Rattle.m88_asm.specs.Objects.{body_declares, declares, is_global, marked};
+ghost use Rattle.m88_asm.specs.Inside.Exports.{marked_where};
+ghost use Rattle.m88_asm.specs.Objects.{body_declares, declares};
 
 use indexmap::IndexSet;
 use m88_base::Name;
@@ -27,7 +28,10 @@ fn note(names: &mut IndexSet<Name>, body: &Body) -> Result<(), AllocError>
 }
 
 /// The names that the `.global` of a module name.
-fn declared(alloc: Global, statements: &[Statement]) -> Result<IndexSet<Name>, AllocError>
+pub(crate) fn declared(
+    alloc: Global,
+    statements: &[Statement],
+) -> Result<IndexSet<Name>, AllocError>
     ensures { IfOk result (λ names. (name : List ℕ)
         → contains bytes_eq names name ≡ list_any (declares name) statements.now) }
 {
@@ -46,19 +50,19 @@ fn is_global(names: &IndexSet<Name>, name: &Name) -> bool
     name.bytes() == b"_start".as_slice() || !names.is_empty() && names.contains(name)
 }
 
-/// The symbols of a module, each marked as global or not.
+/// The symbols of a module whose `.global` have these names, each marked as global or not.
 pub(crate) fn marked(
     alloc: Global,
     symbols: &[Symbol],
-    statements: &[Statement],
+    names: &IndexSet<Name>,
 ) -> Result<Vec<Symbol>, AllocError>
-    ensures { IfOk result (λ v. v.items ≡ map (marked statements.now) symbols.now) }
+    ensures { IfOk result (λ v. v.items
+        ≡ map (marked_where (contains bytes_eq names.now)) symbols.now) }
 {
-    let names = declared(alloc, statements)?;
     let mut out = Vec::with_capacity(alloc, symbols.len())?;
     for s in symbols {
         out.push(Symbol {
-            global: is_global(&names, &s.name),
+            global: is_global(names, &s.name),
             ..*s
         })?;
     }

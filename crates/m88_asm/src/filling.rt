@@ -180,3 +180,25 @@ pub(crate) fn fill(
         | Body::Set { .. } => Ok(()),
     }
 }
+
+/// The same with a body that is handed over: a list of bytes that begins its section isn't copied.
+pub(crate) fn consume_body(
+    section: &mut Growing,
+    uses: &mut Vec<Reloc>,
+    number: u32,
+    line: u32,
+    body: Body,
+) -> Result<(), AllocError>
+    requires formed { IsFormedBody body }
+    requires room { HasRoom (with_bytes section.old
+        (waiting_bytes (origin section.old.place + length section.old.bytes) body)) }
+    ensures bytes { OnOk result (section.new ≡ with_bytes section.old
+        (waiting_bytes (origin section.old.place + length section.old.bytes) body)) }
+    ensures uses { OnOk result (uses.new.items
+        ≡ uses.old.items ++ uses_in_body number (length section.old.bytes) line body) }
+{
+    match body {
+        Body::Byte(bytes) => section.push_list(bytes.into_items()),
+        other => fill(section, uses, number, line, &other),
+    }
+}

@@ -68,6 +68,18 @@ impl Growing {
         Ok(())
     }
 
+    /// Puts a list of bytes behind its own. Where it has none, the list isn't copied.
+    pub fn push_list(&mut self, bytes: Vec<u8>) -> Result<(), AllocError>
+        requires { HasRoom (with_bytes self.old bytes.items) }
+        ensures { OnOk result (self.new ≡ with_bytes self.old bytes.items) }
+    {
+        if self.bytes.is_empty() {
+            self.bytes = bytes;
+            return Ok(());
+        }
+        self.push_all(&bytes)
+    }
+
     /// Puts zero bytes behind its own.
     pub fn push_zeros(&mut self, n: usize) -> Result<(), AllocError>
         requires { HasRoom (with_bytes self.old (replicate n 0)) }

@@ -13,7 +13,7 @@ ghost use Rattle.m88_asm.specs.Units.{unit_layout};
 ghost use Rattle.m88_asm.specs.declared.fault.UnitFault.{UnitFault as Fault};
 
 use crate::fault::UnitFault;
-use crate::objects::assemble;
+use crate::objects::consume_unit;
 use m88_base::Image;
 use m88_link::link;
 use m88_parse::Unit;
@@ -59,12 +59,10 @@ fn image_or_fault(alloc: Global, unit: Unit) -> Result<Image, UnitFault>
     ensures accepted { OnOk result (IsAcceptedUnit unit) }
     ensures fault { IfErr result (IsUnitFault unit) }
 {
-    let objects = match assemble(alloc, &unit) {
+    let objects = match consume_unit(alloc, unit) {
         Ok(objects) => objects,
         Err(fault) => return Err(UnitFault::Asm(fault)),
     };
-    // All that linking needs is in the objects: the unit, which takes the most memory, is let go before.
-    drop(unit);
     match link(alloc, &objects) {
         Ok(image) => Ok(image),
         Err(fault) => Err(UnitFault::Link(fault)),

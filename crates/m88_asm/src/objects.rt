@@ -18,6 +18,7 @@ ghost use Rattle.m88_asm.specs.Objects.{lines_in, object_of, objects_of};
 ghost use Rattle.m88_asm.specs.Units.{length_in, unit_layout};
 
 use crate::assembly::Assembly;
+use crate::exports::declared;
 use crate::fault::AsmFault;
 use m88_link::Object;
 use m88_parse::{Module, Statement, Unit};
@@ -66,8 +67,9 @@ fn object(alloc: Global, module: &Module) -> Result<Object, AsmFault>
         ⊎ (module_fault «module».now ≡ Some e)) }
 {
     let statements = module.statements.as_slice();
+    let names = declared(alloc, statements)?;
     match lay_out(alloc, module.line, statements) {
-        Ok(assembly) => Ok(assembly.into_object(alloc, module.name, statements)?),
+        Ok(assembly) => Ok(assembly.into_object(alloc, module.name, &names)?),
         Err(fault) => Err(fault),
     }
 }
@@ -90,6 +92,71 @@ fn objects(alloc: Global, modules: &[Module]) -> Result<Vec<Object>, AsmFault>
         }
     }
     Ok(out)
+}
+
+/// What a module's statements, which are handed over, grow to, or the first fault.
+fn consume_statements(
+    alloc: Global,
+    line: u32,
+    statements: Vec<Statement>,
+) -> Result<Assembly, AsmFault>
+    requires formed { All IsFormedStatement statements.items }
+    requires few { length statements.items < 2 ^ 31 }
+    ensures whole { IfOk result (λ a. a ≡ with_statements (empty_growth line) statements.items) }
+    ensures clean { OnOk result (statements_fault [] (located at_begin statements.items) ≡ None) }
+    ensures fault { IfErr result (λ e. (e ≡ memory_ran_out)
+        ⊎ (statements_fault [] (located at_begin statements.items) ≡ Some e)) }
+{
+    let mut assembly = Assembly::new(alloc, line, label_count(&statements))?;
+    for x in statements {
+        match assembly.consume(alloc, x) {
+            Ok(()) => {}
+            Err(fault) => return Err(fault),
+        }
+    }
+    Ok(assembly)
+}
+
+/// The object of a module that is handed over, or the first fault of its statements.
+fn consume_module(alloc: Global, module: Module) -> Result<Object, AsmFault>
+    requires formed { IsFormedModule «module» }
+    requires few { length «module».statements < 2 ^ 31 }
+    ensures object { IfOk result (λ o. o ≡ object_of «module») }
+    ensures sound { IfOk result IsSound }
+    ensures clean { OnOk result (module_fault «module» ≡ None) }
+    ensures fault { IfErr result (λ e. (e ≡ memory_ran_out)
+        ⊎ (module_fault «module» ≡ Some e)) }
+{
+    let Module {
+        name,
+        line,
+        statements,
+    } = module;
+    let statements = statements.into_items();
+    let names = declared(alloc, &statements)?;
+    match consume_statements(alloc, line, statements) {
+        Ok(assembly) => Ok(assembly.into_object(alloc, name, &names)?),
+        Err(fault) => Err(fault),
+    }
+}
+
+/// The objects of a unit that is handed over, or the first fault: each list of bytes that begins its section goes
+/// there uncopied, and the statements of a module are let go behind its layout.
+pub(crate) fn consume_unit(alloc: Global, unit: Unit) -> Result<Vec<Object>, AsmFault>
+    requires { IsWellFormed unit }
+    ensures objects { IfOk result (λ v. v.items ≡ objects_of unit) }
+    ensures sound { IfOk result (λ v. All IsSound v.items) }
+    ensures accepted { OnOk result (IsAssembled unit) }
+    ensures fault { IfErr result (λ e. (e ≡ memory_ran_out) ⊎ (unit_fault unit ≡ Some e)) }
+{
+    let mut objects = Vec::new(alloc);
+    for part in unit.modules.into_items() {
+        match consume_module(alloc, part) {
+            Ok(object) => objects.push(object)?,
+            Err(fault) => return Err(fault),
+        }
+    }
+    Ok(objects)
 }
 
 /// The objects of a unit, one for each module in order, or the first statement's fault: a name that its
