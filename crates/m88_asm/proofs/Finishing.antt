@@ -33,10 +33,12 @@ module _ (m : Module) (xs : List Statement) (g : Growth) (same : xs ≡ m.statem
       ∙ ap of_growth whole
       ∙ grown_object m
 
+  pub finished_clean : statements_fault [] (located at_begin xs) ≡ None → module_fault m ≡ None
+  finished_clean clean = ap (λ ys. statements_fault [] (located at_begin ys)) (sym same) ∙ clean
+
   pub finished_sound : (o : Object) → o ≡ object_of m → statements_fault [] (located at_begin xs) ≡ None → first_repeated g.symbols ≡ None
       → All HasRoom o.sections → IsSound o
   finished_sound o is clean names room =
-      let fault : module_fault m ≡ None = ap (λ ys. statements_fault [] (located at_begin ys)) (sym same) ∙ clean in
       let symbols : g.symbols ≡ flat_map symbols_of (lines_in m) = ap (λ (h : Growth). h.symbols) whole ∙ grown_symbols m in
-      subst IsSound (sym is) (sound_object m fault (ap first_repeated (sym symbols) ∙ names)
+      subst IsSound (sym is) (sound_object m (finished_clean clean) (ap first_repeated (sym symbols) ∙ names)
       (subst (λ (q : Object). All HasRoom q.sections) is room))

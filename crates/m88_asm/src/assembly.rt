@@ -8,6 +8,7 @@ ghost use Rattle.m88_link.specs.Symbols.{first_repeated, repeated_after, repetit
 ghost use Rattle.m88_asm.specs.Counters.{offset_here, place_here};
 ghost use Rattle.indexmap.specs.IndexSet.{contains};
 ghost use Rattle.m88_asm.specs.Inside.Exports.{marked_where};
+ghost use Rattle.m88_asm.specs.Inside.Firsts.{AnswersFirst};
 ghost use Rattle.m88_asm.specs.Inside.Drafts.{counters_of, empty_growth, here_bytes, next_row, nth, with_body, with_bytes, with_section, with_statement, with_symbols};
 ghost use Rattle.m88_asm.specs.Fault.{memory_ran_out};
 ghost use Rattle.m88_asm.specs.Faults.{duplicate_at, fault_in, misfit_at};
@@ -218,14 +219,12 @@ impl Assembly {
     fn prepare(&mut self, alloc: Global, x: &Statement) -> Result<(), AsmFault>
         requires formed { IsFormedStatement x.now }
         requires few { length self.old.sections < 2 ^ 32 - 1 }
-        ensures new { OnOk result (self.new ≡ with_section
+        ensures entered { AnswersFirst result (fault_in self.old.symbols (next_row self.old x.now))
+            (λ _. self.new ≡ with_section
             (with_symbols self.old (symbols_of (next_row self.old x.now))) x.now.line x.now.body) }
         ensures few { OnOk result (length self.new.sections < 2 ^ 32) }
         ensures room { OnOk result (HasRoom
             (with_bytes (nth self.new.sections self.new.here) (here_bytes self.new x.now.body))) }
-        ensures clean { OnOk result (fault_in self.old.symbols (next_row self.old x.now) ≡ None) }
-        ensures fault { IfErr result (λ e. (e ≡ memory_ran_out)
-            ⊎ (fault_in self.old.symbols (next_row self.old x.now) ≡ Some e)) }
     {
         match self.label(x.line, &x.label) {
             Ok(()) => {}
@@ -246,10 +245,8 @@ impl Assembly {
     pub fn add(&mut self, alloc: Global, x: &Statement) -> Result<(), AsmFault>
         requires formed { IsFormedStatement x.now }
         requires few { length self.old.sections < 2 ^ 32 - 1 }
-        ensures new { OnOk result (self.new ≡ with_statement self.old x.now) }
-        ensures clean { OnOk result (fault_in self.old.symbols (next_row self.old x.now) ≡ None) }
-        ensures fault { IfErr result (λ e. (e ≡ memory_ran_out)
-            ⊎ (fault_in self.old.symbols (next_row self.old x.now) ≡ Some e)) }
+        ensures { AnswersFirst result (fault_in self.old.symbols (next_row self.old x.now))
+            (λ _. self.new ≡ with_statement self.old x.now) }
     {
         match self.prepare(alloc, x) {
             Ok(()) => {}
@@ -263,10 +260,8 @@ impl Assembly {
     pub fn consume(&mut self, alloc: Global, x: Statement) -> Result<(), AsmFault>
         requires formed { IsFormedStatement x }
         requires few { length self.old.sections < 2 ^ 32 - 1 }
-        ensures new { OnOk result (self.new ≡ with_statement self.old x) }
-        ensures clean { OnOk result (fault_in self.old.symbols (next_row self.old x) ≡ None) }
-        ensures fault { IfErr result (λ e. (e ≡ memory_ran_out)
-            ⊎ (fault_in self.old.symbols (next_row self.old x) ≡ Some e)) }
+        ensures { AnswersFirst result (fault_in self.old.symbols (next_row self.old x))
+            (λ _. self.new ≡ with_statement self.old x) }
     {
         match self.prepare(alloc, &x) {
             Ok(()) => {}

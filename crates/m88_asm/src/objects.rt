@@ -11,6 +11,7 @@ ghost use Rattle.m88_link.specs.declared.fault.LinkFault.{LinkFault as Refusal};
 ghost use Rattle.m88_parse.specs.declared.unit.Module.{Module as Part};
 ghost use Rattle.m88_asm.specs.Counters.{Located, at_begin, located, offset_of, section_of};
 ghost use Rattle.m88_asm.specs.Inside.Drafts.{empty_growth, with_statements};
+ghost use Rattle.m88_asm.specs.Inside.Firsts.{AnswersFirst};
 ghost use Rattle.m88_asm.specs.Fault.{memory_ran_out};
 ghost use Rattle.m88_asm.specs.Faults.{IsAssembled, statements_fault, module_fault, modules_fault, unit_fault};
 ghost use Rattle.m88_asm.specs.Images.{IsUnitImage};
@@ -41,10 +42,8 @@ fn label_count(statements: &[Statement]) -> usize
 fn lay_out(alloc: Global, line: u32, statements: &[Statement]) -> Result<Assembly, AsmFault>
     requires formed { All IsFormedStatement statements.now }
     requires few { length statements.now < 2 ^ 31 }
-    ensures whole { IfOk result (λ a. a ≡ with_statements (empty_growth line) statements.now) }
-    ensures clean { OnOk result (statements_fault [] (located at_begin statements.now) ≡ None) }
-    ensures fault { IfErr result (λ e. (e ≡ memory_ran_out)
-        ⊎ (statements_fault [] (located at_begin statements.now) ≡ Some e)) }
+    ensures { AnswersFirst result (statements_fault [] (located at_begin statements.now))
+        (λ a. a ≡ with_statements (empty_growth line) statements.now) }
 {
     let mut assembly = Assembly::new(alloc, line, label_count(statements))?;
     for x in statements {
@@ -60,11 +59,8 @@ fn lay_out(alloc: Global, line: u32, statements: &[Statement]) -> Result<Assembl
 fn object(alloc: Global, module: &Module) -> Result<Object, AsmFault>
     requires formed { IsFormedModule «module».now }
     requires few { length «module».now.statements < 2 ^ 31 }
-    ensures object { IfOk result (λ o. o ≡ object_of «module».now) }
-    ensures sound { IfOk result IsSound }
-    ensures clean { OnOk result (module_fault «module».now ≡ None) }
-    ensures fault { IfErr result (λ e. (e ≡ memory_ran_out)
-        ⊎ (module_fault «module».now ≡ Some e)) }
+    ensures { AnswersFirst result (module_fault «module».now)
+        (λ o. (o ≡ object_of «module».now) × IsSound o) }
 {
     let statements = module.statements.as_slice();
     let names = declared(alloc, statements)?;
@@ -102,10 +98,8 @@ fn consume_statements(
 ) -> Result<Assembly, AsmFault>
     requires formed { All IsFormedStatement statements.items }
     requires few { length statements.items < 2 ^ 31 }
-    ensures whole { IfOk result (λ a. a ≡ with_statements (empty_growth line) statements.items) }
-    ensures clean { OnOk result (statements_fault [] (located at_begin statements.items) ≡ None) }
-    ensures fault { IfErr result (λ e. (e ≡ memory_ran_out)
-        ⊎ (statements_fault [] (located at_begin statements.items) ≡ Some e)) }
+    ensures { AnswersFirst result (statements_fault [] (located at_begin statements.items))
+        (λ a. a ≡ with_statements (empty_growth line) statements.items) }
 {
     let mut assembly = Assembly::new(alloc, line, label_count(&statements))?;
     for x in statements {
@@ -121,11 +115,8 @@ fn consume_statements(
 fn consume_module(alloc: Global, module: Module) -> Result<Object, AsmFault>
     requires formed { IsFormedModule «module» }
     requires few { length «module».statements < 2 ^ 31 }
-    ensures object { IfOk result (λ o. o ≡ object_of «module») }
-    ensures sound { IfOk result IsSound }
-    ensures clean { OnOk result (module_fault «module» ≡ None) }
-    ensures fault { IfErr result (λ e. (e ≡ memory_ran_out)
-        ⊎ (module_fault «module» ≡ Some e)) }
+    ensures { AnswersFirst result (module_fault «module»)
+        (λ o. (o ≡ object_of «module») × IsSound o) }
 {
     let Module {
         name,

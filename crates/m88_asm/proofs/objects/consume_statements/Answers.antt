@@ -32,16 +32,20 @@ consume-requires-clause-few c =
     c.loop-x.yielded c.loop-x.x-iterator c.loop-x.yielded_by c.next.result c.next.new.self x c.in-Some.is c.next.ensures.steps in
     omega (arith, t.0, c.loop-x.invariant.few, c.requires.few)
 
-pub returns-in-Err-clause-fault : goal.returns-in-Err-clause-fault
-returns-in-Err-clause-fault c =
+pub returns-in-Err : goal.returns-in-Err
+returns-in-Err c =
     let all = c.args.statements.items in
     let x = c.in-Some.x in
     let t = YieldsList-turn (YieldsList-from_vec {s = c.into_iter-x-iterator.result} all (search rules) (search rules))
     c.loop-x.yielded c.loop-x.x-iterator c.loop-x.yielded_by c.next.result c.next.new.self x c.in-Some.is c.next.ensures.steps in
-    elim c.in-Err.ensures.fault [
-      | inl e ↦ inl e
-      | inr e ↦ inr (rest_stops c.args.line all (length c.loop-x.yielded) c.loop-x.assembly x x c.in-Err.fault t.0 t.1 c.loop-x.invariant e)
-    ]
+    record {
+      right = tt;
+      clean = tt;
+      fault = elim c.in-Err.ensures.fault [
+        | inl e ↦ inl e
+        | inr e ↦ inr (rest_stops c.args.line all (length c.loop-x.yielded) c.loop-x.assembly x x c.in-Err.fault t.0 t.1 c.loop-x.invariant e)
+      ];
+    }
 
 pub loop-x-preserved : goal.loop-x-preserved
 loop-x-preserved c =
@@ -50,18 +54,12 @@ loop-x-preserved c =
     let t = YieldsList-turn (YieldsList-from_vec {s = c.into_iter-x-iterator.result} all (search rules) (search rules))
     c.loop-x.yielded c.loop-x.x-iterator c.loop-x.yielded_by c.next.result c.next.new.self x c.in-Some.is c.next.ensures.steps in
     subst (λ n. Rest c.args.line all n c.consume.new.self) (sym (length_push c.loop-x.yielded x))
-    (rest_goes_on c.args.line all (length c.loop-x.yielded) c.loop-x.assembly c.consume.new.self x x t.0 t.1 c.loop-x.invariant c.in-Ok.ensures.new c.in-Ok.ensures.clean)
+    (rest_goes_on c.args.line all (length c.loop-x.yielded) c.loop-x.assembly c.consume.new.self x x t.0 t.1 c.loop-x.invariant c.in-Ok.ensures.right c.in-Ok.ensures.clean)
 
-pub returns-clause-whole : goal.returns-clause-whole
-returns-clause-whole c =
+pub returns : goal.returns
+returns c =
     let all = c.args.statements.items in
     let end = YieldsList-end (YieldsList-from_vec {s = c.into_iter-x-iterator.result} all (search rules) (search rules))
     c.loop-x.yielded c.loop-x.x-iterator c.loop-x.yielded_by c.next.result c.next.new.self c.in-None.is c.next.ensures.steps in
-    (rest_ends c.args.line all (length c.loop-x.yielded) c.loop-x.assembly (omega (arith, end.1)) c.loop-x.invariant).0
-
-pub returns-clause-clean : goal.returns-clause-clean
-returns-clause-clean c =
-    let all = c.args.statements.items in
-    let end = YieldsList-end (YieldsList-from_vec {s = c.into_iter-x-iterator.result} all (search rules) (search rules))
-    c.loop-x.yielded c.loop-x.x-iterator c.loop-x.yielded_by c.next.result c.next.new.self c.in-None.is c.next.ensures.steps in
-    (rest_ends c.args.line all (length c.loop-x.yielded) c.loop-x.assembly (omega (arith, end.1)) c.loop-x.invariant).1
+    let ends = rest_ends c.args.line all (length c.loop-x.yielded) c.loop-x.assembly (omega (arith, end.1)) c.loop-x.invariant in
+    record { right = ends.0; clean = ends.1; fault = tt }

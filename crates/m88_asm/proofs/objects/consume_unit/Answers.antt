@@ -56,11 +56,11 @@ loop-part-preserved c =
     record {
       made =
           items
-          ∙ ap₂ (λ (os : List Object) (o : Object). os ++ o ∷ []) c.loop-part.invariant.made (c.in-Ok.ensures.object ∙ ap object_of t.1)
+          ∙ ap₂ (λ (os : List Object) (o : Object). os ++ o ∷ []) c.loop-part.invariant.made (c.in-Ok.ensures.right.0 ∙ ap object_of t.1)
           ∙ sym (map_push object_of (take i ms) (get_or ms i part))
           ∙ ap (map object_of) (sym (take_more ms i part t.0))
           ∙ ap (λ (n : ℕ). map object_of (take n ms)) (sym more);
-      sound = rw items (All-push IsSound _ _ c.loop-part.invariant.sound c.in-Ok.ensures.sound);
+      sound = rw items (All-push IsSound _ _ c.loop-part.invariant.sound c.in-Ok.ensures.right.1);
       faults =
           ap (λ (n : ℕ). modules_fault (drop n ms)) more
           ∙ ap (λ f. option_or f (modules_fault (drop (i + 1) ms))) (sym c.in-Ok.ensures.clean)

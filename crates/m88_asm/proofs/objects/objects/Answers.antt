@@ -13,10 +13,10 @@ loop-part-preserved c =
     let ms = c.args.modules.now in
     let i = c.loop-part.part-index in
     let items = c.in_ok-push-in-Ok.ensures.items in
-    let object = c.in-Ok.ensures.object in
+    let object = c.in-Ok.ensures.right.0 in
     let more = next_of ms i c.part-item.result c.part-item.result c.loop-part-test.true c.part-item.is in
     record {
       made = grind (arith, common_steps);
-      sound = rw items (All-push IsSound _ _ c.loop-part.invariant.sound c.in-Ok.ensures.sound);
+      sound = rw items (All-push IsSound _ _ c.loop-part.invariant.sound c.in-Ok.ensures.right.1);
       faults = ap (λ f. option_or f (modules_fault (drop (i + 1) ms))) (sym c.in-Ok.ensures.clean) ∙ ap modules_fault (sym more) ∙ c.loop-part.invariant.faults;
     }
