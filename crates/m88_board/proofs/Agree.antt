@@ -9,9 +9,10 @@ use Rattle.m88_isa.proofs.Laws.{loaded_first, r0_waits_not, stored_first}
 use Rattle.m88_isa.specs.Bus.{after_accesses, bus_after_all, loaded, stored}
 use Rattle.m88_isa.specs.Memory.{IsWordAccess}
 use Rattle.m88_isa.specs.declared.planned.Access.{Access}
-use Rattle.m88_mem.specs.DataBus.{MemoryView, bus_of, ready_of}
+use Rattle.m88_mem.specs.DataBus.{MemoryView, absent_of, bus_of, ready_of}
 use Rattle.m88_scoreboard.specs.Registers.{Registers, waiting_of}
 use Rattle.m88_board.specs.Board.{cells_of}
+use Rattle.m88_board.specs.Inside.Accesses.{AnswersOldest}
 use Rattle.m88_board.specs.Kept.{AreReady, HasReadyPage, PartsAgree}
 
 -- the oldest and the rest
@@ -39,7 +40,7 @@ pub zero_waits_not : (xs : List Access) (file : Registers) (memory : MemoryView)
 zero_waits_not xs file memory agree = ap (λ set. set 0) agree.waiting ∙ r0_waits_not xs
 
 -- what an answer keeps
-pub record Answered (old : List Access) (file : Registers) (memory : MemoryView) (file' : Registers) (memory' : MemoryView)
+record Answered (old : List Access) (file : Registers) (memory : MemoryView) (file' : Registers) (memory' : MemoryView)
     : Type 0 where
   pub agree : PartsAgree (drop 1 old) file' memory'
   pub cells : after_accesses (drop 1 old) (cells_of file' memory') ≡ after_accesses old (cells_of file memory)
@@ -83,29 +84,53 @@ load_first x xs file file' memory agree read numbers waiting = record {
   bus = ap (λ (w : Bool). if w then stored x (bus_of memory) else bus_of memory) (sym read);
 }
 
-pub store_answered : (old : List Access) (x : Access) (file : Registers) (memory memory' : MemoryView) →
+-- by the list of those that are still pending
+answers_oldest : (old new : List Access) (file : Registers) (memory : MemoryView) (file' : Registers) (memory' : MemoryView) →
+    Answered old file memory file' memory' →
+    new ≡ drop 1 old →
+    absent_of memory' ≡ absent_of memory →
+    memory'.image ≡ memory.image →
+    AnswersOldest old file memory new file' memory'
+answers_oldest old new file memory file' memory' done left absent image = record {
+  pending = left;
+  agree = subst (λ (xs : List Access). PartsAgree xs file' memory') (sym left) done.agree;
+  cells = ap (λ (xs : List Access). after_accesses xs (cells_of file' memory')) left ∙ done.cells;
+  bus = done.bus;
+  absent = absent;
+  image = image;
+}
+
+pub store_answered : (old new : List Access) (x : Access) (file : Registers) (memory memory' : MemoryView) →
     slice_get old 0 ≡ Some x →
     PartsAgree old file memory →
     x.write ≡ true →
     bus_of memory' ≡ stored x (bus_of memory) →
     ready_of memory' ≡ ready_of memory →
-    Answered old file memory file memory'
-store_answered [] x file memory memory' h agree write bus ready = absurd cc
-store_answered (y ∷ ys) x file memory memory' h agree write bus ready =
+    new ≡ drop 1 old →
+    absent_of memory' ≡ absent_of memory →
+    memory'.image ≡ memory.image →
+    AnswersOldest old file memory new file memory'
+store_answered [] new x file memory memory' h agree write bus ready left absent image = absurd cc
+store_answered (y ∷ ys) new x file memory memory' h agree write bus ready left absent image =
     let e : x ≡ y = cc in
-    store_first y ys file memory memory' agree (subst (λ (z : Access). z.write ≡ true) e write)
-    (subst (λ (z : Access). bus_of memory' ≡ stored z (bus_of memory)) e bus) ready
+    answers_oldest (y ∷ ys) new file memory file memory'
+    (store_first y ys file memory memory' agree (subst (λ (z : Access). z.write ≡ true) e write)
+    (subst (λ (z : Access). bus_of memory' ≡ stored z (bus_of memory)) e bus) ready)
+    left absent image
 
-pub load_answered : (old : List Access) (x : Access) (file file' : Registers) (memory : MemoryView) →
+pub load_answered : (old new : List Access) (x : Access) (file file' : Registers) (memory : MemoryView) →
     slice_get old 0 ≡ Some x →
     PartsAgree old file memory →
     x.write ≡ false →
     file'.numbers ≡ with_register x.reg (loaded x (bus_of memory)) file.numbers →
     waiting_of file' ≡ with_member (number_of x.reg) false (waiting_of file) →
-    Answered old file memory file' memory
-load_answered [] x file file' memory h agree read numbers waiting = absurd cc
-load_answered (y ∷ ys) x file file' memory h agree read numbers waiting =
+    new ≡ drop 1 old →
+    AnswersOldest old file memory new file' memory
+load_answered [] new x file file' memory h agree read numbers waiting left = absurd cc
+load_answered (y ∷ ys) new x file file' memory h agree read numbers waiting left =
     let e : x ≡ y = cc in
-    load_first y ys file file' memory agree (subst (λ (z : Access). z.write ≡ false) e read)
+    answers_oldest (y ∷ ys) new file memory file' memory
+    (load_first y ys file file' memory agree (subst (λ (z : Access). z.write ≡ false) e read)
     (subst (λ (z : Access). file'.numbers ≡ with_register z.reg (loaded z (bus_of memory)) file.numbers) e numbers)
-    (subst (λ (z : Access). waiting_of file' ≡ with_member (number_of z.reg) false (waiting_of file)) e waiting)
+    (subst (λ (z : Access). waiting_of file' ≡ with_member (number_of z.reg) false (waiting_of file)) e waiting))
+    left refl refl

@@ -1,13 +1,13 @@
 -- The choices that the paths of an event come to.
-use Rattle.std.specs.Prelude.{ℕ, Bool, true, false, List, [], ◌∷◌, Option, Some, ◌≡◌, ◌<◌, is_some, length, slice_get, if◌then◌else◌}
+use Rattle.std.specs.Prelude.{ℕ, Bool, true, false, List, [], ◌∷◌, Some, ◌≡◌, ◌<◌, length, slice_get, if◌then◌else◌}
 use Rattle.std.proofs.Common.{arith, refl, sym, ap, ◌∙◌, subst}
 use Rattle.m88_base.specs.Pages.{page_number}
 use Rattle.m88_base.specs.declared.slot.Slot.{Slot}
-use Rattle.m88_event.specs.Choice.{Choice, answer_choice, faults, finishes, replies, turn_choice}
+use Rattle.m88_event.specs.Choice.{Choice, answer_choice, faults, finishes, holds, replies, turn_choice}
 use Rattle.m88_event.specs.declared.happened.Happened.{Happened}
 use Rattle.m88_event.specs.declared.record.Record.{Record}
 use Rattle.m88_isa.specs.Bus.{waits_for}
-use Rattle.m88_isa.specs.Held.{is_pending}
+use Rattle.m88_isa.specs.Held.{is_pending, sync}
 use Rattle.m88_isa.specs.Machine.{Stop, trapped, turn_of_service}
 use Rattle.m88_isa.specs.Monitor.{service_of}
 use Rattle.m88_isa.specs.declared.monitor.Service.{Service}
@@ -19,11 +19,7 @@ use Rattle.m88_board.specs.Board.{BoardView, pc_of}
 use Rattle.m88_board.specs.Kept.{PartsAgree}
 use Rattle.m88_board.specs.Moves.{Did, stopping}
 
--- whether something is pending, by the oldest and by the list
-pub pending_by : (xs : List Access) (o : Option Access) → o ≡ slice_get xs 0 → is_some o ≡ is_pending xs
-pending_by [] o e = ap is_some e
-pending_by (x ∷ xs) o e = ap is_some e
-
+-- whether something is pending
 pub none_pending : (xs : List Access) → is_pending xs ≡ false → xs ≡ []
 none_pending [] h = refl
 none_pending (x ∷ xs) h = absurd cc
@@ -35,6 +31,15 @@ some_count (x ∷ xs) h = omega arith
 -- what raises with nothing pending
 pub stopping_ends : (stop : Stop) (xs : List Access) → xs ≡ [] → stopping stop xs ≡ finishes stop
 stopping_ends stop xs h = ap (λ (ys : List Access). stopping stop ys) h
+
+-- and with something pending
+pub stopping_waits : (stop : Stop) (xs : List Access) → is_pending xs ≡ true → stopping stop xs ≡ holds sync
+stopping_waits stop xs h = ap (λ (t : Bool). if t then holds sync else finishes stop) h
+
+-- something is pending where the oldest meets its fault
+pub faults_some : (xs : List Access) (absent : ℕ → Bool) → answer_choice xs absent ≡ faults → 0 < length xs
+faults_some [] absent h = absurd cc
+faults_some (x ∷ xs) absent h = omega arith
 
 -- the oldest is answered by its page
 pub answer_is : (xs : List Access) (x : Access) (absent : ℕ → Bool) (t : Bool) → Some x ≡ slice_get xs 0 →

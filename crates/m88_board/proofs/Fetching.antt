@@ -1,5 +1,5 @@
 -- What the letter `i` comes to, by what is fetched for it.
-use Rattle.std.specs.Prelude.{ℕ, Bool, true, false, not, List, [], ◌∷◌, Option, Some, None, MatchOption, ◌≡◌, ◌<◌, ◌%◌, ◌^◌, ◌&&◌, if◌then◌else◌, is_none}
+use Rattle.std.specs.Prelude.{ℕ, Bool, true, false, not, List, [], ◌∷◌, Option, Some, None, Result, Ok, Err, MatchOption, ◌≡◌, ◌<◌, ◌%◌, ◌^◌, ◌&&◌, if◌then◌else◌, is_none}
 use Rattle.std.specs.Int.{to_be_bytes, w32}
 use Rattle.m88_codec.proofs.Laws.{one_reading}
 use Rattle.m88_mem.specs.Lines.{IsLine}
@@ -26,8 +26,8 @@ use Rattle.m88_board.specs.Board.{BoardView, completed_of, is_idle_board, local_
 use Rattle.m88_board.specs.Kept.{SlotsAgree, lacks_word}
 use Rattle.m88_board.specs.Moves.{stopping}
 use Rattle.m88_board.proofs.Choosing.{at_pc}
-use Rattle.m88_board.specs.Inside.NoInstruction.{HasNoInstruction}
-use Rattle.m88_board.specs.Inside.Turns.{choice_for}
+use Rattle.m88_board.specs.Inside.NoInstruction.{HasNoInstruction, IsFoundAt, IsFoundNext}
+use Rattle.m88_board.specs.Inside.Turns.{IsDue, IssueComesTo, choice_for}
 
 -- no more may be issued
 pub idles_by : (p : Program) (b : BoardView) → is_idle_board b ≡ true →
@@ -164,15 +164,12 @@ turns_by p b word i of goes next small is only =
     (instruction_at_word b.memory.image p (pc_of b.slots) word of next.aligned small next.bytes) is only)
 
 -- the instruction that was found there, which has its turn
-pub line_by : (p : Program) (b : BoardView) (line : Line) → IsProgramOf b.memory.image p → is_idle_board b ≡ false →
-    b.slots.nip.v ≡ true →
-    line.addr ≡ pc_of b.slots →
-    IsLine b.memory.image line →
+pub line_by : (b : BoardView) (line : Line) → IsDue b → line.addr ≡ pc_of b.slots → IsLine b.memory.image line →
     line.word < 2 ^ 32 →
-    choice_by p b.limit Issue (local_of b) ≡ choice_for (Some line.instr) b
-line_by p b line of goes valid here is small =
-    turns_by p b line.word line.instr of goes (record {
-      valid = valid;
+    IssueComesTo (choice_for (Some line.instr) b) b
+line_by b line due here is small = λ p of.
+    turns_by p b line.word line.instr of due.going (record {
+      valid = due.valid;
       aligned = subst (λ (a : ℕ). a % 4 ≡ 0) here is.aligned;
       bytes = subst (λ (a : ℕ). four_bytes (byte_at b.memory.image) a ≡ Some (to_be_bytes w32 line.word)) here is.word;
     })
@@ -180,16 +177,14 @@ line_by p b line of goes valid here is small =
     (λ j other. one_reading line.word j line.instr other is.instruction)
 
 -- and the vector that is raised where none was found
-pub vector_by : (p : Program) (b : BoardView) (vector : ℕ) → IsProgramOf b.memory.image p → is_idle_board b ≡ false →
-    b.slots.nip.v ≡ true →
-    pc_of b.slots % 4 ≡ 0 →
+pub vector_by : (b : BoardView) (vector : ℕ) → IsDue b → pc_of b.slots % 4 ≡ 0 →
     HasNoInstruction b.memory.image (pc_of b.slots) vector →
-    choice_by p b.limit Issue (local_of b) ≡ stopping (by_vector vector (pc_of b.slots)) b.pending
-vector_by p b vector of goes valid aligned (inl lacks) =
-    lacks_by p b of goes (record { valid = valid; aligned = aligned; bytes = lacks.0 })
+    IssueComesTo (stopping (by_vector vector (pc_of b.slots)) b.pending) b
+vector_by b vector due aligned (inl lacks) = λ p of.
+    lacks_by p b of due.going (record { valid = due.valid; aligned = aligned; bytes = lacks.0 })
     ∙ ap (λ (v : ℕ). stopping (by_vector v (pc_of b.slots)) b.pending) (sym lacks.1)
-vector_by p b vector of goes valid aligned (inr none) =
-    unimplemented_by p b none.0 of goes (record { valid = valid; aligned = aligned; bytes = none.1.1 }) none.1.0 none.2
+vector_by b vector due aligned (inr none) = λ p of.
+    unimplemented_by p b none.0 of due.going (record { valid = due.valid; aligned = aligned; bytes = none.1.1 }) none.1.0 none.2
     ∙ ap (λ (v : ℕ). stopping (by_vector v (pc_of b.slots)) b.pending) (sym none.3)
 
 -- a vector that is raised is one
@@ -198,7 +193,7 @@ vector_small image addr vector (inl lacks) = subst (λ (v : ℕ). v < 512) (sym 
 vector_small image addr vector (inr none) = subst (λ (v : ℕ). v < 512) (sym none.3) (omega arith)
 
 -- NIP isn't marked where an instruction was found there
-pub found_unmarked : (b : BoardView) (line : Line) → SlotsAgree b.memory.image b.slots → b.slots.nip.v ≡ true →
+found_unmarked : (b : BoardView) (line : Line) → SlotsAgree b.memory.image b.slots → b.slots.nip.v ≡ true →
     line.addr ≡ pc_of b.slots →
     IsLine b.memory.image line →
     b.slots.nip.e ≡ false
@@ -210,3 +205,15 @@ found_unmarked b line agree valid here is =
     else squashed_slot (word_behind b.slots.xip.addr)).e) valid
     ∙ ap (λ (a : ℕ). lacks_word b.memory.image a) (sym at)
     ∙ ap (λ (o : Option (List ℕ)). is_none o) is.word
+
+pub found_next : (found : Result Line ℕ) (b : BoardView) → SlotsAgree b.memory.image b.slots → b.slots.nip.v ≡ true →
+    pc_of b.slots % 4 ≡ 0 →
+    IsFoundAt b.memory.image (pc_of b.slots) found →
+    IsFoundNext found b
+found_next (Ok line) b agree valid aligned there = record {
+  aligned = aligned;
+  found_there = there;
+  unmarked = found_unmarked b line agree valid there.0 there.1;
+}
+found_next (Err vector) b agree valid aligned there =
+    record { aligned = aligned; found_there = there; unmarked = tt }

@@ -41,4 +41,6 @@ pub mod Suspending
 pub mod Briefly
 pub mod CameTo
 pub mod Telling
+pub mod Brought
+pub mod Happening
 pub mod Laws

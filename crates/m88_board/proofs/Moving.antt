@@ -1,7 +1,8 @@
 -- An event is the move of what is seen, and so goes along the timeline.
-use Rattle.std.specs.Prelude.{ℕ, Bool, false, List, [], ◌∷◌, ◌≡◌, ◌≤◌, ◌+◌, ◌-◌, length}
+use Rattle.std.specs.Prelude.{ℕ, Bool, true, false, if◌then◌else◌, List, [], ◌∷◌, ◌≡◌, ◌≤◌, ◌+◌, ◌-◌, length}
 use Rattle.std.proofs.Common.{arith, refl, sym, ap, ◌∙◌, subst}
 use Rattle.std.proofs.lemmas.List.{length-drop}
+use Rattle.m88_base.specs.Pages.{page_number}
 use Rattle.m88_event.proofs.Laws.{keeps_past, moves_as_seen, precise_by, same_said, stays_within}
 use Rattle.m88_event.specs.Choice.{Choice, ServesOrEnds, answer_choice, evicts, faults, finishes, holds, idles, issues, passes, replies, said, serves}
 use Rattle.m88_event.specs.Local.{Local, choice_by, move, move_by, record_by, said_by, situation_of, with_move_counted}
@@ -9,7 +10,7 @@ use Rattle.m88_event.specs.Past.{HasPast}
 use Rattle.m88_event.specs.Timeline.{Moment, after_letter, said_at}
 use Rattle.m88_event.specs.declared.happened.Happened.{Happened}
 use Rattle.m88_event.specs.declared.letter.Letter.{Letter}
-use Rattle.m88_event.specs.declared.letter.Letter.TheVariants.{Answer}
+use Rattle.m88_event.specs.declared.letter.Letter.TheVariants.{Answer, Evict}
 use Rattle.m88_event.specs.declared.record.Record.{Record}
 use Rattle.m88_isa.specs.Held.{is_pending}
 use Rattle.m88_isa.specs.Machine.{IsProgram, Program}
@@ -85,8 +86,13 @@ pub answer_chosen : (p : Program) (old : BoardView) →
 unfolding situation_of local_of
 answer_chosen p old = refl
 
+-- and the letter `e` its own
+pub evict_chosen : (p : Program) (old : BoardView) → choice_by p old.limit Evict (local_of old) ≡ evicts
+unfolding situation_of local_of
+evict_chosen p old = refl
+
 -- an answer leaves fewer transactions pending
-pub fewer_replied : (fault : Record) (old new : BoardView) → Does replies fault old new →
+fewer_replied : (fault : Record) (old new : BoardView) → Does replies fault old new →
     length new.pending ≤ length old.pending - 1
 unfolding local_of
 fewer_replied fault old new did =
@@ -94,10 +100,26 @@ fewer_replied fault old new did =
     let dropped = length-drop 1 old.pending in
     omega (arith, left, dropped)
 
-pub fewer_faulted : (fault : Record) (old new : BoardView) → Does faults fault old new →
+fewer_faulted : (fault : Record) (old new : BoardView) → Does faults fault old new →
     length new.pending ≤ length old.pending - 1
 unfolding local_of
 fewer_faulted fault old new did = let left = ap (λ (l : Local). length l.pending) did.moved in omega (arith, left)
+
+fewer_by : (absent : Bool) (fault : Record) (old new : BoardView) → Does (if absent then faults else replies) fault old new →
+    length new.pending ≤ length old.pending - 1
+fewer_by true fault old new did = fewer_faulted fault old new did
+fewer_by false fault old new did = fewer_replied fault old new did
+
+pub fewer_answered : (pending : List Access) (absent : ℕ → Bool) (fault : Record) (old new : BoardView) →
+    old.pending ≡ pending →
+    Does (answer_choice pending absent) fault old new →
+    length new.pending ≤ length old.pending - 1
+unfolding local_of
+fewer_answered [] absent fault old new is did =
+    let left = ap (λ (l : Local). length l.pending) did.moved in
+    let none = ap length is in
+    omega (arith, left, none)
+fewer_answered (a ∷ pending) absent fault old new is did = fewer_by (absent (page_number a.addr)) fault old new did
 
 -- and tells how the program ended
 ended_by : (choice : Choice) (fault : Record) (l : Local) →

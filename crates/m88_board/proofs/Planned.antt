@@ -9,11 +9,11 @@ use Rattle.m88_dunit.specs.Pending.{CanIssue}
 use Rattle.m88_event.specs.Choice.{issues}
 use Rattle.m88_isa.proofs.Laws.{at_most_two, by_test, written_waits_not}
 use Rattle.m88_isa.specs.Bus.{listed, waits_for}
-use Rattle.m88_isa.specs.Effect.{Change, FlowsToWords, MakesAccesses, WritesWithin, plan_for, recorded_change}
+use Rattle.m88_isa.specs.Effect.{Change, recorded_change}
 use Rattle.m88_isa.specs.Held.{busy_register, is_pending, most_pending}
 use Rattle.m88_isa.specs.Instr.{IsValid}
 use Rattle.m88_isa.specs.Memory.{AreWordAccesses, recorded}
-use Rattle.m88_isa.specs.Operands.{access_count_of, waits_for_empty, writes_of}
+use Rattle.m88_isa.specs.Operands.{waits_for_empty}
 use Rattle.m88_isa.specs.declared.instr.Instr.{Instr}
 use Rattle.m88_isa.specs.declared.planned.Access.{Access}
 use Rattle.m88_isa.specs.declared.planned.Accesses.{Accesses}
@@ -22,29 +22,27 @@ use Rattle.m88_isa.specs.declared.planned.Plan.{Plan}
 use Rattle.m88_isa.specs.declared.planned.Plan.TheVariants.{Go}
 use Rattle.m88_board.proofs.Issuing.{IsGoing, go_full, go_issued, go_sync, is_going, no_trap, none_to_wait_for}
 use Rattle.m88_board.proofs.Telling.{change_told}
-use Rattle.m88_board.specs.Board.{BoardView, completed_of}
+use Rattle.m88_board.specs.Board.{BoardView}
 use Rattle.m88_board.specs.Kept.{AreReady, HasReadyPage}
-use Rattle.m88_board.specs.Inside.Turns.{IsPlanned, PlansOnePage, choice_for, meaning_at}
+use Rattle.m88_board.specs.Inside.Turns.{IsPlanOf, IsPlanned, choice_for}
 
 -- by a plan of which all is told that holds of every plan
 pub planned_from : (i : Instr) (effect : Effect) (b : BoardView) (plan : Plan) → plan ≡ Go effect →
     IsValid i →
     busy_register (Some i) b.pending ≡ None →
-    plan ≡ plan_for (meaning_at i (completed_of b)) →
-    MakesAccesses (access_count_of i) plan →
-    WritesWithin (writes_of i) plan →
-    FlowsToWords plan →
-    PlansOnePage plan →
+    IsPlanOf i plan b →
     IsPlanned i effect b
-planned_from i effect b plan is valid free means made written flow page = record {
-  instr = valid;
-  free = free;
-  means = subst (λ p. p ≡ plan_for (meaning_at i (completed_of b))) is means;
-  made = subst (MakesAccesses (access_count_of i)) is made;
-  written = subst (WritesWithin (writes_of i)) is written;
-  flow = subst FlowsToWords is flow;
-  page = subst PlansOnePage is page;
-}
+planned_from i effect b plan is valid free planned =
+    let known = subst (λ p. IsPlanOf i p b) is planned in
+    record {
+      instr = valid;
+      free = free;
+      means = known.means;
+      made = known.made;
+      written = known.written;
+      flow = known.flow;
+      page = known.page;
+    }
 
 -- what it comes to goes on with those changes
 pub going_of : (i : Instr) (effect : Effect) (b : BoardView) → IsPlanned i effect b → IsGoing i b effect

@@ -3,18 +3,16 @@ use Rattle.std.specs.Prelude.{true, false, not, List, [], ◌∷◌, ◌≡◌, 
 use Rattle.std.proofs.Common.{arith, refl, ap, subst, sym, ◌∙◌}
 use Rattle.m88_base.specs.Image.{IsImage}
 use Rattle.m88_event.specs.Local.{move}
+use Rattle.m88_event.specs.declared.happened.Happened.{Happened}
 use Rattle.m88_event.specs.declared.letter.Letter.{Letter}
-use Rattle.m88_event.specs.declared.letter.Letter.TheVariants.{Answer}
 use Rattle.m88_isa.specs.Held.{is_pending}
-use Rattle.m88_isa.specs.ImageProgram.{IsProgramOf}
-use Rattle.m88_isa.specs.Machine.{Program}
 use Rattle.m88_isa.specs.declared.planned.Access.{Access}
 use Rattle.m88_board.proofs.Choosing.{some_count}
 use Rattle.m88_board.proofs.Weighing.{answered_no_heavier, bounded_next, bounded_unmoved, lighter_next, no_heavier_same, no_heavier_then, unmoved_no_heavier}
 use Rattle.m88_board.specs.Board.{BoardView, local_of}
 use Rattle.m88_board.specs.Inside.Routes.{CanBeCounted, IsBoundedBy, has_to_rest, letters_by}
 use Rattle.m88_board.specs.Kept.{IsKept, most_events}
-use Rattle.m88_board.specs.Moves.{IsSameRun, IsUnmoved}
+use Rattle.m88_board.specs.Moves.{Happens, IsUnmoved}
 use Rattle.m88_board.specs.Walks.{IsBounded}
 use Rattle.m88_board.specs.declared.route.Route.{Route}
 use Rattle.m88_board.specs.declared.route.Route.TheVariants.{Run, Answers}
@@ -47,29 +45,31 @@ next_counted Answers first old room kept bounded going =
     omega (arith, room, some, few, most)
 
 -- behind an event of its next letter
-pub bounded_behind : (route : Route) (letter : Letter) (first old new : BoardView) → IsBoundedBy route first old →
+pub bounded_behind : (route : Route) (letter : Letter) (first old : BoardView) (happened : Happened) (new : BoardView) →
+    IsBoundedBy route first old →
     has_to_rest route old ≡ false → first.events ≤ old.events →
     letter ≡ letters_by route (old.events - first.events) →
-    IsKept new → IsSameRun old new → new.events ≡ old.events + 1 →
-    ((p : Program) → IsProgramOf old.memory.image p → local_of new ≡ move p old.limit letter (local_of old)) →
-    (letter ≡ Answer → length new.pending ≤ length old.pending - 1) →
+    Happens letter old happened new →
     IsBoundedBy route first new
-bounded_behind (Run schedule taken until) letter first old new bounded going begun is kept same counted moved shorter =
+bounded_behind (Run schedule taken until) letter first old happened new bounded going begun is event =
+    let counted = event.counted in
     let here = taken + (old.events - first.events) in
     let place : here + 1 ≡ taken + (new.events - first.events) = omega (arith, begun, counted) in
     subst (λ n. IsBounded schedule.now n new) place
-    (bounded_next schedule.now here old new bounded kept same counted
-    (lighter_next schedule.now here letter old new bounded going is kept same moved))
-bounded_behind Answers letter first old new bounded going begun is kept same counted moved shorter =
+    (bounded_next schedule.now here old new bounded event.kept event.same counted
+    (lighter_next schedule.now here letter old new bounded going is event.kept event.same
+    (λ p of. (event.moved p of).moved)))
+bounded_behind Answers letter first old happened new bounded going begun is event =
+    let counted = event.counted in
     let pending = some_left old.pending going in
     let some = some_count old.pending pending in
-    let less = shorter is in
+    let less = event.shorter is in
     let before = bounded.bounded in
     record {
       bounded = omega (arith, some, less, counted, before);
       lighter = no_heavier_then first old new bounded.lighter
-          (answered_no_heavier old new (subst IsImage same.image kept.image) pending same counted
-          (λ p of. moved p of ∙ ap (λ x. move p old.limit x (local_of old)) is));
+          (answered_no_heavier old new (subst IsImage event.same.image event.kept.image) pending event.same counted
+          (λ p of. (event.moved p of).moved ∙ ap (λ x. move p old.limit x (local_of old)) is));
     }
 
 -- no event: memory ran out

@@ -53,8 +53,8 @@ pub ends_now : (b : BoardView) (control : ControlRegisters) (end : End) → Come
     carry_of control ≡ carry_of b.control → mxm_of control ≡ mxm_of b.control → EndsSo (record b { control = control; ended = Some end }) end
 ends_now b control end comes carry mxm = λ p of.
     ap (λ (c : Completed). end_of_turn (turn_by p c)) (same_state b control end carry mxm)
-    ∙ stops_so p b comes.0 (comes.2 p of)
-    ∙ sym comes.1
+    ∙ stops_so p b comes.stop (comes.comes p of)
+    ∙ sym comes.ends_by
 
 -- the state reached is the same where the words are
 same_words : (b : BoardView) (memory : MemoryView) → bus_of memory ≡ bus_of b.memory →

@@ -1,7 +1,8 @@
 -- What an event of `i` tells of its instruction.
-use Rattle.std.specs.Prelude.{ℕ, Bool, List, [], ◌∷◌, Option, ◌≡◌}
+use Rattle.std.specs.Prelude.{ℕ, Result, Ok, Err, IfOk, Bool, List, [], ◌∷◌, Option, ◌≡◌}
 use Rattle.std.proofs.Common.{sym, ap, ap₂, subst, ◌∙◌}
 use Rattle.m88_base.specs.Image.{byte_at}
+use Rattle.m88_base.specs.declared.failing.NoMemory.{NoMemory}
 use Rattle.m88_event.proofs.Laws.{same_situation}
 use Rattle.m88_event.specs.Choice.{Choice, choice_of, issues, said}
 use Rattle.m88_event.specs.Local.{Local, choice_by, local_at}
@@ -16,19 +17,13 @@ use Rattle.m88_isa.specs.declared.planned.Access.{Access}
 use Rattle.m88_isa.specs.declared.planned.Effect.{Effect}
 use Rattle.m88_isa.specs.declared.planned.Plan.TheVariants.{Go}
 use Rattle.m88_board.specs.Board.{BoardView, completed_of, local_of, pc_of}
+use Rattle.m88_board.specs.Inside.Briefly.{happened_of}
+use Rattle.m88_board.specs.declared.brief.Brief.{Brief}
 use Rattle.m88_board.specs.Moves.{Did, IsAt, stopping}
 use Rattle.m88_board.specs.Told.{IsTold, IsWordOf, WentOn}
 use Rattle.m88_board.specs.declared.told.Told.{Told}
 
--- what raises is not issued
-pub stopping_issues_none : (choice : Choice) (stop : Stop) (pending : List Access) (change : Change) →
-    choice ≡ stopping stop pending →
-    choice ≡ issues change →
-    ⊥
-stopping_issues_none choice stop [] change is issued = absurd cc
-stopping_issues_none choice stop (a ∷ pending) change is issued = absurd cc
-
--- and doesn't go on
+-- what raises doesn't go on
 stopping_stays : (stop : Stop) (pending : List Access) (fault : Record) → WentOn (said (stopping stop pending) fault) → ⊥
 stopping_stays stop [] fault went = went
 stopping_stays stop (a ∷ pending) fault went = went
@@ -75,3 +70,9 @@ told_at p named m b h told at word plan = record {
   word = λ went. ((word went).0, word_seen p named m b at ∙ (word went).1);
   plan = λ change issued. plan change (choice_seen p named m b at ∙ issued);
 }
+
+-- the word of the instruction, whatever comes of it
+pub word_told : (r : Result Brief NoMemory) (new : BoardView) (bytes : Option (List ℕ)) (word : ℕ) → IsWordOf bytes word →
+    IfOk r (λ brief. WentOn (happened_of brief new) → IsWordOf bytes word)
+word_told (Ok brief) new bytes word is = λ went. is
+word_told (Err e) new bytes word is = tt

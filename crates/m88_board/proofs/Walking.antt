@@ -20,7 +20,7 @@ use Rattle.m88_board.proofs.Unmoved.{unmoved_seen}
 use Rattle.m88_board.proofs.Seeing.{saw_none, saw_then}
 use Rattle.m88_board.specs.Board.{BoardView, local_of}
 use Rattle.m88_board.specs.Glances.{Saw, glance_at, glances_along}
-use Rattle.m88_board.specs.Inside.Routes.{halts_by, letters_by, moments_by, stops_by}
+use Rattle.m88_board.specs.Inside.Routes.{stops_at_event, letters_by, moments_by, stops_at_moment}
 use Rattle.m88_board.specs.Moves.{IsAlong, IsAt, IsStep, IsUnmoved}
 use Rattle.m88_board.specs.Walks.{moments_from, never, stops_after}
 use Rattle.m88_board.specs.declared.route.Route.{Route}
@@ -36,7 +36,7 @@ not_yet halts k none here = λ j h. by_test (j == k)
 pub record Goes (route : Route) (p : Program) (named : ℕ → Bool) (limit : ℕ) (m : Moment) (k : ℕ)
     (before after : Option (List Glance)) (b : BoardView) : Type 0 where
   pub along : IsAlong p named (moments_by route p named limit m) k before after b
-  pub first : NotBefore (halts_by route p named limit m) k
+  pub first : NotBefore (stops_at_event route p named limit m) k
 
 -- nothing yet
 pub goes_start : (route : Route) (p : Program) (named : ℕ → Bool) (m : Moment) (k : ℕ) (seen : Option (List Glance))
@@ -52,16 +52,16 @@ goes_start route p named m k seen b none at =
 -- whether it stops is seen
 pub stops_there : (route : Route) (p : Program) (named : ℕ → Bool) (limit now : ℕ) (m : Moment) (made k : ℕ)
     (stops : Bool) → made ≡ k → now ≡ limit →
-    stops ≡ stops_by route p now made (moments_by route p named limit m k) →
-    halts_by route p named limit m k ≡ stops
+    stops ≡ stops_at_moment route p now made (moments_by route p named limit m k) →
+    stops_at_event route p named limit m k ≡ stops
 stops_there route p named limit now m made k stops place same says =
-    sym (says ∙ ap₂ (λ (n j : ℕ). stops_by route p n j (moments_by route p named limit m k)) same place)
+    sym (says ∙ ap₂ (λ (n j : ℕ). stops_at_moment route p n j (moments_by route p named limit m k)) same place)
 
 -- and one more
 pub goes_step : (route : Route) (p : Program) (named : ℕ → Bool) (limit : ℕ) (m : Moment) (k next : ℕ)
     (before here after : Option (List Glance)) (letter : Letter) (b c : BoardView) → next ≡ k + 1 → b.limit ≡ limit →
     letter ≡ letters_by route k →
-    Goes route p named limit m k before here b → halts_by route p named limit m k ≡ false →
+    Goes route p named limit m k before here b → stops_at_event route p named limit m k ≡ false →
     IsStep p named letter (moments_by route p named limit m k) here after b c →
     Goes route p named limit m next before after c
 unfolding moment_along glances_along
@@ -77,7 +77,7 @@ goes_step route p named limit m k next before here after letter b c one same is 
             (glance_at p (after_letter p named limit (letters_by route k) last) ∷ []) goes.along.saw
             (subst (λ (x : Moment). Saw here after (glance_at p x ∷ [])) moved step.saw);
       };
-      first = not_yet (halts_by route p named limit m) k goes.first on;
+      first = not_yet (stops_at_event route p named limit m) k goes.first on;
     })
 
 -- along the letters of a run from the first on

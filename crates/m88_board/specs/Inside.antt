@@ -2,4 +2,6 @@
 pub mod Turns
 pub mod NoInstruction
 pub mod Briefly
+pub mod Events
+pub mod Accesses
 pub mod Routes

@@ -1,16 +1,17 @@
 -- What an event makes of a board.
-use Rattle.std.specs.Prelude.{ℕ, Bool, not, List, [], ◌∷◌, Option, Some, ◌≡◌, if◌then◌else◌}
+use Rattle.std.specs.Prelude.{ℕ, Bool, not, List, [], ◌∷◌, Option, Some, ◌≡◌, ◌≤◌, ◌+◌, ◌-◌, length, if◌then◌else◌}
 use Rattle.m88_base.specs.Pages.{every_page}
 use Rattle.m88_ctrl.specs.ControlRegisters.{mxm_of}
-use Rattle.m88_event.specs.Choice.{Choice, finishes, holds, said}
+use Rattle.m88_event.specs.Choice.{Choice, ServesOrEnds, finishes, holds, said}
 use Rattle.m88_event.specs.Local.{local_at, move, move_by, said_by}
 use Rattle.m88_event.specs.Past.{HasPast}
 use Rattle.m88_event.specs.Shadow.{retired_pointer}
-use Rattle.m88_event.specs.Timeline.{DoneWereMade, Moment, after_letter}
+use Rattle.m88_event.specs.Timeline.{DoneWereMade, Moment, after_letter, said_at}
 use Rattle.m88_event.specs.declared.happened.End.{End}
 use Rattle.m88_event.specs.declared.happened.Happened.{Happened}
 use Rattle.m88_event.specs.declared.happened.Happened.TheVariants as happened
 use Rattle.m88_event.specs.declared.letter.Letter.{Letter}
+use Rattle.m88_event.specs.declared.letter.Letter.TheVariants.{Answer}
 use Rattle.m88_event.specs.declared.record.Record.{Record}
 use Rattle.m88_isa.specs.Held.{is_pending, sync}
 use Rattle.m88_iunit.specs.Pointers.{Pointers}
@@ -18,6 +19,8 @@ use Rattle.m88_mem.specs.DataBus.{absent_of, bus_of, ready_of}
 use Rattle.m88_isa.specs.Machine.{Program, Stop}
 use Rattle.m88_isa.specs.declared.planned.Access.{Access}
 use Rattle.m88_board.specs.Board.{BoardView, local_of, next_of, pc_of}
+use Rattle.m88_board.specs.Kept.{IsKept}
+use Rattle.m88_board.specs.Shown.{Leaves}
 use Rattle.m88_board.specs.Glances.{Saw, glance_at, glances_along}
 use Rattle.m88_board.specs.declared.glance.Glance.{Glance}
 use Rattle.m88_isa.specs.ImageProgram.{IsProgramOf}
@@ -107,3 +110,22 @@ end_after _ before = before
 -- what raises waits for an empty data unit, and then ends the program
 abbrev pub stopping : Stop → List Access → Choice
 stopping stop pending = if is_pending pending then holds sync else finishes stop
+
+-- an event of a letter: the move of what is seen; at a moment of a history the next one of the timeline, and what that
+-- says; a trap is served and the program ends only with nothing pending; how the program ended then; one event more; the
+-- same run; nothing else changed where there was nothing to do or the next instruction is held; an answer leaves fewer
+-- transactions pending; the control registers are those that it leaves; and what always holds of a board goes on to hold
+pub record Happens (letter : Letter) (old : BoardView) (happened : Happened) (new : BoardView) : Type 0 where
+  pub moved : (p : Program) → IsProgramOf old.memory.image p → IsMove p letter old happened new
+  pub timeline : (p : Program) (named : ℕ → Bool) (m : Moment) → IsAt p named m old
+      → IsAt p named (after_letter p named old.limit letter m) new
+  pub said : (p : Program) (named : ℕ → Bool) (m : Moment) → IsAt p named m old
+      → happened ≡ said_at p named old.limit letter m
+  pub precise : ServesOrEnds happened → old.pending ≡ []
+  pub ended : new.ended ≡ end_after happened old.ended
+  pub counted : new.events ≡ old.events + 1
+  pub same : IsSameRun old new
+  pub still : IsStill happened → new ≡ record old { events = old.events + 1 }
+  pub shorter : letter ≡ Answer → length new.pending ≤ length old.pending - 1
+  pub leaves : Leaves happened old new
+  pub kept : IsKept new

@@ -1,10 +1,10 @@
 //! Data accesses: their pages made ready, issued to the data unit, and answered.
 
-ghost use Rattle.std.specs.Prelude.{◌≡◌, ◌+◌, ◌≤◌, ◌++◌, List, [], ◌∷◌, Some, true, false, drop, take, length, slice_get, IfSome, OnErr, OnOk};
+ghost use Rattle.std.specs.Prelude.{◌≡◌, ◌+◌, ◌≤◌, ◌++◌, List, [], ◌∷◌, Some, true, false, length, slice_get, IfSome, OnErr, OnOk};
 ghost use Rattle.m88_base.specs.Pages.{page_number};
 ghost use Rattle.m88_base.specs.Reg.{number_of, with_register};
 ghost use Rattle.m88_base.specs.RegisterSet.{with_member};
-ghost use Rattle.m88_isa.specs.Bus.{after_accesses, bus_after_all, listed, loaded, stored, waits_for};
+ghost use Rattle.m88_isa.specs.Bus.{listed, loaded, waits_for};
 ghost use Rattle.m88_isa.specs.Held.{most_pending};
 ghost use Rattle.m88_isa.specs.Machine.{with_written};
 ghost use Rattle.m88_isa.specs.Memory.{IsWordAccess};
@@ -12,8 +12,8 @@ ghost use Rattle.m88_isa.specs.declared.planned.Access.{Access as AccessValue};
 ghost use Rattle.m88_dunit.specs.Pending.{CanIssue};
 ghost use Rattle.m88_mem.specs.DataBus.{absent_of, bus_of, ready_of};
 ghost use Rattle.m88_scoreboard.specs.Registers.{waiting_of};
-ghost use Rattle.m88_board.specs.Board.{cells_of};
-ghost use Rattle.m88_board.specs.Kept.{AreReady, HasReadyPage, PartsAgree, StaysReady};
+ghost use Rattle.m88_board.specs.Kept.{AreReady, HasReadyPage, PartsAgree};
+ghost use Rattle.m88_board.specs.Inside.Accesses.{AnswersOldest, GainsReady, PutsIn};
 ghost use Rattle.m88_board.specs.Inside.Turns.{StoreOnOnePage};
 
 use m88_base::{NoMemory, Reg};
@@ -24,10 +24,7 @@ use m88_scoreboard::RegFile;
 
 /// Makes the page of an access ready, if it is a store.
 pub(crate) fn prepare_one(memory: &mut Memory, access: &Access) -> Result<(), NoMemory>
-    ensures image { memory.new.image ≡ memory.old.image }
-    ensures bus { bus_of memory.new ≡ bus_of memory.old }
-    ensures absent { absent_of memory.new ≡ absent_of memory.old }
-    ensures stays { StaysReady memory.old memory.new }
+    ensures only { GainsReady memory.old memory.new }
     ensures ready { OnOk result (HasReadyPage (ready_of memory.new) access.now) }
     ensures err { OnErr result (ready_of memory.new ≡ ready_of memory.old) }
 {
@@ -41,10 +38,7 @@ pub(crate) fn prepare_one(memory: &mut Memory, access: &Access) -> Result<(), No
 /// page becomes so.
 pub(crate) fn prepare(memory: &mut Memory, accesses: &Accesses) -> Result<(), NoMemory>
     requires { StoreOnOnePage accesses.now }
-    ensures image { memory.new.image ≡ memory.old.image }
-    ensures bus { bus_of memory.new ≡ bus_of memory.old }
-    ensures absent { absent_of memory.new ≡ absent_of memory.old }
-    ensures stays { StaysReady memory.old memory.new }
+    ensures only { GainsReady memory.old memory.new }
     ensures ready { OnOk result (AreReady (ready_of memory.new) (listed accesses.now)) }
     ensures err { OnErr result (ready_of memory.new ≡ ready_of memory.old) }
 {
@@ -75,9 +69,7 @@ pub(crate) fn put_in(unit: &mut DataUnit, regs: &mut RegFile, accesses: &Accesse
     requires can { CanIssue accesses.now }
     requires room { length unit.old + accesses.now.count ≤ most_pending }
     requires waiting { waiting_of regs.old ≡ waits_for unit.old }
-    ensures pending { unit.new ≡ unit.old ++ listed accesses.now }
-    ensures numbers { regs.new.numbers ≡ regs.old.numbers }
-    ensures waiting { waiting_of regs.new ≡ waits_for unit.new }
+    ensures { PutsIn accesses.now unit.old regs.old unit.new regs.new }
 {
     if unit.issue(accesses).is_err() {
         unreachable!();
@@ -109,19 +101,6 @@ pub(crate) fn answer_load(access: &Access, memory: &mut Memory, regs: &mut RegFi
     regs.set(access.reg, datum(access.en, access.signed, word));
 }
 
-/// Answers a store whose page is ready, and was found present.
-#[tactic(auto, unfolding(m88_isa::specs::Bus::stored))]
-pub(crate) fn answer_store(access: &Access, memory: &mut Memory)
-    requires made { IsWordAccess access.now }
-    requires ready { ready_of memory.old (page_number access.now.addr) ≡ true }
-    ensures bus { bus_of memory.new ≡ stored access.now (bus_of memory.old) }
-    ensures absent { absent_of memory.new ≡ absent_of memory.old }
-    ensures ready { ready_of memory.new ≡ ready_of memory.old }
-    ensures image { memory.new.image ≡ memory.old.image }
-{
-    memory.put_lanes(access.addr, access.en, access.value);
-}
-
 /// Answers the oldest transaction, whose page is present.
 pub(crate) fn complete(
     oldest: &Access,
@@ -132,16 +111,10 @@ pub(crate) fn complete(
     requires oldest { slice_get unit.old 0 ≡ Some oldest.now }
     requires present { absent_of memory.old (page_number oldest.now.addr) ≡ false }
     requires agree { PartsAgree unit.old regs.old memory.old }
-    ensures pending { unit.new ≡ drop 1 unit.old }
-    ensures agree { PartsAgree unit.new regs.new memory.new }
-    ensures cells { after_accesses unit.new (cells_of regs.new memory.new)
-        ≡ after_accesses unit.old (cells_of regs.old memory.old) }
-    ensures bus { bus_of memory.new ≡ bus_after_all (take 1 unit.old) (bus_of memory.old) }
-    ensures absent { absent_of memory.new ≡ absent_of memory.old }
-    ensures image { memory.new.image ≡ memory.old.image }
+    ensures { AnswersOldest unit.old regs.old memory.old unit.new regs.new memory.new }
 {
     if oldest.write {
-        answer_store(oldest, memory);
+        memory.put_lanes(oldest.addr, oldest.en, oldest.value);
         unit.retire();
         return;
     }

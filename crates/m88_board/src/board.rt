@@ -1,35 +1,31 @@
 //! The board: its parts, and what a choice makes of them.
 
-ghost use Rattle.std.specs.Prelude.{ℕ, Bool, option_map, ◌≡◌, ◌<◌, ◌≤◌, ◌+◌, ◌-◌, ◌*◌, ◌++◌, ◌∷◌, [], Option, Some, None, true, false, is_some, length, slice_get, IfOk, IfSome, OnErr, OnOk};
+ghost use Rattle.std.specs.Prelude.{ℕ, Ok, Bool, option_map, ◌≡◌, ◌<◌, ◌≤◌, ◌+◌, ◌-◌, ◌*◌, [], Option, Some, None, false, is_some, slice_get, IfOk, OnErr, OnOk};
 ghost use Rattle.m88_base.specs.Image.{IsImage};
 ghost use Rattle.m88_base.specs.Pages.{page_number};
 ghost use Rattle.m88_base.specs.Reg.{number_of};
 ghost use Rattle.m88_base.specs.Slot.{slot_word};
 ghost use Rattle.m88_ctrl.specs.ControlRegisters.{mxm_of};
-ghost use Rattle.m88_event.specs.Choice.{answer_choice, end_by, evicts, faults, finishes, issues, passes, replies, serves, turn_choice};
+ghost use Rattle.m88_event.specs.Choice.{answer_choice, evicts, faults, finishes, serves, turn_choice};
 ghost use Rattle.m88_event.specs.Local.{record_by};
 ghost use Rattle.m88_event.specs.Timeline.{Moment, opening_moment, record_at};
 ghost use Rattle.m88_board.specs.declared.brief.Brief.{Brief as BriefValue};
-ghost use Rattle.m88_event.specs.declared.record.Record.{Record as RecordValue};
-ghost use Rattle.m88_isa.specs.Bus.{LoadApart, listed, waits_for};
+ghost use Rattle.m88_event.specs.declared.letter.Letter.{Letter as LetterValue};
 ghost use Rattle.m88_mem.specs.DataBus.{absent_of};
 ghost use Rattle.m88_mem.specs.Lines.{HasInvolved};
 ghost use Rattle.m88_mem.specs.Marks.{NamesPages, absent_in};
-ghost use Rattle.m88_isa.specs.Effect.{Change, recorded_change};
-ghost use Rattle.m88_isa.specs.Flow.{FlowFits};
-ghost use Rattle.m88_isa.specs.Held.{busy_register, most_pending};
-ghost use Rattle.m88_isa.specs.Machine.{Program, Stop, by_vector, trapped};
+ghost use Rattle.m88_isa.specs.Held.{busy_register};
+ghost use Rattle.m88_isa.specs.Machine.{Program, by_vector, trapped};
 ghost use Rattle.m88_isa.specs.Memory.{recorded};
 ghost use Rattle.m88_board.specs.Board.{is_idle_board, local_of, pc_of};
 ghost use Rattle.m88_isa.specs.ImageProgram.{IsProgramOf};
 ghost use Rattle.std.specs.Int.{bit_at};
-ghost use Rattle.m88_dunit.specs.Pending.{CanIssue};
 ghost use Rattle.m88_iunit.specs.Pointers.{resumed};
-ghost use Rattle.m88_board.specs.Kept.{IsKept, IsProgramEnd, epsr_of, most_events, most_retired};
-ghost use Rattle.m88_board.specs.Moves.{Did, Does, IsAt, IsEvicted, IsSameRun, IsStill, IsUnmoved, stopping};
-ghost use Rattle.m88_board.specs.Shown.{IsRecordOf, Leaves, ShowsFault, rest_of};
-ghost use Rattle.m88_board.specs.Inside.Briefly.{happened_of};
-ghost use Rattle.m88_board.specs.Inside.Turns.{ComesToEnd, IssueComesTo, StoreOnOnePage};
+ghost use Rattle.m88_board.specs.Kept.{IsKept, epsr_of, most_events, most_retired};
+ghost use Rattle.m88_board.specs.Moves.{IsAt, IsUnmoved, stopping};
+ghost use Rattle.m88_board.specs.Shown.{IsRecordOf};
+ghost use Rattle.m88_board.specs.Inside.Events.{Brings, BringsOrStays, EvictsAll};
+ghost use Rattle.m88_board.specs.Inside.Turns.{CanMakeAccesses, ComesToEnd, IsDue, IsFetched, IsIssuedWith, IssueComesTo};
 
 use crate::accesses::{complete, prepare, put_in, write};
 use crate::brief::Brief;
@@ -178,8 +174,7 @@ impl Board {
     fn pass(&mut self)
         requires going { is_idle_board self.old ≡ false }
         requires bubble { self.old.slots.nip.v ≡ false }
-        ensures does { (fault : RecordValue) → Does passes fault self.old self.new }
-        ensures control { self.new.control ≡ self.old.control }
+        ensures { Brings LetterValue.Issue self.old BriefValue.Bubble self.new }
     {
         let lacks = lacks_behind(&self.memory, self.iunit.following().addr);
         self.iunit.pass_bubble(lacks);
@@ -230,28 +225,18 @@ impl Board {
     fn reply(&mut self, oldest: &Access)
         requires oldest { slice_get self.old.pending 0 ≡ Some oldest.now }
         requires present { absent_of self.old.memory (page_number oldest.now.addr) ≡ false }
-        ensures does { (fault : RecordValue) → Does replies fault self.old self.new }
-        ensures events { self.new.events ≡ self.old.events }
-        ensures control { self.new.control ≡ self.old.control }
+        ensures { Brings LetterValue.Answer self.old BriefValue.Answered self.new }
     {
         complete(oldest, &mut self.dunit, &mut self.memory, &mut self.regs);
         self.done += 1;
         self.answers += 1;
     }
 
-    /// The oldest transaction meets an absent page: the record stays, and the monitor finishes all that are
+    /// The oldest transaction meets an absent page: its record stays, and the monitor finishes all that are
     /// pending.
-    fn fault(&mut self) -> Result<Record, NoMemory>
-        requires { 0 < length self.old.pending }
-        ensures record { IfOk result (λ fault. (p : Program) → IsProgramOf self.old.memory.image p
-            → fault ≡ record_by p self.old.limit (local_of self.old)) }
-        ensures does { IfOk result (λ fault. Does faults fault self.old self.new) }
-        ensures recorded { IfOk result (λ fault.
-            self.new.records ≡ self.old.records ++ fault ∷ []) }
-        ensures leaves { IfOk result (λ fault. ShowsFault fault self.new.control
-            × (rest_of self.new.control ≡ rest_of self.old.control)) }
-        ensures events { self.new.events ≡ self.old.events }
-        ensures err { OnErr result (IsUnmoved self.old self.new) }
+    fn fault(&mut self) -> Result<Brief, NoMemory>
+        requires { answer_choice self.old.pending (absent_of self.old.memory) ≡ faults }
+        ensures { BringsOrStays LetterValue.Answer self.old result self.new }
     {
         let fault = self.pipe();
         self.records.push(fault).or(Err(NoMemory))?;
@@ -264,25 +249,14 @@ impl Board {
         );
         self.iunit.resume(restart.snip, restart.sfip);
         self.done += u32::from(done);
-        Ok(fault)
+        Ok(Brief::Faulted)
     }
 
     /// The letter `r`.
     // Inlined, it costs next to nothing where nothing is pending, as at most of these letters.
     #[inline(always)]
     fn answer(&mut self) -> Result<Brief, NoMemory>
-        ensures ok { IfOk result (λ brief. (p : Program) → IsProgramOf self.old.memory.image p
-            → Did (answer_choice self.old.pending (absent_of self.old.memory))
-            (record_by p self.old.limit (local_of self.old)) self.old
-            (happened_of brief self.new) self.new) }
-        ensures events { self.new.events ≡ self.old.events }
-        ensures same { OnOk result (IsSameRun self.old self.new) }
-        ensures still { IfOk result (λ brief. IsStill (happened_of brief self.new)
-            → self.new ≡ self.old) }
-        ensures shorter { OnOk result (length self.new.pending ≤ length self.old.pending - 1) }
-        ensures leaves { IfOk result (λ brief.
-            Leaves (happened_of brief self.new) self.old self.new) }
-        ensures err { OnErr result (IsUnmoved self.old self.new) }
+        ensures { BringsOrStays LetterValue.Answer self.old result self.new }
     {
         match self.dunit.oldest() {
             Some(_) => self.answer_oldest(),
@@ -295,25 +269,13 @@ impl Board {
     // is made in the loop, which costs more than to ask again.
     #[inline(never)]
     fn answer_oldest(&mut self) -> Result<Brief, NoMemory>
-        ensures ok { IfOk result (λ brief. (p : Program) → IsProgramOf self.old.memory.image p
-            → Did (answer_choice self.old.pending (absent_of self.old.memory))
-            (record_by p self.old.limit (local_of self.old)) self.old
-            (happened_of brief self.new) self.new) }
-        ensures events { self.new.events ≡ self.old.events }
-        ensures same { OnOk result (IsSameRun self.old self.new) }
-        ensures still { IfOk result (λ brief. IsStill (happened_of brief self.new)
-            → self.new ≡ self.old) }
-        ensures shorter { OnOk result (length self.new.pending ≤ length self.old.pending - 1) }
-        ensures leaves { IfOk result (λ brief.
-            Leaves (happened_of brief self.new) self.old self.new) }
-        ensures err { OnErr result (IsUnmoved self.old self.new) }
+        ensures { BringsOrStays LetterValue.Answer self.old result self.new }
     {
         let Some(oldest) = self.dunit.oldest() else {
             return Ok(Brief::Idle);
         };
         if self.memory.is_absent(oldest.addr / PAGE_BYTES) {
-            self.fault()?;
-            return Ok(Brief::Faulted);
+            return self.fault();
         }
         self.reply(&oldest);
         Ok(Brief::Answered)
@@ -321,12 +283,8 @@ impl Board {
 
     /// The letter `e`: every page is absent until it is supplied.
     fn evict(&mut self) -> Brief
-        ensures did { (fault : RecordValue)
-            → Did evicts fault self.old (happened_of result self.new) self.new }
-        ensures events { self.new.events ≡ self.old.events }
-        ensures says { result ≡ BriefValue.Evicted }
-        ensures evicted { IsEvicted self.old self.new }
-        ensures leaves { Leaves (happened_of result self.new) self.old self.new }
+        ensures brings { Brings LetterValue.Evict self.old result self.new }
+        ensures evicts { EvictsAll self.old (Ok result) self.new }
     {
         self.memory.evict_all();
         Brief::Evicted
@@ -335,14 +293,9 @@ impl Board {
     /// The program ends by a vector, with nothing pending.
     fn finish(&mut self, vector: u16, end: End) -> Brief
         requires vector { vector < 512 }
-        requires going { is_idle_board self.old ≡ false }
-        requires valid { self.old.slots.nip.v ≡ true }
-        requires empty { self.old.pending ≡ [] }
-        requires ends { IsProgramEnd end }
-        requires comes { ComesToEnd end self.old }
-        ensures does { (stop : Stop) (fault : RecordValue) → end ≡ end_by stop
-            → Did (finishes stop) fault self.old (happened_of result self.new) self.new }
-        ensures leaves { Leaves (happened_of result self.new) self.old self.new }
+        requires due { IsDue self.old }
+        requires ends { ComesToEnd end self.old }
+        ensures { Brings LetterValue.Issue self.old result self.new }
     {
         enter(&mut self.ctrl, &self.iunit, vector);
         self.ended = Some(end);
@@ -351,14 +304,9 @@ impl Board {
 
     /// Puts a byte out for the next instruction.
     fn put_out(&mut self, byte: u8) -> Result<Brief, NoMemory>
-        requires going { is_idle_board self.old ≡ false }
-        requires valid { self.old.slots.nip.v ≡ true }
-        requires fetched { self.old.slots.nip.e ≡ false }
-        ensures ok { IfOk result (λ brief. (fault : RecordValue)
-            → Did (serves byte) fault self.old (happened_of brief self.new) self.new) }
-        ensures leaves { IfOk result (λ brief.
-            Leaves (happened_of brief self.new) self.old self.new) }
-        ensures err { OnErr result (IsUnmoved self.old self.new) }
+        requires next { IsFetched self.old }
+        requires comes { IssueComesTo (serves byte) self.old }
+        ensures { BringsOrStays LetterValue.Issue self.old result self.new }
     {
         self.out.push(byte).or(Err(NoMemory))?;
         let next = self.iunit.following().addr;
@@ -375,21 +323,10 @@ impl Board {
 
     /// Issues the next instruction.
     fn go(&mut self, effect: &Effect) -> Result<(), NoMemory>
-        requires going { is_idle_board self.old ≡ false }
-        requires valid { self.old.slots.nip.v ≡ true }
-        requires fetched { self.old.slots.nip.e ≡ false }
-        requires flow { FlowFits effect.now.after effect.now.bubble }
-        requires can { CanIssue effect.now.accesses }
-        requires room { length self.old.pending + effect.now.accesses.count ≤ most_pending }
-        requires free { IfSome effect.now.reg
-            (λ w. waits_for self.old.pending (number_of w.0) ≡ false) }
-        requires apart { LoadApart (self.old.pending ++ listed effect.now.accesses) }
-        requires page { StoreOnOnePage effect.now.accesses }
-        ensures ok { OnOk result ((change : Change) (fault : RecordValue)
-            → effect.now ≡ recorded_change change → length change.touches ≤ 2
-            → Does (issues change) fault self.old self.new) }
-        ensures control { OnOk result
-            (self.new.control ≡ record self.old.control { psr = self.new.control.psr }) }
+        requires next { IsFetched self.old }
+        requires issued { IsIssuedWith effect.now self.old }
+        requires made { CanMakeAccesses effect.now.accesses self.old }
+        ensures ok { OnOk result (Brings LetterValue.Issue self.old BriefValue.Issued self.new) }
         ensures err { OnErr result (IsUnmoved self.old self.new) }
     {
         prepare(&mut self.memory, &effect.accesses)?;
@@ -405,17 +342,10 @@ impl Board {
     // Inlined, so that no changes are put together in memory.
     #[inline(always)]
     fn go_on(&mut self, effect: &Effect)
-        requires going { is_idle_board self.old ≡ false }
-        requires valid { self.old.slots.nip.v ≡ true }
-        requires fetched { self.old.slots.nip.e ≡ false }
-        requires flow { FlowFits effect.now.after effect.now.bubble }
+        requires next { IsFetched self.old }
+        requires issued { IsIssuedWith effect.now self.old }
         requires alone { effect.now.accesses ≡ recorded [] }
-        requires free { IfSome effect.now.reg
-            (λ w. waits_for self.old.pending (number_of w.0) ≡ false) }
-        ensures ok { (change : Change) (fault : RecordValue) → effect.now ≡ recorded_change change
-            → length change.touches ≤ 2 → Does (issues change) fault self.old self.new }
-        ensures control { self.new.control
-            ≡ record self.old.control { psr = self.new.control.psr } }
+        ensures { Brings LetterValue.Issue self.old BriefValue.Issued self.new }
     {
         write(&mut self.regs, effect.reg);
         self.ctrl.set_carry(effect.carry);
@@ -427,15 +357,10 @@ impl Board {
     /// this vector, or waits for an empty data unit.
     fn raise(&mut self, vector: u16) -> Brief
         requires vector { vector < 512 }
-        requires going { is_idle_board self.old ≡ false }
-        requires valid { self.old.slots.nip.v ≡ true }
+        requires due { IsDue self.old }
         requires comes { IssueComesTo
             (stopping (by_vector vector (pc_of self.old.slots)) self.old.pending) self.old }
-        ensures does { (fault : RecordValue) → Did
-            (stopping (by_vector vector (pc_of self.old.slots)) self.old.pending)
-            fault self.old (happened_of result self.new) self.new }
-        ensures still { IsStill (happened_of result self.new) → self.new ≡ self.old }
-        ensures leaves { Leaves (happened_of result self.new) self.old self.new }
+        ensures { Brings LetterValue.Issue self.old result self.new }
     {
         if self.is_pending() {
             return Brief::Stalled(Why::Sync);
@@ -447,18 +372,11 @@ impl Board {
     /// The next instruction is a taken trap, and nothing is pending.
     fn trap(&mut self, vector: u16) -> Result<Brief, NoMemory>
         requires vector { vector < 512 }
-        requires going { is_idle_board self.old ≡ false }
-        requires valid { self.old.slots.nip.v ≡ true }
-        requires fetched { self.old.slots.nip.e ≡ false }
+        requires next { IsFetched self.old }
         requires empty { self.old.pending ≡ [] }
         requires comes { IssueComesTo
             (turn_choice (trapped vector self.old.file.numbers (pc_of self.old.slots))) self.old }
-        ensures ok { IfOk result (λ brief. (fault : RecordValue) → Did
-            (turn_choice (trapped vector self.old.file.numbers (pc_of self.old.slots)))
-            fault self.old (happened_of brief self.new) self.new) }
-        ensures leaves { IfOk result (λ brief.
-            Leaves (happened_of brief self.new) self.old self.new) }
-        ensures err { OnErr result (IsUnmoved self.old self.new) }
+        ensures { BringsOrStays LetterValue.Issue self.old result self.new }
     {
         let at = self.iunit.candidate().addr;
         match service(vector, &self.regs) {

@@ -3,7 +3,7 @@
 ghost use Rattle.std.specs.Prelude.{ℕ, Bool, [], ◌≡◌, ◌≤◌, ◌+◌, false, is_none, IfNone, IfSome};
 ghost use Rattle.m88_event.specs.Timeline.{Moment};
 ghost use Rattle.m88_isa.specs.Machine.{Program};
-ghost use Rattle.m88_board.specs.Inside.Routes.{has_to_rest, letters_by, stops_by, taken_before};
+ghost use Rattle.m88_board.specs.Inside.Routes.{has_to_rest, letters_by, stops_at_moment, taken_before};
 ghost use Rattle.m88_board.specs.Kept.{most_events};
 ghost use Rattle.m88_board.specs.Moves.{IsAt};
 ghost use Rattle.m88_board.specs.declared.route.Route.{Route as RouteValue};
@@ -36,7 +36,7 @@ impl<'a> Route<'a> {
         ensures answered { self.entry ≡ RouteValue.Answers
             → IfNone result (board.now.pending ≡ []) }
         ensures moment { (p : Program) (named : ℕ → Bool) (m : Moment) → IsAt p named m board.now
-            → is_none result ≡ stops_by self.entry p board.now.limit made m }
+            → is_none result ≡ stops_at_moment self.entry p board.now.limit made m }
     {
         match self {
             Route::Run {

@@ -1,15 +1,11 @@
 //! The monitor's service: of a data fault, and of its trap.
 
-ghost use Rattle.std.specs.Prelude.{◌≡◌, ◌<◌, not, ◌&&◌, [], length};
+ghost use Rattle.std.specs.Prelude.{◌≡◌, ◌<◌};
 ghost use Rattle.std.specs.Int.{bit_at};
 ghost use Rattle.m88_ctrl.specs.ControlRegisters.{entered, mxm_of, returned};
-ghost use Rattle.m88_event.specs.Choice.{touches_page};
-ghost use Rattle.m88_isa.specs.Bus.{after_accesses};
-ghost use Rattle.m88_mem.specs.DataBus.{absent_of};
-ghost use Rattle.m88_scoreboard.specs.Registers.{none_waits, waiting_of};
-ghost use Rattle.m88_board.specs.Board.{cells_of};
+ghost use Rattle.m88_board.specs.Inside.Accesses.{FinishesAll};
 ghost use Rattle.m88_board.specs.Kept.{PartsAgree};
-ghost use Rattle.m88_board.specs.Shown.{IsRecordOf, ShowsFault, pointer_frame, rest_of};
+ghost use Rattle.m88_board.specs.Shown.{pointer_frame};
 
 use m88_base::NO_TRIPLE;
 use m88_ctrl::{Control, Frame, Restart};
@@ -51,19 +47,8 @@ pub(crate) fn serve_all(
 ) -> (u8, Restart)
     requires ssbr { bit_at fault.ssbr 0 ≡ 0 }
     requires agree { PartsAgree unit.old regs.old memory.old }
-    ensures pending { unit.new ≡ [] }
-    ensures cells { cells_of regs.new memory.new
-        ≡ after_accesses unit.old (cells_of regs.old memory.old) }
-    ensures waiting { waiting_of regs.new ≡ none_waits }
-    ensures absent { absent_of memory.new
-        ≡ (λ page. absent_of memory.old page && not (touches_page unit.old page)) }
-    ensures image { memory.new.image ≡ memory.old.image }
-    ensures psr { ctrl.new.psr ≡ ctrl.old.psr }
-    ensures done { result.0 ≡ length unit.old }
-    ensures snip { result.1.snip ≡ fault.snip }
-    ensures sfip { result.1.sfip ≡ fault.sfip }
-    ensures shows { IsRecordOf fault unit.old ctrl.old → ShowsFault fault ctrl.new }
-    ensures rest { rest_of ctrl.new ≡ rest_of ctrl.old }
+    ensures { FinishesAll fault unit.old ctrl.old regs.old memory.old result.0 result.1
+        unit.new ctrl.new regs.new memory.new }
 {
     let triples = unit.freeze();
     let frame = Frame {

@@ -10,7 +10,7 @@ ghost use Rattle.m88_event.specs.declared.letter.Letter.{Letter as LetterValue};
 ghost use Rattle.m88_isa.specs.Machine.{IsProgram, Program};
 ghost use Rattle.m88_board.specs.Board.{local_of};
 ghost use Rattle.m88_board.specs.Glances.{Saw, glances_along};
-ghost use Rattle.m88_board.specs.Inside.Briefly.{happened_of};
+ghost use Rattle.m88_board.specs.Inside.Events.{ShownOrStays, TakesLetter, TellsEvent};
 ghost use Rattle.m88_board.specs.Moves.{IsAlong, IsAt, IsSameRun, IsStep, IsUnmoved};
 ghost use Rattle.m88_board.specs.Told.{IsTold, MakesWordAccesses};
 ghost use Rattle.m88_board.specs.Walks.{IsBounded, is_enough, moments_from, stops_after};
@@ -142,31 +142,14 @@ impl<'a> Walk<'a> {
     #[inline(always)]
     fn next_brief<W: Watch>(&mut self, watch: &mut W, told: &mut Told) -> Result<Brief, NoMemory>
         requires { is_over_by self.old.board.now.limit (local_of self.old.board.now) ≡ false }
-        ensures ok { OnOk result ((p : Program) (named : ℕ → Bool) (m : Moment)
-            → IsAt p named m self.old.board.now
-            → IsStep p named (letter_at self.old.schedule.now self.old.taken) m
-            (W.seen watch.old) (W.seen watch.new) self.old.board.now self.new.board.now) }
-        ensures said { IfOk result (λ brief. (p : Program) (named : ℕ → Bool) (m : Moment)
-            → IsAt p named m self.old.board.now
-            → happened_of brief self.new.board.now ≡ said_at p named self.old.board.now.limit
-            (letter_at self.old.schedule.now self.old.taken) m) }
-        ensures taken { OnOk result (self.new.taken ≡ self.old.taken + 1) }
-        ensures lighter { OnOk result
-            (weight self.new.schedule.now self.new.board.now.limit self.new.taken
-            (local_of self.new.board.now)
-            < weight self.old.schedule.now self.old.board.now.limit self.old.taken
-            (local_of self.old.board.now)) }
-        ensures same { IsSameRun self.old.board.now self.new.board.now }
+        ensures happens { ShownOrStays (letter_at self.old.schedule.now self.old.taken)
+            self.old.board.now (W.seen watch.old) (W.seen watch.new) result self.new.board.now }
+        ensures tells { TellsEvent (letter_at self.old.schedule.now self.old.taken)
+            self.old.board.now told.old result self.new.board.now told.new }
+        ensures takes { TakesLetter self.old.schedule.now self.new.schedule.now self.old.taken
+            self.old.board.now result self.new.taken self.new.board.now }
         ensures schedule { self.new.schedule ≡ self.old.schedule }
         ensures lender { self.new.board.ghost_name ≡ self.old.board.ghost_name }
-        ensures told { letter_at self.old.schedule.now self.old.taken ≡ LetterValue.Issue
-            → told.old.asked ≡ true → IfOk result (λ brief. (p : Program) (named : ℕ → Bool) (m : Moment)
-            → IsAt p named m self.old.board.now
-            → IsTold p named self.old.board.now.limit m
-            (happened_of brief self.new.board.now) told.new) }
-        ensures made { MakesWordAccesses told.old.plan → MakesWordAccesses told.new.plan }
-        ensures err { OnErr result (IsUnmoved self.old.board.now self.new.board.now) }
-        ensures untaken { OnErr result (self.new.taken ≡ self.old.taken) }
         ensures unseen { OnErr result (watch.new ≡ watch.old) }
     {
         let letter = self.letter();

@@ -9,9 +9,9 @@ use Rattle.m88_isa.specs.Bus.{bus_after, loaded}
 use Rattle.m88_isa.specs.Lanes.{IsEnable}
 use Rattle.m88_isa.specs.Triples.{access_in, finished, is_valid_triple}
 use Rattle.m88_isa.specs.declared.planned.Access.{Access}
-use Rattle.m88_mem.specs.DataBus.{MemoryView, absent_of, bus_of}
+use Rattle.m88_mem.specs.DataBus.{MemoryView, absent_of, bus_of, ready_of}
 use Rattle.m88_mem.specs.Marks.{with_page}
-use Rattle.m88_scoreboard.specs.Registers.{Registers}
+use Rattle.m88_scoreboard.specs.Registers.{Registers, waiting_of}
 
 -- what the service changes: the control registers, the numbers in the registers, the words of the data bus, the absent
 -- pages
@@ -69,6 +69,18 @@ pub record CanServe (ready : ℕ → Bool) (a : Access) : Type 0 where
 -- a triple that is valid has such an access
 abbrev pub CanServeTriple : (ℕ → Bool) → Triple → Type 0
 CanServeTriple ready t = is_valid_triple t ≡ true → CanServe ready (access_in t)
+
+-- and so has each of the three triples that is
+pub record CanServeAll (ready : ℕ → Bool) (c : ControlRegisters) : Type 0 where
+  pub first : CanServeTriple ready c.t0
+  pub second : CanServeTriple ready c.t1
+  pub third : CanServeTriple ready c.t2
+
+-- what the service leaves as it is: which registers wait, the image and which pages are ready
+pub record KeepsRest (file : Registers) (memory : MemoryView) (file' : Registers) (memory' : MemoryView) : Type 0 where
+  pub waiting : waiting_of file' ≡ waiting_of file
+  pub image : memory'.image ≡ memory.image
+  pub ready : ready_of memory' ≡ ready_of memory
 
 -- 1 for a triple that is valid, 0 for another
 abbrev pub valid_count_of : Triple → ℕ

@@ -1,15 +1,14 @@
 //! How the monitor finishes the data transactions that a fault left.
 #![tactic(auto, unfolding(m88_isa::specs::Bus::loaded, m88_isa::specs::Bus::stored))]
 
-ghost use Rattle.std.specs.Prelude.{◌≡◌, ◌<◌, ◌≤◌, true, false, slice_set, if◌then◌else◌};
+ghost use Rattle.std.specs.Prelude.{◌≡◌, ◌<◌, ◌≤◌, false, slice_set};
 ghost use Rattle.m88_base.specs.Pages.{page_number};
-ghost use Rattle.m88_base.specs.Reg.{number_of, with_register};
+ghost use Rattle.m88_base.specs.Reg.{number_of};
 ghost use Rattle.m88_ctrl.specs.ControlRegisters.{by_number, kept_of};
-ghost use Rattle.m88_isa.specs.Bus.{bus_after, loaded};
-ghost use Rattle.m88_isa.specs.Triples.{is_valid_triple};
-ghost use Rattle.m88_mem.specs.DataBus.{absent_of, bus_of, ready_of};
+ghost use Rattle.m88_mem.specs.DataBus.{absent_of, ready_of};
 ghost use Rattle.m88_scoreboard.specs.Registers.{none_waits, waiting_of};
-ghost use Rattle.m88_monitor.specs.Serving.{CanServe, CanServeTriple, after_service, after_triple, serving_of, triple_at, valid_count, with_finished, with_loaded, without_bit};
+ghost use Rattle.m88_monitor.specs.Inside.Making.{IsMade};
+ghost use Rattle.m88_monitor.specs.Serving.{CanServe, CanServeAll, CanServeTriple, KeepsRest, after_service, after_triple, serving_of, triple_at, valid_count, valid_count_of, with_finished, without_bit};
 
 use m88_base::{Reg, Triple};
 use m88_ctrl::{Control, cr};
@@ -29,15 +28,11 @@ pub struct Served {
 /// Nothing else changes.
 pub fn serve(ctrl: &mut Control, regs: &mut RegFile, memory: &mut Memory) -> Served
     requires waiting { waiting_of regs.old ≡ none_waits }
-    requires first { CanServeTriple (ready_of memory.old) ctrl.old.t0 }
-    requires second { CanServeTriple (ready_of memory.old) ctrl.old.t1 }
-    requires third { CanServeTriple (ready_of memory.old) ctrl.old.t2 }
+    requires triples { CanServeAll (ready_of memory.old) ctrl.old }
     ensures served { serving_of ctrl.new regs.new memory.new
         ≡ after_service (serving_of ctrl.old regs.old memory.old) }
     ensures done { result.done ≡ valid_count ctrl.old }
-    ensures waiting { waiting_of regs.new ≡ waiting_of regs.old }
-    ensures image { memory.new.image ≡ memory.old.image }
-    ensures ready { ready_of memory.new ≡ ready_of memory.old }
+    ensures keeps { KeepsRest regs.old memory.old regs.new memory.new }
 {
     let first = serve_triple(ctrl, regs, memory, 0);
     let second = serve_triple(ctrl, regs, memory, 1);
@@ -54,10 +49,8 @@ fn serve_triple(ctrl: &mut Control, regs: &mut RegFile, memory: &mut Memory, ind
     requires triple { CanServeTriple (ready_of memory.old) (triple_at index ctrl.old) }
     ensures served { serving_of ctrl.new regs.new memory.new
         ≡ after_triple index (serving_of ctrl.old regs.old memory.old) }
-    ensures count { result ≡ (if is_valid_triple (triple_at index ctrl.old) then 1 else 0) }
-    ensures waiting { waiting_of regs.new ≡ waiting_of regs.old }
-    ensures image { memory.new.image ≡ memory.old.image }
-    ensures ready { ready_of memory.new ≡ ready_of memory.old }
+    ensures count { result ≡ valid_count_of (triple_at index ctrl.old) }
+    ensures keeps { KeepsRest regs.old memory.old regs.new memory.new }
 {
     let triple = triple_at(ctrl, index);
     if !is_valid_triple(&triple) {
@@ -78,56 +71,22 @@ fn triple_at(ctrl: &Control, index: usize) -> Triple
     ctrl.triple(index)
 }
 
-/// Makes an access whose page is present.
+/// Makes an access whose page is present: a store, or a load into its register, whose bit in SSBR is cleared.
 fn make(ctrl: &mut Control, regs: &mut RegFile, memory: &mut Memory, access: &Access)
     requires serve { CanServe (ready_of memory.old) access.now }
     requires present { absent_of memory.old (page_number access.now.addr) ≡ false }
     requires waiting { waiting_of regs.old ≡ none_waits }
-    ensures control { ctrl.new ≡ with_loaded access.now ctrl.old }
-    ensures numbers { regs.new.numbers ≡ (if access.now.write then regs.old.numbers
-        else with_register access.now.reg (loaded access.now (bus_of memory.old))
-        regs.old.numbers) }
-    ensures bus { bus_of memory.new ≡ bus_after access.now (bus_of memory.old) }
-    ensures waiting { waiting_of regs.new ≡ waiting_of regs.old }
-    ensures image { memory.new.image ≡ memory.old.image }
-    ensures absent { absent_of memory.new ≡ absent_of memory.old }
-    ensures ready { ready_of memory.new ≡ ready_of memory.old }
+    ensures { IsMade access.now ctrl.old regs.old memory.old ctrl.new regs.new memory.new }
 {
     if access.write {
-        store(memory, access);
+        if memory
+            .write_lanes(access.addr, access.en, access.value)
+            .is_err()
+        {
+            unreachable!();
+        }
         return;
     }
-    load(ctrl, regs, memory, access);
-}
-
-/// Makes a store to a page that is ready and present.
-fn store(memory: &mut Memory, access: &Access)
-    requires serve { CanServe (ready_of memory.old) access.now }
-    requires write { access.now.write ≡ true }
-    requires present { absent_of memory.old (page_number access.now.addr) ≡ false }
-    ensures bus { bus_of memory.new ≡ bus_after access.now (bus_of memory.old) }
-    ensures image { memory.new.image ≡ memory.old.image }
-    ensures absent { absent_of memory.new ≡ absent_of memory.old }
-    ensures ready { ready_of memory.new ≡ ready_of memory.old }
-{
-    if memory
-        .write_lanes(access.addr, access.en, access.value)
-        .is_err()
-    {
-        unreachable!();
-    }
-}
-
-/// Makes a load into its register, whose bit in SSBR is cleared.
-fn load(ctrl: &mut Control, regs: &mut RegFile, memory: &Memory, access: &Access)
-    requires serve { CanServe (ready_of memory.now) access.now }
-    requires read { access.now.write ≡ false }
-    requires waiting { waiting_of regs.old ≡ none_waits }
-    ensures numbers { regs.new.numbers
-        ≡ with_register access.now.reg (loaded access.now (bus_of memory.now)) regs.old.numbers }
-    ensures waiting { waiting_of regs.new ≡ waiting_of regs.old }
-    ensures control { ctrl.new ≡ with_loaded access.now ctrl.old }
-{
     let word = memory.word(access.addr);
     regs.set(access.reg, datum(access.en, access.signed, word));
     end_wait(ctrl, access.reg);

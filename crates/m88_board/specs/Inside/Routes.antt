@@ -24,17 +24,17 @@ letters_by (Run schedule taken until) = letters_from schedule.now taken
 letters_by Answers = λ k. Answer
 
 -- it stops at a moment, after so many events
-abbrev pub stops_by : Route → Program → ℕ → ℕ → Moment → Bool
-stops_by (Run schedule taken until) = λ p limit made m. is_enough until p made m || is_over p limit m
-stops_by Answers = λ p limit made m. is_drained p m
+abbrev pub stops_at_moment : Route → Program → ℕ → ℕ → Moment → Bool
+stops_at_moment (Run schedule taken until) = λ p limit made m. is_enough until p made m || is_over p limit m
+stops_at_moment Answers = λ p limit made m. is_drained p m
 
 -- its moments, from one on
 abbrev pub moments_by : Route → Program → (ℕ → Bool) → ℕ → Moment → ℕ → Moment
 moments_by route p named limit = moment_along p named limit (letters_by route)
 
 -- whether it stops after so many events
-abbrev pub halts_by : Route → Program → (ℕ → Bool) → ℕ → Moment → ℕ → Bool
-halts_by route p named limit m k = stops_by route p limit k (moments_by route p named limit m k)
+abbrev pub stops_at_event : Route → Program → (ℕ → Bool) → ℕ → Moment → ℕ → Bool
+stops_at_event route p named limit m k = stops_at_moment route p limit k (moments_by route p named limit m k)
 
 -- by what is seen of the board nothing is left to do
 abbrev pub has_to_rest : Route → BoardView → Bool

@@ -1,20 +1,22 @@
 -- What the next instruction comes to in its turn.
 use Rattle.std.specs.Int.{bit_at}
-use Rattle.std.specs.Prelude.{true, IfSome, None, Option, Some, ◌≡◌, ◌<◌}
+use Rattle.std.specs.Prelude.{true, false, [], IfSome, None, Option, Some, ◌≡◌, ◌<◌, ◌≤◌, ◌+◌, ◌++◌, length}
 use Rattle.m88_base.specs.Reg.{number_of}
 use Rattle.m88_ctrl.specs.ControlRegisters.{carry_of}
 use Rattle.m88_base.specs.Pages.{page_number}
-use Rattle.m88_event.specs.Choice.{Choice, end_by, finishes, next_choice}
+use Rattle.m88_event.specs.Choice.{Choice, end_by, finishes, issues, next_choice}
 use Rattle.m88_event.specs.Local.{choice_by}
 use Rattle.m88_event.specs.declared.happened.End.{End}
 use Rattle.m88_event.specs.declared.letter.Letter.TheVariants.{Issue}
+use Rattle.m88_dunit.specs.Pending.{CanIssue}
+use Rattle.m88_isa.specs.Bus.{LoadApart, listed, waits_for}
 use Rattle.m88_isa.specs.Flow.{FlowFits}
-use Rattle.m88_isa.specs.Held.{busy_register, held}
+use Rattle.m88_isa.specs.Held.{busy_register, held, most_pending}
 use Rattle.m88_isa.specs.Instr.{IsValid}
 use Rattle.m88_isa.specs.Memory.{AreWordAccesses}
 use Rattle.m88_isa.specs.Operands.{access_count_of, writes_of}
 use Rattle.m88_isa.specs.History.{Completed}
-use Rattle.m88_isa.specs.Effect.{IfGo, Meaning, meaning_of, plan_for, plan_of_outline}
+use Rattle.m88_isa.specs.Effect.{Change, FlowsToWords, IfGo, MakesAccesses, Meaning, RaisesListed, TrapsForUser, WritesWithin, meaning_of, plan_for, plan_of_outline, recorded_change}
 use Rattle.m88_isa.specs.ImageProgram.{IsProgramOf}
 use Rattle.m88_isa.specs.Machine.{Program, Stop, Turn, executed}
 use Rattle.m88_isa.specs.declared.instr.Instr.{Instr}
@@ -23,7 +25,8 @@ use Rattle.m88_isa.specs.declared.planned.Effect.{Effect}
 use Rattle.m88_isa.specs.declared.planned.Plan.{Plan}
 use Rattle.m88_isa.specs.declared.planned.Plan.TheVariants.{Go}
 use Rattle.m88_isa.specs.declared.planned.Outline.{Outline}
-use Rattle.m88_board.specs.Board.{BoardView, completed_of, local_of}
+use Rattle.m88_board.specs.Board.{BoardView, completed_of, is_idle_board, local_of}
+use Rattle.m88_board.specs.Kept.{IsProgramEnd}
 
 -- what an instruction means at a state
 abbrev pub meaning_at : Instr → Completed → Meaning
@@ -42,9 +45,29 @@ abbrev pub IssueComesTo : Choice → BoardView → Type 0
 IssueComesTo choice b =
     (p : Program) → IsProgramOf b.memory.image p → choice_by p b.limit Issue (local_of b) ≡ choice
 
--- it comes to an end of the program
-abbrev pub ComesToEnd : End → BoardView → Type 0
-ComesToEnd end b = (stop : Stop) × (end ≡ end_by stop) × IssueComesTo (finishes stop) b
+-- it comes to an end of the program, with nothing pending
+pub record ComesToEnd (end : End) (b : BoardView) : Type 0 where
+  pub stop : Stop
+  pub ends_by : end ≡ end_by stop
+  pub comes : IssueComesTo (finishes stop) b
+  pub empty : b.pending ≡ []
+  pub is_end : IsProgramEnd end
+
+-- more may be issued, and the next instruction is no bubble
+pub record IsDue (b : BoardView) : Type 0 where
+  pub going : is_idle_board b ≡ false
+  pub valid : b.slots.nip.v ≡ true
+
+-- and its word was fetched
+pub record IsFetched (b : BoardView) : Type 0 where
+  pub due : IsDue b
+  pub fetched : b.slots.nip.e ≡ false
+
+-- this instruction has its turn
+pub record HasTurn (i : Instr) (b : BoardView) : Type 0 where
+  pub next : IsFetched b
+  pub instr : IsValid i
+  pub comes : IssueComesTo (choice_for (Some i) b) b
 
 -- of two accesses, where the first is a store, the second is one to the same page
 abbrev pub StoreOnOnePage : Accesses → Type 0
@@ -55,6 +78,23 @@ StoreOnOnePage a =
 -- and so do those of a plan that goes on
 abbrev pub PlansOnePage : Plan → Type 0
 PlansOnePage plan = IfGo plan (λ changes. StoreOnOnePage changes.accesses)
+
+-- accesses that a board can make next: the data unit takes them and has room, no register is loaded twice, and a store
+-- stays on one page
+pub record CanMakeAccesses (accesses : Accesses) (b : BoardView) : Type 0 where
+  pub can : CanIssue accesses
+  pub room : length b.pending + accesses.count ≤ most_pending
+  pub apart : LoadApart (b.pending ++ listed accesses)
+  pub page : StoreOnOnePage accesses
+
+-- the next instruction is issued with these changes: they go on to words, and the register that is written doesn't wait
+pub record IsIssuedWith (effect : Effect) (b : BoardView) : Type 0 where
+  pub flow : FlowFits effect.after effect.bubble
+  pub free : IfSome effect.reg (λ write. waits_for b.pending (number_of write.0) ≡ false)
+  pub change : Change
+  pub same : effect ≡ recorded_change change
+  pub few : length change.touches ≤ 2
+  pub comes : IssueComesTo (issues change) b
 
 -- the plan that an outline stands for, by what the parts of a board show
 abbrev pub planned_by : Outline → BoardView → Plan
@@ -69,3 +109,13 @@ pub record IsPlanned (i : Instr) (effect : Effect) (b : BoardView) : Type 0 wher
   pub written : IfSome effect.reg (λ write. bit_at (writes_of i) (number_of write.0) ≡ 1)
   pub flow : FlowFits effect.after effect.bubble
   pub page : StoreOnOnePage effect.accesses
+
+-- a plan of the next instruction, and what holds of every plan of it
+pub record IsPlanOf (i : Instr) (plan : Plan) (b : BoardView) : Type 0 where
+  pub means : plan ≡ plan_for (meaning_at i (completed_of b))
+  pub made : MakesAccesses (access_count_of i) plan
+  pub written : WritesWithin (writes_of i) plan
+  pub trap : TrapsForUser plan
+  pub raise : RaisesListed plan
+  pub flow : FlowsToWords plan
+  pub page : PlansOnePage plan

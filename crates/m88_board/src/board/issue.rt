@@ -1,28 +1,14 @@
 //! The event of the letter `i`: the next instruction is issued, is held, or ends the program.
 
-ghost use Rattle.std.specs.Prelude.{◌≡◌, ◌≤◌, ◌%◌, [], length, Ok, Some, None, true, false, IfErr, IfOk, OnErr, OnOk};
-ghost use Rattle.m88_base.specs.Image.{byte_at};
-ghost use Rattle.m88_event.specs.Choice.{issues};
-ghost use Rattle.m88_event.specs.Local.{choice_by};
+ghost use Rattle.std.specs.Prelude.{◌≡◌, ◌≤◌, ◌%◌, [], length, Ok, Some, None, false};
 ghost use Rattle.m88_event.specs.declared.letter.Letter.{Letter as LetterValue};
-ghost use Rattle.m88_event.specs.declared.record.Record.{Record as RecordValue};
-ghost use Rattle.m88_isa.specs.Effect.{Change, FlowsToWords, MakesAccesses, RaisesListed, TrapsForUser, WritesWithin, plan_for, recorded_change};
 ghost use Rattle.m88_isa.specs.Held.{busy_register, is_pending, most_pending};
-ghost use Rattle.m88_isa.specs.Instr.{IsValid};
-ghost use Rattle.m88_isa.specs.Machine.{Program, four_bytes};
 ghost use Rattle.m88_isa.specs.Memory.{recorded};
-ghost use Rattle.m88_isa.specs.Operands.{access_count_of, writes_of};
-ghost use Rattle.m88_board.specs.Board.{completed_of, is_idle_board, local_of, pc_of};
-ghost use Rattle.m88_isa.specs.ImageProgram.{IsProgramOf};
-ghost use Rattle.m88_isa.specs.declared.planned.Plan.TheVariants.{Go};
 ghost use Rattle.m88_isa.specs.declared.planned.Outline.TheVariants.{Memory};
-ghost use Rattle.m88_mem.specs.Lines.{HasInvolved, IsLine};
-ghost use Rattle.m88_board.specs.Moves.{Did, IsSameRun, IsStill, IsUnmoved};
-ghost use Rattle.m88_board.specs.Shown.{Leaves};
-ghost use Rattle.m88_board.specs.Told.{IsWordOf, MakesWordAccesses, WentOn};
-ghost use Rattle.m88_board.specs.Inside.Briefly.{happened_of};
-ghost use Rattle.m88_board.specs.Inside.NoInstruction.{HasNoInstruction};
-ghost use Rattle.m88_board.specs.Inside.Turns.{IsPlanned, IssueComesTo, PlansOnePage, choice_for, meaning_at, planned_by};
+ghost use Rattle.m88_mem.specs.Lines.{HasInvolved};
+ghost use Rattle.m88_board.specs.Inside.Events.{Brings, BringsOrStays, TellsInstruction, TellsPlan};
+ghost use Rattle.m88_board.specs.Inside.NoInstruction.{IsFoundAt, IsFoundNext};
+ghost use Rattle.m88_board.specs.Inside.Turns.{HasTurn, IsDue, IsPlanOf, IsPlanned, planned_by};
 
 use crate::board::Board;
 use crate::brief::Brief;
@@ -42,25 +28,8 @@ impl Board {
     // Not inlined, so that the loop over the letters stays small where they issue nothing.
     #[inline(never)]
     pub(super) fn issue(&mut self, told: &mut Told) -> Result<Brief, NoMemory>
-        ensures ok { IfOk result (λ brief. (p : Program) (fault : RecordValue)
-            → IsProgramOf self.old.memory.image p
-            → Did (choice_by p self.old.limit LetterValue.Issue (local_of self.old)) fault
-            self.old (happened_of brief self.new) self.new) }
-        ensures events { self.new.events ≡ self.old.events }
-        ensures same { OnOk result (IsSameRun self.old self.new) }
-        ensures still { IfOk result (λ brief. IsStill (happened_of brief self.new)
-            → self.new ≡ self.old) }
-        ensures leaves { IfOk result (λ brief.
-            Leaves (happened_of brief self.new) self.old self.new) }
-        ensures word { IfOk result (λ brief. WentOn (happened_of brief self.new)
-            → IsWordOf (four_bytes (byte_at self.old.memory.image) (pc_of self.old.slots))
-            told.new.word) }
-        ensures plan { told.old.asked ≡ true → OnOk result ((p : Program) (change : Change)
-            → IsProgramOf self.old.memory.image p
-            → choice_by p self.old.limit LetterValue.Issue (local_of self.old) ≡ issues change
-            → told.new.plan ≡ Go (recorded_change change)) }
-        ensures made { MakesWordAccesses told.old.plan → MakesWordAccesses told.new.plan }
-        ensures err { OnErr result (IsUnmoved self.old self.new) }
+        ensures brings { BringsOrStays LetterValue.Issue self.old result self.new }
+        ensures tells { TellsInstruction self.old told.old result self.new told.new }
     {
         if self.is_idle() {
             return Ok(Brief::Idle);
@@ -77,9 +46,7 @@ impl Board {
     /// The instruction at the byte address of a word, which is kept, or the vector that is raised where there is none.
     fn line_at(&mut self, addr: u32) -> Result<Line, u16>
         requires { addr % 4 ≡ 0 }
-        ensures line { IfOk result (λ line.
-            (line.addr ≡ addr) × IsLine self.old.memory.image line) }
-        ensures none { IfErr result (λ vector. HasNoInstruction self.old.memory.image addr vector) }
+        ensures found { IsFoundAt self.old.memory.image addr result }
         ensures stays { self.new ≡ self.old }
     {
         if let Some(line) = self.memory.line(addr) {
@@ -96,33 +63,10 @@ impl Board {
 
     /// Carries out what was found at the address of the next instruction: it has its turn, or the vector is raised.
     fn issue_next(&mut self, found: Result<Line, u16>, told: &mut Told) -> Result<Brief, NoMemory>
-        requires going { is_idle_board self.old ≡ false }
-        requires valid { self.old.slots.nip.v ≡ true }
-        requires aligned { pc_of self.old.slots % 4 ≡ 0 }
-        requires line { IfOk found
-            (λ line. (line.addr ≡ pc_of self.old.slots) × IsLine self.old.memory.image line) }
-        requires unmarked { OnOk found (self.old.slots.nip.e ≡ false) }
-        requires none { IfErr found
-            (λ vector. HasNoInstruction self.old.memory.image (pc_of self.old.slots) vector) }
-        ensures ok { IfOk result (λ brief. (p : Program) (fault : RecordValue)
-            → IsProgramOf self.old.memory.image p
-            → Did (choice_by p self.old.limit LetterValue.Issue (local_of self.old)) fault
-            self.old (happened_of brief self.new) self.new) }
-        ensures events { self.new.events ≡ self.old.events }
-        ensures same { OnOk result (IsSameRun self.old self.new) }
-        ensures still { IfOk result (λ brief. IsStill (happened_of brief self.new)
-            → self.new ≡ self.old) }
-        ensures leaves { IfOk result (λ brief.
-            Leaves (happened_of brief self.new) self.old self.new) }
-        ensures word { IfOk result (λ brief. WentOn (happened_of brief self.new)
-            → IsWordOf (four_bytes (byte_at self.old.memory.image) (pc_of self.old.slots))
-            told.new.word) }
-        ensures plan { told.old.asked ≡ true → OnOk result ((p : Program) (change : Change)
-            → IsProgramOf self.old.memory.image p
-            → choice_by p self.old.limit LetterValue.Issue (local_of self.old) ≡ issues change
-            → told.new.plan ≡ Go (recorded_change change)) }
-        ensures made { MakesWordAccesses told.old.plan → MakesWordAccesses told.new.plan }
-        ensures err { OnErr result (IsUnmoved self.old self.new) }
+        requires due { IsDue self.old }
+        requires found { IsFoundNext found self.old }
+        ensures brings { BringsOrStays LetterValue.Issue self.old result self.new }
+        ensures tells { TellsInstruction self.old told.old result self.new told.new }
     {
         match found {
             Ok(line) => {
@@ -137,24 +81,10 @@ impl Board {
 
     /// The next instruction in its turn.
     fn issue_instr(&mut self, line: &Line, told: &mut Told) -> Result<Brief, NoMemory>
-        requires instr { IsValid line.now.instr }
+        requires turn { HasTurn line.now.instr self.old }
         requires involved { HasInvolved line.now }
-        requires going { is_idle_board self.old ≡ false }
-        requires valid { self.old.slots.nip.v ≡ true }
-        requires fetched { self.old.slots.nip.e ≡ false }
-        requires comes { IssueComesTo (choice_for (Some line.now.instr) self.old) self.old }
-        ensures ok { IfOk result (λ brief. (fault : RecordValue)
-            → Did (choice_for (Some line.now.instr) self.old) fault self.old
-            (happened_of brief self.new) self.new) }
-        ensures still { IfOk result (λ brief. IsStill (happened_of brief self.new)
-            → self.new ≡ self.old) }
-        ensures leaves { IfOk result (λ brief.
-            Leaves (happened_of brief self.new) self.old self.new) }
-        ensures told { told.old.asked ≡ true → OnOk result ((change : Change)
-            → choice_for (Some line.now.instr) self.old ≡ issues change
-            → told.new.plan ≡ Go (recorded_change change)) }
-        ensures made { MakesWordAccesses told.old.plan → MakesWordAccesses told.new.plan }
-        ensures err { OnErr result (IsUnmoved self.old self.new) }
+        ensures brings { BringsOrStays LetterValue.Issue self.old result self.new }
+        ensures tells { TellsPlan self.old told.old told.new }
     {
         if let Some(r) = self.busy_register(line) {
             return Ok(Brief::Stalled(Why::Busy(r)));
@@ -164,24 +94,10 @@ impl Board {
 
     /// The next instruction in its turn, where no register that it uses or writes waits.
     fn issue_free(&mut self, instr: &Instr, told: &mut Told) -> Result<Brief, NoMemory>
-        requires instr { IsValid instr.now }
-        requires going { is_idle_board self.old ≡ false }
-        requires valid { self.old.slots.nip.v ≡ true }
-        requires fetched { self.old.slots.nip.e ≡ false }
+        requires turn { HasTurn instr.now self.old }
         requires free { busy_register (Some instr.now) self.old.pending ≡ None }
-        requires comes { IssueComesTo (choice_for (Some instr.now) self.old) self.old }
-        ensures ok { IfOk result (λ brief. (fault : RecordValue)
-            → Did (choice_for (Some instr.now) self.old) fault self.old
-            (happened_of brief self.new) self.new) }
-        ensures still { IfOk result (λ brief. IsStill (happened_of brief self.new)
-            → self.new ≡ self.old) }
-        ensures leaves { IfOk result (λ brief.
-            Leaves (happened_of brief self.new) self.old self.new) }
-        ensures told { told.old.asked ≡ true → OnOk result ((change : Change)
-            → choice_for (Some instr.now) self.old ≡ issues change
-            → told.new.plan ≡ Go (recorded_change change)) }
-        ensures made { MakesWordAccesses told.old.plan → MakesWordAccesses told.new.plan }
-        ensures err { OnErr result (IsUnmoved self.old self.new) }
+        ensures brings { BringsOrStays LetterValue.Issue self.old result self.new }
+        ensures tells { TellsPlan self.old told.old told.new }
     {
         match self.outline_next(instr) {
             Outline::Next { reg, carry } => {
@@ -208,21 +124,12 @@ impl Board {
     // Inlined, so that no changes are put together in memory.
     #[inline(always)]
     fn issue_alone(&mut self, instr: &Instr, effect: Effect, told: &mut Told) -> Brief
-        requires going { is_idle_board self.old ≡ false }
-        requires valid { self.old.slots.nip.v ≡ true }
-        requires fetched { self.old.slots.nip.e ≡ false }
+        requires turn { HasTurn instr.now self.old }
         requires planned { IsPlanned instr.now effect self.old }
         requires alone { effect.accesses ≡ recorded [] }
         requires few { length self.old.pending ≤ most_pending }
-        ensures ok { (fault : RecordValue)
-            → Did (choice_for (Some instr.now) self.old) fault self.old
-            (happened_of result self.new) self.new }
-        ensures still { IsStill (happened_of result self.new) → self.new ≡ self.old }
-        ensures leaves { Leaves (happened_of result self.new) self.old self.new }
-        ensures told { told.old.asked ≡ true → (change : Change)
-            → choice_for (Some instr.now) self.old ≡ issues change
-            → told.new.plan ≡ Go (recorded_change change) }
-        ensures made { MakesWordAccesses told.old.plan → MakesWordAccesses told.new.plan }
+        ensures brings { Brings LetterValue.Issue self.old result self.new }
+        ensures tells { TellsPlan self.old told.old told.new }
     {
         told.tell(&effect);
         if waits_for_empty(instr) && self.is_pending() {
@@ -241,31 +148,11 @@ impl Board {
         place: u32,
         told: &mut Told,
     ) -> Result<Brief, NoMemory>
-        requires instr { IsValid instr.now }
-        requires going { is_idle_board self.old ≡ false }
-        requires valid { self.old.slots.nip.v ≡ true }
-        requires fetched { self.old.slots.nip.e ≡ false }
+        requires turn { HasTurn instr.now self.old }
         requires free { busy_register (Some instr.now) self.old.pending ≡ None }
-        requires value { planned_by (Memory op d place) self.old
-            ≡ plan_for (meaning_at instr.now (completed_of self.old)) }
-        requires accesses { MakesAccesses (access_count_of instr.now)
-            (planned_by (Memory op d place) self.old) }
-        requires register { WritesWithin (writes_of instr.now)
-            (planned_by (Memory op d place) self.old) }
-        requires flow { FlowsToWords (planned_by (Memory op d place) self.old) }
-        requires pages { PlansOnePage (planned_by (Memory op d place) self.old) }
-        ensures ok { IfOk result (λ brief. (fault : RecordValue)
-            → Did (choice_for (Some instr.now) self.old) fault self.old
-            (happened_of brief self.new) self.new) }
-        ensures still { IfOk result (λ brief. IsStill (happened_of brief self.new)
-            → self.new ≡ self.old) }
-        ensures leaves { IfOk result (λ brief.
-            Leaves (happened_of brief self.new) self.old self.new) }
-        ensures told { told.old.asked ≡ true → OnOk result ((change : Change)
-            → choice_for (Some instr.now) self.old ≡ issues change
-            → told.new.plan ≡ Go (recorded_change change)) }
-        ensures made { MakesWordAccesses told.old.plan → MakesWordAccesses told.new.plan }
-        ensures err { OnErr result (IsUnmoved self.old self.new) }
+        requires plan { IsPlanOf instr.now (planned_by (Memory op d place) self.old) self.old }
+        ensures brings { BringsOrStays LetterValue.Issue self.old result self.new }
+        ensures tells { TellsPlan self.old told.old told.new }
     {
         let next = self.iunit.following().addr;
         let effect = Effect {
@@ -285,22 +172,10 @@ impl Board {
         effect: &Effect,
         told: &mut Told,
     ) -> Result<Brief, NoMemory>
-        requires going { is_idle_board self.old ≡ false }
-        requires valid { self.old.slots.nip.v ≡ true }
-        requires fetched { self.old.slots.nip.e ≡ false }
+        requires turn { HasTurn instr.now self.old }
         requires planned { IsPlanned instr.now effect.now self.old }
-        ensures ok { IfOk result (λ brief. (fault : RecordValue)
-            → Did (choice_for (Some instr.now) self.old) fault self.old
-            (happened_of brief self.new) self.new) }
-        ensures still { IfOk result (λ brief. IsStill (happened_of brief self.new)
-            → self.new ≡ self.old) }
-        ensures leaves { IfOk result (λ brief.
-            Leaves (happened_of brief self.new) self.old self.new) }
-        ensures told { told.old.asked ≡ true → OnOk result ((change : Change)
-            → choice_for (Some instr.now) self.old ≡ issues change
-            → told.new.plan ≡ Go (recorded_change change)) }
-        ensures made { MakesWordAccesses told.old.plan → MakesWordAccesses told.new.plan }
-        ensures err { OnErr result (IsUnmoved self.old self.new) }
+        ensures brings { BringsOrStays LetterValue.Issue self.old result self.new }
+        ensures tells { TellsPlan self.old told.old told.new }
     {
         told.tell(effect);
         if effect.accesses.count > self.dunit.room() {
@@ -325,17 +200,9 @@ impl Board {
     // Inlined, so that what an outline tells stays in registers.
     #[inline(always)]
     fn outline_next(&self, instr: &Instr) -> Outline
-        requires instr { IsValid instr.now }
-        requires valid { self.now.slots.nip.v ≡ true }
+        requires turn { HasTurn instr.now self.now }
         requires free { busy_register (Some instr.now) self.now.pending ≡ None }
-        ensures value { planned_by result self.now
-            ≡ plan_for (meaning_at instr.now (completed_of self.now)) }
-        ensures accesses { MakesAccesses (access_count_of instr.now) (planned_by result self.now) }
-        ensures register { WritesWithin (writes_of instr.now) (planned_by result self.now) }
-        ensures trap { TrapsForUser (planned_by result self.now) }
-        ensures raise { RaisesListed (planned_by result self.now) }
-        ensures flow { FlowsToWords (planned_by result self.now) }
-        ensures pages { PlansOnePage (planned_by result self.now) }
+        ensures { IsPlanOf instr.now (planned_by result self.now) self.now }
     {
         outline(
             instr,

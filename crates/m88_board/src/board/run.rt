@@ -1,26 +1,22 @@
 //! Whole runs, draining, and the loop over the events of both.
 
-ghost use Rattle.std.specs.Prelude.{ℕ, Bool, [], ◌∷◌, ◌↔◌, ◌≡◌, ◌<◌, ◌≤◌, ◌+◌, ◌-◌, ◌*◌, true, length, IfOk, OnErr, OnOk};
-ghost use Rattle.m88_event.specs.Run.{IsDrain, IsDraining, IsFirst, IsOutcome, IsRun, IsRunning, NotBefore, answered_after, moment_after, outcome_at, outcome_by};
-ghost use Rattle.m88_event.specs.Local.{move};
-ghost use Rattle.m88_event.specs.Timeline.{Moment, is_over, opening_moment, said_at};
+ghost use Rattle.std.specs.Prelude.{ℕ, Bool, [], ◌↔◌, ◌≡◌, ◌<◌, ◌≤◌, ◌+◌, ◌-◌, ◌*◌, true, length, IfOk, OnErr, OnOk};
+ghost use Rattle.m88_event.specs.Run.{IsDrain, IsDraining, IsFirst, IsOutcome, IsRunning, NotBefore, answered_after, moment_after, outcome_at, outcome_by};
+ghost use Rattle.m88_event.specs.Timeline.{Moment, is_over, opening_moment};
 ghost use Rattle.m88_event.specs.declared.happened.End.{End as EndValue};
-ghost use Rattle.m88_event.specs.declared.letter.Letter.{Letter as LetterValue};
 ghost use Rattle.m88_event.specs.declared.outcome.Outcome.{Outcome as OutcomeValue};
 ghost use Rattle.m88_isa.specs.Bus.{in_words};
 ghost use Rattle.m88_isa.specs.Held.{most_pending};
 ghost use Rattle.m88_isa.specs.History.{bus_at, transaction_count};
-ghost use Rattle.m88_isa.specs.ImageProgram.{IsProgramOf};
 ghost use Rattle.m88_isa.specs.Machine.{IsProgram, Program, state};
 ghost use Rattle.m88_mem.specs.DataBus.{image_bus};
 ghost use Rattle.m88_board.specs.Board.{local_of};
 ghost use Rattle.m88_board.specs.Glances.{Saw, glances_along};
-ghost use Rattle.m88_board.specs.Inside.Briefly.{happened_of};
-ghost use Rattle.m88_board.specs.Inside.Routes.{CanBeCounted, IsBoundedBy, halts_by, moments_by};
+ghost use Rattle.m88_board.specs.Inside.Events.{ShownOrStays, TellsEvent};
+ghost use Rattle.m88_board.specs.Inside.Routes.{CanBeCounted, IsBoundedBy, stops_at_event, moments_by};
 ghost use Rattle.m88_board.specs.Kept.{IsKept, most_events};
-ghost use Rattle.m88_board.specs.Moves.{IsAlong, IsAt, IsSameRun, IsStep, IsUnmoved};
+ghost use Rattle.m88_board.specs.Moves.{IsAlong, IsAt, IsSameRun};
 ghost use Rattle.m88_board.specs.Shown.{IsSettled};
-ghost use Rattle.m88_board.specs.Told.{IsTold, MakesWordAccesses};
 ghost use Rattle.m88_board.specs.Walks.{IsNoHeavier};
 ghost use Rattle.m88_board.specs.declared.route.Route.{Route as RouteValue};
 
@@ -103,7 +99,7 @@ impl Board {
         requires { CanBeCounted route self.old }
         ensures ok { OnOk result ((p : Program) (named : ℕ → Bool) (m : Moment) → IsProgram p
             → IsAt p named m self.old
-            → (events : ℕ) × IsFirst (halts_by route.entry p named self.old.limit m) events
+            → (events : ℕ) × IsFirst (stops_at_event route.entry p named self.old.limit m) events
             × IsAlong p named (moments_by route.entry p named self.old.limit m) events
             (W.seen watch.old) (W.seen watch.new) self.new
             × (self.new.events ≡ self.old.events + events)) }
@@ -115,7 +111,7 @@ impl Board {
         ensures same { IsSameRun self.old self.new }
         ensures err { OnErr result ((p : Program) (named : ℕ → Bool) (m : Moment) → IsProgram p
             → IsAt p named m self.old
-            → (events : ℕ) × NotBefore (halts_by route.entry p named self.old.limit m) events
+            → (events : ℕ) × NotBefore (stops_at_event route.entry p named self.old.limit m) events
             × IsAlong p named (moments_by route.entry p named self.old.limit m) events
             (W.seen watch.old) (W.seen watch.new) self.new) }
     {
@@ -140,24 +136,9 @@ impl Board {
         told: &mut Told,
     ) -> Result<Brief, NoMemory>
         requires { self.old.events < most_events }
-        ensures ok { OnOk result ((p : Program) (named : ℕ → Bool) (m : Moment)
-            → IsAt p named m self.old
-            → IsStep p named letter m (W.seen watch.old) (W.seen watch.new) self.old self.new) }
-        ensures said { IfOk result (λ brief. (p : Program) (named : ℕ → Bool) (m : Moment)
-            → IsAt p named m self.old
-            → happened_of brief self.new ≡ said_at p named self.old.limit letter m) }
-        ensures moved { OnOk result ((p : Program) → IsProgramOf self.old.memory.image p
-            → local_of self.new ≡ move p self.old.limit letter (local_of self.old)) }
-        ensures counted { OnOk result (self.new.events ≡ self.old.events + 1) }
-        ensures same { OnOk result (IsSameRun self.old self.new) }
-        ensures shorter { letter ≡ LetterValue.Answer
-            → OnOk result (length self.new.pending ≤ length self.old.pending - 1) }
-        ensures kept { OnOk result (IsKept self.new) }
-        ensures told { letter ≡ LetterValue.Issue → told.old.asked ≡ true → IfOk result (λ brief.
-            (p : Program) (named : ℕ → Bool) (m : Moment) → IsAt p named m self.old
-            → IsTold p named self.old.limit m (happened_of brief self.new) told.new) }
-        ensures made { MakesWordAccesses told.old.plan → MakesWordAccesses told.new.plan }
-        ensures err { OnErr result (IsUnmoved self.old self.new) }
+        ensures happens { ShownOrStays letter self.old (W.seen watch.old) (W.seen watch.new)
+            result self.new }
+        ensures tells { TellsEvent letter self.old told.old result self.new told.new }
         ensures unseen { OnErr result (watch.new ≡ watch.old) }
     {
         let brief = self.event_told(letter, told)?;

@@ -10,18 +10,18 @@ use Rattle.m88_emul.proofs.running.advance.Goals as goal
 
 pub returns-clause-moved : goal.returns-clause-moved
 returns-clause-moved c = λ p of.
-    (c.in_ok-happened.ensures.moved p of).moved
+    (c.in_ok-happened.ensures.happens.moved p of).moved
     ∙ ap (λ (n : ℕ). move p n c.args.letter (local_of c.args.board.now)) c.requires.limit
 
 pub returns-clause-ended : goal.returns-clause-ended
 returns-clause-ended c =
     let lives = lives_none c.args.limit c.args.board.now c.events.ensures.kept c.requires.going in
     ends_if c.vector_of.result c.in_ok-happened.happened c.event.new.self.ended c.vector_of.ensures
-    (c.in_ok-happened.ensures.ended ∙ ap (end_after c.in_ok-happened.happened) lives)
+    (c.in_ok-happened.ensures.happens.ended ∙ ap (end_after c.in_ok-happened.happened) lives)
 
 pub returns-clause-alone : goal.returns-clause-alone
 returns-clause-alone c = λ none p of.
-    let event = c.in_ok-happened.ensures in
+    let event = c.in_ok-happened.ensures.happens in
     let lives = lives_none c.args.limit c.args.board.now c.events.ensures.kept c.requires.going in
     let alone =
     not_by_vector p c.event.new.self c.in_ok-happened.happened

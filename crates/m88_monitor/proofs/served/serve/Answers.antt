@@ -19,7 +19,7 @@ serve_triple-third-requires-clause-triple c =
     ∙ third_kept_again between
     ∙ ap (λ (s : Serving). s.control.t2) c.serve_triple-first.ensures.served
     ∙ third_kept before in
-    rw (third, c.serve_triple-second.ensures.ready ∙ c.serve_triple-first.ensures.ready) c.requires.third
+    rw (third, c.serve_triple-second.ensures.keeps.ready ∙ c.serve_triple-first.ensures.keeps.ready) c.requires.triples.third
 
 pub returns-clause-done : goal.returns-clause-done
 returns-clause-done c =

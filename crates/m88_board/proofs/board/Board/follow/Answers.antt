@@ -1,5 +1,5 @@
 -- One event of the route after the other, until it stops.
-use Rattle.std.proofs.Common.{arith, refl, ap, ap₂, subst, ◌∙◌, ◌-◌, ◌≡◌, ℕ}
+use Rattle.std.proofs.Common.{ℕ, arith, refl, ap, ap₂, subst, ◌∙◌, ◌-◌, ◌≡◌}
 use Rattle.std.proofs.lemmas.Result.{err_from_is_err_and}
 use Rattle.m88_event.specs.Timeline.{Moment}
 use Rattle.m88_board.proofs.Routes.{bounded_at_first, bounded_behind}
@@ -29,7 +29,7 @@ made_so begun seen = ap₂ (λ m n. m - n) seen begun
 pub loop-letter-preserved : goal.loop-letter-preserved
 loop-letter-preserved g c =
     let inv = c.loop-letter.invariant in
-    let event = c.in_ok-step.ensures in
+    let event = c.in_ok-step.ensures.happens.happens in
     let counted = inv.counted in
     let one = event.counted in
     let limit = c.args.self.now.limit in
@@ -42,8 +42,8 @@ loop-letter-preserved g c =
       counted = omega (arith, counted, one);
       same = same_then c.args.self.now c.loop-letter.self c.step.new.self inv.same event.same;
       bounded =
-          bounded_behind c.args.route c.in-Some.letter c.args.self.now c.loop-letter.self c.step.new.self inv.bounded
-          c.in-Some.ensures.going counted is event.kept event.same one event.moved event.shorter;
+          bounded_behind c.args.route c.in-Some.letter c.args.self.now c.loop-letter.self _ c.step.new.self inv.bounded
+          c.in-Some.ensures.going counted is event;
       goes = λ p named m is-program at.
           let goes = inv.goes p named m is-program at in
           let here : Moment = moments_by c.args.route p named limit m made in
@@ -51,7 +51,7 @@ loop-letter-preserved g c =
           c.in-Some.letter c.loop-letter.self c.step.new.self (omega (arith, counted, one)) inv.same.limit is goes
           (stops_there c.args.route p named limit c.loop-letter.self.limit m _ made _ place inv.same.limit
           (c.in-Some.ensures.moment p named here goes.along.at))
-          (event.ok p named here goes.along.at);
+          (c.in_ok-step.ensures.happens.ok p named here goes.along.at);
     }
 
 pub returns-in_err-step-clause-err : goal.returns-in_err-step-clause-err
@@ -64,7 +64,7 @@ returns-in_err-step-clause-err g c =
       goes.first,
       record {
         at = still_at p named (moments_by c.args.route p named c.args.self.now.limit m made) c.loop-letter.self
-            c.step.new.self c.in_err-step.ensures.err goes.along.at;
+            c.step.new.self c.in_err-step.ensures.happens goes.along.at;
         saw = rw c.in_err-step.ensures.unseen goes.along.saw;
       },
     ))

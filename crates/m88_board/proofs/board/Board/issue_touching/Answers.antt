@@ -26,5 +26,4 @@ issue_accesses-requires-clause-planned c =
       after = (next, after_bytes next 4);
       bubble = false;
     })) (sym c.accesses_at.ensures))
-    c.requires.instr c.requires.free c.requires.value c.requires.accesses c.requires.register
-    c.requires.flow c.requires.pages
+    c.requires.turn.instr c.requires.free c.requires.plan

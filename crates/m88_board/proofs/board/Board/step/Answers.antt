@@ -8,19 +8,21 @@ use Rattle.m88_board.specs.Glances.{glance_at, glance_of}
 use Rattle.m88_board.specs.declared.glance.Glance.{Glance}
 use Rattle.m88_board.proofs.board.Board.step.Goals as goal
 
-pub returns-clause-ok : goal.returns-clause-ok
-returns-clause-ok g c = λ p named m at.
-    let next = c.in_ok-brief.ensures.timeline p named m at in
-    let after = after_letter p named c.args.self.now.limit c.args.letter m in
+pub returns-clause-happens : goal.returns-clause-happens
+returns-clause-happens g c =
+    let happens = c.in_ok-brief.ensures.happens in
     record {
-      at = next;
-      limit = c.in_ok-brief.ensures.same.limit;
-      saw =
-          saw_same _ _ (glance_of c.event_told.new.self ∷ []) (glance_at p after ∷ [])
-          (ap (λ (glance : Glance). glance ∷ [])
-          (glance_is p named after c.event_told.new.self next c.in_ok-brief.ensures.kept.slots))
-          c.after.ensures;
+      happens = happens;
+      ok = λ p named m at.
+          let next = happens.timeline p named m at in
+          let after = after_letter p named c.args.self.now.limit c.args.letter m in
+          record {
+            at = next;
+            limit = happens.same.limit;
+            saw =
+                saw_same _ _ (glance_of c.event_told.new.self ∷ []) (glance_at p after ∷ [])
+                (ap (λ (glance : Glance). glance ∷ [])
+                (glance_is p named after c.event_told.new.self next happens.kept.slots))
+                c.after.ensures;
+          };
     }
-
-pub returns-clause-moved : goal.returns-clause-moved
-returns-clause-moved g c = λ p of. (c.in_ok-brief.ensures.moved p of).moved

@@ -1,26 +1,47 @@
 -- An event takes something off the weight of what is left.
+use Rattle.std.proofs.Common.{refl, subst}
+use Rattle.m88_event.specs.declared.letter.Letter.{Letter}
+use Rattle.std.specs.Prelude.{Ok}
 use Rattle.m88_board.proofs.Weighing.{bounded_next, bounded_unmoved, lighter_next}
+use Rattle.m88_board.specs.Inside.Events.{ShownOrStays, TellsEvent}
 use Rattle.m88_board.proofs.walk.Walk.next_brief.Goals as goal
 
 pub invariant_of-self : goal.invariant_of-self
 invariant_of-self g c = record {
   bounded =
       bounded_unmoved c.args.self.now.schedule.now c.args.self.now.taken c.args.self.now.board.now c.step.new.self
-      c.args.self.now.bounded c.in_err-brief.ensures.err;
+      c.args.self.now.bounded c.in_err-brief.ensures.happens;
 }
 
-pub returns-clause-lighter : goal.returns-clause-lighter
-returns-clause-lighter g c =
-    lighter_next c.args.self.now.schedule.now c.args.self.now.taken c.letter-letter.result c.args.self.now.board.now c.step.new.self
-    c.args.self.now.bounded c.requires c.letter-letter.ensures c.in_ok-brief.ensures.kept c.in_ok-brief.ensures.same
-    c.in_ok-brief.ensures.moved
+pub returns-clause-takes : goal.returns-clause-takes
+returns-clause-takes g c = record {
+  taken_one = refl;
+  lighter =
+      let event = c.in_ok-brief.ensures.happens.happens in
+      lighter_next c.args.self.now.schedule.now c.args.self.now.taken c.letter-letter.result c.args.self.now.board.now c.step.new.self
+      c.args.self.now.bounded c.requires c.letter-letter.ensures event.kept event.same (λ p of. (event.moved p of).moved);
+  untaken = tt;
+}
 
 pub invariant_of-self-2 : goal.invariant_of-self-2
-invariant_of-self-2 g c = record {
-  bounded =
-      bounded_next c.args.self.now.schedule.now c.args.self.now.taken c.args.self.now.board.now c.step.new.self
-      c.args.self.now.bounded c.in_ok-brief.ensures.kept c.in_ok-brief.ensures.same c.in_ok-brief.ensures.counted
-      (lighter_next c.args.self.now.schedule.now c.args.self.now.taken c.letter-letter.result c.args.self.now.board.now
-      c.step.new.self c.args.self.now.bounded c.requires c.letter-letter.ensures c.in_ok-brief.ensures.kept
-      c.in_ok-brief.ensures.same c.in_ok-brief.ensures.moved);
-}
+invariant_of-self-2 g c =
+    let event = c.in_ok-brief.ensures.happens.happens in
+    record {
+      bounded =
+          bounded_next c.args.self.now.schedule.now c.args.self.now.taken c.args.self.now.board.now c.step.new.self
+          c.args.self.now.bounded event.kept event.same event.counted
+          (lighter_next c.args.self.now.schedule.now c.args.self.now.taken c.letter-letter.result c.args.self.now.board.now
+          c.step.new.self c.args.self.now.bounded c.requires c.letter-letter.ensures event.kept event.same
+          (λ p of. (event.moved p of).moved));
+    }
+
+pub returns-clause-happens : goal.returns-clause-happens
+returns-clause-happens g c =
+    subst (λ (letter : Letter). ShownOrStays letter c.args.self.now.board.now (g.W.Watch.seen c.args.watch.now)
+    (g.W.Watch.seen c.step.new.watch) (Ok c.in_ok-brief.brief) c.step.new.self) c.letter-letter.ensures
+    c.in_ok-brief.ensures.happens
+
+pub returns-clause-tells : goal.returns-clause-tells
+returns-clause-tells g c =
+    subst (λ (letter : Letter). TellsEvent letter c.args.self.now.board.now c.args.told.now (Ok c.in_ok-brief.brief)
+    c.step.new.self c.step.new.told) c.letter-letter.ensures c.in_ok-brief.ensures.tells

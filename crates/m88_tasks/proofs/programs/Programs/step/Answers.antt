@@ -22,10 +22,10 @@ invariant_of-self-2 c =
       group = some.group;
       moments = moments_then some.group c.args.letter some.moments some.current;
       current = some.current;
-      are = moved some.group c.args.letter some.moments some.current _ _ some.are c.in_ok-happened.ensures.timeline c.in_ok-happened.ensures.same;
+      are = moved some.group c.args.letter some.moments some.current _ _ some.are c.in_ok-happened.ensures.happens.timeline c.in_ok-happened.ensures.happens.same;
     }
 
 pub returns-clause-timeline : goal.returns-clause-timeline
 returns-clause-timeline c = λ g moments current held.
     moved g c.args.letter moments current _ _ (subst (ArePrograms g moments current) (sym c.self.view_is) held)
-    c.in_ok-happened.ensures.timeline c.in_ok-happened.ensures.same
+    c.in_ok-happened.ensures.happens.timeline c.in_ok-happened.ensures.happens.same
