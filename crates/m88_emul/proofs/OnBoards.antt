@@ -1,5 +1,5 @@
 -- A board that ended, and the one that goes on behind an instruction that software did.
-use Rattle.std.specs.Prelude.{ℕ, Bool, true, false, not, List, [], ◌∷◌, ◌++◌, Option, Some, None, IfOk, IfSome, MatchOption, OnOk, Result, Ok, Err, ◌≡◌, ◌<◌, ◌+◌, ◌%◌, ◌^◌, ◌==◌, ◌&&◌, is_some, map, slice_index, if◌then◌else◌}
+use Rattle.std.specs.Prelude.{ℕ, Bool, true, false, not, List, [], ◌∷◌, ◌++◌, Option, Some, None, IfOk, IfSome, MatchOption, Result, Ok, Err, ◌≡◌, ◌<◌, ◌+◌, ◌%◌, ◌^◌, ◌==◌, ◌&&◌, is_some, map, slice_index, if◌then◌else◌}
 use Rattle.std.specs.Int.{to_be_bytes, w32}
 use Rattle.std.proofs.Common.{arith, refl, sym, ap, ap₂, ◌∙◌, subst}
 use Rattle.std.proofs.lemmas.Bool.{eqb-false}
@@ -44,7 +44,7 @@ use Rattle.m88_emul.proofs.Weighing.{still_lives}
 use Rattle.m88_emul.specs.Aid.{Aid, aid_of, with_all}
 use Rattle.m88_emul.specs.Emulating.{IsAided}
 use Rattle.m88_emul.specs.Extended.{Deed, aid_at, aided, byte_seen, deed_of, where_aided}
-use Rattle.m88_emul.specs.Inside.Boards.{one_more, vector_in}
+use Rattle.m88_emul.specs.Inside.Boards.{KeepsRun, one_more, vector_in}
 use Rattle.m88_emul.specs.Inside.Settled.{IsAlone, completed_by, deed_seen, emulated_by, newly_emulated, settled, settled_by}
 use Rattle.m88_emul.specs.Inside.Tasks.{aid_by}
 use Rattle.m88_emul.specs.Timeline.{has_place_in}
@@ -402,9 +402,9 @@ pub ok_then : {A E : Type 0} {P Q : A → Type 0} (r : Result A E) → IfOk r P 
 ok_then (Ok a) h f = f a h
 ok_then (Err e) h f = tt
 
-pub ok_on : {A E : Type 0} {R : Type 0} (r : Result A E) → R → OnOk r R
-ok_on (Ok a) h = h
-ok_on (Err e) h = tt
+-- a board that is left as it is
+pub keeps_run : {limit : ℕ} (b : BoardView) → b.limit ≡ limit → mxm_of b.control ≡ false → KeepsRun limit b b
+keeps_run b limit clear = record { limit_is = limit; image = refl; clear = clear; counted = refl }
 
 -- the values of the registers
 pub values_are : (b : BoardView) (values : List ℕ) (file : Registers) → IsKept b → b.pending ≡ [] → file ≡ b.file →

@@ -12,7 +12,7 @@ ghost use Rattle.m88_isa.specs.Memory.{access_of, store};
 ghost use Rattle.m88_mem.specs.DataBus.{absent_of, bus_of, ready_of};
 ghost use Rattle.m88_emul.specs.Aid.{byte_stores, datum_at, places_from};
 ghost use Rattle.m88_emul.specs.Extended.{byte_seen};
-ghost use Rattle.m88_emul.specs.Inside.Places.{AreOpen, IsOpen};
+ghost use Rattle.m88_emul.specs.Inside.Places.{AreOpen, HasWords, IsOpen};
 
 use m88_isa::datum;
 use m88_mem::Memory;
@@ -68,10 +68,8 @@ pub(crate) fn word(memory: &Memory, place: u32) -> u32
 /// Stores the low byte of a value.
 fn put_byte(memory: &mut Memory, place: u32, value: u32)
     requires { IsOpen (ready_of memory.old) (absent_of memory.old) (page_number place) }
-    ensures bus { bus_of memory.new ≡ stored (access_of (store 1 value place)) (bus_of memory.old) }
-    ensures image { memory.new.image ≡ memory.old.image }
-    ensures ready { ready_of memory.new ≡ ready_of memory.old }
-    ensures absent { absent_of memory.new ≡ absent_of memory.old }
+    ensures { HasWords (stored (access_of (store 1 value place)) (bus_of memory.old)) memory.old
+        memory.new }
 {
     if memory
         .write_lanes(place / 4 * 4, enable_of(place), value)
@@ -84,11 +82,8 @@ fn put_byte(memory: &mut Memory, place: u32, value: u32)
 /// Stores the low half of a value.
 pub(crate) fn put_half(memory: &mut Memory, place: u32, value: u32)
     requires { AreOpen (ready_of memory.old) (absent_of memory.old) (places_from place 2) }
-    ensures bus { bus_of memory.new ≡ bus_after_all
-        (map access_of (byte_stores value (places_from place 2))) (bus_of memory.old) }
-    ensures image { memory.new.image ≡ memory.old.image }
-    ensures ready { ready_of memory.new ≡ ready_of memory.old }
-    ensures absent { absent_of memory.new ≡ absent_of memory.old }
+    ensures { HasWords (bus_after_all (map access_of (byte_stores value (places_from place 2)))
+        (bus_of memory.old)) memory.old memory.new }
 {
     put_byte(memory, place, value >> 8);
     put_byte(memory, place.wrapping_add(1), value);
@@ -97,11 +92,8 @@ pub(crate) fn put_half(memory: &mut Memory, place: u32, value: u32)
 /// Stores a value.
 pub(crate) fn put_word(memory: &mut Memory, place: u32, value: u32)
     requires { AreOpen (ready_of memory.old) (absent_of memory.old) (places_from place 4) }
-    ensures bus { bus_of memory.new ≡ bus_after_all
-        (map access_of (byte_stores value (places_from place 4))) (bus_of memory.old) }
-    ensures image { memory.new.image ≡ memory.old.image }
-    ensures ready { ready_of memory.new ≡ ready_of memory.old }
-    ensures absent { absent_of memory.new ≡ absent_of memory.old }
+    ensures { HasWords (bus_after_all (map access_of (byte_stores value (places_from place 4)))
+        (bus_of memory.old)) memory.old memory.new }
 {
     let second = place.wrapping_add(1);
     let third = second.wrapping_add(1);
@@ -114,12 +106,9 @@ pub(crate) fn put_word(memory: &mut Memory, place: u32, value: u32)
 /// Stores two values, one behind the other.
 pub(crate) fn put_double(memory: &mut Memory, place: u32, first: u32, second: u32)
     requires { AreOpen (ready_of memory.old) (absent_of memory.old) (places_from place 8) }
-    ensures bus { bus_of memory.new ≡ bus_after_all
-        (map access_of (byte_stores first (places_from place 4)
-        ++ byte_stores second (places_from (after_bytes place 4) 4))) (bus_of memory.old) }
-    ensures image { memory.new.image ≡ memory.old.image }
-    ensures ready { ready_of memory.new ≡ ready_of memory.old }
-    ensures absent { absent_of memory.new ≡ absent_of memory.old }
+    ensures { HasWords (bus_after_all (map access_of (byte_stores first (places_from place 4)
+        ++ byte_stores second (places_from (after_bytes place 4) 4))) (bus_of memory.old)) memory.old
+        memory.new }
 {
     put_word(memory, place, first);
     put_word(memory, place.wrapping_add(4), second);

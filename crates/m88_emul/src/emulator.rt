@@ -1,6 +1,6 @@
 //! One instruction that software does.
 
-ghost use Rattle.std.specs.Prelude.{ℕ, ◌≡◌, ◌&&◌, Some, None, true, is_some, not, map, IfOk, IfSome, OnErr, OnOk};
+ghost use Rattle.std.specs.Prelude.{ℕ, ◌≡◌, Some, None, true, is_some, map, IfOk, IfSome, OnErr, OnOk};
 ghost use Rattle.m88_base.specs.Reg.{with_register};
 ghost use Rattle.m88_isa.specs.Bus.{bus_after_all};
 ghost use Rattle.m88_isa.specs.Memory.{access_of};
@@ -10,7 +10,7 @@ ghost use Rattle.m88_mem.specs.DataBus.{absent_of, bus_of, ready_of};
 ghost use Rattle.m88_emul.specs.Aid.{Aid, aid_of, with_all};
 ghost use Rattle.m88_emul.specs.Extended.{byte_seen};
 ghost use Rattle.m88_emul.specs.Emulating.{IsAided, IsOnlyPrepared};
-ghost use Rattle.m88_emul.specs.Inside.Places.{AreOpen};
+ghost use Rattle.m88_emul.specs.Inside.Places.{AreOpen, AreSupplied, HasWords};
 ghost use Rattle.m88_emul.specs.Inside.Tasks.{aid_by, stored_places, task_places};
 ghost use Rattle.m88_emul.specs.Timeline.{has_place_in};
 ghost use Rattle.m88_emul.specs.declared.emulator.Emulated.{Emulated as EmulatedValue};
@@ -105,11 +105,7 @@ fn prepare(task: &Task, memory: &mut Memory) -> Result<(), NoMemory>
 /// Supplies the pages whose bytes a task loads or stores.
 #[tactic(auto, unfolding(crate::specs::Timeline::has_place_in))]
 fn supply(task: &Task, memory: &mut Memory)
-    ensures absent { absent_of memory.new
-        ≡ (λ page. absent_of memory.old page && not (has_place_in (task_places task.now) page)) }
-    ensures image { memory.new.image ≡ memory.old.image }
-    ensures bus { bus_of memory.new ≡ bus_of memory.old }
-    ensures ready { ready_of memory.new ≡ ready_of memory.old }
+    ensures { AreSupplied (task_places task.now) memory.old memory.new }
 {
     match *task {
         Task::Divide { .. } => {}
@@ -131,12 +127,9 @@ fn carry_out(task: &Task, regs: &mut [u32; 32], memory: &mut Memory)
     requires { AreOpen (ready_of memory.old) (absent_of memory.old) (stored_places task.now) }
     ensures regs { regs.new
         ≡ with_all (aid_by task.now (byte_seen (bus_of memory.old))).writes regs.old }
-    ensures bus { bus_of memory.new ≡ bus_after_all
+    ensures words { HasWords (bus_after_all
         (map access_of (aid_by task.now (byte_seen (bus_of memory.old))).stores)
-        (bus_of memory.old) }
-    ensures image { memory.new.image ≡ memory.old.image }
-    ensures absent { absent_of memory.new ≡ absent_of memory.old }
-    ensures ready { ready_of memory.new ≡ ready_of memory.old }
+        (bus_of memory.old)) memory.old memory.new }
 {
     match *task {
         Task::Divide { d, quotient } => set(regs, d, quotient),

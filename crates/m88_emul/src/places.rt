@@ -1,9 +1,10 @@
 //! The pages of bytes that software touches, at most eight from a place on, so that they lie in at most two pages.
 
-ghost use Rattle.std.specs.Prelude.{ℕ, ◌≡◌, ◌<◌, ◌≤◌, ◌&&◌, not, true, OnOk};
-ghost use Rattle.m88_mem.specs.DataBus.{absent_of, bus_of, ready_of};
+ghost use Rattle.std.specs.Prelude.{ℕ, ◌≡◌, ◌≤◌, true, OnOk};
+ghost use Rattle.m88_mem.specs.DataBus.{ready_of};
 ghost use Rattle.m88_emul.specs.Aid.{places_from};
 ghost use Rattle.m88_emul.specs.Emulating.{IsOnlyPrepared};
+ghost use Rattle.m88_emul.specs.Inside.Places.{AreSupplied};
 ghost use Rattle.m88_emul.specs.Timeline.{has_place_in};
 
 use m88_base::NoMemory;
@@ -24,11 +25,7 @@ pub(crate) fn prepare(memory: &mut Memory, place: u32, count: u32) -> Result<(),
 /// Supplies the pages of so many bytes.
 pub(crate) fn supply(memory: &mut Memory, place: u32, count: u32)
     requires { (1 ≤ count) × (count ≤ 8) }
-    ensures absent { absent_of memory.new
-        ≡ (λ page. absent_of memory.old page && not (has_place_in (places_from place count) page)) }
-    ensures image { memory.new.image ≡ memory.old.image }
-    ensures bus { bus_of memory.new ≡ bus_of memory.old }
-    ensures ready { ready_of memory.new ≡ ready_of memory.old }
+    ensures { AreSupplied (places_from place count) memory.old memory.new }
 {
     memory.supply(place / PAGE_BYTES);
     memory.supply(place.wrapping_add(count - 1) / PAGE_BYTES);

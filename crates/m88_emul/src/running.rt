@@ -1,25 +1,18 @@
 //! A whole run on boards, each begun where the one before it ended at an instruction that software does.
 
-ghost use Rattle.std.specs.Prelude.{ℕ, Bool, List, ◌≡◌, ◌<◌, ◌≤◌, ◌+◌, ◌-◌, ◌*◌, ◌^◌, ◌++◌, ◌∷◌, [], Some, None, true, false, is_some, length, IfOk, IfSome, OnOk};
+ghost use Rattle.std.specs.Prelude.{ℕ, Bool, ◌≡◌, ◌<◌, ◌≤◌, ◌+◌, ◌-◌, ◌*◌, ◌^◌, ◌++◌, ◌∷◌, [], Some, true, false, is_some, length, IfOk, OnOk};
 ghost use Rattle.m88_ctrl.specs.ControlRegisters.{mxm_of};
-ghost use Rattle.m88_event.specs.Bound.{weight};
-ghost use Rattle.m88_event.specs.Letters.{letter_at};
-ghost use Rattle.m88_event.specs.Local.{is_over_by, move};
+ghost use Rattle.m88_event.specs.Local.{is_over_by};
 ghost use Rattle.m88_event.specs.declared.happened.End.TheVariants.{Vector};
-ghost use Rattle.m88_event.specs.declared.letter.Letter.{Letter as LetterValue};
 ghost use Rattle.m88_isa.specs.ImageProgram.{IsProgramOf};
 ghost use Rattle.m88_isa.specs.Machine.{Program};
 ghost use Rattle.m88_isa.specs.Word.{IsWord};
 ghost use Rattle.m88_isa.specs.declared.instr.Instr.{Instr as InstrValue};
-ghost use Rattle.m88_mem.specs.DataBus.{bus_of};
 ghost use Rattle.m88_mem.specs.Marks.{NamesPages, absent_in};
 ghost use Rattle.m88_board.specs.Board.{local_of};
-ghost use Rattle.m88_board.specs.Kept.{IsKept, most_events, most_retired};
-ghost use Rattle.m88_board.specs.Moves.{IsSameRun};
-ghost use Rattle.m88_emul.specs.Aid.{Aid, aid_of};
-ghost use Rattle.m88_emul.specs.Extended.{byte_seen};
-ghost use Rattle.m88_emul.specs.Inside.Boards.{one_more, vector_in};
-ghost use Rattle.m88_emul.specs.Inside.Settled.{completed_by, newly_emulated, settled};
+ghost use Rattle.m88_board.specs.Kept.{most_events, most_retired};
+ghost use Rattle.m88_emul.specs.Aid.{aid_of};
+ghost use Rattle.m88_emul.specs.Inside.Boards.{GoesOnBehind, HasAdvanced, IsSettledBySoftware, one_more, vector_in};
 ghost use Rattle.m88_emul.specs.Timeline.{IsExtendedOutcome};
 ghost use Rattle.m88_emul.specs.declared.emulation.EmulOutcome.{EmulOutcome as EmulOutcomeValue};
 
@@ -78,17 +71,7 @@ fn advance(board: &mut Board, limit: u32, letter: Letter) -> Result<Option<u16>,
     requires limit { board.old.limit ≡ limit }
     requires going { is_over_by limit (local_of board.old) ≡ false }
     requires few { board.old.events < most_events }
-    ensures moved { OnOk result ((p : Program) → IsProgramOf board.old.memory.image p
-        → local_of board.new ≡ move p limit letter (local_of board.old)) }
-    ensures ended { IfOk result (λ v. IfSome v (λ vector.
-        (at : ℕ) × (board.new.ended ≡ Some (Vector vector at)))) }
-    ensures alone { IfOk result (λ v. v ≡ None
-        → (p : Program) → IsProgramOf board.old.memory.image p
-        → (settled p (local_of board.new) ≡ local_of board.new)
-        × (newly_emulated p (local_of board.new) ≡ [])) }
-    ensures counted { OnOk result (board.new.events ≡ board.old.events + 1) }
-    ensures same { OnOk result (IsSameRun board.old board.new) }
-    ensures kept { OnOk result (IsKept board.old × IsKept board.new) }
+    ensures { IfOk result (λ vector. HasAdvanced limit letter board.old vector board.new) }
 {
     // What always holds of a board is told with its events.
     prove!(board.events() < 1 << 63);
@@ -117,14 +100,7 @@ fn settle(
     requires limit { board.limit ≡ limit }
     requires ended { (at : ℕ) × (board.ended ≡ Some (Vector vector at)) }
     requires clear { mxm_of board.control ≡ false }
-    ensures settled { IfOk result (λ b. (p : Program) → IsProgramOf board.memory.image p
-        → local_of b ≡ settled p (local_of board)) }
-    ensures emulated { OnOk result ((p : Program) → IsProgramOf board.memory.image p
-        → emulated.new.items ≡ emulated.old.items ++ newly_emulated p (local_of board)) }
-    ensures limit { IfOk result (λ b. b.limit ≡ limit) }
-    ensures image { IfOk result (λ b. b.memory.image ≡ board.memory.image) }
-    ensures clear { IfOk result (λ b. mxm_of b.control ≡ false) }
-    ensures counted { IfOk result (λ b. b.events ≡ board.events) }
+    ensures { IfOk result (IsSettledBySoftware limit board emulated.old.items emulated.new.items) }
 {
     // What always holds of a board is told with its events.
     let event = board.events();
@@ -153,13 +129,7 @@ fn mend(alloc: Global, board: Board, limit: u32, vector: u16, word: u32) -> Resu
     requires clear { mxm_of board.control ≡ false }
     requires aided { (i : InstrValue) × IsWord i word
         × ((bytes : ℕ → ℕ) → is_some (aid_of i vector board.file.numbers bytes) ≡ true) }
-    ensures mended { IfOk result (λ b. (i : InstrValue) → IsWord i word → (aid : Aid)
-        → aid_of i vector board.file.numbers (byte_seen (bus_of board.memory)) ≡ Some aid
-        → local_of b ≡ completed_by aid (local_of board)) }
-    ensures limit { IfOk result (λ b. b.limit ≡ limit) }
-    ensures image { IfOk result (λ b. b.memory.image ≡ board.memory.image) }
-    ensures clear { IfOk result (λ b. mxm_of b.control ≡ false) }
-    ensures counted { IfOk result (λ b. b.events ≡ board.events) }
+    ensures { IfOk result (GoesOnBehind limit vector word board) }
 {
     let mut parts = board.into_parts();
     match emulate(alloc, vector, word, &mut parts.regs, &mut parts.memory)? {

@@ -1,10 +1,25 @@
 -- Boards in a run with software behind them.
-use Rattle.std.specs.Prelude.{ℕ, Option, Some, None, ◌+◌}
+use Rattle.std.specs.Prelude.{ℕ, List, [], Option, Some, None, IfSome, false, ◌≡◌, ◌+◌, ◌++◌}
+use Rattle.m88_board.specs.Board.{BoardView, local_of}
+use Rattle.m88_board.specs.Kept.{IsKept}
+use Rattle.m88_board.specs.Moves.{IsSameRun}
+use Rattle.m88_ctrl.specs.ControlRegisters.{mxm_of}
+use Rattle.m88_event.specs.Local.{move}
 use Rattle.m88_event.specs.declared.happened.End.TheVariants.{Vector}
 use Rattle.m88_event.specs.declared.happened.Happened.{Happened}
 use Rattle.m88_event.specs.declared.happened.Happened.TheVariants as happened
+use Rattle.m88_event.specs.declared.letter.Letter.{Letter}
 use Rattle.m88_isa.specs.Address.{after_bytes}
+use Rattle.m88_isa.specs.ImageProgram.{IsProgramOf}
+use Rattle.m88_isa.specs.Machine.{Program}
+use Rattle.m88_isa.specs.Word.{IsWord}
+use Rattle.m88_isa.specs.declared.instr.Instr.{Instr}
+use Rattle.m88_mem.specs.DataBus.{bus_of}
 use Rattle.m88_board.specs.declared.parts.Parts.{Parts}
+use Rattle.m88_emul.specs.Aid.{Aid, aid_of}
+use Rattle.m88_emul.specs.Extended.{byte_seen}
+use Rattle.m88_emul.specs.Inside.Settled.{completed_by, newly_emulated, settled}
+use Rattle.m88_emul.specs.declared.emulation.Emulation.{Emulation}
 
 -- the vector by which an event ended the program, if it did
 abbrev pub vector_in : Happened → Option ℕ
@@ -19,3 +34,36 @@ one_more parts = record parts {
   next = after_bytes parts.next 4;
   retired = parts.retired + 1;
 }
+
+-- a board made the event of a letter, in which its program ended by a vector, if one is told; where none is, software
+-- has nothing to do
+pub record HasAdvanced (limit : ℕ) (letter : Letter) (old : BoardView) (vector : Option ℕ) (new : BoardView)
+    : Type 0 where
+  pub moved : (p : Program) → IsProgramOf old.memory.image p → local_of new ≡ move p limit letter (local_of old)
+  pub ended : IfSome vector (λ v. (at : ℕ) × (new.ended ≡ Some (Vector v at)))
+  pub alone : vector ≡ None → (p : Program) → IsProgramOf old.memory.image p
+      → (settled p (local_of new) ≡ local_of new) × (newly_emulated p (local_of new) ≡ [])
+  pub counted : new.events ≡ old.events + 1
+  pub same : IsSameRun old new
+  pub kept : IsKept old × IsKept new
+
+-- the limit is that, MXM is clear, and image and count of events stay
+pub record KeepsRun (limit : ℕ) (old new : BoardView) : Type 0 where
+  pub limit_is : new.limit ≡ limit
+  pub image : new.memory.image ≡ old.memory.image
+  pub clear : mxm_of new.control ≡ false
+  pub counted : new.events ≡ old.events
+
+-- a board that ended by a vector, once software did the instruction there, if it does, which is noted
+pub record IsSettledBySoftware (limit : ℕ) (old : BoardView) (before after : List Emulation) (new : BoardView)
+    : Type 0 where
+  pub run : KeepsRun limit old new
+  pub settled_is : (p : Program) → IsProgramOf old.memory.image p → local_of new ≡ settled p (local_of old)
+  pub emulated : (p : Program) → IsProgramOf old.memory.image p → after ≡ before ++ newly_emulated p (local_of old)
+
+-- a board goes on behind the instruction of a word that raised a vector, which software did
+pub record GoesOnBehind (limit vector word : ℕ) (old new : BoardView) : Type 0 where
+  pub run : KeepsRun limit old new
+  pub mended : (i : Instr) → IsWord i word → (aid : Aid)
+      → aid_of i vector old.file.numbers (byte_seen (bus_of old.memory)) ≡ Some aid
+      → local_of new ≡ completed_by aid (local_of old)

@@ -17,9 +17,15 @@ put_word-requires-2 c =
     rw (c.put_word.ensures.ready, c.put_word.ensures.absent)
     (second_word_open (ready_of c.args.memory.now) (absent_of c.args.memory.now) c.args.place c.requires)
 
-pub returns-clause-bus : goal.returns-clause-bus
-returns-clause-bus c =
+pub returns : goal.returns
+returns c =
     let first = byte_stores c.args.first (places_from c.args.place 4) in
     let second = byte_stores c.args.second (places_from (after_bytes c.args.place 4) 4) in
-    c.put_word-2.ensures.bus ∙ ap (bus_after_all (map access_of second)) c.put_word.ensures.bus
-    ∙ sym (both_stored first second (bus_of c.args.memory.now))
+    record {
+      bus =
+          c.put_word-2.ensures.bus ∙ ap (bus_after_all (map access_of second)) c.put_word.ensures.bus
+          ∙ sym (both_stored first second (bus_of c.args.memory.now));
+      image = c.put_word-2.ensures.image ∙ c.put_word.ensures.image;
+      ready = c.put_word-2.ensures.ready ∙ c.put_word.ensures.ready;
+      absent = c.put_word-2.ensures.absent ∙ c.put_word.ensures.absent;
+    }

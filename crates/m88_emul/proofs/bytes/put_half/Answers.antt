@@ -16,11 +16,19 @@ pub put_byte-requires-2 : goal.put_byte-requires-2
 unfolding AreOpen places_from
 put_byte-requires-2 c = rw (c.put_byte.ensures.ready, c.put_byte.ensures.absent) c.requires.1.0
 
-pub returns-clause-bus : goal.returns-clause-bus
+pub returns : goal.returns
 unfolding bus_after_all byte_stores places_from
-returns-clause-bus c =
+returns c =
     let b : ℕ = after_bytes c.args.place 1 in
     let last : c.args.value ≡ c.args.value / 2 ^ 0 = omega arith in
-    c.put_byte-2.ensures.bus
-    ∙ ap (stored (access_of (store 1 c.args.value b))) c.put_byte.ensures.bus
-    ∙ ap (λ (v : ℕ). stored (access_of (store 1 v b)) (stored (access_of (store 1 (c.args.value / 2 ^ 8) c.args.place)) (bus_of c.args.memory.now))) last
+    let first = c.put_byte.ensures in
+    let second = c.put_byte-2.ensures in
+    record {
+      bus =
+          second.bus
+          ∙ ap (stored (access_of (store 1 c.args.value b))) first.bus
+          ∙ ap (λ (v : ℕ). stored (access_of (store 1 v b)) (stored (access_of (store 1 (c.args.value / 2 ^ 8) c.args.place)) (bus_of c.args.memory.now))) last;
+      image = second.image ∙ first.image;
+      ready = second.ready ∙ first.ready;
+      absent = second.absent ∙ first.absent;
+    }

@@ -26,20 +26,30 @@ put_byte-requires-4 c =
     rw (c.put_byte-3.ensures.ready, c.put_byte-3.ensures.absent, c.put_byte-2.ensures.ready, c.put_byte-2.ensures.absent, c.put_byte.ensures.ready, c.put_byte.ensures.absent)
     c.requires.1.1.1.0
 
-pub returns-clause-bus : goal.returns-clause-bus
+pub returns : goal.returns
 unfolding bus_after_all byte_stores places_from
-returns-clause-bus c =
+returns c =
     let v : ℕ = c.args.value in
     let a : ℕ = c.args.place in
     let b : ℕ = after_bytes a 1 in
     let d : ℕ = after_bytes b 1 in
     let e : ℕ = after_bytes d 1 in
     let last : v ≡ v / 2 ^ 0 = omega arith in
-    c.put_byte-4.ensures.bus
-    ∙ ap (stored (access_of (store 1 v e)))
-    (c.put_byte-3.ensures.bus
-    ∙ ap (stored (access_of (store 1 (v / 2 ^ 8) d)))
-    (c.put_byte-2.ensures.bus ∙ ap (stored (access_of (store 1 (v / 2 ^ 16) b))) c.put_byte.ensures.bus))
-    ∙ ap (λ (x : ℕ). stored (access_of (store 1 x e))
-    (stored (access_of (store 1 (v / 2 ^ 8) d))
-    (stored (access_of (store 1 (v / 2 ^ 16) b)) (stored (access_of (store 1 (v / 2 ^ 24) a)) (bus_of c.args.memory.now))))) last
+    let first = c.put_byte.ensures in
+    let second = c.put_byte-2.ensures in
+    let third = c.put_byte-3.ensures in
+    let fourth = c.put_byte-4.ensures in
+    record {
+      bus =
+          fourth.bus
+          ∙ ap (stored (access_of (store 1 v e)))
+          (third.bus
+          ∙ ap (stored (access_of (store 1 (v / 2 ^ 8) d)))
+          (second.bus ∙ ap (stored (access_of (store 1 (v / 2 ^ 16) b))) first.bus))
+          ∙ ap (λ (x : ℕ). stored (access_of (store 1 x e))
+          (stored (access_of (store 1 (v / 2 ^ 8) d))
+          (stored (access_of (store 1 (v / 2 ^ 16) b)) (stored (access_of (store 1 (v / 2 ^ 24) a)) (bus_of c.args.memory.now))))) last;
+      image = fourth.image ∙ third.image ∙ second.image ∙ first.image;
+      ready = fourth.ready ∙ third.ready ∙ second.ready ∙ first.ready;
+      absent = fourth.absent ∙ third.absent ∙ second.absent ∙ first.absent;
+    }

@@ -33,16 +33,16 @@ returns-clause-done c = λ done.
               c.carry_out.ensures.regs
               ∙ ap (λ (b : ℕ → ℕ). with_all (aid_by c.in-Some.task (byte_seen b)).writes c.args.regs.now) bus;
           bus =
-              c.carry_out.ensures.bus
+              c.carry_out.ensures.words.bus
               ∙ ap (λ (b : ℕ → ℕ). bus_after_all (map access_of (aid_by c.in-Some.task (byte_seen b)).stores) b) bus;
           absent =
-              c.carry_out.ensures.absent
+              c.carry_out.ensures.words.absent
               ∙ c.supply.ensures.absent
               ∙ ap {B = ℕ → Bool} (λ (f : ℕ → Bool) (page : ℕ). f page && not (has_place_in (task_places c.in-Some.task) page)) only.absent
               ∙ ap {B = ℕ → Bool} (λ (places : List ℕ) (page : ℕ). absent_of c.args.memory.now page && not (has_place_in places page))
               (same_places c.in-Some.task memory);
-          image = c.carry_out.ensures.image ∙ c.supply.ensures.image ∙ only.image;
-          ready = λ page was. rw (c.carry_out.ensures.ready, c.supply.ensures.ready) (only.ready page was);
+          image = c.carry_out.ensures.words.image ∙ c.supply.ensures.image ∙ only.image;
+          ready = λ page was. rw (c.carry_out.ensures.words.ready, c.supply.ensures.ready) (only.ready page was);
         },
       ),
     )

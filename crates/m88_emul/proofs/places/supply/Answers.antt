@@ -7,10 +7,18 @@ use Rattle.m88_mem.specs.Marks.{with_page}
 use Rattle.m88_emul.proofs.PageEnds.{both_supplied}
 use Rattle.m88_emul.proofs.places.supply.Goals as goal
 
-pub returns-clause-absent : goal.returns-clause-absent
-returns-clause-absent c =
+pub returns : goal.returns
+returns c =
     let some = c.requires.0 in
     let few = c.requires.1 in
-    c.supply-2.ensures.absent
-    ∙ ap (with_page (page_number (after_bytes c.args.place (c.args.count - 1))) false) c.supply.ensures.absent
-    ∙ both_supplied c.args.place c.args.count (absent_of c.args.memory.now) (omega arith) some few
+    let first = c.supply.ensures in
+    let second = c.supply-2.ensures in
+    record {
+      absent =
+          second.absent
+          ∙ ap (with_page (page_number (after_bytes c.args.place (c.args.count - 1))) false) first.absent
+          ∙ both_supplied c.args.place c.args.count (absent_of c.args.memory.now) (omega arith) some few;
+      image = second.image ∙ first.image;
+      bus = second.bus ∙ first.bus;
+      ready = second.ready ∙ first.ready;
+    }

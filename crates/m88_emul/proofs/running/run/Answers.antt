@@ -62,7 +62,7 @@ loop-alloc-smaller-in-Some c =
     subst (λ (image : ProgramImage). IsProgramOf image p) (sym event.same.image) of in
     lighter c.args.schedule.now c.args.limit c.loop-alloc.taken c.letter_at.result old mid (local_of c.in_ok-board-2.board)
     event.kept.0 event.kept.1 inv.limit (event.same.limit ∙ inv.limit) goes c.letter_at.ensures event.moved
-    (λ p of. done.settled p (after p of) ∙ ap (settled p) (event.moved p of))
+    (λ p of. done.settled_is p (after p of) ∙ ap (settled p) (event.moved p of))
 
 -- behind an event, with what software makes of it
 pub loop-alloc-preserved : goal.loop-alloc-preserved
@@ -113,11 +113,11 @@ loop-alloc-preserved-in-Some c =
     let room = inv.room in
     let before = inv.counted in
     let counted = event.counted in
-    let kept = done.counted in
+    let kept = done.run.counted in
     record {
-      limit = done.limit;
-      clear = done.clear;
-      image = done.image ∙ event.same.image ∙ inv.image;
+      limit = done.run.limit_is;
+      clear = done.run.clear;
+      image = done.run.image ∙ event.same.image ∙ inv.image;
       counted = omega (arith, before, counted, kept);
       room = omega (arith, room, less);
       there = λ p of clear.
@@ -128,7 +128,7 @@ loop-alloc-preserved-in-Some c =
           (local_of c.in_ok-board-2.board) c.settle.new.emulated.items) (sym (add-one c.loop-alloc.taken))
           (there_next p (absent_in c.args.absent.now) c.args.limit c.args.schedule.now c.loop-alloc.taken (local_of old) _ _ _
           (program_of_image c.args.image.now p c.new.ensures.is_image of) (inv.there p of clear) goes
-          (done.settled p (after p here) ∙ ap (settled p) moved)
+          (done.settled_is p (after p here) ∙ ap (settled p) moved)
           (done.emulated p (after p here) ∙ ap (λ (l : Local). xs ++ newly_emulated p l) moved));
     }
 
