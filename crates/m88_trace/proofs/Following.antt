@@ -233,7 +233,7 @@ load_cells a regs bus datum read is =
     rw read (ap (λ (d : ℕ). record { regs = with_register a.reg d regs; bus = bus }) gets)
 
 -- what is said of an answer that is there
-pub ok_of : {T E A B : Type 0} (r : Result T E) (P Q : T → Type 0) → IfOk r P → OnOk r A → OnOk r B →
-    ((x : T) → P x → A → B → Q x) → IfOk r Q
-ok_of (Ok x) P Q p a b h = h x p a b
-ok_of (Err e) P Q p a b h = tt
+pub ok_both_of : {T E A : Type 0} (r : Result T E) (P Q : T → Type 0) → IfOk r P → OnOk r A →
+    ((x : T) → P x → A → Q x) → IfOk r Q
+ok_both_of (Ok x) P Q p a h = h x p a
+ok_both_of (Err e) P Q p a h = tt

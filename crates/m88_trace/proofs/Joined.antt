@@ -17,7 +17,7 @@ listed_two a h g = by_test (a.count == 0)
     (λ f. by_test (a.count == 1) (λ t. absurd (g (eqb-true a.count 1 t))) (λ e. rw (f, e) refl))
 
 -- none
-listed_none : (a : Accesses) → a.count ≡ 0 → listed a ≡ []
+pub listed_none : (a : Accesses) → a.count ≡ 0 → listed a ≡ []
 listed_none a e = rw e refl
 
 pub line_alone : (a : Accesses) (bus : ℕ → ℕ) (head written : List ℕ) → a.count ≡ 0 →

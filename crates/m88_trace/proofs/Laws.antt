@@ -4,7 +4,6 @@ use Rattle.std.proofs.Common.{sym, ◌∙◌}
 use Rattle.m88_base.specs.OneVerdict.{HasOneVerdict}
 use Rattle.m88_event.proofs.Laws.{past_after}
 use Rattle.m88_event.specs.Bound.{one_if}
-use Rattle.m88_event.specs.Past.{HasPast}
 use Rattle.m88_event.specs.Run.{moment_after}
 use Rattle.m88_event.specs.declared.letter.Letter.{Letter}
 use Rattle.m88_isa.specs.Machine.{Program}

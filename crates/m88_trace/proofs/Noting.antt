@@ -36,7 +36,7 @@ use Rattle.m88_trace.proofs.Nexts.{choice_shown, not_over_bubble, not_over_bubbl
 use Rattle.m88_trace.proofs.Verdicts.{text_more}
 use Rattle.m88_trace.specs.Inside.Doings.{doing_line, doing_of}
 use Rattle.m88_trace.specs.Inside.Running.{IsNext, IsTraced}
-use Rattle.m88_trace.specs.Inside.Sheets.{AreData, AreDue, waiting_of, written_by}
+use Rattle.m88_trace.specs.Inside.Sheets.{AreData, AreDue, HasAdded, HasFilled, HasFilledAll, three_of, waiting_of, written_by}
 use Rattle.m88_trace.specs.Texts.{text_of}
 use Rattle.m88_trace.specs.Trace.{line_at, trace_line, word_at}
 use Rattle.m88_trace.specs.declared.doing.Doing.TheVariants.{Goes, Outputs}
@@ -366,17 +366,15 @@ pub issued_note : (p : Program) (named : ℕ → Bool) (limit : ℕ) (m : Moment
     IsNext p m next →
     IsTold p named limit m happened.Issued told →
     happened.Issued ≡ said_at p named limit Issue m →
-    ((bus : ℕ → ℕ) (effect : Effect) → told.plan ≡ Go effect
-    → written_by new bus ≡ written_by old bus ++ doing_line next.number next.at told.word (Goes effect)
-    (bus_after_all (waiting_of old) bus)) →
-    ((effect : Effect) → told.plan ≡ Go effect → waiting_of new ≡ waiting_of old ++ listed effect.accesses) →
+    ((effect : Effect) → told.plan ≡ Go effect
+    → HasAdded (doing_line next.number next.at told.word (Goes effect)) (listed effect.accesses) old new) →
     IsTraced p m old →
     IsTraced p (after_letter p named limit Issue m) new
 unfolding said_at
-issued_note p named limit m old new next told is past made seen tells says writes waits traced =
+issued_note p named limit m old new next told is past made seen tells says adds traced =
     let found = said_issued (choice_at p named limit Issue m) (record_at p named limit m) says in
     let change = found.0 in
-    let goes = tells.plan change found.1 in
+    let added = adds (recorded_change change) (tells.plan change found.1) in
     let straight = not_over_bubble p named limit m change found.1 in
     let fit : Fits p m (issues change) = subst (λ (c : Choice). Fits p m c) found.1 (fits p named limit Issue m) in
     let unit : TurnFits (changes change) = subst (λ (t : Turn). TurnFits t) fit.0 (doing_fits p m.retired is) in
@@ -384,8 +382,8 @@ issued_note p named limit m old new next told is past made seen tells says write
     past made fit.0 fit.1
     (told_by p named limit Issue m (issues change) found.1) seen.number (seen.place straight)
     (word_told p (state p m.retired).pc told.word (tells.word tt))
-    (λ bus. writes bus (recorded_change change) goes)
-    (waits (recorded_change change) goes ∙ ap (λ (xs : List Access). waiting_of old ++ xs)
+    added.text
+    (added.waiting ∙ ap (λ (xs : List Access). waiting_of old ++ xs)
     (listed_recorded change.touches unit.short)) traced
 
 -- a byte was put out
@@ -396,21 +394,18 @@ pub served_note : (p : Program) (named : ℕ → Bool) (limit : ℕ) (m : Moment
     IsNext p m next →
     IsTold p named limit m (happened.Served byte) told →
     happened.Served byte ≡ said_at p named limit Issue m →
-    ((bus : ℕ → ℕ) → written_by new bus ≡ written_by old bus ++ doing_line next.number next.at told.word (Outputs byte)
-    bus) →
-    waiting_of new ≡ waiting_of old →
+    HasAdded (doing_line next.number next.at told.word (Outputs byte)) [] old new →
     IsTraced p m old →
     IsTraced p (after_letter p named limit Issue m) new
 unfolding said_at
-served_note p named limit m old new next told byte is past made seen tells says writes waits traced =
+served_note p named limit m old new next told byte is past made seen tells says added traced =
     let found = said_served (choice_at p named limit Issue m) (record_at p named limit m) byte says in
     let straight = not_over_bubble_served p named limit m byte found in
     let fit : Fits p m (serves byte) = subst (λ (c : Choice). Fits p m c) found (fits p named limit Issue m) in
     traced_step p limit m (after_letter p named limit Issue m) old new next.number next.at told.word (outputs byte) is
     past made fit.0 fit.1
     (told_by p named limit Issue m (serves byte) found) seen.number (seen.place straight)
-    (word_told p (state p m.retired).pc told.word (tells.word tt)) writes
-    (waits ∙ sym (append-nil (waiting_of old))) traced
+    (word_told p (state p m.retired).pc told.word (tells.word tt)) added.text added.waiting traced
 
 -- the program ended, which it does only where it hasn't yet
 ended_by : (idle bubble : Bool) (why : Option Hold) (turn : Turn) (stop : Stop) →
@@ -435,12 +430,11 @@ lives_ended p named limit m stop e =
 pub ended_note : (p : Program) (named : ℕ → Bool) (limit : ℕ) (m : Moment) (old new : Sheet) (end : End) → IsProgram p →
     HasPast p limit m →
     happened.Ended end ≡ said_at p named limit Issue m →
-    ((bus : ℕ → ℕ) → written_by new bus ≡ written_by old bus ++ run_end_line end) →
-    waiting_of new ≡ waiting_of old →
+    HasAdded (λ _. run_end_line end) [] old new →
     IsTraced p m old →
     IsTraced p (after_letter p named limit Issue m) new
 unfolding said_at
-ended_note p named limit m old new end is past says writes waits traced =
+ended_note p named limit m old new end is past says added traced =
     let found = said_ended (choice_at p named limit Issue m) (record_at p named limit m) end says in
     let stop = found.0 in
     let choice : choice_at p named limit Issue m ≡ finishes stop = found.1 in
@@ -448,7 +442,8 @@ ended_note p named limit m old new end is past says writes waits traced =
     traced_end p limit m (after_letter p named limit Issue m) old new stop end is past fit
     (lives_ended p named limit m stop choice)
     (told_by p named limit Issue m (finishes stop) choice) found.2
-    (λ bus. writes bus ∙ ap (λ (e : End). written_by old bus ++ run_end_line e) found.2) waits traced
+    (λ bus. added.text bus ∙ ap (λ (e : End). written_by old bus ++ run_end_line e) found.2)
+    (added.waiting ∙ append-nil (waiting_of old)) traced
 
 -- a fault comes only where the choice is that
 pub fault_chosen : (p : Program) (named : ℕ → Bool) (limit : ℕ) (m : Moment) (was : Record) →
@@ -463,38 +458,34 @@ pub answered_note : (p : Program) (named : ℕ → Bool) (limit : ℕ) (m : Mome
     (values : List ℕ) →
     happened.Answered ≡ said_at p named limit Answer m →
     AreData (datum ∷ values) (pending_at p m.retired m.done) (bus_at p m.retired m.done) →
-    ((bus : ℕ → ℕ) (others : List ℕ) → AreData (datum ∷ others) (waiting_of old) bus
-    → written_by new (bus_after_all (take 1 (waiting_of old)) bus) ≡ written_by old bus) →
-    waiting_of new ≡ drop 1 (waiting_of old) →
+    HasFilled datum old new →
     IsTraced p m old →
     IsTraced p (after_letter p named limit Answer m) new
 unfolding said_at
-answered_note p named limit m old new datum values says are writes waits traced =
+answered_note p named limit m old new datum values says are filled traced =
     let choice = said_answered (choice_at p named limit Answer m) (record_at p named limit m) says in
     traced_answer p m (after_letter p named limit Answer m) old new (told_by p named limit Answer m replies choice)
-    (writes (bus_at p m.retired m.done) values
+    (filled.text (bus_at p m.retired m.done) values
     (subst (λ (xs : List Access). AreData (datum ∷ values) xs (bus_at p m.retired m.done)) (sym traced.waiting) are))
-    waits traced
+    filled.waiting traced
 
 -- a data fault finished all
 pub faulted_note : (p : Program) (named : ℕ → Bool) (limit : ℕ) (m : Moment) (old new : Sheet) (was : Record)
-    (values : List ℕ) →
+    (due : Data) →
     HasPast p limit m →
     happened.Faulted was ≡ said_at p named limit Answer m →
-    AreData values (pending_at p m.retired m.done) (bus_at p m.retired m.done) →
-    ((bus after : ℕ → ℕ) → AreData values (waiting_of old) bus → length (waiting_of old) ≤ 3
-    → written_by new after ≡ written_by old bus) →
-    (length (waiting_of old) ≤ 3 → waiting_of new ≡ []) →
+    AreData (three_of due) (pending_at p m.retired m.done) (bus_at p m.retired m.done) →
+    HasFilledAll due old new →
     IsTraced p m old →
     IsTraced p (after_letter p named limit Answer m) new
 unfolding said_at
-faulted_note p named limit m old new was values past says are writes waits traced =
+faulted_note p named limit m old new was due past says are filled traced =
     let choice = said_faulted (choice_at p named limit Answer m) (record_at p named limit m) was says in
     let few = few_wait p limit m old past traced in
     traced_fault p m (after_letter p named limit Answer m) old new (told_by p named limit Answer m faults choice)
-    (λ after. writes (bus_at p m.retired m.done) after
-    (subst (λ (xs : List Access). AreData values xs (bus_at p m.retired m.done)) (sym traced.waiting) are) few)
-    (waits few) traced
+    (λ after. filled.text (bus_at p m.retired m.done) after
+    (subst (λ (xs : List Access). AreData (three_of due) xs (bus_at p m.retired m.done)) (sym traced.waiting) are) few)
+    (filled.waiting few) traced
 
 -- every page was made absent
 evicted_tells : (p : Program) (named : ℕ → Bool) (limit : ℕ) (m : Moment) → told_of (after_letter p named limit Evict m)

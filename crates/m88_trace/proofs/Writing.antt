@@ -14,8 +14,9 @@ use Rattle.m88_isa.specs.Bus.{bus_after, bus_after_all, stored, with_word}
 use Rattle.m88_isa.specs.Lanes.{merged}
 use Rattle.m88_isa.specs.Memory.{IsWordAccess}
 use Rattle.m88_isa.specs.declared.planned.Access.{Access}
-use Rattle.m88_trace.specs.Inside.Sheets.{AreData, AreWords, HaveRoom, accesses_of, text_by, waiting_of, with_eight, written_by}
+use Rattle.m88_trace.specs.Inside.Sheets.{AreData, AreWords, HasFilled, HasFilledAll, HaveRoom, accesses_of, text_by, waiting_of, with_eight, written_by}
 use Rattle.m88_trace.specs.Lines.{datum_by}
+use Rattle.m88_trace.specs.declared.sheet.Data.{Data}
 use Rattle.m88_trace.specs.declared.sheet.Sheet.{Sheet}
 use Rattle.m88_trace.specs.declared.waiting.Waiting.{Waiting}
 
@@ -355,38 +356,32 @@ none_left (a ∷ b ∷ []) few = refl
 none_left (a ∷ b ∷ c ∷ []) few = refl
 none_left (a ∷ b ∷ c ∷ d ∷ rest) few = absurd (omega arith)
 
--- one datum is written
-abbrev pub Fills : ℕ → Sheet → Sheet → Type 0
-Fills datum old new =
-    (bus : ℕ → ℕ) (values : List ℕ) → AreData (datum ∷ values) (waiting_of old) bus
-    → written_by new (bus_after_all (take 1 (waiting_of old)) bus) ≡ written_by old bus
-
-pub three_left : (s t u v : Sheet) → waiting_of t ≡ drop 1 (waiting_of s) → waiting_of u ≡ drop 1 (waiting_of t) →
-    waiting_of v ≡ drop 1 (waiting_of u) →
-    length (waiting_of s) ≤ 3 →
-    waiting_of v ≡ []
-three_left s t u v e f g few =
-    g ∙ ap (λ (xs : List Access). drop 1 xs) (f ∙ ap (λ (xs : List Access). drop 1 xs) e) ∙ none_left (waiting_of s) few
-
-pub three_filled : (a b c : ℕ) (s t u v : Sheet) (bus after : ℕ → ℕ) → Fills a s t → Fills b t u → Fills c u v →
-    waiting_of t ≡ drop 1 (waiting_of s) →
-    waiting_of u ≡ drop 1 (waiting_of t) →
-    waiting_of v ≡ drop 1 (waiting_of u) →
-    AreData (a ∷ b ∷ c ∷ []) (waiting_of s) bus →
-    length (waiting_of s) ≤ 3 →
-    written_by v after ≡ written_by s bus
-three_filled a b c s t u v bus after x y z e f g are few =
-    let second : ℕ → ℕ = bus_after_all (take 1 (waiting_of s)) bus in
-    let left : AreData (b ∷ c ∷ []) (waiting_of t) second =
-    subst (λ (xs : List Access). AreData (b ∷ c ∷ []) xs second) (sym e)
-    (data_left a (b ∷ c ∷ []) (waiting_of s) bus are) in
-    let third : ℕ → ℕ = bus_after_all (take 1 (waiting_of t)) second in
-    let last : AreData (c ∷ []) (waiting_of u) third =
-    subst (λ (xs : List Access). AreData (c ∷ []) xs third) (sym f) (data_left b (c ∷ []) (waiting_of t) second left) in
-    whatever_words v (bus_after_all (take 1 (waiting_of u)) third) after (three_left s t u v e f g few)
-    ∙ z third [] last
-    ∙ y second (c ∷ []) left
-    ∙ x bus (b ∷ c ∷ []) are
+-- one datum after the other is written
+pub three_filled : (due : Data) (s t u v : Sheet) → HasFilled due.oldest s t → HasFilled due.second t u →
+    HasFilled due.third u v → HasFilledAll due s v
+three_filled due s t u v x y z =
+    let left : length (waiting_of s) ≤ 3 → waiting_of v ≡ [] =
+    λ few.
+    z.waiting
+    ∙ ap (λ (xs : List Access). drop 1 xs) (y.waiting ∙ ap (λ (xs : List Access). drop 1 xs) x.waiting)
+    ∙ none_left (waiting_of s) few in
+    record {
+      text = λ bus after are few.
+          let second : ℕ → ℕ = bus_after_all (take 1 (waiting_of s)) bus in
+          let rest : AreData (due.second ∷ due.third ∷ []) (waiting_of t) second =
+          subst (λ (xs : List Access). AreData (due.second ∷ due.third ∷ []) xs second) (sym x.waiting)
+          (data_left due.oldest (due.second ∷ due.third ∷ []) (waiting_of s) bus are) in
+          let third : ℕ → ℕ = bus_after_all (take 1 (waiting_of t)) second in
+          let last : AreData (due.third ∷ []) (waiting_of u) third =
+          subst (λ (xs : List Access). AreData (due.third ∷ []) xs third) (sym y.waiting)
+          (data_left due.second (due.third ∷ []) (waiting_of t) second rest) in
+          whatever_words v (bus_after_all (take 1 (waiting_of u)) third) after (left few)
+          ∙ z.text third [] last
+          ∙ y.text second (due.third ∷ []) rest
+          ∙ x.text bus (due.second ∷ due.third ∷ []) are;
+      waiting = left;
+      made = z.made;
+    }
 
 -- what is said of answers that are there
 pub ok_on : {T E A B : Type 0} (r : Result T E) → OnOk r A → (A → B) → OnOk r B
@@ -435,11 +430,6 @@ item_at ws shown count k w same below within e =
     let inside : k < length (take count ws) = subst (λ (xs : List Waiting). k < length (take count xs)) same below in
     first_at ws count k w (omega (arith, inside, length-take-le count ws within)) within
     (subst (λ (xs : List Waiting). w ≡ get_or (take count xs) k w) same e)
-
--- what is said of an answer at any rate
-pub ok_always : {T E A : Type 0} (r : Result T E) → A → OnOk r A
-ok_always (Ok x) a = a
-ok_always (Err e) a = tt
 
 -- what an append leaves where it went well
 pub ok_items : {T E : Type 0} (r : Result T E) (new more old : List ℕ) → new ≡ (if is_ok r then more else old) →

@@ -1,13 +1,13 @@
 //! What the next instruction does.
 
-ghost use Rattle.std.specs.Prelude.{◌≡◌, ◌%◌, false, Some, option_map};
+ghost use Rattle.std.specs.Prelude.{◌≡◌, false, Some, option_map};
 ghost use Rattle.std.specs.Int.{to_be_bytes, w32};
 ghost use Rattle.m88_base.specs.Image.{ProgramImage, byte_at};
 ghost use Rattle.m88_isa.specs.ImageProgram.{IsProgramOf};
 ghost use Rattle.m88_isa.specs.Instr.{IsValid};
 ghost use Rattle.m88_isa.specs.Effect.{meaning_of};
 ghost use Rattle.m88_isa.specs.Machine.{Program, by_vector, carried_out, four_bytes, stops, trapped, turn};
-ghost use Rattle.m88_trace.specs.Inside.Doings.{CanFollow, doing_of};
+ghost use Rattle.m88_trace.specs.Inside.Doings.{CanFollow, IsPlaced, doing_of};
 
 use m88_codec::{BadWord, decode};
 use m88_event::End;
@@ -37,8 +37,7 @@ pub struct Place {
 
 /// What the word at a place does with these registers, or what comes of it that there is none. MXM is clear.
 pub(crate) fn doing_at(word: Option<u32>, regs: &[u32; 32], place: Place) -> Doing
-    requires here { place.pc % 4 ≡ 0 }
-    requires behind { place.next % 4 ≡ 0 }
+    requires { IsPlaced place }
     ensures value { (image : ProgramImage) (p : Program) → IsProgramOf image p
         → option_map (λ w. to_be_bytes w32 w) word ≡ four_bytes (byte_at image) place.pc
         → result ≡ doing_of (turn p regs.now place.carry false place.pc place.next) }
@@ -56,8 +55,7 @@ pub(crate) fn doing_at(word: Option<u32>, regs: &[u32; 32], place: Place) -> Doi
 /// What an instruction does.
 fn carried_out(instr: &Instr, regs: &[u32; 32], place: Place) -> Doing
     requires instr { IsValid instr.now }
-    requires here { place.pc % 4 ≡ 0 }
-    requires behind { place.next % 4 ≡ 0 }
+    requires place { IsPlaced place }
     ensures value { result ≡ doing_of (carried_out
         (meaning_of instr.now regs.now place.carry false place.pc place.next) regs.now place.pc) }
     ensures follows { CanFollow result }

@@ -1,13 +1,12 @@
 //! A follower of a program's history: its registers and its memory, step by step, with all of memory there.
 
-ghost use Rattle.std.specs.Prelude.{◌≡◌, ◌++◌, false, true, IfOk, OnOk};
+ghost use Rattle.std.specs.Prelude.{◌≡◌, ◌++◌, false, IfOk, OnOk};
 ghost use Rattle.m88_base.specs.Reg.{with_register};
 ghost use Rattle.m88_isa.specs.Bus.{after_access, after_accesses, listed, stored};
-ghost use Rattle.m88_isa.specs.ImageProgram.{IsProgramOf};
-ghost use Rattle.m88_isa.specs.Machine.{IsProgram, Program, opening, state, with_written};
+ghost use Rattle.m88_isa.specs.Machine.{with_written};
 ghost use Rattle.m88_isa.specs.Memory.{AreWordAccesses, IsWordAccess};
 ghost use Rattle.m88_mem.specs.DataBus.{bus_of};
-ghost use Rattle.m88_trace.specs.Inside.Doings.{CanFollow, Follows, IsReady, KeepsPlace, after_doing, cells_of, doing_line, ends_by, seen_at, seen_of};
+ghost use Rattle.m88_trace.specs.Inside.Doings.{BeginsHistory, CanDo, CanMake, HasCells, HasDone, IsNextLine, IsReady, cells_of, ends_by};
 ghost use Rattle.m88_trace.specs.Lines.{access_text, accesses_text, datum_by};
 ghost use Rattle.m88_trace.specs.declared.doing.Doing.TheVariants as doings;
 
@@ -34,10 +33,7 @@ pub struct Follower {
 impl Follower {
     /// A follower at the opening state of the program of an image.
     pub(crate) fn new(alloc: Global, image: &Image) -> Result<Follower, NoMemory>
-        ensures ready { IfOk result IsReady }
-        ensures image { IfOk result (λ f. f.memory.image ≡ image.now) }
-        ensures seen { IfOk result (λ f. (p : Program) → IsProgramOf image.now p
-            → seen_of f ≡ seen_at (opening p)) }
+        ensures { IfOk result (BeginsHistory image.now) }
     {
         let memory = Memory::new(alloc, image, &Absent::None)?;
         let pc = image.start() / 4 * 4;
@@ -54,12 +50,7 @@ impl Follower {
     /// answer is whether the program ended. Where memory runs out, both are anything.
     pub(crate) fn next_line(&mut self, number: u32, line: &mut Vec<u8>) -> Result<bool, NoMemory>
         requires { IsReady self.old }
-        ensures ready { OnOk result (IsReady self.new) }
-        ensures image { OnOk result (self.new.memory.image ≡ self.old.memory.image) }
-        ensures follows { IfOk result (λ ended. (p : Program) → IsProgram p
-            → IsProgramOf self.old.memory.image p → p.mxm ≡ false
-            → seen_of self.old ≡ seen_at (state p number)
-            → Follows p number line.new.items ended self.new) }
+        ensures { IfOk result (λ ended. IsNextLine number line.new.items self.old ended self.new) }
     {
         line.clear();
         let word = self.memory.fetch(self.pc);
@@ -90,13 +81,9 @@ impl Follower {
         doing: &Doing,
         line: &mut Vec<u8>,
     ) -> Result<bool, NoMemory>
-        requires ready { IsReady self.old }
-        requires follows { CanFollow doing.now }
-        ensures ready { OnOk result (IsReady self.new) }
-        ensures image { OnOk result (self.new.memory.image ≡ self.old.memory.image) }
-        ensures line { OnOk result (line.new.items ≡ line.old.items
-            ++ doing_line number self.old.pc word doing.now (bus_of self.old.memory)) }
-        ensures seen { OnOk result (seen_of self.new ≡ after_doing doing.now (seen_of self.old)) }
+        requires { CanDo doing.now self.old }
+        ensures done { OnOk result (HasDone number word doing.now self.old self.new line.old.items
+            line.new.items) }
         ensures ended { IfOk result (λ ended. ended ≡ ends_by doing.now) }
     {
         match doing {
@@ -124,15 +111,9 @@ impl Follower {
         effect: &Effect,
         line: &mut Vec<u8>,
     ) -> Result<(), NoMemory>
-        requires ready { IsReady self.old }
-        requires follows { CanFollow (doings.Goes effect.now) }
-        ensures ready { OnOk result (IsReady self.new) }
-        ensures image { OnOk result (self.new.memory.image ≡ self.old.memory.image) }
-        ensures line { OnOk result (line.new.items ≡ line.old.items
-            ++ doing_line number self.old.pc word (doings.Goes effect.now)
-            (bus_of self.old.memory)) }
-        ensures seen { OnOk result (seen_of self.new
-            ≡ after_doing (doings.Goes effect.now) (seen_of self.old)) }
+        requires { CanDo (doings.Goes effect.now) self.old }
+        ensures { OnOk result (HasDone number word (doings.Goes effect.now) self.old self.new
+            line.old.items line.new.items) }
     {
         push_head(line, number, self.pc, word)?;
         push_written(line, effect.reg)?;
@@ -155,12 +136,8 @@ impl Follower {
         line: &mut Vec<u8>,
     ) -> Result<(), NoMemory>
         requires ready { IsReady self.old }
-        ensures ready { OnOk result (IsReady self.new) }
-        ensures image { OnOk result (self.new.memory.image ≡ self.old.memory.image) }
-        ensures line { OnOk result (line.new.items ≡ line.old.items
-            ++ doing_line number self.old.pc word (doings.Outputs byte) (bus_of self.old.memory)) }
-        ensures seen { OnOk result (seen_of self.new
-            ≡ after_doing (doings.Outputs byte) (seen_of self.old)) }
+        ensures { OnOk result (HasDone number word (doings.Outputs byte) self.old self.new
+            line.old.items line.new.items) }
     {
         push_head(line, number, self.pc, word)?;
         push_output(line, byte)?;
@@ -177,9 +154,8 @@ impl Follower {
         requires made { AreWordAccesses accesses.now.count accesses.now }
         ensures line { OnOk result (line.new.items ≡ line.old.items
             ++ accesses_text (listed accesses.now) (bus_of self.old.memory)) }
-        ensures cells { OnOk result (cells_of self.new
-            ≡ after_accesses (listed accesses.now) (cells_of self.old)) }
-        ensures place { OnOk result (KeepsPlace self.old self.new) }
+        ensures cells { OnOk result (HasCells
+            (after_accesses (listed accesses.now) (cells_of self.old)) self.old self.new) }
     {
         if accesses.count == 0 {
             return Ok(());
@@ -193,13 +169,11 @@ impl Follower {
 
     /// Makes an access, and appends its text.
     fn make(&mut self, access: &Access, line: &mut Vec<u8>) -> Result<(), NoMemory>
-        requires ready { IsReady self.old }
-        requires made { IsWordAccess access.now }
+        requires { CanMake access.now self.old }
         ensures line { OnOk result (line.new.items ≡ line.old.items
             ++ access_text access.now (bus_of self.old.memory)) }
-        ensures cells { OnOk result (cells_of self.new
-            ≡ after_access access.now (cells_of self.old)) }
-        ensures place { OnOk result (KeepsPlace self.old self.new) }
+        ensures cells { OnOk result (HasCells (after_access access.now (cells_of self.old)) self.old
+            self.new) }
     {
         push_access(line, access)?;
         let datum = self.access(access)?;
@@ -209,13 +183,11 @@ impl Follower {
 
     /// Makes an access, and answers its datum.
     fn access(&mut self, access: &Access) -> Result<u32, NoMemory>
-        requires ready { IsReady self.old }
-        requires made { IsWordAccess access.now }
+        requires { CanMake access.now self.old }
         ensures datum { IfOk result (λ datum. datum
             ≡ datum_by access.now (bus_of self.old.memory)) }
-        ensures cells { OnOk result (cells_of self.new
-            ≡ after_access access.now (cells_of self.old)) }
-        ensures place { OnOk result (KeepsPlace self.old self.new) }
+        ensures cells { OnOk result (HasCells (after_access access.now (cells_of self.old)) self.old
+            self.new) }
     {
         if access.write {
             self.store(access)?;
@@ -227,12 +199,11 @@ impl Follower {
     /// Stores.
     #[tactic(auto, unfolding(m88_isa::specs::Bus::stored))]
     fn store(&mut self, access: &Access) -> Result<(), NoMemory>
-        requires ready { IsReady self.old }
-        requires made { IsWordAccess access.now }
-        ensures bus { OnOk result (bus_of self.new.memory
-            ≡ stored access.now (bus_of self.old.memory)) }
-        ensures regs { self.new.regs ≡ self.old.regs }
-        ensures place { OnOk result (KeepsPlace self.old self.new) }
+        requires { CanMake access.now self.old }
+        ensures { OnOk result (HasCells (record {
+          regs = self.old.regs;
+          bus = stored access.now (bus_of self.old.memory);
+        }) self.old self.new) }
     {
         self.memory.prepare(access.addr)?;
         if self
@@ -250,8 +221,7 @@ impl Follower {
         requires made { IsWordAccess access.now }
         requires read { access.now.write ≡ false }
         ensures datum { result ≡ datum_by access.now (bus_of self.old.memory) }
-        ensures cells { cells_of self.new ≡ after_access access.now (cells_of self.old) }
-        ensures place { KeepsPlace self.old self.new }
+        ensures cells { HasCells (after_access access.now (cells_of self.old)) self.old self.new }
     {
         let datum = datum(access.en, access.signed, self.memory.word(access.addr));
         self.set(access.reg, datum);

@@ -1,17 +1,13 @@
 //! The trace of a run on a board.
 
-ghost use Rattle.std.specs.Prelude.{ℕ, Bool, ◌≡◌, ◌<◌, ◌≤◌, ◌+◌, false, IfOk, OnOk};
+ghost use Rattle.std.specs.Prelude.{ℕ, ◌≡◌, ◌≤◌, false, IfOk, OnOk};
 ghost use Rattle.m88_board.specs.Board.{local_of};
 ghost use Rattle.m88_board.specs.Kept.{most_retired};
-ghost use Rattle.m88_board.specs.Moves.{IsAt, IsSameRun};
-ghost use Rattle.m88_event.specs.Bound.{weight};
-ghost use Rattle.m88_event.specs.Letters.{letter_at};
 ghost use Rattle.m88_event.specs.Local.{is_over_by};
-ghost use Rattle.m88_event.specs.Timeline.{Moment, after_letter};
 ghost use Rattle.m88_isa.specs.ImageProgram.{IsProgramOf};
-ghost use Rattle.m88_isa.specs.Machine.{IsProgram, Program};
+ghost use Rattle.m88_isa.specs.Machine.{Program};
 ghost use Rattle.m88_mem.specs.Marks.{NamesPages, absent_in};
-ghost use Rattle.m88_trace.specs.Inside.Running.{IsTraced};
+ghost use Rattle.m88_trace.specs.Inside.Running.{HasTracedStep};
 ghost use Rattle.m88_trace.specs.Inside.Sheets.{AreMade};
 ghost use Rattle.m88_trace.specs.Texts.{IsText};
 ghost use Rattle.m88_trace.specs.Trace.{IsRunTrace, trace_line, trace_of};
@@ -58,24 +54,7 @@ pub fn trace_run(
 fn step(walk: &mut Walk, sheet: &mut Sheet) -> Result<(), NoMemory>
     requires going { is_over_by walk.old.board.now.limit (local_of walk.old.board.now) ≡ false }
     requires made { AreMade sheet.old }
-    ensures made { OnOk result (AreMade sheet.new) }
-    ensures at { OnOk result ((p : Program) (named : ℕ → Bool) (m : Moment)
-        → IsAt p named m walk.old.board.now
-        → IsAt p named (after_letter p named walk.old.board.now.limit
-        (letter_at walk.old.schedule.now walk.old.taken) m) walk.new.board.now) }
-    ensures traced { OnOk result ((p : Program) (named : ℕ → Bool) (m : Moment) → IsProgram p
-        → IsAt p named m walk.old.board.now → IsTraced p m sheet.old
-        → IsTraced p (after_letter p named walk.old.board.now.limit
-        (letter_at walk.old.schedule.now walk.old.taken) m) sheet.new) }
-    ensures taken { OnOk result (walk.new.taken ≡ walk.old.taken + 1) }
-    ensures lighter { OnOk result
-        (weight walk.new.schedule.now walk.new.board.now.limit walk.new.taken
-        (local_of walk.new.board.now)
-        < weight walk.old.schedule.now walk.old.board.now.limit walk.old.taken
-        (local_of walk.old.board.now)) }
-    ensures same { IsSameRun walk.old.board.now walk.new.board.now }
-    ensures schedule { walk.new.schedule ≡ walk.old.schedule }
-    ensures lender { walk.new.board.ghost_name ≡ walk.old.board.ghost_name }
+    ensures { OnOk result (HasTracedStep walk.old walk.new sheet.old sheet.new) }
 {
     match walk.letter() {
         Letter::Issue => {

@@ -1,12 +1,13 @@
 //! A trace that is being written. It has room for each datum that isn't known yet.
 
-ghost use Rattle.std.specs.Prelude.{ℕ, List, ◌∷◌, [], ◌≡◌, ◌≤◌, ◌<◌, ◌%◌, ◌++◌, IfOk, drop, length, slice_get, take, IfSome, OnOk};
+ghost use Rattle.std.specs.Prelude.{ℕ, ◌∷◌, [], ◌≡◌, ◌≤◌, ◌<◌, ◌%◌, ◌++◌, drop, length, slice_get, take, IfSome, OnOk};
 ghost use Rattle.m88_event.specs.EndText.{run_end_line};
 ghost use Rattle.m88_isa.specs.Bus.{bus_after, bus_after_all, listed};
 ghost use Rattle.m88_isa.specs.Memory.{AreWordAccesses, IsWordAccess};
+ghost use Rattle.m88_isa.specs.declared.planned.Plan.TheVariants.{Go};
 ghost use Rattle.m88_mem.specs.DataBus.{absent_of, bus_of};
 ghost use Rattle.m88_trace.specs.Inside.Doings.{doing_line};
-ghost use Rattle.m88_trace.specs.Inside.Sheets.{AreData, AreMade, AreDue, three_of, waiting_of, written_by};
+ghost use Rattle.m88_trace.specs.Inside.Sheets.{AreDue, AreMade, CanAdd, CanWait, HasAdded, HasFilled, HasFilledAll, IsBlank, waiting_of, written_by};
 ghost use Rattle.m88_trace.specs.Lines.{access_text, accesses_text, datum_by, head_text, written_text};
 ghost use Rattle.m88_trace.specs.declared.doing.Doing.TheVariants as doings;
 
@@ -45,9 +46,7 @@ pub struct Data {
 impl Sheet {
     /// A trace of which nothing is written.
     pub(crate) fn new(alloc: Global) -> Sheet
-        ensures text { (bus : ℕ → ℕ) → written_by result bus ≡ [] }
-        ensures waiting { waiting_of result ≡ [] }
-        ensures made { AreMade result }
+        ensures { IsBlank result }
     {
         Sheet {
             text: Vec::new(alloc),
@@ -69,15 +68,10 @@ impl Sheet {
         word: u32,
         effect: &Effect,
     ) -> Result<(), NoMemory>
-        requires made { AreMade self.old }
-        requires words { AreWordAccesses effect.now.accesses.count effect.now.accesses }
-        ensures text { OnOk result ((bus : ℕ → ℕ)
-            → written_by self.new bus ≡ written_by self.old bus
-            ++ doing_line next.now.number next.now.at word (doings.Goes effect.now)
-            (bus_after_all (waiting_of self.old) bus)) }
-        ensures waiting { OnOk result (waiting_of self.new
-            ≡ waiting_of self.old ++ listed effect.now.accesses) }
-        ensures made { OnOk result (AreMade self.new) }
+        requires { CanAdd (Go effect.now) self.old }
+        ensures { OnOk result (HasAdded
+            (doing_line next.now.number next.now.at word (doings.Goes effect.now))
+            (listed effect.now.accesses) self.old self.new) }
     {
         if effect.accesses.count == 0 {
             push_line(&mut self.text, next.number, next.at, word, effect.reg)?;
@@ -92,11 +86,8 @@ impl Sheet {
     /// Writes the line of an instruction for which a byte is put out.
     pub(crate) fn put_out(&mut self, next: &Upcoming, word: u32, byte: u8) -> Result<(), NoMemory>
         requires made { AreMade self.old }
-        ensures text { OnOk result ((bus : ℕ → ℕ)
-            → written_by self.new bus ≡ written_by self.old bus
-            ++ doing_line next.now.number next.now.at word (doings.Outputs byte) bus) }
-        ensures waiting { OnOk result (waiting_of self.new ≡ waiting_of self.old) }
-        ensures made { OnOk result (AreMade self.new) }
+        ensures { OnOk result (HasAdded
+            (doing_line next.now.number next.now.at word (doings.Outputs byte)) [] self.old self.new) }
     {
         push_head(&mut self.text, next.number, next.at, word)?;
         push_output(&mut self.text, byte)?;
@@ -107,10 +98,7 @@ impl Sheet {
     /// Writes the line of the end.
     pub(crate) fn end(&mut self, end: End) -> Result<(), NoMemory>
         requires made { AreMade self.old }
-        ensures text { OnOk result ((bus : ℕ → ℕ)
-            → written_by self.new bus ≡ written_by self.old bus ++ run_end_line end) }
-        ensures waiting { OnOk result (waiting_of self.new ≡ waiting_of self.old) }
-        ensures made { OnOk result (AreMade self.new) }
+        ensures { OnOk result (HasAdded (λ _. run_end_line end) [] self.old self.new) }
     {
         push_end(&mut self.text, end)?;
         Ok(())
@@ -120,15 +108,11 @@ impl Sheet {
     // Inlined into the loop over the events, it would have each effect taken to pieces there and copied.
     #[inline(never)]
     fn begin(&mut self, next: &Upcoming, word: u32, effect: &Effect) -> Result<(), NoMemory>
-        requires made { AreMade self.old }
-        requires words { IsWordAccess effect.now.accesses.first }
-        ensures text { OnOk result ((bus : ℕ → ℕ)
-            → written_by self.new bus ≡ written_by self.old bus
-            ++ (head_text next.now.number next.now.at word ++ written_text effect.now.reg
-            ++ access_text effect.now.accesses.first (bus_after_all (waiting_of self.old) bus))) }
-        ensures waiting { OnOk result (waiting_of self.new
-            ≡ waiting_of self.old ++ effect.now.accesses.first ∷ []) }
-        ensures made { OnOk result (AreMade self.new) }
+        requires { CanWait effect.now.accesses.first self.old }
+        ensures { OnOk result (HasAdded
+            (λ bus. head_text next.now.number next.now.at word ++ written_text effect.now.reg
+            ++ access_text effect.now.accesses.first bus)
+            (effect.now.accesses.first ∷ []) self.old self.new) }
     {
         let access = effect.accesses.first;
         push_begun(
@@ -150,12 +134,8 @@ impl Sheet {
         requires made { AreMade self.old }
         requires words { AreWordAccesses accesses.now.count accesses.now }
         requires some { 0 < accesses.now.count }
-        ensures text { OnOk result ((bus : ℕ → ℕ)
-            → written_by self.new bus ≡ written_by self.old bus
-            ++ accesses_text (drop 1 (listed accesses.now)) (bus_after_all (waiting_of self.old) bus)) }
-        ensures waiting { OnOk result (waiting_of self.new
-            ≡ waiting_of self.old ++ drop 1 (listed accesses.now)) }
-        ensures made { OnOk result (AreMade self.new) }
+        ensures { OnOk result (HasAdded (accesses_text (drop 1 (listed accesses.now)))
+            (drop 1 (listed accesses.now)) self.old self.new) }
     {
         if accesses.count == 1 {
             return Ok(());
@@ -165,14 +145,8 @@ impl Sheet {
 
     /// Writes an access up to its datum, which is waited for.
     fn open(&mut self, access: &Access) -> Result<(), NoMemory>
-        requires made { AreMade self.old }
-        requires words { IsWordAccess access.now }
-        ensures text { OnOk result ((bus : ℕ → ℕ)
-            → written_by self.new bus ≡ written_by self.old bus
-            ++ access_text access.now (bus_after_all (waiting_of self.old) bus)) }
-        ensures waiting { OnOk result (waiting_of self.new
-            ≡ waiting_of self.old ++ access.now ∷ []) }
-        ensures made { OnOk result (AreMade self.new) }
+        requires { CanWait access.now self.old }
+        ensures { OnOk result (HasAdded (access_text access.now) (access.now ∷ []) self.old self.new) }
     {
         push_open(&mut self.text, access)?;
         let at = self.text.len() - DATUM;
@@ -184,12 +158,7 @@ impl Sheet {
     /// Writes the datum of the oldest access that waits, if one does.
     pub(crate) fn fill(&mut self, datum: u32)
         requires { AreMade self.old }
-        ensures text { (bus : ℕ → ℕ) (values : List ℕ)
-            → AreData (datum ∷ values) (waiting_of self.old) bus
-            → written_by self.new (bus_after_all (take 1 (waiting_of self.old)) bus)
-            ≡ written_by self.old bus }
-        ensures waiting { waiting_of self.new ≡ drop 1 (waiting_of self.old) }
-        ensures made { AreMade self.new }
+        ensures { HasFilled datum self.old self.new }
     {
         if self.waiting.is_empty() {
             return;
@@ -201,12 +170,7 @@ impl Sheet {
     /// Writes the data of all accesses that wait, of which there are three at most.
     pub(crate) fn fill_all(&mut self, due: Data)
         requires { AreMade self.old }
-        ensures text { (bus after : ℕ → ℕ)
-            → AreData (three_of due) (waiting_of self.old) bus
-            → length (waiting_of self.old) ≤ 3
-            → written_by self.new after ≡ written_by self.old bus }
-        ensures waiting { length (waiting_of self.old) ≤ 3 → waiting_of self.new ≡ [] }
-        ensures made { AreMade self.new }
+        ensures { HasFilledAll due self.old self.new }
     {
         self.fill(due.oldest);
         self.fill(due.second);

@@ -1,18 +1,18 @@
 //! What an event adds to a trace, by what was seen of the board before it.
 
-ghost use Rattle.std.specs.Prelude.{ℕ, Bool, ◌≡◌, ◌++◌, OnOk};
-ghost use Rattle.m88_board.specs.Told.{IsTold, MakesWordAccesses};
+ghost use Rattle.std.specs.Prelude.{ℕ, Bool, ◌≡◌, OnOk};
+ghost use Rattle.m88_board.specs.Told.{IsTold};
 ghost use Rattle.m88_event.specs.Past.{HasPast};
 ghost use Rattle.m88_event.specs.Timeline.{DoneWereMade, Moment, absent_at, after_letter, said_at};
 ghost use Rattle.m88_event.specs.declared.letter.Letter.TheVariants as letters;
-ghost use Rattle.m88_isa.specs.Bus.{bus_after_all, listed};
+ghost use Rattle.m88_isa.specs.Bus.{listed};
 ghost use Rattle.m88_isa.specs.History.{bus_at, pending_at};
 ghost use Rattle.m88_isa.specs.Machine.{IsProgram, Program};
 ghost use Rattle.m88_isa.specs.declared.planned.Effect.{Effect as EffectValue};
 ghost use Rattle.m88_isa.specs.declared.planned.Plan.TheVariants.{Go};
 ghost use Rattle.m88_trace.specs.Inside.Doings.{doing_line};
 ghost use Rattle.m88_trace.specs.Inside.Running.{IsNext, IsTraced};
-ghost use Rattle.m88_trace.specs.Inside.Sheets.{AreMade, AreDue, waiting_of, written_by};
+ghost use Rattle.m88_trace.specs.Inside.Sheets.{AreDue, AreMade, CanAdd, HasAdded};
 ghost use Rattle.m88_trace.specs.declared.doing.Doing.TheVariants as doings;
 
 use crate::sheet::{Data, Sheet};
@@ -30,8 +30,7 @@ impl Sheet {
         told: &Told,
         happened: Happened,
     ) -> Result<(), NoMemory>
-        requires made { AreMade self.old }
-        requires words { MakesWordAccesses told.now.plan }
+        requires { CanAdd told.now.plan self.old }
         ensures traced { OnOk result ((p : Program) (named : ℕ → Bool) (limit : ℕ) (m : Moment)
             → IsProgram p → HasPast p limit m → DoneWereMade p m
             → IsNext p m next.now → IsTold p named limit m happened told.now
@@ -49,15 +48,10 @@ impl Sheet {
 
     /// Writes the line of an instruction that was issued.
     fn note_issued(&mut self, next: &Upcoming, told: &Told) -> Result<(), NoMemory>
-        requires made { AreMade self.old }
-        requires words { MakesWordAccesses told.now.plan }
-        ensures text { OnOk result ((bus : ℕ → ℕ) (effect : EffectValue)
-            → told.now.plan ≡ Go effect
-            → written_by self.new bus ≡ written_by self.old bus
-            ++ doing_line next.now.number next.now.at told.now.word (doings.Goes effect)
-            (bus_after_all (waiting_of self.old) bus)) }
-        ensures waiting { OnOk result ((effect : EffectValue) → told.now.plan ≡ Go effect
-            → waiting_of self.new ≡ waiting_of self.old ++ listed effect.accesses) }
+        requires { CanAdd told.now.plan self.old }
+        ensures added { OnOk result ((effect : EffectValue) → told.now.plan ≡ Go effect → HasAdded
+            (doing_line next.now.number next.now.at told.now.word (doings.Goes effect))
+            (listed effect.accesses) self.old self.new) }
         ensures made { OnOk result (AreMade self.new) }
     {
         match &told.plan {

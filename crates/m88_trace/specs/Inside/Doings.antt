@@ -1,5 +1,6 @@
 -- What the next instruction does, as the code has it, and what a follower of a history sees.
 use Rattle.std.specs.Prelude.{ℕ, Bool, true, false, List, ◌++◌, ◌≡◌, ◌+◌, ◌%◌}
+use Rattle.m88_base.specs.Image.{ProgramImage}
 use Rattle.m88_base.specs.Lines.{line_end}
 use Rattle.m88_base.specs.Pages.{no_page}
 use Rattle.m88_event.specs.Choice.{end_by}
@@ -9,13 +10,16 @@ use Rattle.m88_isa.specs.Bus.{Cells, after_accesses, in_words, listed}
 use Rattle.m88_isa.specs.Effect.{recorded_change}
 use Rattle.m88_isa.specs.Flow.{FlowFits}
 use Rattle.m88_isa.specs.Held.{is_stop}
-use Rattle.m88_isa.specs.Machine.{Program, State, Turn, changes, outputs, state, stops, turn_at, with_written}
-use Rattle.m88_isa.specs.Memory.{AreWordAccesses}
+use Rattle.m88_isa.specs.Machine.{IsProgram, Program, State, Turn, changes, opening, outputs, state, stops, turn_at, with_written}
+use Rattle.m88_isa.specs.ImageProgram.{IsProgramOf}
+use Rattle.m88_isa.specs.Memory.{AreWordAccesses, IsWordAccess}
+use Rattle.m88_isa.specs.declared.planned.Access.{Access}
 use Rattle.m88_isa.specs.declared.planned.Effect.{Effect}
 use Rattle.m88_mem.specs.DataBus.{absent_of, bus_of}
 use Rattle.m88_trace.specs.Lines.{accesses_text, head_text, output_text, written_text}
 use Rattle.m88_trace.specs.Trace.{line_at}
 use Rattle.m88_trace.specs.declared.doing.Doing.{Doing}
+use Rattle.m88_trace.specs.declared.doing.Place.{Place}
 use Rattle.m88_trace.specs.declared.doing.Doing.TheVariants.{Goes, Outputs, Ends}
 use Rattle.m88_trace.specs.declared.follower.Follower.{Follower}
 
@@ -81,14 +85,43 @@ ends_by (Ends end) = true
 abbrev pub cells_of : Follower → Cells
 cells_of f = record { regs = f.regs; bus = bus_of f.memory }
 
+-- an instruction stands at a word, and so does the one that follows
+pub record IsPlaced (place : Place) : Type 0 where
+  pub here : place.pc % 4 ≡ 0
+  pub behind : place.next % 4 ≡ 0
+
 -- a follower stands at words, and no page is absent
 pub record IsReady (f : Follower) : Type 0 where
   pub here : f.pc % 4 ≡ 0
   pub behind : f.next % 4 ≡ 0
   pub present : absent_of f.memory ≡ no_page
 
--- only registers and the words of memory changed
-pub record KeepsPlace (old new : Follower) : Type 0 where
+-- what an instruction does can be followed from where a follower stands
+pub record CanDo (doing : Doing) (f : Follower) : Type 0 where
+  pub ready : IsReady f
+  pub follows : CanFollow doing
+
+-- an access can be made there
+pub record CanMake (a : Access) (f : Follower) : Type 0 where
+  pub ready : IsReady f
+  pub made : IsWordAccess a
+
+-- a follower begins at the opening state of the program of an image
+pub record BeginsHistory (image : ProgramImage) (f : Follower) : Type 0 where
+  pub ready : IsReady f
+  pub image_is : f.memory.image ≡ image
+  pub seen : (p : Program) → IsProgramOf image p → seen_of f ≡ seen_at (opening p)
+
+-- an instruction is carried out, and its line stands behind what was there
+pub record HasDone (number word : ℕ) (doing : Doing) (old new : Follower) (before after : List ℕ) : Type 0 where
+  pub ready : IsReady new
+  pub image : new.memory.image ≡ old.memory.image
+  pub line : after ≡ before ++ doing_line number old.pc word doing (bus_of old.memory)
+  pub seen : seen_of new ≡ after_doing doing (seen_of old)
+
+-- these are the registers and the words of memory, and nothing else changed
+pub record HasCells (cells : Cells) (old new : Follower) : Type 0 where
+  pub cells_are : cells_of new ≡ cells
   pub carry : new.carry ≡ old.carry
   pub pc : new.pc ≡ old.pc
   pub next : new.next ≡ old.next
@@ -100,3 +133,10 @@ pub record Follows (p : Program) (number : ℕ) (line : List ℕ) (stopped : Boo
   pub text : line ≡ line_at p number (state p number)
   pub seen : seen_of new ≡ seen_at (state p (number + 1))
   pub ended : stopped ≡ is_stop (turn_at p (state p number))
+
+-- a follower goes on by a line, from the state of a history with that number to the next
+pub record IsNextLine (number : ℕ) (line : List ℕ) (old : Follower) (stopped : Bool) (new : Follower) : Type 0 where
+  pub ready : IsReady new
+  pub image : new.memory.image ≡ old.memory.image
+  pub follows : (p : Program) → IsProgram p → IsProgramOf old.memory.image p → p.mxm ≡ false
+      → seen_of old ≡ seen_at (state p number) → Follows p number line stopped new

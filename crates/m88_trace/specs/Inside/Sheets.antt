@@ -1,10 +1,12 @@
 -- A trace that is being written, of which some accesses wait for their data.
 use Rattle.std.specs.Prelude.{ℕ, Bool, List, [], ◌∷◌, ◌++◌, ◌≡◌, ◌≤◌, ◌+◌, drop, length, map, take}
 use Rattle.m88_base.specs.Hex.{hex8}
+use Rattle.m88_board.specs.Told.{MakesWordAccesses}
 use Rattle.m88_event.specs.Choice.{answer_choice, faults}
-use Rattle.m88_isa.specs.Bus.{bus_after}
+use Rattle.m88_isa.specs.Bus.{bus_after, bus_after_all}
 use Rattle.m88_isa.specs.Memory.{IsWordAccess}
 use Rattle.m88_isa.specs.declared.planned.Access.{Access}
+use Rattle.m88_isa.specs.declared.planned.Plan.{Plan}
 use Rattle.m88_trace.specs.Lines.{datum_by}
 use Rattle.m88_trace.specs.declared.sheet.Data.{Data}
 use Rattle.m88_trace.specs.declared.sheet.Sheet.{Sheet}
@@ -47,6 +49,29 @@ pub record AreMade (s : Sheet) : Type 0 where
   pub words : AreWords (waiting_of s)
   pub room : HaveRoom (length s.text.items) s.waiting.items
 
+-- a plan's accesses can wait on a sheet, where it makes some
+pub record CanAdd (plan : Plan) (s : Sheet) : Type 0 where
+  pub made : AreMade s
+  pub words : MakesWordAccesses plan
+
+-- an access can wait on it
+pub record CanWait (a : Access) (s : Sheet) : Type 0 where
+  pub made : AreMade s
+  pub word : IsWordAccess a
+
+-- nothing is written on a sheet
+pub record IsBlank (s : Sheet) : Type 0 where
+  pub text : (bus : ℕ → ℕ) → written_by s bus ≡ []
+  pub waiting : waiting_of s ≡ []
+  pub made : AreMade s
+
+-- something is written on a sheet behind what stands there, by the words of memory that those that wait leave, and some
+-- accesses more wait
+pub record HasAdded (added : (ℕ → ℕ) → List ℕ) (accesses : List Access) (old new : Sheet) : Type 0 where
+  pub text : (bus : ℕ → ℕ) → written_by new bus ≡ written_by old bus ++ added (bus_after_all (waiting_of old) bus)
+  pub waiting : waiting_of new ≡ waiting_of old ++ accesses
+  pub made : AreMade new
+
 -- some data are those of accesses, the first of the oldest, at the words of memory that it meets
 abbrev pub AreData : List ℕ → List Access → (ℕ → ℕ) → Type 0
 AreData values [] bus = Unit {0}
@@ -62,3 +87,17 @@ three_of three = three.oldest ∷ three.second ∷ three.third ∷ []
 pub record AreDue (due : Data) (accesses : List Access) (absent : ℕ → Bool) (bus : ℕ → ℕ) : Type 0 where
   pub oldest : AreData (due.oldest ∷ []) (take 1 accesses) bus
   pub all : answer_choice accesses absent ≡ faults → AreData (three_of due) accesses bus
+
+-- the datum of the oldest access that waits is written, if one does
+pub record HasFilled (datum : ℕ) (old new : Sheet) : Type 0 where
+  pub text : (bus : ℕ → ℕ) (values : List ℕ) → AreData (datum ∷ values) (waiting_of old) bus
+      → written_by new (bus_after_all (take 1 (waiting_of old)) bus) ≡ written_by old bus
+  pub waiting : waiting_of new ≡ drop 1 (waiting_of old)
+  pub made : AreMade new
+
+-- the data of all accesses that wait are written, if three do at most
+pub record HasFilledAll (due : Data) (old new : Sheet) : Type 0 where
+  pub text : (bus after : ℕ → ℕ) → AreData (three_of due) (waiting_of old) bus → length (waiting_of old) ≤ 3
+      → written_by new after ≡ written_by old bus
+  pub waiting : length (waiting_of old) ≤ 3 → waiting_of new ≡ []
+  pub made : AreMade new

@@ -50,7 +50,7 @@ returns-clause-one_verdict c = λ p. one_verdict_of p c.args.text.now
 pub loop-rest-init : goal.loop-rest-init
 loop-rest-init c = record {
   ready = c.in_ok-follower.ensures.ready;
-  image = c.in_ok-follower.ensures.image;
+  image = c.in_ok-follower.ensures.image_is;
   counted = omega arith;
   reads = λ p of clear. reads_none p c.args.text.now (seen_of c.in_ok-follower.follower)
       (c.in_ok-follower.ensures.seen p of);

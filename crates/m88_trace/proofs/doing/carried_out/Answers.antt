@@ -7,5 +7,5 @@ pub returns-in-Go-clause-follows : goal.returns-in-Go-clause-follows
 returns-in-Go-clause-follows c =
     let made = c.in-Go.ensures.accesses in (
       subst (λ n. AreWordAccesses n c.in-Go.effect.accesses) (sym made.0) made,
-      c.in-Go.ensures.flow c.requires.here c.requires.behind,
+      c.in-Go.ensures.flow c.requires.place.here c.requires.place.behind,
     )

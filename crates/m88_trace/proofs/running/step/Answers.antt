@@ -7,46 +7,67 @@ use Rattle.m88_event.specs.Timeline.{after_letter, said_at}
 use Rattle.m88_event.specs.declared.letter.Letter.{Letter}
 use Rattle.m88_event.specs.declared.letter.Letter.TheVariants.{Issue, Answer, Evict}
 use Rattle.m88_trace.proofs.Noting.{data_at, evicted_note, few_wait}
-use Rattle.m88_trace.proofs.Writing.{ok_always, ok_on}
+use Rattle.m88_trace.proofs.Writing.{ok_both}
 use Rattle.m88_trace.specs.Inside.Running.{IsTraced}
 use Rattle.m88_trace.proofs.running.step.Goals as goal
 
-pub returns-in_ok-happened-in-Issue-clause-at : goal.returns-in_ok-happened-in-Issue-clause-at
-returns-in_ok-happened-in-Issue-clause-at c =
-    ok_always c.note_issue.result (λ p named m at. (c.in_ok-happened-in-Issue.ensures.ok p named m at).at)
-
-pub returns-in_ok-happened-in-Issue-clause-taken : goal.returns-in_ok-happened-in-Issue-clause-taken
-returns-in_ok-happened-in-Issue-clause-taken c = ok_always c.note_issue.result c.in_ok-happened-in-Issue.ensures.taken
-
-pub returns-in_ok-happened-in-Issue-clause-lighter : goal.returns-in_ok-happened-in-Issue-clause-lighter
-returns-in_ok-happened-in-Issue-clause-lighter c = ok_always c.note_issue.result c.in_ok-happened-in-Issue.ensures.lighter
-
-pub returns-in_ok-happened-in-Issue-clause-traced : goal.returns-in_ok-happened-in-Issue-clause-traced
-returns-in_ok-happened-in-Issue-clause-traced c = ok_on c.note_issue.result c.note_issue.ensures.traced (λ noted p named m is at traced.
+pub returns-in_ok-happened-in-Issue : goal.returns-in_ok-happened-in-Issue
+returns-in_ok-happened-in-Issue c = ok_both c.note_issue.result c.note_issue.ensures.made c.note_issue.ensures.traced
+    (λ made noted.
     let w = c.args.walk.now in
     let limit = w.board.now.limit in
     let letter : letter_at w.schedule.now w.taken ≡ Issue = sym c.letter.ensures ∙ c.in-Issue.is in
-    let there = subst (λ (b : BoardView). IsAt p named m b) (sym c.board.ensures) at in
-    subst (λ (l : Letter). IsTraced p (after_letter p named limit l m) c.note_issue.new.self) (sym letter)
-    (noted p named limit m is at.past at.within (c.upcoming_on-next.ensures p named m there)
-    (c.in_ok-happened-in-Issue.ensures.told letter p named m at)
-    (c.in_ok-happened-in-Issue.ensures.said p named m at ∙ ap (λ (l : Letter). said_at p named limit l m) letter) traced))
+    let next = c.in_ok-happened-in-Issue.ensures in
+    record {
+      made = made;
+      at = λ p named m at. (next.ok p named m at).at;
+      traced = λ p named m is at traced.
+          let there = subst (λ (b : BoardView). IsAt p named m b) (sym c.board.ensures) at in
+          subst (λ (l : Letter). IsTraced p (after_letter p named limit l m) c.note_issue.new.self) (sym letter)
+          (noted p named limit m is at.past at.within (c.upcoming_on-next.ensures p named m there)
+          (next.told letter p named m at)
+          (next.said p named m at ∙ ap (λ (l : Letter). said_at p named limit l m) letter) traced);
+      taken = next.taken;
+      lighter = next.lighter;
+      limit = next.same.limit;
+      schedule = next.schedule;
+    })
 
-pub returns-in_ok-happened-in-Answer-clause-traced : goal.returns-in_ok-happened-in-Answer-clause-traced
-returns-in_ok-happened-in-Answer-clause-traced c = λ p named m is at traced.
+pub returns-in_ok-happened-in-Answer : goal.returns-in_ok-happened-in-Answer
+returns-in_ok-happened-in-Answer c =
     let w = c.args.walk.now in
     let limit = w.board.now.limit in
     let letter : letter_at w.schedule.now w.taken ≡ Answer = sym c.letter.ensures ∙ c.in-Answer.is in
-    let there = subst (λ (b : BoardView). IsAt p named m b) (sym c.board-in-Answer.ensures) at in
-    let due = data_at p named m c.board-in-Answer.result.now c.args.sheet.now c.data-due.result there traced
-    (c.data-due.ensures (few_wait p limit m c.args.sheet.now at.past traced)) in
-    subst (λ (l : Letter). IsTraced p (after_letter p named limit l m) c.note_answer.new.self) (sym letter)
-    (c.note_answer.ensures.traced p named limit m at.past at.within due
-    (c.in_ok-happened-in-Answer.ensures.said p named m at ∙ ap (λ (l : Letter). said_at p named limit l m) letter) traced)
+    let next = c.in_ok-happened-in-Answer.ensures in
+    record {
+      made = c.note_answer.ensures.made;
+      at = λ p named m at. (next.ok p named m at).at;
+      traced = λ p named m is at traced.
+          let there = subst (λ (b : BoardView). IsAt p named m b) (sym c.board-in-Answer.ensures) at in
+          let due = data_at p named m c.board-in-Answer.result.now c.args.sheet.now c.data-due.result there traced
+          (c.data-due.ensures (few_wait p limit m c.args.sheet.now at.past traced)) in
+          subst (λ (l : Letter). IsTraced p (after_letter p named limit l m) c.note_answer.new.self) (sym letter)
+          (c.note_answer.ensures.traced p named limit m at.past at.within due
+          (next.said p named m at ∙ ap (λ (l : Letter). said_at p named limit l m) letter) traced);
+      taken = next.taken;
+      lighter = next.lighter;
+      limit = next.same.limit;
+      schedule = next.schedule;
+    }
 
-pub returns-in_ok-next-in-Evict-clause-traced : goal.returns-in_ok-next-in-Evict-clause-traced
-returns-in_ok-next-in-Evict-clause-traced c = λ p named m is at traced.
+pub returns-in_ok-next-in-Evict : goal.returns-in_ok-next-in-Evict
+returns-in_ok-next-in-Evict c =
     let w = c.args.walk.now in
     let letter : letter_at w.schedule.now w.taken ≡ Evict = sym c.letter.ensures ∙ c.in-Evict.is in
-    subst (λ (l : Letter). IsTraced p (after_letter p named w.board.now.limit l m) c.args.sheet.now) (sym letter)
-    (evicted_note p named w.board.now.limit m c.args.sheet.now traced)
+    let next = c.in_ok-next-in-Evict.ensures in
+    record {
+      made = c.requires.made;
+      at = λ p named m at. (next.ok p named m at).at;
+      traced = λ p named m is at traced.
+          subst (λ (l : Letter). IsTraced p (after_letter p named w.board.now.limit l m) c.args.sheet.now) (sym letter)
+          (evicted_note p named w.board.now.limit m c.args.sheet.now traced);
+      taken = next.taken;
+      lighter = next.lighter;
+      limit = next.same.limit;
+      schedule = next.schedule;
+    }

@@ -32,7 +32,7 @@ loop-walk-preserved c =
     let inv = c.loop-walk.invariant in
     let stepped = c.in_ok-step.ensures in
     record {
-      limit = stepped.same.limit ∙ inv.limit;
+      limit = stepped.limit ∙ inv.limit;
       schedule = ap (λ (s : Bor (List Letter)). s.now) stepped.schedule ∙ inv.schedule;
       made = stepped.made;
       runs = λ p of clear.

@@ -25,8 +25,8 @@ overflow_sub-at c =
     (codes "????????"))
     refl (omega arith)
 
-pub returns-clause-text : goal.returns-clause-text
-returns-clause-text c = λ bus.
+pub returns : goal.returns
+returns c =
     let s = c.args.self.now in
     let next = c.args.next.now in
     let a = c.args.effect.now.accesses.first in
@@ -36,37 +36,22 @@ returns-clause-text c = λ bus.
     let w : Waiting = record { access = a; at = c.len-at.result - 8 } in
     let new = c.push_begun.new.text.items in
     let put = begun_put s.text.items head written (access_head a) (codes "????????") new c.in_ok-push_begun.ensures in
-    open_by s.text.items all (codes "????????") (s.text.items ++ all) new
-    s.waiting.items c.push_waiting.new.list.items w bus c.requires.made.room c.in_ok-push_waiting.ensures
-    refl (opened_at (s.text.items ++ all) (codes "????????") new c.len-at.result put refl (omega arith)) put refl
-    ∙ ap (λ (xs : List ℕ). written_by s bus ++ xs)
-    (append_assoc (head ++ written) (access_head a) (hex8 (datum_by a (bus_after_all (waiting_of s) bus))))
-
-pub returns-clause-waiting : goal.returns-clause-waiting
-returns-clause-waiting c =
-    let s = c.args.self.now in
-    let a = c.args.effect.now.accesses.first in
-    let w : Waiting = record { access = a; at = c.len-at.result - 8 } in
-    accesses_by s.waiting.items c.push_waiting.new.list.items w a c.in_ok-push_waiting.ensures refl
-
-pub returns-clause-made : goal.returns-clause-made
-returns-clause-made c =
-    let s = c.args.self.now in
-    let next = c.args.next.now in
-    let a = c.args.effect.now.accesses.first in
-    let head = head_text next.number next.at c.args.word in
-    let written = written_text c.args.effect.now.reg in
-    let all = head ++ written ++ access_head a in
-    let w : Waiting = record { access = a; at = c.len-at.result - 8 } in
-    let new = c.push_begun.new.text.items in
-    let put = begun_put s.text.items head written (access_head a) (codes "????????") new c.in_ok-push_begun.ensures in
+    let at = opened_at (s.text.items ++ all) (codes "????????") new c.len-at.result put refl (omega arith) in
+    let waits = accesses_by s.waiting.items c.push_waiting.new.list.items w a c.in_ok-push_waiting.ensures refl in
     record {
-      words =
-          subst (λ (xs : List Access). AreWords xs)
-          (sym (accesses_by s.waiting.items c.push_waiting.new.list.items w a c.in_ok-push_waiting.ensures refl))
-          (made_more (waiting_of s) a c.requires.made.words c.requires.words);
-      room =
-          room_by_open s.text.items all (codes "????????") (s.text.items ++ all) new
-          s.waiting.items c.push_waiting.new.list.items w c.requires.made.room c.in_ok-push_waiting.ensures
-          refl (opened_at (s.text.items ++ all) (codes "????????") new c.len-at.result put refl (omega arith)) put refl;
+      text = λ bus.
+          open_by s.text.items all (codes "????????") (s.text.items ++ all) new
+          s.waiting.items c.push_waiting.new.list.items w bus c.requires.made.room c.in_ok-push_waiting.ensures
+          refl at put refl
+          ∙ ap (λ (xs : List ℕ). written_by s bus ++ xs)
+          (append_assoc (head ++ written) (access_head a) (hex8 (datum_by a (bus_after_all (waiting_of s) bus))));
+      waiting = waits;
+      made = record {
+        words = subst (λ (xs : List Access). AreWords xs) (sym waits)
+            (made_more (waiting_of s) a c.requires.made.words c.requires.word);
+        room =
+            room_by_open s.text.items all (codes "????????") (s.text.items ++ all) new
+            s.waiting.items c.push_waiting.new.list.items w c.requires.made.room c.in_ok-push_waiting.ensures
+            refl at put refl;
+      };
     }

@@ -6,41 +6,19 @@ use Rattle.m88_trace.specs.Inside.Sheets.{accesses_of}
 use Rattle.m88_trace.specs.declared.waiting.Waiting.{Waiting}
 use Rattle.m88_trace.proofs.sheet.Sheet.fill.Goals as goal
 
-pub returns-then-is_empty-clause-text : goal.returns-then-is_empty-clause-text
-returns-then-is_empty-clause-text c = λ bus values are.
+pub returns-then-is_empty : goal.returns-then-is_empty
+returns-then-is_empty c =
     let s = c.args.self.now in
-    none_filled s.text.items s.waiting.items bus
-    (vec_empty s.waiting.len s.waiting.items c.is_empty.result c.is_empty.ensures c.if-is_empty.true (omega arith))
+    let none = vec_empty s.waiting.len s.waiting.items c.is_empty.result c.is_empty.ensures c.if-is_empty.true
+    (omega arith) in
+    record {
+      text = λ bus values are. none_filled s.text.items s.waiting.items bus none;
+      waiting = rw none refl;
+      made = c.requires;
+    }
 
-pub returns-clause-text : goal.returns-clause-text
-returns-clause-text c = λ bus values are.
-    let s = c.args.self.now in
-    let w = c.remove-at.result in
-    let left = c.remove-at.new.self.items in
-    let some : 0 < length s.waiting.items =
-    vec_some s.waiting.len s.waiting.items c.is_empty.result c.is_empty.ensures c.if-is_empty.false (omega arith) in
-    let first : s.waiting.items ≡ w ∷ left =
-    first_removed s.waiting.items w some c.remove-at.ensures.value
-    ∙ ap (λ (ws : List Waiting). w ∷ ws) (sym c.remove-at.ensures.items) in
-    let put = items_put s.text c.deref_mut.result.now c.copy_from_slice.new.self (hex8 c.args.datum) w.at (omega arith)
-    c.deref_mut.ensures.value (c.copy_from_slice.ensures.after ∙ c.word_digits.ensures) refl
-    (room_first (length s.text.items) s.waiting.items left w first c.requires.room) in
-    filled_by s.text.items _ s.waiting.items left w c.args.datum values bus first put are
-
-pub returns-clause-waiting : goal.returns-clause-waiting
-returns-clause-waiting c =
-    let s = c.args.self.now in
-    let w = c.remove-at.result in
-    let left = c.remove-at.new.self.items in
-    let some : 0 < length s.waiting.items =
-    vec_some s.waiting.len s.waiting.items c.is_empty.result c.is_empty.ensures c.if-is_empty.false (omega arith) in
-    let first : s.waiting.items ≡ w ∷ left =
-    first_removed s.waiting.items w some c.remove-at.ensures.value
-    ∙ ap (λ (ws : List Waiting). w ∷ ws) (sym c.remove-at.ensures.items) in
-    sym (ap (λ (ws : List Waiting). drop 1 (accesses_of ws)) first)
-
-pub returns-clause-made : goal.returns-clause-made
-returns-clause-made c =
+pub returns : goal.returns
+returns c =
     let s = c.args.self.now in
     let w = c.remove-at.result in
     let left = c.remove-at.new.self.items in
@@ -53,6 +31,10 @@ returns-clause-made c =
     c.deref_mut.ensures.value (c.copy_from_slice.ensures.after ∙ c.word_digits.ensures) refl
     (room_first (length s.text.items) s.waiting.items left w first c.requires.room) in
     record {
-      words = made_left s.waiting.items left w first c.requires.words;
-      room = room_filled s.text.items _ s.waiting.items left w c.args.datum first put c.requires.room;
+      text = λ bus values are. filled_by s.text.items _ s.waiting.items left w c.args.datum values bus first put are;
+      waiting = sym (ap (λ (ws : List Waiting). drop 1 (accesses_of ws)) first);
+      made = record {
+        words = made_left s.waiting.items left w first c.requires.words;
+        room = room_filled s.text.items _ s.waiting.items left w c.args.datum first put c.requires.room;
+      };
     }

@@ -5,7 +5,6 @@ use Rattle.m88_event.specs.declared.letter.Letter.TheVariants.{Answer}
 use Rattle.m88_isa.specs.History.{bus_at, pending_at}
 use Rattle.m88_trace.proofs.Data.{and_others}
 use Rattle.m88_trace.proofs.Noting.{answer_quiet, answered_note, fault_chosen, faulted_note, traced_same}
-use Rattle.m88_trace.specs.Inside.Sheets.{three_of}
 use Rattle.m88_trace.proofs.sheet.Sheet.note_answer.Goals as goal
 
 pub returns-in-Answered-clause-traced : goal.returns-in-Answered-clause-traced
@@ -13,14 +12,14 @@ returns-in-Answered-clause-traced c = λ p named limit m past made are says trac
     answered_note p named limit m c.args.self.now c.fill.new.self c.args.due.oldest _
     (sym c.in-Answered.is ∙ says)
     (and_others c.args.due.oldest (pending_at p m.retired m.done) (bus_at p m.retired m.done) are.oldest)
-    c.fill.ensures.text c.fill.ensures.waiting traced
+    c.fill.ensures traced
 
 pub returns-in-Faulted-clause-traced : goal.returns-in-Faulted-clause-traced
 returns-in-Faulted-clause-traced c = λ p named limit m past made are says traced.
-    faulted_note p named limit m c.args.self.now c.fill_all.new.self c.in-Faulted.field-0 (three_of c.args.due) past
+    faulted_note p named limit m c.args.self.now c.fill_all.new.self c.in-Faulted.field-0 c.args.due past
     (sym c.in-Faulted.is ∙ says)
     (are.all (fault_chosen p named limit m c.in-Faulted.field-0 (sym c.in-Faulted.is ∙ says)))
-    c.fill_all.ensures.text c.fill_all.ensures.waiting traced
+    c.fill_all.ensures traced
 
 pub returns-in_default-clause-traced : goal.returns-in_default-clause-traced
 returns-in_default-clause-traced c = λ p named limit m past made are says traced.

@@ -1,7 +1,7 @@
 -- An instruction's line, or that of the end.
 use Rattle.std.proofs.Common.{sym, subst, ◌∙◌}
 use Rattle.m88_trace.proofs.Noting.{ended_note, issue_quiet, issued_note, served_note, traced_same}
-use Rattle.m88_trace.proofs.Writing.{ok_both}
+use Rattle.m88_trace.proofs.Writing.{ok_on}
 use Rattle.m88_board.specs.Told.{IsTold}
 use Rattle.m88_event.specs.Timeline.{after_letter}
 use Rattle.m88_event.specs.declared.happened.Happened.{Happened}
@@ -10,28 +10,26 @@ use Rattle.m88_trace.proofs.sheet.Sheet.note_issue.Goals as goal
 
 pub returns-in-Issued-clause-traced : goal.returns-in-Issued-clause-traced
 returns-in-Issued-clause-traced c =
-    ok_both c.note_issued.result c.note_issued.ensures.text c.note_issued.ensures.waiting
-    (λ text waiting p named limit m is past made seen tells says traced.
+    ok_on c.note_issued.result c.note_issued.ensures.added
+    (λ added p named limit m is past made seen tells says traced.
     issued_note p named limit m c.args.self.now c.note_issued.new.self c.args.next.now c.args.told.now is past made seen
     (subst (λ (h : Happened). IsTold p named limit m h c.args.told.now) c.in-Issued.is tells)
-    (sym c.in-Issued.is ∙ says) text waiting
-    traced)
+    (sym c.in-Issued.is ∙ says) added traced)
 
 pub returns-in-Served-clause-traced : goal.returns-in-Served-clause-traced
 returns-in-Served-clause-traced c =
-    ok_both c.put_out.result c.put_out.ensures.text c.put_out.ensures.waiting
-    (λ text waiting p named limit m is past made seen tells says traced.
+    ok_on c.put_out.result c.put_out.ensures
+    (λ added p named limit m is past made seen tells says traced.
     served_note p named limit m c.args.self.now c.put_out.new.self c.args.next.now c.args.told.now c.in-Served.byte is
     past made seen (subst (λ (h : Happened). IsTold p named limit m h c.args.told.now) c.in-Served.is tells)
-    (sym c.in-Served.is ∙ says)
-    text waiting traced)
+    (sym c.in-Served.is ∙ says) added traced)
 
 pub returns-in-Ended-clause-traced : goal.returns-in-Ended-clause-traced
 returns-in-Ended-clause-traced c =
-    ok_both c.end.result c.end.ensures.text c.end.ensures.waiting
-    (λ text waiting p named limit m is past made seen tells says traced.
-    ended_note p named limit m c.args.self.now c.end.new.self c.in-Ended.end is past (sym c.in-Ended.is ∙ says) text
-    waiting traced)
+    ok_on c.end.result c.end.ensures
+    (λ added p named limit m is past made seen tells says traced.
+    ended_note p named limit m c.args.self.now c.end.new.self c.in-Ended.end is past (sym c.in-Ended.is ∙ says)
+    added traced)
 
 pub returns-in_default-clause-traced : goal.returns-in_default-clause-traced
 returns-in_default-clause-traced c = λ p named limit m is past made seen tells says traced.

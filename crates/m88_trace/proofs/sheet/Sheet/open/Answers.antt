@@ -12,40 +12,27 @@ overflow_sub-at c =
     opened_long c.args.self.now.text.items (access_head c.args.access.now) (codes "????????") c.push_open.new.text.items
     c.len-at.result c.in_ok-push_open.ensures refl (omega arith)
 
-pub returns-clause-text : goal.returns-clause-text
-returns-clause-text c = λ bus.
+pub returns : goal.returns
+returns c =
     let s = c.args.self.now in
     let a = c.args.access.now in
     let w : Waiting = record { access = a; at = c.len-at.result - 8 } in
     let next = c.push_open.new.text.items in
     let put = c.in_ok-push_open.ensures ∙ sym (append_assoc s.text.items (access_head a) (codes "????????")) in
-    open_by s.text.items (access_head a) (codes "????????") (s.text.items ++ access_head a) next
-    s.waiting.items c.push_waiting.new.list.items w bus c.requires.made.room c.in_ok-push_waiting.ensures
-    refl (opened_at (s.text.items ++ access_head a) (codes "????????") next c.len-at.result put refl (omega arith))
-    put refl
-
-pub returns-clause-waiting : goal.returns-clause-waiting
-returns-clause-waiting c =
-    let s = c.args.self.now in
-    let a = c.args.access.now in
-    let w : Waiting = record { access = a; at = c.len-at.result - 8 } in
-    accesses_by s.waiting.items c.push_waiting.new.list.items w a c.in_ok-push_waiting.ensures refl
-
-pub returns-clause-made : goal.returns-clause-made
-returns-clause-made c =
-    let s = c.args.self.now in
-    let a = c.args.access.now in
-    let w : Waiting = record { access = a; at = c.len-at.result - 8 } in
-    let next = c.push_open.new.text.items in
-    let put = c.in_ok-push_open.ensures ∙ sym (append_assoc s.text.items (access_head a) (codes "????????")) in
+    let at = opened_at (s.text.items ++ access_head a) (codes "????????") next c.len-at.result put refl (omega arith) in
+    let waits = accesses_by s.waiting.items c.push_waiting.new.list.items w a c.in_ok-push_waiting.ensures refl in
     record {
-      words =
-          subst (λ (xs : List Access). AreWords xs)
-          (sym (accesses_by s.waiting.items c.push_waiting.new.list.items w a c.in_ok-push_waiting.ensures refl))
-          (made_more (waiting_of s) a c.requires.made.words c.requires.words);
-      room =
-          room_by_open s.text.items (access_head a) (codes "????????") (s.text.items ++ access_head a) next
-          s.waiting.items c.push_waiting.new.list.items w c.requires.made.room c.in_ok-push_waiting.ensures
-          refl (opened_at (s.text.items ++ access_head a) (codes "????????") next c.len-at.result put refl (omega arith))
-          put refl;
+      text = λ bus.
+          open_by s.text.items (access_head a) (codes "????????") (s.text.items ++ access_head a) next
+          s.waiting.items c.push_waiting.new.list.items w bus c.requires.made.room c.in_ok-push_waiting.ensures
+          refl at put refl;
+      waiting = waits;
+      made = record {
+        words = subst (λ (xs : List Access). AreWords xs) (sym waits)
+            (made_more (waiting_of s) a c.requires.made.words c.requires.word);
+        room =
+            room_by_open s.text.items (access_head a) (codes "????????") (s.text.items ++ access_head a) next
+            s.waiting.items c.push_waiting.new.list.items w c.requires.made.room c.in_ok-push_waiting.ensures
+            refl at put refl;
+      };
     }
