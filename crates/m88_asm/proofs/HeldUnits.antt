@@ -9,7 +9,6 @@ use Rattle.m88_isa.specs.Machine.{Program}
 use Rattle.m88_isa.specs.declared.instr.Instr.{Instr}
 use Rattle.m88_codec.proofs.Laws.{program_in, program_in_holds}
 use Rattle.m88_parse.proofs.Laws.{one_source_verdict, unit_formed}
-use Rattle.m88_parse.specs.Language.Units.{IsUnit}
 use Rattle.m88_parse.specs.declared.unit.Unit.{Unit as Source}
 use Rattle.m88_link.specs.Layout.{Layout}
 use Rattle.m88_link.specs.Linked.{IsLinked, start_address}

@@ -1,4 +1,5 @@
 -- Words for the contracts of private functions alone: no promise of the program names them.
+pub mod Answered
 pub mod Drafts
 pub mod Exports
 pub mod Firsts

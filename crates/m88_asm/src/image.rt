@@ -9,6 +9,7 @@ ghost use Rattle.m88_parse.specs.WellFormed.{IsWellFormed};
 ghost use Rattle.m88_link.specs.Linked.{IsLinked};
 ghost use Rattle.m88_asm.specs.Accepted.{IsAcceptedUnit, IsFirstUnitFault, IsOutOfMemory, IsUnitFault};
 ghost use Rattle.m88_asm.specs.Images.{IsUnitImage, IsUnitInstruction};
+ghost use Rattle.m88_asm.specs.Inside.Answered.{AnswersUnit};
 ghost use Rattle.m88_asm.specs.Units.{unit_layout};
 ghost use Rattle.m88_asm.specs.declared.fault.UnitFault.{UnitFault as Fault};
 
@@ -51,13 +52,7 @@ pub fn image_of(alloc: Global, unit: Unit) -> Result<Image, UnitFault>
 /// The image of a unit, or the first reason why it has none.
 fn image_or_fault(alloc: Global, unit: Unit) -> Result<Image, UnitFault>
     requires { IsWellFormed unit }
-    ensures image { IfOk result (IsUnitImage unit) }
-    ensures instructions { IfOk result (λ image. (a : ℕ) (instruction : Option Instruction)
-        → IsUnitInstruction unit a instruction
-        → IsInstructionAt (byte_at image) a instruction) }
-    ensures linked { IfOk result (IsLinked (unit_layout unit)) }
-    ensures accepted { OnOk result (IsAcceptedUnit unit) }
-    ensures fault { IfErr result (IsUnitFault unit) }
+    ensures { AnswersUnit unit result }
 {
     let objects = match consume_unit(alloc, unit) {
         Ok(objects) => objects,

@@ -74,11 +74,8 @@ fn object(alloc: Global, module: &Module) -> Result<Object, AsmFault>
 fn objects(alloc: Global, modules: &[Module]) -> Result<Vec<Object>, AsmFault>
     requires formed { All IsFormedModule modules.now }
     requires few { sum_by (λ m. length m.statements) modules.now < 2 ^ 31 }
-    ensures objects { IfOk result (λ v. v.items ≡ map object_of modules.now) }
-    ensures sound { IfOk result (λ v. All IsSound v.items) }
-    ensures clean { OnOk result (modules_fault modules.now ≡ None) }
-    ensures fault { IfErr result (λ e. (e ≡ memory_ran_out)
-        ⊎ (modules_fault modules.now ≡ Some e)) }
+    ensures { AnswersFirst result (modules_fault modules.now)
+        (λ v. (v.items ≡ map object_of modules.now) × All IsSound v.items) }
 {
     let mut out = Vec::new(alloc);
     for part in modules {
@@ -135,10 +132,8 @@ fn consume_module(alloc: Global, module: Module) -> Result<Object, AsmFault>
 /// there uncopied, and the statements of a module are let go behind its layout.
 pub(crate) fn consume_unit(alloc: Global, unit: Unit) -> Result<Vec<Object>, AsmFault>
     requires { IsWellFormed unit }
-    ensures objects { IfOk result (λ v. v.items ≡ objects_of unit) }
-    ensures sound { IfOk result (λ v. All IsSound v.items) }
-    ensures accepted { OnOk result (IsAssembled unit) }
-    ensures fault { IfErr result (λ e. (e ≡ memory_ran_out) ⊎ (unit_fault unit ≡ Some e)) }
+    ensures { AnswersFirst result (unit_fault unit)
+        (λ v. (v.items ≡ objects_of unit) × All IsSound v.items) }
 {
     let mut objects = Vec::new(alloc);
     for part in unit.modules.into_items() {

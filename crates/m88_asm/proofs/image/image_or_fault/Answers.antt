@@ -22,41 +22,37 @@ is_linked : (u : Source) (os : List Object) (image : ProgramImage) → IsWellFor
 is_linked u os image formed e links linked =
     linked_law u image formed (can_link u os e links) (subst (λ (qs : List Object). IsLinked (layout_of qs) image) e linked)
 
-pub returns-in-Ok-link-clause-linked : goal.returns-in-Ok-link-clause-linked
-returns-in-Ok-link-clause-linked c =
-    is_linked c.args.unit c.deref.result.now c.in-Ok-link.image c.requires (c.deref.ensures.value ∙ c.in-Ok.ensures.objects)
-    c.in-Ok-link.ensures.linkable c.in-Ok-link.ensures.image
-
-pub returns-in-Ok-link-clause-image : goal.returns-in-Ok-link-clause-image
-returns-in-Ok-link-clause-image c =
-    let e = c.deref.ensures.value ∙ c.in-Ok.ensures.objects in
-    image_law c.args.unit c.in-Ok-link.image c.requires c.in-Ok-link.ensures.is_image
-    (can_link c.args.unit c.deref.result.now e c.in-Ok-link.ensures.linkable)
-    (subst (λ (os : List Object). IsLinked (layout_of os) c.in-Ok-link.image) e c.in-Ok-link.ensures.image)
-
-pub returns-in-Ok-link-clause-instructions : goal.returns-in-Ok-link-clause-instructions
-returns-in-Ok-link-clause-instructions c =
+pub returns-in-Ok-link : goal.returns-in-Ok-link
+returns-in-Ok-link c =
     let u = c.args.unit in
-    let e = c.deref.ensures.value ∙ c.in-Ok.ensures.objects in
+    let e = c.deref.ensures.value ∙ c.in-Ok.ensures.right.0 in
+    let os = c.deref.result.now in
+    let image = c.in-Ok-link.image in
     let links = c.in-Ok-link.ensures.linkable in
-    instructions_law u c.in-Ok-link.image c.requires c.in-Ok.ensures.accepted
-    (linkable_law u (can_link u c.deref.result.now e links))
-    (is_linked u c.deref.result.now c.in-Ok-link.image c.requires e links c.in-Ok-link.ensures.image)
+    let linked = is_linked u os image c.requires e links c.in-Ok-link.ensures.image in
+    let linkable = linkable_law u (can_link u os e links) in
+    record {
+      image =
+          image_law u image c.requires c.in-Ok-link.ensures.is_image (can_link u os e links)
+          (subst (λ (qs : List Object). IsLinked (layout_of qs) image) e c.in-Ok-link.ensures.image);
+      instructions = instructions_law u image c.requires c.in-Ok.ensures.clean linkable linked;
+      linked = linked;
+      accepted = record { assembled = c.in-Ok.ensures.clean; linkable = linkable };
+      fault = tt;
+    }
 
-pub returns-in-Ok-link-clause-accepted : goal.returns-in-Ok-link-clause-accepted
-returns-in-Ok-link-clause-accepted c = record {
-  assembled = c.in-Ok.ensures.accepted;
-  linkable =
-      linkable_law c.args.unit
-      (can_link c.args.unit c.deref.result.now (c.deref.ensures.value ∙ c.in-Ok.ensures.objects) c.in-Ok-link.ensures.linkable);
+pub returns : goal.returns
+returns c = record {
+  image = tt;
+  instructions = tt;
+  linked = tt;
+  accepted = tt;
+  fault = elim c.in-Err-link.ensures.err [
+    | inl e ↦ inl e
+    | inr e ↦ inr (
+      c.in-Ok.ensures.clean,
+      refused_law c.args.unit c.in-Err-link.fault
+          (subst (λ os. IsRefused (layout_of os) c.in-Err-link.fault) (c.deref.ensures.value ∙ c.in-Ok.ensures.right.0) e),
+    )
+  ];
 }
-
-pub returns-clause-fault : goal.returns-clause-fault
-returns-clause-fault c = elim c.in-Err-link.ensures.err [
-  | inl e ↦ inl e
-  | inr e ↦ inr (
-    c.in-Ok.ensures.accepted,
-    refused_law c.args.unit c.in-Err-link.fault
-        (subst (λ os. IsRefused (layout_of os) c.in-Err-link.fault) (c.deref.ensures.value ∙ c.in-Ok.ensures.objects) e),
-  )
-]

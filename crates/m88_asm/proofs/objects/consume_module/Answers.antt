@@ -13,13 +13,16 @@ returns-in-Ok c =
     let xs = c.into_items-statements.result.items in
     let grown = c.in-Ok.ensures.right in
     let is =
-        finished_object m xs c.in-Ok.assembly c.into_items-statements.ensures grown (contains bytes_eq c.in_ok-names.names)
-        c.in_ok-into_object-in-Ok.field-0
-        (λ name. c.in_ok-names.ensures name ∙ ap (λ ys. list_any (declares name) ys) c.deref.ensures.value)
-        c.in_ok-into_object-in-Ok.ensures.value in
+    finished_object m xs c.in-Ok.assembly c.into_items-statements.ensures grown (contains bytes_eq c.in_ok-names.names)
+    c.in_ok-into_object-in-Ok.field-0
+    (λ name. c.in_ok-names.ensures name ∙ ap (λ ys. list_any (declares name) ys) c.deref.ensures.value)
+    c.in_ok-into_object-in-Ok.ensures.value in
     record {
-      right = (is, finished_sound m xs c.in-Ok.assembly c.into_items-statements.ensures grown c.in_ok-into_object-in-Ok.field-0 is
-        c.in-Ok.ensures.clean c.in_ok-into_object-in-Ok.ensures.names c.in_ok-into_object-in-Ok.ensures.room);
+      right = (
+        is,
+        finished_sound m xs c.in-Ok.assembly c.into_items-statements.ensures grown c.in_ok-into_object-in-Ok.field-0 is
+            c.in-Ok.ensures.clean c.in_ok-into_object-in-Ok.ensures.names c.in_ok-into_object-in-Ok.ensures.room,
+      );
       clean = finished_clean m xs c.in-Ok.assembly c.into_items-statements.ensures grown c.in-Ok.ensures.clean;
       fault = tt;
     }

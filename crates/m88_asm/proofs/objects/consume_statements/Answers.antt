@@ -1,5 +1,5 @@
 -- What there is, with the statements to come, is what all statements grow to.
-use Rattle.std.proofs.Common.{◌≡◌, ◌<◌, ◌≤◌, List, arith, get_or, inl, inr, length, [], ap, refl, rules, subst, sym}
+use Rattle.std.proofs.Common.{arith, inl, inr, length, [], ap, refl, rules, subst, sym}
 use Rattle.std.proofs.lemmas.Iterator.Adapters.{YieldsList-from_vec}
 use Rattle.std.proofs.lemmas.Iterator.Consumers.{YieldsList-end, YieldsList-turn}
 use Rattle.std.proofs.lemmas.List.{length_push}

@@ -1,5 +1,5 @@
 -- One module more: its object, that it is sound, and the faults that are still to come.
-use Rattle.std.proofs.Common.{ℕ, Some, None, ◌≡◌, ◌<◌, ◌+◌, ◌∙◌, List, [], ◌∷◌, ◌++◌, ap, ap₂, arith, drop, drop_of_length-le, get_or, inl, inr, length, map, rules, subst, sym, take, take_all}
+use Rattle.std.proofs.Common.{ℕ, ◌≡◌, ◌<◌, ◌≤◌, ◌+◌, ◌∙◌, List, [], ◌∷◌, ◌++◌, ap, ap₂, arith, drop, drop_of_length-le, get_or, inl, inr, length, map, rules, subst, sym, take, take_all}
 use Rattle.std.specs.Option.{option_or}
 use Rattle.std.proofs.lemmas.Iterator.Adapters.{YieldsList-from_vec}
 use Rattle.std.proofs.lemmas.Iterator.Consumers.{YieldsList-end, YieldsList-turn}
@@ -9,7 +9,7 @@ use Rattle.m88_parse.specs.WellFormed.{IsFormedModule}
 use Rattle.m88_parse.specs.declared.unit.Module.{Module}
 use Rattle.m88_link.specs.Sound.{IsSound}
 use Rattle.m88_link.specs.declared.object.Object.{Object}
-use Rattle.m88_asm.specs.Faults.{module_fault, modules_fault}
+use Rattle.m88_asm.specs.Faults.{modules_fault}
 use Rattle.m88_asm.specs.Objects.{object_of}
 use Rattle.m88_asm.proofs.Resting.{next_of}
 use Rattle.m88_asm.proofs.objects.consume_unit.Goals as goal
@@ -27,21 +27,25 @@ consume_module-requires-clause-formed c =
     c.loop-part.yielded c.loop-part.part-iterator c.loop-part.yielded_by c.next.result c.next.new.self part c.in-Some.is c.next.ensures.steps) in
     subst IsFormedModule (sym t.1) (All-get_or IsFormedModule ms (length c.loop-part.yielded) part t.0 c.requires.each)
 
-pub returns-in-Err-clause-fault : goal.returns-in-Err-clause-fault
-returns-in-Err-clause-fault c =
+pub returns-in-Err : goal.returns-in-Err
+returns-in-Err c =
     let ms = c.args.unit.modules in
     let part = c.in-Some.part in
     let i = length c.loop-part.yielded in
     let t = turned c.into_items-part-items.ensures (
     YieldsList-turn (YieldsList-from_vec {s = c.into_iter-part-iterator.result} c.into_items-part-items.result.items (search rules) (search rules))
     c.loop-part.yielded c.loop-part.part-iterator c.loop-part.yielded_by c.next.result c.next.new.self part c.in-Some.is c.next.ensures.steps) in
-    elim c.in-Err.ensures.fault [
-      | inl e ↦ inl e
-      | inr e ↦ inr (
-          sym c.loop-part.invariant.faults ∙ ap modules_fault (next_of ms i part part t.0 t.1)
-          ∙ ap (λ f. option_or f (modules_fault (drop (i + 1) ms))) e
-          )
-    ]
+    record {
+      right = tt;
+      clean = tt;
+      fault = elim c.in-Err.ensures.fault [
+        | inl e ↦ inl e
+        | inr e ↦ inr (
+            sym c.loop-part.invariant.faults ∙ ap modules_fault (next_of ms i part part t.0 t.1)
+            ∙ ap (λ f. option_or f (modules_fault (drop (i + 1) ms))) e
+            )
+      ];
+    }
 
 pub loop-part-preserved : goal.loop-part-preserved
 loop-part-preserved c =
@@ -68,16 +72,14 @@ loop-part-preserved c =
           ∙ c.loop-part.invariant.faults;
     }
 
-pub returns-clause-objects : goal.returns-clause-objects
-returns-clause-objects c =
+pub returns : goal.returns
+returns c =
     let ms = c.args.unit.modules in
     let end = YieldsList-end (YieldsList-from_vec {s = c.into_iter-part-iterator.result} c.into_items-part-items.result.items (search rules) (search rules))
     c.loop-part.yielded c.loop-part.part-iterator c.loop-part.yielded_by c.next.result c.next.new.self c.in-None.is c.next.ensures.steps in
-    c.loop-part.invariant.made ∙ ap (map object_of) (take_all (length c.loop-part.yielded) ms (omega (arith, end.1, ap length c.into_items-part-items.ensures)))
-
-pub returns-clause-accepted : goal.returns-clause-accepted
-returns-clause-accepted c =
-    let ms = c.args.unit.modules in
-    let end = YieldsList-end (YieldsList-from_vec {s = c.into_iter-part-iterator.result} c.into_items-part-items.result.items (search rules) (search rules))
-    c.loop-part.yielded c.loop-part.part-iterator c.loop-part.yielded_by c.next.result c.next.new.self c.in-None.is c.next.ensures.steps in
-    sym c.loop-part.invariant.faults ∙ ap modules_fault (drop_of_length-le ms (omega (arith, end.1, ap length c.into_items-part-items.ensures)))
+    let all : length ms ≤ length c.loop-part.yielded = omega (arith, end.1, ap length c.into_items-part-items.ensures) in
+    record {
+      right = (c.loop-part.invariant.made ∙ ap (map object_of) (take_all (length c.loop-part.yielded) ms all), c.loop-part.invariant.sound);
+      clean = sym c.loop-part.invariant.faults ∙ ap modules_fault (drop_of_length-le ms all);
+      fault = tt;
+    }
