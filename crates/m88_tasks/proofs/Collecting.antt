@@ -10,6 +10,7 @@ use Rattle.m88_event.specs.declared.outcome.Outcome.{Outcome}
 use Rattle.m88_board.specs.Contexts.{StandsFor}
 use Rattle.m88_board.specs.declared.context.Context.{Context}
 use Rattle.m88_tasks.proofs.Places.{set_there}
+use Rattle.m88_tasks.specs.Inside.Taking.{IsOutcomeOf}
 use Rattle.m88_tasks.specs.Shared.{Group, outcomes_of, over_at}
 use Rattle.m88_tasks.specs.Tasks.{ArePlaces, IsOnlyNone}
 
@@ -52,16 +53,15 @@ only_of g moments current places are = λ q h. are q None h
 outcome_of_place : (places : List (Option Context)) (own o : Outcome) (contexts : List (Option Context)) (kept : Option Outcome) (outcomes : List Outcome)
     (q : ℕ) (place : Option Context) (g : Group) (moments : ℕ → Moment) (current : ℕ) →
     Collected places own contexts kept outcomes q → slice_get places q ≡ Some place → q < length places →
-    ((p : Program) (named : ℕ → Bool) (m : Moment) (c : Context) → place ≡ Some c → StandsFor p named m c → is_over p c.book.limit m ≡ true → o ≡ outcome_at p m) →
-    (place ≡ None → kept ≡ Some o) → ArePlaces g moments current places → ((k : ℕ) → k < length places → over_at g moments k ≡ true) →
+    IsOutcomeOf place kept o → ArePlaces g moments current places → ((k : ℕ) → k < length places → over_at g moments k ≡ true) →
     own ≡ outcome_at (g.programs current) (moments current) → o ≡ outcome_at (g.programs q) (moments q)
-outcome_of_place places own o contexts kept outcomes q None g moments current has at inside saved mine are over here =
+outcome_of_place places own o contexts kept outcomes q None g moments current has at inside came are over here =
     let same : q ≡ current = are q None at in
     let waits = has.waits current (only_of g moments current places are) (omega (arith, same)) in
-    same_some o own (sym (mine refl) ∙ waits) ∙ here ∙ ap (λ (n : ℕ). outcome_at (g.programs n) (moments n)) (sym same)
-outcome_of_place places own o contexts kept outcomes q (Some c) g moments current has at inside saved mine are over here =
+    same_some o own (sym (came.own_is refl) ∙ waits) ∙ here ∙ ap (λ (n : ℕ). outcome_at (g.programs n) (moments n)) (sym same)
+outcome_of_place places own o contexts kept outcomes q (Some c) g moments current has at inside came are over here =
     let place = are q (Some c) at in
-    saved (g.programs q) g.named (moments q) c refl place.1
+    came.saved (g.programs q) g.named (moments q) c refl place.1
     (subst (λ (n : ℕ). is_over (g.programs q) n (moments q) ≡ true) (sym place.2) (over q inside))
 
 kept_on : (places : List (Option Context)) (own : Outcome) (kept later : Option Outcome) (q current : ℕ) (place : Option Context) →
@@ -72,10 +72,9 @@ kept_on places own kept later q current (Some c) at only low same waits = same c
 pub collected_next : (places : List (Option Context)) (own o : Outcome) (contexts : List (Option Context)) (kept later : Option Outcome)
     (outcomes more : List Outcome) (q : ℕ) (place : Option Context) → Collected places own contexts kept outcomes q → slice_get contexts q ≡ Some place →
     q < length contexts →
-    ((p : Program) (named : ℕ → Bool) (m : Moment) (c : Context) → place ≡ Some c → StandsFor p named m c → is_over p c.book.limit m ≡ true → o ≡ outcome_at p m) →
-    (place ≡ None → kept ≡ Some o) → ((c : Context) → place ≡ Some c → later ≡ kept) → more ≡ outcomes ++ (o ∷ []) →
+    IsOutcomeOf place kept o → ((c : Context) → place ≡ Some c → later ≡ kept) → more ≡ outcomes ++ (o ∷ []) →
     Collected places own (slice_set contexts q None) later more (q + 1)
-collected_next places own o contexts kept later outcomes more q place has at inside saved mine same e =
+collected_next places own o contexts kept later outcomes more q place has at inside came same e =
     let size = has.size in
     let held : slice_get places q ≡ Some place = sym (has.rest q (omega arith)) ∙ at in
     record {
@@ -88,7 +87,7 @@ collected_next places own o contexts kept later outcomes more q place has at ins
       made = λ g moments current are over here.
           e
           ∙ ap₂ (λ (xs : List Outcome) (x : Outcome). xs ++ (x ∷ [])) (has.made g moments current are over here)
-          (outcome_of_place places own o contexts kept outcomes q place g moments current has held (omega (arith, inside, size)) saved mine are over here)
+          (outcome_of_place places own o contexts kept outcomes q place g moments current has held (omega (arith, inside, size)) came are over here)
           ∙ sym (one_more g moments q);
     }
 
@@ -102,14 +101,19 @@ kept_some places own contexts kept outcomes q current place has only at none =
     ap is_some (has.waits current only (omega (arith, here)))
 
 -- the outcome of a context, by the place that it had
-pub outcome_saved : (r : Result Outcome NoMemory) (place : Option Context) (mine : Context) → place ≡ Some mine →
+pub outcome_saved : (r : Result Outcome NoMemory) (place : Option Context) (own : Option Outcome) (mine : Context) → place ≡ Some mine →
     IfOk r (λ o. (p : Program) (named : ℕ → Bool) (m : Moment) → StandsFor p named m mine → is_over p mine.book.limit m ≡ true → o ≡ outcome_at p m) →
-    IfOk r (λ o. (p : Program) (named : ℕ → Bool) (m : Moment) (c : Context) → place ≡ Some c → StandsFor p named m c → is_over p c.book.limit m ≡ true
-    → o ≡ outcome_at p m)
-outcome_saved (Ok o) place mine is h = λ p named m c e stands over.
-    let same : c ≡ mine = same_context c mine (sym e ∙ is) in
-    h p named m (subst (StandsFor p named m) same stands) (subst (λ (x : Context). is_over p x.book.limit m ≡ true) same over)
+    IfOk r (IsOutcomeOf place own)
+outcome_saved (Ok o) place own mine is h = record {
+  saved = λ p named m c e stands over.
+      let same : c ≡ mine = same_context c mine (sym e ∙ is) in
+      h p named m (subst (StandsFor p named m) same stands) (subst (λ (x : Context). is_over p x.book.limit m ≡ true) same over);
+  own_is = λ none. absurd (some_none (sym is ∙ none));
+}
   where
     same_context : (a b : Context) → Some a ≡ Some b → a ≡ b
     same_context a b e = cc
-outcome_saved (Err e) place mine is h = tt
+
+    some_none : Some mine ≡ None → ⊥
+    some_none e = cc
+outcome_saved (Err e) place own mine is h = tt

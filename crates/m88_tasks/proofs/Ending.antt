@@ -1,13 +1,14 @@
 -- What a shared run comes to, by what memory leaves of it.
-use Rattle.std.specs.Prelude.{ℕ, Bool, true, List, ◌≡◌, ◌≤◌, nat_lt, Result, Ok, Err, IfOk}
+use Rattle.std.specs.Prelude.{ℕ, Bool, true, List, ◌≡◌, ◌≤◌, length, nat_lt, Result, Ok, Err, IfOk}
 use Rattle.std.proofs.Common.{arith, sym, ap, ◌∙◌}
 use Rattle.std.proofs.lemmas.Bool.{ltb-false, ltb-true}
 use Rattle.m88_base.specs.declared.failing.NoMemory.{NoMemory}
 use Rattle.m88_isa.proofs.Laws.{by_test}
 use Rattle.m88_tasks.proofs.Choosing.{no_true}
 use Rattle.m88_tasks.proofs.Running.{Went, over_view, went_own, went_shared}
-use Rattle.m88_tasks.specs.Shared.{AreOwnOutcomes, Group, IsShared, SharedMoment, all_over, opening_shared, shared_after, shared_at}
-use Rattle.m88_tasks.specs.Tasks.{IsTasksAt, TasksView, is_over_view}
+use Rattle.m88_tasks.specs.Inside.Taking.{IsSharedOf}
+use Rattle.m88_tasks.specs.Shared.{Group, IsShared, all_over, opening_shared, shared_after, shared_at}
+use Rattle.m88_tasks.specs.Tasks.{IsTasksAt, RanShared, TasksView, is_over_view, most_shared_events}
 use Rattle.m88_tasks.specs.declared.letter.ShareLetter.{ShareLetter}
 use Rattle.m88_tasks.specs.declared.shared.Shared.{Shared}
 
@@ -26,28 +27,20 @@ shared_only g schedule o other a b =
         (λ t. absurd (no_true _ b.run.here (a.run.first b.events (ltb-true b.events a.events t))))
         (λ e. let low = ltb-false a.events b.events f in let high = ltb-false b.events a.events e in omega (arith, low, high)))
 
-abbrev pub Came : Result Shared NoMemory → TasksView → Type 0
-Came r t = IfOk r (λ o. (g : Group) (s : SharedMoment) → IsTasksAt g s t → all_over g s.moments ≡ true → o ≡ shared_at g s)
-
 value_at : (g : Group) (schedule : List ShareLetter) (k : ℕ) (t : TasksView) (o : Shared) → Went g schedule k t → is_over_view t ≡ true →
-    ((g : Group) (s : SharedMoment) → IsTasksAt g s t → all_over g s.moments ≡ true → o ≡ shared_at g s) → o ≡ shared_at g (shared_after g schedule k)
+    IsSharedOf t o → o ≡ shared_at g (shared_after g schedule k)
 value_at g schedule k t o went over h =
-    h g (shared_after g schedule k) went.at (sym (over_view g (shared_after g schedule k) t went.at) ∙ over)
+    h.value g (shared_after g schedule k) went.at (sym (over_view g (shared_after g schedule k) t went.at) ∙ over)
 
-pub run_shared : (r : Result Shared NoMemory) (schedule : List ShareLetter) (k : ℕ) (first t : TasksView) →
-    ((g : Group) → IsTasksAt g (opening_shared g) first → Went g schedule k t) → is_over_view t ≡ true → Came r t →
-    IfOk r (λ o. (g : Group) → IsTasksAt g (opening_shared g) first → IsShared g schedule o)
-run_shared (Ok o) schedule k first t went over h = λ g at.
-    went_shared g schedule k t o (went g at) over (value_at g schedule k t o (went g at) over h)
-run_shared (Err e) schedule k first t went over h = tt
-
-pub run_own : (r : Result Shared NoMemory) (schedule : List ShareLetter) (k : ℕ) (first t : TasksView) →
-    ((g : Group) → IsTasksAt g (opening_shared g) first → Went g schedule k t) → is_over_view t ≡ true → Came r t →
-    IfOk r (λ o. (g : Group) → IsTasksAt g (opening_shared g) first → AreOwnOutcomes g schedule o)
-run_own (Ok o) schedule k first t went over h = λ g at.
-    went_own g schedule k t o (went g at) over (value_at g schedule k t o (went g at) over h)
-run_own (Err e) schedule k first t went over h = tt
-
-pub run_within : (r : Result Shared NoMemory) (n k most : ℕ) → n ≡ k → k ≤ most → IfOk r (λ o. o.events ≡ n) → IfOk r (λ o. o.events ≤ most)
-run_within (Ok o) n k most same few h = omega (arith, same, few, h)
-run_within (Err e) n k most same few h = tt
+pub ran_shared : (r : Result Shared NoMemory) (schedule : List ShareLetter) (k : ℕ) (first t : TasksView) →
+    ((g : Group) → IsTasksAt g (opening_shared g) first → Went g schedule k t) → is_over_view t ≡ true → t.events ≡ k →
+    k ≤ most_shared_events (length schedule) (length first.programs.contexts) first.programs.board.limit → IfOk r (IsSharedOf t) →
+    IfOk r (RanShared schedule first)
+ran_shared (Ok o) schedule k first t went over same few h =
+    let events = h.events in
+    record {
+      shared = λ g at. went_shared g schedule k t o (went g at) over (value_at g schedule k t o (went g at) over h);
+      own = λ g at. went_own g schedule k t o (went g at) over (value_at g schedule k t o (went g at) over h);
+      within = omega (arith, same, few, events);
+    }
+ran_shared (Err e) schedule k first t went over same few h = tt

@@ -14,8 +14,9 @@ use Rattle.m88_isa.specs.ImageProgram.{IsProgramOf}
 use Rattle.m88_isa.specs.Machine.{IsProgram}
 use Rattle.m88_mem.specs.Marks.{absent_in}
 use Rattle.m88_tasks.specs.Past.{HasSharedPast}
-use Rattle.m88_tasks.specs.Shared.{Group, SharedMoment, after_share, turned_at}
+use Rattle.m88_tasks.specs.Shared.{AreOwnOutcomes, Group, IsShared, SharedMoment, after_share, opening_shared, turned_at}
 use Rattle.m88_tasks.specs.declared.letter.ShareLetter.{ShareLetter}
+use Rattle.m88_tasks.specs.declared.shared.Shared.{Shared}
 use Rattle.m88_tasks.specs.declared.shared.Switch.{Switch}
 use Rattle.m88_tasks.specs.declared.turned.Turned.{Turned}
 
@@ -125,3 +126,24 @@ pub record IsTaken (g : Group) (letter : ShareLetter) (s : SharedMoment) (turned
 -- the most events of a shared run
 abbrev pub most_shared_events : ℕ → ℕ → ℕ → ℕ
 most_shared_events letters programs limit = letters + programs * (8 * limit + 8)
+
+-- the programs of some images stand before the first event of a shared run, and no event is counted
+pub record BeginsTasks (images : List ProgramImage) (absent : Absent) (limit : ℕ) (t : TasksView) : Type 0 where
+  pub at : (g : Group) → IsGroupOf images absent limit g → IsTasksAt g (opening_shared g) t
+  pub events : t.events ≡ 0
+  pub group : (g : Group) × IsGroupOf images absent limit g
+
+-- the event of a letter is made, told, and counted
+pub record MadeEvent (letter : ShareLetter) (old : TasksView) (turned : Turned) (new : TasksView) : Type 0 where
+  pub timeline : (g : Group) (s : SharedMoment) → IsTasksAt g s old → IsTasksAt g (after_share g letter s) new
+  pub said : (g : Group) (s : SharedMoment) → IsTasksAt g s old → turned ≡ turned_at g letter s
+  pub counted : new.events ≡ old.events + 1
+
+-- a run from the first event on, under the letters of a schedule and then `r` and `i` in turn, came to this: what the
+-- shared timeline comes to, of each program what its own run comes to under its own letters, and no more events than
+-- that
+pub record RanShared (schedule : List ShareLetter) (t : TasksView) (o : Shared) : Type 0 where
+  pub shared : (g : Group) → IsTasksAt g (opening_shared g) t → IsShared g schedule o
+  pub own : (g : Group) → IsTasksAt g (opening_shared g) t → AreOwnOutcomes g schedule o
+  pub within : o.events
+      ≤ most_shared_events (length schedule) (length t.programs.contexts) t.programs.board.limit

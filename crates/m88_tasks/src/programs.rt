@@ -1,14 +1,15 @@
 //! The program that runs, on the board, and the contexts of the others.
 
-ghost use Rattle.std.specs.Prelude.{ℕ, Bool, [], ◌≡◌, ◌≢◌, ◌<◌, ◌≤◌, ◌+◌, ◌-◌, is_some, length, true, false, IfOk, OnErr, OnOk};
+ghost use Rattle.std.specs.Prelude.{ℕ, Bool, ◌≡◌, ◌<◌, ◌≤◌, ◌+◌, ◌-◌, is_some, length, true, false, IfOk, OnErr};
 ghost use Rattle.m88_board.specs.Contexts.{StandsFor};
 ghost use Rattle.m88_board.specs.Kept.{most_events};
 ghost use Rattle.m88_board.specs.declared.context.Context.{Context as ContextValue};
 ghost use Rattle.m88_event.specs.Run.{outcome_at};
-ghost use Rattle.m88_event.specs.Timeline.{Moment, is_over, said_at};
+ghost use Rattle.m88_event.specs.Timeline.{Moment, is_over};
 ghost use Rattle.m88_isa.specs.Machine.{Program};
-ghost use Rattle.m88_tasks.specs.Shared.{Group, SharedMoment, all_over, first_alive, moments_then, next_from, outcomes_of, over_at, settled_from, switch_by};
-ghost use Rattle.m88_tasks.specs.Tasks.{ArePlaces, ArePrograms, AreSomePrograms, AreUnmoved, IsOnlyNone, IsTaken, most_programs};
+ghost use Rattle.m88_tasks.specs.Shared.{Group, SharedMoment, all_over, first_alive, next_from, outcomes_of, over_at, settled_from, switch_by};
+ghost use Rattle.m88_tasks.specs.Inside.Taking.{AreLeft, AreNumbers, IsOutcomeOf, MayExchange, TookLetter, stays};
+ghost use Rattle.m88_tasks.specs.Tasks.{ArePlaces, ArePrograms, AreSomePrograms, AreUnmoved, IsOnlyNone, IsTaken};
 ghost use Rattle.m88_tasks.specs.declared.letter.ShareLetter.TheVariants as share;
 
 use crate::letter::ShareLetter;
@@ -69,8 +70,7 @@ impl Programs {
 
     /// The board.
     pub fn board(&self) -> &Board
-        ensures board { result.now ≡ self.now.board }
-        ensures kept { AreSomePrograms self.now }
+        ensures { result.now ≡ self.now.board }
     {
         &self.board
     }
@@ -119,9 +119,7 @@ impl Programs {
 
     /// Another program runs from now on, by an interrupt.
     fn exchange(&mut self, to: usize)
-        requires inside { to < length self.old.contexts }
-        requires other { to ≢ self.old.current }
-        requires empty { self.old.board.pending ≡ [] }
+        requires { MayExchange to self.old }
         ensures { (g : Group) (moments : ℕ → Moment) (current : ℕ)
             → ArePrograms g moments current self.old → ArePrograms g moments to self.new }
     {
@@ -138,12 +136,7 @@ impl Programs {
     /// The program that runs takes a letter.
     fn step(&mut self, letter: Letter) -> Result<Happened, NoMemory>
         requires { self.old.board.events < most_events }
-        ensures timeline { OnOk result ((g : Group) (moments : ℕ → Moment) (current : ℕ)
-            → ArePrograms g moments current self.old
-            → ArePrograms g (moments_then g letter moments current) current self.new) }
-        ensures said { IfOk result (λ happened. (g : Group) (moments : ℕ → Moment) (current : ℕ)
-            → ArePrograms g moments current self.old
-            → happened ≡ said_at (g.programs current) g.named g.limit letter (moments current)) }
+        ensures took { IfOk result (λ happened. TookLetter stays letter self.old happened self.new) }
         ensures err { OnErr result (AreUnmoved self.old self.new) }
     {
         let happened = self.board.event(letter)?;
@@ -168,13 +161,8 @@ impl Programs {
     /// The program that runs takes a letter; where it is over then, the next one runs from now on.
     fn own(&mut self, letter: Letter) -> Result<Happened, NoMemory>
         requires { self.old.board.events < most_events }
-        ensures timeline { OnOk result ((g : Group) (moments : ℕ → Moment) (current : ℕ)
-            → ArePrograms g moments current self.old
-            → ArePrograms g (moments_then g letter moments current)
-            (settled_from g (moments_then g letter moments current) current) self.new) }
-        ensures said { IfOk result (λ happened. (g : Group) (moments : ℕ → Moment) (current : ℕ)
-            → ArePrograms g moments current self.old
-            → happened ≡ said_at (g.programs current) g.named g.limit letter (moments current)) }
+        ensures took { IfOk result (λ happened. TookLetter settled_from letter self.old happened
+            self.new) }
         ensures err { OnErr result (AreUnmoved self.old self.new) }
     {
         let happened = self.step(letter)?;
@@ -189,8 +177,8 @@ impl Programs {
             → ArePrograms g s.moments s.current self.old → over_at g s.moments s.current ≡ false
             → event ≡ s.events + 1 → switches.old.items ≡ s.switches
             → IsTaken g share.Turn s turned self.new switches.new.items) }
-        ensures err { OnErr result (self.new ≡ self.old) }
-        ensures unswitched { OnErr result (switches.new.items ≡ switches.old.items) }
+        ensures err { OnErr result (AreLeft self.old self.new switches.old.items
+            switches.new.items) }
     {
         let pending = self.board.pending();
         if pending > 0 {
@@ -218,8 +206,8 @@ impl Programs {
             → ArePrograms g s.moments s.current self.old → over_at g s.moments s.current ≡ false
             → event ≡ s.events + 1 → switches.old.items ≡ s.switches
             → IsTaken g letter s turned self.new switches.new.items) }
-        ensures err { OnErr result (AreUnmoved self.old self.new) }
-        ensures unswitched { OnErr result (switches.new.items ≡ switches.old.items) }
+        ensures err { OnErr result (AreLeft self.old self.new switches.old.items
+            switches.new.items) }
     {
         match letter {
             ShareLetter::Own(letter) => Ok(Turned::Own(self.own(letter)?)),
@@ -266,8 +254,7 @@ fn is_over(context: &Context) -> bool
 
 /// The switch of an event, by the words that are saved of the program that ran.
 fn switch_of(event: u64, from: usize, to: usize, saved: &Record) -> Switch
-    requires from { from ≤ most_programs }
-    requires to { to ≤ most_programs }
+    requires { AreNumbers from to }
     ensures { result ≡ switch_by event from to saved.now }
 {
     Switch {
@@ -284,10 +271,7 @@ fn switch_of(event: u64, from: usize, to: usize, saved: &Record) -> Switch
 /// What the program of a place came to: of the one that runs it is there already.
 fn outcome_of(context: Option<Context>, own: &mut Option<Outcome>) -> Result<Outcome, NoMemory>
     requires { context ≡ None → is_some own.old ≡ true }
-    ensures saved { IfOk result (λ o. (p : Program) (named : ℕ → Bool) (m : Moment)
-        (c : ContextValue) → context ≡ Some c → StandsFor p named m c → is_over p c.book.limit m ≡ true
-        → o ≡ outcome_at p m) }
-    ensures own { IfOk result (λ o. context ≡ None → own.old ≡ Some o) }
+    ensures came { IfOk result (IsOutcomeOf context own.old) }
     ensures same { (c : ContextValue) → context ≡ Some c → own.new ≡ own.old }
 {
     match context {

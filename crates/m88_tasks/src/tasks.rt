@@ -1,10 +1,11 @@
 //! Programs that share a board.
 
-ghost use Rattle.std.specs.Prelude.{◌≡◌, ◌<◌, ◌≤◌, ◌+◌, length, true, false, IfOk, OnErr, OnOk};
+ghost use Rattle.std.specs.Prelude.{◌≡◌, ◌<◌, ◌≤◌, length, false, IfOk, OnErr};
 ghost use Rattle.m88_board.specs.Kept.{most_events, most_retired};
 ghost use Rattle.m88_mem.specs.Marks.{NamesPages};
-ghost use Rattle.m88_tasks.specs.Shared.{AreOwnOutcomes, Group, IsShared, SharedMoment, after_share, all_over, opening_shared, shared_at, turned_at};
-ghost use Rattle.m88_tasks.specs.Tasks.{AreTasks, IsGroupOf, AreTasksUnmoved, IsTasksAt, is_over_view, most_programs, most_shared_events};
+ghost use Rattle.m88_tasks.specs.Inside.Taking.{IsSharedOf};
+ghost use Rattle.m88_tasks.specs.Shared.{Group, IsShared, SharedMoment, all_over};
+ghost use Rattle.m88_tasks.specs.Tasks.{AreTasks, AreTasksUnmoved, BeginsTasks, IsTasksAt, MadeEvent, RanShared, is_over_view, most_programs};
 ghost use Rattle.m88_tasks.specs.declared.shared.Shared.{Shared as SharedValue};
 
 use crate::letter::ShareLetter;
@@ -57,10 +58,7 @@ impl Tasks {
         requires few { length images.now ≤ most_programs }
         requires pages { NamesPages absent.now }
         requires small { limit ≤ most_retired }
-        ensures at { IfOk result (λ t. (g : Group) → IsGroupOf images.now absent.now limit g
-            → IsTasksAt g (opening_shared g) t) }
-        ensures events { IfOk result (λ t. t.events ≡ 0) }
-        ensures group { OnOk result ((g : Group) × IsGroupOf images.now absent.now limit g) }
+        ensures { IfOk result (BeginsTasks images.now absent.now limit) }
     {
         let board = Board::new(alloc, &images[0], absent, limit, false)?;
         let mut contexts = Vec::new(alloc);
@@ -101,11 +99,7 @@ impl Tasks {
     pub fn event(&mut self, letter: ShareLetter) -> Result<Turned, NoMemory>
         requires going { is_over_view self.old ≡ false }
         requires room { self.old.events < most_events }
-        ensures timeline { OnOk result ((g : Group) (s : SharedMoment) → IsTasksAt g s self.old
-            → IsTasksAt g (after_share g letter s) self.new) }
-        ensures said { IfOk result (λ turned. (g : Group) (s : SharedMoment)
-            → IsTasksAt g s self.old → turned ≡ turned_at g letter s) }
-        ensures counted { OnOk result (self.new.events ≡ self.old.events + 1) }
+        ensures made { IfOk result (λ turned. MadeEvent letter self.old turned self.new) }
         ensures err { OnErr result (AreTasksUnmoved self.old self.new) }
     {
         let turned = self
@@ -119,15 +113,9 @@ impl Tasks {
     /// Where memory runs out, the programs are gone.
     pub fn run(mut self, schedule: &ShareSchedule) -> Result<Shared, NoMemory>
         requires { self.events ≡ 0 }
-        ensures shared { IfOk result (λ o. (g : Group) → IsTasksAt g (opening_shared g) self
-            → IsShared g schedule.now o) }
+        ensures ran { IfOk result (RanShared schedule.now self) }
         ensures only { (g : Group) (o other : SharedValue)
             → IsShared g schedule.now o → IsShared g schedule.now other → o ≡ other }
-        ensures own { IfOk result (λ o. (g : Group) → IsTasksAt g (opening_shared g) self
-            → AreOwnOutcomes g schedule.now o) }
-        ensures within { IfOk result (λ o. o.events
-            ≤ most_shared_events (length schedule.now) (length self.programs.contexts)
-            self.programs.board.limit) }
     {
         // Each event takes something off what is left of the programs, so every shared run is over.
         prove!(self.events() == 0);
@@ -142,9 +130,7 @@ impl Tasks {
 
     /// What a shared run came to that is over.
     fn outcome(self) -> Result<Shared, NoMemory>
-        ensures value { IfOk result (λ o. (g : Group) (s : SharedMoment) → IsTasksAt g s self
-            → all_over g s.moments ≡ true → o ≡ shared_at g s) }
-        ensures events { IfOk result (λ o. o.events ≡ self.events) }
+        ensures { IfOk result (IsSharedOf self) }
     {
         let outcomes = self.programs.outcomes()?;
         Ok(Shared {

@@ -27,5 +27,5 @@ returns c =
     let hold = where_ok c.in_ok-images.field-0 c.in-Ok.images _ _ c.in-Ok.is c.in_ok-images.ensures in
     shared c.args.input.now c.in_ok-text.text.items c.as_slice.result.now c.args.absent.now c.args.limit c.args.schedule.now
     c.in_ok-shared.shared c.in_ok-tasks.tasks (subst (HoldSources c.args.input.now) (sym c.as_slice.ensures.value) hold)
-    c.in_ok-tasks.ensures.at c.in_ok-tasks.ensures.group c.in_ok-shared.ensures.shared c.run.ensures.only c.in_ok-shared.ensures.own
-    c.in_ok-shared.ensures.within c.in_ok-text.ensures
+    c.in_ok-tasks.ensures.at c.in_ok-tasks.ensures.group c.in_ok-shared.ensures.ran.shared c.run.ensures.only c.in_ok-shared.ensures.ran.own
+    c.in_ok-shared.ensures.ran.within c.in_ok-text.ensures

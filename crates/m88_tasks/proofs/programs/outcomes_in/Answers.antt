@@ -21,7 +21,7 @@ loop-q-preserved c =
     (collected_next c.args.contexts.items c.args.own c.in_ok-outcome.outcome c.loop-q.contexts.items c.loop-q.kept c.outcome_of.new.own
     c.loop-q.outcomes.items c.push.new.self.items c.loop-q.q c.take.result c.loop-q.invariant
     (taken_place c.loop-q.contexts.items c.loop-q.q c.index_mut.result.now c.take.result c.take.result inside c.index_mut.ensures.value c.take.ensures.value refl)
-    inside c.in_ok-outcome.ensures.saved c.in_ok-outcome.ensures.own c.in_ok-outcome.ensures.same more)
+    inside c.in_ok-outcome.ensures.came c.in_ok-outcome.ensures.same more)
 
 pub returns : goal.returns
 returns c = λ g moments current are over here.

@@ -2,6 +2,11 @@
 use Rattle.m88_tasks.specs.Shared.{moments_then}
 use Rattle.m88_tasks.proofs.programs.Programs.own.Goals as goal
 
-pub returns-clause-timeline : goal.returns-clause-timeline
-returns-clause-timeline c = λ g moments current held.
-    c.settle.ensures g (moments_then g c.args.letter moments current) current (c.in_ok-happened.ensures.timeline g moments current held)
+pub returns-clause-took : goal.returns-clause-took
+returns-clause-took c =
+    let took = c.in_ok-happened.ensures.took in
+    record {
+      timeline = λ g moments current held.
+          c.settle.ensures g (moments_then g c.args.letter moments current) current (took.timeline g moments current held);
+      said = took.said;
+    }

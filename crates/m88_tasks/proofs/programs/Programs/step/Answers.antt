@@ -1,5 +1,6 @@
 -- The board makes the event of its program.
-use Rattle.std.proofs.Common.{sym, subst}
+use Rattle.std.proofs.Common.{ℕ, ap, sym, subst, ◌∙◌}
+use Rattle.m88_event.specs.Timeline.{said_at}
 use Rattle.m88_tasks.proofs.Places.{moved, unmoved}
 use Rattle.m88_tasks.specs.Shared.{moments_then}
 use Rattle.m88_tasks.specs.Tasks.{ArePrograms}
@@ -25,7 +26,13 @@ invariant_of-self-2 c =
       are = moved some.group c.args.letter some.moments some.current _ _ some.are c.in_ok-happened.ensures.happens.timeline c.in_ok-happened.ensures.happens.same;
     }
 
-pub returns-clause-timeline : goal.returns-clause-timeline
-returns-clause-timeline c = λ g moments current held.
-    moved g c.args.letter moments current _ _ (subst (ArePrograms g moments current) (sym c.self.view_is) held)
-    c.in_ok-happened.ensures.happens.timeline c.in_ok-happened.ensures.happens.same
+pub returns-clause-took : goal.returns-clause-took
+returns-clause-took c = record {
+  timeline = λ g moments current held.
+      moved g c.args.letter moments current _ _ (subst (ArePrograms g moments current) (sym c.self.view_is) held)
+      c.in_ok-happened.ensures.happens.timeline c.in_ok-happened.ensures.happens.same;
+  said = λ g moments current held.
+      let are = subst (ArePrograms g moments current) (sym c.self.view_is) held in
+      c.in_ok-happened.ensures.happens.said (g.programs current) g.named (moments current) are.board
+      ∙ ap (λ (n : ℕ). said_at (g.programs current) g.named n c.args.letter (moments current)) are.limit;
+}

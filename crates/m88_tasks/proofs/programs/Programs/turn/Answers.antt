@@ -25,15 +25,17 @@ returns-then-next-self-clause-taken c = λ g s was alive number joined.
     (sym (c.next-next.ensures g s.moments s.current was) ∙ c.if-next-self.true ∙ are.number))
     was joined
 
-pub switch_of-switch-requires-clause-to : goal.switch_of-switch-requires-clause-to
-switch_of-switch-requires-clause-to c =
+pub switch_of-switch-requires : goal.switch_of-switch-requires
+switch_of-switch-requires c =
     let some = c.self.invariant in
     let are = subst (ArePrograms some.group some.moments some.current) c.self.view_is some.are in
     let inside = next_inside some.group some.moments some.current c.next-next.result c.args.self.now are
     (c.next-next.ensures some.group some.moments some.current are) in
     let count = are.count in
     let few = are.few in
-    omega (arith, inside, count, few)
+    let number = some.are.number in
+    let here = some.are.here in
+    record { from_few = omega (arith, number, here, few); to_few = omega (arith, inside, count, few) }
 
 pub exchange-requires : goal.exchange-requires
 exchange-requires c =

@@ -1,5 +1,5 @@
 -- A letter is taken, and its event counted.
-use Rattle.std.proofs.Common.{◌≡◌, ◌<◌, false, sym, subst}
+use Rattle.std.proofs.Common.{◌≡◌, ◌<◌, ◌+◌, ap, false, sym, subst}
 use Rattle.m88_board.specs.Kept.{most_events}
 use Rattle.m88_tasks.proofs.Events.{event_at, event_tasks, refused_tasks, takes_at}
 use Rattle.m88_tasks.proofs.Running.{board_room}
@@ -14,7 +14,7 @@ take-requires c =
 pub invariant_of-self : goal.invariant_of-self
 invariant_of-self c =
     refused_tasks (record { programs = c.self.inside.programs; events = c.self.inside.events; switches = c.self.inside.switches.items })
-    c.take.new.self c.take.new.switches.items c.self.invariant c.in_err-turned.ensures.err c.in_err-turned.ensures.unswitched
+    c.take.new.self c.take.new.switches.items c.self.invariant c.in_err-turned.ensures.err.programs c.in_err-turned.ensures.err.switches
 
 pub invariant_of-self-2 : goal.invariant_of-self-2
 invariant_of-self-2 c =
@@ -23,16 +23,16 @@ invariant_of-self-2 c =
     (subst (λ (t : TasksView). is_over_view t ≡ false) (sym c.self.view_is) c.requires.going)
     (subst (λ (t : TasksView). t.events < most_events) (sym c.self.view_is) c.requires.room)
 
-pub returns-clause-timeline : goal.returns-clause-timeline
-returns-clause-timeline c = λ g s at.
-    event_at g s (record { programs = c.self.inside.programs; events = c.self.inside.events; switches = c.self.inside.switches.items })
-    c.args.letter c.in_ok-turned.turned c.take.new.self c.take.new.switches.items c.in_ok-turned.ensures.taken
-    (subst (IsTasksAt g s) (sym c.self.view_is) at)
-    (subst (λ (t : TasksView). is_over_view t ≡ false) (sym c.self.view_is) c.requires.going)
-
-pub returns-clause-said : goal.returns-clause-said
-returns-clause-said c = λ g s at.
-    (takes_at g s (record { programs = c.self.inside.programs; events = c.self.inside.events; switches = c.self.inside.switches.items })
-    c.args.letter c.in_ok-turned.turned c.take.new.self c.take.new.switches.items c.in_ok-turned.ensures.taken
-    (subst (IsTasksAt g s) (sym c.self.view_is) at)
-    (subst (λ (t : TasksView). is_over_view t ≡ false) (sym c.self.view_is) c.requires.going)).says
+pub returns-clause-made : goal.returns-clause-made
+returns-clause-made c =
+    let old : TasksView = record { programs = c.self.inside.programs; events = c.self.inside.events; switches = c.self.inside.switches.items } in
+    let going = subst (λ (t : TasksView). is_over_view t ≡ false) (sym c.self.view_is) c.requires.going in
+    record {
+      timeline = λ g s at.
+          event_at g s old c.args.letter c.in_ok-turned.turned c.take.new.self c.take.new.switches.items c.in_ok-turned.ensures.taken
+          (subst (IsTasksAt g s) (sym c.self.view_is) at) going;
+      said = λ g s at.
+          (takes_at g s old c.args.letter c.in_ok-turned.turned c.take.new.self c.take.new.switches.items c.in_ok-turned.ensures.taken
+          (subst (IsTasksAt g s) (sym c.self.view_is) at) going).says;
+      counted = ap (λ (t : TasksView). t.events + 1) c.self.view_is;
+    }

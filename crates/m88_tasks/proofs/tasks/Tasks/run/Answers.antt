@@ -1,7 +1,7 @@
 -- One event after the other.
 use Rattle.std.proofs.Common.{ℕ, ◌≡◌, ◌≤◌, ◌+◌, ◌∙◌, ap, arith, false, length, refl, sym, subst}
 use Rattle.m88_event.specs.Letters.{most_letters}
-use Rattle.m88_tasks.proofs.Ending.{run_own, run_shared, run_within, shared_only}
+use Rattle.m88_tasks.proofs.Ending.{ran_shared, shared_only}
 use Rattle.m88_tasks.proofs.Running.{room_few, room_first, room_left, room_next, room_within, went_first, went_next}
 use Rattle.m88_tasks.specs.Shared.{after_share, shared_after}
 use Rattle.m88_tasks.specs.Tasks.{IsTasksAt, is_over_view}
@@ -34,17 +34,17 @@ loop-self-preserved c =
     let inv = c.loop-self.invariant in
     let going : is_over_view c.loop-self.self ≡ false = sym c.is_over.ensures.value ∙ c.loop-self-test.true in
     record {
-      count = c.in_ok-event.ensures.counted ∙ ap (λ (n : ℕ). n + 1) inv.count;
+      count = c.in_ok-event.ensures.made.counted ∙ ap (λ (n : ℕ). n + 1) inv.count;
       room = room_next (length c.args.schedule.now) c.args.schedule.now c.loop-self.taken (length c.args.self.programs.contexts)
           c.args.self.programs.board.limit c.loop-self.self c.event.new.self inv.room going
           (λ g s at. subst (λ (l : ShareLetter). IsTasksAt g (after_share g l s) c.event.new.self) c.letter_at.ensures
-          (c.in_ok-event.ensures.timeline g s at));
+          (c.in_ok-event.ensures.made.timeline g s at));
       went = λ g at.
           let went = inv.went g at in
           went_next g c.args.schedule.now c.loop-self.taken c.loop-self.self c.event.new.self went going
           (subst (λ (l : ShareLetter). IsTasksAt g (after_share g l (shared_after g c.args.schedule.now c.loop-self.taken)) c.event.new.self)
           c.letter_at.ensures
-          (c.in_ok-event.ensures.timeline g (shared_after g c.args.schedule.now c.loop-self.taken) went.at));
+          (c.in_ok-event.ensures.made.timeline g (shared_after g c.args.schedule.now c.loop-self.taken) went.at));
     }
 
 pub loop-self-smaller : goal.loop-self-smaller
@@ -57,12 +57,10 @@ loop-self-smaller c =
 pub returns : goal.returns
 returns c =
     let inv = c.loop-self.invariant in
-    let over = sym c.is_over.ensures.value ∙ c.loop-self-test.false in
     record {
-      shared = run_shared c.outcome.result c.args.schedule.now c.loop-self.taken c.args.self c.loop-self.self inv.went over c.outcome.ensures.value;
-      only = λ g o other a b. shared_only g c.args.schedule.now o other a b;
-      own = run_own c.outcome.result c.args.schedule.now c.loop-self.taken c.args.self c.loop-self.self inv.went over c.outcome.ensures.value;
-      within = run_within c.outcome.result c.loop-self.self.events c.loop-self.taken _ inv.count
+      ran = ran_shared c.outcome.result c.args.schedule.now c.loop-self.taken c.args.self c.loop-self.self inv.went
+          (sym c.is_over.ensures.value ∙ c.loop-self-test.false) inv.count
           (room_within (length c.args.schedule.now) c.args.schedule.now c.loop-self.taken (length c.args.self.programs.contexts)
-          c.args.self.programs.board.limit c.loop-self.self inv.room) c.outcome.ensures.events;
+          c.args.self.programs.board.limit c.loop-self.self inv.room) c.outcome.ensures;
+      only = λ g o other a b. shared_only g c.args.schedule.now o other a b;
     }
