@@ -22,7 +22,8 @@ use Rattle.m88_pager.proofs.Walking.{IsThere, all_done, holds_written, opens_so,
 use Rattle.m88_pager.proofs.Words.{words_stay, words_there}
 use Rattle.m88_pager.specs.Frames.{Frames as FramesSeen, dirty_count, ins_along, outs_along}
 use Rattle.m88_pager.specs.Inside.Bytes.{in_bytes}
-use Rattle.m88_pager.specs.Inside.Came.{CameTo}
+use Rattle.m88_pager.specs.Inside.Calls.{AreFlushed}
+use Rattle.m88_pager.specs.Inside.Came.{CameTo, IsFinished}
 use Rattle.m88_pager.specs.Inside.Contents.{Stands}
 use Rattle.m88_pager.specs.Inside.Seen.{AreCarried, held_by, marked}
 use Rattle.m88_pager.specs.Inside.Told.{AreChanged}
@@ -58,22 +59,18 @@ all_words old new words is = is
 pub came_to : (p : Program) (m : Moment) (most : ℕ) (image : ProgramImage) (f g : Paging) (o : Outcome)
     (words : List (ℕ × ℕ)) (told now : Option PageMap) → IsProgram p → image_bus image ≡ in_words (opening p).memory → o ≡ outcome_at p m →
     AreCarried (image_bytes image) most (transactions p m.retired) f told →
-    g.cache.entries ≡ [] →
-    g.ins ≡ f.ins →
-    g.outs ≡ f.outs + dirty_count (map marked f.cache.entries) →
-    ((memory : ℕ → List ℕ) (written : ℕ → Bool) → Stands (page_of (image_bytes image)) memory written (held_by f) f.cache.entries told →
-    Stands (page_of (image_bytes image)) memory written (held_by g) g.cache.entries now) →
+    AreFlushed f g told now →
     AreChanged (image_bytes image) (λ q. contains nat_cmp g.held q) now (2 ^ 30) words →
     CameTo p most m (record { outcome = with_words o words; ins = g.ins; outs = g.outs }) now
-came_to p m most image f g o words told now is same value carried none ins outs stands changed =
+came_to p m most image f g o words told now is same value carried flushed changed =
     let original : ℕ → ℕ = image_bytes image in
     let xs : List Access = transactions p m.retired in
     let bus : ℕ → ℕ = bus_after_all xs (in_words original) in
     let history : bus ≡ in_words (state p m.retired).memory = ap (bus_after_all xs) same ∙ sym (state_bus p m.retired is) in
     let retired : o.retired ≡ m.retired = retired_there p m o value in
     let alone : Stands (page_of original) (page_of (in_bytes bus)) (writes_page xs) (held_by g) [] now =
-    subst (λ (es : List (ℕ × Frame)). Stands (page_of original) (page_of (in_bytes bus)) (writes_page xs) (held_by g) es now) none
-    (stands (page_of (in_bytes bus)) (writes_page xs) carried.stands) in
+    subst (λ (es : List (ℕ × Frame)). Stands (page_of original) (page_of (in_bytes bus)) (writes_page xs) (held_by g) es now) flushed.empty
+    (flushed.stands (page_of original) (page_of (in_bytes bus)) (writes_page xs) carried.stands) in
     record {
       but_words = words_open p m o words value;
       outcome = λ tells.
@@ -84,10 +81,10 @@ came_to p m most image f g o words told now is same value carried none ins outs 
           ∙ ap₂ changed_words same history);
       counts = record {
         ins =
-            ins ∙ ap (λ (s : FramesSeen). s.ins) carried.counts
+            flushed.ins ∙ ap (λ (s : FramesSeen). s.ins) carried.counts
             ∙ ap (λ (n : ℕ). ins_along most (transactions p n)) (sym retired);
         outs =
-            outs ∙ ap (λ (s : FramesSeen). s.outs + dirty_count s.pages) carried.counts
+            flushed.outs ∙ ap (λ (s : FramesSeen). s.outs + dirty_count s.pages) carried.counts
             ∙ ap (λ (n : ℕ). outs_along most (transactions p n)) (sym retired);
       };
       pages =
@@ -102,16 +99,14 @@ pub ends : (p : Program) {named : ℕ → Bool} {limit : ℕ} {schedule : List L
     is_over_by b.limit (local_of b) ≡ true →
     IsThere p named limit schedule k (image_bytes image) most b f told →
     last ≡ b →
-    ((q : Program) (names : ℕ → Bool) (m : Moment) (count : ℕ) → IsProgram q →
-    image_bus image ≡ in_words (opening q).memory → IsAt q names m last → is_over q last.limit m ≡ true →
-    AreCarried (image_bytes image) count (transactions q m.retired) f told → CameTo q count m o now) →
+    IsFinished image last f told now o →
     IsRun p named limit schedule k × CameTo p most (moment_after p named limit schedule k) o now
-ends p {named} {limit} {schedule} {k} {most} image {b} {last} {f} {told} is of limits over there same came =
+ends p {named} {limit} {schedule} {k} {most} image {b} {last} {f} {told} is of limits over there same finished =
     let m : Moment = moment_after p named limit schedule k in
     let here : is_over p b.limit m ≡ true = over_there p named b.limit m b there.at ∙ over in
     let so : is_over p limit m ≡ true = ap (λ (n : ℕ). is_over p n m) (sym limits) ∙ here in (
       record { here = so; first = there.first },
-      came p named m most (program_of_image image p is of) (opens_so p image of)
+      finished.came p named m most (program_of_image image p is of) (opens_so p image of)
           (subst (λ (x : BoardView). IsAt p named m x) (sym same) there.at)
           (ap (λ (x : BoardView). is_over p x.limit m) same ∙ here)
           (subst (λ (xs : List Access). AreCarried (image_bytes image) most xs f told) (all_done p limit m so)

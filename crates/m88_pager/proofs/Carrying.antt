@@ -1,6 +1,6 @@
 -- One transaction more is carried out in the frames.
 use Rattle.std.specs.Prelude.{ℕ, Bool, true, false, List, [], ◌∷◌, ◌++◌, All, Option, Some, None, ◌≡◌, ◌≤◌, ◌+◌, ◌-◌, ◌%◌, ◌==◌, ◌&&◌, ◌||◌, length, map, nat_eq, nat_lt, slice_get}
-use Rattle.std.proofs.Common.{arith, refl, sym, ap, subst, ◌∙◌}
+use Rattle.std.proofs.Common.{append-nil, append_assoc, arith, length-append, refl, sym, ap, subst, ◌∙◌}
 use Rattle.std.proofs.Math.Path.{fun_ext}
 use Rattle.std.proofs.lemmas.Bool.{eqb-false, eqb-true}
 use Rattle.std.proofs.lemmas.Bool.Decides.{nat_tests}
@@ -16,6 +16,7 @@ use Rattle.m88_pager.proofs.Standing.{stands_written}
 use Rattle.m88_pager.proofs.Words.{pages_stay, words_stay, words_there}
 use Rattle.m88_pager.specs.Frames.{Frames as FramesSeen, dirtied, brought, brought_as, frames_after, no_frames, touched, with_room}
 use Rattle.m88_pager.specs.Inside.Bytes.{AreWords, in_bytes}
+use Rattle.m88_pager.specs.Inside.Calls.{AreCarriedOn, IsPutBack, IsTakenOut, IsWorked}
 use Rattle.m88_pager.specs.Inside.Contents.{Stands, StandsFor, behind, over, with_page}
 use Rattle.m88_pager.specs.Inside.Seen.{AreCarried, IsWhole, IsWithin, held_by, marked, seen_of, seen_with}
 use Rattle.m88_pager.specs.Pages.{page_of, writes_page}
@@ -84,15 +85,6 @@ written_on original written held es a bus old new (Some pages) at d changed s =
     (pages_with bus a new.bytes.items at is)
     (stands_written original (page_of (in_bytes bus)) written held es (page_number a.addr) old new (Some pages) d s)
 
--- what is left to say of a frame that was worked on
-pub record IsWorked (a : Access) (old new : Frame) : Type 0 where
-  pub size : length new.bytes.items ≡ page_bytes
-  pub read : a.write ≡ false → new ≡ old
-  pub dirty : a.write ≡ true → new.dirty ≡ true
-  pub bytes : a.write ≡ true → (bus : ℕ → ℕ) → AreWords bus
-      → old.bytes.items ≡ page_of (in_bytes bus) (page_number a.addr)
-      → new.bytes.items ≡ page_of (in_bytes (stored a bus)) (page_number a.addr)
-
 worked_seen : (most : ℕ) (a : Access) (old new : Frame) (f g : Frames) → IsWorked a old new →
     seen_with (page_number a.addr) old g ≡ brought most (page_number a.addr) (seen_of f) →
     seen_with (page_number a.addr) new g ≡ touched most a (seen_of f)
@@ -144,71 +136,80 @@ touched_more most a f =
     let more = brought_more most (page_number a.addr) (lookup (nat_eq (page_number a.addr)) f.pages) f in
     by_test a.write (λ t. rw t more) (λ n. rw n more)
 
-pub seen_on : (a : Access) (f g h : Frames) (old new : Frame) →
-    seen_with (page_number a.addr) old g ≡ brought f.cache.cap (page_number a.addr) (seen_of f) →
-    IsWorked a old new →
-    h.cache.entries ≡ (page_number a.addr, new) ∷ g.cache.entries →
-    h ≡ record g { cache = h.cache } →
-    seen_of h ≡ touched f.cache.cap a (seen_of f)
-seen_on a f g h old new seen worked put rest =
-    (λ i. record { pages = map marked (put i); ins = (rest i).ins; outs = (rest i).outs })
-    ∙ worked_seen f.cache.cap a old new f g worked seen
+module _ (original : ℕ → ℕ) (a : Access) (f g h : Frames) (old new : Frame) (told now : Option PageMap)
+    (at : a.addr % 4 ≡ 0) (out : IsTakenOut (page_of original) (page_number a.addr) old f g told now) (worked : IsWorked a old new)
+    (back : IsPutBack (page_number a.addr) new g h) where
+  seen_on : seen_of h ≡ touched f.cache.cap a (seen_of f)
+  seen_on =
+      (λ i. record { pages = map marked (back.put i); ins = (back.rest i).ins; outs = (back.rest i).outs })
+      ∙ worked_seen f.cache.cap a old new f g worked out.counts
 
-pub within_on : (a : Access) (f g h : Frames) (old new : Frame) (n : ℕ) →
-    IsWhole (page_number a.addr, old) →
-    All IsWhole g.cache.entries →
-    seen_with (page_number a.addr) old g ≡ brought f.cache.cap (page_number a.addr) (seen_of f) →
-    IsWorked a old new →
-    h.cache.entries ≡ (page_number a.addr, new) ∷ g.cache.entries →
-    h ≡ record g { cache = h.cache } →
-    IsWithin n f → IsWithin (n + 1) h
-within_on a f g h old new n whole others seen worked put rest within =
-    let is = seen_on a f g h old new seen worked put rest in
-    let ins = ap (λ (s : FramesSeen). s.ins) is in
-    let outs = ap (λ (s : FramesSeen). s.outs) is in
-    let more = touched_more f.cache.cap a (seen_of f) in
-    let more_in = more.0 in
-    let more_out = more.1 in
-    let before_in = within.ins in
-    let before_out = within.outs in
-    record {
-      whole = subst (All IsWhole) (sym put) (All-cons IsWhole (page_number a.addr, new) g.cache.entries (whole.0, worked.size) others);
-      ins = omega (arith, ins, more_in, before_in);
-      outs = omega (arith, outs, more_out, before_out);
-    }
+  whole_on : All IsWhole h.cache.entries
+  whole_on =
+      subst (All IsWhole) (sym back.put)
+      (All-cons IsWhole (page_number a.addr, new) g.cache.entries (record { number = out.whole.number; size = worked.size }) out.others_whole)
 
--- frames that took a page to the front, and then one whose frame was worked on
-pub carried_on : (original : ℕ → ℕ) (most : ℕ) (xs : List Access) (a : Access) (f g h : Frames) (old new : Frame)
-    (told now : Option PageMap) → a.addr % 4 ≡ 0 →
-    AreCarried original most xs f told →
-    IsWhole (page_number a.addr, old) →
-    All IsWhole g.cache.entries →
-    seen_with (page_number a.addr) old g ≡ brought f.cache.cap (page_number a.addr) (seen_of f) →
-    g.cache.cap ≡ f.cache.cap →
-    ((memory : ℕ → List ℕ) (written : ℕ → Bool) → Stands (page_of original) memory written (held_by f) f.cache.entries told →
-    Stands (page_of original) memory written (held_by g) ((page_number a.addr, old) ∷ g.cache.entries) now) →
-    IsWorked a old new →
-    h.cache.entries ≡ (page_number a.addr, new) ∷ g.cache.entries →
-    h.cache.cap ≡ g.cache.cap →
-    h ≡ record g { cache = h.cache } →
-    AreCarried original most (xs ++ (a ∷ [])) h now
-carried_on original most xs a f g h old new told now at carried whole others seen cap stands worked put same rest =
-    let page : ℕ = page_number a.addr in
-    record {
-      bytes = carried.bytes;
-      whole = subst (All IsWhole) (sym put) (All-cons IsWhole (page, new) g.cache.entries (whole.0, worked.size) others);
-      cap = same ∙ cap ∙ carried.cap;
-      counts =
-          seen_on a f g h old new seen worked put rest
-          ∙ ap (λ (n : ℕ). touched n a (seen_of f)) carried.cap
-          ∙ ap (touched most a) carried.counts
-          ∙ sym (one_frame_more most xs a no_frames);
-      stands =
-          subst (λ (es : List (ℕ × Frame)). Stands (page_of original) (page_of (in_bytes (bus_after_all (xs ++ (a ∷ [])) (in_words original)))) (writes_page (xs ++ (a ∷ []))) (held_by h) es now)
-          (sym put)
-          (subst (λ (k : Frames). Stands (page_of original) (page_of (in_bytes (bus_after_all (xs ++ (a ∷ [])) (in_words original)))) (writes_page (xs ++ (a ∷ []))) (held_by k) ((page, new) ∷ g.cache.entries) now)
-          (sym rest)
-          (worked_stands original xs a (held_by g) g.cache.entries old new now at
-          (words_stay xs (in_words original) (words_there original carried.bytes)) worked
-          (stands (page_of (in_bytes (bus_after_all xs (in_words original)))) (writes_page xs) carried.stands)));
-    }
+  within_on : (n : ℕ) → IsWithin n f → IsWithin (n + 1) h
+  within_on n within =
+      let ins = ap (λ (s : FramesSeen). s.ins) seen_on in
+      let outs = ap (λ (s : FramesSeen). s.outs) seen_on in
+      let more = touched_more f.cache.cap a (seen_of f) in
+      let more_in = more.0 in
+      let more_out = more.1 in
+      let before_in = within.ins in
+      let before_out = within.outs in
+      record { whole = whole_on; ins = omega (arith, ins, more_in, before_in); outs = omega (arith, outs, more_out, before_out) }
+
+  -- frames that took a page to the front, and then one whose frame was worked on
+  one_on : (most : ℕ) (xs : List Access) → AreCarried original most xs f told → AreCarried original most (xs ++ (a ∷ [])) h now
+  one_on most xs carried =
+      let page : ℕ = page_number a.addr in
+      let bus : List Access → ℕ → ℕ = λ ys. bus_after_all ys (in_words original) in
+      let next : List Access = xs ++ (a ∷ []) in
+      record {
+        bytes = carried.bytes;
+        whole = whole_on;
+        cap = back.cap ∙ out.cap ∙ carried.cap;
+        counts =
+            seen_on
+            ∙ ap (λ (n : ℕ). touched n a (seen_of f)) carried.cap
+            ∙ ap (touched most a) carried.counts
+            ∙ sym (one_frame_more most xs a no_frames);
+        stands =
+            subst (λ (es : List (ℕ × Frame)). Stands (page_of original) (page_of (in_bytes (bus next))) (writes_page next) (held_by h) es now)
+            (sym back.put)
+            (subst (λ (k : Frames). Stands (page_of original) (page_of (in_bytes (bus next))) (writes_page next) (held_by k) ((page, new) ∷ g.cache.entries) now)
+            (sym back.rest)
+            (worked_stands original xs a (held_by g) g.cache.entries old new now at
+            (words_stay xs (in_words original) (words_there original carried.bytes)) worked
+            (out.stands (page_of (in_bytes (bus xs))) (writes_page xs) carried.stands)));
+      }
+
+pub carried_on : (original : ℕ → ℕ) (a : Access) (f g h : Frames) (old new : Frame) (told now : Option PageMap) →
+    a.addr % 4 ≡ 0 → IsTakenOut (page_of original) (page_number a.addr) old f g told now → IsWorked a old new →
+    IsPutBack (page_number a.addr) new g h → AreCarriedOn original (a ∷ []) f h told now
+carried_on original a f g h old new told now at out worked back = record {
+  within = within_on original a f g h old new told now at out worked back;
+  cap = back.cap ∙ out.cap;
+  carried = one_on original a f g h old new told now at out worked back;
+}
+
+-- none are carried out, and some after others
+pub none_on : (original : ℕ → ℕ) (f : Frames) (told : Option PageMap) → AreCarriedOn original [] f f told told
+none_on original f told = record {
+  within = λ n within. subst (λ (m : ℕ). IsWithin m f) (omega arith) within;
+  cap = refl;
+  carried = λ most before carried. subst (λ (xs : List Access). AreCarried original most xs f told) (sym (append-nil before)) carried;
+}
+
+pub on_and_on : {original : ℕ → ℕ} {f g h : Frames} {told between now : Option PageMap} (xs ys : List Access) →
+    AreCarriedOn original xs f g told between → AreCarriedOn original ys g h between now → AreCarriedOn original (xs ++ ys) f h told now
+on_and_on {original} {f} {g} {h} {told} {between} {now} xs ys first second = record {
+  within = λ n within.
+      let long = length-append xs ys in
+      subst (λ (m : ℕ). IsWithin m h) (omega (arith, long)) (second.within (n + length xs) (first.within n within));
+  cap = second.cap ∙ first.cap;
+  carried = λ most before carried.
+      subst (λ (zs : List Access). AreCarried original most zs h now) (append_assoc before xs ys)
+      (second.carried most (before ++ xs) (first.carried most before carried));
+}

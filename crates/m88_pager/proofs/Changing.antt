@@ -21,7 +21,7 @@ use Rattle.m88_pager.proofs.Words.{bytes_back, word_read, words_there}
 use Rattle.m88_pager.specs.Inside.Bytes.{AreWords, in_bytes}
 use Rattle.m88_pager.specs.Inside.Contents.{StandsFor, behind, over}
 use Rattle.m88_pager.specs.Inside.Seen.{ComesFrom}
-use Rattle.m88_pager.specs.Inside.Told.{AreChanged, HasNone, StandsAlone}
+use Rattle.m88_pager.specs.Inside.Told.{AreChanged, HasNone, IsNextHeld, StandsAlone}
 use Rattle.m88_pager.specs.Pages.{page_of}
 use Rattle.m88_pager.specs.Store.{PageMap}
 
@@ -103,10 +103,18 @@ first_found held from page q found rest is so low high there =
 
 pub next_found : (held : BTreeSet ℕ) (from : ℕ) (o : Option (Bor ℕ)) (copied : Option ℕ) (found rest : List ℕ) → copied ≡ option_copied o →
     TakesFirst deref found o rest → IsKeyRangeOf nat_cmp (Included from) (Excluded page_count) held found →
-    IfSome copied (λ page. HasNone (λ q. contains nat_cmp held q) from page)
+    IfSome copied (IsNextHeld (λ q. contains nat_cmp held q) from)
 next_found held from None copied found rest is steps so = rw is tt
 next_found held from (Some x) copied found rest is steps so =
-    rw is (λ q low high. by_test (contains nat_cmp held q) (λ there. absurd (first_found held from x.now q found rest steps so low high there)) (λ none. none))
+    let first = subst (λ (ks : List ℕ). IfSome (slice_get ks 0) (IsKeyInRange nat_cmp (Included from) (Excluded page_count) held)) steps so.1 in
+    let low = first.0.0 in
+    let high = first.0.1 in
+    rw is (record {
+      number = grind (arith, nat_tests, high);
+      behind = grind (arith, nat_tests, low);
+      held_is = first.1;
+      next = λ q low high. by_test (contains nat_cmp held q) (λ there. absurd (first_found held from x.now q found rest steps so low high there)) (λ none. none);
+    })
 
 -- and one that is held is as memory has it now
 pub held_page : (original bus : ℕ → ℕ) (written held : ℕ → Bool) (told : Option PageMap) (page : ℕ) (bytes : List ℕ) →

@@ -1,7 +1,6 @@
--- What only helps the proofs: answers, the pages of the store in memory, the words of a page, the pieces of an image,
+-- What only helps the proofs: the pages of the store in memory, the words of a page, the pieces of an image,
 -- frames over what stands behind them, and what they stand for and come to while pages come and go; Laws is for
 -- those above.
-pub mod Both
 pub mod Held
 pub mod Words
 pub mod Pieces

@@ -1,6 +1,6 @@
 -- A frame is taken out of its place, and one is put in front.
 use Rattle.std.specs.Prelude.{ℕ, zero, suc, Bool, true, false, List, [], ◌∷◌, All, Option, Some, None, ◌≡◌, ◌<◌, ◌+◌, ◌-◌, length, map, nat_eq, nat_lt, take}
-use Rattle.std.proofs.Common.{arith, refl, ap, subst, ◌∙◌}
+use Rattle.std.proofs.Common.{arith, length-take, refl, ap, subst, ◌∙◌}
 use Rattle.std.proofs.lemmas.Bool.{eqb-true}
 use Rattle.std.proofs.lemmas.Bool.Decides.{nat_tests}
 use Rattle.std.proofs.lemmas.Cmp.{nat_eq_equiv}
@@ -11,14 +11,17 @@ use Rattle.std.specs.List.{IsDistinct}
 use Rattle.std.specs.Map.{keys_of, lookup, lookup_entry, remove_entry}
 use Rattle.lru.specs.LruCache.{LruCache, put_entries}
 use Rattle.m88_base.specs.Pages.{page_bytes}
-use Rattle.m88_pager.proofs.Counts.{frames_at, lookup_marked, removed_marked}
+use Rattle.m88_pager.proofs.Counts.{frames_at, lookup_marked, removed_marked, same_length}
+use Rattle.m88_pager.proofs.Flushing.{whole_front}
 use Rattle.m88_pager.proofs.Layers.{by_test}
 use Rattle.m88_pager.proofs.Standing.{stands_come}
-use Rattle.m88_pager.specs.Frames.{brought, brought_as}
+use Rattle.m88_pager.specs.Frames.{Frames as FramesSeen, brought, brought_as, with_room}
+use Rattle.m88_pager.specs.Inside.Calls.{HasFreed, HasLeft}
 use Rattle.m88_pager.specs.Inside.Contents.{Stands}
 use Rattle.m88_pager.specs.Inside.Seen.{ComesFrom, IsWhole, kept, marked}
 use Rattle.m88_pager.specs.Store.{PageMap}
 use Rattle.m88_pager.specs.declared.frames.Frame.{Frame}
+use Rattle.m88_pager.specs.declared.frames.Frames.{Frames}
 
 -- a page that is put where it isn't
 none_entry : {V : Type 0} (test : ℕ → Bool) (es : List (ℕ × V)) → lookup test es ≡ None → lookup_entry test es ≡ None
@@ -44,6 +47,12 @@ pub none_kept : (test : ℕ → Bool) (most : ℕ) (es : List (ℕ × Frame)) �
 none_kept test most es h = by_test (nat_lt (length es) most)
     (λ t. rw t h)
     (λ f. rw f (none_in_front test (length es - 1) es h))
+
+-- those that stay are whole
+pub whole_kept : (most : ℕ) (es : List (ℕ × Frame)) → All IsWhole es → All IsWhole (kept most es)
+whole_kept most es all = by_test (nat_lt (length es) most)
+    (λ t. rw t all)
+    (λ f. rw f (whole_front (length es - 1) es all))
 
 -- what is left of frames without one
 same_page : (page x y : ℕ) → nat_eq page x ≡ true → nat_eq page y ≡ nat_eq x y
@@ -82,7 +91,7 @@ found_whole page (e ∷ es) frame all h = by_test (nat_eq page e.0)
     (λ t.
     let h' = rw t at h in
     let same : e.1 ≡ frame = cc in
-    subst (λ (f : Frame). length f.bytes.items ≡ page_bytes) same (all 0 e (omega arith)).1)
+    subst (λ (f : Frame). length f.bytes.items ≡ page_bytes) same (all 0 e (omega arith)).size)
     (λ f. found_whole page es frame (λ k d l. all (suc k) d (omega (arith, l))) (rw f at h))
 
 -- as the definition has it
@@ -95,6 +104,16 @@ taken_seen most page frame es ins outs h =
 pub come_seen : (most page : ℕ) (es : List (ℕ × Frame)) (ins outs : ℕ) → lookup (nat_eq page) es ≡ None →
     brought_as most page None (frames_at (map marked es) ins outs) ≡ brought most page (frames_at (map marked es) ins outs)
 come_seen most page es ins outs h = rw (lookup_marked (nat_eq page) es, h) refl
+
+room_ins : (most : ℕ) (f : FramesSeen) → (with_room most f).ins ≡ f.ins
+room_ins most f = by_test (nat_lt (length f.pages) most) (λ t. rw t refl) (λ n. rw n refl)
+
+pub come_brought : (most page : ℕ) (now old : FramesSeen) → now ≡ with_room most old →
+    record { pages = (page, false) ∷ now.pages; ins = now.ins + 1; outs = now.outs } ≡ brought_as most page None old
+come_brought most page now old is =
+    ap (λ (s : FramesSeen). record { pages = (page, false) ∷ s.pages; ins = s.ins + 1; outs = s.outs }) is
+    ∙ ap (λ (n : ℕ). record { pages = (page, false) ∷ (with_room most old).pages; ins = n + 1; outs = (with_room most old).outs })
+    (room_ins most old)
 
 -- a page comes in, where a store tells its pages or not
 pub come_told : (original memory : ℕ → List ℕ) (written held : ℕ → Bool) (es : List (ℕ × Frame)) (page : ℕ) (frame : Frame)

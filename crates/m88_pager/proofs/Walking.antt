@@ -1,6 +1,6 @@
 -- A board and its frames go along the letters of a run.
-use Rattle.std.specs.Prelude.{ℕ, zero, suc, Bool, true, false, List, [], ◌∷◌, ◌++◌, Option, Some, None, IfSome, ◌≡◌, ◌<◌, ◌≤◌, ◌+◌, ◌-◌, ◌*◌, ◌^◌, ◌==◌, ◌||◌, is_some, length, map, take, unwrap_or, if◌then◌else◌}
-use Rattle.std.proofs.Common.{add-one, arith, refl, sym, ap, ap₂, subst, ◌∙◌}
+use Rattle.std.specs.Prelude.{ℕ, zero, suc, Bool, true, false, List, [], ◌∷◌, ◌++◌, All, Option, Some, None, IfSome, ◌≡◌, ◌<◌, ◌≤◌, ◌+◌, ◌-◌, ◌*◌, ◌^◌, ◌==◌, ◌||◌, is_some, length, map, take, unwrap_or, if◌then◌else◌}
+use Rattle.std.proofs.Common.{add-one, arith, length-take, refl, sym, ap, ap₂, subst, ◌∙◌}
 use Rattle.std.proofs.Math.Path.{fun_ext}
 use Rattle.std.proofs.lemmas.List.{take_all}
 use Rattle.std.proofs.lemmas.Bool.{eqb-true}
@@ -8,7 +8,9 @@ use Rattle.std.specs.FinMap.{empty, get, get-empty}
 use Rattle.std.specs.Ordering.{nat_cmp}
 use Rattle.m88_base.specs.Image.{IsImage, ProgramImage, byte_at}
 use Rattle.m88_board.proofs.Laws.{done_at, not_yet, same_bytes}
+use Rattle.m88_base.specs.declared.triple.Triple.{Triple}
 use Rattle.m88_board.specs.Board.{BoardView, local_of}
+use Rattle.m88_board.specs.Kept.{IsKept}
 use Rattle.m88_board.specs.Moves.{IsAt}
 use Rattle.m88_event.proofs.Laws.{same_over}
 use Rattle.m88_event.specs.Letters.{letter_at}
@@ -21,14 +23,16 @@ use Rattle.m88_isa.specs.History.{pending_at, transaction_count, transactions}
 use Rattle.m88_isa.specs.ImageProgram.{IsProgramOf}
 use Rattle.m88_isa.specs.Lanes.{AreBytes}
 use Rattle.m88_isa.specs.Machine.{Program, opening}
+use Rattle.m88_isa.specs.Triples.{access_in, triples_of}
 use Rattle.m88_isa.specs.declared.planned.Access.{Access}
 use Rattle.m88_mem.specs.DataBus.{image_bus, image_bytes}
-use Rattle.m88_pager.proofs.Transacted.{done_after, done_ahead, done_of}
+use Rattle.m88_pager.proofs.Transacted.{done_after, done_ahead, done_of, made_front, told_front}
 use Rattle.m88_pager.proofs.Words.{bytes_back}
 use Rattle.m88_pager.specs.Frames.{frames_after}
 use Rattle.m88_pager.specs.Inside.Bytes.{in_bytes}
+use Rattle.m88_pager.specs.Inside.Calls.{AreEmpty}
 use Rattle.m88_pager.specs.Inside.Contents.{AreClean, Stands, StandsFor, behind, is_dirty_in, over}
-use Rattle.m88_pager.specs.Inside.Seen.{AreCarried, IsWhole, IsWithin, held_by, marked}
+use Rattle.m88_pager.specs.Inside.Seen.{AreCarried, IsWhole, IsWithin, IsWordTriple, held_by, marked}
 use Rattle.m88_pager.specs.Inside.Told.{StandsAlone}
 use Rattle.m88_pager.specs.Paged.{HoldsNoneWhereTold, Tells}
 use Rattle.m88_pager.specs.Pages.{HoldsWhereTold, page_of}
@@ -66,20 +70,27 @@ none_told original held (Some pages) bytes none holds =
     subst (λ (m : PageMap). StandsFor (page_of original) (page_of (in_bytes (in_words original))) (λ page. false) held [] m) (sym holds)
     (none_held original held bytes none)
 
-pub none_carried : (original : ℕ → ℕ) (most : ℕ) (f : Frames) (told : Option PageMap) → AreBytes original → f.cache.entries ≡ [] →
-    f.cache.cap ≡ most → ((page : ℕ) → held_by f page ≡ false) → f.ins ≡ 0 → f.outs ≡ 0 → HoldsNoneWhereTold told →
-    AreCarried original most [] f told
+none_whole : (es : List (ℕ × Frame)) → es ≡ [] → All IsWhole es
+none_whole es none = subst (All IsWhole) (sym none) (λ k d h. absurd (omega (arith, h)))
+
+pub none_carried : (original : ℕ → ℕ) (most : ℕ) (f : Frames) (told : Option PageMap) → AreBytes original → f.cache.cap ≡ most → {count : ℕ} →
+    AreEmpty count f → HoldsNoneWhereTold told → AreCarried original most [] f told
 unfolding frames_after bus_after_all
-none_carried original most f told bytes none cap held ins outs holds = record {
+none_carried original most f told bytes cap opened holds = record {
   bytes = bytes;
-  whole = subst (λ (es : List (ℕ × Frame)). (k : ℕ) (d : ℕ × Frame) → k < length es → IsWhole (Rattle.std.specs.Prelude.slice_index_or es k d)) (sym none)
-      (λ k d h. absurd (omega (arith, h)));
+  whole = none_whole f.cache.entries opened.empty;
   cap = cap;
-  counts = λ i. record { pages = map marked (none i); ins = ins i; outs = outs i };
+  counts = λ i. record { pages = map marked (opened.empty i); ins = opened.ins i; outs = opened.outs i };
   stands =
       subst (λ (es : List (ℕ × Frame)). Stands (page_of original) (page_of (in_bytes (in_words original))) (λ page. false) (held_by f) es told)
-      (sym none) (none_told original (held_by f) told bytes held holds);
+      (sym opened.empty) (none_told original (held_by f) told bytes opened.held holds);
 }
+
+pub none_within : (n : ℕ) {count : ℕ} {f : Frames} → AreEmpty count f → IsWithin n f
+none_within n {count} {f} opened =
+    let ins = opened.ins in
+    let outs = opened.outs in
+    record { whole = none_whole f.cache.entries opened.empty; ins = omega (arith, ins); outs = omega (arith, outs) }
 
 -- where a board and its frames are after as many events, before none of which the run was over
 pub record IsThere (p : Program) (named : ℕ → Bool) (limit : ℕ) (schedule : List Letter) (k : ℕ) (original : ℕ → ℕ) (most : ℕ)
@@ -116,7 +127,7 @@ unfolding local_of local_at
 pending_there p named m b at = ap (λ (l : Local). l.pending) at.seen
 
 -- no fewer transactions are done after an event, and no more than were pending
-pub done_grew : (letter : Letter) (b c : BoardView) →
+done_grew : (letter : Letter) (b c : BoardView) →
     (p : Program) × (named : ℕ → Bool) × (m : Moment) × IsAt p named m b →
     ((p : Program) (named : ℕ → Bool) (m : Moment) → IsAt p named m b →
     IsAt p named (after_letter p named b.limit letter m) c) →
@@ -133,6 +144,46 @@ done_grew letter b c there next =
     let new = done_at p named (after_letter p named b.limit letter m) c (next p named m at) in
     let left = ap (λ (xs : List Access). length xs) (pending_there p named m b at) in
     (omega (arith, low, old, new), omega (arith, high, old, new, left))
+
+-- an event answered or finished so many of the words that the data unit held, the oldest first
+pub record AreDoneBy (b c : BoardView) (words : List Triple) (before now : ℕ) : Type 0 where
+  pub low : before ≤ now
+  pub few : now - before ≤ length words
+  pub most : now - before ≤ 3
+  pub made : All IsWordTriple (take (now - before) words)
+  pub told : map access_in (take (now - before) words) ≡ take (c.done - b.done) b.pending
+  pub long : b.done + length (take (c.done - b.done) b.pending) ≡ c.done
+
+pub done_shown : (letter : Letter) {b c shown later : BoardView} {words : List Triple} {before now : ℕ} → shown ≡ b → later ≡ c → IsKept shown →
+    words ≡ triples_of shown.pending → before ≡ shown.done → now ≡ later.done →
+    (p : Program) × (named : ℕ → Bool) × (m : Moment) × IsAt p named m b →
+    ((p : Program) (named : ℕ → Bool) (m : Moment) → IsAt p named m b →
+    IsAt p named (after_letter p named b.limit letter m) c) →
+    AreDoneBy b c words before now
+done_shown letter {b} {c} {shown} {later} {words} {before} {now} same after kept is starts ends there next =
+    let grew = done_grew letter b c there next in
+    let parts = (subst IsKept same kept).parts in
+    let low = grew.0 in
+    let high = grew.1 in
+    let few = parts.few in
+    let from : before ≡ b.done = starts ∙ ap (λ (x : BoardView). x.done) same in
+    let to : now ≡ c.done = ends ∙ ap (λ (x : BoardView). x.done) after in
+    let told : words ≡ triples_of b.pending = is ∙ ap (λ (x : BoardView). triples_of x.pending) same in
+    let three = ap (λ (ws : List Triple). length ws) told in
+    let taken = length-take (c.done - b.done) b.pending in
+    record {
+      low = omega (arith, low, from, to);
+      few = omega (arith, high, few, three, from, to);
+      most = omega (arith, high, few, from, to);
+      made =
+          subst (λ (ws : List Triple). All IsWordTriple (take (now - before) ws)) (sym told)
+          (made_front (now - before) b.pending (omega (arith, high, from, to)) parts.few parts.made);
+      told =
+          ap (λ (ws : List Triple). map access_in (take (now - before) ws)) told
+          ∙ told_front (now - before) b.pending (omega (arith, high, from, to)) parts.few parts.made
+          ∙ ap₂ (λ (x y : ℕ). take (x - y) b.pending) to from;
+      long = omega (arith, low, high, taken);
+    }
 
 pub there_next : {p : Program} {named : ℕ → Bool} {limit : ℕ} {schedule letters : List Letter} {k last : ℕ}
     {original : ℕ → ℕ} {most : ℕ} {b c : BoardView} {f g : Frames} {told now : Option PageMap} →
@@ -203,15 +254,6 @@ pub stands_alone : (original bus : ℕ → ℕ) (written held : ℕ → Bool) (t
     Stands (page_of original) (page_of (in_bytes bus)) written held [] told → StandsAlone original bus written held told
 stands_alone original bus written held None tells s = absurd tells
 stands_alone original bus written held (Some pages) tells s = s
-
--- at first
-pub none_within : (n : ℕ) (f : Frames) → f.cache.entries ≡ [] → f.ins ≡ 0 → f.outs ≡ 0 → IsWithin n f
-none_within n f none ins outs = record {
-  whole = subst (λ (es : List (ℕ × Frame)). (k : ℕ) (d : ℕ × Frame) → k < length es → IsWhole (Rattle.std.specs.Prelude.slice_index_or es k d)) (sym none)
-      (λ k d h. absurd (omega (arith, h)));
-  ins = omega (arith, ins);
-  outs = omega (arith, outs);
-}
 
 -- memory of a program at first is that of its image
 pub opens_so : (p : Program) (image : ProgramImage) → IsProgramOf image p → image_bus image ≡ in_words (opening p).memory

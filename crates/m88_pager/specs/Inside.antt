@@ -2,5 +2,6 @@
 pub mod Bytes
 pub mod Contents
 pub mod Seen
+pub mod Calls
 pub mod Told
 pub mod Came

@@ -1,5 +1,5 @@
 -- The store of pages in memory, as its users see it.
-use Rattle.std.specs.Prelude.{ℕ, List, Vec, Result, Ok, Err, map, refl}
+use Rattle.std.specs.Prelude.{ℕ, List, Vec, Result, Contains, Ok, Err, ◌≡◌, ◌≤◌, ◌↔◌, map, refl}
 use Rattle.std.specs.Coded.{Coded, code_by, coded×, coded_list, coded_ℕ}
 use Rattle.std.specs.FinMap.{code, from_entries}
 use Rattle.m88_base.specs.Causes.{one_more}
@@ -35,3 +35,9 @@ abbrev pub faults_by : {T : Type 0} → ℕ → Result T StoreError → ℕ
 faults_by before (Ok value) = before
 faults_by before (Err Failed) = one_more before
 faults_by before (Err Memory) = before
+
+-- a call fails where its number is among those that fail; it is counted, and so is its fault
+pub record IsCallCounted {T : Type 0} (old new : MemoryPages) (result : Result T StoreError) : Type 0 where
+  pub fails : (result ≡ Err Failed) ↔ Contains old.failing old.calls
+  pub grows : old.faults ≤ new.faults
+  pub stays : new ≡ record old { held = new.held; faults = faults_by old.faults result; calls = one_more old.calls }

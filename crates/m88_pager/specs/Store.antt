@@ -1,14 +1,20 @@
 -- What a store of pages promises, by the pages that it holds, where it tells them.
-use Rattle.std.specs.Prelude.{ℕ, Bool, true, false, List, Option, Some, None, Result, IsErrOf, ◌≡◌}
-use Rattle.std.specs.FinMap.{FinMap, get}
+use Rattle.std.specs.Prelude.{ℕ, Bool, true, false, List, Option, Some, None, Result, IfOk, IsErrOf, OnErr, OnOk, ◌≡◌, ◌≤◌, length, option_map}
+use Rattle.std.specs.FinMap.{FinMap, get, insert}
 use Rattle.std.specs.Ordering.{nat_cmp}
 use Rattle.m88_base.specs.Causes.{Rose}
+use Rattle.m88_base.specs.Pages.{IsPage, page_bytes}
 use Rattle.m88_pager.specs.declared.store.StoreError.{StoreError}
 use Rattle.m88_pager.specs.declared.store.StoreError.TheVariants.{Failed}
 
 -- pages by their numbers, each with its bytes
 abbrev pub PageMap : Type 0
 PageMap = FinMap nat_cmp (List ℕ)
+
+-- a number is a page's, and the bytes are as many as a page has
+pub record IsPageOf (page : ℕ) (bytes : List ℕ) : Type 0 where
+  pub number : IsPage page
+  pub size : length bytes ≡ page_bytes
 
 -- a page that is held comes with its bytes; where one isn't held, what is there stays
 abbrev pub Finds : Option (List ℕ) → Bool → List ℕ → List ℕ → Type 0
@@ -24,3 +30,20 @@ Reads (Some pages) page held before after = Finds (get pages page) held before a
 -- a call fails only where the count of faults rose in it
 abbrev pub FailsByCount : {T : Type 0} → ℕ → ℕ → Result T StoreError → Type 0
 FailsByCount before after result = IsErrOf result Failed → Rose before after
+
+-- a page is read: the bytes that come, the pages, which stay, and the count of faults, which doesn't fall
+pub record IsPageRead (told told' : Option PageMap) (faults faults' page : ℕ) (before after : List ℕ)
+    (result : Result Bool StoreError) : Type 0 where
+  pub reads : IfOk result (λ held. Reads told page held before after)
+  pub same : told' ≡ told
+  pub grows : faults ≤ faults'
+  pub fault : FailsByCount faults faults' result
+
+-- a page is put in, in place of one of this number: the pages, which stay where an error is answered, and the count of
+-- faults, which doesn't fall
+pub record IsPageWritten {T : Type 0} (told told' : Option PageMap) (faults faults' page : ℕ) (bytes : List ℕ)
+    (result : Result T StoreError) : Type 0 where
+  pub put : OnOk result (told' ≡ option_map (λ held. insert held page bytes) told)
+  pub same : OnErr result (told' ≡ told)
+  pub grows : faults ≤ faults'
+  pub fault : FailsByCount faults faults' result

@@ -1,15 +1,16 @@
 //! The words of memory that changed, as a store has them.
 
-ghost use Rattle.std.specs.Prelude.{ℕ, Bool, true, ◌≡◌, ◌+◌, ◌*◌, ◌^◌, ◌++◌, ◌∷◌, [], ◌≤◌, length, IfNone, IfOk, IfSome, OnOk};
+ghost use Rattle.std.specs.Prelude.{ℕ, Bool, true, ◌≡◌, ◌+◌, ◌*◌, ◌^◌, ◌++◌, ◌∷◌, [], ◌≤◌, IfNone, IfOk, IfSome, OnOk};
 ghost use Rattle.std.specs.BTreeSet.{contains};
 ghost use Rattle.std.specs.Ordering.{nat_cmp};
-ghost use Rattle.m88_base.specs.Pages.{IsPage, page_bytes, page_count};
+ghost use Rattle.m88_base.specs.Pages.{IsPage, page_count};
 ghost use Rattle.m88_isa.specs.Bus.{changed_among};
 ghost use Rattle.m88_mem.specs.DataBus.{image_bytes, page_words};
-ghost use Rattle.m88_pager.specs.Ends.{EndsByCount};
 ghost use Rattle.m88_pager.specs.Inside.Bytes.{AreWords, in_bytes};
-ghost use Rattle.m88_pager.specs.Inside.Told.{AreChanged, HasNone};
+ghost use Rattle.m88_pager.specs.Inside.Calls.{ReadsStore};
+ghost use Rattle.m88_pager.specs.Inside.Told.{AreChanged, HasNone, IsNextHeld};
 ghost use Rattle.m88_pager.specs.Pages.{page_of};
+ghost use Rattle.m88_pager.specs.Store.{IsPageOf};
 
 use crate::original::original_page;
 use crate::paged::PageEnd;
@@ -31,9 +32,8 @@ pub(crate) fn changed_words<P: PageStore>(
 ) -> Result<Vec<(u32, u32)>, PageEnd>
     ensures changed { IfOk result (λ words. AreChanged (image_bytes image.now)
         (λ q. contains nat_cmp held.now q) (P.pages store.old) (2 ^ 30) words.items) }
-    ensures same { P.pages store.new ≡ P.pages store.old }
-    ensures grows { P.faults store.old ≤ P.faults store.new }
-    ensures fault { EndsByCount (P.faults store.old) (P.faults store.new) result }
+    ensures store { ReadsStore (P.pages store.old) (P.pages store.new) (P.faults store.old)
+        (P.faults store.new) result }
 {
     let mut changed = Vec::new(alloc);
     let mut from = 0;
@@ -47,10 +47,7 @@ pub(crate) fn changed_words<P: PageStore>(
 /// The first page of a set from a number on.
 fn next_held(held: &BTreeSet<u32>, from: u32) -> Option<u32>
     requires { from ≤ page_count }
-    ensures page { IfSome result (λ page. IsPage page) }
-    ensures behind { IfSome result (λ page. from ≤ page) }
-    ensures held { IfSome result (λ page. contains nat_cmp held.now page ≡ true) }
-    ensures next { IfSome result (λ page. HasNone (λ q. contains nat_cmp held.now q) from page) }
+    ensures next { IfSome result (IsNextHeld (λ q. contains nat_cmp held.now q) from) }
     ensures none { IfNone result (HasNone (λ q. contains nat_cmp held.now q) from page_count) }
 {
     held.range(from..PAGE_COUNT as u32).next().copied()
@@ -70,9 +67,8 @@ fn append_page<P: PageStore>(
         changed.old.items
         → AreChanged (image_bytes image.now) held (P.pages store.old) ((page + 1) * page_words)
         changed.new.items) }
-    ensures same { P.pages store.new ≡ P.pages store.old }
-    ensures grows { P.faults store.old ≤ P.faults store.new }
-    ensures fault { EndsByCount (P.faults store.old) (P.faults store.new) result }
+    ensures store { ReadsStore (P.pages store.old) (P.pages store.new) (P.faults store.old)
+        (P.faults store.new) result }
 {
     let before = original_page(alloc, image, page)?;
     let mut after = original_page(alloc, image, page)?;
@@ -88,9 +84,8 @@ fn append_changed(
     before: &[u8],
     after: &[u8],
 ) -> Result<(), NoMemory>
-    requires page { IsPage page }
-    requires before { length before.now ≡ page_bytes }
-    requires after { length after.now ≡ page_bytes }
+    requires before { IsPageOf page before.now }
+    requires after { IsPageOf page after.now }
     ensures { OnOk result ((old new : ℕ → ℕ) → AreWords old → AreWords new
         → before.now ≡ page_of (in_bytes old) page
         → after.now ≡ page_of (in_bytes new) page

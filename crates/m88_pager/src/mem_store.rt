@@ -1,13 +1,12 @@
 //! A store of pages in memory that fails where it is told to.
 
-ghost use Rattle.std.specs.Prelude.{ℕ, ◌≡◌, ◌≤◌, ◌↔◌, Err, Some, IsTrue, IfOk, IfErr, IfSome, IsErr, OnErr, OnOk, Contains, length};
+ghost use Rattle.std.specs.Prelude.{ℕ, ◌≡◌, ◌↔◌, Some, IsTrue, IfOk, IfErr, IfSome, Contains, length};
 ghost use Rattle.std.specs.BTreeMap.{get as get_page};
-ghost use Rattle.std.specs.FinMap.{empty, get, insert};
+ghost use Rattle.std.specs.FinMap.{empty, get};
 ghost use Rattle.std.specs.Ordering.{nat_cmp};
-ghost use Rattle.m88_base.specs.Causes.{one_more};
-ghost use Rattle.m88_base.specs.Pages.{IsPage, page_bytes};
-ghost use Rattle.m88_pager.specs.MemoryPages.{faults_by, held_in};
-ghost use Rattle.m88_pager.specs.Store.{FailsByCount, Finds};
+ghost use Rattle.m88_base.specs.Pages.{page_bytes};
+ghost use Rattle.m88_pager.specs.MemoryPages.{IsCallCounted, held_in};
+ghost use Rattle.m88_pager.specs.Store.{Finds, IsPageOf, IsPageRead, IsPageWritten};
 ghost use Rattle.m88_pager.specs.declared.store.StoreError.TheVariants.{Failed};
 
 use crate::store::{PageStore, StoreError};
@@ -70,13 +69,9 @@ impl MemStore {
 
     /// Counts a call, which fails where it is to.
     fn count(&mut self) -> Result<(), StoreError>
-        ensures fails { IsErr result ↔ Contains self.old.failing self.old.calls }
+        ensures counts { IsCallCounted self.old self.new result }
+        ensures held { self.new.held ≡ self.old.held }
         ensures failed { IfErr result (λ error. error ≡ Failed) }
-        ensures grows { self.old.faults ≤ self.new.faults }
-        ensures stays { self.new ≡ record self.old {
-          faults = faults_by self.old.faults result;
-          calls = one_more self.old.calls;
-        } }
     {
         let fails = is_failing(&self.failing, self.calls);
         self.calls = self.calls.saturating_add(1);
@@ -94,37 +89,20 @@ impl PageStore for MemStore {
     ghost faults = { λ s. s.faults };
 
     fn read(&mut self, page: u32, into: &mut [u8]) -> Result<bool, StoreError>
-        requires page { IsPage page }
-        requires size { length into.old ≡ page_bytes }
-        ensures reads { IfOk result
-            (λ held. Finds (get self.old.held page) held into.old into.new) }
-        ensures same { Some self.new.held ≡ Some self.old.held }
-        ensures grows { self.old.faults ≤ self.new.faults }
-        ensures fault { FailsByCount self.old.faults self.new.faults result }
-        ensures fails { (result ≡ Err Failed) ↔ Contains self.old.failing self.old.calls }
-        ensures stays { self.new ≡ record self.old {
-          faults = faults_by self.old.faults result;
-          calls = one_more self.old.calls;
-        } }
+        requires { IsPageOf page into.old }
+        ensures read { IsPageRead (Some self.old.held) (Some self.new.held) self.old.faults
+            self.new.faults page into.old into.new result }
+        ensures counts { IsCallCounted self.old self.new result }
     {
         self.count()?;
         Ok(give(&self.pages, page, into))
     }
 
     fn write(&mut self, page: u32, bytes: &[u8]) -> Result<(), StoreError>
-        requires page { IsPage page }
-        requires size { length bytes.now ≡ page_bytes }
-        ensures put { OnOk result (Some self.new.held
-            ≡ Some (insert self.old.held page bytes.now)) }
-        ensures same { OnErr result (Some self.new.held ≡ Some self.old.held) }
-        ensures grows { self.old.faults ≤ self.new.faults }
-        ensures fault { FailsByCount self.old.faults self.new.faults result }
-        ensures fails { (result ≡ Err Failed) ↔ Contains self.old.failing self.old.calls }
-        ensures stays { self.new ≡ record self.old {
-          held = self.new.held;
-          faults = faults_by self.old.faults result;
-          calls = one_more self.old.calls;
-        } }
+        requires { IsPageOf page bytes.now }
+        ensures written { IsPageWritten (Some self.old.held) (Some self.new.held) self.old.faults
+            self.new.faults page bytes.now result }
+        ensures counts { IsCallCounted self.old self.new result }
     {
         self.count()?;
         let Ok(copy) = Vec::from_slice(self.alloc, bytes) else {

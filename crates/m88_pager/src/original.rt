@@ -3,7 +3,7 @@
 ghost use Rattle.std.specs.Prelude.{◌≡◌, ◌+◌, ◌*◌, ◌++◌, ◌<◌, ◌≤◌, ◌^◌, length, replicate, take, IfOk, OnOk};
 ghost use Rattle.m88_base.specs.Pages.{IsPage, page_bytes};
 ghost use Rattle.m88_mem.specs.DataBus.{image_bytes};
-ghost use Rattle.m88_pager.specs.Inside.Bytes.{HoldsFrom};
+ghost use Rattle.m88_pager.specs.Inside.Bytes.{IsPageFrom, IsPieceMore};
 ghost use Rattle.m88_pager.specs.Pages.{page_of};
 
 use m88_base::{Image, NoMemory, PAGE_BYTES};
@@ -24,8 +24,7 @@ pub(crate) fn original_page(alloc: Global, image: &Image, page: u32) -> Result<V
 /// The same of a page that begins at an address, piece by piece.
 fn copied_page(alloc: Global, image: &Image, start: u32) -> Result<Vec<u8>, NoMemory>
     requires { start + page_bytes ≤ 2 ^ 32 }
-    ensures held { IfOk result (λ bytes. HoldsFrom (image_bytes image.now) start bytes.items) }
-    ensures long { IfOk result (λ bytes. length bytes.items ≡ page_bytes) }
+    ensures { IfOk result (λ bytes. IsPageFrom (image_bytes image.now) start bytes.items) }
 {
     let mut bytes = Vec::with_capacity(alloc, PAGE_BYTES as usize)?;
     while bytes.len() < PAGE_BYTES as usize {
@@ -38,10 +37,7 @@ fn copied_page(alloc: Global, image: &Image, start: u32) -> Result<Vec<u8>, NoMe
 fn append_piece(bytes: &mut Vec<u8>, image: &Image, start: u32) -> Result<(), NoMemory>
     requires room { length bytes.old.items < page_bytes }
     requires fits { start + page_bytes ≤ 2 ^ 32 }
-    ensures held { OnOk result (HoldsFrom (image_bytes image.now) start bytes.old.items
-        → HoldsFrom (image_bytes image.now) start bytes.new.items) }
-    ensures longer { OnOk result (length bytes.old.items < length bytes.new.items) }
-    ensures room { OnOk result (length bytes.new.items ≤ page_bytes) }
+    ensures { OnOk result (IsPieceMore (image_bytes image.now) start bytes.old.items bytes.new.items) }
 {
     let at = start + bytes.len() as u32;
     let left = PAGE_BYTES as usize - bytes.len();

@@ -1,29 +1,22 @@
 //! A whole run on a board whose transactions are carried out a second time in frames.
 
-ghost use Rattle.std.specs.Prelude.{ℕ, Bool, List, ◌≡◌, ◌<◌, ◌≤◌, ◌+◌, ◌-◌, ◌*◌, ◌++◌, false, is_some, length, true, take, IfOk, OnOk};
+ghost use Rattle.std.specs.Prelude.{ℕ, Bool, ◌≡◌, ◌≤◌, ◌+◌, ◌*◌, false, length, IfOk, OnOk};
 ghost use Rattle.std.specs.NonZero.{non_zero_usize_get};
-ghost use Rattle.m88_event.specs.Bound.{weight};
-ghost use Rattle.m88_event.specs.Letters.{letter_at};
 ghost use Rattle.m88_event.specs.Local.{is_over_by};
 ghost use Rattle.m88_event.specs.Run.{IsOutcome};
-ghost use Rattle.m88_event.specs.Timeline.{Moment, after_letter, is_over};
-ghost use Rattle.m88_event.specs.declared.letter.Letter.{Letter as LetterValue};
+ghost use Rattle.m88_event.specs.Timeline.{Moment};
 ghost use Rattle.m88_event.specs.declared.outcome.Outcome.{Outcome as OutcomeValue};
-ghost use Rattle.m88_isa.specs.Bus.{in_words};
-ghost use Rattle.m88_isa.specs.History.{transactions};
 ghost use Rattle.m88_isa.specs.ImageProgram.{IsProgramOf};
-ghost use Rattle.m88_isa.specs.Machine.{IsProgram, Program, opening, state};
-ghost use Rattle.m88_isa.specs.declared.planned.Access.{Access as AccessValue};
-ghost use Rattle.m88_mem.specs.DataBus.{image_bus, image_bytes};
+ghost use Rattle.m88_isa.specs.Machine.{Program};
+ghost use Rattle.m88_mem.specs.DataBus.{image_bytes};
 ghost use Rattle.m88_mem.specs.Marks.{NamesPages, absent_in};
 ghost use Rattle.m88_board.specs.Board.{local_of};
 ghost use Rattle.m88_board.specs.Kept.{most_retired};
-ghost use Rattle.m88_board.specs.Moves.{IsAt, IsSameRun};
-ghost use Rattle.m88_pager.specs.Ends.{EndsByCount};
-ghost use Rattle.m88_pager.specs.Inside.Came.{CameTo};
-ghost use Rattle.m88_pager.specs.Inside.Seen.{AreCarried, IsWithin};
-ghost use Rattle.m88_pager.specs.Paged.{AreCounts, HoldsNoneWhereTold, IsOutcomeButWords, Tells, most_frames};
-ghost use Rattle.m88_pager.specs.Pages.{HoldsWhereTold, writes_page};
+ghost use Rattle.m88_board.specs.Moves.{IsAt};
+ghost use Rattle.m88_pager.specs.Ends.{UsesStore};
+ghost use Rattle.m88_pager.specs.Inside.Came.{HasPagedStep, IsFinished};
+ghost use Rattle.m88_pager.specs.Inside.Seen.{IsWithin};
+ghost use Rattle.m88_pager.specs.Paged.{HoldsNoneWhereTold, IsPagedRun, most_frames};
 
 use crate::changed::changed_words;
 use crate::frames::Frames;
@@ -54,29 +47,16 @@ pub fn page_run<P: PageStore>(
     requires some { 1 ≤ frames }
     requires most { frames ≤ most_frames }
     requires empty { HoldsNoneWhereTold (P.pages store.old) }
-    ensures outcome { IfOk result (λ o. Tells (P.pages store.old)
-        → (p : Program) → IsProgramOf image.now p → p.mxm ≡ false
-        → IsOutcome p (absent_in absent.now) limit schedule.now o.outcome) }
-    ensures but_words { IfOk result (λ o. (p : Program) → IsProgramOf image.now p → p.mxm ≡ false
-        → IsOutcomeButWords p (absent_in absent.now) limit schedule.now o.outcome) }
+    ensures run { IfOk result (λ o. (p : Program) → IsProgramOf image.now p → p.mxm ≡ false
+        → IsPagedRun p (absent_in absent.now) limit schedule.now frames (P.pages store.old)
+        (P.pages store.new) o) }
     ensures only { (p : Program) (named : ℕ → Bool) (o other : OutcomeValue)
         → IsOutcome p named limit schedule.now o → IsOutcome p named limit schedule.now other
         → o ≡ other }
     ensures within { IfOk result (λ o. o.outcome.events ≤ length schedule.now + 8 * limit + 8) }
-    ensures counts { IfOk result (λ o. (p : Program) → IsProgramOf image.now p → p.mxm ≡ false
-        → AreCounts p frames o) }
-    // As many instructions are retired in every run of the program with this limit, whatever pages are absent and
-    // whatever the schedule: so the counts are those of the program, the limit and the frames alone.
-    ensures alone { IfOk result (λ o. (p : Program) → IsProgramOf image.now p → p.mxm ≡ false
-        → (named : ℕ → Bool) (letters : List LetterValue) (other : OutcomeValue)
-        → IsOutcome p named limit letters other → other.retired ≡ o.outcome.retired) }
-    ensures held { IfOk result (λ o. (p : Program) → IsProgramOf image.now p → p.mxm ≡ false
-        → HoldsWhereTold (writes_page (transactions p o.outcome.retired))
-        (state p o.outcome.retired).memory (P.pages store.new)) }
     ensures program { (p : Program) × IsProgramOf image.now p × (p.mxm ≡ false) }
-    ensures tells { is_some (P.pages store.new) ≡ is_some (P.pages store.old) }
-    ensures grows { P.faults store.old ≤ P.faults store.new }
-    ensures fault { EndsByCount (P.faults store.old) (P.faults store.new) result }
+    ensures store { UsesStore (P.pages store.old) (P.pages store.new) (P.faults store.old)
+        (P.faults store.new) result }
 {
     let mut board = Board::new(alloc, image, absent, limit, false)?;
     let mut walk = Walk::new(&mut board, schedule);
@@ -111,29 +91,10 @@ fn step<P: PageStore>(
     requires there { (p : Program) × (named : ℕ → Bool) × (m : Moment)
         × IsAt p named m walk.old.board.now }
     requires within { IsWithin walk.old.board.now.done paging.old }
-    ensures at { OnOk result ((p : Program) (named : ℕ → Bool) (m : Moment)
-        → IsAt p named m walk.old.board.now
-        → IsAt p named (after_letter p named walk.old.board.now.limit
-        (letter_at walk.old.schedule.now walk.old.taken) m) walk.new.board.now) }
-    ensures taken { OnOk result (walk.new.taken ≡ walk.old.taken + 1) }
-    ensures lighter { OnOk result
-        (weight walk.new.schedule.now walk.new.board.now.limit walk.new.taken
-        (local_of walk.new.board.now)
-        < weight walk.old.schedule.now walk.old.board.now.limit walk.old.taken
-        (local_of walk.old.board.now)) }
-    ensures same { IsSameRun walk.old.board.now walk.new.board.now }
-    ensures schedule { walk.new.schedule ≡ walk.old.schedule }
-    ensures lender { walk.new.board.ghost_name ≡ walk.old.board.ghost_name }
-    ensures within { OnOk result (IsWithin walk.new.board.now.done paging.new) }
-    ensures cap { paging.new.cache.cap ≡ paging.old.cache.cap }
-    ensures carried { OnOk result ((most : ℕ) (accesses : List AccessValue)
-        → AreCarried (image_bytes image.now) most accesses paging.old (P.pages store.old)
-        → AreCarried (image_bytes image.now) most
-        (accesses ++ take (walk.new.board.now.done - walk.old.board.now.done)
-        walk.old.board.now.pending) paging.new (P.pages store.new)) }
-    ensures tells { is_some (P.pages store.new) ≡ is_some (P.pages store.old) }
-    ensures grows { P.faults store.old ≤ P.faults store.new }
-    ensures fault { EndsByCount (P.faults store.old) (P.faults store.new) result }
+    ensures stepped { OnOk result (HasPagedStep (image_bytes image.now) walk.old walk.new paging.old
+        paging.new (P.pages store.old) (P.pages store.new)) }
+    ensures store { UsesStore (P.pages store.old) (P.pages store.new) (P.faults store.old)
+        (P.faults store.new) result }
 {
     let board = walk.board();
     // What always holds of a board is told with its events.
@@ -155,15 +116,10 @@ fn finish<P: PageStore>(
 ) -> Result<Paged, PageEnd>
     requires within { IsWithin board.done paging }
     requires cap { paging.cache.cap ≤ most_frames }
-    ensures came { IfOk result (λ o. (p : Program) (named : ℕ → Bool) (m : Moment) (most : ℕ)
-        → IsProgram p → image_bus image.now ≡ in_words (opening p).memory
-        → IsAt p named m board → is_over p board.limit m ≡ true
-        → AreCarried (image_bytes image.now) most (transactions p m.retired) paging (P.pages store.old)
-        → CameTo p most m o (P.pages store.new)) }
-    ensures events { IfOk result (λ o. o.outcome.events ≡ board.events) }
-    ensures tells { is_some (P.pages store.new) ≡ is_some (P.pages store.old) }
-    ensures grows { P.faults store.old ≤ P.faults store.new }
-    ensures fault { EndsByCount (P.faults store.old) (P.faults store.new) result }
+    ensures finished { IfOk result (IsFinished image.now board paging (P.pages store.old)
+        (P.pages store.new)) }
+    ensures store { UsesStore (P.pages store.old) (P.pages store.new) (P.faults store.old)
+        (P.faults store.new) result }
 {
     // What always holds of a board is told with its events, and that no more pages stand in frames than there are with
     // their number.

@@ -1,5 +1,6 @@
 -- Memory by bytes where its words are told.
-use Rattle.std.specs.Prelude.{ℕ, List, ◌≡◌, ◌<◌, ◌+◌, ◌^◌, ◌%◌, length, slice_index_or}
+use Rattle.std.specs.Prelude.{ℕ, List, ◌≡◌, ◌<◌, ◌≤◌, ◌+◌, ◌^◌, ◌%◌, length, slice_index_or}
+use Rattle.m88_base.specs.Pages.{page_bytes}
 use Rattle.m88_isa.specs.Address.{word_address}
 use Rattle.m88_isa.specs.Lanes.{byte_of}
 
@@ -15,3 +16,14 @@ AreWords bus = (a : ℕ) → bus a < 2 ^ 32
 abbrev pub HoldsFrom : (ℕ → ℕ) → ℕ → List ℕ → Type 0
 HoldsFrom memory start bytes =
     (place : ℕ) → place < length bytes → slice_index_or bytes place 0 ≡ memory (start + place)
+
+-- and as many as a page has
+pub record IsPageFrom (memory : ℕ → ℕ) (start : ℕ) (bytes : List ℕ) : Type 0 where
+  pub held : HoldsFrom memory start bytes
+  pub long : length bytes ≡ page_bytes
+
+-- some bytes more of a page, at least one, which go on to be those of memory
+pub record IsPieceMore (memory : ℕ → ℕ) (start : ℕ) (old new : List ℕ) : Type 0 where
+  pub held : HoldsFrom memory start old → HoldsFrom memory start new
+  pub longer : length old < length new
+  pub room : length new ≤ page_bytes

@@ -1,12 +1,23 @@
--- What a paged run came to at a moment that is over.
-use Rattle.std.specs.Prelude.{ℕ, Option, ◌≡◌}
+-- What an event makes of a paged run, and what the run came to at a moment that is over.
+use Rattle.std.specs.Prelude.{ℕ, Bool, true, List, Option, ◌≡◌, ◌+◌, ◌<◌, ◌-◌, take}
+use Rattle.m88_base.specs.Image.{ProgramImage}
+use Rattle.m88_board.specs.Board.{BoardView, local_of}
+use Rattle.m88_board.specs.Moves.{IsAt}
+use Rattle.m88_board.specs.declared.walk.Walk.{Walk}
+use Rattle.m88_event.specs.Bound.{weight}
+use Rattle.m88_event.specs.Letters.{letter_at}
 use Rattle.m88_event.specs.Run.{outcome_at}
-use Rattle.m88_event.specs.Timeline.{Moment}
+use Rattle.m88_event.specs.Timeline.{Moment, after_letter, is_over}
 use Rattle.m88_isa.specs.History.{transactions}
-use Rattle.m88_isa.specs.Machine.{Program, state}
+use Rattle.m88_isa.specs.Bus.{in_words}
+use Rattle.m88_isa.specs.Machine.{IsProgram, Program, opening, state}
+use Rattle.m88_mem.specs.DataBus.{image_bus, image_bytes}
+use Rattle.m88_pager.specs.Inside.Calls.{AreCarriedOn}
+use Rattle.m88_pager.specs.Inside.Seen.{AreCarried, IsWithin}
 use Rattle.m88_pager.specs.Paged.{AreCounts, Tells}
 use Rattle.m88_pager.specs.Pages.{HoldsWhereTold, writes_page}
 use Rattle.m88_pager.specs.Store.{PageMap}
+use Rattle.m88_pager.specs.declared.frames.Frames.{Frames}
 use Rattle.m88_pager.specs.declared.paged.Paged.{Paged}
 
 -- its outcome but for the words that changed, and these too where the store tells its pages; its counts; and the pages
@@ -16,3 +27,24 @@ pub record CameTo (p : Program) (frames : ℕ) (m : Moment) (o : Paged) (told : 
   pub outcome : Tells told → o.outcome ≡ outcome_at p m
   pub counts : AreCounts p frames o
   pub pages : HoldsWhereTold (writes_page (transactions p o.outcome.retired)) (state p o.outcome.retired).memory told
+
+-- the next event of a walk is made, and what it answered or finished is carried out in the frames
+pub record HasPagedStep (original : ℕ → ℕ) (w v : Walk) (f g : Frames) (told told' : Option PageMap) : Type 0 where
+  pub at : (p : Program) (named : ℕ → Bool) (m : Moment) → IsAt p named m w.board.now
+      → IsAt p named (after_letter p named w.board.now.limit (letter_at w.schedule.now w.taken) m) v.board.now
+  pub taken : v.taken ≡ w.taken + 1
+  pub lighter : weight v.schedule.now v.board.now.limit v.taken (local_of v.board.now)
+      < weight w.schedule.now w.board.now.limit w.taken (local_of w.board.now)
+  pub limit : v.board.now.limit ≡ w.board.now.limit
+  pub schedule : v.schedule ≡ w.schedule
+  pub lender : v.board.ghost_name ≡ w.board.ghost_name
+  pub within : IsWithin v.board.now.done g
+  pub carried : AreCarriedOn original (take (v.board.now.done - w.board.now.done) w.board.now.pending) f g told told'
+
+-- what a run comes to at a board that is over, by the frames and the store there
+pub record IsFinished (image : ProgramImage) (b : BoardView) (f : Frames) (told told' : Option PageMap) (o : Paged) :
+    Type 0 where
+  pub came : (p : Program) (named : ℕ → Bool) (m : Moment) (most : ℕ) → IsProgram p
+      → image_bus image ≡ in_words (opening p).memory → IsAt p named m b → is_over p b.limit m ≡ true
+      → AreCarried (image_bytes image) most (transactions p m.retired) f told → CameTo p most m o told'
+  pub events : o.outcome.events ≡ b.events

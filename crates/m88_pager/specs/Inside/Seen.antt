@@ -3,7 +3,6 @@ use Rattle.std.specs.Prelude.{ℕ, Bool, List, ◌∷◌, Option, Some, None, Al
 use Rattle.std.specs.BTreeSet.{contains}
 use Rattle.std.specs.FinMap.{get}
 use Rattle.std.specs.Ordering.{nat_cmp}
-use Rattle.m88_base.specs.Pages.{IsPage, page_bytes}
 use Rattle.m88_isa.specs.Bus.{bus_after_all, in_words}
 use Rattle.m88_isa.specs.Lanes.{AreBytes}
 use Rattle.m88_isa.specs.Memory.{IsWordAccess}
@@ -14,7 +13,7 @@ use Rattle.m88_pager.specs.Frames.{Frames as FramesSeen, frames_after, no_frames
 use Rattle.m88_pager.specs.Inside.Bytes.{in_bytes}
 use Rattle.m88_pager.specs.Inside.Contents.{Stands, behind}
 use Rattle.m88_pager.specs.Pages.{page_of, writes_page}
-use Rattle.m88_pager.specs.Store.{PageMap}
+use Rattle.m88_pager.specs.Store.{IsPageOf, PageMap}
 use Rattle.m88_pager.specs.declared.frames.Frame.{Frame}
 use Rattle.m88_pager.specs.declared.frames.Frames.{Frames}
 
@@ -36,7 +35,7 @@ seen_with page frame f = record {
 
 -- a page by its number, with all of its bytes
 abbrev pub IsWhole : ℕ × Frame → Type 0
-IsWhole e = IsPage e.0 × (length e.1.bytes.items ≡ page_bytes)
+IsWhole e = IsPageOf e.0 e.1.bytes.items
 
 -- the pages that were written to the store
 abbrev pub held_by : Frames → ℕ → Bool

@@ -1,5 +1,6 @@
 -- What a store that tells its pages has once no page stands in a frame.
-use Rattle.std.specs.Prelude.{ℕ, Bool, false, List, [], Option, Some, None, ◌≡◌, ◌≤◌, ◌<◌}
+use Rattle.std.specs.Prelude.{ℕ, Bool, true, false, List, [], Option, Some, None, ◌≡◌, ◌≤◌, ◌<◌}
+use Rattle.m88_base.specs.Pages.{IsPage}
 use Rattle.m88_isa.specs.Bus.{changed_among, in_words}
 use Rattle.m88_isa.specs.Lanes.{AreBytes}
 use Rattle.m88_pager.specs.Inside.Bytes.{AreWords, in_bytes}
@@ -23,3 +24,10 @@ AreChanged original held told count words =
 -- a set has no page from one number on and below another
 abbrev pub HasNone : (ℕ → Bool) → ℕ → ℕ → Type 0
 HasNone held from to = (page : ℕ) → from ≤ page → page < to → held page ≡ false
+
+-- the first page of a set from a number on
+pub record IsNextHeld (held : ℕ → Bool) (from page : ℕ) : Type 0 where
+  pub number : IsPage page
+  pub behind : from ≤ page
+  pub held_is : held page ≡ true
+  pub next : HasNone held from page

@@ -15,4 +15,5 @@ returns c =
     let p = c.page_run.ensures.program in
     paged c.args.source.now c.args.frames c.args.limit (absent_in c.args.absent.now) c.args.schedule.now c.in_ok-text.text.items c.in-Ok.image
     c.in-Ok-page_run.paged p.0 (where_ok c.in_ok-image.field-0 c.in-Ok.image _ _ c.in-Ok.is c.in_ok-image.ensures) p.1
-    (c.in-Ok-page_run.ensures.outcome tt) c.in-Ok-page_run.ensures.counts c.in_ok-text.ensures
+    (λ q is mode. (c.in-Ok-page_run.ensures.run q is mode).outcome tt) (λ q is mode. (c.in-Ok-page_run.ensures.run q is mode).counts)
+    c.in_ok-text.ensures

@@ -9,22 +9,30 @@ use Rattle.m88_pager.proofs.Words.{page_length, words_there}
 use Rattle.m88_pager.specs.Pages.{page_of}
 use Rattle.m88_pager.proofs.changed.append_page.Goals as goal
 
-pub read-requires-clause-size : goal.read-requires-clause-size
-read-requires-clause-size g c =
-    ap length (c.as_mut_slice.ensures.value ∙ c.in_ok-after.ensures) ∙ page_length (image_bytes c.args.image.now) c.args.page
+pub read-requires : goal.read-requires
+read-requires g c = record {
+  number = c.requires;
+  size = ap length (c.as_mut_slice.ensures.value ∙ c.in_ok-after.ensures) ∙ page_length (image_bytes c.args.image.now) c.args.page;
+}
 
 pub append_changed-requires-clause-before : goal.append_changed-requires-clause-before
-append_changed-requires-clause-before g c =
-    ap length (c.deref.ensures.value ∙ c.in_ok-before.ensures) ∙ page_length (image_bytes c.args.image.now) c.args.page
+append_changed-requires-clause-before g c = record {
+  number = c.requires;
+  size = ap length (c.deref.ensures.value ∙ c.in_ok-before.ensures) ∙ page_length (image_bytes c.args.image.now) c.args.page;
+}
 
 pub append_changed-requires-clause-after : goal.append_changed-requires-clause-after
 append_changed-requires-clause-after g c =
     let old = c.in_ok-after.after in
     let same : length c.read.new.into ≡ length old.items = c.read.auto.into ∙ ap length c.as_mut_slice.ensures.value in
-    ap length (c.deref-2.ensures.value ∙ all_written old.len old.items c.read.new.into (omega (arith, old.ok.0)) same)
-    ∙ same
-    ∙ ap length c.in_ok-after.ensures
-    ∙ page_length (image_bytes c.args.image.now) c.args.page
+    record {
+      number = c.requires;
+      size =
+          ap length (c.deref-2.ensures.value ∙ all_written old.len old.items c.read.new.into (omega (arith, old.ok.0)) same)
+          ∙ same
+          ∙ ap length c.in_ok-after.ensures
+          ∙ page_length (image_bytes c.args.image.now) c.args.page;
+    }
 
 pub returns-clause-changed : goal.returns-clause-changed
 returns-clause-changed g c = λ held is so bus written s bytes news.

@@ -22,21 +22,21 @@ loop-page-init g c = record {
 pub loop-page-preserved : goal.loop-page-preserved
 loop-page-preserved g c =
     let inv = c.loop-page.invariant in
-    let found = c.in-Some.ensures in
-    let page = found.page in
+    let found = c.in-Some.ensures.next in
+    let page = found.number in
     let before = inv.grows in
-    let more = c.append_page.ensures.grows in
+    let more = c.append_page.ensures.store.grows in
     let held = λ (q : ℕ). contains nat_cmp c.args.held.now q in
     let original = image_bytes c.args.image.now in
     let up = none_up original held (g.P.PageStore.pages c.args.store.now) c.loop-page.from c.in-Some.page c.loop-page.changed.items found.behind found.next inv.changed in
     let step = subst (λ (told : Option PageMap).
     AreChanged original held told (c.in-Some.page * 1024) c.loop-page.changed.items
     → AreChanged original held told ((c.in-Some.page + 1) * 1024) c.append_page.new.changed.items) inv.same
-    (c.in_ok-append_page.ensures.changed held found.held) in
+    (c.in_ok-append_page.ensures.changed held found.held_is) in
     record {
       changed = step up;
       within = omega (arith, page);
-      same = c.append_page.ensures.same ∙ inv.same;
+      same = c.append_page.ensures.store.same ∙ inv.same;
       grows = omega (arith, before, more);
     }
 

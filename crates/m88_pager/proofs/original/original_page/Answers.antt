@@ -2,7 +2,6 @@
 use Rattle.std.proofs.Common.{refl}
 use Rattle.std.proofs.lemmas.Result.{IfOk-weaker}
 use Rattle.m88_mem.specs.DataBus.{image_bytes}
-use Rattle.m88_pager.proofs.Both.{both_ok}
 use Rattle.m88_pager.proofs.Pieces.{page_blank, page_held}
 use Rattle.m88_pager.proofs.original.original_page.Goals as goal
 
@@ -12,6 +11,6 @@ returns-in-None c = IfOk-weaker c.zeros.result _ _
     c.zeros.ensures
 
 pub returns-in-Some : goal.returns-in-Some
-returns-in-Some c = both_ok c.copied_page.result _ _ _
-    (λ bytes held long. page_held (image_bytes c.args.image.now) c.args.page _ bytes.items refl long held)
-    c.copied_page.ensures.held c.copied_page.ensures.long
+returns-in-Some c = IfOk-weaker c.copied_page.result _ _
+    (λ bytes piece. page_held (image_bytes c.args.image.now) c.args.page _ bytes.items refl piece.long piece.held)
+    c.copied_page.ensures

@@ -7,7 +7,7 @@ use Rattle.m88_board.specs.Board.{BoardView, local_of}
 use Rattle.m88_board.specs.Moves.{IsAt}
 use Rattle.m88_event.proofs.Laws.{one_outcome}
 use Rattle.m88_event.specs.Local.{is_over_by}
-use Rattle.m88_event.specs.Run.{moment_after, outcome_at}
+use Rattle.m88_event.specs.Run.{IsOutcome, moment_after, outcome_at}
 use Rattle.m88_event.specs.Timeline.{opening_moment}
 use Rattle.m88_event.specs.declared.letter.Letter.{Letter}
 use Rattle.m88_mem.specs.DataBus.{image_bytes}
@@ -27,7 +27,7 @@ loop-walk-init g c =
       limit = ap (λ (b : BoardView). b.limit) c.new-walk.ensures.board ∙ made.limit;
       schedule = c.new-walk.ensures.schedule;
       lender = refl;
-      within = none_within c.new-walk.result.board.now.done c.in_ok-paging.paging opened.empty opened.ins opened.outs;
+      within = none_within c.new-walk.result.board.now.done opened;
       cap = cap;
       tells = refl;
       grows = omega arith;
@@ -38,30 +38,29 @@ loop-walk-init g c =
           c.new-walk.ensures.taken
           (subst (λ (b : BoardView). IsAt p named opening_moment b) (sym c.new-walk.ensures.board) (made.at p of clear))
           (none_carried (image_bytes c.args.image.now) c.args.frames c.in_ok-paging.paging
-          (g.P.PageStore.pages c.args.store.now) bytes opened.empty cap opened.held opened.ins opened.outs
-          c.requires.empty);
+          (g.P.PageStore.pages c.args.store.now) bytes cap opened c.requires.empty);
     }
 
 pub loop-walk-preserved : goal.loop-walk-preserved
 loop-walk-preserved g c =
     let inv = c.loop-walk.invariant in
-    let stepped = c.in_ok-step.ensures in
+    let stepped = c.in_ok-step.ensures.stepped in
     let goes : is_over_by c.args.limit (local_of c.loop-walk.walk.board.now) ≡ false =
     ap (λ (n : ℕ). is_over_by n (local_of c.loop-walk.walk.board.now)) (sym inv.limit)
     ∙ over_shown c.board-in-loop-walk.ensures c.is_over.ensures.value ∙ c.loop-walk-test.true in
     let older = inv.grows in
-    let newer = c.step.ensures.grows in
+    let newer = c.step.ensures.store.grows in
     record {
-      limit = c.step.ensures.same.limit ∙ inv.limit;
-      schedule = ap (λ (s : Bor (List Letter)). s.now) c.step.ensures.schedule ∙ inv.schedule;
-      lender = c.step.ensures.lender ∙ inv.lender;
+      limit = stepped.limit ∙ inv.limit;
+      schedule = ap (λ (s : Bor (List Letter)). s.now) stepped.schedule ∙ inv.schedule;
+      lender = stepped.lender ∙ inv.lender;
       within = stepped.within;
-      cap = c.step.ensures.cap ∙ inv.cap;
-      tells = c.step.ensures.tells ∙ inv.tells;
+      cap = stepped.carried.cap ∙ inv.cap;
+      tells = c.step.ensures.store.tells ∙ inv.tells;
       grows = omega (arith, older, newer);
       there = λ p of clear.
           there_next inv.limit inv.schedule stepped.taken goes (inv.there p of clear)
-          (λ m at. stepped.at p (absent_in c.args.absent.now) m at) (λ xs s. stepped.carried c.args.frames xs s);
+          (λ m at. stepped.at p (absent_in c.args.absent.now) m at) (stepped.carried.carried c.args.frames);
     }
 
 pub step-requires-clause-going : goal.step-requires-clause-going
@@ -77,77 +76,42 @@ step-requires-clause-there g c =
       (c.loop-walk.invariant.there p c.new.ensures.program.1 c.new.ensures.program.2).at,
     )
 
-pub returns-clause-outcome : goal.returns-clause-outcome
-returns-clause-outcome g c = IfOk-weaker c.finish.result _ _
-    (λ o came tells p of clear.
+pub returns-clause-run : goal.returns-clause-run
+returns-clause-run g c = IfOk-weaker c.finish.result _ _
+    (λ o finished p of clear.
     let inv = c.loop-walk.invariant in
+    let absent = absent_in c.args.absent.now in
+    let letters = c.args.schedule.now in
+    let k = c.loop-walk.walk.taken in
     let over = over_shown c.board-in-loop-walk.ensures c.is_over.ensures.value ∙ c.loop-walk-test.false in
     let ended = ends p c.args.image.now c.new.ensures.is_image of inv.limit over (inv.there p of clear)
-    (c.board-in-loop-walk-1.given.1 (sym (inv.lender ∙ c.new-walk.ensures.lender))) came in
+    (c.board-in-loop-walk-1.given.1 (sym (inv.lender ∙ c.new-walk.ensures.lender))) finished in
+    let changed = (outcome_at p (moment_after p absent c.args.limit letters k)).changed in
+    let but_words : IsOutcome p absent c.args.limit letters (record o.outcome { changed = changed }) =
+    record { events = k; run = ended.0; value = ended.1.but_words } in
     record {
-      events = c.loop-walk.walk.taken;
-      run = ended.0;
-      value = ended.1.outcome (tells_on _ _ (c.finish.ensures.tells ∙ inv.tells) tells);
+      outcome = λ tells.
+          record { events = k; run = ended.0; value = ended.1.outcome (tells_on _ _ (c.finish.ensures.store.tells ∙ inv.tells) tells) };
+      but_words = (changed, but_words);
+      counts = ended.1.counts;
+      alone = λ named others other run.
+          one_retired p c.args.limit named absent others letters other (record o.outcome { changed = changed }) run but_words;
+      held = ended.1.pages;
     })
-    c.finish.ensures.came
-
-pub returns-clause-but_words : goal.returns-clause-but_words
-returns-clause-but_words g c = IfOk-weaker c.finish.result _ _
-    (λ o came p of clear.
-    let inv = c.loop-walk.invariant in
-    let over = over_shown c.board-in-loop-walk.ensures c.is_over.ensures.value ∙ c.loop-walk-test.false in
-    let ended = ends p c.args.image.now c.new.ensures.is_image of inv.limit over (inv.there p of clear)
-    (c.board-in-loop-walk-1.given.1 (sym (inv.lender ∙ c.new-walk.ensures.lender))) came in
-    let m = moment_after p (absent_in c.args.absent.now) c.args.limit c.args.schedule.now c.loop-walk.walk.taken in (
-      (outcome_at p m).changed,
-      record { events = c.loop-walk.walk.taken; run = ended.0; value = ended.1.but_words },
-    ))
-    c.finish.ensures.came
+    c.finish.ensures.finished
 
 pub returns-clause-only : goal.returns-clause-only
 returns-clause-only g c = λ p named o other. one_outcome p named c.args.limit c.args.schedule.now o other
 
 pub returns-clause-within : goal.returns-clause-within
 returns-clause-within g c = IfOk-weaker c.finish.result _ _
-    (λ o events.
+    (λ o finished.
     let inv = c.loop-walk.invariant in
     let room = c.loop-walk.walk.bounded.room in
+    let events = finished.events in
     let lent = ap (λ (b : BoardView). b.events)
     (c.board-in-loop-walk-1.given.1 (sym (inv.lender ∙ c.new-walk.ensures.lender))) in
     let limit = inv.limit in
     let letters = ap (λ (s : List Letter). length s) inv.schedule in
     omega (arith, room, events, lent, limit, letters))
-    c.finish.ensures.events
-
-pub returns-clause-counts : goal.returns-clause-counts
-returns-clause-counts g c = IfOk-weaker c.finish.result _ _
-    (λ o came p of clear.
-    let inv = c.loop-walk.invariant in
-    let over = over_shown c.board-in-loop-walk.ensures c.is_over.ensures.value ∙ c.loop-walk-test.false in
-    let ended = ends p c.args.image.now c.new.ensures.is_image of inv.limit over (inv.there p of clear)
-    (c.board-in-loop-walk-1.given.1 (sym (inv.lender ∙ c.new-walk.ensures.lender))) came in
-    ended.1.counts)
-    c.finish.ensures.came
-
-pub returns-clause-alone : goal.returns-clause-alone
-returns-clause-alone g c = IfOk-weaker c.finish.result _ _
-    (λ o came p of clear named letters other run.
-    let inv = c.loop-walk.invariant in
-    let over = over_shown c.board-in-loop-walk.ensures c.is_over.ensures.value ∙ c.loop-walk-test.false in
-    let ended = ends p c.args.image.now c.new.ensures.is_image of inv.limit over (inv.there p of clear)
-    (c.board-in-loop-walk-1.given.1 (sym (inv.lender ∙ c.new-walk.ensures.lender))) came in
-    let absent = absent_in c.args.absent.now in
-    let m = moment_after p absent c.args.limit c.args.schedule.now c.loop-walk.walk.taken in
-    one_retired p c.args.limit named absent letters c.args.schedule.now other (record o.outcome { changed = (outcome_at p m).changed }) run
-    (record { events = c.loop-walk.walk.taken; run = ended.0; value = ended.1.but_words }))
-    c.finish.ensures.came
-
-pub returns-clause-held : goal.returns-clause-held
-returns-clause-held g c = IfOk-weaker c.finish.result _ _
-    (λ o came p of clear.
-    let inv = c.loop-walk.invariant in
-    let over = over_shown c.board-in-loop-walk.ensures c.is_over.ensures.value ∙ c.loop-walk-test.false in
-    let ended = ends p c.args.image.now c.new.ensures.is_image of inv.limit over (inv.there p of clear)
-    (c.board-in-loop-walk-1.given.1 (sym (inv.lender ∙ c.new-walk.ensures.lender))) came in
-    ended.1.pages)
-    c.finish.ensures.came
+    c.finish.ensures.finished

@@ -16,9 +16,11 @@ returns-then-not-contains-clause-comes g c =
     not_held (page_of (image_bytes c.args.image.now)) (held_by c.args.self.now) (g.P.PageStore.pages c.args.store.now) c.args.page _
     (sym c.contains.ensures ∙ c.if-not-contains.true) c.in_ok-bytes.ensures
 
-pub read-requires-clause-size : goal.read-requires-clause-size
-read-requires-clause-size g c =
-    ap length (c.as_mut_slice.ensures.value ∙ c.in_ok-bytes.ensures) ∙ page_length (image_bytes c.args.image.now) c.args.page
+pub read-requires : goal.read-requires
+read-requires g c = record {
+  number = c.requires;
+  size = ap length (c.as_mut_slice.ensures.value ∙ c.in_ok-bytes.ensures) ∙ page_length (image_bytes c.args.image.now) c.args.page;
+}
 
 pub returns-clause-size : goal.returns-clause-size
 returns-clause-size g c =

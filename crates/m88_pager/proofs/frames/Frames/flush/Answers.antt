@@ -2,7 +2,7 @@
 use Rattle.std.specs.Prelude.{ℕ, Bool, List, All, ◌≡◌, ◌+◌, ◌-◌, length, map, slice_get, take}
 use Rattle.std.proofs.Common.{arith, length-take, sym, ap, subst, ◌∙◌}
 use Rattle.m88_pager.proofs.Counts.{same_length}
-use Rattle.m88_pager.proofs.Flushing.{at_most_one, dirty_left, none_dirty, whole_front}
+use Rattle.m88_pager.proofs.Flushing.{at_most_one, dirty_left, none_dirty, none_left, whole_front}
 use Rattle.m88_pager.specs.Frames.{Frames as FramesSeen, dirty_count, one_if_dirty}
 use Rattle.m88_pager.specs.Inside.Seen.{IsWhole, marked}
 use Rattle.m88_pager.specs.declared.frames.Frame.{Frame}
@@ -17,8 +17,9 @@ loop-self-preserved g c =
     let long : length pages ≡ length f.cache.entries = same_length f.cache.entries in
     let there = c.loop-self-test.true in
     let len = c.len.ensures.len in
-    let left = c.in_ok-leave.ensures.left in
-    let counts = c.in_ok-leave.ensures.counts in
+    let went = c.in_ok-leave.ensures.left in
+    let left = went.left in
+    let counts = went.counts in
     let outs : now.outs ≡ f.outs + one_if_dirty (slice_get pages (length pages - 1)) = ap (λ (s : FramesSeen). s.outs) counts in
     let ins : now.ins ≡ f.ins = ap (λ (s : FramesSeen). s.ins) counts in
     let dirty : dirty_count (map marked now.cache.entries) ≡ dirty_count (take (length pages - 1) pages) =
@@ -31,20 +32,21 @@ loop-self-preserved g c =
     let few = inv.few in
     let so_far = inv.outs in
     let before = inv.grows in
-    let more = c.leave.ensures.grows in
+    let more = c.leave.ensures.store.grows in
     record {
       whole = subst (All IsWhole) (sym left) (whole_front (length f.cache.entries - 1) f.cache.entries inv.whole);
       ins = ins ∙ inv.ins;
       few = omega (arith, few, outs, most, shorter, taken, there, len);
       outs = omega (arith, so_far, outs, dirty, sum);
-      stands = λ original memory written s. c.in_ok-leave.ensures.stands original memory written (inv.stands original memory written s);
-      tells = c.leave.ensures.tells ∙ inv.tells;
+      stands = λ original memory written s. went.stands original memory written (inv.stands original memory written s);
+      tells = c.leave.ensures.store.tells ∙ inv.tells;
       grows = omega (arith, before, more);
     }
 
-pub returns-clause-outs : goal.returns-clause-outs
-returns-clause-outs g c =
-    let so_far = c.loop-self.invariant.outs in
-    let none = none_dirty (map marked c.loop-self.self.cache.entries)
-    (same_length c.loop-self.self.cache.entries ∙ omega (arith, c.loop-self-test.false, c.len.ensures.len)) in
-    omega (arith, so_far, none)
+pub returns-clause-flushed : goal.returns-clause-flushed
+returns-clause-flushed g c =
+    let inv = c.loop-self.invariant in
+    let so_far = inv.outs in
+    let empty = none_left c.loop-self.self.cache.entries (omega (arith, c.loop-self-test.false, c.len.ensures.len)) in
+    let none = none_dirty (map marked c.loop-self.self.cache.entries) (ap (λ (es : List (ℕ × Frame)). length (map marked es)) empty) in
+    record { empty = empty; ins = inv.ins; outs = omega (arith, so_far, none); stands = inv.stands }

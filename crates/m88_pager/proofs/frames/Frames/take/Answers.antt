@@ -7,82 +7,68 @@ use Rattle.lru.specs.LruCache.{LruCache, lru_cache}
 use Rattle.m88_mem.specs.DataBus.{image_bytes}
 use Rattle.m88_pager.proofs.Counts.{frames_at}
 use Rattle.m88_pager.proofs.Standing.{stands_taken}
-use Rattle.m88_pager.proofs.Taking.{come_seen, found_whole, none_left, none_removed, one_removed, taken_seen, whole_removed}
-use Rattle.m88_pager.specs.Frames.{brought_as}
+use Rattle.m88_pager.proofs.Taking.{found_whole, none_left, none_removed, one_removed, taken_seen, whole_removed}
+use Rattle.m88_pager.specs.Inside.Calls.{IsTakenOut}
 use Rattle.m88_pager.specs.Inside.Contents.{Stands}
 use Rattle.m88_pager.specs.Inside.Seen.{IsWhole, held_by, marked}
 use Rattle.m88_pager.specs.Pages.{page_of}
 use Rattle.m88_pager.specs.declared.frames.Frame.{Frame}
 use Rattle.m88_pager.proofs.frames.Frames.take.Goals as goal
 
-pub come_in-requires-clause-whole : goal.come_in-requires-clause-whole
-come_in-requires-clause-whole g c =
-    subst (All IsWhole) (sym (ap (λ (s : LruCache ℕ Frame). s.entries) c.pop.ensures.entries))
-    (whole_removed (nat_eq c.args.page) c.args.self.now.cache.entries c.requires.whole)
+pub come_in-requires-clause-within : goal.come_in-requires-clause-within
+come_in-requires-clause-within g c = record {
+  whole =
+      subst (All IsWhole) (sym (ap (λ (s : LruCache ℕ Frame). s.entries) c.pop.ensures.entries))
+      (whole_removed (nat_eq c.args.page) c.args.self.now.cache.entries c.requires.within.whole);
+  ins = c.requires.within.ins;
+  outs = c.requires.within.outs;
+}
 
 pub come_in-requires-clause-apart : goal.come_in-requires-clause-apart
 come_in-requires-clause-apart g c =
     ap (λ (s : LruCache ℕ Frame). lookup (nat_eq c.args.page) s.entries) c.pop.ensures.entries
     ∙ none_left c.args.page c.args.self.now.cache.entries c.len.ensures.valid.0
 
-pub returns-in-Some-clause-apart : goal.returns-in-Some-clause-apart
-returns-in-Some-clause-apart g c =
-    ap (λ (s : LruCache ℕ Frame). lookup (nat_eq c.args.page) s.entries) c.pop.ensures.entries
-    ∙ none_left c.args.page c.args.self.now.cache.entries c.len.ensures.valid.0
-
-pub returns-in-Some-clause-room : goal.returns-in-Some-clause-room
-returns-in-Some-clause-room g c =
-    let entries = ap (λ (s : LruCache ℕ Frame). length s.entries) c.pop.ensures.entries in
+pub returns-in-Some-clause-out : goal.returns-in-Some-clause-out
+returns-in-Some-clause-out g c =
+    let f = c.args.self.now in
+    let page = c.args.page in
+    let frame = c.in-Some.frame in
+    let original = page_of (image_bytes c.args.image.now) in
+    let told = g.P.PageStore.pages c.args.store.now in
+    let found = sym c.in-Some.ensures.value in
+    let entries = ap (λ (s : LruCache ℕ Frame). s.entries) c.pop.ensures.entries in
+    let long = ap (λ (es : List (ℕ × Frame)). length es) entries in
     let cap = ap (λ (s : LruCache ℕ Frame). s.cap) c.pop.ensures.entries in
-    let one = one_removed (nat_eq c.args.page) c.args.self.now.cache.entries c.in-Some.frame (sym c.in-Some.ensures.value) in
+    let one = one_removed (nat_eq page) f.cache.entries frame found in
     let fits = c.len.ensures.valid.1 in
-    omega (arith, entries, cap, one, fits)
+    record {
+      place = record {
+        room = omega (arith, long, cap, one, fits);
+        apart =
+            ap (λ (es : List (ℕ × Frame)). lookup (nat_eq page) es) entries
+            ∙ none_left page f.cache.entries c.len.ensures.valid.0;
+      };
+      whole = record { number = c.requires.page; size = found_whole page f.cache.entries frame c.requires.within.whole found };
+      others_whole = subst (All IsWhole) (sym entries) (whole_removed (nat_eq page) f.cache.entries c.requires.within.whole);
+      counts =
+          ap (λ (es : List (ℕ × Frame)). frames_at (marked (page, frame) ∷ map marked es) f.ins f.outs) entries
+          ∙ taken_seen f.cache.cap page frame f.cache.entries f.ins f.outs found;
+      cap = cap;
+      stands = λ memory written s.
+          subst (λ (ys : List (ℕ × Frame)). Stands original memory written (held_by f) ((page, frame) ∷ ys) told) (sym entries)
+          (stands_taken original memory written (held_by f) f.cache.entries page frame told found s);
+    }
 
-pub returns-in-Some-clause-whole : goal.returns-in-Some-clause-whole
-returns-in-Some-clause-whole g c =
-    (c.requires.page, found_whole c.args.page c.args.self.now.cache.entries c.in-Some.frame c.requires.whole (sym c.in-Some.ensures.value))
-
-pub returns-in-Some-clause-others_whole : goal.returns-in-Some-clause-others_whole
-returns-in-Some-clause-others_whole g c =
-    subst (All IsWhole) (sym (ap (λ (s : LruCache ℕ Frame). s.entries) c.pop.ensures.entries))
-    (whole_removed (nat_eq c.args.page) c.args.self.now.cache.entries c.requires.whole)
-
-pub returns-in-Some-clause-counts : goal.returns-in-Some-clause-counts
-returns-in-Some-clause-counts g c =
-    let f = c.args.self.now in
-    ap (λ (s : LruCache ℕ Frame). frames_at (marked (c.args.page, c.in-Some.frame) ∷ map marked s.entries) f.ins f.outs) c.pop.ensures.entries
-    ∙ taken_seen f.cache.cap c.args.page c.in-Some.frame f.cache.entries f.ins f.outs (sym c.in-Some.ensures.value)
-
-pub returns-in-Some-clause-stands : goal.returns-in-Some-clause-stands
-returns-in-Some-clause-stands g c = λ memory written s.
+pub returns-in-None-clause-out : goal.returns-in-None-clause-out
+returns-in-None-clause-out g c =
     let f = c.args.self.now in
     let original = page_of (image_bytes c.args.image.now) in
-    let told = g.P.PageStore.pages c.args.store.now in
-    subst (λ (ys : List (ℕ × Frame)). Stands original memory written (held_by f) ((c.args.page, c.in-Some.frame) ∷ ys) told)
-    (sym (ap (λ (s : LruCache ℕ Frame). s.entries) c.pop.ensures.entries))
-    (stands_taken original memory written (held_by f) f.cache.entries c.args.page c.in-Some.frame told (sym c.in-Some.ensures.value) s)
-
-pub returns-in-None-clause-counts : goal.returns-in-None-clause-counts
-returns-in-None-clause-counts g c =
-    let f = c.args.self.now in
-    let none : lookup (nat_eq c.args.page) f.cache.entries ≡ None = sym c.in-None.ensures.value in
     let still : c.pop.new.self ≡ f.cache =
-    c.pop.ensures.entries ∙ ap (λ (es : List (ℕ × Frame)). lru_cache es f.cache.cap) (none_removed (nat_eq c.args.page) f.cache.entries none) in
+    c.pop.ensures.entries
+    ∙ ap (λ (es : List (ℕ × Frame)). lru_cache es f.cache.cap) (none_removed (nat_eq c.args.page) f.cache.entries (sym c.in-None.ensures.value)) in
     IfOk-weaker c.come_in.result _ _
-    (λ frame counts. counts
-    ∙ ap (λ (s : LruCache ℕ Frame). brought_as s.cap c.args.page None (frames_at (map marked s.entries) f.ins f.outs)) still
-    ∙ come_seen f.cache.cap c.args.page f.cache.entries f.ins f.outs none)
-    c.come_in.ensures.counts
-
-pub returns-in-None-clause-stands : goal.returns-in-None-clause-stands
-returns-in-None-clause-stands g c =
-    let f = c.args.self.now in
-    let original = page_of (image_bytes c.args.image.now) in
-    let told = g.P.PageStore.pages c.args.store.now in
-    let none : lookup (nat_eq c.args.page) f.cache.entries ≡ None = sym c.in-None.ensures.value in
-    let still : c.pop.new.self.entries ≡ f.cache.entries =
-    ap (λ (s : LruCache ℕ Frame). s.entries) c.pop.ensures.entries ∙ none_removed (nat_eq c.args.page) f.cache.entries none in
-    IfOk-weaker c.come_in.result _ _
-    (λ frame stands memory written s.
-    stands memory written (subst (λ (ys : List (ℕ × Frame)). Stands original memory written (held_by f) ys told) (sym still) s))
-    c.come_in.ensures.stands
+    (λ frame out.
+    subst (λ (s : LruCache ℕ Frame). IsTakenOut original c.args.page frame (record f { cache = s }) c.come_in.new.self
+    (g.P.PageStore.pages c.args.store.now) (g.P.PageStore.pages c.come_in.new.store)) still out)
+    c.come_in.ensures.out
