@@ -29,7 +29,7 @@ use Rattle.m88_listing.specs.Calls.{GivesAll, IsWhole}
 use Rattle.m88_listing.specs.Entries.{numbers_of}
 use Rattle.m88_listing.specs.Listing.{entry_lines, listing_lines}
 use Rattle.m88_listing.specs.Refused.{IsRefusedAt, bare_text, line_at, mark_line, parse_refusal, refused_text, unit_refusal, unlinked, unread}
-use Rattle.m88_listing.specs.Inside.Replies.{Replies}
+use Rattle.m88_listing.specs.Inside.Replies.{SaysRefusal, Replies}
 use Rattle.m88_listing.specs.Rows.{numbered_lines, rows_of_unit, source_lines}
 use Rattle.m88_listing.specs.Inside.Slots.{slots_of, walked}
 use Rattle.m88_listing.specs.declared.entries.Entry.{Entry}
@@ -85,9 +85,9 @@ refused_reply source r true text e refused is = cc
 refused_reply source r false text e refused is = refused_answer source text r refused is
 
 pub reply_refused : (source : List ℕ) (r : Refusal) (result : Result Reply NoMemory) → IfOk result (λ _. IsRefusedAt source r)
-    → IfOk result (λ x. x.text.items ≡ refused_text source r) → IfOk result (λ x. x.accepted ≡ false) → IfOk result (Replies source)
-reply_refused source r (Ok x) refused is accepted = refused_reply source r x.accepted x.text.items accepted refused is
-reply_refused source r (Err e) refused is accepted = tt
+    → IfOk result (SaysRefusal source r) → IfOk result (Replies source)
+reply_refused source r (Ok x) refused is = refused_reply source r x.accepted x.text.items is.refused refused is.text
+reply_refused source r (Err e) refused is = tt
 
 -- what holds of a call that failed
 pub of_err : {T E P : Type 0} (r : Result T E) → is_err r ≡ true → OnErr r P → P

@@ -2,9 +2,9 @@
 ghost use Rattle.std.specs.Prelude.{◌≡◌, ◌++◌, IfOk, OnOk};
 ghost use Rattle.std.specs.List.{All};
 ghost use Rattle.m88_parse.specs.WellFormed.{IsAlignment, IsFormedBody};
-ghost use Rattle.m88_asm.specs.Counters.{after, at_begin, length_at, padding};
+ghost use Rattle.m88_asm.specs.Counters.{at_begin, length_at, padding};
 ghost use Rattle.m88_listing.specs.Rows.{is_counted};
-ghost use Rattle.m88_listing.specs.Inside.Slots.{StandsWithin, ModuleFits, counters_in, slots_at, slots_from, slots_of};
+ghost use Rattle.m88_listing.specs.Inside.Slots.{StandsWithin, ModuleFits, PutsSlot, counters_in, slots_from, slots_of};
 
 use crate::cursor::Cursor;
 use crate::slots::Slot;
@@ -52,10 +52,9 @@ fn push_slot(
     x: &Statement,
 ) -> Result<(), AllocError>
     requires { StandsWithin standing.now (record { before = counters_in cursor.old; statement = x.now }) }
-    ensures cursor { OnOk result
-        (counters_in cursor.new ≡ after (counters_in cursor.old) x.now.body) }
-    ensures slots { OnOk result (slots.new.items ≡ slots.old.items
-        ++ slots_at standing.now (record { before = counters_in cursor.old; statement = x.now })) }
+    ensures { OnOk result (PutsSlot standing.now
+        (record { before = counters_in cursor.old; statement = x.now })
+        (counters_in cursor.new) slots.old.items slots.new.items) }
 {
     cursor.enter(&x.body)?;
     let len = length_at(cursor.place(), &x.body);

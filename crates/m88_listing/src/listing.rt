@@ -1,18 +1,13 @@
 //! The text for a source: its listing, or the text that refuses it.
-ghost use Rattle.std.specs.Prelude.{◌≡◌, ◌≢◌, ◌<◌, ◌≤◌, ◌^◌, IfOk, false, length};
+ghost use Rattle.std.specs.Prelude.{◌≢◌, ◌≤◌, IfOk, length};
 ghost use Rattle.m88_parse.specs.Fault.{out_of_memory};
-ghost use Rattle.m88_parse.specs.Language.Units.{IsUnit};
-ghost use Rattle.m88_parse.specs.WellFormed.{IsWellFormed};
 ghost use Rattle.m88_link.specs.Faults.{memory_fault};
-ghost use Rattle.m88_asm.specs.Accepted.{IsAcceptedUnit};
 ghost use Rattle.m88_asm.specs.Fault.{memory_ran_out};
-ghost use Rattle.m88_asm.specs.Images.{IsUnitImage};
-ghost use Rattle.m88_asm.specs.Objects.{objects_of};
 ghost use Rattle.m88_asm.specs.declared.fault.UnitFault.TheVariants as unit_kind;
 ghost use Rattle.m88_listing.specs.Calls.{most_source};
 ghost use Rattle.m88_listing.specs.Listing.{IsListing};
-ghost use Rattle.m88_listing.specs.Refused.{parse_refusal, refused_text, unit_refusal};
-ghost use Rattle.m88_listing.specs.Inside.Replies.{Replies};
+ghost use Rattle.m88_listing.specs.Refused.{parse_refusal, unit_refusal};
+ghost use Rattle.m88_listing.specs.Inside.Replies.{IsBuilt, SaysRefusal, Replies};
 
 use crate::entries::{labels, numbers, push_entries};
 use crate::layout::slots;
@@ -41,9 +36,8 @@ fn refuse(
     reason: &[u8],
 ) -> Result<Reply, NoMemory>
     requires { length source.now ≤ most_source }
-    ensures text { IfOk result (λ r. r.text.items ≡ refused_text source.now
+    ensures { IfOk result (SaysRefusal source.now
         (record { line = line; column = column; reason = reason.now })) }
-    ensures refused { IfOk result (λ r. r.accepted ≡ false) }
 {
     let mut text = Vec::new(alloc);
     push_refusal(&mut text, source, line, column, reason)?;
@@ -56,9 +50,7 @@ fn refuse(
 /// The reply for a fault of the source's lines, unless the fault is that memory ran out.
 fn unread(alloc: Global, source: &[u8], fault: ParseFault) -> Result<Reply, NoMemory>
     requires { length source.now ≤ most_source }
-    ensures text { IfOk result
-        (λ r. r.text.items ≡ refused_text source.now (parse_refusal fault)) }
-    ensures refused { IfOk result (λ r. r.accepted ≡ false) }
+    ensures refused { IfOk result (SaysRefusal source.now (parse_refusal fault)) }
     ensures told { IfOk result (λ _. fault ≢ out_of_memory) }
 {
     if fault.kind == ParseKind::Memory {
@@ -76,9 +68,7 @@ fn unread(alloc: Global, source: &[u8], fault: ParseFault) -> Result<Reply, NoMe
 /// The reply for a fault of the unit's statements, unless the fault is that memory ran out.
 fn unassembled(alloc: Global, source: &[u8], fault: AsmFault) -> Result<Reply, NoMemory>
     requires { length source.now ≤ most_source }
-    ensures text { IfOk result
-        (λ r. r.text.items ≡ refused_text source.now (unit_refusal (unit_kind.Asm fault))) }
-    ensures refused { IfOk result (λ r. r.accepted ≡ false) }
+    ensures refused { IfOk result (SaysRefusal source.now (unit_refusal (unit_kind.Asm fault))) }
     ensures told { IfOk result (λ _. fault ≢ memory_ran_out) }
 {
     if fault.kind == AsmKind::Memory {
@@ -91,9 +81,7 @@ fn unassembled(alloc: Global, source: &[u8], fault: AsmFault) -> Result<Reply, N
 /// The reply for a fault of the unit's layout, unless the fault is that memory ran out.
 fn unlinked(alloc: Global, source: &[u8], fault: LinkFault) -> Result<Reply, NoMemory>
     requires { length source.now ≤ most_source }
-    ensures text { IfOk result
-        (λ r. r.text.items ≡ refused_text source.now (unit_refusal (unit_kind.Link fault))) }
-    ensures refused { IfOk result (λ r. r.accepted ≡ false) }
+    ensures refused { IfOk result (SaysRefusal source.now (unit_refusal (unit_kind.Link fault))) }
     ensures told { IfOk result (λ _. fault ≢ memory_fault) }
 {
     if fault.kind == LinkKind::Memory {
@@ -112,11 +100,7 @@ fn listing(
     image: &Image,
 ) -> Result<Vec<u8>, NoMemory>
     requires short { length source.now ≤ most_source }
-    requires is_unit { IsUnit source.now unit.now }
-    requires formed { IsWellFormed unit.now }
-    requires objects { objects.now ≡ objects_of unit.now }
-    requires accepted { IsAcceptedUnit unit.now }
-    requires image { IsUnitImage unit.now image.now }
+    requires accepted { IsBuilt source.now unit.now objects.now image.now }
     ensures { IfOk result (λ text. IsListing source.now text.items) }
 {
     let standings = stand(alloc, unit.modules.as_slice(), objects)?;

@@ -1,17 +1,17 @@
 //! The top call.
-ghost use Rattle.std.specs.Prelude.{[], ◌≡◌, ◌≢◌, ◌↔◌, ◌+◌, ◌<◌, ℕ, List, IfErr, IfOk, OnOk, Err, Some, length};
+ghost use Rattle.std.specs.Prelude.{[], ◌≡◌, ◌≢◌, ◌↔◌, ◌+◌, ◌<◌, ℕ, List, Some, length};
 ghost use Rattle.std.specs.Io.KnownBytes.{Appends};
 ghost use Rattle.m88_base.specs.Calls.{CallsWithin};
 ghost use Rattle.m88_base.specs.Causes.{Rose};
 ghost use Rattle.m88_base.specs.Outside.{AppendsPart, TakesAtMost, TakesExactly};
 ghost use Rattle.m88_base.specs.Refusal.{Refusal};
 ghost use Rattle.m88_listing.specs.Answer.{IsAnswer, IsAnswerToAccepted, IsAnswerToRefused};
-ghost use Rattle.m88_listing.specs.Calls.{GivesAll, HasSource, IsListed, IsWhole, most_source};
+ghost use Rattle.m88_listing.specs.Calls.{HasSource, IsListed, IsWhole, most_source};
 ghost use Rattle.m88_listing.specs.Laws.{EachLineStandsOnce, EachShowsItsImage};
 ghost use Rattle.m88_listing.specs.Listing.{IsProgramSource};
 ghost use Rattle.m88_listing.specs.Refused.{IsRefusedAt, refused_text};
-ghost use Rattle.m88_listing.specs.Inside.Replies.{Replies};
-ghost use Rattle.m88_listing.specs.Status.{Answers, IsAnswered, IsOfReading, WritesNothing};
+ghost use Rattle.m88_listing.specs.Inside.Replies.{ComesOfReading};
+ghost use Rattle.m88_listing.specs.Status.{Answers, IsAnswered, WritesNothing};
 
 use crate::listing::{Reply, reply_to};
 use crate::status::ListStatus;
@@ -108,17 +108,10 @@ pub fn m88list<S: Source, K: Sink>(
 
 /// The reply to what a source gives, or why there is none.
 fn reply_from<S: Source>(alloc: Global, source: &mut S) -> Result<Reply, ListStatus>
-    ensures ok { IfOk result (λ reply. (bytes : List ℕ)
-        × GivesAll (S.left source.old) (S.left source.new) bytes × Replies bytes reply) }
-    ensures calls { CallsWithin (most_source + 2) (S.calls source.old) (S.calls source.new) }
-    ensures clean { OnOk result (S.faults source.new ≡ S.faults source.old) }
-    ensures status { IfErr result IsOfReading }
-    ensures fault { result ≡ Err ListStatus.SourceFault
-        → Rose (S.faults source.old) (S.faults source.new) }
-    ensures too_long { result ≡ Err ListStatus.TooLong
-        → TakesExactly (S.left source.old) (S.left source.new) (most_source + 1) }
-    ensures not_too_long { result ≢ Err ListStatus.TooLong
-        → TakesAtMost (S.left source.old) (S.left source.new) most_source }
+    ensures { ComesOfReading
+        (record { left = S.left source.old; calls = S.calls source.old; faults = S.faults source.old })
+        (record { left = S.left source.new; calls = S.calls source.new; faults = S.faults source.new })
+        result }
 {
     let bytes = read_all(alloc, source, MOST_SOURCE)?;
     let reply = reply_to(alloc, bytes.as_slice())?;

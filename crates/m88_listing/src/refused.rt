@@ -1,8 +1,8 @@
 //! The text of a source that is refused.
-ghost use Rattle.std.specs.Prelude.{◌≡◌, ◌+◌, ◌<◌, ◌≤◌, ◌^◌, ◌++◌, [], drop, length, map, slice_index_or, take, IfOk, OnOk};
-ghost use Rattle.std.specs.List.{enumerate_from};
+ghost use Rattle.std.specs.Prelude.{◌≡◌, ◌<◌, ◌^◌, ◌++◌, [], length, map, slice_index_or, IfOk, OnOk};
 ghost use Rattle.m88_base.specs.Lines.{line_end, lines_of};
-ghost use Rattle.m88_listing.specs.Refused.{bare_text, below, mark_line, refused_text};
+ghost use Rattle.m88_listing.specs.Inside.Pushed.{PushesLines};
+ghost use Rattle.m88_listing.specs.Refused.{below, mark_line, refused_text};
 
 use crate::columns::push_bare;
 use m88_base::{first_line, push_refused};
@@ -18,10 +18,8 @@ fn push_lines<'a>(
 ) -> Result<&'a [u8], AllocError>
     requires low { first < 2 ^ 33 }
     requires short { length source.now < 2 ^ 31 }
-    ensures text { OnOk result (text.new.items ≡ text.old.items
-        ++ bare_text (take count (enumerate_from first (lines_of source.now)))) }
-    ensures rest { IfOk result (λ rest. lines_of rest.now ≡ drop count (lines_of source.now)) }
-    ensures shorter { IfOk result (λ rest. length rest.now ≤ length source.now) }
+    ensures { IfOk result (λ rest.
+        PushesLines source.now first count text.old.items text.new.items rest.now) }
 {
     let mut rest = source;
     let mut passed: u64 = 0;

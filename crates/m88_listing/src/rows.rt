@@ -1,12 +1,12 @@
 //! The lines of a source with what they put where.
-ghost use Rattle.std.specs.Prelude.{◌≡◌, ◌+◌, ◌≤◌, ◌<◌, ◌^◌, ◌∷◌, ◌++◌, ℕ, List, decimal, drop, length, IfOk, OnOk};
+ghost use Rattle.std.specs.Prelude.{◌≡◌, ◌+◌, ◌≤◌, ◌<◌, ◌^◌, ◌++◌, decimal, length, IfOk, OnOk};
 ghost use Rattle.std.specs.List.{All};
 ghost use Rattle.m88_base.specs.Image.{byte_at};
 ghost use Rattle.m88_base.specs.Lines.{line_end, lines_of, text_of_lines};
 ghost use Rattle.m88_listing.specs.Calls.{most_source};
 ghost use Rattle.m88_listing.specs.Columns.{at_right, bare_line};
 ghost use Rattle.m88_listing.specs.Rows.{further_from, row_lines};
-ghost use Rattle.m88_listing.specs.Inside.Slots.{IsSlot, found_bytes, kept_row, walked};
+ghost use Rattle.m88_listing.specs.Inside.Slots.{GoesBehind, IsNextLine, IsSlot, found_bytes, kept_row, walked};
 
 use crate::columns::{MOST_SHOWN, push_bare, push_counted, push_further, push_shown};
 use crate::counting::{alone, count_on};
@@ -96,11 +96,8 @@ fn push_next(
 ) -> Result<usize, AllocError>
     requires slots { All IsSlot slots.now }
     requires alone { alone.now ≡ at_right 7 (decimal number) ++ line_end }
-    ensures within { IfOk result (λ n. n ≤ length slots.now) }
-    ensures lines { IfOk result (λ n. (lines : List (List ℕ)) → text.new.items
-        ++ text_of_lines (walked (byte_at image.now) (number + 1) lines (drop n slots.now))
-        ≡ text.old.items
-        ++ text_of_lines (walked (byte_at image.now) number (line.now ∷ lines) slots.now)) }
+    ensures { IfOk result
+        (GoesBehind (byte_at image.now) number line.now slots.now text.old.items text.new.items) }
 {
     match slots.first() {
         Some(slot) => {
@@ -121,8 +118,7 @@ fn push_next(
 /// The first line of what is left of a source, and what is left behind it; one that is empty is seen at once.
 fn next_line(rest: &[u8]) -> (&[u8], &[u8])
     requires { 0 < length rest.now }
-    ensures lines { lines_of rest.now ≡ result.0.now ∷ lines_of result.1.now }
-    ensures shorter { length result.1.now < length rest.now }
+    ensures { IsNextLine rest.now result.0.now result.1.now }
 {
     match rest.split_first() {
         Some((b'\n', behind)) => (&[], behind),

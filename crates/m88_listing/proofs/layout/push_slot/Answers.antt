@@ -38,30 +38,27 @@ advance-requires c =
     let len = c.length_at-len.ensures ∙ ap (λ (p : ℕ). length_at p c.args.x.now.body) (c.place.ensures ∙ ap place_here entered) in
     omega (arith, ap offset_here entered, len, c.requires.room)
 
-pub returns-clause-cursor : goal.returns-clause-cursor
-returns-clause-cursor c =
-    let entered = c.in_ok-enter.ensures in
-    let len = c.length_at-len.ensures ∙ ap (λ (p : ℕ). length_at p c.args.x.now.body) (c.place.ensures ∙ ap place_here entered) in
-    c.advance.ensures ∙ ap (λ (k : Counters). with_length k c.length_at-len.result) entered
-    ∙ ap (with_length (at_section (counters_in c.args.cursor.now) c.args.x.now.body)) len
-
-pub returns-clause-slots : goal.returns-clause-slots
-returns-clause-slots c =
+pub returns : goal.returns
+returns c =
     let entered = c.in_ok-enter.ensures in
     let b = c.args.standing.now in
     let r : Located = record { before = counters_in c.args.cursor.now; statement = c.args.x.now } in
     let len : c.length_at-len.result ≡ length_of r =
     c.length_at-len.ensures ∙ ap (λ (p : ℕ). length_at p c.args.x.now.body) (c.place.ensures ∙ ap place_here entered) in
-    elim c.if-len-gt0.branch [
-      | then-len-gt0+in_ok-push w ↦
-          let offset = w.offset.ensures ∙ ap offset_here entered in
-          let here = w.here.ensures ∙ ap (λ (k : Counters). k.here) entered in
-          let base = w.base.ensures ∙ ap (base_in b) here in
-          ap (λ (v : Vec Slot Global). v.items) w.slots-is ∙ w.in_ok-push.ensures.items
-          ∙ ap (λ (ss : List Slot). c.args.slots.now.items ++ ss)
-          (slots_some b r (w.base.result + w.offset.result) c.length_at-len.result w.is_counted.result w.if-len-gt0.true len
-          (omega (arith, base, offset)) w.is_counted.ensures)
-      | else-len-gt0 w ↦
-          ap (λ (v : Vec Slot Global). v.items) w.slots-is ∙ sym (append-nil c.args.slots.now.items)
-          ∙ ap (λ (ss : List Slot). c.args.slots.now.items ++ ss) (slots_none b r c.length_at-len.result (omega (arith, w.if-len-gt0.false)) len)
-    ]
+    record {
+      cursor = c.advance.ensures ∙ ap (λ (k : Counters). with_length k c.length_at-len.result) entered
+          ∙ ap (with_length (at_section (counters_in c.args.cursor.now) c.args.x.now.body)) len;
+      slots = elim c.if-len-gt0.branch [
+        | then-len-gt0+in_ok-push w ↦
+            let offset = w.offset.ensures ∙ ap offset_here entered in
+            let here = w.here.ensures ∙ ap (λ (k : Counters). k.here) entered in
+            let base = w.base.ensures ∙ ap (base_in b) here in
+            ap (λ (v : Vec Slot Global). v.items) w.slots-is ∙ w.in_ok-push.ensures.items
+            ∙ ap (λ (ss : List Slot). c.args.slots.now.items ++ ss)
+            (slots_some b r (w.base.result + w.offset.result) c.length_at-len.result w.is_counted.result w.if-len-gt0.true len
+            (omega (arith, base, offset)) w.is_counted.ensures)
+        | else-len-gt0 w ↦
+            ap (λ (v : Vec Slot Global). v.items) w.slots-is ∙ sym (append-nil c.args.slots.now.items)
+            ∙ ap (λ (ss : List Slot). c.args.slots.now.items ++ ss) (slots_none b r c.length_at-len.result (omega (arith, w.if-len-gt0.false)) len)
+      ];
+    }

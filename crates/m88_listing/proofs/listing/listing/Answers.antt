@@ -21,8 +21,8 @@ use Rattle.m88_listing.proofs.listing.listing.Goals as goal
 
 pub stand-requires-clause-size : goal.stand-requires-clause-size
 stand-requires-clause-size c =
-    subst (λ (os : List Object). total_size os ≤ most_bytes) (sym c.requires.objects)
-    (size_fits c.args.unit.now c.requires.accepted)
+    subst (λ (os : List Object). total_size os ≤ most_bytes) (sym c.requires.accepted.are_objects)
+    (size_fits c.args.unit.now c.requires.accepted.accepted)
 
 pub slots-requires : goal.slots-requires
 slots-requires c =
@@ -31,7 +31,7 @@ slots-requires c =
     c.as_slice-2.ensures.value ∙ c.in_ok-standings.ensures
     ∙ ap (λ (ms : List Module). stood_from section_length first_text (up_to_multiple page_bytes (text_end section_length first_text ms)) ms) c.as_slice.ensures in
     subst (λ (bs : List (Placement Module)). All ModuleFits bs) (sym all)
-    (All-from_recursion ModuleFits (based u) (unit_fits u c.args.image.now c.requires.formed c.requires.accepted c.requires.image))
+    (All-from_recursion ModuleFits (based u) (unit_fits u c.args.image.now c.requires.accepted.formed c.requires.accepted.accepted c.requires.accepted.is_image))
 
 pub push_source-requires-clause-each : goal.push_source-requires-clause-each
 push_source-requires-clause-each c =
@@ -43,7 +43,7 @@ push_source-requires-clause-each c =
     c.as_slice-5.ensures.value ∙ c.in_ok-slots.ensures ∙ ap slots_of all in
     subst (λ (ss : List Slot). All IsSlot ss) (sym kept)
     (All-from_recursion IsSlot (slots_of (based u))
-    (are_slots (based u) (unit_fits u c.args.image.now c.requires.formed c.requires.accepted c.requires.image)))
+    (are_slots (based u) (unit_fits u c.args.image.now c.requires.accepted.formed c.requires.accepted.accepted c.requires.accepted.is_image)))
 
 pub returns : goal.returns
 returns c =
@@ -64,13 +64,13 @@ returns c =
     (c.as_slice-3.ensures.value ∙ stand) c.in_ok-labels.ensures) in
     record {
       unit = u;
-      is_unit = c.requires.is_unit;
-      is_accepted = c.requires.accepted;
+      is_unit = c.requires.accepted.is_unit;
+      is_accepted = c.requires.accepted.accepted;
       labels = c.as_slice-6.result.now;
       in_order = ordered;
       is_text =
           listing_whole source c.push_source.new.text.items c.push_entries.new.text.items c.push_entries-2.new.text.items u c.args.image.now
-          c.as_slice-5.result.now c.as_slice-6.result.now c.as_slice-7.result.now c.requires.is_unit c.requires.accepted c.requires.image kept named
+          c.as_slice-5.result.now c.as_slice-6.result.now c.as_slice-7.result.now c.requires.accepted.is_unit c.requires.accepted.accepted c.requires.accepted.is_image kept named
           (c.in_ok-push_source.ensures
           ∙ ap (λ (t : List ℕ). t ++ text_of_lines (walked found 1 (lines_of source) c.as_slice-5.result.now)) c.new-text.ensures.items)
           c.in_ok-push_entries.ensures c.in_ok-push_entries-2.ensures;

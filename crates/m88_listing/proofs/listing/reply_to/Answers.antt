@@ -13,14 +13,14 @@ pub returns-in-Err : goal.returns-in-Err
 returns-in-Err c =
     reply_refused c.args.source.now (parse_refusal c.in-Err.fault) c.unread.result
     (told_parse c.args.source.now c.in-Err.fault c.unread.result c.unread.ensures.told c.in-Err.ensures.fault)
-    c.unread.ensures.text c.unread.ensures.refused
+    c.unread.ensures.refused
 
 pub returns-in-Err-assemble : goal.returns-in-Err-assemble
 returns-in-Err-assemble c =
     let fault = unit_kind.Asm c.in-Err-assemble.fault in
     reply_refused c.args.source.now (unit_refusal fault) c.unassembled.result
     (told_unit c.args.source.now c.in-Ok.unit fault c.unassembled.result c.in-Ok.ensures.unit c.unassembled.ensures.told c.in-Err-assemble.ensures.fault)
-    c.unassembled.ensures.text c.unassembled.ensures.refused
+    c.unassembled.ensures.refused
 
 pub returns-in-Ok-link : goal.returns-in-Ok-link
 returns-in-Ok-link c = accepted_answer c.args.source.now c.in_ok-text-in-Ok-link.text.items c.in_ok-text-in-Ok-link.ensures
@@ -38,4 +38,4 @@ returns c =
             (subst (λ (os : List Object). IsRefused (layout_of os) c.in-Err-link.fault) c.deref.ensures.value refused),
       )
     ]))
-    c.unlinked.ensures.text c.unlinked.ensures.refused
+    c.unlinked.ensures.refused

@@ -18,22 +18,23 @@ loop-rest-preserved c =
       place = omega (arith, c.first_line.ensures.shorter, c.loop-rest.invariant.place);
     }
 
-pub returns-clause-text : goal.returns-clause-text
-returns-clause-text c = elim c.loop-rest-test.branch [
-  | then-loop-rest-test+else-passed-count w ↦
-      bare_full c.loop-rest.text.items _ _ _ _ (omega (arith, w.if-passed-count.false, c.loop-rest.invariant.within)) c.loop-rest.invariant.left
-  | else-loop-rest-test w ↦
-      let none : length c.loop-rest.rest.now ≡ 0 = grind (arith, common_steps) in
-      bare_done c.loop-rest.text.items _ _ _ _ (no_lines c.loop-rest.rest.now none) c.loop-rest.invariant.left
-]
-
-pub returns-clause-rest : goal.returns-clause-rest
-returns-clause-rest c = elim c.loop-rest-test.branch [
-  | then-loop-rest-test+else-passed-count w ↦
-      let all : c.loop-rest.passed ≡ c.args.count = omega (arith, w.if-passed-count.false, c.loop-rest.invariant.within) in
-      c.loop-rest.invariant.rest ∙ ap (λ (n : ℕ). drop n (lines_of c.args.source.now)) all
-  | else-loop-rest-test w ↦
-      let none : length c.loop-rest.rest.now ≡ 0 = grind (arith, common_steps) in
-      none_left c.loop-rest.passed c.args.count (lines_of c.args.source.now) (lines_of c.loop-rest.rest.now) (no_lines c.loop-rest.rest.now none)
-      c.loop-rest.invariant.rest c.loop-rest.invariant.within
-]
+pub returns : goal.returns
+returns c = record {
+  text = elim c.loop-rest-test.branch [
+    | then-loop-rest-test+else-passed-count w ↦
+        bare_full c.loop-rest.text.items _ _ _ _ (omega (arith, w.if-passed-count.false, c.loop-rest.invariant.within)) c.loop-rest.invariant.left
+    | else-loop-rest-test w ↦
+        let none : length c.loop-rest.rest.now ≡ 0 = grind (arith, common_steps) in
+        bare_done c.loop-rest.text.items _ _ _ _ (no_lines c.loop-rest.rest.now none) c.loop-rest.invariant.left
+  ];
+  rest = elim c.loop-rest-test.branch [
+    | then-loop-rest-test+else-passed-count w ↦
+        let all : c.loop-rest.passed ≡ c.args.count = omega (arith, w.if-passed-count.false, c.loop-rest.invariant.within) in
+        c.loop-rest.invariant.rest ∙ ap (λ (n : ℕ). drop n (lines_of c.args.source.now)) all
+    | else-loop-rest-test w ↦
+        let none : length c.loop-rest.rest.now ≡ 0 = grind (arith, common_steps) in
+        none_left c.loop-rest.passed c.args.count (lines_of c.args.source.now) (lines_of c.loop-rest.rest.now) (no_lines c.loop-rest.rest.now none)
+        c.loop-rest.invariant.rest c.loop-rest.invariant.within
+  ];
+  shorter = omega (arith, c.loop-rest.invariant.place);
+}
