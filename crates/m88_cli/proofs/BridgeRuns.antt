@@ -1,18 +1,8 @@
 -- A source and the S-records that `build` writes of it have one program, so they run alike.
-use Rattle.std.proofs.Common.{◌≡◌, ℕ, Bool, List, refl, sym, ◌∙◌, subst}
-use Rattle.std.proofs.Math.Path.{fun_ext}
-use Rattle.m88_base.specs.Image.{ProgramImage, byte_at, byte_count}
-use Rattle.m88_isa.specs.ImageProgram.{IsInstructionAt}
+use Rattle.std.proofs.Common.{ℕ, Bool, List, refl, sym, subst}
+use Rattle.m88_base.specs.Image.{ProgramImage}
 use Rattle.m88_isa.specs.Machine.{Program}
-use Rattle.m88_parse.proofs.Laws.{one_source_verdict, unit_formed}
-use Rattle.m88_parse.specs.Language.Units.{IsUnit}
-use Rattle.m88_parse.specs.declared.unit.Unit.{Unit as Source}
-use Rattle.m88_link.specs.Layout.{Layout}
-use Rattle.m88_link.specs.Linked.{IsLinked, start_address}
-use Rattle.m88_asm.proofs.Laws.{bytes_law, instructions_law}
-use Rattle.m88_asm.specs.Accepted.{IsAcceptedUnit}
-use Rattle.m88_asm.specs.Images.{IsUnitImage}
-use Rattle.m88_asm.specs.Units.{unit_layout}
+use Rattle.m88_asm.proofs.Laws.{Held, held_by, holds_unit}
 use Rattle.m88_srec.proofs.Laws.{image_is_accepted}
 use Rattle.m88_srec.specs.Accepted.{IsAccepted, whole_of}
 use Rattle.m88_event.specs.declared.outcome.Outcome.{Outcome}
@@ -20,58 +10,27 @@ use Rattle.m88_report.specs.Report.{report_of}
 use Rattle.m88_cli.specs.Answer.{IsAnswerToAccepted}
 use Rattle.m88_cli.specs.Bridge.{BuiltRunsAlike, FitsInput}
 use Rattle.m88_cli.specs.Command.{build}
-use Rattle.m88_cli.specs.Inside.Linking.{HoldsUnit}
-use Rattle.m88_cli.specs.Runs.{ComesTo, IsLoadedProgram, IsReport, IsSourceProgram}
+use Rattle.m88_cli.specs.Runs.{ComesTo, IsLoadedProgram, IsReport}
+use Rattle.m88_asm.specs.Sources.{IsSourceProgram}
 use Rattle.m88_cli.specs.Settings.{Settings}
 use Rattle.m88_cli.proofs.Linked.{readable}
-use Rattle.m88_cli.proofs.Programs.{Held, held_by, one_loaded_program, one_source_program}
-
--- the sections of a layout, taken for an image
-abbrev spots_of : Layout → ℕ → ProgramImage
-spots_of l start = record { runs = l.spots; start = start }
-
-spots_linked : (l : Layout) (start : ℕ) → start ≡ start_address l.globals → IsLinked l (spots_of l start)
-unfolding byte_at byte_count
-spots_linked l start e = record { bytes = λ a. refl; count = refl; start = e }
-
--- the image of an accepted unit holds the unit's instructions
-holds_unit : (source : List ℕ) (u : Source) (image : ProgramImage) → FitsInput source → IsUnit source u
-    → IsAcceptedUnit u
-    → IsUnitImage u image → HoldsUnit source image
-holds_unit source u image short is accepted of =
-    let formed = unit_formed source u (readable source short) is in
-    let spots = spots_of (unit_layout u) image.start in
-    let linked : IsLinked (unit_layout u) spots = spots_linked (unit_layout u) image.start of.start in
-    let same : (a : ℕ) → byte_at spots a ≡ byte_at image a =
-    λ a. bytes_law u spots accepted.linkable linked a ∙ sym (of.bytes a) in
-    record {
-      unit = u;
-      is_unit = is;
-      is_accepted = accepted;
-      is_image = of;
-      instructions = λ a o there.
-          subst (λ found. IsInstructionAt found a o) (fun_ext same)
-          (instructions_law u spots formed accepted.assembled accepted.linkable linked a o there);
-    }
+use Rattle.m88_cli.proofs.Programs.{one_loaded_program}
 
 -- the image that records hold, and its program in each mode, which is the source's
 record Built (source records : List ℕ) : Type 0 where
   image : ProgramImage
   written : IsAccepted records (whole_of image)
-  held : (mxm : Bool) → Held mxm source image
+  held : (mxm : Bool) → Held (IsSourceProgram source) mxm image
 
 built : (source records : List ℕ) → FitsInput source → IsAnswerToAccepted build source records → Built source records
 built source records short answer =
     let own = answer.output.of_source in
     let image = answer.output.image in
-    let same : own.unit ≡ answer.accepted.unit =
-    (one_source_verdict source).one_value own.unit answer.accepted.unit own.is_unit answer.accepted.is_unit in
-    let accepted : IsAcceptedUnit own.unit = subst IsAcceptedUnit (sym same) answer.accepted.is_accepted in
     record {
       image = image;
       written = image_is_accepted image records own.is_image.is_image answer.output.is_text;
       held = λ mxm. held_by mxm source image
-          (holds_unit source own.unit image short own.is_unit accepted own.is_image) own.is_image.is_image;
+          (holds_unit source image (readable source short) answer.accepted own) own.is_image.is_image;
     }
 
 loaded : (source records : List ℕ) (b : Built source records) (mxm : Bool) → IsLoadedProgram records (b.held mxm).program
@@ -82,7 +41,7 @@ to_loaded : (source records : List ℕ) → Built source records → (p : Progra
     → IsLoadedProgram records p
 to_loaded source records b p is =
     let own = b.held p.mxm in
-    subst (IsLoadedProgram records) (sym (one_source_program source p own.program is own.of_source (sym own.mode)))
+    subst (IsLoadedProgram records) (sym (own.only p is refl))
     (loaded source records b p.mxm)
 
 from_loaded : (source records : List ℕ) → Built source records → (p : Program) → IsLoadedProgram records p
@@ -90,7 +49,7 @@ from_loaded : (source records : List ℕ) → Built source records → (p : Prog
 from_loaded source records b p is =
     let own = b.held p.mxm in
     subst (IsSourceProgram source)
-    (sym (one_loaded_program records p own.program is (loaded source records b p.mxm) (sym own.mode))) own.of_source
+    (sym (one_loaded_program records p own.program is (loaded source records b p.mxm) (sym own.mode))) own.is_such
 
 -- the reports of programs that are the same
 comes_by : (A B : Program → Type 0) (s : Settings) (o : Outcome)

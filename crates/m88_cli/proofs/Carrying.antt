@@ -84,47 +84,12 @@ carry_start c commands start seen monitor stands = record {
   front = λ others is. is;
 }
 
--- one more
-carry_one : (c : Course) (commands left : List MonitorCommand) (command : MonitorCommand) (start : Session) (i : ℕ)
-    (before here after : Option (List Glance)) (old new : List ℕ) (monitor next : Monitor) →
-    drop i commands ≡ command ∷ left →
-    drop (i + 1) commands ≡ left →
-    (carrying : IsCarrying c commands start i before here old monitor) →
-    Carried c carrying.session command here after old new next →
-    IsCarrying c commands start (i + 1) before after new next
-carry_one c commands left command start i before here after old new monitor next e f carrying carried =
-    let s : Session = carrying.session in
-    let n : ℕ = carried.went.events in
-    let told : List ℕ = text_of_command c s command n in
-    let shown : List Glance = glances_of c s command n in
-    record {
-      session = after_command c s command n;
-      glances = carrying.glances ++ shown;
-      stands = carried.went.stands;
-      saw = saw_then before here after carrying.glances shown carrying.saw carried.went.saw;
-      whole = λ rest others is.
-          let is' : IsSession c left (after_command c s command n) rest others =
-          subst (λ xs. IsSession c xs (after_command c s command n) rest others) f is in
-          let both = carrying.whole (told ++ rest) (shown ++ others)
-          (subst (λ xs. IsSession c xs s (told ++ rest) (shown ++ others)) (sym e)
-          (record { events = n; makes = carried.went.makes; rest = rest; others = others; is_rest = is'; text_is = refl; glances_are = refl })) in
-          subst (λ t. IsSession c commands start t ((carrying.glances ++ shown) ++ others))
-          (sym (append_assoc old told rest) ∙ ap (λ front. front ++ rest) (sym carried.text))
-          (subst (λ g. IsSession c commands start (old ++ (told ++ rest)) g) (sym (append_assoc carrying.glances shown others)) both);
-      front = λ others is.
-          let is' : IsSessionFront c left (after_command c s command n) others =
-          subst (λ xs. IsSessionFront c xs (after_command c s command n) others) f is in
-          let both = carrying.front (shown ++ others)
-          (subst (λ xs. IsSessionFront c xs s (shown ++ others)) (sym e)
-          (inr (record { events = n; makes = carried.went.makes; others = others; is_rest = is'; glances_are = refl }))) in
-          subst (λ g. IsSessionFront c commands start g) (sym (append_assoc carrying.glances shown others)) both;
-    }
-
 -- the place of a command among them
 here_is : (commands : List MonitorCommand) (i : ℕ) (d : MonitorCommand) → i < length commands →
     drop i commands ≡ get_or commands i d ∷ drop (i + 1) commands
 here_is commands i d h = drop-cons commands i d h ∙ ap (λ n. get_or commands i d ∷ drop n commands) (sym (add-one i))
 
+-- one more
 pub carry_next : (c : Course) (commands : List MonitorCommand) (d : MonitorCommand) (start : Session) (i : ℕ)
     (before here after : Option (List Glance)) (old new : List ℕ) (monitor next : Monitor) →
     i < length commands →
@@ -132,8 +97,30 @@ pub carry_next : (c : Course) (commands : List MonitorCommand) (d : MonitorComma
     Carried c carrying.session (get_or commands i d) here after old new next →
     IsCarrying c commands start (i + 1) before after new next
 carry_next c commands d start i before here after old new monitor next below carrying carried =
-    carry_one c commands (drop (i + 1) commands) (get_or commands i d) start i before here after old new monitor next
-    (here_is commands i d below) refl carrying carried
+    let s : Session = carrying.session in
+    let command : MonitorCommand = get_or commands i d in
+    let n : ℕ = carried.went.events in
+    let told : List ℕ = text_of_command c s command n in
+    let shown : List Glance = glances_of c s command n in
+    let left = sym (here_is commands i d below) in
+    record {
+      session = after_command c s command n;
+      glances = carrying.glances ++ shown;
+      stands = carried.went.stands;
+      saw = saw_then before here after carrying.glances shown carrying.saw carried.went.saw;
+      whole = λ rest others is.
+          let both = carrying.whole (told ++ rest) (shown ++ others)
+          (subst (λ xs. IsSession c xs s (told ++ rest) (shown ++ others)) left
+          (record { events = n; makes = carried.went.makes; rest = rest; others = others; is_rest = is; text_is = refl; glances_are = refl })) in
+          subst (λ t. IsSession c commands start t ((carrying.glances ++ shown) ++ others))
+          (sym (append_assoc old told rest) ∙ ap (λ front. front ++ rest) (sym carried.text))
+          (subst (λ g. IsSession c commands start (old ++ (told ++ rest)) g) (sym (append_assoc carrying.glances shown others)) both);
+      front = λ others is.
+          let both = carrying.front (shown ++ others)
+          (subst (λ xs. IsSessionFront c xs s (shown ++ others)) left
+          (inr (record { events = n; makes = carried.went.makes; others = others; is_rest = is; glances_are = refl }))) in
+          subst (λ g. IsSessionFront c commands start g) (sym (append_assoc carrying.glances shown others)) both;
+    }
 
 -- there is room for the breakpoints of a command, and behind it for those of the others
 breaks_here : (commands : List MonitorCommand) (d : MonitorCommand) (i : ℕ) → i < length commands →

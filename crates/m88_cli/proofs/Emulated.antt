@@ -9,8 +9,8 @@ use Rattle.m88_isa.specs.Machine.{Program}
 use Rattle.m88_cli.specs.Answer.{IsAnswerToAccepted}
 use Rattle.m88_cli.specs.Command.{emu}
 use Rattle.m88_cli.specs.Emulation.{EmulatesTo, told_of_emulated}
-use Rattle.m88_cli.specs.Inside.Linking.{HoldsUnit}
-use Rattle.m88_cli.proofs.Programs.{accepted_source, holds_by_image, holds_of_same}
+use Rattle.m88_asm.specs.Inside.Held.{HoldsUnit}
+use Rattle.m88_asm.proofs.Laws.{accepted_source, holds_by_image, holds_of_same}
 
 pub emulated : (source text : List ℕ) (image : ProgramImage) (limit : ℕ) (absent : ℕ → Bool) (schedule : List Letter) (o : EmulOutcome) (p : Program)
     → HoldsUnit source image → IsProgramOf image p

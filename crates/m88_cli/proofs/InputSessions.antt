@@ -6,15 +6,15 @@ use Rattle.m88_isa.specs.Machine.{Program}
 use Rattle.m88_event.specs.declared.letter.Letter.{Letter}
 use Rattle.m88_board.specs.Glances.{Saw}
 use Rattle.m88_board.specs.declared.glance.Glance.{Glance}
-use Rattle.m88_cli.specs.Inside.Linking.{HoldsUnit}
+use Rattle.m88_asm.specs.Inside.Held.{HoldsUnit}
 use Rattle.m88_cli.specs.Monitoring.{IsMonitorInput}
 use Rattle.m88_cli.specs.MonitorText.{IsInputSession, IsMonitorText, SawSession, SawSessionFront, Scripted}
-use Rattle.m88_cli.specs.Runs.{IsSourceProgram}
+use Rattle.m88_asm.specs.Sources.{IsSourceProgram}
 use Rattle.m88_cli.specs.Script.{IsScript}
 use Rattle.m88_cli.specs.Session.{Course, IsSession, IsSessionFront, Session, course_of, moments_of, opening_session}
 use Rattle.m88_cli.specs.declared.script.MonitorCommand.{MonitorCommand}
 use Rattle.m88_cli.proofs.Carrying.{one_session}
-use Rattle.m88_cli.proofs.Programs.{accepted_source, held_by, one_source_program}
+use Rattle.m88_asm.proofs.Laws.{Held, accepted_source, held_by, one_source_program}
 use Rattle.m88_cli.proofs.Reporting.{no_glance}
 use Rattle.m88_cli.proofs.Scripts.{one_script}
 
@@ -60,51 +60,42 @@ accepted_input input cs n source image is holds = record {
 }
 
 -- what a session over that image writes and shows is the session of the input
-pub session_of_input : (input : List ℕ) (absent : ℕ → Bool) (schedule : List Letter) (mxm : Bool) (cs : List MonitorCommand) (n : ℕ) (source : List ℕ)
-    (image : ProgramImage) (text : List ℕ) (before after : Option (List Glance)) → IsScript input cs n source → HoldsUnit source image → IsImage image
-    → ((p : Program) → IsProgramOf image p → p.mxm ≡ mxm → (glances : List Glance)
-    × IsSession (course_of p absent schedule) cs opening_session text glances × Saw before after glances)
-    → IsMonitorText input absent schedule mxm text
-session_of_input input absent schedule mxm cs n source image text before after is holds sound told =
-    let held = held_by mxm source image holds sound in
-    let own = told held.program held.of_image held.mode in
-    let scripted : Scripted input mxm cs held.program = record { lines = n; source = source; is_script = is; is_program = held.of_source; mode = held.mode } in
-    record {
-      glances = own.0;
-      session = record { commands = cs; program = held.program; scripted = scripted; is_session = own.1 };
-      only = λ other others session. one_text input absent schedule mxm cs held.program text other own.0 others scripted own.1 session;
-    }
+module _ (input : List ℕ) (absent : ℕ → Bool) (schedule : List Letter) (mxm : Bool) (cs : List MonitorCommand) (n : ℕ) (source : List ℕ)
+    (image : ProgramImage) (before after : Option (List Glance)) (is : IsScript input cs n source) (holds : HoldsUnit source image)
+    (sound : IsImage image) where
+  held : Held (IsSourceProgram source) mxm image
+  held = held_by mxm source image holds sound
 
-pub shown_to_end : (input : List ℕ) (absent : ℕ → Bool) (schedule : List Letter) (mxm : Bool) (cs : List MonitorCommand) (n : ℕ) (source : List ℕ)
-    (image : ProgramImage) (text : List ℕ) (before after : Option (List Glance)) → IsScript input cs n source → HoldsUnit source image → IsImage image
-    → ((p : Program) → IsProgramOf image p → p.mxm ≡ mxm → (glances : List Glance)
-    × IsSession (course_of p absent schedule) cs opening_session text glances × Saw before after glances)
-    → SawSession input absent schedule mxm before after
-shown_to_end input absent schedule mxm cs n source image text before after is holds sound told =
-    let held = held_by mxm source image holds sound in
-    let own = told held.program held.of_image held.mode in
-    let scripted : Scripted input mxm cs held.program = record { lines = n; source = source; is_script = is; is_program = held.of_source; mode = held.mode } in
-    record {
-      text = text;
-      glances = own.0;
-      session = record { commands = cs; program = held.program; scripted = scripted; is_session = own.1 };
-      saw = own.2;
-    }
+  scripted : Scripted input mxm cs held.program
+  scripted = record { lines = n; source = source; is_script = is; is_program = held.is_such; mode = held.mode }
 
--- and where it broke off, a front of that
-pub front_of_input : (input : List ℕ) (absent : ℕ → Bool) (schedule : List Letter) (mxm : Bool) (cs : List MonitorCommand) (n : ℕ) (source : List ℕ)
-    (image : ProgramImage) (before after : Option (List Glance)) → IsScript input cs n source → HoldsUnit source image → IsImage image
-    → ((p : Program) → IsProgramOf image p → p.mxm ≡ mxm → (glances : List Glance)
-    × IsSessionFront (course_of p absent schedule) cs opening_session glances × Saw before after glances)
-    → SawSessionFront input absent schedule mxm before after
-front_of_input input absent schedule mxm cs n source image before after is holds sound told =
-    let held = held_by mxm source image holds sound in
-    let own = told held.program held.of_image held.mode in
-    record {
-      commands = cs;
-      program = held.program;
-      scripted = record { lines = n; source = source; is_script = is; is_program = held.of_source; mode = held.mode };
-      glances = own.0;
-      is_front = own.1;
-      saw = own.2;
-    }
+  abbrev IsTold : List ℕ → Type 0
+  IsTold text = (p : Program) → IsProgramOf image p → p.mxm ≡ mxm → (glances : List Glance)
+      × IsSession (course_of p absent schedule) cs opening_session text glances × Saw before after glances
+
+  pub session_of_input : (text : List ℕ) → IsTold text → IsMonitorText input absent schedule mxm text
+  session_of_input text told =
+      let own = told held.program held.of_image held.mode in
+      record {
+        glances = own.0;
+        session = record { commands = cs; program = held.program; scripted = scripted; is_session = own.1 };
+        only = λ other others session. one_text input absent schedule mxm cs held.program text other own.0 others scripted own.1 session;
+      }
+
+  pub shown_to_end : (text : List ℕ) → IsTold text → SawSession input absent schedule mxm before after
+  shown_to_end text told =
+      let own = told held.program held.of_image held.mode in
+      record {
+        text = text;
+        glances = own.0;
+        session = record { commands = cs; program = held.program; scripted = scripted; is_session = own.1 };
+        saw = own.2;
+      }
+
+  -- and where it broke off, a front of that
+  pub front_of_input : ((p : Program) → IsProgramOf image p → p.mxm ≡ mxm → (glances : List Glance)
+      × IsSessionFront (course_of p absent schedule) cs opening_session glances × Saw before after glances)
+      → SawSessionFront input absent schedule mxm before after
+  front_of_input told =
+      let own = told held.program held.of_image held.mode in
+      record { commands = cs; program = held.program; scripted = scripted; glances = own.0; is_front = own.1; saw = own.2 }

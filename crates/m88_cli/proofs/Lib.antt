@@ -5,16 +5,11 @@ pub mod Scripts
 pub mod ScriptReading
 pub mod ScriptTold
 pub mod OneScript
-pub mod OneUnit
-pub mod PartedSources
-pub mod SharedInputs
-pub mod OneObjects
 pub mod Monitored
 pub mod Programs
-pub mod UnitPrograms
 pub mod TracedInputs
 pub mod OneSource
-pub mod SharedPrograms
+pub mod KeptSources
 pub mod SharedReplies
 pub mod Emulated
 pub mod Paged
@@ -28,8 +23,7 @@ pub mod InputSessions
 pub mod Whole
 pub mod BridgeRuns
 pub mod Drawing
-pub mod Statements
-pub mod PlainSources
+pub mod WorkloadSources
 pub mod SoakReply
 pub mod BridgeLinks
 pub mod BridgeListings

@@ -1,7 +1,7 @@
 -- What a source is assembled and linked into answers it.
-use Rattle.std.proofs.Common.{◌≡◌, ◌<◌, ◌≤◌, ◌^◌, List, ℕ, length, ap, arith, sym, ◌∙◌, subst}
+use Rattle.std.proofs.Common.{◌≡◌, ◌<◌, ◌≤◌, ◌^◌, List, ℕ, length, ap, arith, ◌∙◌}
 use Rattle.m88_base.specs.Image.{ProgramImage}
-use Rattle.m88_base.proofs.Laws.{same_images}
+use Rattle.m88_asm.proofs.Laws.{one_source_image}
 use Rattle.m88_link.specs.ObjectText.{objects_text}
 use Rattle.m88_link.specs.declared.object.Object.{Object}
 use Rattle.m88_asm.specs.Accepted.{IsAcceptedUnit}
@@ -11,7 +11,8 @@ use Rattle.m88_parse.proofs.Laws.{one_source_verdict}
 use Rattle.m88_srec.specs.Written.{srec_text}
 use Rattle.m88_parse.specs.declared.unit.Unit.{Unit as Source}
 use Rattle.m88_cli.specs.Answer.{IsAnswerToAccepted}
-use Rattle.m88_cli.specs.Inside.Linking.{HoldsUnit, IsObjectsOf}
+use Rattle.m88_cli.specs.Inside.Linking.{IsObjectsOf}
+use Rattle.m88_asm.specs.Inside.Held.{HoldsUnit}
 use Rattle.m88_cli.specs.Command.{asm, build}
 use Rattle.m88_cli.specs.Limits.{most_input}
 
@@ -32,11 +33,6 @@ assembled source text objects of_source is = record {
   };
 }
 
--- a unit has one image
-one_image : (u : Source) (i j : ProgramImage) → IsUnitImage u i → IsUnitImage u j → i ≡ j
-one_image u i j a b =
-    same_images i j a.is_image.apart b.is_image.apart (a.start ∙ sym b.start) (λ n. a.bytes n ∙ sym (b.bytes n))
-
 -- the records of its image
 pub recorded : (source text : List ℕ) (u : Source) (image : ProgramImage) → IsUnit source u → IsAcceptedUnit u
     → IsUnitImage u image → text ≡ srec_text image → IsAnswerToAccepted build source text
@@ -45,9 +41,7 @@ recorded source text u image is_unit is_accepted own is = record {
   output = record {
     image = image;
     of_source = record { unit = u; is_unit = is_unit; is_image = own };
-    only = λ other is_too.
-        let unit = (one_source_verdict source).one_value is_too.unit u is_too.is_unit is_unit in
-        one_image u other image (subst (λ v. IsUnitImage v other) unit is_too.is_image) own;
+    only = λ other is_too. one_source_image source other image is_too (record { unit = u; is_unit = is_unit; is_image = own });
     is_text = is;
   };
 }

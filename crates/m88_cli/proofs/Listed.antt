@@ -9,7 +9,7 @@ use Rattle.m88_cli.specs.Answer.{IsAnswerToAccepted}
 use Rattle.m88_cli.specs.Command.{dis}
 
 -- S-records write one image
-one_written : (records : List ℕ) (i j : ProgramImage) → IsImage i → IsImage j → IsAccepted records (whole_of i)
+pub one_written : (records : List ℕ) (i j : ProgramImage) → IsImage i → IsImage j → IsAccepted records (whole_of i)
     → IsAccepted records (whole_of j) → i ≡ j
 one_written records i j a b written other =
     let one = verdict_takes records (whole_of i) written in

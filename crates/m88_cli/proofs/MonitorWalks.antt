@@ -11,108 +11,131 @@ use Rattle.m88_board.proofs.Laws.{not_yet, saw_none, saw_then}
 use Rattle.m88_board.specs.Board.{BoardView}
 use Rattle.m88_board.specs.Glances.{Saw, glance_at, glances_along}
 use Rattle.m88_board.specs.Moves.{IsAlong, IsAt, IsSameRun, IsStep}
-use Rattle.m88_board.specs.Walks.{is_made, moments_from, stops_after}
+use Rattle.m88_board.specs.Walks.{is_halt, is_made, moments_from, stops_after}
 use Rattle.m88_board.specs.declared.glance.Glance.{Glance}
 use Rattle.m88_cli.specs.Session.{Course, MakesEach, Session, moment_on, session_on, stops_command, stops_on}
 use Rattle.m88_cli.specs.Inside.SessionKept.{Broke, Stands, Went}
 use Rattle.m88_cli.specs.declared.monitor.Monitor.{Monitor}
 use Rattle.m88_cli.specs.declared.script.MonitorCommand.{MonitorCommand}
-use Rattle.m88_cli.specs.declared.script.MonitorCommand.TheVariants.{Drain}
+use Rattle.m88_cli.specs.declared.script.MonitorCommand.TheVariants.{Drain, Go, Step}
 
--- the walk goes along the moments of the session
-same_moments : (c : Course) (s : Session) (limit : ℕ) (schedule : List Letter) (taken : ℕ) → limit ≡ c.limit →
-    schedule ≡ c.schedule → taken ≡ s.taken →
-    moments_from c.program c.named limit schedule taken s.moment ≡ moment_on c s
-same_moments c s limit schedule taken limits same place =
-    ap (λ (n : ℕ). moments_from c.program c.named n schedule taken s.moment) limits
-    ∙ ap₂ (λ (ls : List Letter) (n : ℕ). moments_from c.program c.named c.limit ls n s.moment) same place
+-- what is told of a walk by where its monitor stands is told of it by where the session stands
+as_session : (c : Course) (s : Session) (m : Monitor) (P : ℕ → List Letter → ℕ → Type 0) → Stands c s m
+    → P m.walk.board.now.limit m.walk.schedule.now m.walk.taken → P c.limit c.schedule s.taken
+as_session c s m P stands h =
+    subst (P c.limit c.schedule) stands.taken
+    (subst (λ ls. P c.limit ls m.walk.taken) stands.schedule (subst (λ n. P n m.walk.schedule.now m.walk.taken) stands.limit h))
 
--- what it made so far is what the session makes
-pub walk_before : (c : Course) (s : Session) (enough : Program → ℕ → Moment → Bool) (limit : ℕ) (schedule : List Letter) (taken events : ℕ)
-    (before after : Option (List Glance)) → limit ≡ c.limit → schedule ≡ c.schedule → taken ≡ s.taken →
-    NotBefore (stops_after enough c.program c.named limit schedule taken s.moment) events →
-    Saw before after (glances_along c.program (moments_from c.program c.named limit schedule taken s.moment) events) →
-    NotBefore (stops_on c s enough) events × Saw before after (glances_along c.program (moment_on c s) events)
-walk_before c s enough limit schedule taken events before after limits same place first saw =
-    let moments = same_moments c s limit schedule taken limits same place in (
-      subst (λ (ms : ℕ → Moment). NotBefore (λ k. enough c.program k (ms k) || is_over c.program c.limit (ms k)) events) moments
-          (subst (λ (n : ℕ). NotBefore (λ k. enough c.program k (moments_from c.program c.named limit schedule taken s.moment k)
-          || is_over c.program n (moments_from c.program c.named limit schedule taken s.moment k)) events) limits first),
-      subst (λ (ms : ℕ → Moment). Saw before after (glances_along c.program ms events)) moments saw,
-    )
+-- a walk made some events before it was to stop, or all of them
+abbrev BeforeFrom : Course → Session → (Program → ℕ → Moment → Bool) → Option (List Glance) → Option (List Glance)
+    → ℕ → List Letter → ℕ → Type 0
+BeforeFrom c s enough before after limit schedule taken =
+    (k : ℕ) × NotBefore (stops_after enough c.program c.named limit schedule taken s.moment) k
+    × Saw before after (glances_along c.program (moments_from c.program c.named limit schedule taken s.moment) k)
 
-pub walk_stops : (c : Course) (s : Session) (enough : Program → ℕ → Moment → Bool) (limit : ℕ) (schedule : List Letter) (taken events : ℕ) →
-    limit ≡ c.limit → schedule ≡ c.schedule → taken ≡ s.taken →
-    IsFirst (stops_after enough c.program c.named limit schedule taken s.moment) events →
-    IsFirst (stops_on c s enough) events
-walk_stops c s enough limit schedule taken events limits same place first =
-    let moments = same_moments c s limit schedule taken limits same place in
-    subst (λ (ms : ℕ → Moment). IsFirst (λ k. enough c.program k (ms k) || is_over c.program c.limit (ms k)) events) moments
-    (subst (λ (n : ℕ). IsFirst (λ k. enough c.program k (moments_from c.program c.named limit schedule taken s.moment k)
-    || is_over c.program n (moments_from c.program c.named limit schedule taken s.moment k)) events) limits first)
+abbrev WalkedFrom : Course → Session → (Program → ℕ → Moment → Bool) → Option (List Glance) → Option (List Glance) → Monitor
+    → ℕ → List Letter → ℕ → Type 0
+WalkedFrom c s enough before after new limit schedule taken =
+    (k : ℕ) × IsFirst (stops_after enough c.program c.named limit schedule taken s.moment) k
+    × IsAlong c.program c.named (moments_from c.program c.named limit schedule taken s.moment) k before after new.walk.board.now
+    × (new.walk.taken ≡ taken + k)
 
--- a command is carried out by a walk that stops where the command does
-pub walk_went : (c : Course) (s : Session) (command : MonitorCommand) (enough : Program → ℕ → Moment → Bool) (old new : Monitor) (events : ℕ)
-    (before after : Option (List Glance)) → Stands c s old →
-    (IsFirst (stops_on c s enough) events → Saw before after (glances_along c.program (moment_on c s) events)
-    → Stands c (session_on c s events) new → Went c s command before after new) →
-    new.breakpoints.items ≡ old.breakpoints.items → IsSameRun old.walk.board.now new.walk.board.now →
-    new.walk.schedule.now ≡ old.walk.schedule.now →
-    IsFirst (stops_after enough c.program c.named old.walk.board.now.limit old.walk.schedule.now old.walk.taken s.moment) events →
-    IsAlong c.program c.named (moments_from c.program c.named old.walk.board.now.limit old.walk.schedule.now old.walk.taken s.moment)
-    events before after new.walk.board.now →
-    new.walk.taken ≡ old.walk.taken + events →
-    Went c s command before after new
+pub walk_before : (c : Course) (s : Session) (enough : Program → ℕ → Moment → Bool) (m : Monitor) (before after : Option (List Glance))
+    → Stands c s m → BeforeFrom c s enough before after m.walk.board.now.limit m.walk.schedule.now m.walk.taken
+    → BeforeFrom c s enough before after c.limit c.schedule s.taken
+walk_before c s enough m before after stands made = as_session c s m (BeforeFrom c s enough before after) stands made
+
+-- so the session stands where the walk stopped
+record Walked (c : Course) (s : Session) (enough : Program → ℕ → Moment → Bool) (before after : Option (List Glance)) (new : Monitor)
+    : Type 0 where
+  events : ℕ
+  first : IsFirst (stops_on c s enough) events
+  saw : Saw before after (glances_along c.program (moment_on c s) events)
+  stands : Stands c (session_on c s events) new
+
+walked_on : (c : Course) (s : Session) (enough : Program → ℕ → Moment → Bool) (old new : Monitor) (before after : Option (List Glance))
+    → Stands c s old → new.breakpoints.items ≡ old.breakpoints.items → IsSameRun old.walk.board.now new.walk.board.now
+    → new.walk.schedule.now ≡ old.walk.schedule.now
+    → WalkedFrom c s enough before after new old.walk.board.now.limit old.walk.schedule.now old.walk.taken
+    → Walked c s enough before after new
 unfolding session_on
-walk_went c s command enough old new events before after stands made breakpoints run letters first along taken =
-    let moments = same_moments c s old.walk.board.now.limit old.walk.schedule.now old.walk.taken stands.limit stands.schedule stands.taken in
-    made
-    (walk_stops c s enough old.walk.board.now.limit old.walk.schedule.now old.walk.taken events stands.limit stands.schedule stands.taken first)
-    (subst (λ (ms : ℕ → Moment). Saw before after (glances_along c.program ms events)) moments along.saw)
-    (record {
-      program = stands.program;
-      schedule = letters ∙ stands.schedule;
-      limit = run.limit ∙ stands.limit;
-      at = subst (λ (ms : ℕ → Moment). IsAt c.program c.named (ms events) new.walk.board.now) moments along.at;
-      taken = taken ∙ ap (λ (n : ℕ). n + events) stands.taken;
-      breakpoints = breakpoints ∙ stands.breakpoints;
-    })
-
--- `drain` is
-pub drain_went : (c : Course) (s : Session) (old new : Monitor) (events : ℕ) (before after : Option (List Glance)) → Stands c s old →
-    new.breakpoints.items ≡ old.breakpoints.items → IsSameRun old.walk.board.now new.walk.board.now →
-    new.walk.schedule.now ≡ old.walk.schedule.now → new.walk.taken ≡ old.walk.taken →
-    IsDrain c.program c.named old.walk.board.now.limit s.moment events →
-    IsAlong c.program c.named (answered_after c.program c.named old.walk.board.now.limit s.moment) events before after new.walk.board.now →
-    Went c s Drain before after new
-drain_went c s old new events before after stands breakpoints run letters taken drains along =
-    let here = subst (λ (n : ℕ). IsAlong c.program c.named (answered_after c.program c.named n s.moment) events before after
-    new.walk.board.now) stands.limit along in
+walked_on c s enough old new before after stands breakpoints run letters walked =
+    let own = as_session c s old (WalkedFrom c s enough before after new) stands walked in
     record {
-      events = events;
-      makes = subst (λ (n : ℕ). IsDrain c.program c.named n s.moment events) stands.limit drains;
+      events = own.0;
+      first = own.1;
+      saw = own.2.saw;
       stands = record {
         program = stands.program;
         schedule = letters ∙ stands.schedule;
         limit = run.limit ∙ stands.limit;
-        at = here.at;
+        at = own.2.at;
+        taken = own.3;
+        breakpoints = breakpoints ∙ stands.breakpoints;
+      };
+    }
+
+-- `step` and `go` are carried out by such walks
+pub step_went : (c : Course) (s : Session) (most : ℕ) (old new : Monitor) (before after : Option (List Glance))
+    → Stands c s old → new.breakpoints.items ≡ old.breakpoints.items → IsSameRun old.walk.board.now new.walk.board.now
+    → new.walk.schedule.now ≡ old.walk.schedule.now
+    → WalkedFrom c s (is_made most) before after new old.walk.board.now.limit old.walk.schedule.now old.walk.taken
+    → Went c s (Step most) before after new
+step_went c s most old new before after stands breakpoints run letters walked =
+    let w = walked_on c s (is_made most) old new before after stands breakpoints run letters walked in
+    record { events = w.events; makes = w.first; stands = w.stands; saw = w.saw }
+
+pub go_went : (c : Course) (s : Session) (addresses : List ℕ) (old new : Monitor) (before after : Option (List Glance))
+    → Stands c s old → addresses ≡ old.breakpoints.items → new.breakpoints.items ≡ old.breakpoints.items
+    → IsSameRun old.walk.board.now new.walk.board.now → new.walk.schedule.now ≡ old.walk.schedule.now
+    → WalkedFrom c s (is_halt addresses) before after new old.walk.board.now.limit old.walk.schedule.now old.walk.taken
+    → Went c s Go before after new
+go_went c s addresses old new before after stands breaks breakpoints run letters walked =
+    let w = walked_on c s (is_halt addresses) old new before after stands breakpoints run letters walked in
+    record {
+      events = w.events;
+      makes = subst (λ (xs : List ℕ). IsFirst (stops_on c s (is_halt xs)) w.events) (breaks ∙ stands.breakpoints) w.first;
+      stands = w.stands;
+      saw = w.saw;
+    }
+
+-- and `drain` by its events
+pub drain_went : (c : Course) (s : Session) (old new : Monitor) (before after : Option (List Glance)) → Stands c s old →
+    new.breakpoints.items ≡ old.breakpoints.items → IsSameRun old.walk.board.now new.walk.board.now →
+    new.walk.schedule.now ≡ old.walk.schedule.now → new.walk.taken ≡ old.walk.taken →
+    (k : ℕ) × IsDrain c.program c.named old.walk.board.now.limit s.moment k
+    × IsAlong c.program c.named (answered_after c.program c.named old.walk.board.now.limit s.moment) k before after new.walk.board.now →
+    Went c s Drain before after new
+drain_went c s old new before after stands breakpoints run letters taken drained =
+    let own = as_session c s old (λ limit schedule taken. (k : ℕ) × IsDrain c.program c.named limit s.moment k
+    × IsAlong c.program c.named (answered_after c.program c.named limit s.moment) k before after new.walk.board.now) stands drained in
+    record {
+      events = own.0;
+      makes = own.1;
+      stands = record {
+        program = stands.program;
+        schedule = letters ∙ stands.schedule;
+        limit = run.limit ∙ stands.limit;
+        at = own.2.at;
         taken = taken ∙ stands.taken;
         breakpoints = breakpoints ∙ stands.breakpoints;
       };
-      saw = here.saw;
+      saw = own.2.saw;
     }
 
-pub drain_broke : (c : Course) (s : Session) (old : Monitor) (board : BoardView) (events : ℕ) (before after : Option (List Glance)) →
-    Stands c s old →
-    IsDraining c.program c.named old.walk.board.now.limit s.moment events →
-    IsAlong c.program c.named (answered_after c.program c.named old.walk.board.now.limit s.moment) events before after board →
+pub drain_broke : (c : Course) (s : Session) (old : Monitor) (board : BoardView) (before after : Option (List Glance)) → Stands c s old →
+    (k : ℕ) × IsDraining c.program c.named old.walk.board.now.limit s.moment k
+    × IsAlong c.program c.named (answered_after c.program c.named old.walk.board.now.limit s.moment) k before after board →
     Broke c s Drain before after
-drain_broke c s old board events before after stands drains along = record {
-  events = events;
-  each = subst (λ (n : ℕ). IsDraining c.program c.named n s.moment events) stands.limit drains;
-  saw = (subst (λ (n : ℕ). IsAlong c.program c.named (answered_after c.program c.named n s.moment) events before after board)
-      stands.limit along).saw;
-}
+drain_broke c s old board before after stands drained =
+    let own = as_session c s old (λ limit schedule taken. (k : ℕ) × IsDraining c.program c.named limit s.moment k
+    × IsAlong c.program c.named (answered_after c.program c.named limit s.moment) k before after board) stands drained in
+    record { events = own.0; each = own.1; saw = own.2.saw }
+
+-- memory may run out behind a command that went
+pub went_broke : (c : Course) (s : Session) (command : MonitorCommand) (before after : Option (List Glance)) (new : Monitor)
+    → Went c s command before after new → Broke c s command before after
+went_broke c s command before after new went = record { events = went.events; each = went.makes.first; saw = went.saw }
 
 -- what holds after some events of the run's letters
 pub record IsAlongOn (c : Course) (s : Session) (k : ℕ) (before after : Option (List Glance)) (monitor : Monitor) : Type 0 where

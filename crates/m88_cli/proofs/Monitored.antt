@@ -1,11 +1,11 @@
 -- An input of `mon` is accepted or has one refusal.
 use Rattle.std.proofs.Common.{◌≡◌, List, ℕ, ap, inl, inr, sym, ◌∙◌, subst}
 use Rattle.m88_base.specs.Refusal.{Refusal}
-use Rattle.m88_cli.specs.Assembly.{IsProgramSource, IsRefusedProgram}
+use Rattle.m88_asm.specs.Sources.{IsProgramSource, IsRefusedProgram}
 use Rattle.m88_cli.specs.Monitoring.{IsMonitorInput, IsRefusedMonitor}
 use Rattle.m88_cli.specs.Script.{ScriptParts, script_refusal}
 use Rattle.m88_cli.proofs.OneScript.{one_verdict}
-use Rattle.m88_cli.proofs.OneUnit.{not_linked, same_program_refusal}
+use Rattle.m88_asm.proofs.Laws.{not_linked, same_program_refusal}
 
 -- an input that is refused isn't accepted
 pub not_accepted : (input : List ℕ) (r : Refusal) → IsMonitorInput input → IsRefusedMonitor input r → ⊥

@@ -12,22 +12,18 @@ use Rattle.m88_link.specs.declared.fault.LinkFault.{LinkFault}
 use Rattle.m88_link.specs.declared.object.Object.{Object}
 use Rattle.m88_srec.specs.Written.{srec_text}
 use Rattle.m88_cli.specs.Answer.{IsAnswerToAccepted}
-use Rattle.m88_cli.specs.Assembly.{link_refusal}
+use Rattle.m88_asm.specs.Sources.{link_refusal}
 use Rattle.m88_cli.specs.Command.{link}
-use Rattle.m88_cli.specs.Objects.{IsImageOfObjects, IsRefusedObjects}
-use Rattle.m88_cli.proofs.OneObjects.{one_image_of}
-
--- what holds of objects that were given holds of the text's
-of_given : (P : List Object → Type 0) (given objects : List Object) → given ≡ objects → P given → P objects
-of_given P given objects e h = subst P e h
+use Rattle.m88_asm.specs.LinkedTexts.{IsImageOfObjects, IsRefusedObjects}
+use Rattle.m88_asm.proofs.Laws.{one_image_of}
 
 -- the records of the image of its objects
 pub linked_text : (text output : List ℕ) (given objects : List Object) (image : ProgramImage) → given ≡ objects → IsSoundText objects text
     → IsLinkable (layout_of given) → IsLinked (layout_of given) image → IsImage image → output ≡ srec_text image
     → IsAnswerToAccepted link text output
 linked_text text output given objects image e is_text is_linkable is_linked is_image is =
-    let links = of_given (λ os. IsLinkable (layout_of os)) given objects e is_linkable in
-    let linked = of_given (λ os. IsLinked (layout_of os) image) given objects e is_linked in
+    let links = subst (λ (os : List Object). IsLinkable (layout_of os)) e is_linkable in
+    let linked = subst (λ (os : List Object). IsLinked (layout_of os) image) e is_linked in
     let own : IsImageOfObjects text image = record { objects = objects; is_text = is_text; is_image = is_image; is_linked = linked } in
     record {
       accepted = record { objects = objects; is_text = is_text; is_linkable = links };
@@ -44,5 +40,5 @@ pub layout_refused : (text : List ℕ) (given objects : List Object) (fault : Li
     → (fault ≡ memory_fault) ⊎ IsRefused (layout_of given) fault → fault ≢ memory_fault → r ≡ link_refusal 0 fault → IsRefusedObjects text r
 layout_refused text given objects fault r e is_text (inl memory) told is = absurd (told memory)
 layout_refused text given objects fault r e is_text (inr refused) told is =
-    let of_text = of_given (λ os. IsRefused (layout_of os) fault) given objects e refused in
+    let of_text = subst (λ (os : List Object). IsRefused (layout_of os) fault) e refused in
     inr (inr (record { objects = objects; is_text = is_text; fault = fault; is_refused = of_text; refusal = is }))

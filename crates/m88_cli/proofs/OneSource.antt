@@ -2,28 +2,18 @@
 use Rattle.std.proofs.Common.{◌≡◌, ℕ, List, ap, inl, inr, refl, sym, ◌∙◌}
 use Rattle.std.specs.Prelude.{◌⊎◌}
 use Rattle.m88_base.specs.OneVerdict.{HasOneFaultUnless}
-use Rattle.m88_link.proofs.Laws.{one_layout_verdict, one_text_verdict}
-use Rattle.m88_link.specs.Layout.{layout_of}
-use Rattle.m88_link.specs.ObjectRead.{IsSoundText, IsTextFault}
-use Rattle.m88_link.specs.declared.object.Object.{Object}
-use Rattle.m88_link.specs.declared.object_fault.ObjectFault.{ObjectFault}
-use Rattle.m88_link.specs.declared.object_fault.ObjectFault.TheVariants.{Form, Range, Memory}
+use Rattle.m88_base.specs.Refusal.{Refusal}
+use Rattle.m88_asm.proofs.Laws.{one_assembly_verdict, one_linking_verdict, one_program_verdict, one_several_verdict, program_or_refusal, told_once}
 use Rattle.m88_srec.proofs.Laws.{one_record_verdict}
 use Rattle.m88_cli.specs.Answer.{Accepts, Refuses}
-use Rattle.m88_cli.specs.Assembly.{IsRefusedProgram, IsRefusedSource}
 use Rattle.m88_cli.specs.Command.{Command, InputKind, no_input, source_to_assemble, source_to_link, object_text, record_text, scripted_source, sources_to_link, traced_source, kind_of}
 use Rattle.m88_cli.specs.Kinds.{IsAcceptedAs, IsRefusedAs}
 use Rattle.m88_cli.specs.Loading.{IsRecords, IsRefusedRecords, srec_refusal}
 use Rattle.m88_cli.specs.Monitoring.{IsMonitorInput, IsRefusedMonitor}
-use Rattle.m88_cli.specs.Objects.{IsLinkableText, IsRefusedObjects}
-use Rattle.m88_cli.specs.Sources.{IsRefusedSources}
+use Rattle.m88_cli.specs.Sources.{most_sources}
 use Rattle.m88_cli.specs.TracedSources.{IsRefusedTrace}
-use Rattle.m88_base.specs.Refusal.{Refusal}
-use Rattle.m88_cli.proofs.OneObjects.{not_linkable, same_objects_refusal}
 use Rattle.m88_cli.proofs.Monitored.{not_accepted, refused_once}
 use Rattle.m88_cli.proofs.OneScript as scripts
-use Rattle.m88_cli.proofs.OneUnit.{assembly_or_refusal, not_assembled, not_linked, program_or_refusal, same_program_refusal, same_refusal}
-use Rattle.m88_cli.proofs.SharedInputs as sources
 use Rattle.m88_cli.proofs.TracedInputs as traces
 
 -- S-records that are refused are none that are accepted
@@ -43,24 +33,6 @@ records_or_refusal text = elim (one_record_verdict text).some [
   | inr fault ↦ inr (_, record { fault = fault.0; is_first = fault.1; refusal = refl })
 ]
 
--- object texts are linked or refused
-objects_or_refusal : (text : List ℕ) → IsLinkableText text ⊎ ((r : Refusal) × IsRefusedObjects text r)
-objects_or_refusal text = elim (one_text_verdict text).some [
-  | inl sound ↦ by_layout sound.0 sound.1
-  | inr fault ↦ inr (by_fault fault.0 fault.1)
-]
-  where
-    by_layout : (os : List Object) → IsSoundText os text → IsLinkableText text ⊎ ((r : Refusal) × IsRefusedObjects text r)
-    by_layout os is_text = elim (one_layout_verdict (layout_of os)).some [
-      | inl links ↦ inl (record { objects = os; is_text = is_text; is_linkable = links.1 })
-      | inr fault ↦ inr (_, inr (inr (record { objects = os; is_text = is_text; fault = fault.0; is_refused = fault.1; refusal = refl })))
-    ]
-
-    by_fault : (fault : ObjectFault) → IsTextFault text fault → (r : Refusal) × IsRefusedObjects text r
-    by_fault (Form n) first = (_, inl (record { line = n; is_first = first; refusal = refl }))
-    by_fault (Range n) first = (_, inr (inl (record { line = n; is_first = first; refusal = refl })))
-    by_fault Memory first = absurd first
-
 -- inputs of the monitor
 monitor_or_refusal : (input : List ℕ) → IsMonitorInput input ⊎ ((r : Refusal) × IsRefusedMonitor input r)
 monitor_or_refusal input = elim (scripts.one_verdict input).some [
@@ -74,35 +46,16 @@ monitor_or_refusal input = elim (scripts.one_verdict input).some [
   ]
 ]
 
--- what is accepted or refused, never both, and refused for one reason
-told_once : {Accepted : Type 0} (IsReason : Refusal → Type 0) → Accepted ⊎ ((r : Refusal) × IsReason r)
-    → ((r : Refusal) → Accepted → IsReason r → ⊥) → ((r s : Refusal) → IsReason r → IsReason s → r ≡ s)
-    → HasOneFaultUnless Accepted IsReason
-told_once IsReason either not_both one = record {
-  some = elim either [
-    | inl accepted ↦ inl (tt, accepted)
-    | inr refused ↦ inr refused
-  ];
-  not_both = λ value r accepted refused. not_both r accepted refused;
-  one_value = λ a b h k. refl;
-  one_fault = one;
-}
-
--- so is an input of each kind
+-- an input of each kind has one verdict
 of_kind : (kind : InputKind) (input : List ℕ) → HasOneFaultUnless (IsAcceptedAs kind input) (IsRefusedAs kind input)
 of_kind no_input input = told_once (IsRefusedAs no_input input) (inl tt) (λ r accepted refused. refused) (λ r s a b. absurd a)
-of_kind source_to_assemble source =
-    told_once (IsRefusedSource 0 source) (assembly_or_refusal source) (not_assembled 0 source) (same_refusal 0 source)
-of_kind source_to_link source =
-    told_once (IsRefusedProgram 0 source) (program_or_refusal 0 source) (not_linked 0 source) (same_program_refusal 0 source)
-of_kind object_text text =
-    told_once (IsRefusedObjects text) (objects_or_refusal text) (not_linkable text) (same_objects_refusal text)
-of_kind record_text text =
-    told_once (IsRefusedRecords text) (records_or_refusal text) (not_loaded text) (same_records text)
+of_kind source_to_assemble source = one_assembly_verdict 0 source
+of_kind source_to_link source = one_program_verdict 0 source
+of_kind object_text text = one_linking_verdict text
+of_kind record_text text = told_once (IsRefusedRecords text) (records_or_refusal text) (not_loaded text) (same_records text)
 of_kind scripted_source input =
     told_once (IsRefusedMonitor input) (monitor_or_refusal input) (not_accepted input) (refused_once input)
-of_kind sources_to_link input =
-    told_once (IsRefusedSources input) (sources.sources_or_refusal input) (sources.not_accepted input) (sources.refused_once input)
+of_kind sources_to_link input = one_several_verdict most_sources input
 of_kind traced_source input =
     told_once (IsRefusedTrace input) (traces.trace_or_refusal input) (traces.not_accepted input) (traces.refused_once input)
 

@@ -1,30 +1,21 @@
 -- The reply that refuses an input answers it.
-use Rattle.std.proofs.Common.{◌≡◌, List, ℕ, Option, Result, Ok, Err, refl, subst, sym}
-use Rattle.std.specs.Prelude.{IfOk, MatchBool, MatchResult}
+use Rattle.std.proofs.Common.{List, ℕ, Option, Result, Ok, Err, refl}
+use Rattle.std.specs.Prelude.{IfOk}
 use Rattle.m88_base.specs.Refusal.{Refusal}
 use Rattle.m88_base.specs.declared.failing.NoMemory.{NoMemory}
-use Rattle.m88_cli.specs.Answer.{IsAnswerToAccepted, IsAnswerToRefused, Refuses}
+use Rattle.m88_cli.specs.Answer.{Refuses}
 use Rattle.m88_cli.specs.Command.{Command}
 use Rattle.m88_cli.specs.Inside.Reply.{IsRefusalOf, Replies, WatchesReply}
-use Rattle.m88_cli.specs.Watching.{Shown}
 use Rattle.m88_board.specs.declared.glance.Glance.{Glance}
 use Rattle.m88_cli.specs.declared.reply.Reply.{Reply}
 use Rattle.m88_cli.proofs.OneSource.{one_refusal, refused_not_accepted}
-
--- what is known of each of two results
-pub where_ok : {T E : Type 0} (result : Result T E) (value : T) (P : T → Type 0) (Q : E → Type 0) → result ≡ Ok value → MatchResult result P Q → P value
-where_ok result value P Q e h = subst (λ r. MatchResult r P Q) e h
-
-pub where_err : {T E : Type 0} (result : Result T E) (error : E) (P : T → Type 0) (Q : E → Type 0) → result ≡ Err error → MatchResult result P Q → Q error
-where_err result error P Q e h = subst (λ r. MatchResult r P Q) e h
 
 -- the reply that refuses an input answers it
 pub refused_reply : (command : Command) (input : List ℕ) (refusal : Refusal) (result : Result Reply NoMemory)
     → Refuses command input refusal → IfOk result (IsRefusalOf refusal) → IfOk result (Replies command input)
 refused_reply command input refusal (Err e) refuses reply = tt
 refused_reply command input refusal (Ok r) refuses reply =
-    subst (λ t. MatchBool t (IsAnswerToAccepted command input r.text.items) (IsAnswerToRefused command input r.text.items)) (sym reply.refused)
-    (record {
+    rw reply.refused (record {
       unaccepted = refused_not_accepted command input refusal refuses;
       refusal = refusal;
       refused = refuses;
@@ -36,5 +27,4 @@ refused_reply command input refusal (Ok r) refuses reply =
 pub refused_watch : {W : Type 0} (seen : W → Option (List Glance)) (watch : W) (command : Command) (input : List ℕ) (refusal : Refusal)
     (result : Result Reply NoMemory) → IfOk result (IsRefusalOf refusal) → IfOk result (WatchesReply seen watch watch command input)
 refused_watch seen watch command input refusal (Err e) reply = tt
-refused_watch seen watch command input refusal (Ok r) reply =
-    subst (λ t. MatchBool t (Shown command input (seen watch) (seen watch)) (watch ≡ watch)) (sym reply.refused) refl
+refused_watch seen watch command input refusal (Ok r) reply = rw reply.refused refl

@@ -1,7 +1,7 @@
 -- A run of the one program of an input comes to one outcome, and its report answers the input.
 use Rattle.std.proofs.Common.{◌≡◌, ℕ, zero, suc, ◌+◌, Bool, List, [], Option, Result, Ok, Err, true, add-one, refl, ap, sym, ◌∙◌, subst, arith}
-use Rattle.std.specs.Prelude.{IfOk, MatchBool, OnErr, OnOk}
-use Rattle.m88_base.specs.Image.{ProgramImage}
+use Rattle.std.specs.Prelude.{IfOk, OnErr, OnOk}
+use Rattle.m88_base.specs.Image.{IsImage, ProgramImage}
 use Rattle.m88_base.specs.declared.failing.NoMemory.{NoMemory}
 use Rattle.m88_isa.specs.ImageProgram.{IsProgramOf}
 use Rattle.m88_isa.specs.Machine.{Program}
@@ -17,12 +17,17 @@ use Rattle.m88_board.proofs.Laws.{saw_none}
 use Rattle.m88_board.specs.Glances.{Saw, glances_along}
 use Rattle.m88_board.specs.declared.glance.Glance.{Glance}
 use Rattle.m88_report.specs.Report.{report_of}
-use Rattle.m88_cli.specs.Answer.{IsAnswerToAccepted, IsAnswerToRefused}
-use Rattle.m88_cli.specs.Command.{Command}
+use Rattle.m88_asm.proofs.Laws.{Held, accepted_source, held_by}
+use Rattle.m88_asm.specs.Inside.Held.{HoldsUnit}
+use Rattle.m88_asm.specs.Sources.{IsSourceProgram}
+use Rattle.m88_srec.specs.Accepted.{IsAccepted, whole_of}
+use Rattle.m88_cli.proofs.Programs.{records_held}
+use Rattle.m88_cli.specs.Answer.{Accepts, IsAnswerToAccepted, IsOutput}
+use Rattle.m88_cli.specs.Command.{Command, exec, run}
 use Rattle.m88_cli.specs.Inside.Reply.{Replies, WatchesReply}
-use Rattle.m88_cli.specs.Runs.{IsReport}
+use Rattle.m88_cli.specs.Runs.{IsLoadedProgram, IsReport}
 use Rattle.m88_cli.specs.Settings.{Settings}
-use Rattle.m88_cli.specs.Watching.{SawFront, SawRun, Shown}
+use Rattle.m88_cli.specs.Watching.{FrontOfAccepted, SawFront, SawRun, Shown, ShownFront}
 use Rattle.m88_cli.specs.declared.reply.Reply.{Reply}
 
 -- a choice counts no event
@@ -87,40 +92,86 @@ no_front p s seen mode = record {
   saw = subst (λ glances. Saw seen seen glances) (sym (no_glance p (moment_after p s.absent s.limit s.schedule))) (saw_none seen);
 }
 
--- what is told of a run of the one program of an input
-pub reported : {told_of : Outcome → List ℕ} (IsSuch : Program → Type 0) (p : Program) (s : Settings) (text : List ℕ)
-    → IsSuch p → p.mxm ≡ s.mxm → ((q : Program) → IsSuch q → q.mxm ≡ s.mxm → q ≡ p)
-    → (o : Outcome) × IsOutcome p s.absent s.limit s.schedule o × (text ≡ told_of o) → IsReport told_of IsSuch s text
-reported IsSuch p s text is_such mode one (o, is, report) = record {
-  outcome = o;
-  comes = record { program = p; is_such = is_such; mode = mode; is_outcome = is };
-  only = λ other comes.
-      one_outcome p s.absent s.limit s.schedule other o
-      (subst (λ q. IsOutcome q s.absent s.limit s.schedule other) (one comes.program comes.is_such comes.mode) comes.is_outcome) is;
-  is_text = report;
+-- the text is what is told of a run of the program of an image
+abbrev pub TellsOf : (Outcome → List ℕ) → ProgramImage → Settings → List ℕ → Type 0
+TellsOf told_of image s text =
+    (p : Program) → IsProgramOf image p → p.mxm ≡ s.mxm → (o : Outcome) × IsOutcome p s.absent s.limit s.schedule o × (text ≡ told_of o)
+
+-- a command that accepts its input carries out the one program of that, which an image holds: what is told of its run
+-- is what the command writes, and what is shown of it what the command shows
+pub record RunsBy (told_of : Outcome → List ℕ) (IsSuch : Program → Type 0) (command : Command) (input : List ℕ) (s : Settings)
+    (image : ProgramImage) : Type 0 where
+  pub accepted : Accepts command input
+  pub held : Held IsSuch s.mxm image
+  pub is_output : (text : List ℕ) → IsReport told_of IsSuch s text → IsOutput command input text
+  pub is_shown : (before after : Option (List Glance)) (p : Program) → IsSuch p → SawRun p s before after → Shown command input before after
+  pub is_front : (before after : Option (List Glance)) (p : Program) → IsSuch p → SawFront p s before after
+      → ShownFront command input before after
+
+module _ (told_of : Outcome → List ℕ) (IsSuch : Program → Type 0) (command : Command) (input : List ℕ) (s : Settings) (image : ProgramImage)
+    (r : RunsBy told_of IsSuch command input s image) where
+  -- so what is told answers the input
+  pub run_answer : (text : List ℕ) → TellsOf told_of image s text → IsAnswerToAccepted command input text
+  run_answer text tells =
+      let h = r.held in
+      let told = tells h.program h.of_image h.mode in
+      record {
+        accepted = r.accepted;
+        output = r.is_output text (record {
+          outcome = told.0;
+          comes = record { program = h.program; is_such = h.is_such; mode = h.mode; is_outcome = told.1 };
+          only = λ other comes.
+              one_outcome h.program s.absent s.limit s.schedule other told.0
+              (subst (λ q. IsOutcome q s.absent s.limit s.schedule other) (h.only comes.program comes.is_such comes.mode) comes.is_outcome)
+              told.1;
+          is_text = told.2;
+        });
+      }
+
+  pub run_replies : (result : Result Reply NoMemory) → IfOk result (λ r. r.accepted ≡ true)
+      → IfOk result (λ r. TellsOf told_of image s r.text.items) → IfOk result (Replies command input)
+  run_replies (Err e) accepted told = tt
+  run_replies (Ok reply) accepted told = rw accepted (run_answer reply.text.items told)
+
+  -- and a watch was shown all of the run, or a front
+  pub run_shown : (before after : Option (List Glance)) → ((p : Program) → IsProgramOf image p → p.mxm ≡ s.mxm → SawRun p s before after)
+      → Shown command input before after
+  run_shown before after saw = r.is_shown before after r.held.program r.held.is_such (saw r.held.program r.held.of_image r.held.mode)
+
+  pub run_watches : {W : Type 0} (seen : W → Option (List Glance)) (old new : W) (result : Result Reply NoMemory)
+      → IfOk result (λ r. r.accepted ≡ true)
+      → OnOk result ((p : Program) → IsProgramOf image p → p.mxm ≡ s.mxm → SawRun p s (seen old) (seen new))
+      → IfOk result (WatchesReply seen old new command input)
+  run_watches seen old new (Err e) accepted saw = tt
+  run_watches seen old new (Ok reply) accepted saw = rw accepted (run_shown (seen old) (seen new) saw)
+
+  pub run_front : (before after : Option (List Glance)) → ((p : Program) → IsProgramOf image p → p.mxm ≡ s.mxm → SawFront p s before after)
+      → FrontOfAccepted command input before after
+  run_front before after saw = record {
+    accepted = r.accepted;
+    shown = r.is_front before after r.held.program r.held.is_such (saw r.held.program r.held.of_image r.held.mode);
+  }
+
+-- `run` carries out the program of its source, and `exec` that of its records
+pub runs_source : (source : List ℕ) (s : Settings) (image : ProgramImage) → HoldsUnit source image → IsImage image
+    → RunsBy report_of (IsSourceProgram source) (run s) source s image
+runs_source source s image unit is = record {
+  accepted = accepted_source source image unit;
+  held = held_by s.mxm source image unit is;
+  is_output = λ text report. report;
+  is_shown = λ before after p is saw. (p, is, saw);
+  is_front = λ before after p is saw. (p, is, saw);
 }
 
--- the text is the report of a run of the program of an image
-abbrev pub TellsOf : ProgramImage → Settings → List ℕ → Type 0
-TellsOf image s text =
-    (p : Program) → IsProgramOf image p → p.mxm ≡ s.mxm → (o : Outcome) × IsOutcome p s.absent s.limit s.schedule o × (text ≡ report_of o)
-
--- a reply that accepts an input, with a text that answers it
-pub answering : (command : Command) (input : List ℕ) (IsTold : List ℕ → Type 0) (result : Result Reply NoMemory)
-    → ((text : List ℕ) → IsTold text → IsAnswerToAccepted command input text) → IfOk result (λ r. r.accepted ≡ true)
-    → IfOk result (λ r. IsTold r.text.items) → IfOk result (Replies command input)
-answering command input IsTold (Err e) answers accepted told = tt
-answering command input IsTold (Ok r) answers accepted told =
-    subst (λ t. MatchBool t (IsAnswerToAccepted command input r.text.items) (IsAnswerToRefused command input r.text.items)) (sym accepted)
-    (answers r.text.items told)
-
--- and a watch that was shown all of it
-pub watching : {W P : Type 0} (seen : W → Option (List Glance)) (old new : W) (command : Command) (input : List ℕ) (result : Result Reply NoMemory)
-    → IfOk result (λ r. r.accepted ≡ true) → OnOk result P → (P → Shown command input (seen old) (seen new))
-    → IfOk result (WatchesReply seen old new command input)
-watching seen old new command input (Err e) accepted saw shown = tt
-watching seen old new command input (Ok r) accepted saw shown =
-    subst (λ t. MatchBool t (Shown command input (seen old) (seen new)) (new ≡ old)) (sym accepted) (shown saw)
+pub runs_records : (text : List ℕ) (s : Settings) (image : ProgramImage) → IsAccepted text (whole_of image) → IsImage image
+    → RunsBy report_of (IsLoadedProgram text) (exec s) text s image
+runs_records text s image written is = record {
+  accepted = (whole_of image, written);
+  held = records_held s.mxm text image written is;
+  is_output = λ text report. report;
+  is_shown = λ before after p is saw. (p, is, saw);
+  is_front = λ before after p is saw. (p, is, saw);
+}
 
 -- the same of a limit that is the board's
 pub front_by : (p : Program) (own : ℕ) (s : Settings) (before after : Option (List Glance)) → own ≡ s.limit → p.mxm ≡ s.mxm

@@ -50,22 +50,13 @@ record Pieces (a b : List (List ℕ)) (es : List MonitorCommand) : Type 0 where
   by_first : WriteCommands a first
   by_later : WriteCommands b later
 
-one_more : (line : List ℕ) (a b : List (List ℕ)) (c : MonitorCommand) (es : List MonitorCommand) (d : ℕ) (ds : List ℕ) → line ≡ d ∷ ds
-    → WritesCommand c (d ∷ ds) → Pieces a b es → Pieces ((d ∷ ds) ∷ a) b (c ∷ es)
-one_more line a b c es d ds e is h = record {
-  first = c ∷ h.first;
-  later = h.later;
-  all_are = ap (λ xs. c ∷ xs) h.all_are;
-  by_first = (is, h.by_first);
-  by_later = h.by_later;
-}
-
 part : (a b : List (List ℕ)) (es : List MonitorCommand) → WriteCommands (a ++ b) es → Pieces a b es
 part [] b es h = record { first = []; later = es; all_are = refl; by_first = refl; by_later = h }
 part ([] ∷ a) b es h = let k = part a b es h in
     record { first = k.first; later = k.later; all_are = k.all_are; by_first = k.by_first; by_later = k.by_later }
 part ((d ∷ ds) ∷ a) b [] h = absurd h
-part ((d ∷ ds) ∷ a) b (c ∷ es) h = one_more (d ∷ ds) a b c es d ds refl h.0 (part a b es h.1)
+part ((d ∷ ds) ∷ a) b (c ∷ es) h = let k = part a b es h.1 in
+    record { first = c ∷ k.first; later = k.later; all_are = ap (λ xs. c ∷ xs) k.all_are; by_first = (h.0, k.by_first); by_later = k.by_later }
 
 -- lines write one list of commands
 same_commands : (lines : List (List ℕ)) (cs ds : List MonitorCommand) → WriteCommands lines cs → WriteCommands lines ds → cs ≡ ds

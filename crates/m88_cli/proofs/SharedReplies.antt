@@ -11,10 +11,9 @@ use Rattle.m88_tasks.specs.declared.shared.Shared.{Shared}
 use Rattle.m88_cli.specs.Answer.{IsAnswerToAccepted}
 use Rattle.m88_cli.specs.Command.{share}
 use Rattle.m88_cli.specs.Inside.Placing.{HoldSources}
-use Rattle.m88_cli.specs.Sharing.{AreSourcePrograms, ShareTo, group_of, told_of_shared}
-use Rattle.m88_cli.specs.Sources.{AreSourcesBehind, PlacedSource}
-use Rattle.m88_cli.proofs.PartedSources.{one_list}
-use Rattle.m88_cli.proofs.SharedPrograms.{Shares, all_programs, as_many, program_held, program_mode, programs_count, same_programs, shares_by}
+use Rattle.m88_cli.specs.Sharing.{ShareTo, group_of, no_program, told_of_shared}
+use Rattle.m88_asm.specs.Several.{AreSourcePrograms, AreSourcesBehind, PlacedSource}
+use Rattle.m88_asm.proofs.Laws.{Shares, all_programs, as_many, one_list, program_held, program_mode, programs_count, same_programs, shares_by}
 
 -- there is a source
 some_source : (n : ℕ) (text : List ℕ) (sources : List PlacedSource) → AreSourcesBehind n text sources → 1 ≤ length sources
@@ -40,8 +39,8 @@ is_group : (input : List ℕ) (images : List ProgramImage) (absent : Absent) (li
     → IsGroupOf images absent limit (group_of s.programs limit (absent_in absent))
 is_group input images absent limit h s = record {
   count = programs_count images s.programs s.of_images;
-  programs = λ q image at. program_held images s.programs q image s.of_images at;
-  modes = λ q below. program_mode h.sources s.programs q s.are_programs;
+  programs = λ q image at. program_held images s.programs no_program q image s.of_images at;
+  modes = λ q below. program_mode h.sources s.programs no_program q refl s.are_programs;
   named = refl;
   limited = refl;
 }

@@ -12,11 +12,11 @@ use Rattle.m88_trace.specs.declared.fault.TraceFault.TheVariants.{Differs}
 use Rattle.m88_trace.specs.Trace.{IsRunTrace, trace_line, trace_of}
 use Rattle.m88_cli.specs.Answer.{IsAnswerToAccepted}
 use Rattle.m88_cli.specs.Command.{check, trace}
-use Rattle.m88_cli.specs.Inside.Linking.{HoldsUnit}
-use Rattle.m88_cli.specs.Runs.{HoldsOfProgram}
+use Rattle.m88_asm.specs.Inside.Held.{HoldsUnit}
+use Rattle.m88_asm.specs.Sources.{HoldsOfProgram}
 use Rattle.m88_cli.specs.Traces.{TracesTo}
 use Rattle.m88_cli.specs.TracedSources.{AreTraceParts, DiffersFromTrace, HasTrace, TraceParts, differs_refusal}
-use Rattle.m88_cli.proofs.Programs.{accepted_source, holds_by_image, holds_of_same}
+use Rattle.m88_asm.proofs.Laws.{accepted_source, holds_by_image, holds_of_same}
 use Rattle.m88_cli.proofs.TracedInputs.{one_trace}
 
 module _ (source : List ℕ) (limit : ℕ) (absent : ℕ → Bool) (schedule : List Letter) where

@@ -4,11 +4,9 @@ use Rattle.std.specs.Prelude.{◌⊎◌, false}
 use Rattle.m88_base.proofs.Laws.{one_parting, parted_not_unparted, parted_told}
 use Rattle.m88_base.specs.Refusal.{Refusal}
 use Rattle.m88_trace.proofs.Laws.{one_verdict_of}
-use Rattle.m88_cli.specs.Assembly.{IsProgramSource, IsRefusedProgram}
+use Rattle.m88_asm.specs.Sources.{IsProgramSource, IsRefusedProgram}
 use Rattle.m88_cli.specs.TracedSources.{AreTraceParts, BeginsTrace, DiffersFromTrace, HasTrace, IsRefusedBeforeTrace, IsRefusedTrace, IsTracedSource, IsUntraced, LeavesTrace, TraceParts, differs_refusal, no_trace_refusal, trace_separator}
-use Rattle.m88_cli.proofs.OneUnit.{not_linked, program_or_refusal, same_program_refusal}
-use Rattle.m88_cli.proofs.Programs.{holds_of_same}
-use Rattle.m88_cli.proofs.UnitPrograms.{HasProgram, source_program}
+use Rattle.m88_asm.proofs.Laws.{HasProgram, holds_of_same, not_linked, program_or_refusal, same_program_refusal, source_program}
 
 -- a source and a text have one verdict: the text is so many lines of the source's trace, or differs at one line
 module _ (source text : List ℕ) where

@@ -13,8 +13,8 @@ use Rattle.m88_cli.specs.declared.reply.Reply.{Reply}
 use Rattle.m88_cli.specs.Status.{Answers, IsOfReading, WritesNothing}
 use Rattle.m88_cli.specs.declared.status.Status.{Status}
 use Rattle.m88_cli.specs.declared.status.Status.TheVariants.{Done, Usage, SourceFault, SinkFault, Refused, Memory, TooLong}
-use Rattle.m88_cli.specs.Calls.{GivesInput, HasInput, IsWhole}
-use Rattle.m88_cli.specs.Command.{Command, InputKind, no_input, is_read, kind_of, reads_input}
+use Rattle.m88_cli.specs.Calls.{CarriedOut, GivesInput, HasInput, IsWhole}
+use Rattle.m88_cli.specs.Command.{Command, InputKind, Spells, no_input, is_read, kind_of, reads_input}
 use Rattle.m88_cli.specs.Kinds.{IsRefusedAs}
 use Rattle.m88_cli.specs.Limits.{most_input}
 use Rattle.m88_cli.proofs.OneSource.{one_refusal, refused_not_accepted}
@@ -145,6 +145,21 @@ by_accepted false command input text h = inr h
 
 pub answer_of : (command : Command) (input : List ℕ) (r : Reply) → Replies command input r → IsAnswer command input r.text.items
 answer_of command input r h = by_accepted r.accepted command input r.text.items h
+
+-- a command whose reply's text was written was carried out
+pub writes_text : {words : List (List ℕ)} {before after : Option (List ℕ)} (command : Command) (reply : Reply) (text : List ℕ)
+    (IsGiven : List ℕ → Type 0) → Spells words command → RepliesToGiven command before after reply → text ≡ reply.text.items → IsGiven text
+    → CarriedOut words before after IsAnswer IsGiven (λ other input. Unit {0})
+writes_text command reply text IsGiven spelled ok is given = record {
+  command = command;
+  spelled = spelled;
+  input = ok.0;
+  given = ok.1;
+  text = reply.text.items;
+  is_text = answer_of command ok.0 reply ok.2;
+  written = subst IsGiven is given;
+  watched = tt;
+}
 
 -- the reply to an input that is refused is the line of that refusal
 only_refused : (command : Command) (input text : List ℕ) (r : Refusal) → Refuses command input r → IsAnswer command input text

@@ -9,7 +9,8 @@ use Rattle.m88_cli.specs.Loading.{IsListingText}
 use Rattle.m88_cli.specs.MonitorText.{IsMonitorText}
 use Rattle.m88_cli.specs.Objects.{IsLinkedText}
 use Rattle.m88_base.specs.Refusal.{Refusal, refusal_line}
-use Rattle.m88_cli.specs.Runs.{IsLoadedProgram, IsReport, IsSourceProgram, IsSummary}
+use Rattle.m88_cli.specs.Runs.{IsLoadedProgram, IsReport, IsSummary}
+use Rattle.m88_asm.specs.Sources.{IsSourceProgram}
 use Rattle.m88_cli.specs.Paging.{IsPagedText}
 use Rattle.m88_cli.specs.Sharing.{IsSharedText}
 use Rattle.m88_cli.specs.TracedSources.{IsCheckText}

@@ -1,16 +1,18 @@
 -- What a command makes of what another one wrote: laws between the commands, of every input.
-use Rattle.std.specs.Prelude.{ℕ, Bool, ◌↔◌, ◌≤◌, ◌==◌, ◌++◌, List, [], ◌∷◌, Option, length, if◌then◌else◌}
+use Rattle.std.specs.Prelude.{ℕ, Bool, ◌↔◌, ◌≤◌, ◌++◌, List, Option, length}
 use Rattle.m88_base.specs.Image.{IsImage, ProgramImage}
-use Rattle.m88_base.specs.Lines.{line_end, line_feed}
+use Rattle.m88_base.specs.Lines.{line_end}
 use Rattle.m88_event.specs.declared.letter.Letter.{Letter}
 use Rattle.m88_isa.specs.Machine.{Program}
+use Rattle.m88_parse.specs.Language.Ended.{ended}
 use Rattle.m88_srec.specs.Accepted.{IsAccepted, whole_of}
 use Rattle.m88_srec.specs.Written.{srec_text}
 use Rattle.m88_board.specs.declared.glance.Glance.{Glance}
 use Rattle.m88_cli.specs.Answer.{Accepts, IsAnswerToAccepted, IsAnswerToRefused}
 use Rattle.m88_cli.specs.Command.{asm, build, check, exec, link, run, dis, trace}
 use Rattle.m88_cli.specs.Limits.{most_input}
-use Rattle.m88_cli.specs.Runs.{IsLoadedProgram, IsSourceProgram}
+use Rattle.m88_cli.specs.Runs.{IsLoadedProgram}
+use Rattle.m88_asm.specs.Sources.{IsSourceProgram}
 use Rattle.m88_cli.specs.Settings.{Settings}
 use Rattle.m88_cli.specs.TracedSources.{trace_separator}
 use Rattle.m88_cli.specs.Watching.{Shown}
@@ -50,12 +52,6 @@ AssembledLinksAlike = (source objects : List ℕ) → FitsInput source → IsAns
 abbrev pub ListedBuildsAlike : Type 0
 ListedBuildsAlike = (records listing : List ℕ) (image : ProgramImage) → IsAnswerToAccepted dis records listing
     → IsImage image → IsAccepted records (whole_of image) → IsAnswerToAccepted build listing (srec_text image)
-
--- a text, its last line ended
-unfoldable pub ended : List ℕ → List ℕ
-ended [] = []
-ended (b ∷ []) = if b == line_feed then b ∷ [] else b ∷ line_end
-ended (b ∷ c ∷ bs) = b ∷ ended (c ∷ bs)
 
 -- a source with a trace behind it, and a line `trace` between them
 abbrev pub with_trace : List ℕ → List ℕ → List ℕ

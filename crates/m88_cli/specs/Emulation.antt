@@ -10,7 +10,7 @@ use Rattle.m88_emul.specs.Timeline.{IsExtendedOutcome}
 use Rattle.m88_emul.specs.declared.emulation.EmulOutcome.{EmulOutcome}
 use Rattle.m88_emul.specs.declared.emulation.Emulation.{Emulation}
 use Rattle.m88_cli.specs.Numbered.{numbered_event}
-use Rattle.m88_cli.specs.Runs.{HoldsOfProgram}
+use Rattle.m88_asm.specs.Sources.{HoldsOfProgram}
 
 -- the line of an emulation with its number: its event, the address of the instruction, and the vector that it raised
 unfoldable pub emulation_line : ℕ × Emulation → List ℕ

@@ -4,7 +4,7 @@ use Rattle.m88_isa.specs.Machine.{Program}
 use Rattle.m88_event.specs.declared.letter.Letter.{Letter}
 use Rattle.m88_board.specs.Glances.{Saw}
 use Rattle.m88_board.specs.declared.glance.Glance.{Glance}
-use Rattle.m88_cli.specs.Runs.{IsSourceProgram}
+use Rattle.m88_asm.specs.Sources.{IsSourceProgram}
 use Rattle.m88_cli.specs.Script.{IsScript}
 use Rattle.m88_cli.specs.Session.{IsSession, IsSessionFront, course_of, opening_session}
 use Rattle.m88_cli.specs.declared.script.MonitorCommand.{MonitorCommand}

@@ -1,7 +1,7 @@
 -- Which inputs `mon` accepts, and where and why it refuses any other: the faults of a script come before those of the
 -- source behind it.
 use Rattle.std.specs.Prelude.{ℕ, ◌≡◌, ◌⊎◌, List}
-use Rattle.m88_cli.specs.Assembly.{IsProgramSource, IsRefusedProgram}
+use Rattle.m88_asm.specs.Sources.{IsProgramSource, IsRefusedProgram}
 use Rattle.m88_base.specs.Refusal.{Refusal}
 use Rattle.m88_cli.specs.Script.{HasNoScript, IsScriptOf, ScriptParts, script_refusal}
 

@@ -6,7 +6,7 @@ use Rattle.m88_event.specs.declared.letter.Letter.{Letter}
 use Rattle.m88_pager.specs.Paged.{AreCounts}
 use Rattle.m88_pager.specs.declared.paged.Paged.{Paged}
 use Rattle.m88_report.specs.Report.{count_line, report_of}
-use Rattle.m88_cli.specs.Runs.{HoldsOfProgram}
+use Rattle.m88_asm.specs.Sources.{HoldsOfProgram}
 
 -- what is told of such a run: its report, the number of frames, how often a page came into one, and how often one that
 -- was written went out

@@ -5,29 +5,13 @@ use Rattle.m88_base.specs.Image.{ProgramImage}
 use Rattle.m88_base.specs.Pages.{every_page}
 use Rattle.m88_isa.specs.ImageProgram.{IsProgramOf}
 use Rattle.m88_isa.specs.Machine.{Program}
-use Rattle.m88_parse.specs.Language.Units.{IsUnit}
-use Rattle.m88_parse.specs.declared.unit.Unit.{Unit as Source}
-use Rattle.m88_asm.specs.Images.{IsUnitProgram}
+use Rattle.m88_asm.specs.Sources.{IsProgramSource, IsSourceProgram}
 use Rattle.m88_srec.specs.Accepted.{IsAccepted, whole_of}
 use Rattle.m88_event.specs.Run.{IsOutcome}
 use Rattle.m88_event.specs.declared.outcome.Outcome.{Outcome}
-use Rattle.m88_cli.specs.Assembly.{IsProgramSource}
 use Rattle.m88_cli.specs.Limits.{most_statements}
 use Rattle.m88_cli.specs.Settings.{Settings}
 use Rattle.m88_cli.specs.Workload.{summary_of, workload_schedule, workload_source}
-
--- the program is that of the source's unit: its bytes, its start, and its instructions where they are placed
-pub record IsSourceProgram (source : List ℕ) (p : Program) : Type 0 where
-  pub unit : Source
-  pub is_unit : IsUnit source unit
-  pub is_program : IsUnitProgram unit p
-
--- this holds of the source's program, MXM clear
-pub record HoldsOfProgram (source : List ℕ) (Holds : Program → Type 0) : Type 0 where
-  pub program : Program
-  pub of_source : IsSourceProgram source program
-  pub mode : program.mxm ≡ false
-  pub holds : Holds program
 
 -- the program is that of the image that S-records write
 pub record IsLoadedProgram (text : List ℕ) (p : Program) : Type 0 where

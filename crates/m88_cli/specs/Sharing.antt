@@ -1,6 +1,6 @@
 -- What `share` writes: the report of each program of an input of sources, and how the board came to switch from one to
 -- another (the format of shared runs, docs/FORMATS.md).
-use Rattle.std.specs.Prelude.{ℕ, Bool, false, ◌≡◌, ◌≤◌, ◌+◌, ◌++◌, List, [], ◌∷◌, None, codes, decimal, length, slice_get, unwrap_or}
+use Rattle.std.specs.Prelude.{ℕ, Bool, false, ◌≡◌, ◌≤◌, ◌+◌, ◌++◌, List, None, codes, decimal, length, slice_get, unwrap_or}
 use Rattle.std.specs.List.{enumerate_from, flat_map}
 use Rattle.m88_base.specs.Lines.{line_end}
 use Rattle.m88_event.specs.declared.outcome.Outcome.{Outcome}
@@ -12,8 +12,7 @@ use Rattle.m88_tasks.specs.declared.letter.ShareLetter.{ShareLetter}
 use Rattle.m88_tasks.specs.declared.shared.Shared.{Shared}
 use Rattle.m88_tasks.specs.declared.shared.Switch.{Switch}
 use Rattle.m88_cli.specs.Numbered.{numbered_event}
-use Rattle.m88_cli.specs.Runs.{IsSourceProgram}
-use Rattle.m88_cli.specs.Sources.{AreSources, PlacedSource}
+use Rattle.m88_asm.specs.Several.{AreSourcePrograms, AreSources, PlacedSource}
 
 -- a program's number, from 1, and its report
 unfoldable pub numbered_report : ℕ × Outcome → List ℕ
@@ -43,14 +42,6 @@ told_of_shared s =
     ++ count_line (codes "events") s.events
     ++ count_line (codes "switches") (length s.switches)
     ++ flat_map switch_lines (enumerate_from 1 s.switches)
-
--- the programs of some sources, one of each in its place, with MXM clear
-unfoldable pub AreSourcePrograms : List PlacedSource → List Program → Type 0
-AreSourcePrograms [] [] = Unit {0}
-AreSourcePrograms [] (p ∷ programs) = ⊥
-AreSourcePrograms (s ∷ sources) [] = ⊥
-AreSourcePrograms (s ∷ sources) (p ∷ programs) =
-    IsSourceProgram s.source p × (p.mxm ≡ false) × AreSourcePrograms sources programs
 
 -- a program without a byte: it stands behind the last of some programs, and never runs
 abbrev pub no_program : Program

@@ -1,71 +1,19 @@
 -- An input of one to eight sources, parted by its lines `program`: which such inputs are accepted, and where and why
--- any other is refused. Too many sources come before every fault of a source, and the faults of a source before those
--- of the next.
-use Rattle.std.specs.Prelude.{ℕ, ◌≡◌, ◌+◌, ◌++◌, ◌≤◌, ◌⊎◌, List, [], ◌∷◌, Some, codes, length, slice_get}
-use Rattle.std.specs.List.{All}
-use Rattle.m88_base.specs.Parted.{IsParted, LacksLine}
+-- any other is refused.
+use Rattle.std.specs.Prelude.{ℕ, List}
 use Rattle.m88_base.specs.Refusal.{Refusal}
+use Rattle.m88_asm.specs.Several.{HasPrograms, LacksPrograms}
 use Rattle.m88_tasks.specs.Tasks.{most_programs}
-use Rattle.m88_cli.specs.Assembly.{IsProgramSource, IsRefusedProgram}
-
--- the line between two sources
-abbrev pub program_line : List ℕ
-program_line = codes "program"
 
 -- the most sources of an input: as many as programs may share a board
 abbrev pub most_sources : ℕ
 most_sources = most_programs
 
--- a source, and how many lines of its input stand before it
-pub record PlacedSource : Type 0 where
-  pub lines : ℕ
-  pub source : List ℕ
-
--- what stands behind so many lines of an input is these sources: it is parted at each line `program`
-unfoldable pub AreSourcesBehind : ℕ → List ℕ → List PlacedSource → Type 0
-AreSourcesBehind n text [] = ⊥
-AreSourcesBehind n text (last ∷ []) = (last.lines ≡ n) × (last.source ≡ text) × LacksLine program_line text
-AreSourcesBehind n text (first ∷ second ∷ more) =
-    (first.lines ≡ n) × (lines : ℕ) × (behind : List ℕ) × IsParted program_line text first.source lines behind
-    × AreSourcesBehind (n + lines) behind (second ∷ more)
-
--- the input is these sources
-abbrev pub AreSources : List ℕ → List PlacedSource → Type 0
-AreSources input sources = AreSourcesBehind 0 input sources
-
--- a source can be assembled and linked
-abbrev pub IsPlacedProgram : PlacedSource → Type 0
-IsPlacedProgram s = IsProgramSource s.source
-
 -- the input is one to eight sources, each of which can be assembled and linked
-pub record IsSourcesInput (input : List ℕ) : Type 0 where
-  pub sources : List PlacedSource
-  pub are_sources : AreSources input sources
-  pub few : length sources ≤ most_sources
-  pub are_programs : All IsPlacedProgram sources
+abbrev pub IsSourcesInput : List ℕ → Type 0
+IsSourcesInput input = HasPrograms most_sources input
 
--- the refusal of more sources than eight, at the eighth line `program`
-abbrev pub sources_refusal : ℕ → Refusal
-sources_refusal n = record { line = n; column = 1; reason = codes "programs" }
-
--- an input is refused where it has a ninth source: the lines before that end with the eighth line `program`
-pub record HasTooManySources (input : List ℕ) (r : Refusal) : Type 0 where
-  pub sources : List PlacedSource
-  pub are_sources : AreSources input sources
-  pub ninth : PlacedSource
-  pub is_ninth : slice_get sources most_sources ≡ Some ninth
-  pub refusal : r ≡ sources_refusal ninth.lines
-
--- and where it has none, at the first fault of the first source that can't be assembled and linked
-pub record HasRefusedSource (input : List ℕ) (r : Refusal) : Type 0 where
-  pub before : List PlacedSource
-  pub refused : PlacedSource
-  pub behind : List PlacedSource
-  pub are_sources : AreSources input (before ++ refused ∷ behind)
-  pub few : length (before ++ refused ∷ behind) ≤ most_sources
-  pub are_programs : All IsPlacedProgram before
-  pub is_refused : IsRefusedProgram refused.lines refused.source r
-
--- an input is refused so
+-- or it is refused: where it has a ninth source, at the eighth line `program`, and else at the first fault of the first
+-- source that can't be assembled and linked
 abbrev pub IsRefusedSources : List ℕ → Refusal → Type 0
-IsRefusedSources input r = HasTooManySources input r ⊎ HasRefusedSource input r
+IsRefusedSources input r = LacksPrograms most_sources input r

@@ -7,8 +7,7 @@ use Rattle.m88_base.specs.Refusal.{Refusal}
 use Rattle.m88_report.specs.Report.{count_line}
 use Rattle.m88_trace.specs.Texts.{DiffersBehind, IsText}
 use Rattle.m88_trace.specs.Trace.{trace_line}
-use Rattle.m88_cli.specs.Assembly.{IsProgramSource, IsRefusedProgram}
-use Rattle.m88_cli.specs.Runs.{HoldsOfProgram}
+use Rattle.m88_asm.specs.Sources.{HoldsOfProgram, IsProgramSource, IsRefusedProgram}
 
 -- the line between a source and the lines of a trace
 abbrev pub trace_separator : List ℕ

@@ -3,7 +3,7 @@
 use Rattle.std.specs.Prelude.{ℕ, Bool, ◌≡◌, List}
 use Rattle.m88_event.specs.declared.letter.Letter.{Letter}
 use Rattle.m88_trace.specs.Trace.{IsRunTrace, trace_of}
-use Rattle.m88_cli.specs.Runs.{HoldsOfProgram}
+use Rattle.m88_asm.specs.Sources.{HoldsOfProgram}
 
 -- the text is the trace of a run of the source's program, MXM clear
 abbrev pub TracesTo : List ℕ → ℕ → (ℕ → Bool) → List Letter → List ℕ → Type 0

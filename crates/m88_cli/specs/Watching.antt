@@ -10,7 +10,8 @@ use Rattle.m88_board.specs.declared.glance.Glance.{Glance}
 use Rattle.m88_cli.specs.Answer.{Accepts}
 use Rattle.m88_cli.specs.Command.{Command, run, exec, mon, soak}
 use Rattle.m88_cli.specs.MonitorText.{SawSession, SawSessionFront}
-use Rattle.m88_cli.specs.Runs.{IsLoadedProgram, IsSourceProgram, workload_settings}
+use Rattle.m88_cli.specs.Runs.{IsLoadedProgram, workload_settings}
+use Rattle.m88_asm.specs.Sources.{IsSourceProgram}
 use Rattle.m88_cli.specs.Settings.{Settings}
 use Rattle.m88_cli.specs.Workload.{workload_source}
 

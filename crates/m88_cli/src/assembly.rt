@@ -1,10 +1,11 @@
 //! What `asm` and `build` make of a source.
 ghost use Rattle.std.specs.Prelude.{◌≤◌, All, IfOk, MatchResult, length};
 ghost use Rattle.m88_link.specs.Sound.{IsSound};
-ghost use Rattle.m88_cli.specs.Assembly.{IsRefusedProgram, IsRefusedSource};
+ghost use Rattle.m88_asm.specs.Sources.{IsRefusedProgram, IsRefusedSource};
 ghost use Rattle.m88_cli.specs.Command.{asm, build};
 ghost use Rattle.m88_cli.specs.Limits.{most_input};
-ghost use Rattle.m88_cli.specs.Inside.Linking.{HoldsUnit, IsObjectsOf};
+ghost use Rattle.m88_cli.specs.Inside.Linking.{IsObjectsOf};
+ghost use Rattle.m88_asm.specs.Inside.Held.{HoldsUnit};
 ghost use Rattle.m88_cli.specs.Inside.Reply.{Replies};
 
 use crate::reply::{Reply, refuse};

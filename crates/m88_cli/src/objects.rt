@@ -5,7 +5,7 @@ ghost use Rattle.m88_link.specs.Reasons.{object_reason};
 ghost use Rattle.m88_link.specs.Sound.{IsSound};
 ghost use Rattle.m88_cli.specs.Command.{link as link_command};
 ghost use Rattle.m88_cli.specs.Limits.{most_input};
-ghost use Rattle.m88_cli.specs.Objects.{IsRefusedObjects};
+ghost use Rattle.m88_asm.specs.LinkedTexts.{IsRefusedObjects};
 ghost use Rattle.m88_cli.specs.Inside.Reply.{Replies};
 
 use crate::reply::{Reply, refuse};

@@ -6,7 +6,7 @@ ghost use Rattle.m88_asm.specs.Reasons.{asm_reason};
 ghost use Rattle.m88_link.specs.Faults.{memory_fault};
 ghost use Rattle.m88_link.specs.Reasons.{duplicate_reason, link_reason};
 ghost use Rattle.m88_parse.specs.Fault.{out_of_memory};
-ghost use Rattle.m88_cli.specs.Assembly.{asm_kind_behind, asm_refusal, link_kind_behind, link_refusal, parse_refusal};
+ghost use Rattle.m88_asm.specs.Sources.{asm_kind_behind, asm_refusal, link_kind_behind, link_refusal, parse_refusal};
 
 use m88_asm::{AsmFault, AsmKind};
 use m88_base::{Name, NoMemory, Refusal};

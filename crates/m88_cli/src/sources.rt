@@ -3,7 +3,8 @@ ghost use Rattle.std.specs.Prelude.{ℕ, ◌≡◌, ◌≤◌, IfErr, IfOk, Matc
 ghost use Rattle.std.specs.List.{All};
 ghost use Rattle.m88_cli.specs.Limits.{most_input};
 ghost use Rattle.m88_cli.specs.Inside.Placing.{HoldSources, IsShort, all_placed};
-ghost use Rattle.m88_cli.specs.Sources.{AreSources, HasTooManySources, IsRefusedSources, most_sources, sources_refusal};
+ghost use Rattle.m88_asm.specs.Several.{AreSources, HasTooMany, sources_refusal};
+ghost use Rattle.m88_cli.specs.Sources.{IsRefusedSources, most_sources};
 
 use crate::assembly::image_of_source;
 use arrayvec::ArrayVec;
@@ -74,7 +75,7 @@ fn sources_of(input: &[u8]) -> Result<ArrayVec<PlacedSource<'_>, MOST_SOURCES>, 
     ensures few { IfOk result (λ sources. length sources.items ≤ most_sources) }
     ensures short { IfOk result (λ sources. All IsShort sources.items) }
     ensures too_many { IfErr result
-        (λ many. HasTooManySources input.now (sources_refusal many.line)) }
+        (λ many. HasTooMany most_sources input.now (sources_refusal many.line)) }
 {
     let mut sources = ArrayVec::new();
     let mut lines = 0;

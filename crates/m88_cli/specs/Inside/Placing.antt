@@ -1,9 +1,10 @@
 -- The sources of an input as the code keeps them, and the images that hold them.
-use Rattle.std.specs.Prelude.{ℕ, ◌≤◌, List, [], ◌∷◌, length, map}
+use Rattle.std.specs.Prelude.{ℕ, ◌≤◌, List, length, map}
 use Rattle.m88_base.specs.Image.{ProgramImage}
 use Rattle.m88_cli.specs.Limits.{most_input}
-use Rattle.m88_cli.specs.Inside.Linking.{HoldsUnit}
-use Rattle.m88_cli.specs.Sources.{AreSources, PlacedSource, most_sources}
+use Rattle.m88_asm.specs.Inside.Held.{HoldEach}
+use Rattle.m88_asm.specs.Several.{AreSources, PlacedSource}
+use Rattle.m88_cli.specs.Sources.{most_sources}
 use Rattle.m88_cli.specs.declared.sources.PlacedSource.{PlacedSource as Kept}
 
 -- the source that it is
@@ -17,13 +18,6 @@ all_placed sources = map placed sources
 -- it is short enough for the assembler
 abbrev pub IsShort : Kept → Type 0
 IsShort s = length s.source.now ≤ most_input
-
--- each image holds the unit of the source in its place
-unfoldable pub HoldEach : List PlacedSource → List ProgramImage → Type 0
-HoldEach [] [] = Unit {0}
-HoldEach [] (image ∷ images) = ⊥
-HoldEach (s ∷ sources) [] = ⊥
-HoldEach (s ∷ sources) (image ∷ images) = HoldsUnit s.source image × HoldEach sources images
 
 -- the images hold the sources of an input, one to eight
 pub record HoldSources (input : List ℕ) (images : List ProgramImage) : Type 0 where

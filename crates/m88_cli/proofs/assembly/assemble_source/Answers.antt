@@ -1,23 +1,19 @@
 -- The text of the objects answers the source, and so does the line that refuses it.
 use Rattle.std.proofs.Common.{ap, ◌∙◌}
 use Rattle.m88_link.specs.ObjectText.{objects_text}
-use Rattle.m88_cli.specs.Assembly.{IsRefusedSource}
 use Rattle.m88_cli.specs.Command.{asm}
-use Rattle.m88_cli.specs.Inside.Linking.{IsObjectsOf}
 use Rattle.m88_cli.proofs.Linked.{assembled}
-use Rattle.m88_cli.proofs.Refusing.{refused_reply, where_err, where_ok}
+use Rattle.m88_cli.proofs.Refusing.{refused_reply}
 use Rattle.m88_cli.proofs.assembly.assemble_source.Goals as goal
 
 pub returns-in-Err : goal.returns-in-Err
 returns-in-Err c =
     refused_reply asm c.args.source.now c.in-Err.refusal c.refuse.result
-    (where_err c.in_ok-objects.field-0 c.in-Err.refusal (λ objects. IsObjectsOf c.args.source.now objects.items) (IsRefusedSource 0 c.args.source.now)
-    c.in-Err.is c.in_ok-objects.ensures.objects)
+    (rw c.in-Err.is at c.in_ok-objects.ensures.objects)
     c.refuse.ensures
 
 pub returns : goal.returns
 returns c =
     assembled c.args.source.now c.in_ok-text.text.items c.in-Ok.objects.items
-    (where_ok c.in_ok-objects.field-0 c.in-Ok.objects (λ objects. IsObjectsOf c.args.source.now objects.items) (IsRefusedSource 0 c.args.source.now)
-    c.in-Ok.is c.in_ok-objects.ensures.objects)
+    (rw c.in-Ok.is at c.in_ok-objects.ensures.objects)
     (c.in_ok-text.ensures.text ∙ ap objects_text c.as_slice.ensures.value)

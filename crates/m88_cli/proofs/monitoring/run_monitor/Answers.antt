@@ -22,8 +22,8 @@ returns-in_err-text-clause-front g c =
     let found = rw c.in-Ok.is at c.in_ok-parts.ensures in
     on_err c.from_residual-in_err-text.result (inr (record {
       accepted = accepted_input c.args.input.now c.in-Ok.parts.0.items found.0 found.1 c.in-Ok.parts.1 found.2 found.3;
-      shown = front_of_input c.args.input.now (absent_in c.args.absent.now) c.args.schedule.now c.args.mxm c.as_slice.result.now found.0 found.1 c.in-Ok.parts.1
-          (g.W.Watch.seen c.args.watch.now) (g.W.Watch.seen c.session_text.new.watch)
+      shown = front_of_input c.args.input.now (absent_in c.args.absent.now) c.args.schedule.now c.args.mxm c.as_slice.result.now found.0
+          found.1 c.in-Ok.parts.1 _ _
           (script_as c.args.input.now c.in-Ok.parts.0.items c.as_slice.result.now found.0 found.1 c.as_slice.ensures.value found.2)
           found.3 c.session_text.ensures.image c.in_err-text.ensures.front;
     }))
@@ -33,16 +33,16 @@ returns-clause-reply g c =
     let found = rw c.in-Ok.is at c.in_ok-parts.ensures in
     record {
       accepted = accepted_input c.args.input.now c.in-Ok.parts.0.items found.0 found.1 c.in-Ok.parts.1 found.2 found.3;
-      output = session_of_input c.args.input.now (absent_in c.args.absent.now) c.args.schedule.now c.args.mxm c.as_slice.result.now found.0 found.1
-          c.in-Ok.parts.1 c.in_ok-text.text.items (g.W.Watch.seen c.args.watch.now) (g.W.Watch.seen c.session_text.new.watch)
+      output = session_of_input c.args.input.now (absent_in c.args.absent.now) c.args.schedule.now c.args.mxm c.as_slice.result.now found.0
+          found.1 c.in-Ok.parts.1 (g.W.Watch.seen c.args.watch.now) (g.W.Watch.seen c.session_text.new.watch)
           (script_as c.args.input.now c.in-Ok.parts.0.items c.as_slice.result.now found.0 found.1 c.as_slice.ensures.value found.2)
-          found.3 c.session_text.ensures.image c.in_ok-text.ensures.session;
+          found.3 c.session_text.ensures.image c.in_ok-text.text.items c.in_ok-text.ensures.session;
     }
 
 pub returns-clause-watched : goal.returns-clause-watched
 returns-clause-watched g c =
     let found = rw c.in-Ok.is at c.in_ok-parts.ensures in
     shown_to_end c.args.input.now (absent_in c.args.absent.now) c.args.schedule.now c.args.mxm c.as_slice.result.now found.0 found.1
-    c.in-Ok.parts.1 c.in_ok-text.text.items (g.W.Watch.seen c.args.watch.now) (g.W.Watch.seen c.session_text.new.watch)
+    c.in-Ok.parts.1 _ _
     (script_as c.args.input.now c.in-Ok.parts.0.items c.as_slice.result.now found.0 found.1 c.as_slice.ensures.value found.2)
-    found.3 c.session_text.ensures.image c.in_ok-text.ensures.session
+    found.3 c.session_text.ensures.image c.in_ok-text.text.items c.in_ok-text.ensures.session

@@ -1,6 +1,5 @@
 -- An input without a script is refused at the line that stops it, and one with a script as its source is.
 use Rattle.std.proofs.Common.{inl, inr}
-use Rattle.m88_cli.proofs.Refusing.{where_err}
 use Rattle.m88_cli.proofs.monitoring.script_and_image.Goals as goal
 
 pub returns-in-Err : goal.returns-in-Err
@@ -18,5 +17,5 @@ returns-in-Err-2 c = inr (record {
     source = c.in-Ok.script.source.now;
   };
   is_script = c.in-Ok.ensures.script;
-  is_refused = where_err c.in_ok-image.field-0 c.in-Err-2.refusal _ _ c.in-Err-2.is c.in_ok-image.ensures;
+  is_refused = rw c.in-Err-2.is at c.in_ok-image.ensures;
 })

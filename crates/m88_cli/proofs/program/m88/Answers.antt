@@ -1,18 +1,13 @@
 -- A refusal stands whole only where it was written whole; where the sink failed a part of the text was written.
 use Rattle.std.proofs.Common.{◌≡◌, Err, inl, inr, refl, ap, sym, ◌∙◌, subst}
-use Rattle.std.specs.Prelude.{length}
 use Rattle.m88_base.proofs.Laws.{calls_none}
-use Rattle.m88_base.specs.Calls.{CallsWithin}
 use Rattle.m88_base.specs.Outside.{AppendsPart}
 use Rattle.m88_cli.specs.Answer.{Accepts}
 use Rattle.m88_cli.specs.Command.{reads_input}
 use Rattle.m88_cli.specs.Kept.{command_of}
 use Rattle.m88_base.specs.Refusal.{refusal_line}
-use Rattle.m88_cli.proofs.BridgeListings.{listed_builds_alike}
-use Rattle.m88_cli.proofs.BridgeTraces.{traced_is_checked}
-use Rattle.m88_cli.proofs.OneScript as scripts
-use Rattle.m88_cli.proofs.OneSource.{one_verdict, refused_not_accepted}
-use Rattle.m88_cli.proofs.Whole.{accepted_reply, answer_of, line_of_reply, not_part, not_whole, of_err, only_memory, refusal_some, refused_reply, reply_given, reply_whole, shown_if, unanswered, wrote_nothing}
+use Rattle.m88_cli.proofs.OneSource.{refused_not_accepted}
+use Rattle.m88_cli.proofs.Whole.{accepted_reply, answer_of, line_of_reply, not_part, not_whole, of_err, only_memory, refusal_some, refused_reply, reply_given, reply_whole, shown_if, unanswered, writes_text, wrote_nothing}
 use Rattle.m88_cli.proofs.program.m88.Goals as goal
 
 pub returns-in_default-clause-refusal : goal.returns-in_default-clause-refusal
@@ -83,36 +78,6 @@ returns-clause-complete g c = λ command input spelled holds sound unfailing.
     holds (ok.0, ok.1, ok.2) in
     inr (inr ((refused_reply command input c.in-Ok.reply c.if-reply.false replies).unaccepted, refl))
 
-pub returns-in_default-clause-relisted : goal.returns-in_default-clause-relisted
-returns-in_default-clause-relisted g c = listed_builds_alike
-
-pub returns-in-Err-clause-relisted : goal.returns-in-Err-clause-relisted
-returns-in-Err-clause-relisted g c = listed_builds_alike
-
-pub returns-then-is_err-clause-relisted : goal.returns-then-is_err-clause-relisted
-returns-then-is_err-clause-relisted g c = listed_builds_alike
-
-pub returns-then-reply-clause-relisted : goal.returns-then-reply-clause-relisted
-returns-then-reply-clause-relisted g c = listed_builds_alike
-
-pub returns-clause-relisted : goal.returns-clause-relisted
-returns-clause-relisted g c = listed_builds_alike
-
-pub returns-in_default-clause-traced : goal.returns-in_default-clause-traced
-returns-in_default-clause-traced g c = traced_is_checked
-
-pub returns-in-Err-clause-traced : goal.returns-in-Err-clause-traced
-returns-in-Err-clause-traced g c = traced_is_checked
-
-pub returns-then-is_err-clause-traced : goal.returns-then-is_err-clause-traced
-returns-then-is_err-clause-traced g c = traced_is_checked
-
-pub returns-then-reply-clause-traced : goal.returns-then-reply-clause-traced
-returns-then-reply-clause-traced g c = traced_is_checked
-
-pub returns-clause-traced : goal.returns-clause-traced
-returns-clause-traced g c = traced_is_checked
-
 pub returns-in_default-clause-reads : goal.returns-in_default-clause-reads
 returns-in_default-clause-reads g c = calls_none _ _
 
@@ -125,77 +90,20 @@ returns-in-Err-clause-writes g c = λ wrote. absurd (wrote (wrote_nothing _ c.in
 pub returns-then-is_err-clause-writes : goal.returns-then-is_err-clause-writes
 returns-then-is_err-clause-writes g c = λ wrote.
     let ok = c.in-Ok.ensures.ok in
-    record {
-      command = command_of c.in-Some.command;
-      spelled = c.in-Some.ensures.found;
-      input = ok.0;
-      given = ok.1;
-      text = c.in-Ok.reply.text.items;
-      is_text = answer_of (command_of c.in-Some.command) ok.0 c.in-Ok.reply ok.2;
-      written = subst (λ t. CallsWithin (length t) (g.K.Sink.calls c.args.sink.now) (g.K.Sink.calls c.write_all.new.sink))
-          c.as_slice.ensures.value c.write_all.ensures.calls;
-      watched = tt;
-    }
+    writes_text (command_of c.in-Some.command) c.in-Ok.reply c.as_slice.result.now _ c.in-Some.ensures.found (ok.0, ok.1, ok.2)
+    c.as_slice.ensures.value c.write_all.ensures.calls
 
 pub returns-then-reply-clause-writes : goal.returns-then-reply-clause-writes
 returns-then-reply-clause-writes g c = λ wrote.
     let ok = c.in-Ok.ensures.ok in
-    record {
-      command = command_of c.in-Some.command;
-      spelled = c.in-Some.ensures.found;
-      input = ok.0;
-      given = ok.1;
-      text = c.in-Ok.reply.text.items;
-      is_text = answer_of (command_of c.in-Some.command) ok.0 c.in-Ok.reply ok.2;
-      written = subst (λ t. CallsWithin (length t) (g.K.Sink.calls c.args.sink.now) (g.K.Sink.calls c.write_all.new.sink))
-          c.as_slice.ensures.value c.write_all.ensures.calls;
-      watched = tt;
-    }
+    writes_text (command_of c.in-Some.command) c.in-Ok.reply c.as_slice.result.now _ c.in-Some.ensures.found (ok.0, ok.1, ok.2)
+    c.as_slice.ensures.value c.write_all.ensures.calls
 
 pub returns-clause-writes : goal.returns-clause-writes
 returns-clause-writes g c = λ wrote.
     let ok = c.in-Ok.ensures.ok in
-    record {
-      command = command_of c.in-Some.command;
-      spelled = c.in-Some.ensures.found;
-      input = ok.0;
-      given = ok.1;
-      text = c.in-Ok.reply.text.items;
-      is_text = answer_of (command_of c.in-Some.command) ok.0 c.in-Ok.reply ok.2;
-      written = subst (λ t. CallsWithin (length t) (g.K.Sink.calls c.args.sink.now) (g.K.Sink.calls c.write_all.new.sink))
-          c.as_slice.ensures.value c.write_all.ensures.calls;
-      watched = tt;
-    }
-
-pub returns-in_default-clause-one_verdict : goal.returns-in_default-clause-one_verdict
-returns-in_default-clause-one_verdict g c = one_verdict
-
-pub returns-in_default-clause-one_script : goal.returns-in_default-clause-one_script
-returns-in_default-clause-one_script g c = scripts.one_verdict
-
-pub returns-in-Err-clause-one_verdict : goal.returns-in-Err-clause-one_verdict
-returns-in-Err-clause-one_verdict g c = one_verdict
-
-pub returns-in-Err-clause-one_script : goal.returns-in-Err-clause-one_script
-returns-in-Err-clause-one_script g c = scripts.one_verdict
-
-pub returns-then-is_err-clause-one_verdict : goal.returns-then-is_err-clause-one_verdict
-returns-then-is_err-clause-one_verdict g c = one_verdict
-
-pub returns-then-is_err-clause-one_script : goal.returns-then-is_err-clause-one_script
-returns-then-is_err-clause-one_script g c = scripts.one_verdict
-
-pub returns-then-reply-clause-one_verdict : goal.returns-then-reply-clause-one_verdict
-returns-then-reply-clause-one_verdict g c = one_verdict
-
-pub returns-then-reply-clause-one_script : goal.returns-then-reply-clause-one_script
-returns-then-reply-clause-one_script g c = scripts.one_verdict
-
-pub returns-clause-one_verdict : goal.returns-clause-one_verdict
-returns-clause-one_verdict g c = one_verdict
-
-pub returns-clause-one_script : goal.returns-clause-one_script
-returns-clause-one_script g c = scripts.one_verdict
+    writes_text (command_of c.in-Some.command) c.in-Ok.reply c.as_slice.result.now _ c.in-Some.ensures.found (ok.0, ok.1, ok.2)
+    c.as_slice.ensures.value c.write_all.ensures.calls
 
 pub returns-in-Err-clause-no_reader : goal.returns-in-Err-clause-no_reader
 returns-in-Err-clause-no_reader g c = λ none.

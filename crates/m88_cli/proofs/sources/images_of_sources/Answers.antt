@@ -1,9 +1,11 @@
 -- A source more is held, or it is the first that is refused.
 use Rattle.std.proofs.Common.{[], ◌≤◌, arith, inr, length, rules, subst, sym}
-use Rattle.m88_cli.specs.Inside.Placing.{HoldEach, all_placed}
-use Rattle.m88_cli.specs.Sources.{AreSources, most_sources}
-use Rattle.m88_cli.proofs.Refusing.{where_err, where_ok}
-use Rattle.m88_cli.proofs.SharedPrograms.{first_refused, hold_none, one_more_held}
+use Rattle.m88_cli.specs.Inside.Placing.{all_placed}
+use Rattle.m88_asm.specs.Inside.Held.{HoldEach}
+use Rattle.m88_cli.specs.Sources.{most_sources}
+use Rattle.m88_asm.specs.Several.{AreSources}
+use Rattle.m88_cli.proofs.KeptSources.{first_refused, one_more_held}
+use Rattle.m88_asm.proofs.Laws.{hold_none}
 use Rattle.m88_cli.proofs.sources.images_of_sources.Goals as goal
 
 pub loop-placed-init : goal.loop-placed-init
@@ -17,10 +19,10 @@ returns-in-Err-2 c =
     (omega (arith, c.loop-placed-test.true))
     (subst (λ sources. AreSources c.args.input.now (all_placed sources)) same c.in-Ok.ensures.sources)
     (subst (λ sources. length sources ≤ most_sources) same c.in-Ok.ensures.few) c.loop-placed.invariant
-    (where_err c.in_ok-image.field-0 c.in-Err-2.refusal _ _ c.in-Err-2.is c.in_ok-image.ensures))
+    (rw c.in-Err-2.is at c.in_ok-image.ensures))
 
 pub loop-placed-preserved : goal.loop-placed-preserved
 loop-placed-preserved c =
     one_more_held c.as_slice-placed-items.result.now c.loop-placed.placed-index _ c.loop-placed.images.items c.push.new.self.items
     c.in-Ok-2.image (omega (arith, c.loop-placed-test.true)) c.loop-placed.invariant
-    (where_ok c.in_ok-image.field-0 c.in-Ok-2.image _ _ c.in-Ok-2.is c.in_ok-image.ensures) (search rules)
+    (rw c.in-Ok-2.is at c.in_ok-image.ensures) (search rules)

@@ -3,15 +3,17 @@ use Rattle.std.proofs.Common.{length, ◌≡◌, ◌+◌, ap, arith, subst, sym,
 use Rattle.std.specs.List.{All}
 use Rattle.std.proofs.lemmas.List.Elements.{All-push}
 use Rattle.m88_cli.specs.Inside.Placing.{IsShort, all_placed}
-use Rattle.m88_cli.specs.Sources.{AreSources, most_sources}
-use Rattle.m88_cli.proofs.PartedSources.{StandBefore, as_many_placed, last_before, one_more_before, one_more_placed, too_many}
+use Rattle.m88_cli.specs.Sources.{most_sources}
+use Rattle.m88_asm.specs.Several.{AreSources}
+use Rattle.m88_asm.proofs.Laws.{StandBefore, last_before, one_more_before, too_many}
+use Rattle.m88_cli.proofs.KeptSources.{as_many_placed, one_more_placed}
 use Rattle.m88_cli.proofs.sources.sources_of.Goals as goal
 
 pub returns-then-len-eq-MOST_SOURCES-clause-too_many : goal.returns-then-len-eq-MOST_SOURCES-clause-too_many
 returns-then-len-eq-MOST_SOURCES-clause-too_many c =
     let eighth : length (all_placed c.loop-parted.sources.items) + 1 ≡ most_sources =
     ap (λ n. n + 1) (as_many_placed c.loop-parted.sources.items) ∙ (search rules) in
-    too_many c.args.input.now (all_placed c.loop-parted.sources.items) c.loop-parted.lines c.loop-parted.rest.now
+    too_many most_sources c.args.input.now (all_placed c.loop-parted.sources.items) c.loop-parted.lines c.loop-parted.rest.now
     c.in-Ok.parted.before.now c.in-Ok.parted.lines c.in-Ok.parted.behind.now c.loop-parted.invariant.0 c.in-Ok.ensures.parted eighth
 
 pub loop-parted-preserved : goal.loop-parted-preserved

@@ -5,7 +5,7 @@ use Rattle.std.specs.List.{All}
 use Rattle.m88_cli.specs.Limits.{most_input}
 use Rattle.m88_cli.specs.Inside.Placing.{IsShort, all_placed}
 use Rattle.m88_cli.specs.Sources.{most_sources}
-use Rattle.m88_cli.proofs.PartedSources.{StandBefore}
+use Rattle.m88_asm.proofs.Laws.{StandBefore}
 use Rattle.m88_cli.proofs.sources.sources_of.Given as goal
 
 abbrev pub invariant-loop-parted : goal.invariant-loop-parted

@@ -6,7 +6,7 @@ use Rattle.m88_trace.specs.Trace.{trace_line}
 use Rattle.m88_cli.specs.Answer.{Refuses}
 use Rattle.m88_cli.specs.Command.{check}
 use Rattle.m88_cli.specs.TracedSources.{TraceParts}
-use Rattle.m88_cli.proofs.Refusing.{refused_reply, where_err, where_ok}
+use Rattle.m88_cli.proofs.Refusing.{refused_reply}
 use Rattle.m88_cli.proofs.Traced.{checked, differs_there}
 use Rattle.m88_cli.proofs.traces.check_source.Goals as goal
 
@@ -16,7 +16,7 @@ returns-in-Err-2 c =
     (inr (inl (record {
       parts = record { source = c.in-Ok.parted.before.now; lines = c.in-Ok.parted.lines; text = c.in-Ok.parted.behind.now };
       are_parts = c.in-Ok.ensures.parted;
-      is_refused = where_err c.in_ok-image.field-0 c.in-Err-2.refusal _ _ c.in-Err-2.is c.in_ok-image.ensures;
+      is_refused = rw c.in-Err-2.is at c.in_ok-image.ensures;
     })))
     c.refuse-in-Err-2.ensures
 
@@ -30,7 +30,7 @@ returns-in-Ok-check_trace c =
     let parts : TraceParts =
     record { source = c.in-Ok.parted.before.now; lines = c.in-Ok.parted.lines; text = c.in-Ok.parted.behind.now } in
     checked c.args.input.now parts c.in-Ok-2.image p.0 c.in-Ok.ensures.parted
-    (where_ok c.in_ok-image.field-0 c.in-Ok-2.image _ _ c.in-Ok-2.is c.in_ok-image.ensures) p.1
+    (rw c.in-Ok-2.is at c.in_ok-image.ensures) p.1
     c.in-Ok-check_trace.lines c.push_count.new.text.items c.in-Ok-check_trace.ensures.ok told
 
 pub returns-in-Err-Differs : goal.returns-in-Err-Differs
@@ -40,7 +40,7 @@ returns-in-Err-Differs c =
     record { source = c.in-Ok.parted.before.now; lines = c.in-Ok.parted.lines; text = c.in-Ok.parted.behind.now } in
     let late =
     differs_there c.args.input.now parts c.in-Ok-2.image p.0 c.in-Ok.ensures.parted
-    (where_ok c.in_ok-image.field-0 c.in-Ok-2.image _ _ c.in-Ok-2.is c.in_ok-image.ensures) p.1
+    (rw c.in-Ok-2.is at c.in_ok-image.ensures) p.1
     c.in-Err-Differs.line
     (λ q of mode.
     subst (FaultOf (trace_line q) c.in-Ok.parted.behind.now) c.in-Err-Differs.field-0-is (c.in-Err-Differs.ensures.fault q of mode)) in

@@ -1,16 +1,11 @@
 -- One event after the other, each with its line, to the last or to the end of the run.
-use Rattle.std.proofs.Common.{ap, refl, sym, subst, ℕ, Bool, Bor, List, ◌≡◌, ◌+◌, ◌∙◌}
-use Rattle.m88_event.specs.Timeline.{Moment, is_over}
+use Rattle.std.proofs.Common.{ap, refl, Bor, List, ◌+◌, ◌∙◌}
+use Rattle.m88_event.specs.Timeline.{is_over}
 use Rattle.m88_event.specs.declared.letter.Letter.{Letter}
-use Rattle.m88_isa.specs.Machine.{Program}
-use Rattle.m88_board.specs.Board.{BoardView}
-use Rattle.m88_board.specs.Glances.{Saw}
-use Rattle.m88_board.specs.Moves.{IsAt}
 use Rattle.m88_cli.proofs.MonitorWalks.{along_next, along_start, at_on, each_next, each_none, made_all, over_on, wants_more, wants_none}
 use Rattle.m88_cli.proofs.Reporting.{on_err}
 use Rattle.m88_cli.proofs.Tracing.{none_told, one_told, trace_carried}
-use Rattle.m88_cli.specs.Session.{glances_of, moment_on}
-use Rattle.m88_cli.specs.Inside.SessionKept.{IsBefore}
+use Rattle.m88_cli.specs.Session.{moment_on}
 use Rattle.m88_cli.specs.declared.monitor.Monitor.{Monitor}
 use Rattle.m88_cli.specs.declared.script.MonitorCommand.TheVariants.{Trace}
 use Rattle.m88_cli.proofs.monitor.Monitor.trace.Goals as goal
@@ -30,9 +25,7 @@ loop-made-preserved g c = record {
   traces = λ d s stands.
       let k = c.loop-made._made in
       let traces = c.loop-made.invariant.traces d s stands in
-      let over = over_on d s k c.loop-made.self c.is_over.result traces.along.stands
-      (subst (λ (b : BoardView). (p : Program) (named : ℕ → Bool) (m : Moment) → IsAt p named m b
-      → c.is_over.result ≡ is_over p b.limit m) c.board.ensures c.is_over.ensures.moment) in
+      let over = over_on d s k c.loop-made.self c.is_over.result traces.along.stands (rw c.board.ensures at c.is_over.ensures.moment) in
       let new : Monitor = record { walk = c.next.new.self; breakpoints = c.loop-made.self.breakpoints } in
       record {
         along =
@@ -45,8 +38,7 @@ loop-made-preserved g c = record {
         told =
             one_told d s k c.letter-letter.result c.noted-before.result c.in_ok-happened.happened c.loop-made.self c.args.text.now.items
             c.loop-made.text.items c.push_event.new.text.items traces.along.stands c.letter-letter.ensures
-            (subst (λ (b : BoardView). (p : Program) (named : ℕ → Bool) (m : Moment) → IsAt p named m b
-            → IsBefore p c.letter-letter.result m c.noted-before.result) c.board-in-loop-made.ensures c.noted-before.ensures.before)
+            (rw c.board-in-loop-made.ensures at c.noted-before.ensures.before)
             c.in_ok-happened.ensures.said traces.told c.in_ok-push_event.ensures;
       };
   kept = c.loop-made.invariant.kept;
@@ -56,9 +48,7 @@ pub returns-then-is_over-clause-ok : goal.returns-then-is_over-clause-ok
 returns-then-is_over-clause-ok g c = λ d s stands.
     let k = c.loop-made._made in
     let traces = c.loop-made.invariant.traces d s stands in
-    let over = over_on d s k c.loop-made.self c.is_over.result traces.along.stands
-    (subst (λ (b : BoardView). (p : Program) (named : ℕ → Bool) (m : Moment) → IsAt p named m b
-    → c.is_over.result ≡ is_over p b.limit m) c.board.ensures c.is_over.ensures.moment) in
+    let over = over_on d s k c.loop-made.self c.is_over.result traces.along.stands (rw c.board.ensures at c.is_over.ensures.moment) in
     trace_carried d s c.args.count k (g.W.Watch.seen c.args.watch.now) (g.W.Watch.seen c.loop-made.watch) c.args.text.now.items
     c.loop-made.text.items c.loop-made.self traces (wants_none d s c.args.count k (over ∙ c.if-is_over.true))
 
@@ -75,17 +65,14 @@ returns-in_err-happened-clause-err g c = on_err c.from_residual.result (λ d s s
     record {
       events = c.loop-made._made;
       each = traces.each;
-      saw = subst (λ w. Saw (g.W.Watch.seen c.args.watch.now) (g.W.Watch.seen w) (glances_of d s (Trace c.args.count) c.loop-made._made))
-          (sym c.in_err-happened.ensures.unseen) traces.along.saw;
+      saw = rw c.in_err-happened.ensures.unseen traces.along.saw;
     })
 
 pub returns-in_err-push_event-clause-err : goal.returns-in_err-push_event-clause-err
 returns-in_err-push_event-clause-err g c = on_err c.from_residual-in_err-push_event.result (λ d s stands.
     let k = c.loop-made._made in
     let traces = c.loop-made.invariant.traces d s stands in
-    let over = over_on d s k c.loop-made.self c.is_over.result traces.along.stands
-    (subst (λ (b : BoardView). (p : Program) (named : ℕ → Bool) (m : Moment) → IsAt p named m b
-    → c.is_over.result ≡ is_over p b.limit m) c.board.ensures c.is_over.ensures.moment) in
+    let over = over_on d s k c.loop-made.self c.is_over.result traces.along.stands (rw c.board.ensures at c.is_over.ensures.moment) in
     let new : Monitor = record { walk = c.next.new.self; breakpoints = c.loop-made.self.breakpoints } in
     let along = along_next d s k (g.W.Watch.seen c.args.watch.now) (g.W.Watch.seen c.loop-made.watch) (g.W.Watch.seen c.next.new.watch)
     c.loop-made.self new traces.along
