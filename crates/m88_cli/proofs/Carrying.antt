@@ -30,11 +30,8 @@ saw_nothing c s command seen =
     subst (λ glances. Saw seen seen glances) (sym (no_glance c.program (moments_of c s command))) (saw_none seen)
 
 pub still : (c : Course) (s : Session) (command : MonitorCommand) (seen : Option (List Glance)) (old new : List ℕ)
-    (monitor : Monitor) →
-    stops_command c s command 0 ≡ true →
-    Stands c (after_command c s command 0) monitor →
-    new ≡ old ++ text_of_command c s command 0 →
-    Carried c s command seen seen old new monitor
+    (monitor : Monitor) → stops_command c s command 0 ≡ true → Stands c (after_command c s command 0) monitor →
+    new ≡ old ++ text_of_command c s command 0 → Carried c s command seen seen old new monitor
 still c s command seen old new monitor none stands text = record {
   went = record { events = 0; makes = record { here = none; first = each_none c s command }; stands = stands; saw = saw_nothing c s command seen };
   text = text;
@@ -72,9 +69,7 @@ pub record IsCarrying (c : Course) (commands : List MonitorCommand) (start : Ses
       → IsSessionFront c commands start (glances ++ others)
 
 pub carry_start : (c : Course) (commands : List MonitorCommand) (start : Session) (seen : Option (List Glance))
-    (monitor : Monitor) →
-    Stands c start monitor →
-    IsCarrying c commands start 0 seen seen [] monitor
+    (monitor : Monitor) → Stands c start monitor → IsCarrying c commands start 0 seen seen [] monitor
 carry_start c commands start seen monitor stands = record {
   session = start;
   glances = [];
@@ -91,8 +86,7 @@ here_is commands i d h = drop-cons commands i d h ∙ ap (λ n. get_or commands 
 
 -- one more
 pub carry_next : (c : Course) (commands : List MonitorCommand) (d : MonitorCommand) (start : Session) (i : ℕ)
-    (before here after : Option (List Glance)) (old new : List ℕ) (monitor next : Monitor) →
-    i < length commands →
+    (before here after : Option (List Glance)) (old new : List ℕ) (monitor next : Monitor) → i < length commands →
     (carrying : IsCarrying c commands start i before here old monitor) →
     Carried c carrying.session (get_or commands i d) here after old new next →
     IsCarrying c commands start (i + 1) before after new next
@@ -143,8 +137,7 @@ room_next commands d i set more below room is = omega (arith, room, is, breaks_h
 
 -- to the last
 pub carry_end : (c : Course) (commands : List MonitorCommand) (start : Session) (i : ℕ)
-    (before after : Option (List Glance)) (told : List ℕ) (monitor : Monitor) →
-    length commands ≤ i →
+    (before after : Option (List Glance)) (told : List ℕ) (monitor : Monitor) → length commands ≤ i →
     IsCarrying c commands start i before after told monitor →
     (glances : List Glance) × IsSession c commands start told glances × Saw before after glances
 carry_end c commands start i before after told monitor past carrying =
@@ -158,8 +151,7 @@ carry_end c commands start i before after told monitor past carrying =
 
 -- or to where memory ran out
 pub carry_broke : (c : Course) (commands : List MonitorCommand) (d : MonitorCommand) (start : Session) (i : ℕ)
-    (before here after : Option (List Glance)) (told : List ℕ) (monitor : Monitor) →
-    i < length commands →
+    (before here after : Option (List Glance)) (told : List ℕ) (monitor : Monitor) → i < length commands →
     (carrying : IsCarrying c commands start i before here told monitor) →
     Broke c carrying.session (get_or commands i d) here after →
     (glances : List Glance) × IsSessionFront c commands start glances × Saw before after glances
@@ -175,12 +167,8 @@ carry_broke c commands d start i before here after told monitor below carrying b
 
 -- where a session begins
 pub stands_first : (p : Program) (named : ℕ → Bool) (letters : List Letter) (board : BoardView) (monitor : Monitor) → IsProgram p →
-    IsAt p named opening_moment board →
-    board.limit ≡ session_limit →
-    monitor.walk.board.now ≡ board →
-    monitor.walk.schedule.now ≡ letters →
-    monitor.walk.taken ≡ 0 →
-    monitor.breakpoints.items ≡ [] →
+    IsAt p named opening_moment board → board.limit ≡ session_limit → monitor.walk.board.now ≡ board →
+    monitor.walk.schedule.now ≡ letters → monitor.walk.taken ≡ 0 → monitor.breakpoints.items ≡ [] →
     Stands (course_of p named letters) opening_session monitor
 stands_first p named letters board monitor is at limit same schedule taken none = record {
   program = is;
@@ -192,11 +180,8 @@ stands_first p named letters board monitor is at limit same schedule taken none 
 }
 
 -- a breakpoint is set
-pub set_stands : (c : Course) (s : Session) (a : ℕ) (old new : Monitor) →
-    Stands c s old →
-    new.walk ≡ old.walk →
-    new.breakpoints.items ≡ old.breakpoints.items ++ word_address a ∷ [] →
-    Stands c (after_command c s (Break a) 0) new
+pub set_stands : (c : Course) (s : Session) (a : ℕ) (old new : Monitor) → Stands c s old → new.walk ≡ old.walk →
+    new.breakpoints.items ≡ old.breakpoints.items ++ word_address a ∷ [] → Stands c (after_command c s (Break a) 0) new
 set_stands c s a old new stands walk set = record {
   program = stands.program;
   schedule = ap (λ (w : Walk). w.schedule.now) walk ∙ stands.schedule;

@@ -77,8 +77,7 @@ unfolding workload_source
 no_source number = refl
 
 -- one letter more
-pub letters_more : (number n : ℕ)
-    → map letter_byte (drawn_letters number 0 (n + 1))
+pub letters_more : (number n : ℕ) → map letter_byte (drawn_letters number 0 (n + 1))
     ≡ map letter_byte (drawn_letters number 0 n) ++ letter_byte (drawn_letter (draw number n)) ∷ []
 unfolding drawn_letters
 letters_more number n =

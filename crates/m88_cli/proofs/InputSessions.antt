@@ -69,7 +69,7 @@ module _ (input : List ℕ) (absent : ℕ → Bool) (schedule : List Letter) (mx
   scripted : Scripted input mxm cs held.program
   scripted = record { lines = n; source = source; is_script = is; is_program = held.is_such; mode = held.mode }
 
-  abbrev IsTold : List ℕ → Type 0
+  abbrev pub IsTold : List ℕ → Type 0
   IsTold text = (p : Program) → IsProgramOf image p → p.mxm ≡ mxm → (glances : List Glance)
       × IsSession (course_of p absent schedule) cs opening_session text glances × Saw before after glances
 

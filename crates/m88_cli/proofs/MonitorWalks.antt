@@ -27,13 +27,13 @@ as_session c s m P stands h =
     (subst (λ ls. P c.limit ls m.walk.taken) stands.schedule (subst (λ n. P n m.walk.schedule.now m.walk.taken) stands.limit h))
 
 -- a walk made some events before it was to stop, or all of them
-abbrev BeforeFrom : Course → Session → (Program → ℕ → Moment → Bool) → Option (List Glance) → Option (List Glance)
+abbrev pub BeforeFrom : Course → Session → (Program → ℕ → Moment → Bool) → Option (List Glance) → Option (List Glance)
     → ℕ → List Letter → ℕ → Type 0
 BeforeFrom c s enough before after limit schedule taken =
     (k : ℕ) × NotBefore (stops_after enough c.program c.named limit schedule taken s.moment) k
     × Saw before after (glances_along c.program (moments_from c.program c.named limit schedule taken s.moment) k)
 
-abbrev WalkedFrom : Course → Session → (Program → ℕ → Moment → Bool) → Option (List Glance) → Option (List Glance) → Monitor
+abbrev pub WalkedFrom : Course → Session → (Program → ℕ → Moment → Bool) → Option (List Glance) → Option (List Glance) → Monitor
     → ℕ → List Letter → ℕ → Type 0
 WalkedFrom c s enough before after new limit schedule taken =
     (k : ℕ) × IsFirst (stops_after enough c.program c.named limit schedule taken s.moment) k
@@ -163,12 +163,9 @@ along_start c s seen monitor stands = record {
 pub along_next : (c : Course) (s : Session) (k : ℕ) (before here after : Option (List Glance)) (old new : Monitor) →
     IsAlongOn c s k before here old →
     IsStep c.program c.named (letter_at old.walk.schedule.now old.walk.taken) (moment_on c s k) here after old.walk.board.now
-    new.walk.board.now →
-    IsSameRun old.walk.board.now new.walk.board.now →
-    new.walk.schedule.now ≡ old.walk.schedule.now →
-    new.walk.taken ≡ old.walk.taken + 1 →
-    new.breakpoints.items ≡ old.breakpoints.items →
-    IsAlongOn c s (k + 1) before after new
+    new.walk.board.now → IsSameRun old.walk.board.now new.walk.board.now →
+    new.walk.schedule.now ≡ old.walk.schedule.now → new.walk.taken ≡ old.walk.taken + 1 →
+    new.breakpoints.items ≡ old.breakpoints.items → IsAlongOn c s (k + 1) before after new
 unfolding session_on moment_along glances_along
 along_next c s k before here after old new along step run letters taken breakpoints =
     let stands = along.stands in
@@ -203,8 +200,7 @@ at_on c s k monitor stands = stands.at
 pub over_on : (c : Course) (s : Session) (k : ℕ) (monitor : Monitor) (result : Bool) →
     Stands c (session_on c s k) monitor →
     ((p : Program) (named : ℕ → Bool) (m : Moment) → IsAt p named m monitor.walk.board.now
-    → result ≡ is_over p monitor.walk.board.now.limit m) →
-    is_over c.program c.limit (moment_on c s k) ≡ result
+    → result ≡ is_over p monitor.walk.board.now.limit m) → is_over c.program c.limit (moment_on c s k) ≡ result
 unfolding session_on
 over_on c s k monitor result stands says =
     ap (λ n. is_over c.program n (moment_on c s k)) (sym stands.limit) ∙ sym (says c.program c.named (moment_on c s k) stands.at)
@@ -227,8 +223,7 @@ made_all c s most k h = ap (λ a. not a || is_over c.program c.limit (moment_on 
 
 -- a command went on before one event more
 pub each_next : (c : Course) (s : Session) (command : MonitorCommand) (k : ℕ) → MakesEach c s command k →
-    stops_command c s command k ≡ false →
-    MakesEach c s command (k + 1)
+    stops_command c s command k ≡ false → MakesEach c s command (k + 1)
 each_next c s command k each more =
     subst (λ n. MakesEach c s command n) (sym (add-one k)) (not_yet (stops_command c s command) k each more)
 

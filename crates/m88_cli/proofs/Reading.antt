@@ -12,22 +12,16 @@ use Rattle.m88_isa.specs.Word.{IsWord}
 use Rattle.m88_isa.specs.declared.instr.Instr.{Instr}
 
 same_reading : {E : Type 0} (word : ℕ) (r : Result Instr E) (o : Option Instr) →
-    MatchOption o ((i : Instr) → ¬ IsWord i word) (λ i. IsWord i word) →
-    IfOk r (λ i. IsWord i word) →
-    ((i : Instr) → IsWord i word → r ≡ Ok i) →
-    result_ok r ≡ o
+    MatchOption o ((i : Instr) → ¬ IsWord i word) (λ i. IsWord i word) → IfOk r (λ i. IsWord i word) →
+    ((i : Instr) → IsWord i word → r ≡ Ok i) → result_ok r ≡ o
 same_reading word (Ok i) None none found only = absurd (none i found)
 same_reading word (Ok i) (Some j) is found only = let e = only j is in cc
 same_reading word (Err e) None none found only = refl
 same_reading word (Err e) (Some j) is found only = absurd (let no = only j is in cc)
 
 pub read_there : {E : Type 0} (image : ProgramImage) (p : Program) (a word : ℕ) (r : Result Instr E) → IsProgramOf image p →
-    a % 4 ≡ 0 →
-    word < 2 ^ 32 →
-    Some (to_be_bytes w32 word) ≡ four_bytes (byte_at image) a →
-    IfOk r (λ i. IsWord i word) →
-    ((i : Instr) → IsWord i word → r ≡ Ok i) →
-    result_ok r ≡ instruction_at p a
+    a % 4 ≡ 0 → word < 2 ^ 32 → Some (to_be_bytes w32 word) ≡ four_bytes (byte_at image) a →
+    IfOk r (λ i. IsWord i word) → ((i : Instr) → IsWord i word → r ≡ Ok i) → result_ok r ≡ instruction_at p a
 read_there image p a word r of aligned small there found only =
     let bytes : four_bytes p.byte a ≡ Some (to_be_bytes w32 word) = ap (λ (byte : ℕ → Option ℕ). four_bytes byte a) of.bytes ∙ sym there in
     same_reading word r (p.instruction a) (instruction_at_word image p a word of aligned small (sym there)) found only

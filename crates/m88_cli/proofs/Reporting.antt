@@ -1,6 +1,6 @@
 -- A run of the one program of an input comes to one outcome, and its report answers the input.
 use Rattle.std.proofs.Common.{◌≡◌, ℕ, zero, suc, ◌+◌, Bool, List, [], Option, Result, Ok, Err, true, add-one, refl, ap, sym, ◌∙◌, subst, arith}
-use Rattle.std.specs.Prelude.{IfOk, OnErr, OnOk}
+use Rattle.std.specs.Prelude.{IfOk, MatchBool, OnErr, OnOk}
 use Rattle.m88_base.specs.Image.{IsImage, ProgramImage}
 use Rattle.m88_base.specs.declared.failing.NoMemory.{NoMemory}
 use Rattle.m88_isa.specs.ImageProgram.{IsProgramOf}
@@ -22,7 +22,7 @@ use Rattle.m88_asm.specs.Inside.Held.{HoldsUnit}
 use Rattle.m88_asm.specs.Sources.{IsSourceProgram}
 use Rattle.m88_srec.specs.Accepted.{IsAccepted, whole_of}
 use Rattle.m88_cli.proofs.Programs.{records_held}
-use Rattle.m88_cli.specs.Answer.{Accepts, IsAnswerToAccepted, IsOutput}
+use Rattle.m88_cli.specs.Answer.{Accepts, IsAnswerToAccepted, IsAnswerToRefused, IsOutput}
 use Rattle.m88_cli.specs.Command.{Command, exec, run}
 use Rattle.m88_cli.specs.Inside.Reply.{Replies, WatchesReply}
 use Rattle.m88_cli.specs.Runs.{IsLoadedProgram, IsReport}
@@ -131,7 +131,9 @@ module _ (told_of : Outcome → List ℕ) (IsSuch : Program → Type 0) (command
   pub run_replies : (result : Result Reply NoMemory) → IfOk result (λ r. r.accepted ≡ true)
       → IfOk result (λ r. TellsOf told_of image s r.text.items) → IfOk result (Replies command input)
   run_replies (Err e) accepted told = tt
-  run_replies (Ok reply) accepted told = rw accepted (run_answer reply.text.items told)
+  run_replies (Ok reply) accepted told =
+      subst (λ t. MatchBool t (IsAnswerToAccepted command input reply.text.items) (IsAnswerToRefused command input reply.text.items))
+      (sym accepted) (run_answer reply.text.items told)
 
   -- and a watch was shown all of the run, or a front
   pub run_shown : (before after : Option (List Glance)) → ((p : Program) → IsProgramOf image p → p.mxm ≡ s.mxm → SawRun p s before after)
@@ -143,7 +145,8 @@ module _ (told_of : Outcome → List ℕ) (IsSuch : Program → Type 0) (command
       → OnOk result ((p : Program) → IsProgramOf image p → p.mxm ≡ s.mxm → SawRun p s (seen old) (seen new))
       → IfOk result (WatchesReply seen old new command input)
   run_watches seen old new (Err e) accepted saw = tt
-  run_watches seen old new (Ok reply) accepted saw = rw accepted (run_shown (seen old) (seen new) saw)
+  run_watches seen old new (Ok reply) accepted saw =
+      subst (λ t. MatchBool t (Shown command input (seen old) (seen new)) (new ≡ old)) (sym accepted) (run_shown (seen old) (seen new) saw)
 
   pub run_front : (before after : Option (List Glance)) → ((p : Program) → IsProgramOf image p → p.mxm ≡ s.mxm → SawFront p s before after)
       → FrontOfAccepted command input before after

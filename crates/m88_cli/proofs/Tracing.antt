@@ -21,8 +21,7 @@ use Rattle.m88_cli.specs.declared.script.MonitorCommand.TheVariants.{Trace}
 
 -- the line of an event by what was noted before it is that of the moment
 pub told_is : (p : Program) (named : ℕ → Bool) (limit : ℕ) (letter : Letter) (m : Moment) (before : Before) (happened : Happened) →
-    IsBefore p letter m before →
-    happened ≡ said_at p named limit letter m →
+    IsBefore p letter m before → happened ≡ said_at p named limit letter m →
     told_line before happened ≡ event_line p named limit letter m
 unfolding event_line
 told_is p named limit letter m before happened is says =
@@ -43,15 +42,12 @@ none_told c s old = sym (append-nil old)
 
 -- the line of the next event
 pub one_told : (c : Course) (s : Session) (k : ℕ) (letter : Letter) (before : Before) (happened : Happened)
-    (monitor : Monitor) (old text new : List ℕ) →
-    Stands c (session_on c s k) monitor →
+    (monitor : Monitor) (old text new : List ℕ) → Stands c (session_on c s k) monitor →
     letter ≡ letter_at monitor.walk.schedule.now monitor.walk.taken →
     ((p : Program) (named : ℕ → Bool) (m : Moment) → IsAt p named m monitor.walk.board.now → IsBefore p letter m before) →
     ((p : Program) (named : ℕ → Bool) (m : Moment) → IsAt p named m monitor.walk.board.now
     → happened ≡ said_at p named monitor.walk.board.now.limit (letter_at monitor.walk.schedule.now monitor.walk.taken) m) →
-    text ≡ old ++ event_lines c s k →
-    new ≡ text ++ told_line before happened →
-    new ≡ old ++ event_lines c s (k + 1)
+    text ≡ old ++ event_lines c s k → new ≡ text ++ told_line before happened → new ≡ old ++ event_lines c s (k + 1)
 unfolding session_on event_lines
 one_told c s k letter before happened monitor old text new stands e noted says told more =
     let m : Moment = moment_on c s k in
@@ -67,10 +63,8 @@ one_told c s k letter before happened monitor old text new stands e noted says t
 
 -- the events of `trace` are made, and told
 pub trace_carried : (c : Course) (s : Session) (count k : ℕ) (before after : Option (List Glance))
-    (old new : List ℕ) (monitor : Monitor) →
-    IsTracing c s count k before after old new monitor →
-    stops_on c s (is_made count) k ≡ true →
-    Carried c s (Trace count) before after old new monitor
+    (old new : List ℕ) (monitor : Monitor) → IsTracing c s count k before after old new monitor →
+    stops_on c s (is_made count) k ≡ true → Carried c s (Trace count) before after old new monitor
 trace_carried c s count k before after old new monitor traces done = record {
   went = record {
     events = k;

@@ -60,14 +60,8 @@ WritesCommand (Trace n) line = HasOperand (codes "trace") (λ text. IsCount most
 
 -- the command sets a breakpoint
 abbrev pub is_break : MonitorCommand → Bool
-is_break (Step n) = false
-is_break Go = false
 is_break (Break address) = true
-is_break Regs = false
-is_break Pipe = false
-is_break (Memory address count) = false
-is_break Drain = false
-is_break (Trace n) = false
+is_break _ = false
 
 -- lines write commands: an empty one none, and each other one the next of them
 abbrev pub WriteCommands : List (List ℕ) → List MonitorCommand → Type 0

@@ -96,11 +96,9 @@ abbrev pub after_command : Course → Session → MonitorCommand → ℕ → Ses
 after_command c s (Step most) events = session_on c s events
 after_command c s Go events = session_on c s events
 after_command c s (Break a) events = record s { breakpoints = s.breakpoints ++ word_address a ∷ [] }
-after_command c s Regs events = s
-after_command c s Pipe events = s
-after_command c s (Memory a n) events = s
 after_command c s Drain events = record s { moment = answered_after c.program c.named c.limit s.moment events }
 after_command c s (Trace most) events = session_on c s events
+after_command c s _ events = s
 
 -- what a watch is shown of so many events of a command: a glance after each
 abbrev pub glances_of : Course → Session → MonitorCommand → ℕ → List Glance

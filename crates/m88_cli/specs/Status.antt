@@ -18,32 +18,22 @@ exit_number TooLong = 6
 -- an answer with which nothing was written
 abbrev pub WritesNothing : Status → Type 0
 WritesNothing Done = ⊥
-WritesNothing Usage = Unit {0}
-WritesNothing SourceFault = Unit {0}
-WritesNothing SinkFault = ⊥
 WritesNothing Refused = ⊥
-WritesNothing Memory = Unit {0}
-WritesNothing TooLong = Unit {0}
+WritesNothing SinkFault = ⊥
+WritesNothing _ = Unit {0}
 
 -- an answer with which all was read and all was written
 abbrev pub IsAnswered : Status → Type 0
 IsAnswered Done = Unit {0}
-IsAnswered Usage = ⊥
-IsAnswered SourceFault = ⊥
-IsAnswered SinkFault = ⊥
 IsAnswered Refused = Unit {0}
-IsAnswered Memory = ⊥
-IsAnswered TooLong = ⊥
+IsAnswered _ = ⊥
 
 -- an answer with which nobody was shown anything
 abbrev pub ShowsNothing : Status → Type 0
 ShowsNothing Done = ⊥
-ShowsNothing Usage = Unit {0}
-ShowsNothing SourceFault = Unit {0}
 ShowsNothing SinkFault = ⊥
-ShowsNothing Refused = Unit {0}
 ShowsNothing Memory = ⊥
-ShowsNothing TooLong = Unit {0}
+ShowsNothing _ = Unit {0}
 
 -- the answer where nothing failed: memory ran out, or Done where the input is accepted and Refused where it isn't
 abbrev pub Answers : Type 0 → Status → Type 0
@@ -58,10 +48,7 @@ status_of_end end.Memory = Memory
 
 -- an answer that may come before a command has its text, from the source or for lack of memory
 abbrev pub IsOfReading : Status → Type 0
-IsOfReading Done = ⊥
-IsOfReading Usage = ⊥
 IsOfReading SourceFault = Unit {0}
-IsOfReading SinkFault = ⊥
-IsOfReading Refused = ⊥
-IsOfReading Memory = Unit {0}
 IsOfReading TooLong = Unit {0}
+IsOfReading Memory = Unit {0}
+IsOfReading _ = ⊥

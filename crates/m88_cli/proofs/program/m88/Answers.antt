@@ -6,7 +6,10 @@ use Rattle.m88_cli.specs.Answer.{Accepts}
 use Rattle.m88_cli.specs.Command.{reads_input}
 use Rattle.m88_cli.specs.Kept.{command_of}
 use Rattle.m88_base.specs.Refusal.{refusal_line}
-use Rattle.m88_cli.proofs.OneSource.{refused_not_accepted}
+use Rattle.m88_cli.proofs.BridgeListings.{listed_builds_alike}
+use Rattle.m88_cli.proofs.BridgeTraces.{traced_is_checked}
+use Rattle.m88_cli.proofs.OneScript as scripts
+use Rattle.m88_cli.proofs.OneSource.{one_verdict, refused_not_accepted}
 use Rattle.m88_cli.proofs.Whole.{accepted_reply, answer_of, line_of_reply, not_part, not_whole, of_err, only_memory, refusal_some, refused_reply, reply_given, reply_whole, shown_if, unanswered, writes_text, wrote_nothing}
 use Rattle.m88_cli.proofs.program.m88.Goals as goal
 
@@ -121,3 +124,63 @@ returns-then-reply-clause-no_reader g c = λ none. (λ e. absurd cc, λ e. absur
 
 pub returns-clause-no_reader : goal.returns-clause-no_reader
 returns-clause-no_reader g c = λ none. (λ e. absurd cc, λ e. absurd cc)
+
+pub returns-in_default-clause-relisted : goal.returns-in_default-clause-relisted
+returns-in_default-clause-relisted g c = listed_builds_alike
+
+pub returns-in-Err-clause-relisted : goal.returns-in-Err-clause-relisted
+returns-in-Err-clause-relisted g c = listed_builds_alike
+
+pub returns-then-is_err-clause-relisted : goal.returns-then-is_err-clause-relisted
+returns-then-is_err-clause-relisted g c = listed_builds_alike
+
+pub returns-then-reply-clause-relisted : goal.returns-then-reply-clause-relisted
+returns-then-reply-clause-relisted g c = listed_builds_alike
+
+pub returns-clause-relisted : goal.returns-clause-relisted
+returns-clause-relisted g c = listed_builds_alike
+
+pub returns-in_default-clause-traced : goal.returns-in_default-clause-traced
+returns-in_default-clause-traced g c = traced_is_checked
+
+pub returns-in-Err-clause-traced : goal.returns-in-Err-clause-traced
+returns-in-Err-clause-traced g c = traced_is_checked
+
+pub returns-then-is_err-clause-traced : goal.returns-then-is_err-clause-traced
+returns-then-is_err-clause-traced g c = traced_is_checked
+
+pub returns-then-reply-clause-traced : goal.returns-then-reply-clause-traced
+returns-then-reply-clause-traced g c = traced_is_checked
+
+pub returns-clause-traced : goal.returns-clause-traced
+returns-clause-traced g c = traced_is_checked
+
+pub returns-in_default-clause-one_verdict : goal.returns-in_default-clause-one_verdict
+returns-in_default-clause-one_verdict g c = one_verdict
+
+pub returns-in_default-clause-one_script : goal.returns-in_default-clause-one_script
+returns-in_default-clause-one_script g c = scripts.one_verdict
+
+pub returns-in-Err-clause-one_verdict : goal.returns-in-Err-clause-one_verdict
+returns-in-Err-clause-one_verdict g c = one_verdict
+
+pub returns-in-Err-clause-one_script : goal.returns-in-Err-clause-one_script
+returns-in-Err-clause-one_script g c = scripts.one_verdict
+
+pub returns-then-is_err-clause-one_verdict : goal.returns-then-is_err-clause-one_verdict
+returns-then-is_err-clause-one_verdict g c = one_verdict
+
+pub returns-then-is_err-clause-one_script : goal.returns-then-is_err-clause-one_script
+returns-then-is_err-clause-one_script g c = scripts.one_verdict
+
+pub returns-then-reply-clause-one_verdict : goal.returns-then-reply-clause-one_verdict
+returns-then-reply-clause-one_verdict g c = one_verdict
+
+pub returns-then-reply-clause-one_script : goal.returns-then-reply-clause-one_script
+returns-then-reply-clause-one_script g c = scripts.one_verdict
+
+pub returns-clause-one_verdict : goal.returns-clause-one_verdict
+returns-clause-one_verdict g c = one_verdict
+
+pub returns-clause-one_script : goal.returns-clause-one_script
+returns-clause-one_script g c = scripts.one_verdict

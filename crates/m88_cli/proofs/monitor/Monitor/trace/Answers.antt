@@ -1,6 +1,5 @@
 -- One event after the other, each with its line, to the last or to the end of the run.
 use Rattle.std.proofs.Common.{ap, refl, Bor, List, ◌+◌, ◌∙◌}
-use Rattle.m88_event.specs.Timeline.{is_over}
 use Rattle.m88_event.specs.declared.letter.Letter.{Letter}
 use Rattle.m88_cli.proofs.MonitorWalks.{along_next, along_start, at_on, each_next, each_none, made_all, over_on, wants_more, wants_none}
 use Rattle.m88_cli.proofs.Reporting.{on_err}
