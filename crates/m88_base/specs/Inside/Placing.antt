@@ -57,8 +57,8 @@ pub record IsSought (runs : List Placed) (index start at n : ℕ) : Type 0 where
   pub some : 0 < n
   pub fits : at + n ≤ 2 ^ 32
 
--- n addresses from `at` on, at least one, lie between the runs below the index and the others: the first fact says where
--- the former end, the second where the latter begin
+-- n addresses from `at` on, at least one, lie between the runs below the index and the others: the first fact says
+-- where the former end, the second where the latter begin
 pub record StandsBetween (Ends Begins : ℕ → List Placed → Type 0) (runs : List Placed) (index at n : ℕ) : Type 0 where
   pub within : index ≤ length runs
   pub above : Ends at (take index runs)
