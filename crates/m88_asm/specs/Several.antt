@@ -1,5 +1,6 @@
--- Several sources in one input, parted by its lines `program`: which such inputs are accepted, and where and why any other
--- is refused. Too many sources come before every fault of a source, and the faults of a source before those of the next.
+-- Several sources in one input, parted by its lines `program`: which such inputs are accepted, and where and why any
+-- other is refused. Too many sources come before every fault of a source, and the faults of a source before those of
+-- the next.
 use Rattle.std.specs.Prelude.{ℕ, false, ◌≡◌, ◌+◌, ◌++◌, ◌≤◌, ◌⊎◌, List, [], ◌∷◌, Some, codes, length, slice_get}
 use Rattle.std.specs.List.{All}
 use Rattle.m88_base.specs.Parted.{IsParted, LacksLine}

@@ -112,9 +112,10 @@ abbrev pub stopping : Stop → List Access → Choice
 stopping stop pending = if is_pending pending then holds sync else finishes stop
 
 -- an event of a letter: the move of what is seen; at a moment of a history the next one of the timeline, and what that
--- says; a trap is served and the program ends only with nothing pending; how the program ended then; one event more; the
--- same run; nothing else changed where there was nothing to do or the next instruction is held; an answer leaves fewer
--- transactions pending; the control registers are those that it leaves; and what always holds of a board goes on to hold
+-- says; a trap is served and the program ends only with nothing pending; how the program ended then; one event more;
+-- the same run; nothing else changed where there was nothing to do or the next instruction is held; an answer leaves
+-- fewer transactions pending; the control registers are those that it leaves; and what always holds of a board goes on
+-- to hold
 pub record Happens (letter : Letter) (old : BoardView) (happened : Happened) (new : BoardView) : Type 0 where
   pub moved : (p : Program) → IsProgramOf old.memory.image p → IsMove p letter old happened new
   pub timeline : (p : Program) (named : ℕ → Bool) (m : Moment) → IsAt p named m old

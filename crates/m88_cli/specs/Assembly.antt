@@ -1,5 +1,5 @@
--- What `asm` and `build` write of a source. `asm` writes the text of the objects of the source's unit; linking has no say
--- in it. `build` links them too, and writes the S-records of the unit's image.
+-- What `asm` and `build` write of a source. `asm` writes the text of the objects of the source's unit; linking has no
+-- say in it. `build` links them too, and writes the S-records of the unit's image.
 use Rattle.std.specs.Prelude.{ℕ, ◌≡◌, List}
 use Rattle.m88_base.specs.Image.{ProgramImage}
 use Rattle.m88_parse.specs.Language.Units.{IsUnit}

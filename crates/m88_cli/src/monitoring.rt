@@ -109,7 +109,8 @@ fn session_text<W: Watch>(
         × IsSession (course_of p (absent_in absent.now) schedule.now) commands.now opening_session
         text.items glances
         × Saw (W.seen watch.old) (W.seen watch.new) glances) }
-    ensures front { OnErr result ((p : Program) → IsProgramOf image.now p → p.mxm ≡ mxm → (glances : List Glance)
+    ensures front { OnErr result ((p : Program) → IsProgramOf image.now p → p.mxm ≡ mxm
+        → (glances : List Glance)
         × IsSessionFront (course_of p (absent_in absent.now) schedule.now) commands.now opening_session
         glances
         × Saw (W.seen watch.old) (W.seen watch.new) glances) }

@@ -56,7 +56,8 @@ fn objects_in(alloc: Global, text: &[u8]) -> Result<Result<Vec<Object>, Refusal>
 
 /// The refusal at a line in the words of a fault.
 fn refusal_at(alloc: Global, line: u32, fault: ObjectFault) -> Result<Refusal, NoMemory>
-    ensures { IfOk result (λ r. r ≡ record { line = line; column = 1; reason = object_reason fault }) }
+    ensures { IfOk result (λ r.
+        r ≡ record { line = line; column = 1; reason = object_reason fault }) }
 {
     let reason = String::from_str(alloc, fault.reason())?;
     Ok(Refusal::new(u64::from(line), 1, reason))

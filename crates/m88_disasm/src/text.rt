@@ -85,7 +85,8 @@ fn literal(op: BitOp, d: Reg, s1: Reg, width: u8, offset: u8) -> InstrText
 
 /// Two registers.
 fn pair(mnemonic: Mnemonic, first: Reg, second: Reg) -> InstrText
-    ensures { result.bytes ≡ spelled (spelling mnemonic) (register_name first ∷ register_name second ∷ []) }
+    ensures { result.bytes
+        ≡ spelled (spelling mnemonic) (register_name first ∷ register_name second ∷ []) }
 {
     let mut text = begun(mnemonic);
     put_register(&mut text, first);

@@ -51,7 +51,8 @@ fn push_slot(
     standing: &Standing<'_>,
     x: &Statement,
 ) -> Result<(), AllocError>
-    requires { StandsWithin standing.now (record { before = counters_in cursor.old; statement = x.now }) }
+    requires { StandsWithin standing.now
+        (record { before = counters_in cursor.old; statement = x.now }) }
     ensures { OnOk result (PutsSlot standing.now
         (record { before = counters_in cursor.old; statement = x.now })
         (counters_in cursor.new) slots.old.items slots.new.items) }

@@ -297,7 +297,8 @@ impl Memory {
     /// Appends the words that differ from the image's in the pages of one table.
     fn changed_in_table(&self, high: u32, changed: &mut Vec<(u32, u32)>) -> Result<(), NoMemory>
         requires { HasComeTo self.now (high * table_entries) changed.old.items }
-        ensures { OnOk result (changed.new.items ≡ changed_before self.now ((high + 1) * table_entries)) }
+        ensures { OnOk result (changed.new.items
+            ≡ changed_before self.now ((high + 1) * table_entries)) }
     {
         for low in 0..ENTRIES as u32 {
             self.changed_in_page(high * ENTRIES as u32 + low, changed)?;

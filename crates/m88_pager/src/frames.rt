@@ -203,8 +203,8 @@ impl Frames {
     ) -> Result<(), PageEnd>
         requires word { IsWordAccess access.now }
         requires within { IsWithin most_counted self.old }
-        ensures carried { OnOk result (AreCarriedOn (image_bytes image.now) (access.now ∷ []) self.old
-            self.new (P.pages store.old) (P.pages store.new)) }
+        ensures carried { OnOk result (AreCarriedOn (image_bytes image.now) (access.now ∷ [])
+            self.old self.new (P.pages store.old) (P.pages store.new)) }
         ensures store { UsesStore (P.pages store.old) (P.pages store.new) (P.faults store.old)
             (P.faults store.new) result }
     {

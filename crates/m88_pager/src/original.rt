@@ -37,7 +37,8 @@ fn copied_page(alloc: Global, image: &Image, start: u32) -> Result<Vec<u8>, NoMe
 fn append_piece(bytes: &mut Vec<u8>, image: &Image, start: u32) -> Result<(), NoMemory>
     requires room { length bytes.old.items < page_bytes }
     requires fits { start + page_bytes ≤ 2 ^ 32 }
-    ensures { OnOk result (IsPieceMore (image_bytes image.now) start bytes.old.items bytes.new.items) }
+    ensures { OnOk result (IsPieceMore (image_bytes image.now) start
+        bytes.old.items bytes.new.items) }
 {
     let at = start + bytes.len() as u32;
     let left = PAGE_BYTES as usize - bytes.len();

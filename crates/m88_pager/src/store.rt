@@ -36,6 +36,7 @@ pub trait PageStore {
     /// Puts a page in, in place of one of this number. Where it answers an error, the pages are as before.
     fn write(&mut self, page: u32, bytes: &[u8]) -> Result<(), StoreError>
         requires { IsPageOf page bytes.now }
-        ensures { IsPageWritten (pages self.old) (pages self.new) (faults self.old) (faults self.new)
+        ensures { IsPageWritten (pages self.old) (pages self.new)
+            (faults self.old) (faults self.new)
             page bytes.now result };
 }

@@ -15,7 +15,8 @@ pub const MOST_RECORD_BYTES: usize = 256;
 #[tactic(auto, using(crate::proofs::Framing::sum_more))]
 pub fn bytes_of(digits: &[u8], room: &mut [u8; MOST_RECORD_BYTES]) -> Option<u32>
     requires { length digits.now ≤ 512 }
-    ensures { MatchOption result (are_more_pairs digits.now ≡ false) (WritePairs digits.now room.new) }
+    ensures { MatchOption result
+        (are_more_pairs digits.now ≡ false) (WritePairs digits.now room.new) }
 {
     let mut total = 0;
     let mut count = 0;
@@ -39,7 +40,8 @@ pub fn is_hexadecimal(digit: u8) -> bool
 
 /// The byte that two hexadecimal digits write, None where one of them is no such digit. Each is looked up once.
 fn byte_of(high: u8, low: u8) -> Option<u8>
-    ensures { MatchOption result ((is_digit high 16 && is_digit low 16) ≡ false) (WritesByte high low) }
+    ensures { MatchOption result
+        ((is_digit high 16 && is_digit low 16) ≡ false) (WritesByte high low) }
 {
     let (high, low) = (digit_value(high), digit_value(low));
     if high < 16 && low < 16 {

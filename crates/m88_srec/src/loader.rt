@@ -64,7 +64,8 @@ impl Loader {
         ensures fed { (text : List ℕ) → IsFed text self.old → IsFed (text ++ piece.now) self.new }
 
         // A fault is answered as soon as the line that has it ended.
-        ensures answer { (text : List ℕ) → IsFed text self.old → AnswersFed (text ++ piece.now) result }
+        ensures answer { (text : List ℕ) → IsFed text self.old
+            → AnswersFed (text ++ piece.now) result }
         ensures kept { IfErr result (λ fault. self.new.fault ≡ Some fault) }
         ensures again { (fault : SrecFault) → self.old.fault ≡ Some fault → result ≡ Err fault }
     {
@@ -84,7 +85,8 @@ impl Loader {
     /// The image of the whole text, all pieces joined, or its first fault.
     pub fn finish(self) -> Result<Image, SrecFault>
         // However it was cut, what `read_srec` answers for it.
-        ensures value { (text : List ℕ) → IsFed text self → GivesVerdict whole_of result (verdict text) }
+        ensures value { (text : List ℕ) → IsFed text self
+            → GivesVerdict whole_of result (verdict text) }
         ensures again { (fault : SrecFault) → self.fault ≡ Some fault → result ≡ Err fault }
     {
         match self.fault {

@@ -99,7 +99,8 @@ impl Loading {
     #[tactic(auto, unfolding(crate::specs::Verdict::acted))]
     fn carry_out(&mut self, purpose: Purpose, at: u32, given: &[u8]) -> Result<(), SrecKind>
         requires { self.old.records < 2 ^ 31 }
-        ensures { TakesRecord self.old self.new result (acted (load_seen self.old) purpose at given.now) }
+        ensures { TakesRecord self.old self.new result
+            (acted (load_seen self.old) purpose at given.now) }
     {
         match purpose {
             Purpose::Header => Ok(()),

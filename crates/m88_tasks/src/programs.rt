@@ -136,7 +136,8 @@ impl Programs {
     /// The program that runs takes a letter.
     fn step(&mut self, letter: Letter) -> Result<Happened, NoMemory>
         requires { self.old.board.events < most_events }
-        ensures took { IfOk result (λ happened. TookLetter stays letter self.old happened self.new) }
+        ensures took { IfOk result (λ happened.
+            TookLetter stays letter self.old happened self.new) }
         ensures err { OnErr result (AreUnmoved self.old self.new) }
     {
         let happened = self.board.event(letter)?;

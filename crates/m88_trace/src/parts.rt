@@ -62,7 +62,8 @@ fn push_word(text: &mut Vec<u8>, n: u32) -> Result<(), AllocError>
 /// Appends a number in decimal and what stands behind it, at once. In front of that stands room for the number.
 fn push_numbered(text: &mut Vec<u8>, number: u32, line: &mut [u8]) -> Result<(), AllocError>
     requires { 10 ≤ length line.old }
-    ensures { OnOk result (text.new.items ≡ text.old.items ++ (decimal number ++ drop 10 line.old)) }
+    ensures { OnOk result (text.new.items
+        ≡ text.old.items ++ (decimal number ++ drop 10 line.old)) }
 {
     let start = write_digits(u64::from(number), line, 10);
     text.extend_from_slice(&line[start..])

@@ -146,7 +146,8 @@ impl Sheet {
     /// Writes an access up to its datum, which is waited for.
     fn open(&mut self, access: &Access) -> Result<(), NoMemory>
         requires { CanWait access.now self.old }
-        ensures { OnOk result (HasAdded (access_text access.now) (access.now ∷ []) self.old self.new) }
+        ensures { OnOk result (HasAdded (access_text access.now) (access.now ∷ [])
+            self.old self.new) }
     {
         push_open(&mut self.text, access)?;
         let at = self.text.len() - DATUM;
