@@ -17,7 +17,7 @@ use Rattle.m88_board.specs.Contexts.{IsRunOf, Stands, StandsFor}
 use Rattle.m88_board.specs.Moves.{IsAt, IsSameRun, IsUnmoved}
 use Rattle.m88_board.specs.declared.context.Context.{Context}
 use Rattle.m88_tasks.specs.Shared.{Group, moments_then, over_at}
-use Rattle.m88_tasks.specs.Tasks.{ArePrograms, AreSomePrograms, AreUnmoved, IsPlaceAt, ProgramsView}
+use Rattle.m88_tasks.specs.Tasks.{ArePrograms, AreSomePrograms, IsPlaceAt, ProgramsView}
 
 same_is : (n : ℕ) → (n == n) ≡ true
 same_is n = grind (arith, nat_tests)
@@ -198,10 +198,3 @@ exchanged_by g moments current to old b other kept taken none are apart at insid
 pub taken_place : {X : Type 0} (xs : List X) (i : ℕ) (read taken x : X) → i < length xs → read ≡ slice_index_or xs i read → taken ≡ read → taken ≡ x →
     slice_get xs i ≡ Some x
 taken_place xs i read taken x inside e same is = at_place xs i read x inside e (sym same ∙ is)
-
--- nothing moved at all
-still : (b : BoardView) → IsUnmoved b b
-still b = record { rest = refl; image = refl; bus = refl; absent = refl; ready = refl }
-
-pub unmoved_same : (old new : ProgramsView) → new ≡ old → AreUnmoved old new
-unmoved_same old new e = subst (AreUnmoved old) (sym e) (record { rest = refl; board = still old.board })
